@@ -1,0 +1,323 @@
+-- A packed row: the bits of whole bytes, and then a tail of fewer than eight bits.
+use Rattle.std.proofs.Common.{◌≡◌, ℕ, suc, zero, ◌+◌, ◌-◌, ◌*◌, ◌/◌, ◌%◌, ◌^◌, ◌<◌, ◌≤◌, Bool, List, [], ◌∷◌, ◌++◌, length, take, drop, get_or, refl, ap, ap₂, ◌∙◌, sym, arith, ◌==◌, append_assoc, append-nil, length-append, drop-cons, subst, inl, inr, bit_and}
+use Rattle.std.proofs.Math.Nat.{mod-eq_of_lt, mul-le-mul_left}
+use Rattle.std.proofs.Math.Pow.{pow_mono}
+use Rattle.std.proofs.Math.Seq.{get_or-append_right, take-append-add}
+use Rattle.std.proofs.Math.ListN.{get_or-append}
+use Rattle.std.proofs.lemmas.Nat.{shr-shr, pow-add, and_mask}
+use Rattle.std.proofs.lemmas.Bool.{cases_lt}
+use Rattle.std.proofs.lemmas.List.{take_more, drop_all, get_or_past, take-append-le}
+use Rattle.tmds_word.specs.Bits.{bits_of, bytes_bits, number}
+use Rattle.tmds_word.proofs.Numbers.{number-append, number-bits_of, number-window, zero_over}
+use Rattle.tmds_word.proofs.Lists.{length-bits_of, length-bytes_bits, bytes_bits-append, bytes_bits-one, bits_of-join, bits_of-byte, bits_of-low}
+
+pub length-row : (bytes : List ℕ) (h t : ℕ) → length (bytes_bits bytes ++ bits_of h t) ≡ 8 * length bytes + h
+length-row bytes h t = omega (arith, length-append (bytes_bits bytes) (bits_of h t), length-bytes_bits bytes, length-bits_of h t)
+
+-- Appending bits.
+
+-- a tail with more bits above it
+pub joined_below : (h k t w : ℕ) → t < 2 ^ h → w < 2 ^ k → t + 2 ^ h * w < 2 ^ (h + k)
+joined_below h k t w low high =
+    let whole : 2 ^ (h + k) ≡ 2 ^ h * 2 ^ k = pow-add 2 h k in
+    let most : 2 ^ h * (w + 1) ≤ 2 ^ h * 2 ^ k = mul-le-mul_left (2 ^ h) (omega arith) in
+    omega arith
+
+pub put_none : (bytes : List ℕ) (h t k w n : ℕ) → t < 2 ^ h → n ≡ t + 2 ^ h * w → bytes_bits bytes ++ bits_of (h + k) n ≡ (bytes_bits bytes ++ bits_of h t) ++ bits_of k w
+put_none bytes h t k w n lt e =
+    ap (λ m. bytes_bits bytes ++ bits_of (h + k) m) e
+    ∙ ap (λ xs. bytes_bits bytes ++ xs) (sym (bits_of-join h k t w lt))
+    ∙ sym (append_assoc (bytes_bits bytes) (bits_of h t) (bits_of k w))
+
+-- one whole byte, and r bits after it
+pub byte_more : (bytes : List ℕ) (r n : ℕ) → bytes_bits (bytes ++ n % 256 ∷ []) ++ bits_of r (n / 256) ≡ bytes_bits bytes ++ bits_of (8 + r) n
+byte_more bytes r n =
+    ap (λ xs. xs ++ bits_of r (n / 256)) (bytes_bits-append bytes (n % 256 ∷ []) ∙ ap (λ xs. bytes_bits bytes ++ xs) (bytes_bits-one (n % 256)))
+    ∙ append_assoc (bytes_bits bytes) (bits_of 8 (n % 256)) (bits_of r (n / 256))
+    ∙ ap (λ xs. bytes_bits bytes ++ xs) (sym (bits_of-byte r n))
+
+pub put_one : (bytes : List ℕ) (h t k w n r : ℕ) → t < 2 ^ h → n ≡ t + 2 ^ h * w → h + k ≡ 8 + r
+    → bytes_bits (bytes ++ n % 256 ∷ []) ++ bits_of r (n / 256) ≡ (bytes_bits bytes ++ bits_of h t) ++ bits_of k w
+put_one bytes h t k w n r lt e many = byte_more bytes r n ∙ ap (λ j. bytes_bits bytes ++ bits_of j n) (sym many) ∙ put_none bytes h t k w n lt e
+
+pub put_two : (bytes : List ℕ) (h t k w n r : ℕ) → t < 2 ^ h → n ≡ t + 2 ^ h * w → h + k ≡ 16 + r
+    → bytes_bits (bytes ++ n % 256 ∷ n / 256 % 256 ∷ []) ++ bits_of r (n / 65536) ≡ (bytes_bits bytes ++ bits_of h t) ++ bits_of k w
+put_two bytes h t k w n r lt e many =
+    let one = bytes ++ n % 256 ∷ [] in
+    let both : one ++ n / 256 % 256 ∷ [] ≡ bytes ++ n % 256 ∷ n / 256 % 256 ∷ [] = append_assoc bytes (n % 256 ∷ []) (n / 256 % 256 ∷ []) in
+    let high : n / 256 / 256 ≡ n / 65536 = omega arith in
+    let rest : h + k ≡ 8 + (8 + r) = omega arith in
+    ap₂ (λ bs m. bytes_bits bs ++ bits_of r m) (sym both) (sym high)
+    ∙ byte_more one r (n / 256)
+    ∙ put_one bytes h t k w n (8 + r) lt e rest
+
+-- a tail of r bits, past one byte and past two
+pub tail_past : (n h k r : ℕ) → n < 2 ^ (h + k) → h + k ≡ 8 + r → n / 256 < 2 ^ r
+tail_past n h k r lt many =
+    let p : 2 ^ (8 + r) ≡ 2 ^ 8 * 2 ^ r = pow-add 2 8 r in
+    let below : n < 2 ^ (8 + r) = subst (λ j. n < 2 ^ j) many lt in
+    omega arith
+
+pub tail_past_two : (n h k r : ℕ) → n < 2 ^ (h + k) → h + k ≡ 16 + r → n / 65536 < 2 ^ r
+tail_past_two n h k r lt many =
+    let p : 2 ^ (16 + r) ≡ 2 ^ 16 * 2 ^ r = pow-add 2 16 r in
+    let below : n < 2 ^ (16 + r) = subst (λ j. n < 2 ^ j) many lt in
+    omega arith
+
+-- a number of fewer than eight bits is a byte
+pub fits_byte : (t h : ℕ) → t < 2 ^ h → h < 8 → t < 256
+fits_byte t h lt few = let most : 2 ^ h ≤ 2 ^ 8 = pow_mono {i = h} {j = 8} (omega arith) in omega arith
+
+-- Reading bits.
+
+-- every number of the list is a byte
+abbrev pub AreBytes : List ℕ → Type 0
+AreBytes bytes = (i : ℕ) → get_or bytes i 0 < 256
+
+rest_bytes : (b : ℕ) (bytes : List ℕ) → AreBytes (b ∷ bytes) → AreBytes bytes
+rest_bytes b bytes h i = h (suc i)
+
+pub number_of_bytes : (b : ℕ) (bytes : List ℕ) → b < 256 → number (bytes_bits (b ∷ bytes)) ≡ b + 256 * number (bytes_bits bytes)
+unfolding bytes_bits
+number_of_bytes b bytes lt =
+    let own : number (bits_of 8 b) ≡ b = number-bits_of 8 b ∙ mod-eq_of_lt lt in
+    omega (arith, number-append (bits_of 8 b) (bytes_bits bytes), own, length-bits_of 8 b, ap (λ k. 2 ^ k * number (bytes_bits bytes)) (length-bits_of 8 b))
+
+none_from : (k : ℕ) → number (bytes_bits []) / 2 ^ k ≡ number (bytes_bits [])
+unfolding bytes_bits number
+none_from k = zero_over k
+
+-- the bytes from a place on
+pub number_from : (j : ℕ) (bytes : List ℕ) → AreBytes bytes → number (bytes_bits bytes) / 2 ^ (8 * j) ≡ number (bytes_bits (drop j bytes))
+number_from zero bytes h = omega arith
+number_from (suc j) [] h = none_from (8 * suc j)
+number_from (suc j) (b ∷ bytes) h =
+    let n = number (bytes_bits bytes) in
+    let first : b < 256 = h 0 in
+    let half : (b + 256 * n) / 2 ^ 8 ≡ n = omega arith in
+    let more : 8 * suc j ≡ 8 + 8 * j = omega arith in
+    ap (λ m. m / 2 ^ (8 * suc j)) (number_of_bytes b bytes first)
+    ∙ ap (λ m. (b + 256 * n) / 2 ^ m) more
+    ∙ sym (shr-shr (b + 256 * n) 8 (8 * j))
+    ∙ ap (λ m. m / 2 ^ (8 * j)) half
+    ∙ number_from j bytes (rest_bytes b bytes h)
+
+nothing : number (bytes_bits []) % 256 ≡ 0
+unfolding bytes_bits number
+nothing = refl
+
+byte_here : (bytes : List ℕ) (j : ℕ) → AreBytes bytes → number (bytes_bits (drop j bytes)) % 256 ≡ get_or bytes j 0
+byte_here bytes j h =
+    elim (cases_lt j (length bytes)) [
+      | inl within ↦
+          let n = number (bytes_bits (drop (suc j) bytes)) in
+          let b = get_or bytes j 0 in
+          let low : b < 256 = h j in
+          let split : number (bytes_bits (drop j bytes)) ≡ b + 256 * n = ap (λ bs. number (bytes_bits bs)) (drop-cons bytes j 0 within) ∙ number_of_bytes b (drop (suc j) bytes) low in
+          omega arith
+      | inr past ↦ ap (λ bs. number (bytes_bits bs) % 256) (drop_all j bytes past) ∙ nothing ∙ sym (get_or_past bytes j 0 past)
+    ]
+
+-- a row's number is that of its bytes, its tail taken as one of them
+number_of_row : (bytes : List ℕ) (h t : ℕ) → t < 2 ^ h → h < 8 → number (bytes_bits bytes ++ bits_of h t) ≡ number (bytes_bits (bytes ++ t ∷ []))
+number_of_row bytes h t lt few =
+    let low : t < 256 = fits_byte t h lt few in
+    let short : number (bits_of h t) ≡ t = number-bits_of h t ∙ mod-eq_of_lt lt in
+    let long : number (bits_of 8 t) ≡ t = number-bits_of 8 t ∙ mod-eq_of_lt low in
+    number-append (bytes_bits bytes) (bits_of h t)
+    ∙ ap (λ n. number (bytes_bits bytes) + 2 ^ length (bytes_bits bytes) * n) (short ∙ sym long)
+    ∙ sym (ap number (bytes_bits-append bytes (t ∷ []) ∙ ap (λ xs. bytes_bits bytes ++ xs) (bytes_bits-one t)) ∙ number-append (bytes_bits bytes) (bits_of 8 t))
+
+with_tail : (bytes : List ℕ) (t : ℕ) → AreBytes bytes → t < 256 → AreBytes (bytes ++ t ∷ [])
+with_tail [] t h lt zero = lt
+with_tail [] t h lt (suc i) = omega arith
+with_tail (b ∷ bytes) t h lt zero = h 0
+with_tail (b ∷ bytes) t h lt (suc i) = with_tail bytes t (rest_bytes b bytes h) lt i
+
+-- eight bits of a row as a number
+pub byte_of_row : (bytes : List ℕ) (h t j : ℕ) → AreBytes bytes → t < 2 ^ h → h < 8 → (number (bytes_bits bytes ++ bits_of h t) / 2 ^ (8 * j)) % 256 ≡ get_or (bytes ++ t ∷ []) j 0
+byte_of_row bytes h t j are lt few =
+    let all : AreBytes (bytes ++ t ∷ []) = with_tail bytes t are (fits_byte t h lt few) in
+    ap (λ n. (n / 2 ^ (8 * j)) % 256) (number_of_row bytes h t lt few)
+    ∙ ap (λ n. n % 256) (number_from j (bytes ++ t ∷ []) all)
+    ∙ byte_here (bytes ++ t ∷ []) j all
+
+pub byte_within : (bytes : List ℕ) (t j : ℕ) → j < length bytes → get_or (bytes ++ t ∷ []) j 0 ≡ get_or bytes j 0
+byte_within bytes t j lt = get_or-append bytes (t ∷ []) 0 j lt
+
+pub byte_tail : (bytes : List ℕ) (t j : ℕ) → j ≡ length bytes → get_or (bytes ++ t ∷ []) j 0 ≡ t
+byte_tail bytes t j e =
+    let from : length bytes ≤ j = omega arith in
+    let first : j - length bytes ≡ 0 = omega arith in
+    get_or-append_right bytes (t ∷ []) j 0 from ∙ ap (λ i. get_or (t ∷ []) i 0) first
+
+pub byte_past : (bytes : List ℕ) (t j : ℕ) → length bytes < j → get_or (bytes ++ t ∷ []) j 0 ≡ 0
+byte_past bytes t j lt = get_or_past (bytes ++ t ∷ []) j 0 (omega (arith, length-append bytes (t ∷ [])))
+
+low_bit : (r n : ℕ) → r < 8 → (n % 256 / 2 ^ r) % 2 ≡ (n / 2 ^ r) % 2
+low_bit zero n h = omega arith
+low_bit (suc zero) n h = omega arith
+low_bit (suc (suc zero)) n h = omega arith
+low_bit (suc (suc (suc zero))) n h = omega arith
+low_bit (suc (suc (suc (suc zero)))) n h = omega arith
+low_bit (suc (suc (suc (suc (suc zero))))) n h = omega arith
+low_bit (suc (suc (suc (suc (suc (suc zero)))))) n h = omega arith
+low_bit (suc (suc (suc (suc (suc (suc (suc zero))))))) n h = omega arith
+low_bit (suc (suc (suc (suc (suc (suc (suc (suc r)))))))) n h = absurd (omega arith)
+
+-- bit i of a number, from its byte i / 8
+pub bit_in_byte : (n i : ℕ) → ((n / 2 ^ (8 * (i / 8))) % 256 / 2 ^ (i % 8)) % 2 ≡ (n / 2 ^ i) % 2
+bit_in_byte n i =
+    let few : i % 8 < 8 = omega arith in
+    let whole : 8 * (i / 8) + i % 8 ≡ i = omega arith in
+    low_bit (i % 8) (n / 2 ^ (8 * (i / 8))) few
+    ∙ ap (λ m. m % 2) (shr-shr n (8 * (i / 8)) (i % 8) ∙ ap (λ k. n / 2 ^ k) whole)
+
+low_word : (r n : ℕ) → r < 8 → ((n % 256 + (n / 256 % 256) * 256 + (n / 65536 % 256) * 65536) / 2 ^ r) % 1024 ≡ (n / 2 ^ r) % 1024
+low_word zero n h = omega arith
+low_word (suc zero) n h = omega arith
+low_word (suc (suc zero)) n h = omega arith
+low_word (suc (suc (suc zero))) n h = omega arith
+low_word (suc (suc (suc (suc zero)))) n h = omega arith
+low_word (suc (suc (suc (suc (suc zero))))) n h = omega arith
+low_word (suc (suc (suc (suc (suc (suc zero)))))) n h = omega arith
+low_word (suc (suc (suc (suc (suc (suc (suc zero))))))) n h = omega arith
+low_word (suc (suc (suc (suc (suc (suc (suc (suc r)))))))) n h = absurd (omega arith)
+
+-- the ten bits from p on, from the three bytes at p / 8
+pub word_in_bytes : (xs : List Bool) (p : ℕ)
+    → (((number xs / 2 ^ (8 * (p / 8))) % 256 + (number xs / 2 ^ (8 * (p / 8 + 1)) % 256) * 256 + (number xs / 2 ^ (8 * (p / 8 + 2)) % 256) * 65536) / 2 ^ (p % 8)) % 1024 ≡ number (take 10 (drop p xs))
+word_in_bytes xs p =
+    let j = p / 8 in
+    let n = number xs / 2 ^ (8 * j) in
+    let few : p % 8 < 8 = omega arith in
+    let whole : 8 * j + p % 8 ≡ p = omega arith in
+    let next : 8 * (j + 1) ≡ 8 * j + 8 = omega arith in
+    let third : 8 * (j + 2) ≡ 8 * j + 16 = omega arith in
+    let one : number xs / 2 ^ (8 * (j + 1)) ≡ n / 256 = ap (λ k. number xs / 2 ^ k) next ∙ sym (shr-shr (number xs) (8 * j) 8) in
+    let two : number xs / 2 ^ (8 * (j + 2)) ≡ n / 65536 = ap (λ k. number xs / 2 ^ k) third ∙ sym (shr-shr (number xs) (8 * j) 16) in
+    ap₂ (λ a b. ((n % 256 + (a % 256) * 256 + (b % 256) * 65536) / 2 ^ (p % 8)) % 1024) one two
+    ∙ low_word (p % 8) n few
+    ∙ ap (λ m. m % 1024) (shr-shr (number xs) (8 * j) (p % 8) ∙ ap (λ k. number xs / 2 ^ k) whole)
+    ∙ sym (number-window p 10 xs)
+
+-- Cutting.
+
+take_bits : (k j n : ℕ) → take k (bits_of (k + j) n) ≡ bits_of k n
+unfolding bits_of
+take_bits zero j n = refl
+take_bits (suc k) j n =
+    let e : suc k + j ≡ suc (k + j) = omega arith in
+    ap (λ m. take (suc k) (bits_of m n)) e ∙ ap (λ xs. (n % 2 == 1) ∷ xs) (take_bits k j (n / 2))
+
+-- the lowest bits of a number, from its remainder
+pub bits_of-mod : (k n : ℕ) → bits_of k (n % 2 ^ k) ≡ bits_of k n
+bits_of-mod k n =
+    let c = 2 ^ k in
+    let e : n % c + c * (n / c) ≡ n = omega arith in
+    sym (ap (λ m. bits_of k m) (sym e) ∙ bits_of-low k (n % c) (n / c))
+
+take_low : (k h n : ℕ) → k ≤ h → take k (bits_of h n) ≡ bits_of k n
+take_low k h n le =
+    let e : k + (h - k) ≡ h = omega arith in
+    ap (λ m. take k (bits_of m n)) (sym e) ∙ take_bits k (h - k) n
+
+no_bytes : bytes_bits [] ≡ []
+unfolding bytes_bits
+no_bytes = refl
+
+more_bytes : (b : ℕ) (bytes : List ℕ) → bytes_bits (b ∷ bytes) ≡ bits_of 8 b ++ bytes_bits bytes
+unfolding bytes_bits
+more_bytes b bytes = refl
+
+-- the first bits of a row: whole bytes, and some bits of the byte after them
+pub take_row : (bytes : List ℕ) (h t j k : ℕ) → h < 8 → k < 8 → 8 * j + k ≤ 8 * length bytes + h
+    → take (8 * j + k) (bytes_bits bytes ++ bits_of h t) ≡ bytes_bits (take j bytes) ++ bits_of k (get_or (bytes ++ t ∷ []) j 0)
+take_row [] h t zero k few less room =
+    let e : 8 * 0 + k ≡ k = omega arith in
+    let le : k ≤ h = omega arith in
+    ap₂ (λ m xs. take m (xs ++ bits_of h t)) e no_bytes ∙ take_low k h t le ∙ ap (λ xs. xs ++ bits_of k t) (sym no_bytes)
+take_row [] h t (suc j) k few less room = absurd (omega arith)
+take_row (b ∷ bytes) h t zero k few less room =
+    let e : 8 * 0 + k ≡ k = omega arith in
+    let short : k ≤ length (bits_of 8 b) = omega (arith, length-bits_of 8 b) in
+    ap₂ (λ m xs. take m xs) e (ap (λ xs. xs ++ bits_of h t) (more_bytes b bytes) ∙ append_assoc (bits_of 8 b) (bytes_bits bytes) (bits_of h t))
+    ∙ take-append-le k (bits_of 8 b) (bytes_bits bytes ++ bits_of h t) short
+    ∙ take_low k 8 b (omega arith)
+    ∙ ap (λ xs. xs ++ bits_of k b) (sym no_bytes)
+take_row (b ∷ bytes) h t (suc j) k few less room =
+    let rest = bytes_bits bytes ++ bits_of h t in
+    let e : 8 * suc j + k ≡ length (bits_of 8 b) + (8 * j + k) = omega (arith, length-bits_of 8 b) in
+    ap₂ (λ m xs. take m xs) e (ap (λ xs. xs ++ bits_of h t) (more_bytes b bytes) ∙ append_assoc (bits_of 8 b) (bytes_bits bytes) (bits_of h t))
+    ∙ take-append-add (bits_of 8 b) rest (8 * j + k)
+    ∙ ap (λ xs. bits_of 8 b ++ xs) (take_row bytes h t j k few less (omega arith))
+    ∙ sym (append_assoc (bits_of 8 b) (bytes_bits (take j bytes)) (bits_of k (get_or (bytes ++ t ∷ []) j 0)))
+    ∙ ap (λ xs. xs ++ bits_of k (get_or (bytes ++ t ∷ []) j 0)) (sym (more_bytes b (take j bytes)))
+
+-- Appending whole bytes.
+
+no_bits : (t : ℕ) → bits_of 0 t ≡ []
+unfolding bits_of
+no_bits t = refl
+
+-- where no bit stands past the whole bytes
+pub row_aligned : (bytes more : List ℕ) (h t : ℕ) → h ≡ 0 → bytes_bits (bytes ++ more) ++ bits_of h t ≡ (bytes_bits bytes ++ bits_of h t) ++ bytes_bits more
+row_aligned bytes more h t e =
+    let none : bits_of h t ≡ [] = ap (λ k. bits_of k t) e ∙ no_bits t in
+    ap (λ xs. bytes_bits (bytes ++ more) ++ xs) none
+    ∙ append-nil (bytes_bits (bytes ++ more))
+    ∙ bytes_bits-append bytes more
+    ∙ ap (λ xs. xs ++ bytes_bits more) (sym (append-nil (bytes_bits bytes)) ∙ ap (λ xs. bytes_bits bytes ++ xs) (sym none))
+
+pub no_more : (xs : List Bool) (bytes : List ℕ) → xs ≡ xs ++ bytes_bits (take 0 bytes)
+no_more xs bytes = sym (ap (λ ys. xs ++ ys) no_bytes ∙ append-nil xs)
+
+-- one byte more
+pub byte_after : (start xs : List Bool) (bytes : List ℕ) (i b : ℕ) → xs ≡ start ++ bytes_bits (take i bytes) → i < length bytes → b ≡ get_or bytes i 0
+    → xs ++ bits_of 8 b ≡ start ++ bytes_bits (take (i + 1) bytes)
+byte_after start xs bytes i b was lt e =
+    let one : take (i + 1) bytes ≡ take i bytes ++ get_or bytes i 0 ∷ [] = take_more bytes i 0 lt in
+    ap (λ ys. ys ++ bits_of 8 b) was
+    ∙ append_assoc start (bytes_bits (take i bytes)) (bits_of 8 b)
+    ∙ ap (λ ys. start ++ ys) (ap (λ c. bytes_bits (take i bytes) ++ bits_of 8 c) e ∙ ap (λ ys. bytes_bits (take i bytes) ++ ys) (sym (bytes_bits-one (get_or bytes i 0))) ∙ sym (bytes_bits-append (take i bytes) (get_or bytes i 0 ∷ [])) ∙ ap bytes_bits (sym one))
+
+-- the first bits of bytes: whole ones, and some bits of the byte after them
+pub take_bytes : (bytes : List ℕ) (j k : ℕ) → k < 8 → 8 * j + k ≤ 8 * length bytes → take (8 * j + k) (bytes_bits bytes) ≡ bytes_bits (take j bytes) ++ bits_of k (get_or bytes j 0)
+take_bytes bytes j k few room =
+    ap (take (8 * j + k)) (sym (ap (λ xs. bytes_bits bytes ++ xs) (no_bits 0) ∙ append-nil (bytes_bits bytes)))
+    ∙ take_row bytes 0 0 j k (omega arith) few (omega arith)
+    ∙ ap (λ b. bytes_bits (take j bytes) ++ bits_of k b) (tail_of_none bytes j)
+  where
+    tail_of_none : (bytes : List ℕ) (j : ℕ) → get_or (bytes ++ 0 ∷ []) j 0 ≡ get_or bytes j 0
+    tail_of_none [] zero = refl
+    tail_of_none [] (suc j) = refl
+    tail_of_none (b ∷ bytes) zero = refl
+    tail_of_none (b ∷ bytes) (suc j) = tail_of_none bytes j
+
+-- a mask of k bits
+pub mask_is : (b k : ℕ) → k < 8 → bit_and b (1 * 2 ^ k % 256 - 1) ≡ b % 2 ^ k
+mask_is b k few =
+    let most : 2 ^ k ≤ 2 ^ 7 = pow_mono {i = k} {j = 7} (omega arith) in
+    let one : 1 * 2 ^ k ≡ 2 ^ k = omega arith in
+    let fits : 2 ^ k < 256 = omega arith in
+    ap (λ m. bit_and b (m - 1)) (ap (λ m. m % 256) one ∙ mod-eq_of_lt fits) ∙ and_mask b k
+
+-- the first bits of bytes, where they end at a byte's edge
+pub take_whole : (bytes : List ℕ) (bits : ℕ) → bits % 8 ≡ 0 → length bytes ≡ (bits + 7) / 8 → take bits (bytes_bits bytes) ≡ bytes_bits (take (bits / 8) bytes)
+take_whole bytes bits e len =
+    let whole : 8 * (bits / 8) + 0 ≡ bits = omega arith in
+    ap (λ n. take n (bytes_bits bytes)) (sym whole)
+    ∙ take_bytes bytes (bits / 8) 0 (omega arith) (omega arith)
+    ∙ ap (λ xs. bytes_bits (take (bits / 8) bytes) ++ xs) (no_bits (get_or bytes (bits / 8) 0))
+    ∙ append-nil (bytes_bits (take (bits / 8) bytes))
+
+-- and where they end within a byte
+pub take_part : (bytes : List ℕ) (bits last : ℕ) → length bytes ≡ (bits + 7) / 8 → last ≡ bit_and (get_or bytes (bits / 8) 0) (1 * 2 ^ (bits % 8) % 256 - 1)
+    → take bits (bytes_bits bytes) ≡ bytes_bits (take (bits / 8) bytes) ++ bits_of (bits % 8) last
+take_part bytes bits last len e =
+    let few : bits % 8 < 8 = omega arith in
+    let whole : 8 * (bits / 8) + bits % 8 ≡ bits = omega arith in
+    let b = get_or bytes (bits / 8) 0 in
+    ap (λ n. take n (bytes_bits bytes)) (sym whole)
+    ∙ take_bytes bytes (bits / 8) (bits % 8) few (omega arith)
+    ∙ ap (λ xs. bytes_bits (take (bits / 8) bytes) ++ xs) (sym (bits_of-mod (bits % 8) b) ∙ ap (bits_of (bits % 8)) (sym (e ∙ mask_is b (bits % 8) few)))

@@ -1,0 +1,7 @@
+use Rattle.std.proofs.Common.{ap, ◌++◌}
+use Rattle.tmds_word.specs.Bits.{bits_of, bytes_bits}
+use Rattle.tmds_word.proofs.row.BitRow.new.Goals as goal
+
+pub returns : goal.returns
+unfolding bits_of bytes_bits
+returns c = ap (λ bs. bytes_bits bs ++ bits_of 0 0) c.new.ensures.items

@@ -1,0 +1,23 @@
+//! What takes columns one after another.
+ghost use Rattle.std.specs.Prelude.{◌≡◌, ◌<◌, ◌++◌, ◌∷◌, [], ℕ, List, length, OnOk, OnErr};
+ghost use Rattle.outside_io.specs.Causes.{HasCause};
+ghost use Rattle.tmds_word.specs.Column.{Column, column_of};
+
+use crate::Word;
+use outside_io::NoMemory;
+
+/// Takes columns: one character of each lane at a time.
+pub trait ColumnSink {
+    /// The columns taken so far.
+    ghost taken: { Self → List Column };
+
+    /// How many calls were refused for want of memory: a u64 that never falls.
+    ghost refusals: { Self → ℕ };
+
+    /// Takes the column after those taken so far; after a refusal it holds the columns before.
+    fn column(&mut self, words: [Word; 3]) -> Result<(), NoMemory>
+        requires { length (taken self.old) < 429496729 }
+        ensures ok { OnOk result (taken self.new ≡ taken self.old ++ column_of words ∷ []) }
+        ensures err { OnErr result (taken self.new ≡ taken self.old) }
+        ensures cause { HasCause (refusals self.old) (refusals self.new) result };
+}

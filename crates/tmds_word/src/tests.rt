@@ -1,0 +1,194 @@
+//! Characters and rows compared with values that were computed apart from this crate.
+ghost use Rattle.std.specs.Prelude.{ℕ, List, length};
+
+use crate::{BitRow, ColumnSink, Word};
+use outside_io::NoMemory;
+use std::alloc::Global;
+use std::process::Abort;
+use std::test::*;
+
+/// Numbers, their transitions, and their ones minus their zeros.
+static WORDS: [(u16, u8, i8); 14] = [
+    (0x000, 0, -10),
+    (0x001, 1, -8),
+    (0x200, 1, -8),
+    (0x1ff, 1, 8),
+    (0x3ff, 0, 10),
+    (0x155, 9, 0),
+    (0x2aa, 9, 0),
+    (0x354, 7, 0),
+    (0x0ab, 7, 0),
+    (0x154, 8, -2),
+    (0x2ab, 8, 2),
+    (0x29c, 5, 0),
+    (0x271, 4, 0),
+    (0x133, 5, 0),
+];
+
+/// The characters of a row.
+static ROW: [u16; 11] = [
+    0x354, 0x0ab, 0x154, 0x2ab, 0x29c, 0x11e, 0x2cc, 0x271, 0x133, 0x3ff, 0x001,
+];
+
+/// The bits of that row in the order in which they are sent.
+static SENT: &[u8] =
+    b"00101010111101010100001010101011010101010011100101011110001000110011011000111001110011001011111111111000000000";
+
+/// The windows of that row, one for each place that has one.
+static WINDOWS: [u16; 101] = [
+    0x354, 0x3aa, 0x3d5, 0x1ea, 0x2f5, 0x17a, 0x2bd, 0x15e, 0x2af, 0x157, 0x0ab, 0x055, 0x02a,
+    0x215, 0x10a, 0x285, 0x142, 0x2a1, 0x150, 0x2a8, 0x154, 0x2aa, 0x355, 0x1aa, 0x2d5, 0x16a,
+    0x2b5, 0x15a, 0x2ad, 0x156, 0x2ab, 0x155, 0x0aa, 0x255, 0x32a, 0x395, 0x1ca, 0x0e5, 0x272,
+    0x139, 0x29c, 0x14e, 0x2a7, 0x353, 0x3a9, 0x3d4, 0x1ea, 0x0f5, 0x07a, 0x23d, 0x11e, 0x08f,
+    0x047, 0x223, 0x311, 0x188, 0x0c4, 0x262, 0x331, 0x198, 0x2cc, 0x366, 0x1b3, 0x0d9, 0x06c,
+    0x236, 0x31b, 0x38d, 0x1c6, 0x0e3, 0x271, 0x338, 0x39c, 0x1ce, 0x0e7, 0x273, 0x339, 0x19c,
+    0x0ce, 0x267, 0x133, 0x299, 0x34c, 0x3a6, 0x3d3, 0x3e9, 0x3f4, 0x3fa, 0x3fd, 0x3fe, 0x3ff,
+    0x3ff, 0x1ff, 0x0ff, 0x07f, 0x03f, 0x01f, 0x00f, 0x007, 0x003, 0x001,
+];
+
+/// Keeps the columns that it takes.
+#[derive(Drop)]
+struct Columns {
+    words: Vec<[Word; 3]>,
+    refusals: u64,
+}
+
+impl ColumnSink for Columns {
+    ghost use Rattle.std.specs.Prelude.{map};
+    ghost use Rattle.tmds_word.specs.Column.{column_of};
+
+    ghost taken = { λ s. map column_of s.words.items };
+
+    ghost refusals = { λ s. s.refusals };
+
+    fn column(&mut self, words: [Word; 3]) -> Result<(), NoMemory> {
+        match self.words.push(words) {
+            Ok(()) => Ok(()),
+            Err(_) => {
+                self.refusals = self.refusals.saturating_add(1);
+                Err(NoMemory)
+            }
+        }
+    }
+}
+
+/// The row of `ROW`.
+fn row(rt: &impl Abort, alloc: Global) -> Result<BitRow, Fail> {
+    let mut row = BitRow::new(alloc);
+    assert!(rt; row.is_empty());
+    for &value in &ROW {
+        assert!(rt; row.len() < 1000);
+        row.push_word(Word::new(value).ok_or("ten bits")?)?;
+    }
+    Ok(row)
+}
+
+#[test]
+fn words(rt: HostRuntime) -> Result<(), Fail> {
+    for &(value, turns, balance) in &WORDS {
+        let word = Word::new(value).ok_or("ten bits")?;
+        assert_eq!(rt; word.value(), value);
+        assert_eq!(rt; word.turns(), turns, "at {value}");
+        assert_eq!(rt; word.balance(), balance, "at {value}");
+    }
+    assert!(rt; Word::new(1024).is_none());
+    assert!(rt; Word::new(65535).is_none());
+    let word = Word::new(0x354).ok_or("ten bits")?;
+    for i in 0..10 {
+        assert_eq!(rt; word.sent_bit(i), SENT[i as usize] == b'1', "bit {i}");
+    }
+    Ok(())
+}
+
+#[test]
+fn bits(rt: HostRuntime) -> Result<(), Fail> {
+    let row = row(&rt, rt.alloc())?;
+    assert_eq!(rt; row.len(), 110);
+    for i in 0..110 {
+        assert_eq!(rt; row.bit(i), SENT[i as usize] == b'1', "bit {i}");
+    }
+    Ok(())
+}
+
+#[test]
+fn windows(rt: HostRuntime) -> Result<(), Fail> {
+    let row = row(&rt, rt.alloc())?;
+    for p in 0..101 {
+        let word = row.window(p).ok_or("a window")?;
+        assert_eq!(rt; word.value(), WINDOWS[p as usize], "at {p}");
+    }
+    for p in 101..112 {
+        assert!(rt; row.window(p).is_none(), "at {p}");
+    }
+    assert!(rt; row.window(0xffff_ffff).is_none());
+    Ok(())
+}
+
+#[test]
+fn cut_rows(rt: HostRuntime) -> Result<(), Fail> {
+    let mut row = row(&rt, rt.alloc())?;
+    for cut in 0..30 {
+        let keep = 30 - cut;
+        assert!(rt; keep <= row.len());
+        row.truncate(keep);
+        assert_eq!(rt; row.len(), keep);
+        assert_eq!(rt; row.window(0).is_some(), 10 <= keep);
+        assert_eq!(rt;
+            row.bit(keep - 1),
+            SENT[keep as usize - 1] == b'1',
+            "at {keep}"
+        );
+    }
+    Ok(())
+}
+
+#[test]
+fn taken_columns(rt: HostRuntime) -> Result<(), Fail> {
+    let mut sink = Columns {
+        words: Vec::new(rt.alloc()),
+        refusals: 0,
+    };
+    let word = Word::new(0x154).ok_or("ten bits")?;
+    sink.column([word, word, word])?;
+    assert_eq!(rt; sink.words.len(), 1);
+    assert_eq!(rt; sink.refusals, 0);
+    Ok(())
+}
+
+/// The bytes of the row of `ROW`, eight bits each, the first lowest.
+static PACKED: [u8; 14] = [
+    0x54, 0xaf, 0x42, 0xd5, 0xaa, 0x9c, 0x7a, 0xc4, 0x6c, 0x9c, 0x33, 0xfd, 0x1f, 0x00,
+];
+
+#[test]
+fn packed_bits(rt: HostRuntime) -> Result<(), Fail> {
+    let mut short = BitRow::new(rt.alloc());
+    short.push_bits(&[0x54, 0x53], 10)?;
+    assert_eq!(rt; short.window(0).ok_or("a window")?.value(), 0x354);
+
+    let mut row = BitRow::with_capacity(rt.alloc(), 200)?;
+    row.push_bits(&PACKED, 110)?;
+    assert_eq!(rt; row.len(), 110);
+    for i in 0..110 {
+        assert_eq!(rt; row.bit(i), SENT[i as usize] == b'1', "bit {i}");
+    }
+
+    // Behind three bits, so that no byte of it lies at a byte's edge.
+    let mut later = BitRow::new(rt.alloc());
+    later.push_bits(&[0x05], 3)?;
+    later.push_bits(&PACKED, 110)?;
+    assert_eq!(rt; later.len(), 113);
+    for i in 0..110 {
+        assert_eq!(rt; later.bit(i + 3), SENT[i as usize] == b'1', "bit {i}");
+    }
+    for from in [0, 3] {
+        let mut into = [0xff; 14];
+        if from == 0 {
+            row.copy_bytes(0, &mut into);
+        } else {
+            later.copy_bytes(3, &mut into);
+        }
+        assert_eq!(rt; into, PACKED, "from {from}");
+    }
+    Ok(())
+}
