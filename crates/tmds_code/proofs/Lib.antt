@@ -1,0 +1,3 @@
+pub mod TableWords
+pub mod Steps
+pub mod Lanes

@@ -1,0 +1,36 @@
+-- A coder's disparity stays even and from -8 to 8: each byte at each such disparity is computed.
+use Rattle.std.proofs.Common.{◌≡◌, ℕ, ◌+◌, ◌-◌, ◌*◌, ◌<◌, ◌≤◌, Bool, true, refl, nat_le, ◌&&◌, arith}
+use Rattle.std.specs.Prelude.{pos, ◌+ℤ◌, ◌-ℤ◌}
+use Rattle.std.proofs.lemmas.Int.{ints}
+use borrow.Author.Tests.{leb-true}
+use Rattle.tmds_word.specs.Bits.{bits_of, word_bits, number, ones, zeros, balance}
+use Rattle.tmds_word.proofs.Below.{passes_below, passes_at, and-left, and-right}
+use Rattle.tmds_word.proofs.Words.{ten_bits}
+use Rattle.tmds_code.specs.Coding.{coded_word, coded_at, coded_bits, balanced, minimised, takes_xnor}
+
+-- the character after k steps up from -8
+word_after : ℕ → ℕ → ℕ
+word_after k b = coded_word (pos (2 * k) -ℤ pos 8) b
+
+stays : ℕ → ℕ → Bool
+stays k b = nat_le 5 (k + ones (word_bits (word_after k b))) && nat_le (k + ones (word_bits (word_after k b))) 13
+
+all_stay : passes_below 9 (λ k. passes_below 256 (stays k)) ≡ true
+unfolding passes_below stays word_after coded_at coded_bits balanced minimised takes_xnor bits_of word_bits number ones zeros balance
+all_stay = refl
+
+stays_at : (k b : ℕ) → k ≤ 8 → b < 256 → stays k b ≡ true
+stays_at k b le lt = passes_at 256 (stays k) b (passes_at 9 (λ j. passes_below 256 (stays j)) k all_stay (omega arith)) lt
+
+pub step_low : (k b : ℕ) → k ≤ 8 → b < 256 → 5 ≤ k + ones (word_bits (coded_word (pos (2 * k) -ℤ pos 8) b))
+unfolding stays word_after
+step_low k b le lt = leb-true _ _ (and-left _ _ (stays_at k b le lt))
+
+pub step_high : (k b : ℕ) → k ≤ 8 → b < 256 → k + ones (word_bits (coded_word (pos (2 * k) -ℤ pos 8) b)) ≤ 13
+unfolding stays word_after
+step_high k b le lt = leb-true _ _ (and-right _ _ (stays_at k b le lt))
+
+-- the disparity after a character
+pub step_balance : (k w : ℕ) → w < 1024 → 5 ≤ k + ones (word_bits w) → pos (2 * (k + ones (word_bits w) - 5)) -ℤ pos 8 ≡ (pos (2 * k) -ℤ pos 8) +ℤ balance (word_bits w)
+unfolding balance
+step_balance k w lt low = omega (arith, ints, ten_bits w lt, low)

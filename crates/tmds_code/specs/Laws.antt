@@ -1,0 +1,19 @@
+-- What every coded character has.
+use Rattle.std.specs.Prelude.{◌≡◌, ◌≢◌, ℕ, ◌<◌, ◌≤◌, ℤ}
+use Rattle.tmds_word.specs.Bits.{word_bits, turns}
+use Rattle.tmds_code.specs.Coding.{Coded, decoded_byte}
+
+-- a coded character carries the byte that it codes
+abbrev pub DecodesCoded : Type 0
+DecodesCoded = (disparity : ℤ) (byte w : ℕ) → byte < 256 → Coded disparity byte w → decoded_byte w ≡ byte
+
+-- a character of at most five transitions, which is none of the four control characters (they have seven or eight)
+pub record IsQuiet (w : ℕ) : Type 0 where
+  pub few : turns (word_bits w) ≤ 5
+  pub not_control_0 : w ≢ 0x354
+  pub not_control_1 : w ≢ 0x0ab
+  pub not_control_2 : w ≢ 0x154
+  pub not_control_3 : w ≢ 0x2ab
+
+abbrev pub CodedIsQuiet : Type 0
+CodedIsQuiet = (disparity : ℤ) (byte w : ℕ) → byte < 256 → Coded disparity byte w → IsQuiet w

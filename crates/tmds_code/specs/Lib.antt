@@ -1,0 +1,5 @@
+pub mod Coding
+pub mod Lanes
+pub mod Places
+pub mod Pasts
+pub mod Laws

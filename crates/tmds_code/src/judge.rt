@@ -1,0 +1,59 @@
+//! The judge of one lane of a video period.
+ghost use Rattle.std.specs.Prelude.{◌≡◌, ℕ, ◌+◌, ◌<◌, ◌↔◌, ◌++◌, ◌∷◌, [], List, IsTrue};
+ghost use Rattle.tmds_code.specs.Coding.{Coded, decoded_byte};
+ghost use Rattle.tmds_code.specs.Pasts.{IsJudgeAfter};
+
+use crate::{decode, encode};
+use std::marker::Model;
+use tmds_word::Word;
+
+/// Hears the characters of one lane in order, from a video period's first pixel on, and says of each
+/// whether it is rightly coded.
+#[derive(Clone, Copy, Debug, PartialEq, Eq)]
+pub struct CodeJudge {
+    /// How many characters were heard, at most 4,097.
+    count: u16,
+    /// Their ones minus their zeros.
+    disparity: i32,
+}
+
+impl Model for CodeJudge {
+    ghost use Rattle.std.specs.Prelude.{◌≤◌, ◌≤ℤ◌, ◌*◌, pos, neg_ℤ};
+    ghost use Rattle.tmds_code.specs.Pasts.{Heard};
+
+    ghost Value = { Heard };
+
+    ghost view = { λ j. record { count = j.count; disparity = j.disparity } };
+
+    ghost inverse = { λ h. record { count = h.count; disparity = h.disparity } };
+
+    ghost invariant = { λ j. (j.count ≤ 4097) × (neg_ℤ (pos (10 * j.count)) ≤ℤ j.disparity) × (j.disparity ≤ℤ pos (10 * j.count)) };
+}
+
+impl CodeJudge {
+    /// A judge at a video period's first pixel.
+    pub fn new() -> CodeJudge
+        ensures { IsJudgeAfter result [] }
+    {
+        CodeJudge {
+            count: 0,
+            disparity: 0,
+        }
+    }
+
+    /// The byte of the next character, and whether the character codes that byte at the sum of the
+    /// balances of the characters heard before.
+    pub fn hear(&mut self, word: Word) -> (u8, bool)
+        requires { self.old.count < 4097 }
+        ensures byte { result.0 ≡ decoded_byte word }
+        ensures right { IsTrue result.1 ↔ Coded self.old.disparity (decoded_byte word) word }
+        ensures count { self.new.count ≡ self.old.count + 1 }
+        ensures stands { (words : List ℕ) → IsJudgeAfter self.old words → IsJudgeAfter self.new (words ++ word ∷ []) }
+    {
+        let byte = decode(word);
+        let right = encode(byte, self.disparity) == word;
+        self.count += 1;
+        self.disparity += i32::from(word.balance());
+        (byte, right)
+    }
+}

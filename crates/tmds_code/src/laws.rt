@@ -1,0 +1,12 @@
+//! Laws of the coding, over its definition alone.
+ghost use Rattle.tmds_code.specs.Laws.{DecodesCoded, CodedIsQuiet};
+
+/// A coded character carries the byte that it codes, at every disparity.
+pub fn decodes_coded()
+    ensures { DecodesCoded }
+{}
+
+/// A coded character has at most five transitions, so it is no control character.
+pub fn coded_is_quiet()
+    ensures { CodedIsQuiet }
+{}

@@ -1,0 +1,14 @@
+//! TMDS video coding: bytes to characters and back, and whether characters are rightly coded.
+#![tactic(auto)]
+
+mod coder;
+mod coding;
+mod judge;
+pub mod laws;
+mod tables;
+#[cfg(test)]
+mod tests;
+
+pub use coder::VideoCoder;
+pub use coding::{decode, encode};
+pub use judge::CodeJudge;
