@@ -1,0 +1,4 @@
+pub mod Members
+pub mod Choices
+pub mod Entries
+pub mod Words

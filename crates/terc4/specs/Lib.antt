@@ -1,0 +1,4 @@
+pub mod Tables
+pub mod Columns
+pub mod Kinds
+pub mod Laws
