@@ -1,0 +1,4 @@
+pub mod Bits
+pub mod Block
+pub mod Division
+pub mod Repair
