@@ -1,0 +1,5 @@
+pub mod Laws
+mod Between
+mod Examples
+mod Groups
+mod Streaks

@@ -1,0 +1,58 @@
+-- Where a VSYNC change is heard. `past` is all that was told before, the newest first.
+-- That it takes three columns in a row is a rule of this project: one or two neighbouring wrong words make no change.
+use Rattle.std.specs.Prelude.{◌≡◌, ◌++◌, IsTrue, Bool, true, false, not, ◌&&◌, ◌||◌, nat_lt, List, [], ◌∷◌, reverse, Option, Some, None, if◌then◌else◌}
+use Rattle.frame_build.specs.Event.{Event, run, line, word_fault, other, vsync_of, Mark, marks, has_vsync}
+
+-- whether the three newest marks are columns with this VSYNC
+abbrev pub three_have : Bool → List Mark → Bool
+three_have vsync (a ∷ b ∷ c ∷ earlier) = has_vsync vsync a && has_vsync vsync b && has_vsync vsync c
+three_have vsync _ = false
+
+-- the VSYNC value heard at a thing: that of a run with columns, if by its end three columns in a row have it (a run's
+-- columns are alike, so they have it by its end if they have it by any column of it)
+abbrev pub heard_at : Event → List Event → Option Bool
+heard_at (run value count) past =
+    if nat_lt 0 count && three_have (vsync_of value) (marks (run value count ∷ past)) then Some (vsync_of value) else None
+heard_at (line width) past = None
+heard_at word_fault past = None
+heard_at other past = None
+
+-- the second, where the first is none
+abbrev pub newer : Option Bool → Option Bool → Option Bool
+newer (Some vsync) earlier = Some vsync
+newer None earlier = earlier
+
+-- the last VSYNC value that was heard
+abbrev pub last_heard : List Event → Option Bool
+last_heard [] = None
+last_heard (thing ∷ past) = newer (heard_at thing past) (last_heard past)
+
+-- whether both are there, and differ
+abbrev pub differ : Option Bool → Option Bool → Bool
+differ (Some true) (Some vsync) = not vsync
+differ (Some false) (Some vsync) = vsync
+differ _ _ = false
+
+-- a change: a value is heard that is not the last one heard before; so the first one heard is no change
+abbrev pub is_change : Event → List Event → Bool
+is_change thing past = differ (heard_at thing past) (last_heard past)
+
+-- whether a change was heard
+abbrev pub has_change : List Event → Bool
+has_change [] = false
+has_change (thing ∷ past) = is_change thing past || has_change past
+
+-- what was told since the last change, or since the start, the newest first
+abbrev pub since_change : List Event → List Event
+since_change [] = []
+since_change (thing ∷ past) = if is_change thing past then [] else thing ∷ since_change past
+
+-- whether a change is heard at a thing that is told after `told`, which has the oldest first
+abbrev pub changes_at : List Event → Event → Bool
+changes_at told thing = is_change thing (reverse told)
+
+-- `between` lies between two changes: one is heard at `first`, which is told after `before`, the next at `last`
+pub record IsBetweenChanges (before : List Event) (first : Event) (between : List Event) (last : Event) : Type 0 where
+  pub opens : IsTrue (changes_at before first)
+  pub quiet : (front : List Event) (thing : Event) (back : List Event) → between ≡ front ++ thing ∷ back → changes_at (before ++ first ∷ front) thing ≡ false
+  pub closes : IsTrue (changes_at (before ++ first ∷ between) last)

@@ -1,0 +1,5 @@
+pub mod Event
+pub mod Change
+pub mod Group
+pub mod State
+pub mod StandsFor

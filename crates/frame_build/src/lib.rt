@@ -1,0 +1,94 @@
+//! Lines into frames: a frame is the lines between two changes of VSYNC.
+//!
+//! A VSYNC value is heard when three columns in a row have it, with nothing told between them but faults of one word,
+//! and a change is heard when that value is not the one heard last. The definitions are over the whole list of things
+//! told (`specs/`); a `Frames` keeps a few numbers, and each call says what it answers for every list that these stand for.
+#![tactic(auto)]
+
+ghost use Rattle.std.specs.Prelude.{◌≡◌, ◌++◌, ◌∷◌, [], List, ℕ};
+ghost use Rattle.frame_build.specs.Event.{Event, run, line, other};
+ghost use Rattle.frame_build.specs.Group.{frame_at, line_at};
+ghost use Rattle.frame_build.specs.StandsFor.{StandsFor};
+
+mod lines;
+mod sync;
+#[cfg(test)]
+mod tests;
+
+use lines::Lines;
+use std::marker::Model;
+use sync::Sync;
+
+/// A frame of a link: how many pixels its first line has, and how many lines it has.
+#[derive(Clone, Copy, Debug, PartialEq, Eq)]
+pub struct FrameNote {
+    pub width: u32,
+    pub height: u32,
+}
+
+/// What is said of a line: whether its group counts, whether it is not as wide as the group's first line,
+/// and its number in the group, from 0 on.
+#[derive(Clone, Copy, Debug, PartialEq, Eq)]
+pub struct LineNote {
+    pub counts: bool,
+    pub ragged: bool,
+    pub row: u32,
+}
+
+/// Hears what is told of a link, and says where frames end. It takes no memory.
+#[derive(Clone, Debug, Drop)]
+pub struct Frames {
+    sync: Sync,
+    lines: Lines,
+}
+
+impl Model for Frames {
+    ghost use Rattle.frame_build.specs.State.{State};
+
+    ghost Value = { State };
+
+    ghost view = { λ f. record { sync = f.sync; lines = f.lines } };
+
+    ghost inverse = { λ s. record { sync = s.sync; lines = s.lines } };
+}
+
+impl Frames {
+    /// Nothing was told yet.
+    pub fn new() -> Frames
+        ensures { StandsFor result [] }
+    {
+        Frames {
+            sync: Sync::new(),
+            lines: Lines::new(),
+        }
+    }
+
+    /// Hears a run of `count` control columns. Bit 0 of `value` is HSYNC, bit 1 VSYNC, bits 2 to 5 are CTL0 to
+    /// CTL3. The answer is the frame that ends here, if one does.
+    pub fn run(&mut self, value: u8, count: u32) -> Option<FrameNote>
+        ensures stands { (told : List Event) → StandsFor self.old told → StandsFor self.new (told ++ run value count ∷ []) }
+        ensures frame { (told : List Event) → StandsFor self.old told → result ≡ frame_at told (run value count) }
+    {
+        if self.sync.hear(value, count) {
+            self.lines.end()
+        } else {
+            None
+        }
+    }
+
+    /// Hears a line of `width` pixels.
+    pub fn line(&mut self, width: u32) -> LineNote
+        ensures stands { (told : List Event) → StandsFor self.old told → StandsFor self.new (told ++ line width ∷ []) }
+        ensures note { (told : List Event) → StandsFor self.old told → result ≡ line_at told width }
+    {
+        self.sync.part();
+        self.lines.add(width)
+    }
+
+    /// Hears anything else that is told, but a fault of one word, which changes nothing.
+    pub fn other(&mut self)
+        ensures { (told : List Event) → StandsFor self.old told → StandsFor self.new (told ++ other ∷ []) }
+    {
+        self.sync.part();
+    }
+}
