@@ -1,0 +1,6 @@
+pub mod Leads
+pub mod Follows
+pub mod Turns
+pub mod Faults
+pub mod Spellings
+pub mod Streams

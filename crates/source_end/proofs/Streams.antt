@@ -1,0 +1,76 @@
+-- Columns that spell periods, one period after another.
+use Rattle.std.proofs.Common.{◌≡◌, ℕ, suc, zero, ◌+◌, ◌/◌, ◌%◌, ◌≤◌, ◌<◌, true, ◌==◌, ◌&&◌, List, [], ◌∷◌, ◌++◌, length, take, get_or, map, refl, ap, sym, ◌∙◌, arith, append_assoc, append-nil, length-append}
+use Rattle.std.specs.Prelude.{nat_le, nat_lt}
+use Rattle.std.specs.List.{list_all}
+use Rattle.std.proofs.Math.ListN.{get_or-map}
+use Rattle.std.proofs.lemmas.List.{length-map}
+use Rattle.tmds_word.specs.Column.{Column}
+use Rattle.source_end.specs.Periods.{ControlRun, Period, control, video, values_of, has_preamble, VIDEO_PREAMBLE, Pixel, pixels_of, period_columns, columns_of}
+use Rattle.source_end.specs.Conforming.{is_run, is_control_period, is_video_period, conforms}
+use Rattle.source_end.specs.declared.item.Item.{Item}
+use Rattle.source_end.specs.ItemPeriods.{period_of}
+use Rattle.source_end.specs.Kept.{is_sendable}
+use Rattle.source_end.specs.Spelling.{SpellsPixels, SpellsPeriod, Spells, control_column}
+use Rattle.source_end.proofs.Turns.{left, right}
+use Rattle.source_end.proofs.Spellings.{length-pixels_of}
+
+pub Spells-more : (periods : List Period) (p : Period) (columns own : List Column) → Spells periods columns → SpellsPeriod p own → Spells (periods ++ p ∷ []) (columns ++ own)
+Spells-more [] p columns own h k = (own, [], ap (λ (cs : List Column). cs ++ own) h ∙ sym (append-nil own), k, refl)
+Spells-more (q ∷ ps) p columns own h k =
+    (h.0, h.1 ++ own, ap (λ (cs : List Column). cs ++ own) h.2 ∙ append_assoc h.0 h.1 own, h.3, Spells-more ps p h.1 own h.4 k)
+
+video_length : (bytes : List ℕ) (columns : List Column) → SpellsPixels (pixels_of bytes) columns → length columns ≡ length bytes / 3
+video_length bytes columns h =
+    sym (length-map columns (λ (c : Column). c.blue)) ∙ h.blue.same_length ∙ length-map (pixels_of bytes) (λ (p : Pixel). p.blue) ∙ length-pixels_of bytes
+
+period_length : (p : Period) (columns : List Column) → SpellsPeriod p columns → length columns ≡ period_columns p
+unfolding period_columns
+period_length (control runs) columns h = ap length h ∙ length-map (values_of runs) control_column
+period_length (video bytes) columns h = let n = video_length bytes h.0 h.2 in ap length h.1 ∙ omega (arith, n)
+
+pub Spells-length : (periods : List Period) (columns : List Column) → Spells periods columns → length columns ≡ columns_of periods
+unfolding columns_of
+Spells-length [] columns h = ap length h
+Spells-length (p ∷ ps) columns h =
+    let own = period_length p h.0 h.3 in
+    let rest = Spells-length ps h.1 h.4 in
+    ap length h.2 ∙ length-append h.0 h.1 ∙ omega (arith, own, rest)
+
+-- The periods of a conforming list can be sent.
+control_sendable : (runs : List ControlRun) → is_control_period runs ≡ true → list_all is_run runs ≡ true
+unfolding is_control_period
+control_sendable runs h = left (list_all is_run runs) (nat_le 12 (length (values_of runs))) h
+
+video_sendable : (bytes : List ℕ) → is_video_period bytes ≡ true → (length bytes % 3 == 0) ≡ true
+unfolding is_video_period
+video_sendable bytes h = left (length bytes % 3 == 0) (nat_le 1 (length bytes / 3) && nat_le (length bytes / 3) 4096) (right (list_all (λ b. nat_lt b 256) bytes) _ h)
+
+pub sendable_at : (periods : List Period) (i : ℕ) (d : Period) → conforms periods ≡ true → i < length periods → is_sendable (get_or periods i d) ≡ true
+unfolding conforms
+sendable_at [] i d h lt = absurd (omega arith)
+sendable_at (video bytes ∷ ps) i d h lt = absurd cc
+sendable_at (control runs ∷ (control more ∷ ps)) i d h lt = absurd cc
+sendable_at (control runs ∷ []) zero d h lt = control_sendable runs h
+sendable_at (control runs ∷ []) (suc i) d h lt = absurd (omega arith)
+sendable_at (control runs ∷ (video bytes ∷ ps)) zero d h lt = control_sendable runs (left (is_control_period runs) _ h)
+sendable_at (control runs ∷ (video bytes ∷ ps)) (suc zero) d h lt =
+    video_sendable bytes (left (is_video_period bytes) (conforms ps) (right (has_preamble VIDEO_PREAMBLE (values_of runs)) _ (right (is_control_period runs) _ h)))
+sendable_at (control runs ∷ (video bytes ∷ ps)) (suc (suc i)) d h lt =
+    let lt' : i < length ps = omega arith in
+    sendable_at ps i d (right (is_video_period bytes) (conforms ps) (right (has_preamble VIDEO_PREAMBLE (values_of runs)) _ (right (is_control_period runs) _ h))) lt'
+
+-- the columns of the first periods and of the next one are among all
+pub periods_room : (periods : List Period) (i : ℕ) (d : Period) → i < length periods → columns_of (take i periods) + period_columns (get_or periods i d) ≤ columns_of periods
+unfolding columns_of
+periods_room [] i d lt = absurd (omega arith)
+periods_room (p ∷ ps) zero d lt = omega arith
+periods_room (p ∷ ps) (suc i) d lt =
+    let lt' : i < length ps = omega arith in
+    omega (arith, periods_room ps i d lt')
+
+pub item_at : (items : List Item) (periods : List Period) (i : ℕ) (x : Item) → map period_of items ≡ periods → i < length items → x ≡ get_or items i x → get_or periods i (period_of x) ≡ period_of x
+item_at items periods i x e lt is =
+    ap (λ (ps : List Period). get_or ps i (period_of x)) (sym e) ∙ get_or-map period_of items i x ∙ ap period_of (sym is)
+
+pub item_within : (items : List Item) (periods : List Period) (i : ℕ) → map period_of items ≡ periods → i < length items → i < length periods
+item_within items periods i e lt = omega (arith, ap length e, length-map items period_of)

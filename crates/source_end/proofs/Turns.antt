@@ -1,0 +1,120 @@
+-- Lists of periods that grow by one, and that end.
+use Rattle.std.proofs.Common.{◌≡◌, ℕ, ◌+◌, ◌-◌, ◌≤◌, ◌<◌, Bool, true, false, ◌&&◌, List, [], ◌∷◌, ◌++◌, length, refl, ap, ◌∙◌, arith, ◌%◌, ◌==◌}
+use Rattle.std.specs.Prelude.{nat_le, nat_lt}
+use Rattle.std.specs.List.{list_all}
+use Rattle.source_end.specs.Periods.{ControlRun, Period, control, video, values_of, has_preamble, VIDEO_PREAMBLE, period_columns, columns_of}
+use Rattle.source_end.specs.Conforming.{is_run, is_control_period, is_video_period, conforms}
+use Rattle.source_end.specs.Kept.{capped, is_run_in_range, are_pixels, has_pixels, conforms_so_far}
+use Rattle.source_end.specs.Refusals.{last_period, is_in_range, is_in_order, has_control, is_announced, is_long_enough}
+
+pub left : (a b : Bool) → (a && b) ≡ true → a ≡ true
+left true b h = refl
+left false b h = absurd cc
+
+pub right : (a b : Bool) → (a && b) ≡ true → b ≡ true
+right true b h = h
+right false b h = absurd cc
+
+both : (a b : Bool) → a ≡ true → b ≡ true → (a && b) ≡ true
+both true b h k = k
+both false b h k = absurd cc
+
+without_most : (a b c : Bool) → (a && (b && c)) ≡ true → (a && b) ≡ true
+without_most a b c h = both a b (left a (b && c) h) (left b c (right a (b && c) h))
+
+runs_in_range : (runs : List ControlRun) → list_all is_run_in_range runs ≡ true → list_all is_run runs ≡ true
+unfolding is_run_in_range
+runs_in_range [] h = refl
+runs_in_range (r ∷ runs) h =
+    both (is_run r) (list_all is_run runs)
+    (without_most (nat_lt r.value 64) (nat_le 1 r.count) (nat_le r.count 20000000) (left (is_run_in_range r) (list_all is_run_in_range runs) h))
+    (runs_in_range runs (right (is_run_in_range r) (list_all is_run_in_range runs) h))
+
+control_in_range : (runs : List ControlRun) → is_in_range (control runs) ≡ true → list_all is_run runs ≡ true
+unfolding is_in_range is_run_in_range
+control_in_range runs h = runs_in_range runs h
+
+video_in_range : (bytes : List ℕ) → is_in_range (video bytes) ≡ true → are_pixels bytes ≡ true → is_video_period bytes ≡ true
+unfolding is_in_range is_video_period
+video_in_range bytes h k =
+    let all = list_all (λ b. nat_lt b 256) bytes in
+    let whole : Bool = length bytes % 3 == 0 in
+    both all _ (left all whole k) (both whole _ (right all whole k) h)
+
+period_is : (runs : List ControlRun) → list_all is_run runs ≡ true → nat_le 12 (length (values_of runs)) ≡ true → is_control_period runs ≡ true
+unfolding is_control_period
+period_is runs h k = both (list_all is_run runs) (nat_le 12 (length (values_of runs))) h k
+
+-- three tests, and a fourth in place of another
+fourth : (a b c d e : Bool) → (a && (b && (c && d))) ≡ true → e ≡ true → (a && (b && (c && e))) ≡ true
+fourth true true true d e h k = k
+fourth false b c d e h k = absurd cc
+fourth true false c d e h k = absurd cc
+fourth true true false d e h k = absurd cc
+
+the_fourth : (a b c d : Bool) → (a && (b && (c && d))) ≡ true → d ≡ true
+the_fourth true true true d h = h
+the_fourth false b c d h = absurd cc
+the_fourth true false c d h = absurd cc
+the_fourth true true false d h = absurd cc
+
+all_four : (a b c d : Bool) → a ≡ true → b ≡ true → c ≡ true → d ≡ true → (a && (b && (c && d))) ≡ true
+all_four a b c d h i j k = both a _ h (both b _ i (both c d j k))
+
+pub record Follows (periods : List Period) (p : Period) : Type 0 where
+  pub range : is_in_range p ≡ true
+  pub order : is_in_order (last_period periods) p ≡ true
+  pub control : has_control (last_period periods) p ≡ true
+  pub preamble : is_announced (last_period periods) p ≡ true
+  pub whole : has_pixels p ≡ true
+
+pub so_far-more : (periods : List Period) (p : Period) → conforms_so_far periods ≡ true → Follows periods p → conforms_so_far (periods ++ p ∷ []) ≡ true
+unfolding conforms_so_far
+so_far-more [] (control runs) h f = control_in_range runs f.range
+so_far-more [] (video bytes) h f = let no = f.order in absurd cc
+so_far-more (video bytes ∷ ps) p h f = absurd cc
+so_far-more (control runs ∷ []) (control more) h f = let no = f.order in absurd cc
+so_far-more (control runs ∷ []) (video bytes) h f =
+    all_four (is_control_period runs) (has_preamble VIDEO_PREAMBLE (values_of runs)) (is_video_period bytes) true (period_is runs h f.control) f.preamble (video_in_range bytes f.range f.whole) refl
+so_far-more (control runs ∷ (control more ∷ ps)) p h f = absurd cc
+so_far-more (control runs ∷ (video bytes ∷ [])) (video more) h f = let no = f.order in absurd cc
+so_far-more (control runs ∷ (video bytes ∷ [])) (control more) h f =
+    fourth (is_control_period runs) (has_preamble VIDEO_PREAMBLE (values_of runs)) (is_video_period bytes) true (list_all is_run more) h (control_in_range more f.range)
+so_far-more (control runs ∷ (video bytes ∷ (q ∷ ps))) p h f =
+    let a = is_control_period runs in
+    let b = has_preamble VIDEO_PREAMBLE (values_of runs) in
+    let c = is_video_period bytes in
+    fourth a b c (conforms_so_far (q ∷ ps)) (conforms_so_far ((q ∷ ps) ++ p ∷ [])) h
+    (so_far-more (q ∷ ps) p (the_fourth a b c (conforms_so_far (q ∷ ps)) h) record { range = f.range; order = f.order; control = f.control; preamble = f.preamble; whole = f.whole })
+
+pub so_far-ends : (periods : List Period) → conforms_so_far periods ≡ true → is_long_enough (last_period periods) ≡ true → conforms periods ≡ true
+unfolding conforms_so_far conforms
+so_far-ends [] h k = absurd cc
+so_far-ends (video bytes ∷ ps) h k = absurd cc
+so_far-ends (control runs ∷ []) h k = period_is runs h k
+so_far-ends (control runs ∷ (control more ∷ ps)) h k = absurd cc
+so_far-ends (control runs ∷ (video bytes ∷ [])) h k = absurd cc
+so_far-ends (control runs ∷ (video bytes ∷ (q ∷ ps))) h k =
+    let a = is_control_period runs in
+    let b = has_preamble VIDEO_PREAMBLE (values_of runs) in
+    let c = is_video_period bytes in
+    fourth a b c (conforms_so_far (q ∷ ps)) (conforms (q ∷ ps)) h (so_far-ends (q ∷ ps) (the_fourth a b c (conforms_so_far (q ∷ ps)) h) k)
+
+pub columns_of-more : (periods : List Period) (p : Period) → columns_of (periods ++ p ∷ []) ≡ columns_of periods + period_columns p
+unfolding columns_of
+columns_of-more [] p = omega arith
+columns_of-more (q ∷ ps) p = ap (λ n. period_columns q + n) (columns_of-more ps p) ∙ omega arith
+
+pub none_yet : (periods : List Period) → periods ≡ [] → (conforms_so_far periods ≡ true) × (0 ≡ columns_of periods) × (0 ≤ 20000000)
+unfolding conforms_so_far columns_of
+none_yet [] e = (refl, refl, omega arith)
+none_yet (p ∷ ps) e = absurd cc
+
+pub too_long : (sum n m : ℕ) → n ≡ capped m → sum ≤ 20000000 → 20000000 - sum < n → nat_le (sum + m) 20000000 ≡ false
+too_long sum n m e few more = grind arith
+
+pub not_long : (sum n m : ℕ) → n ≡ capped m → sum ≤ 20000000 → n ≤ 20000000 - sum → nat_le (sum + m) 20000000 ≡ true
+not_long sum n m e few fits = grind arith
+
+pub same_sum : (sum n m : ℕ) → n ≡ capped m → n ≤ 20000000 - sum → sum + n ≡ sum + m
+same_sum sum n m e fits = omega arith

@@ -1,0 +1,15 @@
+use Rattle.std.proofs.Common.{ap, sym, ◌∙◌}
+use Rattle.source_end.specs.Periods.{period_columns}
+use Rattle.source_end.specs.ItemPeriods.{period_of}
+use Rattle.source_end.specs.Kept.{capped}
+use Rattle.source_end.proofs.Follows.{clamped, video_columns, control_columns}
+use Rattle.source_end.proofs.follow.columns_of.Goals as goal
+
+pub returns-in-Control : goal.returns-in-Control
+returns-in-Control c =
+    c.columns.ensures ∙ ap capped (control_columns c.in-Control.runs) ∙ ap (λ x. capped (period_columns (period_of x))) (sym c.in-Control.is)
+
+pub returns-in-Video : goal.returns-in-Video
+returns-in-Video c =
+    let n = c.unwrap_or.ensures ∙ clamped c.try_from.result c.len.result c.try_from.ensures in
+    c.saturating_add.ensures ∙ video_columns c.in-Video.pixels c.len.result c.unwrap_or.result c.len.ensures.count n ∙ ap (λ x. capped (period_columns (period_of x))) (sym c.in-Video.is)

@@ -1,0 +1,17 @@
+use Rattle.std.proofs.Common.{ap, ap₂, sym, ◌∙◌}
+use Rattle.std.specs.Option.{option_copied}
+use Rattle.source_end.specs.ItemPeriods.{period_of}
+use Rattle.source_end.specs.declared.item.Item.TheVariants.{Control, Video}
+use Rattle.source_end.specs.Refusals.{is_announced}
+use Rattle.source_end.proofs.Follows.{last_is}
+use Rattle.source_end.proofs.follow.is_announced.Goals as goal
+
+pub returns-in-Some-Control : goal.returns-in-Some-Control
+returns-in-Some-Control c =
+    let last = last_is c.args.items.now c.in-Some-Control.field-0.now (Control c.in-Some-Control.runs) (sym (ap option_copied c.in-Some-Control.is) ∙ c.last.ensures.value) c.in-Some-Control.field-0-is in
+    c.announces_video.ensures ∙ sym (ap₂ is_announced last (ap period_of c.in-Video.is))
+
+pub returns-in-Some-Video : goal.returns-in-Some-Video
+returns-in-Some-Video c =
+    let last = last_is c.args.items.now c.in-Some-Video.field-0.now (Video c.in-Some-Video.field-0-0) (sym (ap option_copied c.in-Some-Video.is) ∙ c.last.ensures.value) c.in-Some-Video.field-0-is in
+    sym (ap₂ is_announced last (ap period_of c.in-Video.is))

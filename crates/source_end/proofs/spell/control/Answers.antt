@@ -1,0 +1,40 @@
+use Rattle.std.proofs.Common.{◌≡◌, ◌+◌, ◌++◌, length, map, replicate, take, get_or, ap, ap₂, sym, ◌∙◌, arith, length-append}
+use Rattle.std.proofs.lemmas.List.{length-map}
+use Rattle.tmds_word.specs.Column.{Column, column_of}
+use Rattle.source_end.specs.Periods.{ControlRun, values_of}
+use Rattle.source_end.specs.Spelling.{control_column}
+use Rattle.source_end.proofs.Spellings.{map-values_of-more, room, none_spelled, joined}
+use Rattle.source_end.proofs.spell.control.Goals as goal
+
+pub loop-run-init : goal.loop-run-init
+loop-run-init g c = record {
+  taken = none_spelled control_column (g.C.ColumnSink.taken c.args.out.now);
+  later = omega arith;
+}
+
+pub repeat-requires : goal.repeat-requires
+repeat-requires g c =
+    let runs = c.args.runs.now in
+    let i = c.loop-run.run-index in
+    let r = c.run-item.result in
+    let done = values_of (take i runs) in
+    let count : c.run.inside.count ≡ (get_or runs i r).count = ap (λ (x : ControlRun). x.count) c.run.view_is ∙ ap (λ (x : ControlRun). x.count) c.run-item.is in
+    let long = ap length c.loop-run.invariant.taken ∙ length-append (g.C.ColumnSink.taken c.args.out.now) (map control_column done) ∙ ap (λ n. length (g.C.ColumnSink.taken c.args.out.now) + n) (length-map done control_column) in
+    omega (arith, long, count, room runs i r c.loop-run-test.true, c.requires.room)
+
+pub loop-run-preserved : goal.loop-run-preserved
+loop-run-preserved g c =
+    let runs = c.args.runs.now in
+    let i = c.loop-run.run-index in
+    let r = c.run-item.result in
+    let x = get_or runs i r in
+    let old = g.C.ColumnSink.taken c.args.out.now in
+    let mid = g.C.ColumnSink.taken c.loop-run.out in
+    let count : c.run.inside.count ≡ x.count = ap (λ (y : ControlRun). y.count) c.run.view_is ∙ ap (λ (y : ControlRun). y.count) c.run-item.is in
+    let value : c.run.inside.value ≡ x.value = ap (λ (y : ControlRun). y.value) c.run.view_is ∙ ap (λ (y : ControlRun). y.value) c.run-item.is in
+    let own : replicate c.run.inside.count (column_of c.control_words.result) ≡ replicate x.count (control_column x.value) = ap₂ (λ n (column : Column). replicate n column) count (c.control_words.ensures ∙ ap control_column value) in
+    record {
+      taken =
+          joined old mid (g.C.ColumnSink.taken c.repeat.new.out) (map control_column (values_of (take i runs))) (replicate x.count (control_column x.value)) c.loop-run.invariant.taken (c.in_ok-repeat.ensures.ok ∙ ap (λ columns. mid ++ columns) own) ∙ ap (λ columns. old ++ columns) (sym (map-values_of-more control_column runs i r c.loop-run-test.true));
+      later = omega (arith, c.loop-run.invariant.later, c.in_ok-repeat.ensures.cause.later);
+    }

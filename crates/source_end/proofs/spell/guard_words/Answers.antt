@@ -1,0 +1,6 @@
+use Rattle.terc4.specs.Tables.{video_guard}
+use Rattle.source_end.proofs.spell.guard_words.Goals as goal
+
+pub returns : goal.returns
+unfolding video_guard
+returns c = λ i. record { blue = c.word.ensures i; green = c.word-2.ensures i; red = c.word-3.ensures i }

@@ -1,0 +1,17 @@
+use Rattle.std.proofs.Common.{◌≡◌, ◌≤◌, ◌/◌, ◌++◌, List, length, map, take}
+use Rattle.tmds_word.specs.Column.{Column}
+use Rattle.tmds_code.specs.Pasts.{IsCoderAfter}
+use Rattle.source_end.specs.Periods.{Pixel, pixels_of}
+use Rattle.source_end.proofs.spell.pixels.Given as goal
+
+abbrev pub invariant-loop-i : goal.invariant-loop-i
+invariant-loop-i g l = record {
+  in_range : l.i ≤ length l.bytes / 3;
+  columns : List Column;
+  taken : g.C.ColumnSink.taken l.out ≡ g.C.ColumnSink.taken l.initial.out ++ columns;
+  blue_lane : IsCoderAfter l.blue (map (λ (p : Pixel). p.blue) (take l.i (pixels_of l.bytes))) (map (λ (c : Column). c.blue) columns);
+  green_lane : IsCoderAfter l.green (map (λ (p : Pixel). p.green) (take l.i (pixels_of l.bytes))) (map (λ (c : Column). c.green) columns);
+  red_lane : IsCoderAfter l.red (map (λ (p : Pixel). p.red) (take l.i (pixels_of l.bytes))) (map (λ (c : Column). c.red) columns);
+  as_many : length columns ≡ l.i;
+  later : g.C.ColumnSink.refusals l.initial.out ≤ g.C.ColumnSink.refusals l.out;
+}

@@ -1,0 +1,75 @@
+-- Why an item is refused after the periods before it, and why a list of periods cannot end: the first cause decides.
+use Rattle.std.specs.Prelude.{◌≡◌, ◌+◌, ◌/◌, Bool, true, false, ◌&&◌, List, [], ◌∷◌, length, nat_le, nat_lt, Option, Some, None, Result, Ok, Err}
+use Rattle.std.specs.List.{list_all}
+use Rattle.source_end.specs.Periods.{Period, control, video, values_of, has_preamble, VIDEO_PREAMBLE, period_columns, columns_of}
+use Rattle.source_end.specs.declared.items.ItemFault.{ItemFault}
+use Rattle.source_end.specs.declared.items.ItemFault.TheVariants.{Range, Order, Control, Preamble, Long, NoMemory}
+
+abbrev pub last_period : List Period → Option Period
+last_period [] = None
+last_period (p ∷ []) = Some p
+last_period (p ∷ (q ∷ ps)) = last_period (q ∷ ps)
+
+-- values below 64 in one to 20,000,000 columns, one to 4,096 pixels
+unfoldable pub is_in_range : Period → Bool
+is_in_range (control runs) = list_all (λ r. nat_lt r.value 64 && (nat_le 1 r.count && nat_le r.count 20000000)) runs
+is_in_range (video bytes) = nat_le 1 (length bytes / 3) && nat_le (length bytes / 3) 4096
+
+-- control and other periods take turns, a control period first
+abbrev pub is_in_order : Option Period → Period → Bool
+is_in_order None (control runs) = true
+is_in_order None (video bytes) = false
+is_in_order (Some (control before)) (control runs) = false
+is_in_order (Some (control before)) (video bytes) = true
+is_in_order (Some (video before)) (control runs) = true
+is_in_order (Some (video before)) (video bytes) = false
+
+-- a control period of at least twelve columns stands before another period
+abbrev pub is_long_enough : Option Period → Bool
+is_long_enough (Some (control runs)) = nat_le 12 (length (values_of runs))
+is_long_enough _ = false
+
+abbrev pub has_control : Option Period → Period → Bool
+has_control before (control runs) = true
+has_control before (video bytes) = is_long_enough before
+
+-- the control period before a video data period ends with its preamble
+abbrev pub is_announced : Option Period → Period → Bool
+is_announced before (control runs) = true
+is_announced (Some (control runs)) (video bytes) = has_preamble VIDEO_PREAMBLE (values_of runs)
+is_announced _ (video bytes) = false
+
+abbrev pub unless : Bool → ItemFault → Option ItemFault → Option ItemFault
+unless true fault rest = rest
+unless false fault rest = Some fault
+
+unfoldable pub push_fault : List Period → Period → Option ItemFault
+push_fault periods p =
+    unless (is_in_range p) Range
+    (unless (is_in_order (last_period periods) p) Order
+    (unless (has_control (last_period periods) p) Control
+    (unless (is_announced (last_period periods) p) Preamble
+    (unless (nat_le (columns_of periods + period_columns p) 20000000) Long
+    None))))
+
+abbrev pub is_control_last : Option Period → Bool
+is_control_last (Some (control runs)) = true
+is_control_last _ = false
+
+unfoldable pub close_fault : List Period → Option ItemFault
+close_fault periods =
+    unless (is_control_last (last_period periods)) Order
+    (unless (is_long_enough (last_period periods)) Control
+    None)
+
+-- a fault comes exactly where there is one; where there is none, only memory may be wanting
+abbrev pub AnswersFault : {T : Type 0} → Option ItemFault → Result T ItemFault → Type 0
+AnswersFault (Some fault) result = result ≡ Err fault
+AnswersFault None (Ok done) = Unit {0}
+AnswersFault None (Err fault) = fault ≡ NoMemory
+
+-- a fault comes exactly where there is one
+abbrev pub AnswersOnlyFault : {T : Type 0} → Option ItemFault → Result T ItemFault → Type 0
+AnswersOnlyFault (Some fault) result = result ≡ Err fault
+AnswersOnlyFault None (Ok done) = Unit {0}
+AnswersOnlyFault None (Err fault) = ⊥

@@ -1,0 +1,94 @@
+//! What an item is asked before it follows others, each question with a yes or a no.
+ghost use Rattle.std.specs.Prelude.{◌≡◌, map, IsTrue};
+ghost use Rattle.std.specs.List.{list_all};
+ghost use Rattle.source_end.specs.Periods.{period_columns};
+ghost use Rattle.source_end.specs.ItemPeriods.{period_of};
+ghost use Rattle.source_end.specs.Kept.{capped, has_pixels, is_run_in_range};
+ghost use Rattle.source_end.specs.Refusals.{last_period, is_in_range, is_in_order, has_control, is_announced, is_control_last, is_long_enough};
+
+use crate::{Item, Run};
+
+/// Whether values and counts are in their ranges.
+pub(crate) fn is_in_range(item: &Item) -> bool
+    ensures answer { result ≡ is_in_range (period_of item.now) }
+    ensures whole { IsTrue (has_pixels (period_of item.now)) }
+{
+    match item {
+        Item::Control(runs) => are_in_range(runs.as_slice()),
+        Item::Video(pixels) => pixels.len() >= 1 && pixels.len() <= 4096,
+    }
+}
+
+fn are_in_range(runs: &[Run]) -> bool
+    ensures { result ≡ list_all is_run_in_range runs.now }
+{
+    runs.iter().all(|run| run.is_in_range())
+}
+
+/// How many columns it takes, at most the greatest u32.
+pub(crate) fn columns_of(item: &Item) -> u32
+    ensures { result ≡ capped (period_columns (period_of item.now)) }
+{
+    match item {
+        Item::Control(runs) => runs.columns(),
+        Item::Video(pixels) => u32::try_from(pixels.len())
+            .unwrap_or(u32::MAX)
+            .saturating_add(2),
+    }
+}
+
+/// Whether it takes its turn after the items before it.
+pub(crate) fn is_in_order(items: &[Item], item: &Item) -> bool
+    ensures { result ≡ is_in_order (last_period (map period_of items.now)) (period_of item.now) }
+{
+    match item {
+        Item::Control(_) => !is_control_last(items),
+        Item::Video(_) => is_control_last(items),
+    }
+}
+
+/// Whether the last item is a control period.
+pub(crate) fn is_control_last(items: &[Item]) -> bool
+    ensures { result ≡ is_control_last (last_period (map period_of items.now)) }
+{
+    match items.last() {
+        Some(Item::Control(_)) => true,
+        Some(Item::Video(_)) => false,
+        None => false,
+    }
+}
+
+/// Whether it needs no control period before it, or a long enough one is there.
+pub(crate) fn has_control(items: &[Item], item: &Item) -> bool
+    ensures { result ≡ has_control (last_period (map period_of items.now)) (period_of item.now) }
+{
+    match item {
+        Item::Control(_) => true,
+        Item::Video(_) => is_long_enough(items),
+    }
+}
+
+/// Whether the last item is a control period of at least twelve columns.
+pub(crate) fn is_long_enough(items: &[Item]) -> bool
+    ensures { result ≡ is_long_enough (last_period (map period_of items.now)) }
+{
+    match items.last() {
+        Some(Item::Control(runs)) => runs.columns() >= 12,
+        Some(Item::Video(_)) => false,
+        None => false,
+    }
+}
+
+/// Whether it needs no preamble before it, or its own is there.
+pub(crate) fn is_announced(items: &[Item], item: &Item) -> bool
+    ensures { result ≡ is_announced (last_period (map period_of items.now)) (period_of item.now) }
+{
+    match item {
+        Item::Control(_) => true,
+        Item::Video(_) => match items.last() {
+            Some(Item::Control(runs)) => runs.announces_video(),
+            Some(Item::Video(_)) => false,
+            None => false,
+        },
+    }
+}

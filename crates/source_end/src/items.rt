@@ -1,0 +1,125 @@
+//! Lists of items that can be the first ones of a conforming list.
+ghost use Rattle.std.specs.Prelude.{◌≡◌, ℕ, ◌≤◌, ◌+◌, ◌++◌, ◌∷◌, [], List, OnOk, OnErr, IfOk, IsTrue, not, nat_le};
+
+use crate::follow::{
+    columns_of, has_control, is_announced, is_control_last, is_in_order, is_in_range,
+    is_long_enough,
+};
+use crate::{Item, Stream};
+use outside_io::NoMemory;
+use std::alloc::Global;
+use std::marker::Model;
+use thiserror::Error;
+
+/// Why an item is refused, tried in this order.
+#[derive(Clone, Copy, Debug, PartialEq, Eq, Error)]
+pub enum ItemFault {
+    /// A control value of 64 or more, a run of no column or of more than 20,000,000, or a video data
+    /// period of no pixel or of more than 4,096.
+    #[error("a value or a count is out of its range")]
+    Range,
+    /// Two control periods or two other periods are neighbours, or the first or the last is no control
+    /// period.
+    #[error("control and other periods do not take turns")]
+    Order,
+    /// A control period of fewer than twelve columns stands before another period or at the end.
+    #[error("a control period has fewer than twelve columns")]
+    Control,
+    /// The last eight columns before a video data period are not its preamble.
+    #[error("the preamble is missing")]
+    Preamble,
+    /// More than 20,000,000 columns.
+    #[error("there are more than 20,000,000 columns")]
+    Long,
+    /// Want of memory.
+    #[error("out of memory")]
+    NoMemory,
+}
+
+impl From<NoMemory> for ItemFault {
+    fn from(_error: NoMemory) -> ItemFault {
+        ItemFault::NoMemory
+    }
+}
+
+/// Items that can be the first ones of a stream.
+#[derive(Drop)]
+pub struct Items {
+    list: Vec<Item>,
+    /// How many columns they take, at most 20,000,000.
+    columns: u32,
+}
+
+impl Model for Items {
+    ghost use Rattle.std.specs.Prelude.{◌≡◌, ◌≤◌, List, map, IsTrue};
+    ghost use Rattle.source_end.specs.Periods.{Period, columns_of};
+    ghost use Rattle.source_end.specs.Kept.{conforms_so_far};
+    ghost use Rattle.source_end.specs.ItemPeriods.{period_of};
+
+    ghost Value = { List Period };
+
+    ghost view = { λ i. map period_of i.list.items };
+
+    ghost invariant = { λ i. IsTrue (conforms_so_far (map period_of i.list.items)) × (i.columns ≡ columns_of (map period_of i.list.items)) × (i.columns ≤ 20000000) };
+}
+
+impl Items {
+    ghost use Rattle.source_end.specs.ItemPeriods.{period_of};
+    ghost use Rattle.source_end.specs.Refusals.{push_fault, close_fault, AnswersFault, AnswersOnlyFault};
+
+    /// No items yet; keeps the allocator for its growth.
+    pub fn new(alloc: Global) -> Items
+        ensures { result ≡ [] }
+    {
+        Items {
+            list: Vec::new(alloc),
+            columns: 0,
+        }
+    }
+
+    /// Appends an item, or refuses it with the first fault that it has here. After a refusal the items
+    /// are as before, and the item is dropped.
+    pub fn push(&mut self, item: Item) -> Result<(), ItemFault>
+        ensures fault { AnswersFault (push_fault self.old (period_of item)) result }
+        ensures ok { OnOk result (self.new ≡ self.old ++ period_of item ∷ []) }
+        ensures err { OnErr result (self.new ≡ self.old) }
+    {
+        if !is_in_range(&item) {
+            return Err(ItemFault::Range);
+        }
+        if !is_in_order(self.list.as_slice(), &item) {
+            return Err(ItemFault::Order);
+        }
+        if !has_control(self.list.as_slice(), &item) {
+            return Err(ItemFault::Control);
+        }
+        if !is_announced(self.list.as_slice(), &item) {
+            return Err(ItemFault::Preamble);
+        }
+        let columns = columns_of(&item);
+        if columns > 20_000_000 - self.columns {
+            return Err(ItemFault::Long);
+        }
+        match self.list.push(item) {
+            Ok(()) => {
+                self.columns += columns;
+                Ok(())
+            }
+            Err(_) => Err(ItemFault::NoMemory),
+        }
+    }
+
+    /// The stream of these items, or the first fault of their end. The items are dropped on a refusal.
+    pub fn close(self) -> Result<Stream, ItemFault>
+        ensures fault { AnswersOnlyFault (close_fault self) result }
+        ensures ok { IfOk result (λ stream. stream ≡ self) }
+    {
+        if !is_control_last(self.list.as_slice()) {
+            return Err(ItemFault::Order);
+        }
+        if !is_long_enough(self.list.as_slice()) {
+            return Err(ItemFault::Control);
+        }
+        Ok(Stream::new(self.list, self.columns))
+    }
+}

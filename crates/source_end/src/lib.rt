@@ -1,0 +1,16 @@
+//! The sender: items, the lists of them that conform, and the columns that spell them.
+#![tactic(auto)]
+
+mod follow;
+mod item;
+mod items;
+pub mod laws;
+mod spell;
+mod stream;
+
+pub use item::{Item, Pixels, Run, Runs};
+pub use items::{ItemFault, Items};
+pub use stream::Stream;
+
+#[cfg(test)]
+mod tests;

@@ -1,0 +1,122 @@
+//! The columns that spell one item.
+ghost use Rattle.std.specs.Prelude.{◌≡◌, ℕ, ◌≤◌, ◌<◌, ◌+◌, ◌/◌, ◌%◌, ◌++◌, List, length, map, replicate, OnOk, OnErr, IsTrue};
+ghost use Rattle.std.specs.List.{list_all};
+ghost use Rattle.outside_io.specs.Causes.{HasCause};
+ghost use Rattle.tmds_word.specs.Column.{Column, column_of};
+ghost use Rattle.terc4.specs.Tables.{video_guard};
+ghost use Rattle.source_end.specs.Periods.{values_of, pixels_of, period_columns};
+ghost use Rattle.source_end.specs.Conforming.{is_run};
+ghost use Rattle.source_end.specs.Spelling.{SpellsPeriod, SpellsVideo, SpellsPixels, control_column};
+ghost use Rattle.source_end.specs.ItemPeriods.{period_of};
+ghost use Rattle.source_end.specs.Kept.{is_sendable};
+
+use crate::{Item, Run};
+use outside_io::NoMemory;
+use tmds_code::VideoCoder;
+use tmds_word::{ColumnSink, Word};
+
+/// Gives the columns of an item.
+pub(crate) fn item<C: ColumnSink>(item: &Item, out: &mut C) -> Result<(), NoMemory>
+    requires sendable { IsTrue (is_sendable (period_of item.now)) }
+    requires room { length (C.taken out.old) + period_columns (period_of item.now) < 429496729 }
+    ensures ok { OnOk result ((columns : List Column) × (C.taken out.new ≡ C.taken out.old ++ columns) × SpellsPeriod (period_of item.now) columns) }
+    ensures part { OnErr result ((columns : List Column) × (C.taken out.new ≡ C.taken out.old ++ columns)) }
+    ensures cause { HasCause (C.refusals out.old) (C.refusals out.new) result }
+{
+    match item {
+        Item::Control(runs) => control(runs.as_slice(), out),
+        Item::Video(pixels) => video(pixels.as_slice(), out),
+    }
+}
+
+/// Gives the columns of a control period.
+fn control<C: ColumnSink>(runs: &[Run], out: &mut C) -> Result<(), NoMemory>
+    requires runs { IsTrue (list_all is_run runs.now) }
+    requires room { length (C.taken out.old) + length (values_of runs.now) < 429496729 }
+    ensures ok { OnOk result (C.taken out.new ≡ C.taken out.old ++ map control_column (values_of runs.now)) }
+    ensures part { OnErr result ((columns : List Column) × (C.taken out.new ≡ C.taken out.old ++ columns)) }
+    ensures cause { HasCause (C.refusals out.old) (C.refusals out.new) result }
+{
+    for run in runs {
+        repeat(control_words(run.value), run.count, out)?;
+    }
+    Ok(())
+}
+
+/// The words of a control column: HSYNC and VSYNC on lane 0, CTL0 and CTL1 on lane 1, CTL2 and CTL3 on
+/// lane 2.
+fn control_words(value: u8) -> [Word; 3]
+    requires { value < 64 }
+    ensures { column_of result ≡ control_column value }
+{
+    [
+        terc4::control(value % 4),
+        terc4::control(value / 4 % 4),
+        terc4::control(value / 16 % 4),
+    ]
+}
+
+/// Gives a column as often as is asked for.
+fn repeat<C: ColumnSink>(words: [Word; 3], count: u32, out: &mut C) -> Result<(), NoMemory>
+    requires { length (C.taken out.old) + count < 429496729 }
+    ensures ok { OnOk result (C.taken out.new ≡ C.taken out.old ++ replicate count (column_of words)) }
+    ensures part { OnErr result ((columns : List Column) × (C.taken out.new ≡ C.taken out.old ++ columns)) }
+    ensures cause { HasCause (C.refusals out.old) (C.refusals out.new) result }
+{
+    for _ in 0..count {
+        out.column(words)?;
+    }
+    Ok(())
+}
+
+/// Gives the columns of a video data period.
+fn video<C: ColumnSink>(bytes: &[u8], out: &mut C) -> Result<(), NoMemory>
+    requires whole { length bytes.now % 3 ≡ 0 }
+    requires room { length (C.taken out.old) + 2 + length bytes.now / 3 < 429496729 }
+    ensures ok { OnOk result ((columns : List Column) × (C.taken out.new ≡ C.taken out.old ++ columns) × SpellsVideo bytes.now columns) }
+    ensures part { OnErr result ((columns : List Column) × (C.taken out.new ≡ C.taken out.old ++ columns)) }
+    ensures cause { HasCause (C.refusals out.old) (C.refusals out.new) result }
+{
+    repeat(guard_words(), 2, out)?;
+    pixels(bytes, out)
+}
+
+/// Gives the columns of pixels, from a video period's first one on.
+fn pixels<C: ColumnSink>(bytes: &[u8], out: &mut C) -> Result<(), NoMemory>
+    requires whole { length bytes.now % 3 ≡ 0 }
+    requires room { length (C.taken out.old) + length bytes.now / 3 < 429496729 }
+    ensures ok { OnOk result ((columns : List Column) × (C.taken out.new ≡ C.taken out.old ++ columns) × SpellsPixels (pixels_of bytes.now) columns) }
+    ensures part { OnErr result ((columns : List Column) × (C.taken out.new ≡ C.taken out.old ++ columns)) }
+    ensures cause { HasCause (C.refusals out.old) (C.refusals out.new) result }
+{
+    let mut blue = VideoCoder::new();
+    let mut green = VideoCoder::new();
+    let mut red = VideoCoder::new();
+    for i in 0..bytes.len() / 3 {
+        let words = [
+            blue.next(bytes[3 * i + 2]),
+            green.next(bytes[3 * i + 1]),
+            red.next(bytes[3 * i]),
+        ];
+        out.column(words)?;
+    }
+    Ok(())
+}
+
+/// The guard words of a video period on lanes 0, 1 and 2.
+fn guard_words() -> [Word; 3]
+    ensures { column_of result ≡ column_of video_guard }
+{
+    [word(0x2cc), word(0x133), word(0x2cc)]
+}
+
+/// The character of a number below 1,024.
+fn word(value: u16) -> Word
+    requires { value < 1024 }
+    ensures { result ≡ value }
+{
+    match Word::new(value) {
+        Some(word) => word,
+        None => unreachable!(),
+    }
+}

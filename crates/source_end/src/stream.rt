@@ -1,0 +1,67 @@
+//! Conforming lists of items.
+ghost use Rattle.std.specs.Prelude.{◌≡◌, ℕ, ◌≤◌, ◌<◌, ◌+◌, ◌++◌, List, length, map, OnOk, OnErr};
+ghost use Rattle.outside_io.specs.Causes.{HasCause};
+ghost use Rattle.tmds_word.specs.Column.{Column};
+ghost use Rattle.source_end.specs.Periods.{columns_of};
+ghost use Rattle.source_end.specs.Conforming.{IsConforming};
+ghost use Rattle.source_end.specs.Spelling.{Spells};
+
+use crate::{Item, spell};
+use outside_io::NoMemory;
+use std::marker::Model;
+use tmds_word::ColumnSink;
+
+/// A conforming list of items of at most 20,000,000 columns.
+#[derive(Drop)]
+pub struct Stream {
+    list: Vec<Item>,
+    columns: u32,
+}
+
+impl Model for Stream {
+    ghost use Rattle.std.specs.Prelude.{◌≡◌, ◌≤◌, List, map};
+    ghost use Rattle.source_end.specs.Periods.{Period, columns_of};
+    ghost use Rattle.source_end.specs.Conforming.{IsConforming};
+    ghost use Rattle.source_end.specs.ItemPeriods.{period_of};
+
+    ghost Value = { List Period };
+
+    ghost view = { λ s. map period_of s.list.items };
+
+    ghost invariant = { λ s. IsConforming (map period_of s.list.items) × (s.columns ≡ columns_of (map period_of s.list.items)) × (s.columns ≤ 20000000) };
+}
+
+impl Stream {
+    ghost use Rattle.source_end.specs.ItemPeriods.{period_of};
+
+    pub(crate) fn new(list: Vec<Item>, columns: u32) -> Stream
+        requires conforming { IsConforming (map period_of list.items) }
+        requires columns { columns ≡ columns_of (map period_of list.items) }
+        requires few { columns ≤ 20000000 }
+        ensures { result ≡ map period_of list.items }
+    {
+        Stream { list, columns }
+    }
+
+    /// How many columns its items take.
+    pub fn columns(&self) -> u32
+        ensures value { result ≡ columns_of self.now }
+        ensures few { result ≤ 20000000 }
+        ensures conforming { IsConforming self.now }
+    {
+        self.columns
+    }
+
+    /// Gives the columns of its items to `out`. It is refused only where `out` refused a column.
+    pub fn spell<C: ColumnSink>(&self, out: &mut C) -> Result<(), NoMemory>
+        requires { length (C.taken out.old) < 400000000 }
+        ensures ok { OnOk result ((columns : List Column) × (C.taken out.new ≡ C.taken out.old ++ columns) × Spells self.now columns) }
+        ensures part { OnErr result ((columns : List Column) × (C.taken out.new ≡ C.taken out.old ++ columns)) }
+        ensures cause { HasCause (C.refusals out.old) (C.refusals out.new) result }
+    {
+        for item in &self.list {
+            spell::item(item, out)?;
+        }
+        Ok(())
+    }
+}
