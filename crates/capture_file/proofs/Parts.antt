@@ -1,0 +1,206 @@
+-- Bytes that are written part after part, and the bits that a tap takes of rows.
+use Rattle.std.proofs.Common.{◌≡◌, ℕ, suc, zero, ◌+◌, ◌-◌, ◌*◌, ◌/◌, ◌%◌, ◌^◌, ◌<◌, ◌≤◌, Bool, List, [], ◌++◌, length, take, drop, map, min, slice_index, refl, ap, ap₂, ◌∙◌, sym, arith, subst, append_assoc, length-append, length-drop, length-take, length-take-le, append-nil, add-one, inl, inr}
+use Rattle.std.specs.Prelude.{Option, Some, None}
+use Rattle.std.proofs.Math.Seq.{take-append-add}
+use Rattle.std.proofs.lemmas.Bool.{cases_lt}
+use Rattle.std.proofs.lemmas.List.{take-append-le}
+use Rattle.std.proofs.KnownBytes.{Appends-trans}
+use Rattle.std.specs.Io.KnownBytes.{Appends}
+use Rattle.tmds_word.specs.Bits.{row_bits}
+use Rattle.tmds_word.specs.Column.{Column}
+use Rattle.capture_file.specs.declared.writing.Tap.{Tap}
+use Rattle.capture_file.specs.Lanes.{Collected, words_of, columns_of}
+use Rattle.capture_file.specs.Layout.{packed, chunk, block, blocks_below, header, high_first, capture_of}
+use Rattle.capture_file.specs.Taps.{limited, tap_length, tap_of, lane_part, greatest, HasBits}
+use Rattle.capture_file.proofs.Columns.{seen, lanes_of_columns, count_of_columns, row_bits-words_of, length-words_of}
+use Rattle.capture_file.proofs.Packing.{length-part, length-packed}
+
+-- two parts one after the other
+pub Appends-two : (a b c : Option (List ℕ)) (x y whole : List ℕ) → whole ≡ x ++ y → Appends a b x → Appends b c y → Appends a c whole
+Appends-two a b c x y whole is first second = subst (λ xs. Appends a c xs) (sym is) (Appends-trans a b c x y first second)
+
+-- some of the first part
+pub Appends-first : (a b : Option (List ℕ)) (x rest whole : List ℕ) (n : ℕ) → whole ≡ x ++ rest → n < length x → Appends a b (take n x) → Appends a b (take n whole)
+Appends-first a b x rest whole n is some h =
+    subst (λ xs. Appends a b xs) (sym (ap (λ xs. take n xs) is ∙ take-append-le n x rest (omega arith))) h
+
+-- the first part, and some of the second
+pub Appends-part : (a b c : Option (List ℕ)) (x y rest whole : List ℕ) (size n : ℕ) → whole ≡ (x ++ y) ++ rest → length x ≡ size → n < length y
+    → Appends a b x → Appends b c (take n y) → Appends a c (take (size + n) whole)
+Appends-part a b c x y rest whole size n is len some first second =
+    let cut : take (size + n) whole ≡ x ++ take n y =
+    ap₂ (λ m xs. take (m + n) xs) (sym len) (is ∙ append_assoc x y rest)
+    ∙ take-append-add x (y ++ rest) n
+    ∙ ap (λ xs. x ++ xs) (take-append-le n y rest (omega arith)) in
+    subst (λ xs. Appends a c xs) (sym cut) (Appends-trans a b c x (take n y) first second)
+
+-- the bits that a tap takes of three rows, and that the rows have them
+pub record LaneParts (blue green red : List Bool) (bits : ℕ) (columns : List Column) (tap : Tap) : Type 0 where
+  pub blue_is : (tap_of columns tap).blue ≡ take bits (drop (tap.offset + slice_index tap.skews 0) blue)
+  pub green_is : (tap_of columns tap).green ≡ take bits (drop (tap.offset + slice_index tap.skews 1) green)
+  pub red_is : (tap_of columns tap).red ≡ take bits (drop (tap.offset + slice_index tap.skews 2) red)
+  pub blue_in : 0 < bits → tap.offset + slice_index tap.skews 0 + bits ≤ length blue
+  pub green_in : 0 < bits → tap.offset + slice_index tap.skews 1 + bits ≤ length green
+  pub red_in : 0 < bits → tap.offset + slice_index tap.skews 2 + bits ≤ length red
+
+limited_le : (most : Option ℕ) (n : ℕ) → limited most n ≤ n
+limited_le None n = omega arith
+limited_le (Some most) n = omega arith
+
+lane_is : (row : List Bool) (words : List ℕ) (from count bits : ℕ) → words ≡ words_of row → length row % 10 ≡ 0 → bits ≡ count → lane_part from count words ≡ take bits (drop from row)
+lane_is row words from count bits is whole same =
+    ap (λ ws. take count (drop from (row_bits ws))) is
+    ∙ ap (λ xs. take count (drop from xs)) (row_bits-words_of row whole)
+    ∙ ap (λ k. take k (drop from row)) (sym same)
+
+lane_in : (n offset most skew bits len : ℕ) → bits ≤ 10 * n - offset - most → skew ≤ most → n ≡ len / 10 → 0 < bits → offset + skew + bits ≤ len
+lane_in n offset most skew bits len le small count some = omega arith
+
+pub lane_parts : (blue green red : List Bool) (refusals bits : ℕ) (now : Collected) (tap : Tap) → seen blue green red refusals ≡ now
+    → length blue % 10 ≡ 0 → length green ≡ length blue → length red ≡ length blue → bits ≡ tap_length tap (length now.columns) → LaneParts blue green red bits now.columns tap
+lane_parts blue green red refusals bits now tap is whole same_green same_red count =
+    let columns = columns_of (words_of blue) (words_of green) (words_of red) in
+    let from_seen : columns ≡ now.columns = ap (λ s. s.columns) is in
+    let counts : (row : List Bool) → length row ≡ length blue → length (words_of row) ≡ length (words_of blue) =
+    λ row same. length-words_of row ∙ ap (λ n. n / 10) same ∙ sym (length-words_of blue) in
+    let lanes = lanes_of_columns (words_of blue) (words_of green) (words_of red) (counts green same_green) (counts red same_red) in
+    let number_of : length now.columns ≡ length blue / 10 = sym (ap length from_seen) ∙ count_of_columns blue green red same_green same_red in
+    let le : bits ≤ 10 * length now.columns - tap.offset - greatest tap.skews = omega (arith, count, limited_le tap.bits (10 * length now.columns - tap.offset - greatest tap.skews)) in
+    record {
+      blue_is = lane_is blue (map (λ c. c.blue) now.columns) (tap.offset + slice_index tap.skews 0) (tap_length tap (length now.columns)) bits (ap (λ cs. map (λ c. c.blue) cs) (sym from_seen) ∙ lanes.blue) whole count;
+      green_is = lane_is green (map (λ c. c.green) now.columns) (tap.offset + slice_index tap.skews 1) (tap_length tap (length now.columns)) bits (ap (λ cs. map (λ c. c.green) cs) (sym from_seen) ∙ lanes.green) (ap (λ n. n % 10) same_green ∙ whole) count;
+      red_is = lane_is red (map (λ c. c.red) now.columns) (tap.offset + slice_index tap.skews 2) (tap_length tap (length now.columns)) bits (ap (λ cs. map (λ c. c.red) cs) (sym from_seen) ∙ lanes.red) (ap (λ n. n % 10) same_red ∙ whole) count;
+      blue_in = λ some. lane_in (length now.columns) tap.offset (greatest tap.skews) (slice_index tap.skews 0) bits (length blue) le (omega arith) number_of some;
+      green_in = λ some. lane_in (length now.columns) tap.offset (greatest tap.skews) (slice_index tap.skews 1) bits (length green) le (omega arith) (number_of ∙ ap (λ n. n / 10) (sym same_green)) some;
+      red_in = λ some. lane_in (length now.columns) tap.offset (greatest tap.skews) (slice_index tap.skews 2) bits (length red) le (omega arith) (number_of ∙ ap (λ n. n / 10) (sym same_red)) some;
+    }
+
+-- chunks, blocks and the capture
+
+length-chunk : (j bits : ℕ) (lane : List ℕ) → length lane ≡ (bits + 7) / 8 → 32768 * j < bits → length (chunk j lane) ≡ (min (bits - 32768 * j) 32768 + 7) / 8
+unfolding chunk
+length-chunk j bits lane len some = omega (arith, length-take 4096 (drop (4096 * j) lane), length-drop (4096 * j) lane)
+
+-- a part of a row has the length asked for
+pub length-lane : (row : List Bool) (from bits : ℕ) → HasBits row from bits → length (take bits (drop from row)) ≡ bits
+length-lane row from zero has = refl
+length-lane row from (suc bits) has = length-part row from (suc bits) (has (omega arith)).0
+
+pub length-lane_bytes : (row : List Bool) (from bits : ℕ) → HasBits row from bits → length (packed (take bits (drop from row))) ≡ (bits + 7) / 8
+length-lane_bytes row from bits has = length-packed (take bits (drop from row)) ∙ ap (λ n. (n + 7) / 8) (length-lane row from bits has)
+
+pub chunk_of_lane : (j bits from : ℕ) (row : List Bool) → HasBits row from bits → 32768 * j < bits → length (chunk j (packed (take bits (drop from row)))) ≡ (min (bits - 32768 * j) 32768 + 7) / 8
+chunk_of_lane j bits from row has some = length-chunk j bits (packed (take bits (drop from row))) (length-lane_bytes row from bits has) some
+
+-- a block is its three chunks
+pub block_is : (j : ℕ) (a b c : List ℕ) → block j a b c ≡ (chunk j a ++ chunk j b) ++ chunk j c
+unfolding block
+block_is j a b c = refl
+
+-- a header, and the blocks as far as one, one block more
+pub blocks-more : (front a b c : List ℕ) (j : ℕ) → front ++ blocks_below (j + 1) a b c ≡ (front ++ blocks_below j a b c) ++ block j a b c
+unfolding blocks_below
+blocks-more front a b c j = ap (λ k. front ++ blocks_below k a b c) (add-one j) ∙ sym (append_assoc front (blocks_below j a b c) (block j a b c))
+
+-- what follows a block
+blocks_after : (j k : ℕ) (a b c : List ℕ) → j < k → (rest : List ℕ) × (blocks_below k a b c ≡ (blocks_below j a b c ++ block j a b c) ++ rest)
+unfolding blocks_below
+blocks_after j zero a b c lt = absurd (omega arith)
+blocks_after j (suc k) a b c lt =
+    elim (cases_lt j k) [
+      | inl less ↦
+          let more = blocks_after j k a b c less in
+          (more.0 ++ block k a b c, ap (λ xs. xs ++ block k a b c) more.1 ∙ append_assoc (blocks_below j a b c ++ block j a b c) more.0 (block k a b c))
+      | inr last ↦
+          let same : k ≡ j = omega arith in
+          ([], ap (λ i. blocks_below i a b c ++ block i a b c) same ∙ sym (append-nil (blocks_below j a b c ++ block j a b c)))
+    ]
+
+-- full blocks have 12288 bytes each
+length-blocks : (k : ℕ) (a b c : List ℕ) (bytes : ℕ) → length a ≡ bytes → length b ≡ bytes → length c ≡ bytes → 4096 * k ≤ bytes → length (blocks_below k a b c) ≡ 12288 * k
+unfolding blocks_below block chunk
+length-blocks zero a b c bytes e f g room = refl
+length-blocks (suc k) a b c bytes e f g room =
+    let one : (lane : List ℕ) → length lane ≡ bytes → length (chunk k lane) ≡ 4096 =
+    λ lane is. length-take-le 4096 (drop (4096 * k) lane) (omega (arith, is, length-drop (4096 * k) lane)) in
+    omega (
+      arith,
+      length-blocks k a b c bytes e f g (omega arith),
+      length-append (blocks_below k a b c) ((chunk k a ++ chunk k b) ++ chunk k c),
+      length-append (chunk k a ++ chunk k b) (chunk k c),
+      length-append (chunk k a) (chunk k b),
+      one a e,
+      one b f,
+      one c g,
+    )
+
+length-header : (count : ℕ) → length (header count) ≡ 8
+unfolding header high_first
+length-header count = refl
+
+-- what is known of the capture of three lanes of so many bits
+pub record CaptureParts (bits : ℕ) (a b c whole : List ℕ) : Type 0 where
+  pub is : whole ≡ header bits ++ blocks_below (((bits + 7) / 8 + 4095) / 4096) a b c
+  pub head : length (header bits) ≡ 8
+  pub front : (j : ℕ) → 32768 * j < bits → length (header bits ++ blocks_below j a b c) ≡ 8 + 12288 * j
+  pub after : (j : ℕ) → 32768 * j < bits → (rest : List ℕ) × (whole ≡ ((header bits ++ blocks_below j a b c) ++ block j a b c) ++ rest)
+
+pub capture_parts : (x y z : List Bool) (bits : ℕ) → length x ≡ bits → length y ≡ bits → length z ≡ bits → CaptureParts bits (packed x) (packed y) (packed z) (capture_of x y z)
+unfolding capture_of
+capture_parts x y z bits ex ey ez =
+    let a = packed x in
+    let b = packed y in
+    let c = packed z in
+    let bytes = (bits + 7) / 8 in
+    let count = (bytes + 4095) / 4096 in
+    let ea : length a ≡ bytes = length-packed x ∙ ap (λ n. (n + 7) / 8) ex in
+    let eb : length b ≡ bytes = length-packed y ∙ ap (λ n. (n + 7) / 8) ey in
+    let ec : length c ≡ bytes = length-packed z ∙ ap (λ n. (n + 7) / 8) ez in
+    let is : capture_of x y z ≡ header bits ++ blocks_below count a b c = ap₂ (λ n m. header n ++ blocks_below ((m + 4095) / 4096) a b c) ex ea in
+    record {
+      is = is;
+      head = length-header bits;
+      front = λ j some.
+          let room : 4096 * j ≤ bytes = omega arith in
+          omega (arith, length-append (header bits) (blocks_below j a b c), length-header bits, length-blocks j a b c bytes ea eb ec room);
+      after = λ j some.
+          let inside : j < count = omega arith in
+          let more = blocks_after j count a b c inside in (
+            more.0,
+            is
+                ∙ ap (λ xs. header bits ++ xs) more.1
+                ∙ sym (append_assoc (header bits) (blocks_below j a b c ++ block j a b c) more.0)
+                ∙ ap (λ xs. xs ++ more.0) (sym (append_assoc (header bits) (blocks_below j a b c) (block j a b c))),
+          );
+    }
+
+pub length-block : (j : ℕ) (a b c : List ℕ) → length (block j a b c) ≤ 12288
+unfolding block chunk
+length-block j a b c =
+    omega (
+      arith,
+      length-append (chunk j a ++ chunk j b) (chunk j c),
+      length-append (chunk j a) (chunk j b),
+      length-take 4096 (drop (4096 * j) a),
+      length-take 4096 (drop (4096 * j) b),
+      length-take 4096 (drop (4096 * j) c),
+    )
+
+pub no_blocks : (front a b c : List ℕ) → front ++ blocks_below 0 a b c ≡ front
+unfolding blocks_below
+no_blocks front a b c = append-nil front
+
+-- a place that is kept below 2^32: it is the place itself wherever bits are asked for
+pub lane_start : (row : List Bool) (place start bits : ℕ) → (0 < bits → place + bits ≤ length row) → length row < 2 ^ 32 → start ≡ min place 4294967295 → HasBits row start bits
+lane_start row place start bits inside short is = λ some.
+    let le : place + bits ≤ length row = inside some in
+    let same : start ≡ place = omega arith in
+    (omega arith, omega arith)
+
+pub lane_same : (row : List Bool) (place start bits : ℕ) → (0 < bits → place + bits ≤ length row) → length row < 2 ^ 32 → start ≡ min place 4294967295
+    → take bits (drop place row) ≡ take bits (drop start row)
+lane_same row place start zero inside short is = refl
+lane_same row place start (suc bits) inside short is =
+    let le : place + suc bits ≤ length row = inside (omega arith) in
+    let same : place ≡ start = omega arith in
+    ap (λ n. take (suc bits) (drop n row)) same

@@ -1,0 +1,131 @@
+//! Three lanes that take columns and keep their bits.
+ghost use Rattle.std.specs.Prelude.{◌≡◌, ℕ, ◌+◌, ◌*◌, ◌%◌, ◌^◌, ◌<◌, ◌++◌, ◌∷◌, [], length, slice_index, IfOk, OnOk, OnErr};
+ghost use Rattle.outside_io.specs.Causes.{next, HasCause};
+ghost use Rattle.tmds_word.specs.Bits.{word_bits};
+ghost use Rattle.tmds_word.specs.Column.{column_of};
+
+use outside_io::NoMemory;
+use std::alloc::Global;
+use std::marker::Model;
+use tmds_word::{BitRow, ColumnSink, Word};
+
+/// Three rows of bits, one of each lane, which take columns.
+#[derive(Drop)]
+pub struct Lanes {
+    pub(crate) blue: BitRow,
+    pub(crate) green: BitRow,
+    pub(crate) red: BitRow,
+    refusals: u64,
+}
+
+impl Model for Lanes {
+    ghost use Rattle.std.specs.Prelude.{◌≡◌, ◌%◌, ◌^◌, ◌<◌, length};
+    ghost use Rattle.capture_file.specs.Lanes.{Collected, words_of, columns_of};
+
+    ghost Value = { Collected };
+
+    ghost view = { λ l. record {
+      columns = columns_of (words_of l.blue) (words_of l.green) (words_of l.red);
+      refusals = l.refusals;
+    } };
+
+    ghost invariant = { λ l. record {
+      whole : length l.blue % 10 ≡ 0;
+      short : length l.blue < 2 ^ 32;
+      green : length l.green ≡ length l.blue;
+      red : length l.red ≡ length l.blue;
+      counted : l.refusals < 2 ^ 64;
+    } };
+}
+
+impl Lanes {
+    /// No columns. The allocator is kept for the rows' growth.
+    pub fn new(alloc: Global) -> Lanes
+        ensures { result ≡ record { columns = []; refusals = 0 } }
+    {
+        Lanes {
+            blue: BitRow::new(alloc),
+            green: BitRow::new(alloc),
+            red: BitRow::new(alloc),
+            refusals: 0,
+        }
+    }
+
+    /// No columns, and room for as many as are asked for.
+    pub fn with_capacity(alloc: Global, columns: u32) -> Result<Lanes, NoMemory>
+        ensures { IfOk result (λ lanes. lanes ≡ record { columns = []; refusals = 0 }) }
+    {
+        let bits = columns.saturating_mul(10);
+        Ok(Lanes {
+            blue: BitRow::with_capacity(alloc, bits)?,
+            green: BitRow::with_capacity(alloc, bits)?,
+            red: BitRow::with_capacity(alloc, bits)?,
+            refusals: 0,
+        })
+    }
+}
+
+impl ColumnSink for Lanes {
+    ghost taken = { λ l. l.columns };
+
+    ghost refusals = { λ l. l.refusals };
+
+    fn column(&mut self, words: [Word; 3]) -> Result<(), NoMemory>
+        requires { length self.old.columns < 429496729 }
+        ensures ok { OnOk result (self.new.columns ≡ self.old.columns ++ column_of words ∷ []) }
+        ensures err { OnErr result (self.new.columns ≡ self.old.columns) }
+        ensures cause { HasCause self.old.refusals self.new.refusals result }
+
+        ensures same { OnOk result (self.new.refusals ≡ self.old.refusals) }
+        ensures raised { OnErr result (self.new.refusals ≡ next self.old.refusals) }
+    {
+        know_characters(&words);
+        match push_column(&mut self.blue, &mut self.green, &mut self.red, words) {
+            Ok(()) => Ok(()),
+            Err(refused) => {
+                self.refusals = self.refusals.saturating_add(1);
+                Err(refused)
+            }
+        }
+    }
+}
+
+/// Appends one character to each of three rows of one length. After a refusal the rows are as before.
+fn push_column(
+    blue: &mut BitRow,
+    green: &mut BitRow,
+    red: &mut BitRow,
+    words: [Word; 3],
+) -> Result<(), NoMemory>
+    requires green { length green.old ≡ length blue.old }
+    requires red { length red.old ≡ length blue.old }
+    requires room { length blue.old + 10 < 2 ^ 32 }
+    ensures blue_ok { OnOk result (blue.new ≡ blue.old ++ word_bits (slice_index words 0)) }
+    ensures green_ok { OnOk result (green.new ≡ green.old ++ word_bits (slice_index words 1)) }
+    ensures red_ok { OnOk result (red.new ≡ red.old ++ word_bits (slice_index words 2)) }
+    ensures blue_err { OnErr result (blue.new ≡ blue.old) }
+    ensures green_err { OnErr result (green.new ≡ green.old) }
+    ensures red_err { OnErr result (red.new ≡ red.old) }
+{
+    let bits = blue.len();
+    blue.push_word(words[0])?;
+    if let Err(refused) = green.push_word(words[1]) {
+        blue.truncate(bits);
+        return Err(refused);
+    }
+    if let Err(refused) = red.push_word(words[2]) {
+        blue.truncate(bits);
+        green.truncate(bits);
+        return Err(refused);
+    }
+    Ok(())
+}
+
+/// Says that each of three characters is below 1024, as every character is. It does nothing.
+fn know_characters(words: &[Word; 3])
+    ensures blue { slice_index words.now 0 < 1024 }
+    ensures green { slice_index words.now 1 < 1024 }
+    ensures red { slice_index words.now 2 < 1024 }
+{
+    let _ = (words[0].value(), words[1].value(), words[2].value());
+}
