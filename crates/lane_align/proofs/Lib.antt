@@ -1,0 +1,6 @@
+pub mod Controls
+pub mod History
+pub mod Edges
+pub mod Windows
+pub mod Across
+pub mod Calm

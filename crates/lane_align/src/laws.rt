@@ -1,0 +1,28 @@
+//! Laws on locks and edges. The functions do nothing: what they ensure is the law.
+ghost use Rattle.lane_align.specs.Laws.{OneLock, EdgesApart, RunTurns, NoFalseLock, TapLock};
+
+/// A row has at most one lock.
+pub fn one_lock()
+    ensures { OneLock }
+{}
+
+/// Two edges of one row are at least 130 bits apart.
+pub fn edges_apart()
+    ensures { EdgesApart }
+{}
+
+/// Twelve control words in a row have at least 84 turns.
+pub fn run_turns()
+    ensures { RunTurns }
+{}
+
+/// In the bits of a lane of whose characters at most two in eleven came damaged, twelve control words
+/// in a row begin where a character begins.
+pub fn no_false_lock()
+    ensures { NoFalseLock }
+{}
+
+/// So they do in a part of those bits.
+pub fn tap_lock()
+    ensures { TapLock }
+{}

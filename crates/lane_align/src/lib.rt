@@ -1,0 +1,104 @@
+//! Where the characters of one lane begin, and where its runs of control words end, found in a row of
+//! its bits.
+#![tactic(auto)]
+
+ghost use Rattle.std.specs.Prelude.{ℕ, ◌≡◌, ◌<◌, ◌≤◌, ◌+◌, ◌*◌, ◌%◌, ◌↔◌, ◌^◌, IsTrue, MatchOption, cond, true, length};
+ghost use Rattle.tmds_word.specs.Bits.{bit};
+ghost use Rattle.lane_align.specs.Lanes.{HasControl, IsRun, IsLock, IsEdge, IsNextEdge};
+
+pub mod laws;
+
+use terc4::control_of;
+use tmds_word::BitRow;
+
+#[cfg(test)]
+mod tests;
+
+/// How many control words make a run: a lock and an edge stand on as many (HDMI 1.4, section 5.4.2).
+const RUN: u32 = 12;
+
+/// From the first word of a run to its last, in bits.
+const SPAN: u32 = 10 * (RUN - 1);
+
+/// The lock: the least place with control words as windows at it and at the eleven places ten bits
+/// apart after it. None exactly where the row has no such place. Looks once at each place.
+pub fn find_lock(row: &BitRow) -> Option<u32>
+    ensures { MatchOption result ((p : ℕ) → IsRun row.now p → ⊥) (λ p. IsLock row.now p) }
+{
+    let mut recent = 0;
+    for p in 0..row.len().saturating_sub(9) {
+        recent = heard(recent, has_control(row, p));
+        if p >= SPAN && ends_run(recent) {
+            return Some(p - SPAN);
+        }
+    }
+    None
+}
+
+/// The least edge at or after `from`, in bits from the row's beginning, where `lock` is the row's
+/// lock. None exactly where the row has no such edge.
+pub fn next_edge(row: &BitRow, lock: u32, from: u32) -> Option<u32>
+    requires { IsLock row.now lock }
+    ensures { MatchOption result ((e : ℕ) → from ≤ e → IsEdge row.now e → ⊥) (λ e. IsNextEdge row.now from e) }
+{
+    let len = row.len();
+    let first = first_word(lock, from);
+    let mut run: u32 = 0;
+    for i in 0..len.saturating_sub(first) / 10 {
+        let p = first + 10 * i;
+        if has_control(row, p) {
+            run += 1;
+        } else if run >= RUN {
+            return Some(p);
+        } else {
+            run = 0;
+        }
+    }
+    None
+}
+
+/// Whether the window at a place is a control word.
+fn has_control(row: &BitRow, p: u32) -> bool
+    ensures { IsTrue result ↔ HasControl row.now p }
+{
+    match row.window(p) {
+        Some(word) => control_of(word).is_some(),
+        None => false,
+    }
+}
+
+/// The last 128 answers with one more, the newest lowest.
+fn heard(recent: u128, control: bool) -> u128
+    ensures { result ≡ (2 * recent + cond control 1 0) % 2 ^ 128 }
+{
+    (recent << 1) | u128::from(control)
+}
+
+/// Whether the newest answer and the eleven that lie ten apart before it are all true.
+fn ends_run(recent: u128) -> bool
+    ensures { IsTrue result ↔ ((k : ℕ) → k < 12 → bit recent (10 * k) ≡ true) }
+{
+    for k in 0..RUN {
+        if (recent >> (10 * k)) & 1 == 0 {
+            return false;
+        }
+    }
+    true
+}
+
+/// The place of the first word that can stand in a run before an edge at or after `from`: the least
+/// place from the lock on, a multiple of ten bits past it, that is not more than 120 before `from`.
+fn first_word(lock: u32, from: u32) -> u32
+    requires { lock + 120 < 2 ^ 32 }
+    ensures aligned { result % 10 ≡ lock % 10 }
+    ensures past { lock ≤ result }
+    ensures reach { from ≤ result + 120 }
+    ensures least { lock < result → result + 110 < from }
+{
+    let start = lock + 10 * RUN;
+    if from <= start {
+        lock
+    } else {
+        lock + (from - start).div_ceil(10) * 10
+    }
+}
