@@ -1,0 +1,5 @@
+mod Parts
+mod Registers
+mod Columns
+mod Laid
+mod Law

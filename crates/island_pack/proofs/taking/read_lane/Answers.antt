@@ -1,0 +1,46 @@
+use Rattle.std.proofs.Common.{◌≡◌, ◌≢◌, ◌<◌, ◌+◌, ℕ, List, [], not, length, map, get_or, arith, get_or-set_other, get_or-set_same, below_more, ap, ap₂, sym, ◌∙◌, slice_index}
+use Rattle.std.specs.Prelude.{unwrap_or, is_some, count_by}
+use Rattle.std.proofs.lemmas.List.{length-set, length-map, get_or-map, take_all}
+use Rattle.std.proofs.lemmas.Grind.{same_number_lists}
+use Rattle.terc4.specs.Tables.{terc_words, is_terc}
+use Rattle.terc4.proofs.Members.{is_some-value_in}
+use Rattle.island_pack.specs.Nibbles.{nibble_of, nibbles_of, is_foreign, foreign_on}
+use Rattle.island_pack.proofs.Columns.{count_more, not-not}
+use Rattle.island_pack.proofs.taking.read_lane.Goals as goal
+
+pub loop-i-preserved : goal.loop-i-preserved
+unfolding nibble_of is_foreign is_terc
+loop-i-preserved c =
+    let i = c.loop-i.i in
+    let lane = c.args.lane in
+    let words = get_or c.args.columns.now i [] in
+    let value = c.nibble_on-value.ensures.value in
+    let strange : is_foreign lane words ≡ c.is_none.result =
+    ap not (sym (is_some-value_in terc_words (slice_index words lane)) ∙ ap is_some (sym value) ∙ c.is_none.ensures)
+    ∙ not-not c.is_none.result in
+    record {
+      long = length-set c.loop-i.nibbles i _ ∙ c.loop-i.invariant.long;
+      read =
+          below_more _ _
+          (λ k h. let ne : k ≢ i = omega arith in rw get_or-set_other (c.loop-i.invariant.read k h))
+          (let lt : i < length c.loop-i.nibbles = omega (arith, c.loop-i.invariant.long, c.told-columns) in
+          rw get_or-set_same (c.unwrap_or.ensures ∙ ap (λ o. unwrap_or o 0) value));
+      foreign =
+          ap₂ (λ m n. m + n) c.loop-i.invariant.foreign c.from-foreign.ensures
+          ∙ sym (count_more (is_foreign lane) c.args.columns.now i [] c.is_none.result (omega (arith, c.told-columns)) strange);
+    }
+
+pub returns-clause-nibbles : goal.returns-clause-nibbles
+unfolding nibbles_of
+returns-clause-nibbles c =
+    let columns = c.args.columns.now in
+    let f : List ℕ → ℕ = λ words. nibble_of (slice_index words c.args.lane) in
+    let long = c.loop-i.invariant.long in
+    same_number_lists c.loop-i.nibbles (map f columns) (long ∙ sym (length-map columns f ∙ c.told-columns))
+    (λ k lt. c.loop-i.invariant.read k (omega (arith, long)) ∙ sym (get_or-map f columns k [] 0 (omega (arith, long, c.told-columns))))
+
+pub returns-clause-foreign : goal.returns-clause-foreign
+unfolding foreign_on
+returns-clause-foreign c =
+    c.loop-i.invariant.foreign
+    ∙ ap (count_by (is_foreign c.args.lane)) (take_all c.loop-i.i c.args.columns.now (omega (arith, c.told-columns)))

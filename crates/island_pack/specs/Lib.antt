@@ -1,0 +1,4 @@
+pub mod Nibbles
+pub mod Packets
+pub mod Registers
+pub mod Taken

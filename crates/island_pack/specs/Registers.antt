@@ -1,0 +1,24 @@
+-- Numbers in which the code moves the bits of several nibbles at once. Only the contracts of private functions cite them.
+use Rattle.std.specs.Prelude.{ℕ, ◌+◌, ◌*◌, Bool, not, ◌&&◌, ◌==◌, List, [], ◌∷◌, map, slice_index}
+use Rattle.std.specs.Int.{bit_at}
+use Rattle.terc4.specs.Tables.{terc_words}
+use Rattle.terc4.specs.Columns.{one_if}
+
+-- bit b of a nibble in byte b
+unfoldable pub spread_of : ℕ → ℕ
+spread_of n = bit_at n 0 + 256 * bit_at n 1 + 65536 * bit_at n 2 + 16777216 * bit_at n 3
+
+-- the bits of four numbers at one place, the first number's lowest
+unfoldable pub crossed_of : List ℕ → ℕ → ℕ
+crossed_of blocks place =
+    bit_at (slice_index blocks 0) place + 2 * bit_at (slice_index blocks 1) place
+    + 4 * bit_at (slice_index blocks 2) place + 8 * bit_at (slice_index blocks 3) place
+
+-- the nibbles of column i, from the blocks of the header and of the four bodies
+unfoldable pub laid_nibbles : ℕ → List ℕ → ℕ → Bool → ℕ → List ℕ
+laid_nibbles header bodies sync first i =
+    (sync + 4 * bit_at header i + 8 * one_if (not (first && (i == 0)))) ∷ crossed_of bodies (2 * i) ∷ crossed_of bodies (2 * i + 1) ∷ []
+
+-- the TERC4 words of nibbles
+unfoldable pub words_of : List ℕ → List ℕ
+words_of ns = map (λ n. slice_index terc_words n) ns
