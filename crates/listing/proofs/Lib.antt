@@ -1,0 +1,9 @@
+pub mod Feeds
+pub mod Given
+pub mod LongForm
+pub mod Numbers
+pub mod OpenPeriods
+pub mod Parts
+pub mod Pieces
+pub mod Refused
+pub mod Steps

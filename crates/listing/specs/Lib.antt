@@ -1,0 +1,9 @@
+pub mod Lines
+pub mod Forms
+pub mod Causes
+pub mod Reading
+pub mod Answers
+pub mod Held
+pub mod FormSeen
+pub mod Told
+pub mod Leaves

@@ -1,0 +1,69 @@
+-- What the reader of a listing keeps of the lines that it has taken.
+use Rattle.std.specs.Prelude.{◌≡◌, ℕ, Bool, true, false, List, [], ◌∷◌, ◌++◌, Option, Some, None, Result, Ok, Err}
+use Rattle.source_end.specs.Periods.{ControlRun, Period, control, video}
+use Rattle.source_end.specs.declared.items.ItemFault.{ItemFault}
+use Rattle.source_end.specs.declared.items.ItemFault.TheVariants.{Range as range_fault, Order as order_fault, Control as control_fault, Preamble as preamble_fault, Long as long_fault, NoMemory as no_memory}
+use Rattle.listing.specs.declared.fault.ListCause.{ListCause}
+use Rattle.listing.specs.declared.fault.ListCause.TheVariants.{Range, Order, Control, Preamble, Long}
+use Rattle.listing.specs.declared.fault.ListError.{ListError}
+use Rattle.listing.specs.declared.fault.ListError.TheVariants.{Bad, NoMemory as out_of_memory}
+use Rattle.listing.specs.declared.reader.Refusal.{Refusal}
+use Rattle.listing.specs.declared.reader.Refusal.TheVariants.{Cause, NoMemory}
+use Rattle.listing.specs.Lines.{pieces_of}
+use Rattle.listing.specs.Forms.{LineForm, control_line, video_line, end_line, fault_line, no_line}
+use Rattle.listing.specs.Causes.{with_run}
+use Rattle.listing.specs.Reading.{Reading, read_from}
+use Rattle.listing.specs.Held.{Held}
+
+-- the periods told, how many bytes those lines have, and the number of the next line
+pub record Told : Type 0 where
+  pub periods : List Period
+  pub bytes : ℕ
+  pub line : ℕ
+
+-- periods and the control period that is still being told
+abbrev pub with_open : List Period → List ControlRun → List Period
+with_open periods [] = periods
+with_open periods (r ∷ runs) = periods ++ control (r ∷ runs) ∷ []
+
+-- the periods after a line of this form
+abbrev pub after_form : LineForm → List Period → List Period
+after_form (control_line value count) periods = with_run periods (record { value = value; count = count })
+after_form (video_line bytes) periods = periods ++ video bytes ∷ []
+after_form end_line periods = periods
+after_form fault_line periods = periods
+after_form no_line periods = periods
+
+abbrev pub is_end : LineForm → Bool
+is_end end_line = true
+is_end (control_line value count) = false
+is_end (video_line bytes) = false
+is_end fault_line = false
+is_end no_line = false
+
+-- a cause comes exactly where there is one, but for want of memory
+abbrev pub AnswersCause : {T : Type 0} → Option ListCause → Result T Refusal → Type 0
+AnswersCause (Some cause) (Ok done) = ⊥
+AnswersCause (Some cause) (Err (Cause found)) = found ≡ cause
+AnswersCause (Some cause) (Err NoMemory) = Unit {0}
+AnswersCause None (Ok done) = Unit {0}
+AnswersCause None (Err (Cause found)) = ⊥
+AnswersCause None (Err NoMemory) = Unit {0}
+
+-- what a fault of an item is in a listing
+abbrev pub RefusesAs : ItemFault → Refusal → Type 0
+RefusesAs no_memory refusal = refusal ≡ NoMemory
+RefusesAs range_fault refusal = refusal ≡ Cause Range
+RefusesAs order_fault refusal = refusal ≡ Cause Order
+RefusesAs control_fault refusal = refusal ≡ Cause Control
+RefusesAs preamble_fault refusal = refusal ≡ Cause Preamble
+RefusesAs long_fault refusal = refusal ≡ Cause Long
+
+-- the answer for a line that was refused
+abbrev pub RefusedAs : ℕ → Refusal → ListError → Type 0
+RefusedAs line (Cause cause) error = error ≡ Bad (record { line = line; cause = cause })
+RefusedAs line NoMemory error = error ≡ out_of_memory
+
+-- what the bytes ahead read as
+abbrev pub reading_of : Told → Held → List ℕ → Reading
+reading_of told held left = read_from told.line told.bytes told.periods (pieces_of (held.pending ++ left))

@@ -1,0 +1,119 @@
+//! The form of a line of a listing: what the line says, before any pixel is made.
+ghost use Rattle.std.specs.Prelude.{◌≡◌, ◌≤◌, [], length};
+ghost use Rattle.std.specs.List.{list_all};
+ghost use Rattle.hex.specs.Hex.{is_hex_digit};
+ghost use Rattle.listing.specs.FormSeen.{IsForm, digits_of};
+ghost use Rattle.listing.specs.Forms.{control_form, form_of, is_fault, number_of, video_form};
+
+use crate::lines::LINE_LIMIT;
+
+// The most digits of a number of columns.
+const NUMBER_LIMIT: usize = 10;
+
+/// What is seen in a line without its line feed.
+#[derive(Clone, Copy, Debug, PartialEq, Eq)]
+pub(crate) enum Form<'a> {
+    /// `c HH N`: the value and the number of columns, each perhaps out of its range.
+    Control { value: u8, count: u64 },
+    /// `v X`: the hexadecimal digits of the pixels, six a pixel.
+    Video(&'a [u8]),
+    /// `end`.
+    End,
+    /// `! ..` or `cut ..`, which only a receiver writes.
+    Fault,
+    /// A line of none of these forms.
+    Other,
+}
+
+/// Tells the form of a line, which is given without its line feed.
+#[tactic(auto, unfolding(crate::specs::Forms::form_of))]
+pub(crate) fn read_form(line: &[u8]) -> Form<'_>
+    ensures form { IsForm result (form_of line.now) }
+    ensures short { length (digits_of result) ≤ 32766 }
+{
+    if begins_fault(line) {
+        return Form::Fault;
+    }
+    if line.len() > LINE_LIMIT {
+        return Form::Other;
+    }
+    if line.starts_with(b"c ") {
+        return control(&line[2..]);
+    }
+    if line.starts_with(b"v ") {
+        return video(&line[2..]);
+    }
+    if line.starts_with(b"end") && line.len() == 3 {
+        return Form::End;
+    }
+    Form::Other
+}
+
+// Whether the line is one that only a receiver writes.
+#[tactic(auto, unfolding(crate::specs::Forms::is_fault))]
+fn begins_fault(line: &[u8]) -> bool
+    ensures { result ≡ is_fault line.now }
+{
+    line.starts_with(b"! ") || line.starts_with(b"cut ")
+}
+
+// The form of a line by what follows `c `: two hexadecimal digits, a space, a number.
+#[tactic(auto, unfolding(crate::specs::Forms::control_form))]
+fn control(rest: &[u8]) -> Form<'_>
+    ensures form { IsForm result (control_form rest.now) }
+    ensures none { digits_of result ≡ [] }
+{
+    if rest.len() < 3 || rest[2] != b' ' {
+        return Form::Other;
+    }
+    let mut value = [0];
+    if hex::decode_to_slice(&rest[..2], &mut value).is_err() {
+        return Form::Other;
+    }
+    match number(&rest[3..]) {
+        Some(count) => Form::Control {
+            value: value[0],
+            count,
+        },
+        None => Form::Other,
+    }
+}
+
+// The number of one to ten decimal digits.
+#[tactic(auto, unfolding(crate::specs::Forms::number_of, crate::specs::Forms::digits_after))]
+fn number(digits: &[u8]) -> Option<u64>
+    ensures { result ≡ number_of digits.now }
+{
+    if digits.is_empty() || digits.len() > NUMBER_LIMIT {
+        return None;
+    }
+    let mut value = 0;
+    for digit in digits {
+        if !digit.is_ascii_digit() {
+            return None;
+        }
+        value = 10 * value + u64::from(*digit - b'0');
+    }
+    Some(value)
+}
+
+// Whether each byte is a hexadecimal digit.
+#[tactic(auto, using(crate::proofs::Numbers::hex_digit))]
+fn is_hex(bytes: &[u8]) -> bool
+    ensures { result ≡ list_all is_hex_digit bytes.now }
+{
+    bytes.iter().all(|byte| byte.is_ascii_hexdigit())
+}
+
+// The form of a line by what follows `v `: six hexadecimal digits a pixel.
+#[tactic(auto, using(crate::proofs::Numbers::video_seen, crate::proofs::Numbers::video_other, crate::proofs::Numbers::video_odd))]
+fn video(digits: &[u8]) -> Form<'_>
+    ensures form { IsForm result (video_form digits.now) }
+    ensures short { length (digits_of result) ≤ length digits.now }
+{
+    if digits.len() % 6 == 0 && is_hex(digits) {
+        Form::Video(digits)
+    } else {
+        Form::Other
+    }
+}
