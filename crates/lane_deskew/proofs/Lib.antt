@@ -1,0 +1,7 @@
+pub mod Search
+pub mod Columns
+pub mod First
+pub mod Listed
+pub mod Shapes
+pub mod Ends
+pub mod Example

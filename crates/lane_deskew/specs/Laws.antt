@@ -1,0 +1,15 @@
+-- What holds of the first full alignment and of the aligned columns of all lists of bits.
+use Rattle.std.specs.Prelude.{◌≡◌, ℕ, Bool, List, slice_get}
+use Rattle.lane_deskew.specs.Triples.{IsFirst}
+use Rattle.lane_deskew.specs.Aligned.{aligned_column, aligned_columns}
+
+-- three lists have one first full alignment
+abbrev pub OneFirst : Type 0
+OneFirst =
+    (xs ys zs : List Bool) (d e f p q r : ℕ) → IsFirst xs ys zs d e f → IsFirst xs ys zs p q r
+    → (d ≡ p) × (e ≡ q) × (f ≡ r)
+
+-- column j of the list of columns is column j, and the list ends where some lane has no more
+abbrev pub ColumnsListed : Type 0
+ColumnsListed =
+    (xs ys zs : List Bool) (d e f j : ℕ) → slice_get (aligned_columns xs ys zs d e f) j ≡ aligned_column xs ys zs d e f j

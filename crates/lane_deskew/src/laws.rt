@@ -1,0 +1,55 @@
+//! Laws on alignments. The functions do nothing: what they ensure is the law.
+ghost use Rattle.lane_deskew.specs.Laws.{OneFirst, ColumnsListed};
+ghost use Rattle.lane_deskew.specs.Ends.{EdgesEnd, EndsApart, OneEnd, FirstEnds, SparseReceived, ControlColumns, HasExample};
+
+/// Three rows have at most one first full alignment: two with the same largest edge have the same
+/// edges, since two edges of one row are at least 130 bits apart.
+pub fn one_first()
+    ensures { OneFirst }
+{}
+
+/// Column `j` is the one at `j` in the list of columns, which ends where some lane has no more.
+pub fn columns_listed()
+    ensures { ColumnsListed }
+{}
+
+/// A lane of whose characters at most two in any eleven came damaged, with control words still
+/// control words and guard words still none: each edge in a part of its bits is the end of a control
+/// period.
+pub fn edges_end()
+    ensures { EdgesEnd }
+{}
+
+/// The ends of two control periods are at least 15 columns apart.
+pub fn ends_apart()
+    ensures { EndsApart }
+{}
+
+/// Two such lanes of one stream, with a skew of at most 70 bits: edges of theirs within 70 bits of each
+/// other are the end of one and the same control period.
+pub fn one_end()
+    ensures { OneEnd }
+{}
+
+/// The edges of the first full alignment of three such lanes, any two with a skew of at most 70 bits,
+/// are the end of one and the same control period.
+pub fn first_ends()
+    ensures { FirstEnds }
+{}
+
+/// A lane is such a lane where its characters came as they were sent, but for at most two in any
+/// eleven, and those of pixels and packets alone.
+pub fn sparse_received()
+    ensures { SparseReceived }
+{}
+
+/// Three such lanes with at most one damaged character in each column: a column has two control words
+/// at least exactly where it is one of a control period.
+pub fn control_columns()
+    ensures { ControlColumns }
+{}
+
+/// There are three such lanes, with a first full alignment.
+pub fn has_example()
+    ensures { HasExample }
+{}
