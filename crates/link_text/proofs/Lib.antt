@@ -1,0 +1,4 @@
+pub mod Digits
+pub mod LineForms
+pub mod LineSteps
+pub mod Periods

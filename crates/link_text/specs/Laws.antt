@@ -1,0 +1,10 @@
+-- What follows from the definitions.
+use Rattle.std.specs.Prelude.{◌≡◌, ◌≤◌, List}
+use Rattle.source_end.specs.Periods.{Period, columns_of}
+use Rattle.source_end.specs.Conforming.{IsConforming}
+use Rattle.listing.specs.Reading.{reads_as, accepted}
+use Rattle.link_text.specs.Text.{text_of}
+
+-- the text of a conforming stream of at most 20,000,000 columns reads as that stream
+unfoldable pub ReadsBack : Type 0
+ReadsBack = (periods : List Period) → IsConforming periods → columns_of periods ≤ 20000000 → reads_as (text_of periods) ≡ accepted periods
