@@ -4,3 +4,4 @@ pub mod Edges
 pub mod Windows
 pub mod Across
 pub mod Calm
+pub mod Example

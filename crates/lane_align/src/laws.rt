@@ -1,5 +1,5 @@
 //! Laws on locks and edges. The functions do nothing: what they ensure is the law.
-ghost use Rattle.lane_align.specs.Laws.{OneLock, EdgesApart, RunTurns, NoFalseLock, TapLock};
+ghost use Rattle.lane_align.specs.Laws.{OneLock, EdgesApart, RunTurns, NoFalseLock, TapLock, HasExample};
 
 /// A row has at most one lock.
 pub fn one_lock()
@@ -25,4 +25,9 @@ pub fn no_false_lock()
 /// So they do in a part of those bits.
 pub fn tap_lock()
     ensures { TapLock }
+{}
+
+/// There are lanes that meet the premises of these laws, with a marked character among theirs.
+pub fn has_example()
+    ensures { HasExample }
 {}
