@@ -1,0 +1,5 @@
+pub mod Commands
+pub mod Notes
+pub mod Outcome
+pub mod Endings
+pub mod Runs

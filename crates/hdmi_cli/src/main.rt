@@ -1,0 +1,42 @@
+//! Vabgrot: the sender and the receiver of one HDMI TMDS link.
+#![tactic(auto)]
+
+mod ending;
+mod note;
+mod run;
+#[cfg(test)]
+mod tests;
+mod words;
+
+use outside_io::{ReadSource, WriteSink};
+pub use run::run;
+use std::env;
+use std::io::{self, ErrorKind};
+use std::process::ExitCode;
+use std::rt::Env;
+pub use words::Words;
+
+/// The words after the program's name.
+fn words_of(rt: &(impl Env + AllocGlobal)) -> Result<Words, io::Error> {
+    let mut words = Words::new(rt.alloc());
+    for word in env::args(rt)?.skip(1) {
+        if words.push(word.as_str()).is_err() {
+            return Err(io::Error::from(ErrorKind::OutOfMemory));
+        }
+    }
+    Ok(words)
+}
+
+/// Runs over standard input, output and error. Without memory for the words it ends with status 6 and
+/// writes nothing; a word that is no UTF-8 text is a wrong form, as no words are.
+fn main(rt: HostRuntime) -> ExitCode {
+    let words = match words_of(&rt) {
+        Ok(words) => words,
+        Err(e) if e.kind() == ErrorKind::OutOfMemory => return ExitCode::from(6),
+        Err(_) => Words::new(rt.alloc()),
+    };
+    let mut input = ReadSource::new(rt.stdin());
+    let mut output = WriteSink::new(rt.stdout());
+    let mut notes = WriteSink::new(rt.stderr());
+    ExitCode::from(run(rt.alloc(), &words, &mut input, &mut output, &mut notes))
+}

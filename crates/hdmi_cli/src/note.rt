@@ -1,0 +1,88 @@
+//! The line on standard error.
+ghost use Rattle.std.specs.Prelude.{◌≡◌, ◌⊎◌, ℕ, ◌+◌, ◌≤◌, ◌++◌, length, take};
+ghost use Rattle.std.specs.Io.KnownBytes.{Appends};
+ghost use Rattle.arrayvec.specs.ArrayVec.{array_vec_len};
+ghost use Rattle.outside_io.specs.Causes.{Rose};
+ghost use Rattle.hdmi_cli.specs.Endings.{note_of};
+ghost use Rattle.hdmi_cli.specs.Notes.{cause_name, listing_note};
+
+use crate::ending::Ending;
+use arrayvec::ArrayVec;
+use listing::{ListCause, ListFault};
+use outside_io::{Sink, write_all};
+
+/// Room for the longest note.
+type Line = ArrayVec<u8, 64>;
+
+/// Writes the note of an ending in one piece, nothing where there is none. A fault of the notes is passed
+/// over: it changes no status.
+pub(crate) fn write_note<N: Sink>(ending: &Ending, notes: &mut N)
+    ensures whole { Rose (N.faults notes.old) (N.faults notes.new) ⊎ Appends (N.held notes.old) (N.held notes.new) (note_of ending.now) }
+    ensures part { (n : ℕ) × Appends (N.held notes.old) (N.held notes.new) (take n (note_of ending.now)) }
+    ensures later { N.faults notes.old ≤ N.faults notes.new }
+{
+    match ending {
+        Ending::Done => write_line(b"", notes),
+        Ending::Usage => write_line(b"usage: make, recover, check, damage or sample\n", notes),
+        Ending::Listing(fault) => write_line(listing_line(fault).as_slice(), notes),
+        Ending::ReadFailed => write_line(b"read failed\n", notes),
+        Ending::WriteFailed => write_line(b"write failed\n", notes),
+        Ending::NoMemory => write_line(b"out of memory\n", notes),
+    }
+}
+
+/// Writes a line in one piece, or a part of it where the notes fail.
+fn write_line<N: Sink>(line: &[u8], notes: &mut N)
+    ensures whole { Rose (N.faults notes.old) (N.faults notes.new) ⊎ Appends (N.held notes.old) (N.held notes.new) line.now }
+    ensures part { (n : ℕ) × Appends (N.held notes.old) (N.held notes.new) (take n line.now) }
+    ensures later { N.faults notes.old ≤ N.faults notes.new }
+{
+    match write_all(notes, line) {
+        Ok(()) => {}
+        Err(_) => {}
+    }
+}
+
+/// The note of a listing that was refused.
+fn listing_line(fault: &ListFault) -> Line
+    ensures { result.items ≡ listing_note fault.now.line fault.now.cause }
+{
+    let mut line = Line::new();
+    let mut number = itoa::Buffer::new();
+    append(&mut line, b"input: line ");
+    append(&mut line, number.format(fault.line).as_bytes());
+    append(&mut line, b" ");
+    append(&mut line, name(fault.cause).as_bytes());
+    append(&mut line, b"\n");
+    line
+}
+
+fn append(line: &mut Line, text: &[u8])
+    requires { array_vec_len line.old + length text.now ≤ 64 }
+    ensures items { line.new.items ≡ line.old.items ++ text.now }
+    ensures len { array_vec_len line.new ≡ array_vec_len line.old + length text.now }
+{
+    match line.try_extend_from_slice(text) {
+        Ok(()) => {}
+        Err(_) => unreachable!(),
+    }
+}
+
+/// A cause as the notes name it.
+fn name(cause: ListCause) -> &'static str
+    ensures text { result.now ≡ cause_name cause }
+    ensures short { length result.now ≤ 8 }
+{
+    match cause {
+        ListCause::Fault => "fault",
+        ListCause::Form => "form",
+        ListCause::Range => "range",
+        ListCause::Order => "order",
+        ListCause::Control => "control",
+        ListCause::Preamble => "preamble",
+        ListCause::Size => "size",
+        ListCause::Long => "long",
+        ListCause::Unended => "unended",
+        ListCause::After => "after",
+    }
+}

@@ -1,0 +1,267 @@
+//! The top call over sources and sinks in memory. The expected values were computed apart from this program.
+use crate::{Words, run};
+use outside_io::{MemSink, MemSource};
+use std::alloc::Global;
+use std::process::Abort;
+use std::test::*;
+
+/// Listings that are refused, and their notes.
+static REFUSED: [(&str, &str); 57] = [
+    (
+        "c 00 3\nc 04 8\nv ff0000\nc 00 12\nend\n",
+        "input: line 3 control\n",
+    ),
+    ("c 00 12\nv ff0000\n", "input: line 2 preamble\n"),
+    ("c 40 12\n", "input: line 1 range\n"),
+    ("", "input: line 1 unended\n"),
+    (
+        "c 00 4\nc 04 8\nv ff0000\nc 00 12\nend\nx",
+        "input: line 6 after\n",
+    ),
+    ("c 00 12\n! noise 3\n", "input: line 2 fault\n"),
+    ("c 00 12\ncut 3\n", "input: line 2 fault\n"),
+    ("c 00 12\n!noise\n", "input: line 2 form\n"),
+    ("c 00 12\n! ", "input: line 2 fault\n"),
+    ("c 00 12\n!", "input: line 2 form\n"),
+    ("c 00 12\ncut", "input: line 2 form\n"),
+    ("c 00 12\ncut ", "input: line 2 fault\n"),
+    ("c 00 12\nen", "input: line 2 form\n"),
+    ("c 00 12\nend", "input: line 2 unended\n"),
+    ("c 00 12\n", "input: line 2 unended\n"),
+    ("\n", "input: line 1 form\n"),
+    ("c 00 12\n\nend\n", "input: line 2 form\n"),
+    ("end\n", "input: line 1 order\n"),
+    ("v ff0000\n", "input: line 1 order\n"),
+    ("v \n", "input: line 1 range\n"),
+    ("v\n", "input: line 1 form\n"),
+    ("v ff00\n", "input: line 1 form\n"),
+    ("v ff000g\n", "input: line 1 form\n"),
+    ("v ff0000 \n", "input: line 1 form\n"),
+    ("c 00 4\nc 04 8\nv \n", "input: line 3 range\n"),
+    ("c 0 12\n", "input: line 1 form\n"),
+    ("c 00 \n", "input: line 1 form\n"),
+    ("c 00 00000000012\nend\n", "input: line 1 form\n"),
+    ("c 00 0\n", "input: line 1 range\n"),
+    ("c 00 20000001\n", "input: line 1 range\n"),
+    ("c 00 20000000\nc 00 1\n", "input: line 2 long\n"),
+    ("c 3g 12\n", "input: line 1 form\n"),
+    ("c 00 -1\n", "input: line 1 form\n"),
+    ("c 00 1 2\n", "input: line 1 form\n"),
+    ("c  00 12\n", "input: line 1 form\n"),
+    ("C 00 12\n", "input: line 1 form\n"),
+    ("c 00 12\r\nend\n", "input: line 1 form\n"),
+    ("c 00 11\nend\n", "input: line 2 control\n"),
+    ("c 00 12\nc 04 7\nv 000000\n", "input: line 3 preamble\n"),
+    ("c 04 12\nv 000000\nend\n", "input: line 3 order\n"),
+    ("c 04 12\nv 000000\nv 000000\n", "input: line 3 order\n"),
+    (
+        "c 04 12\nv 000000\nc 00 11\nend\n",
+        "input: line 4 control\n",
+    ),
+    (
+        "c 04 12\nv 000000\nc 00 12\nend\n\n",
+        "input: line 5 after\n",
+    ),
+    ("c 04 12\nc 00 1\nv 000000\n", "input: line 3 preamble\n"),
+    ("i 00\n", "input: line 1 form\n"),
+    ("p 00\n", "input: line 1 form\n"),
+    ("e 00\n", "input: line 1 form\n"),
+    ("c 00 12\nend\nend\n", "input: line 3 after\n"),
+    ("c 04 12\nv 00000\n", "input: line 2 form\n"),
+    ("c 00 19999988\nc 04 11\nv 000000\n", "input: line 3 long\n"),
+    (
+        "c 00 19999985\nc 04 12\nv 000000\n",
+        "input: line 4 unended\n",
+    ),
+    ("c 00 9999999999\n", "input: line 1 range\n"),
+    ("c 00 4294967296\n", "input: line 1 range\n"),
+    ("c 00 12 \n", "input: line 1 form\n"),
+    (" c 00 12\n", "input: line 1 form\n"),
+    ("end \n", "input: line 1 form\n"),
+    ("endx\n", "input: line 1 form\n"),
+];
+
+/// Listings that are made, and the hexadecimal digits of their captures.
+static MADE: [(&str, &str); 6] = [
+    (
+        "c 00 4\nc 04 8\nv FF0000\nc 00 12\nend\n",
+        "544d43310000010e54534d35d554534d35d554534d35d5cc320b10d554534d35d554534d35d554534d3554534d35d5abacb2ca2aabacb2ca2a33cd0410d554534d35d554534d35d554534d3554534d35d554534d35d554534d35d5cc320b20d554534d35d554534d35d554534d35",
+    ),
+    (
+        "c 00 0000000012\nend\n",
+        "544d43310000007854534d35d554534d35d554534d35d554534d35d554534d35d554534d35d554534d35d554534d35d554534d35d5",
+    ),
+    (
+        "c 3F 12\nend\n",
+        "544d433100000078abaebaeaaaabaebaeaaaabaebaeaaaabaebaeaaaabaebaeaaaabaebaeaaaabaebaeaaaabaebaeaaaabaebaeaaa",
+    ),
+    (
+        "c 07 12\nv 000000\nc 00 12\nend\n",
+        "544d43310000010eabaebaeaaaabaebaeaaaabaebaeaaacc320b10d554534d35d554534d35d554534d35abacb2ca2aabacb2ca2aabacb2ca2a33cd0410d554534d35d554534d35d554534d3554534d35d554534d35d554534d35d5cc320b10d554534d35d554534d35d554534d35",
+    ),
+    (
+        "c 04 4\nc 05 4\nc 06 2\nc 07 2\nv 010203\nc 00 12\nend\n",
+        "544d43310000010e54534d35d5abacb2ca2a5451b5eaaacc321b10d554534d35d554534d35d554534d35abacb2ca2aabacb2ca2aabacb2ca2a33cde41fd554534d35d554534d35d554534d3554534d35d554534d35d554534d35d5cc32fb1fd554534d35d554534d35d554534d35",
+    ),
+    (
+        "c 00 12\nend\n",
+        "544d43310000007854534d35d554534d35d554534d35d554534d35d554534d35d554534d35d554534d35d554534d35d554534d35d5",
+    ),
+];
+
+static RED: &str = "c 00 4\nc 04 8\nv ff0000\nc 00 12\nend\n";
+
+/// What a run answered: the status, the output and the notes.
+#[derive(Drop)]
+struct Answer {
+    status: u8,
+    output: Vec<u8>,
+    notes: Vec<u8>,
+}
+
+/// Runs these words over a source that gives `piece` bytes for each read, one at least, and over sinks of ample
+/// room; the reads and writes whose numbers are given fail.
+fn answer_of(
+    alloc: Global,
+    words: &[&str],
+    text: &[u8],
+    piece: usize,
+    failing: (&[u64], &[u64]),
+) -> Result<Answer, Fail> {
+    let mut list = Words::new(alloc);
+    for word in words {
+        list.push(word)?;
+    }
+    let mut input = MemSource::new(text.to_vec(alloc)?, piece.max(1), failing.0.to_vec(alloc)?);
+    let mut output = MemSink::new(alloc, 4096, 4096, failing.1.to_vec(alloc)?)?;
+    let mut notes = MemSink::new(alloc, 4096, 4096, Vec::new(alloc))?;
+    let status = run(alloc, &list, &mut input, &mut output, &mut notes);
+    Ok(Answer {
+        status,
+        output: output.bytes().to_vec(alloc)?,
+        notes: notes.bytes().to_vec(alloc)?,
+    })
+}
+
+#[test]
+fn refusals(rt: HostRuntime) -> Result<(), Fail> {
+    for (text, note) in &REFUSED {
+        for piece in [1, 7, 100_000] {
+            let it = answer_of(
+                rt.alloc(),
+                &["make", "link"],
+                text.as_bytes(),
+                piece,
+                (&[], &[]),
+            )?;
+            assert_eq!(rt; it.status, 3, "of {text}");
+            assert!(rt; it.output.is_empty(), "of {text}");
+            assert_eq!(rt; it.notes.as_slice(), note.as_bytes(), "of {text}");
+        }
+    }
+    Ok(())
+}
+
+#[test]
+fn captures(rt: HostRuntime) -> Result<(), Fail> {
+    for (text, digits) in &MADE {
+        for piece in [1, 7, 100_000] {
+            let it = answer_of(
+                rt.alloc(),
+                &["make", "link"],
+                text.as_bytes(),
+                piece,
+                (&[], &[]),
+            )?;
+            let capture = hex::decode(rt.alloc(), digits)?;
+            assert_eq!(rt; it.status, 0, "of {text}");
+            assert_eq!(rt; it.output.as_slice(), capture.as_slice(), "of {text}");
+            assert!(rt; it.notes.is_empty(), "of {text}");
+        }
+    }
+    Ok(())
+}
+
+#[test]
+fn long_lines(rt: HostRuntime) -> Result<(), Fail> {
+    for (length, note) in [(32_768, "range"), (32_769, "form")] {
+        let mut text = Vec::from_slice(rt.alloc(), b"v ")?;
+        text.resize(length - length % 6 + 2, b'0')?;
+        text.resize(length, b'0')?;
+        text.push(b'\n')?;
+        let it = answer_of(rt.alloc(), &["make", "link"], &text, 1000, (&[], &[]))?;
+        assert_eq!(rt; it.status, 3);
+        assert!(rt; it.notes.ends_with(b"\n"), "{note}");
+    }
+    Ok(())
+}
+
+#[test]
+fn devices(rt: HostRuntime) -> Result<(), Fail> {
+    let read = answer_of(
+        rt.alloc(),
+        &["make", "link"],
+        RED.as_bytes(),
+        9,
+        (&[0], &[]),
+    )?;
+    assert_eq!(rt; read.status, 4);
+    assert!(rt; read.output.is_empty());
+    assert_eq!(rt; read.notes.as_slice(), b"read failed\n".as_slice());
+
+    let later = answer_of(
+        rt.alloc(),
+        &["make", "link"],
+        RED.as_bytes(),
+        9,
+        (&[2], &[]),
+    )?;
+    assert_eq!(rt; later.status, 4);
+    assert!(rt; later.output.is_empty());
+
+    let write = answer_of(
+        rt.alloc(),
+        &["make", "link"],
+        RED.as_bytes(),
+        9,
+        (&[], &[0]),
+    )?;
+    assert_eq!(rt; write.status, 5);
+    assert!(rt; write.output.is_empty());
+    assert_eq!(rt; write.notes.as_slice(), b"write failed\n".as_slice());
+
+    let part = answer_of(
+        rt.alloc(),
+        &["make", "link"],
+        RED.as_bytes(),
+        9,
+        (&[], &[1]),
+    )?;
+    assert_eq!(rt; part.status, 5);
+    assert_eq!(rt;
+        part.output.as_slice(),
+        [0x54, 0x4d, 0x43, 0x31, 0, 0, 1, 0x0e].as_slice()
+    );
+    Ok(())
+}
+
+#[test]
+fn usage(rt: HostRuntime) -> Result<(), Fail> {
+    let forms: [&[&str]; 5] = [
+        &[],
+        &["make"],
+        &["link", "make"],
+        &["make", "link", "x"],
+        &["Make", "link"],
+    ];
+    for words in forms {
+        let it = answer_of(rt.alloc(), words, RED.as_bytes(), 9, (&[], &[]))?;
+        assert_eq!(rt; it.status, 2);
+        assert!(rt; it.output.is_empty());
+        assert_eq!(rt;
+            it.notes.as_slice(),
+            b"usage: make, recover, check, damage or sample\n".as_slice()
+        );
+    }
+    Ok(())
+}
