@@ -1,3 +1,5 @@
 pub mod Layout
 pub mod Lanes
 pub mod Taps
+pub mod Faults
+pub mod Reading

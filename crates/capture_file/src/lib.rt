@@ -2,10 +2,14 @@
 #![tactic(auto)]
 
 mod lanes;
+mod reading;
 mod writing;
 
 pub use lanes::Lanes;
+pub use reading::{CaptureError, CaptureFault, Rows, read_capture};
 pub use writing::{Tap, write_capture};
 
+#[cfg(test)]
+mod reading_tests;
 #[cfg(test)]
 mod tests;
