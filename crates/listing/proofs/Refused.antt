@@ -1,18 +1,20 @@
 -- The causes for which a line is refused, and what the answer then is.
-use Rattle.std.proofs.Common.{◌≡◌, ℕ, ◌+◌, ◌≤◌, ◌<◌, Bool, true, false, ◌&&◌, if◌then◌else◌, List, refl, ap, sym, subst, ◌∙◌, arith, Option, Some, None, Result, Ok, Err}
-use Rattle.std.specs.Prelude.{nat_le, nat_lt}
+use Rattle.std.proofs.Common.{◌≡◌, ℕ, ◌+◌, ◌≤◌, ◌<◌, Bool, true, false, ◌&&◌, if◌then◌else◌, List, refl, ap, sym, subst, ◌∙◌, arith, Option, Some, None, Result, Ok, Err, ◌⊎◌, inl, inr}
+use Rattle.std.specs.Prelude.{nat_le, nat_lt, IsErr}
 use Rattle.std.specs.Result.{IsErrAnd}
+use Rattle.hex.specs.Hex.{decode_of}
+use Rattle.hex.specs.declared.error.FromHexError.{FromHexError}
 use Rattle.source_end.specs.Periods.{Period, video, period_columns, columns_of}
 use Rattle.source_end.specs.declared.items.ItemFault.{ItemFault}
 use Rattle.source_end.specs.declared.items.ItemFault.TheVariants.{Range as range_fault, Order as order_fault, Control as control_fault, Preamble as preamble_fault, Long as long_fault, NoMemory as no_memory}
 use Rattle.source_end.specs.Refusals.{last_period, is_in_range, is_in_order, has_control, is_announced, push_fault, close_fault, AnswersFault}
 use Rattle.source_end.proofs.Faults.{first, push_fault_is}
 use Rattle.listing.specs.declared.fault.ListCause.{ListCause}
-use Rattle.listing.specs.declared.fault.ListCause.TheVariants.{Range, Order, Control, Preamble, Long}
+use Rattle.listing.specs.declared.fault.ListCause.TheVariants.{Form, Range, Order, Control, Preamble, Long}
 use Rattle.listing.specs.declared.reader.Refusal.{Refusal}
 use Rattle.listing.specs.declared.reader.Refusal.TheVariants.{Cause, NoMemory}
 use Rattle.listing.specs.Causes.{run_cause, line_cause, caused, cause_of}
-use Rattle.listing.specs.Forms.{LineForm, control_line, video_line, end_line}
+use Rattle.listing.specs.Forms.{LineForm, control_line, video_line, video_by, end_line, no_line}
 use Rattle.listing.specs.Told.{AnswersCause, RefusesAs}
 use Rattle.listing.proofs.OpenPeriods.{run_passes}
 
@@ -140,3 +142,34 @@ answers_taken S {T} done v all ps pixels bytes same read h =
     let e : caused (push_fault all (video pixels)) ≡ line_cause ps (video_line bytes) =
     ap (λ (qs : List Period). caused (push_fault qs (video pixels))) same ∙ ap (λ (b : List ℕ). caused (push_fault ps (video b))) read ∙ sym (cause_video ps bytes) in
     answers_ok {T = T} v (line_cause ps (video_line bytes)) (sym e ∙ ap caused (none_of S done (push_fault all (video pixels)) h))
+
+-- The digits of a video line.
+
+pub answers_read : {T : Type 0} (ps : List Period) (digits bytes : List ℕ) (result : Result T Refusal) → decode_of digits ≡ Ok bytes → AnswersCause (line_cause ps (video_line bytes)) result
+    → AnswersCause (line_cause ps (video_by true (decode_of digits))) result
+answers_read {T} ps digits bytes result read h = answers_line {T = T} ps (video_by true (decode_of digits)) (video_line bytes) result (ap (video_by true) read) h
+
+no_digits : (read : Result (List ℕ) FromHexError) → IsErr read → video_by true read ≡ no_line
+no_digits (Ok bytes) h = absurd cc
+no_digits (Err e) h = refl
+
+cause_none_told : (ps : List Period) → line_cause ps no_line ≡ Some Form
+unfolding line_cause
+cause_none_told ps = refl
+
+cause_no_digits : (ps : List Period) (read : Result (List ℕ) FromHexError) → IsErr read → line_cause ps (video_by true read) ≡ Some Form
+cause_no_digits ps read h = ap (line_cause ps) (no_digits read h) ∙ cause_none_told ps
+
+refused_digits : (T : Type 0) (ps : List Period) (digits : List ℕ) (refusal : Refusal) → (refusal ≡ NoMemory) ⊎ ((refusal ≡ Cause Form) × IsErr (decode_of digits))
+    → AnswersCause {T = T} (line_cause ps (video_by true (decode_of digits))) (Err refusal)
+refused_digits T ps digits refusal (inl e) = answers_same T (line_cause ps (video_by true (decode_of digits))) refusal e
+refused_digits T ps digits refusal (inr h) =
+    let seen = line_cause ps (video_by true (decode_of digits)) in
+    subst (λ (r : Refusal). AnswersCause {T = T} seen (Err r)) (sym h.0) (answers_cause T seen Form (cause_no_digits ps (decode_of digits) h.1))
+
+-- bytes that are no digits, or want of memory
+pub answers_unread : (T : Type 0) (ps : List Period) (digits : List ℕ) (result : Result T Refusal) (refusal : Refusal) → (refusal ≡ NoMemory) ⊎ ((refusal ≡ Cause Form) × IsErr (decode_of digits))
+    → IsErrAnd result (λ r. r ≡ refusal) → AnswersCause (line_cause ps (video_by true (decode_of digits))) result
+answers_unread T ps digits (Ok v) refusal why h = absurd h
+answers_unread T ps digits (Err found) refusal why h =
+    subst (λ (r : Refusal). AnswersCause {T = T} (line_cause ps (video_by true (decode_of digits))) (Err r)) (sym h) (refused_digits T ps digits refusal why)

@@ -1,6 +1,8 @@
 -- What a line does to what the bytes ahead read as.
 use Rattle.std.proofs.Common.{◌≡◌, ℕ, ◌+◌, ◌<◌, ◌≤◌, true, false, ◌==◌, List, [], ◌∷◌, ◌++◌, length, refl, ap, ap₂, sym, subst, ◌∙◌, arith, length-append, inl, inr}
-use Rattle.std.specs.Prelude.{Option, Some, None, Ok, Err, nat_le}
+use Rattle.std.specs.Prelude.{Option, Some, None, Result, Ok, Err, nat_le}
+use Rattle.hex.specs.Hex.{decode_of}
+use Rattle.hex.specs.declared.error.FromHexError.{FromHexError}
 use Rattle.source_end.specs.Periods.{Period}
 use Rattle.source_end.specs.Refusals.{close_fault}
 use Rattle.source_end.specs.declared.items.ItemFault.{ItemFault}
@@ -12,7 +14,7 @@ use Rattle.listing.specs.declared.read.Next.TheVariants.{More, End}
 use Rattle.listing.specs.declared.reader.Refusal.{Refusal}
 use Rattle.listing.specs.declared.reader.Refusal.TheVariants.{Cause, NoMemory}
 use Rattle.listing.specs.Lines.{pieces_of}
-use Rattle.listing.specs.Forms.{LineForm, control_line, video_line, end_line, fault_line, no_line, form_of, is_fault}
+use Rattle.listing.specs.Forms.{LineForm, control_line, video_line, video_by, end_line, fault_line, no_line, form_of, is_fault}
 use Rattle.listing.specs.Causes.{caused, line_cause}
 use Rattle.listing.specs.Reading.{Reading, refused, accepted, Step, goes_on, ends, stops, step_by, step_at, cause_at, read_on, read_from, ended_in, after_end, reads_as}
 use Rattle.listing.specs.Held.{Held, IsEnded, IsRest, IsTooLong, IsNext}
@@ -314,9 +316,13 @@ fault_wrong periods = refl
 pub wrong_fault : (periods : List Period) (form : LineForm) → form ≡ fault_line → line_cause periods form ≡ Some Fault
 wrong_fault periods form e = ap (line_cause periods) e ∙ fault_wrong periods
 
+video_no_fault : (read : Result (List ℕ) FromHexError) → video_by true read ≡ fault_line → ⊥
+video_no_fault (Ok bytes) e = cc
+video_no_fault (Err fault) e = cc
+
 no_fault : (seen : Seen) (form : LineForm) → IsForm seen form → ¬ (seen ≡ seen_fault) → form ≡ fault_line → ⊥
 no_fault (Control value count) form is other e = cc
-no_fault (Video digits) form is other e = let told = is.told in cc
+no_fault (Video digits) form is other e = video_no_fault (decode_of digits.now) (sym is.told ∙ e)
 no_fault seen_end form is other e = cc
 no_fault seen_fault form is other e = other refl
 no_fault Other form is other e = cc

@@ -1,17 +1,14 @@
 -- How what is seen in a line tells its form.
-use Rattle.std.specs.Prelude.{◌≡◌, ℕ, ◌*◌, ◌%◌, List, [], length, Ok}
+use Rattle.std.specs.Prelude.{◌≡◌, ℕ, ◌%◌, List, [], length, true}
 use Rattle.hex.specs.Hex.{decode_of}
-use Rattle.listing.specs.Forms.{LineForm, control_line, video_line, end_line, fault_line, no_line}
+use Rattle.listing.specs.Forms.{LineForm, control_line, video_by, end_line, fault_line, no_line}
 use Rattle.listing.specs.declared.form.Form.{Form}
 use Rattle.listing.specs.declared.form.Form.TheVariants.{Control, Video, End, Fault, Other}
 
--- the digits of the pixels, which decode to the bytes of the form
+-- what follows `v `, six bytes a pixel: whether they are digits, only their decoding tells
 pub record IsVideo (digits : List ℕ) (form : LineForm) : Type 0 where
-  pub bytes : List ℕ
-  pub decoded : decode_of digits ≡ Ok bytes
-  pub told : form ≡ video_line bytes
   pub pixels : length digits % 6 ≡ 0
-  pub size : length digits ≡ 2 * length bytes
+  pub told : form ≡ video_by true (decode_of digits)
 
 -- what is seen tells this form
 abbrev pub IsForm : Form → LineForm → Type 0
@@ -21,7 +18,7 @@ IsForm End form = form ≡ end_line
 IsForm Fault form = form ≡ fault_line
 IsForm Other form = form ≡ no_line
 
--- the digits of the pixels, of a line that has any
+-- what follows `v `, of a line that has it
 abbrev pub digits_of : Form → List ℕ
 digits_of (Video digits) = digits.now
 digits_of (Control value count) = []

@@ -1,7 +1,5 @@
 //! The form of a line of a listing: what the line says, before any pixel is made.
 ghost use Rattle.std.specs.Prelude.{◌≡◌, ◌≤◌, [], length};
-ghost use Rattle.std.specs.List.{list_all};
-ghost use Rattle.hex.specs.Hex.{is_hex_digit};
 ghost use Rattle.listing.specs.FormSeen.{IsForm, digits_of};
 ghost use Rattle.listing.specs.Forms.{control_form, form_of, is_fault, number_of, video_form};
 
@@ -15,7 +13,7 @@ const NUMBER_LIMIT: usize = 10;
 pub(crate) enum Form<'a> {
     /// `c HH N`: the value and the number of columns, each perhaps out of its range.
     Control { value: u8, count: u64 },
-    /// `v X`: the hexadecimal digits of the pixels, six a pixel.
+    /// `v X`: what should be the hexadecimal digits of the pixels, six a pixel. They are not looked at.
     Video(&'a [u8]),
     /// `end`.
     End,
@@ -97,21 +95,13 @@ fn number(digits: &[u8]) -> Option<u64>
     Some(value)
 }
 
-// Whether each byte is a hexadecimal digit.
-#[tactic(auto, using(crate::proofs::Numbers::hex_digit))]
-fn is_hex(bytes: &[u8]) -> bool
-    ensures { result ≡ list_all is_hex_digit bytes.now }
-{
-    bytes.iter().all(|byte| byte.is_ascii_hexdigit())
-}
-
-// The form of a line by what follows `v `: six hexadecimal digits a pixel.
-#[tactic(auto, using(crate::proofs::Numbers::video_seen, crate::proofs::Numbers::video_other, crate::proofs::Numbers::video_odd))]
+// The form of a line by what follows `v `: six bytes a pixel.
+#[tactic(auto, using(crate::proofs::Numbers::video_seen, crate::proofs::Numbers::video_odd))]
 fn video(digits: &[u8]) -> Form<'_>
     ensures form { IsForm result (video_form digits.now) }
     ensures short { length (digits_of result) ≤ length digits.now }
 {
-    if digits.len() % 6 == 0 && is_hex(digits) {
+    if digits.len() % 6 == 0 {
         Form::Video(digits)
     } else {
         Form::Other

@@ -1,15 +1,16 @@
 //! What the lines of a listing tell, one line after the other.
-ghost use Rattle.std.specs.Prelude.{◌≡◌, ℕ, ◌+◌, ◌%◌, ◌≤◌, ◌++◌, ◌∷◌, [], List, length, true, false, IfOk, IsOk};
+ghost use Rattle.std.specs.Prelude.{◌≡◌, ◌≢◌, ◌⊎◌, ℕ, ◌+◌, ◌%◌, ◌≤◌, [], length, true, false, IfOk, IfErr, IsErr};
 ghost use Rattle.hex.specs.Hex.{decode_of};
 ghost use Rattle.source_end.specs.Refusals.{close_fault, last_period, is_control_last, is_in_range};
 ghost use Rattle.source_end.specs.Periods.{control, video, columns_of};
 ghost use Rattle.listing.specs.Causes.{run_cause, line_cause, caused, with_run};
-ghost use Rattle.listing.specs.Forms.{LineForm, video_line};
+ghost use Rattle.listing.specs.Forms.{LineForm, video_by};
 ghost use Rattle.listing.specs.FormSeen.{IsForm, digits_of};
 ghost use Rattle.listing.specs.Told.{AnswersCause, RefusesAs, after_form, with_open};
 
 use crate::ListCause;
 use crate::form::Form;
+use hex::FromHexError;
 use outside_io::NoMemory;
 use source_end::{Item, ItemFault, Items, Pixels, Run, Runs, Stream};
 use std::alloc::Global;
@@ -150,13 +151,12 @@ impl Reader {
         Ok(reader)
     }
 
-    /// Takes a video data period, told by its hexadecimal digits.
+    /// Takes a video data period, told by what should be its hexadecimal digits.
     fn video(self, digits: &[u8]) -> Result<Reader, Refusal>
-        requires digits { IsOk (decode_of digits.now) }
         requires pixels { length digits.now % 6 ≡ 0 }
         requires short { length digits.now ≤ 32766 }
-        ensures cause { (bytes : List ℕ) → decode_of digits.now ≡ Ok bytes → AnswersCause (line_cause self.periods (video_line bytes)) result }
-        ensures ok { (bytes : List ℕ) → decode_of digits.now ≡ Ok bytes → IfOk result (λ r. r ≡ record self { periods = self.periods ++ video bytes ∷ [] }) }
+        ensures cause { AnswersCause (line_cause self.periods (video_by true (decode_of digits.now))) result }
+        ensures ok { IfOk result (λ r. r ≡ record self { periods = after_form (video_by true (decode_of digits.now)) self.periods }) }
     {
         let Reader {
             alloc,
@@ -234,15 +234,28 @@ fn closed(items: Items, runs: Runs) -> Result<Items, NoMemory>
     }
 }
 
-/// The pixels of hexadecimal digits.
-fn decode_pixels(alloc: Global, digits: &[u8]) -> Result<Pixels, NoMemory>
-    requires digits { IsOk (decode_of digits.now) }
-    requires pixels { length digits.now % 6 ≡ 0 }
-    ensures { IfOk result (λ pixels. decode_of digits.now ≡ Ok pixels) }
+/// The pixels of hexadecimal digits. A byte that is no digit is a fault of the line's form.
+fn decode_pixels(alloc: Global, digits: &[u8]) -> Result<Pixels, Refusal>
+    requires { length digits.now % 6 ≡ 0 }
+    ensures ok { IfOk result (λ pixels. decode_of digits.now ≡ Ok pixels) }
+    ensures err { IfErr result (λ refusal. (refusal ≡ Refusal.NoMemory) ⊎ ((refusal ≡ Refusal.Cause ListCause.Form) × IsErr (decode_of digits.now))) }
 {
     match hex::decode(alloc, digits) {
         Ok(bytes) => Ok(Pixels::from_bytes(bytes)),
-        Err(_) => Err(NoMemory),
+        Err(error) => Err(refusal_of_digits(error)),
+    }
+}
+
+/// The refusal of a line whose digits were not decoded: for want of memory, or for the line's form.
+fn refusal_of_digits(error: FromHexError) -> Refusal
+    ensures memory { error ≡ FromHexError.OutOfMemory → result ≡ Refusal.NoMemory }
+    ensures form { error ≢ FromHexError.OutOfMemory → result ≡ Refusal.Cause ListCause.Form }
+{
+    match error {
+        FromHexError::OutOfMemory => Refusal::NoMemory,
+        FromHexError::InvalidHexCharacter { .. }
+        | FromHexError::OddLength
+        | FromHexError::InvalidStringLength => Refusal::Cause(ListCause::Form),
     }
 }
 

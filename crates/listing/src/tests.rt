@@ -2,6 +2,7 @@
 
 use crate::form::{Form, read_form};
 use crate::lines::{LineReader, Piece};
+use crate::{ListCause, ListError, ListFault, read_link};
 use outside_io::{Failed, MemSource};
 use std::test::Fail;
 
@@ -140,7 +141,7 @@ fn reads_forms(rt: HostRuntime) {
         (b"v ", Form::Video(b"")),
         (b"v 0a1b2", Form::Other),
         (b"v 0a1b2c3d", Form::Other),
-        (b"v 0a1b2g", Form::Other),
+        (b"v 0a1b2g", Form::Video(b"0a1b2g")),
         (b"v 0a1b2c ", Form::Other),
         (b"v", Form::Other),
         (b"v  0a1b2c", Form::Other),
@@ -168,4 +169,46 @@ fn reads_forms(rt: HostRuntime) {
     for (line, form) in rows {
         assert_eq!(rt; read_form(line), form);
     }
+}
+
+// Each row: a text, and the line that it is refused for, with the cause. A byte that is no digit is a
+// fault of the line's form, before any other cause.
+#[test]
+fn refuses_bad_digits(rt: HostRuntime) -> Result<(), Fail> {
+    let rows: [(&[u8], u32, ListCause); 18] = [
+        (b"v 0a1b2g\n", 1, ListCause::Form),
+        (b"v g00000\n", 1, ListCause::Form),
+        (b"v 00/000\n", 1, ListCause::Form),
+        (b"v 00:000\n", 1, ListCause::Form),
+        (b"v 000@00\n", 1, ListCause::Form),
+        (b"v 000G00\n", 1, ListCause::Form),
+        (b"v 0000`0\n", 1, ListCause::Form),
+        (b"v 00000 \n", 1, ListCause::Form),
+        (b"v  00000\n", 1, ListCause::Form),
+        (b"v 00000\xff\n", 1, ListCause::Form),
+        (b"v 0x0a1b\n", 1, ListCause::Form),
+        (b"v 0a1b2c00000z\n", 1, ListCause::Form),
+        (b"v 0a1b2g", 1, ListCause::Form),
+        (b"c 00 12\nv 0a1b2g\n", 2, ListCause::Form),
+        (b"c 00 12\nc 04 8\nv 0a1B2c0a1B2G\n", 3, ListCause::Form),
+        (b"v \n", 1, ListCause::Range),
+        (b"v 0a1B2c\n", 1, ListCause::Order),
+        (b"c 00 12\nv 0a1B2c\n", 2, ListCause::Preamble),
+    ];
+    for (text, line, cause) in rows {
+        let mut source = MemSource::new(text.to_vec(rt.alloc())?, 5, Vec::new(rt.alloc()));
+        let fault = ListFault { line, cause };
+        let read = read_link(rt.alloc(), &mut source);
+        assert_eq!(rt; read.err(), Some(ListError::Bad(fault)));
+    }
+    Ok(())
+}
+
+// Digits of either case are read.
+#[test]
+fn reads_digits(rt: HostRuntime) -> Result<(), Fail> {
+    let text = b"c 00 12\nc 04 8\nv 0a1B2cFFffeE\nc 00 12\nend\n".to_vec(rt.alloc())?;
+    let mut source = MemSource::new(text, 5, Vec::new(rt.alloc()));
+    assert_eq!(rt; read_link(rt.alloc(), &mut source).err(), None);
+    Ok(())
 }
