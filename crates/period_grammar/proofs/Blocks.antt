@@ -1,0 +1,210 @@
+-- What is kept of an island, with one column more.
+use Rattle.std.proofs.Common.{◌≡◌, ℕ, ◌+◌, ◌*◌, ◌<◌, ◌≤◌, Bool, true, false, not, ◌==◌, List, [], ◌∷◌, ◌++◌, length, map, take, get_or, refl, ap, ap₂, sym, ◌∙◌, subst, append_assoc, arith}
+use Rattle.std.proofs.lemmas.List.{length_push, map_push, take_all, append-nil}
+use Rattle.bch_block.specs.declared.Verdict.{Verdict}
+use Rattle.bch_block.specs.declared.Verdict.TheVariants.{Clean}
+use Rattle.island_pack.specs.declared.packet.Packet.{Packet as PacketOf}
+use Rattle.island_pack.specs.declared.packet.PacketVerdicts.{PacketVerdicts}
+use Rattle.period_grammar.specs.Packets.{words_of, packet_of, verdicts_of}
+use Rattle.tmds_word.specs.Column.{Column}
+use Rattle.period_grammar.specs.Column.{is_closing, sync_digit}
+use Rattle.terc4.specs.Columns.{is_island_guard}
+use Rattle.period_grammar.specs.Noted.{things, Lent}
+use Rattle.period_grammar.specs.declared.notes.Note.{Note}
+use Rattle.period_grammar.specs.declared.notes.Note.TheVariants.{Close, Packet as PacketNote}
+use Rattle.period_grammar.proofs.Noting.{pushed}
+use Rattle.period_grammar.specs.Things.{Thing, noise, packet, symbols, long_island, close_island, guard as guard_at, empty}
+use Rattle.period_grammar.specs.Island.{Payload, parts, payload, split, begins_close, holds_packet, packet_things, block_fault, block_faults, packet_faults, closing_things, left_at, when, if_so}
+use Rattle.period_grammar.specs.After.{left_gain, island_gain, choose, settle_by, settle, after_payload}
+use Rattle.period_grammar.specs.IslandAfter.{IsLeftAfter, IsPartsAfter, IsIslandAfter}
+use Rattle.period_grammar.specs.declared.island.Left.{Left}
+use Rattle.period_grammar.specs.declared.island.Left.TheVariants.{Packet, Closing, Closed, Over}
+use Rattle.period_grammar.specs.declared.island.Island.{Island}
+use Rattle.period_grammar.proofs.Islands.{holds_not, holds_is, holds_never, payload_push}
+
+pub fresh : (kept : Island) → kept.left ≡ Packet → kept.packets ≡ 0 → kept.within ≡ 0 → IsIslandAfter kept []
+unfolding split
+fresh kept l p w = record { stands = rw (l, p, w) (refl, (refl, refl, refl)) }
+
+block_push : (block next : List (List ℕ)) (t : List Column) (c : Column) (n : ℕ) → take n block ≡ map words_of t → take (n + 1) next ≡ take n block ++ words_of c ∷ []
+    → take (n + 1) next ≡ map words_of (t ++ c ∷ [])
+block_push block next t c n was e = e ∙ ap (λ ws. ws ++ words_of c ∷ []) was ∙ sym (map_push words_of t c)
+
+-- the next state where the packet is not whole, and where it is
+not_whole : (left : Left) (packets within : ℕ) (block : List (List ℕ)) (ps : List (List Column)) (t : List Column) → holds_packet t ≡ false
+    → packets ≡ length ps → IsLeftAfter left within block t → IsPartsAfter left packets within block (settle ps t)
+not_whole left packets within block ps t e n h = subst (λ p. IsPartsAfter left packets within block (settle_by p ps t)) (sym e) (n, h)
+
+-- the first column of a packet or of the closing guard
+pub first_closing : (packets digit : ℕ) (guard : Bool) (block next : List (List ℕ)) (c : Column) (x : Payload) → IsPartsAfter Packet packets 0 block x
+    → is_closing c ≡ true → digit ≡ sync_digit c.blue → guard ≡ is_island_guard c → IsPartsAfter (Closing digit guard) packets 0 next (after_payload c x)
+first_closing packets digit guard block next c (parts ps []) was e f g =
+    not_whole (Closing digit guard) packets 0 next ps (c ∷ []) (holds_not (c ∷ []) (omega arith)) was.0 (e, f, g)
+first_closing packets digit guard block next c (parts ps (d ∷ t)) was e f g = absurd (omega (arith, was.1.1))
+
+pub first_packet : (packets : ℕ) (block next : List (List ℕ)) (c : Column) (x : Payload) → IsPartsAfter Packet packets 0 block x
+    → is_closing c ≡ false → take 1 next ≡ words_of c ∷ [] → IsPartsAfter Packet packets 1 next (after_payload c x)
+first_packet packets block next c (parts ps []) was e f =
+    not_whole Packet packets 1 next ps (c ∷ []) (holds_not (c ∷ []) (omega arith)) was.0 (e, refl, f)
+first_packet packets block next c (parts ps (d ∷ t)) was e f = absurd (omega (arith, was.1.1))
+
+-- nothing is told of it
+pub first_told : (packets start : ℕ) (block : List (List ℕ)) (c : Column) (x : Payload) → IsPartsAfter Packet packets 0 block x → [] ≡ island_gain start c x
+first_told packets start block c (parts ps []) was =
+    ap (λ p. choose p (packet_things (left_at start ps) (length ps) (c ∷ [])) []) (sym (holds_not (c ∷ []) (omega arith)))
+first_told packets start block c (parts ps (d ∷ t)) was = absurd (omega (arith, was.1.1))
+
+left_gain_open : (b s k : ℕ) (c : Column) (t : List Column) → begins_close t ≡ false → left_gain b s k c t ≡ []
+left_gain_open b s k c [] e = refl
+left_gain_open b s k c (x ∷ []) e = ap (λ p. when p (closing_things b s k x c)) e
+left_gain_open b s k c (x ∷ (y ∷ [])) e = ap (λ p. when p (noise (s + 2) ∷ [])) e
+left_gain_open b s k c (x ∷ (y ∷ (z ∷ r))) e = refl
+
+-- within a packet
+pub within_told : (packets start within : ℕ) (block : List (List ℕ)) (c : Column) (x : Payload) → IsPartsAfter Packet packets within block x → within < 31 → [] ≡ island_gain start c x
+within_told packets start within block c (parts ps t) was lt =
+    sym (ap (λ p. choose p (packet_things (left_at start ps) (length ps) (t ++ c ∷ [])) (left_gain start (left_at start ps) (length ps) c t)) (holds_not (t ++ c ∷ []) (omega (arith, was.1.1, length_push t c)))
+    ∙ left_gain_open start (left_at start ps) (length ps) c t was.1.0)
+
+begins_more : (t : List Column) (c : Column) → 0 < length t → begins_close t ≡ false → begins_close (t ++ c ∷ []) ≡ false
+begins_more [] c lt e = absurd (omega arith)
+begins_more (d ∷ t) c lt e = e
+
+pub within_stands : (packets within : ℕ) (block next : List (List ℕ)) (c : Column) (x : Payload) → IsPartsAfter Packet packets within block x → 0 < within → within < 31
+    → take (within + 1) next ≡ take within block ++ words_of c ∷ [] → IsPartsAfter Packet packets (within + 1) next (after_payload c x)
+within_stands packets within block next c (parts ps t) was pos lt e =
+    not_whole Packet packets (within + 1) next ps (t ++ c ∷ []) (holds_not (t ++ c ∷ []) (omega (arith, was.1.1, length_push t c))) was.0 (
+      begins_more t c (omega (arith, was.1.1)) was.1.0,
+      omega (arith, was.1.1, length_push t c),
+      block_push block next t c within was.1.2 e,
+    )
+
+-- the last column of a packet
+whole_now : (within : ℕ) (t : List Column) (c : Column) → within ≡ length t → within ≡ 31 → begins_close t ≡ false → holds_packet (t ++ c ∷ []) ≡ true
+whole_now within t c e f g = holds_is (t ++ c ∷ []) (begins_more t c (omega arith) g) (omega (arith, length_push t c))
+
+pub whole_told : (packets start within at : ℕ) (block next : List (List ℕ)) (c : Column) (ts : List Thing) (x : Payload) → IsPartsAfter Packet packets within block x → within ≡ 31
+    → take (within + 1) next ≡ take within block ++ words_of c ∷ [] → length next ≡ 32 → at ≡ (start + 2) + 32 * packets
+    → ((p : List Column) → next ≡ map words_of p → ts ≡ packet_things at packets p) → ts ≡ island_gain start c x
+whole_told packets start within at block next c ts (parts ps t) was e f n g told =
+    let words : next ≡ map words_of (t ++ c ∷ []) = sym (take_all (within + 1) next (omega (arith, n, e))) ∙ block_push block next t c within was.1.2 f in
+    let place : at ≡ left_at start ps = omega (arith, was.0) in
+    told (t ++ c ∷ []) words ∙ ap₂ (λ s k. packet_things s k (t ++ c ∷ [])) place was.0
+    ∙ ap (λ p. choose p (packet_things (left_at start ps) (length ps) (t ++ c ∷ [])) (left_gain start (left_at start ps) (length ps) c t)) (sym (whole_now within t c was.1.1 e was.1.0))
+
+pub whole_stands : (packets within : ℕ) (block next : List (List ℕ)) (c : Column) (x : Payload) → IsPartsAfter Packet packets within block x → within ≡ 31
+    → IsPartsAfter Packet (packets + 1) 0 next (after_payload c x)
+whole_stands packets within block next c (parts ps t) was e =
+    subst (λ p. IsPartsAfter Packet (packets + 1) 0 next (settle_by p ps (t ++ c ∷ []))) (sym (whole_now within t c was.1.1 e was.1.0))
+    (omega (arith, was.0, length_push ps (t ++ c ∷ [])), (refl, refl, refl))
+
+-- the closing guard
+pub closing_told : (packets start within at digit : ℕ) (guard : Bool) (block : List (List ℕ)) (c : Column) (ts : List Thing) (x : Payload) → IsPartsAfter (Closing digit guard) packets within block x
+    → at ≡ (start + 2) + 32 * packets
+    → ((g : Column) → digit ≡ sync_digit g.blue → guard ≡ is_island_guard g → ts ≡ closing_things start at packets g c) → ts ≡ island_gain start c x
+closing_told packets start within at digit guard block c ts (parts ps []) was e told = absurd was.1
+closing_told packets start within at digit guard block c ts (parts ps (g ∷ [])) was e told =
+    let place : at ≡ left_at start ps = omega (arith, was.0) in
+    told g was.1.1 was.1.2 ∙ ap₂ (λ s k. closing_things start s k g c) place was.0
+    ∙ ap (λ p. when p (closing_things start (left_at start ps) (length ps) g c)) (sym was.1.0)
+    ∙ ap (λ p. choose p (packet_things (left_at start ps) (length ps) (g ∷ (c ∷ []))) (left_gain start (left_at start ps) (length ps) c (g ∷ []))) (sym (holds_not (g ∷ (c ∷ [])) (omega arith)))
+closing_told packets start within at digit guard block c ts (parts ps (g ∷ (h ∷ t))) was e told = absurd was.1
+
+pub closing_stands : (packets within digit : ℕ) (guard : Bool) (block next : List (List ℕ)) (c : Column) (x : Payload) → IsPartsAfter (Closing digit guard) packets within block x
+    → IsPartsAfter Closed packets within next (after_payload c x)
+closing_stands packets within digit guard block next c (parts ps []) was = absurd was.1
+closing_stands packets within digit guard block next c (parts ps (g ∷ [])) was =
+    not_whole Closed packets within next ps (g ∷ (c ∷ [])) (holds_not (g ∷ (c ∷ [])) (omega arith)) was.0 was.1.0
+closing_stands packets within digit guard block next c (parts ps (g ∷ (h ∷ t))) was = absurd was.1
+
+pub closed_told : (packets start within at : ℕ) (block : List (List ℕ)) (c : Column) (ts : List Thing) (x : Payload) → IsPartsAfter Closed packets within block x
+    → at ≡ (start + 2) + 32 * packets → ts ≡ noise (at + 2) ∷ [] → ts ≡ island_gain start c x
+closed_told packets start within at block c ts (parts ps []) was e told = absurd was.1
+closed_told packets start within at block c ts (parts ps (g ∷ [])) was e told = absurd was.1
+closed_told packets start within at block c ts (parts ps (g ∷ (h ∷ []))) was e told =
+    let place : at ≡ left_at start ps = omega (arith, was.0) in
+    told ∙ ap (λ s. noise (s + 2) ∷ []) place
+    ∙ ap (λ p. when p (noise (left_at start ps + 2) ∷ [])) (sym was.1)
+    ∙ ap (λ p. choose p (packet_things (left_at start ps) (length ps) (g ∷ (h ∷ (c ∷ [])))) (left_gain start (left_at start ps) (length ps) c (g ∷ (h ∷ [])))) (sym (holds_not (g ∷ (h ∷ (c ∷ []))) (omega arith)))
+closed_told packets start within at block c ts (parts ps (g ∷ (h ∷ (i ∷ t)))) was e told = absurd was.1
+
+pub closed_stands : (packets within : ℕ) (block next : List (List ℕ)) (c : Column) (x : Payload) → IsPartsAfter Closed packets within block x → IsPartsAfter Over packets within next (after_payload c x)
+closed_stands packets within block next c (parts ps []) was = absurd was.1
+closed_stands packets within block next c (parts ps (g ∷ [])) was = absurd was.1
+closed_stands packets within block next c (parts ps (g ∷ (h ∷ []))) was =
+    not_whole Over packets within next ps (g ∷ (h ∷ (c ∷ []))) (holds_not (g ∷ (h ∷ (c ∷ []))) (omega arith)) was.0 was.1
+closed_stands packets within block next c (parts ps (g ∷ (h ∷ (i ∷ t)))) was = absurd was.1
+
+pub over_told : (packets start within : ℕ) (block : List (List ℕ)) (c : Column) (x : Payload) → IsPartsAfter Over packets within block x → [] ≡ island_gain start c x
+over_told packets start within block c (parts ps []) was = absurd was.1
+over_told packets start within block c (parts ps (g ∷ [])) was = absurd was.1
+over_told packets start within block c (parts ps (g ∷ (h ∷ []))) was = absurd was.1
+over_told packets start within block c (parts ps (g ∷ (h ∷ (i ∷ t)))) was =
+    ap (λ p. choose p (packet_things (left_at start ps) (length ps) (g ∷ (h ∷ (i ∷ (t ++ c ∷ []))))) []) (sym (holds_never (g ∷ (h ∷ (i ∷ (t ++ c ∷ [])))) was.1))
+
+pub over_stands : (packets within : ℕ) (block next : List (List ℕ)) (c : Column) (x : Payload) → IsPartsAfter Over packets within block x → IsPartsAfter Over packets within next (after_payload c x)
+over_stands packets within block next c (parts ps []) was = absurd was.1
+over_stands packets within block next c (parts ps (g ∷ [])) was = absurd was.1
+over_stands packets within block next c (parts ps (g ∷ (h ∷ []))) was = absurd was.1
+over_stands packets within block next c (parts ps (g ∷ (h ∷ (i ∷ t)))) was =
+    not_whole Over packets within next ps (g ∷ (h ∷ (i ∷ (t ++ c ∷ [])))) (holds_never (g ∷ (h ∷ (i ∷ (t ++ c ∷ [])))) was.1) was.0 was.1
+
+-- the next state, of the columns
+pub after_rest : (next : Island) (rest : List Column) (c : Column) → IsPartsAfter next.left next.packets next.within next.block (after_payload c (payload rest)) → IsIslandAfter next (rest ++ c ∷ [])
+after_rest next rest c h = record { stands = subst (λ (x : Payload). IsPartsAfter next.left next.packets next.within next.block x) (sym (payload_push rest c)) h }
+
+pub first_closing_at : (packets within digit : ℕ) (guard : Bool) (block next : List (List ℕ)) (c : Column) (x : Payload) → within ≡ 0 → IsPartsAfter Packet packets 0 block x
+    → is_closing c ≡ true → digit ≡ sync_digit c.blue → guard ≡ is_island_guard c → IsPartsAfter (Closing digit guard) packets within next (after_payload c x)
+first_closing_at packets within digit guard block next c x z was e f g =
+    subst (λ n. IsPartsAfter (Closing digit guard) packets n next (after_payload c x)) (sym z) (first_closing packets digit guard block next c x was e f g)
+
+-- notes
+pub packet_noted : (l : Lent) (at k : ℕ) (p : List Column) (n0 n1 n2 n3 : List Note) → l.whole.packet ≡ packet_of p → l.whole.verdicts ≡ verdicts_of p → length n0 ≤ 0
+    → n1 ≡ n0 ++ PacketNote at ∷ [] → things l n2 ≡ things l n1 ++ packet_faults at l.whole.verdicts → things l n3 ≡ things l n2 ++ if_so (k == 18) (long_island at)
+    → things l n3 ≡ packet_things at k p
+unfolding packet_things
+packet_noted l at k p n0 n1 n2 n3 e v room f g h =
+    h ∙ ap (λ ts. ts ++ if_so (k == 18) (long_island at)) (g ∙ ap (λ ts. ts ++ packet_faults at l.whole.verdicts) (pushed l (PacketNote at) n0 n1 room f))
+    ∙ ap₂ (λ (q : PacketOf) (w : PacketVerdicts). packet q w at ∷ (packet_faults at w ++ if_so (k == 18) (long_island at))) e v
+
+pub verdicts_noted : (l : Lent) (at count : ℕ) (a b c d h : Verdict) (n0 n1 n2 n3 n4 n5 n6 : List Note)
+    → things l n1 ≡ things l n0 ++ if_so (not (count == 0)) (symbols at count)
+    → things l n2 ≡ things l n1 ++ block_fault at 0 a → things l n3 ≡ things l n2 ++ block_fault at 1 b → things l n4 ≡ things l n3 ++ block_fault at 2 c
+    → things l n5 ≡ things l n4 ++ block_fault at 3 d → things l n6 ≡ things l n5 ++ block_fault at 4 h
+    → things l n6 ≡ things l n0 ++ (if_so (not (count == 0)) (symbols at count) ++ block_faults at 0 (a ∷ (b ∷ (c ∷ (d ∷ (h ∷ []))))))
+verdicts_noted l at count a b c d h n0 n1 n2 n3 n4 n5 n6 e0 e1 e2 e3 e4 e5 =
+    let s = if_so (not (count == 0)) (symbols at count) in
+    let x1 = block_fault at 0 a in
+    let x2 = block_fault at 1 b in
+    let x3 = block_fault at 2 c in
+    let x4 = block_fault at 3 d in
+    let x5 = block_fault at 4 h in
+    let whole : things l n6 ≡ (((((things l n0 ++ s) ++ x1) ++ x2) ++ x3) ++ x4) ++ x5 =
+    e5 ∙ ap (λ ts. ts ++ x5) (e4 ∙ ap (λ ts. ts ++ x4) (e3 ∙ ap (λ ts. ts ++ x3) (e2 ∙ ap (λ ts. ts ++ x2) (e1 ∙ ap (λ ts. ts ++ x1) e0)))) in
+    whole
+    ∙ append_assoc ((((things l n0 ++ s) ++ x1) ++ x2) ++ x3) x4 x5
+    ∙ append_assoc (((things l n0 ++ s) ++ x1) ++ x2) x3 (x4 ++ x5)
+    ∙ append_assoc ((things l n0 ++ s) ++ x1) x2 (x3 ++ (x4 ++ x5))
+    ∙ append_assoc (things l n0 ++ s) x1 (x2 ++ (x3 ++ (x4 ++ x5)))
+    ∙ append_assoc (things l n0) s (x1 ++ (x2 ++ (x3 ++ (x4 ++ x5))))
+    ∙ ap (λ z. things l n0 ++ (s ++ (x1 ++ (x2 ++ (x3 ++ (x4 ++ z)))))) (sym (append-nil x5))
+
+pub five_blocks : (at : ℕ) (vs : List Verdict) → length vs ≡ 5
+    → block_faults at 0 (get_or vs 0 Clean ∷ (get_or vs 1 Clean ∷ (get_or vs 2 Clean ∷ (get_or vs 3 Clean ∷ (get_or vs 4 Clean ∷ []))))) ≡ block_faults at 0 vs
+five_blocks at [] e = absurd (omega arith)
+five_blocks at (a ∷ []) e = absurd (omega arith)
+five_blocks at (a ∷ (b ∷ [])) e = absurd (omega arith)
+five_blocks at (a ∷ (b ∷ (c ∷ []))) e = absurd (omega arith)
+five_blocks at (a ∷ (b ∷ (c ∷ (d ∷ [])))) e = absurd (omega arith)
+five_blocks at (a ∷ (b ∷ (c ∷ (d ∷ (h ∷ []))))) e = refl
+five_blocks at (a ∷ (b ∷ (c ∷ (d ∷ (h ∷ (v ∷ vs)))))) e = absurd (omega arith)
+
+pub close_noted : (l : Lent) (start at k d1 d2 : ℕ) (q1 q2 z : Bool) (c d : Column) (n0 n1 n2 n3 n4 : List Note) → length n0 ≤ 0 → n1 ≡ n0 ++ Close d1 d2 ∷ []
+    → things l n2 ≡ things l n1 ++ if_so (not q1) (guard_at at) → things l n3 ≡ things l n2 ++ if_so (not q2) (guard_at (at + 1)) → things l n4 ≡ things l n3 ++ if_so z (empty start)
+    → d1 ≡ sync_digit c.blue → d2 ≡ sync_digit d.blue → q1 ≡ is_island_guard c → q2 ≡ is_island_guard d → z ≡ (k == 0)
+    → things l n4 ≡ closing_things start at k c d
+unfolding closing_things
+close_noted l start at k d1 d2 q1 q2 z c d n0 n1 n2 n3 n4 room a e f g p1 p2 p3 p4 p5 =
+    g ∙ ap (λ ts. ts ++ if_so z (empty start)) (f ∙ ap (λ ts. ts ++ if_so (not q2) (guard_at (at + 1))) (e ∙ ap (λ ts. ts ++ if_so (not q1) (guard_at at)) (pushed l (Close d1 d2) n0 n1 room a)))
+    ∙ rw (p1, p2, p3, p4, p5) (ap (λ ts. close_island (sync_digit c.blue) (sync_digit d.blue) ∷ ts)
+    (append_assoc (if_so (not (is_island_guard c)) (guard_at at)) (if_so (not (is_island_guard d)) (guard_at (at + 1))) (if_so (k == 0) (empty start))))

@@ -1,0 +1,195 @@
+-- The columns of an island with one column more.
+use Rattle.std.proofs.Common.{◌≡◌, ℕ, suc, zero, ◌+◌, ◌*◌, ◌<◌, ◌≤◌, Bool, true, false, not, ◌&&◌, List, [], ◌∷◌, ◌++◌, length, take, drop, refl, ap, ap₂, sym, ◌∙◌, append_assoc, arith}
+use Rattle.std.specs.Prelude.{nat_le}
+use Rattle.std.proofs.lemmas.List.{append-nil, length_push, length-drop, take_all, take-append-le, drop-append-le, drop_all}
+use Rattle.std.proofs.lemmas.Bool.{leb-true, leb-false, le-leb, lt-leb}
+use Rattle.std.proofs.Math.Bool.{and-false}
+use Rattle.tmds_word.specs.Column.{Column}
+use Rattle.period_grammar.specs.Column.{is_closing}
+use Rattle.period_grammar.specs.Things.{Thing, Told, all_at, noise}
+use Rattle.period_grammar.specs.Island.{Payload, parts, begins_close, holds_packet, with_packet, split_by, split, payload, packet_things, closing_things, in_packets, in_left, left_at, in_island, when}
+use Rattle.period_grammar.specs.After.{left_gain, island_gain, payload_gain, choose, settle_by, settle, after_payload}
+use Rattle.period_grammar.specs.Heard.{Kind, video, island, neither, in_payload}
+
+pub holds_long : (cs : List Column) → holds_packet cs ≡ true → 32 ≤ length cs
+unfolding holds_packet
+holds_long cs e = by (begins_close cs) e
+  where
+    by : (p : Bool) → (not p && nat_le 32 (length cs)) ≡ true → 32 ≤ length cs
+    by true h = cc
+    by false h = leb-true 32 (length cs) h
+
+pub holds_open : (cs : List Column) → holds_packet cs ≡ true → begins_close cs ≡ false
+unfolding holds_packet
+holds_open cs e = by (begins_close cs) e
+  where
+    by : (p : Bool) → (not p && nat_le 32 (length cs)) ≡ true → p ≡ false
+    by true h = cc
+    by false h = refl
+
+-- columns that hold no packet and do not begin with a closing column are few
+pub few_left : (cs : List Column) → holds_packet cs ≡ false → begins_close cs ≡ false → length cs < 32
+unfolding holds_packet
+few_left cs e f =
+    let g : nat_le 32 (length cs) ≡ false = ap (λ p. not p && nat_le 32 (length cs)) (sym f) ∙ e in
+    leb-false 32 (length cs) g
+
+pub holds_is : (cs : List Column) → begins_close cs ≡ false → 32 ≤ length cs → holds_packet cs ≡ true
+unfolding holds_packet
+holds_is cs e le = ap (λ p. not p && nat_le 32 (length cs)) e ∙ le-leb 32 (length cs) le
+
+pub holds_not : (cs : List Column) → length cs < 32 → holds_packet cs ≡ false
+unfolding holds_packet
+holds_not cs lt = ap (λ p. not (begins_close cs) && p) (lt-leb 32 (length cs) lt) ∙ and-false (not (begins_close cs))
+
+pub holds_never : (cs : List Column) → begins_close cs ≡ true → holds_packet cs ≡ false
+unfolding holds_packet
+holds_never cs e = ap (λ p. not p && nat_le 32 (length cs)) e
+
+begins_push : (cs : List Column) (c : Column) → 0 < length cs → begins_close (cs ++ c ∷ []) ≡ begins_close cs
+begins_push [] c lt = absurd (omega arith)
+begins_push (d ∷ cs) c lt = refl
+
+pub split_none : (n : ℕ) (cs : List Column) → holds_packet cs ≡ false → split n cs ≡ parts [] cs
+unfolding split
+split_none zero cs e = refl
+split_none (suc n) cs e = ap (λ p. split_by p cs (split n (drop 32 cs))) e
+
+pub split_one : (n : ℕ) (cs : List Column) → holds_packet cs ≡ true → split (suc n) cs ≡ with_packet (take 32 cs) (split n (drop 32 cs))
+unfolding split
+split_one n cs e = ap (λ p. split_by p cs (split n (drop 32 cs))) e
+
+commute : (p : Bool) (q : List Column) (ps : List (List Column)) (t : List Column) → with_packet q (settle_by p ps t) ≡ settle_by p (q ∷ ps) t
+commute true q ps t = refl
+commute false q ps t = refl
+
+with_after : (c : Column) (q : List Column) (x : Payload) → with_packet q (after_payload c x) ≡ after_payload c (with_packet q x)
+with_after c q (parts ps t) = commute (holds_packet (t ++ c ∷ [])) q ps (t ++ c ∷ [])
+
+whole : (cs : List Column) (c : Column) → holds_packet cs ≡ false → holds_packet (cs ++ c ∷ []) ≡ true → length (cs ++ c ∷ []) ≡ 32
+whole [] c e f = absurd (omega (arith, holds_long (c ∷ []) f))
+whole (d ∷ cs) c e f =
+    let few = few_left (d ∷ cs) e (holds_open ((d ∷ cs) ++ c ∷ []) f) in
+    omega (arith, length_push (d ∷ cs) c, holds_long ((d ∷ cs) ++ c ∷ []) f)
+
+-- the last step: what was left holds no packet
+last_step : (p : Bool) (m : ℕ) (cs : List Column) (c : Column) → holds_packet cs ≡ false → holds_packet (cs ++ c ∷ []) ≡ p → split (suc m) (cs ++ c ∷ []) ≡ settle [] (cs ++ c ∷ [])
+last_step true m cs c e f =
+    let t = cs ++ c ∷ [] in
+    let long = whole cs c e f in
+    split_one m t f ∙ ap₂ (λ a b. with_packet a (split m b)) (take_all 32 t (omega arith)) (drop_all 32 t (omega arith))
+    ∙ ap (with_packet t) (split_none m [] (holds_not [] (omega arith))) ∙ ap (λ p. settle_by p [] t) (sym f)
+last_step false m cs c e f = split_none (suc m) (cs ++ c ∷ []) f ∙ ap (λ p. settle_by p [] (cs ++ c ∷ [])) (sym f)
+
+split_step : (p : Bool) (n m : ℕ) (cs : List Column) (c : Column) → holds_packet cs ≡ p
+    → (32 ≤ length cs → split m (drop 32 cs ++ c ∷ []) ≡ after_payload c (split n (drop 32 cs)))
+    → split (suc m) (cs ++ c ∷ []) ≡ after_payload c (split (suc n) cs)
+split_step false n m cs c e more = last_step (holds_packet (cs ++ c ∷ [])) m cs c e refl ∙ ap (after_payload c) (sym (split_none (suc n) cs e))
+split_step true n m cs c e more =
+    let long = holds_long cs e in
+    let still : holds_packet (cs ++ c ∷ []) ≡ true = holds_is (cs ++ c ∷ []) (begins_push cs c (omega arith) ∙ holds_open cs e) (omega (arith, length_push cs c)) in
+    split_one m (cs ++ c ∷ []) still
+    ∙ ap₂ (λ a b. with_packet a (split m b)) (take-append-le 32 cs (c ∷ []) long) (drop-append-le 32 cs (c ∷ []) long)
+    ∙ ap (with_packet (take 32 cs)) (more long)
+    ∙ with_after c (take 32 cs) (split n (drop 32 cs))
+    ∙ ap (after_payload c) (sym (split_one n cs e))
+
+pub split_push : (n m : ℕ) (cs : List Column) (c : Column) → length cs ≤ n → n < m → split m (cs ++ c ∷ []) ≡ after_payload c (split n cs)
+split_push n zero cs c le lt = absurd (omega arith)
+split_push zero (suc m) cs c le lt =
+    let none : holds_packet cs ≡ false = holds_not cs (omega arith) in
+    last_step (holds_packet (cs ++ c ∷ [])) m cs c none refl ∙ ap (after_payload c) (sym (split_none zero cs none))
+split_push (suc n) (suc m) cs c le lt =
+    split_step (holds_packet cs) n m cs c refl (λ long. split_push n m (drop 32 cs) c (omega (arith, length-drop 32 cs)) (omega arith))
+
+pub payload_push : (cs : List Column) (c : Column) → payload (cs ++ c ∷ []) ≡ after_payload c (payload cs)
+payload_push cs c = split_push (length cs) (length (cs ++ c ∷ [])) cs c (omega arith) (omega (arith, length_push cs c))
+
+-- What is left holds no packet, and no column is lost.
+abbrev pub Sound : List Column → Payload → Type 0
+Sound cs (parts ps t) = (holds_packet t ≡ false) × (32 * length ps + length t ≡ length cs)
+
+with_sound : (cs : List Column) (x : Payload) → 32 ≤ length cs → Sound (drop 32 cs) x → Sound cs (with_packet (take 32 cs) x)
+with_sound cs (parts ps t) le h = (h.0, omega (arith, h.1, length-drop 32 cs))
+
+by_sound : (p : Bool) (cs : List Column) (x : Payload) → holds_packet cs ≡ p → (32 ≤ length cs → Sound (drop 32 cs) x) → Sound cs (split_by p cs x)
+by_sound true cs x e h = with_sound cs x (holds_long cs e) (h (holds_long cs e))
+by_sound false cs x e h = (e, omega arith)
+
+pub split_sound : (n : ℕ) (cs : List Column) → length cs ≤ n → Sound cs (split n cs)
+unfolding split
+split_sound zero cs le = (holds_not cs (omega arith), omega arith)
+split_sound (suc n) cs le = by_sound (holds_packet cs) cs (split n (drop 32 cs)) refl (λ long. split_sound n (drop 32 cs) (omega (arith, length-drop 32 cs)))
+
+pub payload_sound : (cs : List Column) → Sound cs (payload cs)
+payload_sound cs = split_sound (length cs) cs (omega arith)
+
+-- What is told.
+
+when_at : (p : Bool) (n : ℕ) (ts : List Thing) → when p (all_at n ts) ≡ all_at n (when p ts)
+when_at true n ts = refl
+when_at false n ts = refl
+
+when_two : (p : Bool) (n : ℕ) (us : List Told) (ts : List Thing) → when p (us ++ all_at n ts) ≡ when p us ++ all_at n (when p ts)
+when_two true n us ts = refl
+when_two false n us ts = refl
+
+in_left_push : (b s k : ℕ) (t : List Column) (c : Column) → in_left b s k (t ++ c ∷ []) ≡ in_left b s k t ++ all_at (s + length t) (left_gain b s k c t)
+in_left_push b s k [] c = refl
+in_left_push b s k (x ∷ []) c = when_at (is_closing x) (s + 1) (closing_things b s k x c)
+in_left_push b s k (x ∷ (y ∷ [])) c = when_two (is_closing x) (s + 2) (all_at (s + 1) (closing_things b s k x y)) (noise (s + 2) ∷ [])
+in_left_push b s k (x ∷ (y ∷ (z ∷ r))) c = sym (append-nil (in_left b s k (x ∷ (y ∷ (z ∷ r)))))
+
+in_left_open : (b s k : ℕ) (t : List Column) → begins_close t ≡ false → in_left b s k t ≡ []
+in_left_open b s k [] e = refl
+in_left_open b s k (x ∷ []) e = refl
+in_left_open b s k (x ∷ (y ∷ [])) e = ap (λ p. when p (all_at (s + 1) (closing_things b s k x y))) e
+in_left_open b s k (x ∷ (y ∷ (z ∷ r))) e = ap (λ p. when p (all_at (s + 1) (closing_things b s k x y) ++ all_at (s + 2) (noise (s + 2) ∷ []))) e
+
+in_packets_push : (s k u m : ℕ) (ps : List (List Column)) (p : List Column) → u ≡ s + 32 * length ps → m ≡ k + length ps
+    → in_packets s k (ps ++ p ∷ []) ≡ in_packets s k ps ++ all_at (u + 31) (packet_things u m p)
+in_packets_push s k u m [] p e f =
+    let a : s ≡ u = omega arith in
+    let b : k ≡ m = omega arith in
+    append-nil (all_at (s + 31) (packet_things s k p)) ∙ ap₂ (λ x y. all_at (x + 31) (packet_things x y p)) a b
+in_packets_push s k u m (q ∷ ps) p e f =
+    let a : u ≡ (s + 32) + 32 * length ps = omega arith in
+    let b : m ≡ (k + 1) + length ps = omega arith in
+    ap (λ ts. all_at (s + 31) (packet_things s k q) ++ ts) (in_packets_push (s + 32) (k + 1) u m ps p a b)
+    ∙ sym (append_assoc (all_at (s + 31) (packet_things s k q)) (in_packets (s + 32) (k + 1) ps) (all_at (u + 31) (packet_things u m p)))
+
+open_before : (t : List Column) (c : Column) → holds_packet (t ++ c ∷ []) ≡ true → begins_close t ≡ false
+open_before [] c e = refl
+open_before (d ∷ t) c e = holds_open ((d ∷ t) ++ c ∷ []) e
+
+island_step : (p : Bool) (b n : ℕ) (c : Column) (ps : List (List Column)) (t : List Column) → holds_packet t ≡ false → n ≡ left_at b ps + length t → holds_packet (t ++ c ∷ []) ≡ p
+    → in_island b (settle_by p ps (t ++ c ∷ [])) ≡ in_island b (parts ps t) ++ all_at n (choose p (packet_things (left_at b ps) (length ps) (t ++ c ∷ [])) (left_gain b (left_at b ps) (length ps) c t))
+unfolding in_island
+island_step true b n c ps t h e f =
+    let long = whole t c h f in
+    let place : left_at b ps + 31 ≡ n = omega (arith, length_push t c) in
+    let things = packet_things (left_at b ps) (length ps) (t ++ c ∷ []) in
+    append-nil (in_packets (b + 2) 0 (ps ++ (t ++ c ∷ []) ∷ []))
+    ∙ in_packets_push (b + 2) 0 (left_at b ps) (length ps) ps (t ++ c ∷ []) (omega arith) (omega arith)
+    ∙ ap (λ m. in_packets (b + 2) 0 ps ++ all_at m things) place
+    ∙ ap (λ ts. ts ++ all_at n things) (sym (append-nil (in_packets (b + 2) 0 ps)) ∙ ap (λ ts. in_packets (b + 2) 0 ps ++ ts) (sym (in_left_open b (left_at b ps) (length ps) t (open_before t c f))))
+island_step false b n c ps t h e f =
+    ap (λ ts. in_packets (b + 2) 0 ps ++ ts) (in_left_push b (left_at b ps) (length ps) t c)
+    ∙ sym (append_assoc (in_packets (b + 2) 0 ps) (in_left b (left_at b ps) (length ps) t) (all_at (left_at b ps + length t) (left_gain b (left_at b ps) (length ps) c t)))
+    ∙ ap (λ m. (in_packets (b + 2) 0 ps ++ in_left b (left_at b ps) (length ps) t) ++ all_at m (left_gain b (left_at b ps) (length ps) c t)) (sym e)
+
+island_push : (b n : ℕ) (c : Column) (cs : List Column) (x : Payload) → Sound cs x → n ≡ (b + 2) + length cs
+    → in_island b (after_payload c x) ≡ in_island b x ++ all_at n (island_gain b c x)
+island_push b n c cs (parts ps t) h e = island_step (holds_packet (t ++ c ∷ [])) b n c ps t h.0 (omega (arith, h.1)) refl
+
+pub in_payload_push : (b n : ℕ) (k : Kind) (c : Column) (rest : List Column) → n ≡ (b + 2) + length rest
+    → in_payload b k (rest ++ c ∷ []) ≡ in_payload b k rest ++ all_at n (payload_gain b k c rest)
+in_payload_push b n video c rest e = refl
+in_payload_push b n island c rest e = ap (in_island b) (payload_push rest c) ∙ island_push b n c rest (payload rest) (payload_sound rest) e
+in_payload_push b n neither c rest e = refl
+
+pub in_payload_none : (b : ℕ) (k : Kind) → in_payload b k [] ≡ []
+unfolding split in_island
+in_payload_none b video = refl
+in_payload_none b island = refl
+in_payload_none b neither = refl

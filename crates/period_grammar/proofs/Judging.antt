@@ -1,0 +1,51 @@
+-- A word after words that were judged.
+use Rattle.std.proofs.Common.{◌≡◌, ℕ, ◌+◌, Bool, true, false, cond, List, [], ◌∷◌, ◌++◌, length, refl, ap₂, sym, ◌∙◌, arith}
+use Rattle.std.specs.Prelude.{Option, Some, None, ℤ, pos, ◌+ℤ◌, ◌↔◌, IsTrue}
+use Rattle.std.proofs.Math.IntN.{+ℤ_assoc, +ℤ_idl, +ℤ_idr}
+use Rattle.std.proofs.lemmas.Bool.{eqb-true, eq-eqb}
+use Rattle.tmds_word.specs.Bits.{word_bits, balance}
+use Rattle.tmds_code.specs.Coding.{Coded, decoded_byte}
+use Rattle.tmds_code.specs.Lanes.{disparity_of}
+use Rattle.tmds_code.specs.Pasts.{IsJudgeAfter}
+use Rattle.period_grammar.specs.Coding.{is_coded, first_from}
+use Rattle.period_grammar.specs.Judged.{first_next, IsLaneAfter}
+use Rattle.period_grammar.specs.declared.lane.Lane.{Lane}
+
+at_first : (p : Bool) (n : ℕ) → cond p None (Some n) ≡ first_next None p n
+at_first true n = refl
+at_first false n = refl
+
+later : (p : Bool) (n : ℕ) (a b : Option ℕ) (q : Bool) (m : ℕ) → a ≡ first_next b q m → cond p a (Some n) ≡ first_next (cond p b (Some n)) q m
+later true n a b q m e = e
+later false n a b q m e = refl
+
+first_push : (total : ℤ) (n : ℕ) (ws : List ℕ) (w : ℕ) (t : ℤ) (m : ℕ) → t ≡ total +ℤ disparity_of ws → m ≡ n + length ws
+    → first_from total n (ws ++ w ∷ []) ≡ first_next (first_from total n ws) (is_coded t w) m
+unfolding disparity_of
+first_push total n [] w t m e f =
+    let a : total ≡ t = sym (e ∙ +ℤ_idr total) in
+    let b : n ≡ m = omega arith in
+    ap₂ (λ x y. cond (is_coded x w) None (Some y)) a b ∙ at_first (is_coded t w) m
+first_push total n (v ∷ ws) w t m e f =
+    let a : t ≡ (total +ℤ balance (word_bits v)) +ℤ disparity_of ws = e ∙ sym (+ℤ_assoc total (balance (word_bits v)) (disparity_of ws)) in
+    let b : m ≡ (n + 1) + length ws = omega arith in
+    later (is_coded total v) n (first_from (total +ℤ balance (word_bits v)) (n + 1) (ws ++ w ∷ [])) (first_from (total +ℤ balance (word_bits v)) (n + 1) ws) (is_coded t w) m
+    (first_push (total +ℤ balance (word_bits v)) (n + 1) ws w t m a b)
+
+same_test : (p q : Bool) → (p ≡ true → q ≡ true) → (q ≡ true → p ≡ true) → p ≡ q
+same_test true q f g = sym (f refl)
+same_test false true f g = g refl
+same_test false false f g = refl
+
+-- a test that says whether a word is rightly coded
+pub coded_test : (p : Bool) (disparity : ℤ) (w : ℕ) → (IsTrue p ↔ Coded disparity (decoded_byte w) w) → p ≡ is_coded disparity w
+unfolding is_coded
+coded_test p disparity w h = same_test p _ (λ e. eq-eqb w _ (h.0 e)) (λ e. h.1 (eqb-true w _ e))
+
+pub lane_push : (old new : Lane) (w : ℕ) (ws : List ℕ) (right : Bool) → old.count ≡ old.judge.count → IsLaneAfter old ws → IsJudgeAfter new.judge (ws ++ w ∷ [])
+    → right ≡ is_coded old.judge.disparity w → new.first ≡ first_next old.first right old.count → IsLaneAfter new (ws ++ w ∷ [])
+lane_push old new w ws right same was judge e f = record {
+  judge = judge;
+  first = f ∙ ap₂ (λ o p. first_next o p old.count) was.first e
+      ∙ sym (first_push (pos 0) 0 ws w old.judge.disparity old.count (was.judge.disparity ∙ sym (+ℤ_idl (disparity_of ws))) (omega (arith, same, was.judge.count)));
+}

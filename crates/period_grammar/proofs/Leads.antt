@@ -1,0 +1,142 @@
+-- The numbers kept of control columns, with one column more.
+use Rattle.std.proofs.Common.{◌≡◌, ◌≢◌, ℕ, suc, zero, ◌+◌, ◌≤◌, Bool, true, false, cond, ◌==◌, ◌&&◌, List, [], ◌∷◌, ◌++◌, length, take, reverse, refl, ap, ap₂, sym, ◌∙◌, arith}
+use Rattle.std.specs.Prelude.{nat_le}
+use Rattle.std.specs.List.{list_all, prefix_len}
+use Rattle.std.proofs.lemmas.List.{length_push, reverse-append, length-reverse}
+use Rattle.std.proofs.lemmas.Bool.{eqb-true, eq-eqb, ne_eqb}
+use Rattle.std.proofs.Math.Bool.{and-false}
+use Rattle.std.proofs.Math.Dec.{leb-zero, leb-suc-zero, leb-suc-suc}
+use Rattle.tmds_word.specs.Column.{Column}
+use Rattle.period_grammar.specs.Column.{value_of, ctl}
+use Rattle.period_grammar.specs.Things.{run}
+use Rattle.period_grammar.specs.Cut.{Run, columns, runs}
+use Rattle.period_grammar.specs.Heard.{last_run, unless, has_preamble}
+use Rattle.period_grammar.specs.After.{change}
+use Rattle.period_grammar.specs.ControlAfter.{kept_run, leads, IsControlAfter}
+use Rattle.period_grammar.specs.Noted.{things, Lent}
+use Rattle.period_grammar.specs.declared.notes.Note.{Note}
+use Rattle.period_grammar.specs.declared.control.Kept.{Kept}
+use Rattle.period_grammar.proofs.Push.{trail, after_runs, runs_push}
+use Rattle.period_grammar.proofs.Step.{is_some, after_runs_some}
+
+-- the first k elements pass: what the number of leading ones says
+step_true : (k n m : ℕ) (b : Bool) → (nat_le k n && b) ≡ nat_le k m → (nat_le (suc k) (suc n) && b) ≡ nat_le (suc k) (1 + m)
+step_true k n m b e =
+    let one : 1 + m ≡ suc m = omega arith in
+    ap (λ p. p && b) (leb-suc-suc k n) ∙ e ∙ sym (leb-suc-suc k m) ∙ ap (nat_le (suc k)) (sym one)
+
+by_first : (q : Bool) (k n m : ℕ) (b : Bool) → (nat_le k n && b) ≡ nat_le k m → (nat_le (suc k) (suc n) && (q && b)) ≡ nat_le (suc k) (cond q (1 + m) 0)
+by_first true k n m b e = step_true k n m b e
+by_first false k n m b e = and-false (nat_le (suc k) (suc n)) ∙ sym (leb-suc-zero k)
+
+first_pass : (k : ℕ) (p : Column → Bool) (xs : List Column) → (nat_le k (length xs) && list_all p (take k xs)) ≡ nat_le k (prefix_len p xs)
+first_pass zero p xs = ap (λ q. q && true) (leb-zero (length xs)) ∙ sym (leb-zero (prefix_len p xs))
+first_pass (suc k) p [] = ap (λ q. q && true) (leb-suc-zero k) ∙ sym (leb-suc-zero k)
+first_pass (suc k) p (x ∷ xs) = by_first (p x) k (length xs) (prefix_len p xs) (list_all p (take k xs)) (first_pass k p xs)
+
+preamble_by : (bits lead : ℕ) (control : List Column) → lead ≡ prefix_len (leads bits) (reverse control) → has_preamble bits control ≡ nat_le 8 lead
+unfolding has_preamble
+preamble_by bits lead control was =
+    ap (λ n. nat_le 8 n && list_all (leads bits) (take 8 (reverse control))) (sym (length-reverse control))
+    ∙ first_pass 8 (leads bits) (reverse control) ∙ ap (nat_le 8) (sym was)
+
+pub preamble_is : (kept : Kept) (control : List Column) → IsControlAfter kept control → has_preamble 1 control ≡ nat_le 8 kept.lead
+preamble_is kept control was = preamble_by 1 kept.lead control was.lead
+
+pub island_preamble_is : (kept : Kept) (control : List Column) → IsControlAfter kept control → has_preamble 5 control ≡ nat_le 8 kept.island_lead
+island_preamble_is kept control was = preamble_by 5 kept.island_lead control was.island_lead
+
+-- the last run
+abbrev pub grow : Bool → ℕ → ℕ
+grow true n = n + 1
+grow false n = 1
+
+last_run_more : (r : Run) (rs : List Run) → is_some rs ≡ true → last_run (r ∷ rs) ≡ last_run rs
+last_run_more r [] e = cc
+last_run_more (columns v cs) (s ∷ rs) e = refl
+
+at_last : (p : Bool) (c : Column) (w : ℕ) (cs : List Column) (n : ℕ) → ((w == value_of c) ≡ p) → length cs ≡ n → last_run (trail p c w cs) ≡ run (value_of c) (grow p n) ∷ []
+at_last true c w cs n e f = ap₂ (λ v m. run v m ∷ []) (eqb-true w (value_of c) e) (length_push cs c ∙ ap (λ m. m + 1) f)
+at_last false c w cs n e f = refl
+
+same_run : (w m v n : ℕ) → run w m ∷ [] ≡ kept_run v n → (w ≡ v) × (m ≡ n)
+same_run w m v zero e = cc
+same_run w m v (suc n) e = (cc, cc)
+
+run_after : (c : Column) (rs : List Run) (v n : ℕ) → last_run rs ≡ kept_run v n → last_run (after_runs c rs) ≡ run (value_of c) (grow (v == value_of c) n) ∷ []
+run_after c [] v n e = none v n (v == value_of c) e
+  where
+    none : (v n : ℕ) (p : Bool) → [] ≡ kept_run v n → run (value_of c) 1 ∷ [] ≡ run (value_of c) (grow p n) ∷ []
+    none v zero true h = refl
+    none v zero false h = refl
+    none v (suc n) p h = cc
+run_after c (columns w cs ∷ []) v n e =
+    let same = same_run w (length cs) v n e in
+    at_last (w == value_of c) c w cs n refl same.1 ∙ ap (λ u. run (value_of c) (grow (u == value_of c) n) ∷ []) same.0
+run_after c (r ∷ (s ∷ rs)) v n e =
+    last_run_more r (after_runs c (s ∷ rs)) (after_runs_some c (s ∷ rs)) ∙ run_after c (s ∷ rs) v n (sym (last_run_more r (s ∷ rs) refl) ∙ e)
+
+pub change_is : (u : ℕ) (rs : List Run) (v n : ℕ) → last_run rs ≡ kept_run v n → change u rs ≡ cond (v == u) [] (kept_run v n)
+change_is u [] v n e = none (v == u) v n e
+  where
+    none : (p : Bool) (v n : ℕ) → [] ≡ kept_run v n → [] ≡ cond p [] (kept_run v n)
+    none true v n h = refl
+    none false v n h = h
+change_is u (columns w cs ∷ []) v n e =
+    let same = same_run w (length cs) v n e in
+    by (w == u) ∙ ap (λ x. cond (x == u) [] (run w (length cs) ∷ [])) same.0 ∙ ap (λ ts. cond (v == u) [] ts) e
+  where
+    by : (p : Bool) → unless p (run w (length cs)) ≡ cond p [] (run w (length cs) ∷ [])
+    by true = refl
+    by false = refl
+change_is u (r ∷ (s ∷ rs)) v n e = change_is u (s ∷ rs) v n (sym (last_run_more r (s ∷ rs) refl) ∙ e)
+
+kept_some : (v n : ℕ) (p : Bool) → kept_run v (grow p n) ≡ run v (grow p n) ∷ []
+kept_some v n true = let e : n + 1 ≡ suc n = omega arith in ap (kept_run v) e ∙ ap (λ m. run v m ∷ []) (sym e)
+kept_some v n false = refl
+
+pub kept_push : (old new : Kept) (control : List Column) (c : Column) → IsControlAfter old control → new.columns ≡ old.columns + 1 → new.value ≡ value_of c
+    → new.run ≡ grow (old.value == value_of c) old.run → new.lead ≡ cond (leads 1 c) (1 + old.lead) 0 → new.island_lead ≡ cond (leads 5 c) (1 + old.island_lead) 0 → IsControlAfter new (control ++ c ∷ [])
+kept_push old new control c was n v r l i = record {
+  columns = n ∙ ap (λ x. x + 1) was.columns ∙ sym (length_push control c);
+  run =
+      ap last_run (runs_push control c) ∙ run_after c (runs control) old.value old.run was.run
+      ∙ sym (kept_some (value_of c) old.run (old.value == value_of c)) ∙ ap₂ kept_run (sym v) (sym r);
+  lead = l ∙ ap (λ m. cond (leads 1 c) (1 + m) 0) was.lead ∙ ap (prefix_len (leads 1)) (sym (reverse-append control (c ∷ [])));
+  island_lead = i ∙ ap (λ m. cond (leads 5 c) (1 + m) 0) was.island_lead ∙ ap (prefix_len (leads 5)) (sym (reverse-append control (c ∷ [])));
+}
+
+pub none_kept : (kept : Kept) (control : List Column) → IsControlAfter kept control → kept.run ≡ 0 → [] ≡ last_run (runs control)
+none_kept kept control was none = sym (was.run ∙ ap (kept_run kept.value) none)
+
+some_run : (v n : ℕ) → n ≢ 0 → run v n ∷ [] ≡ kept_run v n
+some_run v zero some = absurd (some refl)
+some_run v (suc n) some = refl
+
+pub some_kept : (kept : Kept) (control : List Column) → IsControlAfter kept control → kept.run ≢ 0 → run kept.value kept.run ∷ [] ≡ last_run (runs control)
+some_kept kept control was some = some_run kept.value kept.run some ∙ sym was.run
+
+pub no_change : (kept : Kept) (control : List Column) (v : ℕ) → IsControlAfter kept control → kept.value ≡ v → [] ≡ change v (runs control)
+no_change kept control v was same = sym (change_is v (runs control) kept.value kept.run was.run ∙ ap (λ p. cond p [] (kept_run kept.value kept.run)) (eq-eqb kept.value v same))
+
+pub some_change : (kept : Kept) (control : List Column) (v : ℕ) → IsControlAfter kept control → kept.value ≢ v → last_run (runs control) ≡ change v (runs control)
+some_change kept control v was differ = was.run ∙ sym (change_is v (runs control) kept.value kept.run was.run ∙ ap (λ p. cond p [] (kept_run kept.value kept.run)) (ne_eqb kept.value v differ))
+
+pub no_notes : (bytes : Lent) (ns : List Note) → length ns ≤ 0 → things bytes ns ≡ []
+no_notes bytes [] le = refl
+no_notes bytes (n ∷ ns) le = absurd (omega arith)
+
+-- what the code's tests say
+pub run_on : (v u w n m : ℕ) → v ≡ u → u ≡ w → m ≡ n + 1 → m ≡ grow (v == w) n
+run_on v u w n m e f g = g ∙ ap (λ p. grow p n) (sym (eq-eqb v w (e ∙ f)))
+
+pub run_anew : (v u w n m : ℕ) → v ≢ u → u ≡ w → m ≡ 1 → m ≡ grow (v == w) n
+run_anew v u w n m e f g = g ∙ ap (λ p. grow p n) (sym (ne_eqb v w (λ h. e (h ∙ sym f))))
+
+pub lead_on : (bits : ℕ) (c : Column) (u t n m : ℕ) → u ≡ value_of c → t ≡ ctl u → t ≡ bits → m ≡ n + 1 → m ≡ cond (leads bits c) (1 + n) 0
+lead_on bits c u t n m e f g h =
+    let one : m ≡ 1 + n = omega arith in
+    one ∙ ap (λ p. cond p (1 + n) 0) (sym (eq-eqb (ctl (value_of c)) bits (sym (ap ctl e) ∙ sym f ∙ g)))
+
+pub lead_anew : (bits : ℕ) (c : Column) (u t n m : ℕ) → u ≡ value_of c → t ≡ ctl u → t ≢ bits → m ≡ 0 → m ≡ cond (leads bits c) (1 + n) 0
+lead_anew bits c u t n m e f g h = h ∙ ap (λ p. cond p (1 + n) 0) (sym (ne_eqb (ctl (value_of c)) bits (λ k. g (f ∙ ap ctl e ∙ k))))

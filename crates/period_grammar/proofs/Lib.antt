@@ -1,0 +1,13 @@
+pub mod Islands
+pub mod Push
+pub mod Step
+pub mod Judging
+pub mod Lined
+pub mod Leads
+pub mod Phases
+pub mod Blocks
+pub mod Hearings
+pub mod Noting
+pub mod Joined
+pub mod Taking
+pub mod Sizes

@@ -1,0 +1,103 @@
+-- A line with one pixel more, and what it tells.
+use Rattle.std.proofs.Common.{◌≡◌, ℕ, ◌+◌, ◌<◌, ◌≤◌, List, [], ◌∷◌, ◌++◌, length, map, take, refl, ap, sym, ◌∙◌, arith, append_assoc, subst}
+use Rattle.std.specs.Prelude.{nat_le}
+use Rattle.std.proofs.lemmas.List.{length_push, take_all, take-append-le, append-nil, map_push, map-append}
+use Rattle.std.proofs.lemmas.Bool.{lt-leb, le-leb}
+use Rattle.tmds_word.specs.Column.{Column}
+use Rattle.period_grammar.specs.Things.{Thing, line, long_line}
+use Rattle.period_grammar.specs.Heard.{line_bytes, pixel, line_of, codes_of, code_fault, unless}
+use Rattle.period_grammar.specs.Noted.{things, noted, Lent, lent}
+use Rattle.period_grammar.specs.declared.notes.Note.{Note}
+use Rattle.period_grammar.specs.declared.island.Whole.{Whole}
+use Rattle.period_grammar.specs.declared.notes.Note.TheVariants.{Line, LongLine, Empty}
+use Rattle.period_grammar.specs.Judged.{IsLaneAfter}
+use Rattle.period_grammar.specs.declared.lane.Lane.{Lane}
+use Rattle.period_grammar.specs.LineSeen.{LineSeen}
+use Rattle.period_grammar.specs.Lines.{IsLineAfter}
+
+abbrev pub lined : LineSeen → ℕ → List Thing
+lined l start =
+    line l.bytes ∷ ((code_fault 0 (start + 2) l.blue.first ++ (code_fault 1 (start + 2) l.green.first ++ code_fault 2 (start + 2) l.red.first)) ++ unless (nat_le l.count 4096) (long_line start))
+
+pub line_is : (l : LineSeen) (start : ℕ) (pixels : List Column) → IsLineAfter l pixels → 0 < l.count → line_of start pixels ≡ lined l start
+unfolding line_of codes_of
+line_is l start [] was pos = absurd (omega (arith, was.count))
+line_is l start (c ∷ cs) was pos = rw (was.bytes, was.blue.first, was.green.first, was.red.first, was.count) refl
+
+line_bytes_push : (cs : List Column) (c : Column) → line_bytes (cs ++ c ∷ []) ≡ line_bytes cs ++ pixel c
+unfolding line_bytes
+line_bytes_push [] c = refl
+line_bytes_push (d ∷ cs) c = ap (λ xs. pixel d ++ xs) (line_bytes_push cs c)
+
+within : (cs : List Column) (c : Column) → length cs < 4096 → take 4096 (cs ++ c ∷ []) ≡ take 4096 cs ++ c ∷ []
+within cs c lt =
+    take_all 4096 (cs ++ c ∷ []) (omega (arith, length_push cs c)) ∙ ap (λ xs. xs ++ c ∷ []) (sym (take_all 4096 cs (omega arith)))
+
+judge_more : (f : Column → ℕ) (cs : List Column) (c : Column) (word : ℕ) (j : Lane)
+    → length cs < 4096 → word ≡ f c → IsLaneAfter j (map f (take 4096 cs) ++ word ∷ []) → IsLaneAfter j (map f (take 4096 (cs ++ c ∷ [])))
+judge_more f cs c word j lt e was =
+    subst (λ ws. IsLaneAfter j ws) (ap (λ w. map f (take 4096 cs) ++ w ∷ []) e ∙ sym (map_push f (take 4096 cs) c) ∙ ap (map f) (sym (within cs c lt))) was
+
+-- past the room
+pub line_past : (old new : LineSeen) (cs : List Column) (c : Column) → IsLineAfter old cs → 4096 ≤ old.count → new.count ≡ old.count + 1
+    → new.bytes ≡ old.bytes → new.blue ≡ old.blue → new.green ≡ old.green → new.red ≡ old.red → IsLineAfter new (cs ++ c ∷ [])
+line_past old new cs c was ge n e b g r =
+    let same : take 4096 (cs ++ c ∷ []) ≡ take 4096 cs = take-append-le 4096 cs (c ∷ []) (omega (arith, was.count)) in
+    record {
+      count = n ∙ ap (λ x. x + 1) was.count ∙ sym (length_push cs c);
+      bytes = e ∙ was.bytes ∙ ap line_bytes (sym same);
+      blue = rw (b, same) was.blue;
+      green = rw (g, same) was.green;
+      red = rw (r, same) was.red;
+    }
+
+pub line_push : (old new : LineSeen) (cs : List Column) (c : Column) → IsLineAfter old cs → old.count < 4096 → new.count ≡ old.count + 1
+    → new.bytes ≡ old.bytes ++ pixel c
+    → ((ws : List ℕ) → IsLaneAfter old.blue ws → IsLaneAfter new.blue (ws ++ c.blue ∷ []))
+    → ((ws : List ℕ) → IsLaneAfter old.green ws → IsLaneAfter new.green (ws ++ c.green ∷ []))
+    → ((ws : List ℕ) → IsLaneAfter old.red ws → IsLaneAfter new.red (ws ++ c.red ∷ []))
+    → IsLineAfter new (cs ++ c ∷ [])
+line_push old new cs c was lt n e b g r =
+    let few : length cs < 4096 = omega (arith, was.count) in
+    record {
+      count = n ∙ ap (λ x. x + 1) was.count ∙ sym (length_push cs c);
+      bytes = e ∙ ap (λ xs. xs ++ pixel c) was.bytes ∙ sym (line_bytes_push (take 4096 cs) c) ∙ ap line_bytes (sym (within cs c few));
+      blue = judge_more (λ d. d.blue) cs c c.blue new.blue few refl (b _ was.blue);
+      green = judge_more (λ d. d.green) cs c c.green new.green few refl (g _ was.green);
+      red = judge_more (λ d. d.red) cs c c.red new.red few refl (r _ was.red);
+    }
+
+-- what notes say of the line
+pub line_none : (l : LineSeen) (whole : Whole) (start : ℕ) (pixels : List Column) (was now : List Note) → IsLineAfter l pixels → l.count ≡ 0 → length was ≤ 0
+    → now ≡ was ++ Empty start ∷ [] → things (lent l.bytes whole) now ≡ line_of start pixels
+unfolding line_of
+line_none l whole start [] [] now h none room e = ap (things (lent l.bytes whole)) e
+line_none l whole start [] (n ∷ was) now h none room e = absurd (omega arith)
+line_none l whole start (c ∷ cs) was now h none room e = absurd (omega (arith, h.count))
+
+pub noted_line : (l : LineSeen) (whole : Whole) (start : ℕ) (pixels : List Column) (n0 n1 n2 n3 n4 n5 : List Note) → IsLineAfter l pixels → 0 < l.count → length n0 ≤ 0
+    → n1 ≡ n0 ++ Line ∷ []
+    → ((bytes : Lent) → things bytes n2 ≡ things bytes n1 ++ code_fault 0 (start + 2) l.blue.first)
+    → ((bytes : Lent) → things bytes n3 ≡ things bytes n2 ++ code_fault 1 (start + 2) l.green.first)
+    → ((bytes : Lent) → things bytes n4 ≡ things bytes n3 ++ code_fault 2 (start + 2) l.red.first)
+    → things (lent l.bytes whole) n5 ≡ things (lent l.bytes whole) n4 ++ unless (nat_le l.count 4096) (long_line start)
+    → things (lent l.bytes whole) n5 ≡ line_of start pixels
+noted_line l whole start pixels (n ∷ n0) n1 n2 n3 n4 n5 was pos room a b c d e = absurd (omega arith)
+noted_line l whole start pixels [] n1 n2 n3 n4 n5 was pos room a b c d e =
+    let m = lent l.bytes whole in
+    e
+    ∙ ap (λ ts. ts ++ unless (nat_le l.count 4096) (long_line start))
+    (d m ∙ ap (λ ts. ts ++ code_fault 2 (start + 2) l.red.first)
+    (c m ∙ ap (λ ts. ts ++ code_fault 1 (start + 2) l.green.first)
+    (b m ∙ ap (λ ts. ts ++ code_fault 0 (start + 2) l.blue.first) (ap (things m) a)))
+    ∙ ap (λ ts. line l.bytes ∷ ts) (append_assoc (code_fault 0 (start + 2) l.blue.first) (code_fault 1 (start + 2) l.green.first) (code_fault 2 (start + 2) l.red.first)))
+    ∙ sym (line_is l start pixels was pos)
+
+pub more_than : (bytes : Lent) (was now : List Note) (count start : ℕ) → 4096 < count → now ≡ was ++ LongLine start ∷ []
+    → things bytes now ≡ things bytes was ++ unless (nat_le count 4096) (long_line start)
+more_than bytes was now count start lt e =
+    ap (things bytes) e ∙ map-append (noted bytes) was (LongLine start ∷ [])
+    ∙ ap (λ p. things bytes was ++ unless p (long_line start)) (sym (lt-leb count 4096 lt))
+
+pub no_more : (ts : List Thing) (count start : ℕ) → count ≤ 4096 → ts ≡ ts ++ unless (nat_le count 4096) (long_line start)
+no_more ts count start le = sym (ap (λ p. ts ++ unless p (long_line start)) (le-leb count 4096 le) ∙ append-nil ts)

@@ -1,0 +1,301 @@
+-- Everything that is told is of the sizes that a link can have.
+use Rattle.std.proofs.Common.{◌≡◌, ℕ, zero, suc, ◌+◌, ◌*◌, ◌%◌, ◌==◌, ◌<◌, ◌≤◌, Bool, true, false, not, List, [], ◌∷◌, ◌++◌, length, map, take, refl, ap, ◌∙◌, arith, Option, Some, None, All}
+use Rattle.std.specs.Prelude.{nat_le, unwrap_or, IfSome}
+use Rattle.std.proofs.Math.Nat.{mul-mod_left}
+use Rattle.std.proofs.lemmas.Nat.{mod_below}
+use Rattle.std.proofs.lemmas.List.Elements.{All-nil, All-cons, All-map}
+use Rattle.bch_block.specs.declared.Verdict.{Verdict}
+use Rattle.bch_block.specs.declared.Verdict.TheVariants.{Clean, Mended, Lost}
+use Rattle.island_pack.specs.Nibbles.{nibble_of, nibbles_of, sync_values}
+use Rattle.island_pack.specs.declared.packet.PacketVerdicts.{PacketVerdicts}
+use Rattle.tmds_word.specs.Column.{Column}
+use Rattle.terc4.specs.Tables.{control_words, value_in, is_control}
+use Rattle.terc4.specs.Columns.{is_island_guard}
+use Rattle.terc4.proofs.Entries.{value_below}
+use Rattle.period_grammar.specs.Coding.{first_uncoded}
+use Rattle.period_grammar.specs.Column.{control_bits, value_of, sync_digit, is_closing}
+use Rattle.period_grammar.specs.Packets.{words_of, packet_in, packet_of, verdicts_of}
+use Rattle.period_grammar.specs.Things.{Thing, short, preamble, empty, long_line, cut, symbols, long_island, broken, guard, Told, all_at, thing_of}
+use Rattle.period_grammar.specs.Cut.{Period, period, periods, Run, columns, lead, value, before_runs, runs}
+use Rattle.period_grammar.specs.Island.{Payload, parts, payload, when, if_so, block_fault, block_faults, packet_faults, packet_things, in_packets, closing_things, in_left, left_at, in_island, is_broken, breaks}
+use Rattle.period_grammar.specs.Heard.{other_word, other_words, words, ended, in_run, size, in_runs, last_run, has_preamble, unless, Kind, video, island, neither, opened, lacks, opening, line_bytes, code_fault, codes_of, line_of, in_payload, in_gap, payload_closes, at_close, payload_ends, at_end, so_far, reach, closing, told_from, ending, end_from, heard_so_far, heard}
+use Rattle.period_grammar.specs.Sizes.{IsSized}
+
+-- Lists of things, one after another.
+abbrev Sized : List Thing → Type 0
+Sized [] = Unit {0}
+Sized (t ∷ ts) = IsSized t × Sized ts
+
+abbrev TellsSized : List Told → Type 0
+TellsSized [] = Unit {0}
+TellsSized (t ∷ ts) = IsSized (thing_of t) × TellsSized ts
+
+all_sized : (ts : List Thing) → Sized ts → All IsSized ts
+all_sized [] h = All-nil IsSized
+all_sized (t ∷ ts) h = All-cons IsSized t ts h.0 (all_sized ts h.1)
+
+sized_append : (ts us : List Thing) → Sized ts → Sized us → Sized (ts ++ us)
+sized_append [] us h k = k
+sized_append (t ∷ ts) us h k = (h.0, sized_append ts us h.1 k)
+
+tells_append : (ts us : List Told) → TellsSized ts → TellsSized us → TellsSized (ts ++ us)
+tells_append [] us h k = k
+tells_append (t ∷ ts) us h k = (h.0, tells_append ts us h.1 k)
+
+tells_at : (j : ℕ) (ts : List Thing) → Sized ts → TellsSized (all_at j ts)
+tells_at j [] h = tt
+tells_at j (t ∷ ts) h = (h.0, tells_at j ts h.1)
+
+things_sized : (ts : List Told) → TellsSized ts → Sized (map thing_of ts)
+things_sized [] h = tt
+things_sized (t ∷ ts) h = (h.0, things_sized ts h.1)
+
+unless_sized : (p : Bool) (t : Thing) → IsSized t → Sized (unless p t)
+unless_sized true t h = tt
+unless_sized false t h = (h, tt)
+
+if_so_sized : (p : Bool) (t : Thing) → IsSized t → Sized (if_so p t)
+if_so_sized true t h = (h, tt)
+if_so_sized false t h = tt
+
+when_sized : (p : Bool) (ts : List Told) → TellsSized ts → TellsSized (when p ts)
+when_sized true ts h = h
+when_sized false ts h = tt
+
+-- Values and digits.
+zero_or_below : (o : Option ℕ) → IfSome o (λ v. v < 4) → unwrap_or o 0 < 4
+zero_or_below None h = omega arith
+zero_or_below (Some v) h = h
+
+control_value_below : (w : ℕ) → IfSome (value_in control_words w) (λ v. v < 4)
+unfolding control_words
+control_value_below w = value_below control_words w
+
+control_bits_below : (w : ℕ) → control_bits w < 4
+unfolding control_bits
+control_bits_below w = zero_or_below (value_in control_words w) (control_value_below w)
+
+value_of_below : (c : Column) → value_of c < 64
+unfolding value_of
+value_of_below c = omega (arith, control_bits_below c.blue, control_bits_below c.green, control_bits_below c.red)
+
+digit_below : (w : ℕ) → sync_digit w < 4
+unfolding sync_digit
+digit_below w = mod_below (nibble_of w) 4 (omega arith)
+
+sync_below : (ws : List (List ℕ)) → All (λ digit. digit < 4) (sync_values ws)
+unfolding sync_values
+sync_below ws = All-map (λ digit. digit < 4) (λ n. n % 4) (nibbles_of ws 0) (λ k d lt. mod_below _ 4 (omega arith))
+
+-- Control columns.
+other_word_sized : (lane j : ℕ) (p : Bool) → Sized (other_word lane j p)
+other_word_sized lane j true = tt
+other_word_sized lane j false = (tt, tt)
+
+other_words_sized : (j : ℕ) (c : Column) → Sized (other_words j c)
+unfolding other_words
+other_words_sized j c =
+    sized_append _ _ (other_word_sized 0 j (is_control c.blue))
+    (sized_append _ _ (other_word_sized 1 j (is_control c.green)) (other_word_sized 2 j (is_control c.red)))
+
+words_sized : (j : ℕ) (cs : List Column) → TellsSized (words j cs)
+words_sized j [] = tt
+words_sized j (c ∷ cs) = tells_append _ _ (tells_at j (other_words j c) (other_words_sized j c)) (words_sized (j + 1) cs)
+
+abbrev IsRun : Run → Type 0
+IsRun (columns v cs) = (v < 64) × (1 ≤ length cs)
+
+abbrev AreRuns : List Run → Type 0
+AreRuns [] = Unit {0}
+AreRuns (r ∷ rs) = IsRun r × AreRuns rs
+
+lead_runs : (p : Bool) (c : Column) (r : Run) (rs : List Run) → IsRun r → AreRuns rs → AreRuns (lead p c r rs)
+lead_runs true c (columns v cs) rs h k = ((h.0, omega arith), k)
+lead_runs false c r rs h k = ((value_of_below c, omega arith), (h, k))
+
+more_runs : (c : Column) (rs : List Run) → AreRuns rs → AreRuns (before_runs c rs)
+more_runs c [] h = ((value_of_below c, omega arith), tt)
+more_runs c (r ∷ rs) h = lead_runs (value_of c == value r) c r rs h.0 h.1
+
+are_runs : (cs : List Column) → AreRuns (runs cs)
+unfolding runs
+are_runs [] = tt
+are_runs (c ∷ cs) = more_runs c (runs cs) (are_runs cs)
+
+ended_sized : (j : ℕ) (r : Run) → IsRun r → TellsSized (ended j r)
+ended_sized j (columns v cs) h = (h, tt)
+
+in_run_sized : (j : ℕ) (r : Run) → TellsSized (in_run j r)
+in_run_sized j (columns v cs) = words_sized j cs
+
+in_runs_sized : (j : ℕ) (rs : List Run) → AreRuns rs → TellsSized (in_runs j rs)
+in_runs_sized j [] h = tt
+in_runs_sized j (r ∷ []) h = in_run_sized j r
+in_runs_sized j (r ∷ (s ∷ rs)) h =
+    tells_append _ _ (in_run_sized j r) (tells_append _ _ (ended_sized j r h.0) (in_runs_sized (j + size r) (s ∷ rs) h.1))
+
+last_run_sized : (rs : List Run) → AreRuns rs → Sized (last_run rs)
+last_run_sized [] h = tt
+last_run_sized (columns v cs ∷ []) h = (h.0, tt)
+last_run_sized (columns v cs ∷ (s ∷ rs)) h = last_run_sized (s ∷ rs) h.1
+
+-- Opening.
+lacks_sized : (b : ℕ) (control : List Column) (bits : ℕ) → Sized (lacks b control bits)
+lacks_sized b control bits =
+    sized_append _ _ (unless_sized (nat_le 12 (length control)) (short b) tt) (unless_sized (has_preamble bits control) (preamble b) tt)
+
+opening_sized : (b : ℕ) (control : List Column) (g h : Column) (k : Kind) → Sized (opening b control g h k)
+opening_sized b control g h video = lacks_sized b control 1
+opening_sized b control g h island = sized_append _ _ (lacks_sized b control 5) ((digit_below g.blue, digit_below h.blue), tt)
+opening_sized b control g h neither = (tt, tt)
+
+-- A line.
+length-line_bytes : (cs : List Column) → length (line_bytes cs) ≡ length cs * 3
+unfolding line_bytes
+length-line_bytes [] = refl
+length-line_bytes (c ∷ cs) = let e = length-line_bytes cs in omega (arith, e)
+
+code_fault_sized : (lane s : ℕ) (o : Option ℕ) → Sized (code_fault lane s o)
+code_fault_sized lane s None = tt
+code_fault_sized lane s (Some i) = (tt, tt)
+
+codes_of_sized : (s : ℕ) (pixels : List Column) → Sized (codes_of s pixels)
+unfolding codes_of
+codes_of_sized s pixels =
+    sized_append _ _ (code_fault_sized 0 s (first_uncoded (map (λ c. c.blue) pixels)))
+    (sized_append _ _ (code_fault_sized 1 s (first_uncoded (map (λ c. c.green) pixels))) (code_fault_sized 2 s (first_uncoded (map (λ c. c.red) pixels))))
+
+whole_pixels : (cs : List Column) → length (line_bytes cs) % 3 ≡ 0
+whole_pixels cs = ap (λ n. n % 3) (length-line_bytes cs) ∙ mul-mod_left (length cs) 3
+
+take_at_most : (n : ℕ) (cs : List Column) → length (take n cs) ≤ n
+take_at_most zero cs = omega arith
+take_at_most (suc n) [] = omega arith
+take_at_most (suc n) (c ∷ cs) = let le = take_at_most n cs in omega (arith, le)
+
+line_of_sized : (b : ℕ) (cs : List Column) → Sized (line_of b cs)
+unfolding line_of
+line_of_sized b [] = (tt, tt)
+line_of_sized b (c ∷ cs) =
+    let most = take_at_most 4095 cs in
+    let long = length-line_bytes (take 4096 (c ∷ cs)) in (
+      (whole_pixels (take 4096 (c ∷ cs)), omega (arith, long), omega (arith, long, most)),
+      sized_append _ _ (codes_of_sized (b + 2) (take 4096 (c ∷ cs))) (unless_sized (nat_le (length (c ∷ cs)) 4096) (long_line b) tt),
+    )
+
+-- An island.
+block_fault_sized : (s b : ℕ) (v : Verdict) → Sized (block_fault s b v)
+block_fault_sized s b Clean = tt
+block_fault_sized s b (Mended i) = (tt, tt)
+block_fault_sized s b Lost = (tt, tt)
+
+block_faults_sized : (s b : ℕ) (vs : List Verdict) → Sized (block_faults s b vs)
+block_faults_sized s b [] = tt
+block_faults_sized s b (v ∷ vs) = sized_append _ _ (block_fault_sized s b v) (block_faults_sized s (b + 1) vs)
+
+packet_faults_sized : (s : ℕ) (v : PacketVerdicts) → Sized (packet_faults s v)
+packet_faults_sized s v =
+    sized_append _ _ (if_so_sized (not (v.symbols == 0)) (symbols s v.symbols) tt) (block_faults_sized s 0 v.blocks)
+
+packet_sync_below : (p : List Column) → All (λ digit. digit < 4) (packet_of p).sync
+unfolding packet_in
+packet_sync_below p = sync_below (map words_of p)
+
+packet_things_sized : (s k : ℕ) (p : List Column) → Sized (packet_things s k p)
+unfolding packet_things
+packet_things_sized s k p =
+    (packet_sync_below p, sized_append _ _ (packet_faults_sized s (verdicts_of p)) (if_so_sized (k == 18) (long_island s) tt))
+
+in_packets_sized : (s k : ℕ) (ps : List (List Column)) → TellsSized (in_packets s k ps)
+in_packets_sized s k [] = tt
+in_packets_sized s k (p ∷ ps) =
+    tells_append _ _ (tells_at (s + 31) (packet_things s k p) (packet_things_sized s k p)) (in_packets_sized (s + 32) (k + 1) ps)
+
+closing_things_sized : (b s k : ℕ) (c d : Column) → Sized (closing_things b s k c d)
+unfolding closing_things
+closing_things_sized b s k c d = (
+  (digit_below c.blue, digit_below d.blue),
+  sized_append _ _ (if_so_sized (not (is_island_guard c)) (guard s) tt)
+      (sized_append _ _ (if_so_sized (not (is_island_guard d)) (guard (s + 1)) tt) (if_so_sized (k == 0) (empty b) tt)),
+)
+
+in_left_sized : (b s k : ℕ) (t : List Column) → TellsSized (in_left b s k t)
+in_left_sized b s k [] = tt
+in_left_sized b s k (c ∷ []) = tt
+in_left_sized b s k (c ∷ (d ∷ [])) = when_sized (is_closing c) _ (tells_at (s + 1) _ (closing_things_sized b s k c d))
+in_left_sized b s k (c ∷ (d ∷ (e ∷ cs))) =
+    when_sized (is_closing c) _ (tells_append _ _ (tells_at (s + 1) _ (closing_things_sized b s k c d)) (tt, tt))
+
+in_island_sized : (b : ℕ) (x : Payload) → TellsSized (in_island b x)
+unfolding in_island
+in_island_sized b (parts ps t) = tells_append _ _ (in_packets_sized (b + 2) 0 ps) (in_left_sized b (left_at b ps) (length ps) t)
+
+breaks_sized : (f : ℕ → Thing) (b : ℕ) (x : Payload) → ((n : ℕ) → IsSized (f n)) → Sized (breaks f b x)
+breaks_sized f b (parts ps t) h = if_so_sized (is_broken t) (f (left_at b ps)) (h (left_at b ps))
+
+-- Columns after control columns.
+in_payload_sized : (b : ℕ) (k : Kind) (rest : List Column) → TellsSized (in_payload b k rest)
+in_payload_sized b video rest = tt
+in_payload_sized b island rest = in_island_sized b (payload rest)
+in_payload_sized b neither rest = tt
+
+in_gap_sized : (b : ℕ) (control gap : List Column) → TellsSized (in_gap b control gap)
+unfolding in_gap
+in_gap_sized b control [] = tt
+in_gap_sized b control (g ∷ []) = tt
+in_gap_sized b control (g ∷ (h ∷ rest)) =
+    tells_append _ _ (tells_at (b + 1) _ (opening_sized b control g h (opened g h))) (in_payload_sized b (opened g h) rest)
+
+payload_closes_sized : (b : ℕ) (k : Kind) (rest : List Column) → Sized (payload_closes b k rest)
+payload_closes_sized b video rest = line_of_sized b rest
+payload_closes_sized b island rest = breaks_sized broken b (payload rest) (λ n. tt)
+payload_closes_sized b neither rest = tt
+
+at_close_sized : (b : ℕ) (gap : List Column) → Sized (at_close b gap)
+unfolding at_close
+at_close_sized b [] = tt
+at_close_sized b (g ∷ []) = (tt, tt)
+at_close_sized b (g ∷ (h ∷ rest)) = payload_closes_sized b (opened g h) rest
+
+payload_ends_sized : (b : ℕ) (k : Kind) (rest : List Column) → Sized (payload_ends b k rest)
+payload_ends_sized b video rest = (tt, tt)
+payload_ends_sized b island rest = breaks_sized cut b (payload rest) (λ n. tt)
+payload_ends_sized b neither rest = tt
+
+at_end_sized : (b : ℕ) (gap : List Column) → Sized (at_end b gap)
+unfolding at_end
+at_end_sized b [] = tt
+at_end_sized b (g ∷ []) = (tt, tt)
+at_end_sized b (g ∷ (h ∷ rest)) = payload_ends_sized b (opened g h) rest
+
+-- The whole.
+so_far_sized : (j : ℕ) (x : Period) → TellsSized (so_far j x)
+so_far_sized j (period control []) = in_runs_sized j (runs control) (are_runs control)
+so_far_sized j (period control (g ∷ gap)) =
+    tells_append _ _ (in_runs_sized j (runs control) (are_runs control))
+    (tells_append _ _ (tells_at (j + length control) (last_run (runs control)) (last_run_sized (runs control) (are_runs control)))
+    (in_gap_sized (j + length control) control (g ∷ gap)))
+
+closing_sized : (j : ℕ) (x : Period) → TellsSized (closing j x)
+closing_sized j (period control gap) = tells_at _ _ (at_close_sized (j + length control) gap)
+
+told_from_sized : (j : ℕ) (xs : List Period) → TellsSized (told_from j xs)
+told_from_sized j [] = tt
+told_from_sized j (x ∷ []) = so_far_sized j x
+told_from_sized j (x ∷ (y ∷ ys)) = tells_append _ _ (so_far_sized j x) (tells_append _ _ (closing_sized j x) (told_from_sized (j + reach x) (y ∷ ys)))
+
+ending_sized : (j : ℕ) (x : Period) → Sized (ending j x)
+ending_sized j (period control []) = last_run_sized (runs control) (are_runs control)
+ending_sized j (period control (g ∷ gap)) = at_end_sized (j + length control) (g ∷ gap)
+
+end_from_sized : (j : ℕ) (xs : List Period) → Sized (end_from j xs)
+end_from_sized j [] = tt
+end_from_sized j (x ∷ []) = ending_sized j x
+end_from_sized j (x ∷ (y ∷ ys)) = end_from_sized (j + reach x) (y ∷ ys)
+
+heard_sized : (cs : List Column) → Sized (heard cs)
+unfolding heard heard_so_far
+heard_sized cs = sized_append _ _ (things_sized _ (told_from_sized 0 (periods cs))) (end_from_sized 0 (periods cs))
+
+pub all_are_sized : (cs : List Column) → All IsSized (heard cs)
+all_are_sized cs = all_sized (heard cs) (heard_sized cs)

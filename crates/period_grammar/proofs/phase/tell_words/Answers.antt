@@ -1,0 +1,14 @@
+use Rattle.std.proofs.Common.{ap, ◌∙◌, ◌++◌}
+use Rattle.period_grammar.specs.Noted.{things}
+use Rattle.period_grammar.specs.Heard.{other_words, other_word}
+use Rattle.terc4.specs.Tables.{is_control}
+use Rattle.tmds_word.specs.Column.{column_of}
+use Rattle.period_grammar.proofs.Phases.{three_words}
+use Rattle.period_grammar.proofs.phase.tell_words.Goals as goal
+
+pub returns-clause-told : goal.returns-clause-told
+unfolding other_words
+returns-clause-told c bytes =
+    c.tell_word-3.ensures.told bytes
+    ∙ ap (λ ts. ts ++ other_word 2 c.args.n (is_control c.red.result)) (c.tell_word-2.ensures.told bytes ∙ ap (λ ts. ts ++ other_word 1 c.args.n (is_control c.green.result)) (c.tell_word.ensures.told bytes))
+    ∙ three_words (things bytes c.args.notes.now) c.args.n _ _ _ (column_of c.args.column.now) c.blue.ensures c.green.ensures c.red.ensures

@@ -1,0 +1,77 @@
+-- The last period of columns, and what one column more tells.
+use Rattle.std.specs.Prelude.{ℕ, ◌+◌, Bool, true, false, ◌==◌, List, [], ◌∷◌, ◌++◌, length}
+use Rattle.tmds_word.specs.Column.{Column}
+use Rattle.period_grammar.specs.Column.{value_of}
+use Rattle.period_grammar.specs.Things.{Thing, run, noise}
+use Rattle.period_grammar.specs.Cut.{Period, period, Run, columns, runs}
+use Rattle.period_grammar.specs.Column.{is_closing}
+use Rattle.period_grammar.specs.Island.{Payload, parts, payload, holds_packet, packet_things, closing_things, left_at, when}
+use Rattle.period_grammar.specs.Heard.{other_words, last_run, unless, opening, opened, Kind, video, island, neither, at_close, at_end}
+
+abbrev pub last : List Period → Period
+last [] = period [] []
+last (x ∷ []) = x
+last (x ∷ (y ∷ ys)) = last (y ∷ ys)
+
+-- the columns of the last period
+abbrev pub control_of : Period → List Column
+control_of (period control gap) = control
+
+abbrev pub gap_of : Period → List Column
+gap_of (period control gap) = gap
+
+-- the last run, where a column has another value
+abbrev pub change : ℕ → List Run → List Thing
+change v [] = []
+change v (columns w cs ∷ []) = unless (w == v) (run w (length cs))
+change v (r ∷ (s ∷ rs)) = change v (s ∷ rs)
+
+-- a column after packets and what is left
+abbrev pub settle_by : Bool → List (List Column) → List Column → Payload
+settle_by true ps t = parts (ps ++ t ∷ []) []
+settle_by false ps t = parts ps t
+
+abbrev pub settle : List (List Column) → List Column → Payload
+settle ps t = settle_by (holds_packet t) ps t
+
+abbrev pub after_payload : Column → Payload → Payload
+after_payload c (parts ps t) = settle ps (t ++ c ∷ [])
+
+-- what a column tells in an island, after what is left of it
+abbrev pub left_gain : ℕ → ℕ → ℕ → Column → List Column → List Thing
+left_gain b s k c [] = []
+left_gain b s k c (x ∷ []) = when (is_closing x) (closing_things b s k x c)
+left_gain b s k c (x ∷ (y ∷ [])) = when (is_closing x) (noise (s + 2) ∷ [])
+left_gain b s k c (x ∷ (y ∷ (z ∷ r))) = []
+
+abbrev pub choose : Bool → List Thing → List Thing → List Thing
+choose true xs ys = xs
+choose false xs ys = ys
+
+abbrev pub island_gain : ℕ → Column → Payload → List Thing
+island_gain b c (parts ps t) =
+    choose (holds_packet (t ++ c ∷ [])) (packet_things (left_at b ps) (length ps) (t ++ c ∷ [])) (left_gain b (left_at b ps) (length ps) c t)
+
+abbrev pub payload_gain : ℕ → Kind → Column → List Column → List Thing
+payload_gain b video c rest = []
+payload_gain b island c rest = island_gain b c (payload rest)
+payload_gain b neither c rest = []
+
+-- what column n tells, where the last period's other columns begin at b
+abbrev pub gains : Bool → ℕ → ℕ → Column → Period → List Thing
+gains true b n c (period control []) = change (value_of c) (runs control) ++ other_words n c
+gains true b n c (period control (g ∷ gap)) = at_close b (g ∷ gap) ++ other_words n c
+gains false b n c (period control []) = last_run (runs control)
+gains false b n c (period control (g ∷ [])) = opening b control g c (opened g c)
+gains false b n c (period control (g ∷ (h ∷ rest))) = payload_gain b (opened g h) c rest
+
+-- the last period with one column more, which is a control column or not
+abbrev pub grown : Bool → Column → Period → Period
+grown true c (period control []) = period (control ++ c ∷ []) []
+grown true c (period control (g ∷ gap)) = period (c ∷ []) []
+grown false c (period control gap) = period control (gap ++ c ∷ [])
+
+-- what the end tells of the last period
+abbrev pub ends : ℕ → Period → List Thing
+ends b (period control []) = last_run (runs control)
+ends b (period control (g ∷ gap)) = at_end b (g ∷ gap)

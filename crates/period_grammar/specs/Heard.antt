@@ -1,0 +1,180 @@
+-- What is told of a list of columns: control periods (HDMI 1.4, sections 5.1.2 and 5.2.1), their preambles (5.2.1.1),
+-- video periods (5.2.2) and data islands (5.2.3). What is told of columns that are not right is this project's own.
+use Rattle.std.specs.Prelude.{ℕ, ◌+◌, Bool, true, false, ◌==◌, ◌&&◌, List, [], ◌∷◌, ◌++◌, map, length, take, reverse, Option, Some, None, nat_le}
+use Rattle.std.specs.List.{list_all}
+use Rattle.tmds_word.specs.Column.{Column}
+use Rattle.terc4.specs.Tables.{is_control}
+use Rattle.period_grammar.specs.Column.{value_of, ctl, sync_digit}
+use Rattle.terc4.specs.Columns.{is_video_guard, is_island_guard}
+use Rattle.tmds_code.specs.Coding.{decoded_byte}
+use Rattle.period_grammar.specs.Coding.{first_uncoded}
+use Rattle.period_grammar.specs.Things.{Thing, run, line, word, short, preamble, noise, empty, code, long_line, cut, open_island, broken, Told, at, all_at, thing_of}
+use Rattle.period_grammar.specs.Island.{payload, in_island, breaks}
+use Rattle.period_grammar.specs.Cut.{Period, period, periods, Run, columns, runs}
+
+-- Control columns.
+
+-- the word of a lane that is no control word
+abbrev pub other_word : ℕ → ℕ → Bool → List Thing
+other_word lane j true = []
+other_word lane j false = word lane j ∷ []
+
+unfoldable pub other_words : ℕ → Column → List Thing
+other_words j c = other_word 0 j (is_control c.blue) ++ (other_word 1 j (is_control c.green) ++ other_word 2 j (is_control c.red))
+
+-- the words of columns from column j on, each told at its column
+abbrev pub words : ℕ → List Column → List Told
+words j [] = []
+words j (c ∷ cs) = all_at j (other_words j c) ++ words (j + 1) cs
+
+-- a run, which is told at the first column that is not in it
+abbrev pub ended : ℕ → Run → List Told
+ended j (columns v cs) = at (j + length cs) (run v (length cs)) ∷ []
+
+abbrev pub in_run : ℕ → Run → List Told
+in_run j (columns v cs) = words j cs
+
+abbrev pub size : Run → ℕ
+size (columns v cs) = length cs
+
+-- runs from column j on, the last of which has not ended
+abbrev pub in_runs : ℕ → List Run → List Told
+in_runs j [] = []
+in_runs j (r ∷ []) = in_run j r
+in_runs j (r ∷ (s ∷ rs)) = in_run j r ++ (ended j r ++ in_runs (j + size r) (s ∷ rs))
+
+-- the last run
+abbrev pub last_run : List Run → List Thing
+last_run [] = []
+last_run (columns v cs ∷ []) = run v (length cs) ∷ []
+last_run (r ∷ (s ∷ rs)) = last_run (s ∷ rs)
+
+-- Opening: the first two columns b and b + 1 after control columns.
+
+-- whether the last eight columns are there and have these control bits
+unfoldable pub has_preamble : ℕ → List Column → Bool
+has_preamble bits control = nat_le 8 (length control) && list_all (λ c. ctl (value_of c) == bits) (take 8 (reverse control))
+
+abbrev pub unless : Bool → Thing → List Thing
+unless true t = []
+unless false t = t ∷ []
+
+-- what two columns open
+pub data Kind : Type 0 where
+  video : Kind
+  island : Kind
+  neither : Kind
+
+abbrev pub kind_by : Bool → Bool → Kind
+kind_by true i = video
+kind_by false true = island
+kind_by false false = neither
+
+abbrev pub opened : Column → Column → Kind
+opened g h = kind_by (is_video_guard g && is_video_guard h) (is_island_guard g && is_island_guard h)
+
+-- what is wrong with the control columns before
+abbrev pub lacks : ℕ → List Column → ℕ → List Thing
+lacks b control bits = unless (nat_le 12 (length control)) (short b) ++ unless (has_preamble bits control) (preamble b)
+
+abbrev pub opening : ℕ → List Column → Column → Column → Kind → List Thing
+opening b control g h video = lacks b control 1
+opening b control g h island = lacks b control 5 ++ open_island (sync_digit g.blue) (sync_digit h.blue) ∷ []
+opening b control g h neither = noise b ∷ []
+
+-- A line of pixels.
+
+abbrev pub pixel : Column → List ℕ
+pixel c = decoded_byte c.red ∷ (decoded_byte c.green ∷ (decoded_byte c.blue ∷ []))
+
+unfoldable pub line_bytes : List Column → List ℕ
+line_bytes [] = []
+line_bytes (c ∷ cs) = pixel c ++ line_bytes cs
+
+abbrev pub code_fault : ℕ → ℕ → Option ℕ → List Thing
+code_fault lane s None = []
+code_fault lane s (Some i) = code lane (s + i) ∷ []
+
+-- pixels from column s on
+unfoldable pub codes_of : ℕ → List Column → List Thing
+codes_of s pixels = code_fault 0 s (first_uncoded (map (λ c. c.blue) pixels)) ++ (code_fault 1 s (first_uncoded (map (λ c. c.green) pixels)) ++ code_fault 2 s (first_uncoded (map (λ c. c.red) pixels)))
+
+unfoldable pub line_of : ℕ → List Column → List Thing
+line_of b [] = empty b ∷ []
+line_of b (c ∷ cs) =
+    line (line_bytes (take 4096 (c ∷ cs))) ∷ (codes_of (b + 2) (take 4096 (c ∷ cs)) ++ unless (nat_le (length (c ∷ cs)) 4096) (long_line b))
+
+-- Columns that are no control columns, from column b on, after control columns.
+
+abbrev pub in_payload : ℕ → Kind → List Column → List Told
+in_payload b video rest = []
+in_payload b island rest = in_island b (payload rest)
+in_payload b neither rest = []
+
+-- told while they go on
+unfoldable pub in_gap : ℕ → List Column → List Column → List Told
+in_gap b control [] = []
+in_gap b control (g ∷ []) = []
+in_gap b control (g ∷ (h ∷ rest)) = all_at (b + 1) (opening b control g h (opened g h)) ++ in_payload b (opened g h) rest
+
+abbrev pub payload_closes : ℕ → Kind → List Column → List Thing
+payload_closes b video rest = line_of b rest
+payload_closes b island rest = breaks broken b (payload rest)
+payload_closes b neither rest = []
+
+-- told at the first control column after them
+unfoldable pub at_close : ℕ → List Column → List Thing
+at_close b [] = []
+at_close b (g ∷ []) = noise b ∷ []
+at_close b (g ∷ (h ∷ rest)) = payload_closes b (opened g h) rest
+
+abbrev pub payload_ends : ℕ → Kind → List Column → List Thing
+payload_ends b video rest = cut (b + 2) ∷ []
+payload_ends b island rest = breaks cut b (payload rest)
+payload_ends b neither rest = []
+
+-- told by the end
+unfoldable pub at_end : ℕ → List Column → List Thing
+at_end b [] = []
+at_end b (g ∷ []) = cut b ∷ []
+at_end b (g ∷ (h ∷ rest)) = payload_ends b (opened g h) rest
+
+-- The whole.
+
+-- what a period from column j on tells while it goes on
+abbrev pub so_far : ℕ → Period → List Told
+so_far j (period control []) = in_runs j (runs control)
+so_far j (period control (g ∷ gap)) =
+    let b = j + length control in
+    in_runs j (runs control) ++ (all_at b (last_run (runs control)) ++ in_gap b control (g ∷ gap))
+
+abbrev pub reach : Period → ℕ
+reach (period control gap) = length control + length gap
+
+-- what it tells at the first column after it
+abbrev pub closing : ℕ → Period → List Told
+closing j (period control gap) = all_at (j + reach (period control gap)) (at_close (j + length control) gap)
+
+-- periods from column j on, the last of which goes on
+abbrev pub told_from : ℕ → List Period → List Told
+told_from j [] = []
+told_from j (x ∷ []) = so_far j x
+told_from j (x ∷ (y ∷ ys)) = so_far j x ++ (closing j x ++ told_from (j + reach x) (y ∷ ys))
+
+-- what the end tells of the last one
+abbrev pub ending : ℕ → Period → List Thing
+ending j (period control []) = last_run (runs control)
+ending j (period control (g ∷ gap)) = at_end (j + length control) (g ∷ gap)
+
+abbrev pub end_from : ℕ → List Period → List Thing
+end_from j [] = []
+end_from j (x ∷ []) = ending j x
+end_from j (x ∷ (y ∷ ys)) = end_from (j + reach x) (y ∷ ys)
+
+-- what is told of columns, and at which column each thing
+unfoldable pub heard_so_far : List Column → List Told
+heard_so_far cs = told_from 0 (periods cs)
+
+-- with what the end tells
+unfoldable pub heard : List Column → List Thing
+heard cs = map thing_of (heard_so_far cs) ++ end_from 0 (periods cs)

@@ -1,0 +1,34 @@
+-- What is kept of the columns of an island.
+use Rattle.std.specs.Prelude.{◌≡◌, ℕ, ◌<◌, true, false, List, [], ◌∷◌, length, map, take, Option, Some, None}
+use Rattle.period_grammar.specs.Things.{Thing}
+use Rattle.tmds_word.specs.Column.{Column}
+use Rattle.period_grammar.specs.Column.{is_closing, sync_digit}
+use Rattle.terc4.specs.Columns.{is_island_guard}
+use Rattle.period_grammar.specs.Island.{Payload, parts, payload, begins_close}
+use Rattle.period_grammar.specs.Packets.{words_of}
+use Rattle.period_grammar.specs.declared.island.Left.{Left}
+use Rattle.period_grammar.specs.declared.island.Left.TheVariants.{Packet, Closing, Closed, Over}
+use Rattle.period_grammar.specs.declared.island.Island.{Island}
+
+abbrev pub IsLeftAfter : Left → ℕ → List (List ℕ) → List Column → Type 0
+IsLeftAfter Packet within block t = (begins_close t ≡ false) × (within ≡ length t) × (take within block ≡ map words_of t)
+IsLeftAfter (Closing digit guard) within block (c ∷ []) = (is_closing c ≡ true) × (digit ≡ sync_digit c.blue) × (guard ≡ is_island_guard c)
+IsLeftAfter Closed within block (c ∷ (d ∷ [])) = is_closing c ≡ true
+IsLeftAfter Over within block (c ∷ (d ∷ (e ∷ r))) = is_closing c ≡ true
+IsLeftAfter (Closing digit guard) within block _ = ⊥
+IsLeftAfter Closed within block _ = ⊥
+IsLeftAfter Over within block _ = ⊥
+
+abbrev pub IsPartsAfter : Left → ℕ → ℕ → List (List ℕ) → Payload → Type 0
+IsPartsAfter left packets within block (parts ps t) = (packets ≡ length ps) × IsLeftAfter left within block t
+
+-- the columns after the opening guard
+pub record IsIslandAfter (kept : Island) (rest : List Column) : Type 0 where
+  pub stands : IsPartsAfter kept.left kept.packets kept.within kept.block (payload rest)
+
+pub record IsBlocked (kept : Island) : Type 0 where
+  pub within : kept.within < 32
+
+abbrev pub at_some : (ℕ → Thing) → Option ℕ → List Thing
+at_some f None = []
+at_some f (Some s) = f s ∷ []

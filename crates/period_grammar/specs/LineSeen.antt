@@ -1,0 +1,22 @@
+-- What contracts see of a line.
+use Rattle.std.specs.Prelude.{◌≡◌, ℕ, ◌*◌, min, List, length, ◌<◌, Some}
+use Rattle.period_grammar.specs.declared.lane.Lane.{Lane}
+
+pub record LineSeen : Type 0 where
+  pub bytes : List ℕ
+  pub count : ℕ
+  pub blue : Lane
+  pub green : Lane
+  pub red : Lane
+
+-- the numbers of a lane of this many words
+pub record IsSized (lane : Lane) (n : ℕ) : Type 0 where
+  pub count : lane.count ≡ n
+  pub judge : lane.judge.count ≡ n
+  pub first : (i : ℕ) → lane.first ≡ Some i → i < n
+
+pub record IsInRange (line : LineSeen) : Type 0 where
+  pub bytes : length line.bytes ≡ 3 * min line.count 4096
+  pub blue : IsSized line.blue (min line.count 4096)
+  pub green : IsSized line.green (min line.count 4096)
+  pub red : IsSized line.red (min line.count 4096)

@@ -1,0 +1,35 @@
+-- What contracts see of a hearing.
+use Rattle.std.specs.Prelude.{◌≡◌, ◌≤◌, ◌+◌, ◌*◌, ℕ, Bool, List, length}
+use Rattle.period_grammar.specs.IslandAfter.{IsBlocked}
+use Rattle.period_grammar.specs.declared.island.Island.{Island}
+use Rattle.period_grammar.specs.LineSeen.{LineSeen}
+use Rattle.period_grammar.specs.ControlAfter.{IsCounted}
+use Rattle.period_grammar.specs.declared.control.Kept.{Kept}
+use Rattle.period_grammar.specs.declared.phase.Phase.{Phase}
+use Rattle.period_grammar.specs.declared.phase.Phase.TheVariants.{Control, First, Video, Payload, Noise}
+use Rattle.period_grammar.specs.declared.notes.Note.{Note}
+
+pub record Seen : Type 0 where
+  pub columns : ℕ
+  pub phase : Phase
+  pub control : Kept
+  pub line : LineSeen
+  pub island : Island
+  pub notes : List Note
+  pub finished : Bool
+
+-- where a piece began
+abbrev pub IsPlaced : Phase → ℕ → Island → ℕ → Type 0
+IsPlaced Control count kept n = Unit {0}
+IsPlaced (First start video island digit) count kept n = start + 1 ≡ n
+IsPlaced (Video start) count kept n = (start + 2) + count ≡ n
+IsPlaced (Payload start) count kept n = (start + 2) + (32 * kept.packets + kept.within) ≤ n
+IsPlaced Noise count kept n = Unit {0}
+
+pub record IsSound (columns : ℕ) (phase : Phase) (control : Kept) (line : LineSeen) (island : Island) (notes : List Note) : Type 0 where
+  pub counted : IsCounted control
+  pub few : control.columns ≤ columns
+  pub blocked : IsBlocked island
+  pub placed : IsPlaced phase line.count island columns
+  pub told : length notes ≤ 8
+  pub short : columns ≤ 429496730

@@ -1,0 +1,18 @@
+-- The sizes of what is told.
+use Rattle.std.specs.Prelude.{◌≡◌, ◌<◌, ◌≤◌, ◌%◌, List, length, All}
+use Rattle.tmds_word.specs.Column.{Column}
+use Rattle.period_grammar.specs.Things.{Thing, run, line, open_island, packet, close_island}
+use Rattle.period_grammar.specs.Heard.{heard}
+
+-- a run has a value below 64 and at least one column; a line has one to 4,096 whole pixels; sync digits are below 4
+abbrev pub IsSized : Thing → Type 0
+IsSized (run v n) = (v < 64) × (1 ≤ n)
+IsSized (line bytes) = (length bytes % 3 ≡ 0) × (3 ≤ length bytes) × (length bytes ≤ 12288)
+IsSized (open_island a b) = (a < 4) × (b < 4)
+IsSized (close_island a b) = (a < 4) × (b < 4)
+IsSized (packet p v s) = All (λ digit. digit < 4) p.sync
+IsSized _ = Unit {0}
+
+-- everything that is told is of these sizes
+abbrev pub Sizes : Type 0
+Sizes = (cs : List Column) → All IsSized (heard cs)

@@ -1,0 +1,174 @@
+//! Hears columns one after another, and tells what they say.
+ghost use Rattle.std.specs.Prelude.{◌≡◌, ◌<◌, ◌≤◌, ◌+◌, ◌++◌, ◌∷◌, [], List, length, map, true, false, IfOk, slice_get, Some};
+ghost use Rattle.tmds_word.specs.Column.{Column, column_of};
+ghost use Rattle.period_grammar.specs.Things.{all_at, thing_of};
+ghost use Rattle.period_grammar.specs.Heard.{heard_so_far, heard};
+ghost use Rattle.period_grammar.specs.Noted.{noted, lent};
+ghost use Rattle.period_grammar.specs.Stands.{StandsFor};
+ghost use Rattle.period_grammar.specs.Lending.{lent_thing, last_told};
+
+use crate::column;
+use crate::control::Kept;
+use crate::island::{Island, Whole};
+use crate::line::Line;
+use crate::notes::{Note, Notes};
+use crate::phase::{Phase, close, end, go_on, tell_words};
+use crate::told::{Fault, Told};
+use island_pack::PacketRef;
+use outside_io::NoMemory;
+use std::alloc::Global;
+use std::marker::Model;
+use tmds_word::Word;
+
+/// Hears the columns of a link one after another. It keeps a few numbers of them, the bytes of one line, and one
+/// packet.
+#[derive(Drop)]
+pub struct Hearing {
+    columns: u32,
+    phase: Phase,
+    control: Kept,
+    line: Line,
+    island: Island,
+    notes: Notes,
+    finished: bool,
+}
+
+impl Model for Hearing {
+    ghost use Rattle.period_grammar.specs.Seen.{Seen, IsSound};
+
+    ghost Value = { Seen };
+
+    ghost view = { λ h. record { columns = h.columns; phase = h.phase; control = h.control; line = h.line; island = h.island; notes = h.notes; finished = h.finished } };
+
+    ghost invariant = { λ h. IsSound h.columns h.phase h.control h.line h.island h.notes };
+}
+
+impl Hearing {
+    /// A hearing that has heard nothing, with room for a line of 4,096 pixels.
+    pub fn open(alloc: Global) -> Result<Hearing, NoMemory>
+        ensures open { IfOk result (λ h. h.finished ≡ false) }
+        ensures heard { IfOk result (λ h. StandsFor h []) }
+    {
+        let line = Line::open(alloc)?;
+        let island = Island::new();
+        let notes = Notes::open(alloc)?;
+        Ok(Hearing {
+            columns: 0,
+            phase: Phase::Control,
+            control: Kept::new(),
+            line,
+            island,
+            notes,
+            finished: false,
+        })
+    }
+
+    /// Hears one column, the words of lanes 0, 1 and 2; `tells` and `told` then say what it tells.
+    pub fn hear(&mut self, column: &[Word; 3])
+        requires few { self.old.columns < 429496730 }
+        requires open { self.old.finished ≡ false }
+        ensures columns { self.new.columns ≡ self.old.columns + 1 }
+        ensures open { self.new.finished ≡ false }
+        ensures heard { (cs : List Column) → StandsFor self.old cs → StandsFor self.new (cs ++ column_of column.now ∷ []) }
+        ensures told { (cs : List Column) → StandsFor self.old cs → heard_so_far (cs ++ column_of column.now ∷ []) ≡ heard_so_far cs ++ all_at (length cs) (last_told self.new) }
+    {
+        self.notes.clear();
+        let n = self.columns;
+        if column::control_column(column) {
+            let value = column::column_value(column);
+            let mut kept = close(
+                self.phase,
+                n,
+                value,
+                self.control,
+                &self.line,
+                &self.island,
+                &mut self.notes,
+            );
+            kept.hear(value);
+            tell_words(n, column, &mut self.notes);
+            self.control = kept;
+            self.phase = Phase::Control;
+            self.columns = n + 1;
+            return;
+        }
+        self.phase = go_on(
+            self.phase,
+            n,
+            column,
+            &self.control,
+            &mut self.line,
+            &mut self.island,
+            &mut self.notes,
+        );
+        self.columns = n + 1;
+    }
+
+    /// Ends the columns; `tells` and `told` then say what the end tells.
+    pub fn finish(&mut self)
+        requires { self.old.finished ≡ false }
+        ensures finished { self.new.finished ≡ true }
+        ensures told { (cs : List Column) → StandsFor self.old cs → heard cs ≡ map thing_of (heard_so_far cs) ++ last_told self.new }
+    {
+        self.notes.clear();
+        end(
+            self.phase,
+            self.columns,
+            &self.control,
+            &self.line,
+            &self.island,
+            &mut self.notes,
+        );
+        self.finished = true;
+    }
+
+    /// How many things the last call told.
+    pub fn tells(&self) -> u8
+        ensures few { result ≤ 8 }
+        ensures count { result ≡ length self.now.notes }
+    {
+        self.notes.len() as u8
+    }
+
+    /// Lends thing `i` of those that the last call told.
+    pub fn told(&self, i: u8) -> Told<'_>
+        requires { i < length self.now.notes }
+        ensures { slice_get (last_told self.now) i ≡ Some (lent_thing result) }
+    {
+        let note = self.notes.get(usize::from(i));
+        lend(note, self.line.bytes(), self.island.whole())
+    }
+}
+
+fn lend<'a>(note: Note, bytes: &'a [u8], whole: &'a Whole) -> Told<'a>
+    ensures { lent_thing result ≡ noted (lent bytes.entry.now whole.entry.now) note }
+{
+    match note {
+        Note::Run { value, count } => Told::Run { value, count },
+        Note::Line => Told::Line { pixels: bytes },
+        Note::Word { lane, column } => Told::Fault(Fault::Word { lane, column }),
+        Note::Short { column } => Told::Fault(Fault::Short { column }),
+        Note::Preamble { column } => Told::Fault(Fault::Preamble { column }),
+        Note::Noise { column } => Told::Fault(Fault::Noise { column }),
+        Note::Empty { column } => Told::Fault(Fault::Empty { column }),
+        Note::Code { lane, column } => Told::Fault(Fault::Code { lane, column }),
+        Note::LongLine { column } => Told::Fault(Fault::LongLine { column }),
+        Note::Cut { column } => Told::Cut { column },
+        Note::Open { first, second } => Told::Open {
+            sync: [first, second],
+        },
+        Note::Packet { column } => Told::Packet {
+            packet: PacketRef::new(&whole.packet, &whole.verdicts),
+            column,
+        },
+        Note::Symbols { column, count } => Told::Fault(Fault::Symbols { column, count }),
+        Note::Mended { column, block, bit } => Told::Fault(Fault::Mended { column, block, bit }),
+        Note::Lost { column, block } => Told::Fault(Fault::Lost { column, block }),
+        Note::Close { first, second } => Told::Close {
+            sync: [first, second],
+        },
+        Note::LongIsland { column } => Told::Fault(Fault::LongIsland { column }),
+        Note::Broken { column } => Told::Fault(Fault::Broken { column }),
+        Note::Guard { column } => Told::Fault(Fault::Guard { column }),
+    }
+}

@@ -1,0 +1,279 @@
+//! The columns of an island after its opening guard.
+ghost use Rattle.std.specs.Prelude.{◌≡◌, ◌<◌, ◌≤◌, ◌+◌, ◌*◌, ◌^◌, ◌++◌, ◌∷◌, [], List, ℕ, length, take, Bool, true, false, not, ◌==◌};
+ghost use Rattle.tmds_word.specs.Column.{Column, column_of};
+ghost use Rattle.period_grammar.specs.Column.{is_closing, sync_digit};
+ghost use Rattle.terc4.specs.Columns.{is_island_guard};
+ghost use Rattle.period_grammar.specs.Things.{Thing, guard, empty, symbols, long_island};
+ghost use Rattle.period_grammar.specs.Packets.{words_of, packet_of, verdicts_of, packet_in, verdicts_in};
+ghost use Rattle.period_grammar.specs.Island.{Payload, payload, packet_things, closing_things, breaks, if_so, block_fault, packet_faults};
+ghost use Rattle.period_grammar.specs.After.{island_gain, after_payload};
+ghost use Rattle.period_grammar.specs.IslandAfter.{IsIslandAfter, IsBlocked, IsPartsAfter, at_some};
+ghost use Rattle.period_grammar.specs.Noted.{things, Lent, lent};
+
+use crate::column;
+use crate::notes::{Note, Notes};
+use bch_block::Verdict;
+use island_pack::{Packet, PacketVerdicts, take};
+use terc4::terc;
+use tmds_word::Word;
+
+/// What the columns after the last whole packet are.
+#[derive(Clone, Copy, Drop)]
+pub enum Left {
+    Packet,
+    Closing { digit: u8, guard: bool },
+    Closed,
+    Over,
+}
+
+/// A packet that came whole, and the verdicts on its blocks.
+#[derive(Clone, Copy, Drop)]
+pub struct Whole {
+    pub packet: Packet,
+    pub verdicts: PacketVerdicts,
+}
+
+/// The words of the packet that comes, how many packets came whole, and the last of them.
+#[derive(Drop)]
+pub struct Island {
+    pub block: [[Word; 3]; 32],
+    pub packets: u32,
+    pub within: u32,
+    pub left: Left,
+    pub whole: Whole,
+}
+
+/// Tells the verdict on a block, unless it is clean.
+fn tell_block(at: u32, block: u8, verdict: Verdict, notes: &mut Notes)
+    requires room { length notes.old < 8 }
+    ensures room { length notes.new ≤ length notes.old + 1 }
+    ensures told { (l : Lent) → things l notes.new ≡ things l notes.old ++ block_fault at block verdict }
+{
+    match verdict {
+        Verdict::Clean => {}
+        Verdict::Mended(bit) => notes.push(Note::Mended {
+            column: at,
+            block,
+            bit,
+        }),
+        Verdict::Lost => notes.push(Note::Lost { column: at, block }),
+    }
+}
+
+/// Tells how many words are no TERC4 words, if there are any.
+fn tell_symbols(at: u32, count: u8, notes: &mut Notes)
+    requires room { length notes.old < 8 }
+    ensures room { length notes.new ≤ length notes.old + 1 }
+    ensures told { (l : Lent) → things l notes.new ≡ things l notes.old ++ if_so (not (count == 0)) (symbols at count) }
+{
+    if count != 0 {
+        notes.push(Note::Symbols { column: at, count });
+    }
+}
+
+/// Tells that a packet is its island's nineteenth.
+fn tell_long(at: u32, packets: u32, notes: &mut Notes)
+    requires room { length notes.old < 8 }
+    ensures room { length notes.new ≤ length notes.old + 1 }
+    ensures told { (l : Lent) → things l notes.new ≡ things l notes.old ++ if_so (packets == 18) (long_island at) }
+{
+    if packets == 18 {
+        notes.push(Note::LongIsland { column: at });
+    }
+}
+
+/// Tells the words that are no TERC4 words, and the verdicts on the five blocks.
+fn tell_verdicts(at: u32, verdicts: &PacketVerdicts, notes: &mut Notes)
+    requires room { length notes.old ≤ 1 }
+    ensures room { length notes.new ≤ 7 }
+    ensures told { (l : Lent) → things l notes.new ≡ things l notes.old ++ packet_faults at verdicts.now }
+{
+    let [a, b, c, d, header] = verdicts.blocks;
+    tell_symbols(at, verdicts.symbols, notes);
+    tell_block(at, 0, a, notes);
+    tell_block(at, 1, b, notes);
+    tell_block(at, 2, c, notes);
+    tell_block(at, 3, d, notes);
+    tell_block(at, 4, header, notes);
+}
+
+/// Tells a packet that came whole at a column, after some packets of its island.
+fn tell_packet(at: u32, packets: u32, whole: &Whole, notes: &mut Notes)
+    requires room { length notes.old ≤ 0 }
+    ensures room { length notes.new ≤ 8 }
+    ensures told { (bytes : List ℕ) (p : List Column) → whole.now.packet ≡ packet_of p → whole.now.verdicts ≡ verdicts_of p
+        → things (lent bytes whole.now) notes.new ≡ packet_things at packets p }
+{
+    notes.push(Note::Packet { column: at });
+    tell_verdicts(at, &whole.verdicts, notes);
+    tell_long(at, packets, notes);
+}
+
+/// Takes the packet of 32 columns.
+fn taken(columns: &[[Word; 3]; 32]) -> Whole
+    ensures packet { result.packet ≡ packet_in columns.now }
+    ensures verdicts { result.verdicts ≡ verdicts_in columns.now }
+{
+    let (packet, verdicts) = take(columns);
+    Whole { packet, verdicts }
+}
+
+fn tell_guard(is_guard: bool, at: u32, notes: &mut Notes)
+    requires room { length notes.old < 8 }
+    ensures room { length notes.new ≤ length notes.old + 1 }
+    ensures told { (l : Lent) → things l notes.new ≡ things l notes.old ++ if_so (not is_guard) (guard at) }
+{
+    if !is_guard {
+        notes.push(Note::Guard { column: at });
+    }
+}
+
+fn tell_empty(none: bool, start: u32, notes: &mut Notes)
+    requires room { length notes.old < 8 }
+    ensures room { length notes.new ≤ length notes.old + 1 }
+    ensures told { (l : Lent) → things l notes.new ≡ things l notes.old ++ if_so none (empty start) }
+{
+    if none {
+        notes.push(Note::Empty { column: start });
+    }
+}
+
+/// The guard's two columns: the first by its digit and whether it is a guard column, and the second.
+fn tell_close(
+    start: u32,
+    at: u32,
+    packets: u32,
+    digit: u8,
+    guard: bool,
+    column: &[Word; 3],
+    notes: &mut Notes,
+)
+    requires room { length notes.old ≤ 0 }
+    requires fits { at + 1 < 2 ^ 32 }
+    ensures room { length notes.new ≤ 4 }
+    ensures told { (l : Lent) (c : Column) → digit ≡ sync_digit c.blue → guard ≡ is_island_guard c → things l notes.new ≡ closing_things start at packets c (column_of column.now) }
+{
+    notes.push(Note::Close {
+        first: digit,
+        second: column::digit(column::blue(column)),
+    });
+    tell_guard(guard, at, notes);
+    tell_guard(column::island_column(column), at + 1, notes);
+    tell_empty(packets == 0, start, notes);
+}
+
+/// Puts a column at a place behind those before it.
+fn put_column(block: &mut [[Word; 3]; 32], at: u32, column: &[Word; 3])
+    requires { at < 32 }
+    ensures whole { length block.new ≡ 32 }
+    ensures put { take (at + 1) block.new ≡ take at block.old ++ words_of (column_of column.now) ∷ [] }
+{
+    block[at as usize] = *column;
+}
+
+impl Island {
+    /// An island with no column.
+    pub fn new() -> Island
+        ensures blocked { IsBlocked result }
+        ensures heard { IsIslandAfter result [] }
+    {
+        let word = terc(0);
+        let block = [[word; 3]; 32];
+        Island {
+            block,
+            packets: 0,
+            within: 0,
+            left: Left::Packet,
+            whole: taken(&block),
+        }
+    }
+
+    pub fn clear(&mut self)
+        ensures blocked { IsBlocked self.new }
+        ensures packets { self.new.packets ≡ 0 }
+        ensures within { self.new.within ≡ 0 }
+        ensures heard { IsIslandAfter self.new [] }
+    {
+        self.packets = 0;
+        self.within = 0;
+        self.left = Left::Packet;
+    }
+
+    /// Hears the first column of a packet or of the closing guard.
+    fn begin(&mut self, column: &[Word; 3])
+        requires none { self.old.within ≡ 0 }
+        requires packet { self.old.left ≡ Left.Packet }
+        ensures blocked { IsBlocked self.new }
+        ensures packets { (self.new.packets ≡ self.old.packets) × (self.new.within ≤ 1) }
+        ensures whole { self.new.whole ≡ self.old.whole }
+        ensures heard { (x : Payload) → IsPartsAfter Left.Packet self.old.packets 0 self.old.block x → IsPartsAfter self.new.left self.new.packets self.new.within self.new.block (after_payload (column_of column.now) x) }
+    {
+        if column::closing_column(column) {
+            self.left = Left::Closing {
+                digit: column::digit(column::blue(column)),
+                guard: column::island_column(column),
+            };
+            return;
+        }
+        put_column(&mut self.block, 0, column);
+        self.within = 1;
+    }
+
+    /// Hears a column, where the island began at column `start`.
+    pub fn hear(&mut self, start: u32, column: &[Word; 3], notes: &mut Notes)
+        requires blocked { IsBlocked self.old }
+        requires fits { (start + 2) + (32 * self.old.packets + 2) < 2 ^ 32 }
+        requires room { length notes.old ≤ 0 }
+        ensures blocked { IsBlocked self.new }
+        ensures packets { 32 * self.new.packets + self.new.within ≤ 32 * self.old.packets + (self.old.within + 1) }
+        ensures room { length notes.new ≤ 8 }
+        ensures told { (rest : List Column) (bytes : List ℕ) → IsIslandAfter self.old rest → things (lent bytes self.new.whole) notes.new ≡ island_gain start (column_of column.now) (payload rest) }
+        ensures heard { (rest : List Column) → IsIslandAfter self.old rest → IsIslandAfter self.new (rest ++ column_of column.now ∷ []) }
+    {
+        let at = start + 2 + 32 * self.packets;
+        match self.left {
+            Left::Packet => {
+                if self.within == 0 {
+                    self.begin(column);
+                    return;
+                }
+                put_column(&mut self.block, self.within, column);
+                if self.within == 31 {
+                    self.whole = taken(&self.block);
+                    tell_packet(at, self.packets, &self.whole, notes);
+                    self.within = 0;
+                    self.packets += 1;
+                } else {
+                    self.within += 1;
+                }
+            }
+            Left::Closing { digit, guard } => {
+                tell_close(start, at, self.packets, digit, guard, column, notes);
+                self.left = Left::Closed;
+            }
+            Left::Closed => {
+                notes.push(Note::Noise { column: at + 2 });
+                self.left = Left::Over;
+            }
+            Left::Over => {}
+        }
+    }
+
+    /// Where the packet or the closing guard begins that is not whole.
+    pub fn broken_at(&self, start: u32) -> Option<u32>
+        requires fits { (start + 2) + 32 * self.now.packets < 2 ^ 32 }
+        ensures { (rest : List Column) (f : ℕ → Thing) → IsIslandAfter self.now rest → breaks f start (payload rest) ≡ at_some f result }
+    {
+        match self.left {
+            Left::Packet | Left::Closing { .. } => Some(start + 2 + 32 * self.packets),
+            Left::Closed | Left::Over => None,
+        }
+    }
+
+    /// Lends the last packet that came whole.
+    pub fn whole(&self) -> &Whole
+        ensures { result.now ≡ self.now.whole }
+    {
+        &self.whole
+    }
+}

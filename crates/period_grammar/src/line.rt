@@ -1,0 +1,126 @@
+//! A line of pixels.
+ghost use Rattle.std.specs.Prelude.{◌≡◌, ◌<◌, ◌≤◌, ◌+◌, ◌^◌, ◌++◌, ◌∷◌, [], List, length, IfOk, if◌then◌else◌, nat_le, Some, None, Option, ℕ};
+ghost use Rattle.tmds_word.specs.Column.{Column, column_of};
+ghost use Rattle.period_grammar.specs.Heard.{line_of, code_fault};
+ghost use Rattle.period_grammar.specs.Lines.{IsLineAfter};
+ghost use Rattle.period_grammar.specs.Noted.{things, Lent, lent};
+ghost use Rattle.period_grammar.specs.declared.island.Whole.{Whole};
+
+use crate::column;
+use crate::held::Bytes;
+use crate::lane::Lane;
+use crate::notes::{Note, Notes};
+use outside_io::NoMemory;
+use std::alloc::Global;
+use std::marker::Model;
+use tmds_word::Word;
+
+/// The bytes and the judges of the first 4,096 pixels.
+#[derive(Drop)]
+pub struct Line {
+    bytes: Bytes,
+    count: u32,
+    blue: Lane,
+    green: Lane,
+    red: Lane,
+}
+
+impl Model for Line {
+    ghost use Rattle.period_grammar.specs.LineSeen.{LineSeen, IsInRange};
+
+    ghost Value = { LineSeen };
+
+    ghost view = { λ l. record { bytes = l.bytes; count = l.count; blue = l.blue; green = l.green; red = l.red } };
+
+    ghost invariant = { λ l. IsInRange (record { bytes = l.bytes; count = l.count; blue = l.blue; green = l.green; red = l.red }) };
+}
+
+impl Line {
+    #[tactic(auto, unfolding(crate::specs::Heard::line_bytes))]
+    pub fn open(alloc: Global) -> Result<Line, NoMemory>
+        ensures { IfOk result (λ l. IsLineAfter l []) }
+    {
+        let bytes = Bytes::open(alloc)?;
+        Ok(Line {
+            bytes,
+            count: 0,
+            blue: Lane::new(),
+            green: Lane::new(),
+            red: Lane::new(),
+        })
+    }
+
+    #[tactic(auto, unfolding(crate::specs::Heard::line_bytes))]
+    pub fn clear(&mut self)
+        ensures { IsLineAfter self.new [] }
+    {
+        self.bytes.clear();
+        self.count = 0;
+        self.blue = Lane::new();
+        self.green = Lane::new();
+        self.red = Lane::new();
+    }
+
+    /// Hears one pixel column.
+    pub fn hear(&mut self, column: &[Word; 3])
+        requires { self.old.count + 1 < 2 ^ 32 }
+        ensures count { self.new.count ≡ self.old.count + 1 }
+        ensures heard { (pixels : List Column) → IsLineAfter self.old pixels → IsLineAfter self.new (pixels ++ column_of column.now ∷ []) }
+    {
+        if self.count >= 4096 {
+            self.count += 1;
+            return;
+        }
+        let blue = self.blue.hear(column::blue(column));
+        let green = self.green.hear(column::green(column));
+        let red = self.red.hear(column::red(column));
+        self.bytes.push_three(red, green, blue);
+        self.count += 1;
+    }
+
+    /// Tells the line, whose first pixel is two columns after the start.
+    pub fn tell(&self, start: u32, notes: &mut Notes)
+        requires room { length notes.old ≤ 0 }
+        requires fits { start + self.now.count + 2 < 2 ^ 32 }
+        ensures room { length notes.new ≤ 5 }
+        ensures told { (pixels : List Column) (whole : Whole) → IsLineAfter self.now pixels → things (lent self.now.bytes whole) notes.new ≡ line_of start pixels }
+    {
+        if self.count == 0 {
+            notes.push(Note::Empty { column: start });
+            return;
+        }
+        notes.push(Note::Line);
+        tell_code(0, start + 2, self.blue.first, notes);
+        tell_code(1, start + 2, self.green.first, notes);
+        tell_code(2, start + 2, self.red.first, notes);
+        if self.count > 4096 {
+            notes.push(Note::LongLine { column: start });
+        }
+    }
+
+    pub fn bytes(&self) -> &[u8]
+        ensures { result.now ≡ self.now.bytes }
+    {
+        self.bytes.bytes()
+    }
+
+    pub fn count(&self) -> u32
+        ensures { result ≡ self.now.count }
+    {
+        self.count
+    }
+}
+
+fn tell_code(lane: u8, from: u32, first: Option<u32>, notes: &mut Notes)
+    requires room { length notes.old < 8 }
+    requires fits { (i : ℕ) → first ≡ Some i → from + i < 2 ^ 32 }
+    ensures room { length notes.new ≤ length notes.old + 1 }
+    ensures told { (bytes : Lent) → things bytes notes.new ≡ things bytes notes.old ++ code_fault lane from first }
+{
+    if let Some(i) = first {
+        notes.push(Note::Code {
+            lane,
+            column: from + i,
+        });
+    }
+}

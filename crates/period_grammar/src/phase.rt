@@ -1,0 +1,206 @@
+//! What follows the control columns, and the step of a column.
+ghost use Rattle.std.specs.Prelude.{◌≡◌, ◌<◌, ◌≤◌, ◌+◌, ◌^◌, ◌++◌, ◌∷◌, [], List, ℕ, length, true, false};
+ghost use Rattle.tmds_word.specs.Column.{Column, column_of};
+ghost use Rattle.period_grammar.specs.Column.{value_of};
+ghost use Rattle.terc4.specs.Columns.{is_control_column, is_video_guard};
+ghost use Rattle.terc4.specs.Tables.{is_control};
+ghost use Rattle.period_grammar.specs.Cut.{Period};
+ghost use Rattle.period_grammar.specs.Heard.{other_words, other_word};
+ghost use Rattle.period_grammar.specs.After.{gains, grown, gap_of, ends};
+ghost use Rattle.period_grammar.specs.ControlAfter.{IsControlAfter, IsCounted};
+ghost use Rattle.period_grammar.specs.IslandAfter.{IsBlocked, at_some};
+ghost use Rattle.period_grammar.specs.Things.{broken, cut};
+ghost use Rattle.period_grammar.specs.Noted.{things, lent, Lent};
+ghost use Rattle.period_grammar.specs.Seen.{IsPlaced};
+ghost use Rattle.period_grammar.specs.Stands.{IsPeriodAfter, closed, going_on};
+
+use crate::column;
+use crate::control::Kept;
+use crate::island::Island;
+use crate::line::Line;
+use crate::notes::{Note, Notes};
+use tmds_word::Word;
+
+/// Where in the columns that are no control columns the hearing is.
+#[derive(Clone, Copy, Drop)]
+pub enum Phase {
+    Control,
+    First {
+        start: u32,
+        video: bool,
+        island: bool,
+        digit: u8,
+    },
+    Video {
+        start: u32,
+    },
+    Payload {
+        start: u32,
+    },
+    Noise,
+}
+
+/// Tells what ends at a control column, and gives what is kept of the control columns that go on.
+pub fn close(
+    phase: Phase,
+    n: u32,
+    value: u8,
+    kept: Kept,
+    line: &Line,
+    island: &Island,
+    notes: &mut Notes,
+) -> Kept
+    requires room { length notes.old ≤ 0 }
+    requires counted { IsCounted kept }
+    requires fits { n + 40 < 2 ^ 32 }
+    requires few { kept.columns ≤ n }
+    requires placed { IsPlaced phase line.now.count island.now n }
+    ensures room { length notes.new ≤ 5 }
+    ensures counted { IsCounted result }
+    ensures few { result.columns ≤ n }
+    ensures told { (x : Period) (b : ℕ) → IsPeriodAfter phase kept line.now island.now n x → b + length (gap_of x) ≡ n → things (lent line.now.bytes island.now.whole) notes.new ≡ closed value b x }
+    ensures kept { (x : Period) → IsPeriodAfter phase kept line.now island.now n x → IsControlAfter result (going_on x) }
+{
+    match phase {
+        Phase::Control => {
+            kept.tell_change(value, notes);
+            kept
+        }
+        Phase::First { start, .. } => {
+            notes.push(Note::Noise { column: start });
+            Kept::new()
+        }
+        Phase::Video { start } => {
+            line.tell(start, notes);
+            Kept::new()
+        }
+        Phase::Payload { start } => {
+            tell_broken(island.broken_at(start), notes);
+            Kept::new()
+        }
+        Phase::Noise => Kept::new(),
+    }
+}
+
+fn tell_word(lane: u8, n: u32, word: Word, notes: &mut Notes)
+    requires room { length notes.old < 8 }
+    ensures room { length notes.new ≤ length notes.old + 1 }
+    ensures told { (bytes : Lent) → things bytes notes.new ≡ things bytes notes.old ++ other_word lane n (is_control word) }
+{
+    if !column::control_word(word) {
+        notes.push(Note::Word { lane, column: n });
+    }
+}
+
+/// Tells the words of a control column that are no control words.
+pub fn tell_words(n: u32, column: &[Word; 3], notes: &mut Notes)
+    requires room { length notes.old ≤ 5 }
+    ensures room { length notes.new ≤ 8 }
+    ensures told { (bytes : Lent) → things bytes notes.new ≡ things bytes notes.old ++ other_words n (column_of column.now) }
+{
+    tell_word(0, n, column::blue(column), notes);
+    tell_word(1, n, column::green(column), notes);
+    tell_word(2, n, column::red(column), notes);
+}
+
+/// Tells what a column tells that is no control column.
+pub fn go_on(
+    phase: Phase,
+    n: u32,
+    column: &[Word; 3],
+    kept: &Kept,
+    line: &mut Line,
+    island: &mut Island,
+    notes: &mut Notes,
+) -> Phase
+    requires room { length notes.old ≤ 0 }
+    requires placed { IsPlaced phase line.old.count island.old n }
+    requires blocked { IsBlocked island.old }
+    requires fits { n + 40 < 2 ^ 32 }
+    ensures blocked { IsBlocked island.new }
+    ensures room { length notes.new ≤ 8 }
+    ensures placed { IsPlaced result line.new.count island.new (n + 1) }
+    ensures told { (x : Period) (b : ℕ) → IsPeriodAfter phase kept.now line.old island.old n x → b + length (gap_of x) ≡ n → things (lent line.new.bytes island.new.whole) notes.new ≡ gains false b n (column_of column.now) x }
+    ensures stands { (x : Period) → IsPeriodAfter phase kept.now line.old island.old n x → IsPeriodAfter result kept.now line.new island.new (n + 1) (grown false (column_of column.now) x) }
+{
+    match phase {
+        Phase::Control => {
+            kept.tell_run(notes);
+            Phase::First {
+                start: n,
+                video: column::guard_column(column),
+                island: column::island_column(column),
+                digit: column::digit(column::blue(column)),
+            }
+        }
+        Phase::First {
+            start,
+            video,
+            island: opens,
+            digit,
+        } => {
+            if video & column::guard_column(column) {
+                kept.tell_video(start, notes);
+                line.clear();
+                return Phase::Video { start };
+            }
+            if opens & column::island_column(column) {
+                kept.tell_island(start, notes);
+                notes.push(Note::Open {
+                    first: digit,
+                    second: column::digit(column::blue(column)),
+                });
+                island.clear();
+                return Phase::Payload { start };
+            }
+            notes.push(Note::Noise { column: start });
+            Phase::Noise
+        }
+        Phase::Payload { start } => {
+            island.hear(start, column, notes);
+            Phase::Payload { start }
+        }
+        Phase::Video { start } => {
+            line.hear(column);
+            Phase::Video { start }
+        }
+        Phase::Noise => Phase::Noise,
+    }
+}
+
+/// Tells what the end tells.
+pub fn end(phase: Phase, n: u32, kept: &Kept, line: &Line, island: &Island, notes: &mut Notes)
+    requires fits { n + 40 < 2 ^ 32 }
+    requires room { length notes.old ≤ 0 }
+    requires placed { IsPlaced phase line.now.count island.now n }
+    ensures room { length notes.new ≤ 8 }
+    ensures told { (x : Period) (b : ℕ) → IsPeriodAfter phase kept.now line.now island.now n x → b + length (gap_of x) ≡ n → things (lent line.now.bytes island.now.whole) notes.new ≡ ends b x }
+{
+    match phase {
+        Phase::Control => kept.tell_run(notes),
+        Phase::First { start, .. } => notes.push(Note::Cut { column: start }),
+        Phase::Video { start } => notes.push(Note::Cut { column: start + 2 }),
+        Phase::Payload { start } => tell_cut(island.broken_at(start), notes),
+        Phase::Noise => {}
+    }
+}
+
+fn tell_broken(at: Option<u32>, notes: &mut Notes)
+    requires room { length notes.old ≤ 0 }
+    ensures room { length notes.new ≤ 1 }
+    ensures told { (bytes : Lent) → things bytes notes.new ≡ at_some broken at }
+{
+    if let Some(column) = at {
+        notes.push(Note::Broken { column });
+    }
+}
+
+fn tell_cut(at: Option<u32>, notes: &mut Notes)
+    requires room { length notes.old ≤ 0 }
+    ensures room { length notes.new ≤ 1 }
+    ensures told { (bytes : Lent) → things bytes notes.new ≡ at_some cut at }
+{
+    if let Some(column) = at {
+        notes.push(Note::Cut { column });
+    }
+}
