@@ -2,3 +2,4 @@ pub mod Members
 pub mod Choices
 pub mod Entries
 pub mod Words
+pub mod Example

@@ -50,3 +50,19 @@ abbrev pub ControlOverlap : Type 0
 ControlOverlap =
     (v w k : ℕ) → is_control v ≡ true → is_control w ≡ true → k ≤ 10
     → drop (10 - k) (word_bits v) ≡ take k (word_bits w) → (k ≤ 2) ⊎ (k ≡ 10)
+
+-- what meets the premises of each: words of each kind, and control words of which the one ends as the other begins
+pub record IsExample (control terc guard quiet v w k : ℕ) : Type 0 where
+  pub one : is_control control ≡ true
+  pub table : is_terc terc ≡ true
+  pub guards : is_guard guard ≡ true
+  pub few : turns (word_bits quiet) ≤ 5
+  pub first : is_control v ≡ true
+  pub second : is_control w ≡ true
+  pub overlap : drop (10 - k) (word_bits v) ≡ take k (word_bits w)
+  pub some : 0 < k
+  pub within : k ≤ 10
+
+-- there are such words
+abbrev pub HasExample : Type 0
+HasExample = (control terc guard quiet v w k : ℕ) × IsExample control terc guard quiet v w k

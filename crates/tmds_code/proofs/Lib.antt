@@ -1,3 +1,4 @@
 pub mod TableWords
 pub mod Steps
 pub mod Lanes
+pub mod Example

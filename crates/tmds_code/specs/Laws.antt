@@ -17,3 +17,12 @@ pub record IsQuiet (w : ℕ) : Type 0 where
 
 abbrev pub CodedIsQuiet : Type 0
 CodedIsQuiet = (disparity : ℤ) (byte w : ℕ) → byte < 256 → Coded disparity byte w → IsQuiet w
+
+-- what meets the premises of both
+pub record IsExample (disparity : ℤ) (byte w : ℕ) : Type 0 where
+  pub small : byte < 256
+  pub coded : Coded disparity byte w
+
+-- there is such a character
+abbrev pub HasExample : Type 0
+HasExample = (disparity : ℤ) × (byte w : ℕ) × IsExample disparity byte w

@@ -1,5 +1,5 @@
 //! Laws of the coding, over its definition alone.
-ghost use Rattle.tmds_code.specs.Laws.{DecodesCoded, CodedIsQuiet};
+ghost use Rattle.tmds_code.specs.Laws.{DecodesCoded, CodedIsQuiet, HasExample};
 
 /// A coded character carries the byte that it codes, at every disparity.
 pub fn decodes_coded()
@@ -9,4 +9,9 @@ pub fn decodes_coded()
 /// A coded character has at most five transitions, so it is no control character.
 pub fn coded_is_quiet()
     ensures { CodedIsQuiet }
+{}
+
+/// There is a character that meets the premises of both.
+pub fn has_example()
+    ensures { HasExample }
 {}

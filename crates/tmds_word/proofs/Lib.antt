@@ -5,3 +5,4 @@ pub mod Rows
 pub mod Words
 pub mod Bytes
 pub mod Turns
+pub mod Example

@@ -1,5 +1,5 @@
 -- Lists of bits that are cut into parts, and how many transitions they have.
-use Rattle.std.specs.Prelude.{ℕ, ◌+◌, ◌-◌, ◌<◌, ◌≤◌, min, Bool, List, [], ◌∷◌, ◌++◌, length, take, drop, slice_index_or}
+use Rattle.std.specs.Prelude.{◌≡◌, ℕ, ◌+◌, ◌-◌, ◌<◌, ◌≤◌, min, Bool, List, [], ◌∷◌, ◌++◌, length, take, drop, slice_index_or}
 use Rattle.tmds_word.specs.Bits.{turns, word_bits}
 
 -- parts, one after another
@@ -43,3 +43,13 @@ abbrev pub CalmBelow : Type 0
 CalmBelow =
     (parts : List (List Bool)) → 0 < length parts → ((k : ℕ) → k < length parts → IsCalmPart (slice_index_or parts k []))
     → turns (joined parts) + 1 ≤ part_costs parts
+
+-- what meets the premises of all of these: calm parts, two at least, and a character of five turns
+pub record IsExample (parts : List (List Bool)) (w : ℕ) : Type 0 where
+  pub several : 2 ≤ length parts
+  pub calm : (k : ℕ) → k < length parts → IsCalmPart (slice_index_or parts k [])
+  pub five : turns (word_bits w) ≡ 5
+
+-- there are such parts
+abbrev pub HasExample : Type 0
+HasExample = (parts : List (List Bool)) × (w : ℕ) × IsExample parts w

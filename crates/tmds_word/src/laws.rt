@@ -1,5 +1,5 @@
 //! Laws on the transitions of lists of bits, over the definitions alone.
-ghost use Rattle.tmds_word.specs.Cuts.{PartsBelow, CutAbove, PieceBelow, PartOfWord, CalmBelow};
+ghost use Rattle.tmds_word.specs.Cuts.{PartsBelow, CutAbove, PieceBelow, PartOfWord, CalmBelow, HasExample};
 
 /// A list that is cut into parts has at least the turns of its parts.
 pub fn parts_below()
@@ -25,4 +25,9 @@ pub fn part_of_word()
 /// length of each part, summed.
 pub fn calm_below()
     ensures { CalmBelow }
+{}
+
+/// There are parts and a character that meet the premises of these laws.
+pub fn has_example()
+    ensures { HasExample }
 {}
