@@ -6,3 +6,5 @@ pub mod Fronts
 pub mod Awaited
 pub mod Marks
 pub mod Blocks
+pub mod Hits
+pub mod Refused

@@ -83,7 +83,7 @@ take_mark bits (suc (suc (suc zero))) lt = refl
 take_mark bits (suc (suc (suc (suc zero)))) lt = refl
 take_mark bits (suc (suc (suc (suc (suc p))))) lt = absurd (omega arith)
 
-take_begins : (n : ℕ) (xs : List ℕ) → BeginsCapture xs → BeginsCapture (take n xs)
+pub take_begins : (n : ℕ) (xs : List ℕ) → BeginsCapture xs → BeginsCapture (take n xs)
 take_begins n xs h = begins-part (take n xs) (drop n xs) (subst (λ bs. BeginsCapture bs) (sym (take-append-drop n xs)) h)
 
 -- a byte that is not the mark's

@@ -3,3 +3,5 @@ pub mod Lanes
 pub mod Taps
 pub mod Faults
 pub mod Reading
+pub mod Damage
+pub mod Refusals

@@ -1,14 +1,18 @@
 //! Captures: the bits of three TMDS lanes as bytes of this project's own layout.
 #![tactic(auto)]
 
+mod damaging;
 mod lanes;
 mod reading;
 mod writing;
 
+pub use damaging::{DamageError, Hit, damage};
 pub use lanes::Lanes;
 pub use reading::{CaptureError, CaptureFault, Rows, read_capture};
 pub use writing::{Tap, write_capture};
 
+#[cfg(test)]
+mod damage_tests;
 #[cfg(test)]
 mod reading_tests;
 #[cfg(test)]

@@ -4,6 +4,7 @@ ghost use Rattle.std.specs.Io.KnownBytes.{IsAtEnd};
 ghost use Rattle.tmds_word.specs.Bits.{bytes_bits};
 ghost use Rattle.capture_file.specs.Layout.{packed, header, capture_of};
 ghost use Rattle.capture_file.specs.Faults.{AreLanes, IsFault, AnswersBytes, IsCaused};
+ghost use Rattle.capture_file.specs.Refusals.{IsEarly, IsEarlyFault};
 ghost use Rattle.capture_file.specs.Reading.{AreBytes, IsTrailing, Awaits, Faulty, Parted, Grown, front_of};
 
 use outside_io::{Source, read_full};
@@ -40,9 +41,9 @@ pub enum CaptureError {
 /// The three lanes of a capture, of one length.
 #[derive(Drop)]
 pub struct Rows {
-    blue: BitRow,
-    green: BitRow,
-    red: BitRow,
+    pub(crate) blue: BitRow,
+    pub(crate) green: BitRow,
+    pub(crate) red: BitRow,
 }
 
 impl Model for Rows {
@@ -83,15 +84,15 @@ pub fn read_capture<S: Source>(alloc: Global, source: &mut S) -> Result<Rows, Ca
     ensures later { S.faults source.old ≤ S.faults source.new }
 {
     let bits = read_header(source)?;
-    let rows = read_rows(alloc, source, bits)?;
-    read_end(source, 8 + 3 * u64::from(bits.div_ceil(8)))?;
-    Ok(rows)
+    read_lanes(alloc, source, bits)
 }
 
 /// Reads the header, and says how many bits each lane has.
-fn read_header<S: Source>(source: &mut S) -> Result<u32, CaptureError>
+pub(crate) fn read_header<S: Source>(source: &mut S) -> Result<u32, CaptureError>
     ensures ok { (bytes : List ℕ) → S.left source.old ≡ Some bytes → IfOk result (λ bits. Parted bytes (header bits) (S.left source.new)) }
     ensures err { (bytes : List ℕ) → S.left source.old ≡ Some bytes → IfErr result (λ e. Faulty bytes e) }
+    ensures small { IfOk result (λ bits. bits < 2 ^ 32) }
+    ensures early { IfErr result (λ e. IsEarly e) }
     ensures caused { IfErr result (λ e. IsCaused (S.faults source.old) (S.faults source.new) e) }
     ensures later { S.faults source.old ≤ S.faults source.new }
 {
@@ -111,6 +112,8 @@ fn judge_header(head: &[u8; 8], count: usize) -> Result<u32, CaptureFault>
     requires { count ≤ 8 }
     ensures ok { IfOk result (λ bits. take count head.now ≡ header bits) }
     ensures err { (rest : List ℕ) → (count < 8 → rest ≡ []) → IfErr result (λ fault. IsFault (take count head.now ++ rest) fault) }
+    ensures small { IfOk result (λ bits. bits < 2 ^ 32) }
+    ensures early { IfErr result (λ fault. IsEarlyFault fault) }
 {
     let like = marked(head, count);
     if like < count.min(4) {
@@ -138,6 +141,25 @@ fn marked(head: &[u8; 8], count: usize) -> usize
         at += 1;
     }
     at
+}
+
+/// Reads the lanes after a header, to the end of the bytes.
+pub(crate) fn read_lanes<S: Source>(
+    alloc: Global,
+    source: &mut S,
+    bits: u32,
+) -> Result<Rows, CaptureError>
+    ensures ok { (bytes : List ℕ) → S.left source.old ≡ Some bytes → IfOk result (λ rows. header bits ++ bytes ≡ capture_of rows.blue rows.green rows.red) }
+    ensures err { (bytes : List ℕ) → S.left source.old ≡ Some bytes → IfErr result (λ e. Faulty (header bits ++ bytes) e) }
+    ensures count { IfOk result (λ rows. length rows.blue ≡ bits) }
+    ensures lanes { IfOk result (λ rows. AreLanes rows.blue rows.green rows.red) }
+    ensures ended { OnOk result (IsAtEnd (S.left source.new)) }
+    ensures caused { IfErr result (λ e. IsCaused (S.faults source.old) (S.faults source.new) e) }
+    ensures later { S.faults source.old ≤ S.faults source.new }
+{
+    let rows = read_rows(alloc, source, bits)?;
+    read_end(source, 8 + 3 * u64::from(bits.div_ceil(8)))?;
+    Ok(rows)
 }
 
 /// Reads every block of lanes of so many bits.

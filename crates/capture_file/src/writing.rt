@@ -2,10 +2,10 @@
 ghost use Rattle.std.specs.Prelude.{◌≡◌, ◌+◌, ◌-◌, ◌*◌, ◌/◌, ◌^◌, ◌<◌, ◌≤◌, length, take, drop, min, slice_index, IfErr, OnOk};
 ghost use Rattle.std.specs.Io.KnownBytes.{Appends};
 ghost use Rattle.outside_io.specs.Causes.{HasCause};
-ghost use Rattle.capture_file.specs.Layout.{packed, header, chunk};
+ghost use Rattle.capture_file.specs.Layout.{packed, header, chunk, capture_of};
 ghost use Rattle.capture_file.specs.Taps.{tap_length, tapped_capture, HasBits, part_capture, part_block};
 
-use crate::Lanes;
+use crate::{Lanes, Rows};
 use outside_io::{Sink, Wrote, write_all};
 use tmds_word::BitRow;
 
@@ -56,6 +56,19 @@ impl Lanes {
             Some(most) => left.min(most),
             None => left,
         }
+    }
+}
+
+impl Rows {
+    /// Writes the capture of the lanes.
+    pub(crate) fn write<K: Sink>(&self, out: &mut K) -> Result<(), Wrote>
+        ensures whole { OnOk result (Appends (K.held out.old) (K.held out.new) (capture_of self.now.blue self.now.green self.now.red)) }
+        ensures part { IfErr result (λ w. Appends (K.held out.old) (K.held out.new) (take w.gone (capture_of self.now.blue self.now.green self.now.red))) }
+        ensures missing { IfErr result (λ w. w.gone < length (capture_of self.now.blue self.now.green self.now.red)) }
+        ensures cause { HasCause (K.faults out.old) (K.faults out.new) result }
+    {
+        let bits = self.blue.len();
+        write_rows(&self.blue, &self.green, &self.red, [0; 3], bits, out)
     }
 }
 

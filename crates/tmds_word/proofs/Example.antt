@@ -1,5 +1,5 @@
 -- Two parts and a character that meet the premises of the laws of turns.
-use Rattle.std.proofs.Common.{◌≡◌, ℕ, suc, zero, ◌<◌, ◌≤◌, Bool, true, false, List, [], ◌∷◌, length, refl, arith, slice_index_or}
+use Rattle.std.proofs.Common.{◌≡◌, ℕ, suc, zero, ◌<◌, Bool, true, false, List, [], ◌∷◌, length, refl, arith, slice_index_or}
 use Rattle.tmds_word.specs.Bits.{turns, unlike, word_bits, bits_of}
 use Rattle.tmds_word.specs.Cuts.{IsCalmPart, HasExample}
 

@@ -2,6 +2,7 @@ pub mod Below
 pub mod Numbers
 pub mod Lists
 pub mod Rows
+pub mod Setting
 pub mod Words
 pub mod Bytes
 pub mod Turns

@@ -217,7 +217,7 @@ bits_of-mod k n =
     let e : n % c + c * (n / c) ≡ n = omega arith in
     sym (ap (λ m. bits_of k m) (sym e) ∙ bits_of-low k (n % c) (n / c))
 
-take_low : (k h n : ℕ) → k ≤ h → take k (bits_of h n) ≡ bits_of k n
+pub take_low : (k h n : ℕ) → k ≤ h → take k (bits_of h n) ≡ bits_of k n
 take_low k h n le =
     let e : k + (h - k) ≡ h = omega arith in
     ap (λ m. take k (bits_of m n)) (sym e) ∙ take_bits k (h - k) n

@@ -3,10 +3,12 @@
 
 mod column;
 pub mod laws;
+mod replace;
 mod row;
 mod word;
 
 pub use column::ColumnSink;
+pub use replace::replace_word;
 pub use row::BitRow;
 pub use word::Word;
 

@@ -1,7 +1,7 @@
 //! Characters and rows compared with values that were computed apart from this crate.
 ghost use Rattle.std.specs.Prelude.{ℕ, List, length};
 
-use crate::{BitRow, ColumnSink, Word};
+use crate::{BitRow, ColumnSink, Word, replace_word};
 use outside_io::NoMemory;
 use std::alloc::Global;
 use std::process::Abort;
@@ -189,6 +189,87 @@ fn packed_bits(rt: HostRuntime) -> Result<(), Fail> {
             later.copy_bytes(3, &mut into);
         }
         assert_eq!(rt; into, PACKED, "from {from}");
+    }
+    Ok(())
+}
+
+/// Places in these bytes, characters that replace the ten bits from there on, and the bytes then.
+static REPLACED: [(u32, u16, [u8; 14]); 8] = [
+    (
+        0,
+        0x2ab,
+        [
+            0xab, 0xae, 0x42, 0xd5, 0xaa, 0x9c, 0x7a, 0xc4, 0x6c, 0x9c, 0x33, 0xfd, 0x1f, 0x00,
+        ],
+    ),
+    (
+        3,
+        0x3ff,
+        [
+            0xfc, 0xbf, 0x42, 0xd5, 0xaa, 0x9c, 0x7a, 0xc4, 0x6c, 0x9c, 0x33, 0xfd, 0x1f, 0x00,
+        ],
+    ),
+    (
+        8,
+        0x000,
+        [
+            0x54, 0x00, 0x40, 0xd5, 0xaa, 0x9c, 0x7a, 0xc4, 0x6c, 0x9c, 0x33, 0xfd, 0x1f, 0x00,
+        ],
+    ),
+    (
+        41,
+        0x2aa,
+        [
+            0x54, 0xaf, 0x42, 0xd5, 0xaa, 0x54, 0x7d, 0xc4, 0x6c, 0x9c, 0x33, 0xfd, 0x1f, 0x00,
+        ],
+    ),
+    (
+        95,
+        0x155,
+        [
+            0x54, 0xaf, 0x42, 0xd5, 0xaa, 0x9c, 0x7a, 0xc4, 0x6c, 0x9c, 0x33, 0xfd, 0xaa, 0x00,
+        ],
+    ),
+    (
+        96,
+        0x001,
+        [
+            0x54, 0xaf, 0x42, 0xd5, 0xaa, 0x9c, 0x7a, 0xc4, 0x6c, 0x9c, 0x33, 0xfd, 0x01, 0x00,
+        ],
+    ),
+    (
+        99,
+        0x2cc,
+        [
+            0x54, 0xaf, 0x42, 0xd5, 0xaa, 0x9c, 0x7a, 0xc4, 0x6c, 0x9c, 0x33, 0xfd, 0x67, 0x16,
+        ],
+    ),
+    (
+        100,
+        0x3fe,
+        [
+            0x54, 0xaf, 0x42, 0xd5, 0xaa, 0x9c, 0x7a, 0xc4, 0x6c, 0x9c, 0x33, 0xfd, 0xef, 0x3f,
+        ],
+    ),
+];
+
+// The row's 110 bits end six bits into the last byte, so that some characters reach into its tail.
+#[test]
+fn replaced_words(rt: HostRuntime) -> Result<(), Fail> {
+    for &(place, value, expected) in &REPLACED {
+        let word = Word::new(value).ok_or("ten bits")?;
+        let mut bytes = PACKED;
+        assert!(rt; place as usize + 10 <= 8 * bytes.as_slice().len());
+        replace_word(&mut bytes, place, word);
+        assert_eq!(rt; bytes, expected, "bytes at {place}");
+
+        let mut row = BitRow::new(rt.alloc());
+        row.push_bits(&PACKED, 110)?;
+        assert!(rt; place + 10 <= row.len());
+        row.replace_word(place, word);
+        assert_eq!(rt; row.len(), 110);
+        row.copy_bytes(0, &mut bytes);
+        assert_eq!(rt; bytes, expected, "a row at {place}");
     }
     Ok(())
 }
