@@ -9,9 +9,9 @@ use Rattle.tmds_word.specs.Bits.{bit}
 use Rattle.lane_align.specs.Lanes.{HasControl, IsRun, IsLock}
 use Rattle.lane_align.proofs.Controls.{run_within}
 
--- the answers that are kept before place p: bit k is that of the place k before the last
-abbrev pub Keeps : List Bool → ℕ → ℕ → Type 0
-Keeps xs p recent = (k : ℕ) → k < 111 → k < p → (bit recent k ≡ true → HasControl xs (p - 1 - k)) × (HasControl xs (p - 1 - k) → bit recent k ≡ true)
+-- the answers that are kept of the places from one on to before place p: bit k is that of the place k before the last
+abbrev pub Keeps : List Bool → ℕ → ℕ → ℕ → Type 0
+Keeps xs from p recent = (k : ℕ) → k < 111 → from + k < p → (bit recent k ≡ true → HasControl xs (p - 1 - k)) × (HasControl xs (p - 1 - k) → bit recent k ≡ true)
 
 small : (b : Bool) → cond b 1 0 < 2
 small true = omega arith
@@ -50,13 +50,13 @@ heard_is n r b e =
     ap (λ m. bit_or m r) twice ∙ or_shifted a 1 r few ∙ sum
 
 -- one more answer
-pub keeps_more : (xs : List Bool) (p recent next : ℕ) (b : Bool) → Keeps xs p recent → next ≡ (2 * recent + cond b 1 0) % 2 ^ 128
-    → (b ≡ true → HasControl xs p) × (HasControl xs p → b ≡ true) → Keeps xs (p + 1) next
-keeps_more xs p recent next b was e here zero few lt =
+pub keeps_more : (xs : List Bool) (from p recent next : ℕ) (b : Bool) → Keeps xs from p recent → next ≡ (2 * recent + cond b 1 0) % 2 ^ 128
+    → (b ≡ true → HasControl xs p) × (HasControl xs p → b ≡ true) → Keeps xs from (p + 1) next
+keeps_more xs from p recent next b was e here zero few lt =
     let is : bit next 0 ≡ b = ap (λ n. bit n 0) e ∙ bit_kept (2 * recent + cond b 1 0) 0 (omega arith) ∙ first_bit recent b in
     let at : p ≡ p + 1 - 1 - 0 = omega arith in
     (λ h. subst (HasControl xs) at (here.0 (sym is ∙ h)), λ h. is ∙ here.1 (subst (HasControl xs) (sym at) h))
-keeps_more xs p recent next b was e here (suc k) few lt =
+keeps_more xs from p recent next b was e here (suc k) few lt =
     let is : bit next (suc k) ≡ bit recent k =
     ap (λ n. bit n (suc k)) e ∙ bit_kept (2 * recent + cond b 1 0) (suc k) (omega arith) ∙ half_bit recent (cond b 1 0) k (small b) in
     let at : p - 1 - k ≡ p + 1 - 1 - suc k = omega arith in
@@ -64,34 +64,41 @@ keeps_more xs p recent next b was e here (suc k) few lt =
     (λ t. subst (HasControl xs) at (h.0 (sym is ∙ t)), λ t. is ∙ h.1 (subst (HasControl xs) (sym at) t))
 
 -- the answers of a run
-pub run_from : (xs : List Bool) (p recent : ℕ) → 110 ≤ p → Keeps xs (p + 1) recent → ((k : ℕ) → k < 12 → bit recent (10 * k) ≡ true) → IsRun xs (p - 110)
-run_from xs p recent far keeps ends k lt =
+pub run_from : (xs : List Bool) (from p recent : ℕ) → from + 110 ≤ p → Keeps xs from (p + 1) recent → ((k : ℕ) → k < 12 → bit recent (10 * k) ≡ true) → IsRun xs (p - 110)
+run_from xs from p recent far keeps ends k lt =
     let j = 11 - k in
     let at : p + 1 - 1 - 10 * j ≡ p - 110 + 10 * k = omega arith in
     subst (HasControl xs) at ((keeps (10 * j) (omega arith) (omega arith)).0 (ends j (omega arith)))
 
-pub run_to : (xs : List Bool) (p q recent : ℕ) → q + 110 ≡ p → Keeps xs (p + 1) recent → IsRun xs q → (k : ℕ) → k < 12 → bit recent (10 * k) ≡ true
-run_to xs p q recent at keeps run k lt =
+pub run_to : (xs : List Bool) (from p q recent : ℕ) → q + 110 ≡ p → from ≤ q → Keeps xs from (p + 1) recent → IsRun xs q → (k : ℕ) → k < 12 → bit recent (10 * k) ≡ true
+run_to xs from p q recent at after keeps run k lt =
     let e : q + 10 * (11 - k) ≡ p + 1 - 1 - 10 * k = omega arith in
     (keeps (10 * k) (omega arith) (omega arith)).1 (subst (HasControl xs) e (run (11 - k) (omega arith)))
+
+-- no run begins before a place
+abbrev pub NoRunBefore : List Bool → ℕ → Type 0
+NoRunBefore xs from = (p : ℕ) → p < from → IsRun xs p → ⊥
 
 -- no run ends before place p
 abbrev pub HasNone : List Bool → ℕ → Type 0
 HasNone xs p = (q : ℕ) → q + 110 < p → IsRun xs q → ⊥
 
-pub none_more : (xs : List Bool) (p recent : ℕ) → HasNone xs p → Keeps xs (p + 1) recent
-    → (110 ≤ p → ((k : ℕ) → k < 12 → bit recent (10 * k) ≡ true) → ⊥) → HasNone xs (p + 1)
-none_more xs p recent none keeps not q lt run = elim (cases_lt (q + 110) p) [
+pub none_more : (xs : List Bool) (from p recent : ℕ) → NoRunBefore xs from → HasNone xs p → Keeps xs from (p + 1) recent
+    → (from + 110 ≤ p → ((k : ℕ) → k < 12 → bit recent (10 * k) ≡ true) → ⊥) → HasNone xs (p + 1)
+none_more xs from p recent early none keeps not q lt run = elim (cases_lt (q + 110) p) [
   | inl before ↦ none q before run
-  | inr last ↦ not (omega arith) (run_to xs p q recent (omega arith) keeps run)
+  | inr last ↦ elim (cases_lt q from) [
+    | inl less ↦ early q less run
+    | inr after ↦ not (omega arith) (run_to xs from p q recent (omega arith) after keeps run)
+  ]
 ]
 
-pub lock_found : (xs : List Bool) (p recent : ℕ) → 110 ≤ p → HasNone xs p → Keeps xs (p + 1) recent
+pub lock_found : (xs : List Bool) (from p recent : ℕ) → from + 110 ≤ p → HasNone xs p → Keeps xs from (p + 1) recent
     → ((k : ℕ) → k < 12 → bit recent (10 * k) ≡ true) → IsLock xs (p - 110)
-lock_found xs p recent far none keeps ends = record {
-  run = run_from xs p recent far keeps ends;
+lock_found xs from p recent far none keeps ends = record {
+  run = run_from xs from p recent far keeps ends;
   least = λ q lt run. none q (omega arith) run;
 }
 
-pub none_at_all : (xs : List Bool) (last : ℕ) → last ≡ length xs - 9 → HasNone xs last → (q : ℕ) → IsRun xs q → ⊥
+pub none_at_all : (xs : List Bool) (last : ℕ) → length xs - 9 ≤ last → HasNone xs last → (q : ℕ) → IsRun xs q → ⊥
 none_at_all xs last e none q run = let within = run_within xs q run in none q (omega arith) run

@@ -5,3 +5,4 @@ pub mod Windows
 pub mod Across
 pub mod Calm
 pub mod Example
+pub mod Growing

@@ -25,10 +25,19 @@ const SPAN: u32 = 10 * (RUN - 1);
 pub fn find_lock(row: &BitRow) -> Option<u32>
     ensures { MatchOption result ((p : ℕ) → IsRun row.now p → ⊥) (λ p. IsLock row.now p) }
 {
+    find_lock_from(row, 0)
+}
+
+/// The lock of a row of whose places before `from` none is a run's. None exactly where the row has no
+/// run. Looks once at each place from `from` on.
+pub fn find_lock_from(row: &BitRow, from: u32) -> Option<u32>
+    requires { (p : ℕ) → p < from → IsRun row.now p → ⊥ }
+    ensures { MatchOption result ((p : ℕ) → IsRun row.now p → ⊥) (λ p. IsLock row.now p) }
+{
     let mut recent = 0;
-    for p in 0..row.len().saturating_sub(9) {
+    for p in from..row.len().saturating_sub(9) {
         recent = heard(recent, has_control(row, p));
-        if p >= SPAN && ends_run(recent) {
+        if p - from >= SPAN && ends_run(recent) {
             return Some(p - SPAN);
         }
     }

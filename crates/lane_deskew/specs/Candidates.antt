@@ -1,6 +1,6 @@
 -- Edges of three lanes that the search for a first full alignment has come to.
 use Rattle.std.specs.Prelude.{ℕ, ◌+◌, ◌≤◌, Bool, List, slice_index}
-use Rattle.lane_align.specs.Lanes.{IsLock, IsEdge}
+use Rattle.lane_align.specs.Lanes.{IsEdge}
 use Rattle.lane_deskew.specs.Triples.{AreNear, IsTriple}
 
 -- any two near each other
@@ -13,16 +13,6 @@ pub record AreReached (xs ys zs : List Bool) (d e f : ℕ) : Type 0 where
   pub second : IsEdge ys e
   pub third : IsEdge zs f
   pub before : (p q r : ℕ) → IsTriple xs ys zs p q r → (d ≤ p) × (e ≤ q) × (f ≤ r)
-
--- the same of a list of three edges, lane 0 first
-abbrev pub IsReached : List Bool → List Bool → List Bool → List ℕ → Type 0
-IsReached xs ys zs edges = AreReached xs ys zs (slice_index edges 0) (slice_index edges 1) (slice_index edges 2)
-
--- the locks of three lanes, lane 0 first
-pub record AreLocks (xs ys zs : List Bool) (locks : List ℕ) : Type 0 where
-  pub first : IsLock xs (slice_index locks 0)
-  pub second : IsLock ys (slice_index locks 1)
-  pub third : IsLock zs (slice_index locks 2)
 
 -- three numbers, summed
 abbrev pub sum_of : List ℕ → ℕ

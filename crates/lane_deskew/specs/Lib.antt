@@ -4,3 +4,4 @@ pub mod Aligned
 pub mod Laws
 pub mod Kinds
 pub mod Ends
+pub mod Searches

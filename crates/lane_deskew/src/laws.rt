@@ -1,11 +1,17 @@
 //! Laws on alignments. The functions do nothing: what they ensure is the law.
-ghost use Rattle.lane_deskew.specs.Laws.{OneFirst, ColumnsListed};
+ghost use Rattle.lane_deskew.specs.Laws.{OneFirst, ColumnsListed, FirstStays};
 ghost use Rattle.lane_deskew.specs.Ends.{EdgesEnd, EndsApart, OneEnd, FirstEnds, SparseReceived, ControlColumns, HasExample};
 
 /// Three rows have at most one first full alignment: two with the same largest edge have the same
 /// edges, since two edges of one row are at least 130 bits apart.
 pub fn one_first()
     ensures { OneFirst }
+{}
+
+/// A first full alignment of three rows of one length stays the first one when they grow by equally
+/// many bits.
+pub fn first_stays()
+    ensures { FirstStays }
 {}
 
 /// Column `j` is the one at `j` in the list of columns, which ends where some lane has no more.

@@ -1,25 +1,8 @@
--- The search for the triple whose largest edge is least.
+-- Edges that a search has come to, and the triple whose largest edge is least.
 use Rattle.std.proofs.Common.{◌≡◌, ℕ, ◌+◌, ◌≤◌, Bool, List, subst, arith, inl, inr}
 use Rattle.std.proofs.lemmas.Bool.{cases_lt}
-use Rattle.lane_align.specs.Lanes.{IsEdge, IsNextEdge}
 use Rattle.lane_deskew.specs.Triples.{AreNear, IsTriple, IsFirst}
 use Rattle.lane_deskew.specs.Candidates.{AreAllNear, AreReached}
-
--- an edge at or after a place is not before the least one
-pub not_before : (xs : List Bool) (from e d : ℕ) → IsNextEdge xs from e → IsEdge xs d → from ≤ d → e ≤ d
-not_before xs from e d next edge after = elim (cases_lt d e) [
-  | inl less ↦ absurd (next.least d after less edge)
-  | inr more ↦ omega arith
-]
-
--- the first edges of the lanes are reached
-pub firsts_reached : (xs ys zs : List Bool) (d e f : ℕ) → IsNextEdge xs 0 d → IsNextEdge ys 0 e → IsNextEdge zs 0 f → AreReached xs ys zs d e f
-firsts_reached xs ys zs d e f a b c = record {
-  first = a.edge;
-  second = b.edge;
-  third = c.edge;
-  before = λ p q r t. (not_before xs 0 d p a t.first (omega arith), not_before ys 0 e q b t.second (omega arith), not_before zs 0 f r c t.third (omega arith));
-}
 
 -- near edges that are reached are first
 pub near_first : (xs ys zs : List Bool) (d e f : ℕ) → AreReached xs ys zs d e f → AreAllNear d e f → IsFirst xs ys zs d e f
@@ -73,37 +56,6 @@ past_third xs ys zs d e f p q r reached far le_d le_e t =
           let near = all_near f d e r p q le_d le_e (omega (arith, b.2)) b.0 b.1 (swap p r t.first_third) (swap q r t.second_third) in
           absurd (far (near.1, swap f e near.2, swap f d near.0))
     ]
-
--- so the search goes on from its lane's next edge
-pub later_first : (xs ys zs : List Bool) (d e f n : ℕ) → AreReached xs ys zs d e f → (AreAllNear d e f → ⊥) → d ≤ e → d ≤ f → IsNextEdge xs (d + 1) n → AreReached xs ys zs n e f
-later_first xs ys zs d e f n reached far le_e le_f next = record {
-  first = next.edge;
-  second = reached.second;
-  third = reached.third;
-  before = λ p q r t.
-      let b = reached.before p q r t in
-      (not_before xs (d + 1) n p next t.first (past_first xs ys zs d e f p q r reached far le_e le_f t), b.1, b.2);
-}
-
-pub later_second : (xs ys zs : List Bool) (d e f n : ℕ) → AreReached xs ys zs d e f → (AreAllNear d e f → ⊥) → e ≤ d → e ≤ f → IsNextEdge ys (e + 1) n → AreReached xs ys zs d n f
-later_second xs ys zs d e f n reached far le_d le_f next = record {
-  first = reached.first;
-  second = next.edge;
-  third = reached.third;
-  before = λ p q r t.
-      let b = reached.before p q r t in
-      (b.0, not_before ys (e + 1) n q next t.second (past_second xs ys zs d e f p q r reached far le_d le_f t), b.2);
-}
-
-pub later_third : (xs ys zs : List Bool) (d e f n : ℕ) → AreReached xs ys zs d e f → (AreAllNear d e f → ⊥) → f ≤ d → f ≤ e → IsNextEdge zs (f + 1) n → AreReached xs ys zs d e n
-later_third xs ys zs d e f n reached far le_d le_e next = record {
-  first = reached.first;
-  second = reached.second;
-  third = next.edge;
-  before = λ p q r t.
-      let b = reached.before p q r t in
-      (b.0, b.1, not_before zs (f + 1) n r next t.third (past_third xs ys zs d e f p q r reached far le_d le_e t));
-}
 
 -- equal edges are first too
 pub firsts_same : (xs ys zs : List Bool) (d e f p q r : ℕ) → d ≡ p → e ≡ q → f ≡ r → IsFirst xs ys zs d e f → IsFirst xs ys zs p q r

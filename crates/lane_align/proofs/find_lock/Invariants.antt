@@ -1,5 +1,0 @@
-use Rattle.lane_align.proofs.History.{Keeps, HasNone}
-use Rattle.lane_align.proofs.find_lock.Given as goal
-
-abbrev pub invariant-loop-p : goal.invariant-loop-p
-invariant-loop-p l = record { keeps : Keeps l.row l.p l.recent; none : HasNone l.row l.p }
