@@ -1,0 +1,147 @@
+-- How control columns, columns that are none, and the rest are cut; and what is told of them.
+use Rattle.std.proofs.Common.{◌≡◌, ℕ, ◌+◌, Bool, true, false, not, ◌&&◌, List, [], ◌∷◌, ◌++◌, length, map, refl, ap, ap₂, sym, ◌∙◌, append_assoc}
+use Rattle.std.specs.List.{list_all}
+use Rattle.std.proofs.lemmas.List.{append-nil, map-append}
+use Rattle.tmds_word.specs.Column.{Column}
+use Rattle.terc4.specs.Columns.{is_control_column}
+use Rattle.period_grammar.specs.Things.{Thing, all_at, thing_of}
+use Rattle.period_grammar.specs.Cut.{Period as Cut, period, before, periods, runs}
+use Rattle.period_grammar.specs.Heard.{in_runs, last_run, in_gap, at_close, at_end, so_far, reach, closing, told_from, end_from}
+
+pub and_left : (a b : Bool) → (a && b) ≡ true → a ≡ true
+and_left true b h = refl
+and_left false b h = cc
+
+pub and_right : (a b : Bool) → (a && b) ≡ true → b ≡ true
+and_right true b h = h
+and_right false b h = cc
+
+pub not_true : (b : Bool) → not b ≡ true → b ≡ false
+not_true true h = cc
+not_true false h = refl
+
+-- columns that are all control columns, and columns none of which is
+abbrev pub AllControl : List Column → Type 0
+AllControl cs = list_all is_control_column cs ≡ true
+
+abbrev pub NoneControl : List Column → Type 0
+NoneControl cs = list_all (λ c. not (is_control_column c)) cs ≡ true
+
+-- periods that begin with a control column, or are none
+abbrev pub begins : List Cut → Bool
+begins [] = true
+begins (period [] gap ∷ xs) = false
+begins (period (k ∷ control) gap ∷ xs) = true
+
+abbrev pub with_gap : List Column → List Cut → List Cut
+with_gap [] xs = xs
+with_gap (g ∷ gap) xs = period [] (g ∷ gap) ∷ xs
+
+abbrev pub with_control : List Column → List Cut → List Cut
+with_control [] xs = xs
+with_control (c ∷ cs) [] = period (c ∷ cs) [] ∷ []
+with_control (c ∷ cs) (period control gap ∷ xs) = period (c ∷ (cs ++ control)) gap ∷ xs
+
+first_other : (g : Column) (xs : List Cut) → begins xs ≡ true → before false g xs ≡ period [] (g ∷ []) ∷ xs
+first_other g [] h = refl
+first_other g (period [] gap ∷ xs) h = cc
+first_other g (period (k ∷ control) gap ∷ xs) h = refl
+
+pub cut_gap : (gap rest : List Column) → NoneControl gap → begins (periods rest) ≡ true → periods (gap ++ rest) ≡ with_gap gap (periods rest)
+unfolding periods
+cut_gap [] rest none h = refl
+cut_gap (g ∷ []) rest none h = ap (λ p. before p g (periods rest)) (not_true _ (and_left _ _ none)) ∙ first_other g (periods rest) h
+cut_gap (g ∷ (i ∷ gap)) rest none h =
+    ap (λ p. before p g (periods (i ∷ (gap ++ rest)))) (not_true _ (and_left _ _ none)) ∙ ap (before false g) (cut_gap (i ∷ gap) rest (and_right _ _ none) h)
+
+control_first : (c : Column) (xs : List Cut) → before true c xs ≡ with_control (c ∷ []) xs
+control_first c [] = refl
+control_first c (period control gap ∷ xs) = refl
+
+two_controls : (c d : Column) (cs : List Column) (xs : List Cut) → before true c (with_control (d ∷ cs) xs) ≡ with_control (c ∷ (d ∷ cs)) xs
+two_controls c d cs [] = refl
+two_controls c d cs (period control gap ∷ xs) = refl
+
+pub cut_control : (control rest : List Column) → AllControl control → periods (control ++ rest) ≡ with_control control (periods rest)
+unfolding periods
+cut_control [] rest all = refl
+cut_control (c ∷ []) rest all = ap (λ p. before p c (periods rest)) (and_left _ _ all) ∙ control_first c (periods rest)
+cut_control (c ∷ (d ∷ cs)) rest all =
+    ap (λ p. before p c (periods (d ∷ (cs ++ rest)))) (and_left _ _ all) ∙ ap (before true c) (cut_control (d ∷ cs) rest (and_right _ _ all)) ∙ two_controls c d cs (periods rest)
+
+begins_with : (c : Column) (xs : List Cut) → begins (before true c xs) ≡ true
+begins_with c [] = refl
+begins_with c (period control gap ∷ xs) = refl
+
+pub begins_control : (c : Column) (cs : List Column) → is_control_column c ≡ true → begins (periods (c ∷ cs)) ≡ true
+unfolding periods
+begins_control c cs h = ap (λ p. begins (before p c (periods cs))) h ∙ begins_with c (periods cs)
+
+joined : (c : Column) (cs : List Column) (g : Column) (gap : List Column) (xs : List Cut) → with_control (c ∷ cs) (period [] (g ∷ gap) ∷ xs) ≡ period (c ∷ cs) (g ∷ gap) ∷ xs
+joined c cs g gap xs = ap (λ ds. period (c ∷ ds) (g ∷ gap) ∷ xs) (append-nil cs)
+
+-- control columns, others, and the rest
+pub cut_both : (c : Column) (control : List Column) (g : Column) (gap rest : List Column) → AllControl (c ∷ control) → NoneControl (g ∷ gap) → begins (periods rest) ≡ true
+    → periods ((c ∷ control) ++ ((g ∷ gap) ++ rest)) ≡ period (c ∷ control) (g ∷ gap) ∷ periods rest
+cut_both c control g gap rest all none h =
+    cut_control (c ∷ control) ((g ∷ gap) ++ rest) all ∙ ap (with_control (c ∷ control)) (cut_gap (g ∷ gap) rest none h) ∙ joined c control g gap (periods rest)
+
+-- what is told of periods from column j on, with what the end tells
+abbrev pub hear : ℕ → List Cut → List Thing
+hear j xs = map thing_of (told_from j xs) ++ end_from j xs
+
+-- what is told of columns that are no control columns while they go on
+abbrev pub gap_things : ℕ → List Column → List Column → List Thing
+gap_things b control gap = map thing_of (in_gap b control gap)
+
+-- what is told of control columns whose last run ends
+abbrev pub control_told : ℕ → List Column → List Thing
+control_told j control = map thing_of (in_runs j (runs control)) ++ last_run (runs control)
+
+pub things_at : (j : ℕ) (ts : List Thing) → map thing_of (all_at j ts) ≡ ts
+things_at j [] = refl
+things_at j (t ∷ ts) = ap (λ us. t ∷ us) (things_at j ts)
+
+-- control columns alone
+pub hear_control : (j : ℕ) (control : List Column) → AllControl control → hear j (periods control) ≡ control_told j control
+unfolding periods runs
+hear_control j control all =
+    ap (λ cs. hear j (periods cs)) (sym (append-nil control)) ∙ ap (hear j) (cut_control control [] all) ∙ by control
+  where
+    by : (cs : List Column) → hear j (with_control cs (periods [])) ≡ control_told j cs
+    by [] = refl
+    by (c ∷ cs) = refl
+
+so_far_things : (j : ℕ) (control : List Column) (g : Column) (gap : List Column)
+    → map thing_of (so_far j (period control (g ∷ gap))) ≡ control_told j control ++ gap_things (j + length control) control (g ∷ gap)
+so_far_things j control g gap =
+    let b = j + length control in
+    let before = in_runs j (runs control) in
+    let last = all_at b (last_run (runs control)) in
+    let second = in_gap b control (g ∷ gap) in
+    map-append thing_of before (last ++ second)
+    ∙ ap (λ ts. map thing_of before ++ ts) (map-append thing_of last second ∙ ap (λ (x : List Thing). x ++ map thing_of second) (things_at b (last_run (runs control))))
+    ∙ sym (append_assoc (map thing_of before) (last_run (runs control)) (map thing_of second))
+
+-- a period that goes on to the end
+pub hear_last : (j : ℕ) (control : List Column) (g : Column) (gap : List Column)
+    → hear j (period control (g ∷ gap) ∷ []) ≡ control_told j control ++ (gap_things (j + length control) control (g ∷ gap) ++ at_end (j + length control) (g ∷ gap))
+hear_last j control g gap =
+    ap (λ ts. ts ++ at_end (j + length control) (g ∷ gap)) (so_far_things j control g gap)
+    ∙ append_assoc (control_told j control) (gap_things (j + length control) control (g ∷ gap)) (at_end (j + length control) (g ∷ gap))
+
+regroup : (a b c d e : List Thing) → ((a ++ b) ++ (c ++ d)) ++ e ≡ a ++ (b ++ (c ++ (d ++ e)))
+regroup a b c d e = simp append_assoc
+
+-- a period with others after it
+pub hear_on : (j : ℕ) (control : List Column) (g : Column) (gap : List Column) (y : Cut) (ys : List Cut)
+    → hear j (period control (g ∷ gap) ∷ (y ∷ ys))
+    ≡ control_told j control ++ (gap_things (j + length control) control (g ∷ gap) ++ (at_close (j + length control) (g ∷ gap) ++ hear (j + (length control + length (g ∷ gap))) (y ∷ ys)))
+hear_on j control g gap y ys =
+    let x = period control (g ∷ gap) in
+    let rest = told_from (j + reach x) (y ∷ ys) in
+    let close = at_close (j + length control) (g ∷ gap) in
+    ap (λ ts. ts ++ end_from (j + reach x) (y ∷ ys))
+    (map-append thing_of (so_far j x) (closing j x ++ rest)
+    ∙ ap₂ (λ (a b : List Thing). a ++ b) (so_far_things j control g gap) (map-append thing_of (closing j x) rest ∙ ap (λ ts. ts ++ map thing_of rest) (things_at (j + reach x) close)))
+    ∙ regroup (control_told j control) (gap_things (j + length control) control (g ∷ gap)) close (map thing_of rest) (end_from (j + reach x) (y ∷ ys))

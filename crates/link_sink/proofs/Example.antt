@@ -1,0 +1,200 @@
+-- A tap of the stream, and its first full alignment.
+use Rattle.std.proofs.Common.{◌≡◌, ℕ, ◌+◌, ◌-◌, ◌*◌, ◌%◌, ◌≤◌, Bool, true, false, not, List, [], ◌∷◌, length, drop, refl, ap, ◌∙◌, sym, subst, arith, Option, Some, None, inl, inr, length-take, length-drop}
+use Rattle.std.proofs.lemmas.Bool.{cases_lt}
+use Rattle.std.proofs.lemmas.List.{length-map}
+use Rattle.tmds_word.specs.Bits.{bits_of, word_bits, row_bits, number, window}
+use Rattle.tmds_word.proofs.Below.{passes_below, passes_at}
+use Rattle.tmds_word.proofs.Lists.{length-row_bits}
+use Rattle.terc4.specs.Tables.{control_words, terc_words, video_guard, island_guard, is_in, is_control}
+use Rattle.lane_align.specs.Lanes.{HasControl, IsRun, IsLock, IsEdge}
+use Rattle.lane_align.specs.Laws.{tap}
+use Rattle.lane_align.proofs.Edges.{edges_apart}
+use Rattle.lane_deskew.specs.Triples.{IsFirst}
+use Rattle.island_pack.specs.Periods.{values_of}
+use Rattle.island_pack.specs.Taps.{blues, greens, reds, IsPart, IsTap}
+use Rattle.link_sink.specs.Laws.{HasExample}
+use Rattle.link_sink.proofs.Stream.{stream, sent, received, long_received, came, unlike_pixel, unlike_packet}
+
+-- Windows that are control words.
+
+unfoldable has : Option ℕ → Bool
+has None = false
+has (Some w) = is_control w
+
+from_has : (xs : List Bool) (p : ℕ) (o : Option ℕ) → window xs p ≡ o → has o ≡ true → HasControl xs p
+unfolding has
+from_has xs p None e h = cc
+from_has xs p (Some w) e h = record { word = w; here = e; control = h }
+
+to_has : (xs : List Bool) (p : ℕ) → HasControl xs p → has (window xs p) ≡ true
+unfolding has
+to_has xs p h = ap has h.here ∙ h.control
+
+not_true : (b : Bool) → not b ≡ true → b ≡ false
+not_true true h = cc
+not_true false h = refl
+
+clash : (b : Bool) → b ≡ true → b ≡ false → ⊥
+clash b h g = cc
+
+-- whether twelve control words in a row begin at a place
+abbrev runs_at : List Bool → ℕ → Bool
+runs_at xs p = passes_below 12 (λ k. has (window xs (p + 10 * k)))
+
+-- whether none of the first n places begins a control word
+abbrev none_before : List Bool → ℕ → Bool
+none_before xs n = passes_below n (λ p. not (has (window xs p)))
+
+is_run : (xs : List Bool) (p : ℕ) → runs_at xs p ≡ true → IsRun xs p
+is_run xs p test k lt = from_has xs (p + 10 * k) (window xs (p + 10 * k)) refl (passes_at 12 (λ k. has (window xs (p + 10 * k))) k test lt)
+
+is_lock : (xs : List Bool) (p : ℕ) → runs_at xs p ≡ true → none_before xs p ≡ true → IsLock xs p
+is_lock xs p run none = record {
+  run = is_run xs p run;
+  least = λ q lt r.
+      let e : q + 10 * 0 ≡ q = omega arith in
+      clash _ (to_has xs q (subst (λ p. HasControl xs p) e (r 0 (omega arith)))) (not_true _ (passes_at p (λ p. not (has (window xs p))) q none lt));
+}
+
+is_edge : (xs : List Bool) (p e w : ℕ) → runs_at xs p ≡ true → none_before xs p ≡ true → runs_at xs (e - 120) ≡ true → window xs e ≡ Some w → is_control w ≡ false
+    → p + 120 ≤ e → e % 10 ≡ p % 10 → IsEdge xs e
+is_edge xs p e w run none before here other past aligned =
+    record { lock = p; is_lock = is_lock xs p run none; past = past; aligned = aligned; run = is_run xs (e - 120) before; word = w; here = here; no_control = other }
+
+-- The tap.
+
+unfoldable x : List Bool
+x = tap (blues received) 7 793
+
+unfoldable y : List Bool
+y = tap (greens received) 77 793
+
+unfoldable z : List Bool
+z = tap (reds received) 42 793
+
+tap_long : (words : List ℕ) (from : ℕ) → length words ≡ 87 → from ≤ 77 → length (tap words from 793) ≡ 793
+tap_long words from long le =
+    let a = length-take 793 (drop from (row_bits words)) in
+    let b = length-drop from (row_bits words) in
+    let c = length-row_bits words in
+    omega arith
+
+part : (words : List ℕ) (from : ℕ) → length words ≡ 87 → from ≤ 77 → IsPart words from 793 (tap words from 793)
+part words from long le = record { within = omega arith; bits_are = refl }
+
+tapped : IsTap received 7 (0 ∷ 70 ∷ 35 ∷ []) (length x) x y z
+unfolding x y z
+tapped =
+    let r = long_received in
+    let b = length-map received (λ c. c.blue) in
+    let g = length-map received (λ c. c.green) in
+    let e = length-map received (λ c. c.red) in
+    subst (λ n. IsTap received 7 (0 ∷ 70 ∷ 35 ∷ []) n (tap (blues received) 7 793) (tap (greens received) 77 793) (tap (reds received) 42 793))
+    (sym (tap_long (blues received) 7 (b ∙ r) (omega arith)))
+    (record {
+      blue_part = part (blues received) 7 (b ∙ r) (omega arith);
+      green_part = part (greens received) 77 (g ∙ r) (omega arith);
+      red_part = part (reds received) 42 (e ∙ r) (omega arith);
+    })
+
+x_run : runs_at x 3 ≡ true
+unfolding passes_below x received values_of control_words terc_words video_guard island_guard has window row_bits word_bits bits_of number is_control is_in
+x_run = refl
+
+x_none : none_before x 3 ≡ true
+unfolding passes_below x received values_of control_words terc_words video_guard island_guard has window row_bits word_bits bits_of number is_control is_in
+x_none = refl
+
+x_before : runs_at x 113 ≡ true
+unfolding passes_below x received values_of control_words terc_words video_guard island_guard has window row_bits word_bits bits_of number is_control is_in
+x_before = refl
+
+x_here : window x 233 ≡ Some 0x2cc
+unfolding x received values_of control_words terc_words video_guard island_guard window row_bits word_bits bits_of number
+x_here = refl
+
+y_run : runs_at y 3 ≡ true
+unfolding passes_below y received values_of control_words terc_words video_guard island_guard has window row_bits word_bits bits_of number is_control is_in
+y_run = refl
+
+y_none : none_before y 3 ≡ true
+unfolding passes_below y received values_of control_words terc_words video_guard island_guard has window row_bits word_bits bits_of number is_control is_in
+y_none = refl
+
+y_before : runs_at y 43 ≡ true
+unfolding passes_below y received values_of control_words terc_words video_guard island_guard has window row_bits word_bits bits_of number is_control is_in
+y_before = refl
+
+y_here : window y 163 ≡ Some 0x133
+unfolding y received values_of control_words terc_words video_guard island_guard window row_bits word_bits bits_of number
+y_here = refl
+
+z_run : runs_at z 8 ≡ true
+unfolding passes_below z received values_of control_words terc_words video_guard island_guard has window row_bits word_bits bits_of number is_control is_in
+z_run = refl
+
+z_none : none_before z 8 ≡ true
+unfolding passes_below z received values_of control_words terc_words video_guard island_guard has window row_bits word_bits bits_of number is_control is_in
+z_none = refl
+
+z_before : runs_at z 78 ≡ true
+unfolding passes_below z received values_of control_words terc_words video_guard island_guard has window row_bits word_bits bits_of number is_control is_in
+z_before = refl
+
+z_here : window z 198 ≡ Some 0x2cc
+unfolding z received values_of control_words terc_words video_guard island_guard window row_bits word_bits bits_of number
+z_here = refl
+
+guard_test : is_control 0x2cc ≡ false
+unfolding is_control is_in control_words
+guard_test = refl
+
+green_guard_test : is_control 0x133 ≡ false
+unfolding is_control is_in control_words
+green_guard_test = refl
+
+x_edge : IsEdge x 233
+x_edge = is_edge x 3 233 0x2cc x_run x_none x_before x_here guard_test (omega arith) refl
+
+y_edge : IsEdge y 163
+y_edge = is_edge y 3 163 0x133 y_run y_none y_before y_here green_guard_test (omega arith) refl
+
+z_edge : IsEdge z 198
+z_edge = is_edge z 8 198 0x2cc z_run z_none z_before z_here guard_test (omega arith) refl
+
+-- lane 0 has no edge before that
+no_earlier : (e : ℕ) → IsEdge x e → 233 ≤ e
+no_earlier e edge = elim (cases_lt e 233) [
+  | inl less ↦
+      let far = edges_apart x e 233 edge x_edge less in
+      let past = edge.past in
+      absurd (omega arith)
+  | inr more ↦ more
+]
+
+first : IsFirst x y z 233 163 198
+first = record {
+  triple = record {
+    first = x_edge;
+    second = y_edge;
+    third = z_edge;
+    first_second = (omega arith, omega arith);
+    second_third = (omega arith, omega arith);
+    first_third = (omega arith, omega arith);
+  };
+  least = λ p q r t. let a = no_earlier p t.first in omega arith;
+}
+
+pub example : HasExample
+example = (
+  stream,
+  sent,
+  received,
+  x,
+  y,
+  z,
+  233,
+  163,
+  198,
+  record { came = came; pixel = (_, _, _, 26, unlike_pixel); packet = (_, _, _, 46, unlike_packet); tapped = tapped; first = first },
+)

@@ -1,0 +1,51 @@
+-- The columns of three lanes, as far as they were heard, and how many there are.
+use Rattle.std.proofs.Common.{◌≡◌, ℕ, zero, suc, ◌+◌, ◌-◌, ◌/◌, ◌^◌, ◌<◌, ◌≤◌, Bool, List, [], ◌∷◌, ◌++◌, length, take, drop, refl, ap, sym, ◌∙◌, arith, Some, None}
+use Rattle.std.specs.Prelude.{slice_get}
+use Rattle.std.proofs.lemmas.List.{take-append-drop, take_more, length-take-le, drop-append-le}
+use Rattle.std.proofs.lemmas.Option.{slice_get_within, get_or_from_slice_get}
+use Rattle.lane_deskew.specs.Aligned.{words_of, words_from, columns_of, aligned_columns}
+
+-- a list in which nothing stands at a place ends before it
+pub ends_before : {X : Type 0} (xs : List X) (j : ℕ) → slice_get xs j ≡ None → length xs ≤ j
+ends_before [] j e = omega arith
+ends_before (x ∷ xs) zero e = cc
+ends_before (x ∷ xs) (suc j) e = let le = ends_before xs j e in omega (arith, le)
+
+-- the first elements, and the next
+pub take_next : {X : Type 0} (xs : List X) (j : ℕ) (x : X) → slice_get xs j ≡ Some x → take (j + 1) xs ≡ take j xs ++ x ∷ []
+take_next xs j x e =
+    take_more xs j x (slice_get_within xs j x e) ∙ ap (λ y. take j xs ++ y ∷ []) (get_or_from_slice_get xs j x x e)
+
+-- the part from one place on grows by the next element
+pub part_more : {X : Type 0} (xs : List X) (from j : ℕ) (x : X) → from ≤ j → slice_get xs j ≡ Some x
+    → drop from (take (j + 1) xs) ≡ drop from (take j xs) ++ x ∷ []
+part_more xs from j x le e =
+    let within = slice_get_within xs j x e in
+    ap (drop from) (take_next xs j x e)
+    ∙ drop-append-le from (take j xs) (x ∷ []) (let l = length-take-le j xs (omega (arith, within)) in omega (arith, l, le))
+
+-- and lies in front of the rest
+pub part_rest : {X : Type 0} (xs : List X) (from j : ℕ) → from ≤ j → j ≤ length xs → drop from xs ≡ drop from (take j xs) ++ drop j xs
+part_rest xs from j le within =
+    ap (drop from) (sym (take-append-drop j xs))
+    ∙ drop-append-le from (take j xs) (drop j xs) (let l = length-take-le j xs within in omega (arith, l, le))
+
+length-words_of : (n : ℕ) (xs : List Bool) → length (words_of n xs) ≡ n
+unfolding words_of
+length-words_of zero xs = refl
+length-words_of (suc n) xs = let e = length-words_of n (drop 10 xs) in omega (arith, e)
+
+columns_within : (bs gs rs : List ℕ) → length (columns_of bs gs rs) ≤ length bs
+unfolding columns_of
+columns_within [] gs rs = omega arith
+columns_within (b ∷ bs) [] rs = omega arith
+columns_within (b ∷ bs) (g ∷ gs) [] = omega arith
+columns_within (b ∷ bs) (g ∷ gs) (r ∷ rs) = let le = columns_within bs gs rs in omega (arith, le)
+
+-- no lane has more columns than a hearing can count
+pub few_columns : (xs ys zs : List Bool) (d e f : ℕ) → length xs < 2 ^ 32 → length (aligned_columns xs ys zs d e f) ≤ 429496730
+unfolding aligned_columns words_from
+few_columns xs ys zs d e f short =
+    let le = columns_within (words_of ((length xs - (d - 120)) / 10) (drop (d - 120) xs)) (words_of ((length ys - (e - 120)) / 10) (drop (e - 120) ys)) (words_of ((length zs - (f - 120)) / 10) (drop (f - 120) zs)) in
+    let n = length-words_of ((length xs - (d - 120)) / 10) (drop (d - 120) xs) in
+    omega (arith, le, n, short)

@@ -1,0 +1,279 @@
+-- The words of the columns that spell periods: control words in control columns, and in all others words of at most
+-- five turns.
+use Rattle.std.proofs.Common.{◌≡◌, ℕ, suc, zero, ◌+◌, ◌*◌, ◌/◌, ◌%◌, ◌<◌, ◌≤◌, Bool, true, false, List, [], ◌∷◌, ◌++◌, map, length, get_or, replicate, refl, ap, sym, ◌∙◌, subst, append_assoc, arith, nat_le, nat_lt, take}
+use Rattle.std.specs.Prelude.{⊤}
+use Rattle.std.specs.List.{list_all}
+use Rattle.std.proofs.lemmas.Bool.{ltb-true, leb-true}
+use Rattle.std.proofs.lemmas.List.{length-map, length-append, get_or-map}
+use Rattle.tmds_word.specs.Bits.{word_bits, bits_of, turns, unlike}
+use Rattle.tmds_word.specs.Column.{Column, column_of}
+use Rattle.tmds_word.proofs.Below.{and-left, and-right}
+use Rattle.tmds_code.specs.Coding.{sign_of}
+use Rattle.tmds_code.specs.Lanes.{IsLane, disparity_of}
+use Rattle.tmds_code.proofs.TableWords.{coded_turns}
+use Rattle.terc4.specs.Tables.{control_words, terc_words, video_guard, island_guard, is_in, is_control, is_terc}
+use Rattle.terc4.proofs.Words.{terc_turns}
+use Rattle.lane_deskew.specs.Kinds.{Kind, control as control_kind, guard, payload, item_kinds, kinds_of}
+use Rattle.island_pack.specs.Periods.{ControlRun, DataIsland, Period, control, video, island, values_of, has_preamble, VIDEO_PREAMBLE, ISLAND_PREAMBLE, Pixel, pixels_of}
+use Rattle.island_pack.specs.Conforming.{IsConforming, conforms, is_control_period, are_bytes, is_video_period, is_data_island}
+use Rattle.island_pack.specs.Packets.{Carries}
+use Rattle.island_pack.specs.Spelling.{control_column, SpellsPixels, guard_column, guard_columns, words_of, SpellsPackets, SpellsPeriod, Spells}
+use Rattle.island_pack.specs.declared.packet.Packet.{Packet}
+use Rattle.island_pack.specs.Sparse.{no_column, column_at}
+use Rattle.link_sink.specs.Laws.{shape_of, shapes_of}
+
+-- what a word of a column of a kind is
+abbrev pub FitsWord : Kind → ℕ → Type 0
+FitsWord control_kind w = is_control w ≡ true
+FitsWord guard w = turns (word_bits w) ≤ 5
+FitsWord payload w = turns (word_bits w) ≤ 5
+
+pub record FitsColumn (k : Kind) (c : Column) : Type 0 where
+  pub blue : FitsWord k c.blue
+  pub green : FitsWord k c.green
+  pub red : FitsWord k c.red
+
+-- column by column
+pub data Fitting : List Kind → List Column → Type 0 where
+  no_columns : Fitting [] []
+  column : (k : Kind) (c : Column) (ks : List Kind) (cs : List Column) → FitsColumn k c → Fitting ks cs → Fitting (k ∷ ks) (c ∷ cs)
+
+-- Control columns.
+
+control_word : (v : ℕ) → v < 4 → is_control (get_or control_words v 0) ≡ true
+unfolding is_control is_in control_words
+control_word zero lt = refl
+control_word (suc zero) lt = refl
+control_word (suc (suc zero)) lt = refl
+control_word (suc (suc (suc zero))) lt = refl
+control_word (suc (suc (suc (suc v)))) lt = absurd (omega arith)
+
+fit_control : (vs : List ℕ) (ks : List Kind) (cs : List Column) → Fitting ks cs → Fitting (replicate (length vs) control_kind ++ ks) (map control_column vs ++ cs)
+fit_control [] ks cs h = h
+fit_control (v ∷ vs) ks cs h =
+    column control_kind (control_column v) _ _
+    (record {
+      blue = control_word (v % 4) (omega arith);
+      green = control_word (v / 4 % 4) (omega arith);
+      red = control_word (v / 16 % 4) (omega arith);
+    })
+    (fit_control vs ks cs h)
+
+-- Guard columns.
+
+passes_at_all : (p : ℕ → Bool) (ws : List ℕ) (i : ℕ) → p 0 ≡ true → list_all p ws ≡ true → p (get_or ws i 0) ≡ true
+passes_at_all p [] i z h = z
+passes_at_all p (w ∷ ws) zero z h = and-left _ _ h
+passes_at_all p (w ∷ ws) (suc i) z h = passes_at_all p ws i z (and-right _ _ h)
+
+abbrev is_quiet : ℕ → Bool
+is_quiet w = nat_le (turns (word_bits w)) 5
+
+terc_test : list_all is_quiet terc_words ≡ true
+unfolding terc_words turns word_bits bits_of unlike
+terc_test = refl
+
+video_test : list_all is_quiet video_guard ≡ true
+unfolding video_guard turns word_bits bits_of unlike
+video_test = refl
+
+island_test : is_quiet island_guard ≡ true
+unfolding island_guard turns word_bits bits_of unlike
+island_test = refl
+
+none_test : is_quiet 0 ≡ true
+unfolding turns word_bits bits_of unlike
+none_test = refl
+
+quiet_at : (ws : List ℕ) (i : ℕ) → list_all is_quiet ws ≡ true → turns (word_bits (get_or ws i 0)) ≤ 5
+quiet_at ws i h = leb-true _ _ (passes_at_all is_quiet ws i none_test h)
+
+fit_guard : (sync : ℕ) → FitsColumn guard (guard_column sync)
+fit_guard sync = record {
+  blue = quiet_at terc_words (12 + sync) terc_test;
+  green = leb-true _ _ island_test;
+  red = leb-true _ _ island_test;
+}
+
+fit_video_guard : FitsColumn guard (column_of video_guard)
+fit_video_guard = record {
+  blue = quiet_at video_guard 0 video_test;
+  green = quiet_at video_guard 1 video_test;
+  red = quiet_at video_guard 2 video_test;
+}
+
+-- Columns of pixels and packets.
+
+pub data ArePayload : List Column → Type 0 where
+  none : ArePayload []
+  more : (c : Column) (cs : List Column) → FitsColumn payload c → ArePayload cs → ArePayload (c ∷ cs)
+
+payload_both : (xs ys : List Column) → ArePayload xs → ArePayload ys → ArePayload (xs ++ ys)
+payload_both _ ys none h = h
+payload_both _ ys (more x xs here rest) h = more x (xs ++ ys) here (payload_both xs ys rest h)
+
+payload_from : (cs : List Column) → ((i : ℕ) → i < length cs → FitsColumn payload (column_at cs i)) → ArePayload cs
+payload_from [] each = none
+payload_from (c ∷ cs) each = more c cs (each zero (omega arith)) (payload_from cs (λ i lt. each (suc i) (omega arith)))
+
+fit_payload : (pp : List Column) (ks : List Kind) (cs : List Column) → ArePayload pp → Fitting ks cs → Fitting (replicate (length pp) payload ++ ks) (pp ++ cs)
+fit_payload _ ks cs none h = h
+fit_payload _ ks cs (more c pp here rest) h = column payload c _ _ here (fit_payload pp ks cs rest h)
+
+-- Pixels.
+
+pub record IsSmall (p : Pixel) : Type 0 where
+  pub red : p.red < 256
+  pub green : p.green < 256
+  pub blue : p.blue < 256
+
+abbrev no_pixel : Pixel
+no_pixel = record { red = 0; green = 0; blue = 0 }
+
+none_small : IsSmall no_pixel
+none_small = record { red = omega arith; green = omega arith; blue = omega arith }
+
+small_pixels : (bytes : List ℕ) (j : ℕ) → are_bytes bytes ≡ true → IsSmall (get_or (pixels_of bytes) j no_pixel)
+unfolding pixels_of
+small_pixels [] j h = none_small
+small_pixels (r ∷ []) j h = none_small
+small_pixels (r ∷ (g ∷ [])) j h = none_small
+small_pixels (r ∷ (g ∷ (b ∷ rest))) zero h =
+    let more = and-right (nat_lt r 256) _ h in
+    record { red = ltb-true _ _ (and-left _ _ h); green = ltb-true _ _ (and-left _ _ more); blue = ltb-true _ _ (and-left _ _ (and-right (nat_lt g 256) _ more)) }
+small_pixels (r ∷ (g ∷ (b ∷ rest))) (suc j) h =
+    small_pixels rest j (and-right (nat_lt b 256) _ (and-right (nat_lt g 256) _ (and-right (nat_lt r 256) _ h)))
+
+pub length-pixels_of : (bytes : List ℕ) → length (pixels_of bytes) ≡ length bytes / 3
+unfolding pixels_of
+length-pixels_of [] = refl
+length-pixels_of (r ∷ []) = refl
+length-pixels_of (r ∷ (g ∷ [])) = refl
+length-pixels_of (r ∷ (g ∷ (b ∷ rest))) = let ih = length-pixels_of rest in omega arith
+
+lane_quiet : (bytes words : List ℕ) → IsLane bytes words → (j : ℕ) → j < length words → get_or bytes j 0 < 256 → turns (word_bits (get_or words j 0)) ≤ 5
+lane_quiet bytes words lane j lt small =
+    subst (λ w. turns (word_bits w) ≤ 5) (sym (lane.coded j lt)) (coded_turns (sign_of (disparity_of (take j words))) (get_or bytes j 0) small)
+
+-- one lane of pixels
+pixel_quiet : (f : Pixel → ℕ) (g : Column → ℕ) (pixels : List Pixel) (pp : List Column) → IsLane (map f pixels) (map g pp)
+    → (j : ℕ) → j < length pp → f (get_or pixels j no_pixel) < 256 → turns (word_bits (g (column_at pp j))) ≤ 5
+pixel_quiet f g pixels pp lane j lt small =
+    let same = lane.same_length in
+    let a = length-map pixels f in
+    let b = length-map pp g in
+    let byte : get_or (map f pixels) j 0 ≡ f (get_or pixels j no_pixel) = get_or-map f pixels j no_pixel 0 (omega arith) in
+    let word : get_or (map g pp) j 0 ≡ g (column_at pp j) = get_or-map g pp j no_column 0 lt in
+    subst (λ w. turns (word_bits w) ≤ 5) word
+    (lane_quiet (map f pixels) (map g pp) lane j (omega arith) (subst (λ n. n < 256) (sym byte) small))
+
+pixels_payload : (bytes : List ℕ) (pp : List Column) → are_bytes bytes ≡ true → SpellsPixels (pixels_of bytes) pp → ArePayload pp
+pixels_payload bytes pp small h = payload_from pp (λ j lt. record {
+  blue = pixel_quiet (λ p. p.blue) (λ c. c.blue) (pixels_of bytes) pp h.blue j lt (small_pixels bytes j small).blue;
+  green = pixel_quiet (λ p. p.green) (λ c. c.green) (pixels_of bytes) pp h.green j lt (small_pixels bytes j small).green;
+  red = pixel_quiet (λ p. p.red) (λ c. c.red) (pixels_of bytes) pp h.red j lt (small_pixels bytes j small).red;
+})
+
+pub length-spelled : (pixels : List Pixel) (pp : List Column) → SpellsPixels pixels pp → length pp ≡ length pixels
+length-spelled pixels pp h =
+    let same = h.blue.same_length in
+    let a = length-map pixels (λ p. p.blue) in
+    let b = length-map pp (λ c. c.blue) in
+    omega arith
+
+-- Packets.
+
+packet_payload : (p : Packet) (first : Bool) (own : List Column) → Carries p first (map words_of own) → ArePayload own
+packet_payload p first own h = payload_from own (λ i lt.
+    let many = length-map own words_of in
+    let words : get_or (map words_of own) i [] ≡ words_of (column_at own i) = get_or-map words_of own i no_column [] lt in
+    let quiet : (lane : ℕ) → lane < 3 → turns (word_bits (get_or (words_of (column_at own i)) lane 0)) ≤ 5 =
+    λ lane within. terc_turns _ (subst (λ ws. is_terc (get_or ws lane 0) ≡ true) words (h.free.terc lane within i [] (omega arith))) in
+    record { blue = quiet 0 (omega arith); green = quiet 1 (omega arith); red = quiet 2 (omega arith) })
+
+packets_payload : (first : Bool) (packets : List Packet) (cs : List Column) → SpellsPackets first packets cs → ArePayload cs × (length cs ≡ 32 * length packets)
+packets_payload first [] cs h = (subst ArePayload (sym h) none, ap length h)
+packets_payload first (p ∷ ps) cs h =
+    let own = h.0 in
+    let rest = h.1 in
+    let ih = packets_payload false ps rest h.4 in
+    let many = length-map own words_of in
+    let count = h.3.free.count in
+    let both = length-append own rest in
+    let rest_many = ih.1 in
+    let all = ap length h.2 in
+    (subst ArePayload (sym h.2) (payload_both own rest (packet_payload p first own h.3) ih.0), omega arith)
+
+-- Periods.
+
+-- the bytes of video data periods are bytes
+abbrev pub AreSmall : List Period → Type 0
+AreSmall [] = ⊤
+AreSmall (control runs ∷ ps) = AreSmall ps
+AreSmall (video bytes ∷ ps) = (are_bytes bytes ≡ true) × AreSmall ps
+AreSmall (island x ∷ ps) = AreSmall ps
+
+video_small : (bytes : List ℕ) → is_video_period bytes ≡ true → are_bytes bytes ≡ true
+unfolding is_video_period
+video_small bytes h = and-left (are_bytes bytes) _ h
+
+conforming_small : (ps : List Period) → conforms ps ≡ true → AreSmall ps
+unfolding conforms
+conforming_small [] h = cc
+conforming_small (video bytes ∷ ps) h = cc
+conforming_small (island x ∷ ps) h = cc
+conforming_small (control runs ∷ []) h = tt
+conforming_small (control runs ∷ (control again ∷ ps)) h = cc
+conforming_small (control runs ∷ (video bytes ∷ ps)) h =
+    let h1 = and-right (is_control_period runs) _ h in
+    let h2 = and-right (has_preamble VIDEO_PREAMBLE (values_of runs)) _ h1 in
+    (video_small bytes (and-left (is_video_period bytes) _ h2), conforming_small ps (and-right (is_video_period bytes) _ h2))
+conforming_small (control runs ∷ (island x ∷ ps)) h =
+    let h1 = and-right (is_control_period runs) _ h in
+    let h2 = and-right (has_preamble ISLAND_PREAMBLE (values_of runs)) _ h1 in
+    conforming_small ps (and-right (is_data_island x) _ h2)
+
+fit_control_period : (runs : List ControlRun) (own : List Column) (ks : List Kind) (cs : List Column) → SpellsPeriod (control runs) own → Fitting ks cs
+    → Fitting (item_kinds (shape_of (control runs)) ++ ks) (own ++ cs)
+unfolding item_kinds shape_of
+fit_control_period runs own ks cs h fit =
+    subst (λ own. Fitting (replicate (length (values_of runs)) control_kind ++ ks) (own ++ cs)) (sym h) (fit_control (values_of runs) ks cs fit)
+
+fit_video : (bytes : List ℕ) (own : List Column) (ks : List Kind) (cs : List Column) → are_bytes bytes ≡ true → SpellsPeriod (video bytes) own → Fitting ks cs
+    → Fitting (item_kinds (shape_of (video bytes)) ++ ks) (own ++ cs)
+unfolding item_kinds shape_of
+fit_video bytes own ks cs small h fit =
+    let pp = h.0 in
+    let n : length pp ≡ length bytes / 3 = length-spelled (pixels_of bytes) pp h.2 ∙ length-pixels_of bytes in
+    let inner = subst (λ n. Fitting (replicate n payload ++ ks) (pp ++ cs)) n (fit_payload pp ks cs (pixels_payload bytes pp small h.2) fit) in
+    subst (λ own. Fitting (guard ∷ (guard ∷ (replicate (length bytes / 3) payload ++ ks))) (own ++ cs)) (sym h.1)
+    (column _ _ _ _ fit_video_guard (column _ _ _ _ fit_video_guard inner))
+
+fit_island : (x : DataIsland) (own : List Column) (ks : List Kind) (cs : List Column) → SpellsPeriod (island x) own → Fitting ks cs
+    → Fitting (item_kinds (shape_of (island x)) ++ ks) (own ++ cs)
+unfolding item_kinds shape_of
+fit_island x own ks cs h fit =
+    let pp = h.0 in
+    let gs = guard ∷ (guard ∷ []) in
+    let closing = guard_columns x.closing in
+    let packets = packets_payload true x.packets pp h.2 in
+    let last = column _ _ _ _ (fit_guard x.closing.first) (column _ _ _ _ (fit_guard x.closing.second) fit) in
+    let inner = subst (λ n. Fitting (replicate n payload ++ (gs ++ ks)) (pp ++ (closing ++ cs))) packets.1 (fit_payload pp (gs ++ ks) (closing ++ cs) packets.0 last) in
+    let columns = subst (λ cs. Fitting (replicate (32 * length x.packets) payload ++ (gs ++ ks)) cs) (sym (append_assoc pp closing cs)) inner in
+    let whole = subst (λ ks. Fitting ks ((pp ++ closing) ++ cs)) (sym (append_assoc (replicate (32 * length x.packets) payload) gs ks)) columns in
+    subst (λ own. Fitting (item_kinds (shape_of (island x)) ++ ks) (own ++ cs)) (sym h.1)
+    (column _ _ _ _ (fit_guard x.opening.first) (column _ _ _ _ (fit_guard x.opening.second) whole))
+
+fit_periods : (ps : List Period) (sent : List Column) → AreSmall ps → Spells ps sent → Fitting (kinds_of (shapes_of ps)) sent
+unfolding kinds_of
+fit_periods [] sent small h = subst (λ cs. Fitting [] cs) (sym h) no_columns
+fit_periods (control runs ∷ ps) sent small h =
+    subst (λ cs. Fitting (kinds_of (shapes_of (control runs ∷ ps))) cs) (sym h.2) (fit_control_period runs h.0 (kinds_of (shapes_of ps)) h.1 h.3 (fit_periods ps h.1 small h.4))
+fit_periods (video bytes ∷ ps) sent small h =
+    subst (λ cs. Fitting (kinds_of (shapes_of (video bytes ∷ ps))) cs) (sym h.2) (fit_video bytes h.0 (kinds_of (shapes_of ps)) h.1 small.0 h.3 (fit_periods ps h.1 small.1 h.4))
+fit_periods (island x ∷ ps) sent small h =
+    subst (λ cs. Fitting (kinds_of (shapes_of (island x ∷ ps))) cs) (sym h.2) (fit_island x h.0 (kinds_of (shapes_of ps)) h.1 h.3 (fit_periods ps h.1 small h.4))
+
+-- the columns that spell conforming periods fit their kinds
+pub fitting : (ps : List Period) (sent : List Column) → IsConforming ps → Spells ps sent → Fitting (kinds_of (shapes_of ps)) sent
+fitting ps sent conforming spelled = fit_periods ps sent (conforming_small ps conforming) spelled

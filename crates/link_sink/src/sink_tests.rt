@@ -1,0 +1,185 @@
+//! What a sink tells of the rows of three lanes that come in pieces.
+ghost use Rattle.std.specs.Prelude.{◌≤◌, length};
+
+use crate::tests::{LANES, NOTHING, Notes, Row, TELLS, push, row_from};
+use crate::{FeedFault, LinkSink, Outcome, hear_lanes};
+use outside_io::Failed;
+use std::alloc::Global;
+use std::process::Abort;
+use std::test::*;
+use tmds_word::BitRow;
+
+/// How many bits come at a time.
+static PIECES: [u32; 6] = [1, 8, 13, 130, 1000, 32768];
+
+/// The lanes, each so many bits late, with more control columns behind them, up to so many bits of each.
+fn even_rows(alloc: Global, skews: [u32; 3], bits: u32) -> Result<[BitRow; 3], Fail> {
+    let mut rows = [
+        row_from(alloc, skews[0], LANES[0])?,
+        row_from(alloc, skews[1], LANES[1])?,
+        row_from(alloc, skews[2], LANES[2])?,
+    ];
+    for row in rows.iter_mut() {
+        push(row, 0x354, 20)?;
+        if bits <= row.len() {
+            row.truncate(bits);
+        }
+    }
+    Ok(rows)
+}
+
+/// Feeds a sink the next bits of three rows, where it is open.
+fn feed_next(
+    sink: &mut LinkSink,
+    rows: &[BitRow; 3],
+    bits: u32,
+    notes: &mut Notes,
+) -> Result<(), FeedFault> {
+    if !sink.is_open() || bits > 32768 || sink.bits() > 10000 {
+        return Err(FeedFault::Memory);
+    }
+    let size = (bits as usize + 7) / 8;
+    let from = sink.bits();
+    let mut blue = [0; 4096];
+    let mut green = [0; 4096];
+    let mut red = [0; 4096];
+    rows[0].copy_bytes(from, &mut blue[..size]);
+    rows[1].copy_bytes(from, &mut green[..size]);
+    rows[2].copy_bytes(from, &mut red[..size]);
+    sink.feed(&blue[..size], &green[..size], &red[..size], bits, notes)
+}
+
+/// Feeds a sink the first bits of three rows, in pieces, with feeds of no bits before and behind them.
+fn feed_pieces(
+    sink: &mut LinkSink,
+    rows: &[BitRow; 3],
+    bits: u32,
+    piece: u32,
+    notes: &mut Notes,
+) -> Result<(), FeedFault> {
+    feed_next(sink, rows, 0, notes)?;
+    for _ in 0..bits {
+        let rest = bits.saturating_sub(sink.bits());
+        feed_next(sink, rows, piece.min(rest), notes)?;
+    }
+    Ok(())
+}
+
+/// Finishes a sink, where it is open.
+fn finish(sink: &mut LinkSink, notes: &mut Notes) -> Result<Outcome, Failed> {
+    if !sink.is_open() {
+        return Err(Failed);
+    }
+    sink.finish(notes)
+}
+
+/// That three rows have this outcome, and tell these things, at once and in pieces of each size.
+fn expect(
+    rt: &impl Abort,
+    alloc: Global,
+    rows: &[BitRow; 3],
+    outcome: Outcome,
+    tells: &[Row],
+) -> Result<(), Fail>
+    requires { length tells.now ≤ 8 }
+{
+    let mut notes = Notes::new(100);
+    let heard = hear_lanes(alloc, &rows[0], &rows[1], &rows[2], &mut notes);
+    assert_eq!(rt; heard, Ok(outcome));
+    assert_eq!(rt; notes.count, tells.len());
+    let bits = rows[0].len();
+    for piece in PIECES {
+        let mut notes = Notes::new(100);
+        let mut sink = LinkSink::open(alloc)?;
+        assert_eq!(rt;
+            feed_pieces(&mut sink, rows, bits, piece, &mut notes),
+            Ok(())
+        );
+        assert!(rt; sink.is_open());
+        assert_eq!(rt; sink.bits(), bits);
+        assert_eq!(rt; finish(&mut sink, &mut notes), Ok(outcome));
+        assert!(rt; !sink.is_open());
+        assert_eq!(rt; notes.count, tells.len());
+        assert!(rt; &notes.rows[..tells.len()] == tells);
+    }
+    Ok(())
+}
+
+#[test]
+fn pieces_of_lanes_at_skews(rt: HostRuntime) -> Result<(), Fail> {
+    for (skews, columns, last) in [
+        ([0, 0, 0], 34, 19),
+        ([3, 0, 17], 32, 17),
+        ([0, 70, 35], 27, 12),
+        ([70, 69, 0], 27, 12),
+    ] {
+        let rows = even_rows(rt.alloc(), skews, 540)?;
+        let outcome = Outcome {
+            aligned: true,
+            columns,
+        };
+        let tells = [TELLS[0], TELLS[1], TELLS[2], [0, 0, last]];
+        expect(&rt, rt.alloc(), &rows, outcome, &tells)?;
+    }
+    Ok(())
+}
+
+#[test]
+fn pieces_that_end_in_a_line(rt: HostRuntime) -> Result<(), Fail> {
+    let rows = even_rows(rt.alloc(), [0, 0, 0], 340)?;
+    let outcome = Outcome {
+        aligned: true,
+        columns: 14,
+    };
+    let tells = [TELLS[0], TELLS[1], [6, 14, 0]];
+    expect(&rt, rt.alloc(), &rows, outcome, &tells)
+}
+
+#[test]
+fn pieces_of_lanes_that_are_not_aligned(rt: HostRuntime) -> Result<(), Fail> {
+    let outcome = Outcome {
+        aligned: false,
+        columns: 0,
+    };
+    let far = even_rows(rt.alloc(), [0, 71, 0], 540)?;
+    expect(&rt, rt.alloc(), &far, outcome, &NOTHING)?;
+    let short = even_rows(rt.alloc(), [0, 0, 0], 329)?;
+    expect(&rt, rt.alloc(), &short, outcome, &NOTHING)?;
+    let empty = even_rows(rt.alloc(), [0, 0, 0], 0)?;
+    expect(&rt, rt.alloc(), &empty, outcome, &NOTHING)
+}
+
+#[test]
+fn ears_that_fail_in_a_feed(rt: HostRuntime) -> Result<(), Fail> {
+    let rows = even_rows(rt.alloc(), [1, 2, 3], 540)?;
+    for piece in PIECES {
+        for at in 0..3 {
+            let mut notes = Notes::new(at);
+            let mut sink = LinkSink::open(rt.alloc())?;
+            let fed = feed_pieces(&mut sink, &rows, 540, piece, &mut notes);
+            assert_eq!(&rt; fed, Err(FeedFault::Ear));
+            assert!(&rt; !sink.is_open());
+            assert_eq!(&rt; notes.count, at);
+            assert!(&rt; notes.rows[..at] == TELLS[..at]);
+            assert_eq!(&rt; notes.failed, 1);
+        }
+    }
+    Ok(())
+}
+
+#[test]
+fn ears_that_fail_at_the_end(rt: HostRuntime) -> Result<(), Fail> {
+    let rows = even_rows(rt.alloc(), [1, 2, 3], 540)?;
+    for piece in PIECES {
+        let mut notes = Notes::new(3);
+        let mut sink = LinkSink::open(rt.alloc())?;
+        let fed = feed_pieces(&mut sink, &rows, 540, piece, &mut notes);
+        assert_eq!(&rt; fed, Ok(()));
+        assert_eq!(&rt; finish(&mut sink, &mut notes), Err(Failed));
+        assert!(&rt; !sink.is_open());
+        assert_eq!(&rt; notes.count, 3);
+        assert!(&rt; notes.rows[..3] == TELLS[..3]);
+        assert_eq!(&rt; notes.failed, 1);
+    }
+    Ok(())
+}
