@@ -1,7 +1,7 @@
 -- The first fault decides.
 use Rattle.std.proofs.Common.{◌≡◌, Bool, true, false, List, refl, Option, Some, None, ◌+◌, ap, sym, subst, ◌∙◌, Result, Ok, Err}
 use Rattle.std.specs.Prelude.{nat_le}
-use Rattle.source_end.specs.Periods.{Period, period_columns, columns_of}
+use Rattle.island_pack.specs.Periods.{Period, period_columns, columns_of}
 use Rattle.source_end.specs.declared.items.ItemFault.{ItemFault}
 use Rattle.source_end.specs.declared.items.ItemFault.TheVariants.{Range, Order, Control, Preamble, Long, NoMemory}
 use Rattle.source_end.specs.Refusals.{last_period, is_in_range, is_in_order, has_control, is_announced, is_control_last, is_long_enough, unless, push_fault, close_fault, AnswersFault, AnswersOnlyFault}

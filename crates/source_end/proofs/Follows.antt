@@ -1,12 +1,13 @@
 -- The last period, and what the tests of one item after others say of it.
-use Rattle.std.proofs.Common.{◌≡◌, ℕ, suc, ◌+◌, ◌-◌, ◌≤◌, ◌<◌, ◌&&◌, List, [], ◌∷◌, length, map, refl, ap, sym, ◌∙◌, arith, Option, Some, None, ◌/◌, min, Result, Ok, Err}
+use Rattle.std.proofs.Common.{◌≡◌, ℕ, suc, ◌+◌, ◌-◌, ◌*◌, ◌≤◌, ◌<◌, ◌&&◌, List, [], ◌∷◌, length, map, refl, ap, sym, ◌∙◌, arith, Option, Some, None, ◌/◌, min, Result, Ok, Err}
 use Rattle.std.specs.Result.{OkIff, result_unwrap_or}
 use Rattle.source_end.specs.Kept.{capped, is_run_in_range}
 use Rattle.std.specs.Prelude.{nat_le}
 use Rattle.std.specs.List.{slice_get, list_all}
 use Rattle.std.specs.Option.{option_map}
 use Rattle.std.proofs.lemmas.Option.{slice_get-map}
-use Rattle.source_end.specs.Periods.{ControlRun, Period, control, video, values_of, period_columns}
+use Rattle.island_pack.specs.Periods.{ControlRun, DataIsland, Period, control, video, island, values_of, period_columns}
+use Rattle.island_pack.specs.Conforming.{is_data_island}
 use Rattle.source_end.specs.declared.item.Item.{Item}
 use Rattle.source_end.specs.ItemPeriods.{period_of}
 use Rattle.source_end.specs.Refusals.{last_period, is_in_range}
@@ -61,6 +62,14 @@ pub video_columns : (bytes : List ℕ) (n m : ℕ) → n ≡ length bytes / 3 �
 unfolding period_columns
 video_columns bytes n m e is = ap (λ k. min (k + 2) 4294967295) is ∙ over n ∙ ap (λ k. capped (2 + k)) e
 
+over_packets : (n : ℕ) → min (min (min n 4294967295 * 32) 4294967295 + 4) 4294967295 ≡ capped (4 + 32 * n)
+over_packets n = omega arith
+
+pub island_columns : (x : DataIsland) (n m k : ℕ) → n ≡ length x.packets → m ≡ min n 4294967295 → k ≡ min (m * 32) 4294967295 → min (k + 4) 4294967295 ≡ capped (period_columns (island x))
+unfolding period_columns
+island_columns x n m k e is times =
+    ap (λ j. min (j + 4) 4294967295) (times ∙ ap (λ j. min (j * 32) 4294967295) is) ∙ over_packets n ∙ ap (λ j. capped (4 + 32 * j)) e
+
 pub control_columns : (runs : List ControlRun) → length (values_of runs) ≡ period_columns (control runs)
 unfolding period_columns
 control_columns runs = refl
@@ -68,3 +77,7 @@ control_columns runs = refl
 pub runs_in_range : (runs : List ControlRun) → list_all is_run_in_range runs ≡ is_in_range (control runs)
 unfolding is_in_range is_run_in_range
 runs_in_range runs = refl
+
+pub island_in_range : (x : DataIsland) → is_data_island x ≡ is_in_range (island x)
+unfolding is_in_range
+island_in_range x = refl

@@ -6,7 +6,7 @@ use Rattle.std.proofs.lemmas.List.{reverse-append, length-reverse}
 use Rattle.std.proofs.lemmas.Bool.{eq-eqb, ne_eqb}
 use Rattle.std.proofs.Math.Bool.{and-false}
 use Rattle.std.proofs.Math.Dec.{leb-zero, leb-suc-zero, leb-suc-suc}
-use Rattle.source_end.specs.Periods.{ControlRun, values_of, ctl, has_preamble, VIDEO_PREAMBLE}
+use Rattle.island_pack.specs.Periods.{ControlRun, values_of, ctl, has_preamble, VIDEO_PREAMBLE, ISLAND_PREAMBLE}
 use Rattle.source_end.specs.Kept.{capped, led_by}
 
 -- The first k pass: what the number of leading ones says.
@@ -93,26 +93,27 @@ pub capped_twelve : (n m : ℕ) → m ≡ capped n → nat_le 12 m ≡ nat_le 12
 capped_twelve n m e = grind (arith, e)
 
 -- What the fields keep.
-pub none_kept : (xs : List ControlRun) → xs ≡ [] → (0 ≡ capped (length (values_of xs))) × (0 ≡ capped (led_by VIDEO_PREAMBLE xs))
+pub none_kept : (xs : List ControlRun) → xs ≡ [] → (0 ≡ capped (length (values_of xs))) × (0 ≡ capped (led_by VIDEO_PREAMBLE xs)) × (0 ≡ capped (led_by ISLAND_PREAMBLE xs))
 unfolding values_of led_by
-none_kept [] e = (refl, refl)
+none_kept [] e = (refl, refl, refl)
 none_kept (x ∷ xs) e = absurd cc
 
 pub columns_kept : (old new : List ControlRun) (r : ControlRun) (columns count : ℕ) → columns ≡ capped (length (values_of old)) → count ≡ r.count → new ≡ old ++ r ∷ [] → min (columns + count) (2 ^ 32 - 1) ≡ capped (length (values_of new))
 columns_kept old new r columns count e same more =
     ap (λ n. min (columns + n) (2 ^ 32 - 1)) same ∙ capped-more (length (values_of old)) r.count columns e ∙ ap capped (sym (length-values_of-more old r)) ∙ ap (λ rs. capped (length (values_of rs))) (sym more)
 
-pub led_kept : (old new : List ControlRun) (r : ControlRun) (led count : ℕ) → led ≡ capped (led_by VIDEO_PREAMBLE old) → count ≡ r.count → new ≡ old ++ r ∷ [] → ctl r.value ≡ 1 → min (led + count) (2 ^ 32 - 1) ≡ capped (led_by VIDEO_PREAMBLE new)
-led_kept old new r led count e same more is =
-    let sum : led_by VIDEO_PREAMBLE old + r.count ≡ r.count + led_by VIDEO_PREAMBLE old = omega arith in
-    ap (λ n. min (led + n) (2 ^ 32 - 1)) same ∙ capped-more (led_by VIDEO_PREAMBLE old) r.count led e ∙ ap capped (sum ∙ sym (led_on VIDEO_PREAMBLE old r is)) ∙ ap (λ rs. capped (led_by VIDEO_PREAMBLE rs)) (sym more)
+-- What a count of columns at the end becomes with one run more.
+pub led_kept : (bits : ℕ) (runs : List ControlRun) (r : ControlRun) (led count : ℕ) → led ≡ capped (led_by bits runs) → count ≡ r.count → ctl r.value ≡ bits → min (led + count) (2 ^ 32 - 1) ≡ capped (led_by bits (runs ++ r ∷ []))
+led_kept bits runs r led count e same is =
+    let sum : led_by bits runs + r.count ≡ r.count + led_by bits runs = omega arith in
+    ap (λ n. min (led + n) (2 ^ 32 - 1)) same ∙ capped-more (led_by bits runs) r.count led e ∙ ap capped (sum ∙ sym (led_on bits runs r is))
 
-pub led_lost : (old new : List ControlRun) (r : ControlRun) (count : ℕ) → count ≡ r.count → new ≡ old ++ r ∷ [] → ctl r.value ≢ 1 → 0 < count → 0 ≡ capped (led_by VIDEO_PREAMBLE new)
-led_lost old new r count same more other some =
+pub led_lost : (bits : ℕ) (runs : List ControlRun) (r : ControlRun) (count : ℕ) → count ≡ r.count → ctl r.value ≢ bits → 0 < count → 0 ≡ capped (led_by bits (runs ++ r ∷ []))
+led_lost bits runs r count same other some =
     let some' : 0 < r.count = omega arith in
-    ap capped (sym (led_anew VIDEO_PREAMBLE old r other some')) ∙ ap (λ rs. capped (led_by VIDEO_PREAMBLE rs)) (sym more)
+    ap capped (sym (led_anew bits runs r other some'))
 
-pub led_stays : (old new : List ControlRun) (r : ControlRun) (led count : ℕ) → led ≡ capped (led_by VIDEO_PREAMBLE old) → count ≡ r.count → new ≡ old ++ r ∷ [] → count ≤ 0 → led ≡ capped (led_by VIDEO_PREAMBLE new)
-led_stays old new r led count e same more none =
+pub led_stays : (bits : ℕ) (runs : List ControlRun) (r : ControlRun) (led count : ℕ) → led ≡ capped (led_by bits runs) → count ≡ r.count → count ≤ 0 → led ≡ capped (led_by bits (runs ++ r ∷ []))
+led_stays bits runs r led count e same none =
     let none' : r.count ≡ 0 = omega arith in
-    e ∙ ap capped (sym (led_same VIDEO_PREAMBLE old r none')) ∙ ap (λ rs. capped (led_by VIDEO_PREAMBLE rs)) (sym more)
+    e ∙ ap capped (sym (led_same bits runs r none'))

@@ -3,4 +3,5 @@ pub mod Follows
 pub mod Turns
 pub mod Faults
 pub mod Spellings
+pub mod Packets
 pub mod Streams

@@ -7,9 +7,9 @@ use Rattle.std.proofs.lemmas.Bool.{ltb-true}
 use Rattle.tmds_word.specs.Column.{Column}
 use Rattle.tmds_code.specs.Lanes.{IsLane}
 use Rattle.tmds_code.specs.Pasts.{IsCoderAfter}
-use Rattle.source_end.specs.Conforming.{is_run}
+use Rattle.island_pack.specs.Conforming.{is_run}
 use Rattle.source_end.proofs.Turns.{left, right}
-use Rattle.source_end.specs.Periods.{ControlRun, values_of, Pixel, pixels_of}
+use Rattle.island_pack.specs.Periods.{ControlRun, values_of, Pixel, pixels_of}
 use Rattle.source_end.proofs.Leads.{values_of-more}
 
 pub map_replicate : {A : Type 0} (f : ℕ → A) (n v : ℕ) → map f (replicate n v) ≡ replicate n (f v)

@@ -1,18 +1,19 @@
 -- Columns that spell periods, one period after another.
-use Rattle.std.proofs.Common.{◌≡◌, ℕ, suc, zero, ◌+◌, ◌/◌, ◌%◌, ◌≤◌, ◌<◌, true, ◌==◌, ◌&&◌, List, [], ◌∷◌, ◌++◌, length, take, get_or, map, refl, ap, sym, ◌∙◌, arith, append_assoc, append-nil, length-append}
+use Rattle.std.proofs.Common.{◌≡◌, ℕ, suc, zero, ◌+◌, ◌*◌, ◌/◌, ◌%◌, ◌≤◌, ◌<◌, true, ◌==◌, ◌&&◌, List, [], ◌∷◌, ◌++◌, length, take, get_or, map, refl, ap, sym, ◌∙◌, arith, append_assoc, append-nil, length-append}
 use Rattle.std.specs.Prelude.{nat_le, nat_lt}
 use Rattle.std.specs.List.{list_all}
 use Rattle.std.proofs.Math.ListN.{get_or-map}
 use Rattle.std.proofs.lemmas.List.{length-map}
 use Rattle.tmds_word.specs.Column.{Column}
-use Rattle.source_end.specs.Periods.{ControlRun, Period, control, video, values_of, has_preamble, VIDEO_PREAMBLE, Pixel, pixels_of, period_columns, columns_of}
-use Rattle.source_end.specs.Conforming.{is_run, is_control_period, is_video_period, conforms}
+use Rattle.island_pack.specs.Periods.{ControlRun, DataIsland, Period, control, video, island, values_of, has_preamble, VIDEO_PREAMBLE, ISLAND_PREAMBLE, Pixel, pixels_of, period_columns, columns_of}
+use Rattle.island_pack.specs.Conforming.{is_run, is_control_period, is_video_period, is_data_island, conforms}
 use Rattle.source_end.specs.declared.item.Item.{Item}
 use Rattle.source_end.specs.ItemPeriods.{period_of}
 use Rattle.source_end.specs.Kept.{is_sendable}
-use Rattle.source_end.specs.Spelling.{SpellsPixels, SpellsPeriod, Spells, control_column}
+use Rattle.island_pack.specs.Spelling.{SpellsPixels, SpellsIsland, SpellsPeriod, Spells, control_column, guard_columns}
 use Rattle.source_end.proofs.Turns.{left, right}
 use Rattle.source_end.proofs.Spellings.{length-pixels_of}
+use Rattle.source_end.proofs.Packets.{packets_length}
 
 pub Spells-more : (periods : List Period) (p : Period) (columns own : List Column) → Spells periods columns → SpellsPeriod p own → Spells (periods ++ p ∷ []) (columns ++ own)
 Spells-more [] p columns own h k = (own, [], ap (λ (cs : List Column). cs ++ own) h ∙ sym (append-nil own), k, refl)
@@ -23,10 +24,17 @@ video_length : (bytes : List ℕ) (columns : List Column) → SpellsPixels (pixe
 video_length bytes columns h =
     sym (length-map columns (λ (c : Column). c.blue)) ∙ h.blue.same_length ∙ length-map (pixels_of bytes) (λ (p : Pixel). p.blue) ∙ length-pixels_of bytes
 
+island_length : (x : DataIsland) (columns : List Column) → SpellsIsland x columns → length columns ≡ 4 + 32 * length x.packets
+island_length x columns h =
+    let n = packets_length true x.packets h.0 h.2 in
+    let m = length-append h.0 (guard_columns x.closing) in
+    ap length h.1 ∙ omega (arith, n, m)
+
 period_length : (p : Period) (columns : List Column) → SpellsPeriod p columns → length columns ≡ period_columns p
 unfolding period_columns
 period_length (control runs) columns h = ap length h ∙ length-map (values_of runs) control_column
 period_length (video bytes) columns h = let n = video_length bytes h.0 h.2 in ap length h.1 ∙ omega (arith, n)
+period_length (island x) columns h = island_length x columns h
 
 pub Spells-length : (periods : List Period) (columns : List Column) → Spells periods columns → length columns ≡ columns_of periods
 unfolding columns_of
@@ -49,6 +57,7 @@ pub sendable_at : (periods : List Period) (i : ℕ) (d : Period) → conforms pe
 unfolding conforms
 sendable_at [] i d h lt = absurd (omega arith)
 sendable_at (video bytes ∷ ps) i d h lt = absurd cc
+sendable_at (island x ∷ ps) i d h lt = absurd cc
 sendable_at (control runs ∷ (control more ∷ ps)) i d h lt = absurd cc
 sendable_at (control runs ∷ []) zero d h lt = control_sendable runs h
 sendable_at (control runs ∷ []) (suc i) d h lt = absurd (omega arith)
@@ -58,6 +67,12 @@ sendable_at (control runs ∷ (video bytes ∷ ps)) (suc zero) d h lt =
 sendable_at (control runs ∷ (video bytes ∷ ps)) (suc (suc i)) d h lt =
     let lt' : i < length ps = omega arith in
     sendable_at ps i d (right (is_video_period bytes) (conforms ps) (right (has_preamble VIDEO_PREAMBLE (values_of runs)) _ (right (is_control_period runs) _ h))) lt'
+sendable_at (control runs ∷ (island x ∷ ps)) zero d h lt = control_sendable runs (left (is_control_period runs) _ h)
+sendable_at (control runs ∷ (island x ∷ ps)) (suc zero) d h lt =
+    left (is_data_island x) (conforms ps) (right (has_preamble ISLAND_PREAMBLE (values_of runs)) _ (right (is_control_period runs) _ h))
+sendable_at (control runs ∷ (island x ∷ ps)) (suc (suc i)) d h lt =
+    let lt' : i < length ps = omega arith in
+    sendable_at ps i d (right (is_data_island x) (conforms ps) (right (has_preamble ISLAND_PREAMBLE (values_of runs)) _ (right (is_control_period runs) _ h))) lt'
 
 -- the columns of the first periods and of the next one are among all
 pub periods_room : (periods : List Period) (i : ℕ) (d : Period) → i < length periods → columns_of (take i periods) + period_columns (get_or periods i d) ≤ columns_of periods

@@ -2,8 +2,8 @@
 use Rattle.std.proofs.Common.{◌≡◌, ℕ, ◌+◌, ◌-◌, ◌≤◌, ◌<◌, Bool, true, false, ◌&&◌, List, [], ◌∷◌, ◌++◌, length, refl, ap, ◌∙◌, arith, ◌%◌, ◌==◌}
 use Rattle.std.specs.Prelude.{nat_le, nat_lt}
 use Rattle.std.specs.List.{list_all}
-use Rattle.source_end.specs.Periods.{ControlRun, Period, control, video, values_of, has_preamble, VIDEO_PREAMBLE, period_columns, columns_of}
-use Rattle.source_end.specs.Conforming.{is_run, is_control_period, is_video_period, conforms}
+use Rattle.island_pack.specs.Periods.{ControlRun, DataIsland, Period, control, video, island, values_of, has_preamble, VIDEO_PREAMBLE, ISLAND_PREAMBLE, period_columns, columns_of}
+use Rattle.island_pack.specs.Conforming.{is_run, is_control_period, is_video_period, is_data_island, conforms}
 use Rattle.source_end.specs.Kept.{capped, is_run_in_range, are_pixels, has_pixels, conforms_so_far}
 use Rattle.source_end.specs.Refusals.{last_period, is_in_range, is_in_order, has_control, is_announced, is_long_enough}
 
@@ -41,6 +41,10 @@ video_in_range bytes h k =
     let whole : Bool = length bytes % 3 == 0 in
     both all _ (left all whole k) (both whole _ (right all whole k) h)
 
+island_in_range : (x : DataIsland) → is_in_range (island x) ≡ true → is_data_island x ≡ true
+unfolding is_in_range
+island_in_range x h = h
+
 period_is : (runs : List ControlRun) → list_all is_run runs ≡ true → nat_le 12 (length (values_of runs)) ≡ true → is_control_period runs ≡ true
 unfolding is_control_period
 period_is runs h k = both (list_all is_run runs) (nat_le 12 (length (values_of runs))) h k
@@ -72,12 +76,17 @@ pub so_far-more : (periods : List Period) (p : Period) → conforms_so_far perio
 unfolding conforms_so_far
 so_far-more [] (control runs) h f = control_in_range runs f.range
 so_far-more [] (video bytes) h f = let no = f.order in absurd cc
+so_far-more [] (island x) h f = let no = f.order in absurd cc
 so_far-more (video bytes ∷ ps) p h f = absurd cc
+so_far-more (island x ∷ ps) p h f = absurd cc
 so_far-more (control runs ∷ []) (control more) h f = let no = f.order in absurd cc
 so_far-more (control runs ∷ []) (video bytes) h f =
     all_four (is_control_period runs) (has_preamble VIDEO_PREAMBLE (values_of runs)) (is_video_period bytes) true (period_is runs h f.control) f.preamble (video_in_range bytes f.range f.whole) refl
+so_far-more (control runs ∷ []) (island x) h f =
+    all_four (is_control_period runs) (has_preamble ISLAND_PREAMBLE (values_of runs)) (is_data_island x) true (period_is runs h f.control) f.preamble (island_in_range x f.range) refl
 so_far-more (control runs ∷ (control more ∷ ps)) p h f = absurd cc
 so_far-more (control runs ∷ (video bytes ∷ [])) (video more) h f = let no = f.order in absurd cc
+so_far-more (control runs ∷ (video bytes ∷ [])) (island more) h f = let no = f.order in absurd cc
 so_far-more (control runs ∷ (video bytes ∷ [])) (control more) h f =
     fourth (is_control_period runs) (has_preamble VIDEO_PREAMBLE (values_of runs)) (is_video_period bytes) true (list_all is_run more) h (control_in_range more f.range)
 so_far-more (control runs ∷ (video bytes ∷ (q ∷ ps))) p h f =
@@ -86,11 +95,22 @@ so_far-more (control runs ∷ (video bytes ∷ (q ∷ ps))) p h f =
     let c = is_video_period bytes in
     fourth a b c (conforms_so_far (q ∷ ps)) (conforms_so_far ((q ∷ ps) ++ p ∷ [])) h
     (so_far-more (q ∷ ps) p (the_fourth a b c (conforms_so_far (q ∷ ps)) h) record { range = f.range; order = f.order; control = f.control; preamble = f.preamble; whole = f.whole })
+so_far-more (control runs ∷ (island x ∷ [])) (video more) h f = let no = f.order in absurd cc
+so_far-more (control runs ∷ (island x ∷ [])) (island more) h f = let no = f.order in absurd cc
+so_far-more (control runs ∷ (island x ∷ [])) (control more) h f =
+    fourth (is_control_period runs) (has_preamble ISLAND_PREAMBLE (values_of runs)) (is_data_island x) true (list_all is_run more) h (control_in_range more f.range)
+so_far-more (control runs ∷ (island x ∷ (q ∷ ps))) p h f =
+    let a = is_control_period runs in
+    let b = has_preamble ISLAND_PREAMBLE (values_of runs) in
+    let c = is_data_island x in
+    fourth a b c (conforms_so_far (q ∷ ps)) (conforms_so_far ((q ∷ ps) ++ p ∷ [])) h
+    (so_far-more (q ∷ ps) p (the_fourth a b c (conforms_so_far (q ∷ ps)) h) record { range = f.range; order = f.order; control = f.control; preamble = f.preamble; whole = f.whole })
 
 pub so_far-ends : (periods : List Period) → conforms_so_far periods ≡ true → is_long_enough (last_period periods) ≡ true → conforms periods ≡ true
 unfolding conforms_so_far conforms
 so_far-ends [] h k = absurd cc
 so_far-ends (video bytes ∷ ps) h k = absurd cc
+so_far-ends (island x ∷ ps) h k = absurd cc
 so_far-ends (control runs ∷ []) h k = period_is runs h k
 so_far-ends (control runs ∷ (control more ∷ ps)) h k = absurd cc
 so_far-ends (control runs ∷ (video bytes ∷ [])) h k = absurd cc
@@ -98,6 +118,12 @@ so_far-ends (control runs ∷ (video bytes ∷ (q ∷ ps))) h k =
     let a = is_control_period runs in
     let b = has_preamble VIDEO_PREAMBLE (values_of runs) in
     let c = is_video_period bytes in
+    fourth a b c (conforms_so_far (q ∷ ps)) (conforms (q ∷ ps)) h (so_far-ends (q ∷ ps) (the_fourth a b c (conforms_so_far (q ∷ ps)) h) k)
+so_far-ends (control runs ∷ (island x ∷ [])) h k = absurd cc
+so_far-ends (control runs ∷ (island x ∷ (q ∷ ps))) h k =
+    let a = is_control_period runs in
+    let b = has_preamble ISLAND_PREAMBLE (values_of runs) in
+    let c = is_data_island x in
     fourth a b c (conforms_so_far (q ∷ ps)) (conforms (q ∷ ps)) h (so_far-ends (q ∷ ps) (the_fourth a b c (conforms_so_far (q ∷ ps)) h) k)
 
 pub columns_of-more : (periods : List Period) (p : Period) → columns_of (periods ++ p ∷ []) ≡ columns_of periods + period_columns p

@@ -1,8 +1,8 @@
 -- What is kept of the columns of a control period, and of the periods so far.
 use Rattle.std.specs.Prelude.{ℕ, ◌-◌, ◌^◌, ◌%◌, Bool, true, false, ◌==◌, ◌&&◌, List, [], ◌∷◌, length, min, reverse, nat_le, nat_lt}
 use Rattle.std.specs.List.{list_all, prefix_len}
-use Rattle.source_end.specs.Periods.{ControlRun, Period, control, video, values_of, ctl, has_preamble, VIDEO_PREAMBLE}
-use Rattle.source_end.specs.Conforming.{is_run, is_control_period, is_video_period}
+use Rattle.island_pack.specs.Periods.{ControlRun, Period, control, video, island, values_of, ctl, has_preamble, VIDEO_PREAMBLE, ISLAND_PREAMBLE}
+use Rattle.island_pack.specs.Conforming.{is_run, is_control_period, is_video_period, is_data_island}
 
 -- a count that stands still at the greatest u32
 abbrev pub capped : ℕ → ℕ
@@ -19,11 +19,13 @@ are_pixels bytes = list_all (λ b. nat_lt b 256) bytes && (length bytes % 3 == 0
 abbrev pub has_pixels : Period → Bool
 has_pixels (control runs) = true
 has_pixels (video bytes) = are_pixels bytes
+has_pixels (island x) = true
 
--- what the columns of a period are made from: values below 64, whole pixels
+-- what the columns of a period are made from: values below 64, whole pixels, sync values below 4
 abbrev pub is_sendable : Period → Bool
 is_sendable (control runs) = list_all is_run runs
 is_sendable (video bytes) = length bytes % 3 == 0
+is_sendable (island x) = is_data_island x
 
 -- how many columns at the end have these control bits
 unfoldable pub led_by : ℕ → List ControlRun → ℕ
@@ -35,4 +37,6 @@ conforms_so_far [] = true
 conforms_so_far (control runs ∷ []) = list_all is_run runs
 conforms_so_far (control runs ∷ (video bytes ∷ rest)) =
     is_control_period runs && (has_preamble VIDEO_PREAMBLE (values_of runs) && (is_video_period bytes && conforms_so_far rest))
+conforms_so_far (control runs ∷ (island x ∷ rest)) =
+    is_control_period runs && (has_preamble ISLAND_PREAMBLE (values_of runs) && (is_data_island x && conforms_so_far rest))
 conforms_so_far _ = false

@@ -1,8 +1,8 @@
 -- What follows from the definitions.
 use Rattle.std.specs.Prelude.{◌≡◌, List, length}
 use Rattle.tmds_word.specs.Column.{Column}
-use Rattle.source_end.specs.Periods.{Period, columns_of}
-use Rattle.source_end.specs.Spelling.{Spells}
+use Rattle.island_pack.specs.Periods.{Period, columns_of}
+use Rattle.island_pack.specs.Spelling.{Spells}
 
 -- columns that spell periods are as many as the periods take
 unfoldable pub SpelledAsMany : Type 0

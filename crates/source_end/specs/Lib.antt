@@ -1,6 +1,4 @@
-pub mod Periods
-pub mod Conforming
-pub mod Spelling
+pub mod Pairs
 pub mod Kept
 pub mod ItemPeriods
 pub mod Refusals

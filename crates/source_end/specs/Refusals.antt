@@ -1,7 +1,8 @@
 -- Why an item is refused after the periods before it, and why a list of periods cannot end: the first cause decides.
 use Rattle.std.specs.Prelude.{◌≡◌, ◌+◌, ◌/◌, Bool, true, false, ◌&&◌, List, [], ◌∷◌, length, nat_le, nat_lt, Option, Some, None, Result, Ok, Err}
 use Rattle.std.specs.List.{list_all}
-use Rattle.source_end.specs.Periods.{Period, control, video, values_of, has_preamble, VIDEO_PREAMBLE, period_columns, columns_of}
+use Rattle.island_pack.specs.Periods.{Period, control, video, island, values_of, has_preamble, VIDEO_PREAMBLE, ISLAND_PREAMBLE, period_columns, columns_of}
+use Rattle.island_pack.specs.Conforming.{is_data_island}
 use Rattle.source_end.specs.declared.items.ItemFault.{ItemFault}
 use Rattle.source_end.specs.declared.items.ItemFault.TheVariants.{Range, Order, Control, Preamble, Long, NoMemory}
 
@@ -10,19 +11,26 @@ last_period [] = None
 last_period (p ∷ []) = Some p
 last_period (p ∷ (q ∷ ps)) = last_period (q ∷ ps)
 
--- values below 64 in one to 20,000,000 columns, one to 4,096 pixels
+-- values below 64 in one to 20,000,000 columns, one to 4,096 pixels, one to 18 packets with sync values below 4
 unfoldable pub is_in_range : Period → Bool
 is_in_range (control runs) = list_all (λ r. nat_lt r.value 64 && (nat_le 1 r.count && nat_le r.count 20000000)) runs
 is_in_range (video bytes) = nat_le 1 (length bytes / 3) && nat_le (length bytes / 3) 4096
+is_in_range (island x) = is_data_island x
 
 -- control and other periods take turns, a control period first
 abbrev pub is_in_order : Option Period → Period → Bool
 is_in_order None (control runs) = true
 is_in_order None (video bytes) = false
+is_in_order None (island x) = false
 is_in_order (Some (control before)) (control runs) = false
 is_in_order (Some (control before)) (video bytes) = true
+is_in_order (Some (control before)) (island x) = true
 is_in_order (Some (video before)) (control runs) = true
 is_in_order (Some (video before)) (video bytes) = false
+is_in_order (Some (video before)) (island x) = false
+is_in_order (Some (island before)) (control runs) = true
+is_in_order (Some (island before)) (video bytes) = false
+is_in_order (Some (island before)) (island x) = false
 
 -- a control period of at least twelve columns stands before another period
 abbrev pub is_long_enough : Option Period → Bool
@@ -32,12 +40,15 @@ is_long_enough _ = false
 abbrev pub has_control : Option Period → Period → Bool
 has_control before (control runs) = true
 has_control before (video bytes) = is_long_enough before
+has_control before (island x) = is_long_enough before
 
--- the control period before a video data period ends with its preamble
+-- the control period before a video data period or a data island ends with its preamble
 abbrev pub is_announced : Option Period → Period → Bool
 is_announced before (control runs) = true
 is_announced (Some (control runs)) (video bytes) = has_preamble VIDEO_PREAMBLE (values_of runs)
+is_announced (Some (control runs)) (island x) = has_preamble ISLAND_PREAMBLE (values_of runs)
 is_announced _ (video bytes) = false
+is_announced _ (island x) = false
 
 abbrev pub unless : Bool → ItemFault → Option ItemFault → Option ItemFault
 unless true fault rest = rest

@@ -1,7 +1,7 @@
 //! What an item is asked before it follows others, each question with a yes or a no.
-ghost use Rattle.std.specs.Prelude.{◌≡◌, map, IsTrue};
+ghost use Rattle.std.specs.Prelude.{◌≡◌, ℕ, List, map, IsTrue};
 ghost use Rattle.std.specs.List.{list_all};
-ghost use Rattle.source_end.specs.Periods.{period_columns};
+ghost use Rattle.island_pack.specs.Periods.{DataIsland, video, island, period_columns};
 ghost use Rattle.source_end.specs.ItemPeriods.{period_of};
 ghost use Rattle.source_end.specs.Kept.{capped, has_pixels, is_run_in_range};
 ghost use Rattle.source_end.specs.Refusals.{last_period, is_in_range, is_in_order, has_control, is_announced, is_control_last, is_long_enough};
@@ -16,6 +16,7 @@ pub(crate) fn is_in_range(item: &Item) -> bool
     match item {
         Item::Control(runs) => are_in_range(runs.as_slice()),
         Item::Video(pixels) => pixels.len() >= 1 && pixels.len() <= 4096,
+        Item::Island(island) => island.is_in_range(),
     }
 }
 
@@ -34,6 +35,10 @@ pub(crate) fn columns_of(item: &Item) -> u32
         Item::Video(pixels) => u32::try_from(pixels.len())
             .unwrap_or(u32::MAX)
             .saturating_add(2),
+        Item::Island(island) => u32::try_from(island.len())
+            .unwrap_or(u32::MAX)
+            .saturating_mul(32)
+            .saturating_add(4),
     }
 }
 
@@ -44,6 +49,7 @@ pub(crate) fn is_in_order(items: &[Item], item: &Item) -> bool
     match item {
         Item::Control(_) => !is_control_last(items),
         Item::Video(_) => is_control_last(items),
+        Item::Island(_) => is_control_last(items),
     }
 }
 
@@ -54,6 +60,7 @@ pub(crate) fn is_control_last(items: &[Item]) -> bool
     match items.last() {
         Some(Item::Control(_)) => true,
         Some(Item::Video(_)) => false,
+        Some(Item::Island(_)) => false,
         None => false,
     }
 }
@@ -65,6 +72,7 @@ pub(crate) fn has_control(items: &[Item], item: &Item) -> bool
     match item {
         Item::Control(_) => true,
         Item::Video(_) => is_long_enough(items),
+        Item::Island(_) => is_long_enough(items),
     }
 }
 
@@ -75,6 +83,7 @@ pub(crate) fn is_long_enough(items: &[Item]) -> bool
     match items.last() {
         Some(Item::Control(runs)) => runs.columns() >= 12,
         Some(Item::Video(_)) => false,
+        Some(Item::Island(_)) => false,
         None => false,
     }
 }
@@ -85,10 +94,31 @@ pub(crate) fn is_announced(items: &[Item], item: &Item) -> bool
 {
     match item {
         Item::Control(_) => true,
-        Item::Video(_) => match items.last() {
-            Some(Item::Control(runs)) => runs.announces_video(),
-            Some(Item::Video(_)) => false,
-            None => false,
-        },
+        Item::Video(_) => is_video_announced(items),
+        Item::Island(_) => is_island_announced(items),
+    }
+}
+
+/// Whether the last item is a control period that ends with a video preamble.
+fn is_video_announced(items: &[Item]) -> bool
+    ensures { (bytes : List ℕ) → result ≡ is_announced (last_period (map period_of items.now)) (video bytes) }
+{
+    match items.last() {
+        Some(Item::Control(runs)) => runs.announces_video(),
+        Some(Item::Video(_)) => false,
+        Some(Item::Island(_)) => false,
+        None => false,
+    }
+}
+
+/// Whether the last item is a control period that ends with an island preamble.
+fn is_island_announced(items: &[Item]) -> bool
+    ensures { (x : DataIsland) → result ≡ is_announced (last_period (map period_of items.now)) (island x) }
+{
+    match items.last() {
+        Some(Item::Control(runs)) => runs.announces_island(),
+        Some(Item::Video(_)) => false,
+        Some(Item::Island(_)) => false,
+        None => false,
     }
 }

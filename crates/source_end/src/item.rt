@@ -1,11 +1,18 @@
-//! Items: a control period or a video data period.
+//! Items: a control period, a video data period or a data island.
 ghost use Rattle.std.specs.Prelude.{◌≡◌, ℕ, ◌≤◌, ◌+◌, ◌/◌, ◌%◌, ◌↔◌, ◌++◌, ◌∷◌, [], List, IsTrue, OnOk, OnErr, length};
-ghost use Rattle.source_end.specs.Periods.{ControlRun, values_of, has_preamble, VIDEO_PREAMBLE};
-ghost use Rattle.source_end.specs.Kept.{capped, is_run_in_range, are_pixels};
+ghost use Rattle.island_pack.specs.Periods.{ControlRun, values_of, has_preamble, VIDEO_PREAMBLE, ISLAND_PREAMBLE};
+ghost use Rattle.source_end.specs.Kept.{capped, led_by, is_run_in_range, are_pixels};
 
+use crate::Island;
 use outside_io::NoMemory;
 use std::alloc::Global;
 use std::marker::Model;
+
+/// CTL0 to CTL3 before a video data period: CTL0 is 1.
+const BEFORE_VIDEO: u8 = 1;
+
+/// CTL0 to CTL3 before a data island: CTL0 and CTL2 are 1.
+const BEFORE_ISLAND: u8 = 5;
 
 /// Neighbouring control columns of one value.
 #[derive(Clone, Copy, Debug, PartialEq, Eq)]
@@ -17,7 +24,7 @@ pub struct Run {
 }
 
 impl Model for Run {
-    ghost use Rattle.source_end.specs.Periods.{ControlRun};
+    ghost use Rattle.island_pack.specs.Periods.{ControlRun};
 
     ghost Value = { ControlRun };
 
@@ -51,19 +58,22 @@ pub struct Runs {
     columns: u32,
     /// How many columns at the end have the control bits of a video preamble, at most the greatest
     /// u32.
-    led: u32,
+    before_video: u32,
+    /// How many columns at the end have the control bits of an island preamble, at most the greatest
+    /// u32.
+    before_island: u32,
 }
 
 impl Model for Runs {
     ghost use Rattle.std.specs.Prelude.{◌≡◌, List, length};
-    ghost use Rattle.source_end.specs.Periods.{ControlRun, values_of, VIDEO_PREAMBLE};
+    ghost use Rattle.island_pack.specs.Periods.{ControlRun, values_of, VIDEO_PREAMBLE, ISLAND_PREAMBLE};
     ghost use Rattle.source_end.specs.Kept.{capped, led_by};
 
     ghost Value = { List ControlRun };
 
     ghost view = { λ r. r.list.items };
 
-    ghost invariant = { λ r. (r.columns ≡ capped (length (values_of r.list.items))) × (r.led ≡ capped (led_by VIDEO_PREAMBLE r.list.items)) };
+    ghost invariant = { λ r. (r.columns ≡ capped (length (values_of r.list.items))) × (r.before_video ≡ capped (led_by VIDEO_PREAMBLE r.list.items)) × (r.before_island ≡ capped (led_by ISLAND_PREAMBLE r.list.items)) };
 }
 
 impl Runs {
@@ -74,7 +84,8 @@ impl Runs {
         Runs {
             list: Vec::new(alloc),
             columns: 0,
-            led: 0,
+            before_video: 0,
+            before_island: 0,
         }
     }
 
@@ -85,11 +96,8 @@ impl Runs {
     {
         self.list.push(run)?;
         self.columns = self.columns.saturating_add(run.count);
-        if run.ctl() == 1 {
-            self.led = self.led.saturating_add(run.count);
-        } else if run.count > 0 {
-            self.led = 0;
-        }
+        self.before_video = led_with(self.before_video, BEFORE_VIDEO, run);
+        self.before_island = led_with(self.before_island, BEFORE_ISLAND, run);
         Ok(())
     }
 
@@ -104,7 +112,14 @@ impl Runs {
     pub fn announces_video(&self) -> bool
         ensures { result ≡ has_preamble VIDEO_PREAMBLE (values_of self.now) }
     {
-        self.led >= 8
+        self.before_video >= 8
+    }
+
+    /// Whether the last eight columns are an island preamble.
+    pub fn announces_island(&self) -> bool
+        ensures { result ≡ has_preamble ISLAND_PREAMBLE (values_of self.now) }
+    {
+        self.before_island >= 8
     }
 
     /// The runs, in order.
@@ -112,6 +127,18 @@ impl Runs {
         ensures { result.now ≡ self.now }
     {
         self.list.as_slice()
+    }
+}
+
+/// How many columns at the end have these control bits, at most the greatest u32, with a run more
+/// behind `led` of them.
+fn led_with(led: u32, ctl: u8, run: Run) -> u32
+    ensures { (runs : List ControlRun) → led ≡ capped (led_by ctl runs) → result ≡ capped (led_by ctl (runs ++ run ∷ [])) }
+{
+    match run.count {
+        0 => led,
+        count if run.ctl() == ctl => led.saturating_add(count),
+        _ => 0,
     }
 }
 
@@ -189,4 +216,6 @@ pub enum Item {
     Control(Runs),
     /// A video data period, its two guard columns included.
     Video(Pixels),
+    /// A data island, its four guard columns included.
+    Island(Island),
 }

@@ -14,9 +14,10 @@ use thiserror::Error;
 /// Why an item is refused, tried in this order.
 #[derive(Clone, Copy, Debug, PartialEq, Eq, Error)]
 pub enum ItemFault {
-    /// A control value of 64 or more, a run of no column or of more than 20,000,000, or a video data
-    /// period of no pixel or of more than 4,096.
-    #[error("a value or a count is out of its range")]
+    /// A control value of 64 or more, a run of no column or of more than 20,000,000, a video data
+    /// period of no pixel or of more than 4,096, a sync value of 4 or more, or a data island of no
+    /// packet or of more than 18.
+    #[error("a control value, a sync value or a number of columns, pixels or packets is out of its range")]
     Range,
     /// Two control periods or two other periods are neighbours, or the first or the last is no control
     /// period.
@@ -25,7 +26,7 @@ pub enum ItemFault {
     /// A control period of fewer than twelve columns stands before another period or at the end.
     #[error("a control period has fewer than twelve columns")]
     Control,
-    /// The last eight columns before a video data period are not its preamble.
+    /// The last eight columns before a video data period or a data island are not its preamble.
     #[error("the preamble is missing")]
     Preamble,
     /// More than 20,000,000 columns.
@@ -52,7 +53,7 @@ pub struct Items {
 
 impl Model for Items {
     ghost use Rattle.std.specs.Prelude.{◌≡◌, ◌≤◌, List, map, IsTrue};
-    ghost use Rattle.source_end.specs.Periods.{Period, columns_of};
+    ghost use Rattle.island_pack.specs.Periods.{Period, columns_of};
     ghost use Rattle.source_end.specs.Kept.{conforms_so_far};
     ghost use Rattle.source_end.specs.ItemPeriods.{period_of};
 

@@ -2,12 +2,14 @@
 #![tactic(auto)]
 
 mod follow;
+mod island;
 mod item;
 mod items;
 pub mod laws;
 mod spell;
 mod stream;
 
+pub use island::Island;
 pub use item::{Item, Pixels, Run, Runs};
 pub use items::{ItemFault, Items};
 pub use stream::Stream;

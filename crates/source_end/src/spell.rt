@@ -1,16 +1,18 @@
 //! The columns that spell one item.
-ghost use Rattle.std.specs.Prelude.{◌≡◌, ℕ, ◌≤◌, ◌<◌, ◌+◌, ◌/◌, ◌%◌, ◌++◌, List, length, map, replicate, OnOk, OnErr, IsTrue};
+ghost use Rattle.std.specs.Prelude.{◌≡◌, ℕ, ◌≤◌, ◌<◌, ◌+◌, ◌*◌, ◌/◌, ◌%◌, ◌++◌, List, length, map, replicate, OnOk, OnErr, IsTrue, true};
 ghost use Rattle.std.specs.List.{list_all};
 ghost use Rattle.outside_io.specs.Causes.{HasCause};
 ghost use Rattle.tmds_word.specs.Column.{Column, column_of};
 ghost use Rattle.terc4.specs.Tables.{video_guard};
-ghost use Rattle.source_end.specs.Periods.{values_of, pixels_of, period_columns};
-ghost use Rattle.source_end.specs.Conforming.{is_run};
-ghost use Rattle.source_end.specs.Spelling.{SpellsPeriod, SpellsVideo, SpellsPixels, control_column};
+ghost use Rattle.island_pack.specs.Periods.{values_of, pixels_of, period_columns};
+ghost use Rattle.island_pack.specs.Conforming.{is_run, is_sync_pair, is_packet, is_data_island};
+ghost use Rattle.island_pack.specs.Spelling.{SpellsPeriod, SpellsVideo, SpellsPixels, SpellsIsland, SpellsPackets, control_column, guard_column, guard_columns};
 ghost use Rattle.source_end.specs.ItemPeriods.{period_of};
+ghost use Rattle.source_end.specs.Pairs.{pair_of};
 ghost use Rattle.source_end.specs.Kept.{is_sendable};
 
-use crate::{Item, Run};
+use crate::{Island, Item, Run};
+use island_pack::{Packet, lay};
 use outside_io::NoMemory;
 use tmds_code::VideoCoder;
 use tmds_word::{ColumnSink, Word};
@@ -26,6 +28,7 @@ pub(crate) fn item<C: ColumnSink>(item: &Item, out: &mut C) -> Result<(), NoMemo
     match item {
         Item::Control(runs) => control(runs.as_slice(), out),
         Item::Video(pixels) => video(pixels.as_slice(), out),
+        Item::Island(data) => island(data, out),
     }
 }
 
@@ -99,6 +102,70 @@ fn pixels<C: ColumnSink>(bytes: &[u8], out: &mut C) -> Result<(), NoMemory>
             red.next(bytes[3 * i]),
         ];
         out.column(words)?;
+    }
+    Ok(())
+}
+
+/// Gives the columns of a data island.
+fn island<C: ColumnSink>(island: &Island, out: &mut C) -> Result<(), NoMemory>
+    requires range { IsTrue (is_data_island island.now) }
+    requires room { length (C.taken out.old) + 4 + 32 * length island.now.packets < 429496729 }
+    ensures ok { OnOk result ((columns : List Column) × (C.taken out.new ≡ C.taken out.old ++ columns) × SpellsIsland island.now columns) }
+    ensures part { OnErr result ((columns : List Column) × (C.taken out.new ≡ C.taken out.old ++ columns)) }
+    ensures cause { HasCause (C.refusals out.old) (C.refusals out.new) result }
+{
+    guards(island.opening(), out)?;
+    packets(island.as_slice(), out)?;
+    guards(island.closing(), out)
+}
+
+/// Gives two guard columns of a data island.
+fn guards<C: ColumnSink>(sync: [u8; 2], out: &mut C) -> Result<(), NoMemory>
+    requires range { IsTrue (is_sync_pair (pair_of sync)) }
+    requires room { length (C.taken out.old) + 2 < 429496729 }
+    ensures ok { OnOk result (C.taken out.new ≡ C.taken out.old ++ guard_columns (pair_of sync)) }
+    ensures part { OnErr result ((columns : List Column) × (C.taken out.new ≡ C.taken out.old ++ columns)) }
+    ensures cause { HasCause (C.refusals out.old) (C.refusals out.new) result }
+{
+    out.column(island_guard(sync[0]))?;
+    out.column(island_guard(sync[1]))
+}
+
+/// The words of a guard column of a data island.
+fn island_guard(sync: u8) -> [Word; 3]
+    requires { sync < 4 }
+    ensures { column_of result ≡ guard_column sync }
+{
+    [terc4::terc(12 + sync), word(0x133), word(0x133)]
+}
+
+/// Gives the columns of a data island's packets.
+fn packets<C: ColumnSink>(packets: &[Packet], out: &mut C) -> Result<(), NoMemory>
+    requires range { IsTrue (list_all is_packet packets.now) }
+    requires room { length (C.taken out.old) + 32 * length packets.now < 429496729 }
+    ensures ok { OnOk result ((columns : List Column) × (C.taken out.new ≡ C.taken out.old ++ columns) × SpellsPackets true packets.now columns) }
+    ensures part { OnErr result ((columns : List Column) × (C.taken out.new ≡ C.taken out.old ++ columns)) }
+    ensures cause { HasCause (C.refusals out.old) (C.refusals out.new) result }
+{
+    let mut block = [[word(0); 3]; 32];
+    let mut first = true;
+    for packet in packets {
+        lay(packet, first, &mut block);
+        each(&block, out)?;
+        first = false;
+    }
+    Ok(())
+}
+
+/// Gives 32 columns.
+fn each<C: ColumnSink>(block: &[[Word; 3]; 32], out: &mut C) -> Result<(), NoMemory>
+    requires room { length (C.taken out.old) + 32 < 429496729 }
+    ensures ok { OnOk result (C.taken out.new ≡ C.taken out.old ++ map column_of block.now) }
+    ensures part { OnErr result ((columns : List Column) × (C.taken out.new ≡ C.taken out.old ++ columns)) }
+    ensures cause { HasCause (C.refusals out.old) (C.refusals out.new) result }
+{
+    for words in block {
+        out.column(*words)?;
     }
     Ok(())
 }

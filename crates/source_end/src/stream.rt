@@ -2,9 +2,9 @@
 ghost use Rattle.std.specs.Prelude.{◌≡◌, ℕ, ◌≤◌, ◌<◌, ◌+◌, ◌++◌, List, length, map, OnOk, OnErr};
 ghost use Rattle.outside_io.specs.Causes.{HasCause};
 ghost use Rattle.tmds_word.specs.Column.{Column};
-ghost use Rattle.source_end.specs.Periods.{columns_of};
-ghost use Rattle.source_end.specs.Conforming.{IsConforming};
-ghost use Rattle.source_end.specs.Spelling.{Spells};
+ghost use Rattle.island_pack.specs.Periods.{columns_of};
+ghost use Rattle.island_pack.specs.Conforming.{IsConforming};
+ghost use Rattle.island_pack.specs.Spelling.{Spells};
 
 use crate::{Item, spell};
 use outside_io::NoMemory;
@@ -20,8 +20,8 @@ pub struct Stream {
 
 impl Model for Stream {
     ghost use Rattle.std.specs.Prelude.{◌≡◌, ◌≤◌, List, map};
-    ghost use Rattle.source_end.specs.Periods.{Period, columns_of};
-    ghost use Rattle.source_end.specs.Conforming.{IsConforming};
+    ghost use Rattle.island_pack.specs.Periods.{Period, columns_of};
+    ghost use Rattle.island_pack.specs.Conforming.{IsConforming};
     ghost use Rattle.source_end.specs.ItemPeriods.{period_of};
 
     ghost Value = { List Period };

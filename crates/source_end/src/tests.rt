@@ -1,8 +1,9 @@
-//! Lists with each fault, and the columns of two streams, compared with values that were computed
+//! Lists with each fault, and the columns of three streams, compared with values that were computed
 //! apart from this crate.
 ghost use Rattle.std.specs.Prelude.{◌≡◌, [], IsOk};
 
-use crate::{Item, ItemFault, Items, Pixels, Run, Runs, Stream};
+use crate::{Island, Item, ItemFault, Items, Pixels, Run, Runs, Stream};
+use island_pack::Packet;
 use outside_io::NoMemory;
 use std::alloc::Global;
 use std::process::Abort;
@@ -75,17 +76,40 @@ static ROW: [[u16; 3]; 31] = [
     [0x0ab, 0x354, 0x2ab],
 ];
 
-/// An item of a list: the runs of a control period, or the pixels of a video data period.
+/// The columns of two Null packets between control periods, each with how often it comes: the sync
+/// values are 0 in the first packet, 2 in the second, and 0 to 3 in the guard columns.
+static NULLS: [([u16; 3], u32); 10] = [
+    ([0x354, 0x354, 0x354], 4),
+    ([0x354, 0x0ab, 0x0ab], 8),
+    ([0x28e, 0x133, 0x133], 1),
+    ([0x271, 0x133, 0x133], 1),
+    ([0x29c, 0x29c, 0x29c], 1),
+    ([0x2cc, 0x29c, 0x29c], 31),
+    ([0x19c, 0x29c, 0x29c], 32),
+    ([0x163, 0x133, 0x133], 1),
+    ([0x2c3, 0x133, 0x133], 1),
+    ([0x354, 0x354, 0x354], 12),
+];
+
+/// An item of a list: the runs of a control period, the pixels of a video data period, or a data
+/// island.
 #[derive(Clone, Copy)]
 enum Given {
     Control(&'static [(u8, u32)]),
     Video(&'static [[u8; 3]]),
     /// So many black pixels.
     Black(u32),
+    /// Opening guard columns, the sync value of each Null packet, and closing guard columns.
+    Island([u8; 2], &'static [u8], [u8; 2]),
+    /// So many Null packets, each sync value 0.
+    Nulls(u32),
 }
 
 /// A control period that ends with the preamble.
 static START: Given = Given::Control(&[(0, 4), (4, 8)]);
+
+/// A control period that ends with the island preamble.
+static LEAD: Given = Given::Control(&[(0, 4), (20, 8)]);
 
 /// Items, what the last one's push answers, and what the list's close then answers: its columns or
 /// its fault.
@@ -96,7 +120,7 @@ struct Row {
 }
 
 /// Lists with each fault, in the order in which the faults are tried.
-static ROWS: [Row; 22] = [
+static ROWS: [Row; 40] = [
     Row {
         items: &[Given::Control(&[(64, 1)])],
         push: Err(ItemFault::Range),
@@ -230,6 +254,125 @@ static ROWS: [Row; 22] = [
         push: Err(ItemFault::Preamble),
         close: Ok(27),
     },
+    Row {
+        items: &[Given::Nulls(1)],
+        push: Err(ItemFault::Order),
+        close: Err(ItemFault::Order),
+    },
+    Row {
+        items: &[Given::Control(&[(0, 4), (20, 8)]), Given::Nulls(1)],
+        push: Ok(()),
+        close: Err(ItemFault::Order),
+    },
+    Row {
+        items: &[
+            Given::Control(&[(0, 4), (20, 8)]),
+            Given::Nulls(1),
+            Given::Control(&[(0, 12)]),
+        ],
+        push: Ok(()),
+        close: Ok(60),
+    },
+    Row {
+        items: &[
+            Given::Control(&[(0, 4), (20, 8)]),
+            Given::Nulls(18),
+            Given::Control(&[(0, 12)]),
+        ],
+        push: Ok(()),
+        close: Ok(604),
+    },
+    Row {
+        items: &[Given::Control(&[(0, 4), (20, 8)]), Given::Nulls(0)],
+        push: Err(ItemFault::Range),
+        close: Ok(12),
+    },
+    Row {
+        items: &[Given::Control(&[(0, 4), (20, 8)]), Given::Nulls(19)],
+        push: Err(ItemFault::Range),
+        close: Ok(12),
+    },
+    Row {
+        items: &[
+            Given::Control(&[(0, 4), (20, 8)]),
+            Given::Island([0, 4], &[0], [0, 0]),
+        ],
+        push: Err(ItemFault::Range),
+        close: Ok(12),
+    },
+    Row {
+        items: &[
+            Given::Control(&[(0, 4), (20, 8)]),
+            Given::Island([0, 0], &[0], [4, 0]),
+        ],
+        push: Err(ItemFault::Range),
+        close: Ok(12),
+    },
+    Row {
+        items: &[
+            Given::Control(&[(0, 4), (20, 8)]),
+            Given::Island([3, 3], &[3, 4], [3, 3]),
+        ],
+        push: Err(ItemFault::Range),
+        close: Ok(12),
+    },
+    Row {
+        items: &[
+            Given::Control(&[(0, 4), (20, 8)]),
+            Given::Nulls(1),
+            Given::Nulls(1),
+        ],
+        push: Err(ItemFault::Order),
+        close: Err(ItemFault::Order),
+    },
+    Row {
+        items: &[
+            Given::Control(&[(0, 4), (20, 8)]),
+            Given::Nulls(1),
+            Given::Black(1),
+        ],
+        push: Err(ItemFault::Order),
+        close: Err(ItemFault::Order),
+    },
+    Row {
+        items: &[
+            Given::Control(&[(0, 4), (4, 8)]),
+            Given::Black(1),
+            Given::Nulls(1),
+        ],
+        push: Err(ItemFault::Order),
+        close: Err(ItemFault::Order),
+    },
+    Row {
+        items: &[Given::Control(&[(20, 11)]), Given::Nulls(1)],
+        push: Err(ItemFault::Control),
+        close: Err(ItemFault::Control),
+    },
+    Row {
+        items: &[Given::Control(&[(0, 4), (4, 8)]), Given::Nulls(1)],
+        push: Err(ItemFault::Preamble),
+        close: Ok(12),
+    },
+    Row {
+        items: &[Given::Control(&[(0, 4), (20, 8)]), Given::Black(1)],
+        push: Err(ItemFault::Preamble),
+        close: Ok(12),
+    },
+    Row {
+        items: &[Given::Control(&[(0, 5), (20, 7)]), Given::Nulls(1)],
+        push: Err(ItemFault::Preamble),
+        close: Ok(12),
+    },
+    Row {
+        items: &[Given::Control(&[(20, 19_999_965)]), Given::Nulls(1)],
+        push: Err(ItemFault::Long),
+        close: Ok(19_999_965),
+    },
+    Row {
+        items: &[Given::Control(&[(20, 19_999_964)]), Given::Nulls(1)],
+        push: Ok(()),
+        close: Err(ItemFault::Order),
+    },
 ];
 
 /// The item that a table gives.
@@ -253,8 +396,31 @@ fn item(alloc: Global, given: Given) -> Result<Item, NoMemory> {
                 pixels.push(0, 0, 0)?;
             }
         }
+        Given::Island(opening, syncs, closing) => {
+            let mut island = Island::new(alloc, opening, closing);
+            for &sync in syncs {
+                island.push(null_packet(sync))?;
+            }
+            return Ok(Item::Island(island));
+        }
+        Given::Nulls(count) => {
+            let mut island = Island::new(alloc, [0; 2], [0; 2]);
+            for _ in 0..count {
+                island.push(null_packet(0))?;
+            }
+            return Ok(Item::Island(island));
+        }
     }
     Ok(Item::Video(pixels))
+}
+
+/// The Null packet, with a sync value in each column.
+fn null_packet(sync: u8) -> Packet {
+    Packet {
+        header: [0; 3],
+        bodies: [0; 28],
+        sync: [sync; 32],
+    }
 }
 
 #[test]
@@ -346,29 +512,61 @@ fn spelled(rt: HostRuntime) -> Result<(), Fail> {
         ]),
         Given::Control(&[(0x02, 3), (0x31, 9)]),
     ];
-    spells(&rt, rt.alloc(), row, &ROW)
+    spells(&rt, rt.alloc(), row, &ROW)?;
+    let nulls = [
+        LEAD,
+        Given::Island([0, 1], &[0, 2], [2, 3]),
+        Given::Control(&[(0, 12)]),
+    ];
+    let mut want = Vec::new(rt.alloc());
+    for (column, count) in NULLS {
+        for _ in 0..count {
+            want.push(column)?;
+        }
+    }
+    spells(&rt, rt.alloc(), nulls, want.as_slice())
 }
 
 #[test]
 fn parts(rt: HostRuntime) -> Result<(), Fail> {
     let mut runs = Runs::new(rt.alloc());
-    for (value, count, columns, announces) in [
-        (0x04, 7, 7, false),
-        (0x07, 1, 8, true),
-        (0x44, 0, 8, true),
-        (0x44, 9, 17, true),
-        (0x08, 1, 18, false),
+    for (value, count, columns, video, island) in [
+        (0x04, 7, 7, false, false),
+        (0x07, 1, 8, true, false),
+        (0x44, 0, 8, true, false),
+        (0x44, 9, 17, true, false),
+        (0x14, 7, 24, false, false),
+        (0x17, 1, 25, false, true),
+        (0x04, 0, 25, false, true),
+        (0x08, 1, 26, false, false),
     ] {
         runs.push(Run { value, count })?;
         assert_eq!(rt; runs.columns(), columns, "at {value}");
-        assert_eq!(rt; runs.announces_video(), announces, "at {value}");
+        assert_eq!(rt; runs.announces_video(), video, "at {value}");
+        assert_eq!(rt; runs.announces_island(), island, "at {value}");
     }
-    assert_eq!(rt; runs.as_slice().len(), 5);
+    assert_eq!(rt; runs.as_slice().len(), 8);
     let mut pixels = Pixels::new(rt.alloc());
     assert!(rt; pixels.is_empty());
     pixels.push(1, 2, 3)?;
     pixels.push(4, 5, 6)?;
     assert_eq!(rt; pixels.len(), 2);
     assert!(rt; pixels.as_slice() == [1, 2, 3, 4, 5, 6].as_slice());
+    Ok(())
+}
+
+#[test]
+fn island(rt: HostRuntime) -> Result<(), Fail> {
+    let mut island = Island::new(rt.alloc(), [1, 2], [0, 0]);
+    assert!(rt; island.is_empty());
+    island.push(null_packet(3))?;
+    island.push(null_packet(1))?;
+    island.set_closing([3, 1]);
+    assert!(rt; !island.is_empty());
+    assert_eq!(rt; island.len(), 2);
+    assert_eq!(rt; island.opening(), [1, 2]);
+    assert_eq!(rt; island.closing(), [3, 1]);
+    assert_eq!(rt; island.as_slice()[0].sync[31], 3);
+    assert_eq!(rt; island.as_slice()[1].sync[0], 1);
     Ok(())
 }

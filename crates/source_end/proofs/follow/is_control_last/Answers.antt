@@ -1,6 +1,6 @@
 use Rattle.std.proofs.Common.{ap, sym, ◌∙◌}
 use Rattle.std.specs.Option.{option_copied}
-use Rattle.source_end.specs.declared.item.Item.TheVariants.{Control, Video}
+use Rattle.source_end.specs.declared.item.Item.TheVariants.{Control, Video, Island}
 use Rattle.source_end.specs.Refusals.{is_control_last}
 use Rattle.source_end.proofs.Follows.{last_is}
 use Rattle.source_end.proofs.follow.is_control_last.Goals as goal
@@ -13,4 +13,9 @@ returns-in-Some-Control c =
 pub returns-in-Some-Video : goal.returns-in-Some-Video
 returns-in-Some-Video c =
     let last = last_is c.args.items.now c.in-Some-Video.field-0.now (Video c.in-Some-Video.field-0-0) (sym (ap option_copied c.in-Some-Video.is) ∙ c.last.ensures.value) c.in-Some-Video.field-0-is in
+    ap is_control_last (sym last)
+
+pub returns-in-Some-Island : goal.returns-in-Some-Island
+returns-in-Some-Island c =
+    let last = last_is c.args.items.now c.in-Some-Island.field-0.now (Island c.in-Some-Island.field-0-0) (sym (ap option_copied c.in-Some-Island.is) ∙ c.last.ensures.value) c.in-Some-Island.field-0-is in
     ap is_control_last (sym last)

@@ -3,7 +3,7 @@ use Rattle.source_end.specs.ItemPeriods.{period_of}
 use Rattle.source_end.specs.Kept.{is_run_in_range}
 use Rattle.std.specs.List.{list_all}
 use Rattle.source_end.specs.Refusals.{is_in_range}
-use Rattle.source_end.proofs.Follows.{pixels_in_range, above_least, below_least, runs_in_range}
+use Rattle.source_end.proofs.Follows.{pixels_in_range, above_least, below_least, runs_in_range, island_in_range}
 use Rattle.source_end.proofs.follow.is_in_range.Goals as goal
 
 pub returns-then-len-ge1-clause-answer : goal.returns-then-len-ge1-clause-answer
@@ -17,3 +17,7 @@ returns-else-len-ge1-clause-answer c =
 pub returns-in-Control-clause-answer : goal.returns-in-Control-clause-answer
 returns-in-Control-clause-answer c =
     c.are_in_range.ensures ∙ ap (list_all is_run_in_range) c.as_slice.ensures ∙ runs_in_range c.in-Control.runs ∙ ap (λ x. is_in_range (period_of x)) (sym c.in-Control.is)
+
+pub returns-in-Island-clause-answer : goal.returns-in-Island-clause-answer
+returns-in-Island-clause-answer c =
+    c.is_in_range.ensures ∙ island_in_range c.in-Island.island ∙ ap (λ x. is_in_range (period_of x)) (sym c.in-Island.is)

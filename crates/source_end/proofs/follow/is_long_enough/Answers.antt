@@ -1,7 +1,7 @@
 use Rattle.std.proofs.Common.{length, ap, sym, ◌∙◌}
 use Rattle.std.specs.Option.{option_copied}
-use Rattle.source_end.specs.Periods.{values_of}
-use Rattle.source_end.specs.declared.item.Item.TheVariants.{Control, Video}
+use Rattle.island_pack.specs.Periods.{values_of}
+use Rattle.source_end.specs.declared.item.Item.TheVariants.{Control, Video, Island}
 use Rattle.source_end.specs.Refusals.{is_long_enough}
 use Rattle.source_end.proofs.Leads.{capped_twelve}
 use Rattle.source_end.proofs.Follows.{last_is}
@@ -15,4 +15,9 @@ returns-in-Some-Control c =
 pub returns-in-Some-Video : goal.returns-in-Some-Video
 returns-in-Some-Video c =
     let last = last_is c.args.items.now c.in-Some-Video.field-0.now (Video c.in-Some-Video.field-0-0) (sym (ap option_copied c.in-Some-Video.is) ∙ c.last.ensures.value) c.in-Some-Video.field-0-is in
+    ap is_long_enough (sym last)
+
+pub returns-in-Some-Island : goal.returns-in-Some-Island
+returns-in-Some-Island c =
+    let last = last_is c.args.items.now c.in-Some-Island.field-0.now (Island c.in-Some-Island.field-0-0) (sym (ap option_copied c.in-Some-Island.is) ∙ c.last.ensures.value) c.in-Some-Island.field-0-is in
     ap is_long_enough (sym last)

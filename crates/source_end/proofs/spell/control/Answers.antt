@@ -1,8 +1,8 @@
 use Rattle.std.proofs.Common.{◌≡◌, ◌+◌, ◌++◌, length, map, replicate, take, get_or, ap, ap₂, sym, ◌∙◌, arith, length-append}
 use Rattle.std.proofs.lemmas.List.{length-map}
 use Rattle.tmds_word.specs.Column.{Column, column_of}
-use Rattle.source_end.specs.Periods.{ControlRun, values_of}
-use Rattle.source_end.specs.Spelling.{control_column}
+use Rattle.island_pack.specs.Periods.{ControlRun, values_of}
+use Rattle.island_pack.specs.Spelling.{control_column}
 use Rattle.source_end.proofs.Spellings.{map-values_of-more, room, none_spelled, joined}
 use Rattle.source_end.proofs.spell.control.Goals as goal
 

@@ -1,6 +1,6 @@
 use Rattle.std.proofs.Common.{◌≡◌, ◌≤◌, ◌++◌, map, take}
-use Rattle.source_end.specs.Periods.{values_of}
-use Rattle.source_end.specs.Spelling.{control_column}
+use Rattle.island_pack.specs.Periods.{values_of}
+use Rattle.island_pack.specs.Spelling.{control_column}
 use Rattle.source_end.proofs.spell.control.Given as goal
 
 abbrev pub invariant-loop-run : goal.invariant-loop-run

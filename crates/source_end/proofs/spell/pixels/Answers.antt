@@ -1,6 +1,6 @@
 use Rattle.std.proofs.Common.{◌≡◌, ◌++◌, ◌∷◌, [], map, take, ◌∙◌, arith, length-append}
 use Rattle.tmds_word.specs.Column.{Column, column_of}
-use Rattle.source_end.specs.Periods.{Pixel, pixels_of}
+use Rattle.island_pack.specs.Periods.{Pixel, pixels_of}
 use Rattle.source_end.proofs.Spellings.{all_pixels, joined, after, whole_lane}
 use Rattle.source_end.proofs.spell.pixels.Goals as goal
 

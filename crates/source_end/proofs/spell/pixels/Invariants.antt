@@ -1,7 +1,7 @@
 use Rattle.std.proofs.Common.{◌≡◌, ◌≤◌, ◌/◌, ◌++◌, List, length, map, take}
 use Rattle.tmds_word.specs.Column.{Column}
 use Rattle.tmds_code.specs.Pasts.{IsCoderAfter}
-use Rattle.source_end.specs.Periods.{Pixel, pixels_of}
+use Rattle.island_pack.specs.Periods.{Pixel, pixels_of}
 use Rattle.source_end.proofs.spell.pixels.Given as goal
 
 abbrev pub invariant-loop-i : goal.invariant-loop-i

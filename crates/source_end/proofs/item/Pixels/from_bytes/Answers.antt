@@ -1,4 +1,4 @@
-use Rattle.std.proofs.Common.{◌≡◌, ℕ, zero, suc, ◌<◌, ◌%◌, Bool, true, ◌&&◌, ◌==◌, List, [], ◌∷◌, get_or, length, refl, ap₂, arith, nat_lt, lt-ltb, eq-eqb}
+use Rattle.std.proofs.Common.{◌≡◌, ℕ, zero, suc, ◌<◌, ◌%◌, true, ◌&&◌, List, [], ◌∷◌, get_or, length, refl, ap₂, arith, nat_lt, lt-ltb, eq-eqb}
 use Rattle.std.specs.List.{list_all}
 use Rattle.source_end.proofs.item.Pixels.from_bytes.Goals as goal
 

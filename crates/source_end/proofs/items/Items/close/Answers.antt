@@ -1,6 +1,6 @@
 use Rattle.source_end.specs.declared.stream.Stream.{Stream}
 use Rattle.std.proofs.Common.{◌≡◌, ◌∙◌, ap, map, List, true, false}
-use Rattle.source_end.specs.Periods.{Period}
+use Rattle.island_pack.specs.Periods.{Period}
 use Rattle.source_end.specs.ItemPeriods.{period_of}
 use Rattle.source_end.specs.declared.items.ItemFault.TheVariants.{Order, Control}
 use Rattle.source_end.specs.Refusals.{last_period, is_control_last, is_long_enough, close_fault}

@@ -1,8 +1,8 @@
 use Rattle.std.proofs.Common.{◌≡◌, ◌<◌, ◌++◌, List, length, map, true, [], ◌∷◌, arith, ap, sym, ◌∙◌, subst, take, length-append}
 use Rattle.std.proofs.lemmas.List.{take_more}
-use Rattle.source_end.specs.Periods.{Period, columns_of, period_columns}
-use Rattle.source_end.specs.Conforming.{conforms}
-use Rattle.source_end.specs.Spelling.{Spells}
+use Rattle.island_pack.specs.Periods.{Period, columns_of, period_columns}
+use Rattle.island_pack.specs.Conforming.{conforms}
+use Rattle.island_pack.specs.Spelling.{Spells}
 use Rattle.source_end.specs.ItemPeriods.{period_of}
 use Rattle.source_end.specs.Kept.{is_sendable}
 use Rattle.source_end.proofs.Spellings.{joined}

@@ -1,6 +1,6 @@
 use Rattle.std.proofs.Common.{◌≡◌, ◌≤◌, ◌++◌, List, take}
 use Rattle.tmds_word.specs.Column.{Column}
-use Rattle.source_end.specs.Spelling.{Spells}
+use Rattle.island_pack.specs.Spelling.{Spells}
 use Rattle.source_end.proofs.stream.Stream.spell.Given as goal
 
 abbrev pub invariant-loop-item : goal.invariant-loop-item

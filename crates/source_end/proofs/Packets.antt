@@ -1,0 +1,115 @@
+-- The columns of a data island's packets, one packet after another.
+use Rattle.std.proofs.Common.{◌≡◌, ℕ, suc, zero, ◌*◌, ◌%◌, ◌<◌, All, Bool, true, false, ◌==◌, ◌&&◌, List, [], ◌∷◌, ◌++◌, length, get_or, map, refl, ap, ap₂, sym, subst, ◌∙◌, arith, append_assoc, append-nil, length-append}
+use Rattle.std.proofs.lemmas.List.{length-map}
+use Rattle.std.proofs.lemmas.Bool.{ne_eqb, ltb-true}
+use Rattle.std.proofs.Common.{lt-ltb, eq-eqb}
+use Rattle.std.specs.Prelude.{nat_lt, slice_index}
+use Rattle.std.specs.List.{list_all}
+use Rattle.island_pack.specs.Conforming.{are_bytes, is_packet, is_sync_pair, is_data_island}
+use Rattle.source_end.proofs.Turns.{left, right}
+use Rattle.tmds_word.specs.Column.{Column, column_of}
+use Rattle.island_pack.specs.Packets.{Carries, BeginsWith, AreTerc, body_of}
+use Rattle.island_pack.specs.Nibbles.{nibble_of, nibbles_of, sync_values, header_bits, body_bits, by_turns}
+use Rattle.island_pack.specs.Periods.{DataIsland}
+use Rattle.bch_block.specs.Bits.{bit}
+use Rattle.terc4.specs.Tables.{is_terc}
+use Rattle.island_pack.specs.Spelling.{SpellsPackets, words_of}
+use Rattle.island_pack.specs.declared.packet.Packet.{Packet}
+
+pub packets_length : (first : Bool) (ps : List Packet) (columns : List Column) → SpellsPackets first ps columns → length columns ≡ 32 * length ps
+packets_length first [] columns h = ap length h
+packets_length first (p ∷ ps) columns h =
+    let own : length h.0 ≡ 32 = sym (length-map h.0 words_of) ∙ h.3.free.count in
+    let rest = packets_length false ps h.1 h.4 in
+    ap length h.2 ∙ length-append h.0 h.1 ∙ omega (arith, own, rest)
+
+later_one : (first now : Bool) (n : ℕ) → now ≡ (first && (suc n == 0)) → now ≡ (false && (n == 0))
+later_one true now n e = e ∙ ne_eqb (suc n) 0 (λ k. absurd (omega arith))
+later_one false now n e = e
+
+first_one : (first now : Bool) → now ≡ (first && (0 == 0)) → now ≡ first
+first_one true now e = e
+first_one false now e = e
+
+pub SpellsPackets-more : (first now : Bool) (ps : List Packet) (p : Packet) (columns own : List Column) → now ≡ (first && (length ps == 0)) → SpellsPackets first ps columns → Carries p now (map words_of own) → SpellsPackets first (ps ++ p ∷ []) (columns ++ own)
+SpellsPackets-more first now [] p columns own e h k =
+    (own, [], ap (λ (cs : List Column). cs ++ own) h ∙ sym (append-nil own), subst (λ b. Carries p b (map words_of own)) (first_one first now e) k, refl)
+SpellsPackets-more first now (q ∷ ps) p columns own e h k =
+    (h.0, h.1 ++ own, ap (λ (cs : List Column). cs ++ own) h.2 ∙ append_assoc h.0 h.1 own, h.3, SpellsPackets-more false now ps p h.1 own (later_one first now (length ps) e) h.4 k)
+
+-- What a packet's types give.
+all_bytes : (bytes : List ℕ) → All (λ byte. byte < 256) bytes → are_bytes bytes ≡ true
+all_bytes [] h = refl
+all_bytes (b ∷ bytes) h = ap₂ (λ a c. a && c) (lt-ltb b 256 (h 0 0 (omega arith))) (all_bytes bytes (λ k d lt. h (suc k) d (omega arith)))
+
+pub packet_is : (p : Packet) (v : Bool) → length p.header ≡ 3 → All (λ byte. byte < 256) p.header → length p.bodies ≡ 28 → All (λ byte. byte < 256) p.bodies → length p.sync ≡ 32 → v ≡ list_all (λ value. nat_lt value 4) p.sync → v ≡ is_packet p
+unfolding is_packet
+packet_is p v header header_bytes bodies body_bytes sync e =
+    e ∙ sym (ap₂ (λ a b. a && b) (ap₂ (λ a b. a && b) (eq-eqb (length p.header) 3 header) (all_bytes p.header header_bytes))
+    (ap₂ (λ a b. a && b) (ap₂ (λ a b. a && b) (eq-eqb (length p.bodies) 28 bodies) (all_bytes p.bodies body_bytes))
+    (ap (λ a. a && list_all (λ value. nat_lt value 4) p.sync) (eq-eqb (length p.sync) 32 sync))))
+
+-- What a packet in its ranges has.
+pub packet_at : (packets : List Packet) (i : ℕ) (d : Packet) → list_all is_packet packets ≡ true → i < length packets → is_packet (get_or packets i d) ≡ true
+packet_at [] i d h lt = absurd (omega arith)
+packet_at (p ∷ packets) zero d h lt = left (is_packet p) (list_all is_packet packets) h
+packet_at (p ∷ packets) (suc i) d h lt = let lt' : i < length packets = omega arith in packet_at packets i d (right (is_packet p) (list_all is_packet packets) h) lt'
+
+all_small : (values : List ℕ) (k d : ℕ) → list_all (λ value. nat_lt value 4) values ≡ true → k < length values → get_or values k d < 4
+all_small [] k d h lt = absurd (omega arith)
+all_small (v ∷ values) zero d h lt = ltb-true v 4 (left (nat_lt v 4) (list_all (λ value. nat_lt value 4) values) h)
+all_small (v ∷ values) (suc k) d h lt = let lt' : k < length values = omega arith in all_small values k d (right (nat_lt v 4) (list_all (λ value. nat_lt value 4) values) h) lt'
+
+pub sync_below : (p : Packet) → is_packet p ≡ true → (k d : ℕ) → k < length p.sync → get_or p.sync k d < 4
+unfolding is_packet
+sync_below p h k d lt =
+    let sync = list_all (λ value. nat_lt value 4) p.sync in
+    all_small p.sync k d (right (length p.sync == 32) sync (right ((length p.bodies == 28) && are_bytes p.bodies) _ (right ((length p.header == 3) && are_bytes p.header) _ h))) lt
+
+-- What an island in its ranges has.
+pub opening_in_range : (x : DataIsland) → is_data_island x ≡ true → is_sync_pair x.opening ≡ true
+unfolding is_data_island
+opening_in_range x h = left (is_sync_pair x.opening) (is_sync_pair x.closing) (left (is_sync_pair x.opening && is_sync_pair x.closing) _ h)
+
+pub closing_in_range : (x : DataIsland) → is_data_island x ≡ true → is_sync_pair x.closing ≡ true
+unfolding is_data_island
+closing_in_range x h = right (is_sync_pair x.opening) (is_sync_pair x.closing) (left (is_sync_pair x.opening && is_sync_pair x.closing) _ h)
+
+pub packets_in_range : (x : DataIsland) → is_data_island x ≡ true → list_all is_packet x.packets ≡ true
+unfolding is_data_island
+packets_in_range x h = left (list_all is_packet x.packets) _ (right (is_sync_pair x.opening && is_sync_pair x.closing) _ h)
+
+-- Columns that are given word by word carry what their words carry.
+word_at : (words : List ℕ) (lane : ℕ) → lane < 3 → slice_index (words_of (column_of words)) lane ≡ slice_index words lane
+word_at words zero lt = refl
+word_at words (suc zero) lt = refl
+word_at words (suc (suc zero)) lt = refl
+word_at words (suc (suc (suc lane))) lt = absurd (omega arith)
+
+nibbles_same : (block : List (List ℕ)) (lane : ℕ) → lane < 3 → nibbles_of (map words_of (map column_of block)) lane ≡ nibbles_of block lane
+unfolding nibbles_of
+nibbles_same [] lane lt = refl
+nibbles_same (words ∷ block) lane lt = ap₂ (λ n (ns : List ℕ). nibble_of n ∷ ns) (word_at words lane lt) (nibbles_same block lane lt)
+
+terc_same : (block : List (List ℕ)) (lane : ℕ) → lane < 3 → AreTerc block lane → AreTerc (map words_of (map column_of block)) lane
+terc_same [] lane lt h k d within = absurd (omega arith)
+terc_same (words ∷ block) lane lt h zero d within = ap is_terc (word_at words lane lt) ∙ h zero d (omega arith)
+terc_same (words ∷ block) lane lt h (suc k) d within = terc_same block lane lt (λ i e less. h (suc i) e (omega arith)) k d (omega arith)
+
+pub carries_columns : (p : Packet) (first : Bool) (block : List (List ℕ)) → Carries p first block → Carries p first (map words_of (map column_of block))
+unfolding sync_values header_bits body_bits
+carries_columns p first block h =
+    let blue = nibbles_same block 0 (omega arith) in
+    let green = nibbles_same block 1 (omega arith) in
+    let red = nibbles_same block 2 (omega arith) in
+    record {
+      free = record {
+        whole = h.free.whole;
+        count = length-map (map column_of block) words_of ∙ length-map block column_of ∙ h.free.count;
+        terc = λ lane lt. terc_same block lane lt (h.free.terc lane lt);
+        sync = ap (map (λ n. n % 4)) blue ∙ h.free.sync;
+        header = subst (λ bits. BeginsWith bits p.header) (sym (ap (map (λ n. bit n 2)) blue)) h.free.header;
+        bodies = λ b lt. subst (λ bits. BeginsWith bits (body_of p b)) (sym (ap₂ (by_turns b) green red)) (h.free.bodies b lt);
+      };
+      mark = λ i lt. ap (λ ns. bit (slice_index ns i) 3) blue ∙ h.mark i lt;
+    }

@@ -1,0 +1,48 @@
+use Rattle.std.proofs.Common.{◌≡◌, ◌+◌, ◌++◌, ◌==◌, List, [], true, length, take, get_or, map, ap, sym, subst, ◌∙◌, arith, length-append}
+use Rattle.std.proofs.lemmas.Bool.{ne_eqb}
+use Rattle.std.proofs.lemmas.List.{take_more, length-take}
+use Rattle.tmds_word.specs.Column.{column_of}
+use Rattle.island_pack.specs.Spelling.{SpellsPackets}
+use Rattle.island_pack.specs.declared.packet.Packet.{Packet}
+use Rattle.source_end.proofs.Spellings.{joined}
+use Rattle.source_end.proofs.Packets.{packet_at, sync_below, packets_length, SpellsPackets-more, carries_columns}
+use Rattle.source_end.proofs.spell.packets.Goals as goal
+
+none : Packet
+none = record { header = []; bodies = []; sync = [] }
+
+pub lay-requires : goal.lay-requires
+unfolding none
+lay-requires g c =
+    let packets = c.args.packets.now in
+    let i = c.loop-packet.packet-index in
+    sync_below (get_or packets i none) (packet_at packets i none c.requires.range c.loop-packet-test.true)
+
+pub each-requires : goal.each-requires
+each-requires g c =
+    let was = c.loop-packet.invariant in
+    let i = c.loop-packet.packet-index in
+    let long = ap length was.taken ∙ length-append (g.C.ColumnSink.taken c.args.out.now) was.columns in
+    let done = packets_length true (take i c.args.packets.now) was.columns was.spelled in
+    let first : length (take i c.args.packets.now) ≡ i = omega (arith, length-take i c.args.packets.now) in
+    record { room = omega (arith, long, done, first, c.requires.room) }
+
+pub loop-packet-preserved : goal.loop-packet-preserved
+unfolding none
+loop-packet-preserved g c =
+    let packets = c.args.packets.now in
+    let i = c.loop-packet.packet-index in
+    let p = get_or packets i none in
+    let was = c.loop-packet.invariant in
+    let own = map column_of c.lay.new.out in
+    let long : length (take i packets) ≡ i = omega (arith, length-take i packets) in
+    let first = was.first ∙ ap (λ n. n == 0) (sym long) in
+    record {
+      columns = was.columns ++ own;
+      taken = joined (g.C.ColumnSink.taken c.args.out.now) (g.C.ColumnSink.taken c.loop-packet.out) (g.C.ColumnSink.taken c.each.new.out) was.columns own was.taken c.in_ok-each.ensures.ok;
+      spelled =
+          subst (λ (ps : List Packet). SpellsPackets true ps (was.columns ++ own)) (sym (take_more packets i none c.loop-packet-test.true))
+          (SpellsPackets-more true c.loop-packet.first (take i packets) p was.columns own first was.spelled (carries_columns p c.loop-packet.first c.lay.new.out c.lay.ensures));
+      first = sym (ne_eqb (i + 1) 0 (λ e. absurd (omega arith)));
+      later = omega (arith, was.later, c.in_ok-each.ensures.cause.later);
+    }
