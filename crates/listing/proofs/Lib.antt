@@ -1,9 +1,15 @@
+pub mod CheckedLine
 pub mod Feeds
 pub mod Given
+pub mod Islands
 pub mod LongForm
 pub mod Numbers
+pub mod OneLine
 pub mod OpenPeriods
+pub mod PacketForms
 pub mod Parts
 pub mod Pieces
 pub mod Refused
+pub mod ShortLines
 pub mod Steps
+pub mod ToldSizes

@@ -1,15 +1,15 @@
 -- Periods of which the last one, a control period, is still being told.
-use Rattle.std.proofs.Common.{◌≡◌, ℕ, ◌+◌, ◌/◌, ◌≤◌, ◌<◌, ◌==◌, Bool, true, false, ◌&&◌, List, [], ◌∷◌, ◌++◌, length, refl, ap, sym, ◌∙◌, arith, Option, Some, None}
+use Rattle.std.proofs.Common.{◌≡◌, ℕ, ◌+◌, ◌/◌, ◌≤◌, ◌==◌, Bool, true, false, not, ◌&&◌, List, [], ◌∷◌, ◌++◌, length, refl, ap, sym, ◌∙◌, arith, Option, Some, None}
 use Rattle.std.specs.Prelude.{nat_le, nat_lt}
 use Rattle.std.specs.List.{list_all}
-use Rattle.source_end.specs.Periods.{ControlRun, Period, control, video, values_of, period_columns, columns_of}
+use Rattle.island_pack.specs.Periods.{ControlRun, Period, control, video, island, values_of, has_preamble, ISLAND_PREAMBLE, period_columns, columns_of}
 use Rattle.source_end.specs.Kept.{capped}
-use Rattle.source_end.specs.declared.items.ItemFault.TheVariants.{Order, Control}
-use Rattle.source_end.specs.Refusals.{last_period, is_control_last, is_in_range, is_in_order, is_long_enough, push_fault, close_fault}
-use Rattle.source_end.proofs.Faults.{close_fault_is, close_order, close_control, close_none, push_none}
+use Rattle.source_end.specs.Refusals.{last_period, is_control_last, is_in_range, is_in_order, is_long_enough, push_fault}
+use Rattle.source_end.proofs.Faults.{push_none}
 use Rattle.source_end.proofs.Turns.{columns_of-more}
 use Rattle.source_end.proofs.Leads.{length-values_of-more}
-use Rattle.listing.specs.Causes.{with_run}
+use Rattle.listing.specs.Causes.{announces_island}
+use Rattle.listing.specs.Drafts.{with_run}
 use Rattle.listing.specs.Told.{with_open}
 use Rattle.source_end.proofs.Turns.{left as first_of, right as second_of}
 use Rattle.listing.proofs.Feeds.{both}
@@ -24,16 +24,20 @@ first_run : (ps : List Period) (r : ControlRun) → is_control_last (last_period
 first_run [] r turn = refl
 first_run (control rs ∷ []) r turn = absurd cc
 first_run (video bytes ∷ []) r turn = refl
+first_run (island x ∷ []) r turn = refl
 first_run (control rs ∷ (q ∷ ps)) r turn = ap (λ (xs : List Period). control rs ∷ xs) (first_run (q ∷ ps) r turn)
 first_run (video bytes ∷ (q ∷ ps)) r turn = ap (λ (xs : List Period). video bytes ∷ xs) (first_run (q ∷ ps) r turn)
+first_run (island x ∷ (q ∷ ps)) r turn = ap (λ (xs : List Period). island x ∷ xs) (first_run (q ∷ ps) r turn)
 
 -- a run more in the control period at the end
 next_run : (ps : List Period) (rs : List ControlRun) (r : ControlRun) → with_run (ps ++ control rs ∷ []) r ≡ ps ++ control (rs ++ r ∷ []) ∷ []
 next_run [] rs r = refl
 next_run (control qs ∷ []) rs r = refl
 next_run (video bytes ∷ []) rs r = refl
+next_run (island x ∷ []) rs r = refl
 next_run (control qs ∷ (q ∷ ps)) rs r = ap (λ (xs : List Period). control qs ∷ xs) (next_run (q ∷ ps) rs r)
 next_run (video bytes ∷ (q ∷ ps)) rs r = ap (λ (xs : List Period). video bytes ∷ xs) (next_run (q ∷ ps) rs r)
+next_run (island x ∷ (q ∷ ps)) rs r = ap (λ (xs : List Period). island x ∷ xs) (next_run (q ∷ ps) rs r)
 
 pub run_more : (ps : List Period) (rs : List ControlRun) (r : ControlRun) → is_control_last (last_period ps) ≡ false → with_run (with_open ps rs) r ≡ with_open ps (rs ++ r ∷ [])
 run_more ps [] r turn = first_run ps r turn
@@ -63,13 +67,9 @@ passes_more : (p : ControlRun → Bool) (rs : List ControlRun) (r : ControlRun) 
 passes_more p [] r h k = both (p r) true k refl
 passes_more p (q ∷ rs) r h k = both (p q) (list_all p (rs ++ r ∷ [])) (first_of (p q) (list_all p rs) h) (passes_more p rs r (second_of (p q) (list_all p rs) h) k)
 
-pub run_passes : (value count : ℕ) → value < 64 → 1 ≤ count → count ≤ 20000000 → (nat_lt value 64 && (nat_le 1 count && nat_le count 20000000)) ≡ true
-run_passes value count below some few = grind arith
-
-pub in_range_more : (rs : List ControlRun) (r : ControlRun) → is_in_range (control rs) ≡ true → r.value < 64 → 1 ≤ r.count → r.count ≤ 20000000 → is_in_range (control (rs ++ r ∷ [])) ≡ true
+pub in_range_more : (rs : List ControlRun) (r : ControlRun) → is_in_range (control rs) ≡ true → (nat_lt r.value 64 && (nat_le 1 r.count && nat_le r.count 20000000)) ≡ true → is_in_range (control (rs ++ r ∷ [])) ≡ true
 unfolding is_in_range
-in_range_more rs r h below some few =
-    passes_more (λ q. nat_lt q.value 64 && (nat_le 1 q.count && nat_le q.count 20000000)) rs r h (run_passes r.value r.count below some few)
+in_range_more rs r h range = passes_more (λ q. nat_lt q.value 64 && (nat_le 1 q.count && nat_le q.count 20000000)) rs r h range
 
 pub none_in_range : (rs : List ControlRun) → rs ≡ [] → is_in_range (control rs) ≡ true
 unfolding is_in_range
@@ -78,33 +78,46 @@ none_in_range (r ∷ rs) e = absurd cc
 
 -- The end.
 
-no_runs : (rs : List ControlRun) → (length rs == 0) ≡ true → rs ≡ []
-no_runs [] e = refl
-no_runs (r ∷ rs) e = absurd (grind arith)
+not_long : (before : Option Period) → is_control_last before ≡ false → is_long_enough before ≡ false
+not_long None turn = refl
+not_long (Some (control runs)) turn = absurd cc
+not_long (Some (video bytes)) turn = refl
+not_long (Some (island x)) turn = refl
 
-pub ends_order : (ps : List Period) (rs : List ControlRun) → is_control_last (last_period ps) ≡ false → (length rs == 0) ≡ true → close_fault (with_open ps rs) ≡ Some Order
-ends_order ps [] turn none = close_fault_is ps ∙ close_order (is_control_last (last_period ps)) (is_long_enough (last_period ps)) turn
-ends_order ps (r ∷ rs) turn none = let e = no_runs (r ∷ rs) none in absurd cc
+not_announced : (before : Option Period) → is_control_last before ≡ false → announces_island before ≡ false
+not_announced None turn = refl
+not_announced (Some (control runs)) turn = absurd cc
+not_announced (Some (video bytes)) turn = refl
+not_announced (Some (island x)) turn = refl
 
-open_last : (ps : List Period) (rs : List ControlRun) → (length rs == 0) ≡ false → last_period (with_open ps rs) ≡ Some (control rs)
-open_last ps [] some = absurd cc
-open_last ps (r ∷ rs) some = last_of_more ps (control (r ∷ rs))
+some_run : (r : ControlRun) (rs : List ControlRun) → not (length (r ∷ rs) == 0) ≡ true
+some_run r rs = grind arith
 
-pub too_few : (n m : ℕ) → m ≡ capped n → m < 12 → nat_le 12 n ≡ false
-too_few n m e few = grind arith
+pub control_last : (ps : List Period) (rs : List ControlRun) → is_control_last (last_period ps) ≡ false → not (length rs == 0) ≡ is_control_last (last_period (with_open ps rs))
+control_last ps [] turn = sym turn
+control_last ps (r ∷ rs) turn = some_run r rs ∙ sym (ap is_control_last (last_of_more ps (control (r ∷ rs))))
 
-pub enough : (n m : ℕ) → m ≡ capped n → 12 ≤ m → nat_le 12 n ≡ true
-enough n m e more = grind arith
+capped_enough : (n m : ℕ) → m ≡ capped n → nat_le 12 m ≡ nat_le 12 n
+capped_enough n m e = grind arith
 
-pub ends_short : (ps : List Period) (rs : List ControlRun) → (length rs == 0) ≡ false → nat_le 12 (length (values_of rs)) ≡ false → close_fault (with_open ps rs) ≡ Some Control
-ends_short ps rs some short =
-    let last = open_last ps rs some in
-    close_fault_is (with_open ps rs) ∙ close_control (is_control_last (last_period (with_open ps rs))) (is_long_enough (last_period (with_open ps rs))) (ap is_control_last last) (ap is_long_enough last ∙ short)
+none_enough : (m : ℕ) → m ≡ capped 0 → nat_le 12 m ≡ false
+none_enough m e = grind arith
 
-pub ends_well : (ps : List Period) (rs : List ControlRun) → (length rs == 0) ≡ false → nat_le 12 (length (values_of rs)) ≡ true → close_fault (with_open ps rs) ≡ None
-ends_well ps rs some long =
-    let last = open_last ps rs some in
-    close_fault_is (with_open ps rs) ∙ close_none (is_control_last (last_period (with_open ps rs))) (is_long_enough (last_period (with_open ps rs))) (ap is_control_last last) (ap is_long_enough last ∙ long)
+pub long_enough : (ps : List Period) (rs : List ControlRun) (m : ℕ) → is_control_last (last_period ps) ≡ false → m ≡ capped (length (values_of rs)) → nat_le 12 m ≡ is_long_enough (last_period (with_open ps rs))
+unfolding values_of
+long_enough ps [] m turn e = none_enough m e ∙ sym (not_long (last_period ps) turn)
+long_enough ps (r ∷ rs) m turn e =
+    capped_enough (length (values_of (r ∷ rs))) m e ∙ sym (ap is_long_enough (last_of_more ps (control (r ∷ rs))))
+
+-- a control period that is long enough is the last one
+pub stands_long : (ps : List Period) (rs : List ControlRun) → is_control_last (last_period ps) ≡ false → is_long_enough (last_period (with_open ps rs)) ≡ true → nat_le 12 (length (values_of rs)) ≡ true
+stands_long ps [] turn long = cc (sym (not_long (last_period ps) turn) ∙ long)
+stands_long ps (r ∷ rs) turn long = sym (ap is_long_enough (last_of_more ps (control (r ∷ rs)))) ∙ long
+
+pub announces : (ps : List Period) (rs : List ControlRun) → is_control_last (last_period ps) ≡ false → has_preamble ISLAND_PREAMBLE (values_of rs) ≡ announces_island (last_period (with_open ps rs))
+unfolding values_of has_preamble
+announces ps [] turn = sym (not_announced (last_period ps) turn)
+announces ps (r ∷ rs) turn = sym (ap announces_island (last_of_more ps (control (r ∷ rs))))
 
 -- A video data period more.
 
@@ -133,6 +146,7 @@ in_turn : (before : Option Period) (runs : List ControlRun) → is_control_last 
 in_turn None runs turn = refl
 in_turn (Some (control rs)) runs turn = absurd cc
 in_turn (Some (video bytes)) runs turn = refl
+in_turn (Some (island x)) runs turn = refl
 
 le_test : (a b : ℕ) → a ≤ b → nat_le a b ≡ true
 le_test a b h = grind arith

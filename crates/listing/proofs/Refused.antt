@@ -1,61 +1,87 @@
 -- The causes for which a line is refused, and what the answer then is.
-use Rattle.std.proofs.Common.{◌≡◌, ℕ, ◌+◌, ◌≤◌, ◌<◌, Bool, true, false, ◌&&◌, if◌then◌else◌, List, refl, ap, sym, subst, ◌∙◌, arith, Option, Some, None, Result, Ok, Err, ◌⊎◌, inl, inr}
+use Rattle.std.proofs.Common.{◌≡◌, ℕ, ◌+◌, ◌≤◌, Bool, true, false, ◌&&◌, List, refl, ap, sym, subst, ◌∙◌, arith, Option, Some, None, Result, Ok, Err, ◌⊎◌, inl, inr}
 use Rattle.std.specs.Prelude.{nat_le, nat_lt, IsErr}
 use Rattle.std.specs.Result.{IsErrAnd}
 use Rattle.hex.specs.Hex.{decode_of}
 use Rattle.hex.specs.declared.error.FromHexError.{FromHexError}
-use Rattle.source_end.specs.Periods.{Period, video, period_columns, columns_of}
+use Rattle.island_pack.specs.Periods.{Period, video, period_columns, columns_of}
+use Rattle.island_pack.specs.declared.packet.Packet.{Packet}
 use Rattle.source_end.specs.declared.items.ItemFault.{ItemFault}
 use Rattle.source_end.specs.declared.items.ItemFault.TheVariants.{Range as range_fault, Order as order_fault, Control as control_fault, Preamble as preamble_fault, Long as long_fault, NoMemory as no_memory}
-use Rattle.source_end.specs.Refusals.{last_period, is_in_range, is_in_order, has_control, is_announced, push_fault, close_fault, AnswersFault}
-use Rattle.source_end.proofs.Faults.{first, push_fault_is}
+use Rattle.source_end.specs.Refusals.{last_period, is_control_last, is_long_enough, is_in_range, is_in_order, has_control, is_announced, push_fault, close_fault, AnswersFault}
+use Rattle.source_end.proofs.Faults.{first, last_first, push_fault_is}
 use Rattle.listing.specs.declared.fault.ListCause.{ListCause}
 use Rattle.listing.specs.declared.fault.ListCause.TheVariants.{Form, Range, Order, Control, Preamble, Long}
 use Rattle.listing.specs.declared.reader.Refusal.{Refusal}
 use Rattle.listing.specs.declared.reader.Refusal.TheVariants.{Cause, NoMemory}
-use Rattle.listing.specs.Causes.{run_cause, line_cause, caused, cause_of}
-use Rattle.listing.specs.Forms.{LineForm, control_line, video_line, video_by, end_line, no_line}
+use Rattle.listing.specs.Causes.{run_cause, video_cause, island_cause, packet_cause, close_cause, end_cause, line_cause, caused, cause_of, unless, is_closed, has_room}
+use Rattle.listing.specs.Drafts.{Draft}
+use Rattle.listing.specs.Forms.{LineForm, control_line, video_line, video_by, island_line, packet_line, close_line, end_line, no_line}
 use Rattle.listing.specs.Told.{AnswersCause, RefusesAs}
-use Rattle.listing.proofs.OpenPeriods.{run_passes}
+
+-- Tests before causes.
+
+pub stops_here : (test : Bool) (cause : ListCause) (rest : Option ListCause) → test ≡ false → unless test cause rest ≡ Some cause
+stops_here true cause rest e = absurd cc
+stops_here false cause rest e = refl
+
+pub goes_past : (test : Bool) (cause : ListCause) (rest : Option ListCause) → test ≡ true → unless test cause rest ≡ rest
+goes_past true cause rest e = refl
+goes_past false cause rest e = absurd cc
+
+pub test_held : (test : Bool) (cause : ListCause) (rest : Option ListCause) → unless test cause rest ≡ None → test ≡ true
+test_held true cause rest h = refl
+test_held false cause rest h = absurd cc
+
+pub rest_held : (test : Bool) (cause : ListCause) (rest : Option ListCause) → unless test cause rest ≡ None → rest ≡ None
+rest_held true cause rest h = h
+rest_held false cause rest h = absurd cc
 
 -- Runs.
 
-abbrev chosen : Bool → Bool → Option ListCause
-chosen fits short = if fits then (if short then None else Some Long) else Some Range
-
-run_chosen : (ps : List Period) (value count : ℕ) (fits short : Bool) → (nat_lt value 64 && (nat_le 1 count && nat_le count 20000000)) ≡ fits → nat_le (columns_of ps + count) 20000000 ≡ short → run_cause ps value count ≡ chosen fits short
+pub run_range : (draft : Draft) (value count : ℕ) → (nat_lt value 64 && (nat_le 1 count && nat_le count 20000000)) ≡ false → run_cause draft value count ≡ Some Range
 unfolding run_cause
-run_chosen ps value count fits short e i = rw (e, i) refl
+run_range draft value count range = stops_here _ Range _ range
 
-no_value : (value count : ℕ) → 64 ≤ value → (nat_lt value 64 && (nat_le 1 count && nat_le count 20000000)) ≡ false
-no_value value count more = grind arith
+pub run_order : (draft : Draft) (value count : ℕ) → (nat_lt value 64 && (nat_le 1 count && nat_le count 20000000)) ≡ true → is_closed draft.opened ≡ false → run_cause draft value count ≡ Some Order
+unfolding run_cause
+run_order draft value count range unclosed = goes_past _ Range _ range ∙ stops_here _ Order _ unclosed
 
-no_column : (value count : ℕ) → count ≡ 0 → (nat_lt value 64 && (nat_le 1 count && nat_le count 20000000)) ≡ false
-no_column value count none = grind arith
+pub run_long : (draft : Draft) (value count : ℕ) → (nat_lt value 64 && (nat_le 1 count && nat_le count 20000000)) ≡ true → is_closed draft.opened ≡ true → has_room draft count ≡ false → run_cause draft value count ≡ Some Long
+unfolding run_cause
+run_long draft value count range closed room = goes_past _ Range _ range ∙ goes_past _ Order _ closed ∙ stops_here _ Long _ room
 
-many_columns : (value count : ℕ) → 20000000 < count → (nat_lt value 64 && (nat_le 1 count && nat_le count 20000000)) ≡ false
-many_columns value count many = grind arith
+pub run_fits : (draft : Draft) (value count : ℕ) → (nat_lt value 64 && (nat_le 1 count && nat_le count 20000000)) ≡ true → is_closed draft.opened ≡ true → has_room draft count ≡ true → run_cause draft value count ≡ None
+unfolding run_cause
+run_fits draft value count range closed room = goes_past _ Range _ range ∙ goes_past _ Order _ closed ∙ goes_past _ Long _ room
 
-too_many : (columns count : ℕ) → 20000000 < columns + count → nat_le (columns + count) 20000000 ≡ false
-too_many columns count more = grind arith
+-- The end.
 
-not_many : (columns count : ℕ) → columns + count ≤ 20000000 → nat_le (columns + count) 20000000 ≡ true
-not_many columns count few = grind arith
+abbrev end_chosen : Bool → Bool → Bool → Option ListCause
+end_chosen closed last long = unless closed Order (caused (last_first last long))
 
-pub run_value : (ps : List Period) (value count : ℕ) → 64 ≤ value → run_cause ps value count ≡ Some Range
-run_value ps value count more = run_chosen ps value count false (nat_le (columns_of ps + count) 20000000) (no_value value count more) refl
+end_is : (draft : Draft) → end_cause draft ≡ end_chosen (is_closed draft.opened) (is_control_last (last_period draft.periods)) (is_long_enough (last_period draft.periods))
+unfolding end_cause close_fault
+end_is draft = refl
 
-pub run_none : (ps : List Period) (value count : ℕ) → count ≡ 0 → run_cause ps value count ≡ Some Range
-run_none ps value count none = run_chosen ps value count false (nat_le (columns_of ps + count) 20000000) (no_column value count none) refl
+chosen_order : (closed last long : Bool) → (closed && last) ≡ false → end_chosen closed last long ≡ Some Order
+chosen_order false last long h = refl
+chosen_order true false long h = refl
+chosen_order true true long h = absurd cc
 
-pub run_many : (ps : List Period) (value count : ℕ) → 20000000 < count → run_cause ps value count ≡ Some Range
-run_many ps value count many = run_chosen ps value count false (nat_le (columns_of ps + count) 20000000) (many_columns value count many) refl
+chosen_long : (closed last : Bool) (cause : Option ListCause) (long : Bool) → (closed && last) ≡ true → end_chosen true true long ≡ cause → end_chosen closed last long ≡ cause
+chosen_long false last cause long h e = absurd cc
+chosen_long true false cause long h e = absurd cc
+chosen_long true true cause long h e = e
 
-pub run_long : (ps : List Period) (value count : ℕ) → value < 64 → 1 ≤ count → count ≤ 20000000 → 20000000 < columns_of ps + count → run_cause ps value count ≡ Some Long
-run_long ps value count below some few more = run_chosen ps value count true false (run_passes value count below some few) (too_many (columns_of ps) count more)
+pub end_order : (draft : Draft) → (is_closed draft.opened && is_control_last (last_period draft.periods)) ≡ false → end_cause draft ≡ Some Order
+end_order draft turn = end_is draft ∙ chosen_order _ _ (is_long_enough (last_period draft.periods)) turn
 
-pub run_fits : (ps : List Period) (value count : ℕ) → value < 64 → 1 ≤ count → count ≤ 20000000 → columns_of ps + count ≤ 20000000 → run_cause ps value count ≡ None
-run_fits ps value count below some few fits = run_chosen ps value count true true (run_passes value count below some few) (not_many (columns_of ps) count fits)
+pub end_short : (draft : Draft) → (is_closed draft.opened && is_control_last (last_period draft.periods)) ≡ true → is_long_enough (last_period draft.periods) ≡ false → end_cause draft ≡ Some Control
+end_short draft turn short = end_is draft ∙ chosen_long _ _ (Some Control) _ turn (ap (end_chosen true true) short)
+
+pub end_well : (draft : Draft) → (is_closed draft.opened && is_control_last (last_period draft.periods)) ≡ true → is_long_enough (last_period draft.periods) ≡ true → end_cause draft ≡ None
+end_well draft turn long = end_is draft ∙ chosen_long _ _ None _ turn (ap (end_chosen true true) long)
 
 -- What the answer is.
 
@@ -76,21 +102,33 @@ pub answers_residual : (T : Type 0) (seen : Option ListCause) (result : Result T
 answers_residual T seen (Ok v) h = absurd h
 answers_residual T seen (Err refusal) h = answers_same T seen refusal h
 
-pub answers_line : {T : Type 0} (ps : List Period) (told line : LineForm) (result : Result T Refusal) → told ≡ line → AnswersCause (line_cause ps line) result → AnswersCause (line_cause ps told) result
-answers_line {T} ps told line result e h = subst (λ (l : LineForm). AnswersCause (line_cause ps l) result) (sym e) h
+pub answers_line : {T : Type 0} (draft : Draft) (told line : LineForm) (result : Result T Refusal) → told ≡ line → AnswersCause (line_cause draft line) result → AnswersCause (line_cause draft told) result
+answers_line {T} draft told line result e h = subst (λ (l : LineForm). AnswersCause (line_cause draft l) result) (sym e) h
 
 -- the cause of a line, by its form
-pub cause_control : (ps : List Period) (value count : ℕ) → line_cause ps (control_line value count) ≡ run_cause ps value count
+pub cause_control : (draft : Draft) (value count : ℕ) → line_cause draft (control_line value count) ≡ run_cause draft value count
 unfolding line_cause
-cause_control ps value count = refl
+cause_control draft value count = refl
 
-pub cause_video : (ps : List Period) (bytes : List ℕ) → line_cause ps (video_line bytes) ≡ caused (push_fault ps (video bytes))
+pub cause_video : (draft : Draft) (bytes : List ℕ) → line_cause draft (video_line bytes) ≡ video_cause draft bytes
 unfolding line_cause
-cause_video ps bytes = refl
+cause_video draft bytes = refl
 
-pub cause_end : (ps : List Period) → line_cause ps end_line ≡ caused (close_fault ps)
+pub cause_island : (draft : Draft) (a b : ℕ) → line_cause draft (island_line a b) ≡ island_cause draft a b
 unfolding line_cause
-cause_end ps = refl
+cause_island draft a b = refl
+
+pub cause_packet : (draft : Draft) (p : Packet) → line_cause draft (packet_line p) ≡ packet_cause draft p
+unfolding line_cause
+cause_packet draft p = refl
+
+pub cause_close : (draft : Draft) (a b : ℕ) → line_cause draft (close_line a b) ≡ close_cause draft a b
+unfolding line_cause
+cause_close draft a b = refl
+
+pub cause_end : (draft : Draft) → line_cause draft end_line ≡ end_cause draft
+unfolding line_cause
+cause_end draft = refl
 
 -- Faults of items.
 
@@ -131,45 +169,60 @@ pushed_fits ps p e =
     sum_fits (is_in_range p) (is_in_order (last_period ps) p) (has_control (last_period ps) p) (is_announced (last_period ps) p) (nat_le (columns_of ps + period_columns p) 20000000)
     (sym (push_fault_is ps p) ∙ e))
 
-pub answers_video : (S T : Type 0) (all ps : List Period) (pixels bytes : List ℕ) (fault : ItemFault) (refusal : Refusal) → all ≡ ps → pixels ≡ bytes → AnswersFault {T = S} (push_fault all (video pixels)) (Err fault) → RefusesAs fault refusal → AnswersCause {T = T} (line_cause ps (video_line bytes)) (Err refusal)
-answers_video S T all ps pixels bytes fault refusal same read h told =
-    let e : caused (push_fault all (video pixels)) ≡ line_cause ps (video_line bytes) =
-    ap (λ (qs : List Period). caused (push_fault qs (video pixels))) same ∙ ap (λ (b : List ℕ). caused (push_fault ps (video b))) read ∙ sym (cause_video ps bytes) in
-    subst (λ (s : Option ListCause). AnswersCause {T = T} s (Err refusal)) e (answers_fault S T fault (push_fault all (video pixels)) refusal h told)
+-- a video data period in its range, outside an island
+pub video_pushed : (draft : Draft) (bytes : List ℕ) → is_in_range (video bytes) ≡ true → is_closed draft.opened ≡ true → line_cause draft (video_line bytes) ≡ caused (push_fault draft.periods (video bytes))
+unfolding line_cause
+video_pushed draft bytes range closed = goes_past _ Range _ range ∙ goes_past _ Order _ closed
 
-pub answers_taken : (S : Type 0) {T : Type 0} (done : S) (v : T) (all ps : List Period) (pixels bytes : List ℕ) → all ≡ ps → pixels ≡ bytes → AnswersFault {T = S} (push_fault all (video pixels)) (Ok done) → AnswersCause (line_cause ps (video_line bytes)) (Ok v)
-answers_taken S {T} done v all ps pixels bytes same read h =
-    let e : caused (push_fault all (video pixels)) ≡ line_cause ps (video_line bytes) =
-    ap (λ (qs : List Period). caused (push_fault qs (video pixels))) same ∙ ap (λ (b : List ℕ). caused (push_fault ps (video b))) read ∙ sym (cause_video ps bytes) in
-    answers_ok {T = T} v (line_cause ps (video_line bytes)) (sym e ∙ ap caused (none_of S done (push_fault all (video pixels)) h))
+pub video_range : (draft : Draft) (bytes : List ℕ) → is_in_range (video bytes) ≡ false → line_cause draft (video_line bytes) ≡ Some Range
+unfolding line_cause
+video_range draft bytes range = stops_here _ Range _ range
+
+pub video_order : (draft : Draft) (bytes : List ℕ) → is_in_range (video bytes) ≡ true → is_closed draft.opened ≡ false → line_cause draft (video_line bytes) ≡ Some Order
+unfolding line_cause
+video_order draft bytes range unclosed = goes_past _ Range _ range ∙ stops_here _ Order _ unclosed
+
+pub answers_video : (S T : Type 0) (draft : Draft) (all : List Period) (bytes : List ℕ) (fault : ItemFault) (refusal : Refusal) → all ≡ draft.periods → is_in_range (video bytes) ≡ true → is_closed draft.opened ≡ true
+    → AnswersFault {T = S} (push_fault all (video bytes)) (Err fault) → RefusesAs fault refusal → AnswersCause {T = T} (line_cause draft (video_line bytes)) (Err refusal)
+answers_video S T draft all bytes fault refusal same range closed h told =
+    let e : caused (push_fault all (video bytes)) ≡ line_cause draft (video_line bytes) =
+    ap (λ (qs : List Period). caused (push_fault qs (video bytes))) same ∙ sym (video_pushed draft bytes range closed) in
+    subst (λ (s : Option ListCause). AnswersCause {T = T} s (Err refusal)) e (answers_fault S T fault (push_fault all (video bytes)) refusal h told)
+
+pub answers_taken : (S : Type 0) {T : Type 0} (done : S) (v : T) (draft : Draft) (all : List Period) (bytes : List ℕ) → all ≡ draft.periods → is_in_range (video bytes) ≡ true → is_closed draft.opened ≡ true
+    → AnswersFault {T = S} (push_fault all (video bytes)) (Ok done) → AnswersCause (line_cause draft (video_line bytes)) (Ok v)
+answers_taken S {T} done v draft all bytes same range closed h =
+    let e : caused (push_fault all (video bytes)) ≡ line_cause draft (video_line bytes) =
+    ap (λ (qs : List Period). caused (push_fault qs (video bytes))) same ∙ sym (video_pushed draft bytes range closed) in
+    answers_ok {T = T} v (line_cause draft (video_line bytes)) (sym e ∙ ap caused (none_of S done (push_fault all (video bytes)) h))
 
 -- The digits of a video line.
 
-pub answers_read : {T : Type 0} (ps : List Period) (digits bytes : List ℕ) (result : Result T Refusal) → decode_of digits ≡ Ok bytes → AnswersCause (line_cause ps (video_line bytes)) result
-    → AnswersCause (line_cause ps (video_by true (decode_of digits))) result
-answers_read {T} ps digits bytes result read h = answers_line {T = T} ps (video_by true (decode_of digits)) (video_line bytes) result (ap (video_by true) read) h
+pub answers_read : {T : Type 0} (draft : Draft) (digits bytes : List ℕ) (result : Result T Refusal) → decode_of digits ≡ Ok bytes → AnswersCause (line_cause draft (video_line bytes)) result
+    → AnswersCause (line_cause draft (video_by true (decode_of digits))) result
+answers_read {T} draft digits bytes result read h = answers_line {T = T} draft (video_by true (decode_of digits)) (video_line bytes) result (ap (video_by true) read) h
 
 no_digits : (read : Result (List ℕ) FromHexError) → IsErr read → video_by true read ≡ no_line
 no_digits (Ok bytes) h = absurd cc
 no_digits (Err e) h = refl
 
-cause_none_told : (ps : List Period) → line_cause ps no_line ≡ Some Form
+cause_none_told : (draft : Draft) → line_cause draft no_line ≡ Some Form
 unfolding line_cause
-cause_none_told ps = refl
+cause_none_told draft = refl
 
-cause_no_digits : (ps : List Period) (read : Result (List ℕ) FromHexError) → IsErr read → line_cause ps (video_by true read) ≡ Some Form
-cause_no_digits ps read h = ap (line_cause ps) (no_digits read h) ∙ cause_none_told ps
+cause_no_digits : (draft : Draft) (read : Result (List ℕ) FromHexError) → IsErr read → line_cause draft (video_by true read) ≡ Some Form
+cause_no_digits draft read h = ap (line_cause draft) (no_digits read h) ∙ cause_none_told draft
 
-refused_digits : (T : Type 0) (ps : List Period) (digits : List ℕ) (refusal : Refusal) → (refusal ≡ NoMemory) ⊎ ((refusal ≡ Cause Form) × IsErr (decode_of digits))
-    → AnswersCause {T = T} (line_cause ps (video_by true (decode_of digits))) (Err refusal)
-refused_digits T ps digits refusal (inl e) = answers_same T (line_cause ps (video_by true (decode_of digits))) refusal e
-refused_digits T ps digits refusal (inr h) =
-    let seen = line_cause ps (video_by true (decode_of digits)) in
-    subst (λ (r : Refusal). AnswersCause {T = T} seen (Err r)) (sym h.0) (answers_cause T seen Form (cause_no_digits ps (decode_of digits) h.1))
+refused_digits : (T : Type 0) (draft : Draft) (digits : List ℕ) (refusal : Refusal) → (refusal ≡ NoMemory) ⊎ ((refusal ≡ Cause Form) × IsErr (decode_of digits))
+    → AnswersCause {T = T} (line_cause draft (video_by true (decode_of digits))) (Err refusal)
+refused_digits T draft digits refusal (inl e) = answers_same T (line_cause draft (video_by true (decode_of digits))) refusal e
+refused_digits T draft digits refusal (inr h) =
+    let seen = line_cause draft (video_by true (decode_of digits)) in
+    subst (λ (r : Refusal). AnswersCause {T = T} seen (Err r)) (sym h.0) (answers_cause T seen Form (cause_no_digits draft (decode_of digits) h.1))
 
 -- bytes that are no digits, or want of memory
-pub answers_unread : (T : Type 0) (ps : List Period) (digits : List ℕ) (result : Result T Refusal) (refusal : Refusal) → (refusal ≡ NoMemory) ⊎ ((refusal ≡ Cause Form) × IsErr (decode_of digits))
-    → IsErrAnd result (λ r. r ≡ refusal) → AnswersCause (line_cause ps (video_by true (decode_of digits))) result
-answers_unread T ps digits (Ok v) refusal why h = absurd h
-answers_unread T ps digits (Err found) refusal why h =
-    subst (λ (r : Refusal). AnswersCause {T = T} (line_cause ps (video_by true (decode_of digits))) (Err r)) (sym h) (refused_digits T ps digits refusal why)
+pub answers_unread : (T : Type 0) (draft : Draft) (digits : List ℕ) (result : Result T Refusal) (refusal : Refusal) → (refusal ≡ NoMemory) ⊎ ((refusal ≡ Cause Form) × IsErr (decode_of digits))
+    → IsErrAnd result (λ r. r ≡ refusal) → AnswersCause (line_cause draft (video_by true (decode_of digits))) result
+answers_unread T draft digits (Ok v) refusal why h = absurd h
+answers_unread T draft digits (Err found) refusal why h =
+    subst (λ (r : Refusal). AnswersCause {T = T} (line_cause draft (video_by true (decode_of digits))) (Err r)) (sym h) (refused_digits T draft digits refusal why)

@@ -1,7 +1,7 @@
 -- How an answer of the reader fits what the text reads as.
 use Rattle.std.specs.Prelude.{◌≡◌, ℕ, List, Result, Ok, Err}
 use Rattle.outside_io.specs.Causes.{Rose}
-use Rattle.source_end.specs.Periods.{Period}
+use Rattle.island_pack.specs.Periods.{Period}
 use Rattle.listing.specs.declared.fault.ListError.{ListError}
 use Rattle.listing.specs.declared.fault.ListError.TheVariants.{Bad, Read, NoMemory}
 use Rattle.listing.specs.Reading.{Reading, accepted, refused}

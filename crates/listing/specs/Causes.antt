@@ -1,19 +1,15 @@
--- Why a line is refused after the periods that the lines before it told: the first cause decides.
-use Rattle.std.specs.Prelude.{ℕ, ◌+◌, ◌&&◌, if◌then◌else◌, List, [], ◌∷◌, ◌++◌, nat_le, nat_lt, Option, Some, None}
-use Rattle.source_end.specs.Periods.{ControlRun, Period, control, video, columns_of}
-use Rattle.source_end.specs.Refusals.{push_fault, close_fault}
+-- Why a line is refused after what the lines before it told: the first cause decides.
+use Rattle.std.specs.Prelude.{ℕ, ◌+◌, Bool, true, false, ◌&&◌, not, List, length, nat_le, nat_lt, Option, Some, None}
+use Rattle.std.specs.List.{list_all}
+use Rattle.island_pack.specs.declared.packet.Packet.{Packet}
+use Rattle.island_pack.specs.Periods.{Period, control, video, values_of, has_preamble, ISLAND_PREAMBLE}
+use Rattle.source_end.specs.Refusals.{last_period, is_control_last, is_long_enough, is_in_range, push_fault, close_fault}
 use Rattle.source_end.specs.declared.items.ItemFault.{ItemFault}
 use Rattle.source_end.specs.declared.items.ItemFault.TheVariants.{Range as range_fault, Order as order_fault, Control as control_fault, Preamble as preamble_fault, Long as long_fault, NoMemory as no_memory}
 use Rattle.listing.specs.declared.fault.ListCause.{ListCause}
 use Rattle.listing.specs.declared.fault.ListCause.TheVariants.{Fault, Form, Range, Order, Control, Preamble, Long}
-use Rattle.listing.specs.Forms.{LineForm, control_line, video_line, end_line, fault_line, no_line}
-
--- neighbouring `c` lines tell one control period
-abbrev pub with_run : List Period → ControlRun → List Period
-with_run [] r = control (r ∷ []) ∷ []
-with_run (control rs ∷ []) r = control (rs ++ r ∷ []) ∷ []
-with_run (video bytes ∷ []) r = video bytes ∷ (control (r ∷ []) ∷ [])
-with_run (p ∷ (q ∷ ps)) r = p ∷ with_run (q ∷ ps) r
+use Rattle.listing.specs.Forms.{LineForm, control_line, video_line, island_line, packet_line, close_line, end_line, fault_line, no_line}
+use Rattle.listing.specs.Drafts.{OpenIsland, Draft, draft_columns}
 
 abbrev pub cause_of : ItemFault → ListCause
 cause_of range_fault = Range
@@ -27,16 +23,80 @@ abbrev pub caused : Option ItemFault → Option ListCause
 caused None = None
 caused (Some fault) = Some (cause_of fault)
 
--- values below 64 in one to 20,000,000 columns, no more than 20,000,000 in all
-unfoldable pub run_cause : List Period → ℕ → ℕ → Option ListCause
-run_cause periods value count =
-    if nat_lt value 64 && (nat_le 1 count && nat_le count 20000000) then
-    (if nat_le (columns_of periods + count) 20000000 then None else Some Long)
-    else Some Range
+-- a cause where a test fails, else what comes after it
+abbrev pub unless : Bool → ListCause → Option ListCause → Option ListCause
+unless true cause rest = rest
+unless false cause rest = Some cause
 
-unfoldable pub line_cause : List Period → LineForm → Option ListCause
-line_cause periods fault_line = Some Fault
-line_cause periods no_line = Some Form
-line_cause periods (control_line value count) = run_cause periods value count
-line_cause periods (video_line bytes) = caused (push_fault periods (video bytes))
-line_cause periods end_line = caused (close_fault periods)
+-- so many columns more are no more than 20,000,000
+abbrev pub has_room : Draft → ℕ → Bool
+has_room draft columns = nat_le (draft_columns draft + columns) 20000000
+
+-- no data island is being told
+abbrev pub is_closed : Option OpenIsland → Bool
+is_closed None = true
+is_closed (Some x) = false
+
+-- a data island is being told, and has so many packets at least and at most
+abbrev pub has_packets : ℕ → ℕ → Option OpenIsland → Bool
+has_packets least most None = false
+has_packets least most (Some x) = nat_le least (length x.packets) && nat_le (length x.packets) most
+
+-- values below 64 in one to 20,000,000 columns
+unfoldable pub run_cause : Draft → ℕ → ℕ → Option ListCause
+run_cause draft value count =
+    unless (nat_lt value 64 && (nat_le 1 count && nat_le count 20000000)) Range
+    (unless (is_closed draft.opened) Order
+    (unless (has_room draft count) Long
+    None))
+
+-- inside a data island no video data period begins
+abbrev pub video_cause : Draft → List ℕ → Option ListCause
+video_cause draft bytes =
+    unless (is_in_range (video bytes)) Range
+    (unless (is_closed draft.opened) Order
+    (caused (push_fault draft.periods (video bytes))))
+
+abbrev pub announces_island : Option Period → Bool
+announces_island (Some (control runs)) = has_preamble ISLAND_PREAMBLE (values_of runs)
+announces_island _ = false
+
+unfoldable pub island_cause : Draft → ℕ → ℕ → Option ListCause
+island_cause draft a b =
+    unless (nat_lt a 4 && nat_lt b 4) Range
+    (unless (is_closed draft.opened && is_control_last (last_period draft.periods)) Order
+    (unless (is_long_enough (last_period draft.periods)) Control
+    (unless (announces_island (last_period draft.periods)) Preamble
+    (unless (has_room draft 2) Long
+    None))))
+
+-- the nineteenth packet of an island is out of range
+abbrev pub is_nineteenth : Option OpenIsland → Bool
+is_nineteenth opened = has_packets 18 18 opened
+
+unfoldable pub packet_cause : Draft → Packet → Option ListCause
+packet_cause draft p =
+    unless (list_all (λ v. nat_lt v 4) p.sync && not (is_nineteenth draft.opened)) Range
+    (unless (has_packets 0 18 draft.opened) Order
+    (unless (has_room draft 32) Long
+    None))
+
+unfoldable pub close_cause : Draft → ℕ → ℕ → Option ListCause
+close_cause draft a b =
+    unless (nat_lt a 4 && nat_lt b 4) Range
+    (unless (has_packets 1 18 draft.opened) Order
+    (unless (has_room draft 2) Long
+    None))
+
+unfoldable pub end_cause : Draft → Option ListCause
+end_cause draft = unless (is_closed draft.opened) Order (caused (close_fault draft.periods))
+
+unfoldable pub line_cause : Draft → LineForm → Option ListCause
+line_cause draft fault_line = Some Fault
+line_cause draft no_line = Some Form
+line_cause draft (control_line value count) = run_cause draft value count
+line_cause draft (video_line bytes) = video_cause draft bytes
+line_cause draft (island_line a b) = island_cause draft a b
+line_cause draft (packet_line p) = packet_cause draft p
+line_cause draft (close_line a b) = close_cause draft a b
+line_cause draft end_line = end_cause draft

@@ -13,7 +13,7 @@ use Rattle.listing.specs.Told.{Told, reading_of}
 -- `reading` is what is read from before the line; `now` and `rest` are the bytes ahead behind it
 abbrev pub LeavesTo : Reading → Held → List ℕ → Result Next ListError → Type 0
 LeavesTo reading now rest (Ok (More reader)) = reading ≡ reading_of reader now rest
-LeavesTo reading now rest (Ok (End reader)) = reading ≡ after_end reader.line reader.periods (pieces_of (now.pending ++ rest))
+LeavesTo reading now rest (Ok (End reader)) = reading ≡ after_end reader.line reader.draft.periods (pieces_of (now.pending ++ rest))
 LeavesTo reading now rest (Err (Bad fault)) = reading ≡ refused fault.line fault.cause
 LeavesTo reading now rest (Err Read) = Unit {0}
 LeavesTo reading now rest (Err NoMemory) = Unit {0}
@@ -27,5 +27,5 @@ Leaves told None rest before now result = Unit {0}
 -- a reader goes on with more bytes taken, at most those that a text may have; one that has taken `end` can be closed
 abbrev pub IsReady : Told → Result Next ListError → Type 0
 IsReady told (Ok (More reader)) = (told.bytes < reader.bytes) × (reader.bytes ≤ 4294967295)
-IsReady told (Ok (End reader)) = close_fault reader.periods ≡ None
+IsReady told (Ok (End reader)) = close_fault reader.draft.periods ≡ None
 IsReady told (Err e) = Unit {0}

@@ -1,5 +1,6 @@
 pub mod Lines
 pub mod Forms
+pub mod Drafts
 pub mod Causes
 pub mod Reading
 pub mod Answers
@@ -7,3 +8,8 @@ pub mod Held
 pub mod FormSeen
 pub mod Told
 pub mod Leaves
+pub mod Texts
+pub mod Fields
+pub mod Growing
+pub mod Checks
+pub mod GrowingChecks

@@ -1,6 +1,8 @@
 -- What the reader of a listing keeps of the lines that it has taken.
-use Rattle.std.specs.Prelude.{◌≡◌, ℕ, Bool, true, false, List, [], ◌∷◌, ◌++◌, Option, Some, None, Result, Ok, Err}
-use Rattle.source_end.specs.Periods.{ControlRun, Period, control, video}
+use Rattle.std.specs.Prelude.{◌≡◌, ℕ, ◌≤◌, Bool, true, false, List, [], ◌∷◌, ◌++◌, length, nat_le, Option, Some, None, Result, Ok, Err}
+use Rattle.std.specs.List.{list_all}
+use Rattle.island_pack.specs.Periods.{ControlRun, DataIsland, Period, control, values_of, has_preamble, ISLAND_PREAMBLE}
+use Rattle.island_pack.specs.Conforming.{is_sync_pair, is_packet}
 use Rattle.source_end.specs.declared.items.ItemFault.{ItemFault}
 use Rattle.source_end.specs.declared.items.ItemFault.TheVariants.{Range as range_fault, Order as order_fault, Control as control_fault, Preamble as preamble_fault, Long as long_fault, NoMemory as no_memory}
 use Rattle.listing.specs.declared.fault.ListCause.{ListCause}
@@ -10,14 +12,14 @@ use Rattle.listing.specs.declared.fault.ListError.TheVariants.{Bad, NoMemory as 
 use Rattle.listing.specs.declared.reader.Refusal.{Refusal}
 use Rattle.listing.specs.declared.reader.Refusal.TheVariants.{Cause, NoMemory}
 use Rattle.listing.specs.Lines.{pieces_of}
-use Rattle.listing.specs.Forms.{LineForm, control_line, video_line, end_line, fault_line, no_line}
-use Rattle.listing.specs.Causes.{with_run}
+use Rattle.listing.specs.Forms.{LineForm, control_line, video_line, island_line, packet_line, close_line, end_line, fault_line, no_line}
+use Rattle.listing.specs.Drafts.{OpenIsland, Draft}
 use Rattle.listing.specs.Reading.{Reading, read_from}
 use Rattle.listing.specs.Held.{Held}
 
--- the periods told, how many bytes those lines have, and the number of the next line
+-- what is told, how many bytes those lines have, and the number of the next line
 pub record Told : Type 0 where
-  pub periods : List Period
+  pub draft : Draft
   pub bytes : ℕ
   pub line : ℕ
 
@@ -26,18 +28,35 @@ abbrev pub with_open : List Period → List ControlRun → List Period
 with_open periods [] = periods
 with_open periods (r ∷ runs) = periods ++ control (r ∷ runs) ∷ []
 
--- the periods after a line of this form
-abbrev pub after_form : LineForm → List Period → List Period
-after_form (control_line value count) periods = with_run periods (record { value = value; count = count })
-after_form (video_line bytes) periods = periods ++ video bytes ∷ []
-after_form end_line periods = periods
-after_form fault_line periods = periods
-after_form no_line periods = periods
+-- an island whose closing guard is still to come
+abbrev pub unclosed : Option DataIsland → Option OpenIsland
+unclosed None = None
+unclosed (Some x) = Some (record { opening = x.opening; packets = x.packets })
+
+-- periods, the control period behind them and the island behind that
+abbrev pub drafted : List Period → List ControlRun → Option DataIsland → Draft
+drafted periods runs island = record { periods = with_open periods runs; opened = unclosed island }
+
+-- an island that stands behind the control period that announces it
+pub record IsBegun (runs : List ControlRun) (x : DataIsland) : Type 0 where
+  pub long : nat_le 12 (length (values_of runs)) ≡ true
+  pub announced : has_preamble ISLAND_PREAMBLE (values_of runs) ≡ true
+  pub opening : is_sync_pair x.opening ≡ true
+  pub packets : list_all is_packet x.packets ≡ true
+  pub few : length x.packets ≤ 18
+
+-- no island, or such a one
+abbrev pub MayStand : List ControlRun → Option DataIsland → Type 0
+MayStand runs None = Unit {0}
+MayStand runs (Some x) = IsBegun runs x
 
 abbrev pub is_end : LineForm → Bool
 is_end end_line = true
 is_end (control_line value count) = false
 is_end (video_line bytes) = false
+is_end (island_line a b) = false
+is_end (packet_line p) = false
+is_end (close_line a b) = false
 is_end fault_line = false
 is_end no_line = false
 
@@ -66,4 +85,4 @@ RefusedAs line NoMemory error = error ≡ out_of_memory
 
 -- what the bytes ahead read as
 abbrev pub reading_of : Told → Held → List ℕ → Reading
-reading_of told held left = read_from told.line told.bytes told.periods (pieces_of (held.pending ++ left))
+reading_of told held left = read_from told.line told.bytes told.draft (pieces_of (held.pending ++ left))

@@ -1,9 +1,11 @@
 //! The form of a line of a listing: what the line says, before any pixel is made.
 ghost use Rattle.std.specs.Prelude.{◌≡◌, ◌≤◌, [], length};
-ghost use Rattle.listing.specs.FormSeen.{IsForm, digits_of};
-ghost use Rattle.listing.specs.Forms.{control_form, form_of, is_fault, number_of, video_form};
+ghost use Rattle.listing.specs.FormSeen.{IsForm, IsPair, digits_of};
+ghost use Rattle.listing.specs.Forms.{close_line, control_form, form_of, is_fault, island_line, number_of, packet_form, pair_form, video_form};
 
 use crate::lines::LINE_LIMIT;
+use crate::packet::read_packet;
+use island_pack::Packet;
 
 // The most digits of a number of columns.
 const NUMBER_LIMIT: usize = 10;
@@ -15,6 +17,12 @@ pub(crate) enum Form<'a> {
     Control { value: u8, count: u64 },
     /// `v X`: what should be the hexadecimal digits of the pixels, six a pixel. They are not looked at.
     Video(&'a [u8]),
+    /// `i AB`: the sync values of the guard that opens a data island, each perhaps out of its range.
+    Island([u8; 2]),
+    /// `p H B0 B1 B2 B3 S`: a packet, its sync values perhaps out of their range.
+    Packet(Packet),
+    /// `e AB`: the sync values of the guard that closes a data island, each perhaps out of its range.
+    Close([u8; 2]),
     /// `end`.
     End,
     /// `! ..` or `cut ..`, which only a receiver writes.
@@ -40,6 +48,15 @@ pub(crate) fn read_form(line: &[u8]) -> Form<'_>
     }
     if line.starts_with(b"v ") {
         return video(&line[2..]);
+    }
+    if line.starts_with(b"i ") {
+        return island(&line[2..]);
+    }
+    if line.starts_with(b"p ") {
+        return packet_line(&line[2..]);
+    }
+    if line.starts_with(b"e ") {
+        return close(&line[2..]);
     }
     if line.starts_with(b"end") && line.len() == 3 {
         return Form::End;
@@ -77,9 +94,9 @@ fn control(rest: &[u8]) -> Form<'_>
     }
 }
 
-// The number of one to ten decimal digits.
+/// The number that one to ten decimal digits are, leading zeros allowed; none for any other text.
 #[tactic(auto, unfolding(crate::specs::Forms::number_of, crate::specs::Forms::digits_after))]
-fn number(digits: &[u8]) -> Option<u64>
+pub fn number(digits: &[u8]) -> Option<u64>
     ensures { result ≡ number_of digits.now }
 {
     if digits.is_empty() || digits.len() > NUMBER_LIMIT {
@@ -105,5 +122,50 @@ fn video(digits: &[u8]) -> Form<'_>
         Form::Video(digits)
     } else {
         Form::Other
+    }
+}
+
+// The form of a line by what follows `i `: two decimal digits.
+fn island(rest: &[u8]) -> Form<'_>
+    ensures form { IsForm result (pair_form island_line rest.now) }
+    ensures none { digits_of result ≡ [] }
+{
+    match sync_pair(rest) {
+        Some(sync) => Form::Island(sync),
+        None => Form::Other,
+    }
+}
+
+// The form of a line by what follows `p `: a packet.
+fn packet_line(rest: &[u8]) -> Form<'_>
+    ensures form { IsForm result (packet_form rest.now) }
+    ensures none { digits_of result ≡ [] }
+{
+    match read_packet(rest) {
+        Some(packet) => Form::Packet(packet),
+        None => Form::Other,
+    }
+}
+
+// The form of a line by what follows `e `: two decimal digits.
+fn close(rest: &[u8]) -> Form<'_>
+    ensures form { IsForm result (pair_form close_line rest.now) }
+    ensures none { digits_of result ≡ [] }
+{
+    match sync_pair(rest) {
+        Some(sync) => Form::Close(sync),
+        None => Form::Other,
+    }
+}
+
+// The sync values that two decimal digits are; none for any other text.
+#[tactic(auto, unfolding(crate::specs::Forms::pair_form))]
+fn sync_pair(digits: &[u8]) -> Option<[u8; 2]>
+    ensures { IsPair digits.now result }
+{
+    if digits.len() == 2 && (digits[0].is_ascii_digit() && digits[1].is_ascii_digit()) {
+        Some([digits[0] - b'0', digits[1] - b'0'])
+    } else {
+        None
     }
 }

@@ -1,13 +1,20 @@
 //! Link listings: the text of a stream.
 #![tactic(auto)]
 
+mod checker;
 mod fault;
 mod form;
+mod line;
 mod lines;
+mod lister;
+mod packet;
 mod read;
 mod reader;
 
+pub use checker::CheckLister;
 pub use fault::{ListCause, ListError, ListFault};
+pub use form::number;
+pub use lister::LinkLister;
 pub use read::read_link;
 
 #[cfg(test)]

@@ -2,9 +2,9 @@
 ghost use Rattle.std.specs.Prelude.{◌≡◌, ◌≢◌, ℕ, ◌+◌, ◌<◌, ◌≤◌, ◌++◌, List, [], length, true, false, OnOk, IfErr, Some, None, Err};
 ghost use Rattle.std.specs.Io.KnownBytes.{IsAtEnd};
 ghost use Rattle.outside_io.specs.Causes.{Rose};
-ghost use Rattle.source_end.specs.Periods.{Period};
 ghost use Rattle.source_end.specs.Refusals.{close_fault};
 ghost use Rattle.listing.specs.Lines.{pieces_of};
+ghost use Rattle.listing.specs.Drafts.{Draft};
 ghost use Rattle.listing.specs.Forms.{LineForm, form_of};
 ghost use Rattle.listing.specs.FormSeen.{IsForm};
 ghost use Rattle.listing.specs.Causes.{line_cause};
@@ -101,7 +101,7 @@ fn is_end_form(form: Form<'_>) -> bool
 /// The cause of a line that is too long.
 fn long_cause(line: &[u8]) -> ListCause
     requires { 32768 < length line.now }
-    ensures { (periods : List Period) → line_cause periods (form_of line.now) ≡ Some result }
+    ensures { (draft : Draft) → line_cause draft (form_of line.now) ≡ Some result }
 {
     match read_form(line) {
         Form::Fault => ListCause::Fault,
@@ -115,7 +115,7 @@ const TEXT_LIMIT: u64 = 4_294_967_295;
 /// The answer for a line that the input ends in.
 fn unended(reader: Reader, line: &[u8]) -> ListError
     requires { length line.now ≤ 32768 }
-    ensures answers { Answers (ended_in reader.line line.now (cause_at reader.periods (reader.bytes + length line.now) (form_of line.now))) (Err result) }
+    ensures answers { Answers (ended_in reader.line line.now (cause_at reader.draft (reader.bytes + length line.now) (form_of line.now))) (Err result) }
     ensures unread { result ≢ ListError.Read }
 {
     let number = reader.line();
@@ -136,9 +136,9 @@ fn finish<S: Source>(
     lines: &mut LineReader,
     source: &mut S,
 ) -> Result<Stream, ListError>
-    requires { close_fault reader.periods ≡ None }
+    requires { close_fault reader.draft.periods ≡ None }
     ensures answers { (left : List ℕ) → S.left source.old ≡ Some left
-        → Answers (after_end reader.line reader.periods (pieces_of (lines.old.pending ++ left))) result }
+        → Answers (after_end reader.line reader.draft.periods (pieces_of (lines.old.pending ++ left))) result }
     ensures ended { OnOk result (IsAtEnd (S.left source.new)) }
     ensures caused { IfErr result (λ e. IsCaused (S.faults source.old) (S.faults source.new) e) }
     ensures later { S.faults source.old ≤ S.faults source.new }

@@ -1,18 +1,22 @@
 //! What the lines of a listing tell, one line after the other.
-ghost use Rattle.std.specs.Prelude.{◌≡◌, ◌≢◌, ◌⊎◌, ℕ, ◌+◌, ◌%◌, ◌≤◌, [], length, true, false, IfOk, IfErr, IsErr};
+ghost use Rattle.std.specs.Prelude.{◌≡◌, ◌≢◌, ◌⊎◌, ℕ, ◌+◌, ◌%◌, ◌≤◌, ◌++◌, [], ◌∷◌, length, true, false, ◌&&◌, not, nat_le, nat_lt, slice_index, None, IfOk, IfErr, IsErr, ◌<◌, All};
+ghost use Rattle.std.specs.List.{list_all};
 ghost use Rattle.hex.specs.Hex.{decode_of};
-ghost use Rattle.source_end.specs.Refusals.{close_fault, last_period, is_control_last, is_in_range};
-ghost use Rattle.source_end.specs.Periods.{control, video, columns_of};
-ghost use Rattle.listing.specs.Causes.{run_cause, line_cause, caused, with_run};
-ghost use Rattle.listing.specs.Forms.{LineForm, video_by};
+ghost use Rattle.island_pack.specs.Periods.{control, video, island, columns_of};
+ghost use Rattle.island_pack.specs.Conforming.{is_packet};
+ghost use Rattle.source_end.specs.Refusals.{close_fault, push_fault, last_period, is_control_last, is_long_enough, is_in_range};
+ghost use Rattle.listing.specs.Causes.{run_cause, island_cause, packet_cause, close_cause, end_cause, line_cause, has_room, is_closed, has_packets, is_nineteenth, announces_island};
+ghost use Rattle.listing.specs.Drafts.{with_line};
+ghost use Rattle.listing.specs.Forms.{LineForm, control_line, video_by, island_line, packet_line, close_line};
 ghost use Rattle.listing.specs.FormSeen.{IsForm, digits_of};
-ghost use Rattle.listing.specs.Told.{AnswersCause, RefusesAs, after_form, with_open};
+ghost use Rattle.listing.specs.Told.{AnswersCause, RefusesAs, with_open};
 
 use crate::ListCause;
 use crate::form::Form;
 use hex::FromHexError;
+use island_pack::Packet;
 use outside_io::NoMemory;
-use source_end::{Item, ItemFault, Items, Pixels, Run, Runs, Stream};
+use source_end::{Island, Item, ItemFault, Items, Pixels, Run, Runs, Stream};
 use std::alloc::Global;
 use std::marker::Model;
 
@@ -33,12 +37,21 @@ impl From<NoMemory> for Refusal {
     }
 }
 
-/// Takes lines. The control period whose `c` lines still come is kept apart from the items before it.
+/// The most columns of a stream.
+const COLUMN_LIMIT: u32 = 20_000_000;
+
+/// The most packets of a data island.
+const PACKET_LIMIT: usize = 18;
+
+/// Takes lines. The control period whose `c` lines still come is kept apart from the items before it,
+/// until the line that ends the video data period or the data island behind it.
 #[derive(Drop)]
 pub(crate) struct Reader {
     alloc: Global,
     items: Items,
     runs: Runs,
+    /// The data island whose `e` line still comes.
+    island: Option<Island>,
     /// How many columns were told, at most 20,000,000.
     columns: u32,
     /// How many bytes the lines taken have, line feeds included.
@@ -49,23 +62,25 @@ pub(crate) struct Reader {
 
 impl Model for Reader {
     ghost use Rattle.std.specs.Prelude.{◌≡◌, ◌≤◌, ◌*◌, ◌+◌, false, true};
-    ghost use Rattle.source_end.specs.Periods.{columns_of, control};
+    ghost use Rattle.island_pack.specs.Periods.{control};
     ghost use Rattle.source_end.specs.Refusals.{last_period, is_control_last, is_in_range};
-    ghost use Rattle.listing.specs.Told.{Told, with_open};
+    ghost use Rattle.listing.specs.Drafts.{draft_columns};
+    ghost use Rattle.listing.specs.Told.{Told, drafted, MayStand};
 
     ghost Value = { Told };
 
     ghost view = { λ r. record {
-      periods = with_open r.items r.runs;
+      draft = drafted r.items r.runs r.island;
       bytes = r.bytes;
       line = r.line;
     } };
 
     ghost invariant = { λ r. record {
-      columns : r.columns ≡ columns_of (with_open r.items r.runs);
+      columns : r.columns ≡ draft_columns (drafted r.items r.runs r.island);
       few : r.columns ≤ 20000000;
       turn : is_control_last (last_period r.items) ≡ false;
       in_range : is_in_range (control r.runs) ≡ true;
+      begun : MayStand r.runs r.island;
       short : r.bytes ≤ 4294967295;
       first : 1 ≤ r.line;
       lines : 2 * r.line ≤ r.bytes + 2;
@@ -73,15 +88,17 @@ impl Model for Reader {
 }
 
 impl Reader {
+    ghost use Rattle.listing.specs.Drafts.{nothing_told};
     ghost use Rattle.listing.specs.Told.{Told};
 
     pub(crate) fn new(alloc: Global) -> Reader
-        ensures { result ≡ record { periods = []; bytes = 0; line = 1 } }
+        ensures { result ≡ record { draft = nothing_told; bytes = 0; line = 1 } }
     {
         Reader {
             alloc,
             items: Items::new(alloc),
             runs: Runs::new(alloc),
+            island: None,
             columns: 0,
             bytes: 0,
             line: 1,
@@ -118,12 +135,15 @@ impl Reader {
     pub(crate) fn take(self, form: Form<'_>) -> Result<Reader, Refusal>
         requires seen { (told : LineForm) × IsForm form told }
         requires short { length (digits_of form) ≤ 32766 }
-        ensures cause { (told : LineForm) → IsForm form.entry told → AnswersCause (line_cause self.periods told) result }
-        ensures ok { (told : LineForm) → IsForm form.entry told → IfOk result (λ r. r ≡ record self { periods = after_form told self.periods }) }
+        ensures cause { (told : LineForm) → IsForm form.entry told → AnswersCause (line_cause self.draft told) result }
+        ensures ok { (told : LineForm) → IsForm form.entry told → IfOk result (λ r. r ≡ record self { draft = with_line told self.draft }) }
     {
         match form {
             Form::Control { value, count } => self.run(value, count),
             Form::Video(digits) => self.video(digits),
+            Form::Island(sync) => self.open_island(sync),
+            Form::Packet(packet) => self.add_packet(packet),
+            Form::Close(sync) => self.close_island(sync),
             Form::End => match self.end_cause() {
                 Some(cause) => Err(Refusal::Cause(cause)),
                 None => Ok(self),
@@ -133,17 +153,89 @@ impl Reader {
         }
     }
 
+    /// Whether so many columns more are no more than a stream may have.
+    fn has_room(&self, columns: u32) -> bool
+        ensures { result ≡ has_room self.now.draft columns }
+    {
+        columns <= COLUMN_LIMIT - self.columns
+    }
+
+    /// Whether no data island is being told.
+    fn is_closed(&self) -> bool
+        ensures { result ≡ is_closed self.now.draft.opened }
+    {
+        self.island.is_none()
+    }
+
+    /// Whether the data island that is being told has as many packets as it may.
+    fn is_full(&self) -> bool
+        ensures { result ≡ is_nineteenth self.now.draft.opened }
+    {
+        match &self.island {
+            Some(island) => island.len() >= PACKET_LIMIT,
+            None => false,
+        }
+    }
+
+    /// Whether the data island that is being told has a packet.
+    fn has_packet(&self) -> bool
+        ensures { result ≡ has_packets 1 18 self.now.draft.opened }
+    {
+        match &self.island {
+            Some(island) => !island.is_empty(),
+            None => false,
+        }
+    }
+
+    /// Whether a data island is being told.
+    fn is_open(&self) -> bool
+        ensures { result ≡ has_packets 0 18 self.now.draft.opened }
+    {
+        self.island.is_some()
+    }
+
+    /// Whether a control period is being told.
+    fn is_control_last(&self) -> bool
+        ensures { result ≡ is_control_last (last_period self.now.draft.periods) }
+    {
+        !self.runs.as_slice().is_empty()
+    }
+
+    /// Whether it has at least twelve columns.
+    fn is_long_enough(&self) -> bool
+        ensures { result ≡ is_long_enough (last_period self.now.draft.periods) }
+    {
+        self.runs.columns() >= 12
+    }
+
+    /// Whether it ends with the preamble of a data island.
+    fn announces_island(&self) -> bool
+        ensures { result ≡ announces_island (last_period self.now.draft.periods) }
+    {
+        self.runs.announces_island()
+    }
+
+    /// Whether something other than control columns may follow.
+    fn is_turn(&self) -> bool
+        ensures { result ≡ (is_closed self.now.draft.opened && is_control_last (last_period self.now.draft.periods)) }
+    {
+        self.is_closed() && self.is_control_last()
+    }
+
     /// Takes a run of control columns.
     fn run(self, value: u8, count: u64) -> Result<Reader, Refusal>
-        ensures cause { AnswersCause (run_cause self.periods value count) result }
-        ensures ok { IfOk result (λ r. r ≡ record self { periods = with_run self.periods (record { value = value; count = count }) }) }
+        ensures cause { AnswersCause (run_cause self.draft value count) result }
+        ensures ok { IfOk result (λ r. r ≡ record self { draft = with_line (control_line value count) self.draft }) }
     {
         let mut reader = self;
-        if value >= 64 || count == 0 || count > 20_000_000 {
+        if !is_run_in_range(value, count) {
             return Err(Refusal::Cause(ListCause::Range));
         }
+        if !reader.is_closed() {
+            return Err(Refusal::Cause(ListCause::Order));
+        }
         let count = count as u32;
-        if count > 20_000_000 - reader.columns {
+        if !reader.has_room(count) {
             return Err(Refusal::Cause(ListCause::Long));
         }
         reader.runs.push(Run { value, count })?;
@@ -155,18 +247,25 @@ impl Reader {
     fn video(self, digits: &[u8]) -> Result<Reader, Refusal>
         requires pixels { length digits.now % 6 ≡ 0 }
         requires short { length digits.now ≤ 32766 }
-        ensures cause { AnswersCause (line_cause self.periods (video_by true (decode_of digits.now))) result }
-        ensures ok { IfOk result (λ r. r ≡ record self { periods = after_form (video_by true (decode_of digits.now)) self.periods }) }
+        ensures cause { AnswersCause (line_cause self.draft (video_by true (decode_of digits.now))) result }
+        ensures ok { IfOk result (λ r. r ≡ record self { draft = with_line (video_by true (decode_of digits.now)) self.draft }) }
     {
         let Reader {
             alloc,
             items,
             runs,
+            island,
             columns,
             bytes,
             line,
         } = self;
         let pixels = decode_pixels(alloc, digits)?;
+        if !are_pixels_in_range(&pixels) {
+            return Err(Refusal::Cause(ListCause::Range));
+        }
+        if island.is_some() {
+            return Err(Refusal::Cause(ListCause::Order));
+        }
         let added = pixels.len() as u32 + 2;
         let mut items = closed(items, runs)?;
         match items.push(Item::Video(pixels)) {
@@ -174,6 +273,7 @@ impl Reader {
                 alloc,
                 items,
                 runs: Runs::new(alloc),
+                island: None,
                 columns: columns + added,
                 bytes,
                 line,
@@ -182,13 +282,137 @@ impl Reader {
         }
     }
 
+    /// The first cause for which no data island can begin here.
+    fn island_cause(&self, opening: [u8; 2]) -> Option<ListCause>
+        ensures { result ≡ island_cause self.now.draft (slice_index opening 0) (slice_index opening 1) }
+    {
+        if !are_sync_values(&opening) {
+            Some(ListCause::Range)
+        } else if !self.is_turn() {
+            Some(ListCause::Order)
+        } else if !self.is_long_enough() {
+            Some(ListCause::Control)
+        } else if !self.announces_island() {
+            Some(ListCause::Preamble)
+        } else if !self.has_room(2) {
+            Some(ListCause::Long)
+        } else {
+            None
+        }
+    }
+
+    /// Takes the guard that opens a data island.
+    fn open_island(self, opening: [u8; 2]) -> Result<Reader, Refusal>
+        ensures cause { AnswersCause (island_cause self.draft (slice_index opening 0) (slice_index opening 1)) result }
+        ensures ok { IfOk result (λ r. r ≡ record self { draft = with_line (island_line (slice_index opening 0) (slice_index opening 1)) self.draft }) }
+    {
+        let mut reader = self;
+        match reader.island_cause(opening) {
+            Some(cause) => Err(Refusal::Cause(cause)),
+            None => {
+                reader.island = Some(Island::new(reader.alloc, opening, opening));
+                reader.columns += 2;
+                Ok(reader)
+            }
+        }
+    }
+
+    /// Whether the sync values of the packet are in their range, and it is no nineteenth one.
+    fn is_in_range(&self, packet: &Packet) -> bool
+        ensures answer { result ≡ (list_all (λ v. nat_lt v 4) packet.now.sync && not (is_nineteenth self.now.draft.opened)) }
+        ensures packet { result ≡ true → is_packet packet.now ≡ true }
+    {
+        is_packet_in_range(packet) && !self.is_full()
+    }
+
+    /// The first cause for which this packet cannot come here.
+    fn packet_cause(&self, packet: &Packet) -> Option<ListCause>
+        ensures answer { result ≡ packet_cause self.now.draft packet.now }
+        ensures packet { result ≡ None → is_packet packet.now ≡ true }
+    {
+        if !self.is_in_range(packet) {
+            Some(ListCause::Range)
+        } else if !self.is_open() {
+            Some(ListCause::Order)
+        } else if !self.has_room(32) {
+            Some(ListCause::Long)
+        } else {
+            None
+        }
+    }
+
+    /// Takes a packet of the data island that is being told.
+    fn add_packet(self, packet: Packet) -> Result<Reader, Refusal>
+        ensures cause { AnswersCause (packet_cause self.draft packet) result }
+        ensures ok { IfOk result (λ r. r ≡ record self { draft = with_line (packet_line packet) self.draft }) }
+    {
+        let mut reader = self;
+        if let Some(cause) = reader.packet_cause(&packet) {
+            return Err(Refusal::Cause(cause));
+        }
+        match &mut reader.island {
+            Some(island) => island.push(packet)?,
+            None => unreachable!(),
+        }
+        reader.columns += 32;
+        Ok(reader)
+    }
+
+    /// The first cause for which the data island cannot be closed here.
+    fn close_cause(&self, closing: [u8; 2]) -> Option<ListCause>
+        ensures { result ≡ close_cause self.now.draft (slice_index closing 0) (slice_index closing 1) }
+    {
+        if !are_sync_values(&closing) {
+            Some(ListCause::Range)
+        } else if !self.has_packet() {
+            Some(ListCause::Order)
+        } else if !self.has_room(2) {
+            Some(ListCause::Long)
+        } else {
+            None
+        }
+    }
+
+    /// Takes the guard that closes a data island.
+    fn close_island(self, closing: [u8; 2]) -> Result<Reader, Refusal>
+        ensures cause { AnswersCause (close_cause self.draft (slice_index closing 0) (slice_index closing 1)) result }
+        ensures ok { IfOk result (λ r. r ≡ record self { draft = with_line (close_line (slice_index closing 0) (slice_index closing 1)) self.draft }) }
+    {
+        if let Some(cause) = self.close_cause(closing) {
+            return Err(Refusal::Cause(cause));
+        }
+        let Reader {
+            alloc,
+            items,
+            runs,
+            island,
+            columns,
+            bytes,
+            line,
+        } = self;
+        let Some(mut island) = island else {
+            unreachable!()
+        };
+        island.set_closing(closing);
+        let items = with_island(closed(items, runs)?, island)?;
+        Ok(Reader {
+            alloc,
+            items,
+            runs: Runs::new(alloc),
+            island: None,
+            columns: columns + 2,
+            bytes,
+            line,
+        })
+    }
+
     /// The first cause for which the listing cannot end here.
     fn end_cause(&self) -> Option<ListCause>
-        ensures { result ≡ caused (close_fault self.now.periods) }
+        ensures { result ≡ end_cause self.now.draft }
     {
-        if self.runs.as_slice().is_empty() {
+        if !self.is_turn() {
             Some(ListCause::Order)
-        } else if self.runs.columns() < 12 {
+        } else if !self.is_long_enough() {
             Some(ListCause::Control)
         } else {
             None
@@ -197,13 +421,14 @@ impl Reader {
 
     /// The stream of all items.
     pub(crate) fn close(self) -> Result<Stream, NoMemory>
-        requires { close_fault self.periods ≡ None }
-        ensures { IfOk result (λ stream. stream ≡ self.periods) }
+        requires { close_fault self.draft.periods ≡ None }
+        ensures { IfOk result (λ stream. stream ≡ self.draft.periods) }
     {
         let Reader {
             alloc: _,
             items,
             runs,
+            island: _,
             columns: _,
             bytes: _,
             line: _,
@@ -232,6 +457,58 @@ fn closed(items: Items, runs: Runs) -> Result<Items, NoMemory>
         Err(ItemFault::NoMemory) => Err(NoMemory),
         Err(_) => unreachable!(),
     }
+}
+
+/// The items and a data island behind them, which has its place there.
+fn with_island(items: Items, added: Island) -> Result<Items, NoMemory>
+    requires { push_fault items (island added) ≡ None }
+    ensures { IfOk result (λ all. all ≡ items ++ island added ∷ []) }
+{
+    let mut all = items;
+    match all.push(Item::Island(added)) {
+        Ok(()) => Ok(all),
+        Err(ItemFault::NoMemory) => Err(NoMemory),
+        Err(_) => unreachable!(),
+    }
+}
+
+/// Whether a control value and a number of columns are in their ranges.
+fn is_run_in_range(value: u8, count: u64) -> bool
+    ensures { result ≡ (nat_lt value 64 && (nat_le 1 count && nat_le count 20000000)) }
+{
+    value < 64 && (count >= 1 && count <= 20_000_000)
+}
+
+/// Whether two sync values are below 4.
+fn are_sync_values(values: &[u8; 2]) -> bool
+    ensures { result ≡ (nat_lt (slice_index values.now 0) 4 && nat_lt (slice_index values.now 1) 4) }
+{
+    values[0] < 4 && values[1] < 4
+}
+
+/// Whether the sync values of a packet are below 4.
+fn is_packet_in_range(packet: &Packet) -> bool
+    ensures answer { result ≡ list_all (λ v. nat_lt v 4) packet.now.sync }
+    ensures packet { result ≡ is_packet packet.now }
+{
+    are_parts_in_range(&packet.header, &packet.bodies, &packet.sync)
+}
+
+/// Whether sync values are below 4; a header and bodies are bytes whatever they are.
+fn are_parts_in_range(_header: &[u8; 3], _bodies: &[u8; 28], sync: &[u8; 32]) -> bool
+    ensures answer { result ≡ list_all (λ value. nat_lt value 4) sync.now }
+    ensures header { All (λ byte. byte < 256) _header.now }
+    ensures bodies { All (λ byte. byte < 256) _bodies.now }
+{
+    sync.iter().all(|value| *value < 4)
+}
+
+/// Whether a video data period may have so many pixels.
+#[tactic(auto, unfolding(source_end::specs::Refusals::is_in_range))]
+fn are_pixels_in_range(pixels: &Pixels) -> bool
+    ensures { result ≡ is_in_range (video pixels.now) }
+{
+    pixels.len() >= 1 && pixels.len() <= 4096
 }
 
 /// The pixels of hexadecimal digits. A byte that is no digit is a fault of the line's form.

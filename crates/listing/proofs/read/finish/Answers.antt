@@ -10,7 +10,7 @@ pub returns-then-not-is_nothing-clause-answers : goal.returns-then-not-is_nothin
 returns-then-not-is_nothing-clause-answers g c = λ left known.
     let now = c.next.new.self in
     let given = subst (λ (l : Option (List ℕ)). IsNext l (g.S.Source.left c.next.new.source) c.args.lines.now now c.in-Ok.piece) known c.in-Ok.ensures.given in
-    something_follows c.args.reader.line c.args.reader.periods left _ c.args.lines.now now c.in-Ok.piece _ given
+    something_follows c.args.reader.line c.args.reader.draft.periods left _ c.args.lines.now now c.in-Ok.piece _ given
     (λ is. subst (λ (l : List ℕ). 1 ≤ length l) c.line.ensures (c.is_nothing.ensures.no c.if-not-is_nothing.true is))
     (c.bad.ensures ∙ ap (λ (n : ℕ). Bad (record { line = n; cause = After })) c.line-line.ensures)
 
@@ -19,6 +19,6 @@ returns-in-Ok-close-clause-answers g c = λ left known.
     let now = c.next.new.self in
     let nothing = c.is_nothing.ensures.yes c.if-not-is_nothing.false in
     let last = rw nothing.0 at c.in-Ok.ensures.given in
-    nothing_follows c.args.reader.line c.args.reader.periods _ left _ c.args.lines.now now
+    nothing_follows c.args.reader.line c.args.reader.draft.periods _ left _ c.args.lines.now now
     (subst (λ (l : Option (List ℕ)). IsRest l (g.S.Source.left c.next.new.source) c.args.lines.now now) known last)
     (sym c.line.ensures ∙ nothing.1) c.in-Ok-close.ensures

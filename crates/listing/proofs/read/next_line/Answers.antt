@@ -32,7 +32,7 @@ pub pass-requires-clause-more : goal.pass-requires-clause-more
 pass-requires-clause-more g c =
     let now = c.next.new.self in
     let form = subst (λ (l : List ℕ). IsForm c.read_form-form.result (form_of l)) c.line-in-Line.ensures c.read_form-form.ensures.form in
-    let some : 1 ≤ length now.line = taken_some c.args.reader.periods now.line (cause_none _ _ (c.in-Ok-take.ensures.cause (form_of now.line) form)) in
+    let some : 1 ≤ length now.line = taken_some c.args.reader.draft now.line (cause_none _ _ (c.in-Ok-take.ensures.cause (form_of now.line) form)) in
     let kept : c.in-Ok-take.reader.bytes ≡ c.args.reader.bytes = ap (λ (t : Told). t.bytes) (c.in-Ok-take.ensures.ok (form_of now.line) form) in
     let same : length c.line.result.now ≡ length now.line = ap length c.line.ensures in
     omega (arith, c.bytes.ensures.value)
@@ -53,9 +53,9 @@ pub returns-then-is_end-clause-ready : goal.returns-then-is_end-clause-ready
 returns-then-is_end-clause-ready g c =
     let now = c.next.new.self in
     let form = subst (λ (l : List ℕ). IsForm c.read_form-form.result (form_of l)) c.line-in-Line.ensures c.read_form-form.ensures.form in
-    ap (λ (t : Told). close_fault t.periods) (c.pass.ensures)
-    ∙ ap (λ (t : Told). close_fault t.periods) (c.in-Ok-take.ensures.ok (form_of now.line) form)
-    ∙ closes c.args.reader.periods (form_of now.line) (cause_none _ _ (c.in-Ok-take.ensures.cause (form_of now.line) form))
+    ap (λ (t : Told). close_fault t.draft.periods) (c.pass.ensures)
+    ∙ ap (λ (t : Told). close_fault t.draft.periods) (c.in-Ok-take.ensures.ok (form_of now.line) form)
+    ∙ closes c.args.reader.draft (form_of now.line) (cause_none _ _ (c.in-Ok-take.ensures.cause (form_of now.line) form))
     (sym (c.is_end_form-is_end.ensures (form_of now.line) form) ∙ c.if-is_end.true)
 
 pub returns-else-is_end-clause-leaves : goal.returns-else-is_end-clause-leaves
@@ -73,12 +73,12 @@ returns-else-is_end-clause-leaves g c =
 pub returns-in-Last-clause-leaves : goal.returns-in-Last-clause-leaves
 returns-in-Last-clause-leaves g c =
     leaves_last c.args.reader _ _ c.args.lines.now c.next.new.self _ (rw c.in-Last.is at c.in-Ok.ensures.given)
-    (subst (λ (l : List ℕ). Answers (ended_in c.args.reader.line l (cause_at c.args.reader.periods (c.args.reader.bytes + length l) (form_of l))) (Err c.unended.result))
+    (subst (λ (l : List ℕ). Answers (ended_in c.args.reader.line l (cause_at c.args.reader.draft (c.args.reader.bytes + length l) (form_of l))) (Err c.unended.result))
     c.line-in-Last.ensures c.unended.ensures.answers)
 
 pub returns-in-Long-clause-leaves : goal.returns-in-Long-clause-leaves
 returns-in-Long-clause-leaves g c =
-    let periods = c.args.reader.periods in
+    let draft = c.args.reader.draft in
     leaves_long c.args.reader _ _ c.args.lines.now c.next.new.self c.long_cause.result _ (rw c.in-Long.is at c.in-Ok.ensures.given)
-    (subst (λ (l : List ℕ). line_cause periods (form_of l) ≡ Some c.long_cause.result) c.line-in-Long.ensures (c.long_cause.ensures periods))
+    (subst (λ (l : List ℕ). line_cause draft (form_of l) ≡ Some c.long_cause.result) c.line-in-Long.ensures (c.long_cause.ensures draft))
     (c.bad-in-Long.ensures ∙ ap (λ (n : ℕ). Bad (record { line = n; cause = c.long_cause.result })) c.line-line.ensures)

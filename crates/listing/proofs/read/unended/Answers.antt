@@ -9,18 +9,18 @@ pub returns-in-Ok-clause-answers : goal.returns-in-Ok-clause-answers
 returns-in-Ok-clause-answers c =
     let line = c.args.line.now in
     let long : 4294967295 < c.args.reader.bytes + length line = omega (arith, c.if-upto-gt-TEXT_LIMIT.true, c.bytes.ensures.value) in
-    ended_far c.args.reader.line _ c.args.reader.periods line _ (cause_none _ _ (c.in-Ok.ensures.cause (form_of line) c.read_form.ensures.form)) long
+    ended_far c.args.reader.line _ c.args.reader.draft line _ (cause_none _ _ (c.in-Ok.ensures.cause (form_of line) c.read_form.ensures.form)) long
     (c.bad-in-Ok.ensures ∙ ap (λ (n : ℕ). Bad (record { line = n; cause = Long })) c.line-number.ensures)
 
 pub returns-in-Ok-2-clause-answers : goal.returns-in-Ok-2-clause-answers
 returns-in-Ok-2-clause-answers c =
     let line = c.args.line.now in
     let short : c.args.reader.bytes + length line ≤ 4294967295 = omega (arith, c.if-upto-gt-TEXT_LIMIT.false, c.bytes.ensures.value) in
-    ended_short c.args.reader.line _ c.args.reader.periods line _ (cause_none _ _ (c.in-Ok.ensures.cause (form_of line) c.read_form.ensures.form)) short
+    ended_short c.args.reader.line _ c.args.reader.draft line _ (cause_none _ _ (c.in-Ok.ensures.cause (form_of line) c.read_form.ensures.form)) short
     (c.bad-in-Ok-2.ensures ∙ ap (λ (n : ℕ). Bad (record { line = n; cause = Unended })) c.line-number.ensures)
 
 pub returns-clause-answers : goal.returns-clause-answers
 returns-clause-answers c =
     let line = c.args.line.now in
-    ended_wrong _ c.args.reader.line _ c.args.reader.periods line c.in-Err.refusal _ (c.in-Err.ensures.cause (form_of line) c.read_form.ensures.form)
+    ended_wrong _ c.args.reader.line _ c.args.reader.draft line c.in-Err.refusal _ (c.in-Err.ensures.cause (form_of line) c.read_form.ensures.form)
     (some_bytes line (sym c.is_empty.ensures ∙ c.if-is_empty.false)) (rw c.line-number.ensures at c.refused.ensures)

@@ -1,15 +1,17 @@
 use Rattle.std.proofs.Common.{List, ap, arith}
-use Rattle.source_end.specs.Periods.{Period}
+use Rattle.island_pack.specs.Periods.{Period}
 use Rattle.source_end.specs.Refusals.{last_period, is_control_last}
-use Rattle.listing.proofs.OpenPeriods.{none_open, none_in_range}
+use Rattle.listing.proofs.Islands.{none_drafted}
+use Rattle.listing.proofs.OpenPeriods.{none_in_range}
 use Rattle.listing.proofs.reader.Reader.new.Goals as goal
 
 pub invariant_of-result : goal.invariant_of-result
 invariant_of-result c = record {
-  columns = none_open c.new.result c.new-2.result c.new.ensures c.new-2.ensures;
+  columns = none_drafted c.new.result c.new-2.result c.new.ensures c.new-2.ensures;
   few = omega arith;
   turn = ap (λ (ps : List Period). is_control_last (last_period ps)) c.new.ensures;
   in_range = none_in_range c.new-2.result c.new-2.ensures;
+  begun = tt;
   short = omega arith;
   first = omega arith;
   lines = omega arith;

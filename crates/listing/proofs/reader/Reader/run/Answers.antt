@@ -1,45 +1,53 @@
 use Rattle.std.proofs.Common.{◌≡◌, ◌+◌, ◌++◌, ◌∷◌, [], ap, sym, ◌∙◌, List, arith}
-use Rattle.source_end.specs.Periods.{ControlRun, columns_of, control}
+use Rattle.island_pack.specs.Periods.{ControlRun, control}
 use Rattle.source_end.specs.Refusals.{is_in_range}
-use Rattle.listing.specs.Told.{Told, with_open}
-use Rattle.listing.specs.Causes.{run_cause, with_run}
-use Rattle.listing.specs.declared.fault.ListCause.TheVariants.{Range, Long}
+use Rattle.listing.specs.Told.{Told, drafted}
+use Rattle.listing.specs.Causes.{run_cause}
+use Rattle.listing.specs.Drafts.{Draft, draft_columns, with_line}
+use Rattle.listing.specs.Forms.{control_line}
+use Rattle.listing.specs.declared.fault.ListCause.TheVariants.{Range, Order, Long}
 use Rattle.listing.specs.declared.reader.Reader.{Reader}
-use Rattle.listing.proofs.OpenPeriods.{run_more, columns_run, in_range_more}
-use Rattle.listing.proofs.Refused.{run_value, run_none, run_many, run_long, run_fits, answers_cause, answers_ok, answers_residual}
+use Rattle.listing.proofs.OpenPeriods.{in_range_more}
+use Rattle.listing.proofs.Islands.{run_drafted, run_columns, room_is, stays_closed, is_closed_at}
+use Rattle.listing.proofs.Refused.{run_range, run_order, run_long, run_fits, answers_cause, answers_ok}
 use Rattle.listing.proofs.reader.Reader.run.Goals as goal
-use Rattle.listing.proofs.reader.Reader.run.Goals.{then-value-ge64-via-then-value-ge64, then-value-ge64-via-else-value-ge64+then-count-eq0, then-value-ge64-via-else-value-ge64+else-count-eq0+then-count-gt20000000}
 
-pub returns-then-value-ge64-clause-cause : goal.returns-then-value-ge64-clause-cause
-returns-then-value-ge64-clause-cause c =
-    let ps = c.args.self.periods in
+pub returns-then-not-is_run_in_range-clause-cause : goal.returns-then-not-is_run_in_range-clause-cause
+returns-then-not-is_run_in_range-clause-cause c =
+    let draft = c.args.self.draft in
     let v = c.args.value in
     let n = c.args.count in
-    elim c.then-value-ge64.branch [
-      | then-value-ge64-via-then-value-ge64 w ↦ answers_cause Reader (run_cause ps v n) Range (run_value ps v n (omega arith))
-      | then-value-ge64-via-else-value-ge64+then-count-eq0 w ↦ answers_cause Reader (run_cause ps v n) Range (run_none ps v n (omega arith))
-      | then-value-ge64-via-else-value-ge64+else-count-eq0+then-count-gt20000000 w ↦ answers_cause Reader (run_cause ps v n) Range (run_many ps v n (omega arith))
-    ]
+    answers_cause Reader (run_cause draft v n) Range (run_range draft v n (sym c.is_run_in_range.ensures ∙ c.if-not-is_run_in_range.true))
 
-pub returns-then-count-reader-clause-cause : goal.returns-then-count-reader-clause-cause
-returns-then-count-reader-clause-cause c =
-    let ps = c.args.self.periods in
-    let same : c.reader.inside.columns ≡ columns_of ps = c.reader.invariant.columns ∙ ap (λ (t : Told). columns_of t.periods) c.reader.view_is in
-    answers_cause Reader (run_cause ps c.args.value c.args.count) Long (run_long ps c.args.value c.args.count (omega arith) (omega arith) (omega arith) (omega arith))
+pub returns-then-not-is_closed-clause-cause : goal.returns-then-not-is_closed-clause-cause
+returns-then-not-is_closed-clause-cause c =
+    let draft = c.args.self.draft in
+    let v = c.args.value in
+    let n = c.args.count in
+    answers_cause Reader (run_cause draft v n) Order (run_order draft v n (sym c.is_run_in_range.ensures ∙ c.if-not-is_run_in_range.false) (sym c.is_closed.ensures ∙ c.if-not-is_closed.true))
 
-pub returns-in_err-push-clause-cause : goal.returns-in_err-push-clause-cause
-returns-in_err-push-clause-cause c = answers_residual Reader (run_cause c.args.self.periods c.args.value c.args.count) c.from_residual.result c.from_residual.ensures.1
+pub returns-then-not-has_room-clause-cause : goal.returns-then-not-has_room-clause-cause
+returns-then-not-has_room-clause-cause c =
+    let draft = c.args.self.draft in
+    let v = c.args.value in
+    let n = c.args.count in
+    answers_cause Reader (run_cause draft v n) Long
+    (run_long draft v n (sym c.is_run_in_range.ensures ∙ c.if-not-is_run_in_range.false) (sym c.is_closed.ensures ∙ c.if-not-is_closed.false) (sym c.has_room.ensures ∙ c.if-not-has_room.true))
 
 pub invariant_of-reader : goal.invariant_of-reader
 invariant_of-reader c =
     let r = c.reader.inside in
     let one : ControlRun = record { value = c.args.value; count = c.args.count } in
     let grown : c.push.new.self ≡ r.runs ++ one ∷ [] = c.in_ok-push.ensures.ok in
+    let few = room_is c.args.self.draft c.args.count (sym c.has_room.ensures ∙ c.if-not-has_room.false) in
+    let same : draft_columns (drafted r.items r.runs r.island) ≡ draft_columns c.args.self.draft = ap (λ (t : Told). draft_columns t.draft) c.reader.view_is in
+    let columns : r.columns ≡ draft_columns (drafted r.items r.runs r.island) = c.reader.invariant.columns in
     record {
-      columns = ap (λ n. n + c.args.count) c.reader.invariant.columns ∙ sym (columns_run r.items r.runs one) ∙ ap (λ (rs : List ControlRun). columns_of (with_open r.items rs)) (sym grown);
+      columns = ap (λ n. n + c.args.count) columns ∙ sym (run_columns r.items r.runs one r.island) ∙ ap (λ (rs : List ControlRun). draft_columns (drafted r.items rs r.island)) (sym grown);
       few = omega arith;
       turn = c.reader.invariant.turn;
-      in_range = ap (λ (rs : List ControlRun). is_in_range (control rs)) grown ∙ in_range_more r.runs one c.reader.invariant.in_range (omega arith) (omega arith) (omega arith);
+      in_range = ap (λ (rs : List ControlRun). is_in_range (control rs)) grown ∙ in_range_more r.runs one c.reader.invariant.in_range (sym c.is_run_in_range.ensures ∙ c.if-not-is_run_in_range.false);
+      begun = stays_closed c.push.new.self r.island (is_closed_at r.items r.runs r.island c.args.self.draft (ap (λ (t : Told). t.draft) c.reader.view_is) (sym c.is_closed.ensures ∙ c.if-not-is_closed.false));
       short = c.reader.invariant.short;
       first = c.reader.invariant.first;
       lines = c.reader.invariant.lines;
@@ -47,15 +55,16 @@ invariant_of-reader c =
 
 pub returns-clause-cause : goal.returns-clause-cause
 returns-clause-cause c =
-    let ps = c.args.self.periods in
-    let same : c.reader.inside.columns ≡ columns_of ps = c.reader.invariant.columns ∙ ap (λ (t : Told). columns_of t.periods) c.reader.view_is in
-    answers_ok {T = Reader} _ (run_cause ps c.args.value c.args.count) (run_fits ps c.args.value c.args.count (omega arith) (omega arith) (omega arith) (omega arith))
+    let draft = c.args.self.draft in
+    answers_ok {T = Reader} _ (run_cause draft c.args.value c.args.count)
+    (run_fits draft c.args.value c.args.count (sym c.is_run_in_range.ensures ∙ c.if-not-is_run_in_range.false) (sym c.is_closed.ensures ∙ c.if-not-is_closed.false) (sym c.has_room.ensures ∙ c.if-not-has_room.false))
 
 pub returns-clause-ok : goal.returns-clause-ok
 returns-clause-ok c =
     let r = c.reader.inside in
     let one : ControlRun = record { value = c.args.value; count = c.args.count } in
     let grown : c.push.new.self ≡ r.runs ++ one ∷ [] = c.in_ok-push.ensures.ok in
-    let same : with_open r.items c.push.new.self ≡ with_run c.args.self.periods one =
-    ap (λ (rs : List ControlRun). with_open r.items rs) grown ∙ sym (run_more r.items r.runs one c.reader.invariant.turn) ∙ ap (λ (t : Told). with_run t.periods one) c.reader.view_is in
-    λ i. record { periods = same i; bytes = (ap (λ (t : Told). t.bytes) c.reader.view_is) i; line = (ap (λ (t : Told). t.line) c.reader.view_is) i }
+    let told : Told → Told = λ t. record t { draft = with_line (control_line c.args.value c.args.count) t.draft } in
+    let same : drafted r.items c.push.new.self r.island ≡ with_line (control_line c.args.value c.args.count) (drafted r.items r.runs r.island) =
+    ap (λ (rs : List ControlRun). drafted r.items rs r.island) grown ∙ run_drafted r.items r.runs one r.island c.reader.invariant.turn in
+    ap (λ (d : Draft). record { draft = d; bytes = r.bytes; line = r.line }) same ∙ ap told c.reader.view_is

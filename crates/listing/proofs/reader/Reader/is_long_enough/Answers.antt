@@ -1,0 +1,11 @@
+use Rattle.std.proofs.Common.{ap, ◌∙◌}
+use Rattle.source_end.specs.Refusals.{last_period, is_long_enough}
+use Rattle.listing.specs.Told.{Told}
+use Rattle.listing.proofs.OpenPeriods.{long_enough}
+use Rattle.listing.proofs.reader.Reader.is_long_enough.Goals as goal
+
+pub returns : goal.returns
+returns c =
+    let r = c.self.inside in
+    long_enough r.items r.runs c.columns.result c.self.invariant.turn c.columns.ensures
+    ∙ ap (λ (t : Told). is_long_enough (last_period t.draft.periods)) c.self.view_is
