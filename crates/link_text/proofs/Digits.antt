@@ -32,7 +32,7 @@ all-snoc : (p : ℕ → Bool) (xs : List ℕ) (d : ℕ) → list_all p xs ≡ tr
 all-snoc p [] d h k = both (p d) true k refl
 all-snoc p (x ∷ xs) d h k = both (p x) _ (and-left (p x) (list_all p xs) h) (all-snoc p xs d (and-right (p x) (list_all p xs) h) k)
 
-digit : (n : ℕ) → n < 10 → is_digit (48 + n) ≡ true
+pub digit : (n : ℕ) → n < 10 → is_digit (48 + n) ≡ true
 digit n small = grind arith
 
 -- what each digit passes, the digits of a number pass
@@ -41,7 +41,7 @@ decimal_pass p h = decimal_by_steps (λ n ds. list_all p ds ≡ true)
     (λ n small. both (p (48 + n)) true (h n small) refl)
     (λ n ds large all. all-snoc p ds (48 + n % 10) all (h (n % 10) (omega arith)))
 
-no_feed : (n : ℕ) → n < 10 → not (48 + n == 10) ≡ true
+pub no_feed : (n : ℕ) → n < 10 → not (48 + n == 10) ≡ true
 no_feed n small = grind arith
 
 pub decimal_feedless : (n : ℕ) → n < 2 ^ 64 → is_feedless (decimal n) ≡ true

@@ -1,15 +1,17 @@
 -- The lines that are written: they have no line feed, and the reader sees their forms.
-use Rattle.std.proofs.Common.{◌≡◌, ℕ, zero, suc, ◌+◌, ◌*◌, ◌/◌, ◌%◌, ◌^◌, ◌<◌, ◌≤◌, true, false, List, [], ◌∷◌, ◌++◌, length, refl, ap, arith, append_assoc}
+use Rattle.std.proofs.Common.{◌≡◌, ℕ, zero, suc, ◌+◌, ◌*◌, ◌/◌, ◌%◌, ◌^◌, ◌<◌, ◌≤◌, true, false, List, [], ◌∷◌, ◌++◌, length, refl, ap, ◌∙◌, arith, append_assoc}
 use Rattle.std.specs.Prelude.{Ok, slice_index, nat_lt}
 use Rattle.std.specs.Fmt.{decimal}
 use Rattle.std.proofs.lemmas.Fmt.{length-decimal-le}
 use Rattle.hex.specs.Hex.{IsBytes, encode_lower, encode_with, lower_digits, decode_of}
 use Rattle.hex.proofs.HexLemmas.{decode_of-encode_lower, length-encode_with}
-use Rattle.source_end.specs.Periods.{ControlRun, video}
+use Rattle.island_pack.specs.Periods.{ControlRun}
+use Rattle.period_grammar.specs.Things.{Thing, run as run_thing, line as line_thing}
 use Rattle.listing.specs.Forms.{control_line, video_line, end_line, form_of, is_fault, control_form, video_form}
 use Rattle.listing.specs.Held.{is_feedless}
 use Rattle.listing.proofs.Feeds.{both}
-use Rattle.link_text.specs.Text.{run_line, period_lines}
+use Rattle.listing.specs.Texts.{words_of}
+use Rattle.link_text.specs.Text.{line_of}
 use Rattle.link_text.proofs.Digits.{number_of-decimal, decimal_feedless, digit_feedless, encode_feedless}
 
 not_long : (n : ℕ) → n ≤ 32768 → nat_lt 32768 n ≡ false
@@ -17,14 +19,16 @@ not_long n short = grind arith
 
 -- ---- the line of a run
 
+-- a line as it stands before what follows it
+pub line_is : (t : Thing) (body rest : List ℕ) → words_of t ≡ body → line_of t ++ rest ≡ body ++ 10 ∷ rest
+line_is t body rest e = append_assoc (words_of t) (10 ∷ []) rest ∙ ap (λ (words : List ℕ). words ++ 10 ∷ rest) e
+
 abbrev pub run_body : ControlRun → List ℕ
 run_body r = 99 ∷ 32 ∷ slice_index lower_digits (r.value / 16) ∷ slice_index lower_digits (r.value % 16) ∷ 32 ∷ decimal r.count
 
-pub run_line_is : (r : ControlRun) (rest : List ℕ) → run_line r ++ rest ≡ run_body r ++ 10 ∷ rest
-unfolding run_line encode_with
-run_line_is r rest =
-    ap (λ (xs : List ℕ). 99 ∷ 32 ∷ slice_index lower_digits (r.value / 16) ∷ slice_index lower_digits (r.value % 16) ∷ 32 ∷ xs)
-    (append_assoc (decimal r.count) (10 ∷ []) rest)
+pub run_words : (r : ControlRun) → words_of (run_thing r.value r.count) ≡ run_body r
+unfolding words_of encode_with
+run_words r = refl
 
 one_byte : (value : ℕ) → value < 64 → IsBytes (value ∷ [])
 one_byte value below zero = omega arith
@@ -60,9 +64,9 @@ run_feedless r few =
 abbrev pub video_body : List ℕ → List ℕ
 video_body bytes = 118 ∷ 32 ∷ encode_lower bytes
 
-pub video_lines_are : (bytes rest : List ℕ) → period_lines (video bytes) ++ rest ≡ video_body bytes ++ 10 ∷ rest
-unfolding period_lines
-video_lines_are bytes rest = ap (λ (xs : List ℕ). 118 ∷ 32 ∷ xs) (append_assoc (encode_lower bytes) (10 ∷ []) rest)
+pub video_words : (bytes : List ℕ) → words_of (line_thing bytes) ≡ video_body bytes
+unfolding words_of
+video_words bytes = refl
 
 pub video_body_length : (bytes : List ℕ) → length (video_body bytes) ≡ 2 + 2 * length bytes
 video_body_length bytes = let digits = length-encode_with lower_digits bytes in omega arith

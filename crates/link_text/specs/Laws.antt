@@ -1,7 +1,7 @@
 -- What follows from the definitions.
 use Rattle.std.specs.Prelude.{◌≡◌, ◌≤◌, List}
-use Rattle.source_end.specs.Periods.{Period, columns_of}
-use Rattle.source_end.specs.Conforming.{IsConforming}
+use Rattle.island_pack.specs.Periods.{Period, columns_of}
+use Rattle.island_pack.specs.Conforming.{IsConforming}
 use Rattle.listing.specs.Reading.{reads_as, accepted}
 use Rattle.link_text.specs.Text.{text_of}
 

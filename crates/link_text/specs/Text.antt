@@ -1,21 +1,33 @@
 -- The text that tells periods as a link listing (docs/FORMATS.md).
 use Rattle.std.specs.Prelude.{ℕ, List, [], ◌∷◌, ◌++◌, codes}
-use Rattle.std.specs.Fmt.{decimal}
-use Rattle.hex.specs.Hex.{encode_lower}
-use Rattle.source_end.specs.Periods.{ControlRun, Period, control, video}
+use Rattle.island_pack.specs.Periods.{ControlRun, Period, control, video, island}
+use Rattle.island_pack.specs.declared.packet.Packet.{Packet}
+use Rattle.period_grammar.specs.Things.{Thing, run, line, open_island, packet, close_island}
+use Rattle.listing.specs.Texts.{words_of}
 
--- `c HH N`
-unfoldable pub run_line : ControlRun → List ℕ
-run_line r = codes "c " ++ encode_lower (r.value ∷ []) ++ codes " " ++ decimal r.count ++ codes "\n"
+-- the line of a thing
+abbrev pub line_of : Thing → List ℕ
+line_of t = words_of t ++ codes "\n"
+
+-- a packet as a thing: its line has neither its verdicts nor its column
+abbrev pub told_packet : Packet → Thing
+told_packet p = packet p (record { blocks = []; symbols = 0 }) 0
 
 unfoldable pub run_lines : List ControlRun → List ℕ
 run_lines [] = []
-run_lines (r ∷ rs) = run_line r ++ run_lines rs
+run_lines (r ∷ rs) = line_of (run r.value r.count) ++ run_lines rs
 
--- a control period is a line for each run, a video data period is one line `v X`
+unfoldable pub packet_lines : List Packet → List ℕ
+packet_lines [] = []
+packet_lines (p ∷ ps) = line_of (told_packet p) ++ packet_lines ps
+
+-- a control period is a line for each run, a video data period is one line `v X`, and a data island is a line `i AB`, a line
+-- for each packet and a line `e AB`
 unfoldable pub period_lines : Period → List ℕ
 period_lines (control runs) = run_lines runs
-period_lines (video bytes) = codes "v " ++ encode_lower bytes ++ codes "\n"
+period_lines (video bytes) = line_of (line bytes)
+period_lines (island x) =
+    line_of (open_island x.opening.first x.opening.second) ++ packet_lines x.packets ++ line_of (close_island x.closing.first x.closing.second)
 
 -- the lines of the periods one after another, and then `end`
 unfoldable pub text_of : List Period → List ℕ

@@ -1,5 +1,5 @@
 use Rattle.std.proofs.Common.{arith, refl, []}
-use Rattle.source_end.specs.Periods.{columns_of}
+use Rattle.island_pack.specs.Periods.{columns_of}
 use Rattle.listing.specs.Reading.{reads_as}
 use Rattle.link_text.specs.Laws.{ReadsBack}
 use Rattle.link_text.proofs.Periods.{read_periods}
