@@ -1,162 +1,245 @@
 -- What each clause of a run says, from how the run ended.
-use Rattle.std.proofs.Common.{◌≡◌, ◌≢◌, ◌⊎◌, ℕ, ◌<◌, List, [], ◌∷◌, length, take, refl, ap, sym, ◌∙◌, subst, inl, inr, arith}
-use Rattle.std.specs.Prelude.{Option, Some, ◌↔◌, Contains}
+use Rattle.std.proofs.Common.{◌≡◌, ◌⊎◌, ℕ, zero, suc, ◌<◌, Bool, true, false, not, ◌==◌, ◌&&◌, List, [], ◌∷◌, length, take, refl, ap, sym, ◌∙◌, subst, inl, inr, arith, eq-eqb}
+use Rattle.std.specs.Prelude.{Some, ◌↔◌, Contains}
+use Rattle.std.specs.List.{list_all}
 use Rattle.std.specs.Io.KnownBytes.{Appends, IsAtEnd, Keeps}
 use Rattle.outside_io.specs.Causes.{Rose}
-use Rattle.listing.specs.Reading.{refused, reads_as}
-use Rattle.hdmi_cli.specs.Commands.{make_link}
-use Rattle.hdmi_cli.specs.Notes.{listing_note, usage_note, read_note, write_note, memory_note}
-use Rattle.hdmi_cli.specs.Outcome.{Outcome, IsOutcome, MakesLink}
-use Rattle.hdmi_cli.specs.Endings.{Devices, IsMade, RunEnds, status_of, note_of}
+use Rattle.hdmi_cli.specs.Commands.{IsCommand}
+use Rattle.hdmi_cli.specs.Notes.{usage_note}
+use Rattle.hdmi_cli.specs.Outcome.{Outcome, IsOutcome, NamesNone}
+use Rattle.hdmi_cli.specs.Endings.{Devices, Answers, Ends, RunEnds, status_of, note_of}
 use Rattle.hdmi_cli.specs.Runs.{IsNoteOf}
+use Rattle.hdmi_cli.specs.declared.command.Command.{Command}
 use Rattle.hdmi_cli.specs.declared.ending.Ending.{Ending}
-use Rattle.hdmi_cli.specs.declared.ending.Ending.TheVariants.{Done, Usage, Listing, ReadFailed, WriteFailed, NoMemory}
+use Rattle.hdmi_cli.specs.declared.ending.Ending.TheVariants.{Done, Faulty, Usage, Listing, Capture, Place, ReadFailed, WriteFailed, NoMemory, Unaligned}
 
-pub status_is : (e : Ending) (r : ℕ) → r ≡ status_of e → Contains (0 ∷ 2 ∷ 3 ∷ 4 ∷ 5 ∷ 6 ∷ []) r
-status_is Done r is = (0, omega arith, sym is)
-status_is Usage r is = (1, omega arith, sym is)
-status_is (Listing fault) r is = (2, omega arith, sym is)
-status_is ReadFailed r is = (3, omega arith, sym is)
-status_is WriteFailed r is = (4, omega arith, sym is)
-status_is NoMemory r is = (5, omega arith, sym is)
+-- all that a run says of its status and its note
+pub record Says (words : List (List ℕ)) (before after : Devices) (status : ℕ) (note : List ℕ) : Type 0 where
+  pub known : Contains (0 ∷ 1 ∷ 2 ∷ 3 ∷ 4 ∷ 5 ∷ 6 ∷ 7 ∷ []) status
+  pub outcome :
+      (text : List ℕ) → before.left ≡ Some text
+      → Rose before.input_faults after.input_faults ⊎ Rose before.output_faults after.output_faults ⊎ (status ≡ 6)
+      ⊎ ((o : Outcome) × IsOutcome words text o × (status ≡ o.status))
+  pub usage : (status ≡ 2) ↔ NamesNone words
+  pub done :
+      Contains (0 ∷ 1 ∷ 3 ∷ 7 ∷ []) status → (text : List ℕ) → before.left ≡ Some text
+      → (o : Outcome) × IsOutcome words text o × (o.status ≡ status) × Appends before.held after.held o.output
+  pub read_failed : status ≡ 4 → Rose before.input_faults after.input_faults
+  pub write_failed : status ≡ 5 → Rose before.output_faults after.output_faults
+  pub ended : Contains (0 ∷ 1 ∷ 7 ∷ []) status → IsAtEnd after.left
+  pub unread : status ≡ 2 → Keeps before.left after.left
+  pub unwritten : Contains (2 ∷ 3 ∷ 4 ∷ 6 ∷ 7 ∷ []) status → Keeps before.held after.held
+  pub part :
+      status ≡ 5 → (text : List ℕ) → before.left ≡ Some text
+      → (o : Outcome) × (gone : ℕ) × IsOutcome words text o × Contains (0 ∷ 1 ∷ []) o.status × (gone < length o.output)
+      × Appends before.held after.held (take gone o.output)
+  pub noted : IsNoteOf words before.left status note
 
-not_two : (words : List (List ℕ)) (r s : ℕ) → words ≡ make_link → r ≡ s → s ≢ 2 → (r ≡ 2) ↔ (words ≢ make_link)
-not_two words r s made is other = (λ two. absurd (other (sym is ∙ two)), λ none. absurd (none made))
+clash : (b c : Bool) → (not b && c) ≡ true → b ≡ true → ⊥
+clash true c h e = cc
+clash false c h e = cc
 
-pub usage_is : (words : List (List ℕ)) (e : Ending) (before after : Devices) (r : ℕ) → RunEnds words e before after → r ≡ status_of e → (r ≡ 2) ↔ (words ≢ make_link)
-usage_is words Done before after r ends is = not_two words r 0 ends.0 is (λ h. omega arith)
-usage_is words Usage before after r ends is = (λ two. ends.0, λ none. is)
-usage_is words (Listing fault) before after r ends is = not_two words r 3 ends.0 is (λ h. omega arith)
-usage_is words ReadFailed before after r ends is = not_two words r 4 ends.0 is (λ h. omega arith)
-usage_is words WriteFailed before after r ends is = not_two words r 5 ends.0 is (λ h. omega arith)
-usage_is words NoMemory before after r ends is = not_two words r 6 ends.0 is (λ h. omega arith)
+not_both : (b : Bool) → b ≡ true → b ≡ false → ⊥
+not_both true h e = cc
+not_both false h e = cc
 
--- the outcome of a listing that was made, and of one that was refused
-made_outcome : (words : List (List ℕ)) (text capture : List ℕ) → words ≡ make_link → IsMade text capture → IsOutcome words text (record { status = 0; output = capture; note = [] })
-made_outcome words text capture made is =
-    inl (
-      made,
-      subst (λ reading. MakesLink reading (record { status = 0; output = capture; note = [] })) (sym is.read)
-          (is.columns, is.spelled, ap (λ bytes. record { status = 0; output = bytes; note = [] }) is.capture_is),
-    )
+second : (b c : Bool) → (b && c) ≡ true → c ≡ true
+second true c h = h
+second false c h = cc
 
-refused_outcome : (words : List (List ℕ)) (text : List ℕ) (line : ℕ) (cause : Rattle.listing.specs.declared.fault.ListCause.ListCause) → words ≡ make_link → reads_as text ≡ refused line cause
-    → IsOutcome words text (record { status = 3; output = []; note = listing_note line cause })
-refused_outcome words text line cause made read =
-    inl (made, subst (λ reading. MakesLink reading (record { status = 3; output = []; note = listing_note line cause })) (sym read) refl)
-
-pub refused_is : (words : List (List ℕ)) (e : Ending) (before after : Devices) (r : ℕ) → RunEnds words e before after → r ≡ status_of e → r ≡ 3
-    → (text : List ℕ) → before.left ≡ Some text → (o : Outcome) × IsOutcome words text o × (o.status ≡ 3)
-refused_is words Done before after r ends is three text told = absurd (omega arith)
-refused_is words Usage before after r ends is three text told = absurd (omega arith)
-refused_is words (Listing fault) before after r ends is three text told =
-    (record { status = 3; output = []; note = listing_note fault.line fault.cause }, refused_outcome words text fault.line fault.cause ends.0 (ends.1.1 text told), refl)
-refused_is words ReadFailed before after r ends is three text told = absurd (omega arith)
-refused_is words WriteFailed before after r ends is three text told = absurd (omega arith)
-refused_is words NoMemory before after r ends is three text told = absurd (omega arith)
-
-pub outcome_is : (words : List (List ℕ)) (e : Ending) (before after : Devices) (r : ℕ) → RunEnds words e before after → r ≡ status_of e
+-- what an ending with an outcome says
+answered : (words : List (List ℕ)) (command : Command) (e : Ending) (before after : Devices) → IsCommand words command → Answers command e before after
     → (text : List ℕ) → before.left ≡ Some text
-    → Rose before.input_faults after.input_faults ⊎ Rose before.output_faults after.output_faults ⊎ (r ≡ 6) ⊎ ((o : Outcome) × IsOutcome words text o × (r ≡ o.status))
-outcome_is words Done before after r ends is text told =
-    let done = ends.1.1 text told in
-    inr (inr (inr (record { status = 0; output = done.0; note = [] }, made_outcome words text done.0 ends.0 done.1, is)))
-outcome_is words Usage before after r ends is text told = inr (inr (inr (record { status = 2; output = []; note = usage_note }, inr (ends.0, refl), is)))
-outcome_is words (Listing fault) before after r ends is text told =
-    inr (inr (inr (record { status = 3; output = []; note = listing_note fault.line fault.cause }, refused_outcome words text fault.line fault.cause ends.0 (ends.1.1 text told), is)))
-outcome_is words ReadFailed before after r ends is text told = inl ends.1.1
-outcome_is words WriteFailed before after r ends is text told = inr (inl ends.1.0)
-outcome_is words NoMemory before after r ends is text told = inr (inr (inl is))
+    → (o : Outcome) × IsOutcome words text o × (o.status ≡ status_of e) × (o.note ≡ note_of e) × Appends before.held after.held o.output
+answered words command e before after named answers text told =
+    let a = answers text told in
+    (a.outcome, inl (command, named, a.does), a.status, a.note, a.written)
 
-pub done_is : (words : List (List ℕ)) (e : Ending) (before after : Devices) (r : ℕ) → RunEnds words e before after → r ≡ status_of e → r ≡ 0
-    → (text : List ℕ) → before.left ≡ Some text → (o : Outcome) × IsOutcome words text o × (o.status ≡ 0) × Appends before.held after.held o.output
-done_is words Done before after r ends is zero' text told =
-    let done = ends.1.1 text told in
-    (record { status = 0; output = done.0; note = [] }, made_outcome words text done.0 ends.0 done.1, refl, done.2)
-done_is words Usage before after r ends is zero' text told = absurd (omega arith)
-done_is words (Listing fault) before after r ends is zero' text told = absurd (omega arith)
-done_is words ReadFailed before after r ends is zero' text told = absurd (omega arith)
-done_is words WriteFailed before after r ends is zero' text told = absurd (omega arith)
-done_is words NoMemory before after r ends is zero' text told = absurd (omega arith)
-
-pub ended_is : (words : List (List ℕ)) (e : Ending) (before after : Devices) (r : ℕ) → RunEnds words e before after → r ≡ status_of e → r ≡ 0 → IsAtEnd after.left
-ended_is words Done before after r ends is none = ends.1.0
-ended_is words Usage before after r ends is none = absurd (omega arith)
-ended_is words (Listing fault) before after r ends is none = absurd (omega arith)
-ended_is words ReadFailed before after r ends is none = absurd (omega arith)
-ended_is words WriteFailed before after r ends is none = absurd (omega arith)
-ended_is words NoMemory before after r ends is none = absurd (omega arith)
-
-pub read_is : (words : List (List ℕ)) (e : Ending) (before after : Devices) (r : ℕ) → RunEnds words e before after → r ≡ status_of e → r ≡ 4 → Rose before.input_faults after.input_faults
-read_is words Done before after r ends is four = absurd (omega arith)
-read_is words Usage before after r ends is four = absurd (omega arith)
-read_is words (Listing fault) before after r ends is four = absurd (omega arith)
-read_is words ReadFailed before after r ends is four = ends.1.1
-read_is words WriteFailed before after r ends is four = absurd (omega arith)
-read_is words NoMemory before after r ends is four = absurd (omega arith)
-
-pub write_is : (words : List (List ℕ)) (e : Ending) (before after : Devices) (r : ℕ) → RunEnds words e before after → r ≡ status_of e → r ≡ 5 → Rose before.output_faults after.output_faults
-write_is words Done before after r ends is five = absurd (omega arith)
-write_is words Usage before after r ends is five = absurd (omega arith)
-write_is words (Listing fault) before after r ends is five = absurd (omega arith)
-write_is words ReadFailed before after r ends is five = absurd (omega arith)
-write_is words WriteFailed before after r ends is five = ends.1.0
-write_is words NoMemory before after r ends is five = absurd (omega arith)
-
-pub unwritten_is : (words : List (List ℕ)) (e : Ending) (before after : Devices) (r : ℕ) → RunEnds words e before after → r ≡ status_of e → r ≢ 0 → r ≢ 5 → Keeps before.held after.held
-unwritten_is words Done before after r ends is some other = absurd (some is)
-unwritten_is words Usage before after r ends is some other = ends.2
-unwritten_is words (Listing fault) before after r ends is some other = ends.1.0
-unwritten_is words ReadFailed before after r ends is some other = ends.1.0
-unwritten_is words WriteFailed before after r ends is some other = absurd (other is)
-unwritten_is words NoMemory before after r ends is some other = ends.1
-
-pub part_is : (words : List (List ℕ)) (e : Ending) (before after : Devices) (r : ℕ) → RunEnds words e before after → r ≡ status_of e → r ≡ 5
+known_at : (words : List (List ℕ)) (command : Command) (e : Ending) (before after : Devices) → IsCommand words command → Answers command e before after
     → (text : List ℕ) → before.left ≡ Some text
-    → (o : Outcome) × (gone : ℕ) × IsOutcome words text o × (o.status ≡ 0) × (gone < length o.output) × Appends before.held after.held (take gone o.output)
-part_is words Done before after r ends is five text told = absurd (omega arith)
-part_is words Usage before after r ends is five text told = absurd (omega arith)
-part_is words (Listing fault) before after r ends is five text told = absurd (omega arith)
-part_is words ReadFailed before after r ends is five text told = absurd (omega arith)
-part_is words WriteFailed before after r ends is five text told =
-    let part = ends.1.1 text told in
-    (record { status = 0; output = part.0; note = [] }, part.1, made_outcome words text part.0 ends.0 part.2, refl, part.3, part.4)
-part_is words NoMemory before after r ends is five text told = absurd (omega arith)
+    → Rose before.input_faults after.input_faults ⊎ Rose before.output_faults after.output_faults ⊎ (status_of e ≡ 6)
+    ⊎ ((o : Outcome) × IsOutcome words text o × (status_of e ≡ o.status))
+known_at words command e before after named answers text told =
+    let a = answered words command e before after named answers text told in
+    inr (inr (inr (a.0, a.1, sym a.2)))
 
-pub unread_is : (words : List (List ℕ)) (e : Ending) (before after : Devices) (r : ℕ) → RunEnds words e before after → r ≡ status_of e → r ≡ 2 → Keeps before.left after.left
-unread_is words Done before after r ends is two = absurd (omega arith)
-unread_is words Usage before after r ends is two = ends.1
-unread_is words (Listing fault) before after r ends is two = absurd (omega arith)
-unread_is words ReadFailed before after r ends is two = absurd (omega arith)
-unread_is words WriteFailed before after r ends is two = absurd (omega arith)
-unread_is words NoMemory before after r ends is two = absurd (omega arith)
+written_at : (words : List (List ℕ)) (command : Command) (e : Ending) (before after : Devices) → IsCommand words command → Answers command e before after
+    → (text : List ℕ) → before.left ≡ Some text
+    → (o : Outcome) × IsOutcome words text o × (o.status ≡ status_of e) × Appends before.held after.held o.output
+written_at words command e before after named answers text told =
+    let a = answered words command e before after named answers text told in
+    (a.0, a.1, a.2, a.4)
 
--- the note is that of the status
-note_at : (words : List (List ℕ)) (left : Option (List ℕ)) (s : ℕ) (note : List ℕ)
-    → (s ≡ 0 → note ≡ []) → (s ≡ 2 → note ≡ usage_note) → (s ≡ 3 → (text : List ℕ) → left ≡ Some text → (o : Outcome) × IsOutcome words text o × (note ≡ o.note))
-    → (s ≡ 4 → note ≡ read_note) → (s ≡ 5 → note ≡ write_note) → (s ≡ 6 → note ≡ memory_note) → (r : ℕ) → r ≡ s → IsNoteOf words left r note
-note_at words left s note a b c d e f r is = record {
-  done = λ h. a (sym is ∙ h);
-  usage = λ h. b (sym is ∙ h);
-  refused = λ h. c (sym is ∙ h);
-  read_failed = λ h. d (sym is ∙ h);
-  write_failed = λ h. e (sym is ∙ h);
-  no_memory = λ h. f (sym is ∙ h);
+noted_at : (words : List (List ℕ)) (command : Command) (e : Ending) (before after : Devices) → IsCommand words command → Answers command e before after
+    → status_of e ≡ 3 → (text : List ℕ) → before.left ≡ Some text
+    → (o : Outcome) × IsOutcome words text o × (o.status ≡ 3) × (note_of e ≡ o.note)
+noted_at words command e before after named answers three text told =
+    let a = answered words command e before after named answers text told in
+    (a.0, a.1, a.2 ∙ three, sym a.3)
+
+same : (x n : ℕ) → x ≡ n → (x == n) ≡ true
+same x n is = eq-eqb x n is
+
+unlike : (x n : ℕ) → (x == n) ≡ false → x ≡ n → ⊥
+unlike x n other is = not_both (x == n) (same x n is) other
+
+unlike_itself : (x n : ℕ) (xs : List ℕ) → list_all (λ x. not (x == n)) (x ∷ xs) ≡ true → x ≡ n → ⊥
+unlike_itself x n xs all is = clash (x == n) (list_all (λ x. not (x == n)) xs) all (same x n is)
+
+rest_all : (x n : ℕ) (xs : List ℕ) → list_all (λ x. not (x == n)) (x ∷ xs) ≡ true → list_all (λ x. not (x == n)) xs ≡ true
+rest_all x n xs all = second (not (x == n)) (list_all (λ x. not (x == n)) xs) all
+
+-- a status that is none of a list
+none_of : (xs : List ℕ) (n : ℕ) → list_all (λ x. not (x == n)) xs ≡ true → Contains xs n → ⊥
+none_of [] n all h = absurd (omega arith)
+none_of (x ∷ xs) n all (zero, lt, is) = unlike_itself x n xs all is
+none_of (x ∷ xs) n all (suc k, lt, is) = none_of xs n (rest_all x n xs all) (k, omega arith, is)
+
+-- a status that is neither 0 nor 1
+no_done : (n : ℕ) → (n == 0) ≡ false → (n == 1) ≡ false → (n ≡ 0) ⊎ (n ≡ 1) → ⊥
+no_done n a b (inl is) = unlike n 0 a is
+no_done n a b (inr is) = unlike n 1 b is
+
+-- what a command's ending says
+command_says : (words : List (List ℕ)) (command : Command) (e : Ending) (before after : Devices) → IsCommand words command → Ends command e before after → Says words before after (status_of e) (note_of e)
+command_says words command Done before after named ends = record {
+  known = (0, omega arith, refl);
+  outcome = known_at words command Done before after named ends.1;
+  usage = (λ h. absurd (omega arith), λ none. absurd (none command named));
+  done = λ h. written_at words command Done before after named ends.1;
+  read_failed = λ h. absurd (omega arith);
+  write_failed = λ h. absurd (omega arith);
+  ended = λ h. ends.0;
+  unread = λ h. absurd (omega arith);
+  unwritten = λ h. absurd (none_of (2 ∷ 3 ∷ 4 ∷ 6 ∷ 7 ∷ []) 0 refl h);
+  part = λ h. absurd (omega arith);
+  noted = record { done = λ h. refl; usage = λ h. absurd (omega arith); refused = λ h. absurd (omega arith); read_failed = λ h. absurd (omega arith); write_failed = λ h. absurd (omega arith); no_memory = λ h. absurd (omega arith); unaligned = λ h. absurd (omega arith) };
+}
+command_says words command Faulty before after named ends = record {
+  known = (1, omega arith, refl);
+  outcome = known_at words command Faulty before after named ends.1;
+  usage = (λ h. absurd (omega arith), λ none. absurd (none command named));
+  done = λ h. written_at words command Faulty before after named ends.1;
+  read_failed = λ h. absurd (omega arith);
+  write_failed = λ h. absurd (omega arith);
+  ended = λ h. ends.0;
+  unread = λ h. absurd (omega arith);
+  unwritten = λ h. absurd (none_of (2 ∷ 3 ∷ 4 ∷ 6 ∷ 7 ∷ []) 1 refl h);
+  part = λ h. absurd (omega arith);
+  noted = record { done = λ h. refl; usage = λ h. absurd (omega arith); refused = λ h. absurd (omega arith); read_failed = λ h. absurd (omega arith); write_failed = λ h. absurd (omega arith); no_memory = λ h. absurd (omega arith); unaligned = λ h. absurd (omega arith) };
+}
+command_says words command (Listing fault) before after named ends = record {
+  known = (3, omega arith, refl);
+  outcome = known_at words command (Listing fault) before after named ends.1;
+  usage = (λ h. absurd (omega arith), λ none. absurd (none command named));
+  done = λ h. written_at words command (Listing fault) before after named ends.1;
+  read_failed = λ h. absurd (omega arith);
+  write_failed = λ h. absurd (omega arith);
+  ended = λ h. absurd (none_of (0 ∷ 1 ∷ 7 ∷ []) 3 refl h);
+  unread = λ h. absurd (omega arith);
+  unwritten = λ h. ends.0;
+  part = λ h. absurd (omega arith);
+  noted = record { done = λ h. absurd (no_done 3 refl refl h); usage = λ h. absurd (omega arith); refused = λ h. noted_at words command (Listing fault) before after named ends.1 refl; read_failed = λ h. absurd (omega arith); write_failed = λ h. absurd (omega arith); no_memory = λ h. absurd (omega arith); unaligned = λ h. absurd (omega arith) };
+}
+command_says words command (Capture fault) before after named ends = record {
+  known = (3, omega arith, refl);
+  outcome = known_at words command (Capture fault) before after named ends.1;
+  usage = (λ h. absurd (omega arith), λ none. absurd (none command named));
+  done = λ h. written_at words command (Capture fault) before after named ends.1;
+  read_failed = λ h. absurd (omega arith);
+  write_failed = λ h. absurd (omega arith);
+  ended = λ h. absurd (none_of (0 ∷ 1 ∷ 7 ∷ []) 3 refl h);
+  unread = λ h. absurd (omega arith);
+  unwritten = λ h. ends.0;
+  part = λ h. absurd (omega arith);
+  noted = record { done = λ h. absurd (no_done 3 refl refl h); usage = λ h. absurd (omega arith); refused = λ h. noted_at words command (Capture fault) before after named ends.1 refl; read_failed = λ h. absurd (omega arith); write_failed = λ h. absurd (omega arith); no_memory = λ h. absurd (omega arith); unaligned = λ h. absurd (omega arith) };
+}
+command_says words command (Place i) before after named ends = record {
+  known = (3, omega arith, refl);
+  outcome = known_at words command (Place i) before after named ends.1;
+  usage = (λ h. absurd (omega arith), λ none. absurd (none command named));
+  done = λ h. written_at words command (Place i) before after named ends.1;
+  read_failed = λ h. absurd (omega arith);
+  write_failed = λ h. absurd (omega arith);
+  ended = λ h. absurd (none_of (0 ∷ 1 ∷ 7 ∷ []) 3 refl h);
+  unread = λ h. absurd (omega arith);
+  unwritten = λ h. ends.0;
+  part = λ h. absurd (omega arith);
+  noted = record { done = λ h. absurd (no_done 3 refl refl h); usage = λ h. absurd (omega arith); refused = λ h. noted_at words command (Place i) before after named ends.1 refl; read_failed = λ h. absurd (omega arith); write_failed = λ h. absurd (omega arith); no_memory = λ h. absurd (omega arith); unaligned = λ h. absurd (omega arith) };
+}
+command_says words command Unaligned before after named ends = record {
+  known = (7, omega arith, refl);
+  outcome = known_at words command Unaligned before after named ends.2;
+  usage = (λ h. absurd (omega arith), λ none. absurd (none command named));
+  done = λ h. written_at words command Unaligned before after named ends.2;
+  read_failed = λ h. absurd (omega arith);
+  write_failed = λ h. absurd (omega arith);
+  ended = λ h. ends.0;
+  unread = λ h. absurd (omega arith);
+  unwritten = λ h. ends.1;
+  part = λ h. absurd (omega arith);
+  noted = record { done = λ h. absurd (no_done 7 refl refl h); usage = λ h. absurd (omega arith); refused = λ h. absurd (omega arith); read_failed = λ h. absurd (omega arith); write_failed = λ h. absurd (omega arith); no_memory = λ h. absurd (omega arith); unaligned = λ h. refl };
+}
+command_says words command ReadFailed before after named ends = record {
+  known = (4, omega arith, refl);
+  outcome = λ text told. inl ends.1;
+  usage = (λ h. absurd (omega arith), λ none. absurd (none command named));
+  done = λ h. absurd (none_of (0 ∷ 1 ∷ 3 ∷ 7 ∷ []) 4 refl h);
+  read_failed = λ h. ends.1;
+  write_failed = λ h. absurd (omega arith);
+  ended = λ h. absurd (none_of (0 ∷ 1 ∷ 7 ∷ []) 4 refl h);
+  unread = λ h. absurd (omega arith);
+  unwritten = λ h. ends.0;
+  part = λ h. absurd (omega arith);
+  noted = record { done = λ h. absurd (no_done 4 refl refl h); usage = λ h. absurd (omega arith); refused = λ h. absurd (omega arith); read_failed = λ h. refl; write_failed = λ h. absurd (omega arith); no_memory = λ h. absurd (omega arith); unaligned = λ h. absurd (omega arith) };
+}
+command_says words command WriteFailed before after named ends = record {
+  known = (5, omega arith, refl);
+  outcome = λ text told. inr (inl ends.0);
+  usage = (λ h. absurd (omega arith), λ none. absurd (none command named));
+  done = λ h. absurd (none_of (0 ∷ 1 ∷ 3 ∷ 7 ∷ []) 5 refl h);
+  read_failed = λ h. absurd (omega arith);
+  write_failed = λ h. ends.0;
+  ended = λ h. absurd (none_of (0 ∷ 1 ∷ 7 ∷ []) 5 refl h);
+  unread = λ h. absurd (omega arith);
+  unwritten = λ h. absurd (none_of (2 ∷ 3 ∷ 4 ∷ 6 ∷ 7 ∷ []) 5 refl h);
+  part = λ h text told. let p = ends.1 text told in (p.outcome, p.gone, inl (command, named, p.does), p.status, p.missing, p.written);
+  noted = record { done = λ h. absurd (no_done 5 refl refl h); usage = λ h. absurd (omega arith); refused = λ h. absurd (omega arith); read_failed = λ h. absurd (omega arith); write_failed = λ h. refl; no_memory = λ h. absurd (omega arith); unaligned = λ h. absurd (omega arith) };
+}
+command_says words command NoMemory before after named ends = record {
+  known = (6, omega arith, refl);
+  outcome = λ text told. inr (inr (inl refl));
+  usage = (λ h. absurd (omega arith), λ none. absurd (none command named));
+  done = λ h. absurd (none_of (0 ∷ 1 ∷ 3 ∷ 7 ∷ []) 6 refl h);
+  read_failed = λ h. absurd (omega arith);
+  write_failed = λ h. absurd (omega arith);
+  ended = λ h. absurd (none_of (0 ∷ 1 ∷ 7 ∷ []) 6 refl h);
+  unread = λ h. absurd (omega arith);
+  unwritten = λ h. ends;
+  part = λ h. absurd (omega arith);
+  noted = record { done = λ h. absurd (no_done 6 refl refl h); usage = λ h. absurd (omega arith); refused = λ h. absurd (omega arith); read_failed = λ h. absurd (omega arith); write_failed = λ h. absurd (omega arith); no_memory = λ h. refl; unaligned = λ h. absurd (omega arith) };
+}
+command_says words command Usage before after named ends = absurd ends
+
+-- what stands where the words name no command
+none_says : (words : List (List ℕ)) (before after : Devices) → NamesNone words → Keeps before.left after.left → Keeps before.held after.held → Says words before after 2 usage_note
+none_says words before after none left held = record {
+  known = (2, omega arith, refl);
+  outcome = λ text told. inr (inr (inr (record { status = 2; output = []; note = usage_note }, inr (none, refl), refl)));
+  usage = (λ h. none, λ h. refl);
+  done = λ h. absurd (none_of (0 ∷ 1 ∷ 3 ∷ 7 ∷ []) 2 refl h);
+  read_failed = λ h. absurd (omega arith);
+  write_failed = λ h. absurd (omega arith);
+  ended = λ h. absurd (none_of (0 ∷ 1 ∷ 7 ∷ []) 2 refl h);
+  unread = λ h. left;
+  unwritten = λ h. held;
+  part = λ h. absurd (omega arith);
+  noted = record { done = λ h. absurd (no_done 2 refl refl h); usage = λ h. refl; refused = λ h. absurd (omega arith); read_failed = λ h. absurd (omega arith); write_failed = λ h. absurd (omega arith); no_memory = λ h. absurd (omega arith); unaligned = λ h. absurd (omega arith) };
 }
 
-pub note_is : (words : List (List ℕ)) (e : Ending) (before after : Devices) (r : ℕ) → RunEnds words e before after → r ≡ status_of e → IsNoteOf words before.left r (note_of e)
-note_is words Done before after r ends is =
-    note_at words before.left 0 [] (λ h. refl) (λ h. absurd (omega arith)) (λ h. absurd (omega arith)) (λ h. absurd (omega arith)) (λ h. absurd (omega arith)) (λ h. absurd (omega arith)) r is
-note_is words Usage before after r ends is =
-    note_at words before.left 2 usage_note (λ h. absurd (omega arith)) (λ h. refl) (λ h. absurd (omega arith)) (λ h. absurd (omega arith)) (λ h. absurd (omega arith)) (λ h. absurd (omega arith)) r is
-note_is words (Listing fault) before after r ends is =
-    let note = listing_note fault.line fault.cause in
-    note_at words before.left 3 note (λ h. absurd (omega arith)) (λ h. absurd (omega arith))
-    (λ h text told. (record { status = 3; output = []; note = note }, refused_outcome words text fault.line fault.cause ends.0 (ends.1.1 text told), refl))
-    (λ h. absurd (omega arith)) (λ h. absurd (omega arith)) (λ h. absurd (omega arith)) r is
-note_is words ReadFailed before after r ends is =
-    note_at words before.left 4 read_note (λ h. absurd (omega arith)) (λ h. absurd (omega arith)) (λ h. absurd (omega arith)) (λ h. refl) (λ h. absurd (omega arith)) (λ h. absurd (omega arith)) r is
-note_is words WriteFailed before after r ends is =
-    note_at words before.left 5 write_note (λ h. absurd (omega arith)) (λ h. absurd (omega arith)) (λ h. absurd (omega arith)) (λ h. absurd (omega arith)) (λ h. refl) (λ h. absurd (omega arith)) r is
-note_is words NoMemory before after r ends is =
-    note_at words before.left 6 memory_note (λ h. absurd (omega arith)) (λ h. absurd (omega arith)) (λ h. absurd (omega arith)) (λ h. absurd (omega arith)) (λ h. absurd (omega arith)) (λ h. refl) r is
+-- what a run says
+pub says : (words : List (List ℕ)) (e : Ending) (before after : Devices) (r : ℕ) → RunEnds words e before after → r ≡ status_of e → Says words before after r (note_of e)
+says words e before after r (inl (command, named, ends)) is = subst (λ s. Says words before after s (note_of e)) (sym is) (command_says words command e before after named ends)
+says words e before after r (inr (none, usage, left, held)) is =
+    subst (λ s. Says words before after s (note_of e)) (sym (is ∙ ap status_of usage))
+    (subst (λ n. Says words before after 2 n) (sym (ap note_of usage)) (none_says words before after none left held))

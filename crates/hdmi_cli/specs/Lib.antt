@@ -1,5 +1,7 @@
+pub mod Parsing
 pub mod Commands
 pub mod Notes
 pub mod Outcome
 pub mod Endings
 pub mod Runs
+pub mod Headline

@@ -1,5 +1,7 @@
 -- The one line that the program writes on standard error for each status from 2 on.
 use Rattle.std.specs.Prelude.{ℕ, List, ◌++◌, codes, decimal}
+use Rattle.capture_file.specs.declared.reading.CaptureFault.{CaptureFault}
+use Rattle.capture_file.specs.declared.reading.CaptureFault.TheVariants.{Magic, Version, Short, Padding, Trailing}
 use Rattle.listing.specs.declared.fault.ListCause.{ListCause}
 use Rattle.listing.specs.declared.fault.ListCause.TheVariants.{Fault, Form, Range, Order, Control, Preamble, Size, Long, Unended, After}
 
@@ -18,6 +20,28 @@ cause_name After = codes "after"
 abbrev pub listing_note : ℕ → ListCause → List ℕ
 listing_note line cause = codes "input: line " ++ decimal line ++ codes " " ++ cause_name cause ++ codes "\n"
 
+abbrev pub capture_name : CaptureFault → List ℕ
+capture_name (Magic place) = codes "magic "
+capture_name (Version found) = codes "version "
+capture_name (Short place) = codes "short "
+capture_name (Padding place) = codes "padding "
+capture_name (Trailing place) = codes "trailing "
+
+-- the place, or the version that was found
+abbrev pub capture_number : CaptureFault → ℕ
+capture_number (Magic place) = place
+capture_number (Version found) = found
+capture_number (Short place) = place
+capture_number (Padding place) = place
+capture_number (Trailing place) = place
+
+abbrev pub capture_note : CaptureFault → List ℕ
+capture_note fault = codes "input: " ++ capture_name fault ++ decimal (capture_number fault) ++ codes "\n"
+
+-- the number of the hit that passes the capture's end
+abbrev pub place_note : ℕ → List ℕ
+place_note i = codes "input: place " ++ decimal i ++ codes "\n"
+
 abbrev pub usage_note : List ℕ
 usage_note = codes "usage: make, recover, check, damage or sample\n"
 
@@ -29,3 +53,6 @@ write_note = codes "write failed\n"
 
 abbrev pub memory_note : List ℕ
 memory_note = codes "out of memory\n"
+
+abbrev pub alignment_note : List ℕ
+alignment_note = codes "no alignment\n"

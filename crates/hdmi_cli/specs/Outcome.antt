@@ -1,31 +1,82 @@
 -- What the program is to do: the status, the output and the note for the words and the input's bytes, where memory is
 -- had and no device fails.
-use Rattle.std.specs.Prelude.{◌≡◌, ◌≢◌, ◌⊎◌, ℕ, List, [], ◌∷◌, None}
+use Rattle.std.specs.Prelude.{◌≡◌, ◌⊎◌, ℕ, zero, suc, Bool, List, [], map, string_bytes}
 use Rattle.tmds_word.specs.Column.{Column}
-use Rattle.source_end.specs.Spelling.{Spells}
+use Rattle.island_pack.specs.Spelling.{Spells}
+use Rattle.capture_file.specs.declared.reading.CaptureFault.{CaptureFault}
 use Rattle.capture_file.specs.declared.writing.Tap.{Tap}
+use Rattle.capture_file.specs.Layout.{capture_of}
+use Rattle.capture_file.specs.Faults.{AreLanes, IsCapture, IsFault}
+use Rattle.capture_file.specs.Damage.{IsDamaged, IsMisplaced, AreWithin}
+use Rattle.capture_file.specs.declared.damaging.Hit.{Hit}
 use Rattle.capture_file.specs.Taps.{tapped_capture}
+use Rattle.period_grammar.specs.Things.{Thing}
+use Rattle.link_sink.specs.Alignment.{IsAlignedTold, IsNowhereTold}
 use Rattle.listing.specs.Reading.{Reading, accepted, refused, reads_as}
-use Rattle.hdmi_cli.specs.Commands.{make_link}
-use Rattle.hdmi_cli.specs.Notes.{listing_note, usage_note}
+use Rattle.listing.specs.Texts.{link_text, fault_lines}
+use Rattle.listing.specs.Checks.{check_text}
+use Rattle.hdmi_cli.specs.Commands.{AreHits, IsCommand}
+use Rattle.hdmi_cli.specs.Notes.{listing_note, capture_note, place_note, usage_note, alignment_note}
+use Rattle.hdmi_cli.specs.declared.command.Command.{Command}
+use Rattle.hdmi_cli.specs.declared.command.Command.TheVariants.{MakeLink, RecoverLink, Check, Damage}
 
 pub record Outcome : Type 0 where
   pub status : ℕ
   pub output : List ℕ
   pub note : List ℕ
 
--- no offset, no skew, no limit
-abbrev pub whole_tap : Tap
-whole_tap = record { offset = 0; skews = 0 ∷ 0 ∷ 0 ∷ []; bits = None }
+-- a listing is made into the capture of a tap of columns that its periods spell, or is refused by its first wrong line
+abbrev pub MakesLink : Tap → Reading → Outcome → Type 0
+MakesLink tap (accepted periods) outcome =
+    (columns : List Column) × Spells periods columns × (outcome ≡ record { status = 0; output = tapped_capture columns tap; note = [] })
+MakesLink tap (refused line cause) outcome = outcome ≡ record { status = 3; output = []; note = listing_note line cause }
 
--- a listing is made into the capture of columns that its periods spell, or is refused by its first wrong line
-abbrev pub MakesLink : Reading → Outcome → Type 0
-MakesLink (accepted periods) outcome =
-    (columns : List Column) × Spells periods columns × (outcome ≡ record { status = 0; output = tapped_capture columns whole_tap; note = [] })
-MakesLink (refused line cause) outcome = outcome ≡ record { status = 3; output = []; note = listing_note line cause }
+-- done, or done with so many faults
+abbrev pub status_with : ℕ → ℕ
+status_with zero = 0
+status_with (suc n) = 1
+
+-- lanes are listed by such a text of what they tell, or by nothing where they have no full alignment
+abbrev pub ListsLanes : (List Thing → List ℕ) → List Bool → List Bool → List Bool → Outcome → Type 0
+ListsLanes text x y z outcome =
+    ((columns : ℕ) × (things : List Thing) × IsAlignedTold x y z columns things
+    × (outcome ≡ record { status = status_with (fault_lines things); output = text things; note = [] }))
+    ⊎ ((columns : ℕ) × (things : List Thing) × IsNowhereTold x y z columns things
+    × (outcome ≡ record { status = 7; output = []; note = alignment_note }))
+
+-- bytes are a capture whose lanes are listed, or are refused by the place at which they stop being one
+abbrev pub ListsCapture : (List Thing → List ℕ) → List ℕ → Outcome → Type 0
+ListsCapture text bytes outcome =
+    ((blue green red : List Bool) × AreLanes blue green red × (bytes ≡ capture_of blue green red) × ListsLanes text blue green red outcome)
+    ⊎ ((fault : CaptureFault) × IsFault bytes fault × (outcome ≡ record { status = 3; output = []; note = capture_note fault }))
+
+-- the listing of a capture
+abbrev pub RecoversLanes : List Bool → List Bool → List Bool → Outcome → Type 0
+RecoversLanes x y z outcome = ListsLanes link_text x y z outcome
+
+abbrev pub RecoversLink : List ℕ → Outcome → Type 0
+RecoversLink bytes outcome = ListsCapture link_text bytes outcome
+
+-- bytes are a capture whose damaged capture is written, or are refused: by the first hit past its end, or as no capture
+abbrev pub Damages : List Hit → List ℕ → Outcome → Type 0
+Damages hits bytes outcome =
+    ((whole : List ℕ) × IsCapture bytes × IsDamaged bytes hits whole × (outcome ≡ record { status = 0; output = whole; note = [] }))
+    ⊎ ((i : ℕ) × IsMisplaced bytes hits i × (outcome ≡ record { status = 3; output = []; note = place_note i }))
+    ⊎ ((fault : CaptureFault) × IsFault bytes fault × AreWithin bytes hits × (outcome ≡ record { status = 3; output = []; note = capture_note fault }))
+
+-- what a command makes of the input's bytes
+abbrev pub Does : Command → List ℕ → Outcome → Type 0
+Does (MakeLink tap) input outcome = MakesLink tap (reads_as input) outcome
+Does RecoverLink input outcome = RecoversLink input outcome
+Does Check input outcome = ListsCapture check_text input outcome
+Does (Damage texts) input outcome = (hits : List Hit) × AreHits (map string_bytes texts.now) hits × Damages hits input outcome
+
+-- the words name no command
+abbrev pub NamesNone : List (List ℕ) → Type 0
+NamesNone words = (command : Command) → IsCommand words command → ⊥
 
 -- the outcome of these words over an input of these bytes
 abbrev pub IsOutcome : List (List ℕ) → List ℕ → Outcome → Type 0
 IsOutcome words input outcome =
-    ((words ≡ make_link) × MakesLink (reads_as input) outcome)
-    ⊎ ((words ≢ make_link) × (outcome ≡ record { status = 2; output = []; note = usage_note }))
+    ((command : Command) × IsCommand words command × Does command input outcome)
+    ⊎ (NamesNone words × (outcome ≡ record { status = 2; output = []; note = usage_note }))

@@ -1,6 +1,7 @@
 //! How a run ends.
 ghost use Rattle.std.specs.Prelude.{◌≡◌};
 
+use capture_file::CaptureFault;
 use listing::ListFault;
 
 /// How a run ends.
@@ -8,16 +9,24 @@ use listing::ListFault;
 pub enum Ending {
     /// All was done.
     Done,
+    /// All was done, and what was heard has faults.
+    Faulty,
     /// The words are no form of a command.
     Usage,
     /// The input is no listing.
     Listing(ListFault),
+    /// The input is no capture.
+    Capture(CaptureFault),
+    /// The ten bits of the hit of this number, from 0, pass the end of the capture's lanes.
+    Place(u32),
     /// A read failed.
     ReadFailed,
     /// A write failed.
     WriteFailed,
     /// Want of memory.
     NoMemory,
+    /// The capture's lanes have no full alignment.
+    Unaligned,
 }
 
 impl Ending {
@@ -29,11 +38,15 @@ impl Ending {
     {
         match self {
             Ending::Done => 0,
+            Ending::Faulty => 1,
             Ending::Usage => 2,
             Ending::Listing(_) => 3,
+            Ending::Capture(_) => 3,
+            Ending::Place(_) => 3,
             Ending::ReadFailed => 4,
             Ending::WriteFailed => 5,
             Ending::NoMemory => 6,
+            Ending::Unaligned => 7,
         }
     }
 }

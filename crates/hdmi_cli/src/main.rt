@@ -1,11 +1,39 @@
 //! Vabgrot: the sender and the receiver of one HDMI TMDS link.
 #![tactic(auto)]
 
+#[cfg(test)]
+mod cases_bad;
+#[cfg(test)]
+mod cases_damage;
+#[cfg(test)]
+mod cases_dense;
+#[cfg(test)]
+mod cases_island;
+#[cfg(test)]
+mod cases_link;
+#[cfg(test)]
+mod cases_packet;
+#[cfg(test)]
+mod cases_sparse;
+#[cfg(test)]
+mod cases_tap;
+#[cfg(test)]
+mod cases_wild;
+mod command;
+#[cfg(test)]
+mod command_tests;
 mod ending;
+mod hit;
+#[cfg(test)]
+mod hit_tests;
 mod note;
+#[cfg(test)]
+mod recover_tests;
 mod run;
 #[cfg(test)]
 mod tests;
+#[cfg(test)]
+mod trial;
 mod words;
 
 use outside_io::{ReadSource, WriteSink};

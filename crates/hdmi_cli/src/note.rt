@@ -4,10 +4,11 @@ ghost use Rattle.std.specs.Io.KnownBytes.{Appends};
 ghost use Rattle.arrayvec.specs.ArrayVec.{array_vec_len};
 ghost use Rattle.outside_io.specs.Causes.{Rose};
 ghost use Rattle.hdmi_cli.specs.Endings.{note_of};
-ghost use Rattle.hdmi_cli.specs.Notes.{cause_name, listing_note};
+ghost use Rattle.hdmi_cli.specs.Notes.{cause_name, listing_note, capture_name, capture_number, capture_note, place_note};
 
 use crate::ending::Ending;
 use arrayvec::ArrayVec;
+use capture_file::CaptureFault;
 use listing::{ListCause, ListFault};
 use outside_io::{Sink, write_all};
 
@@ -23,11 +24,15 @@ pub(crate) fn write_note<N: Sink>(ending: &Ending, notes: &mut N)
 {
     match ending {
         Ending::Done => write_line(b"", notes),
+        Ending::Faulty => write_line(b"", notes),
         Ending::Usage => write_line(b"usage: make, recover, check, damage or sample\n", notes),
         Ending::Listing(fault) => write_line(listing_line(fault).as_slice(), notes),
+        Ending::Capture(fault) => write_line(capture_line(fault).as_slice(), notes),
+        Ending::Place(hit) => write_line(place_line(*hit).as_slice(), notes),
         Ending::ReadFailed => write_line(b"read failed\n", notes),
         Ending::WriteFailed => write_line(b"write failed\n", notes),
         Ending::NoMemory => write_line(b"out of memory\n", notes),
+        Ending::Unaligned => write_line(b"no alignment\n", notes),
     }
 }
 
@@ -55,6 +60,58 @@ fn listing_line(fault: &ListFault) -> Line
     append(&mut line, name(fault.cause).as_bytes());
     append(&mut line, b"\n");
     line
+}
+
+/// The note of a capture that was refused.
+fn capture_line(fault: &CaptureFault) -> Line
+    ensures { result.items ≡ capture_note fault.now }
+{
+    let mut line = Line::new();
+    let mut number = itoa::Buffer::new();
+    append(&mut line, b"input: ");
+    append(&mut line, kind(*fault).as_bytes());
+    append(&mut line, number.format(place(*fault)).as_bytes());
+    append(&mut line, b"\n");
+    line
+}
+
+/// The note of a hit that passes the capture's end.
+fn place_line(hit: u32) -> Line
+    ensures { result.items ≡ place_note hit }
+{
+    let mut line = Line::new();
+    let mut number = itoa::Buffer::new();
+    append(&mut line, b"input: place ");
+    append(&mut line, number.format(hit).as_bytes());
+    append(&mut line, b"\n");
+    line
+}
+
+/// A capture's fault as the notes name it, with a space.
+fn kind(fault: CaptureFault) -> &'static str
+    ensures text { result.now ≡ capture_name fault }
+    ensures short { length result.now ≤ 9 }
+{
+    match fault {
+        CaptureFault::Magic(_) => "magic ",
+        CaptureFault::Version(_) => "version ",
+        CaptureFault::Short(_) => "short ",
+        CaptureFault::Padding(_) => "padding ",
+        CaptureFault::Trailing(_) => "trailing ",
+    }
+}
+
+/// The place of a capture's fault, or the version that was found.
+fn place(fault: CaptureFault) -> u64
+    ensures { result ≡ capture_number fault }
+{
+    match fault {
+        CaptureFault::Version(found) => u64::from(found),
+        CaptureFault::Magic(place) => place,
+        CaptureFault::Short(place) => place,
+        CaptureFault::Padding(place) => place,
+        CaptureFault::Trailing(place) => place,
+    }
 }
 
 fn append(line: &mut Line, text: &[u8])

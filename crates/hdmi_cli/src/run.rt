@@ -1,22 +1,36 @@
 //! The top call: the words decide what is done with the input.
-ghost use Rattle.std.specs.Prelude.{◌≡◌, ◌≢◌, ◌⊎◌, ◌↔◌, ℕ, ◌<◌, ◌≤◌, List, [], ◌∷◌, length, take, Some, Contains};
+ghost use Rattle.std.specs.Prelude.{◌≡◌, ◌≢◌, ◌⊎◌, ◌↔◌, ℕ, ◌<◌, ◌≤◌, Bool, List, [], ◌∷◌, length, take, map, string_bytes, Some, OnOk, IfErr, Contains};
 ghost use Rattle.std.specs.Io.KnownBytes.{Appends, IsAtEnd, Keeps};
 ghost use Rattle.outside_io.specs.Causes.{Rose};
-ghost use Rattle.hdmi_cli.specs.Commands.{make_link};
-ghost use Rattle.hdmi_cli.specs.Outcome.{Outcome, IsOutcome};
-ghost use Rattle.hdmi_cli.specs.Endings.{MakeEnds, RunEnds};
+ghost use Rattle.tmds_word.specs.Column.{Column};
+ghost use Rattle.capture_file.specs.Layout.{capture_of};
+ghost use Rattle.capture_file.specs.declared.damaging.Hit.{Hit};
+ghost use Rattle.lane_deskew.specs.Aligned.{aligned_columns};
+ghost use Rattle.island_pack.specs.Periods.{Period};
+ghost use Rattle.listing.specs.Texts.{link_text};
+ghost use Rattle.listing.specs.Checks.{check_text};
+ghost use Rattle.hdmi_cli.specs.Commands.{AreHits, IsCommand};
+ghost use Rattle.hdmi_cli.specs.Headline.{AreTapped, IsRecovered};
+ghost use Rattle.hdmi_cli.specs.Outcome.{Outcome, IsOutcome, NamesNone};
+ghost use Rattle.hdmi_cli.specs.Endings.{Ends, RunEnds, ListEnds, HearEnds, AreHeard, refused_ending, damage_ending, judged_ending};
 ghost use Rattle.hdmi_cli.specs.Runs.{IsNoteOf};
+ghost use Rattle.hdmi_cli.specs.declared.command.Command.TheVariants.{MakeLink, RecoverLink, Check, Damage};
 
 use crate::Words;
+use crate::command::Command;
 use crate::ending::Ending;
+use crate::hit::hits_of;
 use crate::note::write_note;
-use capture_file::{Lanes, Tap, write_capture};
-use listing::{ListError, read_link};
-use outside_io::{Sink, Source};
+use capture_file::{CaptureError, DamageError, Lanes, Rows, Tap, read_capture, write_capture};
+use link_sink::{Ear, FeedFault, hear_lanes};
+use listing::{CheckLister, LinkLister, ListError, read_link};
+use outside_io::{Failed, Sink, Source};
 use std::alloc::Global;
 
-/// Does what the words say with the input, and answers the status: 0 done, 2 usage, 3 input refused, 4 read
-/// failed, 5 write failed, 6 out of memory. `make link` reads a link listing and writes its capture.
+/// Does what the words say with the input, and answers the status: 0 done, 1 done with faults heard, 2 usage, 3 input
+/// refused, 4 read failed, 5 write failed, 6 out of memory, 7 no alignment. `make link` reads a link listing and writes
+/// the capture of a tap of it; `recover link` reads a capture and writes its link listing, and `check` only the lines of
+/// its faults and of a cut and whether there was a fault; `damage` copies a capture with the ten bits of each hit replaced.
 pub fn run<S: Source, K: Sink, N: Sink>(
     alloc: Global,
     words: &Words,
@@ -24,7 +38,7 @@ pub fn run<S: Source, K: Sink, N: Sink>(
     output: &mut K,
     notes: &mut N,
 ) -> u8
-    ensures status { Contains (0 ∷ 2 ∷ 3 ∷ 4 ∷ 5 ∷ 6 ∷ []) result }
+    ensures status { Contains (0 ∷ 1 ∷ 2 ∷ 3 ∷ 4 ∷ 5 ∷ 6 ∷ 7 ∷ []) result }
 
     // Where no device failed, the status is that of the outcome, but for want of memory.
     ensures outcome { (text : List ℕ) → S.left input.old ≡ Some text
@@ -33,22 +47,31 @@ pub fn run<S: Source, K: Sink, N: Sink>(
         ⊎ (result ≡ 6)
         ⊎ ((o : Outcome) × IsOutcome words.now text o × (result ≡ o.status)) }
 
-    // Each status has its cause.
-    ensures usage { (result ≡ 2) ↔ (words.now ≢ make_link) }
-    ensures refused { result ≡ 3 → (text : List ℕ) → S.left input.old ≡ Some text
-        → (o : Outcome) × IsOutcome words.now text o × (o.status ≡ 3) }
+    // Each status has its cause, and where the outcome's status is answered its output is written, all of it.
+    ensures usage { (result ≡ 2) ↔ NamesNone words.now }
+    ensures done { Contains (0 ∷ 1 ∷ 3 ∷ 7 ∷ []) result → (text : List ℕ) → S.left input.old ≡ Some text
+        → (o : Outcome) × IsOutcome words.now text o × (o.status ≡ result) × Appends (K.held output.old) (K.held output.new) o.output }
     ensures read_failed { result ≡ 4 → Rose (S.faults input.old) (S.faults input.new) }
     ensures write_failed { result ≡ 5 → Rose (K.faults output.old) (K.faults output.new) }
 
-    // What is written and what is read.
-    ensures done { result ≡ 0 → (text : List ℕ) → S.left input.old ≡ Some text
-        → (o : Outcome) × IsOutcome words.now text o × (o.status ≡ 0) × Appends (K.held output.old) (K.held output.new) o.output }
-    ensures ended { result ≡ 0 → IsAtEnd (S.left input.new) }
-    ensures unwritten { result ≢ 0 → result ≢ 5 → Keeps (K.held output.old) (K.held output.new) }
-    ensures part { result ≡ 5 → (text : List ℕ) → S.left input.old ≡ Some text
-        → (o : Outcome) × (gone : ℕ) × IsOutcome words.now text o × (o.status ≡ 0) × (gone < length o.output)
-        × Appends (K.held output.old) (K.held output.new) (take gone o.output) }
+    // What is read, and what is written where not all is.
+    ensures ended { Contains (0 ∷ 1 ∷ 7 ∷ []) result → IsAtEnd (S.left input.new) }
     ensures unread { result ≡ 2 → Keeps (S.left input.old) (S.left input.new) }
+    ensures unwritten { Contains (2 ∷ 3 ∷ 4 ∷ 6 ∷ 7 ∷ []) result → Keeps (K.held output.old) (K.held output.new) }
+    ensures part { result ≡ 5 → (text : List ℕ) → S.left input.old ≡ Some text
+        → (o : Outcome) × (gone : ℕ) × IsOutcome words.now text o × Contains (0 ∷ 1 ∷ []) o.status × (gone < length o.output)
+        × Appends (K.held output.old) (K.held output.new) (take gone o.output) }
+
+    // `recover link` writes exactly what was sent: for all columns that conforming periods spell, every sparse damage of their
+    // payload, every tap of them with a skew of at most 70 bits, from their first full alignment on.
+    ensures headline { IsCommand words.now RecoverLink
+        → (ps : List Period) (sent received : List Column) (offset : ℕ) (skews : List ℕ) (blue green red : List Bool) (d e f : ℕ)
+        → AreTapped ps sent received offset skews blue green red d e f
+        → S.left input.old ≡ Some (capture_of blue green red)
+        → Rose (S.faults input.old) (S.faults input.new)
+        ⊎ Rose (K.faults output.old) (K.faults output.new)
+        ⊎ (result ≡ 6)
+        ⊎ IsRecovered ps sent received offset skews d e f (aligned_columns blue green red d e f) result (K.held output.old) (K.held output.new) }
 
     // The notes grow by the one line of the status, or by a part of it where they fail.
     ensures notes { (note : List ℕ) × IsNoteOf words.now (S.left input.old) result note
@@ -78,16 +101,18 @@ fn carry_out<S: Source, K: Sink>(
     ensures input_later { S.faults input.old ≤ S.faults input.new }
     ensures output_later { K.faults output.old ≤ K.faults output.new }
 {
-    if words.are_make_link() {
-        make_link(alloc, input, output)
-    } else {
-        Ending::Usage
+    match words.command() {
+        Some(Command::MakeLink(tap)) => make_link(alloc, &tap, input, output),
+        Some(Command::RecoverLink) => recover_link(alloc, input, output),
+        Some(Command::Check) => check(alloc, input, output),
+        Some(Command::Damage(texts)) => damage(alloc, texts, input, output),
+        None => Ending::Usage,
     }
 }
 
 /// Reads a link listing whole, and then writes its capture.
-fn make_link<S: Source, K: Sink>(alloc: Global, input: &mut S, output: &mut K) -> Ending
-    ensures ends { MakeEnds result
+fn make_link<S: Source, K: Sink>(alloc: Global, tap: &Tap, input: &mut S, output: &mut K) -> Ending
+    ensures ends { Ends (MakeLink tap.now) result
         (record { left = S.left input.old; input_faults = S.faults input.old; held = K.held output.old; output_faults = K.faults output.old })
         (record { left = S.left input.new; input_faults = S.faults input.new; held = K.held output.new; output_faults = K.faults output.new }) }
     ensures input_later { S.faults input.old ≤ S.faults input.new }
@@ -106,13 +131,134 @@ fn make_link<S: Source, K: Sink>(alloc: Global, input: &mut S, output: &mut K) -
     if stream.spell(&mut lanes).is_err() {
         return Ending::NoMemory;
     }
-    let tap = Tap {
-        offset: 0,
-        skews: [0, 0, 0],
-        bits: None,
-    };
-    match write_capture(&lanes, &tap, output) {
+    match write_capture(&lanes, tap, output) {
         Ok(()) => Ending::Done,
         Err(_) => Ending::WriteFailed,
+    }
+}
+
+/// Reads a capture whole, and then writes the listing of what its lanes say.
+fn recover_link<S: Source, K: Sink>(alloc: Global, input: &mut S, output: &mut K) -> Ending
+    ensures ends { Ends RecoverLink result
+        (record { left = S.left input.old; input_faults = S.faults input.old; held = K.held output.old; output_faults = K.faults output.old })
+        (record { left = S.left input.new; input_faults = S.faults input.new; held = K.held output.new; output_faults = K.faults output.new }) }
+    ensures input_later { S.faults input.old ≤ S.faults input.new }
+    ensures output_later { K.faults output.old ≤ K.faults output.new }
+{
+    match read_capture(alloc, input) {
+        Ok(rows) => list_rows(alloc, &rows, output),
+        Err(error) => refused(error),
+    }
+}
+
+/// Reads a capture whole, and then writes what a check of its lanes lists.
+fn check<S: Source, K: Sink>(alloc: Global, input: &mut S, output: &mut K) -> Ending
+    ensures ends { Ends Check result
+        (record { left = S.left input.old; input_faults = S.faults input.old; held = K.held output.old; output_faults = K.faults output.old })
+        (record { left = S.left input.new; input_faults = S.faults input.new; held = K.held output.new; output_faults = K.faults output.new }) }
+    ensures input_later { S.faults input.old ≤ S.faults input.new }
+    ensures output_later { K.faults output.old ≤ K.faults output.new }
+{
+    match read_capture(alloc, input) {
+        Ok(rows) => check_rows(alloc, &rows, output),
+        Err(error) => refused(error),
+    }
+}
+
+/// How a command ends whose capture was not read.
+fn refused(error: CaptureError) -> Ending
+    ensures { result ≡ refused_ending error }
+{
+    match error {
+        CaptureError::Bad(fault) => Ending::Capture(fault),
+        CaptureError::Read => Ending::ReadFailed,
+        CaptureError::NoMemory => Ending::NoMemory,
+    }
+}
+
+/// Writes the listing of what the lanes of a capture say.
+fn list_rows<K: Sink>(alloc: Global, rows: &Rows, output: &mut K) -> Ending
+    ensures ends { ListEnds link_text rows.now result (K.held output.old) (K.held output.new) (K.faults output.old) (K.faults output.new) }
+    ensures later { K.faults output.old ≤ K.faults output.new }
+{
+    let mut lister = LinkLister::open(output);
+    match hear_rows(alloc, rows, &mut lister) {
+        Ok(()) => judged(lister.end(), lister.faults()),
+        Err(ending) => ending,
+    }
+}
+
+/// Writes what a check of the lanes of a capture lists.
+fn check_rows<K: Sink>(alloc: Global, rows: &Rows, output: &mut K) -> Ending
+    ensures ends { ListEnds check_text rows.now result (K.held output.old) (K.held output.new) (K.faults output.old) (K.faults output.new) }
+    ensures later { K.faults output.old ≤ K.faults output.new }
+{
+    let mut lister = CheckLister::open(output);
+    match hear_rows(alloc, rows, &mut lister) {
+        Ok(()) => judged(lister.end(), lister.faults()),
+        Err(ending) => ending,
+    }
+}
+
+/// Tells a lister what the lanes of a capture say.
+///
+/// # Errors
+///
+/// How the command ends where not all was told, or where the lanes have no full alignment.
+fn hear_rows<E: Ear>(alloc: Global, rows: &Rows, lister: &mut E) -> Result<(), Ending>
+    ensures heard { OnOk result (AreHeard E.took rows.now lister.old lister.new) }
+    ensures ends { IfErr result (λ e. HearEnds E.took E.broke rows.now e lister.old lister.new (E.faults lister.old) (E.faults lister.new)) }
+    ensures later { E.faults lister.old ≤ E.faults lister.new }
+{
+    match hear_lanes(alloc, rows.row(0), rows.row(1), rows.row(2), lister) {
+        Ok(heard) if heard.aligned => Ok(()),
+        Ok(_) => Err(Ending::Unaligned),
+        Err(FeedFault::Ear) => Err(Ending::WriteFailed),
+        Err(FeedFault::Memory) => Err(Ending::NoMemory),
+    }
+}
+
+/// How a command ends after its last line, and so many faults.
+fn judged(last: Result<(), Failed>, faults: u64) -> Ending
+    ensures { result ≡ judged_ending last faults }
+{
+    match last {
+        Ok(()) if faults == 0 => Ending::Done,
+        Ok(()) => Ending::Faulty,
+        Err(Failed) => Ending::WriteFailed,
+    }
+}
+
+/// Reads a capture whole, and then writes it with the ten bits of each hit replaced.
+fn damage<S: Source, K: Sink>(
+    alloc: Global,
+    words: &[String],
+    input: &mut S,
+    output: &mut K,
+) -> Ending
+    requires { (hits : List Hit) × AreHits (map string_bytes words.now) hits }
+    ensures ends { Ends (Damage words.entry) result
+        (record { left = S.left input.old; input_faults = S.faults input.old; held = K.held output.old; output_faults = K.faults output.old })
+        (record { left = S.left input.new; input_faults = S.faults input.new; held = K.held output.new; output_faults = K.faults output.new }) }
+    ensures input_later { S.faults input.old ≤ S.faults input.new }
+    ensures output_later { K.faults output.old ≤ K.faults output.new }
+{
+    match hits_of(alloc, words) {
+        Ok(hits) => damaged(capture_file::damage(alloc, input, hits.as_slice(), output)),
+        Err(_) => Ending::NoMemory,
+    }
+}
+
+/// How a command ends that wrote a damaged capture, or none.
+fn damaged(written: Result<(), DamageError>) -> Ending
+    ensures { result ≡ damage_ending written }
+{
+    match written {
+        Ok(()) => Ending::Done,
+        Err(DamageError::Bad(fault)) => Ending::Capture(fault),
+        Err(DamageError::Place(hit)) => Ending::Place(hit),
+        Err(DamageError::Read) => Ending::ReadFailed,
+        Err(DamageError::Write) => Ending::WriteFailed,
+        Err(DamageError::NoMemory) => Ending::NoMemory,
     }
 }

@@ -1,6 +1,5 @@
 //! The top call over sources and sinks in memory. The expected values were computed apart from this program.
-use crate::{Words, run};
-use outside_io::{MemSink, MemSource};
+use crate::trial::{Answer, Devices, STEADY, answer_of};
 use std::alloc::Global;
 use std::process::Abort;
 use std::test::*;
@@ -63,9 +62,9 @@ static REFUSED: [(&str, &str); 57] = [
         "input: line 5 after\n",
     ),
     ("c 04 12\nc 00 1\nv 000000\n", "input: line 3 preamble\n"),
-    ("i 00\n", "input: line 1 form\n"),
+    ("i 00\n", "input: line 1 order\n"),
     ("p 00\n", "input: line 1 form\n"),
-    ("e 00\n", "input: line 1 form\n"),
+    ("e 00\n", "input: line 1 order\n"),
     ("c 00 12\nend\nend\n", "input: line 3 after\n"),
     ("c 04 12\nv 00000\n", "input: line 2 form\n"),
     ("c 00 19999988\nc 04 11\nv 000000\n", "input: line 3 long\n"),
@@ -111,49 +110,14 @@ static MADE: [(&str, &str); 6] = [
 
 static RED: &str = "c 00 4\nc 04 8\nv ff0000\nc 00 12\nend\n";
 
-/// What a run answered: the status, the output and the notes.
-#[derive(Drop)]
-struct Answer {
-    status: u8,
-    output: Vec<u8>,
-    notes: Vec<u8>,
-}
-
-/// Runs these words over a source that gives `piece` bytes for each read, one at least, and over sinks of ample
-/// room; the reads and writes whose numbers are given fail.
-fn answer_of(
-    alloc: Global,
-    words: &[&str],
-    text: &[u8],
-    piece: usize,
-    failing: (&[u64], &[u64]),
-) -> Result<Answer, Fail> {
-    let mut list = Words::new(alloc);
-    for word in words {
-        list.push(word)?;
-    }
-    let mut input = MemSource::new(text.to_vec(alloc)?, piece.max(1), failing.0.to_vec(alloc)?);
-    let mut output = MemSink::new(alloc, 4096, 4096, failing.1.to_vec(alloc)?)?;
-    let mut notes = MemSink::new(alloc, 4096, 4096, Vec::new(alloc))?;
-    let status = run(alloc, &list, &mut input, &mut output, &mut notes);
-    Ok(Answer {
-        status,
-        output: output.bytes().to_vec(alloc)?,
-        notes: notes.bytes().to_vec(alloc)?,
-    })
-}
+static MAKE: [&str; 2] = ["make", "link"];
 
 #[test]
 fn refusals(rt: HostRuntime) -> Result<(), Fail> {
     for (text, note) in &REFUSED {
-        for piece in [1, 7, 100_000] {
-            let it = answer_of(
-                rt.alloc(),
-                &["make", "link"],
-                text.as_bytes(),
-                piece,
-                (&[], &[]),
-            )?;
+        for read in [1, 7, 65_536] {
+            let devices = Devices { read, ..STEADY };
+            let it = answer_of(rt.alloc(), &MAKE, text.as_bytes(), &devices)?;
             assert_eq!(rt; it.status, 3, "of {text}");
             assert!(rt; it.output.is_empty(), "of {text}");
             assert_eq!(rt; it.notes.as_slice(), note.as_bytes(), "of {text}");
@@ -165,14 +129,9 @@ fn refusals(rt: HostRuntime) -> Result<(), Fail> {
 #[test]
 fn captures(rt: HostRuntime) -> Result<(), Fail> {
     for (text, digits) in &MADE {
-        for piece in [1, 7, 100_000] {
-            let it = answer_of(
-                rt.alloc(),
-                &["make", "link"],
-                text.as_bytes(),
-                piece,
-                (&[], &[]),
-            )?;
+        for read in [1, 7, 65_536] {
+            let devices = Devices { read, ..STEADY };
+            let it = answer_of(rt.alloc(), &MAKE, text.as_bytes(), &devices)?;
             let capture = hex::decode(rt.alloc(), digits)?;
             assert_eq!(rt; it.status, 0, "of {text}");
             assert_eq!(rt; it.output.as_slice(), capture.as_slice(), "of {text}");
@@ -189,54 +148,39 @@ fn long_lines(rt: HostRuntime) -> Result<(), Fail> {
         text.resize(length - length % 6 + 2, b'0')?;
         text.resize(length, b'0')?;
         text.push(b'\n')?;
-        let it = answer_of(rt.alloc(), &["make", "link"], &text, 1000, (&[], &[]))?;
+        let it = answer_of(rt.alloc(), &MAKE, &text, &STEADY)?;
         assert_eq!(rt; it.status, 3);
         assert!(rt; it.notes.ends_with(b"\n"), "{note}");
     }
     Ok(())
 }
 
+/// Makes the capture of the red pixel with these reads and writes failing.
+fn red_by(alloc: Global, reads: &[u64], writes: &[u64]) -> Result<Answer, Fail> {
+    let devices = Devices {
+        read: 9,
+        write: 4096,
+        failing_reads: reads,
+        failing_writes: writes,
+    };
+    answer_of(alloc, &MAKE, RED.as_bytes(), &devices)
+}
+
 #[test]
 fn devices(rt: HostRuntime) -> Result<(), Fail> {
-    let read = answer_of(
-        rt.alloc(),
-        &["make", "link"],
-        RED.as_bytes(),
-        9,
-        (&[0], &[]),
-    )?;
-    assert_eq!(rt; read.status, 4);
-    assert!(rt; read.output.is_empty());
-    assert_eq!(rt; read.notes.as_slice(), b"read failed\n".as_slice());
+    for number in [0, 2] {
+        let read = red_by(rt.alloc(), &[number], &[])?;
+        assert_eq!(rt; read.status, 4);
+        assert!(rt; read.output.is_empty());
+        assert_eq!(rt; read.notes.as_slice(), b"read failed\n".as_slice());
+    }
 
-    let later = answer_of(
-        rt.alloc(),
-        &["make", "link"],
-        RED.as_bytes(),
-        9,
-        (&[2], &[]),
-    )?;
-    assert_eq!(rt; later.status, 4);
-    assert!(rt; later.output.is_empty());
-
-    let write = answer_of(
-        rt.alloc(),
-        &["make", "link"],
-        RED.as_bytes(),
-        9,
-        (&[], &[0]),
-    )?;
+    let write = red_by(rt.alloc(), &[], &[0])?;
     assert_eq!(rt; write.status, 5);
     assert!(rt; write.output.is_empty());
     assert_eq!(rt; write.notes.as_slice(), b"write failed\n".as_slice());
 
-    let part = answer_of(
-        rt.alloc(),
-        &["make", "link"],
-        RED.as_bytes(),
-        9,
-        (&[], &[1]),
-    )?;
+    let part = red_by(rt.alloc(), &[], &[1])?;
     assert_eq!(rt; part.status, 5);
     assert_eq!(rt;
         part.output.as_slice(),
@@ -255,7 +199,7 @@ fn usage(rt: HostRuntime) -> Result<(), Fail> {
         &["Make", "link"],
     ];
     for words in forms {
-        let it = answer_of(rt.alloc(), words, RED.as_bytes(), 9, (&[], &[]))?;
+        let it = answer_of(rt.alloc(), words, RED.as_bytes(), &STEADY)?;
         assert_eq!(rt; it.status, 2);
         assert!(rt; it.output.is_empty());
         assert_eq!(rt;

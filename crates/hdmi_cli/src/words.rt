@@ -1,7 +1,8 @@
 //! The words of the command line.
-ghost use Rattle.std.specs.Prelude.{◌≡◌, ◌↔◌, ◌++◌, ◌∷◌, [], IsTrue, OnOk, OnErr, string_bytes};
-ghost use Rattle.hdmi_cli.specs.Commands.{make_link};
+ghost use Rattle.std.specs.Prelude.{◌≡◌, ◌++◌, ◌∷◌, [], MatchOption, OnOk, OnErr};
+ghost use Rattle.hdmi_cli.specs.Commands.{IsCommand};
 
+use crate::command::{Command, read_command};
 use outside_io::NoMemory;
 use std::alloc::Global;
 use std::marker::Model;
@@ -42,18 +43,10 @@ impl Words {
         Ok(())
     }
 
-    /// Whether they are `make link`.
-    pub fn are_make_link(&self) -> bool
-        ensures { IsTrue result ↔ (self.now ≡ make_link) }
+    /// The command that they name; none where they are of no command's form.
+    pub(crate) fn command(&self) -> Option<Command<'_>>
+        ensures { MatchOption result ((c : Command) → IsCommand self.now c → ⊥) (λ c. IsCommand self.now c) }
     {
-        let words = self.list.as_slice();
-        words.len() == 2 && is(&words[0], "make") && is(&words[1], "link")
+        read_command(self.list.as_slice())
     }
-}
-
-/// Whether a word is this text.
-fn is(word: &String, text: &str) -> bool
-    ensures { IsTrue result ↔ (string_bytes word.now ≡ text.now) }
-{
-    word.as_str() == text
 }

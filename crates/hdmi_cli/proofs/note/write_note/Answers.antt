@@ -23,3 +23,13 @@ pub returns-in-NoMemory-clause-whole : goal.returns-in-NoMemory-clause-whole
 returns-in-NoMemory-clause-whole g c =
     subst (λ (bytes : List ℕ). Rose (g.N.Sink.faults c.args.notes.now) (g.N.Sink.faults c.write_line-in-NoMemory.new.notes) ⊎ Appends (g.N.Sink.held c.args.notes.now) (g.N.Sink.held c.write_line-in-NoMemory.new.notes) bytes)
     (sym (ap note_of c.in-NoMemory.is)) c.write_line-in-NoMemory.ensures.whole
+
+pub returns-in-Place-clause-whole : goal.returns-in-Place-clause-whole
+returns-in-Place-clause-whole g c =
+    subst (λ (bytes : List ℕ). Rose (g.N.Sink.faults c.args.notes.now) (g.N.Sink.faults c.write_line-in-Place.new.notes) ⊎ Appends (g.N.Sink.held c.args.notes.now) (g.N.Sink.held c.write_line-in-Place.new.notes) bytes)
+    (c.as_slice-in-Place.ensures.value ∙ c.place_line.ensures ∙ sym (ap note_of c.in-Place.is)) c.write_line-in-Place.ensures.whole
+
+pub returns-in-Unaligned-clause-whole : goal.returns-in-Unaligned-clause-whole
+returns-in-Unaligned-clause-whole g c =
+    subst (λ (bytes : List ℕ). Rose (g.N.Sink.faults c.args.notes.now) (g.N.Sink.faults c.write_line-in-Unaligned.new.notes) ⊎ Appends (g.N.Sink.held c.args.notes.now) (g.N.Sink.held c.write_line-in-Unaligned.new.notes) bytes)
+    (sym (ap note_of c.in-Unaligned.is)) c.write_line-in-Unaligned.ensures.whole

@@ -1,0 +1,249 @@
+-- The outcomes that the commands end with.
+use Rattle.std.proofs.Common.{◌≡◌, ℕ, ◌<◌, List, [], ◌∷◌, ◌++◌, length, take, map, string_bytes, String, Global, Bor, refl, ap, sym, ◌∙◌, subst, inl, inr, arith, append-nil}
+use Rattle.std.specs.Prelude.{Option, Some, None, Result, Ok, Err, OnOk, IfErr, All}
+use Rattle.outside_io.specs.Causes.{Rose}
+use Rattle.std.specs.Io.KnownBytes.{Appends, Keeps, IsAtEnd}
+use Rattle.std.proofs.KnownBytes.{Appends-nil}
+use Rattle.std.proofs.lemmas.List.Elements.{All-nil, All-cons}
+use Rattle.tmds_word.specs.Column.{Column}
+use Rattle.capture_file.specs.Layout.{capture_of}
+use Rattle.capture_file.specs.Faults.{AreLanes, IsCapture, IsFault, IsCaused, AnswersBytes}
+use Rattle.capture_file.specs.Damage.{IsDamaged, IsMisplaced, AreWithin}
+use Rattle.capture_file.specs.declared.damaging.Hit.{Hit}
+use Rattle.capture_file.specs.declared.damaging.DamageError.{DamageError}
+use Rattle.capture_file.specs.declared.damaging.DamageError.TheVariants as damages
+use Rattle.period_grammar.specs.Things.{Thing}
+use Rattle.capture_file.specs.Taps.{Tapped, tapped_capture}
+use Rattle.capture_file.specs.declared.writing.Tap.{Tap}
+use Rattle.capture_file.specs.declared.reading.CaptureFault.{CaptureFault}
+use Rattle.capture_file.specs.declared.reading.CaptureError.{CaptureError}
+use Rattle.capture_file.specs.declared.reading.CaptureError.TheVariants.{Bad as BadCapture, Read as CaptureUnread, NoMemory as CaptureUnheld}
+use Rattle.island_pack.specs.Periods.{Period}
+use Rattle.island_pack.specs.Spelling.{Spells}
+use Rattle.listing.specs.Answers.{Answers as AnswersReading}
+use Rattle.listing.specs.Reading.{Reading, accepted, refused, reads_as}
+use Rattle.listing.specs.declared.fault.ListFault.{ListFault}
+use Rattle.listing.specs.declared.fault.ListError.{ListError}
+use Rattle.listing.specs.declared.fault.ListError.TheVariants.{Bad as BadListing}
+use Rattle.hdmi_cli.specs.Notes.{listing_note, capture_note, place_note}
+use Rattle.hdmi_cli.specs.Commands.{AreHits}
+use Rattle.hdmi_cli.specs.Outcome.{Outcome, MakesLink, ListsCapture, Damages, Does}
+use Rattle.hdmi_cli.specs.Endings.{Devices, IsAnswered, IsPart, IsListed, IsPartListed, Ends, ListEnds, status_of, note_of, refused_ending, damage_ending}
+use Rattle.hdmi_cli.specs.declared.command.Command.{Command}
+use Rattle.hdmi_cli.specs.declared.command.Command.TheVariants.{MakeLink, Damage}
+use Rattle.hdmi_cli.specs.declared.ending.Ending.{Ending}
+use Rattle.hdmi_cli.specs.declared.ending.Ending.TheVariants.{Done, Faulty, Usage, Listing, Capture, Place, ReadFailed, WriteFailed, NoMemory, Unaligned}
+
+-- `make link`
+
+pub bad_listing : (reading : Reading) (r : Result (List Period) ListError) (e : ListError) (f : ListFault) → AnswersReading reading r → r ≡ Err e → e ≡ BadListing f → reading ≡ refused f.line f.cause
+bad_listing reading r e f answers is bad = subst (λ x. AnswersReading reading x) (is ∙ ap Err bad) answers
+
+pub listing_refused : (tap : Tap) (fault : ListFault) (before after : Devices) (text : List ℕ) → reads_as text ≡ refused fault.line fault.cause → after.held ≡ before.held
+    → IsAnswered (MakeLink tap) (Listing fault) before after text
+listing_refused tap fault before after text read kept = record {
+  outcome = record { status = 3; output = []; note = listing_note fault.line fault.cause };
+  does = subst (λ r. MakesLink tap r (record { status = 3; output = []; note = listing_note fault.line fault.cause })) (sym read) refl;
+  status = refl;
+  note = refl;
+  written = subst (λ h. Appends before.held h []) (sym kept) (Appends-nil before.held);
+}
+
+makes : (tap : Tap) (reading : Reading) (ps : List Period) (columns : List Column) → reading ≡ accepted ps → Spells ps columns
+    → MakesLink tap reading (record { status = 0; output = tapped_capture columns tap; note = [] })
+makes tap reading ps columns read spelled =
+    subst (λ r. MakesLink tap r (record { status = 0; output = tapped_capture columns tap; note = [] })) (sym read) (columns, spelled, refl)
+
+pub made : (tap : Tap) (ps : List Period) (columns : List Column) (before after : Devices) (text : List ℕ) → reads_as text ≡ accepted ps → Spells ps columns
+    → Appends before.held after.held (tapped_capture columns tap) → IsAnswered (MakeLink tap) Done before after text
+made tap ps columns before after text read spelled written = record {
+  outcome = record { status = 0; output = tapped_capture columns tap; note = [] };
+  does = makes tap (reads_as text) ps columns read spelled;
+  status = refl;
+  note = refl;
+  written = written;
+}
+
+pub made_part : (tap : Tap) (ps : List Period) (columns : List Column) (gone : ℕ) (before after : Devices) (text : List ℕ) → reads_as text ≡ accepted ps → Spells ps columns
+    → gone < length (tapped_capture columns tap) → Appends before.held after.held (take gone (tapped_capture columns tap)) → IsPart (MakeLink tap) before after text
+made_part tap ps columns gone before after text read spelled missing written = record {
+  outcome = record { status = 0; output = tapped_capture columns tap; note = [] };
+  gone = gone;
+  does = makes tap (reads_as text) ps columns read spelled;
+  status = (0, omega arith, refl);
+  missing = missing;
+  written = written;
+}
+
+pub made_of : (tap : Tap) (ps : List Period) (taken : List Column) (before after : Devices) (text : List ℕ) → reads_as text ≡ accepted ps
+    → ((columns : List Column) × (taken ≡ [] ++ columns) × Spells ps columns)
+    → Appends before.held after.held (tapped_capture taken tap) → IsAnswered (MakeLink tap) Done before after text
+made_of tap ps taken before after text read spelled written =
+    made tap ps spelled.0 before after text read spelled.2 (subst (λ cs. Appends before.held after.held (tapped_capture cs tap)) spelled.1 written)
+
+pub part_of : (tap : Tap) (ps : List Period) (taken : List Column) (gone : ℕ) (before after : Devices) (text : List ℕ) → reads_as text ≡ accepted ps
+    → ((columns : List Column) × (taken ≡ [] ++ columns) × Spells ps columns)
+    → gone < length (tapped_capture taken tap) → Appends before.held after.held (take gone (tapped_capture taken tap)) → IsPart (MakeLink tap) before after text
+part_of tap ps taken gone before after text read spelled missing written =
+    let lt : gone < length (tapped_capture spelled.0 tap) = subst (λ cs. gone < length (tapped_capture cs tap)) spelled.1 missing in
+    made_part tap ps spelled.0 gone before after text read spelled.2 lt (subst (λ cs. Appends before.held after.held (take gone (tapped_capture cs tap))) spelled.1 written)
+
+keeps_itself : (held : Option (List ℕ)) → Keeps held held
+keeps_itself None = tt
+keeps_itself (Some xs) = refl
+
+keeps : (old new : Option (List ℕ)) → new ≡ old → Keeps old new
+keeps old new same = subst (λ (held : Option (List ℕ)). Keeps old held) (sym same) (keeps_itself old)
+
+-- a capture that is listed by such a text
+
+listed : (text : List Thing → List ℕ) (command : Command) (lanes : Tapped) (s : ℕ) (note : List ℕ) (e : Ending) (before after : Devices) (bytes : List ℕ)
+    → ((o : Outcome) → ListsCapture text bytes o → Does command bytes o) → AreLanes lanes.blue lanes.green lanes.red
+    → bytes ≡ capture_of lanes.blue lanes.green lanes.red → IsListed text lanes s note before.held after.held
+    → s ≡ status_of e → note ≡ note_of e → IsAnswered command e before after bytes
+listed text command lanes s note e before after bytes does are is it same told = record {
+  outcome = record { status = s; output = it.output; note = note };
+  does = does (record { status = s; output = it.output; note = note }) (inl (lanes.blue, lanes.green, lanes.red, are, is, it.lists));
+  status = same;
+  note = told;
+  written = it.written;
+}
+
+part_listed : (text : List Thing → List ℕ) (command : Command) (lanes : Tapped) (before after : Devices) (bytes : List ℕ)
+    → ((o : Outcome) → ListsCapture text bytes o → Does command bytes o) → AreLanes lanes.blue lanes.green lanes.red
+    → bytes ≡ capture_of lanes.blue lanes.green lanes.red → IsPartListed text lanes before.held after.held → IsPart command before after bytes
+part_listed text command lanes before after bytes does are is it = record {
+  outcome = it.outcome;
+  gone = it.gone;
+  does = does it.outcome (inl (lanes.blue, lanes.green, lanes.red, are, is, it.lists));
+  status = it.status;
+  missing = it.missing;
+  written = it.written;
+}
+
+-- the command ends as the listing of the lanes does
+pub recovered : (text : List Thing → List ℕ) (command : Command) (lanes : Tapped) (e : Ending) (before after : Devices)
+    → ((bytes : List ℕ) (o : Outcome) → ListsCapture text bytes o → Does command bytes o) → AreLanes lanes.blue lanes.green lanes.red → IsAtEnd after.left
+    → ((bytes : List ℕ) → before.left ≡ Some bytes → bytes ≡ capture_of lanes.blue lanes.green lanes.red)
+    → ListEnds text lanes e before.held after.held before.output_faults after.output_faults → Ends command e before after
+recovered text command lanes Done before after does are ended is ends =
+    (ended, λ bytes told. listed text command lanes 0 [] Done before after bytes (does bytes) are (is bytes told) ends refl refl)
+recovered text command lanes Faulty before after does are ended is ends =
+    (ended, λ bytes told. listed text command lanes 1 [] Faulty before after bytes (does bytes) are (is bytes told) ends refl refl)
+recovered text command lanes Unaligned before after does are ended is ends =
+    (ended, ends.0, λ bytes told. listed text command lanes 7 _ Unaligned before after bytes (does bytes) are (is bytes told) ends.1 refl refl)
+recovered text command lanes WriteFailed before after does are ended is ends =
+    (ends.0, λ bytes told. part_listed text command lanes before after bytes (does bytes) are (is bytes told) ends.1)
+recovered text command lanes NoMemory before after does are ended is ends = ends
+recovered text command lanes Usage before after does are ended is ends = absurd ends
+recovered text command lanes (Listing fault) before after does are ended is ends = absurd ends
+recovered text command lanes (Capture fault) before after does are ended is ends = absurd ends
+recovered text command lanes (Place i) before after does are ended is ends = absurd ends
+recovered text command lanes ReadFailed before after does are ended is ends = absurd ends
+
+-- the command ends as the reading of the capture does
+pub unread : (text : List Thing → List ℕ) (command : Command) (error : CaptureError) (before after : Devices)
+    → ((bytes : List ℕ) (o : Outcome) → ListsCapture text bytes o → Does command bytes o) → after.held ≡ before.held
+    → IsCaused before.input_faults after.input_faults error
+    → ((bytes : List ℕ) → before.left ≡ Some bytes → AnswersBytes bytes (λ (rows : Tapped). capture_of rows.blue rows.green rows.red) (Err error))
+    → Ends command (refused_ending error) before after
+unread text command (BadCapture fault) before after does kept caused answers = (
+  keeps before.held after.held kept,
+  λ bytes told. record {
+    outcome = record { status = 3; output = []; note = capture_note fault };
+    does = does bytes (record { status = 3; output = []; note = capture_note fault }) (inr (fault, answers bytes told, refl));
+    status = refl;
+    note = refl;
+    written = subst (λ h. Appends before.held h []) (sym kept) (Appends-nil before.held);
+  },
+)
+unread text command CaptureUnread before after does kept caused answers = (keeps before.held after.held kept, caused)
+unread text command CaptureUnheld before after does kept caused answers = keeps before.held after.held kept
+
+-- `damage`
+
+-- what a copy of a capture with its hits says of its answer
+pub record Damaged (hits : List Hit) (before after : Devices) (r : Result (Unit {0}) DamageError) : Type 0 where
+  pub done :
+      (bytes : List ℕ) → before.left ≡ Some bytes
+      → OnOk r ((whole : List ℕ) × IsCapture bytes × IsDamaged bytes hits whole × Appends before.held after.held whole)
+  pub bad : (bytes : List ℕ) (fault : CaptureFault) → before.left ≡ Some bytes → r ≡ Err (damages.Bad fault) → IsFault bytes fault × AreWithin bytes hits
+  pub place : (bytes : List ℕ) (i : ℕ) → before.left ≡ Some bytes → r ≡ Err (damages.Place i) → IsMisplaced bytes hits i
+  pub part :
+      (bytes : List ℕ) → before.left ≡ Some bytes → r ≡ Err damages.Write
+      → (whole : List ℕ) × (gone : ℕ) × IsCapture bytes × IsDamaged bytes hits whole × (gone < length whole) × Appends before.held after.held (take gone whole)
+  pub unwritten : IfErr r (λ e. (e ≡ damages.Write → ⊥) → Keeps before.held after.held)
+  pub ended : OnOk r (IsAtEnd after.left)
+  pub read_cause : r ≡ Err damages.Read → Rose before.input_faults after.input_faults
+  pub write_cause : r ≡ Err damages.Write → Rose before.output_faults after.output_faults
+
+nothing_written : (old new : Option (List ℕ)) → Keeps old new → Appends old new []
+nothing_written None new h = tt
+nothing_written (Some xs) None h = absurd h
+nothing_written (Some xs) (Some ys) h = h ∙ sym (append-nil xs)
+
+damage_refused : (texts : Bor (List (String Global))) (hits : List Hit) (e : Ending) (note : List ℕ) (before after : Devices) (bytes : List ℕ) → AreHits (map string_bytes texts.now) hits
+    → Damages hits bytes (record { status = 3; output = []; note = note }) → 3 ≡ status_of e → note ≡ note_of e → Keeps before.held after.held → IsAnswered (Damage texts) e before after bytes
+damage_refused texts hits e note before after bytes are does same told kept = record {
+  outcome = record { status = 3; output = []; note = note };
+  does = (hits, are, does);
+  status = same;
+  note = told;
+  written = nothing_written before.held after.held kept;
+}
+
+bad_is_no_write : (fault : CaptureFault) → damages.Bad fault ≡ damages.Write → ⊥
+bad_is_no_write fault h = cc
+
+place_is_no_write : (i : ℕ) → damages.Place i ≡ damages.Write → ⊥
+place_is_no_write i h = cc
+
+read_is_no_write : damages.Read ≡ damages.Write → ⊥
+read_is_no_write h = cc
+
+memory_is_no_write : damages.NoMemory ≡ damages.Write → ⊥
+memory_is_no_write h = cc
+
+pub damaged : (texts : Bor (List (String Global))) (hits : List Hit) (r : Result (Unit {0}) DamageError) (before after : Devices) → AreHits (map string_bytes texts.now) hits
+    → Damaged hits before after r → Ends (Damage texts) (damage_ending r) before after
+damaged texts hits (Ok done) before after are it = (
+  it.ended,
+  λ bytes told. let whole = it.done bytes told in record {
+    outcome = record { status = 0; output = whole.0; note = [] };
+    does = (hits, are, inl (whole.0, whole.1, whole.2, refl));
+    status = refl;
+    note = refl;
+    written = whole.3;
+  },
+)
+damaged texts hits (Err (damages.Bad fault)) before after are it =
+    let kept = it.unwritten (λ same. bad_is_no_write fault same) in (
+      kept,
+      λ bytes told. let bad = it.bad bytes fault told refl in
+          damage_refused texts hits (Capture fault) (capture_note fault) before after bytes are (inr (inr (fault, bad.0, bad.1, refl))) refl refl kept,
+    )
+damaged texts hits (Err (damages.Place i)) before after are it =
+    let kept = it.unwritten (λ same. place_is_no_write i same) in (
+      kept,
+      λ bytes told. damage_refused texts hits (Place i) (place_note i) before after bytes are (inr (inl (i, it.place bytes i told refl, refl))) refl refl kept,
+    )
+damaged texts hits (Err damages.Read) before after are it = (it.unwritten (λ same. read_is_no_write same), it.read_cause refl)
+damaged texts hits (Err damages.Write) before after are it = (
+  it.write_cause refl,
+  λ bytes told. let p = it.part bytes told refl in record {
+    outcome = record { status = 0; output = p.0; note = [] };
+    gone = p.1;
+    does = (hits, are, inl (p.0, p.2, p.3, refl));
+    status = (0, omega arith, refl);
+    missing = p.4;
+    written = p.5;
+  },
+)
+damaged texts hits (Err damages.NoMemory) before after are it = it.unwritten (λ same. memory_is_no_write same)
+
+-- the lanes of hits, as a copy wants them
+pub lanes_of_hits : (texts : List (List ℕ)) (hits : List Hit) → AreHits texts hits → All (λ (h : Hit). h.lane < 3) hits
+lanes_of_hits [] [] are = All-nil (λ (h : Hit). h.lane < 3)
+lanes_of_hits [] (hit ∷ hits) are = absurd are
+lanes_of_hits (text ∷ texts) [] are = absurd are
+lanes_of_hits (text ∷ texts) (hit ∷ hits) are = All-cons (λ (h : Hit). h.lane < 3) hit hits are.0.lane (lanes_of_hits texts hits are.1)
