@@ -4,8 +4,9 @@
     bench/bench.py [LINES]
 
 The listing has LINES lines of 1,920 pixels (4,000 if not given), each with 3,078 columns of blanking around it:
-5,000 columns a line, so 20,000,000 columns in all. Next to the program the same files go through cat and
-sha256sum. Each command is run three times, and the best time counts.
+5,000 columns a line, so 20,000,000 columns in all. Each command of the program is run on it, or on its capture, and
+next to them cat and sha256sum on the same capture. Each is run three times, and the best time counts. Rates are by
+the bytes of the capture and by its columns, which count as pixels.
 """
 
 import os
@@ -67,6 +68,9 @@ def main():
         size = os.path.getsize(capture)
         print(f"{columns} columns, listing {os.path.getsize(listing)} bytes, capture {size} bytes")
         tell("make link", took, peak, size, columns)
+        for words in (["recover", "link"], ["check"], ["damage", "1:1000:2cc"]):
+            took, peak = run([PROGRAM] + words, capture, other)
+            tell(" ".join(words), took, peak, size, columns)
         for words in (["cat"], ["sha256sum"]):
             took, peak = run(words, capture, other)
             tell(words[0] + " of the capture", took, peak, size, columns)
