@@ -3,10 +3,12 @@
 
     bench/bench.py [LINES]
 
-The listing has LINES lines of 1,920 pixels (4,000 if not given), each with 3,078 columns of blanking around it:
-5,000 columns a line, so 20,000,000 columns in all. Each command of the program is run on it, or on its capture, and
-next to them cat and sha256sum on the same capture. Each is run three times, and the best time counts. Rates are by
-the bytes of the capture and by its columns, which count as pixels.
+The listing has LINES lines of 1,920 pixels (4,000 if not given, at least 3), each with 3,080 columns around it: guard
+bands, control columns and, where the program reads islands, a data island of one packet. That is 5,000 columns a line,
+so 20,000,000 columns in all. The readers are given the capture of the listing from bit 123,457 on with the skews 0, 70
+and 35, so that no character begins where a byte does. Next to the program the same capture goes through cat and
+sha256sum, in the same run. Each command is run three times, and the best time counts. MB are those of the capture, and
+columns count as pixels. No peak is told below some 15 MiB, which this script itself has when it starts a program.
 """
 
 import os
@@ -19,18 +21,37 @@ import time
 TOP = os.path.dirname(os.path.dirname(os.path.abspath(__file__)))
 FRONT = os.path.join(TOP, "vabgrot")
 PROGRAM = os.path.join(TOP, "crates", "hdmi_cli", "out", "hdmi_cli")
-BLANKING = 3078
+COLUMNS = 5000
 PIXELS = 1920
+KINDS = 64
+TAP = ["--offset", "123457", "--skew", "0,70,35"]
+DAMAGE = ["1:1000:2cc", "0:12345:133", "2:20007:001"]
+ISLAND = "c 00 12\nc 14 8\ni 00\np {}\ne 00\n"
+ISLAND_COLUMNS = 12 + 8 + 2 + 32 + 2
 
 
-def write_listing(path, lines):
+def packet(noise):
+    """The fields of a packet whose bytes are noise."""
+    bodies = " ".join(noise.randbytes(7).hex() for _ in range(4))
+    return f"{noise.randbytes(3).hex()} {bodies} {'0' * 32}"
+
+
+def write_listing(path, lines, islands):
     """A listing of noisy lines; the seed is fixed, so it is the same at each run."""
     noise = random.Random(1)
-    some = [noise.randbytes(3 * PIXELS).hex() for _ in range(64)]
+    pixels = [noise.randbytes(3 * PIXELS).hex() for _ in range(KINDS)]
+    packets = [ISLAND.format(packet(noise)) if islands else "" for _ in range(KINDS)]
+    quiet = COLUMNS - PIXELS - 2 - 8 - 12 - (ISLAND_COLUMNS if islands else 0)
     with open(path, "w") as out:
         for line in range(lines):
-            out.write(f"c 00 {BLANKING - 20}\nc 04 8\nv {some[line % 64]}\nc 00 12\n")
+            kind = line % KINDS
+            out.write(f"{packets[kind]}c 00 {quiet}\nc 04 8\nv {pixels[kind]}\nc 00 12\n")
         out.write("end\n")
+
+
+def takes(words, text):
+    """Whether the program knows a command and does it with a small input."""
+    return subprocess.run([PROGRAM] + words, input=text, capture_output=True).returncode == 0
 
 
 def run(words, source, target):
@@ -42,35 +63,42 @@ def run(words, source, target):
             process = subprocess.Popen(words, stdin=given, stdout=taken)
             _, status, usage = os.wait4(process.pid, 0)
             took = time.perf_counter() - start
-        if status != 0:
-            sys.exit(f"{words[0]} ended with {os.waitstatus_to_exitcode(status)}")
-        process.returncode = 0
+        process.returncode = os.waitstatus_to_exitcode(status)
+        if process.returncode != 0:
+            sys.exit(f"{' '.join(words)} ended with {process.returncode}")
         best = took if best is None else min(best, took)
         peak = max(peak, usage.ru_maxrss / 1024)
     return best, peak
 
 
 def tell(name, took, peak, size, columns):
-    print(f"{name:<22}{took:8.3f} s{size / took / 1e6:10.0f} MB/s{columns / took / 1e6:10.1f} M columns/s{peak:9.0f} MiB peak")
+    rates = f"{size / took / 1e6:10.0f} MB/s{columns / took / 1e6:10.1f} M pixels/s"
+    print(f"{name:<24}{took:8.3f} s{rates}{peak:9.0f} MiB peak", flush=True)
 
 
 def main():
     lines = int(sys.argv[1]) if len(sys.argv) > 1 else 4000
-    columns = lines * (BLANKING + 2 + PIXELS)
+    columns = lines * COLUMNS
+    with open(os.path.join(TOP, "examples", "red.link"), "rb") as given:  # builds the program where that is due
+        red = subprocess.run([FRONT, "make", "link"], stdin=given, stdout=subprocess.PIPE, check=True).stdout
+    small = (ISLAND.format(packet(random.Random(0))) + "c 00 12\nend\n").encode()
+    islands = takes(["make", "link"], small)
     with tempfile.TemporaryDirectory() as folder:
-        listing = os.path.join(folder, "large.link")
-        capture = os.path.join(folder, "large.tmc")
-        other = os.path.join(folder, "other")
-        write_listing(listing, lines)
-        with open(os.path.join(TOP, "examples", "red.link"), "rb") as given:  # builds the program where that is due
-            subprocess.run([FRONT, "make", "link"], stdin=given, stdout=subprocess.DEVNULL, check=True)
-        took, peak = run([PROGRAM, "make", "link"], listing, capture)
+        listing, capture, other = (os.path.join(folder, name) for name in ("large.link", "large.tmc", "other"))
+        write_listing(listing, lines, islands)
+        took, peak = run([PROGRAM, "make", "link"] + TAP, listing, capture)
         size = os.path.getsize(capture)
-        print(f"{columns} columns, listing {os.path.getsize(listing)} bytes, capture {size} bytes")
+        print(f"{columns} columns, {lines if islands else 0} islands, listing {os.path.getsize(listing)} bytes,", end=" ")
+        print(f"capture {size} bytes")
         tell("make link", took, peak, size, columns)
-        for words in (["recover", "link"], ["check"], ["damage", "1:1000:2cc"]):
-            took, peak = run([PROGRAM] + words, capture, other)
-            tell(" ".join(words), took, peak, size, columns)
+        for name, words, probe in (
+            ("recover link", ["recover", "link"], ["recover", "link"]),
+            ("check", ["check"], ["check"]),
+            ("damage", ["damage"] + DAMAGE, ["damage", "0:0:000"]),
+        ):
+            if takes(probe, red):
+                took, peak = run([PROGRAM] + words, capture, other)
+                tell(name, took, peak, size, columns)
         for words in (["cat"], ["sha256sum"]):
             took, peak = run(words, capture, other)
             tell(words[0] + " of the capture", took, peak, size, columns)
