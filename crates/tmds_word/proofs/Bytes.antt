@@ -5,6 +5,7 @@ use Rattle.std.proofs.lemmas.Grind.{same_number_lists}
 use Rattle.std.proofs.lemmas.List.{get_or-drop, get_or-take}
 use Rattle.std.proofs.Math.ListN.{get_or-append}
 use Rattle.tmds_word.specs.Bits.{bits_of, bytes_bits, bytes_of, number}
+use Rattle.tmds_word.proofs.Lists.{bits_of-byte}
 use Rattle.tmds_word.proofs.Rows.{AreBytes, byte_of_row, byte_within}
 
 pub length-bytes_of : (k n : ℕ) → length (bytes_of k n) ≡ k
@@ -21,6 +22,14 @@ get_or-bytes_of (suc k) n (suc i) lt =
     let f : 8 + 8 * i ≡ 8 * suc i = omega arith in
     get_or-bytes_of k (n / 256) i (omega arith)
     ∙ ap (λ m. m % 256) (ap (λ m. m / 2 ^ (8 * i)) (sym e) ∙ shr-shr n 8 (8 * i) ∙ ap (λ j. n / 2 ^ j) f)
+
+-- the bits of the lowest bytes are the lowest bits
+pub bytes_of-bits : (k n : ℕ) → bytes_bits (bytes_of k n) ≡ bits_of (8 * k) n
+unfolding bytes_of bytes_bits bits_of
+bytes_of-bits zero n = refl
+bytes_of-bits (suc k) n =
+    let more : 8 + 8 * k ≡ 8 * suc k = omega arith in
+    ap (λ xs. bits_of 8 (n % 256) ++ xs) (bytes_of-bits k (n / 256)) ∙ sym (bits_of-byte (8 * k) n) ∙ ap (λ j. bits_of j n) more
 
 -- a list that has the right byte at each place
 pub bytes_of-places : (bytes : List ℕ) (k n from : ℕ) → length bytes ≡ k
@@ -56,20 +65,38 @@ byte_of_two n p i low high e f =
     ∙ byte_shifted (p % 8) m few
     ∙ ap (λ k. k % 256) (shr-shr n at (p % 8) ∙ ap (λ k. n / 2 ^ k) whole)
 
+-- the whole bytes from the one on in which a place stands
+pub byte_of_piece : (whole : List ℕ) (h t from at k : ℕ) (piece : List ℕ) → AreBytes whole → t < 2 ^ h → h < 8
+    → at ≡ min (from / 8) (length whole) → piece ≡ drop at whole → k < length piece
+    → get_or piece k 0 ≡ (number (bytes_bits whole ++ bits_of h t) / 2 ^ (8 * (from / 8 + k))) % 256
+byte_of_piece whole h t from at k piece are lt few place is below =
+    let left : length piece ≡ length whole - at = ap length is ∙ length-drop at whole in
+    let inside : at + k < length whole = omega arith in
+    let own : at ≡ from / 8 = omega arith in
+    ap (λ xs. get_or xs k 0) is
+    ∙ get_or-drop at whole k 0
+    ∙ sym (byte_within whole t (at + k) inside)
+    ∙ sym (byte_of_row whole h t (at + k) are lt few)
+    ∙ ap (λ j. (number (bytes_bits whole ++ bits_of h t) / 2 ^ (8 * (j + k))) % 256) own
+
 -- what a copy of the whole bytes from a byte's edge on has
 pub whole_byte : (whole : List ℕ) (h t from at count k : ℕ) (piece rest : List ℕ) → AreBytes whole → t < 2 ^ h → h < 8 → from % 8 ≡ 0
     → at ≡ min (from / 8) (length whole) → piece ≡ drop at whole → count ≤ length piece → k < count
     → get_or (take count piece ++ rest) k 0 ≡ (number (bytes_bits whole ++ bits_of h t) / 2 ^ (from + 8 * k)) % 256
 whole_byte whole h t from at count k piece rest are lt few edge place is room below =
-    let left : length piece ≡ length whole - at = ap length is ∙ length-drop at whole in
-    let inside : at + k < length whole = omega arith in
-    let own : at ≡ from / 8 = omega arith in
-    let bits : 8 * (at + k) ≡ from + 8 * k = omega arith in
+    let bits : 8 * (from / 8 + k) ≡ from + 8 * k = omega arith in
     let cut : k < length (take count piece) = omega (arith, length-take-le count piece room) in
     get_or-append (take count piece) rest 0 k cut
     ∙ get_or-take count piece k 0 below
-    ∙ ap (λ xs. get_or xs k 0) is
-    ∙ get_or-drop at whole k 0
-    ∙ sym (byte_within whole t (at + k) inside)
-    ∙ sym (byte_of_row whole h t (at + k) are lt few)
+    ∙ byte_of_piece whole h t from at k piece are lt few place is (omega arith)
     ∙ ap (λ j. (number (bytes_bits whole ++ bits_of h t) / 2 ^ j) % 256) bits
+
+-- and what a copy from another place on has
+pub shifted_byte : (whole : List ℕ) (h t from at k : ℕ) (piece : List ℕ) → AreBytes whole → t < 2 ^ h → h < 8
+    → at ≡ min (from / 8) (length whole) → piece ≡ drop at whole → k + 1 < length piece
+    → ((get_or piece k 0 + get_or piece (k + 1) 0 * 256) / 2 ^ (from % 8)) % 256 ≡ (number (bytes_bits whole ++ bits_of h t) / 2 ^ (from + 8 * k)) % 256
+shifted_byte whole h t from at k piece are lt few place is below =
+    let n = number (bytes_bits whole ++ bits_of h t) in
+    let next : 8 * (from / 8 + (k + 1)) ≡ 8 * (from / 8 + k + 1) = omega arith in
+    byte_of_two n from k (get_or piece k 0) (get_or piece (k + 1) 0) (byte_of_piece whole h t from at k piece are lt few place is (omega arith))
+    (byte_of_piece whole h t from at (k + 1) piece are lt few place is below ∙ ap (λ j. (n / 2 ^ j) % 256) next)

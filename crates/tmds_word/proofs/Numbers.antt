@@ -1,5 +1,5 @@
 -- The number of a list of bits, its first bit lowest, when the list is joined, cut and read.
-use Rattle.std.proofs.Common.{◌≡◌, ℕ, suc, zero, ◌+◌, ◌*◌, ◌/◌, ◌%◌, ◌^◌, ◌<◌, Bool, true, false, List, [], ◌∷◌, ◌++◌, length, take, drop, get_or, refl, ap, ◌∙◌, sym, arith, zero-add, ◌==◌, drop-cons}
+use Rattle.std.proofs.Common.{◌≡◌, ℕ, suc, zero, ◌+◌, ◌*◌, ◌/◌, ◌%◌, ◌^◌, ◌<◌, Bool, true, false, List, [], ◌∷◌, ◌++◌, length, take, drop, get_or, refl, ap, ap₂, ◌∙◌, sym, arith, zero-add, ◌==◌, drop-cons}
 use Rattle.std.specs.Prelude.{slice_get, Some}
 use Rattle.std.proofs.Math.Nat.{pow-suc}
 use Rattle.std.proofs.lemmas.Nat.{shr-shr, mod-mul-add}
@@ -83,3 +83,16 @@ number-bits_of (suc k) n =
     ∙ ap (λ m. n % 2 + 2 * m) (number-bits_of k (n / 2))
     ∙ sym (rest_after (n % 2) (n / 2) k odd)
     ∙ ap (λ m. m % 2 ^ suc k) whole
+
+-- bits are the lowest bits of their number
+pub bits_of-number : (xs : List Bool) → bits_of (length xs) (number xs) ≡ xs
+unfolding bits_of number
+bits_of-number [] = refl
+bits_of-number (true ∷ xs) =
+    let odd : (1 + 2 * number xs) % 2 ≡ 1 = omega arith in
+    let half : (1 + 2 * number xs) / 2 ≡ number xs = omega arith in
+    ap₂ (λ r n. (r == 1) ∷ bits_of (length xs) n) odd half ∙ ap (λ ys. true ∷ ys) (bits_of-number xs)
+bits_of-number (false ∷ xs) =
+    let even : (2 * number xs) % 2 ≡ 0 = omega arith in
+    let half : (2 * number xs) / 2 ≡ number xs = omega arith in
+    ap₂ (λ r n. (r == 1) ∷ bits_of (length xs) n) even half ∙ ap (λ ys. false ∷ ys) (bits_of-number xs)

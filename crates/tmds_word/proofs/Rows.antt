@@ -1,12 +1,12 @@
 -- A packed row: the bits of whole bytes, and then a tail of fewer than eight bits.
-use Rattle.std.proofs.Common.{◌≡◌, ℕ, suc, zero, ◌+◌, ◌-◌, ◌*◌, ◌/◌, ◌%◌, ◌^◌, ◌<◌, ◌≤◌, Bool, List, [], ◌∷◌, ◌++◌, length, take, drop, get_or, refl, ap, ap₂, ◌∙◌, sym, arith, ◌==◌, append_assoc, append-nil, length-append, drop-cons, subst, inl, inr, bit_and}
+use Rattle.std.proofs.Common.{◌≡◌, ℕ, suc, zero, ◌+◌, ◌-◌, ◌*◌, ◌/◌, ◌%◌, ◌^◌, ◌<◌, ◌≤◌, Bool, List, [], ◌∷◌, ◌++◌, length, take, drop, get_or, refl, ap, ap₂, ◌∙◌, sym, arith, ◌==◌, append_assoc, append-nil, length-append, length-drop, drop-cons, subst, inl, inr, bit_and}
 use Rattle.std.proofs.Math.Nat.{mod-eq_of_lt, mul-le-mul_left}
 use Rattle.std.proofs.Math.Pow.{pow_mono}
 use Rattle.std.proofs.Math.Seq.{get_or-append_right, take-append-add}
 use Rattle.std.proofs.Math.ListN.{get_or-append}
 use Rattle.std.proofs.lemmas.Nat.{shr-shr, pow-add, and_mask}
 use Rattle.std.proofs.lemmas.Bool.{cases_lt}
-use Rattle.std.proofs.lemmas.List.{take_more, drop_all, get_or_past, take-append-le}
+use Rattle.std.proofs.lemmas.List.{take_more, drop_all, get_or_past, take-append-le, drop-append-le}
 use Rattle.tmds_word.specs.Bits.{bits_of, bytes_bits, number}
 use Rattle.tmds_word.proofs.Numbers.{number-append, number-bits_of, number-window, zero_over}
 use Rattle.tmds_word.proofs.Lists.{length-bits_of, length-bytes_bits, bytes_bits-append, bytes_bits-one, bits_of-join, bits_of-byte, bits_of-low}
@@ -173,7 +173,7 @@ bit_in_byte n i =
     low_bit (i % 8) (n / 2 ^ (8 * (i / 8))) few
     ∙ ap (λ m. m % 2) (shr-shr n (8 * (i / 8)) (i % 8) ∙ ap (λ k. n / 2 ^ k) whole)
 
-low_word : (r n : ℕ) → r < 8 → ((n % 256 + (n / 256 % 256) * 256 + (n / 65536 % 256) * 65536) / 2 ^ r) % 1024 ≡ (n / 2 ^ r) % 1024
+low_word : (r n : ℕ) → r < 8 → ((n % 16777216) / 2 ^ r) % 1024 ≡ (n / 2 ^ r) % 1024
 low_word zero n h = omega arith
 low_word (suc zero) n h = omega arith
 low_word (suc (suc zero)) n h = omega arith
@@ -184,22 +184,59 @@ low_word (suc (suc (suc (suc (suc (suc zero)))))) n h = omega arith
 low_word (suc (suc (suc (suc (suc (suc (suc zero))))))) n h = omega arith
 low_word (suc (suc (suc (suc (suc (suc (suc (suc r)))))))) n h = absurd (omega arith)
 
--- the ten bits from p on, from the three bytes at p / 8
-pub word_in_bytes : (xs : List Bool) (p : ℕ)
-    → (((number xs / 2 ^ (8 * (p / 8))) % 256 + (number xs / 2 ^ (8 * (p / 8 + 1)) % 256) * 256 + (number xs / 2 ^ (8 * (p / 8 + 2)) % 256) * 65536) / 2 ^ (p % 8)) % 1024 ≡ number (take 10 (drop p xs))
-word_in_bytes xs p =
-    let j = p / 8 in
-    let n = number xs / 2 ^ (8 * j) in
+-- the ten bits from p on, from a number that has three bytes from p / 8 on
+word_in_number : (xs : List Bool) (p n : ℕ) → n % 16777216 ≡ (number xs / 2 ^ (8 * (p / 8))) % 16777216 → (n / 2 ^ (p % 8)) % 1024 ≡ number (take 10 (drop p xs))
+word_in_number xs p n same =
+    let at = 8 * (p / 8) in
     let few : p % 8 < 8 = omega arith in
-    let whole : 8 * j + p % 8 ≡ p = omega arith in
-    let next : 8 * (j + 1) ≡ 8 * j + 8 = omega arith in
-    let third : 8 * (j + 2) ≡ 8 * j + 16 = omega arith in
-    let one : number xs / 2 ^ (8 * (j + 1)) ≡ n / 256 = ap (λ k. number xs / 2 ^ k) next ∙ sym (shr-shr (number xs) (8 * j) 8) in
-    let two : number xs / 2 ^ (8 * (j + 2)) ≡ n / 65536 = ap (λ k. number xs / 2 ^ k) third ∙ sym (shr-shr (number xs) (8 * j) 16) in
-    ap₂ (λ a b. ((n % 256 + (a % 256) * 256 + (b % 256) * 65536) / 2 ^ (p % 8)) % 1024) one two
-    ∙ low_word (p % 8) n few
-    ∙ ap (λ m. m % 1024) (shr-shr (number xs) (8 * j) (p % 8) ∙ ap (λ k. number xs / 2 ^ k) whole)
+    let whole : at + p % 8 ≡ p = omega arith in
+    sym (low_word (p % 8) n few)
+    ∙ ap (λ k. k / 2 ^ (p % 8) % 1024) same
+    ∙ low_word (p % 8) (number xs / 2 ^ at) few
+    ∙ ap (λ k. k % 1024) (shr-shr (number xs) at (p % 8) ∙ ap (λ k. number xs / 2 ^ k) whole)
     ∙ sym (number-window p 10 xs)
+
+-- from the three bytes
+pub word_in_bytes : (xs : List Bool) (p a b c n : ℕ) → n ≡ a + b * 256 + c * 65536
+    → a ≡ (number xs / 2 ^ (8 * (p / 8))) % 256 → b ≡ (number xs / 2 ^ (8 * (p / 8 + 1))) % 256 → c ≡ (number xs / 2 ^ (8 * (p / 8 + 2))) % 256
+    → (n / 2 ^ (p % 8)) % 1024 ≡ number (take 10 (drop p xs))
+word_in_bytes xs p a b c n sum first second third =
+    let at = 8 * (p / 8) in
+    let m = number xs / 2 ^ at in
+    let next : 8 * (p / 8 + 1) ≡ at + 8 = omega arith in
+    let last : 8 * (p / 8 + 2) ≡ at + 16 = omega arith in
+    let one : b ≡ m / 256 % 256 = second ∙ ap (λ k. number xs / 2 ^ k % 256) next ∙ ap (λ k. k % 256) (sym (shr-shr (number xs) at 8)) in
+    let two : c ≡ m / 65536 % 256 = third ∙ ap (λ k. number xs / 2 ^ k % 256) last ∙ ap (λ k. k % 256) (sym (shr-shr (number xs) at 16)) in
+    word_in_number xs p n (omega (arith, sum, first, one, two))
+
+-- the four bytes from a place on as a number
+pub four_bytes_are : (bytes : List ℕ) (j n : ℕ) → AreBytes bytes → j + 4 ≤ length bytes
+    → n ≡ get_or bytes j 0 + get_or bytes (j + 1) 0 * 256 + get_or bytes (j + 2) 0 * 65536 + get_or bytes (j + 3) 0 * 16777216
+    → n ≡ (number (bytes_bits bytes) / 2 ^ (8 * j)) % 4294967296
+four_bytes_are bytes j n are room sum =
+    let first = step j (j + 1) (omega arith) (omega arith) in
+    let second = step (j + 1) (j + 2) (omega arith) (omega arith) in
+    let third = step (j + 2) (j + 3) (omega arith) (omega arith) in
+    let fourth = step (j + 3) (j + 4) (omega arith) (omega arith) in
+    omega (arith, sum, number_from j bytes are, are j, are (j + 1), are (j + 2), are (j + 3), first, second, third, fourth)
+  where
+    step : (i k : ℕ) → suc i ≡ k → i < length bytes → number (bytes_bits (drop i bytes)) ≡ get_or bytes i 0 + 256 * number (bytes_bits (drop k bytes))
+    step i k next lt =
+        ap (λ bs. number (bytes_bits bs)) (drop-cons bytes i 0 lt)
+        ∙ number_of_bytes (get_or bytes i 0) (drop (suc i) bytes) (are i)
+        ∙ ap (λ m. get_or bytes i 0 + 256 * number (bytes_bits (drop m bytes))) next
+
+-- the ten bits from p on, where the four bytes from p / 8 on are whole
+pub word_in_whole : (xs more : List Bool) (bytes : List ℕ) (p n : ℕ) → bytes_bits bytes ++ more ≡ xs → p / 8 + 4 ≤ length bytes
+    → n ≡ (number (bytes_bits bytes) / 2 ^ (8 * (p / 8))) % 4294967296 → (n / 2 ^ (p % 8)) % 1024 ≡ number (take 10 (drop p xs))
+word_in_whole xs more bytes p n view room is =
+    let own = bytes_bits bytes in
+    let inside : p + 10 ≤ length own = omega (arith, room, length-bytes_bits bytes) in
+    let left : 10 ≤ length (drop p own) = omega (arith, inside, length-drop p own) in
+    word_in_number own p n (omega (arith, is))
+    ∙ ap number (sym (take-append-le 10 (drop p own) more left))
+    ∙ ap (λ ys. number (take 10 ys)) (sym (drop-append-le p own more (omega arith)))
+    ∙ ap (λ ys. number (take 10 (drop p ys))) view
 
 -- Cutting.
 

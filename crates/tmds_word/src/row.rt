@@ -1,5 +1,5 @@
 //! Rows of the bits that one lane sends.
-ghost use Rattle.std.specs.Prelude.{ℕ, ◌≡◌, ◌<◌, ◌≤◌, ◌+◌, ◌*◌, ◌/◌, ◌%◌, ◌↔◌, ◌^◌, ◌++◌, [], take, drop, length, slice_get, slice_index, slice_set, ◌∷◌, IfSome, IsNone, IsTrue, Some, IfOk, OnOk, OnErr, min};
+ghost use Rattle.std.specs.Prelude.{ℕ, ◌≡◌, ◌<◌, ◌≤◌, ◌+◌, ◌-◌, ◌*◌, ◌/◌, ◌%◌, ◌↔◌, ◌^◌, ◌++◌, [], take, drop, length, slice_get, slice_index, slice_set, ◌∷◌, IfSome, IsNone, IsTrue, Some, IfOk, OnOk, OnErr, min};
 ghost use Rattle.tmds_word.specs.Bits.{bits_of, word_bits, bytes_bits, bytes_of, number};
 
 use crate::Word;
@@ -82,13 +82,14 @@ impl BitRow {
         ensures none { IsNone result ↔ (length self.now < p + 10) }
         ensures some { IfSome result (λ w. w ≡ number (take 10 (drop p self.now))) }
     {
-        let len = self.len();
-        if len < 10 || len - 10 < p {
-            return None;
-        }
         let at = p as usize / 8;
-        let bytes = [self.byte(at), self.byte(at + 1), self.byte(at + 2), 0];
-        Word::new(((u32::from_le_bytes(bytes) >> (p % 8)) & 0x3ff) as u16)
+        // All windows but a row's last ones lie in four of its whole bytes.
+        let bits = if at + 4 <= self.whole.len() {
+            four_bytes(self.whole.as_slice(), at)
+        } else {
+            self.bits_near_end(p)?
+        };
+        Word::new(((bits >> (p % 8)) & 0x3ff) as u16)
     }
 
     /// Fills `into` with the bits from a place on, eight to a byte, the first lowest, with zeros past
@@ -97,6 +98,7 @@ impl BitRow {
         ensures { into.new ≡ bytes_of (length into.old) (number self.now / 2 ^ from) }
     {
         let done = copy_whole(self.whole.as_slice(), self.held, self.tail, from, into);
+        // The last bytes have bits of the tail, or zeros past it.
         for i in done..into.len() {
             into[i] = self.byte_from(from, i);
         }
@@ -170,6 +172,22 @@ impl BitRow {
         }
     }
 
+    /// A number whose ten bits from bit `p % 8` on are the row's from `p` on; none where fewer than ten
+    /// bits stand from there on. It reads byte by byte, and so the row's last bits too.
+    #[cold]
+    fn bits_near_end(&self, p: u32) -> Option<u32>
+        ensures none { IsNone result ↔ (length self.now < p + 10) }
+        ensures some { IfSome result (λ n. (n / 2 ^ (p % 8)) % 1024 ≡ number (take 10 (drop p self.now))) }
+    {
+        let len = self.len();
+        if len < 10 || len - 10 < p {
+            return None;
+        }
+        let at = p as usize / 8;
+        let bytes = [self.byte(at), self.byte(at + 1), self.byte(at + 2), 0];
+        Some(u32::from_le_bytes(bytes))
+    }
+
     /// The eight bits from `8 * at` on as a number, with zeros past the row's end.
     fn byte(&self, at: usize) -> u8
         ensures { result ≡ (number self.now / 2 ^ (8 * at)) % 256 }
@@ -183,8 +201,7 @@ impl BitRow {
         ensures { result ≡ (number self.now / 2 ^ (from + 8 * i)) % 256 }
     {
         let at = from as usize / 8 + i;
-        let bits = u16::from_le_bytes([self.byte(at), self.byte(at + 1)]);
-        ((bits >> (from % 8)) & 0xff) as u8
+        byte_across(self.byte(at), self.byte(at + 1), from % 8)
     }
 
     /// Appends the bits of whole bytes. After a refusal the row is as before.
@@ -236,8 +253,8 @@ impl BitRow {
     }
 }
 
-/// Where a place is at a byte's edge, copies the whole bytes from there on to the front of `into`,
-/// and says how many.
+/// Fills the front of `into` with the bits from a place on that the whole bytes have, and says how many
+/// bytes it filled.
 fn copy_whole(whole: &[u8], held: u8, tail: u8, from: u32, into: &mut [u8]) -> usize
     requires few { held < 8 }
     requires narrow { tail < 2 ^ held }
@@ -245,11 +262,13 @@ fn copy_whole(whole: &[u8], held: u8, tail: u8, from: u32, into: &mut [u8]) -> u
     ensures copied { (k : ℕ) → k < result
         → slice_index into.new k ≡ (number (bytes_bits whole.now ++ bits_of held tail) / 2 ^ (from + 8 * k)) % 256 }
 {
-    if from % 8 != 0 {
-        return 0;
-    }
     let at = (from as usize / 8).min(whole.len());
-    copy_front(&whole[at..], into)
+    let bytes = &whole[at..];
+    if from % 8 == 0 {
+        copy_front(bytes, into)
+    } else {
+        shift_front(bytes, from % 8, into)
+    }
 }
 
 /// Copies as many bytes as both have to the front of `into`, and says how many.
@@ -260,6 +279,37 @@ fn copy_front(from: &[u8], into: &mut [u8]) -> usize
     let count = from.len().min(into.len());
     into[..count].copy_from_slice(&from[..count]);
     count
+}
+
+/// Fills the front of `into` with the bits of bytes from bit `shift` on, as long as a byte with one after
+/// it is left, and says how many bytes it filled.
+fn shift_front(bytes: &[u8], shift: u32, into: &mut [u8]) -> usize
+    requires { shift < 8 }
+    ensures count { result ≡ min (length bytes.now - 1) (length into.old) }
+    ensures shifted { (k : ℕ) → k < result
+        → slice_index into.new k ≡ ((slice_index bytes.now k + slice_index bytes.now (k + 1) * 256) / 2 ^ shift) % 256 }
+{
+    let count = bytes.len().saturating_sub(1).min(into.len());
+    for i in 0..count {
+        into[i] = byte_across(bytes[i], bytes[i + 1], shift);
+    }
+    count
+}
+
+/// The eight bits from bit `shift` on of two bytes, the second above the first.
+fn byte_across(low: u8, high: u8, shift: u32) -> u8
+    requires { shift < 8 }
+    ensures { result ≡ ((low + high * 256) / 2 ^ shift) % 256 }
+{
+    ((u16::from_le_bytes([low, high]) >> shift) & 0xff) as u8
+}
+
+/// Four bytes from a place on as a number, the first lowest.
+fn four_bytes(bytes: &[u8], at: usize) -> u32
+    requires { at + 4 ≤ length bytes.now }
+    ensures { result ≡ (number (bytes_bits bytes.now) / 2 ^ (8 * at)) % 2 ^ 32 }
+{
+    u32::from_le_bytes([bytes[at], bytes[at + 1], bytes[at + 2], bytes[at + 3]])
 }
 
 /// The eight bits from `8 * at` on of whole bytes and a tail, with zeros past the end.

@@ -1,5 +1,5 @@
 //! Characters and rows compared with values that were computed apart from this crate.
-ghost use Rattle.std.specs.Prelude.{ℕ, List, length};
+ghost use Rattle.std.specs.Prelude.{ℕ, ◌<◌, List, length};
 
 use crate::{BitRow, ColumnSink, Word, replace_word};
 use outside_io::NoMemory;
@@ -124,6 +124,39 @@ fn windows(rt: HostRuntime) -> Result<(), Fail> {
     Ok(())
 }
 
+// Behind one to eight bits, so that each window begins at each place of a byte.
+#[test]
+fn windows_behind_bits(rt: HostRuntime) -> Result<(), Fail> {
+    for before in 1..9 {
+        let mut row = BitRow::new(rt.alloc());
+        row.push_bits(&[0x55], before)?;
+        row.push_bits(&PACKED, 110)?;
+        for p in 0..101 {
+            let word = row.window(before + p).ok_or("a window")?;
+            assert_eq!(rt; word.value(), WINDOWS[p as usize], "behind {before} at {p}");
+        }
+        assert!(rt; row.window(before + 101).is_none(), "behind {before}");
+    }
+    Ok(())
+}
+
+// Of rows that end at each place of a byte, the windows in the last bytes.
+#[test]
+fn windows_at_the_end(rt: HostRuntime) -> Result<(), Fail> {
+    let mut row = row(&rt, rt.alloc())?;
+    for cut in 0..24 {
+        let len = 110 - cut;
+        assert!(rt; len <= row.len());
+        row.truncate(len);
+        for p in len - 50..len - 9 {
+            let word = row.window(p).ok_or("a window")?;
+            assert_eq!(rt; word.value(), WINDOWS[p as usize], "at {p} of {len}");
+        }
+        assert!(rt; row.window(len - 9).is_none(), "of {len}");
+    }
+    Ok(())
+}
+
 #[test]
 fn cut_rows(rt: HostRuntime) -> Result<(), Fail> {
     let mut row = row(&rt, rt.alloc())?;
@@ -189,6 +222,43 @@ fn packed_bits(rt: HostRuntime) -> Result<(), Fail> {
             later.copy_bytes(3, &mut into);
         }
         assert_eq!(rt; into, PACKED, "from {from}");
+    }
+    Ok(())
+}
+
+/// Eight bits of `SENT` sent three times, from a place on, as a byte, the first lowest, with zeros past the end.
+fn sent_byte(from: usize) -> u8
+    requires { from < 1000 }
+{
+    let mut byte = 0;
+    for k in 0..8 {
+        let at = from + k;
+        if at < 330 && SENT[at % 110] == b'1' {
+            byte |= 1 << k;
+        }
+    }
+    byte
+}
+
+// From each place on, so that copies begin at each bit of a byte, and end before, at and past the row's end. They have more
+// than 32 bytes, which the compiled code copies sixteen at a time.
+#[test]
+fn copied_bytes(rt: HostRuntime) -> Result<(), Fail> {
+    let mut row = BitRow::new(rt.alloc());
+    for _ in 0..3 {
+        assert!(rt; row.len() < 1000);
+        row.push_bits(&PACKED, 110)?;
+    }
+    for from in 0..340 {
+        let mut into = [0xff; 36];
+        row.copy_bytes(from, &mut into);
+        for i in 0..36 {
+            assert_eq!(rt;
+                into[i],
+                sent_byte(from as usize + 8 * i),
+                "byte {i} from {from}"
+            );
+        }
     }
     Ok(())
 }

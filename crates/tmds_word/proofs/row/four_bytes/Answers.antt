@@ -1,0 +1,8 @@
+use Rattle.std.proofs.Common.{arith}
+use Rattle.tmds_word.proofs.Rows.{AreBytes, four_bytes_are}
+use Rattle.tmds_word.proofs.row.four_bytes.Goals as goal
+
+pub returns : goal.returns
+returns c =
+    let are : AreBytes c.args.bytes.now = λ i. (c.type_inv.bytes i).fits in
+    four_bytes_are c.args.bytes.now c.args.at c.from_le_bytes.result are c.requires (omega (arith, c.from_le_bytes.ensures))
