@@ -1,11 +1,12 @@
 -- The tables hold the characters of the coding and their bytes: each place is computed.
-use Rattle.std.proofs.Common.{◌≡◌, ℕ, ◌+◌, ◌*◌, ◌<◌, ◌≤◌, Bool, true, refl, nat_lt, nat_le, ◌==◌, ◌&&◌, slice_index, eqb-true}
+use Rattle.std.proofs.Common.{◌≡◌, ℕ, ◌+◌, ◌*◌, ◌^◌, ◌<◌, ◌≤◌, Bool, true, refl, nat_lt, nat_le, ◌==◌, ◌&&◌, bit_and, slice_index, eqb-true}
+use Rattle.std.specs.Prelude.{if◌then◌else◌}
 use borrow.Author.Tests.{leb-true, ltb-true}
 use Rattle.tmds_word.specs.Bits.{bits_of, word_bits, number, ones, zeros, balance, turns, unlike}
 use Rattle.tmds_word.proofs.Below.{passes_below, passes_at, and-left, and-right}
 use Rattle.tmds_code.specs.Coding.{Sign, negative, null, positive, coded_at, coded_bits, balanced, minimised, takes_xnor, decoded_byte, decoded_bits}
 use Rattle.tmds_code.specs.Places.{place_of}
-use Rattle.tmds_code.specs.declared.tables.TheConstants.{CODED, DECODED}
+use Rattle.tmds_code.specs.declared.tables.TheConstants.{CODED, DECODED, SIGNS}
 
 -- the table has the character, which is one, carries the byte and has few transitions
 word_holds : Sign → ℕ → Bool
@@ -60,3 +61,28 @@ all_bytes = refl
 pub table_byte : (w : ℕ) → w < 1024 → slice_index DECODED w ≡ decoded_byte w
 unfolding byte_holds
 table_byte w lt = eqb-true _ _ (passes_at 1024 byte_holds w all_bytes lt)
+
+-- the table has the sign's bit exactly where the character is that of its own byte
+mark_holds : Sign → ℕ → Bool
+mark_holds s w = bit_and (slice_index SIGNS w) (2 ^ place_of s) == (if w == coded_at s (decoded_byte w) then 2 ^ place_of s else 0)
+
+negative_marks : passes_below 1024 (mark_holds negative) ≡ true
+unfolding passes_below mark_holds coded_at coded_bits balanced minimised takes_xnor decoded_byte decoded_bits bits_of word_bits number ones zeros balance
+negative_marks = refl
+
+null_marks : passes_below 1024 (mark_holds null) ≡ true
+unfolding passes_below mark_holds coded_at coded_bits balanced minimised takes_xnor decoded_byte decoded_bits bits_of word_bits number ones zeros balance
+null_marks = refl
+
+positive_marks : passes_below 1024 (mark_holds positive) ≡ true
+unfolding passes_below mark_holds coded_at coded_bits balanced minimised takes_xnor decoded_byte decoded_bits bits_of word_bits number ones zeros balance
+positive_marks = refl
+
+all_marks : (s : Sign) → passes_below 1024 (mark_holds s) ≡ true
+all_marks negative = negative_marks
+all_marks null = null_marks
+all_marks positive = positive_marks
+
+pub table_mark : (s : Sign) (w : ℕ) → w < 1024 → bit_and (slice_index SIGNS w) (2 ^ place_of s) ≡ (if w == coded_at s (decoded_byte w) then 2 ^ place_of s else 0)
+unfolding mark_holds
+table_mark s w lt = eqb-true _ _ (passes_at 1024 (mark_holds s) w (all_marks s) lt)

@@ -1,5 +1,5 @@
 //! The character of a byte, and the byte of a character.
-ghost use Rattle.std.specs.Prelude.{◌≡◌, ℕ, ◌+◌, ◌*◌, ◌<◌};
+ghost use Rattle.std.specs.Prelude.{◌≡◌, ℕ, ◌+◌, ◌*◌, ◌^◌, ◌<◌, ◌↔◌, IsTrue};
 ghost use Rattle.tmds_code.specs.Coding.{Coded, decoded_byte};
 ghost use Rattle.tmds_code.specs.Places.{sign_place};
 
@@ -23,6 +23,26 @@ pub fn decode(word: Word) -> u8
     ensures { result ≡ decoded_byte word }
 {
     tables::decoded(word.value())
+}
+
+/// Whether a character codes the byte that it carries, at a disparity.
+pub(crate) fn is_coded(word: Word, disparity: i32) -> bool
+    ensures { IsTrue result ↔ Coded disparity (decoded_byte word) word }
+{
+    tables::signs(word.value()) & sign_bit(disparity) != 0
+}
+
+/// 1 for a negative number, 2 for 0, 4 for a positive one.
+fn sign_bit(disparity: i32) -> u8
+    ensures { result ≡ 2 ^ sign_place disparity }
+{
+    if disparity == 0 {
+        2
+    } else if disparity < 0 {
+        1
+    } else {
+        4
+    }
 }
 
 /// 0 for a negative number, 1 for 0, 2 for a positive one.

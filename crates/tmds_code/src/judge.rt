@@ -1,9 +1,10 @@
 //! The judge of one lane of a video period.
-ghost use Rattle.std.specs.Prelude.{◌≡◌, ℕ, ◌+◌, ◌<◌, ◌↔◌, ◌++◌, ◌∷◌, [], List, IsTrue};
+ghost use Rattle.std.specs.Prelude.{◌≡◌, ℕ, ◌+◌, ◌<◌, ◌↔◌, ◌++◌, ◌∷◌, [], List, IsTrue, pos, neg_ℤ, ◌≤ℤ◌};
+ghost use Rattle.tmds_word.specs.Bits.{word_bits, balance};
 ghost use Rattle.tmds_code.specs.Coding.{Coded, decoded_byte};
 ghost use Rattle.tmds_code.specs.Pasts.{IsJudgeAfter};
 
-use crate::{decode, encode};
+use crate::coding::{decode, is_coded};
 use std::marker::Model;
 use tmds_word::Word;
 
@@ -51,9 +52,18 @@ impl CodeJudge {
         ensures stands { (words : List ℕ) → IsJudgeAfter self.old words → IsJudgeAfter self.new (words ++ word ∷ []) }
     {
         let byte = decode(word);
-        let right = encode(byte, self.disparity) == word;
+        let right = is_coded(word, self.disparity);
         self.count += 1;
-        self.disparity += i32::from(word.balance());
+        self.disparity += balance_of(word);
         (byte, right)
     }
+}
+
+/// The ones minus the zeros of a character.
+fn balance_of(word: Word) -> i32
+    ensures value { result ≡ balance (word_bits word) }
+    ensures low { neg_ℤ (pos 10) ≤ℤ result }
+    ensures high { result ≤ℤ pos 10 }
+{
+    2 * word.value().count_ones() as i32 - 10
 }
