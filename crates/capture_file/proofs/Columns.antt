@@ -1,31 +1,18 @@
 -- A row's bits are its characters and the other way round, and three rows are their columns.
-use Rattle.std.proofs.Common.{◌≡◌, ℕ, suc, zero, ◌+◌, ◌*◌, ◌/◌, ◌%◌, ◌<◌, ◌≤◌, Bool, true, false, List, [], ◌∷◌, ◌++◌, length, take, drop, map, refl, ap, ap₂, ◌∙◌, sym, arith, ◌==◌, append-nil, length-append, length-drop, length-take-le, take-append-drop}
+use Rattle.std.proofs.Common.{◌≡◌, ℕ, suc, zero, ◌*◌, ◌/◌, ◌%◌, ◌<◌, ◌≤◌, Bool, List, [], ◌∷◌, ◌++◌, length, take, drop, map, refl, ap, ap₂, ◌∙◌, sym, arith, append-nil, length-append, length-drop, length-take-le, take-append-drop}
 use Rattle.std.specs.Prelude.{All}
 use Rattle.std.proofs.Math.Nat.{mod-eq_of_lt}
 use Rattle.std.proofs.lemmas.List.{take-append-le, drop-append-le}
 use Rattle.std.proofs.lemmas.List.Elements.{All-tail}
 use Rattle.std.proofs.Math.Seq.{drop-append_seam, take-append_seam}
 use Rattle.tmds_word.specs.Bits.{bits_of, word_bits, row_bits, number}
-use Rattle.tmds_word.proofs.Numbers.{number-bits_of}
+use Rattle.tmds_word.proofs.Numbers.{bits_of-number, number-bits_of}
 use Rattle.tmds_word.proofs.Lists.{length-word_bits, length-row_bits}
 use Rattle.capture_file.specs.Lanes.{first_words, words_of, columns_of, Collected}
 
 no_length : (xs : List Bool) → length xs ≡ 0 → xs ≡ []
 no_length [] h = refl
 no_length (x ∷ xs) h = absurd (omega arith)
-
--- bits are the lowest bits of their number
-bits_of-number : (xs : List Bool) → bits_of (length xs) (number xs) ≡ xs
-unfolding bits_of number
-bits_of-number [] = refl
-bits_of-number (true ∷ xs) =
-    let odd : (1 + 2 * number xs) % 2 ≡ 1 = omega arith in
-    let half : (1 + 2 * number xs) / 2 ≡ number xs = omega arith in
-    ap₂ (λ r n. (r == 1) ∷ bits_of (length xs) n) odd half ∙ ap (λ ys. true ∷ ys) (bits_of-number xs)
-bits_of-number (false ∷ xs) =
-    let even : (2 * number xs) % 2 ≡ 0 = omega arith in
-    let half : (2 * number xs) / 2 ≡ number xs = omega arith in
-    ap₂ (λ r n. (r == 1) ∷ bits_of (length xs) n) even half ∙ ap (λ ys. false ∷ ys) (bits_of-number xs)
 
 word_of_ten : (xs : List Bool) → length xs ≡ 10 → word_bits (number xs) ≡ xs
 unfolding word_bits

@@ -7,6 +7,7 @@ ghost use Rattle.capture_file.specs.Faults.{AreLanes, IsFault, AnswersBytes, IsC
 ghost use Rattle.capture_file.specs.Refusals.{IsEarly, IsEarlyFault};
 ghost use Rattle.capture_file.specs.Reading.{AreBytes, IsTrailing, Awaits, Faulty, Parted, Grown, front_of};
 
+use crate::chunks::{blocks_for, chunk_bits};
 use outside_io::{Source, read_full};
 use std::alloc::Global;
 use std::marker::Model;
@@ -175,7 +176,7 @@ fn read_rows<S: Source>(alloc: Global, source: &mut S, bits: u32) -> Result<Rows
     let mut blue = BitRow::new(alloc);
     let mut green = BitRow::new(alloc);
     let mut red = BitRow::new(alloc);
-    for j in 0..bits.div_ceil(8).div_ceil(4096) {
+    for j in 0..blocks_for(bits) {
         read_block(source, &mut blue, &mut green, &mut red, bits, j)?;
     }
     Ok(Rows { blue, green, red })
@@ -202,7 +203,7 @@ fn read_block<S: Source>(
     ensures caused { IfErr result (λ e. IsCaused (S.faults source.old) (S.faults source.new) e) }
     ensures later { S.faults source.old ≤ S.faults source.new }
 {
-    let count = (bits - 32768 * j).min(32768);
+    let count = chunk_bits(bits, j);
     let size = u64::from(count.div_ceil(8));
     let place = 8 + 12288 * u64::from(j);
     read_chunk(source, blue, count, place)?;

@@ -5,6 +5,7 @@ ghost use Rattle.outside_io.specs.Causes.{HasCause};
 ghost use Rattle.capture_file.specs.Layout.{packed, header, chunk, capture_of};
 ghost use Rattle.capture_file.specs.Taps.{tap_length, tapped_capture, HasBits, part_capture, part_block};
 
+use crate::chunks::{blocks_for, chunk_bits};
 use crate::{Lanes, Rows};
 use outside_io::{Sink, Wrote, write_all};
 use tmds_word::BitRow;
@@ -70,21 +71,6 @@ impl Rows {
         let bits = self.blue.len();
         write_rows(&self.blue, &self.green, &self.red, [0; 3], bits, out)
     }
-}
-
-/// How many blocks lanes of so many bits have.
-fn blocks_for(bits: u32) -> u32
-    ensures { result ≡ ((bits + 7) / 8 + 4095) / 4096 }
-{
-    bits.div_ceil(8).div_ceil(4096)
-}
-
-/// How many bits chunk `j` has in a lane of so many bits.
-fn chunk_bits(bits: u32, j: u32) -> u32
-    requires { 32768 * j < bits }
-    ensures { result ≡ min (bits - 32768 * j) 32768 }
-{
-    (bits - 32768 * j).min(32768)
 }
 
 /// The header of a capture whose lanes have so many bits.

@@ -20,6 +20,6 @@ loop-j-init g c = record {
 pub returns-clause-ok : goal.returns-clause-ok
 returns-clause-ok g c bytes e =
     let l = c.loop-j in
-    let last : l.j ≡ ((c.args.bits + 7) / 8 + 4095) / 4096 = omega (arith, c.loop-j-test.false, l.auto.j-end, c.div_ceil.ensures, c.div_ceil-j-end.ensures) in
+    let last : l.j ≡ ((c.args.bits + 7) / 8 + 4095) / 4096 = omega (arith, c.loop-j-test.false, l.auto.j-end, c.blocks_for-j-end.ensures) in
     let len : length l.blue ≡ c.args.bits = omega (arith, last, l.invariant.blue) in
     subst (λ f. Parted (header c.args.bits ++ bytes) f (g.S.Source.left l.source)) (front_is_capture c.args.bits l.j l.blue l.green l.red len last) (l.invariant.told bytes e)
