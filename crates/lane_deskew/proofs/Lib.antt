@@ -4,5 +4,6 @@ pub mod First
 pub mod Listed
 pub mod Shapes
 pub mod Ends
+pub mod Computed
 pub mod Example
 pub mod Growth

@@ -39,6 +39,7 @@ pub fn first_alignment(a: &BitRow, b: &BitRow, c: &BitRow) -> Option<Aligned>
 /// The three characters of a column, lane 0 first: the windows of the lanes at 120 bits before their
 /// edges and `10 * j` bits on, where `at` is the rows' alignment. None exactly where not all three
 /// lanes have such a window.
+#[inline(always)]
 pub fn column(a: &BitRow, b: &BitRow, c: &BitRow, at: &Aligned, j: u32) -> Option<[Word; 3]>
     requires { IsAlignment a.now b.now c.now at.now.edges }
     ensures { MatchOption result (column_at a.now b.now c.now at.now.edges j ≡ None) (λ words. column_at a.now b.now c.now at.now.edges j ≡ Some (column_of words)) }
@@ -48,6 +49,7 @@ pub fn column(a: &BitRow, b: &BitRow, c: &BitRow, at: &Aligned, j: u32) -> Optio
 }
 
 /// The character of a column on a lane with an edge.
+#[inline(always)]
 fn word(row: &BitRow, edge: u64, j: u32) -> Option<Word>
     requires { IsEdge row.now edge }
     ensures { result ≡ window row.now (place edge j) }
