@@ -1,5 +1,5 @@
 -- A word after words that were judged.
-use Rattle.std.proofs.Common.{◌≡◌, ℕ, ◌+◌, Bool, true, false, cond, List, [], ◌∷◌, ◌++◌, length, refl, ap₂, sym, ◌∙◌, arith}
+use Rattle.std.proofs.Common.{◌≡◌, ℕ, ◌+◌, Bool, true, false, cond, List, [], ◌∷◌, ◌++◌, length, refl, ap₂, is_some, sym, ◌∙◌, arith}
 use Rattle.std.specs.Prelude.{Option, Some, None, ℤ, pos, ◌+ℤ◌, ◌↔◌, IsTrue}
 use Rattle.std.proofs.Math.IntN.{+ℤ_assoc, +ℤ_idl, +ℤ_idr}
 use Rattle.std.proofs.lemmas.Bool.{eqb-true, eq-eqb}
@@ -42,10 +42,25 @@ pub coded_test : (p : Bool) (disparity : ℤ) (w : ℕ) → (IsTrue p ↔ Coded 
 unfolding is_coded
 coded_test p disparity w h = same_test p _ (λ e. eq-eqb w _ (h.0 e)) (λ e. h.1 (eqb-true w _ e))
 
-pub lane_push : (old new : Lane) (w : ℕ) (ws : List ℕ) (right : Bool) → old.count ≡ old.judge.count → IsLaneAfter old ws → IsJudgeAfter new.judge (ws ++ w ∷ [])
-    → right ≡ is_coded old.judge.disparity w → new.first ≡ first_next old.first right old.count → IsLaneAfter new (ws ++ w ∷ [])
-lane_push old new w ws right same was judge e f = record {
+pub lane_push : (old new : Lane) (w n : ℕ) (ws : List ℕ) (right : Bool) → old.judge.count ≡ n → IsLaneAfter old ws → IsJudgeAfter new.judge (ws ++ w ∷ [])
+    → right ≡ is_coded old.judge.disparity w → new.first ≡ first_next old.first right n → IsLaneAfter new (ws ++ w ∷ [])
+lane_push old new w n ws right same was judge e f = record {
   judge = judge;
-  first = f ∙ ap₂ (λ o p. first_next o p old.count) was.first e
-      ∙ sym (first_push (pos 0) 0 ws w old.judge.disparity old.count (was.judge.disparity ∙ sym (+ℤ_idl (disparity_of ws))) (omega (arith, same, was.judge.count)));
+  first = f ∙ ap₂ (λ o p. first_next o p n) was.first e
+      ∙ sym (first_push (pos 0) 0 ws w old.judge.disparity n (was.judge.disparity ∙ sym (+ℤ_idl (disparity_of ws))) (omega (arith, same, was.judge.count)));
 }
+
+-- the first wrong word, after a word of which a test said whether it is rightly coded
+pub first_anew : (first : Option ℕ) (right : Bool) (n : ℕ) → right ≡ false → is_some first ≡ false → Some n ≡ first_next first right n
+first_anew None false n e f = refl
+first_anew None true n e f = cc
+first_anew (Some i) right n e f = cc
+
+pub first_right : (first : Option ℕ) (right : Bool) (n : ℕ) → right ≡ true → first ≡ first_next first right n
+first_right (Some i) right n e = refl
+first_right None true n e = refl
+first_right None false n e = cc
+
+pub first_stays : (first : Option ℕ) (right : Bool) (n : ℕ) → is_some first ≡ true → first ≡ first_next first right n
+first_stays (Some i) right n e = refl
+first_stays None right n e = cc

@@ -1,18 +1,20 @@
 -- The numbers kept of control columns, with one column more.
-use Rattle.std.proofs.Common.{◌≡◌, ◌≢◌, ℕ, suc, zero, ◌+◌, ◌≤◌, Bool, true, false, cond, ◌==◌, ◌&&◌, List, [], ◌∷◌, ◌++◌, length, take, reverse, refl, ap, ap₂, sym, ◌∙◌, arith}
+use Rattle.std.proofs.Common.{◌≡◌, ◌≢◌, ℕ, suc, zero, ◌+◌, ◌≤◌, Bool, true, false, cond, ◌==◌, ◌&&◌, List, [], ◌∷◌, ◌++◌, length, map, take, reverse, refl, ap, ap₂, sym, ◌∙◌, arith, subst}
 use Rattle.std.specs.Prelude.{nat_le}
 use Rattle.std.specs.List.{list_all, prefix_len}
-use Rattle.std.proofs.lemmas.List.{length_push, reverse-append, length-reverse}
+use Rattle.std.proofs.lemmas.List.{length-map, length_push, length-reverse, map-append, reverse-append, take-map}
+use Rattle.std.proofs.lemmas.List.Folds.{list_all-map}
 use Rattle.std.proofs.lemmas.Bool.{eqb-true, eq-eqb, ne_eqb}
 use Rattle.std.proofs.Math.Bool.{and-false}
 use Rattle.std.proofs.Math.Dec.{leb-zero, leb-suc-zero, leb-suc-suc}
 use Rattle.tmds_word.specs.Column.{Column}
-use Rattle.period_grammar.specs.Column.{value_of, ctl}
+use Rattle.island_pack.specs.Periods.{ctl, has_preamble as announces}
+use Rattle.period_grammar.specs.Column.{value_of}
 use Rattle.period_grammar.specs.Things.{run}
 use Rattle.period_grammar.specs.Cut.{Run, columns, runs}
 use Rattle.period_grammar.specs.Heard.{last_run, unless, has_preamble}
 use Rattle.period_grammar.specs.After.{change}
-use Rattle.period_grammar.specs.ControlAfter.{kept_run, leads, IsControlAfter}
+use Rattle.period_grammar.specs.ControlAfter.{kept_run, leads, IsLast, IsControlAfter}
 use Rattle.period_grammar.specs.Noted.{things, Lent}
 use Rattle.period_grammar.specs.declared.notes.Note.{Note}
 use Rattle.period_grammar.specs.declared.control.Kept.{Kept}
@@ -34,17 +36,36 @@ first_pass zero p xs = ap (λ q. q && true) (leb-zero (length xs)) ∙ sym (leb-
 first_pass (suc k) p [] = ap (λ q. q && true) (leb-suc-zero k) ∙ sym (leb-suc-zero k)
 first_pass (suc k) p (x ∷ xs) = by_first (p x) k (length xs) (prefix_len p xs) (list_all p (take k xs)) (first_pass k p xs)
 
-preamble_by : (bits lead : ℕ) (control : List Column) → lead ≡ prefix_len (leads bits) (reverse control) → has_preamble bits control ≡ nat_le 8 lead
-unfolding has_preamble
-preamble_by bits lead control was =
-    ap (λ n. nat_le 8 n && list_all (leads bits) (take 8 (reverse control))) (sym (length-reverse control))
-    ∙ first_pass 8 (leads bits) (reverse control) ∙ ap (nat_le 8) (sym was)
+reverse-map : (cs : List Column) → map value_of (reverse cs) ≡ reverse (map value_of cs)
+reverse-map [] = refl
+reverse-map (c ∷ cs) =
+    ap (map value_of) (reverse-append (c ∷ []) cs) ∙ map-append value_of (reverse cs) (c ∷ [])
+    ∙ ap (λ xs. xs ++ value_of c ∷ []) (reverse-map cs) ∙ sym (reverse-append (value_of c ∷ []) (map value_of cs))
 
-pub preamble_is : (kept : Kept) (control : List Column) → IsControlAfter kept control → has_preamble 1 control ≡ nat_le 8 kept.lead
-preamble_is kept control was = preamble_by 1 kept.lead control was.lead
+preamble_by : (bits : ℕ) (control : List Column) → has_preamble bits control ≡ nat_le 8 (prefix_len (leads bits) (reverse control))
+unfolding has_preamble announces
+preamble_by bits control =
+    let leading : ℕ → Bool = λ v. ctl v == bits in
+    ap (λ n. nat_le 8 n && list_all leading (take 8 (reverse (map value_of control)))) (length-map control value_of ∙ sym (length-reverse control))
+    ∙ ap (λ b. nat_le 8 (length (reverse control)) && b)
+    (ap (λ vs. list_all leading (take 8 vs)) (sym (reverse-map control))
+    ∙ ap (list_all leading) (take-map value_of 8 (reverse control))
+    ∙ list_all-map leading value_of (take 8 (reverse control)))
+    ∙ first_pass 8 (leads bits) (reverse control)
 
-pub island_preamble_is : (kept : Kept) (control : List Column) → IsControlAfter kept control → has_preamble 5 control ≡ nat_le 8 kept.island_lead
-island_preamble_is kept control was = preamble_by 5 kept.island_lead control was.island_lead
+-- columns that lead with other control bits than their first has do so nowhere
+none_lead : (bits v : ℕ) (cs : List Column) → IsLast v cs → (ctl v == bits) ≡ false → prefix_len (leads bits) cs ≡ 0
+none_lead bits v [] was e = refl
+none_lead bits v (c ∷ cs) was e = ap (λ p. cond p (1 + prefix_len (leads bits) cs) 0) (ap (λ u. ctl u == bits) was ∙ e)
+
+lead_by : (p : Bool) (bits v : ℕ) (cs : List Column) → IsLast v cs → (ctl v == bits) ≡ p → nat_le 8 (prefix_len (leads bits) cs) ≡ (p && nat_le 8 (prefix_len (leads (ctl v)) cs))
+lead_by true bits v cs was e = ap (λ b. nat_le 8 (prefix_len (leads b) cs)) (sym (eqb-true (ctl v) bits e))
+lead_by false bits v cs was e = ap (nat_le 8) (none_lead bits v cs was e)
+
+pub preamble_is : (bits : ℕ) (kept : Kept) (control : List Column) → IsControlAfter kept control → has_preamble bits control ≡ ((ctl kept.value == bits) && nat_le 8 kept.lead)
+preamble_is bits kept control was =
+    preamble_by bits control ∙ lead_by (ctl kept.value == bits) bits kept.value (reverse control) was.last refl
+    ∙ ap (λ n. (ctl kept.value == bits) && nat_le 8 n) (sym was.lead)
 
 -- the last run
 abbrev pub grow : Bool → ℕ → ℕ
@@ -95,16 +116,31 @@ kept_some : (v n : ℕ) (p : Bool) → kept_run v (grow p n) ≡ run v (grow p n
 kept_some v n true = let e : n + 1 ≡ suc n = omega arith in ap (kept_run v) e ∙ ap (λ m. run v m ∷ []) (sym e)
 kept_some v n false = refl
 
+lead_grown : (p : Bool) (v : ℕ) (c : Column) (cs : List Column) → IsLast v cs → (ctl v == ctl (value_of c)) ≡ p
+    → grow p (prefix_len (leads (ctl v)) cs) ≡ prefix_len (leads (ctl (value_of c))) (c ∷ cs)
+lead_grown p v c cs was e =
+    by p e ∙ sym (ap (λ q. cond q (1 + prefix_len (leads (ctl (value_of c))) cs) 0) (eq-eqb (ctl (value_of c)) (ctl (value_of c)) refl))
+  where
+    by : (p : Bool) → (ctl v == ctl (value_of c)) ≡ p → grow p (prefix_len (leads (ctl v)) cs) ≡ 1 + prefix_len (leads (ctl (value_of c))) cs
+    by true e =
+        let one : prefix_len (leads (ctl v)) cs + 1 ≡ 1 + prefix_len (leads (ctl v)) cs = omega arith in
+        one ∙ ap (λ b. 1 + prefix_len (leads b) cs) (eqb-true (ctl v) (ctl (value_of c)) e)
+    by false e = ap (λ n. 1 + n) (sym (none_lead (ctl (value_of c)) v cs was e))
+
 pub kept_push : (old new : Kept) (control : List Column) (c : Column) → IsControlAfter old control → new.columns ≡ old.columns + 1 → new.value ≡ value_of c
-    → new.run ≡ grow (old.value == value_of c) old.run → new.lead ≡ cond (leads 1 c) (1 + old.lead) 0 → new.island_lead ≡ cond (leads 5 c) (1 + old.island_lead) 0 → IsControlAfter new (control ++ c ∷ [])
-kept_push old new control c was n v r l i = record {
-  columns = n ∙ ap (λ x. x + 1) was.columns ∙ sym (length_push control c);
-  run =
-      ap last_run (runs_push control c) ∙ run_after c (runs control) old.value old.run was.run
-      ∙ sym (kept_some (value_of c) old.run (old.value == value_of c)) ∙ ap₂ kept_run (sym v) (sym r);
-  lead = l ∙ ap (λ m. cond (leads 1 c) (1 + m) 0) was.lead ∙ ap (prefix_len (leads 1)) (sym (reverse-append control (c ∷ [])));
-  island_lead = i ∙ ap (λ m. cond (leads 5 c) (1 + m) 0) was.island_lead ∙ ap (prefix_len (leads 5)) (sym (reverse-append control (c ∷ [])));
-}
+    → new.run ≡ grow (old.value == value_of c) old.run → new.lead ≡ grow (ctl old.value == ctl (value_of c)) old.lead → IsControlAfter new (control ++ c ∷ [])
+kept_push old new control c was n v r l =
+    let turned : reverse (control ++ c ∷ []) ≡ c ∷ reverse control = reverse-append control (c ∷ []) in
+    record {
+      columns = n ∙ ap (λ x. x + 1) was.columns ∙ sym (length_push control c);
+      run =
+          ap last_run (runs_push control c) ∙ run_after c (runs control) old.value old.run was.run
+          ∙ sym (kept_some (value_of c) old.run (old.value == value_of c)) ∙ ap₂ kept_run (sym v) (sym r);
+      last = subst (IsLast new.value) (sym turned) (sym v);
+      lead =
+          l ∙ ap (grow (ctl old.value == ctl (value_of c))) was.lead ∙ lead_grown _ old.value c (reverse control) was.last refl
+          ∙ ap₂ (λ u cs. prefix_len (leads (ctl u)) cs) (sym v) (sym turned);
+    }
 
 pub none_kept : (kept : Kept) (control : List Column) → IsControlAfter kept control → kept.run ≡ 0 → [] ≡ last_run (runs control)
 none_kept kept control was none = sym (was.run ∙ ap (kept_run kept.value) none)
@@ -132,11 +168,3 @@ run_on v u w n m e f g = g ∙ ap (λ p. grow p n) (sym (eq-eqb v w (e ∙ f)))
 
 pub run_anew : (v u w n m : ℕ) → v ≢ u → u ≡ w → m ≡ 1 → m ≡ grow (v == w) n
 run_anew v u w n m e f g = g ∙ ap (λ p. grow p n) (sym (ne_eqb v w (λ h. e (h ∙ sym f))))
-
-pub lead_on : (bits : ℕ) (c : Column) (u t n m : ℕ) → u ≡ value_of c → t ≡ ctl u → t ≡ bits → m ≡ n + 1 → m ≡ cond (leads bits c) (1 + n) 0
-lead_on bits c u t n m e f g h =
-    let one : m ≡ 1 + n = omega arith in
-    one ∙ ap (λ p. cond p (1 + n) 0) (sym (eq-eqb (ctl (value_of c)) bits (sym (ap ctl e) ∙ sym f ∙ g)))
-
-pub lead_anew : (bits : ℕ) (c : Column) (u t n m : ℕ) → u ≡ value_of c → t ≡ ctl u → t ≢ bits → m ≡ 0 → m ≡ cond (leads bits c) (1 + n) 0
-lead_anew bits c u t n m e f g h = h ∙ ap (λ p. cond p (1 + n) 0) (sym (ne_eqb (ctl (value_of c)) bits (λ k. g (f ∙ ap ctl e ∙ k))))

@@ -7,6 +7,7 @@ pub mod Leads
 pub mod Phases
 pub mod Blocks
 pub mod Hearings
+pub mod Going
 pub mod Noting
 pub mod Joined
 pub mod Taking

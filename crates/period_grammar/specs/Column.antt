@@ -1,5 +1,5 @@
 -- What the words of a column say. HDMI 1.4, sections 5.2.1 and 5.4.2 (control periods), 5.2.3 (data islands).
-use Rattle.std.specs.Prelude.{ℕ, ◌+◌, ◌*◌, ◌%◌, ◌/◌, Bool, ◌==◌, ◌&&◌, unwrap_or}
+use Rattle.std.specs.Prelude.{ℕ, ◌+◌, ◌*◌, ◌%◌, Bool, ◌==◌, ◌&&◌, unwrap_or}
 use Rattle.tmds_word.specs.Column.{Column}
 use Rattle.terc4.specs.Tables.{control_words, value_in, island_guard}
 use Rattle.island_pack.specs.Nibbles.{nibble_of}
@@ -11,10 +11,6 @@ control_bits w = unwrap_or (value_in control_words w) 0
 -- HSYNC, VSYNC, CTL0 to CTL3, from bit 0 on
 unfoldable pub value_of : Column → ℕ
 value_of c = (control_bits c.blue + 4 * control_bits c.green) + 16 * control_bits c.red
-
--- the control bits of a value, without HSYNC and VSYNC
-unfoldable pub ctl : ℕ → ℕ
-ctl value = value / 4 % 16
 
 -- lanes 1 and 2 have the guard word of a data island
 unfoldable pub is_closing : Column → Bool

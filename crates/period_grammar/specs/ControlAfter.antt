@@ -2,7 +2,8 @@
 use Rattle.std.specs.Prelude.{◌≡◌, ◌≤◌, ℕ, zero, suc, Bool, ◌==◌, List, [], ◌∷◌, reverse, length}
 use Rattle.std.specs.List.{prefix_len}
 use Rattle.tmds_word.specs.Column.{Column}
-use Rattle.period_grammar.specs.Column.{value_of, ctl}
+use Rattle.island_pack.specs.Periods.{ctl}
+use Rattle.period_grammar.specs.Column.{value_of}
 use Rattle.period_grammar.specs.Things.{Thing, run}
 use Rattle.period_grammar.specs.Cut.{runs}
 use Rattle.period_grammar.specs.Heard.{last_run}
@@ -15,13 +16,17 @@ kept_run v (suc n) = run v (suc n) ∷ []
 abbrev pub leads : ℕ → Column → Bool
 leads bits c = ctl (value_of c) == bits
 
+-- the value of the last column, which is the first of these
+abbrev pub IsLast : ℕ → List Column → Type 0
+IsLast v [] = Unit {0}
+IsLast v (c ∷ cs) = value_of c ≡ v
+
 pub record IsControlAfter (kept : Kept) (control : List Column) : Type 0 where
   pub columns : kept.columns ≡ length control
   pub run : last_run (runs control) ≡ kept_run kept.value kept.run
-  pub lead : kept.lead ≡ prefix_len (leads 1) (reverse control)
-  pub island_lead : kept.island_lead ≡ prefix_len (leads 5) (reverse control)
+  pub last : IsLast kept.value (reverse control)
+  pub lead : kept.lead ≡ prefix_len (leads (ctl kept.value)) (reverse control)
 
 pub record IsCounted (kept : Kept) : Type 0 where
   pub run : kept.run ≤ kept.columns
   pub lead : kept.lead ≤ kept.columns
-  pub island_lead : kept.island_lead ≤ kept.columns

@@ -1,10 +1,10 @@
 -- What is told of a list of columns: control periods (HDMI 1.4, sections 5.1.2 and 5.2.1), their preambles (5.2.1.1),
 -- video periods (5.2.2) and data islands (5.2.3). What is told of columns that are not right is this project's own.
-use Rattle.std.specs.Prelude.{ℕ, ◌+◌, Bool, true, false, ◌==◌, ◌&&◌, List, [], ◌∷◌, ◌++◌, map, length, take, reverse, Option, Some, None, nat_le}
-use Rattle.std.specs.List.{list_all}
+use Rattle.std.specs.Prelude.{ℕ, ◌+◌, Bool, true, false, ◌&&◌, List, [], ◌∷◌, ◌++◌, map, length, take, Option, Some, None, nat_le}
 use Rattle.tmds_word.specs.Column.{Column}
 use Rattle.terc4.specs.Tables.{is_control}
-use Rattle.period_grammar.specs.Column.{value_of, ctl, sync_digit}
+use Rattle.island_pack.specs.Periods.{has_preamble as announces}
+use Rattle.period_grammar.specs.Column.{value_of, sync_digit}
 use Rattle.terc4.specs.Columns.{is_video_guard, is_island_guard}
 use Rattle.tmds_code.specs.Coding.{decoded_byte}
 use Rattle.period_grammar.specs.Coding.{first_uncoded}
@@ -53,7 +53,7 @@ last_run (r ∷ (s ∷ rs)) = last_run (s ∷ rs)
 
 -- whether the last eight columns are there and have these control bits
 unfoldable pub has_preamble : ℕ → List Column → Bool
-has_preamble bits control = nat_le 8 (length control) && list_all (λ c. ctl (value_of c) == bits) (take 8 (reverse control))
+has_preamble bits control = announces bits (map value_of control)
 
 abbrev pub unless : Bool → Thing → List Thing
 unless true t = []

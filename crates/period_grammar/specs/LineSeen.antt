@@ -11,7 +11,6 @@ pub record LineSeen : Type 0 where
 
 -- the numbers of a lane of this many words
 pub record IsSized (lane : Lane) (n : ℕ) : Type 0 where
-  pub count : lane.count ≡ n
   pub judge : lane.judge.count ≡ n
   pub first : (i : ℕ) → lane.first ≡ Some i → i < n
 

@@ -1,9 +1,10 @@
 //! What the words of a column say (HDMI 1.4, sections 5.2 and 5.4).
-ghost use Rattle.std.specs.Prelude.{◌≡◌, ◌<◌, ◌%◌, ◌&&◌, ◌==◌, unwrap_or};
+ghost use Rattle.std.specs.Prelude.{◌≡◌, ◌<◌, ◌%◌, ◌&&◌, ◌==◌, unwrap_or, IfSome};
 ghost use Rattle.tmds_word.specs.Column.{column_of};
 ghost use Rattle.terc4.specs.Tables.{control_words, terc_words, value_in, is_control};
 ghost use Rattle.terc4.specs.Columns.{is_control_column, is_video_guard, is_island_guard, is_twelve_or_more};
 ghost use Rattle.period_grammar.specs.Column.{control_bits, value_of, is_closing, sync_digit};
+ghost use Rattle.period_grammar.specs.Whole.{IsWhole};
 
 use terc4::{control_of, nibble};
 use tmds_word::Word;
@@ -42,6 +43,16 @@ pub fn control_column(column: &[Word; 3]) -> bool
     let b = control_word(green(column));
     let c = control_word(red(column));
     u8::from(a) + u8::from(b) + u8::from(c) >= 2
+}
+
+/// The value of a column of three control words.
+pub fn whole_value(column: &[Word; 3]) -> Option<u8>
+    ensures { IfSome result (λ v. IsWhole v (column_of column.now)) }
+{
+    let a = control_of(blue(column))?;
+    let b = control_of(green(column))?;
+    let c = control_of(red(column))?;
+    Some(a + 4 * b + 16 * c)
 }
 
 /// HSYNC, VSYNC, CTL0 to CTL3.

@@ -1,7 +1,8 @@
 //! What is kept of the control columns of one piece.
 ghost use Rattle.std.specs.Prelude.{◌≡◌, ◌<◌, ◌≤◌, ◌+◌, ◌^◌, ◌++◌, ◌∷◌, [], List, ℕ, length, true};
 ghost use Rattle.tmds_word.specs.Column.{Column};
-ghost use Rattle.period_grammar.specs.Column.{value_of, ctl};
+ghost use Rattle.island_pack.specs.Periods.{ctl};
+ghost use Rattle.period_grammar.specs.Column.{value_of};
 ghost use Rattle.period_grammar.specs.Cut.{runs};
 ghost use Rattle.period_grammar.specs.Heard.{last_run, lacks, has_preamble};
 ghost use Rattle.period_grammar.specs.After.{change};
@@ -10,17 +11,15 @@ ghost use Rattle.period_grammar.specs.Noted.{things, Lent};
 
 use crate::notes::{Note, Notes};
 
-/// The number of columns, their last run, and how many last columns have the preamble of a video period.
+/// The number of columns, their last run, and how many last columns have its control bits.
 #[derive(Clone, Copy)]
 pub struct Kept {
     pub columns: u32,
     pub value: u8,
     pub run: u32,
     pub lead: u32,
-    pub island_lead: u32,
 }
 
-#[tactic(auto, unfolding(crate::specs::Column::ctl))]
 fn ctl_bits(value: u8) -> u8
     ensures { result ≡ ctl value }
 {
@@ -39,7 +38,6 @@ impl Kept {
             value: 0,
             run: 0,
             lead: 0,
-            island_lead: 0,
         }
     }
 
@@ -50,12 +48,28 @@ impl Kept {
         ensures columns { self.new.columns ≡ self.old.columns + 1 }
         ensures heard { (control : List Column) (c : Column) → value ≡ value_of c → IsControlAfter self.old control → IsControlAfter self.new (control ++ c ∷ []) }
     {
+        let was = ctl_bits(self.value);
         self.columns += 1;
         self.run = if self.value == value { self.run + 1 } else { 1 };
         self.value = value;
-        let bits = ctl_bits(value);
-        self.lead = if bits == 1 { self.lead + 1 } else { 0 };
-        self.island_lead = if bits == 5 { self.island_lead + 1 } else { 0 };
+        self.lead = if was == ctl_bits(value) {
+            self.lead + 1
+        } else {
+            1
+        };
+    }
+
+    /// Hears a column of the last run's value.
+    pub fn hear_again(&mut self)
+        requires counted { IsCounted self.old }
+        requires few { self.old.columns + 1 < 2 ^ 32 }
+        ensures counted { IsCounted self.new }
+        ensures columns { self.new.columns ≡ self.old.columns + 1 }
+        ensures heard { (control : List Column) (c : Column) → self.old.value ≡ value_of c → IsControlAfter self.old control → IsControlAfter self.new (control ++ c ∷ []) }
+    {
+        self.columns += 1;
+        self.run += 1;
+        self.lead += 1;
     }
 
     /// Tells the last run.
@@ -86,13 +100,13 @@ impl Kept {
     fn has_lead(&self) -> bool
         ensures { (control : List Column) → IsControlAfter self.now control → result ≡ has_preamble 1 control }
     {
-        self.lead >= 8
+        (ctl_bits(self.value) == 1) & (self.lead >= 8)
     }
 
     fn has_island_lead(&self) -> bool
         ensures { (control : List Column) → IsControlAfter self.now control → result ≡ has_preamble 5 control }
     {
-        self.island_lead >= 8
+        (ctl_bits(self.value) == 5) & (self.lead >= 8)
     }
 
     fn tell_short(&self, start: u32, has_lead: bool, notes: &mut Notes)

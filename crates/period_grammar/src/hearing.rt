@@ -73,6 +73,31 @@ impl Hearing {
         ensures told { (cs : List Column) → StandsFor self.old cs → heard_so_far (cs ++ column_of column.now ∷ []) ≡ heard_so_far cs ++ all_at (length cs) (last_told self.new) }
     {
         self.notes.clear();
+        // Nearly every column goes on with a run or a line, and tells nothing.
+        match self.phase {
+            Phase::Control if column::whole_value(column) == Some(self.control.value) => {
+                self.columns += 1;
+                self.control.hear_again();
+            }
+            Phase::Video { .. } if !column::control_column(column) => {
+                self.columns += 1;
+                self.line.hear(column);
+            }
+            _ => self.hear_any(column),
+        }
+    }
+
+    /// Hears a column of any kind, in any phase. It stands apart, so that `hear` is short where nothing is told.
+    #[inline(never)]
+    fn hear_any(&mut self, column: &[Word; 3])
+        requires few { self.old.columns < 429496730 }
+        requires open { self.old.finished ≡ false }
+        requires room { length self.old.notes ≤ 0 }
+        ensures columns { self.new.columns ≡ self.old.columns + 1 }
+        ensures open { self.new.finished ≡ false }
+        ensures heard { (cs : List Column) → StandsFor self.old cs → StandsFor self.new (cs ++ column_of column.now ∷ []) }
+        ensures told { (cs : List Column) → StandsFor self.old cs → heard_so_far (cs ++ column_of column.now ∷ []) ≡ heard_so_far cs ++ all_at (length cs) (last_told self.new) }
+    {
         let n = self.columns;
         if column::control_column(column) {
             let value = column::column_value(column);

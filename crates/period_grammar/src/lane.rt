@@ -1,7 +1,7 @@
 //! The words of one lane of a line, and the first that is wrongly coded.
-ghost use Rattle.std.specs.Prelude.{◌≡◌, ◌<◌, ◌+◌, ◌++◌, ◌∷◌, [], List, ℕ, Bool, Some};
+ghost use Rattle.std.specs.Prelude.{◌≡◌, ◌<◌, ◌+◌, ◌++◌, ◌∷◌, [], List, ℕ};
 ghost use Rattle.tmds_code.specs.Coding.{decoded_byte};
-ghost use Rattle.period_grammar.specs.Judged.{IsLaneAfter, first_next};
+ghost use Rattle.period_grammar.specs.Judged.{IsLaneAfter};
 ghost use Rattle.period_grammar.specs.LineSeen.{IsSized};
 
 use tmds_code::CodeJudge;
@@ -11,7 +11,6 @@ use tmds_word::Word;
 #[derive(Clone, Copy, Drop)]
 pub struct Lane {
     pub judge: CodeJudge,
-    pub count: u32,
     pub first: Option<u32>,
 }
 
@@ -23,32 +22,22 @@ impl Lane {
     {
         Lane {
             judge: CodeJudge::new(),
-            count: 0,
             first: None,
         }
     }
 
-    /// Hears a word, and gives its byte.
-    pub fn hear(&mut self, word: Word) -> u8
-        requires few { self.old.count < 4096 }
-        requires sized { IsSized self.old self.old.count }
+    /// Hears the word of a pixel, and gives its byte.
+    pub fn hear(&mut self, pixel: u32, word: Word) -> u8
+        requires few { pixel < 4096 }
+        requires sized { IsSized self.old pixel }
         ensures byte { result ≡ decoded_byte word }
-        ensures sized { IsSized self.new (self.old.count + 1) }
+        ensures sized { IsSized self.new (pixel + 1) }
         ensures heard { (ws : List ℕ) → IsLaneAfter self.old ws → IsLaneAfter self.new (ws ++ word ∷ []) }
     {
         let (byte, right) = self.judge.hear(word);
-        self.first = first_after(self.first, right, self.count);
-        self.count += 1;
+        if !right && self.first.is_none() {
+            self.first = Some(pixel);
+        }
         byte
     }
-}
-
-fn first_after(first: Option<u32>, right: bool, count: u32) -> Option<u32>
-    ensures value { result ≡ first_next first right count }
-    ensures below { (k : ℕ) → ((i : ℕ) → first ≡ Some i → i < k) → count < k → (i : ℕ) → result ≡ Some i → i < k }
-{
-    if let Some(i) = first {
-        return Some(i);
-    }
-    if right { None } else { Some(count) }
 }

@@ -71,11 +71,12 @@ impl Line {
             self.count += 1;
             return;
         }
-        let blue = self.blue.hear(column::blue(column));
-        let green = self.green.hear(column::green(column));
-        let red = self.red.hear(column::red(column));
+        let pixel = self.count;
+        let blue = self.blue.hear(pixel, column::blue(column));
+        let green = self.green.hear(pixel, column::green(column));
+        let red = self.red.hear(pixel, column::red(column));
         self.bytes.push_three(red, green, blue);
-        self.count += 1;
+        self.count = pixel + 1;
     }
 
     /// Tells the line, whose first pixel is two columns after the start.

@@ -1,7 +1,8 @@
-use Rattle.std.proofs.Common.{refl}
-use Rattle.period_grammar.proofs.Leads.{kept_push, run_on, run_anew, lead_on, lead_anew}
+use Rattle.std.proofs.Common.{refl, ap, ◌∙◌, sym}
+use Rattle.island_pack.specs.Periods.{ctl}
+use Rattle.period_grammar.proofs.Leads.{kept_push, run_on, run_anew}
 use Rattle.period_grammar.proofs.control.Kept.hear.Goals as goal
-use Rattle.period_grammar.proofs.control.Kept.hear.Goals.{then-self-value, else-self-value, then-bits-eq1, else-bits-eq1, then-bits-eq5, else-bits-eq5}
+use Rattle.period_grammar.proofs.control.Kept.hear.Goals.{then-self-value, else-self-value, then-was-ctl_bits, else-was-ctl_bits}
 
 pub returns-clause-heard : goal.returns-clause-heard
 returns-clause-heard c control d e was =
@@ -10,11 +11,7 @@ returns-clause-heard c control d e was =
       | then-self-value w ↦ run_on _ _ _ _ _ w.if-self-value.true e w.self-is
       | else-self-value w ↦ run_anew _ _ _ _ _ w.if-self-value.false e w.self-is
     ])
-    (elim c.if-bits-eq1.branch [
-      | then-bits-eq1 w ↦ lead_on 1 d _ _ _ _ e c.ctl_bits-bits.ensures w.if-bits-eq1.true w.self-is
-      | else-bits-eq1 w ↦ lead_anew 1 d _ _ _ _ e c.ctl_bits-bits.ensures w.if-bits-eq1.false w.self-is
-    ])
-    (elim c.if-bits-eq5.branch [
-      | then-bits-eq5 w ↦ lead_on 5 d _ _ _ _ e c.ctl_bits-bits.ensures w.if-bits-eq5.true w.self-is
-      | else-bits-eq5 w ↦ lead_anew 5 d _ _ _ _ e c.ctl_bits-bits.ensures w.if-bits-eq5.false w.self-is
+    (elim c.if-was-ctl_bits.branch [
+      | then-was-ctl_bits w ↦ run_on _ _ _ _ _ (sym c.ctl_bits-was.ensures ∙ w.if-was-ctl_bits.true ∙ c.ctl_bits.ensures) (ap ctl e) w.self-is
+      | else-was-ctl_bits w ↦ run_anew _ _ _ _ _ (λ h. w.if-was-ctl_bits.false (c.ctl_bits-was.ensures ∙ h ∙ sym c.ctl_bits.ensures)) (ap ctl e) w.self-is
     ])
