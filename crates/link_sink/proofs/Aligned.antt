@@ -1,32 +1,23 @@
 -- The aligned columns of a tap are received columns.
 use Rattle.std.proofs.Common.{◌≡◌, ℕ, suc, zero, ◌+◌, ◌-◌, ◌*◌, ◌/◌, ◌<◌, ◌≤◌, Bool, List, [], ◌∷◌, ◌++◌, length, take, drop, get_or, refl, ap, ap₂, sym, ◌∙◌, subst, arith, length-take, length-drop}
+use Rattle.std.proofs.Math.Seq.{drop-append_seam, drop-nil}
 use Rattle.std.proofs.lemmas.List.{drop-drop, drop-take, take-take, drop-map, take-append-le, get_or-drop}
 use Rattle.tmds_word.specs.Bits.{bits_of, word_bits, row_bits, number}
 use Rattle.tmds_word.specs.Column.{Column}
 use Rattle.tmds_word.proofs.Lists.{length-word_bits, length-row_bits}
-use Rattle.tmds_word.proofs.Numbers.{number-bits_of}
 use Rattle.lane_align.specs.Laws.{tap}
 use Rattle.lane_deskew.specs.Aligned.{words_of, words_from, columns_of, aligned_columns}
+use Rattle.lane_deskew.proofs.Ends.{number_back}
 use Rattle.island_pack.specs.Taps.{blues, greens, reds}
 
 -- Words.
-
-number_back : (w : ℕ) → w < 1024 → number (word_bits w) ≡ w
-unfolding word_bits
-number_back w lt = let e = number-bits_of 10 w in omega arith
 
 ten : (w : ℕ) → take 10 (word_bits w) ≡ word_bits w
 unfolding word_bits bits_of
 ten w = refl
 
 drop_within : (k : ℕ) (xs ys : List Bool) → k ≡ length xs → drop k (xs ++ ys) ≡ ys
-drop_within k [] ys e = ap (λ n. drop n ys) e
-drop_within zero (x ∷ xs) ys e = absurd (omega arith)
-drop_within (suc k) (x ∷ xs) ys e = drop_within k xs ys (omega arith)
-
-drop_none : (n : ℕ) → drop {A = Bool} n [] ≡ []
-drop_none zero = refl
-drop_none (suc n) = refl
+drop_within k xs ys e = ap (λ n. drop n (xs ++ ys)) e ∙ drop-append_seam xs ys
 
 -- the first word, and the bits after it
 first_word : (w : ℕ) (ws : List ℕ) (k : ℕ) → w < 1024 → 10 ≤ k → number (take 10 (take k (row_bits (w ∷ ws)))) ≡ w
@@ -56,7 +47,7 @@ words_taken (suc n) (w ∷ ws) k long within small =
 from_word : (a : ℕ) (words : List ℕ) → drop (10 * a) (row_bits words) ≡ row_bits (drop a words)
 unfolding row_bits
 from_word zero words = refl
-from_word (suc a) [] = drop_none (10 * suc a)
+from_word (suc a) [] = drop-nil (10 * suc a)
 from_word (suc a) (w ∷ ws) =
     let l = length-word_bits w in
     let e : 10 * suc a ≡ 10 + 10 * a = omega arith in

@@ -12,7 +12,7 @@ use Rattle.island_pack.specs.Sparse.{payload_of, payload_columns, unlike_words, 
 use Rattle.island_pack.specs.Taps.{blues, greens, reds}
 use Rattle.island_pack.specs.declared.packet.Packet.{Packet}
 use Rattle.link_sink.proofs.Rows.{control_columns}
-use Rattle.link_sink.proofs.Conformed.{IsInner, Follows, ends, goes_on, Conforms}
+use Rattle.link_sink.proofs.Conformed.{Conforms, HasBytes, has_bytes}
 use Rattle.link_sink.proofs.VideoTold.{PixelAt, ArePixels, no_pixels, guarded, pixel_count}
 use Rattle.link_sink.proofs.VideoTold as seen
 use Rattle.link_sink.proofs.IslandColumns.{PartAt, AreParts, no_parts, part, ArePackets, no_packets, one_more, packet_sent}
@@ -155,31 +155,6 @@ front_guards : (x : SyncPair) (bs : List Bool) (ss rs : List Column) → Fits (f
 front_guards x bs ss _ (column _ _ r1 _ _ _ at1 (column _ _ r2 _ _ rs at2 f)) = record { back = rs; is = λ i. at1.same refl i ∷ (at2.same refl i ∷ rs); fits_back = f }
 
 -- Periods.
-
--- the bytes of pixels are bytes
-unfoldable HasBytes : List Period → Type 0
-HasBytes [] = Unit {0}
-HasBytes (control runs ∷ xs) = HasBytes xs
-HasBytes (video bytes ∷ xs) = (are_bytes bytes ≡ true) × HasBytes xs
-HasBytes (island x ∷ xs) = HasBytes xs
-
-inner_bytes : (vs : List ℕ) (x : Period) (xs : List Period) → IsInner vs x → HasBytes xs → HasBytes (x ∷ xs)
-unfolding HasBytes IsInner
-inner_bytes vs (control runs) xs i h = absurd i
-inner_bytes vs (video bytes) xs i h = (i.1.small, h)
-inner_bytes vs (island x) xs i h = h
-
-follows_bytes : (vs : List ℕ) (tail : List Period) → Follows vs tail → HasBytes tail
-unfolding HasBytes
-follows_bytes _ _ (ends vs h) = tt
-follows_bytes _ _ (goes_on vs x runs rest h i f) = inner_bytes vs x (control runs ∷ rest) i (follows_bytes (values_of runs) rest f)
-
-has_bytes : (ps : List Period) → Conforms ps → HasBytes ps
-unfolding HasBytes Conforms
-has_bytes [] h = absurd h
-has_bytes (control runs ∷ rest) h = follows_bytes (values_of runs) rest h
-has_bytes (video bytes ∷ rest) h = absurd h
-has_bytes (island x ∷ rest) h = absurd h
 
 none : (rs : List Column) → Fits [] [] rs → Arrives [] [] rs
 none _ no_columns = nothing

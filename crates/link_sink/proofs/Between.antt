@@ -1,9 +1,10 @@
 -- A period between control periods: what is told of its columns, whole or in part, and of what comes after them.
 use Rattle.std.proofs.Common.{◌≡◌, ℕ, suc, zero, ◌+◌, ◌-◌, ◌<◌, ◌≤◌, Bool, true, false, List, [], ◌∷◌, ◌++◌, length, take, drop, refl, ap, ap₂, sym, ◌∙◌, append_assoc, arith, inl, inr}
 use Rattle.std.proofs.lemmas.List.{append-nil, take-append-le, length-map, length-take}
-use Rattle.std.proofs.Math.Seq.{take-append-add, take-append_seam}
+use Rattle.std.proofs.Math.Seq.{take-append-add, take-append_seam, drop-append_seam}
 use Rattle.std.proofs.lemmas.Bool.{cases_lt, le-leb}
 use Rattle.tmds_word.specs.Column.{Column}
+use Rattle.tmds_word.proofs.Below.{and-left, and-right}
 use Rattle.terc4.specs.Columns.{is_control_column}
 use Rattle.island_pack.specs.Periods.{Period, period_columns, has_preamble}
 use Rattle.island_pack.specs.Spelling.{control_column}
@@ -11,13 +12,12 @@ use Rattle.period_grammar.specs.Things.{Thing, short, preamble as preamble_of, t
 use Rattle.period_grammar.specs.Cut.{Period as Cut, period, before, periods}
 use Rattle.period_grammar.specs.Heard.{unless, lacks, at_close, at_end}
 use Rattle.link_sink.specs.Account.{run_row, period_row}
-use Rattle.link_sink.proofs.Cutting.{and_left, and_right, AllControl, NoneControl, begins, begins_control, cut_both, hear, gap_things, control_told, hear_control, hear_last, hear_on}
+use Rattle.link_sink.proofs.Cutting.{AllControl, NoneControl, begins, begins_control, cut_both, hear, gap_things, control_told, hear_control, hear_last, hear_on}
 use Rattle.link_sink.proofs.Rows.{and_both, control_columns, all_control, control_row, preamble}
 use Rattle.link_sink.proofs.Conformed.{IsControl}
 
 pub drop_seam : (xs ys : List Column) (n : ℕ) → length xs ≡ n → drop n (xs ++ ys) ≡ ys
-drop_seam [] ys n e = ap (λ k. drop k ys) (sym e)
-drop_seam (x ∷ xs) ys n e = ap (λ k. drop k (x ∷ (xs ++ ys))) (sym e) ∙ drop_seam xs ys (length xs) refl
+drop_seam xs ys n e = ap (λ k. drop k (xs ++ ys)) (sym e) ∙ drop-append_seam xs ys
 
 pub take_seam : (xs ys : List Column) (n : ℕ) → length xs ≡ n → take n (xs ++ ys) ≡ xs
 take_seam xs ys n e = ap (λ k. take k (xs ++ ys)) (sym e) ∙ take-append_seam xs ys
@@ -92,7 +92,7 @@ pub record IsGap (vs : List ℕ) (x : Period) (ss rs : List Column) : Type 0 whe
 take_quiet : (k : ℕ) (cs : List Column) → NoneControl cs → NoneControl (take k cs)
 take_quiet zero cs h = refl
 take_quiet (suc k) [] h = refl
-take_quiet (suc k) (c ∷ cs) h = and_both _ _ (and_left _ _ h) (take_quiet k cs (and_right _ _ h))
+take_quiet (suc k) (c ∷ cs) h = and_both _ _ (and-left _ _ h) (take_quiet k cs (and-right _ _ h))
 
 heads_take : (k : ℕ) (cs : List Column) → 1 ≤ k → heads cs ≡ true → heads (take k cs) ≡ true
 heads_take zero cs one h = absurd (omega arith)

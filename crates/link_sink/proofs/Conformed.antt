@@ -4,9 +4,9 @@ use Rattle.std.specs.Prelude.{nat_lt}
 use Rattle.std.specs.List.{list_all}
 use Rattle.std.proofs.lemmas.List.Folds.{list_all-append}
 use Rattle.std.proofs.lemmas.Bool.{leb-true, ltb-true}
+use Rattle.tmds_word.proofs.Below.{and-left, and-right}
 use Rattle.island_pack.specs.Periods.{ControlRun, DataIsland, Period, control, video, island, values_of, has_preamble}
 use Rattle.island_pack.specs.Conforming.{is_run, is_control_period, are_bytes, is_video_period, is_packet, is_data_island, conforms, IsConforming}
-use Rattle.link_sink.proofs.Cutting.{and_left, and_right}
 use Rattle.link_sink.proofs.Rows.{and_both, Small}
 
 pub record IsControl (vs : List ℕ) : Type 0 where
@@ -52,32 +52,32 @@ unfolding values_of
 values_small [] h = refl
 values_small (r ∷ rs) h =
     list_all-append (λ v. nat_lt v 64) (replicate r.count r.value) (values_of rs)
-    ∙ and_both _ _ (small_replicate r.count r.value (and_left _ _ (and_left _ _ h))) (values_small rs (and_right _ _ h))
+    ∙ and_both _ _ (small_replicate r.count r.value (and-left _ _ (and-left _ _ h))) (values_small rs (and-right _ _ h))
 
 is_control_of : (runs : List ControlRun) → is_control_period runs ≡ true → IsControl (values_of runs)
 unfolding is_control_period
-is_control_of runs h = record { long = leb-true _ _ (and_right _ _ h); small = values_small runs (and_left _ _ h) }
+is_control_of runs h = record { long = leb-true _ _ (and-right _ _ h); small = values_small runs (and-left _ _ h) }
 
 is_video_of : (bytes : List ℕ) → is_video_period bytes ≡ true → IsVideo bytes
 unfolding is_video_period
 is_video_of bytes h =
-    let rest = and_right (length bytes % 3 == 0) _ (and_right (are_bytes bytes) _ h) in
-    record { small = and_left _ _ h; some = leb-true _ _ (and_left _ _ rest); few = leb-true _ _ (and_right _ _ rest) }
+    let rest = and-right (length bytes % 3 == 0) _ (and-right (are_bytes bytes) _ h) in
+    record { small = and-left _ _ h; some = leb-true _ _ (and-left _ _ rest); few = leb-true _ _ (and-right _ _ rest) }
 
 is_island_of : (x : DataIsland) → is_data_island x ≡ true → IsIsland x
 unfolding is_data_island
 is_island_of x h =
-    let pairs = and_left _ _ h in
-    let opening = and_left _ _ pairs in
-    let closing = and_right _ _ pairs in
-    let sizes = and_right (list_all is_packet x.packets) _ (and_right _ _ h) in
+    let pairs = and-left _ _ h in
+    let opening = and-left _ _ pairs in
+    let closing = and-right _ _ pairs in
+    let sizes = and-right (list_all is_packet x.packets) _ (and-right _ _ h) in
     record {
-      open_first = ltb-true _ _ (and_left _ _ opening);
-      open_second = ltb-true _ _ (and_right _ _ opening);
-      close_first = ltb-true _ _ (and_left _ _ closing);
-      close_second = ltb-true _ _ (and_right _ _ closing);
-      some = leb-true _ _ (and_left _ _ sizes);
-      few = leb-true _ _ (and_right _ _ sizes);
+      open_first = ltb-true _ _ (and-left _ _ opening);
+      open_second = ltb-true _ _ (and-right _ _ opening);
+      close_first = ltb-true _ _ (and-left _ _ closing);
+      close_second = ltb-true _ _ (and-right _ _ closing);
+      some = leb-true _ _ (and-left _ _ sizes);
+      few = leb-true _ _ (and-right _ _ sizes);
     }
 
 -- what one control period and the period after it say
@@ -96,12 +96,37 @@ conforming (island x ∷ rest) h = cc
 conforming (control runs ∷ []) h = ends (values_of runs) (is_control_of runs h)
 conforming (control runs ∷ (control next ∷ rest)) h = cc
 conforming (control runs ∷ (video bytes ∷ rest)) h =
-    let c = is_control_of runs (and_left _ _ h) in
-    let g = and_right (is_control_period runs) _ h in
-    let v = and_right (has_preamble 1 (values_of runs)) _ g in
-    inner_follows runs (video bytes) rest c (and_left _ _ g, is_video_of bytes (and_left _ _ v)) (conforming rest (and_right (is_video_period bytes) _ v))
+    let c = is_control_of runs (and-left _ _ h) in
+    let g = and-right (is_control_period runs) _ h in
+    let v = and-right (has_preamble 1 (values_of runs)) _ g in
+    inner_follows runs (video bytes) rest c (and-left _ _ g, is_video_of bytes (and-left _ _ v)) (conforming rest (and-right (is_video_period bytes) _ v))
 conforming (control runs ∷ (island x ∷ rest)) h =
-    let c = is_control_of runs (and_left _ _ h) in
-    let g = and_right (is_control_period runs) _ h in
-    let v = and_right (has_preamble 5 (values_of runs)) _ g in
-    inner_follows runs (island x) rest c (and_left _ _ g, is_island_of x (and_left _ _ v)) (conforming rest (and_right (is_data_island x) _ v))
+    let c = is_control_of runs (and-left _ _ h) in
+    let g = and-right (is_control_period runs) _ h in
+    let v = and-right (has_preamble 5 (values_of runs)) _ g in
+    inner_follows runs (island x) rest c (and-left _ _ g, is_island_of x (and-left _ _ v)) (conforming rest (and-right (is_data_island x) _ v))
+
+-- the bytes of pixels are bytes
+unfoldable pub HasBytes : List Period → Type 0
+HasBytes [] = Unit {0}
+HasBytes (control runs ∷ xs) = HasBytes xs
+HasBytes (video bytes ∷ xs) = (are_bytes bytes ≡ true) × HasBytes xs
+HasBytes (island x ∷ xs) = HasBytes xs
+
+inner_bytes : (vs : List ℕ) (x : Period) (xs : List Period) → IsInner vs x → HasBytes xs → HasBytes (x ∷ xs)
+unfolding HasBytes IsInner
+inner_bytes vs (control runs) xs i h = absurd i
+inner_bytes vs (video bytes) xs i h = (i.1.small, h)
+inner_bytes vs (island x) xs i h = h
+
+follows_bytes : (vs : List ℕ) (tail : List Period) → Follows vs tail → HasBytes tail
+unfolding HasBytes
+follows_bytes _ _ (ends vs h) = tt
+follows_bytes _ _ (goes_on vs x runs rest h i f) = inner_bytes vs x (control runs ∷ rest) i (follows_bytes (values_of runs) rest f)
+
+pub has_bytes : (ps : List Period) → Conforms ps → HasBytes ps
+unfolding HasBytes Conforms
+has_bytes [] h = absurd h
+has_bytes (control runs ∷ rest) h = follows_bytes (values_of runs) rest h
+has_bytes (video bytes ∷ rest) h = absurd h
+has_bytes (island x ∷ rest) h = absurd h

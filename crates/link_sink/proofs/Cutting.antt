@@ -1,24 +1,14 @@
 -- How control columns, columns that are none, and the rest are cut; and what is told of them.
-use Rattle.std.proofs.Common.{◌≡◌, ℕ, ◌+◌, Bool, true, false, not, ◌&&◌, List, [], ◌∷◌, ◌++◌, length, map, refl, ap, ap₂, sym, ◌∙◌, append_assoc}
+use Rattle.std.proofs.Common.{◌≡◌, ℕ, ◌+◌, Bool, true, false, not, List, [], ◌∷◌, ◌++◌, length, map, refl, ap, ap₂, sym, ◌∙◌, append_assoc}
 use Rattle.std.specs.List.{list_all}
 use Rattle.std.proofs.lemmas.List.{append-nil, map-append}
 use Rattle.tmds_word.specs.Column.{Column}
+use Rattle.tmds_word.proofs.Below.{and-left, and-right}
 use Rattle.terc4.specs.Columns.{is_control_column}
+use Rattle.lane_deskew.proofs.Computed.{not_true}
 use Rattle.period_grammar.specs.Things.{Thing, all_at, thing_of}
 use Rattle.period_grammar.specs.Cut.{Period as Cut, period, before, periods, runs}
 use Rattle.period_grammar.specs.Heard.{in_runs, last_run, in_gap, at_close, at_end, so_far, reach, closing, told_from, end_from}
-
-pub and_left : (a b : Bool) → (a && b) ≡ true → a ≡ true
-and_left true b h = refl
-and_left false b h = cc
-
-pub and_right : (a b : Bool) → (a && b) ≡ true → b ≡ true
-and_right true b h = h
-and_right false b h = cc
-
-pub not_true : (b : Bool) → not b ≡ true → b ≡ false
-not_true true h = cc
-not_true false h = refl
 
 -- columns that are all control columns, and columns none of which is
 abbrev pub AllControl : List Column → Type 0
@@ -50,9 +40,9 @@ first_other g (period (k ∷ control) gap ∷ xs) h = refl
 pub cut_gap : (gap rest : List Column) → NoneControl gap → begins (periods rest) ≡ true → periods (gap ++ rest) ≡ with_gap gap (periods rest)
 unfolding periods
 cut_gap [] rest none h = refl
-cut_gap (g ∷ []) rest none h = ap (λ p. before p g (periods rest)) (not_true _ (and_left _ _ none)) ∙ first_other g (periods rest) h
+cut_gap (g ∷ []) rest none h = ap (λ p. before p g (periods rest)) (not_true _ (and-left _ _ none)) ∙ first_other g (periods rest) h
 cut_gap (g ∷ (i ∷ gap)) rest none h =
-    ap (λ p. before p g (periods (i ∷ (gap ++ rest)))) (not_true _ (and_left _ _ none)) ∙ ap (before false g) (cut_gap (i ∷ gap) rest (and_right _ _ none) h)
+    ap (λ p. before p g (periods (i ∷ (gap ++ rest)))) (not_true _ (and-left _ _ none)) ∙ ap (before false g) (cut_gap (i ∷ gap) rest (and-right _ _ none) h)
 
 control_first : (c : Column) (xs : List Cut) → before true c xs ≡ with_control (c ∷ []) xs
 control_first c [] = refl
@@ -65,9 +55,9 @@ two_controls c d cs (period control gap ∷ xs) = refl
 pub cut_control : (control rest : List Column) → AllControl control → periods (control ++ rest) ≡ with_control control (periods rest)
 unfolding periods
 cut_control [] rest all = refl
-cut_control (c ∷ []) rest all = ap (λ p. before p c (periods rest)) (and_left _ _ all) ∙ control_first c (periods rest)
+cut_control (c ∷ []) rest all = ap (λ p. before p c (periods rest)) (and-left _ _ all) ∙ control_first c (periods rest)
 cut_control (c ∷ (d ∷ cs)) rest all =
-    ap (λ p. before p c (periods (d ∷ (cs ++ rest)))) (and_left _ _ all) ∙ ap (before true c) (cut_control (d ∷ cs) rest (and_right _ _ all)) ∙ two_controls c d cs (periods rest)
+    ap (λ p. before p c (periods (d ∷ (cs ++ rest)))) (and-left _ _ all) ∙ ap (before true c) (cut_control (d ∷ cs) rest (and-right _ _ all)) ∙ two_controls c d cs (periods rest)
 
 begins_with : (c : Column) (xs : List Cut) → begins (before true c xs) ≡ true
 begins_with c [] = refl

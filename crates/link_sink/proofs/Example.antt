@@ -1,65 +1,20 @@
 -- A tap of the stream, and its first full alignment.
-use Rattle.std.proofs.Common.{◌≡◌, ℕ, ◌+◌, ◌-◌, ◌*◌, ◌%◌, ◌≤◌, Bool, true, false, not, List, [], ◌∷◌, length, drop, refl, ap, ◌∙◌, sym, subst, arith, Option, Some, None, inl, inr, length-take, length-drop}
+use Rattle.std.proofs.Common.{◌≡◌, ℕ, ◌≤◌, Bool, true, false, List, [], ◌∷◌, length, drop, refl, ◌∙◌, sym, subst, arith, Some, inl, inr, length-take, length-drop}
 use Rattle.std.proofs.lemmas.Bool.{cases_lt}
 use Rattle.std.proofs.lemmas.List.{length-map}
 use Rattle.tmds_word.specs.Bits.{bits_of, word_bits, row_bits, number, window}
-use Rattle.tmds_word.proofs.Below.{passes_below, passes_at}
+use Rattle.tmds_word.proofs.Below.{passes_below}
 use Rattle.tmds_word.proofs.Lists.{length-row_bits}
 use Rattle.terc4.specs.Tables.{control_words, terc_words, video_guard, island_guard, is_in, is_control}
-use Rattle.lane_align.specs.Lanes.{HasControl, IsRun, IsLock, IsEdge}
+use Rattle.lane_align.specs.Lanes.{IsEdge}
 use Rattle.lane_align.specs.Laws.{tap}
 use Rattle.lane_align.proofs.Edges.{edges_apart}
 use Rattle.lane_deskew.specs.Triples.{IsFirst}
+use Rattle.lane_deskew.proofs.Computed.{has, runs_at, none_before, is_edge}
 use Rattle.island_pack.specs.Periods.{values_of}
 use Rattle.island_pack.specs.Taps.{blues, greens, reds, IsPart, IsTap}
 use Rattle.link_sink.specs.Laws.{HasExample}
 use Rattle.link_sink.proofs.Stream.{stream, sent, received, long_received, came, unlike_pixel, unlike_packet}
-
--- Windows that are control words.
-
-unfoldable has : Option ℕ → Bool
-has None = false
-has (Some w) = is_control w
-
-from_has : (xs : List Bool) (p : ℕ) (o : Option ℕ) → window xs p ≡ o → has o ≡ true → HasControl xs p
-unfolding has
-from_has xs p None e h = cc
-from_has xs p (Some w) e h = record { word = w; here = e; control = h }
-
-to_has : (xs : List Bool) (p : ℕ) → HasControl xs p → has (window xs p) ≡ true
-unfolding has
-to_has xs p h = ap has h.here ∙ h.control
-
-not_true : (b : Bool) → not b ≡ true → b ≡ false
-not_true true h = cc
-not_true false h = refl
-
-clash : (b : Bool) → b ≡ true → b ≡ false → ⊥
-clash b h g = cc
-
--- whether twelve control words in a row begin at a place
-abbrev runs_at : List Bool → ℕ → Bool
-runs_at xs p = passes_below 12 (λ k. has (window xs (p + 10 * k)))
-
--- whether none of the first n places begins a control word
-abbrev none_before : List Bool → ℕ → Bool
-none_before xs n = passes_below n (λ p. not (has (window xs p)))
-
-is_run : (xs : List Bool) (p : ℕ) → runs_at xs p ≡ true → IsRun xs p
-is_run xs p test k lt = from_has xs (p + 10 * k) (window xs (p + 10 * k)) refl (passes_at 12 (λ k. has (window xs (p + 10 * k))) k test lt)
-
-is_lock : (xs : List Bool) (p : ℕ) → runs_at xs p ≡ true → none_before xs p ≡ true → IsLock xs p
-is_lock xs p run none = record {
-  run = is_run xs p run;
-  least = λ q lt r.
-      let e : q + 10 * 0 ≡ q = omega arith in
-      clash _ (to_has xs q (subst (λ p. HasControl xs p) e (r 0 (omega arith)))) (not_true _ (passes_at p (λ p. not (has (window xs p))) q none lt));
-}
-
-is_edge : (xs : List Bool) (p e w : ℕ) → runs_at xs p ≡ true → none_before xs p ≡ true → runs_at xs (e - 120) ≡ true → window xs e ≡ Some w → is_control w ≡ false
-    → p + 120 ≤ e → e % 10 ≡ p % 10 → IsEdge xs e
-is_edge xs p e w run none before here other past aligned =
-    record { lock = p; is_lock = is_lock xs p run none; past = past; aligned = aligned; run = is_run xs (e - 120) before; word = w; here = here; no_control = other }
 
 -- The tap.
 

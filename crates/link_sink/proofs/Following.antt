@@ -1,16 +1,14 @@
 -- What lanes that grow tell more, and all of it at the end.
-use Rattle.std.proofs.Common.{◌≡◌, ℕ, true, false, List, [], ◌∷◌, ◌++◌, length, map, drop, refl, ap, sym, subst, ◌∙◌, append_assoc, arith, inl, inr, Option, Some, None, MatchOption}
+use Rattle.std.proofs.Common.{◌≡◌, ℕ, true, false, List, [], ◌∷◌, ◌++◌, length, map, drop, refl, ap, sym, subst, ◌∙◌, append_assoc, inl, inr, Option, Some, None, MatchOption}
 use Rattle.std.proofs.lemmas.List.{append-nil}
 use Rattle.tmds_word.specs.Column.{Column}
-use Rattle.lane_align.specs.Lanes.{IsEdge}
-use Rattle.lane_align.proofs.Controls.{window_is}
 use Rattle.lane_deskew.specs.Triples.{IsTriple, IsAlignment}
 use Rattle.lane_deskew.specs.Aligned.{aligned_columns}
 use Rattle.lane_deskew.specs.Searches.{StandsFor as HasSearched}
 use Rattle.lane_deskew.specs.declared.Aligned.{Aligned}
 use Rattle.lane_deskew.specs.declared.search.Search.{Search}
 use Rattle.lane_deskew.proofs.First.{one_first}
-use Rattle.lane_deskew.proofs.Growth.{first_stays}
+use Rattle.lane_deskew.proofs.Growth.{first_stays, none_of_nothing}
 use Rattle.period_grammar.specs.Things.{Thing, thing_of}
 use Rattle.period_grammar.specs.Heard.{heard_so_far, heard}
 use Rattle.period_grammar.specs.Seen.{Seen}
@@ -103,15 +101,12 @@ pub settled_first : (progress : Progress) (new : Search) (at : Option Aligned) (
 settled_first progress new at before now none h stands answer =
     first progress.search new at progress.at progress.hearing progress.columns before now none h stands answer
 
-no_edge : (e : ℕ) → IsEdge [] e → ⊥
-no_edge e h = let here = window_is [] e h.word h.here in omega (arith, here.0)
-
 -- lanes with no bits are aligned nowhere
 pub far_at_first : (search : Search) (hearing : Seen) → HasSearched search [] [] [] → StandsFor hearing [] → hearing.finished ≡ false
     → IsAsFar (record { search = search; at = None; hearing = hearing; columns = 0 }) (fed_of [] [] [])
 far_at_first search hearing searches heard goes_on = record {
   even = record { green = refl; red = refl };
-  found = (searches, λ d e f t. no_edge d t.first);
+  found = (searches, none_of_nothing);
   columns = refl;
   heard = heard;
   goes_on = goes_on;
@@ -203,7 +198,7 @@ ends_nowhere progress fed is far = nowhere_last progress.search progress.at fed 
 
 -- lanes with no bits tell nothing
 pub told_at_first : IsToldSoFar (fed_of [] [] []) []
-told_at_first = inr (λ d e f t. no_edge d t.first, refl)
+told_at_first = inr (none_of_nothing, refl)
 
 -- what two feeds tell more
 pub gains_both : (before between now : Fed) (h k : List Thing) → IsGain before between h → IsGain between now k → IsGain before now (h ++ k)

@@ -1,8 +1,10 @@
 -- The control columns that came are those of the control periods, and the account of columns that came.
 use Rattle.std.proofs.Common.{◌≡◌, ℕ, suc, zero, ◌*◌, ◌<◌, Bool, true, false, ◌+◌, List, [], ◌∷◌, ◌++◌, length, take, drop, replicate, refl, sym, subst, append_assoc, arith, length-append}
 use Rattle.tmds_word.specs.Column.{Column}
+use Rattle.tmds_word.proofs.Below.{and-left, and-right}
 use Rattle.terc4.specs.Columns.{is_control_column}
 use Rattle.lane_deskew.specs.Kinds.{Kind, control as of_control, guard as of_guard, payload as of_payload, guards, item_kinds, kinds_of, kind_at, EndsAt}
+use Rattle.lane_deskew.proofs.Computed.{not_true}
 use Rattle.island_pack.specs.Periods.{Pixel, Period, control, video, island, values_of, pixels_of}
 use Rattle.island_pack.specs.Spelling.{guard_column, guard_columns}
 use Rattle.island_pack.specs.Sparse.{column_at}
@@ -10,7 +12,6 @@ use Rattle.island_pack.specs.declared.packet.Packet.{Packet}
 use Rattle.period_grammar.specs.Heard.{heard}
 use Rattle.link_sink.specs.Account.{account}
 use Rattle.link_sink.specs.Laws.{shape_of, shapes_of, FramingStands, LinkLaw}
-use Rattle.link_sink.proofs.Cutting.{and_left, and_right, not_true}
 use Rattle.link_sink.proofs.Rows.{control_columns, Small, all_control}
 use Rattle.link_sink.proofs.Conformed.{IsInner, Follows, ends, goes_on, Conforms, conforming}
 use Rattle.link_sink.proofs.VideoTold.{line_guard, ArePixels, no_pixels, pixel_quiet, guards_quiet, pixel_count}
@@ -37,7 +38,7 @@ agree_at _ _ (one_column k r ks rs h hs) (suc i) lt = agree_at ks rs hs i (omega
 agree_control : (vs : List ℕ) (ks : List Kind) (rs : List Column) → Small vs → Agree ks rs → Agree (replicate (length vs) of_control ++ ks) (control_columns vs ++ rs)
 agree_control [] ks rs small h = h
 agree_control (v ∷ vs) ks rs small h =
-    one_column _ _ _ _ (record { to = λ e. and_left _ _ (all_control (v ∷ vs) small); from = λ e. refl }) (agree_control vs ks rs (and_right _ _ small) h)
+    one_column _ _ _ _ (record { to = λ e. and-left _ _ (all_control (v ∷ vs) small); from = λ e. refl }) (agree_control vs ks rs (and-right _ _ small) h)
 
 no_control : (k : Kind) (r : Column) → (k ≡ of_control → ⊥) → is_control_column r ≡ false → Agrees k r
 no_control k r apart quiet = record { to = λ e. absurd (apart e); from = λ e. cc }

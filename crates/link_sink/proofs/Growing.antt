@@ -15,11 +15,8 @@ use Rattle.period_grammar.proofs.Hearings.{start_of, starts}
 use Rattle.period_grammar.proofs.Sizes.{all_are_sized}
 use Rattle.link_sink.specs.Ears.{StopsIn}
 use Rattle.link_sink.specs.Telling.{told_of, TookMore, StoppedIn}
+use Rattle.link_sink.proofs.Cutting.{things_at}
 use Rattle.link_sink.proofs.Stops.{stops_after, stops_before}
-
-things_at : (n : ℕ) (us : List Thing) → map thing_of (all_at n us) ≡ us
-things_at n [] = refl
-things_at n (u ∷ us) = ap (λ ts. u ∷ ts) (things_at n us)
 
 -- what a call told is told after what was told before
 pub told_then : (cs ds : List Column) (n : ℕ) (us : List Thing) → heard_so_far ds ≡ heard_so_far cs ++ all_at n us → told_of ds ≡ told_of cs ++ us

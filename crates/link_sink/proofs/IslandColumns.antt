@@ -5,18 +5,19 @@ use Rattle.std.proofs.lemmas.List.{length-map}
 use Rattle.std.proofs.lemmas.List.Folds.{list_all-append}
 use Rattle.std.proofs.lemmas.Bool.{eqb-true, lt-leb}
 use Rattle.tmds_word.specs.Column.{Column}
-use Rattle.tmds_word.proofs.Below.{passes_below, passes_at}
+use Rattle.tmds_word.proofs.Below.{and-left, and-right, passes_below, passes_at}
 use Rattle.terc4.specs.Tables.{control_words, terc_words, video_guard, island_guard as guard_word, value_in, is_in, is_control, is_terc}
 use Rattle.terc4.specs.Columns.{is_control_column, one_if, is_video_guard, is_twelve_or_more, is_island_guard}
 use Rattle.terc4.proofs.Members.{passes_all, passes_in}
 use Rattle.terc4.proofs.Words.{terc_apart}
+use Rattle.lane_deskew.proofs.Computed.{not_true}
 use Rattle.island_pack.specs.Nibbles.{nibble_of}
 use Rattle.island_pack.specs.Packets.{Carries}
 use Rattle.island_pack.specs.Spelling.{guard_column, words_of}
 use Rattle.island_pack.specs.Sparse.{unlike_words}
 use Rattle.island_pack.specs.declared.packet.Packet.{Packet}
 use Rattle.period_grammar.specs.Column.{is_closing, sync_digit}
-use Rattle.link_sink.proofs.Cutting.{and_left, and_right, not_true, NoneControl}
+use Rattle.link_sink.proofs.Cutting.{NoneControl}
 use Rattle.link_sink.proofs.Rows.{and_both}
 
 -- Guard columns.
@@ -50,8 +51,8 @@ is_guard d lt =
     record {
       quiet = passes_at 4 (λ d. not (is_control_column (guard_column d))) d guard_control lt;
       no_video = not_true _ (passes_at 4 (λ d. not (is_video_guard (guard_column d))) d guard_video lt);
-      is_guard = and_left _ _ both;
-      closing = and_right _ _ both;
+      is_guard = and-left _ _ both;
+      closing = and-right _ _ both;
       digit = eqb-true _ _ (passes_at 4 (λ d. sync_digit (guard_column d).blue == d) d guard_digit lt);
     }
 

@@ -5,7 +5,9 @@ use Rattle.std.proofs.lemmas.List.Folds.{list_all-append}
 use Rattle.std.proofs.lemmas.Bool.{cases_lt, ne_eqb, le-leb, le-ltb, lt-ltb}
 use Rattle.std.proofs.Math.Seq.{take-append-add}
 use Rattle.tmds_word.specs.Column.{Column}
+use Rattle.tmds_word.proofs.Below.{and-left}
 use Rattle.terc4.specs.Columns.{is_control_column, is_video_guard, is_island_guard}
+use Rattle.lane_deskew.proofs.Computed.{not_true}
 use Rattle.island_pack.specs.Packets.{Carries}
 use Rattle.island_pack.specs.Periods.{SyncPair, DataIsland, period_columns, has_preamble}
 use Rattle.island_pack.specs.Periods as sends
@@ -18,7 +20,7 @@ use Rattle.period_grammar.specs.Island.{Payload, parts, begins_close, holds_pack
 use Rattle.period_grammar.specs.Heard.{island, opened, opening, kind_by, lacks, in_payload, payload_closes, payload_ends, in_gap, at_close, at_end}
 use Rattle.period_grammar.proofs.Islands.{holds_is, holds_not, holds_never, split_none, split_one}
 use Rattle.link_sink.specs.Account.{packet_row, packet_told, packets_told, island_told, period_row}
-use Rattle.link_sink.proofs.Cutting.{and_left, not_true, NoneControl, gap_things, things_at}
+use Rattle.link_sink.proofs.Cutting.{NoneControl, gap_things, things_at}
 use Rattle.link_sink.proofs.Rows.{and_both, control_columns}
 use Rattle.link_sink.proofs.Conformed.{IsControl, IsIsland}
 use Rattle.link_sink.proofs.Between.{take_seam, drop_seam, IsGap, lacks_none}
@@ -103,7 +105,7 @@ closing_told f x n b s k (suc (suc i)) ss h some =
 begins_open : (i : ℕ) (qq rest : List Column) → 1 ≤ length qq → NoneClosing qq → begins_close (take i (qq ++ rest)) ≡ false
 begins_open i [] rest some shut = absurd (omega arith)
 begins_open zero (q ∷ qq) rest some shut = refl
-begins_open (suc i) (q ∷ qq) rest some shut = not_true _ (and_left _ _ shut)
+begins_open (suc i) (q ∷ qq) rest some shut = not_true _ (and-left _ _ shut)
 
 not_whole : (m : ℕ) (f : ℕ → Thing) (x : SyncPair) (p : Packet) (ps : List Packet) (ss cs : List Column) (b s k i : ℕ) → begins_close (take i cs) ≡ false → i < 32
     → told f b s k (split m (take i cs)) ≡ packets_told f x s (p ∷ ps) i ss cs

@@ -4,12 +4,13 @@ use Rattle.std.proofs.lemmas.List.{append-nil, take_all, take-append-le, take-ma
 use Rattle.std.proofs.Math.Seq.{take-append-add}
 use Rattle.std.proofs.lemmas.Bool.{cases_lt}
 use Rattle.tmds_word.specs.Column.{Column}
+use Rattle.tmds_word.proofs.Below.{and-left, and-right}
 use Rattle.island_pack.specs.Periods.{ControlRun, DataIsland, Period, control, video, island, values_of, pixels_of, period_columns}
 use Rattle.island_pack.specs.Spelling.{control_column, guard_columns}
 use Rattle.period_grammar.specs.Things.{Thing}
 use Rattle.period_grammar.specs.Cut.{periods}
 use Rattle.link_sink.specs.Account.{run_row, longest, video_told, island_told, period_row, account_from}
-use Rattle.link_sink.proofs.Cutting.{and_left, and_right, hear, hear_control}
+use Rattle.link_sink.proofs.Cutting.{hear, hear_control}
 use Rattle.link_sink.proofs.Rows.{and_both, control_columns, Small, all_control, control_row}
 use Rattle.link_sink.proofs.Conformed.{IsControl, IsInner, Follows, ends, goes_on}
 use Rattle.link_sink.proofs.Between.{take_seam, drop_seam, heads, IsGap, period_law}
@@ -83,7 +84,7 @@ account_period j m x xs own came ss rs h =
 small_take : (k : ℕ) (vs : List ℕ) → Small vs → Small (take k vs)
 small_take zero vs h = refl
 small_take (suc k) [] h = refl
-small_take (suc k) (v ∷ vs) h = and_both _ _ (and_left _ _ h) (small_take k vs (and_right _ _ h))
+small_take (suc k) (v ∷ vs) h = and_both _ _ (and-left _ _ h) (small_take k vs (and-right _ _ h))
 
 taken_row : (j m : ℕ) (vs : List ℕ) → Small vs → hear j (periods (take m (control_columns vs))) ≡ run_row (take m vs)
 taken_row j m vs small =
@@ -104,7 +105,7 @@ within j m vs tail ss rs later small le =
 
 pub first_control : (vs : List ℕ) (rs : List Column) → Small vs → 1 ≤ length vs → heads (control_columns vs ++ rs) ≡ true
 first_control [] rs small some = absurd (omega arith)
-first_control (v ∷ vs) rs small some = and_left _ _ (all_control (v ∷ vs) small)
+first_control (v ∷ vs) rs small some = and-left _ _ (all_control (v ∷ vs) small)
 
 pub follows_control : (vs : List ℕ) (tail : List Period) → Follows vs tail → IsControl vs
 follows_control _ _ (ends vs h) = h

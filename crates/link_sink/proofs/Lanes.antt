@@ -1,60 +1,37 @@
 -- The lanes of columns that came of conforming periods with sparse damage: each is one in which an edge is the end of a
 -- control period.
-use Rattle.std.proofs.Common.{◌≡◌, ℕ, suc, zero, ◌+◌, ◌*◌, ◌/◌, ◌<◌, ◌≤◌, Bool, true, false, not, ◌==◌, ◌&&◌, ◌%◌, List, [], ◌∷◌, ◌++◌, map, length, take, drop, get_or, replicate, refl, ap, ap₂, sym, ◌∙◌, subst, arith}
-use Rattle.std.specs.List.{list_all}
-use Rattle.std.proofs.lemmas.Bool.{leb-true, eq-eqb}
+use Rattle.std.proofs.Common.{◌≡◌, ℕ, suc, zero, ◌+◌, ◌*◌, ◌/◌, ◌<◌, ◌≤◌, Bool, true, false, not, ◌==◌, List, [], ◌∷◌, ◌++◌, map, length, take, drop, get_or, replicate, refl, ap, ap₂, sym, ◌∙◌, subst, arith}
+use Rattle.std.proofs.lemmas.Bool.{eq-eqb}
+use Rattle.std.proofs.Math.ListN.{get_or-map as get_or-map_at}
 use Rattle.std.proofs.lemmas.List.{length-map, get_or-map, map-append}
 use Rattle.tmds_word.specs.Bits.{word_bits, turns}
 use Rattle.tmds_word.specs.Column.{Column}
-use Rattle.tmds_word.proofs.Below.{and-left, and-right}
 use Rattle.terc4.specs.Tables.{is_control}
 use Rattle.terc4.specs.Columns.{one_if}
 use Rattle.lane_align.specs.Laws.{marked}
-use Rattle.lane_deskew.specs.Kinds.{Kind, control as control_kind, guard, payload, guards, item_kinds, kinds_of, kind_at, IsInner, IsShape, last, more}
+use Rattle.lane_deskew.specs.Kinds.{Kind, control as control_kind, guard, payload, guards, item_kinds, kinds_of, kind_at, IsShape}
 use Rattle.lane_deskew.specs.Ends.{IsReceived, IsSent, IsSparse as IsSparseLane, damaged}
 use Rattle.lane_deskew.proofs.Ends.{sparse_received}
-use Rattle.island_pack.specs.Periods.{ControlRun, DataIsland, Period, control, video, island, values_of, has_preamble, VIDEO_PREAMBLE, ISLAND_PREAMBLE}
-use Rattle.island_pack.specs.Conforming.{IsConforming, conforms, is_run, is_control_period, are_bytes, is_video_period, is_sync_pair, is_packet, is_data_island}
+use Rattle.island_pack.specs.Periods.{Period, control, video, island, values_of}
+use Rattle.island_pack.specs.Conforming.{IsConforming}
 use Rattle.island_pack.specs.Taps.{blues, greens, reds}
 use Rattle.island_pack.specs.Sparse.{payload_of, payload_columns, unlike_words, AreFew, no_column, column_at}
 use Rattle.link_sink.specs.Laws.{shape_of, shapes_of, CameOf}
+use Rattle.link_sink.proofs.Conformed.{Conforms, conforming}
+use Rattle.link_sink.proofs.EndPlaces.{follows_shape}
 use Rattle.link_sink.proofs.Spelled.{FitsWord, FitsColumn, Fitting, no_columns, column, fitting}
 
 -- Conforming periods have a shape.
 
-long_control : (runs : List ControlRun) → is_control_period runs ≡ true → 12 ≤ length (values_of runs)
-unfolding is_control_period
-long_control runs h = leb-true _ _ (and-right (list_all is_run runs) _ h)
-
-some_pixels : (bytes : List ℕ) → is_video_period bytes ≡ true → 1 ≤ length bytes / 3
-unfolding is_video_period
-some_pixels bytes h =
-    leb-true _ _ (and-left _ _ (and-right (length bytes % 3 == 0) _ (and-right (are_bytes bytes) _ h)))
-
-some_packets : (x : DataIsland) → is_data_island x ≡ true → 1 ≤ length x.packets
-unfolding is_data_island
-some_packets x h = leb-true _ _ (and-left _ _ (and-right (list_all is_packet x.packets) _ (and-right (is_sync_pair x.opening && is_sync_pair x.closing) _ h)))
-
-conforming_shape : (ps : List Period) → conforms ps ≡ true → IsShape (shapes_of ps)
-unfolding conforms shape_of IsInner
-conforming_shape [] h = cc
-conforming_shape (video bytes ∷ ps) h = cc
-conforming_shape (island x ∷ ps) h = cc
-conforming_shape (control runs ∷ []) h = last (length (values_of runs)) (long_control runs h)
-conforming_shape (control runs ∷ (control again ∷ ps)) h = cc
-conforming_shape (control runs ∷ (video bytes ∷ ps)) h =
-    let h1 = and-right (is_control_period runs) _ h in
-    let h2 = and-right (has_preamble VIDEO_PREAMBLE (values_of runs)) _ h1 in
-    more (length (values_of runs)) (shape_of (video bytes)) (shapes_of ps) (long_control runs (and-left (is_control_period runs) _ h))
-    (some_pixels bytes (and-left (is_video_period bytes) _ h2)) (conforming_shape ps (and-right (is_video_period bytes) _ h2))
-conforming_shape (control runs ∷ (island x ∷ ps)) h =
-    let h1 = and-right (is_control_period runs) _ h in
-    let h2 = and-right (has_preamble ISLAND_PREAMBLE (values_of runs)) _ h1 in
-    more (length (values_of runs)) (shape_of (island x)) (shapes_of ps) (long_control runs (and-left (is_control_period runs) _ h))
-    (some_packets x (and-left (is_data_island x) _ h2)) (conforming_shape ps (and-right (is_data_island x) _ h2))
+conforms_shape : (ps : List Period) → Conforms ps → IsShape (shapes_of ps)
+unfolding Conforms shape_of
+conforms_shape [] h = absurd h
+conforms_shape (control runs ∷ rest) h = follows_shape (values_of runs) rest h
+conforms_shape (video bytes ∷ rest) h = absurd h
+conforms_shape (island x ∷ rest) h = absurd h
 
 pub shape_is : (ps : List Period) → IsConforming ps → IsShape (shapes_of ps)
-shape_is ps h = conforming_shape ps h
+shape_is ps h = conforms_shape ps (conforming ps h)
 
 -- Columns of payload are those that may come damaged.
 
@@ -83,11 +60,6 @@ payload_periods (p ∷ ps) =
     ap₂ (λ (a b : List Bool). a ++ b) (payload_period p) (payload_periods ps)
     ∙ sym (map-append is_payload (item_kinds (shape_of p)) (kinds_of (shapes_of ps)))
 
-payload_at : (ks : List Kind) (i : ℕ) → get_or (map is_payload ks) i false ≡ is_payload (kind_at ks i)
-payload_at [] i = refl
-payload_at (k ∷ ks) zero = refl
-payload_at (k ∷ ks) (suc i) = payload_at ks i
-
 no_payload : (k : Kind) → (k ≡ payload → ⊥) → is_payload k ≡ false
 no_payload control_kind h = refl
 no_payload guard h = refl
@@ -96,7 +68,7 @@ no_payload payload h = absurd (h refl)
 spared : (ps : List Period) (i : ℕ) → (kind_at (kinds_of (shapes_of ps)) i ≡ payload → ⊥) → get_or (payload_columns ps) i false ≡ false
 spared ps i h =
     let ks = kinds_of (shapes_of ps) in
-    ap (λ bs. get_or bs i false) (payload_periods ps) ∙ payload_at ks i ∙ no_payload (kind_at ks i) h
+    ap (λ bs. get_or bs i false) (payload_periods ps) ∙ get_or-map_at is_payload ks i guard ∙ no_payload (kind_at ks i) h
 
 -- Sent words.
 

@@ -27,3 +27,5 @@ pub mod Growing
 pub mod Prefixes
 pub mod Following
 pub mod Feeding
+pub mod Decided
+pub mod Pieces

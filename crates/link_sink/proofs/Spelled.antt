@@ -1,10 +1,9 @@
 -- The words of the columns that spell periods: control words in control columns, and in all others words of at most
 -- five turns.
-use Rattle.std.proofs.Common.{◌≡◌, ℕ, suc, zero, ◌+◌, ◌*◌, ◌/◌, ◌%◌, ◌<◌, ◌≤◌, Bool, true, false, List, [], ◌∷◌, ◌++◌, map, length, get_or, replicate, refl, ap, sym, ◌∙◌, subst, append_assoc, arith, nat_le, nat_lt, take}
-use Rattle.std.specs.Prelude.{⊤}
+use Rattle.std.proofs.Common.{◌≡◌, ℕ, suc, zero, ◌+◌, ◌*◌, ◌/◌, ◌%◌, ◌<◌, ◌≤◌, Bool, true, false, List, [], ◌∷◌, ◌++◌, map, length, get_or, replicate, refl, sym, ◌∙◌, subst, append_assoc, arith, nat_le, nat_lt, take}
 use Rattle.std.specs.List.{list_all}
 use Rattle.std.proofs.lemmas.Bool.{ltb-true, leb-true}
-use Rattle.std.proofs.lemmas.List.{length-map, length-append, get_or-map}
+use Rattle.std.proofs.lemmas.List.{length-map, get_or-map}
 use Rattle.tmds_word.specs.Bits.{word_bits, bits_of, turns, unlike}
 use Rattle.tmds_word.specs.Column.{Column, column_of}
 use Rattle.tmds_word.proofs.Below.{and-left, and-right}
@@ -14,13 +13,16 @@ use Rattle.tmds_code.proofs.TableWords.{coded_turns}
 use Rattle.terc4.specs.Tables.{control_words, terc_words, video_guard, island_guard, is_in, is_control, is_terc}
 use Rattle.terc4.proofs.Words.{terc_turns}
 use Rattle.lane_deskew.specs.Kinds.{Kind, control as control_kind, guard, payload, item_kinds, kinds_of}
-use Rattle.island_pack.specs.Periods.{ControlRun, DataIsland, Period, control, video, island, values_of, has_preamble, VIDEO_PREAMBLE, ISLAND_PREAMBLE, Pixel, pixels_of}
-use Rattle.island_pack.specs.Conforming.{IsConforming, conforms, is_control_period, are_bytes, is_video_period, is_data_island}
+use Rattle.island_pack.specs.Periods.{ControlRun, DataIsland, Period, control, video, island, values_of, Pixel, pixels_of}
+use Rattle.island_pack.specs.Conforming.{IsConforming, conforms, are_bytes}
 use Rattle.island_pack.specs.Packets.{Carries}
 use Rattle.island_pack.specs.Spelling.{control_column, SpellsPixels, guard_column, guard_columns, words_of, SpellsPackets, SpellsPeriod, Spells}
 use Rattle.island_pack.specs.declared.packet.Packet.{Packet}
 use Rattle.island_pack.specs.Sparse.{no_column, column_at}
 use Rattle.link_sink.specs.Laws.{shape_of, shapes_of}
+use Rattle.link_sink.proofs.Conformed.{conforming, HasBytes, has_bytes}
+use Rattle.link_sink.proofs.VideoTold.{pixel_count}
+use Rattle.link_sink.proofs.SpelledWords.{packets_size}
 
 -- what a word of a column of a kind is
 abbrev pub FitsWord : Kind → ℕ → Type 0
@@ -144,13 +146,6 @@ small_pixels (r ∷ (g ∷ (b ∷ rest))) zero h =
 small_pixels (r ∷ (g ∷ (b ∷ rest))) (suc j) h =
     small_pixels rest j (and-right (nat_lt b 256) _ (and-right (nat_lt g 256) _ (and-right (nat_lt r 256) _ h)))
 
-pub length-pixels_of : (bytes : List ℕ) → length (pixels_of bytes) ≡ length bytes / 3
-unfolding pixels_of
-length-pixels_of [] = refl
-length-pixels_of (r ∷ []) = refl
-length-pixels_of (r ∷ (g ∷ [])) = refl
-length-pixels_of (r ∷ (g ∷ (b ∷ rest))) = let ih = length-pixels_of rest in omega arith
-
 lane_quiet : (bytes words : List ℕ) → IsLane bytes words → (j : ℕ) → j < length words → get_or bytes j 0 < 256 → turns (word_bits (get_or words j 0)) ≤ 5
 lane_quiet bytes words lane j lt small =
     subst (λ w. turns (word_bits w) ≤ 5) (sym (lane.coded j lt)) (coded_turns (sign_of (disparity_of (take j words))) (get_or bytes j 0) small)
@@ -191,47 +186,12 @@ packet_payload p first own h = payload_from own (λ i lt.
     λ lane within. terc_turns _ (subst (λ ws. is_terc (get_or ws lane 0) ≡ true) words (h.free.terc lane within i [] (omega arith))) in
     record { blue = quiet 0 (omega arith); green = quiet 1 (omega arith); red = quiet 2 (omega arith) })
 
-packets_payload : (first : Bool) (packets : List Packet) (cs : List Column) → SpellsPackets first packets cs → ArePayload cs × (length cs ≡ 32 * length packets)
-packets_payload first [] cs h = (subst ArePayload (sym h) none, ap length h)
+packets_payload : (first : Bool) (packets : List Packet) (cs : List Column) → SpellsPackets first packets cs → ArePayload cs
+packets_payload first [] cs h = subst ArePayload (sym h) none
 packets_payload first (p ∷ ps) cs h =
-    let own = h.0 in
-    let rest = h.1 in
-    let ih = packets_payload false ps rest h.4 in
-    let many = length-map own words_of in
-    let count = h.3.free.count in
-    let both = length-append own rest in
-    let rest_many = ih.1 in
-    let all = ap length h.2 in
-    (subst ArePayload (sym h.2) (payload_both own rest (packet_payload p first own h.3) ih.0), omega arith)
+    subst ArePayload (sym h.2) (payload_both h.0 h.1 (packet_payload p first h.0 h.3) (packets_payload false ps h.1 h.4))
 
 -- Periods.
-
--- the bytes of video data periods are bytes
-abbrev pub AreSmall : List Period → Type 0
-AreSmall [] = ⊤
-AreSmall (control runs ∷ ps) = AreSmall ps
-AreSmall (video bytes ∷ ps) = (are_bytes bytes ≡ true) × AreSmall ps
-AreSmall (island x ∷ ps) = AreSmall ps
-
-video_small : (bytes : List ℕ) → is_video_period bytes ≡ true → are_bytes bytes ≡ true
-unfolding is_video_period
-video_small bytes h = and-left (are_bytes bytes) _ h
-
-conforming_small : (ps : List Period) → conforms ps ≡ true → AreSmall ps
-unfolding conforms
-conforming_small [] h = cc
-conforming_small (video bytes ∷ ps) h = cc
-conforming_small (island x ∷ ps) h = cc
-conforming_small (control runs ∷ []) h = tt
-conforming_small (control runs ∷ (control again ∷ ps)) h = cc
-conforming_small (control runs ∷ (video bytes ∷ ps)) h =
-    let h1 = and-right (is_control_period runs) _ h in
-    let h2 = and-right (has_preamble VIDEO_PREAMBLE (values_of runs)) _ h1 in
-    (video_small bytes (and-left (is_video_period bytes) _ h2), conforming_small ps (and-right (is_video_period bytes) _ h2))
-conforming_small (control runs ∷ (island x ∷ ps)) h =
-    let h1 = and-right (is_control_period runs) _ h in
-    let h2 = and-right (has_preamble ISLAND_PREAMBLE (values_of runs)) _ h1 in
-    conforming_small ps (and-right (is_data_island x) _ h2)
 
 fit_control_period : (runs : List ControlRun) (own : List Column) (ks : List Kind) (cs : List Column) → SpellsPeriod (control runs) own → Fitting ks cs
     → Fitting (item_kinds (shape_of (control runs)) ++ ks) (own ++ cs)
@@ -244,7 +204,7 @@ fit_video : (bytes : List ℕ) (own : List Column) (ks : List Kind) (cs : List C
 unfolding item_kinds shape_of
 fit_video bytes own ks cs small h fit =
     let pp = h.0 in
-    let n : length pp ≡ length bytes / 3 = length-spelled (pixels_of bytes) pp h.2 ∙ length-pixels_of bytes in
+    let n : length pp ≡ length bytes / 3 = length-spelled (pixels_of bytes) pp h.2 ∙ pixel_count bytes in
     let inner = subst (λ n. Fitting (replicate n payload ++ ks) (pp ++ cs)) n (fit_payload pp ks cs (pixels_payload bytes pp small h.2) fit) in
     subst (λ own. Fitting (guard ∷ (guard ∷ (replicate (length bytes / 3) payload ++ ks))) (own ++ cs)) (sym h.1)
     (column _ _ _ _ fit_video_guard (column _ _ _ _ fit_video_guard inner))
@@ -256,16 +216,15 @@ fit_island x own ks cs h fit =
     let pp = h.0 in
     let gs = guard ∷ (guard ∷ []) in
     let closing = guard_columns x.closing in
-    let packets = packets_payload true x.packets pp h.2 in
     let last = column _ _ _ _ (fit_guard x.closing.first) (column _ _ _ _ (fit_guard x.closing.second) fit) in
-    let inner = subst (λ n. Fitting (replicate n payload ++ (gs ++ ks)) (pp ++ (closing ++ cs))) packets.1 (fit_payload pp (gs ++ ks) (closing ++ cs) packets.0 last) in
+    let inner = subst (λ n. Fitting (replicate n payload ++ (gs ++ ks)) (pp ++ (closing ++ cs))) (packets_size true x.packets pp h.2) (fit_payload pp (gs ++ ks) (closing ++ cs) (packets_payload true x.packets pp h.2) last) in
     let columns = subst (λ cs. Fitting (replicate (32 * length x.packets) payload ++ (gs ++ ks)) cs) (sym (append_assoc pp closing cs)) inner in
     let whole = subst (λ ks. Fitting ks ((pp ++ closing) ++ cs)) (sym (append_assoc (replicate (32 * length x.packets) payload) gs ks)) columns in
     subst (λ own. Fitting (item_kinds (shape_of (island x)) ++ ks) (own ++ cs)) (sym h.1)
     (column _ _ _ _ (fit_guard x.opening.first) (column _ _ _ _ (fit_guard x.opening.second) whole))
 
-fit_periods : (ps : List Period) (sent : List Column) → AreSmall ps → Spells ps sent → Fitting (kinds_of (shapes_of ps)) sent
-unfolding kinds_of
+fit_periods : (ps : List Period) (sent : List Column) → HasBytes ps → Spells ps sent → Fitting (kinds_of (shapes_of ps)) sent
+unfolding HasBytes kinds_of
 fit_periods [] sent small h = subst (λ cs. Fitting [] cs) (sym h) no_columns
 fit_periods (control runs ∷ ps) sent small h =
     subst (λ cs. Fitting (kinds_of (shapes_of (control runs ∷ ps))) cs) (sym h.2) (fit_control_period runs h.0 (kinds_of (shapes_of ps)) h.1 h.3 (fit_periods ps h.1 small h.4))
@@ -276,4 +235,4 @@ fit_periods (island x ∷ ps) sent small h =
 
 -- the columns that spell conforming periods fit their kinds
 pub fitting : (ps : List Period) (sent : List Column) → IsConforming ps → Spells ps sent → Fitting (kinds_of (shapes_of ps)) sent
-fitting ps sent conforming spelled = fit_periods ps sent (conforming_small ps conforming) spelled
+fitting ps sent conforms spelled = fit_periods ps sent (has_bytes ps (conforming ps conforms)) spelled

@@ -5,6 +5,7 @@ use Rattle.std.proofs.lemmas.Bool.{ltb-true}
 use Rattle.std.proofs.lemmas.List.{length-map, length-replicate}
 use Rattle.tmds_word.specs.Bits.{word_bits, turns}
 use Rattle.tmds_word.specs.Column.{Column}
+use Rattle.tmds_word.proofs.Below.{and-left, and-right}
 use Rattle.tmds_code.specs.Coding.{Coded, sign_of, decoded_byte}
 use Rattle.tmds_code.specs.Lanes.{IsLane}
 use Rattle.tmds_code.proofs.TableWords.{decoded_coded, coded_turns}
@@ -14,7 +15,6 @@ use Rattle.island_pack.specs.Conforming.{are_bytes}
 use Rattle.island_pack.specs.Spelling.{control_column, guard_columns, SpellsPackets, SpellsPeriod, Spells}
 use Rattle.island_pack.specs.Sparse.{payload_of, payload_columns}
 use Rattle.island_pack.specs.declared.packet.Packet.{Packet}
-use Rattle.link_sink.proofs.Cutting.{and_left, and_right}
 use Rattle.link_sink.proofs.Rows.{and_both}
 use Rattle.link_sink.proofs.VideoTold.{IsWord, pixel_count}
 use Rattle.link_sink.proofs.IslandColumns.{packet_sent}
@@ -42,8 +42,8 @@ are_words [] (w ∷ ws) small long coded = absurd (omega arith)
 are_words (b ∷ bs) [] small long coded = absurd (omega arith)
 are_words (b ∷ bs) (w ∷ ws) small long coded =
     let here = coded 0 (omega arith) in (
-      is_word here.0 b w (ltb-true _ _ (and_left _ _ small)) here.1,
-      are_words bs ws (and_right _ _ small) (omega arith) (λ j lt. coded (suc j) (omega arith)),
+      is_word here.0 b w (ltb-true _ _ (and-left _ _ small)) here.1,
+      are_words bs ws (and-right _ _ small) (omega arith) (λ j lt. coded (suc j) (omega arith)),
     )
 
 pub lane_words : (bs ws : List ℕ) → are_bytes bs ≡ true → IsLane bs ws → AreWords bs ws
@@ -57,9 +57,9 @@ small_lane f pick [] h = refl
 small_lane f pick (r ∷ []) h = refl
 small_lane f pick (r ∷ (g ∷ [])) h = refl
 small_lane f pick (r ∷ (g ∷ (b ∷ rest))) h =
-    let h1 = and_right (nat_lt r 256) _ h in
-    let h2 = and_right (nat_lt g 256) _ h1 in
-    and_both _ _ (pick (record { red = r; green = g; blue = b }) (and_left _ _ h) (and_left _ _ h1) (and_left _ _ h2)) (small_lane f pick rest (and_right _ _ h2))
+    let h1 = and-right (nat_lt r 256) _ h in
+    let h2 = and-right (nat_lt g 256) _ h1 in
+    and_both _ _ (pick (record { red = r; green = g; blue = b }) (and-left _ _ h) (and-left _ _ h1) (and-left _ _ h2)) (small_lane f pick rest (and-right _ _ h2))
 
 pub small_blue : (bytes : List ℕ) → are_bytes bytes ≡ true → are_bytes (map (λ p. p.blue) (pixels_of bytes)) ≡ true
 small_blue = small_lane (λ p. p.blue) (λ p r g b. b)
@@ -72,7 +72,7 @@ small_red = small_lane (λ p. p.red) (λ p r g b. r)
 
 -- Sizes.
 
-packets_size : (first : Bool) (ps : List Packet) (pp : List Column) → SpellsPackets first ps pp → length pp ≡ 32 * length ps
+pub packets_size : (first : Bool) (ps : List Packet) (pp : List Column) → SpellsPackets first ps pp → length pp ≡ 32 * length ps
 packets_size first [] pp h = ap length h
 packets_size first (p ∷ ps) pp h =
     let own = packet_sent first p h.0 h.3 in

@@ -2,16 +2,17 @@
 use Rattle.std.proofs.Common.{◌≡◌, ℕ, suc, zero, ◌+◌, ◌-◌, ◌/◌, ◌%◌, ◌<◌, ◌≤◌, true, cond, ◌==◌, List, [], ◌∷◌, ◌++◌, length, take, drop, reverse, refl, ap, ap₂, sym, ◌∙◌, subst, arith, inl, inr, length-drop}
 use Rattle.std.specs.Prelude.{nat_le}
 use Rattle.std.specs.List.{list_all}
-use Rattle.std.proofs.lemmas.List.{take-append-le, take-append-drop, drop-map, length-map, reverse-append, length-reverse, drop-drop}
+use Rattle.std.proofs.lemmas.List.{take-append-le, drop-append-le, take-append-drop, drop-map, length-map, reverse-append, length-reverse, drop-drop}
 use Rattle.std.proofs.lemmas.Bool.{le-ltb, lt-ltb, le-leb}
 use Rattle.tmds_word.specs.Column.{Column}
+use Rattle.tmds_word.proofs.Below.{and-right}
 use Rattle.lane_deskew.specs.Kinds.{EndsAt}
 use Rattle.island_pack.specs.Periods.{ControlRun, Period, control, video, island, values_of, has_preamble, period_columns}
 use Rattle.island_pack.specs.Spelling.{control_column}
 use Rattle.period_grammar.specs.Cut.{periods}
 use Rattle.period_grammar.specs.Heard.{heard, heard_so_far}
 use Rattle.link_sink.specs.Account.{run_row, account_from, account_at, account}
-use Rattle.link_sink.proofs.Cutting.{and_right, hear}
+use Rattle.link_sink.proofs.Cutting.{hear}
 use Rattle.link_sink.proofs.Rows.{and_both, control_columns, Small}
 use Rattle.link_sink.proofs.Conformed.{IsControl, IsInner, Follows, ends, goes_on}
 use Rattle.link_sink.proofs.Between.{drop_seam}
@@ -21,7 +22,7 @@ use Rattle.link_sink.proofs.EndPlaces.{kinds_from, ends_first, ends_only, contro
 small_drop : (k : ℕ) (vs : List ℕ) → Small vs → Small (drop k vs)
 small_drop zero vs h = h
 small_drop (suc k) [] h = refl
-small_drop (suc k) (v ∷ vs) h = small_drop k vs (and_right _ _ h)
+small_drop (suc k) (v ∷ vs) h = small_drop k vs (and-right _ _ h)
 
 is_control_drop : (a : ℕ) (vs : List ℕ) → a + 12 ≡ length vs → IsControl vs → IsControl (drop a vs)
 is_control_drop a vs e h = record {
@@ -38,7 +39,7 @@ preamble_drop bits a vs e h =
     and_both _ _ (le-leb 8 (length (drop a vs)) (omega arith))
     (ap (list_all (λ v. v / 4 % 16 == bits))
     (sym (ap (λ xs. take 8 (reverse xs)) (sym (take-append-drop a vs)) ∙ ap (take 8) (reverse-append (take a vs) (drop a vs)) ∙ take-append-le 8 (reverse (drop a vs)) (reverse (take a vs)) (omega arith)))
-    ∙ and_right (nat_le 8 (length vs)) _ h)
+    ∙ and-right (nat_le 8 (length vs)) _ h)
 
 inner_drop : (a : ℕ) (vs : List ℕ) (x : Period) → a + 12 ≡ length vs → IsInner vs x → IsInner (drop a vs) x
 unfolding IsInner
@@ -49,11 +50,6 @@ inner_drop a vs (island x) e h = (preamble_drop 5 a vs e h.0, h.1)
 follows_drop : (a : ℕ) (vs : List ℕ) (tail : List Period) → a + 12 ≡ length vs → Follows vs tail → Follows (drop a vs) tail
 follows_drop a _ _ e (ends vs h) = ends (drop a vs) (is_control_drop a vs e h)
 follows_drop a _ _ e (goes_on vs x runs rest h v f) = goes_on (drop a vs) x runs rest (is_control_drop a vs e h) (inner_drop a vs x e v) f
-
-drop_within : (k : ℕ) (xs ys : List Column) → k ≤ length xs → drop k (xs ++ ys) ≡ drop k xs ++ ys
-drop_within zero xs ys le = refl
-drop_within (suc k) [] ys le = absurd (omega arith)
-drop_within (suc k) (x ∷ xs) ys le = drop_within k xs ys (omega arith)
 
 account_here : (runs : List ControlRun) (xs : List Period) (ss rs : List Column) (a m : ℕ) → a < length (values_of runs)
     → account (control runs ∷ xs) (control_columns (values_of runs) ++ ss) (control_columns (values_of runs) ++ rs) a m
@@ -94,7 +90,7 @@ here runs tail f ss rs arrives a m e =
     let l = length-map vs control_column in
     let d = length-drop a vs in
     let n : 0 + length (drop a vs) ≡ length vs - a = omega arith in
-    ap (λ (cs : List Column). hear 0 (periods (take m cs))) (drop_within a (control_columns vs) rs (omega arith) ∙ ap (λ cs. cs ++ rs) (drop-map control_column a vs))
+    ap (λ (cs : List Column). hear 0 (periods (take m cs))) (drop-append-le a (control_columns vs) rs (omega arith) ∙ ap (λ cs. cs ++ rs) (drop-map control_column a vs))
     ∙ joined (drop a vs) tail (follows_drop a vs tail e f) ss rs arrives 0 m
     ∙ ap₂ (λ (j k : ℕ). run_row (take m (drop a vs)) ++ account_from j (m - k) tail ss rs) n d
     ∙ sym (account_here runs tail ss rs a m (omega arith))

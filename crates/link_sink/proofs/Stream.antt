@@ -14,6 +14,7 @@ use Rattle.terc4.specs.Columns.{one_if}
 use Rattle.bch_block.specs.Bits.{bit, xor, bits_of as block_bits}
 use Rattle.bch_block.specs.Block.{at, back, IsBlock}
 use Rattle.bch_block.proofs.Sums.{equal_bits}
+use Rattle.lane_deskew.proofs.Computed.{or_second, not_true, clash}
 use Rattle.island_pack.specs.Nibbles.{nibble_of, nibbles_of, sync_values, header_bits, by_turns, body_bits}
 use Rattle.island_pack.specs.Packets.{IsPacket, body_of, BeginsWith, AreTerc, Carries}
 use Rattle.island_pack.specs.Periods.{ControlRun, DataIsland, Period, control, video, island, values_of, period_columns, columns_of, has_preamble, pixels_of}
@@ -227,10 +228,6 @@ each_body P p q r s (suc (suc zero)) lt = r
 each_body P p q r s (suc (suc (suc zero))) lt = s
 each_body P p q r s (suc (suc (suc (suc b)))) lt = absurd (omega arith)
 
-not_true : (b : Bool) → not b ≡ true → b ≡ false
-not_true true h = cc
-not_true false h = refl
-
 carries : Carries empty true words
 carries = record {
   free = record {
@@ -299,10 +296,6 @@ same_columns c d h =
     let e = eqb-true _ _ (and-right (c.green == d.green) _ r) in
     λ i. record { blue = b i; green = g i; red = e i }
 
-or_second : (a b : Bool) → (a || b) ≡ true → a ≡ false → b ≡ true
-or_second true b h e = cc
-or_second false b h e = h
-
 same_test : passes_below 87 (λ i. get_or (payload_columns stream) i false || is_same (column_at received i) (column_at sent i)) ≡ true
 unfolding passes_below stream payload_columns payload_of sent received values_of control_words terc_words video_guard island_guard
 same_test = refl
@@ -350,9 +343,6 @@ pixel_test = refl
 packet_test : ((column_at received 46).green == (column_at sent 46).green) ≡ false
 unfolding received sent values_of video_guard
 packet_test = refl
-
-clash : (b : Bool) → b ≡ true → b ≡ false → ⊥
-clash b h g = cc
 
 abbrev before_video : List Period
 before_video = control first ∷ []

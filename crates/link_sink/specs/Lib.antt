@@ -5,3 +5,4 @@ pub mod Account
 pub mod Laws
 pub mod Sinks
 pub mod Progress
+pub mod Pieces

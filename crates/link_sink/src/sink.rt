@@ -45,11 +45,21 @@ impl LinkSink {
         ensures bits { IfOk result (λ s. s.bits ≡ 0) }
         ensures fed { IfOk result (λ s. StandsFor s (record { blue = []; green = []; red = [] })) }
     {
+        LinkSink::with_capacity(alloc, 0)
+    }
+
+    /// A sink that was fed no bits, with room for as many bits of each lane as are asked for. It keeps the allocator
+    /// for its growth.
+    pub fn with_capacity(alloc: Global, bits: u32) -> Result<LinkSink, NoMemory>
+        ensures open { IfOk result (λ s. s.is_open ≡ true) }
+        ensures bits { IfOk result (λ s. s.bits ≡ 0) }
+        ensures fed { IfOk result (λ s. StandsFor s (record { blue = []; green = []; red = [] })) }
+    {
         let progress = Progress::open(alloc)?;
         Ok(LinkSink {
-            blue: BitRow::new(alloc),
-            green: BitRow::new(alloc),
-            red: BitRow::new(alloc),
+            blue: BitRow::with_capacity(alloc, bits)?,
+            green: BitRow::with_capacity(alloc, bits)?,
+            red: BitRow::with_capacity(alloc, bits)?,
             progress,
             is_open: true,
         })

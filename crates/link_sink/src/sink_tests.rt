@@ -1,8 +1,8 @@
 //! What a sink tells of the rows of three lanes that come in pieces.
 ghost use Rattle.std.specs.Prelude.{◌≤◌, length};
 
-use crate::tests::{LANES, NOTHING, Notes, Row, TELLS, push, row_from};
-use crate::{FeedFault, LinkSink, Outcome, hear_lanes};
+use crate::tests::{NOTHING, Notes, Row, TELLS, even_rows, hear};
+use crate::{FeedFault, LinkSink, Outcome};
 use outside_io::Failed;
 use std::alloc::Global;
 use std::process::Abort;
@@ -12,21 +12,8 @@ use tmds_word::BitRow;
 /// How many bits come at a time.
 static PIECES: [u32; 6] = [1, 8, 13, 130, 1000, 32768];
 
-/// The lanes, each so many bits late, with more control columns behind them, up to so many bits of each.
-fn even_rows(alloc: Global, skews: [u32; 3], bits: u32) -> Result<[BitRow; 3], Fail> {
-    let mut rows = [
-        row_from(alloc, skews[0], LANES[0])?,
-        row_from(alloc, skews[1], LANES[1])?,
-        row_from(alloc, skews[2], LANES[2])?,
-    ];
-    for row in rows.iter_mut() {
-        push(row, 0x354, 20)?;
-        if bits <= row.len() {
-            row.truncate(bits);
-        }
-    }
-    Ok(rows)
-}
+/// How many bits of long rows come at a time.
+static LONG_PIECES: [u32; 3] = [999, 4096, 32768];
 
 /// Feeds a sink the next bits of three rows, where it is open.
 fn feed_next(
@@ -35,7 +22,7 @@ fn feed_next(
     bits: u32,
     notes: &mut Notes,
 ) -> Result<(), FeedFault> {
-    if !sink.is_open() || bits > 32768 || sink.bits() > 10000 {
+    if !sink.is_open() || bits > 32768 || sink.bits() > 100000 {
         return Err(FeedFault::Memory);
     }
     let size = (bits as usize + 7) / 8;
@@ -80,15 +67,16 @@ fn expect(
     rows: &[BitRow; 3],
     outcome: Outcome,
     tells: &[Row],
+    pieces: &[u32],
 ) -> Result<(), Fail>
     requires { length tells.now ≤ 8 }
 {
     let mut notes = Notes::new(100);
-    let heard = hear_lanes(alloc, &rows[0], &rows[1], &rows[2], &mut notes);
-    assert_eq!(rt; heard, Ok(outcome));
+    assert_eq!(rt; hear(alloc, rows, &mut notes), Ok(outcome));
     assert_eq!(rt; notes.count, tells.len());
+    assert!(rt; &notes.rows[..tells.len()] == tells);
     let bits = rows[0].len();
-    for piece in PIECES {
+    for &piece in pieces {
         let mut notes = Notes::new(100);
         let mut sink = LinkSink::open(alloc)?;
         assert_eq!(rt;
@@ -113,26 +101,30 @@ fn pieces_of_lanes_at_skews(rt: HostRuntime) -> Result<(), Fail> {
         ([0, 70, 35], 27, 12),
         ([70, 69, 0], 27, 12),
     ] {
-        let rows = even_rows(rt.alloc(), skews, 540)?;
         let outcome = Outcome {
             aligned: true,
             columns,
         };
         let tells = [TELLS[0], TELLS[1], TELLS[2], [0, 0, last]];
-        expect(&rt, rt.alloc(), &rows, outcome, &tells)?;
+        let rows = even_rows(rt.alloc(), skews, 0, 540)?;
+        expect(&rt, rt.alloc(), &rows, outcome, &tells, &PIECES)?;
+        for lead in [3240, 3250, 3258] {
+            let rows = even_rows(rt.alloc(), skews, lead, 10 * lead + 540)?;
+            expect(&rt, rt.alloc(), &rows, outcome, &tells, &LONG_PIECES)?;
+        }
     }
     Ok(())
 }
 
 #[test]
 fn pieces_that_end_in_a_line(rt: HostRuntime) -> Result<(), Fail> {
-    let rows = even_rows(rt.alloc(), [0, 0, 0], 340)?;
+    let rows = even_rows(rt.alloc(), [0, 0, 0], 0, 340)?;
     let outcome = Outcome {
         aligned: true,
         columns: 14,
     };
     let tells = [TELLS[0], TELLS[1], [6, 14, 0]];
-    expect(&rt, rt.alloc(), &rows, outcome, &tells)
+    expect(&rt, rt.alloc(), &rows, outcome, &tells, &PIECES)
 }
 
 #[test]
@@ -141,17 +133,17 @@ fn pieces_of_lanes_that_are_not_aligned(rt: HostRuntime) -> Result<(), Fail> {
         aligned: false,
         columns: 0,
     };
-    let far = even_rows(rt.alloc(), [0, 71, 0], 540)?;
-    expect(&rt, rt.alloc(), &far, outcome, &NOTHING)?;
-    let short = even_rows(rt.alloc(), [0, 0, 0], 329)?;
-    expect(&rt, rt.alloc(), &short, outcome, &NOTHING)?;
-    let empty = even_rows(rt.alloc(), [0, 0, 0], 0)?;
-    expect(&rt, rt.alloc(), &empty, outcome, &NOTHING)
+    let far = even_rows(rt.alloc(), [0, 71, 0], 0, 540)?;
+    expect(&rt, rt.alloc(), &far, outcome, &NOTHING, &PIECES)?;
+    let short = even_rows(rt.alloc(), [0, 0, 0], 0, 329)?;
+    expect(&rt, rt.alloc(), &short, outcome, &NOTHING, &PIECES)?;
+    let empty = even_rows(rt.alloc(), [0, 0, 0], 0, 0)?;
+    expect(&rt, rt.alloc(), &empty, outcome, &NOTHING, &PIECES)
 }
 
 #[test]
 fn ears_that_fail_in_a_feed(rt: HostRuntime) -> Result<(), Fail> {
-    let rows = even_rows(rt.alloc(), [1, 2, 3], 540)?;
+    let rows = even_rows(rt.alloc(), [1, 2, 3], 0, 540)?;
     for piece in PIECES {
         for at in 0..3 {
             let mut notes = Notes::new(at);
@@ -169,7 +161,7 @@ fn ears_that_fail_in_a_feed(rt: HostRuntime) -> Result<(), Fail> {
 
 #[test]
 fn ears_that_fail_at_the_end(rt: HostRuntime) -> Result<(), Fail> {
-    let rows = even_rows(rt.alloc(), [1, 2, 3], 540)?;
+    let rows = even_rows(rt.alloc(), [1, 2, 3], 0, 540)?;
     for piece in PIECES {
         let mut notes = Notes::new(3);
         let mut sink = LinkSink::open(rt.alloc())?;

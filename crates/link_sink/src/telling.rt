@@ -16,8 +16,23 @@ use outside_io::Failed;
 use period_grammar::Hearing;
 use tmds_word::BitRow;
 
-/// Tells an ear what the last call of a hearing told.
+/// Tells an ear what the last call of a hearing told: mostly nothing.
+#[inline]
 pub fn tell<E: Ear>(hearing: &Hearing, ear: &mut E) -> Result<(), Failed>
+    requires sized { All IsSized (last_told hearing.now) }
+    ensures ok { OnOk result (E.took ear.old ear.new (last_told hearing.now)) }
+    ensures err { OnErr result (StopsIn E.took E.broke ear.old ear.new (last_told hearing.now)) }
+    ensures cause { HasCause (E.faults ear.old) (E.faults ear.new) result }
+{
+    if hearing.tells() == 0 {
+        return Ok(());
+    }
+    tell_each(hearing, ear)
+}
+
+/// Tells an ear each thing that the last call of a hearing told.
+#[cold]
+fn tell_each<E: Ear>(hearing: &Hearing, ear: &mut E) -> Result<(), Failed>
     requires sized { All IsSized (last_told hearing.now) }
     ensures ok { OnOk result (E.took ear.old ear.new (last_told hearing.now)) }
     ensures err { OnErr result (StopsIn E.took E.broke ear.old ear.new (last_told hearing.now)) }
@@ -90,28 +105,4 @@ pub fn hear_end<E: Ear>(hearing: &mut Hearing, ear: &mut E) -> Result<(), Failed
 {
     end(hearing);
     tell(hearing, ear)
-}
-
-/// Hears all columns of three lanes and their end, and tells an ear what they say. Answers how many
-/// columns the lanes have.
-pub fn hear_all<E: Ear>(
-    a: &BitRow,
-    b: &BitRow,
-    c: &BitRow,
-    at: &Aligned,
-    hearing: &mut Hearing,
-    ear: &mut E,
-) -> Result<u32, Failed>
-    requires at { IsAlignment a.now b.now c.now at.now.edges }
-    requires open { hearing.old.finished ≡ false }
-    requires heard { StandsFor hearing.old [] }
-    ensures columns { IfOk result (λ n. n ≡ length (columns_at a.now b.now c.now at.now.edges)) }
-    ensures told { OnOk result (E.took ear.old ear.new (heard (columns_at a.now b.now c.now at.now.edges))) }
-    ensures stopped { OnErr result (StopsIn E.took E.broke ear.old ear.new (heard (columns_at a.now b.now c.now at.now.edges))) }
-    ensures cause { HasCause (E.faults ear.old) (E.faults ear.new) result }
-{
-    few_columns(a, b, c, at);
-    let columns = hear_columns(a, b, c, at, 0, hearing, ear)?;
-    hear_end(hearing, ear)?;
-    Ok(columns)
 }

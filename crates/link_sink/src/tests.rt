@@ -1,11 +1,10 @@
 //! What is told of the rows of three lanes, worked by hand from the columns that they carry.
-ghost use Rattle.std.specs.Prelude.{⊤, ◌≤◌, length};
+ghost use Rattle.std.specs.Prelude.{⊤};
 
 use crate::{Ear, FeedFault, Outcome, hear_lanes};
 use outside_io::{Failed, NoMemory};
 use period_grammar::Told;
 use std::alloc::Global;
-use std::process::Abort;
 use std::test::*;
 use tmds_word::{BitRow, Word};
 
@@ -98,111 +97,75 @@ pub static TELLS: [Row; 4] = [[0, 0, 4], [0, 4, 8], [1, 3, 0x10ff00], [0, 0, 12]
 pub static NOTHING: [Row; 0] = [];
 
 /// Adds a character as often as is asked for.
-pub fn push(row: &mut BitRow, number: u16, times: u32) -> Result<(), NoMemory> {
+fn push(row: &mut BitRow, number: u16, times: u32) -> Result<(), NoMemory> {
     for _ in 0..times {
         let Some(word) = Word::new(number) else {
             return Ok(());
         };
-        if row.len() < 10000 {
+        if row.len() < 100000 {
             row.push_word(word)?;
         }
     }
     Ok(())
 }
 
-/// A lane that comes so many bits late, at most 80.
-pub fn row_from(alloc: Global, skew: u32, lane: Lane) -> Result<BitRow, Fail> {
+/// A lane that comes so many bits late, at most 80, and begins with so many control words.
+fn row_from(alloc: Global, skew: u32, lead: u32, lane: Lane) -> Result<BitRow, Fail> {
     let mut row = BitRow::new(alloc);
     let late = [0; 10];
     if skew <= 80 {
         row.push_bits(&late[..(skew as usize + 7) / 8], skew)?;
     }
+    push(&mut row, 0x354, lead)?;
     for (number, times) in lane {
         push(&mut row, *number, *times)?;
     }
     Ok(row)
 }
 
-/// The lanes, each so many bits late and without so many bits at its end.
-fn rows_of(alloc: Global, skews: [u32; 3], short: [u32; 3]) -> Result<[BitRow; 3], Fail> {
+/// The lanes, each so many bits late, with so many control columns before them and 20 behind them, up to so many bits
+/// of each.
+pub fn even_rows(
+    alloc: Global,
+    skews: [u32; 3],
+    lead: u32,
+    bits: u32,
+) -> Result<[BitRow; 3], Fail> {
     let mut rows = [
-        row_from(alloc, skews[0], LANES[0])?,
-        row_from(alloc, skews[1], LANES[1])?,
-        row_from(alloc, skews[2], LANES[2])?,
+        row_from(alloc, skews[0], lead, LANES[0])?,
+        row_from(alloc, skews[1], lead, LANES[1])?,
+        row_from(alloc, skews[2], lead, LANES[2])?,
     ];
-    for k in 0..3 {
-        let len = rows[k].len();
-        rows[k].truncate(len.saturating_sub(short[k]));
+    for row in rows.iter_mut() {
+        push(row, 0x354, 20)?;
+        if bits <= row.len() {
+            row.truncate(bits);
+        }
     }
     Ok(rows)
 }
 
-/// That three rows have this outcome, and tell these things.
-fn expect(rt: &impl Abort, alloc: Global, rows: &[BitRow; 3], outcome: Outcome, tells: &[Row])
-    requires { length tells.now ≤ 8 }
-{
-    let mut notes = Notes::new(100);
-    let heard = hear_lanes(alloc, &rows[0], &rows[1], &rows[2], &mut notes);
-    assert_eq!(rt; heard, Ok(outcome));
-    assert_eq!(rt; notes.count, tells.len());
-    assert!(rt; &notes.rows[..tells.len()] == tells);
-}
-
-#[test]
-fn lanes_at_skews(rt: HostRuntime) -> Result<(), Fail> {
-    let outcome = Outcome {
-        aligned: true,
-        columns: 27,
-    };
-    for skews in [[0, 0, 0], [3, 0, 17], [0, 70, 35], [70, 69, 0]] {
-        let rows = rows_of(rt.alloc(), skews, [0, 0, 0])?;
-        expect(&rt, rt.alloc(), &rows, outcome, &TELLS);
+/// Tells what three rows say, where they are of one length.
+pub fn hear(alloc: Global, rows: &[BitRow; 3], notes: &mut Notes) -> Result<Outcome, FeedFault> {
+    let len = rows[0].len();
+    if rows[1].len() != len || rows[2].len() != len {
+        return Err(FeedFault::Memory);
     }
-    Ok(())
-}
-
-#[test]
-fn columns_that_all_lanes_have(rt: HostRuntime) -> Result<(), Fail> {
-    let rows = rows_of(rt.alloc(), [5, 0, 9], [0, 1, 11])?;
-    let outcome = Outcome {
-        aligned: true,
-        columns: 25,
-    };
-    let tells = [TELLS[0], TELLS[1], TELLS[2], [0, 0, 10]];
-    expect(&rt, rt.alloc(), &rows, outcome, &tells);
-    let rows = rows_of(rt.alloc(), [5, 0, 9], [0, 0, 121])?;
-    let outcome = Outcome {
-        aligned: true,
-        columns: 14,
-    };
-    let tells = [TELLS[0], TELLS[1], [6, 14, 0]];
-    expect(&rt, rt.alloc(), &rows, outcome, &tells);
-    Ok(())
-}
-
-#[test]
-fn lanes_that_are_not_aligned(rt: HostRuntime) -> Result<(), Fail> {
-    let outcome = Outcome {
-        aligned: false,
-        columns: 0,
-    };
-    let far = rows_of(rt.alloc(), [0, 71, 0], [0, 0, 0])?;
-    expect(&rt, rt.alloc(), &far, outcome, &NOTHING);
-    let empty = rows_of(rt.alloc(), [0, 0, 0], [0, 10000, 0])?;
-    expect(&rt, rt.alloc(), &empty, outcome, &NOTHING);
-    Ok(())
+    hear_lanes(alloc, &rows[0], &rows[1], &rows[2], notes)
 }
 
 #[test]
 fn ears_that_fail(rt: HostRuntime) -> Result<(), Fail> {
-    let rows = rows_of(rt.alloc(), [1, 2, 3], [0, 0, 0])?;
-    for at in 0..4 {
-        let mut notes = Notes::new(at);
-        let heard = hear_lanes(rt.alloc(), &rows[0], &rows[1], &rows[2], &mut notes);
-        assert_eq!(&rt; heard, Err(FeedFault::Ear));
-        assert_eq!(&rt; notes.count, at);
-        assert!(&rt; notes.rows[..at] == TELLS[..at]);
-        assert_eq!(&rt; notes.failed, 1);
+    for lead in [0, 3250] {
+        let rows = even_rows(rt.alloc(), [1, 2, 3], lead, 10 * lead + 540)?;
+        for at in 0..4 {
+            let mut notes = Notes::new(at);
+            let heard = hear(rt.alloc(), &rows, &mut notes);
+            assert_eq!(&rt; heard, Err(FeedFault::Ear));
+            assert_eq!(&rt; notes.count, at);
+            assert!(&rt; notes.rows[..at] == TELLS[..at]);
+            assert_eq!(&rt; notes.failed, 1);
+        }
     }
     Ok(())
 }

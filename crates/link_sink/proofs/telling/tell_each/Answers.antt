@@ -3,7 +3,7 @@ use Rattle.period_grammar.specs.Things.{Thing}
 use Rattle.period_grammar.specs.Sizes.{IsSized}
 use Rattle.link_sink.proofs.Stops.{stops_at, holds_at, on_err}
 use Rattle.link_sink.proofs.Listed.{take_next}
-use Rattle.link_sink.proofs.telling.tell.Goals as goal
+use Rattle.link_sink.proofs.telling.tell_each.Goals as goal
 
 pub hear-requires : goal.hear-requires
 hear-requires g c = holds_at IsSized _ c.loop-i.i _ c.requires.sized c.told.ensures

@@ -1,6 +1,6 @@
 use Rattle.std.proofs.Common.{◌≤◌, take}
 use Rattle.period_grammar.specs.Lending.{last_told}
-use Rattle.link_sink.proofs.telling.tell.Given as goal
+use Rattle.link_sink.proofs.telling.tell_each.Given as goal
 
 abbrev pub invariant-loop-i : goal.invariant-loop-i
 invariant-loop-i g l = record {
