@@ -1,5 +1,5 @@
 -- The outcomes that the commands end with.
-use Rattle.std.proofs.Common.{◌≡◌, ℕ, ◌<◌, List, [], ◌∷◌, ◌++◌, length, take, map, string_bytes, String, Global, Bor, refl, ap, sym, ◌∙◌, subst, inl, inr, arith, append-nil}
+use Rattle.std.proofs.Common.{◌≡◌, ◌⊎◌, ℕ, ◌<◌, List, [], ◌∷◌, ◌++◌, length, take, map, string_bytes, String, Global, Bor, refl, ap, sym, ◌∙◌, subst, inl, inr, arith, append-nil}
 use Rattle.std.specs.Prelude.{Option, Some, None, Result, Ok, Err, OnOk, IfErr, All}
 use Rattle.outside_io.specs.Causes.{Rose}
 use Rattle.std.specs.Io.KnownBytes.{Appends, Keeps, IsAtEnd}
@@ -28,7 +28,7 @@ use Rattle.listing.specs.declared.fault.ListError.TheVariants.{Bad as BadListing
 use Rattle.hdmi_cli.specs.Notes.{listing_note, capture_note, place_note}
 use Rattle.hdmi_cli.specs.Commands.{AreHits}
 use Rattle.hdmi_cli.specs.Outcome.{Outcome, MakesLink, ListsCapture, Damages, Does}
-use Rattle.hdmi_cli.specs.Endings.{Devices, IsAnswered, IsPart, IsListed, IsPartListed, Ends, ListEnds, status_of, note_of, refused_ending, damage_ending}
+use Rattle.hdmi_cli.specs.Endings.{Devices, IsAnswered, IsPart, IsListed, IsPartListed, HasBegun, Ends, ListEnds, status_of, note_of, refused_ending, damage_ending}
 use Rattle.hdmi_cli.specs.declared.command.Command.{Command}
 use Rattle.hdmi_cli.specs.declared.command.Command.TheVariants.{MakeLink, Damage}
 use Rattle.hdmi_cli.specs.declared.ending.Ending.{Ending}
@@ -121,33 +121,45 @@ part_listed text command lanes before after bytes does are is it = record {
   written = it.written;
 }
 
+-- want of memory once the listing may have begun, or before
+
+begun : (text : List Thing → List ℕ) (command : Command) (lanes : Tapped) (before after : Devices) (bytes : List ℕ)
+    → ((o : Outcome) → ListsCapture text bytes o → Does command bytes o) → AreLanes lanes.blue lanes.green lanes.red
+    → bytes ≡ capture_of lanes.blue lanes.green lanes.red → Keeps before.held after.held ⊎ IsPartListed text lanes before.held after.held
+    → Keeps before.held after.held ⊎ IsPart command before after bytes
+begun text command lanes before after bytes does are is (inl kept) = inl kept
+begun text command lanes before after bytes does are is (inr it) = inr (part_listed text command lanes before after bytes does are is it)
+
 -- the command ends as the listing of the lanes does
 pub recovered : (text : List Thing → List ℕ) (command : Command) (lanes : Tapped) (e : Ending) (before after : Devices)
-    → ((bytes : List ℕ) (o : Outcome) → ListsCapture text bytes o → Does command bytes o) → AreLanes lanes.blue lanes.green lanes.red → IsAtEnd after.left
+    → ((bytes : List ℕ) (o : Outcome) → ListsCapture text bytes o → Does command bytes o) → (HasBegun command before after → Ends command NoMemory before after)
+    → AreLanes lanes.blue lanes.green lanes.red → IsAtEnd after.left
     → ((bytes : List ℕ) → before.left ≡ Some bytes → bytes ≡ capture_of lanes.blue lanes.green lanes.red)
     → ListEnds text lanes e before.held after.held before.output_faults after.output_faults → Ends command e before after
-recovered text command lanes Done before after does are ended is ends =
+recovered text command lanes Done before after does unheld are ended is ends =
     (ended, λ bytes told. listed text command lanes 0 [] Done before after bytes (does bytes) are (is bytes told) ends refl refl)
-recovered text command lanes Faulty before after does are ended is ends =
+recovered text command lanes Faulty before after does unheld are ended is ends =
     (ended, λ bytes told. listed text command lanes 1 [] Faulty before after bytes (does bytes) are (is bytes told) ends refl refl)
-recovered text command lanes Unaligned before after does are ended is ends =
+recovered text command lanes Unaligned before after does unheld are ended is ends =
     (ended, ends.0, λ bytes told. listed text command lanes 7 _ Unaligned before after bytes (does bytes) are (is bytes told) ends.1 refl refl)
-recovered text command lanes WriteFailed before after does are ended is ends =
+recovered text command lanes WriteFailed before after does unheld are ended is ends =
     (ends.0, λ bytes told. part_listed text command lanes before after bytes (does bytes) are (is bytes told) ends.1)
-recovered text command lanes NoMemory before after does are ended is ends = ends
-recovered text command lanes Usage before after does are ended is ends = absurd ends
-recovered text command lanes (Listing fault) before after does are ended is ends = absurd ends
-recovered text command lanes (Capture fault) before after does are ended is ends = absurd ends
-recovered text command lanes (Place i) before after does are ended is ends = absurd ends
-recovered text command lanes ReadFailed before after does are ended is ends = absurd ends
+recovered text command lanes NoMemory before after does unheld are ended is ends =
+    unheld (λ bytes told. begun text command lanes before after bytes (does bytes) are (is bytes told) ends)
+recovered text command lanes Usage before after does unheld are ended is ends = absurd ends
+recovered text command lanes (Listing fault) before after does unheld are ended is ends = absurd ends
+recovered text command lanes (Capture fault) before after does unheld are ended is ends = absurd ends
+recovered text command lanes (Place i) before after does unheld are ended is ends = absurd ends
+recovered text command lanes ReadFailed before after does unheld are ended is ends = absurd ends
 
 -- the command ends as the reading of the capture does
 pub unread : (text : List Thing → List ℕ) (command : Command) (error : CaptureError) (before after : Devices)
-    → ((bytes : List ℕ) (o : Outcome) → ListsCapture text bytes o → Does command bytes o) → after.held ≡ before.held
+    → ((bytes : List ℕ) (o : Outcome) → ListsCapture text bytes o → Does command bytes o) → (HasBegun command before after → Ends command NoMemory before after)
+    → after.held ≡ before.held
     → IsCaused before.input_faults after.input_faults error
     → ((bytes : List ℕ) → before.left ≡ Some bytes → AnswersBytes bytes (λ (rows : Tapped). capture_of rows.blue rows.green rows.red) (Err error))
     → Ends command (refused_ending error) before after
-unread text command (BadCapture fault) before after does kept caused answers = (
+unread text command (BadCapture fault) before after does unheld kept caused answers = (
   keeps before.held after.held kept,
   λ bytes told. record {
     outcome = record { status = 3; output = []; note = capture_note fault };
@@ -157,8 +169,8 @@ unread text command (BadCapture fault) before after does kept caused answers = (
     written = subst (λ h. Appends before.held h []) (sym kept) (Appends-nil before.held);
   },
 )
-unread text command CaptureUnread before after does kept caused answers = (keeps before.held after.held kept, caused)
-unread text command CaptureUnheld before after does kept caused answers = keeps before.held after.held kept
+unread text command CaptureUnread before after does unheld kept caused answers = (keeps before.held after.held kept, caused)
+unread text command CaptureUnheld before after does unheld kept caused answers = unheld (λ bytes told. inl (keeps before.held after.held kept))
 
 -- `damage`
 

@@ -1,16 +1,20 @@
 -- The outcomes of lanes that are listed, from what the lister took.
-use Rattle.std.proofs.Common.{◌≡◌, ℕ, zero, suc, ◌+◌, ◌<◌, ◌≤◌, Bool, true, false, not, List, [], ◌∷◌, ◌++◌, length, take, refl, ap, sym, ◌∙◌, subst, inl, inr, arith, append_assoc, append-nil, length-append}
+use Rattle.std.proofs.Common.{◌≡◌, ◌⊎◌, ℕ, zero, suc, ◌+◌, ◌<◌, ◌≤◌, Bool, true, false, not, List, [], ◌∷◌, ◌++◌, length, take, refl, ap, sym, ◌∙◌, subst, inl, inr, arith, append_assoc, append-nil, length-append}
 use Rattle.std.specs.Prelude.{Option, Some, None, codes, Contains, Result, Ok, Err, OnOk, OnErr}
 use Rattle.std.specs.Io.KnownBytes.{Appends, Keeps}
-use Rattle.std.proofs.KnownBytes.{Appends-trans}
+use Rattle.std.proofs.KnownBytes.{Appends-nil, Appends-trans}
 use Rattle.std.proofs.Math.Seq.{take-append-add}
 use Rattle.std.proofs.lemmas.List.{take-append-le}
 use Rattle.outside_io.specs.Causes.{Rose}
+use Rattle.capture_file.specs.Faults.{AreLanes}
 use Rattle.capture_file.specs.Taps.{Tapped}
 use Rattle.period_grammar.specs.Things.{Thing}
 use Rattle.link_sink.specs.declared.hear.Outcome.{Outcome as Hearing}
 use Rattle.link_sink.specs.Alignment.{told_by, AreTold, IsAlignedTold}
 use Rattle.link_sink.specs.Ears.{StopsIn}
+use Rattle.link_sink.specs.Progress.{fed_of, AreEven}
+use Rattle.link_sink.specs.Sinks.{Fed, IsToldSoFar}
+use Rattle.link_sink.proofs.Pieces.{aligned_all}
 use Rattle.listing.specs.Texts.{lines_of, link_text, fault_lines, counted}
 use Rattle.listing.specs.Growing.{lines_append}
 use Rattle.listing.specs.Checks.{check_lines, check_text, verdict_line}
@@ -35,6 +39,20 @@ lanes_told lanes x y z heard things a b c told =
     subst (λ blue. AreTold blue lanes.green lanes.red heard things) (sym (some_same lanes.blue x a))
     (subst (λ green. AreTold x green lanes.red heard things) (sym (some_same lanes.green y b))
     (subst (λ red. AreTold x y red heard things) (sym (some_same lanes.red z c)) told))
+
+-- the lanes of a capture are of one length
+pub lanes_even : (lanes : Tapped) (x y z : List Bool) → Some lanes.blue ≡ Some x → Some lanes.green ≡ Some y → Some lanes.red ≡ Some z
+    → AreLanes lanes.blue lanes.green lanes.red → AreEven (fed_of x y z)
+lanes_even lanes x y z a b c are = record {
+  green = ap (λ (xs : List Bool). length xs) (sym (some_same lanes.green y b)) ∙ are.green ∙ ap (λ (xs : List Bool). length xs) (some_same lanes.blue x a);
+  red = ap (λ (xs : List Bool). length xs) (sym (some_same lanes.red z c)) ∙ are.red ∙ ap (λ (xs : List Bool). length xs) (some_same lanes.blue x a);
+}
+
+-- so is what they tell so far
+pub lanes_so_far : (lanes : Tapped) (x y z : List Bool) (things : List Thing) → Some lanes.blue ≡ Some x → Some lanes.green ≡ Some y → Some lanes.red ≡ Some z
+    → IsToldSoFar (fed_of x y z) things → IsToldSoFar (fed_of lanes.blue lanes.green lanes.red) things
+lanes_so_far lanes x y z things a b c told =
+    subst (λ (f : Fed). IsToldSoFar f things) (λ i. fed_of (sym (some_same lanes.blue x a) i) (sym (some_same lanes.green y b) i) (sym (some_same lanes.red z c) i)) told
 
 nothing_more : {A : Type 0} (x : A) (xs : List A) → [] ≡ x ∷ xs → ⊥
 nothing_more x xs h = cc
@@ -77,6 +95,7 @@ pub record IsText (text lines last : List Thing → List ℕ) : Type 0 where
   pub whole : (things : List Thing) → text things ≡ lines things ++ last things
   pub none : lines [] ≡ []
   pub both : (h k : List Thing) → lines (h ++ k) ≡ lines h ++ lines k
+  pub ends : (things : List Thing) → 0 < length (last things)
 
 abbrev pub last_link : List Thing → List ℕ
 last_link things = codes "end\n"
@@ -90,7 +109,7 @@ unfolding lines_of
 no_lines = refl
 
 pub link_is_text : IsText link_text lines_of last_link
-link_is_text = record { whole = link_whole; none = no_lines; both = lines_append }
+link_is_text = record { whole = link_whole; none = no_lines; both = lines_append; ends = λ things. omega arith }
 
 abbrev pub last_check : List Thing → List ℕ
 last_check things = verdict_line (fault_lines things)
@@ -103,8 +122,12 @@ no_checks : check_lines [] ≡ []
 unfolding check_lines lines_of
 no_checks = refl
 
+some_verdict : (n : ℕ) → 0 < length (verdict_line n)
+some_verdict zero = omega arith
+some_verdict (suc n) = omega arith
+
 pub check_is_text : IsText check_text check_lines last_check
-check_is_text = record { whole = check_whole; none = no_checks; both = check_lines_append }
+check_is_text = record { whole = check_whole; none = no_checks; both = check_lines_append; ends = λ things. some_verdict (fault_lines things) }
 
 -- the outcome of lanes that are aligned
 aligned_outcome : (text : List Thing → List ℕ) (lanes : Tapped) (columns : ℕ) (things : List Thing) → IsAlignedTold lanes.blue lanes.green lanes.red columns things
@@ -165,6 +188,32 @@ kept_nothing (Some xs) (Some ys) h = h ∙ append-nil xs
 kept_none : (text lines last : List Thing → List ℕ) (old new : Option (List ℕ)) → IsText text lines last → Appends old new (lines []) → Keeps old new
 kept_none text lines last old new it h = kept_nothing old new (subst (λ (bytes : List ℕ). Appends old new bytes) it.none h)
 
+-- lanes of which the first things were listed
+
+first_none : (taken rest : List Thing) → taken ++ rest ≡ [] → taken ≡ []
+first_none [] rest is = refl
+first_none (t ∷ taken) rest is = absurd (nothing_more t (taken ++ rest) (sym is))
+
+first_parts : (text lines last : List Thing → List ℕ) (taken rest more : List Thing) → IsText text lines last
+    → text ((taken ++ rest) ++ more) ≡ lines taken ++ (lines (rest ++ more) ++ last ((taken ++ rest) ++ more))
+first_parts text lines last taken rest more it =
+    it.whole ((taken ++ rest) ++ more)
+    ∙ ap (λ (t : List ℕ). t ++ last ((taken ++ rest) ++ more)) (ap lines (append_assoc taken rest more) ∙ it.both taken (rest ++ more))
+    ∙ append_assoc (lines taken) (lines (rest ++ more)) (last ((taken ++ rest) ++ more))
+
+first_listed : (text lines last : List Thing → List ℕ) (lanes : Tapped) (taken rest : List Thing) (old new : Option (List ℕ)) → IsText text lines last
+    → IsToldSoFar (fed_of lanes.blue lanes.green lanes.red) (taken ++ rest) → Appends old new (lines taken) → Keeps old new ⊎ IsPartListed text lanes old new
+first_listed text lines last lanes taken rest old new it (inl at) written =
+    let all = aligned_all (fed_of lanes.blue lanes.green lanes.red) at.0 at.1 at.2 (taken ++ rest) at.3 at.4 in
+    let more = lines (rest ++ all.0) in
+    let end = last ((taken ++ rest) ++ all.0) in
+    let some = it.ends ((taken ++ rest) ++ all.0) in
+    let long = length-append more end in
+    inr (part_listed text lanes _ ((taken ++ rest) ++ all.0) (lines taken) (more ++ end) 0 old new new all.1 (first_parts text lines last taken rest all.0 it)
+    (omega (arith, some, long)) written (Appends-nil new))
+first_listed text lines last lanes taken rest old new it (inr none) written =
+    inl (kept_none text lines last old new it (subst (λ (ts : List Thing). Appends old new (lines ts)) (first_none taken rest none.1) written))
+
 -- lanes that were not heard to their end are listed so
 pub unheard : {A : Type 0} (text lines last : List Thing → List ℕ) (held : A → Option (List ℕ)) (took : A → A → List Thing → Type 0) (broke : A → A → Thing → Type 0) (lanes : Tapped) (e : Ending) (old new : A) (before after : ℕ)
     → IsText text lines last → HearEnds took broke lanes e old new before after
@@ -182,7 +231,8 @@ unheard text lines last held took broke lanes WriteFailed old new before after i
       line_listed text lines last lanes part.columns part.things part.stops.taken part.stops.rest part.stops.next broken.0 (held old) (held part.stops.between) (held new) it part.told part.stops.things_are broken.1
           (grows old part.stops.between part.stops.taken part.stops.took_some) broken.2,
     )
-unheard text lines last held took broke lanes NoMemory old new before after it ends grows breaks = kept_none text lines last (held old) (held new) it (grows old new [] ends)
+unheard text lines last held took broke lanes NoMemory old new before after it ends grows breaks =
+    first_listed text lines last lanes ends.taken ends.rest (held old) (held new) it ends.so_far (grows old new ends.taken ends.took_some)
 unheard text lines last held took broke lanes Done old new before after it ends grows breaks = absurd ends
 unheard text lines last held took broke lanes Faulty old new before after it ends grows breaks = absurd ends
 unheard text lines last held took broke lanes Usage old new before after it ends grows breaks = absurd ends

@@ -1,5 +1,5 @@
 -- How a run ends, and what then stands.
-use Rattle.std.specs.Prelude.{◌≡◌, ◌⊎◌, ◌<◌, ℕ, zero, suc, List, [], ◌∷◌, length, take, Option, Some, Result, Ok, Err, Contains}
+use Rattle.std.specs.Prelude.{◌≡◌, ◌⊎◌, ◌<◌, ℕ, zero, suc, List, [], ◌∷◌, ◌++◌, length, take, Option, Some, Result, Ok, Err, Contains}
 use Rattle.std.specs.Io.KnownBytes.{Appends, IsAtEnd, Keeps}
 use Rattle.outside_io.specs.Causes.{Rose}
 use Rattle.hdmi_cli.specs.Commands.{IsCommand}
@@ -12,8 +12,11 @@ use Rattle.capture_file.specs.declared.damaging.DamageError.TheVariants as damag
 use Rattle.period_grammar.specs.Things.{Thing}
 use Rattle.link_sink.specs.Alignment.{IsAlignedTold, IsNowhereTold}
 use Rattle.link_sink.specs.Ears.{StopsIn}
+use Rattle.link_sink.specs.Progress.{fed_of}
+use Rattle.link_sink.specs.Sinks.{IsToldSoFar}
 use Rattle.hdmi_cli.specs.Outcome.{Outcome, ListsLanes, Does, NamesNone}
 use Rattle.hdmi_cli.specs.declared.command.Command.{Command}
+use Rattle.hdmi_cli.specs.declared.command.Command.TheVariants.{MakeLink, RecoverLink, Check, Damage}
 use Rattle.hdmi_cli.specs.declared.ending.Ending.{Ending}
 use Rattle.hdmi_cli.specs.declared.ending.Ending.TheVariants.{Done, Faulty, Usage, Listing, Capture, Place, ReadFailed, WriteFailed, NoMemory, Unaligned}
 
@@ -104,6 +107,18 @@ pub record IsPartListed (text : List Thing → List ℕ) (lanes : Tapped) (old n
   pub missing : gone < length outcome.output
   pub written : Appends old new (take gone outcome.output)
 
+-- nothing was written, or a part and not all
+abbrev pub HasBegun : Command → Devices → Devices → Type 0
+HasBegun command before after =
+    (text : List ℕ) → before.left ≡ Some text → Keeps before.held after.held ⊎ IsPart command before after text
+
+-- what stands after want of memory: nothing was written, but that a listing of lanes may have begun
+abbrev pub EndsUnheld : Command → Devices → Devices → Type 0
+EndsUnheld (MakeLink tap) before after = Keeps before.held after.held
+EndsUnheld RecoverLink before after = HasBegun RecoverLink before after
+EndsUnheld Check before after = HasBegun Check before after
+EndsUnheld (Damage texts) before after = Keeps before.held after.held
+
 -- what stands where a command ends so
 abbrev pub Ends : Command → Ending → Devices → Devices → Type 0
 Ends command Done before after = IsAtEnd after.left × Answers command Done before after
@@ -116,7 +131,7 @@ Ends command ReadFailed before after = Keeps before.held after.held × Rose befo
 Ends command WriteFailed before after =
     Rose before.output_faults after.output_faults
     × ((text : List ℕ) → before.left ≡ Some text → IsPart command before after text)
-Ends command NoMemory before after = Keeps before.held after.held
+Ends command NoMemory before after = EndsUnheld command before after
 Ends command Usage before after = ⊥
 
 -- what stands where the listing of lanes by such a text ends so
@@ -125,7 +140,7 @@ ListEnds text lanes Done old new before after = IsListed text lanes 0 [] old new
 ListEnds text lanes Faulty old new before after = IsListed text lanes 1 [] old new
 ListEnds text lanes Unaligned old new before after = Keeps old new × IsListed text lanes 7 alignment_note old new
 ListEnds text lanes WriteFailed old new before after = Rose before after × IsPartListed text lanes old new
-ListEnds text lanes NoMemory old new before after = Keeps old new
+ListEnds text lanes NoMemory old new before after = Keeps old new ⊎ IsPartListed text lanes old new
 ListEnds text lanes _ old new before after = ⊥
 
 -- an ear took all that the lanes tell
@@ -142,6 +157,13 @@ pub record ArePartHeard {A : Type 0} (took : A → A → List Thing → Type 0) 
   pub told : IsAlignedTold lanes.blue lanes.green lanes.red columns things
   pub stops : StopsIn took broke old new things
 
+-- an ear took the first of the things that the lanes tell so far
+pub record AreFirstHeard {A : Type 0} (took : A → A → List Thing → Type 0) (lanes : Tapped) (old new : A) : Type 0 where
+  pub taken : List Thing
+  pub rest : List Thing
+  pub so_far : IsToldSoFar (fed_of lanes.blue lanes.green lanes.red) (taken ++ rest)
+  pub took_some : took old new taken
+
 -- the lanes tell nothing
 pub record AreNowhereHeard {A : Type 0} (took : A → A → List Thing → Type 0) (lanes : Tapped) (old new : A) : Type 0 where
   pub columns : ℕ
@@ -154,7 +176,7 @@ abbrev pub HearEnds :
     {A : Type 0} → (A → A → List Thing → Type 0) → (A → A → Thing → Type 0) → Tapped → Ending → A → A → ℕ → ℕ → Type 0
 HearEnds took broke lanes Unaligned old new before after = AreNowhereHeard took lanes old new
 HearEnds took broke lanes WriteFailed old new before after = Rose before after × ArePartHeard took broke lanes old new
-HearEnds took broke lanes NoMemory old new before after = took old new []
+HearEnds took broke lanes NoMemory old new before after = AreFirstHeard took lanes old new
 HearEnds took broke lanes _ old new before after = ⊥
 
 -- what stands where a run with these words ends so

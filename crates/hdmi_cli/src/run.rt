@@ -3,6 +3,7 @@ ghost use Rattle.std.specs.Prelude.{◌≡◌, ◌≢◌, ◌⊎◌, ◌↔◌, 
 ghost use Rattle.std.specs.Io.KnownBytes.{Appends, IsAtEnd, Keeps};
 ghost use Rattle.outside_io.specs.Causes.{Rose};
 ghost use Rattle.tmds_word.specs.Column.{Column};
+ghost use Rattle.capture_file.specs.Faults.{AreLanes};
 ghost use Rattle.capture_file.specs.Layout.{capture_of};
 ghost use Rattle.capture_file.specs.declared.damaging.Hit.{Hit};
 ghost use Rattle.lane_deskew.specs.Aligned.{aligned_columns};
@@ -57,10 +58,17 @@ pub fn run<S: Source, K: Sink, N: Sink>(
     // What is read, and what is written where not all is.
     ensures ended { Contains (0 ∷ 1 ∷ 7 ∷ []) result → IsAtEnd (S.left input.new) }
     ensures unread { result ≡ 2 → Keeps (S.left input.old) (S.left input.new) }
-    ensures unwritten { Contains (2 ∷ 3 ∷ 4 ∷ 6 ∷ 7 ∷ []) result → Keeps (K.held output.old) (K.held output.new) }
+    ensures unwritten { Contains (2 ∷ 3 ∷ 4 ∷ 7 ∷ []) result → Keeps (K.held output.old) (K.held output.new) }
     ensures part { result ≡ 5 → (text : List ℕ) → S.left input.old ≡ Some text
         → (o : Outcome) × (gone : ℕ) × IsOutcome words.now text o × Contains (0 ∷ 1 ∷ []) o.status × (gone < length o.output)
         × Appends (K.held output.old) (K.held output.new) (take gone o.output) }
+
+    // After want of memory nothing is written, but that the listing of lanes may have begun.
+    ensures unheld { result ≡ 6 → Keeps (K.held output.old) (K.held output.new) ⊎ IsCommand words.now RecoverLink ⊎ IsCommand words.now Check }
+    ensures begun { result ≡ 6 → (text : List ℕ) → S.left input.old ≡ Some text
+        → Keeps (K.held output.old) (K.held output.new)
+        ⊎ ((o : Outcome) × (gone : ℕ) × IsOutcome words.now text o × Contains (0 ∷ 1 ∷ []) o.status × (gone < length o.output)
+        × Appends (K.held output.old) (K.held output.new) (take gone o.output)) }
 
     // `recover link` writes exactly what was sent: for all columns that conforming periods spell, every sparse damage of their
     // payload, every tap of them with a skew of at most 70 bits, from their first full alignment on.
@@ -178,6 +186,7 @@ fn refused(error: CaptureError) -> Ending
 
 /// Writes the listing of what the lanes of a capture say.
 fn list_rows<K: Sink>(alloc: Global, rows: &Rows, output: &mut K) -> Ending
+    requires lanes { AreLanes rows.now.blue rows.now.green rows.now.red }
     ensures ends { ListEnds link_text rows.now result (K.held output.old) (K.held output.new) (K.faults output.old) (K.faults output.new) }
     ensures later { K.faults output.old ≤ K.faults output.new }
 {
@@ -190,6 +199,7 @@ fn list_rows<K: Sink>(alloc: Global, rows: &Rows, output: &mut K) -> Ending
 
 /// Writes what a check of the lanes of a capture lists.
 fn check_rows<K: Sink>(alloc: Global, rows: &Rows, output: &mut K) -> Ending
+    requires lanes { AreLanes rows.now.blue rows.now.green rows.now.red }
     ensures ends { ListEnds check_text rows.now result (K.held output.old) (K.held output.new) (K.faults output.old) (K.faults output.new) }
     ensures later { K.faults output.old ≤ K.faults output.new }
 {
@@ -206,6 +216,7 @@ fn check_rows<K: Sink>(alloc: Global, rows: &Rows, output: &mut K) -> Ending
 ///
 /// How the command ends where not all was told, or where the lanes have no full alignment.
 fn hear_rows<E: Ear>(alloc: Global, rows: &Rows, lister: &mut E) -> Result<(), Ending>
+    requires lanes { AreLanes rows.now.blue rows.now.green rows.now.red }
     ensures heard { OnOk result (AreHeard E.took rows.now lister.old lister.new) }
     ensures ends { IfErr result (λ e. HearEnds E.took E.broke rows.now e lister.old lister.new (E.faults lister.old) (E.faults lister.new)) }
     ensures later { E.faults lister.old ≤ E.faults lister.new }

@@ -63,6 +63,18 @@ returns-clause-part g c =
     let after : Devices = record { left = g.S.Source.left c.carry_out-ending.new.input; input_faults = g.S.Source.faults c.carry_out-ending.new.input; held = g.K.Sink.held c.carry_out-ending.new.output; output_faults = g.K.Sink.faults c.carry_out-ending.new.output } in
     (says c.args.words.now c.carry_out-ending.result before after c.status.result c.carry_out-ending.ensures.ends c.status.ensures).part
 
+pub returns-clause-unheld : goal.returns-clause-unheld
+returns-clause-unheld g c =
+    let before : Devices = record { left = g.S.Source.left c.args.input.now; input_faults = g.S.Source.faults c.args.input.now; held = g.K.Sink.held c.args.output.now; output_faults = g.K.Sink.faults c.args.output.now } in
+    let after : Devices = record { left = g.S.Source.left c.carry_out-ending.new.input; input_faults = g.S.Source.faults c.carry_out-ending.new.input; held = g.K.Sink.held c.carry_out-ending.new.output; output_faults = g.K.Sink.faults c.carry_out-ending.new.output } in
+    (says c.args.words.now c.carry_out-ending.result before after c.status.result c.carry_out-ending.ensures.ends c.status.ensures).unheld
+
+pub returns-clause-begun : goal.returns-clause-begun
+returns-clause-begun g c =
+    let before : Devices = record { left = g.S.Source.left c.args.input.now; input_faults = g.S.Source.faults c.args.input.now; held = g.K.Sink.held c.args.output.now; output_faults = g.K.Sink.faults c.args.output.now } in
+    let after : Devices = record { left = g.S.Source.left c.carry_out-ending.new.input; input_faults = g.S.Source.faults c.carry_out-ending.new.input; held = g.K.Sink.held c.carry_out-ending.new.output; output_faults = g.K.Sink.faults c.carry_out-ending.new.output } in
+    (says c.args.words.now c.carry_out-ending.result before after c.status.result c.carry_out-ending.ensures.ends c.status.ensures).begun
+
 pub returns-clause-headline : goal.returns-clause-headline
 returns-clause-headline g c =
     let before : Devices = record { left = g.S.Source.left c.args.input.now; input_faults = g.S.Source.faults c.args.input.now; held = g.K.Sink.held c.args.output.now; output_faults = g.K.Sink.faults c.args.output.now } in
