@@ -20,12 +20,13 @@ pub struct Lanes {
 
 impl Model for Lanes {
     ghost use Rattle.std.specs.Prelude.{◌≡◌, ◌%◌, ◌^◌, ◌<◌, length};
-    ghost use Rattle.capture_file.specs.Lanes.{Collected, words_of, columns_of};
+    ghost use Rattle.capture_file.specs.Lanes.{Collected};
+    ghost use Rattle.tmds_word.specs.Words.{all_words, columns_of};
 
     ghost Value = { Collected };
 
     ghost view = { λ l. record {
-      columns = columns_of (words_of l.blue) (words_of l.green) (words_of l.red);
+      columns = columns_of (all_words l.blue) (all_words l.green) (all_words l.red);
       refusals = l.refusals;
     } };
 

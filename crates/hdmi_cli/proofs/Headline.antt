@@ -12,7 +12,7 @@ use Rattle.lane_deskew.specs.Triples.{IsFirst}
 use Rattle.lane_deskew.specs.Aligned.{aligned_columns}
 use Rattle.lane_deskew.proofs.First.{one_first}
 use Rattle.island_pack.specs.Periods.{Period}
-use Rattle.island_pack.specs.Taps.{IsPart}
+use Rattle.tmds_word.specs.Taps.{IsPart}
 use Rattle.period_grammar.specs.Things.{Thing}
 use Rattle.period_grammar.specs.Heard.{heard}
 use Rattle.link_sink.specs.Account.{account}

@@ -5,7 +5,7 @@ use Rattle.std.specs.Io.KnownBytes.{Appends}
 use Rattle.tmds_word.specs.Column.{Column}
 use Rattle.lane_deskew.specs.Triples.{IsFirst}
 use Rattle.island_pack.specs.Periods.{Period}
-use Rattle.island_pack.specs.Taps.{IsTap, HasSmallSkew}
+use Rattle.tmds_word.specs.Taps.{IsTap, HasSmallSkew}
 use Rattle.link_sink.specs.Laws.{CameOf, IsAccounted}
 use Rattle.link_sink.specs.Account.{account}
 use Rattle.listing.specs.Texts.{link_text, fault_lines}

@@ -5,5 +5,4 @@ pub mod Taken
 pub mod Periods
 pub mod Conforming
 pub mod Spelling
-pub mod Taps
 pub mod Sparse

@@ -1,11 +1,10 @@
 -- Sparse damage: columns as they came, in which few words are unlike those that were sent, and those in pixels and
 -- packets alone.
 use Rattle.std.specs.Prelude.{◌≡◌, ℕ, ◌+◌, ◌*◌, ◌/◌, ◌<◌, ◌≤◌, Bool, true, false, not, ◌==◌, List, [], ◌∷◌, ◌++◌, length, map, take, drop, replicate, slice_index_or}
-use Rattle.tmds_word.specs.Column.{Column}
+use Rattle.tmds_word.specs.Column.{Column, blues, greens, reds}
 use Rattle.terc4.specs.Columns.{one_if}
 use Rattle.island_pack.specs.Periods.{Period, control, video, island, values_of}
 use Rattle.island_pack.specs.Spelling.{words_of}
-use Rattle.island_pack.specs.Taps.{blues, greens, reds}
 
 -- whether each column of a period carries a pixel or a part of a packet
 unfoldable pub payload_of : Period → List Bool

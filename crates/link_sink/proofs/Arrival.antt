@@ -2,14 +2,13 @@
 use Rattle.std.proofs.Common.{◌≡◌, ℕ, suc, ◌+◌, ◌*◌, ◌/◌, ◌<◌, ◌≤◌, Bool, true, false, List, [], ◌∷◌, ◌++◌, length, map, replicate, refl, ap, sym, ◌∙◌, subst, append_assoc, arith, slice_index, slice_index_or}
 use Rattle.std.proofs.lemmas.List.{length-map, replicate-append-replicate}
 use Rattle.std.proofs.lemmas.List.Elements.{All-tail}
-use Rattle.tmds_word.specs.Column.{Column}
+use Rattle.tmds_word.specs.Column.{Column, blues, greens, reds}
 use Rattle.terc4.specs.Tables.{is_terc}
 use Rattle.island_pack.specs.Packets.{AreTerc, Carries}
 use Rattle.island_pack.specs.Periods.{Pixel, SyncPair, DataIsland, Period, control, video, island, values_of, pixels_of}
 use Rattle.island_pack.specs.Conforming.{are_bytes}
 use Rattle.island_pack.specs.Spelling.{control_column, guard_columns, words_of, SpellsPixels, SpellsPackets, Spells}
 use Rattle.island_pack.specs.Sparse.{payload_of, payload_columns, unlike_words, column_at, IsSparse}
-use Rattle.island_pack.specs.Taps.{blues, greens, reds}
 use Rattle.island_pack.specs.declared.packet.Packet.{Packet}
 use Rattle.link_sink.proofs.Rows.{control_columns}
 use Rattle.link_sink.proofs.Conformed.{Conforms, HasBytes, has_bytes}

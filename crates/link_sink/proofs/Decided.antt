@@ -10,7 +10,8 @@ use Rattle.terc4.specs.Tables.{is_control}
 use Rattle.lane_align.specs.Lanes.{HasControl, IsRun, IsLock, IsEdge}
 use Rattle.lane_align.proofs.Controls.{run_within, one_lock}
 use Rattle.lane_align.proofs.Edges.{edge_within}
-use Rattle.lane_deskew.specs.Triples.{AreNear, IsTriple, IsFirst}
+use Rattle.lane_deskew.specs.Triples.{IsTriple, IsFirst}
+use Rattle.tmds_word.specs.Taps.{AreNear}
 use Rattle.lane_deskew.specs.Aligned.{aligned_columns}
 use Rattle.period_grammar.specs.Things.{Thing, thing_of}
 use Rattle.period_grammar.specs.Heard.{heard_so_far}

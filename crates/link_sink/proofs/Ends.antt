@@ -1,10 +1,11 @@
 -- The edges and the first full alignment of columns that came with sparse damage are ends of control periods.
 use Rattle.std.proofs.Common.{◌≡◌, ℕ, ◌+◌, Bool, List, subst, arith}
 use Rattle.std.specs.Prelude.{slice_index}
-use Rattle.lane_deskew.specs.Triples.{AreNear, IsFirst}
+use Rattle.lane_deskew.specs.Triples.{IsFirst}
+use Rattle.tmds_word.specs.Taps.{AreNear}
 use Rattle.lane_deskew.specs.Ends.{damaged}
 use Rattle.lane_deskew.proofs.Ends.{edge_ends, first_ends as lanes_first_ends}
-use Rattle.island_pack.specs.Taps.{blues, greens, reds, AreNearSkews}
+use Rattle.tmds_word.specs.Column.{blues, greens, reds}
 use Rattle.link_sink.specs.Laws.{shapes_of, EdgesEnd, FirstEnds}
 use Rattle.link_sink.proofs.Lanes.{shape_is, lanes_received}
 
@@ -23,7 +24,7 @@ first_of : (x y z p q r : List Bool) (d e f : ℕ) → x ≡ p → y ≡ q → z
 first_of x y z p q r d e f ex ey ez h =
     subst (λ xs. IsFirst xs q r d e f) ex (subst (λ ys. IsFirst x ys r d e f) ey (subst (λ zs. IsFirst x y zs d e f) ez h))
 
-near_from : (offset k l : ℕ) → AreNearSkews k l → AreNear (offset + k) (offset + l)
+near_from : (offset k l : ℕ) → AreNear k l → AreNear (offset + k) (offset + l)
 near_from offset k l near = let a = near.0 in let b = near.1 in (omega arith, omega arith)
 
 flat : (d offset k n : ℕ) → d + (offset + k) ≡ n → d + offset + k ≡ n

@@ -1,4 +1,4 @@
--- A tap of the stream, and its first full alignment.
+-- A part_of of the stream, and its first full alignment.
 use Rattle.std.proofs.Common.{◌≡◌, ℕ, ◌≤◌, Bool, true, false, List, [], ◌∷◌, length, drop, refl, ◌∙◌, sym, subst, arith, Some, inl, inr, length-take, length-drop}
 use Rattle.std.proofs.lemmas.Bool.{cases_lt}
 use Rattle.std.proofs.lemmas.List.{length-map}
@@ -7,34 +7,34 @@ use Rattle.tmds_word.proofs.Below.{passes_below}
 use Rattle.tmds_word.proofs.Lists.{length-row_bits}
 use Rattle.terc4.specs.Tables.{control_words, terc_words, video_guard, island_guard, is_in, is_control}
 use Rattle.lane_align.specs.Lanes.{IsEdge}
-use Rattle.lane_align.specs.Laws.{tap}
+use Rattle.tmds_word.specs.Taps.{part_of, IsPart, IsTap}
 use Rattle.lane_align.proofs.Edges.{edges_apart}
 use Rattle.lane_deskew.specs.Triples.{IsFirst}
 use Rattle.lane_deskew.proofs.Computed.{has, runs_at, none_before, is_edge}
 use Rattle.island_pack.specs.Periods.{values_of}
-use Rattle.island_pack.specs.Taps.{blues, greens, reds, IsPart, IsTap}
+use Rattle.tmds_word.specs.Column.{blues, greens, reds}
 use Rattle.link_sink.specs.Laws.{HasExample}
 use Rattle.link_sink.proofs.Stream.{stream, sent, received, long_received, came, unlike_pixel, unlike_packet}
 
--- The tap.
+-- The part_of.
 
 unfoldable x : List Bool
-x = tap (blues received) 7 793
+x = part_of (blues received) 7 793
 
 unfoldable y : List Bool
-y = tap (greens received) 77 793
+y = part_of (greens received) 77 793
 
 unfoldable z : List Bool
-z = tap (reds received) 42 793
+z = part_of (reds received) 42 793
 
-tap_long : (words : List ℕ) (from : ℕ) → length words ≡ 87 → from ≤ 77 → length (tap words from 793) ≡ 793
+tap_long : (words : List ℕ) (from : ℕ) → length words ≡ 87 → from ≤ 77 → length (part_of words from 793) ≡ 793
 tap_long words from long le =
     let a = length-take 793 (drop from (row_bits words)) in
     let b = length-drop from (row_bits words) in
     let c = length-row_bits words in
     omega arith
 
-part : (words : List ℕ) (from : ℕ) → length words ≡ 87 → from ≤ 77 → IsPart words from 793 (tap words from 793)
+part : (words : List ℕ) (from : ℕ) → length words ≡ 87 → from ≤ 77 → IsPart words from 793 (part_of words from 793)
 part words from long le = record { within = omega arith; bits_are = refl }
 
 tapped : IsTap received 7 (0 ∷ 70 ∷ 35 ∷ []) (length x) x y z
@@ -44,7 +44,7 @@ tapped =
     let b = length-map received (λ c. c.blue) in
     let g = length-map received (λ c. c.green) in
     let e = length-map received (λ c. c.red) in
-    subst (λ n. IsTap received 7 (0 ∷ 70 ∷ 35 ∷ []) n (tap (blues received) 7 793) (tap (greens received) 77 793) (tap (reds received) 42 793))
+    subst (λ n. IsTap received 7 (0 ∷ 70 ∷ 35 ∷ []) n (part_of (blues received) 7 793) (part_of (greens received) 77 793) (part_of (reds received) 42 793))
     (sym (tap_long (blues received) 7 (b ∙ r) (omega arith)))
     (record {
       blue_part = part (blues received) 7 (b ∙ r) (omega arith);

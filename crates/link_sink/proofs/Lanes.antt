@@ -5,7 +5,7 @@ use Rattle.std.proofs.lemmas.Bool.{eq-eqb}
 use Rattle.std.proofs.Math.ListN.{get_or-map as get_or-map_at}
 use Rattle.std.proofs.lemmas.List.{length-map, get_or-map, map-append}
 use Rattle.tmds_word.specs.Bits.{word_bits, turns}
-use Rattle.tmds_word.specs.Column.{Column}
+use Rattle.tmds_word.specs.Column.{Column, blues, greens, reds}
 use Rattle.terc4.specs.Tables.{is_control}
 use Rattle.terc4.specs.Columns.{one_if}
 use Rattle.lane_align.specs.Laws.{marked}
@@ -14,7 +14,6 @@ use Rattle.lane_deskew.specs.Ends.{IsReceived, IsSent, IsSparse as IsSparseLane,
 use Rattle.lane_deskew.proofs.Ends.{sparse_received}
 use Rattle.island_pack.specs.Periods.{Period, control, video, island, values_of}
 use Rattle.island_pack.specs.Conforming.{IsConforming}
-use Rattle.island_pack.specs.Taps.{blues, greens, reds}
 use Rattle.island_pack.specs.Sparse.{payload_of, payload_columns, unlike_words, AreFew, no_column, column_at}
 use Rattle.link_sink.specs.Laws.{shape_of, shapes_of, CameOf}
 use Rattle.link_sink.proofs.Conformed.{Conforms, conforming}

@@ -5,7 +5,7 @@ use Rattle.std.proofs.lemmas.Bool.{eqb-true, eq-eqb, leb-true, ltb-true}
 use Rattle.std.proofs.lemmas.List.{length-map, length-replicate}
 use Rattle.std.proofs.lemmas.List.Elements.{All-replicate, All-from_get_or}
 use Rattle.tmds_word.specs.Bits.{bits_of, number, ones, zeros, balance}
-use Rattle.tmds_word.specs.Column.{Column, column_of}
+use Rattle.tmds_word.specs.Column.{Column, column_of, blues, greens, reds}
 use Rattle.tmds_word.proofs.Below.{and-left, and-right, passes_below, passes_at}
 use Rattle.tmds_code.specs.Coding.{Coded, null, takes_xnor, minimised, balanced, coded_bits, coded_at}
 use Rattle.tmds_code.specs.Lanes.{IsLane, disparity_of}
@@ -20,7 +20,6 @@ use Rattle.island_pack.specs.Packets.{IsPacket, body_of, BeginsWith, AreTerc, Ca
 use Rattle.island_pack.specs.Periods.{ControlRun, DataIsland, Period, control, video, island, values_of, period_columns, columns_of, has_preamble, pixels_of}
 use Rattle.island_pack.specs.Conforming.{IsConforming, conforms, is_control_period, is_video_period, is_packet, is_data_island}
 use Rattle.island_pack.specs.Spelling.{control_column, SpellsPixels, guard_columns, words_of, SpellsIsland, SpellsPeriod, Spells}
-use Rattle.island_pack.specs.Taps.{blues, greens, reds}
 use Rattle.island_pack.specs.Sparse.{payload_of, payload_columns, unlike_words, AreFew, column_at, IsNarrow, IsSparse}
 use Rattle.island_pack.specs.declared.packet.Packet.{Packet}
 use Rattle.link_sink.specs.Laws.{CameOf, IsUnlikeIn}

@@ -6,7 +6,7 @@ use Rattle.lane_align.proofs.Edges.{edge_within}
 use Rattle.lane_deskew.specs.Triples.{IsFirst}
 use Rattle.lane_deskew.specs.Aligned.{aligned_columns}
 use Rattle.lane_deskew.proofs.Shapes.{ends_late}
-use Rattle.island_pack.specs.Taps.{IsTap}
+use Rattle.tmds_word.specs.Taps.{IsTap}
 use Rattle.period_grammar.specs.Heard.{heard}
 use Rattle.link_sink.specs.Laws.{shapes_of, EndsControl, LinkLaw, TapAccounted}
 use Rattle.link_sink.proofs.Lanes.{shape_is, lanes_received}

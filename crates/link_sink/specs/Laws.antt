@@ -1,10 +1,10 @@
 -- What holds of columns that came with sparse damage: where their edges and first full alignment are, how they are cut,
 -- and what is told of them.
 use Rattle.std.specs.Prelude.{◌≡◌, ◌↔◌, ℕ, ◌+◌, ◌*◌, ◌/◌, ◌<◌, ◌≤◌, Bool, true, false, not, List, [], ◌∷◌, ◌++◌, map, length, take, drop, slice_index}
-use Rattle.tmds_word.specs.Column.{Column}
+use Rattle.tmds_word.specs.Column.{Column, blues, greens, reds}
 use Rattle.terc4.specs.Columns.{is_control_column, one_if}
 use Rattle.lane_align.specs.Lanes.{IsEdge}
-use Rattle.lane_align.specs.Laws.{tap}
+use Rattle.tmds_word.specs.Taps.{part_of, IsTap, HasSmallSkew}
 use Rattle.lane_deskew.specs.Triples.{IsFirst}
 use Rattle.lane_deskew.specs.Aligned.{aligned_columns}
 use Rattle.lane_deskew.specs.Kinds.{Item, control as control_kind, kinds_of, kind_at, EndsAt}
@@ -14,7 +14,6 @@ use Rattle.island_pack.specs.Packets.{Carries}
 use Rattle.island_pack.specs.Periods.{DataIsland, Period, control, video, island, values_of, period_columns, columns_of}
 use Rattle.island_pack.specs.Conforming.{IsConforming}
 use Rattle.island_pack.specs.Spelling.{words_of, Spells}
-use Rattle.island_pack.specs.Taps.{blues, greens, reds, IsTap, HasSmallSkew}
 use Rattle.island_pack.specs.Sparse.{column_at, IsSparse}
 use Rattle.island_pack.specs.declared.packet.Packet.{Packet}
 use Rattle.period_grammar.specs.Cut.{Period as Cut, period as cut, periods}
@@ -42,14 +41,14 @@ pub record CameOf (ps : List Period) (sent received : List Column) : Type 0 wher
 
 -- each edge in a part of a lane's bits is the end of a control period
 pub record AreEnds (ps : List Period) (words : List ℕ) : Type 0 where
-  pub edges : (from many e : ℕ) → IsEdge (tap words from many) e → (i : ℕ) × EndsControl ps i × (e + from ≡ 10 * (i + 1))
+  pub edges : (from many e : ℕ) → IsEdge (part_of words from many) e → (i : ℕ) × EndsControl ps i × (e + from ≡ 10 * (i + 1))
 
 abbrev pub EdgesEnd : Type 0
 EdgesEnd =
     (ps : List Period) (sent received : List Column) → CameOf ps sent received
     → AreEnds ps (blues received) × AreEnds ps (greens received) × AreEnds ps (reds received)
 
--- the first full alignment of a tap is the end of one control period on all lanes
+-- the first full alignment of a part_of is the end of one control period on all lanes
 abbrev pub FirstEnds : Type 0
 FirstEnds =
     (ps : List Period) (sent received : List Column) → CameOf ps sent received
@@ -104,7 +103,7 @@ pub record IsAccounted (ps : List Period) (sent received : List Column) (aligned
   pub columns : aligned ≡ take (length aligned) (drop a received)
   pub told : heard aligned ≡ account ps sent received a (length aligned)
 
--- what is told of the aligned columns of a tap is the account from the end of a control period on
+-- what is told of the aligned columns of a part_of is the account from the end of a control period on
 abbrev pub TapAccounted : Type 0
 TapAccounted =
     (ps : List Period) (sent received : List Column) → CameOf ps sent received
@@ -121,7 +120,7 @@ pub record IsUnlikeIn (ps : List Period) (sent received : List Column) (before :
   pub within : i < columns_of before + period_columns p
   pub unlike : column_at received i ≡ column_at sent i → ⊥
 
--- columns that came with a damaged pixel word and a damaged packet word, and a tap of them that has a first full alignment
+-- columns that came with a damaged pixel word and a damaged packet word, and a part_of of them that has a first full alignment
 pub record IsExample (ps : List Period) (sent received : List Column) (x y z : List Bool) (d e f : ℕ) : Type 0 where
   pub came : CameOf ps sent received
   pub pixel : (before behind : List Period) × (bytes : List ℕ) × (i : ℕ) × IsUnlikeIn ps sent received before (video bytes) behind i

@@ -1,10 +1,9 @@
 -- The last period of columns, and what one column more tells.
 use Rattle.std.specs.Prelude.{ℕ, ◌+◌, Bool, true, false, ◌==◌, List, [], ◌∷◌, ◌++◌, length}
 use Rattle.tmds_word.specs.Column.{Column}
-use Rattle.period_grammar.specs.Column.{value_of}
+use Rattle.period_grammar.specs.Column.{value_of, is_closing}
 use Rattle.period_grammar.specs.Things.{Thing, run, noise}
 use Rattle.period_grammar.specs.Cut.{Period, period, Run, columns, runs}
-use Rattle.period_grammar.specs.Column.{is_closing}
 use Rattle.period_grammar.specs.Island.{Payload, parts, payload, holds_packet, packet_things, closing_things, left_at, when}
 use Rattle.period_grammar.specs.Heard.{other_words, last_run, unless, opening, opened, Kind, video, island, neither, at_close, at_end}
 

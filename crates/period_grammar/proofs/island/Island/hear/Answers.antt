@@ -1,5 +1,4 @@
-use Rattle.std.proofs.Common.{ap, refl, sym, subst, ◌∙◌, ℕ}
-use Rattle.std.proofs.Common.{◌+◌, ◌*◌, arith, ◌<◌}
+use Rattle.std.proofs.Common.{ap, refl, sym, subst, ◌∙◌, ℕ, ◌+◌, ◌*◌, arith, ◌<◌}
 use Rattle.tmds_word.specs.Column.{column_of}
 use Rattle.period_grammar.specs.Island.{payload}
 use Rattle.period_grammar.specs.After.{after_payload}
