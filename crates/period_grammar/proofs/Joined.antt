@@ -102,10 +102,11 @@ periods_items control g gap c cs all e none f first after xs s =
 -- Packets of 32 columns before others.
 pub split_packet : (n : ℕ) (p rest : List Column) → length p ≡ 32 → begins_close p ≡ false → split (suc n) (p ++ rest) ≡ with_packet p (split n rest)
 split_packet n [] rest e f = absurd (omega arith)
-split_packet n (c ∷ p) rest e f =
-    let many : 32 ≤ length ((c ∷ p) ++ rest) = omega (arith, length-append (c ∷ p) rest) in
-    split_one n ((c ∷ p) ++ rest) (holds_is ((c ∷ p) ++ rest) f many)
-    ∙ ap₂ (λ a b. with_packet a (split n b)) (take_at (c ∷ p) rest 32 e) (drop_at (c ∷ p) rest 32 e)
+split_packet n (c ∷ []) rest e f = absurd (omega arith)
+split_packet n (c ∷ (d ∷ p)) rest e f =
+    let many : 32 ≤ length ((c ∷ (d ∷ p)) ++ rest) = omega (arith, length-append (c ∷ (d ∷ p)) rest) in
+    split_one n ((c ∷ (d ∷ p)) ++ rest) (holds_is ((c ∷ (d ∷ p)) ++ rest) f many)
+    ∙ ap₂ (λ a b. with_packet a (split n b)) (take_at (c ∷ (d ∷ p)) rest 32 e) (drop_at (c ∷ (d ∷ p)) rest 32 e)
 
 -- Where a control column comes first, the first period begins with it.
 abbrev pub StartsWith : Column → List Period → Type 0
@@ -208,18 +209,3 @@ whole_column j c e f g = rw (e, f, g) refl
 pub words_none : (j : ℕ) (cs : List Column) → AllWhole cs → words j cs ≡ []
 words_none j [] all = refl
 words_none j (c ∷ cs) all = ap (λ ts. all_at j ts ++ words (j + 1) cs) (whole_column j c all.0.0 all.0.1 all.0.2) ∙ words_none (j + 1) cs all.1
-
--- A control item of at least 12 columns with its preamble, and a video item, before a further control item.
-pub video_item : (j : ℕ) (control : List Column) (g h : Column) (pixels : List Column) (y : Period) (ys : List Period)
-    → opened g h ≡ video → nat_le 12 (length control) ≡ true → has_preamble 1 control ≡ true
-    → told_from j (period control (g ∷ (h ∷ pixels)) ∷ (y ∷ ys))
-    ≡ in_runs j (runs control) ++ (all_at (j + length control) (last_run (runs control)) ++ (all_at (j + reach (period control (g ∷ (h ∷ pixels)))) (line_of (j + length control) pixels)
-    ++ told_from (j + reach (period control (g ∷ (h ∷ pixels)))) (y ∷ ys)))
-unfolding in_gap at_close
-video_item j control g h pixels y ys k long lead =
-    ap (λ q. told_by q) k ∙ rw (long, lead) (simp (append_assoc, append-nil))
-  where
-    told_by : Kind → List Told
-    told_by q =
-        (in_runs j (runs control) ++ (all_at (j + length control) (last_run (runs control)) ++ (all_at ((j + length control) + 1) (opening (j + length control) control g h q) ++ in_payload (j + length control) q pixels)))
-        ++ (all_at (j + reach (period control (g ∷ (h ∷ pixels)))) (payload_closes (j + length control) q pixels) ++ told_from (j + reach (period control (g ∷ (h ∷ pixels)))) (y ∷ ys))

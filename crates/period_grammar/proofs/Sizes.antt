@@ -10,14 +10,14 @@ use Rattle.island_pack.specs.Nibbles.{nibble_of, nibbles_of, sync_values}
 use Rattle.island_pack.specs.declared.packet.PacketVerdicts.{PacketVerdicts}
 use Rattle.tmds_word.specs.Column.{Column}
 use Rattle.terc4.specs.Tables.{control_words, value_in, is_control}
-use Rattle.terc4.specs.Columns.{is_island_guard}
+use Rattle.terc4.specs.Columns.{is_video_guard, is_island_guard}
 use Rattle.terc4.proofs.Entries.{value_below}
 use Rattle.period_grammar.specs.Coding.{first_uncoded}
-use Rattle.period_grammar.specs.Column.{control_bits, value_of, sync_digit, is_closing}
+use Rattle.period_grammar.specs.Column.{control_bits, value_of, sync_digit, closes}
 use Rattle.period_grammar.specs.Packets.{words_of, packet_in, packet_of, verdicts_of}
 use Rattle.period_grammar.specs.Things.{Thing, short, preamble, empty, long_line, cut, symbols, long_island, broken, guard, Told, all_at, thing_of}
 use Rattle.period_grammar.specs.Cut.{Period, period, periods, Run, columns, lead, value, before_runs, runs}
-use Rattle.period_grammar.specs.Island.{Payload, parts, payload, when, if_so, block_fault, block_faults, packet_faults, packet_things, in_packets, closing_things, in_left, left_at, in_island, is_broken, breaks}
+use Rattle.period_grammar.specs.Island.{Payload, parts, payload, when, if_so, block_fault, block_faults, packet_faults, packet_things, in_packets, wrong_guards, begins_close, closing_things, in_left, left_at, in_island, breaks}
 use Rattle.period_grammar.specs.Heard.{other_word, other_words, words, ended, in_run, size, in_runs, last_run, has_preamble, unless, Kind, video, island, neither, opened, lacks, opening, line_bytes, code_fault, codes_of, line_of, in_payload, in_gap, payload_closes, at_close, payload_ends, at_end, so_far, reach, closing, told_from, ending, end_from, heard_so_far, heard}
 use Rattle.period_grammar.specs.Sizes.{IsSized}
 
@@ -53,10 +53,6 @@ things_sized (t ∷ ts) h = (h.0, things_sized ts h.1)
 unless_sized : (p : Bool) (t : Thing) → IsSized t → Sized (unless p t)
 unless_sized true t h = tt
 unless_sized false t h = (h, tt)
-
-if_so_sized : (p : Bool) (t : Thing) → IsSized t → Sized (if_so p t)
-if_so_sized true t h = (h, tt)
-if_so_sized false t h = tt
 
 when_sized : (p : Bool) (ts : List Told) → TellsSized ts → TellsSized (when p ts)
 when_sized true ts h = h
@@ -144,9 +140,16 @@ lacks_sized : (b : ℕ) (control : List Column) (bits : ℕ) → Sized (lacks b 
 lacks_sized b control bits =
     sized_append _ _ (unless_sized (nat_le 12 (length control)) (short b) tt) (unless_sized (has_preamble bits control) (preamble b) tt)
 
+if_so_sized : (p : Bool) (t : Thing) → IsSized t → Sized (if_so p t)
+if_so_sized true t h = (h, tt)
+if_so_sized false t h = tt
+
+wrong_guards_sized : (is : Column → Bool) (s : ℕ) (c d : Column) → Sized (wrong_guards is s c d)
+wrong_guards_sized is s c d = sized_append _ _ (if_so_sized (not (is c)) (guard s) tt) (if_so_sized (not (is d)) (guard (s + 1)) tt)
+
 opening_sized : (b : ℕ) (control : List Column) (g h : Column) (k : Kind) → Sized (opening b control g h k)
-opening_sized b control g h video = lacks_sized b control 1
-opening_sized b control g h island = sized_append _ _ (lacks_sized b control 5) ((digit_below g.blue, digit_below h.blue), tt)
+opening_sized b control g h video = sized_append _ _ (lacks_sized b control 1) (wrong_guards_sized is_video_guard b g h)
+opening_sized b control g h island = sized_append _ _ (lacks_sized b control 5) ((digit_below g.blue, digit_below h.blue), wrong_guards_sized is_island_guard b g h)
 opening_sized b control g h neither = (tt, tt)
 
 -- A line.
@@ -215,23 +218,22 @@ closing_things_sized : (b s k : ℕ) (c d : Column) → Sized (closing_things b 
 unfolding closing_things
 closing_things_sized b s k c d = (
   (digit_below c.blue, digit_below d.blue),
-  sized_append _ _ (if_so_sized (not (is_island_guard c)) (guard s) tt)
-      (sized_append _ _ (if_so_sized (not (is_island_guard d)) (guard (s + 1)) tt) (if_so_sized (k == 0) (empty b) tt)),
+  sized_append _ _ (wrong_guards_sized is_island_guard s c d) (if_so_sized (k == 0) (empty b) tt),
 )
 
 in_left_sized : (b s k : ℕ) (t : List Column) → TellsSized (in_left b s k t)
 in_left_sized b s k [] = tt
 in_left_sized b s k (c ∷ []) = tt
-in_left_sized b s k (c ∷ (d ∷ [])) = when_sized (is_closing c) _ (tells_at (s + 1) _ (closing_things_sized b s k c d))
+in_left_sized b s k (c ∷ (d ∷ [])) = when_sized (closes c d) _ (tells_at (s + 1) _ (closing_things_sized b s k c d))
 in_left_sized b s k (c ∷ (d ∷ (e ∷ cs))) =
-    when_sized (is_closing c) _ (tells_append _ _ (tells_at (s + 1) _ (closing_things_sized b s k c d)) (tt, tt))
+    when_sized (closes c d) _ (tells_append _ _ (tells_at (s + 1) _ (closing_things_sized b s k c d)) (tt, tt))
 
 in_island_sized : (b : ℕ) (x : Payload) → TellsSized (in_island b x)
 unfolding in_island
 in_island_sized b (parts ps t) = tells_append _ _ (in_packets_sized (b + 2) 0 ps) (in_left_sized b (left_at b ps) (length ps) t)
 
 breaks_sized : (f : ℕ → Thing) (b : ℕ) (x : Payload) → ((n : ℕ) → IsSized (f n)) → Sized (breaks f b x)
-breaks_sized f b (parts ps t) h = if_so_sized (is_broken t) (f (left_at b ps)) (h (left_at b ps))
+breaks_sized f b (parts ps t) h = if_so_sized (not (begins_close t)) (f (left_at b ps)) (h (left_at b ps))
 
 -- Columns after control columns.
 in_payload_sized : (b : ℕ) (k : Kind) (rest : List Column) → TellsSized (in_payload b k rest)

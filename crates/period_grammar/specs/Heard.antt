@@ -4,12 +4,12 @@ use Rattle.std.specs.Prelude.{ℕ, ◌+◌, Bool, true, false, ◌&&◌, List, [
 use Rattle.tmds_word.specs.Column.{Column}
 use Rattle.terc4.specs.Tables.{is_control}
 use Rattle.island_pack.specs.Periods.{has_preamble as announces}
-use Rattle.period_grammar.specs.Column.{value_of, sync_digit}
+use Rattle.period_grammar.specs.Column.{value_of, sync_digit, video_words, island_words}
 use Rattle.terc4.specs.Columns.{is_video_guard, is_island_guard}
 use Rattle.tmds_code.specs.Coding.{decoded_byte}
 use Rattle.period_grammar.specs.Coding.{first_uncoded}
 use Rattle.period_grammar.specs.Things.{Thing, run, line, word, short, preamble, noise, empty, code, long_line, cut, open_island, broken, Told, at, all_at, thing_of}
-use Rattle.period_grammar.specs.Island.{payload, in_island, breaks}
+use Rattle.period_grammar.specs.Island.{payload, wrong_guards, in_island, breaks}
 use Rattle.period_grammar.specs.Cut.{Period, period, periods, Run, columns, runs}
 
 -- Control columns.
@@ -71,15 +71,15 @@ kind_by false true = island
 kind_by false false = neither
 
 abbrev pub opened : Column → Column → Kind
-opened g h = kind_by (is_video_guard g && is_video_guard h) (is_island_guard g && is_island_guard h)
+opened g h = kind_by (nat_le 5 (video_words g + video_words h)) (nat_le 5 (island_words g + island_words h))
 
 -- what is wrong with the control columns before
 abbrev pub lacks : ℕ → List Column → ℕ → List Thing
 lacks b control bits = unless (nat_le 12 (length control)) (short b) ++ unless (has_preamble bits control) (preamble b)
 
 abbrev pub opening : ℕ → List Column → Column → Column → Kind → List Thing
-opening b control g h video = lacks b control 1
-opening b control g h island = lacks b control 5 ++ open_island (sync_digit g.blue) (sync_digit h.blue) ∷ []
+opening b control g h video = lacks b control 1 ++ wrong_guards is_video_guard b g h
+opening b control g h island = lacks b control 5 ++ open_island (sync_digit g.blue) (sync_digit h.blue) ∷ wrong_guards is_island_guard b g h
 opening b control g h neither = noise b ∷ []
 
 -- A line of pixels.

@@ -1,8 +1,8 @@
 -- The columns that a hearing has heard, though it keeps a few numbers.
 use Rattle.std.specs.Prelude.{◌≡◌, ℕ, ◌+◌, List, [], ◌∷◌, length}
 use Rattle.tmds_word.specs.Column.{Column}
-use Rattle.terc4.specs.Columns.{is_video_guard, is_island_guard}
-use Rattle.period_grammar.specs.Column.{sync_digit}
+use Rattle.terc4.specs.Columns.{one_if}
+use Rattle.period_grammar.specs.Column.{sync_digit, video_words, island_words}
 use Rattle.period_grammar.specs.Cut.{Period, period, periods, runs}
 use Rattle.period_grammar.specs.Heard.{opened, video, island, neither, at_close}
 use Rattle.period_grammar.specs.Things.{Thing}
@@ -20,7 +20,7 @@ use Rattle.period_grammar.specs.Seen.{Seen}
 -- the columns after the last control columns
 abbrev pub IsPhaseAfter : Phase → LineSeen → Island → ℕ → List Column → Type 0
 IsPhaseAfter Control line kept n [] = Unit {0}
-IsPhaseAfter (First start v i digit) line kept n (g ∷ []) = (start + 1 ≡ n) × (v ≡ is_video_guard g) × (i ≡ is_island_guard g) × (digit ≡ sync_digit g.blue)
+IsPhaseAfter (First start v i digit) line kept n (g ∷ []) = (start + 1 ≡ n) × (v ≡ video_words g) × (i ≡ island_words g) × (digit ≡ sync_digit g.blue)
 IsPhaseAfter (Video start) line kept n (g ∷ (h ∷ rest)) = (opened g h ≡ video) × ((start + 2) + length rest ≡ n) × IsLineAfter line rest
 IsPhaseAfter (Payload start) line kept n (g ∷ (h ∷ rest)) = (opened g h ≡ island) × ((start + 2) + length rest ≡ n) × IsIslandAfter kept rest
 IsPhaseAfter Noise line kept n (g ∷ (h ∷ rest)) = opened g h ≡ neither

@@ -1,9 +1,9 @@
 //! What the words of a column say (HDMI 1.4, sections 5.2 and 5.4).
-ghost use Rattle.std.specs.Prelude.{◌≡◌, ◌<◌, ◌%◌, ◌&&◌, ◌==◌, unwrap_or, IfSome};
+ghost use Rattle.std.specs.Prelude.{◌≡◌, ◌<◌, ◌≤◌, ◌+◌, ◌%◌, ◌&&◌, ◌==◌, nat_le, unwrap_or, IfSome};
 ghost use Rattle.tmds_word.specs.Column.{column_of};
 ghost use Rattle.terc4.specs.Tables.{control_words, terc_words, value_in, is_control};
 ghost use Rattle.terc4.specs.Columns.{is_control_column, is_video_guard, is_island_guard, is_twelve_or_more};
-ghost use Rattle.period_grammar.specs.Column.{control_bits, value_of, is_closing, sync_digit};
+ghost use Rattle.period_grammar.specs.Column.{control_bits, value_of, video_words, closing_words, island_words, sync_digit};
 ghost use Rattle.period_grammar.specs.Whole.{IsWhole};
 
 use terc4::{control_of, nibble};
@@ -95,14 +95,41 @@ pub fn red(column: &[Word; 3]) -> Word
     column[2]
 }
 
-/// Whether lanes 1 and 2 show the guard word of an island.
-#[tactic(auto, unfolding(crate::specs::Column::is_closing, terc4::specs::Tables::island_guard))]
-pub fn closing_column(column: &[Word; 3]) -> bool
-    ensures { result ≡ is_closing (column_of column.now) }
+/// Whether two numbers together are at least a third.
+pub fn at_least(wanted: u8, a: u8, b: u8) -> bool
+    ensures { result ≡ nat_le wanted (a + b) }
+{
+    u16::from(a) + u16::from(b) >= u16::from(wanted)
+}
+
+/// How many words are those of a guard of a video period.
+#[tactic(auto, unfolding(crate::specs::Column::video_words, terc4::specs::Tables::video_guard, terc4::specs::Columns::one_if))]
+pub fn video_count(column: &[Word; 3]) -> u8
+    ensures { result ≡ video_words (column_of column.now) }
+{
+    let a = blue(column).value() == GUARD_BLUE;
+    let b = green(column).value() == GUARD_GREEN;
+    let c = red(column).value() == GUARD_BLUE;
+    u8::from(a) + u8::from(b) + u8::from(c)
+}
+
+/// How many words of lanes 1 and 2 are the guard word of an island.
+#[tactic(auto, unfolding(crate::specs::Column::closing_words, terc4::specs::Tables::island_guard, terc4::specs::Columns::one_if))]
+pub fn closing_count(column: &[Word; 3]) -> u8
+    ensures count { result ≡ closing_words (column_of column.now) }
+    ensures few { result ≤ 2 }
 {
     let b = green(column).value() == GUARD_GREEN;
     let c = red(column).value() == GUARD_GREEN;
-    b & c
+    u8::from(b) + u8::from(c)
+}
+
+/// How many words are those of a guard of an island.
+#[tactic(auto, unfolding(crate::specs::Column::island_words, terc4::specs::Columns::one_if))]
+pub fn island_count(column: &[Word; 3]) -> u8
+    ensures { result ≡ island_words (column_of column.now) }
+{
+    u8::from(twelve_or_more(blue(column))) + closing_count(column)
 }
 
 /// Whether a word is a TERC4 word of 12 to 15.
@@ -117,12 +144,14 @@ fn twelve_or_more(word: Word) -> bool
 }
 
 /// Whether the column is a guard of an island.
-#[tactic(auto, unfolding(terc4::specs::Columns::is_island_guard, crate::specs::Column::is_closing))]
+#[tactic(auto, unfolding(terc4::specs::Columns::is_island_guard, terc4::specs::Tables::island_guard))]
 pub fn island_column(column: &[Word; 3]) -> bool
     ensures { result ≡ is_island_guard (column_of column.now) }
 {
     let a = twelve_or_more(blue(column));
-    a & closing_column(column)
+    let b = green(column).value() == GUARD_GREEN;
+    let c = red(column).value() == GUARD_GREEN;
+    a & (b & c)
 }
 
 /// The low two bits of a TERC4 value, and 0 for any other word.

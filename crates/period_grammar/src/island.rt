@@ -1,7 +1,7 @@
 //! The columns of an island after its opening guard.
 ghost use Rattle.std.specs.Prelude.{◌≡◌, ◌<◌, ◌≤◌, ◌+◌, ◌*◌, ◌^◌, ◌++◌, ◌∷◌, [], List, ℕ, length, take, Bool, true, false, not, ◌==◌};
 ghost use Rattle.tmds_word.specs.Column.{Column, column_of};
-ghost use Rattle.period_grammar.specs.Column.{is_closing, sync_digit};
+ghost use Rattle.period_grammar.specs.Column.{sync_digit};
 ghost use Rattle.terc4.specs.Columns.{is_island_guard};
 ghost use Rattle.period_grammar.specs.Things.{Thing, guard, empty, symbols, long_island};
 ghost use Rattle.period_grammar.specs.Packets.{words_of, packet_of, verdicts_of, packet_in, verdicts_in};
@@ -21,7 +21,8 @@ use tmds_word::Word;
 #[derive(Clone, Copy, Drop)]
 pub enum Left {
     Packet,
-    Closing { digit: u8, guard: bool },
+    /// One column, of a packet or of the closing guard.
+    First { words: u8, digit: u8, guard: bool },
     Closed,
     Over,
 }
@@ -118,7 +119,7 @@ fn taken(columns: &[[Word; 3]; 32]) -> Whole
     Whole { packet, verdicts }
 }
 
-fn tell_guard(is_guard: bool, at: u32, notes: &mut Notes)
+pub fn tell_guard(is_guard: bool, at: u32, notes: &mut Notes)
     requires room { length notes.old < 8 }
     ensures room { length notes.new ≤ length notes.old + 1 }
     ensures told { (l : Lent) → things l notes.new ≡ things l notes.old ++ if_so (not is_guard) (guard at) }
@@ -204,19 +205,17 @@ impl Island {
         requires none { self.old.within ≡ 0 }
         requires packet { self.old.left ≡ Left.Packet }
         ensures blocked { IsBlocked self.new }
-        ensures packets { (self.new.packets ≡ self.old.packets) × (self.new.within ≤ 1) }
+        ensures packets { (self.new.packets ≡ self.old.packets) × (self.new.within ≡ 1) }
         ensures whole { self.new.whole ≡ self.old.whole }
         ensures heard { (x : Payload) → IsPartsAfter Left.Packet self.old.packets 0 self.old.block x → IsPartsAfter self.new.left self.new.packets self.new.within self.new.block (after_payload (column_of column.now) x) }
     {
-        if column::closing_column(column) {
-            self.left = Left::Closing {
-                digit: column::digit(column::blue(column)),
-                guard: column::island_column(column),
-            };
-            return;
-        }
         put_column(&mut self.block, 0, column);
         self.within = 1;
+        self.left = Left::First {
+            words: column::closing_count(column),
+            digit: column::digit(column::blue(column)),
+            guard: column::island_column(column),
+        };
     }
 
     /// Hears a column, where the island began at column `start`.
@@ -247,9 +246,19 @@ impl Island {
                     self.within += 1;
                 }
             }
-            Left::Closing { digit, guard } => {
-                tell_close(start, at, self.packets, digit, guard, column, notes);
-                self.left = Left::Closed;
+            Left::First {
+                words,
+                digit,
+                guard,
+            } => {
+                if column::at_least(3, words, column::closing_count(column)) {
+                    tell_close(start, at, self.packets, digit, guard, column, notes);
+                    self.left = Left::Closed;
+                    return;
+                }
+                put_column(&mut self.block, 1, column);
+                self.within = 2;
+                self.left = Left::Packet;
             }
             Left::Closed => {
                 notes.push(Note::Noise { column: at + 2 });
@@ -265,7 +274,7 @@ impl Island {
         ensures { (rest : List Column) (f : ℕ → Thing) → IsIslandAfter self.now rest → breaks f start (payload rest) ≡ at_some f result }
     {
         match self.left {
-            Left::Packet | Left::Closing { .. } => Some(start + 2 + 32 * self.packets),
+            Left::Packet | Left::First { .. } => Some(start + 2 + 32 * self.packets),
             Left::Closed | Left::Over => None,
         }
     }

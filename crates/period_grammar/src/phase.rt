@@ -16,7 +16,7 @@ ghost use Rattle.period_grammar.specs.Stands.{IsPeriodAfter, closed, going_on};
 
 use crate::column;
 use crate::control::Kept;
-use crate::island::Island;
+use crate::island::{Island, tell_guard};
 use crate::line::Line;
 use crate::notes::{Note, Notes};
 use tmds_word::Word;
@@ -27,8 +27,8 @@ pub enum Phase {
     Control,
     First {
         start: u32,
-        video: bool,
-        island: bool,
+        video: u8,
+        island: u8,
         digit: u8,
     },
     Video {
@@ -128,8 +128,8 @@ pub fn go_on(
             kept.tell_run(notes);
             Phase::First {
                 start: n,
-                video: column::guard_column(column),
-                island: column::island_column(column),
+                video: column::video_count(column),
+                island: column::island_count(column),
                 digit: column::digit(column::blue(column)),
             }
         }
@@ -139,17 +139,21 @@ pub fn go_on(
             island: opens,
             digit,
         } => {
-            if video & column::guard_column(column) {
+            if column::at_least(5, video, column::video_count(column)) {
                 kept.tell_video(start, notes);
+                tell_guard(video == 3, start, notes);
+                tell_guard(column::guard_column(column), start + 1, notes);
                 line.clear();
                 return Phase::Video { start };
             }
-            if opens & column::island_column(column) {
+            if column::at_least(5, opens, column::island_count(column)) {
                 kept.tell_island(start, notes);
                 notes.push(Note::Open {
                     first: digit,
                     second: column::digit(column::blue(column)),
                 });
+                tell_guard(opens == 3, start, notes);
+                tell_guard(column::island_column(column), start + 1, notes);
                 island.clear();
                 return Phase::Payload { start };
             }
