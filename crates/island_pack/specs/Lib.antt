@@ -5,4 +5,5 @@ pub mod Taken
 pub mod Periods
 pub mod Conforming
 pub mod Spelling
+pub mod Kinds
 pub mod Sparse

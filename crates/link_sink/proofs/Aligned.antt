@@ -1,4 +1,4 @@
--- The aligned columns of a part_of are received columns.
+-- The aligned columns of a tap are received columns.
 use Rattle.std.proofs.Common.{◌≡◌, ℕ, suc, zero, ◌+◌, ◌-◌, ◌*◌, ◌/◌, ◌<◌, ◌≤◌, Bool, List, [], ◌∷◌, ◌++◌, length, take, drop, get_or, refl, ap, ap₂, sym, ◌∙◌, subst, arith, length-take, length-drop}
 use Rattle.std.proofs.Math.Seq.{drop-append_seam, drop-nil}
 use Rattle.std.proofs.lemmas.List.{drop-drop, drop-take, take-take, drop-map, take-append-le, get_or-drop}
@@ -114,10 +114,10 @@ lane_taken words from many p a x is e le small =
     subst (λ ys. p ≤ length ys → words_from ys p ≡ take (whole_words ys p) (drop a words)) (sym is) (λ within. lane_words words from many p a e within small) le
 
 -- places of three lanes at which the characters of column a begin
-pub record BeginAt (cs : List Column) (from1 from2 from3 many a : ℕ) (x y z : List Bool) (d e f : ℕ) : Type 0 where
-  pub blue : x ≡ part_of (blues cs) from1 many
-  pub green : y ≡ part_of (greens cs) from2 many
-  pub red : z ≡ part_of (reds cs) from3 many
+pub record BeginAt (cs : List Column) (from1 from2 from3 many1 many2 many3 a : ℕ) (x y z : List Bool) (d e f : ℕ) : Type 0 where
+  pub blue : x ≡ part_of (blues cs) from1 many1
+  pub green : y ≡ part_of (greens cs) from2 many2
+  pub red : z ≡ part_of (reds cs) from3 many3
   pub first : d - 120 + from1 ≡ 10 * a
   pub second : e - 120 + from2 ≡ 10 * a
   pub third : f - 120 + from3 ≡ 10 * a
@@ -125,16 +125,16 @@ pub record BeginAt (cs : List Column) (from1 from2 from3 many a : ℕ) (x y z : 
   pub second_within : e ≤ length y
   pub third_within : f ≤ length z
 
-pub columns_taken : (cs : List Column) (from1 from2 from3 many a : ℕ) (x y z : List Bool) (d e f : ℕ) → BeginAt cs from1 from2 from3 many a x y z d e f
+pub columns_taken : (cs : List Column) (from1 from2 from3 many1 many2 many3 a : ℕ) (x y z : List Bool) (d e f : ℕ) → BeginAt cs from1 from2 from3 many1 many2 many3 a x y z d e f
     → AreCharacters (blues cs) → AreCharacters (greens cs) → AreCharacters (reds cs)
     → aligned_columns x y z d e f ≡ take (length (aligned_columns x y z d e f)) (drop a cs)
 unfolding aligned_columns
-columns_taken cs from1 from2 from3 many a x y z d e f at blue green red =
+columns_taken cs from1 from2 from3 many1 many2 many3 a x y z d e f at blue green red =
     let w1 = at.first_within in
     let w2 = at.second_within in
     let w3 = at.third_within in
     columns_from cs (whole_words x (d - 120)) (whole_words y (e - 120)) (whole_words z (f - 120)) a
     (words_from x (d - 120)) (words_from y (e - 120)) (words_from z (f - 120))
-    (lane_taken (blues cs) from1 many (d - 120) a x at.blue at.first (omega arith) blue)
-    (lane_taken (greens cs) from2 many (e - 120) a y at.green at.second (omega arith) green)
-    (lane_taken (reds cs) from3 many (f - 120) a z at.red at.third (omega arith) red)
+    (lane_taken (blues cs) from1 many1 (d - 120) a x at.blue at.first (omega arith) blue)
+    (lane_taken (greens cs) from2 many2 (e - 120) a y at.green at.second (omega arith) green)
+    (lane_taken (reds cs) from3 many3 (f - 120) a z at.red at.third (omega arith) red)

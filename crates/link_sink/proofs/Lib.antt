@@ -1,6 +1,8 @@
 pub mod Cutting
 pub mod Rows
 pub mod Conformed
+pub mod Guards
+pub mod ControlTold
 pub mod Between
 pub mod VideoTold
 pub mod WrongBits
@@ -8,15 +10,19 @@ pub mod PacketRow
 pub mod IslandColumns
 pub mod IslandTold
 pub mod Joining
+pub mod Shapes
 pub mod EndPlaces
 pub mod Start
 pub mod SpelledWords
 pub mod Arrival
-pub mod Framing
-pub mod CutPeriods
 pub mod Spelled
 pub mod Lanes
+pub mod Framing
+pub mod CutPeriods
 pub mod Ends
+pub mod Decided
+pub mod Until
+pub mod Aligning
 pub mod Aligned
 pub mod Tapped
 pub mod Stream
@@ -27,5 +33,4 @@ pub mod Growing
 pub mod Prefixes
 pub mod Following
 pub mod Feeding
-pub mod Decided
 pub mod Pieces

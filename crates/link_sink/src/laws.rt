@@ -1,29 +1,48 @@
 //! What holds of columns that came with sparse damage. The functions do nothing: what they ensure are the laws.
-ghost use Rattle.link_sink.specs.Laws.{EdgesEnd, FirstEnds, FramingStands, PeriodsStand, LinkLaw, OneWrongBit, TapAccounted, HasExample};
+ghost use Rattle.link_sink.specs.Laws.{FramingStands, PeriodsStand, LinkLaw, EdgesEnd, FirstEnds, FirstUntil, TapAccounted, PayloadAccounted, OneWrongBit, HasExample, HasPayloadExample};
 
-/// In any part of the bits of a lane each edge is the end of a control period.
-pub fn edges_end()
-    ensures { EdgesEnd }
-{}
-
-/// The first full alignment of a tap with skews of at most 70 bits is the end of one control period on all three lanes.
-pub fn first_ends()
-    ensures { FirstEnds }
-{}
-
-/// The control columns that came are those of the control periods.
+/// The control columns that came are those of the control periods, wherever damage lies.
 pub fn framing_stands()
     ensures { FramingStands }
 {}
 
-/// The columns that came are cut where the periods are.
+/// The columns that came are cut where the periods are, wherever damage lies.
 pub fn periods_stand()
     ensures { PeriodsStand }
 {}
 
-/// What is told of the columns from twelve before the end of a control period on is the account.
+/// What is told of the columns from twelve before the end of a control period on is the account, wherever damage lies.
 pub fn link_law()
     ensures { LinkLaw }
+{}
+
+/// Where damage lies in pixels and packets alone, each edge in a part of a lane's bits is the end of a control period.
+pub fn edges_end()
+    ensures { EdgesEnd }
+{}
+
+/// Where damage lies in pixels and packets alone, the first full alignment of a tap with skews of at most 70 bits is the
+/// end of one control period on all three lanes.
+pub fn first_ends()
+    ensures { FirstEnds }
+{}
+
+/// Where damage spares control and guard words until a column that is the first after a control period, and each lane of
+/// the tap has that column and the twelve before it, there is a first full alignment, and it is the end of one control
+/// period on all three lanes, at or before that column.
+pub fn first_until()
+    ensures { FirstUntil }
+{}
+
+/// Under the same premises what is told of the aligned columns of the tap is the account from the end of a control
+/// period on.
+pub fn tap_accounted()
+    ensures { TapAccounted }
+{}
+
+/// The same where damage lies in pixels and packets alone and there is a first full alignment.
+pub fn payload_accounted()
+    ensures { PayloadAccounted }
 {}
 
 /// Each block of a packet of which at most one word came unlike has at most one wrong bit.
@@ -31,12 +50,12 @@ pub fn one_wrong_bit()
     ensures { OneWrongBit }
 {}
 
-/// What is told of the aligned columns of a tap is the account from the end of a control period on.
-pub fn tap_accounted()
-    ensures { TapAccounted }
+/// There are columns with damaged words of pixels and packets alone, and a tap of them that has a first full alignment.
+pub fn has_payload_example()
+    ensures { HasPayloadExample }
 {}
 
-/// There are columns, with a damaged word among them, and a tap that meet the premises of these laws.
+/// There are columns with damaged words in each kind of column, and a tap of them that is aligned before.
 pub fn has_example()
     ensures { HasExample }
 {}
