@@ -1,6 +1,6 @@
 -- The characters that are cut from the bits of a lane from a place on, and its edges among them: where a receiver
 -- keeps the characters from the lock on, it needs the bits no more.
-use Rattle.std.specs.Prelude.{◌≡◌, ◌↔◌, ℕ, ◌+◌, ◌-◌, ◌*◌, ◌/◌, ◌%◌, ◌<◌, ◌≤◌, Bool, true, false, List, [], ◌∷◌, length, take, drop, slice_index, slice_get, Option, Some, None}
+use Rattle.std.specs.Prelude.{◌≡◌, ◌↔◌, ℕ, ◌+◌, ◌-◌, ◌*◌, ◌/◌, ◌%◌, ◌<◌, ◌≤◌, Bool, true, false, List, [], ◌∷◌, length, drop, slice_index, slice_get, Option, Some, None, All}
 use Rattle.std.proofs.Common.{suc, zero}
 use Rattle.tmds_word.specs.Bits.{window}
 use Rattle.tmds_word.specs.Words.{words_of}
@@ -24,6 +24,10 @@ words_in (suc n) v = v % 1024 ∷ words_in n (v / 1024)
 unfoldable pub lane_words : Option ℕ → List Bool → List ℕ
 lane_words None xs = []
 lane_words (Some p) xs = words_from xs p
+
+-- characters are numbers of ten bits
+abbrev pub AreWords : List ℕ → Type 0
+AreWords = All (λ w. w < 1024)
 
 -- a character that is no control word, behind twelve that are
 pub record EndsRun (words : List ℕ) (i : ℕ) : Type 0 where
