@@ -1,5 +1,5 @@
 -- Sparse damage: columns as they came, in which few words are unlike those that were sent.
-use Rattle.std.specs.Prelude.{◌≡◌, ℕ, ◌+◌, ◌<◌, ◌≤◌, not, ◌==◌, List, [], ◌∷◌, length, take, drop, slice_index_or}
+use Rattle.std.specs.Prelude.{◌≡◌, ℕ, ◌+◌, ◌<◌, ◌≤◌, not, ◌==◌, List, ◌∷◌, length, take, drop, slice_index_or}
 use Rattle.tmds_word.specs.Column.{Column, blues, greens, reds}
 use Rattle.terc4.specs.Columns.{one_if}
 use Rattle.island_pack.specs.Periods.{Period}

@@ -1,5 +1,5 @@
 -- There is a first full alignment at or before column f, and it is the end of one control period.
-use Rattle.std.proofs.Common.{◌≡◌, ℕ, suc, zero, ◌+◌, ◌-◌, ◌*◌, ◌<◌, ◌≤◌, max, Bool, true, false, List, length, map, take, drop, get_or, slice_index, refl, ap, ◌∙◌, sym, subst, arith, inl, inr, ◌⊎◌}
+use Rattle.std.proofs.Common.{◌≡◌, ℕ, ◌+◌, ◌-◌, ◌*◌, ◌<◌, ◌≤◌, max, Bool, true, false, List, length, map, take, drop, get_or, slice_index, refl, ap, ◌∙◌, sym, subst, arith, inl, inr, ◌⊎◌}
 use Rattle.std.proofs.Math.Nat.{le-max_left, le-max_right, max-le}
 use Rattle.std.proofs.lemmas.Bool.{cases_lt}
 use Rattle.std.proofs.lemmas.List.{length-map, get_or-map}
@@ -7,9 +7,8 @@ use Rattle.tmds_word.specs.Bits.{turns, word_bits}
 use Rattle.tmds_word.specs.Column.{Column, blues, greens, reds}
 use Rattle.terc4.specs.Tables.{is_control}
 use Rattle.terc4.proofs.Words.{few_turns}
-use Rattle.lane_align.specs.Lanes.{IsEdge}
 use Rattle.lane_align.specs.Laws.{marked}
-use Rattle.tmds_word.specs.Taps.{part_of, AreNear, IsPart, IsTap, HasSmallSkew}
+use Rattle.tmds_word.specs.Taps.{part_of, AreNear, IsPart, HasSmallSkew}
 use Rattle.lane_deskew.specs.Triples.{IsTriple, IsFirst}
 use Rattle.lane_deskew.specs.Kinds.{Kind, control, guard, payload, Item, kinds_of as lane_kinds_of, kind_at as lane_kind_in, IsShape, EndsAt}
 use Rattle.lane_deskew.specs.Ends.{IsSent, damaged}
@@ -22,10 +21,9 @@ use Rattle.link_sink.proofs.Shapes.{no_payload, shapes_of, lane_kind, lane_kind_
 use Rattle.link_sink.proofs.Decided.{first_decided}
 use Rattle.link_sink.proofs.Lanes.{shape_is, fitting_length, fitting_at, lane_sent, not_damaged, few_marked}
 use Rattle.link_sink.proofs.Spelled.{fitting}
-use Rattle.island_pack.specs.Kinds.{Kind as ColumnKind, control_column, first_guard, second_guard, pixel_column, packet_column, IsPayload, kinds_of, kind_at, IsAfterControl}
+use Rattle.island_pack.specs.Kinds.{first_guard, kinds_of, kind_at, IsAfterControl}
 use Rattle.link_sink.specs.Laws.{CameOf, EndsControl, BeginColumn, HoldsEnd, FirstUntil}
 use Rattle.link_sink.proofs.Until.{IsReceivedUntil, Holds, edge_until, end_edge}
-use Rattle.island_pack.specs.Kinds as kinds
 
 -- One lane.
 
@@ -102,7 +100,6 @@ IsEnd items f from e = (i : ℕ) × (EndsAt (lane_kinds_of items) i) × (i + 1 �
 
 -- two ends that lie near each other are one
 one_end : (items : List Item) (f k l d e : ℕ) → IsShape items → AreNear k l → AreNear d e → (a : IsEnd items f k d) → (b : IsEnd items f l e) → a.0 ≡ b.0
-
 one_end items f k l d e shape skew near a b =
     let pa = a.3 in
     let pb = b.3 in

@@ -1,15 +1,12 @@
 -- Columns that came with sparse damage of columns that spell periods, period after period.
-use Rattle.std.proofs.Common.{◌≡◌, ℕ, zero, suc, ◌+◌, ◌*◌, ◌/◌, ◌<◌, ◌≤◌, Bool, true, false, ◌&&◌, List, [], ◌∷◌, ◌++◌, length, map, replicate, refl, ap, ap₂, sym, ◌∙◌, subst, append_assoc, arith, slice_index}
-use Rattle.std.specs.Prelude.{nat_lt}
-use Rattle.std.specs.List.{list_all}
-use Rattle.std.proofs.lemmas.List.{length-map, replicate-append-replicate}
+use Rattle.std.proofs.Common.{◌≡◌, ℕ, suc, ◌+◌, ◌*◌, ◌/◌, ◌≤◌, Bool, true, false, List, [], ◌∷◌, ◌++◌, length, map, replicate, refl, ap, sym, ◌∙◌, subst, append_assoc, arith, slice_index}
+use Rattle.std.proofs.lemmas.List.{replicate-append-replicate}
 use Rattle.std.proofs.lemmas.List.Elements.{All-tail}
 use Rattle.tmds_word.specs.Column.{Column, blues, greens, reds}
 use Rattle.tmds_word.proofs.Below.{and-left, and-right}
 use Rattle.terc4.specs.Tables.{is_control, is_terc}
-use Rattle.terc4.specs.Columns.{is_control_column}
 use Rattle.island_pack.specs.Packets.{AreTerc, Carries}
-use Rattle.island_pack.specs.Periods.{ControlRun, Pixel, SyncPair, DataIsland, Period, control, video, island, values_of, pixels_of}
+use Rattle.island_pack.specs.Periods.{ControlRun, Pixel, DataIsland, Period, control, video, island, values_of, pixels_of}
 use Rattle.island_pack.specs.Conforming.{are_bytes}
 use Rattle.island_pack.specs.Spelling.{control_column as column_of_value, guard_column, guard_columns, words_of, SpellsPixels, SpellsPackets, Spells}
 use Rattle.island_pack.specs.declared.packet.Packet.{Packet}
@@ -22,7 +19,7 @@ use Rattle.link_sink.proofs.SpelledWords.{AreWords, lane_words, small_blue, smal
 use Rattle.island_pack.specs.Kinds.{Kind, control_column, first_guard, second_guard, pixel_column, packet_column, guard_pair, kinds_in, kinds_of, kind_at}
 use Rattle.island_pack.specs.Sparse.{unlike_at, IsSparse}
 use Rattle.link_sink.proofs.Guards.{unlike, line_guard, IsWhole, stays_control}
-use Rattle.link_sink.proofs.IslandTold.{AreIslandGuards, framed, frame}
+use Rattle.link_sink.proofs.IslandTold.{framed, frame}
 use Rattle.link_sink.proofs.Joining.{controls, pixels, packets, Arrives, nothing, more}
 use Rattle.link_sink.proofs.VideoTold as seen
 

@@ -1,13 +1,13 @@
 -- A period between control periods: what is told of its columns, whole or in part, and of what comes after them.
 use Rattle.std.proofs.Common.{◌≡◌, ℕ, suc, zero, ◌+◌, ◌-◌, ◌<◌, ◌≤◌, Bool, true, false, List, [], ◌∷◌, ◌++◌, length, take, drop, refl, ap, ap₂, sym, ◌∙◌, append_assoc, arith, inl, inr}
-use Rattle.std.proofs.lemmas.List.{append-nil, take-append-le, length-map, length-take}
+use Rattle.std.proofs.lemmas.List.{append-nil, take-append-le, length-take}
 use Rattle.std.proofs.Math.Seq.{take-append-add, take-append_seam, drop-append_seam}
 use Rattle.std.proofs.lemmas.Bool.{cases_lt, le-leb}
 use Rattle.tmds_word.specs.Column.{Column}
 use Rattle.tmds_word.proofs.Below.{and-left, and-right}
 use Rattle.terc4.specs.Columns.{is_control_column}
 use Rattle.island_pack.specs.Periods.{Period, period_columns}
-use Rattle.period_grammar.specs.Things.{Thing, short as short_before, thing_of}
+use Rattle.period_grammar.specs.Things.{Thing, short as short_before}
 use Rattle.period_grammar.specs.Cut.{Period as Cut, period, before as before_period, periods}
 use Rattle.period_grammar.specs.Heard.{unless, lacks, at_close, at_end}
 use Rattle.link_sink.proofs.Cutting.{AllControl, NoneControl, begins, begins_control, cut_both, hear, gap_things, control_told, hear_control, hear_last, hear_on}

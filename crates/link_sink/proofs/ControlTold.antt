@@ -1,9 +1,9 @@
 -- What is told of control columns: the words of a run that are no control words after the runs before it, and the run
 -- after them, whatever came.
-use Rattle.std.proofs.Common.{◌≡◌, ℕ, ◌+◌, List, [], ◌∷◌, ◌++◌, length, map, refl, ap, sym, ◌∙◌, append_assoc}
-use Rattle.std.proofs.lemmas.List.{append-nil, map-append}
+use Rattle.std.proofs.Common.{◌≡◌, ℕ, ◌+◌, List, [], ◌∷◌, ◌++◌, length, map, refl, ap, ◌∙◌, append_assoc}
+use Rattle.std.proofs.lemmas.List.{map-append}
 use Rattle.tmds_word.specs.Column.{Column}
-use Rattle.period_grammar.specs.Things.{Thing, run, Told, at, thing_of}
+use Rattle.period_grammar.specs.Things.{run, at, thing_of}
 use Rattle.period_grammar.specs.Cut.{Run, columns, runs}
 use Rattle.period_grammar.specs.Heard.{words, in_runs, last_run}
 use Rattle.link_sink.specs.Account.{runs_row, control_row}

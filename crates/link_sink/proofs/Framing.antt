@@ -1,5 +1,5 @@
 -- The control columns that came are those of the control periods, and the account of columns that came.
-use Rattle.std.proofs.Common.{◌≡◌, ◌↔◌, ℕ, ◌+◌, ◌<◌, ◌≤◌, Bool, true, false, List, [], ◌∷◌, length, map, take, drop, refl, ap, sym, ◌∙◌, subst, arith}
+use Rattle.std.proofs.Common.{◌≡◌, ◌↔◌, ℕ, ◌+◌, ◌≤◌, Bool, true, false, List, [], ◌∷◌, length, take, drop, refl, ap, sym, ◌∙◌, subst, arith}
 use Rattle.std.proofs.lemmas.List.{length-map}
 use Rattle.tmds_word.specs.Column.{Column}
 use Rattle.terc4.specs.Columns.{is_control_column}
@@ -15,7 +15,7 @@ use Rattle.island_pack.specs.Sparse.{column_at}
 use Rattle.period_grammar.specs.Heard.{heard}
 use Rattle.link_sink.specs.Account.{account}
 use Rattle.link_sink.specs.Laws.{CameOf, FramingStands, LinkLaw}
-use Rattle.link_sink.proofs.Joining.{controls, Arrives, nothing, more}
+use Rattle.link_sink.proofs.Joining.{controls, Arrives, more}
 use Rattle.link_sink.proofs.Start.{from_end}
 use Rattle.link_sink.proofs.Arrival.{arrive}
 use Rattle.link_sink.proofs.Lanes.{fitting_length, fitting_at}

@@ -1,5 +1,5 @@
 -- Guard columns as they came, of which one word of a pair may be unlike the one that was sent.
-use Rattle.std.proofs.Common.{◌≡◌, ℕ, zero, suc, ◌+◌, ◌<◌, ◌≤◌, Bool, true, false, not, ◌&&◌, ◌==◌, List, [], ◌∷◌, slice_index, refl, ap, ap₂, sym, ◌∙◌, arith}
+use Rattle.std.proofs.Common.{◌≡◌, ℕ, ◌+◌, ◌<◌, ◌≤◌, Bool, true, false, not, ◌&&◌, ◌==◌, slice_index, refl, ap, ap₂, sym, ◌∙◌, arith}
 use Rattle.std.specs.Prelude.{nat_le}
 use Rattle.std.proofs.lemmas.Bool.{eqb-true, le-leb, lt-leb}
 use Rattle.tmds_word.specs.Column.{Column, column_of}

@@ -1,5 +1,5 @@
 -- What is told of a data island's columns as they came.
-use Rattle.std.proofs.Common.{◌≡◌, ℕ, suc, zero, ◌+◌, ◌*◌, ◌-◌, ◌<◌, ◌≤◌, Bool, true, false, cond, not, ◌&&◌, ◌==◌, List, [], ◌∷◌, ◌++◌, length, map, take, drop, refl, ap, ap₂, sym, ◌∙◌, subst, append_assoc, arith, inl, inr, length-append, length-take, zero-add}
+use Rattle.std.proofs.Common.{◌≡◌, ℕ, suc, zero, ◌+◌, ◌*◌, ◌-◌, ◌<◌, ◌≤◌, Bool, true, false, cond, not, ◌==◌, List, [], ◌∷◌, ◌++◌, length, map, take, drop, refl, ap, ap₂, sym, ◌∙◌, subst, append_assoc, arith, inl, inr, length-append, length-take, zero-add}
 use Rattle.std.proofs.lemmas.List.{append-nil, take_all, map-append}
 use Rattle.std.proofs.lemmas.List.Folds.{list_all-append}
 use Rattle.std.proofs.lemmas.Bool.{cases_lt, ne_eqb, le-leb, le-ltb, lt-ltb}
@@ -22,7 +22,7 @@ use Rattle.link_sink.proofs.Conformed.{IsIsland}
 use Rattle.link_sink.proofs.Between.{take_seam, drop_seam, IsGap, lacks_preamble}
 use Rattle.link_sink.proofs.IslandColumns.{AreParts, parts_open, ArePackets, no_packets, one_more, packets_quiet, packet_sent, packet_came, packets_came}
 use Rattle.link_sink.proofs.PacketRow.{packet_row_taken}
-use Rattle.link_sink.proofs.Guards.{unlike, guard_quiet, stays_quiet, opens_island, guards_close}
+use Rattle.link_sink.proofs.Guards.{guard_quiet, stays_quiet, opens_island, guards_close}
 use Rattle.period_grammar.proofs.Islands.{holds_is, holds_not, split_none, split_one}
 use Rattle.link_sink.proofs.VideoTold.{AreGuards}
 use Rattle.island_pack.specs.Periods as sends

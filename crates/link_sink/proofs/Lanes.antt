@@ -1,15 +1,14 @@
 -- The lanes of columns that came of conforming periods with sparse damage: each is one in which an edge is the end of a
 -- control period.
-use Rattle.std.proofs.Common.{◌≡◌, ℕ, suc, zero, ◌+◌, ◌*◌, ◌/◌, ◌<◌, ◌≤◌, Bool, true, false, not, ◌==◌, List, [], ◌∷◌, ◌++◌, map, length, take, drop, get_or, replicate, refl, ap, ap₂, sym, ◌∙◌, subst, arith}
+use Rattle.std.proofs.Common.{◌≡◌, ℕ, suc, zero, ◌+◌, ◌<◌, ◌≤◌, true, false, not, ◌==◌, List, [], ◌∷◌, map, length, take, drop, get_or, refl, ap, sym, ◌∙◌, subst, arith}
 use Rattle.std.proofs.lemmas.Bool.{eq-eqb}
-use Rattle.std.proofs.Math.ListN.{get_or-map as get_or-map_at}
-use Rattle.std.proofs.lemmas.List.{length-map, get_or-map, map-append}
+use Rattle.std.proofs.lemmas.List.{length-map, get_or-map}
 use Rattle.tmds_word.specs.Bits.{word_bits, turns}
 use Rattle.tmds_word.specs.Column.{Column, blues, greens, reds}
 use Rattle.terc4.specs.Tables.{is_control}
 use Rattle.terc4.specs.Columns.{one_if}
 use Rattle.lane_align.specs.Laws.{marked}
-use Rattle.lane_deskew.specs.Kinds.{Kind, control as control_kind, guard, payload, guards, item_kinds, kinds_of, kind_at, IsShape}
+use Rattle.lane_deskew.specs.Kinds.{Kind, control as control_kind, guard, payload, kinds_of, kind_at, IsShape}
 use Rattle.lane_deskew.specs.Ends.{IsReceived, IsSent, IsSparse as IsSparseLane, damaged}
 use Rattle.lane_deskew.proofs.Ends.{sparse_received}
 use Rattle.island_pack.specs.Periods.{Period, control, video, island, values_of}

@@ -1,8 +1,7 @@
 -- The words and the sizes of columns that spell periods.
-use Rattle.std.proofs.Common.{◌≡◌, ℕ, suc, ◌*◌, ◌/◌, ◌<◌, true, false, Bool, List, [], ◌∷◌, length, map, replicate, get_or, refl, ap, sym, ◌∙◌, arith, length-append}
+use Rattle.std.proofs.Common.{◌≡◌, ℕ, suc, ◌*◌, ◌<◌, true, false, Bool, List, [], ◌∷◌, length, map, get_or, refl, ap, ◌∙◌, arith, length-append}
 use Rattle.std.specs.Prelude.{nat_lt, ℤ}
 use Rattle.std.proofs.lemmas.Bool.{ltb-true}
-use Rattle.std.proofs.lemmas.List.{length-map, length-replicate}
 use Rattle.tmds_word.specs.Bits.{word_bits, turns}
 use Rattle.tmds_word.specs.Column.{Column}
 use Rattle.tmds_word.proofs.Below.{and-left, and-right}
@@ -10,12 +9,12 @@ use Rattle.tmds_code.specs.Coding.{Coded, sign_of, decoded_byte}
 use Rattle.tmds_code.specs.Lanes.{IsLane}
 use Rattle.tmds_code.proofs.TableWords.{decoded_coded, coded_turns}
 use Rattle.terc4.proofs.Words.{few_turns}
-use Rattle.island_pack.specs.Periods.{Pixel, Period, control, video, island, values_of, pixels_of, period_columns}
+use Rattle.island_pack.specs.Periods.{Pixel, pixels_of}
 use Rattle.island_pack.specs.Conforming.{are_bytes}
-use Rattle.island_pack.specs.Spelling.{control_column, guard_columns, SpellsPackets, SpellsPeriod, Spells}
+use Rattle.island_pack.specs.Spelling.{SpellsPackets}
 use Rattle.island_pack.specs.declared.packet.Packet.{Packet}
 use Rattle.link_sink.proofs.Rows.{and_both}
-use Rattle.link_sink.proofs.VideoTold.{IsWord, pixel_count}
+use Rattle.link_sink.proofs.VideoTold.{IsWord}
 use Rattle.link_sink.proofs.IslandColumns.{packet_sent}
 
 -- Words.

@@ -1,17 +1,16 @@
 -- The account from twelve columns before the end of a control period on.
-use Rattle.std.proofs.Common.{◌≡◌, ℕ, suc, zero, ◌+◌, ◌-◌, ◌<◌, ◌≤◌, true, cond, List, [], ◌∷◌, ◌++◌, length, take, drop, refl, ap, ap₂, sym, ◌∙◌, subst, arith, inl, inr, length-drop}
-use Rattle.std.proofs.lemmas.List.{drop-append-le, length-map, drop-drop}
+use Rattle.std.proofs.Common.{◌≡◌, ℕ, suc, zero, ◌+◌, ◌-◌, ◌<◌, ◌≤◌, cond, List, [], ◌∷◌, ◌++◌, length, take, drop, refl, ap, ap₂, sym, ◌∙◌, subst, arith, inl, inr, length-drop}
+use Rattle.std.proofs.lemmas.List.{drop-append-le, drop-drop}
 use Rattle.std.proofs.lemmas.Bool.{le-ltb, lt-ltb}
 use Rattle.tmds_word.specs.Column.{Column}
 use Rattle.tmds_word.proofs.Below.{and-right}
 use Rattle.lane_deskew.specs.Kinds.{EndsAt}
 use Rattle.island_pack.specs.Periods.{ControlRun, Period, control, values_of, period_columns}
-use Rattle.island_pack.specs.Spelling.{control_column}
 use Rattle.period_grammar.specs.Cut.{periods}
 use Rattle.link_sink.proofs.Cutting.{AllControl, hear}
 use Rattle.link_sink.proofs.Rows.{control_columns}
 use Rattle.link_sink.proofs.Conformed.{IsInner, Follows, ends, goes_on}
-use Rattle.link_sink.proofs.Between.{take_seam, drop_seam, IsControlPeriod}
+use Rattle.link_sink.proofs.Between.{take_seam, drop_seam}
 use Rattle.link_sink.proofs.EndPlaces.{kinds_from, ends_first, ends_only, control_kinds, ends_late, kinds_size}
 use Rattle.period_grammar.specs.Heard.{heard, heard_so_far}
 use Rattle.link_sink.specs.Account.{control_row, account_from, account_at, account}

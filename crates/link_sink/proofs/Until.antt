@@ -1,18 +1,18 @@
 -- A lane whose damage spares control and guard words until a column, which is the first after a control period: its
 -- edges up to there, and a little past it, are ends of control periods, and that place is an edge.
-use Rattle.std.proofs.Common.{◌≡◌, ℕ, suc, zero, ◌+◌, ◌-◌, ◌*◌, ◌/◌, ◌%◌, ◌<◌, ◌≤◌, Bool, true, false, List, [], ◌∷◌, ◌++◌, length, take, drop, get_or, replicate, refl, ap, ◌∙◌, sym, subst, arith, inl, inr, ◌⊎◌, Some, length-take, length-drop, length-append}
+use Rattle.std.proofs.Common.{◌≡◌, ℕ, suc, zero, ◌+◌, ◌-◌, ◌*◌, ◌/◌, ◌<◌, ◌≤◌, Bool, true, false, List, [], ◌∷◌, ◌++◌, length, take, drop, get_or, replicate, refl, ap, ◌∙◌, sym, subst, arith, inl, inr, ◌⊎◌, Some, length-take, length-drop}
 use Rattle.std.proofs.lemmas.Bool.{cases_lt}
 use Rattle.std.proofs.lemmas.List.{drop-take, take-take, take_all, take-append-drop, get_or-take, get_or-replicate, get_or_append_left, length-replicate}
 use Rattle.std.proofs.Math.Seq.{take-append-add}
 use Rattle.tmds_word.specs.Bits.{turns, word_bits, row_bits, number, window}
 use Rattle.tmds_word.proofs.Lists.{length-row_bits, length-word_bits}
 use Rattle.terc4.specs.Tables.{is_control}
-use Rattle.lane_align.specs.Lanes.{HasControl, IsRun, IsLock, IsEdge}
+use Rattle.lane_align.specs.Lanes.{IsRun, IsLock, IsEdge}
 use Rattle.lane_align.specs.Laws.{marked, IsCalm}
 use Rattle.tmds_word.specs.Taps.{part_of}
-use Rattle.lane_align.proofs.Controls.{window_is, window_here, control_within}
-use Rattle.lane_align.proofs.Calm.{control_is, tap_lock}
-use Rattle.lane_deskew.specs.Kinds.{Kind, control, guard, payload, Item, item_kinds, kinds_of, kind_at, IsInner, IsShape, last, more, EndsAt}
+use Rattle.lane_align.proofs.Controls.{window_here}
+use Rattle.lane_align.proofs.Calm.{tap_lock}
+use Rattle.lane_deskew.specs.Kinds.{Kind, control, guard, payload, Item, item_kinds, kinds_of, kind_at, IsShape, last, more, EndsAt}
 use Rattle.lane_deskew.specs.Ends.{IsReceived}
 use Rattle.lane_deskew.specs.Searches.{HasGrown}
 use Rattle.lane_deskew.proofs.Growth.{edge_before}

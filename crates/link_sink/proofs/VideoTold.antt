@@ -12,7 +12,7 @@ use Rattle.terc4.specs.Columns.{is_control_column, is_video_guard}
 use Rattle.island_pack.specs.Periods.{Pixel, pixels_of, period_columns}
 use Rattle.period_grammar.specs.Things.{Thing, line, cut, long_line, thing_of, all_at}
 use Rattle.period_grammar.specs.Heard.{unless, video, lacks, line_bytes, codes_of, line_of, opened, opening, in_payload, payload_closes, payload_ends, in_gap, at_close, at_end}
-use Rattle.link_sink.specs.Account.{pixel_bytes, video_row, wrong_preamble, open_video_row, video_told, period_row}
+use Rattle.link_sink.specs.Account.{pixel_bytes, video_row, open_video_row, video_told, period_row}
 use Rattle.link_sink.proofs.Cutting.{NoneControl, things_at, gap_things}
 use Rattle.link_sink.proofs.Rows.{and_both}
 use Rattle.link_sink.proofs.Conformed.{IsVideo}
