@@ -1,5 +1,5 @@
 -- What three lanes have pushed, and what a deskew that keeps little of it stands for.
-use Rattle.std.specs.Prelude.{◌≡◌, ℕ, ◌+◌, ◌-◌, ◌*◌, ◌/◌, ◌<◌, ◌≤◌, min, cond, Bool, true, false, List, [], ◌++◌, length, take, drop, slice_index, MatchOption, is_some}
+use Rattle.std.specs.Prelude.{◌≡◌, ℕ, ◌+◌, ◌-◌, ◌*◌, ◌/◌, ◌^◌, ◌<◌, ◌≤◌, min, cond, Bool, true, false, List, [], ◌++◌, length, take, drop, slice_index, MatchOption, is_some}
 use Rattle.std.proofs.Common.{suc, zero}
 use Rattle.lane_align.specs.Words.{IsWordEdge}
 use Rattle.lane_deskew.specs.Keeping.{stored, limit}
@@ -171,3 +171,15 @@ pub record AreColumns (n : ℕ) (a b c : List ℕ) : Type 0 where
   pub first : length a ≡ n
   pub second : length b ≡ n
   pub third : length c ≡ n
+
+-- what is kept of a lane
+abbrev pub kept_of : Deskew → ℕ → List ℕ
+kept_of deskew lane = stored (lane_at deskew lane).kept
+
+-- a lane may push these characters at this lock: the lock is the one that it had, there is room, the place behind
+-- them fits, and the lane has not ended
+pub record CanPush (deskew : Deskew) (lane lock : ℕ) (words : List ℕ) : Type 0 where
+  pub same : 0 < (lane_at deskew lane).count → lock ≡ (lane_at deskew lane).lock
+  pub room : length (kept_of deskew lane) + length words ≤ 4160
+  pub total : lock + 10 * ((lane_at deskew lane).count + length words) < 2 ^ 63
+  pub going : (lane_at deskew lane).ended ≡ true → words ≡ []

@@ -2,8 +2,8 @@
 //! full alignment on.
 
 ghost use Rattle.std.specs.Prelude.{ℕ, ◌≡◌, ◌<◌, ◌≤◌, ◌+◌, ◌-◌, ◌*◌, ◌^◌, ◌↔◌, ◌++◌, List, [], IsTrue, IfOk, IfSome, MatchOption, Some, None, length, take, drop, slice_index, true, min, cond, is_some};
-ghost use Rattle.lane_deskew.specs.Keeping.{stored};
-ghost use Rattle.lane_deskew.specs.Pushed.{Past, no_past, pushed, ended, settled, consumed, AreEven, IsPastTriple, IsPastAlignment, AreKnown, Awaits, IsAligned, StandsFor, lane_at, IsCut, reach_of, ready_of, AreColumns, past_columns};
+ghost use Rattle.lane_align.specs.Words.{AreWords};
+ghost use Rattle.lane_deskew.specs.Pushed.{Past, no_past, pushed, ended, settled, consumed, AreEven, IsPastTriple, IsPastAlignment, AreKnown, Awaits, IsAligned, StandsFor, CanPush, kept_of, IsCut, reach_of, ready_of, AreColumns, past_columns};
 ghost use Rattle.tmds_word.specs.Words.{columns_of};
 ghost use Rattle.lane_deskew.specs.Stretches.{IsStretchTriple, AreFirstAt};
 ghost use Rattle.lane_deskew.specs.declared.Aligned.{Aligned};
@@ -62,10 +62,8 @@ impl Deskew {
     /// Appends characters of a lane, the first of which stand at its lock.
     pub fn push(&mut self, lane: u8, lock: u64, words: &[u16])
         requires lane { lane < 3 }
-        requires lock { 0 < (lane_at self.old lane).count → lock ≡ (lane_at self.old lane).lock }
-        requires room { length (stored (lane_at self.old lane).kept) + length words.now ≤ 4160 }
-        requires small { lock + 10 * ((lane_at self.old lane).count + length words.now) < 2 ^ 63 }
-        requires open { (lane_at self.old lane).ended ≡ true → words.now ≡ [] }
+        requires words { AreWords words.now }
+        requires push { CanPush self.old lane lock words.now }
         ensures stands { (p : Past) → StandsFor self.old p → StandsFor self.new (pushed lane lock words.now p) }
         ensures found { self.new.found ≡ self.old.found }
     {
@@ -108,7 +106,7 @@ impl Deskew {
     /// How many characters of a lane are kept.
     pub fn held(&self, lane: u8) -> usize
         requires { lane < 3 }
-        ensures held { result ≡ length (stored (lane_at self.now lane).kept) }
+        ensures held { result ≡ length (kept_of self.now lane) }
         ensures within { result ≤ 4160 }
     {
         match lane {
@@ -123,6 +121,7 @@ impl Deskew {
     pub fn settle(&mut self) -> Option<Aligned>
         ensures stands { (p : Past) → StandsFor self.old p → (self.old.found ≡ None → AreEven p) → StandsFor self.new (settled p) }
         ensures answer { (p : Past) → StandsFor self.old p → (self.old.found ≡ None → AreEven p) → MatchOption result ((d e f : ℕ) → IsPastTriple p d e f → ⊥) (λ at. IsPastAlignment p at.edges) }
+        ensures few { result ≡ None → (lane : ℕ) → length (kept_of self.new lane) ≤ 32 }
         ensures found { self.new.found ≡ result }
     {
         if self.found.is_none() {
@@ -134,6 +133,7 @@ impl Deskew {
     /// Looks for it in what is kept.
     fn seek(&mut self) -> Option<Aligned>
         ensures known { (p : Past) → AreKnown self.old p → AreKnown self.new (settled p) }
+        ensures few { result ≡ None → (lane : ℕ) → length (kept_of self.new lane) ≤ 32 }
         ensures found { (p : Past) → AreKnown self.old p → Awaits self.old p → AreEven p → MatchOption result (Awaits self.new (settled p)) (λ at. IsAligned self.new (settled p) at.edges) }
     {
         self.first.gather();
@@ -182,6 +182,9 @@ impl Deskew {
     pub fn columns(&self) -> ColumnsRef<'_>
         ensures count { AreColumns (ready_of self.now) result.a.now result.b.now result.c.now }
         ensures before { self.now.found ≡ None → result.a.now ≡ [] }
+        ensures first { AreWords result.a.now }
+        ensures second { AreWords result.b.now }
+        ensures third { AreWords result.c.now }
         ensures columns { (p : Past) (at : Aligned) → StandsFor self.now p → self.now.found ≡ Some at
             → columns_of result.a.now result.b.now result.c.now ≡ drop p.taken (past_columns p at.edges) }
     {
@@ -199,6 +202,7 @@ impl Deskew {
     /// Drops the first columns.
     pub fn consume(&mut self, n: usize)
         requires { n ≤ ready_of self.old }
+        ensures ready { ready_of self.new ≡ ready_of self.old - n }
         ensures stands { (p : Past) → StandsFor self.old p → StandsFor self.new (consumed n p) }
         ensures found { self.new.found ≡ self.old.found }
     {
