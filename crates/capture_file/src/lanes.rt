@@ -76,6 +76,7 @@ impl ColumnSink for Lanes {
         ensures ok { OnOk result (self.new.columns ≡ self.old.columns ++ column_of words ∷ []) }
         ensures err { OnErr result (self.new.columns ≡ self.old.columns) }
         ensures cause { HasCause self.old.refusals self.new.refusals result }
+        ensures counted { self.new.refusals < 2 ^ 64 }
 
         ensures same { OnOk result (self.new.refusals ≡ self.old.refusals) }
         ensures raised { OnErr result (self.new.refusals ≡ next self.old.refusals) }
