@@ -1,15 +1,15 @@
 -- Laws of the definition that later proofs stand on.
 use Rattle.std.proofs.Common.{◌≡◌, ℕ, suc, ◌+◌, ◌<◌, ◌≤◌, Bool, true, false, List, [], ◌∷◌, ◌++◌, length, refl, ap, ap₂, sym, ◌∙◌, subst, append_assoc, arith, lt-ltb, le-ltb}
-use Rattle.std.specs.Prelude.{filter, nat_lt, nat_le, cond}
+use Rattle.std.specs.Prelude.{filter, nat_lt, cond}
 use Rattle.std.proofs.lemmas.List.{append-nil, length_push, length-append, take_at, drop_at}
 use Rattle.tmds_word.specs.Column.{Column}
 use Rattle.terc4.specs.Columns.{is_control_column}
 use Rattle.terc4.specs.Tables.{is_control}
 use Rattle.period_grammar.specs.Things.{Thing, Told, at, all_at}
-use Rattle.period_grammar.specs.Cut.{Period, period, before, periods, runs}
+use Rattle.period_grammar.specs.Cut.{Period, period, before, periods}
 use Rattle.period_grammar.specs.Island.{begins_close, with_packet, split}
 use Rattle.std.proofs.lemmas.List.Elements.{filter-append}
-use Rattle.period_grammar.specs.Heard.{heard_so_far, other_words, words, Kind, video, opened, opening, has_preamble, in_runs, last_run, in_payload, payload_closes, line_of, in_gap, at_close, reach, told_from}
+use Rattle.period_grammar.specs.Heard.{heard_so_far, other_words, words}
 use Rattle.period_grammar.proofs.Step.{heard_push}
 use Rattle.period_grammar.proofs.Hearings.{start_of, starts}
 use Rattle.period_grammar.proofs.Islands.{holds_is, split_one}

@@ -9,7 +9,8 @@ use Rattle.period_grammar.specs.Heard.{line_bytes, pixel, line_of, codes_of, cod
 use Rattle.period_grammar.specs.Noted.{things, noted, Lent, lent}
 use Rattle.period_grammar.specs.declared.notes.Note.{Note}
 use Rattle.period_grammar.specs.declared.island.Whole.{Whole}
-use Rattle.period_grammar.specs.declared.notes.Note.TheVariants.{Line, LongLine, Empty}
+use Rattle.period_grammar.specs.declared.notes.Note.TheVariants.{Line, Fault as FaultNoted}
+use Rattle.period_grammar.specs.declared.told.Fault.TheVariants.{LongLine, Empty}
 use Rattle.period_grammar.specs.Judged.{IsLaneAfter}
 use Rattle.period_grammar.specs.declared.lane.Lane.{Lane}
 use Rattle.period_grammar.specs.LineSeen.{LineSeen}
@@ -69,7 +70,7 @@ line_push old new cs c was lt n e b g r =
 
 -- what notes say of the line
 pub line_none : (l : LineSeen) (whole : Whole) (start : ℕ) (pixels : List Column) (was now : List Note) → IsLineAfter l pixels → l.count ≡ 0 → length was ≤ 0
-    → now ≡ was ++ Empty start ∷ [] → things (lent l.bytes whole) now ≡ line_of start pixels
+    → now ≡ was ++ FaultNoted (Empty start) ∷ [] → things (lent l.bytes whole) now ≡ line_of start pixels
 unfolding line_of
 line_none l whole start [] [] now h none room e = ap (things (lent l.bytes whole)) e
 line_none l whole start [] (n ∷ was) now h none room e = absurd (omega arith)
@@ -93,10 +94,10 @@ noted_line l whole start pixels [] n1 n2 n3 n4 n5 was pos room a b c d e =
     ∙ ap (λ ts. line l.bytes ∷ ts) (append_assoc (code_fault 0 (start + 2) l.blue.first) (code_fault 1 (start + 2) l.green.first) (code_fault 2 (start + 2) l.red.first)))
     ∙ sym (line_is l start pixels was pos)
 
-pub more_than : (bytes : Lent) (was now : List Note) (count start : ℕ) → 4096 < count → now ≡ was ++ LongLine start ∷ []
+pub more_than : (bytes : Lent) (was now : List Note) (count start : ℕ) → 4096 < count → now ≡ was ++ FaultNoted (LongLine start) ∷ []
     → things bytes now ≡ things bytes was ++ unless (nat_le count 4096) (long_line start)
 more_than bytes was now count start lt e =
-    ap (things bytes) e ∙ map-append (noted bytes) was (LongLine start ∷ [])
+    ap (things bytes) e ∙ map-append (noted bytes) was (FaultNoted (LongLine start) ∷ [])
     ∙ ap (λ p. things bytes was ++ unless p (long_line start)) (sym (lt-leb count 4096 lt))
 
 pub no_more : (ts : List Thing) (count start : ℕ) → count ≤ 4096 → ts ≡ ts ++ unless (nat_le count 4096) (long_line start)

@@ -10,10 +10,10 @@ use Rattle.island_pack.specs.Nibbles.{nibble_of, nibbles_of, sync_values}
 use Rattle.island_pack.specs.declared.packet.PacketVerdicts.{PacketVerdicts}
 use Rattle.tmds_word.specs.Column.{Column}
 use Rattle.terc4.specs.Tables.{control_words, value_in, is_control}
-use Rattle.terc4.specs.Columns.{is_video_guard, is_island_guard}
+use Rattle.terc4.specs.Columns.{is_video_guard, is_island_guard, closes}
 use Rattle.terc4.proofs.Entries.{value_below}
 use Rattle.period_grammar.specs.Coding.{first_uncoded}
-use Rattle.period_grammar.specs.Column.{control_bits, value_of, sync_digit, closes}
+use Rattle.period_grammar.specs.Column.{control_bits, value_of, sync_digit}
 use Rattle.period_grammar.specs.Packets.{words_of, packet_in, packet_of, verdicts_of}
 use Rattle.period_grammar.specs.Things.{Thing, short, preamble, empty, long_line, cut, symbols, long_island, broken, guard, Told, all_at, thing_of}
 use Rattle.period_grammar.specs.Cut.{Period, period, periods, Run, columns, lead, value, before_runs, runs}

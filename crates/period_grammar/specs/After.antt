@@ -1,10 +1,10 @@
 -- The last period of columns, and what one column more tells.
 use Rattle.std.specs.Prelude.{ℕ, ◌+◌, Bool, true, false, ◌==◌, List, [], ◌∷◌, ◌++◌, length}
 use Rattle.tmds_word.specs.Column.{Column}
-use Rattle.period_grammar.specs.Column.{value_of, closes}
+use Rattle.period_grammar.specs.Column.{value_of}
 use Rattle.period_grammar.specs.Things.{Thing, run, noise}
 use Rattle.period_grammar.specs.Cut.{Period, period, Run, columns, runs}
-use Rattle.period_grammar.specs.Island.{Payload, parts, payload, holds_packet, packet_things, closing_things, left_at, when}
+use Rattle.period_grammar.specs.Island.{Payload, parts, payload, begins_close, holds_packet, packet_things, closing_things, left_at, when}
 use Rattle.period_grammar.specs.Heard.{other_words, last_run, unless, opening, opened, Kind, video, island, neither, at_close, at_end}
 
 abbrev pub last : List Period → Period
@@ -39,8 +39,8 @@ after_payload c (parts ps t) = settle ps (t ++ c ∷ [])
 -- what a column tells in an island, after what is left of it
 abbrev pub left_gain : ℕ → ℕ → ℕ → Column → List Column → List Thing
 left_gain b s k c [] = []
-left_gain b s k c (x ∷ []) = when (closes x c) (closing_things b s k x c)
-left_gain b s k c (x ∷ (y ∷ [])) = when (closes x y) (noise (s + 2) ∷ [])
+left_gain b s k c (x ∷ []) = when (begins_close (x ∷ (c ∷ []))) (closing_things b s k x c)
+left_gain b s k c (x ∷ (y ∷ [])) = when (begins_close (x ∷ (y ∷ []))) (noise (s + 2) ∷ [])
 left_gain b s k c (x ∷ (y ∷ (z ∷ r))) = []
 
 abbrev pub choose : Bool → List Thing → List Thing → List Thing

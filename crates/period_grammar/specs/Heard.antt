@@ -1,11 +1,11 @@
 -- What is told of a list of columns: control periods (HDMI 1.4, sections 5.1.2 and 5.2.1), their preambles (5.2.1.1),
 -- video periods (5.2.2) and data islands (5.2.3). What is told of columns that are not right is this project's own.
-use Rattle.std.specs.Prelude.{ℕ, ◌+◌, Bool, true, false, ◌&&◌, List, [], ◌∷◌, ◌++◌, map, length, take, Option, Some, None, nat_le}
+use Rattle.std.specs.Prelude.{ℕ, ◌+◌, Bool, true, false, List, [], ◌∷◌, ◌++◌, map, length, take, Option, Some, None, nat_le}
 use Rattle.tmds_word.specs.Column.{Column}
 use Rattle.terc4.specs.Tables.{is_control}
-use Rattle.island_pack.specs.Periods.{has_preamble as announces}
-use Rattle.period_grammar.specs.Column.{value_of, sync_digit, video_words, island_words}
-use Rattle.terc4.specs.Columns.{is_video_guard, is_island_guard}
+use Rattle.island_pack.specs.Periods.{has_preamble as announces, VIDEO_PREAMBLE, ISLAND_PREAMBLE}
+use Rattle.terc4.specs.Columns.{is_video_guard, is_island_guard, video_words, island_words}
+use Rattle.period_grammar.specs.Column.{value_of, sync_digit}
 use Rattle.tmds_code.specs.Coding.{decoded_byte}
 use Rattle.period_grammar.specs.Coding.{first_uncoded}
 use Rattle.period_grammar.specs.Things.{Thing, run, line, word, short, preamble, noise, empty, code, long_line, cut, open_island, broken, Told, at, all_at, thing_of}
@@ -78,8 +78,8 @@ abbrev pub lacks : ℕ → List Column → ℕ → List Thing
 lacks b control bits = unless (nat_le 12 (length control)) (short b) ++ unless (has_preamble bits control) (preamble b)
 
 abbrev pub opening : ℕ → List Column → Column → Column → Kind → List Thing
-opening b control g h video = lacks b control 1 ++ wrong_guards is_video_guard b g h
-opening b control g h island = lacks b control 5 ++ open_island (sync_digit g.blue) (sync_digit h.blue) ∷ wrong_guards is_island_guard b g h
+opening b control g h video = lacks b control VIDEO_PREAMBLE ++ wrong_guards is_video_guard b g h
+opening b control g h island = lacks b control ISLAND_PREAMBLE ++ open_island (sync_digit g.blue) (sync_digit h.blue) ∷ wrong_guards is_island_guard b g h
 opening b control g h neither = noise b ∷ []
 
 -- A line of pixels.

@@ -1,8 +1,8 @@
 -- The columns that a hearing has heard, though it keeps a few numbers.
 use Rattle.std.specs.Prelude.{◌≡◌, ℕ, ◌+◌, List, [], ◌∷◌, length}
 use Rattle.tmds_word.specs.Column.{Column}
-use Rattle.terc4.specs.Columns.{one_if}
-use Rattle.period_grammar.specs.Column.{sync_digit, video_words, island_words}
+use Rattle.terc4.specs.Columns.{video_words, island_words}
+use Rattle.period_grammar.specs.Column.{sync_digit}
 use Rattle.period_grammar.specs.Cut.{Period, period, periods, runs}
 use Rattle.period_grammar.specs.Heard.{opened, video, island, neither, at_close}
 use Rattle.period_grammar.specs.Things.{Thing}
@@ -12,7 +12,7 @@ use Rattle.period_grammar.specs.Lines.{IsLineAfter}
 use Rattle.period_grammar.specs.ControlAfter.{IsControlAfter}
 use Rattle.period_grammar.specs.declared.control.Kept.{Kept}
 use Rattle.period_grammar.specs.declared.phase.Phase.{Phase}
-use Rattle.period_grammar.specs.declared.phase.Phase.TheVariants.{Control, First, Video, Payload, Noise}
+use Rattle.period_grammar.specs.declared.phase.Phase.TheVariants.{Control, First, Video, Island as InIsland, Noise}
 use Rattle.period_grammar.specs.IslandAfter.{IsIslandAfter}
 use Rattle.period_grammar.specs.declared.island.Island.{Island}
 use Rattle.period_grammar.specs.Seen.{Seen}
@@ -22,7 +22,7 @@ abbrev pub IsPhaseAfter : Phase → LineSeen → Island → ℕ → List Column 
 IsPhaseAfter Control line kept n [] = Unit {0}
 IsPhaseAfter (First start v i digit) line kept n (g ∷ []) = (start + 1 ≡ n) × (v ≡ video_words g) × (i ≡ island_words g) × (digit ≡ sync_digit g.blue)
 IsPhaseAfter (Video start) line kept n (g ∷ (h ∷ rest)) = (opened g h ≡ video) × ((start + 2) + length rest ≡ n) × IsLineAfter line rest
-IsPhaseAfter (Payload start) line kept n (g ∷ (h ∷ rest)) = (opened g h ≡ island) × ((start + 2) + length rest ≡ n) × IsIslandAfter kept rest
+IsPhaseAfter (InIsland start) line kept n (g ∷ (h ∷ rest)) = (opened g h ≡ island) × ((start + 2) + length rest ≡ n) × IsIslandAfter kept rest
 IsPhaseAfter Noise line kept n (g ∷ (h ∷ rest)) = opened g h ≡ neither
 IsPhaseAfter _ line kept n _ = ⊥
 

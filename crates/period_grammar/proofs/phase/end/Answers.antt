@@ -16,9 +16,9 @@ returns-in-First-clause-told c x b was e = end_first c.args.kept.now c.args.line
 pub returns-in-Video-clause-told : goal.returns-in-Video-clause-told
 returns-in-Video-clause-told c x b was e = end_video c.args.kept.now c.args.line.now c.args.island.now c.args.n _ _ (pushed (lent c.args.line.now.bytes c.args.island.now.whole) _ _ _ c.requires.room c.push-in-Video.ensures) x b (subst (λ (p : Phase). IsPeriodAfter p c.args.kept.now c.args.line.now c.args.island.now c.args.n x) c.in-Video.is was) e
 
-pub returns-in-Payload-clause-told : goal.returns-in-Payload-clause-told
-returns-in-Payload-clause-told c x b was e =
-    end_payload c.args.kept.now c.args.line.now c.args.island.now c.args.n _ _ _ (c.tell_cut.ensures.told (lent c.args.line.now.bytes c.args.island.now.whole)) c.broken_at.ensures x b (subst (λ (p : Phase). IsPeriodAfter p c.args.kept.now c.args.line.now c.args.island.now c.args.n x) c.in-Payload.is was) e
+pub returns-in-Island-clause-told : goal.returns-in-Island-clause-told
+returns-in-Island-clause-told c x b was e =
+    end_payload c.args.kept.now c.args.line.now c.args.island.now c.args.n _ _ _ (c.tell_cut.ensures.told (lent c.args.line.now.bytes c.args.island.now.whole)) c.broken_at.ensures x b (subst (λ (p : Phase). IsPeriodAfter p c.args.kept.now c.args.line.now c.args.island.now c.args.n x) c.in-Island.is was) e
 
 pub returns-in-Noise-clause-told : goal.returns-in-Noise-clause-told
 returns-in-Noise-clause-told c x b was e = end_noise c.args.kept.now c.args.line.now c.args.island.now c.args.n _ (no_notes (lent c.args.line.now.bytes c.args.island.now.whole) _ c.requires.room) x b (subst (λ (p : Phase). IsPeriodAfter p c.args.kept.now c.args.line.now c.args.island.now c.args.n x) c.in-Noise.is was)

@@ -46,7 +46,7 @@ returns-in-Video-clause-heard c cs was =
     let x = last (periods cs) in
     let d = column_of c.args.column.now in
     let h = c.self.inside in
-    stands_other _ cs d _ w.columns (sym c.control_column.ensures ∙ c.if-not-control_column.true) refl
+    stands_other _ cs d _ w.columns (sym c.is_control_column.ensures ∙ c.if-not-is_control_column.true) refl
     (subst (λ (p : Phase). IsPeriodAfter p h.control c.hear.new.self h.island (h.columns + 1) (grown false d x)) (sym c.in-Video.is)
     (video_stands h.control h.line h.island h.columns d _ _ c.hear.ensures.heard x (subst (λ (p : Phase). IsPeriodAfter p h.control h.line h.island h.columns x) c.in-Video.is w.period)))
 
@@ -56,5 +56,5 @@ returns-in-Video-clause-told c cs was =
     let x = last (periods cs) in
     let d = column_of c.args.column.now in
     let h = c.self.inside in
-    told_other cs d h.columns _ w.columns (sym c.control_column.ensures ∙ c.if-not-control_column.true)
+    told_other cs d h.columns _ w.columns (sym c.is_control_column.ensures ∙ c.if-not-is_control_column.true)
     (on_video h.control h.line h.island h.columns _ d _ (ap (things (lent c.hear.new.self.bytes h.island.whole)) c.clear.ensures) x (start_of cs) (subst (λ (p : Phase). IsPeriodAfter p h.control h.line h.island h.columns x) c.in-Video.is w.period))
