@@ -12,7 +12,7 @@ use Rattle.island_pack.specs.Periods.{ctl, has_preamble as announces}
 use Rattle.period_grammar.specs.Column.{value_of}
 use Rattle.period_grammar.specs.Things.{run}
 use Rattle.period_grammar.specs.Cut.{Run, columns, runs}
-use Rattle.period_grammar.specs.Heard.{last_run, unless, has_preamble}
+use Rattle.period_grammar.specs.Heard.{last_run, if_not, has_preamble}
 use Rattle.period_grammar.specs.After.{change}
 use Rattle.period_grammar.specs.ControlAfter.{kept_run, has_ctl, IsLast, IsControlAfter}
 use Rattle.period_grammar.specs.Noted.{things, Lent}
@@ -107,7 +107,7 @@ change_is u (columns w cs ∷ []) v n e =
     let same = same_run w (length cs) v n e in
     by (w == u) ∙ ap (λ x. cond (x == u) [] (run w (length cs) ∷ [])) same.0 ∙ ap (λ ts. cond (v == u) [] ts) e
   where
-    by : (p : Bool) → unless p (run w (length cs)) ≡ cond p [] (run w (length cs) ∷ [])
+    by : (p : Bool) → if_not p (run w (length cs)) ≡ cond p [] (run w (length cs) ∷ [])
     by true = refl
     by false = refl
 change_is u (r ∷ (s ∷ rs)) v n e = change_is u (s ∷ rs) v n (sym (last_run_more r (s ∷ rs) refl) ∙ e)

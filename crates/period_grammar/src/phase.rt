@@ -4,7 +4,7 @@ ghost use Rattle.tmds_word.specs.Column.{Column, column_of};
 ghost use Rattle.period_grammar.specs.Column.{value_of};
 ghost use Rattle.terc4.specs.Columns.{is_control_column, is_video_guard};
 ghost use Rattle.terc4.specs.Tables.{is_control};
-ghost use Rattle.period_grammar.specs.Cut.{Period};
+ghost use Rattle.period_grammar.specs.Cut.{Stretch};
 ghost use Rattle.period_grammar.specs.Heard.{other_words, other_word};
 ghost use Rattle.period_grammar.specs.After.{gains, grown, gap_of, ends};
 ghost use Rattle.period_grammar.specs.ControlAfter.{IsControlAfter, IsCounted};
@@ -12,7 +12,7 @@ ghost use Rattle.period_grammar.specs.IslandAfter.{IsBlocked, at_some};
 ghost use Rattle.period_grammar.specs.Things.{broken, cut};
 ghost use Rattle.period_grammar.specs.Noted.{things, lent, Lent};
 ghost use Rattle.period_grammar.specs.Seen.{IsPlaced};
-ghost use Rattle.period_grammar.specs.Stands.{IsPeriodAfter, closed, going_on};
+ghost use Rattle.period_grammar.specs.Stands.{IsStretchAfter, closed, going_on};
 
 use crate::column;
 use crate::control::{ISLAND_PREAMBLE, Kept, VIDEO_PREAMBLE};
@@ -62,8 +62,8 @@ pub fn close(
     ensures room { length notes.new ≤ 5 }
     ensures counted { IsCounted result }
     ensures few { result.columns ≤ n }
-    ensures told { (x : Period) (b : ℕ) → IsPeriodAfter phase kept line.now island.now n x → b + length (gap_of x) ≡ n → things (lent line.now.bytes island.now.whole) notes.new ≡ closed value b x }
-    ensures kept { (x : Period) → IsPeriodAfter phase kept line.now island.now n x → IsControlAfter result (going_on x) }
+    ensures told { (x : Stretch) (b : ℕ) → IsStretchAfter phase kept line.now island.now n x → b + length (gap_of x) ≡ n → things (lent line.now.bytes island.now.whole) notes.new ≡ closed value b x }
+    ensures kept { (x : Stretch) → IsStretchAfter phase kept line.now island.now n x → IsControlAfter result (going_on x) }
 {
     match phase {
         Phase::Control => {
@@ -124,8 +124,8 @@ pub fn go_on(
     ensures blocked { IsBlocked island.new }
     ensures room { length notes.new ≤ 8 }
     ensures placed { IsPlaced result line.new.count island.new (n + 1) }
-    ensures told { (x : Period) (b : ℕ) → IsPeriodAfter phase kept.now line.old island.old n x → b + length (gap_of x) ≡ n → things (lent line.new.bytes island.new.whole) notes.new ≡ gains false b n (column_of column.now) x }
-    ensures stands { (x : Period) → IsPeriodAfter phase kept.now line.old island.old n x → IsPeriodAfter result kept.now line.new island.new (n + 1) (grown false (column_of column.now) x) }
+    ensures told { (x : Stretch) (b : ℕ) → IsStretchAfter phase kept.now line.old island.old n x → b + length (gap_of x) ≡ n → things (lent line.new.bytes island.new.whole) notes.new ≡ gains false b n (column_of column.now) x }
+    ensures stands { (x : Stretch) → IsStretchAfter phase kept.now line.old island.old n x → IsStretchAfter result kept.now line.new island.new (n + 1) (grown false (column_of column.now) x) }
 {
     match phase {
         Phase::Control => {
@@ -182,7 +182,7 @@ pub fn end(phase: Phase, n: u32, kept: &Kept, line: &Line, island: &Island, note
     requires room { length notes.old ≤ 0 }
     requires placed { IsPlaced phase line.now.count island.now n }
     ensures room { length notes.new ≤ 8 }
-    ensures told { (x : Period) (b : ℕ) → IsPeriodAfter phase kept.now line.now island.now n x → b + length (gap_of x) ≡ n → things (lent line.now.bytes island.now.whole) notes.new ≡ ends b x }
+    ensures told { (x : Stretch) (b : ℕ) → IsStretchAfter phase kept.now line.now island.now n x → b + length (gap_of x) ≡ n → things (lent line.now.bytes island.now.whole) notes.new ≡ ends b x }
 {
     match phase {
         Phase::Control => kept.tell_run(notes),
