@@ -8,8 +8,8 @@ use Rattle.island_pack.specs.declared.packet.Packet.{Packet as PacketOf}
 use Rattle.island_pack.specs.declared.packet.PacketVerdicts.{PacketVerdicts}
 use Rattle.period_grammar.specs.Packets.{words_of, packet_of, verdicts_of}
 use Rattle.tmds_word.specs.Column.{Column}
-use Rattle.period_grammar.specs.Column.{closing_words, closes, sync_digit}
-use Rattle.terc4.specs.Columns.{is_island_guard}
+use Rattle.period_grammar.specs.Column.{sync_digit}
+use Rattle.terc4.specs.Columns.{is_island_guard, closing_words, closes}
 use Rattle.period_grammar.specs.Noted.{things, Lent}
 use Rattle.period_grammar.specs.declared.notes.Note.{Note}
 use Rattle.period_grammar.specs.declared.notes.Note.TheVariants.{Close, Packet as PacketNote}

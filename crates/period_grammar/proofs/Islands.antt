@@ -1,3 +1,4 @@
+use Rattle.terc4.specs.Columns.{closes}
 -- The columns of an island with one column more.
 use Rattle.std.proofs.Common.{◌≡◌, ℕ, suc, zero, ◌+◌, ◌*◌, ◌<◌, ◌≤◌, Bool, true, false, not, ◌&&◌, List, [], ◌∷◌, ◌++◌, length, take, drop, refl, ap, ap₂, sym, ◌∙◌, append_assoc, arith}
 use Rattle.std.specs.Prelude.{nat_le}
@@ -5,7 +6,6 @@ use Rattle.std.proofs.lemmas.List.{append-nil, length_push, length-drop, take_al
 use Rattle.std.proofs.lemmas.Bool.{leb-true, leb-false, le-leb, lt-leb}
 use Rattle.std.proofs.Math.Bool.{and-false}
 use Rattle.tmds_word.specs.Column.{Column}
-use Rattle.period_grammar.specs.Column.{closes}
 use Rattle.period_grammar.specs.Things.{Thing, Told, all_at, noise}
 use Rattle.period_grammar.specs.Island.{Payload, parts, begins_close, holds_packet, with_packet, split_by, split, payload, packet_things, closing_things, in_packets, in_closing, in_left, left_at, in_island, when}
 use Rattle.period_grammar.specs.After.{left_gain, island_gain, payload_gain, choose, settle_by, settle, after_payload}

@@ -2,8 +2,8 @@
 -- (HDMI 1.4, sections 5.2.3 and 5.2.3.3). What is told of packets and guards that are not right is this project's own.
 use Rattle.std.specs.Prelude.{ℕ, zero, suc, ◌+◌, ◌*◌, Bool, true, false, not, ◌==◌, ◌&&◌, List, [], ◌∷◌, ◌++◌, length, take, drop, nat_le}
 use Rattle.tmds_word.specs.Column.{Column}
-use Rattle.period_grammar.specs.Column.{closes, sync_digit}
-use Rattle.terc4.specs.Columns.{is_island_guard}
+use Rattle.terc4.specs.Columns.{is_island_guard, closes}
+use Rattle.period_grammar.specs.Column.{sync_digit}
 use Rattle.bch_block.specs.declared.Verdict.{Verdict}
 use Rattle.bch_block.specs.declared.Verdict.TheVariants.{Clean, Mended, Lost}
 use Rattle.island_pack.specs.declared.packet.PacketVerdicts.{PacketVerdicts}
@@ -14,6 +14,7 @@ use Rattle.period_grammar.specs.Things.{Thing, packet, symbols, mended, lost, cl
 pub data Payload : Type 0 where
   parts : List (List Column) → List Column → Payload
 
+-- whether columns begin with a closing guard: the one test by which a closing is decided
 abbrev pub begins_close : List Column → Bool
 begins_close [] = false
 begins_close (c ∷ []) = false

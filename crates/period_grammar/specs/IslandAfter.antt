@@ -2,8 +2,8 @@
 use Rattle.std.specs.Prelude.{◌≡◌, ℕ, ◌<◌, true, false, List, [], ◌∷◌, length, map, take, Option, Some, None}
 use Rattle.period_grammar.specs.Things.{Thing}
 use Rattle.tmds_word.specs.Column.{Column}
-use Rattle.period_grammar.specs.Column.{closing_words, closes, sync_digit}
-use Rattle.terc4.specs.Columns.{is_island_guard}
+use Rattle.terc4.specs.Columns.{is_island_guard, closing_words}
+use Rattle.period_grammar.specs.Column.{sync_digit}
 use Rattle.period_grammar.specs.Island.{Payload, parts, payload, begins_close}
 use Rattle.period_grammar.specs.Packets.{words_of}
 use Rattle.period_grammar.specs.declared.island.Left.{Left}
@@ -14,8 +14,8 @@ abbrev pub IsLeftAfter : Left → ℕ → List (List ℕ) → List Column → Ty
 IsLeftAfter Packet within block t = (begins_close t ≡ false) × (within ≡ length t) × (take within block ≡ map words_of t) × (within ≡ 1 → ⊥)
 IsLeftAfter (First words digit guard) within block (c ∷ []) =
     (words ≡ closing_words c) × (digit ≡ sync_digit c.blue) × (guard ≡ is_island_guard c) × (take 1 block ≡ words_of c ∷ [])
-IsLeftAfter Closed within block (c ∷ (d ∷ [])) = closes c d ≡ true
-IsLeftAfter Over within block (c ∷ (d ∷ (e ∷ r))) = closes c d ≡ true
+IsLeftAfter Closed within block (c ∷ (d ∷ [])) = begins_close (c ∷ (d ∷ [])) ≡ true
+IsLeftAfter Over within block (c ∷ (d ∷ (e ∷ r))) = begins_close (c ∷ (d ∷ (e ∷ r))) ≡ true
 IsLeftAfter (First words digit guard) within block _ = ⊥
 IsLeftAfter Closed within block _ = ⊥
 IsLeftAfter Over within block _ = ⊥

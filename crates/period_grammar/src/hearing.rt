@@ -13,11 +13,12 @@ use crate::island::{Island, Whole};
 use crate::line::Line;
 use crate::notes::{Note, Notes};
 use crate::phase::{Phase, close, end, go_on, tell_words};
-use crate::told::{Fault, Told};
+use crate::told::Told;
 use island_pack::PacketRef;
 use outside_io::NoMemory;
 use std::alloc::Global;
 use std::marker::Model;
+use terc4::is_control_column;
 use tmds_word::Word;
 
 /// Hears the columns of a link one after another. It keeps a few numbers of them, the bytes of one line, and one
@@ -48,17 +49,16 @@ impl Hearing {
     pub fn open(alloc: Global) -> Result<Hearing, NoMemory>
         ensures open { IfOk result (λ h. h.finished ≡ false) }
         ensures heard { IfOk result (λ h. StandsFor h []) }
+        ensures quiet { IfOk result (λ h. last_told h ≡ []) }
     {
         let line = Line::open(alloc)?;
-        let island = Island::new();
-        let notes = Notes::open(alloc)?;
         Ok(Hearing {
             columns: 0,
             phase: Phase::Control,
             control: Kept::new(),
             line,
-            island,
-            notes,
+            island: Island::new(),
+            notes: Notes::new(),
             finished: false,
         })
     }
@@ -79,7 +79,7 @@ impl Hearing {
                 self.columns += 1;
                 self.control.hear_again();
             }
-            Phase::Video { .. } if !column::control_column(column) => {
+            Phase::Video { .. } if !is_control_column(column) => {
                 self.columns += 1;
                 self.line.hear(column);
             }
@@ -99,7 +99,7 @@ impl Hearing {
         ensures told { (cs : List Column) → StandsFor self.old cs → heard_so_far (cs ++ column_of column.now ∷ []) ≡ heard_so_far cs ++ all_at (length cs) (last_told self.new) }
     {
         let n = self.columns;
-        if column::control_column(column) {
+        if is_control_column(column) {
             let value = column::column_value(column);
             let mut kept = close(
                 self.phase,
@@ -152,7 +152,7 @@ impl Hearing {
         ensures few { result ≤ 8 }
         ensures count { result ≡ length self.now.notes }
     {
-        self.notes.len() as u8
+        self.notes.len()
     }
 
     /// Lends thing `i` of those that the last call told.
@@ -160,7 +160,7 @@ impl Hearing {
         requires { i < length self.now.notes }
         ensures { slice_get (last_told self.now) i ≡ Some (lent_thing result) }
     {
-        let note = self.notes.get(usize::from(i));
+        let note = self.notes.get(i);
         lend(note, self.line.bytes(), self.island.whole())
     }
 }
@@ -171,14 +171,6 @@ fn lend<'a>(note: Note, bytes: &'a [u8], whole: &'a Whole) -> Told<'a>
     match note {
         Note::Run { value, count } => Told::Run { value, count },
         Note::Line => Told::Line { pixels: bytes },
-        Note::Word { lane, column } => Told::Fault(Fault::Word { lane, column }),
-        Note::Short { column } => Told::Fault(Fault::Short { column }),
-        Note::Preamble { column } => Told::Fault(Fault::Preamble { column }),
-        Note::Noise { column } => Told::Fault(Fault::Noise { column }),
-        Note::Empty { column } => Told::Fault(Fault::Empty { column }),
-        Note::Code { lane, column } => Told::Fault(Fault::Code { lane, column }),
-        Note::LongLine { column } => Told::Fault(Fault::LongLine { column }),
-        Note::Cut { column } => Told::Cut { column },
         Note::Open { first, second } => Told::Open {
             sync: [first, second],
         },
@@ -186,14 +178,10 @@ fn lend<'a>(note: Note, bytes: &'a [u8], whole: &'a Whole) -> Told<'a>
             packet: PacketRef::new(&whole.packet, &whole.verdicts),
             column,
         },
-        Note::Symbols { column, count } => Told::Fault(Fault::Symbols { column, count }),
-        Note::Mended { column, block, bit } => Told::Fault(Fault::Mended { column, block, bit }),
-        Note::Lost { column, block } => Told::Fault(Fault::Lost { column, block }),
         Note::Close { first, second } => Told::Close {
             sync: [first, second],
         },
-        Note::LongIsland { column } => Told::Fault(Fault::LongIsland { column }),
-        Note::Broken { column } => Told::Fault(Fault::Broken { column }),
-        Note::Guard { column } => Told::Fault(Fault::Guard { column }),
+        Note::Fault(fault) => Told::Fault(fault),
+        Note::Cut { column } => Told::Cut { column },
     }
 }

@@ -12,9 +12,10 @@ ghost use Rattle.period_grammar.specs.Noted.{things, Lent, lent};
 
 use crate::column;
 use crate::notes::{Note, Notes};
+use crate::told::Fault;
 use bch_block::Verdict;
 use island_pack::{Packet, PacketVerdicts, take};
-use terc4::terc;
+use terc4::{closing_guard_words, is_island_guard, terc};
 use tmds_word::Word;
 
 /// What the columns after the last whole packet are.
@@ -52,12 +53,12 @@ fn tell_block(at: u32, block: u8, verdict: Verdict, notes: &mut Notes)
 {
     match verdict {
         Verdict::Clean => {}
-        Verdict::Mended(bit) => notes.push(Note::Mended {
+        Verdict::Mended(bit) => notes.push(Note::Fault(Fault::Mended {
             column: at,
             block,
             bit,
-        }),
-        Verdict::Lost => notes.push(Note::Lost { column: at, block }),
+        })),
+        Verdict::Lost => notes.push(Note::Fault(Fault::Lost { column: at, block })),
     }
 }
 
@@ -68,7 +69,7 @@ fn tell_symbols(at: u32, count: u8, notes: &mut Notes)
     ensures told { (l : Lent) → things l notes.new ≡ things l notes.old ++ if_so (not (count == 0)) (symbols at count) }
 {
     if count != 0 {
-        notes.push(Note::Symbols { column: at, count });
+        notes.push(Note::Fault(Fault::Symbols { column: at, count }));
     }
 }
 
@@ -79,7 +80,7 @@ fn tell_long(at: u32, packets: u32, notes: &mut Notes)
     ensures told { (l : Lent) → things l notes.new ≡ things l notes.old ++ if_so (packets == 18) (long_island at) }
 {
     if packets == 18 {
-        notes.push(Note::LongIsland { column: at });
+        notes.push(Note::Fault(Fault::LongIsland { column: at }));
     }
 }
 
@@ -125,7 +126,7 @@ pub fn tell_guard(is_guard: bool, at: u32, notes: &mut Notes)
     ensures told { (l : Lent) → things l notes.new ≡ things l notes.old ++ if_so (not is_guard) (guard at) }
 {
     if !is_guard {
-        notes.push(Note::Guard { column: at });
+        notes.push(Note::Fault(Fault::Guard { column: at }));
     }
 }
 
@@ -135,7 +136,7 @@ fn tell_empty(none: bool, start: u32, notes: &mut Notes)
     ensures told { (l : Lent) → things l notes.new ≡ things l notes.old ++ if_so none (empty start) }
 {
     if none {
-        notes.push(Note::Empty { column: start });
+        notes.push(Note::Fault(Fault::Empty { column: start }));
     }
 }
 
@@ -159,7 +160,7 @@ fn tell_close(
         second: column::digit(column::blue(column)),
     });
     tell_guard(guard, at, notes);
-    tell_guard(column::island_column(column), at + 1, notes);
+    tell_guard(is_island_guard(column), at + 1, notes);
     tell_empty(packets == 0, start, notes);
 }
 
@@ -212,9 +213,9 @@ impl Island {
         put_column(&mut self.block, 0, column);
         self.within = 1;
         self.left = Left::First {
-            words: column::closing_count(column),
+            words: closing_guard_words(column),
             digit: column::digit(column::blue(column)),
-            guard: column::island_column(column),
+            guard: is_island_guard(column),
         };
     }
 
@@ -251,7 +252,7 @@ impl Island {
                 digit,
                 guard,
             } => {
-                if column::at_least(3, words, column::closing_count(column)) {
+                if column::at_least(3, words, closing_guard_words(column)) {
                     tell_close(start, at, self.packets, digit, guard, column, notes);
                     self.left = Left::Closed;
                     return;
@@ -261,7 +262,7 @@ impl Island {
                 self.left = Left::Packet;
             }
             Left::Closed => {
-                notes.push(Note::Noise { column: at + 2 });
+                notes.push(Note::Fault(Fault::Noise { column: at + 2 }));
                 self.left = Left::Over;
             }
             Left::Over => {}

@@ -1,6 +1,9 @@
 //! Each of the 1,024 words, and columns of each kind, compared with values that were computed apart
 //! from this crate.
-use crate::{ColumnKind, column_kind, control, control_of, nibble, terc};
+use crate::{
+    ColumnKind, closing_guard_words, column_kind, control, control_of, island_guard_words, nibble,
+    terc, video_guard_words,
+};
 use std::test::*;
 use tmds_word::Word;
 

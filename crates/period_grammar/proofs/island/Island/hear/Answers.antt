@@ -44,20 +44,20 @@ returns-else-self-eq31-clause-heard c rest was =
 pub returns-then-at_least-clause-told : goal.returns-then-at_least-clause-told
 returns-then-at_least-clause-told c rest bytes was =
     closing_told c.args.self.now.packets c.args.start c.args.self.now.within ((c.args.start + 2) + 32 * c.args.self.now.packets) _ _ _ c.args.self.now.block (column_of c.args.column.now) _ (payload rest) (subst (λ (l : Left). IsPartsAfter l c.args.self.now.packets c.args.self.now.within c.args.self.now.block (payload rest)) c.in-First.is was.stands)
-    (ap (λ n. nat_le 3 (c.in-First.words + n)) (sym c.closing_count.ensures.count) ∙ sym c.at_least.ensures ∙ c.if-at_least.true) refl
+    (ap (λ n. nat_le 3 (c.in-First.words + n)) (sym c.closing_guard_words.ensures.count) ∙ sym c.at_least.ensures ∙ c.if-at_least.true) refl
     (λ g e f. c.tell_close.ensures.told (lent bytes c.args.self.now.whole) g e f)
 
 pub returns-then-at_least-clause-heard : goal.returns-then-at_least-clause-heard
 returns-then-at_least-clause-heard c rest was =
-    after_rest _ rest (column_of c.args.column.now) (closing_stands c.args.self.now.packets c.args.self.now.within _ _ _ c.args.self.now.block c.args.self.now.block (column_of c.args.column.now) (payload rest) (subst (λ (l : Left). IsPartsAfter l c.args.self.now.packets c.args.self.now.within c.args.self.now.block (payload rest)) c.in-First.is was.stands) (ap (λ n. nat_le 3 (c.in-First.words + n)) (sym c.closing_count.ensures.count) ∙ sym c.at_least.ensures ∙ c.if-at_least.true))
+    after_rest _ rest (column_of c.args.column.now) (closing_stands c.args.self.now.packets c.args.self.now.within _ _ _ c.args.self.now.block c.args.self.now.block (column_of c.args.column.now) (payload rest) (subst (λ (l : Left). IsPartsAfter l c.args.self.now.packets c.args.self.now.within c.args.self.now.block (payload rest)) c.in-First.is was.stands) (ap (λ n. nat_le 3 (c.in-First.words + n)) (sym c.closing_guard_words.ensures.count) ∙ sym c.at_least.ensures ∙ c.if-at_least.true))
 
 pub returns-else-at_least-clause-told : goal.returns-else-at_least-clause-told
 returns-else-at_least-clause-told c rest bytes was =
-    no_notes _ _ c.requires.room ∙ second_told c.args.self.now.packets c.args.start c.args.self.now.within _ _ _ c.args.self.now.block (column_of c.args.column.now) (payload rest) (subst (λ (l : Left). IsPartsAfter l c.args.self.now.packets c.args.self.now.within c.args.self.now.block (payload rest)) c.in-First.is was.stands) (ap (λ n. nat_le 3 (c.in-First.words + n)) (sym c.closing_count.ensures.count) ∙ sym c.at_least.ensures ∙ c.if-at_least.false)
+    no_notes _ _ c.requires.room ∙ second_told c.args.self.now.packets c.args.start c.args.self.now.within _ _ _ c.args.self.now.block (column_of c.args.column.now) (payload rest) (subst (λ (l : Left). IsPartsAfter l c.args.self.now.packets c.args.self.now.within c.args.self.now.block (payload rest)) c.in-First.is was.stands) (ap (λ n. nat_le 3 (c.in-First.words + n)) (sym c.closing_guard_words.ensures.count) ∙ sym c.at_least.ensures ∙ c.if-at_least.false)
 
 pub returns-else-at_least-clause-heard : goal.returns-else-at_least-clause-heard
 returns-else-at_least-clause-heard c rest was =
-    after_rest _ rest (column_of c.args.column.now) (second_stands c.args.self.now.packets c.args.self.now.within _ _ _ c.args.self.now.block _ (column_of c.args.column.now) (payload rest) (subst (λ (l : Left). IsPartsAfter l c.args.self.now.packets c.args.self.now.within c.args.self.now.block (payload rest)) c.in-First.is was.stands) (ap (λ n. nat_le 3 (c.in-First.words + n)) (sym c.closing_count.ensures.count) ∙ sym c.at_least.ensures ∙ c.if-at_least.false) c.put_column-in-First.ensures.put)
+    after_rest _ rest (column_of c.args.column.now) (second_stands c.args.self.now.packets c.args.self.now.within _ _ _ c.args.self.now.block _ (column_of c.args.column.now) (payload rest) (subst (λ (l : Left). IsPartsAfter l c.args.self.now.packets c.args.self.now.within c.args.self.now.block (payload rest)) c.in-First.is was.stands) (ap (λ n. nat_le 3 (c.in-First.words + n)) (sym c.closing_guard_words.ensures.count) ∙ sym c.at_least.ensures ∙ c.if-at_least.false) c.put_column-in-First.ensures.put)
 
 pub returns-in-Closed-clause-told : goal.returns-in-Closed-clause-told
 returns-in-Closed-clause-told c rest bytes was =
