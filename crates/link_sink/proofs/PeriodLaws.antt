@@ -1,19 +1,17 @@
 -- What is told of the columns that came of one period, and of periods one after another.
-use Rattle.std.proofs.Common.{◌≡◌, ℕ, zero, suc, ◌+◌, ◌-◌, ◌*◌, ◌/◌, ◌≤◌, true, List, [], ◌∷◌, ◌++◌, length, take, replicate, refl, ap, ap₂, sym, ◌∙◌, subst, arith, length-append}
+use Rattle.std.proofs.Common.{◌≡◌, ℕ, suc, ◌+◌, ◌-◌, ◌*◌, ◌/◌, ◌≤◌, List, [], ◌∷◌, ◌++◌, length, take, replicate, refl, ap, ap₂, sym, ◌∙◌, subst, arith, length-append}
 use Rattle.std.proofs.lemmas.List.{append-nil, length-replicate}
 use Rattle.tmds_word.specs.Column.{Column}
-use Rattle.terc4.specs.Columns.{is_control_column}
-use Rattle.island_pack.specs.Periods.{ControlRun, DataIsland, Period, control, video, island, values_of, period_columns}
-use Rattle.island_pack.specs.Conforming.{is_control_period, is_video_period, is_data_island}
-use Rattle.island_pack.specs.Kinds.{control_column, pixel_column, packet_column, guard_pair, kinds_in, kinds_of, kind_at, first_guard}
-use Rattle.island_pack.specs.Sparse.{unlike_at, IsSparse}
+use Rattle.island_pack.specs.Periods.{ControlRun, Period, control, video, island, values_of, period_columns}
+use Rattle.island_pack.specs.Kinds.{control_column, pixel_column, packet_column, guard_pair, kinds_in, kinds_of}
+use Rattle.island_pack.specs.Sparse.{unlike_at}
 use Rattle.period_grammar.specs.Things.{Thing}
 use Rattle.link_sink.specs.Account.{control_row, period_row, account_from}
 use Rattle.link_sink.specs.PeriodLaws.{tells, PeriodCame, AreControl, ControlLaw, TellRow, VideoLaw, IslandLaw, JoiningLaw}
 use Rattle.link_sink.proofs.Cutting.{hear_control}
 use Rattle.link_sink.proofs.Conformed.{is_control_of, is_video_of, is_island_of, Conforms, conforming, HasValues}
 use Rattle.link_sink.proofs.ControlTold.{control_row_told}
-use Rattle.link_sink.proofs.Between.{IsControlPeriod, IsGap, period_law}
+use Rattle.link_sink.proofs.Between.{period_law}
 use Rattle.link_sink.proofs.Joining.{ArrivesPeriod, controls, Arrives, nothing, more, IsBetween, inner_gap, is_tail, follows_long, sized, taken_row, control_period, joined}
 use Rattle.link_sink.proofs.SpelledWords.{period_size}
 use Rattle.link_sink.proofs.Arrival.{fits, arriving}
