@@ -222,7 +222,7 @@ arriving_island x xs v back h ih rs f =
     subst (λ rs. Arrives (island x ∷ xs) (frame x v ++ back) rs) (sym e)
     (more (island x) xs (frame x v) came back z.back (packets x a.g a.h z.g z.h v p.qq (record { opening = a.are; closing = z.are }) p.are) (ih z.back z.fits_back))
 
-arriving : (xs : List Period) (sent received : List Column) → HasValues xs → Spells xs sent → Fits (kinds_of xs) sent received → Arrives xs sent received
+pub arriving : (xs : List Period) (sent received : List Column) → HasValues xs → Spells xs sent → Fits (kinds_of xs) sent received → Arrives xs sent received
 unfolding HasValues kinds_of kinds_in
 arriving [] sent received small h f = subst (λ ss. Arrives [] ss received) (sym h) (none received (subst (λ ss. Fits [] ss received) h f))
 arriving (control runs ∷ xs) sent received small h f =

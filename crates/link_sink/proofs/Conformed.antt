@@ -54,17 +54,17 @@ values_small (r ∷ rs) h =
     list_all-append (λ v. nat_lt v 64) (replicate r.count r.value) (values_of rs)
     ∙ and_both _ _ (small_replicate r.count r.value (and-left _ _ (and-left _ _ h))) (values_small rs (and-right _ _ h))
 
-is_control_of : (runs : List ControlRun) → is_control_period runs ≡ true → IsControl (values_of runs)
+pub is_control_of : (runs : List ControlRun) → is_control_period runs ≡ true → IsControl (values_of runs)
 unfolding is_control_period
 is_control_of runs h = record { long = leb-true _ _ (and-right _ _ h); small = values_small runs (and-left _ _ h) }
 
-is_video_of : (bytes : List ℕ) → is_video_period bytes ≡ true → IsVideo bytes
+pub is_video_of : (bytes : List ℕ) → is_video_period bytes ≡ true → IsVideo bytes
 unfolding is_video_period
 is_video_of bytes h =
     let rest = and-right (length bytes % 3 == 0) _ (and-right (are_bytes bytes) _ h) in
     record { small = and-left _ _ h; some = leb-true _ _ (and-left _ _ rest); few = leb-true _ _ (and-right _ _ rest) }
 
-is_island_of : (x : DataIsland) → is_data_island x ≡ true → IsIsland x
+pub is_island_of : (x : DataIsland) → is_data_island x ≡ true → IsIsland x
 unfolding is_data_island
 is_island_of x h =
     let pairs = and-left _ _ h in

@@ -121,7 +121,7 @@ take_control zero cs h = refl
 take_control (suc k) [] h = refl
 take_control (suc k) (c ∷ cs) h = and_both _ _ (and-left _ _ h) (take_control k cs (and-right _ _ h))
 
-taken_row : (j m : ℕ) (cs : List Column) → AllControl cs → hear j (periods (take m cs)) ≡ control_row j (take m cs)
+pub taken_row : (j m : ℕ) (cs : List Column) → AllControl cs → hear j (periods (take m cs)) ≡ control_row j (take m cs)
 taken_row j m cs all = hear_control j (take m cs) (take_control m cs all) ∙ control_row_told j (take m cs)
 
 -- within the first control columns
@@ -139,7 +139,7 @@ first_control [] rs all some = absurd (omega arith)
 first_control (c ∷ cs) rs all some = and-left _ _ all
 
 -- a control period's row and what follows it
-control_period : (j m : ℕ) (before : List Column) (runs : List ControlRun) (rest : List Period) (own cs ss rs : List Column) → IsSized (control runs) own cs
+pub control_period : (j m : ℕ) (before : List Column) (runs : List ControlRun) (rest : List Period) (own cs ss rs : List Column) → IsSized (control runs) own cs
     → account_from j m before (control runs ∷ rest) (own ++ ss) (cs ++ rs) ≡ control_row j (take m cs) ++ account_from (j + length cs) (m - length cs) cs rest ss rs
 unfolding period_row
 control_period j m before runs rest own cs ss rs h =

@@ -19,6 +19,7 @@ pub mod Spelled
 pub mod Lanes
 pub mod Framing
 pub mod CutPeriods
+pub mod PeriodLaws
 pub mod Ends
 pub mod Decided
 pub mod Until

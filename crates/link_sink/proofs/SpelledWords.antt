@@ -2,6 +2,7 @@
 use Rattle.std.proofs.Common.{◌≡◌, ℕ, suc, ◌*◌, ◌<◌, true, false, Bool, List, [], ◌∷◌, length, map, get_or, refl, ap, ◌∙◌, arith, length-append}
 use Rattle.std.specs.Prelude.{nat_lt, ℤ}
 use Rattle.std.proofs.lemmas.Bool.{ltb-true}
+use Rattle.std.proofs.lemmas.List.{length-map}
 use Rattle.tmds_word.specs.Bits.{word_bits, turns}
 use Rattle.tmds_word.specs.Column.{Column}
 use Rattle.tmds_word.proofs.Below.{and-left, and-right}
@@ -9,12 +10,12 @@ use Rattle.tmds_code.specs.Coding.{Coded, sign_of, decoded_byte}
 use Rattle.tmds_code.specs.Lanes.{IsLane}
 use Rattle.tmds_code.proofs.TableWords.{decoded_coded, coded_turns}
 use Rattle.terc4.proofs.Words.{few_turns}
-use Rattle.island_pack.specs.Periods.{Pixel, pixels_of}
+use Rattle.island_pack.specs.Periods.{Pixel, Period, control, video, island, values_of, pixels_of, period_columns}
 use Rattle.island_pack.specs.Conforming.{are_bytes}
-use Rattle.island_pack.specs.Spelling.{SpellsPackets}
+use Rattle.island_pack.specs.Spelling.{control_column, guard_columns, SpellsPackets, SpellsPeriod}
 use Rattle.island_pack.specs.declared.packet.Packet.{Packet}
 use Rattle.link_sink.proofs.Rows.{and_both}
-use Rattle.link_sink.proofs.VideoTold.{IsWord}
+use Rattle.link_sink.proofs.VideoTold.{IsWord, pixel_count}
 use Rattle.link_sink.proofs.IslandColumns.{packet_sent}
 
 -- Words.
@@ -77,4 +78,21 @@ packets_size first (p ∷ ps) pp h =
     let rest = packets_size false ps h.1 h.4 in
     let all = ap length h.2 in
     let both = length-append h.0 h.1 in
+    omega arith
+
+-- as many columns as the period has
+pub period_size : (x : Period) (own : List Column) → SpellsPeriod x own → length own ≡ period_columns x
+unfolding period_columns
+period_size (control runs) own h = ap length h ∙ length-map (values_of runs) control_column
+period_size (video bytes) own h =
+    let all = ap length h.1 in
+    let lane = h.2.blue.same_length in
+    let ws = length-map h.0 (λ c. c.blue) in
+    let bs = length-map (pixels_of bytes) (λ p. p.blue) in
+    let n = pixel_count bytes in
+    omega arith
+period_size (island x) own h =
+    let all = ap length h.1 in
+    let n = packets_size true x.packets h.0 h.2 in
+    let both = length-append h.0 (guard_columns x.closing) in
     omega arith

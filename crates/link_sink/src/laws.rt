@@ -1,5 +1,6 @@
 //! What holds of columns that came with sparse damage. The functions do nothing: what they ensure are the laws.
 ghost use Rattle.link_sink.specs.Laws.{FramingStands, PeriodsStand, LinkLaw, EdgesEnd, FirstEnds, FirstUntil, TapAccounted, PayloadAccounted, OneWrongBit, HasExample, HasPayloadExample};
+ghost use Rattle.link_sink.specs.PeriodLaws.{ControlLaw, VideoLaw, IslandLaw, JoiningLaw};
 
 /// The control columns that came are those of the control periods, wherever damage lies.
 pub fn framing_stands()
@@ -14,6 +15,27 @@ pub fn periods_stand()
 /// What is told of the columns from twelve before the end of a control period on is the account, wherever damage lies.
 pub fn link_law()
     ensures { LinkLaw }
+{}
+
+/// Of a control period control columns come, and they tell the runs of their values and their words that are no control
+/// words.
+pub fn control_law()
+    ensures { ControlLaw }
+{}
+
+/// What is told of the columns that came of a video data period, after control columns and before one, is its row.
+pub fn video_law()
+    ensures { VideoLaw }
+{}
+
+/// What is told of the columns that came of a data island, after control columns and before one, is its row.
+pub fn island_law()
+    ensures { IslandLaw }
+{}
+
+/// What is told of conforming periods is, period after period, the row of each.
+pub fn joining_law()
+    ensures { JoiningLaw }
 {}
 
 /// Where damage lies in pixels and packets alone, each edge in a part of a lane's bits is the end of a control period.
