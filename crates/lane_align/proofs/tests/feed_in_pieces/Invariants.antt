@@ -1,4 +1,4 @@
-use Rattle.std.proofs.Common.{◌≡◌, ◌+◌, ◌-◌, ◌≤◌, length}
+use Rattle.std.proofs.Common.{◌≡◌, ◌-◌, ◌≤◌, length}
 use Rattle.lane_align.specs.Aligners.{fed_of}
 use Rattle.lane_align.proofs.tests.feed_in_pieces.Given as goal
 
