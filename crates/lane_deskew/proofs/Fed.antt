@@ -78,7 +78,7 @@ module _ (xs ys zs : List Bool) (p : Past) (cut : AreCutFrom xs ys zs p) where
     first_moved (IsEdge xs) (IsEdge ys) (IsEdge zs) (edge_of p.first) (edge_of p.second) (edge_of p.third) _ _ _ (λ n. back (one n)) (λ n. back (two n)) (λ n. back (three n)),
   )
 
-from_cut : (xs : List Bool) (lane : Pushed) (e : ℕ) (o : Option ℕ) → MatchOption o ((p : ℕ) → IsRun xs p → ⊥) (λ p. IsLock xs p × (lane.lock ≡ p)) → lane.words ≡ lane_words o xs
+pub from_cut : (xs : List Bool) (lane : Pushed) (e : ℕ) (o : Option ℕ) → MatchOption o ((p : ℕ) → IsRun xs p → ⊥) (λ p. IsLock xs p × (lane.lock ≡ p)) → lane.words ≡ lane_words o xs
     → IsEdge xs e → from_edge lane e ≡ words_from xs (e - 120)
 unfolding lane_words
 from_cut xs lane e None none words edge = absurd (none edge.lock edge.is_lock.run)

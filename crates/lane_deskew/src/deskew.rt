@@ -14,6 +14,9 @@ use crate::stretch::first_triple;
 use outside_io::NoMemory;
 use std::alloc::Global;
 
+#[cfg(test)]
+mod tests;
+
 /// How many control words stand before an edge.
 const RUN: usize = 12;
 

@@ -1,8 +1,8 @@
 //! Three lanes aligned side by side, each by a worker of its own.
 #![tactic(auto)]
 
-ghost use Rattle.std.specs.Prelude.{ℕ, ◌≡◌, ◌<◌, ◌≤◌, List, Bool, IfOk, MatchOption, slice_index};
-ghost use Rattle.lane_align.specs.Lanes.{IsRun, IsLock};
+ghost use Rattle.std.specs.Prelude.{◌≡◌, ◌<◌, List, Bool, IfOk, slice_index};
+ghost use Rattle.lane_align.specs.Lanes.{IsLockOf};
 ghost use Rattle.lane_align.specs.Aligners.{StandsFor, lock_of};
 ghost use Rattle.lane_team.specs.Sides.{IsFresh, AreFresh, CanTake, HasTaken, side_at};
 
@@ -186,7 +186,7 @@ impl Team {
     pub fn locked(&self, lane: u8) -> Option<u64>
         requires { lane < 3 }
         ensures lock { result ≡ lock_of (side_at self.now lane).aligner }
-        ensures found { (xs : List Bool) → StandsFor (side_at self.now lane).aligner xs → MatchOption result ((p : ℕ) → IsRun xs p → ⊥) (λ p. IsLock xs p) }
+        ensures found { (xs : List Bool) → StandsFor (side_at self.now lane).aligner xs → IsLockOf xs result }
     {
         match lane {
             0 => self.first.aligner.locked(),
