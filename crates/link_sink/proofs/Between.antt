@@ -8,8 +8,8 @@ use Rattle.tmds_word.proofs.Below.{and-left, and-right}
 use Rattle.terc4.specs.Columns.{is_control_column}
 use Rattle.island_pack.specs.Periods.{Period, period_columns}
 use Rattle.period_grammar.specs.Things.{Thing, short as short_before}
-use Rattle.period_grammar.specs.Cut.{Period as Cut, period, before as before_period, periods}
-use Rattle.period_grammar.specs.Heard.{unless, lacks, at_close, at_end}
+use Rattle.period_grammar.specs.Cut.{before as before_period, Stretch as Cut, stretch, stretches}
+use Rattle.period_grammar.specs.Heard.{lacks, at_close, at_end, if_not}
 use Rattle.link_sink.proofs.Cutting.{AllControl, NoneControl, begins, begins_control, cut_both, hear, gap_things, control_told, hear_control, hear_last, hear_on}
 use Rattle.link_sink.proofs.Rows.{and_both}
 use Rattle.link_sink.specs.Account.{control_row, wrong_preamble, period_row}
@@ -21,26 +21,26 @@ drop_seam xs ys n e = ap (λ k. drop k (xs ++ ys)) (sym e) ∙ drop-append_seam 
 pub take_seam : (xs ys : List Column) (n : ℕ) → length xs ≡ n → take n (xs ++ ys) ≡ xs
 take_seam xs ys n e = ap (λ k. take k (xs ++ ys)) (sym e) ∙ take-append_seam xs ys
 
-none_begins : begins (periods []) ≡ true
-unfolding periods
+none_begins : begins (stretches []) ≡ true
+unfolding stretches
 none_begins = refl
 
-none_left : (x : Cut) → x ∷ periods [] ≡ x ∷ []
-unfolding periods
+none_left : (x : Cut) → x ∷ stretches [] ≡ x ∷ []
+unfolding stretches
 none_left x = refl
 
-pub hear_none : (j : ℕ) → hear j (periods []) ≡ []
-unfolding periods
+pub hear_none : (j : ℕ) → hear j (stretches []) ≡ []
+unfolding stretches
 hear_none j = refl
 
 -- control columns and a gap, to the end
 gap_cut : (j : ℕ) (control gap : List Column) → 1 ≤ length control → AllControl control → 1 ≤ length gap → NoneControl gap
-    → hear j (periods (control ++ gap)) ≡ control_told j control ++ (gap_things (j + length control) control gap ++ at_end (j + length control) gap)
+    → hear j (stretches (control ++ gap)) ≡ control_told j control ++ (gap_things (j + length control) control gap ++ at_end (j + length control) gap)
 gap_cut j [] gap long all some none = absurd (omega arith)
 gap_cut j (c ∷ cs) [] long all some none = absurd (omega arith)
 gap_cut j (c ∷ cs) (g ∷ gap) long all some none =
-    ap (λ xs. hear j (periods ((c ∷ cs) ++ xs))) (sym (append-nil (g ∷ gap)))
-    ∙ ap (hear j) (cut_both c cs g gap [] all none none_begins ∙ none_left (period (c ∷ cs) (g ∷ gap)))
+    ap (λ xs. hear j (stretches ((c ∷ cs) ++ xs))) (sym (append-nil (g ∷ gap)))
+    ∙ ap (hear j) (cut_both c cs g gap [] all none none_begins ∙ none_left (stretch (c ∷ cs) (g ∷ gap)))
     ∙ hear_last j (c ∷ cs) g gap
 
 abbrev pub heads : List Column → Bool
@@ -53,31 +53,31 @@ some (x ∷ xs) = true
 
 some_first : (c : Column) (xs : List Cut) → some (before_period true c xs) ≡ true
 some_first c [] = refl
-some_first c (period control gap ∷ xs) = refl
+some_first c (stretch control gap ∷ xs) = refl
 
-some_cut : (next : List Column) → heads next ≡ true → some (periods next) ≡ true
-unfolding periods
+some_cut : (next : List Column) → heads next ≡ true → some (stretches next) ≡ true
+unfolding stretches
 some_cut [] h = cc
-some_cut (d ∷ rest) h = ap (λ p. some (before_period p d (periods rest))) h ∙ some_first d (periods rest)
+some_cut (d ∷ rest) h = ap (λ p. some (before_period p d (stretches rest))) h ∙ some_first d (stretches rest)
 
-pub begins_heads : (next : List Column) → heads next ≡ true → begins (periods next) ≡ true
+pub begins_heads : (next : List Column) → heads next ≡ true → begins (stretches next) ≡ true
 begins_heads [] h = cc
 begins_heads (d ∷ rest) h = begins_control d rest h
 
 hear_some : (j : ℕ) (control : List Column) (g : Column) (gap : List Column) (xs : List Cut) → some xs ≡ true
-    → hear j (period control (g ∷ gap) ∷ xs)
+    → hear j (stretch control (g ∷ gap) ∷ xs)
     ≡ control_told j control ++ (gap_things (j + length control) control (g ∷ gap) ++ (at_close (j + length control) (g ∷ gap) ++ hear (j + (length control + length (g ∷ gap))) xs))
 hear_some j control g gap [] h = cc
 hear_some j control g gap (y ∷ ys) h = hear_on j control g gap y ys
 
 -- control columns and a gap, before a control column
 gap_on : (j : ℕ) (control gap next : List Column) → 1 ≤ length control → AllControl control → 1 ≤ length gap → NoneControl gap → heads next ≡ true
-    → hear j (periods (control ++ (gap ++ next)))
-    ≡ control_told j control ++ (gap_things (j + length control) control gap ++ (at_close (j + length control) gap ++ hear (j + (length control + length gap)) (periods next)))
+    → hear j (stretches (control ++ (gap ++ next)))
+    ≡ control_told j control ++ (gap_things (j + length control) control gap ++ (at_close (j + length control) gap ++ hear (j + (length control + length gap)) (stretches next)))
 gap_on j [] gap next long all some none h = absurd (omega arith)
 gap_on j (c ∷ cs) [] next long all some none h = absurd (omega arith)
 gap_on j (c ∷ cs) (g ∷ gap) next long all some none h =
-    ap (hear j) (cut_both c cs g gap next all none (begins_heads next h)) ∙ hear_some j (c ∷ cs) g gap (periods next) (some_cut next h)
+    ap (hear j) (cut_both c cs g gap next all none (begins_heads next h)) ∙ hear_some j (c ∷ cs) g gap (stretches next) (some_cut next h)
 
 -- What has to be shown of each kind of period, behind the received control columns `before`.
 pub record IsGap (before : List Column) (x : Period) (ss rs : List Column) : Type 0 where
@@ -106,38 +106,38 @@ pub record IsControlPeriod (cs : List Column) : Type 0 where
 -- what is told of its first k columns and what comes after them
 abbrev pub PeriodLaw : List Column → Period → List Column → List Column → Type 0
 PeriodLaw cs x ss rs = (j k : ℕ) (next : List Column) → heads next ≡ true
-    → hear j (periods (cs ++ take k (rs ++ next)))
-    ≡ control_row j cs ++ (period_row (j + length cs) k cs x ss rs ++ hear (j + length cs + period_columns x) (periods (take (k - period_columns x) next)))
+    → hear j (stretches (cs ++ take k (rs ++ next)))
+    ≡ control_row j cs ++ (period_row (j + length cs) k cs x ss rs ++ hear (j + length cs + period_columns x) (stretches (take (k - period_columns x) next)))
 
 nothing_came : (cs : List Column) (x : Period) (ss rs : List Column) → IsControlPeriod cs → IsGap cs x ss rs → (j k : ℕ) (next : List Column) → k ≡ 0
-    → hear j (periods (cs ++ take k (rs ++ next)))
-    ≡ control_row j cs ++ (period_row (j + length cs) k cs x ss rs ++ hear (j + length cs + period_columns x) (periods (take (k - period_columns x) next)))
+    → hear j (stretches (cs ++ take k (rs ++ next)))
+    ≡ control_row j cs ++ (period_row (j + length cs) k cs x ss rs ++ hear (j + length cs + period_columns x) (stretches (take (k - period_columns x) next)))
 nothing_came cs x ss rs h g j k next zero_k =
     let e : k - period_columns x ≡ 0 = omega arith in
-    ap (λ (m : ℕ). hear j (periods (cs ++ take m (rs ++ next)))) zero_k
-    ∙ ap (λ (ds : List Column). hear j (periods ds)) (append-nil cs)
+    ap (λ (m : ℕ). hear j (stretches (cs ++ take m (rs ++ next)))) zero_k
+    ∙ ap (λ (ds : List Column). hear j (stretches ds)) (append-nil cs)
     ∙ hear_control j cs h.all ∙ control_row_told j cs ∙ sym (append-nil (control_row j cs))
     ∙ ap₂ (λ (a b : List Thing). control_row j cs ++ (a ++ b))
     (sym (ap (λ m. period_row (j + length cs) m cs x ss rs) zero_k ∙ g.nothing (j + length cs)))
-    (sym (ap (λ (m : ℕ). hear (j + length cs + period_columns x) (periods (take m next))) e ∙ hear_none (j + length cs + period_columns x)))
+    (sym (ap (λ (m : ℕ). hear (j + length cs + period_columns x) (stretches (take m next))) e ∙ hear_none (j + length cs + period_columns x)))
 
 part_came : (cs : List Column) (x : Period) (ss rs : List Column) → IsControlPeriod cs → IsGap cs x ss rs → (j k : ℕ) (next : List Column) → 1 ≤ k → k ≤ period_columns x
-    → hear j (periods (cs ++ take k (rs ++ next)))
-    ≡ control_row j cs ++ (period_row (j + length cs) k cs x ss rs ++ hear (j + length cs + period_columns x) (periods (take (k - period_columns x) next)))
+    → hear j (stretches (cs ++ take k (rs ++ next)))
+    ≡ control_row j cs ++ (period_row (j + length cs) k cs x ss rs ++ hear (j + length cs + period_columns x) (stretches (take (k - period_columns x) next)))
 part_came cs x ss rs h g j k next one le =
     let e : k - period_columns x ≡ 0 = omega arith in
     let l = h.long in
     let r = g.long in
     let t = length-take k rs in
-    ap (λ (ds : List Column). hear j (periods (cs ++ ds))) (take-append-le k rs next (omega arith))
+    ap (λ (ds : List Column). hear j (stretches (cs ++ ds))) (take-append-le k rs next (omega arith))
     ∙ gap_cut j cs (take k rs) (omega arith) h.all (omega arith) (take_quiet k rs g.quiet)
     ∙ ap (λ (ts : List Thing). ts ++ (gap_things (j + length cs) cs (take k rs) ++ at_end (j + length cs) (take k rs))) (control_row_told j cs)
     ∙ ap (λ ts. control_row j cs ++ ts) (g.part (j + length cs) k one le ∙ sym (append-nil (period_row (j + length cs) k cs x ss rs)))
-    ∙ ap (λ ts. control_row j cs ++ (period_row (j + length cs) k cs x ss rs ++ ts)) (sym (ap (λ (m : ℕ). hear (j + length cs + period_columns x) (periods (take m next))) e ∙ hear_none (j + length cs + period_columns x)))
+    ∙ ap (λ ts. control_row j cs ++ (period_row (j + length cs) k cs x ss rs ++ ts)) (sym (ap (λ (m : ℕ). hear (j + length cs + period_columns x) (stretches (take m next))) e ∙ hear_none (j + length cs + period_columns x)))
 
 all_came : (cs : List Column) (x : Period) (ss rs : List Column) → IsControlPeriod cs → IsGap cs x ss rs → (j k : ℕ) (next : List Column) → heads next ≡ true → period_columns x < k
-    → hear j (periods (cs ++ take k (rs ++ next)))
-    ≡ control_row j cs ++ (period_row (j + length cs) k cs x ss rs ++ hear (j + length cs + period_columns x) (periods (take (k - period_columns x) next)))
+    → hear j (stretches (cs ++ take k (rs ++ next)))
+    ≡ control_row j cs ++ (period_row (j + length cs) k cs x ss rs ++ hear (j + length cs + period_columns x) (stretches (take (k - period_columns x) next)))
 all_came cs x ss rs h g j k next at lt =
     let l = h.long in
     let r = g.long in
@@ -146,9 +146,9 @@ all_came cs x ss rs h g j k next at lt =
     let b = j + length cs in
     let e : k ≡ length rs + i = omega arith in
     let f : j + (length cs + length rs) ≡ b + period_columns x = omega arith in
-    let rest = periods (take i next) in
-    ap (λ (m : ℕ). hear j (periods (cs ++ take m (rs ++ next)))) e
-    ∙ ap (λ (ds : List Column). hear j (periods (cs ++ ds))) (take-append-add rs next i)
+    let rest = stretches (take i next) in
+    ap (λ (m : ℕ). hear j (stretches (cs ++ take m (rs ++ next)))) e
+    ∙ ap (λ (ds : List Column). hear j (stretches (cs ++ ds))) (take-append-add rs next i)
     ∙ gap_on j cs rs (take i next) (omega arith) h.all (omega arith) g.quiet (heads_take i next (omega arith) at)
     ∙ ap₂ (λ (ts : List Thing) (m : ℕ). ts ++ (gap_things b cs rs ++ (at_close b rs ++ hear m rest))) (control_row_told j cs) f
     ∙ ap (λ ts. control_row j cs ++ ts) (sym (append_assoc (gap_things b cs rs) (at_close b rs) (hear (b + period_columns x) rest)))
@@ -165,4 +165,4 @@ period_law cs x ss rs h g j k next at = elim (cases_lt (period_columns x) k) [
 
 -- no control period is too short, so of what is wrong before an opening only the preamble is left
 pub lacks_preamble : (b bits : ℕ) (cs : List Column) → 12 ≤ length cs → lacks b cs bits ≡ wrong_preamble b bits cs
-lacks_preamble b bits cs long = ap (λ (p : Bool). unless p (short_before b) ++ wrong_preamble b bits cs) (le-leb 12 (length cs) long)
+lacks_preamble b bits cs long = ap (λ (p : Bool). if_not p (short_before b) ++ wrong_preamble b bits cs) (le-leb 12 (length cs) long)

@@ -5,12 +5,11 @@ use Rattle.std.proofs.lemmas.Bool.{eqb-true, le-leb, lt-leb}
 use Rattle.tmds_word.specs.Column.{Column, column_of}
 use Rattle.tmds_word.proofs.Below.{and-left, and-right, passes_below, passes_at}
 use Rattle.terc4.specs.Tables.{control_words, terc_words, video_guard, island_guard, value_in, is_in, is_control}
-use Rattle.terc4.specs.Columns.{is_control_column, one_if, is_twelve_or_more}
+use Rattle.terc4.specs.Columns.{is_control_column, one_if, is_twelve_or_more, video_words, closing_words, island_words, closes}
 use Rattle.lane_deskew.proofs.Computed.{not_true}
 use Rattle.island_pack.specs.Spelling.{guard_column, words_of}
 use Rattle.island_pack.specs.Sparse.{unlike_words}
 use Rattle.period_grammar.specs.Heard.{video, island, kind_by, opened}
-use Rattle.period_grammar.specs.Column.{video_words, closing_words, island_words, closes}
 
 pub one_at_most : (q : Bool) → one_if q ≤ 1
 unfolding one_if

@@ -5,7 +5,7 @@ use Rattle.std.proofs.lemmas.List.Folds.{list_all-append}
 use Rattle.std.proofs.lemmas.Bool.{lt-leb}
 use Rattle.tmds_word.specs.Column.{Column}
 use Rattle.terc4.specs.Tables.{terc_words, island_guard, is_terc}
-use Rattle.terc4.specs.Columns.{is_control_column}
+use Rattle.terc4.specs.Columns.{is_control_column, closing_words, closes}
 use Rattle.terc4.proofs.Members.{passes_all, passes_in}
 use Rattle.terc4.proofs.Words.{terc_apart}
 use Rattle.lane_deskew.proofs.Computed.{not_true}
@@ -13,7 +13,6 @@ use Rattle.island_pack.specs.Packets.{Carries}
 use Rattle.island_pack.specs.Spelling.{words_of}
 use Rattle.island_pack.specs.Sparse.{unlike_words}
 use Rattle.island_pack.specs.declared.packet.Packet.{Packet}
-use Rattle.period_grammar.specs.Column.{closing_words, closes}
 use Rattle.period_grammar.specs.Island.{begins_close}
 use Rattle.link_sink.proofs.Cutting.{NoneControl}
 use Rattle.link_sink.proofs.Rows.{and_both}

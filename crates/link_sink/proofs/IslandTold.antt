@@ -5,12 +5,12 @@ use Rattle.std.proofs.lemmas.List.Folds.{list_all-append}
 use Rattle.std.proofs.lemmas.Bool.{cases_lt, ne_eqb, le-leb, le-ltb, lt-ltb}
 use Rattle.std.proofs.Math.Seq.{take-append-add}
 use Rattle.tmds_word.specs.Column.{Column}
-use Rattle.terc4.specs.Columns.{is_control_column, is_island_guard}
+use Rattle.terc4.specs.Columns.{is_control_column, is_island_guard, closes}
 use Rattle.island_pack.specs.Packets.{Carries}
 use Rattle.island_pack.specs.Periods.{DataIsland, period_columns}
 use Rattle.island_pack.specs.Spelling.{guard_column, guard_columns, words_of}
 use Rattle.island_pack.specs.declared.packet.Packet.{Packet}
-use Rattle.period_grammar.specs.Column.{sync_digit, closes}
+use Rattle.period_grammar.specs.Column.{sync_digit}
 use Rattle.period_grammar.specs.Packets.{verdicts_of}
 use Rattle.period_grammar.specs.Things.{Thing, cut, broken, empty, long_island, packet, open_island as opens_thing, close_island as closes_thing, thing_of, all_at}
 use Rattle.period_grammar.specs.Island.{Payload, parts, with_packet, when, if_so, packet_faults, packet_things, in_packets, left_at, begins_close, holds_packet, split, payload, wrong_guards, closing_things, in_closing, in_left, in_island, breaks}

@@ -8,7 +8,7 @@ use Rattle.tmds_word.proofs.Below.{and-left, and-right}
 use Rattle.island_pack.specs.Periods.{ControlRun, DataIsland, Period, control, video, island, values_of, pixels_of, period_columns}
 use Rattle.island_pack.specs.Spelling.{control_column, guard_columns}
 use Rattle.period_grammar.specs.Things.{Thing}
-use Rattle.period_grammar.specs.Cut.{periods, runs as runs_of}
+use Rattle.period_grammar.specs.Cut.{runs as runs_of, stretches}
 use Rattle.link_sink.proofs.Cutting.{AllControl, hear, hear_control}
 use Rattle.link_sink.proofs.Rows.{and_both, control_columns}
 use Rattle.link_sink.proofs.Conformed.{IsVideo, IsIsland, IsInner, Follows, ends as follows_ends, goes_on as follows_on}
@@ -121,15 +121,15 @@ take_control zero cs h = refl
 take_control (suc k) [] h = refl
 take_control (suc k) (c ∷ cs) h = and_both _ _ (and-left _ _ h) (take_control k cs (and-right _ _ h))
 
-pub taken_row : (j m : ℕ) (cs : List Column) → AllControl cs → hear j (periods (take m cs)) ≡ control_row j (take m cs)
+pub taken_row : (j m : ℕ) (cs : List Column) → AllControl cs → hear j (stretches (take m cs)) ≡ control_row j (take m cs)
 taken_row j m cs all = hear_control j (take m cs) (take_control m cs all) ∙ control_row_told j (take m cs)
 
 -- within the first control columns
 within : (j m : ℕ) (cs : List Column) (tail : List Period) (ss rs later : List Column) → AllControl cs → m ≤ length cs
-    → hear j (periods (take m (cs ++ later))) ≡ control_row j (take m cs) ++ account_from (j + length cs) (m - length cs) cs tail ss rs
+    → hear j (stretches (take m (cs ++ later))) ≡ control_row j (take m cs) ++ account_from (j + length cs) (m - length cs) cs tail ss rs
 within j m cs tail ss rs later all le =
     let e : m - length cs ≡ 0 = omega arith in
-    ap (λ ds. hear j (periods ds)) (take-append-le m cs later le)
+    ap (λ ds. hear j (stretches ds)) (take-append-le m cs later le)
     ∙ taken_row j m cs all
     ∙ sym (append-nil (control_row j (take m cs)))
     ∙ ap (λ ts. control_row j (take m cs) ++ ts) (sym (ap (λ k. account_from (j + length cs) k cs tail ss rs) e ∙ account_zero (j + length cs) cs tail ss rs))
@@ -152,9 +152,9 @@ no_account j m before = refl
 
 -- the law of joining
 pub joined : (tail : List Period) → IsTail tail → (before ss rs : List Column) → IsControlPeriod before → Arrives tail ss rs → (j m : ℕ)
-    → hear j (periods (take m (before ++ rs))) ≡ control_row j (take m before) ++ account_from (j + length before) (m - length before) before tail ss rs
+    → hear j (stretches (take m (before ++ rs))) ≡ control_row j (take m before) ++ account_from (j + length before) (m - length before) before tail ss rs
 joined _ ends before _ _ h nothing j m =
-    ap (λ cs. hear j (periods (take m cs))) (append-nil before) ∙ taken_row j m before h.all ∙ sym (append-nil (control_row j (take m before)))
+    ap (λ cs. hear j (stretches (take m cs))) (append-nil before) ∙ taken_row j m before h.all ∙ sym (append-nil (control_row j (take m before)))
     ∙ ap (λ ts. control_row j (take m before) ++ ts) (sym (no_account (j + length before) (m - length before) before))
 joined _ (goes_on x runs rest i long f) before _ _ h (more _ _ own came _ _ a (more _ _ _ _ ss rs (controls _ cs n all) b)) j m = elim (cases_lt (length before) m) [
   | inl on ↦
@@ -165,8 +165,8 @@ joined _ (goes_on x runs rest i long f) before _ _ h (more _ _ own came _ _ a (m
       let next : IsControlPeriod cs = record { long = omega arith; all = all } in
       let lb = h.long in
       let cv = control_columns (values_of runs) in
-      ap (λ (i : ℕ). hear j (periods (take i (before ++ (came ++ (cs ++ rs)))))) e
-      ∙ ap (λ (ds : List Column). hear j (periods ds)) (take-append-add before (came ++ (cs ++ rs)) k)
+      ap (λ (i : ℕ). hear j (stretches (take i (before ++ (came ++ (cs ++ rs)))))) e
+      ∙ ap (λ (ds : List Column). hear j (stretches ds)) (take-append-add before (came ++ (cs ++ rs)) k)
       ∙ period_law before x own came h (inner_gap before x own came lb i a) j k (cs ++ rs) (first_control cs rs all (omega arith))
       ∙ ap (λ ts. control_row j before ++ (period_row l k before x own came ++ ts))
       (joined rest f cs ss rs next b (l + size) (k - size) ∙ sym (control_period (l + size) (k - size) came runs rest cv cs ss rs (sized (control runs) cv cs (controls runs cs n all))))

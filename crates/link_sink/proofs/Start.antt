@@ -6,7 +6,7 @@ use Rattle.tmds_word.specs.Column.{Column}
 use Rattle.tmds_word.proofs.Below.{and-right}
 use Rattle.lane_deskew.specs.Kinds.{EndsAt}
 use Rattle.island_pack.specs.Periods.{ControlRun, Period, control, values_of, period_columns}
-use Rattle.period_grammar.specs.Cut.{periods}
+use Rattle.period_grammar.specs.Cut.{stretches}
 use Rattle.link_sink.proofs.Cutting.{AllControl, hear}
 use Rattle.link_sink.proofs.Rows.{control_columns}
 use Rattle.link_sink.proofs.Conformed.{IsInner, Follows, ends, goes_on}
@@ -53,7 +53,7 @@ here runs tail f own cs ss rs size all arrives a m e =
     let q = size.received in
     let n : 0 + length (drop a cs) ≡ period_columns (control runs) - a = omega arith in
     let k : length (drop a cs) ≡ period_columns (control runs) - a = omega arith in
-    ap (λ (ds : List Column). hear 0 (periods (take m ds))) (drop-append-le a cs rs (omega arith))
+    ap (λ (ds : List Column). hear 0 (stretches (take m ds))) (drop-append-le a cs rs (omega arith))
     ∙ joined tail f (drop a cs) ss rs (record { long = omega arith; all = drop_control a cs all }) arrives 0 m
     ∙ ap₂ (λ (j i : ℕ). control_row 0 (take m (drop a cs)) ++ account_from j (m - i) (drop a cs) tail ss rs) n k
     ∙ sym (account_here (control runs) tail own cs ss rs a m size (omega arith))

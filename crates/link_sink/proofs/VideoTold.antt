@@ -11,7 +11,7 @@ use Rattle.island_pack.specs.Sparse.{unlike_words}
 use Rattle.terc4.specs.Columns.{is_control_column, is_video_guard}
 use Rattle.island_pack.specs.Periods.{Pixel, pixels_of, period_columns}
 use Rattle.period_grammar.specs.Things.{Thing, line, cut, long_line, thing_of, all_at}
-use Rattle.period_grammar.specs.Heard.{unless, video, lacks, line_bytes, codes_of, line_of, opened, opening, in_payload, payload_closes, payload_ends, in_gap, at_close, at_end}
+use Rattle.period_grammar.specs.Heard.{video, lacks, line_bytes, codes_of, line_of, opened, opening, in_payload, payload_closes, payload_ends, in_gap, at_close, at_end, if_not}
 use Rattle.link_sink.specs.Account.{pixel_bytes, video_row, open_video_row, video_told, period_row}
 use Rattle.link_sink.proofs.Cutting.{NoneControl, things_at, gap_things}
 use Rattle.link_sink.proofs.Rows.{and_both}
@@ -86,8 +86,8 @@ close_line b ps ss [] some few h = let n = length_received ps ss [] h in absurd 
 close_line b ps ss (r ∷ rs) some few h =
     let n = length_received ps ss (r ∷ rs) h in
     let whole = take_all 4096 (r ∷ rs) (omega arith) in
-    ap (λ xs. line (line_bytes xs) ∷ (codes_of (b + 2) xs ++ unless (nat_le (length (r ∷ rs)) 4096) (long_line b))) whole
-    ∙ ap (λ q. line (line_bytes (r ∷ rs)) ∷ (codes_of (b + 2) (r ∷ rs) ++ unless q (long_line b))) (le-leb _ 4096 (omega arith))
+    ap (λ xs. line (line_bytes xs) ∷ (codes_of (b + 2) xs ++ if_not (nat_le (length (r ∷ rs)) 4096) (long_line b))) whole
+    ∙ ap (λ q. line (line_bytes (r ∷ rs)) ∷ (codes_of (b + 2) (r ∷ rs) ++ if_not q (long_line b))) (le-leb _ 4096 (omega arith))
     ∙ ap₂ (λ (x : List ℕ) (ts : List Thing). line x ∷ ts) (bytes_are ps ss (r ∷ rs) h) (append-nil (codes_of (b + 2) (r ∷ rs)))
 
 going_on : (b : ℕ) (control : List Column) (g h : Column) (rs : List Column) → 12 ≤ length control → opened g h ≡ video → gap_things b control (g ∷ (h ∷ rs)) ≡ open_video_row b control (g ∷ (h ∷ rs))

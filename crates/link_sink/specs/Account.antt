@@ -13,7 +13,7 @@ use Rattle.period_grammar.specs.Column.{sync_digit}
 use Rattle.period_grammar.specs.Cut.{Run, columns, runs}
 use Rattle.period_grammar.specs.Packets.{packet_of, verdicts_of}
 use Rattle.period_grammar.specs.Island.{packet_faults, wrong_guards}
-use Rattle.period_grammar.specs.Heard.{words, has_preamble, unless, codes_of}
+use Rattle.period_grammar.specs.Heard.{words, has_preamble, codes_of, if_not}
 use Rattle.period_grammar.specs.Things.{Thing, run, line, preamble, cut, packet, open_island, close_island, thing_of}
 
 -- Control periods.
@@ -30,7 +30,7 @@ control_row j cs = runs_row j (runs cs)
 -- What opens and closes: `before` are the received columns of the control period before, b is the first guard column.
 
 abbrev pub wrong_preamble : ℕ → ℕ → List Column → List Thing
-wrong_preamble b bits before = unless (has_preamble bits before) (preamble b)
+wrong_preamble b bits before = if_not (has_preamble bits before) (preamble b)
 
 unfoldable pub open_video_row : ℕ → List Column → List Column → List Thing
 open_video_row b before (g ∷ (h ∷ rs)) = wrong_preamble b VIDEO_PREAMBLE before ++ wrong_guards is_video_guard b g h

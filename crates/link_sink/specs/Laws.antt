@@ -15,7 +15,7 @@ use Rattle.island_pack.specs.Spelling.{words_of, Spells}
 use Rattle.island_pack.specs.Kinds.{Kind, control_column, first_guard, second_guard, pixel_column, packet_column, kinds_of, kind_at, EndsAt, IsAfterControl}
 use Rattle.island_pack.specs.Sparse.{column_at, IsSparse, SparesUntil, IsSparseInPayload}
 use Rattle.island_pack.specs.declared.packet.Packet.{Packet}
-use Rattle.period_grammar.specs.Cut.{Period as Cut, period as cut, periods}
+use Rattle.period_grammar.specs.Cut.{Stretch as Cut, stretch as cut, stretches}
 use Rattle.period_grammar.specs.Heard.{heard}
 use Rattle.link_sink.specs.Account.{damage, account}
 
@@ -47,7 +47,7 @@ cut_as (p ∷ (q ∷ ps)) cs =
 
 -- the columns that came are cut where the periods are
 abbrev pub PeriodsStand : Type 0
-PeriodsStand = (ps : List Period) (sent received : List Column) → CameOf ps sent received → periods received ≡ cut_as ps received
+PeriodsStand = (ps : List Period) (sent received : List Column) → CameOf ps sent received → stretches received ≡ cut_as ps received
 
 -- What is told.
 

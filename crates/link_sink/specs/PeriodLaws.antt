@@ -7,7 +7,7 @@ use Rattle.island_pack.specs.Periods.{ControlRun, DataIsland, Period, control, v
 use Rattle.island_pack.specs.Conforming.{is_control_period, is_video_period, is_data_island}
 use Rattle.island_pack.specs.Spelling.{SpellsPeriod}
 use Rattle.island_pack.specs.Sparse.{IsSparse}
-use Rattle.period_grammar.specs.Cut.{periods}
+use Rattle.period_grammar.specs.Cut.{stretches}
 use Rattle.period_grammar.specs.Heard.{told_from, end_from}
 use Rattle.period_grammar.specs.Things.{Thing, thing_of}
 use Rattle.link_sink.specs.Account.{period_row, account_from}
@@ -15,7 +15,7 @@ use Rattle.link_sink.specs.Laws.{CameOf}
 
 -- what is told of columns from column j on, with what the end tells
 abbrev pub tells : ℕ → List Column → List Thing
-tells j cs = map thing_of (told_from j (periods cs)) ++ end_from j (periods cs)
+tells j cs = map thing_of (told_from j (stretches cs)) ++ end_from j (stretches cs)
 
 -- columns that spell a period, and columns that came of them with sparse damage
 pub record PeriodCame (p : Period) (sent received : List Column) : Type 0 where
