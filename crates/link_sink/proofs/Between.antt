@@ -47,7 +47,7 @@ abbrev pub heads : List Column → Bool
 heads [] = false
 heads (c ∷ cs) = is_control_column c
 
-abbrev some : List Cut → Bool
+abbrev pub some : List Cut → Bool
 some [] = false
 some (x ∷ xs) = true
 
@@ -55,7 +55,7 @@ some_first : (c : Column) (xs : List Cut) → some (before_period true c xs) ≡
 some_first c [] = refl
 some_first c (stretch control gap ∷ xs) = refl
 
-some_cut : (next : List Column) → heads next ≡ true → some (stretches next) ≡ true
+pub some_cut : (next : List Column) → heads next ≡ true → some (stretches next) ≡ true
 unfolding stretches
 some_cut [] h = cc
 some_cut (d ∷ rest) h = ap (λ p. some (before_period p d (stretches rest))) h ∙ some_first d (stretches rest)

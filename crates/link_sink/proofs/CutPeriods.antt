@@ -11,13 +11,13 @@ use Rattle.link_sink.proofs.Between.{take_seam, drop_seam, begins_heads, IsContr
 use Rattle.link_sink.proofs.Joining.{controls, Arrives, nothing, more, IsTail, ends, goes_on, is_tail, follows_long, inner_gap, first_control}
 use Rattle.link_sink.proofs.Framing.{arrived}
 
-both : (control gap rest : List Column) → 1 ≤ length control → 1 ≤ length gap → AllControl control → NoneControl gap → begins (stretches rest) ≡ true
+pub both : (control gap rest : List Column) → 1 ≤ length control → 1 ≤ length gap → AllControl control → NoneControl gap → begins (stretches rest) ≡ true
     → stretches (control ++ (gap ++ rest)) ≡ stretch control gap ∷ stretches rest
 both [] gap rest long some all none h = absurd (omega arith)
 both (c ∷ cs) [] rest long some all none h = absurd (omega arith)
 both (c ∷ cs) (g ∷ gap) rest long some all none h = cut_both c cs g gap rest all none h
 
-alone : (control : List Column) → 1 ≤ length control → AllControl control → stretches (control ++ []) ≡ stretch (control ++ []) [] ∷ []
+pub alone : (control : List Column) → 1 ≤ length control → AllControl control → stretches (control ++ []) ≡ stretch (control ++ []) [] ∷ []
 unfolding stretches
 alone [] long all = absurd (omega arith)
 alone (c ∷ cs) long all = cut_control (c ∷ cs) [] all ∙ ap (λ ds. stretch (c ∷ ds) [] ∷ []) (sym (append-nil cs))

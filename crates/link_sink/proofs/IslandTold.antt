@@ -95,12 +95,12 @@ not_whole m f p ps ss cs b s k i shut short =
     ∙ told_broken f b s k (take i cs) shut
     ∙ ap (λ q. cond q (f s ∷ []) (packet_told s p (take 32 ss) (take 32 cs) ++ packets_told f (s + 32) ps (i - 32) (drop 32 ss) (drop 32 cs))) (sym (lt-ltb i 32 short))
 
-split_some : (m : ℕ) (cs : List Column) → holds_packet cs ≡ true → 32 ≤ length cs → length cs ≤ m → split m cs ≡ with_packet (take 32 cs) (split (m - 1) (drop 32 cs))
+pub split_some : (m : ℕ) (cs : List Column) → holds_packet cs ≡ true → 32 ≤ length cs → length cs ≤ m → split m cs ≡ with_packet (take 32 cs) (split (m - 1) (drop 32 cs))
 split_some zero cs h long le = absurd (omega arith)
 split_some (suc m) cs h long le = let e : m ≡ suc m - 1 = omega arith in split_one m cs h ∙ ap (λ l. with_packet (take 32 cs) (split l (drop 32 cs))) e
 
 -- a whole packet, of the first eighteen of an island
-packet_things_are : (s k : ℕ) (first : Bool) (p : Packet) (ss rs : List Column) → k < 18 → Carries p first (map words_of ss) → length rs ≡ 32 → packet_things s k rs ≡ packet_told s p ss rs
+pub packet_things_are : (s k : ℕ) (first : Bool) (p : Packet) (ss rs : List Column) → k < 18 → Carries p first (map words_of ss) → length rs ≡ 32 → packet_things s k rs ≡ packet_told s p ss rs
 unfolding packet_things packet_told
 packet_things_are s k first p ss rs lt c long =
     ap₂ (λ (q : Packet) (t : Bool). packet q (verdicts_of rs) s ∷ (packet_faults s (verdicts_of rs) ++ if_so t (long_island s))) (packet_row_taken p first ss rs c long) (ne_eqb k 18 (λ e. omega arith))
@@ -186,7 +186,7 @@ going_on b control g h rest long opens =
     ∙ map-append thing_of (all_at (b + 1) (lacks b control 5 ++ more)) (in_island b (payload rest))
     ∙ ap (λ ts. ts ++ map thing_of (in_island b (payload rest))) (things_at (b + 1) (lacks b control 5 ++ more) ∙ ap (λ ts. ts ++ more) (lacks_preamble b 5 control long))
 
-closes_on : (b : ℕ) (g h : Column) (rest : List Column) → opened g h ≡ island → at_close b (g ∷ (h ∷ rest)) ≡ breaks broken b (payload rest)
+pub closes_on : (b : ℕ) (g h : Column) (rest : List Column) → opened g h ≡ island → at_close b (g ∷ (h ∷ rest)) ≡ breaks broken b (payload rest)
 unfolding at_close
 closes_on b g h rest opens = ap (λ k. payload_closes b k rest) opens
 

@@ -20,6 +20,8 @@ pub mod Lanes
 pub mod Framing
 pub mod CutPeriods
 pub mod PeriodLaws
+pub mod Placed
+pub mod Literal
 pub mod Ends
 pub mod Decided
 pub mod Until

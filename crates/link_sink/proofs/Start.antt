@@ -16,7 +16,7 @@ use Rattle.period_grammar.specs.Heard.{heard, heard_so_far}
 use Rattle.link_sink.specs.Account.{control_row, account_from, account_at, account}
 use Rattle.link_sink.proofs.Joining.{ArrivesPeriod, controls, Arrives, nothing, more, IsSized, sized, IsTail, is_tail, joined}
 
-drop_control : (k : ℕ) (cs : List Column) → AllControl cs → AllControl (drop k cs)
+pub drop_control : (k : ℕ) (cs : List Column) → AllControl cs → AllControl (drop k cs)
 drop_control zero cs h = h
 drop_control (suc k) [] h = refl
 drop_control (suc k) (c ∷ cs) h = drop_control k cs (and-right _ _ h)
@@ -41,7 +41,7 @@ account_past x xs own came ss rs a m h le =
     ap (λ p. cond p (account_at x a m xs s r) (account xs (drop n s) (drop n r) (a - n) m)) (le-ltb a n le)
     ∙ ap₂ (λ (x y : List Column). account xs x y (a - n) m) (drop_seam own ss n h.sent) (drop_seam came rs n h.received)
 
-drop_over : (xs ys : List Column) (n k : ℕ) → length xs ≡ n → drop (n + k) (xs ++ ys) ≡ drop k ys
+pub drop_over : (xs ys : List Column) (n k : ℕ) → length xs ≡ n → drop (n + k) (xs ++ ys) ≡ drop k ys
 drop_over xs ys n k e = sym (drop-drop k n (xs ++ ys)) ∙ ap (drop k) (drop_seam xs ys n e)
 
 -- the start lies in these control columns
@@ -58,7 +58,7 @@ here runs tail f own cs ss rs size all arrives a m e =
     ∙ ap₂ (λ (j i : ℕ). control_row 0 (take m (drop a cs)) ++ account_from j (m - i) (drop a cs) tail ss rs) n k
     ∙ sym (account_here (control runs) tail own cs ss rs a m size (omega arith))
 
-control_size : (runs : List ControlRun) → period_columns (control runs) ≡ length (values_of runs)
+pub control_size : (runs : List ControlRun) → period_columns (control runs) ≡ length (values_of runs)
 unfolding period_columns
 control_size runs = refl
 

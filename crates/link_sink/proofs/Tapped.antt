@@ -57,7 +57,7 @@ characters g received narrow i lt = let n = length-map received g in subst (λ w
 -- a first full alignment at the end of a control period
 accounted : (ps : List Period) (sent received : List Column) → CameOf ps sent received → (offset : ℕ) (skews counts : List ℕ) (x y z : List Bool) → IsTap received offset skews counts x y z
     → (d e f i : ℕ) → IsFirst x y z d e f → EndsControl ps i → BeginColumn offset skews (i + 1) d e f → 11 ≤ i
-    → IsAccounted ps sent received offset skews x y z d e f (i - 11)
+    → IsAccounted ps sent received (aligned_columns x y z d e f) (i - 11) × BeginColumn offset skews (i - 11 + 12) d e f
 accounted ps sent received came offset skews counts x y z tapped d e f i first ends_i edges far =
     let a = i - 11 in
     let cs = aligned_columns x y z d e f in
@@ -68,17 +68,14 @@ accounted ps sent received came offset skews counts x y z tapped d e f i first e
     let columns : cs ≡ take (length cs) (drop a received) =
     columns_taken received (offset + slice_index skews 0) (offset + slice_index skews 1) (offset + slice_index skews 2)
     (slice_index counts 0) (slice_index counts 1) (slice_index counts 2) a x y z d e f at
-    (characters (λ c. c.blue) received (λ i lt. (h.characters i lt).blue)) (characters (λ c. c.green) received (λ i lt. (h.characters i lt).green)) (characters (λ c. c.red) received (λ i lt. (h.characters i lt).red)) in
-    record {
-      ends = ends_a;
-      edges = record {
+    (characters (λ c. c.blue) received (λ i lt. (h.characters i lt).blue)) (characters (λ c. c.green) received (λ i lt. (h.characters i lt).green)) (characters (λ c. c.red) received (λ i lt. (h.characters i lt).red)) in (
+      record { ends = ends_a; columns = columns; told = ap heard columns ∙ link_law ps sent received came a (length cs) ends_a },
+      record {
         blue = ends d offset (slice_index skews 0) i far edges.blue;
         green = ends e offset (slice_index skews 1) i far edges.green;
         red = ends f offset (slice_index skews 2) i far edges.red;
-      };
-      columns = columns;
-      told = ap heard columns ∙ link_law ps sent received came a (length cs) ends_a;
-    }
+      },
+    )
 
 late : (ps : List Period) (sent received : List Column) → CameOf ps sent received → (i : ℕ) → EndsControl ps i → 11 ≤ i
 late ps sent received came i ends_i = ends_late (shapes_of ps) (shape_is ps came.conforming) i (ends_at ps i ends_i)
@@ -88,15 +85,12 @@ tap_accounted ps sent received came offset skews counts x y z tapped small until
     let found = first_until ps sent received came offset skews counts x y z tapped small until aligns in
     let end = found.4 in
     let far = late ps sent received came end.0 end.1 in
-    let before = end.2 in (
-      found.0,
-      found.1,
-      found.2,
-      found.3,
-      (end.0 - 11, omega arith, accounted ps sent received came offset skews counts x y z tapped found.0 found.1 found.2 end.0 found.3 end.1 end.3 far),
-    )
+    let before = end.2 in
+    let told = accounted ps sent received came offset skews counts x y z tapped found.0 found.1 found.2 end.0 found.3 end.1 end.3 far in
+    (found.0, found.1, found.2, found.3, (end.0 - 11, omega arith, told.0, told.1))
 
 pub payload_accounted : PayloadAccounted
 payload_accounted ps sent received came alone offset skews counts x y z tapped small d e f first =
     let end = first_ends ps sent received came alone offset skews counts x y z tapped small d e f first in
-    (end.0 - 11, accounted ps sent received came offset skews counts x y z tapped d e f end.0 first end.1 end.2 (late ps sent received came end.0 end.1))
+    let told = accounted ps sent received came offset skews counts x y z tapped d e f end.0 first end.1 end.2 (late ps sent received came end.0 end.1) in
+    (end.0 - 11, told.0, told.1)

@@ -80,7 +80,7 @@ guarded_quiet g h rs are none =
     let one = are.one in
     and_both _ _ (ap not (stays_quiet line_guard g line_guard_quiet (omega arith))) (and_both _ _ (ap not (stays_quiet line_guard h line_guard_quiet (omega arith))) none)
 
-close_line : (b : ℕ) (ps : List Pixel) (ss rs : List Column) → 1 ≤ length ps → length ps ≤ 4096 → ArePixels ps ss rs → line_of b rs ≡ video_row b ps ss rs
+pub close_line : (b : ℕ) (ps : List Pixel) (ss rs : List Column) → 1 ≤ length ps → length ps ≤ 4096 → ArePixels ps ss rs → line_of b rs ≡ video_row b ps ss rs
 unfolding line_of video_row
 close_line b ps ss [] some few h = let n = length_received ps ss [] h in absurd (omega arith)
 close_line b ps ss (r ∷ rs) some few h =
@@ -98,9 +98,9 @@ going_on b control g h rs long opens =
     ∙ things_at (b + 1) (lacks b control 1 ++ wrong_guards is_video_guard b g h)
     ∙ ap (λ ts. ts ++ wrong_guards is_video_guard b g h) (lacks_preamble b 1 control long)
 
-closes : (b : ℕ) (g h : Column) (rs : List Column) → opened g h ≡ video → at_close b (g ∷ (h ∷ rs)) ≡ line_of b rs
+pub line_closes : (b : ℕ) (g h : Column) (rs : List Column) → opened g h ≡ video → at_close b (g ∷ (h ∷ rs)) ≡ line_of b rs
 unfolding at_close
-closes b g h rs opens = ap (λ k. payload_closes b k rs) opens
+line_closes b g h rs opens = ap (λ k. payload_closes b k rs) opens
 
 cuts : (b : ℕ) (g h : Column) (rs : List Column) → opened g h ≡ video → at_end b (g ∷ (h ∷ rs)) ≡ cut (b + 2) ∷ []
 unfolding at_end
@@ -129,7 +129,7 @@ unfolding video_told
 whole ps g h s t pp qq control b zero long opens some few are lt = absurd (omega arith)
 whole ps g h s t pp qq control b (suc zero) long opens some few are lt = absurd (omega arith)
 whole ps g h s t pp qq control b (suc (suc i)) long opens some few are lt =
-    ap₂ (λ (x y : List Thing). x ++ y) (going_on b control g h qq long opens) (closes b g h qq opens ∙ close_line b ps pp qq some few are)
+    ap₂ (λ (x y : List Thing). x ++ y) (going_on b control g h qq long opens) (line_closes b g h qq opens ∙ close_line b ps pp qq some few are)
     ∙ ap (λ p. open_video_row b control (g ∷ (h ∷ qq)) ++ cond p (video_row b ps pp qq) (cut (b + 2) ∷ [])) (sym (lt-ltb (length ps) i (omega arith)))
 
 -- the law of a video data period

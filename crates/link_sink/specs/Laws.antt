@@ -106,12 +106,11 @@ FirstUntil =
 
 -- From the bits to the account.
 
--- the account of the aligned columns of a tap: they begin twelve columns before the end of a control period
-pub record IsAccounted (ps : List Period) (sent received : List Column) (offset : ℕ) (skews : List ℕ) (x y z : List Bool) (d e f a : ℕ) : Type 0 where
+-- the account of aligned columns: they begin twelve columns before the end of a control period
+pub record IsAccounted (ps : List Period) (sent received : List Column) (aligned : List Column) (a : ℕ) : Type 0 where
   pub ends : EndsControl ps (a + 11)
-  pub edges : BeginColumn offset skews (a + 12) d e f
-  pub columns : aligned_columns x y z d e f ≡ take (length (aligned_columns x y z d e f)) (drop a received)
-  pub told : heard (aligned_columns x y z d e f) ≡ account ps sent received a (length (aligned_columns x y z d e f))
+  pub columns : aligned ≡ take (length aligned) (drop a received)
+  pub told : heard aligned ≡ account ps sent received a (length aligned)
 
 -- where damage spares control and guard words until a column
 abbrev pub TapAccounted : Type 0
@@ -119,14 +118,16 @@ TapAccounted =
     (ps : List Period) (sent received : List Column) → CameOf ps sent received
     → (offset : ℕ) (skews counts : List ℕ) (x y z : List Bool) → IsTap received offset skews counts x y z → HasSmallSkew skews
     → (until : ℕ) → AlignsUntil ps sent received offset skews counts until
-    → (d e f : ℕ) × IsFirst x y z d e f × ((a : ℕ) × (a + 12 ≤ until) × IsAccounted ps sent received offset skews x y z d e f a)
+    → (d e f : ℕ) × IsFirst x y z d e f
+    × ((a : ℕ) × (a + 12 ≤ until) × IsAccounted ps sent received (aligned_columns x y z d e f) a × BeginColumn offset skews (a + 12) d e f)
 
 -- where damage lies in pixels and packets alone, and there is a first full alignment
 abbrev pub PayloadAccounted : Type 0
 PayloadAccounted =
     (ps : List Period) (sent received : List Column) → CameOf ps sent received → IsSparseInPayload ps sent received
     → (offset : ℕ) (skews counts : List ℕ) (x y z : List Bool) → IsTap received offset skews counts x y z → HasSmallSkew skews
-    → (d e f : ℕ) → IsFirst x y z d e f → (a : ℕ) × IsAccounted ps sent received offset skews x y z d e f a
+    → (d e f : ℕ) → IsFirst x y z d e f
+    → (a : ℕ) × IsAccounted ps sent received (aligned_columns x y z d e f) a × BeginColumn offset skews (a + 12) d e f
 
 -- Packets.
 

@@ -4,6 +4,7 @@ pub mod Telling
 pub mod Account
 pub mod Laws
 pub mod PeriodLaws
+pub mod Literal
 pub mod Sinks
 pub mod Progress
 pub mod Pieces

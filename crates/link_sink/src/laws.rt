@@ -1,6 +1,7 @@
 //! What holds of columns that came with sparse damage. The functions do nothing: what they ensure are the laws.
 ghost use Rattle.link_sink.specs.Laws.{FramingStands, PeriodsStand, LinkLaw, EdgesEnd, FirstEnds, FirstUntil, TapAccounted, PayloadAccounted, OneWrongBit, HasExample, HasPayloadExample};
 ghost use Rattle.link_sink.specs.PeriodLaws.{ControlLaw, VideoLaw, IslandLaw, JoiningLaw};
+ghost use Rattle.link_sink.specs.Literal.{AccountLiteral};
 
 /// The control columns that came are those of the control periods, wherever damage lies.
 pub fn framing_stands()
@@ -36,6 +37,11 @@ pub fn island_law()
 /// What is told of conforming periods is, period after period, the row of each.
 pub fn joining_law()
     ensures { JoiningLaw }
+{}
+
+/// The account is what its rows tell before column `m`, and then what the end tells of the first `m` columns.
+pub fn account_literal()
+    ensures { AccountLiteral }
 {}
 
 /// Where damage lies in pixels and packets alone, each edge in a part of a lane's bits is the end of a control period.
