@@ -62,7 +62,9 @@ impl Deskew {
         self.found = None;
     }
 
-    /// Appends characters of a lane, the first of which stand at its lock.
+    /// Appends characters of a lane, whose first one of all stands at its lock, so many bits from the
+    /// lane's first. The lock is the lane's in every call, no more than 4,160 characters come to be kept,
+    /// and none come of a lane that has ended.
     pub fn push(&mut self, lane: u8, lock: u64, words: &[u16])
         requires lane { lane < 3 }
         requires words { AreWords words.now }

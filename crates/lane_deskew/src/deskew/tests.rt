@@ -129,11 +129,11 @@ fn expect_case(
     let a = late_bytes(alloc, &case.a, zeros as usize)?;
     let b = late_bytes(alloc, &case.b, zeros as usize)?;
     let c = late_bytes(alloc, &case.c, zeros as usize)?;
-    assert!(rt;
-        zeros <= 10_000 && case.a.bits <= 10_000 && case.b.bits <= 10_000 && case.c.bits <= 10_000
-    );
-    let late = 8 * zeros;
-    let most = late + case.a.bits.max(case.b.bits).max(case.c.bits);
+    let late = zeros.saturating_mul(8);
+    let x = late.saturating_add(case.a.bits);
+    let y = late.saturating_add(case.b.bits);
+    let z = late.saturating_add(case.c.bits);
+    let most = x.max(y).max(z);
     let mut found = None;
     let mut taken: usize = 0;
     let mut turn: usize = 0;
@@ -143,13 +143,14 @@ fn expect_case(
         turn = (turn + 1) % 3;
         assert!(rt; from % 8 == 0);
         assert!(rt; 0 < piece && piece <= 32768);
+        assert!(rt; from <= 1_000_000);
         feed(
             rt,
             &mut deskew,
             0,
             &mut first,
             a.as_slice(),
-            late + case.a.bits,
+            x,
             from,
             piece,
             row.as_mut_slice(),
@@ -160,7 +161,7 @@ fn expect_case(
             1,
             &mut second,
             b.as_slice(),
-            late + case.b.bits,
+            y,
             from,
             piece,
             row.as_mut_slice(),
@@ -171,7 +172,7 @@ fn expect_case(
             2,
             &mut third,
             c.as_slice(),
-            late + case.c.bits,
+            z,
             from,
             piece,
             row.as_mut_slice(),

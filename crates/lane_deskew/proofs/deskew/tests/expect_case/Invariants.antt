@@ -1,12 +1,12 @@
-use Rattle.std.proofs.Common.{◌≡◌, ◌+◌, ◌-◌, ◌≤◌, length, min}
+use Rattle.std.proofs.Common.{◌≡◌, ◌-◌, ◌≤◌, length, min}
 use Rattle.lane_align.specs.Aligners.{fed_of}
 use Rattle.lane_deskew.proofs.deskew.tests.expect_case.Given as goal
 
 abbrev pub invariant-loop-from : goal.invariant-loop-from
 invariant-loop-from g l = record {
-  first : fed_of l.first ≡ min l.from (l.late + l.case.a.bits);
-  second : fed_of l.second ≡ min l.from (l.late + l.case.b.bits);
-  third : fed_of l.third ≡ min l.from (l.late + l.case.c.bits);
+  first : fed_of l.first ≡ min l.from l.x;
+  second : fed_of l.second ≡ min l.from l.y;
+  third : fed_of l.third ≡ min l.from l.z;
   room : length l.row.items ≡ 3290;
   turns : l.turn ≤ 2;
 }
