@@ -1,0 +1,4 @@
+pub mod Numbers
+pub mod Damages
+pub mod Grammar
+pub mod Commands
