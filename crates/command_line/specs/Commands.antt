@@ -2,7 +2,7 @@
 use Rattle.std.specs.Prelude.{◌≡◌, ℕ, ◌<◌, ◌≤◌, List, [], ◌∷◌, length, codes, Option, Some, None}
 use Rattle.command_line.specs.Numbers.{IsNumber, AreThree}
 use Rattle.command_line.specs.Damages.{AreDamages}
-use Rattle.command_line.specs.Grammar.{Text, IsGiven, IsCall}
+use Rattle.command_line.specs.Grammar.{Text, IsGiven, AreArranged}
 use Rattle.command_line.specs.declared.options.OptionName.{OptionName}
 use Rattle.command_line.specs.declared.options.OptionName.TheVariants.{Offset, Skew, Bits, Version}
 use Rattle.command_line.specs.declared.tap.TapWords.{TapWords}
@@ -42,13 +42,23 @@ pub record IsTap (options : List (OptionName × Text)) (tap : TapWords) : Type 0
   pub bits : IsLimit bits_text tap.bits
   pub version : IsVersion version_text tap.version
 
--- the words are the command's: `make link` and `make content` with options, `recover link`, `recover content`, `check`,
--- `damage` with one operand or more, or `sample N`
-abbrev pub IsCommand : List Text → Command → Type 0
-IsCommand words (MakeLink tap) = (options : List (OptionName × Text)) × IsCall words (codes "make") options (codes "link" ∷ []) × IsTap options tap
-IsCommand words (MakeContent tap) = (options : List (OptionName × Text)) × IsCall words (codes "make") options (codes "content" ∷ []) × IsTap options tap
-IsCommand words RecoverLink = IsCall words (codes "recover") [] (codes "link" ∷ [])
-IsCommand words RecoverContent = IsCall words (codes "recover") [] (codes "content" ∷ [])
-IsCommand words Check = IsCall words (codes "check") [] []
-IsCommand words (Damage damages) = (texts : List Text) × IsCall words (codes "damage") [] texts × AreDamages texts damages × (0 < length texts)
-IsCommand words (Sample n) = (text : Text) × IsCall words (codes "sample") [] (text ∷ []) × IsNumber 20 text n × (2 ≤ n)
+-- what a command's name, its options and its operands ask for: `make link` and `make content` with options,
+-- `recover link`, `recover content`, `check`, `damage` with one operand or more, and `sample N`
+abbrev pub Means : Command → Text → List (OptionName × Text) → List Text → Type 0
+Means (MakeLink tap) name options operands = (name ≡ codes "make") × (operands ≡ codes "link" ∷ []) × IsTap options tap
+Means (MakeContent tap) name options operands = (name ≡ codes "make") × (operands ≡ codes "content" ∷ []) × IsTap options tap
+Means RecoverLink name options operands = (name ≡ codes "recover") × (operands ≡ codes "link" ∷ []) × (options ≡ [])
+Means RecoverContent name options operands = (name ≡ codes "recover") × (operands ≡ codes "content" ∷ []) × (options ≡ [])
+Means Check name options operands = (name ≡ codes "check") × (operands ≡ []) × (options ≡ [])
+Means (Damage damages) name options operands = (name ≡ codes "damage") × (AreDamages operands damages × (0 < length operands)) × (options ≡ [])
+Means (Sample n) name options operands = (name ≡ codes "sample") × ((text : Text) × (operands ≡ text ∷ []) × IsNumber 20 text n × (2 ≤ n)) × (options ≡ [])
+
+-- the words are a command's name, and behind it its options and operands
+pub record IsCommand (words : List Text) (command : Command) : Type 0 where
+  pub name : Text
+  pub behind : List Text
+  pub options : List (OptionName × Text)
+  pub operands : List Text
+  pub words_are : words ≡ name ∷ behind
+  pub arranged : AreArranged behind options operands
+  pub means : Means command name options operands

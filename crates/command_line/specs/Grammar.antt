@@ -1,12 +1,17 @@
 -- How options and operands stand behind the name of a command.
-use Rattle.std.specs.Prelude.{◌≡◌, ℕ, Bool, true, false, if◌then◌else◌, List, [], ◌∷◌, ◌++◌, All, codes, Option, Some, None, unwrap_or}
+use Rattle.std.specs.Prelude.{◌≡◌, ℕ, Bool, true, false, if◌then◌else◌, List, [], ◌∷◌, ◌++◌, map, codes, Option, Some, None, unwrap_or}
 use Rattle.std.specs.List.{flat_map, filter_map}
+use Rattle.std.specs.Borrow.{Bor}
 use Rattle.std.specs.Str.Parse.{starts_with_minus}
 use Rattle.command_line.specs.declared.options.OptionName.{OptionName}
 use Rattle.command_line.specs.declared.options.OptionName.TheVariants.{Offset, Skew, Bits, Version}
 
 abbrev pub Text : Type 0
 Text = List ℕ
+
+-- the texts of words
+abbrev pub texts : List (Bor Text) → List Text
+texts = map (λ w. w.now)
 
 -- the word that names an option
 abbrev pub name_word : OptionName → Text
@@ -32,6 +37,10 @@ IsPlain (apart name value) = starts_with_minus value ≡ false
 IsPlain (joined name value) = starts_with_minus value ≡ false
 IsPlain (operand word) = starts_with_minus word ≡ false
 
+abbrev pub ArePlain : List Piece → Type 0
+ArePlain [] = Unit {0}
+ArePlain (piece ∷ pieces) = IsPlain piece × ArePlain pieces
+
 abbrev pub option_of : Piece → Option (OptionName × Text)
 option_of (apart name value) = Some (name, value)
 option_of (joined name value) = Some (name, value)
@@ -53,17 +62,15 @@ pub record AreArranged (words : List Text) (options : List (OptionName × Text))
   pub pieces : List Piece
   pub rest : Option (List Text)
   pub words_are : words ≡ flat_map piece_words pieces ++ rest_words rest
-  pub plain : All IsPlain pieces
+  pub plain : ArePlain pieces
   pub options_are : options ≡ filter_map option_of pieces
   pub operands_are : operands ≡ filter_map operand_of pieces ++ unwrap_or rest []
 
--- the words are a command's name, and behind it these options and operands
-pub record IsCall (words : List Text) (name : Text) (options : List (OptionName × Text)) (operands : List Text) : Type 0 where
-  pub behind : List Text
-  pub words_are : words ≡ name ∷ behind
-  pub arranged : AreArranged behind options operands
-
 -- ---- the value of an option, which stands at most once
+
+-- options as code holds them
+abbrev pub given : List (OptionName × Bor Text) → List (OptionName × Text)
+given = map (λ option. (option.0, option.1.now))
 
 abbrev pub is_same : OptionName → OptionName → Bool
 is_same Offset Offset = true
@@ -79,7 +86,10 @@ value_if name option = if is_same name option.0 then Some option.1 else None
 abbrev pub values_of : OptionName → List (OptionName × Text) → List Text
 values_of name options = filter_map (value_if name) options
 
+abbrev pub listed : Option Text → List Text
+listed None = []
+listed (Some value) = value ∷ []
+
 -- the name stands once, with this value, or it is left out
 abbrev pub IsGiven : OptionName → List (OptionName × Text) → Option Text → Type 0
-IsGiven name options (Some value) = values_of name options ≡ value ∷ []
-IsGiven name options None = values_of name options ≡ []
+IsGiven name options value = values_of name options ≡ listed value

@@ -2,3 +2,5 @@ pub mod Numbers
 pub mod Damages
 pub mod Grammar
 pub mod Commands
+pub mod Parsing
+pub mod Scanning

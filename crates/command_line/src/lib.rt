@@ -4,14 +4,18 @@
 //! and around them, each as `--name VALUE` or as `--name=VALUE`. Behind the word `--` each word is an operand.
 #![tactic(auto)]
 
+mod arranged;
 mod command;
 mod damage;
-mod number;
+mod numbers;
 mod options;
 mod tap;
 
 pub use command::{Command, read_command};
 pub use damage::{DamageWord, Damages};
-pub use number::number_within;
+pub use numbers::{number, number_within};
 pub use options::OptionName;
 pub use tap::TapWords;
+
+#[cfg(test)]
+mod tests;
