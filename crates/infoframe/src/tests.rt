@@ -1,0 +1,1 @@
+//! Worked frames, and what an independent model of the format answers.

@@ -1,0 +1,161 @@
+//! InfoFrames written into packets.
+ghost use Rattle.std.specs.Prelude.{◌≡◌, ◌<◌, ◌≤◌, ◌+◌, ◌%◌, ◌++◌, [], ◌∷◌, length, drop, IsTrue};
+ghost use Rattle.infoframe.specs.Fields.{avi_fits, audio_fits};
+ghost use Rattle.infoframe.specs.Bytes.{avi_bytes, audio_bytes, bar_bytes, joined};
+ghost use Rattle.infoframe.specs.Frames.{sum_of};
+ghost use Rattle.infoframe.specs.Written.{fits, padded, IsWritten};
+
+use crate::content::{AudioInfo, Avi, Info, InfoKind, Spd};
+use crate::fields::kind_of;
+use crate::lent::sum_of;
+use island_pack::Packet;
+
+impl Info {
+    /// Whether a frame can say it: each field fits its bits; a raw type is at least 0x80, a raw type and version name no
+    /// known layout, a raw length is at most 27, and the raw bytes from the length on are 0.
+    pub fn fits(&self) -> bool
+        ensures { result ≡ fits self.now }
+    {
+        match self {
+            Info::Avi(avi) => avi_fits(avi),
+            Info::Audio(audio) => audio_fits(audio),
+            Info::Spd(_) => true,
+            Info::Raw {
+                kind,
+                version,
+                length,
+                bytes,
+            } => raw_fits(*kind, *version, *length, bytes),
+        }
+    }
+}
+
+/// Writes the header and the bodies of a packet that says it: the checksum in PB0, 0 in each reserved bit and in each
+/// byte behind the length. The packet's `sync` stays.
+pub fn write(info: &Info, out: &mut Packet)
+    requires { IsTrue (fits info.now) }
+    ensures written { IsWritten info.now out.new }
+    ensures sync { out.new.sync ≡ out.old.sync }
+{
+    match info {
+        Info::Avi(avi) => lay(0x82, 2, &avi_bytes(avi), out),
+        Info::Audio(audio) => lay(0x84, 1, &audio_bytes(audio), out),
+        Info::Spd(spd) => lay(0x83, 1, &spd_bytes(spd), out),
+        Info::Raw {
+            kind,
+            version,
+            length,
+            bytes,
+        } => { lay(*kind, *version, &bytes[..usize::from(*length)], out) }
+    }
+}
+
+/// Whether the fields of an AVI InfoFrame fit their bits.
+fn avi_fits(avi: &Avi) -> bool
+    ensures { result ≡ avi_fits avi.now }
+{
+    let first = avi.s < 4 && avi.b < 4 && avi.a < 2 && avi.y < 4;
+    let second = avi.r < 16 && avi.m < 4 && avi.c < 4;
+    let third = avi.sc < 4 && avi.q < 4 && avi.ec < 8 && avi.itc < 2;
+    first && second && third && avi.vic < 128 && avi.pr < 16
+}
+
+/// Whether the fields of an audio InfoFrame fit their bits.
+fn audio_fits(audio: &AudioInfo) -> bool
+    ensures { result ≡ audio_fits audio.now }
+{
+    audio.cc < 8 && audio.ct < 16 && audio.ss < 4 && audio.sf < 8 && audio.lsv < 16 && audio.dm < 2
+}
+
+/// Whether raw bytes may be written.
+fn raw_fits(kind: u8, version: u8, length: u8, bytes: &[u8; 27]) -> bool
+    ensures { result ≡ fits (Info.Raw kind version length bytes.now) }
+{
+    kind >= 0x80
+        && kind_of(kind, version) == InfoKind::Raw
+        && length <= 27
+        && bytes[usize::from(length)..].iter().all(|byte| *byte == 0)
+}
+
+/// Lays a header, the checksum and a payload into a packet.
+fn lay(type_code: u8, version: u8, payload: &[u8], out: &mut Packet)
+    requires { length payload.now ≤ 27 }
+    ensures header { out.new.header ≡ type_code ∷ version ∷ length payload.now ∷ [] }
+    ensures payload { drop 1 out.new.bodies ≡ padded payload.now }
+    ensures checksum { sum_of out.new ≡ 0 }
+    ensures sync { out.new.sync ≡ out.old.sync }
+{
+    let length = payload.len();
+    out.header = [type_code, version, length as u8];
+    out.bodies = [0; 28];
+    out.bodies[1..length + 1].copy_from_slice(payload);
+    out.bodies[0] = sum_of(&out.header)
+        .wrapping_add(sum_of(payload))
+        .wrapping_neg();
+}
+
+/// The payload of an AVI InfoFrame.
+fn avi_bytes(avi: &Avi) -> [u8; 13]
+    requires { IsTrue (avi_fits avi.now) }
+    ensures { result ≡ avi_bytes avi.now 0 0 0 }
+{
+    let [[b6, b7], [b8, b9], [b10, b11], [b12, b13]] = bar_bytes(&avi.bars);
+    [
+        avi.s + 4 * avi.b + 16 * avi.a + 32 * avi.y,
+        avi.r + 16 * avi.m + 64 * avi.c,
+        avi.sc + 4 * avi.q + 16 * avi.ec + 128 * avi.itc,
+        avi.vic,
+        avi.pr,
+        b6,
+        b7,
+        b8,
+        b9,
+        b10,
+        b11,
+        b12,
+        b13,
+    ]
+}
+
+/// The bytes of four bars, the low byte of each first.
+fn bar_bytes(bars: &[u16; 4]) -> [[u8; 2]; 4]
+    ensures { joined result ≡ bar_bytes bars.now }
+{
+    let [top, bottom, left, right] = *bars;
+    [
+        top.to_le_bytes(),
+        bottom.to_le_bytes(),
+        left.to_le_bytes(),
+        right.to_le_bytes(),
+    ]
+}
+
+/// The payload of an audio InfoFrame.
+fn audio_bytes(audio: &AudioInfo) -> [u8; 10]
+    requires { IsTrue (audio_fits audio.now) }
+    ensures { result ≡ audio_bytes audio.now 0 0 0 0 (0 ∷ 0 ∷ 0 ∷ 0 ∷ 0 ∷ []) }
+{
+    [
+        audio.cc + 16 * audio.ct,
+        audio.ss + 4 * audio.sf,
+        0,
+        audio.ca,
+        8 * audio.lsv + 128 * audio.dm,
+        0,
+        0,
+        0,
+        0,
+        0,
+    ]
+}
+
+/// The payload of a source product description.
+fn spd_bytes(spd: &Spd) -> [u8; 25]
+    ensures { result ≡ spd.now.vendor ++ spd.now.product ++ spd.now.kind ∷ [] }
+{
+    let mut bytes = [0; 25];
+    bytes[..8].copy_from_slice(&spd.vendor);
+    bytes[8..24].copy_from_slice(&spd.product);
+    bytes[24] = spd.kind;
+    bytes
+}
