@@ -1,33 +1,33 @@
--- The bytes of payloads, from their fields and from the bits that have no field. Only contracts of private functions
--- cite them: what is written is defined by what is read of it (`Written`).
-use Rattle.std.specs.Prelude.{ℕ, ◌+◌, ◌*◌, ◌/◌, ◌%◌, List, [], ◌∷◌, ◌++◌, slice_index}
+-- Bounds of fields, and the bytes of bars. Only contracts of private functions cite them.
+use Rattle.std.specs.Prelude.{ℕ, ◌/◌, ◌%◌, ◌<◌, List, [], ◌∷◌}
 use Rattle.infoframe.specs.declared.content.Avi.{Avi}
 use Rattle.infoframe.specs.declared.content.AudioInfo.{AudioInfo}
 
--- the low byte first
+-- the low byte of each first
 abbrev pub bar_bytes : List ℕ → List ℕ
 bar_bytes [] = []
 bar_bytes (bar ∷ bars) = (bar % 256) ∷ (bar / 256 % 256) ∷ bar_bytes bars
 
-unfoldable pub avi_bytes : Avi → ℕ → ℕ → ℕ → List ℕ
-avi_bytes x free1 free4 free5 =
-    (x.s + 4 * x.b + 16 * x.a + 32 * x.y + 128 * free1)
-    ∷ (x.r + 16 * x.m + 64 * x.c)
-    ∷ (x.sc + 4 * x.q + 16 * x.ec + 128 * x.itc)
-    ∷ (x.vic + 128 * free4)
-    ∷ (x.pr + 16 * free5)
-    ∷ bar_bytes x.bars
+-- each field fits its bits
+pub record AviBounds (x : Avi) : Type 0 where
+  pub s : x.s < 4
+  pub b : x.b < 4
+  pub a : x.a < 2
+  pub y : x.y < 4
+  pub r : x.r < 16
+  pub m : x.m < 4
+  pub c : x.c < 4
+  pub sc : x.sc < 4
+  pub q : x.q < 4
+  pub ec : x.ec < 8
+  pub itc : x.itc < 2
+  pub vic : x.vic < 128
+  pub pr : x.pr < 16
 
-unfoldable pub audio_bytes : AudioInfo → ℕ → ℕ → ℕ → ℕ → List ℕ → List ℕ
-audio_bytes x free1 free2 free3 free5 behind =
-    (x.cc + 8 * free1 + 16 * x.ct)
-    ∷ (x.ss + 4 * x.sf + 32 * free2)
-    ∷ free3
-    ∷ x.ca
-    ∷ (free5 + 8 * x.lsv + 128 * x.dm)
-    ∷ behind
-
--- lists one after another
-abbrev pub joined : List (List ℕ) → List ℕ
-joined [] = []
-joined (xs ∷ rest) = xs ++ joined rest
+pub record AudioBounds (x : AudioInfo) : Type 0 where
+  pub cc : x.cc < 8
+  pub ct : x.ct < 16
+  pub ss : x.ss < 4
+  pub sf : x.sf < 8
+  pub lsv : x.lsv < 16
+  pub dm : x.dm < 2

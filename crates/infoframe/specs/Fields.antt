@@ -77,9 +77,9 @@ avi_fits x =
     && (nat_lt x.sc most.sc && (nat_lt x.q most.q && (nat_lt x.ec most.ec && (nat_lt x.itc most.itc
     && (nat_lt x.vic most.vic && nat_lt x.pr most.pr)))))))))))
 
--- whether each field fits its bits
+-- whether each field fits its bits; the channel allocation has all the bits of its type
 unfoldable pub audio_fits : AudioInfo → Bool
 audio_fits x =
     let most = audio_table limit in
     nat_lt x.cc most.cc && (nat_lt x.ct most.ct && (nat_lt x.ss most.ss && (nat_lt x.sf most.sf
-    && (nat_lt x.ca most.ca && (nat_lt x.lsv most.lsv && nat_lt x.dm most.dm)))))
+    && (nat_lt x.lsv most.lsv && nat_lt x.dm most.dm))))

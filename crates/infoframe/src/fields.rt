@@ -6,6 +6,7 @@ ghost use Rattle.infoframe.specs.Frames.{kind_of, has_length};
 use crate::content::{AudioInfo, Avi, InfoKind, Spd};
 
 /// The layout that a type code and a version name.
+#[tactic(auto, unfolding(crate::specs::Frames::kind_of))]
 pub(crate) fn kind_of(type_code: u8, version: u8) -> InfoKind
     ensures { result ≡ kind_of type_code version }
 {
@@ -18,6 +19,7 @@ pub(crate) fn kind_of(type_code: u8, version: u8) -> InfoKind
 }
 
 /// Whether a payload of a layout has so many bytes.
+#[tactic(auto, unfolding(crate::specs::Frames::has_length))]
 pub(crate) fn has_length(kind: InfoKind, length: u8) -> bool
     ensures { result ≡ has_length kind length }
 {

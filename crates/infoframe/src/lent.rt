@@ -1,6 +1,6 @@
 //! InfoFrames that are lent from packets.
 ghost use Rattle.std.specs.Prelude.{◌≡◌, ◌<◌, ◌≤◌, ◌+◌, ◌%◌, length, sum, slice_index, All};
-ghost use Rattle.infoframe.specs.Frames.{first_lost, frame_of, kind_of, avi_in, audio_in, spd_in};
+ghost use Rattle.infoframe.specs.Frames.{is_lost, first_lost, frame_of, kind_of, avi_in, audio_in, spd_in};
 
 use crate::content::{AudioInfo, Avi, InfoFault, InfoKind, Spd};
 use crate::fields::{audio_of, avi_of, has_length, kind_of, spd_of};
@@ -83,6 +83,7 @@ impl<'a> InfoRef<'a> {
     }
 
     /// The fields of an AVI InfoFrame.
+    #[tactic(auto, unfolding(crate::specs::Frames::avi_in))]
     pub fn avi(&self) -> Option<Avi>
         ensures { result ≡ avi_in (kind_of self.now.type_code self.now.version) self.now.payload }
     {
@@ -93,6 +94,7 @@ impl<'a> InfoRef<'a> {
     }
 
     /// The fields of an audio InfoFrame.
+    #[tactic(auto, unfolding(crate::specs::Frames::audio_in))]
     pub fn audio(&self) -> Option<AudioInfo>
         ensures { result ≡ audio_in (kind_of self.now.type_code self.now.version) self.now.payload }
     {
@@ -103,6 +105,7 @@ impl<'a> InfoRef<'a> {
     }
 
     /// The fields of a source product description.
+    #[tactic(auto, unfolding(crate::specs::Frames::spd_in))]
     pub fn spd(&self) -> Option<Spd>
         ensures { result ≡ spd_in (kind_of self.now.type_code self.now.version) self.now.payload }
     {
@@ -118,11 +121,18 @@ fn first_lost(packet: &PacketRef<'_>) -> Option<u8>
     ensures { result ≡ first_lost packet.now.verdicts.now }
 {
     for block in 0..5 {
-        if packet.verdict(block) == Verdict::Lost {
+        if is_lost(packet.verdict(block)) {
             return Some(block);
         }
     }
     None
+}
+
+/// Whether a block is lost.
+fn is_lost(verdict: Verdict) -> bool
+    ensures { result ≡ is_lost verdict }
+{
+    matches!(verdict, Verdict::Lost)
 }
 
 /// The sum of bytes modulo 256.

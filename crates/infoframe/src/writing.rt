@@ -1,7 +1,9 @@
 //! InfoFrames written into packets.
-ghost use Rattle.std.specs.Prelude.{◌≡◌, ◌<◌, ◌≤◌, ◌+◌, ◌%◌, ◌++◌, [], ◌∷◌, length, drop, IsTrue};
-ghost use Rattle.infoframe.specs.Fields.{avi_fits, audio_fits};
-ghost use Rattle.infoframe.specs.Bytes.{avi_bytes, audio_bytes, bar_bytes, joined};
+ghost use Rattle.std.specs.Prelude.{◌≡◌, ◌<◌, ◌≤◌, ◌+◌, ◌%◌, ◌++◌, ◌==◌, [], ◌∷◌, ℕ, length, drop, slice_index, IsTrue};
+ghost use Rattle.std.specs.List.{list_all};
+ghost use Rattle.island_pack.specs.Packets.{IsPacket};
+ghost use Rattle.infoframe.specs.Fields.{field, avi_of, avi_reserved, avi_fits, audio_of, audio_reserved, audio_fits, spd_of};
+ghost use Rattle.infoframe.specs.Bytes.{AviBounds, AudioBounds, bar_bytes};
 ghost use Rattle.infoframe.specs.Frames.{sum_of};
 ghost use Rattle.infoframe.specs.Written.{fits, padded, IsWritten};
 
@@ -13,6 +15,7 @@ use island_pack::Packet;
 impl Info {
     /// Whether a frame can say it: each field fits its bits; a raw type is at least 0x80, a raw type and version name no
     /// known layout, a raw length is at most 27, and the raw bytes from the length on are 0.
+    #[tactic(auto, unfolding(crate::specs::Written::fits))]
     pub fn fits(&self) -> bool
         ensures { result ≡ fits self.now }
     {
@@ -40,17 +43,18 @@ pub fn write(info: &Info, out: &mut Packet)
     match info {
         Info::Avi(avi) => lay(0x82, 2, &avi_bytes(avi), out),
         Info::Audio(audio) => lay(0x84, 1, &audio_bytes(audio), out),
-        Info::Spd(spd) => lay(0x83, 1, &spd_bytes(spd), out),
+        Info::Spd(spd) => lay(0x83, 1, &spd_bytes(&spd.vendor, &spd.product, spd.kind), out),
         Info::Raw {
             kind,
             version,
             length,
             bytes,
-        } => { lay(*kind, *version, &bytes[..usize::from(*length)], out) }
+        } => write_raw(*kind, *version, *length, bytes, out),
     }
 }
 
 /// Whether the fields of an AVI InfoFrame fit their bits.
+#[tactic(auto, unfolding(crate::specs::Fields::avi_fits, crate::specs::Fields::avi_table))]
 fn avi_fits(avi: &Avi) -> bool
     ensures { result ≡ avi_fits avi.now }
 {
@@ -61,6 +65,7 @@ fn avi_fits(avi: &Avi) -> bool
 }
 
 /// Whether the fields of an audio InfoFrame fit their bits.
+#[tactic(auto, unfolding(crate::specs::Fields::audio_fits, crate::specs::Fields::audio_table))]
 fn audio_fits(audio: &AudioInfo) -> bool
     ensures { result ≡ audio_fits audio.now }
 {
@@ -68,18 +73,36 @@ fn audio_fits(audio: &AudioInfo) -> bool
 }
 
 /// Whether raw bytes may be written.
+#[tactic(auto, unfolding(crate::specs::Written::fits))]
 fn raw_fits(kind: u8, version: u8, length: u8, bytes: &[u8; 27]) -> bool
     ensures { result ≡ fits (Info.Raw kind version length bytes.now) }
 {
     kind >= 0x80
         && kind_of(kind, version) == InfoKind::Raw
         && length <= 27
-        && bytes[usize::from(length)..].iter().all(|byte| *byte == 0)
+        && is_zero(&bytes[usize::from(length)..])
+}
+
+/// Whether each byte is 0.
+fn is_zero(bytes: &[u8]) -> bool
+    ensures { result ≡ list_all (λ b. b == 0) bytes.now }
+{
+    bytes.iter().all(|byte| *byte == 0)
+}
+
+/// Writes raw bytes.
+fn write_raw(kind: u8, version: u8, length: u8, bytes: &[u8; 27], out: &mut Packet)
+    requires { IsTrue (fits (Info.Raw kind version length bytes.now)) }
+    ensures written { IsWritten (Info.Raw kind version length bytes.now) out.new }
+    ensures sync { out.new.sync ≡ out.old.sync }
+{
+    lay(kind, version, &bytes[..usize::from(length)], out);
 }
 
 /// Lays a header, the checksum and a payload into a packet.
 fn lay(type_code: u8, version: u8, payload: &[u8], out: &mut Packet)
     requires { length payload.now ≤ 27 }
+    ensures whole { IsPacket out.new }
     ensures header { out.new.header ≡ type_code ∷ version ∷ length payload.now ∷ [] }
     ensures payload { drop 1 out.new.bodies ≡ padded payload.now }
     ensures checksum { sum_of out.new ≡ 0 }
@@ -96,10 +119,12 @@ fn lay(type_code: u8, version: u8, payload: &[u8], out: &mut Packet)
 
 /// The payload of an AVI InfoFrame.
 fn avi_bytes(avi: &Avi) -> [u8; 13]
-    requires { IsTrue (avi_fits avi.now) }
-    ensures { result ≡ avi_bytes avi.now 0 0 0 }
+    requires { AviBounds avi.now }
+    ensures fields { avi_of result ≡ avi.now }
+    ensures reserved { avi_reserved (field result) ≡ 0 ∷ 0 ∷ 0 ∷ [] }
+    ensures long { length result ≡ 13 }
 {
-    let [[b6, b7], [b8, b9], [b10, b11], [b12, b13]] = bar_bytes(&avi.bars);
+    let [b6, b7, b8, b9, b10, b11, b12, b13] = bar_bytes(&avi.bars);
     [
         avi.s + 4 * avi.b + 16 * avi.a + 32 * avi.y,
         avi.r + 16 * avi.m + 64 * avi.c,
@@ -118,22 +143,26 @@ fn avi_bytes(avi: &Avi) -> [u8; 13]
 }
 
 /// The bytes of four bars, the low byte of each first.
-fn bar_bytes(bars: &[u16; 4]) -> [[u8; 2]; 4]
-    ensures { joined result ≡ bar_bytes bars.now }
+fn bar_bytes(bars: &[u16; 4]) -> [u8; 8]
+    ensures bytes { result ≡ bar_bytes bars.now }
+    ensures long { length result ≡ 8 }
+    ensures four { length bars.now ≡ 4 }
+    ensures below { (k : ℕ) → slice_index bars.now k < 65536 }
 {
     let [top, bottom, left, right] = *bars;
-    [
-        top.to_le_bytes(),
-        bottom.to_le_bytes(),
-        left.to_le_bytes(),
-        right.to_le_bytes(),
-    ]
+    let [b6, b7] = top.to_le_bytes();
+    let [b8, b9] = bottom.to_le_bytes();
+    let [b10, b11] = left.to_le_bytes();
+    let [b12, b13] = right.to_le_bytes();
+    [b6, b7, b8, b9, b10, b11, b12, b13]
 }
 
 /// The payload of an audio InfoFrame.
 fn audio_bytes(audio: &AudioInfo) -> [u8; 10]
-    requires { IsTrue (audio_fits audio.now) }
-    ensures { result ≡ audio_bytes audio.now 0 0 0 0 (0 ∷ 0 ∷ 0 ∷ 0 ∷ 0 ∷ []) }
+    requires { AudioBounds audio.now }
+    ensures fields { audio_of result ≡ audio.now }
+    ensures reserved { audio_reserved (field result) ≡ 0 ∷ 0 ∷ 0 ∷ 0 ∷ 0 ∷ 0 ∷ 0 ∷ 0 ∷ 0 ∷ [] }
+    ensures long { length result ≡ 10 }
 {
     [
         audio.cc + 16 * audio.ct,
@@ -150,12 +179,14 @@ fn audio_bytes(audio: &AudioInfo) -> [u8; 10]
 }
 
 /// The payload of a source product description.
-fn spd_bytes(spd: &Spd) -> [u8; 25]
-    ensures { result ≡ spd.now.vendor ++ spd.now.product ++ spd.now.kind ∷ [] }
+fn spd_bytes(vendor: &[u8; 8], product: &[u8; 16], kind: u8) -> [u8; 25]
+    ensures fields { spd_of result ≡ record { vendor = vendor.now; product = product.now; kind = kind } }
+    ensures long { length result ≡ 25 }
 {
-    let mut bytes = [0; 25];
-    bytes[..8].copy_from_slice(&spd.vendor);
-    bytes[8..24].copy_from_slice(&spd.product);
-    bytes[24] = spd.kind;
-    bytes
+    let [v0, v1, v2, v3, v4, v5, v6, v7] = *vendor;
+    let [p0, p1, p2, p3, p4, p5, p6, p7, p8, p9, p10, p11, p12, p13, p14, p15] = *product;
+    [
+        v0, v1, v2, v3, v4, v5, v6, v7, p0, p1, p2, p3, p4, p5, p6, p7, p8, p9, p10, p11, p12, p13,
+        p14, p15, kind,
+    ]
 }

@@ -1,5 +1,5 @@
-mod Parts
-mod Registers
-mod Columns
-mod Laid
-mod Law
+pub mod Parts
+pub mod Registers
+pub mod Columns
+pub mod Laid
+pub mod Law

@@ -1,0 +1,7 @@
+mod Lists
+mod Numbers
+mod Refusals
+mod Contents
+mod Bounds
+mod Writings
+mod Law
