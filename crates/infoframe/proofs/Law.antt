@@ -261,7 +261,7 @@ spelled : (p q : Packet) (f g : Frame) → IsPacket p → IsPacket q → IsRead 
 unfolding info_of reserved_in
 spelled p q f g wp wq rp rq same reserved =
     let a = alike (kind_of (frame_in p).type_code (frame_in p).version) (kind_of (frame_in q).type_code (frame_in q).version) (frame_in p) (frame_in q)
-        refl refl (fits_frame p f wp rp) (fits_frame q g wq rq) (payload_bytes p wp) (payload_bytes q wq) same (ap (drop 1) reserved) in
+    refl refl (fits_frame p f wp rp) (fits_frame q g wq rq) (payload_bytes p wp) (payload_bytes q wq) same (ap (drop 1) reserved) in
     let long : length_in p ≡ length_in q =
     sym (payload_long p wp.bodies (few p f wp rp)) ∙ ap length a.payload ∙ payload_long q wq.bodies (few q g wq rq) in
     let high : slice_index p.header 2 / 32 ≡ slice_index q.header 2 / 32 = ap (λ xs. get_or xs 0 0) reserved in
@@ -312,8 +312,9 @@ one_writing info p q h wp wq =
     let header = wp.header ∙ sym wq.header in
     let reserved = same_zeros (reserved_in p) (reserved_in q) (reserved_lengths p q header) wp.reserved wq.reserved in
     let begin = one_spelling p q spotless spotless (frame_in p) (frame_in q) wp.whole wq.whole rp.0 rq.0 (rp.1 ∙ sym rq.1) reserved in
-    let long = same_length p q header in
-    (header,
-    sym (take-append-drop (length_in p + 1) p.bodies)
-    ∙ ap₂ (λ (xs ys : List ℕ). xs ++ ys) begin.1 (wp.behind ∙ ap (λ n. replicate (27 - n) 0) long ∙ sym wq.behind)
-    ∙ take-append-drop (length_in q + 1) q.bodies)
+    let long = same_length p q header in (
+      header,
+      sym (take-append-drop (length_in p + 1) p.bodies)
+          ∙ ap₂ (λ (xs ys : List ℕ). xs ++ ys) begin.1 (wp.behind ∙ ap (λ n. replicate (27 - n) 0) long ∙ sym wq.behind)
+          ∙ take-append-drop (length_in q + 1) q.bodies,
+    )

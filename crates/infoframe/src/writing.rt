@@ -43,7 +43,12 @@ pub fn write(info: &Info, out: &mut Packet)
     match info {
         Info::Avi(avi) => lay(0x82, 2, &avi_bytes(avi), out),
         Info::Audio(audio) => lay(0x84, 1, &audio_bytes(audio), out),
-        Info::Spd(spd) => lay(0x83, 1, &spd_bytes(&spd.vendor, &spd.product, spd.kind), out),
+        Info::Spd(spd) => lay(
+            0x83,
+            1,
+            &spd_bytes(&spd.vendor, &spd.product, spd.kind),
+            out,
+        ),
         Info::Raw {
             kind,
             version,
@@ -184,7 +189,24 @@ fn spd_bytes(vendor: &[u8; 8], product: &[u8; 16], kind: u8) -> [u8; 25]
     ensures long { length result ≡ 25 }
 {
     let [v0, v1, v2, v3, v4, v5, v6, v7] = *vendor;
-    let [p0, p1, p2, p3, p4, p5, p6, p7, p8, p9, p10, p11, p12, p13, p14, p15] = *product;
+    let [
+        p0,
+        p1,
+        p2,
+        p3,
+        p4,
+        p5,
+        p6,
+        p7,
+        p8,
+        p9,
+        p10,
+        p11,
+        p12,
+        p13,
+        p14,
+        p15,
+    ] = *product;
     [
         v0, v1, v2, v3, v4, v5, v6, v7, p0, p1, p2, p3, p4, p5, p6, p7, p8, p9, p10, p11, p12, p13,
         p14, p15, kind,
