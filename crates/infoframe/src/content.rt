@@ -1,6 +1,11 @@
 //! What InfoFrames say (CTA-861, section 6). Bits are numbered from the lowest, 0, on; PB1 is the first byte behind the
 //! checksum.
-ghost use Rattle.std.specs.Prelude.{◌≡◌};
+ghost use Rattle.std.specs.Prelude.{◌≡◌, ◌==◌, drop};
+ghost use Rattle.std.specs.List.{list_all};
+ghost use Rattle.infoframe.specs.Fields.{avi_fits, audio_fits};
+ghost use Rattle.infoframe.specs.Written.{fits};
+
+use crate::fields::kind_of;
 
 /// The InfoFrames whose layout is known, and any other.
 #[derive(Clone, Copy, Debug, PartialEq, Eq)]
@@ -99,11 +104,76 @@ pub enum Info {
     Audio(AudioInfo),
     /// Source product description.
     Spd(Spd),
-    /// The bytes of any other InfoFrame, 0 from the length on.
+    /// Any other InfoFrame.
     Raw {
+        /// The type code, at least 0x80.
         kind: u8,
         version: u8,
+        /// At most 27.
         length: u8,
+        /// The payload, and 0 from the length on.
         bytes: [u8; 27],
     },
+}
+
+impl Avi {
+    /// Whether the fields fit their bits.
+    #[tactic(auto, unfolding(crate::specs::Fields::avi_fits, crate::specs::Fields::avi_table))]
+    fn fits(&self) -> bool
+        ensures { result ≡ avi_fits self.now }
+    {
+        let first = self.s < 4 && self.b < 4 && self.a < 2 && self.y < 4;
+        let second = self.r < 16 && self.m < 4 && self.c < 4;
+        let third = self.sc < 4 && self.q < 4 && self.ec < 8 && self.itc < 2;
+        first && second && third && self.vic < 128 && self.pr < 16
+    }
+}
+
+impl AudioInfo {
+    /// Whether the fields fit their bits.
+    #[tactic(auto, unfolding(crate::specs::Fields::audio_fits, crate::specs::Fields::audio_table))]
+    fn fits(&self) -> bool
+        ensures { result ≡ audio_fits self.now }
+    {
+        self.cc < 8 && self.ct < 16 && self.ss < 4 && self.sf < 8 && self.lsv < 16 && self.dm < 2
+    }
+}
+
+impl Info {
+    /// Whether an InfoFrame can say it: each field fits its bits; a raw type is at least 0x80, a raw type and version name
+    /// no known layout, a raw length is at most 27, and the raw bytes from the length on are 0.
+    #[tactic(auto, unfolding(crate::specs::Written::fits))]
+    pub fn fits(&self) -> bool
+        ensures { result ≡ fits self.now }
+    {
+        match self {
+            Info::Avi(avi) => avi.fits(),
+            Info::Audio(audio) => audio.fits(),
+            Info::Spd(_) => true,
+            Info::Raw {
+                kind,
+                version,
+                length,
+                bytes,
+            } => raw_fits(*kind, *version, *length, bytes),
+        }
+    }
+}
+
+/// Whether raw bytes may be written.
+#[tactic(auto, unfolding(crate::specs::Written::fits))]
+fn raw_fits(kind: u8, version: u8, length: u8, bytes: &[u8; 27]) -> bool
+    ensures { result ≡ fits (Info.Raw kind version length bytes.now) }
+{
+    kind >= 0x80
+        && kind_of(kind, version) == InfoKind::Raw
+        && length <= 27
+        && is_zero(&bytes[usize::from(length)..])
+}
+
+/// Whether each byte is 0.
+fn is_zero(bytes: &[u8]) -> bool
+    ensures { result ≡ list_all (λ b. b == 0) bytes.now }
+{
+    bytes.iter().all(|byte| *byte == 0)
 }

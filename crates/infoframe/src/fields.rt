@@ -5,15 +5,30 @@ ghost use Rattle.infoframe.specs.Frames.{kind_of, has_length};
 
 use crate::content::{AudioInfo, Avi, InfoKind, Spd};
 
+/// The type code and the version of an AVI InfoFrame (CTA-861, section 6.4).
+pub(crate) const AVI_TYPE: u8 = 0x82;
+
+pub(crate) const AVI_VERSION: u8 = 2;
+
+/// The type code and the version of an audio InfoFrame (CTA-861, section 6.6).
+pub(crate) const AUDIO_TYPE: u8 = 0x84;
+
+pub(crate) const AUDIO_VERSION: u8 = 1;
+
+/// The type code and the version of a source product description (CTA-861, section 6.5).
+pub(crate) const SPD_TYPE: u8 = 0x83;
+
+pub(crate) const SPD_VERSION: u8 = 1;
+
 /// The layout that a type code and a version name.
 #[tactic(auto, unfolding(crate::specs::Frames::kind_of))]
 pub(crate) fn kind_of(type_code: u8, version: u8) -> InfoKind
     ensures { result ≡ kind_of type_code version }
 {
     match (type_code, version) {
-        (0x82, 2) => InfoKind::Avi,
-        (0x84, 1) => InfoKind::Audio,
-        (0x83, 1) => InfoKind::Spd,
+        (AVI_TYPE, AVI_VERSION) => InfoKind::Avi,
+        (AUDIO_TYPE, AUDIO_VERSION) => InfoKind::Audio,
+        (SPD_TYPE, SPD_VERSION) => InfoKind::Spd,
         _ => InfoKind::Raw,
     }
 }

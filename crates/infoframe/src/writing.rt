@@ -1,37 +1,15 @@
 //! InfoFrames written into packets.
-ghost use Rattle.std.specs.Prelude.{◌≡◌, ◌<◌, ◌≤◌, ◌+◌, ◌%◌, ◌++◌, ◌==◌, [], ◌∷◌, ℕ, length, drop, slice_index, IsTrue};
-ghost use Rattle.std.specs.List.{list_all};
+ghost use Rattle.std.specs.Prelude.{◌≡◌, ◌<◌, ◌≤◌, ◌+◌, ◌%◌, ◌++◌, [], ◌∷◌, ℕ, length, drop, slice_index, IsTrue};
 ghost use Rattle.island_pack.specs.Packets.{IsPacket};
-ghost use Rattle.infoframe.specs.Fields.{field, avi_of, avi_reserved, avi_fits, audio_of, audio_reserved, audio_fits, spd_of};
+ghost use Rattle.infoframe.specs.Fields.{field, avi_of, avi_reserved, audio_of, audio_reserved, spd_of};
 ghost use Rattle.infoframe.specs.Bytes.{AviBounds, AudioBounds, bar_bytes};
 ghost use Rattle.infoframe.specs.Frames.{sum_of};
 ghost use Rattle.infoframe.specs.Written.{fits, padded, IsWritten};
 
-use crate::content::{AudioInfo, Avi, Info, InfoKind, Spd};
-use crate::fields::kind_of;
+use crate::content::{AudioInfo, Avi, Info};
+use crate::fields::{AUDIO_TYPE, AUDIO_VERSION, AVI_TYPE, AVI_VERSION, SPD_TYPE, SPD_VERSION};
 use crate::lent::sum_of;
 use island_pack::Packet;
-
-impl Info {
-    /// Whether a frame can say it: each field fits its bits; a raw type is at least 0x80, a raw type and version name no
-    /// known layout, a raw length is at most 27, and the raw bytes from the length on are 0.
-    #[tactic(auto, unfolding(crate::specs::Written::fits))]
-    pub fn fits(&self) -> bool
-        ensures { result ≡ fits self.now }
-    {
-        match self {
-            Info::Avi(avi) => avi_fits(avi),
-            Info::Audio(audio) => audio_fits(audio),
-            Info::Spd(_) => true,
-            Info::Raw {
-                kind,
-                version,
-                length,
-                bytes,
-            } => raw_fits(*kind, *version, *length, bytes),
-        }
-    }
-}
 
 /// Writes the header and the bodies of a packet that says it: the checksum in PB0, 0 in each reserved bit and in each
 /// byte behind the length. The packet's `sync` stays.
@@ -41,14 +19,12 @@ pub fn write(info: &Info, out: &mut Packet)
     ensures sync { out.new.sync ≡ out.old.sync }
 {
     match info {
-        Info::Avi(avi) => lay(0x82, 2, &avi_bytes(avi), out),
-        Info::Audio(audio) => lay(0x84, 1, &audio_bytes(audio), out),
-        Info::Spd(spd) => lay(
-            0x83,
-            1,
-            &spd_bytes(&spd.vendor, &spd.product, spd.kind),
-            out,
-        ),
+        Info::Avi(avi) => lay(AVI_TYPE, AVI_VERSION, &avi_bytes(avi), out),
+        Info::Audio(audio) => lay(AUDIO_TYPE, AUDIO_VERSION, &audio_bytes(audio), out),
+        Info::Spd(spd) => {
+            let payload = spd_bytes(&spd.vendor, &spd.product, spd.kind);
+            lay(SPD_TYPE, SPD_VERSION, &payload, out)
+        }
         Info::Raw {
             kind,
             version,
@@ -56,43 +32,6 @@ pub fn write(info: &Info, out: &mut Packet)
             bytes,
         } => write_raw(*kind, *version, *length, bytes, out),
     }
-}
-
-/// Whether the fields of an AVI InfoFrame fit their bits.
-#[tactic(auto, unfolding(crate::specs::Fields::avi_fits, crate::specs::Fields::avi_table))]
-fn avi_fits(avi: &Avi) -> bool
-    ensures { result ≡ avi_fits avi.now }
-{
-    let first = avi.s < 4 && avi.b < 4 && avi.a < 2 && avi.y < 4;
-    let second = avi.r < 16 && avi.m < 4 && avi.c < 4;
-    let third = avi.sc < 4 && avi.q < 4 && avi.ec < 8 && avi.itc < 2;
-    first && second && third && avi.vic < 128 && avi.pr < 16
-}
-
-/// Whether the fields of an audio InfoFrame fit their bits.
-#[tactic(auto, unfolding(crate::specs::Fields::audio_fits, crate::specs::Fields::audio_table))]
-fn audio_fits(audio: &AudioInfo) -> bool
-    ensures { result ≡ audio_fits audio.now }
-{
-    audio.cc < 8 && audio.ct < 16 && audio.ss < 4 && audio.sf < 8 && audio.lsv < 16 && audio.dm < 2
-}
-
-/// Whether raw bytes may be written.
-#[tactic(auto, unfolding(crate::specs::Written::fits))]
-fn raw_fits(kind: u8, version: u8, length: u8, bytes: &[u8; 27]) -> bool
-    ensures { result ≡ fits (Info.Raw kind version length bytes.now) }
-{
-    kind >= 0x80
-        && kind_of(kind, version) == InfoKind::Raw
-        && length <= 27
-        && is_zero(&bytes[usize::from(length)..])
-}
-
-/// Whether each byte is 0.
-fn is_zero(bytes: &[u8]) -> bool
-    ensures { result ≡ list_all (λ b. b == 0) bytes.now }
-{
-    bytes.iter().all(|byte| *byte == 0)
 }
 
 /// Writes raw bytes.

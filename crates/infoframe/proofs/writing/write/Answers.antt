@@ -37,9 +37,9 @@ pub returns-in-Spd-clause-written : goal.returns-in-Spd-clause-written
 unfolding kind_of info_as reserved_of
 returns-in-Spd-clause-written c =
     subst (λ (i : Info). IsWritten i c.lay-in-Spd.new.out) (sym c.in-Spd.is)
-    (written_from (Spd c.in-Spd.spd) c.lay-in-Spd.new.out c.spd_bytes.result 0 c.lay-in-Spd.ensures.whole c.lay-in-Spd.ensures.header
-    c.spd_bytes.ensures.long (omega (arith, c.spd_bytes.ensures.long)) c.lay-in-Spd.ensures.payload c.lay-in-Spd.ensures.checksum
-    (ap Spd c.spd_bytes.ensures.fields) refl)
+    (written_from (Spd c.in-Spd.spd) c.lay-in-Spd.new.out c.spd_bytes-payload.result 0 c.lay-in-Spd.ensures.whole c.lay-in-Spd.ensures.header
+    c.spd_bytes-payload.ensures.long (omega (arith, c.spd_bytes-payload.ensures.long)) c.lay-in-Spd.ensures.payload c.lay-in-Spd.ensures.checksum
+    (ap Spd c.spd_bytes-payload.ensures.fields) refl)
 
 pub returns-in-Raw-clause-written : goal.returns-in-Raw-clause-written
 returns-in-Raw-clause-written c = subst (λ (i : Info). IsWritten i c.write_raw.new.out) (sym c.in-Raw.is) c.write_raw.ensures.written
