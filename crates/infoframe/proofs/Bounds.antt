@@ -1,7 +1,7 @@
 -- What may be written, field by field.
-use Rattle.std.proofs.Common.{◌≡◌, ℕ, suc, zero, ◌+◌, ◌-◌, ◌*◌, ◌/◌, ◌%◌, ◌^◌, ◌<◌, ◌≤◌, Bool, true, false, ◌&&◌, ◌==◌, List, [], ◌∷◌, ◌++◌, length, drop, replicate, refl, ap, ap₂, ◌∙◌, sym, arith, subst, eqb-true}
+use Rattle.std.proofs.Common.{◌≡◌, ℕ, suc, zero, ◌≤◌, true, ◌==◌, List, [], ◌∷◌, length, drop, replicate, refl, ap, arith, eqb-true}
 use Rattle.std.specs.List.{list_all}
-use Rattle.std.proofs.lemmas.Bool.{leb-true, ltb-true, lt-ltb, le-leb}
+use Rattle.std.proofs.lemmas.Bool.{leb-true, ltb-true}
 use Rattle.tmds_word.proofs.Below.{and-left, and-right}
 use Rattle.infoframe.specs.Bytes.{AviBounds, AudioBounds}
 use Rattle.infoframe.specs.Fields.{avi_table, avi_fits, audio_table, audio_fits}
@@ -11,8 +11,7 @@ use Rattle.infoframe.specs.declared.content.Avi.{Avi}
 use Rattle.infoframe.specs.declared.content.AudioInfo.{AudioInfo}
 use Rattle.infoframe.specs.declared.content.InfoKind.{InfoKind}
 use Rattle.infoframe.specs.declared.content.InfoKind.TheVariants.{Avi as AviKind, Audio as AudioKind, Spd as SpdKind, Raw as RawKind}
-use Rattle.infoframe.specs.declared.content.Info.{Info}
-use Rattle.infoframe.specs.declared.content.Info.TheVariants.{Avi as AviInfo, Audio as SoundInfo, Spd as SpdInfo, Raw}
+use Rattle.infoframe.specs.declared.content.Info.TheVariants.{Raw}
 
 pub avi_bounds : (x : Avi) → avi_fits x ≡ true → AviBounds x
 unfolding avi_fits avi_table

@@ -1,11 +1,11 @@
 -- The fields of a payload that is written from fields, and the bytes of a payload from its fields.
-use Rattle.std.proofs.Common.{◌≡◌, ℕ, suc, zero, ◌+◌, ◌-◌, ◌*◌, ◌/◌, ◌%◌, ◌^◌, ◌<◌, ◌≤◌, List, [], ◌∷◌, ◌++◌, length, take, drop, get_or, refl, ap, ap₂, ◌∙◌, sym, arith}
+use Rattle.std.proofs.Common.{◌≡◌, ℕ, ◌+◌, ◌*◌, ◌/◌, ◌%◌, ◌^◌, ◌<◌, List, [], ◌∷◌, ◌++◌, length, take, drop, get_or, ap, ◌∙◌, sym, arith}
 use Rattle.infoframe.specs.Bytes.{AviBounds, AudioBounds, bar_bytes}
 use Rattle.infoframe.specs.Fields.{field, avi_of, avi_table, avi_reserved, audio_of, audio_table, audio_reserved, spd_of}
 use Rattle.infoframe.specs.declared.content.Avi.{Avi}
 use Rattle.infoframe.specs.declared.content.AudioInfo.{AudioInfo}
 use Rattle.infoframe.specs.declared.content.Spd.{Spd}
-use Rattle.infoframe.proofs.Lists.{items_from, all_items}
+use Rattle.infoframe.proofs.Lists.{all_items}
 use Rattle.infoframe.proofs.Numbers.{field_in_byte, field_of_two, field_whole}
 
 -- the bytes of a payload, from its fields and from the bits that have no field

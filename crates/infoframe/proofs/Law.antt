@@ -1,10 +1,10 @@
 -- What is written is read, what is read may be written, and what is read has one spelling.
-use Rattle.std.proofs.Common.{◌≡◌, ℕ, suc, zero, ◌+◌, ◌-◌, ◌*◌, ◌/◌, ◌%◌, ◌^◌, ◌<◌, ◌≤◌, Bool, true, false, cond, ◌&&◌, ◌==◌, List, [], ◌∷◌, ◌++◌, length, take, drop, replicate, get_or, refl, ap, ap₂, ◌∙◌, sym, subst, arith, eqb-true, add-one, drop-cons, All, inl, inr}
-use Rattle.std.specs.Prelude.{slice_index, nat_lt, sum, Option, None, Result, Ok}
+use Rattle.std.proofs.Common.{◌≡◌, ℕ, suc, zero, ◌+◌, ◌-◌, ◌/◌, ◌%◌, ◌^◌, ◌<◌, ◌≤◌, Bool, true, false, cond, ◌&&◌, ◌==◌, List, [], ◌∷◌, ◌++◌, length, take, drop, replicate, get_or, refl, ap, ap₂, ◌∙◌, sym, subst, arith, eqb-true, add-one, All, inl, inr}
+use Rattle.std.specs.Prelude.{slice_index, nat_lt, sum, None}
 use Rattle.std.specs.List.{list_all}
 use Rattle.std.proofs.Math.Nat.{mod-lt}
 use Rattle.std.proofs.Math.Seq.{take-append_seam, drop-append_seam}
-use Rattle.std.proofs.lemmas.Bool.{leb-true, lt-ltb, le-leb, cases_lt}
+use Rattle.std.proofs.lemmas.Bool.{lt-ltb, le-leb, cases_lt}
 use Rattle.std.proofs.lemmas.Nat.{pow_pos}
 use Rattle.std.proofs.lemmas.Grind.{same_number_lists}
 use Rattle.std.proofs.lemmas.List.{length-take, length-drop, take-append-drop, get_or_past}
@@ -14,20 +14,18 @@ use Rattle.tmds_word.proofs.Below.{and-left, and-right}
 use Rattle.island_pack.specs.Packets.{IsPacket}
 use Rattle.island_pack.specs.Taken.{spotless}
 use Rattle.island_pack.specs.declared.packet.Packet.{Packet}
-use Rattle.island_pack.specs.declared.packet.PacketVerdicts.{PacketVerdicts}
 use Rattle.island_pack.proofs.Parts.{three}
 use Rattle.infoframe.specs.Fields.{number_of, field, avi_of, avi_table, avi_fits, avi_reserved, audio_of, audio_table, audio_fits, audio_reserved, spd_of}
-use Rattle.infoframe.specs.Frames.{Frame, frame_in, length_in, sum_of, kind_of, has_length, first_lost, frame_of}
+use Rattle.infoframe.specs.Frames.{Frame, frame_in, length_in, sum_of, kind_of, has_length, first_lost}
 use Rattle.infoframe.specs.Written.{padded, info_as, info_of, type_of, version_of, length_of, is_raw, fits, reserved_of, reserved_in, IsWritten}
-use Rattle.infoframe.specs.Laws.{WrittenIsRead, OneSpelling, OneWriting, ReadFits}
+use Rattle.infoframe.specs.Laws.{WrittenIsRead, OneSpelling, OneWriting, ReadFits, ReadIsWritten}
 use Rattle.infoframe.specs.declared.content.InfoKind.{InfoKind}
 use Rattle.infoframe.specs.declared.content.InfoKind.TheVariants.{Avi as AviKind, Audio as AudioKind, Spd as SpdKind, Raw as RawKind}
 use Rattle.infoframe.specs.declared.content.Info.{Info}
 use Rattle.infoframe.specs.declared.content.Info.TheVariants.{Avi, Audio, Spd, Raw}
-use Rattle.infoframe.proofs.Lists.{drop_behind_first}
 use Rattle.infoframe.proofs.Refusals.{kind_in, length_below, taken_as, IsRead, is_read}
 use Rattle.infoframe.proofs.Contents.{avi_bytes, audio_bytes, spd_bytes, avi_from_fields, audio_from_fields, spd_from_fields}
-use Rattle.infoframe.proofs.Bounds.{RawBounds, raw_bounds}
+use Rattle.infoframe.proofs.Bounds.{raw_bounds}
 use Rattle.infoframe.proofs.Writings.{length_from}
 
 -- 1. what is read fits
@@ -108,13 +106,24 @@ fits_length (Raw kind version long bytes) h =
     let bounds = raw_bounds kind version long bytes h in
     ap (λ k. has_length k long) bounds.unknown ∙ le-leb long 27 bounds.few
 
+header_frame : (p : Packet) (t v n : ℕ) → p.header ≡ t ∷ v ∷ n ∷ [] → ((frame_in p).type_code ≡ t) × ((frame_in p).version ≡ v)
+unfolding frame_in
+header_frame p t v n e = (ap (λ (hd : List ℕ). slice_index hd 0) e, ap (λ (hd : List ℕ). slice_index hd 1) e)
+
 pub written_is_read : WrittenIsRead
 written_is_read info p verdicts h w none =
     let fit = fits_length info h in
     let few = length_below _ (length_of info) fit in
     let kind : kind_in p ≡ kind_of (type_of info) (version_of info) = ap (λ (hd : List ℕ). kind_of (slice_index hd 0) (slice_index hd 1)) w.header in
     let long = length_from p (type_of info) (version_of info) (length_of info) w.header few in
-    (taken_as p verdicts none (ap₂ has_length kind long ∙ fit) w.checksum, w.says)
+    let codes = header_frame p (type_of info) (version_of info) (length_of info) w.header in
+    record {
+      read = taken_as p verdicts none (ap₂ has_length kind long ∙ fit) w.checksum;
+      type_code = codes.0;
+      version = codes.1;
+      long = payload_long p w.whole.bodies (omega arith) ∙ long;
+      says = w.says;
+    }
 
 -- 3. one spelling
 
@@ -311,10 +320,48 @@ one_writing info p q h wp wq =
     let rq = written_is_read info q spotless h wq none_spotless in
     let header = wp.header ∙ sym wq.header in
     let reserved = same_zeros (reserved_in p) (reserved_in q) (reserved_lengths p q header) wp.reserved wq.reserved in
-    let begin = one_spelling p q spotless spotless (frame_in p) (frame_in q) wp.whole wq.whole rp.0 rq.0 (rp.1 ∙ sym rq.1) reserved in
+    let begin = one_spelling p q spotless spotless (frame_in p) (frame_in q) wp.whole wq.whole rp.read rq.read (rp.says ∙ sym rq.says) reserved in
     let long = same_length p q header in (
       header,
       sym (take-append-drop (length_in p + 1) p.bodies)
           ∙ ap₂ (λ (xs ys : List ℕ). xs ++ ys) begin.1 (wp.behind ∙ ap (λ n. replicate (27 - n) 0) long ∙ sym wq.behind)
           ∙ take-append-drop (length_in q + 1) q.bodies,
     )
+
+-- 5. what is read is written so
+
+spelled_header : (k : InfoKind) (f : Frame) → kind_of f.type_code f.version ≡ k → has_length k (length f.payload) ≡ true
+    → (f.type_code ≡ type_of (info_as k f)) × (f.version ≡ version_of (info_as k f)) × (length f.payload ≡ length_of (info_as k f))
+unfolding info_as has_length
+spelled_header AviKind f e h = let n = named_avi f.type_code f.version e in (n.0, n.1, eqb-true (length f.payload) 13 h)
+spelled_header AudioKind f e h = let n = named_audio f.type_code f.version e in (n.0, n.1, eqb-true (length f.payload) 10 h)
+spelled_header SpdKind f e h = let n = named_spd f.type_code f.version e in (n.0, n.1, eqb-true (length f.payload) 25 h)
+spelled_header RawKind f e h = (refl, refl, refl)
+
+plain_length : (x n : ℕ) → x / 32 ≡ 0 → x % 32 ≡ n → x ≡ n
+plain_length x n e f = omega arith
+
+header_from : (p : Packet) (f : Frame) (whole : IsPacket p) (read : IsRead p f) → slice_index p.header 2 / 32 ≡ 0
+    → p.header ≡ type_of (info_of (frame_in p)) ∷ version_of (info_of (frame_in p)) ∷ length_of (info_of (frame_in p)) ∷ []
+unfolding info_of frame_in length_in
+header_from p f whole read clear =
+    let parts = spelled_header (kind_in p) (frame_in p) refl (fits_payload p f whole read) in
+    let long : slice_index p.header 2 ≡ length_of (info_as (kind_in p) (frame_in p)) =
+    plain_length (slice_index p.header 2) (length_in p) clear refl ∙ sym (payload_long p whole.bodies (few p f whole read)) ∙ parts.2 in
+    three p.header whole.header ∙ (λ i. parts.0 i ∷ parts.1 i ∷ long i ∷ [])
+
+no_high_bits : (p : Packet) → All (λ bits. bits ≡ 0) (reserved_in p) → slice_index p.header 2 / 32 ≡ 0
+unfolding reserved_in
+no_high_bits p zeros = zeros 0 0 (omega arith)
+
+pub read_is_written : ReadIsWritten
+read_is_written p verdicts f whole e zeros behind =
+    let read = is_read p verdicts f e in
+    subst (λ (g : Frame). IsWritten (info_of g) p) read.frame (record {
+      whole = whole;
+      header = header_from p f whole read (no_high_bits p zeros);
+      checksum = read.checksum;
+      says = refl;
+      reserved = zeros;
+      behind = behind;
+    })

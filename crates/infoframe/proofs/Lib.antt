@@ -1,7 +1,7 @@
 mod Lists
 mod Numbers
-mod Refusals
+pub mod Refusals
 mod Contents
 mod Bounds
 mod Writings
-mod Law
+pub mod Law

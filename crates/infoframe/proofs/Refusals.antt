@@ -1,13 +1,12 @@
 -- Which packets are refused, and what the length of a payload is.
-use Rattle.std.proofs.Common.{◌≡◌, ℕ, suc, zero, ◌+◌, ◌%◌, ◌<◌, ◌≤◌, Bool, true, false, List, length, take, drop, refl, ap, ap₂, ◌∙◌, sym, subst, arith, eqb-true}
-use Rattle.std.specs.Prelude.{Option, Some, None, Result, Ok, Err, slice_index, sum}
+use Rattle.std.proofs.Common.{◌≡◌, ℕ, suc, zero, ◌<◌, ◌≤◌, Bool, true, false, refl, ap, ap₂, ◌∙◌, subst, arith, eqb-true}
+use Rattle.std.specs.Prelude.{Option, Some, None, Ok, Err, slice_index}
 use Rattle.std.proofs.lemmas.Bool.{leb-true}
 use Rattle.island_pack.specs.declared.packet.Packet.{Packet}
 use Rattle.island_pack.specs.declared.packet.PacketVerdicts.{PacketVerdicts}
 use Rattle.infoframe.specs.Frames.{Frame, frame_in, length_in, sum_of, kind_of, has_length, first_lost, answer, frame_of}
 use Rattle.infoframe.specs.declared.content.InfoKind.{InfoKind}
 use Rattle.infoframe.specs.declared.content.InfoKind.TheVariants.{Avi, Audio, Spd, Raw}
-use Rattle.infoframe.specs.declared.content.InfoFault.{InfoFault}
 use Rattle.infoframe.specs.declared.content.InfoFault.TheVariants.{Lost, Length, Checksum}
 
 pub avi_length : (k : InfoKind) (n : ℕ) → k ≡ Avi → has_length k n ≡ true → n ≡ 13

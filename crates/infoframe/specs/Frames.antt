@@ -1,5 +1,5 @@
 -- What of a packet is read as an InfoFrame: HDMI 1.4, section 5.3.5, and CTA-861, section 6.
-use Rattle.std.specs.Prelude.{ℕ, zero, suc, ◌+◌, ◌-◌, ◌%◌, Bool, true, false, ◌==◌, ◌&&◌, if◌then◌else◌, List, [], ◌∷◌, ◌++◌, length, take, drop, replicate, sum, find, slice_index, nat_le, Option, Some, None, Result, Ok, Err}
+use Rattle.std.specs.Prelude.{ℕ, zero, suc, ◌+◌, ◌%◌, Bool, true, false, ◌==◌, ◌&&◌, if◌then◌else◌, List, [], ◌∷◌, take, drop, sum, find, slice_index, nat_le, Option, Some, None, Result, Ok, Err}
 use Rattle.bch_block.specs.declared.Verdict.{Verdict}
 use Rattle.bch_block.specs.declared.Verdict.TheVariants.{Clean, Mended, Lost as LostBlock}
 use Rattle.island_pack.specs.Taken.{verdict_on}

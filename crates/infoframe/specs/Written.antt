@@ -1,5 +1,5 @@
 -- What an InfoFrame says, and the packets that say it with nothing else set.
-use Rattle.std.specs.Prelude.{◌≡◌, ℕ, ◌+◌, ◌-◌, ◌/◌, ◌<◌, Bool, true, false, ◌==◌, ◌&&◌, List, [], ◌∷◌, ◌++◌, length, drop, replicate, All, slice_index, nat_le}
+use Rattle.std.specs.Prelude.{◌≡◌, ℕ, ◌+◌, ◌-◌, ◌/◌, Bool, true, false, ◌==◌, ◌&&◌, List, [], ◌∷◌, ◌++◌, length, drop, replicate, All, slice_index, nat_le}
 use Rattle.std.specs.List.{list_all}
 use Rattle.island_pack.specs.Packets.{IsPacket}
 use Rattle.island_pack.specs.declared.packet.Packet.{Packet}

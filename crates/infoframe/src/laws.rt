@@ -1,7 +1,8 @@
 //! What holds of every InfoFrame. The functions do nothing: what they ensure are the laws.
-ghost use Rattle.infoframe.specs.Laws.{WrittenIsRead, OneSpelling, OneWriting, ReadFits};
+ghost use Rattle.infoframe.specs.Laws.{WrittenIsRead, OneSpelling, OneWriting, ReadFits, ReadIsWritten};
 
-/// What is written is read from a packet without a lost block, and says what was to be written.
+/// What is written is read from a packet without a lost block, with the type, the version, the length and the fields that
+/// were to be written.
 pub fn written_is_read()
     ensures { WrittenIsRead }
 {}
@@ -20,4 +21,9 @@ pub fn one_writing()
 /// What is read may be written.
 pub fn read_fits()
     ensures { ReadFits }
+{}
+
+/// What is read is written so, if no reserved bit is set and each byte behind the length is 0.
+pub fn read_is_written()
+    ensures { ReadIsWritten }
 {}

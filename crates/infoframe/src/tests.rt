@@ -133,6 +133,7 @@ fn lent_parts(rt: HostRuntime) {
             bodies
         },
     );
+    assert!(rt; packet.header[0] >= 0x80);
     let frame = InfoRef::read(PacketRef::new(&packet, &CLEAN));
     assert!(rt; matches!(frame, Ok(_)));
     if let Ok(frame) = frame {
@@ -143,7 +144,7 @@ fn lent_parts(rt: HostRuntime) {
 }
 
 /// The blocks that are lost, and the one that is named.
-static LOST: [([Verdict; 5], u8); 6] = [
+const LOST: [([Verdict; 5], u8); 6] = [
     (
         [
             Verdict::Lost,
@@ -203,12 +204,10 @@ fn lost_blocks(rt: HostRuntime) {
     for header in [[0x82, 2, 13], [0x82, 2, 12], [0x81, 1, 31]] {
         let packet = packet_of(&header, &[0x55; 28]);
         assert!(rt; packet.header[0] >= 0x80);
-        for (blocks, want) in &LOST {
-            let verdicts = PacketVerdicts {
-                blocks: *blocks,
-                symbols: 0,
-            };
-            assert_eq!(rt; said(&packet, &verdicts), Err(InfoFault::Lost(*want)));
+        let rows = LOST;
+        for (blocks, want) in rows {
+            let verdicts = PacketVerdicts { blocks, symbols: 0 };
+            assert_eq!(rt; said(&packet, &verdicts), Err(InfoFault::Lost(want)));
         }
     }
 }

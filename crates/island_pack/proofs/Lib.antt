@@ -1,5 +1,5 @@
 pub mod Parts
-pub mod Registers
-pub mod Columns
-pub mod Laid
-pub mod Law
+mod Registers
+mod Columns
+mod Laid
+mod Law

@@ -1,4 +1,4 @@
-use Rattle.std.proofs.Common.{◌≡◌, ℕ, ◌+◌, ◌<◌, [], ◌∷◌, length, get_or, ◌∙◌, arith}
+use Rattle.std.proofs.Common.{◌≡◌, ℕ, ◌<◌, [], ◌∷◌, get_or, arith}
 use Rattle.infoframe.specs.Fields.{field}
 use Rattle.infoframe.proofs.Numbers.{field_of_two}
 use Rattle.infoframe.proofs.fields.bars_of.Goals as goal

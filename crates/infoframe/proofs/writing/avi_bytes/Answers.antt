@@ -1,4 +1,4 @@
-use Rattle.std.proofs.Common.{◌≡◌, ℕ, ◌<◌, ap, ◌∙◌, arith, get_or}
+use Rattle.std.proofs.Common.{ap, ◌∙◌}
 use Rattle.infoframe.specs.Fields.{field, avi_of, avi_reserved}
 use Rattle.infoframe.proofs.Lists.{all_items}
 use Rattle.infoframe.proofs.Contents.{avi_of_bytes, avi_free, avi_plain}

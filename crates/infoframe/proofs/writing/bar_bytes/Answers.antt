@@ -1,4 +1,4 @@
-use Rattle.std.proofs.Common.{◌≡◌, ℕ, [], ◌∷◌, List, get_or, ap, sym, ◌∙◌}
+use Rattle.std.proofs.Common.{ℕ, [], ◌∷◌, List, get_or, ap, ◌∙◌}
 use Rattle.infoframe.specs.Bytes.{bar_bytes}
 use Rattle.infoframe.proofs.Lists.{all_items}
 use Rattle.infoframe.proofs.writing.bar_bytes.Goals as goal

@@ -1,4 +1,4 @@
-use Rattle.std.proofs.Common.{ℕ, List, [], ◌∷◌, ◌++◌, arith, get_or}
+use Rattle.std.proofs.Common.{ℕ, List, [], ◌∷◌, ◌++◌, arith}
 use Rattle.infoframe.specs.Fields.{spd_of}
 use Rattle.infoframe.proofs.Lists.{items_from, all_items}
 use Rattle.infoframe.proofs.Numbers.{field_whole}

@@ -1,8 +1,8 @@
-use Rattle.std.proofs.Common.{◌≡◌, ℕ, ◌≤◌, true, List, [], ◌∷◌, length, take, refl, ap, subst, sym, ◌∙◌, arith}
+use Rattle.std.proofs.Common.{◌≡◌, true, refl, ap, subst, sym, arith}
 use Rattle.infoframe.specs.Frames.{kind_of}
 use Rattle.infoframe.specs.Written.{fits, info_as, reserved_of, IsWritten}
 use Rattle.infoframe.specs.declared.content.Info.{Info}
-use Rattle.infoframe.specs.declared.content.Info.TheVariants.{Avi, Audio, Spd, Raw}
+use Rattle.infoframe.specs.declared.content.Info.TheVariants.{Avi, Audio, Spd}
 use Rattle.infoframe.proofs.Bounds.{avi_bounds, audio_bounds}
 use Rattle.infoframe.proofs.Writings.{written_from}
 use Rattle.infoframe.proofs.writing.write.Goals as goal

@@ -1,4 +1,4 @@
-use Rattle.std.proofs.Common.{◌≡◌, ℕ, ◌≤◌, List, [], ◌∷◌, length, take, ap, ◌∙◌, arith}
+use Rattle.std.proofs.Common.{[], ◌∷◌, length, take, ap, ◌∙◌, arith}
 use Rattle.std.proofs.lemmas.List.{length-take}
 use Rattle.infoframe.specs.Written.{padded}
 use Rattle.infoframe.proofs.Bounds.{raw_bounds}
