@@ -10,7 +10,7 @@ use Rattle.infoframe.specs.declared.content.InfoKind.TheVariants.{Avi as AviKind
 use Rattle.infoframe.specs.declared.content.Info.{Info}
 use Rattle.infoframe.specs.declared.content.Info.TheVariants.{Avi, Audio, Spd, Raw}
 
--- a payload's bytes, and 0 for each byte that 27 have more
+-- a payload, and zeros behind it up to 27 bytes
 abbrev pub padded : List ℕ → List ℕ
 padded payload = payload ++ replicate (27 - length payload) 0
 

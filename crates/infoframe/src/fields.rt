@@ -5,19 +5,22 @@ ghost use Rattle.infoframe.specs.Frames.{kind_of, has_length};
 
 use crate::content::{AudioInfo, Avi, InfoKind, Spd};
 
-/// The type code and the version of an AVI InfoFrame (CTA-861, section 6.4).
+/// The type code of an AVI InfoFrame (CTA-861, section 6.4).
 pub(crate) const AVI_TYPE: u8 = 0x82;
 
+/// The version of an AVI InfoFrame that is known.
 pub(crate) const AVI_VERSION: u8 = 2;
 
-/// The type code and the version of an audio InfoFrame (CTA-861, section 6.6).
+/// The type code of an audio InfoFrame (CTA-861, section 6.6).
 pub(crate) const AUDIO_TYPE: u8 = 0x84;
 
+/// The version of an audio InfoFrame that is known.
 pub(crate) const AUDIO_VERSION: u8 = 1;
 
-/// The type code and the version of a source product description (CTA-861, section 6.5).
+/// The type code of a source product description (CTA-861, section 6.5).
 pub(crate) const SPD_TYPE: u8 = 0x83;
 
+/// The version of a source product description that is known.
 pub(crate) const SPD_VERSION: u8 = 1;
 
 /// The layout that a type code and a version name.

@@ -8,7 +8,7 @@ use bch_block::{Verdict, parity32, parity64};
 use island_pack::{Packet, PacketRef, PacketVerdicts};
 use std::process::Abort;
 use std::test::*;
-use vectors::{PICTURES, RAW_BYTES, Row, SOUNDS_AND_SOURCES, UNWRITTEN};
+use vectors::{Row, others, pictures, raw, unwritten};
 
 /// Verdicts on a packet without a fault.
 const CLEAN: PacketVerdicts = PacketVerdicts {
@@ -75,23 +75,23 @@ fn read_and_write_rows(rt: &impl Abort, rows: &[Row]) {
 }
 
 #[test]
-fn pictures(rt: HostRuntime) {
-    read_and_write_rows(&rt, &PICTURES);
+fn avi_frames(rt: HostRuntime) {
+    read_and_write_rows(&rt, &pictures::ROWS);
 }
 
 #[test]
-fn sounds_and_sources(rt: HostRuntime) {
-    read_and_write_rows(&rt, &SOUNDS_AND_SOURCES);
+fn other_layouts(rt: HostRuntime) {
+    read_and_write_rows(&rt, &others::ROWS);
 }
 
 #[test]
-fn raw_bytes(rt: HostRuntime) {
-    read_and_write_rows(&rt, &RAW_BYTES);
+fn raw_frames(rt: HostRuntime) {
+    read_and_write_rows(&rt, &raw::ROWS);
 }
 
 #[test]
 fn packets_that_are_not_written_so(rt: HostRuntime) {
-    read_rows(&rt, &UNWRITTEN);
+    read_rows(&rt, &unwritten::ROWS);
 }
 
 #[test]
