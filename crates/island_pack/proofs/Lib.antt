@@ -1,4 +1,4 @@
-mod Parts
+pub mod Parts
 mod Registers
 mod Columns
 mod Laid
