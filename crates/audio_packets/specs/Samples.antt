@@ -1,9 +1,9 @@
 -- Packets of two-channel audio samples: HDMI 1.4, section 5.3.4. The bits of a side are those of time slots 4 to 31 of a
 -- subframe of IEC 60958-1, section 4.1: 24 of the value, then validity (V), user data (U), channel status (C), parity (P).
-use Rattle.std.specs.Prelude.{◌≡◌, ℕ, ◌+◌, ◌-◌, ◌*◌, ◌%◌, ◌^◌, ◌<◌, Bool, true, List, [], ◌∷◌, ◌++◌, Result, Ok, Err, length, map, filter, replicate, slice_index, drop, count_ones, ◌==◌, if◌then◌else◌}
+use Rattle.std.specs.Prelude.{◌≡◌, ℕ, ◌+◌, ◌-◌, ◌*◌, ◌/◌, ◌%◌, ◌^◌, ◌<◌, Bool, true, List, [], ◌∷◌, ◌++◌, Result, Ok, Err, length, map, filter, replicate, slice_index, drop, count_ones, ◌==◌, if◌then◌else◌}
 use Rattle.std.specs.Int.{bit_at}
 use Rattle.std.specs.List.{flat_map, enumerate_from}
-use Rattle.tmds_word.specs.Bits.{number, bytes_of}
+use Rattle.tmds_word.specs.Bits.{number}
 use Rattle.bch_block.specs.Bits.{bit}
 use Rattle.island_pack.specs.Packets.{body_of}
 use Rattle.island_pack.specs.declared.packet.Packet.{Packet}
@@ -70,6 +70,10 @@ note_at packet place = record {
   right_even = is_even (sample_at packet place).right (sample_at packet place).right_flags (parity_at (slice_index (body_of packet place) 6) 4);
 }
 
+-- a packet of these header bytes and bodies: what it is read as does not depend on its sync values
+abbrev pub packet_with : List ℕ → List ℕ → Packet
+packet_with header bodies = record { header = header; bodies = bodies; sync = [] }
+
 -- the samples of the present bodies, from a body on
 abbrev pub samples_from : Packet → ℕ → List SampleNote
 samples_from packet place = map (note_at packet) (filter (is_present packet) (drop place (0 ∷ 1 ∷ 2 ∷ 3 ∷ [])))
@@ -83,9 +87,13 @@ samples_of packet verdicts =
 abbrev pub side_bits : ℕ → ℕ → ℕ
 side_bits value flags = flags + 8 * ((count_ones value + count_ones flags) % 2)
 
+-- the three bytes of a value, the lowest first
+abbrev pub value_bytes : ℕ → List ℕ
+value_bytes value = value % 256 ∷ value / 256 % 256 ∷ value / 65536 ∷ []
+
 abbrev pub sample_body : Sample → List ℕ
 sample_body sample =
-    bytes_of 3 sample.left ++ bytes_of 3 sample.right
+    value_bytes sample.left ++ value_bytes sample.right
     ++ (side_bits sample.left sample.left_flags + 16 * side_bits sample.right sample.right_flags) ∷ []
 
 -- each sample is in a body, from body 0 on

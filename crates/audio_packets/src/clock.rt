@@ -1,6 +1,6 @@
 //! Packets of audio clock regeneration.
-ghost use Rattle.std.specs.Prelude.{◌≡◌, IfOk};
-ghost use Rattle.audio_packets.specs.Clock.{IsClockPacket, IsAcr, acr_of, acr_packet};
+ghost use Rattle.std.specs.Prelude.{◌≡◌, ◌^◌, ◌<◌, IfOk};
+ghost use Rattle.audio_packets.specs.Clock.{IsClockPacket, IsAcr, twenty_bits, acr_of, acr_packet};
 
 use crate::fault::{AudioFault, lost_block};
 use island_pack::{Packet, PacketRef};
@@ -31,14 +31,18 @@ pub fn read_acr(packet: PacketRef<'_>) -> Result<Acr, AudioFault>
     if packet.body(1) != first || packet.body(2) != first || packet.body(3) != first {
         return Err(AudioFault::Uneven);
     }
+    let bodies = packet.bodies();
     Ok(Acr {
-        n: twenty_bits(first[4], first[5], first[6]),
-        cts: twenty_bits(first[1], first[2], first[3]),
+        n: twenty_bits(bodies[4], bodies[5], bodies[6]),
+        cts: twenty_bits(bodies[1], bodies[2], bodies[3]),
     })
 }
 
 /// A number of 20 bits, its highest four bits in the lowest of the first byte.
-fn twenty_bits(high: u8, middle: u8, low: u8) -> u32 {
+fn twenty_bits(high: u8, middle: u8, low: u8) -> u32
+    ensures value { result ≡ twenty_bits high middle low }
+    ensures below { result < 2 ^ 20 }
+{
     u32::from_be_bytes([0, high % 16, middle, low])
 }
 

@@ -1,6 +1,7 @@
 //! Why a packet is not read.
-ghost use Rattle.std.specs.Prelude.{◌≡◌};
-ghost use Rattle.audio_packets.specs.Faults.{first_lost};
+ghost use Rattle.std.specs.Prelude.{◌≡◌, ◌<◌};
+ghost use Rattle.island_pack.specs.Taken.{verdict_on};
+ghost use Rattle.audio_packets.specs.Faults.{first_lost, is_lost};
 
 use bch_block::Verdict;
 use island_pack::PacketRef;
@@ -24,5 +25,13 @@ pub enum AudioFault {
 pub(crate) fn lost_block(packet: PacketRef<'_>) -> Option<u8>
     ensures { result ≡ first_lost packet.entry.verdicts.now }
 {
-    (0..5).find(|block| packet.verdict(*block) == Verdict::Lost)
+    (0..5).find(|block| is_lost(packet, *block))
+}
+
+/// Whether a block is lost.
+fn is_lost(packet: PacketRef<'_>, block: u8) -> bool
+    requires { block < 5 }
+    ensures { result ≡ is_lost (verdict_on packet.entry.verdicts.now block) }
+{
+    matches!(packet.verdict(block), Verdict::Lost)
 }
