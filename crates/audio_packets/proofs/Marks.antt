@@ -1,5 +1,5 @@
 -- A mark for each sample in the bits of a byte.
-use Rattle.std.proofs.Common.{◌≡◌, ℕ, zero, suc, ◌+◌, ◌*◌, ◌%◌, ◌^◌, ◌<◌, ◌≤◌, Bool, true, false, cond, List, [], ◌∷◌, ◌++◌, length, take, get_or, map, refl, ap, ap₂, ◌∙◌, sym, arith, length-take-le}
+use Rattle.std.proofs.Common.{◌≡◌, ℕ, zero, suc, ◌+◌, ◌*◌, ◌%◌, ◌^◌, ◌<◌, ◌≤◌, Bool, true, false, List, [], ◌∷◌, length, take, get_or, map, refl, ap, ap₂, ◌∙◌, sym, arith, length-take-le}
 use mir.Val.{bool_byte}
 use Rattle.std.proofs.lemmas.List.{take_more, length-map, map-append}
 use Rattle.tmds_word.specs.Bits.{number}

@@ -1,5 +1,5 @@
 -- The sample of a body, read from the bytes of all four bodies.
-use Rattle.std.proofs.Common.{◌≡◌, ℕ, suc, ◌+◌, ◌-◌, ◌*◌, ◌/◌, ◌%◌, ◌^◌, ◌<◌, Bool, List, [], ◌∷◌, drop, get_or, bit_and, map, refl, ap, ap₂, ◌∙◌, sym, subst, arith, All, length, inl, inr}
+use Rattle.std.proofs.Common.{◌≡◌, ℕ, ◌+◌, ◌*◌, ◌/◌, ◌^◌, ◌<◌, Bool, List, [], ◌∷◌, drop, get_or, bit_and, ◌∙◌, arith, All, length, inl, inr}
 use Rattle.std.proofs.lemmas.Nat.{and_mask}
 use Rattle.std.proofs.lemmas.Bool.{cases_lt}
 use Rattle.std.proofs.lemmas.List.{get_or_past}
@@ -10,8 +10,6 @@ use Rattle.island_pack.specs.Packets.{body_of}
 use Rattle.island_pack.specs.declared.packet.Packet.{Packet}
 use Rattle.audio_packets.specs.Samples.{IsSample, value_at, flags_at, parity_at, is_even, sample_at, note_at, is_present, samples_from}
 use Rattle.audio_packets.specs.Laws.{ReadSamplesFit}
-use Rattle.audio_packets.specs.declared.sample.Sample.{Sample}
-use Rattle.audio_packets.specs.declared.sample.SampleNote.{SampleNote}
 use Rattle.audio_packets.proofs.BodyBytes.{get_or-body_of}
 
 -- ---- V, U, C and P of the two sides

@@ -1,8 +1,7 @@
 -- Clock numbers that were written are read.
-use Rattle.std.proofs.Common.{◌≡◌, ℕ, ◌+◌, ◌*◌, ◌/◌, ◌%◌, ◌<◌, ◌^◌, Bool, true, List, [], ◌∷◌, ◌&&◌, Ok, Err, refl, ap, ◌∙◌, arith, if◌then◌else◌}
+use Rattle.std.proofs.Common.{◌≡◌, ℕ, ◌/◌, ◌%◌, ◌<◌, ◌^◌, true, List, ◌&&◌, Ok, Err, refl, ap, ◌∙◌, arith, if◌then◌else◌}
 use Rattle.std.specs.Str.{bytes_eq}
 use Rattle.std.proofs.lemmas.Slice.Eq.{bytes_eq-Decides}
-use Rattle.island_pack.specs.declared.packet.PacketVerdicts.{PacketVerdicts}
 use Rattle.audio_packets.specs.Faults.{unless_lost}
 use Rattle.audio_packets.specs.Clock.{IsAcr, twenty_bits, clock_in, are_alike, clock_body, acr_packet}
 use Rattle.audio_packets.specs.Laws.{WrittenAcrIsRead}

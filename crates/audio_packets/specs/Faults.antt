@@ -1,5 +1,5 @@
 -- Blocks of a packet that no repair could restore, and what is answered in place of what such a packet carries.
-use Rattle.std.specs.Prelude.{ℕ, Bool, true, false, List, [], ◌∷◌, Option, Some, None, Result, Ok, Err}
+use Rattle.std.specs.Prelude.{ℕ, Bool, true, false, [], ◌∷◌, Option, Some, None, Result, Err}
 use Rattle.std.specs.List.{find}
 use Rattle.bch_block.specs.declared.Verdict.{Verdict}
 use Rattle.bch_block.specs.declared.Verdict.TheVariants.{Clean, Mended, Lost}

@@ -28,7 +28,7 @@ pub record IsSample (sample : Sample) : Type 0 where
 abbrev pub is_present : Packet → ℕ → Bool
 is_present packet place = bit (slice_index packet.header 1) place
 
--- bit 4 of header byte 1 is 1 for the layout of more than two channels
+-- bit 4 of header byte 1 is the layout: 0 of two channels, 1 of up to eight
 abbrev pub has_many_channels : Packet → Bool
 has_many_channels packet = bit (slice_index packet.header 1) 4
 

@@ -16,8 +16,8 @@ pub enum AudioFault {
     /// The four bodies of a clock packet are not all alike.
     #[error("the four bodies are not all alike")]
     Uneven,
-    /// A sample packet has the layout of more than two channels.
-    #[error("the layout is that of more than two channels")]
+    /// A sample packet has layout 1, that of up to eight channels.
+    #[error("the layout is that of up to eight channels")]
     Layout,
 }
 

@@ -11,8 +11,8 @@ use std::marker::Model;
 
 /// Reads the samples of an audio sample packet (HDMI 1.4, section 5.3.4).
 ///
-/// `Lost` has the least lost block; where none is lost, `Layout` says that the packet has the
-/// layout of more than two channels.
+/// `Lost` has the least lost block; where none is lost, `Layout` says that the packet has layout 1,
+/// that of up to eight channels.
 pub fn samples<'a>(packet: PacketRef<'a>) -> Result<SampleIter<'a>, AudioFault>
     requires { IsSamplePacket packet.packet.now }
     ensures { result ≡ samples_of packet.entry.packet.now packet.entry.verdicts.now }
@@ -33,7 +33,7 @@ pub fn samples<'a>(packet: PacketRef<'a>) -> Result<SampleIter<'a>, AudioFault>
 
 /// The samples of a packet's present bodies, in order. Contracts see it as the list of the samples
 /// that are still to come.
-#[derive(Drop)]
+#[derive(Debug, Drop)]
 pub struct SampleIter<'a> {
     header: &'a [u8; 3],
     bodies: &'a [u8; 28],

@@ -218,15 +218,16 @@ fn writes_one_sample(rt: HostRuntime) {
 fn writes_four_samples(rt: HostRuntime) {
     let rows = READ;
     let (header, bodies, _, noted) = &rows[3];
-    let list = [
-        sample_of(&noted[0]),
-        sample_of(&noted[1]),
-        sample_of(&noted[2]),
-        sample_of(&noted[3]),
-    ];
-    assert!(rt; list.iter().all(fits));
+    let first = sample_of(&noted[0]);
+    let second = sample_of(&noted[1]);
+    let third = sample_of(&noted[2]);
+    let fourth = sample_of(&noted[3]);
+    assert!(rt; fits(&first));
+    assert!(rt; fits(&second));
+    assert!(rt; fits(&third));
+    assert!(rt; fits(&fourth));
     let mut packet = packet_of(&[9; 3], &[0x77_777777_777777; 4]);
-    write_samples(&list, &mut packet);
+    write_samples(&[first, second, third, fourth], &mut packet);
     assert_eq!(rt; packet, packet_of(header, bodies));
 }
 

@@ -1,4 +1,4 @@
-use Rattle.std.proofs.Common.{rules, ◌≡◌, ℕ, ◌+◌, ◌*◌, ◌%◌, ◌<◌, ◌≤◌, ◌^◌, true, false, arith, length, map, take, get_or, ap, subst, sym, ◌∙◌}
+use Rattle.std.proofs.Common.{rules, ℕ, ◌+◌, ◌*◌, ◌%◌, ◌<◌, ◌^◌, true, false, arith, get_or, ap, subst, sym, ◌∙◌}
 use Rattle.tmds_word.specs.Bits.{number}
 use Rattle.audio_packets.specs.declared.sample.Sample.{Sample}
 use Rattle.audio_packets.proofs.Marks.{number_more, below_more, four_bits}

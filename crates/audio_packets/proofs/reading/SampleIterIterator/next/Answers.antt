@@ -1,4 +1,4 @@
-use Rattle.std.proofs.Common.{◌≡◌, ◌+◌, ◌∷◌, length, map, sym, ap, subst, ◌∙◌, arith}
+use Rattle.std.proofs.Common.{◌+◌, ◌∷◌, length, map, sym, ap, subst, ◌∙◌, arith}
 use Rattle.std.specs.Iterator.{YieldsFirst}
 use Rattle.audio_packets.specs.Samples.{packet_with, is_present, note_at, samples_from}
 use Rattle.audio_packets.proofs.Searches.{filter-none, filter-places}
