@@ -1,4 +1,5 @@
 mod Parts
+pub mod Runs
 mod Registers
 mod Columns
 mod Laid

@@ -5,3 +5,9 @@ pub mod Faults
 pub mod Spellings
 pub mod Packets
 pub mod Streams
+pub mod Gathered
+pub mod RasterModes
+pub mod RasterSizes
+pub mod RasterPeriods
+pub mod RasterLines
+pub mod RasterLaw
