@@ -11,3 +11,4 @@ pub mod RasterSizes
 pub mod RasterPeriods
 pub mod RasterLines
 pub mod RasterLaw
+pub mod Contents

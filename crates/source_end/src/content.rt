@@ -137,6 +137,7 @@ impl Content {
         ensures ok { OnOk result (self.new ≡ on_last (with_packet packet) self.old) }
         ensures err { OnErr result (self.new ≡ self.old) }
     {
+        payload(&packet);
         match self.frames.last_mut() {
             Some(frame) => frame.packet(packet),
             None => unreachable!(),
@@ -164,4 +165,19 @@ impl Content {
     {
         self.frames.as_slice()
     }
+}
+
+/// That a packet's header and bodies are bytes: there is nothing to do.
+fn payload(packet: &Packet)
+    ensures { IsTrue (is_payload packet.now) }
+{
+    bytes(&packet.header);
+    bytes(&packet.bodies);
+}
+
+/// That values are bytes: there is nothing to do.
+fn bytes(values: &[u8])
+    ensures { IsTrue (are_bytes values.now) }
+{
+    let _values = values;
 }

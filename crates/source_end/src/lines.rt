@@ -63,10 +63,13 @@ fn island_of(
     let mut placed = Vec::with_capacity(alloc, packets.len())?;
     let mut x: u32 = 14;
     for packet in packets {
+        let header = packet.header;
+        let bodies = packet.bodies;
+        let sync = packet_sync(mode, vsync, x);
         placed.push(Packet {
-            header: packet.header,
-            bodies: packet.bodies,
-            sync: packet_sync(mode, vsync, x),
+            header,
+            bodies,
+            sync,
         })?;
         x += 32;
     }
