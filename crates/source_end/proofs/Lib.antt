@@ -12,3 +12,4 @@ pub mod RasterPeriods
 pub mod RasterLines
 pub mod RasterLaw
 pub mod Contents
+pub mod RasterFaults
