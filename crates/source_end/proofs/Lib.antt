@@ -13,3 +13,5 @@ pub mod RasterLines
 pub mod RasterLaw
 pub mod Contents
 pub mod RasterFaults
+pub mod RasterRuns
+pub mod RasterWriting

@@ -22,7 +22,7 @@ size_up value (suc n) x = let e = size_up value n (suc x) in omega (arith, e)
 pub size_columns : (value : ℕ → ℕ) (x e : ℕ) → size (columns value x e) ≡ e - x
 size_columns value x e = size_up value (e - x) x
 
-length_packets : (mode : Mode) (line : Line) (x : ℕ) (ps : List Packet) → length (packets_at mode line x ps) ≡ length ps
+pub length_packets : (mode : Mode) (line : Line) (x : ℕ) (ps : List Packet) → length (packets_at mode line x ps) ≡ length ps
 length_packets mode line x [] = refl
 length_packets mode line x (p ∷ ps) = ap (λ n. suc n) (length_packets mode line (x + 32) ps)
 
@@ -65,7 +65,7 @@ laid_append mode (x ∷ xs) ys ps =
     ap (λ (parts : List Part). whole mode x (take (room mode x) ps) x.row ++ parts) (laid_append mode xs ys (drop (room mode x) ps))
     ∙ sym (append_assoc (whole mode x (take (room mode x) ps) x.row) (laid mode xs (drop (room mode x) ps)) (laid mode ys (left mode xs (drop (room mode x) ps))))
 
-more_times : (n t : ℕ) → t + n * t ≡ suc n * t
+pub more_times : (n t : ℕ) → t + n * t ≡ suc n * t
 more_times n t = grind arith
 
 size_laid : (mode : Mode) (line : Line) (lines : List Line) (ps : List Packet) → size (laid mode (line ∷ lines) ps) ≡ size (whole mode line (take (room mode line) ps) line.row) + size (laid mode lines (drop (room mode line) ps))
@@ -153,7 +153,7 @@ parts_more mode f frames =
 
 -- Sizes of frames.
 
-four_areas : (s b a f t : ℕ) → s * t + (b * t + (a * t + f * t)) ≡ t * (s + b + a + f)
+pub four_areas : (s b a f t : ℕ) → s * t + (b * t + (a * t + f * t)) ≡ t * (s + b + a + f)
 four_areas s b a f t = grind arith
 
 pub size_frame : (mode : Mode) → IsMode mode → (f : Frame) → IsFrame mode f → size (laid mode (lines_of mode f) f.packets) ≡ total mode.across * total mode.down

@@ -142,9 +142,9 @@ fn blank_lines<'a>(
 {
     let mut rest = packets;
     for _ in 0..count {
-        let taken = rest.len().min(mode.blank_room() as usize);
-        blank_line(mode, vsync, &rest[..taken], out)?;
-        rest = &rest[taken..];
+        let (taken, left) = rest.split_at(rest.len().min(mode.blank_room() as usize));
+        blank_line(mode, vsync, taken, out)?;
+        rest = left;
     }
     Ok(rest)
 }
@@ -163,9 +163,9 @@ fn row_lines<'a>(
 {
     let mut rest = packets;
     for row in rows {
-        let taken = rest.len().min(mode.row_room() as usize);
-        row_line(mode, row.as_slice(), &rest[..taken], out)?;
-        rest = &rest[taken..];
+        let (taken, left) = rest.split_at(rest.len().min(mode.row_room() as usize));
+        row_line(mode, row.as_slice(), taken, out)?;
+        rest = left;
     }
     Ok(rest)
 }
