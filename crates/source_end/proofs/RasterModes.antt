@@ -1,14 +1,14 @@
 -- What a mode and its frames have where no raster is refused.
-use Rattle.std.proofs.Common.{◌≡◌, ℕ, zero, suc, ◌*◌, ◌≤◌, Bool, true, false, ◌&&◌, cond, ◌==◌, List, [], ◌∷◌, length, Option, Some, None, refl, ap, ap₂}
+use Rattle.std.proofs.Common.{◌≡◌, ℕ, zero, suc, ◌+◌, ◌*◌, ◌≤◌, Bool, true, false, ◌&&◌, cond, ◌==◌, List, [], ◌∷◌, length, Option, Some, None, refl, ap, ap₂}
 use Rattle.std.specs.Prelude.{nat_le}
 use Rattle.std.specs.List.{list_all}
 use Rattle.std.proofs.lemmas.Bool.{leb-true}
 use Rattle.tmds_word.proofs.Below.{and-left, and-right}
 use Rattle.source_end.specs.declared.mode.Mode.{Mode}
 use Rattle.source_end.specs.declared.refusal.RasterFault.{RasterFault}
-use Rattle.source_end.specs.declared.refusal.RasterFault.TheVariants.{BadMode, Row}
+use Rattle.source_end.specs.declared.refusal.RasterFault.TheVariants.{BadMode, Row, Long}
 use Rattle.source_end.specs.Content.{Frame}
-use Rattle.source_end.specs.Raster.{active, front, sync, back}
+use Rattle.source_end.specs.Raster.{active, front, sync, back, total}
 use Rattle.source_end.specs.RasterRefusals.{or_else, is_in_range, numbers_of, bad_mode, bad_row, bad_rows, no_room, too_long, raster_fault}
 
 -- what the numbers of a mode must be
@@ -100,3 +100,18 @@ good_frames mode frames h =
     let t = both_none (bad_mode 0 (numbers_of mode)) (or_else (bad_rows mode 0 frames) (or_else (no_room mode 0 frames) (too_long mode frames))) h in
     are_frames mode 0 frames ((both_none (bad_rows mode 0 frames) (or_else (no_room mode 0 frames) (too_long mode frames)) t.1).0)
 
+pub no_bad_mode : (mode : Mode) (frames : List Frame) → raster_fault mode frames ≡ None → bad_mode 0 (numbers_of mode) ≡ None
+unfolding raster_fault
+no_bad_mode mode frames h = (both_none (bad_mode 0 (numbers_of mode)) (or_else (bad_rows mode 0 frames) (or_else (no_room mode 0 frames) (too_long mode frames))) h).0
+
+fits_in : (n : ℕ) (t : Bool) → nat_le n 20000000 ≡ t → cond t (let none : Option RasterFault = None in none) (Some Long) ≡ None → n ≤ 20000000
+fits_in n true e h = leb-true n 20000000 e
+fits_in n false e h = absurd cc
+
+pub few_columns : (mode : Mode) (frames : List Frame) → raster_fault mode frames ≡ None → length frames * (total mode.across * total mode.down) + 32 ≤ 20000000
+unfolding raster_fault
+few_columns mode frames h =
+    let t = (both_none (bad_mode 0 (numbers_of mode)) (or_else (bad_rows mode 0 frames) (or_else (no_room mode 0 frames) (too_long mode frames))) h).1 in
+    let u = (both_none (bad_rows mode 0 frames) (or_else (no_room mode 0 frames) (too_long mode frames)) t).1 in
+    let n = length frames * (total mode.across * total mode.down) + 32 in
+    fits_in n (nat_le n 20000000) refl ((both_none (no_room mode 0 frames) (too_long mode frames) u).1)

@@ -1,5 +1,5 @@
 -- Lines that are written one after another.
-use Rattle.std.proofs.Common.{◌≡◌, ℕ, zero, suc, ◌+◌, ◌-◌, ◌*◌, ◌/◌, ◌<◌, ◌≤◌, Bool, true, false, ◌&&◌, ◌==◌, get_or, min, List, [], ◌∷◌, ◌++◌, map, length, take, drop, replicate, Some, None, refl, sym, ap, ap₂, ◌∙◌, append_assoc, append-nil, arith, inl, inr}
+use Rattle.std.proofs.Common.{◌≡◌, ℕ, zero, suc, ◌+◌, ◌-◌, ◌*◌, ◌/◌, ◌^◌, ◌<◌, ◌≤◌, Bool, true, false, ◌&&◌, ◌==◌, get_or, min, List, [], ◌∷◌, ◌++◌, map, length, take, drop, replicate, Some, None, refl, sym, ap, ap₂, ◌∙◌, append_assoc, append-nil, arith, inl, inr, mul-le-mul_right}
 use Rattle.std.proofs.lemmas.List.{map-append, drop_all, take_min, length-take, replicate-append-replicate}
 use Rattle.std.proofs.lemmas.Bool.{cases_lt, eqb-true}
 use Rattle.tmds_word.proofs.Below.{and-left, and-right}
@@ -7,12 +7,12 @@ use Rattle.terc4.specs.Columns.{one_if}
 use Rattle.island_pack.specs.declared.packet.Packet.{Packet}
 use Rattle.source_end.specs.declared.mode.Mode.{Mode}
 use Rattle.source_end.specs.Content.{Frame}
-use Rattle.source_end.specs.Raster.{Line, Part, columns, pixels, packets, value_at, island_of, blank, row_line, room, row_room, blank_room, sync, back, front, whole, laid, lines_of, parts_of, final_columns}
+use Rattle.source_end.specs.Raster.{Line, Part, columns, pixels, packets, value_at, island_of, blank, row_line, room, row_room, blank_room, sync, back, front, total, whole, laid, lines_of, parts_of, final_columns}
 use Rattle.source_end.specs.Lines.{lead, lead_end, left}
 use Rattle.source_end.specs.Gathering.{size}
 use Rattle.source_end.proofs.Gathered.{size_append}
-use Rattle.source_end.proofs.RasterModes.{AreRows}
-use Rattle.source_end.proofs.RasterSizes.{parts, size_columns, length_packets, laid_append, parts_first, parts_none}
+use Rattle.source_end.proofs.RasterModes.{IsMode, AreRows, AreFrames}
+use Rattle.source_end.proofs.RasterSizes.{parts, more_times, size_frame, size_columns, length_packets, laid_append, parts_first, parts_none}
 
 -- Packets that are taken.
 
@@ -116,6 +116,10 @@ unfoldable pub bodies : Mode → List Frame → List Part
 bodies mode [] = []
 bodies mode (f ∷ frames) = laid mode (lines_of mode f) f.packets ++ bodies mode frames
 
+pub none_bodies : (mode : Mode) → bodies mode [] ≡ []
+unfolding bodies
+none_bodies mode = refl
+
 pub bodies_more : (mode : Mode) (frames : List Frame) (f : Frame) → bodies mode (frames ++ f ∷ []) ≡ bodies mode frames ++ laid mode (lines_of mode f) f.packets
 unfolding bodies
 bodies_more mode [] f = append-nil (laid mode (lines_of mode f) f.packets)
@@ -129,6 +133,34 @@ parts_bodies mode (f ∷ frames) =
     append_assoc (laid mode (lines_of mode f) f.packets) (bodies mode frames) (final_columns mode)
     ∙ ap (λ (ps : List Part). laid mode (lines_of mode f) f.packets ++ ps) (parts_bodies mode frames)
     ∙ sym (parts_first mode f frames)
+
+pub frames_take : (mode : Mode) (i : ℕ) (frames : List Frame) → AreFrames mode frames → AreFrames mode (take i frames)
+frames_take mode zero frames h = tt
+frames_take mode (suc i) [] h = tt
+frames_take mode (suc i) (f ∷ frames) h = (h.0, frames_take mode i frames h.1)
+
+pub size_bodies : (mode : Mode) → IsMode mode → (frames : List Frame) → AreFrames mode frames → size (bodies mode frames) ≡ length frames * (total mode.across * total mode.down)
+unfolding bodies
+size_bodies mode ok [] are = size_none ∙ omega arith
+size_bodies mode ok (f ∷ frames) are =
+    size_append (laid mode (lines_of mode f) f.packets) (bodies mode frames)
+    ∙ ap₂ (λ (x y : ℕ). x + y) (size_frame mode ok f are.0) (size_bodies mode ok frames are.1)
+    ∙ more_times (length frames) (total mode.across * total mode.down)
+
+-- the frames so far, and one more, are no more columns than all
+pub few_so_far : (mode : Mode) → IsMode mode → (frames : List Frame) → AreFrames mode frames → (i : ℕ) → i < length frames → length frames * (total mode.across * total mode.down) + 32 ≤ 20000000 → size (bodies mode (take i frames)) + total mode.across * total mode.down < 2 ^ 32
+few_so_far mode ok frames are i lt few =
+    let a = total mode.across * total mode.down in
+    let s = size_bodies mode ok (take i frames) (frames_take mode i frames are) in
+    let long : length (take i frames) ≡ i = omega (arith, length-take i frames, lt) in
+    let t = ap (λ (n : ℕ). n * a) long in
+    let sum = one_time i a in
+    let next : i + 1 ≤ length frames = omega (arith, lt) in
+    let most = mul-le-mul_right a next in
+    omega (arith, s, t, sum, most, few)
+
+pub few_at_end : (mode : Mode) → IsMode mode → (frames : List Frame) → AreFrames mode frames → length frames * (total mode.across * total mode.down) + 32 ≤ 20000000 → size (bodies mode frames) + 32 < 2 ^ 32
+few_at_end mode ok frames are few = omega (arith, size_bodies mode ok frames are, few)
 
 -- Parts in a row.
 
