@@ -15,7 +15,7 @@ use Rattle.period_grammar.specs.Things.{Thing}
 use Rattle.period_grammar.specs.Heard.{heard}
 use Rattle.link_sink.specs.Account.{account}
 use Rattle.link_sink.specs.Alignment.{IsAlignedTold}
-use Rattle.link_sink.specs.Laws.{IsAccounted, AlignsUntil}
+use Rattle.link_sink.specs.Laws.{IsAccounted, AlignsUntil, BeginColumn}
 use Rattle.link_sink.proofs.Tapped.{payload_accounted, tap_accounted}
 use Rattle.listing.specs.Texts.{link_text, fault_lines}
 use Rattle.hdmi_cli.specs.Commands.{IsCommand}
@@ -39,7 +39,7 @@ record IsAccountOf (ps : List Period) (sent received : List Column) (a : ℕ) (b
   output : o.output ≡ link_text (account ps sent received a (length (aligned_columns blue green red d e f)))
 
 told_account : (ps : List Period) (sent received : List Column) (offset : ℕ) (skews : List ℕ) (a : ℕ) (blue green red : List Bool) (d e f columns : ℕ) (things : List Thing) (o : Outcome)
-    → IsFirst blue green red d e f → IsAccounted ps sent received offset skews blue green red d e f a → IsAlignedTold blue green red columns things
+    → IsFirst blue green red d e f → IsAccounted ps sent received (aligned_columns blue green red d e f) a → IsAlignedTold blue green red columns things
     → o ≡ record { status = status_with (fault_lines things); output = link_text things; note = [] }
     → IsAccountOf ps sent received a blue green red d e f o
 told_account ps sent received offset skews a blue green red d e f columns things o first accounted told is =
@@ -52,7 +52,7 @@ told_account ps sent received offset skews a blue green red d e f columns things
     }
 
 lanes_account : (ps : List Period) (sent received : List Column) (offset : ℕ) (skews : List ℕ) (a : ℕ) (blue green red : List Bool) (d e f : ℕ) (o : Outcome)
-    → IsFirst blue green red d e f → IsAccounted ps sent received offset skews blue green red d e f a → RecoversLanes blue green red o → IsAccountOf ps sent received a blue green red d e f o
+    → IsFirst blue green red d e f → IsAccounted ps sent received (aligned_columns blue green red d e f) a → RecoversLanes blue green red o → IsAccountOf ps sent received a blue green red d e f o
 lanes_account ps sent received offset skews a blue green red d e f o first accounted (inl (columns, things, told, is)) =
     told_account ps sent received offset skews a blue green red d e f columns things o first accounted told is
 lanes_account ps sent received offset skews a blue green red d e f o first accounted (inr (columns, things, nowhere, is)) = absurd (nowhere.nowhere d e f first.triple)
@@ -63,7 +63,7 @@ same_lanes x y z u v w o same h =
 
 -- the capture of such lanes is recovered so
 capture_account : (ps : List Period) (sent received : List Column) (offset : ℕ) (skews : List ℕ) (a : ℕ) (blue green red : List Bool) (d e f : ℕ) (bytes : List ℕ) (o : Outcome)
-    → AreLanes blue green red → bytes ≡ capture_of blue green red → IsFirst blue green red d e f → IsAccounted ps sent received offset skews blue green red d e f a → RecoversLink bytes o
+    → AreLanes blue green red → bytes ≡ capture_of blue green red → IsFirst blue green red d e f → IsAccounted ps sent received (aligned_columns blue green red d e f) a → RecoversLink bytes o
     → IsAccountOf ps sent received a blue green red d e f o
 capture_account ps sent received offset skews a blue green red d e f bytes o are bytes_are first accounted (inl (x, y, z, lanes, is, recovers)) =
     let same = one_capture blue green red x y z are lanes (sym bytes_are ∙ is) in
@@ -74,14 +74,15 @@ capture_account ps sent received offset skews a blue green red d e f bytes o are
 -- what a run says of it
 
 answered : (ps : List Period) (sent received : List Column) (offset : ℕ) (skews : List ℕ) (a : ℕ) (blue green red : List Bool) (d e f : ℕ) (bytes : List ℕ) (ending : Ending) (before after : Devices)
-    → AreLanes blue green red → bytes ≡ capture_of blue green red → IsFirst blue green red d e f → IsAccounted ps sent received offset skews blue green red d e f a
-    → before.left ≡ Some bytes → Answers RecoverLink ending before after
+    → AreLanes blue green red → bytes ≡ capture_of blue green red → IsFirst blue green red d e f → IsAccounted ps sent received (aligned_columns blue green red d e f) a
+    → BeginColumn offset skews (a + 12) d e f → before.left ≡ Some bytes → Answers RecoverLink ending before after
     → IsRecovered ps sent received offset skews blue green red d e f a (status_of ending) before.held after.held
-answered ps sent received offset skews a blue green red d e f bytes ending before after are bytes_are first accounted left answers =
+answered ps sent received offset skews a blue green red d e f bytes ending before after are bytes_are first accounted begins left answers =
     let answer = answers bytes left in
     let is = capture_account ps sent received offset skews a blue green red d e f bytes answer.outcome are bytes_are first accounted answer.does in
     record {
       accounted = accounted;
+      begins = begins;
       status_is = sym answer.status ∙ is.status;
       written = subst (λ out. Appends before.held after.held out) is.output answer.written;
     }
@@ -139,7 +140,7 @@ pub headlined : (words : List (List ℕ)) (ending : Ending) (before after : Devi
 headlined words ending before after status ends is named ps sent received offset skews counts blue green red bytes t alone d e f first left =
     let law = payload_accounted ps sent received t.came alone offset skews counts blue green red t.tap t.small d e f first in
     run_ended (λ s old new. (a : ℕ) × IsRecovered ps sent received offset skews blue green red d e f a s old new) words ending before after status ends is named
-    (λ answers. (law.0, answered ps sent received offset skews law.0 blue green red d e f bytes ending before after t.lanes t.bytes_are first law.1 left answers))
+    (λ answers. (law.0, answered ps sent received offset skews law.0 blue green red d e f bytes ending before after t.lanes t.bytes_are first law.1 law.2 left answers))
 
 -- and damage anywhere that spares control and guard words until a column
 pub headlined_anywhere : (words : List (List ℕ)) (ending : Ending) (before after : Devices) (status : ℕ) → RunEnds words ending before after → status ≡ status_of ending → IsCommand words RecoverLink
@@ -152,4 +153,4 @@ headlined_anywhere words ending before after status ends is named ps sent receiv
     let law = tap_accounted ps sent received t.came offset skews counts blue green red t.tap t.small until aligns in
     run_ended (λ s old new. (d e f : ℕ) × IsFirst blue green red d e f
     × ((a : ℕ) × (a + 12 ≤ until) × IsRecovered ps sent received offset skews blue green red d e f a s old new)) words ending before after status ends is named
-    (λ answers. (law.0, law.1, law.2, law.3, law.4.0, law.4.1, answered ps sent received offset skews law.4.0 blue green red law.0 law.1 law.2 bytes ending before after t.lanes t.bytes_are law.3 law.4.2 left answers))
+    (λ answers. (law.0, law.1, law.2, law.3, law.4.0, law.4.1, answered ps sent received offset skews law.4.0 blue green red law.0 law.1 law.2 bytes ending before after t.lanes t.bytes_are law.3 law.4.2 law.4.3 left answers))

@@ -8,7 +8,7 @@ use Rattle.capture_file.specs.Layout.{capture_of}
 use Rattle.capture_file.specs.Faults.{AreLanes}
 use Rattle.lane_deskew.specs.Aligned.{aligned_columns}
 use Rattle.island_pack.specs.Periods.{Period}
-use Rattle.link_sink.specs.Laws.{CameOf, IsAccounted}
+use Rattle.link_sink.specs.Laws.{CameOf, IsAccounted, BeginColumn}
 use Rattle.link_sink.specs.Account.{account}
 use Rattle.listing.specs.Texts.{link_text, fault_lines}
 use Rattle.hdmi_cli.specs.Outcome.{status_with}
@@ -24,6 +24,7 @@ pub record AreTapped (ps : List Period) (sent received : List Column) (offset : 
 -- the output grew by the listing of the account of the columns that are aligned at three edges, which begin with column a,
 -- twelve before the end of a control period, and the status says whether it has a fault
 pub record IsRecovered (ps : List Period) (sent received : List Column) (offset : ℕ) (skews : List ℕ) (blue green red : List Bool) (d e f a status : ℕ) (old new : Option (List ℕ)) : Type 0 where
-  pub accounted : IsAccounted ps sent received offset skews blue green red d e f a
+  pub accounted : IsAccounted ps sent received (aligned_columns blue green red d e f) a
+  pub begins : BeginColumn offset skews (a + 12) d e f
   pub status_is : status ≡ status_with (fault_lines (account ps sent received a (length (aligned_columns blue green red d e f))))
   pub written : Appends old new (link_text (account ps sent received a (length (aligned_columns blue green red d e f))))

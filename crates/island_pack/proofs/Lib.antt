@@ -1,4 +1,5 @@
 pub mod Parts
+pub mod Runs
 mod Registers
 mod Columns
 mod Laid

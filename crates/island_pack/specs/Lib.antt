@@ -3,6 +3,7 @@ pub mod Packets
 pub mod Registers
 pub mod Taken
 pub mod Periods
+pub mod Runs
 pub mod Conforming
 pub mod Spelling
 pub mod Kinds

@@ -5,3 +5,13 @@ pub mod Faults
 pub mod Spellings
 pub mod Packets
 pub mod Streams
+pub mod Gathered
+pub mod RasterModes
+pub mod RasterSizes
+pub mod RasterPeriods
+pub mod RasterLines
+pub mod RasterLaw
+pub mod Contents
+pub mod RasterFaults
+pub mod RasterRuns
+pub mod RasterWriting

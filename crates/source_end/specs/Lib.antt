@@ -3,3 +3,11 @@ pub mod Kept
 pub mod ItemPeriods
 pub mod Refusals
 pub mod Laws
+pub mod Content
+pub mod Formats
+pub mod Raster
+pub mod RasterRefusals
+pub mod RasterLaws
+pub mod OpenRuns
+pub mod Lines
+pub mod Gathering

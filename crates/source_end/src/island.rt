@@ -39,6 +39,17 @@ impl Island {
         }
     }
 
+    /// The island of these packets.
+    pub(crate) fn from_packets(opening: [u8; 2], packets: Vec<Packet>, closing: [u8; 2]) -> Island
+        ensures { result ≡ record { opening = pair_of opening; packets = packets.items; closing = pair_of closing } }
+    {
+        Island {
+            opening,
+            packets,
+            closing,
+        }
+    }
+
     /// Appends a packet. After a refusal the island is as before.
     pub fn push(&mut self, packet: Packet) -> Result<(), NoMemory>
         ensures ok { OnOk result (self.new ≡ record { opening = self.old.opening; packets = self.old.packets ++ packet ∷ []; closing = self.old.closing }) }

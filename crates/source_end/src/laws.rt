@@ -1,7 +1,18 @@
 //! Laws of streams, over their definitions alone.
 ghost use Rattle.source_end.specs.Laws.{SpelledAsMany};
+ghost use Rattle.source_end.specs.RasterLaws.{RasterConforms, RasterColumns};
 
 /// Columns that spell periods are as many as the periods take.
 pub fn spelled_as_many()
     ensures { SpelledAsMany }
+{}
+
+/// A raster that is not refused conforms.
+pub fn raster_conforms()
+    ensures { RasterConforms }
+{}
+
+/// A raster that is not refused has the columns of all lines of all frames, and 32.
+pub fn raster_columns()
+    ensures { RasterColumns }
 {}

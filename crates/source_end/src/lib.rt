@@ -1,17 +1,27 @@
 //! The sender: items, the lists of them that conform, and the columns that spell them.
 #![tactic(auto)]
 
+mod content;
 mod follow;
+mod gathering;
 mod island;
 mod item;
 mod items;
 pub mod laws;
+mod lines;
+mod mode;
+mod rasters;
+mod refusal;
 mod spell;
 mod stream;
 
+pub use content::Content;
 pub use island::Island;
 pub use item::{Item, Pixels, Run, Runs};
 pub use items::{ItemFault, Items};
+pub use mode::Mode;
+pub use rasters::raster;
+pub use refusal::RasterFault;
 pub use stream::Stream;
 
 #[cfg(test)]

@@ -1,0 +1,18 @@
+-- What holds of rasters.
+use Rattle.std.specs.Prelude.{◌≡◌, ◌+◌, ◌*◌, List, length, None, IsTrue}
+use Rattle.island_pack.specs.Periods.{columns_of}
+use Rattle.island_pack.specs.Conforming.{IsConforming}
+use Rattle.source_end.specs.declared.mode.Mode.{Mode}
+use Rattle.source_end.specs.Content.{Frame, are_content}
+use Rattle.source_end.specs.Raster.{total, raster_of}
+use Rattle.source_end.specs.RasterRefusals.{raster_fault}
+
+-- what is not refused conforms
+unfoldable pub RasterConforms : Type 0
+RasterConforms = (mode : Mode) (frames : List Frame) → raster_fault mode frames ≡ None → IsTrue (are_content frames) → IsConforming (raster_of mode frames)
+
+-- its columns are those of all lines of all frames, and 32
+unfoldable pub RasterColumns : Type 0
+RasterColumns =
+    (mode : Mode) (frames : List Frame) → raster_fault mode frames ≡ None
+    → columns_of (raster_of mode frames) ≡ length frames * (total mode.across * total mode.down) + 32
