@@ -1,5 +1,5 @@
 -- The numbers kept of control columns, with one column more.
-use Rattle.std.proofs.Common.{◌≡◌, ◌≢◌, ℕ, suc, zero, ◌+◌, ◌≤◌, Bool, true, false, cond, ◌==◌, ◌&&◌, List, [], ◌∷◌, ◌++◌, length, map, take, reverse, refl, ap, ap₂, sym, ◌∙◌, arith, subst}
+use Rattle.std.proofs.Common.{◌≡◌, ◌≢◌, ℕ, suc, zero, ◌+◌, ◌≤◌, Bool, true, false, not, cond, ◌==◌, ◌&&◌, List, [], ◌∷◌, ◌++◌, length, map, take, reverse, refl, ap, ap₂, sym, ◌∙◌, arith, subst}
 use Rattle.std.specs.Prelude.{nat_le}
 use Rattle.std.specs.List.{list_all, prefix_len}
 use Rattle.std.proofs.lemmas.List.{length-map, length_push, length-reverse, map-append, reverse-append, take-map}
@@ -12,6 +12,7 @@ use Rattle.island_pack.specs.Periods.{ctl, has_preamble as announces}
 use Rattle.period_grammar.specs.Column.{value_of}
 use Rattle.period_grammar.specs.Things.{run}
 use Rattle.period_grammar.specs.Cut.{Run, columns, runs}
+use Rattle.period_grammar.specs.GoesOn.{is_whole, goes_on_run}
 use Rattle.period_grammar.specs.Heard.{last_run, if_not, has_preamble}
 use Rattle.period_grammar.specs.After.{change}
 use Rattle.period_grammar.specs.ControlAfter.{kept_run, has_ctl, IsLast, IsControlAfter}
@@ -83,6 +84,16 @@ at_last false c w cs n e f = refl
 same_run : (w m v n : ℕ) → run w m ∷ [] ≡ kept_run v n → (w ≡ v) × (m ≡ n)
 same_run w m v zero e = cc
 same_run w m v (suc n) e = (cc, cc)
+
+-- what goes on with the last run, by its numbers
+pub goes_run : (rs : List Run) (v n : ℕ) → last_run rs ≡ kept_run v n → (c : Column) → (not (n == 0) && is_whole v c) ≡ goes_on_run rs c
+goes_run [] v zero e c = refl
+goes_run [] v (suc n) e c = cc
+goes_run (columns w cs ∷ []) v zero e c = cc
+goes_run (columns w cs ∷ []) v (suc n) e c =
+    let some : suc n ≢ 0 = λ h. omega arith in
+    ap (λ b. not b && is_whole v c) (ne_eqb (suc n) 0 some) ∙ ap (λ u. is_whole u c) (sym (same_run w (length cs) v (suc n) e).0)
+goes_run (r ∷ (s ∷ rs)) v n e c = goes_run (s ∷ rs) v n e c
 
 run_after : (c : Column) (rs : List Run) (v n : ℕ) → last_run rs ≡ kept_run v n → last_run (after_runs c rs) ≡ run (value_of c) (grow (v == value_of c) n) ∷ []
 run_after c [] v n e = none v n (v == value_of c) e

@@ -2,9 +2,9 @@
 ghost use Rattle.std.specs.Prelude.{◌≡◌, ◌<◌, ◌≤◌, ◌+◌, ◌%◌, ◌&&◌, ◌==◌, nat_le, unwrap_or, IfSome};
 ghost use Rattle.tmds_word.specs.Column.{column_of};
 ghost use Rattle.period_grammar.specs.Column.{control_bits, value_of, sync_digit};
-ghost use Rattle.period_grammar.specs.Whole.{IsWhole};
+ghost use Rattle.period_grammar.specs.GoesOn.{is_whole};
 
-use terc4::{control_of, nibble};
+use terc4::{control_of, is_control_word, nibble};
 use tmds_word::Word;
 
 /// The two bits of a control word, and 0 for any other word.
@@ -19,14 +19,14 @@ fn control_pair(word: Word) -> u8
     }
 }
 
-/// The value of a column of three control words.
-pub fn whole_value(column: &[Word; 3]) -> Option<u8>
-    ensures { IfSome result (λ v. IsWhole v (column_of column.now)) }
+/// Whether the words of a column are three control words, and its value is this one.
+pub fn has_value(column: &[Word; 3], value: u8) -> bool
+    ensures { result ≡ is_whole value (column_of column.now) }
 {
-    let a = control_of(blue(column))?;
-    let b = control_of(green(column))?;
-    let c = control_of(red(column))?;
-    Some(a + 4 * b + 16 * c)
+    let a = is_control_word(blue(column));
+    let b = is_control_word(green(column));
+    let c = is_control_word(red(column));
+    a & (b & (c & (column_value(column) == value)))
 }
 
 /// HSYNC, VSYNC, CTL0 to CTL3.

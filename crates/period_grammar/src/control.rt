@@ -1,16 +1,19 @@
 //! What is kept of the control columns of one piece.
 ghost use Rattle.std.specs.Prelude.{◌≡◌, ◌<◌, ◌≤◌, ◌+◌, ◌^◌, ◌++◌, ◌∷◌, [], List, ℕ, length, true};
-ghost use Rattle.tmds_word.specs.Column.{Column};
+ghost use Rattle.tmds_word.specs.Column.{Column, column_of};
 ghost use Rattle.island_pack.specs.Periods.{ctl};
 ghost use Rattle.period_grammar.specs.Column.{value_of};
 ghost use Rattle.period_grammar.specs.Cut.{runs};
 ghost use Rattle.period_grammar.specs.Heard.{last_run, lacks, has_preamble};
 ghost use Rattle.period_grammar.specs.After.{change};
+ghost use Rattle.period_grammar.specs.GoesOn.{goes_on_run};
 ghost use Rattle.period_grammar.specs.ControlAfter.{IsControlAfter, IsCounted};
 ghost use Rattle.period_grammar.specs.Noted.{things, Lent};
 
+use crate::column::has_value;
 use crate::notes::{Note, Notes};
 use crate::told::Fault;
+use tmds_word::Word;
 
 /// CTL0 to CTL3 of the preamble of a video period: CTL0 alone is 1 (HDMI 1.4, section 5.2.1.1).
 pub const VIDEO_PREAMBLE: u8 = 1;
@@ -64,6 +67,13 @@ impl Kept {
         } else {
             1
         };
+    }
+
+    /// Whether a column goes on with the last run.
+    pub fn goes_on(&self, column: &[Word; 3]) -> bool
+        ensures { (control : List Column) → IsControlAfter self.now control → result ≡ goes_on_run (runs control) (column_of column.now) }
+    {
+        (self.run != 0) & has_value(column, self.value)
     }
 
     /// Hears a column of the last run's value.
