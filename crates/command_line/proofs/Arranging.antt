@@ -1,14 +1,14 @@
 -- What is read of words are their options and operands.
-use Rattle.std.proofs.Common.{◌≡◌, ◌∙◌, sym, ap, ap₂, refl, subst, ℕ, Bool, true, false, List, [], ◌∷◌, ◌++◌, take, drop, append_assoc, append-nil}
+use Rattle.std.proofs.Common.{◌≡◌, ◌∙◌, sym, ap, ap₂, refl, subst, Bool, true, false, List, [], ◌∷◌, ◌++◌, append_assoc, append-nil}
 use Rattle.std.specs.Prelude.{Option, Some, None, codes, if◌then◌else◌, unwrap_or}
-use Rattle.std.specs.List.{flat_map, filter_map, list_any}
+use Rattle.std.specs.List.{flat_map, filter_map}
 use Rattle.std.specs.Str.{bytes_eq}
 use Rattle.std.specs.Str.Parse.{starts_with_minus}
 use Rattle.std.proofs.lemmas.Option.{none-some, same_Some}
 use Rattle.std.proofs.lemmas.Slice.Eq.{bytes_eq-Decides}
 use Rattle.command_line.specs.Grammar.{Text, name_word, Piece, apart, joined, operand, piece_words, IsPlain, ArePlain, option_of, operand_of, rest_words, AreArranged}
 use Rattle.command_line.specs.Parsing.{mark_split}
-use Rattle.command_line.specs.Scanning.{Kind, operand_word, rest_word, named, valued, no_kind, name_of, named_by, valued_by, split_kind, kind_of, State, state, with_operand, with_option, with_value, open_step, step_at, step, IsWaiting}
+use Rattle.command_line.specs.Scanning.{Kind, operand_word, rest_word, named, valued, no_kind, name_of, named_by, valued_by, split_kind, kind_of, State, state, with_option, with_value, open_step, step, IsWaiting}
 use Rattle.command_line.specs.declared.options.OptionName.{OptionName}
 use Rattle.command_line.specs.declared.options.OptionName.TheVariants.{Offset, Skew, Bits, Version}
 use Rattle.command_line.specs.declared.arranged.Stage.{Stage}

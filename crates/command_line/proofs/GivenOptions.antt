@@ -1,10 +1,9 @@
 -- The value of an option among options.
-use Rattle.std.proofs.Common.{◌≡◌, ◌≢◌, ◌∙◌, sym, ap, refl, subst, arith, ℕ, ◌+◌, ◌<◌, ◌≤◌, Bool, true, false, List, [], ◌∷◌, ◌++◌, length, take, drop, get_or, map, Option, Some, None, Bor, take-append-drop, append-nil, append_assoc}
-use Rattle.std.specs.Prelude.{MatchOption, option_map, if◌then◌else◌}
+use Rattle.std.proofs.Common.{◌≡◌, ◌∙◌, sym, ap, refl, ℕ, ◌+◌, ◌<◌, Bool, true, false, List, [], ◌∷◌, ◌++◌, length, take, drop, get_or, Option, Some, None, Bor, take-append-drop, append-nil}
+use Rattle.std.specs.Prelude.{option_map, if◌then◌else◌}
 use Rattle.std.specs.Option.{is_some}
-use Rattle.std.specs.List.{filter_map}
 use Rattle.std.proofs.lemmas.List.{map_more, map-append}
-use Rattle.command_line.specs.Grammar.{Text, given, is_same, value_if, values_of, listed, IsGiven}
+use Rattle.command_line.specs.Grammar.{Text, given, is_same, values_of, listed, IsGiven}
 use Rattle.command_line.specs.declared.options.OptionName.{OptionName}
 use Rattle.command_line.specs.declared.options.OptionName.TheVariants.{Offset}
 

@@ -1,10 +1,10 @@
 -- Words name one command at most.
-use Rattle.std.proofs.Common.{◌≡◌, ◌∙◌, sym, ap, ap₂, refl, subst, ℕ, ◌+◌, List, [], ◌∷◌, Option, Some, None}
+use Rattle.std.proofs.Common.{◌≡◌, ◌∙◌, sym, ap, ap₂, refl, subst, ℕ, List, [], ◌∷◌, Option, Some, None}
 use Rattle.std.specs.Prelude.{codes}
 use Rattle.std.proofs.lemmas.Option.{same_Some}
-use Rattle.command_line.specs.Numbers.{IsNumber, AreThree}
+use Rattle.command_line.specs.Numbers.{IsNumber}
 use Rattle.command_line.specs.Damages.{IsDamage, AreDamages}
-use Rattle.command_line.specs.Grammar.{Text, IsGiven}
+use Rattle.command_line.specs.Grammar.{Text}
 use Rattle.command_line.specs.Commands.{IsOffset, AreSkews, IsLimit, IsVersion, IsTap, Means, IsCommand}
 use Rattle.command_line.specs.declared.options.OptionName.{OptionName}
 use Rattle.command_line.specs.declared.options.OptionName.TheVariants.{Offset, Skew, Bits, Version}

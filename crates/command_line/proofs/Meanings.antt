@@ -2,11 +2,10 @@
 use Rattle.std.proofs.Common.{◌≡◌, ◌∙◌, sym, ap, refl, subst, arith, ℕ, ◌<◌, ◌≤◌, List, [], ◌∷◌, length, get_or, take, drop, take_all, ◌-◌, map, string_bytes, String, Global, Option, Some, None, Bor, true≢false, false}
 use Rattle.std.specs.Prelude.{MatchOption, IfOk, Result, Ok, Err, codes}
 use Rattle.std.specs.Str.{bytes_eq}
-use Rattle.std.proofs.lemmas.Option.{none-some, same_Some}
 use Rattle.std.proofs.lemmas.Slice.Eq.{bytes_eq-Decides}
 use Rattle.outside_io.specs.declared.NoMemory.{NoMemory}
 use Rattle.command_line.specs.Parsing.{within}
-use Rattle.command_line.specs.Grammar.{Text, texts, given, AreArranged}
+use Rattle.command_line.specs.Grammar.{Text, texts, AreArranged}
 use Rattle.command_line.specs.Commands.{IsTap, Means, IsCommand}
 use Rattle.command_line.specs.declared.options.OptionName.{OptionName}
 use Rattle.command_line.specs.declared.tap.TapWords.{TapWords}

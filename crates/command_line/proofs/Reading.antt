@@ -1,15 +1,14 @@
 -- The loop that reads words one after another.
-use Rattle.std.proofs.Common.{◌≡◌, ◌∙◌, sym, ap, refl, subst, arith, ℕ, ◌+◌, ◌<◌, ◌≤◌, List, [], ◌∷◌, ◌++◌, length, take, drop, get_or, take-append-drop, map, string_bytes, String, Global, Option, Some, None}
+use Rattle.std.proofs.Common.{◌≡◌, ◌∙◌, sym, ap, subst, ℕ, ◌+◌, ◌<◌, List, [], ◌∷◌, ◌++◌, length, take, drop, get_or, take-append-drop, map, string_bytes, String, Global, Option, Some, None}
 use Rattle.std.specs.Prelude.{MatchOption}
 use Rattle.std.proofs.lemmas.List.{map_more, map-append}
 use Rattle.std.proofs.lemmas.Option.{none-some, same_Some}
 use Rattle.command_line.specs.Grammar.{Text, AreArranged, given, texts}
 use Rattle.command_line.specs.Scanning.{State, state, step, seen, IsWaiting}
 use Rattle.command_line.specs.declared.options.OptionName.{OptionName}
-use Rattle.command_line.specs.declared.arranged.Stage.{Stage}
-use Rattle.command_line.specs.declared.arranged.Stage.TheVariants.{Open, Waiting, Rest}
+use Rattle.command_line.specs.declared.arranged.Stage.TheVariants.{Open}
 use Rattle.command_line.specs.declared.arranged.Reading.{Reading}
-use Rattle.command_line.proofs.Arranging.{scan, scan-nil, scan-None, scan-append, scan-one, arranged_told, arranged_found}
+use Rattle.command_line.proofs.Arranging.{scan, scan-None, scan-append, scan-one, arranged_told, arranged_found}
 
 abbrev pub start : Option State
 start = Some (state Open [] [])

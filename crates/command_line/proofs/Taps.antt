@@ -1,14 +1,13 @@
 -- What the values of options say.
-use Rattle.std.proofs.Common.{◌≡◌, ◌∙◌, sym, ap, refl, subst, arith, ℕ, ◌<◌, ◌≤◌, List, [], ◌∷◌, Option, Some, None}
+use Rattle.std.proofs.Common.{◌≡◌, ◌∙◌, sym, refl, subst, arith, ℕ, ◌≤◌, List, [], ◌∷◌, Option, Some, None}
 use Rattle.std.specs.Prelude.{MatchOption}
 use Rattle.std.proofs.lemmas.Option.{none-some, same_Some}
-use Rattle.command_line.specs.Numbers.{IsNumber, AreThree}
+use Rattle.command_line.specs.Numbers.{IsNumber}
 use Rattle.command_line.specs.Parsing.{within, three_of}
-use Rattle.command_line.specs.Grammar.{Text, IsGiven, listed}
-use Rattle.command_line.specs.Commands.{IsOffset, AreSkews, IsLimit, IsVersion, IsTap}
+use Rattle.command_line.specs.Grammar.{Text, IsGiven}
+use Rattle.command_line.specs.Commands.{IsOffset, AreSkews, IsLimit, IsVersion}
 use Rattle.command_line.specs.declared.options.OptionName.{OptionName}
 use Rattle.command_line.specs.declared.options.OptionName.TheVariants.{Offset, Skew, Bits, Version}
-use Rattle.command_line.specs.declared.tap.TapWords.{TapWords}
 use Rattle.command_line.proofs.Triples.{number_told, number_found, three_told, three_found}
 use Rattle.command_line.proofs.GivenOptions.{given_once}
 

@@ -89,4 +89,3 @@ is_damage text = is_some (damage_of text)
 
 abbrev pub are_damages : List (List ℕ) → Bool
 are_damages texts = list_all is_damage texts
-

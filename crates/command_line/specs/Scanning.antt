@@ -1,6 +1,5 @@
 -- Words read one after another: what stands so far, and what each word adds.
-use Rattle.std.specs.Prelude.{ℕ, Bool, true, false, if◌then◌else◌, List, [], ◌∷◌, ◌++◌, codes, Option, Some, None}
-use Rattle.std.specs.Borrow.{Bor}
+use Rattle.std.specs.Prelude.{if◌then◌else◌, List, [], ◌∷◌, ◌++◌, codes, Option, Some, None}
 use Rattle.std.specs.Str.{bytes_eq}
 use Rattle.std.specs.Str.Parse.{starts_with_minus}
 use Rattle.command_line.specs.Grammar.{Text, texts, given}

@@ -14,6 +14,7 @@ use std::alloc::Global;
 
 // The fewest and the most frames of a sample.
 const FEWEST_FRAMES: u32 = 2;
+
 const MOST_FRAMES: u32 = 20;
 
 /// What the program is to do.

@@ -18,4 +18,6 @@ pub use options::OptionName;
 pub use tap::TapWords;
 
 #[cfg(test)]
+mod rows;
+#[cfg(test)]
 mod tests;

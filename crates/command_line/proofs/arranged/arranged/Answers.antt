@@ -1,8 +1,7 @@
-use Rattle.std.proofs.Common.{◌≡◌, ◌∙◌, ap, sym, subst, Some, None, take, length, arith, String, Global, List, map, string_bytes, ◌≤◌, ℕ}
+use Rattle.std.proofs.Common.{◌≡◌, ◌∙◌, ap, sym, subst, Some, None, take, length, arith, String, Global, List, string_bytes, ◌≤◌}
 use Rattle.std.specs.Prelude.{option_map}
 use Rattle.std.proofs.lemmas.List.{take_all}
-use Rattle.command_line.specs.Grammar.{Text}
-use Rattle.command_line.specs.Scanning.{State, seen, step}
+use Rattle.command_line.specs.Scanning.{seen, step}
 use Rattle.command_line.proofs.Arranging.{scan, scan-nil}
 use Rattle.command_line.proofs.Reading.{start, bytes_of, read_more, refused, complete_told}
 use Rattle.command_line.proofs.arranged.arranged.Goals as goal

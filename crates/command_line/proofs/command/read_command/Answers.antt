@@ -1,6 +1,5 @@
-use Rattle.std.proofs.Common.{◌≡◌, ◌∙◌, sym, ap, subst, map, string_bytes, take, drop, length, ◌-◌, List, Bor, String, Global}
+use Rattle.std.proofs.Common.{◌∙◌, sym, ap, subst, map, string_bytes, take, drop, length, ◌-◌, List, Bor, String, Global}
 use Rattle.command_line.specs.Grammar.{Text, given, texts, AreArranged}
-use Rattle.command_line.specs.declared.options.OptionName.{OptionName}
 use Rattle.command_line.proofs.GivenOptions.{Held}
 use Rattle.command_line.proofs.Meanings.{first_word, command_judged, not_arranged}
 use Rattle.command_line.proofs.command.read_command.Goals as goal

@@ -1,4 +1,4 @@
-use Rattle.std.proofs.Common.{rules, ◌≡◌, ◌∙◌, sym, ap, arith, refl, Some, None, Bor, List, ℕ, [], get_or, ◌∷◌}
+use Rattle.std.proofs.Common.{rules, ◌≡◌, ◌∙◌, sym, arith, refl, None, Bor, [], get_or, ◌∷◌}
 use Rattle.std.proofs.lemmas.Option.{none-some, same_Some}
 use Rattle.command_line.specs.Grammar.{Text, texts}
 use Rattle.command_line.proofs.Triples.{number_told}

@@ -1,8 +1,7 @@
-use Rattle.std.proofs.Common.{rules, ◌≡◌, ◌∙◌, ap, sym, take, ◌++◌, ◌∷◌, [], ◌+◌, List, None, Some, Bor, ℕ, subst}
+use Rattle.std.proofs.Common.{rules, ◌∙◌, sym, take, ◌++◌, ◌∷◌, [], ◌+◌, List, Bor, ℕ, subst}
 use Rattle.command_line.specs.declared.damage.DamageWord.{DamageWord}
 use Rattle.command_line.specs.Damages.{AreDamages}
 use Rattle.command_line.specs.Grammar.{texts}
-use Rattle.command_line.specs.Parsing.{damage_of}
 use Rattle.command_line.proofs.DamageTexts.{damage_there, damages_more}
 use Rattle.command_line.proofs.damage.read_damages.Goals as goal
 

@@ -1,8 +1,8 @@
-use Rattle.std.proofs.Common.{◌≡◌, ◌∙◌, ap, sym, subst, Some, None, Bor, List, ℕ, Option, true, false, take, get_or, ◌+◌}
+use Rattle.std.proofs.Common.{◌∙◌, sym, Some, true, false, take, get_or, ◌+◌}
 use Rattle.std.specs.Prelude.{option_map}
 use Rattle.std.specs.Option.{is_some}
-use Rattle.command_line.specs.Grammar.{Text, is_same, IsGiven, given}
-use Rattle.command_line.proofs.GivenOptions.{Held, no_option, other_more, first_more, twice}
+use Rattle.command_line.specs.Grammar.{is_same, IsGiven, given}
+use Rattle.command_line.proofs.GivenOptions.{no_option, other_more, first_more, twice}
 use Rattle.command_line.proofs.options.value_of.Goals as goal
 use Rattle.command_line.proofs.options.value_of.Goals.{then-is_same+else-is_some, else-is_same}
 
