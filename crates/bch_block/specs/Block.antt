@@ -1,7 +1,7 @@
 -- The blocks of a BCH code: lists of bits that are multiples of x^8 + x^7 + x^6 + 1 over the field of two elements,
 -- the first bit of the list as the highest power. HDMI 1.4, sections 5.2.3.4 and 5.2.3.5, protects the header and the
--- four subpackets of a data island by BCH blocks of 32 and 64 bits. This polynomial, and the order of the bits in the
--- bytes (`bits_of`), are this project's own profile.
+-- four subpackets of a data island by BCH blocks of 32 and 64 bits, with the generator polynomial
+-- G(x) = 1 + x^6 + x^7 + x^8 (5.2.3.5). The order of the bits in the bytes (`bits_of`) is this project's own profile.
 use Rattle.std.specs.Prelude.{◌≡◌, ℕ, ◌+◌, ◌<◌, Bool, false, List, [], ◌∷◌, length}
 use Rattle.std.proofs.Common.{suc, zero}
 use Rattle.bch_block.specs.Bits.{xor}

@@ -1,9 +1,9 @@
 //! Laws of the code, each the contract of a function with nothing to do.
 
 ghost use Rattle.std.specs.Prelude.{◌≡◌, ◌≢◌, ◌<◌, ◌≤◌, ℕ, Bool, List, length};
-ghost use Rattle.bch_block.specs.Bits.{flipped, differences};
+ghost use Rattle.bch_block.specs.Bits.{bits_of, flipped, differences};
 ghost use Rattle.bch_block.specs.Block.{IsBlock};
-ghost use Rattle.bch_block.specs.Repair.{IsVerdict};
+ghost use Rattle.bch_block.specs.Repair.{IsVerdict, Repairs};
 ghost use Rattle.bch_block.specs.declared.Verdict.{Verdict};
 ghost use Rattle.bch_block.specs.declared.Verdict.TheVariants.{Mended, Lost};
 
@@ -19,6 +19,14 @@ pub fn one_wrong_bit_is_mended()
         IsVerdict (flipped x i) (Mended i) }
     ensures only { (x : List Bool) (i : ℕ) (v : Verdict) → length x ≤ 64 → IsBlock x → i < length x →
         IsVerdict (flipped x i) v → v ≡ Mended i }
+{}
+
+/// A bit that is turned over twice is as it was. So one wrong bit of a block is restored: where bytes with one wrong bit
+/// are repaired under their verdict, they are the block's again.
+pub fn flipping_twice_restores()
+    ensures twice { (x : List Bool) (i : ℕ) → flipped (flipped x i) i ≡ x }
+    ensures restored { (x : List Bool) (i : ℕ) (old new : List ℕ) (v : Verdict) → length x ≤ 64 → IsBlock x → i < length x →
+        bits_of old ≡ flipped x i → IsVerdict (bits_of old) v → Repairs old new v → bits_of new ≡ x }
 {}
 
 /// Two wrong bits of a block are noticed: the verdict is that it is lost, and no other verdict holds.

@@ -1,7 +1,7 @@
 //! Blocks of a BCH code of distance four, of 32 and of 64 bits: the byte that makes a block, and the repair of one
 //! wrong bit. HDMI 1.4, sections 5.2.3.4 and 5.2.3.5, protects the header and the subpackets of a data island by such
-//! blocks. The polynomial, x^8 + x^7 + x^6 + 1, and the order of the bits, each byte's lowest first and the first bit as
-//! the highest power, are this project's own profile.
+//! blocks, with the generator polynomial G(x) = 1 + x^6 + x^7 + x^8 (5.2.3.5). The order of the bits, each byte's lowest
+//! first and the first bit as the highest power, is this project's own profile.
 #![tactic(auto)]
 
 ghost use Rattle.std.specs.Prelude.{◌≡◌, ◌≢◌, ◌+◌, ◌*◌, ◌<◌, ◌≤◌, ℕ, Bool, List, [], ◌∷◌, ◌++◌, length, bit_xor, IfSome, Some};
@@ -45,7 +45,7 @@ pub fn parity64(bytes: &[u8; 7]) -> u8
 }
 
 /// Repairs one wrong bit of a block of 32 bits. What differs from every block in two bits or more stays as it is.
-/// So one wrong bit is mended and two wrong bits are lost, as `laws` has it; three may be taken for another one.
+/// So one wrong bit is restored and two wrong bits are lost, as `laws` has it; three may be taken for another one.
 pub fn repair32(block: &mut [u8; 4]) -> Verdict
     ensures verdict { IsVerdict (bits_of block.old) result }
     ensures after { Repairs block.old block.new result }
@@ -55,7 +55,7 @@ pub fn repair32(block: &mut [u8; 4]) -> Verdict
 }
 
 /// Repairs one wrong bit of a block of 64 bits. What differs from every block in two bits or more stays as it is.
-/// So one wrong bit is mended and two wrong bits are lost, as `laws` has it; three may be taken for another one.
+/// So one wrong bit is restored and two wrong bits are lost, as `laws` has it; three may be taken for another one.
 pub fn repair64(block: &mut [u8; 8]) -> Verdict
     ensures verdict { IsVerdict (bits_of block.old) result }
     ensures after { Repairs block.old block.new result }

@@ -8,10 +8,12 @@ use Rattle.std.proofs.KnownBytes.{Appends-trans}
 use Rattle.std.specs.Io.KnownBytes.{Appends}
 use Rattle.tmds_word.specs.Bits.{row_bits}
 use Rattle.tmds_word.specs.Column.{Column}
+use Rattle.tmds_word.specs.Taps.{part_of}
 use Rattle.capture_file.specs.declared.writing.Tap.{Tap}
-use Rattle.capture_file.specs.Lanes.{Collected, words_of, columns_of}
+use Rattle.capture_file.specs.Lanes.{Collected}
+use Rattle.tmds_word.specs.Words.{all_words, columns_of}
 use Rattle.capture_file.specs.Layout.{packed, chunk, block, blocks_below, header, high_first, capture_of}
-use Rattle.capture_file.specs.Taps.{limited, tap_length, tap_of, lane_part, greatest, HasBits}
+use Rattle.capture_file.specs.Taps.{limited, tap_length, tap_of, greatest, HasBits}
 use Rattle.capture_file.proofs.Columns.{seen, lanes_of_columns, count_of_columns, row_bits-words_of, length-words_of}
 use Rattle.capture_file.proofs.Packing.{length-part, length-packed}
 
@@ -47,7 +49,7 @@ limited_le : (most : Option ℕ) (n : ℕ) → limited most n ≤ n
 limited_le None n = omega arith
 limited_le (Some most) n = omega arith
 
-lane_is : (row : List Bool) (words : List ℕ) (from count bits : ℕ) → words ≡ words_of row → length row % 10 ≡ 0 → bits ≡ count → lane_part from count words ≡ take bits (drop from row)
+lane_is : (row : List Bool) (words : List ℕ) (from count bits : ℕ) → words ≡ all_words row → length row % 10 ≡ 0 → bits ≡ count → part_of words from count ≡ take bits (drop from row)
 lane_is row words from count bits is whole same =
     ap (λ ws. take count (drop from (row_bits ws))) is
     ∙ ap (λ xs. take count (drop from xs)) (row_bits-words_of row whole)
@@ -59,11 +61,11 @@ lane_in n offset most skew bits len le small count some = omega arith
 pub lane_parts : (blue green red : List Bool) (refusals bits : ℕ) (now : Collected) (tap : Tap) → seen blue green red refusals ≡ now
     → length blue % 10 ≡ 0 → length green ≡ length blue → length red ≡ length blue → bits ≡ tap_length tap (length now.columns) → LaneParts blue green red bits now.columns tap
 lane_parts blue green red refusals bits now tap is whole same_green same_red count =
-    let columns = columns_of (words_of blue) (words_of green) (words_of red) in
+    let columns = columns_of (all_words blue) (all_words green) (all_words red) in
     let from_seen : columns ≡ now.columns = ap (λ s. s.columns) is in
-    let counts : (row : List Bool) → length row ≡ length blue → length (words_of row) ≡ length (words_of blue) =
+    let counts : (row : List Bool) → length row ≡ length blue → length (all_words row) ≡ length (all_words blue) =
     λ row same. length-words_of row ∙ ap (λ n. n / 10) same ∙ sym (length-words_of blue) in
-    let lanes = lanes_of_columns (words_of blue) (words_of green) (words_of red) (counts green same_green) (counts red same_red) in
+    let lanes = lanes_of_columns (all_words blue) (all_words green) (all_words red) (counts green same_green) (counts red same_red) in
     let number_of : length now.columns ≡ length blue / 10 = sym (ap length from_seen) ∙ count_of_columns blue green red same_green same_red in
     let le : bits ≤ 10 * length now.columns - tap.offset - greatest tap.skews = omega (arith, count, limited_le tap.bits (10 * length now.columns - tap.offset - greatest tap.skews)) in
     record {

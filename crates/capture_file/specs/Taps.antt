@@ -1,7 +1,8 @@
 -- The tap of columns: of each lane the bits from a place of its own on, all lanes equally many.
 use Rattle.std.specs.Prelude.{ℕ, ◌+◌, ◌-◌, ◌*◌, ◌^◌, ◌<◌, ◌≤◌, Bool, List, length, take, drop, map, min, max, slice_index, Option, Some, None}
 use Rattle.tmds_word.specs.Bits.{row_bits}
-use Rattle.tmds_word.specs.Column.{Column}
+use Rattle.tmds_word.specs.Column.{Column, blues, greens, reds}
+use Rattle.tmds_word.specs.Taps.{part_of}
 use Rattle.capture_file.specs.declared.writing.Tap.{Tap}
 use Rattle.capture_file.specs.Layout.{packed, block, capture_of}
 
@@ -18,10 +19,6 @@ limited (Some most) n = min n most
 abbrev pub tap_length : Tap → ℕ → ℕ
 tap_length tap columns = limited tap.bits (10 * columns - tap.offset - greatest tap.skews)
 
--- so many bits of a lane, from a place on
-abbrev pub lane_part : ℕ → ℕ → List ℕ → List Bool
-lane_part from count words = take count (drop from (row_bits words))
-
 -- a row has so many bits from a place on, and the place after them fits 32 bits; or none are asked for
 abbrev pub HasBits : List Bool → ℕ → ℕ → Type 0
 HasBits row from bits = 0 < bits → (from + bits ≤ length row) × (from + bits < 2 ^ 32)
@@ -37,9 +34,9 @@ abbrev pub tap_of : List Column → Tap → Tapped
 tap_of columns tap =
     let count = tap_length tap (length columns) in
     record {
-      blue = lane_part (tap.offset + slice_index tap.skews 0) count (map (λ c. c.blue) columns);
-      green = lane_part (tap.offset + slice_index tap.skews 1) count (map (λ c. c.green) columns);
-      red = lane_part (tap.offset + slice_index tap.skews 2) count (map (λ c. c.red) columns);
+      blue = part_of (blues columns) (tap.offset + slice_index tap.skews 0) count;
+      green = part_of (greens columns) (tap.offset + slice_index tap.skews 1) count;
+      red = part_of (reds columns) (tap.offset + slice_index tap.skews 2) count;
     }
 
 -- the capture of a tap

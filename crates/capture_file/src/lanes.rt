@@ -20,12 +20,13 @@ pub struct Lanes {
 
 impl Model for Lanes {
     ghost use Rattle.std.specs.Prelude.{◌≡◌, ◌%◌, ◌^◌, ◌<◌, length};
-    ghost use Rattle.capture_file.specs.Lanes.{Collected, words_of, columns_of};
+    ghost use Rattle.capture_file.specs.Lanes.{Collected};
+    ghost use Rattle.tmds_word.specs.Words.{all_words, columns_of};
 
     ghost Value = { Collected };
 
     ghost view = { λ l. record {
-      columns = columns_of (words_of l.blue) (words_of l.green) (words_of l.red);
+      columns = columns_of (all_words l.blue) (all_words l.green) (all_words l.red);
       refusals = l.refusals;
     } };
 
@@ -75,6 +76,7 @@ impl ColumnSink for Lanes {
         ensures ok { OnOk result (self.new.columns ≡ self.old.columns ++ column_of words ∷ []) }
         ensures err { OnErr result (self.new.columns ≡ self.old.columns) }
         ensures cause { HasCause self.old.refusals self.new.refusals result }
+        ensures counted { self.new.refusals < 2 ^ 64 }
 
         ensures same { OnOk result (self.new.refusals ≡ self.old.refusals) }
         ensures raised { OnErr result (self.new.refusals ≡ next self.old.refusals) }

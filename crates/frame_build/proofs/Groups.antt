@@ -16,10 +16,10 @@ pub counts-more : (told : List Event) (thing : Event) → counts (told ++ thing 
 counts-more told thing = ap has_change (reverse-more told thing)
 
 -- the lines of what is told since the last change
-widths_of : List Event → List ℕ
+unfoldable pub widths_of : List Event → List ℕ
 widths_of past = filter_map width_of (reverse past)
 
-widths_of-more : (past : List Event) (thing : Event) → widths_of (thing ∷ past) ≡ widths_of past ++ filter_map width_of (thing ∷ [])
+pub widths_of-more : (past : List Event) (thing : Event) → widths_of (thing ∷ past) ≡ widths_of past ++ filter_map width_of (thing ∷ [])
 unfolding widths_of
 widths_of-more past thing =
     ap (λ (xs : List Event). filter_map width_of xs) (reverse-append (thing ∷ []) past) ∙ filter_map-append width_of (reverse past) (thing ∷ [])

@@ -1,5 +1,6 @@
-pub mod Laws
-mod Between
-mod Examples
-mod Groups
-mod Streaks
+pub mod FrameLaws
+pub mod Between
+pub mod Examples
+pub mod Groups
+pub mod Streaks
+pub mod WordFaults

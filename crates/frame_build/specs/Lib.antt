@@ -3,3 +3,4 @@ pub mod Change
 pub mod Group
 pub mod State
 pub mod StandsFor
+pub mod Laws

@@ -10,6 +10,7 @@ ghost use Rattle.frame_build.specs.Event.{Event, run, line, other};
 ghost use Rattle.frame_build.specs.Group.{frame_at, line_at};
 ghost use Rattle.frame_build.specs.StandsFor.{StandsFor};
 
+pub mod laws;
 mod lines;
 mod sync;
 #[cfg(test)]

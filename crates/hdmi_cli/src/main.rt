@@ -8,6 +8,8 @@ mod cases_damage;
 #[cfg(test)]
 mod cases_dense;
 #[cfg(test)]
+mod cases_guard;
+#[cfg(test)]
 mod cases_island;
 #[cfg(test)]
 mod cases_link;

@@ -4,10 +4,11 @@ ghost use Rattle.std.specs.Io.KnownBytes.{Appends, IsAtEnd, Keeps};
 ghost use Rattle.outside_io.specs.Causes.{Rose};
 ghost use Rattle.tmds_word.specs.Column.{Column};
 ghost use Rattle.capture_file.specs.Faults.{AreLanes};
-ghost use Rattle.capture_file.specs.Layout.{capture_of};
 ghost use Rattle.capture_file.specs.declared.damaging.Hit.{Hit};
-ghost use Rattle.lane_deskew.specs.Aligned.{aligned_columns};
+ghost use Rattle.lane_deskew.specs.Triples.{IsFirst};
 ghost use Rattle.island_pack.specs.Periods.{Period};
+ghost use Rattle.island_pack.specs.Sparse.{IsSparseInPayload};
+ghost use Rattle.link_sink.specs.Laws.{AlignsUntil};
 ghost use Rattle.listing.specs.Texts.{link_text};
 ghost use Rattle.listing.specs.Checks.{check_text};
 ghost use Rattle.hdmi_cli.specs.Commands.{AreHits, IsCommand};
@@ -71,15 +72,30 @@ pub fn run<S: Source, K: Sink, N: Sink>(
         × Appends (K.held output.old) (K.held output.new) (take gone o.output)) }
 
     // `recover link` writes exactly what was sent: for all columns that conforming periods spell, every sparse damage of their
-    // payload, every tap of them with a skew of at most 70 bits, from their first full alignment on.
+    // payload, every tap of them with skews of at most 70 bits, from their first full alignment on.
     ensures headline { IsCommand words.now RecoverLink
-        → (ps : List Period) (sent received : List Column) (offset : ℕ) (skews : List ℕ) (blue green red : List Bool) (d e f : ℕ)
-        → AreTapped ps sent received offset skews blue green red d e f
-        → S.left input.old ≡ Some (capture_of blue green red)
+        → (ps : List Period) (sent received : List Column) (offset : ℕ) (skews counts : List ℕ) (blue green red : List Bool) (bytes : List ℕ)
+        → AreTapped ps sent received offset skews counts blue green red bytes → IsSparseInPayload ps sent received
+        → (d e f : ℕ) → IsFirst blue green red d e f
+        → S.left input.old ≡ Some bytes
         → Rose (S.faults input.old) (S.faults input.new)
         ⊎ Rose (K.faults output.old) (K.faults output.new)
         ⊎ (result ≡ 6)
-        ⊎ IsRecovered ps sent received offset skews d e f (aligned_columns blue green red d e f) result (K.held output.old) (K.held output.new) }
+        ⊎ ((a : ℕ) × IsRecovered ps sent received offset skews blue green red d e f a result (K.held output.old) (K.held output.new)) }
+
+    // The same for sparse damage of control, guard and preamble words too, where it spares them until a column that is the
+    // first after a control period and that each lane of the tap has, with the twelve before it: there is a first full
+    // alignment then, at or before that column.
+    ensures headline_anywhere { IsCommand words.now RecoverLink
+        → (ps : List Period) (sent received : List Column) (offset : ℕ) (skews counts : List ℕ) (blue green red : List Bool) (bytes : List ℕ)
+        → AreTapped ps sent received offset skews counts blue green red bytes
+        → (until : ℕ) → AlignsUntil ps sent received offset skews counts until
+        → S.left input.old ≡ Some bytes
+        → Rose (S.faults input.old) (S.faults input.new)
+        ⊎ Rose (K.faults output.old) (K.faults output.new)
+        ⊎ (result ≡ 6)
+        ⊎ ((d e f : ℕ) × IsFirst blue green red d e f
+        × ((a : ℕ) × (a + 12 ≤ until) × IsRecovered ps sent received offset skews blue green red d e f a result (K.held output.old) (K.held output.new))) }
 
     // The notes grow by the one line of the status, or by a part of it where they fail.
     ensures notes { (note : List ℕ) × IsNoteOf words.now (S.left input.old) result note

@@ -1,4 +1,4 @@
-mod Parts
+pub mod Parts
 pub mod Runs
 mod Registers
 mod Columns

@@ -6,5 +6,5 @@ pub mod Periods
 pub mod Runs
 pub mod Conforming
 pub mod Spelling
-pub mod Taps
+pub mod Kinds
 pub mod Sparse

@@ -1,21 +1,10 @@
--- Sparse damage: columns as they came, in which few words are unlike those that were sent, and those in pixels and
--- packets alone.
-use Rattle.std.specs.Prelude.{◌≡◌, ℕ, ◌+◌, ◌*◌, ◌/◌, ◌<◌, ◌≤◌, Bool, true, false, not, ◌==◌, List, [], ◌∷◌, ◌++◌, length, map, take, drop, replicate, slice_index_or}
-use Rattle.tmds_word.specs.Column.{Column}
+-- Sparse damage: columns as they came, in which few words are unlike those that were sent.
+use Rattle.std.specs.Prelude.{◌≡◌, ℕ, ◌+◌, ◌<◌, ◌≤◌, not, ◌==◌, List, ◌∷◌, length, take, drop, slice_index_or}
+use Rattle.tmds_word.specs.Column.{Column, blues, greens, reds}
 use Rattle.terc4.specs.Columns.{one_if}
-use Rattle.island_pack.specs.Periods.{Period, control, video, island, values_of}
+use Rattle.island_pack.specs.Periods.{Period}
 use Rattle.island_pack.specs.Spelling.{words_of}
-use Rattle.island_pack.specs.Taps.{blues, greens, reds}
-
--- whether each column of a period carries a pixel or a part of a packet
-unfoldable pub payload_of : Period → List Bool
-payload_of (control runs) = replicate (length (values_of runs)) false
-payload_of (video bytes) = false ∷ false ∷ replicate (length bytes / 3) true
-payload_of (island x) = false ∷ false ∷ replicate (32 * length x.packets) true ++ false ∷ false ∷ []
-
-unfoldable pub payload_columns : List Period → List Bool
-payload_columns [] = []
-payload_columns (p ∷ ps) = payload_of p ++ payload_columns ps
+use Rattle.island_pack.specs.Kinds.{first_guard, IsPayload, kinds_of, kind_at}
 
 -- how many words of two lists are unlike
 unfoldable pub unlike_words : List ℕ → List ℕ → ℕ
@@ -38,15 +27,28 @@ pub record IsNarrow (c : Column) : Type 0 where
   pub green : c.green < 1024
   pub red : c.red < 1024
 
+-- how many words of column i are unlike
+abbrev pub unlike_at : List Column → List Column → ℕ → ℕ
+unlike_at sent received i = unlike_words (words_of (column_at sent i)) (words_of (column_at received i))
+
+-- few words of each column, of each pair of guard columns and of any eleven in a row are unlike, wherever they lie
 pub record IsSparse (periods : List Period) (sent received : List Column) : Type 0 where
   pub same_length : length received ≡ length sent
   pub characters : (i : ℕ) → i < length received → IsNarrow (column_at received i)
-  -- other columns came as they were sent
-  pub payload_alone :
-      (i : ℕ) → i < length sent → slice_index_or (payload_columns periods) i false ≡ false
-      → column_at received i ≡ column_at sent i
-  -- of a column at most one word is unlike
-  pub one_a_column : (i : ℕ) → i < length sent → unlike_words (words_of (column_at sent i)) (words_of (column_at received i)) ≤ 1
+  pub one_a_column : (i : ℕ) → unlike_at sent received i ≤ 1
+  pub one_a_pair :
+      (i : ℕ) → kind_at (kinds_of periods) i ≡ first_guard
+      → unlike_at sent received i + unlike_at sent received (i + 1) ≤ 1
   pub few_blue : AreFew (blues sent) (blues received)
   pub few_green : AreFew (greens sent) (greens received)
   pub few_red : AreFew (reds sent) (reds received)
+
+-- up to and with column f, columns other than those of pixels and packets came as they were sent
+abbrev pub SparesUntil : List Period → List Column → List Column → ℕ → Type 0
+SparesUntil periods sent received f =
+    (i : ℕ) → i ≤ f → (IsPayload (kind_at (kinds_of periods) i) → ⊥) → column_at received i ≡ column_at sent i
+
+-- sparse damage of pixels and packets alone
+pub record IsSparseInPayload (periods : List Period) (sent received : List Column) : Type 0 where
+  pub sparse : IsSparse periods sent received
+  pub spares : (f : ℕ) → SparesUntil periods sent received f

@@ -1,4 +1,5 @@
 //! Laws on locks and edges. The functions do nothing: what they ensure is the law.
+ghost use Rattle.lane_align.specs.Words.{WordsAreWindows, WordEdges, EdgeWords};
 ghost use Rattle.lane_align.specs.Laws.{OneLock, EdgesApart, RunTurns, NoFalseLock, TapLock, HasExample};
 
 /// A row has at most one lock.
@@ -30,4 +31,19 @@ pub fn tap_lock()
 /// There are lanes that meet the premises of these laws, with a marked character among theirs.
 pub fn has_example()
     ensures { HasExample }
+{}
+
+/// The edges of a lane are those of its characters from the lock on.
+pub fn word_edges()
+    ensures { WordEdges }
+{}
+
+/// The characters from an edge's run on are the last of those from the lock on.
+pub fn edge_words()
+    ensures { EdgeWords }
+{}
+
+/// Character j of a lane from a place on is the window ten times j bits past the place.
+pub fn words_are_windows()
+    ensures { WordsAreWindows }
 {}

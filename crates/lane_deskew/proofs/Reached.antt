@@ -1,12 +1,13 @@
 -- Edges that a search has come to, and the triple whose largest edge is least.
 use Rattle.std.proofs.Common.{◌≡◌, ℕ, ◌+◌, ◌≤◌, Bool, List, subst, arith, inl, inr}
 use Rattle.std.proofs.lemmas.Bool.{cases_lt}
-use Rattle.lane_deskew.specs.Triples.{AreNear, IsTriple, IsFirst}
-use Rattle.lane_deskew.specs.Candidates.{AreAllNear, AreReached}
+use Rattle.lane_deskew.specs.Triples.{AreTriple, AreFirst, IsFirst}
+use Rattle.tmds_word.specs.Taps.{AreNear}
+use Rattle.lane_deskew.specs.Candidates.{AreAllNear, HaveReached}
 
 -- near edges that are reached are first
-pub near_first : (xs ys zs : List Bool) (d e f : ℕ) → AreReached xs ys zs d e f → AreAllNear d e f → IsFirst xs ys zs d e f
-near_first xs ys zs d e f reached near = record {
+pub near_first : (A B C : ℕ → Type 0) (d e f : ℕ) → HaveReached A B C d e f → AreAllNear d e f → AreFirst A B C d e f
+near_first A B C d e f reached near = record {
   triple = record {
     first = reached.first;
     second = reached.second;
@@ -26,8 +27,8 @@ all_near d e f p q r le_e le_f same le_q le_r near_q near_r =
     ((omega arith, omega arith), (omega arith, omega arith), (omega arith, omega arith))
 
 -- the least of three edges that are not near is in no triple
-pub past_first : (xs ys zs : List Bool) (d e f p q r : ℕ) → AreReached xs ys zs d e f → (AreAllNear d e f → ⊥) → d ≤ e → d ≤ f → IsTriple xs ys zs p q r → d + 1 ≤ p
-past_first xs ys zs d e f p q r reached far le_e le_f t =
+pub past_first : (A B C : ℕ → Type 0) (d e f p q r : ℕ) → HaveReached A B C d e f → (AreAllNear d e f → ⊥) → d ≤ e → d ≤ f → AreTriple A B C p q r → d + 1 ≤ p
+past_first A B C d e f p q r reached far le_e le_f t =
     let b = reached.before p q r t in
     elim (cases_lt d p) [
       | inl less ↦ omega arith
@@ -37,8 +38,8 @@ past_first xs ys zs d e f p q r reached far le_e le_f t =
 swap : (d e : ℕ) → AreNear d e → AreNear e d
 swap d e near = (near.1, near.0)
 
-pub past_second : (xs ys zs : List Bool) (d e f p q r : ℕ) → AreReached xs ys zs d e f → (AreAllNear d e f → ⊥) → e ≤ d → e ≤ f → IsTriple xs ys zs p q r → e + 1 ≤ q
-past_second xs ys zs d e f p q r reached far le_d le_f t =
+pub past_second : (A B C : ℕ → Type 0) (d e f p q r : ℕ) → HaveReached A B C d e f → (AreAllNear d e f → ⊥) → e ≤ d → e ≤ f → AreTriple A B C p q r → e + 1 ≤ q
+past_second A B C d e f p q r reached far le_d le_f t =
     let b = reached.before p q r t in
     elim (cases_lt e q) [
       | inl less ↦ omega arith
@@ -47,8 +48,8 @@ past_second xs ys zs d e f p q r reached far le_d le_f t =
           absurd (far (swap e d near.0, near.2, near.1))
     ]
 
-pub past_third : (xs ys zs : List Bool) (d e f p q r : ℕ) → AreReached xs ys zs d e f → (AreAllNear d e f → ⊥) → f ≤ d → f ≤ e → IsTriple xs ys zs p q r → f + 1 ≤ r
-past_third xs ys zs d e f p q r reached far le_d le_e t =
+pub past_third : (A B C : ℕ → Type 0) (d e f p q r : ℕ) → HaveReached A B C d e f → (AreAllNear d e f → ⊥) → f ≤ d → f ≤ e → AreTriple A B C p q r → f + 1 ≤ r
+past_third A B C d e f p q r reached far le_d le_e t =
     let b = reached.before p q r t in
     elim (cases_lt f r) [
       | inl less ↦ omega arith

@@ -3,12 +3,13 @@ use Rattle.std.proofs.Common.{◌≡◌, ℕ, suc, zero, ◌+◌, ◌-◌, ◌*�
 use Rattle.std.proofs.Math.Seq.{drop-append_seam, drop-nil}
 use Rattle.std.proofs.lemmas.List.{drop-drop, drop-take, take-take, drop-map, take-append-le, get_or-drop}
 use Rattle.tmds_word.specs.Bits.{bits_of, word_bits, row_bits, number}
-use Rattle.tmds_word.specs.Column.{Column}
+use Rattle.tmds_word.specs.Column.{Column, blues, greens, reds}
 use Rattle.tmds_word.proofs.Lists.{length-word_bits, length-row_bits}
-use Rattle.lane_align.specs.Laws.{tap}
-use Rattle.lane_deskew.specs.Aligned.{words_of, words_from, columns_of, aligned_columns}
+use Rattle.tmds_word.specs.Taps.{part_of}
+use Rattle.lane_deskew.specs.Aligned.{aligned_columns}
+use Rattle.tmds_word.specs.Words.{words_of, columns_of}
+use Rattle.lane_align.specs.Words.{words_from}
 use Rattle.lane_deskew.proofs.Ends.{number_back}
-use Rattle.island_pack.specs.Taps.{blues, greens, reds}
 
 -- Words.
 
@@ -55,7 +56,7 @@ from_word (suc a) (w ∷ ws) =
     ∙ ap (drop (10 * a)) (drop_within 10 (word_bits w) (row_bits ws) (omega arith)) ∙ from_word a ws
 
 -- the bits of a lane from word a on
-lane_from : (words : List ℕ) (from many p a : ℕ) → p + from ≡ 10 * a → p ≤ many → drop p (tap words from many) ≡ take (many - p) (row_bits (drop a words))
+lane_from : (words : List ℕ) (from many p a : ℕ) → p + from ≡ 10 * a → p ≤ many → drop p (part_of words from many) ≡ take (many - p) (row_bits (drop a words))
 lane_from words from many p a e le =
     let f : p + (many - p) ≡ many = omega arith in
     let g : from + p ≡ 10 * a = omega arith in
@@ -66,8 +67,8 @@ abbrev whole_words : List Bool → ℕ → ℕ
 whole_words xs p = (length xs - p) / 10
 
 -- the whole words of a lane from word a on
-lane_words : (words : List ℕ) (from many p a : ℕ) → p + from ≡ 10 * a → p ≤ length (tap words from many) → ((i : ℕ) → i < length words → get_or words i 0 < 1024)
-    → words_from (tap words from many) p ≡ take (whole_words (tap words from many) p) (drop a words)
+lane_words : (words : List ℕ) (from many p a : ℕ) → p + from ≡ 10 * a → p ≤ length (part_of words from many) → ((i : ℕ) → i < length words → get_or words i 0 < 1024)
+    → words_from (part_of words from many) p ≡ take (whole_words (part_of words from many) p) (drop a words)
 unfolding words_from
 lane_words words from many p a e le small =
     let bits = row_bits words in
@@ -75,7 +76,7 @@ lane_words words from many p a e le small =
     let r = length-drop from bits in
     let l = length-row_bits words in
     let rest = length-drop a words in
-    let n = whole_words (tap words from many) p in
+    let n = whole_words (part_of words from many) p in
     ap (words_of n) (lane_from words from many p a e (omega arith))
     ∙ words_taken n (drop a words) (many - p) (omega arith) (omega arith)
     (λ i lt. subst (λ w. w < 1024) (sym (get_or-drop a words i 0)) (small (a + i) (omega arith)))
@@ -107,16 +108,16 @@ columns_from cs n1 n2 n3 a x y z ex ey ez =
 abbrev pub AreCharacters : List ℕ → Type 0
 AreCharacters words = (i : ℕ) → i < length words → get_or words i 0 < 1024
 
-lane_taken : (words : List ℕ) (from many p a : ℕ) (x : List Bool) → x ≡ tap words from many → p + from ≡ 10 * a → p ≤ length x → AreCharacters words
+lane_taken : (words : List ℕ) (from many p a : ℕ) (x : List Bool) → x ≡ part_of words from many → p + from ≡ 10 * a → p ≤ length x → AreCharacters words
     → words_from x p ≡ take (whole_words x p) (drop a words)
 lane_taken words from many p a x is e le small =
     subst (λ ys. p ≤ length ys → words_from ys p ≡ take (whole_words ys p) (drop a words)) (sym is) (λ within. lane_words words from many p a e within small) le
 
 -- places of three lanes at which the characters of column a begin
-pub record BeginAt (cs : List Column) (from1 from2 from3 many a : ℕ) (x y z : List Bool) (d e f : ℕ) : Type 0 where
-  pub blue : x ≡ tap (blues cs) from1 many
-  pub green : y ≡ tap (greens cs) from2 many
-  pub red : z ≡ tap (reds cs) from3 many
+pub record BeginAt (cs : List Column) (from1 from2 from3 many1 many2 many3 a : ℕ) (x y z : List Bool) (d e f : ℕ) : Type 0 where
+  pub blue : x ≡ part_of (blues cs) from1 many1
+  pub green : y ≡ part_of (greens cs) from2 many2
+  pub red : z ≡ part_of (reds cs) from3 many3
   pub first : d - 120 + from1 ≡ 10 * a
   pub second : e - 120 + from2 ≡ 10 * a
   pub third : f - 120 + from3 ≡ 10 * a
@@ -124,16 +125,16 @@ pub record BeginAt (cs : List Column) (from1 from2 from3 many a : ℕ) (x y z : 
   pub second_within : e ≤ length y
   pub third_within : f ≤ length z
 
-pub columns_taken : (cs : List Column) (from1 from2 from3 many a : ℕ) (x y z : List Bool) (d e f : ℕ) → BeginAt cs from1 from2 from3 many a x y z d e f
+pub columns_taken : (cs : List Column) (from1 from2 from3 many1 many2 many3 a : ℕ) (x y z : List Bool) (d e f : ℕ) → BeginAt cs from1 from2 from3 many1 many2 many3 a x y z d e f
     → AreCharacters (blues cs) → AreCharacters (greens cs) → AreCharacters (reds cs)
     → aligned_columns x y z d e f ≡ take (length (aligned_columns x y z d e f)) (drop a cs)
 unfolding aligned_columns
-columns_taken cs from1 from2 from3 many a x y z d e f at blue green red =
+columns_taken cs from1 from2 from3 many1 many2 many3 a x y z d e f at blue green red =
     let w1 = at.first_within in
     let w2 = at.second_within in
     let w3 = at.third_within in
     columns_from cs (whole_words x (d - 120)) (whole_words y (e - 120)) (whole_words z (f - 120)) a
     (words_from x (d - 120)) (words_from y (e - 120)) (words_from z (f - 120))
-    (lane_taken (blues cs) from1 many (d - 120) a x at.blue at.first (omega arith) blue)
-    (lane_taken (greens cs) from2 many (e - 120) a y at.green at.second (omega arith) green)
-    (lane_taken (reds cs) from3 many (f - 120) a z at.red at.third (omega arith) red)
+    (lane_taken (blues cs) from1 many1 (d - 120) a x at.blue at.first (omega arith) blue)
+    (lane_taken (greens cs) from2 many2 (e - 120) a y at.green at.second (omega arith) green)
+    (lane_taken (reds cs) from3 many3 (f - 120) a z at.red at.third (omega arith) red)

@@ -54,17 +54,17 @@ values_small (r ∷ rs) h =
     list_all-append (λ v. nat_lt v 64) (replicate r.count r.value) (values_of rs)
     ∙ and_both _ _ (small_replicate r.count r.value (and-left _ _ (and-left _ _ h))) (values_small rs (and-right _ _ h))
 
-is_control_of : (runs : List ControlRun) → is_control_period runs ≡ true → IsControl (values_of runs)
+pub is_control_of : (runs : List ControlRun) → is_control_period runs ≡ true → IsControl (values_of runs)
 unfolding is_control_period
 is_control_of runs h = record { long = leb-true _ _ (and-right _ _ h); small = values_small runs (and-left _ _ h) }
 
-is_video_of : (bytes : List ℕ) → is_video_period bytes ≡ true → IsVideo bytes
+pub is_video_of : (bytes : List ℕ) → is_video_period bytes ≡ true → IsVideo bytes
 unfolding is_video_period
 is_video_of bytes h =
     let rest = and-right (length bytes % 3 == 0) _ (and-right (are_bytes bytes) _ h) in
     record { small = and-left _ _ h; some = leb-true _ _ (and-left _ _ rest); few = leb-true _ _ (and-right _ _ rest) }
 
-is_island_of : (x : DataIsland) → is_data_island x ≡ true → IsIsland x
+pub is_island_of : (x : DataIsland) → is_data_island x ≡ true → IsIsland x
 unfolding is_data_island
 is_island_of x h =
     let pairs = and-left _ _ h in
@@ -106,27 +106,27 @@ conforming (control runs ∷ (island x ∷ rest)) h =
     let v = and-right (has_preamble 5 (values_of runs)) _ g in
     inner_follows runs (island x) rest c (and-left _ _ g, is_island_of x (and-left _ _ v)) (conforming rest (and-right (is_data_island x) _ v))
 
--- the bytes of pixels are bytes
-unfoldable pub HasBytes : List Period → Type 0
-HasBytes [] = Unit {0}
-HasBytes (control runs ∷ xs) = HasBytes xs
-HasBytes (video bytes ∷ xs) = (are_bytes bytes ≡ true) × HasBytes xs
-HasBytes (island x ∷ xs) = HasBytes xs
+-- the values of control periods are below 64, the bytes of pixels below 256
+unfoldable pub HasValues : List Period → Type 0
+HasValues [] = Unit {0}
+HasValues (control runs ∷ xs) = Small (values_of runs) × HasValues xs
+HasValues (video bytes ∷ xs) = (are_bytes bytes ≡ true) × HasValues xs
+HasValues (island x ∷ xs) = HasValues xs
 
-inner_bytes : (vs : List ℕ) (x : Period) (xs : List Period) → IsInner vs x → HasBytes xs → HasBytes (x ∷ xs)
-unfolding HasBytes IsInner
-inner_bytes vs (control runs) xs i h = absurd i
-inner_bytes vs (video bytes) xs i h = (i.1.small, h)
-inner_bytes vs (island x) xs i h = h
+inner_values : (vs : List ℕ) (x : Period) (xs : List Period) → IsInner vs x → HasValues xs → HasValues (x ∷ xs)
+unfolding HasValues IsInner
+inner_values vs (control runs) xs i h = absurd i
+inner_values vs (video bytes) xs i h = (i.1.small, h)
+inner_values vs (island x) xs i h = h
 
-follows_bytes : (vs : List ℕ) (tail : List Period) → Follows vs tail → HasBytes tail
-unfolding HasBytes
-follows_bytes _ _ (ends vs h) = tt
-follows_bytes _ _ (goes_on vs x runs rest h i f) = inner_bytes vs x (control runs ∷ rest) i (follows_bytes (values_of runs) rest f)
+follows_values : (vs : List ℕ) (tail : List Period) → Follows vs tail → Small vs × HasValues tail
+unfolding HasValues
+follows_values _ _ (ends vs h) = (h.small, tt)
+follows_values _ _ (goes_on vs x runs rest h i f) = (h.small, inner_values vs x (control runs ∷ rest) i (follows_values (values_of runs) rest f))
 
-pub has_bytes : (ps : List Period) → Conforms ps → HasBytes ps
-unfolding HasBytes Conforms
-has_bytes [] h = absurd h
-has_bytes (control runs ∷ rest) h = follows_bytes (values_of runs) rest h
-has_bytes (video bytes ∷ rest) h = absurd h
-has_bytes (island x ∷ rest) h = absurd h
+pub has_values : (ps : List Period) → Conforms ps → HasValues ps
+unfolding HasValues Conforms
+has_values [] h = absurd h
+has_values (control runs ∷ rest) h = follows_values (values_of runs) rest h
+has_values (video bytes ∷ rest) h = absurd h
+has_values (island x ∷ rest) h = absurd h

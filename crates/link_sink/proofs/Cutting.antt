@@ -7,7 +7,7 @@ use Rattle.tmds_word.proofs.Below.{and-left, and-right}
 use Rattle.terc4.specs.Columns.{is_control_column}
 use Rattle.lane_deskew.proofs.Computed.{not_true}
 use Rattle.period_grammar.specs.Things.{Thing, all_at, thing_of}
-use Rattle.period_grammar.specs.Cut.{Period as Cut, period, before, periods, runs}
+use Rattle.period_grammar.specs.Cut.{before, runs, Stretch as Cut, stretch, stretches}
 use Rattle.period_grammar.specs.Heard.{in_runs, last_run, in_gap, at_close, at_end, so_far, reach, closing, told_from, end_from}
 
 -- columns that are all control columns, and columns none of which is
@@ -20,61 +20,61 @@ NoneControl cs = list_all (λ c. not (is_control_column c)) cs ≡ true
 -- periods that begin with a control column, or are none
 abbrev pub begins : List Cut → Bool
 begins [] = true
-begins (period [] gap ∷ xs) = false
-begins (period (k ∷ control) gap ∷ xs) = true
+begins (stretch [] gap ∷ xs) = false
+begins (stretch (k ∷ control) gap ∷ xs) = true
 
 abbrev pub with_gap : List Column → List Cut → List Cut
 with_gap [] xs = xs
-with_gap (g ∷ gap) xs = period [] (g ∷ gap) ∷ xs
+with_gap (g ∷ gap) xs = stretch [] (g ∷ gap) ∷ xs
 
 abbrev pub with_control : List Column → List Cut → List Cut
 with_control [] xs = xs
-with_control (c ∷ cs) [] = period (c ∷ cs) [] ∷ []
-with_control (c ∷ cs) (period control gap ∷ xs) = period (c ∷ (cs ++ control)) gap ∷ xs
+with_control (c ∷ cs) [] = stretch (c ∷ cs) [] ∷ []
+with_control (c ∷ cs) (stretch control gap ∷ xs) = stretch (c ∷ (cs ++ control)) gap ∷ xs
 
-first_other : (g : Column) (xs : List Cut) → begins xs ≡ true → before false g xs ≡ period [] (g ∷ []) ∷ xs
+first_other : (g : Column) (xs : List Cut) → begins xs ≡ true → before false g xs ≡ stretch [] (g ∷ []) ∷ xs
 first_other g [] h = refl
-first_other g (period [] gap ∷ xs) h = cc
-first_other g (period (k ∷ control) gap ∷ xs) h = refl
+first_other g (stretch [] gap ∷ xs) h = cc
+first_other g (stretch (k ∷ control) gap ∷ xs) h = refl
 
-pub cut_gap : (gap rest : List Column) → NoneControl gap → begins (periods rest) ≡ true → periods (gap ++ rest) ≡ with_gap gap (periods rest)
-unfolding periods
+pub cut_gap : (gap rest : List Column) → NoneControl gap → begins (stretches rest) ≡ true → stretches (gap ++ rest) ≡ with_gap gap (stretches rest)
+unfolding stretches
 cut_gap [] rest none h = refl
-cut_gap (g ∷ []) rest none h = ap (λ p. before p g (periods rest)) (not_true _ (and-left _ _ none)) ∙ first_other g (periods rest) h
+cut_gap (g ∷ []) rest none h = ap (λ p. before p g (stretches rest)) (not_true _ (and-left _ _ none)) ∙ first_other g (stretches rest) h
 cut_gap (g ∷ (i ∷ gap)) rest none h =
-    ap (λ p. before p g (periods (i ∷ (gap ++ rest)))) (not_true _ (and-left _ _ none)) ∙ ap (before false g) (cut_gap (i ∷ gap) rest (and-right _ _ none) h)
+    ap (λ p. before p g (stretches (i ∷ (gap ++ rest)))) (not_true _ (and-left _ _ none)) ∙ ap (before false g) (cut_gap (i ∷ gap) rest (and-right _ _ none) h)
 
 control_first : (c : Column) (xs : List Cut) → before true c xs ≡ with_control (c ∷ []) xs
 control_first c [] = refl
-control_first c (period control gap ∷ xs) = refl
+control_first c (stretch control gap ∷ xs) = refl
 
 two_controls : (c d : Column) (cs : List Column) (xs : List Cut) → before true c (with_control (d ∷ cs) xs) ≡ with_control (c ∷ (d ∷ cs)) xs
 two_controls c d cs [] = refl
-two_controls c d cs (period control gap ∷ xs) = refl
+two_controls c d cs (stretch control gap ∷ xs) = refl
 
-pub cut_control : (control rest : List Column) → AllControl control → periods (control ++ rest) ≡ with_control control (periods rest)
-unfolding periods
+pub cut_control : (control rest : List Column) → AllControl control → stretches (control ++ rest) ≡ with_control control (stretches rest)
+unfolding stretches
 cut_control [] rest all = refl
-cut_control (c ∷ []) rest all = ap (λ p. before p c (periods rest)) (and-left _ _ all) ∙ control_first c (periods rest)
+cut_control (c ∷ []) rest all = ap (λ p. before p c (stretches rest)) (and-left _ _ all) ∙ control_first c (stretches rest)
 cut_control (c ∷ (d ∷ cs)) rest all =
-    ap (λ p. before p c (periods (d ∷ (cs ++ rest)))) (and-left _ _ all) ∙ ap (before true c) (cut_control (d ∷ cs) rest (and-right _ _ all)) ∙ two_controls c d cs (periods rest)
+    ap (λ p. before p c (stretches (d ∷ (cs ++ rest)))) (and-left _ _ all) ∙ ap (before true c) (cut_control (d ∷ cs) rest (and-right _ _ all)) ∙ two_controls c d cs (stretches rest)
 
 begins_with : (c : Column) (xs : List Cut) → begins (before true c xs) ≡ true
 begins_with c [] = refl
-begins_with c (period control gap ∷ xs) = refl
+begins_with c (stretch control gap ∷ xs) = refl
 
-pub begins_control : (c : Column) (cs : List Column) → is_control_column c ≡ true → begins (periods (c ∷ cs)) ≡ true
-unfolding periods
-begins_control c cs h = ap (λ p. begins (before p c (periods cs))) h ∙ begins_with c (periods cs)
+pub begins_control : (c : Column) (cs : List Column) → is_control_column c ≡ true → begins (stretches (c ∷ cs)) ≡ true
+unfolding stretches
+begins_control c cs h = ap (λ p. begins (before p c (stretches cs))) h ∙ begins_with c (stretches cs)
 
-joined : (c : Column) (cs : List Column) (g : Column) (gap : List Column) (xs : List Cut) → with_control (c ∷ cs) (period [] (g ∷ gap) ∷ xs) ≡ period (c ∷ cs) (g ∷ gap) ∷ xs
-joined c cs g gap xs = ap (λ ds. period (c ∷ ds) (g ∷ gap) ∷ xs) (append-nil cs)
+joined : (c : Column) (cs : List Column) (g : Column) (gap : List Column) (xs : List Cut) → with_control (c ∷ cs) (stretch [] (g ∷ gap) ∷ xs) ≡ stretch (c ∷ cs) (g ∷ gap) ∷ xs
+joined c cs g gap xs = ap (λ ds. stretch (c ∷ ds) (g ∷ gap) ∷ xs) (append-nil cs)
 
 -- control columns, others, and the rest
-pub cut_both : (c : Column) (control : List Column) (g : Column) (gap rest : List Column) → AllControl (c ∷ control) → NoneControl (g ∷ gap) → begins (periods rest) ≡ true
-    → periods ((c ∷ control) ++ ((g ∷ gap) ++ rest)) ≡ period (c ∷ control) (g ∷ gap) ∷ periods rest
+pub cut_both : (c : Column) (control : List Column) (g : Column) (gap rest : List Column) → AllControl (c ∷ control) → NoneControl (g ∷ gap) → begins (stretches rest) ≡ true
+    → stretches ((c ∷ control) ++ ((g ∷ gap) ++ rest)) ≡ stretch (c ∷ control) (g ∷ gap) ∷ stretches rest
 cut_both c control g gap rest all none h =
-    cut_control (c ∷ control) ((g ∷ gap) ++ rest) all ∙ ap (with_control (c ∷ control)) (cut_gap (g ∷ gap) rest none h) ∙ joined c control g gap (periods rest)
+    cut_control (c ∷ control) ((g ∷ gap) ++ rest) all ∙ ap (with_control (c ∷ control)) (cut_gap (g ∷ gap) rest none h) ∙ joined c control g gap (stretches rest)
 
 -- what is told of periods from column j on, with what the end tells
 abbrev pub hear : ℕ → List Cut → List Thing
@@ -93,17 +93,17 @@ things_at j [] = refl
 things_at j (t ∷ ts) = ap (λ us. t ∷ us) (things_at j ts)
 
 -- control columns alone
-pub hear_control : (j : ℕ) (control : List Column) → AllControl control → hear j (periods control) ≡ control_told j control
-unfolding periods runs
+pub hear_control : (j : ℕ) (control : List Column) → AllControl control → hear j (stretches control) ≡ control_told j control
+unfolding stretches runs
 hear_control j control all =
-    ap (λ cs. hear j (periods cs)) (sym (append-nil control)) ∙ ap (hear j) (cut_control control [] all) ∙ by control
+    ap (λ cs. hear j (stretches cs)) (sym (append-nil control)) ∙ ap (hear j) (cut_control control [] all) ∙ by control
   where
-    by : (cs : List Column) → hear j (with_control cs (periods [])) ≡ control_told j cs
+    by : (cs : List Column) → hear j (with_control cs (stretches [])) ≡ control_told j cs
     by [] = refl
     by (c ∷ cs) = refl
 
 so_far_things : (j : ℕ) (control : List Column) (g : Column) (gap : List Column)
-    → map thing_of (so_far j (period control (g ∷ gap))) ≡ control_told j control ++ gap_things (j + length control) control (g ∷ gap)
+    → map thing_of (so_far j (stretch control (g ∷ gap))) ≡ control_told j control ++ gap_things (j + length control) control (g ∷ gap)
 so_far_things j control g gap =
     let b = j + length control in
     let before = in_runs j (runs control) in
@@ -115,7 +115,7 @@ so_far_things j control g gap =
 
 -- a period that goes on to the end
 pub hear_last : (j : ℕ) (control : List Column) (g : Column) (gap : List Column)
-    → hear j (period control (g ∷ gap) ∷ []) ≡ control_told j control ++ (gap_things (j + length control) control (g ∷ gap) ++ at_end (j + length control) (g ∷ gap))
+    → hear j (stretch control (g ∷ gap) ∷ []) ≡ control_told j control ++ (gap_things (j + length control) control (g ∷ gap) ++ at_end (j + length control) (g ∷ gap))
 hear_last j control g gap =
     ap (λ ts. ts ++ at_end (j + length control) (g ∷ gap)) (so_far_things j control g gap)
     ∙ append_assoc (control_told j control) (gap_things (j + length control) control (g ∷ gap)) (at_end (j + length control) (g ∷ gap))
@@ -125,10 +125,10 @@ regroup a b c d e = simp append_assoc
 
 -- a period with others after it
 pub hear_on : (j : ℕ) (control : List Column) (g : Column) (gap : List Column) (y : Cut) (ys : List Cut)
-    → hear j (period control (g ∷ gap) ∷ (y ∷ ys))
+    → hear j (stretch control (g ∷ gap) ∷ (y ∷ ys))
     ≡ control_told j control ++ (gap_things (j + length control) control (g ∷ gap) ++ (at_close (j + length control) (g ∷ gap) ++ hear (j + (length control + length (g ∷ gap))) (y ∷ ys)))
 hear_on j control g gap y ys =
-    let x = period control (g ∷ gap) in
+    let x = stretch control (g ∷ gap) in
     let rest = told_from (j + reach x) (y ∷ ys) in
     let close = at_close (j + length control) (g ∷ gap) in
     ap (λ ts. ts ++ end_from (j + reach x) (y ∷ ys))

@@ -10,7 +10,8 @@ use Rattle.terc4.specs.Tables.{is_control}
 use Rattle.lane_align.specs.Lanes.{HasControl, IsRun, IsLock, IsEdge}
 use Rattle.lane_align.proofs.Controls.{run_within, one_lock}
 use Rattle.lane_align.proofs.Edges.{edge_within}
-use Rattle.lane_deskew.specs.Triples.{AreNear, IsTriple, IsFirst}
+use Rattle.lane_deskew.specs.Triples.{IsTriple, IsFirst}
+use Rattle.tmds_word.specs.Taps.{AreNear}
 use Rattle.lane_deskew.specs.Aligned.{aligned_columns}
 use Rattle.period_grammar.specs.Things.{Thing, thing_of}
 use Rattle.period_grammar.specs.Heard.{heard_so_far}
@@ -83,6 +84,14 @@ lock_decided xs = by (least_or_none (IsRun xs) (length xs) (run_decided xs))
     by : ((p : ℕ) × IsLeast (IsRun xs) (length xs) p) ⊎ ((k : ℕ) → k < length xs → IsRun xs k → ⊥) → ((p : ℕ) × IsLock xs p) ⊎ ((p : ℕ) → IsLock xs p → ⊥)
     by (inl l) = inl (l.0, record { run = l.1.here; least = l.1.least })
     by (inr none) = inr (λ p lock. let within = run_within xs p lock.run in none p (omega (arith, within)) lock.run)
+
+-- where there is a run there is a lock
+pub lock_of_run : (xs : List Bool) (p : ℕ) → IsRun xs p → (l : ℕ) × IsLock xs l
+lock_of_run xs p run = by (least_or_none (IsRun xs) (length xs) (run_decided xs))
+  where
+    by : ((l : ℕ) × IsLeast (IsRun xs) (length xs) l) ⊎ ((k : ℕ) → k < length xs → IsRun xs k → ⊥) → (l : ℕ) × IsLock xs l
+    by (inl l) = (l.0, record { run = l.1.here; least = l.1.least })
+    by (inr none) = let within = run_within xs p run in absurd (none p (omega (arith, within)) run)
 
 -- a whole window that is no control word
 record HasOther (xs : List Bool) (p : ℕ) : Type 0 where
@@ -197,7 +206,7 @@ largest_within xs ys zs p q r t =
     omega (arith, le)
 
 -- three lanes have a first full alignment, or no triple
-first_decided : (xs ys zs : List Bool) → ((d e f : ℕ) × IsFirst xs ys zs d e f) ⊎ ((d e f : ℕ) → IsTriple xs ys zs d e f → ⊥)
+pub first_decided : (xs ys zs : List Bool) → ((d e f : ℕ) × IsFirst xs ys zs d e f) ⊎ ((d e f : ℕ) → IsTriple xs ys zs d e f → ⊥)
 first_decided xs ys zs = by (least_or_none (HasTriple xs ys zs) (all_bits xs ys zs) (has_decided xs ys zs))
   where
     by : ((m : ℕ) × IsLeast (HasTriple xs ys zs) (all_bits xs ys zs) m) ⊎ ((k : ℕ) → k < all_bits xs ys zs → HasTriple xs ys zs k → ⊥)

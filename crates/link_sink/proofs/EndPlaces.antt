@@ -4,7 +4,7 @@ use Rattle.std.proofs.lemmas.List.{length-replicate}
 use Rattle.lane_deskew.specs.Kinds.{Kind, control as of_control, payload as of_payload, guards, run, item_kinds, kinds_of, IsInner as IsInnerItem, IsShape, last, more, EndsAt}
 use Rattle.lane_deskew.proofs.Shapes.{middle, EndsLater, where_ends, ends_alone, ends_late as shape_ends_late}
 use Rattle.island_pack.specs.Periods.{ControlRun, Period, control, video, island, values_of, period_columns}
-use Rattle.link_sink.specs.Laws.{shape_of, shapes_of}
+use Rattle.link_sink.proofs.Shapes.{shape_of, shapes_of}
 use Rattle.link_sink.proofs.Conformed.{IsInner, Follows, ends, goes_on}
 
 inner_shape : (vs : List ℕ) (x : Period) → IsInner vs x → IsInnerItem (shape_of x)

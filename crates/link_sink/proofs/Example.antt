@@ -1,155 +1,56 @@
--- A tap of the stream, and its first full alignment.
-use Rattle.std.proofs.Common.{◌≡◌, ℕ, ◌≤◌, Bool, true, false, List, [], ◌∷◌, length, drop, refl, ◌∙◌, sym, subst, arith, Some, inl, inr, length-take, length-drop}
-use Rattle.std.proofs.lemmas.Bool.{cases_lt}
+-- Taps of the stream, each with its first full alignment.
+use Rattle.std.proofs.Common.{◌≡◌, ℕ, ◌+◌, ◌*◌, ◌<◌, ◌≤◌, List, [], ◌∷◌, length, refl, ◌∙◌, arith, zero, suc}
+use Rattle.std.specs.Prelude.{slice_index}
 use Rattle.std.proofs.lemmas.List.{length-map}
-use Rattle.tmds_word.specs.Bits.{bits_of, word_bits, row_bits, number, window}
-use Rattle.tmds_word.proofs.Below.{passes_below}
-use Rattle.tmds_word.proofs.Lists.{length-row_bits}
-use Rattle.terc4.specs.Tables.{control_words, terc_words, video_guard, island_guard, is_in, is_control}
-use Rattle.lane_align.specs.Lanes.{IsEdge}
-use Rattle.lane_align.specs.Laws.{tap}
-use Rattle.lane_align.proofs.Edges.{edges_apart}
-use Rattle.lane_deskew.specs.Triples.{IsFirst}
-use Rattle.lane_deskew.proofs.Computed.{has, runs_at, none_before, is_edge}
-use Rattle.island_pack.specs.Periods.{values_of}
-use Rattle.island_pack.specs.Taps.{blues, greens, reds, IsPart, IsTap}
-use Rattle.link_sink.specs.Laws.{HasExample}
-use Rattle.link_sink.proofs.Stream.{stream, sent, received, long_received, came, unlike_pixel, unlike_packet}
+use Rattle.tmds_word.specs.Column.{Column, blues, greens, reds}
+use Rattle.tmds_word.specs.Taps.{part_of, IsPart, IsTap, HasSmallSkew}
+use Rattle.island_pack.specs.Sparse.{SparesUntil}
+use Rattle.link_sink.specs.Laws.{HoldsEnd, AlignsUntil, HasExample, HasPayloadExample}
+use Rattle.link_sink.proofs.Stream.{stream, sent, received, hurt, long_received, long_hurt, came, came_hurt, alone, hurt_spared, after_first, payload_example, hurt_example}
+use Rattle.link_sink.proofs.Aligning.{first_until}
 
--- The tap.
+abbrev skews : List ℕ
+skews = 0 ∷ (70 ∷ (35 ∷ []))
 
-unfoldable x : List Bool
-x = tap (blues received) 7 793
+-- as many bits as each lane has from there on
+abbrev counts : List ℕ
+counts = 863 ∷ (793 ∷ (828 ∷ []))
 
-unfoldable y : List Bool
-y = tap (greens received) 77 793
+part : (words : List ℕ) (from many : ℕ) → length words ≡ 87 → from + many ≤ 870 → IsPart words from many (part_of words from many)
+part words from many long le = record { within = omega arith; bits_are = refl }
 
-unfoldable z : List Bool
-z = tap (reds received) 42 793
-
-tap_long : (words : List ℕ) (from : ℕ) → length words ≡ 87 → from ≤ 77 → length (tap words from 793) ≡ 793
-tap_long words from long le =
-    let a = length-take 793 (drop from (row_bits words)) in
-    let b = length-drop from (row_bits words) in
-    let c = length-row_bits words in
-    omega arith
-
-part : (words : List ℕ) (from : ℕ) → length words ≡ 87 → from ≤ 77 → IsPart words from 793 (tap words from 793)
-part words from long le = record { within = omega arith; bits_are = refl }
-
-tapped : IsTap received 7 (0 ∷ 70 ∷ 35 ∷ []) (length x) x y z
-unfolding x y z
-tapped =
-    let r = long_received in
-    let b = length-map received (λ c. c.blue) in
-    let g = length-map received (λ c. c.green) in
-    let e = length-map received (λ c. c.red) in
-    subst (λ n. IsTap received 7 (0 ∷ 70 ∷ 35 ∷ []) n (tap (blues received) 7 793) (tap (greens received) 77 793) (tap (reds received) 42 793))
-    (sym (tap_long (blues received) 7 (b ∙ r) (omega arith)))
-    (record {
-      blue_part = part (blues received) 7 (b ∙ r) (omega arith);
-      green_part = part (greens received) 77 (g ∙ r) (omega arith);
-      red_part = part (reds received) 42 (e ∙ r) (omega arith);
-    })
-
-x_run : runs_at x 3 ≡ true
-unfolding passes_below x received values_of control_words terc_words video_guard island_guard has window row_bits word_bits bits_of number is_control is_in
-x_run = refl
-
-x_none : none_before x 3 ≡ true
-unfolding passes_below x received values_of control_words terc_words video_guard island_guard has window row_bits word_bits bits_of number is_control is_in
-x_none = refl
-
-x_before : runs_at x 113 ≡ true
-unfolding passes_below x received values_of control_words terc_words video_guard island_guard has window row_bits word_bits bits_of number is_control is_in
-x_before = refl
-
-x_here : window x 233 ≡ Some 0x2cc
-unfolding x received values_of control_words terc_words video_guard island_guard window row_bits word_bits bits_of number
-x_here = refl
-
-y_run : runs_at y 3 ≡ true
-unfolding passes_below y received values_of control_words terc_words video_guard island_guard has window row_bits word_bits bits_of number is_control is_in
-y_run = refl
-
-y_none : none_before y 3 ≡ true
-unfolding passes_below y received values_of control_words terc_words video_guard island_guard has window row_bits word_bits bits_of number is_control is_in
-y_none = refl
-
-y_before : runs_at y 43 ≡ true
-unfolding passes_below y received values_of control_words terc_words video_guard island_guard has window row_bits word_bits bits_of number is_control is_in
-y_before = refl
-
-y_here : window y 163 ≡ Some 0x133
-unfolding y received values_of control_words terc_words video_guard island_guard window row_bits word_bits bits_of number
-y_here = refl
-
-z_run : runs_at z 8 ≡ true
-unfolding passes_below z received values_of control_words terc_words video_guard island_guard has window row_bits word_bits bits_of number is_control is_in
-z_run = refl
-
-z_none : none_before z 8 ≡ true
-unfolding passes_below z received values_of control_words terc_words video_guard island_guard has window row_bits word_bits bits_of number is_control is_in
-z_none = refl
-
-z_before : runs_at z 78 ≡ true
-unfolding passes_below z received values_of control_words terc_words video_guard island_guard has window row_bits word_bits bits_of number is_control is_in
-z_before = refl
-
-z_here : window z 198 ≡ Some 0x2cc
-unfolding z received values_of control_words terc_words video_guard island_guard window row_bits word_bits bits_of number
-z_here = refl
-
-guard_test : is_control 0x2cc ≡ false
-unfolding is_control is_in control_words
-guard_test = refl
-
-green_guard_test : is_control 0x133 ≡ false
-unfolding is_control is_in control_words
-green_guard_test = refl
-
-x_edge : IsEdge x 233
-x_edge = is_edge x 3 233 0x2cc x_run x_none x_before x_here guard_test (omega arith) refl
-
-y_edge : IsEdge y 163
-y_edge = is_edge y 3 163 0x133 y_run y_none y_before y_here green_guard_test (omega arith) refl
-
-z_edge : IsEdge z 198
-z_edge = is_edge z 8 198 0x2cc z_run z_none z_before z_here guard_test (omega arith) refl
-
--- lane 0 has no edge before that
-no_earlier : (e : ℕ) → IsEdge x e → 233 ≤ e
-no_earlier e edge = elim (cases_lt e 233) [
-  | inl less ↦
-      let far = edges_apart x e 233 edge x_edge less in
-      let past = edge.past in
-      absurd (omega arith)
-  | inr more ↦ more
-]
-
-first : IsFirst x y z 233 163 198
-first = record {
-  triple = record {
-    first = x_edge;
-    second = y_edge;
-    third = z_edge;
-    first_second = (omega arith, omega arith);
-    second_third = (omega arith, omega arith);
-    first_third = (omega arith, omega arith);
-  };
-  least = λ p q r t. let a = no_earlier p t.first in omega arith;
+tapped : (cs : List Column) → length cs ≡ 87 → IsTap cs 7 skews counts (part_of (blues cs) 7 863) (part_of (greens cs) 77 793) (part_of (reds cs) 42 828)
+tapped cs long = record {
+  blue_part = part (blues cs) 7 863 (length-map cs (λ c. c.blue) ∙ long) (omega arith);
+  green_part = part (greens cs) 77 793 (length-map cs (λ c. c.green) ∙ long) (omega arith);
+  red_part = part (reds cs) 42 828 (length-map cs (λ c. c.red) ∙ long) (omega arith);
 }
 
+small : HasSmallSkew skews
+small = record { first_second = (omega arith, omega arith); second_third = (omega arith, omega arith); first_third = (omega arith, omega arith) }
+
+each_lane : (P : ℕ → Type 0) → P 0 → P 1 → P 2 → (lane : ℕ) → lane < 3 → P lane
+each_lane P p q r zero lt = p
+each_lane P p q r (suc zero) lt = q
+each_lane P p q r (suc (suc zero)) lt = r
+each_lane P p q r (suc (suc (suc lane))) lt = absurd (omega arith)
+
+holds : HoldsEnd 7 skews counts 24
+holds = record {
+  begins = each_lane (λ lane. 7 + slice_index skews lane + 120 ≤ 10 * 24) (omega arith) (omega arith) (omega arith);
+  reaches = each_lane (λ lane. 10 * 24 + 10 ≤ 7 + slice_index skews lane + slice_index counts lane) (omega arith) (omega arith) (omega arith);
+}
+
+aligns : (cs : List Column) → SparesUntil stream sent cs 24 → AlignsUntil stream sent cs 7 skews counts 24
+aligns cs spared = record { after = after_first; spares = spared; holds = holds }
+
+pub payload_aligned : HasPayloadExample
+payload_aligned =
+    let first = first_until stream sent received came 7 skews counts _ _ _ (tapped received long_received) small 24 (aligns received (alone.spares 24)) in
+    (stream, sent, received, counts, _, _, _, first.0, first.1, first.2, payload_example, record { tapped = tapped received long_received; first = first.3 })
+
 pub example : HasExample
-example = (
-  stream,
-  sent,
-  received,
-  x,
-  y,
-  z,
-  233,
-  163,
-  198,
-  record { came = came; pixel = (_, _, _, 26, unlike_pixel); packet = (_, _, _, 46, unlike_packet); tapped = tapped; first = first },
-)
+example =
+    let until = aligns hurt hurt_spared in
+    let first = first_until stream sent hurt came_hurt 7 skews counts _ _ _ (tapped hurt long_hurt) small 24 until in
+    (stream, sent, hurt, counts, 24, _, _, _, first.0, first.1, first.2, hurt_example counts until, record { tapped = tapped hurt long_hurt; first = first.3 })

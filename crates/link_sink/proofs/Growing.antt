@@ -6,7 +6,7 @@ use Rattle.std.proofs.lemmas.List.Elements.{All-take, All-drop}
 use Rattle.tmds_word.specs.Column.{Column}
 use Rattle.terc4.specs.Columns.{is_control_column}
 use Rattle.period_grammar.specs.Things.{Thing, all_at, thing_of}
-use Rattle.period_grammar.specs.Cut.{periods}
+use Rattle.period_grammar.specs.Cut.{stretches}
 use Rattle.period_grammar.specs.Heard.{heard_so_far, heard, end_from}
 use Rattle.period_grammar.specs.After.{last, gains}
 use Rattle.period_grammar.specs.Sizes.{IsSized}
@@ -28,7 +28,7 @@ told_then cs ds n us e =
 pub told_more : (cs ds : List Column) → (more : List Thing) × (told_of (cs ++ ds) ≡ told_of cs ++ more)
 told_more cs [] = ([], ap told_of (append-nil cs) ∙ sym (append-nil (told_of cs)))
 told_more cs (d ∷ ds) =
-    let one = gains (is_control_column d) (start_of cs) (length cs) d (last (periods cs)) in
+    let one = gains (is_control_column d) (start_of cs) (length cs) d (last (stretches cs)) in
     let here = told_then cs (cs ++ d ∷ []) (length cs) one (heard_push cs d (start_of cs) (starts cs)) in
     let rest = told_more (cs ++ d ∷ []) ds in (
       one ++ rest.0,
@@ -37,11 +37,11 @@ told_more cs (d ∷ ds) =
 
 -- before any column nothing is told
 pub told_none : told_of [] ≡ []
-unfolding told_of heard_so_far periods
+unfolding told_of heard_so_far stretches
 told_none = refl
 
 -- what the end tells comes last
-pub heard_whole : (cs : List Column) → heard cs ≡ told_of cs ++ end_from 0 (periods cs)
+pub heard_whole : (cs : List Column) → heard cs ≡ told_of cs ++ end_from 0 (stretches cs)
 unfolding heard told_of
 heard_whole cs = refl
 

@@ -1,22 +1,22 @@
 -- The lanes of columns that came of conforming periods with sparse damage: each is one in which an edge is the end of a
 -- control period.
-use Rattle.std.proofs.Common.{◌≡◌, ℕ, suc, zero, ◌+◌, ◌*◌, ◌/◌, ◌<◌, ◌≤◌, Bool, true, false, not, ◌==◌, List, [], ◌∷◌, ◌++◌, map, length, take, drop, get_or, replicate, refl, ap, ap₂, sym, ◌∙◌, subst, arith}
+use Rattle.std.proofs.Common.{◌≡◌, ℕ, suc, zero, ◌+◌, ◌<◌, ◌≤◌, true, false, not, ◌==◌, List, [], ◌∷◌, map, length, take, drop, get_or, refl, ap, sym, ◌∙◌, subst, arith}
 use Rattle.std.proofs.lemmas.Bool.{eq-eqb}
-use Rattle.std.proofs.Math.ListN.{get_or-map as get_or-map_at}
-use Rattle.std.proofs.lemmas.List.{length-map, get_or-map, map-append}
+use Rattle.std.proofs.lemmas.List.{length-map, get_or-map}
 use Rattle.tmds_word.specs.Bits.{word_bits, turns}
-use Rattle.tmds_word.specs.Column.{Column}
+use Rattle.tmds_word.specs.Column.{Column, blues, greens, reds}
 use Rattle.terc4.specs.Tables.{is_control}
 use Rattle.terc4.specs.Columns.{one_if}
 use Rattle.lane_align.specs.Laws.{marked}
-use Rattle.lane_deskew.specs.Kinds.{Kind, control as control_kind, guard, payload, guards, item_kinds, kinds_of, kind_at, IsShape}
+use Rattle.lane_deskew.specs.Kinds.{Kind, control as control_kind, guard, payload, kinds_of, kind_at, IsShape}
 use Rattle.lane_deskew.specs.Ends.{IsReceived, IsSent, IsSparse as IsSparseLane, damaged}
 use Rattle.lane_deskew.proofs.Ends.{sparse_received}
 use Rattle.island_pack.specs.Periods.{Period, control, video, island, values_of}
 use Rattle.island_pack.specs.Conforming.{IsConforming}
-use Rattle.island_pack.specs.Taps.{blues, greens, reds}
-use Rattle.island_pack.specs.Sparse.{payload_of, payload_columns, unlike_words, AreFew, no_column, column_at}
-use Rattle.link_sink.specs.Laws.{shape_of, shapes_of, CameOf}
+use Rattle.island_pack.specs.Sparse.{unlike_words, AreFew, no_column, column_at, IsSparseInPayload}
+use Rattle.island_pack.specs.Kinds as columns
+use Rattle.link_sink.specs.Laws.{CameOf}
+use Rattle.link_sink.proofs.Shapes.{shape_of, shapes_of, lane_kind_at, no_payload}
 use Rattle.link_sink.proofs.Conformed.{Conforms, conforming}
 use Rattle.link_sink.proofs.EndPlaces.{follows_shape}
 use Rattle.link_sink.proofs.Spelled.{FitsWord, FitsColumn, Fitting, no_columns, column, fitting}
@@ -33,50 +33,13 @@ conforms_shape (island x ∷ rest) h = absurd h
 pub shape_is : (ps : List Period) → IsConforming ps → IsShape (shapes_of ps)
 shape_is ps h = conforms_shape ps (conforming ps h)
 
--- Columns of payload are those that may come damaged.
-
-abbrev is_payload : Kind → Bool
-is_payload control_kind = false
-is_payload guard = false
-is_payload payload = true
-
-payload_replicate : (n : ℕ) (k : Kind) → map is_payload (replicate n k) ≡ replicate n (is_payload k)
-payload_replicate zero k = refl
-payload_replicate (suc n) k = ap (λ bs. is_payload k ∷ bs) (payload_replicate n k)
-
-payload_period : (p : Period) → payload_of p ≡ map is_payload (item_kinds (shape_of p))
-unfolding payload_of item_kinds shape_of
-payload_period (control runs) = sym (payload_replicate (length (values_of runs)) control_kind)
-payload_period (video bytes) = ap (λ bs. false ∷ (false ∷ bs)) (sym (payload_replicate (length bytes / 3) payload))
-payload_period (island x) =
-    let n = 32 * length x.packets in
-    ap (λ bs. false ∷ (false ∷ bs))
-    (sym (map-append is_payload (replicate n payload) guards ∙ ap (λ bs. bs ++ (false ∷ (false ∷ []))) (payload_replicate n payload)))
-
-payload_periods : (ps : List Period) → payload_columns ps ≡ map is_payload (kinds_of (shapes_of ps))
-unfolding payload_columns kinds_of
-payload_periods [] = refl
-payload_periods (p ∷ ps) =
-    ap₂ (λ (a b : List Bool). a ++ b) (payload_period p) (payload_periods ps)
-    ∙ sym (map-append is_payload (item_kinds (shape_of p)) (kinds_of (shapes_of ps)))
-
-no_payload : (k : Kind) → (k ≡ payload → ⊥) → is_payload k ≡ false
-no_payload control_kind h = refl
-no_payload guard h = refl
-no_payload payload h = absurd (h refl)
-
-spared : (ps : List Period) (i : ℕ) → (kind_at (kinds_of (shapes_of ps)) i ≡ payload → ⊥) → get_or (payload_columns ps) i false ≡ false
-spared ps i h =
-    let ks = kinds_of (shapes_of ps) in
-    ap (λ bs. get_or bs i false) (payload_periods ps) ∙ get_or-map_at is_payload ks i guard ∙ no_payload (kind_at ks i) h
-
 -- Sent words.
 
-fitting_length : (ks : List Kind) (cs : List Column) → Fitting ks cs → length ks ≡ length cs
+pub fitting_length : (ks : List Kind) (cs : List Column) → Fitting ks cs → length ks ≡ length cs
 fitting_length _ _ no_columns = refl
 fitting_length _ _ (column k c ks cs h hs) = ap suc (fitting_length ks cs hs)
 
-fitting_at : (ks : List Kind) (cs : List Column) → Fitting ks cs → (i : ℕ) → i < length cs → FitsColumn (kind_at ks i) (column_at cs i)
+pub fitting_at : (ks : List Kind) (cs : List Column) → Fitting ks cs → (i : ℕ) → i < length cs → FitsColumn (kind_at ks i) (column_at cs i)
 fitting_at _ _ no_columns i lt = absurd (omega arith)
 fitting_at _ _ (column k c ks cs h hs) zero lt = h
 fitting_at _ _ (column k c ks cs h hs) (suc i) lt = fitting_at ks cs hs i (omega arith)
@@ -90,7 +53,7 @@ other_fits guard w h n = h
 other_fits payload w h n = h
 
 -- one lane of columns, by its word of a column
-lane_sent : (f : Column → ℕ) (ks : List Kind) (cs : List Column) → length ks ≡ length cs
+pub lane_sent : (f : Column → ℕ) (ks : List Kind) (cs : List Column) → length ks ≡ length cs
     → ((i : ℕ) → i < length cs → FitsWord (kind_at ks i) (f (column_at cs i))) → IsSent ks (map f cs)
 lane_sent f ks cs long fit =
     let many = length-map cs f in
@@ -103,7 +66,7 @@ lane_sent f ks cs long fit =
 
 -- Received words.
 
-not_damaged : (xs ys : List ℕ) (i : ℕ) → length ys ≡ length xs → get_or ys i 0 ≡ get_or xs i 0 → get_or (damaged xs ys) i false ≡ false
+pub not_damaged : (xs ys : List ℕ) (i : ℕ) → length ys ≡ length xs → get_or ys i 0 ≡ get_or xs i 0 → get_or (damaged xs ys) i false ≡ false
 unfolding damaged
 not_damaged [] ys i l e = refl
 not_damaged (x ∷ xs) [] i l e = absurd (omega arith)
@@ -128,7 +91,7 @@ drop_damaged (suc i) (x ∷ xs) [] = by (drop i xs)
     by (z ∷ zs) = refl
 drop_damaged (suc i) (x ∷ xs) (y ∷ ys) = drop_damaged i xs ys
 
-few_marked : (xs ys : List ℕ) → AreFew xs ys → (i : ℕ) → i + 11 ≤ length xs → marked (take 11 (drop i (damaged xs ys))) ≤ 2
+pub few_marked : (xs ys : List ℕ) → AreFew xs ys → (i : ℕ) → i + 11 ≤ length xs → marked (take 11 (drop i (damaged xs ys))) ≤ 2
 few_marked xs ys few i within =
     let e = ap (λ ms. marked (take 11 ms)) (drop_damaged i xs ys) ∙ marked_unlike 11 (drop i xs) (drop i ys) in
     let f = few i within in
@@ -154,15 +117,15 @@ pub record AreReceived (ps : List Period) (sent received : List Column) : Type 0
   pub green : IsReceived (kinds_of (shapes_of ps)) (greens received) (damaged (greens sent) (greens received))
   pub red : IsReceived (kinds_of (shapes_of ps)) (reds received) (damaged (reds sent) (reds received))
 
-pub lanes_received : (ps : List Period) (sent received : List Column) → CameOf ps sent received → AreReceived ps sent received
-lanes_received ps sent received came =
+pub lanes_received : (ps : List Period) (sent received : List Column) → CameOf ps sent received → IsSparseInPayload ps sent received → AreReceived ps sent received
+lanes_received ps sent received came alone =
     let ks = kinds_of (shapes_of ps) in
     let fit = fitting ps sent came.conforming came.spelled in
     let long = fitting_length ks sent fit in
     let at = fitting_at ks sent fit in
     let h = came.sparse in
     let same : (i : ℕ) → i < length sent → (kind_at ks i ≡ payload → ⊥) → column_at received i ≡ column_at sent i =
-    λ i lt n. h.payload_alone i lt (spared ps i n) in
+    λ i lt n. alone.spares i i (omega arith) (no_payload (columns.kind_at (columns.kinds_of ps) i) (λ e. n (lane_kind_at ps i ∙ e))) in
     record {
       blue = sparse_received ks (blues sent) (blues received)
           (lane_sent (λ c. c.blue) ks sent long (λ i lt. (at i lt).blue))

@@ -3,7 +3,9 @@ use Rattle.std.proofs.Common.{◌≡◌, ℕ, zero, suc, ◌+◌, ◌-◌, ◌/�
 use Rattle.std.specs.Prelude.{slice_get}
 use Rattle.std.proofs.lemmas.List.{take-append-drop, take_more, length-take-le, drop-append-le}
 use Rattle.std.proofs.lemmas.Option.{slice_get_within, get_or_from_slice_get}
-use Rattle.lane_deskew.specs.Aligned.{words_of, words_from, columns_of, aligned_columns}
+use Rattle.lane_deskew.specs.Aligned.{aligned_columns}
+use Rattle.tmds_word.specs.Words.{words_of, columns_of}
+use Rattle.lane_align.specs.Words.{words_from}
 
 -- a list in which nothing stands at a place ends before it
 pub ends_before : {X : Type 0} (xs : List X) (j : ℕ) → slice_get xs j ≡ None → length xs ≤ j

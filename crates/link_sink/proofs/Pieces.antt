@@ -13,7 +13,7 @@ use Rattle.lane_deskew.specs.Triples.{IsFirst}
 use Rattle.lane_deskew.specs.Aligned.{aligned_columns}
 use Rattle.lane_deskew.proofs.Growth.{first_stays}
 use Rattle.period_grammar.specs.Things.{Thing, thing_of}
-use Rattle.period_grammar.specs.Cut.{periods}
+use Rattle.period_grammar.specs.Cut.{stretches}
 use Rattle.period_grammar.specs.Heard.{heard_so_far, end_from}
 use Rattle.link_sink.specs.Alignment.{AreTold, IsAlignedTold}
 use Rattle.link_sink.specs.Ears.{StopsIn}
@@ -197,7 +197,7 @@ pub aligned_all : (fed : Fed) (d e f : ℕ) (so_far : List Thing) → IsFirst fe
 unfolding told_of
 aligned_all fed d e f so_far first is =
     let columns = aligned_columns fed.blue fed.green fed.red d e f in
-    let last = end_from 0 (periods columns) in (
+    let last = end_from 0 (stretches columns) in (
       last,
       record { d = d; e = e; f = f; first = first; columns_are = refl; told = ap (λ ts. ts ++ last) is ∙ sym (heard_whole columns) },
     )

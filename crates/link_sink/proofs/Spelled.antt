@@ -19,8 +19,8 @@ use Rattle.island_pack.specs.Packets.{Carries}
 use Rattle.island_pack.specs.Spelling.{control_column, SpellsPixels, guard_column, guard_columns, words_of, SpellsPackets, SpellsPeriod, Spells}
 use Rattle.island_pack.specs.declared.packet.Packet.{Packet}
 use Rattle.island_pack.specs.Sparse.{no_column, column_at}
-use Rattle.link_sink.specs.Laws.{shape_of, shapes_of}
-use Rattle.link_sink.proofs.Conformed.{conforming, HasBytes, has_bytes}
+use Rattle.link_sink.proofs.Shapes.{shape_of, shapes_of}
+use Rattle.link_sink.proofs.Conformed.{conforming, HasValues, has_values}
 use Rattle.link_sink.proofs.VideoTold.{pixel_count}
 use Rattle.link_sink.proofs.SpelledWords.{packets_size}
 
@@ -223,11 +223,11 @@ fit_island x own ks cs h fit =
     subst (λ own. Fitting (item_kinds (shape_of (island x)) ++ ks) (own ++ cs)) (sym h.1)
     (column _ _ _ _ (fit_guard x.opening.first) (column _ _ _ _ (fit_guard x.opening.second) whole))
 
-fit_periods : (ps : List Period) (sent : List Column) → HasBytes ps → Spells ps sent → Fitting (kinds_of (shapes_of ps)) sent
-unfolding HasBytes kinds_of
+fit_periods : (ps : List Period) (sent : List Column) → HasValues ps → Spells ps sent → Fitting (kinds_of (shapes_of ps)) sent
+unfolding HasValues kinds_of
 fit_periods [] sent small h = subst (λ cs. Fitting [] cs) (sym h) no_columns
 fit_periods (control runs ∷ ps) sent small h =
-    subst (λ cs. Fitting (kinds_of (shapes_of (control runs ∷ ps))) cs) (sym h.2) (fit_control_period runs h.0 (kinds_of (shapes_of ps)) h.1 h.3 (fit_periods ps h.1 small h.4))
+    subst (λ cs. Fitting (kinds_of (shapes_of (control runs ∷ ps))) cs) (sym h.2) (fit_control_period runs h.0 (kinds_of (shapes_of ps)) h.1 h.3 (fit_periods ps h.1 small.1 h.4))
 fit_periods (video bytes ∷ ps) sent small h =
     subst (λ cs. Fitting (kinds_of (shapes_of (video bytes ∷ ps))) cs) (sym h.2) (fit_video bytes h.0 (kinds_of (shapes_of ps)) h.1 small.0 h.3 (fit_periods ps h.1 small.1 h.4))
 fit_periods (island x ∷ ps) sent small h =
@@ -235,4 +235,4 @@ fit_periods (island x ∷ ps) sent small h =
 
 -- the columns that spell conforming periods fit their kinds
 pub fitting : (ps : List Period) (sent : List Column) → IsConforming ps → Spells ps sent → Fitting (kinds_of (shapes_of ps)) sent
-fitting ps sent conforms spelled = fit_periods ps sent (has_bytes ps (conforming ps conforms)) spelled
+fitting ps sent conforms spelled = fit_periods ps sent (has_values ps (conforming ps conforms)) spelled

@@ -1,8 +1,8 @@
 -- The words and the sizes of columns that spell periods.
-use Rattle.std.proofs.Common.{◌≡◌, ℕ, suc, ◌*◌, ◌/◌, ◌<◌, true, false, Bool, List, [], ◌∷◌, length, map, replicate, get_or, refl, ap, sym, ◌∙◌, arith, length-append}
+use Rattle.std.proofs.Common.{◌≡◌, ℕ, suc, ◌*◌, ◌<◌, true, false, Bool, List, [], ◌∷◌, length, map, get_or, refl, ap, ◌∙◌, arith, length-append}
 use Rattle.std.specs.Prelude.{nat_lt, ℤ}
 use Rattle.std.proofs.lemmas.Bool.{ltb-true}
-use Rattle.std.proofs.lemmas.List.{length-map, length-replicate}
+use Rattle.std.proofs.lemmas.List.{length-map}
 use Rattle.tmds_word.specs.Bits.{word_bits, turns}
 use Rattle.tmds_word.specs.Column.{Column}
 use Rattle.tmds_word.proofs.Below.{and-left, and-right}
@@ -12,8 +12,7 @@ use Rattle.tmds_code.proofs.TableWords.{decoded_coded, coded_turns}
 use Rattle.terc4.proofs.Words.{few_turns}
 use Rattle.island_pack.specs.Periods.{Pixel, Period, control, video, island, values_of, pixels_of, period_columns}
 use Rattle.island_pack.specs.Conforming.{are_bytes}
-use Rattle.island_pack.specs.Spelling.{control_column, guard_columns, SpellsPackets, SpellsPeriod, Spells}
-use Rattle.island_pack.specs.Sparse.{payload_of, payload_columns}
+use Rattle.island_pack.specs.Spelling.{control_column, guard_columns, SpellsPackets, SpellsPeriod}
 use Rattle.island_pack.specs.declared.packet.Packet.{Packet}
 use Rattle.link_sink.proofs.Rows.{and_both}
 use Rattle.link_sink.proofs.VideoTold.{IsWord, pixel_count}
@@ -81,7 +80,8 @@ packets_size first (p ∷ ps) pp h =
     let both = length-append h.0 h.1 in
     omega arith
 
-period_size : (x : Period) (own : List Column) → SpellsPeriod x own → length own ≡ period_columns x
+-- as many columns as the period has
+pub period_size : (x : Period) (own : List Column) → SpellsPeriod x own → length own ≡ period_columns x
 unfolding period_columns
 period_size (control runs) own h = ap length h ∙ length-map (values_of runs) control_column
 period_size (video bytes) own h =
@@ -95,26 +95,4 @@ period_size (island x) own h =
     let all = ap length h.1 in
     let n = packets_size true x.packets h.0 h.2 in
     let both = length-append h.0 (guard_columns x.closing) in
-    omega arith
-
-payload_size : (x : Period) → length (payload_of x) ≡ period_columns x
-unfolding payload_of period_columns
-payload_size (control runs) = length-replicate (length (values_of runs)) false
-payload_size (video bytes) = let l = length-replicate (length bytes / 3) true in omega arith
-payload_size (island x) =
-    let l = length-replicate (32 * length x.packets) true in
-    let a = length-append (replicate (32 * length x.packets) true) (false ∷ (false ∷ [])) in
-    omega arith
-
--- as many columns as the periods have
-pub spelled_size : (ps : List Period) (sent : List Column) → Spells ps sent → length (payload_columns ps) ≡ length sent
-unfolding payload_columns
-spelled_size [] sent h = sym (ap length h)
-spelled_size (x ∷ xs) sent h =
-    let a = length-append (payload_of x) (payload_columns xs) in
-    let b = payload_size x in
-    let c = period_size x h.0 h.3 in
-    let d = spelled_size xs h.1 h.4 in
-    let e = ap length h.2 in
-    let f = length-append h.0 h.1 in
     omega arith

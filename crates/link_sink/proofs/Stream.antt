@@ -1,11 +1,12 @@
--- A short stream with a video data period and a data island, in each of which one word came damaged.
-use Rattle.std.proofs.Common.{◌≡◌, ℕ, suc, zero, ◌+◌, ◌*◌, ◌<◌, ◌≤◌, Bool, true, false, not, ◌&&◌, ◌||◌, ◌==◌, List, [], ◌∷◌, ◌++◌, map, length, take, drop, get_or, replicate, refl, ap, sym, subst, ◌∙◌, ◌-◌, arith, nat_le, nat_lt}
+-- A short stream with a video data period and a data island, as it was sent, as it came with one damaged word in each,
+-- and as it came with damaged words in a control period and in guard columns too.
+use Rattle.std.proofs.Common.{◌≡◌, ℕ, suc, zero, ◌+◌, ◌*◌, ◌<◌, ◌≤◌, Bool, true, false, not, ◌&&◌, ◌||◌, ◌==◌, List, [], ◌∷◌, ◌++◌, map, length, take, drop, get_or, replicate, refl, ap, ap₂, sym, subst, ◌∙◌, ◌-◌, arith, inl, inr, nat_le, nat_lt}
 use Rattle.std.specs.List.{All}
-use Rattle.std.proofs.lemmas.Bool.{eqb-true, eq-eqb, leb-true, ltb-true}
-use Rattle.std.proofs.lemmas.List.{length-map, length-replicate}
+use Rattle.std.proofs.lemmas.Bool.{cases_lt, eqb-true, eq-eqb, leb-true, ltb-true}
+use Rattle.std.proofs.lemmas.List.{length-map, length-replicate, get_or_past}
 use Rattle.std.proofs.lemmas.List.Elements.{All-replicate, All-from_get_or}
 use Rattle.tmds_word.specs.Bits.{bits_of, number, ones, zeros, balance}
-use Rattle.tmds_word.specs.Column.{Column, column_of}
+use Rattle.tmds_word.specs.Column.{Column, column_of, blues, greens, reds}
 use Rattle.tmds_word.proofs.Below.{and-left, and-right, passes_below, passes_at}
 use Rattle.tmds_code.specs.Coding.{Coded, null, takes_xnor, minimised, balanced, coded_bits, coded_at}
 use Rattle.tmds_code.specs.Lanes.{IsLane, disparity_of}
@@ -17,13 +18,13 @@ use Rattle.bch_block.proofs.Sums.{equal_bits}
 use Rattle.lane_deskew.proofs.Computed.{or_second, not_true, clash}
 use Rattle.island_pack.specs.Nibbles.{nibble_of, nibbles_of, sync_values, header_bits, by_turns, body_bits}
 use Rattle.island_pack.specs.Packets.{IsPacket, body_of, BeginsWith, AreTerc, Carries}
-use Rattle.island_pack.specs.Periods.{ControlRun, DataIsland, Period, control, video, island, values_of, period_columns, columns_of, has_preamble, pixels_of}
+use Rattle.island_pack.specs.Periods.{ControlRun, DataIsland, Period, control, video, island, values_of, has_preamble, pixels_of}
 use Rattle.island_pack.specs.Conforming.{IsConforming, conforms, is_control_period, is_video_period, is_packet, is_data_island}
-use Rattle.island_pack.specs.Spelling.{control_column, SpellsPixels, guard_columns, words_of, SpellsIsland, SpellsPeriod, Spells}
-use Rattle.island_pack.specs.Taps.{blues, greens, reds}
-use Rattle.island_pack.specs.Sparse.{payload_of, payload_columns, unlike_words, AreFew, column_at, IsNarrow, IsSparse}
+use Rattle.island_pack.specs.Spelling.{control_column, SpellsPixels, guard_column, guard_columns, words_of, SpellsIsland, SpellsPeriod, Spells}
+use Rattle.island_pack.specs.Kinds.{Kind, control_column as control_kind, first_guard, second_guard, pixel_column, packet_column, kinds_in, kinds_of, kind_at, IsPayload, IsAfterControl}
+use Rattle.island_pack.specs.Sparse.{unlike_words, AreFew, no_column, column_at, IsNarrow, unlike_at, IsSparse, SparesUntil, IsSparseInPayload}
 use Rattle.island_pack.specs.declared.packet.Packet.{Packet}
-use Rattle.link_sink.specs.Laws.{CameOf, IsUnlikeIn}
+use Rattle.link_sink.specs.Laws.{CameOf, AlignsUntil, IsPayloadExample, IsExample}
 
 -- The periods.
 
@@ -117,6 +118,19 @@ sent = columns pixel_sent packet_sent
 
 unfoldable pub received : List Column
 received = columns pixel_received packet_received
+
+-- a guard word came in place of a control word
+abbrev second_hurt : List Column
+second_hurt = map control_column (replicate 3 0) ++ (triple 0x354 0x354 0x2cc ∷ map control_column (replicate 8 20))
+
+-- words of pixels came in place of a word of the first and of the last guard column
+abbrev island_hurt : List Column
+island_hurt =
+    (triple 0x28e 0x100 0x133 ∷ (guard_column 1 ∷ []))
+    ++ (packet_received ++ (guard_column 2 ∷ (triple 0x2c3 0x133 0x3ff ∷ [])))
+
+unfoldable pub hurt : List Column
+hurt = control_columns first ++ (video_columns pixel_received ++ (second_hurt ++ (island_hurt ++ last_columns)))
 
 -- How a pixel is spelled.
 
@@ -273,6 +287,29 @@ pub long_received : length received ≡ 87
 unfolding received values_of video_guard
 long_received = refl
 
+pub long_hurt : length hurt ≡ 87
+unfolding hurt values_of video_guard
+long_hurt = refl
+
+-- of 87 columns, one at each place
+each : (P : ℕ → Type 0) → ((i : ℕ) → i < 87 → P i) → ((i : ℕ) → 87 ≤ i → P i) → (i : ℕ) → P i
+each P within past i = elim (cases_lt i 87) [
+  | inl lt ↦ within i lt
+  | inr le ↦ past i le
+]
+
+no_more : (cs : List Column) → length cs ≡ 87 → (i : ℕ) → 87 ≤ i → column_at cs i ≡ no_column
+no_more cs long i le = get_or_past cs i no_column (omega arith)
+
+none_unlike : unlike_words (words_of no_column) (words_of no_column) ≡ 0
+unfolding unlike_words one_if
+none_unlike = refl
+
+unlike_past : (cs : List Column) → length cs ≡ 87 → (i : ℕ) → 87 ≤ i → unlike_at sent cs i ≡ 0
+unlike_past cs long i le =
+    let s = long_sent in
+    ap₂ (λ (a b : Column). unlike_words (words_of a) (words_of b)) (no_more sent s i le) (no_more cs long i le) ∙ none_unlike
+
 abbrev is_narrow : Column → Bool
 is_narrow c = nat_lt c.blue 1024 && (nat_lt c.green 1024 && nat_lt c.red 1024)
 
@@ -281,9 +318,51 @@ narrow_column c h =
     let r = and-right (nat_lt c.blue 1024) _ h in
     record { blue = ltb-true _ _ (and-left _ _ h); green = ltb-true _ _ (and-left _ _ r); red = ltb-true _ _ (and-right (nat_lt c.green 1024) _ r) }
 
-narrow_test : passes_below 87 (λ i. is_narrow (column_at received i)) ≡ true
-unfolding passes_below received values_of control_words terc_words video_guard island_guard
-narrow_test = refl
+abbrev are_narrow : List Column → Bool
+are_narrow cs = passes_below 87 (λ i. is_narrow (column_at cs i))
+
+-- of two columns in a row at most one word is unlike
+abbrev one_of_two : List Column → Bool
+one_of_two cs = passes_below 87 (λ i. nat_le (unlike_at sent cs i + unlike_at sent cs (i + 1)) 1)
+
+abbrev two_in_eleven : List ℕ → List ℕ → Bool
+two_in_eleven xs ys = passes_below 77 (λ i. nat_le (unlike_words (take 11 (drop i xs)) (take 11 (drop i ys))) 2)
+
+few : (xs ys : List ℕ) → length xs ≡ 87 → two_in_eleven xs ys ≡ true → AreFew xs ys
+few xs ys long test i within = leb-true _ _ (passes_at 77 (λ i. nat_le (unlike_words (take 11 (drop i xs)) (take 11 (drop i ys))) 2) i test (omega arith))
+
+sparse : (cs : List Column) → length cs ≡ 87 → are_narrow cs ≡ true → one_of_two cs ≡ true
+    → two_in_eleven (blues sent) (blues cs) ≡ true → two_in_eleven (greens sent) (greens cs) ≡ true → two_in_eleven (reds sent) (reds cs) ≡ true → IsSparse stream sent cs
+sparse cs long narrow two blue green red =
+    let s = long_sent in
+    let pair : (i : ℕ) → unlike_at sent cs i + unlike_at sent cs (i + 1) ≤ 1 = each (λ i. unlike_at sent cs i + unlike_at sent cs (i + 1) ≤ 1)
+    (λ i lt. leb-true _ _ (passes_at 87 (λ i. nat_le (unlike_at sent cs i + unlike_at sent cs (i + 1)) 1) i two lt))
+    (λ i le. let a = unlike_past cs long i le in let b = unlike_past cs long (i + 1) (omega arith) in omega arith) in
+    record {
+      same_length = omega arith;
+      characters = λ i lt. narrow_column _ (passes_at 87 (λ i. is_narrow (column_at cs i)) i narrow (omega arith));
+      one_a_column = λ i. let both = pair i in omega arith;
+      one_a_pair = λ i e. pair i;
+      few_blue = few (blues sent) (blues cs) (length-map sent (λ c. c.blue) ∙ s) blue;
+      few_green = few (greens sent) (greens cs) (length-map sent (λ c. c.green) ∙ s) green;
+      few_red = few (reds sent) (reds cs) (length-map sent (λ c. c.red) ∙ s) red;
+    }
+
+-- where damage is spared
+
+abbrev pays : Kind → Bool
+pays control_kind = false
+pays first_guard = false
+pays second_guard = false
+pays pixel_column = true
+pays packet_column = true
+
+pays_not : (k : Kind) → (IsPayload k → ⊥) → pays k ≡ false
+pays_not control_kind h = refl
+pays_not first_guard h = refl
+pays_not second_guard h = refl
+pays_not pixel_column h = absurd (h tt)
+pays_not packet_column h = absurd (h tt)
 
 abbrev is_same : Column → Column → Bool
 is_same c d = (c.blue == d.blue) && ((c.green == d.green) && (c.red == d.red))
@@ -296,74 +375,164 @@ same_columns c d h =
     let e = eqb-true _ _ (and-right (c.green == d.green) _ r) in
     λ i. record { blue = b i; green = g i; red = e i }
 
-same_test : passes_below 87 (λ i. get_or (payload_columns stream) i false || is_same (column_at received i) (column_at sent i)) ≡ true
-unfolding passes_below stream payload_columns payload_of sent received values_of control_words terc_words video_guard island_guard
-same_test = refl
+abbrev pays_or_same : List Column → ℕ → Bool
+pays_or_same cs i = pays (kind_at (kinds_of stream) i) || is_same (column_at cs i) (column_at sent i)
 
-once_test : passes_below 87 (λ i. nat_le (unlike_words (words_of (column_at sent i)) (words_of (column_at received i))) 1) ≡ true
+same_at : (cs : List Column) (n i : ℕ) → passes_below n (pays_or_same cs) ≡ true → i < n → (IsPayload (kind_at (kinds_of stream) i) → ⊥) → column_at cs i ≡ column_at sent i
+same_at cs n i test lt h = same_columns _ _ (or_second _ _ (passes_at n (pays_or_same cs) i test lt) (pays_not (kind_at (kinds_of stream) i) h))
+
+-- With a damaged pixel and a damaged packet.
+
+received_narrow : are_narrow received ≡ true
+unfolding passes_below received values_of control_words terc_words video_guard island_guard
+received_narrow = refl
+
+received_two : one_of_two received ≡ true
 unfolding passes_below unlike_words one_if sent received values_of control_words terc_words video_guard island_guard
-once_test = refl
+received_two = refl
 
-blue_test : passes_below 77 (λ i. nat_le (unlike_words (take 11 (drop i (blues sent))) (take 11 (drop i (blues received)))) 2) ≡ true
+received_blue : two_in_eleven (blues sent) (blues received) ≡ true
 unfolding passes_below unlike_words one_if sent received values_of control_words terc_words video_guard island_guard
-blue_test = refl
+received_blue = refl
 
-green_test : passes_below 77 (λ i. nat_le (unlike_words (take 11 (drop i (greens sent))) (take 11 (drop i (greens received)))) 2) ≡ true
+received_green : two_in_eleven (greens sent) (greens received) ≡ true
 unfolding passes_below unlike_words one_if sent received values_of control_words terc_words video_guard island_guard
-green_test = refl
+received_green = refl
 
-red_test : passes_below 77 (λ i. nat_le (unlike_words (take 11 (drop i (reds sent))) (take 11 (drop i (reds received)))) 2) ≡ true
+received_red : two_in_eleven (reds sent) (reds received) ≡ true
 unfolding passes_below unlike_words one_if sent received values_of control_words terc_words video_guard island_guard
-red_test = refl
+received_red = refl
 
-few : (xs ys : List ℕ) → length xs ≡ 87 → passes_below 77 (λ i. nat_le (unlike_words (take 11 (drop i xs)) (take 11 (drop i ys))) 2) ≡ true → AreFew xs ys
-few xs ys long test i within = leb-true _ _ (passes_at 77 (λ i. nat_le (unlike_words (take 11 (drop i xs)) (take 11 (drop i ys))) 2) i test (omega arith))
-
-sparse : IsSparse stream sent received
-sparse =
-    let s = long_sent in
-    let r = long_received in
-    record {
-      same_length = omega arith;
-      characters = λ i lt. narrow_column _ (passes_at 87 (λ i. is_narrow (column_at received i)) i narrow_test (omega arith));
-      payload_alone = λ i lt other. same_columns _ _ (or_second _ _ (passes_at 87 (λ i. get_or (payload_columns stream) i false || is_same (column_at received i) (column_at sent i)) i same_test (omega arith)) other);
-      one_a_column = λ i lt. leb-true _ _ (passes_at 87 (λ i. nat_le (unlike_words (words_of (column_at sent i)) (words_of (column_at received i))) 1) i once_test (omega arith));
-      few_blue = few (blues sent) (blues received) (length-map sent (λ c. c.blue) ∙ s) blue_test;
-      few_green = few (greens sent) (greens received) (length-map sent (λ c. c.green) ∙ s) green_test;
-      few_red = few (reds sent) (reds received) (length-map sent (λ c. c.red) ∙ s) red_test;
-    }
+received_spares : passes_below 87 (pays_or_same received) ≡ true
+unfolding passes_below stream kinds_of kinds_in sent received values_of control_words terc_words video_guard island_guard
+received_spares = refl
 
 pub came : CameOf stream sent received
-came = record { conforming = conforming; spelled = spelled; sparse = sparse }
-
-pixel_test : ((column_at received 26).blue == (column_at sent 26).blue) ≡ false
-unfolding received sent values_of video_guard
-pixel_test = refl
-
-packet_test : ((column_at received 46).green == (column_at sent 46).green) ≡ false
-unfolding received sent values_of video_guard
-packet_test = refl
-
-abbrev before_video : List Period
-before_video = control first ∷ []
-
-abbrev before_island : List Period
-before_island = control first ∷ (video black ∷ (control second ∷ []))
-
-pub unlike_pixel : IsUnlikeIn stream sent received before_video (video black) from_second 26
-unfolding stream columns_of period_columns values_of
-unlike_pixel = record {
-  place = refl;
-  from = leb-true _ _ refl;
-  within = ltb-true _ _ refl;
-  unlike = λ e. clash _ (eq-eqb _ _ (ap (λ (c : Column). c.blue) e)) pixel_test;
+came = record {
+  conforming = conforming;
+  spelled = spelled;
+  sparse = sparse received long_received received_narrow received_two received_blue received_green received_red;
 }
 
-pub unlike_packet : IsUnlikeIn stream sent received before_island (island one_packet) last_period 46
-unfolding stream columns_of period_columns values_of
-unlike_packet = record {
-  place = refl;
-  from = leb-true _ _ refl;
-  within = ltb-true _ _ refl;
-  unlike = λ e. clash _ (eq-eqb _ _ (ap (λ (c : Column). c.green) e)) packet_test;
+pub alone : IsSparseInPayload stream sent received
+alone = record {
+  sparse = came.sparse;
+  spares = λ f i le h. each (λ i. (IsPayload (kind_at (kinds_of stream) i) → ⊥) → column_at received i ≡ column_at sent i)
+      (λ i lt h. same_at received 87 i received_spares lt h)
+      (λ i le h. no_more received long_received i le ∙ sym (no_more sent long_sent i le)) i h;
+}
+
+-- With damaged control and guard words besides.
+
+hurt_narrow : are_narrow hurt ≡ true
+unfolding passes_below hurt values_of control_words terc_words video_guard island_guard
+hurt_narrow = refl
+
+hurt_two : one_of_two hurt ≡ true
+unfolding passes_below unlike_words one_if sent hurt values_of control_words terc_words video_guard island_guard
+hurt_two = refl
+
+hurt_blue : two_in_eleven (blues sent) (blues hurt) ≡ true
+unfolding passes_below unlike_words one_if sent hurt values_of control_words terc_words video_guard island_guard
+hurt_blue = refl
+
+hurt_green : two_in_eleven (greens sent) (greens hurt) ≡ true
+unfolding passes_below unlike_words one_if sent hurt values_of control_words terc_words video_guard island_guard
+hurt_green = refl
+
+hurt_red : two_in_eleven (reds sent) (reds hurt) ≡ true
+unfolding passes_below unlike_words one_if sent hurt values_of control_words terc_words video_guard island_guard
+hurt_red = refl
+
+hurt_spares : passes_below 25 (pays_or_same hurt) ≡ true
+unfolding passes_below stream kinds_of kinds_in sent hurt values_of control_words terc_words video_guard island_guard
+hurt_spares = refl
+
+pub came_hurt : CameOf stream sent hurt
+came_hurt = record {
+  conforming = conforming;
+  spelled = spelled;
+  sparse = sparse hurt long_hurt hurt_narrow hurt_two hurt_blue hurt_green hurt_red;
+}
+
+pub hurt_spared : SparesUntil stream sent hurt 24
+hurt_spared i le h = same_at hurt 25 i hurt_spares (omega arith) h
+
+pub after_first : IsAfterControl (kinds_of stream) 24
+unfolding stream kinds_of kinds_in values_of
+after_first = record { before = (23, refl, refl); opens = refl }
+
+-- The damaged columns.
+
+unlike_column : (cs : List Column) (i : ℕ) → is_same (column_at cs i) (column_at sent i) ≡ false → column_at cs i ≡ column_at sent i → ⊥
+unlike_column cs i test e = clash _ (ap (λ c. is_same c (column_at sent i)) e ∙ same_as (column_at sent i)) test
+  where
+    same_as : (c : Column) → is_same c c ≡ true
+    same_as c = ap₂ (λ (x y : Bool). x && y) (eq-eqb c.blue c.blue refl) (ap₂ (λ (x y : Bool). x && y) (eq-eqb c.green c.green refl) (eq-eqb c.red c.red refl))
+
+pixel_kind : kind_at (kinds_of stream) 26 ≡ pixel_column
+unfolding stream kinds_of kinds_in values_of
+pixel_kind = refl
+
+packet_kind : kind_at (kinds_of stream) 46 ≡ packet_column
+unfolding stream kinds_of kinds_in values_of
+packet_kind = refl
+
+word_kind : kind_at (kinds_of stream) 30 ≡ control_kind
+unfolding stream kinds_of kinds_in values_of
+word_kind = refl
+
+first_kind : kind_at (kinds_of stream) 39 ≡ first_guard
+unfolding stream kinds_of kinds_in values_of
+first_kind = refl
+
+second_kind : kind_at (kinds_of stream) 74 ≡ second_guard
+unfolding stream kinds_of kinds_in values_of
+second_kind = refl
+
+received_pixel : is_same (column_at received 26) (column_at sent 26) ≡ false
+unfolding received sent values_of control_words terc_words video_guard island_guard
+received_pixel = refl
+
+received_packet : is_same (column_at received 46) (column_at sent 46) ≡ false
+unfolding received sent values_of control_words terc_words video_guard island_guard
+received_packet = refl
+
+hurt_pixel : is_same (column_at hurt 26) (column_at sent 26) ≡ false
+unfolding hurt sent values_of control_words terc_words video_guard island_guard
+hurt_pixel = refl
+
+hurt_packet : is_same (column_at hurt 46) (column_at sent 46) ≡ false
+unfolding hurt sent values_of control_words terc_words video_guard island_guard
+hurt_packet = refl
+
+hurt_word : is_same (column_at hurt 30) (column_at sent 30) ≡ false
+unfolding hurt sent values_of control_words terc_words video_guard island_guard
+hurt_word = refl
+
+hurt_first : is_same (column_at hurt 39) (column_at sent 39) ≡ false
+unfolding hurt sent values_of control_words terc_words video_guard island_guard
+hurt_first = refl
+
+hurt_second : is_same (column_at hurt 74) (column_at sent 74) ≡ false
+unfolding hurt sent values_of control_words terc_words video_guard island_guard
+hurt_second = refl
+
+pub payload_example : IsPayloadExample stream sent received
+payload_example = record {
+  came = came;
+  alone = alone;
+  pixel = (26, pixel_kind, unlike_column received 26 received_pixel);
+  packet = (46, packet_kind, unlike_column received 46 received_packet);
+}
+
+pub hurt_example : (counts : List ℕ) → AlignsUntil stream sent hurt 7 (0 ∷ 70 ∷ 35 ∷ []) counts 24 → IsExample stream sent hurt counts 24
+hurt_example counts aligns = record {
+  came = came_hurt;
+  aligns = aligns;
+  pixel = (26, pixel_kind, unlike_column hurt 26 hurt_pixel);
+  packet = (46, packet_kind, unlike_column hurt 46 hurt_packet);
+  word = (30, word_kind, unlike_column hurt 30 hurt_word);
+  first = (39, first_kind, unlike_column hurt 39 hurt_first);
+  second = (74, second_kind, unlike_column hurt 74 hurt_second);
 }

@@ -1,17 +1,23 @@
 -- What is told of the aligned columns of a tap is the account from the end of a control period on.
-use Rattle.std.proofs.Common.{◌≡◌, ℕ, ◌+◌, ◌-◌, ◌*◌, ◌≤◌, Bool, List, length, take, drop, ap, ◌∙◌, subst, arith}
+use Rattle.std.proofs.Common.{◌≡◌, ℕ, ◌+◌, ◌-◌, ◌*◌, ◌<◌, ◌≤◌, Bool, List, length, map, take, drop, ap, sym, ◌∙◌, subst, arith}
 use Rattle.std.specs.Prelude.{slice_index}
+use Rattle.std.proofs.lemmas.List.{length-map, get_or-map}
 use Rattle.tmds_word.specs.Column.{Column}
+use Rattle.tmds_word.specs.Taps.{IsTap}
 use Rattle.lane_align.proofs.Edges.{edge_within}
 use Rattle.lane_deskew.specs.Triples.{IsFirst}
 use Rattle.lane_deskew.specs.Aligned.{aligned_columns}
 use Rattle.lane_deskew.proofs.Shapes.{ends_late}
-use Rattle.island_pack.specs.Taps.{IsTap}
+use Rattle.island_pack.specs.Periods.{Period}
+use Rattle.island_pack.specs.Sparse.{no_column, column_at}
 use Rattle.period_grammar.specs.Heard.{heard}
-use Rattle.link_sink.specs.Laws.{shapes_of, EndsControl, LinkLaw, TapAccounted}
-use Rattle.link_sink.proofs.Lanes.{shape_is, lanes_received}
+use Rattle.link_sink.specs.Laws.{CameOf, EndsControl, BeginColumn, IsAccounted, TapAccounted, PayloadAccounted}
+use Rattle.link_sink.proofs.Shapes.{shapes_of, ends_at}
+use Rattle.link_sink.proofs.Lanes.{shape_is}
 use Rattle.link_sink.proofs.Ends.{first_ends}
-use Rattle.link_sink.proofs.Aligned.{BeginAt, columns_taken}
+use Rattle.link_sink.proofs.Aligned.{AreCharacters, BeginAt, columns_taken}
+use Rattle.link_sink.proofs.Aligning.{first_until}
+use Rattle.link_sink.proofs.Framing.{link_law}
 
 -- twelve words before the end of word i
 begins : (d offset k i : ℕ) → 120 ≤ d → 11 ≤ i → d + offset + k ≡ 10 * (i + 1) → d - 120 + (offset + k) ≡ 10 * (i - 11)
@@ -21,10 +27,11 @@ ends : (d offset k i : ℕ) → 11 ≤ i → d + offset + k ≡ 10 * (i + 1) →
 ends d offset k i far e = omega arith
 
 -- where the lanes of a first full alignment begin
-begin_at : (received : List Column) (offset : ℕ) (skews : List ℕ) (count : ℕ) (x y z : List Bool) (d e f i : ℕ) → IsTap received offset skews count x y z → IsFirst x y z d e f → 11 ≤ i
-    → d + offset + slice_index skews 0 ≡ 10 * (i + 1) → e + offset + slice_index skews 1 ≡ 10 * (i + 1) → f + offset + slice_index skews 2 ≡ 10 * (i + 1)
-    → BeginAt received (offset + slice_index skews 0) (offset + slice_index skews 1) (offset + slice_index skews 2) count (i - 11) x y z d e f
-begin_at received offset skews count x y z d e f i tapped first far at_d at_e at_f =
+begin_at : (received : List Column) (offset : ℕ) (skews counts : List ℕ) (x y z : List Bool) (d e f i : ℕ) → IsTap received offset skews counts x y z → IsFirst x y z d e f → 11 ≤ i
+    → BeginColumn offset skews (i + 1) d e f
+    → BeginAt received (offset + slice_index skews 0) (offset + slice_index skews 1) (offset + slice_index skews 2)
+    (slice_index counts 0) (slice_index counts 1) (slice_index counts 2) (i - 11) x y z d e f
+begin_at received offset skews counts x y z d e f i tapped first far at =
     let t = first.triple in
     let p1 = t.first.past in
     let p2 = t.second.past in
@@ -36,31 +43,54 @@ begin_at received offset skews count x y z d e f i tapped first far at_d at_e at
       blue = tapped.blue_part.bits_are;
       green = tapped.green_part.bits_are;
       red = tapped.red_part.bits_are;
-      first = begins d offset (slice_index skews 0) i (omega arith) far at_d;
-      second = begins e offset (slice_index skews 1) i (omega arith) far at_e;
-      third = begins f offset (slice_index skews 2) i (omega arith) far at_f;
+      first = begins d offset (slice_index skews 0) i (omega arith) far at.blue;
+      second = begins e offset (slice_index skews 1) i (omega arith) far at.green;
+      third = begins f offset (slice_index skews 2) i (omega arith) far at.red;
       first_within = omega arith;
       second_within = omega arith;
       third_within = omega arith;
     }
 
-pub tap_accounted_by : LinkLaw → TapAccounted
-tap_accounted_by law ps sent received came offset skews count x y z tapped small d e f first =
-    let end = first_ends ps sent received came offset skews count x y z tapped small d e f first in
-    let lanes = lanes_received ps sent received came in
-    let i = end.0 in
-    let far = ends_late (shapes_of ps) (shape_is ps came.conforming) i end.1 in
+characters : (g : Column → ℕ) (received : List Column) → ((i : ℕ) → i < length received → g (column_at received i) < 1024) → AreCharacters (map g received)
+characters g received narrow i lt = let n = length-map received g in subst (λ w. w < 1024) (sym (get_or-map g received i no_column 0 (omega arith))) (narrow i (omega arith))
+
+-- a first full alignment at the end of a control period
+accounted : (ps : List Period) (sent received : List Column) → CameOf ps sent received → (offset : ℕ) (skews counts : List ℕ) (x y z : List Bool) → IsTap received offset skews counts x y z
+    → (d e f i : ℕ) → IsFirst x y z d e f → EndsControl ps i → BeginColumn offset skews (i + 1) d e f → 11 ≤ i
+    → IsAccounted ps sent received (aligned_columns x y z d e f) (i - 11) × BeginColumn offset skews (i - 11 + 12) d e f
+accounted ps sent received came offset skews counts x y z tapped d e f i first ends_i edges far =
     let a = i - 11 in
-    let same : i ≡ a + 11 = omega arith in
-    let ends_a = subst (λ k. EndsControl ps k) same end.1 in
     let cs = aligned_columns x y z d e f in
-    let at = begin_at received offset skews count x y z d e f i tapped first far end.2 end.3 end.4 in
+    let same : i ≡ a + 11 = omega arith in
+    let ends_a = subst (λ k. EndsControl ps k) same ends_i in
+    let h = came.sparse in
+    let at = begin_at received offset skews counts x y z d e f i tapped first far edges in
     let columns : cs ≡ take (length cs) (drop a received) =
-    columns_taken received (offset + slice_index skews 0) (offset + slice_index skews 1) (offset + slice_index skews 2) count a x y z d e f at
-    lanes.blue.below lanes.green.below lanes.red.below in (
-      a,
-      record { ends = ends_a; columns = columns; told = ap heard columns ∙ law ps sent received came a (length cs) ends_a },
-      ends d offset (slice_index skews 0) i far end.2,
-      ends e offset (slice_index skews 1) i far end.3,
-      ends f offset (slice_index skews 2) i far end.4,
+    columns_taken received (offset + slice_index skews 0) (offset + slice_index skews 1) (offset + slice_index skews 2)
+    (slice_index counts 0) (slice_index counts 1) (slice_index counts 2) a x y z d e f at
+    (characters (λ c. c.blue) received (λ i lt. (h.characters i lt).blue)) (characters (λ c. c.green) received (λ i lt. (h.characters i lt).green)) (characters (λ c. c.red) received (λ i lt. (h.characters i lt).red)) in (
+      record { ends = ends_a; columns = columns; told = ap heard columns ∙ link_law ps sent received came a (length cs) ends_a },
+      record {
+        blue = ends d offset (slice_index skews 0) i far edges.blue;
+        green = ends e offset (slice_index skews 1) i far edges.green;
+        red = ends f offset (slice_index skews 2) i far edges.red;
+      },
     )
+
+late : (ps : List Period) (sent received : List Column) → CameOf ps sent received → (i : ℕ) → EndsControl ps i → 11 ≤ i
+late ps sent received came i ends_i = ends_late (shapes_of ps) (shape_is ps came.conforming) i (ends_at ps i ends_i)
+
+pub tap_accounted : TapAccounted
+tap_accounted ps sent received came offset skews counts x y z tapped small until aligns =
+    let found = first_until ps sent received came offset skews counts x y z tapped small until aligns in
+    let end = found.4 in
+    let far = late ps sent received came end.0 end.1 in
+    let before = end.2 in
+    let told = accounted ps sent received came offset skews counts x y z tapped found.0 found.1 found.2 end.0 found.3 end.1 end.3 far in
+    (found.0, found.1, found.2, found.3, (end.0 - 11, omega arith, told.0, told.1))
+
+pub payload_accounted : PayloadAccounted
+payload_accounted ps sent received came alone offset skews counts x y z tapped small d e f first =
+    let end = first_ends ps sent received came alone offset skews counts x y z tapped small d e f first in
+    let told = accounted ps sent received came offset skews counts x y z tapped d e f end.0 first end.1 end.2 (late ps sent received came end.0 end.1) in
+    (end.0 - 11, told.0, told.1)

@@ -1,36 +1,49 @@
 -- The account: what one who knows the periods that were sent, and the columns that spelled them, writes of the columns
 -- that came. It cuts nothing and searches nothing: it walks the periods, and sees how many columns of each came.
-use Rattle.std.specs.Prelude.{ℕ, zero, suc, ◌+◌, ◌-◌, Bool, true, false, cond, ◌==◌, List, [], ◌∷◌, ◌++◌, map, length, take, drop, nat_lt, nat_le}
+-- A control period's row is said of its received columns alone, and a row behind it sees them for the preamble.
+use Rattle.std.specs.Prelude.{ℕ, zero, suc, ◌+◌, ◌-◌, cond, ◌==◌, List, [], ◌∷◌, ◌++◌, map, length, take, drop, nat_lt, nat_le}
 use Rattle.tmds_word.specs.Column.{Column}
+use Rattle.terc4.specs.Columns.{is_video_guard, is_island_guard}
 use Rattle.tmds_code.specs.Coding.{decoded_byte}
-use Rattle.island_pack.specs.Periods.{ControlRun, SyncPair, DataIsland, Period, control, video, island, values_of, Pixel, pixels_of, period_columns}
+use Rattle.island_pack.specs.Periods.{DataIsland, Period, control, video, island, Pixel, pixels_of, period_columns, VIDEO_PREAMBLE, ISLAND_PREAMBLE}
 use Rattle.island_pack.specs.Spelling.{words_of}
 use Rattle.island_pack.specs.Sparse.{unlike_words}
 use Rattle.island_pack.specs.declared.packet.Packet.{Packet}
 use Rattle.period_grammar.specs.Column.{sync_digit}
+use Rattle.period_grammar.specs.Cut.{Run, columns, runs}
 use Rattle.period_grammar.specs.Packets.{packet_of, verdicts_of}
-use Rattle.period_grammar.specs.Island.{packet_faults}
-use Rattle.period_grammar.specs.Heard.{codes_of}
-use Rattle.period_grammar.specs.Things.{Thing, run, line, cut, packet, open_island, close_island}
+use Rattle.period_grammar.specs.Island.{packet_faults, wrong_guards}
+use Rattle.period_grammar.specs.Heard.{words, has_preamble, codes_of, if_not}
+use Rattle.period_grammar.specs.Things.{Thing, run, line, preamble, cut, packet, open_island, close_island, thing_of}
 
 -- Control periods.
 
--- a value before the longest runs of like values, the first of which has it or not
-abbrev pub joined : Bool → ℕ → ControlRun → List ControlRun → List ControlRun
-joined true v r rs = record { value = r.value; count = suc r.count } ∷ rs
-joined false v r rs = record { value = v; count = 1 } ∷ (r ∷ rs)
+-- for each run of one value from column j on, its words that are no control words, and then the run
+unfoldable pub runs_row : ℕ → List Run → List Thing
+runs_row j [] = []
+runs_row j (columns v cs ∷ rs) = map thing_of (words j cs) ++ (run v (length cs) ∷ runs_row (j + length cs) rs)
 
-abbrev pub join : ℕ → List ControlRun → List ControlRun
-join v [] = record { value = v; count = 1 } ∷ []
-join v (r ∷ rs) = joined (v == r.value) v r rs
+-- received control columns from column j on
+abbrev pub control_row : ℕ → List Column → List Thing
+control_row j cs = runs_row j (runs cs)
 
--- the longest runs of like values
-unfoldable pub longest : List ℕ → List ControlRun
-longest [] = []
-longest (v ∷ vs) = join v (longest vs)
+-- What opens and closes: `before` are the received columns of the control period before, b is the first guard column.
 
-unfoldable pub run_row : List ℕ → List Thing
-run_row values = map (λ r. run r.value r.count) (longest values)
+abbrev pub wrong_preamble : ℕ → ℕ → List Column → List Thing
+wrong_preamble b bits before = if_not (has_preamble bits before) (preamble b)
+
+unfoldable pub open_video_row : ℕ → List Column → List Column → List Thing
+open_video_row b before (g ∷ (h ∷ rs)) = wrong_preamble b VIDEO_PREAMBLE before ++ wrong_guards is_video_guard b g h
+open_video_row b before _ = []
+
+unfoldable pub open_island_row : ℕ → List Column → List Column → List Thing
+open_island_row b before (g ∷ (h ∷ rs)) =
+    wrong_preamble b ISLAND_PREAMBLE before ++ open_island (sync_digit g.blue) (sync_digit h.blue) ∷ wrong_guards is_island_guard b g h
+open_island_row b before _ = []
+
+unfoldable pub close_island_row : ℕ → List Column → List Thing
+close_island_row s (c ∷ (d ∷ rs)) = close_island (sync_digit c.blue) (sync_digit d.blue) ∷ wrong_guards is_island_guard s c d
+close_island_row s _ = []
 
 -- Video data periods.
 
@@ -48,10 +61,11 @@ unfoldable pub video_row : ℕ → List Pixel → List Column → List Column �
 video_row b pixels ss rs = line (pixel_bytes pixels ss rs) ∷ codes_of (b + 2) rs
 
 -- a video data period from column b on, of which m columns came
-unfoldable pub video_told : ℕ → ℕ → List Pixel → List Column → List Column → List Thing
-video_told b zero pixels ss rs = []
-video_told b (suc zero) pixels ss rs = cut b ∷ []
-video_told b (suc (suc i)) pixels ss rs = cond (nat_lt (length pixels) i) (video_row b pixels (drop 2 ss) (drop 2 rs)) (cut (b + 2) ∷ [])
+unfoldable pub video_told : ℕ → ℕ → List Column → List Pixel → List Column → List Column → List Thing
+video_told b zero before pixels ss rs = []
+video_told b (suc zero) before pixels ss rs = cut b ∷ []
+video_told b (suc (suc i)) before pixels ss rs =
+    open_video_row b before rs ++ cond (nat_lt (length pixels) i) (video_row b pixels (drop 2 ss) (drop 2 rs)) (cut (b + 2) ∷ [])
 
 -- Data islands.
 
@@ -78,46 +92,45 @@ packet_told s p ss rs = packet (packet_row p ss rs) (verdicts_of rs) s ∷ packe
 
 -- packets from column s on and the guard columns that close them, of which i columns came; where a packet or the guard
 -- is not whole, `broken` says so
-unfoldable pub packets_told : (ℕ → Thing) → SyncPair → ℕ → List Packet → ℕ → List Column → List Column → List Thing
-packets_told broken closing s [] i ss rs = cond (nat_le 2 i) (close_island closing.first closing.second ∷ []) (broken s ∷ [])
-packets_told broken closing s (p ∷ ps) i ss rs =
+unfoldable pub packets_told : (ℕ → Thing) → ℕ → List Packet → ℕ → List Column → List Column → List Thing
+packets_told broken s [] i ss rs = cond (nat_le 2 i) (close_island_row s rs) (broken s ∷ [])
+packets_told broken s (p ∷ ps) i ss rs =
     cond (nat_lt i 32)
     (broken s ∷ [])
-    (packet_told s p (take 32 ss) (take 32 rs) ++ packets_told broken closing (s + 32) ps (i - 32) (drop 32 ss) (drop 32 rs))
+    (packet_told s p (take 32 ss) (take 32 rs) ++ packets_told broken (s + 32) ps (i - 32) (drop 32 ss) (drop 32 rs))
 
 -- a data island from column b on, of which m columns came
-unfoldable pub island_told : ℕ → ℕ → DataIsland → List Column → List Column → List Thing
-island_told b zero x ss rs = []
-island_told b (suc zero) x ss rs = cut b ∷ []
-island_told b (suc (suc i)) x ss rs =
-    open_island x.opening.first x.opening.second ∷ packets_told cut x.closing (b + 2) x.packets i (drop 2 ss) (drop 2 rs)
+unfoldable pub island_told : ℕ → ℕ → List Column → DataIsland → List Column → List Column → List Thing
+island_told b zero before x ss rs = []
+island_told b (suc zero) before x ss rs = cut b ∷ []
+island_told b (suc (suc i)) before x ss rs = open_island_row b before rs ++ packets_told cut (b + 2) x.packets i (drop 2 ss) (drop 2 rs)
 
 -- All periods.
 
--- a period from column j on, of which m columns came
-unfoldable pub period_row : ℕ → ℕ → Period → List Column → List Column → List Thing
-period_row j m (control runs) ss rs = run_row (take m (values_of runs))
-period_row j m (video bytes) ss rs = video_told j m (pixels_of bytes) ss rs
-period_row j m (island x) ss rs = island_told j m x ss rs
+-- a period from column j on, of which m columns came; `before` are the received columns of the period before
+unfoldable pub period_row : ℕ → ℕ → List Column → Period → List Column → List Column → List Thing
+period_row j m before (control runs) ss rs = control_row j (take m rs)
+period_row j m before (video bytes) ss rs = video_told j m before (pixels_of bytes) ss rs
+period_row j m before (island x) ss rs = island_told j m before x ss rs
 
 -- periods from column j on, of which m columns came
-unfoldable pub account_from : ℕ → ℕ → List Period → List Column → List Column → List Thing
-account_from j m [] ss rs = []
-account_from j m (p ∷ ps) ss rs =
-    period_row j m p (take (period_columns p) ss) (take (period_columns p) rs)
-    ++ account_from (j + period_columns p) (m - period_columns p) ps (drop (period_columns p) ss) (drop (period_columns p) rs)
+unfoldable pub account_from : ℕ → ℕ → List Column → List Period → List Column → List Column → List Thing
+account_from j m before [] ss rs = []
+account_from j m before (p ∷ ps) ss rs =
+    period_row j m before p (take (period_columns p) ss) (take (period_columns p) rs)
+    ++ account_from (j + period_columns p) (m - period_columns p) (take (period_columns p) rs) ps (drop (period_columns p) ss) (drop (period_columns p) rs)
 
 -- m columns from column a of a control period on, counted from there
 unfoldable pub account_at : Period → ℕ → ℕ → List Period → List Column → List Column → List Thing
-account_at (control runs) a m ps ss rs =
-    run_row (take m (drop a (values_of runs)))
-    ++ account_from (period_columns (control runs) - a) (m - (period_columns (control runs) - a)) ps ss rs
-account_at _ a m ps ss rs = []
+account_at p a m ps ss rs =
+    let first = drop a (take (period_columns p) rs) in
+    control_row 0 (take m first)
+    ++ account_from (period_columns p - a) (m - (period_columns p - a)) first ps (drop (period_columns p) ss) (drop (period_columns p) rs)
 
 -- m columns from column a on, which lies in a control period; ss were sent and rs came
 unfoldable pub account : List Period → List Column → List Column → ℕ → ℕ → List Thing
 account [] ss rs a m = []
 account (p ∷ ps) ss rs a m =
     cond (nat_lt a (period_columns p))
-    (account_at p a m ps (drop (period_columns p) ss) (drop (period_columns p) rs))
+    (account_at p a m ps ss rs)
     (account ps (drop (period_columns p) ss) (drop (period_columns p) rs) (a - period_columns p) m)

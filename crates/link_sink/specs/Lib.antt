@@ -3,6 +3,8 @@ pub mod Alignment
 pub mod Telling
 pub mod Account
 pub mod Laws
+pub mod PeriodLaws
+pub mod Literal
 pub mod Sinks
 pub mod Progress
 pub mod Pieces

@@ -1,29 +1,76 @@
 //! What holds of columns that came with sparse damage. The functions do nothing: what they ensure are the laws.
-ghost use Rattle.link_sink.specs.Laws.{EdgesEnd, FirstEnds, FramingStands, PeriodsStand, LinkLaw, OneWrongBit, TapAccounted, HasExample};
+ghost use Rattle.link_sink.specs.Laws.{FramingStands, PeriodsStand, LinkLaw, EdgesEnd, FirstEnds, FirstUntil, TapAccounted, PayloadAccounted, OneWrongBit, HasExample, HasPayloadExample};
+ghost use Rattle.link_sink.specs.PeriodLaws.{ControlLaw, VideoLaw, IslandLaw, JoiningLaw};
+ghost use Rattle.link_sink.specs.Literal.{AccountLiteral};
 
-/// In any part of the bits of a lane each edge is the end of a control period.
-pub fn edges_end()
-    ensures { EdgesEnd }
-{}
-
-/// The first full alignment of a tap with skews of at most 70 bits is the end of one control period on all three lanes.
-pub fn first_ends()
-    ensures { FirstEnds }
-{}
-
-/// The control columns that came are those of the control periods.
+/// The control columns that came are those of the control periods, wherever damage lies.
 pub fn framing_stands()
     ensures { FramingStands }
 {}
 
-/// The columns that came are cut where the periods are.
+/// The columns that came are cut where the periods are, wherever damage lies.
 pub fn periods_stand()
     ensures { PeriodsStand }
 {}
 
-/// What is told of the columns from twelve before the end of a control period on is the account.
+/// What is told of the columns from twelve before the end of a control period on is the account, wherever damage lies.
 pub fn link_law()
     ensures { LinkLaw }
+{}
+
+/// Of a control period control columns come, and they tell the runs of their values and their words that are no control
+/// words.
+pub fn control_law()
+    ensures { ControlLaw }
+{}
+
+/// What is told of the columns that came of a video data period, after control columns and before one, is its row.
+pub fn video_law()
+    ensures { VideoLaw }
+{}
+
+/// What is told of the columns that came of a data island, after control columns and before one, is its row.
+pub fn island_law()
+    ensures { IslandLaw }
+{}
+
+/// What is told of conforming periods is, period after period, the row of each.
+pub fn joining_law()
+    ensures { JoiningLaw }
+{}
+
+/// The account is what its rows tell before column `m`, and then what the end tells of the first `m` columns.
+pub fn account_literal()
+    ensures { AccountLiteral }
+{}
+
+/// Where damage lies in pixels and packets alone, each edge in a part of a lane's bits is the end of a control period.
+pub fn edges_end()
+    ensures { EdgesEnd }
+{}
+
+/// Where damage lies in pixels and packets alone, the first full alignment of a tap with skews of at most 70 bits is the
+/// end of one control period on all three lanes.
+pub fn first_ends()
+    ensures { FirstEnds }
+{}
+
+/// Where damage spares control and guard words until a column that is the first after a control period, and each lane of
+/// the tap has that column and the twelve before it, there is a first full alignment, and it is the end of one control
+/// period on all three lanes, at or before that column.
+pub fn first_until()
+    ensures { FirstUntil }
+{}
+
+/// Under the same premises what is told of the aligned columns of the tap is the account from the end of a control
+/// period on.
+pub fn tap_accounted()
+    ensures { TapAccounted }
+{}
+
+/// The same where damage lies in pixels and packets alone and there is a first full alignment.
+pub fn payload_accounted()
+    ensures { PayloadAccounted }
 {}
 
 /// Each block of a packet of which at most one word came unlike has at most one wrong bit.
@@ -31,12 +78,12 @@ pub fn one_wrong_bit()
     ensures { OneWrongBit }
 {}
 
-/// What is told of the aligned columns of a tap is the account from the end of a control period on.
-pub fn tap_accounted()
-    ensures { TapAccounted }
+/// There are columns with damaged words of pixels and packets alone, and a tap of them that has a first full alignment.
+pub fn has_payload_example()
+    ensures { HasPayloadExample }
 {}
 
-/// There are columns, with a damaged word among them, and a tap that meet the premises of these laws.
+/// There are columns with damaged words in each kind of column, and a tap of them that is aligned before.
 pub fn has_example()
     ensures { HasExample }
 {}

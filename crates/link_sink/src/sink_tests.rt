@@ -1,7 +1,8 @@
 //! What a sink tells of the rows of three lanes that come in pieces.
 ghost use Rattle.std.specs.Prelude.{◌≤◌, length};
 
-use crate::tests::{NOTHING, Notes, Row, TELLS, even_rows, hear};
+use crate::tests::vectors::{HURT, HURT_TELLS, ISLAND, ISLAND_TELLS};
+use crate::tests::{NOTHING, Notes, Row, TELLS, even_rows, hear, rows_of};
 use crate::{FeedFault, LinkSink, Outcome};
 use outside_io::Failed;
 use std::alloc::Global;
@@ -69,7 +70,7 @@ fn expect(
     tells: &[Row],
     pieces: &[u32],
 ) -> Result<(), Fail>
-    requires { length tells.now ≤ 8 }
+    requires { length tells.now ≤ 16 }
 {
     let mut notes = Notes::new(100);
     assert_eq!(rt; hear(alloc, rows, &mut notes), Ok(outcome));
@@ -114,6 +115,26 @@ fn pieces_of_lanes_at_skews(rt: HostRuntime) -> Result<(), Fail> {
         }
     }
     Ok(())
+}
+
+#[test]
+fn pieces_of_an_island(rt: HostRuntime) -> Result<(), Fail> {
+    let outcome = Outcome {
+        aligned: true,
+        columns: 75,
+    };
+    let rows = rows_of(rt.alloc(), &ISLAND)?;
+    expect(&rt, rt.alloc(), &rows, outcome, &ISLAND_TELLS, &PIECES)
+}
+
+#[test]
+fn pieces_with_damaged_guard_and_control_words(rt: HostRuntime) -> Result<(), Fail> {
+    let outcome = Outcome {
+        aligned: true,
+        columns: 75,
+    };
+    let rows = rows_of(rt.alloc(), &HURT)?;
+    expect(&rt, rt.alloc(), &rows, outcome, &HURT_TELLS, &PIECES)
 }
 
 #[test]

@@ -3,10 +3,12 @@ ghost use Rattle.std.specs.Prelude.{⊤};
 
 use crate::{Ear, FeedFault, Outcome, hear_lanes};
 use outside_io::{Failed, NoMemory};
-use period_grammar::Told;
+use period_grammar::{Fault, Told};
 use std::alloc::Global;
 use std::test::*;
 use tmds_word::{BitRow, Word};
+
+pub mod vectors;
 
 /// The kind of a thing and two of its numbers.
 pub type Row = [u32; 3];
@@ -14,7 +16,7 @@ pub type Row = [u32; 3];
 /// Notes the first things that it is told, but fails at one of them.
 #[derive(Drop)]
 pub struct Notes {
-    pub rows: [Row; 8],
+    pub rows: [Row; 16],
     pub count: usize,
     fails_at: usize,
     pub failed: u64,
@@ -23,7 +25,7 @@ pub struct Notes {
 impl Notes {
     pub fn new(fails_at: usize) -> Notes {
         Notes {
-            rows: [[0; 3]; 8],
+            rows: [[0; 3]; 16],
             count: 0,
             fails_at,
             failed: 0,
@@ -43,6 +45,16 @@ fn line_row(pixels: &[u8]) -> Row {
     }
 }
 
+/// The row of a damaged control or guard word.
+fn fault_row(fault: Fault) -> Row {
+    match fault {
+        Fault::Word { lane, column } => [5, u32::from(lane), column],
+        Fault::Preamble { column } => [7, column, 0],
+        Fault::Guard { column } => [8, column, 0],
+        _ => [9, 0, 0],
+    }
+}
+
 fn row_of(told: Told<'_>) -> Row {
     match told {
         Told::Run { value, count } => [0, u32::from(value), count],
@@ -50,7 +62,7 @@ fn row_of(told: Told<'_>) -> Row {
         Told::Open { sync } => [2, u32::from(sync[0]), u32::from(sync[1])],
         Told::Packet { packet: _, column } => [3, column, 0],
         Told::Close { sync } => [4, u32::from(sync[0]), u32::from(sync[1])],
-        Told::Fault(_) => [5, 0, 0],
+        Told::Fault(fault) => fault_row(fault),
         Told::Cut { column } => [6, column, 0],
     }
 }
@@ -121,6 +133,15 @@ fn row_from(alloc: Global, skew: u32, lead: u32, lane: Lane) -> Result<BitRow, F
         push(&mut row, *number, *times)?;
     }
     Ok(row)
+}
+
+/// Three lanes as they are.
+pub fn rows_of(alloc: Global, lanes: &[Lane; 3]) -> Result<[BitRow; 3], Fail> {
+    Ok([
+        row_from(alloc, 0, 0, lanes[0])?,
+        row_from(alloc, 0, 0, lanes[1])?,
+        row_from(alloc, 0, 0, lanes[2])?,
+    ])
 }
 
 /// The lanes, each so many bits late, with so many control columns before them and 20 behind them, up to so many bits

@@ -54,11 +54,11 @@ check_took_ok P Q (Ok v) a b t s is listed took = check_took P Q a b t s is list
 check_took_ok P Q (Err e) a b t s is listed took = tt
 
 -- a line that was written in part is one of a check
-pub check_broke : {T E : Type 0} (P : Type 0) (r : Result T E) (a b : Option (List ℕ)) (t s : Thing) → t ≡ s → is_checked s ≡ true
-    → OnErr r (P × ((n : ℕ) × (n < length (lines_of (t ∷ []))) × Appends a b (take n (lines_of (t ∷ [])))))
-    → OnErr r (P × ((n : ℕ) × (n < length (lines_of (t ∷ []))) × (is_checked t ≡ true) × Appends a b (take n (lines_of (t ∷ [])))))
-check_broke P (Ok v) a b t s is listed broke = tt
-check_broke P (Err e) a b t s is listed broke = (broke.0, (broke.1.0, broke.1.1, ap is_checked is ∙ listed, broke.1.2))
+pub check_broke : {T E : Type 0} (P Q : Type 0) (r : Result T E) (a b : Option (List ℕ)) (t s : Thing) → t ≡ s → is_checked s ≡ true
+    → OnErr r (P × Q × ((n : ℕ) × (n < length (lines_of (t ∷ []))) × Appends a b (take n (lines_of (t ∷ [])))))
+    → OnErr r (P × Q × ((n : ℕ) × (n < length (lines_of (t ∷ []))) × (is_checked t ≡ true) × Appends a b (take n (lines_of (t ∷ [])))))
+check_broke P Q (Ok v) a b t s is listed broke = tt
+check_broke P Q (Err e) a b t s is listed broke = (broke.0, broke.1, (broke.2.0, broke.2.1, ap is_checked is ∙ listed, broke.2.2))
 
 -- a check lists a fault
 pub fault_checked : (fault : Fault) → is_checked (fault_thing fault) ≡ true

@@ -30,12 +30,12 @@ line_took (Ok v) name faults a b t s text is plain written appends =
 line_took (Err e) name faults a b t s text is plain written appends = tt
 
 -- a line that was written in part is broken
-pub line_broke : {T E N : Type 0} (r : Result T E) (name : N) (a b : Option (List ℕ)) (t s : Thing) (text : List ℕ)
+pub line_broke : {T E N : Type 0} (r : Result T E) (name : N) (faults : ℕ) (a b : Option (List ℕ)) (t s : Thing) (text : List ℕ)
     → t ≡ s → text ≡ words_of s ++ codes "\n" → OnErr r ((n : ℕ) × (n < length text) × Appends a b (take n text))
-    → OnErr r ((name ≡ name) × ((n : ℕ) × (n < length (lines_of (t ∷ []))) × Appends a b (take n (lines_of (t ∷ [])))))
-line_broke (Ok v) name a b t s text is written part = tt
-line_broke (Err e) name a b t s text is written part =
-    (refl, subst (λ (bytes : List ℕ). (n : ℕ) × (n < length bytes) × Appends a b (take n bytes)) (one_text t s text is written) part)
+    → OnErr r ((name ≡ name) × (faults ≡ faults) × ((n : ℕ) × (n < length (lines_of (t ∷ []))) × Appends a b (take n (lines_of (t ∷ [])))))
+line_broke (Ok v) name faults a b t s text is written part = tt
+line_broke (Err e) name faults a b t s text is written part =
+    (refl, refl, subst (λ (bytes : List ℕ). (n : ℕ) × (n < length bytes) × Appends a b (take n bytes)) (one_text t s text is written) part)
 
 pub always : {T E P : Type 0} (r : Result T E) → P → OnErr r P
 always (Ok v) p = tt

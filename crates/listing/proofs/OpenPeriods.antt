@@ -6,12 +6,11 @@ use Rattle.island_pack.specs.Periods.{ControlRun, Period, control, video, island
 use Rattle.source_end.specs.Kept.{capped}
 use Rattle.source_end.specs.Refusals.{last_period, is_control_last, is_in_range, is_in_order, is_long_enough, push_fault}
 use Rattle.source_end.proofs.Faults.{push_none}
-use Rattle.source_end.proofs.Turns.{columns_of-more}
+use Rattle.source_end.proofs.Turns.{columns_of-more, left as first_of, right as second_of}
 use Rattle.source_end.proofs.Leads.{length-values_of-more}
 use Rattle.listing.specs.Causes.{announces_island}
 use Rattle.listing.specs.Drafts.{with_run}
 use Rattle.listing.specs.Told.{with_open}
-use Rattle.source_end.proofs.Turns.{left as first_of, right as second_of}
 use Rattle.listing.proofs.Feeds.{both}
 
 pub last_of_more : (ps : List Period) (p : Period) → last_period (ps ++ p ∷ []) ≡ Some p

@@ -13,7 +13,7 @@ use Rattle.listing.specs.declared.fault.ListError.TheVariants.{Bad, Read, NoMemo
 use Rattle.listing.specs.declared.read.Next.TheVariants.{More, End}
 use Rattle.listing.specs.declared.reader.Refusal.{Refusal}
 use Rattle.listing.specs.declared.reader.Refusal.TheVariants.{Cause, NoMemory}
-use Rattle.listing.specs.Lines.{pieces_of}
+use Rattle.listing.specs.Lines.{before_pieces, pieces_of}
 use Rattle.listing.specs.Forms.{LineForm, control_line, video_line, video_by, island_line, packet_line, close_line, end_line, fault_line, no_line, form_of, is_fault}
 use Rattle.listing.specs.Causes.{caused, unless, is_closed, end_cause, line_cause}
 use Rattle.listing.specs.Drafts.{Draft, nothing_told, with_line}
@@ -325,6 +325,22 @@ pub something_follows : (n : ℕ) (periods : List Period) (left : List ℕ) (res
     → error ≡ Bad (record { line = n; cause = After }) → Answers (after_end n periods (pieces_of (before.pending ++ left))) (Err error)
 something_follows n periods left None before now piece error is some e = absurd (given_some left before now piece is)
 something_follows n periods left (Some rest) before now piece error is some e = told_as _ n After error (follows n periods left rest before now piece is some) e
+
+-- a byte that was read and not yet given follows
+by_mark : (mark : Bool) (n : ℕ) (periods : List Period) (c : ℕ) (piece : List ℕ) (pieces : List (List ℕ)) → after_end n periods (before_pieces mark c (piece ∷ pieces)) ≡ refused n After
+by_mark true n periods c piece pieces = refl
+by_mark false n periods c piece pieces = refl
+
+pending_follows : (n : ℕ) (periods : List Period) (pending left : List ℕ) → 1 ≤ length pending → after_end n periods (pieces_of (pending ++ left)) ≡ refused n After
+unfolding pieces_of
+pending_follows n periods [] left some = absurd (omega arith)
+pending_follows n periods (c ∷ cs) left some =
+    let ahead = pieces_some (cs ++ left) in
+    ap (λ (p : List (List ℕ)). after_end n periods (before_pieces (c == 10) c p)) ahead.2 ∙ by_mark (c == 10) n periods c ahead.0 ahead.1
+
+pub pending_after : (n : ℕ) (periods : List Period) (left : List ℕ) (before : Held) (error : ListError) → 1 ≤ length before.pending
+    → error ≡ Bad (record { line = n; cause = After }) → Answers (after_end n periods (pieces_of (before.pending ++ left))) (Err error)
+pending_after n periods left before error some e = told_as _ n After error (pending_follows n periods before.pending left some) e
 
 -- ---- a long line
 

@@ -61,9 +61,10 @@ impl<'a, K: Sink> Ear for CheckLister<'a, K> {
         × (y.faults ≡ counted x.faults (fault_lines things))
         × Appends (K.held x.sink.now) (K.held y.sink.now) (check_lines things) };
 
-    // The sink grew by a part of the line of a fault or of the cut.
+    // The sink grew by a part of the line of a fault or of the cut, and nothing was counted.
     ghost broke = { λ x y thing.
         (y.sink.ghost_name ≡ x.sink.ghost_name)
+        × (y.faults ≡ x.faults)
         × ((n : ℕ) × (n < length (lines_of (thing ∷ []))) × (is_checked thing ≡ true) × Appends (K.held x.sink.now) (K.held y.sink.now) (take n (lines_of (thing ∷ [])))) };
 
     fn hear(&mut self, told: Told<'_>) -> Result<(), Failed> {

@@ -1,5 +1,5 @@
 //! The lines of a source, one after the other, through a buffer that is taken once.
-ghost use Rattle.std.specs.Prelude.{◌≡◌, ℕ, ◌+◌, ◌-◌, ◌<◌, ◌≤◌, List, [], ◌++◌, length, take, drop, slice_range, IfOk, OnErr, MatchOption, IsTrue};
+ghost use Rattle.std.specs.Prelude.{◌≡◌, ℕ, ◌+◌, ◌-◌, ◌<◌, ◌≤◌, List, [], ◌++◌, length, take, drop, slice_range, IfOk, OnErr, MatchOption, IsTrue, true};
 ghost use Rattle.std.specs.Io.KnownBytes.{Consumes, IsAtEnd, Keeps};
 ghost use Rattle.outside_io.specs.Causes.{HasCause};
 ghost use Rattle.listing.specs.Held.{Held, ahead, is_feedless, IsFeedAt, IsNext, IsUngiven};
@@ -113,6 +113,13 @@ impl LineReader {
         ensures { result.now ≡ self.now.line }
     {
         &self.buffer[self.line_start..self.line_end]
+    }
+
+    /// Whether bytes were read that are not yet given.
+    pub(crate) fn is_ahead(&self) -> bool
+        ensures yes { result ≡ true → 1 ≤ length self.now.pending }
+    {
+        !self.pending().is_empty()
     }
 
     // The bytes that were read and not yet given.

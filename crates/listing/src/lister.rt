@@ -66,9 +66,10 @@ impl<'a, K: Sink> Ear for LinkLister<'a, K> {
         × (y.faults ≡ counted x.faults (fault_lines things))
         × Appends (K.held x.sink.now) (K.held y.sink.now) (lines_of things) };
 
-    // The sink grew by a part of the thing's line.
+    // The sink grew by a part of the thing's line, and nothing was counted.
     ghost broke = { λ x y thing.
         (y.sink.ghost_name ≡ x.sink.ghost_name)
+        × (y.faults ≡ x.faults)
         × ((n : ℕ) × (n < length (lines_of (thing ∷ []))) × Appends (K.held x.sink.now) (K.held y.sink.now) (take n (lines_of (thing ∷ [])))) };
 
     fn hear(&mut self, told: Told<'_>) -> Result<(), Failed> {

@@ -130,7 +130,7 @@ fn unended(reader: Reader, line: &[u8]) -> ListError
     }
 }
 
-/// The stream, where nothing follows the line `end`.
+/// The stream, where nothing follows the line `end`. What was read already is judged before more is read.
 fn finish<S: Source>(
     reader: Reader,
     lines: &mut LineReader,
@@ -144,6 +144,9 @@ fn finish<S: Source>(
     ensures later { S.faults source.old ≤ S.faults source.new }
 {
     let line = reader.line();
+    if lines.is_ahead() {
+        return Err(bad(line, ListCause::After));
+    }
     let piece = match lines.next(source) {
         Ok(piece) => piece,
         Err(_) => return Err(ListError::Read),

@@ -1,5 +1,6 @@
 -- What is kept of an island, with one column more.
-use Rattle.std.proofs.Common.{◌≡◌, ℕ, ◌+◌, ◌*◌, ◌<◌, ◌≤◌, Bool, true, false, not, ◌==◌, List, [], ◌∷◌, ◌++◌, length, map, take, get_or, refl, ap, ap₂, sym, ◌∙◌, subst, append_assoc, arith}
+use Rattle.std.proofs.Common.{◌≡◌, ℕ, ◌+◌, ◌*◌, ◌<◌, ◌≤◌, Bool, true, false, not, ◌==◌, nat_le, ◌⊎◌, inl, inr, List, [], ◌∷◌, ◌++◌, length, map, take, get_or, refl, ap, ap₂, sym, ◌∙◌, subst, append_assoc, arith}
+use Rattle.std.proofs.lemmas.Bool.{cases_lt}
 use Rattle.std.proofs.lemmas.List.{length_push, map_push, take_all, append-nil}
 use Rattle.bch_block.specs.declared.Verdict.{Verdict}
 use Rattle.bch_block.specs.declared.Verdict.TheVariants.{Clean}
@@ -7,8 +8,8 @@ use Rattle.island_pack.specs.declared.packet.Packet.{Packet as PacketOf}
 use Rattle.island_pack.specs.declared.packet.PacketVerdicts.{PacketVerdicts}
 use Rattle.period_grammar.specs.Packets.{words_of, packet_of, verdicts_of}
 use Rattle.tmds_word.specs.Column.{Column}
-use Rattle.period_grammar.specs.Column.{is_closing, sync_digit}
-use Rattle.terc4.specs.Columns.{is_island_guard}
+use Rattle.period_grammar.specs.Column.{sync_digit}
+use Rattle.terc4.specs.Columns.{is_island_guard, closing_words, closes}
 use Rattle.period_grammar.specs.Noted.{things, Lent}
 use Rattle.period_grammar.specs.declared.notes.Note.{Note}
 use Rattle.period_grammar.specs.declared.notes.Note.TheVariants.{Close, Packet as PacketNote}
@@ -18,13 +19,13 @@ use Rattle.period_grammar.specs.Island.{Payload, parts, payload, split, begins_c
 use Rattle.period_grammar.specs.After.{left_gain, island_gain, choose, settle_by, settle, after_payload}
 use Rattle.period_grammar.specs.IslandAfter.{IsLeftAfter, IsPartsAfter, IsIslandAfter}
 use Rattle.period_grammar.specs.declared.island.Left.{Left}
-use Rattle.period_grammar.specs.declared.island.Left.TheVariants.{Packet, Closing, Closed, Over}
+use Rattle.period_grammar.specs.declared.island.Left.TheVariants.{Packet, First, Closed, Over}
 use Rattle.period_grammar.specs.declared.island.Island.{Island}
 use Rattle.period_grammar.proofs.Islands.{holds_not, holds_is, holds_never, payload_push}
 
 pub fresh : (kept : Island) → kept.left ≡ Packet → kept.packets ≡ 0 → kept.within ≡ 0 → IsIslandAfter kept []
 unfolding split
-fresh kept l p w = record { stands = rw (l, p, w) (refl, (refl, refl, refl)) }
+fresh kept l p w = record { stands = rw (l, p, w) (refl, (refl, refl, refl, λ e. cc)) }
 
 block_push : (block next : List (List ℕ)) (t : List Column) (c : Column) (n : ℕ) → take n block ≡ map words_of t → take (n + 1) next ≡ take n block ++ words_of c ∷ []
     → take (n + 1) next ≡ map words_of (t ++ c ∷ [])
@@ -36,17 +37,11 @@ not_whole : (left : Left) (packets within : ℕ) (block : List (List ℕ)) (ps :
 not_whole left packets within block ps t e n h = subst (λ p. IsPartsAfter left packets within block (settle_by p ps t)) (sym e) (n, h)
 
 -- the first column of a packet or of the closing guard
-pub first_closing : (packets digit : ℕ) (guard : Bool) (block next : List (List ℕ)) (c : Column) (x : Payload) → IsPartsAfter Packet packets 0 block x
-    → is_closing c ≡ true → digit ≡ sync_digit c.blue → guard ≡ is_island_guard c → IsPartsAfter (Closing digit guard) packets 0 next (after_payload c x)
-first_closing packets digit guard block next c (parts ps []) was e f g =
-    not_whole (Closing digit guard) packets 0 next ps (c ∷ []) (holds_not (c ∷ []) (omega arith)) was.0 (e, f, g)
-first_closing packets digit guard block next c (parts ps (d ∷ t)) was e f g = absurd (omega (arith, was.1.1))
-
-pub first_packet : (packets : ℕ) (block next : List (List ℕ)) (c : Column) (x : Payload) → IsPartsAfter Packet packets 0 block x
-    → is_closing c ≡ false → take 1 next ≡ words_of c ∷ [] → IsPartsAfter Packet packets 1 next (after_payload c x)
-first_packet packets block next c (parts ps []) was e f =
-    not_whole Packet packets 1 next ps (c ∷ []) (holds_not (c ∷ []) (omega arith)) was.0 (e, refl, f)
-first_packet packets block next c (parts ps (d ∷ t)) was e f = absurd (omega (arith, was.1.1))
+pub first_stands : (packets within words digit : ℕ) (guard : Bool) (block next : List (List ℕ)) (c : Column) (x : Payload) → IsPartsAfter Packet packets 0 block x
+    → words ≡ closing_words c → digit ≡ sync_digit c.blue → guard ≡ is_island_guard c → take 1 next ≡ words_of c ∷ [] → IsPartsAfter (First words digit guard) packets within next (after_payload c x)
+first_stands packets within words digit guard block next c (parts ps []) was e f g h =
+    not_whole (First words digit guard) packets within next ps (c ∷ []) (holds_not (c ∷ []) (omega arith)) was.0 (e, f, g, h)
+first_stands packets within words digit guard block next c (parts ps (d ∷ t)) was e f g h = absurd (omega (arith, was.1.1))
 
 -- nothing is told of it
 pub first_told : (packets start : ℕ) (block : List (List ℕ)) (c : Column) (x : Payload) → IsPartsAfter Packet packets 0 block x → [] ≡ island_gain start c x
@@ -54,29 +49,38 @@ first_told packets start block c (parts ps []) was =
     ap (λ p. choose p (packet_things (left_at start ps) (length ps) (c ∷ [])) []) (sym (holds_not (c ∷ []) (omega arith)))
 first_told packets start block c (parts ps (d ∷ t)) was = absurd (omega (arith, was.1.1))
 
-left_gain_open : (b s k : ℕ) (c : Column) (t : List Column) → begins_close t ≡ false → left_gain b s k c t ≡ []
-left_gain_open b s k c [] e = refl
-left_gain_open b s k c (x ∷ []) e = ap (λ p. when p (closing_things b s k x c)) e
-left_gain_open b s k c (x ∷ (y ∷ [])) e = ap (λ p. when p (noise (s + 2) ∷ [])) e
-left_gain_open b s k c (x ∷ (y ∷ (z ∷ r))) e = refl
+left_gain_open : (b s k : ℕ) (c : Column) (t : List Column) → (length t ≡ 1 → ⊥) → begins_close t ≡ false → left_gain b s k c t ≡ []
+left_gain_open b s k c [] n e = refl
+left_gain_open b s k c (x ∷ []) n e = absurd (n refl)
+left_gain_open b s k c (x ∷ (y ∷ [])) n e = ap (λ p. when p (noise (s + 2) ∷ [])) e
+left_gain_open b s k c (x ∷ (y ∷ (z ∷ r))) n e = refl
 
 -- within a packet
 pub within_told : (packets start within : ℕ) (block : List (List ℕ)) (c : Column) (x : Payload) → IsPartsAfter Packet packets within block x → within < 31 → [] ≡ island_gain start c x
 within_told packets start within block c (parts ps t) was lt =
     sym (ap (λ p. choose p (packet_things (left_at start ps) (length ps) (t ++ c ∷ [])) (left_gain start (left_at start ps) (length ps) c t)) (holds_not (t ++ c ∷ []) (omega (arith, was.1.1, length_push t c)))
-    ∙ left_gain_open start (left_at start ps) (length ps) c t was.1.0)
+    ∙ left_gain_open start (left_at start ps) (length ps) c t (λ one. was.1.3 (was.1.1 ∙ one)) was.1.0)
 
-begins_more : (t : List Column) (c : Column) → 0 < length t → begins_close t ≡ false → begins_close (t ++ c ∷ []) ≡ false
+two_at_least : (n : ℕ) → 0 < n → (n ≡ 1 → ⊥) → 1 < n
+two_at_least n pos none = by (cases_lt 1 n)
+  where
+    by : (1 < n) ⊎ (n ≤ 1) → 1 < n
+    by (inl more) = more
+    by (inr le) = absurd (none (omega (arith, pos, le)))
+
+begins_more : (t : List Column) (c : Column) → 1 < length t → begins_close t ≡ false → begins_close (t ++ c ∷ []) ≡ false
 begins_more [] c lt e = absurd (omega arith)
-begins_more (d ∷ t) c lt e = e
+begins_more (d ∷ []) c lt e = absurd (omega arith)
+begins_more (d ∷ (f ∷ t)) c lt e = e
 
 pub within_stands : (packets within : ℕ) (block next : List (List ℕ)) (c : Column) (x : Payload) → IsPartsAfter Packet packets within block x → 0 < within → within < 31
     → take (within + 1) next ≡ take within block ++ words_of c ∷ [] → IsPartsAfter Packet packets (within + 1) next (after_payload c x)
 within_stands packets within block next c (parts ps t) was pos lt e =
     not_whole Packet packets (within + 1) next ps (t ++ c ∷ []) (holds_not (t ++ c ∷ []) (omega (arith, was.1.1, length_push t c))) was.0 (
-      begins_more t c (omega (arith, was.1.1)) was.1.0,
+      begins_more t c (omega (arith, was.1.1, two_at_least within pos was.1.3)) was.1.0,
       omega (arith, was.1.1, length_push t c),
       block_push block next t c within was.1.2 e,
+      λ one. omega (arith, pos, one),
     )
 
 -- the last column of a packet
@@ -96,26 +100,48 @@ pub whole_stands : (packets within : ℕ) (block next : List (List ℕ)) (c : Co
     → IsPartsAfter Packet (packets + 1) 0 next (after_payload c x)
 whole_stands packets within block next c (parts ps t) was e =
     subst (λ p. IsPartsAfter Packet (packets + 1) 0 next (settle_by p ps (t ++ c ∷ []))) (sym (whole_now within t c was.1.1 e was.1.0))
-    (omega (arith, was.0, length_push ps (t ++ c ∷ [])), (refl, refl, refl))
+    (omega (arith, was.0, length_push ps (t ++ c ∷ [])), (refl, refl, refl, λ e. cc))
 
--- the closing guard
-pub closing_told : (packets start within at digit : ℕ) (guard : Bool) (block : List (List ℕ)) (c : Column) (ts : List Thing) (x : Payload) → IsPartsAfter (Closing digit guard) packets within block x
-    → at ≡ (start + 2) + 32 * packets
+-- the second column: of a closing guard
+pub closing_told : (packets start within at words digit : ℕ) (guard : Bool) (block : List (List ℕ)) (c : Column) (ts : List Thing) (x : Payload) → IsPartsAfter (First words digit guard) packets within block x
+    → nat_le 3 (words + closing_words c) ≡ true → at ≡ (start + 2) + 32 * packets
     → ((g : Column) → digit ≡ sync_digit g.blue → guard ≡ is_island_guard g → ts ≡ closing_things start at packets g c) → ts ≡ island_gain start c x
-closing_told packets start within at digit guard block c ts (parts ps []) was e told = absurd was.1
-closing_told packets start within at digit guard block c ts (parts ps (g ∷ [])) was e told =
+unfolding closes
+closing_told packets start within at words digit guard block c ts (parts ps []) was three e told = absurd was.1
+closing_told packets start within at words digit guard block c ts (parts ps (g ∷ [])) was three e told =
     let place : at ≡ left_at start ps = omega (arith, was.0) in
+    let shut : nat_le 3 (closing_words g + closing_words c) ≡ true = ap (λ n. nat_le 3 (n + closing_words c)) (sym was.1.0) ∙ three in
     told g was.1.1 was.1.2 ∙ ap₂ (λ s k. closing_things start s k g c) place was.0
-    ∙ ap (λ p. when p (closing_things start (left_at start ps) (length ps) g c)) (sym was.1.0)
+    ∙ ap (λ p. when p (closing_things start (left_at start ps) (length ps) g c)) (sym shut)
     ∙ ap (λ p. choose p (packet_things (left_at start ps) (length ps) (g ∷ (c ∷ []))) (left_gain start (left_at start ps) (length ps) c (g ∷ []))) (sym (holds_not (g ∷ (c ∷ [])) (omega arith)))
-closing_told packets start within at digit guard block c ts (parts ps (g ∷ (h ∷ t))) was e told = absurd was.1
+closing_told packets start within at words digit guard block c ts (parts ps (g ∷ (h ∷ t))) was three e told = absurd was.1
 
-pub closing_stands : (packets within digit : ℕ) (guard : Bool) (block next : List (List ℕ)) (c : Column) (x : Payload) → IsPartsAfter (Closing digit guard) packets within block x
-    → IsPartsAfter Closed packets within next (after_payload c x)
-closing_stands packets within digit guard block next c (parts ps []) was = absurd was.1
-closing_stands packets within digit guard block next c (parts ps (g ∷ [])) was =
-    not_whole Closed packets within next ps (g ∷ (c ∷ [])) (holds_not (g ∷ (c ∷ [])) (omega arith)) was.0 was.1.0
-closing_stands packets within digit guard block next c (parts ps (g ∷ (h ∷ t))) was = absurd was.1
+pub closing_stands : (packets within words digit : ℕ) (guard : Bool) (block next : List (List ℕ)) (c : Column) (x : Payload) → IsPartsAfter (First words digit guard) packets within block x
+    → nat_le 3 (words + closing_words c) ≡ true → IsPartsAfter Closed packets within next (after_payload c x)
+unfolding closes
+closing_stands packets within words digit guard block next c (parts ps []) was three = absurd was.1
+closing_stands packets within words digit guard block next c (parts ps (g ∷ [])) was three =
+    not_whole Closed packets within next ps (g ∷ (c ∷ [])) (holds_not (g ∷ (c ∷ [])) (omega arith)) was.0 (ap (λ n. nat_le 3 (n + closing_words c)) (sym was.1.0) ∙ three)
+closing_stands packets within words digit guard block next c (parts ps (g ∷ (h ∷ t))) was three = absurd was.1
+
+-- or of a packet
+pub second_told : (packets start within words digit : ℕ) (guard : Bool) (block : List (List ℕ)) (c : Column) (x : Payload) → IsPartsAfter (First words digit guard) packets within block x
+    → nat_le 3 (words + closing_words c) ≡ false → [] ≡ island_gain start c x
+unfolding closes
+second_told packets start within words digit guard block c (parts ps []) was few = absurd was.1
+second_told packets start within words digit guard block c (parts ps (g ∷ [])) was few =
+    ap (λ p. when p (closing_things start (left_at start ps) (length ps) g c)) (sym (ap (λ n. nat_le 3 (n + closing_words c)) (sym was.1.0) ∙ few))
+    ∙ ap (λ p. choose p (packet_things (left_at start ps) (length ps) (g ∷ (c ∷ []))) (left_gain start (left_at start ps) (length ps) c (g ∷ []))) (sym (holds_not (g ∷ (c ∷ [])) (omega arith)))
+second_told packets start within words digit guard block c (parts ps (g ∷ (h ∷ t))) was few = absurd was.1
+
+pub second_stands : (packets within words digit : ℕ) (guard : Bool) (block next : List (List ℕ)) (c : Column) (x : Payload) → IsPartsAfter (First words digit guard) packets within block x
+    → nat_le 3 (words + closing_words c) ≡ false → take 2 next ≡ take 1 block ++ words_of c ∷ [] → IsPartsAfter Packet packets 2 next (after_payload c x)
+unfolding closes
+second_stands packets within words digit guard block next c (parts ps []) was few e = absurd was.1
+second_stands packets within words digit guard block next c (parts ps (g ∷ [])) was few e =
+    not_whole Packet packets 2 next ps (g ∷ (c ∷ [])) (holds_not (g ∷ (c ∷ [])) (omega arith)) was.0
+    (ap (λ n. nat_le 3 (n + closing_words c)) (sym was.1.0) ∙ few, refl, e ∙ ap (λ ws. ws ++ words_of c ∷ []) was.1.3, λ two. cc)
+second_stands packets within words digit guard block next c (parts ps (g ∷ (h ∷ t))) was few e = absurd was.1
 
 pub closed_told : (packets start within at : ℕ) (block : List (List ℕ)) (c : Column) (ts : List Thing) (x : Payload) → IsPartsAfter Closed packets within block x
     → at ≡ (start + 2) + 32 * packets → ts ≡ noise (at + 2) ∷ [] → ts ≡ island_gain start c x
@@ -152,11 +178,6 @@ over_stands packets within block next c (parts ps (g ∷ (h ∷ (i ∷ t)))) was
 -- the next state, of the columns
 pub after_rest : (next : Island) (rest : List Column) (c : Column) → IsPartsAfter next.left next.packets next.within next.block (after_payload c (payload rest)) → IsIslandAfter next (rest ++ c ∷ [])
 after_rest next rest c h = record { stands = subst (λ (x : Payload). IsPartsAfter next.left next.packets next.within next.block x) (sym (payload_push rest c)) h }
-
-pub first_closing_at : (packets within digit : ℕ) (guard : Bool) (block next : List (List ℕ)) (c : Column) (x : Payload) → within ≡ 0 → IsPartsAfter Packet packets 0 block x
-    → is_closing c ≡ true → digit ≡ sync_digit c.blue → guard ≡ is_island_guard c → IsPartsAfter (Closing digit guard) packets within next (after_payload c x)
-first_closing_at packets within digit guard block next c x z was e f g =
-    subst (λ n. IsPartsAfter (Closing digit guard) packets n next (after_payload c x)) (sym z) (first_closing packets digit guard block next c x was e f g)
 
 -- notes
 pub packet_noted : (l : Lent) (at k : ℕ) (p : List Column) (n0 n1 n2 n3 : List Note) → l.whole.packet ≡ packet_of p → l.whole.verdicts ≡ verdicts_of p → length n0 ≤ 0
@@ -206,5 +227,4 @@ pub close_noted : (l : Lent) (start at k d1 d2 : ℕ) (q1 q2 z : Bool) (c d : Co
 unfolding closing_things
 close_noted l start at k d1 d2 q1 q2 z c d n0 n1 n2 n3 n4 room a e f g p1 p2 p3 p4 p5 =
     g ∙ ap (λ ts. ts ++ if_so z (empty start)) (f ∙ ap (λ ts. ts ++ if_so (not q2) (guard_at (at + 1))) (e ∙ ap (λ ts. ts ++ if_so (not q1) (guard_at at)) (pushed l (Close d1 d2) n0 n1 room a)))
-    ∙ rw (p1, p2, p3, p4, p5) (ap (λ ts. close_island (sync_digit c.blue) (sync_digit d.blue) ∷ ts)
-    (append_assoc (if_so (not (is_island_guard c)) (guard_at at)) (if_so (not (is_island_guard d)) (guard_at (at + 1))) (if_so (k == 0) (empty start))))
+    ∙ rw (p1, p2, p3, p4, p5) (ap (λ ts. close_island (sync_digit c.blue) (sync_digit d.blue) ∷ ts) refl)

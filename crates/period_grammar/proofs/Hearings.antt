@@ -5,7 +5,7 @@ use Rattle.tmds_word.specs.Column.{Column}
 use Rattle.terc4.specs.Columns.{is_control_column}
 use Rattle.period_grammar.specs.Column.{value_of}
 use Rattle.period_grammar.specs.Things.{Thing, all_at, thing_of}
-use Rattle.period_grammar.specs.Cut.{Period, period, periods}
+use Rattle.period_grammar.specs.Cut.{Stretch, stretch, stretches}
 use Rattle.period_grammar.specs.Heard.{other_words, heard_so_far, heard}
 use Rattle.period_grammar.specs.After.{last, gains, grown, gap_of, ends}
 use Rattle.period_grammar.specs.LineSeen.{LineSeen}
@@ -15,72 +15,72 @@ use Rattle.period_grammar.specs.declared.phase.Phase.{Phase}
 use Rattle.period_grammar.specs.declared.phase.Phase.TheVariants.{Control}
 use Rattle.period_grammar.specs.declared.island.Island.{Island}
 use Rattle.period_grammar.specs.Seen.{Seen}
-use Rattle.period_grammar.specs.Stands.{IsPeriodAfter, StandsFor, closed, going_on}
-use Rattle.period_grammar.proofs.Step.{total, periods_total, heard_push, heard_end, last_push_period}
+use Rattle.period_grammar.specs.Stands.{IsStretchAfter, StandsFor, closed, going_on}
+use Rattle.period_grammar.proofs.Step.{total, stretches_total, heard_push, heard_end, last_push_stretch}
 
--- the place at which the last period's other columns begin
-gap_within : (xs : List Period) → length (gap_of (last xs)) ≤ total xs
+-- the place at which the last stretch's other columns begin
+gap_within : (xs : List Stretch) → length (gap_of (last xs)) ≤ total xs
 gap_within [] = omega arith
-gap_within (period control gap ∷ []) = omega arith
+gap_within (stretch control gap ∷ []) = omega arith
 gap_within (x ∷ (y ∷ ys)) = omega (arith, gap_within (y ∷ ys))
 
 abbrev pub start_of : List Column → ℕ
-start_of cs = length cs - length (gap_of (last (periods cs)))
+start_of cs = length cs - length (gap_of (last (stretches cs)))
 
-pub starts : (cs : List Column) → start_of cs + length (gap_of (last (periods cs))) ≡ length cs
-starts cs = omega (arith, gap_within (periods cs), periods_total cs)
+pub starts : (cs : List Column) → start_of cs + length (gap_of (last (stretches cs))) ≡ length cs
+starts cs = omega (arith, gap_within (stretches cs), stretches_total cs)
 
-pub starts_at : (cs : List Column) (n : ℕ) → n ≡ length cs → start_of cs + length (gap_of (last (periods cs))) ≡ n
+pub starts_at : (cs : List Column) (n : ℕ) → n ≡ length cs → start_of cs + length (gap_of (last (stretches cs))) ≡ n
 starts_at cs n e = starts cs ∙ sym e
 
-gains_true : (n b : ℕ) (c : Column) (x : Period) → closed (value_of c) b x ++ other_words n c ≡ gains true b n c x
-gains_true n b c (period control []) = refl
-gains_true n b c (period control (g ∷ gap)) = refl
+gains_true : (n b : ℕ) (c : Column) (x : Stretch) → closed (value_of c) b x ++ other_words n c ≡ gains true b n c x
+gains_true n b c (stretch control []) = refl
+gains_true n b c (stretch control (g ∷ gap)) = refl
 
 pub told_control : (cs : List Column) (c : Column) (n v : ℕ) (ts ws : List Thing) → n ≡ length cs → is_control_column c ≡ true → v ≡ value_of c
-    → ts ≡ closed v (start_of cs) (last (periods cs)) → ws ≡ ts ++ other_words n c
+    → ts ≡ closed v (start_of cs) (last (stretches cs)) → ws ≡ ts ++ other_words n c
     → heard_so_far (cs ++ c ∷ []) ≡ heard_so_far cs ++ all_at (length cs) ws
 told_control cs c n v ts ws e p val t w =
     let b = start_of cs in
-    let x = last (periods cs) in
+    let x = last (stretches cs) in
     heard_push cs c b (starts cs)
     ∙ ap (λ q. heard_so_far cs ++ all_at (length cs) (gains q b (length cs) c x)) p
     ∙ ap (λ us. heard_so_far cs ++ all_at (length cs) us)
     (sym (w ∙ ap (λ us. us ++ other_words n c) (t ∙ ap (λ u. closed u b x) val) ∙ ap (λ m. closed (value_of c) b x ++ other_words m c) e ∙ gains_true (length cs) b c x))
 
 pub told_other : (cs : List Column) (c : Column) (n : ℕ) (ts : List Thing) → n ≡ length cs → is_control_column c ≡ false
-    → ts ≡ gains false (start_of cs) n c (last (periods cs)) → heard_so_far (cs ++ c ∷ []) ≡ heard_so_far cs ++ all_at (length cs) ts
+    → ts ≡ gains false (start_of cs) n c (last (stretches cs)) → heard_so_far (cs ++ c ∷ []) ≡ heard_so_far cs ++ all_at (length cs) ts
 told_other cs c n ts e p t =
     let b = start_of cs in
-    let x = last (periods cs) in
+    let x = last (stretches cs) in
     heard_push cs c b (starts cs)
     ∙ ap (λ q. heard_so_far cs ++ all_at (length cs) (gains q b (length cs) c x)) p
     ∙ ap (λ us. heard_so_far cs ++ all_at (length cs) us) (sym (t ∙ ap (λ m. gains false b m c x) e))
 
-control_on : (kept : Kept) (line : LineSeen) (isle : Island) (n : ℕ) (c : Column) (x : Period) → IsControlAfter kept (going_on x ++ c ∷ []) → IsPeriodAfter Control kept line isle n (grown true c x)
-control_on kept line isle n c (period control []) h = (h, tt)
-control_on kept line isle n c (period control (g ∷ gap)) h = (h, tt)
+control_on : (kept : Kept) (line : LineSeen) (isle : Island) (n : ℕ) (c : Column) (x : Stretch) → IsControlAfter kept (going_on x ++ c ∷ []) → IsStretchAfter Control kept line isle n (grown true c x)
+control_on kept line isle n c (stretch control []) h = (h, tt)
+control_on kept line isle n c (stretch control (g ∷ gap)) h = (h, tt)
 
 pub stands_control : (now : Seen) (cs : List Column) (c : Column) (n : ℕ) → n ≡ length cs → is_control_column c ≡ true → now.columns ≡ n + 1 → now.phase ≡ Control
-    → IsControlAfter now.control (going_on (last (periods cs)) ++ c ∷ []) → StandsFor now (cs ++ c ∷ [])
+    → IsControlAfter now.control (going_on (last (stretches cs)) ++ c ∷ []) → StandsFor now (cs ++ c ∷ [])
 stands_control now cs c n e p m ph h = record {
   columns = m ∙ ap (λ x. x + 1) e ∙ sym (length_push cs c);
-  period =
-      let here = control_on now.control now.line now.island now.columns c (last (periods cs)) h in
-      let there = subst (λ (f : Phase). IsPeriodAfter f now.control now.line now.island now.columns (grown true c (last (periods cs)))) (sym ph) here in
-      subst (λ (x : Period). IsPeriodAfter now.phase now.control now.line now.island now.columns x) (sym (last_push_period cs c ∙ ap (λ q. grown q c (last (periods cs))) p)) there;
+  stretch =
+      let here = control_on now.control now.line now.island now.columns c (last (stretches cs)) h in
+      let there = subst (λ (f : Phase). IsStretchAfter f now.control now.line now.island now.columns (grown true c (last (stretches cs)))) (sym ph) here in
+      subst (λ (x : Stretch). IsStretchAfter now.phase now.control now.line now.island now.columns x) (sym (last_push_stretch cs c ∙ ap (λ q. grown q c (last (stretches cs))) p)) there;
 }
 
 pub stands_other : (now : Seen) (cs : List Column) (c : Column) (n : ℕ) → n ≡ length cs → is_control_column c ≡ false → now.columns ≡ n + 1
-    → IsPeriodAfter now.phase now.control now.line now.island (n + 1) (grown false c (last (periods cs))) → StandsFor now (cs ++ c ∷ [])
+    → IsStretchAfter now.phase now.control now.line now.island (n + 1) (grown false c (last (stretches cs))) → StandsFor now (cs ++ c ∷ [])
 stands_other now cs c n e p m h = record {
   columns = m ∙ ap (λ x. x + 1) e ∙ sym (length_push cs c);
-  period =
-      let there = subst (λ (k : ℕ). IsPeriodAfter now.phase now.control now.line now.island k (grown false c (last (periods cs)))) (sym m) h in
-      subst (λ (x : Period). IsPeriodAfter now.phase now.control now.line now.island now.columns x) (sym (last_push_period cs c ∙ ap (λ q. grown q c (last (periods cs))) p)) there;
+  stretch =
+      let there = subst (λ (k : ℕ). IsStretchAfter now.phase now.control now.line now.island k (grown false c (last (stretches cs)))) (sym m) h in
+      subst (λ (x : Stretch). IsStretchAfter now.phase now.control now.line now.island now.columns x) (sym (last_push_stretch cs c ∙ ap (λ q. grown q c (last (stretches cs))) p)) there;
 }
 
-pub told_end : (cs : List Column) (ts : List Thing) → ts ≡ ends (start_of cs) (last (periods cs)) → heard cs ≡ map thing_of (heard_so_far cs) ++ ts
+pub told_end : (cs : List Column) (ts : List Thing) → ts ≡ ends (start_of cs) (last (stretches cs)) → heard cs ≡ map thing_of (heard_so_far cs) ++ ts
 told_end cs ts e = heard_end cs (start_of cs) (starts cs) ∙ ap (λ us. map thing_of (heard_so_far cs) ++ us) (sym e)
 
 -- what an ear heard, with the things of one call more

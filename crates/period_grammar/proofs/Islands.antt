@@ -1,3 +1,4 @@
+use Rattle.terc4.specs.Columns.{closes}
 -- The columns of an island with one column more.
 use Rattle.std.proofs.Common.{◌≡◌, ℕ, suc, zero, ◌+◌, ◌*◌, ◌<◌, ◌≤◌, Bool, true, false, not, ◌&&◌, List, [], ◌∷◌, ◌++◌, length, take, drop, refl, ap, ap₂, sym, ◌∙◌, append_assoc, arith}
 use Rattle.std.specs.Prelude.{nat_le}
@@ -5,9 +6,8 @@ use Rattle.std.proofs.lemmas.List.{append-nil, length_push, length-drop, take_al
 use Rattle.std.proofs.lemmas.Bool.{leb-true, leb-false, le-leb, lt-leb}
 use Rattle.std.proofs.Math.Bool.{and-false}
 use Rattle.tmds_word.specs.Column.{Column}
-use Rattle.period_grammar.specs.Column.{is_closing}
 use Rattle.period_grammar.specs.Things.{Thing, Told, all_at, noise}
-use Rattle.period_grammar.specs.Island.{Payload, parts, begins_close, holds_packet, with_packet, split_by, split, payload, packet_things, closing_things, in_packets, in_left, left_at, in_island, when}
+use Rattle.period_grammar.specs.Island.{Payload, parts, begins_close, holds_packet, with_packet, split_by, split, payload, packet_things, closing_things, in_packets, in_closing, in_left, left_at, in_island, when}
 use Rattle.period_grammar.specs.After.{left_gain, island_gain, payload_gain, choose, settle_by, settle, after_payload}
 use Rattle.period_grammar.specs.Heard.{Kind, video, island, neither, in_payload}
 
@@ -46,9 +46,15 @@ pub holds_never : (cs : List Column) → begins_close cs ≡ true → holds_pack
 unfolding holds_packet
 holds_never cs e = ap (λ p. not p && nat_le 32 (length cs)) e
 
-begins_push : (cs : List Column) (c : Column) → 0 < length cs → begins_close (cs ++ c ∷ []) ≡ begins_close cs
+begins_push : (cs : List Column) (c : Column) → 1 < length cs → begins_close (cs ++ c ∷ []) ≡ begins_close cs
 begins_push [] c lt = absurd (omega arith)
-begins_push (d ∷ cs) c lt = refl
+begins_push (d ∷ []) c lt = absurd (omega arith)
+begins_push (d ∷ (e ∷ cs)) c lt = refl
+
+open_part : (cs : List Column) (c : Column) → begins_close (cs ++ c ∷ []) ≡ false → begins_close cs ≡ false
+open_part [] c e = refl
+open_part (d ∷ []) c e = refl
+open_part (d ∷ (f ∷ cs)) c e = e
 
 pub split_none : (n : ℕ) (cs : List Column) → holds_packet cs ≡ false → split n cs ≡ parts [] cs
 unfolding split
@@ -67,10 +73,9 @@ with_after : (c : Column) (q : List Column) (x : Payload) → with_packet q (aft
 with_after c q (parts ps t) = commute (holds_packet (t ++ c ∷ [])) q ps (t ++ c ∷ [])
 
 whole : (cs : List Column) (c : Column) → holds_packet cs ≡ false → holds_packet (cs ++ c ∷ []) ≡ true → length (cs ++ c ∷ []) ≡ 32
-whole [] c e f = absurd (omega (arith, holds_long (c ∷ []) f))
-whole (d ∷ cs) c e f =
-    let few = few_left (d ∷ cs) e (holds_open ((d ∷ cs) ++ c ∷ []) f) in
-    omega (arith, length_push (d ∷ cs) c, holds_long ((d ∷ cs) ++ c ∷ []) f)
+whole cs c e f =
+    let few = few_left cs e (open_part cs c (holds_open (cs ++ c ∷ []) f)) in
+    omega (arith, length_push cs c, holds_long (cs ++ c ∷ []) f)
 
 -- the last step: what was left holds no packet
 last_step : (p : Bool) (m : ℕ) (cs : List Column) (c : Column) → holds_packet cs ≡ false → holds_packet (cs ++ c ∷ []) ≡ p → split (suc m) (cs ++ c ∷ []) ≡ settle [] (cs ++ c ∷ [])
@@ -136,15 +141,12 @@ when_two false n us ts = refl
 
 in_left_push : (b s k : ℕ) (t : List Column) (c : Column) → in_left b s k (t ++ c ∷ []) ≡ in_left b s k t ++ all_at (s + length t) (left_gain b s k c t)
 in_left_push b s k [] c = refl
-in_left_push b s k (x ∷ []) c = when_at (is_closing x) (s + 1) (closing_things b s k x c)
-in_left_push b s k (x ∷ (y ∷ [])) c = when_two (is_closing x) (s + 2) (all_at (s + 1) (closing_things b s k x y)) (noise (s + 2) ∷ [])
+in_left_push b s k (x ∷ []) c = when_at (closes x c) (s + 1) (closing_things b s k x c)
+in_left_push b s k (x ∷ (y ∷ [])) c = when_two (closes x y) (s + 2) (all_at (s + 1) (closing_things b s k x y)) (noise (s + 2) ∷ [])
 in_left_push b s k (x ∷ (y ∷ (z ∷ r))) c = sym (append-nil (in_left b s k (x ∷ (y ∷ (z ∷ r)))))
 
 in_left_open : (b s k : ℕ) (t : List Column) → begins_close t ≡ false → in_left b s k t ≡ []
-in_left_open b s k [] e = refl
-in_left_open b s k (x ∷ []) e = refl
-in_left_open b s k (x ∷ (y ∷ [])) e = ap (λ p. when p (all_at (s + 1) (closing_things b s k x y))) e
-in_left_open b s k (x ∷ (y ∷ (z ∷ r))) e = ap (λ p. when p (all_at (s + 1) (closing_things b s k x y) ++ all_at (s + 2) (noise (s + 2) ∷ []))) e
+in_left_open b s k t e = ap (λ p. when p (in_closing b s k t)) e
 
 in_packets_push : (s k u m : ℕ) (ps : List (List Column)) (p : List Column) → u ≡ s + 32 * length ps → m ≡ k + length ps
     → in_packets s k (ps ++ p ∷ []) ≡ in_packets s k ps ++ all_at (u + 31) (packet_things u m p)
@@ -159,8 +161,7 @@ in_packets_push s k u m (q ∷ ps) p e f =
     ∙ sym (append_assoc (all_at (s + 31) (packet_things s k q)) (in_packets (s + 32) (k + 1) ps) (all_at (u + 31) (packet_things u m p)))
 
 open_before : (t : List Column) (c : Column) → holds_packet (t ++ c ∷ []) ≡ true → begins_close t ≡ false
-open_before [] c e = refl
-open_before (d ∷ t) c e = holds_open ((d ∷ t) ++ c ∷ []) e
+open_before t c e = open_part t c (holds_open (t ++ c ∷ []) e)
 
 island_step : (p : Bool) (b n : ℕ) (c : Column) (ps : List (List Column)) (t : List Column) → holds_packet t ≡ false → n ≡ left_at b ps + length t → holds_packet (t ++ c ∷ []) ≡ p
     → in_island b (settle_by p ps (t ++ c ∷ [])) ≡ in_island b (parts ps t) ++ all_at n (choose p (packet_things (left_at b ps) (length ps) (t ++ c ∷ [])) (left_gain b (left_at b ps) (length ps) c t))

@@ -1,17 +1,15 @@
 -- Laws of the definition that later proofs stand on.
-use Rattle.std.proofs.Common.{◌≡◌, ℕ, suc, ◌+◌, ◌<◌, ◌≤◌, Bool, true, false, List, [], ◌∷◌, ◌++◌, length, refl, ap, ap₂, sym, ◌∙◌, subst, append_assoc, arith}
-use Rattle.std.specs.Prelude.{filter, nat_lt, nat_le}
+use Rattle.std.proofs.Common.{◌≡◌, ℕ, suc, ◌+◌, ◌<◌, ◌≤◌, Bool, true, false, List, [], ◌∷◌, ◌++◌, length, refl, ap, ap₂, sym, ◌∙◌, subst, append_assoc, arith, lt-ltb, le-ltb}
+use Rattle.std.specs.Prelude.{filter, nat_lt, cond}
 use Rattle.std.proofs.lemmas.List.{append-nil, length_push, length-append, take_at, drop_at}
 use Rattle.tmds_word.specs.Column.{Column}
 use Rattle.terc4.specs.Columns.{is_control_column}
 use Rattle.terc4.specs.Tables.{is_control}
 use Rattle.period_grammar.specs.Things.{Thing, Told, at, all_at}
-use Rattle.period_grammar.specs.Cut.{Period, period, before, periods, runs}
+use Rattle.period_grammar.specs.Cut.{Stretch, stretch, before, stretches}
 use Rattle.period_grammar.specs.Island.{begins_close, with_packet, split}
 use Rattle.std.proofs.lemmas.List.Elements.{filter-append}
-use Rattle.std.specs.Prelude.{cond}
-use Rattle.std.proofs.Common.{lt-ltb, le-ltb}
-use Rattle.period_grammar.specs.Heard.{heard_so_far, other_words, words, Kind, video, opened, opening, has_preamble, in_runs, last_run, in_payload, payload_closes, line_of, in_gap, at_close, reach, told_from}
+use Rattle.period_grammar.specs.Heard.{heard_so_far, other_words, words}
 use Rattle.period_grammar.proofs.Step.{heard_push}
 use Rattle.period_grammar.proofs.Hearings.{start_of, starts}
 use Rattle.period_grammar.proofs.Islands.{holds_is, split_one}
@@ -21,121 +19,122 @@ abbrev pub AllAre : Bool → List Column → Type 0
 AllAre p [] = Unit {0}
 AllAre p (c ∷ cs) = (is_control_column c ≡ p) × AllAre p cs
 
--- Joined, the periods are the columns.
-abbrev pub joined : List Period → List Column
+-- Joined, the stretches are the columns.
+abbrev pub joined : List Stretch → List Column
 joined [] = []
-joined (period control gap ∷ xs) = control ++ (gap ++ joined xs)
+joined (stretch control gap ∷ xs) = control ++ (gap ++ joined xs)
 
-joined_before : (p : Bool) (c : Column) (xs : List Period) → joined (before p c xs) ≡ c ∷ joined xs
+joined_before : (p : Bool) (c : Column) (xs : List Stretch) → joined (before p c xs) ≡ c ∷ joined xs
 joined_before true c [] = refl
-joined_before true c (period control gap ∷ xs) = refl
+joined_before true c (stretch control gap ∷ xs) = refl
 joined_before false c [] = refl
-joined_before false c (period [] gap ∷ xs) = refl
-joined_before false c (period (k ∷ control) gap ∷ xs) = refl
+joined_before false c (stretch [] gap ∷ xs) = refl
+joined_before false c (stretch (k ∷ control) gap ∷ xs) = refl
 
-pub joined_periods : (cs : List Column) → joined (periods cs) ≡ cs
-unfolding periods
-joined_periods [] = refl
-joined_periods (c ∷ cs) = joined_before (is_control_column c) c (periods cs) ∙ ap (λ xs. c ∷ xs) (joined_periods cs)
+pub joined_stretches : (cs : List Column) → joined (stretches cs) ≡ cs
+unfolding stretches
+joined_stretches [] = refl
+joined_stretches (c ∷ cs) = joined_before (is_control_column c) c (stretches cs) ∙ ap (λ xs. c ∷ xs) (joined_stretches cs)
 
--- Each period is control columns and then columns that are none; none is empty, only the first may lack the former and only the last the latter.
+-- Each stretch is control columns and then columns that are none; none is empty, only the first may lack the former and only the last the latter.
 -- So the control columns of each, and the others, are as many as can be.
-abbrev pub IsFull : Period → Type 0
-IsFull (period control gap) = AllAre true control × AllAre false gap
+abbrev pub IsFull : Stretch → Type 0
+IsFull (stretch control gap) = AllAre true control × AllAre false gap
 
-abbrev pub Meets : Period → List Period → Type 0
-Meets (period [] []) xs = ⊥
-Meets (period (k ∷ control) []) [] = Unit {0}
-Meets (period (k ∷ control) []) (x ∷ xs) = ⊥
-Meets (period control (g ∷ gap)) [] = Unit {0}
-Meets (period control (g ∷ gap)) (period [] after ∷ xs) = ⊥
-Meets (period control (g ∷ gap)) (period (k ∷ first) after ∷ xs) = Unit {0}
+abbrev pub Meets : Stretch → List Stretch → Type 0
+Meets (stretch [] []) xs = ⊥
+Meets (stretch (k ∷ control) []) [] = Unit {0}
+Meets (stretch (k ∷ control) []) (x ∷ xs) = ⊥
+Meets (stretch control (g ∷ gap)) [] = Unit {0}
+Meets (stretch control (g ∷ gap)) (stretch [] after ∷ xs) = ⊥
+Meets (stretch control (g ∷ gap)) (stretch (k ∷ first) after ∷ xs) = Unit {0}
 
-abbrev pub IsCut : List Period → Type 0
+abbrev pub IsCut : List Stretch → Type 0
 IsCut [] = Unit {0}
 IsCut (x ∷ xs) = IsFull x × Meets x xs × IsCut xs
 
-cut_before : (p : Bool) (c : Column) (xs : List Period) → is_control_column c ≡ p → IsCut xs → IsCut (before p c xs)
+cut_before : (p : Bool) (c : Column) (xs : List Stretch) → is_control_column c ≡ p → IsCut xs → IsCut (before p c xs)
 cut_before true c [] e h = (((e, tt), tt), tt, tt)
-cut_before true c (period [] [] ∷ xs) e h = absurd h.1
-cut_before true c (period [] (g ∷ gap) ∷ []) e h = (((e, tt), h.0.1), tt, tt)
-cut_before true c (period [] (g ∷ gap) ∷ (period [] after ∷ xs)) e h = absurd h.1
-cut_before true c (period [] (g ∷ gap) ∷ (period (k ∷ first) after ∷ xs)) e h = (((e, tt), h.0.1), tt, h.2)
-cut_before true c (period (k ∷ control) [] ∷ []) e h = (((e, h.0.0), tt), tt, tt)
-cut_before true c (period (k ∷ control) [] ∷ (x ∷ xs)) e h = absurd h.1
-cut_before true c (period (k ∷ control) (g ∷ gap) ∷ []) e h = (((e, h.0.0), h.0.1), tt, tt)
-cut_before true c (period (k ∷ control) (g ∷ gap) ∷ (period [] after ∷ xs)) e h = absurd h.1
-cut_before true c (period (k ∷ control) (g ∷ gap) ∷ (period (l ∷ first) after ∷ xs)) e h = (((e, h.0.0), h.0.1), tt, h.2)
+cut_before true c (stretch [] [] ∷ xs) e h = absurd h.1
+cut_before true c (stretch [] (g ∷ gap) ∷ []) e h = (((e, tt), h.0.1), tt, tt)
+cut_before true c (stretch [] (g ∷ gap) ∷ (stretch [] after ∷ xs)) e h = absurd h.1
+cut_before true c (stretch [] (g ∷ gap) ∷ (stretch (k ∷ first) after ∷ xs)) e h = (((e, tt), h.0.1), tt, h.2)
+cut_before true c (stretch (k ∷ control) [] ∷ []) e h = (((e, h.0.0), tt), tt, tt)
+cut_before true c (stretch (k ∷ control) [] ∷ (x ∷ xs)) e h = absurd h.1
+cut_before true c (stretch (k ∷ control) (g ∷ gap) ∷ []) e h = (((e, h.0.0), h.0.1), tt, tt)
+cut_before true c (stretch (k ∷ control) (g ∷ gap) ∷ (stretch [] after ∷ xs)) e h = absurd h.1
+cut_before true c (stretch (k ∷ control) (g ∷ gap) ∷ (stretch (l ∷ first) after ∷ xs)) e h = (((e, h.0.0), h.0.1), tt, h.2)
 cut_before false c [] e h = ((tt, (e, tt)), tt, tt)
-cut_before false c (period [] [] ∷ xs) e h = absurd h.1
-cut_before false c (period [] (g ∷ gap) ∷ []) e h = ((tt, (e, h.0.1)), tt, tt)
-cut_before false c (period [] (g ∷ gap) ∷ (period [] after ∷ xs)) e h = absurd h.1
-cut_before false c (period [] (g ∷ gap) ∷ (period (k ∷ first) after ∷ xs)) e h = ((tt, (e, h.0.1)), tt, h.2)
-cut_before false c (period (k ∷ control) gap ∷ xs) e h = ((tt, (e, tt)), tt, h)
+cut_before false c (stretch [] [] ∷ xs) e h = absurd h.1
+cut_before false c (stretch [] (g ∷ gap) ∷ []) e h = ((tt, (e, h.0.1)), tt, tt)
+cut_before false c (stretch [] (g ∷ gap) ∷ (stretch [] after ∷ xs)) e h = absurd h.1
+cut_before false c (stretch [] (g ∷ gap) ∷ (stretch (k ∷ first) after ∷ xs)) e h = ((tt, (e, h.0.1)), tt, h.2)
+cut_before false c (stretch (k ∷ control) gap ∷ xs) e h = ((tt, (e, tt)), tt, h)
 
-pub cut_periods : (cs : List Column) → IsCut (periods cs)
-unfolding periods
-cut_periods [] = tt
-cut_periods (c ∷ cs) = cut_before (is_control_column c) c (periods cs) refl (cut_periods cs)
+pub cut_stretches : (cs : List Column) → IsCut (stretches cs)
+unfolding stretches
+cut_stretches [] = tt
+cut_stretches (c ∷ cs) = cut_before (is_control_column c) c (stretches cs) refl (cut_stretches cs)
 
--- What begins a list of periods: columns of one kind, and what follows.
-before_gap : (gap : List Column) (c : Column) (rest : List Period) → AllAre false gap → is_control_column c ≡ true → (control after : List Column) (xs : List Period) → rest ≡ period (c ∷ control) after ∷ xs
-    → (cs : List Column) → periods cs ≡ rest → (g : Column) → is_control_column g ≡ false → periods (g ∷ (gap ++ cs)) ≡ period [] (g ∷ gap) ∷ rest
-unfolding periods
-before_gap [] c rest all e control after xs r cs s g f = ap₂ (λ p ys. before p g ys) f (s ∙ r) ∙ ap (λ ys. period [] (g ∷ []) ∷ ys) (sym r)
+-- What begins a list of stretches: columns of one kind, and what follows.
+before_gap : (gap : List Column) (c : Column) (rest : List Stretch) → AllAre false gap → is_control_column c ≡ true → (control after : List Column) (xs : List Stretch) → rest ≡ stretch (c ∷ control) after ∷ xs
+    → (cs : List Column) → stretches cs ≡ rest → (g : Column) → is_control_column g ≡ false → stretches (g ∷ (gap ++ cs)) ≡ stretch [] (g ∷ gap) ∷ rest
+unfolding stretches
+before_gap [] c rest all e control after xs r cs s g f = ap₂ (λ p ys. before p g ys) f (s ∙ r) ∙ ap (λ ys. stretch [] (g ∷ []) ∷ ys) (sym r)
 before_gap (h ∷ gap) c rest all e control after xs r cs s g f =
     ap₂ (λ p ys. before p g ys) f (before_gap gap c rest all.1 e control after xs r cs s h all.0)
 
-before_control : (control : List Column) → AllAre true control → (cs : List Column) (first : List Column) (gap : List Column) (xs : List Period) → periods cs ≡ period first gap ∷ xs
-    → periods (control ++ cs) ≡ period (control ++ first) gap ∷ xs
-unfolding periods
+before_control : (control : List Column) → AllAre true control → (cs : List Column) (first : List Column) (gap : List Column) (xs : List Stretch) → stretches cs ≡ stretch first gap ∷ xs
+    → stretches (control ++ cs) ≡ stretch (control ++ first) gap ∷ xs
+unfolding stretches
 before_control [] all cs first gap xs e = e
 before_control (c ∷ control) all cs first gap xs e = ap₂ (λ p ys. before p c ys) all.0 (before_control control all.1 cs first gap xs e)
 
--- A control item and the item after it are one period.
-pub periods_items : (control : List Column) (g : Column) (gap : List Column) (c : Column) (cs : List Column) → AllAre true control → is_control_column g ≡ false → AllAre false gap → is_control_column c ≡ true
-    → (first after : List Column) (xs : List Period) → periods (c ∷ cs) ≡ period (c ∷ first) after ∷ xs
-    → periods (control ++ (g ∷ (gap ++ (c ∷ cs)))) ≡ period control (g ∷ gap) ∷ periods (c ∷ cs)
-periods_items control g gap c cs all e none f first after xs s =
-    before_control control all (g ∷ (gap ++ (c ∷ cs))) [] (g ∷ gap) (periods (c ∷ cs))
-    (before_gap gap c (periods (c ∷ cs)) none f first after xs s (c ∷ cs) refl g e)
-    ∙ ap (λ ks. period ks (g ∷ gap) ∷ periods (c ∷ cs)) (append-nil control)
+-- A control item and the item after it are one stretch.
+pub stretches_items : (control : List Column) (g : Column) (gap : List Column) (c : Column) (cs : List Column) → AllAre true control → is_control_column g ≡ false → AllAre false gap → is_control_column c ≡ true
+    → (first after : List Column) (xs : List Stretch) → stretches (c ∷ cs) ≡ stretch (c ∷ first) after ∷ xs
+    → stretches (control ++ (g ∷ (gap ++ (c ∷ cs)))) ≡ stretch control (g ∷ gap) ∷ stretches (c ∷ cs)
+stretches_items control g gap c cs all e none f first after xs s =
+    before_control control all (g ∷ (gap ++ (c ∷ cs))) [] (g ∷ gap) (stretches (c ∷ cs))
+    (before_gap gap c (stretches (c ∷ cs)) none f first after xs s (c ∷ cs) refl g e)
+    ∙ ap (λ ks. stretch ks (g ∷ gap) ∷ stretches (c ∷ cs)) (append-nil control)
 
 -- Packets of 32 columns before others.
 pub split_packet : (n : ℕ) (p rest : List Column) → length p ≡ 32 → begins_close p ≡ false → split (suc n) (p ++ rest) ≡ with_packet p (split n rest)
 split_packet n [] rest e f = absurd (omega arith)
-split_packet n (c ∷ p) rest e f =
-    let many : 32 ≤ length ((c ∷ p) ++ rest) = omega (arith, length-append (c ∷ p) rest) in
-    split_one n ((c ∷ p) ++ rest) (holds_is ((c ∷ p) ++ rest) f many)
-    ∙ ap₂ (λ a b. with_packet a (split n b)) (take_at (c ∷ p) rest 32 e) (drop_at (c ∷ p) rest 32 e)
+split_packet n (c ∷ []) rest e f = absurd (omega arith)
+split_packet n (c ∷ (d ∷ p)) rest e f =
+    let many : 32 ≤ length ((c ∷ (d ∷ p)) ++ rest) = omega (arith, length-append (c ∷ (d ∷ p)) rest) in
+    split_one n ((c ∷ (d ∷ p)) ++ rest) (holds_is ((c ∷ (d ∷ p)) ++ rest) f many)
+    ∙ ap₂ (λ a b. with_packet a (split n b)) (take_at (c ∷ (d ∷ p)) rest 32 e) (drop_at (c ∷ (d ∷ p)) rest 32 e)
 
--- Where a control column comes first, the first period begins with it.
-abbrev pub StartsWith : Column → List Period → Type 0
+-- Where a control column comes first, the first stretch begins with it.
+abbrev pub StartsWith : Column → List Stretch → Type 0
 StartsWith c [] = ⊥
-StartsWith c (period [] gap ∷ xs) = ⊥
-StartsWith c (period (k ∷ control) gap ∷ xs) = k ≡ c
+StartsWith c (stretch [] gap ∷ xs) = ⊥
+StartsWith c (stretch (k ∷ control) gap ∷ xs) = k ≡ c
 
-before_starts : (p : Bool) (c : Column) (xs : List Period) → p ≡ true → StartsWith c (before p c xs)
+before_starts : (p : Bool) (c : Column) (xs : List Stretch) → p ≡ true → StartsWith c (before p c xs)
 before_starts true c [] e = refl
-before_starts true c (period control gap ∷ xs) e = refl
+before_starts true c (stretch control gap ∷ xs) e = refl
 before_starts false c xs e = cc
 
-pub control_starts : (c : Column) (cs : List Column) → is_control_column c ≡ true → StartsWith c (periods (c ∷ cs))
-unfolding periods
-control_starts c cs e = before_starts (is_control_column c) c (periods cs) e
+pub control_starts : (c : Column) (cs : List Column) → is_control_column c ≡ true → StartsWith c (stretches (c ∷ cs))
+unfolding stretches
+control_starts c cs e = before_starts (is_control_column c) c (stretches cs) e
 
 items_by : (control : List Column) (g : Column) (gap : List Column) (c : Column) (cs : List Column) → AllAre true control → is_control_column g ≡ false → AllAre false gap → is_control_column c ≡ true
-    → (ys : List Period) → periods (c ∷ cs) ≡ ys → StartsWith c ys
-    → periods (control ++ (g ∷ (gap ++ (c ∷ cs)))) ≡ period control (g ∷ gap) ∷ periods (c ∷ cs)
+    → (ys : List Stretch) → stretches (c ∷ cs) ≡ ys → StartsWith c ys
+    → stretches (control ++ (g ∷ (gap ++ (c ∷ cs)))) ≡ stretch control (g ∷ gap) ∷ stretches (c ∷ cs)
 items_by control g gap c cs all e none f [] s h = absurd h
-items_by control g gap c cs all e none f (period [] after ∷ xs) s h = absurd h
-items_by control g gap c cs all e none f (period (k ∷ first) after ∷ xs) s h =
-    periods_items control g gap c cs all e none f first after xs (s ∙ ap (λ k. period (k ∷ first) after ∷ xs) h)
+items_by control g gap c cs all e none f (stretch [] after ∷ xs) s h = absurd h
+items_by control g gap c cs all e none f (stretch (k ∷ first) after ∷ xs) s h =
+    stretches_items control g gap c cs all e none f first after xs (s ∙ ap (λ k. stretch (k ∷ first) after ∷ xs) h)
 
--- A control item and the item after it are one period, and the columns from the next control item on are cut as if they stood alone.
-pub periods_of_items : (control : List Column) (g : Column) (gap : List Column) (c : Column) (cs : List Column) → AllAre true control → is_control_column g ≡ false → AllAre false gap → is_control_column c ≡ true
-    → periods (control ++ (g ∷ (gap ++ (c ∷ cs)))) ≡ period control (g ∷ gap) ∷ periods (c ∷ cs)
-periods_of_items control g gap c cs all e none f = items_by control g gap c cs all e none f (periods (c ∷ cs)) refl (control_starts c cs f)
+-- A control item and the item after it are one stretch, and the columns from the next control item on are cut as if they stood alone.
+pub stretches_of_items : (control : List Column) (g : Column) (gap : List Column) (c : Column) (cs : List Column) → AllAre true control → is_control_column g ≡ false → AllAre false gap → is_control_column c ≡ true
+    → stretches (control ++ (g ∷ (gap ++ (c ∷ cs)))) ≡ stretch control (g ∷ gap) ∷ stretches (c ∷ cs)
+stretches_of_items control g gap c cs all e none f = items_by control g gap c cs all e none f (stretches (c ∷ cs)) refl (control_starts c cs f)
 
 -- What is told up to a column.
 abbrev pub column_of_told : Told → ℕ
@@ -173,7 +172,7 @@ below_from xs [] h = subst (λ (cs : List Column). AllBelow (length cs) (heard_s
 below_from xs (y ∷ ys) h = subst (λ (cs : List Column). AllBelow (length cs) (heard_so_far cs)) (append_assoc xs (y ∷ []) ys) (below_from (xs ++ y ∷ []) ys (below_push xs y h))
 
 pub told_below : (cs : List Column) → AllBelow (length cs) (heard_so_far cs)
-unfolding heard_so_far periods
+unfolding heard_so_far stretches
 told_below cs = below_from [] cs tt
 
 all_before : (n : ℕ) (ts : List Told) → AllBelow n ts → before_column n ts ≡ ts
@@ -210,18 +209,3 @@ whole_column j c e f g = rw (e, f, g) refl
 pub words_none : (j : ℕ) (cs : List Column) → AllWhole cs → words j cs ≡ []
 words_none j [] all = refl
 words_none j (c ∷ cs) all = ap (λ ts. all_at j ts ++ words (j + 1) cs) (whole_column j c all.0.0 all.0.1 all.0.2) ∙ words_none (j + 1) cs all.1
-
--- A control item of at least 12 columns with its preamble, and a video item, before a further control item.
-pub video_item : (j : ℕ) (control : List Column) (g h : Column) (pixels : List Column) (y : Period) (ys : List Period)
-    → opened g h ≡ video → nat_le 12 (length control) ≡ true → has_preamble 1 control ≡ true
-    → told_from j (period control (g ∷ (h ∷ pixels)) ∷ (y ∷ ys))
-    ≡ in_runs j (runs control) ++ (all_at (j + length control) (last_run (runs control)) ++ (all_at (j + reach (period control (g ∷ (h ∷ pixels)))) (line_of (j + length control) pixels)
-    ++ told_from (j + reach (period control (g ∷ (h ∷ pixels)))) (y ∷ ys)))
-unfolding in_gap at_close
-video_item j control g h pixels y ys k long lead =
-    ap (λ q. told_by q) k ∙ rw (long, lead) (simp (append_assoc, append-nil))
-  where
-    told_by : Kind → List Told
-    told_by q =
-        (in_runs j (runs control) ++ (all_at (j + length control) (last_run (runs control)) ++ (all_at ((j + length control) + 1) (opening (j + length control) control g h q) ++ in_payload (j + length control) q pixels)))
-        ++ (all_at (j + reach (period control (g ∷ (h ∷ pixels)))) (payload_closes (j + length control) q pixels) ++ told_from (j + reach (period control (g ∷ (h ∷ pixels)))) (y ∷ ys))

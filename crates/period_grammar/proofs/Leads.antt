@@ -1,5 +1,5 @@
 -- The numbers kept of control columns, with one column more.
-use Rattle.std.proofs.Common.{◌≡◌, ◌≢◌, ℕ, suc, zero, ◌+◌, ◌≤◌, Bool, true, false, cond, ◌==◌, ◌&&◌, List, [], ◌∷◌, ◌++◌, length, map, take, reverse, refl, ap, ap₂, sym, ◌∙◌, arith, subst}
+use Rattle.std.proofs.Common.{◌≡◌, ◌≢◌, ℕ, suc, zero, ◌+◌, ◌≤◌, Bool, true, false, not, cond, ◌==◌, ◌&&◌, List, [], ◌∷◌, ◌++◌, length, map, take, reverse, refl, ap, ap₂, sym, ◌∙◌, arith, subst}
 use Rattle.std.specs.Prelude.{nat_le}
 use Rattle.std.specs.List.{list_all, prefix_len}
 use Rattle.std.proofs.lemmas.List.{length-map, length_push, length-reverse, map-append, reverse-append, take-map}
@@ -12,9 +12,10 @@ use Rattle.island_pack.specs.Periods.{ctl, has_preamble as announces}
 use Rattle.period_grammar.specs.Column.{value_of}
 use Rattle.period_grammar.specs.Things.{run}
 use Rattle.period_grammar.specs.Cut.{Run, columns, runs}
-use Rattle.period_grammar.specs.Heard.{last_run, unless, has_preamble}
+use Rattle.period_grammar.specs.GoesOn.{is_whole, goes_on_run}
+use Rattle.period_grammar.specs.Heard.{last_run, if_not, has_preamble}
 use Rattle.period_grammar.specs.After.{change}
-use Rattle.period_grammar.specs.ControlAfter.{kept_run, leads, IsLast, IsControlAfter}
+use Rattle.period_grammar.specs.ControlAfter.{kept_run, has_ctl, IsLast, IsControlAfter}
 use Rattle.period_grammar.specs.Noted.{things, Lent}
 use Rattle.period_grammar.specs.declared.notes.Note.{Note}
 use Rattle.period_grammar.specs.declared.control.Kept.{Kept}
@@ -42,7 +43,7 @@ reverse-map (c ∷ cs) =
     ap (map value_of) (reverse-append (c ∷ []) cs) ∙ map-append value_of (reverse cs) (c ∷ [])
     ∙ ap (λ xs. xs ++ value_of c ∷ []) (reverse-map cs) ∙ sym (reverse-append (value_of c ∷ []) (map value_of cs))
 
-preamble_by : (bits : ℕ) (control : List Column) → has_preamble bits control ≡ nat_le 8 (prefix_len (leads bits) (reverse control))
+preamble_by : (bits : ℕ) (control : List Column) → has_preamble bits control ≡ nat_le 8 (prefix_len (has_ctl bits) (reverse control))
 unfolding has_preamble announces
 preamble_by bits control =
     let leading : ℕ → Bool = λ v. ctl v == bits in
@@ -51,21 +52,21 @@ preamble_by bits control =
     (ap (λ vs. list_all leading (take 8 vs)) (sym (reverse-map control))
     ∙ ap (list_all leading) (take-map value_of 8 (reverse control))
     ∙ list_all-map leading value_of (take 8 (reverse control)))
-    ∙ first_pass 8 (leads bits) (reverse control)
+    ∙ first_pass 8 (has_ctl bits) (reverse control)
 
 -- columns that lead with other control bits than their first has do so nowhere
-none_lead : (bits v : ℕ) (cs : List Column) → IsLast v cs → (ctl v == bits) ≡ false → prefix_len (leads bits) cs ≡ 0
+none_lead : (bits v : ℕ) (cs : List Column) → IsLast v cs → (ctl v == bits) ≡ false → prefix_len (has_ctl bits) cs ≡ 0
 none_lead bits v [] was e = refl
-none_lead bits v (c ∷ cs) was e = ap (λ p. cond p (1 + prefix_len (leads bits) cs) 0) (ap (λ u. ctl u == bits) was ∙ e)
+none_lead bits v (c ∷ cs) was e = ap (λ p. cond p (1 + prefix_len (has_ctl bits) cs) 0) (ap (λ u. ctl u == bits) was ∙ e)
 
-lead_by : (p : Bool) (bits v : ℕ) (cs : List Column) → IsLast v cs → (ctl v == bits) ≡ p → nat_le 8 (prefix_len (leads bits) cs) ≡ (p && nat_le 8 (prefix_len (leads (ctl v)) cs))
-lead_by true bits v cs was e = ap (λ b. nat_le 8 (prefix_len (leads b) cs)) (sym (eqb-true (ctl v) bits e))
+lead_by : (p : Bool) (bits v : ℕ) (cs : List Column) → IsLast v cs → (ctl v == bits) ≡ p → nat_le 8 (prefix_len (has_ctl bits) cs) ≡ (p && nat_le 8 (prefix_len (has_ctl (ctl v)) cs))
+lead_by true bits v cs was e = ap (λ b. nat_le 8 (prefix_len (has_ctl b) cs)) (sym (eqb-true (ctl v) bits e))
 lead_by false bits v cs was e = ap (nat_le 8) (none_lead bits v cs was e)
 
-pub preamble_is : (bits : ℕ) (kept : Kept) (control : List Column) → IsControlAfter kept control → has_preamble bits control ≡ ((ctl kept.value == bits) && nat_le 8 kept.lead)
+pub preamble_is : (bits : ℕ) (kept : Kept) (control : List Column) → IsControlAfter kept control → has_preamble bits control ≡ ((ctl kept.value == bits) && nat_le 8 kept.ctl_run)
 preamble_is bits kept control was =
     preamble_by bits control ∙ lead_by (ctl kept.value == bits) bits kept.value (reverse control) was.last refl
-    ∙ ap (λ n. (ctl kept.value == bits) && nat_le 8 n) (sym was.lead)
+    ∙ ap (λ n. (ctl kept.value == bits) && nat_le 8 n) (sym was.ctl_run)
 
 -- the last run
 abbrev pub grow : Bool → ℕ → ℕ
@@ -83,6 +84,16 @@ at_last false c w cs n e f = refl
 same_run : (w m v n : ℕ) → run w m ∷ [] ≡ kept_run v n → (w ≡ v) × (m ≡ n)
 same_run w m v zero e = cc
 same_run w m v (suc n) e = (cc, cc)
+
+-- what goes on with the last run, by its numbers
+pub goes_run : (rs : List Run) (v n : ℕ) → last_run rs ≡ kept_run v n → (c : Column) → (not (n == 0) && is_whole v c) ≡ goes_on_run rs c
+goes_run [] v zero e c = refl
+goes_run [] v (suc n) e c = cc
+goes_run (columns w cs ∷ []) v zero e c = cc
+goes_run (columns w cs ∷ []) v (suc n) e c =
+    let some : suc n ≢ 0 = λ h. omega arith in
+    ap (λ b. not b && is_whole v c) (ne_eqb (suc n) 0 some) ∙ ap (λ u. is_whole u c) (sym (same_run w (length cs) v (suc n) e).0)
+goes_run (r ∷ (s ∷ rs)) v n e c = goes_run (s ∷ rs) v n e c
 
 run_after : (c : Column) (rs : List Run) (v n : ℕ) → last_run rs ≡ kept_run v n → last_run (after_runs c rs) ≡ run (value_of c) (grow (v == value_of c) n) ∷ []
 run_after c [] v n e = none v n (v == value_of c) e
@@ -107,7 +118,7 @@ change_is u (columns w cs ∷ []) v n e =
     let same = same_run w (length cs) v n e in
     by (w == u) ∙ ap (λ x. cond (x == u) [] (run w (length cs) ∷ [])) same.0 ∙ ap (λ ts. cond (v == u) [] ts) e
   where
-    by : (p : Bool) → unless p (run w (length cs)) ≡ cond p [] (run w (length cs) ∷ [])
+    by : (p : Bool) → if_not p (run w (length cs)) ≡ cond p [] (run w (length cs) ∷ [])
     by true = refl
     by false = refl
 change_is u (r ∷ (s ∷ rs)) v n e = change_is u (s ∷ rs) v n (sym (last_run_more r (s ∷ rs) refl) ∙ e)
@@ -117,18 +128,18 @@ kept_some v n true = let e : n + 1 ≡ suc n = omega arith in ap (kept_run v) e 
 kept_some v n false = refl
 
 lead_grown : (p : Bool) (v : ℕ) (c : Column) (cs : List Column) → IsLast v cs → (ctl v == ctl (value_of c)) ≡ p
-    → grow p (prefix_len (leads (ctl v)) cs) ≡ prefix_len (leads (ctl (value_of c))) (c ∷ cs)
+    → grow p (prefix_len (has_ctl (ctl v)) cs) ≡ prefix_len (has_ctl (ctl (value_of c))) (c ∷ cs)
 lead_grown p v c cs was e =
-    by p e ∙ sym (ap (λ q. cond q (1 + prefix_len (leads (ctl (value_of c))) cs) 0) (eq-eqb (ctl (value_of c)) (ctl (value_of c)) refl))
+    by p e ∙ sym (ap (λ q. cond q (1 + prefix_len (has_ctl (ctl (value_of c))) cs) 0) (eq-eqb (ctl (value_of c)) (ctl (value_of c)) refl))
   where
-    by : (p : Bool) → (ctl v == ctl (value_of c)) ≡ p → grow p (prefix_len (leads (ctl v)) cs) ≡ 1 + prefix_len (leads (ctl (value_of c))) cs
+    by : (p : Bool) → (ctl v == ctl (value_of c)) ≡ p → grow p (prefix_len (has_ctl (ctl v)) cs) ≡ 1 + prefix_len (has_ctl (ctl (value_of c))) cs
     by true e =
-        let one : prefix_len (leads (ctl v)) cs + 1 ≡ 1 + prefix_len (leads (ctl v)) cs = omega arith in
-        one ∙ ap (λ b. 1 + prefix_len (leads b) cs) (eqb-true (ctl v) (ctl (value_of c)) e)
+        let one : prefix_len (has_ctl (ctl v)) cs + 1 ≡ 1 + prefix_len (has_ctl (ctl v)) cs = omega arith in
+        one ∙ ap (λ b. 1 + prefix_len (has_ctl b) cs) (eqb-true (ctl v) (ctl (value_of c)) e)
     by false e = ap (λ n. 1 + n) (sym (none_lead (ctl (value_of c)) v cs was e))
 
 pub kept_push : (old new : Kept) (control : List Column) (c : Column) → IsControlAfter old control → new.columns ≡ old.columns + 1 → new.value ≡ value_of c
-    → new.run ≡ grow (old.value == value_of c) old.run → new.lead ≡ grow (ctl old.value == ctl (value_of c)) old.lead → IsControlAfter new (control ++ c ∷ [])
+    → new.run ≡ grow (old.value == value_of c) old.run → new.ctl_run ≡ grow (ctl old.value == ctl (value_of c)) old.ctl_run → IsControlAfter new (control ++ c ∷ [])
 kept_push old new control c was n v r l =
     let turned : reverse (control ++ c ∷ []) ≡ c ∷ reverse control = reverse-append control (c ∷ []) in
     record {
@@ -137,9 +148,9 @@ kept_push old new control c was n v r l =
           ap last_run (runs_push control c) ∙ run_after c (runs control) old.value old.run was.run
           ∙ sym (kept_some (value_of c) old.run (old.value == value_of c)) ∙ ap₂ kept_run (sym v) (sym r);
       last = subst (IsLast new.value) (sym turned) (sym v);
-      lead =
-          l ∙ ap (grow (ctl old.value == ctl (value_of c))) was.lead ∙ lead_grown _ old.value c (reverse control) was.last refl
-          ∙ ap₂ (λ u cs. prefix_len (leads (ctl u)) cs) (sym v) (sym turned);
+      ctl_run =
+          l ∙ ap (grow (ctl old.value == ctl (value_of c))) was.ctl_run ∙ lead_grown _ old.value c (reverse control) was.last refl
+          ∙ ap₂ (λ u cs. prefix_len (has_ctl (ctl u)) cs) (sym v) (sym turned);
     }
 
 pub none_kept : (kept : Kept) (control : List Column) → IsControlAfter kept control → kept.run ≡ 0 → [] ≡ last_run (runs control)

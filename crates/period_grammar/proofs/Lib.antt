@@ -12,3 +12,4 @@ pub mod Noting
 pub mod Joined
 pub mod Taking
 pub mod Sizes
+pub mod While

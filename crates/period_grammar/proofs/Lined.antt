@@ -5,11 +5,12 @@ use Rattle.std.proofs.lemmas.List.{length_push, take_all, take-append-le, append
 use Rattle.std.proofs.lemmas.Bool.{lt-leb, le-leb}
 use Rattle.tmds_word.specs.Column.{Column}
 use Rattle.period_grammar.specs.Things.{Thing, line, long_line}
-use Rattle.period_grammar.specs.Heard.{line_bytes, pixel, line_of, codes_of, code_fault, unless}
+use Rattle.period_grammar.specs.Heard.{line_bytes, pixel, line_of, codes_of, code_fault, if_not}
 use Rattle.period_grammar.specs.Noted.{things, noted, Lent, lent}
 use Rattle.period_grammar.specs.declared.notes.Note.{Note}
 use Rattle.period_grammar.specs.declared.island.Whole.{Whole}
-use Rattle.period_grammar.specs.declared.notes.Note.TheVariants.{Line, LongLine, Empty}
+use Rattle.period_grammar.specs.declared.notes.Note.TheVariants.{Line, Fault as FaultNoted}
+use Rattle.period_grammar.specs.declared.told.Fault.TheVariants.{LongLine, Empty}
 use Rattle.period_grammar.specs.Judged.{IsLaneAfter}
 use Rattle.period_grammar.specs.declared.lane.Lane.{Lane}
 use Rattle.period_grammar.specs.LineSeen.{LineSeen}
@@ -17,7 +18,7 @@ use Rattle.period_grammar.specs.Lines.{IsLineAfter}
 
 abbrev pub lined : LineSeen → ℕ → List Thing
 lined l start =
-    line l.bytes ∷ ((code_fault 0 (start + 2) l.blue.first ++ (code_fault 1 (start + 2) l.green.first ++ code_fault 2 (start + 2) l.red.first)) ++ unless (nat_le l.count 4096) (long_line start))
+    line l.bytes ∷ ((code_fault 0 (start + 2) l.blue.first ++ (code_fault 1 (start + 2) l.green.first ++ code_fault 2 (start + 2) l.red.first)) ++ if_not (nat_le l.count 4096) (long_line start))
 
 pub line_is : (l : LineSeen) (start : ℕ) (pixels : List Column) → IsLineAfter l pixels → 0 < l.count → line_of start pixels ≡ lined l start
 unfolding line_of codes_of
@@ -69,7 +70,7 @@ line_push old new cs c was lt n e b g r =
 
 -- what notes say of the line
 pub line_none : (l : LineSeen) (whole : Whole) (start : ℕ) (pixels : List Column) (was now : List Note) → IsLineAfter l pixels → l.count ≡ 0 → length was ≤ 0
-    → now ≡ was ++ Empty start ∷ [] → things (lent l.bytes whole) now ≡ line_of start pixels
+    → now ≡ was ++ FaultNoted (Empty start) ∷ [] → things (lent l.bytes whole) now ≡ line_of start pixels
 unfolding line_of
 line_none l whole start [] [] now h none room e = ap (things (lent l.bytes whole)) e
 line_none l whole start [] (n ∷ was) now h none room e = absurd (omega arith)
@@ -80,24 +81,24 @@ pub noted_line : (l : LineSeen) (whole : Whole) (start : ℕ) (pixels : List Col
     → ((bytes : Lent) → things bytes n2 ≡ things bytes n1 ++ code_fault 0 (start + 2) l.blue.first)
     → ((bytes : Lent) → things bytes n3 ≡ things bytes n2 ++ code_fault 1 (start + 2) l.green.first)
     → ((bytes : Lent) → things bytes n4 ≡ things bytes n3 ++ code_fault 2 (start + 2) l.red.first)
-    → things (lent l.bytes whole) n5 ≡ things (lent l.bytes whole) n4 ++ unless (nat_le l.count 4096) (long_line start)
+    → things (lent l.bytes whole) n5 ≡ things (lent l.bytes whole) n4 ++ if_not (nat_le l.count 4096) (long_line start)
     → things (lent l.bytes whole) n5 ≡ line_of start pixels
 noted_line l whole start pixels (n ∷ n0) n1 n2 n3 n4 n5 was pos room a b c d e = absurd (omega arith)
 noted_line l whole start pixels [] n1 n2 n3 n4 n5 was pos room a b c d e =
     let m = lent l.bytes whole in
     e
-    ∙ ap (λ ts. ts ++ unless (nat_le l.count 4096) (long_line start))
+    ∙ ap (λ ts. ts ++ if_not (nat_le l.count 4096) (long_line start))
     (d m ∙ ap (λ ts. ts ++ code_fault 2 (start + 2) l.red.first)
     (c m ∙ ap (λ ts. ts ++ code_fault 1 (start + 2) l.green.first)
     (b m ∙ ap (λ ts. ts ++ code_fault 0 (start + 2) l.blue.first) (ap (things m) a)))
     ∙ ap (λ ts. line l.bytes ∷ ts) (append_assoc (code_fault 0 (start + 2) l.blue.first) (code_fault 1 (start + 2) l.green.first) (code_fault 2 (start + 2) l.red.first)))
     ∙ sym (line_is l start pixels was pos)
 
-pub more_than : (bytes : Lent) (was now : List Note) (count start : ℕ) → 4096 < count → now ≡ was ++ LongLine start ∷ []
-    → things bytes now ≡ things bytes was ++ unless (nat_le count 4096) (long_line start)
+pub more_than : (bytes : Lent) (was now : List Note) (count start : ℕ) → 4096 < count → now ≡ was ++ FaultNoted (LongLine start) ∷ []
+    → things bytes now ≡ things bytes was ++ if_not (nat_le count 4096) (long_line start)
 more_than bytes was now count start lt e =
-    ap (things bytes) e ∙ map-append (noted bytes) was (LongLine start ∷ [])
-    ∙ ap (λ p. things bytes was ++ unless p (long_line start)) (sym (lt-leb count 4096 lt))
+    ap (things bytes) e ∙ map-append (noted bytes) was (FaultNoted (LongLine start) ∷ [])
+    ∙ ap (λ p. things bytes was ++ if_not p (long_line start)) (sym (lt-leb count 4096 lt))
 
-pub no_more : (ts : List Thing) (count start : ℕ) → count ≤ 4096 → ts ≡ ts ++ unless (nat_le count 4096) (long_line start)
-no_more ts count start le = sym (ap (λ p. ts ++ unless p (long_line start)) (le-leb count 4096 le) ∙ append-nil ts)
+pub no_more : (ts : List Thing) (count start : ℕ) → count ≤ 4096 → ts ≡ ts ++ if_not (nat_le count 4096) (long_line start)
+no_more ts count start le = sym (ap (λ p. ts ++ if_not p (long_line start)) (le-leb count 4096 le) ∙ append-nil ts)

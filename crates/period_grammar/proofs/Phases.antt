@@ -1,14 +1,16 @@
 -- What a column tells in each phase.
-use Rattle.std.proofs.Common.{◌≡◌, ℕ, ◌+◌, Bool, true, false, ◌&&◌, List, [], ◌∷◌, ◌++◌, length, ap, ap₂, sym, ◌∙◌, arith, append_assoc}
+use Rattle.std.proofs.Common.{◌≡◌, ℕ, ◌+◌, Bool, true, false, not, ◌==◌, nat_le, List, [], ◌∷◌, ◌++◌, length, ap, ap₂, sym, ◌∙◌, arith, append_assoc}
 use Rattle.std.specs.Prelude.{Option}
 use Rattle.std.proofs.lemmas.List.{length_push, map-append}
 use Rattle.tmds_word.specs.Column.{Column}
 use Rattle.terc4.specs.Tables.{is_control}
-use Rattle.terc4.specs.Columns.{is_video_guard, is_island_guard}
+use Rattle.terc4.specs.Columns.{is_video_guard, is_island_guard, video_words, island_words}
+use Rattle.terc4.proofs.Counts.{video_counted, island_counted}
+use Rattle.island_pack.specs.Periods.{VIDEO_PREAMBLE, ISLAND_PREAMBLE}
 use Rattle.period_grammar.specs.Column.{sync_digit}
-use Rattle.period_grammar.specs.Things.{Thing, noise, cut, broken, open_island}
-use Rattle.period_grammar.specs.Cut.{Period, period, runs}
-use Rattle.period_grammar.specs.Island.{payload, breaks}
+use Rattle.period_grammar.specs.Things.{Thing, noise, cut, broken, open_island, guard}
+use Rattle.period_grammar.specs.Cut.{Stretch, stretch, runs}
+use Rattle.period_grammar.specs.Island.{payload, breaks, if_so}
 use Rattle.period_grammar.specs.Heard.{last_run, video, island, kind_by, opened, lacks, opening, other_word, other_words, at_close, at_end, payload_closes, payload_ends, line_of}
 use Rattle.period_grammar.specs.After.{change, gains, grown, gap_of, ends, payload_gain, island_gain}
 use Rattle.period_grammar.specs.LineSeen.{LineSeen}
@@ -20,143 +22,150 @@ use Rattle.period_grammar.specs.declared.notes.Note.{Note}
 use Rattle.period_grammar.specs.declared.notes.Note.TheVariants.{Open}
 use Rattle.period_grammar.specs.declared.island.Island.{Island}
 use Rattle.period_grammar.specs.declared.control.Kept.{Kept}
-use Rattle.period_grammar.specs.declared.phase.Phase.TheVariants.{Control, First, Video, Payload, Noise}
-use Rattle.period_grammar.specs.Stands.{IsPeriodAfter, closed}
+use Rattle.period_grammar.specs.declared.phase.Phase.TheVariants.{Control, First, Video, Island as InIsland, Noise}
+use Rattle.period_grammar.specs.Stands.{IsStretchAfter, closed}
 
 -- the kind of two columns, by what is kept of the first
-kind_video : (g c : Column) (v second : Bool) → v ≡ is_video_guard g → second ≡ is_video_guard c → (v && second) ≡ true → opened g c ≡ video
-kind_video g c v second e f both = ap (λ p. kind_by p (is_island_guard g && is_island_guard c)) (sym (ap₂ (λ p q. p && q) e f) ∙ both)
+kind_video : (g c : Column) (v w : ℕ) → v ≡ video_words g → w ≡ video_words c → nat_le 5 (v + w) ≡ true → opened g c ≡ video
+kind_video g c v w e f five = ap (λ p. kind_by p (nat_le 5 (island_words g + island_words c))) (sym (ap₂ (λ a b. nat_le 5 (a + b)) e f) ∙ five)
 
-kind_island : (g c : Column) (v i second third : Bool) → v ≡ is_video_guard g → i ≡ is_island_guard g → second ≡ is_video_guard c → third ≡ is_island_guard c
-    → (v && second) ≡ false → (i && third) ≡ true → opened g c ≡ island
-kind_island g c v i second third e f s t nv iy = ap₂ kind_by (sym (ap₂ (λ p q. p && q) e s) ∙ nv) (sym (ap₂ (λ p q. p && q) f t) ∙ iy)
+kind_island : (g c : Column) (v i w k : ℕ) → v ≡ video_words g → i ≡ island_words g → w ≡ video_words c → k ≡ island_words c
+    → nat_le 5 (v + w) ≡ false → nat_le 5 (i + k) ≡ true → opened g c ≡ island
+kind_island g c v i w k e f s t few five =
+    ap₂ kind_by (sym (ap₂ (λ a b. nat_le 5 (a + b)) e s) ∙ few) (sym (ap₂ (λ a b. nat_le 5 (a + b)) f t) ∙ five)
 
 module _ (kept : Kept) (line : LineSeen) (isle : Island) (n : ℕ) (ts : List Thing) where
   pub close_control : (v : ℕ) → ((control : List Column) → IsControlAfter kept control → ts ≡ change v (runs control))
-      → (x : Period) (b : ℕ) → IsPeriodAfter Control kept line isle n x → ts ≡ closed v b x
-  close_control v told (period control []) b was = told control was.0
-  close_control v told (period control (g ∷ [])) b was = absurd was.1
-  close_control v told (period control (g ∷ (h ∷ rest))) b was = absurd was.1
+      → (x : Stretch) (b : ℕ) → IsStretchAfter Control kept line isle n x → ts ≡ closed v b x
+  close_control v told (stretch control []) b was = told control was.0
+  close_control v told (stretch control (g ∷ [])) b was = absurd was.1
+  close_control v told (stretch control (g ∷ (h ∷ rest))) b was = absurd was.1
 
-  pub close_first : (v start : ℕ) (p q : Bool) (digit : ℕ) → ts ≡ noise start ∷ []
-      → (x : Period) (b : ℕ) → IsPeriodAfter (First start p q digit) kept line isle n x → b + length (gap_of x) ≡ n → ts ≡ closed v b x
+  pub close_first : (v start : ℕ) (p q : ℕ) (digit : ℕ) → ts ≡ noise start ∷ []
+      → (x : Stretch) (b : ℕ) → IsStretchAfter (First start p q digit) kept line isle n x → b + length (gap_of x) ≡ n → ts ≡ closed v b x
   unfolding at_close
-  close_first v start p q digit told (period control []) b was e = absurd was.1
-  close_first v start p q digit told (period control (g ∷ [])) b was e =
+  close_first v start p q digit told (stretch control []) b was e = absurd was.1
+  close_first v start p q digit told (stretch control (g ∷ [])) b was e =
       let same : start ≡ b = omega (arith, was.1.0) in
       told ∙ ap (λ m. noise m ∷ []) same
-  close_first v start p q digit told (period control (g ∷ (h ∷ rest))) b was e = absurd was.1
+  close_first v start p q digit told (stretch control (g ∷ (h ∷ rest))) b was e = absurd was.1
 
   pub close_video : (v start : ℕ) → ((pixels : List Column) → IsLineAfter line pixels → ts ≡ line_of start pixels)
-      → (x : Period) (b : ℕ) → IsPeriodAfter (Video start) kept line isle n x → b + length (gap_of x) ≡ n → ts ≡ closed v b x
+      → (x : Stretch) (b : ℕ) → IsStretchAfter (Video start) kept line isle n x → b + length (gap_of x) ≡ n → ts ≡ closed v b x
   unfolding at_close
-  close_video v start told (period control []) b was e = absurd was.1
-  close_video v start told (period control (g ∷ [])) b was e = absurd was.1
-  close_video v start told (period control (g ∷ (h ∷ rest))) b was e =
+  close_video v start told (stretch control []) b was e = absurd was.1
+  close_video v start told (stretch control (g ∷ [])) b was e = absurd was.1
+  close_video v start told (stretch control (g ∷ (h ∷ rest))) b was e =
       let same : start ≡ b = omega (arith, was.1.1) in
       told rest was.1.2 ∙ ap (λ m. line_of m rest) same ∙ ap (λ k. payload_closes b k rest) (sym was.1.0)
 
   pub close_payload : (v start : ℕ) (o : Option ℕ) → ts ≡ at_some broken o → ((rest : List Column) (f : ℕ → Thing) → IsIslandAfter isle rest → breaks f start (payload rest) ≡ at_some f o)
-      → (x : Period) (b : ℕ) → IsPeriodAfter (Payload start) kept line isle n x → b + length (gap_of x) ≡ n → ts ≡ closed v b x
+      → (x : Stretch) (b : ℕ) → IsStretchAfter (InIsland start) kept line isle n x → b + length (gap_of x) ≡ n → ts ≡ closed v b x
   unfolding at_close
-  close_payload v start o told is (period control []) b was e = absurd was.1
-  close_payload v start o told is (period control (g ∷ [])) b was e = absurd was.1
-  close_payload v start o told is (period control (g ∷ (h ∷ rest))) b was e =
+  close_payload v start o told is (stretch control []) b was e = absurd was.1
+  close_payload v start o told is (stretch control (g ∷ [])) b was e = absurd was.1
+  close_payload v start o told is (stretch control (g ∷ (h ∷ rest))) b was e =
       let same : start ≡ b = omega (arith, was.1.1) in
       told ∙ sym (is rest broken was.1.2) ∙ ap (λ m. breaks broken m (payload rest)) same ∙ ap (λ k. payload_closes b k rest) (sym was.1.0)
 
-  pub close_noise : (v : ℕ) → ts ≡ [] → (x : Period) (b : ℕ) → IsPeriodAfter Noise kept line isle n x → ts ≡ closed v b x
+  pub close_noise : (v : ℕ) → ts ≡ [] → (x : Stretch) (b : ℕ) → IsStretchAfter Noise kept line isle n x → ts ≡ closed v b x
   unfolding at_close
-  close_noise v told (period control []) b was = absurd was.1
-  close_noise v told (period control (g ∷ [])) b was = absurd was.1
-  close_noise v told (period control (g ∷ (h ∷ rest))) b was = told ∙ ap (λ k. payload_closes b k rest) (sym was.1)
+  close_noise v told (stretch control []) b was = absurd was.1
+  close_noise v told (stretch control (g ∷ [])) b was = absurd was.1
+  close_noise v told (stretch control (g ∷ (h ∷ rest))) b was = told ∙ ap (λ k. payload_closes b k rest) (sym was.1)
 
   -- the end
   pub end_control : ((control : List Column) → IsControlAfter kept control → ts ≡ last_run (runs control))
-      → (x : Period) (b : ℕ) → IsPeriodAfter Control kept line isle n x → ts ≡ ends b x
-  end_control told (period control []) b was = told control was.0
-  end_control told (period control (g ∷ [])) b was = absurd was.1
-  end_control told (period control (g ∷ (h ∷ rest))) b was = absurd was.1
+      → (x : Stretch) (b : ℕ) → IsStretchAfter Control kept line isle n x → ts ≡ ends b x
+  end_control told (stretch control []) b was = told control was.0
+  end_control told (stretch control (g ∷ [])) b was = absurd was.1
+  end_control told (stretch control (g ∷ (h ∷ rest))) b was = absurd was.1
 
-  pub end_first : (start : ℕ) (p q : Bool) (digit : ℕ) → ts ≡ cut start ∷ []
-      → (x : Period) (b : ℕ) → IsPeriodAfter (First start p q digit) kept line isle n x → b + length (gap_of x) ≡ n → ts ≡ ends b x
+  pub end_first : (start : ℕ) (p q : ℕ) (digit : ℕ) → ts ≡ cut start ∷ []
+      → (x : Stretch) (b : ℕ) → IsStretchAfter (First start p q digit) kept line isle n x → b + length (gap_of x) ≡ n → ts ≡ ends b x
   unfolding at_end
-  end_first start p q digit told (period control []) b was e = absurd was.1
-  end_first start p q digit told (period control (g ∷ [])) b was e =
+  end_first start p q digit told (stretch control []) b was e = absurd was.1
+  end_first start p q digit told (stretch control (g ∷ [])) b was e =
       let same : start ≡ b = omega (arith, was.1.0) in
       told ∙ ap (λ m. cut m ∷ []) same
-  end_first start p q digit told (period control (g ∷ (h ∷ rest))) b was e = absurd was.1
+  end_first start p q digit told (stretch control (g ∷ (h ∷ rest))) b was e = absurd was.1
 
   pub end_video : (start : ℕ) → ts ≡ cut (start + 2) ∷ []
-      → (x : Period) (b : ℕ) → IsPeriodAfter (Video start) kept line isle n x → b + length (gap_of x) ≡ n → ts ≡ ends b x
+      → (x : Stretch) (b : ℕ) → IsStretchAfter (Video start) kept line isle n x → b + length (gap_of x) ≡ n → ts ≡ ends b x
   unfolding at_end
-  end_video start told (period control []) b was e = absurd was.1
-  end_video start told (period control (g ∷ [])) b was e = absurd was.1
-  end_video start told (period control (g ∷ (h ∷ rest))) b was e =
+  end_video start told (stretch control []) b was e = absurd was.1
+  end_video start told (stretch control (g ∷ [])) b was e = absurd was.1
+  end_video start told (stretch control (g ∷ (h ∷ rest))) b was e =
       let same : start ≡ b = omega (arith, was.1.1) in
       told ∙ ap (λ m. cut (m + 2) ∷ []) same ∙ ap (λ k. payload_ends b k rest) (sym was.1.0)
 
   pub end_payload : (start : ℕ) (o : Option ℕ) → ts ≡ at_some cut o → ((rest : List Column) (f : ℕ → Thing) → IsIslandAfter isle rest → breaks f start (payload rest) ≡ at_some f o)
-      → (x : Period) (b : ℕ) → IsPeriodAfter (Payload start) kept line isle n x → b + length (gap_of x) ≡ n → ts ≡ ends b x
+      → (x : Stretch) (b : ℕ) → IsStretchAfter (InIsland start) kept line isle n x → b + length (gap_of x) ≡ n → ts ≡ ends b x
   unfolding at_end
-  end_payload start o told is (period control []) b was e = absurd was.1
-  end_payload start o told is (period control (g ∷ [])) b was e = absurd was.1
-  end_payload start o told is (period control (g ∷ (h ∷ rest))) b was e =
+  end_payload start o told is (stretch control []) b was e = absurd was.1
+  end_payload start o told is (stretch control (g ∷ [])) b was e = absurd was.1
+  end_payload start o told is (stretch control (g ∷ (h ∷ rest))) b was e =
       let same : start ≡ b = omega (arith, was.1.1) in
       told ∙ sym (is rest cut was.1.2) ∙ ap (λ m. breaks cut m (payload rest)) same ∙ ap (λ k. payload_ends b k rest) (sym was.1.0)
 
-  pub end_noise : ts ≡ [] → (x : Period) (b : ℕ) → IsPeriodAfter Noise kept line isle n x → ts ≡ ends b x
+  pub end_noise : ts ≡ [] → (x : Stretch) (b : ℕ) → IsStretchAfter Noise kept line isle n x → ts ≡ ends b x
   unfolding at_end
-  end_noise told (period control []) b was = absurd was.1
-  end_noise told (period control (g ∷ [])) b was = absurd was.1
-  end_noise told (period control (g ∷ (h ∷ rest))) b was = told ∙ ap (λ k. payload_ends b k rest) (sym was.1)
+  end_noise told (stretch control []) b was = absurd was.1
+  end_noise told (stretch control (g ∷ [])) b was = absurd was.1
+  end_noise told (stretch control (g ∷ (h ∷ rest))) b was = told ∙ ap (λ k. payload_ends b k rest) (sym was.1)
 
   -- a column that is no control column
   pub on_control : (c : Column) → ((control : List Column) → IsControlAfter kept control → ts ≡ last_run (runs control))
-      → (x : Period) (b : ℕ) → IsPeriodAfter Control kept line isle n x → ts ≡ gains false b n c x
-  on_control c told (period control []) b was = told control was.0
-  on_control c told (period control (g ∷ [])) b was = absurd was.1
-  on_control c told (period control (g ∷ (h ∷ rest))) b was = absurd was.1
+      → (x : Stretch) (b : ℕ) → IsStretchAfter Control kept line isle n x → ts ≡ gains false b n c x
+  on_control c told (stretch control []) b was = told control was.0
+  on_control c told (stretch control (g ∷ [])) b was = absurd was.1
+  on_control c told (stretch control (g ∷ (h ∷ rest))) b was = absurd was.1
 
-  pub on_video_opens : (c : Column) (start : ℕ) (p q second : Bool) (digit : ℕ) → ((control : List Column) → IsControlAfter kept control → ts ≡ lacks start control 1)
-      → second ≡ is_video_guard c → (p && second) ≡ true
-      → (x : Period) (b : ℕ) → IsPeriodAfter (First start p q digit) kept line isle n x → b + length (gap_of x) ≡ n → ts ≡ gains false b n c x
-  on_video_opens c start p q second digit told s both (period control []) b was e = absurd was.1
-  on_video_opens c start p q second digit told s both (period control (g ∷ [])) b was e =
+  pub on_video_opens : (c : Column) (start p q w : ℕ) (second : Bool) (digit : ℕ)
+      → ((control : List Column) → IsControlAfter kept control → ts ≡ lacks start control VIDEO_PREAMBLE ++ (if_so (not (p == 3)) (guard start) ++ if_so (not second) (guard (start + 1))))
+      → w ≡ video_words c → second ≡ is_video_guard c → nat_le 5 (p + w) ≡ true
+      → (x : Stretch) (b : ℕ) → IsStretchAfter (First start p q digit) kept line isle n x → b + length (gap_of x) ≡ n → ts ≡ gains false b n c x
+  on_video_opens c start p q w second digit told v s five (stretch control []) b was e = absurd was.1
+  on_video_opens c start p q w second digit told v s five (stretch control (g ∷ [])) b was e =
       let same : start ≡ b = omega (arith, was.1.0) in
-      told control was.0 ∙ ap (λ m. lacks m control 1) same ∙ ap (opening b control g c) (sym (kind_video g c p second was.1.1 s both))
-  on_video_opens c start p q second digit told s both (period control (g ∷ (h ∷ rest))) b was e = absurd was.1
+      told control was.0 ∙ ap (λ m. lacks m control VIDEO_PREAMBLE ++ (if_so (not (p == 3)) (guard m) ++ if_so (not second) (guard (m + 1)))) same
+      ∙ ap₂ (λ x y. lacks b control VIDEO_PREAMBLE ++ (if_so (not x) (guard b) ++ if_so (not y) (guard (b + 1)))) (video_counted g p was.1.1) s
+      ∙ ap (opening b control g c) (sym (kind_video g c p w was.1.1 v five))
+  on_video_opens c start p q w second digit told v s five (stretch control (g ∷ (h ∷ rest))) b was e = absurd was.1
 
-  pub on_island_opens : (c : Column) (start : ℕ) (p q second third : Bool) (digit d : ℕ) → ((control : List Column) → IsControlAfter kept control → ts ≡ lacks start control 5 ++ open_island digit d ∷ [])
-      → second ≡ is_video_guard c → third ≡ is_island_guard c → d ≡ sync_digit c.blue → (p && second) ≡ false → (q && third) ≡ true
-      → (x : Period) (b : ℕ) → IsPeriodAfter (First start p q digit) kept line isle n x → b + length (gap_of x) ≡ n → ts ≡ gains false b n c x
-  on_island_opens c start p q second third digit d told s t f nv iy (period control []) b was e = absurd was.1
-  on_island_opens c start p q second third digit d told s t f nv iy (period control (g ∷ [])) b was e =
+  pub on_island_opens : (c : Column) (start p q w k : ℕ) (third : Bool) (digit d : ℕ)
+      → ((control : List Column) → IsControlAfter kept control → ts ≡ lacks start control ISLAND_PREAMBLE ++ open_island digit d ∷ (if_so (not (q == 3)) (guard start) ++ if_so (not third) (guard (start + 1))))
+      → w ≡ video_words c → k ≡ island_words c → third ≡ is_island_guard c → d ≡ sync_digit c.blue → nat_le 5 (p + w) ≡ false → nat_le 5 (q + k) ≡ true
+      → (x : Stretch) (b : ℕ) → IsStretchAfter (First start p q digit) kept line isle n x → b + length (gap_of x) ≡ n → ts ≡ gains false b n c x
+  on_island_opens c start p q w k third digit d told v i t f few five (stretch control []) b was e = absurd was.1
+  on_island_opens c start p q w k third digit d told v i t f few five (stretch control (g ∷ [])) b was e =
       let same : start ≡ b = omega (arith, was.1.0) in
-      told control was.0 ∙ ap (λ m. lacks m control 5 ++ open_island digit d ∷ []) same ∙ ap₂ (λ a z. lacks b control 5 ++ open_island a z ∷ []) was.1.3 f
-      ∙ ap (opening b control g c) (sym (kind_island g c p q second third was.1.1 was.1.2 s t nv iy))
-  on_island_opens c start p q second third digit d told s t f nv iy (period control (g ∷ (h ∷ rest))) b was e = absurd was.1
+      told control was.0 ∙ ap (λ m. lacks m control ISLAND_PREAMBLE ++ open_island digit d ∷ (if_so (not (q == 3)) (guard m) ++ if_so (not third) (guard (m + 1)))) same
+      ∙ ap₂ (λ a z. lacks b control ISLAND_PREAMBLE ++ open_island a z ∷ (if_so (not (q == 3)) (guard b) ++ if_so (not third) (guard (b + 1)))) was.1.3 f
+      ∙ ap₂ (λ x y. lacks b control ISLAND_PREAMBLE ++ open_island (sync_digit g.blue) (sync_digit c.blue) ∷ (if_so (not x) (guard b) ++ if_so (not y) (guard (b + 1)))) (island_counted g q was.1.2) t
+      ∙ ap (opening b control g c) (sym (kind_island g c p q w k was.1.1 was.1.2 v i few five))
+  on_island_opens c start p q w k third digit d told v i t f few five (stretch control (g ∷ (h ∷ rest))) b was e = absurd was.1
 
-  pub on_video : (c : Column) (start : ℕ) → ts ≡ [] → (x : Period) (b : ℕ) → IsPeriodAfter (Video start) kept line isle n x → ts ≡ gains false b n c x
-  on_video c start told (period control []) b was = absurd was.1
-  on_video c start told (period control (g ∷ [])) b was = absurd was.1
-  on_video c start told (period control (g ∷ (h ∷ rest))) b was = told ∙ ap (λ k. payload_gain b k c rest) (sym was.1.0)
+  pub on_video : (c : Column) (start : ℕ) → ts ≡ [] → (x : Stretch) (b : ℕ) → IsStretchAfter (Video start) kept line isle n x → ts ≡ gains false b n c x
+  on_video c start told (stretch control []) b was = absurd was.1
+  on_video c start told (stretch control (g ∷ [])) b was = absurd was.1
+  on_video c start told (stretch control (g ∷ (h ∷ rest))) b was = told ∙ ap (λ k. payload_gain b k c rest) (sym was.1.0)
 
   pub on_payload : (c : Column) (start : ℕ) → ((rest : List Column) → IsIslandAfter isle rest → ts ≡ island_gain start c (payload rest))
-      → (x : Period) (b : ℕ) → IsPeriodAfter (Payload start) kept line isle n x → b + length (gap_of x) ≡ n → ts ≡ gains false b n c x
-  on_payload c start told (period control []) b was e = absurd was.1
-  on_payload c start told (period control (g ∷ [])) b was e = absurd was.1
-  on_payload c start told (period control (g ∷ (h ∷ rest))) b was e =
+      → (x : Stretch) (b : ℕ) → IsStretchAfter (InIsland start) kept line isle n x → b + length (gap_of x) ≡ n → ts ≡ gains false b n c x
+  on_payload c start told (stretch control []) b was e = absurd was.1
+  on_payload c start told (stretch control (g ∷ [])) b was e = absurd was.1
+  on_payload c start told (stretch control (g ∷ (h ∷ rest))) b was e =
       let same : start ≡ b = omega (arith, was.1.1) in
       told rest was.1.2 ∙ ap (λ m. island_gain m c (payload rest)) same ∙ ap (λ k. payload_gain b k c rest) (sym was.1.0)
 
 -- the next phase
 module _ (kept : Kept) (line : LineSeen) (isle : Island) (n : ℕ) (c : Column) where
   pub video_stands : (start : ℕ) (next : LineSeen) → ((pixels : List Column) → IsLineAfter line pixels → IsLineAfter next (pixels ++ c ∷ []))
-      → (x : Period) → IsPeriodAfter (Video start) kept line isle n x → IsPeriodAfter (Video start) kept next isle (n + 1) (grown false c x)
-  video_stands start next more (period control []) was = absurd was.1
-  video_stands start next more (period control (g ∷ [])) was = absurd was.1
-  video_stands start next more (period control (g ∷ (h ∷ rest))) was =
+      → (x : Stretch) → IsStretchAfter (Video start) kept line isle n x → IsStretchAfter (Video start) kept next isle (n + 1) (grown false c x)
+  video_stands start next more (stretch control []) was = absurd was.1
+  video_stands start next more (stretch control (g ∷ [])) was = absurd was.1
+  video_stands start next more (stretch control (g ∷ (h ∷ rest))) was =
       (was.0, (was.1.0, omega (arith, was.1.1, length_push rest c), more rest was.1.2))
 
 pub three_words : (ts : List Thing) (n a b r : ℕ) (c : Column) → a ≡ c.blue → b ≡ c.green → r ≡ c.red
@@ -166,3 +175,12 @@ three_words ts n a b r c e f g = rw (e, f, g) (append_assoc (ts ++ other_word 0 
 
 pub open_noted : (l : Lent) (was now : List Note) (ts : List Thing) (a b : ℕ) → things l was ≡ ts → now ≡ was ++ Open a b ∷ [] → things l now ≡ ts ++ open_island a b ∷ []
 open_noted l was now ts a b e f = ap (things l) f ∙ map-append (noted l) was (Open a b ∷ []) ∙ ap (λ us. us ++ open_island a b ∷ []) e
+
+-- two guards told behind other things
+pub guards_noted : (l : Lent) (n1 n2 n3 : List Note) (ts us vs : List Thing) → things l n1 ≡ ts → things l n2 ≡ things l n1 ++ us → things l n3 ≡ things l n2 ++ vs → things l n3 ≡ ts ++ (us ++ vs)
+guards_noted l n1 n2 n3 ts us vs e f g = g ∙ ap (λ xs. xs ++ vs) (f ∙ ap (λ xs. xs ++ us) e) ∙ append_assoc ts us vs
+
+pub open_guards_noted : (l : Lent) (n0 n1 n2 n3 : List Note) (ts us vs : List Thing) (a b : ℕ) → things l n0 ≡ ts → n1 ≡ n0 ++ Open a b ∷ [] → things l n2 ≡ things l n1 ++ us → things l n3 ≡ things l n2 ++ vs
+    → things l n3 ≡ ts ++ open_island a b ∷ (us ++ vs)
+open_guards_noted l n0 n1 n2 n3 ts us vs a b e o f g =
+    guards_noted l n1 n2 n3 (ts ++ open_island a b ∷ []) us vs (open_noted l n0 n1 ts a b e o) f g ∙ append_assoc ts (open_island a b ∷ []) (us ++ vs)

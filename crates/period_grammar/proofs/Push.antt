@@ -4,47 +4,47 @@ use Rattle.std.proofs.lemmas.Bool.{eqb-true}
 use Rattle.tmds_word.specs.Column.{Column}
 use Rattle.terc4.specs.Columns.{is_control_column}
 use Rattle.period_grammar.specs.Column.{value_of}
-use Rattle.period_grammar.specs.Cut.{Period, period, before, periods, Run, columns, lead, value, before_runs, runs}
+use Rattle.period_grammar.specs.Cut.{Stretch, stretch, before, stretches, Run, columns, in_front, value, before_runs, runs}
 
--- a column after periods
-abbrev pub after : Bool → Column → List Period → List Period
-after true c [] = period (c ∷ []) [] ∷ []
-after false c [] = period [] (c ∷ []) ∷ []
-after true c (period control [] ∷ []) = period (control ++ c ∷ []) [] ∷ []
-after true c (period control (g ∷ gap) ∷ []) = period control (g ∷ gap) ∷ (period (c ∷ []) [] ∷ [])
-after false c (period control gap ∷ []) = period control (gap ++ c ∷ []) ∷ []
+-- a column after stretches
+abbrev pub after : Bool → Column → List Stretch → List Stretch
+after true c [] = stretch (c ∷ []) [] ∷ []
+after false c [] = stretch [] (c ∷ []) ∷ []
+after true c (stretch control [] ∷ []) = stretch (control ++ c ∷ []) [] ∷ []
+after true c (stretch control (g ∷ gap) ∷ []) = stretch control (g ∷ gap) ∷ (stretch (c ∷ []) [] ∷ [])
+after false c (stretch control gap ∷ []) = stretch control (gap ++ c ∷ []) ∷ []
 after true c (x ∷ (y ∷ ys)) = x ∷ after true c (y ∷ ys)
 after false c (x ∷ (y ∷ ys)) = x ∷ after false c (y ∷ ys)
 
-commute : (p q : Bool) (d c : Column) (xs : List Period) → before p d (after q c xs) ≡ after q c (before p d xs)
+commute : (p q : Bool) (d c : Column) (xs : List Stretch) → before p d (after q c xs) ≡ after q c (before p d xs)
 commute true true d c [] = refl
 commute true false d c [] = refl
 commute false true d c [] = refl
 commute false false d c [] = refl
-commute true true d c (period control [] ∷ []) = refl
-commute true true d c (period control (g ∷ gap) ∷ []) = refl
-commute true false d c (period control gap ∷ []) = refl
-commute false true d c (period [] [] ∷ []) = refl
-commute false true d c (period [] (g ∷ gap) ∷ []) = refl
-commute false true d c (period (k ∷ control) [] ∷ []) = refl
-commute false true d c (period (k ∷ control) (g ∷ gap) ∷ []) = refl
-commute false false d c (period [] gap ∷ []) = refl
-commute false false d c (period (k ∷ control) gap ∷ []) = refl
-commute true true d c (period control gap ∷ (y ∷ ys)) = refl
-commute true false d c (period control gap ∷ (y ∷ ys)) = refl
-commute false true d c (period [] gap ∷ (y ∷ ys)) = refl
-commute false true d c (period (k ∷ control) gap ∷ (y ∷ ys)) = refl
-commute false false d c (period [] gap ∷ (y ∷ ys)) = refl
-commute false false d c (period (k ∷ control) gap ∷ (y ∷ ys)) = refl
+commute true true d c (stretch control [] ∷ []) = refl
+commute true true d c (stretch control (g ∷ gap) ∷ []) = refl
+commute true false d c (stretch control gap ∷ []) = refl
+commute false true d c (stretch [] [] ∷ []) = refl
+commute false true d c (stretch [] (g ∷ gap) ∷ []) = refl
+commute false true d c (stretch (k ∷ control) [] ∷ []) = refl
+commute false true d c (stretch (k ∷ control) (g ∷ gap) ∷ []) = refl
+commute false false d c (stretch [] gap ∷ []) = refl
+commute false false d c (stretch (k ∷ control) gap ∷ []) = refl
+commute true true d c (stretch control gap ∷ (y ∷ ys)) = refl
+commute true false d c (stretch control gap ∷ (y ∷ ys)) = refl
+commute false true d c (stretch [] gap ∷ (y ∷ ys)) = refl
+commute false true d c (stretch (k ∷ control) gap ∷ (y ∷ ys)) = refl
+commute false false d c (stretch [] gap ∷ (y ∷ ys)) = refl
+commute false false d c (stretch (k ∷ control) gap ∷ (y ∷ ys)) = refl
 
 single : (p : Bool) (c : Column) → before p c [] ≡ after p c []
 single true c = refl
 single false c = refl
 
-pub periods_push : (cs : List Column) (c : Column) → periods (cs ++ c ∷ []) ≡ after (is_control_column c) c (periods cs)
-unfolding periods
-periods_push [] c = single (is_control_column c) c
-periods_push (d ∷ cs) c = ap (before (is_control_column d) d) (periods_push cs c) ∙ commute (is_control_column d) (is_control_column c) d c (periods cs)
+pub stretches_push : (cs : List Column) (c : Column) → stretches (cs ++ c ∷ []) ≡ after (is_control_column c) c (stretches cs)
+unfolding stretches
+stretches_push [] c = single (is_control_column c) c
+stretches_push (d ∷ cs) c = ap (before (is_control_column d) d) (stretches_push cs c) ∙ commute (is_control_column d) (is_control_column c) d c (stretches cs)
 
 -- a column after runs
 abbrev pub trail : Bool → Column → ℕ → List Column → List Run
@@ -56,18 +56,18 @@ after_runs c [] = columns (value_of c) (c ∷ []) ∷ []
 after_runs c (columns v cs ∷ []) = trail (v == value_of c) c v cs
 after_runs c (r ∷ (s ∷ rs)) = r ∷ after_runs c (s ∷ rs)
 
-two : (d c : Column) (q : Bool) → (value_of d == value_of c) ≡ q → lead q d (columns (value_of c) (c ∷ [])) [] ≡ trail q c (value_of d) (d ∷ [])
+two : (d c : Column) (q : Bool) → (value_of d == value_of c) ≡ q → in_front q d (columns (value_of c) (c ∷ [])) [] ≡ trail q c (value_of d) (d ∷ [])
 two d c true e = ap (λ v. columns v (d ∷ (c ∷ [])) ∷ []) (sym (eqb-true (value_of d) (value_of c) e))
 two d c false e = refl
 
 over : (d c : Column) (v : ℕ) (cs : List Column) (p q : Bool) → (value_of d == v) ≡ p → (v == value_of c) ≡ q
-    → before_runs d (trail q c v cs) ≡ after_runs c (lead p d (columns v cs) [])
+    → before_runs d (trail q c v cs) ≡ after_runs c (in_front p d (columns v cs) [])
 over d c v cs true true ep eq = rw (ep, eq)
 over d c v cs true false ep eq = rw (ep, eq)
 over d c v cs false true ep eq = rw (ep, eq)
 over d c v cs false false ep eq = rw (ep, eq)
 
-far : (p : Bool) (d c : Column) (r s : Run) (rs : List Run) → lead p d r (after_runs c (s ∷ rs)) ≡ after_runs c (lead p d r (s ∷ rs))
+far : (p : Bool) (d c : Column) (r s : Run) (rs : List Run) → in_front p d r (after_runs c (s ∷ rs)) ≡ after_runs c (in_front p d r (s ∷ rs))
 far true d c (columns v cs) s rs = refl
 far false d c (columns v cs) s rs = refl
 

@@ -10,15 +10,15 @@ use Rattle.island_pack.specs.Nibbles.{nibble_of, nibbles_of, sync_values}
 use Rattle.island_pack.specs.declared.packet.PacketVerdicts.{PacketVerdicts}
 use Rattle.tmds_word.specs.Column.{Column}
 use Rattle.terc4.specs.Tables.{control_words, value_in, is_control}
-use Rattle.terc4.specs.Columns.{is_island_guard}
+use Rattle.terc4.specs.Columns.{is_video_guard, is_island_guard, closes}
 use Rattle.terc4.proofs.Entries.{value_below}
 use Rattle.period_grammar.specs.Coding.{first_uncoded}
-use Rattle.period_grammar.specs.Column.{control_bits, value_of, sync_digit, is_closing}
+use Rattle.period_grammar.specs.Column.{control_bits, value_of, sync_digit}
 use Rattle.period_grammar.specs.Packets.{words_of, packet_in, packet_of, verdicts_of}
 use Rattle.period_grammar.specs.Things.{Thing, short, preamble, empty, long_line, cut, symbols, long_island, broken, guard, Told, all_at, thing_of}
-use Rattle.period_grammar.specs.Cut.{Period, period, periods, Run, columns, lead, value, before_runs, runs}
-use Rattle.period_grammar.specs.Island.{Payload, parts, payload, when, if_so, block_fault, block_faults, packet_faults, packet_things, in_packets, closing_things, in_left, left_at, in_island, is_broken, breaks}
-use Rattle.period_grammar.specs.Heard.{other_word, other_words, words, ended, in_run, size, in_runs, last_run, has_preamble, unless, Kind, video, island, neither, opened, lacks, opening, line_bytes, code_fault, codes_of, line_of, in_payload, in_gap, payload_closes, at_close, payload_ends, at_end, so_far, reach, closing, told_from, ending, end_from, heard_so_far, heard}
+use Rattle.period_grammar.specs.Cut.{Stretch, stretch, stretches, Run, columns, in_front, value, before_runs, runs}
+use Rattle.period_grammar.specs.Island.{Payload, parts, payload, when, if_so, block_fault, block_faults, packet_faults, packet_things, in_packets, wrong_guards, begins_close, closing_things, in_left, left_at, in_island, breaks}
+use Rattle.period_grammar.specs.Heard.{other_word, other_words, words, ended, in_run, size, in_runs, last_run, has_preamble, if_not, Kind, video, island, neither, opened, lacks, opening, line_bytes, code_fault, codes_of, line_of, in_payload, in_gap, payload_closes, at_close, payload_ends, at_end, so_far, reach, closing, told_from, ending, end_from, heard_so_far, heard}
 use Rattle.period_grammar.specs.Sizes.{IsSized}
 
 -- Lists of things, one after another.
@@ -50,13 +50,9 @@ things_sized : (ts : List Told) → TellsSized ts → Sized (map thing_of ts)
 things_sized [] h = tt
 things_sized (t ∷ ts) h = (h.0, things_sized ts h.1)
 
-unless_sized : (p : Bool) (t : Thing) → IsSized t → Sized (unless p t)
-unless_sized true t h = tt
-unless_sized false t h = (h, tt)
-
-if_so_sized : (p : Bool) (t : Thing) → IsSized t → Sized (if_so p t)
-if_so_sized true t h = (h, tt)
-if_so_sized false t h = tt
+if_not_sized : (p : Bool) (t : Thing) → IsSized t → Sized (if_not p t)
+if_not_sized true t h = tt
+if_not_sized false t h = (h, tt)
 
 when_sized : (p : Bool) (ts : List Told) → TellsSized ts → TellsSized (when p ts)
 when_sized true ts h = h
@@ -109,13 +105,13 @@ abbrev AreRuns : List Run → Type 0
 AreRuns [] = Unit {0}
 AreRuns (r ∷ rs) = IsRun r × AreRuns rs
 
-lead_runs : (p : Bool) (c : Column) (r : Run) (rs : List Run) → IsRun r → AreRuns rs → AreRuns (lead p c r rs)
-lead_runs true c (columns v cs) rs h k = ((h.0, omega arith), k)
-lead_runs false c r rs h k = ((value_of_below c, omega arith), (h, k))
+in_front_runs : (p : Bool) (c : Column) (r : Run) (rs : List Run) → IsRun r → AreRuns rs → AreRuns (in_front p c r rs)
+in_front_runs true c (columns v cs) rs h k = ((h.0, omega arith), k)
+in_front_runs false c r rs h k = ((value_of_below c, omega arith), (h, k))
 
 more_runs : (c : Column) (rs : List Run) → AreRuns rs → AreRuns (before_runs c rs)
 more_runs c [] h = ((value_of_below c, omega arith), tt)
-more_runs c (r ∷ rs) h = lead_runs (value_of c == value r) c r rs h.0 h.1
+more_runs c (r ∷ rs) h = in_front_runs (value_of c == value r) c r rs h.0 h.1
 
 are_runs : (cs : List Column) → AreRuns (runs cs)
 unfolding runs
@@ -142,11 +138,18 @@ last_run_sized (columns v cs ∷ (s ∷ rs)) h = last_run_sized (s ∷ rs) h.1
 -- Opening.
 lacks_sized : (b : ℕ) (control : List Column) (bits : ℕ) → Sized (lacks b control bits)
 lacks_sized b control bits =
-    sized_append _ _ (unless_sized (nat_le 12 (length control)) (short b) tt) (unless_sized (has_preamble bits control) (preamble b) tt)
+    sized_append _ _ (if_not_sized (nat_le 12 (length control)) (short b) tt) (if_not_sized (has_preamble bits control) (preamble b) tt)
+
+if_so_sized : (p : Bool) (t : Thing) → IsSized t → Sized (if_so p t)
+if_so_sized true t h = (h, tt)
+if_so_sized false t h = tt
+
+wrong_guards_sized : (is : Column → Bool) (s : ℕ) (c d : Column) → Sized (wrong_guards is s c d)
+wrong_guards_sized is s c d = sized_append _ _ (if_so_sized (not (is c)) (guard s) tt) (if_so_sized (not (is d)) (guard (s + 1)) tt)
 
 opening_sized : (b : ℕ) (control : List Column) (g h : Column) (k : Kind) → Sized (opening b control g h k)
-opening_sized b control g h video = lacks_sized b control 1
-opening_sized b control g h island = sized_append _ _ (lacks_sized b control 5) ((digit_below g.blue, digit_below h.blue), tt)
+opening_sized b control g h video = sized_append _ _ (lacks_sized b control 1) (wrong_guards_sized is_video_guard b g h)
+opening_sized b control g h island = sized_append _ _ (lacks_sized b control 5) ((digit_below g.blue, digit_below h.blue), wrong_guards_sized is_island_guard b g h)
 opening_sized b control g h neither = (tt, tt)
 
 -- A line.
@@ -180,7 +183,7 @@ line_of_sized b (c ∷ cs) =
     let most = take_at_most 4095 cs in
     let long = length-line_bytes (take 4096 (c ∷ cs)) in (
       (whole_pixels (take 4096 (c ∷ cs)), omega (arith, long), omega (arith, long, most)),
-      sized_append _ _ (codes_of_sized (b + 2) (take 4096 (c ∷ cs))) (unless_sized (nat_le (length (c ∷ cs)) 4096) (long_line b) tt),
+      sized_append _ _ (codes_of_sized (b + 2) (take 4096 (c ∷ cs))) (if_not_sized (nat_le (length (c ∷ cs)) 4096) (long_line b) tt),
     )
 
 -- An island.
@@ -215,23 +218,22 @@ closing_things_sized : (b s k : ℕ) (c d : Column) → Sized (closing_things b 
 unfolding closing_things
 closing_things_sized b s k c d = (
   (digit_below c.blue, digit_below d.blue),
-  sized_append _ _ (if_so_sized (not (is_island_guard c)) (guard s) tt)
-      (sized_append _ _ (if_so_sized (not (is_island_guard d)) (guard (s + 1)) tt) (if_so_sized (k == 0) (empty b) tt)),
+  sized_append _ _ (wrong_guards_sized is_island_guard s c d) (if_so_sized (k == 0) (empty b) tt),
 )
 
 in_left_sized : (b s k : ℕ) (t : List Column) → TellsSized (in_left b s k t)
 in_left_sized b s k [] = tt
 in_left_sized b s k (c ∷ []) = tt
-in_left_sized b s k (c ∷ (d ∷ [])) = when_sized (is_closing c) _ (tells_at (s + 1) _ (closing_things_sized b s k c d))
+in_left_sized b s k (c ∷ (d ∷ [])) = when_sized (closes c d) _ (tells_at (s + 1) _ (closing_things_sized b s k c d))
 in_left_sized b s k (c ∷ (d ∷ (e ∷ cs))) =
-    when_sized (is_closing c) _ (tells_append _ _ (tells_at (s + 1) _ (closing_things_sized b s k c d)) (tt, tt))
+    when_sized (closes c d) _ (tells_append _ _ (tells_at (s + 1) _ (closing_things_sized b s k c d)) (tt, tt))
 
 in_island_sized : (b : ℕ) (x : Payload) → TellsSized (in_island b x)
 unfolding in_island
 in_island_sized b (parts ps t) = tells_append _ _ (in_packets_sized (b + 2) 0 ps) (in_left_sized b (left_at b ps) (length ps) t)
 
 breaks_sized : (f : ℕ → Thing) (b : ℕ) (x : Payload) → ((n : ℕ) → IsSized (f n)) → Sized (breaks f b x)
-breaks_sized f b (parts ps t) h = if_so_sized (is_broken t) (f (left_at b ps)) (h (left_at b ps))
+breaks_sized f b (parts ps t) h = if_so_sized (not (begins_close t)) (f (left_at b ps)) (h (left_at b ps))
 
 -- Columns after control columns.
 in_payload_sized : (b : ℕ) (k : Kind) (rest : List Column) → TellsSized (in_payload b k rest)
@@ -269,33 +271,33 @@ at_end_sized b (g ∷ []) = (tt, tt)
 at_end_sized b (g ∷ (h ∷ rest)) = payload_ends_sized b (opened g h) rest
 
 -- The whole.
-so_far_sized : (j : ℕ) (x : Period) → TellsSized (so_far j x)
-so_far_sized j (period control []) = in_runs_sized j (runs control) (are_runs control)
-so_far_sized j (period control (g ∷ gap)) =
+so_far_sized : (j : ℕ) (x : Stretch) → TellsSized (so_far j x)
+so_far_sized j (stretch control []) = in_runs_sized j (runs control) (are_runs control)
+so_far_sized j (stretch control (g ∷ gap)) =
     tells_append _ _ (in_runs_sized j (runs control) (are_runs control))
     (tells_append _ _ (tells_at (j + length control) (last_run (runs control)) (last_run_sized (runs control) (are_runs control)))
     (in_gap_sized (j + length control) control (g ∷ gap)))
 
-closing_sized : (j : ℕ) (x : Period) → TellsSized (closing j x)
-closing_sized j (period control gap) = tells_at _ _ (at_close_sized (j + length control) gap)
+closing_sized : (j : ℕ) (x : Stretch) → TellsSized (closing j x)
+closing_sized j (stretch control gap) = tells_at _ _ (at_close_sized (j + length control) gap)
 
-told_from_sized : (j : ℕ) (xs : List Period) → TellsSized (told_from j xs)
+told_from_sized : (j : ℕ) (xs : List Stretch) → TellsSized (told_from j xs)
 told_from_sized j [] = tt
 told_from_sized j (x ∷ []) = so_far_sized j x
 told_from_sized j (x ∷ (y ∷ ys)) = tells_append _ _ (so_far_sized j x) (tells_append _ _ (closing_sized j x) (told_from_sized (j + reach x) (y ∷ ys)))
 
-ending_sized : (j : ℕ) (x : Period) → Sized (ending j x)
-ending_sized j (period control []) = last_run_sized (runs control) (are_runs control)
-ending_sized j (period control (g ∷ gap)) = at_end_sized (j + length control) (g ∷ gap)
+ending_sized : (j : ℕ) (x : Stretch) → Sized (ending j x)
+ending_sized j (stretch control []) = last_run_sized (runs control) (are_runs control)
+ending_sized j (stretch control (g ∷ gap)) = at_end_sized (j + length control) (g ∷ gap)
 
-end_from_sized : (j : ℕ) (xs : List Period) → Sized (end_from j xs)
+end_from_sized : (j : ℕ) (xs : List Stretch) → Sized (end_from j xs)
 end_from_sized j [] = tt
 end_from_sized j (x ∷ []) = ending_sized j x
 end_from_sized j (x ∷ (y ∷ ys)) = end_from_sized (j + reach x) (y ∷ ys)
 
 heard_sized : (cs : List Column) → Sized (heard cs)
 unfolding heard heard_so_far
-heard_sized cs = sized_append _ _ (things_sized _ (told_from_sized 0 (periods cs))) (end_from_sized 0 (periods cs))
+heard_sized cs = sized_append _ _ (things_sized _ (told_from_sized 0 (stretches cs))) (end_from_sized 0 (stretches cs))
 
 pub all_are_sized : (cs : List Column) → All IsSized (heard cs)
 all_are_sized cs = all_sized (heard cs) (heard_sized cs)

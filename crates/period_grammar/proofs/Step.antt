@@ -5,45 +5,45 @@ use Rattle.tmds_word.specs.Column.{Column}
 use Rattle.terc4.specs.Columns.{is_control_column}
 use Rattle.period_grammar.specs.Column.{value_of}
 use Rattle.period_grammar.specs.Things.{run, at, all_at, thing_of}
-use Rattle.period_grammar.specs.Cut.{Period, period, before, periods, Run, columns, lead, before_runs, runs}
-use Rattle.period_grammar.specs.Heard.{other_words, words, ended, in_run, size, in_runs, last_run, unless, opening, opened, in_gap, in_payload, at_close, so_far, reach, closing, told_from, end_from, at_end, heard_so_far, heard}
+use Rattle.period_grammar.specs.Cut.{Stretch, stretch, before, stretches, Run, columns, in_front, before_runs, runs}
+use Rattle.period_grammar.specs.Heard.{other_words, words, ended, in_run, size, in_runs, last_run, if_not, opening, opened, in_gap, in_payload, at_close, so_far, reach, closing, told_from, end_from, at_end, heard_so_far, heard}
 use Rattle.period_grammar.specs.After.{last, gap_of, change, gains, payload_gain, grown, ends}
 use Rattle.period_grammar.proofs.Islands.{in_payload_push, in_payload_none}
-use Rattle.period_grammar.proofs.Push.{after, periods_push, trail, after_runs, runs_push}
+use Rattle.period_grammar.proofs.Push.{after, stretches_push, trail, after_runs, runs_push}
 
 -- how many columns
 abbrev pub total_runs : List Run → ℕ
 total_runs [] = 0
 total_runs (r ∷ rs) = size r + total_runs rs
 
-lead_total : (p : Bool) (c : Column) (v : ℕ) (cs : List Column) (rs : List Run) → total_runs (lead p c (columns v cs) rs) ≡ suc (length cs + total_runs rs)
-lead_total true c v cs rs = omega arith
-lead_total false c v cs rs = omega arith
+in_front_total : (p : Bool) (c : Column) (v : ℕ) (cs : List Column) (rs : List Run) → total_runs (in_front p c (columns v cs) rs) ≡ suc (length cs + total_runs rs)
+in_front_total true c v cs rs = omega arith
+in_front_total false c v cs rs = omega arith
 
 before_runs_total : (c : Column) (rs : List Run) → total_runs (before_runs c rs) ≡ suc (total_runs rs)
 before_runs_total c [] = omega arith
-before_runs_total c (columns v cs ∷ rs) = lead_total (value_of c == v) c v cs rs
+before_runs_total c (columns v cs ∷ rs) = in_front_total (value_of c == v) c v cs rs
 
 pub runs_total : (cs : List Column) → total_runs (runs cs) ≡ length cs
 unfolding runs
 runs_total [] = refl
 runs_total (c ∷ cs) = before_runs_total c (runs cs) ∙ ap suc (runs_total cs)
 
-abbrev pub total : List Period → ℕ
+abbrev pub total : List Stretch → ℕ
 total [] = 0
 total (x ∷ xs) = reach x + total xs
 
-before_total : (p : Bool) (c : Column) (xs : List Period) → total (before p c xs) ≡ suc (total xs)
+before_total : (p : Bool) (c : Column) (xs : List Stretch) → total (before p c xs) ≡ suc (total xs)
 before_total true c [] = omega arith
-before_total true c (period control gap ∷ xs) = omega arith
+before_total true c (stretch control gap ∷ xs) = omega arith
 before_total false c [] = omega arith
-before_total false c (period [] gap ∷ xs) = omega arith
-before_total false c (period (k ∷ control) gap ∷ xs) = omega arith
+before_total false c (stretch [] gap ∷ xs) = omega arith
+before_total false c (stretch (k ∷ control) gap ∷ xs) = omega arith
 
-pub periods_total : (cs : List Column) → total (periods cs) ≡ length cs
-unfolding periods
-periods_total [] = refl
-periods_total (c ∷ cs) = before_total (is_control_column c) c (periods cs) ∙ ap suc (periods_total cs)
+pub stretches_total : (cs : List Column) → total (stretches cs) ≡ length cs
+unfolding stretches
+stretches_total [] = refl
+stretches_total (c ∷ cs) = before_total (is_control_column c) c (stretches cs) ∙ ap suc (stretches_total cs)
 
 -- The words of columns.
 
@@ -77,7 +77,7 @@ after_runs_some c (r ∷ (s ∷ rs)) = refl
 
 -- a column after the last run, where it has the run's value or not
 last_push : (p : Bool) (j n v : ℕ) (cs : List Column) (c : Column) → n ≡ j + length cs
-    → in_runs j (trail p c v cs) ≡ words j cs ++ all_at n (unless p (run v (length cs)) ++ other_words n c)
+    → in_runs j (trail p c v cs) ≡ words j cs ++ all_at n (if_not p (run v (length cs)) ++ other_words n c)
 last_push true j n v cs c e = words_push j n cs c e
 last_push false j n v cs c e =
     ap (λ m. words j cs ++ (at m (run v (length cs)) ∷ words m (c ∷ []))) (sym e)
@@ -98,43 +98,43 @@ in_runs_push j n c (r ∷ (s ∷ rs)) e =
 
 -- Periods.
 
-told_from_more : (j : ℕ) (x : Period) (xs : List Period) → is_some xs ≡ true → told_from j (x ∷ xs) ≡ so_far j x ++ (closing j x ++ told_from (j + reach x) xs)
+told_from_more : (j : ℕ) (x : Stretch) (xs : List Stretch) → is_some xs ≡ true → told_from j (x ∷ xs) ≡ so_far j x ++ (closing j x ++ told_from (j + reach x) xs)
 told_from_more j x [] e = cc
 told_from_more j x (y ∷ ys) e = refl
 
-pub after_some : (p : Bool) (c : Column) (xs : List Period) → is_some (after p c xs) ≡ true
+pub after_some : (p : Bool) (c : Column) (xs : List Stretch) → is_some (after p c xs) ≡ true
 after_some true c [] = refl
 after_some false c [] = refl
-after_some true c (period control [] ∷ []) = refl
-after_some true c (period control (g ∷ gap) ∷ []) = refl
-after_some false c (period control gap ∷ []) = refl
+after_some true c (stretch control [] ∷ []) = refl
+after_some true c (stretch control (g ∷ gap) ∷ []) = refl
+after_some false c (stretch control gap ∷ []) = refl
 after_some true c (x ∷ (y ∷ ys)) = refl
 after_some false c (x ∷ (y ∷ ys)) = refl
 
--- a column after the last period
-one_push : (p : Bool) (j b n : ℕ) (c : Column) (x : Period) → n ≡ j + reach x → b + length (gap_of x) ≡ n
+-- a column after the last stretch
+one_push : (p : Bool) (j b n : ℕ) (c : Column) (x : Stretch) → n ≡ j + reach x → b + length (gap_of x) ≡ n
     → told_from j (after p c (x ∷ [])) ≡ so_far j x ++ all_at n (gains p b n c x)
 unfolding runs in_gap
-one_push true j b n c (period control []) e f =
+one_push true j b n c (stretch control []) e f =
     ap (in_runs j) (runs_push control c) ∙ in_runs_push j n c (runs control) (omega (arith, runs_total control))
-one_push true j b n c (period control (g ∷ gap)) e f =
+one_push true j b n c (stretch control (g ∷ gap)) e f =
     let start : j + length control ≡ b = omega arith in
-    ap (λ m. so_far j (period control (g ∷ gap)) ++ (all_at m (at_close (j + length control) (g ∷ gap)) ++ (all_at m (other_words m c) ++ []))) (sym e)
-    ∙ ap (λ m. so_far j (period control (g ∷ gap)) ++ (all_at n (at_close m (g ∷ gap)) ++ (all_at n (other_words n c) ++ []))) start
-    ∙ ap (λ ts. so_far j (period control (g ∷ gap)) ++ (all_at n (at_close b (g ∷ gap)) ++ ts)) (append-nil (all_at n (other_words n c)))
-    ∙ ap (λ ts. so_far j (period control (g ∷ gap)) ++ ts) (sym (map-append (at n) (at_close b (g ∷ gap)) (other_words n c)))
-one_push false j b n c (period control []) e f =
+    ap (λ m. so_far j (stretch control (g ∷ gap)) ++ (all_at m (at_close (j + length control) (g ∷ gap)) ++ (all_at m (other_words m c) ++ []))) (sym e)
+    ∙ ap (λ m. so_far j (stretch control (g ∷ gap)) ++ (all_at n (at_close m (g ∷ gap)) ++ (all_at n (other_words n c) ++ []))) start
+    ∙ ap (λ ts. so_far j (stretch control (g ∷ gap)) ++ (all_at n (at_close b (g ∷ gap)) ++ ts)) (append-nil (all_at n (other_words n c)))
+    ∙ ap (λ ts. so_far j (stretch control (g ∷ gap)) ++ ts) (sym (map-append (at n) (at_close b (g ∷ gap)) (other_words n c)))
+one_push false j b n c (stretch control []) e f =
     let start : j + length control ≡ n = omega arith in
     ap (λ ts. in_runs j (runs control) ++ ts) (append-nil (all_at (j + length control) (last_run (runs control)))
     ∙ ap (λ m. all_at m (last_run (runs control))) start)
-one_push false j b n c (period control (g ∷ [])) e f =
+one_push false j b n c (stretch control (g ∷ [])) e f =
     let start : j + length control ≡ b = omega arith in
     let next : (j + length control) + 1 ≡ n = omega arith in
     let told = opening b control g c (opened g c) in
     ap (λ m. in_runs j (runs control) ++ (all_at (j + length control) (last_run (runs control)) ++ (all_at ((j + length control) + 1) (opening m control g c (opened g c)) ++ in_payload m (opened g c) []))) start
     ∙ ap₂ (λ m ts. in_runs j (runs control) ++ (all_at (j + length control) (last_run (runs control)) ++ (all_at m told ++ ts))) next (in_payload_none b (opened g c))
     ∙ simp (append_assoc, append-nil)
-one_push false j b n c (period control (g ∷ (h ∷ rest))) e f =
+one_push false j b n c (stretch control (g ∷ (h ∷ rest))) e f =
     let start : j + length control ≡ b = omega arith in
     let place : n ≡ ((j + length control) + 2) + length rest = omega arith in
     let k = opened g h in
@@ -143,7 +143,7 @@ one_push false j b n c (period control (g ∷ (h ∷ rest))) e f =
     ∙ ap (λ m. in_runs j (runs control) ++ (all_at a (last_run (runs control)) ++ (all_at (a + 1) (opening a control g h k) ++ (in_payload a k rest ++ all_at n (payload_gain m k c rest))))) start
     ∙ simp append_assoc
 
-told_push : (p : Bool) (j b n : ℕ) (c : Column) (xs : List Period) → n ≡ j + total xs → b + length (gap_of (last xs)) ≡ n
+told_push : (p : Bool) (j b n : ℕ) (c : Column) (xs : List Stretch) → n ≡ j + total xs → b + length (gap_of (last xs)) ≡ n
     → told_from j (after p c xs) ≡ told_from j xs ++ all_at n (gains p b n c (last xs))
 unfolding runs in_gap
 told_push true j b n c [] e f =
@@ -163,39 +163,39 @@ told_push false j b n c (x ∷ (y ∷ ys)) e f =
     ∙ simp append_assoc
 
 -- what a column adds to what is told of the columns before it
-pub heard_push : (cs : List Column) (c : Column) (b : ℕ) → b + length (gap_of (last (periods cs))) ≡ length cs
-    → heard_so_far (cs ++ c ∷ []) ≡ heard_so_far cs ++ all_at (length cs) (gains (is_control_column c) b (length cs) c (last (periods cs)))
+pub heard_push : (cs : List Column) (c : Column) (b : ℕ) → b + length (gap_of (last (stretches cs))) ≡ length cs
+    → heard_so_far (cs ++ c ∷ []) ≡ heard_so_far cs ++ all_at (length cs) (gains (is_control_column c) b (length cs) c (last (stretches cs)))
 unfolding heard_so_far
 heard_push cs c b f =
-    ap (told_from 0) (periods_push cs c)
-    ∙ told_push (is_control_column c) 0 b (length cs) c (periods cs) (sym (periods_total cs) ∙ sym (zero-add (total (periods cs)))) f
+    ap (told_from 0) (stretches_push cs c)
+    ∙ told_push (is_control_column c) 0 b (length cs) c (stretches cs) (sym (stretches_total cs) ∙ sym (zero-add (total (stretches cs)))) f
 
--- the last period with one column more
-last_more : (x : Period) (xs : List Period) → is_some xs ≡ true → last (x ∷ xs) ≡ last xs
+-- the last stretch with one column more
+last_more : (x : Stretch) (xs : List Stretch) → is_some xs ≡ true → last (x ∷ xs) ≡ last xs
 last_more x [] e = cc
 last_more x (y ∷ ys) e = refl
 
-last_after : (p : Bool) (c : Column) (xs : List Period) → last (after p c xs) ≡ grown p c (last xs)
+last_after : (p : Bool) (c : Column) (xs : List Stretch) → last (after p c xs) ≡ grown p c (last xs)
 last_after true c [] = refl
 last_after false c [] = refl
-last_after true c (period control [] ∷ []) = refl
-last_after true c (period control (g ∷ gap) ∷ []) = refl
-last_after false c (period control gap ∷ []) = refl
+last_after true c (stretch control [] ∷ []) = refl
+last_after true c (stretch control (g ∷ gap) ∷ []) = refl
+last_after false c (stretch control gap ∷ []) = refl
 last_after true c (x ∷ (y ∷ ys)) = last_more x (after true c (y ∷ ys)) (after_some true c (y ∷ ys)) ∙ last_after true c (y ∷ ys)
 last_after false c (x ∷ (y ∷ ys)) = last_more x (after false c (y ∷ ys)) (after_some false c (y ∷ ys)) ∙ last_after false c (y ∷ ys)
 
-pub last_push_period : (cs : List Column) (c : Column) → last (periods (cs ++ c ∷ [])) ≡ grown (is_control_column c) c (last (periods cs))
-last_push_period cs c = ap last (periods_push cs c) ∙ last_after (is_control_column c) c (periods cs)
+pub last_push_stretch : (cs : List Column) (c : Column) → last (stretches (cs ++ c ∷ [])) ≡ grown (is_control_column c) c (last (stretches cs))
+last_push_stretch cs c = ap last (stretches_push cs c) ∙ last_after (is_control_column c) c (stretches cs)
 
 -- what the end tells
-end_is : (j b : ℕ) (xs : List Period) → b + length (gap_of (last xs)) ≡ j + total xs → end_from j xs ≡ ends b (last xs)
+end_is : (j b : ℕ) (xs : List Stretch) → b + length (gap_of (last xs)) ≡ j + total xs → end_from j xs ≡ ends b (last xs)
 unfolding runs
 end_is j b [] f = refl
-end_is j b (period control [] ∷ []) f = refl
-end_is j b (period control (g ∷ gap) ∷ []) f = let same : j + length control ≡ b = omega arith in ap (λ m. at_end m (g ∷ gap)) same
+end_is j b (stretch control [] ∷ []) f = refl
+end_is j b (stretch control (g ∷ gap) ∷ []) f = let same : j + length control ≡ b = omega arith in ap (λ m. at_end m (g ∷ gap)) same
 end_is j b (x ∷ (y ∷ ys)) f = end_is (j + reach x) b (y ∷ ys) (omega arith)
 
-pub heard_end : (cs : List Column) (b : ℕ) → b + length (gap_of (last (periods cs))) ≡ length cs
-    → heard cs ≡ map thing_of (heard_so_far cs) ++ ends b (last (periods cs))
+pub heard_end : (cs : List Column) (b : ℕ) → b + length (gap_of (last (stretches cs))) ≡ length cs
+    → heard cs ≡ map thing_of (heard_so_far cs) ++ ends b (last (stretches cs))
 unfolding heard
-heard_end cs b f = ap (λ ts. map thing_of (heard_so_far cs) ++ ts) (end_is 0 b (periods cs) (f ∙ sym (periods_total cs) ∙ sym (zero-add (total (periods cs)))))
+heard_end cs b f = ap (λ ts. map thing_of (heard_so_far cs) ++ ts) (end_is 0 b (stretches cs) (f ∙ sym (stretches_total cs) ∙ sym (zero-add (total (stretches cs)))))

@@ -1,29 +1,28 @@
--- The last period of columns, and what one column more tells.
+-- The last stretch of columns, and what one column more tells.
 use Rattle.std.specs.Prelude.{ℕ, ◌+◌, Bool, true, false, ◌==◌, List, [], ◌∷◌, ◌++◌, length}
 use Rattle.tmds_word.specs.Column.{Column}
 use Rattle.period_grammar.specs.Column.{value_of}
 use Rattle.period_grammar.specs.Things.{Thing, run, noise}
-use Rattle.period_grammar.specs.Cut.{Period, period, Run, columns, runs}
-use Rattle.period_grammar.specs.Column.{is_closing}
-use Rattle.period_grammar.specs.Island.{Payload, parts, payload, holds_packet, packet_things, closing_things, left_at, when}
-use Rattle.period_grammar.specs.Heard.{other_words, last_run, unless, opening, opened, Kind, video, island, neither, at_close, at_end}
+use Rattle.period_grammar.specs.Cut.{Stretch, stretch, Run, columns, runs}
+use Rattle.period_grammar.specs.Island.{Payload, parts, payload, begins_close, holds_packet, packet_things, closing_things, left_at, when}
+use Rattle.period_grammar.specs.Heard.{other_words, last_run, if_not, opening, opened, Kind, video, island, neither, at_close, at_end}
 
-abbrev pub last : List Period → Period
-last [] = period [] []
+abbrev pub last : List Stretch → Stretch
+last [] = stretch [] []
 last (x ∷ []) = x
 last (x ∷ (y ∷ ys)) = last (y ∷ ys)
 
--- the columns of the last period
-abbrev pub control_of : Period → List Column
-control_of (period control gap) = control
+-- the columns of the last stretch
+abbrev pub control_of : Stretch → List Column
+control_of (stretch control gap) = control
 
-abbrev pub gap_of : Period → List Column
-gap_of (period control gap) = gap
+abbrev pub gap_of : Stretch → List Column
+gap_of (stretch control gap) = gap
 
 -- the last run, where a column has another value
 abbrev pub change : ℕ → List Run → List Thing
 change v [] = []
-change v (columns w cs ∷ []) = unless (w == v) (run w (length cs))
+change v (columns w cs ∷ []) = if_not (w == v) (run w (length cs))
 change v (r ∷ (s ∷ rs)) = change v (s ∷ rs)
 
 -- a column after packets and what is left
@@ -40,8 +39,8 @@ after_payload c (parts ps t) = settle ps (t ++ c ∷ [])
 -- what a column tells in an island, after what is left of it
 abbrev pub left_gain : ℕ → ℕ → ℕ → Column → List Column → List Thing
 left_gain b s k c [] = []
-left_gain b s k c (x ∷ []) = when (is_closing x) (closing_things b s k x c)
-left_gain b s k c (x ∷ (y ∷ [])) = when (is_closing x) (noise (s + 2) ∷ [])
+left_gain b s k c (x ∷ []) = when (begins_close (x ∷ (c ∷ []))) (closing_things b s k x c)
+left_gain b s k c (x ∷ (y ∷ [])) = when (begins_close (x ∷ (y ∷ []))) (noise (s + 2) ∷ [])
 left_gain b s k c (x ∷ (y ∷ (z ∷ r))) = []
 
 abbrev pub choose : Bool → List Thing → List Thing → List Thing
@@ -57,21 +56,21 @@ payload_gain b video c rest = []
 payload_gain b island c rest = island_gain b c (payload rest)
 payload_gain b neither c rest = []
 
--- what column n tells, where the last period's other columns begin at b
-abbrev pub gains : Bool → ℕ → ℕ → Column → Period → List Thing
-gains true b n c (period control []) = change (value_of c) (runs control) ++ other_words n c
-gains true b n c (period control (g ∷ gap)) = at_close b (g ∷ gap) ++ other_words n c
-gains false b n c (period control []) = last_run (runs control)
-gains false b n c (period control (g ∷ [])) = opening b control g c (opened g c)
-gains false b n c (period control (g ∷ (h ∷ rest))) = payload_gain b (opened g h) c rest
+-- what column n tells, where the last stretch's other columns begin at b
+abbrev pub gains : Bool → ℕ → ℕ → Column → Stretch → List Thing
+gains true b n c (stretch control []) = change (value_of c) (runs control) ++ other_words n c
+gains true b n c (stretch control (g ∷ gap)) = at_close b (g ∷ gap) ++ other_words n c
+gains false b n c (stretch control []) = last_run (runs control)
+gains false b n c (stretch control (g ∷ [])) = opening b control g c (opened g c)
+gains false b n c (stretch control (g ∷ (h ∷ rest))) = payload_gain b (opened g h) c rest
 
--- the last period with one column more, which is a control column or not
-abbrev pub grown : Bool → Column → Period → Period
-grown true c (period control []) = period (control ++ c ∷ []) []
-grown true c (period control (g ∷ gap)) = period (c ∷ []) []
-grown false c (period control gap) = period control (gap ++ c ∷ [])
+-- the last stretch with one column more, which is a control column or not
+abbrev pub grown : Bool → Column → Stretch → Stretch
+grown true c (stretch control []) = stretch (control ++ c ∷ []) []
+grown true c (stretch control (g ∷ gap)) = stretch (c ∷ []) []
+grown false c (stretch control gap) = stretch control (gap ++ c ∷ [])
 
--- what the end tells of the last period
-abbrev pub ends : ℕ → Period → List Thing
-ends b (period control []) = last_run (runs control)
-ends b (period control (g ∷ gap)) = at_end b (g ∷ gap)
+-- what the end tells of the last stretch
+abbrev pub ends : ℕ → Stretch → List Thing
+ends b (stretch control []) = last_run (runs control)
+ends b (stretch control (g ∷ gap)) = at_end b (g ∷ gap)

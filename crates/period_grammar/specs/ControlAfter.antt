@@ -13,8 +13,8 @@ abbrev pub kept_run : ℕ → ℕ → List Thing
 kept_run v zero = []
 kept_run v (suc n) = run v (suc n) ∷ []
 
-abbrev pub leads : ℕ → Column → Bool
-leads bits c = ctl (value_of c) == bits
+abbrev pub has_ctl : ℕ → Column → Bool
+has_ctl bits c = ctl (value_of c) == bits
 
 -- the value of the last column, which is the first of these
 abbrev pub IsLast : ℕ → List Column → Type 0
@@ -25,8 +25,8 @@ pub record IsControlAfter (kept : Kept) (control : List Column) : Type 0 where
   pub columns : kept.columns ≡ length control
   pub run : last_run (runs control) ≡ kept_run kept.value kept.run
   pub last : IsLast kept.value (reverse control)
-  pub lead : kept.lead ≡ prefix_len (leads (ctl kept.value)) (reverse control)
+  pub ctl_run : kept.ctl_run ≡ prefix_len (has_ctl (ctl kept.value)) (reverse control)
 
 pub record IsCounted (kept : Kept) : Type 0 where
   pub run : kept.run ≤ kept.columns
-  pub lead : kept.lead ≤ kept.columns
+  pub ctl_run : kept.ctl_run ≤ kept.columns

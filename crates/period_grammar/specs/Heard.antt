@@ -1,16 +1,16 @@
 -- What is told of a list of columns: control periods (HDMI 1.4, sections 5.1.2 and 5.2.1), their preambles (5.2.1.1),
 -- video periods (5.2.2) and data islands (5.2.3). What is told of columns that are not right is this project's own.
-use Rattle.std.specs.Prelude.{ℕ, ◌+◌, Bool, true, false, ◌&&◌, List, [], ◌∷◌, ◌++◌, map, length, take, Option, Some, None, nat_le}
+use Rattle.std.specs.Prelude.{ℕ, ◌+◌, Bool, true, false, List, [], ◌∷◌, ◌++◌, map, length, take, Option, Some, None, nat_le}
 use Rattle.tmds_word.specs.Column.{Column}
 use Rattle.terc4.specs.Tables.{is_control}
-use Rattle.island_pack.specs.Periods.{has_preamble as announces}
+use Rattle.island_pack.specs.Periods.{has_preamble as announces, VIDEO_PREAMBLE, ISLAND_PREAMBLE}
+use Rattle.terc4.specs.Columns.{is_video_guard, is_island_guard, video_words, island_words}
 use Rattle.period_grammar.specs.Column.{value_of, sync_digit}
-use Rattle.terc4.specs.Columns.{is_video_guard, is_island_guard}
 use Rattle.tmds_code.specs.Coding.{decoded_byte}
 use Rattle.period_grammar.specs.Coding.{first_uncoded}
 use Rattle.period_grammar.specs.Things.{Thing, run, line, word, short, preamble, noise, empty, code, long_line, cut, open_island, broken, Told, at, all_at, thing_of}
-use Rattle.period_grammar.specs.Island.{payload, in_island, breaks}
-use Rattle.period_grammar.specs.Cut.{Period, period, periods, Run, columns, runs}
+use Rattle.period_grammar.specs.Island.{payload, wrong_guards, in_island, breaks}
+use Rattle.period_grammar.specs.Cut.{Stretch, stretch, stretches, Run, columns, runs}
 
 -- Control columns.
 
@@ -55,9 +55,9 @@ last_run (r ∷ (s ∷ rs)) = last_run (s ∷ rs)
 unfoldable pub has_preamble : ℕ → List Column → Bool
 has_preamble bits control = announces bits (map value_of control)
 
-abbrev pub unless : Bool → Thing → List Thing
-unless true t = []
-unless false t = t ∷ []
+abbrev pub if_not : Bool → Thing → List Thing
+if_not true t = []
+if_not false t = t ∷ []
 
 -- what two columns open
 pub data Kind : Type 0 where
@@ -71,15 +71,15 @@ kind_by false true = island
 kind_by false false = neither
 
 abbrev pub opened : Column → Column → Kind
-opened g h = kind_by (is_video_guard g && is_video_guard h) (is_island_guard g && is_island_guard h)
+opened g h = kind_by (nat_le 5 (video_words g + video_words h)) (nat_le 5 (island_words g + island_words h))
 
 -- what is wrong with the control columns before
 abbrev pub lacks : ℕ → List Column → ℕ → List Thing
-lacks b control bits = unless (nat_le 12 (length control)) (short b) ++ unless (has_preamble bits control) (preamble b)
+lacks b control bits = if_not (nat_le 12 (length control)) (short b) ++ if_not (has_preamble bits control) (preamble b)
 
 abbrev pub opening : ℕ → List Column → Column → Column → Kind → List Thing
-opening b control g h video = lacks b control 1
-opening b control g h island = lacks b control 5 ++ open_island (sync_digit g.blue) (sync_digit h.blue) ∷ []
+opening b control g h video = lacks b control VIDEO_PREAMBLE ++ wrong_guards is_video_guard b g h
+opening b control g h island = lacks b control ISLAND_PREAMBLE ++ open_island (sync_digit g.blue) (sync_digit h.blue) ∷ wrong_guards is_island_guard b g h
 opening b control g h neither = noise b ∷ []
 
 -- A line of pixels.
@@ -102,7 +102,7 @@ codes_of s pixels = code_fault 0 s (first_uncoded (map (λ c. c.blue) pixels)) +
 unfoldable pub line_of : ℕ → List Column → List Thing
 line_of b [] = empty b ∷ []
 line_of b (c ∷ cs) =
-    line (line_bytes (take 4096 (c ∷ cs))) ∷ (codes_of (b + 2) (take 4096 (c ∷ cs)) ++ unless (nat_le (length (c ∷ cs)) 4096) (long_line b))
+    line (line_bytes (take 4096 (c ∷ cs))) ∷ (codes_of (b + 2) (take 4096 (c ∷ cs)) ++ if_not (nat_le (length (c ∷ cs)) 4096) (long_line b))
 
 -- Columns that are no control columns, from column b on, after control columns.
 
@@ -141,40 +141,40 @@ at_end b (g ∷ (h ∷ rest)) = payload_ends b (opened g h) rest
 
 -- The whole.
 
--- what a period from column j on tells while it goes on
-abbrev pub so_far : ℕ → Period → List Told
-so_far j (period control []) = in_runs j (runs control)
-so_far j (period control (g ∷ gap)) =
+-- what a stretch from column j on tells while it goes on
+abbrev pub so_far : ℕ → Stretch → List Told
+so_far j (stretch control []) = in_runs j (runs control)
+so_far j (stretch control (g ∷ gap)) =
     let b = j + length control in
     in_runs j (runs control) ++ (all_at b (last_run (runs control)) ++ in_gap b control (g ∷ gap))
 
-abbrev pub reach : Period → ℕ
-reach (period control gap) = length control + length gap
+abbrev pub reach : Stretch → ℕ
+reach (stretch control gap) = length control + length gap
 
 -- what it tells at the first column after it
-abbrev pub closing : ℕ → Period → List Told
-closing j (period control gap) = all_at (j + reach (period control gap)) (at_close (j + length control) gap)
+abbrev pub closing : ℕ → Stretch → List Told
+closing j (stretch control gap) = all_at (j + reach (stretch control gap)) (at_close (j + length control) gap)
 
--- periods from column j on, the last of which goes on
-abbrev pub told_from : ℕ → List Period → List Told
+-- stretches from column j on, the last of which goes on
+abbrev pub told_from : ℕ → List Stretch → List Told
 told_from j [] = []
 told_from j (x ∷ []) = so_far j x
 told_from j (x ∷ (y ∷ ys)) = so_far j x ++ (closing j x ++ told_from (j + reach x) (y ∷ ys))
 
 -- what the end tells of the last one
-abbrev pub ending : ℕ → Period → List Thing
-ending j (period control []) = last_run (runs control)
-ending j (period control (g ∷ gap)) = at_end (j + length control) (g ∷ gap)
+abbrev pub ending : ℕ → Stretch → List Thing
+ending j (stretch control []) = last_run (runs control)
+ending j (stretch control (g ∷ gap)) = at_end (j + length control) (g ∷ gap)
 
-abbrev pub end_from : ℕ → List Period → List Thing
+abbrev pub end_from : ℕ → List Stretch → List Thing
 end_from j [] = []
 end_from j (x ∷ []) = ending j x
 end_from j (x ∷ (y ∷ ys)) = end_from (j + reach x) (y ∷ ys)
 
 -- what is told of columns, and at which column each thing
 unfoldable pub heard_so_far : List Column → List Told
-heard_so_far cs = told_from 0 (periods cs)
+heard_so_far cs = told_from 0 (stretches cs)
 
 -- with what the end tells
 unfoldable pub heard : List Column → List Thing
-heard cs = map thing_of (heard_so_far cs) ++ end_from 0 (periods cs)
+heard cs = map thing_of (heard_so_far cs) ++ end_from 0 (stretches cs)

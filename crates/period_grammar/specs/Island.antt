@@ -2,8 +2,8 @@
 -- (HDMI 1.4, sections 5.2.3 and 5.2.3.3). What is told of packets and guards that are not right is this project's own.
 use Rattle.std.specs.Prelude.{ℕ, zero, suc, ◌+◌, ◌*◌, Bool, true, false, not, ◌==◌, ◌&&◌, List, [], ◌∷◌, ◌++◌, length, take, drop, nat_le}
 use Rattle.tmds_word.specs.Column.{Column}
-use Rattle.period_grammar.specs.Column.{is_closing, sync_digit}
-use Rattle.terc4.specs.Columns.{is_island_guard}
+use Rattle.terc4.specs.Columns.{is_island_guard, closes}
+use Rattle.period_grammar.specs.Column.{sync_digit}
 use Rattle.bch_block.specs.declared.Verdict.{Verdict}
 use Rattle.bch_block.specs.declared.Verdict.TheVariants.{Clean, Mended, Lost}
 use Rattle.island_pack.specs.declared.packet.PacketVerdicts.{PacketVerdicts}
@@ -14,9 +14,11 @@ use Rattle.period_grammar.specs.Things.{Thing, packet, symbols, mended, lost, cl
 pub data Payload : Type 0 where
   parts : List (List Column) → List Column → Payload
 
+-- whether columns begin with a closing guard: the one test by which a closing is decided
 abbrev pub begins_close : List Column → Bool
 begins_close [] = false
-begins_close (c ∷ cs) = is_closing c
+begins_close (c ∷ []) = false
+begins_close (c ∷ (d ∷ cs)) = closes c d
 
 -- whether columns begin with a whole packet
 unfoldable pub holds_packet : List Column → Bool
@@ -67,18 +69,25 @@ abbrev pub in_packets : ℕ → ℕ → List (List Column) → List Told
 in_packets s k [] = []
 in_packets s k (p ∷ ps) = all_at (s + 31) (packet_things s k p) ++ in_packets (s + 32) (k + 1) ps
 
+-- each of two columns that is no guard column of its kind, from column s on
+abbrev pub wrong_guards : (Column → Bool) → ℕ → Column → Column → List Thing
+wrong_guards is s c d = if_so (not (is c)) (guard s) ++ if_so (not (is d)) (guard (s + 1))
+
 -- the closing guard at columns s and s + 1 of an island at column b with k packets
 unfoldable pub closing_things : ℕ → ℕ → ℕ → Column → Column → List Thing
 closing_things b s k c d =
-    close_island (sync_digit c.blue) (sync_digit d.blue) ∷
-    (if_so (not (is_island_guard c)) (guard s) ++ (if_so (not (is_island_guard d)) (guard (s + 1)) ++ if_so (k == 0) (empty b)))
+    close_island (sync_digit c.blue) (sync_digit d.blue) ∷ (wrong_guards is_island_guard s c d ++ if_so (k == 0) (empty b))
+
+-- a closing guard from column s on, and what comes after it
+abbrev pub in_closing : ℕ → ℕ → ℕ → List Column → List Told
+in_closing b s k [] = []
+in_closing b s k (c ∷ []) = []
+in_closing b s k (c ∷ (d ∷ [])) = all_at (s + 1) (closing_things b s k c d)
+in_closing b s k (c ∷ (d ∷ (e ∷ cs))) = all_at (s + 1) (closing_things b s k c d) ++ all_at (s + 2) (noise (s + 2) ∷ [])
 
 -- what is left, from column s on
 abbrev pub in_left : ℕ → ℕ → ℕ → List Column → List Told
-in_left b s k [] = []
-in_left b s k (c ∷ []) = []
-in_left b s k (c ∷ (d ∷ [])) = when (is_closing c) (all_at (s + 1) (closing_things b s k c d))
-in_left b s k (c ∷ (d ∷ (e ∷ cs))) = when (is_closing c) (all_at (s + 1) (closing_things b s k c d) ++ all_at (s + 2) (noise (s + 2) ∷ []))
+in_left b s k t = when (begins_close t) (in_closing b s k t)
 
 -- where what is left begins
 abbrev pub left_at : ℕ → List (List Column) → ℕ
@@ -87,11 +96,6 @@ left_at b ps = (b + 2) + 32 * length ps
 unfoldable pub in_island : ℕ → Payload → List Told
 in_island b (parts ps t) = in_packets (b + 2) 0 ps ++ in_left b (left_at b ps) (length ps) t
 
--- whether a packet or the closing guard is not whole
-abbrev pub is_broken : List Column → Bool
-is_broken [] = true
-is_broken (c ∷ []) = true
-is_broken (c ∷ (d ∷ cs)) = not (is_closing c)
-
+-- a packet or closing guard that is not whole
 abbrev pub breaks : (ℕ → Thing) → ℕ → Payload → List Thing
-breaks f b (parts ps t) = if_so (is_broken t) (f (left_at b ps))
+breaks f b (parts ps t) = if_so (not (begins_close t)) (f (left_at b ps))

@@ -2,20 +2,21 @@
 use Rattle.std.specs.Prelude.{◌≡◌, ℕ, ◌<◌, true, false, List, [], ◌∷◌, length, map, take, Option, Some, None}
 use Rattle.period_grammar.specs.Things.{Thing}
 use Rattle.tmds_word.specs.Column.{Column}
-use Rattle.period_grammar.specs.Column.{is_closing, sync_digit}
-use Rattle.terc4.specs.Columns.{is_island_guard}
+use Rattle.terc4.specs.Columns.{is_island_guard, closing_words}
+use Rattle.period_grammar.specs.Column.{sync_digit}
 use Rattle.period_grammar.specs.Island.{Payload, parts, payload, begins_close}
 use Rattle.period_grammar.specs.Packets.{words_of}
 use Rattle.period_grammar.specs.declared.island.Left.{Left}
-use Rattle.period_grammar.specs.declared.island.Left.TheVariants.{Packet, Closing, Closed, Over}
+use Rattle.period_grammar.specs.declared.island.Left.TheVariants.{Packet, First, Closed, Over}
 use Rattle.period_grammar.specs.declared.island.Island.{Island}
 
 abbrev pub IsLeftAfter : Left → ℕ → List (List ℕ) → List Column → Type 0
-IsLeftAfter Packet within block t = (begins_close t ≡ false) × (within ≡ length t) × (take within block ≡ map words_of t)
-IsLeftAfter (Closing digit guard) within block (c ∷ []) = (is_closing c ≡ true) × (digit ≡ sync_digit c.blue) × (guard ≡ is_island_guard c)
-IsLeftAfter Closed within block (c ∷ (d ∷ [])) = is_closing c ≡ true
-IsLeftAfter Over within block (c ∷ (d ∷ (e ∷ r))) = is_closing c ≡ true
-IsLeftAfter (Closing digit guard) within block _ = ⊥
+IsLeftAfter Packet within block t = (begins_close t ≡ false) × (within ≡ length t) × (take within block ≡ map words_of t) × (within ≡ 1 → ⊥)
+IsLeftAfter (First words digit guard) within block (c ∷ []) =
+    (words ≡ closing_words c) × (digit ≡ sync_digit c.blue) × (guard ≡ is_island_guard c) × (take 1 block ≡ words_of c ∷ [])
+IsLeftAfter Closed within block (c ∷ (d ∷ [])) = begins_close (c ∷ (d ∷ [])) ≡ true
+IsLeftAfter Over within block (c ∷ (d ∷ (e ∷ r))) = begins_close (c ∷ (d ∷ (e ∷ r))) ≡ true
+IsLeftAfter (First words digit guard) within block _ = ⊥
 IsLeftAfter Closed within block _ = ⊥
 IsLeftAfter Over within block _ = ⊥
 
@@ -26,8 +27,14 @@ IsPartsAfter left packets within block (parts ps t) = (packets ≡ length ps) ×
 pub record IsIslandAfter (kept : Island) (rest : List Column) : Type 0 where
   pub stands : IsPartsAfter kept.left kept.packets kept.within kept.block (payload rest)
 
+-- the first column alone
+abbrev pub IsOne : Left → ℕ → Type 0
+IsOne (First words digit guard) within = within ≡ 1
+IsOne _ within = Unit {0}
+
 pub record IsBlocked (kept : Island) : Type 0 where
   pub within : kept.within < 32
+  pub first : IsOne kept.left kept.within
 
 abbrev pub at_some : (ℕ → Thing) → Option ℕ → List Thing
 at_some f None = []

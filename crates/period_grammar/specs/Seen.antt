@@ -6,7 +6,7 @@ use Rattle.period_grammar.specs.LineSeen.{LineSeen}
 use Rattle.period_grammar.specs.ControlAfter.{IsCounted}
 use Rattle.period_grammar.specs.declared.control.Kept.{Kept}
 use Rattle.period_grammar.specs.declared.phase.Phase.{Phase}
-use Rattle.period_grammar.specs.declared.phase.Phase.TheVariants.{Control, First, Video, Payload, Noise}
+use Rattle.period_grammar.specs.declared.phase.Phase.TheVariants.{Control, First, Video, Island as InIsland, Noise}
 use Rattle.period_grammar.specs.declared.notes.Note.{Note}
 
 pub record Seen : Type 0 where
@@ -23,7 +23,7 @@ abbrev pub IsPlaced : Phase → ℕ → Island → ℕ → Type 0
 IsPlaced Control count kept n = Unit {0}
 IsPlaced (First start video island digit) count kept n = start + 1 ≡ n
 IsPlaced (Video start) count kept n = (start + 2) + count ≡ n
-IsPlaced (Payload start) count kept n = (start + 2) + (32 * kept.packets + kept.within) ≤ n
+IsPlaced (InIsland start) count kept n = (start + 2) + (32 * kept.packets + kept.within) ≤ n
 IsPlaced Noise count kept n = Unit {0}
 
 pub record IsSound (columns : ℕ) (phase : Phase) (control : Kept) (line : LineSeen) (island : Island) (notes : List Note) : Type 0 where

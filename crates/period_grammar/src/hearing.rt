@@ -1,9 +1,14 @@
 //! Hears columns one after another, and tells what they say.
-ghost use Rattle.std.specs.Prelude.{◌≡◌, ◌<◌, ◌≤◌, ◌+◌, ◌++◌, ◌∷◌, [], List, length, map, true, false, IfOk, slice_get, Some};
+ghost use Rattle.std.specs.Prelude.{◌≡◌, ◌<◌, ◌≤◌, ◌+◌, ◌++◌, ◌∷◌, [], All, List, length, map, take, true, false, IfOk, slice_get, Some};
+ghost use Rattle.std.specs.Bool.{OnTrue, OnFalse};
 ghost use Rattle.tmds_word.specs.Column.{Column, column_of};
 ghost use Rattle.period_grammar.specs.Things.{all_at, thing_of};
 ghost use Rattle.period_grammar.specs.Heard.{heard_so_far, heard};
 ghost use Rattle.period_grammar.specs.Noted.{noted, lent};
+ghost use Rattle.tmds_word.specs.Words.{columns_of};
+ghost use Rattle.period_grammar.specs.Cut.{stretches};
+ghost use Rattle.period_grammar.specs.After.{last};
+ghost use Rattle.period_grammar.specs.GoesOn.{goes_on, count_going_on};
 ghost use Rattle.period_grammar.specs.Stands.{StandsFor};
 ghost use Rattle.period_grammar.specs.Lending.{lent_thing, last_told};
 
@@ -13,11 +18,12 @@ use crate::island::{Island, Whole};
 use crate::line::Line;
 use crate::notes::{Note, Notes};
 use crate::phase::{Phase, close, end, go_on, tell_words};
-use crate::told::{Fault, Told};
+use crate::told::Told;
 use island_pack::PacketRef;
 use outside_io::NoMemory;
 use std::alloc::Global;
 use std::marker::Model;
+use terc4::is_control_column;
 use tmds_word::Word;
 
 /// Hears the columns of a link one after another. It keeps a few numbers of them, the bytes of one line, and one
@@ -48,17 +54,16 @@ impl Hearing {
     pub fn open(alloc: Global) -> Result<Hearing, NoMemory>
         ensures open { IfOk result (λ h. h.finished ≡ false) }
         ensures heard { IfOk result (λ h. StandsFor h []) }
+        ensures quiet { IfOk result (λ h. last_told h ≡ []) }
     {
         let line = Line::open(alloc)?;
-        let island = Island::new();
-        let notes = Notes::open(alloc)?;
         Ok(Hearing {
             columns: 0,
             phase: Phase::Control,
             control: Kept::new(),
             line,
-            island,
-            notes,
+            island: Island::new(),
+            notes: Notes::new(),
             finished: false,
         })
     }
@@ -74,16 +79,102 @@ impl Hearing {
     {
         self.notes.clear();
         // Nearly every column goes on with a run or a line, and tells nothing.
+        if !self.hear_on(column) {
+            self.hear_any(column);
+        }
+    }
+
+    /// Hears the columns of three lanes' words from the first on, as long as they go on with the run or the line that is
+    /// open, and answers how many these are: none where none is open. It tells nothing. `hear` takes the column that
+    /// comes then.
+    pub fn hear_while(&mut self, blue: &[u16], green: &[u16], red: &[u16]) -> usize
+        requires green { length green.now ≡ length blue.now }
+        requires red { length red.now ≡ length blue.now }
+        requires blue_words { All (λ w. w < 1024) blue.now }
+        requires green_words { All (λ w. w < 1024) green.now }
+        requires red_words { All (λ w. w < 1024) red.now }
+        requires few { self.old.columns + length blue.now ≤ 429496730 }
+        requires open { self.old.finished ≡ false }
+        ensures within { result ≤ length blue.now }
+        ensures count { (cs : List Column) → StandsFor self.old cs → result ≡ count_going_on cs (columns_of blue.now green.now red.now) }
+        ensures columns { self.new.columns ≡ self.old.columns + result }
+        ensures open { self.new.finished ≡ false }
+        ensures heard { (cs : List Column) → StandsFor self.old cs → StandsFor self.new (cs ++ take result (columns_of blue.now green.now red.now)) }
+        ensures told { (cs : List Column) → StandsFor self.old cs → heard_so_far (cs ++ take result (columns_of blue.now green.now red.now)) ≡ heard_so_far cs }
+        ensures quiet { last_told self.new ≡ [] }
+    {
+        self.notes.clear();
+        self.hear_front(blue, green, red)
+    }
+
+    /// Forgets all that was heard and told: it is as a fresh one. It takes no memory.
+    pub fn restart(&mut self)
+        ensures open { self.new.finished ≡ false }
+        ensures heard { StandsFor self.new [] }
+        ensures quiet { last_told self.new ≡ [] }
+    {
+        self.columns = 0;
+        self.phase = Phase::Control;
+        self.control = Kept::new();
+        self.notes.clear();
+        self.finished = false;
+    }
+
+    /// Hears columns of three lanes' words as long as they go on, and answers how many these are.
+    fn hear_front(&mut self, blue: &[u16], green: &[u16], red: &[u16]) -> usize
+        requires green { length green.now ≡ length blue.now }
+        requires red { length red.now ≡ length blue.now }
+        requires blue_words { All (λ w. w < 1024) blue.now }
+        requires green_words { All (λ w. w < 1024) green.now }
+        requires red_words { All (λ w. w < 1024) red.now }
+        requires few { self.old.columns + length blue.now ≤ 429496730 }
+        ensures within { result ≤ length blue.now }
+        ensures count { (cs : List Column) → StandsFor self.old cs → result ≡ count_going_on cs (columns_of blue.now green.now red.now) }
+        ensures columns { self.new.columns ≡ self.old.columns + result }
+        ensures open { self.new.finished ≡ self.old.finished }
+        ensures notes { self.new.notes ≡ self.old.notes }
+        ensures heard { (cs : List Column) → StandsFor self.old cs → StandsFor self.new (cs ++ take result (columns_of blue.now green.now red.now)) }
+        ensures told { (cs : List Column) → StandsFor self.old cs → heard_so_far (cs ++ take result (columns_of blue.now green.now red.now)) ≡ heard_so_far cs }
+    {
+        for i in 0..blue.len() {
+            let column = [word(blue[i]), word(green[i]), word(red[i])];
+            if !self.hear_on(&column) {
+                return i;
+            }
+        }
+        blue.len()
+    }
+
+    /// Hears a column that goes on with the run or the line that is open, and says whether it does. Of any other it
+    /// hears nothing.
+    fn hear_on(&mut self, column: &[Word; 3]) -> bool
+        requires { self.old.columns < 429496730 }
+        ensures count { (cs : List Column) → StandsFor self.old cs → result ≡ goes_on (last (stretches cs)) (column_of column.now) }
+        ensures columns { OnTrue result (self.new.columns ≡ self.old.columns + 1) }
+        ensures open { self.new.finished ≡ self.old.finished }
+        ensures notes { self.new.notes ≡ self.old.notes }
+        ensures heard { (cs : List Column) → StandsFor self.old cs → OnTrue result (StandsFor self.new (cs ++ column_of column.now ∷ [])) }
+        ensures told { (cs : List Column) → StandsFor self.old cs → OnTrue result (heard_so_far (cs ++ column_of column.now ∷ []) ≡ heard_so_far cs) }
+        ensures same { OnFalse result (self.new ≡ self.old) }
+    {
         match self.phase {
-            Phase::Control if column::whole_value(column) == Some(self.control.value) => {
+            Phase::Control => {
+                if !self.control.goes_on(column) {
+                    return false;
+                }
                 self.columns += 1;
                 self.control.hear_again();
+                true
             }
-            Phase::Video { .. } if !column::control_column(column) => {
+            Phase::Video { .. } => {
+                if is_control_column(column) {
+                    return false;
+                }
                 self.columns += 1;
                 self.line.hear(column);
+                true
             }
-            _ => self.hear_any(column),
+            Phase::First { .. } | Phase::Island { .. } | Phase::Noise => false,
         }
     }
 
@@ -99,7 +190,7 @@ impl Hearing {
         ensures told { (cs : List Column) → StandsFor self.old cs → heard_so_far (cs ++ column_of column.now ∷ []) ≡ heard_so_far cs ++ all_at (length cs) (last_told self.new) }
     {
         let n = self.columns;
-        if column::control_column(column) {
+        if is_control_column(column) {
             let value = column::column_value(column);
             let mut kept = close(
                 self.phase,
@@ -152,7 +243,7 @@ impl Hearing {
         ensures few { result ≤ 8 }
         ensures count { result ≡ length self.now.notes }
     {
-        self.notes.len() as u8
+        self.notes.len()
     }
 
     /// Lends thing `i` of those that the last call told.
@@ -160,8 +251,19 @@ impl Hearing {
         requires { i < length self.now.notes }
         ensures { slice_get (last_told self.now) i ≡ Some (lent_thing result) }
     {
-        let note = self.notes.get(usize::from(i));
+        let note = self.notes.get(i);
         lend(note, self.line.bytes(), self.island.whole())
+    }
+}
+
+/// The word of a number below 1,024.
+fn word(value: u16) -> Word
+    requires { value < 1024 }
+    ensures { result ≡ value }
+{
+    match Word::new(value) {
+        Some(word) => word,
+        None => unreachable!(),
     }
 }
 
@@ -171,14 +273,6 @@ fn lend<'a>(note: Note, bytes: &'a [u8], whole: &'a Whole) -> Told<'a>
     match note {
         Note::Run { value, count } => Told::Run { value, count },
         Note::Line => Told::Line { pixels: bytes },
-        Note::Word { lane, column } => Told::Fault(Fault::Word { lane, column }),
-        Note::Short { column } => Told::Fault(Fault::Short { column }),
-        Note::Preamble { column } => Told::Fault(Fault::Preamble { column }),
-        Note::Noise { column } => Told::Fault(Fault::Noise { column }),
-        Note::Empty { column } => Told::Fault(Fault::Empty { column }),
-        Note::Code { lane, column } => Told::Fault(Fault::Code { lane, column }),
-        Note::LongLine { column } => Told::Fault(Fault::LongLine { column }),
-        Note::Cut { column } => Told::Cut { column },
         Note::Open { first, second } => Told::Open {
             sync: [first, second],
         },
@@ -186,14 +280,10 @@ fn lend<'a>(note: Note, bytes: &'a [u8], whole: &'a Whole) -> Told<'a>
             packet: PacketRef::new(&whole.packet, &whole.verdicts),
             column,
         },
-        Note::Symbols { column, count } => Told::Fault(Fault::Symbols { column, count }),
-        Note::Mended { column, block, bit } => Told::Fault(Fault::Mended { column, block, bit }),
-        Note::Lost { column, block } => Told::Fault(Fault::Lost { column, block }),
         Note::Close { first, second } => Told::Close {
             sync: [first, second],
         },
-        Note::LongIsland { column } => Told::Fault(Fault::LongIsland { column }),
-        Note::Broken { column } => Told::Fault(Fault::Broken { column }),
-        Note::Guard { column } => Told::Fault(Fault::Guard { column }),
+        Note::Fault(fault) => Told::Fault(fault),
+        Note::Cut { column } => Told::Cut { column },
     }
 }

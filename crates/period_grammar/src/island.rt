@@ -1,7 +1,7 @@
 //! The columns of an island after its opening guard.
 ghost use Rattle.std.specs.Prelude.{◌≡◌, ◌<◌, ◌≤◌, ◌+◌, ◌*◌, ◌^◌, ◌++◌, ◌∷◌, [], List, ℕ, length, take, Bool, true, false, not, ◌==◌};
 ghost use Rattle.tmds_word.specs.Column.{Column, column_of};
-ghost use Rattle.period_grammar.specs.Column.{is_closing, sync_digit};
+ghost use Rattle.period_grammar.specs.Column.{sync_digit};
 ghost use Rattle.terc4.specs.Columns.{is_island_guard};
 ghost use Rattle.period_grammar.specs.Things.{Thing, guard, empty, symbols, long_island};
 ghost use Rattle.period_grammar.specs.Packets.{words_of, packet_of, verdicts_of, packet_in, verdicts_in};
@@ -12,16 +12,18 @@ ghost use Rattle.period_grammar.specs.Noted.{things, Lent, lent};
 
 use crate::column;
 use crate::notes::{Note, Notes};
+use crate::told::Fault;
 use bch_block::Verdict;
 use island_pack::{Packet, PacketVerdicts, take};
-use terc4::terc;
+use terc4::{closing_guard_words, is_island_guard, terc};
 use tmds_word::Word;
 
 /// What the columns after the last whole packet are.
 #[derive(Clone, Copy, Drop)]
 pub enum Left {
     Packet,
-    Closing { digit: u8, guard: bool },
+    /// One column, of a packet or of the closing guard.
+    First { words: u8, digit: u8, guard: bool },
     Closed,
     Over,
 }
@@ -51,12 +53,12 @@ fn tell_block(at: u32, block: u8, verdict: Verdict, notes: &mut Notes)
 {
     match verdict {
         Verdict::Clean => {}
-        Verdict::Mended(bit) => notes.push(Note::Mended {
+        Verdict::Mended(bit) => notes.push(Note::Fault(Fault::Mended {
             column: at,
             block,
             bit,
-        }),
-        Verdict::Lost => notes.push(Note::Lost { column: at, block }),
+        })),
+        Verdict::Lost => notes.push(Note::Fault(Fault::Lost { column: at, block })),
     }
 }
 
@@ -67,7 +69,7 @@ fn tell_symbols(at: u32, count: u8, notes: &mut Notes)
     ensures told { (l : Lent) → things l notes.new ≡ things l notes.old ++ if_so (not (count == 0)) (symbols at count) }
 {
     if count != 0 {
-        notes.push(Note::Symbols { column: at, count });
+        notes.push(Note::Fault(Fault::Symbols { column: at, count }));
     }
 }
 
@@ -78,7 +80,7 @@ fn tell_long(at: u32, packets: u32, notes: &mut Notes)
     ensures told { (l : Lent) → things l notes.new ≡ things l notes.old ++ if_so (packets == 18) (long_island at) }
 {
     if packets == 18 {
-        notes.push(Note::LongIsland { column: at });
+        notes.push(Note::Fault(Fault::LongIsland { column: at }));
     }
 }
 
@@ -118,13 +120,13 @@ fn taken(columns: &[[Word; 3]; 32]) -> Whole
     Whole { packet, verdicts }
 }
 
-fn tell_guard(is_guard: bool, at: u32, notes: &mut Notes)
+pub fn tell_guard(is_guard: bool, at: u32, notes: &mut Notes)
     requires room { length notes.old < 8 }
     ensures room { length notes.new ≤ length notes.old + 1 }
     ensures told { (l : Lent) → things l notes.new ≡ things l notes.old ++ if_so (not is_guard) (guard at) }
 {
     if !is_guard {
-        notes.push(Note::Guard { column: at });
+        notes.push(Note::Fault(Fault::Guard { column: at }));
     }
 }
 
@@ -134,7 +136,7 @@ fn tell_empty(none: bool, start: u32, notes: &mut Notes)
     ensures told { (l : Lent) → things l notes.new ≡ things l notes.old ++ if_so none (empty start) }
 {
     if none {
-        notes.push(Note::Empty { column: start });
+        notes.push(Note::Fault(Fault::Empty { column: start }));
     }
 }
 
@@ -158,7 +160,7 @@ fn tell_close(
         second: column::digit(column::blue(column)),
     });
     tell_guard(guard, at, notes);
-    tell_guard(column::island_column(column), at + 1, notes);
+    tell_guard(is_island_guard(column), at + 1, notes);
     tell_empty(packets == 0, start, notes);
 }
 
@@ -204,19 +206,17 @@ impl Island {
         requires none { self.old.within ≡ 0 }
         requires packet { self.old.left ≡ Left.Packet }
         ensures blocked { IsBlocked self.new }
-        ensures packets { (self.new.packets ≡ self.old.packets) × (self.new.within ≤ 1) }
+        ensures packets { (self.new.packets ≡ self.old.packets) × (self.new.within ≡ 1) }
         ensures whole { self.new.whole ≡ self.old.whole }
         ensures heard { (x : Payload) → IsPartsAfter Left.Packet self.old.packets 0 self.old.block x → IsPartsAfter self.new.left self.new.packets self.new.within self.new.block (after_payload (column_of column.now) x) }
     {
-        if column::closing_column(column) {
-            self.left = Left::Closing {
-                digit: column::digit(column::blue(column)),
-                guard: column::island_column(column),
-            };
-            return;
-        }
         put_column(&mut self.block, 0, column);
         self.within = 1;
+        self.left = Left::First {
+            words: closing_guard_words(column),
+            digit: column::digit(column::blue(column)),
+            guard: is_island_guard(column),
+        };
     }
 
     /// Hears a column, where the island began at column `start`.
@@ -247,12 +247,22 @@ impl Island {
                     self.within += 1;
                 }
             }
-            Left::Closing { digit, guard } => {
-                tell_close(start, at, self.packets, digit, guard, column, notes);
-                self.left = Left::Closed;
+            Left::First {
+                words,
+                digit,
+                guard,
+            } => {
+                if column::at_least(3, words, closing_guard_words(column)) {
+                    tell_close(start, at, self.packets, digit, guard, column, notes);
+                    self.left = Left::Closed;
+                    return;
+                }
+                put_column(&mut self.block, 1, column);
+                self.within = 2;
+                self.left = Left::Packet;
             }
             Left::Closed => {
-                notes.push(Note::Noise { column: at + 2 });
+                notes.push(Note::Fault(Fault::Noise { column: at + 2 }));
                 self.left = Left::Over;
             }
             Left::Over => {}
@@ -265,7 +275,7 @@ impl Island {
         ensures { (rest : List Column) (f : ℕ → Thing) → IsIslandAfter self.now rest → breaks f start (payload rest) ≡ at_some f result }
     {
         match self.left {
-            Left::Packet | Left::Closing { .. } => Some(start + 2 + 32 * self.packets),
+            Left::Packet | Left::First { .. } => Some(start + 2 + 32 * self.packets),
             Left::Closed | Left::Over => None,
         }
     }

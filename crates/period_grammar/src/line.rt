@@ -10,6 +10,7 @@ use crate::column;
 use crate::held::Bytes;
 use crate::lane::Lane;
 use crate::notes::{Note, Notes};
+use crate::told::Fault;
 use outside_io::NoMemory;
 use std::alloc::Global;
 use std::marker::Model;
@@ -87,7 +88,7 @@ impl Line {
         ensures told { (pixels : List Column) (whole : Whole) → IsLineAfter self.now pixels → things (lent self.now.bytes whole) notes.new ≡ line_of start pixels }
     {
         if self.count == 0 {
-            notes.push(Note::Empty { column: start });
+            notes.push(Note::Fault(Fault::Empty { column: start }));
             return;
         }
         notes.push(Note::Line);
@@ -95,7 +96,7 @@ impl Line {
         tell_code(1, start + 2, self.green.first, notes);
         tell_code(2, start + 2, self.red.first, notes);
         if self.count > 4096 {
-            notes.push(Note::LongLine { column: start });
+            notes.push(Note::Fault(Fault::LongLine { column: start }));
         }
     }
 
@@ -119,9 +120,9 @@ fn tell_code(lane: u8, from: u32, first: Option<u32>, notes: &mut Notes)
     ensures told { (bytes : Lent) → things bytes notes.new ≡ things bytes notes.old ++ code_fault lane from first }
 {
     if let Some(i) = first {
-        notes.push(Note::Code {
+        notes.push(Note::Fault(Fault::Code {
             lane,
             column: from + i,
-        });
+        }));
     }
 }

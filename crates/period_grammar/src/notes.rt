@@ -1,85 +1,82 @@
-//! What a call told, whose room is taken once.
-ghost use Rattle.std.specs.Prelude.{◌≡◌, ◌<◌, ◌≤◌, ◌+◌, ◌++◌, ◌∷◌, [], length, IfOk, slice_get, Some};
+//! What a call told.
+ghost use Rattle.std.specs.Prelude.{◌≡◌, ◌<◌, ◌≤◌, ◌+◌, ◌++◌, ◌∷◌, [], length, take, slice_get, Some};
 
-use outside_io::NoMemory;
-use std::alloc::Global;
+use crate::told::Fault;
 use std::marker::Model;
 
-/// A thing that was told, but for the bytes of a line.
+/// A thing that was told, but for the bytes of a line and for a packet.
 #[derive(Clone, Copy, Debug, Drop)]
 pub enum Note {
     Run { value: u8, count: u32 },
     Line,
-    Word { lane: u8, column: u32 },
-    Short { column: u32 },
-    Preamble { column: u32 },
-    Noise { column: u32 },
-    Empty { column: u32 },
-    Code { lane: u8, column: u32 },
-    LongLine { column: u32 },
-    Cut { column: u32 },
     Open { first: u8, second: u8 },
     Packet { column: u32 },
     Close { first: u8, second: u8 },
-    Symbols { column: u32, count: u8 },
-    Mended { column: u32, block: u8, bit: u8 },
-    Lost { column: u32, block: u8 },
-    LongIsland { column: u32 },
-    Broken { column: u32 },
-    Guard { column: u32 },
+    Fault(Fault),
+    Cut { column: u32 },
 }
 
 /// Up to eight things.
 #[derive(Drop)]
 pub struct Notes {
-    list: Vec<Note>,
+    list: [Note; 8],
+    count: u8,
 }
 
 impl Model for Notes {
-    ghost use Rattle.std.specs.Prelude.{List, ◌≤◌, vec_capacity};
+    ghost use Rattle.std.specs.Prelude.{List, ◌≡◌, ◌≤◌, length, take};
     ghost use Rattle.period_grammar.specs.declared.notes.Note.{Note};
 
     ghost Value = { List Note };
 
-    ghost view = { λ n. n.list.items };
+    ghost view = { λ n. take n.count n.list };
 
-    ghost invariant = { λ n. 8 ≤ vec_capacity n.list };
+    ghost invariant = { λ n. (length n.list ≡ 8) × (n.count ≤ 8) };
 }
 
 impl Notes {
-    pub fn open(alloc: Global) -> Result<Notes, NoMemory>
-        ensures { IfOk result (λ n. n ≡ []) }
+    pub fn new() -> Notes
+        ensures { result ≡ [] }
     {
-        let list = Vec::with_capacity(alloc, 8)?;
-        Ok(Notes { list })
+        Notes {
+            list: [Note::Line; 8],
+            count: 0,
+        }
     }
 
     pub fn clear(&mut self)
         ensures { self.new ≡ [] }
     {
-        self.list.clear();
+        self.count = 0;
     }
 
     pub fn push(&mut self, note: Note)
         requires { length self.old < 8 }
         ensures { self.new ≡ self.old ++ note ∷ [] }
     {
-        match self.list.push(note) {
-            Ok(()) => {}
-            Err(_) => unreachable!(),
-        }
+        put(&mut self.list, self.count, note);
+        self.count += 1;
     }
 
-    pub fn len(&self) -> usize
+    pub fn len(&self) -> u8
         ensures { result ≡ length self.now }
     {
-        self.list.len()
+        self.count
     }
 
-    pub fn get(&self, i: usize) -> Note
+    pub fn get(&self, i: u8) -> Note
         requires { i < length self.now }
         ensures { slice_get self.now i ≡ Some result }
     {
-        self.list[i]
+        self.list[usize::from(i)]
     }
+}
+
+/// Puts a thing behind those before a place.
+fn put(list: &mut [Note; 8], at: u8, note: Note)
+    requires { at < 8 }
+    ensures whole { length list.new ≡ 8 }
+    ensures put { take (at + 1) list.new ≡ take at list.old ++ note ∷ [] }
+{
+    list[usize::from(at)] = note;
 }

@@ -4,7 +4,7 @@ ghost use Rattle.tmds_word.specs.Column.{Column, column_of};
 ghost use Rattle.period_grammar.specs.Column.{value_of};
 ghost use Rattle.terc4.specs.Columns.{is_control_column, is_video_guard};
 ghost use Rattle.terc4.specs.Tables.{is_control};
-ghost use Rattle.period_grammar.specs.Cut.{Period};
+ghost use Rattle.period_grammar.specs.Cut.{Stretch};
 ghost use Rattle.period_grammar.specs.Heard.{other_words, other_word};
 ghost use Rattle.period_grammar.specs.After.{gains, grown, gap_of, ends};
 ghost use Rattle.period_grammar.specs.ControlAfter.{IsControlAfter, IsCounted};
@@ -12,13 +12,17 @@ ghost use Rattle.period_grammar.specs.IslandAfter.{IsBlocked, at_some};
 ghost use Rattle.period_grammar.specs.Things.{broken, cut};
 ghost use Rattle.period_grammar.specs.Noted.{things, lent, Lent};
 ghost use Rattle.period_grammar.specs.Seen.{IsPlaced};
-ghost use Rattle.period_grammar.specs.Stands.{IsPeriodAfter, closed, going_on};
+ghost use Rattle.period_grammar.specs.Stands.{IsStretchAfter, closed, going_on};
 
 use crate::column;
-use crate::control::Kept;
-use crate::island::Island;
+use crate::control::{ISLAND_PREAMBLE, Kept, VIDEO_PREAMBLE};
+use crate::island::{Island, tell_guard};
 use crate::line::Line;
 use crate::notes::{Note, Notes};
+use crate::told::Fault;
+use terc4::{
+    is_control_word, is_island_guard, is_video_guard, island_guard_words, video_guard_words,
+};
 use tmds_word::Word;
 
 /// Where in the columns that are no control columns the hearing is.
@@ -27,14 +31,14 @@ pub enum Phase {
     Control,
     First {
         start: u32,
-        video: bool,
-        island: bool,
+        video: u8,
+        island: u8,
         digit: u8,
     },
     Video {
         start: u32,
     },
-    Payload {
+    Island {
         start: u32,
     },
     Noise,
@@ -58,8 +62,8 @@ pub fn close(
     ensures room { length notes.new ≤ 5 }
     ensures counted { IsCounted result }
     ensures few { result.columns ≤ n }
-    ensures told { (x : Period) (b : ℕ) → IsPeriodAfter phase kept line.now island.now n x → b + length (gap_of x) ≡ n → things (lent line.now.bytes island.now.whole) notes.new ≡ closed value b x }
-    ensures kept { (x : Period) → IsPeriodAfter phase kept line.now island.now n x → IsControlAfter result (going_on x) }
+    ensures told { (x : Stretch) (b : ℕ) → IsStretchAfter phase kept line.now island.now n x → b + length (gap_of x) ≡ n → things (lent line.now.bytes island.now.whole) notes.new ≡ closed value b x }
+    ensures kept { (x : Stretch) → IsStretchAfter phase kept line.now island.now n x → IsControlAfter result (going_on x) }
 {
     match phase {
         Phase::Control => {
@@ -67,14 +71,14 @@ pub fn close(
             kept
         }
         Phase::First { start, .. } => {
-            notes.push(Note::Noise { column: start });
+            notes.push(Note::Fault(Fault::Noise { column: start }));
             Kept::new()
         }
         Phase::Video { start } => {
             line.tell(start, notes);
             Kept::new()
         }
-        Phase::Payload { start } => {
+        Phase::Island { start } => {
             tell_broken(island.broken_at(start), notes);
             Kept::new()
         }
@@ -87,8 +91,8 @@ fn tell_word(lane: u8, n: u32, word: Word, notes: &mut Notes)
     ensures room { length notes.new ≤ length notes.old + 1 }
     ensures told { (bytes : Lent) → things bytes notes.new ≡ things bytes notes.old ++ other_word lane n (is_control word) }
 {
-    if !column::control_word(word) {
-        notes.push(Note::Word { lane, column: n });
+    if !is_control_word(word) {
+        notes.push(Note::Fault(Fault::Word { lane, column: n }));
     }
 }
 
@@ -120,16 +124,16 @@ pub fn go_on(
     ensures blocked { IsBlocked island.new }
     ensures room { length notes.new ≤ 8 }
     ensures placed { IsPlaced result line.new.count island.new (n + 1) }
-    ensures told { (x : Period) (b : ℕ) → IsPeriodAfter phase kept.now line.old island.old n x → b + length (gap_of x) ≡ n → things (lent line.new.bytes island.new.whole) notes.new ≡ gains false b n (column_of column.now) x }
-    ensures stands { (x : Period) → IsPeriodAfter phase kept.now line.old island.old n x → IsPeriodAfter result kept.now line.new island.new (n + 1) (grown false (column_of column.now) x) }
+    ensures told { (x : Stretch) (b : ℕ) → IsStretchAfter phase kept.now line.old island.old n x → b + length (gap_of x) ≡ n → things (lent line.new.bytes island.new.whole) notes.new ≡ gains false b n (column_of column.now) x }
+    ensures stands { (x : Stretch) → IsStretchAfter phase kept.now line.old island.old n x → IsStretchAfter result kept.now line.new island.new (n + 1) (grown false (column_of column.now) x) }
 {
     match phase {
         Phase::Control => {
             kept.tell_run(notes);
             Phase::First {
                 start: n,
-                video: column::guard_column(column),
-                island: column::island_column(column),
+                video: video_guard_words(column),
+                island: island_guard_words(column),
                 digit: column::digit(column::blue(column)),
             }
         }
@@ -139,26 +143,30 @@ pub fn go_on(
             island: opens,
             digit,
         } => {
-            if video & column::guard_column(column) {
-                kept.tell_video(start, notes);
+            if column::at_least(5, video, video_guard_words(column)) {
+                kept.tell_lacks(start, VIDEO_PREAMBLE, notes);
+                tell_guard(video == 3, start, notes);
+                tell_guard(is_video_guard(column), start + 1, notes);
                 line.clear();
                 return Phase::Video { start };
             }
-            if opens & column::island_column(column) {
-                kept.tell_island(start, notes);
+            if column::at_least(5, opens, island_guard_words(column)) {
+                kept.tell_lacks(start, ISLAND_PREAMBLE, notes);
                 notes.push(Note::Open {
                     first: digit,
                     second: column::digit(column::blue(column)),
                 });
+                tell_guard(opens == 3, start, notes);
+                tell_guard(is_island_guard(column), start + 1, notes);
                 island.clear();
-                return Phase::Payload { start };
+                return Phase::Island { start };
             }
-            notes.push(Note::Noise { column: start });
+            notes.push(Note::Fault(Fault::Noise { column: start }));
             Phase::Noise
         }
-        Phase::Payload { start } => {
+        Phase::Island { start } => {
             island.hear(start, column, notes);
-            Phase::Payload { start }
+            Phase::Island { start }
         }
         Phase::Video { start } => {
             line.hear(column);
@@ -174,13 +182,13 @@ pub fn end(phase: Phase, n: u32, kept: &Kept, line: &Line, island: &Island, note
     requires room { length notes.old ≤ 0 }
     requires placed { IsPlaced phase line.now.count island.now n }
     ensures room { length notes.new ≤ 8 }
-    ensures told { (x : Period) (b : ℕ) → IsPeriodAfter phase kept.now line.now island.now n x → b + length (gap_of x) ≡ n → things (lent line.now.bytes island.now.whole) notes.new ≡ ends b x }
+    ensures told { (x : Stretch) (b : ℕ) → IsStretchAfter phase kept.now line.now island.now n x → b + length (gap_of x) ≡ n → things (lent line.now.bytes island.now.whole) notes.new ≡ ends b x }
 {
     match phase {
         Phase::Control => kept.tell_run(notes),
         Phase::First { start, .. } => notes.push(Note::Cut { column: start }),
         Phase::Video { start } => notes.push(Note::Cut { column: start + 2 }),
-        Phase::Payload { start } => tell_cut(island.broken_at(start), notes),
+        Phase::Island { start } => tell_cut(island.broken_at(start), notes),
         Phase::Noise => {}
     }
 }
@@ -191,7 +199,7 @@ fn tell_broken(at: Option<u32>, notes: &mut Notes)
     ensures told { (bytes : Lent) → things bytes notes.new ≡ at_some broken at }
 {
     if let Some(column) = at {
-        notes.push(Note::Broken { column });
+        notes.push(Note::Fault(Fault::Broken { column }));
     }
 }
 

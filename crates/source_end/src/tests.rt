@@ -460,10 +460,11 @@ impl ColumnSink for Columns {
     ghost refusals = { λ s. s.refusals };
 
     fn column(&mut self, words: [Word; 3]) -> Result<(), NoMemory> {
+        let raised = self.refusals.saturating_add(1);
         match self.words.push(words) {
             Ok(()) => Ok(()),
             Err(_) => {
-                self.refusals = self.refusals.saturating_add(1);
+                self.refusals = raised;
                 Err(NoMemory)
             }
         }

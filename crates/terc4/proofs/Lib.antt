@@ -3,3 +3,4 @@ pub mod Choices
 pub mod Entries
 pub mod Words
 pub mod Example
+pub mod Counts

@@ -1,7 +1,9 @@
 -- What holds of the words of the tables: how they look in the order in which they are sent, and that they are apart.
-use Rattle.std.specs.Prelude.{ℕ, ◌≡◌, ◌<◌, ◌≤◌, ◌-◌, ◌⊎◌, Bool, true, false, not, List, [], ◌∷◌, length, take, drop, slice_index, None}
+use Rattle.std.specs.Prelude.{ℕ, ◌≡◌, ◌<◌, ◌≤◌, ◌-◌, ◌⊎◌, Bool, true, false, not, List, [], ◌∷◌, length, take, drop, slice_index, None, ◌==◌}
 use Rattle.tmds_word.specs.Bits.{word_bits, turns}
+use Rattle.tmds_word.specs.Column.{Column}
 use Rattle.terc4.specs.Tables.{terc_words, island_guard, value_in, is_control, is_terc, is_guard}
+use Rattle.terc4.specs.Columns.{is_video_guard, is_island_guard, video_words, island_words}
 
 -- a control word has seven or eight turns (HDMI 1.4, section 5.4.2)
 abbrev pub ControlTurns : Type 0
@@ -50,6 +52,14 @@ abbrev pub ControlOverlap : Type 0
 ControlOverlap =
     (v w k : ℕ) → is_control v ≡ true → is_control w ≡ true → k ≤ 10
     → drop (10 - k) (word_bits v) ≡ take k (word_bits w) → (k ≤ 2) ⊎ (k ≡ 10)
+
+-- a column opens a video period where three of its words are those that do
+abbrev pub VideoGuardWords : Type 0
+VideoGuardWords = (c : Column) → (video_words c == 3) ≡ is_video_guard c
+
+-- and it opens or closes a data island where three of its words are those that do
+abbrev pub IslandGuardWords : Type 0
+IslandGuardWords = (c : Column) → (island_words c == 3) ≡ is_island_guard c
 
 -- what meets the premises of each: words of each kind, and control words of which the one ends as the other begins
 pub record IsExample (control terc guard quiet v w k : ℕ) : Type 0 where

@@ -2,7 +2,7 @@
 -- Each is a number whose bit 0 is q[0], the bit that is sent first.
 use Rattle.std.specs.Prelude.{ℕ, Bool, false, List, [], ◌∷◌, ◌==◌, ◌||◌, Option, position}
 
--- the control words, by the two bits D1 D0 that they carry (DVI 1.0, section 3.2; HDMI 1.4, section 5.4.2)
+-- the control words, by the two bits D1 D0 that they carry (DVI 1.0, section 3.2.2; HDMI 1.4, section 5.4.2)
 unfoldable pub control_words : List ℕ
 control_words = 0x354 ∷ 0x0ab ∷ 0x154 ∷ 0x2ab ∷ []
 

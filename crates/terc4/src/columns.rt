@@ -1,8 +1,8 @@
 //! The kinds of columns.
-ghost use Rattle.std.specs.Prelude.{◌≡◌, ◌+◌};
+ghost use Rattle.std.specs.Prelude.{◌≡◌, ◌+◌, ◌≤◌};
 ghost use Rattle.tmds_word.specs.Column.{column_of};
 ghost use Rattle.terc4.specs.Tables.{terc_words, value_in, is_control};
-ghost use Rattle.terc4.specs.Columns.{one_if, is_video_guard, is_island_guard, is_twelve_or_more};
+ghost use Rattle.terc4.specs.Columns.{one_if, is_control_column, is_video_guard, is_island_guard, is_twelve_or_more, video_words, closing_words, island_words};
 ghost use Rattle.terc4.specs.Kinds.{kind_of};
 
 use crate::tables::{ISLAND_GUARD, VIDEO_GUARD};
@@ -29,23 +29,71 @@ pub enum ColumnKind {
 pub fn column_kind(words: &[Word; 3]) -> ColumnKind
     ensures { result ≡ kind_of (column_of words.now) }
 {
-    let [blue, green, red] = *words;
-    kind(blue, green, red)
-}
-
-/// The kind of a column of three words.
-fn kind(blue: Word, green: Word, red: Word) -> ColumnKind
-    ensures { result ≡ kind_of (record { blue = blue; green = green; red = red }) }
-{
-    if controls(blue, green, red) >= ENOUGH {
+    if is_control_column(words) {
         ColumnKind::Control
-    } else if opens_video(blue, green, red) {
+    } else if is_video_guard(words) {
         ColumnKind::VideoGuard
-    } else if bounds_island(blue, green, red) {
+    } else if is_island_guard(words) {
         ColumnKind::IslandGuard
     } else {
         ColumnKind::Other
     }
+}
+
+/// Whether two or three of the words of lanes 0, 1 and 2 are control words: the kind is `Control`.
+#[tactic(auto, unfolding(crate::specs::Columns::is_control_column))]
+pub fn is_control_column(words: &[Word; 3]) -> bool
+    ensures { result ≡ is_control_column (column_of words.now) }
+{
+    controls(words[0], words[1], words[2]) >= ENOUGH
+}
+
+/// Whether the words of lanes 0, 1 and 2 are those that open a video period (HDMI 1.4, section 5.2.2.1).
+pub fn is_video_guard(words: &[Word; 3]) -> bool
+    ensures { result ≡ is_video_guard (column_of words.now) }
+{
+    video_guard_words(words) == 3
+}
+
+/// Whether the words of lanes 0, 1 and 2 are those that open and close a data island (HDMI 1.4, section 5.2.3.3).
+pub fn is_island_guard(words: &[Word; 3]) -> bool
+    ensures { result ≡ is_island_guard (column_of words.now) }
+{
+    island_guard_words(words) == 3
+}
+
+/// How many of the words of lanes 0, 1 and 2 are those that open a video period (HDMI 1.4, section 5.2.2.1): three are
+/// in a column of kind `VideoGuard`, fewer where words came damaged.
+#[tactic(auto, unfolding(crate::specs::Columns::video_words, crate::specs::Columns::one_if, crate::specs::Tables::video_guard))]
+pub fn video_guard_words(words: &[Word; 3]) -> u8
+    ensures count { result ≡ video_words (column_of words.now) }
+    ensures most { result ≤ 3 }
+{
+    let blue = words[0].value() == VIDEO_GUARD[0];
+    let green = words[1].value() == VIDEO_GUARD[1];
+    let red = words[2].value() == VIDEO_GUARD[2];
+    u8::from(blue) + u8::from(green) + u8::from(red)
+}
+
+/// How many of the words of lanes 1 and 2 are the guard word of a data island (HDMI 1.4, section 5.2.3.3).
+#[tactic(auto, unfolding(crate::specs::Columns::closing_words, crate::specs::Columns::one_if, crate::specs::Tables::island_guard))]
+pub fn closing_guard_words(words: &[Word; 3]) -> u8
+    ensures count { result ≡ closing_words (column_of words.now) }
+    ensures most { result ≤ 2 }
+{
+    let green = words[1].value() == ISLAND_GUARD;
+    let red = words[2].value() == ISLAND_GUARD;
+    u8::from(green) + u8::from(red)
+}
+
+/// How many of the words of lanes 0, 1 and 2 are those that open and close a data island (HDMI 1.4, section 5.2.3.3):
+/// three are in a column of kind `IslandGuard`, fewer where words came damaged.
+#[tactic(auto, unfolding(crate::specs::Columns::island_words, crate::specs::Columns::one_if))]
+pub fn island_guard_words(words: &[Word; 3]) -> u8
+    ensures count { result ≡ island_words (column_of words.now) }
+    ensures most { result ≤ 3 }
+{
+    u8::from(is_island_guard_on_blue(words[0])) + closing_guard_words(words)
 }
 
 /// How many of three words are control words.
@@ -57,22 +105,8 @@ fn controls(blue: Word, green: Word, red: Word) -> u8
         + u8::from(is_control_word(red))
 }
 
-/// Whether three words are those that open a video period.
-fn opens_video(blue: Word, green: Word, red: Word) -> bool
-    ensures { result ≡ is_video_guard (record { blue = blue; green = green; red = red }) }
-{
-    [blue.value(), green.value(), red.value()] == VIDEO_GUARD
-}
-
-/// Whether three words are those that open and close a data island.
-fn bounds_island(blue: Word, green: Word, red: Word) -> bool
-    ensures { result ≡ is_island_guard (record { blue = blue; green = green; red = red }) }
-{
-    is_island_guard_on_blue(blue) && [green.value(), red.value()] == [ISLAND_GUARD; 2]
-}
-
 /// Whether a word is one of the four control words.
-fn is_control_word(word: Word) -> bool
+pub fn is_control_word(word: Word) -> bool
     ensures { result ≡ is_control word }
 {
     control_of(word).is_some()

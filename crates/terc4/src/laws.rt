@@ -1,6 +1,6 @@
 //! What holds of the words of the tables. The functions do nothing: what they ensure is the law.
 ghost use Rattle.terc4.specs.Tables.{control_words, terc_words};
-ghost use Rattle.terc4.specs.Laws.{ControlTurns, TercTurns, GuardTurns, FewTurns, TercApart, GuardApart, IslandGuardApart, AreDistinct, ControlShape, ControlOverlap, HasExample};
+ghost use Rattle.terc4.specs.Laws.{ControlTurns, TercTurns, GuardTurns, FewTurns, TercApart, GuardApart, IslandGuardApart, AreDistinct, ControlShape, ControlOverlap, VideoGuardWords, IslandGuardWords, HasExample};
 
 /// A control word has seven or eight turns.
 pub fn control_turns()
@@ -57,6 +57,12 @@ pub fn control_shape()
 /// one, two or all ten.
 pub fn control_overlap()
     ensures { ControlOverlap }
+{}
+
+/// A column is a guard column where all three of its words are those of one.
+pub fn guard_words()
+    ensures video { VideoGuardWords }
+    ensures island { IslandGuardWords }
 {}
 
 /// There are words that meet the premises of these laws.

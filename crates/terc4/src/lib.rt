@@ -7,7 +7,10 @@ pub mod laws;
 mod tables;
 mod values;
 
-pub use columns::{ColumnKind, column_kind};
+pub use columns::{
+    ColumnKind, closing_guard_words, column_kind, is_control_column, is_control_word,
+    is_island_guard, is_video_guard, island_guard_words, video_guard_words,
+};
 pub use values::{control, control_of, nibble, terc};
 
 #[cfg(test)]

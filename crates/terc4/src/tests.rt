@@ -1,6 +1,9 @@
 //! Each of the 1,024 words, and columns of each kind, compared with values that were computed apart
 //! from this crate.
-use crate::{ColumnKind, column_kind, control, control_of, nibble, terc};
+use crate::{
+    ColumnKind, closing_guard_words, column_kind, control, control_of, island_guard_words, nibble,
+    terc, video_guard_words,
+};
 use std::test::*;
 use tmds_word::Word;
 
@@ -96,6 +99,33 @@ fn kinds(rt: HostRuntime) -> Result<(), Fail> {
             kind,
             "at {blue:?} {green:?} {red:?}"
         );
+    }
+    Ok(())
+}
+
+/// Columns, and how many of their words are right in a guard of a video period, in one of an island, and in a closing
+/// guard: with 2cc, 133, 2cc before a video period and 28e (12), 133, 133 of an island as the standard has them.
+static GUARD_WORDS: [([u16; 3], [u8; 3]); 5] = [
+    ([0x2cc, 0x133, 0x2cc], [3, 1, 1]),
+    ([0x2cc, 0x133, 0x2cd], [2, 1, 1]),
+    ([0x28e, 0x133, 0x133], [1, 3, 2]),
+    ([0x28e, 0x133, 0x000], [1, 2, 1]),
+    ([0x354, 0x354, 0x354], [0, 0, 0]),
+];
+
+#[test]
+fn counts_of_guard_words(rt: HostRuntime) -> Result<(), Fail> {
+    for &([blue, green, red], want) in &GUARD_WORDS {
+        let blue = Word::new(blue).ok_or("ten bits")?;
+        let green = Word::new(green).ok_or("ten bits")?;
+        let red = Word::new(red).ok_or("ten bits")?;
+        let column = [blue, green, red];
+        let counts = [
+            video_guard_words(&column),
+            island_guard_words(&column),
+            closing_guard_words(&column),
+        ];
+        assert_eq!(rt; counts, want, "at {blue:?} {green:?} {red:?}");
     }
     Ok(())
 }

@@ -1,5 +1,5 @@
 -- TMDS video coding: the character of a byte at a disparity, and the byte of a character.
--- DVI 1.0, section 3.3.1 with figure 3-5 (encoder), and section 3.3.3 with figure 3-6 (decoder).
+-- DVI 1.0, section 3.2.2 with figure 3-5 (encoder), and section 3.3.3 with figure 3-6 (decoder).
 use Rattle.std.specs.Prelude.{◌≡◌, ℕ, Bool, true, false, not, if◌then◌else◌, List, [], ◌∷◌, ◌++◌, nat_lt, ◌==◌, ◌&&◌, ◌||◌, ℤ, pos, negsuc}
 use Rattle.std.proofs.Common.{suc, zero}
 use Rattle.tmds_word.specs.Bits.{bits_of, word_bits, number, ones, balance}

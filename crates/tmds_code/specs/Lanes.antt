@@ -1,4 +1,4 @@
--- One lane of a video period, whose disparity starts at 0 with the first pixel. DVI 1.0, section 3.3.1.
+-- One lane of a video period, whose disparity starts at 0 with the first pixel. DVI 1.0, section 3.2.2.
 use Rattle.std.specs.Prelude.{◌≡◌, ℕ, ◌<◌, List, [], ◌∷◌, length, take, slice_index, ℤ, pos, ◌+ℤ◌}
 use Rattle.tmds_word.specs.Bits.{word_bits, balance}
 use Rattle.tmds_code.specs.Coding.{Coded}

@@ -1,5 +1,5 @@
 //! The coder of one lane of a video period.
-ghost use Rattle.std.specs.Prelude.{◌≡◌, ℕ, ◌≤ℤ◌, ◌%◌, ◌++◌, ◌∷◌, [], List, pos, negsuc};
+ghost use Rattle.std.specs.Prelude.{◌≡◌, ℕ, ◌*◌, ◌-ℤ◌, ◌≤ℤ◌, ◌%◌, ◌++◌, ◌∷◌, [], List, pos, negsuc};
 ghost use Rattle.tmds_code.specs.Coding.{Coded};
 ghost use Rattle.tmds_code.specs.Pasts.{IsCoderAfter};
 
@@ -46,6 +46,7 @@ impl VideoCoder {
     /// The ones minus the zeros of the characters given so far: even, and from -8 to 8.
     pub fn disparity(&self) -> i32
         ensures value { result ≡ self.now }
+        ensures even { (k : ℕ) × (result ≡ pos (2 * k) -ℤ pos 8) }
         ensures low { negsuc 7 ≤ℤ result }
         ensures high { result ≤ℤ pos 8 }
     {

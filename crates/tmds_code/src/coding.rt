@@ -7,7 +7,7 @@ use crate::tables;
 use tmds_word::Word;
 
 /// The character that codes a byte at a disparity, which is the ones minus the zeros of the
-/// characters sent before (DVI 1.0, section 3.3.1).
+/// characters sent before (DVI 1.0, section 3.2.2 with figure 3-5).
 pub fn encode(byte: u8, disparity: i32) -> Word
     ensures { Coded disparity byte result }
 {
@@ -18,7 +18,7 @@ pub fn encode(byte: u8, disparity: i32) -> Word
     }
 }
 
-/// The byte that a character carries; each of the 1,024 has one (DVI 1.0, section 3.3.3).
+/// The byte that a character carries; each of the 1,024 has one (DVI 1.0, section 3.3.3 with figure 3-6).
 pub fn decode(word: Word) -> u8
     ensures { result ≡ decoded_byte word }
 {

@@ -1,3 +1,5 @@
 pub mod Bits
 pub mod Column
 pub mod Cuts
+pub mod Words
+pub mod Taps

@@ -1,5 +1,5 @@
 //! What takes columns one after another.
-ghost use Rattle.std.specs.Prelude.{◌≡◌, ◌<◌, ◌++◌, ◌∷◌, [], ℕ, List, length, OnOk, OnErr};
+ghost use Rattle.std.specs.Prelude.{◌≡◌, ◌<◌, ◌^◌, ◌++◌, ◌∷◌, [], ℕ, List, length, OnOk, OnErr};
 ghost use Rattle.outside_io.specs.Causes.{HasCause};
 ghost use Rattle.tmds_word.specs.Column.{Column, column_of};
 
@@ -19,5 +19,6 @@ pub trait ColumnSink {
         requires { length (taken self.old) < 429496729 }
         ensures ok { OnOk result (taken self.new ≡ taken self.old ++ column_of words ∷ []) }
         ensures err { OnErr result (taken self.new ≡ taken self.old) }
-        ensures cause { HasCause (refusals self.old) (refusals self.new) result };
+        ensures cause { HasCause (refusals self.old) (refusals self.new) result }
+        ensures counted { refusals self.new < 2 ^ 64 };
 }

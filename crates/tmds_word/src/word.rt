@@ -5,7 +5,7 @@ ghost use Rattle.tmds_word.specs.Bits.{bit, word_bits, turns, balance};
 use std::marker::Model;
 
 /// A TMDS character: ten bits, seen as a number below 1024 whose bit 0 is q\[0\], which is sent
-/// first (DVI 1.0, section 3.2).
+/// first (DVI 1.0, section 3.2.3).
 #[derive(Clone, Copy, Debug, PartialEq, Eq)]
 pub struct Word {
     value: u16,

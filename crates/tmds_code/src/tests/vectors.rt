@@ -1,5 +1,5 @@
 //! Characters, bytes and answers worked out apart from this crate, by a model of DVI 1.0,
-//! sections 3.3.1 and 3.3.3, in another language.
+//! sections 3.2.2 and 3.3.3, in another language.
 
 /// The characters of all bytes at the disparities from the first number to the second.
 pub(super) static CODED: [(i32, i32, [u16; 256]); 3] = [

@@ -30,8 +30,8 @@ returns-in-Err-clause-ends g c =
     between (λ x y. ListEnds check_text c.args.rows.now c.in-Err.ending (g.K.Sink.held x) (g.K.Sink.held y) (g.K.Sink.faults x) (g.K.Sink.faults y)) c.args.output.now _ _ _ c.open-lister.ensures.sink same
     (unheard check_text check_lines last_check (λ (l : CheckLister g.row.K.Denot). g.K.Sink.held l.sink.now) _ _ c.args.rows.now c.in-Err.ending c.open-lister.result c.hear_rows.new.lister _ _ check_is_text c.in-Err.ensures.ends (λ x y things taken. taken.2)
     (λ x y thing broken.
-    let line = sym (checked_line thing broken.1.2) in (
-      broken.1.0,
-      subst (λ (bytes : List ℕ). broken.1.0 < length bytes) line broken.1.1,
-      subst (λ (bytes : List ℕ). Appends (g.K.Sink.held x.sink.now) (g.K.Sink.held y.sink.now) (take broken.1.0 bytes)) line broken.1.3,
+    let line = sym (checked_line thing broken.2.2) in (
+      broken.2.0,
+      subst (λ (bytes : List ℕ). broken.2.0 < length bytes) line broken.2.1,
+      subst (λ (bytes : List ℕ). Appends (g.K.Sink.held x.sink.now) (g.K.Sink.held y.sink.now) (take broken.2.0 bytes)) line broken.2.3,
     )))

@@ -20,4 +20,4 @@ pub returns-in-Err-clause-ends : goal.returns-in-Err-clause-ends
 returns-in-Err-clause-ends g c =
     let same : c.in-Err.output-in-Err-1-own.given.0 ≡ c.hear_rows.new.lister.sink.now = search rules in
     between (λ x y. ListEnds link_text c.args.rows.now c.in-Err.ending (g.K.Sink.held x) (g.K.Sink.held y) (g.K.Sink.faults x) (g.K.Sink.faults y)) c.args.output.now _ _ _ c.open-lister.ensures.sink same
-    (unheard link_text lines_of last_link (λ (l : LinkLister g.row.K.Denot). g.K.Sink.held l.sink.now) _ _ c.args.rows.now c.in-Err.ending c.open-lister.result c.hear_rows.new.lister _ _ link_is_text c.in-Err.ensures.ends (λ x y things taken. taken.2) (λ x y thing broken. broken.1))
+    (unheard link_text lines_of last_link (λ (l : LinkLister g.row.K.Denot). g.K.Sink.held l.sink.now) _ _ c.args.rows.now c.in-Err.ending c.open-lister.result c.hear_rows.new.lister _ _ link_is_text c.in-Err.ensures.ends (λ x y things taken. taken.2) (λ x y thing broken. broken.2))

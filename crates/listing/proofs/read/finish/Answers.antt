@@ -3,8 +3,13 @@ use Rattle.std.specs.Prelude.{Option}
 use Rattle.listing.specs.declared.fault.ListCause.TheVariants.{After}
 use Rattle.listing.specs.declared.fault.ListError.TheVariants.{Bad}
 use Rattle.listing.specs.Held.{IsNext, IsRest}
-use Rattle.listing.proofs.Steps.{nothing_follows, something_follows}
+use Rattle.listing.proofs.Steps.{nothing_follows, something_follows, pending_after}
 use Rattle.listing.proofs.read.finish.Goals as goal
+
+pub returns-then-is_ahead-clause-answers : goal.returns-then-is_ahead-clause-answers
+returns-then-is_ahead-clause-answers g c = λ left known.
+    pending_after c.args.reader.line c.args.reader.draft.periods left c.args.lines.now _ (c.is_ahead.ensures.yes c.if-is_ahead.true)
+    (c.bad.ensures ∙ ap (λ (n : ℕ). Bad (record { line = n; cause = After })) c.line-line.ensures)
 
 pub returns-then-not-is_nothing-clause-answers : goal.returns-then-not-is_nothing-clause-answers
 returns-then-not-is_nothing-clause-answers g c = λ left known.
@@ -12,7 +17,7 @@ returns-then-not-is_nothing-clause-answers g c = λ left known.
     let given = subst (λ (l : Option (List ℕ)). IsNext l (g.S.Source.left c.next.new.source) c.args.lines.now now c.in-Ok.piece) known c.in-Ok.ensures.given in
     something_follows c.args.reader.line c.args.reader.draft.periods left _ c.args.lines.now now c.in-Ok.piece _ given
     (λ is. subst (λ (l : List ℕ). 1 ≤ length l) c.line.ensures (c.is_nothing.ensures.no c.if-not-is_nothing.true is))
-    (c.bad.ensures ∙ ap (λ (n : ℕ). Bad (record { line = n; cause = After })) c.line-line.ensures)
+    (c.bad-then-not-is_nothing.ensures ∙ ap (λ (n : ℕ). Bad (record { line = n; cause = After })) c.line-line.ensures)
 
 pub returns-in-Ok-close-clause-answers : goal.returns-in-Ok-close-clause-answers
 returns-in-Ok-close-clause-answers g c = λ left known.

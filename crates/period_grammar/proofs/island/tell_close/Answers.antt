@@ -6,6 +6,6 @@ use Rattle.period_grammar.proofs.island.tell_close.Goals as goal
 
 pub returns-clause-told : goal.returns-clause-told
 returns-clause-told c l d e f =
-    close_noted l c.args.start c.args.at c.args.packets c.args.digit c.digit.result c.args.guard c.island_column.result (c.args.packets == 0) d (column_of c.args.column.now)
+    close_noted l c.args.start c.args.at c.args.packets c.args.digit c.digit.result c.args.guard c.is_island_guard.result (c.args.packets == 0) d (column_of c.args.column.now)
     _ _ _ _ _ c.requires.room c.push.ensures (c.tell_guard.ensures.told l) (c.tell_guard-2.ensures.told l) (c.tell_empty.ensures.told l)
-    e (c.digit.ensures ∙ ap sync_digit c.blue.ensures) f c.island_column.ensures refl
+    e (c.digit.ensures ∙ ap sync_digit c.blue.ensures) f c.is_island_guard.ensures refl

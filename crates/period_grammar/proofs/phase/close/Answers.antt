@@ -1,5 +1,5 @@
 use Rattle.std.proofs.Common.{subst}
-use Rattle.period_grammar.specs.Stands.{IsPeriodAfter}
+use Rattle.period_grammar.specs.Stands.{IsStretchAfter}
 use Rattle.period_grammar.specs.Noted.{lent}
 use Rattle.period_grammar.specs.declared.phase.Phase.{Phase}
 use Rattle.period_grammar.proofs.Leads.{no_notes}
@@ -8,17 +8,17 @@ use Rattle.period_grammar.proofs.Phases.{close_control, close_first, close_video
 use Rattle.period_grammar.proofs.phase.close.Goals as goal
 
 pub returns-in-Control-clause-told : goal.returns-in-Control-clause-told
-returns-in-Control-clause-told c x b was e = close_control c.args.kept c.args.line.now c.args.island.now c.args.n _ _ (λ control h. c.tell_change.ensures.told control (lent c.args.line.now.bytes c.args.island.now.whole) h) x b (subst (λ (p : Phase). IsPeriodAfter p c.args.kept c.args.line.now c.args.island.now c.args.n x) c.in-Control.is was)
+returns-in-Control-clause-told c x b was e = close_control c.args.kept c.args.line.now c.args.island.now c.args.n _ _ (λ control h. c.tell_change.ensures.told control (lent c.args.line.now.bytes c.args.island.now.whole) h) x b (subst (λ (p : Phase). IsStretchAfter p c.args.kept c.args.line.now c.args.island.now c.args.n x) c.in-Control.is was)
 
 pub returns-in-First-clause-told : goal.returns-in-First-clause-told
-returns-in-First-clause-told c x b was e = close_first c.args.kept c.args.line.now c.args.island.now c.args.n _ _ _ _ _ _ (pushed (lent c.args.line.now.bytes c.args.island.now.whole) _ _ _ c.requires.room c.push.ensures) x b (subst (λ (p : Phase). IsPeriodAfter p c.args.kept c.args.line.now c.args.island.now c.args.n x) c.in-First.is was) e
+returns-in-First-clause-told c x b was e = close_first c.args.kept c.args.line.now c.args.island.now c.args.n _ _ _ _ _ _ (pushed (lent c.args.line.now.bytes c.args.island.now.whole) _ _ _ c.requires.room c.push.ensures) x b (subst (λ (p : Phase). IsStretchAfter p c.args.kept c.args.line.now c.args.island.now c.args.n x) c.in-First.is was) e
 
 pub returns-in-Video-clause-told : goal.returns-in-Video-clause-told
-returns-in-Video-clause-told c x b was e = close_video c.args.kept c.args.line.now c.args.island.now c.args.n _ _ _ (λ pixels h. c.tell.ensures.told pixels c.args.island.now.whole h) x b (subst (λ (p : Phase). IsPeriodAfter p c.args.kept c.args.line.now c.args.island.now c.args.n x) c.in-Video.is was) e
+returns-in-Video-clause-told c x b was e = close_video c.args.kept c.args.line.now c.args.island.now c.args.n _ _ _ (λ pixels h. c.tell.ensures.told pixels c.args.island.now.whole h) x b (subst (λ (p : Phase). IsStretchAfter p c.args.kept c.args.line.now c.args.island.now c.args.n x) c.in-Video.is was) e
 
-pub returns-in-Payload-clause-told : goal.returns-in-Payload-clause-told
-returns-in-Payload-clause-told c x b was e =
-    close_payload c.args.kept c.args.line.now c.args.island.now c.args.n _ _ _ _ (c.tell_broken.ensures.told (lent c.args.line.now.bytes c.args.island.now.whole)) c.broken_at.ensures x b (subst (λ (p : Phase). IsPeriodAfter p c.args.kept c.args.line.now c.args.island.now c.args.n x) c.in-Payload.is was) e
+pub returns-in-Island-clause-told : goal.returns-in-Island-clause-told
+returns-in-Island-clause-told c x b was e =
+    close_payload c.args.kept c.args.line.now c.args.island.now c.args.n _ _ _ _ (c.tell_broken.ensures.told (lent c.args.line.now.bytes c.args.island.now.whole)) c.broken_at.ensures x b (subst (λ (p : Phase). IsStretchAfter p c.args.kept c.args.line.now c.args.island.now c.args.n x) c.in-Island.is was) e
 
 pub returns-in-Noise-clause-told : goal.returns-in-Noise-clause-told
-returns-in-Noise-clause-told c x b was e = close_noise c.args.kept c.args.line.now c.args.island.now c.args.n _ _ (no_notes (lent c.args.line.now.bytes c.args.island.now.whole) _ c.requires.room) x b (subst (λ (p : Phase). IsPeriodAfter p c.args.kept c.args.line.now c.args.island.now c.args.n x) c.in-Noise.is was)
+returns-in-Noise-clause-told c x b was e = close_noise c.args.kept c.args.line.now c.args.island.now c.args.n _ _ (no_notes (lent c.args.line.now.bytes c.args.island.now.whole) _ c.requires.room) x b (subst (λ (p : Phase). IsStretchAfter p c.args.kept c.args.line.now c.args.island.now c.args.n x) c.in-Noise.is was)

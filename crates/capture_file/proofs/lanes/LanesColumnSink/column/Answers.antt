@@ -1,12 +1,12 @@
 use Rattle.std.proofs.Common.{arith, ◌≡◌, ℕ, ◌+◌, ◌%◌, ◌<◌, ◌++◌, ◌∷◌, [], Bool, List, length, slice_index, ap, ap₂, ◌∙◌, length-append}
 use Rattle.tmds_word.specs.Column.{Column, column_of}
-use Rattle.capture_file.specs.Lanes.{words_of, columns_of}
+use Rattle.tmds_word.specs.Words.{all_words, columns_of}
 use Rattle.tmds_word.specs.Bits.{word_bits}
 use Rattle.tmds_word.proofs.Lists.{length-word_bits}
 use Rattle.capture_file.proofs.Columns.{columns-push, count_of_columns}
 use Rattle.capture_file.proofs.lanes.LanesColumnSink.column.Goals as goal
 
-room_for : (blue green red : List Bool) (columns : List Column) → columns_of (words_of blue) (words_of green) (words_of red) ≡ columns
+room_for : (blue green red : List Bool) (columns : List Column) → columns_of (all_words blue) (all_words green) (all_words red) ≡ columns
     → length green ≡ length blue → length red ≡ length blue → length blue % 10 ≡ 0 → length columns < 429496729 → length blue + 10 < 4294967296
 room_for blue green red columns is e f whole few = omega (arith, count_of_columns blue green red e f, ap length is)
 
@@ -39,7 +39,7 @@ returns-in-Ok-clause-ok c =
     let i = c.self.invariant in
     let e = c.in-Ok.ensures in
     let k = c.know_characters.ensures in
-    ap (λ xs. columns_of (words_of xs) (words_of c.push_column.new.green) (words_of c.push_column.new.red)) e.blue_ok
-    ∙ ap₂ (λ xs ys. columns_of (words_of (c.self.inside.blue ++ word_bits (slice_index c.args.words 0))) (words_of xs) (words_of ys)) e.green_ok e.red_ok
+    ap (λ xs. columns_of (all_words xs) (all_words c.push_column.new.green) (all_words c.push_column.new.red)) e.blue_ok
+    ∙ ap₂ (λ xs ys. columns_of (all_words (c.self.inside.blue ++ word_bits (slice_index c.args.words 0))) (all_words xs) (all_words ys)) e.green_ok e.red_ok
     ∙ columns-push c.self.inside.blue c.self.inside.green c.self.inside.red (slice_index c.args.words 0) (slice_index c.args.words 1) (slice_index c.args.words 2) i.whole i.green i.red k.blue k.green k.red
     ∙ ap (λ s. s.columns ++ column_of c.args.words ∷ []) c.self.view_is

@@ -25,15 +25,15 @@ returns-in-Cut-clause-ok g c =
 pub returns-in-Cut-clause-err : goal.returns-in-Cut-clause-err
 unfolding words_of is_fault_thing is_checked is_cut
 returns-in-Cut-clause-err g c =
-    check_broke _ _ _ _ (lent_thing c.args.told) (cut c.in-Cut.column) (ap lent_thing c.in-Cut.is) refl
-    (line_broke _ _ _ _ (lent_thing c.args.told) (cut c.in-Cut.column) _ (ap lent_thing c.in-Cut.is)
+    check_broke _ _ _ _ _ (lent_thing c.args.told) (cut c.in-Cut.column) (ap lent_thing c.in-Cut.is) refl
+    (line_broke _ _ _ _ _ (lent_thing c.args.told) (cut c.in-Cut.column) _ (ap lent_thing c.in-Cut.is)
     c.fields_line.ensures c.write_short.ensures.part)
 
 pub returns-in_err-write_short-in-Fault-clause-err : goal.returns-in_err-write_short-in-Fault-clause-err
 returns-in_err-write_short-in-Fault-clause-err g c =
     always _
-    (check_broke {T = Unit {0}} _ (Err c.in_err-write_short-in-Fault.field-0.0) _ _ (lent_thing c.args.told) (fault_thing c.in-Fault.fault) (ap lent_thing c.in-Fault.is) (fault_checked c.in-Fault.fault)
-    (line_broke {T = Unit {0}} (Err c.in_err-write_short-in-Fault.field-0.0) _ _ _ (lent_thing c.args.told) (fault_thing c.in-Fault.fault) _ (ap lent_thing c.in-Fault.is)
+    (check_broke {T = Unit {0}} _ _ (Err c.in_err-write_short-in-Fault.field-0.0) _ _ (lent_thing c.args.told) (fault_thing c.in-Fault.fault) (ap lent_thing c.in-Fault.is) (fault_checked c.in-Fault.fault)
+    (line_broke {T = Unit {0}} (Err c.in_err-write_short-in-Fault.field-0.0) _ _ _ _ (lent_thing c.args.told) (fault_thing c.in-Fault.fault) _ (ap lent_thing c.in-Fault.is)
     c.fault_line.ensures c.in_err-write_short-in-Fault.ensures.part))
 
 pub returns-in_ok-write_short-in-Fault-clause-ok : goal.returns-in_ok-write_short-in-Fault-clause-ok

@@ -15,7 +15,7 @@ returns-in-Run-clause-ok g c =
 pub returns-in-Run-clause-err : goal.returns-in-Run-clause-err
 unfolding words_of
 returns-in-Run-clause-err g c =
-    line_broke _ _ _ _ (lent_thing c.args.told) (run c.in-Run.value c.in-Run.count) _ (ap lent_thing c.in-Run.is)
+    line_broke _ _ _ _ _ (lent_thing c.args.told) (run c.in-Run.value c.in-Run.count) _ (ap lent_thing c.in-Run.is)
     c.run_line.ensures c.write_short.ensures.part
 
 pub returns-in-Line-clause-ok : goal.returns-in-Line-clause-ok
@@ -27,7 +27,7 @@ returns-in-Line-clause-ok g c =
 pub returns-in-Line-clause-err : goal.returns-in-Line-clause-err
 unfolding words_of
 returns-in-Line-clause-err g c =
-    line_broke _ _ _ _ (lent_thing c.args.told) (line c.in-Line.pixels.now) _ (ap lent_thing c.in-Line.is)
+    line_broke _ _ _ _ _ (lent_thing c.args.told) (line c.in-Line.pixels.now) _ (ap lent_thing c.in-Line.is)
     (c.encode_pixels-size.ensures.text) c.write_line.ensures.part
 
 pub returns-in-Open-clause-ok : goal.returns-in-Open-clause-ok
@@ -39,7 +39,7 @@ returns-in-Open-clause-ok g c =
 pub returns-in-Open-clause-err : goal.returns-in-Open-clause-err
 unfolding words_of
 returns-in-Open-clause-err g c =
-    line_broke _ _ _ _ (lent_thing c.args.told) (open_island (slice_index c.in-Open.sync 0) (slice_index c.in-Open.sync 1)) _ (ap lent_thing c.in-Open.is)
+    line_broke _ _ _ _ _ (lent_thing c.args.told) (open_island (slice_index c.in-Open.sync 0) (slice_index c.in-Open.sync 1)) _ (ap lent_thing c.in-Open.is)
     c.guard_line.ensures c.write_short-in-Open.ensures.part
 
 pub returns-in-Packet-clause-ok : goal.returns-in-Packet-clause-ok
@@ -51,7 +51,7 @@ returns-in-Packet-clause-ok g c =
 pub returns-in-Packet-clause-err : goal.returns-in-Packet-clause-err
 unfolding words_of
 returns-in-Packet-clause-err g c =
-    line_broke _ _ _ _ (lent_thing c.args.told) _ _ (ap lent_thing c.in-Packet.is)
+    line_broke _ _ _ _ _ (lent_thing c.args.told) _ _ (ap lent_thing c.in-Packet.is)
     c.packet_line.ensures c.write_short-in-Packet.ensures.part
 
 pub returns-in-Close-clause-ok : goal.returns-in-Close-clause-ok
@@ -63,7 +63,7 @@ returns-in-Close-clause-ok g c =
 pub returns-in-Close-clause-err : goal.returns-in-Close-clause-err
 unfolding words_of
 returns-in-Close-clause-err g c =
-    line_broke _ _ _ _ (lent_thing c.args.told) (close_island (slice_index c.in-Close.sync 0) (slice_index c.in-Close.sync 1)) _ (ap lent_thing c.in-Close.is)
+    line_broke _ _ _ _ _ (lent_thing c.args.told) (close_island (slice_index c.in-Close.sync 0) (slice_index c.in-Close.sync 1)) _ (ap lent_thing c.in-Close.is)
     c.guard_line-in-Close.ensures c.write_short-in-Close.ensures.part
 
 pub returns-in-Cut-clause-ok : goal.returns-in-Cut-clause-ok
@@ -75,13 +75,13 @@ returns-in-Cut-clause-ok g c =
 pub returns-in-Cut-clause-err : goal.returns-in-Cut-clause-err
 unfolding words_of
 returns-in-Cut-clause-err g c =
-    line_broke _ _ _ _ (lent_thing c.args.told) (cut c.in-Cut.column) _ (ap lent_thing c.in-Cut.is)
+    line_broke _ _ _ _ _ (lent_thing c.args.told) (cut c.in-Cut.column) _ (ap lent_thing c.in-Cut.is)
     c.fields_line.ensures c.write_short-in-Cut.ensures.part
 
 pub returns-in_err-write_short-in-Fault-clause-err : goal.returns-in_err-write_short-in-Fault-clause-err
 returns-in_err-write_short-in-Fault-clause-err g c =
     always _ (
-    line_broke {T = Unit {0}} (Err c.in_err-write_short-in-Fault.field-0.0) _ _ _ (lent_thing c.args.told) (fault_thing c.in-Fault.fault) _ (ap lent_thing c.in-Fault.is)
+    line_broke {T = Unit {0}} (Err c.in_err-write_short-in-Fault.field-0.0) _ _ _ _ (lent_thing c.args.told) (fault_thing c.in-Fault.fault) _ (ap lent_thing c.in-Fault.is)
     c.fault_line.ensures c.in_err-write_short-in-Fault.ensures.part
     )
 

@@ -10,5 +10,5 @@ pub returns : goal.returns
 returns c =
     subst (λ (s : Seen). slice_get (things (lent s.line.bytes s.island.whole) s.notes) c.args.i ≡ Some (lent_thing c.lend.result)) c.self.view_is
     (slice_get-map (noted (lent c.self.inside.line.bytes c.self.inside.island.whole)) c.self.inside.notes c.args.i
-    ∙ ap (option_map (noted (lent c.self.inside.line.bytes c.self.inside.island.whole))) (ap (slice_get c.self.inside.notes) (sym c.from.ensures) ∙ c.get-note.ensures)
+    ∙ ap (option_map (noted (lent c.self.inside.line.bytes c.self.inside.island.whole))) c.get-note.ensures
     ∙ ap Some (sym (c.lend.ensures ∙ ap₂ (λ a b. noted (lent a b) c.get-note.result) c.bytes.ensures c.whole.ensures)))

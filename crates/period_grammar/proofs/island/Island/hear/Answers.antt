@@ -1,5 +1,4 @@
-use Rattle.std.proofs.Common.{ap, refl, sym, subst, ◌∙◌, ℕ}
-use Rattle.std.proofs.Common.{◌+◌, ◌*◌, arith, ◌<◌}
+use Rattle.std.proofs.Common.{ap, refl, sym, subst, ◌∙◌, ℕ, nat_le, ◌+◌, ◌*◌, arith, ◌<◌}
 use Rattle.tmds_word.specs.Column.{column_of}
 use Rattle.period_grammar.specs.Island.{payload}
 use Rattle.period_grammar.specs.After.{after_payload}
@@ -10,7 +9,7 @@ use Rattle.period_grammar.specs.declared.island.Left.{Left}
 use Rattle.period_grammar.specs.declared.island.Left.TheVariants.{Packet}
 use Rattle.period_grammar.proofs.Leads.{no_notes}
 use Rattle.period_grammar.proofs.Noting.{pushed}
-use Rattle.period_grammar.proofs.Blocks.{first_told, within_told, within_stands, whole_told, whole_stands, closing_told, closing_stands, closed_told, closed_stands, over_told, over_stands, after_rest}
+use Rattle.period_grammar.proofs.Blocks.{first_told, within_told, within_stands, whole_told, whole_stands, closing_told, closing_stands, second_told, second_stands, closed_told, closed_stands, over_told, over_stands, after_rest}
 use Rattle.period_grammar.proofs.island.Island.hear.Goals as goal
 
 pub returns-then-self-eq0-clause-told : goal.returns-then-self-eq0-clause-told
@@ -42,14 +41,23 @@ returns-else-self-eq31-clause-heard c rest was =
     let pos : 0 < c.args.self.now.within = omega arith in
     after_rest _ rest (column_of c.args.column.now) (subst (λ (l : Left). IsPartsAfter l c.args.self.now.packets (c.args.self.now.within + 1) c.put_column.new.block (after_payload (column_of c.args.column.now) (payload rest))) (sym c.in-Packet.is) (within_stands c.args.self.now.packets c.args.self.now.within c.args.self.now.block c.put_column.new.block (column_of c.args.column.now) (payload rest) (subst (λ (l : Left). IsPartsAfter l c.args.self.now.packets c.args.self.now.within c.args.self.now.block (payload rest)) c.in-Packet.is was.stands) pos lt c.put_column.ensures.put))
 
-pub returns-in-Closing-clause-told : goal.returns-in-Closing-clause-told
-returns-in-Closing-clause-told c rest bytes was =
-    closing_told c.args.self.now.packets c.args.start c.args.self.now.within ((c.args.start + 2) + 32 * c.args.self.now.packets) _ _ c.args.self.now.block (column_of c.args.column.now) _ (payload rest) (subst (λ (l : Left). IsPartsAfter l c.args.self.now.packets c.args.self.now.within c.args.self.now.block (payload rest)) c.in-Closing.is was.stands) refl
+pub returns-then-at_least-clause-told : goal.returns-then-at_least-clause-told
+returns-then-at_least-clause-told c rest bytes was =
+    closing_told c.args.self.now.packets c.args.start c.args.self.now.within ((c.args.start + 2) + 32 * c.args.self.now.packets) _ _ _ c.args.self.now.block (column_of c.args.column.now) _ (payload rest) (subst (λ (l : Left). IsPartsAfter l c.args.self.now.packets c.args.self.now.within c.args.self.now.block (payload rest)) c.in-First.is was.stands)
+    (ap (λ n. nat_le 3 (c.in-First.words + n)) (sym c.closing_guard_words.ensures.count) ∙ sym c.at_least.ensures ∙ c.if-at_least.true) refl
     (λ g e f. c.tell_close.ensures.told (lent bytes c.args.self.now.whole) g e f)
 
-pub returns-in-Closing-clause-heard : goal.returns-in-Closing-clause-heard
-returns-in-Closing-clause-heard c rest was =
-    after_rest _ rest (column_of c.args.column.now) (closing_stands c.args.self.now.packets c.args.self.now.within _ _ c.args.self.now.block c.args.self.now.block (column_of c.args.column.now) (payload rest) (subst (λ (l : Left). IsPartsAfter l c.args.self.now.packets c.args.self.now.within c.args.self.now.block (payload rest)) c.in-Closing.is was.stands))
+pub returns-then-at_least-clause-heard : goal.returns-then-at_least-clause-heard
+returns-then-at_least-clause-heard c rest was =
+    after_rest _ rest (column_of c.args.column.now) (closing_stands c.args.self.now.packets c.args.self.now.within _ _ _ c.args.self.now.block c.args.self.now.block (column_of c.args.column.now) (payload rest) (subst (λ (l : Left). IsPartsAfter l c.args.self.now.packets c.args.self.now.within c.args.self.now.block (payload rest)) c.in-First.is was.stands) (ap (λ n. nat_le 3 (c.in-First.words + n)) (sym c.closing_guard_words.ensures.count) ∙ sym c.at_least.ensures ∙ c.if-at_least.true))
+
+pub returns-else-at_least-clause-told : goal.returns-else-at_least-clause-told
+returns-else-at_least-clause-told c rest bytes was =
+    no_notes _ _ c.requires.room ∙ second_told c.args.self.now.packets c.args.start c.args.self.now.within _ _ _ c.args.self.now.block (column_of c.args.column.now) (payload rest) (subst (λ (l : Left). IsPartsAfter l c.args.self.now.packets c.args.self.now.within c.args.self.now.block (payload rest)) c.in-First.is was.stands) (ap (λ n. nat_le 3 (c.in-First.words + n)) (sym c.closing_guard_words.ensures.count) ∙ sym c.at_least.ensures ∙ c.if-at_least.false)
+
+pub returns-else-at_least-clause-heard : goal.returns-else-at_least-clause-heard
+returns-else-at_least-clause-heard c rest was =
+    after_rest _ rest (column_of c.args.column.now) (second_stands c.args.self.now.packets c.args.self.now.within _ _ _ c.args.self.now.block _ (column_of c.args.column.now) (payload rest) (subst (λ (l : Left). IsPartsAfter l c.args.self.now.packets c.args.self.now.within c.args.self.now.block (payload rest)) c.in-First.is was.stands) (ap (λ n. nat_le 3 (c.in-First.words + n)) (sym c.closing_guard_words.ensures.count) ∙ sym c.at_least.ensures ∙ c.if-at_least.false) c.put_column-in-First.ensures.put)
 
 pub returns-in-Closed-clause-told : goal.returns-in-Closed-clause-told
 returns-in-Closed-clause-told c rest bytes was =

@@ -1,6 +1,6 @@
 use Rattle.std.proofs.Common.{◌≡◌, ◌++◌, sym, subst, arith}
 use Rattle.std.specs.Prelude.{nat_le}
-use Rattle.period_grammar.specs.Heard.{line_of, unless}
+use Rattle.period_grammar.specs.Heard.{line_of, if_not}
 use Rattle.period_grammar.specs.Things.{long_line}
 use Rattle.period_grammar.specs.Noted.{things, lent}
 use Rattle.period_grammar.specs.Lines.{IsLineAfter}
@@ -17,7 +17,7 @@ pub returns-then-self-gt4096-clause-told : goal.returns-then-self-gt4096-clause-
 returns-then-self-gt4096-clause-told c pixels whole was =
     let l : LineSeen = record { bytes = c.self.inside.bytes; count = c.self.inside.count; blue = c.self.inside.blue; green = c.self.inside.green; red = c.self.inside.red } in
     let e : l ≡ c.args.self.now = c.self.view_is in
-    let last : things (lent l.bytes whole) c.push-then-self-gt4096.new.self ≡ things (lent l.bytes whole) c.tell_code-3.new.notes ++ unless (nat_le l.count 4096) (long_line c.args.start) =
+    let last : things (lent l.bytes whole) c.push-then-self-gt4096.new.self ≡ things (lent l.bytes whole) c.tell_code-3.new.notes ++ if_not (nat_le l.count 4096) (long_line c.args.start) =
     more_than (lent l.bytes whole) c.tell_code-3.new.notes c.push-then-self-gt4096.new.self l.count c.args.start c.if-self-gt4096.true c.push-then-self-gt4096.ensures in
     subst (λ (s : LineSeen). things (lent s.bytes whole) c.push-then-self-gt4096.new.self ≡ line_of c.args.start pixels) e
     (noted_line l whole c.args.start pixels c.args.notes.now c.push-2.new.self c.tell_code.new.notes c.tell_code-2.new.notes c.tell_code-3.new.notes c.push-then-self-gt4096.new.self

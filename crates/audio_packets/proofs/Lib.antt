@@ -1,0 +1,6 @@
+mod Searches
+mod BodyBytes
+mod Notes
+mod Marks
+mod WrittenClock
+mod WrittenSamples

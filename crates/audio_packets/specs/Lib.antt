@@ -1,0 +1,4 @@
+pub mod Faults
+pub mod Clock
+pub mod Samples
+pub mod Laws

@@ -1,0 +1,128 @@
+//! Samples read from packets.
+ghost use Rattle.std.specs.Prelude.{◌≡◌, ◌+◌, ◌*◌, ◌^◌, ◌<◌, ◌≤◌, ◌∷◌, [], IfSome, drop};
+ghost use Rattle.std.specs.List.{find};
+ghost use Rattle.bch_block.specs.Bits.{bit};
+ghost use Rattle.audio_packets.specs.Samples.{IsSamplePacket, packet_with, is_even, note_at, samples_of};
+
+use crate::fault::{AudioFault, lost_block};
+use crate::sample::{Sample, SampleNote};
+use island_pack::PacketRef;
+use std::marker::Model;
+
+/// Reads the samples of an audio sample packet (HDMI 1.4, section 5.3.4).
+///
+/// `Lost` has the least lost block; where none is lost, `Layout` says that the packet has layout 1,
+/// that of up to eight channels.
+pub fn samples<'a>(packet: PacketRef<'a>) -> Result<SampleIter<'a>, AudioFault>
+    requires { IsSamplePacket packet.packet.now }
+    ensures { result ≡ samples_of packet.entry.packet.now packet.entry.verdicts.now }
+{
+    if let Some(block) = lost_block(packet) {
+        return Err(AudioFault::Lost(block));
+    }
+    let header = packet.header();
+    if has_bit(header[1], 4) {
+        return Err(AudioFault::Layout);
+    }
+    Ok(SampleIter {
+        header,
+        bodies: packet.bodies(),
+        place: 0,
+    })
+}
+
+/// The samples of a packet's present bodies, in order. Contracts see it as the list of the samples
+/// that are still to come.
+#[derive(Debug, Drop)]
+pub struct SampleIter<'a> {
+    header: &'a [u8; 3],
+    bodies: &'a [u8; 28],
+    /// The first body that is still to be looked at.
+    place: u8,
+}
+
+impl<'a> Model for SampleIter<'a> {
+    ghost use Rattle.std.specs.Prelude.{List, ◌≤◌};
+    ghost use Rattle.audio_packets.specs.Samples.{packet_with, samples_from};
+    ghost use Rattle.audio_packets.specs.declared.sample.SampleNote.{SampleNote};
+
+    ghost Value = { List SampleNote };
+
+    ghost view = { λ s. samples_from (packet_with s.header.now s.bodies.now) s.place };
+
+    ghost invariant = { λ s. s.place ≤ 4 };
+}
+
+impl<'a> Iterator for SampleIter<'a> {
+    ghost use Rattle.std.specs.Iterator.{YieldsFirst, item_count};
+
+    type Item = SampleNote;
+
+    ghost next_gives = { YieldsFirst (λ s. s) };
+
+    ghost remaining = { item_count (λ s. s) };
+
+    fn next(&mut self) -> Option<SampleNote> {
+        let place = present_from(self.header[1], self.place)?;
+        self.place = place + 1;
+        Some(note_at(self.header, self.bodies, place))
+    }
+}
+
+/// The first present body from a body on, of those that a header byte names.
+fn present_from(present: u8, place: u8) -> Option<u8>
+    requires { place ≤ 4 }
+    ensures value { result ≡ find (bit present) (drop place (0 ∷ 1 ∷ 2 ∷ 3 ∷ [])) }
+    ensures bound { IfSome result (λ body. (place ≤ body) × (body < 4)) }
+{
+    (place..4).find(|body| has_bit(present, *body))
+}
+
+/// The sample of a body, and whether its sides are even.
+fn note_at(header: &[u8; 3], bodies: &[u8; 28], place: u8) -> SampleNote
+    requires { place < 4 }
+    ensures { result ≡ note_at (packet_with header.now bodies.now) place }
+{
+    let at = 7 * usize::from(place);
+    let left = value(bodies[at], bodies[at + 1], bodies[at + 2]);
+    let right = value(bodies[at + 3], bodies[at + 4], bodies[at + 5]);
+    let bits = bodies[at + 6];
+    let left_flags = bits & 7;
+    let right_flags = (bits >> 4) & 7;
+    SampleNote {
+        place,
+        sample: Sample {
+            left,
+            right,
+            left_flags,
+            right_flags,
+            start: has_bit(header[2], 4 + place),
+            flat: has_bit(header[2], place),
+        },
+        left_even: is_even(left, left_flags, (bits >> 3) & 1),
+        right_even: is_even(right, right_flags, bits >> 7),
+    }
+}
+
+/// A value of 24 bits, from its lowest byte on.
+fn value(low: u8, middle: u8, high: u8) -> u32
+    ensures value { result ≡ low + 256 * middle + 65536 * high }
+    ensures below { result < 2 ^ 24 }
+{
+    u32::from_le_bytes([low, middle, high, 0])
+}
+
+/// Whether a value, its flags and its parity bit have an even number of ones.
+fn is_even(value: u32, flags: u8, parity: u8) -> bool
+    ensures { result ≡ is_even value flags parity }
+{
+    (value.count_ones() + flags.count_ones() + u32::from(parity)) % 2 == 0
+}
+
+/// Whether a bit of a byte is set.
+fn has_bit(byte: u8, place: u8) -> bool
+    requires { place < 8 }
+    ensures { result ≡ bit byte place }
+{
+    (byte >> place) & 1 == 1
+}

@@ -1,0 +1,9 @@
+mod Digits
+mod Triples
+mod DamageTexts
+mod Arranging
+mod Reading
+mod GivenOptions
+mod Taps
+mod Meanings
+pub mod Laws

@@ -1,0 +1,6 @@
+pub mod Numbers
+pub mod Damages
+pub mod Grammar
+pub mod Commands
+pub mod Parsing
+pub mod Scanning

@@ -1,0 +1,159 @@
+//! What the words of the command line ask for.
+ghost use Rattle.std.specs.Prelude.{◌≡◌, IfOk, List, [], MatchOption, Some, None, map, string_bytes, codes};
+ghost use Rattle.command_line.specs.Commands.{IsCommand, Means};
+ghost use Rattle.command_line.specs.Grammar.{Text, given, texts};
+ghost use Rattle.command_line.specs.declared.options.OptionName.{OptionName as Name};
+
+use crate::arranged::arranged;
+use crate::damage::{Damages, read_damages};
+use crate::numbers::read_number;
+use crate::options::OptionName;
+use crate::tap::{TapWords, read_tap};
+use outside_io::NoMemory;
+use std::alloc::Global;
+
+// The fewest and the most frames of a sample.
+const FEWEST_FRAMES: u32 = 2;
+
+const MOST_FRAMES: u32 = 20;
+
+/// What the program is to do.
+#[derive(Drop)]
+pub enum Command {
+    /// `make link`: make the capture of a tap of the columns that a listing tells.
+    MakeLink(TapWords),
+    /// `make content`: make the capture of a tap of the columns of frames with content.
+    MakeContent(TapWords),
+    /// `recover link`: recover the listing of a capture.
+    RecoverLink,
+    /// `recover content`: recover the content listing of a capture.
+    RecoverContent,
+    /// `check`: list the faults of a capture.
+    Check,
+    /// `damage L:P:V ..`: damage a capture.
+    Damage(Damages),
+    /// `sample N`: make, damage and recover N generated frames, from 2 to 20.
+    Sample(u32),
+}
+
+/// The command that the words name; none exactly where they are of no command's form. The words are those behind the
+/// program's name, in order.
+///
+/// # Errors
+///
+/// Want of memory alone.
+pub fn read_command(alloc: Global, words: &[String]) -> Result<Option<Command>, NoMemory>
+    ensures { IfOk result (λ answer. MatchOption answer ((c : Command) → IsCommand (map string_bytes words.now) c → ⊥) (λ c. IsCommand (map string_bytes words.now) c)) }
+{
+    let [name, behind @ ..] = words else {
+        return Ok(None);
+    };
+    match arranged(alloc, behind)? {
+        Some(reading) => command_of(
+            alloc,
+            name.as_str(),
+            reading.options.as_slice(),
+            reading.operands.as_slice(),
+        ),
+        None => Ok(None),
+    }
+}
+
+/// The command that a name, options and operands ask for.
+fn command_of(
+    alloc: Global,
+    name: &str,
+    options: &[(OptionName, &str)],
+    operands: &[&str],
+) -> Result<Option<Command>, NoMemory>
+    ensures { IfOk result (λ answer. MatchOption answer ((c : Command) → Means c name.now (given options.now) (texts operands.now) → ⊥) (λ c. Means c name.now (given options.now) (texts operands.now))) }
+{
+    if name == "make" {
+        Ok(make_command(options, operands))
+    } else if !options.is_empty() {
+        Ok(None)
+    } else if name == "damage" {
+        damage_command(alloc, operands)
+    } else {
+        Ok(plain_command(name, operands))
+    }
+}
+
+/// `make link` or `make content`.
+fn make_command(options: &[(OptionName, &str)], operands: &[&str]) -> Option<Command>
+    ensures { MatchOption result ((c : Command) → Means c (codes "make") (given options.now) (texts operands.now) → ⊥) (λ c. Means c (codes "make") (given options.now) (texts operands.now)) }
+{
+    let [kind] = operands else {
+        return None;
+    };
+    let tap = read_tap(options)?;
+    match *kind {
+        "link" => Some(Command::MakeLink(tap)),
+        "content" => Some(Command::MakeContent(tap)),
+        _ => None,
+    }
+}
+
+/// `damage` with operands.
+fn damage_command(alloc: Global, operands: &[&str]) -> Result<Option<Command>, NoMemory>
+    ensures { IfOk result (λ answer. MatchOption answer ((c : Command) → Means c (codes "damage") [] (texts operands.now) → ⊥) (λ c. Means c (codes "damage") [] (texts operands.now))) }
+{
+    match read_damages(alloc, operands)? {
+        Some(damages) => Ok(Some(Command::Damage(damages))),
+        None => Ok(None),
+    }
+}
+
+/// A command that takes neither options nor memory.
+fn plain_command(name: &str, operands: &[&str]) -> Option<Command>
+    requires make { name.now ≡ codes "make" → ⊥ }
+    requires damage { name.now ≡ codes "damage" → ⊥ }
+    ensures { MatchOption result ((c : Command) → Means c name.now [] (texts operands.now) → ⊥) (λ c. Means c name.now [] (texts operands.now)) }
+{
+    match name {
+        "recover" => recover_command(operands),
+        "check" => check_command(operands),
+        "sample" => sample_command(operands),
+        _ => None,
+    }
+}
+
+/// `recover link` or `recover content`.
+fn recover_command(operands: &[&str]) -> Option<Command>
+    ensures { MatchOption result ((c : Command) → Means c (codes "recover") [] (texts operands.now) → ⊥) (λ c. Means c (codes "recover") [] (texts operands.now)) }
+{
+    let [kind] = operands else {
+        return None;
+    };
+    match *kind {
+        "link" => Some(Command::RecoverLink),
+        "content" => Some(Command::RecoverContent),
+        _ => None,
+    }
+}
+
+/// `check`.
+fn check_command(operands: &[&str]) -> Option<Command>
+    ensures { MatchOption result ((c : Command) → Means c (codes "check") [] (texts operands.now) → ⊥) (λ c. Means c (codes "check") [] (texts operands.now)) }
+{
+    if operands.is_empty() {
+        Some(Command::Check)
+    } else {
+        None
+    }
+}
+
+/// `sample N`.
+fn sample_command(operands: &[&str]) -> Option<Command>
+    ensures { MatchOption result ((c : Command) → Means c (codes "sample") [] (texts operands.now) → ⊥) (λ c. Means c (codes "sample") [] (texts operands.now)) }
+{
+    let [text] = operands else {
+        return None;
+    };
+    let frames = read_number(text, MOST_FRAMES)?;
+    if frames >= FEWEST_FRAMES {
+        Some(Command::Sample(frames))
+    } else {
+        None
+    }
+}

@@ -1,0 +1,23 @@
+//! The words of the command line: which command they name, and with which options and operands.
+//!
+//! The first word is the command. Behind it stand its operands, in order, and its options, which may stand between
+//! and around them, each as `--name VALUE` or as `--name=VALUE`. Behind the word `--` each word is an operand.
+#![tactic(auto)]
+
+mod arranged;
+mod command;
+mod damage;
+mod numbers;
+mod options;
+mod tap;
+
+pub use command::{Command, read_command};
+pub use damage::{DamageWord, Damages};
+pub use numbers::{number, number_within};
+pub use options::OptionName;
+pub use tap::TapWords;
+
+#[cfg(test)]
+mod rows;
+#[cfg(test)]
+mod tests;

@@ -1,0 +1,7 @@
+mod Lists
+mod Numbers
+pub mod Refusals
+mod Contents
+mod Bounds
+mod Writings
+pub mod Law

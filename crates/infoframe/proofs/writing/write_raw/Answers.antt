@@ -1,0 +1,24 @@
+use Rattle.std.proofs.Common.{[], ◌∷◌, length, take, ap, ◌∙◌, arith}
+use Rattle.std.proofs.lemmas.List.{length-take}
+use Rattle.infoframe.specs.Written.{padded}
+use Rattle.infoframe.proofs.Bounds.{raw_bounds}
+use Rattle.infoframe.proofs.Writings.{raw_written}
+use Rattle.infoframe.proofs.writing.write_raw.Goals as goal
+
+pub shared_ref_as_front-lay : goal.shared_ref_as_front-lay
+shared_ref_as_front-lay c =
+    let few = (raw_bounds _ _ _ _ c.requires).few in
+    omega (arith, c.from.ensures)
+
+pub lay-requires : goal.lay-requires
+lay-requires c =
+    let few = (raw_bounds _ _ _ _ c.requires).few in
+    simp length-take (omega (arith, c.from.ensures))
+
+pub returns-clause-written : goal.returns-clause-written
+returns-clause-written c =
+    let bytes = c.args.bytes.now in
+    let n = c.from.ensures in
+    raw_written c.args.kind c.args.version c.args.length bytes c.lay.new.out (raw_bounds _ _ _ _ c.requires) c.told-bytes c.lay.ensures.whole
+    (c.lay.ensures.header ∙ ap (λ m. c.args.kind ∷ c.args.version ∷ length (take m bytes) ∷ []) n)
+    (c.lay.ensures.payload ∙ ap (λ m. padded (take m bytes)) n) c.lay.ensures.checksum

@@ -1,0 +1,346 @@
+-- What three lanes keep after their alignment, as lanes end and as columns are consumed.
+use Rattle.std.proofs.Common.{◌≡◌, ℕ, suc, zero, ◌+◌, ◌-◌, ◌/◌, ◌^◌, ◌<◌, ◌≤◌, min, Bool, true, false, List, [], ◌∷◌, ◌++◌, length, take, drop, slice_index, refl, ap, ◌∙◌, sym, arith, length-drop, Option, Some, None, MatchOption, is_some}
+use Rattle.std.proofs.lemmas.List.{drop-drop, drop-take, take-take}
+use Rattle.lane_deskew.specs.Keeping.{Stored, stored, limit}
+use Rattle.tmds_word.specs.Words.{columns_of}
+use Rattle.lane_deskew.specs.Pushed.{Pushed, Past, rested, ended, settled, consumed, from_edge, unconsumed, reach, IsPastAlignment, IsPastTriple, past_columns, Knows, Waits, Lends, AreKnown, Awaits, IsAligned, StandsFor, IsCut, reach_of}
+use Rattle.lane_deskew.specs.declared.lane.Lane.{Lane}
+use Rattle.lane_deskew.specs.declared.deskew.Deskew.{Deskew}
+use Rattle.lane_deskew.specs.declared.Aligned.{Aligned}
+use Rattle.lane_deskew.proofs.Reaching.{reach_cut, reach_consumed, take_min}
+use Rattle.lane_deskew.proofs.Seeking.{same_edge}
+use Rattle.lane_deskew.proofs.Aligning.{three, row_length}
+use Rattle.std.proofs.Math.Seq.{take-length}
+
+-- a lane has fewer characters than numbers go
+few_words : (lane : Lane) (past : Pushed) (taken e : ℕ) → Knows lane past → length (unconsumed taken past e) < 2 ^ 63
+few_words lane past taken e knows =
+    let small = lane.small in
+    let count = knows.count in
+    omega (arith, length-drop taken (from_edge past e), length-drop ((e - 120 - past.lock) / 10) past.words)
+
+-- what is kept of a lane whose kept characters are the same
+waits_same : (old new : Lane) (past : Pushed) → new.kept ≡ old.kept → Waits old past → Waits new past
+waits_same old new past same waits = ap stored same ∙ waits
+
+lends_same : (old new : Lane) (past : Pushed) (taken e r : ℕ) → new.kept ≡ old.kept → Lends old past taken e r → Lends new past taken e r
+lends_same old new past taken e r same lends = record {
+  ring = ap (λ (k : Stored). k.ring) same ∙ lends.ring;
+  row = ap (λ (k : Stored). k.row) same ∙ lends.row;
+  within = lends.within;
+}
+
+-- by whether an alignment was found
+pub when_none : (o : Option Aligned) (A X : Type 0) (B Y : Aligned → Type 0) → is_some o ≡ false → (A → X) → MatchOption o A B → MatchOption o X Y
+when_none None A X B Y e f h = f h
+when_none (Some at) A X B Y e f h = cc
+
+pub when_some : (o : Option Aligned) (A X : Type 0) (B Y : Aligned → Type 0) → is_some o ≡ true → ((at : Aligned) → B at → Y at) → MatchOption o A B → MatchOption o X Y
+when_some None A X B Y e f h = cc
+when_some (Some at) A X B Y e f h = f at h
+
+pub awaited : (o : Option Aligned) (A : Type 0) (B : Aligned → Type 0) → is_some o ≡ false → MatchOption o A B → A
+awaited None A B e h = h
+awaited (Some at) A B e h = cc
+
+-- one lane has ended: before the alignment
+module _ (d after : Deskew) (p : Past) (a : after.first.kept ≡ d.first.kept) (b : after.second.kept ≡ d.second.kept) (c : after.third.kept ≡ d.third.kept) where
+  pub awaits_ended : (lane : ℕ) → Awaits d p → Awaits after (ended lane p)
+  awaits_ended zero awaits = record {
+    first = waits_same d.first after.first p.first a awaits.first;
+    second = waits_same d.second after.second p.second b awaits.second;
+    third = waits_same d.third after.third p.third c awaits.third;
+    none = awaits.none;
+    fresh = awaits.fresh;
+  }
+  awaits_ended (suc zero) awaits = record {
+    first = waits_same d.first after.first p.first a awaits.first;
+    second = waits_same d.second after.second p.second b awaits.second;
+    third = waits_same d.third after.third p.third c awaits.third;
+    none = awaits.none;
+    fresh = awaits.fresh;
+  }
+  awaits_ended (suc (suc n)) awaits = record {
+    first = waits_same d.first after.first p.first a awaits.first;
+    second = waits_same d.second after.second p.second b awaits.second;
+    third = waits_same d.third after.third p.third c awaits.third;
+    none = awaits.none;
+    fresh = awaits.fresh;
+  }
+
+-- after it, with what was reachable before
+pub record IsAlignedTo (deskew : Deskew) (p : Past) (edges : List ℕ) (r : ℕ) : Type 0 where
+  pub alignment : IsPastAlignment p edges
+  pub first : Lends deskew.first p.first p.taken (slice_index edges 0) r
+  pub second : Lends deskew.second p.second p.taken (slice_index edges 1) r
+  pub third : Lends deskew.third p.third p.taken (slice_index edges 2) r
+
+limit_over : (b : Bool) (n : ℕ) → n < 2 ^ 63 → limit true n ≤ limit b n
+limit_over true n h = omega arith
+limit_over false n h = omega arith
+
+module _ (d after : Deskew) (p : Past) (edges : List ℕ) (known : AreKnown d p) (al : IsAligned d p edges)
+    (a : after.first.kept ≡ d.first.kept) (b : after.second.kept ≡ d.second.kept) (c : after.third.kept ≡ d.third.kept)
+  where
+    one : Lends after.first p.first p.taken (slice_index edges 0) (reach p edges)
+    one = lends_same d.first after.first p.first p.taken _ _ a al.first
+
+    two : Lends after.second p.second p.taken (slice_index edges 1) (reach p edges)
+    two = lends_same d.second after.second p.second p.taken _ _ b al.second
+
+    three_is : Lends after.third p.third p.taken (slice_index edges 2) (reach p edges)
+    three_is = lends_same d.third after.third p.third p.taken _ _ c al.third
+
+    pub aligned_ended : (lane : ℕ) → IsAlignedTo after (ended lane p) edges (reach p edges)
+    aligned_ended zero = record {
+      alignment = al.alignment;
+      first = record { ring = one.ring; row = one.row; within = one.within };
+      second = two;
+      third = three_is;
+    }
+    aligned_ended (suc zero) = record {
+      alignment = al.alignment;
+      first = one;
+      second = record { ring = two.ring; row = two.row; within = two.within };
+      third = three_is;
+    }
+    aligned_ended (suc (suc n)) = record {
+      alignment = al.alignment;
+      first = one;
+      second = two;
+      third = record { ring = three_is.ring; row = three_is.row; within = three_is.within };
+    }
+
+    pub reach_ended : (lane : ℕ) → reach (ended lane p) edges ≤ reach p edges
+    reach_ended zero = let h = limit_over p.first.ended _ (few_words d.first p.first p.taken (slice_index edges 0) known.first) in omega arith
+    reach_ended (suc zero) = let h = limit_over p.second.ended _ (few_words d.second p.second p.taken (slice_index edges 1) known.second) in omega arith
+    reach_ended (suc (suc n)) = let h = limit_over p.third.ended _ (few_words d.third p.third p.taken (slice_index edges 2) known.third) in omega arith
+
+cut_lane : (old new : Lane) (past : Pushed) (taken e r s n : ℕ) → Lends old past taken e r → s ≤ r → n ≡ s → IsCut n old new → Lends new past taken e s
+cut_lane old new past taken e r s n lends le same cut = record {
+  ring = cut.ring ∙ lends.ring;
+  row = cut.row ∙ ap (λ m. take m old.kept.row) same ∙ ap (take s) lends.row ∙ take-take s r (unconsumed taken past e) le;
+  within = lends.within;
+}
+
+-- what no column can reach any more is cut
+pub aligned_cut : (d after : Deskew) (p : Past) (edges : List ℕ) (r : ℕ) → AreKnown d p → IsAlignedTo d p edges r → reach p edges ≤ r
+    → IsCut (reach_of d) d.first after.first → IsCut (reach_of d) d.second after.second → IsCut (reach_of d) d.third after.third → IsAligned after p edges
+aligned_cut d after p edges r known al le a b c =
+    let x = row_length d.first p.first p.taken (slice_index edges 0) r al.first in
+    let y = row_length d.second p.second p.taken (slice_index edges 1) r al.second in
+    let z = row_length d.third p.third p.taken (slice_index edges 2) r al.third in
+    let same : reach_of d ≡ reach p edges =
+    (λ i. three (known.first.ended i) (x i) (known.second.ended i) (y i) (known.third.ended i) (z i))
+    ∙ reach_cut p.first.ended p.second.ended p.third.ended _ _ _ r le in
+    record {
+      alignment = al.alignment;
+      first = cut_lane d.first after.first p.first p.taken _ r _ _ al.first le same a;
+      second = cut_lane d.second after.second p.second p.taken _ r _ _ al.second le same b;
+      third = cut_lane d.third after.third p.third p.taken _ r _ _ al.third le same c;
+    }
+
+-- numbers stay known where they are the same
+pub known_same : (old new : Lane) (past : Pushed) → (new.lock ≡ old.lock) × (new.count ≡ old.count) × (new.ended ≡ old.ended) → Knows old past → Knows new past
+known_same old new past same knows = record {
+  count = same.1 ∙ knows.count;
+  lock = same.0 ∙ knows.lock;
+  ended = same.2 ∙ knows.ended;
+  settled = knows.settled;
+}
+
+pub cut_known : (n : ℕ) (old new : Lane) (past : Pushed) → IsCut n old new → Knows old past → Knows new past
+cut_known n old new past cut knows = known_same old new past (cut.lock, cut.count, cut.ended) knows
+
+-- a lane of which n characters were consumed
+pub record HasConsumed (n : ℕ) (old new : Lane) : Type 0 where
+  pub ring : new.kept.ring ≡ old.kept.ring
+  pub row : new.kept.row ≡ drop n old.kept.row
+  pub same : (new.lock ≡ old.lock) × (new.count ≡ old.count) × (new.ended ≡ old.ended)
+
+waits_consumed : (n : ℕ) (old new : Lane) (past : Pushed) → n ≡ 0 → HasConsumed n old new → Waits old past → Waits new past
+waits_consumed n old new past none gone waits =
+    (λ i. gone.ring i ++ gone.row i) ∙ ap (λ m. old.kept.ring ++ drop m old.kept.row) none ∙ waits
+
+lends_consumed : (n : ℕ) (old new : Lane) (past : Pushed) (taken e r s : ℕ) → HasConsumed n old new → Lends old past taken e r → n ≤ length old.kept.row
+    → min (r - n) (length (unconsumed taken past e) - n) ≡ min s (length (unconsumed taken past e) - n) → Lends new past (taken + n) e s
+lends_consumed n old new past taken e r s gone lends le same =
+    let xs = unconsumed taken past e in
+    let within = lends.within in
+    let len = row_length old past taken e r lends in
+    let rest : drop n xs ≡ unconsumed (taken + n) past e = drop-drop n taken (from_edge past e) in
+    let few = length-drop n xs in
+    let all : r ≡ n + (r - n) = omega arith in
+    record {
+      ring = gone.ring ∙ lends.ring;
+      row = gone.row ∙ ap (drop n) lends.row ∙ ap (λ m. drop n (take m xs)) all ∙ drop-take n (r - n) xs
+          ∙ take_min (r - n) s (drop n xs) (ap (min (r - n)) few ∙ same ∙ sym (ap (min s) few)) ∙ ap (take s) rest;
+      within = omega (arith, length-drop taken (from_edge past e));
+    }
+
+-- columns were consumed
+module _ (d after : Deskew) (p : Past) (n : ℕ) (known : AreKnown d p)
+    (a : HasConsumed n d.first after.first) (b : HasConsumed n d.second after.second) (c : HasConsumed n d.third after.third)
+  where
+    pub known_consumed : AreKnown after (consumed n p)
+    known_consumed = record {
+      first = known_same d.first after.first p.first a.same known.first;
+      second = known_same d.second after.second p.second b.same known.second;
+      third = known_same d.third after.third p.third c.same known.third;
+    }
+
+    pub awaits_consumed : n ≡ 0 → Awaits d p → Awaits after (consumed n p)
+    awaits_consumed none awaits =
+        let fresh = awaits.fresh in
+        record {
+          first = waits_consumed n d.first after.first p.first none a awaits.first;
+          second = waits_consumed n d.second after.second p.second none b awaits.second;
+          third = waits_consumed n d.third after.third p.third none c awaits.third;
+          none = awaits.none;
+          fresh = omega arith;
+        }
+
+    pub aligned_consumed : (edges : List ℕ) → n ≤ length d.first.kept.row → n ≤ length d.second.kept.row → n ≤ length d.third.kept.row → IsAligned d p edges → IsAligned after (consumed n p) edges
+    aligned_consumed edges le1 le2 le3 al =
+        let x = length (unconsumed p.taken p.first (slice_index edges 0)) in
+        let y = length (unconsumed p.taken p.second (slice_index edges 1)) in
+        let z = length (unconsumed p.taken p.third (slice_index edges 2)) in
+        let len1 : length d.first.kept.row ≡ min (reach p edges) x = row_length d.first p.first p.taken (slice_index edges 0) (reach p edges) al.first in
+        let len2 : length d.second.kept.row ≡ min (reach p edges) y = row_length d.second p.second p.taken (slice_index edges 1) (reach p edges) al.second in
+        let len3 : length d.third.kept.row ≡ min (reach p edges) z = row_length d.third p.third p.taken (slice_index edges 2) (reach p edges) al.third in
+        let few1 : x < 2 ^ 63 = few_words d.first p.first p.taken (slice_index edges 0) known.first in
+        let few2 : y < 2 ^ 63 = few_words d.second p.second p.taken (slice_index edges 1) known.second in
+        let few3 : z < 2 ^ 63 = few_words d.third p.third p.taken (slice_index edges 2) known.third in
+        let in1 : n ≤ x = within_of n (length d.first.kept.row) (reach p edges) x le1 len1 in
+        let in2 : n ≤ y = within_of n (length d.second.kept.row) (reach p edges) y le2 len2 in
+        let in3 : n ≤ z = within_of n (length d.third.kept.row) (reach p edges) z le3 len3 in
+        let same : (k m : ℕ) → k ≡ m - n → n ≤ m → m < 2 ^ 63 → min (reach p edges - n) k ≡ min (reach (consumed n p) edges) k =
+        λ k m is within few. reach_consumed p.first.ended p.second.ended p.third.ended x y z n k (omega arith) in1 in2 in3
+        ∙ sym (reach_moved edges k) in
+        record {
+          alignment = al.alignment;
+          first = lends_consumed n d.first after.first p.first p.taken _ _ _ a al.first le1 (same (x - n) x refl in1 few1);
+          second = lends_consumed n d.second after.second p.second p.taken _ _ _ b al.second le2 (same (y - n) y refl in2 few2);
+          third = lends_consumed n d.third after.third p.third p.taken _ _ _ c al.third le3 (same (z - n) z refl in3 few3);
+        }
+      where
+        within_of : (n k r x : ℕ) → n ≤ k → k ≡ min r x → n ≤ x
+        within_of n k r x le is = omega arith
+
+        left : (past : Pushed) (e : ℕ) → length (unconsumed (p.taken + n) past e) ≡ length (unconsumed p.taken past e) - n
+        left past e = ap length (sym (drop-drop n p.taken (from_edge past e))) ∙ length-drop n (unconsumed p.taken past e)
+
+        reach_moved : (edges : List ℕ) (k : ℕ) → min (reach (consumed n p) edges) k
+            ≡ min (three p.first.ended (length (unconsumed p.taken p.first (slice_index edges 0)) - n) p.second.ended (length (unconsumed p.taken p.second (slice_index edges 1)) - n) p.third.ended (length (unconsumed p.taken p.third (slice_index edges 2)) - n)) k
+        reach_moved edges k = λ i. min (three p.first.ended (left p.first (slice_index edges 0) i) p.second.ended (left p.second (slice_index edges 1) i) p.third.ended (left p.third (slice_index edges 2) i)) k
+
+-- a settling after the alignment changes nothing
+pub aligned_settled : (d : Deskew) (p : Past) (edges : List ℕ) → IsAligned d p edges → IsAligned d (settled p) edges
+aligned_settled d p edges al = record {
+  alignment = al.alignment;
+  first = record { ring = al.first.ring; row = al.first.row; within = al.first.within };
+  second = record { ring = al.second.ring; row = al.second.row; within = al.second.within };
+  third = record { ring = al.third.ring; row = al.third.row; within = al.third.within };
+}
+
+-- what a settling answers of all that was pushed
+pub answer_of : (d : Deskew) (p : Past) (o : Option Aligned) → MatchOption o (Awaits d (settled p)) (λ at. IsAligned d (settled p) at.edges)
+    → MatchOption o ((x y z : ℕ) → IsPastTriple p x y z → ⊥) (λ at. IsPastAlignment p at.edges)
+answer_of d p (Some at) al = al.alignment
+answer_of d p None awaits = λ x y z t. awaits.none x y z (record {
+  first = same_edge _ _ _ _ x refl (sym (take-length p.first.words)) t.first;
+  second = same_edge _ _ _ _ y refl (sym (take-length p.second.words)) t.second;
+  third = same_edge _ _ _ _ z refl (sym (take-length p.third.words)) t.third;
+  first_second = t.first_second;
+  second_third = t.second_third;
+  first_third = t.first_third;
+})
+
+-- the columns of three lists, without the first ones
+none_second : (xs zs : List ℕ) → columns_of xs [] zs ≡ []
+unfolding columns_of
+none_second [] zs = refl
+none_second (x ∷ xs) zs = refl
+
+none_third : (xs ys : List ℕ) → columns_of xs ys [] ≡ []
+unfolding columns_of
+none_third [] ys = refl
+none_third (x ∷ xs) [] = refl
+none_third (x ∷ xs) (y ∷ ys) = refl
+
+pub columns_drop : (t : ℕ) (xs ys zs : List ℕ) → drop t (columns_of xs ys zs) ≡ columns_of (drop t xs) (drop t ys) (drop t zs)
+unfolding columns_of
+columns_drop zero xs ys zs = refl
+columns_drop (suc t) [] ys zs = refl
+columns_drop (suc t) (x ∷ xs) [] zs = sym (none_second (drop t xs) (drop (suc t) zs))
+columns_drop (suc t) (x ∷ xs) (y ∷ ys) [] = sym (none_third (drop t xs) (drop t ys))
+columns_drop (suc t) (x ∷ xs) (y ∷ ys) (z ∷ zs) = columns_drop t xs ys zs
+
+-- as many of each as the shortest has give all columns
+pub columns_take : (n : ℕ) (xs ys zs : List ℕ) → min (length xs) (min (length ys) (length zs)) ≤ n → columns_of (take n xs) (take n ys) (take n zs) ≡ columns_of xs ys zs
+unfolding columns_of
+columns_take zero [] ys zs h = refl
+columns_take zero (x ∷ xs) [] zs h = refl
+columns_take zero (x ∷ xs) (y ∷ ys) [] h = refl
+columns_take zero (x ∷ xs) (y ∷ ys) (z ∷ zs) h = absurd (omega arith)
+columns_take (suc n) [] ys zs h = refl
+columns_take (suc n) (x ∷ xs) [] zs h = refl
+columns_take (suc n) (x ∷ xs) (y ∷ ys) [] h = refl
+columns_take (suc n) (x ∷ xs) (y ∷ ys) (z ∷ zs) h = ap (λ cs. record { blue = x; green = y; red = z } ∷ cs) (columns_take n xs ys zs (omega arith))
+
+reach_enough : (a b c : Bool) (x y z : ℕ) → x < 2 ^ 63 → min x (min y z) ≤ three a x b y c z
+reach_enough true true true x y z h = omega arith
+reach_enough true true false x y z h = omega arith
+reach_enough true false true x y z h = omega arith
+reach_enough true false false x y z h = omega arith
+reach_enough false true true x y z h = omega arith
+reach_enough false true false x y z h = omega arith
+reach_enough false false true x y z h = omega arith
+reach_enough false false false x y z h = omega arith
+
+-- the rows' columns are those that are not consumed
+pub columns_lent : (d : Deskew) (p : Past) (edges : List ℕ) (n : ℕ) → AreKnown d p → IsAligned d p edges
+    → n ≡ min (length d.first.kept.row) (min (length d.second.kept.row) (length d.third.kept.row))
+    → columns_of (take n d.first.kept.row) (take n d.second.kept.row) (take n d.third.kept.row) ≡ drop p.taken (past_columns p edges)
+columns_lent d p edges n known al is =
+    let r = reach p edges in
+    let xs = unconsumed p.taken p.first (slice_index edges 0) in
+    let ys = unconsumed p.taken p.second (slice_index edges 1) in
+    let zs = unconsumed p.taken p.third (slice_index edges 2) in
+    let len1 = row_length d.first p.first p.taken (slice_index edges 0) r al.first in
+    let len2 = row_length d.second p.second p.taken (slice_index edges 1) r al.second in
+    let len3 = row_length d.third p.third p.taken (slice_index edges 2) r al.third in
+    let enough : min (length xs) (min (length ys) (length zs)) ≤ r = reach_enough p.first.ended p.second.ended p.third.ended (length xs) (length ys) (length zs) (few_words d.first p.first p.taken (slice_index edges 0) known.first) in
+    let le : n ≤ r = at_most n r _ _ _ _ is len1 in
+    let all : min (length xs) (min (length ys) (length zs)) ≤ n = at_least n r _ _ _ _ _ _ is len1 len2 len3 enough in
+    (λ i. columns_of (take n (al.first.row i)) (take n (al.second.row i)) (take n (al.third.row i)))
+    ∙ (λ i. columns_of (take-take n r xs le i) (take-take n r ys le i) (take-take n r zs le i))
+    ∙ columns_take n xs ys zs all
+    ∙ sym (columns_drop p.taken (from_edge p.first (slice_index edges 0)) (from_edge p.second (slice_index edges 1)) (from_edge p.third (slice_index edges 2)))
+  where
+    at_most : (n r u v w x : ℕ) → n ≡ min u (min v w) → u ≡ min r x → n ≤ r
+    at_most n r u v w x is a = omega arith
+
+    at_least : (n r u v w x y z : ℕ) → n ≡ min u (min v w) → u ≡ min r x → v ≡ min r y → w ≡ min r z → min x (min y z) ≤ r → min x (min y z) ≤ n
+    at_least n r u v w x y z is a b c le = omega arith
+
+-- what is known in numbers does not depend on settlings
+known_rested : (lane : Lane) (past : Pushed) → Knows lane past → Knows lane (rested past)
+known_rested lane past knows = record { count = knows.count; lock = knows.lock; ended = knows.ended; settled = omega arith }
+
+pub known_settled : (d : Deskew) (p : Past) → AreKnown d p → AreKnown d (settled p)
+known_settled d p known = record { first = known_rested d.first p.first known.first; second = known_rested d.second p.second known.second; third = known_rested d.third p.third known.third }
+
+-- nor on what was found
+abbrev pub with_found : Deskew → Option Aligned → Deskew
+with_found d o = record { first = d.first; second = d.second; third = d.third; found = o }
+
+pub stands_found : (d : Deskew) (o : Option Aligned) (p : Past) → AreKnown d p → MatchOption o (Awaits d p) (λ at. IsAligned d p at.edges) → StandsFor (with_found d o) p
+stands_found d o p known h = record {
+  known = record { first = known.first; second = known.second; third = known.third };
+  alignment = by_found o h;
+}
+  where
+    by_found : (q : Option Aligned) → MatchOption q (Awaits d p) (λ at. IsAligned d p at.edges) → MatchOption q (Awaits (with_found d o) p) (λ at. IsAligned (with_found d o) p at.edges)
+    by_found None a = record { first = a.first; second = a.second; third = a.third; none = a.none; fresh = a.fresh }
+    by_found (Some at) a = record { alignment = a.alignment; first = a.first; second = a.second; third = a.third }

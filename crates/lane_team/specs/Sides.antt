@@ -1,0 +1,51 @@
+-- What a team has of its three lanes, and what a feed adds to it.
+use Rattle.std.specs.Prelude.{◌≡◌, ℕ, ◌+◌, ◌/◌, ◌%◌, ◌^◌, ◌<◌, ◌≤◌, ◌++◌, ◌⊎◌, Bool, List, [], length, take, None}
+use Rattle.std.proofs.Common.{suc, zero}
+use Rattle.tmds_word.specs.Bits.{bytes_bits}
+use Rattle.lane_align.specs.Words.{AreWords, lane_words}
+use Rattle.lane_align.specs.Aligners.{StandsFor, fed_of, lock_of}
+use Rattle.lane_align.specs.declared.aligner.LaneAligner.{LaneAligner}
+
+-- a lane: its aligner, and the characters that its last feed gave
+pub record Side : Type 0 where
+  pub aligner : LaneAligner
+  pub words : List ℕ
+
+pub record Sides : Type 0 where
+  pub first : Side
+  pub second : Side
+  pub third : Side
+
+-- one of the lanes
+abbrev pub side_at : Sides → ℕ → Side
+side_at sides zero = sides.first
+side_at sides (suc zero) = sides.second
+side_at sides (suc (suc n)) = sides.third
+
+-- no bit was fed to a lane
+pub record IsFresh (side : Side) : Type 0 where
+  pub stands : StandsFor side.aligner []
+  pub fed : fed_of side.aligner ≡ 0
+  pub lock : lock_of side.aligner ≡ None
+  pub words : side.words ≡ []
+
+pub record AreFresh (sides : Sides) : Type 0 where
+  pub first : IsFresh sides.first
+  pub second : IsFresh sides.second
+  pub third : IsFresh sides.third
+
+-- what an aligner asks of a feed
+pub record CanTake (side : Side) (bytes : List ℕ) (bits : ℕ) : Type 0 where
+  pub most : bits ≤ 32768
+  pub bytes_given : length bytes ≡ (bits + 7) / 8
+  pub whole : (bits ≡ 0) ⊎ (fed_of side.aligner % 8 ≡ 0)
+  pub total : fed_of side.aligner + bits < 2 ^ 63
+
+-- a lane was fed: its aligner and its characters are those that an aligner of its own gives for the same feed
+pub record HasTaken (old : Side) (bytes : List ℕ) (bits : ℕ) (new : Side) : Type 0 where
+  pub fed : fed_of new.aligner ≡ fed_of old.aligner + bits
+  pub few : length new.words ≤ bits / 10 + 13
+  pub small : AreWords new.words
+  pub stands : (xs : List Bool) → StandsFor old.aligner xs → StandsFor new.aligner (xs ++ take bits (bytes_bits bytes))
+  pub words : (xs : List Bool) → StandsFor old.aligner xs
+      → lane_words (lock_of old.aligner) xs ++ new.words ≡ lane_words (lock_of new.aligner) (xs ++ take bits (bytes_bits bytes))

@@ -1,0 +1,206 @@
+//! Three lanes aligned side by side, each by a worker of its own.
+#![tactic(auto)]
+
+ghost use Rattle.std.specs.Prelude.{◌≡◌, ◌<◌, List, Bool, IfOk, slice_index};
+ghost use Rattle.lane_align.specs.Lanes.{IsLockOf};
+ghost use Rattle.lane_align.specs.Aligners.{StandsFor, lock_of};
+ghost use Rattle.lane_team.specs.Sides.{IsFresh, AreFresh, CanTake, HasTaken, side_at};
+
+use lane_align::LaneAligner;
+use outside_io::NoMemory;
+use std::alloc::Global;
+use std::marker::Model;
+use std::thread::{Threads, join_mut};
+
+#[cfg(test)]
+mod tests;
+
+/// How many characters a row holds: as many as a feed of 32,768 bits makes whole, and more.
+const ROOM: usize = 4160;
+
+/// What a worker goes through before it searches its lane.
+pub trait Gate: Sync {
+    /// Called once by the worker of a lane, in each feed.
+    fn pass(&self, lane: u8);
+}
+
+/// A gate that does nothing.
+#[derive(Clone, Copy, Debug)]
+pub struct Open;
+
+impl Gate for Open {
+    fn pass(&self, _: u8) {}
+}
+
+/// A lane, and the characters of its last feed.
+#[derive(Drop)]
+struct Side {
+    aligner: LaneAligner,
+    /// The characters, and room behind them.
+    row: Vec<u16>,
+    /// How many characters the last feed gave.
+    count: usize,
+}
+
+/// Three lanes, each with an aligner and a row of its own.
+#[derive(Drop)]
+pub struct Team {
+    first: Side,
+    second: Side,
+    third: Side,
+}
+
+impl Model for Side {
+    ghost use Rattle.std.specs.Prelude.{◌≡◌, ◌≤◌, take, length};
+    ghost use Rattle.lane_team.specs.Sides as sides;
+
+    ghost Value = { sides.Side };
+
+    ghost view = { λ s. record { aligner = s.aligner; words = take s.count s.row.items } };
+
+    ghost invariant = { λ s. (length s.row.items ≡ 4160) × (s.count ≤ 4160) };
+}
+
+impl Model for Team {
+    ghost use Rattle.lane_team.specs.Sides.{Sides};
+
+    ghost Value = { Sides };
+
+    ghost view = { λ t. record { first = t.first; second = t.second; third = t.third } };
+}
+
+impl Side {
+    /// A lane to which no bit was fed.
+    fn open(alloc: Global) -> Result<Side, NoMemory>
+        ensures { IfOk result IsFresh }
+    {
+        Ok(Side {
+            aligner: LaneAligner::new(),
+            row: vec![in alloc; 0; ROOM]?,
+            count: 0,
+        })
+    }
+
+    /// Takes bits of the lane.
+    fn feed(&mut self, bytes: &[u8], bits: u32)
+        requires { CanTake self.old bytes.now bits }
+        ensures { HasTaken self.old bytes.now bits self.new }
+    {
+        self.count = self.aligner.feed(bytes, bits, self.row.as_mut_slice());
+    }
+
+    /// The characters of the last feed.
+    fn words(&self) -> &[u16]
+        ensures { result.now ≡ self.now.words }
+    {
+        &self.row.as_slice()[..self.count]
+    }
+
+    /// Makes it as after `open`.
+    fn restart(&mut self)
+        ensures { IsFresh self.new }
+    {
+        self.aligner = LaneAligner::new();
+        self.count = 0;
+    }
+}
+
+impl Team {
+    /// Three lanes to which no bit was fed, with all memory that they ever have.
+    pub fn open(alloc: Global) -> Result<Team, NoMemory>
+        ensures { IfOk result AreFresh }
+    {
+        Ok(Team {
+            first: Side::open(alloc)?,
+            second: Side::open(alloc)?,
+            third: Side::open(alloc)?,
+        })
+    }
+
+    /// Takes bits of each lane, each lane its own number of them: bit i is bit `i % 8` of byte `i / 8`. One
+    /// worker for each lane passes the gate and then feeds the lane; returns when all three have ended.
+    pub fn feed_three<R: Threads, G: Gate>(
+        &mut self,
+        rt: &R,
+        a: &[u8],
+        b: &[u8],
+        c: &[u8],
+        bits: [u32; 3],
+        gate: &G,
+    )
+        requires first { CanTake self.old.first a.now (slice_index bits 0) }
+        requires second { CanTake self.old.second b.now (slice_index bits 1) }
+        requires third { CanTake self.old.third c.now (slice_index bits 2) }
+        ensures first { HasTaken self.old.first a.now (slice_index bits 0) self.new.first }
+        ensures second { HasTaken self.old.second b.now (slice_index bits 1) self.new.second }
+        ensures third { HasTaken self.old.third c.now (slice_index bits 2) self.new.third }
+    {
+        let [x, y, z] = bits;
+        let first = &mut self.first;
+        let second = &mut self.second;
+        let third = &mut self.third;
+        join_mut(
+            rt,
+            &mut ||
+                requires { CanTake first.now a.now x }
+            {
+                gate.pass(0);
+                first.feed(a, x)
+            },
+            &mut ||
+                requires second { CanTake second.now b.now y }
+                requires third { CanTake third.now c.now z }
+            {
+                join_mut(
+                    rt,
+                    &mut ||
+                        requires { CanTake second.now b.now y }
+                    {
+                        gate.pass(1);
+                        second.feed(b, y)
+                    },
+                    &mut ||
+                        requires { CanTake third.now c.now z }
+                    {
+                        gate.pass(2);
+                        third.feed(c, z)
+                    },
+                );
+            },
+        );
+    }
+
+    /// The characters that the last feed gave of a lane.
+    pub fn words(&self, lane: u8) -> &[u16]
+        requires { lane < 3 }
+        ensures { result.now ≡ (side_at self.now lane).words }
+    {
+        match lane {
+            0 => self.first.words(),
+            1 => self.second.words(),
+            _ => self.third.words(),
+        }
+    }
+
+    /// The lock of all bits that were fed of a lane; None exactly where they have none.
+    pub fn locked(&self, lane: u8) -> Option<u64>
+        requires { lane < 3 }
+        ensures lock { result ≡ lock_of (side_at self.now lane).aligner }
+        ensures found { (xs : List Bool) → StandsFor (side_at self.now lane).aligner xs → IsLockOf xs result }
+    {
+        match lane {
+            0 => self.first.aligner.locked(),
+            1 => self.second.aligner.locked(),
+            _ => self.third.aligner.locked(),
+        }
+    }
+
+    /// Makes them as after `open`.
+    pub fn restart(&mut self)
+        ensures { AreFresh self.new }
+    {
+        self.first.restart();
+        self.second.restart();
+        self.third.restart();
+    }
+}

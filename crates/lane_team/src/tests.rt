@@ -1,0 +1,110 @@
+//! The three lanes run side by side, and each gives what an aligner of its own gives.
+ghost use Rattle.std.specs.Prelude.{◌<◌};
+
+use crate::{Gate, Open, Team};
+use lane_align::LaneAligner;
+use std::process::Abort;
+use std::sync::atomic::{AtomicU64, Ordering};
+use std::test::*;
+
+/// For how many turns a lane looks for another at most.
+const TURNS: u64 = 1_000_000_000;
+
+/// Twelve control words of each lane, ten bits a word, the lowest first: those of 0, 1 and 2.
+static LANES: [[u8; 15]; 3] = [
+    [
+        0x54, 0x53, 0x4d, 0x35, 0xd5, 0x54, 0x53, 0x4d, 0x35, 0xd5, 0x54, 0x53, 0x4d, 0x35, 0xd5,
+    ],
+    [
+        0xab, 0xac, 0xb2, 0xca, 0x2a, 0xab, 0xac, 0xb2, 0xca, 0x2a, 0xab, 0xac, 0xb2, 0xca, 0x2a,
+    ],
+    [
+        0x54, 0x51, 0x45, 0x15, 0x55, 0x54, 0x51, 0x45, 0x15, 0x55, 0x54, 0x51, 0x45, 0x15, 0x55,
+    ],
+];
+
+/// Those words as numbers.
+static WORDS: [u16; 3] = [0x354, 0x0ab, 0x154];
+
+/// Where the workers of the three lanes meet: each counts its own passes, and looks for the others to
+/// have passed as often.
+#[derive(Drop)]
+struct Meeting {
+    passes: [AtomicU64; 3],
+    missed: AtomicU64,
+}
+
+impl Meeting {
+    /// Whether a lane comes to have passed so often.
+    fn saw(&self, lane: usize, pass: u64) -> bool
+        requires { lane < 3 }
+    {
+        for _ in 0..TURNS {
+            if self.passes[lane].load(Ordering::SeqCst) >= pass {
+                return true;
+            }
+        }
+        false
+    }
+}
+
+impl Gate for Meeting {
+    fn pass(&self, lane: u8) {
+        if lane < 3 {
+            let own = &self.passes[usize::from(lane)];
+            let pass = own.fetch_add(1, Ordering::SeqCst).wrapping_add(1);
+            if !(self.saw(0, pass) && self.saw(1, pass) && self.saw(2, pass)) {
+                self.missed.fetch_add(1, Ordering::SeqCst);
+            }
+        }
+    }
+}
+
+/// That each lane has so many words of its own, from its first bit on.
+fn expect_words(rt: &impl Abort, team: &Team, count: usize) {
+    for (lane, word) in [(0, WORDS[0]), (1, WORDS[1]), (2, WORDS[2])] {
+        prove!(lane < 3);
+        assert_eq!(rt; team.locked(lane), Some(0), "lane {lane}");
+        assert_eq!(rt; team.words(lane).len(), count, "lane {lane}");
+        for &found in team.words(lane) {
+            assert_eq!(rt; found, word, "lane {lane}");
+        }
+    }
+}
+
+#[test]
+fn lanes_meet(rt: HostRuntime) -> Result<(), Fail> {
+    let gate = Meeting {
+        passes: [AtomicU64::new(0), AtomicU64::new(0), AtomicU64::new(0)],
+        missed: AtomicU64::new(0),
+    };
+    let mut team = Team::open(rt.alloc())?;
+    team.feed_three(&rt, &LANES[0], &LANES[1], &LANES[2], [120; 3], &gate);
+    expect_words(&rt, &team, 12);
+    team.feed_three(&rt, &LANES[0], &LANES[1], &LANES[2], [120; 3], &gate);
+    expect_words(&rt, &team, 12);
+    team.restart();
+    team.feed_three(&rt, &LANES[0], &LANES[1], &LANES[2], [120; 3], &gate);
+    expect_words(&rt, &team, 12);
+    assert_eq!(rt; gate.missed.load(Ordering::SeqCst), 0);
+    for lane in 0..3usize {
+        assert_eq!(rt; gate.passes[lane].load(Ordering::SeqCst), 3, "lane {lane}");
+    }
+    Ok(())
+}
+
+#[test]
+fn lanes_end_apart(rt: HostRuntime) -> Result<(), Fail> {
+    let mut team = Team::open(rt.alloc())?;
+    team.feed_three(&rt, &LANES[0], &LANES[1][..14], &[], [120, 112, 0], &Open);
+    let mut aligner = LaneAligner::new();
+    let mut row = [0; 25];
+    let count = aligner.feed(&LANES[1][..14], 112, &mut row);
+    assert_eq!(rt; team.locked(0), Some(0));
+    assert_eq!(rt; team.words(0).len(), 12);
+    assert_eq!(rt; team.locked(1), aligner.locked());
+    assert_eq!(rt; team.words(1).len(), count);
+    assert_eq!(rt; team.locked(2), None);
+    assert!(rt; team.words(2).is_empty());
+    Ok(())
+}

@@ -1,0 +1,101 @@
+-- What is told of the columns that came of one period, and of periods one after another.
+use Rattle.std.proofs.Common.{◌≡◌, ℕ, suc, ◌+◌, ◌-◌, ◌*◌, ◌/◌, ◌≤◌, List, [], ◌∷◌, ◌++◌, length, take, replicate, refl, ap, ap₂, sym, ◌∙◌, subst, arith, length-append}
+use Rattle.std.proofs.lemmas.List.{append-nil, length-replicate}
+use Rattle.tmds_word.specs.Column.{Column}
+use Rattle.island_pack.specs.Periods.{ControlRun, Period, control, video, island, values_of, period_columns}
+use Rattle.island_pack.specs.Kinds.{control_column, pixel_column, packet_column, guard_pair, kinds_in, kinds_of}
+use Rattle.island_pack.specs.Sparse.{unlike_at}
+use Rattle.period_grammar.specs.Things.{Thing}
+use Rattle.link_sink.specs.Account.{control_row, period_row, account_from}
+use Rattle.link_sink.specs.PeriodLaws.{tells, PeriodCame, AreControl, ControlLaw, TellRow, VideoLaw, IslandLaw, JoiningLaw}
+use Rattle.link_sink.proofs.Cutting.{hear_control}
+use Rattle.link_sink.proofs.Conformed.{is_control_of, is_video_of, is_island_of, Conforms, conforming, HasValues}
+use Rattle.link_sink.proofs.ControlTold.{control_row_told}
+use Rattle.link_sink.proofs.Between.{period_law}
+use Rattle.link_sink.proofs.Joining.{ArrivesPeriod, controls, Arrives, nothing, more, IsBetween, inner_gap, is_tail, follows_long, sized, taken_row, control_period, joined}
+use Rattle.link_sink.proofs.SpelledWords.{period_size}
+use Rattle.link_sink.proofs.Arrival.{fits, arriving}
+use Rattle.link_sink.proofs.Framing.{arrived}
+
+-- One period.
+
+kinds_long : (p : Period) → length (kinds_in p) ≡ period_columns p
+unfolding kinds_in period_columns
+kinds_long (control runs) = length-replicate (length (values_of runs)) control_column
+kinds_long (video bytes) = let l = length-replicate (length bytes / 3) pixel_column in omega arith
+kinds_long (island x) =
+    let l = length-replicate (32 * length x.packets) packet_column in
+    let a = length-append (replicate (32 * length x.packets) packet_column) guard_pair in
+    omega arith
+
+kinds_one : (p : Period) → length (kinds_of (p ∷ [])) ≡ period_columns p
+unfolding kinds_of
+kinds_one p = ap length (append-nil (kinds_in p)) ∙ kinds_long p
+
+one_of : (p : Period) (sent received : List Column) → Arrives (p ∷ []) sent received → ArrivesPeriod p sent received
+one_of p _ _ (more _ _ own came _ _ a nothing) =
+    subst (λ ss. ArrivesPeriod p ss (came ++ [])) (sym (append-nil own)) (subst (λ rs. ArrivesPeriod p own rs) (sym (append-nil came)) a)
+
+-- the columns of one period
+came_one : (p : Period) (sent received : List Column) → HasValues (p ∷ []) → PeriodCame p sent received → ArrivesPeriod p sent received
+came_one p sent received values h =
+    let s = h.sparse in
+    one_of p sent received
+    (arriving (p ∷ []) sent received values (sent, [], sym (append-nil sent), h.spelled, refl)
+    (fits (kinds_of (p ∷ [])) sent received (kinds_one p ∙ sym (period_size p sent h.spelled))
+    (record { same_length = s.same_length; one = s.one_a_column; pair = λ i is. next sent received i (s.one_a_pair i is) })))
+  where
+    next : (sent received : List Column) (i : ℕ) → unlike_at sent received i + unlike_at sent received (i + 1) ≤ 1 → unlike_at sent received i + unlike_at sent received (suc i) ≤ 1
+    next sent received i h = let e : i + 1 ≡ suc i = omega arith in subst (λ n. unlike_at sent received i + unlike_at sent received n ≤ 1) e h
+
+-- a control period
+
+control_of : (runs : List ControlRun) (sent received : List Column) → ArrivesPeriod (control runs) sent received → 12 ≤ length (values_of runs)
+    → AreControl received × ((j m : ℕ) → tells j (take m received) ≡ period_row j m [] (control runs) sent received)
+unfolding period_row
+control_of runs _ _ (controls _ cs n all) long = (record { long = omega arith; all = all }, λ j m. taken_row j m cs all)
+
+pub control_law : ControlLaw
+unfolding HasValues
+control_law runs sent received is h =
+    let c = is_control_of runs is in
+    control_of runs sent received (came_one (control runs) sent received (c.small, tt) h) c.long
+
+-- a period between control periods
+
+told_before : (j : ℕ) (before : List Column) → AreControl before → tells j before ≡ control_row j before
+told_before j before h = hear_control j before h.all ∙ control_row_told j before
+
+tell_row : (p : Period) (sent received : List Column) → IsBetween p → ArrivesPeriod p sent received → TellRow p sent received
+tell_row p sent received between a before next rest j m h at =
+    let g = inner_gap before p sent received h.long between a in
+    let size = g.long in
+    let row = period_row (j + length before) m before p sent received in
+    period_law before p sent received (record { long = h.long; all = h.all }) g j m (next ∷ rest) at
+    ∙ ap₂ (λ (ts : List Thing) (n : ℕ). ts ++ (row ++ tells (j + length before + n) (take (m - n) (next ∷ rest)))) (sym (told_before j before h)) (sym size)
+
+pub video_law : VideoLaw
+unfolding HasValues IsBetween
+video_law bytes sent received is h =
+    let v = is_video_of bytes is in
+    tell_row (video bytes) sent received v (came_one (video bytes) sent received (v.small, tt) h)
+
+pub island_law : IslandLaw
+unfolding HasValues IsBetween
+island_law x sent received is h = tell_row (island x) sent received (is_island_of x is) (came_one (island x) sent received tt h)
+
+-- Periods one after another.
+
+joining_of : (ps : List Period) (sent received : List Column) → Conforms ps → Arrives ps sent received → (j m : ℕ) → tells j (take m received) ≡ account_from j m [] ps sent received
+unfolding Conforms
+joining_of [] sent received c a j m = absurd c
+joining_of (video bytes ∷ rest) sent received c a j m = absurd c
+joining_of (island x ∷ rest) sent received c a j m = absurd c
+joining_of (control runs ∷ rest) _ _ c (more _ _ own came ss rs first a) j m =
+    let long = follows_long (values_of runs) rest c in
+    let h = control_of runs own came first long in
+    joined rest (is_tail (values_of runs) rest c) came ss rs (record { long = h.0.long; all = h.0.all }) a j m
+    ∙ sym (control_period j m [] runs rest own came ss rs (sized (control runs) own came first))
+
+pub joining_law : JoiningLaw
+joining_law ps sent received came = joining_of ps sent received (conforming ps came.conforming) (arrived ps sent received came)
