@@ -92,8 +92,8 @@ holds_columns periods runs now parts v n h e = record {
   earlier = h.earlier;
   values = h.values ++ replicate n v;
   parts_are = ap (λ (ps : List Part). ps ++ replicate n (column v)) h.parts_are
-            ∙ append_assoc h.earlier (map column h.values) (replicate n (column v))
-            ∙ ap (λ (ps : List Part). h.earlier ++ ps) (sym (map-append column h.values (replicate n v) ∙ ap (λ (ps : List Part). map column h.values ++ ps) (map_same n v)));
+      ∙ append_assoc h.earlier (map column h.values) (replicate n (column v))
+      ∙ ap (λ (ps : List Part). h.earlier ++ ps) (sym (map-append column h.values (replicate n v) ∙ ap (λ (ps : List Part). map column h.values ++ ps) (map_same n v)));
   periods_are = h.periods_are;
   runs_are = e;
   apart = h.apart;
@@ -167,11 +167,11 @@ part_held periods whole runs now parts h part q stands e d =
       periods_are = e ∙ append_assoc periods (open_period runs) (q ∷ []) ∙ sym here;
       runs_are = d;
       apart = λ later.
-        ap gathered (append_assoc parts (part ∷ []) later)
-        ∙ first later
-        ∙ sym (ap (λ (ps : List Period). ps ++ gathered later) here
-              ∙ append_assoc periods (open_period runs ++ (q ∷ [])) (gathered later)
-              ∙ ap (λ (ps : List Period). periods ++ ps) (append_assoc (open_period runs) (q ∷ []) (gathered later)));
+          ap gathered (append_assoc parts (part ∷ []) later)
+          ∙ first later
+          ∙ sym (ap (λ (ps : List Period). ps ++ gathered later) here
+          ∙ append_assoc periods (open_period runs ++ (q ∷ [])) (gathered later)
+          ∙ ap (λ (ps : List Period). periods ++ ps) (append_assoc (open_period runs) (q ∷ []) (gathered later)));
     }
 
 island_stands : (x : DataIsland) → Stands (packets x) (island x)

@@ -89,8 +89,8 @@ unfolding lines_of
 frame_room_is mode frame e =
     sum_up (sync mode.down) (back mode.down) (front mode.down) (active mode.down) (blank_room mode) (row_room mode)
     ∙ sym (room_append mode (replicate (sync mode.down) (blank true)) _ ∙ ap₂ (λ (x y : ℕ). x + y) (room_blank mode true (sync mode.down))
-          (room_append mode (replicate (back mode.down) (blank false)) _ ∙ ap₂ (λ (x y : ℕ). x + y) (room_blank mode false (back mode.down))
-          (room_append mode (map row_line frame.rows) (replicate (front mode.down) (blank false)) ∙ ap₂ (λ (x y : ℕ). x + y) (room_rows mode frame.rows ∙ ap (λ (n : ℕ). n * row_room mode) e) (room_blank mode false (front mode.down)))))
+    (room_append mode (replicate (back mode.down) (blank false)) _ ∙ ap₂ (λ (x y : ℕ). x + y) (room_blank mode false (back mode.down))
+    (room_append mode (map row_line frame.rows) (replicate (front mode.down) (blank false)) ∙ ap₂ (λ (x y : ℕ). x + y) (room_rows mode frame.rows ∙ ap (λ (n : ℕ). n * row_room mode) e) (room_blank mode false (front mode.down)))))
 
 pub frame_at : (mode : Mode) (frames : List Frame) (i : ℕ) (d : Frame) → AreFrames mode frames → i < length frames → IsFrame mode (get_or frames i d)
 frame_at mode [] i d are lt = absurd (omega arith)
@@ -134,7 +134,7 @@ pub at_room : (mode : Mode) (frames : List Frame) (found : Option RasterFault) �
 unfolding raster_fault
 at_room mode frames found none right e =
     sym (ap₂ (λ (s t : Option RasterFault). or_else s (or_else t (or_else (no_room mode 0 frames) (too_long mode frames)))) none right
-        ∙ ap (λ (t : Option RasterFault). or_else t (too_long mode frames)) e)
+    ∙ ap (λ (t : Option RasterFault). or_else t (too_long mode frames)) e)
 
 long_if : (t b : Bool) → t ≡ b → cond t (let n : Option RasterFault = None in n) (Some Long) ≡ cond b None (Some Long)
 long_if t b e = ap (λ (x : Bool). cond x None (Some Long)) e

@@ -63,9 +63,9 @@ span_parts mode v ctl from to edge a b le e ea eb =
     let first : from ≤ edge = omega (arith, le, e) in
     let second : edge ≤ to = omega (arith, le, e) in
     sym (columns_split value from edge to first second
-        ∙ ap₂ (λ (ps qs : List Part). ps ++ qs)
-        (columns_flat value a from edge first (λ i low high. ap (λ (h : Bool). pair_value mode h v + ctl) (lt-ltb i (sync mode.across) (omega (arith, low, high, e))) ∙ sym ea))
-        (columns_flat value b edge to second (λ i low high. ap (λ (h : Bool). pair_value mode h v + ctl) (le-ltb i (sync mode.across) (omega (arith, low, high, e))) ∙ sym eb)))
+    ∙ ap₂ (λ (ps qs : List Part). ps ++ qs)
+    (columns_flat value a from edge first (λ i low high. ap (λ (h : Bool). pair_value mode h v + ctl) (lt-ltb i (sync mode.across) (omega (arith, low, high, e))) ∙ sym ea))
+    (columns_flat value b edge to second (λ i low high. ap (λ (h : Bool). pair_value mode h v + ctl) (le-ltb i (sync mode.across) (omega (arith, low, high, e))) ∙ sym eb)))
 
 -- The packets of a line.
 
@@ -104,9 +104,9 @@ lead_columns mode v =
     let line = blank v in
     let value = value_at mode line true in
     sym (columns_split value 0 4 12 (omega arith) (omega arith)
-        ∙ ap₂ (λ (ps qs : List Part). ps ++ qs)
-        (columns_same value (with_ctl mode line 0) 0 4 (omega arith) (λ i low high. calm mode line true i false refl (before_within i 4 12 high)))
-        (columns_same value (with_ctl mode line 20) 4 12 (omega arith) (λ i low high. calm mode line true i true refl (within i 4 12 low high))))
+    ∙ ap₂ (λ (ps qs : List Part). ps ++ qs)
+    (columns_same value (with_ctl mode line 0) 0 4 (omega arith) (λ i low high. calm mode line true i false refl (before_within i 4 12 high)))
+    (columns_same value (with_ctl mode line 20) 4 12 (omega arith) (λ i low high. calm mode line true i true refl (within i 4 12 low high))))
 
 -- a line that takes packets is led as one with no row
 pub lead_row : (mode : Mode) (row : List ℕ) (ps : List Packet) → 20 ≤ guard_at mode → lead mode (blank false) ps ≡ lead mode (row_line row) ps
@@ -155,8 +155,8 @@ behind (p ∷ ps) x le = past_within x 4 12 (omega (arith, le))
 pub blank_parts : (mode : Mode) (v : Bool) (ps : List Packet) → lead_end ps ≤ total mode.across → lead mode (blank v) ps ++ columns (with_ctl mode (blank v) 0) (lead_end ps) (total mode.across) ≡ until mode (blank v) ps (total mode.across)
 blank_parts mode v ps le =
     sym (until_led mode (blank v) ps (total mode.across)
-        ∙ ap (λ (qs : List Part). lead mode (blank v) ps ++ qs)
-        (columns_same (value_at mode (blank v) (some ps)) (with_ctl mode (blank v) 0) (lead_end ps) (total mode.across) le (λ i low high. calm mode (blank v) (some ps) i false refl (behind ps i low))))
+    ∙ ap (λ (qs : List Part). lead mode (blank v) ps ++ qs)
+    (columns_same (value_at mode (blank v) (some ps)) (with_ctl mode (blank v) 0) (lead_end ps) (total mode.across) le (λ i low high. calm mode (blank v) (some ps) i false refl (behind ps i low))))
 
 announced : (mode : Mode) (row : List ℕ) (has : Bool) (x : ℕ) → is_within x (guard_at mode - 8) (guard_at mode) ≡ true → value_at mode (row_line row) has x ≡ with_ctl mode (blank false) 4 x
 announced mode row has x e = ap (λ (b : Bool). sync_at mode (blank false) x + cond b 4 (cond (has && is_within x 4 12) 20 0)) e
@@ -171,11 +171,11 @@ row_until mode row ps le =
     let g = guard_at mode in
     let value = value_at mode (row_line row) (some ps) in
     sym (until_led mode (row_line row) ps g
-        ∙ ap₂ (λ (ls qs : List Part). ls ++ qs) (sym (same_lead mode row ps le))
-        (columns_split value (lead_end ps) (g - 8) g le (omega arith)
-        ∙ ap₂ (λ (qs rs : List Part). qs ++ rs)
-        (columns_same value (with_ctl mode (blank false) 0) (lead_end ps) (g - 8) le (λ i low high. calm mode (row_line row) (some ps) i false (before_within i (g - 8) g high) (behind ps i low)))
-        (columns_same value (with_ctl mode (blank false) 4) (g - 8) g (omega arith) (λ i low high. announced mode row (some ps) i (within i (g - 8) g low high)))))
+    ∙ ap₂ (λ (ls qs : List Part). ls ++ qs) (sym (same_lead mode row ps le))
+    (columns_split value (lead_end ps) (g - 8) g le (omega arith)
+    ∙ ap₂ (λ (qs rs : List Part). qs ++ rs)
+    (columns_same value (with_ctl mode (blank false) 0) (lead_end ps) (g - 8) le (λ i low high. calm mode (row_line row) (some ps) i false (before_within i (g - 8) g high) (behind ps i low)))
+    (columns_same value (with_ctl mode (blank false) 4) (g - 8) g (omega arith) (λ i low high. announced mode row (some ps) i (within i (g - 8) g low high)))))
 
 pub row_parts : (mode : Mode) (row : List ℕ) (ps : List Packet) (a : ℕ) → lead_end ps ≤ guard_at mode - 8 → a ≡ sync mode.across + back mode.across + active mode.across
     → lead mode (blank false) ps ++ (columns (with_ctl mode (blank false) 0) (lead_end ps) (guard_at mode - 8) ++ (columns (with_ctl mode (blank false) 4) (guard_at mode - 8) (guard_at mode) ++ (pixels row ∷ columns (with_ctl mode (blank false) 0) a (total mode.across))))

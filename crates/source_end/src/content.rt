@@ -1,5 +1,5 @@
 //! What rasters show and carry: frames, each with its packets and its rows.
-ghost use Rattle.std.specs.Prelude.{◌≡◌, ℕ, ◌≤◌, ◌<◌, ◌++◌, ◌∷◌, [], List, IsTrue, OnOk, OnErr, length};
+ghost use Rattle.std.specs.Prelude.{◌≡◌, ℕ, ◌↔◌, ◌≤◌, ◌<◌, ◌++◌, ◌∷◌, [], List, IsTrue, OnOk, OnErr, length};
 ghost use Rattle.island_pack.specs.Conforming.{are_bytes};
 ghost use Rattle.source_end.specs.Content.{empty_frame, with_packet, with_row, on_last, is_payload, are_content};
 
@@ -118,6 +118,20 @@ impl Content {
             frames: Vec::new(alloc),
             alloc,
         }
+    }
+
+    /// How many frames there are.
+    pub fn len(&self) -> usize
+        ensures { result ≡ length self.now }
+    {
+        self.frames.len()
+    }
+
+    /// Whether there is no frame.
+    pub fn is_empty(&self) -> bool
+        ensures { IsTrue result ↔ (length self.now ≡ 0) }
+    {
+        self.frames.is_empty()
     }
 
     /// Appends a frame with no packets and no rows. After a refusal the content is as before.

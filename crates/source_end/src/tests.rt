@@ -10,6 +10,8 @@ use std::process::Abort;
 use std::test::*;
 use tmds_word::{ColumnSink, Word};
 
+mod rasters;
+
 /// The columns of the red pixel between two control periods.
 static RED: [[u16; 3]; 27] = [
     [0x354, 0x354, 0x354],

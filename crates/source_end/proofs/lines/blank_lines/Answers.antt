@@ -29,14 +29,14 @@ loop-preserved c =
     record {
       rest = more.rest ∙ sym (ap (λ (ls : List Line). left mode ls ps) (one_blank n v));
       parts = λ parts h few.
-        let now = laid mode lines ps in
-        let here = whole mode (blank v) front None in
-        let sum = one_time n t in
-        let few1 : size parts + n * t < 2 ^ 32 = omega (arith, few, sum) in
-        let s = size_append parts now in
-        let k = size_blank mode v n ps in
-        let few2 : size (parts ++ now) + t < 2 ^ 32 = omega (arith, few, sum, s, k) in
-        subst (λ (qs : List Part). Has c.blank_line.new.out qs)
-        (append_assoc parts now here ∙ ap (λ (qs : List Part). parts ++ qs) (more.parts ∙ sym (ap (λ (ls : List Line). laid mode ls ps) (one_blank n v))))
-        (c.in_ok-blank_line.ensures (parts ++ now) (c.loop.invariant.parts parts h few1) few2);
+          let now = laid mode lines ps in
+          let here = whole mode (blank v) front None in
+          let sum = one_time n t in
+          let few1 : size parts + n * t < 2 ^ 32 = omega (arith, few, sum) in
+          let s = size_append parts now in
+          let k = size_blank mode v n ps in
+          let few2 : size (parts ++ now) + t < 2 ^ 32 = omega (arith, few, sum, s, k) in
+          subst (λ (qs : List Part). Has c.blank_line.new.out qs)
+          (append_assoc parts now here ∙ ap (λ (qs : List Part). parts ++ qs) (more.parts ∙ sym (ap (λ (ls : List Line). laid mode ls ps) (one_blank n v))))
+          (c.in_ok-blank_line.ensures (parts ++ now) (c.loop.invariant.parts parts h few1) few2);
     }

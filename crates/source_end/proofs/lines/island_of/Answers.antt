@@ -18,7 +18,7 @@ loop-packet-preserved c =
     record {
       x_is = omega arith;
       placed = c.in_ok-push.ensures.items
-             ∙ ap₂ (λ (qs : List Packet) (s : List ℕ). qs ++ record { header = p.header; bodies = p.bodies; sync = s } ∷ []) c.loop-packet.invariant.placed (c.packet_sync-sync.ensures ∙ ap (λ (k : ℕ). map f (up_from k 32)) place)
-             ∙ sym (packets_more mode line 14 (take i ps) p)
-             ∙ sym (ap (packets_at mode line 14) (take_more ps i none c.loop-packet-test.true));
+          ∙ ap₂ (λ (qs : List Packet) (s : List ℕ). qs ++ record { header = p.header; bodies = p.bodies; sync = s } ∷ []) c.loop-packet.invariant.placed (c.packet_sync-sync.ensures ∙ ap (λ (k : ℕ). map f (up_from k 32)) place)
+          ∙ sym (packets_more mode line 14 (take i ps) p)
+          ∙ sym (ap (packets_at mode line 14) (take_more ps i none c.loop-packet-test.true));
     }

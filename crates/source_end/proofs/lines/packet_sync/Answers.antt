@@ -10,8 +10,8 @@ loop-i-preserved c =
     record {
       long = length-set c.loop-i.values c.loop-i.i c.sync_at.result ∙ c.loop-i.invariant.long;
       filled = take_more_set c.loop-i.values c.loop-i.i c.sync_at.result (omega (arith, c.loop-i.invariant.long, c.loop-i-test.true))
-             ∙ ap₂ (λ (xs : List ℕ) (v : ℕ). xs ++ v ∷ []) c.loop-i.invariant.filled c.sync_at.ensures.value
-             ∙ sym (map_next f c.args.from c.loop-i.i);
+          ∙ ap₂ (λ (xs : List ℕ) (v : ℕ). xs ++ v ∷ []) c.loop-i.invariant.filled c.sync_at.ensures.value
+          ∙ sym (map_next f c.args.from c.loop-i.i);
     }
 
 pub returns : goal.returns

@@ -40,15 +40,15 @@ loop-row-preserved c =
     record {
       rest = more.rest ∙ ap (λ (ls : List Line). left mode ls ps) next;
       parts = λ parts h few.
-        let now = laid mode lines ps in
-        let here = whole mode (row_line row) front (Some row) in
-        let sum = one_time i t in
-        let few1 : size parts + i * t < 2 ^ 32 = omega (arith, few, sum) in
-        let s = size_append parts now in
-        let long : length (take i rows) ≡ i = omega (arith, length-take i rows, c.loop-row-test.true) in
-        let k = size_rows mode (is_mode mode c.requires.mode) (take i rows) (rows_take (active mode.across) i rows c.requires.rows) ps ∙ ap (λ (n : ℕ). n * t) long in
-        let few2 : size (parts ++ now) + t < 2 ^ 32 = omega (arith, few, sum, s, k) in
-        subst (λ (qs : List Part). Has c.row_line.new.out qs)
-        (append_assoc parts now here ∙ ap (λ (qs : List Part). parts ++ qs) (more.parts ∙ ap (λ (ls : List Line). laid mode ls ps) next))
-        (c.in_ok-row_line.ensures (parts ++ now) (c.loop-row.invariant.parts parts h few1) few2);
+          let now = laid mode lines ps in
+          let here = whole mode (row_line row) front (Some row) in
+          let sum = one_time i t in
+          let few1 : size parts + i * t < 2 ^ 32 = omega (arith, few, sum) in
+          let s = size_append parts now in
+          let long : length (take i rows) ≡ i = omega (arith, length-take i rows, c.loop-row-test.true) in
+          let k = size_rows mode (is_mode mode c.requires.mode) (take i rows) (rows_take (active mode.across) i rows c.requires.rows) ps ∙ ap (λ (n : ℕ). n * t) long in
+          let few2 : size (parts ++ now) + t < 2 ^ 32 = omega (arith, few, sum, s, k) in
+          subst (λ (qs : List Part). Has c.row_line.new.out qs)
+          (append_assoc parts now here ∙ ap (λ (qs : List Part). parts ++ qs) (more.parts ∙ ap (λ (ls : List Line). laid mode ls ps) next))
+          (c.in_ok-row_line.ensures (parts ++ now) (c.loop-row.invariant.parts parts h few1) few2);
     }

@@ -16,13 +16,13 @@ returns-then-row-height c =
     let row = ap (λ k. Some (Row c.args.frame k)) c.loop-bytes.invariant.row_is in
     elim c.then-row-height.branch [
       | then-row-height-via-then-row-height v ↦
-        let last : y ≡ h = omega (arith, v.if-row-height.true, c.loop-bytes.invariant.row_is, c.active-height.ensures.value) in
-        row ∙ sym (c.loop-bytes.invariant.rest ∙ row_surplus w c.args.frame h c.args.rows.now d y c.loop-bytes-test.true last)
+          let last : y ≡ h = omega (arith, v.if-row-height.true, c.loop-bytes.invariant.row_is, c.active-height.ensures.value) in
+          row ∙ sym (c.loop-bytes.invariant.rest ∙ row_surplus w c.args.frame h c.args.rows.now d y c.loop-bytes-test.true last)
       | then-row-height-via-else-row-height+then-as_slice-width v ↦
-        let less : y < h = omega (arith, few, v.if-row-height.false, c.loop-bytes.invariant.row_is, c.active-height.ensures.value) in
-        row
-        ∙ sym (c.loop-bytes.invariant.rest
-              ∙ row_wide w c.args.frame h c.args.rows.now d y c.loop-bytes-test.true less (λ e. v.if-as_slice-width.true (ap length (v.as_slice.ensures ∙ c.bytes-item.is) ∙ e ∙ ap (λ k. 3 * k) (sym c.active.ensures.value))))
+          let less : y < h = omega (arith, few, v.if-row-height.false, c.loop-bytes.invariant.row_is, c.active-height.ensures.value) in
+          row
+          ∙ sym (c.loop-bytes.invariant.rest
+          ∙ row_wide w c.args.frame h c.args.rows.now d y c.loop-bytes-test.true less (λ e. v.if-as_slice-width.true (ap length (v.as_slice.ensures ∙ c.bytes-item.is) ∙ e ∙ ap (λ k. 3 * k) (sym c.active.ensures.value))))
     ]
 
 pub loop-bytes-preserved : goal.loop-bytes-preserved
