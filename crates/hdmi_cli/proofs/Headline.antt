@@ -148,7 +148,7 @@ pub headlined_anywhere : (words : List (List ℕ)) (ending : Ending) (before aft
     → AreTapped ps sent received offset skews counts blue green red bytes
     → (until : ℕ) → AlignsUntil ps sent received offset skews counts until → before.left ≡ Some bytes
     → Unless (λ s old new. (d e f : ℕ) × IsFirst blue green red d e f
-        × ((a : ℕ) × (a + 12 ≤ until) × IsRecovered ps sent received offset skews blue green red d e f a s old new)) status before after
+    × ((a : ℕ) × (a + 12 ≤ until) × IsRecovered ps sent received offset skews blue green red d e f a s old new)) status before after
 headlined_anywhere words ending before after status ends is named ps sent received offset skews counts blue green red bytes t until aligns left =
     let law = tap_accounted ps sent received t.came offset skews counts blue green red t.tap t.small until aligns in
     run_ended (λ s old new. (d e f : ℕ) × IsFirst blue green red d e f
