@@ -213,3 +213,41 @@ fn failing_devices(rt: HostRuntime) -> Result<(), Fail> {
     expect(&rt, &it, 5, "c ", "write failed\n");
     Ok(())
 }
+
+/// Each command that reads a capture, over a read that fails and over a write that fails.
+#[test]
+fn failing_devices_of_each_command(rt: HostRuntime) -> Result<(), Fail> {
+    let capture = hex::decode(rt.alloc(), RED)?;
+    let reads = Devices {
+        failing_reads: &[0],
+        ..STEADY
+    };
+    let writes = Devices {
+        failing_writes: &[0],
+        ..STEADY
+    };
+    for words in ["recover link", "check", "damage 0:0:000"] {
+        let words: Vec<&str> = words.split(' ').collect(rt.alloc())?;
+        let it = answer_of(rt.alloc(), &words, &capture, &reads)?;
+        expect(&rt, &it, 4, "", "read failed\n");
+        let it = answer_of(rt.alloc(), &words, &capture, &writes)?;
+        expect(&rt, &it, 5, "", "write failed\n");
+    }
+    Ok(())
+}
+
+/// A hit past the end of the lanes, and a capture that is cut.
+#[test]
+fn refused_damages(rt: HostRuntime) -> Result<(), Fail> {
+    let capture = hex::decode(rt.alloc(), RED)?;
+    let it = answer_of(
+        rt.alloc(),
+        &["damage", "0:260:000", "1:261:000"],
+        &capture,
+        &STEADY,
+    )?;
+    expect(&rt, &it, 3, "", "input: place 1\n");
+    let it = answer_of(rt.alloc(), &["damage", "0:0:000"], &capture[..109], &STEADY)?;
+    expect(&rt, &it, 3, "", "input: short 109\n");
+    Ok(())
+}

@@ -38,6 +38,8 @@ pub enum ItemFault {
 }
 
 impl From<NoMemory> for ItemFault {
+    ghost from_gives = { λ e r. r ≡ ItemFault.NoMemory };
+
     fn from(_error: NoMemory) -> ItemFault {
         ItemFault::NoMemory
     }

@@ -42,6 +42,8 @@ pub enum RasterFault {
 }
 
 impl From<NoMemory> for RasterFault {
+    ghost from_gives = { λ e r. r ≡ RasterFault.NoMemory };
+
     fn from(_error: NoMemory) -> RasterFault {
         RasterFault::NoMemory
     }
