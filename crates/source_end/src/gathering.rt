@@ -113,7 +113,9 @@ impl Gathering {
     }
 
     /// The allocator of its growth.
-    pub(crate) fn alloc(&self) -> Global {
+    pub(crate) fn alloc(&self) -> Global
+        ensures { result ≡ self.now.alloc }
+    {
         self.alloc
     }
 
