@@ -1,5 +1,5 @@
 -- What `recover link` makes of the capture of a tap of columns that came with sparse damage.
-use Rattle.std.proofs.Common.{◌≡◌, ◌⊎◌, ℕ, ◌+◌, Bool, List, [], ◌∷◌, length, drop, get_or, map, refl, ap, ap₂, sym, ◌∙◌, subst, inl, inr, arith, length-take-le, length-drop}
+use Rattle.std.proofs.Common.{◌≡◌, ◌≤◌, ◌⊎◌, ℕ, ◌+◌, Bool, List, [], ◌∷◌, length, drop, get_or, map, refl, ap, ap₂, sym, ◌∙◌, subst, inl, inr, arith, length-take-le, length-drop}
 use Rattle.std.specs.Prelude.{Option, Some, codes, slice_index, string_bytes}
 use Rattle.std.specs.Io.KnownBytes.{Appends}
 use Rattle.outside_io.specs.Causes.{Rose}
@@ -148,9 +148,9 @@ pub headlined_anywhere : (words : List (List ℕ)) (ending : Ending) (before aft
     → AreTapped ps sent received offset skews counts blue green red bytes
     → (until : ℕ) → AlignsUntil ps sent received offset skews counts until → before.left ≡ Some bytes
     → Unless (λ s old new. (d e f : ℕ) × IsFirst blue green red d e f
-        × ((a : ℕ) × (a + 12 ≤ until) × IsRecovered ps sent received offset skews blue green red d e f a s old new)) status before after
+    × ((a : ℕ) × (a + 12 ≤ until) × IsRecovered ps sent received offset skews blue green red d e f a s old new)) status before after
 headlined_anywhere words ending before after status ends is named ps sent received offset skews counts blue green red bytes t until aligns left =
     let law = tap_accounted ps sent received t.came offset skews counts blue green red t.tap t.small until aligns in
     run_ended (λ s old new. (d e f : ℕ) × IsFirst blue green red d e f
     × ((a : ℕ) × (a + 12 ≤ until) × IsRecovered ps sent received offset skews blue green red d e f a s old new)) words ending before after status ends is named
-    (λ answers. (law.0, law.1, law.2, law.3, law.4.0, law.4.1, answered ps sent received offset skews law.4.0 blue green red law.0 law.1 law.2 bytes ending before after t.lanes t.bytes_are law.3 law.4.2 law.4.3 left answers))
+    (λ answers. (law.0, law.1, law.2, law.3, (law.4.0, law.4.1, answered ps sent received offset skews law.4.0 blue green red law.0 law.1 law.2 bytes ending before after t.lanes t.bytes_are law.3 law.4.2 law.4.3 left answers)))

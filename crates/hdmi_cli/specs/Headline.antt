@@ -1,6 +1,6 @@
 -- What `recover link` makes of the capture of a tap of columns that conforming periods spell, whatever the bit offset, with
 -- skews of at most 70 bits and with sparse damage.
-use Rattle.std.specs.Prelude.{◌≡◌, ℕ, Bool, List, length, Option}
+use Rattle.std.specs.Prelude.{◌≡◌, ◌+◌, ℕ, Bool, List, length, Option}
 use Rattle.std.specs.Io.KnownBytes.{Appends}
 use Rattle.tmds_word.specs.Column.{Column}
 use Rattle.tmds_word.specs.Taps.{IsTap, HasSmallSkew}

@@ -1,8 +1,8 @@
 -- Lanes that push what their aligners write: that they may, and how little is kept once all columns are consumed.
-use Rattle.std.proofs.Common.{◌≡◌, ℕ, suc, zero, ◌+◌, ◌-◌, ◌*◌, ◌/◌, ◌^◌, ◌<◌, ◌≤◌, ◌⊎◌, min, cond, Bool, true, false, List, [], ◌∷◌, ◌++◌, length, refl, ap, ◌∙◌, sym, subst, arith, inl, inr, length-append, length-drop, Option, Some, None, MatchOption, is_some, slice_index}
+use Rattle.std.proofs.Common.{◌≡◌, ℕ, suc, zero, ◌+◌, ◌-◌, ◌/◌, ◌^◌, ◌<◌, ◌≤◌, ◌⊎◌, min, cond, Bool, true, false, List, [], ◌∷◌, ◌++◌, length, refl, ap, ◌∙◌, sym, subst, arith, inl, inr, length-append, length-drop, Option, Some, None, MatchOption, is_some, slice_index}
 use Rattle.std.proofs.lemmas.Bool.{cases_lt}
 use Rattle.lane_align.specs.Lanes.{IsRun, IsLock, IsLockOf}
-use Rattle.lane_align.specs.Words.{words_from, lane_words}
+use Rattle.lane_align.specs.Words.{lane_words}
 use Rattle.lane_align.proofs.Controls.{one_lock, run_within}
 use Rattle.lane_align.proofs.Growing.{run_stays}
 use Rattle.lane_align.proofs.Words.{length-words_from}
