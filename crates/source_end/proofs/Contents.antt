@@ -1,13 +1,12 @@
 -- Contents that grow.
-use Rattle.std.proofs.Common.{◌≡◌, ℕ, zero, suc, ◌+◌, ◌-◌, ◌<◌, ◌≤◌, Bool, true, false, ◌==◌, ◌&&◌, List, [], ◌∷◌, ◌++◌, length, get_or, Option, Some, None, Result, Ok, Err, refl, sym, ap, ap₂, subst, ◌∙◌, arith, lt-ltb, eq-eqb}
+use Rattle.std.proofs.Common.{◌≡◌, ℕ, suc, ◌-◌, ◌<◌, Bool, true, ◌==◌, ◌&&◌, List, [], ◌∷◌, ◌++◌, length, get_or, Result, Ok, Err, refl, ap, ap₂, ◌∙◌, arith, lt-ltb, eq-eqb}
 use Rattle.std.specs.Prelude.{OnOk, OnErr, slice_set, nat_lt}
 use Rattle.std.specs.List.{list_all}
-use Rattle.std.proofs.lemmas.List.{length-set}
 use Rattle.std.proofs.lemmas.List.Folds.{list_all-append}
 use Rattle.tmds_word.proofs.Below.{and-left, and-right}
 use Rattle.island_pack.specs.Conforming.{are_bytes}
 use Rattle.island_pack.specs.declared.packet.Packet.{Packet}
-use Rattle.source_end.specs.Content.{Frame, empty_frame, with_packet, with_row, on_last, is_payload, is_content, are_content}
+use Rattle.source_end.specs.Content.{Frame, with_packet, with_row, on_last, is_payload, is_content, are_content}
 
 both : (a b : Bool) → a ≡ true → b ≡ true → (a && b) ≡ true
 both a b h g = ap₂ (λ (x y : Bool). x && y) h g

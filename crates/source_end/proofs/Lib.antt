@@ -15,3 +15,4 @@ pub mod Contents
 pub mod RasterFaults
 pub mod RasterRuns
 pub mod RasterWriting
+pub mod Generated

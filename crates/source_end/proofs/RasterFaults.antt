@@ -1,15 +1,14 @@
 -- The first fault, number after number, row after row and frame after frame.
-use Rattle.std.proofs.Common.{◌≡◌, ℕ, zero, suc, ◌+◌, ◌-◌, ◌*◌, ◌^◌, ◌≤◌, ◌<◌, Bool, true, false, cond, min, ◌==◌, List, [], ◌∷◌, ◌++◌, length, get_or, drop, map, replicate, Option, Some, None, refl, sym, ap, ap₂, ◌∙◌, arith, eq-eqb}
+use Rattle.std.proofs.Common.{◌≡◌, ℕ, zero, suc, ◌+◌, ◌-◌, ◌*◌, ◌^◌, ◌≤◌, ◌<◌, Bool, true, false, cond, min, ◌==◌, List, [], ◌∷◌, ◌++◌, length, get_or, drop, map, replicate, Option, Some, None, sym, ap, ap₂, ◌∙◌, arith, eq-eqb}
 use Rattle.std.specs.Prelude.{nat_le}
 use Rattle.std.proofs.Math.Seq.{drop-cons}
-use Rattle.std.proofs.lemmas.List.{drop_all, length-replicate, length-map}
+use Rattle.std.proofs.lemmas.List.{drop_all}
 use Rattle.std.proofs.lemmas.Bool.{ne_eqb, le-leb, lt-leb}
-use Rattle.island_pack.specs.declared.packet.Packet.{Packet}
 use Rattle.source_end.specs.declared.mode.Mode.{Mode}
 use Rattle.source_end.specs.declared.refusal.RasterFault.{RasterFault}
 use Rattle.source_end.specs.declared.refusal.RasterFault.TheVariants.{BadMode, Row, NoRoom, Long}
 use Rattle.source_end.specs.Content.{Frame}
-use Rattle.source_end.specs.Raster.{Line, active, front, sync, back, total, blank, row_line, lines_of, room, row_room, blank_room}
+use Rattle.source_end.specs.Raster.{Line, active, front, sync, back, total, blank, row_line, lines_of, row_room, blank_room}
 use Rattle.source_end.specs.RasterRefusals.{or_else, is_in_range, numbers_of, bad_mode, bad_row, bad_rows, room_of, no_room, too_long, raster_fault}
 use Rattle.source_end.proofs.RasterModes.{IsFrame, AreFrames, are_frames}
 

@@ -1,5 +1,5 @@
 -- The lines of a raster conform.
-use Rattle.std.proofs.Common.{◌≡◌, ℕ, zero, suc, ◌+◌, ◌-◌, ◌*◌, ◌/◌, ◌%◌, ◌<◌, ◌≤◌, Bool, true, false, ◌&&◌, cond, ◌==◌, min, List, [], ◌∷◌, ◌++◌, map, length, take, drop, reverse, replicate, Some, refl, sym, ap, ap₂, subst, ◌∙◌, append_assoc, append-nil, arith, length-append}
+use Rattle.std.proofs.Common.{◌≡◌, ℕ, zero, suc, ◌+◌, ◌-◌, ◌*◌, ◌/◌, ◌%◌, ◌<◌, ◌≤◌, Bool, true, false, ◌&&◌, cond, ◌==◌, List, [], ◌∷◌, ◌++◌, map, length, take, drop, reverse, replicate, Some, refl, sym, ap, ap₂, subst, ◌∙◌, append_assoc, append-nil, arith, length-append}
 use Rattle.std.specs.Prelude.{nat_lt, nat_le}
 use Rattle.std.specs.List.{list_all}
 use Rattle.std.proofs.lemmas.List.{reverse-append, length-take}
@@ -13,7 +13,7 @@ use Rattle.island_pack.specs.declared.packet.Packet.{Packet}
 use Rattle.source_end.specs.declared.mode.Mode.{Mode}
 use Rattle.source_end.specs.Content.{Frame, is_payload, is_content, are_content}
 use Rattle.source_end.specs.Lines.{left}
-use Rattle.source_end.specs.Raster.{blank, row_line, row_room, blank_room, lines_of, level, Line, Part, column, pixels, packets, up_from, columns, sync_at, value_at, has_row, guard_at, is_within, room, sync, back, active, front, total, packets_at, island_of, until, whole, laid, parts_of, raster_of}
+use Rattle.source_end.specs.Raster.{blank, row_line, row_room, blank_room, level, Line, Part, column, pixels, packets, up_from, columns, sync_at, value_at, has_row, guard_at, is_within, room, sync, back, active, front, total, packets_at, island_of, until, whole, laid, parts_of, raster_of}
 use Rattle.source_end.proofs.RasterPeriods.{Small, enough, conforming, gathered_conforms}
 use Rattle.source_end.proofs.RasterModes.{IsMode, AreRows, AreFrames}
 use Rattle.source_end.proofs.RasterSizes.{long_row, parts_more, parts_none, after_sync, after_back}

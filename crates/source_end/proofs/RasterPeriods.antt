@@ -8,7 +8,7 @@ use Rattle.island_pack.specs.Periods.{ControlRun, DataIsland, Period, control as
 use Rattle.island_pack.specs.Conforming.{is_run, is_control_period, is_video_period, is_data_island, conforms}
 use Rattle.island_pack.specs.Runs.{joined, join, longest}
 use Rattle.island_pack.proofs.Runs.{values_longest}
-use Rattle.source_end.specs.Raster.{Part, column, pixels, packets, before, gathered}
+use Rattle.source_end.specs.Raster.{Part, column, pixels, packets, gathered}
 use Rattle.source_end.proofs.Gathered.{Apart, prepend, prepend_apart, gathered_columns}
 
 abbrev pub Small : List ℕ → Bool

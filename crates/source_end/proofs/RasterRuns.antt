@@ -1,5 +1,5 @@
 -- The columns of a line as runs.
-use Rattle.std.proofs.Common.{◌≡◌, ℕ, zero, suc, ◌+◌, ◌-◌, ◌*◌, ◌<◌, ◌≤◌, Bool, true, false, ◌&&◌, ◌==◌, cond, min, max, List, [], ◌∷◌, ◌++◌, map, length, take, drop, replicate, Some, refl, sym, ap, ap₂, ◌∙◌, append_assoc, append-nil, length-append, arith}
+use Rattle.std.proofs.Common.{◌≡◌, ℕ, zero, suc, ◌+◌, ◌-◌, ◌*◌, ◌<◌, ◌≤◌, Bool, true, false, ◌&&◌, ◌==◌, cond, min, max, List, [], ◌∷◌, ◌++◌, map, length, take, replicate, Some, refl, sym, ap, ap₂, ◌∙◌, append_assoc, arith}
 use Rattle.std.specs.Prelude.{nat_lt, nat_le}
 use Rattle.std.proofs.lemmas.Bool.{lt-ltb, le-ltb, le-leb, lt-leb}
 use Rattle.std.proofs.lemmas.List.{map-append, take_all}
@@ -7,7 +7,7 @@ use Rattle.terc4.specs.Columns.{one_if}
 use Rattle.island_pack.specs.Periods.{DataIsland}
 use Rattle.island_pack.specs.declared.packet.Packet.{Packet}
 use Rattle.source_end.specs.declared.mode.Mode.{Mode}
-use Rattle.source_end.specs.Raster.{Line, Part, column, pixels, packets, up_from, columns, level, sync_at, value_at, ctl_at, is_within, has_row, guard_at, blank, row_line, row_room, blank_room, sync, back, active, front, total, packets_at, guards_at, island_of, until, whole}
+use Rattle.source_end.specs.Raster.{Line, Part, column, pixels, packets, up_from, columns, level, sync_at, value_at, is_within, has_row, guard_at, blank, row_line, row_room, blank_room, sync, back, active, total, packets_at, island_of, until, whole}
 use Rattle.source_end.specs.Lines.{lead, lead_end}
 use Rattle.source_end.proofs.RasterModes.{IsMode}
 

@@ -1,13 +1,12 @@
 -- Lines that are written one after another.
-use Rattle.std.proofs.Common.{◌≡◌, ℕ, zero, suc, ◌+◌, ◌-◌, ◌*◌, ◌/◌, ◌^◌, ◌<◌, ◌≤◌, Bool, true, false, ◌&&◌, ◌==◌, get_or, min, List, [], ◌∷◌, ◌++◌, map, length, take, drop, replicate, Some, None, refl, sym, ap, ap₂, ◌∙◌, append_assoc, append-nil, arith, inl, inr, mul-le-mul_right}
+use Rattle.std.proofs.Common.{◌≡◌, ℕ, zero, suc, ◌+◌, ◌*◌, ◌/◌, ◌^◌, ◌<◌, ◌≤◌, Bool, true, false, ◌&&◌, ◌==◌, get_or, min, List, [], ◌∷◌, ◌++◌, map, length, take, drop, replicate, refl, sym, ap, ap₂, ◌∙◌, append_assoc, append-nil, arith, inl, inr, mul-le-mul_right}
 use Rattle.std.proofs.lemmas.List.{map-append, drop_all, take_min, length-take, replicate-append-replicate}
 use Rattle.std.proofs.lemmas.Bool.{cases_lt, eqb-true}
 use Rattle.tmds_word.proofs.Below.{and-left, and-right}
-use Rattle.terc4.specs.Columns.{one_if}
 use Rattle.island_pack.specs.declared.packet.Packet.{Packet}
 use Rattle.source_end.specs.declared.mode.Mode.{Mode}
 use Rattle.source_end.specs.Content.{Frame}
-use Rattle.source_end.specs.Raster.{Line, Part, columns, pixels, packets, value_at, island_of, blank, row_line, room, row_room, blank_room, sync, back, front, total, whole, laid, lines_of, parts_of, final_columns}
+use Rattle.source_end.specs.Raster.{Line, Part, columns, pixels, packets, value_at, island_of, blank, row_line, room, sync, back, front, total, whole, laid, lines_of, parts_of, final_columns}
 use Rattle.source_end.specs.Lines.{lead, lead_end, left}
 use Rattle.source_end.specs.Gathering.{size}
 use Rattle.source_end.proofs.Gathered.{size_append}

@@ -1,10 +1,9 @@
 -- What is written of a raster's parts so far.
-use Rattle.std.specs.Prelude.{◌≡◌, ℕ, ◌+◌, ◌*◌, ◌/◌, Bool, true, false, List, [], ◌∷◌, ◌++◌, map, length, Option, Some, None}
-use Rattle.island_pack.specs.Periods.{ControlRun, Period, control}
+use Rattle.std.specs.Prelude.{◌≡◌, ℕ, ◌+◌, ◌*◌, ◌/◌, List, [], ◌∷◌, ◌++◌, map, length}
+use Rattle.island_pack.specs.Periods.{ControlRun, Period}
 use Rattle.island_pack.specs.Runs.{longest}
 use Rattle.source_end.specs.declared.gathering.Gathering.{Gathering}
 use Rattle.source_end.specs.ItemPeriods.{period_of}
-use Rattle.source_end.specs.OpenRuns.{open_period}
 use Rattle.source_end.specs.Raster.{Part, column, pixels, packets, gathered}
 
 abbrev pub part_size : Part → ℕ

@@ -11,3 +11,4 @@ pub mod RasterLaws
 pub mod OpenRuns
 pub mod Lines
 pub mod Gathering
+pub mod Generator

@@ -134,7 +134,8 @@ impl Content {
         self.frames.is_empty()
     }
 
-    /// Appends a frame with no packets and no rows. After a refusal the content is as before.
+    /// Appends a frame with no packets and no rows, the 4,294,967,295th at most. After a refusal the
+    /// content is as before.
     pub fn frame(&mut self) -> Result<(), NoMemory>
         requires { length self.old < 4294967295 }
         ensures ok { OnOk result (self.new ≡ self.old ++ empty_frame ∷ []) }
@@ -144,8 +145,8 @@ impl Content {
         Ok(())
     }
 
-    /// Appends a packet to the last frame; its sync values do not matter. After a refusal the content
-    /// is as before.
+    /// Appends a packet to the last frame, of which there is one; its sync values do not matter. After a
+    /// refusal the content is as before.
     pub fn packet(&mut self, packet: Packet) -> Result<(), NoMemory>
         requires { 1 ≤ length self.old }
         ensures ok { OnOk result (self.new ≡ on_last (with_packet packet) self.old) }
@@ -158,8 +159,8 @@ impl Content {
         }
     }
 
-    /// Appends a row to the last frame: red, green and blue of each pixel. After a refusal the content
-    /// is as before.
+    /// Appends a row to the last frame, of which there is one: red, green and blue of each pixel. After a
+    /// refusal the content is as before.
     pub fn row(&mut self, bytes: &[u8]) -> Result<(), NoMemory>
         requires { 1 ≤ length self.old }
         ensures ok { OnOk result (self.new ≡ on_last (with_row bytes.now) self.old) }

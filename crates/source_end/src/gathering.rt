@@ -44,7 +44,7 @@ impl OpenRuns {
         }
     }
 
-    /// Appends columns of one value.
+    /// Appends columns of one value, as long as all of them fit 32 bits.
     fn push(&mut self, value: u8, count: u32) -> Result<(), NoMemory>
         ensures { (values : List ℕ) → self.old ≡ longest values → length values + count < 2 ^ 32 → OnOk result (self.new ≡ longest (values ++ replicate count value)) }
     {
@@ -113,11 +113,13 @@ impl Gathering {
     }
 
     /// The allocator of its growth.
-    pub(crate) fn alloc(&self) -> Global {
+    pub(crate) fn alloc(&self) -> Global
+        ensures { result ≡ self.now.alloc }
+    {
         self.alloc
     }
 
-    /// Appends control columns of one value.
+    /// Appends control columns of one value, as long as all columns fit 32 bits.
     pub(crate) fn columns(&mut self, value: u8, count: u32) -> Result<(), NoMemory>
         ensures { (parts : List Part) → Has self.old parts → size parts + count < 2 ^ 32 → OnOk result (Has self.new (parts ++ replicate count (column value))) }
     {

@@ -4,6 +4,7 @@
 mod content;
 mod follow;
 mod gathering;
+mod generator;
 mod island;
 mod item;
 mod items;
@@ -16,6 +17,7 @@ mod spell;
 mod stream;
 
 pub use content::Content;
+pub use generator::generate;
 pub use island::Island;
 pub use item::{Item, Pixels, Run, Runs};
 pub use items::{ItemFault, Items};

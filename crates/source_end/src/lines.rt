@@ -1,4 +1,5 @@
-//! The lines of a raster, from left to right and from top to bottom.
+//! The lines of a raster, from left to right and from top to bottom. What each function writes is told as
+//! long as all columns so far fit 32 bits; a raster that is not refused has at most 20,000,000.
 ghost use Rattle.std.specs.Prelude.{◌≡◌, ℕ, ◌+◌, ◌-◌, ◌*◌, ◌^◌, ◌<◌, ◌≤◌, ◌++◌, ◌∷◌, [], List, length, map, replicate, OnOk, IfOk, Some, None};
 ghost use Rattle.island_pack.specs.declared.packet.Packet.{Packet};
 ghost use Rattle.source_end.specs.Gathering.{size, Has};

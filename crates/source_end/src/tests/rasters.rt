@@ -1,7 +1,7 @@
 //! Rasters and refusals of small contents and of two formats, compared with values that were computed
 //! apart from this crate.
 use super::Columns;
-use crate::{Content, Mode, RasterFault, Stream, raster};
+use crate::{Content, Mode, RasterFault, Stream, generate, raster};
 use island_pack::Packet;
 use std::alloc::Global;
 use std::process::Abort;
@@ -537,6 +537,17 @@ fn formats(rt: HostRuntime) -> Result<(), Fail> {
         (1_237_532, 0x900a_5e42)
     );
     assert_eq!(rt; Mode::vic(5), None);
+    Ok(())
+}
+
+#[test]
+fn generated(rt: HostRuntime) -> Result<(), Fail> {
+    let mode = Mode::vic(1).ok_or("no format")?;
+    let content = generate(rt.alloc(), 2)?;
+    assert_eq!(rt; content.len(), 2);
+    let stream = raster(rt.alloc(), &mode, &content)?;
+    assert_eq!(rt; stream.columns(), 840_032);
+    assert_eq!(rt; sum(&columns_of(rt.alloc(), &stream)?), 0x0b88_b297);
     Ok(())
 }
 

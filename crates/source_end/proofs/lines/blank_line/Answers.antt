@@ -1,6 +1,6 @@
-use Rattle.std.proofs.Common.{◌≡◌, ℕ, ◌+◌, ◌-◌, ◌<◌, ◌≤◌, ◌^◌, List, ◌++◌, ap, ap₂, subst, ◌∙◌, append_assoc, arith}
+use Rattle.std.proofs.Common.{ℕ, ◌+◌, ◌-◌, ◌<◌, ◌^◌, List, ◌++◌, ap, ap₂, subst, ◌∙◌, append_assoc, arith}
 use Rattle.std.specs.Prelude.{OnOk}
-use Rattle.source_end.specs.Raster.{Part, columns, blank, total}
+use Rattle.source_end.specs.Raster.{Part, columns, blank}
 use Rattle.source_end.specs.Lines.{lead, lead_end}
 use Rattle.source_end.specs.Gathering.{size, Has}
 use Rattle.source_end.proofs.Gathered.{size_append}

@@ -1,4 +1,4 @@
-use Rattle.std.proofs.Common.{◌≡◌, ℕ, ◌+◌, ◌*◌, ◌<◌, ◌^◌, min, replicate, length, List, [], ◌∷◌, ◌++◌, None, sym, ap, subst, ◌∙◌, append-nil, append_assoc, arith}
+use Rattle.std.proofs.Common.{◌≡◌, ◌+◌, ◌*◌, ◌<◌, ◌^◌, min, replicate, length, List, ◌++◌, None, sym, ap, subst, ◌∙◌, append-nil, append_assoc, arith}
 use Rattle.source_end.specs.Raster.{Line, Part, blank, blank_room, whole, laid, total}
 use Rattle.source_end.specs.Lines.{left}
 use Rattle.source_end.specs.Gathering.{size, Has}

@@ -1,5 +1,4 @@
-use Rattle.std.proofs.Common.{◌≡◌, ℕ, ◌+◌, ◌*◌, ◌<◌, ◌^◌, replicate, map, length, List, ◌++◌, true, false, sym, ap, ap₂, subst, ◌∙◌, arith}
-use Rattle.std.specs.List.{list_all}
+use Rattle.std.proofs.Common.{◌≡◌, ℕ, ◌+◌, ◌*◌, ◌<◌, ◌^◌, replicate, map, length, List, ◌++◌, true, false, sym, ap, subst, ◌∙◌, arith}
 use Rattle.source_end.specs.Raster.{Part, blank, row_line, laid, active, front, sync, back, total}
 use Rattle.source_end.specs.Gathering.{size, Has}
 use Rattle.source_end.specs.Lines.{AreWide}

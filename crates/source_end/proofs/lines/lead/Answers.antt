@@ -1,6 +1,5 @@
-use Rattle.std.proofs.Common.{◌≡◌, ℕ, ◌+◌, ◌-◌, ◌<◌, ◌≤◌, ◌^◌, List, [], ◌∷◌, ◌++◌, length, sym, ap, subst, ◌∙◌, append_assoc, arith}
+use Rattle.std.proofs.Common.{◌+◌, ◌-◌, ◌<◌, ◌≤◌, ◌^◌, List, [], ◌∷◌, ◌++◌, length, ap, subst, ◌∙◌, append_assoc, arith}
 use Rattle.source_end.specs.Raster.{Part, packets, columns, blank}
-use Rattle.source_end.specs.Lines.{lead}
 use Rattle.source_end.specs.Gathering.{size, Has}
 use Rattle.source_end.proofs.Gathered.{size_append}
 use Rattle.source_end.proofs.RasterSizes.{size_columns}

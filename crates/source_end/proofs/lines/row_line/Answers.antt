@@ -1,6 +1,6 @@
-use Rattle.std.proofs.Common.{◌≡◌, ℕ, ◌+◌, ◌-◌, ◌*◌, ◌/◌, ◌<◌, ◌≤◌, ◌^◌, List, [], ◌∷◌, ◌++◌, false, length, ap, ap₂, subst, ◌∙◌, arith}
+use Rattle.std.proofs.Common.{◌≡◌, ℕ, ◌+◌, ◌-◌, ◌<◌, ◌^◌, List, [], ◌∷◌, ◌++◌, false, ap, ap₂, subst, ◌∙◌, arith}
 use Rattle.std.specs.Prelude.{OnOk}
-use Rattle.source_end.specs.Raster.{Part, pixels, columns, blank, guard_at, sync, back, active, total}
+use Rattle.source_end.specs.Raster.{Part, pixels, columns, blank, guard_at, sync, back, active}
 use Rattle.source_end.specs.Lines.{lead, lead_end}
 use Rattle.source_end.specs.Gathering.{size, Has}
 use Rattle.source_end.proofs.Gathered.{size_append}

@@ -1,4 +1,4 @@
-use Rattle.std.proofs.Common.{◌≡◌, ℕ, ◌+◌, ◌*◌, ◌<◌, ◌^◌, min, map, take, get_or, length, List, [], ◌∷◌, ◌++◌, Some, sym, ap, ap₂, subst, ◌∙◌, append-nil, append_assoc, arith}
+use Rattle.std.proofs.Common.{◌≡◌, ℕ, ◌+◌, ◌*◌, ◌<◌, ◌^◌, min, map, take, get_or, length, List, [], ◌∷◌, ◌++◌, Some, sym, ap, subst, ◌∙◌, append-nil, append_assoc, arith}
 use Rattle.std.proofs.lemmas.List.{take_more, length-take}
 use Rattle.source_end.specs.Raster.{Line, Part, active, row_line, row_room, whole, laid, total}
 use Rattle.source_end.specs.Lines.{left}

@@ -1,4 +1,4 @@
-use Rattle.std.proofs.Common.{◌≡◌, ℕ, ◌+◌, ◌*◌, ◌<◌, length, take, get_or, replicate, map, List, ◌++◌, sym, ap, subst, ◌∙◌, arith}
+use Rattle.std.proofs.Common.{◌≡◌, ℕ, ◌*◌, ◌<◌, length, take, get_or, replicate, map, List, ◌++◌, sym, ap, subst, ◌∙◌, arith}
 use Rattle.std.proofs.lemmas.List.{take_more, take_all}
 use Rattle.std.specs.Prelude.{IfOk}
 use Rattle.terc4.specs.Columns.{one_if}
@@ -8,7 +8,7 @@ use Rattle.source_end.specs.Content.{Frame}
 use Rattle.source_end.specs.Raster.{Part, column, active, laid, lines_of, gathered, raster_of}
 use Rattle.source_end.specs.Lines.{AreWide}
 use Rattle.source_end.specs.Gathering.{Has}
-use Rattle.source_end.proofs.RasterModes.{IsFrame, AreFrames, good_mode, good_frames, no_bad_mode, few_columns}
+use Rattle.source_end.proofs.RasterModes.{IsFrame, good_mode, good_frames, no_bad_mode, few_columns}
 use Rattle.source_end.proofs.RasterFaults.{frame_at}
 use Rattle.source_end.proofs.RasterWriting.{bodies, none_bodies, bodies_more, parts_bodies, few_so_far, few_at_end}
 use Rattle.source_end.proofs.rasters.items_of.Goals as goal

@@ -1,4 +1,4 @@
-use Rattle.std.proofs.Common.{◌≡◌, ◌+◌, ◌*◌, ◌-◌, ◌^◌, ◌≤◌, min, length, List, None, sym, ap, subst, ◌∙◌, arith}
+use Rattle.std.proofs.Common.{◌≡◌, ◌+◌, ◌*◌, ◌-◌, ◌^◌, min, length, List, None, sym, ap, subst, ◌∙◌, arith}
 use Rattle.island_pack.specs.Periods.{Period, columns_of}
 use Rattle.island_pack.specs.Conforming.{IsConforming}
 use Rattle.source_end.specs.Content.{Frame}

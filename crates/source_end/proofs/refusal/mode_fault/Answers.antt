@@ -1,4 +1,4 @@
-use Rattle.std.proofs.Common.{◌≡◌, ◌<◌, ℕ, true, false, length, get_or, drop, sym, ap, ◌∙◌, arith}
+use Rattle.std.proofs.Common.{◌≡◌, ℕ, true, false, get_or, drop, sym, ap, ◌∙◌, arith}
 use Rattle.source_end.specs.RasterRefusals.{numbers_of, is_in_range, bad_mode}
 use Rattle.source_end.proofs.RasterFaults.{number_right, number_wrong}
 use Rattle.source_end.proofs.refusal.mode_fault.Goals as goal

@@ -1,7 +1,7 @@
-use Rattle.std.proofs.Common.{◌≡◌, ◌+◌, ◌*◌, ◌-◌, ◌^◌, min, length, List, Some, None, sym, ap, ◌∙◌}
+use Rattle.std.proofs.Common.{◌+◌, ◌*◌, ◌-◌, ◌^◌, min, length, List, Some, None, sym, ap, ◌∙◌}
 use Rattle.source_end.specs.Content.{Frame}
 use Rattle.source_end.specs.Raster.{total}
-use Rattle.source_end.specs.RasterRefusals.{bad_rows, no_room, raster_fault}
+use Rattle.source_end.specs.RasterRefusals.{bad_rows, no_room}
 use Rattle.source_end.proofs.RasterFaults.{at_mode, at_rows, at_room, at_long, at_none}
 use Rattle.source_end.proofs.refusal.raster_fault.Goals as goal
 

@@ -1,4 +1,4 @@
-use Rattle.std.proofs.Common.{◌≡◌, ◌<◌, ◌≤◌, Some, length, get_or, sym, ap, ◌∙◌, arith}
+use Rattle.std.proofs.Common.{◌<◌, ◌≤◌, Some, length, get_or, sym, ap, ◌∙◌, arith}
 use Rattle.source_end.specs.declared.refusal.RasterFault.TheVariants.{NoRoom}
 use Rattle.source_end.specs.Content.{Frame}
 use Rattle.source_end.proofs.RasterFaults.{room_enough, room_wanting}

@@ -1,5 +1,4 @@
-use Rattle.std.proofs.Common.{◌≡◌, ◌<◌, ◌≤◌, ◌*◌, ◌-◌, Option, Some, length, get_or, List, sym, ap, ◌∙◌, arith}
-use Rattle.source_end.specs.declared.refusal.RasterFault.{RasterFault}
+use Rattle.std.proofs.Common.{◌≡◌, ◌<◌, ◌≤◌, ◌*◌, Some, length, get_or, sym, ap, ◌∙◌, arith}
 use Rattle.source_end.specs.declared.refusal.RasterFault.TheVariants.{Row}
 use Rattle.source_end.specs.Raster.{active}
 use Rattle.source_end.proofs.RasterFaults.{row_right, row_wide, row_surplus, row_missing}

@@ -1,6 +1,6 @@
 use Rattle.std.proofs.Common.{◌≡◌, length, ap, ◌∙◌, arith, vec_len, ◌-◌}
 use Rattle.std.proofs.lemmas.List.{length-set}
-use Rattle.source_end.specs.Content.{Frame, with_packet, on_last, is_content}
+use Rattle.source_end.specs.Content.{with_packet, on_last}
 use Rattle.source_end.proofs.Gathered.{on_ok}
 use Rattle.source_end.proofs.Contents.{last_set, set_content, packet_content, kept_or}
 use Rattle.source_end.proofs.content.Content.packet.Goals as goal

@@ -1,6 +1,6 @@
 use Rattle.std.proofs.Common.{◌≡◌, length, ap, ◌∙◌, arith, vec_len, ◌-◌}
 use Rattle.std.proofs.lemmas.List.{length-set}
-use Rattle.source_end.specs.Content.{Frame, with_row, on_last, is_content}
+use Rattle.source_end.specs.Content.{with_row, on_last}
 use Rattle.source_end.proofs.Gathered.{on_ok}
 use Rattle.source_end.proofs.Contents.{last_set, set_content, bytes_at, row_content, kept_or}
 use Rattle.source_end.proofs.content.Content.row.Goals as goal
