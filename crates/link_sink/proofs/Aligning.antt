@@ -1,5 +1,5 @@
 -- There is a first full alignment at or before column f, and it is the end of one control period.
-use Rattle.std.proofs.Common.{◌≡◌, ℕ, ◌+◌, ◌-◌, ◌*◌, ◌<◌, ◌≤◌, max, Bool, true, false, List, length, map, take, drop, get_or, slice_index, refl, ap, ◌∙◌, sym, subst, arith, inl, inr, ◌⊎◌}
+use Rattle.std.proofs.Common.{◌≡◌, ℕ, ◌+◌, ◌-◌, ◌*◌, ◌<◌, ◌≤◌, max, Bool, true, false, List, length, map, take, drop, get_or, slice_index, ap, ◌∙◌, sym, subst, arith, inl, inr, ◌⊎◌}
 use Rattle.std.proofs.Math.Nat.{le-max_left, le-max_right, max-le}
 use Rattle.std.proofs.lemmas.Bool.{cases_lt}
 use Rattle.std.proofs.lemmas.List.{length-map, get_or-map}
@@ -10,78 +10,71 @@ use Rattle.terc4.proofs.Words.{few_turns}
 use Rattle.lane_align.specs.Laws.{marked}
 use Rattle.tmds_word.specs.Taps.{part_of, AreNear, IsPart, HasSmallSkew}
 use Rattle.lane_deskew.specs.Triples.{IsTriple, IsFirst}
-use Rattle.lane_deskew.specs.Kinds.{Kind, control, guard, payload, Item, kinds_of as lane_kinds_of, kind_at as lane_kind_in, IsShape, EndsAt}
-use Rattle.lane_deskew.specs.Ends.{IsSent, damaged}
-use Rattle.lane_deskew.proofs.Ends.{same_word, length_damaged}
-use Rattle.lane_deskew.proofs.Shapes.{ends_apart}
+use Rattle.lane_deskew.specs.Ends.{IsGuard, IsSent, damaged}
+use Rattle.lane_deskew.proofs.Ends.{same_word, length_damaged, kind_cases, no_guard_payload}
+use Rattle.lane_deskew.proofs.Shapes.{IsAlternating, alternating, ends_apart}
 use Rattle.island_pack.specs.Periods.{Period}
 use Rattle.island_pack.specs.Sparse.{AreFew, no_column, column_at, SparesUntil}
 use Rattle.link_sink.proofs.Ends.{near_from, flat}
-use Rattle.link_sink.proofs.Shapes.{no_payload, shapes_of, lane_kind, lane_kind_at, ends_at, ends_control}
 use Rattle.link_sink.proofs.Decided.{first_decided}
-use Rattle.link_sink.proofs.Lanes.{shape_is, fitting_length, fitting_at, lane_sent, not_damaged, few_marked}
+use Rattle.link_sink.proofs.Lanes.{fitting_length, fitting_at, lane_sent, not_damaged, few_marked}
 use Rattle.link_sink.proofs.Spelled.{fitting}
-use Rattle.island_pack.specs.Kinds.{first_guard, kinds_of, kind_at, IsAfterControl}
+use Rattle.island_pack.specs.Kinds.{Kind, control_column, first_guard, IsPayload, kinds_of, kind_at, EndsAt, IsAfterControl}
 use Rattle.link_sink.specs.Laws.{CameOf, EndsControl, BeginColumn, HoldsEnd, FirstUntil}
 use Rattle.link_sink.proofs.Until.{IsReceivedUntil, Holds, edge_until, end_edge}
 
 -- One lane.
-
-by_control : (P : Type 0) (k : Kind) → (k ≡ control → P) → ((k ≡ control → ⊥) → P) → P
-by_control P control f g = f refl
-by_control P guard f g = g (λ e. cc)
-by_control P payload f g = g (λ e. cc)
 
 clash : (b : Bool) → b ≡ true → b ≡ false → ⊥
 clash b h g = cc
 
 received_until : (ks : List Kind) (f : ℕ) (sent received : List ℕ) → IsSent ks sent → length received ≡ length sent → ((i : ℕ) → i < length received → get_or received i 0 < 1024)
     → ((i : ℕ) → i + 11 ≤ length sent → marked (take 11 (drop i (damaged sent received))) ≤ 2)
-    → ((i : ℕ) → i < length sent → i ≤ f → (lane_kind_in ks i ≡ payload → ⊥) → get_or (damaged sent received) i false ≡ false)
+    → ((i : ℕ) → i < length sent → i ≤ f → (IsPayload (kind_at ks i) → ⊥) → get_or (damaged sent received) i false ≡ false)
     → IsReceivedUntil ks f received (damaged sent received)
 received_until ks f sent received s len below few spares =
     let long = length_damaged sent received len in
     let as_sent : (i : ℕ) → i < length received → get_or (damaged sent received) i false ≡ false → get_or received i 0 ≡ get_or sent i 0 = λ i lt u. same_word sent received i len (omega arith) u in
-    let quiet : (i : ℕ) → i < length received → (lane_kind_in ks i ≡ control → ⊥) → get_or (damaged sent received) i false ≡ false → turns (word_bits (get_or received i 0)) ≤ 5 =
+    let quiet : (i : ℕ) → i < length received → (kind_at ks i ≡ control_column → ⊥) → get_or (damaged sent received) i false ≡ false → turns (word_bits (get_or received i 0)) ≤ 5 =
     λ i lt k u. subst (λ w. turns (word_bits w) ≤ 5) (sym (as_sent i lt u)) (s.others i (omega arith) k) in
-    let whole : (i : ℕ) → i < length received → lane_kind_in ks i ≡ control → get_or (damaged sent received) i false ≡ false → is_control (get_or received i 0) ≡ true =
+    let whole : (i : ℕ) → i < length received → kind_at ks i ≡ control_column → get_or (damaged sent received) i false ≡ false → is_control (get_or received i 0) ≡ true =
     λ i lt k u. ap is_control (as_sent i lt u) ∙ s.controls i (omega arith) k in
     record {
       calm = record {
         same_length = omega arith;
-        plain = λ i lt u none. by_control (turns (word_bits (get_or received i 0)) ≤ 5) (lane_kind_in ks i) (λ c. absurd (clash _ (whole i lt c u) none)) (λ other. quiet i lt other u);
+        plain = λ i lt u none. kind_cases (turns (word_bits (get_or received i 0)) ≤ 5) (kind_at ks i) (λ c. absurd (clash _ (whole i lt c u) none)) (λ other. quiet i lt other u);
         few = λ i within. few i (omega arith);
       };
       below = below;
-      controls = λ i lt le k. whole i lt k (spares i (omega arith) le (λ p. cc));
-      guards = λ i lt le k. few_turns _ (quiet i lt (λ c. cc) (spares i (omega arith) le (λ p. cc)));
-      payloads = λ i lt le k u. few_turns _ (quiet i lt (λ c. cc) u);
+      controls = λ i lt le k. whole i lt k (spares i (omega arith) le (λ p. subst IsPayload k p));
+      guards = λ i lt le k. few_turns _ (quiet i lt (λ c. subst IsGuard c k) (spares i (omega arith) le (no_guard_payload (kind_at ks i) k)));
+      payloads = λ i lt le k u. few_turns _ (quiet i lt (λ c. subst IsPayload c k) u);
     }
 
 -- the lane of a stream that a projection takes
 lane_until : (g : Column → ℕ) (ps : List Period) (sent received : List Column) (f : ℕ) → CameOf ps sent received → SparesUntil ps sent received f
-    → IsSent (lane_kinds_of (shapes_of ps)) (map g sent) → ((i : ℕ) → i < length received → g (column_at received i) < 1024) → AreFew (map g sent) (map g received)
-    → IsReceivedUntil (lane_kinds_of (shapes_of ps)) f (map g received) (damaged (map g sent) (map g received))
+    → IsSent (kinds_of ps) (map g sent) → ((i : ℕ) → i < length received → g (column_at received i) < 1024) → AreFew (map g sent) (map g received)
+    → IsReceivedUntil (kinds_of ps) f (map g received) (damaged (map g sent) (map g received))
 lane_until g ps sent received f came spares is_sent narrow few =
     let same = came.sparse.same_length in
     let a = length-map sent g in
     let b = length-map received g in
-    received_until (lane_kinds_of (shapes_of ps)) f (map g sent) (map g received) is_sent (omega arith)
+    received_until (kinds_of ps) f (map g sent) (map g received) is_sent (omega arith)
     (λ i lt. subst (λ w. w < 1024) (sym (get_or-map g received i no_column 0 (omega arith))) (narrow i (omega arith)))
     (few_marked (map g sent) (map g received) few)
     (λ i lt le n. not_damaged (map g sent) (map g received) i (omega arith)
     (get_or-map g received i no_column 0 (omega arith)
-    ∙ ap g (spares i le (no_payload (kind_at (kinds_of ps) i) (λ e. n (lane_kind_at ps i ∙ e))))
+    ∙ ap g (spares i le n)
     ∙ sym (get_or-map g sent i no_column 0 (omega arith))))
 
 record LanesUntil (ps : List Period) (sent received : List Column) (f : ℕ) : Type 0 where
-  blue : IsReceivedUntil (lane_kinds_of (shapes_of ps)) f (blues received) (damaged (blues sent) (blues received))
-  green : IsReceivedUntil (lane_kinds_of (shapes_of ps)) f (greens received) (damaged (greens sent) (greens received))
-  red : IsReceivedUntil (lane_kinds_of (shapes_of ps)) f (reds received) (damaged (reds sent) (reds received))
+  blue : IsReceivedUntil (kinds_of ps) f (blues received) (damaged (blues sent) (blues received))
+  green : IsReceivedUntil (kinds_of ps) f (greens received) (damaged (greens sent) (greens received))
+  red : IsReceivedUntil (kinds_of ps) f (reds received) (damaged (reds sent) (reds received))
 
 lanes_until : (ps : List Period) (sent received : List Column) (f : ℕ) → CameOf ps sent received → SparesUntil ps sent received f → LanesUntil ps sent received f
 lanes_until ps sent received f came spares =
-    let ks = lane_kinds_of (shapes_of ps) in
+    let ks = kinds_of ps in
     let fit = fitting ps sent came.conforming came.spelled in
     let long = fitting_length ks sent fit in
     let at = fitting_at ks sent fit in
@@ -95,18 +88,18 @@ lanes_until ps sent received f came spares =
 -- Three lanes.
 
 -- an edge of a lane that is the end of a control period
-abbrev IsEnd : List Item → ℕ → ℕ → ℕ → Type 0
-IsEnd items f from e = (i : ℕ) × (EndsAt (lane_kinds_of items) i) × (i + 1 ≤ f) × (e + from ≡ 10 * (i + 1))
+abbrev IsEnd : List Kind → ℕ → ℕ → ℕ → Type 0
+IsEnd kinds f from e = (i : ℕ) × (EndsAt kinds i) × (i + 1 ≤ f) × (e + from ≡ 10 * (i + 1))
 
 -- two ends that lie near each other are one
-one_end : (items : List Item) (f k l d e : ℕ) → IsShape items → AreNear k l → AreNear d e → (a : IsEnd items f k d) → (b : IsEnd items f l e) → a.0 ≡ b.0
-one_end items f k l d e shape skew near a b =
+one_end : (kinds : List Kind) (f k l d e : ℕ) → IsAlternating kinds → AreNear k l → AreNear d e → (a : IsEnd kinds f k d) → (b : IsEnd kinds f l e) → a.0 ≡ b.0
+one_end kinds f k l d e alternates skew near a b =
     let pa = a.3 in
     let pb = b.3 in
     elim (cases_lt a.0 b.0) [
-      | inl less ↦ let far = ends_apart items shape a.0 b.0 a.1 b.1 less in absurd (omega arith)
+      | inl less ↦ let far = ends_apart kinds alternates a.0 b.0 a.1 b.1 less in absurd (omega arith)
       | inr more ↦ elim (cases_lt b.0 a.0) [
-        | inl less ↦ let far = ends_apart items shape b.0 a.0 b.1 a.1 less in absurd (omega arith)
+        | inl less ↦ let far = ends_apart kinds alternates b.0 a.0 b.1 a.1 less in absurd (omega arith)
         | inr equal ↦ omega arith
       ]
     ]
@@ -160,22 +153,21 @@ record HoldsEach (received : List Column) (k1 k2 k3 n1 n2 n3 f : ℕ) : Type 0 w
 here : (ps : List Period) (sent received : List Column) (f : ℕ) → CameOf ps sent received → SparesUntil ps sent received f → IsAfterControl (kinds_of ps) f
     → (k1 k2 k3 n1 n2 n3 : ℕ) → HoldsEach received k1 k2 k3 n1 n2 n3 f → AreNear k1 k2 → AreNear k2 k3 → AreNear k1 k3
     → IsTriple (part_of (blues received) k1 n1) (part_of (greens received) k2 n2) (part_of (reds received) k3 n3) (10 * f - k1) (10 * f - k2) (10 * f - k3)
-unfolding lane_kind
 here ps sent received f came spares after k1 k2 k3 n1 n2 n3 h n12 n23 n13 =
-    let items = shapes_of ps in
-    let shape = shape_is ps came.conforming in
+    let kinds = kinds_of ps in
+    let alternates = alternating ps came.conforming in
     let lanes = lanes_until ps sent received f came spares in
     let i = after.before.0 in
     let next = after.before.1 in
-    let at_f : lane_kind_in (lane_kinds_of items) f ≡ guard = lane_kind_at ps f ∙ ap lane_kind after.opens in
-    let end = ends_at ps i (record { here = after.before.2; then = λ e. let o : kind_at (kinds_of ps) (i + 1) ≡ first_guard = ap (kind_at (kinds_of ps)) (sym next) ∙ after.opens in absurd cc }) in
+    let at_f : IsGuard (kind_at kinds f) = subst IsGuard (sym after.opens) tt in
+    let end : EndsAt kinds i = record { here = after.before.2; then = λ e. let o : kind_at kinds (i + 1) ≡ first_guard = ap (kind_at kinds) (sym next) ∙ after.opens in cc } in
     let b1 = h.blue.begins in
     let b2 = h.green.begins in
     let b3 = h.red.begins in
     record {
-      first = end_edge items f i (blues received) _ shape lanes.blue at_f end next k1 n1 h.blue;
-      second = end_edge items f i (greens received) _ shape lanes.green at_f end next k2 n2 h.green;
-      third = end_edge items f i (reds received) _ shape lanes.red at_f end next k3 n3 h.red;
+      first = end_edge kinds f i (blues received) _ alternates lanes.blue at_f end next k1 n1 h.blue;
+      second = end_edge kinds f i (greens received) _ alternates lanes.green at_f end next k2 n2 h.green;
+      third = end_edge kinds f i (reds received) _ alternates lanes.red at_f end next k3 n3 h.red;
       first_second = near_place (10 * f) k1 k2 (omega arith) (omega arith) n12;
       second_third = near_place (10 * f) k2 k3 (omega arith) (omega arith) n23;
       first_third = near_place (10 * f) k1 k3 (omega arith) (omega arith) n13;
@@ -188,10 +180,9 @@ first_end : (ps : List Period) (sent received : List Column) (f : ℕ) → CameO
     → (p q r : ℕ)
     → IsFirst (part_of (blues received) (offset + slice_index skews 0) n1) (part_of (greens received) (offset + slice_index skews 1) n2) (part_of (reds received) (offset + slice_index skews 2) n3) p q r
     → (i : ℕ) × EndsControl ps i × (i + 1 ≤ f) × BeginColumn offset skews (i + 1) p q r
-unfolding lane_kind
 first_end ps sent received f came spares after offset skews n1 n2 n3 small h p q r first =
-    let items = shapes_of ps in
-    let shape = shape_is ps came.conforming in
+    let kinds = kinds_of ps in
+    let alternates = alternating ps came.conforming in
     let lanes = lanes_until ps sent received f came spares in
     let k1 = offset + slice_index skews 0 in
     let k2 = offset + slice_index skews 1 in
@@ -199,23 +190,23 @@ first_end ps sent received f came spares after offset skews n1 n2 n3 small h p q
     let n12 = near_from offset (slice_index skews 0) (slice_index skews 1) small.first_second in
     let n23 = near_from offset (slice_index skews 1) (slice_index skews 2) small.second_third in
     let n13 = near_from offset (slice_index skews 0) (slice_index skews 2) small.first_third in
-    let at_f : lane_kind_in (lane_kinds_of items) f ≡ guard = lane_kind_at ps f ∙ ap lane_kind after.opens in
+    let at_f : IsGuard (kind_at kinds f) = subst IsGuard (sym after.opens) tt in
     let n = 10 * f in
     let b1 = h.blue.begins in
     let b2 = h.green.begins in
     let b3 = h.red.begins in
     let t = first.triple in
     let least = first.least (n - k1) (n - k2) (n - k3) (here ps sent received f came spares after k1 k2 k3 n1 n2 n3 h n12 n23 n13) in
-    let a = edge_until items f (blues received) _ shape lanes.blue at_f k1 n1 p h.blue t.first (bounded n k1 k2 k3 p q r (omega arith) n12 n13 least) in
-    let b = edge_until items f (greens received) _ shape lanes.green at_f k2 n2 q h.green t.second (bounded_second n k1 k2 k3 p q r (omega arith) n12 n23 least) in
-    let c = edge_until items f (reds received) _ shape lanes.red at_f k3 n3 r h.red t.third (bounded_third n k1 k2 k3 p q r (omega arith) n13 n23 least) in
-    let ab = one_end items f k1 k2 p q shape n12 t.first_second a b in
-    let ac = one_end items f k1 k3 p r shape n13 t.first_third a c in
+    let a = edge_until kinds f (blues received) _ alternates lanes.blue at_f k1 n1 p h.blue t.first (bounded n k1 k2 k3 p q r (omega arith) n12 n13 least) in
+    let b = edge_until kinds f (greens received) _ alternates lanes.green at_f k2 n2 q h.green t.second (bounded_second n k1 k2 k3 p q r (omega arith) n12 n23 least) in
+    let c = edge_until kinds f (reds received) _ alternates lanes.red at_f k3 n3 r h.red t.third (bounded_third n k1 k2 k3 p q r (omega arith) n13 n23 least) in
+    let ab = one_end kinds f k1 k2 p q alternates n12 t.first_second a b in
+    let ac = one_end kinds f k1 k3 p r alternates n13 t.first_third a c in
     let pa = a.3 in
     let pb = b.3 in
     let pc = c.3 in (
       a.0,
-      ends_control ps a.0 a.1,
+      a.1,
       a.2,
       record {
         blue = flat p offset (slice_index skews 0) _ pa;

@@ -3,28 +3,25 @@ use Rattle.std.proofs.Common.{◌≡◌, ℕ, ◌+◌, Bool, List, subst, arith}
 use Rattle.std.specs.Prelude.{slice_index}
 use Rattle.lane_deskew.specs.Triples.{IsFirst}
 use Rattle.tmds_word.specs.Taps.{AreNear}
-use Rattle.lane_deskew.specs.Kinds as lanes
-use Rattle.lane_deskew.specs.Kinds.{IsShape}
 use Rattle.lane_deskew.specs.Ends.{IsReceived, damaged}
+use Rattle.lane_deskew.proofs.Shapes.{IsAlternating, alternating}
 use Rattle.lane_deskew.proofs.Ends.{edge_ends, first_ends as lanes_first_ends}
 use Rattle.tmds_word.specs.Column.{blues, greens, reds}
 use Rattle.island_pack.specs.Periods.{Period}
+use Rattle.island_pack.specs.Kinds.{kinds_of}
 use Rattle.link_sink.specs.Laws.{AreEnds, EdgesEnd, FirstEnds}
-use Rattle.link_sink.proofs.Shapes.{shapes_of, ends_control}
-use Rattle.link_sink.proofs.Lanes.{shape_is, lanes_received}
+use Rattle.link_sink.proofs.Lanes.{lanes_received}
 
-lane_ends : (ps : List Period) (words : List ℕ) (marks : List Bool) → IsShape (shapes_of ps) → IsReceived (lanes.kinds_of (shapes_of ps)) words marks → AreEnds ps words
-lane_ends ps words marks shape lane = record {
-  edges = λ from many e edge. let end = edge_ends (shapes_of ps) words marks shape lane from many e edge in (end.0, ends_control ps end.0 end.1, end.2);
-}
+lane_ends : (ps : List Period) (words : List ℕ) (marks : List Bool) → IsAlternating (kinds_of ps) → IsReceived (kinds_of ps) words marks → AreEnds ps words
+lane_ends ps words marks alternates lane = record { edges = edge_ends (kinds_of ps) words marks alternates lane }
 
 pub edges_end : EdgesEnd
 edges_end ps sent received came alone =
-    let shape = shape_is ps came.conforming in
+    let alternates = alternating ps came.conforming in
     let lanes = lanes_received ps sent received came alone in (
-      lane_ends ps (blues received) (damaged (blues sent) (blues received)) shape lanes.blue,
-      lane_ends ps (greens received) (damaged (greens sent) (greens received)) shape lanes.green,
-      lane_ends ps (reds received) (damaged (reds sent) (reds received)) shape lanes.red,
+      lane_ends ps (blues received) (damaged (blues sent) (blues received)) alternates lanes.blue,
+      lane_ends ps (greens received) (damaged (greens sent) (greens received)) alternates lanes.green,
+      lane_ends ps (reds received) (damaged (reds sent) (reds received)) alternates lanes.red,
     )
 
 -- three lists at once
@@ -43,13 +40,13 @@ first_ends ps sent received came alone offset skews counts x y z tapped small d 
     let k1 = slice_index skews 0 in
     let k2 = slice_index skews 1 in
     let k3 = slice_index skews 2 in
-    let shape = shape_is ps came.conforming in
+    let alternates = alternating ps came.conforming in
     let lanes = lanes_received ps sent received came alone in
     let ends =
-    lanes_first_ends (shapes_of ps) (blues received) (greens received) (reds received)
+    lanes_first_ends (kinds_of ps) (blues received) (greens received) (reds received)
     (damaged (blues sent) (blues received)) (damaged (greens sent) (greens received)) (damaged (reds sent) (reds received))
-    shape lanes.blue lanes.green lanes.red (offset + k1) (offset + k2) (offset + k3)
+    alternates lanes.blue lanes.green lanes.red (offset + k1) (offset + k2) (offset + k3)
     (slice_index counts 0) (slice_index counts 1) (slice_index counts 2) d e f
     (near_from offset k1 k2 small.first_second) (near_from offset k2 k3 small.second_third) (near_from offset k1 k3 small.first_third)
     (first_of x y z _ _ _ d e f tapped.blue_part.bits_are tapped.green_part.bits_are tapped.red_part.bits_are first) in
-    (ends.0, ends_control ps ends.0 ends.1, record { blue = flat d offset k1 _ ends.2; green = flat e offset k2 _ ends.3; red = flat f offset k3 _ ends.4 })
+    (ends.0, ends.1, record { blue = flat d offset k1 _ ends.2; green = flat e offset k2 _ ends.3; red = flat f offset k3 _ ends.4 })

@@ -1,6 +1,6 @@
 -- The lanes of columns that came of conforming periods with sparse damage: each is one in which an edge is the end of a
 -- control period.
-use Rattle.std.proofs.Common.{◌≡◌, ℕ, suc, zero, ◌+◌, ◌<◌, ◌≤◌, true, false, not, ◌==◌, List, [], ◌∷◌, map, length, take, drop, get_or, refl, ap, sym, ◌∙◌, subst, arith}
+use Rattle.std.proofs.Common.{◌≡◌, ℕ, suc, zero, ◌+◌, ◌<◌, ◌≤◌, false, not, ◌==◌, List, [], ◌∷◌, map, length, take, drop, get_or, refl, ap, sym, ◌∙◌, subst, arith}
 use Rattle.std.proofs.lemmas.Bool.{eq-eqb}
 use Rattle.std.proofs.lemmas.List.{length-map, get_or-map}
 use Rattle.tmds_word.specs.Bits.{word_bits, turns}
@@ -8,30 +8,13 @@ use Rattle.tmds_word.specs.Column.{Column, blues, greens, reds}
 use Rattle.terc4.specs.Tables.{is_control}
 use Rattle.terc4.specs.Columns.{one_if}
 use Rattle.lane_align.specs.Laws.{marked}
-use Rattle.lane_deskew.specs.Kinds.{Kind, control as control_kind, guard, payload, kinds_of, kind_at, IsShape}
+use Rattle.island_pack.specs.Kinds.{Kind, IsPayload, kinds_of, kind_at}
 use Rattle.lane_deskew.specs.Ends.{IsReceived, IsSent, IsSparse as IsSparseLane, damaged}
 use Rattle.lane_deskew.proofs.Ends.{sparse_received}
-use Rattle.island_pack.specs.Periods.{Period, control, video, island, values_of}
-use Rattle.island_pack.specs.Conforming.{IsConforming}
+use Rattle.island_pack.specs.Periods.{Period}
 use Rattle.island_pack.specs.Sparse.{unlike_words, AreFew, no_column, column_at, IsSparseInPayload}
-use Rattle.island_pack.specs.Kinds as columns
 use Rattle.link_sink.specs.Laws.{CameOf}
-use Rattle.link_sink.proofs.Shapes.{shape_of, shapes_of, lane_kind_at, no_payload}
-use Rattle.link_sink.proofs.Conformed.{Conforms, conforming}
-use Rattle.link_sink.proofs.EndPlaces.{follows_shape}
 use Rattle.link_sink.proofs.Spelled.{FitsWord, FitsColumn, Fitting, no_columns, column, fitting}
-
--- Conforming periods have a shape.
-
-conforms_shape : (ps : List Period) → Conforms ps → IsShape (shapes_of ps)
-unfolding Conforms shape_of
-conforms_shape [] h = absurd h
-conforms_shape (control runs ∷ rest) h = follows_shape (values_of runs) rest h
-conforms_shape (video bytes ∷ rest) h = absurd h
-conforms_shape (island x ∷ rest) h = absurd h
-
-pub shape_is : (ps : List Period) → IsConforming ps → IsShape (shapes_of ps)
-shape_is ps h = conforms_shape ps (conforming ps h)
 
 -- Sent words.
 
@@ -44,14 +27,6 @@ fitting_at _ _ no_columns i lt = absurd (omega arith)
 fitting_at _ _ (column k c ks cs h hs) zero lt = h
 fitting_at _ _ (column k c ks cs h hs) (suc i) lt = fitting_at ks cs hs i (omega arith)
 
-control_fits : (k : Kind) (w : ℕ) → FitsWord k w → k ≡ control_kind → is_control w ≡ true
-control_fits k w h e = subst (λ k. FitsWord k w) e h
-
-other_fits : (k : Kind) (w : ℕ) → FitsWord k w → (k ≡ control_kind → ⊥) → turns (word_bits w) ≤ 5
-other_fits control_kind w h n = absurd (n refl)
-other_fits guard w h n = h
-other_fits payload w h n = h
-
 -- one lane of columns, by its word of a column
 pub lane_sent : (f : Column → ℕ) (ks : List Kind) (cs : List Column) → length ks ≡ length cs
     → ((i : ℕ) → i < length cs → FitsWord (kind_at ks i) (f (column_at cs i))) → IsSent ks (map f cs)
@@ -60,8 +35,8 @@ lane_sent f ks cs long fit =
     let word : (i : ℕ) → i < length (map f cs) → get_or (map f cs) i 0 ≡ f (column_at cs i) = λ i lt. get_or-map f cs i no_column 0 (omega arith) in
     record {
       same_length = omega arith;
-      controls = λ i lt e. ap is_control (word i lt) ∙ control_fits (kind_at ks i) (f (column_at cs i)) (fit i (omega arith)) e;
-      others = λ i lt n. subst (λ w. turns (word_bits w) ≤ 5) (sym (word i lt)) (other_fits (kind_at ks i) (f (column_at cs i)) (fit i (omega arith)) n);
+      controls = λ i lt e. ap is_control (word i lt) ∙ (fit i (omega arith)).controls e;
+      others = λ i lt n. subst (λ w. turns (word_bits w) ≤ 5) (sym (word i lt)) ((fit i (omega arith)).others n);
     }
 
 -- Received words.
@@ -98,7 +73,7 @@ few_marked xs ys few i within =
     omega arith
 
 lane_sparse : (f : Column → ℕ) (ks : List Kind) (ss rs : List Column) → length rs ≡ length ss → ((i : ℕ) → i < length rs → f (column_at rs i) < 1024)
-    → ((i : ℕ) → i < length ss → (kind_at ks i ≡ payload → ⊥) → column_at rs i ≡ column_at ss i)
+    → ((i : ℕ) → i < length ss → (IsPayload (kind_at ks i) → ⊥) → column_at rs i ≡ column_at ss i)
     → AreFew (map f ss) (map f rs) → IsSparseLane ks (map f ss) (map f rs)
 lane_sparse f ks ss rs long narrow same few =
     let a = length-map ss f in
@@ -113,19 +88,19 @@ lane_sparse f ks ss rs long narrow same few =
 
 -- the three lanes
 pub record AreReceived (ps : List Period) (sent received : List Column) : Type 0 where
-  pub blue : IsReceived (kinds_of (shapes_of ps)) (blues received) (damaged (blues sent) (blues received))
-  pub green : IsReceived (kinds_of (shapes_of ps)) (greens received) (damaged (greens sent) (greens received))
-  pub red : IsReceived (kinds_of (shapes_of ps)) (reds received) (damaged (reds sent) (reds received))
+  pub blue : IsReceived (kinds_of ps) (blues received) (damaged (blues sent) (blues received))
+  pub green : IsReceived (kinds_of ps) (greens received) (damaged (greens sent) (greens received))
+  pub red : IsReceived (kinds_of ps) (reds received) (damaged (reds sent) (reds received))
 
 pub lanes_received : (ps : List Period) (sent received : List Column) → CameOf ps sent received → IsSparseInPayload ps sent received → AreReceived ps sent received
 lanes_received ps sent received came alone =
-    let ks = kinds_of (shapes_of ps) in
+    let ks = kinds_of ps in
     let fit = fitting ps sent came.conforming came.spelled in
     let long = fitting_length ks sent fit in
     let at = fitting_at ks sent fit in
     let h = came.sparse in
-    let same : (i : ℕ) → i < length sent → (kind_at ks i ≡ payload → ⊥) → column_at received i ≡ column_at sent i =
-    λ i lt n. alone.spares i i (omega arith) (no_payload (columns.kind_at (columns.kinds_of ps) i) (λ e. n (lane_kind_at ps i ∙ e))) in
+    let same : (i : ℕ) → i < length sent → (IsPayload (kind_at ks i) → ⊥) → column_at received i ≡ column_at sent i =
+    λ i lt n. alone.spares i i (omega arith) n in
     record {
       blue = sparse_received ks (blues sent) (blues received)
           (lane_sent (λ c. c.blue) ks sent long (λ i lt. (at i lt).blue))

@@ -10,7 +10,6 @@ pub mod PacketRow
 pub mod IslandColumns
 pub mod IslandTold
 pub mod Joining
-pub mod Shapes
 pub mod EndPlaces
 pub mod Start
 pub mod SpelledWords

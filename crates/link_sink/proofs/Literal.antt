@@ -5,8 +5,7 @@ use Rattle.std.proofs.lemmas.List.Elements.{filter-append}
 use Rattle.std.proofs.lemmas.Bool.{le-ltb, lt-ltb}
 use Rattle.std.specs.Prelude.{nat_lt}
 use Rattle.tmds_word.specs.Column.{Column}
-use Rattle.lane_deskew.specs.Kinds.{EndsAt as EndsLane}
-use Rattle.lane_deskew.specs.Kinds as lanes
+use Rattle.island_pack.specs.Kinds.{kinds_of, EndsAt}
 use Rattle.island_pack.specs.Periods.{ControlRun, Period, control, video, island, values_of, period_columns}
 use Rattle.period_grammar.specs.Cut.{runs, Stretch as Cut, stretch, stretches}
 use Rattle.period_grammar.specs.Things.{Thing, Told, at, all_at, thing_of}
@@ -18,7 +17,6 @@ use Rattle.link_sink.proofs.Rows.{control_columns}
 use Rattle.link_sink.proofs.Conformed.{IsInner, Follows, ends as follows_ends, goes_on as follows_on, Conforms, conforming}
 use Rattle.link_sink.proofs.Between.{take_seam, drop_seam, heads, begins_heads, some, some_cut, IsControlPeriod}
 use Rattle.link_sink.proofs.Joining.{controls, Arrives, nothing, more, IsSized, sized, IsTail, ends, goes_on, is_tail, inner_gap, first_control}
-use Rattle.link_sink.proofs.Shapes.{shapes_of, ends_at}
 use Rattle.link_sink.proofs.EndPlaces.{kinds_from, ends_first, ends_only, control_kinds, ends_late, kinds_size}
 use Rattle.link_sink.proofs.Start.{drop_control, drop_over, control_size}
 use Rattle.link_sink.proofs.Framing.{arrived, link_law}
@@ -141,7 +139,7 @@ here sent_runs tail f own cs ss rs size all arrives a e =
     ∙ sym (placed_here (control sent_runs) tail own cs ss rs a size (omega arith))
 
 placed_start : (vs : List ℕ) (tail : List Period) → Follows vs tail → (sent_runs : List ControlRun) → vs ≡ values_of sent_runs → (cs ss rs : List Column) → length cs ≡ length (values_of sent_runs) → AllControl cs → Arrives tail ss rs
-    → (a : ℕ) → EndsLane (kinds_from (values_of sent_runs) tail) (a + 11)
+    → (a : ℕ) → EndsAt (kinds_from (values_of sent_runs) tail) (a + 11)
     → whole 0 (drop a (cs ++ rs)) ≡ account_placed (control sent_runs ∷ tail) (control_columns (values_of sent_runs) ++ ss) (cs ++ rs) a
 placed_start _ _ (follows_ends vs h) sent_runs same cs _ _ n all nothing a e =
     let last = ends_only (values_of sent_runs) (a + 11) e in
@@ -154,7 +152,7 @@ placed_start _ _ (follows_on vs x next rest h v f) sent_runs same cs _ _ n all (
       let w = length (values_of sent_runs) in
       let cv = control_columns (values_of sent_runs) in
       let nv = control_columns (values_of next) in
-      let ends_next = subst (λ ks. EndsLane ks later.at) (control_kinds next rest) later.ends in
+      let ends_next = subst (λ ks. EndsAt ks later.at) (control_kinds next rest) later.ends in
       let late = ends_late (values_of next) rest f later.at ends_next in
       let mid = kinds_size x in
       let place = later.place in
@@ -167,20 +165,20 @@ placed_start _ _ (follows_on vs x next rest h v f) sent_runs same cs _ _ n all (
       let q = z.received in
       ap (λ (y : ℕ). whole 0 (drop y (cs ++ (came ++ (ds ++ rs))))) l
       ∙ ap (whole 0) (drop_over cs (came ++ (ds ++ rs)) w (period_columns x + c) n ∙ drop_over came (ds ++ rs) (period_columns x) c q)
-      ∙ placed_start (values_of next) rest f next refl ds ss rs dn dall b c (subst (λ y. EndsLane (kinds_from (values_of next) rest) y) i ends_next)
+      ∙ placed_start (values_of next) rest f next refl ds ss rs dn dall b c (subst (λ y. EndsAt (kinds_from (values_of next) rest) y) i ends_next)
       ∙ ap (λ y. account_placed (control next ∷ rest) (nv ++ ss) (ds ++ rs) y) (sym k)
       ∙ sym (placed_past (control sent_runs) (x ∷ (control next ∷ rest)) cv cs (own ++ (nv ++ ss)) (came ++ (ds ++ rs)) a (sized (control sent_runs) cv cs (controls sent_runs cs n all)) (omega arith)
       ∙ placed_past x (control next ∷ rest) own came (nv ++ ss) (ds ++ rs) (a - period_columns (control sent_runs)) z (omega arith))
 ]
 
 placed_of : (ps : List Period) (sent received : List Column) → Conforms ps → Arrives ps sent received
-    → (a : ℕ) → lanes.EndsAt (lanes.kinds_of (shapes_of ps)) (a + 11) → whole 0 (drop a received) ≡ account_placed ps sent received a
+    → (a : ℕ) → EndsAt (kinds_of ps) (a + 11) → whole 0 (drop a received) ≡ account_placed ps sent received a
 unfolding Conforms
 placed_of [] sent received c arrives a e = absurd c
 placed_of (video bytes ∷ rest) sent received c arrives a e = absurd c
 placed_of (island x ∷ rest) sent received c arrives a e = absurd c
 placed_of (control sent_runs ∷ rest) _ _ c (more _ _ _ _ ss rs (controls _ cs n all) arrives) a e =
-    placed_start (values_of sent_runs) rest c sent_runs refl cs ss rs n all arrives a (subst (λ ks. EndsLane ks (a + 11)) (control_kinds sent_runs rest) e)
+    placed_start (values_of sent_runs) rest c sent_runs refl cs ss rs n all arrives a (subst (λ ks. EndsAt ks (a + 11)) (control_kinds sent_runs rest) e)
 
 -- The first columns.
 
@@ -205,6 +203,6 @@ unfolding heard
 account_literal ps sent received came a m e within =
     let rest = drop a received in
     let d = length-drop a received in
-    let placed = placed_of ps sent received (conforming ps came.conforming) (arrived ps sent received came) a (ends_at ps (a + 11) e) in
+    let placed = placed_of ps sent received (conforming ps came.conforming) (arrived ps sent received came) a e in
     sym (link_law ps sent received came a m e)
     ∙ ap (λ ts. map thing_of ts ++ end_from 0 (stretches (take m rest))) (first_told m rest (omega arith) ∙ ap (told_before m) placed)

@@ -12,23 +12,21 @@ use Rattle.tmds_code.specs.Lanes.{IsLane, disparity_of}
 use Rattle.tmds_code.proofs.TableWords.{coded_turns}
 use Rattle.terc4.specs.Tables.{control_words, terc_words, video_guard, island_guard, is_in, is_control, is_terc}
 use Rattle.terc4.proofs.Words.{terc_turns}
-use Rattle.lane_deskew.specs.Kinds.{Kind, control as control_kind, guard, payload, item_kinds, kinds_of}
 use Rattle.island_pack.specs.Periods.{ControlRun, DataIsland, Period, control, video, island, values_of, Pixel, pixels_of}
 use Rattle.island_pack.specs.Conforming.{IsConforming, conforms, are_bytes}
 use Rattle.island_pack.specs.Packets.{Carries}
 use Rattle.island_pack.specs.Spelling.{control_column, SpellsPixels, guard_column, guard_columns, words_of, SpellsPackets, SpellsPeriod, Spells}
 use Rattle.island_pack.specs.declared.packet.Packet.{Packet}
 use Rattle.island_pack.specs.Sparse.{no_column, column_at}
-use Rattle.link_sink.proofs.Shapes.{shape_of, shapes_of}
+use Rattle.island_pack.specs.Kinds.{Kind, control_column as control_kind, first_guard, second_guard, pixel_column, packet_column, guard_pair, kinds_in, kinds_of}
 use Rattle.link_sink.proofs.Conformed.{conforming, HasValues, has_values}
 use Rattle.link_sink.proofs.VideoTold.{pixel_count}
 use Rattle.link_sink.proofs.SpelledWords.{packets_size}
 
 -- what a word of a column of a kind is
-abbrev pub FitsWord : Kind → ℕ → Type 0
-FitsWord control_kind w = is_control w ≡ true
-FitsWord guard w = turns (word_bits w) ≤ 5
-FitsWord payload w = turns (word_bits w) ≤ 5
+pub record FitsWord (k : Kind) (w : ℕ) : Type 0 where
+  pub controls : k ≡ control_kind → is_control w ≡ true
+  pub others : (k ≡ control_kind → ⊥) → turns (word_bits w) ≤ 5
 
 pub record FitsColumn (k : Kind) (c : Column) : Type 0 where
   pub blue : FitsWord k c.blue
@@ -40,6 +38,18 @@ pub data Fitting : List Kind → List Column → Type 0 where
   no_columns : Fitting [] []
   column : (k : Kind) (c : Column) (ks : List Kind) (cs : List Column) → FitsColumn k c → Fitting ks cs → Fitting (k ∷ ks) (c ∷ cs)
 
+-- three words of at most five turns
+pub record HasFewTurns (c : Column) : Type 0 where
+  pub blue : turns (word_bits c.blue) ≤ 5
+  pub green : turns (word_bits c.green) ≤ 5
+  pub red : turns (word_bits c.red) ≤ 5
+
+fits_other : (k : Kind) → (k ≡ control_kind → ⊥) → (w : ℕ) → turns (word_bits w) ≤ 5 → FitsWord k w
+fits_other k apart w h = record { controls = λ e. absurd (apart e); others = λ n. h }
+
+fit_other : (k : Kind) (c : Column) → (k ≡ control_kind → ⊥) → HasFewTurns c → FitsColumn k c
+fit_other k c apart h = record { blue = fits_other k apart c.blue h.blue; green = fits_other k apart c.green h.green; red = fits_other k apart c.red h.red }
+
 -- Control columns.
 
 control_word : (v : ℕ) → v < 4 → is_control (get_or control_words v 0) ≡ true
@@ -50,14 +60,17 @@ control_word (suc (suc zero)) lt = refl
 control_word (suc (suc (suc zero))) lt = refl
 control_word (suc (suc (suc (suc v)))) lt = absurd (omega arith)
 
+fits_control : (v : ℕ) → v < 4 → FitsWord control_kind (get_or control_words v 0)
+fits_control v lt = record { controls = λ e. control_word v lt; others = λ n. absurd (n refl) }
+
 fit_control : (vs : List ℕ) (ks : List Kind) (cs : List Column) → Fitting ks cs → Fitting (replicate (length vs) control_kind ++ ks) (map control_column vs ++ cs)
 fit_control [] ks cs h = h
 fit_control (v ∷ vs) ks cs h =
     column control_kind (control_column v) _ _
     (record {
-      blue = control_word (v % 4) (omega arith);
-      green = control_word (v / 4 % 4) (omega arith);
-      red = control_word (v / 16 % 4) (omega arith);
+      blue = fits_control (v % 4) (omega arith);
+      green = fits_control (v / 4 % 4) (omega arith);
+      red = fits_control (v / 16 % 4) (omega arith);
     })
     (fit_control vs ks cs h)
 
@@ -90,14 +103,14 @@ none_test = refl
 quiet_at : (ws : List ℕ) (i : ℕ) → list_all is_quiet ws ≡ true → turns (word_bits (get_or ws i 0)) ≤ 5
 quiet_at ws i h = leb-true _ _ (passes_at_all is_quiet ws i none_test h)
 
-fit_guard : (sync : ℕ) → FitsColumn guard (guard_column sync)
+fit_guard : (sync : ℕ) → HasFewTurns (guard_column sync)
 fit_guard sync = record {
   blue = quiet_at terc_words (12 + sync) terc_test;
   green = leb-true _ _ island_test;
   red = leb-true _ _ island_test;
 }
 
-fit_video_guard : FitsColumn guard (column_of video_guard)
+fit_video_guard : HasFewTurns (column_of video_guard)
 fit_video_guard = record {
   blue = quiet_at video_guard 0 video_test;
   green = quiet_at video_guard 1 video_test;
@@ -108,19 +121,24 @@ fit_video_guard = record {
 
 pub data ArePayload : List Column → Type 0 where
   none : ArePayload []
-  more : (c : Column) (cs : List Column) → FitsColumn payload c → ArePayload cs → ArePayload (c ∷ cs)
+  more : (c : Column) (cs : List Column) → HasFewTurns c → ArePayload cs → ArePayload (c ∷ cs)
 
 payload_both : (xs ys : List Column) → ArePayload xs → ArePayload ys → ArePayload (xs ++ ys)
 payload_both _ ys none h = h
 payload_both _ ys (more x xs here rest) h = more x (xs ++ ys) here (payload_both xs ys rest h)
 
-payload_from : (cs : List Column) → ((i : ℕ) → i < length cs → FitsColumn payload (column_at cs i)) → ArePayload cs
+payload_from : (cs : List Column) → ((i : ℕ) → i < length cs → HasFewTurns (column_at cs i)) → ArePayload cs
 payload_from [] each = none
 payload_from (c ∷ cs) each = more c cs (each zero (omega arith)) (payload_from cs (λ i lt. each (suc i) (omega arith)))
 
-fit_payload : (pp : List Column) (ks : List Kind) (cs : List Column) → ArePayload pp → Fitting ks cs → Fitting (replicate (length pp) payload ++ ks) (pp ++ cs)
-fit_payload _ ks cs none h = h
-fit_payload _ ks cs (more c pp here rest) h = column payload c _ _ here (fit_payload pp ks cs rest h)
+fit_payload : (k : Kind) → (k ≡ control_kind → ⊥) → (pp : List Column) (ks : List Kind) (cs : List Column) → ArePayload pp → Fitting ks cs → Fitting (replicate (length pp) k ++ ks) (pp ++ cs)
+fit_payload k apart _ ks cs none h = h
+fit_payload k apart _ ks cs (more c pp here rest) h = column k c _ _ (fit_other k c apart here) (fit_payload k apart pp ks cs rest h)
+
+-- a pair of guard columns
+fit_pair : (c d : Column) (ks : List Kind) (cs : List Column) → HasFewTurns c → HasFewTurns d → Fitting ks cs → Fitting (guard_pair ++ ks) (c ∷ (d ∷ cs))
+fit_pair c d ks cs first second h =
+    column first_guard c _ _ (fit_other first_guard c (λ e. cc) first) (column second_guard d _ _ (fit_other second_guard d (λ e. cc) second) h)
 
 -- Pixels.
 
@@ -194,45 +212,45 @@ packets_payload first (p ∷ ps) cs h =
 -- Periods.
 
 fit_control_period : (runs : List ControlRun) (own : List Column) (ks : List Kind) (cs : List Column) → SpellsPeriod (control runs) own → Fitting ks cs
-    → Fitting (item_kinds (shape_of (control runs)) ++ ks) (own ++ cs)
-unfolding item_kinds shape_of
+    → Fitting (kinds_in (control runs) ++ ks) (own ++ cs)
+unfolding kinds_in
 fit_control_period runs own ks cs h fit =
     subst (λ own. Fitting (replicate (length (values_of runs)) control_kind ++ ks) (own ++ cs)) (sym h) (fit_control (values_of runs) ks cs fit)
 
 fit_video : (bytes : List ℕ) (own : List Column) (ks : List Kind) (cs : List Column) → are_bytes bytes ≡ true → SpellsPeriod (video bytes) own → Fitting ks cs
-    → Fitting (item_kinds (shape_of (video bytes)) ++ ks) (own ++ cs)
-unfolding item_kinds shape_of
+    → Fitting (kinds_in (video bytes) ++ ks) (own ++ cs)
+unfolding kinds_in
 fit_video bytes own ks cs small h fit =
     let pp = h.0 in
     let n : length pp ≡ length bytes / 3 = length-spelled (pixels_of bytes) pp h.2 ∙ pixel_count bytes in
-    let inner = subst (λ n. Fitting (replicate n payload ++ ks) (pp ++ cs)) n (fit_payload pp ks cs (pixels_payload bytes pp small h.2) fit) in
-    subst (λ own. Fitting (guard ∷ (guard ∷ (replicate (length bytes / 3) payload ++ ks))) (own ++ cs)) (sym h.1)
-    (column _ _ _ _ fit_video_guard (column _ _ _ _ fit_video_guard inner))
+    let inner = subst (λ n. Fitting (replicate n pixel_column ++ ks) (pp ++ cs)) n (fit_payload pixel_column (λ e. cc) pp ks cs (pixels_payload bytes pp small h.2) fit) in
+    subst (λ own. Fitting (guard_pair ++ (replicate (length bytes / 3) pixel_column ++ ks)) (own ++ cs)) (sym h.1)
+    (fit_pair _ _ _ _ fit_video_guard fit_video_guard inner)
 
 fit_island : (x : DataIsland) (own : List Column) (ks : List Kind) (cs : List Column) → SpellsPeriod (island x) own → Fitting ks cs
-    → Fitting (item_kinds (shape_of (island x)) ++ ks) (own ++ cs)
-unfolding item_kinds shape_of
+    → Fitting (kinds_in (island x) ++ ks) (own ++ cs)
+unfolding kinds_in
 fit_island x own ks cs h fit =
     let pp = h.0 in
-    let gs = guard ∷ (guard ∷ []) in
     let closing = guard_columns x.closing in
-    let last = column _ _ _ _ (fit_guard x.closing.first) (column _ _ _ _ (fit_guard x.closing.second) fit) in
-    let inner = subst (λ n. Fitting (replicate n payload ++ (gs ++ ks)) (pp ++ (closing ++ cs))) (packets_size true x.packets pp h.2) (fit_payload pp (gs ++ ks) (closing ++ cs) (packets_payload true x.packets pp h.2) last) in
-    let columns = subst (λ cs. Fitting (replicate (32 * length x.packets) payload ++ (gs ++ ks)) cs) (sym (append_assoc pp closing cs)) inner in
-    let whole = subst (λ ks. Fitting ks ((pp ++ closing) ++ cs)) (sym (append_assoc (replicate (32 * length x.packets) payload) gs ks)) columns in
-    subst (λ own. Fitting (item_kinds (shape_of (island x)) ++ ks) (own ++ cs)) (sym h.1)
-    (column _ _ _ _ (fit_guard x.opening.first) (column _ _ _ _ (fit_guard x.opening.second) whole))
+    let last = fit_pair _ _ ks cs (fit_guard x.closing.first) (fit_guard x.closing.second) fit in
+    let inner =
+    subst (λ n. Fitting (replicate n packet_column ++ (guard_pair ++ ks)) (pp ++ (closing ++ cs))) (packets_size true x.packets pp h.2)
+    (fit_payload packet_column (λ e. cc) pp (guard_pair ++ ks) (closing ++ cs) (packets_payload true x.packets pp h.2) last) in
+    let columns = subst (λ cs. Fitting (replicate (32 * length x.packets) packet_column ++ (guard_pair ++ ks)) cs) (sym (append_assoc pp closing cs)) inner in
+    let whole = subst (λ ks. Fitting ks ((pp ++ closing) ++ cs)) (sym (append_assoc (replicate (32 * length x.packets) packet_column) guard_pair ks)) columns in
+    subst (λ own. Fitting (kinds_in (island x) ++ ks) (own ++ cs)) (sym h.1) (fit_pair _ _ _ _ (fit_guard x.opening.first) (fit_guard x.opening.second) whole)
 
-fit_periods : (ps : List Period) (sent : List Column) → HasValues ps → Spells ps sent → Fitting (kinds_of (shapes_of ps)) sent
+fit_periods : (ps : List Period) (sent : List Column) → HasValues ps → Spells ps sent → Fitting (kinds_of ps) sent
 unfolding HasValues kinds_of
 fit_periods [] sent small h = subst (λ cs. Fitting [] cs) (sym h) no_columns
 fit_periods (control runs ∷ ps) sent small h =
-    subst (λ cs. Fitting (kinds_of (shapes_of (control runs ∷ ps))) cs) (sym h.2) (fit_control_period runs h.0 (kinds_of (shapes_of ps)) h.1 h.3 (fit_periods ps h.1 small.1 h.4))
+    subst (λ cs. Fitting (kinds_of (control runs ∷ ps)) cs) (sym h.2) (fit_control_period runs h.0 (kinds_of ps) h.1 h.3 (fit_periods ps h.1 small.1 h.4))
 fit_periods (video bytes ∷ ps) sent small h =
-    subst (λ cs. Fitting (kinds_of (shapes_of (video bytes ∷ ps))) cs) (sym h.2) (fit_video bytes h.0 (kinds_of (shapes_of ps)) h.1 small.0 h.3 (fit_periods ps h.1 small.1 h.4))
+    subst (λ cs. Fitting (kinds_of (video bytes ∷ ps)) cs) (sym h.2) (fit_video bytes h.0 (kinds_of ps) h.1 small.0 h.3 (fit_periods ps h.1 small.1 h.4))
 fit_periods (island x ∷ ps) sent small h =
-    subst (λ cs. Fitting (kinds_of (shapes_of (island x ∷ ps))) cs) (sym h.2) (fit_island x h.0 (kinds_of (shapes_of ps)) h.1 h.3 (fit_periods ps h.1 small h.4))
+    subst (λ cs. Fitting (kinds_of (island x ∷ ps)) cs) (sym h.2) (fit_island x h.0 (kinds_of ps) h.1 h.3 (fit_periods ps h.1 small h.4))
 
 -- the columns that spell conforming periods fit their kinds
-pub fitting : (ps : List Period) (sent : List Column) → IsConforming ps → Spells ps sent → Fitting (kinds_of (shapes_of ps)) sent
+pub fitting : (ps : List Period) (sent : List Column) → IsConforming ps → Spells ps sent → Fitting (kinds_of ps) sent
 fitting ps sent conforms spelled = fit_periods ps sent (has_values ps (conforming ps conforms)) spelled

@@ -4,7 +4,7 @@ use Rattle.std.proofs.lemmas.List.{drop-append-le, drop-drop}
 use Rattle.std.proofs.lemmas.Bool.{le-ltb, lt-ltb}
 use Rattle.tmds_word.specs.Column.{Column}
 use Rattle.tmds_word.proofs.Below.{and-right}
-use Rattle.lane_deskew.specs.Kinds.{EndsAt}
+use Rattle.island_pack.specs.Kinds.{EndsAt}
 use Rattle.island_pack.specs.Periods.{ControlRun, Period, control, values_of, period_columns}
 use Rattle.period_grammar.specs.Cut.{stretches}
 use Rattle.link_sink.proofs.Cutting.{AllControl, hear}

@@ -7,13 +7,12 @@ use Rattle.tmds_word.specs.Taps.{IsTap}
 use Rattle.lane_align.proofs.Edges.{edge_within}
 use Rattle.lane_deskew.specs.Triples.{IsFirst}
 use Rattle.lane_deskew.specs.Aligned.{aligned_columns}
-use Rattle.lane_deskew.proofs.Shapes.{ends_late}
+use Rattle.lane_deskew.proofs.Shapes.{alternating, ends_late}
 use Rattle.island_pack.specs.Periods.{Period}
+use Rattle.island_pack.specs.Kinds.{kinds_of}
 use Rattle.island_pack.specs.Sparse.{no_column, column_at}
 use Rattle.period_grammar.specs.Heard.{heard}
 use Rattle.link_sink.specs.Laws.{CameOf, EndsControl, BeginColumn, IsAccounted, TapAccounted, PayloadAccounted}
-use Rattle.link_sink.proofs.Shapes.{shapes_of, ends_at}
-use Rattle.link_sink.proofs.Lanes.{shape_is}
 use Rattle.link_sink.proofs.Ends.{first_ends}
 use Rattle.link_sink.proofs.Aligned.{AreCharacters, BeginAt, columns_taken}
 use Rattle.link_sink.proofs.Aligning.{first_until}
@@ -78,7 +77,7 @@ accounted ps sent received came offset skews counts x y z tapped d e f i first e
     )
 
 late : (ps : List Period) (sent received : List Column) → CameOf ps sent received → (i : ℕ) → EndsControl ps i → 11 ≤ i
-late ps sent received came i ends_i = ends_late (shapes_of ps) (shape_is ps came.conforming) i (ends_at ps i ends_i)
+late ps sent received came i ends_i = ends_late (kinds_of ps) (alternating ps came.conforming) i ends_i
 
 pub tap_accounted : TapAccounted
 tap_accounted ps sent received came offset skews counts x y z tapped small until aligns =

@@ -12,21 +12,21 @@ use Rattle.lane_align.specs.Laws.{marked, IsCalm}
 use Rattle.tmds_word.specs.Taps.{part_of}
 use Rattle.lane_align.proofs.Controls.{window_here}
 use Rattle.lane_align.proofs.Calm.{tap_lock}
-use Rattle.lane_deskew.specs.Kinds.{Kind, control, guard, payload, Item, item_kinds, kinds_of, kind_at, IsShape, last, more, EndsAt}
-use Rattle.lane_deskew.specs.Ends.{IsReceived}
+use Rattle.island_pack.specs.Kinds.{Kind, control_column, second_guard, IsPayload, kind_at, EndsAt}
+use Rattle.lane_deskew.specs.Ends.{IsGuard, IsReceived}
 use Rattle.lane_deskew.specs.Searches.{HasGrown}
 use Rattle.lane_deskew.proofs.Growth.{edge_before}
 use Rattle.lane_deskew.proofs.Ends.{tapped, word_is, tap_run, edge_ends}
-use Rattle.lane_deskew.proofs.Shapes.{middle, where_ends, ends_alone, ends_late, in_first, in_rest}
+use Rattle.lane_deskew.proofs.Shapes.{built, IsAlternating, last, more, where_ends, ends_alone, ends_late, in_first, in_rest}
 use Rattle.link_sink.proofs.Decided.{lock_of_run}
 
 -- the characters of one lane as they were received: until column f control and guard words came as they were sent
 pub record IsReceivedUntil (kinds : List Kind) (f : ℕ) (words : List ℕ) (marks : List Bool) : Type 0 where
   pub calm : IsCalm words marks
   pub below : (i : ℕ) → i < length words → get_or words i 0 < 1024
-  pub controls : (i : ℕ) → i < length words → i ≤ f → kind_at kinds i ≡ control → is_control (get_or words i 0) ≡ true
-  pub guards : (i : ℕ) → i < length words → i ≤ f → kind_at kinds i ≡ guard → is_control (get_or words i 0) ≡ false
-  pub payloads : (i : ℕ) → i < length words → i ≤ f → kind_at kinds i ≡ payload → get_or marks i false ≡ false → is_control (get_or words i 0) ≡ false
+  pub controls : (i : ℕ) → i < length words → i ≤ f → kind_at kinds i ≡ control_column → is_control (get_or words i 0) ≡ true
+  pub guards : (i : ℕ) → i < length words → i ≤ f → IsGuard (kind_at kinds i) → is_control (get_or words i 0) ≡ false
+  pub payloads : (i : ℕ) → i < length words → i ≤ f → IsPayload (kind_at kinds i) → get_or marks i false ≡ false → is_control (get_or words i 0) ≡ false
 
 -- The lane up to column f.
 
@@ -112,7 +112,7 @@ no_word : (w : ℕ) → is_control w ≡ true → is_control w ≡ false → ⊥
 no_word w h g = cc
 
 -- no run of twelve control words holds column f, which is a guard word
-over_guard : (kinds : List Kind) (f : ℕ) (words : List ℕ) (marks : List Bool) → IsReceivedUntil kinds f words marks → kind_at kinds f ≡ guard
+over_guard : (kinds : List Kind) (f : ℕ) (words : List ℕ) (marks : List Bool) → IsReceivedUntil kinds f words marks → IsGuard (kind_at kinds f)
     → (from many e : ℕ) → Holds words from many f → IsEdge (part_of words from many) e → 10 * f < e + from → e + from ≤ 10 * f + 70 → ⊥
 over_guard kinds f words marks r at from many e h edge over near =
     let past = edge.past in
@@ -129,13 +129,13 @@ over_guard kinds f words marks r at from many e h edge over near =
     (r.guards f (omega arith) (omega arith) at)
 
 -- an edge not far past column f is the end of a control period, at or before f
-pub edge_until : (items : List Item) (f : ℕ) (words : List ℕ) (marks : List Bool) → IsShape items → IsReceivedUntil (kinds_of items) f words marks → kind_at (kinds_of items) f ≡ guard
+pub edge_until : (kinds : List Kind) (f : ℕ) (words : List ℕ) (marks : List Bool) → IsAlternating kinds → IsReceivedUntil kinds f words marks → IsGuard (kind_at kinds f)
     → (from many e : ℕ) → Holds words from many f → IsEdge (part_of words from many) e → e + from ≤ 10 * f + 70
-    → (i : ℕ) × (EndsAt (kinds_of items) i) × (i + 1 ≤ f) × (e + from ≡ 10 * (i + 1))
-edge_until items f words marks shape r at from many e h edge near = by (cases_lt (10 * f) (e + from))
+    → (i : ℕ) × (EndsAt kinds i) × (i + 1 ≤ f) × (e + from ≡ 10 * (i + 1))
+edge_until kinds f words marks alternates r at from many e h edge near = by (cases_lt (10 * f) (e + from))
   where
-    by : (10 * f < e + from) ⊎ (e + from ≤ 10 * f) → (i : ℕ) × (EndsAt (kinds_of items) i) × (i + 1 ≤ f) × (e + from ≡ 10 * (i + 1))
-    by (inl over) = absurd (over_guard (kinds_of items) f words marks r at from many e h edge over near)
+    by : (10 * f < e + from) ⊎ (e + from ≤ 10 * f) → (i : ℕ) × (EndsAt kinds i) × (i + 1 ≤ f) × (e + from ≡ 10 * (i + 1))
+    by (inl over) = absurd (over_guard kinds f words marks r at from many e h edge over near)
     by (inr le) =
         let begins = h.begins in
         let reaches = h.reaches in
@@ -146,27 +146,23 @@ edge_until items f words marks shape r at from many e h edge near = by (cases_lt
         let long : length (part_of (take n words) from many) ≡ k =
         ap length (cut_tap words n from many (omega arith)) ∙ omega (arith, length-take k (part_of words from many), tap_length words from many within) in
         let was = edge_before (part_of (take n words) from many) (part_of words from many) e (grown words n from many (omega arith)) (omega (arith, long, le)) edge in
-        let found = edge_ends items (take n words) (take n marks) shape (cut_received (kinds_of items) f words marks r) from many e was in
+        let found = edge_ends kinds (take n words) (take n marks) alternates (cut_received kinds f words marks r) from many e was in
         let place = found.2 in
         (found.0, found.1, omega (arith, place, le), place)
 
 -- the twelve columns up to the end of a control period are of it
-ends_long : (items : List Item) → IsShape items → (i k : ℕ) → EndsAt (kinds_of items) i → k < 12 → kind_at (kinds_of items) (i - k) ≡ control
-unfolding kinds_of item_kinds
+ends_long : (kinds : List Kind) → IsAlternating kinds → (i k : ℕ) → EndsAt kinds i → k < 12 → kind_at kinds (i - k) ≡ control_column
 ends_long _ (last n long) i k h lt =
     let e = ends_alone n i h in
-    let l = length-replicate n control in
-    get_or_append_left (replicate n control) [] guard (i - k) (omega arith) ∙ get_or-replicate n (i - k) control guard (omega arith)
-ends_long _ (more n x rest long inner shape) i k h lt = elim (where_ends n (item_kinds x) (kinds_of rest) i (middle x inner) h) [
-  | inl here ↦ in_first n (item_kinds x) (kinds_of rest) (i - k) (omega arith)
+    let l = length-replicate n control_column in
+    get_or_append_left (replicate n control_column) [] second_guard (i - k) (omega arith) ∙ get_or-replicate n (i - k) control_column second_guard (omega arith)
+ends_long _ (more n mid rest long m alternates) i k h lt = elim (where_ends n mid rest i m h) [
+  | inl here ↦ in_first n mid rest (i - k) (omega arith)
   | inr later ↦
-      let late = ends_late rest shape later.at later.ends in
-      let e : n + length (item_kinds x) + (later.at - k) ≡ i - k = omega (arith, later.place) in
-      ap (λ j. kind_at (n_built n x rest) j) (sym e) ∙ in_rest n (item_kinds x) (kinds_of rest) (later.at - k) ∙ ends_long rest shape later.at k later.ends lt
+      let late = ends_late rest alternates later.at later.ends in
+      let e : n + length mid + (later.at - k) ≡ i - k = omega (arith, later.place) in
+      ap (λ j. kind_at (built n mid rest) j) (sym e) ∙ in_rest n mid rest (later.at - k) ∙ ends_long rest alternates later.at k later.ends lt
 ]
-  where
-    n_built : ℕ → Item → List Item → List Kind
-    n_built n x rest = replicate n control ++ (item_kinds x ++ kinds_of rest)
 
 -- a word of the lane in what is tapped
 window_at : (words : List ℕ) (from many i p : ℕ) → i < length words → get_or words i 0 < 1024 → p + from ≡ 10 * i → 10 * i + 10 ≤ from + many → from + many ≤ 10 * length words
@@ -178,9 +174,9 @@ window_at words from many i p lt small e reaches within =
     (sym (ap number t.1 ∙ ap (λ m. number (take 10 (drop m (row_bits words)))) e ∙ word_is words i lt small))
 
 -- the end of a control period before column f is an edge
-pub end_edge : (items : List Item) (f i : ℕ) (words : List ℕ) (marks : List Bool) → IsShape items → IsReceivedUntil (kinds_of items) f words marks → kind_at (kinds_of items) f ≡ guard → EndsAt (kinds_of items) i → f ≡ i + 1
+pub end_edge : (kinds : List Kind) (f i : ℕ) (words : List ℕ) (marks : List Bool) → IsAlternating kinds → IsReceivedUntil kinds f words marks → IsGuard (kind_at kinds f) → EndsAt kinds i → f ≡ i + 1
     → (from many : ℕ) → Holds words from many f → IsEdge (part_of words from many) (10 * f - from)
-end_edge items f i words marks shape r at ends next from many h = by (lock_of_run xs (10 * f - from - 120) run)
+end_edge kinds f i words marks alternates r at ends next from many h = by (lock_of_run xs (10 * f - from - 120) run)
   where
     xs : List Bool
     xs = part_of words from many
@@ -191,12 +187,12 @@ end_edge items f i words marks shape r at ends next from many h = by (lock_of_ru
         let reaches = h.reaches in
         let within = h.within in
         let j = i - (11 - k) in
-        let late = ends_late items shape i ends in
+        let late = ends_late kinds alternates i ends in
         let place : 10 * f - from - 120 + 10 * k + from ≡ 10 * j = omega (arith, next, lt, begins, late) in
         record {
           word = get_or words j 0;
           here = window_at words from many j (10 * f - from - 120 + 10 * k) (omega (arith, next, reaches, within)) (r.below j (omega (arith, next, reaches, within))) place (omega (arith, next, reaches)) within;
-          control = r.controls j (omega (arith, next, reaches, within)) (omega (arith, next)) (ends_long items shape i (11 - k) ends (omega (arith, lt)));
+          control = r.controls j (omega (arith, next, reaches, within)) (omega (arith, next)) (ends_long kinds alternates i (11 - k) ends (omega (arith, lt)));
         }
 
     by : (p : ℕ) × IsLock xs p → IsEdge xs (10 * f - from)
