@@ -38,7 +38,9 @@ pub enum ItemFault {
 }
 
 impl From<NoMemory> for ItemFault {
-    ghost from_gives = { λ e r. r ≡ ItemFault.NoMemory };
+    ghost use Rattle.source_end.specs.declared.items.ItemFault.{ItemFault};
+
+    ghost from_gives = { λ _ r. r ≡ ItemFault.NoMemory };
 
     fn from(_error: NoMemory) -> ItemFault {
         ItemFault::NoMemory

@@ -42,7 +42,9 @@ pub enum RasterFault {
 }
 
 impl From<NoMemory> for RasterFault {
-    ghost from_gives = { λ e r. r ≡ RasterFault.NoMemory };
+    ghost use Rattle.source_end.specs.declared.refusal.RasterFault.{RasterFault};
+
+    ghost from_gives = { λ _ r. r ≡ RasterFault.NoMemory };
 
     fn from(_error: NoMemory) -> RasterFault {
         RasterFault::NoMemory
