@@ -55,11 +55,14 @@ fn damaged(alloc: Global, damages: &Damages) -> Result<String, Fail> {
 #[test]
 fn commands(rt: HostRuntime) -> Result<(), Fail> {
     let alloc = rt.alloc();
-    for (list, wanted) in &ROWS {
-        let words = words_of(alloc, list)?;
+    for row in ROWS.lines().filter(|row| !row.is_empty()) {
+        let mut parts = row.split('|');
+        let wanted = parts.next().ok_or("a row of no command")?;
+        let list: Vec<&str> = parts.collect(alloc)?;
+        let words = words_of(alloc, &list)?;
         let command = read_command(alloc, words.as_slice()).ok().ok_or("memory")?;
         let name = named(alloc, &command)?;
-        assert!(rt; name.as_str() == *wanted, "{name} of {list:?}");
+        assert!(rt; name.as_str() == wanted, "{name} of {row}");
     }
     Ok(())
 }
@@ -94,4 +97,14 @@ fn numbers(rt: HostRuntime) {
     assert_eq!(rt; number(b"00000000007"), None);
     assert_eq!(rt; number_within("0000000007", 7), Some(7));
     assert_eq!(rt; number_within("8", 7), None);
+}
+
+#[test]
+fn line_feeds(rt: HostRuntime) -> Result<(), Fail> {
+    let alloc = rt.alloc();
+    let words = words_of(alloc, &["check", "\n"])?;
+    assert!(rt; read_command(alloc, words.as_slice()).ok().ok_or("memory")?.is_none());
+    let words = words_of(alloc, &["make", "link", "--offset", "5\n"])?;
+    assert!(rt; read_command(alloc, words.as_slice()).ok().ok_or("memory")?.is_none());
+    Ok(())
 }
