@@ -103,8 +103,10 @@ fn numbers(rt: HostRuntime) {
 fn line_feeds(rt: HostRuntime) -> Result<(), Fail> {
     let alloc = rt.alloc();
     let words = words_of(alloc, &["check", "\n"])?;
-    assert!(rt; read_command(alloc, words.as_slice()).ok().ok_or("memory")?.is_none());
+    let command = read_command(alloc, words.as_slice()).ok().ok_or("memory")?;
+    assert!(rt; command.is_none());
     let words = words_of(alloc, &["make", "link", "--offset", "5\n"])?;
-    assert!(rt; read_command(alloc, words.as_slice()).ok().ok_or("memory")?.is_none());
+    let command = read_command(alloc, words.as_slice()).ok().ok_or("memory")?;
+    assert!(rt; command.is_none());
     Ok(())
 }
