@@ -239,7 +239,7 @@ fn failing_devices_of_each_command(rt: HostRuntime) -> Result<(), Fail> {
 /// A hit past the end of the lanes, and a capture that is cut.
 #[test]
 fn refused_damages(rt: HostRuntime) -> Result<(), Fail> {
-    let capture = hex::decode(rt.alloc(), RED)?;
+    let mut capture = hex::decode(rt.alloc(), RED)?;
     let it = answer_of(
         rt.alloc(),
         &["damage", "0:260:000", "1:261:000"],
@@ -247,7 +247,8 @@ fn refused_damages(rt: HostRuntime) -> Result<(), Fail> {
         &STEADY,
     )?;
     expect(&rt, &it, 3, "", "input: place 1\n");
-    let it = answer_of(rt.alloc(), &["damage", "0:0:000"], &capture[..109], &STEADY)?;
+    capture.truncate(109);
+    let it = answer_of(rt.alloc(), &["damage", "0:0:000"], &capture, &STEADY)?;
     expect(&rt, &it, 3, "", "input: short 109\n");
     Ok(())
 }
