@@ -5,5 +5,7 @@ pub mod Rows
 pub mod Setting
 pub mod Words
 pub mod Bytes
+pub mod Fives
+pub mod Lanes
 pub mod Turns
 pub mod Example

@@ -1,7 +1,8 @@
 //! What takes columns one after another.
-ghost use Rattle.std.specs.Prelude.{◌≡◌, ◌<◌, ◌^◌, ◌++◌, ◌∷◌, [], ℕ, List, length, OnOk, OnErr};
+ghost use Rattle.std.specs.Prelude.{◌≡◌, ◌<◌, ◌≤◌, ◌+◌, ◌^◌, ◌++◌, ◌∷◌, [], ℕ, List, length, take, OnOk, OnErr};
 ghost use Rattle.outside_io.specs.Causes.{HasCause};
 ghost use Rattle.tmds_word.specs.Column.{Column, column_of};
+ghost use Rattle.tmds_word.specs.Words.{columns_of};
 
 use crate::Word;
 use outside_io::NoMemory;
@@ -21,4 +22,20 @@ pub trait ColumnSink {
         ensures err { OnErr result (taken self.new ≡ taken self.old) }
         ensures cause { HasCause (refusals self.old) (refusals self.new) result }
         ensures counted { refusals self.new < 2 ^ 64 };
+
+    /// Takes the columns of three lanes' characters, as many of each. After a refusal it holds the columns
+    /// before, and perhaps the first ones of these.
+    fn columns(&mut self, blue: &[Word], green: &[Word], red: &[Word]) -> Result<(), NoMemory>
+        requires green { length green.now ≡ length blue.now }
+        requires red { length red.now ≡ length blue.now }
+        requires room { length (taken self.old) + length blue.now ≤ 429496729 }
+        ensures ok { OnOk result (taken self.new ≡ taken self.old ++ columns_of blue.now green.now red.now) }
+        ensures part { OnErr result ((k : ℕ) × (taken self.new ≡ taken self.old ++ take k (columns_of blue.now green.now red.now))) }
+        ensures cause { HasCause (refusals self.old) (refusals self.new) result }
+    {
+        for i in 0..blue.len() {
+            self.column([blue[i], green[i], red[i]])?;
+        }
+        Ok(())
+    }
 }

@@ -3,6 +3,7 @@
 
 mod column;
 pub mod laws;
+mod packing;
 mod replace;
 mod row;
 mod word;

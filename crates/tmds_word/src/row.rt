@@ -1,12 +1,16 @@
 //! Rows of the bits that one lane sends.
-ghost use Rattle.std.specs.Prelude.{ℕ, ◌≡◌, ◌<◌, ◌≤◌, ◌+◌, ◌-◌, ◌*◌, ◌/◌, ◌%◌, ◌↔◌, ◌^◌, ◌++◌, [], take, drop, length, slice_get, slice_index, slice_set, ◌∷◌, IfSome, IsNone, IsTrue, Some, IfOk, OnOk, OnErr, min};
-ghost use Rattle.tmds_word.specs.Bits.{bits_of, word_bits, bytes_bits, bytes_of, number};
+ghost use Rattle.std.specs.Prelude.{ℕ, Bool, List, ◌≡◌, ◌<◌, ◌≤◌, ◌+◌, ◌-◌, ◌*◌, ◌/◌, ◌%◌, ◌↔◌, ◌^◌, ◌++◌, [], take, drop, length, slice_get, slice_index, slice_set, ◌∷◌, IfSome, IsNone, IsTrue, Some, IfOk, OnOk, OnErr, min};
+ghost use Rattle.tmds_word.specs.Bits.{bits_of, word_bits, row_bits, bytes_bits, bytes_of, number};
 
 use crate::Word;
+use crate::packing::pack;
 use crate::replace::{set_bit, with_bit};
 use outside_io::NoMemory;
 use std::alloc::Global;
 use std::marker::Model;
+
+/// How many characters are packed at a time.
+const BLOCK_WORDS: usize = 64;
 
 /// The bits of one lane in the order in which they are sent, fewer than 2^32, packed eight to a
 /// byte.
@@ -111,6 +115,23 @@ impl BitRow {
         ensures err { OnErr result (self.new ≡ self.old) }
     {
         self.put(word.value(), 10)
+    }
+
+    /// Appends the ten bits of each character, one character after another. After a refusal the row is as
+    /// before.
+    pub fn push_words(&mut self, words: &[Word]) -> Result<(), NoMemory>
+        requires { length self.old + 10 * length words.now < 2 ^ 32 }
+        ensures ok { OnOk result (self.new ≡ self.old ++ row_bits words.now) }
+        ensures err { OnErr result (self.new ≡ self.old) }
+    {
+        let before = self.len();
+        match self.push_blocks(words) {
+            Ok(()) => Ok(()),
+            Err(refusal) => {
+                self.truncate(before);
+                Err(refusal)
+            }
+        }
     }
 
     /// Appends `bits` bits: bit `i` is bit `i % 8` of byte `i / 8`. After a refusal the row is as before.
@@ -223,6 +244,61 @@ impl BitRow {
                     return Err(refusal);
                 }
             }
+        }
+        Ok(())
+    }
+
+    /// Appends characters, block after block. After a refusal some of their bits may be appended.
+    fn push_blocks(&mut self, words: &[Word]) -> Result<(), NoMemory>
+        requires { length self.old + 10 * length words.now < 2 ^ 32 }
+        ensures ok { OnOk result (self.new ≡ self.old ++ row_bits words.now) }
+        ensures err { OnErr result ((more : List Bool) × (self.new ≡ self.old ++ more)) }
+    {
+        for i in 0..words.len().div_ceil(BLOCK_WORDS) {
+            let from = BLOCK_WORDS * i;
+            let upto = words.len().min(from + BLOCK_WORDS);
+            self.push_block(&words[from..upto])?;
+        }
+        Ok(())
+    }
+
+    /// Appends the characters of a block. After a refusal some of their bits may be appended.
+    fn push_block(&mut self, words: &[Word]) -> Result<(), NoMemory>
+        requires few { length words.now ≤ 64 }
+        requires room { length self.old + 10 * length words.now < 2 ^ 32 }
+        ensures ok { OnOk result (self.new ≡ self.old ++ row_bits words.now) }
+        ensures err { OnErr result ((more : List Bool) × (self.new ≡ self.old ++ more)) }
+    {
+        let fours = words.len() / 4 * 4;
+        self.push_fours(&words[..fours])?;
+        self.push_each(&words[fours..])?;
+        Ok(())
+    }
+
+    /// Appends groups of four characters. After a refusal the row is as before.
+    fn push_fours(&mut self, words: &[Word]) -> Result<(), NoMemory>
+        requires few { length words.now ≤ 64 }
+        requires fours { length words.now % 4 ≡ 0 }
+        requires room { length self.old + 10 * length words.now < 2 ^ 32 }
+        ensures ok { OnOk result (self.new ≡ self.old ++ row_bits words.now) }
+        ensures err { OnErr result (self.new ≡ self.old) }
+    {
+        let mut bytes = [0; 80];
+        let packed = &mut bytes[..words.len() / 4 * 5];
+        let tail = pack(words, self.held, self.tail, packed);
+        self.whole.extend_from_slice(packed)?;
+        self.tail = tail;
+        Ok(())
+    }
+
+    /// Appends characters one by one. After a refusal some of their bits may be appended.
+    fn push_each(&mut self, words: &[Word]) -> Result<(), NoMemory>
+        requires { length self.old + 10 * length words.now < 2 ^ 32 }
+        ensures ok { OnOk result (self.new ≡ self.old ++ row_bits words.now) }
+        ensures err { OnErr result ((more : List Bool) × (self.new ≡ self.old ++ more)) }
+    {
+        for word in words {
+            self.push_word(*word)?;
         }
         Ok(())
     }
