@@ -3,7 +3,7 @@ ghost use Rattle.std.specs.Prelude.{◌≡◌, ℕ, ◌*◌, ◌-ℤ◌, ◌≤�
 ghost use Rattle.tmds_code.specs.Coding.{Coded};
 ghost use Rattle.tmds_code.specs.Pasts.{IsCoderAfter};
 
-use crate::encode;
+use crate::stepping::stepped;
 use std::marker::Model;
 use tmds_word::Word;
 
@@ -38,9 +38,12 @@ impl VideoCoder {
         ensures coded { Coded self.old byte result }
         ensures stands { (bytes words : List ℕ) → IsCoderAfter self.old bytes words → IsCoderAfter self.new (bytes ++ byte ∷ []) (words ++ result ∷ []) }
     {
-        let word = encode(byte, self.disparity());
-        self.step = self.step + word.value().count_ones() as u8 - 5;
-        word
+        let entry = stepped(256 * usize::from(self.step) + usize::from(byte));
+        self.step = (entry >> 10) as u8;
+        match Word::new(entry & 0x3ff) {
+            Some(word) => word,
+            None => unreachable!(),
+        }
     }
 
     /// The ones minus the zeros of the characters given so far: even, and from -8 to 8.

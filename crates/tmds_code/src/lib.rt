@@ -5,6 +5,7 @@ mod coder;
 mod coding;
 mod judge;
 pub mod laws;
+mod stepping;
 mod tables;
 #[cfg(test)]
 mod tests;
