@@ -1,5 +1,5 @@
 -- A row's bits are its characters and the other way round, and three rows are their columns.
-use Rattle.std.proofs.Common.{◌≡◌, ℕ, suc, zero, ◌*◌, ◌/◌, ◌%◌, ◌<◌, ◌≤◌, Bool, List, [], ◌∷◌, ◌++◌, length, take, drop, map, refl, ap, ap₂, ◌∙◌, sym, arith, append-nil, length-append, length-drop, length-take-le, take-append-drop}
+use Rattle.std.proofs.Common.{◌≡◌, ℕ, suc, zero, ◌*◌, ◌/◌, ◌%◌, ◌<◌, ◌≤◌, Bool, List, [], ◌∷◌, ◌++◌, length, take, drop, map, refl, ap, ap₂, ◌∙◌, sym, arith, append_assoc, append-nil, length-append, length-drop, length-take-le, take-append-drop}
 use Rattle.std.specs.Prelude.{All}
 use Rattle.std.proofs.Math.Nat.{mod-eq_of_lt}
 use Rattle.std.proofs.lemmas.List.{take-append-le, drop-append-le}
@@ -146,3 +146,36 @@ count_of_columns blue green red e f =
     let counts : (row : List Bool) → length row ≡ length blue → length (all_words row) ≡ length (all_words blue) =
     λ row same. length-words_of row ∙ ap (λ n. n / 10) same ∙ sym (length-words_of blue) in
     (lanes_of_columns (all_words blue) (all_words green) (all_words red) (counts green e) (counts red f)).count ∙ length-words_of blue
+
+-- many characters more
+
+pub words_of-more : (row : List Bool) (ws : List ℕ) → length row % 10 ≡ 0 → All (λ w. w < 1024) ws → all_words (row ++ row_bits ws) ≡ all_words row ++ ws
+unfolding row_bits
+words_of-more row [] whole h = ap all_words (append-nil row) ∙ sym (append-nil (all_words row))
+words_of-more row (w ∷ ws) whole h =
+    let longer : length (row ++ word_bits w) % 10 ≡ 0 = omega (arith, length-append row (word_bits w), length-word_bits w) in
+    ap all_words (sym (append_assoc row (word_bits w) (row_bits ws)))
+    ∙ words_of-more (row ++ word_bits w) ws longer (All-tail (λ n. n < 1024) w ws h)
+    ∙ ap (λ xs. xs ++ ws) (words_of-push row w whole (h 0 0 (omega arith)))
+    ∙ append_assoc (all_words row) (w ∷ []) ws
+
+pub columns_of-more : (bs gs rs cs hs ss : List ℕ) → length gs ≡ length bs → length rs ≡ length bs
+    → columns_of (bs ++ cs) (gs ++ hs) (rs ++ ss) ≡ columns_of bs gs rs ++ columns_of cs hs ss
+unfolding columns_of
+columns_of-more [] [] [] cs hs ss e f = refl
+columns_of-more [] [] (z ∷ rs) cs hs ss e f = absurd (omega arith)
+columns_of-more [] (y ∷ gs) rs cs hs ss e f = absurd (omega arith)
+columns_of-more (x ∷ bs) [] rs cs hs ss e f = absurd (omega arith)
+columns_of-more (x ∷ bs) (y ∷ gs) [] cs hs ss e f = absurd (omega arith)
+columns_of-more (x ∷ bs) (y ∷ gs) (z ∷ rs) cs hs ss e f = ap (λ ks. record { blue = x; green = y; red = z } ∷ ks) (columns_of-more bs gs rs cs hs ss (omega arith) (omega arith))
+
+pub columns-more : (blue green red : List Bool) (bs gs rs : List ℕ) → length blue % 10 ≡ 0 → length green ≡ length blue → length red ≡ length blue
+    → All (λ w. w < 1024) bs → All (λ w. w < 1024) gs → All (λ w. w < 1024) rs
+    → columns_of (all_words (blue ++ row_bits bs)) (all_words (green ++ row_bits gs)) (all_words (red ++ row_bits rs))
+    ≡ columns_of (all_words blue) (all_words green) (all_words red) ++ columns_of bs gs rs
+columns-more blue green red bs gs rs whole e f lb lg lr =
+    let counts : (row : List Bool) → length row ≡ length blue → length (all_words row) ≡ length (all_words blue) =
+    λ row same. length-words_of row ∙ ap (λ n. n / 10) same ∙ sym (length-words_of blue) in
+    ap (λ xs. columns_of xs (all_words (green ++ row_bits gs)) (all_words (red ++ row_bits rs))) (words_of-more blue bs whole lb)
+    ∙ ap₂ (λ xs ys. columns_of (all_words blue ++ bs) xs ys) (words_of-more green gs (ap (λ n. n % 10) e ∙ whole) lg) (words_of-more red rs (ap (λ n. n % 10) f ∙ whole) lr)
+    ∙ columns_of-more (all_words blue) (all_words green) (all_words red) bs gs rs (counts green e) (counts red f)

@@ -1,8 +1,9 @@
 //! Three lanes that take columns and keep their bits.
-ghost use Rattle.std.specs.Prelude.{◌≡◌, ℕ, ◌+◌, ◌*◌, ◌%◌, ◌^◌, ◌<◌, ◌++◌, ◌∷◌, [], length, slice_index, IfOk, OnOk, OnErr};
+ghost use Rattle.std.specs.Prelude.{◌≡◌, ℕ, ◌+◌, ◌*◌, ◌%◌, ◌^◌, ◌<◌, ◌≤◌, ◌++◌, ◌∷◌, [], length, take, slice_index, All, IfOk, OnOk, OnErr};
 ghost use Rattle.outside_io.specs.Causes.{next, HasCause};
-ghost use Rattle.tmds_word.specs.Bits.{word_bits};
+ghost use Rattle.tmds_word.specs.Bits.{word_bits, row_bits};
 ghost use Rattle.tmds_word.specs.Column.{column_of};
+ghost use Rattle.tmds_word.specs.Words.{columns_of};
 
 use outside_io::NoMemory;
 use std::alloc::Global;
@@ -90,6 +91,37 @@ impl ColumnSink for Lanes {
             }
         }
     }
+
+    fn columns(&mut self, blue: &[Word], green: &[Word], red: &[Word]) -> Result<(), NoMemory>
+        requires green { length green.now ≡ length blue.now }
+        requires red { length red.now ≡ length blue.now }
+        requires room { length self.old.columns + length blue.now ≤ 429496729 }
+        ensures ok { OnOk result (self.new.columns ≡ self.old.columns ++ columns_of blue.now green.now red.now) }
+        ensures part { OnErr result ((k : ℕ) × (self.new.columns ≡ self.old.columns ++ take k (columns_of blue.now green.now red.now))) }
+        ensures cause { HasCause self.old.refusals self.new.refusals result }
+
+        ensures err { OnErr result (self.new.columns ≡ self.old.columns) }
+        ensures same { OnOk result (self.new.refusals ≡ self.old.refusals) }
+        ensures raised { OnErr result (self.new.refusals ≡ next self.old.refusals) }
+    {
+        know_all(blue);
+        know_all(green);
+        know_all(red);
+        match push_columns(
+            &mut self.blue,
+            &mut self.green,
+            &mut self.red,
+            blue,
+            green,
+            red,
+        ) {
+            Ok(()) => Ok(()),
+            Err(refused) => {
+                self.refusals = self.refusals.saturating_add(1);
+                Err(refused)
+            }
+        }
+    }
 }
 
 /// Appends one character to each of three rows of one length. After a refusal the rows are as before.
@@ -121,6 +153,51 @@ fn push_column(
         return Err(refused);
     }
     Ok(())
+}
+
+/// Appends equally many characters to each of three rows of one length. After a refusal the rows are as
+/// before.
+fn push_columns(
+    blue: &mut BitRow,
+    green: &mut BitRow,
+    red: &mut BitRow,
+    blue_words: &[Word],
+    green_words: &[Word],
+    red_words: &[Word],
+) -> Result<(), NoMemory>
+    requires green { length green.old ≡ length blue.old }
+    requires red { length red.old ≡ length blue.old }
+    requires green_words { length green_words.now ≡ length blue_words.now }
+    requires red_words { length red_words.now ≡ length blue_words.now }
+    requires room { length blue.old + 10 * length blue_words.now < 2 ^ 32 }
+    ensures blue_ok { OnOk result (blue.new ≡ blue.old ++ row_bits blue_words.now) }
+    ensures green_ok { OnOk result (green.new ≡ green.old ++ row_bits green_words.now) }
+    ensures red_ok { OnOk result (red.new ≡ red.old ++ row_bits red_words.now) }
+    ensures blue_err { OnErr result (blue.new ≡ blue.old) }
+    ensures green_err { OnErr result (green.new ≡ green.old) }
+    ensures red_err { OnErr result (red.new ≡ red.old) }
+{
+    let before = blue.len();
+    blue.push_words(blue_words)?;
+    if let Err(refused) = green.push_words(green_words) {
+        blue.truncate(before);
+        return Err(refused);
+    }
+    if let Err(refused) = red.push_words(red_words) {
+        blue.truncate(before);
+        green.truncate(before);
+        return Err(refused);
+    }
+    Ok(())
+}
+
+/// Says that each character is below 1024, as every character is. It does nothing.
+fn know_all(words: &[Word])
+    ensures { All (λ w. w < 1024) words.now }
+{
+    for word in words {
+        let _ = word.value();
+    }
 }
 
 /// Says that each of three characters is below 1024, as every character is. It does nothing.
