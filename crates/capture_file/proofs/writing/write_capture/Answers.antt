@@ -1,5 +1,6 @@
 use Rattle.std.proofs.Common.{arith, ◌≡◌, ◌∙◌, ℕ, ◌+◌, ◌%◌, ◌^◌, ◌<◌, Bool, List, [], ◌∷◌, length, take, drop, min, slice_index, ap, ap₂}
 use Rattle.tmds_word.specs.Column.{Column}
+use Rattle.tmds_word.specs.Taps.{part_of}
 use Rattle.capture_file.specs.declared.writing.Tap.{Tap}
 use Rattle.capture_file.specs.Lanes.{Collected}
 use Rattle.capture_file.specs.Layout.{capture_of}
