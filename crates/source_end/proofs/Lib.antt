@@ -3,6 +3,7 @@ pub mod Follows
 pub mod Turns
 pub mod Faults
 pub mod Spellings
+pub mod LineCodings
 pub mod Packets
 pub mod Streams
 pub mod Gathered

@@ -12,3 +12,4 @@ pub mod OpenRuns
 pub mod Lines
 pub mod Gathering
 pub mod Generator
+pub mod LineCoding

@@ -9,6 +9,7 @@ mod island;
 mod item;
 mod items;
 pub mod laws;
+mod line_coding;
 mod lines;
 mod mode;
 mod rasters;

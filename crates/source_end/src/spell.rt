@@ -4,18 +4,21 @@ ghost use Rattle.std.specs.List.{list_all};
 ghost use Rattle.outside_io.specs.Causes.{HasCause};
 ghost use Rattle.tmds_word.specs.Column.{Column, column_of};
 ghost use Rattle.terc4.specs.Tables.{video_guard};
-ghost use Rattle.island_pack.specs.Periods.{values_of, pixels_of, period_columns};
+ghost use Rattle.island_pack.specs.Periods.{values_of, period_columns};
 ghost use Rattle.island_pack.specs.Conforming.{is_run, is_sync_pair, is_packet, is_data_island};
-ghost use Rattle.island_pack.specs.Spelling.{SpellsPeriod, SpellsVideo, SpellsPixels, SpellsIsland, SpellsPackets, control_column, guard_column, guard_columns};
+ghost use Rattle.island_pack.specs.Spelling.{SpellsPeriod, SpellsVideo, SpellsIsland, SpellsPackets, control_column, guard_column, guard_columns};
 ghost use Rattle.source_end.specs.ItemPeriods.{period_of};
 ghost use Rattle.source_end.specs.Pairs.{pair_of};
 ghost use Rattle.source_end.specs.Kept.{is_sendable};
 
+use crate::line_coding::pixels;
 use crate::{Island, Item, Run};
 use island_pack::{Packet, lay};
 use outside_io::NoMemory;
-use tmds_code::VideoCoder;
 use tmds_word::{ColumnSink, Word};
+
+/// How many equal columns are given at a time.
+const BLOCK: usize = 64;
 
 /// Gives the columns of an item.
 pub(crate) fn item<C: ColumnSink>(item: &Item, out: &mut C) -> Result<(), NoMemory>
@@ -66,8 +69,14 @@ fn repeat<C: ColumnSink>(words: [Word; 3], count: u32, out: &mut C) -> Result<()
     ensures part { OnErr result ((columns : List Column) × (C.taken out.new ≡ C.taken out.old ++ columns)) }
     ensures cause { HasCause (C.refusals out.old) (C.refusals out.new) result }
 {
-    for _ in 0..count {
-        out.column(words)?;
+    let [blue, green, red] = words;
+    let blues = [blue; BLOCK];
+    let greens = [green; BLOCK];
+    let reds = [red; BLOCK];
+    for i in 0..count.div_ceil(BLOCK as u32) {
+        let left = count - BLOCK as u32 * i;
+        let n = left.min(BLOCK as u32) as usize;
+        out.columns(&blues[..n], &greens[..n], &reds[..n])?;
     }
     Ok(())
 }
@@ -82,28 +91,6 @@ fn video<C: ColumnSink>(bytes: &[u8], out: &mut C) -> Result<(), NoMemory>
 {
     repeat(guard_words(), 2, out)?;
     pixels(bytes, out)
-}
-
-/// Gives the columns of pixels, from a video period's first one on.
-fn pixels<C: ColumnSink>(bytes: &[u8], out: &mut C) -> Result<(), NoMemory>
-    requires whole { length bytes.now % 3 ≡ 0 }
-    requires room { length (C.taken out.old) + length bytes.now / 3 < 429496729 }
-    ensures ok { OnOk result ((columns : List Column) × (C.taken out.new ≡ C.taken out.old ++ columns) × SpellsPixels (pixels_of bytes.now) columns) }
-    ensures part { OnErr result ((columns : List Column) × (C.taken out.new ≡ C.taken out.old ++ columns)) }
-    ensures cause { HasCause (C.refusals out.old) (C.refusals out.new) result }
-{
-    let mut blue = VideoCoder::new();
-    let mut green = VideoCoder::new();
-    let mut red = VideoCoder::new();
-    for i in 0..bytes.len() / 3 {
-        let words = [
-            blue.next(bytes[3 * i + 2]),
-            green.next(bytes[3 * i + 1]),
-            red.next(bytes[3 * i]),
-        ];
-        out.column(words)?;
-    }
-    Ok(())
 }
 
 /// Gives the columns of a data island.

@@ -1,0 +1,19 @@
+use Rattle.std.proofs.Common.{arith, rules, ◌≡◌, get_or, length}
+use Rattle.std.proofs.lemmas.Grind.{get_or_default_zero}
+use Rattle.source_end.proofs.LineCodings.{run_more}
+use Rattle.source_end.proofs.spell.repeat.Goals as goal
+
+pub loop-i-preserved : goal.loop-i-preserved
+loop-i-preserved g c =
+    let words = c.args.words in
+    let b = c.index-words-0.result in
+    let e = c.index-words-1.result in
+    let r = c.index-words-2.result in
+    let three : length words ≡ 3 = search (rules, c.well_formed.0) in
+    record {
+      taken =
+          run_more (g.C.ColumnSink.taken c.args.out.now) (g.C.ColumnSink.taken c.loop-i.out) (g.C.ColumnSink.taken c.columns.new.self) c.args.count c.loop-i.i c.min-n.result (get_or words 0 0) (get_or words 1 0) (get_or words 2 0)
+          (get_or words 0 b) (get_or words 1 e) (get_or words 2 r) (get_or_default_zero words 0 b (omega (arith, three))) (get_or_default_zero words 1 e (omega (arith, three))) (get_or_default_zero words 2 r (omega (arith, three)))
+          c.loop-i.invariant.taken c.in_ok-columns.ensures.ok (omega (arith, c.min-n.ensures)) (omega (arith, c.div_ceil-i-end.ensures, c.loop-i-test.true));
+      later = omega (arith, c.loop-i.invariant.later, c.in_ok-columns.ensures.cause.later);
+    }
