@@ -64,7 +64,7 @@ record ControlFront (vs : List ℕ) (ks : List Kind) (ss rs : List Column) : Typ
   all : AllControl cs
   fits_back : Fits ks ss back
 
-whole_of : (c : Column) → clean c ≡ true → IsWhole c
+pub whole_of : (c : Column) → clean c ≡ true → IsWhole c
 whole_of c h =
     let r = and-right (is_control c.blue) _ h in
     record { blue = and-left _ _ h; green = and-left _ _ r; red = and-right (is_control c.green) _ r }

@@ -7,4 +7,7 @@ pub mod Islands
 pub mod Nulls
 pub mod Building
 pub mod Fronts
+pub mod ControlFine
+pub mod Arrivals
+pub mod Same
 pub mod Law

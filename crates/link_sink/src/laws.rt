@@ -3,7 +3,7 @@
 ghost use Rattle.link_sink.specs.Laws.{FramingStands, PeriodsStand, LinkLaw, EdgesEnd, FirstEnds, FirstUntil, TapAccounted, PayloadAccounted, OneWrongBit, HasExample, HasPayloadExample};
 ghost use Rattle.link_sink.specs.PeriodLaws.{ControlLaw, VideoLaw, IslandLaw, JoiningLaw};
 ghost use Rattle.link_sink.specs.Literal.{AccountLiteral};
-ghost use Rattle.link_sink.specs.Exact.{CleanIsFront};
+ghost use Rattle.link_sink.specs.Exact.{CleanIsFront, FrontIsClean, CheckIsExact};
 
 /// The control columns that came are those of the control periods, wherever damage lies.
 pub fn framing_stands()
@@ -94,4 +94,15 @@ pub fn has_example()
 /// conforming sender could have sent them.
 pub fn clean_is_front()
     ensures { CleanIsFront }
+{}
+
+/// Of columns with which those begin that spell some conforming periods no fault is told, wherever they end.
+pub fn front_is_clean()
+    ensures { FrontIsClean }
+{}
+
+/// No fault is told exactly where some conforming sender could have sent the columns before the cut, but for bit 3 of
+/// lane 0 in packet columns, which is not judged.
+pub fn check_is_exact()
+    ensures { CheckIsExact }
 {}

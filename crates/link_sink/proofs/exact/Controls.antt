@@ -46,7 +46,7 @@ words_clean j (c ∷ cs) h =
 abbrev columns_of : Run → List Column
 columns_of (columns v cs) = cs
 
-abbrev clean_runs : List Run → Bool
+abbrev pub clean_runs : List Run → Bool
 clean_runs rs = list_all (λ r. list_all clean (columns_of r)) rs
 
 runs_fine : (j : ℕ) (rs : List Run) → Fine (map thing_of (in_runs j rs)) → clean_runs rs ≡ true
