@@ -30,9 +30,9 @@ use Rattle.period_grammar.specs.Column.{sync_digit}
 use Rattle.period_grammar.specs.Coding.{is_coded, first_from, first_uncoded}
 use Rattle.period_grammar.specs.Packets.{verdicts_of}
 use Rattle.period_grammar.specs.Things.{Thing, cut, open_island}
-use Rattle.period_grammar.specs.Cut.{columns, runs, stretches}
+use Rattle.period_grammar.specs.Cut.{runs, stretches}
 use Rattle.period_grammar.specs.Island.{packet_faults, wrong_guards}
-use Rattle.period_grammar.specs.Heard.{words, code_fault, codes_of, heard, heard_so_far}
+use Rattle.period_grammar.specs.Heard.{code_fault, codes_of, heard, heard_so_far}
 use Rattle.period_grammar.proofs.Taking.{verdicts_are}
 use Rattle.link_sink.specs.Account.{control_row, wrong_preamble, open_video_row, open_island_row, close_island_row, video_row, video_told, packet_told, packets_told, island_told, period_row, account_from}
 use Rattle.link_sink.specs.Exact.{FrontIsClean}

@@ -8,13 +8,13 @@ use Rattle.tmds_word.specs.Column.{Column, column_of}
 use Rattle.tmds_word.proofs.Below.{and-left, and-right}
 use Rattle.terc4.specs.Tables.{video_guard}
 use Rattle.terc4.specs.Columns.{is_video_guard, is_island_guard}
-use Rattle.period_grammar.specs.Heard.{if_not, Kind, video, island, neither, lacks, line_bytes, opened, opening, in_payload, payload_closes, in_gap, at_close, at_end, heard, heard_so_far}
+use Rattle.period_grammar.specs.Heard.{Kind, video, island, neither, lacks, line_bytes, opened, opening, in_payload, payload_closes, in_gap, at_close, at_end, heard, heard_so_far}
 use Rattle.island_pack.specs.Periods.{ControlRun, SyncPair, DataIsland, Period, values_of, has_preamble, VIDEO_PREAMBLE, ISLAND_PREAMBLE}
 use Rattle.island_pack.specs.Periods as sends
 use Rattle.island_pack.specs.Conforming.{is_control_period, is_video_period, is_data_island, conforms}
 use Rattle.island_pack.specs.Spelling.{control_column, guard_column, freely, SpellsPeriodBy}
 use Rattle.period_grammar.specs.Column.{value_of, sync_digit}
-use Rattle.period_grammar.specs.Things.{Thing, broken, thing_of, all_at, open_island, guard}
+use Rattle.period_grammar.specs.Things.{Thing, broken, thing_of, all_at, open_island}
 use Rattle.period_grammar.specs.Cut.{Stretch as Cut, stretch, stretches}
 use Rattle.period_grammar.specs.Island.{Payload, parts, left_at, when, payload, in_island, breaks, wrong_guards}
 use Rattle.period_grammar.proofs.Joined.{IsCut, cut_stretches}

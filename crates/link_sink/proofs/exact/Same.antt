@@ -4,10 +4,10 @@ use Rattle.std.proofs.lemmas.List.{append-nil}
 use Rattle.std.proofs.lemmas.List.Folds.{list_all-append}
 use Rattle.tmds_word.specs.Column.{Column}
 use Rattle.tmds_word.proofs.Below.{and-left, and-right}
-use Rattle.terc4.specs.Columns.{is_control_column, closes}
-use Rattle.period_grammar.specs.Things.{Thing, cut, noise, Told, thing_of, all_at}
+use Rattle.terc4.specs.Columns.{is_control_column}
+use Rattle.period_grammar.specs.Things.{Thing, cut, Told, thing_of, all_at}
 use Rattle.period_grammar.specs.Cut.{Stretch as Cut, stretch, before, stretches}
-use Rattle.period_grammar.specs.Island.{Payload, parts, with_packet, split_by, when, if_so, in_packets, closing_things, left_at, begins_close, holds_packet, split, payload, in_left, in_island, breaks, in_closing}
+use Rattle.period_grammar.specs.Island.{Payload, parts, with_packet, split_by, when, if_so, in_packets, left_at, begins_close, holds_packet, split, payload, in_left, in_island, breaks, in_closing}
 use Rattle.period_grammar.specs.Heard.{Kind, video, island, neither, opened, opening, in_payload, in_gap, at_close, payload_ends, at_end, heard, heard_so_far}
 use Rattle.period_grammar.proofs.Islands.{holds_not, holds_long, holds_open, split_none}
 use Rattle.period_grammar.proofs.Joined.{AllAre, IsCut, cut_stretches, split_packet}
