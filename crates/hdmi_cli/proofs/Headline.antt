@@ -1,6 +1,6 @@
 -- What `recover link` makes of the capture of a tap of columns that came with sparse damage.
-use Rattle.std.proofs.Common.{◌≡◌, ◌≤◌, ◌⊎◌, ℕ, ◌+◌, Bool, List, [], ◌∷◌, length, drop, get_or, map, refl, ap, ap₂, sym, ◌∙◌, subst, inl, inr, arith, length-take-le, length-drop}
-use Rattle.std.specs.Prelude.{Option, Some, codes, slice_index, string_bytes}
+use Rattle.std.proofs.Common.{◌≡◌, ◌≤◌, ◌⊎◌, ℕ, ◌+◌, Bool, List, [], ◌∷◌, length, get_or, map, refl, ap, ap₂, sym, ◌∙◌, subst, inl, inr, arith}
+use Rattle.std.specs.Prelude.{Option, Some, codes, string_bytes}
 use Rattle.std.specs.Io.KnownBytes.{Appends}
 use Rattle.outside_io.specs.Causes.{Rose}
 use Rattle.tmds_word.specs.Column.{Column}

@@ -6,3 +6,4 @@ pub mod Answered
 pub mod Listings
 pub mod OneCapture
 pub mod Headline
+pub mod Exact

@@ -5,3 +5,4 @@ pub mod Outcome
 pub mod Endings
 pub mod Runs
 pub mod Headline
+pub mod Exact

@@ -6,6 +6,7 @@ ghost use Rattle.tmds_word.specs.Column.{Column};
 ghost use Rattle.capture_file.specs.Faults.{AreLanes};
 ghost use Rattle.capture_file.specs.declared.damaging.Hit.{Hit};
 ghost use Rattle.lane_deskew.specs.Triples.{IsFirst};
+ghost use Rattle.lane_deskew.specs.Aligned.{aligned_columns};
 ghost use Rattle.island_pack.specs.Periods.{Period};
 ghost use Rattle.island_pack.specs.Sparse.{IsSparseInPayload};
 ghost use Rattle.link_sink.specs.Laws.{AlignsUntil};
@@ -13,6 +14,7 @@ ghost use Rattle.listing.specs.Texts.{link_text};
 ghost use Rattle.listing.specs.Checks.{check_text};
 ghost use Rattle.hdmi_cli.specs.Commands.{AreHits, IsCommand};
 ghost use Rattle.hdmi_cli.specs.Headline.{AreTapped, IsRecovered};
+ghost use Rattle.hdmi_cli.specs.Exact.{IsAlignedCapture, IsJudged};
 ghost use Rattle.hdmi_cli.specs.Outcome.{Outcome, IsOutcome, NamesNone};
 ghost use Rattle.hdmi_cli.specs.Endings.{Ends, RunEnds, ListEnds, HearEnds, AreHeard, refused_ending, damage_ending, judged_ending};
 ghost use Rattle.hdmi_cli.specs.Runs.{IsNoteOf};
@@ -96,6 +98,16 @@ pub fn run<S: Source, K: Sink, N: Sink>(
         ⊎ (result ≡ 6)
         ⊎ ((d e f : ℕ) × IsFirst blue green red d e f
         × ((a : ℕ) × (a + 12 ≤ until) × IsRecovered ps sent received offset skews blue green red d e f a result (K.held output.old) (K.held output.new))) }
+
+    // `check` of a capture with a first full alignment ends with `clean`, and the status is 0, where some conforming sender
+    // could have sent the aligned columns before the cut, and with `faulty`, and it is 1, where none could.
+    ensures check_exact { IsCommand words.now Check
+        → (blue green red : List Bool) (d e f : ℕ) (bytes : List ℕ) → IsAlignedCapture blue green red d e f bytes
+        → S.left input.old ≡ Some bytes
+        → Rose (S.faults input.old) (S.faults input.new)
+        ⊎ Rose (K.faults output.old) (K.faults output.new)
+        ⊎ (result ≡ 6)
+        ⊎ IsJudged (aligned_columns blue green red d e f) result (K.held output.old) (K.held output.new) }
 
     // The notes grow by the one line of the status, or by a part of it where they fail.
     ensures notes { (note : List ℕ) × IsNoteOf words.now (S.left input.old) result note

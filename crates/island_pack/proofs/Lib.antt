@@ -1,6 +1,6 @@
 pub mod Parts
 pub mod Runs
-mod Registers
+pub mod Registers
 mod Columns
 mod Laid
 mod Law

@@ -5,7 +5,7 @@ use Rattle.tmds_word.specs.Column.{Column, column_of}
 use Rattle.tmds_code.specs.Lanes.{IsLane}
 use Rattle.terc4.specs.Tables.{control_words, terc_words, video_guard, island_guard}
 use Rattle.island_pack.specs.Periods.{SyncPair, DataIsland, Period, control, video, island, values_of, Pixel, pixels_of}
-use Rattle.island_pack.specs.Packets.{Carries}
+use Rattle.island_pack.specs.Packets.{Carries, CarriesFreely}
 use Rattle.island_pack.specs.declared.packet.Packet.{Packet}
 
 -- the column of a control value: HSYNC and VSYNC on lane 0, CTL0 and CTL1 on lane 1, CTL2 and CTL3 on lane 2
@@ -37,23 +37,44 @@ guard_columns pair = guard_column pair.first ∷ guard_column pair.second ∷ []
 abbrev pub words_of : Column → List ℕ
 words_of c = c.blue ∷ c.green ∷ c.red ∷ []
 
+-- how columns carry a packet, which is an island's first or not
+abbrev pub Carrying : Type 1
+Carrying = Packet → Bool → List (List ℕ) → Type 0
+
+-- whatever bit 3 of lane 0 is
+abbrev pub freely : Carrying
+freely p first columns = CarriesFreely p columns
+
 -- packets one after another, of which the first is an island's first or not
-abbrev pub SpellsPackets : Bool → List Packet → List Column → Type 0
-SpellsPackets first [] columns = columns ≡ []
-SpellsPackets first (p ∷ ps) columns =
-    (own rest : List Column) × (columns ≡ own ++ rest) × Carries p first (map words_of own) × SpellsPackets false ps rest
+abbrev pub SpellsPacketsBy : Carrying → Bool → List Packet → List Column → Type 0
+SpellsPacketsBy carries first [] columns = columns ≡ []
+SpellsPacketsBy carries first (p ∷ ps) columns =
+    (own rest : List Column) × (columns ≡ own ++ rest) × carries p first (map words_of own) × SpellsPacketsBy carries false ps rest
 
 -- two guard columns, the packets, and two guard columns
-abbrev pub SpellsIsland : DataIsland → List Column → Type 0
-SpellsIsland x columns =
-    (packets : List Column) × (columns ≡ guard_columns x.opening ++ packets ++ guard_columns x.closing) × SpellsPackets true x.packets packets
+abbrev pub SpellsIslandBy : Carrying → DataIsland → List Column → Type 0
+SpellsIslandBy carries x columns =
+    (packets : List Column) × (columns ≡ guard_columns x.opening ++ packets ++ guard_columns x.closing) × SpellsPacketsBy carries true x.packets packets
 
-abbrev pub SpellsPeriod : Period → List Column → Type 0
-SpellsPeriod (control runs) columns = columns ≡ map control_column (values_of runs)
-SpellsPeriod (video bytes) columns = SpellsVideo bytes columns
-SpellsPeriod (island x) columns = SpellsIsland x columns
+abbrev pub SpellsPeriodBy : Carrying → Period → List Column → Type 0
+SpellsPeriodBy carries (control runs) columns = columns ≡ map control_column (values_of runs)
+SpellsPeriodBy carries (video bytes) columns = SpellsVideo bytes columns
+SpellsPeriodBy carries (island x) columns = SpellsIslandBy carries x columns
 
 -- the columns are, period after period, columns that spell it
+abbrev pub SpellsBy : Carrying → List Period → List Column → Type 0
+SpellsBy carries [] columns = columns ≡ []
+SpellsBy carries (p ∷ ps) columns = (own rest : List Column) × (columns ≡ own ++ rest) × SpellsPeriodBy carries p own × SpellsBy carries ps rest
+
+-- as a source spells them: bit 3 of lane 0 is 0 exactly in column 0 of an island's first packet
+abbrev pub SpellsPackets : Bool → List Packet → List Column → Type 0
+SpellsPackets first ps columns = SpellsPacketsBy Carries first ps columns
+
+abbrev pub SpellsIsland : DataIsland → List Column → Type 0
+SpellsIsland x columns = SpellsIslandBy Carries x columns
+
+abbrev pub SpellsPeriod : Period → List Column → Type 0
+SpellsPeriod p columns = SpellsPeriodBy Carries p columns
+
 abbrev pub Spells : List Period → List Column → Type 0
-Spells [] columns = columns ≡ []
-Spells (p ∷ ps) columns = (own rest : List Column) × (columns ≡ own ++ rest) × SpellsPeriod p own × Spells ps rest
+Spells ps columns = SpellsBy Carries ps columns

@@ -5,7 +5,7 @@ use Rattle.std.proofs.lemmas.List.Elements.{All-tail}
 use Rattle.tmds_word.specs.Column.{Column, blues, greens, reds}
 use Rattle.tmds_word.proofs.Below.{and-left, and-right}
 use Rattle.terc4.specs.Tables.{is_control, is_terc}
-use Rattle.island_pack.specs.Packets.{AreTerc, Carries}
+use Rattle.island_pack.specs.Packets.{AreTerc, CarriesFreely}
 use Rattle.island_pack.specs.Periods.{ControlRun, Pixel, DataIsland, Period, control, video, island, values_of, pixels_of}
 use Rattle.island_pack.specs.Conforming.{are_bytes}
 use Rattle.island_pack.specs.Spelling.{control_column as column_of_value, guard_column, guard_columns, words_of, SpellsPixels, SpellsPackets, Spells}
@@ -64,7 +64,7 @@ record ControlFront (vs : List ℕ) (ks : List Kind) (ss rs : List Column) : Typ
   all : AllControl cs
   fits_back : Fits ks ss back
 
-whole_of : (c : Column) → clean c ≡ true → IsWhole c
+pub whole_of : (c : Column) → clean c ≡ true → IsWhole c
 whole_of c h =
     let r = and-right (is_control c.blue) _ h in
     record { blue = and-left _ _ h; green = and-left _ _ r; red = and-right (is_control c.green) _ r }
@@ -154,7 +154,7 @@ packet_kinds n own ks e =
     ∙ append_assoc (replicate (length own) packet_column) (replicate (32 * n) packet_column) ks
 
 -- a packet, and the packets after it
-packet_front : (first : Bool) (p : Packet) (ps : List Packet) (pp own later : List Column) (ks : List Kind) (ss rs : List Column) → pp ≡ own ++ later → Carries p first (map words_of own)
+packet_front : (first : Bool) (p : Packet) (ps : List Packet) (pp own later : List Column) (ks : List Kind) (ss rs : List Column) → pp ≡ own ++ later → CarriesFreely p (map words_of own)
     → (one : PartFront own (replicate (32 * length ps) packet_column ++ ks) (later ++ ss) rs) → PacketFront false ps later ks ss one.back → PacketFront first (p ∷ ps) pp ks ss rs
 packet_front first p ps pp own later ks ss rs e c one rest = record {
   qq = one.qq ++ rest.qq;
@@ -172,11 +172,11 @@ front_packets first [] pp ks ss rs h f =
 front_packets first (p ∷ ps) pp ks ss rs h f =
     let own = h.0 in
     let later = h.1 in
-    let c = h.3 in
+    let c = h.3.free in
     let e : pp ++ ss ≡ own ++ (later ++ ss) = ap (λ cs. cs ++ ss) h.2 ∙ append_assoc own later ss in
     let k = packet_kinds (length ps) own ks (packet_sent first p own c) in
     let g = subst (λ cs. Fits (replicate (length own) packet_column ++ (replicate (32 * length ps) packet_column ++ ks)) cs rs) e (subst (λ xs. Fits xs (pp ++ ss) rs) k f) in
-    let terc = c.free.terc in
+    let terc = c.terc in
     let one = front_parts own (replicate (32 * length ps) packet_column ++ ks) (later ++ ss) rs (terc 0 (omega arith)) (terc 1 (omega arith)) (terc 2 (omega arith)) g in
     let ih = front_packets false ps later ks ss one.back h.4 one.fits_back in
     packet_front first p ps pp own later ks ss rs h.2 c one ih

@@ -9,7 +9,7 @@ use Rattle.terc4.specs.Columns.{is_control_column, closing_words, closes}
 use Rattle.terc4.proofs.Members.{passes_all, passes_in}
 use Rattle.terc4.proofs.Words.{terc_apart}
 use Rattle.lane_deskew.proofs.Computed.{not_true}
-use Rattle.island_pack.specs.Packets.{Carries}
+use Rattle.island_pack.specs.Packets.{CarriesFreely}
 use Rattle.island_pack.specs.Spelling.{words_of}
 use Rattle.island_pack.specs.Sparse.{unlike_words}
 use Rattle.island_pack.specs.declared.packet.Packet.{Packet}
@@ -35,7 +35,7 @@ pub data ArePackets : Bool → List Packet → List Column → List Column → T
   no_packets : (first : Bool) → ArePackets first [] [] []
   one_more :
       (first : Bool) (p : Packet) (ps : List Packet) (own came ss rs : List Column)
-      → Carries p first (map words_of own) → AreParts own came → ArePackets false ps ss rs → ArePackets first (p ∷ ps) (own ++ ss) (came ++ rs)
+      → CarriesFreely p (map words_of own) → AreParts own came → ArePackets false ps ss rs → ArePackets first (p ∷ ps) (own ++ ss) (came ++ rs)
 
 pub part_quiet : (s r : Column) → PartAt s r → is_control_column r ≡ false
 part_quiet s r h = stays_quiet s r (record { blue = terc_apart s.blue h.blue; green = terc_apart s.green h.green; red = terc_apart s.red h.red }) h.one
@@ -85,10 +85,10 @@ packets_quiet _ _ _ _ (one_more first p ps own came ss rs c h hs) =
     list_all-append (λ c. not (is_control_column c)) came rs ∙ and_both _ _ (parts_quiet own came h) (packets_quiet false ps ss rs hs)
 
 -- a packet has 32 columns
-pub packet_sent : (first : Bool) (p : Packet) (own : List Column) → Carries p first (map words_of own) → length own ≡ 32
-packet_sent first p own c = sym (length-map own words_of) ∙ c.free.count
+pub packet_sent : (first : Bool) (p : Packet) (own : List Column) → CarriesFreely p (map words_of own) → length own ≡ 32
+packet_sent first p own c = sym (length-map own words_of) ∙ c.count
 
-pub packet_came : (first : Bool) (p : Packet) (own came : List Column) → Carries p first (map words_of own) → AreParts own came → length came ≡ 32
+pub packet_came : (first : Bool) (p : Packet) (own came : List Column) → CarriesFreely p (map words_of own) → AreParts own came → length came ≡ 32
 packet_came first p own came c h = parts_length own came h ∙ packet_sent first p own c
 
 pub packets_sent : (first : Bool) (ps : List Packet) (ss rs : List Column) → ArePackets first ps ss rs → length ss ≡ 32 * length ps

@@ -6,7 +6,7 @@ use Rattle.std.proofs.lemmas.Bool.{cases_lt, ne_eqb, le-leb, le-ltb, lt-ltb}
 use Rattle.std.proofs.Math.Seq.{take-append-add}
 use Rattle.tmds_word.specs.Column.{Column}
 use Rattle.terc4.specs.Columns.{is_control_column, is_island_guard, closes}
-use Rattle.island_pack.specs.Packets.{Carries}
+use Rattle.island_pack.specs.Packets.{CarriesFreely}
 use Rattle.island_pack.specs.Periods.{DataIsland, period_columns}
 use Rattle.island_pack.specs.Spelling.{guard_column, guard_columns, words_of}
 use Rattle.island_pack.specs.declared.packet.Packet.{Packet}
@@ -100,14 +100,14 @@ split_some zero cs h long le = absurd (omega arith)
 split_some (suc m) cs h long le = let e : m ≡ suc m - 1 = omega arith in split_one m cs h ∙ ap (λ l. with_packet (take 32 cs) (split l (drop 32 cs))) e
 
 -- a whole packet, of the first eighteen of an island
-pub packet_things_are : (s k : ℕ) (first : Bool) (p : Packet) (ss rs : List Column) → k < 18 → Carries p first (map words_of ss) → length rs ≡ 32 → packet_things s k rs ≡ packet_told s p ss rs
+pub packet_things_are : (s k : ℕ) (first : Bool) (p : Packet) (ss rs : List Column) → k < 18 → CarriesFreely p (map words_of ss) → length rs ≡ 32 → packet_things s k rs ≡ packet_told s p ss rs
 unfolding packet_things packet_told
 packet_things_are s k first p ss rs lt c long =
     ap₂ (λ (q : Packet) (t : Bool). packet q (verdicts_of rs) s ∷ (packet_faults s (verdicts_of rs) ++ if_so t (long_island s))) (packet_row_taken p first ss rs c long) (ne_eqb k 18 (λ e. omega arith))
     ∙ ap (λ ts. packet (packet_row p ss rs) (verdicts_of rs) s ∷ ts) (append-nil (packet_faults s (verdicts_of rs)))
 
 one_whole : (m : ℕ) (f : ℕ → Thing) (first : Bool) (p : Packet) (ps : List Packet) (own came more rest : List Column) (b s k i : ℕ)
-    → Carries p first (map words_of own) → AreParts own came → k < 18 → length (take i (came ++ rest)) ≤ m → 32 ≤ i
+    → CarriesFreely p (map words_of own) → AreParts own came → k < 18 → length (take i (came ++ rest)) ≤ m → 32 ≤ i
     → ((l : ℕ) → length (take (i - 32) rest) ≤ l → told f b (s + 32) (k + 1) (split l (take (i - 32) rest)) ≡ packets_told f (s + 32) ps (i - 32) more rest)
     → told f b s k (split m (take i (came ++ rest))) ≡ packets_told f s (p ∷ ps) i (own ++ more) (came ++ rest)
 unfolding packets_told
@@ -131,7 +131,7 @@ one_whole m f first p ps own came more rest b s k i c are few fuel whole ih =
 
 -- a packet before others
 packet_first : (m : ℕ) (f : ℕ → Thing) (first : Bool) (p : Packet) (ps : List Packet) (own came more rest : List Column) (b s k i : ℕ)
-    → Carries p first (map words_of own) → AreParts own came → k < 18 → length (take i (came ++ rest)) ≤ m
+    → CarriesFreely p (map words_of own) → AreParts own came → k < 18 → length (take i (came ++ rest)) ≤ m
     → ((l : ℕ) → length (take (i - 32) rest) ≤ l → told f b (s + 32) (k + 1) (split l (take (i - 32) rest)) ≡ packets_told f (s + 32) ps (i - 32) more rest)
     → told f b s k (split m (take i (came ++ rest))) ≡ packets_told f s (p ∷ ps) i (own ++ more) (came ++ rest)
 packet_first m f first p ps own came more rest b s k i c are few fuel ih = elim (cases_lt i 32) [

@@ -36,3 +36,4 @@ pub mod Prefixes
 pub mod Following
 pub mod Feeding
 pub mod Pieces
+pub mod exact

@@ -9,7 +9,7 @@ use Rattle.bch_block.specs.declared.Verdict.TheVariants.{Clean, Mended}
 use Rattle.bch_block.proofs.Distances.{flipped-flipped}
 use Rattle.bch_block.proofs.Verdicts.{one_wrong}
 use Rattle.island_pack.specs.Nibbles.{nibble_of, nibbles_of, by_turns, sync_values, header_bits, body_bits, foreign_words}
-use Rattle.island_pack.specs.Packets.{IsPacket, BeginsWith, body_of, Carries}
+use Rattle.island_pack.specs.Packets.{IsPacket, BeginsWith, body_of, CarriesFreely}
 use Rattle.island_pack.specs.Spelling.{words_of}
 use Rattle.island_pack.specs.Taken.{IsTaken, verdict_on}
 use Rattle.island_pack.specs.declared.packet.Packet.{Packet}
@@ -83,8 +83,8 @@ sync_of_sent (s ∷ ss) [] e = absurd (omega arith)
 sync_of_sent (s ∷ ss) (r ∷ rs) e =
     ap₂ (λ v (vs : List ℕ). v ∷ vs) (sync_of s.blue r.blue (s.blue == r.blue) refl) (sync_of_sent ss rs (omega arith))
 
-sync_taken : (p : Packet) (first : Bool) (ss rs : List Column) → Carries p first (map words_of ss) → length rs ≡ length ss → sync_row p.sync ss rs ≡ sync_values (map words_of rs)
-sync_taken p first ss rs carries same = ap (λ vs. sync_row vs ss rs) (sym carries.free.sync) ∙ sync_of_sent ss rs same
+sync_taken : (p : Packet) (first : Bool) (ss rs : List Column) → CarriesFreely p (map words_of ss) → length rs ≡ length ss → sync_row p.sync ss rs ≡ sync_values (map words_of rs)
+sync_taken p first ss rs carries same = ap (λ vs. sync_row vs ss rs) (sym carries.sync) ∙ sync_of_sent ss rs same
 
 -- Packets.
 
@@ -135,21 +135,20 @@ by_blocks p ws whole long m0 m1 m2 m3 header =
     })
 
 -- where at most one word is unlike
-as_sent : (p : Packet) (first : Bool) (ss rs : List Column) → Carries p first (map words_of ss) → length rs ≡ 32 → length rs ≡ length ss → damage ss rs ≤ 1
+as_sent : (p : Packet) (first : Bool) (ss rs : List Column) → CarriesFreely p (map words_of ss) → length rs ≡ 32 → length rs ≡ length ss → damage ss rs ≤ 1
     → record { header = p.header; bodies = p.bodies; sync = sync_values (map words_of rs) } ≡ packet_of rs
 as_sent p first ss rs carries long same few =
-    let free = carries.free in
     let ws = map words_of rs in
     let header : IsMended (header_bits ws) p.header =
-    mended_block (header_bits (map words_of ss)) (header_bits ws) p.header (omega (arith, free.whole.header)) (length-header ss rs same)
-    (omega (arith, header_wrong ss rs, few)) free.header in
+    mended_block (header_bits (map words_of ss)) (header_bits ws) p.header (omega (arith, carries.whole.header)) (length-header ss rs same)
+    (omega (arith, header_wrong ss rs, few)) carries.header in
     let body : (b : ℕ) → b < 4 → IsMended (body_bits ws b) (body_of p b) =
-    λ b lt. mended_block (body_bits (map words_of ss) b) (body_bits ws b) (body_of p b) (omega (arith, length-body_of p b free.whole.bodies lt)) (length-body b ss rs same)
-    (omega (arith, body_wrong b ss rs, few)) (free.bodies b lt) in
-    by_blocks p ws free.whole (length-map rs words_of ∙ long) (body 0 (omega arith)) (body 1 (omega arith)) (body 2 (omega arith)) (body 3 (omega arith)) header
+    λ b lt. mended_block (body_bits (map words_of ss) b) (body_bits ws b) (body_of p b) (omega (arith, length-body_of p b carries.whole.bodies lt)) (length-body b ss rs same)
+    (omega (arith, body_wrong b ss rs, few)) (carries.bodies b lt) in
+    by_blocks p ws carries.whole (length-map rs words_of ∙ long) (body 0 (omega arith)) (body 1 (omega arith)) (body 2 (omega arith)) (body 3 (omega arith)) header
 
 -- the packet as it is taken, whether few words are unlike or more
-by_damage : (p : Packet) (first : Bool) (ss rs : List Column) → Carries p first (map words_of ss) → length rs ≡ 32 → length rs ≡ length ss
+by_damage : (p : Packet) (first : Bool) (ss rs : List Column) → CarriesFreely p (map words_of ss) → length rs ≡ 32 → length rs ≡ length ss
     → (few : Bool) → nat_le (damage ss rs) 1 ≡ few
     → packet_of rs ≡ cond few
     (record { header = p.header; bodies = p.bodies; sync = sync_row p.sync ss rs })
@@ -162,7 +161,7 @@ by_damage p first ss rs carries long same false e =
     ap (λ vs. record { header = (packet_of rs).header; bodies = (packet_of rs).bodies; sync = vs }) (sym (sync_taken p first ss rs carries same))
 
 -- what is taken of the columns that came of a packet is the packet of the account
-pub packet_row_taken : (p : Packet) (first : Bool) (ss rs : List Column) → Carries p first (map words_of ss) → length rs ≡ 32 → packet_of rs ≡ packet_row p ss rs
+pub packet_row_taken : (p : Packet) (first : Bool) (ss rs : List Column) → CarriesFreely p (map words_of ss) → length rs ≡ 32 → packet_of rs ≡ packet_row p ss rs
 unfolding packet_row
 packet_row_taken p first ss rs carries long =
-    by_damage p first ss rs carries long (long ∙ sym carries.free.count ∙ length-map ss words_of) (nat_le (damage ss rs) 1) refl
+    by_damage p first ss rs carries long (long ∙ sym carries.count ∙ length-map ss words_of) (nat_le (damage ss rs) 1) refl

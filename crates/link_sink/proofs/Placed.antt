@@ -4,7 +4,7 @@ use Rattle.std.proofs.lemmas.List.{append-nil, take_all}
 use Rattle.std.proofs.lemmas.Bool.{ne_eqb}
 use Rattle.tmds_word.specs.Column.{Column}
 use Rattle.terc4.specs.Columns.{is_video_guard, is_island_guard, closes}
-use Rattle.island_pack.specs.Packets.{Carries}
+use Rattle.island_pack.specs.Packets.{CarriesFreely}
 use Rattle.island_pack.specs.Periods.{Pixel, DataIsland, Period, pixels_of}
 use Rattle.island_pack.specs.Spelling.{guard_columns, words_of}
 use Rattle.island_pack.specs.declared.packet.Packet.{Packet}
@@ -106,7 +106,7 @@ placed_close b s k c d h some =
     ∙ ap (λ ts. all_at (s + 1) (first ∷ ts)) (append-nil (wrong_guards is_island_guard s c d))
 
 -- the first packet of columns
-split_first : (m : ℕ) (first : Bool) (p : Packet) (own came rest : List Column) → Carries p first (map words_of own) → AreParts own came → length (came ++ rest) ≤ m
+split_first : (m : ℕ) (first : Bool) (p : Packet) (own came rest : List Column) → CarriesFreely p (map words_of own) → AreParts own came → length (came ++ rest) ≤ m
     → split m (came ++ rest) ≡ with_packet came (split (m - 1) rest)
 split_first m first p own came rest c are fuel =
     let sent = packet_sent first p own c in

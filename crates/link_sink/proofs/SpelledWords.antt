@@ -74,7 +74,7 @@ small_red = small_lane (λ p. p.red) (λ p r g b. r)
 pub packets_size : (first : Bool) (ps : List Packet) (pp : List Column) → SpellsPackets first ps pp → length pp ≡ 32 * length ps
 packets_size first [] pp h = ap length h
 packets_size first (p ∷ ps) pp h =
-    let own = packet_sent first p h.0 h.3 in
+    let own = packet_sent first p h.0 h.3.free in
     let rest = packets_size false ps h.1 h.4 in
     let all = ap length h.2 in
     let both = length-append h.0 h.1 in

@@ -8,3 +8,4 @@ pub mod Literal
 pub mod Sinks
 pub mod Progress
 pub mod Pieces
+pub mod Exact

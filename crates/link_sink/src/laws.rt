@@ -1,7 +1,9 @@
-//! What holds of columns that came with sparse damage. The functions do nothing: what they ensure are the laws.
+//! What holds of columns that came with sparse damage, and of columns of which no fault is told. The functions do nothing:
+//! what they ensure are the laws.
 ghost use Rattle.link_sink.specs.Laws.{FramingStands, PeriodsStand, LinkLaw, EdgesEnd, FirstEnds, FirstUntil, TapAccounted, PayloadAccounted, OneWrongBit, HasExample, HasPayloadExample};
 ghost use Rattle.link_sink.specs.PeriodLaws.{ControlLaw, VideoLaw, IslandLaw, JoiningLaw};
 ghost use Rattle.link_sink.specs.Literal.{AccountLiteral};
+ghost use Rattle.link_sink.specs.Exact.{CleanIsFront, FrontIsClean, CheckIsExact};
 
 /// The control columns that came are those of the control periods, wherever damage lies.
 pub fn framing_stands()
@@ -86,4 +88,21 @@ pub fn has_payload_example()
 /// There are columns with damaged words in each kind of column, and a tap of them that is aligned before.
 pub fn has_example()
     ensures { HasExample }
+{}
+
+/// Where no fault is told, some conforming periods are spelled by columns that begin with the ones before the cut: some
+/// conforming sender could have sent them.
+pub fn clean_is_front()
+    ensures { CleanIsFront }
+{}
+
+/// Of columns with which those begin that spell some conforming periods no fault is told, wherever they end.
+pub fn front_is_clean()
+    ensures { FrontIsClean }
+{}
+
+/// No fault is told exactly where some conforming sender could have sent the columns before the cut, but for bit 3 of
+/// lane 0 in packet columns, which is not judged.
+pub fn check_is_exact()
+    ensures { CheckIsExact }
 {}

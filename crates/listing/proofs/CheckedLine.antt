@@ -3,13 +3,14 @@ use Rattle.std.proofs.Common.{◌≡◌, ◌∙◌, ℕ, ◌<◌, Bool, true, fa
 use Rattle.std.specs.Prelude.{◌||◌, Result, Ok, Err, OnOk, OnErr}
 use Rattle.std.specs.Io.KnownBytes.{Appends}
 use Rattle.std.proofs.KnownBytes.{Appends-nil}
+use Rattle.period_grammar.specs.Exact.{is_fault_thing}
 use Rattle.period_grammar.specs.Things.{Thing}
 use Rattle.period_grammar.specs.Lending.{fault_thing, lent_thing}
 use Rattle.period_grammar.specs.declared.told.Fault.{Fault}
 use Rattle.period_grammar.specs.declared.told.Told.{Told}
 use Rattle.period_grammar.specs.declared.told.Told.TheVariants.{Run, Line, Open, Packet, Close}
 use Rattle.island_pack.specs.declared.packet.PacketRef.{PacketRef}
-use Rattle.listing.specs.Texts.{lines_of, is_fault_thing, fault_lines, counted}
+use Rattle.listing.specs.Texts.{lines_of, fault_lines, counted}
 use Rattle.listing.specs.Checks.{is_cut, is_checked, check_lines}
 use Rattle.listing.specs.Growing.{counted_zero}
 use Rattle.listing.specs.GrowingChecks.{checked_line, unchecked_line}
@@ -35,7 +36,7 @@ IsUnlisted told =
 
 pub unlisted_passed : {N : Type 0} (name : N) (faults : ℕ) (a : Option (List ℕ)) (told : Told) → IsUnlisted told
     → (name ≡ name) × (faults ≡ counted faults (fault_lines (lent_thing told ∷ []))) × Appends a a (check_lines (lent_thing told ∷ []))
-unfolding is_fault_thing is_checked is_cut
+unfolding is_checked is_cut
 unlisted_passed name faults a told (inl (value, count, is)) = passed_over name faults a _ (lent_thing (Run value count)) (ap lent_thing is) refl refl
 unlisted_passed name faults a told (inr (inl (pixels, is))) = passed_over name faults a _ (lent_thing (Line pixels)) (ap lent_thing is) refl refl
 unlisted_passed name faults a told (inr (inr (inl (sync, is)))) = passed_over name faults a _ (lent_thing (Open sync)) (ap lent_thing is) refl refl

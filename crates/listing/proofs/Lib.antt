@@ -1,4 +1,5 @@
 pub mod CheckedLine
+pub mod Exact
 pub mod Feeds
 pub mod Given
 pub mod Islands

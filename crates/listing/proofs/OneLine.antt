@@ -2,11 +2,12 @@
 use Rattle.std.proofs.Common.{◌≡◌, ◌∙◌, ℕ, ◌+◌, ◌<◌, Bool, true, false, cond, List, [], ◌∷◌, ◌++◌, length, take, Option, refl, ap, sym, subst, append-nil}
 use Rattle.std.specs.Prelude.{codes, Result, Ok, Err, OnOk, OnErr}
 use Rattle.std.specs.Io.KnownBytes.{Appends}
+use Rattle.period_grammar.specs.Exact.{is_fault_thing}
 use Rattle.period_grammar.specs.Things.{Thing}
 use Rattle.period_grammar.specs.Lending.{fault_thing}
 use Rattle.period_grammar.specs.declared.told.Fault.{Fault}
 use Rattle.period_grammar.specs.declared.told.Fault.TheVariants.{Word, Short, Preamble, Noise, Empty, Code, LongLine, Symbols, Mended, Lost, LongIsland, Broken, Guard}
-use Rattle.listing.specs.Texts.{words_of, lines_of, is_fault_thing, fault_lines, counted}
+use Rattle.listing.specs.Texts.{words_of, lines_of, fault_lines, counted}
 use Rattle.listing.specs.Growing.{counted_zero}
 
 -- the line of one thing
@@ -53,7 +54,6 @@ fault_took name faults now a b t s text is kind written one appends = (
 
 -- a fault is a fault line
 pub is_fault : (fault : Fault) → is_fault_thing (fault_thing fault) ≡ true
-unfolding is_fault_thing
 is_fault (Word a b) = refl
 is_fault (Short a) = refl
 is_fault (Preamble a) = refl

@@ -1,7 +1,8 @@
 -- The text of a check: the lines of faults and of the cut, and whether there was a fault (docs/FORMATS.md).
 use Rattle.std.specs.Prelude.{ℕ, zero, suc, Bool, true, false, ◌||◌, List, ◌++◌, filter, codes}
+use Rattle.period_grammar.specs.Exact.{is_fault_thing}
 use Rattle.period_grammar.specs.Things.{Thing, cut}
-use Rattle.listing.specs.Texts.{lines_of, is_fault_thing, fault_lines}
+use Rattle.listing.specs.Texts.{lines_of, fault_lines}
 
 -- whether a thing says that the columns ended early
 unfoldable pub is_cut : Thing → Bool

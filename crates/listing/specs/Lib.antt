@@ -13,3 +13,4 @@ pub mod Fields
 pub mod Growing
 pub mod Checks
 pub mod GrowingChecks
+pub mod Exact

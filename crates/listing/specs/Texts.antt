@@ -1,8 +1,9 @@
 -- The text of a listing: a line for each thing that is told, and the line `end` (docs/FORMATS.md).
-use Rattle.std.specs.Prelude.{ℕ, ◌+◌, ◌-◌, ◌^◌, Bool, true, false, List, [], ◌∷◌, ◌++◌, map, min, max, count_by, codes, decimal}
+use Rattle.std.specs.Prelude.{ℕ, ◌+◌, ◌-◌, ◌^◌, List, [], ◌∷◌, ◌++◌, map, min, max, count_by, codes, decimal}
 use Rattle.hex.specs.Hex.{encode_lower}
 use Rattle.island_pack.specs.Packets.{body_of}
 use Rattle.island_pack.specs.declared.packet.Packet.{Packet}
+use Rattle.period_grammar.specs.Exact.{is_fault_thing}
 use Rattle.period_grammar.specs.Things.{Thing, run, line, word, short, preamble, noise, empty, code, long_line, cut, open_island, packet, close_island, symbols, mended, lost, long_island, broken, guard}
 
 -- a space and a number in decimal digits
@@ -49,16 +50,6 @@ lines_of (t ∷ ts) = words_of t ++ codes "\n" ++ lines_of ts
 -- the whole listing
 unfoldable pub link_text : List Thing → List ℕ
 link_text things = lines_of things ++ codes "end\n"
-
--- whether a thing is a fault
-unfoldable pub is_fault_thing : Thing → Bool
-is_fault_thing (run value count) = false
-is_fault_thing (line bytes) = false
-is_fault_thing (open_island a b) = false
-is_fault_thing (packet p verdicts column) = false
-is_fault_thing (close_island a b) = false
-is_fault_thing (cut column) = false
-is_fault_thing _ = true
 
 -- how many fault lines things have
 unfoldable pub fault_lines : List Thing → ℕ

@@ -4,6 +4,7 @@
 mod checker;
 mod fault;
 mod form;
+pub mod laws;
 mod line;
 mod lines;
 mod lister;

@@ -1,5 +1,6 @@
 use Rattle.hdmi_cli.specs.Endings.{Devices, note_of}
 use Rattle.hdmi_cli.proofs.Ends.{says}
+use Rattle.hdmi_cli.proofs.Exact.{check_is_exact}
 use Rattle.hdmi_cli.proofs.Headline.{headlined, headlined_anywhere}
 use Rattle.hdmi_cli.proofs.run.run.Goals as goal
 
@@ -86,6 +87,13 @@ returns-clause-headline_anywhere g c =
     let before : Devices = record { left = g.S.Source.left c.args.input.now; input_faults = g.S.Source.faults c.args.input.now; held = g.K.Sink.held c.args.output.now; output_faults = g.K.Sink.faults c.args.output.now } in
     let after : Devices = record { left = g.S.Source.left c.carry_out-ending.new.input; input_faults = g.S.Source.faults c.carry_out-ending.new.input; held = g.K.Sink.held c.carry_out-ending.new.output; output_faults = g.K.Sink.faults c.carry_out-ending.new.output } in
     headlined_anywhere c.args.words.now c.carry_out-ending.result before after c.status.result c.carry_out-ending.ensures.ends c.status.ensures
+
+pub returns-clause-check_exact : goal.returns-clause-check_exact
+returns-clause-check_exact g c =
+    let before : Devices = record { left = g.S.Source.left c.args.input.now; input_faults = g.S.Source.faults c.args.input.now; held = g.K.Sink.held c.args.output.now; output_faults = g.K.Sink.faults c.args.output.now } in
+    let after : Devices = record { left = g.S.Source.left c.carry_out-ending.new.input; input_faults = g.S.Source.faults c.carry_out-ending.new.input; held = g.K.Sink.held c.carry_out-ending.new.output; output_faults = g.K.Sink.faults c.carry_out-ending.new.output } in
+    check_is_exact c.args.words.now before after c.status.result (note_of c.carry_out-ending.result)
+    (says c.args.words.now c.carry_out-ending.result before after c.status.result c.carry_out-ending.ensures.ends c.status.ensures)
 
 pub returns-clause-notes : goal.returns-clause-notes
 returns-clause-notes g c =

@@ -2,7 +2,7 @@ use Rattle.std.proofs.Common.{refl, ap, arith}
 use Rattle.std.specs.Prelude.{Err}
 use Rattle.period_grammar.specs.Things.{cut}
 use Rattle.period_grammar.specs.Lending.{lent_thing, fault_thing}
-use Rattle.listing.specs.Texts.{words_of, is_fault_thing}
+use Rattle.listing.specs.Texts.{words_of}
 use Rattle.listing.specs.Checks.{is_cut, is_checked}
 use Rattle.listing.proofs.OneLine.{line_took, line_broke, fault_took, is_fault, always}
 use Rattle.listing.proofs.CheckedLine.{unlisted_passed, check_took, check_took_ok, check_broke, fault_checked}
@@ -16,14 +16,14 @@ returns-in-Run g c = record {
 }
 
 pub returns-in-Cut-clause-ok : goal.returns-in-Cut-clause-ok
-unfolding words_of is_fault_thing is_checked is_cut
+unfolding words_of is_checked is_cut
 returns-in-Cut-clause-ok g c =
     check_took_ok _ _ _ _ _ (lent_thing c.args.told) (cut c.in-Cut.column) (ap lent_thing c.in-Cut.is) refl
     (line_took _ _ _ _ _ (lent_thing c.args.told) (cut c.in-Cut.column) _ (ap lent_thing c.in-Cut.is) refl
     c.fields_line.ensures c.write_short.ensures.whole)
 
 pub returns-in-Cut-clause-err : goal.returns-in-Cut-clause-err
-unfolding words_of is_fault_thing is_checked is_cut
+unfolding words_of is_checked is_cut
 returns-in-Cut-clause-err g c =
     check_broke _ _ _ _ _ (lent_thing c.args.told) (cut c.in-Cut.column) (ap lent_thing c.in-Cut.is) refl
     (line_broke _ _ _ _ _ (lent_thing c.args.told) (cut c.in-Cut.column) _ (ap lent_thing c.in-Cut.is)

@@ -2,12 +2,12 @@ use Rattle.std.proofs.Common.{refl, ap, arith}
 use Rattle.std.specs.Prelude.{slice_index, Err}
 use Rattle.period_grammar.specs.Things.{run, line, open_island, close_island, cut}
 use Rattle.period_grammar.specs.Lending.{lent_thing, fault_thing}
-use Rattle.listing.specs.Texts.{words_of, is_fault_thing}
+use Rattle.listing.specs.Texts.{words_of}
 use Rattle.listing.proofs.OneLine.{line_took, line_broke, fault_took, is_fault, always}
 use Rattle.listing.proofs.lister.LinkListerEar.hear.Goals as goal
 
 pub returns-in-Run-clause-ok : goal.returns-in-Run-clause-ok
-unfolding words_of is_fault_thing
+unfolding words_of
 returns-in-Run-clause-ok g c =
     line_took _ _ _ _ _ (lent_thing c.args.told) (run c.in-Run.value c.in-Run.count) _ (ap lent_thing c.in-Run.is) refl
     c.run_line.ensures c.write_short.ensures.whole
@@ -19,7 +19,7 @@ returns-in-Run-clause-err g c =
     c.run_line.ensures c.write_short.ensures.part
 
 pub returns-in-Line-clause-ok : goal.returns-in-Line-clause-ok
-unfolding words_of is_fault_thing
+unfolding words_of
 returns-in-Line-clause-ok g c =
     line_took _ _ _ _ _ (lent_thing c.args.told) (line c.in-Line.pixels.now) _ (ap lent_thing c.in-Line.is) refl
     (c.encode_pixels-size.ensures.text) c.write_line.ensures.whole
@@ -31,7 +31,7 @@ returns-in-Line-clause-err g c =
     (c.encode_pixels-size.ensures.text) c.write_line.ensures.part
 
 pub returns-in-Open-clause-ok : goal.returns-in-Open-clause-ok
-unfolding words_of is_fault_thing
+unfolding words_of
 returns-in-Open-clause-ok g c =
     line_took _ _ _ _ _ (lent_thing c.args.told) (open_island (slice_index c.in-Open.sync 0) (slice_index c.in-Open.sync 1)) _ (ap lent_thing c.in-Open.is) refl
     c.guard_line.ensures c.write_short-in-Open.ensures.whole
@@ -43,7 +43,7 @@ returns-in-Open-clause-err g c =
     c.guard_line.ensures c.write_short-in-Open.ensures.part
 
 pub returns-in-Packet-clause-ok : goal.returns-in-Packet-clause-ok
-unfolding words_of is_fault_thing
+unfolding words_of
 returns-in-Packet-clause-ok g c =
     line_took _ _ _ _ _ (lent_thing c.args.told) _ _ (ap lent_thing c.in-Packet.is) refl
     c.packet_line.ensures c.write_short-in-Packet.ensures.whole
@@ -55,7 +55,7 @@ returns-in-Packet-clause-err g c =
     c.packet_line.ensures c.write_short-in-Packet.ensures.part
 
 pub returns-in-Close-clause-ok : goal.returns-in-Close-clause-ok
-unfolding words_of is_fault_thing
+unfolding words_of
 returns-in-Close-clause-ok g c =
     line_took _ _ _ _ _ (lent_thing c.args.told) (close_island (slice_index c.in-Close.sync 0) (slice_index c.in-Close.sync 1)) _ (ap lent_thing c.in-Close.is) refl
     c.guard_line-in-Close.ensures c.write_short-in-Close.ensures.whole
@@ -67,7 +67,7 @@ returns-in-Close-clause-err g c =
     c.guard_line-in-Close.ensures c.write_short-in-Close.ensures.part
 
 pub returns-in-Cut-clause-ok : goal.returns-in-Cut-clause-ok
-unfolding words_of is_fault_thing
+unfolding words_of
 returns-in-Cut-clause-ok g c =
     line_took _ _ _ _ _ (lent_thing c.args.told) (cut c.in-Cut.column) _ (ap lent_thing c.in-Cut.is) refl
     c.fields_line.ensures c.write_short-in-Cut.ensures.whole

@@ -1,0 +1,113 @@
+-- What `check` says of a capture whose lanes have a first full alignment, from what a run says of its outcome.
+use Rattle.std.proofs.Common.{◌≡◌, ◌⊎◌, ℕ, zero, suc, Bool, List, [], ◌∷◌, get_or, map, refl, ap, ap₂, sym, ◌∙◌, subst, inl, inr, arith}
+use Rattle.std.specs.Prelude.{Option, Some, Contains, codes, string_bytes}
+use Rattle.std.specs.Io.KnownBytes.{Appends}
+use Rattle.outside_io.specs.Causes.{Rose}
+use Rattle.tmds_word.specs.Column.{Column}
+use Rattle.lane_deskew.specs.Triples.{IsFirst}
+use Rattle.lane_deskew.specs.Aligned.{aligned_columns}
+use Rattle.lane_deskew.proofs.First.{one_first}
+use Rattle.period_grammar.specs.Things.{Thing}
+use Rattle.period_grammar.specs.Heard.{heard}
+use Rattle.period_grammar.specs.Exact.{IsFront, whole_part}
+use Rattle.link_sink.specs.Alignment.{IsAlignedTold}
+use Rattle.listing.specs.Texts.{fault_lines}
+use Rattle.listing.specs.Checks.{check_text}
+use Rattle.listing.proofs.Exact.{count_is_exact, verdict_is_exact}
+use Rattle.hdmi_cli.specs.Commands.{IsCommand}
+use Rattle.hdmi_cli.specs.Outcome.{Outcome, ListsLanes, ListsCapture, Does, IsOutcome, status_with}
+use Rattle.hdmi_cli.specs.Endings.{Devices}
+use Rattle.hdmi_cli.specs.Exact.{IsAlignedCapture, IsJudged}
+use Rattle.hdmi_cli.specs.declared.command.Command.{Command}
+use Rattle.hdmi_cli.specs.declared.command.Command.TheVariants.{MakeLink, RecoverLink, Check, Damage}
+use Rattle.hdmi_cli.proofs.Ends.{Says}
+use Rattle.hdmi_cli.proofs.OneCapture.{AreSame, one_capture, no_fault}
+
+-- The words of a check name no other command.
+
+other_word : (words others : List (List ℕ)) (word : List ℕ) → words ≡ word ∷ others → words ≡ codes "check" ∷ [] → get_or word 0 0 ≡ 99
+other_word words others word is named = ap (λ ws. get_or (get_or ws 0 []) 0 0) (sym is ∙ named)
+
+check_alone : (words : List (List ℕ)) (command : Command) → IsCommand words command → IsCommand words Check → command ≡ Check
+check_alone words (MakeLink tap) made named = let e = other_word words (codes "link" ∷ made.0) (codes "make") made.1 named in absurd (omega (arith, e))
+check_alone words RecoverLink recover named = let e = other_word words (codes "link" ∷ []) (codes "recover") recover named in absurd (omega (arith, e))
+check_alone words Check again named = refl
+check_alone words (Damage texts) damaged named = let e = other_word words (map string_bytes texts.now) (codes "damage") damaged.0 named in absurd (omega (arith, e))
+
+check_does : (words : List (List ℕ)) (bytes : List ℕ) (o : Outcome) → IsCommand words Check → IsOutcome words bytes o → ListsCapture check_text bytes o
+check_does words bytes o named (inl (command, other, does)) = subst (λ (c : Command). Does c bytes o) (check_alone words command other named) does
+check_does words bytes o named (inr (none, is)) = absurd (none Check named)
+
+-- The outcome of aligned lanes.
+
+record IsCheckOf (cs : List Column) (o : Outcome) : Type 0 where
+  status : o.status ≡ status_with (fault_lines (heard cs))
+  output : o.output ≡ check_text (heard cs)
+
+told_check : (blue green red : List Bool) (d e f columns : ℕ) (things : List Thing) (o : Outcome) → IsFirst blue green red d e f → IsAlignedTold blue green red columns things
+    → o ≡ record { status = status_with (fault_lines things); output = check_text things; note = [] } → IsCheckOf (aligned_columns blue green red d e f) o
+told_check blue green red d e f columns things o first told is =
+    let one = one_first blue green red told.d told.e told.f d e f told.first first in
+    let same : aligned_columns blue green red told.d told.e told.f ≡ aligned_columns blue green red d e f =
+    ap (λ n. aligned_columns blue green red n told.e told.f) one.0 ∙ ap₂ (λ m n. aligned_columns blue green red d m n) one.1 one.2 in
+    let things_are : things ≡ heard (aligned_columns blue green red d e f) = told.told ∙ ap heard same in
+    record {
+      status = ap (λ (p : Outcome). p.status) is ∙ ap (λ ts. status_with (fault_lines ts)) things_are;
+      output = ap (λ (p : Outcome). p.output) is ∙ ap check_text things_are;
+    }
+
+lanes_check : (blue green red : List Bool) (d e f : ℕ) (o : Outcome) → IsFirst blue green red d e f → ListsLanes check_text blue green red o → IsCheckOf (aligned_columns blue green red d e f) o
+lanes_check blue green red d e f o first (inl (columns, things, told, is)) = told_check blue green red d e f columns things o first told is
+lanes_check blue green red d e f o first (inr (columns, things, nowhere, is)) = absurd (nowhere.nowhere d e f first.triple)
+
+same_lanes : (x y z u v w : List Bool) (o : Outcome) → AreSame x y z u v w → ListsLanes check_text u v w o → ListsLanes check_text x y z o
+same_lanes x y z u v w o same h =
+    subst (λ a. ListsLanes check_text a y z o) (sym same.blue)
+    (subst (λ b. ListsLanes check_text u b z o) (sym same.green) (subst (λ c. ListsLanes check_text u v c o) (sym same.red) h))
+
+capture_check : (blue green red : List Bool) (d e f : ℕ) (bytes : List ℕ) (o : Outcome) → IsAlignedCapture blue green red d e f bytes → ListsCapture check_text bytes o
+    → IsCheckOf (aligned_columns blue green red d e f) o
+capture_check blue green red d e f bytes o c (inl (x, y, z, lanes, is, lists)) =
+    lanes_check blue green red d e f o c.first (same_lanes blue green red x y z o (one_capture blue green red x y z c.lanes lanes (sym c.bytes_are ∙ is)) lists)
+capture_check blue green red d e f bytes o c (inr (fault, is, refused)) =
+    absurd (no_fault bytes fault (record { blue = blue; green = green; red = red; lanes = c.lanes; bytes_are = c.bytes_are }) is)
+
+-- What it says.
+
+judged : (cs : List Column) (n status : ℕ) (old new : Option (List ℕ)) → fault_lines (heard cs) ≡ n → status ≡ status_with n → Appends old new (check_text (heard cs)) → IsJudged cs status old new
+judged cs zero status old new e is written =
+    let front = (count_is_exact cs).0 e in
+    inl (front, is, subst (λ text. Appends old new text) ((verdict_is_exact cs).0.1 front) written)
+judged cs (suc n) status old new e is written =
+    let none : IsFront (whole_part cs) → ⊥ = λ f. let z = (count_is_exact cs).1 f in absurd (omega arith) in
+    inr (none, is, subst (λ text. Appends old new text) ((verdict_is_exact cs).1.1 none) written)
+
+done_status : (n status : ℕ) → status ≡ status_with n → Contains (0 ∷ 1 ∷ 3 ∷ 7 ∷ []) status
+done_status zero status is = (0, omega arith, sym is)
+done_status (suc n) status is = (1, omega arith, sym is)
+
+-- where no device failed and memory was had, columns are judged
+abbrev JudgedUnless : List Column → ℕ → Devices → Devices → Type 0
+JudgedUnless cs status before after =
+    Rose before.input_faults after.input_faults ⊎ Rose before.output_faults after.output_faults ⊎ (status ≡ 6) ⊎ IsJudged cs status before.held after.held
+
+by_outcome : (words : List (List ℕ)) (before after : Devices) (status : ℕ) (note : List ℕ) → Says words before after status note → IsCommand words Check
+    → (blue green red : List Bool) (d e f : ℕ) (bytes : List ℕ) → IsAlignedCapture blue green red d e f bytes → before.left ≡ Some bytes
+    → Rose before.input_faults after.input_faults ⊎ Rose before.output_faults after.output_faults ⊎ (status ≡ 6) ⊎ ((o : Outcome) × IsOutcome words bytes o × (status ≡ o.status))
+    → JudgedUnless (aligned_columns blue green red d e f) status before after
+by_outcome words before after status note says named blue green red d e f bytes c left (inl rose) = inl rose
+by_outcome words before after status note says named blue green red d e f bytes c left (inr (inl rose)) = inr (inl rose)
+by_outcome words before after status note says named blue green red d e f bytes c left (inr (inr (inl none))) = inr (inr (inl none))
+by_outcome words before after status note says named blue green red d e f bytes c left (inr (inr (inr (o, is, same)))) =
+    let cs = aligned_columns blue green red d e f in
+    let n = fault_lines (heard cs) in
+    let status_is = same ∙ (capture_check blue green red d e f bytes o c (check_does words bytes o named is)).status in
+    let done = says.done (done_status n status status_is) bytes left in
+    let output = (capture_check blue green red d e f bytes done.0 c (check_does words bytes done.0 named done.1)).output in
+    inr (inr (inr (judged cs n status before.held after.held refl status_is (subst (λ text. Appends before.held after.held text) output done.3))))
+
+pub check_is_exact : (words : List (List ℕ)) (before after : Devices) (status : ℕ) (note : List ℕ) → Says words before after status note → IsCommand words Check
+    → (blue green red : List Bool) (d e f : ℕ) (bytes : List ℕ) → IsAlignedCapture blue green red d e f bytes → before.left ≡ Some bytes
+    → JudgedUnless (aligned_columns blue green red d e f) status before after
+check_is_exact words before after status note says named blue green red d e f bytes c left =
+    by_outcome words before after status note says named blue green red d e f bytes c left (says.outcome bytes left)

@@ -1,0 +1,13 @@
+pub mod Numbers
+pub mod Faultless
+pub mod Controls
+pub mod Lines
+pub mod Packets
+pub mod Islands
+pub mod Nulls
+pub mod Building
+pub mod Fronts
+pub mod ControlFine
+pub mod Arrivals
+pub mod Same
+pub mod Law
