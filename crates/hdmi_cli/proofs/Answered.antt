@@ -1,10 +1,10 @@
 -- The outcomes that the commands end with.
-use Rattle.std.proofs.Common.{◌≡◌, ◌⊎◌, ℕ, ◌<◌, List, [], ◌∷◌, ◌++◌, length, take, map, string_bytes, String, Global, Bor, refl, ap, sym, ◌∙◌, subst, inl, inr, arith, append-nil}
+use Rattle.std.proofs.Common.{◌≡◌, ◌⊎◌, ℕ, ◌<◌, List, [], ◌∷◌, ◌++◌, length, take, map, refl, ap, sym, ◌∙◌, subst, inl, inr, arith, append-nil}
 use Rattle.std.specs.Prelude.{Option, Some, None, Result, Ok, Err, OnOk, IfErr, All}
 use Rattle.outside_io.specs.Causes.{Rose}
 use Rattle.std.specs.Io.KnownBytes.{Appends, Keeps, IsAtEnd}
 use Rattle.std.proofs.KnownBytes.{Appends-nil}
-use Rattle.std.proofs.lemmas.List.Elements.{All-nil, All-cons}
+use Rattle.std.proofs.lemmas.List.Elements.{All-nil, All-cons, All-map}
 use Rattle.tmds_word.specs.Column.{Column}
 use Rattle.capture_file.specs.Layout.{capture_of}
 use Rattle.capture_file.specs.Faults.{AreLanes, IsCapture, IsFault, IsCaused, AnswersBytes}
@@ -26,11 +26,15 @@ use Rattle.listing.specs.declared.fault.ListFault.{ListFault}
 use Rattle.listing.specs.declared.fault.ListError.{ListError}
 use Rattle.listing.specs.declared.fault.ListError.TheVariants.{Bad as BadListing}
 use Rattle.hdmi_cli.specs.Notes.{listing_note, capture_note, place_note}
-use Rattle.hdmi_cli.specs.Commands.{AreHits}
+use Rattle.hdmi_cli.specs.Commands.{hit_asked, tap_asked}
+use Rattle.command_line.specs.declared.damage.DamageWord.{DamageWord}
+use Rattle.command_line.specs.declared.tap.TapWords.{TapWords}
+use Rattle.command_line.specs.Damages.{AreDamages}
+use Rattle.command_line.specs.Commands.{IsCommand as IsLine}
 use Rattle.hdmi_cli.specs.Outcome.{Outcome, MakesLink, ListsCapture, Damages, Does}
 use Rattle.hdmi_cli.specs.Endings.{Devices, IsAnswered, IsPart, IsListed, IsPartListed, HasBegun, Ends, ListEnds, status_of, note_of, refused_ending, damage_ending}
-use Rattle.hdmi_cli.specs.declared.command.Command.{Command}
-use Rattle.hdmi_cli.specs.declared.command.Command.TheVariants.{MakeLink, Damage}
+use Rattle.command_line.specs.declared.command.Command.{Command}
+use Rattle.command_line.specs.declared.command.Command.TheVariants.{MakeLink, Damage}
 use Rattle.hdmi_cli.specs.declared.ending.Ending.{Ending}
 use Rattle.hdmi_cli.specs.declared.ending.Ending.TheVariants.{Done, Faulty, Usage, Listing, Capture, Place, ReadFailed, WriteFailed, NoMemory, Unaligned}
 
@@ -39,11 +43,11 @@ use Rattle.hdmi_cli.specs.declared.ending.Ending.TheVariants.{Done, Faulty, Usag
 pub bad_listing : (reading : Reading) (r : Result (List Period) ListError) (e : ListError) (f : ListFault) → AnswersReading reading r → r ≡ Err e → e ≡ BadListing f → reading ≡ refused f.line f.cause
 bad_listing reading r e f answers is bad = subst (λ x. AnswersReading reading x) (is ∙ ap Err bad) answers
 
-pub listing_refused : (tap : Tap) (fault : ListFault) (before after : Devices) (text : List ℕ) → reads_as text ≡ refused fault.line fault.cause → after.held ≡ before.held
-    → IsAnswered (MakeLink tap) (Listing fault) before after text
-listing_refused tap fault before after text read kept = record {
+pub listing_refused : (words : TapWords) (fault : ListFault) (before after : Devices) (text : List ℕ) → reads_as text ≡ refused fault.line fault.cause → after.held ≡ before.held
+    → IsAnswered (MakeLink words) (Listing fault) before after text
+listing_refused words fault before after text read kept = record {
   outcome = record { status = 3; output = []; note = listing_note fault.line fault.cause };
-  does = subst (λ r. MakesLink tap r (record { status = 3; output = []; note = listing_note fault.line fault.cause })) (sym read) refl;
+  does = subst (λ r. MakesLink (tap_asked words) r (record { status = 3; output = []; note = listing_note fault.line fault.cause })) (sym read) refl;
   status = refl;
   note = refl;
   written = subst (λ h. Appends before.held h []) (sym kept) (Appends-nil before.held);
@@ -54,39 +58,39 @@ makes : (tap : Tap) (reading : Reading) (ps : List Period) (columns : List Colum
 makes tap reading ps columns read spelled =
     subst (λ r. MakesLink tap r (record { status = 0; output = tapped_capture columns tap; note = [] })) (sym read) (columns, spelled, refl)
 
-pub made : (tap : Tap) (ps : List Period) (columns : List Column) (before after : Devices) (text : List ℕ) → reads_as text ≡ accepted ps → Spells ps columns
-    → Appends before.held after.held (tapped_capture columns tap) → IsAnswered (MakeLink tap) Done before after text
-made tap ps columns before after text read spelled written = record {
-  outcome = record { status = 0; output = tapped_capture columns tap; note = [] };
-  does = makes tap (reads_as text) ps columns read spelled;
+pub made : (words : TapWords) (ps : List Period) (columns : List Column) (before after : Devices) (text : List ℕ) → reads_as text ≡ accepted ps → Spells ps columns
+    → Appends before.held after.held (tapped_capture columns (tap_asked words)) → IsAnswered (MakeLink words) Done before after text
+made words ps columns before after text read spelled written = record {
+  outcome = record { status = 0; output = tapped_capture columns (tap_asked words); note = [] };
+  does = makes (tap_asked words) (reads_as text) ps columns read spelled;
   status = refl;
   note = refl;
   written = written;
 }
 
-pub made_part : (tap : Tap) (ps : List Period) (columns : List Column) (gone : ℕ) (before after : Devices) (text : List ℕ) → reads_as text ≡ accepted ps → Spells ps columns
-    → gone < length (tapped_capture columns tap) → Appends before.held after.held (take gone (tapped_capture columns tap)) → IsPart (MakeLink tap) before after text
-made_part tap ps columns gone before after text read spelled missing written = record {
-  outcome = record { status = 0; output = tapped_capture columns tap; note = [] };
+pub made_part : (words : TapWords) (ps : List Period) (columns : List Column) (gone : ℕ) (before after : Devices) (text : List ℕ) → reads_as text ≡ accepted ps → Spells ps columns
+    → gone < length (tapped_capture columns (tap_asked words)) → Appends before.held after.held (take gone (tapped_capture columns (tap_asked words))) → IsPart (MakeLink words) before after text
+made_part words ps columns gone before after text read spelled missing written = record {
+  outcome = record { status = 0; output = tapped_capture columns (tap_asked words); note = [] };
   gone = gone;
-  does = makes tap (reads_as text) ps columns read spelled;
+  does = makes (tap_asked words) (reads_as text) ps columns read spelled;
   status = (0, omega arith, refl);
   missing = missing;
   written = written;
 }
 
-pub made_of : (tap : Tap) (ps : List Period) (taken : List Column) (before after : Devices) (text : List ℕ) → reads_as text ≡ accepted ps
+pub made_of : (words : TapWords) (ps : List Period) (taken : List Column) (before after : Devices) (text : List ℕ) → reads_as text ≡ accepted ps
     → ((columns : List Column) × (taken ≡ [] ++ columns) × Spells ps columns)
-    → Appends before.held after.held (tapped_capture taken tap) → IsAnswered (MakeLink tap) Done before after text
-made_of tap ps taken before after text read spelled written =
-    made tap ps spelled.0 before after text read spelled.2 (subst (λ cs. Appends before.held after.held (tapped_capture cs tap)) spelled.1 written)
+    → Appends before.held after.held (tapped_capture taken (tap_asked words)) → IsAnswered (MakeLink words) Done before after text
+made_of words ps taken before after text read spelled written =
+    made words ps spelled.0 before after text read spelled.2 (subst (λ cs. Appends before.held after.held (tapped_capture cs (tap_asked words))) spelled.1 written)
 
-pub part_of : (tap : Tap) (ps : List Period) (taken : List Column) (gone : ℕ) (before after : Devices) (text : List ℕ) → reads_as text ≡ accepted ps
+pub part_of : (words : TapWords) (ps : List Period) (taken : List Column) (gone : ℕ) (before after : Devices) (text : List ℕ) → reads_as text ≡ accepted ps
     → ((columns : List Column) × (taken ≡ [] ++ columns) × Spells ps columns)
-    → gone < length (tapped_capture taken tap) → Appends before.held after.held (take gone (tapped_capture taken tap)) → IsPart (MakeLink tap) before after text
-part_of tap ps taken gone before after text read spelled missing written =
-    let lt : gone < length (tapped_capture spelled.0 tap) = subst (λ cs. gone < length (tapped_capture cs tap)) spelled.1 missing in
-    made_part tap ps spelled.0 gone before after text read spelled.2 lt (subst (λ cs. Appends before.held after.held (take gone (tapped_capture cs tap))) spelled.1 written)
+    → gone < length (tapped_capture taken (tap_asked words)) → Appends before.held after.held (take gone (tapped_capture taken (tap_asked words))) → IsPart (MakeLink words) before after text
+part_of words ps taken gone before after text read spelled missing written =
+    let lt : gone < length (tapped_capture spelled.0 (tap_asked words)) = subst (λ cs. gone < length (tapped_capture cs (tap_asked words))) spelled.1 missing in
+    made_part words ps spelled.0 gone before after text read spelled.2 lt (subst (λ cs. Appends before.held after.held (take gone (tapped_capture cs (tap_asked words)))) spelled.1 written)
 
 keeps_itself : (held : Option (List ℕ)) → Keeps held held
 keeps_itself None = tt
@@ -194,11 +198,11 @@ nothing_written None new h = tt
 nothing_written (Some xs) None h = absurd h
 nothing_written (Some xs) (Some ys) h = h ∙ sym (append-nil xs)
 
-damage_refused : (texts : Bor (List (String Global))) (hits : List Hit) (e : Ending) (note : List ℕ) (before after : Devices) (bytes : List ℕ) → AreHits (map string_bytes texts.now) hits
-    → Damages hits bytes (record { status = 3; output = []; note = note }) → 3 ≡ status_of e → note ≡ note_of e → Keeps before.held after.held → IsAnswered (Damage texts) e before after bytes
-damage_refused texts hits e note before after bytes are does same told kept = record {
+damage_refused : (words : List DamageWord) (e : Ending) (note : List ℕ) (before after : Devices) (bytes : List ℕ)
+    → Damages (map hit_asked words) bytes (record { status = 3; output = []; note = note }) → 3 ≡ status_of e → note ≡ note_of e → Keeps before.held after.held → IsAnswered (Damage words) e before after bytes
+damage_refused words e note before after bytes does same told kept = record {
   outcome = record { status = 3; output = []; note = note };
-  does = (hits, are, does);
+  does = does;
   status = same;
   note = told;
   written = nothing_written before.held after.held kept;
@@ -216,46 +220,52 @@ read_is_no_write h = cc
 memory_is_no_write : damages.NoMemory ≡ damages.Write → ⊥
 memory_is_no_write h = cc
 
-pub damaged : (texts : Bor (List (String Global))) (hits : List Hit) (r : Result (Unit {0}) DamageError) (before after : Devices) → AreHits (map string_bytes texts.now) hits
-    → Damaged hits before after r → Ends (Damage texts) (damage_ending r) before after
-damaged texts hits (Ok done) before after are it = (
+pub damaged : (words : List DamageWord) (r : Result (Unit {0}) DamageError) (before after : Devices)
+    → Damaged (map hit_asked words) before after r → Ends (Damage words) (damage_ending r) before after
+damaged words (Ok done) before after it = (
   it.ended,
   λ bytes told. let whole = it.done bytes told in record {
     outcome = record { status = 0; output = whole.0; note = [] };
-    does = (hits, are, inl (whole.0, whole.1, whole.2, refl));
+    does = inl (whole.0, whole.1, whole.2, refl);
     status = refl;
     note = refl;
     written = whole.3;
   },
 )
-damaged texts hits (Err (damages.Bad fault)) before after are it =
+damaged words (Err (damages.Bad fault)) before after it =
     let kept = it.unwritten (λ same. bad_is_no_write fault same) in (
       kept,
       λ bytes told. let bad = it.bad bytes fault told refl in
-          damage_refused texts hits (Capture fault) (capture_note fault) before after bytes are (inr (inr (fault, bad.0, bad.1, refl))) refl refl kept,
+          damage_refused words (Capture fault) (capture_note fault) before after bytes (inr (inr (fault, bad.0, bad.1, refl))) refl refl kept,
     )
-damaged texts hits (Err (damages.Place i)) before after are it =
+damaged words (Err (damages.Place i)) before after it =
     let kept = it.unwritten (λ same. place_is_no_write i same) in (
       kept,
-      λ bytes told. damage_refused texts hits (Place i) (place_note i) before after bytes are (inr (inl (i, it.place bytes i told refl, refl))) refl refl kept,
+      λ bytes told. damage_refused words (Place i) (place_note i) before after bytes (inr (inl (i, it.place bytes i told refl, refl))) refl refl kept,
     )
-damaged texts hits (Err damages.Read) before after are it = (it.unwritten (λ same. read_is_no_write same), it.read_cause refl)
-damaged texts hits (Err damages.Write) before after are it = (
+damaged words (Err damages.Read) before after it = (it.unwritten (λ same. read_is_no_write same), it.read_cause refl)
+damaged words (Err damages.Write) before after it = (
   it.write_cause refl,
   λ bytes told. let p = it.part bytes told refl in record {
     outcome = record { status = 0; output = p.0; note = [] };
     gone = p.1;
-    does = (hits, are, inl (p.0, p.2, p.3, refl));
+    does = inl (p.0, p.2, p.3, refl);
     status = (0, omega arith, refl);
     missing = p.4;
     written = p.5;
   },
 )
-damaged texts hits (Err damages.NoMemory) before after are it = it.unwritten (λ same. memory_is_no_write same)
+damaged words (Err damages.NoMemory) before after it = it.unwritten (λ same. memory_is_no_write same)
 
--- the lanes of hits, as a copy wants them
-pub lanes_of_hits : (texts : List (List ℕ)) (hits : List Hit) → AreHits texts hits → All (λ (h : Hit). h.lane < 3) hits
-lanes_of_hits [] [] are = All-nil (λ (h : Hit). h.lane < 3)
-lanes_of_hits [] (hit ∷ hits) are = absurd are
-lanes_of_hits (text ∷ texts) [] are = absurd are
-lanes_of_hits (text ∷ texts) (hit ∷ hits) are = All-cons (λ (h : Hit). h.lane < 3) hit hits are.0.lane (lanes_of_hits texts hits are.1)
+-- the lanes of the hits that words ask for, as a copy wants them
+lanes_of_damages : (texts : List (List ℕ)) (words : List DamageWord) → AreDamages texts words → All (λ (w : DamageWord). w.lane < 3) words
+lanes_of_damages [] [] are = All-nil (λ (w : DamageWord). w.lane < 3)
+lanes_of_damages [] (w ∷ ws) are = absurd are
+lanes_of_damages (text ∷ texts) [] are = absurd are
+lanes_of_damages (text ∷ texts) (w ∷ ws) are = All-cons (λ (w : DamageWord). w.lane < 3) w ws are.0.lane (lanes_of_damages texts ws are.1)
+
+pub lanes_of_line : (words : List (List ℕ)) (damages : List DamageWord) → IsLine words (Damage damages) → All (λ (w : DamageWord). w.lane < 3) damages
+lanes_of_line words damages named = lanes_of_damages named.operands damages named.means.1.0
+
+pub lanes_of_hits : (words : List DamageWord) → All (λ (w : DamageWord). w.lane < 3) words → All (λ (h : Hit). h.lane < 3) (map hit_asked words)
+lanes_of_hits words all = All-map (λ (h : Hit). h.lane < 3) hit_asked words all

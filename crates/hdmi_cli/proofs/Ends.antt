@@ -1,16 +1,19 @@
 -- What each clause of a run says, from how the run ended.
 use Rattle.std.proofs.Common.{◌≡◌, ◌⊎◌, ℕ, zero, suc, ◌<◌, Bool, true, false, not, ◌==◌, ◌&&◌, List, [], ◌∷◌, length, take, refl, ap, sym, ◌∙◌, subst, inl, inr, arith, eq-eqb}
-use Rattle.std.specs.Prelude.{Some, ◌↔◌, Contains}
+use Rattle.std.specs.Prelude.{Option, None, Some, Result, Ok, IfOk, MatchOption, Contains}
 use Rattle.std.specs.List.{list_all}
 use Rattle.std.specs.Io.KnownBytes.{Appends, IsAtEnd, Keeps}
 use Rattle.outside_io.specs.Causes.{Rose}
-use Rattle.hdmi_cli.specs.Commands.{IsCommand}
-use Rattle.hdmi_cli.specs.Notes.{usage_note}
+use Rattle.outside_io.specs.declared.NoMemory.{NoMemory as NoMemoryAnswer}
+use Rattle.hdmi_cli.specs.Commands.{IsCarriedOut, IsCommand}
+use Rattle.command_line.specs.Commands.{IsCommand as IsLine}
+use Rattle.command_line.proofs.Laws.{command_once}
+use Rattle.hdmi_cli.specs.Notes.{usage_note, memory_note}
 use Rattle.hdmi_cli.specs.Outcome.{Outcome, IsOutcome, NamesNone}
 use Rattle.hdmi_cli.specs.Endings.{Devices, Answers, IsPart, EndsUnheld, Ends, RunEnds, status_of, note_of}
 use Rattle.hdmi_cli.specs.Runs.{IsNoteOf}
-use Rattle.hdmi_cli.specs.declared.command.Command.{Command}
-use Rattle.hdmi_cli.specs.declared.command.Command.TheVariants.{MakeLink, RecoverLink, Check, Damage}
+use Rattle.command_line.specs.declared.command.Command.{Command}
+use Rattle.command_line.specs.declared.command.Command.TheVariants.{MakeLink, MakeContent, RecoverLink, RecoverContent, Check, Damage, Sample}
 use Rattle.hdmi_cli.specs.declared.ending.Ending.{Ending}
 use Rattle.hdmi_cli.specs.declared.ending.Ending.TheVariants.{Done, Faulty, Usage, Listing, Capture, Place, ReadFailed, WriteFailed, NoMemory, Unaligned}
 
@@ -21,7 +24,8 @@ pub record Says (words : List (List ℕ)) (before after : Devices) (status : ℕ
       (text : List ℕ) → before.left ≡ Some text
       → Rose before.input_faults after.input_faults ⊎ Rose before.output_faults after.output_faults ⊎ (status ≡ 6)
       ⊎ ((o : Outcome) × IsOutcome words text o × (status ≡ o.status))
-  pub usage : (status ≡ 2) ↔ NamesNone words
+  pub usage : status ≡ 2 → NamesNone words
+  pub unnamed : NamesNone words → (status ≡ 2) ⊎ (status ≡ 6)
   pub done :
       Contains (0 ∷ 1 ∷ 3 ∷ 7 ∷ []) status → (text : List ℕ) → before.left ≡ Some text
       → (o : Outcome) × IsOutcome words text o × (o.status ≡ status) × Appends before.held after.held o.output
@@ -114,7 +118,10 @@ unheld_by : (words : List (List ℕ)) (command : Command) (before after : Device
 unheld_by words (MakeLink tap) before after named ends = inl ends
 unheld_by words RecoverLink before after named ends = inr (inl named)
 unheld_by words Check before after named ends = inr (inr named)
-unheld_by words (Damage texts) before after named ends = inl ends
+unheld_by words (Damage damages) before after named ends = inl ends
+unheld_by words (MakeContent tap) before after named ends = absurd ends
+unheld_by words RecoverContent before after named ends = absurd ends
+unheld_by words (Sample frames) before after named ends = absurd ends
 
 begun_of : (words : List (List ℕ)) (command : Command) (before after : Devices) (text : List ℕ) → IsCommand words command
     → Keeps before.held after.held ⊎ IsPart command before after text
@@ -132,14 +139,18 @@ begun_by : (words : List (List ℕ)) (command : Command) (before after : Devices
 begun_by words (MakeLink tap) before after named ends text told = inl ends
 begun_by words RecoverLink before after named ends text told = begun_of words RecoverLink before after text named (ends text told)
 begun_by words Check before after named ends text told = begun_of words Check before after text named (ends text told)
-begun_by words (Damage texts) before after named ends text told = inl ends
+begun_by words (Damage damages) before after named ends text told = inl ends
+begun_by words (MakeContent tap) before after named ends text told = absurd ends
+begun_by words RecoverContent before after named ends text told = absurd ends
+begun_by words (Sample frames) before after named ends text told = absurd ends
 
 -- what a command's ending says
 command_says : (words : List (List ℕ)) (command : Command) (e : Ending) (before after : Devices) → IsCommand words command → Ends command e before after → Says words before after (status_of e) (note_of e)
 command_says words command Done before after named ends = record {
   known = (0, omega arith, refl);
   outcome = known_at words command Done before after named ends.1;
-  usage = (λ h. absurd (omega arith), λ none. absurd (none command named));
+  usage = λ h. absurd (omega arith);
+  unnamed = λ none. absurd (none command named);
   done = λ h. written_at words command Done before after named ends.1;
   read_failed = λ h. absurd (omega arith);
   write_failed = λ h. absurd (omega arith);
@@ -154,7 +165,8 @@ command_says words command Done before after named ends = record {
 command_says words command Faulty before after named ends = record {
   known = (1, omega arith, refl);
   outcome = known_at words command Faulty before after named ends.1;
-  usage = (λ h. absurd (omega arith), λ none. absurd (none command named));
+  usage = λ h. absurd (omega arith);
+  unnamed = λ none. absurd (none command named);
   done = λ h. written_at words command Faulty before after named ends.1;
   read_failed = λ h. absurd (omega arith);
   write_failed = λ h. absurd (omega arith);
@@ -169,7 +181,8 @@ command_says words command Faulty before after named ends = record {
 command_says words command (Listing fault) before after named ends = record {
   known = (3, omega arith, refl);
   outcome = known_at words command (Listing fault) before after named ends.1;
-  usage = (λ h. absurd (omega arith), λ none. absurd (none command named));
+  usage = λ h. absurd (omega arith);
+  unnamed = λ none. absurd (none command named);
   done = λ h. written_at words command (Listing fault) before after named ends.1;
   read_failed = λ h. absurd (omega arith);
   write_failed = λ h. absurd (omega arith);
@@ -184,7 +197,8 @@ command_says words command (Listing fault) before after named ends = record {
 command_says words command (Capture fault) before after named ends = record {
   known = (3, omega arith, refl);
   outcome = known_at words command (Capture fault) before after named ends.1;
-  usage = (λ h. absurd (omega arith), λ none. absurd (none command named));
+  usage = λ h. absurd (omega arith);
+  unnamed = λ none. absurd (none command named);
   done = λ h. written_at words command (Capture fault) before after named ends.1;
   read_failed = λ h. absurd (omega arith);
   write_failed = λ h. absurd (omega arith);
@@ -199,7 +213,8 @@ command_says words command (Capture fault) before after named ends = record {
 command_says words command (Place i) before after named ends = record {
   known = (3, omega arith, refl);
   outcome = known_at words command (Place i) before after named ends.1;
-  usage = (λ h. absurd (omega arith), λ none. absurd (none command named));
+  usage = λ h. absurd (omega arith);
+  unnamed = λ none. absurd (none command named);
   done = λ h. written_at words command (Place i) before after named ends.1;
   read_failed = λ h. absurd (omega arith);
   write_failed = λ h. absurd (omega arith);
@@ -214,7 +229,8 @@ command_says words command (Place i) before after named ends = record {
 command_says words command Unaligned before after named ends = record {
   known = (7, omega arith, refl);
   outcome = known_at words command Unaligned before after named ends.2;
-  usage = (λ h. absurd (omega arith), λ none. absurd (none command named));
+  usage = λ h. absurd (omega arith);
+  unnamed = λ none. absurd (none command named);
   done = λ h. written_at words command Unaligned before after named ends.2;
   read_failed = λ h. absurd (omega arith);
   write_failed = λ h. absurd (omega arith);
@@ -229,7 +245,8 @@ command_says words command Unaligned before after named ends = record {
 command_says words command ReadFailed before after named ends = record {
   known = (4, omega arith, refl);
   outcome = λ text told. inl ends.1;
-  usage = (λ h. absurd (omega arith), λ none. absurd (none command named));
+  usage = λ h. absurd (omega arith);
+  unnamed = λ none. absurd (none command named);
   done = λ h. absurd (none_of (0 ∷ 1 ∷ 3 ∷ 7 ∷ []) 4 refl h);
   read_failed = λ h. ends.1;
   write_failed = λ h. absurd (omega arith);
@@ -244,7 +261,8 @@ command_says words command ReadFailed before after named ends = record {
 command_says words command WriteFailed before after named ends = record {
   known = (5, omega arith, refl);
   outcome = λ text told. inr (inl ends.0);
-  usage = (λ h. absurd (omega arith), λ none. absurd (none command named));
+  usage = λ h. absurd (omega arith);
+  unnamed = λ none. absurd (none command named);
   done = λ h. absurd (none_of (0 ∷ 1 ∷ 3 ∷ 7 ∷ []) 5 refl h);
   read_failed = λ h. absurd (omega arith);
   write_failed = λ h. ends.0;
@@ -259,7 +277,8 @@ command_says words command WriteFailed before after named ends = record {
 command_says words command NoMemory before after named ends = record {
   known = (6, omega arith, refl);
   outcome = λ text told. inr (inr (inl refl));
-  usage = (λ h. absurd (omega arith), λ none. absurd (none command named));
+  usage = λ h. absurd (omega arith);
+  unnamed = λ none. absurd (none command named);
   done = λ h. absurd (none_of (0 ∷ 1 ∷ 3 ∷ 7 ∷ []) 6 refl h);
   read_failed = λ h. absurd (omega arith);
   write_failed = λ h. absurd (omega arith);
@@ -278,7 +297,8 @@ none_says : (words : List (List ℕ)) (before after : Devices) → NamesNone wor
 none_says words before after none left held = record {
   known = (2, omega arith, refl);
   outcome = λ text told. inr (inr (inr (record { status = 2; output = []; note = usage_note }, inr (none, refl), refl)));
-  usage = (λ h. none, λ h. refl);
+  usage = λ h. none;
+  unnamed = λ h. inl refl;
   done = λ h. absurd (none_of (0 ∷ 1 ∷ 3 ∷ 7 ∷ []) 2 refl h);
   read_failed = λ h. absurd (omega arith);
   write_failed = λ h. absurd (omega arith);
@@ -291,9 +311,66 @@ none_says words before after none left held = record {
   noted = record { done = λ h. absurd (no_done 2 refl refl h); usage = λ h. refl; refused = λ h. absurd (omega arith); read_failed = λ h. absurd (omega arith); write_failed = λ h. absurd (omega arith); no_memory = λ h. absurd (omega arith); unaligned = λ h. absurd (omega arith) };
 }
 
+-- what stands where there was no memory to read the words
+unread_says : (words : List (List ℕ)) (before after : Devices) → Keeps before.held after.held → Says words before after 6 memory_note
+unread_says words before after held = record {
+  known = (6, omega arith, refl);
+  outcome = λ text told. inr (inr (inl refl));
+  usage = λ h. absurd (omega arith);
+  unnamed = λ none. inr refl;
+  done = λ h. absurd (none_of (0 ∷ 1 ∷ 3 ∷ 7 ∷ []) 6 refl h);
+  read_failed = λ h. absurd (omega arith);
+  write_failed = λ h. absurd (omega arith);
+  ended = λ h. absurd (none_of (0 ∷ 1 ∷ 7 ∷ []) 6 refl h);
+  unread = λ h. absurd (omega arith);
+  unwritten = λ h. absurd (none_of (2 ∷ 3 ∷ 4 ∷ 7 ∷ []) 6 refl h);
+  part = λ h. absurd (omega arith);
+  unheld = λ h. inl held;
+  begun = λ h text told. inl held;
+  noted = record { done = λ h. absurd (no_done 6 refl refl h); usage = λ h. absurd (omega arith); refused = λ h. absurd (omega arith); read_failed = λ h. absurd (omega arith); write_failed = λ h. absurd (omega arith); no_memory = λ h. refl; unaligned = λ h. absurd (omega arith) };
+}
+
 -- what a run says
 pub says : (words : List (List ℕ)) (e : Ending) (before after : Devices) (r : ℕ) → RunEnds words e before after → r ≡ status_of e → Says words before after r (note_of e)
 says words e before after r (inl (command, named, ends)) is = subst (λ s. Says words before after s (note_of e)) (sym is) (command_says words command e before after named ends)
-says words e before after r (inr (none, usage, left, held)) is =
+says words e before after r (inr (inl (none, usage, left, held))) is =
     subst (λ s. Says words before after s (note_of e)) (sym (is ∙ ap status_of usage))
     (subst (λ n. Says words before after 2 n) (sym (ap note_of usage)) (none_says words before after none left held))
+says words e before after r (inr (inr (unheld, held))) is =
+    subst (λ s. Says words before after s (note_of e)) (sym (is ∙ ap status_of unheld))
+    (subst (λ n. Says words before after 6 n) (sym (ap note_of unheld)) (unread_says words before after held))
+
+-- ---- which words name a command that is carried out
+
+-- what the reader of words answered, as words name it
+pub line_of : (words : List (List ℕ)) (r : Result (Option Command) NoMemoryAnswer) (o : Option Command) (command : Command)
+    → IfOk r (λ answer. MatchOption answer ((c : Command) → IsLine words c → ⊥) (λ c. IsLine words c)) → r ≡ Ok o → o ≡ Some command → IsLine words command
+line_of words r o command answer ok some =
+    subst (λ (x : Option Command). MatchOption x ((c : Command) → IsLine words c → ⊥) (λ c. IsLine words c)) some
+    (subst (λ (x : Result (Option Command) NoMemoryAnswer). IfOk x (λ answer. MatchOption answer ((c : Command) → IsLine words c → ⊥) (λ c. IsLine words c))) ok answer)
+
+no_line_of : (words : List (List ℕ)) (r : Result (Option Command) NoMemoryAnswer) (o : Option Command)
+    → IfOk r (λ answer. MatchOption answer ((c : Command) → IsLine words c → ⊥) (λ c. IsLine words c)) → r ≡ Ok o → o ≡ None → NamesNone words
+no_line_of words r o answer ok none command named =
+    subst (λ (x : Option Command). MatchOption x ((c : Command) → IsLine words c → ⊥) (λ c. IsLine words c)) none
+    (subst (λ (x : Result (Option Command) NoMemoryAnswer). IfOk x (λ answer. MatchOption answer ((c : Command) → IsLine words c → ⊥) (λ c. IsLine words c))) ok answer)
+    command named.0
+
+-- words that name a command that is not carried out name none that is
+not_carried : (words : List (List ℕ)) (command : Command) → IsLine words command → (IsCarriedOut command → ⊥) → NamesNone words
+not_carried words command line not d named = not (subst IsCarriedOut (command_once words d command named.0 line) named.1)
+
+keeps_itself : (held : Option (List ℕ)) → Keeps held held
+keeps_itself None = tt
+keeps_itself (Some xs) = refl
+
+-- a run whose words name none does nothing
+usage_ends : (words : List (List ℕ)) (devices : Devices) → NamesNone words → RunEnds words Usage devices devices
+usage_ends words devices none = inr (inl (none, refl, keeps_itself devices.left, keeps_itself devices.held))
+
+pub unread_ends : (words : List (List ℕ)) (devices : Devices) (r : Result (Option Command) NoMemoryAnswer) (o : Option Command)
+    → IfOk r (λ answer. MatchOption answer ((c : Command) → IsLine words c → ⊥) (λ c. IsLine words c)) → r ≡ Ok o → o ≡ None → RunEnds words Usage devices devices
+unread_ends words devices r o answer ok none = usage_ends words devices (no_line_of words r o answer ok none)
+
+pub uncarried_ends : (words : List (List ℕ)) (devices : Devices) (command : Command) → IsLine words command → (IsCarriedOut command → ⊥) → RunEnds words Usage devices devices
+uncarried_ends words devices command line not = usage_ends words devices (not_carried words command line not)

@@ -1,6 +1,6 @@
 -- What `check` says of a capture whose lanes have a first full alignment, from what a run says of its outcome.
-use Rattle.std.proofs.Common.{◌≡◌, ◌⊎◌, ℕ, zero, suc, Bool, List, [], ◌∷◌, get_or, map, refl, ap, ap₂, sym, ◌∙◌, subst, inl, inr, arith}
-use Rattle.std.specs.Prelude.{Option, Some, Contains, codes, string_bytes}
+use Rattle.std.proofs.Common.{◌≡◌, ◌⊎◌, ℕ, zero, suc, Bool, List, [], ◌∷◌, refl, ap, ap₂, sym, ◌∙◌, subst, inl, inr, arith}
+use Rattle.std.specs.Prelude.{Option, Some, Contains}
 use Rattle.std.specs.Io.KnownBytes.{Appends}
 use Rattle.outside_io.specs.Causes.{Rose}
 use Rattle.tmds_word.specs.Column.{Column}
@@ -18,24 +18,14 @@ use Rattle.hdmi_cli.specs.Commands.{IsCommand}
 use Rattle.hdmi_cli.specs.Outcome.{Outcome, ListsLanes, ListsCapture, Does, IsOutcome, status_with}
 use Rattle.hdmi_cli.specs.Endings.{Devices}
 use Rattle.hdmi_cli.specs.Exact.{IsAlignedCapture, IsJudged}
-use Rattle.hdmi_cli.specs.declared.command.Command.{Command}
-use Rattle.hdmi_cli.specs.declared.command.Command.TheVariants.{MakeLink, RecoverLink, Check, Damage}
+use Rattle.command_line.specs.declared.command.Command.{Command}
+use Rattle.command_line.specs.declared.command.Command.TheVariants.{Check}
+use Rattle.command_line.proofs.Laws.{command_once}
 use Rattle.hdmi_cli.proofs.Ends.{Says}
 use Rattle.hdmi_cli.proofs.OneCapture.{AreSame, one_capture, no_fault}
 
--- The words of a check name no other command.
-
-other_word : (words others : List (List ℕ)) (word : List ℕ) → words ≡ word ∷ others → words ≡ codes "check" ∷ [] → get_or word 0 0 ≡ 99
-other_word words others word is named = ap (λ ws. get_or (get_or ws 0 []) 0 0) (sym is ∙ named)
-
-check_alone : (words : List (List ℕ)) (command : Command) → IsCommand words command → IsCommand words Check → command ≡ Check
-check_alone words (MakeLink tap) made named = let e = other_word words (codes "link" ∷ made.0) (codes "make") made.1 named in absurd (omega (arith, e))
-check_alone words RecoverLink recover named = let e = other_word words (codes "link" ∷ []) (codes "recover") recover named in absurd (omega (arith, e))
-check_alone words Check again named = refl
-check_alone words (Damage texts) damaged named = let e = other_word words (map string_bytes texts.now) (codes "damage") damaged.0 named in absurd (omega (arith, e))
-
 check_does : (words : List (List ℕ)) (bytes : List ℕ) (o : Outcome) → IsCommand words Check → IsOutcome words bytes o → ListsCapture check_text bytes o
-check_does words bytes o named (inl (command, other, does)) = subst (λ (c : Command). Does c bytes o) (check_alone words command other named) does
+check_does words bytes o named (inl (command, other, does)) = subst (λ (c : Command). Does c bytes o) (command_once words command Check other.0 named.0) does
 check_does words bytes o named (inr (none, is)) = absurd (none Check named)
 
 -- The outcome of aligned lanes.

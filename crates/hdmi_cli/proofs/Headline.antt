@@ -1,6 +1,6 @@
 -- What `recover link` makes of the capture of a tap of columns that came with sparse damage.
-use Rattle.std.proofs.Common.{◌≡◌, ◌≤◌, ◌⊎◌, ℕ, ◌+◌, Bool, List, [], ◌∷◌, length, get_or, map, refl, ap, ap₂, sym, ◌∙◌, subst, inl, inr, arith}
-use Rattle.std.specs.Prelude.{Option, Some, codes, string_bytes}
+use Rattle.std.proofs.Common.{◌≡◌, ◌≤◌, ◌⊎◌, ℕ, ◌+◌, Bool, List, length, refl, ap, ap₂, sym, ◌∙◌, subst, inl, inr}
+use Rattle.std.specs.Prelude.{Option, Some}
 use Rattle.std.specs.Io.KnownBytes.{Appends}
 use Rattle.outside_io.specs.Causes.{Rose}
 use Rattle.tmds_word.specs.Column.{Column}
@@ -22,7 +22,9 @@ use Rattle.hdmi_cli.specs.Commands.{IsCommand}
 use Rattle.hdmi_cli.specs.Outcome.{Outcome, RecoversLanes, RecoversLink, status_with}
 use Rattle.hdmi_cli.specs.Headline.{AreTapped, IsRecovered}
 use Rattle.hdmi_cli.specs.Endings.{Devices, Answers, Ends, RunEnds, status_of}
-use Rattle.hdmi_cli.specs.declared.command.Command.TheVariants.{MakeLink, RecoverLink, Check, Damage}
+use Rattle.command_line.specs.declared.command.Command.{Command}
+use Rattle.command_line.specs.declared.command.Command.TheVariants.{RecoverLink}
+use Rattle.command_line.proofs.Laws.{command_once}
 use Rattle.hdmi_cli.specs.declared.ending.Ending.{Ending}
 use Rattle.hdmi_cli.specs.declared.ending.Ending.TheVariants.{Done, Faulty, Usage, Listing, Capture, Place, ReadFailed, WriteFailed, NoMemory, Unaligned}
 use Rattle.hdmi_cli.proofs.OneCapture.{AreSame, one_capture, no_fault}
@@ -105,31 +107,19 @@ ended P WriteFailed before after says ends = inr (inl ends.0)
 ended P NoMemory before after says ends = inr (inr (inl refl))
 ended P Usage before after says ends = absurd ends
 
--- the words of one command are those of no other
-not_make : (words options : List (List ℕ)) → words ≡ codes "make" ∷ (codes "link" ∷ options) → IsCommand words RecoverLink → ⊥
-not_make words options made named =
-    let e = ap (λ ws. get_or (get_or ws 0 []) 0 0) (sym made ∙ named) in
-    absurd (omega (arith, e))
-
-not_check : (words : List (List ℕ)) → words ≡ codes "check" ∷ [] → IsCommand words RecoverLink → ⊥
-not_check words checked named =
-    let e = ap (λ ws. get_or (get_or ws 0 []) 0 0) (sym checked ∙ named) in
-    absurd (omega (arith, e))
-
-not_damage : (words texts : List (List ℕ)) → words ≡ codes "damage" ∷ texts → IsCommand words RecoverLink → ⊥
-not_damage words texts damaged named =
-    let e = ap (λ ws. get_or (get_or ws 0 []) 0 0) (sym damaged ∙ named) in
-    absurd (omega (arith, e))
+-- a command that words name is the one that they name
+named_ends : (words : List (List ℕ)) (command : Command) (ending : Ending) (before after : Devices) → IsCommand words command → IsCommand words RecoverLink
+    → Ends command ending before after → Ends RecoverLink ending before after
+named_ends words command ending before after named again ends =
+    subst (λ (c : Command). Ends c ending before after) (command_once words command RecoverLink named.0 again.0) ends
 
 -- what a run of `recover link` says, from what each of its ends with an outcome says
 run_ended : (P : ℕ → Option (List ℕ) → Option (List ℕ) → Type 0) (words : List (List ℕ)) (ending : Ending) (before after : Devices) (status : ℕ) → RunEnds words ending before after
     → status ≡ status_of ending → IsCommand words RecoverLink → (Answers RecoverLink ending before after → P (status_of ending) before.held after.held) → Unless P status before after
-run_ended P words ending before after status (inl (MakeLink tap, made, ends)) is named says = absurd (not_make words made.0 made.1 named)
-run_ended P words ending before after status (inl (RecoverLink, named, ends)) is again says =
-    subst (λ s. Unless P s before after) (sym is) (ended P ending before after says ends)
-run_ended P words ending before after status (inl (Check, named, ends)) is again says = absurd (not_check words named again)
-run_ended P words ending before after status (inl (Damage texts, named, ends)) is again says = absurd (not_damage words (map string_bytes texts.now) named.0 again)
-run_ended P words ending before after status (inr (none, usage, kept, held)) is named says = absurd (none RecoverLink named)
+run_ended P words ending before after status (inl (command, named, ends)) is again says =
+    subst (λ s. Unless P s before after) (sym is) (ended P ending before after says (named_ends words command ending before after named again ends))
+run_ended P words ending before after status (inr (inl (none, usage, kept, held))) is named says = absurd (none RecoverLink named)
+run_ended P words ending before after status (inr (inr (unheld, held))) is named says = inr (inr (inl (is ∙ ap status_of unheld)))
 
 -- sparse damage of payload alone
 pub headlined : (words : List (List ℕ)) (ending : Ending) (before after : Devices) (status : ℕ) → RunEnds words ending before after → status ≡ status_of ending → IsCommand words RecoverLink

@@ -15,8 +15,8 @@ use Rattle.link_sink.specs.Ears.{StopsIn}
 use Rattle.link_sink.specs.Progress.{fed_of}
 use Rattle.link_sink.specs.Sinks.{IsToldSoFar}
 use Rattle.hdmi_cli.specs.Outcome.{Outcome, ListsLanes, Does, NamesNone}
-use Rattle.hdmi_cli.specs.declared.command.Command.{Command}
-use Rattle.hdmi_cli.specs.declared.command.Command.TheVariants.{MakeLink, RecoverLink, Check, Damage}
+use Rattle.command_line.specs.declared.command.Command.{Command}
+use Rattle.command_line.specs.declared.command.Command.TheVariants.{MakeLink, MakeContent, RecoverLink, RecoverContent, Check, Damage, Sample}
 use Rattle.hdmi_cli.specs.declared.ending.Ending.{Ending}
 use Rattle.hdmi_cli.specs.declared.ending.Ending.TheVariants.{Done, Faulty, Usage, Listing, Capture, Place, ReadFailed, WriteFailed, NoMemory, Unaligned}
 
@@ -117,7 +117,10 @@ abbrev pub EndsUnheld : Command → Devices → Devices → Type 0
 EndsUnheld (MakeLink tap) before after = Keeps before.held after.held
 EndsUnheld RecoverLink before after = HasBegun RecoverLink before after
 EndsUnheld Check before after = HasBegun Check before after
-EndsUnheld (Damage texts) before after = Keeps before.held after.held
+EndsUnheld (Damage damages) before after = Keeps before.held after.held
+EndsUnheld (MakeContent tap) before after = ⊥
+EndsUnheld RecoverContent before after = ⊥
+EndsUnheld (Sample frames) before after = ⊥
 
 -- what stands where a command ends so
 abbrev pub Ends : Command → Ending → Devices → Devices → Type 0
@@ -179,8 +182,10 @@ HearEnds took broke lanes WriteFailed old new before after = Rose before after �
 HearEnds took broke lanes NoMemory old new before after = AreFirstHeard took lanes old new
 HearEnds took broke lanes _ old new before after = ⊥
 
--- what stands where a run with these words ends so
+-- what stands where a run with these words ends so: a command ended, or nothing was begun, as the words name none or
+-- as there was no memory to read them
 abbrev pub RunEnds : List (List ℕ) → Ending → Devices → Devices → Type 0
 RunEnds words ending before after =
     ((command : Command) × IsCommand words command × Ends command ending before after)
     ⊎ (NamesNone words × (ending ≡ Usage) × Keeps before.left after.left × Keeps before.held after.held)
+    ⊎ ((ending ≡ NoMemory) × Keeps before.held after.held)

@@ -1,4 +1,3 @@
-pub mod Parsing
 pub mod Commands
 pub mod Notes
 pub mod Outcome

@@ -1,6 +1,6 @@
 -- What the program is to do: the status, the output and the note for the words and the input's bytes, where memory is
 -- had and no device fails.
-use Rattle.std.specs.Prelude.{◌≡◌, ◌⊎◌, ℕ, zero, suc, Bool, List, [], map, string_bytes}
+use Rattle.std.specs.Prelude.{◌≡◌, ◌⊎◌, ℕ, zero, suc, Bool, List, [], map}
 use Rattle.tmds_word.specs.Column.{Column}
 use Rattle.island_pack.specs.Spelling.{Spells}
 use Rattle.capture_file.specs.declared.reading.CaptureFault.{CaptureFault}
@@ -15,10 +15,10 @@ use Rattle.link_sink.specs.Alignment.{IsAlignedTold, IsNowhereTold}
 use Rattle.listing.specs.Reading.{Reading, accepted, refused, reads_as}
 use Rattle.listing.specs.Texts.{link_text, fault_lines}
 use Rattle.listing.specs.Checks.{check_text}
-use Rattle.hdmi_cli.specs.Commands.{AreHits, IsCommand}
+use Rattle.hdmi_cli.specs.Commands.{IsCommand, hit_asked, tap_asked}
 use Rattle.hdmi_cli.specs.Notes.{listing_note, capture_note, place_note, usage_note, alignment_note}
-use Rattle.hdmi_cli.specs.declared.command.Command.{Command}
-use Rattle.hdmi_cli.specs.declared.command.Command.TheVariants.{MakeLink, RecoverLink, Check, Damage}
+use Rattle.command_line.specs.declared.command.Command.{Command}
+use Rattle.command_line.specs.declared.command.Command.TheVariants.{MakeLink, MakeContent, RecoverLink, RecoverContent, Check, Damage, Sample}
 
 pub record Outcome : Type 0 where
   pub status : ℕ
@@ -64,12 +64,15 @@ Damages hits bytes outcome =
     ⊎ ((i : ℕ) × IsMisplaced bytes hits i × (outcome ≡ record { status = 3; output = []; note = place_note i }))
     ⊎ ((fault : CaptureFault) × IsFault bytes fault × AreWithin bytes hits × (outcome ≡ record { status = 3; output = []; note = capture_note fault }))
 
--- what a command makes of the input's bytes
+-- what a command that is carried out makes of the input's bytes
 abbrev pub Does : Command → List ℕ → Outcome → Type 0
-Does (MakeLink tap) input outcome = MakesLink tap (reads_as input) outcome
+Does (MakeLink tap) input outcome = MakesLink (tap_asked tap) (reads_as input) outcome
 Does RecoverLink input outcome = RecoversLink input outcome
 Does Check input outcome = ListsCapture check_text input outcome
-Does (Damage texts) input outcome = (hits : List Hit) × AreHits (map string_bytes texts.now) hits × Damages hits input outcome
+Does (Damage damages) input outcome = Damages (map hit_asked damages) input outcome
+Does (MakeContent tap) input outcome = ⊥
+Does RecoverContent input outcome = ⊥
+Does (Sample frames) input outcome = ⊥
 
 -- the words name no command
 abbrev pub NamesNone : List (List ℕ) → Type 0

@@ -21,13 +21,8 @@ mod cases_sparse;
 mod cases_tap;
 #[cfg(test)]
 mod cases_wild;
-mod command;
-#[cfg(test)]
-mod command_tests;
 mod ending;
 mod hit;
-#[cfg(test)]
-mod hit_tests;
 mod note;
 #[cfg(test)]
 mod recover_tests;

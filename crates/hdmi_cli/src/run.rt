@@ -1,10 +1,11 @@
 //! The top call: the words decide what is done with the input.
-ghost use Rattle.std.specs.Prelude.{◌≡◌, ◌≢◌, ◌⊎◌, ◌↔◌, ◌+◌, ℕ, ◌<◌, ◌≤◌, Bool, List, [], ◌∷◌, length, take, map, string_bytes, Some, OnOk, IfErr, Contains};
+ghost use Rattle.std.specs.Prelude.{◌≡◌, ◌≢◌, ◌⊎◌, ◌↔◌, ◌+◌, ℕ, ◌<◌, ◌≤◌, Bool, List, [], ◌∷◌, length, take, map, All, Some, OnOk, IfErr, Contains};
 ghost use Rattle.std.specs.Io.KnownBytes.{Appends, IsAtEnd, Keeps};
 ghost use Rattle.outside_io.specs.Causes.{Rose};
 ghost use Rattle.tmds_word.specs.Column.{Column};
 ghost use Rattle.capture_file.specs.Faults.{AreLanes};
-ghost use Rattle.capture_file.specs.declared.damaging.Hit.{Hit};
+ghost use Rattle.command_line.specs.declared.damage.DamageWord.{DamageWord as DamageValue};
+ghost use Rattle.command_line.specs.declared.tap.TapWords.{TapWords as TapValue};
 ghost use Rattle.lane_deskew.specs.Triples.{IsFirst};
 ghost use Rattle.lane_deskew.specs.Aligned.{aligned_columns};
 ghost use Rattle.island_pack.specs.Periods.{Period};
@@ -12,20 +13,20 @@ ghost use Rattle.island_pack.specs.Sparse.{IsSparseInPayload};
 ghost use Rattle.link_sink.specs.Laws.{AlignsUntil};
 ghost use Rattle.listing.specs.Texts.{link_text};
 ghost use Rattle.listing.specs.Checks.{check_text};
-ghost use Rattle.hdmi_cli.specs.Commands.{AreHits, IsCommand};
+ghost use Rattle.hdmi_cli.specs.Commands.{IsCommand, hit_asked, tap_asked};
 ghost use Rattle.hdmi_cli.specs.Headline.{AreTapped, IsRecovered};
 ghost use Rattle.hdmi_cli.specs.Exact.{IsAlignedCapture, IsJudged};
 ghost use Rattle.hdmi_cli.specs.Outcome.{Outcome, IsOutcome, NamesNone};
 ghost use Rattle.hdmi_cli.specs.Endings.{Ends, RunEnds, ListEnds, HearEnds, AreHeard, refused_ending, damage_ending, judged_ending};
 ghost use Rattle.hdmi_cli.specs.Runs.{IsNoteOf};
-ghost use Rattle.hdmi_cli.specs.declared.command.Command.TheVariants.{MakeLink, RecoverLink, Check, Damage};
+ghost use Rattle.command_line.specs.declared.command.Command.TheVariants.{MakeLink, RecoverLink, Check, Damage};
 
 use crate::Words;
-use crate::command::Command;
 use crate::ending::Ending;
 use crate::hit::hits_of;
 use crate::note::write_note;
 use capture_file::{CaptureError, DamageError, Lanes, Rows, Tap, read_capture, write_capture};
+use command_line::{Command, DamageWord, TapWords};
 use link_sink::{Ear, FeedFault, hear_lanes};
 use listing::{CheckLister, LinkLister, ListError, read_link};
 use outside_io::{Failed, Sink, Source};
@@ -52,7 +53,8 @@ pub fn run<S: Source, K: Sink, N: Sink>(
         ⊎ ((o : Outcome) × IsOutcome words.now text o × (result ≡ o.status)) }
 
     // Each status has its cause, and where the outcome's status is answered its output is written, all of it.
-    ensures usage { (result ≡ 2) ↔ NamesNone words.now }
+    ensures usage { result ≡ 2 → NamesNone words.now }
+    ensures unnamed { NamesNone words.now → (result ≡ 2) ⊎ (result ≡ 6) }
     ensures done { Contains (0 ∷ 1 ∷ 3 ∷ 7 ∷ []) result → (text : List ℕ) → S.left input.old ≡ Some text
         → (o : Outcome) × IsOutcome words.now text o × (o.status ≡ result) × Appends (K.held output.old) (K.held output.new) o.output }
     ensures read_failed { result ≡ 4 → Rose (S.faults input.old) (S.faults input.new) }
@@ -137,18 +139,31 @@ fn carry_out<S: Source, K: Sink>(
     ensures input_later { S.faults input.old ≤ S.faults input.new }
     ensures output_later { K.faults output.old ≤ K.faults output.new }
 {
-    match words.command() {
-        Some(Command::MakeLink(tap)) => make_link(alloc, &tap, input, output),
-        Some(Command::RecoverLink) => recover_link(alloc, input, output),
-        Some(Command::Check) => check(alloc, input, output),
-        Some(Command::Damage(texts)) => damage(alloc, texts, input, output),
-        None => Ending::Usage,
+    let command = match words.command() {
+        Ok(Some(command)) => command,
+        Ok(None) => return Ending::Usage,
+        Err(_) => return Ending::NoMemory,
+    };
+    match command {
+        Command::MakeLink(tap) if tap.version == 1 => make_link(alloc, &tap, input, output),
+        Command::RecoverLink => recover_link(alloc, input, output),
+        Command::Check => check(alloc, input, output),
+        Command::Damage(damages) => damage(alloc, damages.as_slice(), input, output),
+        Command::MakeLink(_) => Ending::Usage,
+        Command::MakeContent(_) => Ending::Usage,
+        Command::RecoverContent => Ending::Usage,
+        Command::Sample(_) => Ending::Usage,
     }
 }
 
 /// Reads a link listing whole, and then writes its capture.
-fn make_link<S: Source, K: Sink>(alloc: Global, tap: &Tap, input: &mut S, output: &mut K) -> Ending
-    ensures ends { Ends (MakeLink tap.now) result
+fn make_link<S: Source, K: Sink>(
+    alloc: Global,
+    words: &TapWords,
+    input: &mut S,
+    output: &mut K,
+) -> Ending
+    ensures ends { Ends (MakeLink words.now) result
         (record { left = S.left input.old; input_faults = S.faults input.old; held = K.held output.old; output_faults = K.faults output.old })
         (record { left = S.left input.new; input_faults = S.faults input.new; held = K.held output.new; output_faults = K.faults output.new }) }
     ensures input_later { S.faults input.old ≤ S.faults input.new }
@@ -167,9 +182,20 @@ fn make_link<S: Source, K: Sink>(alloc: Global, tap: &Tap, input: &mut S, output
     if stream.spell(&mut lanes).is_err() {
         return Ending::NoMemory;
     }
-    match write_capture(&lanes, tap, output) {
+    match write_capture(&lanes, &tap_of(words), output) {
         Ok(()) => Ending::Done,
         Err(_) => Ending::WriteFailed,
+    }
+}
+
+/// The tap that the options of `make` ask for.
+fn tap_of(words: &TapWords) -> Tap
+    ensures { result ≡ tap_asked words.now }
+{
+    Tap {
+        offset: words.offset,
+        skews: words.skews,
+        bits: words.bits,
     }
 }
 
@@ -271,12 +297,12 @@ fn judged(last: Result<(), Failed>, faults: u64) -> Ending
 /// Reads a capture whole, and then writes it with the ten bits of each hit replaced.
 fn damage<S: Source, K: Sink>(
     alloc: Global,
-    words: &[String],
+    words: &[DamageWord],
     input: &mut S,
     output: &mut K,
 ) -> Ending
-    requires { (hits : List Hit) × AreHits (map string_bytes words.now) hits }
-    ensures ends { Ends (Damage words.entry) result
+    requires { All (λ word. word.lane < 3) words.now }
+    ensures ends { Ends (Damage words.now) result
         (record { left = S.left input.old; input_faults = S.faults input.old; held = K.held output.old; output_faults = K.faults output.old })
         (record { left = S.left input.new; input_faults = S.faults input.new; held = K.held output.new; output_faults = K.faults output.new }) }
     ensures input_later { S.faults input.old ≤ S.faults input.new }

@@ -191,12 +191,18 @@ fn devices(rt: HostRuntime) -> Result<(), Fail> {
 
 #[test]
 fn usage(rt: HostRuntime) -> Result<(), Fail> {
-    let forms: [&[&str]; 5] = [
+    let forms: [&[&str]; 11] = [
         &[],
         &["make"],
         &["link", "make"],
         &["make", "link", "x"],
         &["Make", "link"],
+        &["recover"],
+        &["make", "link", "--skew", "0,1"],
+        &["make", "link", "--offset=7", "--offset", "7"],
+        &["recover", "link", "--offset", "7"],
+        &["damage", "3:0:000"],
+        &["sample", "1"],
     ];
     for words in forms {
         let it = answer_of(rt.alloc(), words, RED.as_bytes(), &STEADY)?;

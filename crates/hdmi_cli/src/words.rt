@@ -1,8 +1,8 @@
 //! The words of the command line.
-ghost use Rattle.std.specs.Prelude.{◌≡◌, ◌++◌, ◌∷◌, [], MatchOption, OnOk, OnErr};
-ghost use Rattle.hdmi_cli.specs.Commands.{IsCommand};
+ghost use Rattle.std.specs.Prelude.{◌≡◌, ◌++◌, ◌∷◌, [], IfOk, MatchOption, OnOk, OnErr};
+ghost use Rattle.command_line.specs.Commands.{IsCommand as IsLine};
 
-use crate::command::{Command, read_command};
+use command_line::{Command, read_command};
 use outside_io::NoMemory;
 use std::alloc::Global;
 use std::marker::Model;
@@ -44,9 +44,9 @@ impl Words {
     }
 
     /// The command that they name; none where they are of no command's form.
-    pub(crate) fn command(&self) -> Option<Command<'_>>
-        ensures { MatchOption result ((c : Command) → IsCommand self.now c → ⊥) (λ c. IsCommand self.now c) }
+    pub(crate) fn command(&self) -> Result<Option<Command>, NoMemory>
+        ensures { IfOk result (λ answer. MatchOption answer ((c : Command) → IsLine self.now c → ⊥) (λ c. IsLine self.now c)) }
     {
-        read_command(self.list.as_slice())
+        read_command(self.alloc, self.list.as_slice())
     }
 }

@@ -1,15 +1,15 @@
-use Rattle.std.proofs.Common.{sym, subst, ◌<◌, List, map, string_bytes}
+use Rattle.std.proofs.Common.{sym, subst, ◌∙◌, ◌<◌, List}
 use Rattle.std.specs.List.{All}
 use Rattle.capture_file.specs.declared.damaging.Hit.{Hit}
 use Rattle.hdmi_cli.specs.Endings.{Devices, Ends}
-use Rattle.hdmi_cli.specs.declared.command.Command.TheVariants.{Damage}
+use Rattle.command_line.specs.declared.command.Command.TheVariants.{Damage}
 use Rattle.hdmi_cli.specs.declared.ending.Ending.{Ending}
 use Rattle.hdmi_cli.proofs.Answered.{Damaged, damaged, lanes_of_hits}
 use Rattle.hdmi_cli.proofs.run.damage.Goals as goal
 
 pub damage-requires-clause-lanes : goal.damage-requires-clause-lanes
 damage-requires-clause-lanes g c =
-    subst (λ (hits : List Hit). All (λ (h : Hit). h.lane < 3) hits) (sym c.as_slice.ensures.value) (lanes_of_hits (map string_bytes c.args.words.now) c.in-Ok.hits.items c.in-Ok.ensures.hits)
+    subst (λ (hits : List Hit). All (λ (h : Hit). h.lane < 3) hits) (sym c.as_slice.ensures.value) (subst (λ (hits : List Hit). All (λ (h : Hit). h.lane < 3) hits) (sym c.in-Ok.ensures.hits) (lanes_of_hits c.args.words.now c.requires))
 
 pub returns-in-Ok-clause-ends : goal.returns-in-Ok-clause-ends
 returns-in-Ok-clause-ends g c =
@@ -25,6 +25,6 @@ returns-in-Ok-clause-ends g c =
       read_cause = c.damage.ensures.read_cause;
       write_cause = c.damage.ensures.write_cause;
     } in
-    subst (λ (e : Ending). Ends (Damage c.args.words) e before after) (sym c.damaged.ensures)
-    (damaged c.args.words c.in-Ok.hits.items c.damage.result before after c.in-Ok.ensures.hits
-    (subst (λ (hits : List Hit). Damaged hits before after c.damage.result) c.as_slice.ensures.value told))
+    subst (λ (e : Ending). Ends (Damage c.args.words.now) e before after) (sym c.damaged.ensures)
+    (damaged c.args.words.now c.damage.result before after
+    (subst (λ (hits : List Hit). Damaged hits before after c.damage.result) (c.as_slice.ensures.value ∙ c.in-Ok.ensures.hits) told))

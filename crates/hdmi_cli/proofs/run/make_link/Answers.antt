@@ -1,6 +1,6 @@
 use Rattle.std.proofs.Common.{rules, ◌≡◌, [], ◌++◌, List, refl, sym, subst}
 use Rattle.hdmi_cli.specs.Endings.{Devices, IsAnswered}
-use Rattle.hdmi_cli.specs.declared.command.Command.TheVariants.{MakeLink}
+use Rattle.command_line.specs.declared.command.Command.TheVariants.{MakeLink}
 use Rattle.hdmi_cli.specs.declared.ending.Ending.TheVariants.{Listing}
 use Rattle.listing.specs.declared.fault.ListFault.{ListFault}
 use Rattle.tmds_word.specs.Column.{Column}
@@ -14,8 +14,8 @@ returns-in-Err-Bad-clause-ends g c =
     let after : Devices = record { left = g.S.Source.left c.read_link.new.source; input_faults = g.S.Source.faults c.read_link.new.source; held = g.K.Sink.held c.args.output.now; output_faults = g.K.Sink.faults c.args.output.now } in (
       search rules,
       λ text told.
-          subst (λ (f : ListFault). IsAnswered (MakeLink c.args.tap.now) (Listing f) before after text) (sym c.in-Err-Bad.fault-is)
-          (listing_refused c.args.tap.now c.in-Err-Bad.fault before after text (bad_listing _ c.read_link.result c.in-Err-Bad.field-0 c.in-Err-Bad.fault (c.read_link.ensures.answers text told) c.in-Err-Bad.is c.in-Err-Bad.field-0-is) refl),
+          subst (λ (f : ListFault). IsAnswered (MakeLink c.args.words.now) (Listing f) before after text) (sym c.in-Err-Bad.fault-is)
+          (listing_refused c.args.words.now c.in-Err-Bad.fault before after text (bad_listing _ c.read_link.result c.in-Err-Bad.field-0 c.in-Err-Bad.fault (c.read_link.ensures.answers text told) c.in-Err-Bad.is c.in-Err-Bad.field-0-is) refl),
     )
 
 pub returns-in-Ok-write_capture-clause-ends : goal.returns-in-Ok-write_capture-clause-ends
@@ -24,7 +24,7 @@ returns-in-Ok-write_capture-clause-ends g c =
     let after : Devices = record { left = g.S.Source.left c.read_link.new.source; input_faults = g.S.Source.faults c.read_link.new.source; held = g.K.Sink.held c.write_capture.new.out; output_faults = g.K.Sink.faults c.write_capture.new.out } in
     let spelled : (columns : List Column) × (c.spell.new.out.columns ≡ [] ++ columns) × Spells c.in-Ok.stream columns = search rules in (
       search rules,
-      λ text told. made_of c.args.tap.now c.in-Ok.stream c.spell.new.out.columns before after text (search rules) spelled (search rules),
+      λ text told. made_of c.args.words.now c.in-Ok.stream c.spell.new.out.columns before after text (search rules) spelled (search rules),
     )
 
 pub returns-clause-ends : goal.returns-clause-ends
@@ -33,5 +33,5 @@ returns-clause-ends g c =
     let after : Devices = record { left = g.S.Source.left c.read_link.new.source; input_faults = g.S.Source.faults c.read_link.new.source; held = g.K.Sink.held c.write_capture.new.out; output_faults = g.K.Sink.faults c.write_capture.new.out } in
     let spelled : (columns : List Column) × (c.spell.new.out.columns ≡ [] ++ columns) × Spells c.in-Ok.stream columns = search rules in (
       search rules,
-      λ text told. part_of c.args.tap.now c.in-Ok.stream c.spell.new.out.columns c.in-Err-write_capture.field-0.gone before after text (search rules) spelled (search rules) (search rules),
+      λ text told. part_of c.args.words.now c.in-Ok.stream c.spell.new.out.columns c.in-Err-write_capture.field-0.gone before after text (search rules) spelled (search rules) (search rules),
     )

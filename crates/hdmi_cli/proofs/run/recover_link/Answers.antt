@@ -5,7 +5,7 @@ use Rattle.capture_file.specs.Faults.{AnswersBytes}
 use Rattle.capture_file.specs.declared.reading.CaptureError.{CaptureError}
 use Rattle.listing.specs.Texts.{link_text}
 use Rattle.hdmi_cli.specs.Endings.{Devices, Ends}
-use Rattle.hdmi_cli.specs.declared.command.Command.TheVariants.{RecoverLink}
+use Rattle.command_line.specs.declared.command.Command.TheVariants.{RecoverLink}
 use Rattle.hdmi_cli.specs.declared.ending.Ending.{Ending}
 use Rattle.hdmi_cli.proofs.Answered.{recovered, unread}
 use Rattle.hdmi_cli.proofs.run.recover_link.Goals as goal

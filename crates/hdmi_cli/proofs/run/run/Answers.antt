@@ -22,6 +22,12 @@ returns-clause-usage g c =
     let after : Devices = record { left = g.S.Source.left c.carry_out-ending.new.input; input_faults = g.S.Source.faults c.carry_out-ending.new.input; held = g.K.Sink.held c.carry_out-ending.new.output; output_faults = g.K.Sink.faults c.carry_out-ending.new.output } in
     (says c.args.words.now c.carry_out-ending.result before after c.status.result c.carry_out-ending.ensures.ends c.status.ensures).usage
 
+pub returns-clause-unnamed : goal.returns-clause-unnamed
+returns-clause-unnamed g c =
+    let before : Devices = record { left = g.S.Source.left c.args.input.now; input_faults = g.S.Source.faults c.args.input.now; held = g.K.Sink.held c.args.output.now; output_faults = g.K.Sink.faults c.args.output.now } in
+    let after : Devices = record { left = g.S.Source.left c.carry_out-ending.new.input; input_faults = g.S.Source.faults c.carry_out-ending.new.input; held = g.K.Sink.held c.carry_out-ending.new.output; output_faults = g.K.Sink.faults c.carry_out-ending.new.output } in
+    (says c.args.words.now c.carry_out-ending.result before after c.status.result c.carry_out-ending.ensures.ends c.status.ensures).unnamed
+
 pub returns-clause-done : goal.returns-clause-done
 returns-clause-done g c =
     let before : Devices = record { left = g.S.Source.left c.args.input.now; input_faults = g.S.Source.faults c.args.input.now; held = g.K.Sink.held c.args.output.now; output_faults = g.K.Sink.faults c.args.output.now } in

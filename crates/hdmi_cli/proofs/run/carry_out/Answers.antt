@@ -1,0 +1,39 @@
+use Rattle.std.proofs.Common.{sym, subst, List, ◌<◌}
+use Rattle.std.specs.List.{All}
+use Rattle.command_line.specs.Commands.{IsCommand as IsLine}
+use Rattle.command_line.specs.declared.damage.DamageWord.{DamageWord}
+use Rattle.command_line.specs.declared.command.Command.{Command}
+use Rattle.hdmi_cli.specs.Commands.{IsCarriedOut}
+use Rattle.hdmi_cli.specs.Endings.{Devices}
+use Rattle.hdmi_cli.proofs.Ends.{line_of, unread_ends, uncarried_ends}
+use Rattle.hdmi_cli.proofs.Answered.{lanes_of_line}
+use Rattle.hdmi_cli.proofs.run.carry_out.Goals as goal
+
+pub returns-in-Ok-None-clause-ends : goal.returns-in-Ok-None-clause-ends
+returns-in-Ok-None-clause-ends g c =
+    let devices : Devices = record { left = g.S.Source.left c.args.input.now; input_faults = g.S.Source.faults c.args.input.now; held = g.K.Sink.held c.args.output.now; output_faults = g.K.Sink.faults c.args.output.now } in
+    unread_ends c.args.words.now devices c.command.result c.in-Ok-None.field-0 c.command.ensures c.in-Ok-None.is c.in-Ok-None.field-0-is
+
+pub damage-requires : goal.damage-requires
+damage-requires g c =
+    subst (λ (words : List DamageWord). All (λ (w : DamageWord). w.lane < 3) words) (sym c.as_slice.ensures.list)
+    (lanes_of_line c.args.words.now c.in-Damage.damages (subst (λ (d : Command). IsLine c.args.words.now d) c.in-Damage.is
+    (line_of c.args.words.now c.command.result c.in-Ok-Some.field-0 c.in-Ok-Some.command c.command.ensures c.in-Ok-Some.is c.in-Ok-Some.field-0-is)))
+
+pub returns-in-MakeLink-2-clause-ends : goal.returns-in-MakeLink-2-clause-ends
+returns-in-MakeLink-2-clause-ends g c =
+    let devices : Devices = record { left = g.S.Source.left c.args.input.now; input_faults = g.S.Source.faults c.args.input.now; held = g.K.Sink.held c.args.output.now; output_faults = g.K.Sink.faults c.args.output.now } in
+    uncarried_ends c.args.words.now devices c.in-Ok-Some.command (line_of c.args.words.now c.command.result c.in-Ok-Some.field-0 c.in-Ok-Some.command c.command.ensures c.in-Ok-Some.is c.in-Ok-Some.field-0-is)
+    (λ carried. c.if-tap-eq1.false (subst IsCarriedOut c.in-MakeLink.is carried))
+
+pub returns-in-MakeContent-clause-ends : goal.returns-in-MakeContent-clause-ends
+returns-in-MakeContent-clause-ends g c =
+    let devices : Devices = record { left = g.S.Source.left c.args.input.now; input_faults = g.S.Source.faults c.args.input.now; held = g.K.Sink.held c.args.output.now; output_faults = g.K.Sink.faults c.args.output.now } in
+    uncarried_ends c.args.words.now devices c.in-Ok-Some.command (line_of c.args.words.now c.command.result c.in-Ok-Some.field-0 c.in-Ok-Some.command c.command.ensures c.in-Ok-Some.is c.in-Ok-Some.field-0-is)
+    (λ carried. subst IsCarriedOut c.in-MakeContent.is carried)
+
+pub returns-in-RecoverContent-clause-ends : goal.returns-in-RecoverContent-clause-ends
+returns-in-RecoverContent-clause-ends g c =
+    let devices : Devices = record { left = g.S.Source.left c.args.input.now; input_faults = g.S.Source.faults c.args.input.now; held = g.K.Sink.held c.args.output.now; output_faults = g.K.Sink.faults c.args.output.now } in
+    uncarried_ends c.args.words.now devices c.in-Ok-Some.command (line_of c.args.words.now c.command.result c.in-Ok-Some.field-0 c.in-Ok-Some.command c.command.ensures c.in-Ok-Some.is c.in-Ok-Some.field-0-is)
+    (λ carried. subst IsCarriedOut c.in-RecoverContent.is carried)
