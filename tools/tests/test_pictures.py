@@ -54,7 +54,7 @@ def test_a_ragged_row_is_cut_or_filled(tool, tmp_path):
     assert pixels(tmp_path / "frame0001.png")[1][2:] == [(51,) * 3, (68,) * 3]
 
 
-MARK = (255, 0, 255)
+MARK = (255, 128, 0)
 WIDE = b"row " + b"808080" * 12 + b"\n"
 LINK = b"c 00 4\nc 04 8\nv " + b"808080" * 12 + b"\n! code 2 19\n! code 0 25\nc 00 12\nend\n"
 
