@@ -76,11 +76,14 @@ def lines(source, names=CONTENT):
     """The number, the name and the fields of each line of a listing, up to the line `end`."""
     kind = "content" if names is CONTENT else "link"
     number = 0
-    for number, line in enumerate(io.TextIOWrapper(source, "ascii", "replace", "\n"), 1):
+    text = io.TextIOWrapper(source, "ascii", "replace", "\n")
+    for number, line in enumerate(text, 1):
         if not line.endswith("\n"):
             raise Refused(f"line {number}: the listing breaks off in it")
         name, *fields = line[:-1].split(" ")
         if name == "end":
+            if text.read(1):
+                raise Refused(f"line {number + 1}: something follows the line `end`")
             return
         if name not in names or not fields:
             raise Refused(f"line {number}: `{line[:20].strip()}` begins no line of a {kind} listing")

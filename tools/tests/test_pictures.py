@@ -89,6 +89,7 @@ def test_columns_are_not_counted_past_noise(tool, tmp_path):
     [
         (b"", b"nothing came"),
         (TWO[:-4], b"breaks off after 7 lines"),
+        (TWO + b"x", b"line 9: something follows the line `end`"),
         (TWO[:60], b"line 3: the listing breaks off in it"),
         (b"c 00 12\nend\n", b"line 1: `c 00 12` begins no line of a content listing"),
         (b"row 01020\nend\n", b"line 1: `01020` is no row of 6 hexadecimal digits each"),
