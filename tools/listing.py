@@ -118,6 +118,14 @@ def digits(text, unit, line):
     return found
 
 
+def numbers(text, most):
+    """The numbers of a word that has commas between them."""
+    parts = text.split(",")
+    if not all(part.isdecimal() and int(part) <= most for part in parts):
+        raise argparse.ArgumentTypeError(f"numbers of 0 to {most} are wanted")
+    return [int(part) for part in parts]
+
+
 def parser(name, text, faulty=""):
     """A reader of a tool's words; `faulty` says when its status is 1."""
     epilog = STATUSES.format(f"1 {faulty}; " if faulty else "")

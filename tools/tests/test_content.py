@@ -111,7 +111,7 @@ def test_bad_files(tool, image, sound, tmp_path):
     assert b"it has 3 channels" in tool("content", *words, "--sound", sound(bytes(6), channels=3), status=3).stderr
     whole = image(size=(640, 480), name="whole.png").read_bytes()
     (tmp_path / "cut.png").write_bytes(whole[: len(whole) // 2])
-    tool("content", tmp_path / "cut.png", status=3)
+    assert b"cut.png: image file is truncated" in tool("content", tmp_path / "cut.png", status=3).stderr
 
 
 def test_bad_words(tool, image):
