@@ -1,0 +1,94 @@
+"""Sound for the tools: WAV files as samples of 24 bits a side, and the channel status that goes with them."""
+
+import wave
+from typing import NamedTuple
+
+from listing import Refused
+
+BLOCK = 192  # the samples of a channel status block (IEC 60958)
+FLIP_SIGN = bytes(byte ^ 0x80 for byte in range(256))
+
+
+class Rate(NamedTuple):
+    """A sampling rate, the number N of its clock packets (HDMI 1.4, section 7.2), its code in the channel status."""
+
+    hertz: int
+    n: int
+    code: int
+
+
+RATES = {
+    rate.hertz: rate
+    for rate in (
+        Rate(32000, 4096, 3),
+        Rate(44100, 6272, 0),
+        Rate(48000, 6144, 2),
+        Rate(88200, 12544, 8),
+        Rate(96000, 12288, 10),
+        Rate(176400, 25088, 12),
+        Rate(192000, 24576, 14),
+    )
+}
+# The channel status says 24 bits by 1011 (at most 24, all used), 16 bits by 0010 (at most 20, 16 used).
+WORD_LENGTHS = {16: 2, 24: 11}
+
+
+class Sound(NamedTuple):
+    """Samples of two sides, each of three bytes, high byte first; `bits` of the 24 are used."""
+
+    rate: int
+    bits: int
+    left: bytes
+    right: bytes
+
+    @property
+    def samples(self):
+        return len(self.left) // 3
+
+
+def side(data, width, channels, channel):
+    """One channel of a WAV file's bytes, three bytes a sample, high byte first; short ones get zeros, long are cut."""
+    taken = bytearray(3 * (len(data) // (width * channels)))
+    for place in range(min(width, 3)):
+        taken[place::3] = data[channel * width + width - 1 - place :: width * channels]
+    if width == 1:  # samples of one byte have no sign
+        taken[0::3] = taken[0::3].translate(FLIP_SIGN)
+    return bytes(taken)
+
+
+def read(path):
+    """The sound of a WAV file of one or two channels."""
+    try:
+        with wave.open(path) as file:
+            channels, width, rate = file.getnchannels(), file.getsampwidth(), file.getframerate()
+            data = file.readframes(file.getnframes())
+    except (wave.Error, EOFError) as why:
+        raise Refused(f"{path}: no WAV file of linear PCM ({why or 'it breaks off'})") from None
+    if channels > 2:
+        raise Refused(f"{path}: it has {channels} channels, and one or two are wanted")
+    if rate not in RATES:
+        raise Refused(f"{path}: its rate is {rate} Hz; a link carries {', '.join(map(str, RATES))}")
+    data = data[: len(data) // (width * channels) * width * channels]
+    left = side(data, width, channels, 0)
+    return Sound(rate, 16 if width <= 2 else 24, left, side(data, width, channels, 1) if channels == 2 else left)
+
+
+def write(path, sound):
+    """Writes a WAV file of two channels, with the sound's bits a sample."""
+    width = sound.bits // 8
+    data = bytearray(2 * width * sound.samples)
+    for channel, taken in enumerate((sound.left, sound.right)):
+        for place in range(width):
+            data[channel * width + width - 1 - place :: 2 * width] = taken[place::3]
+    with open(path, "wb") as out, wave.open(out, "wb") as file:
+        file.setnchannels(2)
+        file.setsampwidth(width)
+        file.setframerate(sound.rate)
+        file.writeframes(data)
+
+
+def channel_status(sound, channel):
+    """The 192 bits of a channel's status (IEC 60958-3): consumer use, linear PCM, no copyright, the channel's number,
+    the rate, and the bits of a sample."""
+    status = 1 << 2 | channel << 20 | RATES[sound.rate].code << 24 | WORD_LENGTHS[sound.bits] << 32
+    return [status >> place & 1 for place in range(BLOCK)]

@@ -1,0 +1,123 @@
+"""The whole walk: pictures and sound to a capture, damaged, and back, with the real program."""
+
+import math
+import random
+import struct
+import wave
+from pathlib import Path
+
+import pytest
+from PIL import Image
+
+EXAMPLES = Path(__file__).resolve().parents[2] / "examples"
+# A mode of 32 x 24 pixels: a line has 120 columns and a frame 30 lines, so at 25.2 MHz 7,000 frames go by in a second.
+ACROSS, DOWN, FIRST_PIXEL, FIRST_ROW = 120, 30, 80, 4
+MODE = "32,8,16,64,24,2,2,2,1"
+OFFSET, SKEWS = 2345, (0, 70, 35)
+FRAMES = 5
+
+
+def place(frame, row, pixel, lane):
+    """The place in its lane of a pixel's character."""
+    return 10 * ((frame * DOWN + FIRST_ROW + row) * ACROSS + FIRST_PIXEL + pixel) - OFFSET - SKEWS[lane]
+
+
+@pytest.fixture
+def sent(tmp_path):
+    """Images of noise and a tone, and their files."""
+    noise = random.Random(1)
+    images = [Image.frombytes("RGB", (32, 24), noise.randbytes(3 * 32 * 24)) for _ in range(FRAMES)]
+    paths = [tmp_path / f"sent{number}.png" for number in range(FRAMES)]
+    for image, path in zip(images, paths):
+        image.save(path)
+    tone = b"".join(
+        struct.pack("<hh", *(round(9000 * wave(k / 7)) for wave in (math.sin, math.cos))) for k in range(30)
+    )
+    with wave.open(str(tmp_path / "sent.wav"), "wb") as file:
+        file.setparams((2, 2, 48000, 0, "NONE", ""))
+        file.writeframes(tone)
+    return images, paths, tmp_path / "sent.wav", tone
+
+
+def shown(folder):
+    return [Image.open(path).convert("RGB") for path in sorted(folder.glob("frame*.png"))]
+
+
+def unlike(image, other):
+    """The places at which two images differ, and on which of red, green and blue."""
+    pairs = zip(image.getdata(), other.getdata())
+    return {(at % 32, at // 32): [a != b for a, b in zip(*pair)] for at, pair in enumerate(pairs) if pair[0] != pair[1]}
+
+
+def test_pictures_and_sound_come_back_but_for_damaged_pixels(tool, program, sent, tmp_path):
+    images, paths, sound, tone = sent
+    listing = tool("content", *paths, "--mode", MODE, "--sound", sound).stdout
+    assert listing.count(b"\ns ") == 30
+    capture = program("make", "content", "--offset", OFFSET, "--skew", ",".join(map(str, SKEWS)), source=listing)
+    # In each row of frames 2 and 3 a pixel is damaged on one lane, and two characters of the first packet of frame 2.
+    rows = [(frame, row, (5 * row + frame) % 32, row % 3) for frame in (2, 3) for row in range(24)]
+    hits = [f"{lane}:{place(frame, row, pixel, lane)}:0ab" for frame, row, pixel, lane in rows]
+    hits += [f"{lane}:{place(2, -FIRST_ROW, column - FIRST_PIXEL, lane)}:354" for lane, column in ((1, 19), (2, 34))]
+    hurt = program("damage", *hits, source=capture)
+    found = program("recover", "content", source=hurt, status=1)
+    assert found.count(b"\n! symbols ") == 1
+
+    came = tool("pictures", tmp_path / "out", source=found, status=1)
+    back = shown(tmp_path / "out")
+    assert len(back) == FRAMES - 1  # the capture begins behind the sync lines of the first frame
+    for number, image in enumerate(back, 1):
+        hit = {(pixel, row): lane for frame, row, pixel, lane in rows if frame == number}
+        differ = unlike(images[number], image)
+        assert differ.keys() <= hit.keys()
+        for at, colours in differ.items():
+            assert colours == [lane == hit[at] for lane in (2, 1, 0)]
+        assert not hit or len(differ) > 12
+    assert came.stderr.startswith(b"frame 1: ") and b"\nframe 2: " in came.stderr
+
+    tool("sound", "--rate", 48000, tmp_path / "back.wav", source=found)
+    with wave.open(str(tmp_path / "back.wav")) as file:
+        assert file.getparams()[:3] == (2, 2, 48000)
+        assert file.readframes(30) == tone[4 * 6 :]  # the first frame has six samples, in its sync lines
+
+
+def test_marks_lie_on_the_damaged_pixels(tool, program, sent, tmp_path):
+    images, paths, _, _ = sent
+    capture = program("make", "content", source=tool("content", *paths[:3], "--mode", MODE).stdout)
+    at = 10 * ((2 * DOWN + FIRST_ROW + 10) * ACROSS + FIRST_PIXEL + 17)
+    hurt = program("damage", f"2:{at}:0ab", source=capture)
+    found = program("recover", "content", source=hurt, status=1)
+    (tmp_path / "hurt.link").write_bytes(program("recover", "link", source=hurt, status=1))
+    tool("pictures", "--mark", "--link", tmp_path / "hurt.link", tmp_path / "out", source=found, status=1)
+    differ = unlike(images[2], shown(tmp_path / "out")[-1])
+    box = {(x, y) for x in range(15, 20) for y in range(8, 13)} - {(x, y) for x in range(16, 19) for y in range(9, 12)}
+    assert box <= differ.keys() <= box | {(17, 10)}
+
+
+def test_a_usual_mode(tool, program, tmp_path):
+    """640 x 480 pixels and 48 kHz, undamaged: the second frame and all its samples come back as they were sent."""
+    image = Image.radial_gradient("L").resize((640, 480)).convert("RGB")
+    image.save(tmp_path / "a.png")
+    data = random.Random(2).randbytes(4 * 1600)
+    with wave.open(str(tmp_path / "a.wav"), "wb") as file:
+        file.setparams((2, 2, 48000, 0, "NONE", ""))
+        file.writeframes(data)
+    listing = tool("content", tmp_path / "a.png", tmp_path / "a.png", "--sound", tmp_path / "a.wav").stdout
+    capture = program("make", "content", "--offset", 123457, "--skew", "0,70,35", source=listing)
+    found = program("recover", "content", source=capture)
+    tool("pictures", tmp_path / "out", source=found)
+    assert [other.tobytes() for other in shown(tmp_path / "out")] == [image.tobytes()]
+    came = tool("sound", tmp_path / "b.wav", source=found)
+    assert b"800 samples of 16 bits at 48000 Hz, no faults" in came.stderr
+    with wave.open(str(tmp_path / "b.wav")) as file:
+        assert file.readframes(1600) == data[4 * 800 :]
+
+
+def test_the_example(tool, program, tmp_path):
+    listing = (EXAMPLES / "bars.content").read_bytes()
+    tool("pictures", tmp_path / "sent", source=listing)
+    found = program("recover", "content", source=program("make", "content", source=listing))
+    assert found == listing.split(b"\n", 1)[1]
+    tool("pictures", tmp_path / "back", source=found)
+    assert [image.tobytes() for image in shown(tmp_path / "back")] == [
+        image.tobytes() for image in shown(tmp_path / "sent")
+    ]
