@@ -14,3 +14,4 @@ pub mod Refused
 pub mod ShortLines
 pub mod Steps
 pub mod ToldSizes
+pub mod HexPairs

@@ -2,6 +2,7 @@
 #![tactic(auto)]
 
 mod checker;
+mod digits;
 mod fault;
 mod form;
 pub mod laws;

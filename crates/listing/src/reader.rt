@@ -12,8 +12,8 @@ ghost use Rattle.listing.specs.FormSeen.{IsForm, digits_of};
 ghost use Rattle.listing.specs.Told.{AnswersCause, RefusesAs, with_open};
 
 use crate::ListCause;
+use crate::digits::{are_digits, put_bytes};
 use crate::form::Form;
-use hex::FromHexError;
 use island_pack::Packet;
 use outside_io::NoMemory;
 use source_end::{Island, Item, ItemFault, Items, Pixels, Run, Runs, Stream};
@@ -517,23 +517,24 @@ fn decode_pixels(alloc: Global, digits: &[u8]) -> Result<Pixels, Refusal>
     ensures ok { IfOk result (λ pixels. decode_of digits.now ≡ Ok pixels) }
     ensures err { IfErr result (λ refusal. (refusal ≡ Refusal.NoMemory) ⊎ ((refusal ≡ Refusal.Cause ListCause.Form) × IsErr (decode_of digits.now))) }
 {
-    match hex::decode(alloc, digits) {
-        Ok(bytes) => Ok(Pixels::from_bytes(bytes)),
-        Err(error) => Err(refusal_of_digits(error)),
+    if !are_digits(digits) {
+        return Err(Refusal::Cause(ListCause::Form));
+    }
+    match zeros(alloc, digits.len() / 2) {
+        Ok(mut bytes) => {
+            put_bytes(digits, &mut bytes);
+            Ok(Pixels::from_bytes(bytes))
+        }
+        Err(error) => Err(error.into()),
     }
 }
 
-/// The refusal of a line whose digits were not decoded: for want of memory, or for the line's form.
-fn refusal_of_digits(error: FromHexError) -> Refusal
-    ensures memory { error ≡ FromHexError.OutOfMemory → result ≡ Refusal.NoMemory }
-    ensures form { error ≢ FromHexError.OutOfMemory → result ≡ Refusal.Cause ListCause.Form }
+/// So many bytes 0.
+fn zeros(alloc: Global, count: usize) -> Result<Vec<u8>, NoMemory>
+    ensures { IfOk result (λ bytes. length bytes.items ≡ count) }
 {
-    match error {
-        FromHexError::OutOfMemory => Refusal::NoMemory,
-        FromHexError::InvalidHexCharacter { .. }
-        | FromHexError::OddLength
-        | FromHexError::InvalidStringLength => Refusal::Cause(ListCause::Form),
-    }
+    let bytes = vec![in alloc; 0; count]?;
+    Ok(bytes)
 }
 
 /// The cause that a fault of an item is in a listing.

@@ -1,9 +1,6 @@
-use Rattle.std.proofs.Common.{arith}
-use Rattle.hex.proofs.HexLemmas.{decode_of-ok}
+use Rattle.std.proofs.Common.{inr, refl, sym, ◌∙◌}
+use Rattle.listing.proofs.HexPairs.{not_read}
 use Rattle.listing.proofs.reader.decode_pixels.Goals as goal
 
-pub from_bytes-requires : goal.from_bytes-requires
-from_bytes-requires c =
-    let ok = decode_of-ok c.args.digits.now c.in-Ok.bytes.items c.in-Ok.ensures.ok in
-    let twice = ok.2 in
-    omega arith
+pub returns-then-not-are_digits-clause-err : goal.returns-then-not-are_digits-clause-err
+returns-then-not-are_digits-clause-err c = inr (refl, not_read c.args.digits.now (sym c.are_digits.ensures ∙ c.if-not-are_digits.true))
