@@ -1,4 +1,10 @@
 pub mod CheckedLine
+pub mod ContentAdding
+pub mod ContentCases
+pub mod ContentHearing
+pub mod ContentKinds
+pub mod ContentNotes
+pub mod ContentWritten
 pub mod Feeds
 pub mod Given
 pub mod Islands

@@ -2,6 +2,11 @@
 #![tactic(auto)]
 
 mod checker;
+mod content_info;
+mod content_lines;
+mod content_lister;
+mod content_packets;
+mod content_past;
 mod fault;
 mod form;
 mod line;
@@ -12,6 +17,7 @@ mod read;
 mod reader;
 
 pub use checker::CheckLister;
+pub use content_lister::ContentLister;
 pub use fault::{ListCause, ListError, ListFault};
 pub use form::number;
 pub use lister::LinkLister;
