@@ -8,7 +8,7 @@ use Rattle.period_grammar.specs.declared.told.Fault.TheVariants.{Word, Short, Pr
 use Rattle.frame_build.specs.Event.{other}
 use Rattle.island_pack.specs.declared.packet.Packet.{Packet}
 use Rattle.island_pack.specs.declared.packet.PacketVerdicts.{PacketVerdicts}
-use Rattle.infoframe.specs.Frames.{Frame, frame_in, frame_of, answer, first_lost, has_length, kind_of, length_in, sum_of, avi_in, audio_in, spd_in}
+use Rattle.infoframe.specs.Frames.{Frame, frame_in, frame_of, answer, kind_of, avi_in, audio_in, spd_in}
 use Rattle.infoframe.specs.declared.content.InfoKind.{InfoKind}
 use Rattle.infoframe.specs.declared.content.InfoKind.TheVariants.{Avi as AviKind, Audio as AudioKind, Spd as SpdKind, Raw as RawKind}
 use Rattle.infoframe.specs.declared.content.InfoFault.{InfoFault}

@@ -1,5 +1,5 @@
 -- What is kept of all that was told, once more was told.
-use Rattle.std.proofs.Common.{◌≡◌, ◌∙◌, ℕ, List, [], ◌∷◌, ◌++◌, Option, Some, None, map, reverse, true, ◌⊎◌, inl, inr, refl, ap, sym, subst}
+use Rattle.std.proofs.Common.{◌≡◌, ◌∙◌, ℕ, List, [], ◌∷◌, ◌++◌, Option, Some, None, reverse, true, ◌⊎◌, inl, inr, refl, ap, sym, subst}
 use Rattle.std.specs.Prelude.{option_map, filter_map, slice_index}
 use Rattle.std.proofs.lemmas.List.{map-append, reverse-append}
 use Rattle.std.proofs.lemmas.List.Elements.{filter_map-append}

@@ -28,8 +28,8 @@ use Rattle.frame_build.specs.declared.LineNote.{LineNote}
 use Rattle.source_end.specs.Formats.{formats, mode_in}
 use Rattle.source_end.specs.Raster.{active}
 use Rattle.source_end.specs.declared.mode.Mode.{Mode}
-use Rattle.period_grammar.specs.Things.{Thing, run, line, word, cut, open_island, packet, close_island}
-use Rattle.listing.specs.Texts.{field, words_of}
+use Rattle.period_grammar.specs.Things.{Thing, run, line, word, open_island, packet, close_island}
+use Rattle.listing.specs.Texts.{words_of}
 use Rattle.listing.specs.Fields.{with_fields}
 
 -- lines without their line feeds, each with one behind it

@@ -24,4 +24,6 @@ pub use lister::LinkLister;
 pub use read::read_link;
 
 #[cfg(test)]
+mod content_tests;
+#[cfg(test)]
 mod tests;

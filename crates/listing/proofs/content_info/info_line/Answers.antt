@@ -1,4 +1,4 @@
-use Rattle.std.proofs.Common.{List, ℕ, ◌++◌, refl, sym, ap, ◌∙◌}
+use Rattle.std.proofs.Common.{List, ℕ, ◌++◌, sym, ap, ◌∙◌}
 use Rattle.std.specs.Prelude.{codes}
 use Rattle.listing.proofs.ContentCases.{as_avi, as_audio, as_spd, as_raw, no_some, raw_same}
 use Rattle.listing.proofs.content_info.info_line.Goals as goal

@@ -1,4 +1,4 @@
-use Rattle.std.proofs.Common.{List, ◌∷◌, [], ◌++◌, subst, sym, ap, ◌∙◌}
+use Rattle.std.proofs.Common.{◌∷◌, [], ◌++◌, subst, sym}
 use Rattle.period_grammar.specs.Lending.{fault_thing}
 use Rattle.period_grammar.specs.declared.told.Fault.{Fault}
 use Rattle.frame_build.specs.Event.{Event}

@@ -1,6 +1,5 @@
 use Rattle.std.proofs.Common.{refl, ◌∙◌, sym, ap}
-use Rattle.std.specs.Prelude.{Ok, Err}
-use Rattle.audio_packets.specs.declared.fault.AudioFault.TheVariants.{Uneven}
+use Rattle.std.specs.Prelude.{Err}
 use Rattle.listing.specs.ContentText.{clock_lines}
 use Rattle.listing.proofs.ContentAdding.{adds_as, adds_none}
 use Rattle.listing.proofs.content_lines.Lines.add_clock.Goals as goal

@@ -1,4 +1,4 @@
-use Rattle.std.proofs.Common.{refl, ap, ◌∙◌}
+use Rattle.std.proofs.Common.{refl}
 use Rattle.listing.specs.ContentText.{control_lines, control_words, depth_lines}
 use Rattle.listing.proofs.ContentAdding.{adds_both, adds_as}
 use Rattle.listing.proofs.content_lines.Lines.add_control.Goals as goal

@@ -1,4 +1,4 @@
-use Rattle.std.proofs.Common.{Bool, List, ℕ, true, false, [], ◌∷◌, refl, sym, ◌∙◌}
+use Rattle.std.proofs.Common.{Bool, true, false, [], ◌∷◌, refl, sym, ◌∙◌}
 use Rattle.std.specs.Prelude.{if◌then◌else◌, codes}
 use Rattle.listing.specs.Fields.{with_fields}
 use Rattle.listing.specs.ContentText.{depth_lines}

@@ -1,4 +1,4 @@
-use Rattle.std.proofs.Common.{Bool, true, false, List, ℕ, [], ◌∷◌, ◌++◌, Option, refl, sym, ap, ◌∙◌}
+use Rattle.std.proofs.Common.{Bool, true, false, ℕ, [], ◌∷◌, ◌++◌, Option, refl, sym, ap, ◌∙◌}
 use Rattle.std.specs.Prelude.{if◌then◌else◌, codes, Some, None}
 use Rattle.listing.specs.Fields.{with_fields}
 use Rattle.listing.specs.ContentText.{frame_lines, vic_lines}

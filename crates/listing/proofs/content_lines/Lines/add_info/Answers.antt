@@ -1,8 +1,7 @@
-use Rattle.std.proofs.Common.{refl, sym, ap, ◌∙◌, ℕ, List, ◌++◌}
-use Rattle.std.specs.Prelude.{Err, slice_index, codes}
-use Rattle.listing.specs.Fields.{with_fields}
-use Rattle.listing.specs.ContentText.{info_lines, checksum_words}
-use Rattle.listing.proofs.ContentAdding.{adds_as, adds_none}
+use Rattle.std.proofs.Common.{sym, ap, ◌∙◌, ℕ, List}
+use Rattle.std.specs.Prelude.{slice_index}
+use Rattle.listing.specs.ContentText.{info_lines}
+use Rattle.listing.proofs.ContentAdding.{adds_as}
 use Rattle.listing.proofs.ContentCases.{type_read, info_is_plain}
 use Rattle.listing.proofs.content_lines.Lines.add_info.Goals as goal
 

@@ -1,4 +1,4 @@
-use Rattle.std.proofs.Common.{refl, sym, ap, ◌∙◌}
+use Rattle.std.proofs.Common.{refl, sym}
 use Rattle.std.specs.Prelude.{Err}
 use Rattle.infoframe.specs.declared.content.InfoFault.{InfoFault}
 use Rattle.listing.specs.ContentText.{info_lines, checksum_words}

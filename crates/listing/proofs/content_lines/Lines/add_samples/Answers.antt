@@ -1,8 +1,7 @@
-use Rattle.std.proofs.Common.{List, [], ◌∷◌, ◌++◌, refl, sym, ap, subst, ◌∙◌, append-nil, length, arith}
-use Rattle.std.specs.Prelude.{Ok, Err}
+use Rattle.std.proofs.Common.{List, refl, sym, ap, subst, ◌∙◌, length}
+use Rattle.std.specs.Prelude.{Err}
 use Rattle.audio_packets.specs.Samples.{samples_of}
 use Rattle.audio_packets.specs.declared.sample.SampleNote.{SampleNote}
-use Rattle.audio_packets.specs.declared.fault.AudioFault.{AudioFault}
 use Rattle.listing.specs.ContentText.{sample_lines}
 use Rattle.listing.proofs.ContentAdding.{adds_as, adds_none}
 use Rattle.listing.proofs.ContentNotes.{Added, samples_short, added_none, added_more, all_added, room_for_one}
