@@ -1,5 +1,11 @@
 pub mod CheckedLine
 pub mod Exact
+pub mod ContentAdding
+pub mod ContentCases
+pub mod ContentHearing
+pub mod ContentKinds
+pub mod ContentNotes
+pub mod ContentWritten
 pub mod Feeds
 pub mod Given
 pub mod Islands

@@ -14,3 +14,8 @@ pub mod Growing
 pub mod Checks
 pub mod GrowingChecks
 pub mod Exact
+pub mod ContentText
+pub mod ContentSeen
+pub mod ContentAdded
+pub mod ContentTaken
+pub mod GrowingContent

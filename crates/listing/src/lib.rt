@@ -3,6 +3,11 @@
 
 mod checker;
 mod digits;
+mod content_info;
+mod content_lines;
+mod content_lister;
+mod content_packets;
+mod content_past;
 mod fault;
 mod form;
 pub mod laws;
@@ -14,10 +19,13 @@ mod read;
 mod reader;
 
 pub use checker::CheckLister;
+pub use content_lister::ContentLister;
 pub use fault::{ListCause, ListError, ListFault};
 pub use form::number;
 pub use lister::LinkLister;
 pub use read::read_link;
 
+#[cfg(test)]
+mod content_tests;
 #[cfg(test)]
 mod tests;

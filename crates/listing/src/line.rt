@@ -11,8 +11,8 @@ use arrayvec::ArrayVec;
 use island_pack::PacketRef;
 use period_grammar::Fault;
 
-/// Room for the longest, a packet's of 102 bytes.
-pub(crate) type Line = ArrayVec<u8, 128>;
+/// Room for the longest, an AVI InfoFrame's with its seventeen numbers.
+pub(crate) type Line = ArrayVec<u8, 192>;
 
 /// The line of a run of control columns.
 pub(crate) fn run_line(value: u8, count: u32) -> Line
@@ -81,10 +81,9 @@ pub(crate) fn fault_line(fault: Fault) -> Line
     }
 }
 
-/// A line of a name and numbers, at most three.
+/// A line of a name and numbers.
 pub(crate) fn fields_line(name: &[u8], numbers: &[u32]) -> Line
-    requires named { length name.now ≤ 12 }
-    requires few { length numbers.now ≤ 3 }
+    requires { length name.now + 11 * length numbers.now < 192 }
     ensures { result.items ≡ with_fields name.now numbers.now ++ codes "\n" }
 {
     let mut line = Line::new();
@@ -97,8 +96,8 @@ pub(crate) fn fields_line(name: &[u8], numbers: &[u32]) -> Line
 }
 
 /// Puts a space and a number's decimal digits.
-fn put_field(line: &mut Line, number: u32)
-    requires { array_vec_len line.old + 11 ≤ 128 }
+pub(crate) fn put_field(line: &mut Line, number: u32)
+    requires { array_vec_len line.old + 11 ≤ 192 }
     ensures items { line.new.items ≡ line.old.items ++ field number }
     ensures len { array_vec_len line.new ≤ array_vec_len line.old + 11 }
 {
@@ -107,14 +106,14 @@ fn put_field(line: &mut Line, number: u32)
     put(line, digits.format(number).as_bytes());
 }
 
-/// Puts the hexadecimal digits of at most seven bytes.
-fn put_hex(line: &mut Line, bytes: &[u8])
-    requires few { length bytes.now ≤ 7 }
-    requires room { array_vec_len line.old + 2 * length bytes.now ≤ 128 }
+/// Puts the hexadecimal digits of at most 27 bytes.
+pub(crate) fn put_hex(line: &mut Line, bytes: &[u8])
+    requires few { length bytes.now ≤ 27 }
+    requires room { array_vec_len line.old + 2 * length bytes.now ≤ 192 }
     ensures items { line.new.items ≡ line.old.items ++ encode_lower bytes.now }
     ensures len { array_vec_len line.new ≡ array_vec_len line.old + 2 * length bytes.now }
 {
-    let mut room = [0; 14];
+    let mut room = [0; 54];
     let digits = &mut room[..2 * bytes.len()];
     match hex::encode_to_slice(bytes, digits) {
         Ok(()) => put(line, digits),
@@ -123,9 +122,9 @@ fn put_hex(line: &mut Line, bytes: &[u8])
 }
 
 /// Puts the hexadecimal digits of at most seven bytes, and a space.
-fn put_bytes(line: &mut Line, bytes: &[u8])
+pub(crate) fn put_bytes(line: &mut Line, bytes: &[u8])
     requires few { length bytes.now ≤ 7 }
-    requires room { array_vec_len line.old + 15 ≤ 128 }
+    requires room { array_vec_len line.old + 15 ≤ 192 }
     ensures items { line.new.items ≡ line.old.items ++ (encode_lower bytes.now ++ codes " ") }
     ensures len { array_vec_len line.new ≤ array_vec_len line.old + 15 }
 {
@@ -136,7 +135,7 @@ fn put_bytes(line: &mut Line, bytes: &[u8])
 /// Puts a digit for each sync value.
 fn put_sync(line: &mut Line, values: &[u8])
     requires digits { All (λ digit. digit < 4) values.now }
-    requires room { array_vec_len line.old + length values.now ≤ 128 }
+    requires room { array_vec_len line.old + length values.now ≤ 192 }
     ensures items { line.new.items ≡ line.old.items ++ sync_digits values.now }
     ensures len { array_vec_len line.new ≡ array_vec_len line.old + length values.now }
 {
@@ -145,8 +144,9 @@ fn put_sync(line: &mut Line, values: &[u8])
     }
 }
 
-fn put(line: &mut Line, text: &[u8])
-    requires { array_vec_len line.old + length text.now ≤ 128 }
+/// Puts a text.
+pub(crate) fn put(line: &mut Line, text: &[u8])
+    requires { array_vec_len line.old + length text.now ≤ 192 }
     ensures items { line.new.items ≡ line.old.items ++ text.now }
     ensures len { array_vec_len line.new ≡ array_vec_len line.old + length text.now }
 {

@@ -76,7 +76,7 @@ impl<'a, K: Sink> Ear for LinkLister<'a, K> {
         match told {
             Told::Run { value, count } => write_short(self.sink, run_line(value, count)),
             Told::Line { pixels } => {
-                let size = encode_pixels(pixels, &mut self.pixel_line);
+                let size = encode_pixels(b"v ", pixels, &mut self.pixel_line);
                 write_line(self.sink, &self.pixel_line[..size])
             }
             Told::Open { sync } => write_short(self.sink, guard_line(b"i ", sync[0], sync[1])),
@@ -101,14 +101,16 @@ impl<'a, K: Sink> Ear for LinkLister<'a, K> {
 }
 
 /// Puts the line of pixels at the front of `line`, and says how long it is.
-fn encode_pixels(pixels: &[u8], line: &mut [u8; PIXEL_LINE]) -> usize
-    requires { length pixels.now ≤ 12288 }
-    ensures size { result ≡ 3 + 2 * length pixels.now }
-    ensures text { take result line.new ≡ codes "v " ++ encode_lower pixels.now ++ codes "\n" }
+pub(crate) fn encode_pixels(name: &[u8], pixels: &[u8], line: &mut [u8]) -> usize
+    requires { length name.now + 2 * length pixels.now < length line.old }
+    ensures size { result ≡ length name.now + 2 * length pixels.now + 1 }
+    ensures length { length line.new ≡ length line.old }
+    ensures text { take result line.new ≡ name.now ++ encode_lower pixels.now ++ codes "\n" }
 {
-    let end = 2 + 2 * pixels.len();
-    line[..2].copy_from_slice(b"v ");
-    match hex::encode_to_slice(pixels, &mut line[2..end]) {
+    let start = name.len();
+    let end = start + 2 * pixels.len();
+    line[..start].copy_from_slice(name);
+    match hex::encode_to_slice(pixels, &mut line[start..end]) {
         Ok(()) => {}
         Err(_) => unreachable!(),
     }

@@ -1,4 +1,4 @@
-use Rattle.std.proofs.Common.{◌≡◌, ◌+◌, ◌*◌, ◌≤◌, take}
+use Rattle.std.proofs.Common.{◌≡◌, ◌+◌, ◌*◌, ◌≤◌, length, take}
 use Rattle.arrayvec.specs.ArrayVec.{array_vec_len}
 use Rattle.listing.specs.Fields.{with_fields}
 use Rattle.listing.proofs.line.fields_line.Given as goal
@@ -6,5 +6,5 @@ use Rattle.listing.proofs.line.fields_line.Given as goal
 abbrev pub invariant-loop-number : goal.invariant-loop-number
 invariant-loop-number l = record {
   items : l.line.items ≡ with_fields l.fn.name (take l.number-index l.numbers);
-  room : array_vec_len l.line ≤ 12 + 11 * l.number-index;
+  room : array_vec_len l.line ≤ length l.name + 11 * l.number-index;
 }
