@@ -36,3 +36,9 @@ pub mod Prefixes
 pub mod Following
 pub mod Feeding
 pub mod Pieces
+pub mod Room
+pub mod Gaining
+pub mod FedLanes
+pub mod Opening
+pub mod Parts
+pub mod Behind
