@@ -3,6 +3,7 @@ use Rattle.std.proofs.Common.{◌≡◌, ℕ, suc, zero, ◌+◌, ◌-◌, ◌^�
 use Rattle.std.proofs.lemmas.List.{append-nil}
 use Rattle.tmds_word.specs.Column.{Column}
 use Rattle.tmds_word.specs.Words.{columns_of}
+use Rattle.lane_align.specs.Aligners.{fed_of}
 use Rattle.lane_deskew.specs.Searches.{HasGrown}
 use Rattle.lane_deskew.specs.Aligned.{aligned_columns}
 use Rattle.lane_deskew.specs.Pushed.{AreColumns, ready_of}
@@ -15,15 +16,16 @@ use Rattle.period_grammar.specs.Seen.{Seen}
 use Rattle.period_grammar.specs.Stands.{StandsFor as IsHearingOf}
 use Rattle.link_sink.specs.Alignment.{told_by}
 use Rattle.link_sink.specs.Telling.{told_of}
-use Rattle.link_sink.specs.Sinks.{Fed, IsToldSoFar, IsGain, IsLast}
+use Rattle.link_sink.specs.Sinks.{Fed, grown, IsToldSoFar, IsGain, IsLast}
 use Rattle.link_sink.specs.Progress.{columns_from}
-use Rattle.link_sink.specs.Received.{IsFoundAt, IsReceived}
+use Rattle.link_sink.specs.Received.{CanFeed, IsFoundAt, IsReceived, longest}
 use Rattle.link_sink.specs.Streams.{IsHeard, IsBehind}
 use Rattle.link_sink.specs.declared.hear.Outcome.{Outcome}
 use Rattle.link_sink.specs.declared.receiver.Receiver.{Receiver}
 use Rattle.link_sink.specs.declared.streaming.Stream.{Stream}
 use Rattle.link_sink.proofs.Growing.{told_none}
 use Rattle.link_sink.proofs.Listed.{few_columns}
+use Rattle.link_sink.proofs.Feeding.{length_grown}
 use Rattle.link_sink.proofs.Following.{gains, told_one}
 use Rattle.link_sink.proofs.Prefixes.{columns_grow_wide, front_and_rest}
 
@@ -151,3 +153,27 @@ pub ends_unheard : (s : Stream) (fed : Fed) → IsHeard s fed → s.outcome.alig
 ends_unheard s fed h aligned = λ told so_far.
     subst (λ b. told_by b fed.blue fed.green fed.red s.outcome.columns (told ++ [])) (sym aligned)
     (last_nowhere fed s.receiver.deskew.found s.outcome.columns h.received.found (sym h.aligned ∙ aligned) h.columns told so_far)
+
+-- A feed.
+
+-- after it the lanes have its bits, and the columns of them are not heard yet
+pub fed_behind : (s : Stream) (fed : Fed) (a b c : List ℕ) (bits : List ℕ) (r : Receiver) (aligned : Bool) → (h : IsHeard s fed) → CanFeed (fed_of s.receiver.team.first.aligner) (longest s.receiver.team) a (slice_index bits 0)
+    → ((f : Fed) (taken : ℕ) → IsReceived s.receiver f taken → IsReceived r (grown f a b c bits) taken) → aligned ≡ is_some r.deskew.found
+    → IsBehind (record { receiver = r; hearing = s.hearing; outcome = record { aligned = aligned; columns = s.outcome.columns } }) fed (grown fed a b c bits)
+fed_behind s fed a b c bits r aligned h can received is = record {
+  was = s.receiver.deskew.found;
+  found_was = h.received.found;
+  received = received fed (length (columns_from fed s.receiver.deskew.found)) h.received;
+  blue = (_, refl);
+  green = (_, refl);
+  red = (_, refl);
+  short =
+      let long = length_grown fed.blue (grown fed a b c bits).blue a (slice_index bits 0) can.bytes_given refl in
+      let was = h.received.first.aligner.fed in
+      let total = can.total in
+      omega (arith, long, was, total);
+  heard = h.heard;
+  goes_on = h.goes_on;
+  aligned = is;
+  columns = h.columns;
+}

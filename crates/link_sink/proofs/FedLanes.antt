@@ -1,6 +1,5 @@
 -- Three lanes that are fed: each may push what it gained, they are pushed evenly, and they stand for more bits.
-use Rattle.std.proofs.Common.{◌≡◌, ◌⊎◌, ℕ, ◌+◌, ◌<◌, ◌≤◌, max, Bool, true, false, nat_lt, ltb-true, List, length, take, refl, ap, sym, ◌∙◌, subst, arith, inl, inr, Option, Some, None, MatchOption}
-use Rattle.std.proofs.Math.Nat.{le-max_left, le-max_right, max-eq_left, max-eq_right}
+use Rattle.std.proofs.Common.{◌≡◌, ◌⊎◌, ℕ, ◌+◌, ◌≤◌, max, Bool, true, false, nat_lt, ltb-true, List, length, refl, ap, sym, ◌∙◌, subst, arith, inl, inr, Option, Some, None, MatchOption}
 use Rattle.std.proofs.lemmas.Bool.{lt-ltb, cases_lt}
 use Rattle.lane_align.specs.Aligners.{fed_of}
 use Rattle.lane_team.specs.Sides.{Side, Sides, HasTaken}

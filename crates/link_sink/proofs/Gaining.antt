@@ -1,13 +1,13 @@
 -- What a lane gains in a feed, and that it may push it.
-use Rattle.std.proofs.Common.{◌≡◌, ◌⊎◌, ℕ, suc, zero, ◌+◌, ◌/◌, ◌^◌, ◌<◌, ◌≤◌, Bool, true, false, List, ◌++◌, length, take, refl, ap, sym, ◌∙◌, subst, arith, inl, inr, Option, Some, None, MatchOption}
+use Rattle.std.proofs.Common.{◌≡◌, ◌⊎◌, ℕ, suc, zero, Bool, true, false, List, ◌++◌, length, take, refl, ap, sym, ◌∙◌, subst, arith, inl, inr, Option, Some, None, MatchOption}
 use Rattle.std.proofs.lemmas.List.{append-nil}
 use Rattle.tmds_word.specs.Bits.{bytes_bits}
-use Rattle.lane_align.specs.Lanes.{IsRun, IsLock, IsLockOf}
+use Rattle.lane_align.specs.Lanes.{IsRun, IsLockOf}
 use Rattle.lane_align.specs.Words.{lane_words}
 use Rattle.lane_align.specs.Aligners.{StandsFor as IsAlignerOf, Seeks, Cuts, fed_of, lock_of}
 use Rattle.lane_align.specs.declared.aligner.LaneAligner.{LaneAligner}
 use Rattle.lane_team.specs.Sides.{Side, HasTaken}
-use Rattle.lane_deskew.specs.Pushed.{Pushed, Past, more, change, pushed, over, StandsFor as IsDeskewOf, CanPush, kept_of}
+use Rattle.lane_deskew.specs.Pushed.{Pushed, Past, more, change, pushed, StandsFor as IsDeskewOf, CanPush}
 use Rattle.lane_deskew.specs.Fed.{IsCutFrom, AreGained, past_at}
 use Rattle.lane_deskew.specs.declared.deskew.Deskew.{Deskew}
 use Rattle.lane_deskew.proofs.Gained.{gained_pushed, gained_fit, none_gained}

@@ -1,10 +1,9 @@
 -- A receiver that was fed nothing, and the columns that one lends.
-use Rattle.std.proofs.Common.{◌≡◌, ℕ, ◌+◌, ◌<◌, ◌≤◌, max, min, cond, Bool, true, false, List, [], ◌∷◌, ◌++◌, length, drop, refl, ap, sym, ◌∙◌, subst, arith, inl, inr, Option, Some, None, MatchOption, slice_index}
+use Rattle.std.proofs.Common.{◌≡◌, ℕ, max, List, [], ◌∷◌, drop, refl, ap, sym, ◌∙◌, subst, inl, Option, Some, None}
 use Rattle.std.proofs.Math.Seq.{drop-nil}
 use Rattle.tmds_word.specs.Words.{columns_of}
-use Rattle.lane_align.specs.Aligners.{fed_of}
-use Rattle.lane_team.specs.Sides.{Side, Sides, IsFresh, AreFresh}
-use Rattle.lane_deskew.specs.Pushed.{Pushed, Past, no_words, no_past, past_columns, StandsFor as IsDeskewOf, AreColumns, ready_of}
+use Rattle.lane_team.specs.Sides.{Sides, AreFresh}
+use Rattle.lane_deskew.specs.Pushed.{Past, no_past, past_columns, StandsFor as IsDeskewOf, AreColumns, ready_of}
 use Rattle.lane_deskew.specs.Fed.{AreCutFrom}
 use Rattle.lane_deskew.specs.declared.deskew.Deskew.{Deskew}
 use Rattle.lane_deskew.specs.declared.Aligned.{Aligned}
@@ -14,7 +13,7 @@ use Rattle.lane_deskew.proofs.Growth.{none_of_nothing}
 use Rattle.link_sink.specs.Sinks.{Fed}
 use Rattle.link_sink.specs.Pieces.{no_bits}
 use Rattle.link_sink.specs.Progress.{columns_from}
-use Rattle.link_sink.specs.Received.{IsLane, IsFoundAt, IsReceived, longest}
+use Rattle.link_sink.specs.Received.{IsFoundAt, IsReceived, longest}
 use Rattle.link_sink.specs.declared.receiver.Receiver.{Receiver}
 
 none_fed : (team : Sides) → AreFresh team → longest team ≡ 0

@@ -1,5 +1,5 @@
 -- Columns that are lent as three slices and heard part after part.
-use Rattle.std.proofs.Common.{◌≡◌, ℕ, suc, zero, ◌+◌, ◌-◌, ◌<◌, ◌≤◌, List, [], ◌∷◌, ◌++◌, length, map, take, drop, refl, ap, sym, ◌∙◌, subst, arith, add-one, append_assoc, length-drop, slice_index_or}
+use Rattle.std.proofs.Common.{◌≡◌, ℕ, suc, zero, ◌+◌, ◌-◌, ◌<◌, ◌≤◌, List, [], ◌∷◌, ◌++◌, length, map, take, drop, ap, sym, ◌∙◌, arith, add-one, append_assoc, length-drop, slice_index_or}
 use Rattle.std.proofs.lemmas.List.{append-nil, take_all, take-append-drop}
 use Rattle.std.proofs.Math.Seq.{take-add}
 use Rattle.tmds_word.specs.Column.{Column}
@@ -8,7 +8,6 @@ use Rattle.lane_deskew.proofs.Consuming.{columns_drop}
 use Rattle.period_grammar.specs.Things.{Thing, thing_of}
 use Rattle.period_grammar.specs.Heard.{heard_so_far}
 use Rattle.period_grammar.proofs.While.{columns_here}
-use Rattle.link_sink.specs.Ears.{StopsIn}
 use Rattle.link_sink.specs.Telling.{told_of, TookMore, StoppedIn}
 use Rattle.link_sink.proofs.Listed.{columns_within}
 use Rattle.link_sink.proofs.Stops.{stops_after}

@@ -1,5 +1,5 @@
 -- How many characters are kept of a lane, by what was pushed.
-use Rattle.std.proofs.Common.{◌≡◌, ◌⊎◌, ℕ, suc, zero, ◌+◌, ◌-◌, ◌<◌, ◌≤◌, min, Bool, true, false, List, length, refl, ap, sym, ◌∙◌, subst, arith, inl, inr, length-drop, slice_index, Option, Some, None, MatchOption}
+use Rattle.std.proofs.Common.{◌≡◌, ◌⊎◌, ℕ, suc, zero, ◌-◌, ◌<◌, ◌≤◌, min, Bool, false, List, length, refl, ap, sym, ◌∙◌, arith, inl, inr, length-drop, slice_index, Option, Some, None, MatchOption}
 use Rattle.lane_deskew.specs.Keeping.{stored, limit}
 use Rattle.lane_deskew.specs.Pushed.{Pushed, Past, change, unconsumed, reach, Waits, Lends, Awaits, IsAligned, StandsFor, kept_of, ready_of}
 use Rattle.lane_deskew.specs.Fed.{past_at, AreCutFrom, IsFedTo}

@@ -35,3 +35,10 @@ IsGain before after things = (told : List Thing) → IsToldSoFar before told →
 -- what is told at the end: with it the lanes have told all
 abbrev pub IsLast : Fed → Outcome → List Thing → Type 0
 IsLast fed outcome things = (told : List Thing) → IsToldSoFar fed told → AreTold fed.blue fed.green fed.red outcome (told ++ things)
+
+-- of any bits something is told so far, and nothing else: neither their cutting into feeds nor a gate can matter
+abbrev pub SomeTold : Type 0
+SomeTold = (fed : Fed) → (things : List Thing) × IsToldSoFar fed things
+
+abbrev pub OneTold : Type 0
+OneTold = (fed : Fed) (us vs : List Thing) → IsToldSoFar fed us → IsToldSoFar fed vs → us ≡ vs

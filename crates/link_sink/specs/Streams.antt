@@ -1,5 +1,5 @@
 -- What a sink that streams stands for: the bits of three lanes that it was fed.
-use Rattle.std.specs.Prelude.{◌≡◌, ℕ, ◌^◌, ◌<◌, Bool, true, false, List, length, Option, is_some}
+use Rattle.std.specs.Prelude.{◌≡◌, ℕ, ◌^◌, ◌<◌, Bool, true, false, length, Option, is_some}
 use Rattle.lane_align.specs.Aligners.{fed_of}
 use Rattle.lane_team.specs.Sides.{side_at}
 use Rattle.lane_deskew.specs.Pushed.{ready_of}

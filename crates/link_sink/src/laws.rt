@@ -1,7 +1,8 @@
-//! What holds of columns that came with sparse damage. The functions do nothing: what they ensure are the laws.
+//! What holds of columns that came with sparse damage, and of what is told of bits. The functions do nothing: what they ensure are the laws.
 ghost use Rattle.link_sink.specs.Laws.{FramingStands, PeriodsStand, LinkLaw, EdgesEnd, FirstEnds, FirstUntil, TapAccounted, PayloadAccounted, OneWrongBit, HasExample, HasPayloadExample};
 ghost use Rattle.link_sink.specs.PeriodLaws.{ControlLaw, VideoLaw, IslandLaw, JoiningLaw};
 ghost use Rattle.link_sink.specs.Literal.{AccountLiteral};
+ghost use Rattle.link_sink.specs.Sinks.{SomeTold, OneTold};
 
 /// The control columns that came are those of the control periods, wherever damage lies.
 pub fn framing_stands()
@@ -86,4 +87,14 @@ pub fn has_payload_example()
 /// There are columns with damaged words in each kind of column, and a tap of them that is aligned before.
 pub fn has_example()
     ensures { HasExample }
+{}
+
+/// Of any bits of three lanes something is told so far.
+pub fn some_told()
+    ensures { SomeTold }
+{}
+
+/// Nothing else is: so neither the cutting of the bits into feeds nor a gate matters.
+pub fn one_told()
+    ensures { OneTold }
 {}

@@ -98,9 +98,13 @@ impl LinkSink {
             → OnErr result ((things : List Thing) × IsGain fed (grown fed a.now b.now c.now bits) things × StopsIn E.took E.broke ear.old ear.new things) }
         ensures cause { HasCause (E.faults ear.old) (E.faults ear.new) result }
     {
-        let fed = self.stream.feed(rt, a, b, c, bits, gate, ear);
-        self.is_open = fed.is_ok();
-        fed
+        match self.stream.feed(rt, a, b, c, bits, gate, ear) {
+            Ok(()) => Ok(()),
+            Err(failed) => {
+                self.is_open = false;
+                Err(failed)
+            }
+        }
     }
 
     /// Tells the ear what the end tells, and answers whether the lanes were aligned and how many columns they have. The

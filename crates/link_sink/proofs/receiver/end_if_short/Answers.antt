@@ -1,5 +1,5 @@
 use Rattle.std.proofs.Common.{subst}
-use Rattle.lane_deskew.specs.Pushed.{Past, StandsFor}
+use Rattle.lane_deskew.specs.Pushed.{StandsFor}
 use Rattle.link_sink.proofs.Gaining.{goes_on}
 use Rattle.link_sink.proofs.receiver.end_if_short.Goals as goal
 

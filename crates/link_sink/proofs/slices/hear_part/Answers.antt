@@ -1,9 +1,9 @@
-use Rattle.std.proofs.Common.{◌≡◌, ◌+◌, ◌++◌, ◌∷◌, [], List, length, take, drop, arith, sym, subst, ap, ◌∙◌, append_assoc}
+use Rattle.std.proofs.Common.{◌+◌, ◌++◌, List, length, take, drop, arith, sym, subst, ap, ◌∙◌, append_assoc}
 use Rattle.std.proofs.lemmas.List.{take-append-drop}
 use Rattle.tmds_word.specs.Column.{Column}
 use Rattle.tmds_word.specs.Words.{columns_of}
 use Rattle.period_grammar.specs.Stands.{StandsFor}
-use Rattle.link_sink.specs.Telling.{TookMore, StoppedIn}
+use Rattle.link_sink.specs.Telling.{StoppedIn}
 use Rattle.link_sink.proofs.Stops.{on_err}
 use Rattle.link_sink.proofs.Growing.{told_then, call_sized, took_next, stopped_next}
 use Rattle.link_sink.proofs.Parts.{took_quiet, next_column}

@@ -1,4 +1,4 @@
-use Rattle.std.proofs.Common.{◌≡◌, ◌+◌, ◌++◌, List, take, arith, sym, subst, ap, ◌∙◌, append_assoc, length, drop, ◌-◌, length-drop, length-take}
+use Rattle.std.proofs.Common.{◌++◌, List, take, arith, sym, subst, ap, ◌∙◌, append_assoc, length, drop, ◌-◌, length-drop, length-take}
 use Rattle.tmds_word.specs.Column.{Column}
 use Rattle.tmds_word.specs.Words.{columns_of}
 use Rattle.period_grammar.specs.Stands.{StandsFor}

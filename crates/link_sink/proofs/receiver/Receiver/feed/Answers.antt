@@ -1,7 +1,7 @@
-use Rattle.std.proofs.Common.{◌≡◌, ℕ, ◌+◌, ◌≤◌, max, nat_lt, List, length, refl, ap, sym, ◌∙◌, subst, arith, slice_index}
+use Rattle.std.proofs.Common.{◌≡◌, ◌≤◌, max, nat_lt, ap, ◌∙◌, arith, slice_index}
 use Rattle.std.proofs.Math.Nat.{le-max_left, le-max_right}
 use Rattle.lane_deskew.specs.Pushed.{change}
-use Rattle.link_sink.specs.Sinks.{Fed, grown}
+use Rattle.link_sink.specs.Sinks.{grown}
 use Rattle.link_sink.proofs.FedLanes.{may_first, may_second, may_third, fed_lane, AreFed, fed_past, are_even, longest_fed, now_received}
 use Rattle.link_sink.proofs.receiver.Receiver.feed.Goals as goal
 
@@ -33,7 +33,7 @@ push_gained-requires-3-clause-push g c =
       fed.red,
       _,
       may_third c.args.self.now fed _ _ c.args.c.now _ h c.requires.consumed c.requires.third c.feed_three.ensures.third c.push_gained-2.new.deskew one.0 two.0 one.1.ended two.1.ended
-      (c.push_gained-2.ensures.found ∙ c.push_gained.ensures.found) two.2,
+          (c.push_gained-2.ensures.found ∙ c.push_gained.ensures.found) two.2,
     )
 
 pub returns-clause-received : goal.returns-clause-received
