@@ -4,7 +4,8 @@ use Rattle.std.proofs.lemmas.List.{length-take-le}
 use Rattle.tmds_word.specs.Bits.{bytes_bits}
 use Rattle.tmds_word.proofs.Lists.{length-bytes_bits}
 use Rattle.period_grammar.specs.Things.{Thing}
-use Rattle.link_sink.specs.Sinks.{Fed, grown, IsGain, SinkSeen}
+use Rattle.link_sink.specs.Sinks.{Fed, IsGain}
+use Rattle.link_sink.specs.Rows.{grown_evenly, RowsSeen}
 use Rattle.link_sink.specs.Progress.{fed_of, AreEven, IsAsFar, HasCome, IsKept}
 use Rattle.link_sink.specs.declared.progress.Progress.{Progress}
 
@@ -43,15 +44,15 @@ still_even progress was now h = record { green = h.grown.green_length; red = h.g
 -- what is told more is told more of what was fed
 pub gain_fed : (was fed now : Fed) (a b c : List ℕ) (bits : ℕ) (things : List Thing) → was ≡ fed
     → now.blue ≡ was.blue ++ take bits (bytes_bits a) → now.green ≡ was.green ++ take bits (bytes_bits b) → now.red ≡ was.red ++ take bits (bytes_bits c)
-    → IsGain was now things → IsGain fed (grown fed a b c bits) things
+    → IsGain was now things → IsGain fed (grown_evenly fed a b c bits) things
 gain_fed was fed now a b c bits things e blue green red h =
-    let same : now ≡ grown was a b c bits = λ i. record { blue = blue i; green = green i; red = red i } in
-    subst (λ (f : Fed). IsGain f (grown f a b c bits) things) e (subst (λ (n : Fed). IsGain was n things) same h)
+    let same : now ≡ grown_evenly was a b c bits = λ i. record { blue = blue i; green = green i; red = red i } in
+    subst (λ (f : Fed). IsGain f (grown_evenly f a b c bits) things) e (subst (λ (n : Fed). IsGain was n things) same h)
 
 -- what a sink keeps, while it is open
-pub open_far : (is_open : Bool) (progress : Progress) (fed : Fed) (sink : SinkSeen) (bits : ℕ) → IsKept is_open progress fed
+pub open_far : (is_open : Bool) (progress : Progress) (fed : Fed) (sink : RowsSeen) (bits : ℕ) → IsKept is_open progress fed
     → record { fed = fed; bits = bits; is_open = is_open } ≡ sink → sink.is_open ≡ true → IsAsFar progress fed
-open_far is_open progress fed sink bits kept view is = kept.far (ap (λ (s : SinkSeen). s.is_open) view ∙ is)
+open_far is_open progress fed sink bits kept view is = kept.far (ap (λ (s : RowsSeen). s.is_open) view ∙ is)
 
 pub closed_kept : (progress : Progress) (fed : Fed) → AreEven fed → IsKept false progress fed
 closed_kept progress fed even = record { even = even; far = λ e. absurd cc }

@@ -37,3 +37,9 @@ pub mod Following
 pub mod Feeding
 pub mod Pieces
 pub mod exact
+pub mod Room
+pub mod Gaining
+pub mod FedLanes
+pub mod Opening
+pub mod Parts
+pub mod Behind

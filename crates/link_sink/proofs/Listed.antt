@@ -37,7 +37,7 @@ unfolding words_of
 length-words_of zero xs = refl
 length-words_of (suc n) xs = let e = length-words_of n (drop 10 xs) in omega (arith, e)
 
-columns_within : (bs gs rs : List ℕ) → length (columns_of bs gs rs) ≤ length bs
+pub columns_within : (bs gs rs : List ℕ) → length (columns_of bs gs rs) ≤ length bs
 unfolding columns_of
 columns_within [] gs rs = omega arith
 columns_within (b ∷ bs) [] rs = omega arith

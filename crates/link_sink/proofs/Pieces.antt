@@ -19,7 +19,8 @@ use Rattle.link_sink.specs.Alignment.{AreTold, IsAlignedTold}
 use Rattle.link_sink.specs.Ears.{StopsIn}
 use Rattle.link_sink.specs.Telling.{told_of}
 use Rattle.link_sink.specs.declared.hear.Outcome.{Outcome}
-use Rattle.link_sink.specs.Sinks.{Fed, grown, IsToldSoFar, IsGain, IsLast}
+use Rattle.link_sink.specs.Sinks.{Fed, IsToldSoFar, IsGain, IsLast}
+use Rattle.link_sink.specs.Rows.{grown_evenly}
 use Rattle.link_sink.specs.Pieces.{no_bits, front_of, AreGained, StopsInGain, EndsInGain}
 use Rattle.link_sink.specs.Progress.{AreEven}
 use Rattle.link_sink.proofs.Decided.{told_so_far}
@@ -59,7 +60,7 @@ piece_bits xs from bits size within fits =
 
 -- so the lanes have grown by the next piece
 pub front_next : (fed : Fed) (from bits size : ℕ) → AreEven fed → from + bits ≤ length fed.blue → bits ≤ 8 * size
-    → grown (front_of from fed) (bytes_of size (number fed.blue / 2 ^ from)) (bytes_of size (number fed.green / 2 ^ from)) (bytes_of size (number fed.red / 2 ^ from)) bits
+    → grown_evenly (front_of from fed) (bytes_of size (number fed.blue / 2 ^ from)) (bytes_of size (number fed.green / 2 ^ from)) (bytes_of size (number fed.red / 2 ^ from)) bits
     ≡ front_of (from + bits) fed
 front_next fed from bits size even within fits =
     let blue = piece_bits fed.blue from bits size within fits in
@@ -102,7 +103,7 @@ take_bytes_of (suc k) (suc n) m le = ap (λ bs. m % 256 ∷ bs) (take_bytes_of k
 -- a piece of three lanes comes
 pub piece_next : (fed : Fed) (j bits size : ℕ) (a b c : List ℕ) → AreEven fed → 32768 * j < length fed.blue → bits ≡ min (length fed.blue - 32768 * j) 32768 → size ≡ (bits + 7) / 8
     → a ≡ bytes_of 4096 (number fed.blue / 2 ^ (32768 * j)) → b ≡ bytes_of 4096 (number fed.green / 2 ^ (32768 * j)) → c ≡ bytes_of 4096 (number fed.red / 2 ^ (32768 * j))
-    → grown (front_of (32768 * j) fed) (take size a) (take size b) (take size c) bits ≡ front_of (32768 * (j + 1)) fed
+    → grown_evenly (front_of (32768 * j) fed) (take size a) (take size b) (take size c) bits ≡ front_of (32768 * (j + 1)) fed
 piece_next fed j bits size a b c even some few long blue green red =
     let from = 32768 * j in
     let most = min-le_right (length fed.blue - from) 32768 in
@@ -110,7 +111,7 @@ piece_next fed j bits size a b c even some few long blue green red =
     let fits : bits ≤ 8 * size = omega (arith, long) in
     let small : size ≤ 4096 = omega (arith, long, few, most) in
     let next : from + 32768 ≡ 32768 * (j + 1) = omega arith in
-    (λ i. grown (front_of from fed)
+    (λ i. grown_evenly (front_of from fed)
     ((ap (take size) blue ∙ take_bytes_of size 4096 (number fed.blue / 2 ^ from) small) i)
     ((ap (take size) green ∙ take_bytes_of size 4096 (number fed.green / 2 ^ from) small) i)
     ((ap (take size) red ∙ take_bytes_of size 4096 (number fed.red / 2 ^ from) small) i) bits)

@@ -1,5 +1,5 @@
 -- What a sink is fed, what it tells more at each feed, and what it tells at the end.
-use Rattle.std.specs.Prelude.{◌≡◌, ◌⊎◌, ℕ, Bool, List, [], ◌++◌, map, take}
+use Rattle.std.specs.Prelude.{◌≡◌, ◌⊎◌, ℕ, Bool, List, [], ◌++◌, map, take, slice_index}
 use Rattle.tmds_word.specs.Bits.{bytes_bits}
 use Rattle.lane_deskew.specs.Triples.{IsTriple, IsFirst}
 use Rattle.lane_deskew.specs.Aligned.{aligned_columns}
@@ -20,12 +20,12 @@ IsToldSoFar fed things =
     ((d e f : ℕ) × IsFirst fed.blue fed.green fed.red d e f × (things ≡ map thing_of (heard_so_far (aligned_columns fed.blue fed.green fed.red d e f))))
     ⊎ (((d e f : ℕ) → IsTriple fed.blue fed.green fed.red d e f → ⊥) × (things ≡ []))
 
--- lanes after so many bits of bytes more
-abbrev pub grown : Fed → List ℕ → List ℕ → List ℕ → ℕ → Fed
+-- lanes after bits of bytes more, so many of each, those of lane 0 first
+abbrev pub grown : Fed → List ℕ → List ℕ → List ℕ → List ℕ → Fed
 grown fed a b c bits = record {
-  blue = fed.blue ++ take bits (bytes_bits a);
-  green = fed.green ++ take bits (bytes_bits b);
-  red = fed.red ++ take bits (bytes_bits c);
+  blue = fed.blue ++ take (slice_index bits 0) (bytes_bits a);
+  green = fed.green ++ take (slice_index bits 1) (bytes_bits b);
+  red = fed.red ++ take (slice_index bits 2) (bytes_bits c);
 }
 
 -- what is told more
@@ -36,12 +36,9 @@ IsGain before after things = (told : List Thing) → IsToldSoFar before told →
 abbrev pub IsLast : Fed → Outcome → List Thing → Type 0
 IsLast fed outcome things = (told : List Thing) → IsToldSoFar fed told → AreTold fed.blue fed.green fed.red outcome (told ++ things)
 
--- what contracts see of a sink
-pub record SinkSeen : Type 0 where
-  pub fed : Fed
-  pub bits : ℕ
-  pub is_open : Bool
+-- of any bits something is told so far, and nothing else: neither their cutting into feeds nor a gate can matter
+abbrev pub SomeTold : Type 0
+SomeTold = (fed : Fed) → (things : List Thing) × IsToldSoFar fed things
 
--- a sink stands for the bits that it was fed
-abbrev pub StandsFor : SinkSeen → Fed → Type 0
-StandsFor sink fed = sink.fed ≡ fed
+abbrev pub OneTold : Type 0
+OneTold = (fed : Fed) (us vs : List Thing) → IsToldSoFar fed us → IsToldSoFar fed vs → us ≡ vs

@@ -7,10 +7,12 @@ ghost use Rattle.link_sink.specs.Ears.{StopsIn};
 ghost use Rattle.link_sink.specs.Alignment.{AreTold};
 ghost use Rattle.link_sink.specs.Pieces.{no_bits, front_of, AreGained, StopsInGain, EndsInGain};
 ghost use Rattle.link_sink.specs.Progress.{fed_of, AreEven};
-ghost use Rattle.link_sink.specs.Sinks.{IsToldSoFar, StandsFor};
+ghost use Rattle.link_sink.specs.Sinks.{IsToldSoFar};
+ghost use Rattle.link_sink.specs.Rows.{HaveRows};
 ghost use Rattle.link_sink.specs.declared.hear.FeedFault.TheVariants.{Ear as EarFailed, Memory};
 
-use crate::{Ear, LinkSink};
+use crate::Ear;
+use crate::row_sink::RowSink;
 use std::alloc::Global;
 use tmds_word::BitRow;
 
@@ -57,7 +59,7 @@ pub fn hear_lanes<E: Ear>(
     ensures caused { result ≡ Err EarFailed → Rose (E.faults ear.old) (E.faults ear.new) }
     ensures later { E.faults ear.old ≤ E.faults ear.new }
 {
-    let Ok(mut sink) = LinkSink::with_capacity(alloc, a.len()) else {
+    let Ok(mut sink) = RowSink::with_capacity(alloc, a.len()) else {
         return Err(FeedFault::Memory);
     };
     feed_rows(&mut sink, a, b, c, ear)?;
@@ -69,7 +71,7 @@ pub fn hear_lanes<E: Ear>(
 
 /// Feeds a sink all bits of three rows, piece after piece.
 fn feed_rows<E: Ear>(
-    sink: &mut LinkSink,
+    sink: &mut RowSink,
     a: &BitRow,
     b: &BitRow,
     c: &BitRow,
@@ -77,10 +79,10 @@ fn feed_rows<E: Ear>(
 ) -> Result<(), FeedFault>
     requires open { sink.old.is_open ≡ true }
     requires empty { sink.old.bits ≡ 0 }
-    requires fed { StandsFor sink.old no_bits }
+    requires fed { HaveRows sink.old no_bits }
     requires even { AreEven (fed_of a.now b.now c.now) }
     ensures open { OnOk result (sink.new.is_open ≡ true) }
-    ensures fed { OnOk result (StandsFor sink.new (fed_of a.now b.now c.now)) }
+    ensures fed { OnOk result (HaveRows sink.new (fed_of a.now b.now c.now)) }
     ensures told { OnOk result (AreGained E.took no_bits (fed_of a.now b.now c.now) ear.old ear.new) }
     ensures stopped { result ≡ Err EarFailed → StopsInGain E.took E.broke no_bits (fed_of a.now b.now c.now) ear.old ear.new }
     ensures memory { result ≡ Err Memory → EndsInGain E.took no_bits (fed_of a.now b.now c.now) ear.old ear.new }
@@ -95,7 +97,7 @@ fn feed_rows<E: Ear>(
 
 /// Feeds a sink piece `j` of three rows, where it was fed the pieces before.
 fn feed_piece<E: Ear>(
-    sink: &mut LinkSink,
+    sink: &mut RowSink,
     a: &BitRow,
     b: &BitRow,
     c: &BitRow,
@@ -105,11 +107,11 @@ fn feed_piece<E: Ear>(
     requires some { 32768 * j < length a.now }
     requires open { sink.old.is_open ≡ true }
     requires bits { sink.old.bits ≡ 32768 * j }
-    requires fed { StandsFor sink.old (front_of (32768 * j) (fed_of a.now b.now c.now)) }
+    requires fed { HaveRows sink.old (front_of (32768 * j) (fed_of a.now b.now c.now)) }
     requires even { AreEven (fed_of a.now b.now c.now) }
     ensures open { OnOk result (sink.new.is_open ≡ true) }
     ensures bits { OnOk result (sink.new.bits ≡ min (length a.now) (32768 * (j + 1))) }
-    ensures fed { OnOk result (StandsFor sink.new (front_of (32768 * (j + 1)) (fed_of a.now b.now c.now))) }
+    ensures fed { OnOk result (HaveRows sink.new (front_of (32768 * (j + 1)) (fed_of a.now b.now c.now))) }
     ensures told { OnOk result (AreGained E.took (front_of (32768 * j) (fed_of a.now b.now c.now)) (front_of (32768 * (j + 1)) (fed_of a.now b.now c.now)) ear.old ear.new) }
     ensures stopped { result ≡ Err EarFailed
         → StopsInGain E.took E.broke (front_of (32768 * j) (fed_of a.now b.now c.now)) (front_of (32768 * (j + 1)) (fed_of a.now b.now c.now)) ear.old ear.new }

@@ -1,9 +1,10 @@
-//! What holds of columns that came with sparse damage, and of columns of which no fault is told. The functions do nothing:
+//! What holds of columns that came with sparse damage, and of what is told of bits. The functions do nothing: what they ensure are the laws.
 //! what they ensure are the laws.
 ghost use Rattle.link_sink.specs.Laws.{FramingStands, PeriodsStand, LinkLaw, EdgesEnd, FirstEnds, FirstUntil, TapAccounted, PayloadAccounted, OneWrongBit, HasExample, HasPayloadExample};
 ghost use Rattle.link_sink.specs.PeriodLaws.{ControlLaw, VideoLaw, IslandLaw, JoiningLaw};
 ghost use Rattle.link_sink.specs.Literal.{AccountLiteral};
 ghost use Rattle.link_sink.specs.Exact.{CleanIsFront, FrontIsClean, CheckIsExact};
+ghost use Rattle.link_sink.specs.Sinks.{SomeTold, OneTold};
 
 /// The control columns that came are those of the control periods, wherever damage lies.
 pub fn framing_stands()
@@ -105,4 +106,14 @@ pub fn front_is_clean()
 /// lane 0 in packet columns, which is not judged.
 pub fn check_is_exact()
     ensures { CheckIsExact }
+{}
+
+/// Of any bits of three lanes something is told so far.
+pub fn some_told()
+    ensures { SomeTold }
+{}
+
+/// Nothing else is: so neither the cutting of the bits into feeds nor a gate matters.
+pub fn one_told()
+    ensures { OneTold }
 {}

@@ -1,68 +1,61 @@
-//! A sink of the bits of three lanes, which come in pieces.
-ghost use Rattle.std.specs.Prelude.{◌≡◌, ◌≤◌, ◌<◌, ◌+◌, ◌/◌, ◌^◌, ◌++◌, ℕ, List, Bool, [], true, false, length, take, Err, IfOk, OnOk, OnErr};
-ghost use Rattle.outside_io.specs.Causes.{Rose, HasCause};
-ghost use Rattle.tmds_word.specs.Bits.{bytes_bits};
+//! A sink of the bits of three lanes, which come feed after feed. It keeps none of them.
+ghost use Rattle.std.specs.Prelude.{◌≡◌, ◌+◌, List, true, false, IfOk, OnOk, OnErr, slice_index};
+ghost use Rattle.outside_io.specs.Causes.{HasCause};
 ghost use Rattle.period_grammar.specs.Things.{Thing};
 ghost use Rattle.link_sink.specs.Ears.{StopsIn};
-ghost use Rattle.link_sink.specs.Sinks.{Fed, grown, IsGain, IsLast, StandsFor};
-ghost use Rattle.link_sink.specs.declared.hear.FeedFault.TheVariants.{Ear as EarFailed, Memory};
+ghost use Rattle.link_sink.specs.Sinks.{Fed, grown, IsGain, IsLast};
+ghost use Rattle.link_sink.specs.Pieces.{no_bits};
+ghost use Rattle.link_sink.specs.Received.{CanFeed};
+ghost use Rattle.link_sink.specs.Streams.{StandsFor, bits_of, most_bits};
 
 use crate::Ear;
-use crate::hear::{FeedFault, Outcome};
-use crate::progress::Progress;
+use crate::hear::Outcome;
+use crate::streaming::Stream;
+use lane_team::Gate;
 use outside_io::{Failed, NoMemory};
 use std::alloc::Global;
 use std::marker::Model;
-use tmds_word::BitRow;
+use std::thread::Threads;
 
-/// Hears three lanes whose bits come in pieces, and tells an ear what they say. Until it is aligned it
-/// looks for the first full alignment; all bits are kept.
+/// Hears three lanes whose bits come feed after feed, and tells an ear what they say from their first full alignment on.
+/// It has taken all its memory when it is opened.
 #[derive(Drop)]
 pub struct LinkSink {
-    blue: BitRow,
-    green: BitRow,
-    red: BitRow,
-    progress: Progress,
+    stream: Stream,
     is_open: bool,
 }
 
 impl Model for LinkSink {
-    ghost use Rattle.std.specs.Prelude.{length};
-    ghost use Rattle.link_sink.specs.Sinks.{SinkSeen};
-    ghost use Rattle.link_sink.specs.Progress.{fed_of, IsKept};
+    ghost use Rattle.link_sink.specs.Streams.{SinkSeen, IsKept};
 
     ghost Value = { SinkSeen };
 
-    ghost view = { λ s. record { fed = fed_of s.blue s.green s.red; bits = length s.blue; is_open = s.is_open } };
+    ghost view = { λ s. record { stream = s.stream; is_open = s.is_open } };
 
-    ghost invariant = { λ s. IsKept s.is_open s.progress (fed_of s.blue s.green s.red) };
+    ghost invariant = { λ s. IsKept s.is_open s.stream };
 }
 
 impl LinkSink {
-    /// A sink that was fed no bits. It keeps the allocator for its growth.
+    /// A sink that was fed no bits, with all memory that it ever has.
     pub fn open(alloc: Global) -> Result<LinkSink, NoMemory>
         ensures open { IfOk result (λ s. s.is_open ≡ true) }
-        ensures bits { IfOk result (λ s. s.bits ≡ 0) }
-        ensures fed { IfOk result (λ s. StandsFor s (record { blue = []; green = []; red = [] })) }
+        ensures fed { IfOk result (λ s. StandsFor s no_bits) }
+        ensures bits { IfOk result (λ s. most_bits s ≡ 0) }
     {
-        LinkSink::with_capacity(alloc, 0)
-    }
-
-    /// A sink that was fed no bits, with room for as many bits of each lane as are asked for. It keeps the allocator
-    /// for its growth.
-    pub fn with_capacity(alloc: Global, bits: u32) -> Result<LinkSink, NoMemory>
-        ensures open { IfOk result (λ s. s.is_open ≡ true) }
-        ensures bits { IfOk result (λ s. s.bits ≡ 0) }
-        ensures fed { IfOk result (λ s. StandsFor s (record { blue = []; green = []; red = [] })) }
-    {
-        let progress = Progress::open(alloc)?;
         Ok(LinkSink {
-            blue: BitRow::with_capacity(alloc, bits)?,
-            green: BitRow::with_capacity(alloc, bits)?,
-            red: BitRow::with_capacity(alloc, bits)?,
-            progress,
+            stream: Stream::open(alloc)?,
             is_open: true,
         })
+    }
+
+    /// Makes it as after `open`, also where it is spent or finished.
+    pub fn restart(&mut self)
+        ensures open { self.new.is_open ≡ true }
+        ensures fed { StandsFor self.new no_bits }
+        ensures bits { most_bits self.new ≡ 0 }
+    {
+        self.stream.restart();
+        self.is_open = true;
     }
 
     /// Whether it is neither spent nor finished.
@@ -72,67 +65,54 @@ impl LinkSink {
         self.is_open
     }
 
-    /// How many bits each lane was fed.
-    pub fn bits(&self) -> u32
-        ensures { result ≡ self.now.bits }
-    {
-        self.blue.len()
-    }
-
-    /// Takes so many bits of each lane, bit `i` being bit `i % 8` of byte `i / 8`, and tells the ear what
-    /// they decide.
+    /// Takes bits of each lane, each lane its own number of them, and tells the ear what they decide: bit i is bit
+    /// `i % 8` of byte `i / 8`. A worker of each lane passes the gate. Of a lane that had fewer bits than another no more
+    /// come.
     ///
     /// # Errors
     ///
-    /// `Ear` where a call of the ear failed; the sink is then spent. `Memory`: the sink is as before, and
-    /// nothing was told.
-    pub fn feed<E: Ear>(
+    /// Where a call of the ear failed; the sink is then spent.
+    pub fn feed<R: Threads, E: Ear, G: Gate>(
         &mut self,
+        rt: &R,
         a: &[u8],
         b: &[u8],
         c: &[u8],
-        bits: u32,
+        bits: [u32; 3],
+        gate: &G,
         ear: &mut E,
-    ) -> Result<(), FeedFault>
+    ) -> Result<(), Failed>
         requires open { self.old.is_open ≡ true }
-        requires few { bits ≤ 32768 }
-        requires sizes { (length a.now ≡ (bits + 7) / 8) × (length b.now ≡ (bits + 7) / 8) × (length c.now ≡ (bits + 7) / 8) }
-        requires room { self.old.bits + bits < 2 ^ 32 }
+        requires first { CanFeed (bits_of self.old 0) (most_bits self.old) a.now (slice_index bits 0) }
+        requires second { CanFeed (bits_of self.old 1) (most_bits self.old) b.now (slice_index bits 1) }
+        requires third { CanFeed (bits_of self.old 2) (most_bits self.old) c.now (slice_index bits 2) }
         ensures open { OnOk result (self.new.is_open ≡ true) }
-        ensures bits { OnOk result (self.new.bits ≡ self.old.bits + bits) }
+        ensures first { OnOk result (bits_of self.new 0 ≡ bits_of self.old 0 + slice_index bits 0) }
+        ensures second { OnOk result (bits_of self.new 1 ≡ bits_of self.old 1 + slice_index bits 1) }
+        ensures third { OnOk result (bits_of self.new 2 ≡ bits_of self.old 2 + slice_index bits 2) }
         ensures fed { (fed : Fed) → StandsFor self.old fed → OnOk result (StandsFor self.new (grown fed a.now b.now c.now bits)) }
         ensures told { (fed : Fed) → StandsFor self.old fed
             → OnOk result ((things : List Thing) × IsGain fed (grown fed a.now b.now c.now bits) things × E.took ear.old ear.new things) }
-        ensures spent { result ≡ Err EarFailed → self.new.is_open ≡ false }
-        ensures stopped { (fed : Fed) → StandsFor self.old fed → result ≡ Err EarFailed
-            → (things : List Thing) × IsGain fed (grown fed a.now b.now c.now bits) things × StopsIn E.took E.broke ear.old ear.new things }
-        ensures memory { result ≡ Err Memory → (self.new ≡ self.old) × E.took ear.old ear.new [] }
-        ensures caused { result ≡ Err EarFailed → Rose (E.faults ear.old) (E.faults ear.new) }
-        ensures later { E.faults ear.old ≤ E.faults ear.new }
+        ensures spent { OnErr result (self.new.is_open ≡ false) }
+        ensures stopped { (fed : Fed) → StandsFor self.old fed
+            → OnErr result ((things : List Thing) × IsGain fed (grown fed a.now b.now c.now bits) things × StopsIn E.took E.broke ear.old ear.new things) }
+        ensures cause { HasCause (E.faults ear.old) (E.faults ear.new) result }
     {
-        let Ok(()) = grow(
-            &mut self.blue,
-            &mut self.green,
-            &mut self.red,
-            a,
-            b,
-            c,
-            bits,
-        ) else {
-            return Err(FeedFault::Memory);
-        };
-        let heard = self.progress.go_on(&self.blue, &self.green, &self.red, ear);
-        match heard {
+        match self.stream.feed(rt, a, b, c, bits, gate, ear) {
             Ok(()) => Ok(()),
-            Err(_) => {
+            Err(failed) => {
                 self.is_open = false;
-                Err(FeedFault::Ear)
+                Err(failed)
             }
         }
     }
 
-    /// Tells the ear what the end tells, and answers whether the lanes were aligned and how many columns
-    /// they have.
+    /// Tells the ear what the end tells, and answers whether the lanes were aligned and how many columns they have. The
+    /// sink is then finished.
+    ///
+    /// # Errors
+    ///
+    /// Where a call of the ear failed.
     pub fn finish<E: Ear>(&mut self, ear: &mut E) -> Result<Outcome, Failed>
         requires open { self.old.is_open ≡ true }
         ensures closed { self.new.is_open ≡ false }
@@ -143,38 +123,6 @@ impl LinkSink {
         ensures cause { HasCause (E.faults ear.old) (E.faults ear.new) result }
     {
         self.is_open = false;
-        self.progress.finish(ear)
+        self.stream.finish(ear)
     }
-}
-
-/// Appends bits to three rows. After a refusal the rows are as before.
-fn grow(
-    blue: &mut BitRow,
-    green: &mut BitRow,
-    red: &mut BitRow,
-    a: &[u8],
-    b: &[u8],
-    c: &[u8],
-    bits: u32,
-) -> Result<(), NoMemory>
-    requires even { (length green.old ≡ length blue.old) × (length red.old ≡ length blue.old) }
-    requires sizes { (length a.now ≡ (bits + 7) / 8) × (length b.now ≡ (bits + 7) / 8) × (length c.now ≡ (bits + 7) / 8) }
-    requires room { length blue.old + bits < 2 ^ 32 }
-    ensures blue { OnOk result (blue.new ≡ blue.old ++ take bits (bytes_bits a.now)) }
-    ensures green { OnOk result (green.new ≡ green.old ++ take bits (bytes_bits b.now)) }
-    ensures red { OnOk result (red.new ≡ red.old ++ take bits (bytes_bits c.now)) }
-    ensures err { OnErr result ((blue.new ≡ blue.old) × (green.new ≡ green.old) × (red.new ≡ red.old)) }
-{
-    let before = blue.len();
-    blue.push_bits(a, bits)?;
-    if let Err(refusal) = green.push_bits(b, bits) {
-        blue.truncate(before);
-        return Err(refusal);
-    }
-    if let Err(refusal) = red.push_bits(c, bits) {
-        blue.truncate(before);
-        green.truncate(before);
-        return Err(refusal);
-    }
-    Ok(())
 }

@@ -1,5 +1,5 @@
 use Rattle.link_sink.proofs.Feeding.{empty_far, open_kept}
-use Rattle.link_sink.proofs.sink.LinkSink.with_capacity.Goals as goal
+use Rattle.link_sink.proofs.row_sink.RowSink.with_capacity.Goals as goal
 
 pub invariant_of-result : goal.invariant_of-result
 invariant_of-result c =

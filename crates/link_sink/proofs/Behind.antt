@@ -1,0 +1,179 @@
+-- A stream whose lanes have more bits than were heard, and what it tells of them.
+use Rattle.std.proofs.Common.{◌≡◌, ℕ, suc, zero, ◌+◌, ◌-◌, ◌^◌, ◌<◌, ◌≤◌, Bool, true, false, List, [], ◌∷◌, ◌++◌, length, drop, refl, ap, sym, ◌∙◌, subst, arith, inl, inr, Option, Some, None, is_some, slice_index, length-append}
+use Rattle.std.proofs.lemmas.List.{append-nil}
+use Rattle.tmds_word.specs.Column.{Column}
+use Rattle.tmds_word.specs.Words.{columns_of}
+use Rattle.lane_align.specs.Aligners.{fed_of}
+use Rattle.lane_deskew.specs.Searches.{HasGrown}
+use Rattle.lane_deskew.specs.Aligned.{aligned_columns}
+use Rattle.lane_deskew.specs.Pushed.{AreColumns, ready_of}
+use Rattle.lane_deskew.specs.declared.Aligned.{Aligned}
+use Rattle.lane_deskew.proofs.Fed.{first_stays_wide}
+use Rattle.lane_deskew.proofs.First.{one_first}
+use Rattle.period_grammar.specs.Things.{Thing}
+use Rattle.period_grammar.specs.Heard.{heard}
+use Rattle.period_grammar.specs.Seen.{Seen}
+use Rattle.period_grammar.specs.Stands.{StandsFor as IsHearingOf}
+use Rattle.link_sink.specs.Alignment.{told_by}
+use Rattle.link_sink.specs.Telling.{told_of}
+use Rattle.link_sink.specs.Sinks.{Fed, grown, IsToldSoFar, IsGain, IsLast}
+use Rattle.link_sink.specs.Progress.{columns_from}
+use Rattle.link_sink.specs.Received.{CanFeed, IsFoundAt, IsReceived, longest}
+use Rattle.link_sink.specs.Streams.{IsHeard, IsBehind}
+use Rattle.link_sink.specs.declared.hear.Outcome.{Outcome}
+use Rattle.link_sink.specs.declared.receiver.Receiver.{Receiver}
+use Rattle.link_sink.specs.declared.streaming.Stream.{Stream}
+use Rattle.link_sink.proofs.Growing.{told_none}
+use Rattle.link_sink.proofs.Listed.{few_columns}
+use Rattle.link_sink.proofs.Feeding.{length_grown}
+use Rattle.link_sink.proofs.Following.{gains, told_one}
+use Rattle.link_sink.proofs.Prefixes.{columns_grow_wide, front_and_rest}
+
+-- what lanes tell is what is told of their columns
+pub told_at : (fed : Fed) (at : Option Aligned) → IsFoundAt fed at → IsToldSoFar fed (told_of (columns_from fed at))
+unfolding told_of
+told_at fed (Some at) h = inl (_, _, _, h, refl)
+told_at fed None h = inr (h, told_none)
+
+-- the columns of lanes lie in front of those of the grown lanes
+more_columns : (before now : Fed) (was is : Option Aligned) → IsFoundAt before was → IsFoundAt now is → HasGrown before.blue now.blue → HasGrown before.green now.green → HasGrown before.red now.red
+    → (more : List Column) × (columns_from now is ≡ columns_from before was ++ more)
+more_columns before now None is none found blue green red = (columns_from now is, refl)
+more_columns before now (Some at) None first none blue green red = absurd (none _ _ _ (first_stays_wide _ _ _ _ _ _ _ _ _ blue green red first).triple)
+more_columns before now (Some at) (Some here) first found blue green red =
+    let same = one_first _ _ _ _ _ _ _ _ _ found (first_stays_wide _ _ _ _ _ _ _ _ _ blue green red first) in
+    let more = columns_grow_wide _ _ _ _ _ _ (slice_index at.edges 0) (slice_index at.edges 1) (slice_index at.edges 2) blue green red in
+    (more.0, (λ i. aligned_columns now.blue now.green now.red (same.0 i) (same.1 i) (same.2 i)) ∙ more.1)
+
+-- the columns that a receiver lends are those that were not heard
+pub lent_rest : (s : Stream) (before now : Fed) (lent : List Column) → (h : IsBehind s before now)
+    → ((fed : Fed) (taken : ℕ) → IsReceived s.receiver fed taken → lent ≡ drop taken (columns_from fed s.receiver.deskew.found))
+    → columns_from before h.was ++ lent ≡ columns_from now s.receiver.deskew.found
+lent_rest s before now lent h is =
+    let cs = columns_from before h.was in
+    ap (λ ds. cs ++ ds) (is now (length cs) h.received)
+    ∙ front_and_rest cs (columns_from now s.receiver.deskew.found) (more_columns before now h.was s.receiver.deskew.found h.found_was h.received.found h.blue h.green h.red)
+
+columns_length : (a b c : List ℕ) (n : ℕ) → length a ≡ n → length b ≡ n → length c ≡ n → length (columns_of a b c) ≡ n
+unfolding columns_of
+columns_length [] b c n la lb lc = la
+columns_length (x ∷ a) [] c n la lb lc = absurd (omega (arith, la, lb))
+columns_length (x ∷ a) (y ∷ b) [] n la lb lc = absurd (omega (arith, la, lc))
+columns_length (x ∷ a) (y ∷ b) (z ∷ c) zero la lb lc = absurd (omega (arith, la))
+columns_length (x ∷ a) (y ∷ b) (z ∷ c) (suc n) la lb lc = let e = columns_length a b c n (omega (arith, la)) (omega (arith, lb)) (omega (arith, lc)) in omega (arith, e)
+
+few_now : (fed : Fed) (o : Option Aligned) → length fed.blue < 2 ^ 32 → length (columns_from fed o) ≤ 429496730
+few_now fed None short = omega arith
+few_now fed (Some at) short = few_columns fed.blue fed.green fed.red _ _ _ short
+
+-- how many there are
+pub count_lent : (s : Stream) (before now : Fed) (a b c : List ℕ) → (h : IsBehind s before now) → AreColumns (ready_of s.receiver.deskew) a b c
+    → ((fed : Fed) (taken : ℕ) → IsReceived s.receiver fed taken → columns_of a b c ≡ drop taken (columns_from fed s.receiver.deskew.found))
+    → length (columns_from before h.was) + length a ≡ length (columns_from now s.receiver.deskew.found)
+count_lent s before now a b c h count is =
+    let all = ap length (lent_rest s before now (columns_of a b c) h is) in
+    let n = columns_length a b c (ready_of s.receiver.deskew) count.first count.second count.third in
+    let first = count.first in
+    omega (arith, all, n, first, length-append (columns_from before h.was) (columns_of a b c))
+
+-- no more than a hearing can count
+pub few_lent : (s : Stream) (before now : Fed) (a b c : List ℕ) → IsBehind s before now → AreColumns (ready_of s.receiver.deskew) a b c
+    → ((fed : Fed) (taken : ℕ) → IsReceived s.receiver fed taken → columns_of a b c ≡ drop taken (columns_from fed s.receiver.deskew.found))
+    → (s.hearing.columns + length a ≤ 429496730) × (s.outcome.columns + length a ≤ 429496730)
+few_lent s before now a b c h count is =
+    let all = count_lent s before now a b c h count is in
+    let few = few_now now s.receiver.deskew.found h.short in
+    let heard_columns = h.heard.columns in
+    let told = h.columns in
+    (omega (arith, all, few, heard_columns), omega (arith, all, few, told))
+
+-- what they tell is told more
+pub lent_gain : (s : Stream) (before now : Fed) (lent : List Column) (things : List Thing) → (h : IsBehind s before now)
+    → ((fed : Fed) (taken : ℕ) → IsReceived s.receiver fed taken → lent ≡ drop taken (columns_from fed s.receiver.deskew.found))
+    → told_of (columns_from before h.was ++ lent) ≡ told_of (columns_from before h.was) ++ things → IsGain before now things
+lent_gain s before now lent things h is e =
+    gains before now (columns_from before h.was) (columns_from now s.receiver.deskew.found) things (told_at before h.was h.found_was) (told_at now s.receiver.deskew.found h.received.found)
+    (ap told_of (sym (lent_rest s before now lent h is)) ∙ e)
+
+-- and all columns are heard
+pub now_heard : (s : Stream) (before now : Fed) (a b c : List ℕ) (r : Receiver) (hearing : Seen) (outcome : Outcome) → (h : IsBehind s before now) → AreColumns (ready_of s.receiver.deskew) a b c
+    → ((fed : Fed) (taken : ℕ) → IsReceived s.receiver fed taken → columns_of a b c ≡ drop taken (columns_from fed s.receiver.deskew.found))
+    → ready_of r.deskew ≡ ready_of s.receiver.deskew - length a
+    → ((fed : Fed) (taken : ℕ) → IsReceived s.receiver fed taken → IsReceived r fed (taken + length a))
+    → r.deskew.found ≡ s.receiver.deskew.found
+    → ((cs : List Column) → IsHearingOf s.hearing cs → IsHearingOf hearing (cs ++ columns_of a b c))
+    → hearing.finished ≡ false → outcome.aligned ≡ s.outcome.aligned → outcome.columns ≡ s.outcome.columns + length a
+    → IsHeard (record { receiver = r; hearing = hearing; outcome = outcome }) now
+now_heard s before now a b c r hearing outcome h count is ready received found hears goes_on aligned columns =
+    let all = count_lent s before now a b c h count is in
+    let same : columns_from now s.receiver.deskew.found ≡ columns_from now r.deskew.found = ap (columns_from now) (sym found) in
+    let first = count.first in
+    let told = h.columns in
+    let long = ap length same in
+    record {
+      received = subst (λ n. IsReceived r now n) (all ∙ long) (received now (length (columns_from before h.was)) h.received);
+      consumed = omega (arith, ready, first);
+      heard = subst (IsHearingOf hearing) (lent_rest s before now (columns_of a b c) h is ∙ same) (hears (columns_from before h.was) h.heard);
+      goes_on = goes_on;
+      aligned = aligned ∙ h.aligned ∙ ap is_some (sym found);
+      columns = omega (arith, columns, told, all, long);
+    }
+
+-- The end.
+
+last_at : (fed : Fed) (o : Option Aligned) (columns : ℕ) (things : List Thing) → IsFoundAt fed o → is_some o ≡ true → columns ≡ length (columns_from fed o)
+    → heard (columns_from fed o) ≡ told_of (columns_from fed o) ++ things → IsLast fed (record { aligned = true; columns = columns }) things
+last_at fed None columns things found some many all = absurd cc
+last_at fed (Some at) columns things found some many all = λ told so_far. record {
+  d = _;
+  e = _;
+  f = _;
+  first = found;
+  columns_are = many;
+  told = ap (λ ts. ts ++ things) (told_one fed told _ so_far (told_at fed (Some at) found)) ∙ sym all;
+}
+
+last_nowhere : (fed : Fed) (o : Option Aligned) (columns : ℕ) → IsFoundAt fed o → is_some o ≡ false → columns ≡ length (columns_from fed o) → IsLast fed (record { aligned = false; columns = columns }) []
+last_nowhere fed (Some at) columns found none many = absurd cc
+last_nowhere fed None columns found none many = λ told so_far. record {
+  nowhere = found;
+  columns_are = many;
+  told = append-nil told ∙ told_one fed told [] so_far (inr (found, refl));
+}
+
+-- what the end tells of lanes that are aligned
+pub ends_heard : (s : Stream) (fed : Fed) (things : List Thing) → IsHeard s fed → s.outcome.aligned ≡ true
+    → ((cs : List Column) → IsHearingOf s.hearing cs → heard cs ≡ told_of cs ++ things) → IsLast fed s.outcome things
+ends_heard s fed things h aligned all = λ told so_far.
+    subst (λ b. told_by b fed.blue fed.green fed.red s.outcome.columns (told ++ things)) (sym aligned)
+    (last_at fed s.receiver.deskew.found s.outcome.columns things h.received.found (sym h.aligned ∙ aligned) h.columns (all (columns_from fed s.receiver.deskew.found) h.heard) told so_far)
+
+-- and nothing where they are not
+pub ends_unheard : (s : Stream) (fed : Fed) → IsHeard s fed → s.outcome.aligned ≡ false → IsLast fed s.outcome []
+ends_unheard s fed h aligned = λ told so_far.
+    subst (λ b. told_by b fed.blue fed.green fed.red s.outcome.columns (told ++ [])) (sym aligned)
+    (last_nowhere fed s.receiver.deskew.found s.outcome.columns h.received.found (sym h.aligned ∙ aligned) h.columns told so_far)
+
+-- A feed.
+
+-- after it the lanes have its bits, and the columns of them are not heard yet
+pub fed_behind : (s : Stream) (fed : Fed) (a b c : List ℕ) (bits : List ℕ) (r : Receiver) (aligned : Bool) → (h : IsHeard s fed) → CanFeed (fed_of s.receiver.team.first.aligner) (longest s.receiver.team) a (slice_index bits 0)
+    → ((f : Fed) (taken : ℕ) → IsReceived s.receiver f taken → IsReceived r (grown f a b c bits) taken) → aligned ≡ is_some r.deskew.found
+    → IsBehind (record { receiver = r; hearing = s.hearing; outcome = record { aligned = aligned; columns = s.outcome.columns } }) fed (grown fed a b c bits)
+fed_behind s fed a b c bits r aligned h can received is = record {
+  was = s.receiver.deskew.found;
+  found_was = h.received.found;
+  received = received fed (length (columns_from fed s.receiver.deskew.found)) h.received;
+  blue = (_, refl);
+  green = (_, refl);
+  red = (_, refl);
+  short =
+      let long = length_grown fed.blue (grown fed a b c bits).blue a (slice_index bits 0) can.bytes_given refl in
+      let was = h.received.first.aligner.fed in
+      let total = can.total in
+      omega (arith, long, was, total);
+  heard = h.heard;
+  goes_on = h.goes_on;
+  aligned = is;
+  columns = h.columns;
+}

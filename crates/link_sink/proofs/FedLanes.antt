@@ -1,0 +1,208 @@
+-- Three lanes that are fed: each may push what it gained, they are pushed evenly, and they stand for more bits.
+use Rattle.std.proofs.Common.{◌≡◌, ◌⊎◌, ℕ, ◌+◌, ◌≤◌, max, Bool, true, false, nat_lt, ltb-true, List, length, refl, ap, sym, ◌∙◌, subst, arith, inl, inr, Option, Some, None, MatchOption}
+use Rattle.std.proofs.lemmas.Bool.{lt-ltb, cases_lt}
+use Rattle.lane_align.specs.Aligners.{fed_of}
+use Rattle.lane_team.specs.Sides.{Side, Sides, HasTaken}
+use Rattle.lane_deskew.specs.Pushed.{Pushed, Past, change, rested, settled, IsEven, AreEven, IsPastTriple, IsPastAlignment, StandsFor as IsDeskewOf, kept_of, ready_of}
+use Rattle.lane_deskew.specs.Fed.{IsCutFrom, AreCutFrom, WasFed}
+use Rattle.lane_deskew.specs.declared.deskew.Deskew.{Deskew}
+use Rattle.lane_deskew.specs.declared.Aligned.{Aligned}
+use Rattle.lane_deskew.proofs.Fed.{evenly_fed, past_triples, past_alignments}
+use Rattle.link_sink.specs.Sinks.{Fed}
+use Rattle.link_sink.specs.Received.{CanFeed, GoesOn, IsLane, IsFoundAt, IsReceived, HasGained, MayPush, HasPushed, end_if, longest}
+use Rattle.link_sink.specs.declared.receiver.Receiver.{Receiver}
+use Rattle.link_sink.proofs.Feeding.{length_grown}
+use Rattle.link_sink.proofs.Room.{IsSame, kept_many, kept_is, few_kept, second_kept, third_kept}
+use Rattle.link_sink.proofs.Gaining.{fed_more, lane_gained, lane_going}
+
+-- The first lane may push, then the second, then the third.
+
+pub may_first : (r : Receiver) (fed : Fed) (taken : ℕ) (side : Side) (bytes : List ℕ) (bits : ℕ) → (h : IsReceived r fed taken) → ready_of r.deskew ≡ 0
+    → CanFeed (fed_of r.team.first.aligner) (longest r.team) bytes bits → HasTaken r.team.first bytes bits side
+    → MayPush side r.deskew 0 bits h.past fed.blue (fed_more fed.blue bytes bits)
+may_first r fed taken side bytes bits h none can took = record {
+  stands = h.stands;
+  cut = h.first.cut;
+  gained = lane_gained r.team.first side bytes bits (longest r.team) fed.blue h.past.first h.first can took;
+  going = lane_going r.team.first bytes bits (longest r.team) fed.blue h.past.first h.first can;
+  room =
+      let many = kept_is r.deskew h.past 0 h.stands (omega arith) in
+      let few = few_kept r fed taken h none 0 (omega arith) in
+      omega (arith, many, few);
+}
+
+pub may_second : (r : Receiver) (fed : Fed) (taken : ℕ) (side : Side) (bytes : List ℕ) (bits : ℕ) → (h : IsReceived r fed taken) → ready_of r.deskew ≡ 0
+    → CanFeed (fed_of r.team.second.aligner) (longest r.team) bytes bits → HasTaken r.team.second bytes bits side
+    → (d : Deskew) (first : Pushed) → IsSame h.past.first first → d.found ≡ r.deskew.found → IsDeskewOf d (change (λ _. first) 0 h.past)
+    → MayPush side d 1 bits (change (λ _. first) 0 h.past) fed.green (fed_more fed.green bytes bits)
+may_second r fed taken side bytes bits h none can took d first same found stands = record {
+  stands = stands;
+  cut = h.second.cut;
+  gained = lane_gained r.team.second side bytes bits (longest r.team) fed.green h.past.second h.second can took;
+  going = lane_going r.team.second bytes bits (longest r.team) fed.green h.past.second h.second can;
+  room =
+      let p = change (λ _. first) 0 h.past in
+      let many : length (kept_of d 1) ≡ kept_many h.past r.deskew.found 1 = kept_is d p 1 stands (omega arith) ∙ ap (λ o. kept_many p o 1) found ∙ second_kept h.past first r.deskew.found same in
+      let few = few_kept r fed taken h none 1 (omega arith) in
+      omega (arith, many, few);
+}
+
+pub may_third : (r : Receiver) (fed : Fed) (taken : ℕ) (side : Side) (bytes : List ℕ) (bits : ℕ) → (h : IsReceived r fed taken) → ready_of r.deskew ≡ 0
+    → CanFeed (fed_of r.team.third.aligner) (longest r.team) bytes bits → HasTaken r.team.third bytes bits side
+    → (d : Deskew) (first second : Pushed) → IsSame h.past.first first → IsSame h.past.second second → d.found ≡ r.deskew.found
+    → IsDeskewOf d (change (λ _. second) 1 (change (λ _. first) 0 h.past))
+    → MayPush side d 2 bits (change (λ _. second) 1 (change (λ _. first) 0 h.past)) fed.red (fed_more fed.red bytes bits)
+may_third r fed taken side bytes bits h none can took d first second same same_too found stands = record {
+  stands = stands;
+  cut = h.third.cut;
+  gained = lane_gained r.team.third side bytes bits (longest r.team) fed.red h.past.third h.third can took;
+  going = lane_going r.team.third bytes bits (longest r.team) fed.red h.past.third h.third can;
+  room =
+      let p = change (λ _. second) 1 (change (λ _. first) 0 h.past) in
+      let many : length (kept_of d 2) ≡ kept_many h.past r.deskew.found 2 =
+      kept_is d p 2 stands (omega arith) ∙ ap (λ o. kept_many p o 2) found ∙ third_kept h.past first second r.deskew.found same same_too in
+      let few = few_kept r fed taken h none 2 (omega arith) in
+      omega (arith, many, few);
+}
+
+-- A lane at the end of a feed in which no lane got more than m bits.
+
+pub record IsFedLane (n m bits : ℕ) (short : Bool) (old new : Side) (xs us : List Bool) (before now : Pushed) : Type 0 where
+  pub was : IsLane old xs n before
+  pub gained : HasGained new bits xs us
+  pub long : length us ≡ length xs + bits
+  pub pushed : HasPushed us before now
+  pub going : (bits ≡ 0) ⊎ (length xs ≡ n)
+  pub most : bits ≤ m
+  pub ends : short ≡ nat_lt bits m
+
+pub fed_lane : (n m bits : ℕ) (old new : Side) (bytes : List ℕ) (xs : List Bool) (before now : Pushed) → IsLane old xs n before → CanFeed (fed_of old.aligner) n bytes bits → HasTaken old bytes bits new
+    → HasPushed (fed_more xs bytes bits) before now → bits ≤ m → IsFedLane n m bits (nat_lt bits m) old new xs (fed_more xs bytes bits) before now
+fed_lane n m bits old new bytes xs before now is can took pushed most = record {
+  was = is;
+  gained = lane_gained old new bytes bits n xs before is can took;
+  long = length_grown xs (fed_more xs bytes bits) bytes bits can.bytes_given refl;
+  pushed = pushed;
+  going = let fed = is.aligner.fed in elim can.going [ inl none ↦ inl none | inr full ↦ inr (omega (arith, fed, full)) ];
+  most = most;
+  ends = refl;
+}
+
+at_most : (n : ℕ) (xs : List Bool) (lane : Pushed) → GoesOn n xs lane → length xs ≤ n
+at_most n xs lane (inl on) = omega (arith, on.1)
+at_most n xs lane (inr over) = omega (arith, over.1)
+
+ended_cut : (b : Bool) (us : List Bool) (lane : Pushed) → IsCutFrom us lane → IsCutFrom us (end_if b lane)
+ended_cut true us lane cut = record { found = cut.found; lock = cut.lock; words = cut.words }
+ended_cut false us lane cut = cut
+
+ended_settled : (b : Bool) (lane : Pushed) → (end_if b lane).settled ≡ lane.settled
+ended_settled true lane = refl
+ended_settled false lane = refl
+
+-- it was pushed evenly
+lane_even : (n m bits : ℕ) (short : Bool) (old new : Side) (xs us : List Bool) (before now : Pushed) → IsFedLane n m bits short old new xs us before now → IsEven n (end_if short now)
+lane_even n m bits short old new xs us before now f =
+    let fed : WasFed n xs us = elim f.going [ inl none ↦ inr (f.gained.none none, at_most n xs before f.was.going) | inr full ↦ inl full ] in
+    evenly_fed n xs us before (end_if short now) f.gained.grown fed f.was.cut (ended_cut short us now f.pushed.cut) (ended_settled short now ∙ f.pushed.settled ∙ f.was.settled)
+
+goes_after : (n m bits : ℕ) (short : Bool) (xs us : List Bool) (before now : Pushed) → GoesOn n xs before → length us ≡ length xs + bits → (bits ≡ 0) ⊎ (length xs ≡ n) → bits ≤ m
+    → short ≡ nat_lt bits m → IsSame before now → GoesOn (n + m) us (end_if short now)
+goes_after n m bits true xs us before now was long going most ends same =
+    let lt = ltb-true bits m (sym ends) in
+    let le = at_most n xs before was in
+    inr (refl, omega (arith, lt, le, long))
+goes_after n m bits false xs us before now was long going most ends same =
+    let full : m ≤ bits = elim (cases_lt bits m) [ inl lt ↦ let e = ends ∙ lt-ltb bits m lt in absurd cc | inr le ↦ le ] in
+    elim was [
+      | inl on ↦ elim same [
+        | inl as_before ↦ inl (ap (λ (l : Pushed). l.ended) as_before ∙ on.0, let l = on.1 in omega (arith, l, long, most, full))
+        | inr going_on ↦ inl (going_on.1, let l = on.1 in omega (arith, l, long, most, full))
+      ]
+      | inr over ↦ elim going [
+        | inl none ↦ elim same [
+          | inl as_before ↦ inr (ap (λ (l : Pushed). l.ended) as_before ∙ over.0, let l = over.1 in omega (arith, l, long, most, full, none))
+          | inr going_on ↦ let e = sym over.0 ∙ going_on.0 in absurd cc
+        ]
+        | inr all ↦ let l = over.1 in absurd (omega (arith, l, all))
+      ]
+    ]
+
+lane_goes : (n m bits : ℕ) (short : Bool) (old new : Side) (xs us : List Bool) (before now : Pushed) → IsFedLane n m bits short old new xs us before now → GoesOn (n + m) us (end_if short now)
+lane_goes n m bits short old new xs us before now f = goes_after n m bits short xs us before now f.was.going f.long f.going f.most f.ends f.pushed.ended
+
+-- and once it is looked through
+lane_after : (n m bits : ℕ) (short : Bool) (old new : Side) (xs us : List Bool) (before now : Pushed) → IsFedLane n m bits short old new xs us before now → IsLane new us (n + m) (rested (end_if short now))
+lane_after n m bits short old new xs us before now f =
+    let cut = ended_cut short us now f.pushed.cut in
+    record {
+      aligner = f.gained.aligner;
+      cut = record { found = cut.found; lock = cut.lock; words = cut.words };
+      settled = refl;
+      going = lane_goes n m bits short old new xs us before now f;
+    }
+
+-- Three of them.
+
+-- before they are looked through
+abbrev pub fed_past : Past → Bool → Bool → Bool → Pushed → Pushed → Pushed → Past
+fed_past p s0 s1 s2 n0 n1 n2 = record { first = end_if s0 n0; second = end_if s1 n1; third = end_if s2 n2; taken = p.taken }
+
+pub record AreFed (r : Receiver) (fed now : Fed) (p : Past) (team : Sides) (m x y z : ℕ) (s0 s1 s2 : Bool) (n0 n1 n2 : Pushed) : Type 0 where
+  pub first : IsFedLane (longest r.team) m x s0 r.team.first team.first fed.blue now.blue p.first n0
+  pub second : IsFedLane (longest r.team) m y s1 r.team.second team.second fed.green now.green p.second n1
+  pub third : IsFedLane (longest r.team) m z s2 r.team.third team.third fed.red now.red p.third n2
+
+pub are_even : (r : Receiver) (fed now : Fed) (p : Past) (team : Sides) (m x y z : ℕ) (s0 s1 s2 : Bool) (n0 n1 n2 : Pushed) → AreFed r fed now p team m x y z s0 s1 s2 n0 n1 n2
+    → AreEven (fed_past p s0 s1 s2 n0 n1 n2)
+are_even r fed now p team m x y z s0 s1 s2 n0 n1 n2 all = (
+  longest r.team,
+  lane_even _ m x s0 _ _ _ _ _ n0 all.first,
+  lane_even _ m y s1 _ _ _ _ _ n1 all.second,
+  lane_even _ m z s2 _ _ _ _ _ n2 all.third,
+)
+
+found_by : (fed : Fed) (p : Past) (o : Option Aligned) → AreCutFrom fed.blue fed.green fed.red p
+    → MatchOption o ((d e f : ℕ) → IsPastTriple p d e f → ⊥) (λ at. IsPastAlignment p at.edges) → IsFoundAt fed o
+found_by fed p None cut none = λ d e f t. none d e f ((past_triples fed.blue fed.green fed.red p cut d e f).1 t)
+found_by fed p (Some at) cut first = (past_alignments fed.blue fed.green fed.red p cut at.edges).0 first
+
+-- the longest lane got the most bits
+longest_more : (a b c x y z n : ℕ) → n ≡ max a (max b c) → (x ≡ 0) ⊎ (a ≡ n) → (y ≡ 0) ⊎ (b ≡ n) → (z ≡ 0) ⊎ (c ≡ n) → max (a + x) (max (b + y) (c + z)) ≡ n + max (max x y) z
+longest_more a b c x y z n e (inl i) (inl j) (inl k) = omega (arith, e, i, j, k)
+longest_more a b c x y z n e (inl i) (inl j) (inr k) = omega (arith, e, i, j, k)
+longest_more a b c x y z n e (inl i) (inr j) (inl k) = omega (arith, e, i, j, k)
+longest_more a b c x y z n e (inl i) (inr j) (inr k) = omega (arith, e, i, j, k)
+longest_more a b c x y z n e (inr i) (inl j) (inl k) = omega (arith, e, i, j, k)
+longest_more a b c x y z n e (inr i) (inl j) (inr k) = omega (arith, e, i, j, k)
+longest_more a b c x y z n e (inr i) (inr j) (inl k) = omega (arith, e, i, j, k)
+longest_more a b c x y z n e (inr i) (inr j) (inr k) = omega (arith, e, i, j, k)
+
+pub longest_fed : (old team : Sides) (x y z m : ℕ) → m ≡ max (max x y) z → fed_of team.first.aligner ≡ fed_of old.first.aligner + x → fed_of team.second.aligner ≡ fed_of old.second.aligner + y
+    → fed_of team.third.aligner ≡ fed_of old.third.aligner + z → (x ≡ 0) ⊎ (fed_of old.first.aligner ≡ longest old) → (y ≡ 0) ⊎ (fed_of old.second.aligner ≡ longest old)
+    → (z ≡ 0) ⊎ (fed_of old.third.aligner ≡ longest old) → longest team ≡ longest old + m
+longest_fed old team x y z m e a b c i j k =
+    (λ t. max (a t) (max (b t) (c t))) ∙ longest_more (fed_of old.first.aligner) (fed_of old.second.aligner) (fed_of old.third.aligner) x y z (longest old) refl i j k ∙ ap (λ w. longest old + w) (sym e)
+
+-- so a receiver stands for the bits of all feeds
+pub now_received : (r : Receiver) (fed now : Fed) (p : Past) (taken : ℕ) (team : Sides) (d : Deskew) (m x y z : ℕ) (s0 s1 s2 : Bool) (n0 n1 n2 : Pushed) → AreFed r fed now p team m x y z s0 s1 s2 n0 n1 n2
+    → p.taken ≡ taken → longest team ≡ longest r.team + m → IsDeskewOf d (settled (fed_past p s0 s1 s2 n0 n1 n2)) → (o : Option Aligned) → d.found ≡ o
+    → MatchOption o ((i j k : ℕ) → IsPastTriple (fed_past p s0 s1 s2 n0 n1 n2) i j k → ⊥) (λ at. IsPastAlignment (fed_past p s0 s1 s2 n0 n1 n2) at.edges)
+    → IsReceived (record { team = team; deskew = d }) now taken
+now_received r fed now p taken team d m x y z s0 s1 s2 n0 n1 n2 all took long stands o found answer =
+    let more = sym long in
+    record {
+      past = settled (fed_past p s0 s1 s2 n0 n1 n2);
+      stands = stands;
+      taken_are = took;
+      first = subst (λ n. IsLane team.first now.blue n (rested (end_if s0 n0))) more (lane_after _ m x s0 _ _ _ _ _ n0 all.first);
+      second = subst (λ n. IsLane team.second now.green n (rested (end_if s1 n1))) more (lane_after _ m y s1 _ _ _ _ _ n1 all.second);
+      third = subst (λ n. IsLane team.third now.red n (rested (end_if s2 n2))) more (lane_after _ m z s2 _ _ _ _ _ n2 all.third);
+      found =
+          let cut : AreCutFrom now.blue now.green now.red (fed_past p s0 s1 s2 n0 n1 n2) = record {
+            first = ended_cut s0 _ n0 all.first.pushed.cut;
+            second = ended_cut s1 _ n1 all.second.pushed.cut;
+            third = ended_cut s2 _ n2 all.third.pushed.cut;
+          } in
+          subst (IsFoundAt now) (sym found) (found_by now (fed_past p s0 s1 s2 n0 n1 n2) o cut answer);
+    }

@@ -1,0 +1,84 @@
+-- What is kept of three lanes whose bits come feed after feed.
+use Rattle.std.specs.Prelude.{◌≡◌, ◌⊎◌, ◌++◌, ℕ, ◌+◌, ◌/◌, ◌%◌, ◌^◌, ◌<◌, ◌≤◌, max, Bool, true, false, List, length, Option, MatchOption}
+use Rattle.lane_align.specs.Lanes.{IsLockOf}
+use Rattle.lane_align.specs.Words.{AreWords, lane_words}
+use Rattle.lane_align.specs.Aligners.{StandsFor as IsAlignerOf, fed_of, lock_of}
+use Rattle.lane_team.specs.Sides.{Side, Sides}
+use Rattle.lane_deskew.specs.Triples.{IsTriple, IsAlignment}
+use Rattle.lane_deskew.specs.Searches.{HasGrown}
+use Rattle.lane_deskew.specs.Pushed.{Pushed, Past, over, StandsFor as IsDeskewOf, kept_of}
+use Rattle.lane_deskew.specs.Fed.{IsCutFrom, past_at}
+use Rattle.lane_deskew.specs.declared.deskew.Deskew.{Deskew}
+use Rattle.lane_deskew.specs.declared.Aligned.{Aligned}
+use Rattle.link_sink.specs.Sinks.{Fed}
+use Rattle.link_sink.specs.declared.receiver.Receiver.{Receiver}
+
+-- so many bits more may come of a lane that was fed some, where the longest lane was fed so many: no more than a feed
+-- takes, in whole bytes until the last, and none once another lane had more
+pub record CanFeed (fed longest : ℕ) (bytes : List ℕ) (bits : ℕ) : Type 0 where
+  pub most : bits ≤ 32768
+  pub bytes_given : length bytes ≡ (bits + 7) / 8
+  pub whole : (bits ≡ 0) ⊎ (fed % 8 ≡ 0)
+  pub going : (bits ≡ 0) ⊎ (fed ≡ longest)
+  pub total : fed + bits < 2 ^ 32
+
+-- how many bits the longest lane was fed
+abbrev pub longest : Sides → ℕ
+longest team = max (fed_of team.first.aligner) (max (fed_of team.second.aligner) (fed_of team.third.aligner))
+
+-- a lane has as many bits as the longest, or fewer and has ended
+abbrev pub GoesOn : ℕ → List Bool → Pushed → Type 0
+GoesOn n xs lane = ((lane.ended ≡ false) × (length xs ≡ n)) ⊎ ((lane.ended ≡ true) × (length xs < n))
+
+-- a lane between two feeds: its aligner stands for its bits, and all whole characters of them were looked through
+pub record IsLane (side : Side) (xs : List Bool) (n : ℕ) (lane : Pushed) : Type 0 where
+  pub aligner : IsAlignerOf side.aligner xs
+  pub cut : IsCutFrom xs lane
+  pub settled : lane.settled ≡ length lane.words
+  pub going : GoesOn n xs lane
+
+-- where lanes are aligned first, or that they are aligned nowhere
+abbrev pub IsFoundAt : Fed → Option Aligned → Type 0
+IsFoundAt fed at =
+    MatchOption at ((d e f : ℕ) → IsTriple fed.blue fed.green fed.red d e f → ⊥) (λ here. IsAlignment fed.blue fed.green fed.red here.edges)
+
+-- a receiver stands for the bits of three lanes, of which so many columns were taken
+pub record IsReceived (receiver : Receiver) (fed : Fed) (taken : ℕ) : Type 0 where
+  pub past : Past
+  pub stands : IsDeskewOf receiver.deskew past
+  pub taken_are : past.taken ≡ taken
+  pub first : IsLane receiver.team.first fed.blue (longest receiver.team) past.first
+  pub second : IsLane receiver.team.second fed.green (longest receiver.team) past.second
+  pub third : IsLane receiver.team.third fed.red (longest receiver.team) past.third
+  pub found : IsFoundAt fed receiver.deskew.found
+
+-- what a lane gained in a feed: its bits, and the characters that became whole
+pub record HasGained (side : Side) (bits : ℕ) (xs us : List Bool) : Type 0 where
+  pub grown : HasGrown xs us
+  pub none : bits ≡ 0 → us ≡ xs
+  pub short : length us < 2 ^ 63
+  pub aligner : IsAlignerOf side.aligner us
+  pub before : Option ℕ
+  pub was : IsLockOf xs before
+  pub words : lane_words before xs ++ side.words ≡ lane_words (lock_of side.aligner) us
+  pub few : length side.words ≤ 3289
+  pub small : AreWords side.words
+
+-- a lane may push them: it had pushed the characters before, and there is room
+pub record MayPush (side : Side) (deskew : Deskew) (lane bits : ℕ) (p : Past) (xs us : List Bool) : Type 0 where
+  pub stands : IsDeskewOf deskew p
+  pub cut : IsCutFrom xs (past_at p lane)
+  pub gained : HasGained side bits xs us
+  pub going : (bits ≡ 0) ⊎ ((past_at p lane).ended ≡ false)
+  pub room : length (kept_of deskew lane) ≤ 32
+
+-- a lane has pushed them
+pub record HasPushed (us : List Bool) (before now : Pushed) : Type 0 where
+  pub cut : IsCutFrom us now
+  pub settled : now.settled ≡ before.settled
+  pub ended : (now ≡ before) ⊎ ((before.ended ≡ false) × (now.ended ≡ false))
+
+-- a lane that ends now, or goes on
+abbrev pub end_if : Bool → Pushed → Pushed
+end_if true lane = over lane
+end_if false lane = lane

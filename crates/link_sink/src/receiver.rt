@@ -1,0 +1,132 @@
+//! Three lanes whose bits come feed after feed, and the columns that they carry from their first full alignment on.
+ghost use Rattle.std.specs.Prelude.{◌≡◌, ◌<◌, ◌≤◌, ◌+◌, ◌-◌, ℕ, List, Bool, length, drop, IfOk, None, is_some, slice_index};
+ghost use Rattle.tmds_word.specs.Words.{columns_of};
+ghost use Rattle.lane_align.specs.Words.{AreWords};
+ghost use Rattle.lane_align.specs.Aligners.{fed_of};
+ghost use Rattle.lane_team.specs.Sides.{side_at};
+ghost use Rattle.lane_deskew.specs.Pushed.{Pushed, Past, change, StandsFor, ready_of, AreColumns};
+ghost use Rattle.lane_deskew.specs.Fed.{past_at};
+ghost use Rattle.link_sink.specs.Sinks.{Fed, grown};
+ghost use Rattle.link_sink.specs.Pieces.{no_bits};
+ghost use Rattle.link_sink.specs.Progress.{columns_from};
+ghost use Rattle.link_sink.specs.Received.{CanFeed, longest, IsReceived, MayPush, HasPushed, end_if};
+
+use lane_deskew::{ColumnsRef, Deskew};
+use lane_team::{Gate, Team};
+use outside_io::NoMemory;
+use std::alloc::Global;
+use std::thread::Threads;
+
+/// Cuts three lanes into characters, and lines them up.
+#[derive(Drop)]
+pub struct Receiver {
+    team: Team,
+    deskew: Deskew,
+}
+
+impl Receiver {
+    /// A receiver that was fed no bits, with all memory that it ever has.
+    pub fn open(alloc: Global) -> Result<Receiver, NoMemory>
+        ensures received { IfOk result (λ r. IsReceived r no_bits 0) }
+        ensures found { IfOk result (λ r. r.deskew.found ≡ None) }
+        ensures bits { IfOk result (λ r. longest r.team ≡ 0) }
+    {
+        let team = Team::open(alloc)?;
+        let deskew = Deskew::open(alloc)?;
+        Ok(Receiver { team, deskew })
+    }
+
+    /// Makes it as after `open`.
+    pub fn restart(&mut self)
+        ensures received { IsReceived self.new no_bits 0 }
+        ensures found { self.new.deskew.found ≡ None }
+        ensures bits { longest self.new.team ≡ 0 }
+    {
+        self.team.restart();
+        self.deskew.restart();
+    }
+
+    /// Takes bits of each lane, each lane its own number of them, and says whether the lanes are aligned. All columns that
+    /// the feeds before gave are consumed.
+    pub fn feed<R: Threads, G: Gate>(
+        &mut self,
+        rt: &R,
+        a: &[u8],
+        b: &[u8],
+        c: &[u8],
+        bits: [u32; 3],
+        gate: &G,
+    ) -> bool
+        requires received { (fed : Fed) × (taken : ℕ) × IsReceived self.old fed taken }
+        requires consumed { ready_of self.old.deskew ≡ 0 }
+        requires first { CanFeed (fed_of self.old.team.first.aligner) (longest self.old.team) a.now (slice_index bits 0) }
+        requires second { CanFeed (fed_of self.old.team.second.aligner) (longest self.old.team) b.now (slice_index bits 1) }
+        requires third { CanFeed (fed_of self.old.team.third.aligner) (longest self.old.team) c.now (slice_index bits 2) }
+        ensures received { (fed : Fed) (taken : ℕ) → IsReceived self.old fed taken → IsReceived self.new (grown fed a.now b.now c.now bits) taken }
+        ensures aligned { result ≡ is_some self.new.deskew.found }
+        ensures first { fed_of self.new.team.first.aligner ≡ fed_of self.old.team.first.aligner + slice_index bits 0 }
+        ensures second { fed_of self.new.team.second.aligner ≡ fed_of self.old.team.second.aligner + slice_index bits 1 }
+        ensures third { fed_of self.new.team.third.aligner ≡ fed_of self.old.team.third.aligner + slice_index bits 2 }
+    {
+        self.team.feed_three(rt, a, b, c, bits, gate);
+        let [x, y, z] = bits;
+        push_gained(&self.team, &mut self.deskew, 0, x);
+        push_gained(&self.team, &mut self.deskew, 1, y);
+        push_gained(&self.team, &mut self.deskew, 2, z);
+        let most = x.max(y).max(z);
+        end_if_short(&mut self.deskew, 0, x < most);
+        end_if_short(&mut self.deskew, 1, y < most);
+        end_if_short(&mut self.deskew, 2, z < most);
+        self.deskew.settle().is_some()
+    }
+
+    /// The columns that are not consumed: none before the alignment.
+    pub fn columns(&self) -> ColumnsRef<'_>
+        ensures count { AreColumns (ready_of self.now.deskew) result.a.now result.b.now result.c.now }
+        ensures first { AreWords result.a.now }
+        ensures second { AreWords result.b.now }
+        ensures third { AreWords result.c.now }
+        ensures columns { (fed : Fed) (taken : ℕ) → IsReceived self.now fed taken
+            → columns_of result.a.now result.b.now result.c.now ≡ drop taken (columns_from fed self.now.deskew.found) }
+    {
+        self.deskew.columns()
+    }
+
+    /// Drops the first columns.
+    pub fn consume(&mut self, n: usize)
+        requires { n ≤ ready_of self.old.deskew }
+        ensures ready { ready_of self.new.deskew ≡ ready_of self.old.deskew - n }
+        ensures received { (fed : Fed) (taken : ℕ) → IsReceived self.old fed taken → IsReceived self.new fed (taken + n) }
+        ensures found { self.new.deskew.found ≡ self.old.deskew.found }
+        ensures team { self.new.team ≡ self.old.team }
+    {
+        self.deskew.consume(n);
+    }
+}
+
+/// Pushes the characters that a feed of so many bits of a lane made whole.
+fn push_gained(team: &Team, deskew: &mut Deskew, lane: u8, bits: u32)
+    requires lane { lane < 3 }
+    requires push { (p : Past) × (xs us : List Bool) × MayPush (side_at team.now lane) deskew.old lane bits p xs us }
+    ensures pushed { (p : Past) (xs us : List Bool) → MayPush (side_at team.now lane) deskew.old lane bits p xs us
+        → (now : Pushed) × HasPushed us (past_at p lane) now × StandsFor deskew.new (change (λ _. now) lane p) }
+    ensures found { deskew.new.found ≡ deskew.old.found }
+{
+    if bits == 0 {
+        return;
+    }
+    if let Some(lock) = team.locked(lane) {
+        deskew.push(lane, lock, team.words(lane));
+    }
+}
+
+/// Ends a lane that had fewer bits than another.
+fn end_if_short(deskew: &mut Deskew, lane: u8, short: bool)
+    requires lane { lane < 3 }
+    ensures ended { (p : Past) → StandsFor deskew.old p → StandsFor deskew.new (change (end_if short) lane p) }
+    ensures found { deskew.new.found ≡ deskew.old.found }
+{
+    if short {
+        deskew.end(lane);
+    }
+}

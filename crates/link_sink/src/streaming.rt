@@ -1,0 +1,127 @@
+//! What three lanes say whose bits come feed after feed, in a memory of one size.
+ghost use Rattle.std.specs.Prelude.{◌≡◌, ◌<◌, ◌+◌, ◌^◌, List, length, true, IfOk, OnOk, OnErr, slice_index};
+ghost use Rattle.outside_io.specs.Causes.{HasCause};
+ghost use Rattle.lane_align.specs.Aligners.{fed_of};
+ghost use Rattle.lane_deskew.specs.Pushed.{ready_of};
+ghost use Rattle.period_grammar.specs.Things.{Thing};
+ghost use Rattle.link_sink.specs.Ears.{StopsIn};
+ghost use Rattle.link_sink.specs.Sinks.{Fed, grown, IsGain, IsLast};
+ghost use Rattle.link_sink.specs.Pieces.{no_bits};
+ghost use Rattle.link_sink.specs.Received.{CanFeed, longest};
+ghost use Rattle.link_sink.specs.Streams.{IsHeard, IsBehind};
+
+use crate::Ear;
+use crate::hear::Outcome;
+use crate::receiver::Receiver;
+use crate::slices::hear_slices;
+use crate::telling::hear_end;
+use lane_deskew::ColumnsRef;
+use lane_team::Gate;
+use outside_io::{Failed, NoMemory};
+use period_grammar::Hearing;
+use std::alloc::Global;
+use std::thread::Threads;
+
+/// Receives three lanes, hears their columns, and keeps what it would answer if they ended.
+#[derive(Drop)]
+pub struct Stream {
+    receiver: Receiver,
+    hearing: Hearing,
+    outcome: Outcome,
+}
+
+/// Before any column.
+const NOTHING: Outcome = Outcome {
+    aligned: false,
+    columns: 0,
+};
+
+impl Stream {
+    /// A stream of no bits, with all memory that it ever has.
+    pub fn open(alloc: Global) -> Result<Stream, NoMemory>
+        ensures heard { IfOk result (λ s. IsHeard s no_bits) }
+        ensures bits { IfOk result (λ s. longest s.receiver.team ≡ 0) }
+    {
+        let receiver = Receiver::open(alloc)?;
+        let hearing = Hearing::open(alloc)?;
+        Ok(Stream {
+            receiver,
+            hearing,
+            outcome: NOTHING,
+        })
+    }
+
+    /// Makes it as after `open`.
+    pub fn restart(&mut self)
+        ensures heard { IsHeard self.new no_bits }
+        ensures bits { longest self.new.receiver.team ≡ 0 }
+    {
+        self.receiver.restart();
+        self.hearing.restart();
+        self.outcome = NOTHING;
+    }
+
+    /// Takes bits of each lane, each lane its own number of them, and tells the ear what they decide.
+    pub fn feed<R: Threads, E: Ear, G: Gate>(
+        &mut self,
+        rt: &R,
+        a: &[u8],
+        b: &[u8],
+        c: &[u8],
+        bits: [u32; 3],
+        gate: &G,
+        ear: &mut E,
+    ) -> Result<(), Failed>
+        requires heard { (fed : Fed) × IsHeard self.old fed }
+        requires first { CanFeed (fed_of self.old.receiver.team.first.aligner) (longest self.old.receiver.team) a.now (slice_index bits 0) }
+        requires second { CanFeed (fed_of self.old.receiver.team.second.aligner) (longest self.old.receiver.team) b.now (slice_index bits 1) }
+        requires third { CanFeed (fed_of self.old.receiver.team.third.aligner) (longest self.old.receiver.team) c.now (slice_index bits 2) }
+        ensures heard { (fed : Fed) → IsHeard self.old fed → OnOk result (IsHeard self.new (grown fed a.now b.now c.now bits)) }
+        ensures told { (fed : Fed) → IsHeard self.old fed
+            → OnOk result ((things : List Thing) × IsGain fed (grown fed a.now b.now c.now bits) things × E.took ear.old ear.new things) }
+        ensures stopped { (fed : Fed) → IsHeard self.old fed
+            → OnErr result ((things : List Thing) × IsGain fed (grown fed a.now b.now c.now bits) things × StopsIn E.took E.broke ear.old ear.new things) }
+        ensures first { fed_of self.new.receiver.team.first.aligner ≡ fed_of self.old.receiver.team.first.aligner + slice_index bits 0 }
+        ensures second { fed_of self.new.receiver.team.second.aligner ≡ fed_of self.old.receiver.team.second.aligner + slice_index bits 1 }
+        ensures third { fed_of self.new.receiver.team.third.aligner ≡ fed_of self.old.receiver.team.third.aligner + slice_index bits 2 }
+        ensures cause { HasCause (E.faults ear.old) (E.faults ear.new) result }
+    {
+        self.outcome.aligned = self.receiver.feed(rt, a, b, c, bits, gate);
+        self.hear(ear)
+    }
+
+    /// Hears the columns that came, and tells the ear what they say.
+    fn hear<E: Ear>(&mut self, ear: &mut E) -> Result<(), Failed>
+        requires { (before now : Fed) × IsBehind self.old before now }
+        ensures heard { (before now : Fed) → IsBehind self.old before now → OnOk result (IsHeard self.new now) }
+        ensures told { (before now : Fed) → IsBehind self.old before now
+            → OnOk result ((things : List Thing) × IsGain before now things × E.took ear.old ear.new things) }
+        ensures stopped { (before now : Fed) → IsBehind self.old before now
+            → OnErr result ((things : List Thing) × IsGain before now things × StopsIn E.took E.broke ear.old ear.new things) }
+        ensures team { self.new.receiver.team ≡ self.old.receiver.team }
+        ensures cause { HasCause (E.faults ear.old) (E.faults ear.new) result }
+    {
+        let ColumnsRef { a, b, c } = self.receiver.columns();
+        let count = a.len();
+        hear_slices(a, b, c, &mut self.hearing, ear)?;
+        self.receiver.consume(count);
+        self.outcome.columns += count as u32;
+        Ok(())
+    }
+
+    /// Tells the ear what the end of the lanes tells.
+    pub fn finish<E: Ear>(&mut self, ear: &mut E) -> Result<Outcome, Failed>
+        requires { (fed : Fed) × IsHeard self.old fed }
+        ensures told { (fed : Fed) → IsHeard self.old fed
+            → IfOk result (λ outcome. (things : List Thing) × IsLast fed outcome things × E.took ear.old ear.new things) }
+        ensures stopped { (fed : Fed) → IsHeard self.old fed
+            → OnErr result ((outcome : Outcome) × (things : List Thing) × IsLast fed outcome things × StopsIn E.took E.broke ear.old ear.new things) }
+        ensures cause { HasCause (E.faults ear.old) (E.faults ear.new) result }
+    {
+        if !self.outcome.aligned {
+            return Ok(self.outcome);
+        }
+        hear_end(&mut self.hearing, ear)?;
+        Ok(self.outcome)
+    }
+}
