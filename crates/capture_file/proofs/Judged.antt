@@ -9,7 +9,10 @@ use Rattle.std.proofs.lemmas.Bool.{cases_lt}
 use Rattle.std.proofs.lemmas.List.{take-take, take_more, take-append-le, get_or-take, get_or-drop}
 use Rattle.std.proofs.lemmas.Option.{slice_get-get_or}
 use Rattle.capture_file.specs.Layout.{header, high_first}
-use Rattle.capture_file.specs.Captures.{header_two, header_of, IsHeader, IsCapture, BeginsCapture, StopsAt, IsFault, AreBytes, IsHeadless, IsEarlyFault}
+use Rattle.capture_file.specs.Captures.{header_two, header_of, IsHeader, IsCapture, BeginsCapture, StopsAt, IsFault, AreBytes, IsHeadless, IsEarlyFault, SaysOf, SaysRead}
+use Rattle.capture_file.specs.declared.reading.CaptureFault.{CaptureFault}
+use Rattle.capture_file.specs.declared.reading.CaptureError.{CaptureError}
+use Rattle.capture_file.specs.declared.reading.CaptureError.TheVariants.{Bad, Read, NoMemory}
 use Rattle.capture_file.specs.declared.reading.CaptureFault.TheVariants.{Magic, Version, Short}
 use Rattle.capture_file.proofs.Heads.{header_cases, length-header_two, header_long}
 use Rattle.capture_file.proofs.Fronts.{length-header}
@@ -193,3 +196,54 @@ unfolding high_first
 four_say a b c d n la lb lc ld is =
     let e : to_be_bytes w32 n ≡ a ∷ b ∷ c ∷ d ∷ [] = be_bytes_4 (a ∷ b ∷ c ∷ d ∷ []) n refl (four_bytes a b c d la lb lc ld) is in
     ap (λ bs. get_or bs 0 0 ∷ get_or bs 1 0 ∷ get_or bs 2 0 ∷ get_or bs 3 0 ∷ []) e
+
+-- an error that says more
+pub says_of : (p q : CaptureFault → Type 0) (e : CaptureError) → ((fault : CaptureFault) → p fault → q fault) → SaysOf p e → SaysOf q e
+says_of p q (Bad fault) f h = f fault h
+says_of p q Read f h = h
+says_of p q NoMemory f h = h
+
+pub says_read : (p q : Type 0) (e : CaptureError) → (p → q) → SaysRead p e → SaysRead q e
+says_read p q (Bad fault) f h = h
+says_read p q Read f h = f h
+says_read p q NoMemory f h = h
+
+-- the first header, and the two parts of the second
+pub header_one : (n : ℕ) → header_of 1 (n ∷ n ∷ n ∷ []) ≡ header n
+unfolding header_of
+header_one n = refl
+
+pub header_two_is : (n p q : ℕ) → header_of 2 (n ∷ p ∷ q ∷ []) ≡ ((codes "TMC" ++ 50 ∷ []) ++ high_first n) ++ (high_first p ++ high_first q)
+unfolding header_of
+header_two_is n p q = second_is n p q
+
+eight_are : (head : List ℕ) → length head ≡ 8 → head ≡ take 4 head ++ get_or head 4 0 ∷ get_or head 5 0 ∷ get_or head 6 0 ∷ get_or head 7 0 ∷ []
+eight_are head len =
+    let d = drop 4 head in
+    sym (take-append-drop 4 head)
+    ∙ ap (λ xs. take 4 head ++ xs)
+    (four_of d (omega (arith, length-drop 4 head))
+    ∙ ap₂ (λ a b. a ∷ b ∷ get_or d 2 0 ∷ get_or d 3 0 ∷ []) (get_or-drop 4 head 0 0) (get_or-drop 4 head 1 0)
+    ∙ ap₂ (λ a b. get_or head 4 0 ∷ get_or head 5 0 ∷ a ∷ b ∷ []) (get_or-drop 4 head 2 0) (get_or-drop 4 head 3 0))
+
+pub head_is : (head : List ℕ) (v n : ℕ) → length head ≡ 8 → AreBytes head → take 3 head ≡ codes "TMC" → get_or head 3 0 ≡ v
+    → n ≡ from_be_bytes w32 (get_or head 4 0 ∷ get_or head 5 0 ∷ get_or head 6 0 ∷ get_or head 7 0 ∷ []) → head ≡ (codes "TMC" ++ v ∷ []) ++ high_first n
+head_is head v n len are like version is =
+    eight_are head len
+    ∙ ap₂ (λ xs ys. xs ++ ys) (mark_four head v len like version)
+    (sym (four_say (get_or head 4 0) (get_or head 5 0) (get_or head 6 0) (get_or head 7 0) n (are 4) (are 5) (are 6) (are 7) is))
+
+pub first_is : (n : ℕ) → (codes "TMC" ++ 49 ∷ []) ++ high_first n ≡ header n
+unfolding header
+first_is n = refl
+
+pub more_is : (more : List ℕ) (p q : ℕ) → length more ≡ 8 → AreBytes more → p ≡ from_be_bytes w32 (get_or more 0 0 ∷ get_or more 1 0 ∷ get_or more 2 0 ∷ get_or more 3 0 ∷ [])
+    → q ≡ from_be_bytes w32 (get_or more 4 0 ∷ get_or more 5 0 ∷ get_or more 6 0 ∷ get_or more 7 0 ∷ []) → more ≡ high_first p ++ high_first q
+more_is more p q len are ep eq =
+    eight_are more len
+    ∙ ap₂ (λ xs ys. xs ++ ys)
+    (four_of (take 4 more) (length-take-le 4 more (omega arith))
+    ∙ ap₂ (λ a b. a ∷ b ∷ get_or (take 4 more) 2 0 ∷ get_or (take 4 more) 3 0 ∷ []) (get_or-take 4 more 0 0 (omega arith)) (get_or-take 4 more 1 0 (omega arith))
+    ∙ ap₂ (λ a b. get_or more 0 0 ∷ get_or more 1 0 ∷ a ∷ b ∷ []) (get_or-take 4 more 2 0 (omega arith)) (get_or-take 4 more 3 0 (omega arith))
+    ∙ sym (four_say (get_or more 0 0) (get_or more 1 0) (get_or more 2 0) (get_or more 3 0) p (are 0) (are 1) (are 2) (are 3) ep))
+    (sym (four_say (get_or more 4 0) (get_or more 5 0) (get_or more 6 0) (get_or more 7 0) q (are 4) (are 5) (are 6) (are 7) eq))

@@ -123,3 +123,9 @@ abbrev pub SaysOf : (CaptureFault → Type 0) → CaptureError → Type 0
 SaysOf says (Bad fault) = says fault
 SaysOf says Read = Unit {0}
 SaysOf says NoMemory = ⊥
+
+-- what an error of a reader says of a failed read
+abbrev pub SaysRead : Type 0 → CaptureError → Type 0
+SaysRead says (Bad fault) = Unit {0}
+SaysRead says Read = says
+SaysRead says NoMemory = Unit {0}

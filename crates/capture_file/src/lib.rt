@@ -3,6 +3,8 @@
 
 mod chunks;
 mod damaging;
+mod filling;
+mod heading;
 mod lanes;
 mod reading;
 mod writing;
