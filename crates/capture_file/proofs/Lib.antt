@@ -14,3 +14,4 @@ pub mod Opens
 pub mod Takings
 pub mod Stops
 pub mod Judged
+pub mod Rooms

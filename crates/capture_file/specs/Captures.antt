@@ -129,3 +129,7 @@ abbrev pub SaysRead : Type 0 → CaptureError → Type 0
 SaysRead says (Bad fault) = Unit {0}
 SaysRead says Read = says
 SaysRead says NoMemory = Unit {0}
+
+-- a place within so many bytes from another on
+abbrev pub IsWithin : ℕ → ℕ → ℕ → Type 0
+IsWithin from size p = (from ≤ p) × (p < from + size)
