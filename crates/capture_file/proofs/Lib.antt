@@ -15,3 +15,4 @@ pub mod Takings
 pub mod Stops
 pub mod Judged
 pub mod Rooms
+pub mod Standing

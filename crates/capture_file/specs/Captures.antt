@@ -133,3 +133,20 @@ SaysRead says NoMemory = Unit {0}
 -- a place within so many bytes from another on
 abbrev pub IsWithin : ℕ → ℕ → ℕ → Type 0
 IsWithin from size p = (from ≤ p) × (p < from + size)
+
+-- how many bytes the header of a version has
+abbrev pub header_size : ℕ → ℕ
+header_size version = if version == 2 then 16 else 8
+
+-- where block j begins
+abbrev pub place_at : ℕ → List ℕ → ℕ → ℕ
+place_at version counts j =
+    header_size version
+    + min ((slice_index counts 0 + 7) / 8) (4096 * j)
+    + min ((slice_index counts 1 + 7) / 8) (4096 * j)
+    + min ((slice_index counts 2 + 7) / 8) (4096 * j)
+
+-- what a reader stands for that is at block j of a capture of a version: bytes that were taken so far, and the bits of the
+-- blocks that it gave, for each lane
+abbrev pub Stands : ℕ → List ℕ → ℕ → List ℕ → List Bool → List Bool → List Bool → Type 0
+Stands version counts j taken x y z = HasRead counts j (place_at version counts j) taken x y z

@@ -1,6 +1,7 @@
 //! Captures: the bits of three TMDS lanes as bytes of this project's own layout.
 #![tactic(auto)]
 
+mod capture_reader;
 mod chunk;
 mod chunks;
 mod damaging;
@@ -10,6 +11,7 @@ mod lanes;
 mod reading;
 mod writing;
 
+pub use capture_reader::{Block, CaptureReader};
 pub use damaging::{DamageError, Hit, damage};
 pub use lanes::Lanes;
 pub use reading::{CaptureError, CaptureFault, Rows, read_capture};
