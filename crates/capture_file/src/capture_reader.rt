@@ -1,6 +1,6 @@
 //! A capture that is read block by block.
 ghost use Rattle.std.specs.Prelude.{◌≡◌, ◌⊎◌, ℕ, ◌+◌, ◌*◌, ◌/◌, ◌^◌, ◌<◌, ◌≤◌, ◌↔◌, ⊤, true, false, Bool, List, [], ◌++◌, length, take, slice_index, get_or, Some, IfOk, IfErr, OnOk, OnErr, IfSome, IfNone, MatchOption, IsTrue};
-ghost use Rattle.std.specs.Borrow.{sem, RestsIfErr};
+ghost use Rattle.std.specs.Borrow.{sem};
 ghost use Rattle.std.specs.Io.KnownBytes.{Consumes, IsAtEnd};
 ghost use Rattle.tmds_word.specs.Bits.{bytes_bits};
 ghost use Rattle.capture_file.specs.Layout.{packed};
@@ -45,32 +45,47 @@ impl<'a, S: Source> CaptureReader<'a, S> {
     ghost use mir.Syntax.{named};
     ghost use denote.Follow.{follows_so};
 
-    /// Reads the header, and nothing behind it.
+    /// A reader that has read nothing, and is not open yet.
+    pub fn new(source: &'a mut S) -> CaptureReader<'a, S>
+        ensures same { result.source.ghost_name ≡ source.entry.ghost_name }
+        ensures source { result.source.now ≡ source.old }
+        ensures open { result.is_open ≡ false }
+    {
+        CaptureReader {
+            source,
+            version: 1,
+            bits: [0; 3],
+            block: 0,
+            is_open: false,
+            lanes: Chunks::new(),
+        }
+    }
+
+    /// Reads the header of a capture, and nothing behind it. With an answer that is no error the reader is open.
     ///
     /// # Errors
     ///
     /// `Bad` where the bytes have no whole header, with the least place that shows it; `Read` where the
     /// source fails.
-    pub fn open(source: &'a mut S) -> Result<CaptureReader<'a, S>, CaptureError>
-        ensures same { IfOk result (λ r. r.source.ghost_name ≡ source.entry.ghost_name) }
-        ensures fresh { IfOk result (λ r. (r.is_open ≡ true) × (r.block ≡ 0)) }
-        ensures said { IfOk result (λ r. CanSay r.version r.bits) }
-        ensures ok { IfOk result (λ r. (head : List ℕ) × Consumes (S.left source.old) (S.left r.source.now) head × Stands r.version r.bits r.block head [] [] []) }
-        ensures ok_later { IfOk result (λ r. S.faults source.old ≤ S.faults r.source.now) }
-        ensures err { (bytes : List ℕ) → S.left source.old ≡ Some bytes → IfErr result (λ e. SaysOf (λ fault. IsEarlyFault bytes fault) e) }
-        ensures* rests { sem 𝓛 (RestsIfErr S.row source.entry (λ r. r.source.ghost_name) result (λ n.
-            (S.faults source.old ≤ S.faults n)
-            × IfErr result (λ e. IsCaused (S.faults source.old) (S.faults n) e × SaysRead ((part : List ℕ) × IsHeadless part × Consumes (S.left source.old) (S.left n) part) e))) }
+    pub fn open(&mut self) -> Result<(), CaptureError>
+        ensures same { self.new.source.ghost_name ≡ self.old.source.ghost_name }
+        ensures opened { OnOk result (self.new.is_open ≡ true) }
+        ensures spent { OnErr result (self.new.is_open ≡ false) }
+        ensures said { OnOk result (CanSay self.new.version self.new.bits) }
+        ensures ok { OnOk result ((head : List ℕ) × Consumes (S.left self.old.source.now) (S.left self.new.source.now) head × Stands self.new.version self.new.bits self.new.block head [] [] []) }
+        ensures err { (bytes : List ℕ) → S.left self.old.source.now ≡ Some bytes → IfErr result (λ e. SaysOf (λ fault. IsEarlyFault bytes fault) e) }
+        ensures part { IfErr result (λ e. SaysRead ((part : List ℕ) × IsHeadless part × Consumes (S.left self.old.source.now) (S.left self.new.source.now) part) e) }
+        ensures caused { IfErr result (λ e. IsCaused (S.faults self.old.source.now) (S.faults self.new.source.now) e) }
+        ensures later { S.faults self.old.source.now ≤ S.faults self.new.source.now }
     {
-        let heading = read_heading(source)?;
-        Ok(CaptureReader {
-            source,
-            version: heading.version,
-            bits: heading.bits,
-            block: 0,
-            is_open: true,
-            lanes: Chunks::new(),
-        })
+        self.is_open = false;
+        let heading = read_heading(self.source)?;
+        let bits = heading.bits;
+        self.version = heading.version;
+        self.bits = bits;
+        self.block = 0;
+        self.is_open = true;
+        Ok(())
     }
 
     /// How many bits a lane has: blue is 0, green is 1 and red is 2.
