@@ -46,13 +46,13 @@ pub same_count : (m n : ℕ) (x y : List ℕ) → m < 2 ^ 32 → n < 2 ^ 32 → 
 same_count m n x y lm ln e = same_header m n lm ln (same_front (header m) x (header n) y e (length-header m ∙ sym (length-header n)))
 
 -- chunks and blocks of longer lanes
-chunk-longer : (k : ℕ) (a u : List ℕ) → 4096 * k + 4096 ≤ length a → chunk k (a ++ u) ≡ chunk k a
+pub chunk-longer : (k : ℕ) (a u : List ℕ) → 4096 * k + 4096 ≤ length a → chunk k (a ++ u) ≡ chunk k a
 unfolding chunk
 chunk-longer k a u room =
     ap (λ xs. take 4096 xs) (drop-append-le (4096 * k) a u (omega arith))
     ∙ take-append-le 4096 (drop (4096 * k) a) u (omega (arith, length-drop (4096 * k) a))
 
-chunk-next : (j : ℕ) (a u : List ℕ) → length a ≡ 4096 * j → chunk j (a ++ u) ≡ take 4096 u
+pub chunk-next : (j : ℕ) (a u : List ℕ) → length a ≡ 4096 * j → chunk j (a ++ u) ≡ take 4096 u
 unfolding chunk
 chunk-next j a u len = ap (λ n. take 4096 (drop n (a ++ u))) (sym len) ∙ ap (λ xs. take 4096 xs) (drop-append_seam a u)
 
@@ -174,7 +174,7 @@ part_of-begun piece n count are less is =
           ∙ take-append-add piece (packed fill) (4096 - length piece),
     )
 
-length-chunk_of : (j : ℕ) (a : List ℕ) → length (chunk j a) ≡ min 4096 (length a - 4096 * j)
+pub length-chunk_of : (j : ℕ) (a : List ℕ) → length (chunk j a) ≡ min 4096 (length a - 4096 * j)
 unfolding chunk
 length-chunk_of j a = length-take 4096 (drop (4096 * j) a) ∙ ap (λ n. min 4096 n) (length-drop (4096 * j) a)
 

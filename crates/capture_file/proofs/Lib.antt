@@ -8,3 +8,11 @@ pub mod Marks
 pub mod Blocks
 pub mod Hits
 pub mod Refused
+pub mod Pieces
+pub mod Heads
+pub mod Opens
+pub mod Takings
+pub mod Stops
+pub mod Judged
+pub mod Rooms
+pub mod Standing

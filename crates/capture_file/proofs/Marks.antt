@@ -26,7 +26,7 @@ consumed_to (Some rest) bytes xs h = (rest, h, refl)
 pub consumed : (old new : Option (List ℕ)) (bytes xs : List ℕ) → old ≡ Some bytes → Consumes old new xs → (rest : List ℕ) × (bytes ≡ xs ++ rest) × (new ≡ Some rest)
 consumed old new bytes xs e h = consumed_to new bytes xs (subst (λ o. Consumes o new xs) e h)
 
-take_bytes : (n : ℕ) (xs : List ℕ) → AreBytes xs → AreBytes (take n xs)
+pub take_bytes : (n : ℕ) (xs : List ℕ) → AreBytes xs → AreBytes (take n xs)
 take_bytes zero xs h i = omega arith
 take_bytes (suc n) [] h i = omega arith
 take_bytes (suc n) (x ∷ xs) h zero = h 0
@@ -74,7 +74,7 @@ mark_at bits (suc (suc zero)) tail lt = refl
 mark_at bits (suc (suc (suc zero))) tail lt = refl
 mark_at bits (suc (suc (suc (suc p)))) tail lt = absurd (omega arith)
 
-take_mark : (bits p : ℕ) → p ≤ 4 → take p (header bits) ≡ take p (codes "TMC1")
+pub take_mark : (bits p : ℕ) → p ≤ 4 → take p (header bits) ≡ take p (codes "TMC1")
 unfolding header high_first
 take_mark bits zero lt = refl
 take_mark bits (suc zero) lt = refl
@@ -118,7 +118,7 @@ version_at head rest count len most some =
     ∙ ap Some (get_or-append (take count head) rest 0 3 (omega arith) ∙ get_or-take count head 3 0 some)
 
 -- four bytes are some count
-high_first-of : (a b c d : ℕ) → a < 256 → b < 256 → c < 256 → d < 256 → (bits : ℕ) × (bits < 2 ^ 32) × (high_first bits ≡ a ∷ b ∷ c ∷ d ∷ [])
+pub high_first-of : (a b c d : ℕ) → a < 256 → b < 256 → c < 256 → d < 256 → (bits : ℕ) × (bits < 2 ^ 32) × (high_first bits ≡ a ∷ b ∷ c ∷ d ∷ [])
 unfolding high_first
 high_first-of a b c d la lb lc ld =
     let n = a * 16777216 + b * 65536 + c * 256 + d in
@@ -128,7 +128,7 @@ high_first-of a b c d la lb lc ld =
     let e3 : n % 256 ≡ d = omega arith in
     (n, omega arith, ap₂ (λ p q. p ∷ q ∷ n / 2 ^ 8 % 256 ∷ n % 256 ∷ []) e0 e1 ∙ ap₂ (λ p q. a ∷ b ∷ p ∷ q ∷ []) e2 e3)
 
-four_of : (xs : List ℕ) → length xs ≡ 4 → xs ≡ get_or xs 0 0 ∷ get_or xs 1 0 ∷ get_or xs 2 0 ∷ get_or xs 3 0 ∷ []
+pub four_of : (xs : List ℕ) → length xs ≡ 4 → xs ≡ get_or xs 0 0 ∷ get_or xs 1 0 ∷ get_or xs 2 0 ∷ get_or xs 3 0 ∷ []
 four_of [] len = absurd (omega arith)
 four_of (a ∷ []) len = absurd (omega arith)
 four_of (a ∷ (b ∷ [])) len = absurd (omega arith)
@@ -136,7 +136,7 @@ four_of (a ∷ (b ∷ (c ∷ []))) len = absurd (omega arith)
 four_of (a ∷ (b ∷ (c ∷ (d ∷ [])))) len = refl
 four_of (a ∷ (b ∷ (c ∷ (d ∷ (e ∷ xs))))) len = absurd (omega arith)
 
-get_drop : (n i : ℕ) (xs : List ℕ) → AreBytes xs → get_or (drop n xs) i 0 < 256
+pub get_drop : (n i : ℕ) (xs : List ℕ) → AreBytes xs → get_or (drop n xs) i 0 < 256
 get_drop zero i xs h = h i
 get_drop (suc n) i [] h = h 0
 get_drop (suc n) i (x ∷ xs) h = get_drop n i xs (λ k. h (suc k))
@@ -219,7 +219,7 @@ eight_of (a ∷ (b ∷ [])) len = absurd (omega arith)
 eight_of (a ∷ (b ∷ (c ∷ []))) len = absurd (omega arith)
 eight_of (a ∷ (b ∷ (c ∷ (d ∷ xs)))) len = ap (λ ys. a ∷ b ∷ c ∷ d ∷ ys) (four_of xs (omega arith))
 
-four_bytes : (a b c d : ℕ) → a < 256 → b < 256 → c < 256 → d < 256 → AreBytes (a ∷ b ∷ c ∷ d ∷ [])
+pub four_bytes : (a b c d : ℕ) → a < 256 → b < 256 → c < 256 → d < 256 → AreBytes (a ∷ b ∷ c ∷ d ∷ [])
 four_bytes a b c d la lb lc ld zero = la
 four_bytes a b c d la lb lc ld (suc zero) = lb
 four_bytes a b c d la lb lc ld (suc (suc zero)) = lc

@@ -70,7 +70,7 @@ packed-bytes (b ∷ bs) h =
     packed-append (bits_of 8 b) (bytes_bits bs) e
     ∙ ap₂ (λ xs ys. xs ++ ys) (one_packed b (h 0)) (packed-bytes bs (λ i. h (suc i)))
 
-number-packed : (k n : ℕ) → n < 2 ^ (8 * k) → number (bytes_bits (bytes_of k n)) ≡ n
+pub number-packed : (k n : ℕ) → n < 2 ^ (8 * k) → number (bytes_bits (bytes_of k n)) ≡ n
 unfolding bytes_of bytes_bits number
 number-packed zero n lt = omega arith
 number-packed (suc k) n lt =
@@ -85,7 +85,7 @@ packed-first bs count len =
     let e : length (take count (bytes_bits bs)) ≡ count = length-take-le count (bytes_bits bs) (omega (arith, length-bytes_bits bs)) in
     ap₂ (λ n m. bytes_of ((n + 7) / 8) m) e (number-take count (bytes_bits bs))
 
-as_bytes : (u : List Bool) (count : ℕ) → length u ≡ count → packed u ≡ bytes_of ((count + 7) / 8) (number u)
+pub as_bytes : (u : List Bool) (count : ℕ) → length u ≡ count → packed u ≡ bytes_of ((count + 7) / 8) (number u)
 unfolding packed
 as_bytes u count is = ap (λ n. bytes_of ((n + 7) / 8) (number u)) is
 

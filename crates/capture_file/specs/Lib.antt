@@ -5,3 +5,4 @@ pub mod Faults
 pub mod Reading
 pub mod Damage
 pub mod Refusals
+pub mod Captures

@@ -1,12 +1,17 @@
 //! Captures: the bits of three TMDS lanes as bytes of this project's own layout.
 #![tactic(auto)]
 
+mod capture_reader;
+mod chunk;
 mod chunks;
 mod damaging;
+mod filling;
+mod heading;
 mod lanes;
 mod reading;
 mod writing;
 
+pub use capture_reader::{Block, CaptureReader};
 pub use damaging::{DamageError, Hit, damage};
 pub use lanes::Lanes;
 pub use reading::{CaptureError, CaptureFault, Rows, read_capture};

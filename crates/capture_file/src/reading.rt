@@ -270,7 +270,7 @@ fn read_piece<S: Source>(
 }
 
 /// Whether the bytes of `count` bits have only zeros past them.
-fn is_padded(part: &[u8], count: u32) -> bool
+pub(crate) fn is_padded(part: &[u8], count: u32) -> bool
     requires some { 0 < count }
     requires size { length part.now ≡ (count + 7) / 8 }
     ensures spared { IsTrue result ↔ (part.now ≡ packed (take count (bytes_bits part.now))) }
