@@ -1,5 +1,5 @@
-//! What holds of columns that came with sparse damage, and of what is told of bits. The functions do nothing: what they ensure are the laws.
-//! what they ensure are the laws.
+//! What holds of columns that came with sparse damage, of columns of which no fault is told, and of what is told of bits.
+//! The functions do nothing: what they ensure are the laws.
 ghost use Rattle.link_sink.specs.Laws.{FramingStands, PeriodsStand, LinkLaw, EdgesEnd, FirstEnds, FirstUntil, TapAccounted, PayloadAccounted, OneWrongBit, HasExample, HasPayloadExample};
 ghost use Rattle.link_sink.specs.PeriodLaws.{ControlLaw, VideoLaw, IslandLaw, JoiningLaw};
 ghost use Rattle.link_sink.specs.Literal.{AccountLiteral};
