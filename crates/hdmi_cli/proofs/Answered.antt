@@ -99,83 +99,6 @@ keeps_itself (Some xs) = refl
 keeps : (old new : Option (List ℕ)) → new ≡ old → Keeps old new
 keeps old new same = subst (λ (held : Option (List ℕ)). Keeps old held) (sym same) (keeps_itself old)
 
--- a capture that is listed by such a text
-
-listed : (text : List Thing → List ℕ) (command : Command) (lanes : Tapped) (s : ℕ) (note : List ℕ) (e : Ending) (before after : Devices) (bytes : List ℕ)
-    → ((o : Outcome) → ListsCapture text bytes o → Does command bytes o) → AreLanes lanes.blue lanes.green lanes.red
-    → bytes ≡ capture_of lanes.blue lanes.green lanes.red → IsListed text lanes s note before.held after.held
-    → s ≡ status_of e → note ≡ note_of e → IsAnswered command e before after bytes
-listed text command lanes s note e before after bytes does are is it same told = record {
-  outcome = record { status = s; output = it.output; note = note };
-  does = does (record { status = s; output = it.output; note = note }) (inl (lanes.blue, lanes.green, lanes.red, are, is, it.lists));
-  status = same;
-  note = told;
-  written = it.written;
-}
-
-part_listed : (text : List Thing → List ℕ) (command : Command) (lanes : Tapped) (before after : Devices) (bytes : List ℕ)
-    → ((o : Outcome) → ListsCapture text bytes o → Does command bytes o) → AreLanes lanes.blue lanes.green lanes.red
-    → bytes ≡ capture_of lanes.blue lanes.green lanes.red → IsPartListed text lanes before.held after.held → IsPart command before after bytes
-part_listed text command lanes before after bytes does are is it = record {
-  outcome = it.outcome;
-  gone = it.gone;
-  does = does it.outcome (inl (lanes.blue, lanes.green, lanes.red, are, is, it.lists));
-  status = it.status;
-  missing = it.missing;
-  written = it.written;
-}
-
--- want of memory once the listing may have begun, or before
-
-begun : (text : List Thing → List ℕ) (command : Command) (lanes : Tapped) (before after : Devices) (bytes : List ℕ)
-    → ((o : Outcome) → ListsCapture text bytes o → Does command bytes o) → AreLanes lanes.blue lanes.green lanes.red
-    → bytes ≡ capture_of lanes.blue lanes.green lanes.red → Keeps before.held after.held ⊎ IsPartListed text lanes before.held after.held
-    → Keeps before.held after.held ⊎ IsPart command before after bytes
-begun text command lanes before after bytes does are is (inl kept) = inl kept
-begun text command lanes before after bytes does are is (inr it) = inr (part_listed text command lanes before after bytes does are is it)
-
--- the command ends as the listing of the lanes does
-pub recovered : (text : List Thing → List ℕ) (command : Command) (lanes : Tapped) (e : Ending) (before after : Devices)
-    → ((bytes : List ℕ) (o : Outcome) → ListsCapture text bytes o → Does command bytes o) → (HasBegun command before after → Ends command NoMemory before after)
-    → AreLanes lanes.blue lanes.green lanes.red → IsAtEnd after.left
-    → ((bytes : List ℕ) → before.left ≡ Some bytes → bytes ≡ capture_of lanes.blue lanes.green lanes.red)
-    → ListEnds text lanes e before.held after.held before.output_faults after.output_faults → Ends command e before after
-recovered text command lanes Done before after does unheld are ended is ends =
-    (ended, λ bytes told. listed text command lanes 0 [] Done before after bytes (does bytes) are (is bytes told) ends refl refl)
-recovered text command lanes Faulty before after does unheld are ended is ends =
-    (ended, λ bytes told. listed text command lanes 1 [] Faulty before after bytes (does bytes) are (is bytes told) ends refl refl)
-recovered text command lanes Unaligned before after does unheld are ended is ends =
-    (ended, ends.0, λ bytes told. listed text command lanes 7 _ Unaligned before after bytes (does bytes) are (is bytes told) ends.1 refl refl)
-recovered text command lanes WriteFailed before after does unheld are ended is ends =
-    (ends.0, λ bytes told. part_listed text command lanes before after bytes (does bytes) are (is bytes told) ends.1)
-recovered text command lanes NoMemory before after does unheld are ended is ends =
-    unheld (λ bytes told. begun text command lanes before after bytes (does bytes) are (is bytes told) ends)
-recovered text command lanes Usage before after does unheld are ended is ends = absurd ends
-recovered text command lanes (Listing fault) before after does unheld are ended is ends = absurd ends
-recovered text command lanes (Capture fault) before after does unheld are ended is ends = absurd ends
-recovered text command lanes (Place i) before after does unheld are ended is ends = absurd ends
-recovered text command lanes ReadFailed before after does unheld are ended is ends = absurd ends
-
--- the command ends as the reading of the capture does
-pub unread : (text : List Thing → List ℕ) (command : Command) (error : CaptureError) (before after : Devices)
-    → ((bytes : List ℕ) (o : Outcome) → ListsCapture text bytes o → Does command bytes o) → (HasBegun command before after → Ends command NoMemory before after)
-    → after.held ≡ before.held
-    → IsCaused before.input_faults after.input_faults error
-    → ((bytes : List ℕ) → before.left ≡ Some bytes → AnswersBytes bytes (λ (rows : Tapped). capture_of rows.blue rows.green rows.red) (Err error))
-    → Ends command (refused_ending error) before after
-unread text command (BadCapture fault) before after does unheld kept caused answers = (
-  keeps before.held after.held kept,
-  λ bytes told. record {
-    outcome = record { status = 3; output = []; note = capture_note fault };
-    does = does bytes (record { status = 3; output = []; note = capture_note fault }) (inr (fault, answers bytes told, refl));
-    status = refl;
-    note = refl;
-    written = subst (λ h. Appends before.held h []) (sym kept) (Appends-nil before.held);
-  },
-)
-unread text command CaptureUnread before after does unheld kept caused answers = (keeps before.held after.held kept, caused)
-unread text command CaptureUnheld before after does unheld kept caused answers = unheld (λ bytes told. inl (keeps before.held after.held kept))
-
 -- `damage`
 
 -- what a copy of a capture with its hits says of its answer
@@ -234,7 +157,7 @@ damaged words (Ok done) before after it = (
 )
 damaged words (Err (damages.Bad fault)) before after it =
     let kept = it.unwritten (λ same. bad_is_no_write fault same) in (
-      kept,
+      tt,
       λ bytes told. let bad = it.bad bytes fault told refl in
           damage_refused words (Capture fault) (capture_note fault) before after bytes (inr (inr (fault, bad.0, bad.1, refl))) refl refl kept,
     )
@@ -243,7 +166,7 @@ damaged words (Err (damages.Place i)) before after it =
       kept,
       λ bytes told. damage_refused words (Place i) (place_note i) before after bytes (inr (inl (i, it.place bytes i told refl, refl))) refl refl kept,
     )
-damaged words (Err damages.Read) before after it = (it.unwritten (λ same. read_is_no_write same), it.read_cause refl)
+damaged words (Err damages.Read) before after it = (it.read_cause refl, it.unwritten (λ same. read_is_no_write same))
 damaged words (Err damages.Write) before after it = (
   it.write_cause refl,
   λ bytes told. let p = it.part bytes told refl in record {

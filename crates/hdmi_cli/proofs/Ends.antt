@@ -1,5 +1,5 @@
 -- What each clause of a run says, from how the run ended.
-use Rattle.std.proofs.Common.{◌≡◌, ◌⊎◌, ℕ, zero, suc, ◌<◌, Bool, true, false, not, ◌==◌, ◌&&◌, List, [], ◌∷◌, length, take, refl, ap, sym, ◌∙◌, subst, inl, inr, arith, eq-eqb}
+use Rattle.std.proofs.Common.{◌≡◌, ◌⊎◌, ℕ, zero, suc, Bool, true, false, not, ◌==◌, ◌&&◌, List, [], ◌∷◌, refl, ap, sym, ◌∙◌, subst, inl, inr, arith, eq-eqb}
 use Rattle.std.specs.Prelude.{Option, None, Some, Result, Ok, IfOk, MatchOption, Contains}
 use Rattle.std.specs.List.{list_all}
 use Rattle.std.specs.Io.KnownBytes.{Appends, IsAtEnd, Keeps}
@@ -10,10 +10,11 @@ use Rattle.command_line.specs.Commands.{IsCommand as IsLine}
 use Rattle.command_line.proofs.Laws.{command_once}
 use Rattle.hdmi_cli.specs.Notes.{usage_note, memory_note}
 use Rattle.hdmi_cli.specs.Outcome.{Outcome, IsOutcome, NamesNone}
-use Rattle.hdmi_cli.specs.Endings.{Devices, Answers, IsPart, EndsUnheld, Ends, RunEnds, status_of, note_of}
+use Rattle.hdmi_cli.specs.Endings.{Devices, Answers, Ends, ReadsCapture, RunEnds, RunUnread, RunUnwritten, status_of, note_of}
 use Rattle.hdmi_cli.specs.Runs.{IsNoteOf}
 use Rattle.command_line.specs.declared.command.Command.{Command}
-use Rattle.command_line.specs.declared.command.Command.TheVariants.{MakeLink, MakeContent, RecoverLink, RecoverContent, Check, Damage, Sample}
+use Rattle.command_line.specs.declared.tap.TapWords.{TapWords}
+use Rattle.command_line.specs.declared.command.Command.TheVariants.{MakeLink}
 use Rattle.hdmi_cli.specs.declared.ending.Ending.{Ending}
 use Rattle.hdmi_cli.specs.declared.ending.Ending.TheVariants.{Done, Faulty, Usage, Listing, Capture, Place, ReadFailed, WriteFailed, NoMemory, Unaligned}
 
@@ -33,17 +34,10 @@ pub record Says (words : List (List ℕ)) (before after : Devices) (status : ℕ
   pub write_failed : status ≡ 5 → Rose before.output_faults after.output_faults
   pub ended : Contains (0 ∷ 1 ∷ 7 ∷ []) status → IsAtEnd after.left
   pub unread : status ≡ 2 → Keeps before.left after.left
-  pub unwritten : Contains (2 ∷ 3 ∷ 4 ∷ 7 ∷ []) status → Keeps before.held after.held
-  pub part :
-      status ≡ 5 → (text : List ℕ) → before.left ≡ Some text
-      → (o : Outcome) × (gone : ℕ) × IsOutcome words text o × Contains (0 ∷ 1 ∷ []) o.status × (gone < length o.output)
-      × Appends before.held after.held (take gone o.output)
-  pub unheld : status ≡ 6 → Keeps before.held after.held ⊎ IsCommand words RecoverLink ⊎ IsCommand words Check
-  pub begun :
-      status ≡ 6 → (text : List ℕ) → before.left ≡ Some text
-      → Keeps before.held after.held
-      ⊎ ((o : Outcome) × (gone : ℕ) × IsOutcome words text o × Contains (0 ∷ 1 ∷ []) o.status × (gone < length o.output)
-      × Appends before.held after.held (take gone o.output))
+  pub unwritten : Contains (2 ∷ 6 ∷ 7 ∷ []) status → Keeps before.held after.held
+  pub refused : status ≡ 3 → (tap : TapWords) → IsCommand words (MakeLink tap) → Keeps before.held after.held
+  pub cut_short : status ≡ 4 → RunUnread words before after
+  pub part : status ≡ 5 → RunUnwritten words before after
   pub noted : IsNoteOf words before.left status note
 
 clash : (b c : Bool) → (not b && c) ≡ true → b ≡ true → ⊥
@@ -111,39 +105,6 @@ no_done : (n : ℕ) → (n == 0) ≡ false → (n == 1) ≡ false → (n ≡ 0) 
 no_done n a b (inl is) = unlike n 0 a is
 no_done n a b (inr is) = unlike n 1 b is
 
--- what stands after want of memory
-
-unheld_by : (words : List (List ℕ)) (command : Command) (before after : Devices) → IsCommand words command → EndsUnheld command before after
-    → Keeps before.held after.held ⊎ IsCommand words RecoverLink ⊎ IsCommand words Check
-unheld_by words (MakeLink tap) before after named ends = inl ends
-unheld_by words RecoverLink before after named ends = inr (inl named)
-unheld_by words Check before after named ends = inr (inr named)
-unheld_by words (Damage damages) before after named ends = inl ends
-unheld_by words (MakeContent tap) before after named ends = absurd ends
-unheld_by words RecoverContent before after named ends = absurd ends
-unheld_by words (Sample frames) before after named ends = absurd ends
-
-begun_of : (words : List (List ℕ)) (command : Command) (before after : Devices) (text : List ℕ) → IsCommand words command
-    → Keeps before.held after.held ⊎ IsPart command before after text
-    → Keeps before.held after.held
-    ⊎ ((o : Outcome) × (gone : ℕ) × IsOutcome words text o × Contains (0 ∷ 1 ∷ []) o.status × (gone < length o.output)
-    × Appends before.held after.held (take gone o.output))
-begun_of words command before after text named (inl kept) = inl kept
-begun_of words command before after text named (inr p) = inr (p.outcome, p.gone, inl (command, named, p.does), p.status, p.missing, p.written)
-
-begun_by : (words : List (List ℕ)) (command : Command) (before after : Devices) → IsCommand words command → EndsUnheld command before after
-    → (text : List ℕ) → before.left ≡ Some text
-    → Keeps before.held after.held
-    ⊎ ((o : Outcome) × (gone : ℕ) × IsOutcome words text o × Contains (0 ∷ 1 ∷ []) o.status × (gone < length o.output)
-    × Appends before.held after.held (take gone o.output))
-begun_by words (MakeLink tap) before after named ends text told = inl ends
-begun_by words RecoverLink before after named ends text told = begun_of words RecoverLink before after text named (ends text told)
-begun_by words Check before after named ends text told = begun_of words Check before after text named (ends text told)
-begun_by words (Damage damages) before after named ends text told = inl ends
-begun_by words (MakeContent tap) before after named ends text told = absurd ends
-begun_by words RecoverContent before after named ends text told = absurd ends
-begun_by words (Sample frames) before after named ends text told = absurd ends
-
 -- what a command's ending says
 command_says : (words : List (List ℕ)) (command : Command) (e : Ending) (before after : Devices) → IsCommand words command → Ends command e before after → Says words before after (status_of e) (note_of e)
 command_says words command Done before after named ends = record {
@@ -156,10 +117,10 @@ command_says words command Done before after named ends = record {
   write_failed = λ h. absurd (omega arith);
   ended = λ h. ends.0;
   unread = λ h. absurd (omega arith);
-  unwritten = λ h. absurd (none_of (2 ∷ 3 ∷ 4 ∷ 7 ∷ []) 0 refl h);
+  unwritten = λ h. absurd (none_of (2 ∷ 6 ∷ 7 ∷ []) 0 refl h);
+  refused = λ h. absurd (omega arith);
+  cut_short = λ h. absurd (omega arith);
   part = λ h. absurd (omega arith);
-  unheld = λ h. absurd (omega arith);
-  begun = λ h. absurd (omega arith);
   noted = record { done = λ h. refl; usage = λ h. absurd (omega arith); refused = λ h. absurd (omega arith); read_failed = λ h. absurd (omega arith); write_failed = λ h. absurd (omega arith); no_memory = λ h. absurd (omega arith); unaligned = λ h. absurd (omega arith) };
 }
 command_says words command Faulty before after named ends = record {
@@ -172,10 +133,10 @@ command_says words command Faulty before after named ends = record {
   write_failed = λ h. absurd (omega arith);
   ended = λ h. ends.0;
   unread = λ h. absurd (omega arith);
-  unwritten = λ h. absurd (none_of (2 ∷ 3 ∷ 4 ∷ 7 ∷ []) 1 refl h);
+  unwritten = λ h. absurd (none_of (2 ∷ 6 ∷ 7 ∷ []) 1 refl h);
+  refused = λ h. absurd (omega arith);
+  cut_short = λ h. absurd (omega arith);
   part = λ h. absurd (omega arith);
-  unheld = λ h. absurd (omega arith);
-  begun = λ h. absurd (omega arith);
   noted = record { done = λ h. refl; usage = λ h. absurd (omega arith); refused = λ h. absurd (omega arith); read_failed = λ h. absurd (omega arith); write_failed = λ h. absurd (omega arith); no_memory = λ h. absurd (omega arith); unaligned = λ h. absurd (omega arith) };
 }
 command_says words command (Listing fault) before after named ends = record {
@@ -188,10 +149,10 @@ command_says words command (Listing fault) before after named ends = record {
   write_failed = λ h. absurd (omega arith);
   ended = λ h. absurd (none_of (0 ∷ 1 ∷ 7 ∷ []) 3 refl h);
   unread = λ h. absurd (omega arith);
-  unwritten = λ h. ends.0;
+  unwritten = λ h. absurd (none_of (2 ∷ 6 ∷ 7 ∷ []) 3 refl h);
+  refused = λ h tap other. ends.0;
+  cut_short = λ h. absurd (omega arith);
   part = λ h. absurd (omega arith);
-  unheld = λ h. absurd (omega arith);
-  begun = λ h. absurd (omega arith);
   noted = record { done = λ h. absurd (no_done 3 refl refl h); usage = λ h. absurd (omega arith); refused = λ h. noted_at words command (Listing fault) before after named ends.1 refl; read_failed = λ h. absurd (omega arith); write_failed = λ h. absurd (omega arith); no_memory = λ h. absurd (omega arith); unaligned = λ h. absurd (omega arith) };
 }
 command_says words command (Capture fault) before after named ends = record {
@@ -204,10 +165,10 @@ command_says words command (Capture fault) before after named ends = record {
   write_failed = λ h. absurd (omega arith);
   ended = λ h. absurd (none_of (0 ∷ 1 ∷ 7 ∷ []) 3 refl h);
   unread = λ h. absurd (omega arith);
-  unwritten = λ h. ends.0;
+  unwritten = λ h. absurd (none_of (2 ∷ 6 ∷ 7 ∷ []) 3 refl h);
+  refused = λ h tap other. absurd (subst ReadsCapture (command_once words command (MakeLink tap) named.0 other.0) ends.0);
+  cut_short = λ h. absurd (omega arith);
   part = λ h. absurd (omega arith);
-  unheld = λ h. absurd (omega arith);
-  begun = λ h. absurd (omega arith);
   noted = record { done = λ h. absurd (no_done 3 refl refl h); usage = λ h. absurd (omega arith); refused = λ h. noted_at words command (Capture fault) before after named ends.1 refl; read_failed = λ h. absurd (omega arith); write_failed = λ h. absurd (omega arith); no_memory = λ h. absurd (omega arith); unaligned = λ h. absurd (omega arith) };
 }
 command_says words command (Place i) before after named ends = record {
@@ -220,10 +181,10 @@ command_says words command (Place i) before after named ends = record {
   write_failed = λ h. absurd (omega arith);
   ended = λ h. absurd (none_of (0 ∷ 1 ∷ 7 ∷ []) 3 refl h);
   unread = λ h. absurd (omega arith);
-  unwritten = λ h. ends.0;
+  unwritten = λ h. absurd (none_of (2 ∷ 6 ∷ 7 ∷ []) 3 refl h);
+  refused = λ h tap other. ends.0;
+  cut_short = λ h. absurd (omega arith);
   part = λ h. absurd (omega arith);
-  unheld = λ h. absurd (omega arith);
-  begun = λ h. absurd (omega arith);
   noted = record { done = λ h. absurd (no_done 3 refl refl h); usage = λ h. absurd (omega arith); refused = λ h. noted_at words command (Place i) before after named ends.1 refl; read_failed = λ h. absurd (omega arith); write_failed = λ h. absurd (omega arith); no_memory = λ h. absurd (omega arith); unaligned = λ h. absurd (omega arith) };
 }
 command_says words command Unaligned before after named ends = record {
@@ -237,25 +198,25 @@ command_says words command Unaligned before after named ends = record {
   ended = λ h. ends.0;
   unread = λ h. absurd (omega arith);
   unwritten = λ h. ends.1;
+  refused = λ h. absurd (omega arith);
+  cut_short = λ h. absurd (omega arith);
   part = λ h. absurd (omega arith);
-  unheld = λ h. absurd (omega arith);
-  begun = λ h. absurd (omega arith);
   noted = record { done = λ h. absurd (no_done 7 refl refl h); usage = λ h. absurd (omega arith); refused = λ h. absurd (omega arith); read_failed = λ h. absurd (omega arith); write_failed = λ h. absurd (omega arith); no_memory = λ h. absurd (omega arith); unaligned = λ h. refl };
 }
 command_says words command ReadFailed before after named ends = record {
   known = (4, omega arith, refl);
-  outcome = λ text told. inl ends.1;
+  outcome = λ text told. inl ends.0;
   usage = λ h. absurd (omega arith);
   unnamed = λ none. absurd (none command named);
   done = λ h. absurd (none_of (0 ∷ 1 ∷ 3 ∷ 7 ∷ []) 4 refl h);
-  read_failed = λ h. ends.1;
+  read_failed = λ h. ends.0;
   write_failed = λ h. absurd (omega arith);
   ended = λ h. absurd (none_of (0 ∷ 1 ∷ 7 ∷ []) 4 refl h);
   unread = λ h. absurd (omega arith);
-  unwritten = λ h. ends.0;
+  unwritten = λ h. absurd (none_of (2 ∷ 6 ∷ 7 ∷ []) 4 refl h);
+  refused = λ h. absurd (omega arith);
+  cut_short = λ h. (command, named, ends.1);
   part = λ h. absurd (omega arith);
-  unheld = λ h. absurd (omega arith);
-  begun = λ h. absurd (omega arith);
   noted = record { done = λ h. absurd (no_done 4 refl refl h); usage = λ h. absurd (omega arith); refused = λ h. absurd (omega arith); read_failed = λ h. refl; write_failed = λ h. absurd (omega arith); no_memory = λ h. absurd (omega arith); unaligned = λ h. absurd (omega arith) };
 }
 command_says words command WriteFailed before after named ends = record {
@@ -268,10 +229,10 @@ command_says words command WriteFailed before after named ends = record {
   write_failed = λ h. ends.0;
   ended = λ h. absurd (none_of (0 ∷ 1 ∷ 7 ∷ []) 5 refl h);
   unread = λ h. absurd (omega arith);
-  unwritten = λ h. absurd (none_of (2 ∷ 3 ∷ 4 ∷ 7 ∷ []) 5 refl h);
-  part = λ h text told. let p = ends.1 text told in (p.outcome, p.gone, inl (command, named, p.does), p.status, p.missing, p.written);
-  unheld = λ h. absurd (omega arith);
-  begun = λ h. absurd (omega arith);
+  unwritten = λ h. absurd (none_of (2 ∷ 6 ∷ 7 ∷ []) 5 refl h);
+  refused = λ h. absurd (omega arith);
+  cut_short = λ h. absurd (omega arith);
+  part = λ h. (command, named, ends.1);
   noted = record { done = λ h. absurd (no_done 5 refl refl h); usage = λ h. absurd (omega arith); refused = λ h. absurd (omega arith); read_failed = λ h. absurd (omega arith); write_failed = λ h. refl; no_memory = λ h. absurd (omega arith); unaligned = λ h. absurd (omega arith) };
 }
 command_says words command NoMemory before after named ends = record {
@@ -284,10 +245,10 @@ command_says words command NoMemory before after named ends = record {
   write_failed = λ h. absurd (omega arith);
   ended = λ h. absurd (none_of (0 ∷ 1 ∷ 7 ∷ []) 6 refl h);
   unread = λ h. absurd (omega arith);
-  unwritten = λ h. absurd (none_of (2 ∷ 3 ∷ 4 ∷ 7 ∷ []) 6 refl h);
+  unwritten = λ h. ends;
+  refused = λ h. absurd (omega arith);
+  cut_short = λ h. absurd (omega arith);
   part = λ h. absurd (omega arith);
-  unheld = λ h. unheld_by words command before after named ends;
-  begun = λ h text told. begun_by words command before after named ends text told;
   noted = record { done = λ h. absurd (no_done 6 refl refl h); usage = λ h. absurd (omega arith); refused = λ h. absurd (omega arith); read_failed = λ h. absurd (omega arith); write_failed = λ h. absurd (omega arith); no_memory = λ h. refl; unaligned = λ h. absurd (omega arith) };
 }
 command_says words command Usage before after named ends = absurd ends
@@ -305,9 +266,9 @@ none_says words before after none left held = record {
   ended = λ h. absurd (none_of (0 ∷ 1 ∷ 7 ∷ []) 2 refl h);
   unread = λ h. left;
   unwritten = λ h. held;
+  refused = λ h. absurd (omega arith);
+  cut_short = λ h. absurd (omega arith);
   part = λ h. absurd (omega arith);
-  unheld = λ h. absurd (omega arith);
-  begun = λ h. absurd (omega arith);
   noted = record { done = λ h. absurd (no_done 2 refl refl h); usage = λ h. refl; refused = λ h. absurd (omega arith); read_failed = λ h. absurd (omega arith); write_failed = λ h. absurd (omega arith); no_memory = λ h. absurd (omega arith); unaligned = λ h. absurd (omega arith) };
 }
 
@@ -323,10 +284,10 @@ unread_says words before after held = record {
   write_failed = λ h. absurd (omega arith);
   ended = λ h. absurd (none_of (0 ∷ 1 ∷ 7 ∷ []) 6 refl h);
   unread = λ h. absurd (omega arith);
-  unwritten = λ h. absurd (none_of (2 ∷ 3 ∷ 4 ∷ 7 ∷ []) 6 refl h);
+  unwritten = λ h. held;
+  refused = λ h. absurd (omega arith);
+  cut_short = λ h. absurd (omega arith);
   part = λ h. absurd (omega arith);
-  unheld = λ h. inl held;
-  begun = λ h text told. inl held;
   noted = record { done = λ h. absurd (no_done 6 refl refl h); usage = λ h. absurd (omega arith); refused = λ h. absurd (omega arith); read_failed = λ h. absurd (omega arith); write_failed = λ h. absurd (omega arith); no_memory = λ h. refl; unaligned = λ h. absurd (omega arith) };
 }
 

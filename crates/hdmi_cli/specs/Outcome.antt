@@ -5,17 +5,17 @@ use Rattle.tmds_word.specs.Column.{Column}
 use Rattle.island_pack.specs.Spelling.{Spells}
 use Rattle.capture_file.specs.declared.reading.CaptureFault.{CaptureFault}
 use Rattle.capture_file.specs.declared.writing.Tap.{Tap}
-use Rattle.capture_file.specs.Layout.{capture_of}
-use Rattle.capture_file.specs.Faults.{AreLanes, IsCapture, IsFault}
+use Rattle.capture_file.specs.Captures.{IsCapture, IsCaptureOf, IsFault, place_of}
 use Rattle.capture_file.specs.Damage.{IsDamaged, IsMisplaced, AreWithin}
 use Rattle.capture_file.specs.declared.damaging.Hit.{Hit}
 use Rattle.capture_file.specs.Taps.{tapped_capture}
 use Rattle.period_grammar.specs.Things.{Thing}
 use Rattle.link_sink.specs.Alignment.{IsAlignedTold, IsNowhereTold}
+use Rattle.link_sink.specs.Sinks.{Fed, IsToldSoFar}
 use Rattle.listing.specs.Reading.{Reading, accepted, refused, reads_as}
-use Rattle.listing.specs.Texts.{link_text, fault_lines}
-use Rattle.listing.specs.Checks.{check_text}
+use Rattle.hdmi_cli.specs.Blocks.{AreBefore}
 use Rattle.hdmi_cli.specs.Commands.{IsCommand, hit_asked, tap_asked}
+use Rattle.hdmi_cli.specs.Listings.{Listing, link_listing, check_listing, content_listing}
 use Rattle.hdmi_cli.specs.Notes.{listing_note, capture_note, place_note, usage_note, alignment_note}
 use Rattle.command_line.specs.declared.command.Command.{Command}
 use Rattle.command_line.specs.declared.command.Command.TheVariants.{MakeLink, MakeContent, RecoverLink, RecoverContent, Check, Damage, Sample}
@@ -36,26 +36,29 @@ abbrev pub status_with : ℕ → ℕ
 status_with zero = 0
 status_with (suc n) = 1
 
--- lanes are listed by such a text of what they tell, or by nothing where they have no full alignment
-abbrev pub ListsLanes : (List Thing → List ℕ) → List Bool → List Bool → List Bool → Outcome → Type 0
-ListsLanes text x y z outcome =
+-- lanes are listed, or nothing is where they have no full alignment
+abbrev pub ListsLanes : Listing → List Bool → List Bool → List Bool → Outcome → Type 0
+ListsLanes listing x y z outcome =
     ((columns : ℕ) × (things : List Thing) × IsAlignedTold x y z columns things
-    × (outcome ≡ record { status = status_with (fault_lines things); output = text things; note = [] }))
+    × (outcome ≡ record { status = status_with (listing.faults things); output = listing.text things; note = [] }))
     ⊎ ((columns : ℕ) × (things : List Thing) × IsNowhereTold x y z columns things
     × (outcome ≡ record { status = 7; output = []; note = alignment_note }))
 
--- bytes are a capture whose lanes are listed, or are refused by the place at which they stop being one
-abbrev pub ListsCapture : (List Thing → List ℕ) → List ℕ → Outcome → Type 0
-ListsCapture text bytes outcome =
-    ((blue green red : List Bool) × AreLanes blue green red × (bytes ≡ capture_of blue green red) × ListsLanes text blue green red outcome)
-    ⊎ ((fault : CaptureFault) × IsFault bytes fault × (outcome ≡ record { status = 3; output = []; note = capture_note fault }))
+-- bytes are refused by the place at which they stop being a capture: what the whole blocks before it tell so far is listed,
+-- and nothing of what an end would tell
+pub record ListsBefore (listing : Listing) (bytes : List ℕ) (fault : CaptureFault) (outcome : Outcome) : Type 0 where
+  pub is : IsFault bytes fault
+  pub fed : Fed
+  pub before : AreBefore bytes (place_of fault) fed
+  pub things : List Thing
+  pub told : IsToldSoFar fed things
+  pub outcome_is : outcome ≡ record { status = 3; output = listing.lines things; note = capture_note fault }
 
--- the listing of a capture
-abbrev pub RecoversLanes : List Bool → List Bool → List Bool → Outcome → Type 0
-RecoversLanes x y z outcome = ListsLanes link_text x y z outcome
-
-abbrev pub RecoversLink : List ℕ → Outcome → Type 0
-RecoversLink bytes outcome = ListsCapture link_text bytes outcome
+-- bytes are a capture, of either version, whose lanes are listed, or are refused
+abbrev pub ListsCapture : Listing → List ℕ → Outcome → Type 0
+ListsCapture listing bytes outcome =
+    ((blue green red : List Bool) × IsCaptureOf blue green red bytes × ListsLanes listing blue green red outcome)
+    ⊎ ((fault : CaptureFault) × ListsBefore listing bytes fault outcome)
 
 -- bytes are a capture whose damaged capture is written, or are refused: by the first hit past its end, or as no capture
 abbrev pub Damages : List Hit → List ℕ → Outcome → Type 0
@@ -67,11 +70,11 @@ Damages hits bytes outcome =
 -- what a command that is carried out makes of the input's bytes
 abbrev pub Does : Command → List ℕ → Outcome → Type 0
 Does (MakeLink tap) input outcome = MakesLink (tap_asked tap) (reads_as input) outcome
-Does RecoverLink input outcome = RecoversLink input outcome
-Does Check input outcome = ListsCapture check_text input outcome
+Does RecoverLink input outcome = ListsCapture link_listing input outcome
+Does RecoverContent input outcome = ListsCapture content_listing input outcome
+Does Check input outcome = ListsCapture check_listing input outcome
 Does (Damage damages) input outcome = Damages (map hit_asked damages) input outcome
 Does (MakeContent tap) input outcome = ⊥
-Does RecoverContent input outcome = ⊥
 Does (Sample frames) input outcome = ⊥
 
 -- the words name no command

@@ -1,0 +1,209 @@
+-- How a command ends that lists what a capture says, from how the capture was heard.
+use Rattle.std.proofs.Common.{◌≡◌, ◌⊎◌, ℕ, zero, suc, ◌<◌, ◌≤◌, Bool, true, false, List, [], ◌∷◌, ◌++◌, length, take, refl, ap, sym, ◌∙◌, subst, inl, inr, arith, append-nil}
+use Rattle.std.specs.Prelude.{Option, Some, None, Result, Ok, Err, OnOk, OnErr}
+use Rattle.std.specs.Io.KnownBytes.{Appends, Consumes, IsAtEnd, Keeps}
+use Rattle.std.proofs.KnownBytes.{Appends-trans}
+use Rattle.outside_io.specs.Causes.{Rose}
+use Rattle.capture_file.specs.Captures.{IsCaptureOf, IsFault, place_of}
+use Rattle.capture_file.specs.declared.reading.CaptureFault.{CaptureFault}
+use Rattle.period_grammar.specs.Things.{Thing}
+use Rattle.link_sink.specs.declared.hear.Outcome.{Outcome as Hearing}
+use Rattle.link_sink.specs.Alignment.{told_by, AreTold, IsAlignedTold, IsNowhereTold}
+use Rattle.link_sink.specs.Sinks.{Fed, IsToldSoFar}
+use Rattle.listing.specs.Texts.{counted}
+use Rattle.command_line.specs.declared.command.Command.{Command}
+use Rattle.hdmi_cli.specs.Blocks.{AreBefore, AreRead, AreNext, IsHeardSoFar, IsBroken}
+use Rattle.hdmi_cli.specs.Endings.{Devices, IsAnswered, ListsRead, ListsPart, EndsUnread, EndsUnwritten, Ends, ReadsCapture, heard_ending, judged_ending, status_of, note_of}
+use Rattle.hdmi_cli.specs.Listings.{Listing}
+use Rattle.hdmi_cli.specs.Notes.{capture_note, alignment_note}
+use Rattle.hdmi_cli.specs.Outcome.{Outcome, ListsLanes, ListsCapture, Does, status_with}
+use Rattle.hdmi_cli.specs.declared.ending.Ending.{Ending}
+use Rattle.hdmi_cli.specs.declared.ending.Ending.TheVariants.{Done, Faulty, Capture, ReadFailed, WriteFailed, Unaligned}
+use Rattle.hdmi_cli.specs.declared.hearing.HearError.{HearError}
+use Rattle.hdmi_cli.specs.declared.hearing.HearError.TheVariants.{Bad, Read, Ear}
+use Rattle.hdmi_cli.proofs.Listings.{IsText, Writes, kept_none, broken_past, text_past, end_past, begins_told}
+
+-- what is seen of the devices, the output through a lister
+abbrev pub seen : Option (List ℕ) → ℕ → Option (List ℕ) → ℕ → Devices
+seen left input_faults held output_faults = record { left = left; input_faults = input_faults; held = held; output_faults = output_faults }
+
+-- a command that lists captures so
+pub record IsLists (listing : Listing) (command : Command) : Type 0 where
+  pub does : (bytes : List ℕ) (o : Outcome) → ListsCapture listing bytes o → Does command bytes o
+  pub reads : ReadsCapture command
+  pub unread : (before after : Devices) → ListsRead listing before after → EndsUnread command before after
+  pub unwritten : (before after : Devices) → ListsPart listing before after → EndsUnwritten command before after
+
+-- a capture was not heard to its end
+pub record Unheard {A : Type 0} (took : A → A → List Thing → Type 0) (broke : A → A → Thing → Type 0) (left rest : Option (List ℕ)) (reads read_faults : ℕ) (old new : A) (writes write_faults : ℕ) (e : HearError) : Type 0 where
+  pub bad :
+      (bytes : List ℕ) (fault : CaptureFault) → left ≡ Some bytes → e ≡ Bad fault
+      → IsFault bytes fault × ((fed : Fed) × AreBefore bytes (place_of fault) fed × IsHeardSoFar took fed old new)
+  pub read :
+      e ≡ Read → Rose reads read_faults
+      × ((fed : Fed) × (read : List ℕ) × Consumes left rest read × AreRead read fed × IsHeardSoFar took fed old new)
+  pub broken :
+      e ≡ Ear → Rose writes write_faults × (before now : Fed) × (things : List Thing) × (read : List ℕ) × Consumes left rest read
+      × ((AreNext before now read × IsToldSoFar now things × IsBroken took broke before things old new)
+      ⊎ ((outcome : Hearing) × IsAtEnd rest × IsCaptureOf now.blue now.green now.red read × AreTold now.blue now.green now.red outcome things × IsBroken took broke now things old new))
+
+-- an input that is read to its end was as long as what was read
+all_read : (left rest : Option (List ℕ)) (read bytes : List ℕ) → Consumes left rest read → IsAtEnd rest → left ≡ Some bytes → bytes ≡ read
+all_read None rest read bytes c end is = absurd (none_some bytes is)
+  where
+    is_none : Option (List ℕ) → Type 0
+    is_none None = Unit {0}
+    is_none (Some x) = ⊥
+    none_some : (x : List ℕ) → None ≡ Some x → ⊥
+    none_some x e = subst is_none e tt
+all_read (Some xs) None read bytes c end is = absurd c
+all_read (Some xs) (Some ys) read bytes c end is = sym (some_same xs bytes is) ∙ c ∙ ap (λ t. read ++ t) end ∙ append-nil read
+  where
+    or_nil : Option (List ℕ) → List ℕ
+    or_nil None = []
+    or_nil (Some x) = x
+    some_same : (x y : List ℕ) → Some x ≡ Some y → x ≡ y
+    some_same x y e = ap or_nil e
+
+nothing_more : {A : Type 0} (x : A) (xs : List A) → [] ≡ x ∷ xs → ⊥
+nothing_more x xs h = cc
+
+-- lanes that are aligned nowhere tell nothing at which an ear could stop
+aligned_if_told : (b : Bool) (x y z : List Bool) (columns : ℕ) (things taken rest : List Thing) (next : Thing) → told_by b x y z columns things → things ≡ taken ++ (next ∷ rest) → IsAlignedTold x y z columns things
+aligned_if_told true x y z columns things taken rest next told is = told
+aligned_if_told false x y z columns things [] rest next told is = absurd (nothing_more next rest (sym told.told ∙ is))
+aligned_if_told false x y z columns things (t ∷ taken) rest next told is = absurd (nothing_more t (taken ++ (next ∷ rest)) (sym told.told ∙ is))
+
+-- the ending of what was not heard to its end
+pub unheard_ends : {A : Type 0} (listing : Listing) (after : List Thing → List Thing → List ℕ) (last : List Thing → List ℕ) (command : Command) (took : A → A → List Thing → Type 0) (broke : A → A → Thing → Type 0) (held : A → Option (List ℕ)) (faults : A → ℕ)
+    (left rest : Option (List ℕ)) (reads read_faults : ℕ) (old new : A) (e : HearError) → IsLists listing command → IsText listing after last → Writes listing after took broke held old
+    → Unheard took broke left rest reads read_faults old new (faults old) (faults new) e
+    → Ends command (heard_ending e) (seen left reads (held old) (faults old)) (seen rest read_faults (held new) (faults new))
+unheard_ends listing after last command took broke held faults left rest reads read_faults old new (Bad fault) lists it writes u =
+    (lists.reads, λ bytes told. let b = u.bad bytes fault told refl in let h = b.1.2 in record {
+      outcome = record { status = 3; output = listing.lines h.things; note = capture_note fault };
+      does = lists.does bytes (record { status = 3; output = listing.lines h.things; note = capture_note fault })
+          (inr (fault, record { is = b.0; fed = b.1.0; before = b.1.1; things = h.things; told = h.told; outcome_is = refl }));
+      status = refl;
+      note = refl;
+      written = writes.grows new h.things h.taken;
+    })
+unheard_ends listing after last command took broke held faults left rest reads read_faults old new Read lists it writes u =
+    let r = u.read refl in let h = r.1.4 in (
+      r.0,
+      lists.unread (seen left reads (held old) (faults old)) (seen rest read_faults (held new) (faults new)) (record {
+        read = r.1.1;
+        consumed = r.1.2;
+        fed = r.1.0;
+        are = r.1.3;
+        things = h.things;
+        told = h.told;
+        written = writes.grows new h.things h.taken;
+      }),
+    )
+unheard_ends listing after last command took broke held faults left rest reads read_faults old new Ear lists it writes u =
+    let b = u.broken refl in
+    (b.0, lists.unwritten (seen left reads (held old) (faults old)) (seen rest read_faults (held new) (faults new)) (part b.1 b.2 b.3 b.4 b.5 b.6))
+  where
+    part : (before now : Fed) (things : List Thing) (read : List ℕ) → Consumes left rest read
+        → ((AreNext before now read × IsToldSoFar now things × IsBroken took broke before things old new)
+        ⊎ ((outcome : Hearing) × IsAtEnd rest × IsCaptureOf now.blue now.green now.red read × AreTold now.blue now.green now.red outcome things × IsBroken took broke now things old new))
+        → ListsPart listing (seen left reads (held old) (faults old)) (seen rest read_faults (held new) (faults new))
+    part before now things read c (inl (next, told, broken)) = record {
+      fed = before;
+      first = broken.first;
+      told = broken.told;
+      things = things;
+      some = inl (now, read, c, next, told, broken_past listing after last took broke held before things old new it writes broken);
+    }
+    part before now things read c (inr (outcome, end, captured, told, broken)) = record {
+      fed = now;
+      first = broken.first;
+      told = broken.told;
+      things = things;
+      some = inr (
+        outcome.columns,
+        end,
+        λ bytes is. subst (λ (bs : List ℕ). IsCaptureOf now.blue now.green now.red bs) (sym (all_read left rest read bytes c end is)) captured,
+        aligned_if_told outcome.aligned now.blue now.green now.red outcome.columns things broken.stops.taken broken.stops.rest broken.stops.next told broken.stops.things_are,
+        text_past listing after last broken.first things (held old) (held new) it (broken_past listing after last took broke held now things old new it writes broken),
+      );
+    }
+
+-- lanes that are aligned nowhere
+
+pub nowhere_ends : (listing : Listing) (after : List Thing → List Thing → List ℕ) (last : List Thing → List ℕ) (command : Command) (fed : Fed) (outcome : Hearing) (things : List Thing) (before now : Devices)
+    → IsLists listing command → IsText listing after last → AreTold fed.blue fed.green fed.red outcome things → outcome.aligned ≡ false
+    → ((bytes : List ℕ) → before.left ≡ Some bytes → IsCaptureOf fed.blue fed.green fed.red bytes) → IsAtEnd now.left → Appends before.held now.held (listing.lines things)
+    → Ends command Unaligned before now
+nowhere_ends listing after last command fed outcome things before now lists it told not captured end written =
+    let n = subst (λ b. told_by b fed.blue fed.green fed.red outcome.columns things) not told in
+    let none = subst (λ (ts : List Thing). Appends before.held now.held (listing.lines ts)) n.told written in (
+      end,
+      kept_none listing after last before.held now.held it none,
+      λ bytes is. record {
+        outcome = record { status = 7; output = []; note = alignment_note };
+        does = lists.does bytes (record { status = 7; output = []; note = alignment_note }) (inl (fed.blue, fed.green, fed.red, captured bytes is, inr (outcome.columns, things, n, refl)));
+        status = refl;
+        note = refl;
+        written = subst (λ (bs : List ℕ). Appends before.held now.held bs) it.none none;
+      },
+    )
+
+-- lanes that are aligned, and the last line
+
+no_faults : (n : ℕ) → 0 ≡ counted 0 n → status_with n ≡ 0
+no_faults zero h = refl
+no_faults (suc n) h = absurd (omega (arith, h))
+
+some_faults : (n m : ℕ) → suc m ≡ counted 0 n → status_with n ≡ 1
+some_faults zero m h = absurd (omega (arith, h))
+some_faults (suc n) m h = refl
+
+-- a count that rose after it had not fallen has risen
+rose_after : (a b c : ℕ) → a ≤ b → Rose b c → Rose a c
+rose_after a b c le (inl more) = inl (omega arith)
+rose_after a b c le (inr top) = inr top
+
+all_answered : (listing : Listing) (after : List Thing → List Thing → List ℕ) (last : List Thing → List ℕ) (command : Command) (e : Ending) (fed : Fed) (columns : ℕ) (things : List Thing) (mid : Option (List ℕ)) (before now : Devices) (bytes : List ℕ)
+    → IsLists listing command → IsText listing after last → IsAlignedTold fed.blue fed.green fed.red columns things → IsCaptureOf fed.blue fed.green fed.red bytes
+    → status_with (listing.faults things) ≡ status_of e → [] ≡ note_of e
+    → Appends before.held mid (listing.lines things) → Appends mid now.held (last things) → IsAnswered command e before now bytes
+all_answered listing after last command e fed columns things mid before now bytes lists it told captured status note written then = record {
+  outcome = record { status = status_with (listing.faults things); output = listing.text things; note = [] };
+  does = lists.does bytes (record { status = status_with (listing.faults things); output = listing.text things; note = [] }) (inl (fed.blue, fed.green, fed.red, captured, inl (columns, things, told, refl)));
+  status = status;
+  note = note;
+  written = subst (λ (bs : List ℕ). Appends before.held now.held bs) (sym (it.whole things)) (Appends-trans before.held mid now.held (listing.lines things) (last things) written then);
+}
+
+judged_ends : {E : Type 0} (listing : Listing) (after : List Thing → List Thing → List ℕ) (last : List Thing → List ℕ) (command : Command) (fed : Fed) (columns : ℕ) (things : List Thing) (mid : Option (List ℕ)) (middle : ℕ) (before now : Devices) (r : Result (Unit {0}) E) (faults : ℕ)
+    → IsLists listing command → IsText listing after last → IsAlignedTold fed.blue fed.green fed.red columns things
+    → ((bytes : List ℕ) → before.left ≡ Some bytes → IsCaptureOf fed.blue fed.green fed.red bytes) → IsAtEnd now.left
+    → Appends before.held mid (listing.lines things) → faults ≡ counted 0 (listing.faults things) → before.output_faults ≤ middle
+    → OnOk r (Appends mid now.held (last things)) → OnErr r ((n : ℕ) × (n < length (last things)) × Appends mid now.held (take n (last things))) → OnErr r (Rose middle now.output_faults)
+    → Ends command (judged_ending r faults) before now
+judged_ends listing after last command fed columns things mid middle before now (Ok done) zero lists it told captured end written count le whole part rose =
+    (end, λ bytes is. all_answered listing after last command Done fed columns things mid before now bytes lists it told (captured bytes is) (no_faults (listing.faults things) count) refl written whole)
+judged_ends listing after last command fed columns things mid middle before now (Ok done) (suc m) lists it told captured end written count le whole part rose =
+    (end, λ bytes is. all_answered listing after last command Faulty fed columns things mid before now bytes lists it told (captured bytes is) (some_faults (listing.faults things) m count) refl written whole)
+judged_ends listing after last command fed columns things mid middle before now (Err failed) faults lists it told captured end written count le whole part rose =
+    let b = begins_told fed columns things told in (
+      rose_after before.output_faults middle now.output_faults le rose,
+      lists.unwritten before now (record {
+        fed = fed;
+        first = b.first;
+        told = b.told;
+        things = things;
+        some = inr (columns, end, captured, told, end_past listing after last b.first things part.0 before.held mid now.held it b.goes part.1 written part.2);
+      }),
+    )
+
+pub heard_ends : {E : Type 0} (listing : Listing) (after : List Thing → List Thing → List ℕ) (last : List Thing → List ℕ) (command : Command) (fed : Fed) (outcome : Hearing) (things : List Thing) (mid : Option (List ℕ)) (middle : ℕ) (before now : Devices) (r : Result (Unit {0}) E) (faults : ℕ)
+    → IsLists listing command → IsText listing after last → AreTold fed.blue fed.green fed.red outcome things → outcome.aligned ≡ true
+    → ((bytes : List ℕ) → before.left ≡ Some bytes → IsCaptureOf fed.blue fed.green fed.red bytes) → IsAtEnd now.left
+    → Appends before.held mid (listing.lines things) → faults ≡ counted 0 (listing.faults things) → before.output_faults ≤ middle
+    → OnOk r (Appends mid now.held (last things)) → OnErr r ((n : ℕ) × (n < length (last things)) × Appends mid now.held (take n (last things))) → OnErr r (Rose middle now.output_faults)
+    → Ends command (judged_ending r faults) before now
+heard_ends listing after last command fed outcome things mid middle before now r faults lists it told is captured end written count le whole part rose =
+    judged_ends listing after last command fed outcome.columns things mid middle before now r faults lists it (subst (λ b. told_by b fed.blue fed.green fed.red outcome.columns things) is told) captured end written count le whole part rose

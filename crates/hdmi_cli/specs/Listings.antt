@@ -1,0 +1,22 @@
+-- The listings that the program can write of what lanes tell.
+use Rattle.std.specs.Prelude.{ℕ, List}
+use Rattle.period_grammar.specs.Things.{Thing}
+use Rattle.listing.specs.Texts.{lines_of, link_text, fault_lines}
+use Rattle.listing.specs.Checks.{check_lines, check_text}
+use Rattle.listing.specs.ContentText.{content_lines, content_text, content_faults, text_of}
+
+-- how things are listed: the lines of what is told so far, the whole text of all that is told, and how many of the lines are
+-- of faults
+pub record Listing : Type 0 where
+  pub lines : List Thing → List ℕ
+  pub text : List Thing → List ℕ
+  pub faults : List Thing → ℕ
+
+abbrev pub link_listing : Listing
+link_listing = record { lines = lines_of; text = link_text; faults = fault_lines }
+
+abbrev pub check_listing : Listing
+check_listing = record { lines = check_lines; text = check_text; faults = fault_lines }
+
+abbrev pub content_listing : Listing
+content_listing = record { lines = λ things. text_of (content_lines things); text = content_text; faults = content_faults }
