@@ -2,7 +2,7 @@
 use Rattle.std.proofs.Common.{◌≡◌, ℕ, suc, zero, ◌+◌, ◌-◌, ◌*◌, ◌/◌, ◌%◌, ◌^◌, ◌<◌, ◌≤◌, Bool, List, [], ◌∷◌, ◌++◌, length, take, drop, min, max, refl, ap, ap₂, ◌∙◌, sym, arith, subst, inl, inr, append_assoc, append-nil, length-append, length-drop, length-take}
 use Rattle.std.specs.Prelude.{Option, slice_index, codes, if◌then◌else◌, ◌==◌, true, false, Result, Ok, Err, IfOk, IfErr, OnOk}
 use Rattle.std.proofs.lemmas.Bool.{cases_lt}
-use Rattle.std.proofs.lemmas.List.{drop_all}
+use Rattle.std.proofs.lemmas.List.{drop_all, take_all}
 use Rattle.std.specs.Io.KnownBytes.{Appends}
 use Rattle.capture_file.specs.Layout.{packed, header, high_first, chunk, block, blocks_below, blocks_of, capture_of}
 use Rattle.capture_file.specs.Captures.{counts_of, header_of, header_two, lane_blocks, layout}
@@ -77,3 +77,12 @@ unfolding layout lane_blocks capture_of header_of
 first_layout x y z ey ez =
     let same : max (length (packed x)) (max (length (packed y)) (length (packed z))) ≡ length (packed x) = omega (arith, ey, ez, length-packed x, length-packed y, length-packed z) in
     ap (λ n. header (length x) ++ blocks_below ((n + 4095) / 4096) (packed x) (packed y) (packed z)) same
+
+-- whole rows of one length, written in the first version
+pub whole_rows : (blue green red : List Bool) (bits : ℕ) → bits ≡ length blue → length green ≡ length blue → length red ≡ length blue
+    → capture_of blue green red ≡ part_capture 1 blue green red (0 ∷ 0 ∷ 0 ∷ []) (bits ∷ bits ∷ bits ∷ [])
+whole_rows blue green red bits is eg er =
+    let b : take bits blue ≡ blue = take_all bits blue (omega arith) in
+    let g : take bits green ≡ green = take_all bits green (omega arith) in
+    let r : take bits red ≡ red = take_all bits red (omega arith) in
+    sym (ap (λ xs. layout 1 xs (take bits green) (take bits red)) b ∙ ap₂ (λ ys zs. layout 1 blue ys zs) g r ∙ first_layout blue green red eg er)
