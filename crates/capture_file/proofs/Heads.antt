@@ -1,6 +1,7 @@
 -- Headers of both versions: what they have in common, and that they tell their counts.
-use Rattle.std.proofs.Common.{◌≡◌, ℕ, suc, zero, ◌+◌, ◌*◌, ◌/◌, ◌%◌, ◌^◌, ◌<◌, ◌≤◌, Bool, List, [], ◌∷◌, ◌++◌, length, take, drop, get_or, refl, ap, ap₂, ◌∙◌, sym, arith, subst, inl, inr, append_assoc, append-nil, length-append}
-use Rattle.std.specs.Prelude.{◌⊎◌, slice_index, codes}
+use Rattle.std.proofs.lemmas.Bool.{ne_eqb}
+use Rattle.std.proofs.Common.{◌≡◌, ◌≢◌, ℕ, suc, zero, ◌+◌, ◌*◌, ◌/◌, ◌%◌, ◌^◌, ◌<◌, ◌≤◌, Bool, List, [], ◌∷◌, ◌++◌, length, take, drop, get_or, refl, ap, ap₂, ◌∙◌, sym, arith, subst, inl, inr, append_assoc, append-nil, length-append}
+use Rattle.std.specs.Prelude.{◌⊎◌, slice_index, codes, if◌then◌else◌}
 use Rattle.std.proofs.Math.ListN.{get_or-append}
 use Rattle.capture_file.specs.Layout.{header, high_first}
 use Rattle.capture_file.specs.Captures.{header_two, header_of, CanSay, IsHeader}
@@ -118,3 +119,11 @@ header_same head counts other same h =
                 ∙ sym (ap (λ v. header_of v other) two)
           ];
     }
+
+pub header_if_two : (version : ℕ) (counts : List ℕ) → version ≡ 2 → header_of version counts ≡ header_two counts
+unfolding header_of
+header_if_two version counts is = ap (λ v. header_of v counts) is
+
+pub header_if_one : (version : ℕ) (counts : List ℕ) → (version ≢ 2) → header_of version counts ≡ header (slice_index counts 0)
+unfolding header_of
+header_if_one version counts not = ap (λ b. if b then header_two counts else header (slice_index counts 0)) (ne_eqb version 2 not)

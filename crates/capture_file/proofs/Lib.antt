@@ -16,3 +16,4 @@ pub mod Stops
 pub mod Judged
 pub mod Rooms
 pub mod Standing
+pub mod Writes

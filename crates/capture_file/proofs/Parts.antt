@@ -1,6 +1,6 @@
 -- Bytes that are written part after part, and the bits that a tap takes of rows.
 use Rattle.std.proofs.Common.{◌≡◌, ℕ, suc, zero, ◌+◌, ◌-◌, ◌*◌, ◌/◌, ◌%◌, ◌^◌, ◌<◌, ◌≤◌, Bool, List, [], ◌++◌, length, take, drop, map, min, slice_index, refl, ap, ap₂, ◌∙◌, sym, arith, subst, append_assoc, length-append, length-drop, length-take, length-take-le, append-nil, add-one, inl, inr}
-use Rattle.std.specs.Prelude.{Option, Some, None}
+use Rattle.std.specs.Prelude.{Option, Some, None, if◌then◌else◌, true, false, ◌==◌}
 use Rattle.std.proofs.Math.Seq.{take-append-add}
 use Rattle.std.proofs.lemmas.Bool.{cases_lt}
 use Rattle.std.proofs.lemmas.List.{take-append-le}
@@ -13,7 +13,7 @@ use Rattle.capture_file.specs.declared.writing.Tap.{Tap}
 use Rattle.capture_file.specs.Lanes.{Collected}
 use Rattle.tmds_word.specs.Words.{all_words, columns_of}
 use Rattle.capture_file.specs.Layout.{packed, chunk, block, blocks_below, header, high_first, capture_of}
-use Rattle.capture_file.specs.Taps.{limited, tap_length, tap_of, greatest, HasBits}
+use Rattle.capture_file.specs.Taps.{limited, tap_count, tap_lag, tap_of, greatest, HasBits}
 use Rattle.capture_file.proofs.Columns.{seen, lanes_of_columns, count_of_columns, row_bits-words_of, length-words_of}
 use Rattle.capture_file.proofs.Packing.{length-part, length-packed}
 
@@ -37,13 +37,18 @@ Appends-part a b c x y rest whole size n is len some first second =
     subst (λ xs. Appends a c xs) (sym cut) (Appends-trans a b c x (take n y) first second)
 
 -- the bits that a tap takes of three rows, and that the rows have them
-pub record LaneParts (blue green red : List Bool) (bits : ℕ) (columns : List Column) (tap : Tap) : Type 0 where
-  pub blue_is : (tap_of columns tap).blue ≡ take bits (drop (tap.offset + slice_index tap.skews 0) blue)
-  pub green_is : (tap_of columns tap).green ≡ take bits (drop (tap.offset + slice_index tap.skews 1) green)
-  pub red_is : (tap_of columns tap).red ≡ take bits (drop (tap.offset + slice_index tap.skews 2) red)
-  pub blue_in : 0 < bits → tap.offset + slice_index tap.skews 0 + bits ≤ length blue
-  pub green_in : 0 < bits → tap.offset + slice_index tap.skews 1 + bits ≤ length green
-  pub red_in : 0 < bits → tap.offset + slice_index tap.skews 2 + bits ≤ length red
+pub record LaneParts (blue green red : List Bool) (p q r : ℕ) (columns : List Column) (tap : Tap) : Type 0 where
+  pub blue_is : (tap_of columns tap).blue ≡ take p (drop (tap.offset + slice_index tap.skews 0) blue)
+  pub green_is : (tap_of columns tap).green ≡ take q (drop (tap.offset + slice_index tap.skews 1) green)
+  pub red_is : (tap_of columns tap).red ≡ take r (drop (tap.offset + slice_index tap.skews 2) red)
+  pub blue_in : 0 < p → tap.offset + slice_index tap.skews 0 + p ≤ length blue
+  pub green_in : 0 < q → tap.offset + slice_index tap.skews 1 + q ≤ length green
+  pub red_in : 0 < r → tap.offset + slice_index tap.skews 2 + r ≤ length red
+
+-- a lane begins no later than its lag says
+if_least : (b : Bool) (s m : ℕ) → s ≤ m → s ≤ (if b then s else m)
+if_least true s m le = omega arith
+if_least false s m le = le
 
 limited_le : (most : Option ℕ) (n : ℕ) → limited most n ≤ n
 limited_le None n = omega arith
@@ -58,23 +63,27 @@ lane_is row words from count bits is whole same =
 lane_in : (n offset most skew bits len : ℕ) → bits ≤ 10 * n - offset - most → skew ≤ most → n ≡ len / 10 → 0 < bits → offset + skew + bits ≤ len
 lane_in n offset most skew bits len le small count some = omega arith
 
-pub lane_parts : (blue green red : List Bool) (refusals bits : ℕ) (now : Collected) (tap : Tap) → seen blue green red refusals ≡ now
-    → length blue % 10 ≡ 0 → length green ≡ length blue → length red ≡ length blue → bits ≡ tap_length tap (length now.columns) → LaneParts blue green red bits now.columns tap
-lane_parts blue green red refusals bits now tap is whole same_green same_red count =
+pub lane_parts : (blue green red : List Bool) (refusals p q r : ℕ) (now : Collected) (tap : Tap) → seen blue green red refusals ≡ now
+    → length blue % 10 ≡ 0 → length green ≡ length blue → length red ≡ length blue → p ≡ tap_count tap (length now.columns) 0 → q ≡ tap_count tap (length now.columns) 1
+    → r ≡ tap_count tap (length now.columns) 2 → LaneParts blue green red p q r now.columns tap
+lane_parts blue green red refusals p q r now tap is whole same_green same_red ep eq er =
     let columns = columns_of (all_words blue) (all_words green) (all_words red) in
     let from_seen : columns ≡ now.columns = ap (λ s. s.columns) is in
+    let n = length now.columns in
     let counts : (row : List Bool) → length row ≡ length blue → length (all_words row) ≡ length (all_words blue) =
-    λ row same. length-words_of row ∙ ap (λ n. n / 10) same ∙ sym (length-words_of blue) in
+    λ row same. length-words_of row ∙ ap (λ m. m / 10) same ∙ sym (length-words_of blue) in
     let lanes = lanes_of_columns (all_words blue) (all_words green) (all_words red) (counts green same_green) (counts red same_red) in
-    let number_of : length now.columns ≡ length blue / 10 = sym (ap length from_seen) ∙ count_of_columns blue green red same_green same_red in
-    let le : bits ≤ 10 * length now.columns - tap.offset - greatest tap.skews = omega (arith, count, limited_le tap.bits (10 * length now.columns - tap.offset - greatest tap.skews)) in
+    let number_of : n ≡ length blue / 10 = sym (ap length from_seen) ∙ count_of_columns blue green red same_green same_red in
+    let least : (c : ℕ) → slice_index tap.skews c ≤ greatest tap.skews → slice_index tap.skews c ≤ tap_lag tap c = λ c le. if_least (tap.version == 2) (slice_index tap.skews c) (greatest tap.skews) le in
+    let most : (c k : ℕ) → k ≡ tap_count tap n c → k ≤ 10 * n - tap.offset - tap_lag tap c =
+    λ c k e. omega (arith, e, limited_le tap.bits (10 * n - tap.offset - tap_lag tap c)) in
     record {
-      blue_is = lane_is blue (map (λ c. c.blue) now.columns) (tap.offset + slice_index tap.skews 0) (tap_length tap (length now.columns)) bits (ap (λ cs. map (λ c. c.blue) cs) (sym from_seen) ∙ lanes.blue) whole count;
-      green_is = lane_is green (map (λ c. c.green) now.columns) (tap.offset + slice_index tap.skews 1) (tap_length tap (length now.columns)) bits (ap (λ cs. map (λ c. c.green) cs) (sym from_seen) ∙ lanes.green) (ap (λ n. n % 10) same_green ∙ whole) count;
-      red_is = lane_is red (map (λ c. c.red) now.columns) (tap.offset + slice_index tap.skews 2) (tap_length tap (length now.columns)) bits (ap (λ cs. map (λ c. c.red) cs) (sym from_seen) ∙ lanes.red) (ap (λ n. n % 10) same_red ∙ whole) count;
-      blue_in = λ some. lane_in (length now.columns) tap.offset (greatest tap.skews) (slice_index tap.skews 0) bits (length blue) le (omega arith) number_of some;
-      green_in = λ some. lane_in (length now.columns) tap.offset (greatest tap.skews) (slice_index tap.skews 1) bits (length green) le (omega arith) (number_of ∙ ap (λ n. n / 10) (sym same_green)) some;
-      red_in = λ some. lane_in (length now.columns) tap.offset (greatest tap.skews) (slice_index tap.skews 2) bits (length red) le (omega arith) (number_of ∙ ap (λ n. n / 10) (sym same_red)) some;
+      blue_is = lane_is blue (map (λ c. c.blue) now.columns) (tap.offset + slice_index tap.skews 0) (tap_count tap n 0) p (ap (λ cs. map (λ c. c.blue) cs) (sym from_seen) ∙ lanes.blue) whole ep;
+      green_is = lane_is green (map (λ c. c.green) now.columns) (tap.offset + slice_index tap.skews 1) (tap_count tap n 1) q (ap (λ cs. map (λ c. c.green) cs) (sym from_seen) ∙ lanes.green) (ap (λ m. m % 10) same_green ∙ whole) eq;
+      red_is = lane_is red (map (λ c. c.red) now.columns) (tap.offset + slice_index tap.skews 2) (tap_count tap n 2) r (ap (λ cs. map (λ c. c.red) cs) (sym from_seen) ∙ lanes.red) (ap (λ m. m % 10) same_red ∙ whole) er;
+      blue_in = λ some. lane_in n tap.offset (tap_lag tap 0) (slice_index tap.skews 0) p (length blue) (most 0 p ep) (least 0 (omega arith)) number_of some;
+      green_in = λ some. lane_in n tap.offset (tap_lag tap 1) (slice_index tap.skews 1) q (length green) (most 1 q eq) (least 1 (omega arith)) (number_of ∙ ap (λ m. m / 10) (sym same_green)) some;
+      red_in = λ some. lane_in n tap.offset (tap_lag tap 2) (slice_index tap.skews 2) r (length red) (most 2 r er) (least 2 (omega arith)) (number_of ∙ ap (λ m. m / 10) (sym same_red)) some;
     }
 
 -- chunks, blocks and the capture
@@ -105,7 +114,7 @@ unfolding blocks_below
 blocks-more front a b c j = ap (λ k. front ++ blocks_below k a b c) (add-one j) ∙ sym (append_assoc front (blocks_below j a b c) (block j a b c))
 
 -- what follows a block
-blocks_after : (j k : ℕ) (a b c : List ℕ) → j < k → (rest : List ℕ) × (blocks_below k a b c ≡ (blocks_below j a b c ++ block j a b c) ++ rest)
+pub blocks_after : (j k : ℕ) (a b c : List ℕ) → j < k → (rest : List ℕ) × (blocks_below k a b c ≡ (blocks_below j a b c ++ block j a b c) ++ rest)
 unfolding blocks_below
 blocks_after j zero a b c lt = absurd (omega arith)
 blocks_after j (suc k) a b c lt =

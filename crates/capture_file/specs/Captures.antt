@@ -35,6 +35,10 @@ pub record IsHeader (head : List ℕ) (counts : List ℕ) : Type 0 where
 unfoldable pub lane_blocks : List Bool → List Bool → List Bool → List ℕ
 lane_blocks x y z = blocks_below (blocks_of (max (length (packed x)) (max (length (packed y)) (length (packed z))))) (packed x) (packed y) (packed z)
 
+-- the capture of three lanes in a version: a header and every block, and nothing more
+unfoldable pub layout : ℕ → List Bool → List Bool → List Bool → List ℕ
+layout version x y z = header_of version (counts_of x y z) ++ lane_blocks x y z
+
 -- bytes are the capture of three lanes, in a version that holds them: a header and every block, and nothing more
 pub record IsCaptureOf (x y z : List Bool) (bytes : List ℕ) : Type 0 where
   pub head : List ℕ

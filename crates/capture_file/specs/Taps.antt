@@ -1,10 +1,11 @@
--- The tap of columns: of each lane the bits from a place of its own on, all lanes equally many.
-use Rattle.std.specs.Prelude.{ℕ, ◌+◌, ◌-◌, ◌*◌, ◌^◌, ◌<◌, ◌≤◌, Bool, List, length, take, drop, map, min, max, slice_index, Option, Some, None}
+-- The tap of columns: of each lane the bits from a place of its own on, in the first version all lanes equally many.
+use Rattle.std.specs.Prelude.{ℕ, ◌+◌, ◌-◌, ◌*◌, ◌^◌, ◌<◌, ◌≤◌, Bool, List, length, take, drop, map, min, max, slice_index, Option, Some, None, ◌==◌, if◌then◌else◌}
 use Rattle.tmds_word.specs.Bits.{row_bits}
 use Rattle.tmds_word.specs.Column.{Column, blues, greens, reds}
 use Rattle.tmds_word.specs.Taps.{part_of}
 use Rattle.capture_file.specs.declared.writing.Tap.{Tap}
-use Rattle.capture_file.specs.Layout.{packed, block, capture_of}
+use Rattle.capture_file.specs.Layout.{packed, block}
+use Rattle.capture_file.specs.Captures.{layout}
 
 -- the greatest of three skews
 abbrev pub greatest : List ℕ → ℕ
@@ -15,9 +16,13 @@ abbrev pub limited : Option ℕ → ℕ → ℕ
 limited None n = n
 limited (Some most) n = min n most
 
--- how many bits the tap takes of each lane of so many columns; `-` stops at 0
-abbrev pub tap_length : Tap → ℕ → ℕ
-tap_length tap columns = limited tap.bits (10 * columns - tap.offset - greatest tap.skews)
+-- how many bits later than the offset a lane may begin: in the first version all lanes have as many bits as the latest
+abbrev pub tap_lag : Tap → ℕ → ℕ
+tap_lag tap lane = if tap.version == 2 then slice_index tap.skews lane else greatest tap.skews
+
+-- how many bits the tap takes of a lane of so many columns; `-` stops at 0
+abbrev pub tap_count : Tap → ℕ → ℕ → ℕ
+tap_count tap columns lane = limited tap.bits (10 * columns - tap.offset - tap_lag tap lane)
 
 -- a row has so many bits from a place on, and the place after them fits 32 bits; or none are asked for
 abbrev pub HasBits : List Bool → ℕ → ℕ → Type 0
@@ -32,22 +37,22 @@ pub record Tapped : Type 0 where
 -- lane c gives the bits from the offset plus its skew on
 abbrev pub tap_of : List Column → Tap → Tapped
 tap_of columns tap =
-    let count = tap_length tap (length columns) in
     record {
-      blue = part_of (blues columns) (tap.offset + slice_index tap.skews 0) count;
-      green = part_of (greens columns) (tap.offset + slice_index tap.skews 1) count;
-      red = part_of (reds columns) (tap.offset + slice_index tap.skews 2) count;
+      blue = part_of (blues columns) (tap.offset + slice_index tap.skews 0) (tap_count tap (length columns) 0);
+      green = part_of (greens columns) (tap.offset + slice_index tap.skews 1) (tap_count tap (length columns) 1);
+      red = part_of (reds columns) (tap.offset + slice_index tap.skews 2) (tap_count tap (length columns) 2);
     }
 
--- the capture of a tap
+-- the capture of a tap, in the version that it names
 unfoldable pub tapped_capture : List Column → Tap → List ℕ
-tapped_capture columns tap = let t = tap_of columns tap in capture_of t.blue t.green t.red
+tapped_capture columns tap = let t = tap_of columns tap in layout tap.version t.blue t.green t.red
 
--- of three rows the same number of bits, each from a place of its own on: their capture, and block j of it
-abbrev pub part_capture : List Bool → List Bool → List Bool → List ℕ → ℕ → List ℕ
-part_capture blue green red starts bits =
-    capture_of (take bits (drop (slice_index starts 0) blue)) (take bits (drop (slice_index starts 1) green)) (take bits (drop (slice_index starts 2) red))
+-- of three rows some bits, each from a place of its own on: their capture, and block j of it
+abbrev pub row_part : List Bool → List ℕ → List ℕ → ℕ → List Bool
+row_part row starts bits lane = take (slice_index bits lane) (drop (slice_index starts lane) row)
 
-abbrev pub part_block : ℕ → List Bool → List Bool → List Bool → List ℕ → ℕ → List ℕ
-part_block j blue green red starts bits =
-    block j (packed (take bits (drop (slice_index starts 0) blue))) (packed (take bits (drop (slice_index starts 1) green))) (packed (take bits (drop (slice_index starts 2) red)))
+abbrev pub part_capture : ℕ → List Bool → List Bool → List Bool → List ℕ → List ℕ → List ℕ
+part_capture version blue green red starts bits = layout version (row_part blue starts bits 0) (row_part green starts bits 1) (row_part red starts bits 2)
+
+abbrev pub part_block : ℕ → List Bool → List Bool → List Bool → List ℕ → List ℕ → List ℕ
+part_block j blue green red starts bits = block j (packed (row_part blue starts bits 0)) (packed (row_part green starts bits 1)) (packed (row_part red starts bits 2))

@@ -1,109 +1,99 @@
-use Rattle.std.proofs.Common.{arith, ◌≡◌, ℕ, ◌+◌, ◌*◌, ◌/◌, ◌<◌, ◌++◌, Bool, List, length, take, drop, slice_index, ap, ◌∙◌, sym, length-append}
+use Rattle.std.proofs.Common.{arith, ◌≡◌, ℕ, ◌+◌, ◌*◌, ◌/◌, ◌<◌, ◌≤◌, ◌++◌, Bool, List, max, length, slice_index, ap, ◌∙◌, sym, length-append}
 use Rattle.std.proofs.lemmas.Result.{err_from_is_err_and}
-use Rattle.capture_file.specs.Layout.{packed, header, block, blocks_below}
-use Rattle.capture_file.specs.Taps.{HasBits, part_capture}
-use Rattle.capture_file.proofs.Parts.{CaptureParts, capture_parts, length-lane, Appends-first, Appends-part, Appends-two, blocks-more, no_blocks, length-block}
+use Rattle.capture_file.specs.Layout.{packed, block, blocks_below}
+use Rattle.capture_file.specs.Captures.{header_of}
+use Rattle.capture_file.specs.Taps.{HasBits, row_part, part_capture}
+use Rattle.capture_file.proofs.Parts.{length-lane, Appends-first, Appends-part, Appends-two, blocks-more, no_blocks}
+use Rattle.capture_file.proofs.Writes.{Layouts, layouts, short_header}
 use Rattle.capture_file.proofs.writing.write_rows.Goals as goal
 
-abbrev lane_bytes : ℕ → ℕ → List Bool → List ℕ
-lane_bytes bits from row = packed (take bits (drop from row))
+parts : (version : ℕ) (blue green red : List Bool) (starts bits : List ℕ) (inner most : ℕ) → HasBits blue (slice_index starts 0) (slice_index bits 0) → HasBits green (slice_index starts 1) (slice_index bits 1)
+    → HasBits red (slice_index starts 2) (slice_index bits 2) → inner ≡ max (slice_index bits 1) (slice_index bits 2) → most ≡ max (slice_index bits 0) inner
+    → Layouts version (row_part blue starts bits 0) (row_part green starts bits 1) (row_part red starts bits 2) bits most
+parts version blue green red starts bits inner most b g r ei em =
+    layouts version (row_part blue starts bits 0) (row_part green starts bits 1) (row_part red starts bits 2) bits most
+    (length-lane blue (slice_index starts 0) (slice_index bits 0) b) (length-lane green (slice_index starts 1) (slice_index bits 1) g) (length-lane red (slice_index starts 2) (slice_index bits 2) r)
+    (em ∙ ap (λ n. max (slice_index bits 0) n) ei)
 
-parts_of : (blue green red : List Bool) (starts : List ℕ) (bits : ℕ) → HasBits blue (slice_index starts 0) bits → HasBits green (slice_index starts 1) bits → HasBits red (slice_index starts 2) bits
-    → CaptureParts bits (lane_bytes bits (slice_index starts 0) blue) (lane_bytes bits (slice_index starts 1) green) (lane_bytes bits (slice_index starts 2) red) (part_capture blue green red starts bits)
-parts_of blue green red starts bits b g r =
-    capture_parts (take bits (drop (slice_index starts 0) blue)) (take bits (drop (slice_index starts 1) green)) (take bits (drop (slice_index starts 2) red)) bits
-    (length-lane blue (slice_index starts 0) bits b) (length-lane green (slice_index starts 1) bits g) (length-lane red (slice_index starts 2) bits r)
-
-pub returns-in_err-write_all-clause-part : goal.returns-in_err-write_all-clause-part
-returns-in_err-write_all-clause-part g c =
+pub returns-in_err-gone-clause-part : goal.returns-in_err-gone-clause-part
+returns-in_err-gone-clause-part g c =
     let a = c.args in
     let r = c.requires in
-    let e = c.in_err-write_all.ensures in
-    let k = parts_of a.blue.now a.green.now a.red.now a.starts a.bits r.blue r.green r.red in
+    let e = c.in_err-gone.ensures in
     let p = err_from_is_err_and c.from_residual.result c.from_residual.ensures.1 in
-    let h = c.header_bytes.result in
-    let rest = blocks_below (((a.bits + 7) / 8 + 4095) / 4096) (lane_bytes a.bits (slice_index a.starts 0) a.blue.now) (lane_bytes a.bits (slice_index a.starts 1) a.green.now) (lane_bytes a.bits (slice_index a.starts 2) a.red.now) in
-    let is : part_capture a.blue.now a.green.now a.red.now a.starts a.bits ≡ h ++ rest = k.is ∙ ap (λ xs. xs ++ rest) (sym c.header_bytes.ensures) in
-    rw (p.1, p.2) (Appends-first _ _ h rest _ c.in_err-write_all.field-0.0.gone is e.missing e.part)
+    let k = parts a.version a.blue.now a.green.now a.red.now a.starts a.bits c.max.result c.max-most.result r.blue r.green r.red c.max.ensures c.max-most.ensures in
+    rw (p.1, p.2) (Appends-first _ _ (header_of a.version a.bits) _ _ c.in_err-gone.field-0.0.gone k.is e.missing e.part)
 
-pub returns-in_err-write_all-clause-missing : goal.returns-in_err-write_all-clause-missing
-returns-in_err-write_all-clause-missing g c =
+pub returns-in_err-gone-clause-missing : goal.returns-in_err-gone-clause-missing
+returns-in_err-gone-clause-missing g c =
     let a = c.args in
     let r = c.requires in
-    let e = c.in_err-write_all.ensures in
-    let k = parts_of a.blue.now a.green.now a.red.now a.starts a.bits r.blue r.green r.red in
+    let e = c.in_err-gone.ensures in
     let p = err_from_is_err_and c.from_residual.result c.from_residual.ensures.1 in
-    let h = c.header_bytes.result in
-    let rest = blocks_below (((a.bits + 7) / 8 + 4095) / 4096) (lane_bytes a.bits (slice_index a.starts 0) a.blue.now) (lane_bytes a.bits (slice_index a.starts 1) a.green.now) (lane_bytes a.bits (slice_index a.starts 2) a.red.now) in
-    let is : part_capture a.blue.now a.green.now a.red.now a.starts a.bits ≡ h ++ rest = k.is ∙ ap (λ xs. xs ++ rest) (sym c.header_bytes.ensures) in
-    rw (p.1, p.2) (omega (arith, e.missing, ap length is, length-append h rest))
+    let k = parts a.version a.blue.now a.green.now a.red.now a.starts a.bits c.max.result c.max-most.result r.blue r.green r.red c.max.ensures c.max-most.ensures in
+    let rest = blocks_below (((c.max-most.result + 7) / 8 + 4095) / 4096) (packed (row_part a.blue.now a.starts a.bits 0)) (packed (row_part a.green.now a.starts a.bits 1)) (packed (row_part a.red.now a.starts a.bits 2)) in
+    rw (p.1, p.2) (omega (arith, e.missing, ap length k.is, length-append (header_of a.version a.bits) rest))
 
 pub loop-j-init : goal.loop-j-init
 loop-j-init g c =
     let a = c.args in
-    let e = c.in_ok-write_all.ensures in
-    let x = lane_bytes a.bits (slice_index a.starts 0) a.blue.now in
-    let y = lane_bytes a.bits (slice_index a.starts 1) a.green.now in
-    let z = lane_bytes a.bits (slice_index a.starts 2) a.red.now in
-    let is : c.header_bytes.result ≡ header a.bits ++ blocks_below 0 x y z = c.header_bytes.ensures ∙ sym (no_blocks (header a.bits) x y z) in
-    record { grew = rw is at e.whole; later = c.write_all.ensures.cause.later }
+    let e = c.in_ok-gone.ensures in
+    let h = header_of a.version a.bits in
+    let is = no_blocks h (packed (row_part a.blue.now a.starts a.bits 0)) (packed (row_part a.green.now a.starts a.bits 1)) (packed (row_part a.red.now a.starts a.bits 2)) in
+    record { gone = e.size ∙ sym (ap length is); few = omega (arith, e.size, short_header a.version a.bits); grew = rw is e.whole; later = c.write_header.ensures.cause.later }
 
-pub overflow_add-result-in-Err : goal.overflow_add-result-in-Err
-overflow_add-result-in-Err g c =
+pub loop-j-preserved : goal.loop-j-preserved
+loop-j-preserved g c =
     let a = c.args in
-    let x = lane_bytes a.bits (slice_index a.starts 0) a.blue.now in
-    let y = lane_bytes a.bits (slice_index a.starts 1) a.green.now in
-    let z = lane_bytes a.bits (slice_index a.starts 2) a.red.now in
-    omega (arith, c.in-Err.ensures.missing, length-block c.loop-j.j x y z, c.loop-j-test.true, c.blocks_for-j-end.type_inv)
+    let j = c.loop-j.j in
+    let i = c.loop-j.invariant in
+    let e = c.in-Ok.ensures in
+    let x = packed (row_part a.blue.now a.starts a.bits 0) in
+    let y = packed (row_part a.green.now a.starts a.bits 1) in
+    let z = packed (row_part a.red.now a.starts a.bits 2) in
+    let h = header_of a.version a.bits in
+    let more = blocks-more h x y z j in
+    record {
+      gone = omega (arith, i.gone, e.size.0, ap length more, length-append (h ++ blocks_below j x y z) (block j x y z));
+      few = omega (arith, i.few, e.size.1);
+      grew = Appends-two _ _ _ (h ++ blocks_below j x y z) (block j x y z) _ more i.grew e.whole;
+      later = omega (arith, i.later, c.write_block.ensures.cause.later);
+    }
 
 pub returns-in-Err-clause-part : goal.returns-in-Err-clause-part
 returns-in-Err-clause-part g c =
     let a = c.args in
     let r = c.requires in
     let j = c.loop-j.j in
-    let k = parts_of a.blue.now a.green.now a.red.now a.starts a.bits r.blue r.green r.red in
-    let x = lane_bytes a.bits (slice_index a.starts 0) a.blue.now in
-    let y = lane_bytes a.bits (slice_index a.starts 1) a.green.now in
-    let z = lane_bytes a.bits (slice_index a.starts 2) a.red.now in
-    let some : 32768 * j < a.bits = omega (arith, c.loop-j-test.true, c.blocks_for-j-end.ensures) in
-    let more = k.after j some in
-    Appends-part _ _ _ (header a.bits ++ blocks_below j x y z) (block j x y z) more.0 _ (8 + 12288 * j) c.in-Err.part.gone more.1 (k.front j some) c.in-Err.ensures.missing c.loop-j.invariant.grew c.in-Err.ensures.part
+    let i = c.loop-j.invariant in
+    let x = packed (row_part a.blue.now a.starts a.bits 0) in
+    let y = packed (row_part a.green.now a.starts a.bits 1) in
+    let z = packed (row_part a.red.now a.starts a.bits 2) in
+    let k = parts a.version a.blue.now a.green.now a.red.now a.starts a.bits c.max.result c.max-most.result r.blue r.green r.red c.max.ensures c.max-most.ensures in
+    let more = k.after j (omega (arith, c.loop-j-test.true, c.blocks_for-j-end.ensures)) in
+    Appends-part _ _ _ (header_of a.version a.bits ++ blocks_below j x y z) (block j x y z) more.0 _ c.loop-j.gone c.in-Err.part.gone more.1 (sym i.gone) c.in-Err.ensures.missing i.grew c.in-Err.ensures.part
 
 pub returns-in-Err-clause-missing : goal.returns-in-Err-clause-missing
 returns-in-Err-clause-missing g c =
     let a = c.args in
     let r = c.requires in
     let j = c.loop-j.j in
-    let k = parts_of a.blue.now a.green.now a.red.now a.starts a.bits r.blue r.green r.red in
-    let x = lane_bytes a.bits (slice_index a.starts 0) a.blue.now in
-    let y = lane_bytes a.bits (slice_index a.starts 1) a.green.now in
-    let z = lane_bytes a.bits (slice_index a.starts 2) a.red.now in
-    let some : 32768 * j < a.bits = omega (arith, c.loop-j-test.true, c.blocks_for-j-end.ensures) in
-    let more = k.after j some in
-    let front = header a.bits ++ blocks_below j x y z in
-    omega (arith, c.in-Err.ensures.missing, k.front j some, ap length more.1, length-append (front ++ block j x y z) more.0, length-append front (block j x y z))
-
-pub loop-j-preserved : goal.loop-j-preserved
-loop-j-preserved g c =
-    let a = c.args in
-    let j = c.loop-j.j in
-    let x = lane_bytes a.bits (slice_index a.starts 0) a.blue.now in
-    let y = lane_bytes a.bits (slice_index a.starts 1) a.green.now in
-    let z = lane_bytes a.bits (slice_index a.starts 2) a.red.now in
-    record {
-      grew = Appends-two _ _ _ (header a.bits ++ blocks_below j x y z) (block j x y z) _ (blocks-more (header a.bits) x y z j) c.loop-j.invariant.grew c.in_default.ensures.whole;
-      later = omega (arith, c.loop-j.invariant.later, c.write_block.ensures.cause.later);
-    }
+    let x = packed (row_part a.blue.now a.starts a.bits 0) in
+    let y = packed (row_part a.green.now a.starts a.bits 1) in
+    let z = packed (row_part a.red.now a.starts a.bits 2) in
+    let k = parts a.version a.blue.now a.green.now a.red.now a.starts a.bits c.max.result c.max-most.result r.blue r.green r.red c.max.ensures c.max-most.ensures in
+    let more = k.after j (omega (arith, c.loop-j-test.true, c.blocks_for-j-end.ensures)) in
+    let front = header_of a.version a.bits ++ blocks_below j x y z in
+    omega (arith, c.in-Err.ensures.missing, c.loop-j.invariant.gone, ap length more.1, length-append (front ++ block j x y z) more.0, length-append front (block j x y z))
 
 pub returns-clause-whole : goal.returns-clause-whole
 returns-clause-whole g c =
     let a = c.args in
     let r = c.requires in
-    let k = parts_of a.blue.now a.green.now a.red.now a.starts a.bits r.blue r.green r.red in
-    let x = lane_bytes a.bits (slice_index a.starts 0) a.blue.now in
-    let y = lane_bytes a.bits (slice_index a.starts 1) a.green.now in
-    let z = lane_bytes a.bits (slice_index a.starts 2) a.red.now in
-    let last : c.loop-j.j ≡ ((a.bits + 7) / 8 + 4095) / 4096 = omega (arith, c.loop-j-test.false, c.loop-j.auto.j-end, c.blocks_for-j-end.ensures) in
-    let is : header a.bits ++ blocks_below c.loop-j.j x y z ≡ part_capture a.blue.now a.green.now a.red.now a.starts a.bits =
-    ap (λ i. header a.bits ++ blocks_below i x y z) last ∙ sym k.is in
+    let x = packed (row_part a.blue.now a.starts a.bits 0) in
+    let y = packed (row_part a.green.now a.starts a.bits 1) in
+    let z = packed (row_part a.red.now a.starts a.bits 2) in
+    let k = parts a.version a.blue.now a.green.now a.red.now a.starts a.bits c.max.result c.max-most.result r.blue r.green r.red c.max.ensures c.max-most.ensures in
+    let last : c.loop-j.j ≡ ((c.max-most.result + 7) / 8 + 4095) / 4096 = omega (arith, c.loop-j-test.false, c.loop-j.auto.j-end, c.blocks_for-j-end.ensures) in
+    let is : header_of a.version a.bits ++ blocks_below c.loop-j.j x y z ≡ part_capture a.version a.blue.now a.green.now a.red.now a.starts a.bits = ap (λ i. header_of a.version a.bits ++ blocks_below i x y z) last ∙ sym k.is in
     rw is at c.loop-j.invariant.grew

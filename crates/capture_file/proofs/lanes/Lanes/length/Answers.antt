@@ -1,11 +1,11 @@
-use Rattle.std.proofs.Common.{arith, ◌≡◌, ℕ, ◌-◌, ◌*◌, ◌/◌, ◌%◌, length, min, max, slice_index, ◌∙◌, sym, ap}
-use Rattle.capture_file.specs.Taps.{limited, greatest}
+use Rattle.std.proofs.Common.{arith, ◌≡◌, ℕ, ◌-◌, ◌*◌, ◌/◌, ◌%◌, length, min, ◌∙◌, sym, ap}
+use Rattle.capture_file.specs.Taps.{limited}
 use Rattle.capture_file.proofs.Columns.{count_of_columns}
 use Rattle.capture_file.proofs.lanes.Lanes.length.Goals as goal
 
--- what the rows have past the offset and the greatest skew
-left_is : (len n offset later skew first left : ℕ) → len % 10 ≡ 0 → n ≡ len / 10 → first ≡ len - offset → left ≡ first - skew → skew ≡ later → left ≡ 10 * n - offset - later
-left_is len n offset later skew first left whole count a b e = omega arith
+-- what the rows have past the offset and a lag
+left_is : (len n offset lag first left : ℕ) → len % 10 ≡ 0 → n ≡ len / 10 → first ≡ len - offset → left ≡ first - lag → left ≡ 10 * n - offset - lag
+left_is len n offset lag first left whole count a b = omega arith
 
 pub returns-in-Some : goal.returns-in-Some
 returns-in-Some c =
@@ -13,10 +13,9 @@ returns-in-Some c =
     let tap = c.args.tap.now in
     let n = length c.args.self.now.columns in
     let count : n ≡ length c.self.inside.blue / 10 = sym (ap (λ s. length s.columns) c.self.view_is) ∙ count_of_columns c.self.inside.blue c.self.inside.green c.self.inside.red i.green i.red in
-    let skew : c.max-skew.result ≡ greatest tap.skews = c.max-skew.ensures ∙ ap (λ m. max (slice_index tap.skews 0) m) c.max.ensures in
-    let left : c.saturating_sub-left.result ≡ 10 * n - tap.offset - greatest tap.skews =
-    left_is (length c.self.inside.blue) n tap.offset (greatest tap.skews) c.max-skew.result c.saturating_sub.result c.saturating_sub-left.result i.whole count (c.saturating_sub.ensures ∙ ap (λ m. m - tap.offset) c.len.ensures) c.saturating_sub-left.ensures skew in
-    c.min.ensures ∙ ap (λ m. min m c.in-Some.most) left ∙ ap (λ o. limited o (10 * n - tap.offset - greatest tap.skews)) (sym c.in-Some.is)
+    let left : c.saturating_sub-left.result ≡ 10 * n - tap.offset - c.args.lag =
+    left_is (length c.self.inside.blue) n tap.offset c.args.lag c.saturating_sub.result c.saturating_sub-left.result i.whole count (c.saturating_sub.ensures ∙ ap (λ m. m - tap.offset) c.len.ensures) c.saturating_sub-left.ensures in
+    c.min.ensures ∙ ap (λ m. min m c.in-Some.most) left ∙ ap (λ o. limited o (10 * n - tap.offset - c.args.lag)) (sym c.in-Some.is)
 
 pub returns-in-None : goal.returns-in-None
 returns-in-None c =
@@ -24,7 +23,6 @@ returns-in-None c =
     let tap = c.args.tap.now in
     let n = length c.args.self.now.columns in
     let count : n ≡ length c.self.inside.blue / 10 = sym (ap (λ s. length s.columns) c.self.view_is) ∙ count_of_columns c.self.inside.blue c.self.inside.green c.self.inside.red i.green i.red in
-    let skew : c.max-skew.result ≡ greatest tap.skews = c.max-skew.ensures ∙ ap (λ m. max (slice_index tap.skews 0) m) c.max.ensures in
-    let left : c.saturating_sub-left.result ≡ 10 * n - tap.offset - greatest tap.skews =
-    left_is (length c.self.inside.blue) n tap.offset (greatest tap.skews) c.max-skew.result c.saturating_sub.result c.saturating_sub-left.result i.whole count (c.saturating_sub.ensures ∙ ap (λ m. m - tap.offset) c.len.ensures) c.saturating_sub-left.ensures skew in
-    left ∙ ap (λ o. limited o (10 * n - tap.offset - greatest tap.skews)) (sym c.in-None.is)
+    let left : c.saturating_sub-left.result ≡ 10 * n - tap.offset - c.args.lag =
+    left_is (length c.self.inside.blue) n tap.offset c.args.lag c.saturating_sub.result c.saturating_sub-left.result i.whole count (c.saturating_sub.ensures ∙ ap (λ m. m - tap.offset) c.len.ensures) c.saturating_sub-left.ensures in
+    left ∙ ap (λ o. limited o (10 * n - tap.offset - c.args.lag)) (sym c.in-None.is)

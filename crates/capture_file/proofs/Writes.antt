@@ -1,0 +1,88 @@
+-- Parts of rows, written block by block.
+use Rattle.std.proofs.Common.{◌≡◌, ℕ, suc, zero, ◌+◌, ◌-◌, ◌*◌, ◌/◌, ◌%◌, ◌^◌, ◌<◌, ◌≤◌, Bool, List, [], ◌∷◌, ◌++◌, length, take, drop, min, max, refl, ap, ap₂, ◌∙◌, sym, arith, subst, inl, inr, append_assoc, append-nil, length-append, length-drop, length-take}
+use Rattle.std.specs.Prelude.{Option, slice_index, codes, if◌then◌else◌, ◌==◌, true, false, Result, Ok, Err, IfOk, IfErr, OnOk}
+use Rattle.std.proofs.lemmas.Bool.{cases_lt}
+use Rattle.std.proofs.lemmas.List.{drop_all, take_all}
+use Rattle.std.specs.Io.KnownBytes.{Appends}
+use Rattle.capture_file.specs.Layout.{packed, header, high_first, chunk, block, blocks_below, blocks_of, capture_of}
+use Rattle.capture_file.specs.Captures.{counts_of, header_of, header_two, lane_blocks, layout}
+use Rattle.capture_file.specs.Taps.{HasBits, row_part, part_capture, part_block}
+use Rattle.capture_file.proofs.Packing.{length-packed, chunk-part}
+use Rattle.capture_file.proofs.Parts.{length-lane, blocks_after, blocks-more, block_is}
+use Rattle.capture_file.proofs.Heads.{length-header_two}
+use Rattle.capture_file.proofs.Fronts.{length-header}
+
+-- a lane that has no bits in a block adds nothing
+pub no_chunk : (j bits from : ℕ) (row : List Bool) → HasBits row from bits → min (bits - 32768 * j) 32768 ≡ 0 → chunk j (packed (take bits (drop from row))) ≡ []
+unfolding chunk
+no_chunk j bits from row has none =
+    let lane = packed (take bits (drop from row)) in
+    let len : length lane ≡ (bits + 7) / 8 = length-packed (take bits (drop from row)) ∙ ap (λ n. (n + 7) / 8) (length-lane row from bits has) in
+    ap (λ xs. take 4096 xs) (drop_all (4096 * j) lane (omega (arith, len, none)))
+
+-- a chunk is its own bits packed
+pub some_chunk : (j bits from count : ℕ) (row : List Bool) → HasBits row from bits → 0 < count → count ≡ min (bits - 32768 * j) 32768
+    → chunk j (packed (take bits (drop from row))) ≡ packed (take count (drop (from + 32768 * j) row))
+some_chunk j bits from count row has some is = chunk-part row from bits j count (has (omega arith)).0 (omega arith) is
+
+one_of : (b : Bool) (x y : List ℕ) → length x ≤ 16 → length y ≤ 16 → length (if b then x else y) ≤ 16
+one_of true x y lx ly = lx
+one_of false x y lx ly = ly
+
+pub short_header : (version : ℕ) (bits : List ℕ) → length (header_of version bits) ≤ 16
+unfolding header_of
+short_header version bits = one_of (version == 2) (header_two bits) (header (slice_index bits 0)) (omega (arith, length-header_two bits)) (omega (arith, length-header (slice_index bits 0)))
+
+-- the capture of parts of rows
+pub record Layouts (version : ℕ) (x y z : List Bool) (bits : List ℕ) (most : ℕ) : Type 0 where
+  pub is : layout version x y z ≡ header_of version bits ++ blocks_below (((most + 7) / 8 + 4095) / 4096) (packed x) (packed y) (packed z)
+  pub after : (j : ℕ) → j < ((most + 7) / 8 + 4095) / 4096 → (rest : List ℕ) × (layout version x y z ≡ ((header_of version bits ++ blocks_below j (packed x) (packed y) (packed z)) ++ block j (packed x) (packed y) (packed z)) ++ rest)
+
+same_two : (u v : List ℕ) → slice_index u 0 ≡ slice_index v 0 → slice_index u 1 ≡ slice_index v 1 → slice_index u 2 ≡ slice_index v 2 → header_two u ≡ header_two v
+unfolding header_two
+same_two u v a b c =
+    ap₂ (λ p q. codes "TMC2" ++ high_first p ++ high_first q ++ high_first (slice_index u 2)) a b
+    ∙ ap (λ r. codes "TMC2" ++ high_first (slice_index v 0) ++ high_first (slice_index v 1) ++ high_first r) c
+
+same_header : (version : ℕ) (u v : List ℕ) → slice_index u 0 ≡ slice_index v 0 → slice_index u 1 ≡ slice_index v 1 → slice_index u 2 ≡ slice_index v 2 → header_of version u ≡ header_of version v
+unfolding header_of
+same_header version u v a b c = ap₂ (λ xs ys. if version == 2 then xs else ys) (same_two u v a b c) (ap header a)
+
+pub layouts : (version : ℕ) (x y z : List Bool) (bits : List ℕ) (most : ℕ) → length x ≡ slice_index bits 0 → length y ≡ slice_index bits 1 → length z ≡ slice_index bits 2
+    → most ≡ max (slice_index bits 0) (max (slice_index bits 1) (slice_index bits 2)) → Layouts version x y z bits most
+unfolding layout lane_blocks
+layouts version x y z bits most ex ey ez is =
+    let n = ((most + 7) / 8 + 4095) / 4096 in
+    let a = packed x in
+    let b = packed y in
+    let d = packed z in
+    let h = header_of version bits in
+    let count : blocks_of (max (length a) (max (length b) (length d))) ≡ n = omega (arith, is, ex, ey, ez, length-packed x, length-packed y, length-packed z) in
+    let own : layout version x y z ≡ h ++ blocks_below n a b d = ap₂ (λ p k. p ++ blocks_below k a b d) (same_header version (counts_of x y z) bits ex ey ez) count in
+    record {
+      is = own;
+      after = λ j lt.
+          let more = blocks_after j n a b d lt in (
+            more.0,
+            own
+                ∙ ap (λ xs. h ++ xs) more.1
+                ∙ sym (append_assoc h (blocks_below j a b d ++ block j a b d) more.0)
+                ∙ ap (λ xs. xs ++ more.0) (sym (append_assoc h (blocks_below j a b d) (block j a b d))),
+          );
+    }
+
+-- the capture of lanes of one length is the first version's
+pub first_layout : (x y z : List Bool) → length y ≡ length x → length z ≡ length x → layout 1 x y z ≡ capture_of x y z
+unfolding layout lane_blocks capture_of header_of
+first_layout x y z ey ez =
+    let same : max (length (packed x)) (max (length (packed y)) (length (packed z))) ≡ length (packed x) = omega (arith, ey, ez, length-packed x, length-packed y, length-packed z) in
+    ap (λ n. header (length x) ++ blocks_below ((n + 4095) / 4096) (packed x) (packed y) (packed z)) same
+
+-- whole rows of one length, written in the first version
+pub whole_rows : (blue green red : List Bool) (bits : ℕ) → bits ≡ length blue → length green ≡ length blue → length red ≡ length blue
+    → capture_of blue green red ≡ part_capture 1 blue green red (0 ∷ 0 ∷ 0 ∷ []) (bits ∷ bits ∷ bits ∷ [])
+whole_rows blue green red bits is eg er =
+    let b : take bits blue ≡ blue = take_all bits blue (omega arith) in
+    let g : take bits green ≡ green = take_all bits green (omega arith) in
+    let r : take bits red ≡ red = take_all bits red (omega arith) in
+    sym (ap (λ xs. layout 1 xs (take bits green) (take bits red)) b ∙ ap₂ (λ ys zs. layout 1 blue ys zs) g r ∙ first_layout blue green red eg er)
