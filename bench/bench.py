@@ -9,10 +9,16 @@ so 20,000,000 columns in all. The readers are given the capture of the listing f
 and 35, so that no character begins where a byte does. Next to the program the same capture goes through cat and
 sha256sum, in the same run. Each command is run three times, and the best time counts. MB are those of the capture, and
 columns count as pixels. No peak is told below some 15 MiB, which this script itself has when it starts a program.
+
+Where valgrind is installed, each command's instructions a column are told beside its time. They are counted by
+callgrind in a run of their own, over a listing of 100 lines of 1,920 pixels with 280 columns around each, as a picture
+of 1,920 by 1,080 has them, and its capture from bit 0 on.
 """
 
 import os
 import random
+import re
+import shutil
 import subprocess
 import sys
 import tempfile
@@ -23,6 +29,8 @@ FRONT = os.path.join(TOP, "vabgrot")
 PROGRAM = os.path.join(TOP, "crates", "hdmi_cli", "out", "hdmi_cli")
 COLUMNS = 5000
 PIXELS = 1920
+COUNTED_LINES = 100
+COUNTED_COLUMNS = 2200
 KINDS = 64
 TAP = ["--offset", "123457", "--skew", "0,70,35"]
 DAMAGE = ["1:1000:2cc", "0:12345:133", "2:20007:001"]
@@ -36,12 +44,12 @@ def packet(noise):
     return f"{noise.randbytes(3).hex()} {bodies} {'0' * 32}"
 
 
-def write_listing(path, lines, islands):
-    """A listing of noisy lines; the seed is fixed, so it is the same at each run."""
+def write_listing(path, lines, columns, islands):
+    """A listing of noisy lines of so many columns; the seed is fixed, so it is the same at each run."""
     noise = random.Random(1)
     pixels = [noise.randbytes(3 * PIXELS).hex() for _ in range(KINDS)]
     packets = [ISLAND.format(packet(noise)) if islands else "" for _ in range(KINDS)]
-    quiet = COLUMNS - PIXELS - 2 - 8 - 12 - (ISLAND_COLUMNS if islands else 0)
+    quiet = columns - PIXELS - 2 - 8 - 12 - (ISLAND_COLUMNS if islands else 0)
     with open(path, "w") as out:
         for line in range(lines):
             kind = line % KINDS
@@ -71,9 +79,25 @@ def run(words, source, target):
     return best, peak
 
 
-def tell(name, took, peak, size, columns):
+def count(words, source, target):
+    """The instructions of one run, by callgrind; none where valgrind is not installed."""
+    if shutil.which("valgrind") is None:
+        return None
+    with tempfile.TemporaryDirectory() as folder, open(source, "rb") as given, open(target, "wb") as taken:
+        log = os.path.join(folder, "log")
+        grind = ["valgrind", "--tool=callgrind", "--callgrind-out-file=" + os.path.join(folder, "out"), "--log-file=" + log]
+        status = subprocess.run(grind + words, stdin=given, stdout=taken, stderr=subprocess.DEVNULL).returncode
+        if status != 0:
+            sys.exit(f"{' '.join(words)} under valgrind ended with {status}")
+        with open(log) as text:
+            found = re.search(r"Collected : (\d+)", text.read())
+    return int(found.group(1)) if found else None
+
+
+def tell(name, took, peak, size, columns, counted):
     rates = f"{size / took / 1e6:10.0f} MB/s{columns / took / 1e6:10.1f} M pixels/s"
-    print(f"{name:<24}{took:8.3f} s{rates}{peak:9.0f} MiB peak", flush=True)
+    each = "" if counted is None else f"{counted / COUNTED_LINES / COUNTED_COLUMNS:9.1f} instructions a column"
+    print(f"{name:<24}{took:8.3f} s{rates}{peak:9.0f} MiB peak{each}", flush=True)
 
 
 def main():
@@ -84,13 +108,18 @@ def main():
     small = (ISLAND.format(packet(random.Random(0))) + "c 00 12\nend\n").encode()
     islands = takes(["make", "link"], small)
     with tempfile.TemporaryDirectory() as folder:
-        listing, capture, other = (os.path.join(folder, name) for name in ("large.link", "large.tmc", "other"))
-        write_listing(listing, lines, islands)
-        took, peak = run([PROGRAM, "make", "link"] + TAP, listing, capture)
+        names = ("large.link", "large.tmc", "counted.link", "counted.tmc", "other")
+        listing, capture, counted, counted_capture, other = (os.path.join(folder, name) for name in names)
+        write_listing(listing, lines, COLUMNS, islands)
+        write_listing(counted, COUNTED_LINES, COUNTED_COLUMNS, islands)
+        make = [PROGRAM, "make", "link"]
+        took, peak = run(make + TAP, listing, capture)
         size = os.path.getsize(capture)
         print(f"{columns} columns, {lines if islands else 0} islands, listing {os.path.getsize(listing)} bytes,", end=" ")
         print(f"capture {size} bytes")
-        tell("make link", took, peak, size, columns)
+        tell("make link", took, peak, size, columns, count(make, counted, counted_capture))
+        with open(counted, "rb") as given, open(counted_capture, "wb") as taken:
+            subprocess.run(make, stdin=given, stdout=taken, check=True)
         for name, words, probe in (
             ("recover link", ["recover", "link"], ["recover", "link"]),
             ("check", ["check"], ["check"]),
@@ -98,10 +127,10 @@ def main():
         ):
             if takes(probe, red):
                 took, peak = run([PROGRAM] + words, capture, other)
-                tell(name, took, peak, size, columns)
+                tell(name, took, peak, size, columns, count([PROGRAM] + words, counted_capture, other))
         for words in (["cat"], ["sha256sum"]):
             took, peak = run(words, capture, other)
-            tell(words[0] + " of the capture", took, peak, size, columns)
+            tell(words[0] + " of the capture", took, peak, size, columns, None)
 
 
 if __name__ == "__main__":

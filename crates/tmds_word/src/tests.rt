@@ -189,6 +189,45 @@ fn taken_columns(rt: HostRuntime) -> Result<(), Fail> {
     Ok(())
 }
 
+#[test]
+fn taken_lanes(rt: HostRuntime) -> Result<(), Fail> {
+    let mut sink = Columns {
+        words: Vec::new(rt.alloc()),
+        refusals: 0,
+    };
+    let first = Word::new(0x154).ok_or("ten bits")?;
+    let second = Word::new(0x2ab).ok_or("ten bits")?;
+    let third = Word::new(0x0ab).ok_or("ten bits")?;
+    sink.columns(&[first, second], &[second, third], &[third, first])?;
+    assert_eq!(rt; sink.words.len(), 2);
+    assert!(rt; sink.words[0] == [first, second, third]);
+    assert!(rt; sink.words[1] == [second, third, first]);
+    Ok(())
+}
+
+// Behind one to eight bits, in one call and a few blocks.
+#[test]
+fn many_words(rt: HostRuntime) -> Result<(), Fail> {
+    let mut words = Vec::new(rt.alloc());
+    for _ in 0..13 {
+        for &value in &ROW {
+            words.push(Word::new(value).ok_or("ten bits")?)?;
+        }
+    }
+    for before in 1..9 {
+        let mut row = BitRow::new(rt.alloc());
+        row.push_bits(&[0x55], before)?;
+        assert!(rt; row.len() < 1000 && words.len() < 1000);
+        row.push_words(words.as_slice())?;
+        assert_eq!(rt; row.len(), before + 1430);
+        for p in 0..101 {
+            let word = row.window(before + 1320 + p).ok_or("a window")?;
+            assert_eq!(rt; word.value(), WINDOWS[p as usize], "behind {before} at {p}");
+        }
+    }
+    Ok(())
+}
+
 /// The bytes of the row of `ROW`, eight bits each, the first lowest.
 static PACKED: [u8; 14] = [
     0x54, 0xaf, 0x42, 0xd5, 0xaa, 0x9c, 0x7a, 0xc4, 0x6c, 0x9c, 0x33, 0xfd, 0x1f, 0x00,
