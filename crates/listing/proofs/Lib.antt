@@ -1,4 +1,8 @@
 pub mod CheckedLine
+pub mod ContentFrames
+pub mod ContentLines
+pub mod ContentSteps
+pub mod InfoWritten
 pub mod Feeds
 pub mod Given
 pub mod Islands

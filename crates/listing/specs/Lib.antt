@@ -13,3 +13,11 @@ pub mod Fields
 pub mod Growing
 pub mod Checks
 pub mod GrowingChecks
+pub mod LineSteps
+pub mod InfoPackets
+pub mod ContentForms
+pub mod ContentDrafts
+pub mod ContentReading
+pub mod ContentFormSeen
+pub mod ContentTold
+pub mod ContentLeaves

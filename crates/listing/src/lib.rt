@@ -1,7 +1,12 @@
-//! Link listings: the text of a stream.
+//! Listings: the text of a stream, and of a content.
 #![tactic(auto)]
 
 mod checker;
+mod content_digits;
+mod content_fields;
+mod content_form;
+mod content_read;
+mod content_reader;
 mod fault;
 mod form;
 mod line;
@@ -12,6 +17,7 @@ mod read;
 mod reader;
 
 pub use checker::CheckLister;
+pub use content_read::read_content;
 pub use fault::{ListCause, ListError, ListFault};
 pub use form::number;
 pub use lister::LinkLister;
