@@ -284,7 +284,7 @@ sample_none rest left right ns laid l r n = rw laid (l _ ∙ r _ ∙ n _)
 
 -- ---- fields of an AVI InfoFrame
 
-pub avi_seen : (ns bs bars : List ℕ) (packet : Option Packet) → are_bytes (take 13 ns) ≡ true → are_words (drop 13 ns) ≡ true → bs ≡ take 13 ns → bars ≡ drop 13 ns
+pub avi_seen : (ns bs bars : List ℕ) (packet : Option Packet) → are_bytes (take 13 ns) ≡ true → are_words (take 4 (drop 13 ns)) ≡ true → bs ≡ take 13 ns → bars ≡ take 4 (drop 13 ns)
     → packet ≡ info_told (avi_from bs bars) → avi_told ns ≡ packet_line packet
 unfolding avi_told
 avi_seen ns bs bars packet b w e f is = rw (b, w) (ap packet_line (ap₂ (λ (x y : List ℕ). info_told (avi_from x y)) (sym e) (sym f) ∙ sym is))
@@ -293,6 +293,6 @@ pub avi_no_bytes : (ns : List ℕ) → are_bytes (take 13 ns) ≡ false → avi_
 unfolding avi_told
 avi_no_bytes ns none = rw none refl
 
-pub avi_no_words : (ns : List ℕ) → are_bytes (take 13 ns) ≡ true → are_words (drop 13 ns) ≡ false → avi_told ns ≡ packet_line None
+pub avi_no_words : (ns : List ℕ) → are_bytes (take 13 ns) ≡ true → are_words (take 4 (drop 13 ns)) ≡ false → avi_told ns ≡ packet_line None
 unfolding avi_told
 avi_no_words ns bytes none = rw (bytes, none) refl

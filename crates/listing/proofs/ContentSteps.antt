@@ -51,11 +51,11 @@ module _ {D T : Type 0} (step : D → List ℕ → LineStep D T) where
       → reads n at told before left ≡ cut_short n now.line (within_text (nat_le (at + length now.line) 4294967295) (step told now.line))
   last_does n at told left rest before now is = ap (read_lines step n at told) (pieces_rest left rest before now is) ∙ by_last n at told now.line
 
-  within_wrong : (fit : Bool) (cause : ListCause) → within_text {D} {T} fit (wrong cause) ≡ wrong cause
+  pub within_wrong : (fit : Bool) (cause : ListCause) → within_text {D = D} {T = T} fit (wrong cause) ≡ wrong cause
   within_wrong true cause = refl
   within_wrong false cause = refl
 
-  cut_wrong : (n : ℕ) (line : List ℕ) (cause : ListCause) → 1 ≤ length line → cut_short {D} {T} n line (wrong cause) ≡ refuses n cause
+  pub cut_wrong : (n : ℕ) (line : List ℕ) (cause : ListCause) → 1 ≤ length line → cut_short {D = D} {T = T} n line (wrong cause) ≡ refuses n cause
   cut_wrong n [] cause some = absurd (omega arith)
   cut_wrong n (c ∷ line) cause some = refl
 

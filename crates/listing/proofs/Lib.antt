@@ -1,4 +1,5 @@
 pub mod CheckedLine
+pub mod ContentAnswers
 pub mod ContentFrames
 pub mod ContentLines
 pub mod ContentSteps

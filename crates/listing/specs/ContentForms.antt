@@ -101,7 +101,7 @@ told_if false told = None
 
 unfoldable pub avi_told : List ℕ → ContentLine
 avi_told ns =
-    packet_line (told_if (are_bytes (take 13 ns) && are_words (drop 13 ns)) (info_told (avi_from (take 13 ns) (drop 13 ns))))
+    packet_line (told_if (are_bytes (take 13 ns) && are_words (take 4 (drop 13 ns))) (info_told (avi_from (take 13 ns) (take 4 (drop 13 ns)))))
 
 -- `audio CC CT SS SF CA LSV DM`: numbers of a byte
 abbrev pub audio_from : List ℕ → Info

@@ -188,7 +188,7 @@ fn avi_of(fields: &[u64; 17]) -> ContentForm<'static>
     if !to_bytes(&fields[..13], &mut n) {
         return ContentForm::Packet(None);
     }
-    if !to_words(&fields[13..], &mut bars) {
+    if !to_words(&fields[13..17], &mut bars) {
         return ContentForm::Packet(None);
     }
     ContentForm::Packet(info_packet(&Info::Avi(Avi {
