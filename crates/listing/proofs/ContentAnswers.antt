@@ -116,6 +116,7 @@ short_step n draft line none =
     cut_tells : (n : ℕ) (line : List ℕ) (told : ContentDraft) → cut_short {D = ContentDraft} {T = Told} n line (tells told) ≡ refuses n Unended
     cut_tells n [] told = refl
     cut_tells n (c ∷ line) told = refl
+
     cut_closes : (n : ℕ) (line : List ℕ) (told : Told) → cut_short {D = ContentDraft} {T = Told} n line (closes told) ≡ refuses n Unended
     cut_closes n [] told = refl
     cut_closes n (c ∷ line) told = refl

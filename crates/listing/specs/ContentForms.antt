@@ -91,8 +91,20 @@ info_told info = within (fits info) (info_packet info)
 -- `avi S B A Y R M C SC Q EC ITC VIC PR T0 T1 T2 T3`: numbers of a byte, and four bars of two bytes
 abbrev pub avi_from : List ℕ → List ℕ → Info
 avi_from ns bars = Avi (record {
-  s = slice_index ns 0; b = slice_index ns 1; a = slice_index ns 2; y = slice_index ns 3; r = slice_index ns 4; m = slice_index ns 5; c = slice_index ns 6;
-  sc = slice_index ns 7; q = slice_index ns 8; ec = slice_index ns 9; itc = slice_index ns 10; vic = slice_index ns 11; pr = slice_index ns 12; bars = bars;
+  s = slice_index ns 0;
+  b = slice_index ns 1;
+  a = slice_index ns 2;
+  y = slice_index ns 3;
+  r = slice_index ns 4;
+  m = slice_index ns 5;
+  c = slice_index ns 6;
+  sc = slice_index ns 7;
+  q = slice_index ns 8;
+  ec = slice_index ns 9;
+  itc = slice_index ns 10;
+  vic = slice_index ns 11;
+  pr = slice_index ns 12;
+  bars = bars;
 })
 
 abbrev pub told_if : Bool → Option Packet → Option Packet
@@ -106,7 +118,13 @@ avi_told ns =
 -- `audio CC CT SS SF CA LSV DM`: numbers of a byte
 abbrev pub audio_from : List ℕ → Info
 audio_from ns = Audio (record {
-  cc = slice_index ns 0; ct = slice_index ns 1; ss = slice_index ns 2; sf = slice_index ns 3; ca = slice_index ns 4; lsv = slice_index ns 5; dm = slice_index ns 6;
+  cc = slice_index ns 0;
+  ct = slice_index ns 1;
+  ss = slice_index ns 2;
+  sf = slice_index ns 3;
+  ca = slice_index ns 4;
+  lsv = slice_index ns 5;
+  dm = slice_index ns 6;
 })
 
 unfoldable pub audio_told : List ℕ → ContentLine

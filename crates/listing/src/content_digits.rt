@@ -158,7 +158,8 @@ fn is_laid_out(rest: &[u8]) -> bool
     ensures value { result ≡ ((length rest.now == 66) && (is_space rest.now 6 && (is_space rest.now 21 && (is_space rest.now 36 && is_space rest.now 51)))) }
     ensures size { result ≡ true → length rest.now ≡ 66 }
 {
-    rest.len() == 66 && (rest[6] == b' ' && (rest[21] == b' ' && (rest[36] == b' ' && rest[51] == b' ')))
+    rest.len() == 66
+        && (rest[6] == b' ' && (rest[21] == b' ' && (rest[36] == b' ' && rest[51] == b' ')))
 }
 
 /// `s L R l r B X`, by what follows the name.

@@ -142,7 +142,9 @@ fn mode_of(fields: &[u64; 9]) -> ContentForm<'static>
 {
     let mut across = [0; 4];
     let mut down = [0; 4];
-    if to_words(&fields[..4], &mut across) && (to_words(&fields[4..8], &mut down) && fields[8] < 2) {
+    if to_words(&fields[..4], &mut across)
+        && (to_words(&fields[4..8], &mut down) && fields[8] < 2)
+    {
         ContentForm::Mode(Some(Mode {
             across,
             down,

@@ -3,8 +3,8 @@ ghost use Rattle.std.specs.Prelude.{◌≡◌};
 ghost use Rattle.listing.specs.ContentForms.{content_form_of, digits_line, numbers_line, row_form};
 ghost use Rattle.listing.specs.ContentFormSeen.{IsContentForm, IsFit};
 
-use crate::content_fields::{acr, audio, avi, frame, gcp, mode, vic};
 use crate::content_digits::{info, packet, sample, spd};
+use crate::content_fields::{acr, audio, avi, frame, gcp, mode, vic};
 use crate::form::begins_fault;
 use crate::lines::LINE_LIMIT;
 use audio_packets::Sample;

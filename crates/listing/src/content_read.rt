@@ -22,10 +22,7 @@ use std::alloc::Global;
 
 /// Reads the text of a content listing to its end, line by line. The memory that it takes is that of the
 /// content, of a row and of a buffer of 65,536 bytes.
-pub fn read_content<S: Source>(
-    alloc: Global,
-    source: &mut S,
-) -> Result<(Mode, Content), ListError>
+pub fn read_content<S: Source>(alloc: Global, source: &mut S) -> Result<(Mode, Content), ListError>
     ensures answers { (text : List ℕ) → S.left source.old ≡ Some text → AnswersContent (content_reads_as text) result }
     ensures ended { OnOk result (IsAtEnd (S.left source.new)) }
     ensures caused { IfErr result (λ e. IsCaused (S.faults source.old) (S.faults source.new) e) }

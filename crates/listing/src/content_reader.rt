@@ -278,7 +278,11 @@ impl ContentReader {
         if reader.samples.as_slice().is_empty() {
             return Ok(reader);
         }
-        push_samples(&mut reader.content, reader.is_open, reader.samples.as_slice())?;
+        push_samples(
+            &mut reader.content,
+            reader.is_open,
+            reader.samples.as_slice(),
+        )?;
         reader.samples.clear();
         reader.is_open = true;
         reader.packets += 1;
@@ -333,7 +337,11 @@ impl ContentReader {
     {
         let mut reader = self;
         push_sample(&mut reader.samples, sample)?;
-        push_samples(&mut reader.content, reader.is_open, reader.samples.as_slice())?;
+        push_samples(
+            &mut reader.content,
+            reader.is_open,
+            reader.samples.as_slice(),
+        )?;
         reader.samples.clear();
         reader.is_open = true;
         reader.packets += 1;

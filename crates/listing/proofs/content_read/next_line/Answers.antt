@@ -48,8 +48,7 @@ returns-then-is_end-clause-ready g c =
     let size : upto ≡ c.args.reader.bytes + length now.line + 1 = ap₂ (λ (b : ℕ) (l : List ℕ). b + length l + 1) c.bytes.ensures c.line.ensures in
     let passed : ContentTold → ContentTold = λ t. record t { bytes = upto } in
     let next = c.pass.ensures ∙ ap passed (c.in-Ok-take.ensures.ok (content_form_of now.line) form) in
-    let none = cause_none _ _ (c.in-Ok-take.ensures.cause (content_form_of now.line) form) in
-    (
+    let none = cause_none _ _ (c.in-Ok-take.ensures.cause (content_form_of now.line) form) in (
       ap (λ (t : ContentTold). content_cause t.draft end_line) next
           ∙ closes_at c.args.reader.draft (content_form_of now.line) none (sym (c.is_end_form-is_end.ensures (content_form_of now.line) form) ∙ c.if-is_end.true),
       counted c.args.reader _ now.line upto c.requires none size c.if-upto-gt-TEXT_LIMIT.false next,
@@ -63,8 +62,7 @@ returns-else-is_end-clause-ready g c =
     let size : upto ≡ c.args.reader.bytes + length now.line + 1 = ap₂ (λ (b : ℕ) (l : List ℕ). b + length l + 1) c.bytes.ensures c.line.ensures in
     let passed : ContentTold → ContentTold = λ t. record t { bytes = upto } in
     let next = c.pass.ensures ∙ ap passed (c.in-Ok-take.ensures.ok (content_form_of now.line) form) in
-    let none = cause_none _ _ (c.in-Ok-take.ensures.cause (content_form_of now.line) form) in
-    (
+    let none = cause_none _ _ (c.in-Ok-take.ensures.cause (content_form_of now.line) form) in (
       longer c.args.reader _ now.line upto size next,
       counted c.args.reader _ now.line upto c.requires none size c.if-upto-gt-TEXT_LIMIT.false next,
     )
