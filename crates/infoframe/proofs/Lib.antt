@@ -1,7 +1,7 @@
-mod Lists
+pub mod Lists
 mod Numbers
 pub mod Refusals
-mod Contents
-mod Bounds
+pub mod Contents
+pub mod Bounds
 mod Writings
 pub mod Law

@@ -6,6 +6,11 @@ pub mod ContentHearing
 pub mod ContentKinds
 pub mod ContentNotes
 pub mod ContentWritten
+pub mod ContentAnswers
+pub mod ContentFrames
+pub mod ContentLines
+pub mod ContentSteps
+pub mod InfoWritten
 pub mod Feeds
 pub mod Given
 pub mod Islands

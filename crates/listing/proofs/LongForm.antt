@@ -10,7 +10,7 @@ use Rattle.listing.specs.Forms.{fault_line, no_line, form_of, is_fault}
 starts_first : (line rest needle : List ℕ) → length needle ≤ length line → starts_with nat_eq (line ++ rest) needle ≡ starts_with nat_eq line needle
 starts_first line rest needle within = ap (pointwise nat_eq needle) (take-append-le (length needle) line rest within)
 
-fault_first : (line rest : List ℕ) → 4 ≤ length line → is_fault (line ++ rest) ≡ is_fault line
+pub fault_first : (line rest : List ℕ) → 4 ≤ length line → is_fault (line ++ rest) ≡ is_fault line
 unfolding is_fault
 fault_first line rest within =
     ap (λ (b : Bool). b || starts_with nat_eq (line ++ rest) (codes "cut ")) (starts_first line rest (codes "! ") (omega arith))

@@ -74,7 +74,7 @@ form_bodies rest bodies bad = form_body rest bad.0 bad.1 bad.2
 -- ---- a packet
 
 -- a list of 28 as its four parts of seven
-joined : (xs : List ℕ) → length xs ≡ 28 → take 7 (drop 0 xs) ++ take 7 (drop 7 xs) ++ take 7 (drop 14 xs) ++ take 7 (drop 21 xs) ≡ xs
+pub joined : (xs : List ℕ) → length xs ≡ 28 → take 7 (drop 0 xs) ++ take 7 (drop 7 xs) ++ take 7 (drop 14 xs) ++ take 7 (drop 21 xs) ≡ xs
 joined xs size =
     let a : List ℕ = take 7 xs in
     let b : List ℕ = take 7 (drop 7 xs) in
@@ -98,11 +98,11 @@ form_packet rest header bodies sync laid read size has values =
 
 -- ---- the bodies, one after another
 
-read_well : (d : Read) (r : Result Unit FromHexError) (out : List ℕ) → MatchResult d (λ bytes. (r ≡ Ok tt) × (out ≡ bytes)) (λ e. r ≡ Err e) → is_err r ≡ false → d ≡ Ok out
+pub read_well : (d : Read) (r : Result Unit FromHexError) (out : List ℕ) → MatchResult d (λ bytes. (r ≡ Ok tt) × (out ≡ bytes)) (λ e. r ≡ Err e) → is_err r ≡ false → d ≡ Ok out
 read_well (Ok bytes) r out h well = ap Ok (sym h.1)
 read_well (Err e) r out h well = absurd cc
 
-read_badly : (d : Read) (r : Result Unit FromHexError) (out : List ℕ) → MatchResult d (λ bytes. (r ≡ Ok tt) × (out ≡ bytes)) (λ e. r ≡ Err e) → is_err r ≡ true → IsErr d
+pub read_badly : (d : Read) (r : Result Unit FromHexError) (out : List ℕ) → MatchResult d (λ bytes. (r ≡ Ok tt) × (out ≡ bytes)) (λ e. r ≡ Err e) → is_err r ≡ true → IsErr d
 read_badly (Ok bytes) r out h bad = absurd cc
 read_badly (Err e) r out h bad = cc
 
@@ -132,15 +132,15 @@ bodies_more rest xs ys i k within seven read size was b less =
           (read ∙ ap Ok (sym (written xs ys i k within seven size)))
     ]
 
-part_length : (rest : List ℕ) (i : ℕ) → length rest ≡ 99 → i < 4 → length (part (7 + 15 * i) 14 rest) ≡ 14
+part_length : (rest : List ℕ) (i : ℕ) → 66 ≤ length rest → i < 4 → length (part (7 + 15 * i) 14 rest) ≡ 14
 part_length rest i size less = length-take-le 14 (drop (7 + 15 * i) rest) (omega (arith, length-drop (7 + 15 * i) rest))
 
-sized : (rest : List ℕ) (i n m : ℕ) → length rest ≡ 99 → i < 4 → n ≡ 14 → m ≡ 7 → decode_sized (take n (drop (7 + 15 * i) rest)) m ≡ decode_of (part (7 + 15 * i) 14 rest)
+sized : (rest : List ℕ) (i n m : ℕ) → 66 ≤ length rest → i < 4 → n ≡ 14 → m ≡ 7 → decode_sized (take n (drop (7 + 15 * i) rest)) m ≡ decode_of (part (7 + 15 * i) 14 rest)
 sized rest i n m size less fourteen seven =
     rw (fourteen, seven) (decode_sized-twice (part (7 + 15 * i) 14 rest) 7 (part_length rest i size less))
 
 -- one body more was decoded
-pub decoded_more : (rest xs ys : List ℕ) (i k n m : ℕ) (r : Result Unit FromHexError) → length rest ≡ 99 → length xs ≡ 28 → i < 4 → k ≡ 7 → n ≡ 14 → m ≡ 7
+pub decoded_more : (rest xs ys : List ℕ) (i k n m : ℕ) (r : Result Unit FromHexError) → 66 ≤ length rest → length xs ≡ 28 → i < 4 → k ≡ 7 → n ≡ 14 → m ≡ 7
     → MatchResult (decode_sized (take n (drop (7 + 15 * i) rest)) m) (λ bytes. (r ≡ Ok tt) × (ys ≡ bytes)) (λ e. r ≡ Err e) → is_err r ≡ false
     → ((b : ℕ) → b < i → decode_of (part (7 + 15 * b) 14 rest) ≡ Ok (take 7 (drop (7 * b) xs)))
     → (b : ℕ) → b < i + 1 → decode_of (part (7 + 15 * b) 14 rest) ≡ Ok (take 7 (drop (7 * b) (put_mid (7 * i) k xs ys)))
@@ -150,7 +150,7 @@ decoded_more rest xs ys i k n m r size long less seven fourteen room value well 
     bodies_more rest xs ys i k (omega arith) seven read (omega (arith, part_length rest i size less)) was
 
 -- a body was not decoded
-pub decoded_none : (rest ys : List ℕ) (i n m : ℕ) (r : Result Unit FromHexError) → length rest ≡ 99 → i < 4 → n ≡ 14 → m ≡ 7
+pub decoded_none : (rest ys : List ℕ) (i n m : ℕ) (r : Result Unit FromHexError) → 66 ≤ length rest → i < 4 → n ≡ 14 → m ≡ 7
     → MatchResult (decode_sized (take n (drop (7 + 15 * i) rest)) m) (λ bytes. (r ≡ Ok tt) × (ys ≡ bytes)) (λ e. r ≡ Err e) → is_err r ≡ true
     → IsErr (decode_of (part (7 + 15 * i) 14 rest))
 decoded_none rest ys i n m r size less fourteen room value bad =

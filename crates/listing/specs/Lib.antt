@@ -19,3 +19,11 @@ pub mod ContentSeen
 pub mod ContentAdded
 pub mod ContentTaken
 pub mod GrowingContent
+pub mod LineSteps
+pub mod InfoPackets
+pub mod ContentForms
+pub mod ContentDrafts
+pub mod ContentReading
+pub mod ContentFormSeen
+pub mod ContentTold
+pub mod ContentLeaves

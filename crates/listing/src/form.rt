@@ -66,7 +66,7 @@ pub(crate) fn read_form(line: &[u8]) -> Form<'_>
 
 // Whether the line is one that only a receiver writes.
 #[tactic(auto, unfolding(crate::specs::Forms::is_fault))]
-fn begins_fault(line: &[u8]) -> bool
+pub(crate) fn begins_fault(line: &[u8]) -> bool
     ensures { result ≡ is_fault line.now }
 {
     line.starts_with(b"! ") || line.starts_with(b"cut ")

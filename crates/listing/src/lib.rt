@@ -1,4 +1,4 @@
-//! Link listings: the text of a stream.
+//! Listings: the text of a stream, and of a content.
 #![tactic(auto)]
 
 mod checker;
@@ -8,6 +8,11 @@ mod content_lines;
 mod content_lister;
 mod content_packets;
 mod content_past;
+mod content_digits;
+mod content_fields;
+mod content_form;
+mod content_read;
+mod content_reader;
 mod fault;
 mod form;
 pub mod laws;
@@ -20,6 +25,7 @@ mod reader;
 
 pub use checker::CheckLister;
 pub use content_lister::ContentLister;
+pub use content_read::read_content;
 pub use fault::{ListCause, ListError, ListFault};
 pub use form::number;
 pub use lister::LinkLister;

@@ -1,5 +1,5 @@
 //! The packet of a line `p H B0 B1 B2 B3 S`.
-ghost use Rattle.std.specs.Prelude.{◌≡◌, ◌-◌, ◌==◌, ◌&&◌, true, length, map, IsTrue};
+ghost use Rattle.std.specs.Prelude.{◌≡◌, ◌≤◌, ◌-◌, ◌==◌, ◌&&◌, true, length, map, IsTrue};
 ghost use Rattle.std.specs.List.{list_all};
 ghost use Rattle.listing.specs.FormSeen.{IsPacketForm, HasBodies};
 ghost use Rattle.listing.specs.Forms.{has_spaces, is_digit, part};
@@ -61,8 +61,8 @@ fn are_digits(bytes: &[u8]) -> bool
 }
 
 /// Decodes the four bodies, and says whether each byte was a hexadecimal digit.
-fn decode_bodies(rest: &[u8], bodies: &mut [u8; 28]) -> bool
-    requires { length rest.now ≡ 99 }
+pub(crate) fn decode_bodies(rest: &[u8], bodies: &mut [u8; 28]) -> bool
+    requires { 66 ≤ length rest.now }
     ensures { HasBodies rest.now bodies.new result }
 {
     for i in 0..4 {

@@ -110,7 +110,7 @@ fn long_cause(line: &[u8]) -> ListCause
 }
 
 /// The most bytes of a text.
-const TEXT_LIMIT: u64 = 4_294_967_295;
+pub(crate) const TEXT_LIMIT: u64 = 4_294_967_295;
 
 /// The answer for a line that the input ends in.
 fn unended(reader: Reader, line: &[u8]) -> ListError
@@ -161,20 +161,20 @@ fn finish<S: Source>(
 }
 
 /// Whether the piece is the end of the input, with no byte before it.
-fn is_nothing(piece: Piece, line: &[u8]) -> bool
+pub(crate) fn is_nothing(piece: Piece, line: &[u8]) -> bool
     ensures yes { result ≡ true → (piece ≡ Piece.Last) × (line.now ≡ []) }
     ensures no { result ≡ false → piece ≡ Piece.Last → 1 ≤ length line.now }
 {
     matches!(piece, Piece::Last) && line.is_empty()
 }
 
-fn bad(line: u32, cause: ListCause) -> ListError
+pub(crate) fn bad(line: u32, cause: ListCause) -> ListError
     ensures { result ≡ ListError.Bad (record { line = line; cause = cause }) }
 {
     ListError::Bad(ListFault { line, cause })
 }
 
-fn refused(line: u32, refusal: Refusal) -> ListError
+pub(crate) fn refused(line: u32, refusal: Refusal) -> ListError
     ensures { RefusedAs line refusal result }
 {
     match refusal {

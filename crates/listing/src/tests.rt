@@ -1,6 +1,7 @@
 //! Worked lines and forms, and reads that fail in mid-stream.
 
 mod checks;
+mod contents;
 
 ghost use Rattle.period_grammar.specs.Lending.{lent_thing};
 ghost use Rattle.period_grammar.specs.Sizes.{IsSized};

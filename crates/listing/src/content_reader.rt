@@ -1,0 +1,511 @@
+//! What the lines of a content listing tell, one line after the other.
+ghost use Rattle.std.specs.Prelude.{◌≡◌, ◌⊎◌, ℕ, ◌+◌, ◌%◌, ◌≤◌, ◌<◌, ◌&&◌, ◌||◌, ◌==◌, ◌∷◌, ◌++◌, [], length, true, false, nat_le, nat_lt, None, Some, Ok, IfOk, IfErr, IsErr, OnOk, All};
+ghost use Rattle.hex.specs.Hex.{decode_of};
+ghost use Rattle.audio_packets.specs.Samples.{IsSample};
+ghost use Rattle.source_end.specs.Content.{with_packet, with_row};
+ghost use Rattle.listing.specs.ContentForms.{ContentLine, mode_line, row_by, row_line, frame_line, packet_line, sample_line, end_line};
+ghost use Rattle.listing.specs.ContentFormSeen.{IsContentForm, IsFit, SampleFits};
+ghost use Rattle.listing.specs.ContentDrafts.{content_cause, frame_cause, frame_fits, has_mode, has_room, has_sample_room, is_raster_mode, is_settled, row_cause, row_fits, settled, with_content, with_sample, with_samples};
+ghost use Rattle.listing.specs.ContentTold.{IsOpened, open_frame, whole_frames};
+ghost use Rattle.listing.specs.Told.{AnswersCause};
+
+use crate::ListCause;
+use crate::content_fields::blank_packet;
+use crate::content_form::ContentForm;
+use crate::reader::Refusal;
+use audio_packets::{Sample, write_samples};
+use hex::FromHexError;
+use island_pack::Packet;
+use outside_io::NoMemory;
+use source_end::{Content, Mode};
+use std::alloc::Global;
+use std::marker::Model;
+
+/// The most packets of a frame.
+const PACKET_LIMIT: u64 = 65_535;
+
+/// Samples of neighbouring lines that make a packet.
+const GROUP: usize = 4;
+
+/// Takes lines. The frame that is still being told is the last one of the content, from its first row or
+/// packet on; neighbouring samples are kept apart until they make a packet.
+#[derive(Drop)]
+pub(crate) struct ContentReader {
+    alloc: Global,
+    mode: Option<Mode>,
+    content: Content,
+    /// Whether the last frame is still being told.
+    is_open: bool,
+    /// How many rows it has.
+    rows: u64,
+    /// How many packets it has.
+    packets: u64,
+    /// Samples that still lack a packet, three at most.
+    samples: Vec<Sample>,
+    /// How many bytes the lines taken have, line feeds included.
+    bytes: u64,
+    /// The number of the next line.
+    line: u64,
+}
+
+impl Model for ContentReader {
+    ghost use Rattle.std.specs.Prelude.{◌≡◌, ◌≤◌, ◌+◌, length, All};
+    ghost use Rattle.audio_packets.specs.Samples.{IsSample};
+    ghost use Rattle.listing.specs.ContentTold.{ContentTold, content_drafted, open_frame, whole_frames, pending, IsOpened};
+
+    ghost Value = { ContentTold };
+
+    ghost view = { λ r. record {
+      draft = content_drafted r.mode r.is_open r.content r.samples.items;
+      bytes = r.bytes;
+      line = r.line;
+    } };
+
+    ghost invariant = { λ r. record {
+      rows : r.rows ≡ length (open_frame r.is_open r.content).rows;
+      packets : r.packets ≡ length (open_frame r.is_open r.content).packets;
+      begun : IsOpened r.is_open r.content r.rows r.packets;
+      few : length r.samples.items ≤ 3;
+      fits : All IsSample r.samples.items;
+      frame_lines : length (whole_frames r.is_open r.content) + 1 ≤ r.line;
+      row_lines : r.rows + 1 ≤ r.line;
+      packet_lines : r.packets + pending r.samples.items + 1 ≤ r.line;
+    } };
+}
+
+impl ContentReader {
+    ghost use Rattle.listing.specs.ContentDrafts.{no_content};
+    ghost use Rattle.listing.specs.ContentTold.{ContentTold};
+
+    pub(crate) fn new(alloc: Global) -> ContentReader
+        ensures { result ≡ record { draft = no_content; bytes = 0; line = 1 } }
+    {
+        ContentReader {
+            alloc,
+            mode: None,
+            content: Content::new(alloc),
+            is_open: false,
+            rows: 0,
+            packets: 0,
+            samples: Vec::new(alloc),
+            bytes: 0,
+            line: 1,
+        }
+    }
+
+    /// How many bytes the lines taken have.
+    pub(crate) fn bytes(&self) -> u64
+        ensures { result ≡ self.now.bytes }
+    {
+        self.bytes
+    }
+
+    /// The number of the next line.
+    pub(crate) fn line(&self) -> u32
+        requires { self.now.line ≤ 4294967295 }
+        ensures { result ≡ self.now.line }
+    {
+        self.line as u32
+    }
+
+    /// Says after how many bytes of the text the last line that was taken ends.
+    pub(crate) fn pass(&mut self, upto: u64)
+        ensures { self.new ≡ record self.old { bytes = upto } }
+    {
+        self.bytes = upto;
+    }
+
+    /// Takes what a line of this form tells, or refuses the line with its first cause. The reader is
+    /// dropped on a refusal.
+    pub(crate) fn take(self, form: ContentForm<'_>) -> Result<ContentReader, Refusal>
+        requires seen { (told : ContentLine) × IsContentForm form told }
+        requires fits { IsFit form }
+        requires lines { self.line ≤ 4294967290 }
+        ensures cause { (told : ContentLine) → IsContentForm form.entry told → AnswersCause (content_cause self.draft told) result }
+        ensures ok { (told : ContentLine) → IsContentForm form.entry told → IfOk result (λ r. r ≡ record self { draft = with_content told self.draft; line = self.line + 1 }) }
+    {
+        match form {
+            ContentForm::Mode(mode) => self.mode(mode),
+            ContentForm::Row(digits) => self.row(digits),
+            ContentForm::Frame(width, height) => self.frame(width, height),
+            ContentForm::Packet(packet) => self.packet(packet),
+            ContentForm::Sample(sample) => self.sample(sample),
+            ContentForm::End => self.end(),
+            ContentForm::Fault => Err(Refusal::Cause(ListCause::Fault)),
+            ContentForm::Other => Err(Refusal::Cause(ListCause::Form)),
+        }
+    }
+}
+
+/// The lines of each form.
+impl ContentReader {
+    /// Whether the mode was told.
+    fn has_mode(&self) -> bool
+        ensures { result ≡ has_mode self.now.draft }
+    {
+        self.mode.is_some()
+    }
+
+    /// Whether nothing of a frame was told.
+    fn is_settled(&self) -> bool
+        ensures { result ≡ is_settled self.now.draft }
+    {
+        self.rows == 0 && (self.packets == 0 && self.samples.as_slice().is_empty())
+    }
+
+    /// Takes the mode.
+    #[tactic(auto, unfolding(crate::specs::ContentDrafts::content_cause))]
+    fn mode(self, mode: Option<Mode>) -> Result<ContentReader, Refusal>
+        requires lines { self.line ≤ 4294967290 }
+        ensures cause { AnswersCause (content_cause self.draft (mode_line mode)) result }
+        ensures ok { IfOk result (λ r. r ≡ record self { draft = with_content (mode_line mode) self.draft; line = self.line + 1 }) }
+    {
+        let mut reader = self;
+        let Some(mode) = mode else {
+            return Err(Refusal::Cause(ListCause::Range));
+        };
+        if reader.has_mode() {
+            return Err(Refusal::Cause(ListCause::Order));
+        }
+        reader.mode = Some(mode);
+        reader.line += 1;
+        Ok(reader)
+    }
+
+    /// The first cause for which a row of these bytes cannot come here.
+    fn row_cause(&self, bytes: &[u8]) -> Option<ListCause>
+        ensures { result ≡ row_cause self.now.draft bytes.now }
+    {
+        match &self.mode {
+            Some(mode) if row_fits(mode, self.rows, bytes) => None,
+            Some(_) => Some(ListCause::Size),
+            None => Some(ListCause::Order),
+        }
+    }
+
+    /// Takes a row, told by what should be its hexadecimal digits.
+    #[tactic(auto, unfolding(crate::specs::ContentDrafts::content_cause))]
+    fn row(self, digits: &[u8]) -> Result<ContentReader, Refusal>
+        requires pixels { length digits.now % 6 ≡ 0 }
+        requires lines { self.line ≤ 4294967290 }
+        ensures cause { AnswersCause (content_cause self.draft (row_by true (decode_of digits.now))) result }
+        ensures ok { IfOk result (λ r. r ≡ record self { draft = with_content (row_by true (decode_of digits.now)) self.draft; line = self.line + 1 }) }
+    {
+        let bytes = decode_row(self.alloc, digits)?;
+        if let Some(cause) = self.row_cause(bytes.as_slice()) {
+            return Err(Refusal::Cause(cause));
+        }
+        let mut reader = self.settle()?;
+        push_row(&mut reader.content, reader.is_open, bytes.as_slice())?;
+        reader.is_open = true;
+        reader.rows += 1;
+        reader.line += 1;
+        Ok(reader)
+    }
+
+    /// The first cause for which a frame of this size cannot end here.
+    fn frame_cause(&self, width: u64, height: u64) -> Option<ListCause>
+        ensures { result ≡ frame_cause self.now.draft width height }
+    {
+        match &self.mode {
+            Some(_) if self.rows == 0 => Some(ListCause::Order),
+            Some(mode) if frame_fits(mode, self.rows, width, height) => None,
+            Some(_) => Some(ListCause::Size),
+            None => Some(ListCause::Order),
+        }
+    }
+
+    /// Takes the end of a frame.
+    #[tactic(auto, unfolding(crate::specs::ContentDrafts::content_cause))]
+    fn frame(self, width: u64, height: u64) -> Result<ContentReader, Refusal>
+        requires lines { self.line ≤ 4294967290 }
+        ensures cause { AnswersCause (content_cause self.draft (frame_line width height)) result }
+        ensures ok { IfOk result (λ r. r ≡ record self { draft = with_content (frame_line width height) self.draft; line = self.line + 1 }) }
+    {
+        if let Some(cause) = self.frame_cause(width, height) {
+            return Err(Refusal::Cause(cause));
+        }
+        let mut reader = self.settle()?;
+        reader.is_open = false;
+        reader.rows = 0;
+        reader.packets = 0;
+        reader.line += 1;
+        Ok(reader)
+    }
+
+    /// The first cause for which no packet can come here.
+    fn packet_cause(&self) -> Option<ListCause>
+        ensures order { has_mode self.now.draft ≡ false → result ≡ Some ListCause.Order }
+        ensures long { has_mode self.now.draft ≡ true → has_room self.now.draft ≡ false → result ≡ Some ListCause.Long }
+        ensures none { has_mode self.now.draft ≡ true → has_room self.now.draft ≡ true → result ≡ None }
+    {
+        if !self.has_mode() {
+            Some(ListCause::Order)
+        } else if self.packets >= PACKET_LIMIT - u64::from(!self.samples.as_slice().is_empty()) {
+            Some(ListCause::Long)
+        } else {
+            None
+        }
+    }
+
+    /// Takes a packet.
+    #[tactic(auto, unfolding(crate::specs::ContentDrafts::content_cause))]
+    fn packet(self, packet: Option<Packet>) -> Result<ContentReader, Refusal>
+        requires lines { self.line ≤ 4294967290 }
+        ensures cause { AnswersCause (content_cause self.draft (packet_line packet)) result }
+        ensures ok { IfOk result (λ r. r ≡ record self { draft = with_content (packet_line packet) self.draft; line = self.line + 1 }) }
+    {
+        let Some(packet) = packet else {
+            return Err(Refusal::Cause(ListCause::Range));
+        };
+        if let Some(cause) = self.packet_cause() {
+            return Err(Refusal::Cause(cause));
+        }
+        let mut reader = self.settle()?;
+        push_packet(&mut reader.content, reader.is_open, packet)?;
+        reader.is_open = true;
+        reader.packets += 1;
+        reader.line += 1;
+        Ok(reader)
+    }
+
+    /// Makes a packet of the samples that still lack one, if there are any.
+    fn settle(self) -> Result<ContentReader, NoMemory>
+        requires lines { self.line ≤ 4294967290 }
+        ensures { IfOk result (λ r. r ≡ record self { draft = settled self.draft }) }
+    {
+        let mut reader = self;
+        if reader.samples.as_slice().is_empty() {
+            return Ok(reader);
+        }
+        push_samples(
+            &mut reader.content,
+            reader.is_open,
+            reader.samples.as_slice(),
+        )?;
+        reader.samples.clear();
+        reader.is_open = true;
+        reader.packets += 1;
+        Ok(reader)
+    }
+
+    /// The first cause for which no sample can come here.
+    fn sample_cause(&self) -> Option<ListCause>
+        ensures order { has_mode self.now.draft ≡ false → result ≡ Some ListCause.Order }
+        ensures long { has_mode self.now.draft ≡ true → has_sample_room self.now.draft ≡ false → result ≡ Some ListCause.Long }
+        ensures none { has_mode self.now.draft ≡ true → has_sample_room self.now.draft ≡ true → result ≡ None }
+    {
+        if !self.has_mode() {
+            Some(ListCause::Order)
+        } else if self.samples.as_slice().is_empty() && self.packets >= PACKET_LIMIT {
+            Some(ListCause::Long)
+        } else {
+            None
+        }
+    }
+
+    /// Takes a sample.
+    #[tactic(auto, unfolding(crate::specs::ContentDrafts::content_cause))]
+    fn sample(self, sample: Option<Sample>) -> Result<ContentReader, Refusal>
+        requires fits { SampleFits sample }
+        requires lines { self.line ≤ 4294967290 }
+        ensures cause { AnswersCause (content_cause self.draft (sample_line sample)) result }
+        ensures ok { IfOk result (λ r. r ≡ record self { draft = with_content (sample_line sample) self.draft; line = self.line + 1 }) }
+    {
+        let Some(sample) = sample else {
+            return Err(Refusal::Cause(ListCause::Range));
+        };
+        if let Some(cause) = self.sample_cause() {
+            return Err(Refusal::Cause(cause));
+        }
+        let mut reader = self;
+        if reader.samples.len() + 1 == GROUP {
+            return reader.fourth(sample);
+        }
+        push_sample(&mut reader.samples, sample)?;
+        reader.line += 1;
+        Ok(reader)
+    }
+
+    /// Takes the last sample of a packet.
+    fn fourth(self, sample: Sample) -> Result<ContentReader, Refusal>
+        requires three { length self.draft.samples ≡ 3 }
+        requires fits { IsSample sample }
+        requires lines { self.line ≤ 4294967290 }
+        ensures known { IfErr result (λ refusal. refusal ≡ Refusal.NoMemory) }
+        ensures ok { IfOk result (λ r. r ≡ record self { draft = with_sample sample self.draft; line = self.line + 1 }) }
+    {
+        let mut reader = self;
+        push_sample(&mut reader.samples, sample)?;
+        push_samples(
+            &mut reader.content,
+            reader.is_open,
+            reader.samples.as_slice(),
+        )?;
+        reader.samples.clear();
+        reader.is_open = true;
+        reader.packets += 1;
+        reader.line += 1;
+        Ok(reader)
+    }
+
+    /// Takes the line `end`.
+    #[tactic(auto, unfolding(crate::specs::ContentDrafts::content_cause))]
+    fn end(self) -> Result<ContentReader, Refusal>
+        requires lines { self.line ≤ 4294967290 }
+        ensures cause { AnswersCause (content_cause self.draft end_line) result }
+        ensures ok { IfOk result (λ r. r ≡ record self { line = self.line + 1 }) }
+    {
+        let mut reader = self;
+        if !reader.can_end() {
+            return Err(Refusal::Cause(ListCause::Order));
+        }
+        reader.line += 1;
+        Ok(reader)
+    }
+
+    /// Whether the listing can end here.
+    fn can_end(&self) -> bool
+        ensures { result ≡ (has_mode self.now.draft && (nat_lt 0 (length self.now.draft.frames) && is_settled self.now.draft)) }
+    {
+        if !self.is_settled() {
+            return false;
+        }
+        self.has_mode() && self.has_frame()
+    }
+
+    /// Whether a whole frame was told, where nothing is told behind it.
+    fn has_frame(&self) -> bool
+        requires { is_settled self.now.draft ≡ true }
+        ensures { result ≡ nat_lt 0 (length self.now.draft.frames) }
+    {
+        self.content.len() > 0
+    }
+
+    /// The mode and the content of all frames.
+    pub(crate) fn close(self) -> (Mode, Content)
+        requires { content_cause self.draft end_line ≡ None }
+        ensures mode { self.draft.mode ≡ Some result.0 }
+        ensures content { result.1 ≡ self.draft.frames }
+    {
+        match self.mode {
+            Some(mode) => (mode, self.content),
+            None => unreachable!(),
+        }
+    }
+}
+
+/// The bytes of hexadecimal digits. A byte that is no digit is a fault of the line's form.
+fn decode_row(alloc: Global, digits: &[u8]) -> Result<Vec<u8>, Refusal>
+    ensures ok { IfOk result (λ bytes. decode_of digits.now ≡ Ok bytes.items) }
+    ensures err { IfErr result (λ refusal. (refusal ≡ Refusal.NoMemory) ⊎ ((refusal ≡ Refusal.Cause ListCause.Form) × IsErr (decode_of digits.now))) }
+{
+    match hex::decode(alloc, digits) {
+        Ok(bytes) => Ok(bytes),
+        Err(FromHexError::OutOfMemory) => Err(Refusal::NoMemory),
+        Err(_) => Err(Refusal::Cause(ListCause::Form)),
+    }
+}
+
+/// Appends a sample.
+fn push_sample(samples: &mut Vec<Sample>, sample: Sample) -> Result<(), NoMemory>
+    ensures { OnOk result (samples.new.items ≡ samples.old.items ++ sample ∷ []) }
+{
+    samples.push(sample)?;
+    Ok(())
+}
+
+/// Appends a frame, if none is being told.
+fn begin_frame(content: &mut Content, is_open: bool) -> Result<(), NoMemory>
+    requires few { length (whole_frames is_open content.old) < 4294967295 }
+    requires some { is_open ≡ true → 1 ≤ length content.old }
+    ensures frames { OnOk result (whole_frames true content.new ≡ whole_frames is_open content.old) }
+    ensures open { OnOk result (open_frame true content.new ≡ open_frame is_open content.old) }
+    ensures some { OnOk result (1 ≤ length content.new) }
+{
+    if is_open {
+        return Ok(());
+    }
+    content.frame()?;
+    Ok(())
+}
+
+/// Appends a packet to the frame that is being told, or to a new one.
+fn push_packet(content: &mut Content, is_open: bool, packet: Packet) -> Result<(), NoMemory>
+    requires few { length (whole_frames is_open content.old) < 4294967295 }
+    requires some { is_open ≡ true → 1 ≤ length content.old }
+    ensures frames { OnOk result (whole_frames true content.new ≡ whole_frames is_open content.old) }
+    ensures open { OnOk result (open_frame true content.new ≡ with_packet packet (open_frame is_open content.old)) }
+    ensures some { OnOk result (1 ≤ length content.new) }
+{
+    begin_frame(content, is_open)?;
+    content.packet(packet)?;
+    Ok(())
+}
+
+/// Appends a row to the frame that is being told, or to a new one.
+fn push_row(content: &mut Content, is_open: bool, bytes: &[u8]) -> Result<(), NoMemory>
+    requires few { length (whole_frames is_open content.old) < 4294967295 }
+    requires some { is_open ≡ true → 1 ≤ length content.old }
+    ensures frames { OnOk result (whole_frames true content.new ≡ whole_frames is_open content.old) }
+    ensures open { OnOk result (open_frame true content.new ≡ with_row bytes.now (open_frame is_open content.old)) }
+    ensures some { OnOk result (1 ≤ length content.new) }
+{
+    begin_frame(content, is_open)?;
+    content.row(bytes)?;
+    Ok(())
+}
+
+/// Appends the packet of one to four samples to the frame that is being told, or to a new one.
+fn push_samples(content: &mut Content, is_open: bool, samples: &[Sample]) -> Result<(), NoMemory>
+    requires least { 1 ≤ length samples.now }
+    requires most { length samples.now ≤ 4 }
+    requires fits { All IsSample samples.now }
+    requires few { length (whole_frames is_open content.old) < 4294967295 }
+    requires some { is_open ≡ true → 1 ≤ length content.old }
+    ensures frames { OnOk result (whole_frames true content.new ≡ whole_frames is_open content.old) }
+    ensures open { OnOk result (open_frame true content.new ≡ with_samples samples.now (open_frame is_open content.old)) }
+    ensures some { OnOk result (1 ≤ length content.new) }
+{
+    let mut packet = blank_packet();
+    write_samples(samples, &mut packet);
+    push_packet(content, is_open, packet)
+}
+
+/// Whether the numbers of a mode are those of a raster.
+#[tactic(auto, unfolding(crate::specs::ContentDrafts::is_raster_mode))]
+fn is_raster_mode(mode: &Mode) -> bool
+    ensures { result ≡ is_raster_mode mode.now }
+{
+    let [ha, hf, hs, hb] = mode.across;
+    let [va, vf, vs, vb] = mode.down;
+    is_in_range(1, ha)
+        && (is_in_range(1, hf)
+            && (is_in_range(1, hs)
+                && (is_in_range(14, hb)
+                    && (is_in_range(1, va)
+                        && (is_in_range(1, vf) && (is_in_range(1, vs) && is_in_range(1, vb)))))))
+}
+
+/// Whether a number of a mode is in its range.
+fn is_in_range(least: u16, number: u16) -> bool
+    ensures { result ≡ (nat_le least number && nat_le number 4096) }
+{
+    number >= least && number <= 4096
+}
+
+/// Whether a row fits the mode behind so many rows. In a mode without a raster any row does.
+fn row_fits(mode: &Mode, rows: u64, bytes: &[u8]) -> bool
+    ensures { result ≡ row_fits mode.now rows bytes.now }
+{
+    !is_raster_mode(mode)
+        || (bytes.len() == 3 * usize::from(mode.across[0]) && rows < u64::from(mode.down[0]))
+}
+
+/// Whether a frame of this size and so many rows fits the mode. In a mode without a raster any frame does.
+fn frame_fits(mode: &Mode, rows: u64, width: u64, height: u64) -> bool
+    ensures { result ≡ frame_fits mode.now rows width height }
+{
+    let (across, down) = (u64::from(mode.across[0]), u64::from(mode.down[0]));
+    !is_raster_mode(mode) || (width == across && (height == down && rows == down))
+}
