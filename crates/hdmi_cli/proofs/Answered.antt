@@ -1,23 +1,19 @@
 -- The outcomes that the commands end with.
-use Rattle.std.proofs.Common.{◌≡◌, ◌⊎◌, ℕ, ◌<◌, List, [], ◌∷◌, ◌++◌, length, take, map, refl, ap, sym, ◌∙◌, subst, inl, inr, arith, append-nil}
+use Rattle.std.proofs.Common.{◌≡◌, ◌⊎◌, ℕ, zero, suc, ◌<◌, ◌≤◌, List, [], ◌∷◌, ◌++◌, length, take, map, refl, ap, sym, ◌∙◌, subst, inl, inr, arith, append-nil}
 use Rattle.std.specs.Prelude.{Option, Some, None, Result, Ok, Err, OnOk, IfErr, All}
 use Rattle.outside_io.specs.Causes.{Rose}
 use Rattle.std.specs.Io.KnownBytes.{Appends, Keeps, IsAtEnd}
 use Rattle.std.proofs.KnownBytes.{Appends-nil}
 use Rattle.std.proofs.lemmas.List.Elements.{All-nil, All-cons, All-map}
 use Rattle.tmds_word.specs.Column.{Column}
-use Rattle.capture_file.specs.Layout.{capture_of}
-use Rattle.capture_file.specs.Faults.{AreLanes, IsCapture, IsFault, IsCaused, AnswersBytes}
+use Rattle.capture_file.specs.Faults.{IsCapture, IsFault}
 use Rattle.capture_file.specs.Damage.{IsDamaged, IsMisplaced, AreWithin}
 use Rattle.capture_file.specs.declared.damaging.Hit.{Hit}
 use Rattle.capture_file.specs.declared.damaging.DamageError.{DamageError}
 use Rattle.capture_file.specs.declared.damaging.DamageError.TheVariants as damages
-use Rattle.period_grammar.specs.Things.{Thing}
-use Rattle.capture_file.specs.Taps.{Tapped, tapped_capture}
+use Rattle.capture_file.specs.Taps.{tapped_capture}
 use Rattle.capture_file.specs.declared.writing.Tap.{Tap}
 use Rattle.capture_file.specs.declared.reading.CaptureFault.{CaptureFault}
-use Rattle.capture_file.specs.declared.reading.CaptureError.{CaptureError}
-use Rattle.capture_file.specs.declared.reading.CaptureError.TheVariants.{Bad as BadCapture, Read as CaptureUnread, NoMemory as CaptureUnheld}
 use Rattle.island_pack.specs.Periods.{Period}
 use Rattle.island_pack.specs.Spelling.{Spells}
 use Rattle.listing.specs.Answers.{Answers as AnswersReading}
@@ -30,13 +26,12 @@ use Rattle.hdmi_cli.specs.Commands.{hit_asked, tap_asked}
 use Rattle.command_line.specs.declared.damage.DamageWord.{DamageWord}
 use Rattle.command_line.specs.declared.tap.TapWords.{TapWords}
 use Rattle.command_line.specs.Damages.{AreDamages}
-use Rattle.command_line.specs.Commands.{IsCommand as IsLine}
-use Rattle.hdmi_cli.specs.Outcome.{Outcome, MakesLink, ListsCapture, Damages, Does}
-use Rattle.hdmi_cli.specs.Endings.{Devices, IsAnswered, IsPart, IsListed, IsPartListed, HasBegun, Ends, ListEnds, status_of, note_of, refused_ending, damage_ending}
-use Rattle.command_line.specs.declared.command.Command.{Command}
+use Rattle.command_line.specs.Commands.{IsCommand as IsLine, IsVersion}
+use Rattle.hdmi_cli.specs.Outcome.{Outcome, MakesLink, Damages}
+use Rattle.hdmi_cli.specs.Endings.{Devices, IsAnswered, IsPart, Ends, status_of, note_of, damage_ending}
 use Rattle.command_line.specs.declared.command.Command.TheVariants.{MakeLink, Damage}
 use Rattle.hdmi_cli.specs.declared.ending.Ending.{Ending}
-use Rattle.hdmi_cli.specs.declared.ending.Ending.TheVariants.{Done, Faulty, Usage, Listing, Capture, Place, ReadFailed, WriteFailed, NoMemory, Unaligned}
+use Rattle.hdmi_cli.specs.declared.ending.Ending.TheVariants.{Done, Listing, Capture, Place}
 
 -- `make link`
 
@@ -91,13 +86,6 @@ pub part_of : (words : TapWords) (ps : List Period) (taken : List Column) (gone 
 part_of words ps taken gone before after text read spelled missing written =
     let lt : gone < length (tapped_capture spelled.0 (tap_asked words)) = subst (λ cs. gone < length (tapped_capture cs (tap_asked words))) spelled.1 missing in
     made_part words ps spelled.0 gone before after text read spelled.2 lt (subst (λ cs. Appends before.held after.held (take gone (tapped_capture cs (tap_asked words)))) spelled.1 written)
-
-keeps_itself : (held : Option (List ℕ)) → Keeps held held
-keeps_itself None = tt
-keeps_itself (Some xs) = refl
-
-keeps : (old new : Option (List ℕ)) → new ≡ old → Keeps old new
-keeps old new same = subst (λ (held : Option (List ℕ)). Keeps old held) (sym same) (keeps_itself old)
 
 -- `damage`
 
@@ -192,3 +180,17 @@ lanes_of_line words damages named = lanes_of_damages named.operands damages name
 
 pub lanes_of_hits : (words : List DamageWord) → All (λ (w : DamageWord). w.lane < 3) words → All (λ (h : Hit). h.lane < 3) (map hit_asked words)
 lanes_of_hits words all = All-map (λ (h : Hit). h.lane < 3) hit_asked words all
+
+-- the version that the options of `make` ask for
+one_or_two : (n : ℕ) → n ≤ 2 → 1 ≤ n → (n ≡ 1) ⊎ (n ≡ 2)
+one_or_two zero few some = absurd (omega arith)
+one_or_two (suc zero) few some = inl refl
+one_or_two (suc (suc zero)) few some = inr refl
+one_or_two (suc (suc (suc n))) few some = absurd (omega arith)
+
+version_asked : (text : Option (List ℕ)) (n : ℕ) → IsVersion text n → (n ≡ 1) ⊎ (n ≡ 2)
+version_asked (Some text) n is = one_or_two n is.0.few is.1
+version_asked None n is = inl is
+
+pub version_of_line : (words : List (List ℕ)) (tap : TapWords) → IsLine words (MakeLink tap) → (tap.version ≡ 1) ⊎ (tap.version ≡ 2)
+version_of_line words tap named = version_asked named.means.2.version_text tap.version named.means.2.version

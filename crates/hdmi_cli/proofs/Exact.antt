@@ -17,6 +17,7 @@ use Rattle.listing.proofs.Exact.{count_is_exact, verdict_is_exact}
 use Rattle.hdmi_cli.specs.Commands.{IsCommand}
 use Rattle.hdmi_cli.specs.Outcome.{Outcome, ListsLanes, ListsCapture, Does, IsOutcome, status_with}
 use Rattle.hdmi_cli.specs.Endings.{Devices}
+use Rattle.hdmi_cli.specs.Listings.{check_listing}
 use Rattle.hdmi_cli.specs.Exact.{IsAlignedCapture, IsJudged}
 use Rattle.command_line.specs.declared.command.Command.{Command}
 use Rattle.command_line.specs.declared.command.Command.TheVariants.{Check}
@@ -24,7 +25,7 @@ use Rattle.command_line.proofs.Laws.{command_once}
 use Rattle.hdmi_cli.proofs.Ends.{Says}
 use Rattle.hdmi_cli.proofs.OneCapture.{AreSame, one_capture, no_fault}
 
-check_does : (words : List (List ℕ)) (bytes : List ℕ) (o : Outcome) → IsCommand words Check → IsOutcome words bytes o → ListsCapture check_text bytes o
+check_does : (words : List (List ℕ)) (bytes : List ℕ) (o : Outcome) → IsCommand words Check → IsOutcome words bytes o → ListsCapture check_listing bytes o
 check_does words bytes o named (inl (command, other, does)) = subst (λ (c : Command). Does c bytes o) (command_once words command Check other.0 named.0) does
 check_does words bytes o named (inr (none, is)) = absurd (none Check named)
 
@@ -46,21 +47,21 @@ told_check blue green red d e f columns things o first told is =
       output = ap (λ (p : Outcome). p.output) is ∙ ap check_text things_are;
     }
 
-lanes_check : (blue green red : List Bool) (d e f : ℕ) (o : Outcome) → IsFirst blue green red d e f → ListsLanes check_text blue green red o → IsCheckOf (aligned_columns blue green red d e f) o
+lanes_check : (blue green red : List Bool) (d e f : ℕ) (o : Outcome) → IsFirst blue green red d e f → ListsLanes check_listing blue green red o → IsCheckOf (aligned_columns blue green red d e f) o
 lanes_check blue green red d e f o first (inl (columns, things, told, is)) = told_check blue green red d e f columns things o first told is
 lanes_check blue green red d e f o first (inr (columns, things, nowhere, is)) = absurd (nowhere.nowhere d e f first.triple)
 
-same_lanes : (x y z u v w : List Bool) (o : Outcome) → AreSame x y z u v w → ListsLanes check_text u v w o → ListsLanes check_text x y z o
+same_lanes : (x y z u v w : List Bool) (o : Outcome) → AreSame x y z u v w → ListsLanes check_listing u v w o → ListsLanes check_listing x y z o
 same_lanes x y z u v w o same h =
-    subst (λ a. ListsLanes check_text a y z o) (sym same.blue)
-    (subst (λ b. ListsLanes check_text u b z o) (sym same.green) (subst (λ c. ListsLanes check_text u v c o) (sym same.red) h))
+    subst (λ a. ListsLanes check_listing a y z o) (sym same.blue)
+    (subst (λ b. ListsLanes check_listing u b z o) (sym same.green) (subst (λ c. ListsLanes check_listing u v c o) (sym same.red) h))
 
-capture_check : (blue green red : List Bool) (d e f : ℕ) (bytes : List ℕ) (o : Outcome) → IsAlignedCapture blue green red d e f bytes → ListsCapture check_text bytes o
+capture_check : (blue green red : List Bool) (d e f : ℕ) (bytes : List ℕ) (o : Outcome) → IsAlignedCapture blue green red d e f bytes → ListsCapture check_listing bytes o
     → IsCheckOf (aligned_columns blue green red d e f) o
-capture_check blue green red d e f bytes o c (inl (x, y, z, lanes, is, lists)) =
-    lanes_check blue green red d e f o c.first (same_lanes blue green red x y z o (one_capture blue green red x y z c.lanes lanes (sym c.bytes_are ∙ is)) lists)
-capture_check blue green red d e f bytes o c (inr (fault, is, refused)) =
-    absurd (no_fault bytes fault (record { blue = blue; green = green; red = red; lanes = c.lanes; bytes_are = c.bytes_are }) is)
+capture_check blue green red d e f bytes o c (inl (x, y, z, is, lists)) =
+    lanes_check blue green red d e f o c.first (same_lanes blue green red x y z o (one_capture blue green red x y z bytes c.captured is) lists)
+capture_check blue green red d e f bytes o c (inr (fault, is)) =
+    absurd (no_fault bytes fault (record { blue = blue; green = green; red = red; holds = c.captured }) is.is)
 
 -- What it says.
 

@@ -1,11 +1,10 @@
--- What `recover link` makes of the capture of a tap of columns that came with sparse damage.
+-- What `recover` makes of the capture of a tap of columns that came with sparse damage.
 use Rattle.std.proofs.Common.{◌≡◌, ◌≤◌, ◌⊎◌, ℕ, ◌+◌, Bool, List, [], length, refl, ap, ap₂, sym, ◌∙◌, subst, inl, inr}
 use Rattle.std.specs.Prelude.{Option, Some}
 use Rattle.std.specs.Io.KnownBytes.{Appends}
 use Rattle.outside_io.specs.Causes.{Rose}
 use Rattle.tmds_word.specs.Column.{Column}
-use Rattle.capture_file.specs.Layout.{capture_of}
-use Rattle.capture_file.specs.Faults.{AreLanes}
+use Rattle.capture_file.specs.Captures.{IsCaptureOf}
 use Rattle.lane_deskew.specs.Triples.{IsFirst}
 use Rattle.lane_deskew.specs.Aligned.{aligned_columns}
 use Rattle.lane_deskew.proofs.First.{one_first}
@@ -17,13 +16,12 @@ use Rattle.link_sink.specs.Account.{account}
 use Rattle.link_sink.specs.Alignment.{IsAlignedTold}
 use Rattle.link_sink.specs.Laws.{IsAccounted, AlignsUntil, BeginColumn}
 use Rattle.link_sink.proofs.Tapped.{payload_accounted, tap_accounted}
-use Rattle.listing.specs.Texts.{link_text, fault_lines}
+use Rattle.hdmi_cli.specs.Listings.{Listing as ListingOf}
 use Rattle.hdmi_cli.specs.Commands.{IsCommand}
-use Rattle.hdmi_cli.specs.Outcome.{Outcome, RecoversLanes, RecoversLink, status_with}
+use Rattle.hdmi_cli.specs.Outcome.{Outcome, ListsLanes, ListsCapture, Does, status_with}
 use Rattle.hdmi_cli.specs.Headline.{AreTapped, IsRecovered}
 use Rattle.hdmi_cli.specs.Endings.{Devices, Answers, Ends, RunEnds, status_of}
 use Rattle.command_line.specs.declared.command.Command.{Command}
-use Rattle.command_line.specs.declared.command.Command.TheVariants.{RecoverLink}
 use Rattle.command_line.proofs.Laws.{command_once}
 use Rattle.hdmi_cli.specs.declared.ending.Ending.{Ending}
 use Rattle.hdmi_cli.specs.declared.ending.Ending.TheVariants.{Done, Faulty, Usage, Listing, Capture, Place, ReadFailed, WriteFailed, NoMemory, Unaligned}
@@ -36,52 +34,52 @@ aligned_same x y z d e f p q r first other =
     ap (λ n. aligned_columns x y z n e f) one.0 ∙ ap₂ (λ m n. aligned_columns x y z p m n) one.1 one.2
 
 -- an outcome is the listing of the account of the columns that are aligned at three edges
-record IsAccountOf (ps : List Period) (sent received : List Column) (a : ℕ) (blue green red : List Bool) (d e f : ℕ) (o : Outcome) : Type 0 where
-  status : o.status ≡ status_with (fault_lines (account ps sent received a (length (aligned_columns blue green red d e f))))
-  output : o.output ≡ link_text (account ps sent received a (length (aligned_columns blue green red d e f)))
+record IsAccountOf (listing : ListingOf) (ps : List Period) (sent received : List Column) (a : ℕ) (blue green red : List Bool) (d e f : ℕ) (o : Outcome) : Type 0 where
+  status : o.status ≡ status_with (listing.faults (account ps sent received a (length (aligned_columns blue green red d e f))))
+  output : o.output ≡ listing.text (account ps sent received a (length (aligned_columns blue green red d e f)))
 
-told_account : (ps : List Period) (sent received : List Column) (offset : ℕ) (skews : List ℕ) (a : ℕ) (blue green red : List Bool) (d e f columns : ℕ) (things : List Thing) (o : Outcome)
+told_account : (listing : ListingOf) (ps : List Period) (sent received : List Column) (offset : ℕ) (skews : List ℕ) (a : ℕ) (blue green red : List Bool) (d e f columns : ℕ) (things : List Thing) (o : Outcome)
     → IsFirst blue green red d e f → IsAccounted ps sent received (aligned_columns blue green red d e f) a → IsAlignedTold blue green red columns things
-    → o ≡ record { status = status_with (fault_lines things); output = link_text things; note = [] }
-    → IsAccountOf ps sent received a blue green red d e f o
-told_account ps sent received offset skews a blue green red d e f columns things o first accounted told is =
+    → o ≡ record { status = status_with (listing.faults things); output = listing.text things; note = [] }
+    → IsAccountOf listing ps sent received a blue green red d e f o
+told_account listing ps sent received offset skews a blue green red d e f columns things o first accounted told is =
     let same : aligned_columns blue green red told.d told.e told.f ≡ aligned_columns blue green red d e f =
     aligned_same blue green red told.d told.e told.f d e f told.first first in
     let things_are : things ≡ account ps sent received a (length (aligned_columns blue green red d e f)) = told.told ∙ ap heard same ∙ accounted.told in
     record {
-      status = ap (λ (p : Outcome). p.status) is ∙ ap (λ ts. status_with (fault_lines ts)) things_are;
-      output = ap (λ (p : Outcome). p.output) is ∙ ap link_text things_are;
+      status = ap (λ (p : Outcome). p.status) is ∙ ap (λ ts. status_with (listing.faults ts)) things_are;
+      output = ap (λ (p : Outcome). p.output) is ∙ ap listing.text things_are;
     }
 
-lanes_account : (ps : List Period) (sent received : List Column) (offset : ℕ) (skews : List ℕ) (a : ℕ) (blue green red : List Bool) (d e f : ℕ) (o : Outcome)
-    → IsFirst blue green red d e f → IsAccounted ps sent received (aligned_columns blue green red d e f) a → RecoversLanes blue green red o → IsAccountOf ps sent received a blue green red d e f o
-lanes_account ps sent received offset skews a blue green red d e f o first accounted (inl (columns, things, told, is)) =
-    told_account ps sent received offset skews a blue green red d e f columns things o first accounted told is
-lanes_account ps sent received offset skews a blue green red d e f o first accounted (inr (columns, things, nowhere, is)) = absurd (nowhere.nowhere d e f first.triple)
+lanes_account : (listing : ListingOf) (ps : List Period) (sent received : List Column) (offset : ℕ) (skews : List ℕ) (a : ℕ) (blue green red : List Bool) (d e f : ℕ) (o : Outcome)
+    → IsFirst blue green red d e f → IsAccounted ps sent received (aligned_columns blue green red d e f) a → ListsLanes listing blue green red o → IsAccountOf listing ps sent received a blue green red d e f o
+lanes_account listing ps sent received offset skews a blue green red d e f o first accounted (inl (columns, things, told, is)) =
+    told_account listing ps sent received offset skews a blue green red d e f columns things o first accounted told is
+lanes_account listing ps sent received offset skews a blue green red d e f o first accounted (inr (columns, things, nowhere, is)) = absurd (nowhere.nowhere d e f first.triple)
 
-same_lanes : (x y z u v w : List Bool) (o : Outcome) → AreSame x y z u v w → RecoversLanes u v w o → RecoversLanes x y z o
-same_lanes x y z u v w o same h =
-    subst (λ a. RecoversLanes a y z o) (sym same.blue) (subst (λ b. RecoversLanes u b z o) (sym same.green) (subst (λ c. RecoversLanes u v c o) (sym same.red) h))
+same_lanes : (listing : ListingOf) (x y z u v w : List Bool) (o : Outcome) → AreSame x y z u v w → ListsLanes listing u v w o → ListsLanes listing x y z o
+same_lanes listing x y z u v w o same h =
+    subst (λ a. ListsLanes listing a y z o) (sym same.blue) (subst (λ b. ListsLanes listing u b z o) (sym same.green) (subst (λ c. ListsLanes listing u v c o) (sym same.red) h))
 
 -- the capture of such lanes is recovered so
-capture_account : (ps : List Period) (sent received : List Column) (offset : ℕ) (skews : List ℕ) (a : ℕ) (blue green red : List Bool) (d e f : ℕ) (bytes : List ℕ) (o : Outcome)
-    → AreLanes blue green red → bytes ≡ capture_of blue green red → IsFirst blue green red d e f → IsAccounted ps sent received (aligned_columns blue green red d e f) a → RecoversLink bytes o
-    → IsAccountOf ps sent received a blue green red d e f o
-capture_account ps sent received offset skews a blue green red d e f bytes o are bytes_are first accounted (inl (x, y, z, lanes, is, recovers)) =
-    let same = one_capture blue green red x y z are lanes (sym bytes_are ∙ is) in
-    lanes_account ps sent received offset skews a blue green red d e f o first accounted (same_lanes blue green red x y z o same recovers)
-capture_account ps sent received offset skews a blue green red d e f bytes o are bytes_are first accounted (inr (fault, is, refused)) =
-    absurd (no_fault bytes fault (record { blue = blue; green = green; red = red; lanes = are; bytes_are = bytes_are }) is)
+capture_account : (listing : ListingOf) (ps : List Period) (sent received : List Column) (offset : ℕ) (skews : List ℕ) (a : ℕ) (blue green red : List Bool) (d e f : ℕ) (bytes : List ℕ) (o : Outcome)
+    → IsCaptureOf blue green red bytes → IsFirst blue green red d e f → IsAccounted ps sent received (aligned_columns blue green red d e f) a → ListsCapture listing bytes o
+    → IsAccountOf listing ps sent received a blue green red d e f o
+capture_account listing ps sent received offset skews a blue green red d e f bytes o captured first accounted (inl (x, y, z, is, recovers)) =
+    let same = one_capture blue green red x y z bytes captured is in
+    lanes_account listing ps sent received offset skews a blue green red d e f o first accounted (same_lanes listing blue green red x y z o same recovers)
+capture_account listing ps sent received offset skews a blue green red d e f bytes o captured first accounted (inr (fault, is)) =
+    absurd (no_fault bytes fault (record { blue = blue; green = green; red = red; holds = captured }) is.is)
 
 -- what a run says of it
 
-answered : (ps : List Period) (sent received : List Column) (offset : ℕ) (skews : List ℕ) (a : ℕ) (blue green red : List Bool) (d e f : ℕ) (bytes : List ℕ) (ending : Ending) (before after : Devices)
-    → AreLanes blue green red → bytes ≡ capture_of blue green red → IsFirst blue green red d e f → IsAccounted ps sent received (aligned_columns blue green red d e f) a
-    → BeginColumn offset skews (a + 12) d e f → before.left ≡ Some bytes → Answers RecoverLink ending before after
-    → IsRecovered ps sent received offset skews blue green red d e f a (status_of ending) before.held after.held
-answered ps sent received offset skews a blue green red d e f bytes ending before after are bytes_are first accounted begins left answers =
+answered : (listing : ListingOf) (command : Command) (ps : List Period) (sent received : List Column) (offset : ℕ) (skews : List ℕ) (a : ℕ) (blue green red : List Bool) (d e f : ℕ) (bytes : List ℕ) (ending : Ending) (before after : Devices)
+    → ((o : Outcome) → Does command bytes o → ListsCapture listing bytes o) → IsCaptureOf blue green red bytes → IsFirst blue green red d e f → IsAccounted ps sent received (aligned_columns blue green red d e f) a
+    → BeginColumn offset skews (a + 12) d e f → before.left ≡ Some bytes → Answers command ending before after
+    → IsRecovered listing ps sent received offset skews blue green red d e f a (status_of ending) before.held after.held
+answered listing command ps sent received offset skews a blue green red d e f bytes ending before after lists captured first accounted begins left answers =
     let answer = answers bytes left in
-    let is = capture_account ps sent received offset skews a blue green red d e f bytes answer.outcome are bytes_are first accounted answer.does in
+    let is = capture_account listing ps sent received offset skews a blue green red d e f bytes answer.outcome captured first accounted (lists answer.outcome answer.does) in
     record {
       accounted = accounted;
       begins = begins;
@@ -94,53 +92,53 @@ abbrev Unless : (ℕ → Option (List ℕ) → Option (List ℕ) → Type 0) →
 Unless P status before after =
     Rose before.input_faults after.input_faults ⊎ Rose before.output_faults after.output_faults ⊎ (status ≡ 6) ⊎ P status before.held after.held
 
-ended : (P : ℕ → Option (List ℕ) → Option (List ℕ) → Type 0) (ending : Ending) (before after : Devices)
-    → (Answers RecoverLink ending before after → P (status_of ending) before.held after.held) → Ends RecoverLink ending before after → Unless P (status_of ending) before after
-ended P Done before after says ends = inr (inr (inr (says ends.1)))
-ended P Faulty before after says ends = inr (inr (inr (says ends.1)))
-ended P (Listing fault) before after says ends = inr (inr (inr (says ends.1)))
-ended P (Capture fault) before after says ends = inr (inr (inr (says ends.1)))
-ended P (Place i) before after says ends = inr (inr (inr (says ends.1)))
-ended P Unaligned before after says ends = inr (inr (inr (says ends.2)))
-ended P ReadFailed before after says ends = inl ends.1
-ended P WriteFailed before after says ends = inr (inl ends.0)
-ended P NoMemory before after says ends = inr (inr (inl refl))
-ended P Usage before after says ends = absurd ends
+ended : (P : ℕ → Option (List ℕ) → Option (List ℕ) → Type 0) (command : Command) (ending : Ending) (before after : Devices)
+    → (Answers command ending before after → P (status_of ending) before.held after.held) → Ends command ending before after → Unless P (status_of ending) before after
+ended P command Done before after says ends = inr (inr (inr (says ends.1)))
+ended P command Faulty before after says ends = inr (inr (inr (says ends.1)))
+ended P command (Listing fault) before after says ends = inr (inr (inr (says ends.1)))
+ended P command (Capture fault) before after says ends = inr (inr (inr (says ends.1)))
+ended P command (Place i) before after says ends = inr (inr (inr (says ends.1)))
+ended P command Unaligned before after says ends = inr (inr (inr (says ends.2)))
+ended P command ReadFailed before after says ends = inl ends.0
+ended P command WriteFailed before after says ends = inr (inl ends.0)
+ended P command NoMemory before after says ends = inr (inr (inl refl))
+ended P command Usage before after says ends = absurd ends
 
 -- a command that words name is the one that they name
-named_ends : (words : List (List ℕ)) (command : Command) (ending : Ending) (before after : Devices) → IsCommand words command → IsCommand words RecoverLink
-    → Ends command ending before after → Ends RecoverLink ending before after
-named_ends words command ending before after named again ends =
-    subst (λ (c : Command). Ends c ending before after) (command_once words command RecoverLink named.0 again.0) ends
+named_ends : (words : List (List ℕ)) (command this : Command) (ending : Ending) (before after : Devices) → IsCommand words command → IsCommand words this
+    → Ends command ending before after → Ends this ending before after
+named_ends words command this ending before after named again ends =
+    subst (λ (c : Command). Ends c ending before after) (command_once words command this named.0 again.0) ends
 
--- what a run of `recover link` says, from what each of its ends with an outcome says
-run_ended : (P : ℕ → Option (List ℕ) → Option (List ℕ) → Type 0) (words : List (List ℕ)) (ending : Ending) (before after : Devices) (status : ℕ) → RunEnds words ending before after
-    → status ≡ status_of ending → IsCommand words RecoverLink → (Answers RecoverLink ending before after → P (status_of ending) before.held after.held) → Unless P status before after
-run_ended P words ending before after status (inl (command, named, ends)) is again says =
-    subst (λ s. Unless P s before after) (sym is) (ended P ending before after says (named_ends words command ending before after named again ends))
-run_ended P words ending before after status (inr (inl (none, usage, kept, held))) is named says = absurd (none RecoverLink named)
-run_ended P words ending before after status (inr (inr (unheld, held))) is named says = inr (inr (inl (is ∙ ap status_of unheld)))
+-- what a run of a command says, from what each of its ends with an outcome says
+run_ended : (P : ℕ → Option (List ℕ) → Option (List ℕ) → Type 0) (this : Command) (words : List (List ℕ)) (ending : Ending) (before after : Devices) (status : ℕ) → RunEnds words ending before after
+    → status ≡ status_of ending → IsCommand words this → (Answers this ending before after → P (status_of ending) before.held after.held) → Unless P status before after
+run_ended P this words ending before after status (inl (command, named, ends)) is again says =
+    subst (λ s. Unless P s before after) (sym is) (ended P this ending before after says (named_ends words command this ending before after named again ends))
+run_ended P this words ending before after status (inr (inl (none, usage, kept, held))) is named says = absurd (none this named)
+run_ended P this words ending before after status (inr (inr (unheld, held))) is named says = inr (inr (inl (is ∙ ap status_of unheld)))
 
 -- sparse damage of payload alone
-pub headlined : (words : List (List ℕ)) (ending : Ending) (before after : Devices) (status : ℕ) → RunEnds words ending before after → status ≡ status_of ending → IsCommand words RecoverLink
+pub headlined : (listing : ListingOf) (this : Command) → ((bytes : List ℕ) (o : Outcome) → Does this bytes o → ListsCapture listing bytes o) → (words : List (List ℕ)) (ending : Ending) (before after : Devices) (status : ℕ) → RunEnds words ending before after → status ≡ status_of ending → IsCommand words this
     → (ps : List Period) (sent received : List Column) (offset : ℕ) (skews counts : List ℕ) (blue green red : List Bool) (bytes : List ℕ)
     → AreTapped ps sent received offset skews counts blue green red bytes → IsSparseInPayload ps sent received
     → (d e f : ℕ) → IsFirst blue green red d e f → before.left ≡ Some bytes
-    → Unless (λ s old new. (a : ℕ) × IsRecovered ps sent received offset skews blue green red d e f a s old new) status before after
-headlined words ending before after status ends is named ps sent received offset skews counts blue green red bytes t alone d e f first left =
+    → Unless (λ s old new. (a : ℕ) × IsRecovered listing ps sent received offset skews blue green red d e f a s old new) status before after
+headlined listing this lists words ending before after status ends is named ps sent received offset skews counts blue green red bytes t alone d e f first left =
     let law = payload_accounted ps sent received t.came alone offset skews counts blue green red t.tap t.small d e f first in
-    run_ended (λ s old new. (a : ℕ) × IsRecovered ps sent received offset skews blue green red d e f a s old new) words ending before after status ends is named
-    (λ answers. (law.0, answered ps sent received offset skews law.0 blue green red d e f bytes ending before after t.lanes t.bytes_are first law.1 law.2 left answers))
+    run_ended (λ s old new. (a : ℕ) × IsRecovered listing ps sent received offset skews blue green red d e f a s old new) this words ending before after status ends is named
+    (λ answers. (law.0, answered listing this ps sent received offset skews law.0 blue green red d e f bytes ending before after (lists bytes) t.captured first law.1 law.2 left answers))
 
 -- and damage anywhere that spares control and guard words until a column
-pub headlined_anywhere : (words : List (List ℕ)) (ending : Ending) (before after : Devices) (status : ℕ) → RunEnds words ending before after → status ≡ status_of ending → IsCommand words RecoverLink
+pub headlined_anywhere : (listing : ListingOf) (this : Command) → ((bytes : List ℕ) (o : Outcome) → Does this bytes o → ListsCapture listing bytes o) → (words : List (List ℕ)) (ending : Ending) (before after : Devices) (status : ℕ) → RunEnds words ending before after → status ≡ status_of ending → IsCommand words this
     → (ps : List Period) (sent received : List Column) (offset : ℕ) (skews counts : List ℕ) (blue green red : List Bool) (bytes : List ℕ)
     → AreTapped ps sent received offset skews counts blue green red bytes
     → (until : ℕ) → AlignsUntil ps sent received offset skews counts until → before.left ≡ Some bytes
     → Unless (λ s old new. (d e f : ℕ) × IsFirst blue green red d e f
-    × ((a : ℕ) × (a + 12 ≤ until) × IsRecovered ps sent received offset skews blue green red d e f a s old new)) status before after
-headlined_anywhere words ending before after status ends is named ps sent received offset skews counts blue green red bytes t until aligns left =
+    × ((a : ℕ) × (a + 12 ≤ until) × IsRecovered listing ps sent received offset skews blue green red d e f a s old new)) status before after
+headlined_anywhere listing this lists words ending before after status ends is named ps sent received offset skews counts blue green red bytes t until aligns left =
     let law = tap_accounted ps sent received t.came offset skews counts blue green red t.tap t.small until aligns in
     run_ended (λ s old new. (d e f : ℕ) × IsFirst blue green red d e f
-    × ((a : ℕ) × (a + 12 ≤ until) × IsRecovered ps sent received offset skews blue green red d e f a s old new)) words ending before after status ends is named
-    (λ answers. (law.0, law.1, law.2, law.3, (law.4.0, law.4.1, answered ps sent received offset skews law.4.0 blue green red law.0 law.1 law.2 bytes ending before after t.lanes t.bytes_are law.3 law.4.2 law.4.3 left answers)))
+    × ((a : ℕ) × (a + 12 ≤ until) × IsRecovered listing ps sent received offset skews blue green red d e f a s old new)) this words ending before after status ends is named
+    (λ answers. (law.0, law.1, law.2, law.3, (law.4.0, law.4.1, answered listing this ps sent received offset skews law.4.0 blue green red law.0 law.1 law.2 bytes ending before after (lists bytes) t.captured law.3 law.4.2 law.4.3 left answers)))

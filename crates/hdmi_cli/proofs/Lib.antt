@@ -1,6 +1,7 @@
 pub mod Ends
 pub mod Answered
 pub mod Listings
+pub mod Heard
 pub mod OneCapture
 pub mod Headline
 pub mod Exact

@@ -1,18 +1,19 @@
 -- Bytes are the capture of one triple of lanes at most, and a capture has no fault.
-use Rattle.std.proofs.Common.{◌≡◌, ℕ, zero, suc, ◌+◌, ◌*◌, ◌/◌, ◌%◌, ◌^◌, ◌<◌, ◌≤◌, Bool, true, false, List, [], ◌∷◌, ◌++◌, length, take, drop, get_or, refl, ap, ap₂, ◌∙◌, sym, arith, length-append, length-take, length-drop, subst}
+use Rattle.std.proofs.Common.{◌≡◌, ℕ, zero, suc, ◌+◌, ◌*◌, ◌/◌, ◌%◌, ◌^◌, ◌<◌, ◌≤◌, max, Bool, true, false, List, [], ◌∷◌, ◌++◌, length, take, drop, get_or, refl, ap, ap₂, ◌∙◌, sym, arith, length-append, length-take, length-drop, subst}
 use Rattle.std.proofs.Math.Seq.{take-add}
 use Rattle.std.proofs.Math.Pow.{pow_mono}
 use Rattle.std.proofs.lemmas.Nat.{pow-add}
 use Rattle.std.proofs.lemmas.List.{take_all}
 use Rattle.tmds_word.specs.Bits.{number, bytes_of}
-use Rattle.capture_file.specs.Layout.{packed, header, chunk, block, blocks_below, blocks_of, capture_of}
-use Rattle.capture_file.specs.Faults.{AreLanes, IsCapture, IsFault}
+use Rattle.capture_file.specs.Layout.{packed, chunk, block, blocks_below, blocks_of}
+use Rattle.capture_file.specs.Captures.{IsCapture, IsCaptureOf, IsFault, counts_of, lane_blocks}
 use Rattle.capture_file.specs.declared.reading.CaptureFault.{CaptureFault}
 use Rattle.capture_file.specs.declared.reading.CaptureFault.TheVariants.{Magic, Version, Short, Padding, Trailing}
 use Rattle.capture_file.proofs.Packing.{length-packed}
 use Rattle.capture_file.proofs.Packs.{number_below}
-use Rattle.capture_file.proofs.Fronts.{same_front, same_rest, same_count, capture_begins}
-use Rattle.capture_file.proofs.Marks.{take_begins}
+use Rattle.capture_file.proofs.Fronts.{same_front, same_rest}
+use Rattle.capture_file.proofs.Heads.{same_heads}
+use Rattle.capture_file.proofs.Stops.{begins_take, begins_whole}
 
 -- bits are told by their number
 same_bits : (xs ys : List Bool) → length xs ≡ length ys → number xs ≡ number ys → xs ≡ ys
@@ -135,41 +136,35 @@ pub record AreSame (x y z u v w : List Bool) : Type 0 where
   pub green : y ≡ v
   pub red : z ≡ w
 
-same_parts : (x y z u v w : List Bool) → AreLanes x y z → AreLanes u v w → header (length x) ++ blocks_below (blocks_of (length (packed x))) (packed x) (packed y) (packed z)
-    ≡ header (length u) ++ blocks_below (blocks_of (length (packed u))) (packed u) (packed v) (packed w) → AreSame x y z u v w
-same_parts x y z u v w l m is =
-    let front = blocks_below (blocks_of (length (packed x))) (packed x) (packed y) (packed z) in
-    let other = blocks_below (blocks_of (length (packed u))) (packed u) (packed v) (packed w) in
-    let count : length x ≡ length u = same_count (length x) (length u) front other l.count m.count is in
-    let bytes = (length x + 7) / 8 in
-    let lx : length (packed x) ≡ bytes = length-packed x in
-    let ly : length (packed y) ≡ bytes = omega (arith, length-packed y, l.green) in
-    let lz : length (packed z) ≡ bytes = omega (arith, length-packed z, l.red) in
-    let lu : length (packed u) ≡ bytes = omega (arith, length-packed u, count) in
-    let lv : length (packed v) ≡ bytes = omega (arith, length-packed v, m.green, count) in
-    let lw : length (packed w) ≡ bytes = omega (arith, length-packed w, m.red, count) in
-    let k = blocks_of bytes in
-    let blocks : front ≡ other = same_rest (header (length x)) front (header (length u)) other is (ap (λ n. length (header n)) count) in
-    let below : blocks_below k (packed x) (packed y) (packed z) ≡ blocks_below k (packed u) (packed v) (packed w) =
-    ap (λ n. blocks_below (blocks_of n) (packed x) (packed y) (packed z)) (sym lx) ∙ blocks ∙ ap (λ n. blocks_below (blocks_of n) (packed u) (packed v) (packed w)) lu in
-    let same = same_below k (packed x) (packed y) (packed z) (packed u) (packed v) (packed w) (record { first = lx ∙ sym lu; second = ly ∙ sym lv; third = lz ∙ sym lw }) below in
-    let whole : (s t : List Bool) → length (packed s) ≡ bytes → length (packed t) ≡ bytes → take (4096 * k) (packed s) ≡ take (4096 * k) (packed t) → packed s ≡ packed t =
-    λ s t ls lt e. sym (take_all (4096 * k) (packed s) (omega arith)) ∙ e ∙ take_all (4096 * k) (packed t) (omega arith) in
+-- lanes whose blocks are the same, each as long as the other
+same_blocks : (x y z u v w : List Bool) → length x ≡ length u → length y ≡ length v → length z ≡ length w → lane_blocks x y z ≡ lane_blocks u v w → AreSame x y z u v w
+unfolding lane_blocks
+same_blocks x y z u v w first second third is =
+    let lx : length (packed x) ≡ length (packed u) = length-packed x ∙ ap (λ n. (n + 7) / 8) first ∙ sym (length-packed u) in
+    let ly : length (packed y) ≡ length (packed v) = length-packed y ∙ ap (λ n. (n + 7) / 8) second ∙ sym (length-packed v) in
+    let lz : length (packed z) ≡ length (packed w) = length-packed z ∙ ap (λ n. (n + 7) / 8) third ∙ sym (length-packed w) in
+    let k = blocks_of (max (length (packed x)) (max (length (packed y)) (length (packed z)))) in
+    let count : k ≡ blocks_of (max (length (packed u)) (max (length (packed v)) (length (packed w)))) = omega (arith, lx, ly, lz) in
+    let below : blocks_below k (packed x) (packed y) (packed z) ≡ blocks_below k (packed u) (packed v) (packed w) = is ∙ ap (λ n. blocks_below n (packed u) (packed v) (packed w)) (sym count) in
+    let same = same_below k (packed x) (packed y) (packed z) (packed u) (packed v) (packed w) (record { first = lx; second = ly; third = lz }) below in
     record {
-      blue = same_lane x u (sym count) (whole x u lx lu same.first);
-      green = same_lane y v (m.green ∙ sym count ∙ sym l.green) (whole y v ly lv same.second);
-      red = same_lane z w (m.red ∙ sym count ∙ sym l.red) (whole z w lz lw same.third);
+      blue = same_lane x u (sym first) (sym (take_all (4096 * k) (packed x) (omega arith)) ∙ same.first ∙ take_all (4096 * k) (packed u) (omega (arith, lx)));
+      green = same_lane y v (sym second) (sym (take_all (4096 * k) (packed y) (omega arith)) ∙ same.second ∙ take_all (4096 * k) (packed v) (omega (arith, ly)));
+      red = same_lane z w (sym third) (sym (take_all (4096 * k) (packed z) (omega arith)) ∙ same.third ∙ take_all (4096 * k) (packed w) (omega (arith, lz)));
     }
 
 -- bytes are the capture of one triple of lanes at most
-pub one_capture : (x y z u v w : List Bool) → AreLanes x y z → AreLanes u v w → capture_of x y z ≡ capture_of u v w → AreSame x y z u v w
-unfolding capture_of
-one_capture x y z u v w l m is = same_parts x y z u v w l m is
+pub one_capture : (x y z u v w : List Bool) (bytes : List ℕ) → IsCaptureOf x y z bytes → IsCaptureOf u v w bytes → AreSame x y z u v w
+one_capture x y z u v w bytes c d =
+    let is = sym c.bytes_are ∙ d.bytes_are in
+    let heads = same_heads c.head d.head (counts_of x y z) (counts_of u v w) (lane_blocks x y z) (lane_blocks u v w) c.headed d.headed is in
+    same_blocks x y z u v w (heads.count 0 (omega arith)) (heads.count 1 (omega arith)) (heads.count 2 (omega arith))
+    (same_rest c.head (lane_blocks x y z) d.head (lane_blocks u v w) is (ap (λ (h : List ℕ). length h) heads.same))
 
 -- a capture has no fault
 pub no_fault : (bytes : List ℕ) (fault : CaptureFault) → IsCapture bytes → IsFault bytes fault → ⊥
-no_fault bytes (Magic p) capture is = is.0.stops (take_begins (p + 1) bytes (capture_begins bytes capture))
-no_fault bytes (Version v) capture is = is.0.stops (take_begins (3 + 1) bytes (capture_begins bytes capture))
-no_fault bytes (Padding p) capture is = is.0.stops (take_begins (p + 1) bytes (capture_begins bytes capture))
-no_fault bytes (Trailing p) capture is = is.0.stops (take_begins (p + 1) bytes (capture_begins bytes capture))
+no_fault bytes (Magic p) capture is = is.0.stops (begins_take (p + 1) bytes (begins_whole bytes capture))
+no_fault bytes (Version v) capture is = is.0.stops (begins_take (3 + 1) bytes (begins_whole bytes capture))
+no_fault bytes (Padding p) capture is = is.0.stops (begins_take (p + 1) bytes (begins_whole bytes capture))
+no_fault bytes (Trailing p) capture is = is.0.stops (begins_take (p + 1) bytes (begins_whole bytes capture))
 no_fault bytes (Short p) capture is = is.1 capture

@@ -10,20 +10,20 @@ use Rattle.command_line.specs.declared.command.Command.TheVariants.{MakeLink, Ma
 
 -- the tap that the options of `make` ask for
 abbrev pub tap_asked : TapWords → Tap
-tap_asked words = record { offset = words.offset; skews = words.skews; bits = words.bits }
+tap_asked words = record { version = words.version; offset = words.offset; skews = words.skews; bits = words.bits }
 
 -- the hit of a word
 abbrev pub hit_asked : DamageWord → Hit
 hit_asked word = record { lane = word.lane; place = word.place; value = word.value }
 
--- the commands that are carried out: those of links, and captures of version 1
+-- the commands that are carried out: all but the making of contents, and samples
 abbrev pub IsCarriedOut : Command → Type 0
-IsCarriedOut (MakeLink tap) = tap.version ≡ 1
+IsCarriedOut (MakeLink tap) = Unit {0}
 IsCarriedOut RecoverLink = Unit {0}
+IsCarriedOut RecoverContent = Unit {0}
 IsCarriedOut Check = Unit {0}
 IsCarriedOut (Damage damages) = Unit {0}
 IsCarriedOut (MakeContent tap) = ⊥
-IsCarriedOut RecoverContent = ⊥
 IsCarriedOut (Sample frames) = ⊥
 
 -- the words name a command that is carried out

@@ -3,8 +3,7 @@
 use Rattle.std.specs.Prelude.{◌≡◌, ◌⊎◌, ℕ, Bool, List, ◌++◌, codes, Option}
 use Rattle.std.specs.Io.KnownBytes.{Appends}
 use Rattle.tmds_word.specs.Column.{Column}
-use Rattle.capture_file.specs.Layout.{capture_of}
-use Rattle.capture_file.specs.Faults.{AreLanes}
+use Rattle.capture_file.specs.Captures.{IsCaptureOf}
 use Rattle.lane_deskew.specs.Triples.{IsFirst}
 use Rattle.period_grammar.specs.Heard.{heard}
 use Rattle.period_grammar.specs.Exact.{IsFront, whole_part}
@@ -12,8 +11,7 @@ use Rattle.listing.specs.Checks.{check_lines}
 
 -- bytes are the capture of three lanes whose first full alignment is at three edges
 pub record IsAlignedCapture (blue green red : List Bool) (d e f : ℕ) (bytes : List ℕ) : Type 0 where
-  pub lanes : AreLanes blue green red
-  pub bytes_are : bytes ≡ capture_of blue green red
+  pub captured : IsCaptureOf blue green red bytes
   pub first : IsFirst blue green red d e f
 
 -- of columns either some sender could have sent those before the cut, the status is 0 and the output ends with `clean`, or

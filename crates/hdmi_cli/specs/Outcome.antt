@@ -5,7 +5,8 @@ use Rattle.tmds_word.specs.Column.{Column}
 use Rattle.island_pack.specs.Spelling.{Spells}
 use Rattle.capture_file.specs.declared.reading.CaptureFault.{CaptureFault}
 use Rattle.capture_file.specs.declared.writing.Tap.{Tap}
-use Rattle.capture_file.specs.Captures.{IsCapture, IsCaptureOf, IsFault, place_of}
+use Rattle.capture_file.specs.Captures.{IsCaptureOf, IsFault, place_of}
+use Rattle.capture_file.specs.Faults.{IsCapture, IsFault as IsFirstFault}
 use Rattle.capture_file.specs.Damage.{IsDamaged, IsMisplaced, AreWithin}
 use Rattle.capture_file.specs.declared.damaging.Hit.{Hit}
 use Rattle.capture_file.specs.Taps.{tapped_capture}
@@ -65,7 +66,7 @@ abbrev pub Damages : List Hit → List ℕ → Outcome → Type 0
 Damages hits bytes outcome =
     ((whole : List ℕ) × IsCapture bytes × IsDamaged bytes hits whole × (outcome ≡ record { status = 0; output = whole; note = [] }))
     ⊎ ((i : ℕ) × IsMisplaced bytes hits i × (outcome ≡ record { status = 3; output = []; note = place_note i }))
-    ⊎ ((fault : CaptureFault) × IsFault bytes fault × AreWithin bytes hits × (outcome ≡ record { status = 3; output = []; note = capture_note fault }))
+    ⊎ ((fault : CaptureFault) × IsFirstFault bytes fault × AreWithin bytes hits × (outcome ≡ record { status = 3; output = []; note = capture_note fault }))
 
 -- what a command that is carried out makes of the input's bytes
 abbrev pub Does : Command → List ℕ → Outcome → Type 0

@@ -22,6 +22,7 @@ mod cases_tap;
 #[cfg(test)]
 mod cases_wild;
 mod ending;
+mod hearing;
 mod hit;
 mod note;
 #[cfg(test)]
@@ -33,6 +34,7 @@ mod tests;
 mod trial;
 mod words;
 
+use lane_team::Open;
 use outside_io::{ReadSource, WriteSink};
 pub use run::run;
 use std::env;
@@ -63,5 +65,14 @@ fn main(rt: HostRuntime) -> ExitCode {
     let mut input = ReadSource::new(rt.stdin());
     let mut output = WriteSink::new(rt.stdout());
     let mut notes = WriteSink::new(rt.stderr());
-    ExitCode::from(run(rt.alloc(), &words, &mut input, &mut output, &mut notes))
+    let status = run(
+        &rt,
+        rt.alloc(),
+        &words,
+        &mut input,
+        &mut output,
+        &mut notes,
+        &Open,
+    );
+    ExitCode::from(status)
 }

@@ -1,47 +1,50 @@
 //! The top call: the words decide what is done with the input.
-ghost use Rattle.std.specs.Prelude.{◌≡◌, ◌≢◌, ◌⊎◌, ◌↔◌, ◌+◌, ℕ, ◌<◌, ◌≤◌, Bool, List, [], ◌∷◌, length, take, map, All, Some, OnOk, IfErr, Contains};
+ghost use Rattle.std.specs.Prelude.{◌≡◌, ◌⊎◌, ◌+◌, ℕ, ◌<◌, ◌≤◌, Bool, List, [], ◌∷◌, All, Some, Contains};
 ghost use Rattle.std.specs.Io.KnownBytes.{Appends, IsAtEnd, Keeps};
 ghost use Rattle.outside_io.specs.Causes.{Rose};
 ghost use Rattle.tmds_word.specs.Column.{Column};
-ghost use Rattle.capture_file.specs.Faults.{AreLanes};
-ghost use Rattle.command_line.specs.declared.damage.DamageWord.{DamageWord as DamageValue};
 ghost use Rattle.command_line.specs.declared.tap.TapWords.{TapWords as TapValue};
 ghost use Rattle.lane_deskew.specs.Triples.{IsFirst};
 ghost use Rattle.lane_deskew.specs.Aligned.{aligned_columns};
 ghost use Rattle.island_pack.specs.Periods.{Period};
 ghost use Rattle.island_pack.specs.Sparse.{IsSparseInPayload};
 ghost use Rattle.link_sink.specs.Laws.{AlignsUntil};
-ghost use Rattle.listing.specs.Texts.{link_text};
-ghost use Rattle.listing.specs.Checks.{check_text};
-ghost use Rattle.hdmi_cli.specs.Commands.{IsCommand, hit_asked, tap_asked};
+ghost use Rattle.hdmi_cli.specs.Commands.{IsCommand, tap_asked};
 ghost use Rattle.hdmi_cli.specs.Headline.{AreTapped, IsRecovered};
 ghost use Rattle.hdmi_cli.specs.Exact.{IsAlignedCapture, IsJudged};
+ghost use Rattle.hdmi_cli.specs.Listings.{link_listing, content_listing};
 ghost use Rattle.hdmi_cli.specs.Outcome.{Outcome, IsOutcome, NamesNone};
-ghost use Rattle.hdmi_cli.specs.Endings.{Ends, RunEnds, ListEnds, HearEnds, AreHeard, refused_ending, damage_ending, judged_ending};
+ghost use Rattle.hdmi_cli.specs.Endings.{Ends, RunEnds, RunUnread, RunUnwritten, damage_ending, heard_ending, judged_ending};
 ghost use Rattle.hdmi_cli.specs.Runs.{IsNoteOf};
-ghost use Rattle.command_line.specs.declared.command.Command.TheVariants.{MakeLink, RecoverLink, Check, Damage};
+ghost use Rattle.command_line.specs.declared.command.Command.TheVariants.{MakeLink, RecoverLink, RecoverContent, Check, Damage};
 
 use crate::Words;
 use crate::ending::Ending;
+use crate::hearing::{HearError, hear_capture};
 use crate::hit::hits_of;
 use crate::note::write_note;
-use capture_file::{CaptureError, DamageError, Lanes, Rows, Tap, read_capture, write_capture};
+use capture_file::{DamageError, Lanes, Tap, write_capture};
 use command_line::{Command, DamageWord, TapWords};
-use link_sink::{Ear, FeedFault, hear_lanes};
-use listing::{CheckLister, LinkLister, ListError, read_link};
+use lane_team::Gate;
+use link_sink::LinkSink;
+use listing::{CheckLister, ContentLister, LinkLister, ListError, read_link};
 use outside_io::{Failed, Sink, Source};
 use std::alloc::Global;
+use std::thread::Threads;
 
 /// Does what the words say with the input, and answers the status: 0 done, 1 done with faults heard, 2 usage, 3 input
 /// refused, 4 read failed, 5 write failed, 6 out of memory, 7 no alignment. `make link` reads a link listing and writes
-/// the capture of a tap of it; `recover link` reads a capture and writes its link listing, and `check` only the lines of
-/// its faults and of a cut and whether there was a fault; `damage` copies a capture with the ten bits of each hit replaced.
-pub fn run<S: Source, K: Sink, N: Sink>(
+/// the capture of a tap of it; `recover link` reads a capture and writes its link listing while it reads, `recover content`
+/// its pictures and sound, and `check` only the lines of its faults and of a cut and whether there was a fault; `damage`
+/// copies a capture with the ten bits of each hit replaced. A worker of each lane passes the gate for each block.
+pub fn run<R: Threads, S: Source, K: Sink, N: Sink, G: Gate>(
+    rt: &R,
     alloc: Global,
     words: &Words,
     input: &mut S,
     output: &mut K,
     notes: &mut N,
+    gate: &G,
 ) -> u8
     ensures status { Contains (0 ∷ 1 ∷ 2 ∷ 3 ∷ 4 ∷ 5 ∷ 6 ∷ 7 ∷ []) result }
 
@@ -60,20 +63,18 @@ pub fn run<S: Source, K: Sink, N: Sink>(
     ensures read_failed { result ≡ 4 → Rose (S.faults input.old) (S.faults input.new) }
     ensures write_failed { result ≡ 5 → Rose (K.faults output.old) (K.faults output.new) }
 
-    // What is read, and what is written where not all is.
+    // What is read, and what is written where not all is. After a failed read exactly what the whole blocks read tell so far
+    // is listed; after a failed write a part, and at least all that was told before the last block read.
     ensures ended { Contains (0 ∷ 1 ∷ 7 ∷ []) result → IsAtEnd (S.left input.new) }
     ensures unread { result ≡ 2 → Keeps (S.left input.old) (S.left input.new) }
-    ensures unwritten { Contains (2 ∷ 3 ∷ 4 ∷ 7 ∷ []) result → Keeps (K.held output.old) (K.held output.new) }
-    ensures part { result ≡ 5 → (text : List ℕ) → S.left input.old ≡ Some text
-        → (o : Outcome) × (gone : ℕ) × IsOutcome words.now text o × Contains (0 ∷ 1 ∷ []) o.status × (gone < length o.output)
-        × Appends (K.held output.old) (K.held output.new) (take gone o.output) }
-
-    // After want of memory nothing is written, but that the listing of lanes may have begun.
-    ensures unheld { result ≡ 6 → Keeps (K.held output.old) (K.held output.new) ⊎ IsCommand words.now RecoverLink ⊎ IsCommand words.now Check }
-    ensures begun { result ≡ 6 → (text : List ℕ) → S.left input.old ≡ Some text
-        → Keeps (K.held output.old) (K.held output.new)
-        ⊎ ((o : Outcome) × (gone : ℕ) × IsOutcome words.now text o × Contains (0 ∷ 1 ∷ []) o.status × (gone < length o.output)
-        × Appends (K.held output.old) (K.held output.new) (take gone o.output)) }
+    ensures unwritten { Contains (2 ∷ 6 ∷ 7 ∷ []) result → Keeps (K.held output.old) (K.held output.new) }
+    ensures refused { result ≡ 3 → (tap : TapValue) → IsCommand words.now (MakeLink tap) → Keeps (K.held output.old) (K.held output.new) }
+    ensures cut_short { result ≡ 4 → RunUnread words.now
+        (record { left = S.left input.old; input_faults = S.faults input.old; held = K.held output.old; output_faults = K.faults output.old })
+        (record { left = S.left input.new; input_faults = S.faults input.new; held = K.held output.new; output_faults = K.faults output.new }) }
+    ensures part { result ≡ 5 → RunUnwritten words.now
+        (record { left = S.left input.old; input_faults = S.faults input.old; held = K.held output.old; output_faults = K.faults output.old })
+        (record { left = S.left input.new; input_faults = S.faults input.new; held = K.held output.new; output_faults = K.faults output.new }) }
 
     // `recover link` writes exactly what was sent: for all columns that conforming periods spell, every sparse damage of their
     // payload, every tap of them with skews of at most 70 bits, from their first full alignment on.
@@ -85,7 +86,7 @@ pub fn run<S: Source, K: Sink, N: Sink>(
         → Rose (S.faults input.old) (S.faults input.new)
         ⊎ Rose (K.faults output.old) (K.faults output.new)
         ⊎ (result ≡ 6)
-        ⊎ ((a : ℕ) × IsRecovered ps sent received offset skews blue green red d e f a result (K.held output.old) (K.held output.new)) }
+        ⊎ ((a : ℕ) × IsRecovered link_listing ps sent received offset skews blue green red d e f a result (K.held output.old) (K.held output.new)) }
 
     // The same for sparse damage of control, guard and preamble words too, where it spares them until a column that is the
     // first after a control period and that each lane of the tap has, with the twelve before it: there is a first full
@@ -99,7 +100,29 @@ pub fn run<S: Source, K: Sink, N: Sink>(
         ⊎ Rose (K.faults output.old) (K.faults output.new)
         ⊎ (result ≡ 6)
         ⊎ ((d e f : ℕ) × IsFirst blue green red d e f
-        × ((a : ℕ) × (a + 12 ≤ until) × IsRecovered ps sent received offset skews blue green red d e f a result (K.held output.old) (K.held output.new))) }
+        × ((a : ℕ) × (a + 12 ≤ until) × IsRecovered link_listing ps sent received offset skews blue green red d e f a result (K.held output.old) (K.held output.new))) }
+
+    // And `recover content` writes the content listing of the same, in both forms.
+    ensures content_headline { IsCommand words.now RecoverContent
+        → (ps : List Period) (sent received : List Column) (offset : ℕ) (skews counts : List ℕ) (blue green red : List Bool) (bytes : List ℕ)
+        → AreTapped ps sent received offset skews counts blue green red bytes → IsSparseInPayload ps sent received
+        → (d e f : ℕ) → IsFirst blue green red d e f
+        → S.left input.old ≡ Some bytes
+        → Rose (S.faults input.old) (S.faults input.new)
+        ⊎ Rose (K.faults output.old) (K.faults output.new)
+        ⊎ (result ≡ 6)
+        ⊎ ((a : ℕ) × IsRecovered content_listing ps sent received offset skews blue green red d e f a result (K.held output.old) (K.held output.new)) }
+
+    ensures content_headline_anywhere { IsCommand words.now RecoverContent
+        → (ps : List Period) (sent received : List Column) (offset : ℕ) (skews counts : List ℕ) (blue green red : List Bool) (bytes : List ℕ)
+        → AreTapped ps sent received offset skews counts blue green red bytes
+        → (until : ℕ) → AlignsUntil ps sent received offset skews counts until
+        → S.left input.old ≡ Some bytes
+        → Rose (S.faults input.old) (S.faults input.new)
+        ⊎ Rose (K.faults output.old) (K.faults output.new)
+        ⊎ (result ≡ 6)
+        ⊎ ((d e f : ℕ) × IsFirst blue green red d e f
+        × ((a : ℕ) × (a + 12 ≤ until) × IsRecovered content_listing ps sent received offset skews blue green red d e f a result (K.held output.old) (K.held output.new))) }
 
     // `check` of a capture with a first full alignment ends with `clean`, and the status is 0, where some conforming sender
     // could have sent the aligned columns before the cut, and with `faulty`, and it is 1, where none could.
@@ -121,17 +144,19 @@ pub fn run<S: Source, K: Sink, N: Sink>(
     ensures output_later { K.faults output.old ≤ K.faults output.new }
     ensures notes_later { N.faults notes.old ≤ N.faults notes.new }
 {
-    let ending = carry_out(alloc, words, input, output);
+    let ending = carry_out(rt, alloc, words, input, output, gate);
     write_note(&ending, notes);
     ending.status()
 }
 
 /// Does what the words say.
-fn carry_out<S: Source, K: Sink>(
+fn carry_out<R: Threads, S: Source, K: Sink, G: Gate>(
+    rt: &R,
     alloc: Global,
     words: &Words,
     input: &mut S,
     output: &mut K,
+    gate: &G,
 ) -> Ending
     ensures ends { RunEnds words.now result
         (record { left = S.left input.old; input_faults = S.faults input.old; held = K.held output.old; output_faults = K.faults output.old })
@@ -145,13 +170,12 @@ fn carry_out<S: Source, K: Sink>(
         Err(_) => return Ending::NoMemory,
     };
     match command {
-        Command::MakeLink(tap) if tap.version == 1 => make_link(alloc, &tap, input, output),
-        Command::RecoverLink => recover_link(alloc, input, output),
-        Command::Check => check(alloc, input, output),
+        Command::MakeLink(tap) => make_link(alloc, &tap, input, output),
+        Command::RecoverLink => recover_link(rt, alloc, input, output, gate),
+        Command::RecoverContent => recover_content(rt, alloc, input, output, gate),
+        Command::Check => check(rt, alloc, input, output, gate),
         Command::Damage(damages) => damage(alloc, damages.as_slice(), input, output),
-        Command::MakeLink(_) => Ending::Usage,
         Command::MakeContent(_) => Ending::Usage,
-        Command::RecoverContent => Ending::Usage,
         Command::Sample(_) => Ending::Usage,
     }
 }
@@ -163,6 +187,7 @@ fn make_link<S: Source, K: Sink>(
     input: &mut S,
     output: &mut K,
 ) -> Ending
+    requires version { (words.now.version ≡ 1) ⊎ (words.now.version ≡ 2) }
     ensures ends { Ends (MakeLink words.now) result
         (record { left = S.left input.old; input_faults = S.faults input.old; held = K.held output.old; output_faults = K.faults output.old })
         (record { left = S.left input.new; input_faults = S.faults input.new; held = K.held output.new; output_faults = K.faults output.new }) }
@@ -193,93 +218,99 @@ fn tap_of(words: &TapWords) -> Tap
     ensures { result ≡ tap_asked words.now }
 {
     Tap {
+        version: words.version,
         offset: words.offset,
         skews: words.skews,
         bits: words.bits,
     }
 }
 
-/// Reads a capture whole, and then writes the listing of what its lanes say.
-fn recover_link<S: Source, K: Sink>(alloc: Global, input: &mut S, output: &mut K) -> Ending
+/// Writes the link listing of a capture, while it is read.
+fn recover_link<R: Threads, S: Source, K: Sink, G: Gate>(
+    rt: &R,
+    alloc: Global,
+    input: &mut S,
+    output: &mut K,
+    gate: &G,
+) -> Ending
     ensures ends { Ends RecoverLink result
         (record { left = S.left input.old; input_faults = S.faults input.old; held = K.held output.old; output_faults = K.faults output.old })
         (record { left = S.left input.new; input_faults = S.faults input.new; held = K.held output.new; output_faults = K.faults output.new }) }
     ensures input_later { S.faults input.old ≤ S.faults input.new }
     ensures output_later { K.faults output.old ≤ K.faults output.new }
 {
-    match read_capture(alloc, input) {
-        Ok(rows) => list_rows(alloc, &rows, output),
-        Err(error) => refused(error),
+    let mut sink = match LinkSink::open(alloc) {
+        Ok(sink) => sink,
+        Err(_) => return Ending::NoMemory,
+    };
+    let mut lister = LinkLister::open(output);
+    match hear_capture(rt, &mut sink, input, gate, &mut lister) {
+        Ok(heard) if heard.aligned => judged(lister.end(), lister.faults()),
+        Ok(_) => Ending::Unaligned,
+        Err(error) => unheard(error),
     }
 }
 
-/// Reads a capture whole, and then writes what a check of its lanes lists.
-fn check<S: Source, K: Sink>(alloc: Global, input: &mut S, output: &mut K) -> Ending
+/// Writes the pictures and the sound of a capture, while it is read.
+fn recover_content<R: Threads, S: Source, K: Sink, G: Gate>(
+    rt: &R,
+    alloc: Global,
+    input: &mut S,
+    output: &mut K,
+    gate: &G,
+) -> Ending
+    ensures ends { Ends RecoverContent result
+        (record { left = S.left input.old; input_faults = S.faults input.old; held = K.held output.old; output_faults = K.faults output.old })
+        (record { left = S.left input.new; input_faults = S.faults input.new; held = K.held output.new; output_faults = K.faults output.new }) }
+    ensures input_later { S.faults input.old ≤ S.faults input.new }
+    ensures output_later { K.faults output.old ≤ K.faults output.new }
+{
+    let mut sink = match LinkSink::open(alloc) {
+        Ok(sink) => sink,
+        Err(_) => return Ending::NoMemory,
+    };
+    let mut lister = ContentLister::open(output);
+    match hear_capture(rt, &mut sink, input, gate, &mut lister) {
+        Ok(heard) if heard.aligned => judged(lister.end(), lister.faults()),
+        Ok(_) => Ending::Unaligned,
+        Err(error) => unheard(error),
+    }
+}
+
+/// Writes what a check of a capture lists, while it is read.
+fn check<R: Threads, S: Source, K: Sink, G: Gate>(
+    rt: &R,
+    alloc: Global,
+    input: &mut S,
+    output: &mut K,
+    gate: &G,
+) -> Ending
     ensures ends { Ends Check result
         (record { left = S.left input.old; input_faults = S.faults input.old; held = K.held output.old; output_faults = K.faults output.old })
         (record { left = S.left input.new; input_faults = S.faults input.new; held = K.held output.new; output_faults = K.faults output.new }) }
     ensures input_later { S.faults input.old ≤ S.faults input.new }
     ensures output_later { K.faults output.old ≤ K.faults output.new }
 {
-    match read_capture(alloc, input) {
-        Ok(rows) => check_rows(alloc, &rows, output),
-        Err(error) => refused(error),
+    let mut sink = match LinkSink::open(alloc) {
+        Ok(sink) => sink,
+        Err(_) => return Ending::NoMemory,
+    };
+    let mut lister = CheckLister::open(output);
+    match hear_capture(rt, &mut sink, input, gate, &mut lister) {
+        Ok(heard) if heard.aligned => judged(lister.end(), lister.faults()),
+        Ok(_) => Ending::Unaligned,
+        Err(error) => unheard(error),
     }
 }
 
-/// How a command ends whose capture was not read.
-fn refused(error: CaptureError) -> Ending
-    ensures { result ≡ refused_ending error }
+/// How a command ends that did not hear a capture to its end.
+fn unheard(error: HearError) -> Ending
+    ensures { result ≡ heard_ending error }
 {
     match error {
-        CaptureError::Bad(fault) => Ending::Capture(fault),
-        CaptureError::Read => Ending::ReadFailed,
-        CaptureError::NoMemory => Ending::NoMemory,
-    }
-}
-
-/// Writes the listing of what the lanes of a capture say.
-fn list_rows<K: Sink>(alloc: Global, rows: &Rows, output: &mut K) -> Ending
-    requires lanes { AreLanes rows.now.blue rows.now.green rows.now.red }
-    ensures ends { ListEnds link_text rows.now result (K.held output.old) (K.held output.new) (K.faults output.old) (K.faults output.new) }
-    ensures later { K.faults output.old ≤ K.faults output.new }
-{
-    let mut lister = LinkLister::open(output);
-    match hear_rows(alloc, rows, &mut lister) {
-        Ok(()) => judged(lister.end(), lister.faults()),
-        Err(ending) => ending,
-    }
-}
-
-/// Writes what a check of the lanes of a capture lists.
-fn check_rows<K: Sink>(alloc: Global, rows: &Rows, output: &mut K) -> Ending
-    requires lanes { AreLanes rows.now.blue rows.now.green rows.now.red }
-    ensures ends { ListEnds check_text rows.now result (K.held output.old) (K.held output.new) (K.faults output.old) (K.faults output.new) }
-    ensures later { K.faults output.old ≤ K.faults output.new }
-{
-    let mut lister = CheckLister::open(output);
-    match hear_rows(alloc, rows, &mut lister) {
-        Ok(()) => judged(lister.end(), lister.faults()),
-        Err(ending) => ending,
-    }
-}
-
-/// Tells a lister what the lanes of a capture say.
-///
-/// # Errors
-///
-/// How the command ends where not all was told, or where the lanes have no full alignment.
-fn hear_rows<E: Ear>(alloc: Global, rows: &Rows, lister: &mut E) -> Result<(), Ending>
-    requires lanes { AreLanes rows.now.blue rows.now.green rows.now.red }
-    ensures heard { OnOk result (AreHeard E.took rows.now lister.old lister.new) }
-    ensures ends { IfErr result (λ e. HearEnds E.took E.broke rows.now e lister.old lister.new (E.faults lister.old) (E.faults lister.new)) }
-    ensures later { E.faults lister.old ≤ E.faults lister.new }
-{
-    match hear_lanes(alloc, rows.row(0), rows.row(1), rows.row(2), lister) {
-        Ok(heard) if heard.aligned => Ok(()),
-        Ok(_) => Err(Ending::Unaligned),
-        Err(FeedFault::Ear) => Err(Ending::WriteFailed),
-        Err(FeedFault::Memory) => Err(Ending::NoMemory),
+        HearError::Bad(fault) => Ending::Capture(fault),
+        HearError::Read => Ending::ReadFailed,
+        HearError::Ear => Ending::WriteFailed,
     }
 }
 
@@ -294,7 +325,7 @@ fn judged(last: Result<(), Failed>, faults: u64) -> Ending
     }
 }
 
-/// Reads a capture whole, and then writes it with the ten bits of each hit replaced.
+/// Writes a capture with the ten bits of each hit replaced.
 fn damage<S: Source, K: Sink>(
     alloc: Global,
     words: &[DamageWord],

@@ -1,4 +1,6 @@
 use Rattle.hdmi_cli.specs.Endings.{Devices, note_of}
+use Rattle.command_line.specs.declared.command.Command.TheVariants.{RecoverLink, RecoverContent}
+use Rattle.hdmi_cli.specs.Listings.{link_listing, content_listing}
 use Rattle.hdmi_cli.proofs.Ends.{says}
 use Rattle.hdmi_cli.proofs.Exact.{check_is_exact}
 use Rattle.hdmi_cli.proofs.Headline.{headlined, headlined_anywhere}
@@ -64,35 +66,47 @@ returns-clause-unwritten g c =
     let after : Devices = record { left = g.S.Source.left c.carry_out-ending.new.input; input_faults = g.S.Source.faults c.carry_out-ending.new.input; held = g.K.Sink.held c.carry_out-ending.new.output; output_faults = g.K.Sink.faults c.carry_out-ending.new.output } in
     (says c.args.words.now c.carry_out-ending.result before after c.status.result c.carry_out-ending.ensures.ends c.status.ensures).unwritten
 
+pub returns-clause-refused : goal.returns-clause-refused
+returns-clause-refused g c =
+    let before : Devices = record { left = g.S.Source.left c.args.input.now; input_faults = g.S.Source.faults c.args.input.now; held = g.K.Sink.held c.args.output.now; output_faults = g.K.Sink.faults c.args.output.now } in
+    let after : Devices = record { left = g.S.Source.left c.carry_out-ending.new.input; input_faults = g.S.Source.faults c.carry_out-ending.new.input; held = g.K.Sink.held c.carry_out-ending.new.output; output_faults = g.K.Sink.faults c.carry_out-ending.new.output } in
+    (says c.args.words.now c.carry_out-ending.result before after c.status.result c.carry_out-ending.ensures.ends c.status.ensures).refused
+
+pub returns-clause-cut_short : goal.returns-clause-cut_short
+returns-clause-cut_short g c =
+    let before : Devices = record { left = g.S.Source.left c.args.input.now; input_faults = g.S.Source.faults c.args.input.now; held = g.K.Sink.held c.args.output.now; output_faults = g.K.Sink.faults c.args.output.now } in
+    let after : Devices = record { left = g.S.Source.left c.carry_out-ending.new.input; input_faults = g.S.Source.faults c.carry_out-ending.new.input; held = g.K.Sink.held c.carry_out-ending.new.output; output_faults = g.K.Sink.faults c.carry_out-ending.new.output } in
+    (says c.args.words.now c.carry_out-ending.result before after c.status.result c.carry_out-ending.ensures.ends c.status.ensures).cut_short
+
 pub returns-clause-part : goal.returns-clause-part
 returns-clause-part g c =
     let before : Devices = record { left = g.S.Source.left c.args.input.now; input_faults = g.S.Source.faults c.args.input.now; held = g.K.Sink.held c.args.output.now; output_faults = g.K.Sink.faults c.args.output.now } in
     let after : Devices = record { left = g.S.Source.left c.carry_out-ending.new.input; input_faults = g.S.Source.faults c.carry_out-ending.new.input; held = g.K.Sink.held c.carry_out-ending.new.output; output_faults = g.K.Sink.faults c.carry_out-ending.new.output } in
     (says c.args.words.now c.carry_out-ending.result before after c.status.result c.carry_out-ending.ensures.ends c.status.ensures).part
 
-pub returns-clause-unheld : goal.returns-clause-unheld
-returns-clause-unheld g c =
-    let before : Devices = record { left = g.S.Source.left c.args.input.now; input_faults = g.S.Source.faults c.args.input.now; held = g.K.Sink.held c.args.output.now; output_faults = g.K.Sink.faults c.args.output.now } in
-    let after : Devices = record { left = g.S.Source.left c.carry_out-ending.new.input; input_faults = g.S.Source.faults c.carry_out-ending.new.input; held = g.K.Sink.held c.carry_out-ending.new.output; output_faults = g.K.Sink.faults c.carry_out-ending.new.output } in
-    (says c.args.words.now c.carry_out-ending.result before after c.status.result c.carry_out-ending.ensures.ends c.status.ensures).unheld
-
-pub returns-clause-begun : goal.returns-clause-begun
-returns-clause-begun g c =
-    let before : Devices = record { left = g.S.Source.left c.args.input.now; input_faults = g.S.Source.faults c.args.input.now; held = g.K.Sink.held c.args.output.now; output_faults = g.K.Sink.faults c.args.output.now } in
-    let after : Devices = record { left = g.S.Source.left c.carry_out-ending.new.input; input_faults = g.S.Source.faults c.carry_out-ending.new.input; held = g.K.Sink.held c.carry_out-ending.new.output; output_faults = g.K.Sink.faults c.carry_out-ending.new.output } in
-    (says c.args.words.now c.carry_out-ending.result before after c.status.result c.carry_out-ending.ensures.ends c.status.ensures).begun
-
 pub returns-clause-headline : goal.returns-clause-headline
 returns-clause-headline g c =
     let before : Devices = record { left = g.S.Source.left c.args.input.now; input_faults = g.S.Source.faults c.args.input.now; held = g.K.Sink.held c.args.output.now; output_faults = g.K.Sink.faults c.args.output.now } in
     let after : Devices = record { left = g.S.Source.left c.carry_out-ending.new.input; input_faults = g.S.Source.faults c.carry_out-ending.new.input; held = g.K.Sink.held c.carry_out-ending.new.output; output_faults = g.K.Sink.faults c.carry_out-ending.new.output } in
-    headlined c.args.words.now c.carry_out-ending.result before after c.status.result c.carry_out-ending.ensures.ends c.status.ensures
+    headlined link_listing RecoverLink (λ bytes o does. does) c.args.words.now c.carry_out-ending.result before after c.status.result c.carry_out-ending.ensures.ends c.status.ensures
+
+pub returns-clause-content_headline : goal.returns-clause-content_headline
+returns-clause-content_headline g c =
+    let before : Devices = record { left = g.S.Source.left c.args.input.now; input_faults = g.S.Source.faults c.args.input.now; held = g.K.Sink.held c.args.output.now; output_faults = g.K.Sink.faults c.args.output.now } in
+    let after : Devices = record { left = g.S.Source.left c.carry_out-ending.new.input; input_faults = g.S.Source.faults c.carry_out-ending.new.input; held = g.K.Sink.held c.carry_out-ending.new.output; output_faults = g.K.Sink.faults c.carry_out-ending.new.output } in
+    headlined content_listing RecoverContent (λ bytes o does. does) c.args.words.now c.carry_out-ending.result before after c.status.result c.carry_out-ending.ensures.ends c.status.ensures
 
 pub returns-clause-headline_anywhere : goal.returns-clause-headline_anywhere
 returns-clause-headline_anywhere g c =
     let before : Devices = record { left = g.S.Source.left c.args.input.now; input_faults = g.S.Source.faults c.args.input.now; held = g.K.Sink.held c.args.output.now; output_faults = g.K.Sink.faults c.args.output.now } in
     let after : Devices = record { left = g.S.Source.left c.carry_out-ending.new.input; input_faults = g.S.Source.faults c.carry_out-ending.new.input; held = g.K.Sink.held c.carry_out-ending.new.output; output_faults = g.K.Sink.faults c.carry_out-ending.new.output } in
-    headlined_anywhere c.args.words.now c.carry_out-ending.result before after c.status.result c.carry_out-ending.ensures.ends c.status.ensures
+    headlined_anywhere link_listing RecoverLink (λ bytes o does. does) c.args.words.now c.carry_out-ending.result before after c.status.result c.carry_out-ending.ensures.ends c.status.ensures
+
+pub returns-clause-content_headline_anywhere : goal.returns-clause-content_headline_anywhere
+returns-clause-content_headline_anywhere g c =
+    let before : Devices = record { left = g.S.Source.left c.args.input.now; input_faults = g.S.Source.faults c.args.input.now; held = g.K.Sink.held c.args.output.now; output_faults = g.K.Sink.faults c.args.output.now } in
+    let after : Devices = record { left = g.S.Source.left c.carry_out-ending.new.input; input_faults = g.S.Source.faults c.carry_out-ending.new.input; held = g.K.Sink.held c.carry_out-ending.new.output; output_faults = g.K.Sink.faults c.carry_out-ending.new.output } in
+    headlined_anywhere content_listing RecoverContent (λ bytes o does. does) c.args.words.now c.carry_out-ending.result before after c.status.result c.carry_out-ending.ensures.ends c.status.ensures
 
 pub returns-clause-check_exact : goal.returns-clause-check_exact
 returns-clause-check_exact g c =
