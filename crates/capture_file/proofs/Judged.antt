@@ -87,7 +87,7 @@ version_early head rest count len most less like one two =
           let cut_long : 3 < length (take 4 head) = omega (arith, length-take-le 4 head (omega arith)) in
           let same : get_or (take 4 (first ++ rest) ++ h.rest) 3 0 ≡ get_or head 3 0 =
           ap (λ xs. get_or (xs ++ h.rest) 3 0) more ∙ get_or-append (take 4 head) h.rest 0 3 cut_long ∙ get_or-take 4 head 3 0 (omega arith) in
-          elim (version_of (take 4 (first ++ rest) ++ h.rest) h.whole) [ | inl is ↦ one (sym same ∙ is) | inr is ↦ two (sym same ∙ is.0) ];
+          elim (version_of (take 4 (first ++ rest) ++ h.rest) h.whole) [ inl is ↦ one (sym same ∙ is) | inr is ↦ two (sym same ∙ is.0) ];
     } in
     let byte : slice_get (first ++ rest) 3 ≡ Some (get_or head 3 0) =
     slice_get-get_or (first ++ rest) 3 0 (omega (arith, long, length-append first rest))
@@ -150,7 +150,7 @@ short_early head rest count len are less none like versions =
       | inl many ↦
           let all : min count 3 ≡ 3 = omega arith in
           let mark : take 3 head ≡ codes "TMC" = ap (λ k. take k head) (sym all) ∙ like ∙ ap (λ k. take k (codes "TMC")) all in
-          elim (versions many) [ | inl one ↦ begins_take count head (one_whole head len are mark one) | inr two ↦ begins_take count head (two_whole head len are mark two) ]
+          elim (versions many) [ inl one ↦ begins_take count head (one_whole head len are mark one) | inr two ↦ begins_take count head (two_whole head len are mark two) ]
       | inr few ↦
           let same : min count 3 ≡ count = omega arith in
           mark_begins count first (omega arith) (ap (λ k. take k head) (sym same) ∙ like ∙ ap (λ k. take k (codes "TMC")) same)
@@ -180,7 +180,7 @@ second_early front more bytes n k small is len are less own =
     let two : get_or (front ++ bytes) 3 0 ≡ 50 = ap (λ xs. get_or (xs ++ bytes) 3 0) is ∙ fourth n bytes in (
       (
         subst (λ bs. BeginsCapture bs) (sym e) (second_begins front more n k small is len are),
-        λ h. elim (version_of (front ++ bytes) h) [ | inl one ↦ absurd (omega (arith, one, two)) | inr big ↦ absurd (omega (arith, big.1, ap length e, long, less)) ],
+        λ h. elim (version_of (front ++ bytes) h) [ inl one ↦ absurd (omega (arith, one, two)) | inr big ↦ absurd (omega (arith, big.1, ap length e, long, less)) ],
         omega (arith, ap length e, long),
       ),
       headless_second (front ++ bytes) two (omega (arith, ap length e, long, less)),

@@ -153,7 +153,7 @@ length-ext t c d u len =
     cases_eq d c =
         elim (cases_lt d c) [
           | inl less ↦ inr (λ e. omega (arith, less, e))
-          | inr more ↦ elim (cases_lt c d) [ | inl less ↦ inr (λ e. omega (arith, less, e)) | inr least ↦ inl (omega (arith, more, least)) ]
+          | inr more ↦ elim (cases_lt c d) [ inl less ↦ inr (λ e. omega (arith, less, e)) | inr least ↦ inl (omega (arith, more, least)) ]
         ]
 
 own_long : (t n c j : ℕ) (len : ℕ) → len ≡ min t (32768 * ((n + 2 - c) / 3)) → n / 3 ≡ j → n % 3 ≡ c → 32768 * j < t → len ≡ 32768 * j

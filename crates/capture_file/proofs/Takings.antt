@@ -59,14 +59,14 @@ other_in : (t n c : ℕ) → c < 3 → c ≢ n % 3 → min t (32768 * ((n + 2 - 
 other_in t n c few other =
     elim (cases_lt c (n % 3)) [
       | inl less ↦ ap (λ k. min t (32768 * k)) (omega (arith, few, less))
-      | inr more ↦ elim (cases_lt (n % 3) c) [ | inl less ↦ ap (λ k. min t (32768 * k)) (omega (arith, few, less)) | inr least ↦ absurd (other (omega (arith, more, least))) ]
+      | inr more ↦ elim (cases_lt (n % 3) c) [ inl less ↦ ap (λ k. min t (32768 * k)) (omega (arith, few, less)) | inr least ↦ absurd (other (omega (arith, more, least))) ]
     ]
 
 cases_same : (d c : ℕ) → (d ≡ c) ⊎ (d ≢ c)
 cases_same d c =
     elim (cases_lt d c) [
       | inl less ↦ inr (λ e. omega (arith, less, e))
-      | inr more ↦ elim (cases_lt c d) [ | inl less ↦ inr (λ e. omega (arith, less, e)) | inr least ↦ inl (omega (arith, more, least)) ]
+      | inr more ↦ elim (cases_lt c d) [ inl less ↦ inr (λ e. omega (arith, less, e)) | inr least ↦ inl (omega (arith, more, least)) ]
     ]
 
 pub step : (t : ℕ → ℕ) (n : ℕ) (x now : ℕ → List Bool) (u : List Bool) → Covers t n x → now (n % 3) ≡ x (n % 3) ++ u → ((d : ℕ) → d < 3 → d ≢ n % 3 → now d ≡ x d)
@@ -306,6 +306,7 @@ ended counts j place taken x y z r none =
     full_one counts j (suc zero) n none e lt = omega arith
     full_one counts j (suc (suc zero)) n none e lt = omega arith
     full_one counts j (suc (suc (suc c))) n none e lt = absurd (omega arith)
+
     by_count : (counts : List ℕ) (x y z : List Bool) → length x ≡ slice_index counts 0 → length y ≡ slice_index counts 1 → length z ≡ slice_index counts 2
         → (c : ℕ) → c < 3 → slice_index counts c ≡ slice_index (counts_of x y z) c
     by_count counts x y z e0 e1 e2 zero lt = sym e0

@@ -7,11 +7,11 @@ ghost use Rattle.capture_file.specs.Layout.{packed};
 ghost use Rattle.capture_file.specs.Faults.{IsCaused};
 ghost use Rattle.capture_file.specs.Captures.{IsFault, IsHeadless, IsEarlyFault, IsCaptureOf, Stands, StopsIn, SaysOf, SaysRead, IsWithin, place_of, place_at, header_size, header_of, CanSay, bits_in, block_size};
 
+use crate::CaptureError;
 use crate::chunk::{Chunks, chunk_len};
 use crate::chunks::blocks_for;
 use crate::filling::read_end;
 use crate::heading::read_heading;
-use crate::CaptureError;
 use outside_io::Source;
 
 /// A block of a capture: of each lane the bytes of its bits there, eight bits to a byte, and how many bits
@@ -188,10 +188,10 @@ impl<'a, S: Source> CaptureReader<'a, S> {
             (v.source.ghost_name ≡ self.old.source.ghost_name) × (v.version ≡ self.old.version) × (v.bits ≡ self.old.bits)
             × (S.faults self.old.source.now ≤ S.faults v.source.now)
             × IfOk result (λ o. MatchOption o
-                ((v.is_open ≡ false) × Consumes (S.left self.old.source.now) (S.left v.source.now) [] × IsAtEnd (S.left v.source.now))
-                (λ block. (v.is_open ≡ true) × (v.block ≡ self.old.block + 1) × Consumes (S.left self.old.source.now) (S.left v.source.now) ((block.a.now ++ block.b.now) ++ block.c.now)))
+            ((v.is_open ≡ false) × Consumes (S.left self.old.source.now) (S.left v.source.now) [] × IsAtEnd (S.left v.source.now))
+            (λ block. (v.is_open ≡ true) × (v.block ≡ self.old.block + 1) × Consumes (S.left self.old.source.now) (S.left v.source.now) ((block.a.now ++ block.b.now) ++ block.c.now)))
             × IfErr result (λ e. (v.is_open ≡ false) × IsCaused (S.faults self.old.source.now) (S.faults v.source.now) e
-                × SaysRead ((part : List ℕ) × ((length part < block_size self.old.block self.old.bits) ⊎ (part ≡ [])) × Consumes (S.left self.old.source.now) (S.left v.source.now) part) e))) }
+            × SaysRead ((part : List ℕ) × ((length part < block_size self.old.block self.old.bits) ⊎ (part ≡ [])) × Consumes (S.left self.old.source.now) (S.left v.source.now) part) e))) }
     {
         let block = self.block;
         match self.advance() {

@@ -139,9 +139,7 @@ fn read_part<S: Source>(
     if is_padded(part, count) {
         Ok(())
     } else {
-        Err(CaptureError::Bad(CaptureFault::Padding(
-            place + (size as u64 - 1),
-        )))
+        Err(CaptureError::Bad(CaptureFault::Padding(place + (size as u64 - 1))))
     }
 }
 

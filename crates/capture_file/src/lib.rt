@@ -20,6 +20,8 @@ pub use writing::{Tap, write_capture};
 #[cfg(test)]
 mod damage_tests;
 #[cfg(test)]
+mod reader_tests;
+#[cfg(test)]
 mod reading_tests;
 #[cfg(test)]
 mod tests;

@@ -40,7 +40,7 @@ static RED: [[u16; 3]; 27] = [
 ];
 
 /// The capture of these columns.
-static RED_CAPTURE: [u8; 110] = [
+pub(crate) static RED_CAPTURE: [u8; 110] = [
     0x54, 0x4d, 0x43, 0x31, 0x00, 0x00, 0x01, 0x0e, 0x54, 0x53, 0x4d, 0x35, 0xd5, 0x54, 0x53, 0x4d,
     0x35, 0xd5, 0x54, 0x53, 0x4d, 0x35, 0xd5, 0xcc, 0x32, 0x0b, 0x10, 0xd5, 0x54, 0x53, 0x4d, 0x35,
     0xd5, 0x54, 0x53, 0x4d, 0x35, 0xd5, 0x54, 0x53, 0x4d, 0x35, 0x54, 0x53, 0x4d, 0x35, 0xd5, 0xab,
@@ -52,7 +52,7 @@ static RED_CAPTURE: [u8; 110] = [
 
 /// Columns of unlike characters, and captures of their taps: the offset, the skews, the greatest number
 /// of bits, and the bytes.
-static COLUMNS: [[u16; 3]; 6] = [
+pub(crate) static COLUMNS: [[u16; 3]; 6] = [
     [0x354, 0x0ab, 0x3ff],
     [0x29c, 0x11e, 0x001],
     [0x2cc, 0x271, 0x200],
@@ -219,7 +219,7 @@ static LONG: [(u32, [u32; 3], Option<u32>, usize, u32); 5] = [
 ];
 
 /// Lanes that took so many columns, which are given ones again and again.
-fn lanes_of(alloc: Global, columns: &[[u16; 3]], count: u32) -> Result<Lanes, Fail>
+pub(crate) fn lanes_of(alloc: Global, columns: &[[u16; 3]], count: u32) -> Result<Lanes, Fail>
     requires some { 0 < length columns.now }
     requires few { count < 10000 }
 {
@@ -239,6 +239,7 @@ fn taps(rt: HostRuntime) -> Result<(), Fail> {
     let lanes = lanes_of(rt.alloc(), &COLUMNS, 6)?;
     for &(offset, skews, bits, bytes) in &TAPS {
         let tap = Tap {
+            version: 1,
             offset,
             skews,
             bits,
@@ -249,6 +250,7 @@ fn taps(rt: HostRuntime) -> Result<(), Fail> {
     }
     let mut sink = MemSink::new(rt.alloc(), 8, 5, Vec::new(rt.alloc()))?;
     let tap = Tap {
+        version: 1,
         offset: 0,
         skews: [0; 3],
         bits: None,
@@ -266,6 +268,7 @@ fn long_taps(rt: HostRuntime) -> Result<(), Fail> {
     let lanes = lanes_of(rt.alloc(), &COLUMNS, 3500)?;
     for &(offset, skews, bits, count, sum) in &LONG {
         let tap = Tap {
+            version: 1,
             offset,
             skews,
             bits,
@@ -302,6 +305,7 @@ fn failing_sinks(rt: HostRuntime) -> Result<(), Fail> {
     ];
     let lanes = lanes_of(rt.alloc(), &RED, 27)?;
     let tap = Tap {
+        version: 1,
         offset: 0,
         skews: [0; 3],
         bits: None,

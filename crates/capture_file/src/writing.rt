@@ -49,7 +49,15 @@ pub fn write_capture<K: Sink>(lanes: &Lanes, tap: &Tap, out: &mut K) -> Result<(
         tap.offset.saturating_add(tap.skews[1]),
         tap.offset.saturating_add(tap.skews[2]),
     ];
-    write_rows(&lanes.blue, &lanes.green, &lanes.red, tap.version, starts, bits, out)
+    write_rows(
+        &lanes.blue,
+        &lanes.green,
+        &lanes.red,
+        tap.version,
+        starts,
+        bits,
+        out,
+    )
 }
 
 impl Tap {
@@ -93,7 +101,15 @@ impl Rows {
         ensures cause { HasCause (K.faults out.old) (K.faults out.new) result }
     {
         let bits = self.blue.len();
-        write_rows(&self.blue, &self.green, &self.red, 1, [0; 3], [bits; 3], out)
+        write_rows(
+            &self.blue,
+            &self.green,
+            &self.red,
+            1,
+            [0; 3],
+            [bits; 3],
+            out,
+        )
     }
 }
 
@@ -112,9 +128,7 @@ fn wide_header_bytes(bits: [u32; 3]) -> [u8; 16]
     let [a, b, c, d] = bits[0].to_be_bytes();
     let [e, f, g, h] = bits[1].to_be_bytes();
     let [i, j, k, l] = bits[2].to_be_bytes();
-    [
-        b'T', b'M', b'C', b'2', a, b, c, d, e, f, g, h, i, j, k, l,
-    ]
+    [b'T', b'M', b'C', b'2', a, b, c, d, e, f, g, h, i, j, k, l]
 }
 
 /// Writes a piece, and says how many bytes it has.
@@ -132,7 +146,11 @@ pub(crate) fn write_piece<K: Sink>(out: &mut K, piece: &[u8]) -> Result<usize, W
 }
 
 /// Writes the header of a version, and says how many bytes it has.
-pub(crate) fn write_header<K: Sink>(version: u8, bits: [u32; 3], out: &mut K) -> Result<usize, Wrote>
+pub(crate) fn write_header<K: Sink>(
+    version: u8,
+    bits: [u32; 3],
+    out: &mut K,
+) -> Result<usize, Wrote>
     ensures size { IfOk result (λ n. n ≡ length (header_of version bits)) }
     ensures whole { OnOk result (Appends (K.held out.old) (K.held out.new) (header_of version bits)) }
     ensures part { IfErr result (λ w. Appends (K.held out.old) (K.held out.new) (take w.gone (header_of version bits))) }

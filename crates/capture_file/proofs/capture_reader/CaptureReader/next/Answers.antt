@@ -43,8 +43,7 @@ returns-in-Ok-true g c =
     let lg = e.green t ∙ sym b1 in
     let lr = e.red t ∙ sym b2 in
     let all : (packed n.lanes.blue ++ packed n.lanes.green) ++ packed n.lanes.red ≡ (r.a.now ++ r.b.now) ++ r.c.now =
-    sym (ap₂ (λ xs ys. (xs ++ ys) ++ r.c.now) l.a l.b ∙ ap (λ zs. (packed n.lanes.blue ++ packed n.lanes.green) ++ zs) l.c) in
-    (
+    sym (ap₂ (λ xs ys. (xs ++ ys) ++ r.c.now) l.a l.b ∙ ap (λ zs. (packed n.lanes.blue ++ packed n.lanes.green) ++ zs) l.c) in (
       (
         refl,
         (λ _. tt),
@@ -75,8 +74,7 @@ returns-in-Ok-false g c =
     let o = c.args.self.now in
     let e = c.in-Ok-false.ensures in
     let t = c.in-Ok-false.field-0-test in
-    let n = e.none t in
-    (
+    let n = e.none t in (
       (
         refl,
         (λ _. tt),
