@@ -69,5 +69,5 @@ make link|c 00 2/c 00 11 /c 00 8/c 00 3/c 14 8/i 31/p 02111f 5c28adb7471f7b 3852
 
 #[test]
 fn edited_listings(rt: HostRuntime) -> Result<(), Fail> {
-    judge(&rt, rt.alloc(), CASES)
+    judge(&rt, CASES)
 }

@@ -37,5 +37,5 @@ check|=|0|clean/|
 
 #[test]
 fn damaged_rows(rt: HostRuntime) -> Result<(), Fail> {
-    judge(&rt, rt.alloc(), CASES)
+    judge(&rt, CASES)
 }

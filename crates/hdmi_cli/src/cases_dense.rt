@@ -113,5 +113,5 @@ check|=|7||no alignment/
 
 #[test]
 fn dense_damage(rt: HostRuntime) -> Result<(), Fail> {
-    judge(&rt, rt.alloc(), CASES)
+    judge(&rt, CASES)
 }

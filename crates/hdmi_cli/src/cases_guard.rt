@@ -113,5 +113,5 @@ check|=|1|! symbols 37 3/! mended 37 0 20/! lost 37 1/! mended 37 2 20/! mended 
 
 #[test]
 fn guard_bands(rt: HostRuntime) -> Result<(), Fail> {
-    judge(&rt, rt.alloc(), CASES)
+    judge(&rt, CASES)
 }

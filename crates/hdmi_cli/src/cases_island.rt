@@ -73,5 +73,5 @@ recover link|=|7||no alignment/
 
 #[test]
 fn data_islands(rt: HostRuntime) -> Result<(), Fail> {
-    judge(&rt, rt.alloc(), CASES)
+    judge(&rt, CASES)
 }

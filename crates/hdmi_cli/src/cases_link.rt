@@ -75,5 +75,5 @@ recover link|=|0|c 0f 4/c 07 8/v ff01aaaaffff/c 04 8/c 00 7/c 04 1/end/|
 
 #[test]
 fn listings(rt: HostRuntime) -> Result<(), Fail> {
-    judge(&rt, rt.alloc(), CASES)
+    judge(&rt, CASES)
 }

@@ -50,5 +50,5 @@ make link|c 14 12/i 00/p 82020d 66000800010000 00000000000000 00000000000000 000
 
 #[test]
 fn rows_of_islands(rt: HostRuntime) -> Result<(), Fail> {
-    judge(&rt, rt.alloc(), CASES)
+    judge(&rt, CASES)
 }

@@ -113,5 +113,5 @@ check|=|1|! symbols 14 1/faulty/|
 
 #[test]
 fn sparse_damage(rt: HostRuntime) -> Result<(), Fail> {
-    judge(&rt, rt.alloc(), CASES)
+    judge(&rt, CASES)
 }

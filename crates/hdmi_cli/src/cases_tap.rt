@@ -97,5 +97,5 @@ recover link|=|0|c 02 4/c 04 8/v 000000000000000000/c 14 8/c 04 12/c 07 8/v dbed
 
 #[test]
 fn tapped_listings(rt: HostRuntime) -> Result<(), Fail> {
-    judge(&rt, rt.alloc(), CASES)
+    judge(&rt, CASES)
 }

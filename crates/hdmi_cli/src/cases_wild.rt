@@ -53,5 +53,5 @@ recover link|#544d4331000004bdbf9b6aaaa9a69a6aaaa9a69a6aaaa9a69aea7b01410faefb98
 
 #[test]
 fn broken_periods(rt: HostRuntime) -> Result<(), Fail> {
-    judge(&rt, rt.alloc(), CASES)
+    judge(&rt, CASES)
 }

@@ -1,8 +1,8 @@
 //! The top call over sources and sinks in memory. The expected values were computed apart from this program.
 use crate::trial::{Answer, Devices, STEADY, answer_of};
-use std::alloc::Global;
 use std::process::Abort;
 use std::test::*;
+use std::thread::Threads;
 
 /// Listings that are refused, and their notes.
 static REFUSED: [(&str, &str); 57] = [
@@ -117,7 +117,7 @@ fn refusals(rt: HostRuntime) -> Result<(), Fail> {
     for (text, note) in &REFUSED {
         for read in [1, 7, 65_536] {
             let devices = Devices { read, ..STEADY };
-            let it = answer_of(rt.alloc(), &MAKE, text.as_bytes(), &devices)?;
+            let it = answer_of(&rt, &MAKE, text.as_bytes(), &devices)?;
             assert_eq!(rt; it.status, 3, "of {text}");
             assert!(rt; it.output.is_empty(), "of {text}");
             assert_eq!(rt; it.notes.as_slice(), note.as_bytes(), "of {text}");
@@ -131,7 +131,7 @@ fn captures(rt: HostRuntime) -> Result<(), Fail> {
     for (text, digits) in &MADE {
         for read in [1, 7, 65_536] {
             let devices = Devices { read, ..STEADY };
-            let it = answer_of(rt.alloc(), &MAKE, text.as_bytes(), &devices)?;
+            let it = answer_of(&rt, &MAKE, text.as_bytes(), &devices)?;
             let capture = hex::decode(rt.alloc(), digits)?;
             assert_eq!(rt; it.status, 0, "of {text}");
             assert_eq!(rt; it.output.as_slice(), capture.as_slice(), "of {text}");
@@ -148,7 +148,7 @@ fn long_lines(rt: HostRuntime) -> Result<(), Fail> {
         text.resize(length - length % 6 + 2, b'0')?;
         text.resize(length, b'0')?;
         text.push(b'\n')?;
-        let it = answer_of(rt.alloc(), &MAKE, &text, &STEADY)?;
+        let it = answer_of(&rt, &MAKE, &text, &STEADY)?;
         assert_eq!(rt; it.status, 3);
         assert!(rt; it.notes.ends_with(b"\n"), "{note}");
     }
@@ -156,31 +156,31 @@ fn long_lines(rt: HostRuntime) -> Result<(), Fail> {
 }
 
 /// Makes the capture of the red pixel with these reads and writes failing.
-fn red_by(alloc: Global, reads: &[u64], writes: &[u64]) -> Result<Answer, Fail> {
+fn red_by(rt: &(impl Threads + AllocGlobal), reads: &[u64], writes: &[u64]) -> Result<Answer, Fail> {
     let devices = Devices {
         read: 9,
         write: 4096,
         failing_reads: reads,
         failing_writes: writes,
     };
-    answer_of(alloc, &MAKE, RED.as_bytes(), &devices)
+    answer_of(rt, &MAKE, RED.as_bytes(), &devices)
 }
 
 #[test]
 fn devices(rt: HostRuntime) -> Result<(), Fail> {
     for number in [0, 2] {
-        let read = red_by(rt.alloc(), &[number], &[])?;
+        let read = red_by(&rt, &[number], &[])?;
         assert_eq!(rt; read.status, 4);
         assert!(rt; read.output.is_empty());
         assert_eq!(rt; read.notes.as_slice(), b"read failed\n".as_slice());
     }
 
-    let write = red_by(rt.alloc(), &[], &[0])?;
+    let write = red_by(&rt, &[], &[0])?;
     assert_eq!(rt; write.status, 5);
     assert!(rt; write.output.is_empty());
     assert_eq!(rt; write.notes.as_slice(), b"write failed\n".as_slice());
 
-    let part = red_by(rt.alloc(), &[], &[1])?;
+    let part = red_by(&rt, &[], &[1])?;
     assert_eq!(rt; part.status, 5);
     assert_eq!(rt;
         part.output.as_slice(),
@@ -205,7 +205,7 @@ fn usage(rt: HostRuntime) -> Result<(), Fail> {
         &["sample", "1"],
     ];
     for words in forms {
-        let it = answer_of(rt.alloc(), words, RED.as_bytes(), &STEADY)?;
+        let it = answer_of(&rt, words, RED.as_bytes(), &STEADY)?;
         assert_eq!(rt; it.status, 2);
         assert!(rt; it.output.is_empty());
         assert_eq!(rt;

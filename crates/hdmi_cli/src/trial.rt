@@ -1,9 +1,11 @@
 //! Runs of the program over sources and sinks in memory, and tables of what they must answer.
 use crate::{Words, run};
+use lane_team::Open;
 use outside_io::{MemSink, MemSource};
 use std::alloc::Global;
 use std::process::Abort;
 use std::test::Fail;
+use std::thread::Threads;
 
 /// How the devices of a run behave: the most bytes that a read gives and that a write takes, one at least,
 /// and the numbers of the reads and the writes that fail.
@@ -33,11 +35,12 @@ pub(crate) struct Answer {
 
 /// Runs words over an input, with room for an output of 65,536 bytes.
 pub(crate) fn answer_of(
-    alloc: Global,
+    rt: &(impl Threads + AllocGlobal),
     words: &[&str],
     input: &[u8],
     devices: &Devices<'_>,
 ) -> Result<Answer, Fail> {
+    let alloc = rt.alloc();
     let mut list = Words::new(alloc);
     for word in words {
         list.push(word)?;
@@ -47,7 +50,15 @@ pub(crate) fn answer_of(
     let mut input = MemSource::new(input.to_vec(alloc)?, devices.read.max(1), reads);
     let mut output = MemSink::new(alloc, 65_536, devices.write.max(1), writes)?;
     let mut notes = MemSink::new(alloc, 4096, 4096, Vec::new(alloc))?;
-    let status = run(alloc, &list, &mut input, &mut output, &mut notes);
+    let status = run(
+        rt,
+        alloc,
+        &list,
+        &mut input,
+        &mut output,
+        &mut notes,
+        &Open,
+    );
     Ok(Answer {
         status,
         output: output.bytes().to_vec(alloc)?,
@@ -91,7 +102,11 @@ fn bytes_of(alloc: Global, field: &str, last: &mut Vec<u8>) -> Result<Vec<u8>, F
 }
 
 /// Runs the case of each row of a table in turn.
-pub(crate) fn judge(rt: &impl Abort, alloc: Global, table: &str) -> Result<(), Fail> {
+pub(crate) fn judge(
+    rt: &(impl Abort + Threads + AllocGlobal),
+    table: &str,
+) -> Result<(), Fail> {
+    let alloc = rt.alloc();
     let mut last = Vec::new(alloc);
     for (i, row) in table.lines().enumerate().filter(|(_, row)| !row.is_empty()) {
         let case = case_of(row).ok_or("a row of too few fields")?;
@@ -99,7 +114,7 @@ pub(crate) fn judge(rt: &impl Abort, alloc: Global, table: &str) -> Result<(), F
         let output = bytes_of(alloc, case.output, &mut last)?;
         let notes = bytes_of(alloc, case.notes, &mut last)?;
         let words: Vec<&str> = case.words.split(' ').collect(alloc)?;
-        let it = answer_of(alloc, &words, &input, &STEADY)?;
+        let it = answer_of(rt, &words, &input, &STEADY)?;
         assert_eq!(rt; it.notes.as_slice(), notes.as_slice(), "row {i}: {words:?}");
         assert_eq!(rt; it.status, case.status.parse::<u8>()?, "row {i}: {words:?}");
         assert_eq!(rt;
