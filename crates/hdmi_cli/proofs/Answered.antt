@@ -18,25 +18,38 @@ use Rattle.island_pack.specs.Periods.{Period}
 use Rattle.island_pack.specs.Spelling.{Spells}
 use Rattle.listing.specs.Answers.{Answers as AnswersReading}
 use Rattle.listing.specs.Reading.{Reading, accepted, refused, reads_as}
+use Rattle.listing.specs.LineSteps.{Read, accepts, refuses}
+use Rattle.listing.specs.ContentReading.{content_reads_as}
+use Rattle.listing.specs.ContentTold.{AnswersContent}
+use Rattle.source_end.specs.Content.{Frame}
+use Rattle.source_end.specs.Raster.{raster_of}
+use Rattle.source_end.specs.RasterRefusals.{raster_fault, AnswersRasterFault}
+use Rattle.source_end.specs.declared.mode.Mode.{Mode}
+use Rattle.source_end.specs.declared.refusal.RasterFault.{RasterFault}
+use Rattle.source_end.specs.declared.refusal.RasterFault.TheVariants.{NoMemory as NoRaster}
 use Rattle.listing.specs.declared.fault.ListFault.{ListFault}
 use Rattle.listing.specs.declared.fault.ListError.{ListError}
 use Rattle.listing.specs.declared.fault.ListError.TheVariants.{Bad as BadListing}
-use Rattle.hdmi_cli.specs.Notes.{listing_note, capture_note, place_note}
+use Rattle.hdmi_cli.specs.Notes.{listing_note, raster_note, capture_note, place_note}
 use Rattle.hdmi_cli.specs.Commands.{hit_asked, tap_asked}
 use Rattle.command_line.specs.declared.damage.DamageWord.{DamageWord}
 use Rattle.command_line.specs.declared.tap.TapWords.{TapWords}
 use Rattle.command_line.specs.Damages.{AreDamages}
 use Rattle.command_line.specs.Commands.{IsCommand as IsLine, IsVersion}
-use Rattle.hdmi_cli.specs.Outcome.{Outcome, MakesLink, Damages}
-use Rattle.hdmi_cli.specs.Endings.{Devices, IsAnswered, IsPart, Ends, status_of, note_of, damage_ending}
-use Rattle.command_line.specs.declared.command.Command.TheVariants.{MakeLink, Damage}
+use Rattle.hdmi_cli.specs.Outcome.{Outcome, MakesLink, MakesStream, MakesRaster, MakesContent, Damages, Does}
+use Rattle.hdmi_cli.specs.Endings.{Devices, IsAnswered, Parts, Ends, EndsUnwritten, StreamEnds, IsWhole, IsCut, status_of, note_of, damage_ending}
+use Rattle.command_line.specs.declared.command.Command.{Command}
+use Rattle.command_line.specs.declared.command.Command.TheVariants.{MakeLink, MakeContent, Damage}
 use Rattle.hdmi_cli.specs.declared.ending.Ending.{Ending}
-use Rattle.hdmi_cli.specs.declared.ending.Ending.TheVariants.{Done, Listing, Capture, Place}
+use Rattle.hdmi_cli.specs.declared.ending.Ending.TheVariants.{Done, Faulty, Usage, Listing, Raster, Capture, Place, ReadFailed, WriteFailed, NoMemory, Unaligned}
 
 -- `make link`
 
 pub bad_listing : (reading : Reading) (r : Result (List Period) ListError) (e : ListError) (f : ListFault) → AnswersReading reading r → r ≡ Err e → e ≡ BadListing f → reading ≡ refused f.line f.cause
 bad_listing reading r e f answers is bad = subst (λ x. AnswersReading reading x) (is ∙ ap Err bad) answers
+
+same_held : (old new : Option (List ℕ)) → new ≡ old → Appends old new []
+same_held old new kept = subst (λ h. Appends old h []) (sym kept) (Appends-nil old)
 
 pub listing_refused : (words : TapWords) (fault : ListFault) (before after : Devices) (text : List ℕ) → reads_as text ≡ refused fault.line fault.cause → after.held ≡ before.held
     → IsAnswered (MakeLink words) (Listing fault) before after text
@@ -45,47 +58,134 @@ listing_refused words fault before after text read kept = record {
   does = subst (λ r. MakesLink (tap_asked words) r (record { status = 3; output = []; note = listing_note fault.line fault.cause })) (sym read) refl;
   status = refl;
   note = refl;
-  written = subst (λ h. Appends before.held h []) (sym kept) (Appends-nil before.held);
+  written = same_held before.held after.held kept;
 }
 
-makes : (tap : Tap) (reading : Reading) (ps : List Period) (columns : List Column) → reading ≡ accepted ps → Spells ps columns
-    → MakesLink tap reading (record { status = 0; output = tapped_capture columns tap; note = [] })
-makes tap reading ps columns read spelled =
-    subst (λ r. MakesLink tap r (record { status = 0; output = tapped_capture columns tap; note = [] })) (sym read) (columns, spelled, refl)
+-- a stream that is written ends a command that makes it
+pub stream_ends : (command : Command) (tap : Tap) (ps : List Period) (e : Ending) (before after : Devices)
+    → ((text : List ℕ) (o : Outcome) → before.left ≡ Some text → MakesStream tap ps o → Does command text o)
+    → (Parts command before after → EndsUnwritten command before after)
+    → IsAtEnd after.left → StreamEnds tap ps e before.held after.held before.output_faults after.output_faults → Ends command e before after
+stream_ends command tap ps Done before after makes unwritten end is = (
+  end,
+  λ text told. record {
+    outcome = record { status = 0; output = tapped_capture is.columns tap; note = [] };
+    does = makes text (record { status = 0; output = tapped_capture is.columns tap; note = [] }) told (is.columns, is.spelled, refl);
+    status = refl;
+    note = refl;
+    written = is.written;
+  },
+)
+stream_ends command tap ps WriteFailed before after makes unwritten end is = (
+  is.0,
+  unwritten (λ text told. record {
+    outcome = record { status = 0; output = tapped_capture is.1.columns tap; note = [] };
+    gone = is.1.gone;
+    does = makes text (record { status = 0; output = tapped_capture is.1.columns tap; note = [] }) told (is.1.columns, is.1.spelled, refl);
+    status = (0, omega arith, refl);
+    missing = is.1.missing;
+    written = is.1.written;
+  }),
+)
+stream_ends command tap ps NoMemory before after makes unwritten end is = is
+stream_ends command tap ps Faulty before after makes unwritten end is = absurd is
+stream_ends command tap ps Usage before after makes unwritten end is = absurd is
+stream_ends command tap ps (Listing fault) before after makes unwritten end is = absurd is
+stream_ends command tap ps (Raster fault) before after makes unwritten end is = absurd is
+stream_ends command tap ps (Capture fault) before after makes unwritten end is = absurd is
+stream_ends command tap ps (Place i) before after makes unwritten end is = absurd is
+stream_ends command tap ps ReadFailed before after makes unwritten end is = absurd is
+stream_ends command tap ps Unaligned before after makes unwritten end is = absurd is
 
-pub made : (words : TapWords) (ps : List Period) (columns : List Column) (before after : Devices) (text : List ℕ) → reads_as text ≡ accepted ps → Spells ps columns
-    → Appends before.held after.held (tapped_capture columns (tap_asked words)) → IsAnswered (MakeLink words) Done before after text
-made words ps columns before after text read spelled written = record {
-  outcome = record { status = 0; output = tapped_capture columns (tap_asked words); note = [] };
-  does = makes (tap_asked words) (reads_as text) ps columns read spelled;
+pub makes_link : (words : TapWords) (ps : List Period) (text : List ℕ) (o : Outcome) → reads_as text ≡ accepted ps → MakesStream (tap_asked words) ps o → Does (MakeLink words) text o
+makes_link words ps text o read made = subst (λ r. MakesLink (tap_asked words) r o) (sym read) made
+
+-- a stream that was spelled into columns
+
+pub whole_of : (tap : Tap) (ps : List Period) (taken : List Column) (old new : Option (List ℕ)) → ((columns : List Column) × (taken ≡ [] ++ columns) × Spells ps columns)
+    → Appends old new (tapped_capture taken tap) → IsWhole tap ps old new
+whole_of tap ps taken old new spelled written =
+    record { columns = spelled.0; spelled = spelled.2; written = subst (λ cs. Appends old new (tapped_capture cs tap)) spelled.1 written }
+
+pub cut_of : (tap : Tap) (ps : List Period) (taken : List Column) (gone : ℕ) (old new : Option (List ℕ)) → ((columns : List Column) × (taken ≡ [] ++ columns) × Spells ps columns)
+    → gone < length (tapped_capture taken tap) → Appends old new (take gone (tapped_capture taken tap)) → IsCut tap ps old new
+cut_of tap ps taken gone old new spelled missing written = record {
+  columns = spelled.0;
+  spelled = spelled.2;
+  gone = gone;
+  missing = subst (λ cs. gone < length (tapped_capture cs tap)) spelled.1 missing;
+  written = subst (λ cs. Appends old new (take gone (tapped_capture cs tap))) spelled.1 written;
+}
+
+-- `make content`
+
+pub bad_content : (reading : Read (Mode × List Frame)) (r : Result (Mode × List Frame) ListError) (e : ListError) (f : ListFault) → AnswersContent reading r → r ≡ Err e → e ≡ BadListing f → reading ≡ refuses f.line f.cause
+bad_content reading r e f answers is bad = subst (λ x. AnswersContent reading x) (is ∙ ap Err bad) answers
+
+pub read_contents : (reading : Read (Mode × List Frame)) (r : Result (Mode × List Frame) ListError) (content : Mode × List Frame) → AnswersContent reading r → r ≡ Ok content → reading ≡ accepts content
+read_contents reading r content answers is = subst (λ x. AnswersContent reading x) is answers
+
+pub content_refused : (words : TapWords) (fault : ListFault) (before after : Devices) (text : List ℕ) → content_reads_as text ≡ refuses fault.line fault.cause → after.held ≡ before.held
+    → IsAnswered (MakeContent words) (Listing fault) before after text
+content_refused words fault before after text read kept = record {
+  outcome = record { status = 3; output = []; note = listing_note fault.line fault.cause };
+  does = subst (λ r. MakesContent (tap_asked words) r (record { status = 3; output = []; note = listing_note fault.line fault.cause })) (sym read) refl;
   status = refl;
   note = refl;
-  written = written;
+  written = same_held before.held after.held kept;
 }
 
-pub made_part : (words : TapWords) (ps : List Period) (columns : List Column) (gone : ℕ) (before after : Devices) (text : List ℕ) → reads_as text ≡ accepted ps → Spells ps columns
-    → gone < length (tapped_capture columns (tap_asked words)) → Appends before.held after.held (take gone (tapped_capture columns (tap_asked words))) → IsPart (MakeLink words) before after text
-made_part words ps columns gone before after text read spelled missing written = record {
-  outcome = record { status = 0; output = tapped_capture columns (tap_asked words); note = [] };
-  gone = gone;
-  does = makes (tap_asked words) (reads_as text) ps columns read spelled;
-  status = (0, omega arith, refl);
-  missing = missing;
-  written = written;
+-- the raster of a content, or its fault
+raster_told : (o : Option RasterFault) (r : Result (List Period) RasterFault) (ps : List Period) → AnswersRasterFault o r → r ≡ Ok ps → o ≡ None
+raster_told None r ps answers is = refl
+raster_told (Some fault) r ps answers is = absurd (err_ok fault ps (sym answers ∙ is))
+  where
+    is_err : Result (List Period) RasterFault → Type 0
+    is_err (Ok x) = ⊥
+    is_err (Err x) = Unit {0}
+    err_ok : (x : RasterFault) (y : List Period) → Err x ≡ Ok y → ⊥
+    err_ok x y e = subst is_err e tt
+
+fault_told : (o : Option RasterFault) (r : Result (List Period) RasterFault) (fault : RasterFault) → AnswersRasterFault o r → r ≡ Err fault → (fault ≡ NoRaster → ⊥) → o ≡ Some fault
+fault_told None (Ok ps) fault answers is other = absurd (ok_err ps fault is)
+  where
+    is_ok : Result (List Period) RasterFault → Type 0
+    is_ok (Ok x) = Unit {0}
+    is_ok (Err x) = ⊥
+    ok_err : (x : List Period) (y : RasterFault) → Ok x ≡ Err y → ⊥
+    ok_err x y e = subst is_ok e tt
+fault_told None (Err f) fault answers is other = absurd (other (sym (same_err f fault is) ∙ answers))
+  where
+    err_or : RasterFault → Result (List Period) RasterFault → RasterFault
+    err_or d (Ok x) = d
+    err_or d (Err x) = x
+    same_err : (x y : RasterFault) → Err x ≡ Err y → x ≡ y
+    same_err x y e = ap (err_or x) e
+fault_told (Some f) r fault answers is other = ap Some (same_err f fault (sym answers ∙ is))
+  where
+    err_or : RasterFault → Result (List Period) RasterFault → RasterFault
+    err_or d (Ok x) = d
+    err_or d (Err x) = x
+    same_err : (x y : RasterFault) → Err x ≡ Err y → x ≡ y
+    same_err x y e = ap (err_or x) e
+
+pub makes_content : (words : TapWords) (mode : Mode) (frames : List Frame) (r : Result (List Period) RasterFault) (ps : List Period) (text : List ℕ) (o : Outcome) → content_reads_as text ≡ accepts (mode, frames)
+    → AnswersRasterFault (raster_fault mode frames) r → r ≡ Ok ps → ps ≡ raster_of mode frames → MakesStream (tap_asked words) ps o → Does (MakeContent words) text o
+makes_content words mode frames r ps text o read answers ok is made =
+    subst (λ x. MakesContent (tap_asked words) x o) (sym read)
+    (subst (λ f. MakesRaster (tap_asked words) mode frames f o) (sym (raster_told (raster_fault mode frames) r ps answers ok)) (subst (λ x. MakesStream (tap_asked words) x o) is made))
+
+pub raster_refused : (words : TapWords) (mode : Mode) (frames : List Frame) (r : Result (List Period) RasterFault) (fault : RasterFault) (before after : Devices) (text : List ℕ) → content_reads_as text ≡ accepts (mode, frames)
+    → AnswersRasterFault (raster_fault mode frames) r → r ≡ Err fault → (fault ≡ NoRaster → ⊥) → after.held ≡ before.held → IsAnswered (MakeContent words) (Raster fault) before after text
+raster_refused words mode frames r fault before after text read answers err other kept = record {
+  outcome = record { status = 3; output = []; note = raster_note fault };
+  does =
+      subst (λ x. MakesContent (tap_asked words) x (record { status = 3; output = []; note = raster_note fault })) (sym read)
+      (subst (λ f. MakesRaster (tap_asked words) mode frames f (record { status = 3; output = []; note = raster_note fault })) (sym (fault_told (raster_fault mode frames) r fault answers err other)) refl);
+  status = refl;
+  note = refl;
+  written = same_held before.held after.held kept;
 }
-
-pub made_of : (words : TapWords) (ps : List Period) (taken : List Column) (before after : Devices) (text : List ℕ) → reads_as text ≡ accepted ps
-    → ((columns : List Column) × (taken ≡ [] ++ columns) × Spells ps columns)
-    → Appends before.held after.held (tapped_capture taken (tap_asked words)) → IsAnswered (MakeLink words) Done before after text
-made_of words ps taken before after text read spelled written =
-    made words ps spelled.0 before after text read spelled.2 (subst (λ cs. Appends before.held after.held (tapped_capture cs (tap_asked words))) spelled.1 written)
-
-pub part_of : (words : TapWords) (ps : List Period) (taken : List Column) (gone : ℕ) (before after : Devices) (text : List ℕ) → reads_as text ≡ accepted ps
-    → ((columns : List Column) × (taken ≡ [] ++ columns) × Spells ps columns)
-    → gone < length (tapped_capture taken (tap_asked words)) → Appends before.held after.held (take gone (tapped_capture taken (tap_asked words))) → IsPart (MakeLink words) before after text
-part_of words ps taken gone before after text read spelled missing written =
-    let lt : gone < length (tapped_capture spelled.0 (tap_asked words)) = subst (λ cs. gone < length (tapped_capture cs (tap_asked words))) spelled.1 missing in
-    made_part words ps spelled.0 gone before after text read spelled.2 lt (subst (λ cs. Appends before.held after.held (take gone (tapped_capture cs (tap_asked words)))) spelled.1 written)
 
 -- `damage`
 
@@ -194,3 +294,6 @@ version_asked None n is = inl is
 
 pub version_of_line : (words : List (List ℕ)) (tap : TapWords) → IsLine words (MakeLink tap) → (tap.version ≡ 1) ⊎ (tap.version ≡ 2)
 version_of_line words tap named = version_asked named.means.2.version_text tap.version named.means.2.version
+
+pub version_of_content : (words : List (List ℕ)) (tap : TapWords) → IsLine words (MakeContent tap) → (tap.version ≡ 1) ⊎ (tap.version ≡ 2)
+version_of_content words tap named = version_asked named.means.2.version_text tap.version named.means.2.version

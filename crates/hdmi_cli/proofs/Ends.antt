@@ -14,9 +14,9 @@ use Rattle.hdmi_cli.specs.Endings.{Devices, Answers, Ends, ReadsCapture, RunEnds
 use Rattle.hdmi_cli.specs.Runs.{IsNoteOf}
 use Rattle.command_line.specs.declared.command.Command.{Command}
 use Rattle.command_line.specs.declared.tap.TapWords.{TapWords}
-use Rattle.command_line.specs.declared.command.Command.TheVariants.{MakeLink}
+use Rattle.command_line.specs.declared.command.Command.TheVariants.{MakeLink, MakeContent}
 use Rattle.hdmi_cli.specs.declared.ending.Ending.{Ending}
-use Rattle.hdmi_cli.specs.declared.ending.Ending.TheVariants.{Done, Faulty, Usage, Listing, Capture, Place, ReadFailed, WriteFailed, NoMemory, Unaligned}
+use Rattle.hdmi_cli.specs.declared.ending.Ending.TheVariants.{Done, Faulty, Usage, Listing, Raster, Capture, Place, ReadFailed, WriteFailed, NoMemory, Unaligned}
 
 -- all that a run says of its status and its note
 pub record Says (words : List (List ℕ)) (before after : Devices) (status : ℕ) (note : List ℕ) : Type 0 where
@@ -35,7 +35,7 @@ pub record Says (words : List (List ℕ)) (before after : Devices) (status : ℕ
   pub ended : Contains (0 ∷ 1 ∷ 7 ∷ []) status → IsAtEnd after.left
   pub unread : status ≡ 2 → Keeps before.left after.left
   pub unwritten : Contains (2 ∷ 6 ∷ 7 ∷ []) status → Keeps before.held after.held
-  pub refused : status ≡ 3 → (tap : TapWords) → IsCommand words (MakeLink tap) → Keeps before.held after.held
+  pub refused : status ≡ 3 → (tap : TapWords) → IsCommand words (MakeLink tap) ⊎ IsCommand words (MakeContent tap) → Keeps before.held after.held
   pub cut_short : status ≡ 4 → RunUnread words before after
   pub part : status ≡ 5 → RunUnwritten words before after
   pub noted : IsNoteOf words before.left status note
@@ -105,6 +105,11 @@ no_done : (n : ℕ) → (n == 0) ≡ false → (n == 1) ≡ false → (n ≡ 0) 
 no_done n a b (inl is) = unlike n 0 a is
 no_done n a b (inr is) = unlike n 1 b is
 
+-- a command that reads a capture makes none
+no_make : (words : List (List ℕ)) (command : Command) (tap : TapWords) → IsCommand words command → ReadsCapture command → IsCommand words (MakeLink tap) ⊎ IsCommand words (MakeContent tap) → ⊥
+no_make words command tap named reads (inl other) = subst ReadsCapture (command_once words command (MakeLink tap) named.0 other.0) reads
+no_make words command tap named reads (inr other) = subst ReadsCapture (command_once words command (MakeContent tap) named.0 other.0) reads
+
 -- what a command's ending says
 command_says : (words : List (List ℕ)) (command : Command) (e : Ending) (before after : Devices) → IsCommand words command → Ends command e before after → Says words before after (status_of e) (note_of e)
 command_says words command Done before after named ends = record {
@@ -155,6 +160,22 @@ command_says words command (Listing fault) before after named ends = record {
   part = λ h. absurd (omega arith);
   noted = record { done = λ h. absurd (no_done 3 refl refl h); usage = λ h. absurd (omega arith); refused = λ h. noted_at words command (Listing fault) before after named ends.1 refl; read_failed = λ h. absurd (omega arith); write_failed = λ h. absurd (omega arith); no_memory = λ h. absurd (omega arith); unaligned = λ h. absurd (omega arith) };
 }
+command_says words command (Raster fault) before after named ends = record {
+  known = (3, omega arith, refl);
+  outcome = known_at words command (Raster fault) before after named ends.1;
+  usage = λ h. absurd (omega arith);
+  unnamed = λ none. absurd (none command named);
+  done = λ h. written_at words command (Raster fault) before after named ends.1;
+  read_failed = λ h. absurd (omega arith);
+  write_failed = λ h. absurd (omega arith);
+  ended = λ h. absurd (none_of (0 ∷ 1 ∷ 7 ∷ []) 3 refl h);
+  unread = λ h. absurd (omega arith);
+  unwritten = λ h. absurd (none_of (2 ∷ 6 ∷ 7 ∷ []) 3 refl h);
+  refused = λ h tap other. ends.0;
+  cut_short = λ h. absurd (omega arith);
+  part = λ h. absurd (omega arith);
+  noted = record { done = λ h. absurd (no_done 3 refl refl h); usage = λ h. absurd (omega arith); refused = λ h. noted_at words command (Raster fault) before after named ends.1 refl; read_failed = λ h. absurd (omega arith); write_failed = λ h. absurd (omega arith); no_memory = λ h. absurd (omega arith); unaligned = λ h. absurd (omega arith) };
+}
 command_says words command (Capture fault) before after named ends = record {
   known = (3, omega arith, refl);
   outcome = known_at words command (Capture fault) before after named ends.1;
@@ -166,7 +187,7 @@ command_says words command (Capture fault) before after named ends = record {
   ended = λ h. absurd (none_of (0 ∷ 1 ∷ 7 ∷ []) 3 refl h);
   unread = λ h. absurd (omega arith);
   unwritten = λ h. absurd (none_of (2 ∷ 6 ∷ 7 ∷ []) 3 refl h);
-  refused = λ h tap other. absurd (subst ReadsCapture (command_once words command (MakeLink tap) named.0 other.0) ends.0);
+  refused = λ h tap other. absurd (no_make words command tap named ends.0 other);
   cut_short = λ h. absurd (omega arith);
   part = λ h. absurd (omega arith);
   noted = record { done = λ h. absurd (no_done 3 refl refl h); usage = λ h. absurd (omega arith); refused = λ h. noted_at words command (Capture fault) before after named ends.1 refl; read_failed = λ h. absurd (omega arith); write_failed = λ h. absurd (omega arith); no_memory = λ h. absurd (omega arith); unaligned = λ h. absurd (omega arith) };

@@ -24,7 +24,7 @@ use Rattle.hdmi_cli.specs.Endings.{Devices, Answers, Ends, RunEnds, status_of}
 use Rattle.command_line.specs.declared.command.Command.{Command}
 use Rattle.command_line.proofs.Laws.{command_once}
 use Rattle.hdmi_cli.specs.declared.ending.Ending.{Ending}
-use Rattle.hdmi_cli.specs.declared.ending.Ending.TheVariants.{Done, Faulty, Usage, Listing, Capture, Place, ReadFailed, WriteFailed, NoMemory, Unaligned}
+use Rattle.hdmi_cli.specs.declared.ending.Ending.TheVariants.{Done, Faulty, Usage, Listing, Raster, Capture, Place, ReadFailed, WriteFailed, NoMemory, Unaligned}
 use Rattle.hdmi_cli.proofs.OneCapture.{AreSame, one_capture, no_fault}
 
 -- where three lanes are aligned there is one first full alignment
@@ -97,6 +97,7 @@ ended : (P : ℕ → Option (List ℕ) → Option (List ℕ) → Type 0) (comman
 ended P command Done before after says ends = inr (inr (inr (says ends.1)))
 ended P command Faulty before after says ends = inr (inr (inr (says ends.1)))
 ended P command (Listing fault) before after says ends = inr (inr (inr (says ends.1)))
+ended P command (Raster fault) before after says ends = inr (inr (inr (says ends.1)))
 ended P command (Capture fault) before after says ends = inr (inr (inr (says ends.1)))
 ended P command (Place i) before after says ends = inr (inr (inr (says ends.1)))
 ended P command Unaligned before after says ends = inr (inr (inr (says ends.2)))

@@ -16,14 +16,14 @@ tap_asked words = record { version = words.version; offset = words.offset; skews
 abbrev pub hit_asked : DamageWord → Hit
 hit_asked word = record { lane = word.lane; place = word.place; value = word.value }
 
--- the commands that are carried out: all but the making of contents, and samples
+-- the commands that are carried out: all but `sample`
 abbrev pub IsCarriedOut : Command → Type 0
 IsCarriedOut (MakeLink tap) = Unit {0}
+IsCarriedOut (MakeContent tap) = Unit {0}
 IsCarriedOut RecoverLink = Unit {0}
 IsCarriedOut RecoverContent = Unit {0}
 IsCarriedOut Check = Unit {0}
 IsCarriedOut (Damage damages) = Unit {0}
-IsCarriedOut (MakeContent tap) = ⊥
 IsCarriedOut (Sample frames) = ⊥
 
 -- the words name a command that is carried out

@@ -5,26 +5,32 @@ use Rattle.outside_io.specs.Causes.{Rose}
 use Rattle.capture_file.specs.Captures.{IsCaptureOf}
 use Rattle.capture_file.specs.declared.damaging.DamageError.{DamageError}
 use Rattle.capture_file.specs.declared.damaging.DamageError.TheVariants as damages
+use Rattle.tmds_word.specs.Column.{Column}
+use Rattle.island_pack.specs.Periods.{Period}
+use Rattle.island_pack.specs.Spelling.{Spells}
+use Rattle.capture_file.specs.Taps.{tapped_capture}
+use Rattle.capture_file.specs.declared.writing.Tap.{Tap}
 use Rattle.period_grammar.specs.Things.{Thing}
 use Rattle.link_sink.specs.Alignment.{IsAlignedTold}
 use Rattle.link_sink.specs.Sinks.{Fed, IsToldSoFar}
 use Rattle.hdmi_cli.specs.Blocks.{AreNext, AreRead}
 use Rattle.hdmi_cli.specs.Commands.{IsCommand}
 use Rattle.hdmi_cli.specs.Listings.{Listing as ListingOf, link_listing, check_listing, content_listing}
-use Rattle.hdmi_cli.specs.Notes.{listing_note, capture_note, place_note, usage_note, read_note, write_note, memory_note, alignment_note}
+use Rattle.hdmi_cli.specs.Notes.{listing_note, raster_note, capture_note, place_note, usage_note, read_note, write_note, memory_note, alignment_note}
 use Rattle.hdmi_cli.specs.Outcome.{Outcome, Does, NamesNone}
 use Rattle.command_line.specs.declared.command.Command.{Command}
 use Rattle.command_line.specs.declared.command.Command.TheVariants.{MakeLink, MakeContent, RecoverLink, RecoverContent, Check, Damage, Sample}
 use Rattle.hdmi_cli.specs.declared.hearing.HearError.{HearError}
 use Rattle.hdmi_cli.specs.declared.hearing.HearError.TheVariants as heards
 use Rattle.hdmi_cli.specs.declared.ending.Ending.{Ending}
-use Rattle.hdmi_cli.specs.declared.ending.Ending.TheVariants.{Done, Faulty, Usage, Listing, Capture, Place, ReadFailed, WriteFailed, NoMemory, Unaligned}
+use Rattle.hdmi_cli.specs.declared.ending.Ending.TheVariants.{Done, Faulty, Usage, Listing, Raster, Capture, Place, ReadFailed, WriteFailed, NoMemory, Unaligned}
 
 abbrev pub status_of : Ending → ℕ
 status_of Done = 0
 status_of Faulty = 1
 status_of Usage = 2
 status_of (Listing fault) = 3
+status_of (Raster fault) = 3
 status_of (Capture fault) = 3
 status_of (Place i) = 3
 status_of ReadFailed = 4
@@ -37,6 +43,7 @@ note_of Done = []
 note_of Faulty = []
 note_of Usage = usage_note
 note_of (Listing fault) = listing_note fault.line fault.cause
+note_of (Raster fault) = raster_note fault
 note_of (Capture fault) = capture_note fault
 note_of (Place i) = place_note i
 note_of ReadFailed = read_note
@@ -113,6 +120,25 @@ damage_ending (Err damages.Read) = ReadFailed
 damage_ending (Err damages.Write) = WriteFailed
 damage_ending (Err damages.NoMemory) = NoMemory
 
+-- the capture of a tap of columns that periods spell was written, whole or in part, or nothing of it
+pub record IsWhole (tap : Tap) (periods : List Period) (old new : Option (List ℕ)) : Type 0 where
+  pub columns : List Column
+  pub spelled : Spells periods columns
+  pub written : Appends old new (tapped_capture columns tap)
+
+pub record IsCut (tap : Tap) (periods : List Period) (old new : Option (List ℕ)) : Type 0 where
+  pub columns : List Column
+  pub spelled : Spells periods columns
+  pub gone : ℕ
+  pub missing : gone < length (tapped_capture columns tap)
+  pub written : Appends old new (take gone (tapped_capture columns tap))
+
+abbrev pub StreamEnds : Tap → List Period → Ending → Option (List ℕ) → Option (List ℕ) → ℕ → ℕ → Type 0
+StreamEnds tap periods Done old new before after = IsWhole tap periods old new
+StreamEnds tap periods WriteFailed old new before after = Rose before after × IsCut tap periods old new
+StreamEnds tap periods NoMemory old new before after = Keeps old new
+StreamEnds tap periods _ old new before after = ⊥
+
 -- how a command ends that did not hear a capture to its end
 abbrev pub heard_ending : HearError → Ending
 heard_ending (heards.Bad fault) = Capture fault
@@ -128,21 +154,21 @@ judged_ending (Err failed) n = WriteFailed
 -- what stands where a read failed: `make` has written nothing
 abbrev pub EndsUnread : Command → Devices → Devices → Type 0
 EndsUnread (MakeLink tap) before after = Keeps before.held after.held
+EndsUnread (MakeContent tap) before after = Keeps before.held after.held
 EndsUnread RecoverLink before after = ListsRead link_listing before after
 EndsUnread RecoverContent before after = ListsRead content_listing before after
 EndsUnread Check before after = ListsRead check_listing before after
 EndsUnread (Damage damages) before after = Keeps before.held after.held
-EndsUnread (MakeContent tap) before after = ⊥
 EndsUnread (Sample frames) before after = ⊥
 
 -- and where a write failed
 abbrev pub EndsUnwritten : Command → Devices → Devices → Type 0
 EndsUnwritten (MakeLink tap) before after = Parts (MakeLink tap) before after
+EndsUnwritten (MakeContent tap) before after = Parts (MakeContent tap) before after
 EndsUnwritten RecoverLink before after = ListsPart link_listing before after
 EndsUnwritten RecoverContent before after = ListsPart content_listing before after
 EndsUnwritten Check before after = ListsPart check_listing before after
 EndsUnwritten (Damage damages) before after = Parts (Damage damages) before after
-EndsUnwritten (MakeContent tap) before after = ⊥
 EndsUnwritten (Sample frames) before after = ⊥
 
 -- the commands that read a capture
@@ -160,6 +186,7 @@ abbrev pub Ends : Command → Ending → Devices → Devices → Type 0
 Ends command Done before after = IsAtEnd after.left × Answers command Done before after
 Ends command Faulty before after = IsAtEnd after.left × Answers command Faulty before after
 Ends command (Listing fault) before after = Keeps before.held after.held × Answers command (Listing fault) before after
+Ends command (Raster fault) before after = Keeps before.held after.held × Answers command (Raster fault) before after
 Ends command (Capture fault) before after = ReadsCapture command × Answers command (Capture fault) before after
 Ends command (Place i) before after = Keeps before.held after.held × Answers command (Place i) before after
 Ends command Unaligned before after = IsAtEnd after.left × Keeps before.held after.held × Answers command Unaligned before after

@@ -2,8 +2,10 @@
 use Rattle.std.specs.Prelude.{ℕ, List, ◌++◌, codes, decimal}
 use Rattle.capture_file.specs.declared.reading.CaptureFault.{CaptureFault}
 use Rattle.capture_file.specs.declared.reading.CaptureFault.TheVariants.{Magic, Version, Short, Padding, Trailing}
+use Rattle.source_end.specs.declared.refusal.RasterFault.{RasterFault}
+use Rattle.source_end.specs.declared.refusal.RasterFault.TheVariants.{BadMode, Row, NoRoom, Long, NoMemory}
 use Rattle.listing.specs.declared.fault.ListCause.{ListCause}
-use Rattle.listing.specs.declared.fault.ListCause.TheVariants.{Fault, Form, Range, Order, Control, Preamble, Size, Long, Unended, After}
+use Rattle.listing.specs.declared.fault.ListCause.TheVariants.{Fault, Form, Range, Order, Control, Preamble, Size, Long as LongText, Unended, After}
 
 abbrev pub cause_name : ListCause → List ℕ
 cause_name Fault = codes "fault"
@@ -13,7 +15,7 @@ cause_name Order = codes "order"
 cause_name Control = codes "control"
 cause_name Preamble = codes "preamble"
 cause_name Size = codes "size"
-cause_name Long = codes "long"
+cause_name LongText = codes "long"
 cause_name Unended = codes "unended"
 cause_name After = codes "after"
 
@@ -41,6 +43,15 @@ capture_note fault = codes "input: " ++ capture_name fault ++ decimal (capture_n
 -- the number of the hit that passes the capture's end
 abbrev pub place_note : ℕ → List ℕ
 place_note i = codes "input: place " ++ decimal i ++ codes "\n"
+
+-- why a content has no raster in its mode: the number of the mode that is out of range, the first packet that has no room,
+-- or that there are too many columns. A row that does not fit is refused before, by its line
+abbrev pub raster_note : RasterFault → List ℕ
+raster_note (BadMode i) = codes "input: mode " ++ decimal i ++ codes "\n"
+raster_note (Row frame row) = codes "input: row " ++ decimal frame ++ codes " " ++ decimal row ++ codes "\n"
+raster_note (NoRoom frame packet) = codes "input: noroom " ++ decimal frame ++ codes " " ++ decimal packet ++ codes "\n"
+raster_note Long = codes "input: long\n"
+raster_note NoMemory = codes "out of memory\n"
 
 abbrev pub usage_note : List ℕ
 usage_note = codes "usage: make, recover, check, damage or sample\n"

@@ -1,8 +1,14 @@
 -- What the program is to do: the status, the output and the note for the words and the input's bytes, where memory is
 -- had and no device fails.
-use Rattle.std.specs.Prelude.{◌≡◌, ◌⊎◌, ℕ, zero, suc, Bool, List, [], map}
+use Rattle.std.specs.Prelude.{◌≡◌, ◌⊎◌, ℕ, zero, suc, Bool, List, [], map, Option, Some, None}
 use Rattle.tmds_word.specs.Column.{Column}
+use Rattle.island_pack.specs.Periods.{Period}
 use Rattle.island_pack.specs.Spelling.{Spells}
+use Rattle.source_end.specs.Content.{Frame}
+use Rattle.source_end.specs.Raster.{raster_of}
+use Rattle.source_end.specs.RasterRefusals.{raster_fault}
+use Rattle.source_end.specs.declared.mode.Mode.{Mode}
+use Rattle.source_end.specs.declared.refusal.RasterFault.{RasterFault}
 use Rattle.capture_file.specs.declared.reading.CaptureFault.{CaptureFault}
 use Rattle.capture_file.specs.declared.writing.Tap.{Tap}
 use Rattle.capture_file.specs.Captures.{IsCaptureOf, IsFault, place_of}
@@ -14,10 +20,12 @@ use Rattle.period_grammar.specs.Things.{Thing}
 use Rattle.link_sink.specs.Alignment.{IsAlignedTold, IsNowhereTold}
 use Rattle.link_sink.specs.Sinks.{Fed, IsToldSoFar}
 use Rattle.listing.specs.Reading.{Reading, accepted, refused, reads_as}
+use Rattle.listing.specs.LineSteps.{Read, accepts, refuses}
+use Rattle.listing.specs.ContentReading.{content_reads_as}
 use Rattle.hdmi_cli.specs.Blocks.{AreBefore}
 use Rattle.hdmi_cli.specs.Commands.{IsCommand, hit_asked, tap_asked}
 use Rattle.hdmi_cli.specs.Listings.{Listing, link_listing, check_listing, content_listing}
-use Rattle.hdmi_cli.specs.Notes.{listing_note, capture_note, place_note, usage_note, alignment_note}
+use Rattle.hdmi_cli.specs.Notes.{listing_note, raster_note, capture_note, place_note, usage_note, alignment_note}
 use Rattle.command_line.specs.declared.command.Command.{Command}
 use Rattle.command_line.specs.declared.command.Command.TheVariants.{MakeLink, MakeContent, RecoverLink, RecoverContent, Check, Damage, Sample}
 
@@ -26,11 +34,25 @@ pub record Outcome : Type 0 where
   pub output : List ℕ
   pub note : List ℕ
 
--- a listing is made into the capture of a tap of columns that its periods spell, or is refused by its first wrong line
-abbrev pub MakesLink : Tap → Reading → Outcome → Type 0
-MakesLink tap (accepted periods) outcome =
+-- the capture of a tap of columns that periods spell is made
+abbrev pub MakesStream : Tap → List Period → Outcome → Type 0
+MakesStream tap periods outcome =
     (columns : List Column) × Spells periods columns × (outcome ≡ record { status = 0; output = tapped_capture columns tap; note = [] })
+
+-- a listing is made into a capture, or is refused by its first wrong line
+abbrev pub MakesLink : Tap → Reading → Outcome → Type 0
+MakesLink tap (accepted periods) outcome = MakesStream tap periods outcome
 MakesLink tap (refused line cause) outcome = outcome ≡ record { status = 3; output = []; note = listing_note line cause }
+
+-- a content is made into the capture of its raster, or is refused by the first fault that the raster has, or by its first
+-- wrong line
+abbrev pub MakesRaster : Tap → Mode → List Frame → Option RasterFault → Outcome → Type 0
+MakesRaster tap mode frames None outcome = MakesStream tap (raster_of mode frames) outcome
+MakesRaster tap mode frames (Some fault) outcome = outcome ≡ record { status = 3; output = []; note = raster_note fault }
+
+abbrev pub MakesContent : Tap → Read (Mode × List Frame) → Outcome → Type 0
+MakesContent tap (accepts content) outcome = MakesRaster tap content.0 content.1 (raster_fault content.0 content.1) outcome
+MakesContent tap (refuses line cause) outcome = outcome ≡ record { status = 3; output = []; note = listing_note line cause }
 
 -- done, or done with so many faults
 abbrev pub status_with : ℕ → ℕ
@@ -71,11 +93,11 @@ Damages hits bytes outcome =
 -- what a command that is carried out makes of the input's bytes
 abbrev pub Does : Command → List ℕ → Outcome → Type 0
 Does (MakeLink tap) input outcome = MakesLink (tap_asked tap) (reads_as input) outcome
+Does (MakeContent tap) input outcome = MakesContent (tap_asked tap) (content_reads_as input) outcome
 Does RecoverLink input outcome = ListsCapture link_listing input outcome
 Does RecoverContent input outcome = ListsCapture content_listing input outcome
 Does Check input outcome = ListsCapture check_listing input outcome
 Does (Damage damages) input outcome = Damages (map hit_asked damages) input outcome
-Does (MakeContent tap) input outcome = ⊥
 Does (Sample frames) input outcome = ⊥
 
 -- the words name no command

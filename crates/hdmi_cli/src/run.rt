@@ -14,9 +14,9 @@ ghost use Rattle.hdmi_cli.specs.Headline.{AreTapped, IsRecovered};
 ghost use Rattle.hdmi_cli.specs.Exact.{IsAlignedCapture, IsJudged};
 ghost use Rattle.hdmi_cli.specs.Listings.{link_listing, content_listing};
 ghost use Rattle.hdmi_cli.specs.Outcome.{Outcome, IsOutcome, NamesNone};
-ghost use Rattle.hdmi_cli.specs.Endings.{Ends, RunEnds, RunUnread, RunUnwritten, damage_ending, heard_ending, judged_ending};
+ghost use Rattle.hdmi_cli.specs.Endings.{Ends, RunEnds, RunUnread, RunUnwritten, StreamEnds, damage_ending, heard_ending, judged_ending};
 ghost use Rattle.hdmi_cli.specs.Runs.{IsNoteOf};
-ghost use Rattle.command_line.specs.declared.command.Command.TheVariants.{MakeLink, RecoverLink, RecoverContent, Check, Damage};
+ghost use Rattle.command_line.specs.declared.command.Command.TheVariants.{MakeLink, MakeContent, RecoverLink, RecoverContent, Check, Damage};
 
 use crate::Words;
 use crate::ending::Ending;
@@ -27,14 +27,15 @@ use capture_file::{DamageError, Lanes, Tap, write_capture};
 use command_line::{Command, DamageWord, TapWords};
 use lane_team::Gate;
 use link_sink::LinkSink;
-use listing::{CheckLister, ContentLister, LinkLister, ListError, read_link};
+use listing::{CheckLister, ContentLister, LinkLister, ListError, read_content, read_link};
 use outside_io::{Failed, Sink, Source};
+use source_end::{RasterFault, Stream, raster};
 use std::alloc::Global;
 use std::thread::Threads;
 
 /// Does what the words say with the input, and answers the status: 0 done, 1 done with faults heard, 2 usage, 3 input
 /// refused, 4 read failed, 5 write failed, 6 out of memory, 7 no alignment. `make link` reads a link listing and writes
-/// the capture of a tap of it; `recover link` reads a capture and writes its link listing while it reads, `recover content`
+/// the capture of a tap of it, and `make content` that of the raster of a content listing; `recover link` reads a capture and writes its link listing while it reads, `recover content`
 /// its pictures and sound, and `check` only the lines of its faults and of a cut and whether there was a fault; `damage`
 /// copies a capture with the ten bits of each hit replaced. A worker of each lane passes the gate for each block.
 pub fn run<R: Threads, S: Source, K: Sink, N: Sink, G: Gate>(
@@ -68,7 +69,7 @@ pub fn run<R: Threads, S: Source, K: Sink, N: Sink, G: Gate>(
     ensures ended { Contains (0 ∷ 1 ∷ 7 ∷ []) result → IsAtEnd (S.left input.new) }
     ensures unread { result ≡ 2 → Keeps (S.left input.old) (S.left input.new) }
     ensures unwritten { Contains (2 ∷ 6 ∷ 7 ∷ []) result → Keeps (K.held output.old) (K.held output.new) }
-    ensures refused { result ≡ 3 → (tap : TapValue) → IsCommand words.now (MakeLink tap) → Keeps (K.held output.old) (K.held output.new) }
+    ensures refused { result ≡ 3 → (tap : TapValue) → IsCommand words.now (MakeLink tap) ⊎ IsCommand words.now (MakeContent tap) → Keeps (K.held output.old) (K.held output.new) }
     ensures cut_short { result ≡ 4 → RunUnread words.now
         (record { left = S.left input.old; input_faults = S.faults input.old; held = K.held output.old; output_faults = K.faults output.old })
         (record { left = S.left input.new; input_faults = S.faults input.new; held = K.held output.new; output_faults = K.faults output.new }) }
@@ -171,11 +172,11 @@ fn carry_out<R: Threads, S: Source, K: Sink, G: Gate>(
     };
     match command {
         Command::MakeLink(tap) => make_link(alloc, &tap, input, output),
+        Command::MakeContent(tap) => make_content(alloc, &tap, input, output),
         Command::RecoverLink => recover_link(rt, alloc, input, output, gate),
         Command::RecoverContent => recover_content(rt, alloc, input, output, gate),
         Command::Check => check(rt, alloc, input, output, gate),
         Command::Damage(damages) => damage(alloc, damages.as_slice(), input, output),
-        Command::MakeContent(_) => Ending::Usage,
         Command::Sample(_) => Ending::Usage,
     }
 }
@@ -194,12 +195,52 @@ fn make_link<S: Source, K: Sink>(
     ensures input_later { S.faults input.old ≤ S.faults input.new }
     ensures output_later { K.faults output.old ≤ K.faults output.new }
 {
-    let stream = match read_link(alloc, input) {
-        Ok(stream) => stream,
+    match read_link(alloc, input) {
+        Ok(stream) => write_stream(alloc, &stream, words, output),
+        Err(ListError::Bad(fault)) => Ending::Listing(fault),
+        Err(ListError::Read) => Ending::ReadFailed,
+        Err(ListError::NoMemory) => Ending::NoMemory,
+    }
+}
+
+/// Reads a content listing whole, and then writes the capture of its raster.
+fn make_content<S: Source, K: Sink>(
+    alloc: Global,
+    words: &TapWords,
+    input: &mut S,
+    output: &mut K,
+) -> Ending
+    requires version { (words.now.version ≡ 1) ⊎ (words.now.version ≡ 2) }
+    ensures ends { Ends (MakeContent words.now) result
+        (record { left = S.left input.old; input_faults = S.faults input.old; held = K.held output.old; output_faults = K.faults output.old })
+        (record { left = S.left input.new; input_faults = S.faults input.new; held = K.held output.new; output_faults = K.faults output.new }) }
+    ensures input_later { S.faults input.old ≤ S.faults input.new }
+    ensures output_later { K.faults output.old ≤ K.faults output.new }
+{
+    let (mode, content) = match read_content(alloc, input) {
+        Ok(read) => read,
         Err(ListError::Bad(fault)) => return Ending::Listing(fault),
         Err(ListError::Read) => return Ending::ReadFailed,
         Err(ListError::NoMemory) => return Ending::NoMemory,
     };
+    match raster(alloc, &mode, &content) {
+        Ok(stream) => write_stream(alloc, &stream, words, output),
+        Err(RasterFault::NoMemory) => Ending::NoMemory,
+        Err(fault) => Ending::Raster(fault),
+    }
+}
+
+/// Writes the capture of a tap of the columns of a stream.
+fn write_stream<K: Sink>(
+    alloc: Global,
+    stream: &Stream,
+    words: &TapWords,
+    output: &mut K,
+) -> Ending
+    requires version { (words.now.version ≡ 1) ⊎ (words.now.version ≡ 2) }
+    ensures ends { StreamEnds (tap_asked words.now) stream.now result (K.held output.old) (K.held output.new) (K.faults output.old) (K.faults output.new) }
+    ensures later { K.faults output.old ≤ K.faults output.new }
+{
     let mut lanes = match Lanes::with_capacity(alloc, stream.columns()) {
         Ok(lanes) => lanes,
         Err(_) => return Ending::NoMemory,

@@ -24,6 +24,11 @@ returns-in-NoMemory-clause-whole g c =
     subst (λ (bytes : List ℕ). Rose (g.N.Sink.faults c.args.notes.now) (g.N.Sink.faults c.write_line-in-NoMemory.new.notes) ⊎ Appends (g.N.Sink.held c.args.notes.now) (g.N.Sink.held c.write_line-in-NoMemory.new.notes) bytes)
     (sym (ap note_of c.in-NoMemory.is)) c.write_line-in-NoMemory.ensures.whole
 
+pub returns-in-Raster-clause-whole : goal.returns-in-Raster-clause-whole
+returns-in-Raster-clause-whole g c =
+    subst (λ (bytes : List ℕ). Rose (g.N.Sink.faults c.args.notes.now) (g.N.Sink.faults c.write_line-in-Raster.new.notes) ⊎ Appends (g.N.Sink.held c.args.notes.now) (g.N.Sink.held c.write_line-in-Raster.new.notes) bytes)
+    (c.as_slice-in-Raster.ensures.value ∙ c.raster_line.ensures ∙ sym (ap note_of c.in-Raster.is)) c.write_line-in-Raster.ensures.whole
+
 pub returns-in-Place-clause-whole : goal.returns-in-Place-clause-whole
 returns-in-Place-clause-whole g c =
     subst (λ (bytes : List ℕ). Rose (g.N.Sink.faults c.args.notes.now) (g.N.Sink.faults c.write_line-in-Place.new.notes) ⊎ Appends (g.N.Sink.held c.args.notes.now) (g.N.Sink.held c.write_line-in-Place.new.notes) bytes)

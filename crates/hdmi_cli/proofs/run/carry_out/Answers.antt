@@ -6,7 +6,7 @@ use Rattle.command_line.specs.declared.command.Command.{Command}
 use Rattle.hdmi_cli.specs.Commands.{IsCarriedOut}
 use Rattle.hdmi_cli.specs.Endings.{Devices}
 use Rattle.hdmi_cli.proofs.Ends.{line_of, unread_ends, uncarried_ends}
-use Rattle.hdmi_cli.proofs.Answered.{lanes_of_line, version_of_line}
+use Rattle.hdmi_cli.proofs.Answered.{lanes_of_line, version_of_line, version_of_content}
 use Rattle.hdmi_cli.proofs.run.carry_out.Goals as goal
 
 pub returns-in-Ok-None-clause-ends : goal.returns-in-Ok-None-clause-ends
@@ -20,13 +20,12 @@ damage-requires g c =
     (lanes_of_line c.args.words.now c.in-Damage.damages (subst (λ (d : Command). IsLine c.args.words.now d) c.in-Damage.is
     (line_of c.args.words.now c.command.result c.in-Ok-Some.field-0 c.in-Ok-Some.command c.command.ensures c.in-Ok-Some.is c.in-Ok-Some.field-0-is)))
 
-pub returns-in-MakeContent-clause-ends : goal.returns-in-MakeContent-clause-ends
-returns-in-MakeContent-clause-ends g c =
-    let devices : Devices = record { left = g.S.Source.left c.args.input.now; input_faults = g.S.Source.faults c.args.input.now; held = g.K.Sink.held c.args.output.now; output_faults = g.K.Sink.faults c.args.output.now } in
-    uncarried_ends c.args.words.now devices c.in-Ok-Some.command (line_of c.args.words.now c.command.result c.in-Ok-Some.field-0 c.in-Ok-Some.command c.command.ensures c.in-Ok-Some.is c.in-Ok-Some.field-0-is)
-    (λ carried. subst IsCarriedOut c.in-MakeContent.is carried)
-
 pub make_link-requires : goal.make_link-requires
 make_link-requires g c =
     version_of_line c.args.words.now c.in-MakeLink.tap (subst (λ (d : Command). IsLine c.args.words.now d) c.in-MakeLink.is
+    (line_of c.args.words.now c.command.result c.in-Ok-Some.field-0 c.in-Ok-Some.command c.command.ensures c.in-Ok-Some.is c.in-Ok-Some.field-0-is))
+
+pub make_content-requires : goal.make_content-requires
+make_content-requires g c =
+    version_of_content c.args.words.now c.in-MakeContent.tap (subst (λ (d : Command). IsLine c.args.words.now d) c.in-MakeContent.is
     (line_of c.args.words.now c.command.result c.in-Ok-Some.field-0 c.in-Ok-Some.command c.command.ensures c.in-Ok-Some.is c.in-Ok-Some.field-0-is))
