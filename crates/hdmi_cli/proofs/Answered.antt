@@ -136,38 +136,29 @@ content_refused words fault before after text read kept = record {
 }
 
 -- the raster of a content, or its fault
+
+is_failed : Result (List Period) RasterFault → Type 0
+is_failed (Ok x) = ⊥
+is_failed (Err x) = Unit {0}
+
+failed_alone : (x : RasterFault) (y : List Period) → Err x ≡ Ok y → ⊥
+failed_alone x y e = subst is_failed e tt
+
+fault_or : RasterFault → Result (List Period) RasterFault → RasterFault
+fault_or d (Ok x) = d
+fault_or d (Err x) = x
+
+same_fault : (x y : RasterFault) → Err x ≡ Err y → x ≡ y
+same_fault x y e = ap (fault_or x) e
+
 raster_told : (o : Option RasterFault) (r : Result (List Period) RasterFault) (ps : List Period) → AnswersRasterFault o r → r ≡ Ok ps → o ≡ None
 raster_told None r ps answers is = refl
-raster_told (Some fault) r ps answers is = absurd (err_ok fault ps (sym answers ∙ is))
-  where
-    is_err : Result (List Period) RasterFault → Type 0
-    is_err (Ok x) = ⊥
-    is_err (Err x) = Unit {0}
-    err_ok : (x : RasterFault) (y : List Period) → Err x ≡ Ok y → ⊥
-    err_ok x y e = subst is_err e tt
+raster_told (Some fault) r ps answers is = absurd (failed_alone fault ps (sym answers ∙ is))
 
 fault_told : (o : Option RasterFault) (r : Result (List Period) RasterFault) (fault : RasterFault) → AnswersRasterFault o r → r ≡ Err fault → (fault ≡ NoRaster → ⊥) → o ≡ Some fault
-fault_told None (Ok ps) fault answers is other = absurd (ok_err ps fault is)
-  where
-    is_ok : Result (List Period) RasterFault → Type 0
-    is_ok (Ok x) = Unit {0}
-    is_ok (Err x) = ⊥
-    ok_err : (x : List Period) (y : RasterFault) → Ok x ≡ Err y → ⊥
-    ok_err x y e = subst is_ok e tt
-fault_told None (Err f) fault answers is other = absurd (other (sym (same_err f fault is) ∙ answers))
-  where
-    err_or : RasterFault → Result (List Period) RasterFault → RasterFault
-    err_or d (Ok x) = d
-    err_or d (Err x) = x
-    same_err : (x y : RasterFault) → Err x ≡ Err y → x ≡ y
-    same_err x y e = ap (err_or x) e
-fault_told (Some f) r fault answers is other = ap Some (same_err f fault (sym answers ∙ is))
-  where
-    err_or : RasterFault → Result (List Period) RasterFault → RasterFault
-    err_or d (Ok x) = d
-    err_or d (Err x) = x
-    same_err : (x y : RasterFault) → Err x ≡ Err y → x ≡ y
-    same_err x y e = ap (err_or x) e
+fault_told None (Ok ps) fault answers is other = absurd (failed_alone fault ps (sym is))
+fault_told None (Err f) fault answers is other = absurd (other (sym (same_fault f fault is) ∙ answers))
+fault_told (Some f) r fault answers is other = ap Some (same_fault f fault (sym answers ∙ is))
 
 pub makes_content : (words : TapWords) (mode : Mode) (frames : List Frame) (r : Result (List Period) RasterFault) (ps : List Period) (text : List ℕ) (o : Outcome) → content_reads_as text ≡ accepts (mode, frames)
     → AnswersRasterFault (raster_fault mode frames) r → r ≡ Ok ps → ps ≡ raster_of mode frames → MakesStream (tap_asked words) ps o → Does (MakeContent words) text o

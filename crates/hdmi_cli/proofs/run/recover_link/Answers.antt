@@ -1,11 +1,5 @@
 use Rattle.std.proofs.Common.{rules}
 use Rattle.hdmi_cli.proofs.run.recover_link.Goals as goal
 
-pub returns-in-Ok-clause-ends : goal.returns-in-Ok-clause-ends
-returns-in-Ok-clause-ends g c = ?
-
 pub returns-in-Ok-2-clause-ends : goal.returns-in-Ok-2-clause-ends
 returns-in-Ok-2-clause-ends g c = ?
-
-pub returns-in-Err-clause-ends : goal.returns-in-Err-clause-ends
-returns-in-Err-clause-ends g c = ?

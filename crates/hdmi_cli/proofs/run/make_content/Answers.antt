@@ -1,0 +1,43 @@
+use Rattle.std.proofs.Common.{rules, ◌≡◌, ℕ, ◌×◌, List, Some, Ok, Err, refl, sym, subst}
+use Rattle.hdmi_cli.specs.Commands.{tap_asked}
+use Rattle.hdmi_cli.specs.Endings.{Devices, IsAnswered}
+use Rattle.command_line.specs.declared.command.Command.TheVariants.{MakeContent}
+use Rattle.hdmi_cli.specs.declared.ending.Ending.TheVariants.{Listing, Raster}
+use Rattle.listing.specs.declared.fault.ListFault.{ListFault}
+use Rattle.listing.specs.LineSteps.{accepts}
+use Rattle.listing.specs.ContentReading.{content_reads_as}
+use Rattle.hdmi_cli.proofs.Answered.{bad_content, read_contents, content_refused, raster_refused, stream_ends, makes_content}
+use Rattle.hdmi_cli.proofs.run.make_content.Goals as goal
+
+pub returns-in-Err-Bad-clause-ends : goal.returns-in-Err-Bad-clause-ends
+returns-in-Err-Bad-clause-ends g c =
+    let before : Devices = record { left = g.S.Source.left c.args.input.now; input_faults = g.S.Source.faults c.args.input.now; held = g.K.Sink.held c.args.output.now; output_faults = g.K.Sink.faults c.args.output.now } in
+    let after : Devices = record { left = g.S.Source.left c.read_content.new.source; input_faults = g.S.Source.faults c.read_content.new.source; held = g.K.Sink.held c.args.output.now; output_faults = g.K.Sink.faults c.args.output.now } in (
+      search rules,
+      λ text told.
+          subst (λ (f : ListFault). IsAnswered (MakeContent c.args.words.now) (Listing f) before after text) (sym c.in-Err-Bad.fault-is)
+          (content_refused c.args.words.now c.in-Err-Bad.fault before after text (bad_content _ c.read_content.result c.in-Err-Bad.field-0 c.in-Err-Bad.fault (c.read_content.ensures.answers text told) c.in-Err-Bad.is c.in-Err-Bad.field-0-is) refl),
+    )
+
+pub returns-in-Ok-raster-clause-ends : goal.returns-in-Ok-raster-clause-ends
+returns-in-Ok-raster-clause-ends g c =
+    let before : Devices = record { left = g.S.Source.left c.args.input.now; input_faults = g.S.Source.faults c.args.input.now; held = g.K.Sink.held c.args.output.now; output_faults = g.K.Sink.faults c.args.output.now } in
+    let after : Devices = record { left = g.S.Source.left c.read_content.new.source; input_faults = g.S.Source.faults c.read_content.new.source; held = g.K.Sink.held c.write_stream.new.output; output_faults = g.K.Sink.faults c.write_stream.new.output } in
+    let accepts : (text : List ℕ) → before.left ≡ Some text → content_reads_as text ≡ accepts c.in-Ok.read = λ text told. read_contents _ c.read_content.result c.in-Ok.read (c.read_content.ensures.answers text told) c.in-Ok.is in
+    stream_ends (MakeContent c.args.words.now) (tap_asked c.args.words.now) c.in-Ok-raster.stream c.write_stream.result before after
+    (λ text o told made. makes_content c.args.words.now c.in-Ok.read.0 c.in-Ok.read.1 c.raster.result c.in-Ok-raster.stream text o (accepts text told) c.raster.ensures.fault c.in-Ok-raster.is (search rules) made)
+    (λ parts. parts) (search rules) c.write_stream.ensures.ends
+
+pub returns : goal.returns
+returns g c =
+    let before : Devices = record { left = g.S.Source.left c.args.input.now; input_faults = g.S.Source.faults c.args.input.now; held = g.K.Sink.held c.args.output.now; output_faults = g.K.Sink.faults c.args.output.now } in
+    let after : Devices = record { left = g.S.Source.left c.read_content.new.source; input_faults = g.S.Source.faults c.read_content.new.source; held = g.K.Sink.held c.args.output.now; output_faults = g.K.Sink.faults c.args.output.now } in
+    record {
+      ends = (
+        search rules,
+        λ text told. raster_refused c.args.words.now c.in-Ok.read.0 c.in-Ok.read.1 c.raster.result c.in-Err.fault before after text
+            (read_contents _ c.read_content.result c.in-Ok.read (c.read_content.ensures.answers text told) c.in-Ok.is) c.raster.ensures.fault c.in-Err.is ? refl,
+      );
+      input_later = search rules;
+      output_later = search rules;
+    }
