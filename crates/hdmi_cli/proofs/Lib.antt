@@ -4,3 +4,4 @@ pub mod Listings
 pub mod OneCapture
 pub mod Headline
 pub mod Exact
+pub mod Hearings

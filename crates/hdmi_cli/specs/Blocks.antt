@@ -1,13 +1,10 @@
 -- The whole blocks of a capture that stand before a place, or that were read: the bits that each lane has in them.
-use Rattle.std.specs.Prelude.{◌≡◌, ◌⊎◌, ◌<◌, ◌≤◌, ℕ, ◌+◌, Bool, List, [], ◌++◌, length, Option}
-use Rattle.std.specs.Io.KnownBytes.{Consumes}
+use Rattle.std.specs.Prelude.{◌≡◌, ◌⊎◌, ◌<◌, ◌≤◌, ℕ, ◌+◌, List, [], ◌++◌, length}
 use Rattle.capture_file.specs.Captures.{HasRead, IsHeadless, StopsIn, block_size}
 use Rattle.period_grammar.specs.Things.{Thing}
-use Rattle.link_sink.specs.Alignment.{AreTold}
 use Rattle.link_sink.specs.Ears.{StopsIn as StopsAtThing}
 use Rattle.link_sink.specs.Pieces.{no_bits}
 use Rattle.link_sink.specs.Sinks.{Fed, IsToldSoFar}
-use Rattle.link_sink.specs.declared.hear.Outcome.{Outcome as Hearing}
 
 -- the header and the blocks below j have these bits
 abbrev pub HasBlocks : List ℕ → ℕ → List ℕ → Fed → Type 0
@@ -18,13 +15,13 @@ HasBlocks counts j taken fed = HasRead counts j (length taken) taken fed.blue fe
 abbrev pub AreBefore : List ℕ → ℕ → Fed → Type 0
 AreBefore bytes place fed =
     (IsHeadless bytes × (fed ≡ no_bits))
-    ⊎ ((taken rest counts : List ℕ) (j : ℕ) × (bytes ≡ taken ++ rest) × HasBlocks counts j taken fed × StopsIn counts j taken place)
+    ⊎ ((taken rest counts : List ℕ) × (j : ℕ) × (bytes ≡ taken ++ rest) × HasBlocks counts j taken fed × StopsIn counts j taken place)
 
 -- the whole blocks of the bytes that were read, where the next was not read whole
 abbrev pub AreRead : List ℕ → Fed → Type 0
 AreRead read fed =
     (IsHeadless read × (fed ≡ no_bits))
-    ⊎ ((taken part counts : List ℕ) (j : ℕ) × (read ≡ taken ++ part) × HasBlocks counts j taken fed × ((length part < block_size j counts) ⊎ (part ≡ [])))
+    ⊎ ((taken part counts : List ℕ) × (j : ℕ) × (read ≡ taken ++ part) × HasBlocks counts j taken fed × ((length part < block_size j counts) ⊎ (part ≡ [])))
 
 -- one block more was read
 pub record AreNext (before after : Fed) (read : List ℕ) : Type 0 where
@@ -46,5 +43,7 @@ pub record IsHeardSoFar {A : Type 0} (took : A → A → List Thing → Type 0) 
 pub record IsBroken {A : Type 0} (took : A → A → List Thing → Type 0) (broke : A → A → Thing → Type 0) (before : Fed) (things : List Thing) (old new : A) : Type 0 where
   pub first : List Thing
   pub told : IsToldSoFar before first
+  pub more : List Thing
+  pub things_are : things ≡ first ++ more
   pub stops : StopsAtThing took broke old new things
   pub past : length first ≤ length stops.taken

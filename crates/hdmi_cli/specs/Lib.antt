@@ -1,5 +1,7 @@
 pub mod Commands
 pub mod Notes
+pub mod Blocks
+pub mod Hearings
 pub mod Outcome
 pub mod Endings
 pub mod Runs

@@ -22,6 +22,7 @@ mod cases_tap;
 #[cfg(test)]
 mod cases_wild;
 mod ending;
+mod hearing;
 mod hit;
 mod note;
 #[cfg(test)]
