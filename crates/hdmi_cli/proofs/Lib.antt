@@ -5,3 +5,4 @@ pub mod Heard
 pub mod OneCapture
 pub mod Headline
 pub mod Exact
+pub mod Hearings

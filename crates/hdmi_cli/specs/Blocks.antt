@@ -1,5 +1,5 @@
 -- The whole blocks of a capture that stand before a place, or that were read: the bits that each lane has in them.
-use Rattle.std.specs.Prelude.{◌≡◌, ◌⊎◌, ◌<◌, ◌≤◌, ℕ, ◌+◌, Bool, List, [], ◌++◌, length}
+use Rattle.std.specs.Prelude.{◌≡◌, ◌⊎◌, ◌<◌, ◌≤◌, ℕ, ◌+◌, List, [], ◌++◌, length}
 use Rattle.capture_file.specs.Captures.{HasRead, IsHeadless, StopsIn, block_size}
 use Rattle.period_grammar.specs.Things.{Thing}
 use Rattle.link_sink.specs.Ears.{StopsIn as StopsAtThing}
@@ -15,13 +15,13 @@ HasBlocks counts j taken fed = HasRead counts j (length taken) taken fed.blue fe
 abbrev pub AreBefore : List ℕ → ℕ → Fed → Type 0
 AreBefore bytes place fed =
     (IsHeadless bytes × (fed ≡ no_bits))
-    ⊎ ((taken rest counts : List ℕ) (j : ℕ) × (bytes ≡ taken ++ rest) × HasBlocks counts j taken fed × StopsIn counts j taken place)
+    ⊎ ((taken rest counts : List ℕ) × (j : ℕ) × (bytes ≡ taken ++ rest) × HasBlocks counts j taken fed × StopsIn counts j taken place)
 
 -- the whole blocks of the bytes that were read, where the next was not read whole
 abbrev pub AreRead : List ℕ → Fed → Type 0
 AreRead read fed =
     (IsHeadless read × (fed ≡ no_bits))
-    ⊎ ((taken part counts : List ℕ) (j : ℕ) × (read ≡ taken ++ part) × HasBlocks counts j taken fed × ((length part < block_size j counts) ⊎ (part ≡ [])))
+    ⊎ ((taken part counts : List ℕ) × (j : ℕ) × (read ≡ taken ++ part) × HasBlocks counts j taken fed × ((length part < block_size j counts) ⊎ (part ≡ [])))
 
 -- one block more was read
 pub record AreNext (before after : Fed) (read : List ℕ) : Type 0 where

@@ -2,6 +2,7 @@ pub mod Commands
 pub mod Notes
 pub mod Blocks
 pub mod Listings
+pub mod Hearings
 pub mod Outcome
 pub mod Endings
 pub mod Runs

@@ -1,8 +1,8 @@
 //! Hears a capture block by block, while it is read.
-ghost use Rattle.std.specs.Prelude.{◌≡◌, ℕ, List, [], true, false, Some, IfOk, OnOk, IfErr};
+ghost use Rattle.std.specs.Prelude.{◌≡◌, ◌≤◌, ◌⊎◌, ◌+◌, ◌*◌, ◌^◌, ◌<◌, ℕ, List, [], true, false, Option, Some, IfOk, OnOk, IfErr};
 ghost use Rattle.std.specs.Io.KnownBytes.{Consumes, IsAtEnd};
 ghost use Rattle.outside_io.specs.Causes.{Rose};
-ghost use Rattle.capture_file.specs.Captures.{IsCaptureOf, IsFault, place_of};
+ghost use Rattle.capture_file.specs.Captures.{CanSay, IsCaptureOf, IsFault, place_of};
 ghost use Rattle.capture_file.specs.declared.reading.CaptureFault.{CaptureFault as FaultValue};
 ghost use Rattle.period_grammar.specs.Things.{Thing};
 ghost use Rattle.link_sink.specs.Alignment.{AreTold};
@@ -11,6 +11,7 @@ ghost use Rattle.link_sink.specs.Pieces.{no_bits};
 ghost use Rattle.link_sink.specs.Sinks.{Fed, IsToldSoFar};
 ghost use Rattle.link_sink.specs.Streams.{StandsFor, most_bits};
 ghost use Rattle.hdmi_cli.specs.Blocks.{AreBefore, AreRead, AreNext, IsHeardSoFar, IsBroken};
+ghost use Rattle.hdmi_cli.specs.Hearings.{AreFed, HasHeard, HasHeardAll, HeardOn, StopsShort, IsCausedBy, refused_as};
 ghost use Rattle.hdmi_cli.specs.declared.hearing.HearError.TheVariants.{Bad, Read, Ear as EarFailed};
 
 use capture_file::{CaptureError, CaptureFault, CaptureReader};
@@ -28,6 +29,85 @@ pub(crate) enum HearError {
     Read,
     /// A call of the ear failed.
     Ear,
+}
+
+/// Reads one block, feeds it to the sink and tells the ear what it decides, and says whether there was one.
+pub(crate) fn hear_block<R: Threads, S: Source, E: Ear, G: Gate>(
+    rt: &R,
+    sink: &mut LinkSink,
+    reader: &mut CaptureReader<'_, S>,
+    gate: &G,
+    ear: &mut E,
+) -> Result<bool, HearError>
+    requires open { sink.old.is_open ≡ true }
+    requires more { reader.old.is_open ≡ true }
+    requires fed { AreFed sink.old reader.old.bits reader.old.block }
+    requires said { CanSay reader.old.version reader.old.bits }
+    ensures same { reader.new.source.ghost_name ≡ reader.old.source.ghost_name }
+    ensures version { reader.new.version ≡ reader.old.version }
+    ensures bits { reader.new.bits ≡ reader.old.bits }
+    ensures open { OnOk result (sink.new.is_open ≡ true) }
+    ensures more { IfOk result (λ more. reader.new.is_open ≡ more) }
+    ensures below { IfOk result (λ more. more ≡ true → 32768 * reader.old.block < 2 ^ 32) }
+    ensures block { IfOk result (λ more. more ≡ true → reader.new.block ≡ reader.old.block + 1) }
+    ensures fed { IfOk result (λ more. more ≡ true → AreFed sink.new reader.old.bits (reader.old.block + 1)) }
+    ensures heard { (from : Option (List ℕ)) → HeardOn E.took (HasHeard E.took reader.old.version reader.old.bits reader.old.block from (S.left reader.old.source.now) sink.old) ear.old (λ first.
+        IfOk result (λ more. more ≡ true → HasHeard E.took reader.old.version reader.old.bits (reader.old.block + 1) from (S.left reader.new.source.now) sink.new first ear.new)) }
+    ensures ended { IfOk result (λ more. more ≡ false → IsAtEnd (S.left reader.new.source.now)) }
+    ensures whole { (from : Option (List ℕ)) → HeardOn E.took (HasHeard E.took reader.old.version reader.old.bits reader.old.block from (S.left reader.old.source.now) sink.old) ear.old (λ first.
+        IfOk result (λ more. more ≡ false → HasHeardAll E.took from (S.left reader.new.source.now) sink.new first ear.new)) }
+    ensures short { (from : Option (List ℕ)) → HeardOn E.took (HasHeard E.took reader.old.version reader.old.bits reader.old.block from (S.left reader.old.source.now) sink.old) ear.old (λ first.
+        IfErr result (StopsShort E.took E.broke from (S.left reader.new.source.now) first ear.new)) }
+    ensures caused { IfErr result (IsCausedBy (S.faults reader.old.source.now) (S.faults reader.new.source.now) (E.faults ear.old) (E.faults ear.new)) }
+    ensures input_later { S.faults reader.old.source.now ≤ S.faults reader.new.source.now }
+    ensures ear_later { E.faults ear.old ≤ E.faults ear.new }
+{
+    match reader.next() {
+        Ok(Some(block)) => match sink.feed(rt, block.a, block.b, block.c, block.bits, gate, ear) {
+            Ok(()) => Ok(true),
+            Err(_) => Err(HearError::Ear),
+        },
+        Ok(None) => Ok(false),
+        Err(error) => Err(refused(error)),
+    }
+}
+
+/// What an error of a reader is here. A reader takes no memory.
+fn refused(error: CaptureError) -> HearError
+    ensures refused { refused_as error ≡ result }
+{
+    match error {
+        CaptureError::Bad(fault) => HearError::Bad(fault),
+        CaptureError::Read => HearError::Read,
+        CaptureError::NoMemory => HearError::Bad(CaptureFault::Short(0)),
+    }
+}
+
+/// Reads and feeds block after block, to the end.
+fn hear_blocks<R: Threads, S: Source, E: Ear, G: Gate>(
+    rt: &R,
+    sink: &mut LinkSink,
+    reader: &mut CaptureReader<'_, S>,
+    gate: &G,
+    ear: &mut E,
+) -> Result<(), HearError>
+    requires open { sink.old.is_open ≡ true }
+    requires more { reader.old.is_open ≡ true }
+    requires fed { AreFed sink.old reader.old.bits reader.old.block }
+    requires said { CanSay reader.old.version reader.old.bits }
+    ensures same { reader.new.source.ghost_name ≡ reader.old.source.ghost_name }
+    ensures open { OnOk result (sink.new.is_open ≡ true) }
+    ensures ended { OnOk result (IsAtEnd (S.left reader.new.source.now)) }
+    ensures whole { (from : Option (List ℕ)) → HeardOn E.took (HasHeard E.took reader.old.version reader.old.bits reader.old.block from (S.left reader.old.source.now) sink.old) ear.old (λ first.
+        OnOk result (HasHeardAll E.took from (S.left reader.new.source.now) sink.new first ear.new)) }
+    ensures short { (from : Option (List ℕ)) → HeardOn E.took (HasHeard E.took reader.old.version reader.old.bits reader.old.block from (S.left reader.old.source.now) sink.old) ear.old (λ first.
+        IfErr result (StopsShort E.took E.broke from (S.left reader.new.source.now) first ear.new)) }
+    ensures caused { IfErr result (IsCausedBy (S.faults reader.old.source.now) (S.faults reader.new.source.now) (E.faults ear.old) (E.faults ear.new)) }
+    ensures input_later { S.faults reader.old.source.now ≤ S.faults reader.new.source.now }
+    ensures ear_later { E.faults ear.old ≤ E.faults ear.new }
+{
+    while hear_block(rt, sink, reader, gate, ear)? {}
+    Ok(())
 }
 
 /// Reads a capture, feeds each block to the sink and tells the ear what it decides, and at the end the rest.
@@ -60,5 +140,13 @@ pub(crate) fn hear_capture<R: Threads, S: Source, E: Ear, G: Gate>(
     ensures input_later { S.faults input.old ≤ S.faults input.new }
     ensures ear_later { E.faults ear.old ≤ E.faults ear.new }
 {
-    Err(HearError::Read)
+    let mut reader = CaptureReader::new(input);
+    if let Err(error) = reader.open() {
+        return Err(refused(error));
+    }
+    hear_blocks(rt, sink, &mut reader, gate, ear)?;
+    match sink.finish(ear) {
+        Ok(outcome) => Ok(outcome),
+        Err(_) => Err(HearError::Ear),
+    }
 }

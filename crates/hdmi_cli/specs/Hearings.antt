@@ -1,0 +1,87 @@
+-- How far a capture was heard, and how its hearing ends.
+use Rattle.std.specs.Prelude.{◌≡◌, ◌*◌, ℕ, min, List, Option, Some, slice_index}
+use Rattle.std.specs.Io.KnownBytes.{Consumes}
+use Rattle.outside_io.specs.Causes.{Rose}
+use Rattle.capture_file.specs.Captures.{Stands, IsCaptureOf, IsFault, place_of}
+use Rattle.capture_file.specs.declared.reading.CaptureFault.{CaptureFault}
+use Rattle.capture_file.specs.declared.reading.CaptureFault.TheVariants.{Short}
+use Rattle.capture_file.specs.declared.reading.CaptureError.{CaptureError}
+use Rattle.capture_file.specs.declared.reading.CaptureError.TheVariants.{Bad as Failed, Read as Unread, NoMemory}
+use Rattle.period_grammar.specs.Things.{Thing}
+use Rattle.link_sink.specs.Sinks.{Fed, IsToldSoFar}
+use Rattle.link_sink.specs.Streams.{SinkSeen, StandsFor, bits_of}
+use Rattle.hdmi_cli.specs.Blocks.{AreBefore, AreRead, AreNext, IsHeardSoFar, IsBroken}
+use Rattle.hdmi_cli.specs.declared.hearing.HearError.{HearError}
+use Rattle.hdmi_cli.specs.declared.hearing.HearError.TheVariants.{Bad, Read, Ear}
+
+-- a sink was fed the blocks below j
+pub record AreFed (sink : SinkSeen) (counts : List ℕ) (j : ℕ) : Type 0 where
+  pub first : bits_of sink 0 ≡ min (slice_index counts 0) (32768 * j)
+  pub second : bits_of sink 1 ≡ min (slice_index counts 1) (32768 * j)
+  pub third : bits_of sink 2 ≡ min (slice_index counts 2) (32768 * j)
+
+-- the blocks below j were read since the source had some bytes left, and the ear took what they tell
+pub record HasHeard {A : Type 0} (took : A → A → List Thing → Type 0) (version : ℕ) (counts : List ℕ) (j : ℕ) (from left : Option (List ℕ)) (sink : SinkSeen) (old new : A) : Type 0 where
+  pub taken : List ℕ
+  pub fed : Fed
+  pub consumed : Consumes from left taken
+  pub stands : Stands version counts j taken fed.blue fed.green fed.red
+  pub sunk : StandsFor sink fed
+  pub heard : IsHeardSoFar took fed old new
+
+-- the whole capture was
+pub record HasHeardAll {A : Type 0} (took : A → A → List Thing → Type 0) (from left : Option (List ℕ)) (sink : SinkSeen) (old new : A) : Type 0 where
+  pub taken : List ℕ
+  pub fed : Fed
+  pub consumed : Consumes from left taken
+  pub captured : IsCaptureOf fed.blue fed.green fed.red taken
+  pub sunk : StandsFor sink fed
+  pub heard : IsHeardSoFar took fed old new
+
+-- the bytes are no capture, and the ear took what the whole blocks before the fault tell
+pub record IsRefusedAt {A : Type 0} (took : A → A → List Thing → Type 0) (bytes : List ℕ) (fault : CaptureFault) (old new : A) : Type 0 where
+  pub faulty : IsFault bytes fault
+  pub fed : Fed
+  pub before : AreBefore bytes (place_of fault) fed
+  pub heard : IsHeardSoFar took fed old new
+
+-- a read failed, and it took what the whole blocks tell that were read
+pub record IsUnread {A : Type 0} (took : A → A → List Thing → Type 0) (from left : Option (List ℕ)) (old new : A) : Type 0 where
+  pub fed : Fed
+  pub read : List ℕ
+  pub consumed : Consumes from left read
+  pub are_read : AreRead read fed
+  pub heard : IsHeardSoFar took fed old new
+
+-- a call of it failed in what one block more tells
+pub record IsUntaken {A : Type 0} (took : A → A → List Thing → Type 0) (broke : A → A → Thing → Type 0) (from left : Option (List ℕ)) (old new : A) : Type 0 where
+  pub before : Fed
+  pub after : Fed
+  pub things : List Thing
+  pub read : List ℕ
+  pub consumed : Consumes from left read
+  pub next : AreNext before after read
+  pub told : IsToldSoFar after things
+  pub broken : IsBroken took broke before things old new
+
+-- why blocks were not heard to the end
+abbrev pub StopsShort : {A : Type 0} → (A → A → List Thing → Type 0) → (A → A → Thing → Type 0) → Option (List ℕ) → Option (List ℕ) → A → A → HearError → Type 0
+StopsShort took broke from left old new (Bad fault) = (bytes : List ℕ) → from ≡ Some bytes → IsRefusedAt took bytes fault old new
+StopsShort took broke from left old new Read = IsUnread took from left old new
+StopsShort took broke from left old new Ear = IsUntaken took broke from left old new
+
+-- the count of faults of whoever failed has risen
+abbrev pub IsCausedBy : ℕ → ℕ → ℕ → ℕ → HearError → Type 0
+IsCausedBy input_old input_new ear_old ear_new (Bad fault) = Unit {0}
+IsCausedBy input_old input_new ear_old ear_new Read = Rose input_old input_new
+IsCausedBy input_old input_new ear_old ear_new Ear = Rose ear_old ear_new
+
+-- wherever an ear began that has heard so
+abbrev pub HeardOn : {A : Type 0} → (A → A → List Thing → Type 0) → (A → A → Type 0) → A → (A → Type 0) → Type 0
+HeardOn {A} took heard now says = (first : A) → heard first now → says first
+
+-- what an error of a reader is here
+abbrev pub refused_as : CaptureError → HearError
+refused_as (Failed fault) = Bad fault
+refused_as Unread = Read
+refused_as NoMemory = Bad (Short 0)
