@@ -142,13 +142,18 @@ is_failed (Ok x) = ⊥
 is_failed (Err x) = Unit {0}
 
 failed_alone : (x : RasterFault) (y : List Period) → Err x ≡ Ok y → ⊥
+unfolding is_failed
 failed_alone x y e = subst is_failed e tt
 
 fault_or : RasterFault → Result (List Period) RasterFault → RasterFault
 fault_or d (Ok x) = d
 fault_or d (Err x) = x
 
-same_fault : (x y : RasterFault) → Err x ≡ Err y → x ≡ y
+abbrev no_raster : RasterFault → Result (List Period) RasterFault
+no_raster fault = Err fault
+
+same_fault : (x y : RasterFault) → no_raster x ≡ no_raster y → x ≡ y
+unfolding fault_or
 same_fault x y e = ap (fault_or x) e
 
 raster_told : (o : Option RasterFault) (r : Result (List Period) RasterFault) (ps : List Period) → AnswersRasterFault o r → r ≡ Ok ps → o ≡ None

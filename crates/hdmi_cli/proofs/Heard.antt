@@ -48,22 +48,21 @@ pub record Unheard {A : Type 0} (took : A → A → List Thing → Type 0) (brok
       ⊎ ((outcome : Hearing) × IsAtEnd rest × IsCaptureOf now.blue now.green now.red read × AreTold now.blue now.green now.red outcome things × IsBroken took broke now things old new))
 
 -- an input that is read to its end was as long as what was read
+or_nil : Option (List ℕ) → List ℕ
+or_nil None = []
+or_nil (Some x) = x
+
+some_same : (x y : List ℕ) → Some x ≡ Some y → x ≡ y
+unfolding or_nil
+some_same x y e = ap or_nil e
+
+none_some : (x : List ℕ) → None ≡ Some x → ⊥
+none_some x e = cc
+
 all_read : (left rest : Option (List ℕ)) (read bytes : List ℕ) → Consumes left rest read → IsAtEnd rest → left ≡ Some bytes → bytes ≡ read
 all_read None rest read bytes c end is = absurd (none_some bytes is)
-  where
-    is_none : Option (List ℕ) → Type 0
-    is_none None = Unit {0}
-    is_none (Some x) = ⊥
-    none_some : (x : List ℕ) → None ≡ Some x → ⊥
-    none_some x e = subst is_none e tt
 all_read (Some xs) None read bytes c end is = absurd c
 all_read (Some xs) (Some ys) read bytes c end is = sym (some_same xs bytes is) ∙ c ∙ ap (λ t. read ++ t) end ∙ append-nil read
-  where
-    or_nil : Option (List ℕ) → List ℕ
-    or_nil None = []
-    or_nil (Some x) = x
-    some_same : (x y : List ℕ) → Some x ≡ Some y → x ≡ y
-    some_same x y e = ap or_nil e
 
 nothing_more : {A : Type 0} (x : A) (xs : List A) → [] ≡ x ∷ xs → ⊥
 nothing_more x xs h = cc
@@ -73,6 +72,34 @@ aligned_if_told : (b : Bool) (x y z : List Bool) (columns : ℕ) (things taken r
 aligned_if_told true x y z columns things taken rest next told is = told
 aligned_if_told false x y z columns things [] rest next told is = absurd (nothing_more next rest (sym told.told ∙ is))
 aligned_if_told false x y z columns things (t ∷ taken) rest next told is = absurd (nothing_more t (taken ++ (next ∷ rest)) (sym told.told ∙ is))
+
+-- what was written where the ear broke
+broken_part : {A : Type 0} (listing : Listing) (after : List Thing → List Thing → List ℕ) (last : List Thing → List ℕ) (took : A → A → List Thing → Type 0) (broke : A → A → Thing → Type 0) (held : A → Option (List ℕ)) (faults : A → ℕ)
+    (left rest : Option (List ℕ)) (reads read_faults : ℕ) (old new : A) → IsText listing after last → Writes listing after took broke held old
+    → (before now : Fed) (things : List Thing) (read : List ℕ) → Consumes left rest read
+    → ((AreNext before now read × IsToldSoFar now things × IsBroken took broke before things old new)
+    ⊎ ((outcome : Hearing) × IsAtEnd rest × IsCaptureOf now.blue now.green now.red read × AreTold now.blue now.green now.red outcome things × IsBroken took broke now things old new))
+    → ListsPart listing (seen left reads (held old) (faults old)) (seen rest read_faults (held new) (faults new))
+broken_part listing after last took broke held faults left rest reads read_faults old new it writes before now things read c (inl (next, told, broken)) = record {
+  fed = before;
+  first = broken.first;
+  told = broken.told;
+  things = things;
+  some = inl (now, read, c, next, told, broken_past listing after last took broke held before things old new it writes broken);
+}
+broken_part listing after last took broke held faults left rest reads read_faults old new it writes before now things read c (inr (outcome, end, captured, told, broken)) = record {
+  fed = now;
+  first = broken.first;
+  told = broken.told;
+  things = things;
+  some = inr (
+    outcome.columns,
+    end,
+    λ bytes is. subst (λ (bs : List ℕ). IsCaptureOf now.blue now.green now.red bs) (sym (all_read left rest read bytes c end is)) captured,
+    aligned_if_told outcome.aligned now.blue now.green now.red outcome.columns things broken.stops.taken broken.stops.rest broken.stops.next told broken.stops.things_are,
+    text_past listing after last broken.first things (held old) (held new) it (broken_past listing after last took broke held now things old new it writes broken),
+  );
+}
 
 -- the ending of what was not heard to its end
 pub unheard_ends : {A : Type 0} (listing : Listing) (after : List Thing → List Thing → List ℕ) (last : List Thing → List ℕ) (command : Command) (took : A → A → List Thing → Type 0) (broke : A → A → Thing → Type 0) (held : A → Option (List ℕ)) (faults : A → ℕ)
@@ -103,33 +130,7 @@ unheard_ends listing after last command took broke held faults left rest reads r
     )
 unheard_ends listing after last command took broke held faults left rest reads read_faults old new Ear lists it writes u =
     let b = u.broken refl in
-    (b.0, lists.unwritten (seen left reads (held old) (faults old)) (seen rest read_faults (held new) (faults new)) (part b.1 b.2 b.3 b.4 b.5 b.6))
-  where
-    part : (before now : Fed) (things : List Thing) (read : List ℕ) → Consumes left rest read
-        → ((AreNext before now read × IsToldSoFar now things × IsBroken took broke before things old new)
-        ⊎ ((outcome : Hearing) × IsAtEnd rest × IsCaptureOf now.blue now.green now.red read × AreTold now.blue now.green now.red outcome things × IsBroken took broke now things old new))
-        → ListsPart listing (seen left reads (held old) (faults old)) (seen rest read_faults (held new) (faults new))
-    part before now things read c (inl (next, told, broken)) = record {
-      fed = before;
-      first = broken.first;
-      told = broken.told;
-      things = things;
-      some = inl (now, read, c, next, told, broken_past listing after last took broke held before things old new it writes broken);
-    }
-    part before now things read c (inr (outcome, end, captured, told, broken)) = record {
-      fed = now;
-      first = broken.first;
-      told = broken.told;
-      things = things;
-      some = inr (
-        outcome.columns,
-        end,
-        λ bytes is. subst (λ (bs : List ℕ). IsCaptureOf now.blue now.green now.red bs) (sym (all_read left rest read bytes c end is)) captured,
-        aligned_if_told outcome.aligned now.blue now.green now.red outcome.columns things broken.stops.taken broken.stops.rest broken.stops.next told broken.stops.things_are,
-        text_past listing after last broken.first things (held old) (held new) it (broken_past listing after last took broke held now things old new it writes broken),
-      );
-    }
-
+    (b.0, lists.unwritten (seen left reads (held old) (faults old)) (seen rest read_faults (held new) (faults new)) (broken_part listing after last took broke held faults left rest reads read_faults old new it writes b.1 b.2 b.3 b.4 b.5 b.6))
 -- lanes that are aligned nowhere
 
 pub nowhere_ends : (listing : Listing) (after : List Thing → List Thing → List ℕ) (last : List Thing → List ℕ) (command : Command) (fed : Fed) (outcome : Hearing) (things : List Thing) (before now : Devices)

@@ -17,7 +17,10 @@ use Rattle.listing.specs.Texts.{lines_of, link_text, fault_lines, counted}
 use Rattle.listing.specs.Growing.{lines_append}
 use Rattle.listing.specs.Checks.{check_lines, check_text, verdict_line}
 use Rattle.listing.specs.GrowingChecks.{check_lines_append}
-use Rattle.listing.specs.ContentText.{content_lines, content_text, lines_after, lines_at, text_of}
+use Rattle.listing.specs.ContentText.{content_lines, content_text, content_faults, lines_after, lines_at, text_of, fault_line_count}
+use Rattle.listing.specs.ContentAdded.{Recalls}
+use Rattle.listing.specs.ContentTaken.{Lists, Breaks}
+use Rattle.listing.specs.declared.content_past.Past.{Past}
 use Rattle.listing.specs.GrowingContent.{lines_after_append, text_append}
 use Rattle.hdmi_cli.specs.Blocks.{IsBroken}
 use Rattle.hdmi_cli.specs.Endings.{IsWrittenPast}
@@ -218,3 +221,30 @@ begins_told fed columns things all =
 -- what holds from one value to another, said of values that they are
 pub between : {A : Type 0} (P : A → A → Type 0) (a b c d : A) → b ≡ a → d ≡ c → P b c → P a d
 between P a b c d first last h = subst (λ x. P a x) (sym last) (subst (λ x. P x c) first h)
+
+-- the lines of one thing more
+one_after : (h : List Thing) (t : Thing) → text_of (lines_at h t) ≡ after_content h (t ∷ [])
+unfolding lines_after
+one_after h t = ap text_of (sym (append-nil (lines_at h t)))
+
+-- a lister of contents that was told nothing before
+
+pub written_first : (past now : Past) (h : List Thing) (before after : ℕ) (held holds : Option (List ℕ)) → Lists [] h now before after held holds → Appends held holds (content_listing.lines h)
+unfolding content_lines
+written_first past now h before after held holds it = it.written
+
+pub recalls_first : (past now : Past) (h : List Thing) (before after : ℕ) (held holds : Option (List ℕ)) → Lists [] h now before after held holds → Recalls now h
+recalls_first past now h before after held holds it = it.recalls
+
+pub counted_first : (past now : Past) (h : List Thing) (before after : ℕ) (held holds : Option (List ℕ)) → Lists [] h now before after held holds → before ≡ 0 → after ≡ counted 0 (content_faults h)
+unfolding content_faults content_lines
+counted_first past now h before after held holds it none = it.faults ∙ ap (λ n. counted n (fault_line_count (lines_after [] h))) none
+
+pub broken_after : (past : Past) (h : List Thing) (t : Thing) (held holds : Option (List ℕ)) → Breaks h t held holds
+    → (n : ℕ) × (n < length (after_content h (t ∷ []))) × Appends held holds (take n (after_content h (t ∷ [])))
+broken_after past h t held holds it =
+    let line = one_after h t in (
+      it.n,
+      subst (λ (bytes : List ℕ). it.n < length bytes) line it.inside,
+      subst (λ (bytes : List ℕ). Appends held holds (take it.n bytes)) line it.written,
+    )

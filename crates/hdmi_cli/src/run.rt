@@ -1,5 +1,5 @@
 //! The top call: the words decide what is done with the input.
-ghost use Rattle.std.specs.Prelude.{◌≡◌, ◌⊎◌, ◌+◌, ℕ, ◌<◌, ◌≤◌, Bool, List, [], ◌∷◌, take, All, Some, Contains};
+ghost use Rattle.std.specs.Prelude.{◌≡◌, ◌⊎◌, ◌+◌, ℕ, ◌<◌, ◌≤◌, Bool, true, List, [], ◌∷◌, take, All, Some, Contains};
 ghost use Rattle.std.specs.Io.KnownBytes.{Appends, IsAtEnd, Keeps};
 ghost use Rattle.outside_io.specs.Causes.{Rose};
 ghost use Rattle.tmds_word.specs.Column.{Column};
@@ -9,6 +9,8 @@ ghost use Rattle.lane_deskew.specs.Aligned.{aligned_columns};
 ghost use Rattle.island_pack.specs.Periods.{Period};
 ghost use Rattle.island_pack.specs.Sparse.{IsSparseInPayload};
 ghost use Rattle.link_sink.specs.Laws.{AlignsUntil};
+ghost use Rattle.link_sink.specs.Pieces.{no_bits};
+ghost use Rattle.link_sink.specs.Streams.{StandsFor, most_bits};
 ghost use Rattle.hdmi_cli.specs.Commands.{IsCommand, tap_asked};
 ghost use Rattle.hdmi_cli.specs.Headline.{AreTapped, IsRecovered};
 ghost use Rattle.hdmi_cli.specs.Exact.{IsAlignedCapture, IsJudged};
@@ -280,12 +282,31 @@ fn recover_link<R: Threads, S: Source, K: Sink, G: Gate>(
     ensures input_later { S.faults input.old ≤ S.faults input.new }
     ensures output_later { K.faults output.old ≤ K.faults output.new }
 {
-    let mut sink = match LinkSink::open(alloc) {
-        Ok(sink) => sink,
-        Err(_) => return Ending::NoMemory,
-    };
+    match LinkSink::open(alloc) {
+        Ok(mut sink) => list_link(rt, &mut sink, input, output, gate),
+        Err(_) => Ending::NoMemory,
+    }
+}
+
+/// The same with a sink that was fed nothing.
+fn list_link<R: Threads, S: Source, K: Sink, G: Gate>(
+    rt: &R,
+    sink: &mut LinkSink,
+    input: &mut S,
+    output: &mut K,
+    gate: &G,
+) -> Ending
+    requires open { sink.old.is_open ≡ true }
+    requires fresh { StandsFor sink.old no_bits }
+    requires unfed { most_bits sink.old ≡ 0 }
+    ensures ends { Ends RecoverLink result
+        (record { left = S.left input.old; input_faults = S.faults input.old; held = K.held output.old; output_faults = K.faults output.old })
+        (record { left = S.left input.new; input_faults = S.faults input.new; held = K.held output.new; output_faults = K.faults output.new }) }
+    ensures input_later { S.faults input.old ≤ S.faults input.new }
+    ensures output_later { K.faults output.old ≤ K.faults output.new }
+{
     let mut lister = LinkLister::open(output);
-    match hear_capture(rt, &mut sink, input, gate, &mut lister) {
+    match hear_capture(rt, sink, input, gate, &mut lister) {
         Ok(heard) if heard.aligned => judged(lister.end(), lister.faults()),
         Ok(_) => Ending::Unaligned,
         Err(error) => unheard(error),
@@ -306,12 +327,31 @@ fn recover_content<R: Threads, S: Source, K: Sink, G: Gate>(
     ensures input_later { S.faults input.old ≤ S.faults input.new }
     ensures output_later { K.faults output.old ≤ K.faults output.new }
 {
-    let mut sink = match LinkSink::open(alloc) {
-        Ok(sink) => sink,
-        Err(_) => return Ending::NoMemory,
-    };
+    match LinkSink::open(alloc) {
+        Ok(mut sink) => list_content(rt, &mut sink, input, output, gate),
+        Err(_) => Ending::NoMemory,
+    }
+}
+
+/// The same with a sink that was fed nothing.
+fn list_content<R: Threads, S: Source, K: Sink, G: Gate>(
+    rt: &R,
+    sink: &mut LinkSink,
+    input: &mut S,
+    output: &mut K,
+    gate: &G,
+) -> Ending
+    requires open { sink.old.is_open ≡ true }
+    requires fresh { StandsFor sink.old no_bits }
+    requires unfed { most_bits sink.old ≡ 0 }
+    ensures ends { Ends RecoverContent result
+        (record { left = S.left input.old; input_faults = S.faults input.old; held = K.held output.old; output_faults = K.faults output.old })
+        (record { left = S.left input.new; input_faults = S.faults input.new; held = K.held output.new; output_faults = K.faults output.new }) }
+    ensures input_later { S.faults input.old ≤ S.faults input.new }
+    ensures output_later { K.faults output.old ≤ K.faults output.new }
+{
     let mut lister = ContentLister::open(output);
-    match hear_capture(rt, &mut sink, input, gate, &mut lister) {
+    match hear_capture(rt, sink, input, gate, &mut lister) {
         Ok(heard) if heard.aligned => judged(lister.end(), lister.faults()),
         Ok(_) => Ending::Unaligned,
         Err(error) => unheard(error),
@@ -332,12 +372,31 @@ fn check<R: Threads, S: Source, K: Sink, G: Gate>(
     ensures input_later { S.faults input.old ≤ S.faults input.new }
     ensures output_later { K.faults output.old ≤ K.faults output.new }
 {
-    let mut sink = match LinkSink::open(alloc) {
-        Ok(sink) => sink,
-        Err(_) => return Ending::NoMemory,
-    };
+    match LinkSink::open(alloc) {
+        Ok(mut sink) => list_check(rt, &mut sink, input, output, gate),
+        Err(_) => Ending::NoMemory,
+    }
+}
+
+/// The same with a sink that was fed nothing.
+fn list_check<R: Threads, S: Source, K: Sink, G: Gate>(
+    rt: &R,
+    sink: &mut LinkSink,
+    input: &mut S,
+    output: &mut K,
+    gate: &G,
+) -> Ending
+    requires open { sink.old.is_open ≡ true }
+    requires fresh { StandsFor sink.old no_bits }
+    requires unfed { most_bits sink.old ≡ 0 }
+    ensures ends { Ends Check result
+        (record { left = S.left input.old; input_faults = S.faults input.old; held = K.held output.old; output_faults = K.faults output.old })
+        (record { left = S.left input.new; input_faults = S.faults input.new; held = K.held output.new; output_faults = K.faults output.new }) }
+    ensures input_later { S.faults input.old ≤ S.faults input.new }
+    ensures output_later { K.faults output.old ≤ K.faults output.new }
+{
     let mut lister = CheckLister::open(output);
-    match hear_capture(rt, &mut sink, input, gate, &mut lister) {
+    match hear_capture(rt, sink, input, gate, &mut lister) {
         Ok(heard) if heard.aligned => judged(lister.end(), lister.faults()),
         Ok(_) => Ending::Unaligned,
         Err(error) => unheard(error),
