@@ -17,4 +17,6 @@ pub use hear::{FeedFault, Outcome, hear_lanes};
 pub use sink::LinkSink;
 
 #[cfg(test)]
+mod sink_tests;
+#[cfg(test)]
 mod tests;

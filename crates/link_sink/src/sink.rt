@@ -100,9 +100,9 @@ impl LinkSink {
     {
         match self.stream.feed(rt, a, b, c, bits, gate, ear) {
             Ok(()) => Ok(()),
-            Err(failed) => {
+            Err(_) => {
                 self.is_open = false;
-                Err(failed)
+                Err(Failed)
             }
         }
     }
