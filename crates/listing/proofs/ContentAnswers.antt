@@ -10,7 +10,6 @@ use Rattle.listing.specs.declared.fault.ListCause.{ListCause}
 use Rattle.listing.specs.declared.fault.ListCause.TheVariants.{Fault, Form, Long, Unended, After}
 use Rattle.listing.specs.declared.fault.ListError.{ListError}
 use Rattle.listing.specs.declared.fault.ListError.TheVariants.{Bad, Read as read_failed, NoMemory as out_of_memory}
-use Rattle.listing.specs.declared.content_read.ContentNext.{ContentNext}
 use Rattle.listing.specs.declared.content_read.ContentNext.TheVariants.{More, End}
 use Rattle.listing.specs.declared.reader.Refusal.{Refusal}
 use Rattle.listing.specs.declared.reader.Refusal.TheVariants.{Cause, NoMemory}

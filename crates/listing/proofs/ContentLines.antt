@@ -1,6 +1,6 @@
 -- What tells the lines of a content listing.
-use Rattle.std.proofs.Common.{◌≡◌, ℕ, zero, suc, ◌+◌, ◌-◌, ◌*◌, ◌/◌, ◌%◌, ◌<◌, ◌≤◌, Bool, true, false, ◌==◌, ◌&&◌, List, [], ◌∷◌, ◌++◌, length, take, drop, replicate, refl, ap, ap₂, sym, subst, ◌∙◌, arith, append_assoc, append-nil, take_all, length-take-le, length-append}
-use Rattle.std.specs.Prelude.{Option, Some, None, Result, Ok, Err, IsErr, is_ok, is_err, MatchOption, MatchResult, is_some, not, slice_index, nat_le}
+use Rattle.std.proofs.Common.{◌≡◌, ℕ, zero, suc, ◌+◌, ◌-◌, ◌*◌, ◌%◌, ◌<◌, Bool, true, false, ◌==◌, ◌&&◌, List, [], ◌∷◌, ◌++◌, length, take, drop, replicate, refl, ap, ap₂, sym, ◌∙◌, arith, append_assoc, append-nil, length-append}
+use Rattle.std.specs.Prelude.{Option, Some, None, Result, Ok, Err, IsErr, is_ok, MatchOption, MatchResult, is_some, not, slice_index, nat_le}
 use Rattle.std.proofs.Math.Seq.{take-append_seam, drop-append_seam}
 use Rattle.std.proofs.lemmas.List.{drop-replicate}
 use Rattle.std.proofs.lemmas.Bool.{eqb-true, eq-eqb}
@@ -12,7 +12,7 @@ use Rattle.island_pack.specs.declared.packet.Packet.{Packet}
 use Rattle.listing.specs.Lines.{before_pieces}
 use Rattle.listing.specs.Forms.{number_of, part}
 use Rattle.listing.specs.FormSeen.{HasBodies}
-use Rattle.listing.specs.ContentForms.{ContentLine, no_line, row_form, row_by, fields_of, numbers_of, then_number, numbers_by, numbers_form, decoded_by, hex_field, is_space, packet_form, packet_told, packet_line, spd_form, spd_told, sample_form, sample_told, are_bytes, are_words, info_told, avi_from, avi_told}
+use Rattle.listing.specs.ContentForms.{ContentLine, no_line, row_form, row_by, fields_of, numbers_of, then_number, numbers_form, decoded_by, hex_field, is_space, packet_form, packet_told, packet_line, spd_form, spd_told, sample_form, sample_told, are_bytes, are_words, info_told, avi_from, avi_told}
 use Rattle.listing.specs.ContentFormSeen.{IsRow, IsNumbers, IsHexField, IsHexPart}
 use Rattle.listing.proofs.PacketForms.{joined}
 

@@ -1,13 +1,13 @@
 -- What a line does to what the bytes ahead read as, where what a line does is a step.
 use Rattle.std.proofs.Common.{◌≡◌, ℕ, ◌+◌, ◌<◌, ◌≤◌, Bool, true, false, ◌==◌, List, [], ◌∷◌, ◌++◌, length, refl, ap, ap₂, sym, subst, ◌∙◌, arith, length-append}
-use Rattle.std.specs.Prelude.{Option, Some, None, Result, Ok, Err, nat_le}
+use Rattle.std.specs.Prelude.{Some, nat_le}
 use Rattle.std.proofs.lemmas.Bool.{le-leb, lt-leb}
 use Rattle.listing.specs.declared.fault.ListCause.{ListCause}
-use Rattle.listing.specs.declared.fault.ListCause.TheVariants.{Long, Unended, After}
+use Rattle.listing.specs.declared.fault.ListCause.TheVariants.{After}
 use Rattle.listing.specs.declared.lines.Piece.{Piece}
 use Rattle.listing.specs.declared.lines.Piece.TheVariants.{Line, Last, Long as Long_piece}
 use Rattle.listing.specs.Lines.{before_pieces, pieces_of}
-use Rattle.listing.specs.LineSteps.{Read, accepts, refuses, LineStep, tells, closes, wrong, within_text, cut_short, ended_by, steps_on, read_lines}
+use Rattle.listing.specs.LineSteps.{Read, accepts, refuses, LineStep, wrong, within_text, cut_short, ended_by, steps_on, read_lines}
 use Rattle.listing.specs.Held.{Held, IsEnded, IsRest, IsTooLong, IsNext}
 use Rattle.listing.proofs.Pieces.{pieces_some, pieces_ended, pieces_rest, pieces_too_long}
 

@@ -9,7 +9,7 @@ use Rattle.std.proofs.lemmas.List.Sums.{sum_by-cons}
 use Rattle.island_pack.specs.Packets.{IsPacket}
 use Rattle.island_pack.specs.declared.packet.Packet.{Packet}
 use Rattle.infoframe.specs.Bytes.{bar_bytes}
-use Rattle.infoframe.specs.Fields.{field, avi_of, avi_reserved, audio_of, audio_reserved, spd_of}
+use Rattle.infoframe.specs.Fields.{avi_of, avi_reserved, audio_of, audio_reserved, spd_of}
 use Rattle.infoframe.specs.Frames.{Frame, frame_in, length_in, sum_of, kind_of}
 use Rattle.infoframe.specs.Written.{padded, info_as, info_of, type_of, version_of, length_of, fits, reserved_of, reserved_in, IsWritten}
 use Rattle.infoframe.specs.declared.content.InfoKind.TheVariants.{Raw as RawKind}

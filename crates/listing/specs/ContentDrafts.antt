@@ -1,7 +1,6 @@
 -- What the lines of a content listing have told so far: the mode, whole frames, the frame that is still being told, and the
 -- samples of neighbouring lines that still lack a packet.
 use Rattle.std.specs.Prelude.{ℕ, ◌+◌, ◌*◌, Bool, true, false, not, ◌==◌, ◌&&◌, ◌||◌, if◌then◌else◌, List, [], ◌∷◌, ◌++◌, length, nat_lt, Option, Some, None}
-use Rattle.island_pack.specs.declared.packet.Packet.{Packet}
 use Rattle.audio_packets.specs.Samples.{samples_packet}
 use Rattle.audio_packets.specs.declared.sample.Sample.{Sample}
 use Rattle.source_end.specs.Content.{Frame, empty_frame, with_packet, with_row}

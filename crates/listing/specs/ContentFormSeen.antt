@@ -1,9 +1,9 @@
 -- How what is seen in a line of a content listing tells its form.
-use Rattle.std.specs.Prelude.{◌≡◌, ℕ, ◌%◌, Bool, true, false, List, [], length, take, Option, Some, None}
+use Rattle.std.specs.Prelude.{◌≡◌, ℕ, ◌%◌, Bool, true, false, List, length, take, Option, Some, None}
 use Rattle.audio_packets.specs.Samples.{IsSample}
 use Rattle.audio_packets.specs.declared.sample.Sample.{Sample as SeenSample}
 use Rattle.hex.specs.Hex.{decode_of}
-use Rattle.listing.specs.ContentForms.{ContentLine, mode_line, row_line, row_by, frame_line, packet_line, sample_line, end_line, fault_line, no_line, numbers_form, hex_field, payload_form}
+use Rattle.listing.specs.ContentForms.{ContentLine, mode_line, row_by, frame_line, packet_line, sample_line, end_line, fault_line, no_line, numbers_form, hex_field, payload_form}
 use Rattle.listing.specs.declared.content_form.ContentForm.{ContentForm as Seen}
 use Rattle.listing.specs.declared.content_form.ContentForm.TheVariants.{Mode, Row, Frame, Packet, Sample, End, Fault, Other}
 

@@ -5,12 +5,9 @@ use Rattle.hex.specs.Hex.{decode_of}
 use Rattle.hex.specs.declared.error.FromHexError.{FromHexError}
 use Rattle.island_pack.specs.declared.packet.Packet.{Packet}
 use Rattle.infoframe.specs.Written.{fits, padded}
-use Rattle.infoframe.specs.declared.content.Avi.{Avi as AviFields}
-use Rattle.infoframe.specs.declared.content.AudioInfo.{AudioInfo}
 use Rattle.infoframe.specs.declared.content.Info.{Info}
 use Rattle.infoframe.specs.declared.content.Info.TheVariants.{Avi, Audio, Spd, Raw}
 use Rattle.audio_packets.specs.Clock.{acr_packet}
-use Rattle.audio_packets.specs.declared.clock.Acr.{Acr}
 use Rattle.audio_packets.specs.declared.sample.Sample.{Sample}
 use Rattle.source_end.specs.Formats.{formats, mode_in}
 use Rattle.source_end.specs.declared.mode.Mode.{Mode}

@@ -1,10 +1,8 @@
 -- What the reader of a content listing keeps of the lines that it has taken.
-use Rattle.std.specs.Prelude.{◌≡◌, ℕ, ◌+◌, ◌<◌, ◌≤◌, Bool, true, false, List, [], ◌∷◌, ◌++◌, length, Option, Some, None, Result, Ok, Err}
-use Rattle.outside_io.specs.Causes.{Rose}
+use Rattle.std.specs.Prelude.{◌≡◌, ℕ, ◌+◌, ◌≤◌, Bool, true, false, List, [], ◌∷◌, ◌++◌, length, Option, Result, Ok, Err}
 use Rattle.audio_packets.specs.declared.sample.Sample.{Sample}
 use Rattle.source_end.specs.Content.{Frame, empty_frame}
 use Rattle.source_end.specs.declared.mode.Mode.{Mode}
-use Rattle.listing.specs.declared.fault.ListCause.{ListCause}
 use Rattle.listing.specs.declared.fault.ListError.{ListError}
 use Rattle.listing.specs.declared.fault.ListError.TheVariants.{Bad, Read as read_failed, NoMemory}
 use Rattle.listing.specs.Lines.{pieces_of}

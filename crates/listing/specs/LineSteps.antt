@@ -3,7 +3,6 @@
 use Rattle.std.specs.Prelude.{ℕ, ◌+◌, Bool, true, false, List, [], ◌∷◌, length, nat_le}
 use Rattle.listing.specs.declared.fault.ListCause.{ListCause}
 use Rattle.listing.specs.declared.fault.ListCause.TheVariants.{Long, Unended, After}
-use Rattle.listing.specs.Lines.{pieces_of}
 
 pub data Read (T : Type 0) : Type 0 where
   accepts : T → Read T

@@ -1,4 +1,4 @@
-use Rattle.std.proofs.Common.{ap, sym, ◌∙◌, true, Bool}
+use Rattle.std.proofs.Common.{ap, sym, ◌∙◌, Bool}
 use Rattle.std.specs.Prelude.{Some}
 use Rattle.listing.specs.ContentForms.{info_told, within}
 use Rattle.listing.specs.InfoPackets.{info_packet}

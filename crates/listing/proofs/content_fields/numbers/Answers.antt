@@ -1,8 +1,8 @@
-use Rattle.std.proofs.Common.{◌≡◌, ℕ, ◌+◌, List, [], ◌∷◌, ◌++◌, length, take, ap, sym, subst, ◌∙◌, arith, take_all, length-take-le, MatchOption}
-use Rattle.std.specs.Prelude.{Option, Some, None}
+use Rattle.std.proofs.Common.{◌≡◌, ℕ, List, take, sym, subst, ◌∙◌, arith, take_all, length-take-le, MatchOption}
+use Rattle.std.specs.Prelude.{Some}
 use Rattle.std.proofs.lemmas.List.{take_more_set, length-set}
 use Rattle.listing.specs.ContentForms.{fields_of, numbers_of}
-use Rattle.listing.proofs.ContentLines.{after_numbers, numbers_first, numbers_step, numbers_wrong, numbers_few, numbers_none, numbers_done}
+use Rattle.listing.proofs.ContentLines.{after_numbers, numbers_step, numbers_wrong, numbers_few, numbers_none, numbers_done}
 use Rattle.listing.proofs.content_fields.numbers.Goals as goal
 
 pub loop-i-preserved : goal.loop-i-preserved

@@ -1,4 +1,4 @@
-use Rattle.std.proofs.Common.{◌≡◌, ℕ, ◌+◌, ◌≤◌, List, length, ap, ap₂, sym, subst, ◌∙◌, arith}
+use Rattle.std.proofs.Common.{◌≡◌, ℕ, ◌+◌, List, length, ap, ap₂, sym, subst, ◌∙◌}
 use Rattle.std.specs.Prelude.{Some, Err, nat_le}
 use Rattle.listing.specs.declared.fault.ListCause.TheVariants.{Long}
 use Rattle.listing.specs.declared.fault.ListError.TheVariants.{Bad}

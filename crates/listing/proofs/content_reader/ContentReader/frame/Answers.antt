@@ -1,6 +1,5 @@
-use Rattle.std.proofs.Common.{◌≡◌, ◌+◌, ◌≤◌, List, [], ◌∷◌, ◌++◌, length, refl, ap, ap₂, sym, ◌∙◌, arith, length-append}
-use Rattle.source_end.specs.Content.{Frame, empty_frame}
-use Rattle.listing.specs.ContentDrafts.{settled}
+use Rattle.std.proofs.Common.{◌+◌, ◌≤◌, [], ◌∷◌, ◌++◌, length, refl, ap, sym, ◌∙◌, arith, length-append}
+use Rattle.source_end.specs.Content.{empty_frame}
 use Rattle.listing.specs.ContentTold.{ContentTold, whole_frames, open_frame}
 use Rattle.listing.proofs.ContentFrames.{frame_ends, frame_row, settled_row}
 use Rattle.listing.proofs.content_reader.ContentReader.frame.Goals as goal

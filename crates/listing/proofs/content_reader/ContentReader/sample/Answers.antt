@@ -1,8 +1,7 @@
-use Rattle.std.proofs.Common.{◌≡◌, ℕ, zero, suc, ◌<◌, slice_index_or, ◌+◌, ◌≤◌, List, [], ◌∷◌, ◌++◌, length, ap, sym, subst, ◌∙◌, arith, length-append, All}
+use Rattle.std.proofs.Common.{◌≡◌, ℕ, zero, suc, ◌<◌, slice_index_or, [], ◌∷◌, ◌++◌, length, ap, sym, subst, arith, length-append, All}
 use Rattle.std.proofs.lemmas.List.Elements.{All-append}
 use Rattle.audio_packets.specs.Samples.{IsSample}
 use Rattle.audio_packets.specs.declared.sample.Sample.{Sample}
-use Rattle.listing.specs.ContentFormSeen.{SampleFits}
 use Rattle.listing.specs.ContentTold.{pending}
 use Rattle.listing.proofs.ContentFrames.{pending_one}
 use Rattle.listing.proofs.content_reader.ContentReader.sample.Goals as goal
