@@ -106,15 +106,17 @@ pub unheard_ends : {A : Type 0} (listing : Listing) (after : List Thing → List
     (left rest : Option (List ℕ)) (reads read_faults : ℕ) (old new : A) (e : HearError) → IsLists listing command → IsText listing after last → Writes listing after took broke held old
     → Unheard took broke left rest reads read_faults old new (faults old) (faults new) e
     → Ends command (heard_ending e) (seen left reads (held old) (faults old)) (seen rest read_faults (held new) (faults new))
-unheard_ends listing after last command took broke held faults left rest reads read_faults old new (Bad fault) lists it writes u =
-    (lists.reads, λ bytes told. let b = u.bad bytes fault told refl in let h = b.1.2 in record {
-      outcome = record { status = 3; output = listing.lines h.things; note = capture_note fault };
-      does = lists.does bytes (record { status = 3; output = listing.lines h.things; note = capture_note fault })
-          (inr (fault, record { is = b.0; fed = b.1.0; before = b.1.1; things = h.things; told = h.told; outcome_is = refl }));
-      status = refl;
-      note = refl;
-      written = writes.grows new h.things h.taken;
-    })
+unheard_ends listing after last command took broke held faults left rest reads read_faults old new (Bad fault) lists it writes u = (
+  lists.reads,
+  λ bytes told. let b = u.bad bytes fault told refl in let h = b.1.2 in record {
+    outcome = record { status = 3; output = listing.lines h.things; note = capture_note fault };
+    does = lists.does bytes (record { status = 3; output = listing.lines h.things; note = capture_note fault })
+        (inr (fault, record { is = b.0; fed = b.1.0; before = b.1.1; things = h.things; told = h.told; outcome_is = refl }));
+    status = refl;
+    note = refl;
+    written = writes.grows new h.things h.taken;
+  },
+)
 unheard_ends listing after last command took broke held faults left rest reads read_faults old new Read lists it writes u =
     let r = u.read refl in let h = r.1.4 in (
       r.0,
@@ -131,6 +133,7 @@ unheard_ends listing after last command took broke held faults left rest reads r
 unheard_ends listing after last command took broke held faults left rest reads read_faults old new Ear lists it writes u =
     let b = u.broken refl in
     (b.0, lists.unwritten (seen left reads (held old) (faults old)) (seen rest read_faults (held new) (faults new)) (broken_part listing after last took broke held faults left rest reads read_faults old new it writes b.1 b.2 b.3 b.4 b.5 b.6))
+
 -- lanes that are aligned nowhere
 
 pub nowhere_ends : (listing : Listing) (after : List Thing → List Thing → List ℕ) (last : List Thing → List ℕ) (command : Command) (fed : Fed) (outcome : Hearing) (things : List Thing) (before now : Devices)

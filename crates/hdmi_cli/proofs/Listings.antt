@@ -130,9 +130,11 @@ goes_on (x ∷ first) (y ∷ taken) more rest is le =
     head_or : Thing → List Thing → Thing
     head_or d [] = d
     head_or d (z ∷ zs) = z
+
     tail_of : List Thing → List Thing
     tail_of [] = []
     tail_of (z ∷ zs) = zs
+
     cons_parts : (x y : Thing) (xs ys : List Thing) → x ∷ xs ≡ y ∷ ys → (x ≡ y) × (xs ≡ ys)
     cons_parts x y xs ys is = (ap (head_or x) is, ap tail_of is)
 

@@ -233,12 +233,7 @@ fn make_content<S: Source, K: Sink>(
 }
 
 /// Writes the capture of a tap of the columns of a stream.
-fn write_stream<K: Sink>(
-    alloc: Global,
-    stream: &Stream,
-    words: &TapWords,
-    output: &mut K,
-) -> Ending
+fn write_stream<K: Sink>(alloc: Global, stream: &Stream, words: &TapWords, output: &mut K) -> Ending
     requires version { (words.now.version ≡ 1) ⊎ (words.now.version ≡ 2) }
     ensures ends { StreamEnds (tap_asked words.now) stream.now result (K.held output.old) (K.held output.new) (K.faults output.old) (K.faults output.new) }
     ensures later { K.faults output.old ≤ K.faults output.new }

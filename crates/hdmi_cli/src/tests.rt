@@ -156,7 +156,11 @@ fn long_lines(rt: HostRuntime) -> Result<(), Fail> {
 }
 
 /// Makes the capture of the red pixel with these reads and writes failing.
-fn red_by(rt: &(impl Threads + AllocGlobal), reads: &[u64], writes: &[u64]) -> Result<Answer, Fail> {
+fn red_by(
+    rt: &(impl Threads + AllocGlobal),
+    reads: &[u64],
+    writes: &[u64],
+) -> Result<Answer, Fail> {
     let devices = Devices {
         read: 9,
         write: 4096,

@@ -50,15 +50,7 @@ pub(crate) fn answer_of(
     let mut input = MemSource::new(input.to_vec(alloc)?, devices.read.max(1), reads);
     let mut output = MemSink::new(alloc, 65_536, devices.write.max(1), writes)?;
     let mut notes = MemSink::new(alloc, 4096, 4096, Vec::new(alloc))?;
-    let status = run(
-        rt,
-        alloc,
-        &list,
-        &mut input,
-        &mut output,
-        &mut notes,
-        &Open,
-    );
+    let status = run(rt, alloc, &list, &mut input, &mut output, &mut notes, &Open);
     Ok(Answer {
         status,
         output: output.bytes().to_vec(alloc)?,
@@ -102,10 +94,7 @@ fn bytes_of(alloc: Global, field: &str, last: &mut Vec<u8>) -> Result<Vec<u8>, F
 }
 
 /// Runs the case of each row of a table in turn.
-pub(crate) fn judge(
-    rt: &(impl Abort + Threads + AllocGlobal),
-    table: &str,
-) -> Result<(), Fail> {
+pub(crate) fn judge(rt: &(impl Abort + Threads + AllocGlobal), table: &str) -> Result<(), Fail> {
     let alloc = rt.alloc();
     let mut last = Vec::new(alloc);
     for (i, row) in table.lines().enumerate().filter(|(_, row)| !row.is_empty()) {

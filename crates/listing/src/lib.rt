@@ -2,17 +2,17 @@
 #![tactic(auto)]
 
 mod checker;
-mod digits;
+mod content_digits;
+mod content_fields;
+mod content_form;
 mod content_info;
 mod content_lines;
 mod content_lister;
 mod content_packets;
 mod content_past;
-mod content_digits;
-mod content_fields;
-mod content_form;
 mod content_read;
 mod content_reader;
+mod digits;
 mod fault;
 mod form;
 pub mod laws;

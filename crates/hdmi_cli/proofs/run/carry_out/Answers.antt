@@ -22,10 +22,14 @@ damage-requires g c =
 
 pub make_link-requires : goal.make_link-requires
 make_link-requires g c =
-    record { version = version_of_line c.args.words.now c.in-MakeLink.tap (subst (λ (d : Command). IsLine c.args.words.now d) c.in-MakeLink.is
-    (line_of c.args.words.now c.command.result c.in-Ok-Some.field-0 c.in-Ok-Some.command c.command.ensures c.in-Ok-Some.is c.in-Ok-Some.field-0-is)) }
+    record {
+      version = version_of_line c.args.words.now c.in-MakeLink.tap (subst (λ (d : Command). IsLine c.args.words.now d) c.in-MakeLink.is
+          (line_of c.args.words.now c.command.result c.in-Ok-Some.field-0 c.in-Ok-Some.command c.command.ensures c.in-Ok-Some.is c.in-Ok-Some.field-0-is));
+    }
 
 pub make_content-requires : goal.make_content-requires
 make_content-requires g c =
-    record { version = version_of_content c.args.words.now c.in-MakeContent.tap (subst (λ (d : Command). IsLine c.args.words.now d) c.in-MakeContent.is
-    (line_of c.args.words.now c.command.result c.in-Ok-Some.field-0 c.in-Ok-Some.command c.command.ensures c.in-Ok-Some.is c.in-Ok-Some.field-0-is)) }
+    record {
+      version = version_of_content c.args.words.now c.in-MakeContent.tap (subst (λ (d : Command). IsLine c.args.words.now d) c.in-MakeContent.is
+          (line_of c.args.words.now c.command.result c.in-Ok-Some.field-0 c.in-Ok-Some.command c.command.ensures c.in-Ok-Some.is c.in-Ok-Some.field-0-is));
+    }

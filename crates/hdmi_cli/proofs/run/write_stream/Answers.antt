@@ -13,5 +13,5 @@ returns-clause-ends g c =
     let spelled : (columns : List Column) × (c.spell.new.out.columns ≡ [] ++ columns) × Spells c.args.stream.now columns = search rules in (
       search rules,
       cut_of (tap_asked c.args.words.now) c.args.stream.now c.spell.new.out.columns c.in-Err-write_capture.field-0.gone (g.K.Sink.held c.args.output.now) (g.K.Sink.held c.write_capture.new.out) spelled
-      (search rules) (search rules),
+          (search rules) (search rules),
     )
