@@ -26,7 +26,7 @@ use Rattle.source_end.specs.Raster.{raster_of}
 use Rattle.source_end.specs.RasterRefusals.{raster_fault, AnswersRasterFault}
 use Rattle.source_end.specs.declared.mode.Mode.{Mode}
 use Rattle.source_end.specs.declared.refusal.RasterFault.{RasterFault}
-use Rattle.source_end.specs.declared.refusal.RasterFault.TheVariants.{NoMemory as NoRaster}
+use Rattle.source_end.specs.declared.refusal.RasterFault.TheVariants.{BadMode, Row, NoRoom, Long, NoMemory as NoRaster}
 use Rattle.listing.specs.declared.fault.ListFault.{ListFault}
 use Rattle.listing.specs.declared.fault.ListError.{ListError}
 use Rattle.listing.specs.declared.fault.ListError.TheVariants.{Bad as BadListing}
@@ -37,7 +37,7 @@ use Rattle.command_line.specs.declared.tap.TapWords.{TapWords}
 use Rattle.command_line.specs.Damages.{AreDamages}
 use Rattle.command_line.specs.Commands.{IsCommand as IsLine, IsVersion}
 use Rattle.hdmi_cli.specs.Outcome.{Outcome, MakesLink, MakesStream, MakesRaster, MakesContent, Damages, Does}
-use Rattle.hdmi_cli.specs.Endings.{Devices, IsAnswered, Parts, Ends, EndsUnwritten, StreamEnds, IsWhole, IsCut, status_of, note_of, damage_ending}
+use Rattle.hdmi_cli.specs.Endings.{Devices, IsAnswered, Parts, Ends, EndsUnwritten, StreamEnds, IsWhole, IsCut, status_of, note_of, damage_ending, raster_ending}
 use Rattle.command_line.specs.declared.command.Command.{Command}
 use Rattle.command_line.specs.declared.command.Command.TheVariants.{MakeLink, MakeContent, Damage}
 use Rattle.hdmi_cli.specs.declared.ending.Ending.{Ending}
@@ -171,7 +171,7 @@ makes_content words mode frames r ps text o read answers ok is made =
     subst (λ x. MakesContent (tap_asked words) x o) (sym read)
     (subst (λ f. MakesRaster (tap_asked words) mode frames f o) (sym (raster_told (raster_fault mode frames) r ps answers ok)) (subst (λ x. MakesStream (tap_asked words) x o) is made))
 
-pub raster_refused : (words : TapWords) (mode : Mode) (frames : List Frame) (r : Result (List Period) RasterFault) (fault : RasterFault) (before after : Devices) (text : List ℕ) → content_reads_as text ≡ accepts (mode, frames)
+raster_refused : (words : TapWords) (mode : Mode) (frames : List Frame) (r : Result (List Period) RasterFault) (fault : RasterFault) (before after : Devices) (text : List ℕ) → content_reads_as text ≡ accepts (mode, frames)
     → AnswersRasterFault (raster_fault mode frames) r → r ≡ Err fault → (fault ≡ NoRaster → ⊥) → after.held ≡ before.held → IsAnswered (MakeContent words) (Raster fault) before after text
 raster_refused words mode frames r fault before after text read answers err other kept = record {
   outcome = record { status = 3; output = []; note = raster_note fault };
@@ -182,6 +182,34 @@ raster_refused words mode frames r fault before after text read answers err othe
   note = refl;
   written = same_held before.held after.held kept;
 }
+
+kept_held : (old new : Option (List ℕ)) → new ≡ old → Keeps old new
+kept_held None new same = tt
+kept_held (Some xs) new same = subst (λ (held : Option (List ℕ)). Keeps (Some xs) held) (sym same) refl
+
+mode_is_other : (i : ℕ) → BadMode i ≡ NoRaster → ⊥
+mode_is_other i e = cc
+
+row_is_other : (f r : ℕ) → Row f r ≡ NoRaster → ⊥
+row_is_other f r e = cc
+
+room_is_other : (f p : ℕ) → NoRoom f p ≡ NoRaster → ⊥
+room_is_other f p e = cc
+
+long_is_other : Long ≡ NoRaster → ⊥
+long_is_other e = cc
+
+pub raster_ends : (words : TapWords) (mode : Mode) (frames : List Frame) (r : Result (List Period) RasterFault) (fault : RasterFault) (before after : Devices) → ((text : List ℕ) → before.left ≡ Some text → content_reads_as text ≡ accepts (mode, frames))
+    → AnswersRasterFault (raster_fault mode frames) r → r ≡ Err fault → after.held ≡ before.held → Ends (MakeContent words) (raster_ending fault) before after
+raster_ends words mode frames r NoRaster before after read answers err kept = kept_held before.held after.held kept
+raster_ends words mode frames r (BadMode i) before after read answers err kept =
+    (kept_held before.held after.held kept, λ text told. raster_refused words mode frames r (BadMode i) before after text (read text told) answers err (mode_is_other i) kept)
+raster_ends words mode frames r (Row f n) before after read answers err kept =
+    (kept_held before.held after.held kept, λ text told. raster_refused words mode frames r (Row f n) before after text (read text told) answers err (row_is_other f n) kept)
+raster_ends words mode frames r (NoRoom f p) before after read answers err kept =
+    (kept_held before.held after.held kept, λ text told. raster_refused words mode frames r (NoRoom f p) before after text (read text told) answers err (room_is_other f p) kept)
+raster_ends words mode frames r Long before after read answers err kept =
+    (kept_held before.held after.held kept, λ text told. raster_refused words mode frames r Long before after text (read text told) answers err long_is_other kept)
 
 -- `damage`
 

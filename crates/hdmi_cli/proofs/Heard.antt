@@ -13,6 +13,7 @@ use Rattle.link_sink.specs.Sinks.{Fed, IsToldSoFar}
 use Rattle.listing.specs.Texts.{counted}
 use Rattle.command_line.specs.declared.command.Command.{Command}
 use Rattle.hdmi_cli.specs.Blocks.{AreBefore, AreRead, AreNext, IsHeardSoFar, IsBroken}
+use Rattle.hdmi_cli.specs.Hearings.{IsHeardSome}
 use Rattle.hdmi_cli.specs.Endings.{Devices, IsAnswered, ListsRead, ListsPart, EndsUnread, EndsUnwritten, Ends, ReadsCapture, heard_ending, judged_ending, status_of, note_of}
 use Rattle.hdmi_cli.specs.Listings.{Listing}
 use Rattle.hdmi_cli.specs.Notes.{capture_note, alignment_note}
@@ -133,6 +134,37 @@ unheard_ends listing after last command took broke held faults left rest reads r
 unheard_ends listing after last command took broke held faults left rest reads read_faults old new Ear lists it writes u =
     let b = u.broken refl in
     (b.0, lists.unwritten (seen left reads (held old) (faults old)) (seen rest read_faults (held new) (faults new)) (broken_part listing after last took broke held faults left rest reads read_faults old new it writes b.1 b.2 b.3 b.4 b.5 b.6))
+
+-- what taking and breaking keep is kept where a capture was not heard to its end
+
+bad_is_other : (fault : CaptureFault) → Bad fault ≡ Ear → ⊥
+bad_is_other fault e = cc
+
+read_is_other : Read ≡ Ear → ⊥
+read_is_other e = cc
+
+kept_by_broken : {A G : Type 0} (took : A → A → List Thing → Type 0) (broke : A → A → Thing → Type 0) (name : A → G) → ((x y : A) (h : List Thing) → took x y h → name y ≡ name x) → ((x y : A) (t : Thing) → broke x y t → name y ≡ name x)
+    → (before : Fed) (things : List Thing) (old new : A) → IsBroken took broke before things old new → name new ≡ name old
+kept_by_broken took broke name by_took by_broke before things old new b =
+    by_broke b.stops.between new b.stops.next b.stops.broke_then ∙ by_took old b.stops.between b.stops.taken b.stops.took_some
+
+kept_by_either : {A G : Type 0} (took : A → A → List Thing → Type 0) (broke : A → A → Thing → Type 0) (name : A → G) → ((x y : A) (h : List Thing) → took x y h → name y ≡ name x) → ((x y : A) (t : Thing) → broke x y t → name y ≡ name x)
+    → (rest : Option (List ℕ)) (old new : A) (before now : Fed) (things : List Thing) (read : List ℕ)
+    → ((AreNext before now read × IsToldSoFar now things × IsBroken took broke before things old new)
+    ⊎ ((outcome : Hearing) × IsAtEnd rest × IsCaptureOf now.blue now.green now.red read × AreTold now.blue now.green now.red outcome things × IsBroken took broke now things old new))
+    → name new ≡ name old
+kept_by_either took broke name by_took by_broke rest old new before now things read (inl (next, told, broken)) = kept_by_broken took broke name by_took by_broke before things old new broken
+kept_by_either took broke name by_took by_broke rest old new before now things read (inr (outcome, end, captured, told, broken)) = kept_by_broken took broke name by_took by_broke now things old new broken
+
+pub kept_unheard : {A G : Type 0} (took : A → A → List Thing → Type 0) (broke : A → A → Thing → Type 0) (name : A → G) (left rest : Option (List ℕ)) (reads read_faults : ℕ) (old new : A) (writes write_faults : ℕ) (e : HearError)
+    → ((x y : A) (h : List Thing) → took x y h → name y ≡ name x) → ((x y : A) (t : Thing) → broke x y t → name y ≡ name x)
+    → ((e ≡ Ear → ⊥) → IsHeardSome took old new) → Unheard took broke left rest reads read_faults old new writes write_faults e → name new ≡ name old
+kept_unheard took broke name left rest reads read_faults old new writes write_faults (Bad fault) by_took by_broke some u =
+    let h = some (bad_is_other fault) in by_took old new h.1.things h.1.taken
+kept_unheard took broke name left rest reads read_faults old new writes write_faults Read by_took by_broke some u =
+    let h = some read_is_other in by_took old new h.1.things h.1.taken
+kept_unheard took broke name left rest reads read_faults old new writes write_faults Ear by_took by_broke some u =
+    let b = u.broken refl in kept_by_either took broke name by_took by_broke rest old new b.1 b.2 b.3 b.4 b.6
 
 -- lanes that are aligned nowhere
 

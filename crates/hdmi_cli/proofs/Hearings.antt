@@ -19,7 +19,7 @@ use Rattle.link_sink.proofs.Following.{told_at_first}
 use Rattle.outside_io.specs.Causes.{Rose}
 use Rattle.link_sink.specs.Alignment.{AreTold}
 use Rattle.hdmi_cli.specs.Blocks.{AreBefore, AreRead, AreNext, IsHeardSoFar, IsBroken}
-use Rattle.hdmi_cli.specs.Hearings.{AreFed, HasHeard, HasHeardAll, IsUntaken, StopsShort, IsCausedBy, refused_as}
+use Rattle.hdmi_cli.specs.Hearings.{AreFed, IsHeardSome, HasHeard, HasHeardAll, IsUntaken, StopsShort, IsCausedBy, refused_as}
 use Rattle.hdmi_cli.specs.declared.hearing.HearError.{HearError}
 use Rattle.hdmi_cli.specs.declared.hearing.HearError.TheVariants.{Bad, Read, Ear}
 
@@ -132,16 +132,18 @@ pub stops_short : {A : Type 0} (took : A → A → List Thing → Type 0) (broke
     → ((bytes taken : List ℕ) (x y z : List Bool) → left0 ≡ Some bytes → Stands version counts j taken x y z → SaysOf (λ fault. IsFault (taken ++ bytes) fault × StopsIn counts j taken (place_of fault)) error)
     → SaysRead ((part : List ℕ) × ((length part < block_size j counts) ⊎ (part ≡ [])) × Consumes left0 left1 part) error
     → StopsShort took broke from left1 first now (refused_as error)
-stops_short took broke version counts j from left0 left1 sink first now (Failed fault) h says part =
-    λ bytes is.
-    let c = consumed from left0 bytes h.taken is h.consumed in
-    let s = says c.0 h.taken h.fed.blue h.fed.green h.fed.red c.2 h.stands in
-    record {
-      faulty = subst (λ bs. IsFault bs fault) (sym c.1) s.0;
-      fed = h.fed;
-      before = inr (h.taken, c.0, counts, j, c.1, at_its_length version counts j _ _ _ _ h.stands, s.1);
-      heard = h.heard;
-    }
+stops_short took broke version counts j from left0 left1 sink first now (Failed fault) h says part = (
+  (h.fed, h.heard),
+  λ bytes is.
+      let c = consumed from left0 bytes h.taken is h.consumed in
+      let s = says c.0 h.taken h.fed.blue h.fed.green h.fed.red c.2 h.stands in
+      record {
+        faulty = subst (λ bs. IsFault bs fault) (sym c.1) s.0;
+        fed = h.fed;
+        before = inr (h.taken, c.0, counts, j, c.1, at_its_length version counts j _ _ _ _ h.stands, s.1);
+        heard = h.heard;
+      },
+)
 stops_short took broke version counts j from left0 left1 sink first now Unread h says part = record {
   fed = h.fed;
   read = h.taken ++ part.0;
@@ -149,10 +151,12 @@ stops_short took broke version counts j from left0 left1 sink first now Unread h
   are_read = inr (h.taken, part.0, counts, j, refl, at_its_length version counts j _ _ _ _ h.stands, part.1);
   heard = h.heard;
 }
-stops_short took broke version counts j from left0 left1 sink first now NoMemory h says part =
-    λ bytes is.
-    let c = consumed from left0 bytes h.taken is h.consumed in
-    absurd (says c.0 h.taken h.fed.blue h.fed.green h.fed.red c.2 h.stands)
+stops_short took broke version counts j from left0 left1 sink first now NoMemory h says part = (
+  (h.fed, h.heard),
+  λ bytes is.
+      let c = consumed from left0 bytes h.taken is h.consumed in
+      absurd (says c.0 h.taken h.fed.blue h.fed.green h.fed.red c.2 h.stands),
+)
 
 -- nothing was fed yet, and nothing is told
 told_none : {A : Type 0} (took : A → A → List Thing → Type 0) (now : A) → took now now [] → IsHeardSoFar took no_bits now now
@@ -168,10 +172,19 @@ pub headless : {A : Type 0} (took : A → A → List Thing → Type 0) (broke : 
     → ((bytes : List ℕ) → from ≡ Some bytes → SaysOf (λ fault. IsEarlyFault bytes fault) error)
     → SaysRead ((part : List ℕ) × IsHeadless part × Consumes from left part) error
     → StopsShort took broke from left now now (refused_as error)
-headless took broke from left now (Failed fault) none says part =
-    λ bytes is. let s = says bytes is in record { faulty = s.0; fed = no_bits; before = inl (s.1, refl); heard = told_none took now none }
+headless took broke from left now (Failed fault) none says part = (
+  (no_bits, told_none took now none),
+  λ bytes is. let s = says bytes is in record { faulty = s.0; fed = no_bits; before = inl (s.1, refl); heard = told_none took now none },
+)
 headless took broke from left now Unread none says part = record { fed = no_bits; read = part.0; consumed = part.2; are_read = inl (part.1, refl); heard = told_none took now none }
-headless took broke from left now NoMemory none says part = λ bytes is. absurd (says bytes is)
+headless took broke from left now NoMemory none says part = ((no_bits, told_none took now none), λ bytes is. absurd (says bytes is))
+
+-- what was heard where it is not the ear that stopped
+pub some_heard : {A : Type 0} (took : A → A → List Thing → Type 0) (broke : A → A → Thing → Type 0) (from left : Option (List ℕ)) (old new : A) (e : HearError) → StopsShort took broke from left old new e → (e ≡ Ear → ⊥)
+    → IsHeardSome took old new
+some_heard took broke from left old new (Bad fault) short other = short.0
+some_heard took broke from left old new Read short other = (short.fed, short.heard)
+some_heard took broke from left old new Ear short other = absurd (other refl)
 
 -- a sink that was fed nothing was fed no block
 zero_max : (a b c : ℕ) → max a (max b c) ≡ 0 → (a ≡ 0) × (b ≡ 0) × (c ≡ 0)
@@ -215,7 +228,7 @@ Reads took from left was now old new = Rose was now × ((fed : Fed) × (read : L
 pub bad_of : {A : Type 0} (took : A → A → List Thing → Type 0) (broke : A → A → Thing → Type 0) (from from' left : Option (List ℕ)) (old new : A) (e : HearError) → from' ≡ from → StopsShort took broke from left old new e
     → (bytes : List ℕ) (fault : CaptureFault) → from' ≡ Some bytes → e ≡ Bad fault → IsFault bytes fault × ((fed : Fed) × AreBefore bytes (place_of fault) fed × IsHeardSoFar took fed old new)
 bad_of took broke from from' left old new e ef h bytes fault is same =
-    let s = subst (StopsShort took broke from left old new) same h bytes (sym ef ∙ is) in (s.faulty, (s.fed, s.before, s.heard))
+    let s = (subst (StopsShort took broke from left old new) same h).1 bytes (sym ef ∙ is) in (s.faulty, (s.fed, s.before, s.heard))
 
 pub read_of : {A T : Type 0} (took : A → A → List Thing → Type 0) (broke : A → A → Thing → Type 0) (left_of : T → Option (List ℕ)) (faults_of : T → ℕ) (x x' y y' : T) (was now : ℕ) (old new : A) (e : HearError)
     → x' ≡ x → y' ≡ y → StopsShort took broke (left_of x) (left_of y) old new e → IsCausedBy (faults_of x) (faults_of y) was now e → e ≡ Read

@@ -5,6 +5,8 @@ use Rattle.outside_io.specs.Causes.{Rose}
 use Rattle.capture_file.specs.Captures.{IsCaptureOf}
 use Rattle.capture_file.specs.declared.damaging.DamageError.{DamageError}
 use Rattle.capture_file.specs.declared.damaging.DamageError.TheVariants as damages
+use Rattle.source_end.specs.declared.refusal.RasterFault.{RasterFault}
+use Rattle.source_end.specs.declared.refusal.RasterFault.TheVariants as raster_faults
 use Rattle.tmds_word.specs.Column.{Column}
 use Rattle.island_pack.specs.Periods.{Period}
 use Rattle.island_pack.specs.Spelling.{Spells}
@@ -138,6 +140,11 @@ StreamEnds tap periods Done old new before after = IsWhole tap periods old new
 StreamEnds tap periods WriteFailed old new before after = Rose before after × IsCut tap periods old new
 StreamEnds tap periods NoMemory old new before after = Keeps old new
 StreamEnds tap periods _ old new before after = ⊥
+
+-- how a command ends whose content has no raster
+abbrev pub raster_ending : RasterFault → Ending
+raster_ending raster_faults.NoMemory = NoMemory
+raster_ending fault = Raster fault
 
 -- how a command ends that did not hear a capture to its end
 abbrev pub heard_ending : HearError → Ending

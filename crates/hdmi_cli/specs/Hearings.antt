@@ -64,9 +64,13 @@ pub record IsUntaken {A : Type 0} (took : A → A → List Thing → Type 0) (br
   pub told : IsToldSoFar after things
   pub broken : IsBroken took broke before things old new
 
+-- it took all that some lanes tell so far
+abbrev pub IsHeardSome : {A : Type 0} → (A → A → List Thing → Type 0) → A → A → Type 0
+IsHeardSome took old new = (fed : Fed) × IsHeardSoFar took fed old new
+
 -- why blocks were not heard to the end
 abbrev pub StopsShort : {A : Type 0} → (A → A → List Thing → Type 0) → (A → A → Thing → Type 0) → Option (List ℕ) → Option (List ℕ) → A → A → HearError → Type 0
-StopsShort took broke from left old new (Bad fault) = (bytes : List ℕ) → from ≡ Some bytes → IsRefusedAt took bytes fault old new
+StopsShort took broke from left old new (Bad fault) = IsHeardSome took old new × ((bytes : List ℕ) → from ≡ Some bytes → IsRefusedAt took bytes fault old new)
 StopsShort took broke from left old new Read = IsUnread took from left old new
 StopsShort took broke from left old new Ear = IsUntaken took broke from left old new
 

@@ -11,7 +11,7 @@ ghost use Rattle.link_sink.specs.Pieces.{no_bits};
 ghost use Rattle.link_sink.specs.Sinks.{Fed, IsToldSoFar};
 ghost use Rattle.link_sink.specs.Streams.{StandsFor, most_bits};
 ghost use Rattle.hdmi_cli.specs.Blocks.{AreBefore, AreRead, AreNext, IsHeardSoFar, IsBroken};
-ghost use Rattle.hdmi_cli.specs.Hearings.{AreFed, HasHeard, HasHeardAll, HeardOn, StopsShort, IsCausedBy, refused_as};
+ghost use Rattle.hdmi_cli.specs.Hearings.{IsHeardSome, AreFed, HasHeard, HasHeardAll, HeardOn, StopsShort, IsCausedBy, refused_as};
 ghost use Rattle.hdmi_cli.specs.declared.hearing.HearError.TheVariants.{Bad, Read, Ear as EarFailed};
 
 use capture_file::{CaptureError, CaptureFault, CaptureReader};
@@ -129,6 +129,7 @@ pub(crate) fn hear_capture<R: Threads, S: Source, E: Ear, G: Gate>(
     ensures heard { IfOk result (λ outcome. (fed : Fed) × (things : List Thing) × AreTold fed.blue fed.green fed.red outcome things × E.took ear.old ear.new things
         × ((bytes : List ℕ) → S.left input.old ≡ Some bytes → IsCaptureOf fed.blue fed.green fed.red bytes)) }
     ensures ended { OnOk result (IsAtEnd (S.left input.new)) }
+    ensures some { IfErr result (λ e. (e ≡ EarFailed → ⊥) → IsHeardSome E.took ear.old ear.new) }
     ensures bad { (bytes : List ℕ) (fault : FaultValue) → S.left input.old ≡ Some bytes → IfErr result (λ e. e ≡ Bad fault
         → IsFault bytes fault × ((fed : Fed) × AreBefore bytes (place_of fault) fed × IsHeardSoFar E.took fed ear.old ear.new)) }
     ensures read { IfErr result (λ e. e ≡ Read → Rose (S.faults input.old) (S.faults input.new)

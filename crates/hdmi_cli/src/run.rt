@@ -16,7 +16,7 @@ ghost use Rattle.hdmi_cli.specs.Headline.{AreTapped, IsRecovered};
 ghost use Rattle.hdmi_cli.specs.Exact.{IsAlignedCapture, IsJudged};
 ghost use Rattle.hdmi_cli.specs.Listings.{link_listing, content_listing};
 ghost use Rattle.hdmi_cli.specs.Outcome.{Outcome, IsOutcome, NamesNone};
-ghost use Rattle.hdmi_cli.specs.Endings.{Ends, RunEnds, RunUnread, RunUnwritten, StreamEnds, damage_ending, heard_ending, judged_ending};
+ghost use Rattle.hdmi_cli.specs.Endings.{Ends, RunEnds, RunUnread, RunUnwritten, StreamEnds, damage_ending, heard_ending, judged_ending, raster_ending};
 ghost use Rattle.hdmi_cli.specs.Runs.{IsNoteOf};
 ghost use Rattle.command_line.specs.declared.command.Command.TheVariants.{MakeLink, MakeContent, RecoverLink, RecoverContent, Check, Damage};
 
@@ -227,8 +227,20 @@ fn make_content<S: Source, K: Sink>(
     };
     match raster(alloc, &mode, &content) {
         Ok(stream) => write_stream(alloc, &stream, words, output),
-        Err(RasterFault::NoMemory) => Ending::NoMemory,
-        Err(fault) => Ending::Raster(fault),
+        Err(fault) => unrastered(fault),
+    }
+}
+
+/// How a command ends whose content has no raster.
+fn unrastered(fault: RasterFault) -> Ending
+    ensures { result ≡ raster_ending fault }
+{
+    match fault {
+        RasterFault::NoMemory => Ending::NoMemory,
+        RasterFault::BadMode(_) => Ending::Raster(fault),
+        RasterFault::Row { .. } => Ending::Raster(fault),
+        RasterFault::NoRoom { .. } => Ending::Raster(fault),
+        RasterFault::Long => Ending::Raster(fault),
     }
 }
 

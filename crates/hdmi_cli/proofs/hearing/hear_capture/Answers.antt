@@ -3,7 +3,7 @@ use Rattle.std.proofs.lemmas.Result.{err_from_is_err_and}
 use Rattle.outside_io.specs.Causes.{Rose}
 use Rattle.hdmi_cli.specs.Hearings.{StopsShort, IsCausedBy}
 use Rattle.hdmi_cli.specs.declared.hearing.HearError.{HearError}
-use Rattle.hdmi_cli.proofs.Hearings.{Breaks, carried, headless, heard_head, heard_whole, unended, bad_of, read_of, broken_of}
+use Rattle.hdmi_cli.proofs.Hearings.{Breaks, carried, headless, heard_head, heard_whole, unended, some_heard, bad_of, read_of, broken_of}
 use Rattle.hdmi_cli.proofs.hearing.hear_capture.Goals as goal
 
 pub returns-in-Err : goal.returns-in-Err
@@ -22,6 +22,7 @@ returns-in-Err g c =
     record {
       heard = tt;
       ended = tt;
+      some = λ other. some_heard took broke (left old) (left new) ear ear c.refused.result short other;
       bad = bad_of took broke (left old) (left c.args.input.now) (left new) ear ear c.refused.result (ap left was) short;
       read = read_of took broke left g.S.Source.faults old c.args.input.now new _ faults faults ear ear c.refused.result was (search rules) short cause;
       broken = broken_of took broke left old c.args.input.now new _ (g.S.Source.faults old) (g.S.Source.faults new) faults faults ear ear c.refused.result was (search rules) short cause;
@@ -48,6 +49,7 @@ returns-in_err-hear_blocks g c =
     record {
       heard = rw p.1 tt;
       ended = rw p.1 tt;
+      some = rw (p.1, p.2) (λ other. some_heard took broke (left old) (left new) ear then e short other);
       bad = λ bytes fault is. rw (p.1, p.2) (bad_of took broke (left old) (left c.args.input.now) (left new) ear then e (ap left was) short bytes fault is);
       read = rw (p.1, p.2) (read_of took broke left g.S.Source.faults old c.args.input.now new _ (g.E.Ear.faults ear) (g.E.Ear.faults then) ear then e was (search rules) short cause);
       broken =

@@ -11,7 +11,7 @@ use Rattle.hdmi_cli.specs.Listings.{check_listing}
 use Rattle.hdmi_cli.specs.declared.ending.Ending.{Ending}
 use Rattle.hdmi_cli.specs.declared.ending.Ending.TheVariants.{Unaligned}
 use Rattle.hdmi_cli.proofs.Listings.{Writes, between, after_check, last_check, check_is_text}
-use Rattle.hdmi_cli.proofs.Heard.{IsLists, seen, unheard_ends, nowhere_ends, heard_ends}
+use Rattle.hdmi_cli.proofs.Heard.{IsLists, Unheard, kept_unheard, seen, unheard_ends, nowhere_ends, heard_ends}
 use Rattle.hdmi_cli.proofs.run.list_check.Goals as goal
 
 lists : IsLists check_listing Check
@@ -40,9 +40,13 @@ returns-in-Ok-2-clause-ends g c =
     between (λ x y. Ends Check Unaligned (seen (g.S.Source.left c.args.input.now) (g.S.Source.faults c.args.input.now) (g.K.Sink.held x) (g.K.Sink.faults x)) (seen (g.S.Source.left c.hear_capture.new.input) (g.S.Source.faults c.hear_capture.new.input) (g.K.Sink.held y) (g.K.Sink.faults y))) c.args.output.now _ _ _ c.open-lister.ensures.sink same
     (nowhere_ends check_listing after_check last_check Check heard.0 c.in-Ok-2.field-0 heard.1 _ _ lists check_is_text heard.2 not heard.4 (search rules) heard.3.2)
 
-pub returns-clause-ends : goal.returns-clause-ends
-returns-clause-ends g c =
-    let same : c.in-Err.output-in-Err-1-own.given.0 ≡ c.hear_capture.new.ear.sink.now = search rules in
+pub returns-in-Err-clause-ends : goal.returns-in-Err-clause-ends
+returns-in-Err-clause-ends g c =
+    let unheard : Unheard _ _ (g.S.Source.left c.args.input.now) (g.S.Source.left c.hear_capture.new.input) (g.S.Source.faults c.args.input.now) (g.S.Source.faults c.hear_capture.new.input)
+            c.open-lister.result c.hear_capture.new.ear (g.K.Sink.faults c.open-lister.result.sink.now) (g.K.Sink.faults c.hear_capture.new.ear.sink.now) c.in-Err.error =
+    record { bad = c.in-Err.ensures.bad; read = c.in-Err.ensures.read; broken = c.in-Err.ensures.broken } in
+    let kept = kept_unheard _ _ (λ (l : CheckLister g.row.K.Denot). l.sink.ghost_name) _ _ _ _ c.open-lister.result c.hear_capture.new.ear _ _ c.in-Err.error (λ x y h taken. taken.0) (λ x y t broken. broken.0) c.in-Err.ensures.some unheard in
+    let same : c.in-Err.output-in-Err-1-own.given.0 ≡ c.hear_capture.new.ear.sink.now = c.in-Err.output-in-Err-1-own.given.1 (sym (kept ∙ c.open-lister.ensures.same)) in
     let writes : Writes check_listing after_check _ _ (λ (l : CheckLister g.row.K.Denot). g.K.Sink.held l.sink.now) c.open-lister.result = record {
       grows = λ x h taken. taken.2;
       breaks = λ x y h t taken broken. let line = sym (checked_line t broken.2.2) in (
@@ -53,13 +57,13 @@ returns-clause-ends g c =
     } in
     subst (λ (e : Ending). Ends Check e (seen (g.S.Source.left c.args.input.now) (g.S.Source.faults c.args.input.now) (g.K.Sink.held c.args.output.now) (g.K.Sink.faults c.args.output.now)) (seen (g.S.Source.left c.hear_capture.new.input) (g.S.Source.faults c.hear_capture.new.input) (g.K.Sink.held c.in-Err.output-in-Err-1-own.given.0) (g.K.Sink.faults c.in-Err.output-in-Err-1-own.given.0))) (sym c.unheard.ensures)
     (between (λ x y. Ends Check (heard_ending c.in-Err.error) (seen (g.S.Source.left c.args.input.now) (g.S.Source.faults c.args.input.now) (g.K.Sink.held x) (g.K.Sink.faults x)) (seen (g.S.Source.left c.hear_capture.new.input) (g.S.Source.faults c.hear_capture.new.input) (g.K.Sink.held y) (g.K.Sink.faults y))) c.args.output.now _ _ _ c.open-lister.ensures.sink same
-    (unheard_ends check_listing after_check last_check Check _ _ (λ (l : CheckLister g.row.K.Denot). g.K.Sink.held l.sink.now) (λ (l : CheckLister g.row.K.Denot). g.K.Sink.faults l.sink.now) _ _ _ _ c.open-lister.result c.hear_capture.new.ear c.in-Err.error lists check_is_text writes (record {
-      bad = c.in-Err.ensures.bad;
-      read = c.in-Err.ensures.read;
-      broken = c.in-Err.ensures.broken;
-    })))
+    (unheard_ends check_listing after_check last_check Check _ _ (λ (l : CheckLister g.row.K.Denot). g.K.Sink.held l.sink.now) (λ (l : CheckLister g.row.K.Denot). g.K.Sink.faults l.sink.now) _ _ _ _ c.open-lister.result c.hear_capture.new.ear c.in-Err.error lists check_is_text writes unheard))
 
-pub returns-clause-output_later : goal.returns-clause-output_later
-returns-clause-output_later g c =
-    let same : c.in-Err.output-in-Err-1-own.given.0 ≡ c.hear_capture.new.ear.sink.now = search rules in
+pub returns-in-Err-clause-output_later : goal.returns-in-Err-clause-output_later
+returns-in-Err-clause-output_later g c =
+    let unheard : Unheard _ _ (g.S.Source.left c.args.input.now) (g.S.Source.left c.hear_capture.new.input) (g.S.Source.faults c.args.input.now) (g.S.Source.faults c.hear_capture.new.input)
+            c.open-lister.result c.hear_capture.new.ear (g.K.Sink.faults c.open-lister.result.sink.now) (g.K.Sink.faults c.hear_capture.new.ear.sink.now) c.in-Err.error =
+    record { bad = c.in-Err.ensures.bad; read = c.in-Err.ensures.read; broken = c.in-Err.ensures.broken } in
+    let kept = kept_unheard _ _ (λ (l : CheckLister g.row.K.Denot). l.sink.ghost_name) _ _ _ _ c.open-lister.result c.hear_capture.new.ear _ _ c.in-Err.error (λ x y h taken. taken.0) (λ x y t broken. broken.0) c.in-Err.ensures.some unheard in
+    let same : c.in-Err.output-in-Err-1-own.given.0 ≡ c.hear_capture.new.ear.sink.now = c.in-Err.output-in-Err-1-own.given.1 (sym (kept ∙ c.open-lister.ensures.same)) in
     between (λ x y. g.K.Sink.faults x ≤ g.K.Sink.faults y) c.args.output.now _ _ _ c.open-lister.ensures.sink same c.hear_capture.ensures.ear_later

@@ -10,7 +10,7 @@ use Rattle.hdmi_cli.specs.Listings.{content_listing}
 use Rattle.hdmi_cli.specs.declared.ending.Ending.{Ending}
 use Rattle.hdmi_cli.specs.declared.ending.Ending.TheVariants.{Unaligned}
 use Rattle.hdmi_cli.proofs.Listings.{Writes, between, after_content, last_link, content_is_text, written_first, recalls_first, broken_after, counted_first}
-use Rattle.hdmi_cli.proofs.Heard.{IsLists, seen, unheard_ends, nowhere_ends, heard_ends}
+use Rattle.hdmi_cli.proofs.Heard.{IsLists, Unheard, kept_unheard, seen, unheard_ends, nowhere_ends, heard_ends}
 use Rattle.hdmi_cli.proofs.run.list_content.Goals as goal
 
 lists : IsLists content_listing RecoverContent
@@ -37,22 +37,26 @@ returns-in-Ok-2-clause-ends g c =
     between (λ x y. Ends RecoverContent Unaligned (seen (g.S.Source.left c.args.input.now) (g.S.Source.faults c.args.input.now) (g.K.Sink.held x) (g.K.Sink.faults x)) (seen (g.S.Source.left c.hear_capture.new.input) (g.S.Source.faults c.hear_capture.new.input) (g.K.Sink.held y) (g.K.Sink.faults y))) c.args.output.now _ _ _ c.open-lister.ensures.sink same
     (nowhere_ends content_listing after_content last_link RecoverContent heard.0 c.in-Ok-2.field-0 heard.1 _ _ lists content_is_text heard.2 not heard.4 (search rules) (written_first c.open-lister.result.past _ heard.1 _ _ _ _ (heard.3.1 [] c.open-lister.ensures.fresh)))
 
-pub returns-clause-ends : goal.returns-clause-ends
-returns-clause-ends g c =
-    let same : c.in-Err.output-in-Err-1-own.given.0 ≡ c.hear_capture.new.ear.sink.now = search rules in
+pub returns-in-Err-clause-ends : goal.returns-in-Err-clause-ends
+returns-in-Err-clause-ends g c =
+    let unheard : Unheard _ _ (g.S.Source.left c.args.input.now) (g.S.Source.left c.hear_capture.new.input) (g.S.Source.faults c.args.input.now) (g.S.Source.faults c.hear_capture.new.input)
+            c.open-lister.result c.hear_capture.new.ear (g.K.Sink.faults c.open-lister.result.sink.now) (g.K.Sink.faults c.hear_capture.new.ear.sink.now) c.in-Err.error =
+    record { bad = c.in-Err.ensures.bad; read = c.in-Err.ensures.read; broken = c.in-Err.ensures.broken } in
+    let kept = kept_unheard _ _ (λ (l : ContentLister g.row.K.Denot). l.sink.ghost_name) _ _ _ _ c.open-lister.result c.hear_capture.new.ear _ _ c.in-Err.error (λ x y h taken. taken.0) (λ x y t broken. broken.0) c.in-Err.ensures.some unheard in
+    let same : c.in-Err.output-in-Err-1-own.given.0 ≡ c.hear_capture.new.ear.sink.now = c.in-Err.output-in-Err-1-own.given.1 (sym (kept ∙ c.open-lister.ensures.same)) in
     let writes : Writes content_listing after_content _ _ (λ (l : ContentLister g.row.K.Denot). g.K.Sink.held l.sink.now) c.open-lister.result = record {
       grows = λ x h taken. written_first c.open-lister.result.past x.past h _ _ _ _ (taken.1 [] c.open-lister.ensures.fresh);
-      breaks = λ x y h t taken broken. broken_after x.past h t _ _ (broken.1 h (recalls_first c.open-lister.result.past x.past h _ _ _ _ (taken.1 [] c.open-lister.ensures.fresh)));
+      breaks = λ x y h t taken broken. broken_after x.past h t _ _ (broken.2 h (recalls_first c.open-lister.result.past x.past h _ _ _ _ (taken.1 [] c.open-lister.ensures.fresh)));
     } in
     subst (λ (e : Ending). Ends RecoverContent e (seen (g.S.Source.left c.args.input.now) (g.S.Source.faults c.args.input.now) (g.K.Sink.held c.args.output.now) (g.K.Sink.faults c.args.output.now)) (seen (g.S.Source.left c.hear_capture.new.input) (g.S.Source.faults c.hear_capture.new.input) (g.K.Sink.held c.in-Err.output-in-Err-1-own.given.0) (g.K.Sink.faults c.in-Err.output-in-Err-1-own.given.0))) (sym c.unheard.ensures)
     (between (λ x y. Ends RecoverContent (heard_ending c.in-Err.error) (seen (g.S.Source.left c.args.input.now) (g.S.Source.faults c.args.input.now) (g.K.Sink.held x) (g.K.Sink.faults x)) (seen (g.S.Source.left c.hear_capture.new.input) (g.S.Source.faults c.hear_capture.new.input) (g.K.Sink.held y) (g.K.Sink.faults y))) c.args.output.now _ _ _ c.open-lister.ensures.sink same
-    (unheard_ends content_listing after_content last_link RecoverContent _ _ (λ (l : ContentLister g.row.K.Denot). g.K.Sink.held l.sink.now) (λ (l : ContentLister g.row.K.Denot). g.K.Sink.faults l.sink.now) _ _ _ _ c.open-lister.result c.hear_capture.new.ear c.in-Err.error lists content_is_text writes (record {
-      bad = c.in-Err.ensures.bad;
-      read = c.in-Err.ensures.read;
-      broken = c.in-Err.ensures.broken;
-    })))
+    (unheard_ends content_listing after_content last_link RecoverContent _ _ (λ (l : ContentLister g.row.K.Denot). g.K.Sink.held l.sink.now) (λ (l : ContentLister g.row.K.Denot). g.K.Sink.faults l.sink.now) _ _ _ _ c.open-lister.result c.hear_capture.new.ear c.in-Err.error lists content_is_text writes unheard))
 
-pub returns-clause-output_later : goal.returns-clause-output_later
-returns-clause-output_later g c =
-    let same : c.in-Err.output-in-Err-1-own.given.0 ≡ c.hear_capture.new.ear.sink.now = search rules in
+pub returns-in-Err-clause-output_later : goal.returns-in-Err-clause-output_later
+returns-in-Err-clause-output_later g c =
+    let unheard : Unheard _ _ (g.S.Source.left c.args.input.now) (g.S.Source.left c.hear_capture.new.input) (g.S.Source.faults c.args.input.now) (g.S.Source.faults c.hear_capture.new.input)
+            c.open-lister.result c.hear_capture.new.ear (g.K.Sink.faults c.open-lister.result.sink.now) (g.K.Sink.faults c.hear_capture.new.ear.sink.now) c.in-Err.error =
+    record { bad = c.in-Err.ensures.bad; read = c.in-Err.ensures.read; broken = c.in-Err.ensures.broken } in
+    let kept = kept_unheard _ _ (λ (l : ContentLister g.row.K.Denot). l.sink.ghost_name) _ _ _ _ c.open-lister.result c.hear_capture.new.ear _ _ c.in-Err.error (λ x y h taken. taken.0) (λ x y t broken. broken.0) c.in-Err.ensures.some unheard in
+    let same : c.in-Err.output-in-Err-1-own.given.0 ≡ c.hear_capture.new.ear.sink.now = c.in-Err.output-in-Err-1-own.given.1 (sym (kept ∙ c.open-lister.ensures.same)) in
     between (λ x y. g.K.Sink.faults x ≤ g.K.Sink.faults y) c.args.output.now _ _ _ c.open-lister.ensures.sink same c.hear_capture.ensures.ear_later

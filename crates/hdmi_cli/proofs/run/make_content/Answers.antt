@@ -1,12 +1,13 @@
 use Rattle.std.proofs.Common.{rules, ◌≡◌, ℕ, List, Some, Ok, Err, refl, sym, subst}
 use Rattle.hdmi_cli.specs.Commands.{tap_asked}
-use Rattle.hdmi_cli.specs.Endings.{Devices, IsAnswered}
+use Rattle.hdmi_cli.specs.Endings.{Devices, IsAnswered, Ends}
 use Rattle.command_line.specs.declared.command.Command.TheVariants.{MakeContent}
-use Rattle.hdmi_cli.specs.declared.ending.Ending.TheVariants.{Listing, Raster}
+use Rattle.hdmi_cli.specs.declared.ending.Ending.{Ending}
+use Rattle.hdmi_cli.specs.declared.ending.Ending.TheVariants.{Listing}
 use Rattle.listing.specs.declared.fault.ListFault.{ListFault}
 use Rattle.listing.specs.LineSteps.{accepts}
 use Rattle.listing.specs.ContentReading.{content_reads_as}
-use Rattle.hdmi_cli.proofs.Answered.{bad_content, read_contents, content_refused, raster_refused, stream_ends, makes_content}
+use Rattle.hdmi_cli.proofs.Answered.{bad_content, read_contents, content_refused, raster_ends, stream_ends, makes_content}
 use Rattle.hdmi_cli.proofs.run.make_content.Goals as goal
 
 pub returns-in-Err-Bad-clause-ends : goal.returns-in-Err-Bad-clause-ends
@@ -28,16 +29,10 @@ returns-in-Ok-raster-clause-ends g c =
     (λ text o told made. makes_content c.args.words.now c.in-Ok.read.0 c.in-Ok.read.1 c.raster.result c.in-Ok-raster.stream text o (accepts text told) c.raster.ensures.fault c.in-Ok-raster.is (search rules) made)
     (λ parts. parts) (search rules) c.write_stream.ensures.ends
 
-pub returns : goal.returns
-returns g c =
+pub returns-clause-ends : goal.returns-clause-ends
+returns-clause-ends g c =
     let before : Devices = record { left = g.S.Source.left c.args.input.now; input_faults = g.S.Source.faults c.args.input.now; held = g.K.Sink.held c.args.output.now; output_faults = g.K.Sink.faults c.args.output.now } in
     let after : Devices = record { left = g.S.Source.left c.read_content.new.source; input_faults = g.S.Source.faults c.read_content.new.source; held = g.K.Sink.held c.args.output.now; output_faults = g.K.Sink.faults c.args.output.now } in
-    record {
-      ends = (
-        search rules,
-        λ text told. raster_refused c.args.words.now c.in-Ok.read.0 c.in-Ok.read.1 c.raster.result c.in-Err.fault before after text
-            (read_contents _ c.read_content.result c.in-Ok.read (c.read_content.ensures.answers text told) c.in-Ok.is) c.raster.ensures.fault c.in-Err.is ? refl,
-      );
-      input_later = search rules;
-      output_later = search rules;
-    }
+    subst (λ (e : Ending). Ends (MakeContent c.args.words.now) e before after) (sym c.unrastered.ensures)
+    (raster_ends c.args.words.now c.in-Ok.read.0 c.in-Ok.read.1 c.raster.result c.in-Err.fault before after
+    (λ text told. read_contents _ c.read_content.result c.in-Ok.read (c.read_content.ensures.answers text told) c.in-Ok.is) c.raster.ensures.fault c.in-Err.is refl)
