@@ -4,6 +4,8 @@
 #[cfg(test)]
 mod cases_bad;
 #[cfg(test)]
+mod cases_content;
+#[cfg(test)]
 mod cases_damage;
 #[cfg(test)]
 mod cases_dense;
@@ -20,8 +22,12 @@ mod cases_sparse;
 #[cfg(test)]
 mod cases_tap;
 #[cfg(test)]
+mod cases_version;
+#[cfg(test)]
 mod cases_wild;
 mod ending;
+#[cfg(test)]
+mod gate_tests;
 mod hearing;
 mod hit;
 mod note;

@@ -1,6 +1,6 @@
 //! Runs of the program over sources and sinks in memory, and tables of what they must answer.
 use crate::{Words, run};
-use lane_team::Open;
+use lane_team::{Gate, Open};
 use outside_io::{MemSink, MemSource};
 use std::alloc::Global;
 use std::process::Abort;
@@ -40,6 +40,17 @@ pub(crate) fn answer_of(
     input: &[u8],
     devices: &Devices<'_>,
 ) -> Result<Answer, Fail> {
+    answer_through(rt, words, input, devices, &Open)
+}
+
+/// The same, where the workers pass a gate.
+pub(crate) fn answer_through<G: Gate>(
+    rt: &(impl Threads + AllocGlobal),
+    words: &[&str],
+    input: &[u8],
+    devices: &Devices<'_>,
+    gate: &G,
+) -> Result<Answer, Fail> {
     let alloc = rt.alloc();
     let mut list = Words::new(alloc);
     for word in words {
@@ -50,7 +61,7 @@ pub(crate) fn answer_of(
     let mut input = MemSource::new(input.to_vec(alloc)?, devices.read.max(1), reads);
     let mut output = MemSink::new(alloc, 65_536, devices.write.max(1), writes)?;
     let mut notes = MemSink::new(alloc, 4096, 4096, Vec::new(alloc))?;
-    let status = run(rt, alloc, &list, &mut input, &mut output, &mut notes, &Open);
+    let status = run(rt, alloc, &list, &mut input, &mut output, &mut notes, gate);
     Ok(Answer {
         status,
         output: output.bytes().to_vec(alloc)?,

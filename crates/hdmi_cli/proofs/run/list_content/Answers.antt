@@ -40,7 +40,7 @@ returns-in-Ok-2-clause-ends g c =
 pub returns-in-Err-clause-ends : goal.returns-in-Err-clause-ends
 returns-in-Err-clause-ends g c =
     let unheard : Unheard _ _ (g.S.Source.left c.args.input.now) (g.S.Source.left c.hear_capture.new.input) (g.S.Source.faults c.args.input.now) (g.S.Source.faults c.hear_capture.new.input)
-            c.open-lister.result c.hear_capture.new.ear (g.K.Sink.faults c.open-lister.result.sink.now) (g.K.Sink.faults c.hear_capture.new.ear.sink.now) c.in-Err.error =
+    c.open-lister.result c.hear_capture.new.ear (g.K.Sink.faults c.open-lister.result.sink.now) (g.K.Sink.faults c.hear_capture.new.ear.sink.now) c.in-Err.error =
     record { bad = c.in-Err.ensures.bad; read = c.in-Err.ensures.read; broken = c.in-Err.ensures.broken } in
     let kept = kept_unheard _ _ (λ (l : ContentLister g.row.K.Denot). l.sink.ghost_name) _ _ _ _ c.open-lister.result c.hear_capture.new.ear _ _ c.in-Err.error (λ x y h taken. taken.0) (λ x y t broken. broken.0) c.in-Err.ensures.some unheard in
     let same : c.in-Err.output-in-Err-1-own.given.0 ≡ c.hear_capture.new.ear.sink.now = c.in-Err.output-in-Err-1-own.given.1 (sym (kept ∙ c.open-lister.ensures.same)) in
@@ -55,7 +55,7 @@ returns-in-Err-clause-ends g c =
 pub returns-in-Err-clause-output_later : goal.returns-in-Err-clause-output_later
 returns-in-Err-clause-output_later g c =
     let unheard : Unheard _ _ (g.S.Source.left c.args.input.now) (g.S.Source.left c.hear_capture.new.input) (g.S.Source.faults c.args.input.now) (g.S.Source.faults c.hear_capture.new.input)
-            c.open-lister.result c.hear_capture.new.ear (g.K.Sink.faults c.open-lister.result.sink.now) (g.K.Sink.faults c.hear_capture.new.ear.sink.now) c.in-Err.error =
+    c.open-lister.result c.hear_capture.new.ear (g.K.Sink.faults c.open-lister.result.sink.now) (g.K.Sink.faults c.hear_capture.new.ear.sink.now) c.in-Err.error =
     record { bad = c.in-Err.ensures.bad; read = c.in-Err.ensures.read; broken = c.in-Err.ensures.broken } in
     let kept = kept_unheard _ _ (λ (l : ContentLister g.row.K.Denot). l.sink.ghost_name) _ _ _ _ c.open-lister.result c.hear_capture.new.ear _ _ c.in-Err.error (λ x y h taken. taken.0) (λ x y t broken. broken.0) c.in-Err.ensures.some unheard in
     let same : c.in-Err.output-in-Err-1-own.given.0 ≡ c.hear_capture.new.ear.sink.now = c.in-Err.output-in-Err-1-own.given.1 (sym (kept ∙ c.open-lister.ensures.same)) in
