@@ -12,9 +12,8 @@ ghost use Rattle.listing.specs.Told.{AnswersCause};
 use crate::ListCause;
 use crate::content_fields::blank_packet;
 use crate::content_form::ContentForm;
-use crate::reader::Refusal;
+use crate::reader::{Refusal, decode_row};
 use audio_packets::{Sample, write_samples};
-use hex::FromHexError;
 use island_pack::Packet;
 use outside_io::NoMemory;
 use source_end::{Content, Mode};
@@ -392,18 +391,6 @@ impl ContentReader {
             Some(mode) => (mode, self.content),
             None => unreachable!(),
         }
-    }
-}
-
-/// The bytes of hexadecimal digits. A byte that is no digit is a fault of the line's form.
-fn decode_row(alloc: Global, digits: &[u8]) -> Result<Vec<u8>, Refusal>
-    ensures ok { IfOk result (λ bytes. decode_of digits.now ≡ Ok bytes.items) }
-    ensures err { IfErr result (λ refusal. (refusal ≡ Refusal.NoMemory) ⊎ ((refusal ≡ Refusal.Cause ListCause.Form) × IsErr (decode_of digits.now))) }
-{
-    match hex::decode(alloc, digits) {
-        Ok(bytes) => Ok(bytes),
-        Err(FromHexError::OutOfMemory) => Err(Refusal::NoMemory),
-        Err(_) => Err(Refusal::Cause(ListCause::Form)),
     }
 }
 

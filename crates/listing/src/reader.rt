@@ -517,13 +517,25 @@ fn decode_pixels(alloc: Global, digits: &[u8]) -> Result<Pixels, Refusal>
     ensures ok { IfOk result (λ pixels. decode_of digits.now ≡ Ok pixels) }
     ensures err { IfErr result (λ refusal. (refusal ≡ Refusal.NoMemory) ⊎ ((refusal ≡ Refusal.Cause ListCause.Form) × IsErr (decode_of digits.now))) }
 {
+    let bytes = decode_row(alloc, digits)?;
+    Ok(Pixels::from_bytes(bytes))
+}
+
+/// The bytes of the hexadecimal digits of a row of pixels. A byte that is no digit is a fault of the
+/// line's form.
+pub(crate) fn decode_row(alloc: Global, digits: &[u8]) -> Result<Vec<u8>, Refusal>
+    requires { length digits.now % 6 ≡ 0 }
+    ensures whole { IfOk result (λ bytes. length bytes.items % 3 ≡ 0) }
+    ensures ok { IfOk result (λ bytes. decode_of digits.now ≡ Ok bytes.items) }
+    ensures err { IfErr result (λ refusal. (refusal ≡ Refusal.NoMemory) ⊎ ((refusal ≡ Refusal.Cause ListCause.Form) × IsErr (decode_of digits.now))) }
+{
     if !are_digits(digits) {
         return Err(Refusal::Cause(ListCause::Form));
     }
     match zeros(alloc, digits.len() / 2) {
         Ok(mut bytes) => {
             put_bytes(digits, &mut bytes);
-            Ok(Pixels::from_bytes(bytes))
+            Ok(bytes)
         }
         Err(error) => Err(error.into()),
     }
