@@ -23,8 +23,8 @@ pub(crate) fn chunk_len(bits: u32, j: u32) -> u32
 /// The bits of one lane in one block, packed eight to a byte. It is seen as these bits.
 #[derive(Drop)]
 pub(crate) struct Chunk {
-    bytes: [u8; 4096],
-    count: u32,
+    pub(crate) bytes: [u8; 4096],
+    pub(crate) count: u32,
 }
 
 impl Model for Chunk {
@@ -89,7 +89,7 @@ impl Chunk {
 fn read_front<S: Source>(
     source: &mut S,
     bytes: &mut [u8; 4096],
-    count: u32,
+    pub(crate) count: u32,
     place: u64,
 ) -> Result<(), CaptureError>
     requires few { count ≤ 32768 }
@@ -111,7 +111,7 @@ fn read_front<S: Source>(
 fn read_part<S: Source>(
     source: &mut S,
     part: &mut [u8],
-    count: u32,
+    pub(crate) count: u32,
     place: u64,
 ) -> Result<(), CaptureError>
     requires few { count ≤ 32768 }
