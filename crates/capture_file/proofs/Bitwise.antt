@@ -1,15 +1,15 @@
 -- Bits of a chunk that are set one after another, and what they are in the whole lane.
-use Rattle.std.proofs.Common.{◌≡◌, ℕ, suc, zero, ◌+◌, ◌-◌, ◌*◌, ◌/◌, ◌%◌, ◌^◌, ◌<◌, ◌≤◌, Bool, false, List, [], ◌∷◌, ◌++◌, length, take, drop, get_or, set, refl, ap, ap₂, ◌∙◌, sym, arith, subst, inl, inr, length-append, length-drop, length-take, length-take-le, take-append-drop}
+use Rattle.std.proofs.Common.{◌≡◌, ℕ, suc, zero, ◌+◌, ◌-◌, ◌*◌, ◌/◌, ◌%◌, ◌^◌, ◌<◌, ◌≤◌, Bool, false, List, [], ◌∷◌, ◌++◌, length, take, drop, get_or, set, ◌==◌, refl, ap, ap₂, ◌∙◌, sym, arith, subst, inl, inr, length-append, length-drop, length-take, length-take-le, take-append-drop}
 use Rattle.std.specs.Prelude.{◌⊎◌, slice_index}
 use Rattle.std.proofs.Math.Nat.{mod-eq_of_lt, div-eq_of_lt}
 use Rattle.std.proofs.Math.Pow.{pow_mono}
-use Rattle.std.proofs.Math.Seq.{take-set-lt}
+use Rattle.std.proofs.Math.Seq.{take-set-lt, take-append_seam}
 use Rattle.std.proofs.lemmas.Bool.{cases_lt}
 use Rattle.std.proofs.lemmas.List.{length-set, set-append_left, get_or-take}
 use Rattle.tmds_word.specs.Bits.{bits_of, word_bits, bytes_bits, bytes_of, number}
-use Rattle.tmds_word.proofs.Lists.{length-bytes_bits, length-word_bits}
+use Rattle.tmds_word.proofs.Lists.{length-bytes_bits, length-word_bits, bytes_bits-append}
 use Rattle.tmds_word.proofs.Numbers.{number-append, number-drop}
-use Rattle.tmds_word.proofs.Setting.{one_more, none_replaced, byte_set}
+use Rattle.tmds_word.proofs.Setting.{one_more, none_replaced, bit_at}
 use Rattle.capture_file.specs.Layout.{packed}
 use Rattle.capture_file.specs.Captures.{AreBytes}
 use Rattle.capture_file.proofs.Rooms.{front_bits}
@@ -93,39 +93,42 @@ packed_set bytes now u count i v own len lt are same is =
     mul_zero : (m : ℕ) → m * 0 ≡ 0
     mul_zero m = omega arith
 
-set_bytes : (xs : List ℕ) (n b : ℕ) → AreBytes xs → b < 256 → AreBytes (set xs n b)
-set_bytes [] n b are lt i = are i
-set_bytes (x ∷ xs) zero b are lt zero = lt
-set_bytes (x ∷ xs) zero b are lt (suc i) = are (suc i)
-set_bytes (x ∷ xs) (suc n) b are lt zero = are 0
-set_bytes (x ∷ xs) (suc n) b are lt (suc i) = set_bytes xs n b (λ k. are (suc k)) lt i
+bits_take : (k : ℕ) (bs : List ℕ) → k ≤ length bs → bytes_bits (take k bs) ≡ take (8 * k) (bytes_bits bs)
+bits_take k bs le =
+    let front = take k bs in
+    let len : 8 * k ≡ length (bytes_bits front) = omega (arith, length-bytes_bits front, length-take-le k bs le) in
+    sym (
+    ap (λ n. take n (bytes_bits bs)) len
+    ∙ ap (λ xs. take (length (bytes_bits front)) xs) (ap bytes_bits (sym (take-append-drop k bs)) ∙ bytes_bits-append front (drop k bs))
+    ∙ take-append_seam (bytes_bits front) (bytes_bits (drop k bs))
+    )
 
 -- a bit set in the room of a chunk
 pub record ChunkSet (bytes now : List ℕ) (count i : ℕ) (v : Bool) : Type 0 where
-  pub size : length now ≡ length bytes
   pub spared : take ((count + 7) / 8) now ≡ packed (take count (bytes_bits now))
   pub view : take count (bytes_bits now) ≡ set (take count (bytes_bits bytes)) i v
 
-pub chunk_set : (bytes : List ℕ) (count i b : ℕ) (v : Bool) → length bytes ≡ 4096 → count ≤ 32768 → take ((count + 7) / 8) bytes ≡ packed (take count (bytes_bits bytes)) → i < count
-    → AreBytes bytes → b < 256 → bits_of 8 b ≡ set (bits_of 8 (get_or bytes (i / 8) 0)) (i % 8) v → ChunkSet bytes (set bytes (i / 8) b) count i v
-chunk_set bytes count i b v size few own lt are byte is =
+pub chunk_set : (bytes now : List ℕ) (count i : ℕ) (v : Bool) → length bytes ≡ 4096 → count ≤ 32768 → take ((count + 7) / 8) bytes ≡ packed (take count (bytes_bits bytes)) → i < count
+    → AreBytes now → length now ≡ 4096 → bytes_bits now ≡ set (bytes_bits bytes) i v → ChunkSet bytes now count i v
+chunk_set bytes now count i v size few own lt are same is =
     let k = (count + 7) / 8 in
-    let at = i / 8 in
     let front = take k bytes in
-    let now = set bytes at b in
+    let new = take k now in
     let u = take count (bytes_bits bytes) in
     let len : length front ≡ k = length-take-le k bytes (omega (arith, size, few)) in
+    let len_new : length new ≡ k = length-take-le k now (omega (arith, same, few)) in
     let long : length u ≡ count = length-take-le count (bytes_bits bytes) (omega (arith, size, few, length-bytes_bits bytes)) in
-    let cut : take k now ≡ set front at b = take-set-lt k bytes at b (omega (arith, lt)) in
-    let here : get_or front at 0 ≡ get_or bytes at 0 = get_or-take k bytes at 0 (omega (arith, lt)) in
-    let bits : bytes_bits (set front at b) ≡ set (bytes_bits front) i v =
-    byte_set front i b v (omega (arith, len, lt)) (is ∙ ap (λ c. set (bits_of 8 c) (i % 8) v) (sym here)) in
-    let packs = packed_set front (set front at b) u count i v own long lt (set_bytes front at b (take_bytes k bytes are) byte) (length-set front at b) bits in
-    let same : take count (bytes_bits now) ≡ take count (bytes_bits (set front at b)) =
-    ap (λ bs. take count (bytes_bits bs)) (sym (take-append-drop k now) ∙ ap (λ xs. xs ++ drop k now) cut)
-    ∙ front_bits (set front at b) (drop k now) count (length-set front at b ∙ len) in
+    let bits : bytes_bits new ≡ set (bytes_bits front) i v =
+    bits_take k now (omega (arith, same, few)) ∙ ap (λ xs. take (8 * k) xs) is ∙ take-set-lt (8 * k) (bytes_bits bytes) i v (omega (arith, lt)) ∙ ap (λ xs. set xs i v) (sym (bits_take k bytes (omega (arith, size, few)))) in
+    let packs = packed_set front new u count i v own long lt (take_bytes k now are) (len_new ∙ sym len) bits in
+    let front_same : take count (bytes_bits now) ≡ take count (bytes_bits new) =
+    ap (λ bs. take count (bytes_bits bs)) (sym (take-append-drop k now)) ∙ front_bits new (drop k now) count len_new in
     record {
-      size = length-set bytes at b;
-      spared = cut ∙ packs ∙ ap packed (sym same);
-      view = ap (λ xs. take count xs) (byte_set bytes i b v (omega (arith, size, lt, few)) is) ∙ take-set-lt count (bytes_bits bytes) i v lt;
+      spared = packs ∙ ap packed (sym front_same);
+      view = ap (λ xs. take count xs) is ∙ take-set-lt count (bytes_bits bytes) i v lt;
     }
+
+-- the bit that a character sends
+pub sent_is : (w k : ℕ) (v : Bool) → k < 10 → v ≡ ((w / 2 ^ k) % 2 == 1) → v ≡ get_or (word_bits w) k false
+unfolding word_bits
+sent_is w k v lt is = is ∙ sym (bit_at 10 k w lt)

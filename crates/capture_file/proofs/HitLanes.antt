@@ -35,3 +35,7 @@ hit_own false h row e = cc
 pub hit_other : (b : Bool) (h : Hit) (row : List Bool) → b ≡ false → hit_by b h row ≡ row
 hit_other true h row e = cc
 hit_other false h row e = refl
+
+pub hurt_none : (lane : ℕ) (row : List Bool) → hurt lane [] row ≡ row
+unfolding hurt
+hurt_none lane row = refl

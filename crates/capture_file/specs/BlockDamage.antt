@@ -6,6 +6,9 @@ use Rattle.capture_file.specs.Captures.{counts_of, header_of, IsHeader, lane_blo
 use Rattle.capture_file.specs.Layout.{packed, blocks_below}
 use Rattle.capture_file.specs.Damage.{hurt}
 use Rattle.capture_file.specs.declared.damaging.Hit.{Hit}
+use Rattle.capture_file.specs.declared.damaging.DamageError.{DamageError}
+use Rattle.capture_file.specs.declared.damaging.DamageError.TheVariants.{Bad, Place, Read, Write, NoMemory}
+use Rattle.capture_file.specs.declared.reading.CaptureFault.{CaptureFault}
 
 -- the ten bits of each hit lie within its own lane
 abbrev pub FitsLane : List ℕ → Hit → Type 0
@@ -39,3 +42,24 @@ pub record Halfway (version : ℕ) (counts : List ℕ) (hits : List Hit) (j : �
   pub wrote :
       (u v w : List Bool) → length (x ++ u) ≡ slice_index counts 0 → length (y ++ v) ≡ slice_index counts 1 → length (z ++ w) ≡ slice_index counts 2
       → Appends before now (header_of version counts ++ blocks_below j (packed (hurt 0 hits (x ++ u))) (packed (hurt 1 hits (y ++ v))) (packed (hurt 2 hits (z ++ w))))
+
+-- what a fault says, where an error is one
+abbrev pub SaysFault : (CaptureFault → Type 0) → DamageError → Type 0
+SaysFault says (Bad fault) = says fault
+SaysFault says (Place i) = ⊥
+SaysFault says Read = Unit {0}
+SaysFault says Write = Unit {0}
+SaysFault says NoMemory = ⊥
+
+-- block j was taken too, and written damaged in a part alone
+pub record CutIn (version : ℕ) (counts : List ℕ) (hits : List Hit) (j : ℕ) (taken : List ℕ) (before now : Option (List ℕ)) : Type 0 where
+  pub x : List Bool
+  pub y : List Bool
+  pub z : List Bool
+  pub read : Stands version counts (j + 1) taken x y z
+  pub gone : ℕ
+  pub missing : gone < length taken
+  pub most : length taken ≤ gone + block_size j counts
+  pub wrote :
+      (u v w : List Bool) → length (x ++ u) ≡ slice_index counts 0 → length (y ++ v) ≡ slice_index counts 1 → length (z ++ w) ≡ slice_index counts 2
+      → Appends before now (take gone (header_of version counts ++ blocks_below (j + 1) (packed (hurt 0 hits (x ++ u))) (packed (hurt 1 hits (y ++ v))) (packed (hurt 2 hits (z ++ w)))))

@@ -56,7 +56,8 @@ impl Chunk {
 
     /// The bits, packed.
     pub(crate) fn as_bytes(&self) -> &[u8]
-        ensures { result.now ≡ packed self.now }
+        ensures bytes { result.now ≡ packed self.now }
+        ensures few { length result.now ≤ 4096 }
     {
         &self.bytes[..self.count.div_ceil(8) as usize]
     }
@@ -89,7 +90,7 @@ impl Chunk {
 fn read_front<S: Source>(
     source: &mut S,
     bytes: &mut [u8; 4096],
-    pub(crate) count: u32,
+    count: u32,
     place: u64,
 ) -> Result<(), CaptureError>
     requires few { count ≤ 32768 }
@@ -111,7 +112,7 @@ fn read_front<S: Source>(
 fn read_part<S: Source>(
     source: &mut S,
     part: &mut [u8],
-    pub(crate) count: u32,
+    count: u32,
     place: u64,
 ) -> Result<(), CaptureError>
     requires few { count ≤ 32768 }

@@ -1,7 +1,7 @@
 use Rattle.std.proofs.Common.{◌≡◌, ◌+◌, ◌≤◌, ◌++◌, Bool, List, length, take, drop}
 use Rattle.capture_file.specs.Damage.{hurt}
 use Rattle.capture_file.specs.BlockDamage.{LaneFits}
-use Rattle.capture_file.proofs.block_damage.Chunk.hit_all.Given as goal
+use Rattle.capture_file.proofs.chunk.Chunk.hit_all.Given as goal
 
 abbrev pub invariant-loop-hit : goal.invariant-loop-hit
 invariant-loop-hit l = record {
