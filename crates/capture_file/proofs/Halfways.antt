@@ -8,12 +8,14 @@ use Rattle.std.specs.Io.KnownBytes.{Appends}
 use Rattle.capture_file.specs.Layout.{packed, chunk, block, blocks_below, blocks_of}
 use Rattle.capture_file.specs.Captures.{counts_of, header_of, IsHeader, CanSay, HasRead, Stands, lane_blocks, bits_in, block_size, place_at}
 use Rattle.capture_file.specs.Damage.{hurt}
-use Rattle.capture_file.specs.BlockDamage.{AllFitLanes, LaneFits, Halfway, HurtChunk}
+use Rattle.capture_file.specs.BlockDamage.{AllFitLanes, LaneFits, Halfway, HurtChunk, CutIn}
 use Rattle.capture_file.specs.declared.damaging.Hit.{Hit}
 use Rattle.capture_file.proofs.Packing.{length-packed, chunk-part}
-use Rattle.capture_file.proofs.Parts.{block_is, blocks-more, Appends-two}
+use Rattle.capture_file.proofs.Parts.{block_is, blocks-more, Appends-two, Appends-part}
+use Rattle.capture_file.proofs.Pieces.{three, piece_of, length-pieces, length-piece, blocks-pieces}
 use Rattle.capture_file.proofs.Takings.{chunk_past, nothing_packed, nothing}
 use Rattle.capture_file.proofs.Standing.{stands_more}
+use Rattle.capture_file.proofs.Heads.{same_heads}
 use Rattle.capture_file.proofs.HitLanes.{hurt_long}
 
 lane_fits : (counts : List ℕ) (hits : List Hit) (lane n : ℕ) → AllFitLanes counts hits → n ≡ slice_index counts lane → LaneFits lane n hits
@@ -46,6 +48,15 @@ hurt_chunk lane t j hits x a u now lx la all fit h =
           chunk_past j w (omega (arith, len, la, none)) ∙ sym (ap packed empty ∙ nothing_packed)
     ]
 
+-- the header stays the version's
+next_head : (version : ℕ) (counts taken part : List ℕ) (x y z : List Bool) (j place : ℕ) → CanSay version counts → (head blocks : List ℕ) → taken ≡ head ++ blocks → head ≡ header_of version counts
+    → (r : HasRead counts j place (taken ++ part) x y z) → r.head ≡ header_of version counts
+next_head version counts taken part x y z j place said head blocks is own r =
+    let h = header_of version counts in
+    let headed : IsHeader h counts = record { version = version; said = said; head_is = refl } in
+    (same_heads r.head h counts counts (blocks_below j (packed x) (packed y) (packed z)) (blocks ++ part) r.headed headed
+    (sym r.taken_is ∙ ap (λ xs. xs ++ part) (is ∙ ap (λ xs. xs ++ blocks) own) ∙ append_assoc h blocks part)).same
+
 -- a block more
 pub halfway_more : (version : ℕ) (counts : List ℕ) (hits : List Hit) (j : ℕ) (taken : List ℕ) (before mid now : Option (List ℕ)) (a b d a' b' d' : List Bool)
     → AllFitLanes counts hits → length a ≡ bits_in j (slice_index counts 0) → length b ≡ bits_in j (slice_index counts 1) → length d ≡ bits_in j (slice_index counts 2)
@@ -58,6 +69,9 @@ halfway_more version counts hits j taken before mid now a b d a' b' d' fit la lb
       y = was.y ++ b;
       z = was.z ++ d;
       read = stands_more version counts j taken was.x was.y was.z a b d was.read la lb ld;
+      said = was.said;
+      head_is = next_head version counts taken ((packed a ++ packed b) ++ packed d) (was.x ++ a) (was.y ++ b) (was.z ++ d) (j + 1) _ was.said was.read.head (blocks_below j (packed was.x) (packed was.y) (packed was.z)) was.read.taken_is was.head_is
+          (stands_more version counts j taken was.x was.y was.z a b d was.read la lb ld);
       wrote = λ u v w eu ev ew.
           let f = hurt 0 hits (was.x ++ (a ++ u)) in
           let g = hurt 1 hits (was.y ++ (b ++ v)) in
@@ -78,4 +92,78 @@ halfway_more version counts hits j taken before mid now a b d a' b' d' fit la lb
           ap (λ r. head ++ blocks_below (j + 1) (packed (hurt 0 hits r)) (packed (hurt 1 hits ((was.y ++ b) ++ v))) (packed (hurt 2 hits ((was.z ++ d) ++ w)))) e0
           ∙ ap₂ (λ r s. head ++ blocks_below (j + 1) (packed f) (packed (hurt 1 hits r)) (packed (hurt 2 hits s))) e1 e2 in
           Appends-two before mid now (head ++ blocks_below j (packed f) (packed g) (packed h)) ((packed a' ++ packed b') ++ packed d') _ (same ∙ all) first wrote;
+    }
+
+-- the blocks below one have as many bytes, damaged or not, and whatever the lanes go on with
+by_lane : (counts : List ℕ) (j : ℕ) (x y z f g h : List Bool) → length x ≡ min (slice_index counts 0) (32768 * j) → length y ≡ min (slice_index counts 1) (32768 * j) → length z ≡ min (slice_index counts 2) (32768 * j)
+    → length f ≡ slice_index counts 0 → length g ≡ slice_index counts 1 → length h ≡ slice_index counts 2 → (c : ℕ) → length (three x y z c) ≡ min (length (three f g h c)) (32768 * j)
+unfolding three
+by_lane counts j x y z f g h ex ey ez ef eg eh zero = omega (arith, ex, ef)
+by_lane counts j x y z f g h ex ey ez ef eg eh (suc zero) = omega (arith, ey, eg)
+by_lane counts j x y z f g h ex ey ez ef eg eh (suc (suc c)) = omega (arith, ez, eh)
+
+same_long : (counts : List ℕ) (j : ℕ) (x y z f g h : List Bool) → length x ≡ min (slice_index counts 0) (32768 * j) → length y ≡ min (slice_index counts 1) (32768 * j) → length z ≡ min (slice_index counts 2) (32768 * j)
+    → length f ≡ slice_index counts 0 → length g ≡ slice_index counts 1 → length h ≡ slice_index counts 2
+    → length (blocks_below j (packed f) (packed g) (packed h)) ≡ length (blocks_below j (packed x) (packed y) (packed z))
+same_long counts j x y z f g h ex ey ez ef eg eh =
+    let one : (k : ℕ) → k < 3 * j → length (piece_of (three f g h) k) ≡ length (piece_of (three x y z) k) =
+    λ k lt. omega (arith, lt, length-piece (three f g h) k (length (three f g h (k % 3))) refl, length-piece (three x y z) k (length (three x y z (k % 3))) refl, by_lane counts j x y z f g h ex ey ez ef eg eh (k % 3)) in
+    ap length (blocks-pieces j f g h) ∙ length-pieces (3 * j) (piece_of (three f g h)) (piece_of (three x y z)) one ∙ sym (ap length (blocks-pieces j x y z))
+
+-- a block that is written in a part alone
+pub halfway_cut : (version : ℕ) (counts : List ℕ) (hits : List Hit) (j gone : ℕ) (taken : List ℕ) (before mid now : Option (List ℕ)) (a b d a' b' d' : List Bool)
+    → AllFitLanes counts hits → length a ≡ bits_in j (slice_index counts 0) → length b ≡ bits_in j (slice_index counts 1) → length d ≡ bits_in j (slice_index counts 2)
+    → HurtChunk 0 (32768 * j) hits a a' → HurtChunk 1 (32768 * j) hits b b' → HurtChunk 2 (32768 * j) hits d d' → gone < length ((packed a' ++ packed b') ++ packed d')
+    → Appends mid now (take gone ((packed a' ++ packed b') ++ packed d')) → Halfway version counts hits j taken before mid → CutIn version counts hits j (taken ++ ((packed a ++ packed b) ++ packed d)) before now
+halfway_cut version counts hits j gone taken before mid now a b d a' b' d' fit la lb ld ha hb hd less wrote was =
+    let head = header_of version counts in
+    let own = (packed a' ++ packed b') ++ packed d' in
+    let old = (packed a ++ packed b) ++ packed d in
+    let long : length own ≡ length old =
+    omega (
+      arith, ha.long, hb.long, hd.long,
+      length-append (packed a' ++ packed b') (packed d'), length-append (packed a') (packed b'), length-append (packed a ++ packed b) (packed d), length-append (packed a) (packed b),
+      length-packed a, length-packed b, length-packed d, length-packed a', length-packed b', length-packed d',
+    ) in
+    let size : length old ≡ block_size j counts =
+    omega (arith, la, lb, ld, length-append (packed a ++ packed b) (packed d), length-append (packed a) (packed b), length-packed a, length-packed b, length-packed d) in
+    record {
+      x = was.x ++ a;
+      y = was.y ++ b;
+      z = was.z ++ d;
+      read = stands_more version counts j taken was.x was.y was.z a b d was.read la lb ld;
+      gone = length taken + gone;
+      missing = omega (arith, less, long, length-append taken old);
+      most = omega (arith, size, length-append taken old);
+      wrote = λ u v w eu ev ew.
+          let f = hurt 0 hits (was.x ++ (a ++ u)) in
+          let g = hurt 1 hits (was.y ++ (b ++ v)) in
+          let h = hurt 2 hits (was.z ++ (d ++ w)) in
+          let e0 = append_assoc was.x a u in
+          let e1 = append_assoc was.y b v in
+          let e2 = append_assoc was.z d w in
+          let t0 = ap length (sym e0) ∙ eu in
+          let t1 = ap length (sym e1) ∙ ev in
+          let t2 = ap length (sym e2) ∙ ew in
+          let first = was.wrote (a ++ u) (b ++ v) (d ++ w) t0 t1 t2 in
+          let c0 = hurt_chunk 0 (slice_index counts 0) j hits was.x a u a' was.read.count_x la eu (lane_fits counts hits 0 (slice_index counts 0) fit refl) ha in
+          let c1 = hurt_chunk 1 (slice_index counts 1) j hits was.y b v b' was.read.count_y lb ev (lane_fits counts hits 1 (slice_index counts 1) fit refl) hb in
+          let c2 = hurt_chunk 2 (slice_index counts 2) j hits was.z d w d' was.read.count_z ld ew (lane_fits counts hits 2 (slice_index counts 2) fit refl) hd in
+          let f_long = hurt_all 0 hits (was.x ++ (a ++ u)) (lane_fits counts hits 0 (length (was.x ++ (a ++ u))) fit t0) ∙ t0 in
+          let g_long = hurt_all 1 hits (was.y ++ (b ++ v)) (lane_fits counts hits 1 (length (was.y ++ (b ++ v))) fit t1) ∙ t1 in
+          let h_long = hurt_all 2 hits (was.z ++ (d ++ w)) (lane_fits counts hits 2 (length (was.z ++ (d ++ w))) fit t2) ∙ t2 in
+          let front = head ++ blocks_below j (packed f) (packed g) (packed h) in
+          let front_long : length front ≡ length taken =
+          omega (
+            arith, same_long counts j was.x was.y was.z f g h was.read.count_x was.read.count_y was.read.count_z f_long g_long h_long, length-append head (blocks_below j (packed f) (packed g) (packed h)),
+            ap length was.read.taken_is, length-append was.read.head (blocks_below j (packed was.x) (packed was.y) (packed was.z)), ap length was.head_is,
+          ) in
+          let own_block : block j (packed f) (packed g) (packed h) ≡ own =
+          block_is j (packed f) (packed g) (packed h) ∙ ap₂ (λ p q. (p ++ q) ++ chunk j (packed h)) c0 c1 ∙ ap (λ q. (packed a' ++ packed b') ++ q) c2 in
+          let all : head ++ blocks_below (j + 1) (packed f) (packed g) (packed h) ≡ front ++ own = blocks-more head (packed f) (packed g) (packed h) j ∙ ap (λ q. front ++ q) own_block in
+          let same : head ++ blocks_below (j + 1) (packed (hurt 0 hits ((was.x ++ a) ++ u))) (packed (hurt 1 hits ((was.y ++ b) ++ v))) (packed (hurt 2 hits ((was.z ++ d) ++ w)))
+              ≡ head ++ blocks_below (j + 1) (packed f) (packed g) (packed h) =
+          ap (λ r. head ++ blocks_below (j + 1) (packed (hurt 0 hits r)) (packed (hurt 1 hits ((was.y ++ b) ++ v))) (packed (hurt 2 hits ((was.z ++ d) ++ w)))) e0
+          ∙ ap₂ (λ r s. head ++ blocks_below (j + 1) (packed f) (packed (hurt 1 hits r)) (packed (hurt 2 hits s))) e1 e2 in
+          Appends-part before mid now front own [] _ (length taken) gone (same ∙ all ∙ sym (append-nil (front ++ own))) front_long less first wrote;
     }

@@ -2,7 +2,7 @@
 -- It is defined on each beginning of a capture that has the header.
 use Rattle.std.specs.Prelude.{◌≡◌, ◌⊎◌, ℕ, ◌+◌, ◌^◌, ◌<◌, ◌≤◌, Bool, List, [], ◌∷◌, ◌++◌, length, take, slice_get, slice_index, Some, Option, drop}
 use Rattle.std.specs.Io.KnownBytes.{Appends, Keeps, Consumes}
-use Rattle.capture_file.specs.Captures.{counts_of, header_of, IsHeader, lane_blocks, HasRead, Stands, StopsIn, IsHeadless, block_size}
+use Rattle.capture_file.specs.Captures.{counts_of, header_of, CanSay, IsHeader, lane_blocks, HasRead, Stands, StopsIn, IsHeadless, block_size}
 use Rattle.capture_file.specs.Layout.{packed, blocks_below}
 use Rattle.capture_file.specs.Damage.{hurt}
 use Rattle.capture_file.specs.declared.damaging.Hit.{Hit}
@@ -39,6 +39,8 @@ pub record Halfway (version : ℕ) (counts : List ℕ) (hits : List Hit) (j : �
   pub y : List Bool
   pub z : List Bool
   pub read : Stands version counts j taken x y z
+  pub said : CanSay version counts
+  pub head_is : read.head ≡ header_of version counts
   pub wrote :
       (u v w : List Bool) → length (x ++ u) ≡ slice_index counts 0 → length (y ++ v) ≡ slice_index counts 1 → length (z ++ w) ≡ slice_index counts 2
       → Appends before now (header_of version counts ++ blocks_below j (packed (hurt 0 hits (x ++ u))) (packed (hurt 1 hits (y ++ v))) (packed (hurt 2 hits (z ++ w))))
