@@ -2,7 +2,7 @@
 -- It is defined on each beginning of a capture that has the header.
 use Rattle.std.specs.Prelude.{◌≡◌, ◌⊎◌, ℕ, ◌+◌, ◌^◌, ◌<◌, ◌≤◌, Bool, List, [], ◌∷◌, ◌++◌, length, take, slice_get, slice_index, Some, Option, drop}
 use Rattle.std.specs.Io.KnownBytes.{Appends, Keeps, Consumes}
-use Rattle.capture_file.specs.Captures.{counts_of, header_of, CanSay, IsHeader, lane_blocks, HasRead, Stands, StopsIn, IsHeadless, block_size}
+use Rattle.capture_file.specs.Captures.{counts_of, header_of, CanSay, IsHeader, lane_blocks, HasRead, Stands, StopsIn, IsHeadless, IsFault, place_of, block_size}
 use Rattle.capture_file.specs.Layout.{packed, blocks_below}
 use Rattle.capture_file.specs.Damage.{hurt}
 use Rattle.capture_file.specs.declared.damaging.Hit.{Hit}
@@ -65,3 +65,13 @@ pub record CutIn (version : ℕ) (counts : List ℕ) (hits : List Hit) (j : ℕ)
   pub wrote :
       (u v w : List Bool) → length (x ++ u) ≡ slice_index counts 0 → length (y ++ v) ≡ slice_index counts 1 → length (z ++ w) ≡ slice_index counts 2
       → Appends before now (take gone (header_of version counts ++ blocks_below (j + 1) (packed (hurt 0 hits (x ++ u))) (packed (hurt 1 hits (y ++ v))) (packed (hurt 2 hits (z ++ w)))))
+
+-- a fault behind the header: as far as the last whole block before its place all was taken and written damaged
+pub record IsLateFault (version : ℕ) (counts : List ℕ) (hits : List Hit) (bytes taken : List ℕ) (before now : Option (List ℕ)) (fault : CaptureFault) : Type 0 where
+  pub block : ℕ
+  pub part : List ℕ
+  pub rest : List ℕ
+  pub bytes_are : bytes ≡ part ++ rest
+  pub half : Halfway version counts hits block (taken ++ part) before now
+  pub is : IsFault (taken ++ bytes) fault
+  pub stops : StopsIn counts block (taken ++ part) (place_of fault)

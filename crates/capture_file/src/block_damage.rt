@@ -1,15 +1,17 @@
 //! Blocks with some of their bits replaced.
-ghost use Rattle.std.specs.Prelude.{◌≡◌, ℕ, ◌+◌, ◌-◌, ◌*◌, ◌^◌, ◌<◌, ◌≤◌, Bool, List, ◌++◌, length, take, drop, slice_set, All, Option, Some, Err, IfSome, IfNone, IfErr, OnOk};
-ghost use Rattle.std.specs.Io.KnownBytes.{Appends, Consumes, Keeps};
+ghost use Rattle.std.specs.Prelude.{◌≡◌, ◌⊎◌, [], ℕ, ◌+◌, ◌-◌, ◌*◌, ◌^◌, ◌<◌, ◌≤◌, Bool, List, ◌++◌, length, take, drop, slice_set, All, Option, Some, Err, IfSome, IfNone, IfErr, OnOk};
+ghost use Rattle.std.specs.Io.KnownBytes.{Appends, Consumes, Keeps, IsAtEnd};
 ghost use Rattle.outside_io.specs.Causes.{HasCause, Rose};
 ghost use Rattle.capture_file.specs.Layout.{packed};
 ghost use Rattle.tmds_word.specs.Bits.{bits_of, bytes_bits};
 ghost use Rattle.capture_file.specs.Damage.{with_word};
 ghost use Rattle.capture_file.specs.Captures.{AreBytes, IsFault, StopsIn, place_of, block_size};
-ghost use Rattle.capture_file.specs.BlockDamage.{HurtChunk, AllFitLanes, IsFirstPastLane, Halfway, CutIn, SaysFault};
+ghost use Rattle.capture_file.specs.BlockDamage.{HurtChunk, AllFitLanes, IsFirstPastLane, Halfway, CutIn, SaysFault, IsLateFault};
 ghost use Rattle.capture_file.specs.declared.damaging.DamageError.TheVariants.{Read, Write};
 
 use crate::chunk::{Chunk, Chunks};
+use crate::chunks::blocks_for;
+use crate::filling::read_end;
 use crate::heading::Heading;
 use crate::writing::write_piece;
 use crate::{DamageError, Hit};
@@ -174,5 +176,42 @@ fn damage_block<S: Source, K: Sink>(
     match chunks.write(out) {
         Ok(()) => Ok(()),
         Err(_) => Err(DamageError::Write),
+    }
+}
+
+/// Damages every block of a capture whose header is taken and written, to the end of its bytes.
+fn damage_lanes<S: Source, K: Sink>(
+    source: &mut S,
+    heading: Heading,
+    hits: &[Hit],
+    out: &mut K,
+) -> Result<(), DamageError>
+    requires fits { AllFitLanes heading.bits hits.now }
+    ensures done { (bytes taken : List ℕ) (before : Option (List ℕ)) → S.left source.old ≡ Some bytes → Halfway heading.version heading.bits hits.now 0 taken before (K.held out.old)
+        → OnOk result ((j : ℕ) × (block_size j heading.bits ≡ 0) × Halfway heading.version heading.bits hits.now j (taken ++ bytes) before (K.held out.new)) }
+    ensures err { (bytes taken : List ℕ) (before : Option (List ℕ)) → S.left source.old ≡ Some bytes → Halfway heading.version heading.bits hits.now 0 taken before (K.held out.old)
+        → IfErr result (λ e. SaysFault (λ fault. IsLateFault heading.version heading.bits hits.now bytes taken before (K.held out.new) fault) e) }
+    ensures part { (taken : List ℕ) (before : Option (List ℕ)) → Halfway heading.version heading.bits hits.now 0 taken before (K.held out.old) → result ≡ Err Read
+        → (j : ℕ) × (part more : List ℕ) × Halfway heading.version heading.bits hits.now j (taken ++ part) before (K.held out.new)
+        × ((length more < block_size j heading.bits) ⊎ (more ≡ [])) × Consumes (S.left source.old) (S.left source.new) (part ++ more) }
+    ensures cut { (taken : List ℕ) (before : Option (List ℕ)) → Halfway heading.version heading.bits hits.now 0 taken before (K.held out.old) → result ≡ Err Write
+        → (j : ℕ) × (part : List ℕ) × Consumes (S.left source.old) (S.left source.new) part × CutIn heading.version heading.bits hits.now j (taken ++ part) before (K.held out.new) }
+    ensures ended { OnOk result (IsAtEnd (S.left source.new)) }
+    ensures read_cause { result ≡ Err Read → Rose (S.faults source.old) (S.faults source.new) }
+    ensures write_cause { result ≡ Err Write → Rose (K.faults out.old) (K.faults out.new) }
+    ensures input_later { S.faults source.old ≤ S.faults source.new }
+    ensures output_later { K.faults out.old ≤ K.faults out.new }
+{
+    let most = heading.bits[0].max(heading.bits[1].max(heading.bits[2]));
+    let blocks = blocks_for(most);
+    let mut chunks = Chunks::new();
+    for j in 0..blocks {
+        if let Err(error) = damage_block(source, heading, j, hits, &mut chunks, out) {
+            return Err(error);
+        }
+    }
+    match read_end(source, heading.place(blocks)) {
+        Ok(()) => Ok(()),
+        Err(error) => Err(DamageError::from(error)),
     }
 }
