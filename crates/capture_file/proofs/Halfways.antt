@@ -1,14 +1,17 @@
 -- A capture that is damaged block by block.
 use Rattle.std.proofs.Common.{◌≡◌, ℕ, suc, zero, ◌+◌, ◌-◌, ◌*◌, ◌/◌, ◌%◌, ◌^◌, ◌<◌, ◌≤◌, Bool, false, List, [], ◌∷◌, ◌++◌, length, take, drop, min, max, replicate, refl, ap, ap₂, ◌∙◌, sym, arith, subst, inl, inr, append_assoc, append-nil, length-append, length-drop, length-take-le}
-use Rattle.std.specs.Prelude.{Option, slice_index, slice_get, Some}
+use Rattle.std.specs.Prelude.{Option, slice_index, slice_get, Some, None}
 use Rattle.std.proofs.Math.Seq.{take-append_seam, drop-append_seam}
 use Rattle.std.proofs.lemmas.Bool.{cases_lt}
 use Rattle.std.proofs.lemmas.List.{take_all, length-replicate}
-use Rattle.std.specs.Io.KnownBytes.{Appends}
+use Rattle.std.specs.Io.KnownBytes.{Appends, Keeps}
 use Rattle.capture_file.specs.Layout.{packed, chunk, block, blocks_below, blocks_of}
-use Rattle.capture_file.specs.Captures.{counts_of, header_of, IsHeader, CanSay, HasRead, Stands, lane_blocks, bits_in, block_size, place_at}
+use Rattle.capture_file.specs.Captures.{counts_of, header_of, IsHeader, CanSay, HasRead, Stands, lane_blocks, bits_in, block_size, place_at, place_of, IsFault, StopsIn}
 use Rattle.capture_file.specs.Damage.{hurt}
-use Rattle.capture_file.specs.BlockDamage.{AllFitLanes, LaneFits, Halfway, HurtChunk, CutIn}
+use Rattle.capture_file.specs.BlockDamage.{AllFitLanes, LaneFits, Halfway, HurtChunk, CutIn, SaysFault, IsLateFault}
+use Rattle.capture_file.specs.declared.damaging.DamageError.{DamageError}
+use Rattle.capture_file.specs.declared.damaging.DamageError.TheVariants.{Bad, Place, Read, Write, NoMemory}
+use Rattle.capture_file.specs.declared.reading.CaptureFault.{CaptureFault}
 use Rattle.capture_file.specs.declared.damaging.Hit.{Hit}
 use Rattle.capture_file.proofs.Packing.{length-packed, chunk-part}
 use Rattle.capture_file.proofs.Parts.{block_is, blocks-more, Appends-two, Appends-part}
@@ -167,3 +170,38 @@ halfway_cut version counts hits j gone taken before mid now a b d a' b' d' fit l
           ∙ ap₂ (λ r s. head ++ blocks_below (j + 1) (packed f) (packed (hurt 1 hits r)) (packed (hurt 2 hits s))) e1 e2 in
           Appends-part before mid now front own [] _ (length taken) gone (same ∙ all ∙ sym (append-nil (front ++ own))) front_long less first wrote;
     }
+
+appends_kept : (a b c : Option (List ℕ)) (bs : List ℕ) → Appends a b bs → Keeps b c → Appends a c bs
+appends_kept None b c bs h k = tt
+appends_kept (Some x) None c bs h k = absurd h
+appends_kept (Some x) (Some y) None bs h k = absurd k
+appends_kept (Some x) (Some y) (Some z) bs h k = k ∙ h
+
+pub halfway_kept : (version : ℕ) (counts : List ℕ) (hits : List Hit) (j : ℕ) (taken : List ℕ) (before mid now : Option (List ℕ)) → Keeps mid now → Halfway version counts hits j taken before mid → Halfway version counts hits j taken before now
+halfway_kept version counts hits j taken before mid now k h = record {
+  x = h.x;
+  y = h.y;
+  z = h.z;
+  read = h.read;
+  said = h.said;
+  head_is = h.head_is;
+  wrote = λ u v w eu ev ew. appends_kept before mid now _ (h.wrote u v w eu ev ew) k;
+}
+
+-- a fault in a block is one of all the bytes
+pub late_fault : (version : ℕ) (counts : List ℕ) (hits : List Hit) (j : ℕ) (bytes taken part rest : List ℕ) (before mid now : Option (List ℕ)) (e : DamageError) → bytes ≡ part ++ rest
+    → Halfway version counts hits j (taken ++ part) before mid → ((e ≡ Write → ⊥) → Keeps mid now)
+    → SaysFault (λ fault. IsFault ((taken ++ part) ++ rest) fault × StopsIn counts j (taken ++ part) (place_of fault)) e → SaysFault (λ fault. IsLateFault version counts hits bytes taken before now fault) e
+late_fault version counts hits j bytes taken part rest before mid now (Bad fault) is half kept h = record {
+  block = j;
+  part = part;
+  rest = rest;
+  bytes_are = is;
+  half = halfway_kept version counts hits j (taken ++ part) before mid now (kept (λ e. cc)) half;
+  is = subst (λ bs. IsFault bs fault) (append_assoc taken part rest ∙ ap (λ xs. taken ++ xs) (sym is)) h.0;
+  stops = h.1;
+}
+late_fault version counts hits j bytes taken part rest before mid now (Place i) is half kept h = h
+late_fault version counts hits j bytes taken part rest before mid now Read is half kept h = h
+late_fault version counts hits j bytes taken part rest before mid now Write is half kept h = h
+late_fault version counts hits j bytes taken part rest before mid now NoMemory is half kept h = h
