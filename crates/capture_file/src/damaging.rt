@@ -142,7 +142,7 @@ fn first_past(hits: &[Hit], bits: u32) -> Option<u32>
 
 impl Hit {
     /// Whether the ten bits pass the end of lanes of so many bits.
-    fn passes(self, bits: u32) -> bool
+    pub(crate) fn passes(self, bits: u32) -> bool
         ensures { IsTrue result ↔ (bits < self.place + 10) }
     {
         bits < 10 || bits - 10 < self.place

@@ -1,6 +1,7 @@
 //! Captures: the bits of three TMDS lanes as bytes of this project's own layout.
 #![tactic(auto)]
 
+mod block_damage;
 mod capture_reader;
 mod chunk;
 mod chunks;
