@@ -21,10 +21,10 @@ use Rattle.capture_file.proofs.Standing.{stands_more}
 use Rattle.capture_file.proofs.Heads.{same_heads}
 use Rattle.capture_file.proofs.HitLanes.{hurt_long}
 
-lane_fits : (counts : List ℕ) (hits : List Hit) (lane n : ℕ) → AllFitLanes counts hits → n ≡ slice_index counts lane → LaneFits lane n hits
+pub lane_fits : (counts : List ℕ) (hits : List Hit) (lane n : ℕ) → AllFitLanes counts hits → n ≡ slice_index counts lane → LaneFits lane n hits
 lane_fits counts hits lane n fit is i hit at own = omega (arith, is, fit i hit at, ap (λ l. slice_index counts l) own)
 
-hurt_all : (lane : ℕ) (hits : List Hit) (row : List Bool) → LaneFits lane (length row) hits → length (hurt lane hits row) ≡ length row
+pub hurt_all : (lane : ℕ) (hits : List Hit) (row : List Bool) → LaneFits lane (length row) hits → length (hurt lane hits row) ≡ length row
 hurt_all lane hits row fit = ap (λ hs. length (hurt lane hs row)) (sym (take_all (length hits) hits (omega arith))) ∙ hurt_long lane (length hits) hits row fit
 
 -- a chunk of a damaged lane
@@ -135,6 +135,9 @@ halfway_cut version counts hits j gone taken before mid now a b d a' b' d' fit l
       y = was.y ++ b;
       z = was.z ++ d;
       read = stands_more version counts j taken was.x was.y was.z a b d was.read la lb ld;
+      said = was.said;
+      head_is = next_head version counts taken ((packed a ++ packed b) ++ packed d) (was.x ++ a) (was.y ++ b) (was.z ++ d) (j + 1) _ was.said was.read.head (blocks_below j (packed was.x) (packed was.y) (packed was.z)) was.read.taken_is was.head_is
+          (stands_more version counts j taken was.x was.y was.z a b d was.read la lb ld);
       gone = length taken + gone;
       missing = omega (arith, less, long, length-append taken old);
       most = omega (arith, size, length-append taken old);

@@ -20,3 +20,4 @@ pub mod Writes
 pub mod Bitwise
 pub mod HitLanes
 pub mod Halfways
+pub mod Damages

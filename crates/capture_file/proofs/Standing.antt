@@ -45,11 +45,11 @@ stands_more version counts j taken x y z a b d s la lb ld =
     subst (λ p. HasRead counts (j + 1) p (taken ++ ((packed a ++ packed b) ++ packed d)) (x ++ a) (y ++ b) (z ++ d)) (places_next version counts j)
     (block_more counts j (place_at version counts j) taken x y z a b d s la lb ld)
 
-none_below : (a b c : List ℕ) → blocks_below 0 a b c ≡ []
+pub none_below : (a b c : List ℕ) → blocks_below 0 a b c ≡ []
 unfolding blocks_below
 none_below a b c = refl
 
-size_of : (version : ℕ) (counts : List ℕ) → CanSay version counts → length (header_of version counts) ≡ header_size version
+pub size_of : (version : ℕ) (counts : List ℕ) → CanSay version counts → length (header_of version counts) ≡ header_size version
 unfolding header_of header_two header high_first
 size_of version counts s =
     elim (s.shared) [

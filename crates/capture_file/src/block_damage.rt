@@ -1,19 +1,20 @@
 //! Blocks with some of their bits replaced.
-ghost use Rattle.std.specs.Prelude.{◌≡◌, ◌⊎◌, [], ℕ, ◌+◌, ◌-◌, ◌*◌, ◌^◌, ◌<◌, ◌≤◌, Bool, List, ◌++◌, length, take, drop, slice_set, All, Option, Some, Err, IfSome, IfNone, IfErr, OnOk};
+ghost use Rattle.std.specs.Prelude.{◌≡◌, ◌⊎◌, [], ℕ, ◌+◌, ◌-◌, ◌*◌, ◌^◌, ◌<◌, ◌≤◌, Bool, List, ◌++◌, length, take, drop, slice_set, All, Option, Some, Err, IfSome, IfNone, IfOk, IfErr, OnOk};
 ghost use Rattle.std.specs.Io.KnownBytes.{Appends, Consumes, Keeps, IsAtEnd};
 ghost use Rattle.outside_io.specs.Causes.{HasCause, Rose};
 ghost use Rattle.capture_file.specs.Layout.{packed};
 ghost use Rattle.tmds_word.specs.Bits.{bits_of, bytes_bits};
 ghost use Rattle.capture_file.specs.Damage.{with_word};
-ghost use Rattle.capture_file.specs.Captures.{AreBytes, IsFault, StopsIn, place_of, block_size};
-ghost use Rattle.capture_file.specs.BlockDamage.{HurtChunk, AllFitLanes, IsFirstPastLane, Halfway, CutIn, SaysFault, IsLateFault};
-ghost use Rattle.capture_file.specs.declared.damaging.DamageError.TheVariants.{Read, Write};
+ghost use Rattle.capture_file.specs.Captures.{AreBytes, IsFault, StopsIn, place_of, block_size, header_of, CanSay, IsHeadless, IsEarlyFault};
+ghost use Rattle.capture_file.specs.Refusals.{IsReadCause};
+ghost use Rattle.capture_file.specs.BlockDamage.{HurtChunk, AllFitLanes, IsFirstPastLane, Halfway, CutIn, SaysFault, IsLateFault, SaysBad, SaysPlace, SaysUnread, IsMisplacedLane, IsDamagedCapture, IsDamageFault, ReadFailed, WriteFailed};
+ghost use Rattle.capture_file.specs.declared.damaging.DamageError.TheVariants.{Place, Read, Write};
 
 use crate::chunk::{Chunk, Chunks};
 use crate::chunks::blocks_for;
 use crate::filling::read_end;
-use crate::heading::Heading;
-use crate::writing::write_piece;
+use crate::heading::{Heading, read_heading};
+use crate::writing::{write_header, write_piece};
 use crate::{DamageError, Hit};
 use outside_io::{Sink, Source, Wrote};
 use tmds_word::Word;
@@ -160,6 +161,7 @@ fn damage_block<S: Source, K: Sink>(
         → IfErr result (λ e. SaysFault (λ fault. IsFault (taken ++ bytes) fault × StopsIn heading.bits j taken (place_of fault)) e) }
     ensures unwritten { IfErr result (λ e. (e ≡ Write → ⊥) → Keeps (K.held out.old) (K.held out.new)) }
     ensures part { result ≡ Err Read → (part : List ℕ) × (length part < block_size j heading.bits) × Consumes (S.left source.old) (S.left source.new) part }
+    ensures unplaced { (i : ℕ) → result ≡ Err (Place i) → ⊥ }
     ensures cut { (taken : List ℕ) (before : Option (List ℕ)) → Halfway heading.version heading.bits hits.now j taken before (K.held out.old) → result ≡ Err Write
         → (part : List ℕ) × Consumes (S.left source.old) (S.left source.new) part × CutIn heading.version heading.bits hits.now j (taken ++ part) before (K.held out.new) }
     ensures read_cause { result ≡ Err Read → Rose (S.faults source.old) (S.faults source.new) }
@@ -194,6 +196,7 @@ fn damage_lanes<S: Source, K: Sink>(
     ensures part { (taken : List ℕ) (before : Option (List ℕ)) → Halfway heading.version heading.bits hits.now 0 taken before (K.held out.old) → result ≡ Err Read
         → (j : ℕ) × (part more : List ℕ) × Halfway heading.version heading.bits hits.now j (taken ++ part) before (K.held out.new)
         × ((length more < block_size j heading.bits) ⊎ (more ≡ [])) × Consumes (S.left source.old) (S.left source.new) (part ++ more) }
+    ensures unplaced { (i : ℕ) → result ≡ Err (Place i) → ⊥ }
     ensures cut { (taken : List ℕ) (before : Option (List ℕ)) → Halfway heading.version heading.bits hits.now 0 taken before (K.held out.old) → result ≡ Err Write
         → (j : ℕ) × (part : List ℕ) × Consumes (S.left source.old) (S.left source.new) part × CutIn heading.version heading.bits hits.now j (taken ++ part) before (K.held out.new) }
     ensures ended { OnOk result (IsAtEnd (S.left source.new)) }
@@ -213,5 +216,68 @@ fn damage_lanes<S: Source, K: Sink>(
     match read_end(source, heading.place(blocks)) {
         Ok(()) => Ok(()),
         Err(error) => Err(DamageError::from(error)),
+    }
+}
+
+/// Reads the header, which says how many bits each lane has, and judges the places by it.
+fn read_placed<S: Source>(source: &mut S, hits: &[Hit]) -> Result<Heading, DamageError>
+    requires lanes { All (λ h. h.lane < 3) hits.now }
+    requires few { length hits.now < 2 ^ 32 - 1 }
+    ensures ok { IfOk result (λ h. Consumes (S.left source.old) (S.left source.new) (header_of h.version h.bits)) }
+    ensures said { IfOk result (λ h. CanSay h.version h.bits) }
+    ensures fits { IfOk result (λ h. AllFitLanes h.bits hits.now) }
+    ensures err { (bytes : List ℕ) → S.left source.old ≡ Some bytes → IfErr result (λ e. SaysBad (λ fault. IsEarlyFault bytes fault) e) }
+    ensures place { IfErr result (λ e. SaysPlace (λ i. IsMisplacedLane (S.left source.old) (S.left source.new) hits.now i) e) }
+    ensures part { IfErr result (λ e. SaysUnread ((part : List ℕ) × IsHeadless part × Consumes (S.left source.old) (S.left source.new) part) e) }
+    ensures caused { IfErr result (λ e. IsReadCause (S.faults source.old) (S.faults source.new) e) }
+    ensures later { S.faults source.old ≤ S.faults source.new }
+{
+    match read_heading(source) {
+        Ok(heading) => match first_past_lane(hits, heading.bits) {
+            Some(i) => Err(DamageError::Place(i)),
+            None => Ok(heading),
+        },
+        Err(error) => Err(DamageError::from(error)),
+    }
+}
+
+/// Copies a capture of either version with the ten bits at each place replaced, one hit after another. It
+/// reads, damages and writes block by block, and takes no memory. The header stays as it is.
+///
+/// # Errors
+///
+/// `Place` where the header is whole and the ten bits of a hit pass the end of its own lane, with the first
+/// such hit: it is told before anything is written and before more is read. `Bad` where the bytes are no
+/// capture, with the least place that shows it: the header and the whole blocks before that place are
+/// written. `Read` where the source fails: the header and the whole blocks that were read are written.
+/// `Write` where the sink fails: all that was read is written but a part of the last block.
+pub fn damage<S: Source, K: Sink>(
+    source: &mut S,
+    hits: &[Hit],
+    out: &mut K,
+) -> Result<(), DamageError>
+    requires lanes { All (λ h. h.lane < 3) hits.now }
+    requires few { length hits.now < 2 ^ 32 - 1 }
+
+    // Where the source tells its bytes.
+    ensures done { (bytes : List ℕ) → S.left source.old ≡ Some bytes → OnOk result ((whole : List ℕ) × IsDamagedCapture bytes hits.now whole × Appends (K.held out.old) (K.held out.new) whole) }
+    ensures bad { (bytes : List ℕ) → S.left source.old ≡ Some bytes → IfErr result (λ e. SaysBad (λ fault. IsDamageFault bytes hits.now (K.held out.old) (K.held out.new) fault) e) }
+
+    ensures place { (i : ℕ) → result ≡ Err (Place i) → IsMisplacedLane (S.left source.old) (S.left source.new) hits.now i × Keeps (K.held out.old) (K.held out.new) }
+    ensures read { result ≡ Err Read → ReadFailed (S.left source.old) (S.left source.new) hits.now (K.held out.old) (K.held out.new) }
+    ensures part { result ≡ Err Write → WriteFailed (S.left source.old) (S.left source.new) hits.now (K.held out.old) (K.held out.new) }
+    ensures ended { OnOk result (IsAtEnd (S.left source.new)) }
+    ensures read_cause { result ≡ Err Read → Rose (S.faults source.old) (S.faults source.new) }
+    ensures write_cause { result ≡ Err Write → Rose (K.faults out.old) (K.faults out.new) }
+    ensures input_later { S.faults source.old ≤ S.faults source.new }
+    ensures output_later { K.faults out.old ≤ K.faults out.new }
+{
+    let heading = match read_placed(source, hits) {
+        Ok(heading) => heading,
+        Err(error) => return Err(error),
+    };
+    match write_header(heading.version, heading.bits, out) {
+        Ok(_) => damage_lanes(source, heading, hits, out),
+        Err(_) => Err(DamageError::Write),
     }
 }
