@@ -61,7 +61,7 @@ pub untouched : (place w k from n : ℕ) (row : List Bool) → place + 10 ≤ le
 untouched place w zero from n row room le out = ap (λ xs. take n (drop from xs)) (sym (none_replaced row (word_bits w) place))
 untouched place w (suc k) from n row room le out =
     let e : k + 1 ≡ suc k = omega arith in
-    let where_is : (place + k < from) ⊎ (from + n ≤ place + k) = elim out [ | inl before ↦ inl (omega (arith, before, le)) | inr after ↦ inr (omega (arith, after)) ] in
+    let where_is : (place + k < from) ⊎ (from + n ≤ place + k) = elim out [ inl before ↦ inl (omega (arith, before, le)) | inr after ↦ inr (omega (arith, after)) ] in
     ap (λ m. take n (drop from (begun place w m row))) (sym e)
     ∙ ap (λ xs. take n (drop from xs)) (begun_more place w k row room (omega arith))
     ∙ set_outside from n (place + k) (begun place w k row) (get_or (word_bits w) k false) where_is

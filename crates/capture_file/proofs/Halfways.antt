@@ -91,7 +91,7 @@ halfway_more version counts hits j taken before mid now a b d a' b' d' fit la lb
           let all : head ++ blocks_below (j + 1) (packed f) (packed g) (packed h) ≡ (head ++ blocks_below j (packed f) (packed g) (packed h)) ++ ((packed a' ++ packed b') ++ packed d') =
           blocks-more head (packed f) (packed g) (packed h) j ∙ ap (λ q. (head ++ blocks_below j (packed f) (packed g) (packed h)) ++ q) own in
           let same : head ++ blocks_below (j + 1) (packed (hurt 0 hits ((was.x ++ a) ++ u))) (packed (hurt 1 hits ((was.y ++ b) ++ v))) (packed (hurt 2 hits ((was.z ++ d) ++ w)))
-              ≡ head ++ blocks_below (j + 1) (packed f) (packed g) (packed h) =
+          ≡ head ++ blocks_below (j + 1) (packed f) (packed g) (packed h) =
           ap (λ r. head ++ blocks_below (j + 1) (packed (hurt 0 hits r)) (packed (hurt 1 hits ((was.y ++ b) ++ v))) (packed (hurt 2 hits ((was.z ++ d) ++ w)))) e0
           ∙ ap₂ (λ r s. head ++ blocks_below (j + 1) (packed f) (packed (hurt 1 hits r)) (packed (hurt 2 hits s))) e1 e2 in
           Appends-two before mid now (head ++ blocks_below j (packed f) (packed g) (packed h)) ((packed a' ++ packed b') ++ packed d') _ (same ∙ all) first wrote;
@@ -124,9 +124,20 @@ halfway_cut version counts hits j gone taken before mid now a b d a' b' d' fit l
     let old = (packed a ++ packed b) ++ packed d in
     let long : length own ≡ length old =
     omega (
-      arith, ha.long, hb.long, hd.long,
-      length-append (packed a' ++ packed b') (packed d'), length-append (packed a') (packed b'), length-append (packed a ++ packed b) (packed d), length-append (packed a) (packed b),
-      length-packed a, length-packed b, length-packed d, length-packed a', length-packed b', length-packed d',
+      arith,
+      ha.long,
+      hb.long,
+      hd.long,
+      length-append (packed a' ++ packed b') (packed d'),
+      length-append (packed a') (packed b'),
+      length-append (packed a ++ packed b) (packed d),
+      length-append (packed a) (packed b),
+      length-packed a,
+      length-packed b,
+      length-packed d,
+      length-packed a',
+      length-packed b',
+      length-packed d',
     ) in
     let size : length old ≡ block_size j counts =
     omega (arith, la, lb, ld, length-append (packed a ++ packed b) (packed d), length-append (packed a) (packed b), length-packed a, length-packed b, length-packed d) in
@@ -161,14 +172,18 @@ halfway_cut version counts hits j gone taken before mid now a b d a' b' d' fit l
           let front = head ++ blocks_below j (packed f) (packed g) (packed h) in
           let front_long : length front ≡ length taken =
           omega (
-            arith, same_long counts j was.x was.y was.z f g h was.read.count_x was.read.count_y was.read.count_z f_long g_long h_long, length-append head (blocks_below j (packed f) (packed g) (packed h)),
-            ap length was.read.taken_is, length-append was.read.head (blocks_below j (packed was.x) (packed was.y) (packed was.z)), ap length was.head_is,
+            arith,
+            same_long counts j was.x was.y was.z f g h was.read.count_x was.read.count_y was.read.count_z f_long g_long h_long,
+            length-append head (blocks_below j (packed f) (packed g) (packed h)),
+            ap length was.read.taken_is,
+            length-append was.read.head (blocks_below j (packed was.x) (packed was.y) (packed was.z)),
+            ap length was.head_is,
           ) in
           let own_block : block j (packed f) (packed g) (packed h) ≡ own =
           block_is j (packed f) (packed g) (packed h) ∙ ap₂ (λ p q. (p ++ q) ++ chunk j (packed h)) c0 c1 ∙ ap (λ q. (packed a' ++ packed b') ++ q) c2 in
           let all : head ++ blocks_below (j + 1) (packed f) (packed g) (packed h) ≡ front ++ own = blocks-more head (packed f) (packed g) (packed h) j ∙ ap (λ q. front ++ q) own_block in
           let same : head ++ blocks_below (j + 1) (packed (hurt 0 hits ((was.x ++ a) ++ u))) (packed (hurt 1 hits ((was.y ++ b) ++ v))) (packed (hurt 2 hits ((was.z ++ d) ++ w)))
-              ≡ head ++ blocks_below (j + 1) (packed f) (packed g) (packed h) =
+          ≡ head ++ blocks_below (j + 1) (packed f) (packed g) (packed h) =
           ap (λ r. head ++ blocks_below (j + 1) (packed (hurt 0 hits r)) (packed (hurt 1 hits ((was.y ++ b) ++ v))) (packed (hurt 2 hits ((was.z ++ d) ++ w)))) e0
           ∙ ap₂ (λ r s. head ++ blocks_below (j + 1) (packed f) (packed (hurt 1 hits r)) (packed (hurt 2 hits s))) e1 e2 in
           Appends-part before mid now front own [] _ (length taken) gone (same ∙ all ∙ sym (append-nil (front ++ own))) front_long less first wrote;

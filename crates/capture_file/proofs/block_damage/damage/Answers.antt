@@ -25,7 +25,7 @@ returns-in-Ok-write_header-clause-done g c bytes e =
     ((whole : List ℕ) × IsDamagedCapture bytes c.args.hits.now whole × Appends before now whole)
     c.damage_lanes.result
     (λ h. subst (λ bs. (whole : List ℕ) × IsDamagedCapture bs c.args.hits.now whole × Appends before now whole) (sym s.1)
-        (halfway_done a.version a.bits c.args.hits.now h.0 (head ++ s.0) before now c.requires.lanes n.fits h.1 h.2))
+    (halfway_done a.version a.bits c.args.hits.now h.0 (head ++ s.0) before now c.requires.lanes n.fits h.1 h.2))
     (c.damage_lanes.ensures.done s.0 head before s.2 half)
 
 pub returns-in-Ok-write_header-clause-bad : goal.returns-in-Ok-write_header-clause-bad

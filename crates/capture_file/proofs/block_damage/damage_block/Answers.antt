@@ -32,7 +32,7 @@ returns-in-Ok-write-clause-ok g c taken before h =
       (packed o.blue ++ packed o.green) ++ packed o.red,
       e.ok,
       halfway_more c.args.heading.version c.args.heading.bits c.args.hits.now c.args.j taken before _ _ o.blue o.green o.red n.blue n.green n.red c.requires.fits e.blue e.green e.red
-      c.hit_all.ensures.blue c.hit_all.ensures.green c.hit_all.ensures.red c.in-Ok-write.ensures.whole h,
+          c.hit_all.ensures.blue c.hit_all.ensures.green c.hit_all.ensures.red c.in-Ok-write.ensures.whole h,
     )
 
 pub returns-in-Err-write-clause-cut : goal.returns-in-Err-write-clause-cut
@@ -43,5 +43,5 @@ returns-in-Err-write-clause-cut g c taken before h same =
       (packed o.blue ++ packed o.green) ++ packed o.red,
       e.ok,
       halfway_cut c.args.heading.version c.args.heading.bits c.args.hits.now c.args.j c.in-Err-write.field-0.gone taken before _ _ o.blue o.green o.red n.blue n.green n.red c.requires.fits e.blue e.green e.red
-      c.hit_all.ensures.blue c.hit_all.ensures.green c.hit_all.ensures.red c.in-Err-write.ensures.missing c.in-Err-write.ensures.part h,
+          c.hit_all.ensures.blue c.hit_all.ensures.green c.hit_all.ensures.red c.in-Err-write.ensures.missing c.in-Err-write.ensures.part h,
     )

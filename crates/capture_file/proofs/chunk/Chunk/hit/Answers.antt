@@ -34,7 +34,7 @@ step from n place w k at row old now v room lt e sent le less was is =
 skip : (from n place w k at : ℕ) (row old : List Bool) → place + 10 ≤ length row → k < 10 → at ≡ place + k → (at < from) ⊎ (from + n ≤ at)
     → old ≡ take n (drop from (begun place w k row)) → old ≡ take n (drop from (begun place w (k + 1) row))
 skip from n place w k at row old room lt e out was =
-    let out_at : (place + k < from) ⊎ (from + n ≤ place + k) = elim out [ | inl a ↦ inl (omega (arith, a, e)) | inr b ↦ inr (omega (arith, b, e)) ] in
+    let out_at : (place + k < from) ⊎ (from + n ≤ place + k) = elim out [ inl a ↦ inl (omega (arith, a, e)) | inr b ↦ inr (omega (arith, b, e)) ] in
     was ∙ sym (ap (λ xs. take n (drop from xs)) (begun_more place w k row room lt) ∙ set_outside from n (place + k) (begun place w k row) (get_or (word_bits w) k false) out_at)
 
 pub loop-k-preserved : goal.loop-k-preserved
