@@ -1,12 +1,11 @@
 -- Bits of a chunk that are set one after another, and what they are in the whole lane.
-use Rattle.std.proofs.Common.{◌≡◌, ℕ, suc, zero, ◌+◌, ◌-◌, ◌*◌, ◌/◌, ◌%◌, ◌^◌, ◌<◌, ◌≤◌, Bool, false, List, [], ◌∷◌, ◌++◌, length, take, drop, get_or, set, ◌==◌, refl, ap, ap₂, ◌∙◌, sym, arith, subst, inl, inr, length-append, length-drop, length-take, length-take-le, take-append-drop}
-use Rattle.std.specs.Prelude.{◌⊎◌, slice_index}
+use Rattle.std.proofs.Common.{◌≡◌, ℕ, suc, zero, ◌+◌, ◌-◌, ◌*◌, ◌/◌, ◌%◌, ◌^◌, ◌<◌, ◌≤◌, Bool, false, List, [], ◌∷◌, ◌++◌, length, take, drop, get_or, set, ◌==◌, refl, ap, ◌∙◌, sym, arith, subst, inl, inr, length-take-le, take-append-drop}
+use Rattle.std.specs.Prelude.{◌⊎◌}
 use Rattle.std.proofs.Math.Nat.{mod-eq_of_lt, div-eq_of_lt}
 use Rattle.std.proofs.Math.Pow.{pow_mono}
 use Rattle.std.proofs.Math.Seq.{take-set-lt, take-append_seam}
-use Rattle.std.proofs.lemmas.Bool.{cases_lt}
-use Rattle.std.proofs.lemmas.List.{length-set, set-append_left, get_or-take}
-use Rattle.tmds_word.specs.Bits.{bits_of, word_bits, bytes_bits, bytes_of, number}
+use Rattle.std.proofs.lemmas.List.{length-set, set-append_left}
+use Rattle.tmds_word.specs.Bits.{word_bits, bytes_bits, bytes_of, number}
 use Rattle.tmds_word.proofs.Lists.{length-bytes_bits, length-word_bits, bytes_bits-append}
 use Rattle.tmds_word.proofs.Numbers.{number-append, number-drop}
 use Rattle.tmds_word.proofs.Setting.{one_more, none_replaced, bit_at}
@@ -15,7 +14,7 @@ use Rattle.capture_file.specs.Captures.{AreBytes}
 use Rattle.capture_file.proofs.Rooms.{front_bits}
 use Rattle.capture_file.proofs.Marks.{take_bytes}
 use Rattle.capture_file.proofs.Packing.{length-packed}
-use Rattle.capture_file.proofs.Packs.{packed-bytes, packed-first, number-packed, as_bytes, number_below, bytes_are}
+use Rattle.capture_file.proofs.Packs.{packed-first, number-packed, as_bytes, number_below, bytes_are}
 
 drop_set_in : (from i : ℕ) (xs : List Bool) (v : Bool) → drop from (set xs (from + i) v) ≡ set (drop from xs) i v
 drop_set_in zero i xs v = let e : 0 + i ≡ i = omega arith in ap (λ n. set xs n v) e

@@ -1,18 +1,17 @@
 -- A capture that is damaged from its header to its end.
-use Rattle.std.proofs.Common.{◌≡◌, ℕ, ◌+◌, ◌-◌, ◌*◌, ◌/◌, ◌^◌, ◌<◌, ◌≤◌, Bool, List, [], ◌++◌, length, take, min, refl, ap, ap₂, ◌∙◌, sym, arith, subst, inl, inr, append_assoc, append-nil}
-use Rattle.std.specs.Prelude.{◌⊎◌, Option, Some, None, Result, Ok, Err, All, OnOk, IfErr, slice_index, slice_get}
-use Rattle.std.specs.Io.KnownBytes.{Appends, Consumes, Keeps}
+use Rattle.std.proofs.Common.{◌≡◌, ℕ, ◌<◌, List, [], ◌++◌, length, refl, ap, ap₂, ◌∙◌, sym, arith, subst, inl, inr, append_assoc, append-nil}
+use Rattle.std.specs.Prelude.{Option, Some, None, Result, Ok, Err, All, OnOk, IfErr, slice_index}
+use Rattle.std.specs.Io.KnownBytes.{Appends, Keeps}
 use Rattle.std.proofs.lemmas.List.Elements.{All-get_or}
 use Rattle.std.proofs.lemmas.Option.{get_or_from_slice_get, slice_get_within}
 use Rattle.capture_file.specs.Layout.{packed, blocks_below}
-use Rattle.capture_file.specs.Captures.{counts_of, header_of, CanSay, IsHeader, IsCaptureOf, HasRead, IsHeadless, IsFault, lane_blocks, block_size, place_at, place_of}
+use Rattle.capture_file.specs.Captures.{counts_of, header_of, CanSay, IsHeader, HasRead, IsHeadless, IsFault, lane_blocks, block_size, place_at}
 use Rattle.capture_file.specs.Damage.{hurt}
 use Rattle.capture_file.specs.Refusals.{refused}
-use Rattle.capture_file.specs.BlockDamage.{AllFitLanes, Halfway, IsDamagedCapture, IsLateFault, IsDamageFault, AreWithinLanes, IsDamagedBefore, SaysFault, SaysBad}
+use Rattle.capture_file.specs.BlockDamage.{AllFitLanes, Halfway, IsDamagedCapture, IsLateFault, IsDamageFault, SaysFault, SaysBad}
 use Rattle.capture_file.specs.declared.damaging.Hit.{Hit}
 use Rattle.capture_file.specs.declared.damaging.DamageError.{DamageError}
 use Rattle.capture_file.specs.declared.damaging.DamageError.TheVariants.{Bad, Place, Read, Write, NoMemory}
-use Rattle.capture_file.specs.declared.reading.CaptureFault.{CaptureFault}
 use Rattle.capture_file.specs.declared.reading.CaptureError.{CaptureError}
 use Rattle.capture_file.specs.declared.reading.CaptureError.TheVariants as errors
 use Rattle.capture_file.proofs.Heads.{same_heads}

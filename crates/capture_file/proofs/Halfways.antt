@@ -1,17 +1,16 @@
 -- A capture that is damaged block by block.
-use Rattle.std.proofs.Common.{◌≡◌, ℕ, suc, zero, ◌+◌, ◌-◌, ◌*◌, ◌/◌, ◌%◌, ◌^◌, ◌<◌, ◌≤◌, Bool, false, List, [], ◌∷◌, ◌++◌, length, take, drop, min, max, replicate, refl, ap, ap₂, ◌∙◌, sym, arith, subst, inl, inr, append_assoc, append-nil, length-append, length-drop, length-take-le}
-use Rattle.std.specs.Prelude.{Option, slice_index, slice_get, Some, None}
+use Rattle.std.proofs.Common.{◌≡◌, ℕ, suc, zero, ◌+◌, ◌*◌, ◌%◌, ◌<◌, Bool, List, [], ◌++◌, length, take, drop, min, refl, ap, ap₂, ◌∙◌, sym, arith, subst, inl, inr, append_assoc, append-nil, length-append}
+use Rattle.std.specs.Prelude.{Option, slice_index, Some, None}
 use Rattle.std.proofs.Math.Seq.{take-append_seam, drop-append_seam}
 use Rattle.std.proofs.lemmas.Bool.{cases_lt}
-use Rattle.std.proofs.lemmas.List.{take_all, length-replicate}
+use Rattle.std.proofs.lemmas.List.{take_all}
 use Rattle.std.specs.Io.KnownBytes.{Appends, Keeps}
-use Rattle.capture_file.specs.Layout.{packed, chunk, block, blocks_below, blocks_of}
-use Rattle.capture_file.specs.Captures.{counts_of, header_of, IsHeader, CanSay, HasRead, Stands, lane_blocks, bits_in, block_size, place_at, place_of, IsFault, StopsIn}
+use Rattle.capture_file.specs.Layout.{packed, chunk, block, blocks_below}
+use Rattle.capture_file.specs.Captures.{header_of, IsHeader, CanSay, HasRead, bits_in, block_size, place_of, IsFault, StopsIn}
 use Rattle.capture_file.specs.Damage.{hurt}
 use Rattle.capture_file.specs.BlockDamage.{AllFitLanes, LaneFits, Halfway, HurtChunk, CutIn, SaysFault, IsLateFault}
 use Rattle.capture_file.specs.declared.damaging.DamageError.{DamageError}
 use Rattle.capture_file.specs.declared.damaging.DamageError.TheVariants.{Bad, Place, Read, Write, NoMemory}
-use Rattle.capture_file.specs.declared.reading.CaptureFault.{CaptureFault}
 use Rattle.capture_file.specs.declared.damaging.Hit.{Hit}
 use Rattle.capture_file.proofs.Packing.{length-packed, chunk-part}
 use Rattle.capture_file.proofs.Parts.{block_is, blocks-more, Appends-two, Appends-part}

@@ -1,8 +1,8 @@
 -- Damaged captures of both versions: on a lane the ten bits from a place on are replaced by those of another character.
 -- It is defined on each beginning of a capture that has the header.
-use Rattle.std.specs.Prelude.{◌≡◌, ◌⊎◌, ℕ, ◌+◌, ◌^◌, ◌<◌, ◌≤◌, Bool, List, [], ◌∷◌, ◌++◌, length, take, slice_get, slice_index, Some, Option, drop}
+use Rattle.std.specs.Prelude.{◌≡◌, ◌⊎◌, ℕ, ◌+◌, ◌<◌, ◌≤◌, Bool, List, [], ◌++◌, length, take, slice_get, slice_index, Some, Option, drop}
 use Rattle.std.specs.Io.KnownBytes.{Appends, Keeps, Consumes}
-use Rattle.capture_file.specs.Captures.{counts_of, header_of, CanSay, IsHeader, lane_blocks, IsCaptureOf, HasRead, Stands, StopsIn, IsHeadless, IsFault, place_of, block_size}
+use Rattle.capture_file.specs.Captures.{counts_of, header_of, CanSay, IsHeader, lane_blocks, IsCaptureOf, Stands, StopsIn, IsHeadless, IsFault, place_of, block_size}
 use Rattle.capture_file.specs.Layout.{packed, blocks_below}
 use Rattle.capture_file.specs.Damage.{hurt}
 use Rattle.capture_file.specs.declared.damaging.Hit.{Hit}

@@ -1,4 +1,4 @@
-use Rattle.std.proofs.Common.{◌≡◌, ◌++◌, sym, subst}
+use Rattle.std.proofs.Common.{◌++◌, sym, subst}
 use Rattle.capture_file.specs.Layout.{packed}
 use Rattle.capture_file.specs.Captures.{HasRead, IsFault, StopsIn, SaysOf, place_of}
 use Rattle.capture_file.specs.Refusals.{refused}

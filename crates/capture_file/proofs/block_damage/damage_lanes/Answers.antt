@@ -1,8 +1,7 @@
-use Rattle.std.proofs.Common.{arith, ◌≡◌, ◌+◌, ◌*◌, ◌/◌, ◌<◌, ◌≤◌, ◌++◌, [], ℕ, List, max, length, ◌∙◌, sym, ap, subst, refl, append_assoc, append-nil, inl, inr}
-use Rattle.std.specs.Prelude.{Option, Some, Result, Err, slice_index}
-use Rattle.std.specs.Io.KnownBytes.{Consumes}
+use Rattle.std.proofs.Common.{arith, ◌≡◌, ◌+◌, ◌/◌, ◌≤◌, ◌++◌, [], ℕ, List, max, ◌∙◌, sym, ap, subst, refl, append_assoc, append-nil, inl, inr}
+use Rattle.std.specs.Prelude.{Option, Result, Err, slice_index}
 use Rattle.std.proofs.KnownBytes.{Consumes-nil, Consumes-trans}
-use Rattle.capture_file.specs.Captures.{SaysOf, SaysRead, IsFault, StopsIn, HasRead, block_size, place_of, place_at}
+use Rattle.capture_file.specs.Captures.{SaysOf, SaysRead, IsFault, StopsIn, block_size, place_of, place_at}
 use Rattle.capture_file.specs.BlockDamage.{Halfway, CutIn, SaysFault, IsLateFault}
 use Rattle.capture_file.specs.Refusals.{refused}
 use Rattle.capture_file.specs.declared.damaging.Hit.{Hit}

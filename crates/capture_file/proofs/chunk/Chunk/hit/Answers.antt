@@ -1,9 +1,8 @@
-use Rattle.std.proofs.Common.{arith, ◌≡◌, ◌+◌, ◌-◌, ◌/◌, ◌%◌, ◌^◌, ◌==◌, false, ◌<◌, ◌≤◌, ◌++◌, ◌∙◌, ℕ, Bool, List, length, take, drop, set, get_or, ap, ap₂, sym, subst, refl, inl, inr}
+use Rattle.std.proofs.Common.{arith, ◌≡◌, ◌+◌, ◌-◌, ◌/◌, ◌%◌, ◌^◌, ◌==◌, false, ◌<◌, ◌≤◌, ◌∙◌, ℕ, Bool, List, length, take, drop, set, get_or, ap, ap₂, sym, refl, inl, inr}
 use Rattle.std.specs.Prelude.{◌⊎◌}
-use Rattle.std.proofs.lemmas.List.{length-set, take_all}
+use Rattle.std.proofs.lemmas.List.{length-set}
 use Rattle.tmds_word.specs.Bits.{word_bits}
-use Rattle.tmds_word.proofs.Lists.{length-word_bits}
-use Rattle.tmds_word.proofs.Setting.{bit_at, word_done}
+use Rattle.tmds_word.proofs.Setting.{word_done}
 use Rattle.capture_file.specs.Damage.{with_word}
 use Rattle.capture_file.proofs.Bitwise.{begun, begun_more, set_inside, set_outside, untouched, sent_is}
 use Rattle.capture_file.proofs.chunk.Chunk.hit.Goals as goal

@@ -1,4 +1,4 @@
-use Rattle.std.proofs.Common.{◌≡◌, ◌+◌, ◌≤◌, ◌++◌, Bool, List, length, take, drop}
+use Rattle.std.proofs.Common.{◌≡◌, ◌+◌, ◌≤◌, Bool, List, length, take, drop}
 use Rattle.capture_file.proofs.Bitwise.{begun}
 use Rattle.capture_file.proofs.chunk.Chunk.hit.Given as goal
 

@@ -1,9 +1,9 @@
-use Rattle.std.proofs.Common.{arith, ◌≡◌, ◌+◌, ◌≤◌, ◌∙◌, ◌==◌, true, false, Bool, List, length, take, drop, ap, sym, subst, refl}
+use Rattle.std.proofs.Common.{arith, ◌≡◌, ◌+◌, ◌≤◌, ◌∙◌, ◌==◌, length, take, drop, ap, sym, refl}
 use Rattle.std.proofs.lemmas.Bool.{eq-eqb, ne_eqb}
 use Rattle.std.proofs.lemmas.List.{take_all}
 use Rattle.std.specs.Prelude.{slice_get, Some}
 use Rattle.std.proofs.lemmas.Option.{slice_get-get_or}
-use Rattle.capture_file.specs.Damage.{hurt, hit_by, with_word}
+use Rattle.capture_file.specs.Damage.{hurt, with_word}
 use Rattle.capture_file.proofs.HitLanes.{hurt_long, hurt_more, hurt_none, hit_own, hit_other}
 use Rattle.capture_file.proofs.chunk.Chunk.hit_all.Goals as goal
 use Rattle.capture_file.proofs.chunk.Chunk.hit_all.Goals.{then-hit-lane, else-hit-lane}

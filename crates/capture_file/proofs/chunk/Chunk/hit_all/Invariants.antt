@@ -1,4 +1,4 @@
-use Rattle.std.proofs.Common.{◌≡◌, ◌+◌, ◌≤◌, ◌++◌, Bool, List, length, take, drop}
+use Rattle.std.proofs.Common.{◌≡◌, Bool, List, length, take, drop}
 use Rattle.capture_file.specs.Damage.{hurt}
 use Rattle.capture_file.specs.BlockDamage.{LaneFits}
 use Rattle.capture_file.proofs.chunk.Chunk.hit_all.Given as goal

@@ -1,5 +1,5 @@
-use Rattle.std.proofs.Common.{arith, ◌≡◌, ◌∙◌, ◌<◌, Bool, List, ap, sym, length, set}
-use Rattle.capture_file.proofs.Bitwise.{ChunkSet, chunk_set}
+use Rattle.std.proofs.Common.{arith, ◌≡◌, ◌∙◌, ap, sym, length, set}
+use Rattle.capture_file.proofs.Bitwise.{chunk_set}
 use Rattle.capture_file.proofs.Rooms.{length-front}
 use Rattle.capture_file.proofs.chunk.Chunk.set.Goals as goal
 

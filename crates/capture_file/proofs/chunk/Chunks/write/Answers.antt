@@ -1,5 +1,4 @@
-use Rattle.std.proofs.Common.{arith, ◌≡◌, ◌+◌, ◌<◌, ◌++◌, [], length, ap, ap₂, ◌∙◌, sym, refl, length-append, append-nil, subst, take}
-use Rattle.std.specs.Io.KnownBytes.{Appends}
+use Rattle.std.proofs.Common.{arith, ◌≡◌, ◌+◌, ◌++◌, [], length, ap, ap₂, ◌∙◌, sym, refl, length-append, append-nil}
 use Rattle.capture_file.specs.Layout.{packed}
 use Rattle.capture_file.proofs.Parts.{Appends-part, Appends-two}
 use Rattle.capture_file.proofs.chunk.Chunks.write.Goals as goal
