@@ -1,11 +1,10 @@
 -- Headers of both versions: what they have in common, and that they tell their counts.
 use Rattle.std.proofs.lemmas.Bool.{ne_eqb}
-use Rattle.std.proofs.Common.{◌≡◌, ◌≢◌, ℕ, suc, zero, ◌+◌, ◌*◌, ◌/◌, ◌%◌, ◌^◌, ◌<◌, ◌≤◌, Bool, List, [], ◌∷◌, ◌++◌, length, take, drop, get_or, refl, ap, ap₂, ◌∙◌, sym, arith, subst, inl, inr, append_assoc, append-nil, length-append}
+use Rattle.std.proofs.Common.{◌≡◌, ◌≢◌, ℕ, suc, zero, ◌/◌, ◌%◌, ◌^◌, ◌<◌, ◌≤◌, List, ◌++◌, length, get_or, refl, ap, ap₂, ◌∙◌, sym, arith, subst, inl, inr}
 use Rattle.std.specs.Prelude.{◌⊎◌, slice_index, codes, if◌then◌else◌}
-use Rattle.std.proofs.Math.ListN.{get_or-append}
 use Rattle.capture_file.specs.Layout.{header, high_first}
-use Rattle.capture_file.specs.Captures.{header_two, header_of, CanSay, IsHeader}
-use Rattle.capture_file.proofs.Fronts.{same_front, same_rest, same_count, length-header}
+use Rattle.capture_file.specs.Captures.{header_two, header_of, IsHeader}
+use Rattle.capture_file.proofs.Fronts.{same_front, same_count, length-header}
 
 -- a header is one of two
 pub record FirstHeader (head counts : List ℕ) : Type 0 where

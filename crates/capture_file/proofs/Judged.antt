@@ -1,21 +1,19 @@
 -- What the first bytes of a capture of either version are.
-use Rattle.std.proofs.Common.{◌≡◌, ℕ, suc, zero, ◌+◌, ◌-◌, ◌*◌, ◌/◌, ◌%◌, ◌^◌, ◌<◌, ◌≤◌, Bool, false, List, [], ◌∷◌, ◌++◌, length, take, drop, min, get_or, refl, ap, ap₂, ◌∙◌, sym, arith, subst, inl, inr, append_assoc, append-nil, length-append, length-drop, length-take-le, take-append-drop}
+use Rattle.std.proofs.Common.{◌≡◌, ℕ, suc, zero, ◌+◌, ◌^◌, ◌<◌, ◌≤◌, List, [], ◌∷◌, ◌++◌, length, take, drop, min, get_or, refl, ap, ap₂, ◌∙◌, sym, arith, subst, inl, inr, append_assoc, append-nil, length-append, length-drop, length-take-le, take-append-drop}
 use Rattle.std.specs.Prelude.{◌⊎◌, slice_index, slice_get, Some, codes}
 use Rattle.std.specs.Int.{w32, to_be_bytes, from_be_bytes}
 use Rattle.std.proofs.lemmas.Nat.{be_bytes_4}
 use Rattle.std.proofs.Math.ListN.{get_or-append}
-use Rattle.std.proofs.Math.Seq.{take-append_seam, take-append-add}
 use Rattle.std.proofs.lemmas.Bool.{cases_lt}
 use Rattle.std.proofs.lemmas.List.{take-take, take_more, take-append-le, get_or-take, get_or-drop}
 use Rattle.std.proofs.lemmas.Option.{slice_get-get_or}
 use Rattle.capture_file.specs.Layout.{header, high_first}
-use Rattle.capture_file.specs.Captures.{header_two, header_of, IsHeader, IsCapture, BeginsCapture, StopsAt, IsFault, AreBytes, IsHeadless, IsEarlyFault, SaysOf, SaysRead}
+use Rattle.capture_file.specs.Captures.{header_two, header_of, BeginsCapture, StopsAt, AreBytes, IsHeadless, IsEarlyFault, SaysOf, SaysRead}
 use Rattle.capture_file.specs.declared.reading.CaptureFault.{CaptureFault}
 use Rattle.capture_file.specs.declared.reading.CaptureError.{CaptureError}
 use Rattle.capture_file.specs.declared.reading.CaptureError.TheVariants.{Bad, Read, NoMemory}
 use Rattle.capture_file.specs.declared.reading.CaptureFault.TheVariants.{Magic, Version, Short}
 use Rattle.capture_file.proofs.Heads.{header_cases, length-header_two, header_long}
-use Rattle.capture_file.proofs.Fronts.{length-header}
 use Rattle.capture_file.proofs.Marks.{high_first-of, four_of, get_drop, four_bytes}
 use Rattle.capture_file.proofs.Stops.{begins_part, begins_take, header_begins, first_of, second_of, mark_of, version_of, capture_long}
 

@@ -17,3 +17,7 @@ pub mod Judged
 pub mod Rooms
 pub mod Standing
 pub mod Writes
+pub mod Bitwise
+pub mod HitLanes
+pub mod Halfways
+pub mod Damages

@@ -1,16 +1,16 @@
 -- What may follow the bytes that were taken of a capture of either version.
-use Rattle.std.proofs.Common.{◌≡◌, ℕ, suc, zero, ◌+◌, ◌-◌, ◌*◌, ◌/◌, ◌%◌, ◌^◌, ◌<◌, ◌≤◌, Bool, false, List, [], ◌∷◌, ◌++◌, length, take, drop, min, max, cond, replicate, refl, ap, ap₂, ◌∙◌, sym, arith, subst, inl, inr, append_assoc, append-nil, length-append, length-drop, length-take-le, take-append-drop, ◌==◌, ◌≢◌, true}
+use Rattle.std.proofs.Common.{◌≡◌, ℕ, suc, zero, ◌+◌, ◌-◌, ◌*◌, ◌/◌, ◌%◌, ◌<◌, Bool, false, List, ◌++◌, length, take, drop, min, max, cond, replicate, refl, ap, ap₂, ◌∙◌, sym, arith, subst, inl, inr, append_assoc, length-append, length-drop, length-take-le, ◌==◌, ◌≢◌}
 use Rattle.std.specs.Prelude.{slice_index, ◌⊎◌}
 use Rattle.std.proofs.lemmas.Bool.{cases_lt, eq-eqb, ne_eqb}
 use Rattle.std.proofs.lemmas.List.{take_all, length-replicate}
 use Rattle.tmds_word.specs.Bits.{bytes_bits}
-use Rattle.capture_file.specs.Layout.{packed, chunk, blocks_below, blocks_of}
-use Rattle.capture_file.specs.Captures.{counts_of, IsHeader, lane_blocks, IsCaptureOf, IsCapture, BeginsCapture, AreBytes, Awaits}
+use Rattle.capture_file.specs.Layout.{packed, chunk, blocks_below}
+use Rattle.capture_file.specs.Captures.{counts_of, IsHeader, lane_blocks, IsCapture, Awaits}
 use Rattle.capture_file.proofs.Packing.{length-packed, chunk-part}
 use Rattle.capture_file.proofs.Packs.{packed_is_spared}
 use Rattle.capture_file.proofs.Fronts.{same_front, same_rest, part_of, part_of-begun}
 use Rattle.capture_file.proofs.Heads.{header_same, header_long, same_heads}
-use Rattle.capture_file.proofs.Pieces.{three, piece_of, pieces, pieces-same, length-pieces, pieces-after, blocks-pieces, length-piece, Covers, pieces-extended, piece-next, lane-three, piece-three}
+use Rattle.capture_file.proofs.Pieces.{three, piece_of, pieces, pieces-same, length-pieces, pieces-after, blocks-pieces, length-piece, Covers, pieces-extended, piece-next, piece-three}
 
 -- how many blocks lanes of so many bits have
 abbrev pub blocks_in : ℕ → ℕ → ℕ → ℕ

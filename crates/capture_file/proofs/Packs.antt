@@ -102,7 +102,7 @@ packed_is_spared u count is =
     own
     ∙ sym (packed-first (packed u) count (length-packed u ∙ ap (λ n. (n + 7) / 8) is) ∙ ap (λ n. bytes_of k n) same)
 
-bytes_are : (bs : List ℕ) (count : ℕ) → AreBytes bs → length bs ≡ (count + 7) / 8 → bs ≡ bytes_of ((count + 7) / 8) (number (bytes_bits bs))
+pub bytes_are : (bs : List ℕ) (count : ℕ) → AreBytes bs → length bs ≡ (count + 7) / 8 → bs ≡ bytes_of ((count + 7) / 8) (number (bytes_bits bs))
 unfolding packed
 bytes_are bs count h len =
     let e : (length (bytes_bits bs) + 7) / 8 ≡ (count + 7) / 8 = omega (arith, length-bytes_bits bs) in

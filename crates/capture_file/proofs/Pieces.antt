@@ -4,7 +4,7 @@ use Rattle.std.proofs.lemmas.Bool.{cases_lt}
 use Rattle.capture_file.specs.Layout.{packed, chunk, block, blocks_below}
 use Rattle.capture_file.proofs.Packing.{length-packed}
 use Rattle.capture_file.proofs.Packs.{packed-append}
-use Rattle.capture_file.proofs.Fronts.{chunk-longer, chunk-next, length-chunk_of, same_rest, part_of}
+use Rattle.capture_file.proofs.Fronts.{chunk-longer, chunk-next, length-chunk_of, part_of}
 
 -- lanes by their numbers
 unfoldable pub three : {A : Type 0} → A → A → A → ℕ → A

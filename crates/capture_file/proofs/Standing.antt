@@ -1,6 +1,6 @@
 -- What a reader stands for, from block to block.
-use Rattle.std.proofs.Common.{◌≡◌, ℕ, suc, zero, ◌+◌, ◌-◌, ◌*◌, ◌/◌, ◌%◌, ◌^◌, ◌<◌, ◌≤◌, Bool, List, [], ◌∷◌, ◌++◌, length, take, min, refl, ap, ap₂, ◌∙◌, sym, arith, subst, inl, inr, append-nil, length-append, length-take-le}
-use Rattle.std.specs.Prelude.{◌⊎◌, slice_index}
+use Rattle.std.proofs.Common.{◌≡◌, ℕ, ◌+◌, ◌*◌, ◌/◌, ◌%◌, ◌^◌, ◌<◌, ◌≤◌, Bool, List, [], ◌++◌, length, take, min, refl, ap, ap₂, ◌∙◌, sym, arith, subst, inl, inr, append-nil, length-take-le}
+use Rattle.std.specs.Prelude.{slice_index}
 use Rattle.std.proofs.Math.Nat.{mod-eq_of_lt}
 use Rattle.std.proofs.Math.Pow.{pow_mono}
 use Rattle.tmds_word.specs.Bits.{bits_of, bytes_of, bytes_bits, number}
@@ -8,7 +8,6 @@ use Rattle.tmds_word.proofs.Numbers.{bits_of-number, number-take}
 use Rattle.tmds_word.proofs.Lists.{length-bytes_bits}
 use Rattle.capture_file.specs.Layout.{packed, header, high_first, blocks_below}
 use Rattle.capture_file.specs.Captures.{CanSay, header_of, header_two, HasRead, Stands, StopsIn, IsFault, IsWithin, SaysOf, IsCapture, bits_in, block_size, place_at, header_size, place_of}
-use Rattle.capture_file.specs.declared.reading.CaptureFault.{CaptureFault}
 use Rattle.capture_file.specs.declared.reading.CaptureFault.TheVariants.{Trailing}
 use Rattle.capture_file.specs.declared.reading.CaptureError.{CaptureError}
 use Rattle.capture_file.specs.declared.reading.CaptureError.TheVariants.{Bad, Read, NoMemory}
@@ -16,7 +15,6 @@ use Rattle.capture_file.proofs.Packing.{length-packed}
 use Rattle.capture_file.proofs.Packs.{number-packed, as_bytes, number_below}
 use Rattle.capture_file.proofs.Stops.{trailing_stops}
 use Rattle.capture_file.proofs.Takings.{block_more, ended}
-use Rattle.capture_file.proofs.Heads.{header_cases}
 
 -- packed bits are these bits
 pub unpacked : (u : List Bool) (count : ℕ) → length u ≡ count → take count (bytes_bits (packed u)) ≡ u
@@ -45,11 +43,11 @@ stands_more version counts j taken x y z a b d s la lb ld =
     subst (λ p. HasRead counts (j + 1) p (taken ++ ((packed a ++ packed b) ++ packed d)) (x ++ a) (y ++ b) (z ++ d)) (places_next version counts j)
     (block_more counts j (place_at version counts j) taken x y z a b d s la lb ld)
 
-none_below : (a b c : List ℕ) → blocks_below 0 a b c ≡ []
+pub none_below : (a b c : List ℕ) → blocks_below 0 a b c ≡ []
 unfolding blocks_below
 none_below a b c = refl
 
-size_of : (version : ℕ) (counts : List ℕ) → CanSay version counts → length (header_of version counts) ≡ header_size version
+pub size_of : (version : ℕ) (counts : List ℕ) → CanSay version counts → length (header_of version counts) ≡ header_size version
 unfolding header_of header_two header high_first
 size_of version counts s =
     elim (s.shared) [

@@ -1,19 +1,15 @@
 -- Where bytes stop being the beginning of a capture of either version.
-use Rattle.std.proofs.Common.{◌≡◌, ℕ, suc, zero, ◌+◌, ◌-◌, ◌*◌, ◌/◌, ◌%◌, ◌^◌, ◌<◌, ◌≤◌, Bool, false, List, [], ◌∷◌, ◌++◌, length, take, drop, min, get_or, replicate, refl, ap, ap₂, ◌∙◌, sym, arith, subst, inl, inr, append_assoc, append-nil, length-append, length-drop, length-take-le, take-append-drop}
-use Rattle.std.specs.Prelude.{◌⊎◌, slice_index, slice_get, Some, codes}
-use Rattle.std.proofs.Math.ListN.{get_or-append}
+use Rattle.std.proofs.Common.{◌≡◌, ℕ, suc, zero, ◌+◌, ◌-◌, ◌/◌, ◌^◌, ◌<◌, ◌≤◌, Bool, false, List, [], ◌∷◌, ◌++◌, length, take, drop, get_or, replicate, refl, ap, ap₂, ◌∙◌, sym, arith, subst, inl, inr, append_assoc, append-nil, length-append, length-take-le, take-append-drop}
+use Rattle.std.specs.Prelude.{◌⊎◌, slice_index, codes}
 use Rattle.std.proofs.Math.Seq.{take-append_seam, take-append-add}
-use Rattle.std.proofs.lemmas.Bool.{cases_lt}
-use Rattle.std.proofs.lemmas.List.{take-take, take-append-le, get_or-take, length-replicate}
-use Rattle.std.proofs.lemmas.Option.{slice_get-get_or}
+use Rattle.std.proofs.lemmas.List.{take-append-le, length-replicate}
 use Rattle.tmds_word.specs.Bits.{bytes_bits}
 use Rattle.capture_file.specs.Layout.{packed, header, high_first}
-use Rattle.capture_file.specs.Captures.{header_two, header_of, CanSay, IsHeader, counts_of, lane_blocks, IsCapture, BeginsCapture, StopsAt, IsFault, AreBytes, Awaits}
+use Rattle.capture_file.specs.Captures.{header_two, header_of, IsHeader, counts_of, lane_blocks, IsCapture, BeginsCapture, IsFault, AreBytes, Awaits}
 use Rattle.capture_file.specs.declared.reading.CaptureFault.TheVariants.{Short, Padding, Trailing}
 use Rattle.capture_file.proofs.Heads.{header_cases, length-header_two, header_long}
-use Rattle.capture_file.proofs.Opens.{captured, known}
-use Rattle.capture_file.proofs.Marks.{high_first-of, four_of, get_drop, take_bytes, take_mark}
-use Rattle.capture_file.proofs.Fronts.{length-header}
+use Rattle.capture_file.proofs.Opens.{captured}
+use Rattle.capture_file.proofs.Marks.{take_bytes}
 
 pub begins_part : (x y : List ℕ) → BeginsCapture (x ++ y) → BeginsCapture x
 begins_part x y h = record { rest = y ++ h.rest; whole = subst (λ bs. IsCapture bs) (append_assoc x y h.rest) h.whole }

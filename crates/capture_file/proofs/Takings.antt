@@ -1,23 +1,23 @@
 -- One piece more of a capture, and a block more.
-use Rattle.std.proofs.Common.{◌≡◌, ◌≢◌, ℕ, suc, zero, ◌+◌, ◌-◌, ◌*◌, ◌/◌, ◌%◌, ◌^◌, ◌<◌, ◌≤◌, Bool, List, [], ◌∷◌, ◌++◌, length, take, drop, min, max, refl, ap, ap₂, ◌∙◌, sym, arith, subst, inl, inr, append_assoc, append-nil, length-append}
+use Rattle.std.proofs.Common.{◌≡◌, ◌≢◌, ℕ, suc, zero, ◌+◌, ◌-◌, ◌*◌, ◌/◌, ◌%◌, ◌<◌, ◌≤◌, Bool, List, [], ◌∷◌, ◌++◌, length, take, min, refl, ap, ap₂, ◌∙◌, sym, arith, subst, inl, inr, append_assoc, append-nil, length-append}
 use Rattle.std.specs.Prelude.{slice_index, ◌⊎◌}
 use Rattle.std.proofs.lemmas.Bool.{cases_lt}
 use Rattle.std.proofs.lemmas.List.{take_all, drop_all}
 use Rattle.tmds_word.specs.Bits.{bytes_of}
-use Rattle.capture_file.specs.Layout.{packed, chunk, blocks_below}
-use Rattle.capture_file.specs.Captures.{counts_of, IsHeader, IsCaptureOf, IsCapture, Awaits, HasRead, bits_in, block_size, lane_blocks}
+use Rattle.capture_file.specs.Layout.{packed, chunk}
+use Rattle.capture_file.specs.Captures.{counts_of, IsHeader, IsCaptureOf, IsCapture, Awaits, HasRead, bits_in, block_size}
 use Rattle.capture_file.proofs.Packing.{length-packed}
 use Rattle.capture_file.proofs.Packs.{packed-append}
 use Rattle.capture_file.proofs.Fronts.{chunk-longer, chunk-next}
 use Rattle.capture_file.proofs.Heads.{header_same}
-use Rattle.capture_file.proofs.Pieces.{three, piece_of, pieces, pieces-same, blocks-pieces, Covers, pieces-after}
+use Rattle.capture_file.proofs.Pieces.{three, piece_of, pieces, pieces-same, blocks-pieces, Covers}
 use Rattle.capture_file.proofs.Opens.{blocks_in, all_pieces, awaits, capture_only}
 
-nothing : (xs : List Bool) → length xs ≡ 0 → xs ≡ []
+pub nothing : (xs : List Bool) → length xs ≡ 0 → xs ≡ []
 nothing [] h = refl
 nothing (x ∷ xs) h = absurd (omega arith)
 
-nothing_packed : packed [] ≡ []
+pub nothing_packed : packed [] ≡ []
 unfolding packed bytes_of
 nothing_packed = refl
 
@@ -31,7 +31,7 @@ chunk_kept j m x u whole lt =
       | inr none ↦ ap (λ v. chunk j (packed (x ++ v))) (nothing u (omega arith)) ∙ ap (λ v. chunk j (packed v)) (append-nil x)
     ]
 
-chunk_past : (j : ℕ) (x : List Bool) → length x ≤ 32768 * j → chunk j (packed x) ≡ []
+pub chunk_past : (j : ℕ) (x : List Bool) → length x ≤ 32768 * j → chunk j (packed x) ≡ []
 unfolding chunk
 chunk_past j x le = ap (λ xs. take 4096 xs) (drop_all (4096 * j) (packed x) (omega (arith, le, length-packed x)))
 

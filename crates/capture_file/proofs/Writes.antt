@@ -1,14 +1,12 @@
 -- Parts of rows, written block by block.
-use Rattle.std.proofs.Common.{◌≡◌, ℕ, suc, zero, ◌+◌, ◌-◌, ◌*◌, ◌/◌, ◌%◌, ◌^◌, ◌<◌, ◌≤◌, Bool, List, [], ◌∷◌, ◌++◌, length, take, drop, min, max, refl, ap, ap₂, ◌∙◌, sym, arith, subst, inl, inr, append_assoc, append-nil, length-append, length-drop, length-take}
-use Rattle.std.specs.Prelude.{Option, slice_index, codes, if◌then◌else◌, ◌==◌, true, false, Result, Ok, Err, IfOk, IfErr, OnOk}
-use Rattle.std.proofs.lemmas.Bool.{cases_lt}
-use Rattle.std.proofs.lemmas.List.{drop_all, take_all}
-use Rattle.std.specs.Io.KnownBytes.{Appends}
-use Rattle.capture_file.specs.Layout.{packed, header, high_first, chunk, block, blocks_below, blocks_of, capture_of}
+use Rattle.std.proofs.Common.{◌≡◌, ℕ, ◌+◌, ◌-◌, ◌*◌, ◌/◌, ◌<◌, ◌≤◌, Bool, List, [], ◌++◌, length, take, drop, min, max, ap, ap₂, ◌∙◌, sym, arith, append_assoc}
+use Rattle.std.specs.Prelude.{slice_index, codes, if◌then◌else◌, ◌==◌, true, false}
+use Rattle.std.proofs.lemmas.List.{drop_all}
+use Rattle.capture_file.specs.Layout.{packed, header, high_first, chunk, block, blocks_below, blocks_of}
 use Rattle.capture_file.specs.Captures.{counts_of, header_of, header_two, lane_blocks, layout}
-use Rattle.capture_file.specs.Taps.{HasBits, row_part, part_capture, part_block}
+use Rattle.capture_file.specs.Taps.{HasBits}
 use Rattle.capture_file.proofs.Packing.{length-packed, chunk-part}
-use Rattle.capture_file.proofs.Parts.{length-lane, blocks_after, blocks-more, block_is}
+use Rattle.capture_file.proofs.Parts.{length-lane, blocks_after}
 use Rattle.capture_file.proofs.Heads.{length-header_two}
 use Rattle.capture_file.proofs.Fronts.{length-header}
 
@@ -70,19 +68,3 @@ layouts version x y z bits most ex ey ez is =
                 ∙ ap (λ xs. xs ++ more.0) (sym (append_assoc h (blocks_below j a b d) (block j a b d))),
           );
     }
-
--- the capture of lanes of one length is the first version's
-pub first_layout : (x y z : List Bool) → length y ≡ length x → length z ≡ length x → layout 1 x y z ≡ capture_of x y z
-unfolding layout lane_blocks capture_of header_of
-first_layout x y z ey ez =
-    let same : max (length (packed x)) (max (length (packed y)) (length (packed z))) ≡ length (packed x) = omega (arith, ey, ez, length-packed x, length-packed y, length-packed z) in
-    ap (λ n. header (length x) ++ blocks_below ((n + 4095) / 4096) (packed x) (packed y) (packed z)) same
-
--- whole rows of one length, written in the first version
-pub whole_rows : (blue green red : List Bool) (bits : ℕ) → bits ≡ length blue → length green ≡ length blue → length red ≡ length blue
-    → capture_of blue green red ≡ part_capture 1 blue green red (0 ∷ 0 ∷ 0 ∷ []) (bits ∷ bits ∷ bits ∷ [])
-whole_rows blue green red bits is eg er =
-    let b : take bits blue ≡ blue = take_all bits blue (omega arith) in
-    let g : take bits green ≡ green = take_all bits green (omega arith) in
-    let r : take bits red ≡ red = take_all bits red (omega arith) in
-    sym (ap (λ xs. layout 1 xs (take bits green) (take bits red)) b ∙ ap₂ (λ ys zs. layout 1 blue ys zs) g r ∙ first_layout blue green red eg er)

@@ -1,7 +1,5 @@
 -- Columns kept as three rows of bits, one of each lane.
-use Rattle.std.specs.Prelude.{ℕ, ◌/◌, Bool, List, [], ◌∷◌, length, take, drop}
-use Rattle.std.proofs.Common.{suc, zero}
-use Rattle.tmds_word.specs.Bits.{number}
+use Rattle.std.specs.Prelude.{ℕ, List}
 use Rattle.tmds_word.specs.Column.{Column}
 
 -- what is seen of lanes: the columns taken so far, and how many calls were refused

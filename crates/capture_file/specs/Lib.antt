@@ -6,3 +6,4 @@ pub mod Reading
 pub mod Damage
 pub mod Refusals
 pub mod Captures
+pub mod BlockDamage

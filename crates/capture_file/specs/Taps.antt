@@ -1,6 +1,5 @@
 -- The tap of columns: of each lane the bits from a place of its own on, in the first version all lanes equally many.
-use Rattle.std.specs.Prelude.{ℕ, ◌+◌, ◌-◌, ◌*◌, ◌^◌, ◌<◌, ◌≤◌, Bool, List, length, take, drop, map, min, max, slice_index, Option, Some, None, ◌==◌, if◌then◌else◌}
-use Rattle.tmds_word.specs.Bits.{row_bits}
+use Rattle.std.specs.Prelude.{ℕ, ◌+◌, ◌-◌, ◌*◌, ◌^◌, ◌<◌, ◌≤◌, Bool, List, length, take, drop, min, max, slice_index, Option, Some, None, ◌==◌, if◌then◌else◌}
 use Rattle.tmds_word.specs.Column.{Column, blues, greens, reds}
 use Rattle.tmds_word.specs.Taps.{part_of}
 use Rattle.capture_file.specs.declared.writing.Tap.{Tap}

@@ -23,8 +23,8 @@ pub(crate) fn chunk_len(bits: u32, j: u32) -> u32
 /// The bits of one lane in one block, packed eight to a byte. It is seen as these bits.
 #[derive(Drop)]
 pub(crate) struct Chunk {
-    bytes: [u8; 4096],
-    count: u32,
+    pub(crate) bytes: [u8; 4096],
+    pub(crate) count: u32,
 }
 
 impl Model for Chunk {
@@ -56,7 +56,8 @@ impl Chunk {
 
     /// The bits, packed.
     pub(crate) fn as_bytes(&self) -> &[u8]
-        ensures { result.now ≡ packed self.now }
+        ensures bytes { result.now ≡ packed self.now }
+        ensures few { length result.now ≤ 4096 }
     {
         &self.bytes[..self.count.div_ceil(8) as usize]
     }

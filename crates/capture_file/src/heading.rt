@@ -3,7 +3,7 @@ ghost use Rattle.std.specs.Prelude.{◌≡◌, ◌⊎◌, ℕ, ◌+◌, ◌^◌,
 ghost use Rattle.std.specs.Io.KnownBytes.{Consumes};
 ghost use Rattle.capture_file.specs.Layout.{high_first};
 ghost use Rattle.capture_file.specs.Faults.{IsCaused};
-ghost use Rattle.capture_file.specs.Captures.{header_of, CanSay, IsHeadless, IsEarlyFault, SaysOf, SaysRead, AreBytes};
+ghost use Rattle.capture_file.specs.Captures.{header_of, CanSay, IsHeadless, IsEarlyFault, SaysOf, SaysRead, AreBytes, place_at};
 
 use crate::filling::fill;
 use crate::{CaptureError, CaptureFault};
@@ -14,6 +14,21 @@ use outside_io::Source;
 pub(crate) struct Heading {
     pub(crate) version: u8,
     pub(crate) bits: [u32; 3],
+}
+
+impl Heading {
+    /// Where block `j` begins.
+    pub(crate) fn place(self, j: u32) -> u64
+        ensures place { result ≡ place_at self.version self.bits j }
+        ensures small { result < 2 ^ 40 }
+    {
+        let header: u64 = if self.version == 2 { 16 } else { 8 };
+        let end = 4096 * u64::from(j);
+        header
+            + u64::from(self.bits[0].div_ceil(8)).min(end)
+            + u64::from(self.bits[1].div_ceil(8)).min(end)
+            + u64::from(self.bits[2].div_ceil(8)).min(end)
+    }
 }
 
 /// Reads a header.

@@ -1,6 +1,7 @@
 //! Captures: the bits of three TMDS lanes as bytes of this project's own layout.
 #![tactic(auto)]
 
+mod block_damage;
 mod capture_reader;
 mod chunk;
 mod chunks;
@@ -11,8 +12,9 @@ mod lanes;
 mod reading;
 mod writing;
 
+pub use block_damage::damage;
 pub use capture_reader::{Block, CaptureReader};
-pub use damaging::{DamageError, Hit, damage};
+pub use damaging::{DamageError, Hit};
 pub use lanes::Lanes;
 pub use reading::{CaptureError, CaptureFault, Rows, read_capture};
 pub use writing::{Tap, write_capture};

@@ -8,7 +8,7 @@ ghost use Rattle.capture_file.specs.Taps.{limited, tap_lag, tapped_capture, HasB
 
 use crate::chunk::chunk_len;
 use crate::chunks::blocks_for;
-use crate::{Lanes, Rows};
+use crate::Lanes;
 use outside_io::{Sink, Wrote, write_all};
 use tmds_word::BitRow;
 
@@ -89,27 +89,6 @@ impl Lanes {
             Some(most) => left.min(most),
             None => left,
         }
-    }
-}
-
-impl Rows {
-    /// Writes the capture of the lanes, in version 1.
-    pub(crate) fn write<K: Sink>(&self, out: &mut K) -> Result<(), Wrote>
-        ensures whole { OnOk result (Appends (K.held out.old) (K.held out.new) (capture_of self.now.blue self.now.green self.now.red)) }
-        ensures part { IfErr result (λ w. Appends (K.held out.old) (K.held out.new) (take w.gone (capture_of self.now.blue self.now.green self.now.red))) }
-        ensures missing { IfErr result (λ w. w.gone < length (capture_of self.now.blue self.now.green self.now.red)) }
-        ensures cause { HasCause (K.faults out.old) (K.faults out.new) result }
-    {
-        let bits = self.blue.len();
-        write_rows(
-            &self.blue,
-            &self.green,
-            &self.red,
-            1,
-            [0; 3],
-            [bits; 3],
-            out,
-        )
     }
 }
 

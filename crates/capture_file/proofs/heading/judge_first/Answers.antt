@@ -1,5 +1,5 @@
-use Rattle.std.proofs.Common.{arith, ◌≡◌, ◌<◌, ◌≤◌, ◌++◌, ◌∙◌, ap, subst, take, min, get_or, inl, inr}
-use Rattle.std.specs.Prelude.{codes, ◌⊎◌}
+use Rattle.std.proofs.Common.{arith, ◌≡◌, ◌<◌, subst, take, min, inl, inr}
+use Rattle.std.specs.Prelude.{codes}
 use Rattle.capture_file.proofs.Judged.{mark_early, version_early, short_early}
 use Rattle.capture_file.proofs.heading.judge_first.Goals as goal
 use Rattle.capture_file.proofs.heading.judge_first.Goals.{else-count-gt3-via-then-count-gt3+then-head-ne49+else-head-ne50, else-count-gt3-via-then-count-gt3+else-head-ne49, else-count-gt3-via-else-count-gt3}

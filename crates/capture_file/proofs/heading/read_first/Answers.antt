@@ -1,4 +1,4 @@
-use Rattle.std.proofs.Common.{arith, ◌≡◌, sym, subst, length, take, ap}
+use Rattle.std.proofs.Common.{arith, ◌≡◌, sym, subst, length, take}
 use Rattle.std.proofs.lemmas.Grind.{common_steps}
 use Rattle.std.specs.Io.KnownBytes.{IsAtEnd}
 use Rattle.capture_file.specs.Captures.{IsEarlyFault}

@@ -1,10 +1,10 @@
-use Rattle.std.proofs.Common.{arith, ◌≡◌, ◌<◌, ◌++◌, ◌∷◌, [], List, ◌∙◌, sym, subst, length, take, ap, refl, get_or, inl, inr, ℕ}
-use Rattle.std.specs.Prelude.{codes, ◌⊎◌}
+use Rattle.std.proofs.Common.{arith, ◌≡◌, ◌++◌, ◌∙◌, sym, subst, ap, get_or, inl, inr, ℕ}
+use Rattle.std.specs.Prelude.{◌⊎◌}
 use Rattle.std.proofs.lemmas.Result.{err_from_is_err_and}
-use Rattle.std.specs.Io.KnownBytes.{IsAtEnd, Consumes}
+use Rattle.std.specs.Io.KnownBytes.{Consumes}
 use Rattle.std.proofs.KnownBytes.{Consumes-trans}
 use Rattle.capture_file.specs.Layout.{high_first}
-use Rattle.capture_file.specs.Captures.{IsHeadless, IsEarlyFault, SaysOf, SaysRead, header_of}
+use Rattle.capture_file.specs.Captures.{IsEarlyFault}
 use Rattle.capture_file.proofs.Marks.{consumed}
 use Rattle.capture_file.proofs.Judged.{says_of, says_read, headless_short, headless_part, head_is, first_is, header_one, header_two_is}
 use Rattle.capture_file.proofs.heading.read_heading.Goals as goal

@@ -1,6 +1,5 @@
-use Rattle.std.proofs.Common.{arith, ◌≡◌, take, drop, ◌∙◌, sym, length, ap}
+use Rattle.std.proofs.Common.{arith, ◌∙◌, sym, length, ap}
 use Rattle.std.proofs.KnownBytes.{Appends-nil}
-use Rattle.capture_file.specs.Layout.{packed, chunk}
 use Rattle.capture_file.proofs.Writes.{no_chunk, some_chunk}
 use Rattle.capture_file.proofs.writing.write_chunk.Goals as goal
 

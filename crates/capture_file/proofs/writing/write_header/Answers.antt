@@ -1,7 +1,4 @@
-use Rattle.std.proofs.Common.{arith, ◌≡◌, ◌∙◌, ℕ, List, ap, sym, refl}
-use Rattle.std.specs.Prelude.{slice_index}
-use Rattle.capture_file.specs.Layout.{header}
-use Rattle.capture_file.specs.Captures.{header_of, header_two}
+use Rattle.std.proofs.Common.{◌∙◌, sym}
 use Rattle.capture_file.proofs.Heads.{header_if_two, header_if_one}
 use Rattle.capture_file.proofs.writing.write_header.Goals as goal
 

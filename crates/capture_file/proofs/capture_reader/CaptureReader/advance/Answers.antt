@@ -1,6 +1,6 @@
-use Rattle.std.proofs.Common.{arith, ◌≡◌, ◌∙◌, sym, subst, refl}
+use Rattle.std.proofs.Common.{sym, subst, refl}
 use Rattle.std.proofs.lemmas.Result.{err_from_is_err_and}
-use Rattle.capture_file.specs.Captures.{HasRead, place_at}
+use Rattle.capture_file.specs.Captures.{HasRead}
 use Rattle.capture_file.proofs.Standing.{says_end, says_inside}
 use Rattle.capture_file.proofs.capture_reader.CaptureReader.advance.Goals as goal
 

@@ -1,9 +1,9 @@
-use Rattle.std.proofs.Common.{arith, ◌≡◌, ◌∙◌, ◌+◌, ◌*◌, ◌/◌, ◌++◌, [], ℕ, List, Bool, sym, subst, refl, ap, ap₂, length, take, append-nil}
+use Rattle.std.proofs.Common.{◌≡◌, ◌∙◌, ◌+◌, ◌/◌, ◌++◌, ℕ, List, Bool, sym, subst, refl, ap, ap₂, length, take}
 use Rattle.std.specs.Prelude.{slice_index}
 use Rattle.std.specs.Io.KnownBytes.{Consumes}
 use Rattle.tmds_word.specs.Bits.{bytes_bits}
 use Rattle.capture_file.specs.Layout.{packed}
-use Rattle.capture_file.specs.Captures.{HasRead, Stands, bits_in}
+use Rattle.capture_file.specs.Captures.{Stands, bits_in}
 use Rattle.capture_file.proofs.Packing.{length-packed}
 use Rattle.capture_file.proofs.Takings.{ended}
 use Rattle.capture_file.proofs.Standing.{stands_more, unpacked}

@@ -1,4 +1,4 @@
-use Rattle.std.proofs.Common.{arith, refl, sym}
+use Rattle.std.proofs.Common.{arith, sym}
 use Rattle.capture_file.proofs.Rooms.{nothing_is, length-front}
 use Rattle.capture_file.proofs.chunk.Chunk.read.Goals as goal
 

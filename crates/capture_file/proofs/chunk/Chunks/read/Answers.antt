@@ -1,10 +1,10 @@
 use Rattle.std.proofs.Common.{arith, ◌≡◌, ◌<◌, ◌≤◌, ◌+◌, ◌/◌, ◌++◌, List, ℕ, ◌∙◌, sym, subst, length, ap, append_assoc, length-append}
-use Rattle.std.specs.Prelude.{Option, Some, Result, Ok, Err, IfErr}
+use Rattle.std.specs.Prelude.{Option, Result, Ok, Err, IfErr}
 use Rattle.std.proofs.lemmas.Result.{err_from_is_err_and}
 use Rattle.std.specs.Io.KnownBytes.{Consumes}
 use Rattle.std.proofs.KnownBytes.{Consumes-trans}
 use Rattle.capture_file.specs.Layout.{packed}
-use Rattle.capture_file.specs.Captures.{IsFault, SaysOf, SaysRead, block_size}
+use Rattle.capture_file.specs.Captures.{IsFault, SaysOf, SaysRead}
 use Rattle.capture_file.specs.declared.reading.CaptureError.{CaptureError}
 use Rattle.capture_file.proofs.Packing.{length-packed}
 use Rattle.capture_file.proofs.Marks.{consumed}

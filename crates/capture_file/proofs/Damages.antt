@@ -1,0 +1,160 @@
+-- A capture that is damaged from its header to its end.
+use Rattle.std.proofs.Common.{◌≡◌, ℕ, ◌<◌, List, [], ◌++◌, length, refl, ap, ap₂, ◌∙◌, sym, arith, subst, inl, inr, append_assoc, append-nil}
+use Rattle.std.specs.Prelude.{Option, Some, None, Result, Ok, Err, All, OnOk, IfErr, slice_index}
+use Rattle.std.specs.Io.KnownBytes.{Appends, Keeps}
+use Rattle.std.proofs.lemmas.List.Elements.{All-get_or}
+use Rattle.std.proofs.lemmas.Option.{get_or_from_slice_get, slice_get_within}
+use Rattle.capture_file.specs.Layout.{packed, blocks_below}
+use Rattle.capture_file.specs.Captures.{counts_of, header_of, CanSay, IsHeader, HasRead, IsHeadless, IsFault, lane_blocks, block_size, place_at}
+use Rattle.capture_file.specs.Damage.{hurt}
+use Rattle.capture_file.specs.Refusals.{refused}
+use Rattle.capture_file.specs.BlockDamage.{AllFitLanes, Halfway, IsDamagedCapture, IsLateFault, IsDamageFault, SaysFault, SaysBad}
+use Rattle.capture_file.specs.declared.damaging.Hit.{Hit}
+use Rattle.capture_file.specs.declared.damaging.DamageError.{DamageError}
+use Rattle.capture_file.specs.declared.damaging.DamageError.TheVariants.{Bad, Place, Read, Write, NoMemory}
+use Rattle.capture_file.specs.declared.reading.CaptureError.{CaptureError}
+use Rattle.capture_file.specs.declared.reading.CaptureError.TheVariants as errors
+use Rattle.capture_file.proofs.Heads.{same_heads}
+use Rattle.capture_file.proofs.Standing.{size_of, none_below}
+use Rattle.capture_file.proofs.Takings.{ended, no_block}
+use Rattle.capture_file.proofs.Halfways.{lane_fits, hurt_all}
+
+-- hits fit lanes of the same counts
+pub fits_same : (counts other : List ℕ) (hits : List Hit) → ((c : ℕ) → c < 3 → slice_index counts c ≡ slice_index other c) → All (λ (h : Hit). h.lane < 3) hits → AllFitLanes counts hits → AllFitLanes other hits
+fits_same counts other hits same lanes fit i hit at =
+    let lt : hit.lane < 3 =
+    subst (λ (h : Hit). h.lane < 3) (get_or_from_slice_get hits i hit hit at) (All-get_or (λ (h : Hit). h.lane < 3) hits i hit (slice_get_within hits i hit at) lanes) in
+    omega (arith, fit i hit at, same hit.lane lt)
+
+-- a header alone
+pub halfway_head : (version : ℕ) (counts : List ℕ) (hits : List Hit) (before now : Option (List ℕ)) → CanSay version counts → Appends before now (header_of version counts)
+    → Halfway version counts hits 0 (header_of version counts) before now
+halfway_head version counts hits before now s wrote =
+    let h = header_of version counts in
+    record {
+      x = [];
+      y = [];
+      z = [];
+      read = record {
+        head = h;
+        headed = record { version = version; said = s; head_is = refl };
+        count_x = omega arith;
+        count_y = omega arith;
+        count_z = omega arith;
+        taken_is = sym (ap (λ xs. h ++ xs) (none_below (packed []) (packed []) (packed [])) ∙ append-nil h);
+        place_is = omega (arith, size_of version counts s);
+      };
+      said = s;
+      head_is = refl;
+      wrote = λ u v w eu ev ew.
+          subst (λ bs. Appends before now bs) (sym (ap (λ xs. h ++ xs) (none_below (packed (hurt 0 hits ([] ++ u))) (packed (hurt 1 hits ([] ++ v))) (packed (hurt 2 hits ([] ++ w)))) ∙ append-nil h)) wrote;
+    }
+
+-- behind the last block the whole capture was written damaged
+pub halfway_done : (version : ℕ) (counts : List ℕ) (hits : List Hit) (j : ℕ) (taken : List ℕ) (before now : Option (List ℕ)) → All (λ (h : Hit). h.lane < 3) hits → AllFitLanes counts hits
+    → block_size j counts ≡ 0 → Halfway version counts hits j taken before now → (whole : List ℕ) × IsDamagedCapture taken hits whole × Appends before now whole
+halfway_done version counts hits j taken before now lanes fit none h =
+    let head = header_of version counts in
+    let b = no_block counts j none in
+    let e0 : length h.x ≡ slice_index counts 0 = omega (arith, h.read.count_x, b.0) in
+    let e1 : length h.y ≡ slice_index counts 1 = omega (arith, h.read.count_y, b.1) in
+    let e2 : length h.z ≡ slice_index counts 2 = omega (arith, h.read.count_z, b.2) in
+    let f = hurt 0 hits h.x in
+    let g = hurt 1 hits h.y in
+    let k = hurt 2 hits h.z in
+    let l0 : length f ≡ slice_index counts 0 = hurt_all 0 hits h.x (lane_fits counts hits 0 (length h.x) fit e0) ∙ e0 in
+    let l1 : length g ≡ slice_index counts 1 = hurt_all 1 hits h.y (lane_fits counts hits 1 (length h.y) fit e1) ∙ e1 in
+    let l2 : length k ≡ slice_index counts 2 = hurt_all 2 hits h.z (lane_fits counts hits 2 (length h.z) fit e2) ∙ e2 in
+    let below = blocks_below j (packed f) (packed g) (packed k) in
+    let headed : IsHeader head counts = record { version = version; said = h.said; head_is = refl } in
+    let own : HasRead counts j (length (head ++ below)) (head ++ below) f g k =
+    record {
+      head = head;
+      headed = headed;
+      count_x = omega (arith, l0, b.0);
+      count_y = omega (arith, l1, b.1);
+      count_z = omega (arith, l2, b.2);
+      taken_is = refl;
+      place_is = refl;
+    } in
+    let new = (ended counts j (length (head ++ below)) (head ++ below) f g k own none).holds in
+    let old = (ended counts j (place_at version counts j) taken h.x h.y h.z h.read none).holds in
+    let new_head = (same_heads new.head head (counts_of f g k) counts (lane_blocks f g k) below new.headed headed (sym new.bytes_are)).same in
+    let same = same_heads old.head h.read.head (counts_of h.x h.y h.z) counts (lane_blocks h.x h.y h.z) (blocks_below j (packed h.x) (packed h.y) (packed h.z)) old.headed h.read.headed (sym old.bytes_are ∙ h.read.taken_is) in
+    let old_head : old.head ≡ head = same.same ∙ h.head_is in
+    let whole : head ++ below ≡ old.head ++ lane_blocks f g k = new.bytes_are ∙ ap (λ xs. xs ++ lane_blocks f g k) (new_head ∙ sym old_head) in
+    let x_is = append-nil h.x in
+    let y_is = append-nil h.y in
+    let z_is = append-nil h.z in
+    let written : head ++ blocks_below j (packed (hurt 0 hits (h.x ++ []))) (packed (hurt 1 hits (h.y ++ []))) (packed (hurt 2 hits (h.z ++ []))) ≡ head ++ below =
+    ap (λ r. head ++ blocks_below j (packed (hurt 0 hits r)) (packed (hurt 1 hits (h.y ++ []))) (packed (hurt 2 hits (h.z ++ [])))) x_is
+    ∙ ap₂ (λ r s. head ++ blocks_below j (packed f) (packed (hurt 1 hits r)) (packed (hurt 2 hits s))) y_is z_is in (
+      old.head ++ lane_blocks f g k,
+      record {
+        x = h.x;
+        y = h.y;
+        z = h.z;
+        holds = old;
+        fits = fits_same counts (counts_of h.x h.y h.z) hits (λ c lt. sym (same.count c lt)) lanes fit;
+        whole_is = refl;
+      },
+      subst (λ bs. Appends before now bs) (written ∙ whole) (h.wrote [] [] [] (ap length x_is ∙ e0) (ap length y_is ∙ e1) (ap length z_is ∙ e2)),
+    )
+
+-- a fault behind the header
+pub fault_late : (version : ℕ) (counts : List ℕ) (hits : List Hit) (bytes rest : List ℕ) (before now : Option (List ℕ)) (e : DamageError) → All (λ (h : Hit). h.lane < 3) hits → AllFitLanes counts hits
+    → CanSay version counts → bytes ≡ header_of version counts ++ rest → SaysFault (λ fault. IsLateFault version counts hits rest (header_of version counts) before now fault) e
+    → SaysBad (λ fault. IsDamageFault bytes hits before now fault) e
+fault_late version counts hits bytes rest before now (Bad fault) lanes fit said is h =
+    let head = header_of version counts in
+    let headed : IsHeader head counts = record { version = version; said = said; head_is = refl } in
+    record {
+      is = subst (λ bs. IsFault bs fault) (sym is) h.is;
+      within = λ other others tail own e.
+          fits_same counts others hits (same_heads head other counts others rest tail headed own (sym is ∙ e)).count lanes fit;
+      wrote = inr (record {
+        version = version;
+        counts = counts;
+        block = h.block;
+        taken = head ++ h.part;
+        rest = h.rest;
+        bytes_are = is ∙ ap (λ xs. head ++ xs) h.bytes_are ∙ sym (append_assoc head h.part h.rest);
+        half = h.half;
+        stops = h.stops;
+      });
+    }
+fault_late version counts hits bytes rest before now (Place i) lanes fit said is h = absurd h
+fault_late version counts hits bytes rest before now Read lanes fit said is h = h
+fault_late version counts hits bytes rest before now Write lanes fit said is h = h
+fault_late version counts hits bytes rest before now NoMemory lanes fit said is h = h
+
+-- a fault of bytes without a whole header
+pub fault_early : (hits : List Hit) (bytes : List ℕ) (before now : Option (List ℕ)) (e : DamageError) → Keeps before now → SaysBad (λ fault. IsFault bytes fault × IsHeadless bytes) e
+    → SaysBad (λ fault. IsDamageFault bytes hits before now fault) e
+fault_early hits bytes before now (Bad fault) kept h = record {
+  is = h.0;
+  within = λ head counts tail own e. absurd (h.1 head counts tail own e);
+  wrote = inl (h.1, kept);
+}
+fault_early hits bytes before now (Place i) kept h = h
+fault_early hits bytes before now Read kept h = h
+fault_early hits bytes before now Write kept h = h
+fault_early hits bytes before now NoMemory kept h = h
+
+-- a refusal of the reader names no place
+pub refused_placed : (e : CaptureError) (i : ℕ) → refused e ≡ Place i → ⊥
+refused_placed (errors.Bad fault) i is = cc
+refused_placed errors.Read i is = cc
+refused_placed errors.NoMemory i is = cc
+
+pub keeps_self : (a : Option (List ℕ)) → Keeps a a
+keeps_self None = tt
+keeps_self (Some bytes) = refl
+
+pub on_done : (p q : Type 0) (r : Result (Unit {0}) DamageError) → (p → q) → OnOk r p → OnOk r q
+on_done p q (Ok u) f h = f h
+on_done p q (Err e) f h = h
+
+pub on_error : (p q : DamageError → Type 0) (r : Result (Unit {0}) DamageError) → ((e : DamageError) → p e → q e) → IfErr r p → IfErr r q
+on_error p q (Ok u) f h = h
+on_error p q (Err e) f h = f e h
