@@ -175,10 +175,10 @@ SaysPlace says Read = Unit {0}
 SaysPlace says Write = Unit {0}
 SaysPlace says NoMemory = Unit {0}
 
--- what an error says of a failed read
+-- what an error says of a failed read; memory is not wanted
 abbrev pub SaysUnread : Type 0 → DamageError → Type 0
 SaysUnread says (Bad fault) = Unit {0}
 SaysUnread says (Place i) = Unit {0}
 SaysUnread says Read = says
 SaysUnread says Write = Unit {0}
-SaysUnread says NoMemory = Unit {0}
+SaysUnread says NoMemory = ⊥

@@ -128,11 +128,11 @@ SaysOf says (Bad fault) = says fault
 SaysOf says Read = Unit {0}
 SaysOf says NoMemory = ⊥
 
--- what an error of a reader says of a failed read
+-- what an error of a reader says of a failed read; memory is not wanted
 abbrev pub SaysRead : Type 0 → CaptureError → Type 0
 SaysRead says (Bad fault) = Unit {0}
 SaysRead says Read = says
-SaysRead says NoMemory = Unit {0}
+SaysRead says NoMemory = ⊥
 
 -- a place within so many bytes from another on
 abbrev pub IsWithin : ℕ → ℕ → ℕ → Type 0
