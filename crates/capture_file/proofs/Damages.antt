@@ -8,7 +8,7 @@ use Rattle.capture_file.specs.Layout.{packed, blocks_below}
 use Rattle.capture_file.specs.Captures.{counts_of, header_of, CanSay, IsHeader, HasRead, IsHeadless, IsFault, lane_blocks, block_size, place_at}
 use Rattle.capture_file.specs.Damage.{hurt}
 use Rattle.capture_file.specs.Refusals.{refused}
-use Rattle.capture_file.specs.BlockDamage.{AllFitLanes, Halfway, IsDamagedCapture, IsLateFault, IsDamageFault, SaysFault, SaysBad}
+use Rattle.capture_file.specs.BlockDamage.{AllFitLanes, Halfway, IsDamagedFront, IsDamagedCapture, IsLateFault, IsDamageFault, SaysFault, SaysBad}
 use Rattle.capture_file.specs.declared.damaging.Hit.{Hit}
 use Rattle.capture_file.specs.declared.damaging.DamageError.{DamageError}
 use Rattle.capture_file.specs.declared.damaging.DamageError.TheVariants.{Bad, Place, Read, Write, NoMemory}
@@ -31,7 +31,7 @@ pub halfway_head : (version : ℕ) (counts : List ℕ) (hits : List Hit) (before
     → Halfway version counts hits 0 (header_of version counts) before now
 halfway_head version counts hits before now s wrote =
     let h = header_of version counts in
-    record {
+    let front : IsDamagedFront version counts hits 0 h h = record {
       x = [];
       y = [];
       z = [];
@@ -46,15 +46,17 @@ halfway_head version counts hits before now s wrote =
       };
       said = s;
       head_is = refl;
-      wrote = λ u v w eu ev ew.
-          subst (λ bs. Appends before now bs) (sym (ap (λ xs. h ++ xs) (none_below (packed (hurt 0 hits ([] ++ u))) (packed (hurt 1 hits ([] ++ v))) (packed (hurt 2 hits ([] ++ w)))) ∙ append-nil h)) wrote;
-    }
+      out_is = λ u v w eu ev ew.
+          sym (ap (λ xs. h ++ xs) (none_below (packed (hurt 0 hits ([] ++ u))) (packed (hurt 1 hits ([] ++ v))) (packed (hurt 2 hits ([] ++ w)))) ∙ append-nil h);
+    } in
+    record { out = h; front = front; wrote = wrote }
 
 -- behind the last block the whole capture was written damaged
 pub halfway_done : (version : ℕ) (counts : List ℕ) (hits : List Hit) (j : ℕ) (taken : List ℕ) (before now : Option (List ℕ)) → All (λ (h : Hit). h.lane < 3) hits → AllFitLanes counts hits
     → block_size j counts ≡ 0 → Halfway version counts hits j taken before now → (whole : List ℕ) × IsDamagedCapture taken hits whole × Appends before now whole
-halfway_done version counts hits j taken before now lanes fit none h =
+halfway_done version counts hits j taken before now lanes fit none was =
     let head = header_of version counts in
+    let h = was.front in
     let b = no_block counts j none in
     let e0 : length h.x ≡ slice_index counts 0 = omega (arith, h.read.count_x, b.0) in
     let e1 : length h.y ≡ slice_index counts 1 = omega (arith, h.read.count_y, b.1) in
@@ -98,7 +100,7 @@ halfway_done version counts hits j taken before now lanes fit none h =
         fits = fits_same counts (counts_of h.x h.y h.z) hits (λ c lt. sym (same.count c lt)) lanes fit;
         whole_is = refl;
       },
-      subst (λ bs. Appends before now bs) (written ∙ whole) (h.wrote [] [] [] (ap length x_is ∙ e0) (ap length y_is ∙ e1) (ap length z_is ∙ e2)),
+      subst (λ bs. Appends before now bs) (h.out_is [] [] [] (ap length x_is ∙ e0) (ap length y_is ∙ e1) (ap length z_is ∙ e2) ∙ written ∙ whole) was.wrote,
     )
 
 -- a fault behind the header
@@ -107,35 +109,47 @@ pub fault_late : (version : ℕ) (counts : List ℕ) (hits : List Hit) (bytes re
     → SaysBad (λ fault. IsDamageFault bytes hits before now fault) e
 fault_late version counts hits bytes rest before now (Bad fault) lanes fit said is h =
     let head = header_of version counts in
-    let headed : IsHeader head counts = record { version = version; said = said; head_is = refl } in
-    record {
-      is = subst (λ bs. IsFault bs fault) (sym is) h.is;
-      within = λ other others tail own e.
-          fits_same counts others hits (same_heads head other counts others rest tail headed own (sym is ∙ e)).count lanes fit;
-      wrote = inr (record {
-        version = version;
-        counts = counts;
-        block = h.block;
-        taken = head ++ h.part;
-        rest = h.rest;
-        bytes_are = is ∙ ap (λ xs. head ++ xs) h.bytes_are ∙ sym (append_assoc head h.part h.rest);
-        half = h.half;
-        stops = h.stops;
-      });
-    }
+    let headed : IsHeader head counts = record { version = version; said = said; head_is = refl } in (
+      h.half.out,
+      record {
+        is = subst (λ bs. IsFault bs fault) (sym is) h.is;
+        within = λ other others tail own e.
+            fits_same counts others hits (same_heads head other counts others rest tail headed own (sym is ∙ e)).count lanes fit;
+        out_is = inr (record {
+          version = version;
+          counts = counts;
+          block = h.block;
+          taken = head ++ h.part;
+          rest = h.rest;
+          bytes_are = is ∙ ap (λ xs. head ++ xs) h.bytes_are ∙ sym (append_assoc head h.part h.rest);
+          front = h.half.front;
+          stops = h.stops;
+        });
+      },
+      h.half.wrote,
+    )
 fault_late version counts hits bytes rest before now (Place i) lanes fit said is h = absurd h
 fault_late version counts hits bytes rest before now Read lanes fit said is h = h
 fault_late version counts hits bytes rest before now Write lanes fit said is h = h
 fault_late version counts hits bytes rest before now NoMemory lanes fit said is h = h
 
+nothing_written : (old new : Option (List ℕ)) → Keeps old new → Appends old new []
+nothing_written None new h = tt
+nothing_written (Some xs) None h = absurd h
+nothing_written (Some xs) (Some ys) h = h ∙ sym (append-nil xs)
+
 -- a fault of bytes without a whole header
 pub fault_early : (hits : List Hit) (bytes : List ℕ) (before now : Option (List ℕ)) (e : DamageError) → Keeps before now → SaysBad (λ fault. IsFault bytes fault × IsHeadless bytes) e
     → SaysBad (λ fault. IsDamageFault bytes hits before now fault) e
-fault_early hits bytes before now (Bad fault) kept h = record {
-  is = h.0;
-  within = λ head counts tail own e. absurd (h.1 head counts tail own e);
-  wrote = inl (h.1, kept);
-}
+fault_early hits bytes before now (Bad fault) kept h = (
+  [],
+  record {
+    is = h.0;
+    within = λ head counts tail own e. absurd (h.1 head counts tail own e);
+    out_is = inl (h.1, refl);
+  },
+  nothing_written before now kept,
+)
 fault_early hits bytes before now (Place i) kept h = h
 fault_early hits bytes before now Read kept h = h
 fault_early hits bytes before now Write kept h = h

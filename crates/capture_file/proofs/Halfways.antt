@@ -8,7 +8,7 @@ use Rattle.std.specs.Io.KnownBytes.{Appends, Keeps}
 use Rattle.capture_file.specs.Layout.{packed, chunk, block, blocks_below}
 use Rattle.capture_file.specs.Captures.{header_of, IsHeader, CanSay, HasRead, bits_in, block_size, place_of, IsFault, StopsIn}
 use Rattle.capture_file.specs.Damage.{hurt}
-use Rattle.capture_file.specs.BlockDamage.{AllFitLanes, LaneFits, Halfway, HurtChunk, CutIn, SaysFault, IsLateFault}
+use Rattle.capture_file.specs.BlockDamage.{AllFitLanes, LaneFits, Halfway, IsDamagedFront, HurtChunk, CutIn, SaysFault, IsLateFault}
 use Rattle.capture_file.specs.declared.damaging.DamageError.{DamageError}
 use Rattle.capture_file.specs.declared.damaging.DamageError.TheVariants.{Bad, Place, Read, Write, NoMemory}
 use Rattle.capture_file.specs.declared.damaging.Hit.{Hit}
@@ -59,6 +59,12 @@ next_head version counts taken part x y z j place said head blocks is own r =
     (same_heads r.head h counts counts (blocks_below j (packed x) (packed y) (packed z)) (blocks ++ part) r.headed headed
     (sym r.taken_is ∙ ap (λ xs. xs ++ part) (is ∙ ap (λ xs. xs ++ blocks) own) ∙ append_assoc h blocks part)).same
 
+-- what was written, however the lanes go on
+halfway_wrote : (version : ℕ) (counts : List ℕ) (hits : List Hit) (j : ℕ) (taken : List ℕ) (before now : Option (List ℕ)) → (h : Halfway version counts hits j taken before now)
+    → (u v w : List Bool) → length (h.front.x ++ u) ≡ slice_index counts 0 → length (h.front.y ++ v) ≡ slice_index counts 1 → length (h.front.z ++ w) ≡ slice_index counts 2
+    → Appends before now (header_of version counts ++ blocks_below j (packed (hurt 0 hits (h.front.x ++ u))) (packed (hurt 1 hits (h.front.y ++ v))) (packed (hurt 2 hits (h.front.z ++ w))))
+halfway_wrote version counts hits j taken before now h u v w eu ev ew = subst (λ bs. Appends before now bs) (h.front.out_is u v w eu ev ew) h.wrote
+
 -- a block more
 pub halfway_more : (version : ℕ) (counts : List ℕ) (hits : List Hit) (j : ℕ) (taken : List ℕ) (before mid now : Option (List ℕ)) (a b d a' b' d' : List Bool)
     → AllFitLanes counts hits → length a ≡ bits_in j (slice_index counts 0) → length b ≡ bits_in j (slice_index counts 1) → length d ≡ bits_in j (slice_index counts 2)
@@ -66,34 +72,41 @@ pub halfway_more : (version : ℕ) (counts : List ℕ) (hits : List Hit) (j : �
     → Appends mid now ((packed a' ++ packed b') ++ packed d') → Halfway version counts hits j taken before mid → Halfway version counts hits (j + 1) (taken ++ ((packed a ++ packed b) ++ packed d)) before now
 halfway_more version counts hits j taken before mid now a b d a' b' d' fit la lb ld ha hb hd wrote was =
     let head = header_of version counts in
-    record {
-      x = was.x ++ a;
-      y = was.y ++ b;
-      z = was.z ++ d;
-      read = stands_more version counts j taken was.x was.y was.z a b d was.read la lb ld;
-      said = was.said;
-      head_is = next_head version counts taken ((packed a ++ packed b) ++ packed d) (was.x ++ a) (was.y ++ b) (was.z ++ d) (j + 1) _ was.said was.read.head (blocks_below j (packed was.x) (packed was.y) (packed was.z)) was.read.taken_is was.head_is
-          (stands_more version counts j taken was.x was.y was.z a b d was.read la lb ld);
-      wrote = λ u v w eu ev ew.
-          let f = hurt 0 hits (was.x ++ (a ++ u)) in
-          let g = hurt 1 hits (was.y ++ (b ++ v)) in
-          let h = hurt 2 hits (was.z ++ (d ++ w)) in
-          let e0 = append_assoc was.x a u in
-          let e1 = append_assoc was.y b v in
-          let e2 = append_assoc was.z d w in
-          let first = was.wrote (a ++ u) (b ++ v) (d ++ w) (ap length (sym e0) ∙ eu) (ap length (sym e1) ∙ ev) (ap length (sym e2) ∙ ew) in
-          let c0 = hurt_chunk 0 (slice_index counts 0) j hits was.x a u a' was.read.count_x la eu (lane_fits counts hits 0 (slice_index counts 0) fit refl) ha in
-          let c1 = hurt_chunk 1 (slice_index counts 1) j hits was.y b v b' was.read.count_y lb ev (lane_fits counts hits 1 (slice_index counts 1) fit refl) hb in
-          let c2 = hurt_chunk 2 (slice_index counts 2) j hits was.z d w d' was.read.count_z ld ew (lane_fits counts hits 2 (slice_index counts 2) fit refl) hd in
-          let own : block j (packed f) (packed g) (packed h) ≡ (packed a' ++ packed b') ++ packed d' =
+    let old = was.front in
+    let own = (packed a' ++ packed b') ++ packed d' in
+    let front : IsDamagedFront version counts hits (j + 1) (taken ++ ((packed a ++ packed b) ++ packed d)) (was.out ++ own) = record {
+      x = old.x ++ a;
+      y = old.y ++ b;
+      z = old.z ++ d;
+      read = stands_more version counts j taken old.x old.y old.z a b d old.read la lb ld;
+      said = old.said;
+      head_is = next_head version counts taken ((packed a ++ packed b) ++ packed d) (old.x ++ a) (old.y ++ b) (old.z ++ d) (j + 1) _ old.said old.read.head (blocks_below j (packed old.x) (packed old.y) (packed old.z)) old.read.taken_is old.head_is
+          (stands_more version counts j taken old.x old.y old.z a b d old.read la lb ld);
+      out_is = λ u v w eu ev ew.
+          let f = hurt 0 hits (old.x ++ (a ++ u)) in
+          let g = hurt 1 hits (old.y ++ (b ++ v)) in
+          let h = hurt 2 hits (old.z ++ (d ++ w)) in
+          let e0 = append_assoc old.x a u in
+          let e1 = append_assoc old.y b v in
+          let e2 = append_assoc old.z d w in
+          let first = old.out_is (a ++ u) (b ++ v) (d ++ w) (ap length (sym e0) ∙ eu) (ap length (sym e1) ∙ ev) (ap length (sym e2) ∙ ew) in
+          let c0 = hurt_chunk 0 (slice_index counts 0) j hits old.x a u a' old.read.count_x la eu (lane_fits counts hits 0 (slice_index counts 0) fit refl) ha in
+          let c1 = hurt_chunk 1 (slice_index counts 1) j hits old.y b v b' old.read.count_y lb ev (lane_fits counts hits 1 (slice_index counts 1) fit refl) hb in
+          let c2 = hurt_chunk 2 (slice_index counts 2) j hits old.z d w d' old.read.count_z ld ew (lane_fits counts hits 2 (slice_index counts 2) fit refl) hd in
+          let block_is_own : block j (packed f) (packed g) (packed h) ≡ (packed a' ++ packed b') ++ packed d' =
           block_is j (packed f) (packed g) (packed h) ∙ ap₂ (λ p q. (p ++ q) ++ chunk j (packed h)) c0 c1 ∙ ap (λ q. (packed a' ++ packed b') ++ q) c2 in
           let all : head ++ blocks_below (j + 1) (packed f) (packed g) (packed h) ≡ (head ++ blocks_below j (packed f) (packed g) (packed h)) ++ ((packed a' ++ packed b') ++ packed d') =
-          blocks-more head (packed f) (packed g) (packed h) j ∙ ap (λ q. (head ++ blocks_below j (packed f) (packed g) (packed h)) ++ q) own in
-          let same : head ++ blocks_below (j + 1) (packed (hurt 0 hits ((was.x ++ a) ++ u))) (packed (hurt 1 hits ((was.y ++ b) ++ v))) (packed (hurt 2 hits ((was.z ++ d) ++ w)))
+          blocks-more head (packed f) (packed g) (packed h) j ∙ ap (λ q. (head ++ blocks_below j (packed f) (packed g) (packed h)) ++ q) block_is_own in
+          let same : head ++ blocks_below (j + 1) (packed (hurt 0 hits ((old.x ++ a) ++ u))) (packed (hurt 1 hits ((old.y ++ b) ++ v))) (packed (hurt 2 hits ((old.z ++ d) ++ w)))
           ≡ head ++ blocks_below (j + 1) (packed f) (packed g) (packed h) =
-          ap (λ r. head ++ blocks_below (j + 1) (packed (hurt 0 hits r)) (packed (hurt 1 hits ((was.y ++ b) ++ v))) (packed (hurt 2 hits ((was.z ++ d) ++ w)))) e0
+          ap (λ r. head ++ blocks_below (j + 1) (packed (hurt 0 hits r)) (packed (hurt 1 hits ((old.y ++ b) ++ v))) (packed (hurt 2 hits ((old.z ++ d) ++ w)))) e0
           ∙ ap₂ (λ r s. head ++ blocks_below (j + 1) (packed f) (packed (hurt 1 hits r)) (packed (hurt 2 hits s))) e1 e2 in
-          Appends-two before mid now (head ++ blocks_below j (packed f) (packed g) (packed h)) ((packed a' ++ packed b') ++ packed d') _ (same ∙ all) first wrote;
+          ap (λ q. q ++ own) first ∙ sym (same ∙ all);
+    } in
+    record {
+      out = was.out ++ own;
+      front = front;
+      wrote = Appends-two before mid now was.out own (was.out ++ own) refl was.wrote wrote;
     }
 
 -- the blocks below one have as many bytes, damaged or not, and whatever the lanes go on with
@@ -141,49 +154,49 @@ halfway_cut version counts hits j gone taken before mid now a b d a' b' d' fit l
     let size : length old ≡ block_size j counts =
     omega (arith, la, lb, ld, length-append (packed a ++ packed b) (packed d), length-append (packed a) (packed b), length-packed a, length-packed b, length-packed d) in
     record {
-      x = was.x ++ a;
-      y = was.y ++ b;
-      z = was.z ++ d;
-      read = stands_more version counts j taken was.x was.y was.z a b d was.read la lb ld;
-      said = was.said;
-      head_is = next_head version counts taken ((packed a ++ packed b) ++ packed d) (was.x ++ a) (was.y ++ b) (was.z ++ d) (j + 1) _ was.said was.read.head (blocks_below j (packed was.x) (packed was.y) (packed was.z)) was.read.taken_is was.head_is
-          (stands_more version counts j taken was.x was.y was.z a b d was.read la lb ld);
+      x = was.front.x ++ a;
+      y = was.front.y ++ b;
+      z = was.front.z ++ d;
+      read = stands_more version counts j taken was.front.x was.front.y was.front.z a b d was.front.read la lb ld;
+      said = was.front.said;
+      head_is = next_head version counts taken ((packed a ++ packed b) ++ packed d) (was.front.x ++ a) (was.front.y ++ b) (was.front.z ++ d) (j + 1) _ was.front.said was.front.read.head (blocks_below j (packed was.front.x) (packed was.front.y) (packed was.front.z)) was.front.read.taken_is was.front.head_is
+          (stands_more version counts j taken was.front.x was.front.y was.front.z a b d was.front.read la lb ld);
       gone = length taken + gone;
       missing = omega (arith, less, long, length-append taken old);
       most = omega (arith, size, length-append taken old);
       wrote = λ u v w eu ev ew.
-          let f = hurt 0 hits (was.x ++ (a ++ u)) in
-          let g = hurt 1 hits (was.y ++ (b ++ v)) in
-          let h = hurt 2 hits (was.z ++ (d ++ w)) in
-          let e0 = append_assoc was.x a u in
-          let e1 = append_assoc was.y b v in
-          let e2 = append_assoc was.z d w in
+          let f = hurt 0 hits (was.front.x ++ (a ++ u)) in
+          let g = hurt 1 hits (was.front.y ++ (b ++ v)) in
+          let h = hurt 2 hits (was.front.z ++ (d ++ w)) in
+          let e0 = append_assoc was.front.x a u in
+          let e1 = append_assoc was.front.y b v in
+          let e2 = append_assoc was.front.z d w in
           let t0 = ap length (sym e0) ∙ eu in
           let t1 = ap length (sym e1) ∙ ev in
           let t2 = ap length (sym e2) ∙ ew in
-          let first = was.wrote (a ++ u) (b ++ v) (d ++ w) t0 t1 t2 in
-          let c0 = hurt_chunk 0 (slice_index counts 0) j hits was.x a u a' was.read.count_x la eu (lane_fits counts hits 0 (slice_index counts 0) fit refl) ha in
-          let c1 = hurt_chunk 1 (slice_index counts 1) j hits was.y b v b' was.read.count_y lb ev (lane_fits counts hits 1 (slice_index counts 1) fit refl) hb in
-          let c2 = hurt_chunk 2 (slice_index counts 2) j hits was.z d w d' was.read.count_z ld ew (lane_fits counts hits 2 (slice_index counts 2) fit refl) hd in
-          let f_long = hurt_all 0 hits (was.x ++ (a ++ u)) (lane_fits counts hits 0 (length (was.x ++ (a ++ u))) fit t0) ∙ t0 in
-          let g_long = hurt_all 1 hits (was.y ++ (b ++ v)) (lane_fits counts hits 1 (length (was.y ++ (b ++ v))) fit t1) ∙ t1 in
-          let h_long = hurt_all 2 hits (was.z ++ (d ++ w)) (lane_fits counts hits 2 (length (was.z ++ (d ++ w))) fit t2) ∙ t2 in
+          let first = halfway_wrote version counts hits j taken before mid was (a ++ u) (b ++ v) (d ++ w) t0 t1 t2 in
+          let c0 = hurt_chunk 0 (slice_index counts 0) j hits was.front.x a u a' was.front.read.count_x la eu (lane_fits counts hits 0 (slice_index counts 0) fit refl) ha in
+          let c1 = hurt_chunk 1 (slice_index counts 1) j hits was.front.y b v b' was.front.read.count_y lb ev (lane_fits counts hits 1 (slice_index counts 1) fit refl) hb in
+          let c2 = hurt_chunk 2 (slice_index counts 2) j hits was.front.z d w d' was.front.read.count_z ld ew (lane_fits counts hits 2 (slice_index counts 2) fit refl) hd in
+          let f_long = hurt_all 0 hits (was.front.x ++ (a ++ u)) (lane_fits counts hits 0 (length (was.front.x ++ (a ++ u))) fit t0) ∙ t0 in
+          let g_long = hurt_all 1 hits (was.front.y ++ (b ++ v)) (lane_fits counts hits 1 (length (was.front.y ++ (b ++ v))) fit t1) ∙ t1 in
+          let h_long = hurt_all 2 hits (was.front.z ++ (d ++ w)) (lane_fits counts hits 2 (length (was.front.z ++ (d ++ w))) fit t2) ∙ t2 in
           let front = head ++ blocks_below j (packed f) (packed g) (packed h) in
           let front_long : length front ≡ length taken =
           omega (
             arith,
-            same_long counts j was.x was.y was.z f g h was.read.count_x was.read.count_y was.read.count_z f_long g_long h_long,
+            same_long counts j was.front.x was.front.y was.front.z f g h was.front.read.count_x was.front.read.count_y was.front.read.count_z f_long g_long h_long,
             length-append head (blocks_below j (packed f) (packed g) (packed h)),
-            ap length was.read.taken_is,
-            length-append was.read.head (blocks_below j (packed was.x) (packed was.y) (packed was.z)),
-            ap length was.head_is,
+            ap length was.front.read.taken_is,
+            length-append was.front.read.head (blocks_below j (packed was.front.x) (packed was.front.y) (packed was.front.z)),
+            ap length was.front.head_is,
           ) in
           let own_block : block j (packed f) (packed g) (packed h) ≡ own =
           block_is j (packed f) (packed g) (packed h) ∙ ap₂ (λ p q. (p ++ q) ++ chunk j (packed h)) c0 c1 ∙ ap (λ q. (packed a' ++ packed b') ++ q) c2 in
           let all : head ++ blocks_below (j + 1) (packed f) (packed g) (packed h) ≡ front ++ own = blocks-more head (packed f) (packed g) (packed h) j ∙ ap (λ q. front ++ q) own_block in
-          let same : head ++ blocks_below (j + 1) (packed (hurt 0 hits ((was.x ++ a) ++ u))) (packed (hurt 1 hits ((was.y ++ b) ++ v))) (packed (hurt 2 hits ((was.z ++ d) ++ w)))
+          let same : head ++ blocks_below (j + 1) (packed (hurt 0 hits ((was.front.x ++ a) ++ u))) (packed (hurt 1 hits ((was.front.y ++ b) ++ v))) (packed (hurt 2 hits ((was.front.z ++ d) ++ w)))
           ≡ head ++ blocks_below (j + 1) (packed f) (packed g) (packed h) =
-          ap (λ r. head ++ blocks_below (j + 1) (packed (hurt 0 hits r)) (packed (hurt 1 hits ((was.y ++ b) ++ v))) (packed (hurt 2 hits ((was.z ++ d) ++ w)))) e0
+          ap (λ r. head ++ blocks_below (j + 1) (packed (hurt 0 hits r)) (packed (hurt 1 hits ((was.front.y ++ b) ++ v))) (packed (hurt 2 hits ((was.front.z ++ d) ++ w)))) e0
           ∙ ap₂ (λ r s. head ++ blocks_below (j + 1) (packed f) (packed (hurt 1 hits r)) (packed (hurt 2 hits s))) e1 e2 in
           Appends-part before mid now front own [] _ (length taken) gone (same ∙ all ∙ sym (append-nil (front ++ own))) front_long less first wrote;
     }
@@ -195,15 +208,7 @@ appends_kept (Some x) (Some y) None bs h k = absurd k
 appends_kept (Some x) (Some y) (Some z) bs h k = k ∙ h
 
 pub halfway_kept : (version : ℕ) (counts : List ℕ) (hits : List Hit) (j : ℕ) (taken : List ℕ) (before mid now : Option (List ℕ)) → Keeps mid now → Halfway version counts hits j taken before mid → Halfway version counts hits j taken before now
-halfway_kept version counts hits j taken before mid now k h = record {
-  x = h.x;
-  y = h.y;
-  z = h.z;
-  read = h.read;
-  said = h.said;
-  head_is = h.head_is;
-  wrote = λ u v w eu ev ew. appends_kept before mid now _ (h.wrote u v w eu ev ew) k;
-}
+halfway_kept version counts hits j taken before mid now k h = record { out = h.out; front = h.front; wrote = appends_kept before mid now h.out h.wrote k }
 
 -- a fault in a block is one of all the bytes
 pub late_fault : (version : ℕ) (counts : List ℕ) (hits : List Hit) (j : ℕ) (bytes taken part rest : List ℕ) (before mid now : Option (List ℕ)) (e : DamageError) → bytes ≡ part ++ rest

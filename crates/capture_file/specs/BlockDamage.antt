@@ -33,17 +33,23 @@ pub record HurtChunk (lane from : ℕ) (hits : List Hit) (old now : List Bool) :
   pub long : length now ≡ length old
   pub part : (row : List Bool) → LaneFits lane (length row) hits → old ≡ take (length old) (drop from row) → now ≡ take (length old) (drop from (hurt lane hits row))
 
--- the header and the blocks below j were taken, and written damaged, whatever the lanes go on with
-pub record Halfway (version : ℕ) (counts : List ℕ) (hits : List Hit) (j : ℕ) (taken : List ℕ) (before now : Option (List ℕ)) : Type 0 where
+-- the header and the blocks below j were taken, and this is what they are damaged, whatever the lanes go on with
+pub record IsDamagedFront (version : ℕ) (counts : List ℕ) (hits : List Hit) (j : ℕ) (taken out : List ℕ) : Type 0 where
   pub x : List Bool
   pub y : List Bool
   pub z : List Bool
   pub read : Stands version counts j taken x y z
   pub said : CanSay version counts
   pub head_is : read.head ≡ header_of version counts
-  pub wrote :
+  pub out_is :
       (u v w : List Bool) → length (x ++ u) ≡ slice_index counts 0 → length (y ++ v) ≡ slice_index counts 1 → length (z ++ w) ≡ slice_index counts 2
-      → Appends before now (header_of version counts ++ blocks_below j (packed (hurt 0 hits (x ++ u))) (packed (hurt 1 hits (y ++ v))) (packed (hurt 2 hits (z ++ w))))
+      → out ≡ header_of version counts ++ blocks_below j (packed (hurt 0 hits (x ++ u))) (packed (hurt 1 hits (y ++ v))) (packed (hurt 2 hits (z ++ w)))
+
+-- the header and the blocks below j were taken, and written damaged
+pub record Halfway (version : ℕ) (counts : List ℕ) (hits : List Hit) (j : ℕ) (taken : List ℕ) (before now : Option (List ℕ)) : Type 0 where
+  pub out : List ℕ
+  pub front : IsDamagedFront version counts hits j taken out
+  pub wrote : Appends before now out
 
 -- what a fault says, where an error is one
 abbrev pub SaysFault : (CaptureFault → Type 0) → DamageError → Type 0
@@ -100,23 +106,36 @@ pub record IsMisplacedLane (left rest : Option (List ℕ)) (hits : List Hit) (i 
   pub took : Consumes left rest head
   pub first : IsFirstPastLane counts hits i
 
--- the header and the whole blocks that end at or before a place, and these alone, were written damaged
-pub record IsDamagedBefore (bytes : List ℕ) (place : ℕ) (hits : List Hit) (before now : Option (List ℕ)) : Type 0 where
+-- the bytes have a whole header, and hit i is the first whose ten bits pass the end of its own lane as that header says it
+pub record IsMisplacedIn (bytes : List ℕ) (hits : List Hit) (i : ℕ) : Type 0 where
+  pub head : List ℕ
+  pub tail : List ℕ
+  pub counts : List ℕ
+  pub headed : IsHeader head counts
+  pub bytes_are : bytes ≡ head ++ tail
+  pub first : IsFirstPastLane counts hits i
+
+-- the header and the whole blocks that end at or before a place, and these alone, damaged
+pub record IsDamagedBefore (bytes : List ℕ) (place : ℕ) (hits : List Hit) (out : List ℕ) : Type 0 where
   pub version : ℕ
   pub counts : List ℕ
   pub block : ℕ
   pub taken : List ℕ
   pub rest : List ℕ
   pub bytes_are : bytes ≡ taken ++ rest
-  pub half : Halfway version counts hits block taken before now
+  pub front : IsDamagedFront version counts hits block taken out
   pub stops : StopsIn counts block taken place
 
--- a fault of bytes, no hit of which passes the end of its lane: nothing was written where they have no whole header, else the
--- header and the whole blocks before the fault's place
-pub record IsDamageFault (bytes : List ℕ) (hits : List Hit) (before now : Option (List ℕ)) (fault : CaptureFault) : Type 0 where
+-- what is written for a fault of bytes, no hit of which passes the end of its lane: nothing where they have no whole header,
+-- else the header and the whole blocks before the fault's place
+pub record IsFaultyDamage (bytes : List ℕ) (hits : List Hit) (fault : CaptureFault) (out : List ℕ) : Type 0 where
   pub is : IsFault bytes fault
   pub within : AreWithinLanes bytes hits
-  pub wrote : (IsHeadless bytes × Keeps before now) ⊎ IsDamagedBefore bytes (place_of fault) hits before now
+  pub out_is : (IsHeadless bytes × (out ≡ [])) ⊎ IsDamagedBefore bytes (place_of fault) hits out
+
+-- and it was written
+abbrev pub IsDamageFault : List ℕ → List Hit → Option (List ℕ) → Option (List ℕ) → CaptureFault → Type 0
+IsDamageFault bytes hits before now fault = (out : List ℕ) × IsFaultyDamage bytes hits fault out × Appends before now out
 
 -- what a fault says, where an error is one; memory is not wanted
 abbrev pub SaysBad : (CaptureFault → Type 0) → DamageError → Type 0

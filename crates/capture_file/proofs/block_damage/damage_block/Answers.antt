@@ -19,10 +19,10 @@ pub returns-in-Err-clause-err : goal.returns-in-Err-clause-err
 returns-in-Err-clause-err g c bytes taken before e h =
     let a = c.args.heading in
     let p = λ (fault : CaptureFault). IsFault (taken ++ bytes) fault × StopsIn a.bits c.args.j taken (place_of fault) in
-    let s = subst (λ n. HasRead a.bits c.args.j n taken h.x h.y h.z) (sym c.place-place.ensures.place) h.read in
+    let s = subst (λ n. HasRead a.bits c.args.j n taken h.front.x h.front.y h.front.z) (sym c.place-place.ensures.place) h.front.read in
     subst (λ r. SaysFault p r) (sym c.from.ensures)
     (fault_of p c.in-Err.error
-    (says_inside a.version a.bits c.args.j c.place-place.result taken bytes h.x h.y h.z c.in-Err.error h.read c.place-place.ensures.place (c.in-Err.ensures.err bytes taken h.x h.y h.z e s) c.in-Err.ensures.within))
+    (says_inside a.version a.bits c.args.j c.place-place.result taken bytes h.front.x h.front.y h.front.z c.in-Err.error h.front.read c.place-place.ensures.place (c.in-Err.ensures.err bytes taken h.front.x h.front.y h.front.z e s) c.in-Err.ensures.within))
 
 pub returns-in-Ok-write-clause-ok : goal.returns-in-Ok-write-clause-ok
 returns-in-Ok-write-clause-ok g c taken before h =

@@ -109,7 +109,7 @@ returns-in-Err-read_end-clause-err g c bytes taken before e h =
     let at : c.place.result ≡ place_at a.version a.bits j = c.place.ensures.place ∙ ap (λ k. place_at a.version a.bits k) (sym last) in
     subst (λ r. SaysFault (λ fault. IsLateFault a.version a.bits c.args.hits.now bytes taken before (g.K.Sink.held c.loop-j.out) fault) r) (sym c.from.ensures)
     (late_end a.version a.bits c.args.hits.now j bytes taken w.0 s.0 before (g.K.Sink.held c.loop-j.out) c.in-Err-read_end.error s.1 w.2
-    (says_end a.version a.bits j c.place.result (taken ++ w.0) s.0 w.2.x w.2.y w.2.z c.in-Err-read_end.error w.2.read none at (c.in-Err-read_end.ensures.err s.0 s.2)))
+    (says_end a.version a.bits j c.place.result (taken ++ w.0) s.0 w.2.front.x w.2.front.y w.2.front.z c.in-Err-read_end.error w.2.front.read none at (c.in-Err-read_end.ensures.err s.0 s.2)))
 
 read_part : (e : CaptureError) (r : Result (Unit {0}) DamageError) (d : DamageError) (p : Type 0) → r ≡ Err d → d ≡ refused e → r ≡ Err Read → SaysRead p e → p
 read_part (errors.Bad fault) r d p own is same h = cc
