@@ -6,8 +6,8 @@ use Rattle.std.specs.Io.KnownBytes.{Appends, Keeps, IsAtEnd}
 use Rattle.std.proofs.KnownBytes.{Appends-nil}
 use Rattle.std.proofs.lemmas.List.Elements.{All-nil, All-cons, All-map}
 use Rattle.tmds_word.specs.Column.{Column}
-use Rattle.capture_file.specs.Faults.{IsCapture, IsFault}
-use Rattle.capture_file.specs.Damage.{IsDamaged, IsMisplaced, AreWithin}
+use Rattle.capture_file.specs.BlockDamage.{IsDamagedCapture, IsMisplacedIn, IsMisplacedLane, IsDamageFault, SaysBad, ReadFailed as DamageUnread, WriteFailed as DamageUnwritten}
+use Rattle.capture_file.proofs.Marks.{consumed}
 use Rattle.capture_file.specs.declared.damaging.Hit.{Hit}
 use Rattle.capture_file.specs.declared.damaging.DamageError.{DamageError}
 use Rattle.capture_file.specs.declared.damaging.DamageError.TheVariants as damages
@@ -215,15 +215,12 @@ raster_ends words mode frames r Long before after read answers err kept =
 
 -- what a copy of a capture with its hits says of its answer
 pub record Damaged (hits : List Hit) (before after : Devices) (r : Result (Unit {0}) DamageError) : Type 0 where
-  pub done :
-      (bytes : List ℕ) → before.left ≡ Some bytes
-      → OnOk r ((whole : List ℕ) × IsCapture bytes × IsDamaged bytes hits whole × Appends before.held after.held whole)
-  pub bad : (bytes : List ℕ) (fault : CaptureFault) → before.left ≡ Some bytes → r ≡ Err (damages.Bad fault) → IsFault bytes fault × AreWithin bytes hits
-  pub place : (bytes : List ℕ) (i : ℕ) → before.left ≡ Some bytes → r ≡ Err (damages.Place i) → IsMisplaced bytes hits i
-  pub part :
-      (bytes : List ℕ) → before.left ≡ Some bytes → r ≡ Err damages.Write
-      → (whole : List ℕ) × (gone : ℕ) × IsCapture bytes × IsDamaged bytes hits whole × (gone < length whole) × Appends before.held after.held (take gone whole)
-  pub unwritten : IfErr r (λ e. (e ≡ damages.Write → ⊥) → Keeps before.held after.held)
+  pub done : (bytes : List ℕ) → before.left ≡ Some bytes → OnOk r ((whole : List ℕ) × IsDamagedCapture bytes hits whole × Appends before.held after.held whole)
+  pub bad : (bytes : List ℕ) → before.left ≡ Some bytes → IfErr r (λ e. SaysBad (λ fault. IsDamageFault bytes hits before.held after.held fault) e)
+  pub place : (i : ℕ) → r ≡ Err (damages.Place i) → IsMisplacedLane before.left after.left hits i × Keeps before.held after.held
+  pub read : r ≡ Err damages.Read → DamageUnread before.left after.left hits before.held after.held
+  pub part : r ≡ Err damages.Write → DamageUnwritten before.left after.left hits before.held after.held
+  pub memory : r ≡ Err damages.NoMemory → ⊥
   pub ended : OnOk r (IsAtEnd after.left)
   pub read_cause : r ≡ Err damages.Read → Rose before.input_faults after.input_faults
   pub write_cause : r ≡ Err damages.Write → Rose before.output_faults after.output_faults
@@ -233,27 +230,11 @@ nothing_written None new h = tt
 nothing_written (Some xs) None h = absurd h
 nothing_written (Some xs) (Some ys) h = h ∙ sym (append-nil xs)
 
-damage_refused : (words : List DamageWord) (e : Ending) (note : List ℕ) (before after : Devices) (bytes : List ℕ)
-    → Damages (map hit_asked words) bytes (record { status = 3; output = []; note = note }) → 3 ≡ status_of e → note ≡ note_of e → Keeps before.held after.held → IsAnswered (Damage words) e before after bytes
-damage_refused words e note before after bytes does same told kept = record {
-  outcome = record { status = 3; output = []; note = note };
-  does = does;
-  status = same;
-  note = told;
-  written = nothing_written before.held after.held kept;
-}
-
-bad_is_no_write : (fault : CaptureFault) → damages.Bad fault ≡ damages.Write → ⊥
-bad_is_no_write fault h = cc
-
-place_is_no_write : (i : ℕ) → damages.Place i ≡ damages.Write → ⊥
-place_is_no_write i h = cc
-
-read_is_no_write : damages.Read ≡ damages.Write → ⊥
-read_is_no_write h = cc
-
-memory_is_no_write : damages.NoMemory ≡ damages.Write → ⊥
-memory_is_no_write h = cc
+-- the header that was taken is that of the bytes
+misplaced : (hits : List Hit) (left rest : Option (List ℕ)) (bytes : List ℕ) (i : ℕ) → left ≡ Some bytes → IsMisplacedLane left rest hits i → IsMisplacedIn bytes hits i
+misplaced hits left rest bytes i told h =
+    let c = consumed left rest bytes h.head told h.took in
+    record { head = h.head; tail = c.0; counts = h.counts; headed = h.headed; bytes_are = c.1; first = h.first }
 
 pub damaged : (words : List DamageWord) (r : Result (Unit {0}) DamageError) (before after : Devices)
     → Damaged (map hit_asked words) before after r → Ends (Damage words) (damage_ending r) before after
@@ -261,36 +242,36 @@ damaged words (Ok done) before after it = (
   it.ended,
   λ bytes told. let whole = it.done bytes told in record {
     outcome = record { status = 0; output = whole.0; note = [] };
-    does = inl (whole.0, whole.1, whole.2, refl);
+    does = inl (whole.0, whole.1, refl);
     status = refl;
     note = refl;
-    written = whole.3;
+    written = whole.2;
   },
 )
-damaged words (Err (damages.Bad fault)) before after it =
-    let kept = it.unwritten (λ same. bad_is_no_write fault same) in (
-      tt,
-      λ bytes told. let bad = it.bad bytes fault told refl in
-          damage_refused words (Capture fault) (capture_note fault) before after bytes (inr (inr (fault, bad.0, bad.1, refl))) refl refl kept,
-    )
+damaged words (Err (damages.Bad fault)) before after it = (
+  tt,
+  λ bytes told. let bad = it.bad bytes told in record {
+    outcome = record { status = 3; output = bad.0; note = capture_note fault };
+    does = inr (inr (fault, bad.0, bad.1, refl));
+    status = refl;
+    note = refl;
+    written = bad.2;
+  },
+)
 damaged words (Err (damages.Place i)) before after it =
-    let kept = it.unwritten (λ same. place_is_no_write i same) in (
-      kept,
-      λ bytes told. damage_refused words (Place i) (place_note i) before after bytes (inr (inl (i, it.place bytes i told refl, refl))) refl refl kept,
+    let p = it.place i refl in (
+      p.1,
+      λ bytes told. record {
+        outcome = record { status = 3; output = []; note = place_note i };
+        does = inr (inl (i, misplaced (map hit_asked words) before.left after.left bytes i told p.0, refl));
+        status = refl;
+        note = refl;
+        written = nothing_written before.held after.held p.1;
+      },
     )
-damaged words (Err damages.Read) before after it = (it.read_cause refl, it.unwritten (λ same. read_is_no_write same))
-damaged words (Err damages.Write) before after it = (
-  it.write_cause refl,
-  λ bytes told. let p = it.part bytes told refl in record {
-    outcome = record { status = 0; output = p.0; note = [] };
-    gone = p.1;
-    does = inl (p.0, p.2, p.3, refl);
-    status = (0, omega arith, refl);
-    missing = p.4;
-    written = p.5;
-  },
-)
-damaged words (Err damages.NoMemory) before after it = it.unwritten (λ same. memory_is_no_write same)
+damaged words (Err damages.Read) before after it = (it.read_cause refl, it.read refl)
+damaged words (Err damages.Write) before after it = (it.write_cause refl, it.part refl)
+damaged words (Err damages.NoMemory) before after it = absurd (it.memory refl)
 
 -- the lanes of the hits that words ask for, as a copy wants them
 lanes_of_damages : (texts : List (List ℕ)) (words : List DamageWord) → AreDamages texts words → All (λ (w : DamageWord). w.lane < 3) words

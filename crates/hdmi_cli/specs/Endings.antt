@@ -1,8 +1,9 @@
 -- How a run ends, and what then stands.
-use Rattle.std.specs.Prelude.{◌≡◌, ◌⊎◌, ◌<◌, ◌≤◌, ℕ, zero, suc, List, [], ◌∷◌, length, take, Option, Some, Result, Ok, Err, Contains}
+use Rattle.std.specs.Prelude.{◌≡◌, ◌⊎◌, ◌<◌, ◌≤◌, ℕ, zero, suc, List, [], ◌∷◌, length, map, take, Option, Some, Result, Ok, Err, Contains}
 use Rattle.std.specs.Io.KnownBytes.{Appends, Consumes, IsAtEnd, Keeps}
 use Rattle.outside_io.specs.Causes.{Rose}
 use Rattle.capture_file.specs.Captures.{IsCaptureOf}
+use Rattle.capture_file.specs.BlockDamage.{ReadFailed as DamageUnread, WriteFailed as DamageUnwritten}
 use Rattle.capture_file.specs.declared.damaging.DamageError.{DamageError}
 use Rattle.capture_file.specs.declared.damaging.DamageError.TheVariants as damages
 use Rattle.source_end.specs.declared.refusal.RasterFault.{RasterFault}
@@ -16,7 +17,7 @@ use Rattle.period_grammar.specs.Things.{Thing}
 use Rattle.link_sink.specs.Alignment.{IsAlignedTold}
 use Rattle.link_sink.specs.Sinks.{Fed, IsToldSoFar}
 use Rattle.hdmi_cli.specs.Blocks.{AreNext, AreRead}
-use Rattle.hdmi_cli.specs.Commands.{IsCommand}
+use Rattle.hdmi_cli.specs.Commands.{IsCommand, hit_asked}
 use Rattle.hdmi_cli.specs.Listings.{Listing as ListingOf, link_listing, check_listing, content_listing}
 use Rattle.hdmi_cli.specs.Notes.{listing_note, raster_note, capture_note, place_note, usage_note, read_note, write_note, memory_note, alignment_note}
 use Rattle.hdmi_cli.specs.Outcome.{Outcome, Does, NamesNone}
@@ -165,7 +166,7 @@ EndsUnread (MakeContent tap) before after = Keeps before.held after.held
 EndsUnread RecoverLink before after = ListsRead link_listing before after
 EndsUnread RecoverContent before after = ListsRead content_listing before after
 EndsUnread Check before after = ListsRead check_listing before after
-EndsUnread (Damage damages) before after = Keeps before.held after.held
+EndsUnread (Damage damages) before after = DamageUnread before.left after.left (map hit_asked damages) before.held after.held
 EndsUnread (Sample frames) before after = ⊥
 
 -- and where a write failed
@@ -175,7 +176,7 @@ EndsUnwritten (MakeContent tap) before after = Parts (MakeContent tap) before af
 EndsUnwritten RecoverLink before after = ListsPart link_listing before after
 EndsUnwritten RecoverContent before after = ListsPart content_listing before after
 EndsUnwritten Check before after = ListsPart check_listing before after
-EndsUnwritten (Damage damages) before after = Parts (Damage damages) before after
+EndsUnwritten (Damage damages) before after = DamageUnwritten before.left after.left (map hit_asked damages) before.held after.held
 EndsUnwritten (Sample frames) before after = ⊥
 
 -- the commands that read a capture

@@ -12,8 +12,7 @@ use Rattle.source_end.specs.declared.refusal.RasterFault.{RasterFault}
 use Rattle.capture_file.specs.declared.reading.CaptureFault.{CaptureFault}
 use Rattle.capture_file.specs.declared.writing.Tap.{Tap}
 use Rattle.capture_file.specs.Captures.{IsCaptureOf, IsFault, place_of}
-use Rattle.capture_file.specs.Faults.{IsCapture, IsFault as IsFirstFault}
-use Rattle.capture_file.specs.Damage.{IsDamaged, IsMisplaced, AreWithin}
+use Rattle.capture_file.specs.BlockDamage.{IsDamagedCapture, IsMisplacedIn, IsFaultyDamage}
 use Rattle.capture_file.specs.declared.damaging.Hit.{Hit}
 use Rattle.capture_file.specs.Taps.{tapped_capture}
 use Rattle.period_grammar.specs.Things.{Thing}
@@ -83,12 +82,13 @@ ListsCapture listing bytes outcome =
     ((blue green red : List Bool) × IsCaptureOf blue green red bytes × ListsLanes listing blue green red outcome)
     ⊎ ((fault : CaptureFault) × ListsBefore listing bytes fault outcome)
 
--- bytes are a capture whose damaged capture is written, or are refused: by the first hit past its end, or as no capture
+-- bytes are a capture, of either version, whose damaged capture is written, or are refused: by the first hit past the end of
+-- its own lane, or by the place at which they stop being a capture, with the header and the whole blocks before it damaged
 abbrev pub Damages : List Hit → List ℕ → Outcome → Type 0
 Damages hits bytes outcome =
-    ((whole : List ℕ) × IsCapture bytes × IsDamaged bytes hits whole × (outcome ≡ record { status = 0; output = whole; note = [] }))
-    ⊎ ((i : ℕ) × IsMisplaced bytes hits i × (outcome ≡ record { status = 3; output = []; note = place_note i }))
-    ⊎ ((fault : CaptureFault) × IsFirstFault bytes fault × AreWithin bytes hits × (outcome ≡ record { status = 3; output = []; note = capture_note fault }))
+    ((whole : List ℕ) × IsDamagedCapture bytes hits whole × (outcome ≡ record { status = 0; output = whole; note = [] }))
+    ⊎ ((i : ℕ) × IsMisplacedIn bytes hits i × (outcome ≡ record { status = 3; output = []; note = place_note i }))
+    ⊎ ((fault : CaptureFault) × (out : List ℕ) × IsFaultyDamage bytes hits fault out × (outcome ≡ record { status = 3; output = out; note = capture_note fault }))
 
 -- what a command that is carried out makes of the input's bytes
 abbrev pub Does : Command → List ℕ → Outcome → Type 0

@@ -447,7 +447,7 @@ fn damage<S: Source, K: Sink>(
     ensures output_later { K.faults output.old ≤ K.faults output.new }
 {
     match hits_of(alloc, words) {
-        Ok(hits) => damaged(capture_file::damage(alloc, input, hits.as_slice(), output)),
+        Ok(hits) => damaged(capture_file::damage(input, hits.as_slice(), output)),
         Err(_) => Ending::NoMemory,
     }
 }
