@@ -6,9 +6,9 @@ ghost use Rattle.capture_file.specs.Layout.{packed, header, chunk, capture_of};
 ghost use Rattle.capture_file.specs.Captures.{header_of, header_two};
 ghost use Rattle.capture_file.specs.Taps.{limited, tap_lag, tapped_capture, HasBits, part_capture, part_block};
 
+use crate::Lanes;
 use crate::chunk::chunk_len;
 use crate::chunks::blocks_for;
-use crate::Lanes;
 use outside_io::{Sink, Wrote, write_all};
 use tmds_word::BitRow;
 
