@@ -13,7 +13,6 @@ use Rattle.capture_file.specs.declared.damaging.DamageError.{DamageError}
 use Rattle.capture_file.specs.declared.damaging.DamageError.TheVariants as damages
 use Rattle.capture_file.specs.Taps.{tapped_capture}
 use Rattle.capture_file.specs.declared.writing.Tap.{Tap}
-use Rattle.capture_file.specs.declared.reading.CaptureFault.{CaptureFault}
 use Rattle.island_pack.specs.Periods.{Period}
 use Rattle.island_pack.specs.Spelling.{Spells}
 use Rattle.listing.specs.Answers.{Answers as AnswersReading}
@@ -36,8 +35,8 @@ use Rattle.command_line.specs.declared.damage.DamageWord.{DamageWord}
 use Rattle.command_line.specs.declared.tap.TapWords.{TapWords}
 use Rattle.command_line.specs.Damages.{AreDamages}
 use Rattle.command_line.specs.Commands.{IsCommand as IsLine, IsVersion}
-use Rattle.hdmi_cli.specs.Outcome.{Outcome, MakesLink, MakesStream, MakesRaster, MakesContent, Damages, Does}
-use Rattle.hdmi_cli.specs.Endings.{Devices, IsAnswered, Parts, Ends, EndsUnwritten, StreamEnds, IsWhole, IsCut, status_of, note_of, damage_ending, raster_ending}
+use Rattle.hdmi_cli.specs.Outcome.{Outcome, MakesLink, MakesStream, MakesRaster, MakesContent, Does}
+use Rattle.hdmi_cli.specs.Endings.{Devices, IsAnswered, Parts, Ends, EndsUnwritten, StreamEnds, IsWhole, IsCut, damage_ending, raster_ending}
 use Rattle.command_line.specs.declared.command.Command.{Command}
 use Rattle.command_line.specs.declared.command.Command.TheVariants.{MakeLink, MakeContent, Damage}
 use Rattle.hdmi_cli.specs.declared.ending.Ending.{Ending}

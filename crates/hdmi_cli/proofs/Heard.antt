@@ -1,14 +1,14 @@
 -- How a command ends that lists what a capture says, from how the capture was heard.
 use Rattle.std.proofs.Common.{◌≡◌, ◌⊎◌, ℕ, zero, suc, ◌<◌, ◌≤◌, Bool, true, false, List, [], ◌∷◌, ◌++◌, length, take, refl, ap, sym, ◌∙◌, subst, inl, inr, arith, append-nil}
 use Rattle.std.specs.Prelude.{Option, Some, None, Result, Ok, Err, OnOk, OnErr}
-use Rattle.std.specs.Io.KnownBytes.{Appends, Consumes, IsAtEnd, Keeps}
+use Rattle.std.specs.Io.KnownBytes.{Appends, Consumes, IsAtEnd}
 use Rattle.std.proofs.KnownBytes.{Appends-trans}
 use Rattle.outside_io.specs.Causes.{Rose}
 use Rattle.capture_file.specs.Captures.{IsCaptureOf, IsFault, place_of}
 use Rattle.capture_file.specs.declared.reading.CaptureFault.{CaptureFault}
 use Rattle.period_grammar.specs.Things.{Thing}
 use Rattle.link_sink.specs.declared.hear.Outcome.{Outcome as Hearing}
-use Rattle.link_sink.specs.Alignment.{told_by, AreTold, IsAlignedTold, IsNowhereTold}
+use Rattle.link_sink.specs.Alignment.{told_by, AreTold, IsAlignedTold}
 use Rattle.link_sink.specs.Sinks.{Fed, IsToldSoFar}
 use Rattle.listing.specs.Texts.{counted}
 use Rattle.command_line.specs.declared.command.Command.{Command}
@@ -17,9 +17,9 @@ use Rattle.hdmi_cli.specs.Hearings.{IsHeardSome}
 use Rattle.hdmi_cli.specs.Endings.{Devices, IsAnswered, ListsRead, ListsPart, EndsUnread, EndsUnwritten, Ends, ReadsCapture, heard_ending, judged_ending, status_of, note_of}
 use Rattle.hdmi_cli.specs.Listings.{Listing}
 use Rattle.hdmi_cli.specs.Notes.{capture_note, alignment_note}
-use Rattle.hdmi_cli.specs.Outcome.{Outcome, ListsLanes, ListsCapture, Does, status_with}
+use Rattle.hdmi_cli.specs.Outcome.{Outcome, ListsCapture, Does, status_with}
 use Rattle.hdmi_cli.specs.declared.ending.Ending.{Ending}
-use Rattle.hdmi_cli.specs.declared.ending.Ending.TheVariants.{Done, Faulty, Capture, ReadFailed, WriteFailed, Unaligned}
+use Rattle.hdmi_cli.specs.declared.ending.Ending.TheVariants.{Done, Faulty, Unaligned}
 use Rattle.hdmi_cli.specs.declared.hearing.HearError.{HearError}
 use Rattle.hdmi_cli.specs.declared.hearing.HearError.TheVariants.{Bad, Read, Ear}
 use Rattle.hdmi_cli.proofs.Listings.{IsText, Writes, kept_none, broken_past, text_past, end_past, begins_told}

@@ -1,5 +1,5 @@
 -- The commands of the program: what the words of the command line name, as far as the program carries it out.
-use Rattle.std.specs.Prelude.{◌≡◌, ℕ, List}
+use Rattle.std.specs.Prelude.{ℕ, List}
 use Rattle.capture_file.specs.declared.damaging.Hit.{Hit}
 use Rattle.capture_file.specs.declared.writing.Tap.{Tap}
 use Rattle.command_line.specs.Commands.{IsCommand as IsLine}

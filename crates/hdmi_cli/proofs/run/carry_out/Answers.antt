@@ -3,9 +3,8 @@ use Rattle.std.specs.List.{All}
 use Rattle.command_line.specs.Commands.{IsCommand as IsLine}
 use Rattle.command_line.specs.declared.damage.DamageWord.{DamageWord}
 use Rattle.command_line.specs.declared.command.Command.{Command}
-use Rattle.hdmi_cli.specs.Commands.{IsCarriedOut}
 use Rattle.hdmi_cli.specs.Endings.{Devices}
-use Rattle.hdmi_cli.proofs.Ends.{line_of, unread_ends, uncarried_ends}
+use Rattle.hdmi_cli.proofs.Ends.{line_of, unread_ends}
 use Rattle.hdmi_cli.proofs.Answered.{lanes_of_line, version_of_line, version_of_content}
 use Rattle.hdmi_cli.proofs.run.carry_out.Goals as goal
 

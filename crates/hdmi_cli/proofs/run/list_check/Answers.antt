@@ -1,4 +1,4 @@
-use Rattle.std.proofs.Common.{rules, ◌≡◌, ◌∙◌, ◌<◌, ◌≤◌, ℕ, Bool, true, false, List, [], length, take, sym, ap, subst, Err}
+use Rattle.std.proofs.Common.{rules, ◌≡◌, ◌∙◌, ◌<◌, ◌≤◌, ℕ, false, List, length, take, sym, ap, subst}
 use Rattle.std.specs.Prelude.{OnOk, OnErr}
 use Rattle.std.specs.Io.KnownBytes.{Appends}
 use Rattle.listing.specs.Texts.{fault_lines, counted}
@@ -6,7 +6,7 @@ use Rattle.listing.specs.Checks.{verdict_line}
 use Rattle.listing.specs.GrowingChecks.{checked_line, verdict_counted}
 use Rattle.listing.specs.declared.checker.CheckLister.{CheckLister}
 use Rattle.command_line.specs.declared.command.Command.TheVariants.{Check}
-use Rattle.hdmi_cli.specs.Endings.{Devices, Ends, heard_ending, judged_ending}
+use Rattle.hdmi_cli.specs.Endings.{Ends, heard_ending, judged_ending}
 use Rattle.hdmi_cli.specs.Listings.{check_listing}
 use Rattle.hdmi_cli.specs.declared.ending.Ending.{Ending}
 use Rattle.hdmi_cli.specs.declared.ending.Ending.TheVariants.{Unaligned}

@@ -1,11 +1,9 @@
-use Rattle.std.proofs.Common.{rules, ◌≡◌, ◌∙◌, ◌<◌, ◌≤◌, ℕ, Bool, true, false, List, [], length, take, sym, ap, subst, Err}
-use Rattle.std.specs.Prelude.{OnOk, OnErr}
-use Rattle.std.specs.Io.KnownBytes.{Appends}
+use Rattle.std.proofs.Common.{rules, ◌≡◌, ◌∙◌, ◌≤◌, false, [], sym, subst}
 use Rattle.listing.specs.Texts.{counted}
 use Rattle.listing.specs.ContentText.{content_faults}
 use Rattle.listing.specs.declared.content_lister.ContentLister.{ContentLister}
 use Rattle.command_line.specs.declared.command.Command.TheVariants.{RecoverContent}
-use Rattle.hdmi_cli.specs.Endings.{Devices, Ends, heard_ending, judged_ending}
+use Rattle.hdmi_cli.specs.Endings.{Ends, heard_ending, judged_ending}
 use Rattle.hdmi_cli.specs.Listings.{content_listing}
 use Rattle.hdmi_cli.specs.declared.ending.Ending.{Ending}
 use Rattle.hdmi_cli.specs.declared.ending.Ending.TheVariants.{Unaligned}

@@ -1,10 +1,8 @@
-use Rattle.std.proofs.Common.{rules, ◌≡◌, ◌∙◌, ◌<◌, ◌≤◌, ℕ, Bool, true, false, List, [], length, take, sym, ap, subst, Err}
-use Rattle.std.specs.Prelude.{OnOk, OnErr}
-use Rattle.std.specs.Io.KnownBytes.{Appends}
+use Rattle.std.proofs.Common.{rules, ◌≡◌, ◌∙◌, ◌≤◌, ℕ, false, sym, ap, subst}
 use Rattle.listing.specs.Texts.{fault_lines, counted}
 use Rattle.listing.specs.declared.lister.LinkLister.{LinkLister}
 use Rattle.command_line.specs.declared.command.Command.TheVariants.{RecoverLink}
-use Rattle.hdmi_cli.specs.Endings.{Devices, Ends, heard_ending, judged_ending}
+use Rattle.hdmi_cli.specs.Endings.{Ends, heard_ending, judged_ending}
 use Rattle.hdmi_cli.specs.Listings.{link_listing}
 use Rattle.hdmi_cli.specs.declared.ending.Ending.{Ending}
 use Rattle.hdmi_cli.specs.declared.ending.Ending.TheVariants.{Unaligned}

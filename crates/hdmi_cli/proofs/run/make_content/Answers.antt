@@ -1,4 +1,4 @@
-use Rattle.std.proofs.Common.{rules, ◌≡◌, ℕ, List, Some, Ok, Err, refl, sym, subst}
+use Rattle.std.proofs.Common.{rules, ◌≡◌, ℕ, List, Some, refl, sym, subst}
 use Rattle.hdmi_cli.specs.Commands.{tap_asked}
 use Rattle.hdmi_cli.specs.Endings.{Devices, IsAnswered, Ends}
 use Rattle.command_line.specs.declared.command.Command.TheVariants.{MakeContent}

@@ -1,9 +1,6 @@
-use Rattle.std.proofs.Common.{rules, ◌≡◌, [], ◌++◌, List, ◌<◌, length, take, subst}
-use Rattle.std.specs.Io.KnownBytes.{Appends}
+use Rattle.std.proofs.Common.{rules, ◌≡◌, [], ◌++◌, List}
 use Rattle.tmds_word.specs.Column.{Column}
 use Rattle.island_pack.specs.Spelling.{Spells}
-use Rattle.capture_file.specs.Taps.{tapped_capture}
-use Rattle.capture_file.specs.declared.writing.Tap.{Tap}
 use Rattle.hdmi_cli.specs.Commands.{tap_asked}
 use Rattle.hdmi_cli.proofs.Answered.{cut_of}
 use Rattle.hdmi_cli.proofs.run.write_stream.Goals as goal
