@@ -247,7 +247,7 @@ fn failing_devices_of_each_command(rt: HostRuntime) -> Result<(), Fail> {
     Ok(())
 }
 
-/// A hit past the end of the lanes, and a capture that is cut.
+/// A hit past the end of the lanes, where nothing is written, and a capture that is cut in its block, where the header is.
 #[test]
 fn refused_damages(rt: HostRuntime) -> Result<(), Fail> {
     let mut capture = hex::decode(rt.alloc(), RED)?;
@@ -260,6 +260,6 @@ fn refused_damages(rt: HostRuntime) -> Result<(), Fail> {
     expect(&rt, &it, 3, "", "input: place 1\n");
     capture.truncate(109);
     let it = answer_of(&rt, &["damage", "0:0:000"], &capture, &STEADY)?;
-    expect(&rt, &it, 3, "", "input: short 109\n");
+    expect(&rt, &it, 3, "TMC1\0\0\x01\x0e", "input: short 109\n");
     Ok(())
 }

@@ -37,9 +37,10 @@ use std::thread::Threads;
 
 /// Does what the words say with the input, and answers the status: 0 done, 1 done with faults heard, 2 usage, 3 input
 /// refused, 4 read failed, 5 write failed, 6 out of memory, 7 no alignment. `make link` reads a link listing and writes
-/// the capture of a tap of it, and `make content` that of the raster of a content listing; `recover link` reads a capture and writes its link listing while it reads, `recover content`
-/// its pictures and sound, and `check` only the lines of its faults and of a cut and whether there was a fault; `damage`
-/// copies a capture with the ten bits of each hit replaced. A worker of each lane passes the gate for each block.
+/// the capture of a tap of it, and `make content` that of the raster of a content listing; `recover link` reads a capture
+/// and writes its link listing while it reads, `recover content` its pictures and sound, and `check` only the lines of its
+/// faults and of a cut and whether there was a fault; `damage` copies a capture, block by block, with the ten bits of each
+/// hit replaced. A worker of each lane passes the gate for each block.
 pub fn run<R: Threads, S: Source, K: Sink, N: Sink, G: Gate>(
     rt: &R,
     alloc: Global,
