@@ -74,12 +74,13 @@ pub(crate) fn hear_block<R: Threads, S: Source, E: Ear, G: Gate>(
 
 /// What an error of a reader is here. A reader takes no memory.
 fn refused(error: CaptureError) -> HearError
+    requires memory { error ≡ CaptureError.NoMemory → ⊥ }
     ensures refused { refused_as error ≡ result }
 {
     match error {
         CaptureError::Bad(fault) => HearError::Bad(fault),
         CaptureError::Read => HearError::Read,
-        CaptureError::NoMemory => HearError::Bad(CaptureFault::Short(0)),
+        CaptureError::NoMemory => unreachable!(),
     }
 }
 
