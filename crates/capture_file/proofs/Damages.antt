@@ -11,9 +11,9 @@ use Rattle.capture_file.specs.Refusals.{refused}
 use Rattle.capture_file.specs.BlockDamage.{AllFitLanes, Halfway, IsDamagedFront, IsDamagedCapture, IsLateFault, IsDamageFault, SaysFault, SaysBad}
 use Rattle.capture_file.specs.declared.damaging.Hit.{Hit}
 use Rattle.capture_file.specs.declared.damaging.DamageError.{DamageError}
-use Rattle.capture_file.specs.declared.damaging.DamageError.TheVariants.{Bad, Place, Read, Write, NoMemory}
-use Rattle.capture_file.specs.declared.reading.CaptureError.{CaptureError}
-use Rattle.capture_file.specs.declared.reading.CaptureError.TheVariants as errors
+use Rattle.capture_file.specs.declared.damaging.DamageError.TheVariants.{Bad, Place, Read, Write}
+use Rattle.capture_file.specs.declared.fault.CaptureError.{CaptureError}
+use Rattle.capture_file.specs.declared.fault.CaptureError.TheVariants as errors
 use Rattle.capture_file.proofs.Heads.{same_heads}
 use Rattle.capture_file.proofs.Standing.{size_of, none_below}
 use Rattle.capture_file.proofs.Takings.{ended, no_block}
@@ -131,9 +131,8 @@ fault_late version counts hits bytes rest before now (Bad fault) lanes fit said 
 fault_late version counts hits bytes rest before now (Place i) lanes fit said is h = absurd h
 fault_late version counts hits bytes rest before now Read lanes fit said is h = h
 fault_late version counts hits bytes rest before now Write lanes fit said is h = h
-fault_late version counts hits bytes rest before now NoMemory lanes fit said is h = h
 
-nothing_written : (old new : Option (List ℕ)) → Keeps old new → Appends old new []
+pub nothing_written : (old new : Option (List ℕ)) → Keeps old new → Appends old new []
 nothing_written None new h = tt
 nothing_written (Some xs) None h = absurd h
 nothing_written (Some xs) (Some ys) h = h ∙ sym (append-nil xs)
@@ -153,13 +152,11 @@ fault_early hits bytes before now (Bad fault) kept h = (
 fault_early hits bytes before now (Place i) kept h = h
 fault_early hits bytes before now Read kept h = h
 fault_early hits bytes before now Write kept h = h
-fault_early hits bytes before now NoMemory kept h = h
 
 -- a refusal of the reader names no place
 pub refused_placed : (e : CaptureError) (i : ℕ) → refused e ≡ Place i → ⊥
 refused_placed (errors.Bad fault) i is = cc
 refused_placed errors.Read i is = cc
-refused_placed errors.NoMemory i is = cc
 
 pub keeps_self : (a : Option (List ℕ)) → Keeps a a
 keeps_self None = tt

@@ -10,7 +10,7 @@ use Rattle.capture_file.specs.Captures.{header_of, IsHeader, CanSay, HasRead, bi
 use Rattle.capture_file.specs.Damage.{hurt}
 use Rattle.capture_file.specs.BlockDamage.{AllFitLanes, LaneFits, Halfway, IsDamagedFront, HurtChunk, CutIn, SaysFault, IsLateFault}
 use Rattle.capture_file.specs.declared.damaging.DamageError.{DamageError}
-use Rattle.capture_file.specs.declared.damaging.DamageError.TheVariants.{Bad, Place, Read, Write, NoMemory}
+use Rattle.capture_file.specs.declared.damaging.DamageError.TheVariants.{Bad, Place, Read, Write}
 use Rattle.capture_file.specs.declared.damaging.Hit.{Hit}
 use Rattle.capture_file.proofs.Packing.{length-packed, chunk-part}
 use Rattle.capture_file.proofs.Parts.{block_is, blocks-more, Appends-two, Appends-part}
@@ -226,4 +226,3 @@ late_fault version counts hits j bytes taken part rest before mid now (Bad fault
 late_fault version counts hits j bytes taken part rest before mid now (Place i) is half kept h = h
 late_fault version counts hits j bytes taken part rest before mid now Read is half kept h = h
 late_fault version counts hits j bytes taken part rest before mid now Write is half kept h = h
-late_fault version counts hits j bytes taken part rest before mid now NoMemory is half kept h = h

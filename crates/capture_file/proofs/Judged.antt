@@ -9,10 +9,10 @@ use Rattle.std.proofs.lemmas.List.{take-take, take_more, take-append-le, get_or-
 use Rattle.std.proofs.lemmas.Option.{slice_get-get_or}
 use Rattle.capture_file.specs.Layout.{header, high_first}
 use Rattle.capture_file.specs.Captures.{header_two, header_of, BeginsCapture, StopsAt, AreBytes, IsHeadless, IsEarlyFault, SaysOf, SaysRead}
-use Rattle.capture_file.specs.declared.reading.CaptureFault.{CaptureFault}
-use Rattle.capture_file.specs.declared.reading.CaptureError.{CaptureError}
-use Rattle.capture_file.specs.declared.reading.CaptureError.TheVariants.{Bad, Read, NoMemory}
-use Rattle.capture_file.specs.declared.reading.CaptureFault.TheVariants.{Magic, Version, Short}
+use Rattle.capture_file.specs.declared.fault.CaptureFault.{CaptureFault}
+use Rattle.capture_file.specs.declared.fault.CaptureError.{CaptureError}
+use Rattle.capture_file.specs.declared.fault.CaptureError.TheVariants.{Bad, Read}
+use Rattle.capture_file.specs.declared.fault.CaptureFault.TheVariants.{Magic, Version, Short}
 use Rattle.capture_file.proofs.Heads.{header_cases, length-header_two, header_long}
 use Rattle.capture_file.proofs.Marks.{high_first-of, four_of, get_drop, four_bytes}
 use Rattle.capture_file.proofs.Stops.{begins_part, begins_take, header_begins, first_of, second_of, mark_of, version_of, capture_long}
@@ -199,12 +199,10 @@ four_say a b c d n la lb lc ld is =
 pub says_of : (p q : CaptureFault → Type 0) (e : CaptureError) → ((fault : CaptureFault) → p fault → q fault) → SaysOf p e → SaysOf q e
 says_of p q (Bad fault) f h = f fault h
 says_of p q Read f h = h
-says_of p q NoMemory f h = h
 
 pub says_read : (p q : Type 0) (e : CaptureError) → (p → q) → SaysRead p e → SaysRead q e
 says_read p q (Bad fault) f h = h
 says_read p q Read f h = f h
-says_read p q NoMemory f h = h
 
 -- the first header, and the two parts of the second
 pub header_one : (n : ℕ) → header_of 1 (n ∷ n ∷ n ∷ []) ≡ header n

@@ -3,11 +3,8 @@ pub mod Packing
 pub mod Parts
 pub mod Packs
 pub mod Fronts
-pub mod Awaited
 pub mod Marks
-pub mod Blocks
 pub mod Hits
-pub mod Refused
 pub mod Pieces
 pub mod Heads
 pub mod Opens
@@ -21,3 +18,4 @@ pub mod Bitwise
 pub mod HitLanes
 pub mod Halfways
 pub mod Damages
+pub mod OneCapture

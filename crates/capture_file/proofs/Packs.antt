@@ -10,7 +10,7 @@ use Rattle.tmds_word.proofs.Lists.{length-bits_of, length-bytes_bits}
 use Rattle.std.proofs.lemmas.List.{set-get_or, get_or-set_same}
 use Rattle.tmds_word.proofs.Rows.{number_of_bytes, mask_is}
 use Rattle.capture_file.specs.Layout.{packed}
-use Rattle.capture_file.specs.Reading.{AreBytes}
+use Rattle.capture_file.specs.Captures.{AreBytes}
 use Rattle.capture_file.proofs.Packing.{length-packed, bytes_whole, bytes_masked}
 
 pub number_below : (xs : List Bool) → number xs < 2 ^ length xs

@@ -12,7 +12,7 @@ use Rattle.tmds_word.specs.Taps.{part_of}
 use Rattle.capture_file.specs.declared.writing.Tap.{Tap}
 use Rattle.capture_file.specs.Lanes.{Collected}
 use Rattle.tmds_word.specs.Words.{all_words, columns_of}
-use Rattle.capture_file.specs.Layout.{packed, chunk, block, blocks_below, header, high_first, capture_of}
+use Rattle.capture_file.specs.Layout.{packed, chunk, block, blocks_below, header, high_first}
 use Rattle.capture_file.specs.Taps.{limited, tap_count, tap_lag, tap_of, greatest, HasBits}
 use Rattle.capture_file.proofs.Columns.{seen, lanes_of_columns, count_of_columns, row_bits-words_of, length-words_of}
 use Rattle.capture_file.proofs.Packing.{length-part, length-packed}
@@ -88,20 +88,10 @@ lane_parts blue green red refusals p q r now tap is whole same_green same_red ep
 
 -- chunks, blocks and the capture
 
-length-chunk : (j bits : ℕ) (lane : List ℕ) → length lane ≡ (bits + 7) / 8 → 32768 * j < bits → length (chunk j lane) ≡ (min (bits - 32768 * j) 32768 + 7) / 8
-unfolding chunk
-length-chunk j bits lane len some = omega (arith, length-take 4096 (drop (4096 * j) lane), length-drop (4096 * j) lane)
-
 -- a part of a row has the length asked for
 pub length-lane : (row : List Bool) (from bits : ℕ) → HasBits row from bits → length (take bits (drop from row)) ≡ bits
 length-lane row from zero has = refl
 length-lane row from (suc bits) has = length-part row from (suc bits) (has (omega arith)).0
-
-pub length-lane_bytes : (row : List Bool) (from bits : ℕ) → HasBits row from bits → length (packed (take bits (drop from row))) ≡ (bits + 7) / 8
-length-lane_bytes row from bits has = length-packed (take bits (drop from row)) ∙ ap (λ n. (n + 7) / 8) (length-lane row from bits has)
-
-pub chunk_of_lane : (j bits from : ℕ) (row : List Bool) → HasBits row from bits → 32768 * j < bits → length (chunk j (packed (take bits (drop from row)))) ≡ (min (bits - 32768 * j) 32768 + 7) / 8
-chunk_of_lane j bits from row has some = length-chunk j bits (packed (take bits (drop from row))) (length-lane_bytes row from bits has) some
 
 -- a block is its three chunks
 pub block_is : (j : ℕ) (a b c : List ℕ) → block j a b c ≡ (chunk j a ++ chunk j b) ++ chunk j c
@@ -126,76 +116,6 @@ blocks_after j (suc k) a b c lt =
           let same : k ≡ j = omega arith in
           ([], ap (λ i. blocks_below i a b c ++ block i a b c) same ∙ sym (append-nil (blocks_below j a b c ++ block j a b c)))
     ]
-
--- full blocks have 12288 bytes each
-length-blocks : (k : ℕ) (a b c : List ℕ) (bytes : ℕ) → length a ≡ bytes → length b ≡ bytes → length c ≡ bytes → 4096 * k ≤ bytes → length (blocks_below k a b c) ≡ 12288 * k
-unfolding blocks_below block chunk
-length-blocks zero a b c bytes e f g room = refl
-length-blocks (suc k) a b c bytes e f g room =
-    let one : (lane : List ℕ) → length lane ≡ bytes → length (chunk k lane) ≡ 4096 =
-    λ lane is. length-take-le 4096 (drop (4096 * k) lane) (omega (arith, is, length-drop (4096 * k) lane)) in
-    omega (
-      arith,
-      length-blocks k a b c bytes e f g (omega arith),
-      length-append (blocks_below k a b c) ((chunk k a ++ chunk k b) ++ chunk k c),
-      length-append (chunk k a ++ chunk k b) (chunk k c),
-      length-append (chunk k a) (chunk k b),
-      one a e,
-      one b f,
-      one c g,
-    )
-
-length-header : (count : ℕ) → length (header count) ≡ 8
-unfolding header high_first
-length-header count = refl
-
--- what is known of the capture of three lanes of so many bits
-pub record CaptureParts (bits : ℕ) (a b c whole : List ℕ) : Type 0 where
-  pub is : whole ≡ header bits ++ blocks_below (((bits + 7) / 8 + 4095) / 4096) a b c
-  pub head : length (header bits) ≡ 8
-  pub front : (j : ℕ) → 32768 * j < bits → length (header bits ++ blocks_below j a b c) ≡ 8 + 12288 * j
-  pub after : (j : ℕ) → 32768 * j < bits → (rest : List ℕ) × (whole ≡ ((header bits ++ blocks_below j a b c) ++ block j a b c) ++ rest)
-
-pub capture_parts : (x y z : List Bool) (bits : ℕ) → length x ≡ bits → length y ≡ bits → length z ≡ bits → CaptureParts bits (packed x) (packed y) (packed z) (capture_of x y z)
-unfolding capture_of
-capture_parts x y z bits ex ey ez =
-    let a = packed x in
-    let b = packed y in
-    let c = packed z in
-    let bytes = (bits + 7) / 8 in
-    let count = (bytes + 4095) / 4096 in
-    let ea : length a ≡ bytes = length-packed x ∙ ap (λ n. (n + 7) / 8) ex in
-    let eb : length b ≡ bytes = length-packed y ∙ ap (λ n. (n + 7) / 8) ey in
-    let ec : length c ≡ bytes = length-packed z ∙ ap (λ n. (n + 7) / 8) ez in
-    let is : capture_of x y z ≡ header bits ++ blocks_below count a b c = ap₂ (λ n m. header n ++ blocks_below ((m + 4095) / 4096) a b c) ex ea in
-    record {
-      is = is;
-      head = length-header bits;
-      front = λ j some.
-          let room : 4096 * j ≤ bytes = omega arith in
-          omega (arith, length-append (header bits) (blocks_below j a b c), length-header bits, length-blocks j a b c bytes ea eb ec room);
-      after = λ j some.
-          let inside : j < count = omega arith in
-          let more = blocks_after j count a b c inside in (
-            more.0,
-            is
-                ∙ ap (λ xs. header bits ++ xs) more.1
-                ∙ sym (append_assoc (header bits) (blocks_below j a b c ++ block j a b c) more.0)
-                ∙ ap (λ xs. xs ++ more.0) (sym (append_assoc (header bits) (blocks_below j a b c) (block j a b c))),
-          );
-    }
-
-pub length-block : (j : ℕ) (a b c : List ℕ) → length (block j a b c) ≤ 12288
-unfolding block chunk
-length-block j a b c =
-    omega (
-      arith,
-      length-append (chunk j a ++ chunk j b) (chunk j c),
-      length-append (chunk j a) (chunk j b),
-      length-take 4096 (drop (4096 * j) a),
-      length-take 4096 (drop (4096 * j) b),
-      length-take 4096 (drop (4096 * j) c),
-    )
 
 pub no_blocks : (front a b c : List ℕ) → front ++ blocks_below 0 a b c ≡ front
 unfolding blocks_below

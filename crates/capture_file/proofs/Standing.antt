@@ -8,9 +8,9 @@ use Rattle.tmds_word.proofs.Numbers.{bits_of-number, number-take}
 use Rattle.tmds_word.proofs.Lists.{length-bytes_bits}
 use Rattle.capture_file.specs.Layout.{packed, header, high_first, blocks_below}
 use Rattle.capture_file.specs.Captures.{CanSay, header_of, header_two, HasRead, Stands, StopsIn, IsFault, IsWithin, SaysOf, IsCapture, bits_in, block_size, place_at, header_size, place_of}
-use Rattle.capture_file.specs.declared.reading.CaptureFault.TheVariants.{Trailing}
-use Rattle.capture_file.specs.declared.reading.CaptureError.{CaptureError}
-use Rattle.capture_file.specs.declared.reading.CaptureError.TheVariants.{Bad, Read, NoMemory}
+use Rattle.capture_file.specs.declared.fault.CaptureFault.TheVariants.{Trailing}
+use Rattle.capture_file.specs.declared.fault.CaptureError.{CaptureError}
+use Rattle.capture_file.specs.declared.fault.CaptureError.TheVariants.{Bad, Read}
 use Rattle.capture_file.proofs.Packing.{length-packed}
 use Rattle.capture_file.proofs.Packs.{number-packed, as_bytes, number_below}
 use Rattle.capture_file.proofs.Stops.{trailing_stops}
@@ -81,7 +81,6 @@ says_end version counts j place taken bytes x y z (Bad fault) s none at h =
     let capture : IsCapture taken = record { blue = x; green = y; red = z; holds = w.holds } in
     subst (λ f. IsFault (taken ++ bytes) f × StopsIn counts j taken (place_of f)) (sym h.0) (trailing_stops taken bytes place capture own h.1 w.only, stops)
 says_end version counts j place taken bytes x y z Read s none at h = h
-says_end version counts j place taken bytes x y z NoMemory s none at h = h
 
 -- what a fault in a block says
 pub says_inside : (version : ℕ) (counts : List ℕ) (j place : ℕ) (taken bytes : List ℕ) (x y z : List Bool) (e : CaptureError) → Stands version counts j taken x y z
@@ -91,4 +90,3 @@ says_inside version counts j place taken bytes x y z (Bad fault) s at h within =
     let own : place ≡ length taken = at ∙ s.place_is in
     (h, record { from = omega (arith, own, within.0); within = inl (omega (arith, own, within.1)) })
 says_inside version counts j place taken bytes x y z Read s at h within = h
-says_inside version counts j place taken bytes x y z NoMemory s at h within = h

@@ -6,7 +6,7 @@ use Rattle.std.proofs.lemmas.List.{take-append-le, length-replicate}
 use Rattle.tmds_word.specs.Bits.{bytes_bits}
 use Rattle.capture_file.specs.Layout.{packed, header, high_first}
 use Rattle.capture_file.specs.Captures.{header_two, header_of, IsHeader, counts_of, lane_blocks, IsCapture, BeginsCapture, IsFault, AreBytes, Awaits}
-use Rattle.capture_file.specs.declared.reading.CaptureFault.TheVariants.{Short, Padding, Trailing}
+use Rattle.capture_file.specs.declared.fault.CaptureFault.TheVariants.{Short, Padding, Trailing}
 use Rattle.capture_file.proofs.Heads.{header_cases, length-header_two, header_long}
 use Rattle.capture_file.proofs.Opens.{captured}
 use Rattle.capture_file.proofs.Marks.{take_bytes}

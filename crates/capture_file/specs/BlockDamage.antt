@@ -7,8 +7,8 @@ use Rattle.capture_file.specs.Layout.{packed, blocks_below}
 use Rattle.capture_file.specs.Damage.{hurt}
 use Rattle.capture_file.specs.declared.damaging.Hit.{Hit}
 use Rattle.capture_file.specs.declared.damaging.DamageError.{DamageError}
-use Rattle.capture_file.specs.declared.damaging.DamageError.TheVariants.{Bad, Place, Read, Write, NoMemory}
-use Rattle.capture_file.specs.declared.reading.CaptureFault.{CaptureFault}
+use Rattle.capture_file.specs.declared.damaging.DamageError.TheVariants.{Bad, Place, Read, Write}
+use Rattle.capture_file.specs.declared.fault.CaptureFault.{CaptureFault}
 
 -- the ten bits of each hit lie within its own lane
 abbrev pub FitsLane : List ℕ → Hit → Type 0
@@ -57,7 +57,6 @@ SaysFault says (Bad fault) = says fault
 SaysFault says (Place i) = ⊥
 SaysFault says Read = Unit {0}
 SaysFault says Write = Unit {0}
-SaysFault says NoMemory = ⊥
 
 -- block j was taken too, and written damaged in a part alone
 pub record CutIn (version : ℕ) (counts : List ℕ) (hits : List Hit) (j : ℕ) (taken : List ℕ) (before now : Option (List ℕ)) : Type 0 where
@@ -143,7 +142,6 @@ SaysBad says (Bad fault) = says fault
 SaysBad says (Place i) = Unit {0}
 SaysBad says Read = Unit {0}
 SaysBad says Write = Unit {0}
-SaysBad says NoMemory = ⊥
 
 -- bytes that were read: the header and the whole blocks of them, and these alone, were written damaged
 pub record IsDamagedRead (read : List ℕ) (hits : List Hit) (before now : Option (List ℕ)) : Type 0 where
@@ -192,7 +190,6 @@ SaysPlace says (Bad fault) = Unit {0}
 SaysPlace says (Place i) = says i
 SaysPlace says Read = Unit {0}
 SaysPlace says Write = Unit {0}
-SaysPlace says NoMemory = Unit {0}
 
 -- what an error says of a failed read; memory is not wanted
 abbrev pub SaysUnread : Type 0 → DamageError → Type 0
@@ -200,4 +197,3 @@ SaysUnread says (Bad fault) = Unit {0}
 SaysUnread says (Place i) = Unit {0}
 SaysUnread says Read = says
 SaysUnread says Write = Unit {0}
-SaysUnread says NoMemory = ⊥

@@ -3,10 +3,10 @@
 use Rattle.std.specs.Prelude.{◌≡◌, ◌⊎◌, ℕ, ◌+◌, ◌*◌, ◌/◌, ◌-◌, ◌^◌, ◌<◌, ◌≤◌, Bool, List, [], ◌∷◌, ◌++◌, length, take, max, min, codes, slice_get, slice_index, get_or, Some, ◌==◌, if◌then◌else◌}
 use Rattle.tmds_word.specs.Bits.{bytes_bits}
 use Rattle.capture_file.specs.Layout.{packed, high_first, header, blocks_below, blocks_of}
-use Rattle.capture_file.specs.declared.reading.CaptureFault.{CaptureFault}
-use Rattle.capture_file.specs.declared.reading.CaptureFault.TheVariants.{Magic, Version, Short, Padding, Trailing}
-use Rattle.capture_file.specs.declared.reading.CaptureError.{CaptureError}
-use Rattle.capture_file.specs.declared.reading.CaptureError.TheVariants.{Bad, Read, NoMemory}
+use Rattle.capture_file.specs.declared.fault.CaptureFault.{CaptureFault}
+use Rattle.capture_file.specs.declared.fault.CaptureFault.TheVariants.{Magic, Version, Short, Padding, Trailing}
+use Rattle.capture_file.specs.declared.fault.CaptureError.{CaptureError}
+use Rattle.capture_file.specs.declared.fault.CaptureError.TheVariants.{Bad, Read}
 
 -- how many bits each of three lanes has
 abbrev pub counts_of : List Bool → List Bool → List Bool → List ℕ
@@ -126,13 +126,11 @@ IsEarlyFault bytes fault = IsFault bytes fault × IsHeadless bytes
 abbrev pub SaysOf : (CaptureFault → Type 0) → CaptureError → Type 0
 SaysOf says (Bad fault) = says fault
 SaysOf says Read = Unit {0}
-SaysOf says NoMemory = ⊥
 
 -- what an error of a reader says of a failed read; memory is not wanted
 abbrev pub SaysRead : Type 0 → CaptureError → Type 0
 SaysRead says (Bad fault) = Unit {0}
 SaysRead says Read = says
-SaysRead says NoMemory = ⊥
 
 -- a place within so many bytes from another on
 abbrev pub IsWithin : ℕ → ℕ → ℕ → Type 0

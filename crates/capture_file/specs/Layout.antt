@@ -31,7 +31,3 @@ blocks_below (suc j) a b c = blocks_below j a b c ++ block j a b c
 -- how many blocks lanes of so many bytes have
 abbrev pub blocks_of : ℕ → ℕ
 blocks_of bytes = (bytes + 4095) / 4096
-
--- the capture of three lanes of one length: the header and then every block, and nothing more
-unfoldable pub capture_of : List Bool → List Bool → List Bool → List ℕ
-capture_of x y z = header (length x) ++ blocks_below (blocks_of (length (packed x))) (packed x) (packed y) (packed z)

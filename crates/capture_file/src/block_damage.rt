@@ -8,12 +8,11 @@ ghost use Rattle.capture_file.specs.Damage.{with_word};
 ghost use Rattle.capture_file.specs.Captures.{AreBytes, IsFault, StopsIn, place_of, block_size, header_of, CanSay, IsHeadless, IsEarlyFault};
 ghost use Rattle.capture_file.specs.Refusals.{IsReadCause};
 ghost use Rattle.capture_file.specs.BlockDamage.{HurtChunk, AllFitLanes, IsFirstPastLane, Halfway, CutIn, SaysFault, IsLateFault, SaysBad, SaysPlace, SaysUnread, IsMisplacedLane, IsDamagedCapture, IsDamageFault, ReadFailed, WriteFailed};
-ghost use Rattle.capture_file.specs.declared.damaging.DamageError.TheVariants.{Place, Read, Write, NoMemory};
+ghost use Rattle.capture_file.specs.declared.damaging.DamageError.TheVariants.{Place, Read, Write};
 
-use crate::chunk::{Chunk, Chunks};
-use crate::chunks::blocks_for;
+use crate::chunk::{Chunk, Chunks, blocks_for};
 use crate::filling::read_end;
-use crate::heading::{Heading, read_heading};
+use crate::heading::{Heading, block_place, read_heading};
 use crate::writing::{write_header, write_piece};
 use crate::{DamageError, Hit};
 use outside_io::{Sink, Source, Wrote};
@@ -162,7 +161,6 @@ fn damage_block<S: Source, K: Sink>(
     ensures unwritten { IfErr result (λ e. (e ≡ Write → ⊥) → Keeps (K.held out.old) (K.held out.new)) }
     ensures part { result ≡ Err Read → (part : List ℕ) × (length part < block_size j heading.bits) × Consumes (S.left source.old) (S.left source.new) part }
     ensures unplaced { (i : ℕ) → result ≡ Err (Place i) → ⊥ }
-    ensures memory { result ≡ Err NoMemory → ⊥ }
     ensures cut { (taken : List ℕ) (before : Option (List ℕ)) → Halfway heading.version heading.bits hits.now j taken before (K.held out.old) → result ≡ Err Write
         → (part : List ℕ) × Consumes (S.left source.old) (S.left source.new) part × CutIn heading.version heading.bits hits.now j (taken ++ part) before (K.held out.new) }
     ensures read_cause { result ≡ Err Read → Rose (S.faults source.old) (S.faults source.new) }
@@ -170,7 +168,7 @@ fn damage_block<S: Source, K: Sink>(
     ensures input_later { S.faults source.old ≤ S.faults source.new }
     ensures output_later { K.faults out.old ≤ K.faults out.new }
 {
-    let place = heading.place(j);
+    let place = block_place(heading.version, heading.bits, j);
     match chunks.read(source, heading.bits, j, place) {
         Ok(()) => {}
         Err(error) => return Err(DamageError::from(error)),
@@ -198,7 +196,6 @@ fn damage_lanes<S: Source, K: Sink>(
         → (j : ℕ) × (part more : List ℕ) × Halfway heading.version heading.bits hits.now j (taken ++ part) before (K.held out.new)
         × ((length more < block_size j heading.bits) ⊎ (more ≡ [])) × Consumes (S.left source.old) (S.left source.new) (part ++ more) }
     ensures unplaced { (i : ℕ) → result ≡ Err (Place i) → ⊥ }
-    ensures memory { result ≡ Err NoMemory → ⊥ }
     ensures cut { (taken : List ℕ) (before : Option (List ℕ)) → Halfway heading.version heading.bits hits.now 0 taken before (K.held out.old) → result ≡ Err Write
         → (j : ℕ) × (part : List ℕ) × Consumes (S.left source.old) (S.left source.new) part × CutIn heading.version heading.bits hits.now j (taken ++ part) before (K.held out.new) }
     ensures ended { OnOk result (IsAtEnd (S.left source.new)) }
@@ -215,7 +212,7 @@ fn damage_lanes<S: Source, K: Sink>(
             return Err(error);
         }
     }
-    match read_end(source, heading.place(blocks)) {
+    match read_end(source, block_place(heading.version, heading.bits, blocks)) {
         Ok(()) => Ok(()),
         Err(error) => Err(DamageError::from(error)),
     }
@@ -268,7 +265,6 @@ pub fn damage<S: Source, K: Sink>(
     ensures place { (i : ℕ) → result ≡ Err (Place i) → IsMisplacedLane (S.left source.old) (S.left source.new) hits.now i × Keeps (K.held out.old) (K.held out.new) }
     ensures read { result ≡ Err Read → ReadFailed (S.left source.old) (S.left source.new) hits.now (K.held out.old) (K.held out.new) }
     ensures part { result ≡ Err Write → WriteFailed (S.left source.old) (S.left source.new) hits.now (K.held out.old) (K.held out.new) }
-    ensures memory { result ≡ Err NoMemory → ⊥ }
     ensures ended { OnOk result (IsAtEnd (S.left source.new)) }
     ensures read_cause { result ≡ Err Read → Rose (S.faults source.old) (S.faults source.new) }
     ensures write_cause { result ≡ Err Write → Rose (K.faults out.old) (K.faults out.new) }

@@ -8,10 +8,9 @@ ghost use Rattle.capture_file.specs.Faults.{IsCaused};
 ghost use Rattle.capture_file.specs.Captures.{IsFault, IsHeadless, IsEarlyFault, IsCaptureOf, Stands, StopsIn, SaysOf, SaysRead, IsWithin, place_of, place_at, header_size, header_of, CanSay, bits_in, block_size};
 
 use crate::CaptureError;
-use crate::chunk::{Chunks, chunk_len};
-use crate::chunks::blocks_for;
+use crate::chunk::{Chunks, blocks_for, chunk_len};
 use crate::filling::read_end;
-use crate::heading::read_heading;
+use crate::heading::{block_place, read_heading};
 use outside_io::Source;
 
 /// A block of a capture: of each lane the bytes of its bits there, eight bits to a byte, and how many bits
@@ -103,19 +102,6 @@ impl<'a, S: Source> CaptureReader<'a, S> {
         self.is_open
     }
 
-    /// Where the next block begins.
-    fn place(&self) -> u64
-        ensures place { result ≡ place_at self.now.version self.now.bits self.now.block }
-        ensures small { result < 2 ^ 40 }
-    {
-        let header: u64 = if self.version == 2 { 16 } else { 8 };
-        let end = 4096 * u64::from(self.block);
-        header
-            + u64::from(self.bits[0].div_ceil(8)).min(end)
-            + u64::from(self.bits[1].div_ceil(8)).min(end)
-            + u64::from(self.bits[2].div_ceil(8)).min(end)
-    }
-
     /// Whether all blocks were given.
     fn is_past(&self) -> bool
         ensures past { IsTrue result ↔ (block_size self.now.block self.now.bits ≡ 0) }
@@ -146,7 +132,7 @@ impl<'a, S: Source> CaptureReader<'a, S> {
         ensures caused { IfErr result (λ e. IsCaused (S.faults self.old.source.now) (S.faults self.new.source.now) e) }
         ensures later { S.faults self.old.source.now ≤ S.faults self.new.source.now }
     {
-        let place = self.place();
+        let place = block_place(self.version, self.bits, self.block);
         self.is_open = false;
         if self.is_past() {
             read_end(self.source, place)?;

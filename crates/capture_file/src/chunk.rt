@@ -1,16 +1,22 @@
 //! The bits of a block: some of each lane.
-ghost use Rattle.std.specs.Prelude.{◌≡◌, ℕ, ◌+◌, ◌*◌, ◌/◌, ◌^◌, ◌<◌, ◌≤◌, Bool, List, [], ◌++◌, length, take, slice_index, Some, IfErr, OnOk};
+ghost use Rattle.std.specs.Prelude.{◌≡◌, ℕ, ◌+◌, ◌*◌, ◌/◌, ◌^◌, ◌<◌, ◌≤◌, Bool, List, [], ◌++◌, length, take, slice_index, Some, IfErr, OnOk, IsTrue, ◌↔◌};
 ghost use Rattle.std.specs.Io.KnownBytes.{Consumes};
 ghost use Rattle.tmds_word.specs.Bits.{bytes_bits};
 ghost use Rattle.capture_file.specs.Layout.{packed};
 ghost use Rattle.capture_file.specs.Faults.{IsCaused};
-ghost use Rattle.capture_file.specs.Captures.{Awaits, IsFault, HasRead, StopsIn, SaysOf, SaysRead, IsWithin, place_of, bits_in, block_size};
+ghost use Rattle.capture_file.specs.Captures.{AreBytes, Awaits, IsFault, HasRead, StopsIn, SaysOf, SaysRead, IsWithin, place_of, bits_in, block_size};
 
 use crate::filling::fill;
-use crate::reading::is_padded;
 use crate::{CaptureError, CaptureFault};
 use outside_io::Source;
 use std::marker::Model;
+
+/// How many blocks lanes of so many bits have.
+pub(crate) fn blocks_for(bits: u32) -> u32
+    ensures { result ≡ ((bits + 7) / 8 + 4095) / 4096 }
+{
+    bits.div_ceil(8).div_ceil(4096)
+}
 
 /// How many bits block `j` has of a lane of so many.
 pub(crate) fn chunk_len(bits: u32, j: u32) -> u32
@@ -142,6 +148,17 @@ fn read_part<S: Source>(
     } else {
         Err(CaptureError::Bad(CaptureFault::Padding(place + (size as u64 - 1))))
     }
+}
+
+/// Whether the bytes of `count` bits have only zeros past them.
+fn is_padded(part: &[u8], count: u32) -> bool
+    requires some { 0 < count }
+    requires size { length part.now ≡ (count + 7) / 8 }
+    ensures spared { IsTrue result ↔ (part.now ≡ packed (take count (bytes_bits part.now))) }
+    ensures bytes { AreBytes part.now }
+{
+    let spare = count % 8;
+    spare == 0 || part[part.len() - 1] >> spare == 0
 }
 
 /// The bits of one block, of each lane those that it has there.

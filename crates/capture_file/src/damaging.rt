@@ -26,8 +26,6 @@ pub enum DamageError {
     Read,
     /// The sink failed.
     Write,
-    /// Want of memory.
-    NoMemory,
 }
 
 impl From<CaptureError> for DamageError {
@@ -39,7 +37,6 @@ impl From<CaptureError> for DamageError {
         match error {
             CaptureError::Bad(fault) => DamageError::Bad(fault),
             CaptureError::Read => DamageError::Read,
-            CaptureError::NoMemory => DamageError::NoMemory,
         }
     }
 }

@@ -4,7 +4,7 @@ ghost use Rattle.std.specs.Io.KnownBytes.{Consumes, IsAtEnd};
 ghost use Rattle.outside_io.specs.Causes.{HasCause};
 ghost use Rattle.capture_file.specs.Faults.{IsCaused};
 ghost use Rattle.capture_file.specs.Captures.{SaysOf, SaysRead, place_of};
-ghost use Rattle.capture_file.specs.declared.reading.CaptureFault.TheVariants.{Trailing};
+ghost use Rattle.capture_file.specs.declared.fault.CaptureFault.TheVariants.{Trailing};
 
 use crate::{CaptureError, CaptureFault};
 use outside_io::Source;

@@ -16,19 +16,17 @@ pub(crate) struct Heading {
     pub(crate) bits: [u32; 3],
 }
 
-impl Heading {
-    /// Where block `j` begins.
-    pub(crate) fn place(self, j: u32) -> u64
-        ensures place { result ≡ place_at self.version self.bits j }
-        ensures small { result < 2 ^ 40 }
-    {
-        let header: u64 = if self.version == 2 { 16 } else { 8 };
-        let end = 4096 * u64::from(j);
-        header
-            + u64::from(self.bits[0].div_ceil(8)).min(end)
-            + u64::from(self.bits[1].div_ceil(8)).min(end)
-            + u64::from(self.bits[2].div_ceil(8)).min(end)
-    }
+/// Where block `j` begins, in a capture of a version with so many bits a lane.
+pub(crate) fn block_place(version: u8, bits: [u32; 3], j: u32) -> u64
+    ensures place { result ≡ place_at version bits j }
+    ensures small { result < 2 ^ 40 }
+{
+    let header: u64 = if version == 2 { 16 } else { 8 };
+    let end = 4096 * u64::from(j);
+    header
+        + u64::from(bits[0].div_ceil(8)).min(end)
+        + u64::from(bits[1].div_ceil(8)).min(end)
+        + u64::from(bits[2].div_ceil(8)).min(end)
 }
 
 /// Reads a header.

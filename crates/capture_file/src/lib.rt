@@ -4,19 +4,19 @@
 mod block_damage;
 mod capture_reader;
 mod chunk;
-mod chunks;
 mod damaging;
+mod fault;
 mod filling;
 mod heading;
 mod lanes;
-mod reading;
+pub mod laws;
 mod writing;
 
 pub use block_damage::damage;
 pub use capture_reader::{Block, CaptureReader};
 pub use damaging::{DamageError, Hit};
+pub use fault::{CaptureError, CaptureFault};
 pub use lanes::Lanes;
-pub use reading::{CaptureError, CaptureFault, Rows, read_capture};
 pub use writing::{Tap, write_capture};
 
 #[cfg(test)]

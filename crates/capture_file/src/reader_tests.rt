@@ -7,7 +7,7 @@ use std::process::Abort;
 use std::test::*;
 
 /// Reads a capture to its end, or as far as it goes: how many blocks it has, and how many bytes are in them.
-fn read_blocks(source: &mut MemSource) -> Result<(u32, usize), CaptureError> {
+pub(crate) fn read_blocks(source: &mut MemSource) -> Result<(u32, usize), CaptureError> {
     let mut reader = CaptureReader::new(source);
     reader.open()?;
     let mut blocks: u32 = 0;

@@ -1,7 +1,8 @@
 //! Captures read back, and bytes that are none.
 ghost use Rattle.std.specs.Prelude.{◌<◌};
 
-use crate::{CaptureError, CaptureFault, read_capture};
+use crate::reader_tests::read_blocks;
+use crate::{CaptureError, CaptureFault, CaptureReader};
 use outside_io::MemSource;
 use std::alloc::Global;
 use std::test::*;
@@ -17,14 +18,15 @@ static RED: [u8; 110] = [
     0x54, 0x53, 0x4d, 0x35, 0xd5, 0x54, 0x53, 0x4d, 0x35, 0xd5, 0x54, 0x53, 0x4d, 0x35,
 ];
 
-/// Reads parts that a source gives as one, so many bytes at a time, and says how many bits a lane has.
+/// Reads parts that a source gives as one, so many bytes at a time: how many blocks they have, and how many bytes are in
+/// them.
 fn answer(
     alloc: Global,
     first: &[u8],
     block: &[u8],
     last: &[u8],
     piece: usize,
-) -> Result<Result<u32, CaptureError>, Fail>
+) -> Result<Result<(u32, usize), CaptureError>, Fail>
     requires { 0 < piece }
 {
     let mut all = Vec::new(alloc);
@@ -32,27 +34,24 @@ fn answer(
     all.extend_from_slice(block)?;
     all.extend_from_slice(last)?;
     let mut source = MemSource::new(all, piece, Vec::new(alloc));
-    Ok(match read_capture(alloc, &mut source) {
-        Ok(rows) => Ok(rows.row(2).len()),
-        Err(error) => Err(error),
-    })
+    Ok(read_blocks(&mut source))
 }
 
-fn bad(fault: CaptureFault) -> Result<u32, CaptureError> {
+fn bad(fault: CaptureFault) -> Result<(u32, usize), CaptureError> {
     Err(CaptureError::Bad(fault))
 }
 
 // Each row: how many bytes of the red pixel's capture come first, what follows them, and the answer.
 #[test]
 fn captures(rt: HostRuntime) -> Result<(), Fail> {
-    let rows: [(usize, &[u8], Result<u32, CaptureError>); 11] = [
+    let rows: [(usize, &[u8], Result<(u32, usize), CaptureError>); 11] = [
         (0, b"", bad(CaptureFault::Short(0))),
         (0, b"TM", bad(CaptureFault::Short(2))),
         (0, b"TMX", bad(CaptureFault::Magic(2))),
         (0, b"TMC9", bad(CaptureFault::Version(57))),
-        (0, b"TMC1\0\0\0\0", Ok(0)),
+        (0, b"TMC1\0\0\0\0", Ok((0, 0))),
         (0, b"TMC1\xff\xff\xff\xff\0", bad(CaptureFault::Short(9))),
-        (110, b"", Ok(270)),
+        (110, b"", Ok((1, 102))),
         (110, b"\0", bad(CaptureFault::Trailing(110))),
         (109, b"", bad(CaptureFault::Short(109))),
         (109, b"\x75", bad(CaptureFault::Padding(109))),
@@ -71,8 +70,8 @@ fn captures(rt: HostRuntime) -> Result<(), Fail> {
 // Lanes of 32,769 bits: a whole block, and one byte more of each lane.
 #[test]
 fn second_blocks(rt: HostRuntime) -> Result<(), Fail> {
-    let rows: [(&[u8], Result<u32, CaptureError>); 5] = [
-        (b"\x01\0\x01", Ok(32769)),
+    let rows: [(&[u8], Result<(u32, usize), CaptureError>); 5] = [
+        (b"\x01\0\x01", Ok((2, 12291))),
         (b"\x01\x01\x02", bad(CaptureFault::Padding(12298))),
         (b"\x03", bad(CaptureFault::Padding(12296))),
         (b"\x01\0", bad(CaptureFault::Short(12298))),
@@ -87,19 +86,19 @@ fn second_blocks(rt: HostRuntime) -> Result<(), Fail> {
 }
 
 #[test]
-fn rows_are_the_lanes(rt: HostRuntime) -> Result<(), Fail> {
+fn blocks_are_the_lanes(rt: HostRuntime) -> Result<(), Fail> {
     let mut all = Vec::new(rt.alloc());
     all.extend_from_slice(&RED)?;
     let mut source = MemSource::new(all, 7, Vec::new(rt.alloc()));
-    let Ok(rows) = read_capture(rt.alloc(), &mut source) else {
-        return Err("a capture is read".into());
+    let mut reader = CaptureReader::new(&mut source);
+    assert_eq!(rt; reader.open(), Ok(()));
+    let Ok(Some(block)) = reader.next() else {
+        return Err("a block is read".into());
     };
-    for lane in 0..3 {
-        let mut bytes = [0; 34];
-        rows.row(lane).copy_bytes(0, &mut bytes);
-        let at = 8 + 34 * lane as usize;
-        assert_eq!(rt; bytes.as_slice(), &RED[at..at + 34], "lane {lane}");
-    }
+    assert_eq!(rt; block.bits, [270; 3]);
+    assert_eq!(rt; block.a, &RED[8..42]);
+    assert_eq!(rt; block.b, &RED[42..76]);
+    assert_eq!(rt; block.c, &RED[76..110]);
     Ok(())
 }
 
@@ -111,12 +110,7 @@ fn failing_sources(rt: HostRuntime) -> Result<(), Fail> {
         all.extend_from_slice(&RED)?;
         let fails = vec![in rt.alloc(); fails]?;
         let mut source = MemSource::new(all, 1, fails);
-        assert!(rt;
-            matches!(
-                read_capture(rt.alloc(), &mut source),
-                Err(CaptureError::Read)
-            )
-        );
+        assert_eq!(rt; read_blocks(&mut source), Err(CaptureError::Read));
     }
     Ok(())
 }

@@ -2,13 +2,12 @@
 ghost use Rattle.std.specs.Prelude.{◌≡◌, ◌⊎◌, ◌+◌, ◌-◌, ◌*◌, ◌/◌, ◌^◌, ◌<◌, ◌≤◌, length, take, drop, min, slice_index, IfOk, IfErr, OnOk};
 ghost use Rattle.std.specs.Io.KnownBytes.{Appends};
 ghost use Rattle.outside_io.specs.Causes.{HasCause};
-ghost use Rattle.capture_file.specs.Layout.{packed, header, chunk, capture_of};
+ghost use Rattle.capture_file.specs.Layout.{packed, header, chunk};
 ghost use Rattle.capture_file.specs.Captures.{header_of, header_two};
 ghost use Rattle.capture_file.specs.Taps.{limited, tap_lag, tapped_capture, HasBits, part_capture, part_block};
 
 use crate::Lanes;
-use crate::chunk::chunk_len;
-use crate::chunks::blocks_for;
+use crate::chunk::{blocks_for, chunk_len};
 use outside_io::{Sink, Wrote, write_all};
 use tmds_word::BitRow;
 

@@ -8,6 +8,7 @@ use Rattle.std.proofs.lemmas.List.Elements.{All-nil, All-cons, All-map}
 use Rattle.tmds_word.specs.Column.{Column}
 use Rattle.capture_file.specs.BlockDamage.{IsDamagedCapture, IsMisplacedIn, IsMisplacedLane, IsDamageFault, SaysBad, ReadFailed as DamageUnread, WriteFailed as DamageUnwritten}
 use Rattle.capture_file.proofs.Marks.{consumed}
+use Rattle.capture_file.proofs.Damages.{nothing_written}
 use Rattle.capture_file.specs.declared.damaging.Hit.{Hit}
 use Rattle.capture_file.specs.declared.damaging.DamageError.{DamageError}
 use Rattle.capture_file.specs.declared.damaging.DamageError.TheVariants as damages
@@ -219,15 +220,9 @@ pub record Damaged (hits : List Hit) (before after : Devices) (r : Result (Unit 
   pub place : (i : ℕ) → r ≡ Err (damages.Place i) → IsMisplacedLane before.left after.left hits i × Keeps before.held after.held
   pub read : r ≡ Err damages.Read → DamageUnread before.left after.left hits before.held after.held
   pub part : r ≡ Err damages.Write → DamageUnwritten before.left after.left hits before.held after.held
-  pub memory : r ≡ Err damages.NoMemory → ⊥
   pub ended : OnOk r (IsAtEnd after.left)
   pub read_cause : r ≡ Err damages.Read → Rose before.input_faults after.input_faults
   pub write_cause : r ≡ Err damages.Write → Rose before.output_faults after.output_faults
-
-nothing_written : (old new : Option (List ℕ)) → Keeps old new → Appends old new []
-nothing_written None new h = tt
-nothing_written (Some xs) None h = absurd h
-nothing_written (Some xs) (Some ys) h = h ∙ sym (append-nil xs)
 
 -- the header that was taken is that of the bytes
 misplaced : (hits : List Hit) (left rest : Option (List ℕ)) (bytes : List ℕ) (i : ℕ) → left ≡ Some bytes → IsMisplacedLane left rest hits i → IsMisplacedIn bytes hits i
@@ -270,7 +265,6 @@ damaged words (Err (damages.Place i)) before after it =
     )
 damaged words (Err damages.Read) before after it = (it.read_cause refl, it.read refl)
 damaged words (Err damages.Write) before after it = (it.write_cause refl, it.part refl)
-damaged words (Err damages.NoMemory) before after it = absurd (it.memory refl)
 
 -- the lanes of the hits that words ask for, as a copy wants them
 lanes_of_damages : (texts : List (List ℕ)) (words : List DamageWord) → AreDamages texts words → All (λ (w : DamageWord). w.lane < 3) words

@@ -23,7 +23,8 @@ use Rattle.command_line.specs.declared.command.Command.{Command}
 use Rattle.command_line.specs.declared.command.Command.TheVariants.{Check}
 use Rattle.command_line.proofs.Laws.{command_once}
 use Rattle.hdmi_cli.proofs.Ends.{Says}
-use Rattle.hdmi_cli.proofs.OneCapture.{AreSame, one_capture, no_fault}
+use Rattle.capture_file.specs.Laws.{AreSame}
+use Rattle.capture_file.proofs.OneCapture.{one_capture, no_fault}
 
 check_does : (words : List (List ℕ)) (bytes : List ℕ) (o : Outcome) → IsCommand words Check → IsOutcome words bytes o → ListsCapture check_listing bytes o
 check_does words bytes o named (inl (command, other, does)) = subst (λ (c : Command). Does c bytes o) (command_once words command Check other.0 named.0) does

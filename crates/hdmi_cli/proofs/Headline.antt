@@ -25,7 +25,8 @@ use Rattle.command_line.specs.declared.command.Command.{Command}
 use Rattle.command_line.proofs.Laws.{command_once}
 use Rattle.hdmi_cli.specs.declared.ending.Ending.{Ending}
 use Rattle.hdmi_cli.specs.declared.ending.Ending.TheVariants.{Done, Faulty, Usage, Listing, Raster, Capture, Place, ReadFailed, WriteFailed, NoMemory, Unaligned}
-use Rattle.hdmi_cli.proofs.OneCapture.{AreSame, one_capture, no_fault}
+use Rattle.capture_file.specs.Laws.{AreSame}
+use Rattle.capture_file.proofs.OneCapture.{one_capture, no_fault}
 
 -- where three lanes are aligned there is one first full alignment
 aligned_same : (x y z : List Bool) (d e f p q r : ℕ) → IsFirst x y z d e f → IsFirst x y z p q r → aligned_columns x y z d e f ≡ aligned_columns x y z p q r

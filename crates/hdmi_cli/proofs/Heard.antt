@@ -5,7 +5,7 @@ use Rattle.std.specs.Io.KnownBytes.{Appends, Consumes, IsAtEnd}
 use Rattle.std.proofs.KnownBytes.{Appends-trans}
 use Rattle.outside_io.specs.Causes.{Rose}
 use Rattle.capture_file.specs.Captures.{IsCaptureOf, IsFault, place_of}
-use Rattle.capture_file.specs.declared.reading.CaptureFault.{CaptureFault}
+use Rattle.capture_file.specs.declared.fault.CaptureFault.{CaptureFault}
 use Rattle.period_grammar.specs.Things.{Thing}
 use Rattle.link_sink.specs.declared.hear.Outcome.{Outcome as Hearing}
 use Rattle.link_sink.specs.Alignment.{told_by, AreTold, IsAlignedTold}

@@ -5,9 +5,9 @@ use Rattle.std.specs.Io.KnownBytes.{Consumes, IsAtEnd}
 use Rattle.std.proofs.KnownBytes.{Consumes-trans}
 use Rattle.tmds_word.specs.Bits.{bytes_bits}
 use Rattle.capture_file.specs.Captures.{HasRead, Stands, StopsIn, SaysOf, SaysRead, IsFault, IsEarlyFault, IsHeadless, IsCaptureOf, place_of, block_size}
-use Rattle.capture_file.specs.declared.reading.CaptureFault.{CaptureFault}
-use Rattle.capture_file.specs.declared.reading.CaptureError.{CaptureError}
-use Rattle.capture_file.specs.declared.reading.CaptureError.TheVariants.{Bad as Failed, Read as Unread, NoMemory}
+use Rattle.capture_file.specs.declared.fault.CaptureFault.{CaptureFault}
+use Rattle.capture_file.specs.declared.fault.CaptureError.{CaptureError}
+use Rattle.capture_file.specs.declared.fault.CaptureError.TheVariants.{Bad as Failed, Read as Unread}
 use Rattle.capture_file.proofs.Marks.{consumed}
 use Rattle.period_grammar.specs.Things.{Thing}
 use Rattle.link_sink.specs.Ears.{StopsIn as StopsAtThing}
@@ -151,12 +151,6 @@ stops_short took broke version counts j from left0 left1 sink first now Unread h
   are_read = inr (h.taken, part.0, counts, j, refl, at_its_length version counts j _ _ _ _ h.stands, part.1);
   heard = h.heard;
 }
-stops_short took broke version counts j from left0 left1 sink first now NoMemory h says part = (
-  (h.fed, h.heard),
-  λ bytes is.
-      let c = consumed from left0 bytes h.taken is h.consumed in
-      absurd (says c.0 h.taken h.fed.blue h.fed.green h.fed.red c.2 h.stands),
-)
 
 -- nothing was fed yet, and nothing is told
 told_none : {A : Type 0} (took : A → A → List Thing → Type 0) (now : A) → took now now [] → IsHeardSoFar took no_bits now now
@@ -177,7 +171,6 @@ headless took broke from left now (Failed fault) none says part = (
   λ bytes is. let s = says bytes is in record { faulty = s.0; fed = no_bits; before = inl (s.1, refl); heard = told_none took now none },
 )
 headless took broke from left now Unread none says part = record { fed = no_bits; read = part.0; consumed = part.2; are_read = inl (part.1, refl); heard = told_none took now none }
-headless took broke from left now NoMemory none says part = ((no_bits, told_none took now none), λ bytes is. absurd (says bytes is))
 
 -- what was heard where it is not the ear that stopped
 pub some_heard : {A : Type 0} (took : A → A → List Thing → Type 0) (broke : A → A → Thing → Type 0) (from left : Option (List ℕ)) (old new : A) (e : HearError) → StopsShort took broke from left old new e → (e ≡ Ear → ⊥)

@@ -2,7 +2,6 @@ pub mod Ends
 pub mod Answered
 pub mod Listings
 pub mod Heard
-pub mod OneCapture
 pub mod Headline
 pub mod Exact
 pub mod Hearings

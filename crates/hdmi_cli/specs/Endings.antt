@@ -121,7 +121,6 @@ damage_ending (Err (damages.Bad fault)) = Capture fault
 damage_ending (Err (damages.Place i)) = Place i
 damage_ending (Err damages.Read) = ReadFailed
 damage_ending (Err damages.Write) = WriteFailed
-damage_ending (Err damages.NoMemory) = NoMemory
 
 -- the capture of a tap of columns that periods spell was written, whole or in part, or nothing of it
 pub record IsWhole (tap : Tap) (periods : List Period) (old new : Option (List ℕ)) : Type 0 where

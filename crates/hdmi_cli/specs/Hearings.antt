@@ -3,10 +3,10 @@ use Rattle.std.specs.Prelude.{◌≡◌, ◌*◌, ℕ, min, List, Option, Some, 
 use Rattle.std.specs.Io.KnownBytes.{Consumes}
 use Rattle.outside_io.specs.Causes.{Rose}
 use Rattle.capture_file.specs.Captures.{Stands, IsCaptureOf, IsFault, place_of}
-use Rattle.capture_file.specs.declared.reading.CaptureFault.{CaptureFault}
-use Rattle.capture_file.specs.declared.reading.CaptureFault.TheVariants.{Short}
-use Rattle.capture_file.specs.declared.reading.CaptureError.{CaptureError}
-use Rattle.capture_file.specs.declared.reading.CaptureError.TheVariants.{Bad as Failed, Read as Unread, NoMemory}
+use Rattle.capture_file.specs.declared.fault.CaptureFault.{CaptureFault}
+use Rattle.capture_file.specs.declared.fault.CaptureFault.TheVariants.{Short}
+use Rattle.capture_file.specs.declared.fault.CaptureError.{CaptureError}
+use Rattle.capture_file.specs.declared.fault.CaptureError.TheVariants.{Bad as Failed, Read as Unread}
 use Rattle.period_grammar.specs.Things.{Thing}
 use Rattle.link_sink.specs.Sinks.{Fed, IsToldSoFar}
 use Rattle.link_sink.specs.Streams.{SinkSeen, StandsFor, bits_of}
@@ -88,4 +88,3 @@ HeardOn {A} took heard now says = (first : A) → heard first now → says first
 abbrev pub refused_as : CaptureError → HearError
 refused_as (Failed fault) = Bad fault
 refused_as Unread = Read
-refused_as NoMemory = Bad (Short 0)

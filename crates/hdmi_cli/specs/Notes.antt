@@ -1,7 +1,7 @@
 -- The one line that the program writes on standard error for each status from 2 on.
 use Rattle.std.specs.Prelude.{ℕ, List, ◌++◌, codes, decimal}
-use Rattle.capture_file.specs.declared.reading.CaptureFault.{CaptureFault}
-use Rattle.capture_file.specs.declared.reading.CaptureFault.TheVariants.{Magic, Version, Short, Padding, Trailing}
+use Rattle.capture_file.specs.declared.fault.CaptureFault.{CaptureFault}
+use Rattle.capture_file.specs.declared.fault.CaptureFault.TheVariants.{Magic, Version, Short, Padding, Trailing}
 use Rattle.source_end.specs.declared.refusal.RasterFault.{RasterFault}
 use Rattle.source_end.specs.declared.refusal.RasterFault.TheVariants.{BadMode, Row, NoRoom, Long, NoMemory}
 use Rattle.listing.specs.declared.fault.ListCause.{ListCause}

@@ -9,7 +9,7 @@ use Rattle.source_end.specs.Raster.{raster_of}
 use Rattle.source_end.specs.RasterRefusals.{raster_fault}
 use Rattle.source_end.specs.declared.mode.Mode.{Mode}
 use Rattle.source_end.specs.declared.refusal.RasterFault.{RasterFault}
-use Rattle.capture_file.specs.declared.reading.CaptureFault.{CaptureFault}
+use Rattle.capture_file.specs.declared.fault.CaptureFault.{CaptureFault}
 use Rattle.capture_file.specs.declared.writing.Tap.{Tap}
 use Rattle.capture_file.specs.Captures.{IsCaptureOf, IsFault, place_of}
 use Rattle.capture_file.specs.BlockDamage.{IsDamagedCapture, IsMisplacedIn, IsFaultyDamage}

@@ -3,7 +3,7 @@ ghost use Rattle.std.specs.Prelude.{◌≡◌, ◌≤◌, ◌⊎◌, ◌+◌, �
 ghost use Rattle.std.specs.Io.KnownBytes.{Consumes, IsAtEnd};
 ghost use Rattle.outside_io.specs.Causes.{Rose};
 ghost use Rattle.capture_file.specs.Captures.{CanSay, IsCaptureOf, IsFault, place_of};
-ghost use Rattle.capture_file.specs.declared.reading.CaptureFault.{CaptureFault as FaultValue};
+ghost use Rattle.capture_file.specs.declared.fault.CaptureFault.{CaptureFault as FaultValue};
 ghost use Rattle.period_grammar.specs.Things.{Thing};
 ghost use Rattle.link_sink.specs.Alignment.{AreTold};
 ghost use Rattle.link_sink.specs.declared.hear.Outcome.{Outcome as Hearing};
@@ -72,15 +72,13 @@ pub(crate) fn hear_block<R: Threads, S: Source, E: Ear, G: Gate>(
     }
 }
 
-/// What an error of a reader is here. A reader takes no memory.
+/// What an error of a reader is here.
 fn refused(error: CaptureError) -> HearError
-    requires memory { error ≡ CaptureError.NoMemory → ⊥ }
     ensures refused { refused_as error ≡ result }
 {
     match error {
         CaptureError::Bad(fault) => HearError::Bad(fault),
         CaptureError::Read => HearError::Read,
-        CaptureError::NoMemory => unreachable!(),
     }
 }
 

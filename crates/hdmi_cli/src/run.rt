@@ -463,6 +463,5 @@ fn damaged(written: Result<(), DamageError>) -> Ending
         Err(DamageError::Place(hit)) => Ending::Place(hit),
         Err(DamageError::Read) => Ending::ReadFailed,
         Err(DamageError::Write) => Ending::WriteFailed,
-        Err(DamageError::NoMemory) => Ending::NoMemory,
     }
 }

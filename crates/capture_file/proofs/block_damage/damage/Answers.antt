@@ -3,7 +3,7 @@ use Rattle.std.specs.Io.KnownBytes.{Appends}
 use Rattle.std.proofs.KnownBytes.{Consumes-trans}
 use Rattle.capture_file.specs.Captures.{header_of, block_size}
 use Rattle.capture_file.specs.BlockDamage.{Halfway, SaysFault, SaysBad, IsLateFault, IsDamageFault, IsDamagedCapture}
-use Rattle.capture_file.specs.declared.reading.CaptureFault.{CaptureFault}
+use Rattle.capture_file.specs.declared.fault.CaptureFault.{CaptureFault}
 use Rattle.capture_file.proofs.Marks.{consumed}
 use Rattle.capture_file.proofs.Damages.{halfway_head, halfway_done, fault_late, fault_early, keeps_self, on_done, on_error}
 use Rattle.capture_file.proofs.block_damage.damage.Goals as goal

@@ -3,9 +3,9 @@ use Rattle.capture_file.specs.Layout.{packed}
 use Rattle.capture_file.specs.Captures.{HasRead, IsFault, StopsIn, SaysOf, place_of}
 use Rattle.capture_file.specs.Refusals.{refused}
 use Rattle.capture_file.specs.BlockDamage.{SaysFault}
-use Rattle.capture_file.specs.declared.reading.CaptureFault.{CaptureFault}
-use Rattle.capture_file.specs.declared.reading.CaptureError.{CaptureError}
-use Rattle.capture_file.specs.declared.reading.CaptureError.TheVariants.{Bad, Read, NoMemory}
+use Rattle.capture_file.specs.declared.fault.CaptureFault.{CaptureFault}
+use Rattle.capture_file.specs.declared.fault.CaptureError.{CaptureError}
+use Rattle.capture_file.specs.declared.fault.CaptureError.TheVariants.{Bad, Read}
 use Rattle.capture_file.proofs.Standing.{says_inside}
 use Rattle.capture_file.proofs.Halfways.{halfway_more, halfway_cut}
 use Rattle.capture_file.proofs.block_damage.damage_block.Goals as goal
@@ -13,16 +13,15 @@ use Rattle.capture_file.proofs.block_damage.damage_block.Goals as goal
 fault_of : (p : CaptureFault → Type 0) (e : CaptureError) → SaysOf p e → SaysFault p (refused e)
 fault_of p (Bad fault) h = h
 fault_of p Read h = h
-fault_of p NoMemory h = h
 
 pub returns-in-Err-clause-err : goal.returns-in-Err-clause-err
 returns-in-Err-clause-err g c bytes taken before e h =
     let a = c.args.heading in
     let p = λ (fault : CaptureFault). IsFault (taken ++ bytes) fault × StopsIn a.bits c.args.j taken (place_of fault) in
-    let s = subst (λ n. HasRead a.bits c.args.j n taken h.front.x h.front.y h.front.z) (sym c.place-place.ensures.place) h.front.read in
+    let s = subst (λ n. HasRead a.bits c.args.j n taken h.front.x h.front.y h.front.z) (sym c.block_place-place.ensures.place) h.front.read in
     subst (λ r. SaysFault p r) (sym c.from.ensures)
     (fault_of p c.in-Err.error
-    (says_inside a.version a.bits c.args.j c.place-place.result taken bytes h.front.x h.front.y h.front.z c.in-Err.error h.front.read c.place-place.ensures.place (c.in-Err.ensures.err bytes taken h.front.x h.front.y h.front.z e s) c.in-Err.ensures.within))
+    (says_inside a.version a.bits c.args.j c.block_place-place.result taken bytes h.front.x h.front.y h.front.z c.in-Err.error h.front.read c.block_place-place.ensures.place (c.in-Err.ensures.err bytes taken h.front.x h.front.y h.front.z e s) c.in-Err.ensures.within))
 
 pub returns-in-Ok-write-clause-ok : goal.returns-in-Ok-write-clause-ok
 returns-in-Ok-write-clause-ok g c taken before h =

@@ -7,9 +7,9 @@ use Rattle.capture_file.specs.Refusals.{refused}
 use Rattle.capture_file.specs.declared.damaging.Hit.{Hit}
 use Rattle.capture_file.specs.declared.damaging.DamageError.{DamageError}
 use Rattle.capture_file.specs.declared.damaging.DamageError.TheVariants.{Read, Write}
-use Rattle.capture_file.specs.declared.reading.CaptureFault.{CaptureFault}
-use Rattle.capture_file.specs.declared.reading.CaptureError.{CaptureError}
-use Rattle.capture_file.specs.declared.reading.CaptureError.TheVariants as errors
+use Rattle.capture_file.specs.declared.fault.CaptureFault.{CaptureFault}
+use Rattle.capture_file.specs.declared.fault.CaptureError.{CaptureError}
+use Rattle.capture_file.specs.declared.fault.CaptureError.TheVariants as errors
 use Rattle.capture_file.proofs.Marks.{consumed}
 use Rattle.capture_file.proofs.Standing.{says_end}
 use Rattle.capture_file.proofs.Halfways.{halfway_kept, late_fault}
@@ -18,7 +18,6 @@ use Rattle.capture_file.proofs.block_damage.damage_lanes.Goals as goal
 fault_of : (p : CaptureFault → Type 0) (e : CaptureError) → SaysOf p e → SaysFault p (refused e)
 fault_of p (errors.Bad fault) h = h
 fault_of p errors.Read h = h
-fault_of p errors.NoMemory h = h
 
 no_more : (bits : List ℕ) (inner most j : ℕ) → inner ≡ max (slice_index bits 1) (slice_index bits 2) → most ≡ max (slice_index bits 0) inner → ((most + 7) / 8 + 4095) / 4096 ≤ j → block_size j bits ≡ 0
 no_more bits inner most j ei em le = omega arith
@@ -96,7 +95,6 @@ late_end version counts hits j bytes taken part rest before now (errors.Bad faul
   stops = h.1;
 }
 late_end version counts hits j bytes taken part rest before now errors.Read is half h = h
-late_end version counts hits j bytes taken part rest before now errors.NoMemory is half h = h
 
 pub returns-in-Err-read_end-clause-err : goal.returns-in-Err-read_end-clause-err
 returns-in-Err-read_end-clause-err g c bytes taken before e h =
@@ -106,15 +104,14 @@ returns-in-Err-read_end-clause-err g c bytes taken before e h =
     let s = consumed _ _ bytes w.0 e w.1 in
     let last : j ≡ c.blocks_for-blocks.result = omega (arith, c.loop-j-test.false, c.loop-j.auto.j-end) in
     let none = no_more a.bits c.max.result c.max-most.result j c.max.ensures c.max-most.ensures (omega (arith, c.loop-j-test.false, c.blocks_for-blocks.ensures)) in
-    let at : c.place.result ≡ place_at a.version a.bits j = c.place.ensures.place ∙ ap (λ k. place_at a.version a.bits k) (sym last) in
+    let at : c.block_place.result ≡ place_at a.version a.bits j = c.block_place.ensures.place ∙ ap (λ k. place_at a.version a.bits k) (sym last) in
     subst (λ r. SaysFault (λ fault. IsLateFault a.version a.bits c.args.hits.now bytes taken before (g.K.Sink.held c.loop-j.out) fault) r) (sym c.from.ensures)
     (late_end a.version a.bits c.args.hits.now j bytes taken w.0 s.0 before (g.K.Sink.held c.loop-j.out) c.in-Err-read_end.error s.1 w.2
-    (says_end a.version a.bits j c.place.result (taken ++ w.0) s.0 w.2.front.x w.2.front.y w.2.front.z c.in-Err-read_end.error w.2.front.read none at (c.in-Err-read_end.ensures.err s.0 s.2)))
+    (says_end a.version a.bits j c.block_place.result (taken ++ w.0) s.0 w.2.front.x w.2.front.y w.2.front.z c.in-Err-read_end.error w.2.front.read none at (c.in-Err-read_end.ensures.err s.0 s.2)))
 
 read_part : (e : CaptureError) (r : Result (Unit {0}) DamageError) (d : DamageError) (p : Type 0) → r ≡ Err d → d ≡ refused e → r ≡ Err Read → SaysRead p e → p
 read_part (errors.Bad fault) r d p own is same h = cc
 read_part errors.Read r d p own is same h = h
-read_part errors.NoMemory r d p own is same h = cc
 
 pub returns-in-Err-read_end-clause-part : goal.returns-in-Err-read_end-clause-part
 returns-in-Err-read_end-clause-part g c taken before h is =

@@ -4,7 +4,7 @@ use Rattle.std.proofs.Math.Seq.{take-append_seam}
 use Rattle.std.specs.Prelude.{OnOk, Result, Ok, Err}
 use Rattle.tmds_word.specs.Bits.{bytes_bits}
 use Rattle.capture_file.specs.Layout.{packed}
-use Rattle.capture_file.specs.declared.reading.CaptureError.{CaptureError}
+use Rattle.capture_file.specs.declared.fault.CaptureError.{CaptureError}
 use Rattle.capture_file.proofs.Rooms.{front_bits}
 use Rattle.capture_file.proofs.chunk.read_front.Goals as goal
 

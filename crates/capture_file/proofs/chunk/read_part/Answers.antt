@@ -1,7 +1,7 @@
 use Rattle.std.proofs.Common.{arith, ◌≡◌, ◌∙◌, ◌+◌, ◌/◌, ◌++◌, [], ap, take, subst, length, append-nil, length-take-le}
 use Rattle.std.specs.Io.KnownBytes.{IsAtEnd}
 use Rattle.capture_file.specs.Captures.{IsFault}
-use Rattle.capture_file.specs.declared.reading.CaptureFault.TheVariants.{Short}
+use Rattle.capture_file.specs.declared.fault.CaptureFault.TheVariants.{Short}
 use Rattle.capture_file.proofs.Rooms.{none_packed}
 use Rattle.std.proofs.lemmas.List.{take_all}
 use Rattle.capture_file.proofs.Marks.{consumed, clash, take_bytes}

@@ -21,7 +21,6 @@ returns-in-Ok-clause-ends g c =
       place = c.damage.ensures.place;
       read = c.damage.ensures.read;
       part = c.damage.ensures.part;
-      memory = c.damage.ensures.memory;
       ended = c.damage.ensures.ended;
       read_cause = c.damage.ensures.read_cause;
       write_cause = c.damage.ensures.write_cause;

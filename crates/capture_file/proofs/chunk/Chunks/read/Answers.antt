@@ -5,7 +5,7 @@ use Rattle.std.specs.Io.KnownBytes.{Consumes}
 use Rattle.std.proofs.KnownBytes.{Consumes-trans}
 use Rattle.capture_file.specs.Layout.{packed}
 use Rattle.capture_file.specs.Captures.{IsFault, SaysOf, SaysRead}
-use Rattle.capture_file.specs.declared.reading.CaptureError.{CaptureError}
+use Rattle.capture_file.specs.declared.fault.CaptureError.{CaptureError}
 use Rattle.capture_file.proofs.Packing.{length-packed}
 use Rattle.capture_file.proofs.Marks.{consumed}
 use Rattle.capture_file.proofs.Judged.{says_of, says_read}

@@ -1,6 +1,6 @@
 use Rattle.std.proofs.lemmas.Bool.{eqb-true, eq-eqb}
 use Rattle.capture_file.proofs.Packs.{spared_whole, spared_last, last_spared}
-use Rattle.capture_file.proofs.reading.is_padded.Goals as goal
+use Rattle.capture_file.proofs.chunk.is_padded.Goals as goal
 
 pub returns-then-spare-eq0-clause-spared : goal.returns-then-spare-eq0-clause-spared
 returns-then-spare-eq0-clause-spared c =

@@ -7,8 +7,9 @@ use Rattle.std.proofs.lemmas.List.{take_all}
 use Rattle.tmds_word.specs.Bits.{number, bytes_of}
 use Rattle.capture_file.specs.Layout.{packed, chunk, block, blocks_below, blocks_of}
 use Rattle.capture_file.specs.Captures.{IsCapture, IsCaptureOf, IsFault, counts_of, lane_blocks}
-use Rattle.capture_file.specs.declared.reading.CaptureFault.{CaptureFault}
-use Rattle.capture_file.specs.declared.reading.CaptureFault.TheVariants.{Magic, Version, Short, Padding, Trailing}
+use Rattle.capture_file.specs.Laws.{AreSame}
+use Rattle.capture_file.specs.declared.fault.CaptureFault.{CaptureFault}
+use Rattle.capture_file.specs.declared.fault.CaptureFault.TheVariants.{Magic, Version, Short, Padding, Trailing}
 use Rattle.capture_file.proofs.Packing.{length-packed}
 use Rattle.capture_file.proofs.Packs.{number_below}
 use Rattle.capture_file.proofs.Fronts.{same_front, same_rest}
@@ -129,12 +130,6 @@ same_below (suc j) a b c p q r long is =
     let join : (x y : List ℕ) → take (4096 * j) x ≡ take (4096 * j) y → chunk j x ≡ chunk j y → take (4096 * suc j) x ≡ take (4096 * suc j) y =
     λ x y e f. chunk_more j x ∙ ap₂ (λ s t. s ++ t) e f ∙ sym (chunk_more j y) in
     record { first = join a p was.first more.first; second = join b q was.second more.second; third = join c r was.third more.third }
-
--- lanes are those of others
-pub record AreSame (x y z u v w : List Bool) : Type 0 where
-  pub blue : x ≡ u
-  pub green : y ≡ v
-  pub red : z ≡ w
 
 -- lanes whose blocks are the same, each as long as the other
 same_blocks : (x y z u v w : List Bool) → length x ≡ length u → length y ≡ length v → length z ≡ length w → lane_blocks x y z ≡ lane_blocks u v w → AreSame x y z u v w
