@@ -1,4 +1,4 @@
--- The bytes of a capture as far as a lane's chunk, and what may follow them.
+-- Chunks of a lane that goes on: the bytes that they have, and those with which they may begin.
 use Rattle.std.proofs.Common.{◌≡◌, ℕ, suc, zero, ◌+◌, ◌-◌, ◌*◌, ◌/◌, ◌%◌, ◌^◌, ◌<◌, ◌≤◌, Bool, false, List, [], ◌++◌, length, take, drop, min, get_or, refl, ap, ap₂, ◌∙◌, sym, arith, inl, inr, append_assoc, append-nil, length-append, length-drop, length-take, length-take-le, take-append-drop, subst, replicate}
 use Rattle.std.proofs.Math.Seq.{take-append_seam, drop-append_seam, take-append-add}
 use Rattle.std.proofs.lemmas.Bool.{cases_lt}
