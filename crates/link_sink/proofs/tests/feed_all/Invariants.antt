@@ -1,6 +1,6 @@
 use Rattle.std.proofs.Common.{◌≡◌, ◌-◌, ◌≤◌, ◌%◌, length, min, true, slice_index}
 use Rattle.link_sink.specs.Streams.{bits_of}
-use Rattle.link_sink.proofs.sink_tests.feed_all.Given as goal
+use Rattle.link_sink.proofs.tests.feed_all.Given as goal
 
 abbrev pub invariant-loop-from : goal.invariant-loop-from
 invariant-loop-from g l = record {
