@@ -10,8 +10,7 @@ use Rattle.lane_align.proofs.Growing.{run_was}
 use Rattle.lane_deskew.specs.Triples.{AreTriple, AreFirst, IsTriple, IsFirst, IsAlignment}
 use Rattle.lane_deskew.specs.Aligned.{aligned_columns}
 use Rattle.tmds_word.specs.Words.{columns_of}
-use Rattle.lane_deskew.specs.Growing.{Extends}
-use Rattle.lane_deskew.specs.Searches.{HasGrown}
+use Rattle.lane_deskew.specs.Growing.{HasGrown, Extends}
 use Rattle.lane_deskew.specs.Pushed.{Pushed, Past, edge_of, from_edge, IsEven, IsPastTriple, IsPastAlignment, past_columns}
 use Rattle.lane_deskew.specs.Fed.{IsCutFrom, AreCutFrom, WasFed}
 use Rattle.lane_deskew.proofs.Growth.{edge_kept, edge_before, lock_kept}
@@ -150,6 +149,6 @@ bits_extend xs us grown = record {
 }
 
 -- a first full alignment stays the first one when the lanes grow, however unevenly
-pub first_stays_wide : (xs ys zs us vs ws : List Bool) (d e f : ℕ) → HasGrown xs us → HasGrown ys vs → HasGrown zs ws → IsFirst xs ys zs d e f → IsFirst us vs ws d e f
-first_stays_wide xs ys zs us vs ws d e f a b c first =
+pub first_stays : (xs ys zs us vs ws : List Bool) (d e f : ℕ) → HasGrown xs us → HasGrown ys vs → HasGrown zs ws → IsFirst xs ys zs d e f → IsFirst us vs ws d e f
+first_stays xs ys zs us vs ws d e f a b c first =
     first_extends (IsEdge xs) (IsEdge ys) (IsEdge zs) (IsEdge us) (IsEdge vs) (IsEdge ws) d e f (bits_extend xs us a) (bits_extend ys vs b) (bits_extend zs ws c) first

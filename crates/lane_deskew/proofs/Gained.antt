@@ -7,7 +7,7 @@ use Rattle.lane_align.proofs.Controls.{one_lock, run_within}
 use Rattle.lane_align.proofs.Growing.{run_stays}
 use Rattle.lane_align.proofs.Words.{length-words_from}
 use Rattle.lane_deskew.specs.Keeping.{stored, limit}
-use Rattle.lane_deskew.specs.Searches.{HasGrown}
+use Rattle.lane_deskew.specs.Growing.{HasGrown}
 use Rattle.lane_deskew.specs.Pushed.{Pushed, Past, no_words, no_past, more, edge_of, from_edge, unconsumed, reach, Knows, Lends, Awaits, IsAligned, StandsFor, CanPush, lane_at, kept_of, ready_of}
 use Rattle.lane_deskew.specs.Fed.{IsCutFrom, AreCutFrom, AreGained, IsFedTo, past_at}
 use Rattle.lane_deskew.specs.declared.lane.Lane.{Lane}

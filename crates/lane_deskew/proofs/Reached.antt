@@ -1,7 +1,7 @@
 -- Edges that a search has come to, and the triple whose largest edge is least.
-use Rattle.std.proofs.Common.{◌≡◌, ℕ, ◌+◌, ◌≤◌, Bool, List, subst, arith, inl, inr}
+use Rattle.std.proofs.Common.{◌≡◌, ℕ, ◌+◌, ◌≤◌, arith, inl, inr}
 use Rattle.std.proofs.lemmas.Bool.{cases_lt}
-use Rattle.lane_deskew.specs.Triples.{AreTriple, AreFirst, IsFirst}
+use Rattle.lane_deskew.specs.Triples.{AreTriple, AreFirst}
 use Rattle.tmds_word.specs.Taps.{AreNear}
 use Rattle.lane_deskew.specs.Candidates.{AreAllNear, HaveReached}
 
@@ -27,7 +27,7 @@ all_near d e f p q r le_e le_f same le_q le_r near_q near_r =
     ((omega arith, omega arith), (omega arith, omega arith), (omega arith, omega arith))
 
 -- the least of three edges that are not near is in no triple
-pub past_first : (A B C : ℕ → Type 0) (d e f p q r : ℕ) → HaveReached A B C d e f → (AreAllNear d e f → ⊥) → d ≤ e → d ≤ f → AreTriple A B C p q r → d + 1 ≤ p
+past_first : (A B C : ℕ → Type 0) (d e f p q r : ℕ) → HaveReached A B C d e f → (AreAllNear d e f → ⊥) → d ≤ e → d ≤ f → AreTriple A B C p q r → d + 1 ≤ p
 past_first A B C d e f p q r reached far le_e le_f t =
     let b = reached.before p q r t in
     elim (cases_lt d p) [
@@ -38,7 +38,7 @@ past_first A B C d e f p q r reached far le_e le_f t =
 swap : (d e : ℕ) → AreNear d e → AreNear e d
 swap d e near = (near.1, near.0)
 
-pub past_second : (A B C : ℕ → Type 0) (d e f p q r : ℕ) → HaveReached A B C d e f → (AreAllNear d e f → ⊥) → e ≤ d → e ≤ f → AreTriple A B C p q r → e + 1 ≤ q
+past_second : (A B C : ℕ → Type 0) (d e f p q r : ℕ) → HaveReached A B C d e f → (AreAllNear d e f → ⊥) → e ≤ d → e ≤ f → AreTriple A B C p q r → e + 1 ≤ q
 past_second A B C d e f p q r reached far le_d le_f t =
     let b = reached.before p q r t in
     elim (cases_lt e q) [
@@ -48,7 +48,7 @@ past_second A B C d e f p q r reached far le_d le_f t =
           absurd (far (swap e d near.0, near.2, near.1))
     ]
 
-pub past_third : (A B C : ℕ → Type 0) (d e f p q r : ℕ) → HaveReached A B C d e f → (AreAllNear d e f → ⊥) → f ≤ d → f ≤ e → AreTriple A B C p q r → f + 1 ≤ r
+past_third : (A B C : ℕ → Type 0) (d e f p q r : ℕ) → HaveReached A B C d e f → (AreAllNear d e f → ⊥) → f ≤ d → f ≤ e → AreTriple A B C p q r → f + 1 ≤ r
 past_third A B C d e f p q r reached far le_d le_e t =
     let b = reached.before p q r t in
     elim (cases_lt f r) [
@@ -58,7 +58,49 @@ past_third A B C d e f p q r reached far le_d le_e t =
           absurd (far (near.1, swap f e near.2, swap f d near.0))
     ]
 
--- equal edges are first too
-pub firsts_same : (xs ys zs : List Bool) (d e f p q r : ℕ) → d ≡ p → e ≡ q → f ≡ r → IsFirst xs ys zs d e f → IsFirst xs ys zs p q r
-firsts_same xs ys zs d e f p q r a b c first =
-    subst (λ n. IsFirst xs ys zs n q r) a (subst (λ n. IsFirst xs ys zs d n r) b (subst (λ n. IsFirst xs ys zs d e n) c first))
+-- the least of far edges goes on to its lane's next
+pub on_first : (A B C : ℕ → Type 0) (d e f n : ℕ) → HaveReached A B C d e f → (AreAllNear d e f → ⊥) → d ≤ e → d ≤ f
+    → A n → ((p : ℕ) → d + 1 ≤ p → A p → n ≤ p) → HaveReached A B C n e f
+on_first A B C d e f n reached far le_e le_f here least = record {
+  first = here;
+  second = reached.second;
+  third = reached.third;
+  before = λ p q r t.
+      let was = reached.before p q r t in
+      (least p (past_first A B C d e f p q r reached far le_e le_f t) t.first, was.1, was.2);
+}
+
+pub on_second : (A B C : ℕ → Type 0) (d e f n : ℕ) → HaveReached A B C d e f → (AreAllNear d e f → ⊥) → e ≤ d → e ≤ f
+    → B n → ((q : ℕ) → e + 1 ≤ q → B q → n ≤ q) → HaveReached A B C d n f
+on_second A B C d e f n reached far le_d le_f here least = record {
+  first = reached.first;
+  second = here;
+  third = reached.third;
+  before = λ p q r t.
+      let was = reached.before p q r t in
+      (was.0, least q (past_second A B C d e f p q r reached far le_d le_f t) t.second, was.2);
+}
+
+pub on_third : (A B C : ℕ → Type 0) (d e f n : ℕ) → HaveReached A B C d e f → (AreAllNear d e f → ⊥) → f ≤ d → f ≤ e
+    → C n → ((r : ℕ) → f + 1 ≤ r → C r → n ≤ r) → HaveReached A B C d e n
+on_third A B C d e f n reached far le_d le_e here least = record {
+  first = reached.first;
+  second = reached.second;
+  third = here;
+  before = λ p q r t.
+      let was = reached.before p q r t in
+      (was.0, was.1, least r (past_third A B C d e f p q r reached far le_d le_e t) t.third);
+}
+
+-- where its lane has no next, there is no triple
+pub no_first : (A B C : ℕ → Type 0) (d e f : ℕ) → HaveReached A B C d e f → (AreAllNear d e f → ⊥) → d ≤ e → d ≤ f
+    → ((p : ℕ) → d + 1 ≤ p → A p → ⊥) → (p q r : ℕ) → AreTriple A B C p q r → ⊥
+no_first A B C d e f reached far le_e le_f none p q r t = none p (past_first A B C d e f p q r reached far le_e le_f t) t.first
+
+pub no_second : (A B C : ℕ → Type 0) (d e f : ℕ) → HaveReached A B C d e f → (AreAllNear d e f → ⊥) → e ≤ d → e ≤ f
+    → ((q : ℕ) → e + 1 ≤ q → B q → ⊥) → (p q r : ℕ) → AreTriple A B C p q r → ⊥
+no_second A B C d e f reached far le_d le_f none p q r t = none q (past_second A B C d e f p q r reached far le_d le_f t) t.second
+
+pub no_third : (A B C : ℕ → Type 0) (d e f : ℕ) → HaveReached A B C d e f → (AreAllNear d e f → ⊥) → f ≤ d → f ≤ e
+    → ((r : ℕ) → f + 1 ≤ r → C r → ⊥) → (p q r : ℕ) → AreTriple A B C p q r → ⊥
+no_third A B C d e f reached far le_d le_e none p q r t = none r (past_third A B C d e f p q r reached far le_d le_e t) t.third

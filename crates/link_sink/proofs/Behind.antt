@@ -4,11 +4,11 @@ use Rattle.std.proofs.lemmas.List.{append-nil}
 use Rattle.tmds_word.specs.Column.{Column}
 use Rattle.tmds_word.specs.Words.{columns_of}
 use Rattle.lane_align.specs.Aligners.{fed_of}
-use Rattle.lane_deskew.specs.Searches.{HasGrown}
+use Rattle.lane_deskew.specs.Growing.{HasGrown}
 use Rattle.lane_deskew.specs.Aligned.{aligned_columns}
 use Rattle.lane_deskew.specs.Pushed.{AreColumns, ready_of}
 use Rattle.lane_deskew.specs.declared.Aligned.{Aligned}
-use Rattle.lane_deskew.proofs.Fed.{first_stays_wide}
+use Rattle.lane_deskew.proofs.Fed.{first_stays}
 use Rattle.lane_deskew.proofs.First.{one_first}
 use Rattle.period_grammar.specs.Things.{Thing}
 use Rattle.period_grammar.specs.Heard.{heard}
@@ -27,7 +27,7 @@ use Rattle.link_sink.proofs.Growing.{told_none}
 use Rattle.link_sink.proofs.Listed.{few_columns}
 use Rattle.link_sink.proofs.Feeding.{length_grown}
 use Rattle.link_sink.proofs.Following.{gains, told_one}
-use Rattle.link_sink.proofs.Prefixes.{columns_grow_wide, front_and_rest}
+use Rattle.link_sink.proofs.Prefixes.{columns_grow, front_and_rest}
 
 -- what lanes tell is what is told of their columns
 pub told_at : (fed : Fed) (at : Option Aligned) → IsFoundAt fed at → IsToldSoFar fed (told_of (columns_from fed at))
@@ -39,10 +39,10 @@ told_at fed None h = inr (h, told_none)
 more_columns : (before now : Fed) (was is : Option Aligned) → IsFoundAt before was → IsFoundAt now is → HasGrown before.blue now.blue → HasGrown before.green now.green → HasGrown before.red now.red
     → (more : List Column) × (columns_from now is ≡ columns_from before was ++ more)
 more_columns before now None is none found blue green red = (columns_from now is, refl)
-more_columns before now (Some at) None first none blue green red = absurd (none _ _ _ (first_stays_wide _ _ _ _ _ _ _ _ _ blue green red first).triple)
+more_columns before now (Some at) None first none blue green red = absurd (none _ _ _ (first_stays _ _ _ _ _ _ _ _ _ blue green red first).triple)
 more_columns before now (Some at) (Some here) first found blue green red =
-    let same = one_first _ _ _ _ _ _ _ _ _ found (first_stays_wide _ _ _ _ _ _ _ _ _ blue green red first) in
-    let more = columns_grow_wide _ _ _ _ _ _ (slice_index at.edges 0) (slice_index at.edges 1) (slice_index at.edges 2) blue green red in
+    let same = one_first _ _ _ _ _ _ _ _ _ found (first_stays _ _ _ _ _ _ _ _ _ blue green red first) in
+    let more = columns_grow _ _ _ _ _ _ (slice_index at.edges 0) (slice_index at.edges 1) (slice_index at.edges 2) blue green red in
     (more.0, (λ i. aligned_columns now.blue now.green now.red (same.0 i) (same.1 i) (same.2 i)) ∙ more.1)
 
 -- the columns that a receiver lends are those that were not heard

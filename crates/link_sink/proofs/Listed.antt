@@ -1,36 +1,16 @@
 -- The columns of three lanes, as far as they were heard, and how many there are.
-use Rattle.std.proofs.Common.{◌≡◌, ℕ, zero, suc, ◌+◌, ◌-◌, ◌/◌, ◌^◌, ◌<◌, ◌≤◌, Bool, List, [], ◌∷◌, ◌++◌, length, take, drop, refl, ap, sym, ◌∙◌, arith, Some, None}
+use Rattle.std.proofs.Common.{◌≡◌, ℕ, zero, suc, ◌+◌, ◌-◌, ◌/◌, ◌^◌, ◌<◌, ◌≤◌, Bool, List, [], ◌∷◌, ◌++◌, length, take, drop, refl, ap, ◌∙◌, arith, Some}
 use Rattle.std.specs.Prelude.{slice_get}
-use Rattle.std.proofs.lemmas.List.{take-append-drop, take_more, length-take-le, drop-append-le}
+use Rattle.std.proofs.lemmas.List.{take_more}
 use Rattle.std.proofs.lemmas.Option.{slice_get_within, get_or_from_slice_get}
 use Rattle.lane_deskew.specs.Aligned.{aligned_columns}
 use Rattle.tmds_word.specs.Words.{words_of, columns_of}
 use Rattle.lane_align.specs.Words.{words_from}
 
--- a list in which nothing stands at a place ends before it
-pub ends_before : {X : Type 0} (xs : List X) (j : ℕ) → slice_get xs j ≡ None → length xs ≤ j
-ends_before [] j e = omega arith
-ends_before (x ∷ xs) zero e = cc
-ends_before (x ∷ xs) (suc j) e = let le = ends_before xs j e in omega (arith, le)
-
 -- the first elements, and the next
 pub take_next : {X : Type 0} (xs : List X) (j : ℕ) (x : X) → slice_get xs j ≡ Some x → take (j + 1) xs ≡ take j xs ++ x ∷ []
 take_next xs j x e =
     take_more xs j x (slice_get_within xs j x e) ∙ ap (λ y. take j xs ++ y ∷ []) (get_or_from_slice_get xs j x x e)
-
--- the part from one place on grows by the next element
-pub part_more : {X : Type 0} (xs : List X) (from j : ℕ) (x : X) → from ≤ j → slice_get xs j ≡ Some x
-    → drop from (take (j + 1) xs) ≡ drop from (take j xs) ++ x ∷ []
-part_more xs from j x le e =
-    let within = slice_get_within xs j x e in
-    ap (drop from) (take_next xs j x e)
-    ∙ drop-append-le from (take j xs) (x ∷ []) (let l = length-take-le j xs (omega (arith, within)) in omega (arith, l, le))
-
--- and lies in front of the rest
-pub part_rest : {X : Type 0} (xs : List X) (from j : ℕ) → from ≤ j → j ≤ length xs → drop from xs ≡ drop from (take j xs) ++ drop j xs
-part_rest xs from j le within =
-    ap (drop from) (sym (take-append-drop j xs))
-    ∙ drop-append-le from (take j xs) (drop j xs) (let l = length-take-le j xs within in omega (arith, l, le))
 
 length-words_of : (n : ℕ) (xs : List Bool) → length (words_of n xs) ≡ n
 unfolding words_of

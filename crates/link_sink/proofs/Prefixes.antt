@@ -5,7 +5,7 @@ use Rattle.std.proofs.Math.Seq.{drop-append_seam}
 use Rattle.tmds_word.specs.Column.{Column}
 use Rattle.lane_align.proofs.Growing.{window_stays}
 use Rattle.lane_deskew.specs.Aligned.{column_from, aligned_column, aligned_columns, place}
-use Rattle.lane_deskew.specs.Searches.{HasGrown, HaveGrown}
+use Rattle.lane_deskew.specs.Growing.{HasGrown}
 use Rattle.lane_deskew.proofs.Listed.{columns_listed}
 
 -- a list whose places stand in another one as well lies in front of it
@@ -40,15 +40,11 @@ column_stays xs ys zs us vs ws d e f j c blue green red h =
     (λ n. window_stays zs ws red.0 red.1 (place f j) n) h
 
 -- the columns of lanes lie in front of those of the grown lanes
-pub columns_grow_wide : (xs ys zs us vs ws : List Bool) (d e f : ℕ) → HasGrown xs us → HasGrown ys vs → HasGrown zs ws
+pub columns_grow : (xs ys zs us vs ws : List Bool) (d e f : ℕ) → HasGrown xs us → HasGrown ys vs → HasGrown zs ws
     → (more : List Column) × (aligned_columns us vs ws d e f ≡ aligned_columns xs ys zs d e f ++ more)
-columns_grow_wide xs ys zs us vs ws d e f blue green red =
+columns_grow xs ys zs us vs ws d e f blue green red =
     front_of (aligned_columns xs ys zs d e f) (aligned_columns us vs ws d e f)
     (λ j c at. columns_listed us vs ws d e f j ∙ column_stays xs ys zs us vs ws d e f j c blue green red (sym (columns_listed xs ys zs d e f j) ∙ at))
-
-pub columns_grow : (xs ys zs us vs ws : List Bool) (d e f : ℕ) → HaveGrown xs ys zs us vs ws
-    → (more : List Column) × (aligned_columns us vs ws d e f ≡ aligned_columns xs ys zs d e f ++ more)
-columns_grow xs ys zs us vs ws d e f g = columns_grow_wide xs ys zs us vs ws d e f g.blue g.green g.red
 
 -- a list in front of another, and what the other has behind it
 pub front_and_rest : {X : Type 0} (xs ys : List X) → (more : List X) × (ys ≡ xs ++ more) → xs ++ drop (length xs) ys ≡ ys

@@ -14,7 +14,7 @@ use Rattle.lane_align.proofs.Controls.{window_here}
 use Rattle.lane_align.proofs.Calm.{tap_lock}
 use Rattle.island_pack.specs.Kinds.{Kind, control_column, second_guard, IsPayload, kind_at, EndsAt}
 use Rattle.lane_deskew.specs.Ends.{IsGuard, IsReceived}
-use Rattle.lane_deskew.specs.Searches.{HasGrown}
+use Rattle.lane_deskew.specs.Growing.{HasGrown}
 use Rattle.lane_deskew.proofs.Growth.{edge_before}
 use Rattle.lane_deskew.proofs.Ends.{tapped, word_is, tap_run, edge_ends}
 use Rattle.lane_deskew.proofs.Shapes.{built, IsAlternating, last, more, where_ends, ends_alone, ends_late, in_first, in_rest}

@@ -6,7 +6,6 @@ pub mod Laws
 pub mod PeriodLaws
 pub mod Literal
 pub mod Sinks
-pub mod Rows
 pub mod Received
 pub mod Streams
 pub mod Progress

@@ -5,7 +5,7 @@ use Rattle.lane_align.specs.Words.{AreWords, lane_words}
 use Rattle.lane_align.specs.Aligners.{StandsFor as IsAlignerOf, fed_of, lock_of}
 use Rattle.lane_team.specs.Sides.{Side, Sides}
 use Rattle.lane_deskew.specs.Triples.{IsTriple, IsAlignment}
-use Rattle.lane_deskew.specs.Searches.{HasGrown}
+use Rattle.lane_deskew.specs.Growing.{HasGrown}
 use Rattle.lane_deskew.specs.Pushed.{Pushed, Past, over, StandsFor as IsDeskewOf, kept_of}
 use Rattle.lane_deskew.specs.Fed.{IsCutFrom, past_at}
 use Rattle.lane_deskew.specs.declared.deskew.Deskew.{Deskew}

@@ -3,7 +3,7 @@ use Rattle.std.specs.Prelude.{◌≡◌, ℕ, ◌^◌, ◌<◌, Bool, true, fals
 use Rattle.lane_align.specs.Aligners.{fed_of}
 use Rattle.lane_team.specs.Sides.{side_at}
 use Rattle.lane_deskew.specs.Pushed.{ready_of}
-use Rattle.lane_deskew.specs.Searches.{HasGrown}
+use Rattle.lane_deskew.specs.Growing.{HasGrown}
 use Rattle.lane_deskew.specs.declared.Aligned.{Aligned}
 use Rattle.period_grammar.specs.Stands.{StandsFor as IsHearingOf}
 use Rattle.link_sink.specs.Sinks.{Fed}

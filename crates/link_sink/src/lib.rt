@@ -4,19 +4,15 @@
 mod ear;
 mod hear;
 pub mod laws;
-mod progress;
 mod receiver;
-mod row_sink;
 mod sink;
 mod slices;
 mod streaming;
 mod telling;
 
 pub use ear::Ear;
-pub use hear::{FeedFault, Outcome, hear_lanes};
+pub use hear::Outcome;
 pub use sink::LinkSink;
 
-#[cfg(test)]
-mod sink_tests;
 #[cfg(test)]
 mod tests;

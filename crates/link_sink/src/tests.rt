@@ -1,192 +1,302 @@
-//! What is told of the rows of three lanes, worked by hand from the columns that they carry.
-ghost use Rattle.std.specs.Prelude.{⊤};
+//! What a sink tells of the rows of three lanes that come feed after feed.
+ghost use Rattle.std.specs.Prelude.{◌≡◌, ◌+◌, ◌*◌, ◌≤◌, ◌<◌, ◌%◌, true, length, min, OnOk};
+ghost use Rattle.link_sink.specs.Streams.{bits_of};
 
-use crate::{Ear, FeedFault, Outcome, hear_lanes};
-use outside_io::{Failed, NoMemory};
-use period_grammar::{Fault, Told};
+mod rows;
+mod vectors;
+
+use crate::{LinkSink, Outcome};
+use lane_team::{Gate, Open};
+use outside_io::Failed;
+use rows::{NOTHING, Notes, Row, TELLS, even_rows, rows_of};
 use std::alloc::Global;
+use std::process::Abort;
+use std::sync::atomic::{AtomicU64, Ordering};
 use std::test::*;
-use tmds_word::{BitRow, Word};
+use std::thread::Threads;
+use tmds_word::BitRow;
+use vectors::{HURT, HURT_TELLS, ISLAND, ISLAND_TELLS};
 
-pub mod vectors;
-
-/// The kind of a thing and two of its numbers.
-pub type Row = [u32; 3];
-
-/// Notes the first things that it is told, but fails at one of them.
-#[derive(Drop)]
-pub struct Notes {
-    pub rows: [Row; 16],
-    pub count: usize,
-    fails_at: usize,
-    pub failed: u64,
-}
-
-impl Notes {
-    pub fn new(fails_at: usize) -> Notes {
-        Notes {
-            rows: [[0; 3]; 16],
-            count: 0,
-            fails_at,
-            failed: 0,
-        }
-    }
-}
-
-/// The row of a line: the number of its bytes, and those of its first pixel.
-fn line_row(pixels: &[u8]) -> Row {
-    match pixels {
-        [red, green, blue, ..] => [
-            1,
-            u32::try_from(pixels.len()).unwrap_or(0),
-            u32::from_be_bytes([0, *red, *green, *blue]),
-        ],
-        _ => [1, 0, 0],
-    }
-}
-
-/// The row of a damaged control or guard word.
-fn fault_row(fault: Fault) -> Row {
-    match fault {
-        Fault::Word { lane, column } => [5, u32::from(lane), column],
-        Fault::Preamble { column } => [7, column, 0],
-        Fault::Guard { column } => [8, column, 0],
-        _ => [9, 0, 0],
-    }
-}
-
-fn row_of(told: Told<'_>) -> Row {
-    match told {
-        Told::Run { value, count } => [0, u32::from(value), count],
-        Told::Line { pixels } => line_row(pixels),
-        Told::Open { sync } => [2, u32::from(sync[0]), u32::from(sync[1])],
-        Told::Packet { packet: _, column } => [3, column, 0],
-        Told::Close { sync } => [4, u32::from(sync[0]), u32::from(sync[1])],
-        Told::Fault(fault) => fault_row(fault),
-        Told::Cut { column } => [6, column, 0],
-    }
-}
-
-impl Ear for Notes {
-    ghost faults = { λ notes. notes.failed };
-
-    ghost took = { λ _ _ _. ⊤ };
-
-    ghost broke = { λ _ _ _. ⊤ };
-
-    fn hear(&mut self, told: Told<'_>) -> Result<(), Failed> {
-        let row = row_of(told);
-        if self.count == self.fails_at {
-            self.failed = self.failed.saturating_add(1);
-            return Err(Failed);
-        }
-        if self.count < self.rows.len() {
-            self.rows[self.count] = row;
-            self.count += 1;
-        }
-        Ok(())
-    }
-
-    ghost took_none = { λ _. tt };
-
-    ghost took_both = { λ _ _ _ _ _ _ _. tt };
-}
-
-/// Characters of a lane, one after another, and how often each comes.
-pub type Lane = &'static [(u16, u32)];
-
-/// 24 control columns 00, 8 columns 04, the guard of a video period, the pixel 10 ff 00, 12 columns 00.
-pub static LANES: [Lane; 3] = [
-    &[(0x354, 32), (0x2cc, 2), (0x100, 1), (0x354, 12)],
-    &[(0x354, 24), (0x0ab, 8), (0x133, 2), (0x200, 1), (0x354, 12)],
-    &[(0x354, 32), (0x2cc, 2), (0x1f0, 1), (0x354, 12)],
+/// How many bits of each lane come in three feeds, over and over.
+static FEEDS: [[u32; 3]; 4] = [
+    [8, 8, 8],
+    [16, 16, 16],
+    [32768, 32768, 32768],
+    [8, 1000, 16],
 ];
 
-/// What is told of them from twelve control columns before the guard on.
-pub static TELLS: [Row; 4] = [[0, 0, 4], [0, 4, 8], [1, 3, 0x10ff00], [0, 0, 12]];
+/// The same for long rows.
+static LONG_FEEDS: [[u32; 3]; 2] = [[32768, 32768, 32768], [32760, 8, 16]];
 
-/// No things.
-pub static NOTHING: [Row; 0] = [];
+/// Feeds a sink the next bits of three rows, as many of each as there are up to a number.
+fn feed_next<R: Threads>(
+    rt: &R,
+    sink: &mut LinkSink,
+    a: &BitRow,
+    b: &BitRow,
+    c: &BitRow,
+    from: u32,
+    most: u32,
+    notes: &mut Notes,
+) -> Result<(), Failed>
+    requires open { sink.old.is_open ≡ true }
+    requires whole { from % 8 ≡ 0 }
+    requires most { most ≤ 32768 }
+    requires first { bits_of sink.old 0 ≡ min from (length a.now) }
+    requires second { bits_of sink.old 1 ≡ min from (length b.now) }
+    requires third { bits_of sink.old 2 ≡ min from (length c.now) }
+    ensures open { OnOk result (sink.new.is_open ≡ true) }
+    ensures first { OnOk result (bits_of sink.new 0 ≡ min (from + most) (length a.now)) }
+    ensures second { OnOk result (bits_of sink.new 1 ≡ min (from + most) (length b.now)) }
+    ensures third { OnOk result (bits_of sink.new 2 ≡ min (from + most) (length c.now)) }
+{
+    let x = most.min(a.len().saturating_sub(from));
+    let y = most.min(b.len().saturating_sub(from));
+    let z = most.min(c.len().saturating_sub(from));
+    let mut blue = [0; 4096];
+    let mut green = [0; 4096];
+    let mut red = [0; 4096];
+    let i = (x as usize + 7) / 8;
+    let j = (y as usize + 7) / 8;
+    let k = (z as usize + 7) / 8;
+    a.copy_bytes(from, &mut blue[..i]);
+    b.copy_bytes(from, &mut green[..j]);
+    c.copy_bytes(from, &mut red[..k]);
+    sink.feed(
+        rt,
+        &blue[..i],
+        &green[..j],
+        &red[..k],
+        [x, y, z],
+        &Open,
+        notes,
+    )
+}
 
-/// Adds a character as often as is asked for.
-fn push(row: &mut BitRow, number: u16, times: u32) -> Result<(), NoMemory> {
-    for _ in 0..times {
-        let Some(word) = Word::new(number) else {
-            return Ok(());
+/// Feeds a sink that was fed nothing all bits of three rows, and finishes it.
+fn feed_all<R: Threads>(
+    rt: &R,
+    sink: &mut LinkSink,
+    rows: &[BitRow; 3],
+    feeds: [u32; 3],
+    notes: &mut Notes,
+) -> Result<Outcome, Failed>
+    requires open { sink.old.is_open ≡ true }
+    requires first { bits_of sink.old 0 ≡ 0 }
+    requires second { bits_of sink.old 1 ≡ 0 }
+    requires third { bits_of sink.old 2 ≡ 0 }
+{
+    let a = &rows[0];
+    let b = &rows[1];
+    let c = &rows[2];
+    let all = a.len().max(b.len()).max(c.len());
+    let mut turn: usize = 0;
+    let mut from: u32 = 0;
+    while from < all {
+        let most = feeds[turn % 3];
+        if most == 0 || most > 32768 || most % 8 != 0 || from > 1_000_000 {
+            return Err(Failed);
+        }
+        feed_next(rt, sink, a, b, c, from, most, notes)?;
+        turn = (turn + 1) % 3;
+        from += most;
+    }
+    sink.finish(notes)
+}
+
+/// That three rows have this outcome, and tell these things, in feeds of each kind, by one sink that is restarted.
+fn expect<R: Threads + Abort>(
+    rt: &R,
+    alloc: Global,
+    rows: &[BitRow; 3],
+    feeds_of: &[[u32; 3]],
+    outcome: Outcome,
+    tells: &[Row],
+) -> Result<(), Fail>
+    requires { length tells.now ≤ 16 }
+{
+    let mut sink = LinkSink::open(alloc)?;
+    for &feeds in feeds_of {
+        let mut notes = Notes::new(100);
+        sink.restart();
+        assert_eq!(rt;
+            feed_all(rt, &mut sink, rows, feeds, &mut notes),
+            Ok(outcome),
+            "{feeds:?}"
+        );
+        assert!(rt; !sink.is_open());
+        assert_eq!(rt; notes.count, tells.len(), "{feeds:?}");
+        assert!(rt; &notes.rows[..tells.len()] == tells, "{feeds:?}");
+    }
+    Ok(())
+}
+
+#[test]
+fn lanes_of_one_length(rt: HostRuntime) -> Result<(), Fail> {
+    for (skews, columns, last) in [
+        ([0, 0, 0], 34, 19),
+        ([3, 0, 17], 32, 17),
+        ([0, 70, 35], 27, 12),
+        ([70, 69, 0], 27, 12),
+    ] {
+        let outcome = Outcome {
+            aligned: true,
+            columns,
         };
-        if row.len() < 100000 {
-            row.push_word(word)?;
+        let tells = [TELLS[0], TELLS[1], TELLS[2], [0, 0, last]];
+        let rows = even_rows(rt.alloc(), skews, 0, 540)?;
+        expect(&rt, rt.alloc(), &rows, &FEEDS, outcome, &tells)?;
+        let long = even_rows(rt.alloc(), skews, 3250, 33040)?;
+        expect(&rt, rt.alloc(), &long, &LONG_FEEDS, outcome, &tells)?;
+    }
+    Ok(())
+}
+
+#[test]
+fn islands(rt: HostRuntime) -> Result<(), Fail> {
+    let outcome = Outcome {
+        aligned: true,
+        columns: 75,
+    };
+    let rows = rows_of(rt.alloc(), &ISLAND)?;
+    expect(&rt, rt.alloc(), &rows, &FEEDS, outcome, &ISLAND_TELLS)?;
+    let rows = rows_of(rt.alloc(), &HURT)?;
+    expect(&rt, rt.alloc(), &rows, &FEEDS, outcome, &HURT_TELLS)
+}
+
+#[test]
+fn lanes_that_are_not_aligned(rt: HostRuntime) -> Result<(), Fail> {
+    let outcome = Outcome {
+        aligned: false,
+        columns: 0,
+    };
+    let far = even_rows(rt.alloc(), [0, 71, 0], 0, 540)?;
+    expect(&rt, rt.alloc(), &far, &FEEDS, outcome, &NOTHING)?;
+    let empty = even_rows(rt.alloc(), [0, 0, 0], 0, 0)?;
+    expect(&rt, rt.alloc(), &empty, &FEEDS, outcome, &NOTHING)
+}
+
+// The columns begin at bit 200, where the edges lie at bit 320: a lane that ends after them has one for each ten bits.
+#[test]
+fn lanes_of_unlike_lengths(rt: HostRuntime) -> Result<(), Fail> {
+    for (lane, bits, columns, last) in [(0, 503, 30, 15), (1, 440, 24, 9), (2, 369, 16, 1)] {
+        let mut rows = even_rows(rt.alloc(), [0, 0, 0], 0, 540)?;
+        prove!(lane < 3);
+        let row = &mut rows[lane];
+        assert!(&rt; bits <= row.len());
+        row.truncate(bits);
+        let outcome = Outcome {
+            aligned: true,
+            columns,
+        };
+        expect(
+            &rt,
+            rt.alloc(),
+            &rows,
+            &FEEDS,
+            outcome,
+            &[TELLS[0], TELLS[1], TELLS[2], [0, 0, last]],
+        )?;
+    }
+    Ok(())
+}
+
+/// That an ear that fails at one of four things was told those before it and no more, in feeds of each kind, and that the
+/// sink is then spent.
+fn expect_failures<R: Threads + Abort>(
+    rt: &R,
+    alloc: Global,
+    rows: &[BitRow; 3],
+    feeds_of: &[[u32; 3]],
+) -> Result<(), Fail> {
+    let mut sink = LinkSink::open(alloc)?;
+    for &feeds in feeds_of {
+        for at in 0..4 {
+            let mut notes = Notes::new(at);
+            sink.restart();
+            assert_eq!(rt;
+                feed_all(rt, &mut sink, rows, feeds, &mut notes),
+                Err(Failed),
+                "{feeds:?} at {at}"
+            );
+            assert!(rt; !sink.is_open());
+            assert_eq!(rt; notes.count, at, "{feeds:?}");
+            assert!(rt; notes.rows[..at] == TELLS[..at], "{feeds:?} at {at}");
+            assert_eq!(rt; notes.failed, 1, "{feeds:?} at {at}");
         }
     }
     Ok(())
 }
 
-/// A lane that comes so many bits late, at most 80, and begins with so many control words.
-fn row_from(alloc: Global, skew: u32, lead: u32, lane: Lane) -> Result<BitRow, Fail> {
-    let mut row = BitRow::new(alloc);
-    let late = [0; 10];
-    if skew <= 80 {
-        row.push_bits(&late[..(skew as usize + 7) / 8], skew)?;
-    }
-    push(&mut row, 0x354, lead)?;
-    for (number, times) in lane {
-        push(&mut row, *number, *times)?;
-    }
-    Ok(row)
+#[test]
+fn ears_that_fail(rt: HostRuntime) -> Result<(), Fail> {
+    let rows = even_rows(rt.alloc(), [1, 2, 3], 0, 540)?;
+    expect_failures(&rt, rt.alloc(), &rows, &FEEDS)?;
+    let long = even_rows(rt.alloc(), [1, 2, 3], 3250, 33040)?;
+    expect_failures(&rt, rt.alloc(), &long, &LONG_FEEDS)
 }
 
-/// Three lanes as they are.
-pub fn rows_of(alloc: Global, lanes: &[Lane; 3]) -> Result<[BitRow; 3], Fail> {
-    Ok([
-        row_from(alloc, 0, 0, lanes[0])?,
-        row_from(alloc, 0, 0, lanes[1])?,
-        row_from(alloc, 0, 0, lanes[2])?,
-    ])
+/// For how many turns a lane looks for another at most.
+const TURNS: u64 = 1_000_000_000;
+
+/// Twelve control words 00 of each lane, ten bits a word, the lowest first.
+static CONTROL: [u8; 15] = [
+    0x54, 0x53, 0x4d, 0x35, 0xd5, 0x54, 0x53, 0x4d, 0x35, 0xd5, 0x54, 0x53, 0x4d, 0x35, 0xd5,
+];
+
+/// Where the workers of the three lanes meet: each counts its own passes, and looks for the others to have passed as
+/// often.
+#[derive(Drop)]
+struct Meeting {
+    passes: [AtomicU64; 3],
+    missed: AtomicU64,
 }
 
-/// The lanes, each so many bits late, with so many control columns before them and 20 behind them, up to so many bits
-/// of each.
-pub fn even_rows(
-    alloc: Global,
-    skews: [u32; 3],
-    lead: u32,
-    bits: u32,
-) -> Result<[BitRow; 3], Fail> {
-    let mut rows = [
-        row_from(alloc, skews[0], lead, LANES[0])?,
-        row_from(alloc, skews[1], lead, LANES[1])?,
-        row_from(alloc, skews[2], lead, LANES[2])?,
-    ];
-    for row in rows.iter_mut() {
-        push(row, 0x354, 20)?;
-        if bits <= row.len() {
-            row.truncate(bits);
+impl Meeting {
+    /// Whether a lane comes to have passed so often.
+    fn saw(&self, lane: usize, pass: u64) -> bool
+        requires { lane < 3 }
+    {
+        for _ in 0..TURNS {
+            if self.passes[lane].load(Ordering::SeqCst) >= pass {
+                return true;
+            }
+        }
+        false
+    }
+}
+
+impl Gate for Meeting {
+    fn pass(&self, lane: u8) {
+        if lane < 3 {
+            let own = &self.passes[usize::from(lane)];
+            let pass = own.fetch_add(1, Ordering::SeqCst).wrapping_add(1);
+            if !(self.saw(0, pass) && self.saw(1, pass) && self.saw(2, pass)) {
+                self.missed.fetch_add(1, Ordering::SeqCst);
+            }
         }
     }
-    Ok(rows)
-}
-
-/// Tells what three rows say, where they are of one length.
-pub fn hear(alloc: Global, rows: &[BitRow; 3], notes: &mut Notes) -> Result<Outcome, FeedFault> {
-    let len = rows[0].len();
-    if rows[1].len() != len || rows[2].len() != len {
-        return Err(FeedFault::Memory);
-    }
-    hear_lanes(alloc, &rows[0], &rows[1], &rows[2], notes)
 }
 
 #[test]
-fn ears_that_fail(rt: HostRuntime) -> Result<(), Fail> {
-    for lead in [0, 3250] {
-        let rows = even_rows(rt.alloc(), [1, 2, 3], lead, 10 * lead + 540)?;
-        for at in 0..4 {
-            let mut notes = Notes::new(at);
-            let heard = hear(rt.alloc(), &rows, &mut notes);
-            assert_eq!(&rt; heard, Err(FeedFault::Ear));
-            assert_eq!(&rt; notes.count, at);
-            assert!(&rt; notes.rows[..at] == TELLS[..at]);
-            assert_eq!(&rt; notes.failed, 1);
-        }
+fn lanes_meet(rt: HostRuntime) -> Result<(), Fail> {
+    let gate = Meeting {
+        passes: [AtomicU64::new(0), AtomicU64::new(0), AtomicU64::new(0)],
+        missed: AtomicU64::new(0),
+    };
+    let mut notes = Notes::new(100);
+    let mut sink = LinkSink::open(rt.alloc())?;
+    for _ in 0..3 {
+        sink.restart();
+        let fed = sink.feed(
+            &rt, &CONTROL, &CONTROL, &CONTROL, [120; 3], &gate, &mut notes,
+        );
+        assert_eq!(&rt; fed, Ok(()));
+    }
+    assert_eq!(&rt; notes.count, 0);
+    assert_eq!(&rt; gate.missed.load(Ordering::SeqCst), 0);
+    for lane in 0..3usize {
+        assert_eq!(&rt; gate.passes[lane].load(Ordering::SeqCst), 3, "lane {lane}");
     }
     Ok(())
 }

@@ -1,5 +1,5 @@
 //! Alignments and columns of lanes whose bits come in feeds, compared with values that were computed apart
-//! from this crate.
+//! from this crate, and after each feed with the alignment of all bits that came.
 ghost use Rattle.std.specs.Prelude.{ℕ, ◌≡◌, ◌<◌, ◌≤◌, ◌+◌, ◌*◌, ◌%◌, ◌^◌, [], IsTrue, length, true, min, vec_len};
 ghost use Rattle.lane_align.specs.Words.{AreWords};
 ghost use Rattle.lane_align.specs.Aligners.{fed_of};
@@ -9,11 +9,13 @@ ghost use Rattle.lane_deskew.specs.Pushed.{ready_of};
 use super::{ColumnsRef, Deskew};
 use crate::Aligned;
 use crate::lane::Lane;
+use crate::reference::first_alignment;
 use crate::tests::vectors::{CASES, Case, Row};
 use lane_align::LaneAligner;
 use std::alloc::Global;
 use std::process::Abort;
 use std::test::*;
+use tmds_word::BitRow;
 
 /// Whether a lane may push characters at a lock.
 fn may_push(lane: &Lane, lock: u64, words: &[u16]) -> bool
@@ -113,6 +115,15 @@ fn late_bytes(alloc: Global, lane: &Row, zeros: usize) -> Result<Vec<u8>, Fail> 
     Ok(bytes)
 }
 
+/// The first bits of a lane.
+fn front_of(rt: &impl Abort, alloc: Global, bytes: &[u8], bits: u32) -> Result<BitRow, Fail> {
+    let len = (bits as usize + 7) / 8;
+    assert!(rt; bits <= 2_000_000 && len <= bytes.len());
+    let mut row = BitRow::new(alloc);
+    row.push_bits(&bytes[..len], bits)?;
+    Ok(row)
+}
+
 /// That three lanes behind zeros, which are fed in pieces, are aligned as a case says.
 fn expect_case(
     rt: &impl Abort,
@@ -178,6 +189,15 @@ fn expect_case(
             row.as_mut_slice(),
         );
         found = deskew.settle();
+        let to = from + piece;
+        let first_bits = front_of(rt, alloc, a.as_slice(), x.min(to))?;
+        let second_bits = front_of(rt, alloc, b.as_slice(), y.min(to))?;
+        let third_bits = front_of(rt, alloc, c.as_slice(), z.min(to))?;
+        assert_eq!(rt;
+            found,
+            first_alignment(&first_bits, &second_bits, &third_bits),
+            "{to} bits, {zeros} zeros, {pieces:?}"
+        );
         let n = expect_columns(rt, &deskew, case, taken);
         deskew.consume(n);
         assert!(rt; taken <= 10_000 && n <= 10_000);
@@ -205,6 +225,10 @@ fn alignments_of_feeds(rt: HostRuntime) -> Result<(), Fail> {
     for (zeros, pieces) in [
         (0, [8, 8, 8]),
         (3, [16, 16, 16]),
+        (0, [136, 136, 136]),
+        (19, [8, 8, 8]),
+        (19, [136, 1000, 1000]),
+        (0, [1000, 1000, 1000]),
         (0, [32768, 32768, 32768]),
         (4090, [32768, 8, 16]),
         (4080, [16, 32768, 8]),

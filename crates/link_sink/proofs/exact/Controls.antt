@@ -90,9 +90,6 @@ bits_of_word = by_control IsBits
     (record { below = omega arith; word_is = refl }) (record { below = omega arith; word_is = refl })
     (record { below = omega arith; word_is = refl }) (record { below = omega arith; word_is = refl })
 
-pub values : List Column → List ℕ
-values cs = map value_of cs
-
 clean_column : (c : Column) → clean c ≡ true → (value_of c < 64) × (c ≡ control_column (value_of c))
 unfolding value_of
 clean_column c h =

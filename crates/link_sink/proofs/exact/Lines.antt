@@ -46,10 +46,6 @@ lane_of ws h = record {
 
 -- Bytes.
 
-length-inverted : (q : List Bool) → length (inverted q) ≡ length q
-length-inverted [] = refl
-length-inverted (b ∷ q) = ap suc (length-inverted q)
-
 length-unchained : (x b : Bool) (q : List Bool) → length (unchained x b q) ≡ length q
 length-unchained x b [] = refl
 length-unchained x b (c ∷ q) = ap suc (length-unchained x c q)

@@ -1,5 +1,5 @@
 -- A pixel and a packet with which columns may be completed.
-use Rattle.std.proofs.Common.{◌≡◌, List, [], ◌∷◌, length, map, replicate, refl, arith}
+use Rattle.std.proofs.Common.{List, [], ◌∷◌, map, replicate, refl, arith}
 use Rattle.tmds_word.specs.Bits.{bits_of, word_bits, number, ones, zeros, balance}
 use Rattle.tmds_word.specs.Column.{Column}
 use Rattle.tmds_code.specs.Coding.{takes_xnor, minimised, balanced, coded_bits, coded_at, decoded_bits, decoded_byte}
@@ -32,10 +32,6 @@ null_packet = replicate 32 (record { blue = 0x29c; green = 0x29c; red = 0x29c })
 packet_test : Fine (packet_faults 0 (verdicts_of null_packet))
 unfolding null_packet verdicts_in verdict_of divides header_bits body_bits nibbles_of nibble_of value_in terc_words by_turns foreign_words foreign_on is_foreign is_terc is_in
 packet_test = refl
-
-long_null : length null_packet ≡ 32
-unfolding null_packet
-long_null = refl
 
 pub null_carried : IsCarried (map words_of null_packet)
 unfolding null_packet

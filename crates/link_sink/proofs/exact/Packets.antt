@@ -139,10 +139,6 @@ length-body ws b =
     let t = length-turns b (nibbles_of ws 1) (nibbles_of ws 2) (g ∙ sym (length-nibbles ws 2)) in
     omega arith
 
-length-sync : (ws : List (List ℕ)) → length (sync_values ws) ≡ length ws
-unfolding sync_values
-length-sync ws = length-map (nibbles_of ws 0) _ ∙ length-nibbles ws 0
-
 small_sync : (ns : List ℕ) → list_all (λ v. nat_lt v 4) (map (λ n. n % 4) ns) ≡ true
 small_sync [] = refl
 small_sync (n ∷ ns) = and_both _ _ (lt-ltb (n % 4) 4 (omega arith)) (small_sync ns)

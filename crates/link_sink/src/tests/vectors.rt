@@ -1,6 +1,6 @@
 //! The lanes of a data island and a video period, as they are sent and as they come with damaged words.
 
-use crate::tests::{Lane, Row};
+use crate::tests::rows::{Lane, Row};
 
 /// Control columns 00 and 14, an island with an AVI InfoFrame, control columns 00 and 04, a line of one pixel, control
 /// columns 00.
