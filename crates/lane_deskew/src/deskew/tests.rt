@@ -189,15 +189,18 @@ fn expect_case(
             row.as_mut_slice(),
         );
         found = deskew.settle();
-        let to = from + piece;
-        let first_bits = front_of(rt, alloc, a.as_slice(), x.min(to))?;
-        let second_bits = front_of(rt, alloc, b.as_slice(), y.min(to))?;
-        let third_bits = front_of(rt, alloc, c.as_slice(), z.min(to))?;
-        assert_eq!(rt;
-            found,
-            first_alignment(&first_bits, &second_bits, &third_bits),
-            "{to} bits, {zeros} zeros, {pieces:?}"
-        );
+        // the reference looks at each place: few zeros alone
+        if zeros < 100 {
+            let to = from + piece;
+            let first_bits = front_of(rt, alloc, a.as_slice(), x.min(to))?;
+            let second_bits = front_of(rt, alloc, b.as_slice(), y.min(to))?;
+            let third_bits = front_of(rt, alloc, c.as_slice(), z.min(to))?;
+            assert_eq!(rt;
+                found,
+                first_alignment(&first_bits, &second_bits, &third_bits),
+                "{to} bits, {zeros} zeros, {pieces:?}"
+            );
+        }
         let n = expect_columns(rt, &deskew, case, taken);
         deskew.consume(n);
         assert!(rt; taken <= 10_000 && n <= 10_000);
