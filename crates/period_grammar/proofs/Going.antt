@@ -23,12 +23,12 @@ pub record IsWhole (v : ℕ) (c : Column) : Type 0 where
   pub green : is_control c.green ≡ true
   pub red : is_control c.red ≡ true
 
-both : (a b : Bool) → (a && b) ≡ true → (a ≡ true) × (b ≡ true)
+pub both : (a b : Bool) → (a && b) ≡ true → (a ≡ true) × (b ≡ true)
 both true true e = (refl, refl)
 both true false e = cc
 both false b e = cc
 
-whole_is : (v : ℕ) (c : Column) → is_whole v c ≡ true → IsWhole v c
+pub whole_is : (v : ℕ) (c : Column) → is_whole v c ≡ true → IsWhole v c
 whole_is v c e =
     let p = both (is_control c.blue) _ e in
     let q = both (is_control c.green) _ p.1 in

@@ -12,4 +12,8 @@ pub mod Noting
 pub mod Joined
 pub mod Taking
 pub mod Sizes
-pub mod While
+pub mod Pixels
+pub mod Balanced
+pub mod Many
+pub mod Groups
+pub mod Alike

@@ -1,5 +1,5 @@
 -- A line with one pixel more, and what it tells.
-use Rattle.std.proofs.Common.{◌≡◌, ℕ, ◌+◌, ◌<◌, ◌≤◌, List, [], ◌∷◌, ◌++◌, length, map, take, refl, ap, sym, ◌∙◌, arith, append_assoc, subst}
+use Rattle.std.proofs.Common.{◌≡◌, ℕ, ◌+◌, ◌<◌, ◌≤◌, List, [], ◌∷◌, ◌++◌, length, map, take, refl, ap, sym, ◌∙◌, arith, append_assoc, subst, length-append}
 use Rattle.std.specs.Prelude.{nat_le}
 use Rattle.std.proofs.lemmas.List.{length_push, take_all, take-append-le, append-nil, map_push, map-append}
 use Rattle.std.proofs.lemmas.Bool.{lt-leb, le-leb}
@@ -25,7 +25,7 @@ unfolding line_of codes_of
 line_is l start [] was pos = absurd (omega (arith, was.count))
 line_is l start (c ∷ cs) was pos = rw (was.bytes, was.blue.first, was.green.first, was.red.first, was.count) refl
 
-line_bytes_push : (cs : List Column) (c : Column) → line_bytes (cs ++ c ∷ []) ≡ line_bytes cs ++ pixel c
+pub line_bytes_push : (cs : List Column) (c : Column) → line_bytes (cs ++ c ∷ []) ≡ line_bytes cs ++ pixel c
 unfolding line_bytes
 line_bytes_push [] c = refl
 line_bytes_push (d ∷ cs) c = ap (λ xs. pixel d ++ xs) (line_bytes_push cs c)
@@ -66,6 +66,34 @@ line_push old new cs c was lt n e b g r =
       blue = judge_more (λ d. d.blue) cs c c.blue new.blue few refl (b _ was.blue);
       green = judge_more (λ d. d.green) cs c c.green new.green few refl (g _ was.green);
       red = judge_more (λ d. d.red) cs c c.red new.red few refl (r _ was.red);
+    }
+
+pub line_bytes_append : (cs ds : List Column) → line_bytes (cs ++ ds) ≡ line_bytes cs ++ line_bytes ds
+unfolding line_bytes
+line_bytes_append [] ds = refl
+line_bytes_append (c ∷ cs) ds = ap (λ xs. pixel c ++ xs) (line_bytes_append cs ds)
+
+lane_more : (f : Column → ℕ) (cs ds : List Column) (ws : List ℕ) (j : Lane) → map f ds ≡ ws → take 4096 (cs ++ ds) ≡ cs ++ ds → take 4096 cs ≡ cs
+    → IsLaneAfter j (map f (take 4096 cs) ++ ws) → IsLaneAfter j (map f (take 4096 (cs ++ ds)))
+lane_more f cs ds ws j e all few was =
+    subst (λ vs. IsLaneAfter j vs) (ap (λ vs. map f (take 4096 cs) ++ vs) (sym e) ∙ ap (λ (xs : List Column). map f xs ++ map f ds) few ∙ sym (map-append f cs ds) ∙ ap (map f) (sym all)) was
+
+-- with more pixels, within the room
+pub line_append : (old new : LineSeen) (cs ds : List Column) (bs gs rs : List ℕ) → IsLineAfter old cs → old.count + length ds ≤ 4096 → new.count ≡ old.count + length ds
+    → new.bytes ≡ old.bytes ++ line_bytes ds → map (λ c. c.blue) ds ≡ bs → map (λ c. c.green) ds ≡ gs → map (λ c. c.red) ds ≡ rs
+    → ((ws : List ℕ) → IsLaneAfter old.blue ws → IsLaneAfter new.blue (ws ++ bs))
+    → ((ws : List ℕ) → IsLaneAfter old.green ws → IsLaneAfter new.green (ws ++ gs))
+    → ((ws : List ℕ) → IsLaneAfter old.red ws → IsLaneAfter new.red (ws ++ rs))
+    → IsLineAfter new (cs ++ ds)
+line_append old new cs ds bs gs rs was le n e mb mg mr b g r =
+    let all : take 4096 (cs ++ ds) ≡ cs ++ ds = take_all 4096 (cs ++ ds) (omega (arith, le, was.count, length-append cs ds)) in
+    let few : take 4096 cs ≡ cs = take_all 4096 cs (omega (arith, le, was.count)) in
+    record {
+      count = omega (arith, n, was.count, length-append cs ds);
+      bytes = e ∙ ap (λ xs. xs ++ line_bytes ds) (was.bytes ∙ ap line_bytes few) ∙ sym (line_bytes_append cs ds) ∙ ap line_bytes (sym all);
+      blue = lane_more (λ d. d.blue) cs ds bs new.blue mb all few (b _ was.blue);
+      green = lane_more (λ d. d.green) cs ds gs new.green mg all few (g _ was.green);
+      red = lane_more (λ d. d.red) cs ds rs new.red mr all few (r _ was.red);
     }
 
 -- what notes say of the line

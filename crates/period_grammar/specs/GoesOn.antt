@@ -8,16 +8,25 @@ use Rattle.period_grammar.specs.Column.{value_of}
 use Rattle.period_grammar.specs.Cut.{Stretch, stretch, stretches, Run, columns, runs}
 use Rattle.period_grammar.specs.Heard.{Kind, video, island, neither, opened}
 use Rattle.period_grammar.specs.After.{last}
+use Rattle.period_grammar.specs.declared.control.Kept.{Kept}
 
 -- whether the words of a column are three control words, and its value is this one
 abbrev pub is_whole : ℕ → Column → Bool
 is_whole v c = is_control c.blue && (is_control c.green && (is_control c.red && (value_of c == v)))
+
+-- whether the words of a column are these
+abbrev pub is_alike : ℕ → ℕ → ℕ → Column → Bool
+is_alike blue green red c = (c.blue == blue) && ((c.green == green) && (c.red == red))
 
 -- whether a column goes on with the last of some runs
 abbrev pub goes_on_run : List Run → Column → Bool
 goes_on_run [] c = false
 goes_on_run (columns v cs ∷ []) c = is_whole v c
 goes_on_run (r ∷ (s ∷ rs)) c = goes_on_run (s ∷ rs) c
+
+-- whether a column goes on with the last run, by the numbers that are kept of it
+abbrev pub goes_kept : Kept → Column → Bool
+goes_kept kept c = not (kept.run == 0) && is_whole kept.value c
 
 -- whether a column goes on with the pixels behind two columns that opened this
 abbrev pub goes_on_line : Kind → Column → Bool

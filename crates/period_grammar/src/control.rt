@@ -1,16 +1,18 @@
 //! What is kept of the control columns of one piece.
-ghost use Rattle.std.specs.Prelude.{◌≡◌, ◌<◌, ◌≤◌, ◌+◌, ◌^◌, ◌++◌, ◌∷◌, [], List, ℕ, length, true};
+ghost use Rattle.std.specs.Prelude.{◌≡◌, ◌<◌, ◌≤◌, ◌+◌, ◌^◌, ◌++◌, ◌∷◌, [], All, List, ℕ, length, slice_index, true, ◌==◌, ◌&&◌};
+ghost use Rattle.std.specs.List.{prefix_len};
 ghost use Rattle.tmds_word.specs.Column.{Column, column_of};
+ghost use Rattle.tmds_word.specs.Words.{columns_of};
 ghost use Rattle.island_pack.specs.Periods.{ctl};
 ghost use Rattle.period_grammar.specs.Column.{value_of};
 ghost use Rattle.period_grammar.specs.Cut.{runs};
 ghost use Rattle.period_grammar.specs.Heard.{last_run, lacks, has_preamble};
 ghost use Rattle.period_grammar.specs.After.{change};
-ghost use Rattle.period_grammar.specs.GoesOn.{goes_on_run};
+ghost use Rattle.period_grammar.specs.GoesOn.{goes_on_run, goes_kept, is_alike};
 ghost use Rattle.period_grammar.specs.ControlAfter.{IsControlAfter, IsCounted};
 ghost use Rattle.period_grammar.specs.Noted.{things, Lent};
 
-use crate::column::has_value;
+use crate::column::{has_value, word};
 use crate::notes::{Note, Notes};
 use crate::told::Fault;
 use tmds_word::Word;
@@ -71,7 +73,7 @@ impl Kept {
 
     /// Whether a column goes on with the last run.
     pub fn goes_on(&self, column: &[Word; 3]) -> bool
-        ensures { (control : List Column) → IsControlAfter self.now control → result ≡ goes_on_run (runs control) (column_of column.now) }
+        ensures { result ≡ goes_kept self.now (column_of column.now) }
     {
         (self.run != 0) & has_value(column, self.value)
     }
@@ -87,6 +89,39 @@ impl Kept {
         self.columns += 1;
         self.run += 1;
         self.ctl_run += 1;
+    }
+
+    /// How many columns of three lanes' words, from the first on, go on with the last run.
+    pub fn count_going_on(&self, blue: &[u16], green: &[u16], red: &[u16]) -> usize
+        requires green { length green.now ≡ length blue.now }
+        requires red { length red.now ≡ length blue.now }
+        requires blue_words { All (λ w. w < 1024) blue.now }
+        requires green_words { All (λ w. w < 1024) green.now }
+        requires red_words { All (λ w. w < 1024) red.now }
+        ensures within { result ≤ length blue.now }
+        ensures count { result ≡ prefix_len (goes_kept self.now) (columns_of blue.now green.now red.now) }
+    {
+        if blue.is_empty() {
+            return 0;
+        }
+        let first = [word(blue[0]), word(green[0]), word(red[0])];
+        if !self.goes_on(&first) {
+            return 0;
+        }
+        count_alike(blue, green, red)
+    }
+
+    /// Hears columns of the last run's value, this many.
+    pub fn hear_run(&mut self, count: u32)
+        requires counted { IsCounted self.old }
+        requires few { self.old.columns + count < 2 ^ 32 }
+        ensures counted { IsCounted self.new }
+        ensures columns { self.new.columns ≡ self.old.columns + count }
+        ensures heard { (control cs : List Column) → length cs ≡ count → All (λ c. self.old.value ≡ value_of c) cs → IsControlAfter self.old control → IsControlAfter self.new (control ++ cs) }
+    {
+        self.columns += count;
+        self.run += count;
+        self.ctl_run += count;
     }
 
     /// Tells the last run.
@@ -142,4 +177,28 @@ impl Kept {
     {
         self.tell_short(start, self.has_preamble(bits), notes);
     }
+}
+
+/// How many columns of three lanes' words, from the first on, have the words of the first.
+fn count_alike(blue: &[u16], green: &[u16], red: &[u16]) -> usize
+    requires some { 0 < length blue.now }
+    requires green { length green.now ≡ length blue.now }
+    requires red { length red.now ≡ length blue.now }
+    ensures within { result ≤ length blue.now }
+    ensures count { result ≡ prefix_len (is_alike (slice_index blue.now 0) (slice_index green.now 0) (slice_index red.now 0)) (columns_of blue.now green.now red.now) }
+{
+    let first = (blue[0], green[0], red[0]);
+    for i in 0..blue.len() {
+        if !same_words((blue[i], green[i], red[i]), first) {
+            return i;
+        }
+    }
+    blue.len()
+}
+
+/// Whether the words of two columns are the same.
+fn same_words(a: (u16, u16, u16), b: (u16, u16, u16)) -> bool
+    ensures { result ≡ ((a.0 == b.0) && ((a.1 == b.1) && (a.2 == b.2))) }
+{
+    (a.0 == b.0) & ((a.1 == b.1) & (a.2 == b.2))
 }

@@ -1,5 +1,5 @@
 //! Hears columns one after another, and tells what they say.
-ghost use Rattle.std.specs.Prelude.{◌≡◌, ◌<◌, ◌≤◌, ◌+◌, ◌++◌, ◌∷◌, [], All, List, length, map, take, true, false, IfOk, slice_get, Some};
+ghost use Rattle.std.specs.Prelude.{◌≡◌, ◌<◌, ◌≤◌, ◌+◌, ◌++◌, ◌∷◌, [], ℕ, All, List, length, map, take, true, false, IfOk, slice_get, Some};
 ghost use Rattle.std.specs.Bool.{OnTrue, OnFalse};
 ghost use Rattle.tmds_word.specs.Column.{Column, column_of};
 ghost use Rattle.period_grammar.specs.Things.{all_at, thing_of};
@@ -11,6 +11,7 @@ ghost use Rattle.period_grammar.specs.After.{last};
 ghost use Rattle.period_grammar.specs.GoesOn.{goes_on, count_going_on};
 ghost use Rattle.period_grammar.specs.Stands.{StandsFor};
 ghost use Rattle.period_grammar.specs.Lending.{lent_thing, last_told};
+ghost use Rattle.period_grammar.specs.declared.phase.Phase.TheVariants.{Control, Video};
 
 use crate::column;
 use crate::control::Kept;
@@ -136,13 +137,58 @@ impl Hearing {
         ensures heard { (cs : List Column) → StandsFor self.old cs → StandsFor self.new (cs ++ take result (columns_of blue.now green.now red.now)) }
         ensures told { (cs : List Column) → StandsFor self.old cs → heard_so_far (cs ++ take result (columns_of blue.now green.now red.now)) ≡ heard_so_far cs }
     {
-        for i in 0..blue.len() {
-            let column = [word(blue[i]), word(green[i]), word(red[i])];
-            if !self.hear_on(&column) {
-                return i;
-            }
+        match self.phase {
+            Phase::Control => self.hear_run(blue, green, red),
+            Phase::Video { .. } => self.hear_line(blue, green, red),
+            Phase::First { .. } => 0,
+            Phase::Island { .. } => 0,
+            Phase::Noise => 0,
         }
-        blue.len()
+    }
+
+    /// Hears columns of a control period as long as they go on with its last run, and answers how many these are.
+    fn hear_run(&mut self, blue: &[u16], green: &[u16], red: &[u16]) -> usize
+        requires phase { self.old.phase ≡ Control }
+        requires green { length green.now ≡ length blue.now }
+        requires red { length red.now ≡ length blue.now }
+        requires blue_words { All (λ w. w < 1024) blue.now }
+        requires green_words { All (λ w. w < 1024) green.now }
+        requires red_words { All (λ w. w < 1024) red.now }
+        requires few { self.old.columns + length blue.now ≤ 429496730 }
+        ensures within { result ≤ length blue.now }
+        ensures count { (cs : List Column) → StandsFor self.old cs → result ≡ count_going_on cs (columns_of blue.now green.now red.now) }
+        ensures columns { self.new.columns ≡ self.old.columns + result }
+        ensures open { self.new.finished ≡ self.old.finished }
+        ensures notes { self.new.notes ≡ self.old.notes }
+        ensures heard { (cs : List Column) → StandsFor self.old cs → StandsFor self.new (cs ++ take result (columns_of blue.now green.now red.now)) }
+        ensures told { (cs : List Column) → StandsFor self.old cs → heard_so_far (cs ++ take result (columns_of blue.now green.now red.now)) ≡ heard_so_far cs }
+    {
+        let count = self.control.count_going_on(blue, green, red);
+        self.control.hear_run(count as u32);
+        self.columns += count as u32;
+        count
+    }
+
+    /// Hears pixels of the line that is open, and answers how many these are.
+    fn hear_line(&mut self, blue: &[u16], green: &[u16], red: &[u16]) -> usize
+        requires phase { (start : ℕ) × (self.old.phase ≡ Video start) }
+        requires green { length green.now ≡ length blue.now }
+        requires red { length red.now ≡ length blue.now }
+        requires blue_words { All (λ w. w < 1024) blue.now }
+        requires green_words { All (λ w. w < 1024) green.now }
+        requires red_words { All (λ w. w < 1024) red.now }
+        requires few { self.old.columns + length blue.now ≤ 429496730 }
+        ensures within { result ≤ length blue.now }
+        ensures count { (cs : List Column) → StandsFor self.old cs → result ≡ count_going_on cs (columns_of blue.now green.now red.now) }
+        ensures columns { self.new.columns ≡ self.old.columns + result }
+        ensures open { self.new.finished ≡ self.old.finished }
+        ensures notes { self.new.notes ≡ self.old.notes }
+        ensures heard { (cs : List Column) → StandsFor self.old cs → StandsFor self.new (cs ++ take result (columns_of blue.now green.now red.now)) }
+        ensures told { (cs : List Column) → StandsFor self.old cs → heard_so_far (cs ++ take result (columns_of blue.now green.now red.now)) ≡ heard_so_far cs }
+    {
+        let count = self.line.hear_while(blue, green, red);
+        self.columns += count as u32;
+        count
     }
 
     /// Hears a column that goes on with the run or the line that is open, and says whether it does. Of any other it
@@ -253,17 +299,6 @@ impl Hearing {
     {
         let note = self.notes.get(i);
         lend(note, self.line.bytes(), self.island.whole())
-    }
-}
-
-/// The word of a number below 1,024.
-fn word(value: u16) -> Word
-    requires { value < 1024 }
-    ensures { result ≡ value }
-{
-    match Word::new(value) {
-        Some(word) => word,
-        None => unreachable!(),
     }
 }
 

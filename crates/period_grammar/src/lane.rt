@@ -1,10 +1,12 @@
 //! The words of one lane of a line, and the first that is wrongly coded.
-ghost use Rattle.std.specs.Prelude.{◌≡◌, ◌<◌, ◌+◌, ◌++◌, ◌∷◌, [], List, ℕ};
+ghost use Rattle.std.specs.Prelude.{◌≡◌, ◌<◌, ◌≤◌, ◌+◌, ◌++◌, ◌∷◌, [], All, List, ℕ, ℤ, Some, length};
 ghost use Rattle.tmds_code.specs.Coding.{decoded_byte};
+ghost use Rattle.tmds_code.specs.Balances.{disparity_at, followed_all};
 ghost use Rattle.period_grammar.specs.Judged.{IsLaneAfter};
 ghost use Rattle.period_grammar.specs.LineSeen.{IsSized};
 
-use tmds_code::CodeJudge;
+use crate::column::word;
+use tmds_code::{Balance, CodeJudge};
 use tmds_word::Word;
 
 /// Judges the words of a lane one after another, and keeps the place of the first wrong one.
@@ -39,5 +41,34 @@ impl Lane {
             self.first = Some(pixel);
         }
         byte
+    }
+
+    /// Hears the words from a pixel on at once, which were followed to a balance.
+    pub fn hear_followed(&mut self, pixel: u32, words: &[u16], balance: Balance)
+        requires few { pixel + length words.now ≤ 4096 }
+        requires sized { IsSized self.old pixel }
+        requires words { All (λ w. w < 1024) words.now }
+        requires followed { (d : ℤ) → disparity_at balance ≡ Some d → followed_all (Some self.old.judge.disparity) words.now ≡ Some d }
+        ensures sized { IsSized self.new (pixel + length words.now) }
+        ensures heard { (ws : List ℕ) → IsLaneAfter self.old ws → IsLaneAfter self.new (ws ++ words.now) }
+    {
+        if balance.is_right() {
+            self.judge.hear_right(words.len() as u16, balance);
+        } else {
+            self.hear_each(pixel, words);
+        }
+    }
+
+    /// Hears the words from a pixel on, one by one.
+    fn hear_each(&mut self, pixel: u32, words: &[u16])
+        requires few { pixel + length words.now ≤ 4096 }
+        requires sized { IsSized self.old pixel }
+        requires words { All (λ w. w < 1024) words.now }
+        ensures sized { IsSized self.new (pixel + length words.now) }
+        ensures heard { (ws : List ℕ) → IsLaneAfter self.old ws → IsLaneAfter self.new (ws ++ words.now) }
+    {
+        for i in 0..words.len() {
+            self.hear(pixel + i as u32, word(words[i]));
+        }
     }
 }

@@ -1,12 +1,16 @@
 //! A line of pixels.
-ghost use Rattle.std.specs.Prelude.{◌≡◌, ◌<◌, ◌≤◌, ◌+◌, ◌^◌, ◌++◌, ◌∷◌, [], List, length, IfOk, if◌then◌else◌, nat_le, Some, None, Option, ℕ};
+ghost use Rattle.std.specs.Prelude.{◌≡◌, ◌<◌, ◌≤◌, ◌+◌, ◌^◌, ◌++◌, ◌∷◌, [], All, List, length, take, true, IfOk, if◌then◌else◌, nat_le, Some, None, Option, ℕ};
+ghost use Rattle.std.specs.List.{prefix_len};
 ghost use Rattle.tmds_word.specs.Column.{Column, column_of};
+ghost use Rattle.tmds_word.specs.Words.{columns_of};
+ghost use Rattle.period_grammar.specs.Balanced.{is_pixel};
 ghost use Rattle.period_grammar.specs.Heard.{line_of, code_fault};
 ghost use Rattle.period_grammar.specs.Lines.{IsLineAfter};
 ghost use Rattle.period_grammar.specs.Noted.{things, Lent, lent};
 ghost use Rattle.period_grammar.specs.declared.island.Whole.{Whole};
 
 use crate::column;
+use crate::followed::{Balances, GROUP};
 use crate::held::Bytes;
 use crate::lane::Lane;
 use crate::notes::{Note, Notes};
@@ -14,6 +18,7 @@ use crate::told::Fault;
 use outside_io::NoMemory;
 use std::alloc::Global;
 use std::marker::Model;
+use terc4::is_control_column;
 use tmds_word::Word;
 
 /// The bytes and the judges of the first 4,096 pixels.
@@ -78,6 +83,91 @@ impl Line {
         let red = self.red.hear(pixel, column::red(column));
         self.bytes.push_three(red, green, blue);
         self.count = pixel + 1;
+    }
+
+    /// Hears columns of three lanes' words as long as they are no control columns, and answers how many these are.
+    pub fn hear_while(&mut self, blue: &[u16], green: &[u16], red: &[u16]) -> usize
+        requires green { length green.now ≡ length blue.now }
+        requires red { length red.now ≡ length blue.now }
+        requires blue_words { All (λ w. w < 1024) blue.now }
+        requires green_words { All (λ w. w < 1024) green.now }
+        requires red_words { All (λ w. w < 1024) red.now }
+        requires few { self.old.count + length blue.now < 2 ^ 32 }
+        ensures within { result ≤ length blue.now }
+        ensures pixels { result ≡ prefix_len is_pixel (columns_of blue.now green.now red.now) }
+        ensures count { self.new.count ≡ self.old.count + result }
+        ensures heard { (pixels : List Column) → IsLineAfter self.old pixels → IsLineAfter self.new (pixels ++ take result (columns_of blue.now green.now red.now)) }
+    {
+        let mut at = 0;
+        while at < blue.len() {
+            at += self.hear_groups(&blue[at..], &green[at..], &red[at..]);
+            let end = blue.len().min(at + GROUP);
+            let more = self.hear_each(&blue[at..end], &green[at..end], &red[at..end]);
+            if more < end - at {
+                return at + more;
+            }
+            at = end;
+        }
+        at
+    }
+
+    /// Hears columns, group after group, as long as two lanes are rightly coded, and answers how many these are.
+    fn hear_groups(&mut self, blue: &[u16], green: &[u16], red: &[u16]) -> usize
+        requires green { length green.now ≡ length blue.now }
+        requires red { length red.now ≡ length blue.now }
+        requires blue_words { All (λ w. w < 1024) blue.now }
+        requires green_words { All (λ w. w < 1024) green.now }
+        requires red_words { All (λ w. w < 1024) red.now }
+        ensures within { result ≤ length blue.now }
+        ensures pixels { All (λ c. is_pixel c ≡ true) (take result (columns_of blue.now green.now red.now)) }
+        ensures count { self.new.count ≡ self.old.count + result }
+        ensures heard { (pixels : List Column) → IsLineAfter self.old pixels → IsLineAfter self.new (pixels ++ take result (columns_of blue.now green.now red.now)) }
+    {
+        let pixel = self.count;
+        let from = Balances {
+            blue: self.blue.judge.balance(),
+            green: self.green.judge.balance(),
+            red: self.red.judge.balance(),
+        };
+        if pixel >= 4096 || !from.are_enough() {
+            return 0;
+        }
+        let fits = blue.len().min(4096 - pixel as usize);
+        let (n, balances) = self
+            .bytes
+            .push_groups(&blue[..fits], &green[..fits], &red[..fits], &from);
+        self.blue.hear_followed(pixel, &blue[..n], balances.blue);
+        self.green.hear_followed(pixel, &green[..n], balances.green);
+        self.red.hear_followed(pixel, &red[..n], balances.red);
+        self.count = pixel + n as u32;
+        n
+    }
+
+    /// Hears columns one by one as long as they are no control columns, and answers how many these are.
+    fn hear_each(&mut self, blue: &[u16], green: &[u16], red: &[u16]) -> usize
+        requires green { length green.now ≡ length blue.now }
+        requires red { length red.now ≡ length blue.now }
+        requires blue_words { All (λ w. w < 1024) blue.now }
+        requires green_words { All (λ w. w < 1024) green.now }
+        requires red_words { All (λ w. w < 1024) red.now }
+        requires few { self.old.count + length blue.now < 2 ^ 32 }
+        ensures within { result ≤ length blue.now }
+        ensures pixels { result ≡ prefix_len is_pixel (columns_of blue.now green.now red.now) }
+        ensures count { self.new.count ≡ self.old.count + result }
+        ensures heard { (pixels : List Column) → IsLineAfter self.old pixels → IsLineAfter self.new (pixels ++ take result (columns_of blue.now green.now red.now)) }
+    {
+        for i in 0..blue.len() {
+            let column = [
+                column::word(blue[i]),
+                column::word(green[i]),
+                column::word(red[i]),
+            ];
+            if is_control_column(&column) {
+                return i;
+            }
+            self.hear(&column);
+        }
+        blue.len()
     }
 
     /// Tells the line, whose first pixel is two columns after the start.

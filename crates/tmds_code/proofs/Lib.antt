@@ -2,3 +2,5 @@ pub mod TableWords
 pub mod Steps
 pub mod Lanes
 pub mod Example
+pub mod StepTable
+pub mod Followed

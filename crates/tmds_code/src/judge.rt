@@ -1,9 +1,11 @@
 //! The judge of one lane of a video period.
-ghost use Rattle.std.specs.Prelude.{◌≡◌, ℕ, ◌+◌, ◌<◌, ◌↔◌, ◌++◌, ◌∷◌, [], List, IsTrue, pos, neg_ℤ, ◌≤ℤ◌};
+ghost use Rattle.std.specs.Prelude.{◌≡◌, ℕ, ◌+◌, ◌<◌, ◌≤◌, ◌↔◌, ◌++◌, ◌∷◌, [], List, length, IsTrue, IfSome, is_some, true, pos, neg_ℤ, ◌≤ℤ◌};
 ghost use Rattle.tmds_word.specs.Bits.{word_bits, balance};
 ghost use Rattle.tmds_code.specs.Coding.{Coded, decoded_byte};
 ghost use Rattle.tmds_code.specs.Pasts.{IsJudgeAfter};
+ghost use Rattle.tmds_code.specs.Balances.{disparity_at, followed_all};
 
+use crate::balance::Balance;
 use crate::coding::{decode, is_coded};
 use std::marker::Model;
 use tmds_word::Word;
@@ -19,7 +21,7 @@ pub struct CodeJudge {
 }
 
 impl Model for CodeJudge {
-    ghost use Rattle.std.specs.Prelude.{◌≤◌, ◌≤ℤ◌, ◌*◌, pos, neg_ℤ};
+    ghost use Rattle.std.specs.Prelude.{◌≤◌, ◌≤ℤ◌, ◌+◌, ◌*◌, pos, neg_ℤ};
     ghost use Rattle.tmds_code.specs.Pasts.{Heard};
 
     ghost Value = { Heard };
@@ -28,7 +30,7 @@ impl Model for CodeJudge {
 
     ghost inverse = { λ h. record { count = h.count; disparity = h.disparity } };
 
-    ghost invariant = { λ j. (j.count ≤ 4097) × (neg_ℤ (pos (10 * j.count)) ≤ℤ j.disparity) × (j.disparity ≤ℤ pos (10 * j.count)) };
+    ghost invariant = { λ j. (j.count ≤ 4097) × (neg_ℤ (pos (10 * j.count + 8)) ≤ℤ j.disparity) × (j.disparity ≤ℤ pos (10 * j.count + 8)) };
 }
 
 impl CodeJudge {
@@ -56,6 +58,24 @@ impl CodeJudge {
         self.count += 1;
         self.disparity += balance_of(word);
         (byte, right)
+    }
+
+    /// The balance behind the characters heard before; not right where no rightly coded lane has their disparity.
+    pub fn balance(&self) -> Balance
+        ensures { IfSome (disparity_at result) (λ d. d ≡ self.now.disparity) }
+    {
+        Balance::at(self.disparity)
+    }
+
+    /// Hears characters at once that were followed from the balance before them to one that is right.
+    pub fn hear_right(&mut self, count: u16, balance: Balance)
+        requires few { self.old.count + count ≤ 4097 }
+        requires right { is_some (disparity_at balance) ≡ true }
+        ensures count { self.new.count ≡ self.old.count + count }
+        ensures stands { (words more : List ℕ) → IsJudgeAfter self.old words → length more ≡ count → followed_all (Some self.old.disparity) more ≡ disparity_at balance → IsJudgeAfter self.new (words ++ more) }
+    {
+        self.count += count;
+        self.disparity = balance.disparity();
     }
 }
 

@@ -1,8 +1,10 @@
 //! TMDS video coding: bytes to characters and back, and whether characters are rightly coded.
 #![tactic(auto)]
 
+mod balance;
 mod coder;
 mod coding;
+mod following;
 mod judge;
 pub mod laws;
 mod stepping;
@@ -10,6 +12,7 @@ mod tables;
 #[cfg(test)]
 mod tests;
 
+pub use balance::Balance;
 pub use coder::VideoCoder;
 pub use coding::{decode, encode};
 pub use judge::CodeJudge;

@@ -1,39 +1,62 @@
-use Rattle.std.proofs.Common.{◌≡◌, ℕ, ◌+◌, ◌<◌, Bool, List, [], length, drop, sym, subst, ◌∙◌, arith}
-use Rattle.std.specs.Bool.{OnTrue}
+use Rattle.std.proofs.Common.{◌≡◌, ℕ, ◌+◌, false, List, ap, sym, subst, refl, ◌∙◌, arith}
 use Rattle.tmds_word.specs.Column.{Column}
 use Rattle.tmds_word.specs.Words.{columns_of}
-use Rattle.period_grammar.proofs.While.{columns_here, columns_end, one_more, count_stops, count_all}
+use Rattle.period_grammar.specs.Cut.{stretches}
+use Rattle.period_grammar.specs.After.{last}
+use Rattle.period_grammar.specs.Seen.{Seen}
+use Rattle.period_grammar.specs.Stands.{StandsFor, IsStretchAfter}
+use Rattle.period_grammar.specs.declared.phase.Phase.{Phase}
+use Rattle.period_grammar.proofs.Going.{first_stays, island_stays, noise_stays}
+use Rattle.period_grammar.proofs.Many.{Went, none_went}
 use Rattle.period_grammar.proofs.hearing.Hearing.hear_front.Goals as goal
 
-pub loop-i-preserved : goal.loop-i-preserved
-loop-i-preserved c =
+pub returns-in-First : goal.returns-in-First
+returns-in-First c =
     let cols = columns_of c.args.blue.now c.args.green.now c.args.red.now in
-    let i = c.loop-i.i in
-    let lt : i < length c.args.blue.now = omega arith in
-    let more : c.hear_on.new.self.columns ≡ c.loop-i.self.columns + 1 =
-    subst (λ (v : Bool). OnTrue v (c.hear_on.new.self.columns ≡ c.loop-i.self.columns + 1)) c.if-not-hear_on.false c.hear_on.ensures.columns in
+    let h = c.args.self.now in
+    let went : (cs : List Column) → StandsFor h cs → Went h cs cols 0 = λ cs was.
+    none_went h cs cols (λ d. first_stays h.control h.line h.island h.columns _ _ _ _ d (last (stretches cs))
+    (subst (λ (p : Phase). IsStretchAfter p h.control h.line h.island h.columns (last (stretches cs))) (ap (λ (s : Seen). s.phase) (sym c.self.view_is) ∙ c.in-First.is) was.stretch)) was in
     record {
-      columns = omega (arith, more, c.loop-i.invariant.columns);
-      unfinished = c.hear_on.ensures.open ∙ c.loop-i.invariant.unfinished;
-      notes = c.hear_on.ensures.notes ∙ c.loop-i.invariant.notes;
-      went =
-          one_more c.args.self.now c.loop-i.self c.hear_on.new.self cols i _ c.hear_on.result
-          (columns_here c.args.blue.now c.args.green.now c.args.red.now i _ _ _ lt c.requires.green c.requires.red c.word.ensures c.word-in-loop-i.ensures c.word-in-loop-i-2.ensures)
-          c.if-not-hear_on.false c.hear_on.ensures.count c.hear_on.ensures.heard c.hear_on.ensures.told c.loop-i.invariant.went;
+      within = omega arith;
+      count = λ cs was. (went cs was).count;
+      columns = omega arith;
+      «open» = refl;
+      notes = refl;
+      heard = λ cs was. (went cs was).stands;
+      told = λ cs was. (went cs was).told;
     }
 
-pub returns-then-not-hear_on-clause-count : goal.returns-then-not-hear_on-clause-count
-returns-then-not-hear_on-clause-count c =
+pub returns-in-Island : goal.returns-in-Island
+returns-in-Island c =
     let cols = columns_of c.args.blue.now c.args.green.now c.args.red.now in
-    let i = c.loop-i.i in
-    let lt : i < length c.args.blue.now = omega arith in
-    count_stops c.args.self.now c.loop-i.self cols i _ c.hear_on.result
-    (columns_here c.args.blue.now c.args.green.now c.args.red.now i _ _ _ lt c.requires.green c.requires.red c.word.ensures c.word-in-loop-i.ensures c.word-in-loop-i-2.ensures)
-    c.if-not-hear_on.true c.hear_on.ensures.count c.loop-i.invariant.went
+    let h = c.args.self.now in
+    let went : (cs : List Column) → StandsFor h cs → Went h cs cols 0 = λ cs was.
+    none_went h cs cols (λ d. island_stays h.control h.line h.island h.columns _ d (last (stretches cs))
+    (subst (λ (p : Phase). IsStretchAfter p h.control h.line h.island h.columns (last (stretches cs))) (ap (λ (s : Seen). s.phase) (sym c.self.view_is) ∙ c.in-Island.is) was.stretch)) was in
+    record {
+      within = omega arith;
+      count = λ cs was. (went cs was).count;
+      columns = omega arith;
+      «open» = refl;
+      notes = refl;
+      heard = λ cs was. (went cs was).stands;
+      told = λ cs was. (went cs was).told;
+    }
 
-pub returns-clause-count : goal.returns-clause-count
-returns-clause-count c cs was =
-    let cols : List Column = columns_of c.args.blue.now c.args.green.now c.args.red.now in
-    let all : c.loop-i.i ≡ length c.args.blue.now = omega arith in
-    sym all
-    ∙ count_all c.args.self.now c.loop-i.self cols c.loop-i.i (subst (λ (n : ℕ). drop n cols ≡ []) (sym all) (columns_end c.args.blue.now c.args.green.now c.args.red.now)) c.loop-i.invariant.went cs was
+pub returns-in-Noise : goal.returns-in-Noise
+returns-in-Noise c =
+    let cols = columns_of c.args.blue.now c.args.green.now c.args.red.now in
+    let h = c.args.self.now in
+    let went : (cs : List Column) → StandsFor h cs → Went h cs cols 0 = λ cs was.
+    none_went h cs cols (λ d. noise_stays h.control h.line h.island h.columns d (last (stretches cs))
+    (subst (λ (p : Phase). IsStretchAfter p h.control h.line h.island h.columns (last (stretches cs))) (ap (λ (s : Seen). s.phase) (sym c.self.view_is) ∙ c.in-Noise.is) was.stretch)) was in
+    record {
+      within = omega arith;
+      count = λ cs was. (went cs was).count;
+      columns = omega arith;
+      «open» = refl;
+      notes = refl;
+      heard = λ cs was. (went cs was).stands;
+      told = λ cs was. (went cs was).told;
+    }

@@ -1,4 +1,4 @@
-use Rattle.std.proofs.Common.{arith, ◌≡◌, ℕ, ◌≤◌, ◌*◌, ◌∙◌, ap, sym, ◌∷◌, [], length-append}
+use Rattle.std.proofs.Common.{arith, ◌≡◌, ℕ, ◌≤◌, ◌+◌, ◌*◌, ◌∙◌, ap, sym, ◌∷◌, [], length-append}
 use Rattle.std.specs.Prelude.{ℤ, pos, ◌+ℤ◌, ◌≤ℤ◌, neg_ℤ}
 use Rattle.std.proofs.lemmas.Int.{ints}
 use mir.Val.{to_z, of_z}
@@ -16,7 +16,7 @@ invariant_of-self c =
       omega (arith, ints, c.self.invariant.1, c.self.invariant.2, c.balance_of.ensures.low, c.balance_of.ensures.high),
     )
 
-sum_is : (d b : ℤ) (n : ℕ) → n ≤ 4097 → neg_ℤ (pos (10 * n)) ≤ℤ d → d ≤ℤ pos (10 * n) → neg_ℤ (pos 10) ≤ℤ b → b ≤ℤ pos 10 → to_z w32 (of_z w32 (to_z w32 (of_z w32 d) +ℤ to_z w32 (of_z w32 b))) ≡ d +ℤ b
+sum_is : (d b : ℤ) (n : ℕ) → n ≤ 4097 → neg_ℤ (pos (10 * n + 8)) ≤ℤ d → d ≤ℤ pos (10 * n + 8) → neg_ℤ (pos 10) ≤ℤ b → b ≤ℤ pos 10 → to_z w32 (of_z w32 (to_z w32 (of_z w32 d) +ℤ to_z w32 (of_z w32 b))) ≡ d +ℤ b
 sum_is d b n few low high least most = omega (arith, ints)
 
 pub returns-clause-stands : goal.returns-clause-stands

@@ -1,0 +1,89 @@
+-- Columns that have the words of a column of the last run.
+use Rattle.std.proofs.Common.{◌≡◌, ℕ, ◌+◌, ◌*◌, ◌<◌, Bool, true, false, not, ◌==◌, ◌&&◌, ◌||◌, ◌⊎◌, inl, inr, refl, ap, sym, subst, ◌∙◌, arith, eqb-true, slice_index}
+use Rattle.std.proofs.lemmas.Bool.{eq-eqb}
+use borrow.Author.Tests.{ltb-true}
+use Rattle.tmds_word.specs.Column.{Column}
+use Rattle.terc4.specs.Tables.{control_words, is_control, is_in, value_in}
+use Rattle.period_grammar.specs.Column.{control_bits, value_of}
+use Rattle.period_grammar.specs.GoesOn.{is_whole, is_alike, goes_kept}
+use Rattle.period_grammar.specs.declared.control.Kept.{Kept}
+use Rattle.period_grammar.proofs.Going.{IsWhole, both, whole_is}
+
+one_of : (a b : Bool) → (a || b) ≡ true → (a ≡ true) ⊎ (b ≡ true)
+one_of true b e = inl refl
+one_of false b e = inr e
+
+-- a control word is that of its bits
+record IsKnown (w : ℕ) : Type 0 where
+  pub word : slice_index control_words (control_bits w) ≡ w
+  pub below : control_bits w < 4
+
+known_0 : IsKnown 0x354
+unfolding control_words control_bits value_in
+known_0 = record { word = refl; below = ltb-true (control_bits 0x354) 4 refl }
+
+known_1 : IsKnown 0x0ab
+unfolding control_words control_bits value_in
+known_1 = record { word = refl; below = ltb-true (control_bits 0x0ab) 4 refl }
+
+known_2 : IsKnown 0x154
+unfolding control_words control_bits value_in
+known_2 = record { word = refl; below = ltb-true (control_bits 0x154) 4 refl }
+
+known_3 : IsKnown 0x2ab
+unfolding control_words control_bits value_in
+known_3 = record { word = refl; below = ltb-true (control_bits 0x2ab) 4 refl }
+
+among : (w x : ℕ) (p : Bool) → IsKnown x → (p ≡ true → IsKnown w) → ((x == w) || p) ≡ true → IsKnown w
+among w x p known rest h =
+    elim (one_of (x == w) p h) [
+      | inl same ↦ subst (λ n. IsKnown n) (eqb-true x w same) known
+      | inr other ↦ rest other
+    ]
+
+known : (w : ℕ) → is_control w ≡ true → IsKnown w
+unfolding is_control control_words is_in
+known w h = among w 0x354 _ known_0 (among w 0x0ab _ known_1 (among w 0x154 _ known_2 (among w 0x2ab _ known_3 (λ e. cc)))) h
+
+same_word : (u w : ℕ) → is_control u ≡ true → is_control w ≡ true → control_bits u ≡ control_bits w → u ≡ w
+same_word u w a b e = sym (known u a).word ∙ ap (slice_index control_words) e ∙ (known w b).word
+
+bits_of_sum : (a b c x y z : ℕ) → a < 4 → b < 4 → c < 4 → x < 4 → y < 4 → z < 4 → (a + 4 * b) + 16 * c ≡ (x + 4 * y) + 16 * z → (a ≡ x) × (b ≡ y) × (c ≡ z)
+bits_of_sum a b c x y z la lb lc lx ly lz e = (omega arith, omega arith, omega arith)
+
+-- columns of control words that have one value are one
+same_column : (v : ℕ) (c d : Column) → IsWhole v c → IsWhole v d → (d.blue ≡ c.blue) × (d.green ≡ c.green) × (d.red ≡ c.red)
+unfolding value_of
+same_column v c d p q =
+    let bits = bits_of_sum (control_bits d.blue) (control_bits d.green) (control_bits d.red) (control_bits c.blue) (control_bits c.green) (control_bits c.red)
+    (known d.blue q.blue).below (known d.green q.green).below (known d.red q.red).below (known c.blue p.blue).below (known c.green p.green).below (known c.red p.red).below (sym q.value ∙ p.value) in
+    (same_word d.blue c.blue q.blue p.blue bits.0, same_word d.green c.green q.green p.green bits.1, same_word d.red c.red q.red p.red bits.2)
+
+same_test : (p q : Bool) → (p ≡ true → q ≡ true) → (q ≡ true → p ≡ true) → p ≡ q
+same_test true q f g = sym (f refl)
+same_test false true f g = g refl
+same_test false false f g = refl
+
+three : (a b c : Bool) → a ≡ true → b ≡ true → c ≡ true → (a && (b && c)) ≡ true
+three true true true e f g = refl
+three true true false e f g = cc
+three true false c e f g = cc
+three false b c e f g = cc
+
+-- what has the words of a column that goes on with the last run goes on with it, and nothing else does
+pub alike_goes : (kept : Kept) (a b r x y z : ℕ) → a ≡ x → b ≡ y → r ≡ z → goes_kept kept (record { blue = a; green = b; red = r }) ≡ true → (d : Column) → is_alike x y z d ≡ goes_kept kept d
+alike_goes kept a b r x y z ea eb er goes d =
+    let c : Column = record { blue = a; green = b; red = r } in
+    let whole = whole_is kept.value c (both (not (kept.run == 0)) (is_whole kept.value c) goes).1 in
+    same_test (is_alike x y z d) (goes_kept kept d)
+    (λ e.
+    let p = both (d.blue == x) _ e in
+    let q = both (d.green == y) _ p.1 in
+    let fb : c.blue ≡ d.blue = ea ∙ sym (eqb-true d.blue x p.0) in
+    let fg : c.green ≡ d.green = eb ∙ sym (eqb-true d.green y q.0) in
+    let fr : c.red ≡ d.red = er ∙ sym (eqb-true d.red z q.1) in
+    subst (λ (k : Column). goes_kept kept k ≡ true) (λ i. record { blue = fb i; green = fg i; red = fr i }) goes)
+    (λ e.
+    let own = whole_is kept.value d (both (not (kept.run == 0)) (is_whole kept.value d) e).1 in
+    let same = same_column kept.value c d whole own in
+    three (d.blue == x) (d.green == y) (d.red == z) (eq-eqb d.blue x (same.0 ∙ ea)) (eq-eqb d.green y (same.1 ∙ eb)) (eq-eqb d.red z (same.2 ∙ er)))

@@ -1,0 +1,38 @@
+use Rattle.std.proofs.Common.{◌≡◌, ℕ, ◌+◌, List, ap, sym, subst, refl, ◌∙◌, arith}
+use Rattle.tmds_word.specs.Column.{Column}
+use Rattle.tmds_word.specs.Words.{columns_of}
+use Rattle.period_grammar.specs.Seen.{Seen}
+use Rattle.period_grammar.specs.Stands.{StandsFor}
+use Rattle.period_grammar.specs.declared.phase.Phase.TheVariants.{Control}
+use Rattle.period_grammar.proofs.Many.{Went, run_went}
+use Rattle.period_grammar.proofs.hearing.Hearing.hear_run.Goals as goal
+
+pub returns-clause-count : goal.returns-clause-count
+returns-clause-count c cs was =
+    let h = c.self.inside in
+    let n = c.count_going_on-count.result in
+    let was_seen : Seen = record { columns = h.columns; phase = h.phase; control = h.control; line = h.line; island = h.island; notes = h.notes; finished = h.finished } in
+    let now_seen : Seen = record { columns = h.columns + n; phase = h.phase; control = c.hear_run.new.self; line = h.line; island = h.island; notes = h.notes; finished = h.finished } in
+    let phase : c.self.inside.phase ≡ Control = ap (λ (s : Seen). s.phase) c.self.view_is ∙ c.requires.phase in
+    let w = subst (λ (s : Seen). StandsFor s cs) (sym c.self.view_is) was in
+    (run_went was_seen now_seen cs (columns_of c.args.blue.now c.args.green.now c.args.red.now) c.count_going_on-count.result phase phase refl c.count_going_on-count.ensures.count c.hear_run.ensures.heard w).count
+
+pub returns-clause-heard : goal.returns-clause-heard
+returns-clause-heard c cs was =
+    let h = c.self.inside in
+    let n = c.count_going_on-count.result in
+    let was_seen : Seen = record { columns = h.columns; phase = h.phase; control = h.control; line = h.line; island = h.island; notes = h.notes; finished = h.finished } in
+    let now_seen : Seen = record { columns = h.columns + n; phase = h.phase; control = c.hear_run.new.self; line = h.line; island = h.island; notes = h.notes; finished = h.finished } in
+    let phase : c.self.inside.phase ≡ Control = ap (λ (s : Seen). s.phase) c.self.view_is ∙ c.requires.phase in
+    let w = subst (λ (s : Seen). StandsFor s cs) (sym c.self.view_is) was in
+    (run_went was_seen now_seen cs (columns_of c.args.blue.now c.args.green.now c.args.red.now) c.count_going_on-count.result phase phase refl c.count_going_on-count.ensures.count c.hear_run.ensures.heard w).stands
+
+pub returns-clause-told : goal.returns-clause-told
+returns-clause-told c cs was =
+    let h = c.self.inside in
+    let n = c.count_going_on-count.result in
+    let was_seen : Seen = record { columns = h.columns; phase = h.phase; control = h.control; line = h.line; island = h.island; notes = h.notes; finished = h.finished } in
+    let now_seen : Seen = record { columns = h.columns + n; phase = h.phase; control = c.hear_run.new.self; line = h.line; island = h.island; notes = h.notes; finished = h.finished } in
+    let phase : c.self.inside.phase ≡ Control = ap (λ (s : Seen). s.phase) c.self.view_is ∙ c.requires.phase in
+    let w = subst (λ (s : Seen). StandsFor s cs) (sym c.self.view_is) was in
+    (run_went was_seen now_seen cs (columns_of c.args.blue.now c.args.green.now c.args.red.now) c.count_going_on-count.result phase phase refl c.count_going_on-count.ensures.count c.hear_run.ensures.heard w).told
