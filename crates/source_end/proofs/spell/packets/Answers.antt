@@ -5,7 +5,8 @@ use Rattle.tmds_word.specs.Column.{column_of}
 use Rattle.island_pack.specs.Spelling.{SpellsPackets}
 use Rattle.island_pack.specs.declared.packet.Packet.{Packet}
 use Rattle.source_end.proofs.Spellings.{joined}
-use Rattle.source_end.proofs.Packets.{packet_at, sync_below, packets_length, SpellsPackets-more, carries_columns}
+use Rattle.source_end.proofs.Packets.{packet_at, sync_below, packets_length, SpellsPackets-more}
+use Rattle.island_pack.proofs.WordColumns.{carries_columns}
 use Rattle.source_end.proofs.spell.packets.Goals as goal
 
 none : Packet
