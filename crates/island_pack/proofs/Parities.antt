@@ -5,7 +5,6 @@ use Rattle.std.proofs.lemmas.List.{get_or_past}
 use Rattle.std.proofs.lemmas.List.Elements.{All-get_or, All-append, All-cons, All-nil}
 use Rattle.tmds_word.specs.Bits.{bits_of as number_bits}
 use Rattle.terc4.specs.Columns.{one_if}
-use Rattle.bch_block.specs.Bits.{byte_bits}
 use Rattle.bch_block.specs.Division.{Remainder, nothing, kept, times_power}
 use Rattle.bch_block.proofs.Bytes.{Leaves, leaves_none, leaves_more, makes_block}
 use Rattle.island_pack.specs.Packets.{BeginsWith}

@@ -1,6 +1,6 @@
 -- Every conforming list of periods can be spelled.
-use Rattle.std.proofs.Common.{◌≡◌, ℕ, suc, zero, ◌+◌, ◌*◌, ◌<◌, ◌≤◌, Bool, true, false, ◌==◌, ◌&&◌, List, [], ◌∷◌, ◌++◌, length, map, take, drop, get_or, refl, ap, ap₂, ◌∙◌, sym, subst, arith, slice_index, All}
-use Rattle.std.specs.Prelude.{nat_le, nat_lt}
+use Rattle.std.proofs.Common.{◌≡◌, ℕ, suc, zero, ◌*◌, ◌<◌, Bool, true, false, ◌==◌, ◌&&◌, List, [], ◌∷◌, ◌++◌, length, map, drop, get_or, refl, ap, arith, slice_index, All}
+use Rattle.std.specs.Prelude.{nat_lt}
 use Rattle.std.specs.List.{list_all}
 use Rattle.std.proofs.lemmas.Bool.{eqb-true, ltb-true, and_parts, and_from}
 use Rattle.std.proofs.lemmas.List.Elements.{All-take, All-drop}
@@ -8,11 +8,11 @@ use Rattle.std.proofs.lemmas.List.Sums.{AllPass-from_list_all}
 use Rattle.tmds_word.specs.Column.{Column, column_of}
 use Rattle.tmds_word.specs.Bits.{bits_of as number_bits}
 use Rattle.terc4.specs.Tables.{video_guard}
-use Rattle.island_pack.specs.Periods.{ControlRun, DataIsland, Period, control, video, island, values_of, has_preamble, VIDEO_PREAMBLE, ISLAND_PREAMBLE, pixels_of}
+use Rattle.island_pack.specs.Periods.{DataIsland, Period, control, video, island, values_of, has_preamble, VIDEO_PREAMBLE, ISLAND_PREAMBLE, pixels_of}
 use Rattle.island_pack.specs.Conforming.{are_bytes, is_control_period, is_video_period, is_sync_pair, is_packet, is_data_island, conforms}
 use Rattle.island_pack.specs.Packets.{IsPacket, BeginsWith, body_of, Carries}
 use Rattle.island_pack.specs.Registers.{laid_nibbles, words_of as words_of_nibbles}
-use Rattle.island_pack.specs.Spelling.{control_column, guard_columns, words_of, SpellsPixels, SpellsVideo, SpellsPackets, SpellsIsland, SpellsPeriod, Spells}
+use Rattle.island_pack.specs.Spelling.{control_column, guard_columns, words_of, SpellsVideo, SpellsPackets, SpellsIsland, SpellsPeriod, Spells}
 use Rattle.island_pack.specs.Laws.{ConformingIsSpelled}
 use Rattle.island_pack.specs.declared.packet.Packet.{Packet}
 use Rattle.island_pack.proofs.Parts.{each_body}
