@@ -1,13 +1,28 @@
 -- The first columns of some that are as they were to be.
-use Rattle.std.proofs.Common.{◌≡◌, ℕ, suc, ◌+◌, ◌-◌, ◌*◌, ◌≤◌, ◌<◌, Bool, true, false, ◌==◌, ◌&&◌, List, [], ◌∷◌, ◌++◌, length, take, drop, get_or, map, replicate, min, refl, ap, sym, subst, ◌∙◌, arith, append_assoc, append-nil}
+use Rattle.std.proofs.Common.{◌≡◌, ℕ, ℤ, suc, ◌+◌, ◌-◌, ◌*◌, ◌≤◌, ◌<◌, Bool, true, false, ◌==◌, ◌&&◌, List, [], ◌∷◌, ◌++◌, length, take, drop, get_or, map, replicate, min, refl, ap, sym, subst, ◌∙◌, arith, append_assoc, append-nil}
 use Rattle.std.proofs.lemmas.Bool.{and_parts}
 use Rattle.std.proofs.lemmas.List.{take-append-drop, map-append}
-use Rattle.std.specs.List.{list_all}
+use Rattle.std.specs.Prelude.{Result, Ok, Err, OnOk, OnErr}
 use Rattle.tmds_word.specs.Column.{Column, column_of}
 use Rattle.tmds_word.specs.Words.{columns_of}
+use Rattle.island_pack.specs.Periods.{Pixel}
 use Rattle.source_end.specs.Fronts.{TookFront}
+use Rattle.source_end.specs.LineCoding.{AreCodersAfter, AreCoded}
 use Rattle.source_end.proofs.Spellings.{joined}
 use Rattle.source_end.proofs.LineCodings.{equal_block, replicate-add}
+
+-- What holds after a refusal, and after none.
+pub on_err : {T E P : Type 0} (r : Result T E) → P → OnErr r P
+on_err (Ok x) h = tt
+on_err (Err e) h = h
+
+pub err_map : {T E P Q : Type 0} (r : Result T E) → (P → Q) → OnErr r P → OnErr r Q
+err_map (Ok x) f h = tt
+err_map (Err e) f h = f h
+
+pub ok_map : {T E P Q : Type 0} (r : Result T E) → (P → Q) → OnOk r P → OnOk r Q
+ok_map (Ok x) f h = f h
+ok_map (Err e) f h = tt
 
 -- a front of columns of their own, behind columns that are whole
 pub front_behind : (old mid new done : List Column) (Own Whole : List Column → Type 0) → mid ≡ old ++ done → TookFront mid new Own
@@ -50,3 +65,13 @@ front_of_run old mid new count i n b g r x y z k ex ey ez was cut width begun =
       ∙ replicate-add done (n + left) c
       ∙ ap (λ m. replicate m c) all,
     ))
+
+-- the first columns of a block of pixels
+pub front_of_coded : (mid new whole : List Column) (blue green red : ℤ) (pixels : List Pixel) (blue_after green_after red_after : ℤ) (k : ℕ) → new ≡ mid ++ take k whole
+    → AreCodersAfter blue green red pixels whole blue_after green_after red_after → TookFront mid new (AreCoded blue green red pixels)
+front_of_coded mid new whole blue green red pixels blue_after green_after red_after k e coded = (
+  take k whole,
+  drop k whole,
+  e,
+  (blue_after, green_after, red_after, subst (λ (cs : List Column). AreCodersAfter blue green red pixels cs blue_after green_after red_after) (sym (take-append-drop k whole)) coded),
+)

@@ -15,7 +15,7 @@ use Rattle.island_pack.proofs.PixelColumns.{pixels_go_on}
 use Rattle.island_pack.proofs.Spelled.{packets_spelled, video_spelled, has_range, periods_spelled, conforming_ranges}
 use Rattle.source_end.specs.Fronts.{TookFront}
 use Rattle.source_end.proofs.Fronts.{front_behind}
-use Rattle.source_end.proofs.Spellings.{map_replicate}
+use Rattle.source_end.proofs.Spellings.{map_replicate, joined}
 use Rattle.source_end.proofs.Packets.{SpellsPackets-append, packets_in_range}
 use Rattle.source_end.proofs.Streams.{Spells-append}
 
@@ -63,6 +63,11 @@ guards_front bytes guard old new is front =
     let all = video_spelled bytes in
     front_behind old old new [] (λ columns. columns ≡ replicate 2 guard) (SpellsVideo bytes) (sym (append-nil old)) front
     (λ cs e. (all.1.0, (all.1.0, ap (λ (ds : List Column). ds ++ all.1.0) e ∙ ap (λ (g : Column). g ∷ (g ∷ all.1.0)) is, all.1.2)))
+
+pub video_whole : (bytes : List ℕ) (guard : Column) (old mid new columns : List Column) → guard ≡ column_of video_guard → mid ≡ old ++ replicate 2 guard → new ≡ mid ++ columns
+    → SpellsPixels (pixels_of bytes) columns → (all : List Column) × (new ≡ old ++ all) × SpellsVideo bytes all
+video_whole bytes guard old mid new columns is was more spelled =
+    (replicate 2 guard ++ columns, joined old mid new (replicate 2 guard) columns was more, (columns, ap (λ (g : Column). g ∷ (g ∷ columns)) is, spelled))
 
 pub pixels_front : (bytes : List ℕ) (guard : Column) (old mid new : List Column) → guard ≡ column_of video_guard → mid ≡ old ++ replicate 2 guard
     → TookFront mid new (SpellsPixels (pixels_of bytes)) → TookFront old new (SpellsVideo bytes)
