@@ -1,5 +1,5 @@
 -- Columns that hold the TERC4 words of the laid nibbles carry the packet.
-use Rattle.std.proofs.Common.{◌≡◌, ℕ, suc, zero, ◌+◌, ◌*◌, ◌/◌, ◌%◌, ◌^◌, ◌<◌, Bool, true, false, not, List, [], ◌∷◌, length, map, get_or, refl, ap, ap₂, ◌∙◌, sym, subst, arith, ◌==◌, ◌&&◌, slice_index, All}
+use Rattle.std.proofs.Common.{◌≡◌, ℕ, suc, zero, ◌+◌, ◌*◌, ◌/◌, ◌%◌, ◌^◌, ◌<◌, Bool, true, not, List, [], ◌∷◌, length, map, get_or, refl, ap, ap₂, ◌∙◌, sym, subst, arith, ◌==◌, ◌&&◌, slice_index, All}
 use Rattle.std.specs.Prelude.{unwrap_or, is_some}
 use Rattle.std.specs.Int.{bit_at}
 use Rattle.std.proofs.lemmas.List.{get_or-map, length-map}
@@ -18,6 +18,7 @@ use Rattle.island_pack.specs.Registers.{crossed_of, laid_nibbles, words_of}
 use Rattle.island_pack.specs.declared.packet.Packet.{Packet}
 use Rattle.island_pack.proofs.Columns.{length-nibbles_of}
 use Rattle.island_pack.proofs.Parts.{each_body}
+use Rattle.island_pack.proofs.Parities.{one_if-lt, one_if-bit}
 
 -- the word of a nibble gives the nibble back
 nibble_of-word : (n : ℕ) → n < 16 → nibble_of (slice_index terc_words n) ≡ n
@@ -27,11 +28,6 @@ nibble_of-word n lt = ap (λ o. unwrap_or o 0) (value_of_terc n lt)
 is_terc-word : (n : ℕ) → n < 16 → is_terc (slice_index terc_words n) ≡ true
 unfolding is_terc
 is_terc-word n lt = sym (is_some-value_in terc_words (slice_index terc_words n)) ∙ ap is_some (value_of_terc n lt)
-
-one_if-lt : (b : Bool) → one_if b < 2
-unfolding one_if
-one_if-lt true = omega arith
-one_if-lt false = omega arith
 
 four_bits : (a b c d : ℕ) → a < 2 → b < 2 → c < 2 → d < 2 → a + 2 * b + 4 * c + 8 * d < 16
 four_bits a b c d la lb lc ld = omega arith
@@ -61,11 +57,6 @@ bit_at-crossed blocks place =
     (λ b. bit_at (bit_at (slice_index blocks 0) place + 2 * bit_at (slice_index blocks 1) place + 4 * bit_at (slice_index blocks 2) place + 8 * bit_at (slice_index blocks 3) place) b
     ≡ bit_at (slice_index blocks b) place)
     parts.0 parts.1 parts.2 parts.3
-
-one_if-bit : (b : Bool) → (one_if b == 1) ≡ b
-unfolding one_if
-one_if-bit true = refl
-one_if-bit false = refl
 
 -- the columns of laid nibbles
 abbrev AreLaid : List (List ℕ) → ℕ → List ℕ → List ℕ → Bool → Type 0

@@ -45,7 +45,7 @@ bits_taken : (x : List Bool) (bytes taken : List ℕ) (n : ℕ) (v : Verdict) �
 bits_taken x bytes taken n v long same b t clean =
     t.begins ∙ ap₂ (λ m y. take (8 * m) y) (same ∙ sym long) (ap (after x) clean) ∙ b.begins
 
-length-body_of : (packet : Packet) → length packet.bodies ≡ 28 → (b : ℕ) → b < 4 → length (body_of packet b) ≡ 7
+pub length-body_of : (packet : Packet) → length packet.bodies ≡ 28 → (b : ℕ) → b < 4 → length (body_of packet b) ≡ 7
 length-body_of packet long b lt =
     length-take-le 7 (drop (7 * b) packet.bodies) (omega (arith, long, lt, length-drop (7 * b) packet.bodies))
 

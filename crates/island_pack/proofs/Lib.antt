@@ -2,5 +2,9 @@ pub mod Parts
 pub mod Runs
 pub mod Registers
 mod Columns
+pub mod WordColumns
+pub mod PixelColumns
+mod Parities
 mod Laid
 mod Law
+pub mod Spelled

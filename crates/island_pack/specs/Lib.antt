@@ -8,3 +8,4 @@ pub mod Conforming
 pub mod Spelling
 pub mod Kinds
 pub mod Sparse
+pub mod Laws

@@ -1,8 +1,14 @@
 //! What holds of every packet and of its columns. The function does nothing: what it ensures is the law.
 ghost use Rattle.island_pack.specs.Taken.{CarriedIsTaken};
+ghost use Rattle.island_pack.specs.Laws.{ConformingIsSpelled};
 
 /// From columns that carry a packet, whatever bit 3 of lane 0 is, that packet is taken, each of the
 /// five blocks is clean, and each word is a TERC4 word.
 pub fn carried_is_taken()
     ensures { CarriedIsTaken }
+{}
+
+/// Every conforming list of periods can be spelled: there are columns that a source may send for it.
+pub fn conforming_is_spelled()
+    ensures { ConformingIsSpelled }
 {}

@@ -6,6 +6,8 @@ pub mod Spellings
 pub mod LineCodings
 pub mod Packets
 pub mod Streams
+pub mod Fronts
+pub mod ItemFronts
 pub mod Gathered
 pub mod RasterModes
 pub mod RasterSizes

@@ -30,11 +30,14 @@ first_one : (first now : Bool) → now ≡ (first && (0 == 0)) → now ≡ first
 first_one true now e = e
 first_one false now e = e
 
+pub SpellsPackets-append : (first now : Bool) (ps qs : List Packet) (columns more : List Column) → now ≡ (first && (length ps == 0)) → SpellsPackets first ps columns → SpellsPackets now qs more → SpellsPackets first (ps ++ qs) (columns ++ more)
+SpellsPackets-append first now [] qs columns more e h k =
+    subst (λ (cs : List Column). SpellsPackets first qs (cs ++ more)) (sym h) (subst (λ b. SpellsPackets b qs more) (first_one first now e) k)
+SpellsPackets-append first now (q ∷ ps) qs columns more e h k =
+    (h.0, h.1 ++ more, ap (λ (cs : List Column). cs ++ more) h.2 ∙ append_assoc h.0 h.1 more, h.3, SpellsPackets-append false now ps qs h.1 more (later_one first now (length ps) e) h.4 k)
+
 pub SpellsPackets-more : (first now : Bool) (ps : List Packet) (p : Packet) (columns own : List Column) → now ≡ (first && (length ps == 0)) → SpellsPackets first ps columns → Carries p now (map words_of own) → SpellsPackets first (ps ++ p ∷ []) (columns ++ own)
-SpellsPackets-more first now [] p columns own e h k =
-    (own, [], ap (λ (cs : List Column). cs ++ own) h ∙ sym (append-nil own), subst (λ b. Carries p b (map words_of own)) (first_one first now e) k, refl)
-SpellsPackets-more first now (q ∷ ps) p columns own e h k =
-    (h.0, h.1 ++ own, ap (λ (cs : List Column). cs ++ own) h.2 ∙ append_assoc h.0 h.1 own, h.3, SpellsPackets-more false now ps p h.1 own (later_one first now (length ps) e) h.4 k)
+SpellsPackets-more first now ps p columns own e h k = SpellsPackets-append first now ps (p ∷ []) columns own e h (own, [], sym (append-nil own), k, refl)
 
 -- What a packet's types give.
 all_bytes : (bytes : List ℕ) → All (λ byte. byte < 256) bytes → are_bytes bytes ≡ true
@@ -77,38 +80,3 @@ closing_in_range x h = right (is_sync_pair x.opening) (is_sync_pair x.closing) (
 pub packets_in_range : (x : DataIsland) → is_data_island x ≡ true → list_all is_packet x.packets ≡ true
 unfolding is_data_island
 packets_in_range x h = left (list_all is_packet x.packets) _ (right (is_sync_pair x.opening && is_sync_pair x.closing) _ h)
-
--- Columns that are given word by word carry what their words carry.
-word_at : (words : List ℕ) (lane : ℕ) → lane < 3 → slice_index (words_of (column_of words)) lane ≡ slice_index words lane
-word_at words zero lt = refl
-word_at words (suc zero) lt = refl
-word_at words (suc (suc zero)) lt = refl
-word_at words (suc (suc (suc lane))) lt = absurd (omega arith)
-
-nibbles_same : (block : List (List ℕ)) (lane : ℕ) → lane < 3 → nibbles_of (map words_of (map column_of block)) lane ≡ nibbles_of block lane
-unfolding nibbles_of
-nibbles_same [] lane lt = refl
-nibbles_same (words ∷ block) lane lt = ap₂ (λ n (ns : List ℕ). nibble_of n ∷ ns) (word_at words lane lt) (nibbles_same block lane lt)
-
-terc_same : (block : List (List ℕ)) (lane : ℕ) → lane < 3 → AreTerc block lane → AreTerc (map words_of (map column_of block)) lane
-terc_same [] lane lt h k d within = absurd (omega arith)
-terc_same (words ∷ block) lane lt h zero d within = ap is_terc (word_at words lane lt) ∙ h zero d (omega arith)
-terc_same (words ∷ block) lane lt h (suc k) d within = terc_same block lane lt (λ i e less. h (suc i) e (omega arith)) k d (omega arith)
-
-pub carries_columns : (p : Packet) (first : Bool) (block : List (List ℕ)) → Carries p first block → Carries p first (map words_of (map column_of block))
-unfolding sync_values header_bits body_bits
-carries_columns p first block h =
-    let blue = nibbles_same block 0 (omega arith) in
-    let green = nibbles_same block 1 (omega arith) in
-    let red = nibbles_same block 2 (omega arith) in
-    record {
-      free = record {
-        whole = h.free.whole;
-        count = length-map (map column_of block) words_of ∙ length-map block column_of ∙ h.free.count;
-        terc = λ lane lt. terc_same block lane lt (h.free.terc lane lt);
-        sync = ap (map (λ n. n % 4)) blue ∙ h.free.sync;
-        header = subst (λ bits. BeginsWith bits p.header) (sym (ap (map (λ n. bit n 2)) blue)) h.free.header;
-        bodies = λ b lt. subst (λ bits. BeginsWith bits (body_of p b)) (sym (ap₂ (by_turns b) green red)) (h.free.bodies b lt);
-      };
-      mark = λ i lt. ap (λ ns. bit (slice_index ns i) 3) blue ∙ h.mark i lt;
-    }

@@ -1,5 +1,5 @@
 -- Columns that spell periods, one period after another.
-use Rattle.std.proofs.Common.{◌≡◌, ℕ, suc, zero, ◌+◌, ◌*◌, ◌/◌, ◌%◌, ◌≤◌, ◌<◌, true, ◌==◌, ◌&&◌, List, [], ◌∷◌, ◌++◌, length, take, get_or, map, refl, ap, sym, ◌∙◌, arith, append_assoc, append-nil, length-append}
+use Rattle.std.proofs.Common.{◌≡◌, ℕ, suc, zero, ◌+◌, ◌*◌, ◌/◌, ◌%◌, ◌≤◌, ◌<◌, true, ◌==◌, ◌&&◌, List, [], ◌∷◌, ◌++◌, length, take, get_or, map, refl, ap, sym, subst, ◌∙◌, arith, append_assoc, append-nil, length-append}
 use Rattle.std.specs.Prelude.{nat_le, nat_lt}
 use Rattle.std.specs.List.{list_all}
 use Rattle.std.proofs.Math.ListN.{get_or-map}
@@ -15,10 +15,13 @@ use Rattle.source_end.proofs.Turns.{left, right}
 use Rattle.source_end.proofs.Spellings.{length-pixels_of}
 use Rattle.source_end.proofs.Packets.{packets_length}
 
+pub Spells-append : (periods others : List Period) (columns more : List Column) → Spells periods columns → Spells others more → Spells (periods ++ others) (columns ++ more)
+Spells-append [] others columns more h k = subst (λ (cs : List Column). Spells others (cs ++ more)) (sym h) k
+Spells-append (q ∷ ps) others columns more h k =
+    (h.0, h.1 ++ more, ap (λ (cs : List Column). cs ++ more) h.2 ∙ append_assoc h.0 h.1 more, h.3, Spells-append ps others h.1 more h.4 k)
+
 pub Spells-more : (periods : List Period) (p : Period) (columns own : List Column) → Spells periods columns → SpellsPeriod p own → Spells (periods ++ p ∷ []) (columns ++ own)
-Spells-more [] p columns own h k = (own, [], ap (λ (cs : List Column). cs ++ own) h ∙ sym (append-nil own), k, refl)
-Spells-more (q ∷ ps) p columns own h k =
-    (h.0, h.1 ++ own, ap (λ (cs : List Column). cs ++ own) h.2 ∙ append_assoc h.0 h.1 own, h.3, Spells-more ps p h.1 own h.4 k)
+Spells-more periods p columns own h k = Spells-append periods (p ∷ []) columns own h (own, [], sym (append-nil own), k, refl)
 
 video_length : (bytes : List ℕ) (columns : List Column) → SpellsPixels (pixels_of bytes) columns → length columns ≡ length bytes / 3
 video_length bytes columns h =

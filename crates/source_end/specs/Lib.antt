@@ -12,4 +12,5 @@ pub mod OpenRuns
 pub mod Lines
 pub mod Gathering
 pub mod Generator
+pub mod Fronts
 pub mod LineCoding

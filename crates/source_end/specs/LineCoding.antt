@@ -14,3 +14,8 @@ pub record AreCodersAfter (blue green red : ℤ) (pixels : List Pixel) (columns 
   pub green_lane : GoesOn green green_after (map (λ (p : Pixel). p.green) pixels) (map (λ (c : Column). c.green) columns)
   pub red_lane : GoesOn red red_after (map (λ (p : Pixel). p.red) pixels) (map (λ (c : Column). c.red) columns)
   pub as_many : length columns ≡ length pixels
+
+-- they are its coding for some coders after them
+abbrev pub AreCoded : ℤ → ℤ → ℤ → List Pixel → List Column → Type 0
+AreCoded blue green red pixels columns =
+    (blue_after green_after red_after : ℤ) × AreCodersAfter blue green red pixels columns blue_after green_after red_after

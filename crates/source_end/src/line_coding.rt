@@ -5,7 +5,8 @@ ghost use Rattle.tmds_word.specs.Column.{Column};
 ghost use Rattle.tmds_code.specs.Pasts.{IsCoderAfter};
 ghost use Rattle.island_pack.specs.Periods.{pixels_of};
 ghost use Rattle.island_pack.specs.Spelling.{SpellsPixels};
-ghost use Rattle.source_end.specs.LineCoding.{AreCodersAfter};
+ghost use Rattle.source_end.specs.Fronts.{TookFront};
+ghost use Rattle.source_end.specs.LineCoding.{AreCodersAfter, AreCoded};
 
 use outside_io::NoMemory;
 use tmds_code::VideoCoder;
@@ -27,7 +28,7 @@ pub(crate) fn pixels<C: ColumnSink>(bytes: &[u8], out: &mut C) -> Result<(), NoM
     requires whole { length bytes.now % 3 ≡ 0 }
     requires room { length (C.taken out.old) + length bytes.now / 3 < 429496729 }
     ensures ok { OnOk result ((columns : List Column) × (C.taken out.new ≡ C.taken out.old ++ columns) × SpellsPixels (pixels_of bytes.now) columns) }
-    ensures part { OnErr result ((columns : List Column) × (C.taken out.new ≡ C.taken out.old ++ columns)) }
+    ensures part { OnErr result (TookFront (C.taken out.old) (C.taken out.new) (SpellsPixels (pixels_of bytes.now))) }
     ensures cause { HasCause (C.refusals out.old) (C.refusals out.new) result }
 {
     let mut coders = Coders {
@@ -50,7 +51,7 @@ fn block<C: ColumnSink>(bytes: &[u8], coders: Coders, out: &mut C) -> Result<Cod
     requires few { length bytes.now ≤ 192 }
     requires room { length (C.taken out.old) + length bytes.now / 3 < 429496729 }
     ensures ok { IfOk result (λ after. (columns : List Column) × (C.taken out.new ≡ C.taken out.old ++ columns) × AreCodersAfter coders.blue coders.green coders.red (pixels_of bytes.now) columns after.blue after.green after.red) }
-    ensures part { OnErr result ((columns : List Column) × (C.taken out.new ≡ C.taken out.old ++ columns)) }
+    ensures part { OnErr result (TookFront (C.taken out.old) (C.taken out.new) (AreCoded coders.blue coders.green coders.red (pixels_of bytes.now))) }
     ensures cause { HasCause (C.refusals out.old) (C.refusals out.new) result }
 {
     let none = zero();

@@ -8,6 +8,7 @@ ghost use Rattle.island_pack.specs.Periods.{values_of, period_columns};
 ghost use Rattle.island_pack.specs.Conforming.{is_run, is_sync_pair, is_packet, is_data_island};
 ghost use Rattle.island_pack.specs.Spelling.{SpellsPeriod, SpellsVideo, SpellsIsland, SpellsPackets, control_column, guard_column, guard_columns};
 ghost use Rattle.source_end.specs.ItemPeriods.{period_of};
+ghost use Rattle.source_end.specs.Fronts.{TookFront};
 ghost use Rattle.source_end.specs.Pairs.{pair_of};
 ghost use Rattle.source_end.specs.Kept.{is_sendable};
 
@@ -25,7 +26,7 @@ pub(crate) fn item<C: ColumnSink>(item: &Item, out: &mut C) -> Result<(), NoMemo
     requires sendable { IsTrue (is_sendable (period_of item.now)) }
     requires room { length (C.taken out.old) + period_columns (period_of item.now) < 429496729 }
     ensures ok { OnOk result ((columns : List Column) × (C.taken out.new ≡ C.taken out.old ++ columns) × SpellsPeriod (period_of item.now) columns) }
-    ensures part { OnErr result ((columns : List Column) × (C.taken out.new ≡ C.taken out.old ++ columns)) }
+    ensures part { OnErr result (TookFront (C.taken out.old) (C.taken out.new) (SpellsPeriod (period_of item.now))) }
     ensures cause { HasCause (C.refusals out.old) (C.refusals out.new) result }
 {
     match item {
@@ -40,7 +41,7 @@ fn control<C: ColumnSink>(runs: &[Run], out: &mut C) -> Result<(), NoMemory>
     requires runs { IsTrue (list_all is_run runs.now) }
     requires room { length (C.taken out.old) + length (values_of runs.now) < 429496729 }
     ensures ok { OnOk result (C.taken out.new ≡ C.taken out.old ++ map control_column (values_of runs.now)) }
-    ensures part { OnErr result ((columns : List Column) × (C.taken out.new ≡ C.taken out.old ++ columns)) }
+    ensures part { OnErr result (TookFront (C.taken out.old) (C.taken out.new) (λ columns. columns ≡ map control_column (values_of runs.now))) }
     ensures cause { HasCause (C.refusals out.old) (C.refusals out.new) result }
 {
     for run in runs {
@@ -66,7 +67,7 @@ fn control_words(value: u8) -> [Word; 3]
 fn repeat<C: ColumnSink>(words: [Word; 3], count: u32, out: &mut C) -> Result<(), NoMemory>
     requires { length (C.taken out.old) + count < 429496729 }
     ensures ok { OnOk result (C.taken out.new ≡ C.taken out.old ++ replicate count (column_of words)) }
-    ensures part { OnErr result ((columns : List Column) × (C.taken out.new ≡ C.taken out.old ++ columns)) }
+    ensures part { OnErr result (TookFront (C.taken out.old) (C.taken out.new) (λ columns. columns ≡ replicate count (column_of words))) }
     ensures cause { HasCause (C.refusals out.old) (C.refusals out.new) result }
 {
     let [blue, green, red] = words;
@@ -86,7 +87,7 @@ fn video<C: ColumnSink>(bytes: &[u8], out: &mut C) -> Result<(), NoMemory>
     requires whole { length bytes.now % 3 ≡ 0 }
     requires room { length (C.taken out.old) + 2 + length bytes.now / 3 < 429496729 }
     ensures ok { OnOk result ((columns : List Column) × (C.taken out.new ≡ C.taken out.old ++ columns) × SpellsVideo bytes.now columns) }
-    ensures part { OnErr result ((columns : List Column) × (C.taken out.new ≡ C.taken out.old ++ columns)) }
+    ensures part { OnErr result (TookFront (C.taken out.old) (C.taken out.new) (SpellsVideo bytes.now)) }
     ensures cause { HasCause (C.refusals out.old) (C.refusals out.new) result }
 {
     repeat(guard_words(), 2, out)?;
@@ -98,7 +99,7 @@ fn island<C: ColumnSink>(island: &Island, out: &mut C) -> Result<(), NoMemory>
     requires range { IsTrue (is_data_island island.now) }
     requires room { length (C.taken out.old) + 4 + 32 * length island.now.packets < 429496729 }
     ensures ok { OnOk result ((columns : List Column) × (C.taken out.new ≡ C.taken out.old ++ columns) × SpellsIsland island.now columns) }
-    ensures part { OnErr result ((columns : List Column) × (C.taken out.new ≡ C.taken out.old ++ columns)) }
+    ensures part { OnErr result (TookFront (C.taken out.old) (C.taken out.new) (SpellsIsland island.now)) }
     ensures cause { HasCause (C.refusals out.old) (C.refusals out.new) result }
 {
     guards(island.opening(), out)?;
@@ -111,7 +112,7 @@ fn guards<C: ColumnSink>(sync: [u8; 2], out: &mut C) -> Result<(), NoMemory>
     requires range { IsTrue (is_sync_pair (pair_of sync)) }
     requires room { length (C.taken out.old) + 2 < 429496729 }
     ensures ok { OnOk result (C.taken out.new ≡ C.taken out.old ++ guard_columns (pair_of sync)) }
-    ensures part { OnErr result ((columns : List Column) × (C.taken out.new ≡ C.taken out.old ++ columns)) }
+    ensures part { OnErr result (TookFront (C.taken out.old) (C.taken out.new) (λ columns. columns ≡ guard_columns (pair_of sync))) }
     ensures cause { HasCause (C.refusals out.old) (C.refusals out.new) result }
 {
     out.column(island_guard(sync[0]))?;
@@ -131,7 +132,7 @@ fn packets<C: ColumnSink>(packets: &[Packet], out: &mut C) -> Result<(), NoMemor
     requires range { IsTrue (list_all is_packet packets.now) }
     requires room { length (C.taken out.old) + 32 * length packets.now < 429496729 }
     ensures ok { OnOk result ((columns : List Column) × (C.taken out.new ≡ C.taken out.old ++ columns) × SpellsPackets true packets.now columns) }
-    ensures part { OnErr result ((columns : List Column) × (C.taken out.new ≡ C.taken out.old ++ columns)) }
+    ensures part { OnErr result (TookFront (C.taken out.old) (C.taken out.new) (SpellsPackets true packets.now)) }
     ensures cause { HasCause (C.refusals out.old) (C.refusals out.new) result }
 {
     let mut block = [[word(0); 3]; 32];
@@ -148,7 +149,7 @@ fn packets<C: ColumnSink>(packets: &[Packet], out: &mut C) -> Result<(), NoMemor
 fn each<C: ColumnSink>(block: &[[Word; 3]; 32], out: &mut C) -> Result<(), NoMemory>
     requires room { length (C.taken out.old) + 32 < 429496729 }
     ensures ok { OnOk result (C.taken out.new ≡ C.taken out.old ++ map column_of block.now) }
-    ensures part { OnErr result ((columns : List Column) × (C.taken out.new ≡ C.taken out.old ++ columns)) }
+    ensures part { OnErr result (TookFront (C.taken out.old) (C.taken out.new) (λ columns. columns ≡ map column_of block.now)) }
     ensures cause { HasCause (C.refusals out.old) (C.refusals out.new) result }
 {
     for words in block {

@@ -52,11 +52,12 @@ impl Stream {
         self.columns
     }
 
-    /// Gives the columns of its items to `out`. It is refused only where `out` refused a column.
+    /// Gives the columns of its items to `out`. It is refused only where `out` refused a column; then `out` has
+    /// taken the first of some columns that spell the items.
     pub fn spell<C: ColumnSink>(&self, out: &mut C) -> Result<(), NoMemory>
         requires { length (C.taken out.old) < 400000000 }
         ensures ok { OnOk result ((columns : List Column) × (C.taken out.new ≡ C.taken out.old ++ columns) × Spells self.now columns) }
-        ensures part { OnErr result ((columns : List Column) × (C.taken out.new ≡ C.taken out.old ++ columns)) }
+        ensures part { OnErr result ((columns rest : List Column) × (C.taken out.new ≡ C.taken out.old ++ columns) × Spells self.now (columns ++ rest)) }
         ensures cause { HasCause (C.refusals out.old) (C.refusals out.new) result }
     {
         for item in &self.list {

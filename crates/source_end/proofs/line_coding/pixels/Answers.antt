@@ -5,6 +5,9 @@ use Rattle.tmds_code.specs.Lanes.{IsLane}
 use Rattle.island_pack.specs.Periods.{Pixel, pixels_of}
 use Rattle.source_end.proofs.Spellings.{joined, length-pixels_of}
 use Rattle.source_end.proofs.LineCodings.{lane_after, take_least}
+use Rattle.source_end.specs.LineCoding.{AreCoded}
+use Rattle.source_end.proofs.Fronts.{on_err}
+use Rattle.source_end.proofs.ItemFronts.{coded_front}
 use Rattle.source_end.proofs.line_coding.pixels.Goals as goal
 
 pub loop-i-preserved : goal.loop-i-preserved
@@ -48,3 +51,21 @@ returns-clause-ok g c =
         red = subst (λ (ps : List Pixel). IsLane (map (λ (p : Pixel). p.red) ps) (map (λ (k : Column). k.red) was.columns)) all was.red_lane.lane;
       },
     )
+
+pub returns-in_err-coders-clause-part : goal.returns-in_err-coders-clause-part
+returns-in_err-coders-clause-part g c =
+    let bytes = c.args.bytes.now in
+    let was = c.loop-i.invariant in
+    let coders = c.loop-i.coders in
+    let from = 64 * c.loop-i.i in
+    let upto = c.min-upto.result in
+    let begun : from < length bytes / 3 = omega (arith, c.div_ceil-i-end.ensures, c.loop-i-test.true) in
+    let le : from ≤ upto = omega (arith, c.min-upto.ensures, begun) in
+    let piece = take (3 * upto - 3 * from) (drop (3 * from) bytes) in
+    on_err c.from_residual.result
+    (coded_front (pixels_of bytes) upto (g.C.ColumnSink.taken c.args.out.now) (g.C.ColumnSink.taken c.loop-i.out) (g.C.ColumnSink.taken c.block.new.out) was.columns (AreCoded coders.blue coders.green coders.red (pixels_of piece)) was.taken c.in_err-coders.ensures.part
+    (λ own coded. record {
+      blue = (lane_after coders.blue coded.0 bytes from upto was.columns own (λ (p : Pixel). p.blue) (λ (k : Column). k.blue) le was.blue_lane coded.3.blue_lane).lane;
+      green = (lane_after coders.green coded.1 bytes from upto was.columns own (λ (p : Pixel). p.green) (λ (k : Column). k.green) le was.green_lane coded.3.green_lane).lane;
+      red = (lane_after coders.red coded.2 bytes from upto was.columns own (λ (p : Pixel). p.red) (λ (k : Column). k.red) le was.red_lane coded.3.red_lane).lane;
+    }))

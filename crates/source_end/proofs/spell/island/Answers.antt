@@ -4,6 +4,8 @@ use Rattle.island_pack.specs.Conforming.{is_sync_pair, is_packet}
 use Rattle.island_pack.specs.Spelling.{guard_columns}
 use Rattle.source_end.specs.Pairs.{pair_of}
 use Rattle.source_end.proofs.Packets.{opening_in_range, closing_in_range, packets_in_range, packets_length}
+use Rattle.source_end.proofs.Fronts.{on_err, err_map}
+use Rattle.source_end.proofs.ItemFronts.{opening_front, inner_front, closing_front}
 use Rattle.source_end.proofs.spell.island.Goals as goal
 
 pub guards-requires-clause-range : goal.guards-requires-clause-range
@@ -23,3 +25,22 @@ guards-requires-2-clause-room g c =
     let many = packets_length true c.as_slice.result.now more.0 more.2 in
     let same = ap length c.as_slice.ensures in
     omega (arith, opened, grown, many, same, c.requires.room)
+
+pub returns-in_err-guards-clause-part : goal.returns-in_err-guards-clause-part
+returns-in_err-guards-clause-part g c =
+    on_err c.from_residual.result
+    (opening_front c.args.island.now (g.C.ColumnSink.taken c.args.out.now) (g.C.ColumnSink.taken c.guards.new.out) (guard_columns (pair_of c.opening.result)) c.requires.range (ap guard_columns c.opening.ensures) c.in_err-guards.ensures.part)
+
+pub returns-in_err-packets-clause-part : goal.returns-in_err-packets-clause-part
+returns-in_err-packets-clause-part g c =
+    on_err c.from_residual-in_err-packets.result
+    (inner_front c.args.island.now c.as_slice.result.now (g.C.ColumnSink.taken c.args.out.now) (g.C.ColumnSink.taken c.guards.new.out) (g.C.ColumnSink.taken c.packets.new.out) (guard_columns (pair_of c.opening.result))
+    (ap guard_columns c.opening.ensures) c.as_slice.ensures c.in_ok-guards.ensures.ok c.in_err-packets.ensures.part)
+
+pub returns-clause-part : goal.returns-clause-part
+returns-clause-part g c =
+    let more = c.in_ok-packets.ensures.ok in
+    err_map c.guards-2.result
+    (closing_front c.args.island.now c.as_slice.result.now (g.C.ColumnSink.taken c.args.out.now) (g.C.ColumnSink.taken c.guards.new.out) (g.C.ColumnSink.taken c.packets.new.out) (g.C.ColumnSink.taken c.guards-2.new.out)
+    (guard_columns (pair_of c.opening.result)) more.0 (guard_columns (pair_of c.closing.result)) (ap guard_columns c.opening.ensures) c.as_slice.ensures (ap guard_columns c.closing.ensures) c.in_ok-guards.ensures.ok more.1 more.2)
+    c.guards-2.ensures.part

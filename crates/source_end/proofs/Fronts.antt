@@ -1,0 +1,77 @@
+-- The first columns of some that are as they were to be.
+use Rattle.std.proofs.Common.{◌≡◌, ℕ, ℤ, suc, ◌+◌, ◌-◌, ◌*◌, ◌≤◌, ◌<◌, Bool, true, false, ◌==◌, ◌&&◌, List, [], ◌∷◌, ◌++◌, length, take, drop, get_or, map, replicate, min, refl, ap, sym, subst, ◌∙◌, arith, append_assoc, append-nil}
+use Rattle.std.proofs.lemmas.Bool.{and_parts}
+use Rattle.std.proofs.lemmas.List.{take-append-drop, map-append}
+use Rattle.std.specs.Prelude.{Result, Ok, Err, OnOk, OnErr}
+use Rattle.tmds_word.specs.Column.{Column, column_of}
+use Rattle.tmds_word.specs.Words.{columns_of}
+use Rattle.island_pack.specs.Periods.{Pixel}
+use Rattle.source_end.specs.Fronts.{TookFront}
+use Rattle.source_end.specs.LineCoding.{AreCodersAfter, AreCoded}
+use Rattle.source_end.proofs.Spellings.{joined}
+use Rattle.source_end.proofs.LineCodings.{equal_block, replicate-add}
+
+-- What holds after a refusal, and after none.
+pub on_err : {T E P : Type 0} (r : Result T E) → P → OnErr r P
+on_err (Ok x) h = tt
+on_err (Err e) h = h
+
+pub err_map : {T E P Q : Type 0} (r : Result T E) → (P → Q) → OnErr r P → OnErr r Q
+err_map (Ok x) f h = tt
+err_map (Err e) f h = f h
+
+pub ok_map : {T E P Q : Type 0} (r : Result T E) → (P → Q) → OnOk r P → OnOk r Q
+ok_map (Ok x) f h = f h
+ok_map (Err e) f h = tt
+
+-- a front of columns of their own, behind columns that are whole
+pub front_behind : (old mid new done : List Column) (Own Whole : List Column → Type 0) → mid ≡ old ++ done → TookFront mid new Own
+    → ((own : List Column) → Own own → (more : List Column) × Whole (done ++ (own ++ more))) → TookFront old new Whole
+front_behind old mid new done Own Whole was front next =
+    let xs = front.0 in
+    let ys = front.1 in
+    let all = next (xs ++ ys) front.3 in
+    let same : done ++ ((xs ++ ys) ++ all.0) ≡ (done ++ xs) ++ (ys ++ all.0) =
+    ap (λ (cs : List Column). done ++ cs) (append_assoc xs ys all.0) ∙ sym (append_assoc done xs (ys ++ all.0)) in
+    (done ++ xs, ys ++ all.0, joined old mid new done xs was front.2, subst Whole same all.1)
+
+-- the first of columns that are known
+pub front_of : (mid new whole : List Column) (k : ℕ) → new ≡ mid ++ take k whole → TookFront mid new (λ columns. columns ≡ whole)
+front_of mid new whole k e = (take k whole, drop k whole, e, take-append-drop k whole)
+
+-- the first of columns that are given one after another
+pub front_of_map : {A : Type 0} (f : A → Column) (xs : List A) (i : ℕ) (old mid new : List Column) → mid ≡ old ++ map f (take i xs) → new ≡ mid
+    → TookFront old new (λ columns. columns ≡ map f xs)
+front_of_map f xs i old mid new was same =
+    (map f (take i xs), map f (drop i xs), same ∙ was, sym (map-append f (take i xs) (drop i xs)) ∙ ap (map f) (take-append-drop i xs))
+
+-- a run of equal columns that ended within a block
+pub front_of_run : (old mid new : List Column) (count i n b g r x y z k : ℕ) → x ≡ b → y ≡ g → z ≡ r → mid ≡ old ++ replicate (min count (64 * i)) (column_of (b ∷ g ∷ r ∷ []))
+    → new ≡ mid ++ take k (columns_of (take n (replicate 64 x)) (take n (replicate 64 y)) (take n (replicate 64 z))) → n ≡ min (count - 64 * i) 64 → 64 * i < count
+    → TookFront old new (λ columns. columns ≡ replicate count (column_of (b ∷ g ∷ r ∷ [])))
+front_of_run old mid new count i n b g r x y z k ex ey ez was cut width begun =
+    let c = column_of (b ∷ g ∷ r ∷ []) in
+    let done = min count (64 * i) in
+    let block : columns_of (take n (replicate 64 x)) (take n (replicate 64 y)) (take n (replicate 64 z)) ≡ replicate n c =
+    (λ j. columns_of (take n (replicate 64 (ex j))) (take n (replicate 64 (ey j))) (take n (replicate 64 (ez j)))) ∙ equal_block n b g r (omega (arith, width)) in
+    let own = front_of mid new (replicate n c) k (cut ∙ ap (λ (cs : List Column). mid ++ take k cs) block) in
+    let left = count - (done + n) in
+    let all : done + (n + left) ≡ count = omega (arith, width, begun) in
+    front_behind old mid new (replicate done c) (λ columns. columns ≡ replicate n c) (λ columns. columns ≡ replicate count c) was own
+    (λ cs e. (
+      replicate left c,
+      ap (λ (ds : List Column). replicate done c ++ (ds ++ replicate left c)) e
+      ∙ ap (λ (ds : List Column). replicate done c ++ ds) (replicate-add n left c)
+      ∙ replicate-add done (n + left) c
+      ∙ ap (λ m. replicate m c) all,
+    ))
+
+-- the first columns of a block of pixels
+pub front_of_coded : (mid new whole : List Column) (blue green red : ℤ) (pixels : List Pixel) (blue_after green_after red_after : ℤ) (k : ℕ) → new ≡ mid ++ take k whole
+    → AreCodersAfter blue green red pixels whole blue_after green_after red_after → TookFront mid new (AreCoded blue green red pixels)
+front_of_coded mid new whole blue green red pixels blue_after green_after red_after k e coded = (
+  take k whole,
+  drop k whole,
+  e,
+  (blue_after, green_after, red_after, subst (λ (cs : List Column). AreCodersAfter blue green red pixels cs blue_after green_after red_after) (sym (take-append-drop k whole)) coded),
+)

@@ -1,0 +1,148 @@
+-- What is taken of an item of which not every column was taken: the columns that are missing can be given.
+use Rattle.std.proofs.Common.{◌≡◌, ℕ, suc, zero, ◌+◌, ◌<◌, ◌/◌, Bool, true, false, ◌==◌, ◌&&◌, List, [], ◌∷◌, ◌++◌, length, take, drop, get_or, map, replicate, refl, ap, ap₂, sym, subst, ◌∙◌, arith, append_assoc, append-nil, drop-cons}
+use Rattle.std.proofs.lemmas.Bool.{and_parts}
+use Rattle.std.proofs.lemmas.List.{take-append-drop, map-append}
+use Rattle.std.specs.List.{list_all}
+use Rattle.tmds_word.specs.Column.{Column, column_of}
+use Rattle.terc4.specs.Tables.{video_guard}
+use Rattle.tmds_code.specs.Pasts.{IsCoderAfter}
+use Rattle.island_pack.specs.Periods.{ControlRun, DataIsland, Period, values_of, Pixel, pixels_of}
+use Rattle.island_pack.specs.Conforming.{is_packet, is_data_island, conforms}
+use Rattle.island_pack.specs.Packets.{Carries}
+use Rattle.island_pack.specs.Spelling.{SpellsPixels, SpellsVideo, SpellsIsland, SpellsPackets, SpellsPeriod, Spells, control_column, guard_columns, words_of}
+use Rattle.island_pack.specs.declared.packet.Packet.{Packet}
+use Rattle.island_pack.proofs.PixelColumns.{pixels_go_on}
+use Rattle.island_pack.proofs.Spelled.{packets_spelled, video_spelled, has_range, periods_spelled, conforming_ranges}
+use Rattle.source_end.specs.Fronts.{TookFront}
+use Rattle.source_end.proofs.Fronts.{front_behind}
+use Rattle.source_end.proofs.Spellings.{map_replicate, joined}
+use Rattle.source_end.proofs.Packets.{SpellsPackets-append, packets_in_range}
+use Rattle.source_end.proofs.Streams.{Spells-append}
+
+-- A list with one item seen, and what stands behind it.
+parts_at : {A : Type 0} (xs : List A) (i : ℕ) (d : A) → i < length xs → take i xs ++ (get_or xs i d ∷ drop (suc i) xs) ≡ xs
+parts_at xs i d lt = ap (λ ys. take i xs ++ ys) (sym (drop-cons xs i d lt)) ∙ take-append-drop i xs
+
+all_behind : {A : Type 0} (p : A → Bool) (xs : List A) (i : ℕ) → list_all p xs ≡ true → list_all p (drop i xs) ≡ true
+all_behind p xs zero h = h
+all_behind p [] (suc i) h = refl
+all_behind p (x ∷ xs) (suc i) h = all_behind p xs i (and_parts (p x) (list_all p xs) h).1
+
+-- A control period.
+values_at : (runs : List ControlRun) (i : ℕ) (d : ControlRun) → i < length runs
+    → values_of (take i runs) ++ (replicate (get_or runs i d).count (get_or runs i d).value ++ values_of (drop (suc i) runs)) ≡ values_of runs
+unfolding values_of
+values_at [] i d lt = absurd (omega arith)
+values_at (r ∷ runs) zero d lt = refl
+values_at (r ∷ runs) (suc i) d lt =
+    let lt' : i < length runs = omega arith in
+    append_assoc (replicate r.count r.value) (values_of (take i runs)) (replicate (get_or runs i d).count (get_or runs i d).value ++ values_of (drop (suc i) runs))
+    ∙ ap (λ vs. replicate r.count r.value ++ vs) (values_at runs i d lt')
+
+pub control_front : (runs : List ControlRun) (i : ℕ) (d : ControlRun) (old mid new : List Column) → i < length runs → mid ≡ old ++ map control_column (values_of (take i runs))
+    → TookFront mid new (λ columns. columns ≡ replicate (get_or runs i d).count (control_column (get_or runs i d).value))
+    → TookFront old new (λ columns. columns ≡ map control_column (values_of runs))
+control_front runs i d old mid new lt was front =
+    let x = get_or runs i d in
+    let done = values_of (take i runs) in
+    let own = replicate x.count x.value in
+    let rest = values_of (drop (suc i) runs) in
+    front_behind old mid new (map control_column done) (λ columns. columns ≡ replicate x.count (control_column x.value)) (λ columns. columns ≡ map control_column (values_of runs)) was front
+    (λ cs e. (
+      map control_column rest,
+      ap (λ (ds : List Column). map control_column done ++ (ds ++ map control_column rest)) (e ∙ sym (map_replicate control_column x.count x.value))
+      ∙ ap (λ (ds : List Column). map control_column done ++ ds) (sym (map-append control_column own rest))
+      ∙ sym (map-append control_column done (own ++ rest))
+      ∙ ap (map control_column) (values_at runs i d lt),
+    ))
+
+-- A video data period.
+pub guards_front : (bytes : List ℕ) (guard : Column) (old new : List Column) → guard ≡ column_of video_guard
+    → TookFront old new (λ columns. columns ≡ replicate 2 guard) → TookFront old new (SpellsVideo bytes)
+guards_front bytes guard old new is front =
+    let all = video_spelled bytes in
+    front_behind old old new [] (λ columns. columns ≡ replicate 2 guard) (SpellsVideo bytes) (sym (append-nil old)) front
+    (λ cs e. (all.1.0, (all.1.0, ap (λ (ds : List Column). ds ++ all.1.0) e ∙ ap (λ (g : Column). g ∷ (g ∷ all.1.0)) is, all.1.2)))
+
+pub video_whole : (bytes : List ℕ) (guard : Column) (old mid new columns : List Column) → guard ≡ column_of video_guard → mid ≡ old ++ replicate 2 guard → new ≡ mid ++ columns
+    → SpellsPixels (pixels_of bytes) columns → (all : List Column) × (new ≡ old ++ all) × SpellsVideo bytes all
+video_whole bytes guard old mid new columns is was more spelled =
+    (replicate 2 guard ++ columns, joined old mid new (replicate 2 guard) columns was more, (columns, ap (λ (g : Column). g ∷ (g ∷ columns)) is, spelled))
+
+pub pixels_front : (bytes : List ℕ) (guard : Column) (old mid new : List Column) → guard ≡ column_of video_guard → mid ≡ old ++ replicate 2 guard
+    → TookFront mid new (SpellsPixels (pixels_of bytes)) → TookFront old new (SpellsVideo bytes)
+pixels_front bytes guard old mid new is was front =
+    front_behind old mid new (replicate 2 guard) (SpellsPixels (pixels_of bytes)) (SpellsVideo bytes) was front
+    (λ cs own. ([], (cs, ap₂ (λ (g : Column) (ds : List Column). g ∷ (g ∷ ds)) is (append-nil cs), own)))
+
+-- some pixels are coded, and those behind them can be
+pub coded_front : (pixels : List Pixel) (upto : ℕ) (old mid new done : List Column) (Own : List Column → Type 0) → mid ≡ old ++ done → TookFront mid new Own
+    → ((own : List Column) → Own own → SpellsPixels (take upto pixels) (done ++ own)) → TookFront old new (SpellsPixels pixels)
+coded_front pixels upto old mid new done Own was front coded =
+    front_behind old mid new done Own (SpellsPixels pixels) was front
+    (λ cs own.
+    let all = pixels_go_on (take upto pixels) (done ++ cs) (drop upto pixels) (coded cs own) in (
+      all.0,
+      subst (λ (ps : List Pixel). SpellsPixels ps (done ++ (cs ++ all.0))) (take-append-drop upto pixels)
+      (subst (λ (ds : List Column). SpellsPixels (take upto pixels ++ drop upto pixels) ds) (append_assoc done cs all.0) all.1),
+    ))
+
+-- The packets of a data island.
+pub packets_front : (packets : List Packet) (i : ℕ) (d : Packet) (first : Bool) (old mid new columns own : List Column) → list_all is_packet packets ≡ true → i < length packets
+    → first ≡ (true && (length (take i packets) == 0)) → SpellsPackets true (take i packets) columns → Carries (get_or packets i d) first (map words_of own)
+    → mid ≡ old ++ columns → TookFront mid new (λ cs. cs ≡ own) → TookFront old new (SpellsPackets true packets)
+packets_front packets i d first old mid new columns own all lt is spelled carries was front =
+    let rest = packets_spelled false (drop (suc i) packets) (all_behind is_packet packets (suc i) all) in
+    front_behind old mid new columns (λ cs. cs ≡ own) (SpellsPackets true packets) was front
+    (λ cs e. (
+      rest.0,
+      subst (λ (ds : List Column). SpellsPackets true packets (columns ++ (ds ++ rest.0))) (sym e)
+      (subst (λ (ps : List Packet). SpellsPackets true ps (columns ++ (own ++ rest.0))) (parts_at packets i d lt)
+      (SpellsPackets-append true first (take i packets) (get_or packets i d ∷ drop (suc i) packets) columns (own ++ rest.0) is spelled (own, rest.0, refl, carries, rest.1))),
+    ))
+
+-- A data island.
+pub opening_front : (x : DataIsland) (old new own : List Column) → is_data_island x ≡ true → own ≡ guard_columns x.opening
+    → TookFront old new (λ columns. columns ≡ own) → TookFront old new (SpellsIsland x)
+opening_front x old new own h is front =
+    let packets = packets_spelled true x.packets (packets_in_range x h) in
+    let closing = guard_columns x.closing in
+    front_behind old old new [] (λ columns. columns ≡ own) (SpellsIsland x) (sym (append-nil old)) front
+    (λ cs e. (
+      packets.0 ++ closing,
+      (packets.0, ap (λ (ds : List Column). ds ++ (packets.0 ++ closing)) (e ∙ is) ∙ sym (append_assoc (guard_columns x.opening) packets.0 closing), packets.1),
+    ))
+
+pub inner_front : (x : DataIsland) (packets : List Packet) (old mid new own : List Column) → own ≡ guard_columns x.opening → packets ≡ x.packets → mid ≡ old ++ own
+    → TookFront mid new (SpellsPackets true packets) → TookFront old new (SpellsIsland x)
+inner_front x packets old mid new own is same was front =
+    let closing = guard_columns x.closing in
+    front_behind old mid new own (SpellsPackets true packets) (SpellsIsland x) was front
+    (λ cs spelled. (
+      closing,
+      (cs, ap (λ (ds : List Column). ds ++ (cs ++ closing)) is ∙ sym (append_assoc (guard_columns x.opening) cs closing), subst (λ (ps : List Packet). SpellsPackets true ps cs) same spelled),
+    ))
+
+pub closing_front : (x : DataIsland) (packets : List Packet) (old mid late new own columns end : List Column) → own ≡ guard_columns x.opening → packets ≡ x.packets → end ≡ guard_columns x.closing
+    → mid ≡ old ++ own → late ≡ mid ++ columns → SpellsPackets true packets columns
+    → TookFront late new (λ cs. cs ≡ end) → TookFront old new (SpellsIsland x)
+closing_front x packets old mid late new own columns end is same ends was more spelled front =
+    let opening = guard_columns x.opening in
+    front_behind old late new (own ++ columns) (λ cs. cs ≡ end) (SpellsIsland x) (more ∙ ap (λ (ds : List Column). ds ++ columns) was ∙ append_assoc old own columns) front
+    (λ cs e. (
+      [],
+      (columns, ap₂ (λ (ds es : List Column). (ds ++ columns) ++ es) is (append-nil cs ∙ e ∙ ends), subst (λ (ps : List Packet). SpellsPackets true ps columns) same spelled),
+    ))
+
+-- A list of periods.
+pub periods_front : (periods : List Period) (i : ℕ) (p : Period) (old mid new columns : List Column) → conforms periods ≡ true → i < length periods → get_or periods i p ≡ p
+    → Spells (take i periods) columns → mid ≡ old ++ columns → TookFront mid new (SpellsPeriod p) → TookFront old new (Spells periods)
+periods_front periods i p old mid new columns h lt at spelled was front =
+    let rest = periods_spelled (drop (suc i) periods) (all_behind has_range periods (suc i) (conforming_ranges periods h)) in
+    let parts : take i periods ++ (p ∷ drop (suc i) periods) ≡ periods = ap (λ (q : Period). take i periods ++ (q ∷ drop (suc i) periods)) (sym at) ∙ parts_at periods i p lt in
+    front_behind old mid new columns (SpellsPeriod p) (Spells periods) was front
+    (λ cs own. (
+      rest.0,
+      subst (λ (ps : List Period). Spells ps (columns ++ (cs ++ rest.0))) parts
+      (Spells-append (take i periods) (p ∷ drop (suc i) periods) columns (cs ++ rest.0) spelled (cs, rest.0, refl, own, rest.1)),
+    ))
