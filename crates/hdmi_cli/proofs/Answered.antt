@@ -17,10 +17,9 @@ use Rattle.capture_file.specs.declared.writing.Tap.{Tap}
 use Rattle.island_pack.specs.Periods.{Period}
 use Rattle.island_pack.specs.Spelling.{Spells}
 use Rattle.listing.specs.Answers.{Answers as AnswersReading}
-use Rattle.listing.specs.Reading.{Reading, accepted, refused, reads_as}
+use Rattle.listing.specs.Reading.{reads_as}
 use Rattle.listing.specs.LineSteps.{Read, accepts, refuses}
 use Rattle.listing.specs.ContentReading.{content_reads_as}
-use Rattle.listing.specs.ContentTold.{AnswersContent}
 use Rattle.source_end.specs.Content.{Frame}
 use Rattle.source_end.specs.Raster.{raster_of}
 use Rattle.source_end.specs.RasterRefusals.{raster_fault, AnswersRasterFault}
@@ -45,13 +44,13 @@ use Rattle.hdmi_cli.specs.declared.ending.Ending.TheVariants.{Done, Faulty, Usag
 
 -- `make link`
 
-pub bad_listing : (reading : Reading) (r : Result (List Period) ListError) (e : ListError) (f : ListFault) → AnswersReading reading r → r ≡ Err e → e ≡ BadListing f → reading ≡ refused f.line f.cause
+pub bad_listing : {T : Type 0} (reading : Read T) (r : Result T ListError) (e : ListError) (f : ListFault) → AnswersReading reading r → r ≡ Err e → e ≡ BadListing f → reading ≡ refuses f.line f.cause
 bad_listing reading r e f answers is bad = subst (λ x. AnswersReading reading x) (is ∙ ap Err bad) answers
 
 same_held : (old new : Option (List ℕ)) → new ≡ old → Appends old new []
 same_held old new kept = subst (λ h. Appends old h []) (sym kept) (Appends-nil old)
 
-pub listing_refused : (words : TapWords) (fault : ListFault) (before after : Devices) (text : List ℕ) → reads_as text ≡ refused fault.line fault.cause → after.held ≡ before.held
+pub listing_refused : (words : TapWords) (fault : ListFault) (before after : Devices) (text : List ℕ) → reads_as text ≡ refuses fault.line fault.cause → after.held ≡ before.held
     → IsAnswered (MakeLink words) (Listing fault) before after text
 listing_refused words fault before after text read kept = record {
   outcome = record { status = 3; output = []; note = listing_note fault.line fault.cause };
@@ -97,7 +96,7 @@ stream_ends command tap ps (Place i) before after makes unwritten end is = absur
 stream_ends command tap ps ReadFailed before after makes unwritten end is = absurd is
 stream_ends command tap ps Unaligned before after makes unwritten end is = absurd is
 
-pub makes_link : (words : TapWords) (ps : List Period) (text : List ℕ) (o : Outcome) → reads_as text ≡ accepted ps → MakesStream (tap_asked words) ps o → Does (MakeLink words) text o
+pub makes_link : (words : TapWords) (ps : List Period) (text : List ℕ) (o : Outcome) → reads_as text ≡ accepts ps → MakesStream (tap_asked words) ps o → Does (MakeLink words) text o
 makes_link words ps text o read made = subst (λ r. MakesLink (tap_asked words) r o) (sym read) made
 
 -- a stream that was spelled into columns
@@ -119,11 +118,8 @@ cut_of tap ps taken gone old new spelled missing written = record {
 
 -- `make content`
 
-pub bad_content : (reading : Read (Mode × List Frame)) (r : Result (Mode × List Frame) ListError) (e : ListError) (f : ListFault) → AnswersContent reading r → r ≡ Err e → e ≡ BadListing f → reading ≡ refuses f.line f.cause
-bad_content reading r e f answers is bad = subst (λ x. AnswersContent reading x) (is ∙ ap Err bad) answers
-
-pub read_contents : (reading : Read (Mode × List Frame)) (r : Result (Mode × List Frame) ListError) (content : Mode × List Frame) → AnswersContent reading r → r ≡ Ok content → reading ≡ accepts content
-read_contents reading r content answers is = subst (λ x. AnswersContent reading x) is answers
+pub read_contents : (reading : Read (Mode × List Frame)) (r : Result (Mode × List Frame) ListError) (content : Mode × List Frame) → AnswersReading reading r → r ≡ Ok content → reading ≡ accepts content
+read_contents reading r content answers is = subst (λ x. AnswersReading reading x) is answers
 
 pub content_refused : (words : TapWords) (fault : ListFault) (before after : Devices) (text : List ℕ) → content_reads_as text ≡ refuses fault.line fault.cause → after.held ≡ before.held
     → IsAnswered (MakeContent words) (Listing fault) before after text

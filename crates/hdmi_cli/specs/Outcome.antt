@@ -18,7 +18,7 @@ use Rattle.capture_file.specs.Taps.{tapped_capture}
 use Rattle.period_grammar.specs.Things.{Thing}
 use Rattle.link_sink.specs.Alignment.{IsAlignedTold, IsNowhereTold}
 use Rattle.link_sink.specs.Sinks.{Fed, IsToldSoFar}
-use Rattle.listing.specs.Reading.{Reading, accepted, refused, reads_as}
+use Rattle.listing.specs.Reading.{reads_as}
 use Rattle.listing.specs.LineSteps.{Read, accepts, refuses}
 use Rattle.listing.specs.ContentReading.{content_reads_as}
 use Rattle.hdmi_cli.specs.Blocks.{AreBefore}
@@ -39,9 +39,9 @@ MakesStream tap periods outcome =
     (columns : List Column) × Spells periods columns × (outcome ≡ record { status = 0; output = tapped_capture columns tap; note = [] })
 
 -- a listing is made into a capture, or is refused by its first wrong line
-abbrev pub MakesLink : Tap → Reading → Outcome → Type 0
-MakesLink tap (accepted periods) outcome = MakesStream tap periods outcome
-MakesLink tap (refused line cause) outcome = outcome ≡ record { status = 3; output = []; note = listing_note line cause }
+abbrev pub MakesLink : Tap → Read (List Period) → Outcome → Type 0
+MakesLink tap (accepts periods) outcome = MakesStream tap periods outcome
+MakesLink tap (refuses line cause) outcome = outcome ≡ record { status = 3; output = []; note = listing_note line cause }
 
 -- a content is made into the capture of its raster, or is refused by the first fault that the raster has, or by its first
 -- wrong line

@@ -1,36 +1,37 @@
 -- What the reader does at each line that is written.
-use Rattle.std.proofs.Common.{◌≡◌, ℕ, ◌+◌, ◌≤◌, true, List, [], ◌∷◌, ◌++◌, length, refl, ap, sym, subst, ◌∙◌}
+use Rattle.std.proofs.Common.{◌≡◌, ℕ, ◌+◌, ◌≤◌, Bool, true, List, [], ◌∷◌, ◌++◌, length, refl, ap, ap₂, ◌∙◌}
 use Rattle.std.specs.Prelude.{None}
-use Rattle.std.proofs.lemmas.Bool.{le-leb}
+use Rattle.island_pack.specs.Periods.{Period}
 use Rattle.listing.specs.Causes.{line_cause}
 use Rattle.listing.specs.Drafts.{Draft}
 use Rattle.listing.specs.Forms.{LineForm, end_line, form_of}
 use Rattle.listing.specs.Held.{is_feedless}
 use Rattle.listing.specs.Lines.{pieces_of}
-use Rattle.listing.specs.Reading.{accepted, goes_on, step_by, step_at, cause_at, read_on, read_from}
+use Rattle.listing.specs.LineSteps.{accepts, LineStep, tells, closes, within_text, steps_on, read_lines}
+use Rattle.listing.specs.Reading.{link_step_by, link_step}
+use Rattle.listing.proofs.LineReads.{fits, by_line}
 use Rattle.listing.proofs.Pieces.{pieces_line, pieces_some}
 
 -- a line with no cause
-step_told : (draft : Draft) (upto : ℕ) (line : List ℕ) (form : LineForm) → form_of line ≡ form → line_cause draft form ≡ None → upto ≤ 4294967295 → step_at draft upto line ≡ step_by None form draft
-unfolding step_at cause_at
-step_told draft upto line form seen none short = rw (seen, none, le-leb upto 4294967295 short) refl
+step_told : (draft : Draft) (line : List ℕ) (form : LineForm) → form_of line ≡ form → line_cause draft form ≡ None → link_step draft line ≡ link_step_by None form draft
+unfolding link_step
+step_told draft line form seen none = rw (seen, none) refl
 
-read_line : (n at : ℕ) (draft : Draft) (line : List ℕ) (pieces : List (List ℕ)) (first : List ℕ) (more : List (List ℕ)) → pieces ≡ first ∷ more
-    → read_from n at draft (line ∷ pieces) ≡ read_on n draft pieces (λ told. read_from (n + 1) (at + length line + 1) told pieces) (step_at draft (at + length line + 1) line)
-unfolding read_from
-read_line n at draft line pieces first more e =
-    subst (λ (p : List (List ℕ)). read_from n at draft (line ∷ p) ≡ read_on n draft p (λ told. read_from (n + 1) (at + length line + 1) told p) (step_at draft (at + length line + 1) line)) (sym e) refl
+-- what a line does to the lines behind it, which are some
+does_step : (n at : ℕ) (draft : Draft) (line first : List ℕ) (more pieces : List (List ℕ)) (does : LineStep Draft (List Period)) → pieces ≡ first ∷ more → link_step draft line ≡ does → at + length line + 1 ≤ 4294967295
+    → read_lines link_step n at draft (line ∷ pieces) ≡ steps_on n pieces (λ told. read_lines link_step (n + 1) (at + length line + 1) told pieces) does
+does_step n at draft line first more pieces does some is short =
+    by_line link_step n at draft line first more pieces some
+    ∙ ap₂ (λ (fit : Bool) (d : LineStep Draft (List Period)). steps_on n pieces (λ told. read_lines link_step (n + 1) (at + length line + 1) told pieces) (within_text fit d)) (fits (at + length line + 1) short) is
 
 -- a line that goes on
 pub read_more : (n at : ℕ) (draft told : Draft) (line rest : List ℕ) (form : LineForm) → is_feedless line ≡ true → form_of line ≡ form → line_cause draft form ≡ None
-    → step_by None form draft ≡ goes_on told → at + length line + 1 ≤ 4294967295
-    → read_from n at draft (pieces_of (line ++ 10 ∷ rest)) ≡ read_from (n + 1) (at + length line + 1) told (pieces_of rest)
+    → link_step_by None form draft ≡ tells told → at + length line + 1 ≤ 4294967295
+    → read_lines link_step n at draft (pieces_of (line ++ 10 ∷ rest)) ≡ read_lines link_step (n + 1) (at + length line + 1) told (pieces_of rest)
 read_more n at draft told line rest form feedless seen none does short =
     let some = pieces_some rest in
-    ap (read_from n at draft) (pieces_line line rest feedless)
-    ∙ read_line n at draft line (pieces_of rest) some.0 some.1 some.2
-    ∙ ap (read_on n draft (pieces_of rest) (λ more. read_from (n + 1) (at + length line + 1) more (pieces_of rest)))
-    (step_told draft (at + length line + 1) line form seen none short ∙ does)
+    ap (read_lines link_step n at draft) (pieces_line line rest feedless)
+    ∙ does_step n at draft line some.0 some.1 (pieces_of rest) (tells told) some.2 (step_told draft line form seen none ∙ does) short
 
 end_pieces : pieces_of [] ≡ [] ∷ []
 unfolding pieces_of
@@ -38,9 +39,7 @@ end_pieces = refl
 
 -- the last line
 pub read_end : (n at : ℕ) (draft : Draft) (line : List ℕ) → is_feedless line ≡ true → form_of line ≡ end_line → line_cause draft end_line ≡ None
-    → at + length line + 1 ≤ 4294967295 → read_from n at draft (pieces_of (line ++ 10 ∷ [])) ≡ accepted draft.periods
+    → at + length line + 1 ≤ 4294967295 → read_lines link_step n at draft (pieces_of (line ++ 10 ∷ [])) ≡ accepts draft.periods
 read_end n at draft line feedless seen none short =
-    ap (read_from n at draft) (pieces_line line [] feedless ∙ ap (λ (more : List (List ℕ)). line ∷ more) end_pieces)
-    ∙ read_line n at draft line ([] ∷ []) [] [] refl
-    ∙ ap (read_on n draft ([] ∷ []) (λ more. read_from (n + 1) (at + length line + 1) more ([] ∷ [])))
-    (step_told draft (at + length line + 1) line end_line seen none short)
+    ap (read_lines link_step n at draft) (pieces_line line [] feedless ∙ ap (λ (more : List (List ℕ)). line ∷ more) end_pieces)
+    ∙ does_step n at draft line [] [] ([] ∷ []) (closes draft.periods) refl (step_told draft line end_line seen none) short

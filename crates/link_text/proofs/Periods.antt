@@ -14,7 +14,8 @@ use Rattle.source_end.proofs.Turns.{columns_of-more}
 use Rattle.listing.specs.Lines.{pieces_of}
 use Rattle.listing.specs.Forms.{control_line, video_line}
 use Rattle.listing.specs.Causes.{announces_island}
-use Rattle.listing.specs.Reading.{Reading, accepted, goes_on, read_from}
+use Rattle.listing.specs.LineSteps.{Read, accepts, tells, read_lines}
+use Rattle.listing.specs.Reading.{link_step}
 use Rattle.listing.specs.Told.{with_open}
 use Rattle.listing.proofs.Feeds.{and-left, and-right}
 use Rattle.listing.proofs.OpenPeriods.{last_of_more, run_more, columns_open}
@@ -41,29 +42,29 @@ run_count r runs = length-append (replicate r.count r.value) (values_of runs) �
 -- one run
 read_run : (n at : ℕ) (ps : List Period) (done : List ControlRun) (r : ControlRun) (rest : List ℕ) → is_control_last (last_period ps) ≡ false → is_run r ≡ true
     → columns_of ps + (length (values_of done) + r.count) ≤ 20000000 → at ≤ 14 * (columns_of ps + length (values_of done))
-    → read_from n at (told (with_open ps done)) (pieces_of (line_of (run_thing r.value r.count) ++ rest)) ≡ read_from (n + 1) (at + length (run_body r) + 1) (told (with_open ps (done ++ r ∷ []))) (pieces_of rest)
+    → read_lines link_step n at (told (with_open ps done)) (pieces_of (line_of (run_thing r.value r.count) ++ rest)) ≡ read_lines link_step (n + 1) (at + length (run_body r) + 1) (told (with_open ps (done ++ r ∷ []))) (pieces_of rest)
 read_run n at ps done r rest turn run few before =
     let below : r.value < 64 = below-from r.value 64 (and-left (nat_lt r.value 64) (nat_le 1 r.count) run) in
     let some : 1 ≤ r.count = least 1 r.count (and-right (nat_lt r.value 64) (nat_le 1 r.count) run) in
     let small : r.count ≤ 20000000 = omega arith in
     let open_columns = columns_open ps done in
     let short = run_body_short r small in
-    ap (λ (text : List ℕ). read_from n at (told (with_open ps done)) (pieces_of text)) (line_is (run_thing r.value r.count) (run_body r) rest (run_words r))
+    ap (λ (text : List ℕ). read_lines link_step n at (told (with_open ps done)) (pieces_of text)) (line_is (run_thing r.value r.count) (run_body r) rest (run_words r))
     ∙ read_more n at (told (with_open ps done)) (told (with_open ps (done ++ r ∷ []))) (run_body r) rest (control_line r.value r.count) (run_feedless r small) (run_form r below small)
     (run_cause_none (told (with_open ps done)) r.value r.count below some small refl (omega arith))
-    (ap (λ (qs : List Period). goes_on (told qs)) (run_more ps done r turn))
+    (ap (λ (qs : List Period). tells (told qs)) (run_more ps done r turn))
     (omega arith)
 
 -- all runs: `goal` is what the text behind them reads as
-read_runs : (ps : List Period) (done runs all : List ControlRun) (n at : ℕ) (rest : List ℕ) (goal : Reading) → is_control_last (last_period ps) ≡ false → list_all is_run runs ≡ true
+read_runs : (ps : List Period) (done runs all : List ControlRun) (n at : ℕ) (rest : List ℕ) (goal : Read (List Period)) → is_control_last (last_period ps) ≡ false → list_all is_run runs ≡ true
     → done ++ runs ≡ all → columns_of ps + (length (values_of done) + length (values_of runs)) ≤ 20000000 → at ≤ 14 * (columns_of ps + length (values_of done))
-    → ((m to : ℕ) → to ≤ 14 * (columns_of ps + length (values_of all)) → read_from m to (told (with_open ps all)) (pieces_of rest) ≡ goal)
-    → read_from n at (told (with_open ps done)) (pieces_of (run_lines runs ++ rest)) ≡ goal
+    → ((m to : ℕ) → to ≤ 14 * (columns_of ps + length (values_of all)) → read_lines link_step m to (told (with_open ps all)) (pieces_of rest) ≡ goal)
+    → read_lines link_step n at (told (with_open ps done)) (pieces_of (run_lines runs ++ rest)) ≡ goal
 unfolding run_lines
 read_runs ps done [] all n at rest goal turn every is few before behind =
     let same : done ≡ all = sym (append-nil done) ∙ is in
     let to : at ≤ 14 * (columns_of ps + length (values_of all)) = subst (λ (rs : List ControlRun). at ≤ 14 * (columns_of ps + length (values_of rs))) same before in
-    ap (λ (rs : List ControlRun). read_from n at (told (with_open ps rs)) (pieces_of rest)) same ∙ behind n at to
+    ap (λ (rs : List ControlRun). read_lines link_step n at (told (with_open ps rs)) (pieces_of rest)) same ∙ behind n at to
 read_runs ps done (r ∷ runs) all n at rest goal turn every is few before behind =
     let run : is_run r ≡ true = and-left (is_run r) (list_all is_run runs) every in
     let later : list_all is_run runs ≡ true = and-right (is_run r) (list_all is_run runs) every in
@@ -71,7 +72,7 @@ read_runs ps done (r ∷ runs) all n at rest goal turn every is few before behin
     let counted = run_count r runs in
     let more = length-values_of-more done r in
     let short = run_body_short r (omega arith) in
-    ap (λ (text : List ℕ). read_from n at (told (with_open ps done)) (pieces_of text)) (append_assoc (line_of (run_thing r.value r.count)) (run_lines runs) rest)
+    ap (λ (text : List ℕ). read_lines link_step n at (told (with_open ps done)) (pieces_of text)) (append_assoc (line_of (run_thing r.value r.count)) (run_lines runs) rest)
     ∙ read_run n at ps done r (run_lines runs ++ rest) turn run (omega arith) before
     ∙ read_runs ps (done ++ r ∷ []) runs all (n + 1) (at + length (run_body r) + 1) rest goal turn later (append_assoc done (r ∷ []) runs ∙ is) (omega arith) (omega arith) behind
 
@@ -98,14 +99,14 @@ are_some [] period = cc (sym no_runs ∙ period)
 are_some (r ∷ runs) period = grind arith
 
 -- a control period, from its first line on
-read_control : (ps : List Period) (runs : List ControlRun) (n at : ℕ) (rest : List ℕ) (goal : Reading) → is_control_last (last_period ps) ≡ false → is_control_period runs ≡ true
+read_control : (ps : List Period) (runs : List ControlRun) (n at : ℕ) (rest : List ℕ) (goal : Read (List Period)) → is_control_last (last_period ps) ≡ false → is_control_period runs ≡ true
     → columns_of ps + length (values_of runs) ≤ 20000000 → at ≤ 14 * columns_of ps
-    → ((m to : ℕ) → to ≤ 14 * (columns_of ps + length (values_of runs)) → read_from m to (told (ps ++ control runs ∷ [])) (pieces_of rest) ≡ goal)
-    → read_from n at (told ps) (pieces_of (run_lines runs ++ rest)) ≡ goal
+    → ((m to : ℕ) → to ≤ 14 * (columns_of ps + length (values_of runs)) → read_lines link_step m to (told (ps ++ control runs ∷ [])) (pieces_of rest) ≡ goal)
+    → read_lines link_step n at (told ps) (pieces_of (run_lines runs ++ rest)) ≡ goal
 unfolding values_of
 read_control ps runs n at rest goal turn period few before behind =
     read_runs ps [] runs runs n at rest goal turn (all_runs runs period) refl (omega arith) (omega arith)
-    (λ m to within. ap (λ (qs : List Period). read_from m to (told qs) (pieces_of rest)) (some_runs ps runs period) ∙ behind m to within)
+    (λ m to within. ap (λ (qs : List Period). read_lines link_step m to (told qs) (pieces_of rest)) (some_runs ps runs period) ∙ behind m to within)
 
 -- the last period is this control period
 is_last : (ps : List Period) (runs : List ControlRun) → is_control_last (last_period (ps ++ control runs ∷ [])) ≡ true
@@ -116,7 +117,7 @@ is_long ps runs period = ap is_long_enough (last_of_more ps (control runs)) ∙ 
 
 -- the line `end`
 read_last : (n at : ℕ) (ps : List Period) (runs : List ControlRun) → is_control_period runs ≡ true → columns_of ps + length (values_of runs) ≤ 20000000
-    → at ≤ 14 * (columns_of ps + length (values_of runs)) → read_from n at (told (ps ++ control runs ∷ [])) (pieces_of (text_of [])) ≡ accepted (ps ++ control runs ∷ [])
+    → at ≤ 14 * (columns_of ps + length (values_of runs)) → read_lines link_step n at (told (ps ++ control runs ∷ [])) (pieces_of (text_of [])) ≡ accepts (ps ++ control runs ∷ [])
 unfolding text_of
 read_last n at ps runs period few before =
     read_end n at (told (ps ++ control runs ∷ [])) end_body refl end_form (end_cause_none (told (ps ++ control runs ∷ [])) (is_last ps runs) (is_long ps runs period)) (omega arith)
@@ -157,13 +158,13 @@ video_follows ps runs bytes period announced is few =
 -- a video data period's line
 read_video : (n at : ℕ) (ps : List Period) (runs : List ControlRun) (bytes rest : List ℕ) → is_control_period runs ≡ true → has_preamble VIDEO_PREAMBLE (values_of runs) ≡ true → IsVideo bytes
     → columns_of (ps ++ control runs ∷ []) + period_columns (video bytes) ≤ 20000000 → at ≤ 14 * columns_of (ps ++ control runs ∷ [])
-    → read_from n at (told (ps ++ control runs ∷ [])) (pieces_of (line_of (line_thing bytes) ++ rest))
-    ≡ read_from (n + 1) (at + length (video_body bytes) + 1) (told ((ps ++ control runs ∷ []) ++ video bytes ∷ [])) (pieces_of rest)
+    → read_lines link_step n at (told (ps ++ control runs ∷ [])) (pieces_of (line_of (line_thing bytes) ++ rest))
+    ≡ read_lines link_step (n + 1) (at + length (video_body bytes) + 1) (told ((ps ++ control runs ∷ []) ++ video bytes ∷ [])) (pieces_of rest)
 read_video n at ps runs bytes rest period announced is few before =
     let size = video_body_length bytes in
     let small = is.few in
     let far : at + length (video_body bytes) + 1 ≤ 4294967295 = omega arith in
-    ap (λ (text : List ℕ). read_from n at (told (ps ++ control runs ∷ [])) (pieces_of text)) (line_is (line_thing bytes) (video_body bytes) rest (video_words bytes))
+    ap (λ (text : List ℕ). read_lines link_step n at (told (ps ++ control runs ∷ [])) (pieces_of text)) (line_is (line_thing bytes) (video_body bytes) rest (video_words bytes))
     ∙ read_more n at (told (ps ++ control runs ∷ [])) (told ((ps ++ control runs ∷ []) ++ video bytes ∷ [])) (video_body bytes) rest (video_line bytes) (video_feedless bytes)
     (video_seen bytes is.values is.whole is.few)
     (video_cause_none (told (ps ++ control runs ∷ [])) bytes is.range refl (video_follows ps runs bytes period announced is few))
@@ -214,34 +215,34 @@ unfolding text_of
 island_text x rest = refl
 
 -- a control period and a video data period, where `goal` is what the text behind them reads as
-read_video_pair : (ps : List Period) (runs : List ControlRun) (bytes : List ℕ) (n at : ℕ) (rest : List Period) (goal : Reading) → is_control_last (last_period ps) ≡ false → is_control_period runs ≡ true
+read_video_pair : (ps : List Period) (runs : List ControlRun) (bytes : List ℕ) (n at : ℕ) (rest : List Period) (goal : Read (List Period)) → is_control_last (last_period ps) ≡ false → is_control_period runs ≡ true
     → has_preamble VIDEO_PREAMBLE (values_of runs) ≡ true → is_video_period bytes ≡ true → columns_of ps + (length (values_of runs) + (2 + length bytes / 3)) ≤ 20000000 → at ≤ 14 * columns_of ps
-    → ((m to : ℕ) → to ≤ 14 * (columns_of ps + (length (values_of runs) + (2 + length bytes / 3))) → read_from m to (told ((ps ++ control runs ∷ []) ++ video bytes ∷ [])) (pieces_of (text_of rest)) ≡ goal)
-    → read_from n at (told ps) (pieces_of (text_of (control runs ∷ (video bytes ∷ rest)))) ≡ goal
+    → ((m to : ℕ) → to ≤ 14 * (columns_of ps + (length (values_of runs) + (2 + length bytes / 3))) → read_lines link_step m to (told ((ps ++ control runs ∷ []) ++ video bytes ∷ [])) (pieces_of (text_of rest)) ≡ goal)
+    → read_lines link_step n at (told ps) (pieces_of (text_of (control runs ∷ (video bytes ∷ rest)))) ≡ goal
 read_video_pair ps runs bytes n at rest goal turn period announced good few before later =
     let is : IsVideo bytes = video_is bytes good in
     let whole = is.whole in
     let controls = control_columns ps runs in
     let here = video_is_columns bytes in
     let size = video_body_length bytes in
-    ap (λ (text : List ℕ). read_from n at (told ps) (pieces_of text)) (control_text runs (video bytes ∷ rest))
+    ap (λ (text : List ℕ). read_lines link_step n at (told ps) (pieces_of text)) (control_text runs (video bytes ∷ rest))
     ∙ read_control ps runs n at (text_of (video bytes ∷ rest)) goal turn period (omega arith) before
     (λ m to within.
-    ap (λ (text : List ℕ). read_from m to (told (ps ++ control runs ∷ [])) (pieces_of text)) (video_text bytes rest)
+    ap (λ (text : List ℕ). read_lines link_step m to (told (ps ++ control runs ∷ [])) (pieces_of text)) (video_text bytes rest)
     ∙ read_video m to ps runs bytes (text_of rest) period announced is (omega arith) (omega arith)
     ∙ later (m + 1) (to + length (video_body bytes) + 1) (omega arith))
 
 -- a control period and a data island
-read_island_pair : (ps : List Period) (runs : List ControlRun) (x : DataIsland) (n at : ℕ) (rest : List Period) (goal : Reading) → is_control_last (last_period ps) ≡ false → is_control_period runs ≡ true
+read_island_pair : (ps : List Period) (runs : List ControlRun) (x : DataIsland) (n at : ℕ) (rest : List Period) (goal : Read (List Period)) → is_control_last (last_period ps) ≡ false → is_control_period runs ≡ true
     → has_preamble ISLAND_PREAMBLE (values_of runs) ≡ true → is_data_island x ≡ true → columns_of ps + (length (values_of runs) + (4 + 32 * length x.packets)) ≤ 20000000 → at ≤ 14 * columns_of ps
-    → ((m to : ℕ) → to ≤ 14 * (columns_of ps + (length (values_of runs) + (4 + 32 * length x.packets))) → read_from m to (told ((ps ++ control runs ∷ []) ++ island x ∷ [])) (pieces_of (text_of rest)) ≡ goal)
-    → read_from n at (told ps) (pieces_of (text_of (control runs ∷ (island x ∷ rest)))) ≡ goal
+    → ((m to : ℕ) → to ≤ 14 * (columns_of ps + (length (values_of runs) + (4 + 32 * length x.packets))) → read_lines link_step m to (told ((ps ++ control runs ∷ []) ++ island x ∷ [])) (pieces_of (text_of rest)) ≡ goal)
+    → read_lines link_step n at (told ps) (pieces_of (text_of (control runs ∷ (island x ∷ rest)))) ≡ goal
 read_island_pair ps runs x n at rest goal turn period announced good few before later =
     let controls = control_columns ps runs in
-    ap (λ (text : List ℕ). read_from n at (told ps) (pieces_of text)) (control_text runs (island x ∷ rest))
+    ap (λ (text : List ℕ). read_lines link_step n at (told ps) (pieces_of text)) (control_text runs (island x ∷ rest))
     ∙ read_control ps runs n at (text_of (island x ∷ rest)) goal turn period (omega arith) before
     (λ m to within.
-    ap (λ (text : List ℕ). read_from m to (told (ps ++ control runs ∷ [])) (pieces_of text)) (island_text x rest)
+    ap (λ (text : List ℕ). read_lines link_step m to (told (ps ++ control runs ∷ [])) (pieces_of text)) (island_text x rest)
     ∙ read_island (ps ++ control runs ∷ []) x m to (text_of rest) goal good (is_last ps runs) (is_long ps runs period)
     (ap announces_island (last_of_more ps (control runs)) ∙ announced) (omega arith) (omega arith)
     (λ k end inside. later k end (omega arith)))
@@ -252,15 +253,15 @@ joined_pair ps p q rest = append_assoc (ps ++ p ∷ []) (q ∷ []) rest ∙ appe
 
 -- the text of the periods `rest` behind the periods `ps`
 pub read_periods : (rest ps : List Period) (n at : ℕ) → conforms rest ≡ true → is_control_last (last_period ps) ≡ false → columns_of ps + columns_of rest ≤ 20000000 → at ≤ 14 * columns_of ps
-    → read_from n at (told ps) (pieces_of (text_of rest)) ≡ accepted (ps ++ rest)
+    → read_lines link_step n at (told ps) (pieces_of (text_of rest)) ≡ accepts (ps ++ rest)
 unfolding conforms
 read_periods [] ps n at good turn few before = absurd cc
 read_periods (video bytes ∷ rest) ps n at good turn few before = absurd cc
 read_periods (island x ∷ rest) ps n at good turn few before = absurd cc
 read_periods (control runs ∷ []) ps n at good turn few before =
     let sum = first_columns runs [] in
-    ap (λ (text : List ℕ). read_from n at (told ps) (pieces_of text)) (control_text runs [])
-    ∙ read_control ps runs n at (text_of []) (accepted (ps ++ control runs ∷ [])) turn good (omega arith) before
+    ap (λ (text : List ℕ). read_lines link_step n at (told ps) (pieces_of text)) (control_text runs [])
+    ∙ read_control ps runs n at (text_of []) (accepts (ps ++ control runs ∷ [])) turn good (omega arith) before
     (λ m to within. read_last m to ps runs good (omega arith) within)
 read_periods (control runs ∷ (control more ∷ rest)) ps n at good turn few before = absurd cc
 read_periods (control runs ∷ (video bytes ∷ rest)) ps n at good turn few before =
@@ -276,10 +277,10 @@ read_periods (control runs ∷ (video bytes ∷ rest)) ps n at good turn few bef
     let next = next_columns bytes rest in
     let controls = control_columns ps runs in
     let videos = video_columns (ps ++ control runs ∷ []) bytes in
-    read_video_pair ps runs bytes n at rest (accepted (ps ++ control runs ∷ (video bytes ∷ rest))) turn period announced is (omega arith) before
+    read_video_pair ps runs bytes n at rest (accepts (ps ++ control runs ∷ (video bytes ∷ rest))) turn period announced is (omega arith) before
     (λ m to within.
     read_periods rest ((ps ++ control runs ∷ []) ++ video bytes ∷ []) m to later (ap is_control_last (last_of_more (ps ++ control runs ∷ []) (video bytes))) (omega arith) (omega arith)
-    ∙ ap accepted (joined_pair ps (control runs) (video bytes) rest))
+    ∙ ap accepts (joined_pair ps (control runs) (video bytes) rest))
 read_periods (control runs ∷ (island x ∷ rest)) ps n at good turn few before =
     let a = is_control_period runs in
     let b = has_preamble ISLAND_PREAMBLE (values_of runs) in
@@ -293,7 +294,7 @@ read_periods (control runs ∷ (island x ∷ rest)) ps n at good turn few before
     let next = next_island_columns x rest in
     let controls = control_columns ps runs in
     let islands = island_columns (ps ++ control runs ∷ []) x in
-    read_island_pair ps runs x n at rest (accepted (ps ++ control runs ∷ (island x ∷ rest))) turn period announced is (omega arith) before
+    read_island_pair ps runs x n at rest (accepts (ps ++ control runs ∷ (island x ∷ rest))) turn period announced is (omega arith) before
     (λ m to within.
     read_periods rest ((ps ++ control runs ∷ []) ++ island x ∷ []) m to later (ap is_control_last (last_of_more (ps ++ control runs ∷ []) (island x))) (omega arith) (omega arith)
-    ∙ ap accepted (joined_pair ps (control runs) (island x) rest))
+    ∙ ap accepts (joined_pair ps (control runs) (island x) rest))

@@ -7,7 +7,7 @@ use Rattle.source_end.specs.Content.{Frame, empty_frame, on_last}
 use Rattle.source_end.specs.declared.mode.Mode.{Mode}
 use Rattle.listing.specs.declared.fault.ListCause.{ListCause}
 use Rattle.listing.specs.declared.fault.ListCause.TheVariants.{Order}
-use Rattle.listing.specs.declared.reader.Refusal.{Refusal}
+use Rattle.listing.specs.declared.teller.Refusal.{Refusal}
 use Rattle.listing.specs.Causes.{unless}
 use Rattle.listing.specs.Told.{AnswersCause}
 use Rattle.listing.specs.ContentForms.{ContentLine, end_line}
@@ -81,7 +81,7 @@ some_begun change old begun new b n = some_changed change begun new (omega (arit
 
 -- ---- a content whose last frame ends, or has ended
 
-with_samples_rows : (samples : List Sample) (f : Frame) → (with_samples samples f).rows ≡ f.rows
+pub with_samples_rows : (samples : List Sample) (f : Frame) → (with_samples samples f).rows ≡ f.rows
 with_samples_rows [] f = refl
 with_samples_rows (s ∷ samples) f = refl
 

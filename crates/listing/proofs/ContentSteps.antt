@@ -1,119 +1,150 @@
--- What a line does to what the bytes ahead read as, where what a line does is a step.
-use Rattle.std.proofs.Common.{◌≡◌, ℕ, ◌+◌, ◌<◌, ◌≤◌, Bool, true, false, ◌==◌, List, [], ◌∷◌, ◌++◌, length, refl, ap, ap₂, sym, subst, ◌∙◌, arith, length-append}
-use Rattle.std.specs.Prelude.{Some, nat_le}
-use Rattle.std.proofs.lemmas.Bool.{le-leb, lt-leb}
+-- What a line of a content listing does.
+use Rattle.std.proofs.Common.{◌≡◌, ℕ, ◌+◌, ◌<◌, ◌≤◌, Bool, true, false, ◌==◌, if◌then◌else◌, List, [], ◌∷◌, ◌++◌, length, refl, ap, sym, subst, ◌∙◌, inl, inr, arith, length-append}
+use Rattle.std.specs.Prelude.{Option, Some, None, Result, Ok, Err, IsErrAnd, nat_lt}
+use Rattle.std.proofs.lemmas.Bool.{cases_lt, lt-ltb}
+use Rattle.audio_packets.specs.declared.sample.Sample.{Sample}
+use Rattle.source_end.specs.Content.{Frame}
+use Rattle.source_end.specs.declared.mode.Mode.{Mode}
 use Rattle.listing.specs.declared.fault.ListCause.{ListCause}
-use Rattle.listing.specs.declared.fault.ListCause.TheVariants.{After}
-use Rattle.listing.specs.declared.lines.Piece.{Piece}
-use Rattle.listing.specs.declared.lines.Piece.TheVariants.{Line, Last, Long as Long_piece}
-use Rattle.listing.specs.Lines.{before_pieces, pieces_of}
-use Rattle.listing.specs.LineSteps.{Read, accepts, refuses, LineStep, wrong, within_text, cut_short, ended_by, steps_on, read_lines}
-use Rattle.listing.specs.Held.{Held, IsEnded, IsRest, IsTooLong, IsNext}
-use Rattle.listing.proofs.Pieces.{pieces_some, pieces_ended, pieces_rest, pieces_too_long}
+use Rattle.listing.specs.declared.fault.ListCause.TheVariants.{Fault, Form}
+use Rattle.listing.specs.declared.teller.Refusal.{Refusal}
+use Rattle.listing.specs.declared.teller.Refusal.TheVariants.{Cause, NoMemory}
+use Rattle.listing.specs.declared.teller.Taken.{Taken}
+use Rattle.listing.specs.LineSteps.{LineStep, tells, closes, wrong}
+use Rattle.listing.specs.Forms.{is_fault}
+use Rattle.listing.specs.ContentForms.{ContentLine, mode_line, row_line, frame_line, packet_line, sample_line, end_line, fault_line, no_line, content_form_of, digits_line, numbers_line}
+use Rattle.listing.specs.ContentDrafts.{ContentDraft, settled, with_samples, with_sample, with_content, content_cause}
+use Rattle.listing.specs.ContentReading.{closed_content, content_step_by, content_step}
+use Rattle.listing.specs.ContentTold.{is_content_end, lines_told, pending}
+use Rattle.listing.specs.Told.{AnswersCause}
+use Rattle.listing.specs.Taken.{Takes}
+use Rattle.listing.proofs.ContentFrames.{pending_one, with_samples_rows}
+use Rattle.listing.proofs.LongForm.{fault_first}
+use Rattle.listing.proofs.Refused.{cause_found}
 
--- ---- the end of a text
+ends_form : (form : ContentLine) → is_content_end form ≡ true → form ≡ end_line
+ends_form (mode_line mode) h = cc h
+ends_form (row_line bytes) h = cc h
+ends_form (frame_line width height) h = cc h
+ends_form (packet_line packet) h = cc h
+ends_form (sample_line sample) h = cc h
+ends_form end_line h = refl
+ends_form fault_line h = cc h
+ends_form no_line h = cc h
 
-pub fits : (upto : ℕ) → upto ≤ 4294967295 → nat_le upto 4294967295 ≡ true
-fits upto h = le-leb upto 4294967295 h
+-- ---- a line that is refused
 
-pub fits_not : (upto : ℕ) → 4294967295 < upto → nat_le upto 4294967295 ≡ false
-fits_not upto h = lt-leb upto 4294967295 h
+pub step_wrong : (draft : ContentDraft) (line : List ℕ) (cause : ListCause) → content_cause draft (content_form_of line) ≡ Some cause → content_step draft line ≡ wrong cause
+unfolding content_step
+step_wrong draft line cause h = rw h refl
 
-module _ {D T : Type 0} (step : D → List ℕ → LineStep D T) where
-  -- what the bytes ahead read as, from line n on
-  abbrev pub reads : ℕ → ℕ → D → Held → List ℕ → Read T
-  reads n at told held left = read_lines step n at told (pieces_of (held.pending ++ left))
+stops : (T : Type 0) (draft : ContentDraft) (line : List ℕ) (refusal : Refusal) → AnswersCause {T = T} (content_cause draft (content_form_of line)) (Err refusal) → Takes (content_step draft line) (Err refusal)
+stops T draft line (Cause found) answers = step_wrong draft line found (cause_found T (content_cause draft (content_form_of line)) found answers)
+stops T draft line NoMemory answers = tt
 
-  by_line : (n at : ℕ) (told : D) (line first : List ℕ) (more pieces : List (List ℕ)) → pieces ≡ first ∷ more
-      → read_lines step n at told (line ∷ pieces) ≡ steps_on n pieces (λ now. read_lines step (n + 1) (at + length line + 1) now pieces) (within_text (nat_le (at + length line + 1) 4294967295) (step told line))
-  unfolding read_lines
-  by_line n at told line first more pieces e =
-      subst (λ (p : List (List ℕ)). read_lines step n at told (line ∷ p) ≡ steps_on n p (λ now. read_lines step (n + 1) (at + length line + 1) now p) (within_text (nat_le (at + length line + 1) 4294967295) (step told line)))
-      (sym e) refl
+pub takes_refused : (T : Type 0) (draft : ContentDraft) (line : List ℕ) (result : Result (Taken ContentDraft (Mode × List Frame)) Refusal) (refusal : Refusal) → AnswersCause {T = T} (content_cause draft (content_form_of line)) (Err refusal)
+    → IsErrAnd result (λ r. r ≡ refusal) → Takes (content_step draft line) result
+takes_refused T draft line (Ok taken) refusal answers is = absurd is
+takes_refused T draft line (Err found) refusal answers is = subst (λ (r : Refusal). Takes (content_step draft line) (Err r)) (sym is) (stops T draft line refusal answers)
 
-  by_last : (n at : ℕ) (told : D) (line : List ℕ) → read_lines step n at told (line ∷ []) ≡ cut_short n line (within_text (nat_le (at + length line) 4294967295) (step told line))
-  unfolding read_lines
-  by_last n at told line = refl
+-- ---- a line that is taken
 
-  -- a line that its line feed ends does a step
-  pub line_does : (n at upto : ℕ) (told : D) (left rest : List ℕ) (before now : Held) (fit : Bool) (does : LineStep D T) → IsEnded (Some left) (Some rest) before now → upto ≡ at + length now.line + 1
-      → nat_le upto 4294967295 ≡ fit → step told now.line ≡ does
-      → reads n at told before left ≡ steps_on n (pieces_of (now.pending ++ rest)) (λ more. read_lines step (n + 1) upto more (pieces_of (now.pending ++ rest))) (within_text fit does)
-  line_does n at upto told left rest before now fit does is size short same =
-      let pieces = pieces_of (now.pending ++ rest) in
-      let some = pieces_some (now.pending ++ rest) in
-      ap (read_lines step n at told) (pieces_ended left rest before now is) ∙ by_line n at told now.line some.0 some.1 pieces some.2
-      ∙ ap (λ (end : ℕ). steps_on n pieces (λ more. read_lines step (n + 1) end more pieces) (within_text (nat_le end 4294967295) (step told now.line))) (sym size)
-      ∙ ap₂ (λ (b : Bool) (d : LineStep D T). steps_on n pieces (λ more. read_lines step (n + 1) upto more pieces) (within_text b d)) short same
+tells_form : (draft : ContentDraft) (form : ContentLine) → content_cause draft form ≡ None → is_content_end form ≡ false → content_step_by None form draft ≡ tells (with_content form draft)
+tells_form draft (mode_line mode) none end = refl
+tells_form draft (row_line bytes) none end = refl
+tells_form draft (frame_line width height) none end = refl
+tells_form draft (packet_line packet) none end = refl
+tells_form draft (sample_line sample) none end = refl
+tells_form draft end_line none end = cc end
+tells_form draft fault_line none end = refl
+tells_form draft no_line none end = refl
 
-  -- the line that the input ends in
-  pub last_does : (n at : ℕ) (told : D) (left rest : List ℕ) (before now : Held) → IsRest (Some left) (Some rest) before now
-      → reads n at told before left ≡ cut_short n now.line (within_text (nat_le (at + length now.line) 4294967295) (step told now.line))
-  last_does n at told left rest before now is = ap (read_lines step n at told) (pieces_rest left rest before now is) ∙ by_last n at told now.line
+pub step_tells : (draft now : ContentDraft) (line : List ℕ) → content_cause draft (content_form_of line) ≡ None → is_content_end (content_form_of line) ≡ false → now ≡ with_content (content_form_of line) draft
+    → content_step draft line ≡ tells now
+unfolding content_step
+step_tells draft now line none end same =
+    ap (λ (cause : Option ListCause). content_step_by cause (content_form_of line) draft) none ∙ tells_form draft (content_form_of line) none end ∙ ap tells (sym same)
 
-  pub within_wrong : (fit : Bool) (cause : ListCause) → within_text {D = D} {T = T} fit (wrong cause) ≡ wrong cause
-  within_wrong true cause = refl
-  within_wrong false cause = refl
+pub step_closes : (draft now : ContentDraft) (mode : Mode) (frames : List Frame) (line : List ℕ) → content_cause draft (content_form_of line) ≡ None → is_content_end (content_form_of line) ≡ true
+    → now ≡ with_content (content_form_of line) draft → now.mode ≡ Some mode → frames ≡ now.frames → content_step draft line ≡ closes (mode, frames)
+unfolding content_step
+step_closes draft now mode frames line none end same has is =
+    let kept : now ≡ draft = same ∙ ap (λ (form : ContentLine). with_content form draft) (ends_form (content_form_of line) end) in
+    let answer : Mode → List Frame → LineStep ContentDraft (Mode × List Frame) = λ m fs. closes (m, fs) in
+    ap (λ (cause : Option ListCause). content_step_by cause (content_form_of line) draft) none
+    ∙ ap (λ (form : ContentLine). content_step_by None form draft) (ends_form (content_form_of line) end)
+    ∙ ap (closed_content draft) (sym (ap (λ (d : ContentDraft). d.mode) kept) ∙ has)
+    ∙ ap (answer mode) (sym (is ∙ ap (λ (d : ContentDraft). d.frames) kept))
 
-  pub cut_wrong : (n : ℕ) (line : List ℕ) (cause : ListCause) → 1 ≤ length line → cut_short {D = D} {T = T} n line (wrong cause) ≡ refuses n cause
-  cut_wrong n [] cause some = absurd (omega arith)
-  cut_wrong n (c ∷ line) cause some = refl
+-- ---- lines of no byte, and of too many
 
-  -- a line that is wrong whether a line feed ends it or not
-  pub wrong_line : (n at : ℕ) (told : D) (line : List ℕ) (pieces : List (List ℕ)) (cause : ListCause) → 1 ≤ length line → step told line ≡ wrong cause
-      → read_lines step n at told (line ∷ pieces) ≡ refuses n cause
-  wrong_line n at told line [] cause some is =
-      by_last n at told line ∙ ap (λ (d : LineStep D T). cut_short n line (within_text (nat_le (at + length line) 4294967295) d)) is
-      ∙ ap (cut_short n line) (within_wrong _ cause) ∙ cut_wrong n line cause some
-  wrong_line n at told line (first ∷ more) cause some is =
-      by_line n at told line first more (first ∷ more) refl
-      ∙ ap (λ (d : LineStep D T). steps_on n (first ∷ more) (λ now. read_lines step (n + 1) (at + length line + 1) now (first ∷ more)) (within_text (nat_le (at + length line + 1) 4294967295) d)) is
-      ∙ ap (steps_on n (first ∷ more) (λ now. read_lines step (n + 1) (at + length line + 1) now (first ∷ more))) (within_wrong _ cause)
+none_wrong : (draft : ContentDraft) → content_cause draft no_line ≡ Some Form
+unfolding content_cause
+none_wrong draft = refl
 
-  -- too long a line that is wrong
-  pub long_does : (n at : ℕ) (told : D) (left rest : List ℕ) (before now : Held) (cause : ListCause) → IsTooLong (Some left) (Some rest) before now
-      → ((more : List ℕ) → step told (now.line ++ more) ≡ wrong cause) → reads n at told before left ≡ refuses n cause
-  long_does n at told left rest before now cause is found =
-      let some = pieces_some (now.pending ++ rest) in
-      let within : 1 ≤ length (now.line ++ some.0) = omega (arith, is.long, length-append now.line some.0) in
-      ap (read_lines step n at told) (pieces_too_long left rest some.0 some.1 before now is some.2) ∙ wrong_line n at told (now.line ++ some.0) some.1 cause within (found some.0)
+fault_wrong : (draft : ContentDraft) → content_cause draft fault_line ≡ Some Fault
+unfolding content_cause
+fault_wrong draft = refl
 
--- ---- what follows the line `end`
+empty_form : content_form_of [] ≡ no_line
+unfolding content_form_of is_fault digits_line numbers_line
+empty_form = refl
 
-module _ {T : Type 0} (n : ℕ) (told : T) where
-  after_some : (line : List ℕ) (more : List (List ℕ)) → 1 ≤ length line → ended_by n told (line ∷ more) ≡ refuses n After
-  after_some [] more some = absurd (omega arith)
-  after_some (c ∷ line) [] some = refl
-  after_some (c ∷ line) (next ∷ more) some = refl
+pub taken_some : (draft : ContentDraft) (line : List ℕ) → content_cause draft (content_form_of line) ≡ None → 1 ≤ length line
+taken_some draft [] h = cc (h, none_wrong draft, ap (content_cause draft) empty_form)
+taken_some draft (c ∷ line) h = omega arith
 
-  after_more : (line next : List ℕ) (more : List (List ℕ)) → ended_by n told (line ∷ (next ∷ more)) ≡ refuses n After
-  after_more [] next more = refl
-  after_more (c ∷ line) next more = refl
+long_form : (line : List ℕ) → 32768 < length line → content_form_of line ≡ (if is_fault line then fault_line else no_line)
+unfolding content_form_of
+long_form line long = let e : nat_lt 32768 (length line) ≡ true = lt-ltb 32768 (length line) long in rw e refl
 
-  -- nothing follows
-  pub nothing_after : (left rest : List ℕ) (before now : Held) → IsRest (Some left) (Some rest) before now → now.line ≡ [] → ended_by n told (pieces_of (before.pending ++ left)) ≡ accepts told
-  nothing_after left rest before now is empty = ap (ended_by n told) (pieces_rest left rest before now is ∙ ap (λ (l : List ℕ). l ∷ []) empty)
+pub taken_short : (draft : ContentDraft) (line : List ℕ) → content_cause draft (content_form_of line) ≡ None → length line ≤ 32768
+taken_short draft line h =
+    elim (cases_lt 32768 (length line)) [
+      | inl long ↦ absurd (refuses (is_fault line) (long_form line long))
+      | inr short ↦ short
+    ]
+  where
+    refuses : (b : Bool) → content_form_of line ≡ (if b then fault_line else no_line) → ⊥
+    refuses true e = cc (h, fault_wrong draft, ap (content_cause draft) e)
+    refuses false e = cc (h, none_wrong draft, ap (content_cause draft) e)
 
-  -- something follows
-  pub something_after : (left rest : List ℕ) (before now : Held) (piece : Piece) → IsNext (Some left) (Some rest) before now piece → (piece ≡ Last → 1 ≤ length now.line)
-      → ended_by n told (pieces_of (before.pending ++ left)) ≡ refuses n After
-  something_after left rest before now Line is some =
-      let ahead = pieces_some (now.pending ++ rest) in
-      ap (ended_by n told) (pieces_ended left rest before now is ∙ ap (λ (p : List (List ℕ)). now.line ∷ p) ahead.2) ∙ after_more now.line ahead.0 ahead.1
-  something_after left rest before now Last is some = ap (ended_by n told) (pieces_rest left rest before now is) ∙ after_some now.line [] (some refl)
-  something_after left rest before now Long_piece is some =
-      let ahead = pieces_some (now.pending ++ rest) in
-      let within : 1 ≤ length (now.line ++ ahead.0) = omega (arith, length-append now.line ahead.0, is.long) in
-      ap (ended_by n told) (pieces_too_long left rest ahead.0 ahead.1 before now is ahead.2) ∙ after_some (now.line ++ ahead.0) ahead.1 within
+pub step_long : (draft : ContentDraft) (line : List ℕ) → 32768 < length line → (more : List ℕ) → content_step draft (line ++ more) ≡ content_step draft line
+unfolding content_step
+step_long draft line long more =
+    let same : content_form_of (line ++ more) ≡ content_form_of line =
+    long_form (line ++ more) (omega (arith, length-append line more))
+    ∙ ap (λ (b : Bool). if b then fault_line else no_line) (fault_first line more (omega arith)) ∙ sym (long_form line long) in
+    ap (λ (form : ContentLine). content_step_by (content_cause draft form) form draft) same
 
-  by_mark : (mark : Bool) (c : ℕ) (piece : List ℕ) (pieces : List (List ℕ)) → ended_by n told (before_pieces mark c (piece ∷ pieces)) ≡ refuses n After
-  by_mark true c piece pieces = refl
-  by_mark false c piece pieces = refl
+-- ---- how many lines told it
 
-  -- a byte that was read and not yet given follows
-  pub pending_after : (pending left : List ℕ) → 1 ≤ length pending → ended_by n told (pieces_of (pending ++ left)) ≡ refuses n After
-  unfolding pieces_of
-  pending_after [] left some = absurd (omega arith)
-  pending_after (c ∷ cs) left some =
-      let ahead = pieces_some (cs ++ left) in
-      ap (λ (p : List (List ℕ)). ended_by n told (before_pieces (c == 10) c p)) ahead.2 ∙ by_mark (c == 10) c ahead.0 ahead.1
+samples_count : (samples : List Sample) (f : Frame) → length (with_samples samples f).packets ≡ length f.packets + pending samples
+samples_count [] f = omega arith
+samples_count (s ∷ samples) f = length-append f.packets _
+
+-- the samples make a packet, which counts as much
+pub settled_lines : (draft : ContentDraft) → lines_told (settled draft) ≡ lines_told draft
+settled_lines draft = omega (arith, samples_count draft.samples draft.current, ap length (with_samples_rows draft.samples draft.current))
+
+if_settled : (b : Bool) (more : ContentDraft) → lines_told (if b then settled more else more) ≡ lines_told more
+if_settled true more = settled_lines more
+if_settled false more = refl
+
+sample_lines : (s : Sample) (draft : ContentDraft) → lines_told (with_sample s draft) ≤ lines_told draft + 1
+sample_lines s draft =
+    let more : ContentDraft = record draft { samples = draft.samples ++ s ∷ [] } in
+    omega (arith, if_settled (length (draft.samples ++ s ∷ []) == 4) more, pending_one draft.samples s)
+
+-- a line tells one thing more at most
+pub more_lines : (form : ContentLine) (draft : ContentDraft) → lines_told (with_content form draft) ≤ lines_told draft + 1
+more_lines (mode_line mode) draft = omega arith
+more_lines (row_line bytes) draft = omega (arith, settled_lines draft, length-append (settled draft).current.rows (bytes ∷ []))
+more_lines (frame_line width height) draft = omega (arith, length-append draft.frames ((settled draft).current ∷ []))
+more_lines (packet_line (Some packet)) draft = omega (arith, settled_lines draft, length-append (settled draft).current.packets (packet ∷ []))
+more_lines (packet_line None) draft = omega arith
+more_lines (sample_line (Some s)) draft = sample_lines s draft
+more_lines (sample_line None) draft = omega arith
+more_lines end_line draft = omega arith
+more_lines fault_line draft = omega arith
+more_lines no_line draft = omega arith

@@ -1,9 +1,9 @@
 -- The bytes of hexadecimal digits, from the digits' values.
-use Rattle.std.proofs.Common.{◌≡◌, ℕ, suc, zero, ◌+◌, ◌*◌, ◌/◌, ◌%◌, ◌<◌, Bool, true, false, List, [], ◌∷◌, length, get_or, set, refl, ap, ap₂, ◌∙◌, sym, arith, ◌==◌, ◌&&◌, bit_and, eqb-true, inl, inr}
+use Rattle.std.proofs.Common.{◌≡◌, ℕ, suc, ◌+◌, ◌*◌, ◌<◌, true, false, List, [], ◌∷◌, length, get_or, set, refl, ap, ap₂, ◌∙◌, sym, arith, ◌&&◌, inl, inr}
 use Rattle.std.specs.Prelude.{Option, Some, None, is_some, Result, Ok, Err, IsErr}
 use Rattle.std.specs.List.{list_all}
 use Rattle.tmds_word.proofs.Below.{and-left, and-right}
-use Rattle.hex.specs.Hex.{hex_digit_value, is_hex_digit, decode_pairs, decode_of, pair_value, value_at, digit_or_error, ◌>>=◌}
+use Rattle.hex.specs.Hex.{hex_digit_value, is_hex_digit, decode_pairs, decode_of, pair_value, ◌>>=◌}
 use Rattle.hex.specs.declared.error.FromHexError.{FromHexError}
 use Rattle.hex.proofs.HexLemmas.{decode_of-even, decode_of-ok}
 use Rattle.std.proofs.lemmas.Bool.{cases_lt}

@@ -6,7 +6,6 @@ pub mod ContentHearing
 pub mod ContentKinds
 pub mod ContentNotes
 pub mod ContentWritten
-pub mod ContentAnswers
 pub mod ContentFrames
 pub mod ContentLines
 pub mod ContentSteps
@@ -14,6 +13,9 @@ pub mod InfoWritten
 pub mod Feeds
 pub mod Given
 pub mod Islands
+pub mod Leaving
+pub mod LineReads
+pub mod LinkSteps
 pub mod LongForm
 pub mod Numbers
 pub mod OneLine
@@ -23,6 +25,5 @@ pub mod Parts
 pub mod Pieces
 pub mod Refused
 pub mod ShortLines
-pub mod Steps
 pub mod ToldSizes
 pub mod HexPairs

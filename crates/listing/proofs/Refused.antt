@@ -12,8 +12,8 @@ use Rattle.source_end.specs.Refusals.{last_period, is_control_last, is_long_enou
 use Rattle.source_end.proofs.Faults.{first, last_first, push_fault_is}
 use Rattle.listing.specs.declared.fault.ListCause.{ListCause}
 use Rattle.listing.specs.declared.fault.ListCause.TheVariants.{Form, Range, Order, Control, Preamble, Long}
-use Rattle.listing.specs.declared.reader.Refusal.{Refusal}
-use Rattle.listing.specs.declared.reader.Refusal.TheVariants.{Cause, NoMemory}
+use Rattle.listing.specs.declared.teller.Refusal.{Refusal}
+use Rattle.listing.specs.declared.teller.Refusal.TheVariants.{Cause, NoMemory}
 use Rattle.listing.specs.Causes.{run_cause, video_cause, island_cause, packet_cause, close_cause, end_cause, line_cause, caused, cause_of, unless, is_closed, has_room}
 use Rattle.listing.specs.Drafts.{Draft}
 use Rattle.listing.specs.Forms.{LineForm, control_line, video_line, video_by, island_line, packet_line, close_line, end_line, no_line}
@@ -84,6 +84,14 @@ pub end_well : (draft : Draft) → (is_closed draft.opened && is_control_last (l
 end_well draft turn long = end_is draft ∙ chosen_long _ _ None _ turn (ap (end_chosen true true) long)
 
 -- What the answer is.
+
+pub cause_found : (T : Type 0) (cause : Option ListCause) (found : ListCause) → AnswersCause {T = T} cause (Err (Cause found)) → cause ≡ Some found
+cause_found T None found h = absurd h
+cause_found T (Some cause) found h = ap Some (sym h)
+
+pub cause_none : {T : Type 0} (cause : Option ListCause) (done : T) → AnswersCause {T = T} cause (Ok done) → cause ≡ None
+cause_none None done h = refl
+cause_none (Some cause) done h = absurd h
 
 pub answers_cause : (T : Type 0) (seen : Option ListCause) (cause : ListCause) → seen ≡ Some cause → AnswersCause {T = T} seen (Err (Cause cause))
 answers_cause T seen cause e = subst (λ (s : Option ListCause). AnswersCause {T = T} s (Err (Cause cause))) (sym e) refl

@@ -1,22 +1,10 @@
 -- What the reader of a content listing keeps of the lines that it has taken.
-use Rattle.std.specs.Prelude.{◌≡◌, ℕ, ◌+◌, ◌≤◌, Bool, true, false, List, [], ◌∷◌, ◌++◌, length, Option, Result, Ok, Err}
+use Rattle.std.specs.Prelude.{ℕ, ◌+◌, ◌≤◌, Bool, true, false, List, [], ◌∷◌, length, Option}
 use Rattle.audio_packets.specs.declared.sample.Sample.{Sample}
 use Rattle.source_end.specs.Content.{Frame, empty_frame}
 use Rattle.source_end.specs.declared.mode.Mode.{Mode}
-use Rattle.listing.specs.declared.fault.ListError.{ListError}
-use Rattle.listing.specs.declared.fault.ListError.TheVariants.{Bad, Read as read_failed, NoMemory}
-use Rattle.listing.specs.Lines.{pieces_of}
-use Rattle.listing.specs.LineSteps.{Read, accepts, refuses, read_lines}
 use Rattle.listing.specs.ContentForms.{ContentLine, mode_line, row_line, frame_line, packet_line, sample_line, end_line, fault_line, no_line}
 use Rattle.listing.specs.ContentDrafts.{ContentDraft}
-use Rattle.listing.specs.ContentReading.{content_step}
-use Rattle.listing.specs.Held.{Held}
-
--- what is told, how many bytes those lines have, and the number of the next line
-pub record ContentTold : Type 0 where
-  pub draft : ContentDraft
-  pub bytes : ℕ
-  pub line : ℕ
 
 -- all frames but the last, and the last
 unfoldable pub first_frames : List Frame → List Frame
@@ -46,6 +34,11 @@ abbrev pub pending : List Sample → ℕ
 pending [] = 0
 pending (s ∷ samples) = 1
 
+-- so many lines at least told this: one for each whole frame, and one for each row and each packet of the frame that is
+-- still told
+abbrev pub lines_told : ContentDraft → ℕ
+lines_told draft = length draft.frames + length draft.current.rows + length draft.current.packets + pending draft.samples
+
 -- a frame that is still told has a row or a packet
 abbrev pub IsOpened : Bool → List Frame → ℕ → ℕ → Type 0
 IsOpened true frames rows packets = (1 ≤ length frames) × (1 ≤ rows + packets)
@@ -60,14 +53,3 @@ is_content_end (packet_line packet) = false
 is_content_end (sample_line sample) = false
 is_content_end fault_line = false
 is_content_end no_line = false
-
--- what the bytes ahead read as
-abbrev pub content_reading_of : ContentTold → Held → List ℕ → Read (Mode × List Frame)
-content_reading_of told held left = read_lines content_step told.line told.bytes told.draft (pieces_of (held.pending ++ left))
-
--- how an answer of the reader fits what the text reads as: the content is that of the whole text, or the fault is the text's
-abbrev pub AnswersContent : Read (Mode × List Frame) → Result (Mode × List Frame) ListError → Type 0
-AnswersContent reading (Ok content) = reading ≡ accepts content
-AnswersContent reading (Err (Bad fault)) = reading ≡ refuses fault.line fault.cause
-AnswersContent reading (Err read_failed) = Unit {0}
-AnswersContent reading (Err NoMemory) = Unit {0}

@@ -7,6 +7,7 @@ pub mod Answers
 pub mod Held
 pub mod FormSeen
 pub mod Told
+pub mod Taken
 pub mod Leaves
 pub mod Texts
 pub mod Fields
@@ -26,4 +27,3 @@ pub mod ContentDrafts
 pub mod ContentReading
 pub mod ContentFormSeen
 pub mod ContentTold
-pub mod ContentLeaves

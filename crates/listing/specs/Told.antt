@@ -1,5 +1,5 @@
 -- What the reader of a listing keeps of the lines that it has taken.
-use Rattle.std.specs.Prelude.{◌≡◌, ℕ, ◌≤◌, Bool, true, false, List, [], ◌∷◌, ◌++◌, length, nat_le, Option, Some, None, Result, Ok, Err}
+use Rattle.std.specs.Prelude.{◌≡◌, ◌≤◌, Bool, true, false, List, [], ◌∷◌, ◌++◌, length, nat_le, Option, Some, None, Result, Ok, Err}
 use Rattle.std.specs.List.{list_all}
 use Rattle.island_pack.specs.Periods.{ControlRun, DataIsland, Period, control, values_of, has_preamble, ISLAND_PREAMBLE}
 use Rattle.island_pack.specs.Conforming.{is_sync_pair, is_packet}
@@ -7,21 +7,10 @@ use Rattle.source_end.specs.declared.items.ItemFault.{ItemFault}
 use Rattle.source_end.specs.declared.items.ItemFault.TheVariants.{Range as range_fault, Order as order_fault, Control as control_fault, Preamble as preamble_fault, Long as long_fault, NoMemory as no_memory}
 use Rattle.listing.specs.declared.fault.ListCause.{ListCause}
 use Rattle.listing.specs.declared.fault.ListCause.TheVariants.{Range, Order, Control, Preamble, Long}
-use Rattle.listing.specs.declared.fault.ListError.{ListError}
-use Rattle.listing.specs.declared.fault.ListError.TheVariants.{Bad, NoMemory as out_of_memory}
-use Rattle.listing.specs.declared.reader.Refusal.{Refusal}
-use Rattle.listing.specs.declared.reader.Refusal.TheVariants.{Cause, NoMemory}
-use Rattle.listing.specs.Lines.{pieces_of}
+use Rattle.listing.specs.declared.teller.Refusal.{Refusal}
+use Rattle.listing.specs.declared.teller.Refusal.TheVariants.{Cause, NoMemory}
 use Rattle.listing.specs.Forms.{LineForm, control_line, video_line, island_line, packet_line, close_line, end_line, fault_line, no_line}
 use Rattle.listing.specs.Drafts.{OpenIsland, Draft}
-use Rattle.listing.specs.Reading.{Reading, read_from}
-use Rattle.listing.specs.Held.{Held}
-
--- what is told, how many bytes those lines have, and the number of the next line
-pub record Told : Type 0 where
-  pub draft : Draft
-  pub bytes : ℕ
-  pub line : ℕ
 
 -- periods and the control period that is still being told
 abbrev pub with_open : List Period → List ControlRun → List Period
@@ -77,12 +66,3 @@ RefusesAs order_fault refusal = refusal ≡ Cause Order
 RefusesAs control_fault refusal = refusal ≡ Cause Control
 RefusesAs preamble_fault refusal = refusal ≡ Cause Preamble
 RefusesAs long_fault refusal = refusal ≡ Cause Long
-
--- the answer for a line that was refused
-abbrev pub RefusedAs : ℕ → Refusal → ListError → Type 0
-RefusedAs line (Cause cause) error = error ≡ Bad (record { line = line; cause = cause })
-RefusedAs line NoMemory error = error ≡ out_of_memory
-
--- what the bytes ahead read as
-abbrev pub reading_of : Told → Held → List ℕ → Reading
-reading_of told held left = read_from told.line told.bytes told.draft (pieces_of (held.pending ++ left))

@@ -6,13 +6,14 @@ ghost use Rattle.source_end.specs.Content.{with_packet, with_row};
 ghost use Rattle.listing.specs.ContentForms.{ContentLine, mode_line, row_by, row_line, frame_line, packet_line, sample_line, end_line};
 ghost use Rattle.listing.specs.ContentFormSeen.{IsContentForm, IsFit, SampleFits};
 ghost use Rattle.listing.specs.ContentDrafts.{content_cause, frame_cause, frame_fits, has_mode, has_room, has_sample_room, is_raster_mode, is_settled, row_cause, row_fits, settled, with_content, with_sample, with_samples};
-ghost use Rattle.listing.specs.ContentTold.{IsOpened, open_frame, whole_frames};
+ghost use Rattle.listing.specs.ContentTold.{IsOpened, is_content_end, lines_told, open_frame, whole_frames};
 ghost use Rattle.listing.specs.Told.{AnswersCause};
 
 use crate::ListCause;
 use crate::content_fields::blank_packet;
-use crate::content_form::ContentForm;
-use crate::reader::{Refusal, decode_row};
+use crate::content_form::{ContentForm, read_content_form};
+use crate::reader::decode_row;
+use crate::teller::{Refusal, Taken, Teller};
 use audio_packets::{Sample, write_samples};
 use island_pack::Packet;
 use outside_io::NoMemory;
@@ -41,24 +42,17 @@ pub(crate) struct ContentReader {
     packets: u64,
     /// Samples that still lack a packet, three at most.
     samples: Vec<Sample>,
-    /// How many bytes the lines taken have, line feeds included.
-    bytes: u64,
-    /// The number of the next line.
-    line: u64,
 }
 
 impl Model for ContentReader {
-    ghost use Rattle.std.specs.Prelude.{◌≡◌, ◌≤◌, ◌+◌, length, All};
+    ghost use Rattle.std.specs.Prelude.{◌≡◌, ◌≤◌, length, All};
     ghost use Rattle.audio_packets.specs.Samples.{IsSample};
-    ghost use Rattle.listing.specs.ContentTold.{ContentTold, content_drafted, open_frame, whole_frames, pending, IsOpened};
+    ghost use Rattle.listing.specs.ContentDrafts.{ContentDraft};
+    ghost use Rattle.listing.specs.ContentTold.{content_drafted, open_frame, IsOpened};
 
-    ghost Value = { ContentTold };
+    ghost Value = { ContentDraft };
 
-    ghost view = { λ r. record {
-      draft = content_drafted r.mode r.is_open r.content r.samples.items;
-      bytes = r.bytes;
-      line = r.line;
-    } };
+    ghost view = { λ r. content_drafted r.mode r.is_open r.content r.samples.items };
 
     ghost invariant = { λ r. record {
       rows : r.rows ≡ length (open_frame r.is_open r.content).rows;
@@ -66,18 +60,35 @@ impl Model for ContentReader {
       begun : IsOpened r.is_open r.content r.rows r.packets;
       few : length r.samples.items ≤ 3;
       fits : All IsSample r.samples.items;
-      frame_lines : length (whole_frames r.is_open r.content) + 1 ≤ r.line;
-      row_lines : r.rows + 1 ≤ r.line;
-      packet_lines : r.packets + pending r.samples.items + 1 ≤ r.line;
     } };
+}
+
+impl Teller for ContentReader {
+    ghost use Rattle.listing.specs.ContentReading.{content_step};
+
+    type Whole = (Mode, Content);
+
+    ghost step = { content_step };
+
+    ghost lines = { lines_told };
+
+    fn take(self, line: &[u8]) -> Result<Taken<ContentReader, (Mode, Content)>, Refusal> {
+        let form = read_content_form(line);
+        let is_end = is_end_form(form);
+        let reader = self.take_form(form)?;
+        if is_end {
+            Ok(Taken::End(reader.close()))
+        } else {
+            Ok(Taken::More(reader))
+        }
+    }
 }
 
 impl ContentReader {
     ghost use Rattle.listing.specs.ContentDrafts.{no_content};
-    ghost use Rattle.listing.specs.ContentTold.{ContentTold};
 
     pub(crate) fn new(alloc: Global) -> ContentReader
-        ensures { result ≡ record { draft = no_content; bytes = 0; line = 1 } }
+        ensures { result ≡ no_content }
     {
         ContentReader {
             alloc,
@@ -87,41 +98,17 @@ impl ContentReader {
             rows: 0,
             packets: 0,
             samples: Vec::new(alloc),
-            bytes: 0,
-            line: 1,
         }
-    }
-
-    /// How many bytes the lines taken have.
-    pub(crate) fn bytes(&self) -> u64
-        ensures { result ≡ self.now.bytes }
-    {
-        self.bytes
-    }
-
-    /// The number of the next line.
-    pub(crate) fn line(&self) -> u32
-        requires { self.now.line ≤ 4294967295 }
-        ensures { result ≡ self.now.line }
-    {
-        self.line as u32
-    }
-
-    /// Says after how many bytes of the text the last line that was taken ends.
-    pub(crate) fn pass(&mut self, upto: u64)
-        ensures { self.new ≡ record self.old { bytes = upto } }
-    {
-        self.bytes = upto;
     }
 
     /// Takes what a line of this form tells, or refuses the line with its first cause. The reader is
     /// dropped on a refusal.
-    pub(crate) fn take(self, form: ContentForm<'_>) -> Result<ContentReader, Refusal>
+    fn take_form(self, form: ContentForm<'_>) -> Result<ContentReader, Refusal>
         requires seen { (told : ContentLine) × IsContentForm form told }
         requires fits { IsFit form }
-        requires lines { self.line ≤ 4294967290 }
-        ensures cause { (told : ContentLine) → IsContentForm form.entry told → AnswersCause (content_cause self.draft told) result }
-        ensures ok { (told : ContentLine) → IsContentForm form.entry told → IfOk result (λ r. r ≡ record self { draft = with_content told self.draft; line = self.line + 1 }) }
+        requires few { lines_told self ≤ 4294967290 }
+        ensures cause { (told : ContentLine) → IsContentForm form.entry told → AnswersCause (content_cause self told) result }
+        ensures ok { (told : ContentLine) → IsContentForm form.entry told → IfOk result (λ r. r ≡ with_content told self) }
     {
         match form {
             ContentForm::Mode(mode) => self.mode(mode),
@@ -140,14 +127,14 @@ impl ContentReader {
 impl ContentReader {
     /// Whether the mode was told.
     fn has_mode(&self) -> bool
-        ensures { result ≡ has_mode self.now.draft }
+        ensures { result ≡ has_mode self.now }
     {
         self.mode.is_some()
     }
 
     /// Whether nothing of a frame was told.
     fn is_settled(&self) -> bool
-        ensures { result ≡ is_settled self.now.draft }
+        ensures { result ≡ is_settled self.now }
     {
         self.rows == 0 && (self.packets == 0 && self.samples.as_slice().is_empty())
     }
@@ -155,9 +142,8 @@ impl ContentReader {
     /// Takes the mode.
     #[tactic(auto, unfolding(crate::specs::ContentDrafts::content_cause))]
     fn mode(self, mode: Option<Mode>) -> Result<ContentReader, Refusal>
-        requires lines { self.line ≤ 4294967290 }
-        ensures cause { AnswersCause (content_cause self.draft (mode_line mode)) result }
-        ensures ok { IfOk result (λ r. r ≡ record self { draft = with_content (mode_line mode) self.draft; line = self.line + 1 }) }
+        ensures cause { AnswersCause (content_cause self (mode_line mode)) result }
+        ensures ok { IfOk result (λ r. r ≡ with_content (mode_line mode) self) }
     {
         let mut reader = self;
         let Some(mode) = mode else {
@@ -167,13 +153,12 @@ impl ContentReader {
             return Err(Refusal::Cause(ListCause::Order));
         }
         reader.mode = Some(mode);
-        reader.line += 1;
         Ok(reader)
     }
 
     /// The first cause for which a row of these bytes cannot come here.
     fn row_cause(&self, bytes: &[u8]) -> Option<ListCause>
-        ensures { result ≡ row_cause self.now.draft bytes.now }
+        ensures { result ≡ row_cause self.now bytes.now }
     {
         match &self.mode {
             Some(mode) if row_fits(mode, self.rows, bytes) => None,
@@ -186,9 +171,9 @@ impl ContentReader {
     #[tactic(auto, unfolding(crate::specs::ContentDrafts::content_cause))]
     fn row(self, digits: &[u8]) -> Result<ContentReader, Refusal>
         requires pixels { length digits.now % 6 ≡ 0 }
-        requires lines { self.line ≤ 4294967290 }
-        ensures cause { AnswersCause (content_cause self.draft (row_by true (decode_of digits.now))) result }
-        ensures ok { IfOk result (λ r. r ≡ record self { draft = with_content (row_by true (decode_of digits.now)) self.draft; line = self.line + 1 }) }
+        requires few { lines_told self ≤ 4294967290 }
+        ensures cause { AnswersCause (content_cause self (row_by true (decode_of digits.now))) result }
+        ensures ok { IfOk result (λ r. r ≡ with_content (row_by true (decode_of digits.now)) self) }
     {
         let bytes = decode_row(self.alloc, digits)?;
         if let Some(cause) = self.row_cause(bytes.as_slice()) {
@@ -198,13 +183,12 @@ impl ContentReader {
         push_row(&mut reader.content, reader.is_open, bytes.as_slice())?;
         reader.is_open = true;
         reader.rows += 1;
-        reader.line += 1;
         Ok(reader)
     }
 
     /// The first cause for which a frame of this size cannot end here.
     fn frame_cause(&self, width: u64, height: u64) -> Option<ListCause>
-        ensures { result ≡ frame_cause self.now.draft width height }
+        ensures { result ≡ frame_cause self.now width height }
     {
         match &self.mode {
             Some(_) if self.rows == 0 => Some(ListCause::Order),
@@ -217,9 +201,9 @@ impl ContentReader {
     /// Takes the end of a frame.
     #[tactic(auto, unfolding(crate::specs::ContentDrafts::content_cause))]
     fn frame(self, width: u64, height: u64) -> Result<ContentReader, Refusal>
-        requires lines { self.line ≤ 4294967290 }
-        ensures cause { AnswersCause (content_cause self.draft (frame_line width height)) result }
-        ensures ok { IfOk result (λ r. r ≡ record self { draft = with_content (frame_line width height) self.draft; line = self.line + 1 }) }
+        requires few { lines_told self ≤ 4294967290 }
+        ensures cause { AnswersCause (content_cause self (frame_line width height)) result }
+        ensures ok { IfOk result (λ r. r ≡ with_content (frame_line width height) self) }
     {
         if let Some(cause) = self.frame_cause(width, height) {
             return Err(Refusal::Cause(cause));
@@ -228,15 +212,14 @@ impl ContentReader {
         reader.is_open = false;
         reader.rows = 0;
         reader.packets = 0;
-        reader.line += 1;
         Ok(reader)
     }
 
     /// The first cause for which no packet can come here.
     fn packet_cause(&self) -> Option<ListCause>
-        ensures order { has_mode self.now.draft ≡ false → result ≡ Some ListCause.Order }
-        ensures long { has_mode self.now.draft ≡ true → has_room self.now.draft ≡ false → result ≡ Some ListCause.Long }
-        ensures none { has_mode self.now.draft ≡ true → has_room self.now.draft ≡ true → result ≡ None }
+        ensures order { has_mode self.now ≡ false → result ≡ Some ListCause.Order }
+        ensures long { has_mode self.now ≡ true → has_room self.now ≡ false → result ≡ Some ListCause.Long }
+        ensures none { has_mode self.now ≡ true → has_room self.now ≡ true → result ≡ None }
     {
         if !self.has_mode() {
             Some(ListCause::Order)
@@ -250,9 +233,9 @@ impl ContentReader {
     /// Takes a packet.
     #[tactic(auto, unfolding(crate::specs::ContentDrafts::content_cause))]
     fn packet(self, packet: Option<Packet>) -> Result<ContentReader, Refusal>
-        requires lines { self.line ≤ 4294967290 }
-        ensures cause { AnswersCause (content_cause self.draft (packet_line packet)) result }
-        ensures ok { IfOk result (λ r. r ≡ record self { draft = with_content (packet_line packet) self.draft; line = self.line + 1 }) }
+        requires few { lines_told self ≤ 4294967290 }
+        ensures cause { AnswersCause (content_cause self (packet_line packet)) result }
+        ensures ok { IfOk result (λ r. r ≡ with_content (packet_line packet) self) }
     {
         let Some(packet) = packet else {
             return Err(Refusal::Cause(ListCause::Range));
@@ -264,14 +247,13 @@ impl ContentReader {
         push_packet(&mut reader.content, reader.is_open, packet)?;
         reader.is_open = true;
         reader.packets += 1;
-        reader.line += 1;
         Ok(reader)
     }
 
     /// Makes a packet of the samples that still lack one, if there are any.
     fn settle(self) -> Result<ContentReader, NoMemory>
-        requires lines { self.line ≤ 4294967290 }
-        ensures { IfOk result (λ r. r ≡ record self { draft = settled self.draft }) }
+        requires few { lines_told self ≤ 4294967290 }
+        ensures { IfOk result (λ r. r ≡ settled self) }
     {
         let mut reader = self;
         if reader.samples.as_slice().is_empty() {
@@ -290,9 +272,9 @@ impl ContentReader {
 
     /// The first cause for which no sample can come here.
     fn sample_cause(&self) -> Option<ListCause>
-        ensures order { has_mode self.now.draft ≡ false → result ≡ Some ListCause.Order }
-        ensures long { has_mode self.now.draft ≡ true → has_sample_room self.now.draft ≡ false → result ≡ Some ListCause.Long }
-        ensures none { has_mode self.now.draft ≡ true → has_sample_room self.now.draft ≡ true → result ≡ None }
+        ensures order { has_mode self.now ≡ false → result ≡ Some ListCause.Order }
+        ensures long { has_mode self.now ≡ true → has_sample_room self.now ≡ false → result ≡ Some ListCause.Long }
+        ensures none { has_mode self.now ≡ true → has_sample_room self.now ≡ true → result ≡ None }
     {
         if !self.has_mode() {
             Some(ListCause::Order)
@@ -307,9 +289,9 @@ impl ContentReader {
     #[tactic(auto, unfolding(crate::specs::ContentDrafts::content_cause))]
     fn sample(self, sample: Option<Sample>) -> Result<ContentReader, Refusal>
         requires fits { SampleFits sample }
-        requires lines { self.line ≤ 4294967290 }
-        ensures cause { AnswersCause (content_cause self.draft (sample_line sample)) result }
-        ensures ok { IfOk result (λ r. r ≡ record self { draft = with_content (sample_line sample) self.draft; line = self.line + 1 }) }
+        requires few { lines_told self ≤ 4294967290 }
+        ensures cause { AnswersCause (content_cause self (sample_line sample)) result }
+        ensures ok { IfOk result (λ r. r ≡ with_content (sample_line sample) self) }
     {
         let Some(sample) = sample else {
             return Err(Refusal::Cause(ListCause::Range));
@@ -322,17 +304,16 @@ impl ContentReader {
             return reader.fourth(sample);
         }
         push_sample(&mut reader.samples, sample)?;
-        reader.line += 1;
         Ok(reader)
     }
 
     /// Takes the last sample of a packet.
     fn fourth(self, sample: Sample) -> Result<ContentReader, Refusal>
-        requires three { length self.draft.samples ≡ 3 }
+        requires three { length self.samples ≡ 3 }
         requires fits { IsSample sample }
-        requires lines { self.line ≤ 4294967290 }
+        requires few { lines_told self ≤ 4294967290 }
         ensures known { IfErr result (λ refusal. refusal ≡ Refusal.NoMemory) }
-        ensures ok { IfOk result (λ r. r ≡ record self { draft = with_sample sample self.draft; line = self.line + 1 }) }
+        ensures ok { IfOk result (λ r. r ≡ with_sample sample self) }
     {
         let mut reader = self;
         push_sample(&mut reader.samples, sample)?;
@@ -344,28 +325,25 @@ impl ContentReader {
         reader.samples.clear();
         reader.is_open = true;
         reader.packets += 1;
-        reader.line += 1;
         Ok(reader)
     }
 
     /// Takes the line `end`.
     #[tactic(auto, unfolding(crate::specs::ContentDrafts::content_cause))]
     fn end(self) -> Result<ContentReader, Refusal>
-        requires lines { self.line ≤ 4294967290 }
-        ensures cause { AnswersCause (content_cause self.draft end_line) result }
-        ensures ok { IfOk result (λ r. r ≡ record self { line = self.line + 1 }) }
+        ensures cause { AnswersCause (content_cause self end_line) result }
+        ensures ok { IfOk result (λ r. r ≡ self) }
     {
-        let mut reader = self;
-        if !reader.can_end() {
-            return Err(Refusal::Cause(ListCause::Order));
+        if self.can_end() {
+            Ok(self)
+        } else {
+            Err(Refusal::Cause(ListCause::Order))
         }
-        reader.line += 1;
-        Ok(reader)
     }
 
     /// Whether the listing can end here.
     fn can_end(&self) -> bool
-        ensures { result ≡ (has_mode self.now.draft && (nat_lt 0 (length self.now.draft.frames) && is_settled self.now.draft)) }
+        ensures { result ≡ (has_mode self.now && (nat_lt 0 (length self.now.frames) && is_settled self.now)) }
     {
         if !self.is_settled() {
             return false;
@@ -375,23 +353,30 @@ impl ContentReader {
 
     /// Whether a whole frame was told, where nothing is told behind it.
     fn has_frame(&self) -> bool
-        requires { is_settled self.now.draft ≡ true }
-        ensures { result ≡ nat_lt 0 (length self.now.draft.frames) }
+        requires { is_settled self.now ≡ true }
+        ensures { result ≡ nat_lt 0 (length self.now.frames) }
     {
         self.content.len() > 0
     }
 
     /// The mode and the content of all frames.
-    pub(crate) fn close(self) -> (Mode, Content)
-        requires { content_cause self.draft end_line ≡ None }
-        ensures mode { self.draft.mode ≡ Some result.0 }
-        ensures content { result.1 ≡ self.draft.frames }
+    fn close(self) -> (Mode, Content)
+        requires { content_cause self end_line ≡ None }
+        ensures mode { self.mode ≡ Some result.0 }
+        ensures content { result.1 ≡ self.frames }
     {
         match self.mode {
             Some(mode) => (mode, self.content),
             None => unreachable!(),
         }
     }
+}
+
+/// Whether the form is that of the line `end`.
+fn is_end_form(form: ContentForm<'_>) -> bool
+    ensures { (told : ContentLine) → IsContentForm form.entry told → result ≡ is_content_end told }
+{
+    matches!(form, ContentForm::End)
 }
 
 /// Appends a sample.

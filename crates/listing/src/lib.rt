@@ -10,7 +10,6 @@ mod content_lines;
 mod content_lister;
 mod content_packets;
 mod content_past;
-mod content_read;
 mod content_reader;
 mod digits;
 mod fault;
@@ -22,14 +21,15 @@ mod lister;
 mod packet;
 mod read;
 mod reader;
+mod teller;
+mod text;
 
 pub use checker::CheckLister;
 pub use content_lister::ContentLister;
-pub use content_read::read_content;
 pub use fault::{ListCause, ListError, ListFault};
 pub use form::number;
 pub use lister::LinkLister;
-pub use read::read_link;
+pub use read::{read_content, read_link};
 
 #[cfg(test)]
 mod content_tests;

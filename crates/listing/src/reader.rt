@@ -9,33 +9,17 @@ ghost use Rattle.listing.specs.Causes.{run_cause, island_cause, packet_cause, cl
 ghost use Rattle.listing.specs.Drafts.{with_line};
 ghost use Rattle.listing.specs.Forms.{LineForm, control_line, video_by, island_line, packet_line, close_line};
 ghost use Rattle.listing.specs.FormSeen.{IsForm, digits_of};
-ghost use Rattle.listing.specs.Told.{AnswersCause, RefusesAs, with_open};
+ghost use Rattle.listing.specs.Told.{AnswersCause, RefusesAs, is_end, with_open};
 
 use crate::ListCause;
 use crate::digits::{are_digits, put_bytes};
-use crate::form::Form;
+use crate::form::{Form, read_form};
+use crate::teller::{Refusal, Taken, Teller};
 use island_pack::Packet;
 use outside_io::NoMemory;
 use source_end::{Island, Item, ItemFault, Items, Pixels, Run, Runs, Stream};
 use std::alloc::Global;
 use std::marker::Model;
-
-/// Why a line was not taken.
-#[derive(Clone, Copy, Debug, PartialEq, Eq)]
-pub(crate) enum Refusal {
-    Cause(ListCause),
-    NoMemory,
-}
-
-impl From<NoMemory> for Refusal {
-    ghost use Rattle.listing.specs.declared.reader.Refusal.{Refusal};
-
-    ghost from_gives = { λ _ r. r ≡ Refusal.NoMemory };
-
-    fn from(_error: NoMemory) -> Refusal {
-        Refusal::NoMemory
-    }
-}
 
 /// The most columns of a stream.
 const COLUMN_LIMIT: u32 = 20_000_000;
@@ -54,26 +38,18 @@ pub(crate) struct Reader {
     island: Option<Island>,
     /// How many columns were told, at most 20,000,000.
     columns: u32,
-    /// How many bytes the lines taken have, line feeds included.
-    bytes: u64,
-    /// The number of the next line.
-    line: u64,
 }
 
 impl Model for Reader {
-    ghost use Rattle.std.specs.Prelude.{◌≡◌, ◌≤◌, ◌*◌, ◌+◌, false, true};
+    ghost use Rattle.std.specs.Prelude.{◌≡◌, ◌≤◌, false, true};
     ghost use Rattle.island_pack.specs.Periods.{control};
     ghost use Rattle.source_end.specs.Refusals.{last_period, is_control_last, is_in_range};
-    ghost use Rattle.listing.specs.Drafts.{draft_columns};
-    ghost use Rattle.listing.specs.Told.{Told, drafted, MayStand};
+    ghost use Rattle.listing.specs.Drafts.{Draft, draft_columns};
+    ghost use Rattle.listing.specs.Told.{drafted, MayStand};
 
-    ghost Value = { Told };
+    ghost Value = { Draft };
 
-    ghost view = { λ r. record {
-      draft = drafted r.items r.runs r.island;
-      bytes = r.bytes;
-      line = r.line;
-    } };
+    ghost view = { λ r. drafted r.items r.runs r.island };
 
     ghost invariant = { λ r. record {
       columns : r.columns ≡ draft_columns (drafted r.items r.runs r.island);
@@ -81,18 +57,35 @@ impl Model for Reader {
       turn : is_control_last (last_period r.items) ≡ false;
       in_range : is_in_range (control r.runs) ≡ true;
       begun : MayStand r.runs r.island;
-      short : r.bytes ≤ 4294967295;
-      first : 1 ≤ r.line;
-      lines : 2 * r.line ≤ r.bytes + 2;
     } };
+}
+
+impl Teller for Reader {
+    ghost use Rattle.listing.specs.Reading.{link_step};
+
+    type Whole = Stream;
+
+    ghost step = { link_step };
+
+    ghost lines = { λ _. 0 };
+
+    fn take(self, line: &[u8]) -> Result<Taken<Reader, Stream>, Refusal> {
+        let form = read_form(line);
+        let is_end = is_end_form(form);
+        let reader = self.take_form(form)?;
+        if is_end {
+            Ok(Taken::End(reader.close()?))
+        } else {
+            Ok(Taken::More(reader))
+        }
+    }
 }
 
 impl Reader {
     ghost use Rattle.listing.specs.Drafts.{nothing_told};
-    ghost use Rattle.listing.specs.Told.{Told};
 
     pub(crate) fn new(alloc: Global) -> Reader
-        ensures { result ≡ record { draft = nothing_told; bytes = 0; line = 1 } }
+        ensures { result ≡ nothing_told }
     {
         Reader {
             alloc,
@@ -100,43 +93,16 @@ impl Reader {
             runs: Runs::new(alloc),
             island: None,
             columns: 0,
-            bytes: 0,
-            line: 1,
         }
-    }
-
-    /// How many bytes the lines taken have.
-    pub(crate) fn bytes(&self) -> u64
-        ensures value { result ≡ self.now.bytes }
-        ensures short { result ≤ 4294967295 }
-    {
-        self.bytes
-    }
-
-    /// The number of the next line.
-    pub(crate) fn line(&self) -> u32
-        ensures { result ≡ self.now.line }
-    {
-        self.line as u32
-    }
-
-    /// Counts a line as taken that ends after `upto` bytes of the text.
-    pub(crate) fn pass(&mut self, upto: u64)
-        requires more { self.old.bytes + 2 ≤ upto }
-        requires short { upto ≤ 4294967295 }
-        ensures { self.new ≡ record self.old { bytes = upto; line = self.old.line + 1 } }
-    {
-        self.bytes = upto;
-        self.line += 1;
     }
 
     /// Takes what a line of this form tells, or refuses the line with its first cause. The reader is
     /// dropped on a refusal.
-    pub(crate) fn take(self, form: Form<'_>) -> Result<Reader, Refusal>
+    fn take_form(self, form: Form<'_>) -> Result<Reader, Refusal>
         requires seen { (told : LineForm) × IsForm form told }
         requires short { length (digits_of form) ≤ 32766 }
-        ensures cause { (told : LineForm) → IsForm form.entry told → AnswersCause (line_cause self.draft told) result }
-        ensures ok { (told : LineForm) → IsForm form.entry told → IfOk result (λ r. r ≡ record self { draft = with_line told self.draft }) }
+        ensures cause { (told : LineForm) → IsForm form.entry told → AnswersCause (line_cause self told) result }
+        ensures ok { (told : LineForm) → IsForm form.entry told → IfOk result (λ r. r ≡ with_line told self) }
     {
         match form {
             Form::Control { value, count } => self.run(value, count),
@@ -155,21 +121,21 @@ impl Reader {
 
     /// Whether so many columns more are no more than a stream may have.
     fn has_room(&self, columns: u32) -> bool
-        ensures { result ≡ has_room self.now.draft columns }
+        ensures { result ≡ has_room self.now columns }
     {
         columns <= COLUMN_LIMIT - self.columns
     }
 
     /// Whether no data island is being told.
     fn is_closed(&self) -> bool
-        ensures { result ≡ is_closed self.now.draft.opened }
+        ensures { result ≡ is_closed self.now.opened }
     {
         self.island.is_none()
     }
 
     /// Whether the data island that is being told has as many packets as it may.
     fn is_full(&self) -> bool
-        ensures { result ≡ is_nineteenth self.now.draft.opened }
+        ensures { result ≡ is_nineteenth self.now.opened }
     {
         match &self.island {
             Some(island) => island.len() >= PACKET_LIMIT,
@@ -179,7 +145,7 @@ impl Reader {
 
     /// Whether the data island that is being told has a packet.
     fn has_packet(&self) -> bool
-        ensures { result ≡ has_packets 1 18 self.now.draft.opened }
+        ensures { result ≡ has_packets 1 18 self.now.opened }
     {
         match &self.island {
             Some(island) => !island.is_empty(),
@@ -189,43 +155,43 @@ impl Reader {
 
     /// Whether a data island is being told.
     fn is_open(&self) -> bool
-        ensures { result ≡ has_packets 0 18 self.now.draft.opened }
+        ensures { result ≡ has_packets 0 18 self.now.opened }
     {
         self.island.is_some()
     }
 
     /// Whether a control period is being told.
     fn is_control_last(&self) -> bool
-        ensures { result ≡ is_control_last (last_period self.now.draft.periods) }
+        ensures { result ≡ is_control_last (last_period self.now.periods) }
     {
         !self.runs.as_slice().is_empty()
     }
 
     /// Whether it has at least twelve columns.
     fn is_long_enough(&self) -> bool
-        ensures { result ≡ is_long_enough (last_period self.now.draft.periods) }
+        ensures { result ≡ is_long_enough (last_period self.now.periods) }
     {
         self.runs.columns() >= 12
     }
 
     /// Whether it ends with the preamble of a data island.
     fn announces_island(&self) -> bool
-        ensures { result ≡ announces_island (last_period self.now.draft.periods) }
+        ensures { result ≡ announces_island (last_period self.now.periods) }
     {
         self.runs.announces_island()
     }
 
     /// Whether something other than control columns may follow.
     fn is_turn(&self) -> bool
-        ensures { result ≡ (is_closed self.now.draft.opened && is_control_last (last_period self.now.draft.periods)) }
+        ensures { result ≡ (is_closed self.now.opened && is_control_last (last_period self.now.periods)) }
     {
         self.is_closed() && self.is_control_last()
     }
 
     /// Takes a run of control columns.
     fn run(self, value: u8, count: u64) -> Result<Reader, Refusal>
-        ensures cause { AnswersCause (run_cause self.draft value count) result }
-        ensures ok { IfOk result (λ r. r ≡ record self { draft = with_line (control_line value count) self.draft }) }
+        ensures cause { AnswersCause (run_cause self value count) result }
+        ensures ok { IfOk result (λ r. r ≡ with_line (control_line value count) self) }
     {
         let mut reader = self;
         if !is_run_in_range(value, count) {
@@ -247,8 +213,8 @@ impl Reader {
     fn video(self, digits: &[u8]) -> Result<Reader, Refusal>
         requires pixels { length digits.now % 6 ≡ 0 }
         requires short { length digits.now ≤ 32766 }
-        ensures cause { AnswersCause (line_cause self.draft (video_by true (decode_of digits.now))) result }
-        ensures ok { IfOk result (λ r. r ≡ record self { draft = with_line (video_by true (decode_of digits.now)) self.draft }) }
+        ensures cause { AnswersCause (line_cause self (video_by true (decode_of digits.now))) result }
+        ensures ok { IfOk result (λ r. r ≡ with_line (video_by true (decode_of digits.now)) self) }
     {
         let Reader {
             alloc,
@@ -256,8 +222,6 @@ impl Reader {
             runs,
             island,
             columns,
-            bytes,
-            line,
         } = self;
         let pixels = decode_pixels(alloc, digits)?;
         if !are_pixels_in_range(&pixels) {
@@ -275,8 +239,6 @@ impl Reader {
                 runs: Runs::new(alloc),
                 island: None,
                 columns: columns + added,
-                bytes,
-                line,
             }),
             Err(fault) => Err(refusal_of(fault)),
         }
@@ -284,7 +246,7 @@ impl Reader {
 
     /// The first cause for which no data island can begin here.
     fn island_cause(&self, opening: [u8; 2]) -> Option<ListCause>
-        ensures { result ≡ island_cause self.now.draft (slice_index opening 0) (slice_index opening 1) }
+        ensures { result ≡ island_cause self.now (slice_index opening 0) (slice_index opening 1) }
     {
         if !are_sync_values(&opening) {
             Some(ListCause::Range)
@@ -303,8 +265,8 @@ impl Reader {
 
     /// Takes the guard that opens a data island.
     fn open_island(self, opening: [u8; 2]) -> Result<Reader, Refusal>
-        ensures cause { AnswersCause (island_cause self.draft (slice_index opening 0) (slice_index opening 1)) result }
-        ensures ok { IfOk result (λ r. r ≡ record self { draft = with_line (island_line (slice_index opening 0) (slice_index opening 1)) self.draft }) }
+        ensures cause { AnswersCause (island_cause self (slice_index opening 0) (slice_index opening 1)) result }
+        ensures ok { IfOk result (λ r. r ≡ with_line (island_line (slice_index opening 0) (slice_index opening 1)) self) }
     {
         let mut reader = self;
         match reader.island_cause(opening) {
@@ -319,7 +281,7 @@ impl Reader {
 
     /// Whether the sync values of the packet are in their range, and it is no nineteenth one.
     fn is_in_range(&self, packet: &Packet) -> bool
-        ensures answer { result ≡ (list_all (λ v. nat_lt v 4) packet.now.sync && not (is_nineteenth self.now.draft.opened)) }
+        ensures answer { result ≡ (list_all (λ v. nat_lt v 4) packet.now.sync && not (is_nineteenth self.now.opened)) }
         ensures packet { result ≡ true → is_packet packet.now ≡ true }
     {
         is_packet_in_range(packet) && !self.is_full()
@@ -327,7 +289,7 @@ impl Reader {
 
     /// The first cause for which this packet cannot come here.
     fn packet_cause(&self, packet: &Packet) -> Option<ListCause>
-        ensures answer { result ≡ packet_cause self.now.draft packet.now }
+        ensures answer { result ≡ packet_cause self.now packet.now }
         ensures packet { result ≡ None → is_packet packet.now ≡ true }
     {
         if !self.is_in_range(packet) {
@@ -343,8 +305,8 @@ impl Reader {
 
     /// Takes a packet of the data island that is being told.
     fn add_packet(self, packet: Packet) -> Result<Reader, Refusal>
-        ensures cause { AnswersCause (packet_cause self.draft packet) result }
-        ensures ok { IfOk result (λ r. r ≡ record self { draft = with_line (packet_line packet) self.draft }) }
+        ensures cause { AnswersCause (packet_cause self packet) result }
+        ensures ok { IfOk result (λ r. r ≡ with_line (packet_line packet) self) }
     {
         let mut reader = self;
         if let Some(cause) = reader.packet_cause(&packet) {
@@ -360,7 +322,7 @@ impl Reader {
 
     /// The first cause for which the data island cannot be closed here.
     fn close_cause(&self, closing: [u8; 2]) -> Option<ListCause>
-        ensures { result ≡ close_cause self.now.draft (slice_index closing 0) (slice_index closing 1) }
+        ensures { result ≡ close_cause self.now (slice_index closing 0) (slice_index closing 1) }
     {
         if !are_sync_values(&closing) {
             Some(ListCause::Range)
@@ -375,8 +337,8 @@ impl Reader {
 
     /// Takes the guard that closes a data island.
     fn close_island(self, closing: [u8; 2]) -> Result<Reader, Refusal>
-        ensures cause { AnswersCause (close_cause self.draft (slice_index closing 0) (slice_index closing 1)) result }
-        ensures ok { IfOk result (λ r. r ≡ record self { draft = with_line (close_line (slice_index closing 0) (slice_index closing 1)) self.draft }) }
+        ensures cause { AnswersCause (close_cause self (slice_index closing 0) (slice_index closing 1)) result }
+        ensures ok { IfOk result (λ r. r ≡ with_line (close_line (slice_index closing 0) (slice_index closing 1)) self) }
     {
         if let Some(cause) = self.close_cause(closing) {
             return Err(Refusal::Cause(cause));
@@ -387,8 +349,6 @@ impl Reader {
             runs,
             island,
             columns,
-            bytes,
-            line,
         } = self;
         let Some(mut island) = island else {
             unreachable!()
@@ -401,14 +361,12 @@ impl Reader {
             runs: Runs::new(alloc),
             island: None,
             columns: columns + 2,
-            bytes,
-            line,
         })
     }
 
     /// The first cause for which the listing cannot end here.
     fn end_cause(&self) -> Option<ListCause>
-        ensures { result ≡ end_cause self.now.draft }
+        ensures { result ≡ end_cause self.now }
     {
         if !self.is_turn() {
             Some(ListCause::Order)
@@ -420,9 +378,9 @@ impl Reader {
     }
 
     /// The stream of all items.
-    pub(crate) fn close(self) -> Result<Stream, NoMemory>
-        requires { close_fault self.draft.periods ≡ None }
-        ensures { IfOk result (λ stream. stream ≡ self.draft.periods) }
+    fn close(self) -> Result<Stream, NoMemory>
+        requires { close_fault self.periods ≡ None }
+        ensures { IfOk result (λ stream. stream ≡ self.periods) }
     {
         let Reader {
             alloc: _,
@@ -430,8 +388,6 @@ impl Reader {
             runs,
             island: _,
             columns: _,
-            bytes: _,
-            line: _,
         } = self;
         let items = closed(items, runs)?;
         match items.close() {
@@ -439,6 +395,13 @@ impl Reader {
             Err(_) => unreachable!(),
         }
     }
+}
+
+/// Whether the form is that of the line `end`.
+fn is_end_form(form: Form<'_>) -> bool
+    ensures { (told : LineForm) → IsForm form.entry told → result ≡ is_end told }
+{
+    matches!(form, Form::End)
 }
 
 /// The items, and behind them the control period that was still being told, where it has runs.

@@ -7,7 +7,7 @@ use Rattle.hdmi_cli.specs.declared.ending.Ending.TheVariants.{Listing}
 use Rattle.listing.specs.declared.fault.ListFault.{ListFault}
 use Rattle.listing.specs.LineSteps.{accepts}
 use Rattle.listing.specs.ContentReading.{content_reads_as}
-use Rattle.hdmi_cli.proofs.Answered.{bad_content, read_contents, content_refused, raster_ends, stream_ends, makes_content}
+use Rattle.hdmi_cli.proofs.Answered.{bad_listing, read_contents, content_refused, raster_ends, stream_ends, makes_content}
 use Rattle.hdmi_cli.proofs.run.make_content.Goals as goal
 
 pub returns-in-Err-Bad-clause-ends : goal.returns-in-Err-Bad-clause-ends
@@ -17,7 +17,7 @@ returns-in-Err-Bad-clause-ends g c =
       search rules,
       λ text told.
           subst (λ (f : ListFault). IsAnswered (MakeContent c.args.words.now) (Listing f) before after text) (sym c.in-Err-Bad.fault-is)
-          (content_refused c.args.words.now c.in-Err-Bad.fault before after text (bad_content _ c.read_content.result c.in-Err-Bad.field-0 c.in-Err-Bad.fault (c.read_content.ensures.answers text told) c.in-Err-Bad.is c.in-Err-Bad.field-0-is) refl),
+          (content_refused c.args.words.now c.in-Err-Bad.fault before after text (bad_listing _ c.read_content.result c.in-Err-Bad.field-0 c.in-Err-Bad.fault (c.read_content.ensures.answers text told) c.in-Err-Bad.is c.in-Err-Bad.field-0-is) refl),
     )
 
 pub returns-in-Ok-raster-clause-ends : goal.returns-in-Ok-raster-clause-ends

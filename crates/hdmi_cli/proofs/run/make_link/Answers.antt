@@ -3,7 +3,8 @@ use Rattle.hdmi_cli.specs.Endings.{Devices, IsAnswered}
 use Rattle.command_line.specs.declared.command.Command.TheVariants.{MakeLink}
 use Rattle.hdmi_cli.specs.declared.ending.Ending.TheVariants.{Listing}
 use Rattle.listing.specs.declared.fault.ListFault.{ListFault}
-use Rattle.listing.specs.Reading.{accepted, reads_as}
+use Rattle.listing.specs.LineSteps.{accepts}
+use Rattle.listing.specs.Reading.{reads_as}
 use Rattle.hdmi_cli.specs.Commands.{tap_asked}
 use Rattle.hdmi_cli.proofs.Answered.{bad_listing, listing_refused, stream_ends, makes_link}
 use Rattle.hdmi_cli.proofs.run.make_link.Goals as goal
@@ -22,6 +23,6 @@ pub returns-in-Ok-clause-ends : goal.returns-in-Ok-clause-ends
 returns-in-Ok-clause-ends g c =
     let before : Devices = record { left = g.S.Source.left c.args.input.now; input_faults = g.S.Source.faults c.args.input.now; held = g.K.Sink.held c.args.output.now; output_faults = g.K.Sink.faults c.args.output.now } in
     let after : Devices = record { left = g.S.Source.left c.read_link.new.source; input_faults = g.S.Source.faults c.read_link.new.source; held = g.K.Sink.held c.write_stream.new.output; output_faults = g.K.Sink.faults c.write_stream.new.output } in
-    let accepts : (text : List ℕ) → before.left ≡ Some text → reads_as text ≡ accepted c.in-Ok.stream = λ text told. search rules in
+    let accepted : (text : List ℕ) → before.left ≡ Some text → reads_as text ≡ accepts c.in-Ok.stream = λ text told. search rules in
     stream_ends (MakeLink c.args.words.now) (tap_asked c.args.words.now) c.in-Ok.stream c.write_stream.result before after
-    (λ text o told made. makes_link c.args.words.now c.in-Ok.stream text o (accepts text told) made) (λ parts. parts) (search rules) c.write_stream.ensures.ends
+    (λ text o told made. makes_link c.args.words.now c.in-Ok.stream text o (accepted text told) made) (λ parts. parts) (search rules) c.write_stream.ensures.ends

@@ -1,4 +1,4 @@
-use Rattle.std.proofs.Common.{ℕ, ◌≡◌, ◌<◌, ◌+◌, ◌*◌, get_or, length}
+use Rattle.std.proofs.Common.{ℕ, ◌≡◌, ◌<◌, ◌+◌, ◌*◌, get_or}
 use Rattle.listing.proofs.HexPairs.{value_of}
 use Rattle.listing.proofs.digits.put_bytes.Given as goal
 

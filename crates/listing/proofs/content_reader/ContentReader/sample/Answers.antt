@@ -2,8 +2,6 @@ use Rattle.std.proofs.Common.{◌≡◌, ℕ, zero, suc, ◌<◌, slice_index_or
 use Rattle.std.proofs.lemmas.List.Elements.{All-append}
 use Rattle.audio_packets.specs.Samples.{IsSample}
 use Rattle.audio_packets.specs.declared.sample.Sample.{Sample}
-use Rattle.listing.specs.ContentTold.{pending}
-use Rattle.listing.proofs.ContentFrames.{pending_one}
 use Rattle.listing.proofs.content_reader.ContentReader.sample.Goals as goal
 
 one : (s : Sample) → IsSample s → All IsSample (s ∷ [])
@@ -26,7 +24,4 @@ invariant_of-reader c =
       begun = inv.begun;
       few = omega (arith, inv.few, ap length is, size, c.if-len-eq-GROUP.false, c.len.ensures);
       fits = subst (All IsSample) (sym is) (All-append IsSample r.samples.items (s ∷ []) inv.fits (one s fit));
-      frame_lines = omega (arith, inv.frame_lines);
-      row_lines = omega (arith, inv.row_lines);
-      packet_lines = omega (arith, inv.packet_lines, ap pending is, pending_one r.samples.items s);
     }

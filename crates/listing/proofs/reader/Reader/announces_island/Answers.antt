@@ -1,7 +1,7 @@
 use Rattle.std.proofs.Common.{ap, ◌∙◌}
 use Rattle.source_end.specs.Refusals.{last_period}
 use Rattle.listing.specs.Causes.{announces_island}
-use Rattle.listing.specs.Told.{Told}
+use Rattle.listing.specs.Drafts.{Draft}
 use Rattle.listing.proofs.OpenPeriods.{announces}
 use Rattle.listing.proofs.reader.Reader.announces_island.Goals as goal
 
@@ -9,4 +9,4 @@ pub returns : goal.returns
 returns c =
     let r = c.self.inside in
     c.announces_island.ensures ∙ announces r.items r.runs c.self.invariant.turn
-    ∙ ap (λ (t : Told). announces_island (last_period t.draft.periods)) c.self.view_is
+    ∙ ap (λ (t : Draft). announces_island (last_period t.periods)) c.self.view_is

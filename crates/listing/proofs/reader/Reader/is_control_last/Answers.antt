@@ -1,7 +1,7 @@
 use Rattle.std.proofs.Common.{◌==◌, not, List, length, ap, ◌∙◌}
 use Rattle.island_pack.specs.Periods.{ControlRun}
 use Rattle.source_end.specs.Refusals.{last_period, is_control_last}
-use Rattle.listing.specs.Told.{Told}
+use Rattle.listing.specs.Drafts.{Draft}
 use Rattle.listing.proofs.OpenPeriods.{control_last}
 use Rattle.listing.proofs.reader.Reader.is_control_last.Goals as goal
 
@@ -10,4 +10,4 @@ returns c =
     let r = c.self.inside in
     ap not (c.is_empty.ensures ∙ ap (λ (rs : List ControlRun). length rs == 0) c.as_slice.ensures)
     ∙ control_last r.items r.runs c.self.invariant.turn
-    ∙ ap (λ (t : Told). is_control_last (last_period t.draft.periods)) c.self.view_is
+    ∙ ap (λ (t : Draft). is_control_last (last_period t.periods)) c.self.view_is

@@ -1,6 +1,6 @@
 use Rattle.std.proofs.Common.{ap, ◌∙◌}
 use Rattle.source_end.specs.Refusals.{last_period, is_long_enough}
-use Rattle.listing.specs.Told.{Told}
+use Rattle.listing.specs.Drafts.{Draft}
 use Rattle.listing.proofs.OpenPeriods.{long_enough}
 use Rattle.listing.proofs.reader.Reader.is_long_enough.Goals as goal
 
@@ -8,4 +8,4 @@ pub returns : goal.returns
 returns c =
     let r = c.self.inside in
     long_enough r.items r.runs c.columns.result c.self.invariant.turn c.columns.ensures
-    ∙ ap (λ (t : Told). is_long_enough (last_period t.draft.periods)) c.self.view_is
+    ∙ ap (λ (t : Draft). is_long_enough (last_period t.periods)) c.self.view_is

@@ -12,7 +12,4 @@ invariant_of-result c = record {
   turn = ap (λ (ps : List Period). is_control_last (last_period ps)) c.new.ensures;
   in_range = none_in_range c.new-2.result c.new-2.ensures;
   begun = tt;
-  short = omega arith;
-  first = omega arith;
-  lines = omega arith;
 }

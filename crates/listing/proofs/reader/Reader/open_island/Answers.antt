@@ -1,13 +1,12 @@
 use Rattle.std.proofs.Common.{ap, sym, ◌∙◌}
 use Rattle.island_pack.specs.Periods.{DataIsland}
-use Rattle.listing.specs.Told.{Told}
 use Rattle.listing.proofs.Islands.{begins}
 use Rattle.listing.proofs.reader.Reader.open_island.Goals as goal
 
 pub invariant_of-reader : goal.invariant_of-reader
 invariant_of-reader c =
     let r = c.reader.inside in
-    let began = begins r.items r.runs r.island c.args.self.draft r.columns _ _ c.new.result c.reader.invariant.turn (ap (λ (t : Told). t.draft) c.reader.view_is) c.reader.invariant.columns (sym c.island_cause.ensures ∙ c.in-None.is)
+    let began = begins r.items r.runs r.island c.args.self r.columns _ _ c.new.result c.reader.invariant.turn c.reader.view_is c.reader.invariant.columns (sym c.island_cause.ensures ∙ c.in-None.is)
     (ap (λ (x : DataIsland). x.opening) c.new.ensures) (ap (λ (x : DataIsland). x.packets) c.new.ensures) in
     record {
       columns = began.counted;
@@ -15,7 +14,4 @@ invariant_of-reader c =
       turn = c.reader.invariant.turn;
       in_range = c.reader.invariant.in_range;
       begun = began.begun;
-      short = c.reader.invariant.short;
-      first = c.reader.invariant.first;
-      lines = c.reader.invariant.lines;
     }

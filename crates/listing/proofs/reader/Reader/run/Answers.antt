@@ -1,9 +1,9 @@
 use Rattle.std.proofs.Common.{◌≡◌, ◌+◌, ◌++◌, ◌∷◌, [], ap, sym, ◌∙◌, List, arith}
 use Rattle.island_pack.specs.Periods.{ControlRun, control}
 use Rattle.source_end.specs.Refusals.{is_in_range}
-use Rattle.listing.specs.Told.{Told, drafted}
+use Rattle.listing.specs.Told.{drafted}
 use Rattle.listing.specs.Causes.{run_cause}
-use Rattle.listing.specs.Drafts.{Draft, draft_columns, with_line}
+use Rattle.listing.specs.Drafts.{draft_columns, with_line}
 use Rattle.listing.specs.Forms.{control_line}
 use Rattle.listing.specs.declared.fault.ListCause.TheVariants.{Range, Order, Long}
 use Rattle.listing.specs.declared.reader.Reader.{Reader}
@@ -14,21 +14,21 @@ use Rattle.listing.proofs.reader.Reader.run.Goals as goal
 
 pub returns-then-not-is_run_in_range-clause-cause : goal.returns-then-not-is_run_in_range-clause-cause
 returns-then-not-is_run_in_range-clause-cause c =
-    let draft = c.args.self.draft in
+    let draft = c.args.self in
     let v = c.args.value in
     let n = c.args.count in
     answers_cause Reader (run_cause draft v n) Range (run_range draft v n (sym c.is_run_in_range.ensures ∙ c.if-not-is_run_in_range.true))
 
 pub returns-then-not-is_closed-clause-cause : goal.returns-then-not-is_closed-clause-cause
 returns-then-not-is_closed-clause-cause c =
-    let draft = c.args.self.draft in
+    let draft = c.args.self in
     let v = c.args.value in
     let n = c.args.count in
     answers_cause Reader (run_cause draft v n) Order (run_order draft v n (sym c.is_run_in_range.ensures ∙ c.if-not-is_run_in_range.false) (sym c.is_closed.ensures ∙ c.if-not-is_closed.true))
 
 pub returns-then-not-has_room-clause-cause : goal.returns-then-not-has_room-clause-cause
 returns-then-not-has_room-clause-cause c =
-    let draft = c.args.self.draft in
+    let draft = c.args.self in
     let v = c.args.value in
     let n = c.args.count in
     answers_cause Reader (run_cause draft v n) Long
@@ -39,23 +39,20 @@ invariant_of-reader c =
     let r = c.reader.inside in
     let one : ControlRun = record { value = c.args.value; count = c.args.count } in
     let grown : c.push.new.self ≡ r.runs ++ one ∷ [] = c.in_ok-push.ensures.ok in
-    let few = room_is c.args.self.draft c.args.count (sym c.has_room.ensures ∙ c.if-not-has_room.false) in
-    let same : draft_columns (drafted r.items r.runs r.island) ≡ draft_columns c.args.self.draft = ap (λ (t : Told). draft_columns t.draft) c.reader.view_is in
+    let few = room_is c.args.self c.args.count (sym c.has_room.ensures ∙ c.if-not-has_room.false) in
+    let same : draft_columns (drafted r.items r.runs r.island) ≡ draft_columns c.args.self = ap draft_columns c.reader.view_is in
     let columns : r.columns ≡ draft_columns (drafted r.items r.runs r.island) = c.reader.invariant.columns in
     record {
       columns = ap (λ n. n + c.args.count) columns ∙ sym (run_columns r.items r.runs one r.island) ∙ ap (λ (rs : List ControlRun). draft_columns (drafted r.items rs r.island)) (sym grown);
       few = omega arith;
       turn = c.reader.invariant.turn;
       in_range = ap (λ (rs : List ControlRun). is_in_range (control rs)) grown ∙ in_range_more r.runs one c.reader.invariant.in_range (sym c.is_run_in_range.ensures ∙ c.if-not-is_run_in_range.false);
-      begun = stays_closed c.push.new.self r.island (is_closed_at r.items r.runs r.island c.args.self.draft (ap (λ (t : Told). t.draft) c.reader.view_is) (sym c.is_closed.ensures ∙ c.if-not-is_closed.false));
-      short = c.reader.invariant.short;
-      first = c.reader.invariant.first;
-      lines = c.reader.invariant.lines;
+      begun = stays_closed c.push.new.self r.island (is_closed_at r.items r.runs r.island c.args.self c.reader.view_is (sym c.is_closed.ensures ∙ c.if-not-is_closed.false));
     }
 
 pub returns-clause-cause : goal.returns-clause-cause
 returns-clause-cause c =
-    let draft = c.args.self.draft in
+    let draft = c.args.self in
     answers_ok {T = Reader} _ (run_cause draft c.args.value c.args.count)
     (run_fits draft c.args.value c.args.count (sym c.is_run_in_range.ensures ∙ c.if-not-is_run_in_range.false) (sym c.is_closed.ensures ∙ c.if-not-is_closed.false) (sym c.has_room.ensures ∙ c.if-not-has_room.false))
 
@@ -64,7 +61,6 @@ returns-clause-ok c =
     let r = c.reader.inside in
     let one : ControlRun = record { value = c.args.value; count = c.args.count } in
     let grown : c.push.new.self ≡ r.runs ++ one ∷ [] = c.in_ok-push.ensures.ok in
-    let told : Told → Told = λ t. record t { draft = with_line (control_line c.args.value c.args.count) t.draft } in
     let same : drafted r.items c.push.new.self r.island ≡ with_line (control_line c.args.value c.args.count) (drafted r.items r.runs r.island) =
     ap (λ (rs : List ControlRun). drafted r.items rs r.island) grown ∙ run_drafted r.items r.runs one r.island c.reader.invariant.turn in
-    ap (λ (d : Draft). record { draft = d; bytes = r.bytes; line = r.line }) same ∙ ap told c.reader.view_is
+    same ∙ ap (with_line (control_line c.args.value c.args.count)) c.reader.view_is

@@ -3,8 +3,8 @@ use Rattle.std.proofs.lemmas.Grind.{common_steps}
 use Rattle.hex.proofs.HexLemmas.{decode_of-ok}
 use Rattle.island_pack.specs.Periods.{video}
 use Rattle.source_end.specs.Refusals.{push_fault}
-use Rattle.listing.specs.Told.{Told}
 use Rattle.listing.specs.Causes.{line_cause}
+use Rattle.listing.specs.Drafts.{Draft}
 use Rattle.listing.specs.Forms.{video_line}
 use Rattle.listing.specs.declared.fault.ListCause.TheVariants.{Range, Order}
 use Rattle.listing.specs.declared.reader.Reader.{Reader}
@@ -14,11 +14,11 @@ use Rattle.listing.proofs.Refused.{answers_cause, answers_video, answers_taken, 
 use Rattle.listing.proofs.reader.Reader.video.Goals as goal
 
 pub returns-in_err-pixels-clause-cause : goal.returns-in_err-pixels-clause-cause
-returns-in_err-pixels-clause-cause c = answers_unread Reader c.args.self.draft c.args.digits.now c.from_residual.result _ c.in_err-pixels.ensures.err c.from_residual.ensures.1
+returns-in_err-pixels-clause-cause c = answers_unread Reader c.args.self c.args.digits.now c.from_residual.result _ c.in_err-pixels.ensures.err c.from_residual.ensures.1
 
 pub returns-then-not-are_pixels_in_range-clause-cause : goal.returns-then-not-are_pixels_in_range-clause-cause
 returns-then-not-are_pixels_in_range-clause-cause c =
-    let draft = c.args.self.draft in
+    let draft = c.args.self in
     let pixels = c.in_ok-pixels.pixels in
     answers_read {T = Reader} draft c.args.digits.now pixels _ c.in_ok-pixels.ensures.ok
     (answers_cause Reader (line_cause draft (video_line pixels)) Range (video_range draft pixels (sym c.are_pixels_in_range.ensures ∙ c.if-not-are_pixels_in_range.true)))
@@ -26,9 +26,9 @@ returns-then-not-are_pixels_in_range-clause-cause c =
 pub returns-then-is_some-clause-cause : goal.returns-then-is_some-clause-cause
 returns-then-is_some-clause-cause c =
     let r = c.self.inside in
-    let draft = c.args.self.draft in
+    let draft = c.args.self in
     let pixels = c.in_ok-pixels.pixels in
-    let unclosed = some_open r.items r.runs r.island draft (ap (λ (t : Told). t.draft) c.self.view_is) (sym c.is_some.ensures ∙ c.if-is_some.true) in
+    let unclosed = some_open r.items r.runs r.island draft c.self.view_is (sym c.is_some.ensures ∙ c.if-is_some.true) in
     answers_read {T = Reader} draft c.args.digits.now pixels _ c.in_ok-pixels.ensures.ok
     (answers_cause Reader (line_cause draft (video_line pixels)) Order (video_order draft pixels (sym c.are_pixels_in_range.ensures ∙ c.if-not-are_pixels_in_range.false) unclosed))
 
@@ -63,27 +63,24 @@ invariant_of-result c =
       turn = video_last all c.push.new.self pixels c.in-Ok.ensures.ok;
       in_range = none_in_range c.new.result c.new.ensures;
       begun = tt;
-      short = c.self.invariant.short;
-      first = c.self.invariant.first;
-      lines = c.self.invariant.lines;
     }
 
 pub returns-in-Ok-clause-cause : goal.returns-in-Ok-clause-cause
 returns-in-Ok-clause-cause c =
     let r = c.self.inside in
-    let draft = c.args.self.draft in
+    let draft = c.args.self in
     let pixels = c.in_ok-pixels.pixels in
-    let same = c.in_ok-items.ensures ∙ ap (λ (t : Told). t.draft.periods) c.self.view_is in
-    let closed = none_closed r.items r.runs r.island draft (ap (λ (t : Told). t.draft) c.self.view_is) (sym c.is_some.ensures ∙ c.if-is_some.false) in
+    let same = c.in_ok-items.ensures ∙ ap (λ (t : Draft). t.periods) c.self.view_is in
+    let closed = none_closed r.items r.runs r.island draft c.self.view_is (sym c.is_some.ensures ∙ c.if-is_some.false) in
     answers_read {T = Reader} draft c.args.digits.now pixels _ c.in_ok-pixels.ensures.ok
     (answers_taken (Unit {0}) {T = Reader} tt _ draft c.in_ok-items.items pixels same (sym c.are_pixels_in_range.ensures ∙ c.if-not-are_pixels_in_range.false) closed c.in-Ok.ensures.fault)
 
 pub returns-clause-cause : goal.returns-clause-cause
 returns-clause-cause c =
     let r = c.self.inside in
-    let draft = c.args.self.draft in
+    let draft = c.args.self in
     let pixels = c.in_ok-pixels.pixels in
-    let same = c.in_ok-items.ensures ∙ ap (λ (t : Told). t.draft.periods) c.self.view_is in
-    let closed = none_closed r.items r.runs r.island draft (ap (λ (t : Told). t.draft) c.self.view_is) (sym c.is_some.ensures ∙ c.if-is_some.false) in
+    let same = c.in_ok-items.ensures ∙ ap (λ (t : Draft). t.periods) c.self.view_is in
+    let closed = none_closed r.items r.runs r.island draft c.self.view_is (sym c.is_some.ensures ∙ c.if-is_some.false) in
     answers_read {T = Reader} draft c.args.digits.now pixels _ c.in_ok-pixels.ensures.ok
     (answers_video (Unit {0}) Reader draft c.in_ok-items.items pixels c.in-Err.fault c.refusal_of.result same (sym c.are_pixels_in_range.ensures ∙ c.if-not-are_pixels_in_range.false) closed c.in-Err.ensures.fault c.refusal_of.ensures)

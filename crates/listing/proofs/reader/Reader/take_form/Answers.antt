@@ -6,47 +6,47 @@ use Rattle.listing.specs.FormSeen.{IsForm}
 use Rattle.listing.specs.declared.form.Form.{Form}
 use Rattle.listing.specs.declared.reader.Reader.{Reader}
 use Rattle.listing.proofs.Refused.{answers_line, answers_cause, answers_ok, cause_end}
-use Rattle.listing.proofs.reader.Reader.take.Goals as goal
+use Rattle.listing.proofs.reader.Reader.take_form.Goals as goal
 
 pub returns-in-Control-clause-cause : goal.returns-in-Control-clause-cause
 unfolding line_cause
 returns-in-Control-clause-cause c =
     λ told seen.
     let is : told ≡ control_line c.in-Control.value c.in-Control.count = subst (λ (f : Form). IsForm f told) c.in-Control.is seen in
-    answers_line {T = Reader} c.args.self.draft told (control_line c.in-Control.value c.in-Control.count) c.run.result is c.run.ensures.cause
+    answers_line {T = Reader} c.args.self told (control_line c.in-Control.value c.in-Control.count) c.run.result is c.run.ensures.cause
 
 pub returns-in-Island-clause-cause : goal.returns-in-Island-clause-cause
 unfolding line_cause
 returns-in-Island-clause-cause c =
     λ told seen.
     let is : told ≡ island_line (slice_index c.in-Island.sync 0) (slice_index c.in-Island.sync 1) = subst (λ (f : Form). IsForm f told) c.in-Island.is seen in
-    answers_line {T = Reader} c.args.self.draft told (island_line (slice_index c.in-Island.sync 0) (slice_index c.in-Island.sync 1)) c.open_island.result is c.open_island.ensures.cause
+    answers_line {T = Reader} c.args.self told (island_line (slice_index c.in-Island.sync 0) (slice_index c.in-Island.sync 1)) c.open_island.result is c.open_island.ensures.cause
 
 pub returns-in-Packet-clause-cause : goal.returns-in-Packet-clause-cause
 unfolding line_cause
 returns-in-Packet-clause-cause c =
     λ told seen.
     let is : told ≡ packet_line c.in-Packet.packet = subst (λ (f : Form). IsForm f told) c.in-Packet.is seen in
-    answers_line {T = Reader} c.args.self.draft told (packet_line c.in-Packet.packet) c.add_packet.result is c.add_packet.ensures.cause
+    answers_line {T = Reader} c.args.self told (packet_line c.in-Packet.packet) c.add_packet.result is c.add_packet.ensures.cause
 
 pub returns-in-Close-clause-cause : goal.returns-in-Close-clause-cause
 unfolding line_cause
 returns-in-Close-clause-cause c =
     λ told seen.
     let is : told ≡ close_line (slice_index c.in-Close.sync 0) (slice_index c.in-Close.sync 1) = subst (λ (f : Form). IsForm f told) c.in-Close.is seen in
-    answers_line {T = Reader} c.args.self.draft told (close_line (slice_index c.in-Close.sync 0) (slice_index c.in-Close.sync 1)) c.close_island.result is c.close_island.ensures.cause
+    answers_line {T = Reader} c.args.self told (close_line (slice_index c.in-Close.sync 0) (slice_index c.in-Close.sync 1)) c.close_island.result is c.close_island.ensures.cause
 
 pub returns-in-Some-clause-cause : goal.returns-in-Some-clause-cause
 returns-in-Some-clause-cause c =
     λ told seen.
-    let draft = c.args.self.draft in
+    let draft = c.args.self in
     let is : told ≡ end_line = subst (λ (f : Form). IsForm f told) c.in-End.is seen in
     answers_line {T = Reader} draft told end_line _ is (answers_cause Reader (line_cause draft end_line) c.in-Some.cause (cause_end draft ∙ sym c.end_cause.ensures ∙ c.in-Some.is))
 
 pub returns-in-None-clause-cause : goal.returns-in-None-clause-cause
 returns-in-None-clause-cause c =
     λ told seen.
-    let draft = c.args.self.draft in
+    let draft = c.args.self in
     let is : told ≡ end_line = subst (λ (f : Form). IsForm f told) c.in-End.is seen in
     answers_line {T = Reader} draft told end_line _ is (answers_ok {T = Reader} c.args.self (line_cause draft end_line) (cause_end draft ∙ sym c.end_cause.ensures ∙ c.in-None.is))
 
@@ -55,11 +55,11 @@ unfolding line_cause
 returns-in-Fault-clause-cause c =
     λ told seen.
     let is : told ≡ fault_line = subst (λ (f : Form). IsForm f told) c.in-Fault.is seen in
-    answers_line {T = Reader} c.args.self.draft told fault_line _ is refl
+    answers_line {T = Reader} c.args.self told fault_line _ is refl
 
 pub returns-in-Other-clause-cause : goal.returns-in-Other-clause-cause
 unfolding line_cause
 returns-in-Other-clause-cause c =
     λ told seen.
     let is : told ≡ no_line = subst (λ (f : Form). IsForm f told) c.in-Other.is seen in
-    answers_line {T = Reader} c.args.self.draft told no_line _ is refl
+    answers_line {T = Reader} c.args.self told no_line _ is refl
