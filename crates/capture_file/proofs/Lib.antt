@@ -19,3 +19,4 @@ pub mod HitLanes
 pub mod Halfways
 pub mod Damages
 pub mod OneCapture
+pub mod Tapped

@@ -1,6 +1,10 @@
 -- What follows from the layout of captures.
-use Rattle.std.specs.Prelude.{◌≡◌, ℕ, Bool, List}
+use Rattle.std.specs.Prelude.{◌≡◌, ℕ, ◌+◌, ◌*◌, ◌^◌, ◌<◌, ◌≤◌, Bool, List, length}
+use Rattle.tmds_word.specs.Column.{Column}
+use Rattle.tmds_word.specs.Taps.{IsTap}
 use Rattle.capture_file.specs.Captures.{IsCapture, IsCaptureOf, IsFault}
+use Rattle.capture_file.specs.Taps.{greatest, tap_counts, tap_of, tapped_capture}
+use Rattle.capture_file.specs.declared.writing.Tap.{Tap}
 use Rattle.capture_file.specs.declared.fault.CaptureFault.{CaptureFault}
 
 -- lanes are those of others
@@ -16,3 +20,13 @@ OneCapture = (x y z u v w : List Bool) (bytes : List ℕ) → IsCaptureOf x y z 
 -- a capture has no fault
 abbrev pub NoFault : Type 0
 NoFault = (bytes : List ℕ) (fault : CaptureFault) → IsCapture bytes → IsFault bytes fault → ⊥
+
+-- the bits that a tap takes of columns are a tap of them, where each lane begins within them
+abbrev pub TapIsTap : Type 0
+TapIsTap = (columns : List Column) (tap : Tap) → tap.offset + greatest tap.skews ≤ 10 * length columns
+    → IsTap columns tap.offset tap.skews (tap_counts tap columns) (tap_of columns tap).blue (tap_of columns tap).green (tap_of columns tap).red
+
+-- and what is written of them is their capture
+abbrev pub TapIsCaptured : Type 0
+TapIsCaptured = (columns : List Column) (tap : Tap) → tap.offset + greatest tap.skews ≤ 10 * length columns → 10 * length columns < 2 ^ 32
+    → IsCaptureOf (tap_of columns tap).blue (tap_of columns tap).green (tap_of columns tap).red (tapped_capture columns tap)

@@ -1,5 +1,5 @@
 -- The tap of columns: of each lane the bits from a place of its own on, in the first version all lanes equally many.
-use Rattle.std.specs.Prelude.{ℕ, ◌+◌, ◌-◌, ◌*◌, ◌^◌, ◌<◌, ◌≤◌, Bool, List, length, take, drop, min, max, slice_index, Option, Some, None, ◌==◌, if◌then◌else◌}
+use Rattle.std.specs.Prelude.{ℕ, ◌+◌, ◌-◌, ◌*◌, ◌^◌, ◌<◌, ◌≤◌, Bool, List, [], ◌∷◌, length, take, drop, min, max, slice_index, Option, Some, None, ◌==◌, if◌then◌else◌}
 use Rattle.tmds_word.specs.Column.{Column, blues, greens, reds}
 use Rattle.tmds_word.specs.Taps.{part_of}
 use Rattle.capture_file.specs.declared.writing.Tap.{Tap}
@@ -22,6 +22,9 @@ tap_lag tap lane = if tap.version == 2 then slice_index tap.skews lane else grea
 -- how many bits the tap takes of a lane of so many columns; `-` stops at 0
 abbrev pub tap_count : Tap → ℕ → ℕ → ℕ
 tap_count tap columns lane = limited tap.bits (10 * columns - tap.offset - tap_lag tap lane)
+
+abbrev pub tap_counts : Tap → List Column → List ℕ
+tap_counts tap columns = tap_count tap (length columns) 0 ∷ tap_count tap (length columns) 1 ∷ tap_count tap (length columns) 2 ∷ []
 
 -- a row has so many bits from a place on, and the place after them fits 32 bits; or none are asked for
 abbrev pub HasBits : List Bool → ℕ → ℕ → Type 0
