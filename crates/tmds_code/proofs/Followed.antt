@@ -1,6 +1,6 @@
 -- Disparities that were followed from character to character.
 use Rattle.std.proofs.Common.{◌≡◌, ℕ, Bool, true, false, cond, List, [], ◌∷◌, ◌++◌, refl, ap, sym, ◌∙◌, ◌==◌}
-use Rattle.std.specs.Prelude.{Option, Some, None, ℤ, pos, ◌+ℤ◌}
+use Rattle.std.specs.Prelude.{Option, Some, None, ℤ, ◌+ℤ◌}
 use Rattle.std.proofs.Math.IntN.{+ℤ_assoc, +ℤ_idl, +ℤ_idr}
 use Rattle.tmds_word.specs.Bits.{word_bits, balance}
 use Rattle.tmds_code.specs.Coding.{coded_word, decoded_byte}
