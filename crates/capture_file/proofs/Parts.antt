@@ -46,11 +46,11 @@ pub record LaneParts (blue green red : List Bool) (p q r : ℕ) (columns : List 
   pub red_in : 0 < r → tap.offset + slice_index tap.skews 2 + r ≤ length red
 
 -- a lane begins no later than its lag says
-if_least : (b : Bool) (s m : ℕ) → s ≤ m → s ≤ (if b then s else m)
+pub if_least : (b : Bool) (s m : ℕ) → s ≤ m → s ≤ (if b then s else m)
 if_least true s m le = omega arith
 if_least false s m le = le
 
-limited_le : (most : Option ℕ) (n : ℕ) → limited most n ≤ n
+pub limited_le : (most : Option ℕ) (n : ℕ) → limited most n ≤ n
 limited_le None n = omega arith
 limited_le (Some most) n = omega arith
 
