@@ -1,0 +1,3 @@
+pub mod AsSent
+pub mod Contents
+pub mod Told
