@@ -1,3 +1,9 @@
+pub mod Machine
+pub mod Walk
+pub mod Cells
+pub mod Ready
+pub mod Parts
+pub mod Accounted
 pub mod AsSent
 pub mod Contents
 pub mod Told

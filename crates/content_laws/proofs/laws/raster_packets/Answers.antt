@@ -1,3 +1,7 @@
+use Rattle.content_laws.proofs.Accounted.{parts_hear}
+use Rattle.content_laws.proofs.Ready.{turn, settle}
+use Rattle.content_laws.proofs.Walk.{listed_ticks}
+use Rattle.content_laws.proofs.Cells.{all_say}
 use Rattle.content_laws.proofs.Contents.{raster_packets}
 use Rattle.content_laws.proofs.laws.raster_packets.Goals as goal
 
