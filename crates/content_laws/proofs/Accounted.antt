@@ -208,10 +208,10 @@ island_hears j (suc (suc i)) before x ss (g ∷ (h ∷ rs)) le =
 
 -- A row.
 
-whole_hears : (j : ℕ) (bytes : List ℕ) (n : ℕ) (ts us : List Thing) → ticks ts ≡ replicate n parted → AreGaps us → (line : Thing) → ticks (line ∷ us) ≡ pixels_tick bytes ∷ ticks us → Hears (ticks (ts ++ (line ∷ us))) (cell.pixels bytes ∷ [])
-whole_hears j bytes n ts us e g line l =
+whole_hears : (j : ℕ) (bytes : List ℕ) (n : ℕ) (ts us : List Thing) → ticks ts ≡ replicate n parted → AreGaps us → (told : Thing) → ticks (told ∷ us) ≡ pixels_tick bytes ∷ ticks us → Hears (ticks (ts ++ (told ∷ us))) (cell.pixels bytes ∷ [])
+whole_hears j bytes n ts us e g told l =
     subst (λ (xs : List Tick). Hears xs (cell.pixels bytes ∷ []))
-    (sym (ticks_append ts (line ∷ us) ∙ ap₂ (λ (xs ys : List Tick). xs ++ ys) e (l ∙ ap (λ (xs : List Tick). pixels_tick bytes ∷ xs) (g.are ∙ sym (append-nil (replicate g.many parted))))))
+    (sym (ticks_append ts (told ∷ us) ∙ ap₂ (λ (xs ys : List Tick). xs ++ ys) e (l ∙ ap (λ (xs : List Tick). pixels_tick bytes ∷ xs) (g.are ∙ sym (append-nil (replicate g.many parted))))))
     (row bytes n g.many [] [] none)
 
 cut_hears : (n : ℕ) (ts : List Thing) (s : ℕ) → ticks ts ≡ replicate n parted → Hears (ticks (ts ++ (cut s ∷ []))) (cell.parted ∷ [])
@@ -330,7 +330,7 @@ period_hears n j m own here parts b ss rs h later =
 shorter_rest : (n m : ℕ) (rs : List Column) → m ≤ length rs → m - n ≤ length (drop n rs)
 shorter_rest n m rs le = let l = length-drop n rs in omega (arith, le, l)
 
-pub parts_hear : (parts : List Part) (acc : List Column) (j m : ℕ) (ss rs : List Column) → m ≤ length rs → Hears (ticks (account_on acc j m (gathered parts) ss rs)) (parts_cells m parts ss rs)
+parts_hear : (parts : List Part) (acc : List Column) (j m : ℕ) (ss rs : List Column) → m ≤ length rs → Hears (ticks (account_on acc j m (gathered parts) ss rs)) (parts_cells m parts ss rs)
 unfolding gathered parts_cells part_cells account_from period_row period_columns ticks
 parts_hear parts acc j zero ss rs le = nothing_hears parts acc j ss rs
 parts_hear [] acc j (suc m) ss rs le = none
@@ -350,3 +350,101 @@ parts_hear (packets x ∷ parts) acc j (suc m) ss rs le =
     period_hears n j (suc m) (island_told j (suc m) acc x (take n ss) (take n rs)) (gap_cells (suc m)) parts (take n rs) ss rs
     (island_hears j (suc m) acc x (take n ss) (take n rs) (omega (arith, l, le)))
     (λ acc2. parts_hear parts acc2 (j + n) (suc m - n) (drop n ss) (drop n rs) (shorter_rest n (suc m) rs le))
+
+-- From a column on.
+
+video_size : (bytes : List ℕ) → period_columns (video bytes) ≡ 2 + length bytes / 3
+unfolding period_columns
+video_size bytes = refl
+
+island_size : (x : DataIsland) → period_columns (island x) ≡ 4 + 32 * length x.packets
+unfolding period_columns
+island_size x = refl
+
+lt_shift : (a l : ℕ) → nat_lt (1 + a) (1 + l) ≡ nat_lt a l
+lt_shift a l = grind arith
+
+past : (p : Period) (ps : List Period) (ss rs : List Column) (n a b m : ℕ) → period_columns p ≡ n → b ≡ n + a
+    → account (p ∷ ps) ss rs b m ≡ account ps (drop n ss) (drop n rs) a m
+unfolding account
+past p ps ss rs n a b m e d =
+    let f : nat_lt b (period_columns p) ≡ false = le-ltb b (period_columns p) (omega (arith, e, d)) in
+    let g : b - period_columns p ≡ a = omega (arith, e, d) in
+    ap (λ (x : Bool). cond x (account_at p b m ps ss rs) (account ps (drop (period_columns p) ss) (drop (period_columns p) rs) (b - period_columns p) m)) f
+    ∙ ap₂ (λ (x y : ℕ). account ps (drop x ss) (drop x rs) y m) e g
+
+-- m columns of a period of k columns from column a of it on
+abbrev at_with : ℕ → ℕ → ℕ → List Column → List Period → List Column → List Column → List Thing
+at_with k a m first ps ss rs = control_row 0 (take m first) ++ account_from (k - a) (m - (k - a)) first ps (drop k ss) (drop k rs)
+
+first_dropped : (n a : ℕ) (rs : List Column) → drop (1 + a) (take (1 + n) rs) ≡ drop a (take n (drop 1 rs))
+first_dropped n a rs = sym (drop-drop a 1 (take (1 + n) rs)) ∙ ap (drop a) (drop-take 1 n rs)
+
+-- a control column more, before
+past_column : (w : ℕ) (periods : List Period) (ss rs : List Column) (a m : ℕ) → account (before w periods) ss rs (1 + a) m ≡ account periods (drop 1 ss) (drop 1 rs) a m
+unfolding account account_at
+past_column w [] ss rs a m = past (control_period (join w [])) [] ss rs 1 a (1 + a) m (one_period w) refl
+past_column w (video bytes ∷ periods) ss rs a m = past (control_period (join w [])) (video bytes ∷ periods) ss rs 1 a (1 + a) m (one_period w) refl
+past_column w (island x ∷ periods) ss rs a m = past (control_period (join w [])) (island x ∷ periods) ss rs 1 a (1 + a) m (one_period w) refl
+past_column w (control_period runs ∷ periods) ss rs a m =
+    let n = period_columns (control_period runs) in
+    let s : period_columns (control_period (join w runs)) ≡ 1 + n = longer_period w runs ∙ omega arith in
+    let e : (1 + n) - (1 + a) ≡ n - a = omega arith in
+    let d : (1 + a) - (1 + n) ≡ a - n = omega arith in
+    ap (λ (k : ℕ). cond (nat_lt (1 + a) k) (at_with k (1 + a) m (drop (1 + a) (take k rs)) periods ss rs) (account periods (drop k ss) (drop k rs) ((1 + a) - k) m)) s
+    ∙ ap₂ (λ (b : Bool) (cs : List Column). cond b (at_with (1 + n) (1 + a) m cs periods ss rs) (account periods (drop (1 + n) ss) (drop (1 + n) rs) ((1 + a) - (1 + n)) m)) (lt_shift a n) (first_dropped n a rs)
+    ∙ ap₂ (λ (i k : ℕ). cond (nat_lt a n)
+    (control_row 0 (take m (drop a (take n (drop 1 rs)))) ++ account_from i (m - i) (drop a (take n (drop 1 rs))) periods (drop (1 + n) ss) (drop (1 + n) rs))
+    (account periods (drop (1 + n) ss) (drop (1 + n) rs) k m)) e d
+    ∙ ap₂ (λ (cs ds : List Column). cond (nat_lt a n)
+    (control_row 0 (take m (drop a (take n (drop 1 rs)))) ++ account_from (n - a) (m - (n - a)) (drop a (take n (drop 1 rs))) periods cs ds)
+    (account periods cs ds (a - n) m)) (sym (drop-drop n 1 ss)) (sym (drop-drop n 1 rs))
+
+at_start : (runs : List ControlRun) (periods : List Period) (ss rs : List Column) (m : ℕ) → 0 < period_columns (control_period runs)
+    → account (control_period runs ∷ periods) ss rs 0 m ≡ account_on [] 0 m (control_period runs ∷ periods) ss rs
+unfolding account account_at
+at_start runs periods ss rs m lt =
+    let n = period_columns (control_period runs) in
+    let e : n - 0 ≡ 0 + n = omega arith in
+    let d : m - (0 + n) ≡ m - n = omega arith in
+    ap (λ (b : Bool). cond b (at_with n 0 m (take n rs) periods ss rs) (account periods (drop n ss) (drop n rs) (0 - n) m)) (lt-ltb 0 n lt)
+    ∙ ap (λ (k : ℕ). control_row 0 (take m (take n rs)) ++ account_from k (m - k) (take n rs) periods (drop n ss) (drop n rs)) e
+    ∙ ap (λ (k : ℕ). control_row 0 (take m (take n rs)) ++ account_from (0 + n) k (take n rs) periods (drop n ss) (drop n rs)) d
+
+starts : (v : ℕ) (periods : List Period) (ss rs : List Column) (m : ℕ) → account (before v periods) ss rs 0 m ≡ account_on [] 0 m (before v periods) ss rs
+starts v [] ss rs m = at_start (join v []) [] ss rs m (omega (arith, one_period v))
+starts v (video bytes ∷ periods) ss rs m = at_start (join v []) (video bytes ∷ periods) ss rs m (omega (arith, one_period v))
+starts v (island x ∷ periods) ss rs m = at_start (join v []) (island x ∷ periods) ss rs m (omega (arith, one_period v))
+starts v (control_period runs ∷ periods) ss rs m = at_start (join v runs) periods ss rs m (omega (arith, longer_period v runs))
+
+-- a part more in front
+front_hears : (n : ℕ) (periods more : List Period) (front back : List Part) (v m : ℕ) (ss rs : List Column)
+    → account more ss rs (n + size front) m ≡ account periods (drop n ss) (drop n rs) (size front) m
+    → Hears (ticks (account periods (drop n ss) (drop n rs) (size front) m)) (parts_cells m (column v ∷ back) (drop (size front) (drop n ss)) (drop (size front) (drop n rs)))
+    → Hears (ticks (account more ss rs (n + size front) m)) (parts_cells m (column v ∷ back) (drop (n + size front) ss) (drop (n + size front) rs))
+front_hears n periods more front back v m ss rs e h =
+    subst (λ (ts : List Thing). Hears (ticks ts) (parts_cells m (column v ∷ back) (drop (n + size front) ss) (drop (n + size front) rs))) (sym e)
+    (subst (λ (cs : List Cell). Hears (ticks (account periods (drop n ss) (drop n rs) (size front) m)) cs)
+    (ap₂ (λ (cs ds : List Column). parts_cells m (column v ∷ back) cs ds) (drop-drop (size front) n ss) (drop-drop (size front) n rs)) h)
+
+fewer_left : (n k m : ℕ) (rs : List Column) → n + k + m ≤ length rs → k + m ≤ length (drop n rs)
+fewer_left n k m rs le = let l = length-drop n rs in omega (arith, le, l)
+
+pub account_hears : (front back : List Part) (v : ℕ) (m : ℕ) (ss rs : List Column) → size front + m ≤ length rs
+    → Hears (ticks (account (gathered (front ++ (column v ∷ back))) ss rs (size front) m)) (parts_cells m (column v ∷ back) (drop (size front) ss) (drop (size front) rs))
+unfolding gathered size
+account_hears [] back v m ss rs le =
+    subst (λ (ts : List Thing). Hears (ticks ts) (parts_cells m (column v ∷ back) ss rs)) (sym (starts v (gathered back) ss rs m)) (parts_hear (column v ∷ back) [] 0 m ss rs (omega (arith, le)))
+account_hears (column w ∷ front) back v m ss rs le =
+    front_hears 1 (gathered (front ++ (column v ∷ back))) (before w (gathered (front ++ (column v ∷ back)))) front back v m ss rs (past_column w (gathered (front ++ (column v ∷ back))) ss rs (size front) m)
+    (account_hears front back v m (drop 1 ss) (drop 1 rs) (fewer_left 1 (size front) m rs le))
+account_hears (pixels bytes ∷ front) back v m ss rs le =
+    let n = 2 + length bytes / 3 in
+    front_hears n (gathered (front ++ (column v ∷ back))) (video bytes ∷ gathered (front ++ (column v ∷ back))) front back v m ss rs
+    (past (video bytes) (gathered (front ++ (column v ∷ back))) ss rs n (size front) (n + size front) m (video_size bytes) refl)
+    (account_hears front back v m (drop n ss) (drop n rs) (fewer_left n (size front) m rs le))
+account_hears (packets x ∷ front) back v m ss rs le =
+    let n = 4 + 32 * length x.packets in
+    front_hears n (gathered (front ++ (column v ∷ back))) (island x ∷ gathered (front ++ (column v ∷ back))) front back v m ss rs
+    (past (island x) (gathered (front ++ (column v ∷ back))) ss rs n (size front) (n + size front) m (island_size x) refl)
+    (account_hears front back v m (drop n ss) (drop n rs) (fewer_left n (size front) m rs le))

@@ -4,6 +4,9 @@ pub mod Cells
 pub mod Ready
 pub mod Parts
 pub mod Accounted
+pub mod Lines
+pub mod Rows
+pub mod Frames
 pub mod AsSent
 pub mod Contents
 pub mod Told

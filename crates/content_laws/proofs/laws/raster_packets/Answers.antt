@@ -1,4 +1,6 @@
-use Rattle.content_laws.proofs.Accounted.{parts_hear}
+use Rattle.content_laws.proofs.Frames.{rows_say}
+use Rattle.content_laws.proofs.Rows.{row_seen}
+use Rattle.content_laws.proofs.Accounted.{account_hears}
 use Rattle.content_laws.proofs.Ready.{turn, settle}
 use Rattle.content_laws.proofs.Walk.{listed_ticks}
 use Rattle.content_laws.proofs.Cells.{all_say}
