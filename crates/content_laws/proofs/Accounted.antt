@@ -302,7 +302,7 @@ first_tick v (control_period runs ∷ periods) acc j m ss c rs =
     ∙ ap (λ (xs : List Tick). tick_of c ∷ (xs ++ ticks (account_from ((j + 1) + n) (m - n) ((acc ++ c ∷ []) ++ take n rs) periods (drop n (drop 1 ss)) (drop n rs)))) (sym (row_ticks (j + 1) (take m (take n rs))))
     ∙ ap (λ (ts : List Tick). tick_of c ∷ ts) (sym (ticks_append (control_row (j + 1) (take m (take n rs))) (account_from ((j + 1) + n) (m - n) ((acc ++ c ∷ []) ++ take n rs) periods (drop n (drop 1 ss)) (drop n rs))))
 
-cells_first : (v : ℕ) (parts : List Part) (m : ℕ) (ss : List Column) (c : Column) (rs : List Column)
+pub cells_first : (v : ℕ) (parts : List Part) (m : ℕ) (ss : List Column) (c : Column) (rs : List Column)
     → parts_cells (suc m) (column v ∷ parts) ss (c ∷ rs) ≡ cell.control (vsync_of v) (vsync_of (value_of c)) ∷ parts_cells m parts (drop 1 ss) rs
 unfolding parts_cells part_cells
 cells_first v parts m ss c rs =

@@ -121,7 +121,7 @@ fine rs (parted ∷ cs) = fine [] cs
 
 -- Marks that differ in gaps alone.
 
-abbrev alike : List Mark → List Mark → Bool
+abbrev pub alike : List Mark → List Mark → Bool
 alike [] [] = true
 alike [] (gap ∷ ns) = true
 alike [] (column w ∷ ns) = false
@@ -151,7 +151,7 @@ no_gap : (b : Bool) → has_vsync b gap ≡ false
 no_gap true = refl
 no_gap false = refl
 
-and_false : (a b : Bool) → b ≡ false → (a && b) ≡ false
+pub and_false : (a b : Bool) → b ≡ false → (a && b) ≡ false
 and_false true b h = h
 and_false false b h = refl
 
@@ -186,7 +186,7 @@ both_alike b (column v ∷ ms) (column w ∷ ns) h = next ms ns (and-right (same
     next (column u ∷ ms) (column x ∷ ns) k =
         ap₂ (λ (p q : Bool). has_vsync b (column p) && has_vsync b (column q)) (sym (same_is v w (and-left (same v w) _ h))) (sym (same_is u x (and-left (same u x) _ k)))
 
-three_alike : (b : Bool) (ms ns : List Mark) → alike ms ns ≡ true → three_have b (column b ∷ ms) ≡ three_have b (column b ∷ ns)
+pub three_alike : (b : Bool) (ms ns : List Mark) → alike ms ns ≡ true → three_have b (column b ∷ ms) ≡ three_have b (column b ∷ ns)
 three_alike b ms ns h = three_is b ms ∙ both_alike b ms ns h ∙ sym (three_is b ns)
 
 record Like (s : plain.State) (t : State) : Type 0 where
@@ -219,7 +219,7 @@ column_same w s t l =
     ap₂ (λ (x : Bool) (h : Option Bool). ends (differ (hears x w) h) s.counting s.group) (three_alike w s.marks t.marks l.marks) l.heard
     ∙ ap₂ (λ (c : Bool) (g : List ℕ). ends (differ (heard_at w t) t.heard) c g) l.counting l.group
 
-taken_is : (b v : Bool) (rs : List Bool) → (same b v || few rs) ≡ true → taken b v rs ≡ v
+pub taken_is : (b v : Bool) (rs : List Bool) → (same b v || few rs) ≡ true → taken b v rs ≡ v
 taken_is b v rs h = by_test (few rs) h
   where
     by_test : (t : Bool) → (same b v || t) ≡ true → cond t v b ≡ v

@@ -176,7 +176,7 @@ rows_and_front mode ok rows are qs back lines ss rs e p q last place ends_sent e
 
 -- The columns after the last frame.
 
-even_same : (b : Bool) (v n : ℕ) → vsync_of v ≡ b → Even b (replicate n (column v))
+pub even_same : (b : Bool) (v n : ℕ) → vsync_of v ≡ b → Even b (replicate n (column v))
 even_same b v zero e = even_none b
 even_same b v (suc n) e = even_column b v (replicate n (column v)) e (even_same b v n e)
 
@@ -260,11 +260,11 @@ after_sync_lines mode ok f good frames ss rs e p last ends_sent ends_received s 
     ss rs e (p + sync_area mode + back_area mode) (p + frame_area mode) last (omega (arith, area)) ends_sent ends_received t true 0 count now
     (λ u h grown ready final3. next u true h ready final3 ∙ ap (λ (xs : List Listed). xs ++ frames_listed mode ss rs e last (p + frame_area mode) frames) (pending_frame mode ok e (p + frame_area mode) last h grown)) final2) final
 
-nothing_seen : (ss rs : List Column) (e p : ℕ) (parts : List Part) → e < p → seen ss rs e p parts ≡ []
+pub nothing_seen : (ss rs : List Column) (e p : ℕ) (parts : List Part) → e < p → seen ss rs e p parts ≡ []
 unfolding seen
 nothing_seen ss rs e p parts lt = let z : e - p ≡ 0 = omega (arith, lt) in ap (λ (k : ℕ). parts_cells k parts (drop p ss) (drop p rs)) z ∙ part.parts_none parts (drop p ss) (drop p rs)
 
-nothing_said : (s : State) → says [] s ≡ []
+pub nothing_said : (s : State) → says [] s ≡ []
 unfolding says
 nothing_said s = refl
 

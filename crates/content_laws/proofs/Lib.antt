@@ -2,11 +2,17 @@ pub mod Machine
 pub mod Walk
 pub mod Cells
 pub mod Ready
+pub mod Met
 pub mod Parts
 pub mod Accounted
 pub mod Lines
 pub mod Rows
 pub mod Frames
+pub mod Counting
+pub mod Mute
+pub mod Starts
+pub mod Found
+pub mod From
 pub mod AsSent
 pub mod Contents
 pub mod Told

@@ -152,6 +152,19 @@ begins_more b xs ys h = record {
   level = h.level;
 }
 
+-- the first column of them
+pub record First (parts : List Part) : Type 0 where
+  pub value : ℕ
+  pub rest : List Part
+  pub are : parts ≡ column value ∷ rest
+
+pub begins_first : (b : Bool) (parts : List Part) → Begins b parts → First parts
+begins_first b parts h = by_values h.values h.are h.long
+  where
+    by_values : (vs : List ℕ) → parts ≡ map column vs ++ h.rest → length vs ≡ 11 → First parts
+    by_values [] e l = absurd (omega (arith, l))
+    by_values (v ∷ vs) e l = record { value = v; rest = map column vs ++ h.rest; are = e }
+
 columns_map : (value : ℕ → ℕ) (n x : ℕ) → map (λ i. column (value i)) (up_from x n) ≡ map column (map value (up_from x n))
 columns_map value zero x = refl
 columns_map value (suc n) x = ap (λ (ps : List Part). column (value x) ∷ ps) (columns_map value n (suc x))

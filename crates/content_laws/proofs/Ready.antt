@@ -51,11 +51,11 @@ flat_append b xs ys h g = list_all-append (flat b) xs ys ∙ ap₂ (λ (x y : Bo
 
 -- One column.
 
-not_it : (b : Bool) → has_vsync (not b) (column b) ≡ false
+pub not_it : (b : Bool) → has_vsync (not b) (column b) ≡ false
 not_it true = refl
 not_it false = refl
 
-column_clear : (b : Bool) (ms : List Mark) → clear (not b) (column b ∷ ms) ≡ true
+pub column_clear : (b : Bool) (ms : List Mark) → clear (not b) (column b ∷ ms) ≡ true
 column_clear b ms = ap not (not_it b)
 
 pub gap_clear : (b : Bool) (ms : List Mark) → clear b (gap ∷ ms) ≡ true
@@ -94,7 +94,7 @@ two_many : (rs : List Bool) → few (true ∷ (true ∷ rs)) ≡ true → ⊥
 unfolding one_if
 two_many rs h = let e = leb-true (wrongs 10 (true ∷ (true ∷ rs))) 1 h in omega (arith, e)
 
-grows : (b : Bool) (ms : List Mark) (rs : List Bool) → few rs ≡ true → Trail b ms rs → MayGrow b ms rs
+pub grows : (b : Bool) (ms : List Mark) (rs : List Bool) → few rs ≡ true → Trail b ms rs → MayGrow b ms rs
 grows b ms rs h t = by_count t.count t.least t.marks t.recent
   where
     by_count : (n : ℕ) → n ≤ 2 → ms ≡ replicate n (column (not b)) ++ t.earlier → rs ≡ replicate n true ++ t.older → MayGrow b ms rs
@@ -135,7 +135,7 @@ flag_wrong : (b : Bool) → not (same b (not b)) ≡ true
 flag_wrong true = refl
 flag_wrong false = refl
 
-step_right : (b v : Bool) (s : State) → taken b v s.recent ≡ b → step (control b v) s ≡ column_state false b s
+pub step_right : (b v : Bool) (s : State) → taken b v s.recent ≡ b → step (control b v) s ≡ column_state false b s
 step_right b v s e = ap (λ (w : Bool). column_state (not (same b w)) w s) e ∙ ap (λ (f : Bool). column_state f b s) (flag_right b)
 
 step_wrong : (b v : Bool) (s : State) → taken b v s.recent ≡ not b → step (control b v) s ≡ column_state true (not b) s
@@ -361,7 +361,7 @@ abbrev pub is_heard : Bool → Option Bool → Bool
 is_heard b None = false
 is_heard b (Some v) = same b v
 
-other_heard : (b : Bool) → same b (not b) ≡ false
+pub other_heard : (b : Bool) → same b (not b) ≡ false
 other_heard true = refl
 other_heard false = refl
 
@@ -465,7 +465,7 @@ pub turned_marks : (c : Bool) (ms : List Mark) (h : Option Bool) (rs : List Bool
 turned_marks true ms h rs s = refl
 turned_marks false ms h rs s = refl
 
-turned_heard : (c : Bool) (ms : List Mark) (h : Option Bool) (rs : List Bool) (s : State) → (turned c ms h rs s).heard ≡ h
+pub turned_heard : (c : Bool) (ms : List Mark) (h : Option Bool) (rs : List Bool) (s : State) → (turned c ms h rs s).heard ≡ h
 turned_heard true ms h rs s = refl
 turned_heard false ms h rs s = refl
 

@@ -1,4 +1,7 @@
-use Rattle.content_laws.proofs.Frames.{rows_say}
+use Rattle.content_laws.proofs.Met.{heard_met, none_met}
+use Rattle.content_laws.proofs.From.{frames_listed_from}
+use Rattle.content_laws.proofs.Found.{lines_ends}
+use Rattle.content_laws.proofs.Counting.{frames_say}
 use Rattle.content_laws.proofs.Rows.{row_seen}
 use Rattle.content_laws.proofs.Accounted.{account_hears}
 use Rattle.content_laws.proofs.Ready.{turn, settle}
