@@ -353,11 +353,11 @@ parts_hear (packets x ∷ parts) acc j (suc m) ss rs le =
 
 -- From a column on.
 
-video_size : (bytes : List ℕ) → period_columns (video bytes) ≡ 2 + length bytes / 3
+pub video_size : (bytes : List ℕ) → period_columns (video bytes) ≡ 2 + length bytes / 3
 unfolding period_columns
 video_size bytes = refl
 
-island_size : (x : DataIsland) → period_columns (island x) ≡ 4 + 32 * length x.packets
+pub island_size : (x : DataIsland) → period_columns (island x) ≡ 4 + 32 * length x.packets
 unfolding period_columns
 island_size x = refl
 

@@ -194,7 +194,7 @@ unfolding size
 size_values [] = refl
 size_values (v ∷ vs) = omega (arith, size_values vs)
 
-size_mid : (b : Bool) (parts : List Part) → Begins b parts → 11 ≤ size parts
+pub size_mid : (b : Bool) (parts : List Part) → Begins b parts → 11 ≤ size parts
 size_mid b parts h = let e = ap size h.are in let s = size_append (map column h.values) h.rest in let v = size_values h.values in omega (arith, e, s, v, h.long)
 
 -- in a sync line

@@ -2,7 +2,7 @@ pub mod Machine
 pub mod Walk
 pub mod Cells
 pub mod Ready
-pub mod Met
+pub mod Threes
 pub mod Parts
 pub mod Accounted
 pub mod Lines
@@ -13,6 +13,13 @@ pub mod Mute
 pub mod Starts
 pub mod Found
 pub mod From
+pub mod Arrived
+pub mod Fine
+pub mod Synced
+pub mod CameBack
+pub mod Law
 pub mod AsSent
 pub mod Contents
 pub mod Told
+pub mod PacketLines
+pub mod PictureLines

@@ -86,7 +86,7 @@ one_more : (r : Bool) (n : ℕ) (rs : List Bool) → wrongs (suc n) (r ∷ rs) �
 one_more r n rs = refl
 
 -- one more of the wrong level is no third
-record MayGrow (b : Bool) (ms : List Mark) (rs : List Bool) : Type 0 where
+pub record MayGrow (b : Bool) (ms : List Mark) (rs : List Bool) : Type 0 where
   pub trail : Trail b (column (not b) ∷ ms) (true ∷ rs)
   pub none : three_have (not b) (column (not b) ∷ ms) ≡ false
 

@@ -153,7 +153,7 @@ heard_met b (v ∷ vs) s h un =
     let now = step_taken b v s (and-left (same b v || few s.recent) _ h) in
     let rest = and-right (same b v || few s.recent) (fine (not (same b v) ∷ s.recent) (columns b vs)) h in
     elim (level_cases b v) [
-      | inl right ↦ by_three (now ∙ ap₂ (λ (x y : Bool). column_state (not x) y s) right.0 right.1) (subst (λ (x : Bool). fine (not x ∷ s.recent) (columns b vs) ≡ true) right.0 rest) right.1 (three_have b (column b ∷ s.marks)) refl
+      | inl right ↦ by_three (λ x f un2. heard_met b vs x f un2) (now ∙ ap₂ (λ (x y : Bool). column_state (not x) y s) right.0 right.1) (subst (λ (x : Bool). fine (not x ∷ s.recent) (columns b vs) ≡ true) right.0 rest) right.1 (three_have b (column b ∷ s.marks)) refl
       | inr wrong ↦
           let st = column_state true (not b) s in
           let is : step (control b v) s ≡ st = now ∙ ap₂ (λ (x y : Bool). column_state (not x) y s) wrong.0 wrong.1 in
@@ -167,9 +167,9 @@ heard_met b (v ∷ vs) s h un =
           ∙ ap (λ (t : Bool). t || met b (column (not b) ∷ s.marks) (columns b vs)) (three_wrong b s.marks))
     ]
   where
-    by_three : step (control b v) s ≡ column_state false b s → fine (false ∷ s.recent) (columns b vs) ≡ true → v ≡ b → (t : Bool) → three_have b (column b ∷ s.marks) ≡ t
+    by_three : ((x : State) → fine x.recent (columns b vs) ≡ true → is_heard b x.heard ≡ false → is_heard b (after (columns b vs) x).heard ≡ met b x.marks (columns b vs)) → step (control b v) s ≡ column_state false b s → fine (false ∷ s.recent) (columns b vs) ≡ true → v ≡ b → (t : Bool) → three_have b (column b ∷ s.marks) ≡ t
         → is_heard b (after (columns b vs) (step (control b v) s)).heard ≡ (three_have b (column v ∷ s.marks) || met b (column v ∷ s.marks) (columns b vs))
-    by_three is f e true three =
+    by_three ih is f e true three =
         let st = column_state false b s in
         let heard : st.heard ≡ Some b = turned_heard (differ (heard_at b s) s.heard) (column b ∷ s.marks) (newer (heard_at b s) s.heard) (false ∷ s.recent) s ∙ ap (λ (t : Bool). newer (hears t b) s.heard) three in
         let trail = subst (λ (ms : List Mark). Trail b ms st.recent) (sym (state_marks false b s)) (clear_trail b (column b ∷ s.marks) st.recent (column_clear b s.marks)) in
@@ -177,11 +177,11 @@ heard_met b (v ∷ vs) s h un =
         let q = quiet b st.counting st.group (columns b vs) st (flat_columns b vs) ready in
         ap (λ (t : State). is_heard b (after (columns b vs) t).heard) is ∙ ap (is_heard b) q.ready.heard ∙ same_self b
         ∙ sym (ap (λ (x : Bool). three_have b (column x ∷ s.marks) || met b (column x ∷ s.marks) (columns b vs)) e ∙ ap (λ (t : Bool). t || met b (column b ∷ s.marks) (columns b vs)) three)
-    by_three is f e false three =
+    by_three ih is f e false three =
         let st = column_state false b s in
         let un2 : is_heard b st.heard ≡ false =
         ap (is_heard b) (turned_heard (differ (heard_at b s) s.heard) (column b ∷ s.marks) (newer (heard_at b s) s.heard) (false ∷ s.recent) s ∙ ap (λ (t : Bool). newer (hears t b) s.heard) three) ∙ un in
         ap (λ (t : State). is_heard b (after (columns b vs) t).heard) is
-        ∙ heard_met b vs st (subst (λ (rs : List Bool). fine rs (columns b vs) ≡ true) (sym (state_recent false b s)) f) un2
+        ∙ ih st (subst (λ (rs : List Bool). fine rs (columns b vs) ≡ true) (sym (state_recent false b s)) f) un2
         ∙ ap (λ (ms : List Mark). met b ms (columns b vs)) (state_marks false b s)
         ∙ sym (ap (λ (x : Bool). three_have b (column x ∷ s.marks) || met b (column x ∷ s.marks) (columns b vs)) e ∙ ap (λ (t : Bool). t || met b (column b ∷ s.marks) (columns b vs)) three)

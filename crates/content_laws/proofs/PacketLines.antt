@@ -1,0 +1,85 @@
+-- The content lines of a packet of which at most one word came unlike.
+use Rattle.std.proofs.Common.{◌≡◌, ℕ, zero, suc, ◌<◌, ◌≤◌, Bool, true, false, if◌then◌else◌, List, [], ◌∷◌, map, length, Option, Some, None, refl, sym, ap, ap₂, ◌∙◌, arith}
+use Rattle.std.specs.Prelude.{is_some, slice_index, nat_le, Result, Ok, Err, ◌==◌}
+use Rattle.std.specs.List.{find}
+use Rattle.tmds_word.specs.Column.{Column}
+use Rattle.bch_block.specs.declared.Verdict.{Verdict}
+use Rattle.bch_block.specs.declared.Verdict.TheVariants.{Clean, Mended, Lost}
+use Rattle.island_pack.specs.Packets.{body_of}
+use Rattle.island_pack.specs.Taken.{verdict_on, spotless}
+use Rattle.island_pack.specs.declared.packet.Packet.{Packet}
+use Rattle.island_pack.specs.declared.packet.PacketVerdicts.{PacketVerdicts}
+use Rattle.period_grammar.specs.Packets.{verdicts_of}
+use Rattle.infoframe.specs.Frames.{answer, frame_in, length_in, sum_of, kind_of, has_length, frame_of, first_lost as first_lost_block}
+use Rattle.infoframe.specs.Frames as info
+use Rattle.audio_packets.specs.Clock.{are_alike, clock_in}
+use Rattle.audio_packets.specs.Samples.{has_many_channels, samples_from}
+use Rattle.audio_packets.specs.Faults.{first_lost, unless_lost}
+use Rattle.audio_packets.specs.Faults as audio
+use Rattle.audio_packets.specs.declared.fault.AudioFault.TheVariants.{Uneven, Layout}
+use Rattle.listing.specs.ContentText.{packet_lines, carried_lines, clock_lines, sample_lines, control_lines, info_lines, other_words}
+use Rattle.link_sink.specs.Account.{packet_row}
+use Rattle.content_laws.specs.PacketLaws.{IsAsSent}
+use Rattle.content_laws.specs.ListingLaws.{PacketLinesAsSent}
+use Rattle.content_laws.proofs.AsSent.{one_word_as_sent}
+
+-- the lines of a packet of which these blocks are lost
+abbrev lines_by : Option ℕ → Option ℕ → Packet → ℕ → List (List ℕ)
+lines_by lost missing p column =
+    if is_some lost then [] else
+    (if slice_index p.header 0 == 0 then []
+    else (if slice_index p.header 0 == 1 then clock_lines column (unless_lost missing (if are_alike p then Ok (clock_in (body_of p 0)) else Err Uneven))
+    else (if slice_index p.header 0 == 2 then sample_lines column (unless_lost missing (if has_many_channels p then Err Layout else Ok (samples_from p 0)))
+    else (if slice_index p.header 0 == 3 then control_lines column p.bodies
+    else (if nat_le 0x80 (slice_index p.header 0) then info_lines column (answer lost (has_length (kind_of (frame_in p).type_code (frame_in p).version) (length_in p)) (sum_of p) (frame_in p))
+    else other_words p ∷ [])))))
+
+lines_are : (p : Packet) (v : PacketVerdicts) (column : ℕ) → packet_lines p v column ≡ lines_by (first_lost_block v) (first_lost v) p column
+unfolding packet_lines carried_lines frame_of
+lines_are p v column = refl
+
+-- a packet without its sync values
+abbrev bare : List ℕ → List ℕ → Packet
+bare header bodies = record { header = header; bodies = bodies; sync = [] }
+
+lines_bare : (lost missing : Option ℕ) (p : Packet) (column : ℕ) → lines_by lost missing p column ≡ lines_by lost missing (bare p.header p.bodies) column
+unfolding frame_in length_in sum_of other_words
+lines_bare lost missing p column = refl
+
+not_lost : (v : Verdict) → (v ≡ Lost → ⊥) → (audio.is_lost v ≡ false) × (info.is_lost v ≡ false)
+not_lost Clean h = (refl, refl)
+not_lost (Mended i) h = (refl, refl)
+not_lost Lost h = absurd (h refl)
+
+none_found : (p : ℕ → Bool) → p 0 ≡ false → p 1 ≡ false → p 2 ≡ false → p 3 ≡ false → p 4 ≡ false → find p (0 ∷ (1 ∷ (2 ∷ (3 ∷ (4 ∷ []))))) ≡ None
+none_found p a b c d e = rw a (rw b (rw c (rw d (rw e refl))))
+
+none_missing : (v : PacketVerdicts) → ((b : ℕ) → b < 5 → verdict_on v b ≡ Lost → ⊥) → first_lost v ≡ None
+none_missing v h =
+    none_found (λ b. audio.is_lost (verdict_on v b))
+    ((not_lost (verdict_on v 0) (h 0 (omega arith))).0) ((not_lost (verdict_on v 1) (h 1 (omega arith))).0) ((not_lost (verdict_on v 2) (h 2 (omega arith))).0) ((not_lost (verdict_on v 3) (h 3 (omega arith))).0) ((not_lost (verdict_on v 4) (h 4 (omega arith))).0)
+
+none_lost : (v : PacketVerdicts) → ((b : ℕ) → b < 5 → verdict_on v b ≡ Lost → ⊥) → first_lost_block v ≡ None
+unfolding first_lost_block
+none_lost v h =
+    none_found (λ b. info.is_lost (verdict_on v b))
+    ((not_lost (verdict_on v 0) (h 0 (omega arith))).1) ((not_lost (verdict_on v 1) (h 1 (omega arith))).1) ((not_lost (verdict_on v 2) (h 2 (omega arith))).1) ((not_lost (verdict_on v 3) (h 3 (omega arith))).1) ((not_lost (verdict_on v 4) (h 4 (omega arith))).1)
+
+spotless_kept : first_lost_block spotless ≡ None
+unfolding first_lost_block
+spotless_kept = refl
+
+spotless_whole : first_lost spotless ≡ None
+spotless_whole = refl
+
+pub packet_lines_as_sent : PacketLinesAsSent
+packet_lines_as_sent p first sent received carries long few column =
+    let h = one_word_as_sent p first sent received carries long few in
+    let told = packet_row p sent received in
+    let v = verdicts_of received in
+    lines_are told v column
+    ∙ lines_bare (first_lost_block v) (first_lost v) told column
+    ∙ ap₂ (λ (a b : List ℕ). lines_by (first_lost_block v) (first_lost v) (bare a b) column) h.header h.bodies
+    ∙ ap₂ (λ (a b : Option ℕ). lines_by a b (bare p.header p.bodies) column) (none_lost v h.kept ∙ sym spotless_kept) (none_missing v h.kept ∙ sym spotless_whole)
+    ∙ sym (lines_bare (first_lost_block spotless) (first_lost spotless) p column)
+    ∙ sym (lines_are p spotless column)
