@@ -12,9 +12,9 @@ use Rattle.island_pack.specs.Periods.{ControlRun, DataIsland, Period, control as
 use Rattle.island_pack.specs.Runs.{join}
 use Rattle.island_pack.proofs.Runs.{join_values}
 use Rattle.island_pack.specs.declared.packet.Packet.{Packet}
-use Rattle.period_grammar.specs.Things.{Thing, word, preamble, cut, symbols, guard, all_at, thing_of}
+use Rattle.period_grammar.specs.Things.{Thing, preamble, cut, symbols, guard, all_at, thing_of}
 use Rattle.period_grammar.specs.Packets.{verdicts_of}
-use Rattle.period_grammar.specs.Column.{value_of, sync_digit}
+use Rattle.period_grammar.specs.Column.{value_of}
 use Rattle.period_grammar.specs.Cut.{Run, columns, in_front, value, before_runs, runs as runs_of}
 use Rattle.period_grammar.specs.Island.{if_so, block_fault, block_faults, wrong_guards}
 use Rattle.period_grammar.specs.Coding.{first_uncoded}
@@ -24,11 +24,11 @@ use Rattle.link_sink.specs.Account.{runs_row, control_row, wrong_preamble, open_
 use Rattle.link_sink.proofs.Cutting.{things_at}
 use Rattle.link_sink.proofs.Joining.{no_row, account_zero}
 use Rattle.source_end.specs.Raster.{Part, column, pixels, packets, before, gathered}
-use Rattle.source_end.specs.Gathering.{part_size, size}
+use Rattle.source_end.specs.Gathering.{size}
 use Rattle.content_laws.proofs.Machine.{Tick, control, pixels as pixels_tick, parted, ticks, ticks_append}
 use Rattle.content_laws.proofs.Cells.{Cell, Hears, none, one, apart, row, hears_append}
 use Rattle.content_laws.proofs.Cells as cell
-use Rattle.content_laws.proofs.Parts.{came, row_cells, gap_cells, part_cells, parts_cells, parts_none}
+use Rattle.content_laws.proofs.Parts.{row_cells, gap_cells, part_cells, parts_cells, parts_none}
 
 -- Control columns.
 

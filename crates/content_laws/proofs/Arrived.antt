@@ -1,5 +1,5 @@
 -- The columns that were sent and that came of a raster's parts, part by part.
-use Rattle.std.proofs.Common.{◌≡◌, ℕ, zero, suc, ◌+◌, ◌*◌, ◌/◌, ◌≤◌, Bool, true, not, List, [], ◌∷◌, ◌++◌, length, drop, replicate, refl, sym, ap, ap₂, subst, ◌∙◌, append_assoc, arith, length-append}
+use Rattle.std.proofs.Common.{◌≡◌, ℕ, suc, ◌+◌, ◌*◌, ◌/◌, ◌≤◌, true, List, [], ◌∷◌, ◌++◌, length, drop, replicate, refl, sym, ap, subst, ◌∙◌, arith, length-append}
 use Rattle.std.specs.Prelude.{nat_lt}
 use Rattle.std.proofs.lemmas.List.{drop-drop, length-replicate}
 use Rattle.std.proofs.Math.Seq.{drop-append_seam}
@@ -14,7 +14,6 @@ use Rattle.island_pack.proofs.Runs.{join_values}
 use Rattle.link_sink.specs.Laws.{CameOf}
 use Rattle.link_sink.proofs.Cutting.{AllControl, NoneControl}
 use Rattle.link_sink.proofs.Rows.{control_columns, Small}
-use Rattle.link_sink.proofs.Between.{IsGap}
 use Rattle.link_sink.proofs.Conformed.{Conforms, conforming, HasValues, has_values}
 use Rattle.link_sink.proofs.Joining.{ArrivesPeriod, controls, Arrives, nothing, more, sized, IsBetween, IsTail, ends, goes_on, is_tail, inner_gap}
 use Rattle.link_sink.proofs.Framing.{arrived}

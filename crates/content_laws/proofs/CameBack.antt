@@ -1,15 +1,12 @@
 -- What is listed by places is what is listed by the columns that came.
-use Rattle.std.proofs.Common.{◌≡◌, ℕ, zero, suc, ◌+◌, ◌-◌, ◌*◌, ◌/◌, ◌<◌, ◌≤◌, Bool, true, false, not, ◌&&◌, ◌||◌, cond, ◌==◌, min, max, List, [], ◌∷◌, ◌++◌, map, length, take, drop, replicate, refl, sym, ap, ap₂, subst, ◌∙◌, append_assoc, append-nil, arith, inl, inr, ◌⊎◌}
-use Rattle.std.specs.Prelude.{nat_lt, nat_le}
+use Rattle.std.proofs.Common.{◌≡◌, ℕ, suc, ◌+◌, ◌-◌, ◌*◌, ◌<◌, ◌≤◌, Bool, true, false, not, ◌||◌, cond, min, max, List, [], ◌∷◌, ◌++◌, length, take, drop, refl, sym, ap, ap₂, subst, ◌∙◌, append_assoc, append-nil, arith, inl, inr}
+use Rattle.std.specs.Prelude.{nat_lt}
 use Rattle.std.proofs.lemmas.Bool.{cases_lt}
-use Rattle.std.proofs.lemmas.List.{drop-drop}
 use Rattle.tmds_word.specs.Column.{Column}
-use Rattle.island_pack.specs.Periods.{DataIsland}
-use Rattle.island_pack.specs.declared.packet.Packet.{Packet}
 use Rattle.frame_build.specs.Event.{Mark}
 use Rattle.source_end.specs.declared.mode.Mode.{Mode}
 use Rattle.source_end.specs.Content.{Frame}
-use Rattle.source_end.specs.Raster.{Part, column, pixels, packets, sync, back, active, front, total, laid, lines_of, blank, parts_of}
+use Rattle.source_end.specs.Raster.{Part, column, pixels, packets, sync, back, active, front, total, laid, lines_of, parts_of}
 use Rattle.source_end.specs.Gathering.{part_size, size}
 use Rattle.source_end.specs.Lines.{left}
 use Rattle.source_end.proofs.Gathered.{size_append}
@@ -18,14 +15,14 @@ use Rattle.source_end.proofs.RasterSizes.{size_blank, size_rows, sync_part, afte
 use Rattle.content_laws.specs.Listed.{Listed, row}
 use Rattle.content_laws.specs.FrameLaws.{row_bytes, row_at, row_end, back_at, active_at, front_at, next_at, has_sync, counts, is_told, rows_came, whole_frame, frames_came}
 use Rattle.content_laws.proofs.Cells.{Cell, State, after, after_append, fine, fresh}
-use Rattle.content_laws.proofs.Ready.{Flat, Ready, clear_trail, columns as cells_of, begin, settle, is_heard, other_heard}
-use Rattle.content_laws.proofs.Cells.{same, same_self}
+use Rattle.content_laws.proofs.Ready.{Flat, clear_trail, columns as cells_of, begin, settle, is_heard, other_heard}
+use Rattle.content_laws.proofs.Cells.{same_self}
 use Rattle.content_laws.proofs.Threes.{met, push, met_append, met_behind, fine_front, fine_rest, marks_after, none_met, heard_met}
 use Rattle.content_laws.proofs.Parts.{parts_cells}
-use Rattle.content_laws.proofs.Lines.{Even, Begins, begins_more, opened}
+use Rattle.content_laws.proofs.Lines.{Even, Begins, opened}
 use Rattle.content_laws.proofs.Rows.{seen, seen_append, seen_even}
 use Rattle.content_laws.proofs.Frames.{even_blank, begins_blank, row_lines_of, rows_listed, none_listed, rest_flat}
-use Rattle.content_laws.proofs.Counting.{sync_area, back_area, active_area, front_area, frame_area, wide_sync, wide_back, wide_front, turns, turns_yes, turns_no, turns_last, frame_told, told_none, begins_parts, nothing_seen}
+use Rattle.content_laws.proofs.Counting.{sync_area, back_area, active_area, frame_area, wide_sync, wide_back, wide_front, turns, turns_yes, turns_no, turns_last, frame_told, told_none, begins_parts, nothing_seen, no_choice, twice}
 use Rattle.content_laws.proofs.From.{frames_from, counted, uncounted, StartsSync}
 use Rattle.content_laws.proofs.Arrived.{Arrived, arrived_append}
 use Rattle.content_laws.proofs.Fine.{flags, SparseFrom, sparse_on, parts_fine}
@@ -70,13 +67,9 @@ eleven_met b parts k ss rs begins le ok =
 
 -- Sync lines behind lines of the other level.
 
-twice : (b : Bool) → not (not b) ≡ b
-twice true = refl
-twice false = refl
-
 -- of lines of the other level there are no three
 low_met : (b : Bool) (ts : List Cell) → Flat (not b) ts → fine [] ts ≡ true → met b [] ts ≡ false
-low_met b ts flat ok = ap (λ (x : Bool). met x [] ts) (sym (twice b)) ∙ none_met (not b) ts [] [] flat ok (clear_trail (not b) [] [] refl)
+low_met b ts flat ok = ap (λ (x : Bool). met x [] ts) (twice b) ∙ none_met (not b) ts [] [] flat ok (clear_trail (not b) [] [] refl)
 
 -- what is heard of sync lines after lines of the other level
 record IsBehind (b : Bool) (fs : List Cell) (s : State) : Type 0 where
@@ -328,10 +321,6 @@ frame_same mode ss rs a e last p f counting told =
 no_sync : (mode : Mode) (cs : List Column) → has_sync mode (take 0 cs) ≡ false
 unfolding has_sync
 no_sync mode cs = refl
-
-no_choice : (t : Bool) → cond t (let none : List Listed = [] in none) [] ≡ []
-no_choice true = refl
-no_choice false = refl
 
 -- fewer than eleven columns from column x on: nothing is listed of the frame
 frame_none : (mode : Mode) → IsMode mode → (ss rs : List Column) (a e : ℕ) (last : Bool) (p : ℕ) (f : Frame) → e < p + sync_area mode + 11 → by_place mode ss rs e last p f ≡ by_columns mode ss rs a e p f

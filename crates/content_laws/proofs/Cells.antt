@@ -1,6 +1,6 @@
 -- What frames see of columns of which few came otherwise than they were sent. A column that comes as a third wrong one
 -- among eleven would be taken as it was sent: where damage is sparse there is none.
-use Rattle.std.proofs.Common.{◌≡◌, ℕ, zero, suc, ◌+◌, ◌/◌, ◌≤◌, Bool, true, false, not, ◌&&◌, ◌||◌, cond, List, [], ◌∷◌, ◌++◌, length, replicate, Option, Some, None, refl, sym, ap, ap₂, subst, ◌∙◌, append_assoc, arith}
+use Rattle.std.proofs.Common.{◌≡◌, ℕ, zero, suc, ◌+◌, ◌/◌, Bool, true, false, not, ◌&&◌, ◌||◌, cond, List, [], ◌∷◌, ◌++◌, length, replicate, Option, None, refl, sym, ap, ap₂, subst, ◌∙◌, append_assoc}
 use Rattle.std.specs.Prelude.{nat_le}
 use Rattle.tmds_word.proofs.Below.{and-left, and-right}
 use Rattle.terc4.specs.Columns.{one_if}
@@ -147,7 +147,7 @@ pub itself : (b : Bool) → has_vsync b (column b) ≡ true
 itself true = refl
 itself false = refl
 
-no_gap : (b : Bool) → has_vsync b gap ≡ false
+pub no_gap : (b : Bool) → has_vsync b gap ≡ false
 no_gap true = refl
 no_gap false = refl
 

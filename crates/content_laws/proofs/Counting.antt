@@ -1,5 +1,5 @@
 -- Whole frames, one after another, and the columns after the last.
-use Rattle.std.proofs.Common.{◌≡◌, ℕ, zero, suc, ◌+◌, ◌-◌, ◌*◌, ◌^◌, ◌<◌, ◌≤◌, Bool, true, false, not, ◌&&◌, ◌||◌, cond, min, List, [], ◌∷◌, ◌++◌, map, length, drop, replicate, refl, sym, ap, ap₂, subst, ◌∙◌, append-nil, arith, inl, inr}
+use Rattle.std.proofs.Common.{◌≡◌, ℕ, zero, suc, ◌+◌, ◌-◌, ◌*◌, ◌^◌, ◌<◌, ◌≤◌, Bool, true, false, not, ◌&&◌, ◌||◌, cond, min, List, [], ◌∷◌, ◌++◌, length, drop, replicate, refl, sym, ap, ap₂, subst, ◌∙◌, append-nil, arith, inl, inr}
 use Rattle.std.specs.Prelude.{nat_le}
 use Rattle.std.proofs.lemmas.Bool.{le-leb, lt-leb, cases_lt}
 use Rattle.std.proofs.lemmas.List.{length-replicate}
@@ -9,7 +9,7 @@ use Rattle.island_pack.specs.declared.packet.Packet.{Packet}
 use Rattle.frame_build.specs.Event.{vsync_of}
 use Rattle.source_end.specs.declared.mode.Mode.{Mode}
 use Rattle.source_end.specs.Content.{Frame}
-use Rattle.source_end.specs.Raster.{Part, column, sync, back, active, front, total, laid, blank, row_line, final_columns, parts_of}
+use Rattle.source_end.specs.Raster.{Part, column, sync, back, active, front, total, laid, blank, final_columns, parts_of}
 use Rattle.source_end.specs.Gathering.{size}
 use Rattle.source_end.specs.Lines.{left}
 use Rattle.source_end.proofs.RasterModes.{IsMode, AreRows, IsFrame, AreFrames}
@@ -196,11 +196,11 @@ pub listed_nothing : (mode : Mode) (ss rs : List Column) (e p : ℕ) (last : Boo
 unfolding frames_listed
 listed_nothing mode ss rs e p last = refl
 
-no_choice : (t : Bool) → cond t (let none : List Listed = [] in none) [] ≡ []
+pub no_choice : (t : Bool) → cond t (let none : List Listed = [] in none) [] ≡ []
 no_choice true = refl
 no_choice false = refl
 
-twice : (b : Bool) → b ≡ not (not b)
+pub twice : (b : Bool) → b ≡ not (not b)
 twice true = refl
 twice false = refl
 

@@ -1,6 +1,6 @@
 -- Where damage is sparse no column is a third wrong one among eleven.
-use Rattle.std.proofs.Common.{◌≡◌, ℕ, zero, suc, ◌+◌, ◌-◌, ◌*◌, ◌/◌, ◌%◌, ◌<◌, ◌≤◌, Bool, true, false, not, ◌&&◌, ◌||◌, cond, ◌==◌, List, [], ◌∷◌, ◌++◌, map, length, take, drop, refl, sym, ap, ap₂, subst, ◌∙◌, arith, inl, inr, ◌⊎◌, length-append}
-use Rattle.std.specs.Prelude.{nat_le, nat_lt}
+use Rattle.std.proofs.Common.{◌≡◌, ℕ, zero, suc, ◌+◌, ◌-◌, ◌*◌, ◌/◌, ◌%◌, ◌≤◌, Bool, true, false, not, ◌&&◌, ◌||◌, cond, ◌==◌, List, [], ◌∷◌, ◌++◌, length, take, drop, refl, sym, ap, ap₂, subst, ◌∙◌, arith}
+use Rattle.std.specs.Prelude.{nat_lt}
 use Rattle.std.proofs.lemmas.Bool.{le-leb, leb-true, eqb-true}
 use Rattle.std.proofs.lemmas.List.{drop-drop}
 use Rattle.tmds_word.proofs.Below.{and-left, and-right, passes_below, passes_at}
@@ -15,10 +15,10 @@ use Rattle.period_grammar.specs.Column.{control_bits, value_of}
 use Rattle.frame_build.specs.Event.{vsync_of}
 use Rattle.std.proofs.lemmas.Bool.{ltb-true}
 use Rattle.source_end.specs.Raster.{Part, column, pixels, packets}
-use Rattle.content_laws.proofs.Cells.{Cell, control, pixels as pixels_cell, parted, wrongs, few, same, same_self, fine}
+use Rattle.content_laws.proofs.Cells.{Cell, pixels as pixels_cell, parted, wrongs, few, same, same_self, fine}
 use Rattle.content_laws.proofs.Parts.{row_cells, gap_cells, part_cells, parts_cells, parts_none}
 use Rattle.content_laws.proofs.Accounted.{cells_first}
-use Rattle.content_laws.proofs.Arrived.{IsOther, Arrived, drop_front}
+use Rattle.content_laws.proofs.Arrived.{Arrived, drop_front}
 
 -- whether the word of lane 0 of each column came unlike
 unfoldable pub flags : List Column → List Column → List Bool

@@ -1,10 +1,10 @@
 -- Where a control period ends in lines of one level.
-use Rattle.std.proofs.Common.{◌≡◌, ℕ, zero, suc, ◌+◌, ◌-◌, ◌/◌, ◌≤◌, Bool, List, [], ◌∷◌, ◌++◌, length, take, drop, replicate, Some, None, refl, sym, ap, subst, ◌∙◌, append_assoc, arith, inl, inr, ◌⊎◌}
+use Rattle.std.proofs.Common.{◌≡◌, ℕ, zero, suc, ◌+◌, ◌/◌, ◌≤◌, Bool, List, [], ◌∷◌, ◌++◌, length, take, drop, replicate, Some, None, refl, sym, ap, subst, ◌∙◌, append_assoc, arith, inl, inr, ◌⊎◌}
 use Rattle.std.proofs.lemmas.List.{length-take}
 use Rattle.island_pack.specs.declared.packet.Packet.{Packet}
 use Rattle.island_pack.specs.Kinds.{Kind, control_column, kind_at, EndsAt}
 use Rattle.source_end.specs.declared.mode.Mode.{Mode}
-use Rattle.source_end.specs.Raster.{level, Line, Part, guard_at, room, row_room, sync, back, total, until, whole, laid, blank}
+use Rattle.source_end.specs.Raster.{level, Line, Part, guard_at, room, row_room, total, until, whole, laid, blank}
 use Rattle.source_end.specs.Gathering.{size}
 use Rattle.source_end.proofs.Gathered.{size_append}
 use Rattle.source_end.proofs.RasterModes.{IsMode}

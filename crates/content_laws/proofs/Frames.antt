@@ -1,17 +1,16 @@
 -- Lines that follow one another: lines of one level, of which eleven columns make the level heard, and lines with rows.
-use Rattle.std.proofs.Common.{◌≡◌, ℕ, zero, suc, ◌+◌, ◌-◌, ◌*◌, ◌<◌, ◌≤◌, Bool, true, not, ◌&&◌, cond, ◌==◌, min, List, [], ◌∷◌, ◌++◌, map, length, take, drop, replicate, Some, None, refl, sym, ap, ap₂, subst, ◌∙◌, append-nil, arith, inl, inr}
+use Rattle.std.proofs.Common.{◌≡◌, ℕ, zero, suc, ◌+◌, ◌-◌, ◌*◌, ◌<◌, ◌≤◌, Bool, true, not, ◌&&◌, cond, List, [], ◌∷◌, ◌++◌, map, length, take, drop, replicate, Some, refl, sym, ap, ap₂, subst, ◌∙◌, append-nil, arith, inl, inr}
 use Rattle.std.specs.Prelude.{nat_lt}
 use Rattle.std.specs.List.{list_all}
 use Rattle.std.proofs.lemmas.Bool.{lt-ltb, le-ltb, cases_lt}
 use Rattle.std.proofs.lemmas.List.Folds.{list_all-append}
 use Rattle.std.proofs.Common.{eq-eqb}
-use Rattle.tmds_word.proofs.Below.{and-left, and-right}
+use Rattle.tmds_word.proofs.Below.{and-right}
 use Rattle.tmds_word.specs.Column.{Column}
 use Rattle.island_pack.specs.declared.packet.Packet.{Packet}
 use Rattle.source_end.specs.declared.mode.Mode.{Mode}
-use Rattle.source_end.specs.Raster.{Line, Part, pixels, columns, sync_at, guard_at, level, room, sync, back, active, total, until, whole, laid, blank, row_line}
+use Rattle.source_end.specs.Raster.{Line, Part, level, room, active, total, until, whole, laid, blank, row_line}
 use Rattle.source_end.specs.Gathering.{size}
-use Rattle.source_end.proofs.Gathered.{size_append}
 use Rattle.source_end.proofs.RasterModes.{IsMode, AreRows}
 use Rattle.source_end.proofs.RasterSizes.{more_times, long_row, size_rows}
 use Rattle.content_laws.specs.FrameLaws.{row_at, row_end}

@@ -1,6 +1,6 @@
 -- What is listed of a raster from twelve columns before the end of any of its control periods on.
-use Rattle.std.proofs.Common.{◌≡◌, ℕ, zero, suc, ◌+◌, ◌-◌, ◌*◌, ◌<◌, ◌≤◌, Bool, true, false, not, ◌&&◌, ◌||◌, cond, ◌==◌, min, List, [], ◌∷◌, ◌++◌, map, length, drop, replicate, Some, refl, sym, ap, ap₂, subst, ◌∙◌, append_assoc, append-nil, arith, inl, inr}
-use Rattle.std.specs.Prelude.{nat_lt, nat_le}
+use Rattle.std.proofs.Common.{◌≡◌, ℕ, zero, suc, ◌+◌, ◌-◌, ◌*◌, ◌<◌, ◌≤◌, Bool, true, false, not, cond, ◌==◌, List, [], ◌∷◌, ◌++◌, map, length, drop, replicate, refl, sym, ap, ap₂, subst, ◌∙◌, append_assoc, append-nil, arith, inl, inr}
+use Rattle.std.specs.Prelude.{nat_lt}
 use Rattle.std.proofs.lemmas.Bool.{lt-ltb, le-ltb, cases_lt}
 use Rattle.tmds_word.proofs.Below.{and-right}
 use Rattle.tmds_word.specs.Column.{Column}
@@ -8,7 +8,6 @@ use Rattle.terc4.specs.Columns.{one_if}
 use Rattle.island_pack.specs.Kinds.{Kind, control_column, kind_at, EndsAt}
 use Rattle.lane_deskew.proofs.Shapes.{ends_alone}
 use Rattle.link_sink.specs.Account.{account}
-use Rattle.frame_build.specs.Event.{vsync_of}
 use Rattle.source_end.specs.declared.mode.Mode.{Mode}
 use Rattle.source_end.specs.Content.{Frame}
 use Rattle.source_end.specs.Raster.{Line, Part, column, sync, back, active, front, total, laid, blank, parts_of, gathered, raster_of}
@@ -24,7 +23,7 @@ use Rattle.content_laws.proofs.Cells.{Cell, State, after, says, after_append, sa
 use Rattle.content_laws.proofs.Ready.{Ready, quiet, columns as cells_of, flat_columns, begin, begin_few, begin_after, heard_once, once_ready, is_heard}
 use Rattle.content_laws.proofs.Parts.{parts_cells}
 use Rattle.content_laws.proofs.Accounted.{account_hears}
-use Rattle.content_laws.proofs.Lines.{Begins, begins_more, begins_first, begins_same, opened, Opened, final_vsync}
+use Rattle.content_laws.proofs.Lines.{Begins, begins_more, begins_first, begins_same, opened, final_vsync, size_values}
 use Rattle.content_laws.proofs.Rows.{seen, seen_append}
 use Rattle.content_laws.proofs.Frames.{row_lines_of, rows_listed, begins_blank}
 use Rattle.content_laws.proofs.Counting.{sync_area, back_area, active_area, front_area, frame_area, wide_sync, turns, frame_told, frames_listed, pending, frames_none, IsLast, last_rest, last_by, begins_parts, even_same, silent_frame, frames_say, after_sync_lines, nothing_said}
@@ -44,9 +43,10 @@ begun_by : (b : Bool) (us : List Bool) (rest : List Cell) → 9 ≤ length us �
 begun_by b us rest le =
     let e = begin_after b us le in
     let p = begin b us le in
-    let q = quiet b false [] (cells_of b us) (heard_once b) (flat_columns b us) (once_ready b) in
-    (after_append (cells_of b us) rest fresh ∙ ap (after rest) e ∙ sym (after_append (cells_of b us) rest (heard_once b)),
-     says_append (cells_of b us) rest fresh ∙ ap₂ (λ (xs : List Listed) (s : State). xs ++ says rest s) (p.nothing ∙ sym q.nothing) e ∙ sym (says_append (cells_of b us) rest (heard_once b)))
+    let q = quiet b false [] (cells_of b us) (heard_once b) (flat_columns b us) (once_ready b) in (
+      after_append (cells_of b us) rest fresh ∙ ap (after rest) e ∙ sym (after_append (cells_of b us) rest (heard_once b)),
+      says_append (cells_of b us) rest fresh ∙ ap₂ (λ (xs : List Listed) (s : State). xs ++ says rest s) (p.nothing ∙ sym q.nothing) e ∙ sym (says_append (cells_of b us) rest (heard_once b)),
+    )
 
 begun : (b : Bool) (mid : List Part) (ss rs : List Column) (e p : ℕ) → Begins b mid → Mute b mid → p + 11 ≤ e → IsBegun b (seen ss rs e p mid)
 unfolding seen
@@ -188,11 +188,6 @@ low_more mode f frames =
     ap (λ (ps : List Part). ps ++ parts_of mode frames) (low_is mode f)
     ∙ append_assoc (back_part mode f) (rows_part mode f ++ front_part mode f) (parts_of mode frames)
     ∙ ap (λ (ps : List Part). back_part mode f ++ ps) (append_assoc (rows_part mode f) (front_part mode f) (parts_of mode frames))
-
-size_values : (vs : List ℕ) → size (map column vs) ≡ length vs
-unfolding size
-size_values [] = refl
-size_values (v ∷ vs) = omega (arith, size_values vs)
 
 pub size_mid : (b : Bool) (parts : List Part) → Begins b parts → 11 ≤ size parts
 size_mid b parts h = let e = ap size h.are in let s = size_append (map column h.values) h.rest in let v = size_values h.values in omega (arith, e, s, v, h.long)

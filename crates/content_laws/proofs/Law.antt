@@ -1,25 +1,21 @@
 -- Frames come back.
-use Rattle.std.proofs.Common.{◌≡◌, ℕ, ◌+◌, ◌-◌, ◌*◌, ◌≤◌, List, [], length, drop, refl, ap, subst, sym, ◌∙◌, arith}
-use Rattle.tmds_word.specs.Column.{Column}
+use Rattle.std.proofs.Common.{◌≡◌, ℕ, ◌+◌, ◌-◌, ◌≤◌, List, [], length, refl, ap, subst, ◌∙◌, arith}
 use Rattle.island_pack.specs.Kinds.{Kind, EndsAt}
 use Rattle.period_grammar.specs.Things.{Thing}
-use Rattle.link_sink.specs.Laws.{CameOf}
 use Rattle.link_sink.proofs.Framing.{link_law}
-use Rattle.source_end.specs.declared.mode.Mode.{Mode}
-use Rattle.source_end.specs.Content.{Frame}
-use Rattle.source_end.specs.Raster.{parts_of, raster_of, gathered, total}
+use Rattle.source_end.specs.Raster.{parts_of, raster_of}
 use Rattle.source_end.specs.Gathering.{size}
 use Rattle.source_end.proofs.RasterModes.{good_mode, good_frames}
 use Rattle.content_laws.specs.Listed.{listed}
 use Rattle.content_laws.specs.FrameLaws.{FramesComeBack, FramesHeard}
-use Rattle.content_laws.proofs.Cells.{fine, fresh, after}
+use Rattle.content_laws.proofs.Cells.{fresh, after}
 use Rattle.content_laws.proofs.Ready.{is_heard}
 use Rattle.content_laws.proofs.Starts.{gathered_kinds}
 use Rattle.content_laws.proofs.Rows.{seen}
 use Rattle.content_laws.proofs.From.{starts_at, frames_listed_from, StartsSync}
-use Rattle.content_laws.proofs.Arrived.{Arrived, parts_arrived}
+use Rattle.content_laws.proofs.Arrived.{parts_arrived}
 use Rattle.content_laws.proofs.Fine.{flags, SparseFrom, flags_sparse}
-use Rattle.content_laws.proofs.CameBack.{Scene, IsAt, at_mid, fine_seen, start_same}
+use Rattle.content_laws.proofs.CameBack.{Scene, at_mid, fine_seen, start_same}
 use Rattle.content_laws.proofs.From.{size_mid}
 use Rattle.content_laws.proofs.Counting.{begins_parts}
 use Rattle.content_laws.proofs.Arrived.{arrived_size}

@@ -1,5 +1,5 @@
 -- A line of a raster: every column of it has the line's VSYNC level, and it begins with eleven control columns.
-use Rattle.std.proofs.Common.{◌≡◌, ℕ, zero, suc, ◌+◌, ◌-◌, ◌*◌, ◌≤◌, Bool, true, false, not, ◌&&◌, cond, min, List, [], ◌∷◌, ◌++◌, map, length, take, drop, replicate, refl, sym, ap, ap₂, subst, ◌∙◌, append_assoc, arith}
+use Rattle.std.proofs.Common.{◌≡◌, ℕ, zero, suc, ◌+◌, ◌-◌, ◌*◌, ◌≤◌, Bool, true, false, ◌&&◌, cond, min, List, [], ◌∷◌, ◌++◌, map, length, take, drop, replicate, refl, sym, ap, ap₂, subst, ◌∙◌, append_assoc, arith}
 use Rattle.std.specs.Prelude.{nat_lt}
 use Rattle.std.specs.List.{list_all}
 use Rattle.tmds_word.proofs.Below.{and-left, and-right}
@@ -13,7 +13,6 @@ use Rattle.frame_build.specs.Event.{vsync_of}
 use Rattle.source_end.specs.declared.mode.Mode.{Mode}
 use Rattle.source_end.specs.Raster.{Line, Part, column, packets, up_from, columns, level, sync_at, value_at, has_row, guard_at, is_within, sync, island_of, until}
 use Rattle.source_end.specs.Gathering.{size}
-use Rattle.source_end.proofs.Gathered.{size_append}
 use Rattle.content_laws.proofs.Cells.{Cell, control, same, same_is, same_self}
 use Rattle.content_laws.proofs.Ready.{Flat, flat_append, columns as cells_of}
 use Rattle.content_laws.proofs.Parts.{came, gap_cells, part_cells, parts_cells, parts_append, parts_none}
@@ -227,7 +226,7 @@ pub record Opened (b : Bool) (m : ℕ) (ts : List Cell) : Type 0 where
   pub long : length levels ≡ min m 11
   pub none : m ≤ 11 → rest ≡ []
 
-size_values : (vs : List ℕ) → size (map column vs) ≡ length vs
+pub size_values : (vs : List ℕ) → size (map column vs) ≡ length vs
 unfolding size
 size_values [] = refl
 size_values (v ∷ vs) = omega (arith, size_values vs)

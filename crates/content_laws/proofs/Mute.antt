@@ -9,7 +9,7 @@ use Rattle.source_end.specs.declared.mode.Mode.{Mode}
 use Rattle.source_end.specs.Raster.{Line, Part, pixels, columns, sync_at, guard_at, sync, back, active, total, until, whole}
 use Rattle.source_end.specs.Gathering.{size}
 use Rattle.content_laws.specs.Listed.{Listed, row}
-use Rattle.content_laws.proofs.Cells.{Cell, pixels as pixels_cell, parted, State, note_of, step, after, says, after_append, says_append}
+use Rattle.content_laws.proofs.Cells.{Cell, pixels as pixels_cell, parted, State, note_of, after, says, after_append, says_append}
 use Rattle.content_laws.proofs.Ready.{Flat, Ready, quiet}
 use Rattle.content_laws.proofs.Parts.{row_cells, part_cells, parts_cells, parts_append}
 use Rattle.content_laws.proofs.Lines.{Even, even_until, even_columns, sync_vsync, level_of}

@@ -1,8 +1,7 @@
 -- The content lines of a packet of which at most one word came unlike.
-use Rattle.std.proofs.Common.{◌≡◌, ℕ, zero, suc, ◌<◌, ◌≤◌, Bool, true, false, if◌then◌else◌, List, [], ◌∷◌, map, length, Option, Some, None, refl, sym, ap, ap₂, ◌∙◌, arith}
-use Rattle.std.specs.Prelude.{is_some, slice_index, nat_le, Result, Ok, Err, ◌==◌}
+use Rattle.std.proofs.Common.{◌≡◌, ℕ, ◌<◌, Bool, false, if◌then◌else◌, List, [], ◌∷◌, Option, None, refl, sym, ap₂, ◌∙◌, arith}
+use Rattle.std.specs.Prelude.{is_some, slice_index, nat_le, Ok, Err, ◌==◌}
 use Rattle.std.specs.List.{find}
-use Rattle.tmds_word.specs.Column.{Column}
 use Rattle.bch_block.specs.declared.Verdict.{Verdict}
 use Rattle.bch_block.specs.declared.Verdict.TheVariants.{Clean, Mended, Lost}
 use Rattle.island_pack.specs.Packets.{body_of}
@@ -19,7 +18,6 @@ use Rattle.audio_packets.specs.Faults as audio
 use Rattle.audio_packets.specs.declared.fault.AudioFault.TheVariants.{Uneven, Layout}
 use Rattle.listing.specs.ContentText.{packet_lines, carried_lines, clock_lines, sample_lines, control_lines, info_lines, other_words}
 use Rattle.link_sink.specs.Account.{packet_row}
-use Rattle.content_laws.specs.PacketLaws.{IsAsSent}
 use Rattle.content_laws.specs.ListingLaws.{PacketLinesAsSent}
 use Rattle.content_laws.proofs.AsSent.{one_word_as_sent}
 

@@ -1,11 +1,10 @@
 -- The lines `row ..` and `frame ..` of a content listing are those of the rows and frames that are listed.
-use Rattle.std.proofs.Common.{◌≡◌, ℕ, ◌+◌, ◌/◌, ◌≤◌, Bool, true, false, ◌==◌, if◌then◌else◌, cond, List, [], ◌∷◌, ◌++◌, map, length, take, drop, Option, Some, None, refl, sym, ap, ap₂, ◌∙◌, append-nil}
+use Rattle.std.proofs.Common.{◌≡◌, ℕ, ◌/◌, Bool, true, false, ◌==◌, if◌then◌else◌, cond, List, [], ◌∷◌, ◌++◌, map, length, take, drop, Option, Some, None, refl, sym, ap, ap₂, ◌∙◌}
 use Rattle.std.specs.Prelude.{is_some, slice_index, nat_le, Result, Ok, Err, codes}
 use Rattle.std.specs.List.{filter, flat_map}
 use Rattle.std.proofs.lemmas.List.{map-append}
 use Rattle.std.proofs.lemmas.List.Elements.{filter-append}
 use Rattle.hex.specs.Hex.{encode_lower}
-use Rattle.tmds_word.specs.Column.{Column}
 use Rattle.island_pack.specs.declared.packet.Packet.{Packet}
 use Rattle.island_pack.specs.declared.packet.PacketVerdicts.{PacketVerdicts}
 use Rattle.period_grammar.specs.Things.{Thing, run, line, word, short, preamble, noise, empty, code, long_line, cut, open_island, packet, close_island, symbols, mended, lost, long_island, broken, guard}
@@ -28,7 +27,7 @@ use Rattle.audio_packets.specs.declared.fault.AudioFault.TheVariants.{Lost as Lo
 use Rattle.source_end.specs.Formats.{formats, mode_in}
 use Rattle.listing.specs.Texts.{words_of}
 use Rattle.listing.specs.Fields.{with_fields}
-use Rattle.listing.specs.ContentText.{row_lines, has_other_size, vic_lines, frame_lines, clock_lines, sample_words, value_digits, parity_words, side_lines, note_lines, sample_lines, is_usual_depth, depth_in, depth_lines, control_words, control_lines, avi_words, audio_words, spd_words, raw_words, info_words, checksum_words, info_lines, other_words, carried_lines, packet_lines, event_of, events, last_vic, lines_at, lines_after, content_lines}
+use Rattle.listing.specs.ContentText.{row_lines, has_other_size, vic_lines, frame_lines, clock_lines, sample_words, parity_words, side_lines, note_lines, sample_lines, is_usual_depth, depth_in, depth_lines, control_words, control_lines, avi_words, audio_words, spd_words, raw_words, info_words, checksum_words, info_lines, other_words, carried_lines, packet_lines, event_of, events, last_vic, lines_at, lines_after, content_lines}
 use Rattle.content_laws.specs.Listed.{Listed, row, frame, listed_at, listed_from, listed}
 use Rattle.content_laws.specs.Listed as pictures
 use Rattle.content_laws.specs.ListingLaws.{tells_picture, line_of, FrameLinesComeBack}

@@ -1,6 +1,5 @@
 -- Why no change comes while the level stays, and why one comes where nine columns of the other level came.
 use Rattle.std.proofs.Common.{◌≡◌, ℕ, zero, suc, ◌+◌, ◌*◌, ◌≤◌, Bool, true, false, not, ◌&&◌, cond, List, [], ◌∷◌, ◌++◌, map, length, replicate, Option, Some, None, refl, sym, ap, ap₂, subst, ◌∙◌, append-nil, arith, inl, inr, ◌⊎◌}
-use Rattle.std.specs.Prelude.{nat_le}
 use Rattle.std.specs.List.{list_all}
 use Rattle.std.proofs.lemmas.Bool.{leb-true}
 use Rattle.std.proofs.lemmas.List.Folds.{list_all-append}
@@ -10,7 +9,7 @@ use Rattle.frame_build.specs.Event.{Mark, column, gap, has_vsync}
 use Rattle.frame_build.specs.Change.{three_have, newer, differ}
 use Rattle.content_laws.specs.Listed.{Listed}
 use Rattle.content_laws.proofs.Machine.{hears, ends}
-use Rattle.content_laws.proofs.Cells.{Cell, control, pixels, parted, State, wrongs, few, same, same_is, same_self, taken, turned, turned_recent, heard_at, column_state, column_said, step, said, after, says, after_append, says_append, itself, fresh}
+use Rattle.content_laws.proofs.Cells.{Cell, control, pixels, parted, State, wrongs, few, same, same_is, same_self, taken, turned, turned_recent, heard_at, column_state, column_said, step, said, after, says, fresh}
 
 -- the newest mark is no column of this level
 abbrev pub clear : Bool → List Mark → Bool
@@ -194,10 +193,10 @@ pub record IsStill (s : State) (b v c : Bool) (g : List ℕ) : Type 0 where
 pub still : (b v c : Bool) (g : List ℕ) (s : State) → Ready s b c g → IsStill s b v c g
 still b v c g s was = elim (taken_cases b v s.recent) [
   | inl e ↦ record {
-      nothing = ap (λ (w : Bool). column_said w s) e ∙ again_said b s was.heard;
-      ready = subst (λ (x : State). Ready x b c g) (sym (step_right b v s e ∙ column_again false b s was.heard))
-          (record { heard = refl; trail = clear_trail b (column b ∷ s.marks) (false ∷ s.recent) (column_clear b s.marks); counting = was.counting; group = was.group });
-    }
+    nothing = ap (λ (w : Bool). column_said w s) e ∙ again_said b s was.heard;
+    ready = subst (λ (x : State). Ready x b c g) (sym (step_right b v s e ∙ column_again false b s was.heard))
+        (record { heard = refl; trail = clear_trail b (column b ∷ s.marks) (false ∷ s.recent) (column_clear b s.marks); counting = was.counting; group = was.group });
+  }
   | inr wrong ↦
       let g2 = grows b s.marks s.recent wrong.allowed was.trail in
       record {

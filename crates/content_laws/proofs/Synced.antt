@@ -1,11 +1,10 @@
 -- Three neighbouring control columns with VSYNC active: where they came is what the cells say.
-use Rattle.std.proofs.Common.{◌≡◌, ℕ, zero, suc, ◌+◌, ◌-◌, ◌*◌, ◌/◌, ◌<◌, ◌≤◌, Bool, true, false, not, ◌&&◌, ◌||◌, cond, List, [], ◌∷◌, ◌++◌, length, take, drop, refl, sym, ap, ap₂, subst, ◌∙◌, arith, inl, inr, ◌⊎◌}
+use Rattle.std.proofs.Common.{◌≡◌, ℕ, zero, suc, ◌+◌, ◌-◌, ◌*◌, ◌/◌, ◌≤◌, Bool, true, false, not, ◌&&◌, ◌||◌, cond, List, [], ◌∷◌, ◌++◌, length, take, drop, refl, sym, ap, ap₂, ◌∙◌, arith}
 use Rattle.std.specs.Prelude.{nat_lt}
-use Rattle.std.proofs.lemmas.List.{drop-drop}
 use Rattle.tmds_word.proofs.Below.{and-left, and-right}
 use Rattle.tmds_word.specs.Column.{Column}
 use Rattle.terc4.specs.Columns.{is_control_column}
-use Rattle.island_pack.specs.Periods.{DataIsland, Pixel, pixels_of}
+use Rattle.island_pack.specs.Periods.{Pixel, pixels_of}
 use Rattle.island_pack.specs.Spelling.{control_column}
 use Rattle.period_grammar.specs.Column.{value_of}
 use Rattle.frame_build.specs.Event.{vsync_of, Mark, column, gap, has_vsync}
@@ -15,10 +14,9 @@ use Rattle.link_sink.proofs.Cutting.{NoneControl}
 use Rattle.source_end.specs.declared.mode.Mode.{Mode}
 use Rattle.source_end.specs.Raster.{level, Part, column as column_part, pixels, packets}
 use Rattle.content_laws.specs.FrameLaws.{is_sync, has_sync}
-use Rattle.content_laws.proofs.Cells.{Cell, control, pixels as pixels_cell, parted, same, same_self, alike, three_alike, itself}
-use Rattle.content_laws.proofs.Ready.{not_it}
-use Rattle.content_laws.proofs.Threes.{met}
-use Rattle.content_laws.proofs.Parts.{row_cells, gap_cells, part_cells, parts_cells, parts_none}
+use Rattle.content_laws.proofs.Cells.{Cell, control, pixels as pixels_cell, parted, same_self, alike, three_alike, no_gap}
+use Rattle.content_laws.proofs.Threes.{met, three_wrong}
+use Rattle.content_laws.proofs.Parts.{row_cells, parts_cells, parts_none}
 use Rattle.content_laws.proofs.Accounted.{cells_first}
 use Rattle.content_laws.proofs.Arrived.{IsOther, Arrived, drop_front}
 use Rattle.content_laws.proofs.Fine.{row_first_cells, island_first_cells}
@@ -49,10 +47,6 @@ second b (m ∷ ms) = newest b ms
 abbrev look : Mode → Bool → Bool → List Column → Bool
 look mode t u [] = false
 look mode t u (c ∷ cs) = (is_sync mode c && (u && t)) || look mode u (is_sync mode c) cs
-
-no_gap : (b : Bool) → has_vsync b gap ≡ false
-no_gap true = refl
-no_gap false = refl
 
 sync_level : (p v : Bool) → level v p ≡ has_vsync p (column v)
 sync_level true true = refl
@@ -128,19 +122,10 @@ three_gap b [] = refl
 three_gap b (m ∷ []) = refl
 three_gap b (m ∷ (n ∷ ms)) = ap (λ (t : Bool). t && has_vsync b m && has_vsync b n) (no_gap b)
 
-three_off : (b : Bool) (ms : List Mark) → three_have b (column (not b) ∷ ms) ≡ false
-three_off b [] = refl
-three_off b (m ∷ []) = refl
-three_off b (m ∷ (n ∷ ms)) = ap (λ (t : Bool). t && has_vsync b m && has_vsync b n) (off b)
-  where
-    off : (b : Bool) → has_vsync b (column (not b)) ≡ false
-    off true = refl
-    off false = refl
-
 three_any : (b v : Bool) (ms ns : List Mark) → alike ms ns ≡ true → three_have b (column v ∷ ms) ≡ three_have b (column v ∷ ns)
 three_any true true ms ns h = three_alike true ms ns h
-three_any true false ms ns h = three_off true ms ∙ sym (three_off true ns)
-three_any false true ms ns h = three_off false ms ∙ sym (three_off false ns)
+three_any true false ms ns h = three_wrong true ms ∙ sym (three_wrong true ns)
+three_any false true ms ns h = three_wrong false ms ∙ sym (three_wrong false ns)
 three_any false false ms ns h = three_alike false ms ns h
 
 quiet_mark : (c : Column) → not (is_control_column c) ≡ true → mark c ≡ gap

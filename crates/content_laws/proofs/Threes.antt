@@ -1,10 +1,10 @@
 -- Three neighbouring columns of one level among cells, and when their level is heard.
-use Rattle.std.proofs.Common.{◌≡◌, ℕ, zero, suc, ◌+◌, ◌-◌, ◌≤◌, Bool, true, false, not, ◌&&◌, ◌||◌, cond, List, [], ◌∷◌, ◌++◌, map, length, Option, Some, None, refl, sym, ap, ap₂, subst, ◌∙◌, append_assoc, arith, inl, inr, ◌⊎◌}
+use Rattle.std.proofs.Common.{◌≡◌, ◌+◌, ◌≤◌, Bool, true, false, not, ◌&&◌, ◌||◌, List, [], ◌∷◌, ◌++◌, length, Option, Some, refl, sym, ap, ap₂, subst, ◌∙◌, arith, inl, inr, ◌⊎◌}
 use Rattle.tmds_word.proofs.Below.{and-left, and-right}
 use Rattle.frame_build.specs.Event.{Mark, column, gap, has_vsync}
 use Rattle.frame_build.specs.Change.{three_have, newer, differ}
 use Rattle.content_laws.proofs.Machine.{hears}
-use Rattle.content_laws.proofs.Cells.{Cell, control, pixels, parted, State, few, same, same_is, same_self, taken, taken_is, heard_at, column_state, step, after, after_append, fine, fresh}
+use Rattle.content_laws.proofs.Cells.{Cell, control, pixels, parted, State, few, same, same_is, same_self, taken_is, heard_at, column_state, step, after, fine}
 use Rattle.content_laws.proofs.Ready.{Flat, Ready, Trail, clear_trail, gap_clear, grows, not_it, column_clear, quiet, columns, flat_columns, is_heard, other_heard, turned_heard, state_marks, state_recent}
 
 -- whether three neighbouring columns of a level came, behind these marks
@@ -137,7 +137,7 @@ unheard_newer : (t b : Bool) (h : Option Bool) → is_heard b h ≡ false → is
 unheard_newer true b h e = other_heard b
 unheard_newer false b h e = e
 
-three_wrong : (b : Bool) (ms : List Mark) → three_have b (column (not b) ∷ ms) ≡ false
+pub three_wrong : (b : Bool) (ms : List Mark) → three_have b (column (not b) ∷ ms) ≡ false
 three_wrong b [] = refl
 three_wrong b (m ∷ []) = refl
 three_wrong b (m ∷ (n ∷ ms)) = ap (λ (t : Bool). t && has_vsync b m && has_vsync b n) (not_wrong b)

@@ -1,5 +1,5 @@
 -- The packets that are told are those that came whole, in order.
-use Rattle.std.proofs.Common.{◌≡◌, ℕ, zero, suc, ◌+◌, ◌-◌, ◌*◌, ◌/◌, ◌<◌, ◌≤◌, Bool, true, false, not, ◌&&◌, cond, ◌==◌, List, [], ◌∷◌, ◌++◌, map, length, take, drop, Option, Some, None, refl, sym, ap, ap₂, subst, ◌∙◌, append_assoc, arith, inl, inr, ◌⊎◌}
+use Rattle.std.proofs.Common.{◌≡◌, ℕ, zero, suc, ◌+◌, ◌-◌, ◌*◌, ◌<◌, ◌≤◌, Bool, true, false, not, ◌&&◌, cond, ◌==◌, List, [], ◌∷◌, ◌++◌, map, length, take, drop, Option, Some, None, refl, sym, ap, ap₂, subst, ◌∙◌, append_assoc, arith, inl, inr, ◌⊎◌}
 use Rattle.std.specs.Prelude.{nat_le, nat_lt}
 use Rattle.std.proofs.lemmas.Bool.{le-leb, lt-leb, lt-ltb, le-ltb, cases_lt}
 use Rattle.std.proofs.lemmas.List.{drop-drop, drop-take, take-take, map-append}
@@ -11,9 +11,8 @@ use Rattle.bch_block.specs.declared.Verdict.TheVariants.{Clean, Mended, Lost}
 use Rattle.island_pack.specs.Periods.{ControlRun, DataIsland, Period, control, video, island, values_of, Pixel, pixels_of, period_columns, VIDEO_PREAMBLE, ISLAND_PREAMBLE}
 use Rattle.island_pack.specs.Kinds.{EndsAt, kinds_of}
 use Rattle.island_pack.specs.declared.packet.Packet.{Packet}
-use Rattle.period_grammar.specs.Things.{Thing, word, preamble, cut, symbols, guard, all_at, thing_of}
+use Rattle.period_grammar.specs.Things.{Thing, preamble, cut, symbols, guard, all_at, thing_of}
 use Rattle.period_grammar.specs.Packets.{verdicts_of}
-use Rattle.period_grammar.specs.Column.{sync_digit}
 use Rattle.period_grammar.specs.Cut.{Run, columns, runs as runs_of}
 use Rattle.period_grammar.specs.Island.{if_so, block_fault, block_faults, wrong_guards}
 use Rattle.period_grammar.specs.Coding.{first_uncoded}
@@ -21,7 +20,9 @@ use Rattle.period_grammar.specs.Heard.{other_word, other_words, words, has_pream
 use Rattle.link_sink.specs.Account.{runs_row, control_row, wrong_preamble, open_video_row, open_island_row, close_island_row, video_row, video_told, packet_row, packet_told, packets_told, island_told, period_row, account_from, account_at, account}
 use Rattle.link_sink.proofs.Cutting.{things_at}
 use Rattle.link_sink.proofs.Conformed.{IsInner, Follows, ends, goes_on, Conforms, conforming}
+use Rattle.link_sink.proofs.Start.{control_size}
 use Rattle.link_sink.proofs.EndPlaces.{kinds_from, ends_first, ends_only, control_kinds, ends_late, kinds_size}
+use Rattle.content_laws.proofs.Accounted.{island_size}
 use Rattle.content_laws.specs.PacketLaws.{Placed, each_at, placed, ToldPacket, told_packet, told_packets, came_packet, packets_came, PacketsComeBack}
 
 told_both : (xs ys : List Thing) → told_packets (xs ++ ys) ≡ told_packets xs ++ told_packets ys
@@ -275,10 +276,6 @@ none_told ss rs a e = refl
 
 -- Periods from column x on.
 
-island_size : (x : DataIsland) → period_columns (island x) ≡ 4 + 32 * length x.packets
-unfolding period_columns
-island_size x = refl
-
 onward : (before : List Column) (periods : List Period) (ss rs : List Column) (a e x n : ℕ) → a ≤ x
     → told_packets (account_from (x - a + n) (e - x - n) before periods (drop n (drop x ss)) (drop n (drop x rs))) ≡ told_packets (account_from ((x + n) - a) (e - (x + n)) before periods (drop (x + n) ss) (drop (x + n) rs))
 onward before periods ss rs a e x n le =
@@ -369,10 +366,6 @@ unfolding IsInner InControl
 past_inner vs (control runs) rest n i le h = absurd i
 past_inner vs (video bytes) rest n i le h = (le, h)
 past_inner vs (island x) rest n i le h = (le, h)
-
-control_size : (runs : List ControlRun) → period_columns (control runs) ≡ length (values_of runs)
-unfolding period_columns
-control_size runs = refl
 
 first_period : (runs : List ControlRun) (rest : List Period) (n : ℕ) → n < length (values_of runs) → InControl (control runs ∷ rest) n
 unfolding InControl
