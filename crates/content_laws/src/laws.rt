@@ -1,6 +1,6 @@
 //! What of a raster's frames and packets comes back. The functions do nothing: what they ensure are the laws.
 ghost use Rattle.content_laws.specs.FrameLaws.{FramesComeBack, FramesHeard};
-ghost use Rattle.content_laws.specs.ListingLaws.{FrameLinesComeBack, PacketLinesAsSent};
+ghost use Rattle.content_laws.specs.ListingLaws.{FrameLinesComeBack, PacketLinesAsSent, PacketLinesComeBack};
 ghost use Rattle.content_laws.specs.PacketLaws.{PacketsComeBack, OneWordAsSent, RasterPackets};
 
 /// Of the account of a raster's columns exactly those frames are listed that count, each with the rows that came, and
@@ -34,7 +34,12 @@ pub fn frame_lines_come_back()
     ensures { FrameLinesComeBack }
 {}
 
-/// The content lines of a told packet of which at most one word came unlike are those of the packet as it was sent.
+/// The content lines of a packet of which at most one word came unlike are those of the packet as it was sent.
 pub fn packet_lines_as_sent()
     ensures { PacketLinesAsSent }
+{}
+
+/// So are those of each told packet of conforming periods of which at most one word came unlike.
+pub fn packet_lines_come_back()
+    ensures { PacketLinesComeBack }
 {}
