@@ -120,9 +120,10 @@ each_listed sent received a _ _ _ _ (one_more first p ps own came sent_on came_o
     let s = packet_sent first p own c in
     let r = packet_came first p own came c h in
     let e2 : drop y sent ≡ own ++ (sent_on ++ ss) = e ∙ append_assoc own sent_on ss in
-    let d2 : drop y received ≡ came ++ (came_on ++ rs) = d ∙ append_assoc came came_on rs in
-    (listed_here sent received a y p own came c r (ap (take 32) e2 ∙ take_seam own (sent_on ++ ss) 32 s) (ap (take 32) d2 ∙ take_seam came (came_on ++ rs) 32 r),
-     each_listed sent received a false ps sent_on came_on hs (y + 32) ss rs (next sent sent_on ss own y e2 s) (next received came_on rs came y d2 r))
+    let d2 : drop y received ≡ came ++ (came_on ++ rs) = d ∙ append_assoc came came_on rs in (
+      listed_here sent received a y p own came c r (ap (take 32) e2 ∙ take_seam own (sent_on ++ ss) 32 s) (ap (take 32) d2 ∙ take_seam came (came_on ++ rs) 32 r),
+      each_listed sent received a false ps sent_on came_on hs (y + 32) ss rs (next sent sent_on ss own y e2 s) (next received came_on rs came y d2 r),
+    )
 
 each_both : (P : Placed → Type 0) (ks ls : List Placed) → Each P ks → Each P ls → Each P (ks ++ ls)
 each_both P [] ls h g = g
