@@ -1,0 +1,4 @@
+pub mod Listed
+pub mod FrameLaws
+pub mod PacketLaws
+pub mod ListingLaws

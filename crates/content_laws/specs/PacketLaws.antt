@@ -1,0 +1,98 @@
+-- Packets of periods that came with sparse damage: which are told, and with which bytes.
+use Rattle.std.specs.Prelude.{◌≡◌, ℕ, ◌+◌, ◌-◌, ◌<◌, ◌≤◌, Bool, ◌&&◌, cond, List, [], ◌∷◌, ◌++◌, map, length, take, drop, nat_le, None}
+use Rattle.tmds_word.specs.Column.{Column}
+use Rattle.bch_block.specs.declared.Verdict.TheVariants.{Lost}
+use Rattle.island_pack.specs.Periods.{Period, control, video, island, period_columns}
+use Rattle.island_pack.specs.Spelling.{words_of}
+use Rattle.island_pack.specs.Packets.{Carries}
+use Rattle.island_pack.specs.Taken.{verdict_on}
+use Rattle.island_pack.specs.declared.packet.Packet.{Packet}
+use Rattle.island_pack.specs.declared.packet.PacketVerdicts.{PacketVerdicts}
+use Rattle.period_grammar.specs.Things.{Thing, packet}
+use Rattle.period_grammar.specs.Packets.{verdicts_of}
+use Rattle.link_sink.specs.Account.{damage, packet_row, account}
+use Rattle.link_sink.specs.Laws.{CameOf, EndsControl}
+use Rattle.source_end.specs.declared.mode.Mode.{Mode}
+use Rattle.source_end.specs.Content.{Frame}
+use Rattle.source_end.specs.Raster.{raster_of}
+use Rattle.source_end.specs.RasterRefusals.{raster_fault}
+
+-- a packet, and the first of its 32 columns
+pub record Placed : Type 0 where
+  pub packet : Packet
+  pub at : ℕ
+
+unfoldable pub each_at : ℕ → List Packet → List Placed
+each_at x [] = []
+each_at x (p ∷ ps) = record { packet = p; at = x } ∷ each_at (x + 32) ps
+
+-- the packets of periods, the first of which begins at column x
+unfoldable pub placed : ℕ → List Period → List Placed
+placed x [] = []
+placed x (control runs ∷ periods) = placed (x + period_columns (control runs)) periods
+placed x (video bytes ∷ periods) = placed (x + period_columns (video bytes)) periods
+placed x (island i ∷ periods) = each_at (x + 2) i.packets ++ placed (x + period_columns (island i)) periods
+
+-- a packet as it is told
+pub record ToldPacket : Type 0 where
+  pub packet : Packet
+  pub verdicts : PacketVerdicts
+  pub column : ℕ
+
+abbrev pub told_packet : Thing → List ToldPacket
+told_packet (packet p verdicts column) = record { packet = p; verdicts = verdicts; column = column } ∷ []
+told_packet _ = []
+
+unfoldable pub told_packets : List Thing → List ToldPacket
+told_packets [] = []
+told_packets (thing ∷ things) = told_packet thing ++ told_packets things
+
+abbrev pub came_packet : List Column → List Column → ℕ → Placed → ToldPacket
+came_packet sent received a k = record {
+  packet = packet_row k.packet (take 32 (drop k.at sent)) (take 32 (drop k.at received));
+  verdicts = verdicts_of (take 32 (drop k.at received));
+  column = k.at - a;
+}
+
+-- of placed packets those that came whole, in columns a up to e
+unfoldable pub packets_came : List Column → List Column → ℕ → ℕ → List Placed → List ToldPacket
+packets_came sent received a e [] = []
+packets_came sent received a e (k ∷ ks) =
+    cond (nat_le a k.at && nat_le (k.at + 32) e) (came_packet sent received a k ∷ []) [] ++ packets_came sent received a e ks
+
+-- the packets that are told are those that came whole, in order
+abbrev pub PacketsComeBack : Type 0
+PacketsComeBack =
+    (periods : List Period) (sent received : List Column) → CameOf periods sent received
+    → (a m : ℕ) → EndsControl periods (a + 11) → a + m ≤ length received
+    → told_packets (account periods sent received a m) ≡ packets_came sent received a (a + m) (placed 0 periods)
+
+-- a packet told as it was sent, but for its sync values: no block of it is lost, so its content lines are those of the packet
+pub record IsAsSent (p : Packet) (told : Packet) (verdicts : PacketVerdicts) : Type 0 where
+  pub header : told.header ≡ p.header
+  pub bodies : told.bodies ≡ p.bodies
+  pub kept : (b : ℕ) → b < 5 → verdict_on verdicts b ≡ Lost → ⊥
+
+-- so is each of which at most one word came unlike
+abbrev pub OneWordAsSent : Type 0
+OneWordAsSent =
+    (p : Packet) (first : Bool) (sent received : List Column) → Carries p first (map words_of sent) → length received ≡ 32
+    → damage sent received ≤ 1 → IsAsSent p (packet_row p sent received) (verdicts_of received)
+
+-- header and bodies, which a raster does not change
+pub record Payload : Type 0 where
+  pub header : List ℕ
+  pub bodies : List ℕ
+
+abbrev pub payload_of : Packet → Payload
+payload_of p = record { header = p.header; bodies = p.bodies }
+
+unfoldable pub content_packets : List Frame → List Packet
+content_packets [] = []
+content_packets (f ∷ frames) = f.packets ++ content_packets frames
+
+-- the packets of a raster are those of the content, in order
+abbrev pub RasterPackets : Type 0
+RasterPackets =
+    (mode : Mode) (frames : List Frame) → raster_fault mode frames ≡ None
+    → map (λ k. payload_of k.packet) (placed 0 (raster_of mode frames)) ≡ map payload_of (content_packets frames)
