@@ -17,7 +17,7 @@ no_option = (Offset, record { ref_ptr = (0, 0); now = [] })
 abbrev now_of : Held → OptionName × Text
 now_of option = (option.0, option.1.now)
 
-values-append : (name : OptionName) (xs ys : List (OptionName × Text)) → values_of name (xs ++ ys) ≡ values_of name xs ++ values_of name ys
+pub values-append : (name : OptionName) (xs ys : List (OptionName × Text)) → values_of name (xs ++ ys) ≡ values_of name xs ++ values_of name ys
 values-append name [] ys = refl
 values-append name (x ∷ xs) ys = go (is_same name x.0) (values-append name xs ys)
   where

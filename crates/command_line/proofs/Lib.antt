@@ -7,3 +7,9 @@ mod GivenOptions
 mod Taps
 mod Meanings
 pub mod Laws
+mod Rows
+mod Words
+mod Turns
+mod Takings
+mod Accepting
+mod Programs
