@@ -89,7 +89,7 @@ rest_found name c many has f (word ∷ words) rows pending waiting options opera
     (accepts_as name c _ words options options ((operands ++ word ∷ []) ++ words) (operands ++ word ∷ words) refl (append_assoc operands (word ∷ []) words) behind)
 
 -- each option stands at most once
-pub Once : List (OptionName × Text) → Type 0
+unfoldable pub Once : List (OptionName × Text) → Type 0
 Once options = (name : OptionName) → (o : Option Text) × IsGiven name options o
 
 alone : (xs : List Text) (v : Text) (vs : List Text) (o : Option Text) → xs ++ v ∷ vs ≡ listed o → xs ≡ []

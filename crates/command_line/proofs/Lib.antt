@@ -13,3 +13,6 @@ mod Turns
 mod Takings
 mod Accepting
 mod Programs
+mod Names
+mod Checking
+mod Deciding

@@ -114,10 +114,10 @@ sub_rules to_check = []
 sub_rules to_damage = several_rules
 sub_rules to_sample = single_rules
 
-abbrev whole : App
+abbrev pub whole : App
 whole = built vabgrot
 
-abbrev names : Names
+abbrev pub names : Names
 names = names_of whole
 
 -- a walk that has met a command keeps the words behind it
@@ -128,7 +128,7 @@ stop_grows c ns w name ws [] = ap (λ (vs : List Text). record w { stopped = Som
 stop_grows c ns w name ws (word ∷ words) =
     stop_grows c ns w name (ws ++ word ∷ []) words ∙ ap (λ (vs : List Text). record w { stopped = Some (name, vs) }) (append_assoc ws (word ∷ []) words)
 
-abbrev start : Walk
+abbrev pub start : Walk
 start = walk_from nothing_held
 
 abbrev at_stop : Text → List Text → Walk

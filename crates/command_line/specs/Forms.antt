@@ -1,10 +1,12 @@
 -- The commands as `clap` is told of them, and what it finds of options and operands.
-use Rattle.std.specs.Prelude.{◌≡◌, ℕ, Bool, true, false, List, [], ◌∷◌, codes, Option, Some, None, option_map, find}
+use Rattle.std.specs.Prelude.{◌≡◌, ◌⊎◌, MatchOption, ℕ, Bool, true, false, List, [], ◌∷◌, codes, Option, Some, None, option_map, find}
 use Rattle.std.specs.Str.{bytes_eq}
 use Rattle.clap.specs.Facts.{explicit_source}
 use Rattle.clap.specs.Words.{App, Row, Rule, new_app, new_rule, with_rule, with_subcommand}
 use Rattle.clap.specs.declared.builder.action.ArgAction.TheVariants.{Set, Append}
 use Rattle.command_line.specs.Grammar.{Text, IsGiven}
+use Rattle.command_line.specs.Commands.{Means}
+use Rattle.command_line.specs.declared.command.Command.{Command}
 use Rattle.command_line.specs.declared.options.OptionName.{OptionName}
 use Rattle.command_line.specs.declared.options.OptionName.TheVariants.{Offset, Skew, Bits, Version}
 
@@ -78,3 +80,9 @@ pub record AreFound (rows : List Row) (options : List (OptionName × Text)) (ope
   pub given : (name : OptionName) → IsGiven name options (value name)
   pub options_are : (name : OptionName) → told (option_id name) rows ≡ one_value (value name)
   pub operands_are : told operand_id rows ≡ all_values operands
+
+-- the answer is the command that these rows of a name ask for
+abbrev pub Judges : Text → List Row → Option Command → Type 0
+Judges name rows answer =
+    (options : List (OptionName × Text)) (operands : List Text) → AreFound rows options operands → (name ≡ codes "make") ⊎ (options ≡ [])
+    → MatchOption answer ((c : Command) → Means c name options operands → ⊥) (λ c. Means c name options operands)
