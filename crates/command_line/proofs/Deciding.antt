@@ -1,6 +1,7 @@
 -- Words are taken by `clap`, and read as a command, exactly where the grammar has them.
 use Rattle.std.proofs.Common.{◌≡◌, ◌∙◌, ◌⊎◌, inl, inr, sym, ap, ap₂, refl, subst, arith, Bool, true, false, ◌==◌, ℕ, ◌+◌, ◌<◌, List, [], ◌∷◌, ◌++◌, length, codes, Option, Some, None, true≢false, append_assoc, append-nil, slice_index}
-use Rattle.std.specs.Prelude.{if◌then◌else◌, unwrap_or, MatchOption}
+use Rattle.std.specs.Prelude.{if◌then◌else◌, unwrap_or, MatchOption, IfOk, Result, Ok, Err}
+use Rattle.outside_io.specs.declared.NoMemory.{NoMemory}
 use Rattle.std.specs.List.{flat_map, filter_map, cons_option, list_all}
 use Rattle.std.specs.Str.Parse.{starts_with_minus}
 use Rattle.std.proofs.lemmas.Option.{none-some, same_Some}
@@ -373,3 +374,8 @@ judged words a None j = λ c k.
 -- words that are refused are no command
 pub refused : (words : List Text) (c : Command) → IsCommand words c → (fault_of vabgrot words ≡ [] → ⊥) → ⊥
 refused words c k faults = faults (command_reads words c k).passes
+
+pub answered : (words : List Text) (a : Accepted words) (r : Result (Option Command) NoMemory) → IfOk r (Judges a.name a.rows)
+    → IfOk r (λ answer. MatchOption answer ((c : Command) → IsCommand words c → ⊥) (λ c. IsCommand words c))
+answered words a (Ok r) j = judged words a r j
+answered words a (Err e) j = tt

@@ -1,8 +1,6 @@
 mod Digits
 mod Triples
 mod DamageTexts
-mod Arranging
-mod Reading
 mod GivenOptions
 mod Taps
 mod Meanings
@@ -16,3 +14,4 @@ mod Programs
 mod Names
 mod Checking
 mod Deciding
+mod Judging

@@ -2,7 +2,7 @@
 use Rattle.std.specs.Prelude.{◌≡◌, ◌⊎◌, MatchOption, ℕ, Bool, true, false, List, [], ◌∷◌, codes, Option, Some, None, option_map, find}
 use Rattle.std.specs.Str.{bytes_eq}
 use Rattle.clap.specs.Facts.{explicit_source}
-use Rattle.clap.specs.Words.{App, Row, Rule, new_app, new_rule, with_rule, with_subcommand}
+use Rattle.clap.specs.Words.{App, Row, Rule, fault_of, subcommand_of, new_app, new_rule, with_rule, with_subcommand}
 use Rattle.clap.specs.declared.builder.action.ArgAction.TheVariants.{Set, Append}
 use Rattle.command_line.specs.Grammar.{Text, IsGiven}
 use Rattle.command_line.specs.Commands.{Means}
@@ -35,11 +35,15 @@ operand_rule true = record (new_rule operand_id) { required = true; action = Som
 abbrev pub bare : Text → App
 bare name = let a = new_app name in record a { top = record (a.top) { disable_help_flag = true; disable_version_flag = true } }
 
+-- a command with one operand
+abbrev pub single : Text → App
+single name = with_rule (bare name) (operand_rule false)
+
 abbrev pub make : App
-make = with_rule (with_rule (with_rule (with_rule (with_rule (bare (codes "make")) (operand_rule false)) (option_rule Offset)) (option_rule Skew)) (option_rule Bits)) (option_rule Version)
+make = with_rule (with_rule (with_rule (with_rule (single (codes "make")) (option_rule Offset)) (option_rule Skew)) (option_rule Bits)) (option_rule Version)
 
 abbrev pub recover : App
-recover = with_rule (bare (codes "recover")) (operand_rule false)
+recover = single (codes "recover")
 
 abbrev pub check : App
 check = bare (codes "check")
@@ -48,7 +52,7 @@ abbrev pub damage : App
 damage = with_rule (bare (codes "damage")) (operand_rule true)
 
 abbrev pub sample : App
-sample = with_rule (bare (codes "sample")) (operand_rule false)
+sample = single (codes "sample")
 
 abbrev pub program : App
 program = let a = bare (codes "vabgrot") in record a { top = record (a.top) { disable_help_subcommand = true; no_binary_name = true; subcommand_required = true } }
@@ -86,3 +90,12 @@ abbrev pub Judges : Text → List Row → Option Command → Type 0
 Judges name rows answer =
     (options : List (OptionName × Text)) (operands : List Text) → AreFound rows options operands → (name ≡ codes "make") ⊎ (options ≡ [])
     → MatchOption answer ((c : Command) → Means c name options operands → ⊥) (λ c. Means c name options operands)
+
+-- the words are taken, and this is what is found of the command that they begin with; or they are refused
+abbrev pub IsParsed : List Text → Option (Option (Text × List Row)) → Type 0
+IsParsed words (Some found) = (fault_of vabgrot words ≡ []) × (found ≡ subcommand_of vabgrot words)
+IsParsed words None = fault_of vabgrot words ≡ [] → ⊥
+
+-- these are the operands of all options and operands that are found
+abbrev pub HasOperands : List Row → List Text → Type 0
+HasOperands rows texts = (options : List (OptionName × Text)) (operands : List Text) → AreFound rows options operands → texts ≡ operands
