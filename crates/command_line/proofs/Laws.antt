@@ -1,10 +1,12 @@
 -- Words name one command at most.
-use Rattle.std.proofs.Common.{◌≡◌, ◌∙◌, sym, ap, ap₂, refl, subst, ℕ, List, [], ◌∷◌, Option, Some, None}
+use Rattle.std.proofs.Common.{◌≡◌, ◌⊎◌, inl, inr, Bool, true, false, bytes_eq, ◌∙◌, sym, ap, ap₂, refl, subst, ℕ, List, [], ◌∷◌, Option, Some, None}
 use Rattle.std.specs.Prelude.{codes}
-use Rattle.std.proofs.lemmas.Option.{same_Some}
+use Rattle.std.proofs.lemmas.Option.{none-some, same_Some}
 use Rattle.command_line.specs.Numbers.{IsNumber}
 use Rattle.command_line.specs.Damages.{IsDamage, AreDamages}
-use Rattle.command_line.specs.Grammar.{Text}
+use Rattle.command_line.specs.Grammar.{Text, values_of, listed}
+use Rattle.command_line.specs.Forms.{AreFound, one_value, all_values}
+use Rattle.clap.specs.Walk.{Row}
 use Rattle.command_line.specs.Commands.{IsOffset, AreSkews, IsLimit, IsVersion, IsTap, Means, IsCommand}
 use Rattle.command_line.specs.declared.options.OptionName.{OptionName}
 use Rattle.command_line.specs.declared.options.OptionName.TheVariants.{Offset, Skew, Bits, Version}
@@ -15,7 +17,8 @@ use Rattle.command_line.specs.declared.command.Command.TheVariants.{MakeLink, Ma
 use Rattle.command_line.proofs.Triples.{number_found, three_found}
 use Rattle.command_line.proofs.DamageTexts.{damage_found}
 use Rattle.command_line.proofs.Taps.{same_text}
-use Rattle.command_line.proofs.Meanings.{apart, same_head, same_means}
+use Rattle.command_line.proofs.Meanings.{apart, same_head}
+use Rattle.command_line.proofs.Deciding.{command_reads}
 
 -- a text has one number at most
 pub number_once : (most : ℕ) (text : Text) (m n : ℕ) → IsNumber most text m → IsNumber most text n → m ≡ n
@@ -118,7 +121,68 @@ means_once name options operands (Sample n) Check a b = absurd (apart (codes "sa
 means_once name options operands (Sample n) (Damage es) a b = absurd (apart (codes "sample") (codes "damage") refl (sym a.0 ∙ b.0))
 means_once name options operands (Sample n) (Sample m) a b = ap Sample (number_once 20 a.1.0 n m a.1.2 (subst (λ (x : Text). IsNumber 20 x m) (same_head b.1.0 a.1.0 (sym b.1.1 ∙ a.1.1)) b.1.2))
 
--- words name one command at most
+-- ---- words name one command at most
+
+same_values : (a b : List Text) → all_values a ≡ all_values b → a ≡ b
+same_values [] [] e = refl
+same_values [] (y ∷ ys) e = absurd (none-some (y ∷ ys, true) e)
+same_values (x ∷ xs) [] e = absurd (none-some (x ∷ xs, true) (sym e))
+same_values (x ∷ xs) (y ∷ ys) e = ap (λ (p : List Text × Bool). p.0) (same_Some (x ∷ xs, true) (y ∷ ys, true) e)
+
+same_value : (a b : Option Text) → one_value a ≡ one_value b → listed a ≡ listed b
+same_value None None e = refl
+same_value None (Some y) e = absurd (none-some (y ∷ [], true) e)
+same_value (Some x) None e = absurd (none-some (x ∷ [], true) (sym e))
+same_value (Some x) (Some y) e = ap (λ (p : List Text × Bool). p.0) (same_Some (x ∷ [], true) (y ∷ [], true) e)
+
+-- options that give each name the same values ask for the same
+AreSame : List (OptionName × Text) → List (OptionName × Text) → Type 0
+AreSame o u = (name : OptionName) → values_of name o ≡ values_of name u
+
+found_same : (rows : List Row) (o u : List (OptionName × Text)) (p q : List Text) → AreFound rows o p → AreFound rows u q → AreSame o u × (p ≡ q)
+unfolding AreSame
+found_same rows o u p q f g = (
+  λ name. f.given name ∙ same_value (f.value name) (g.value name) (sym (f.options_are name) ∙ g.options_are name) ∙ sym (g.given name),
+  same_values p q (sym f.operands_are ∙ g.operands_are),
+)
+
+tap_as : (o u : List (OptionName × Text)) (tap : TapWords) → AreSame o u → IsTap o tap → IsTap u tap
+unfolding AreSame
+tap_as o u tap same is = record {
+  offset_text = is.offset_text;
+  skew_text = is.skew_text;
+  bits_text = is.bits_text;
+  version_text = is.version_text;
+  offset_given = sym (same Offset) ∙ is.offset_given;
+  skew_given = sym (same Skew) ∙ is.skew_given;
+  bits_given = sym (same Bits) ∙ is.bits_given;
+  version_given = sym (same Version) ∙ is.version_given;
+  offset = is.offset;
+  skews = is.skews;
+  bits = is.bits;
+  version = is.version;
+}
+
+no_options : (name other : Text) (u : List (OptionName × Text)) → bytes_eq (codes "make") other ≡ false → name ≡ other → (name ≡ codes "make") ⊎ (u ≡ []) → u ≡ []
+no_options name other u differ is (inl e) = absurd (apart (codes "make") other differ (sym e ∙ is))
+no_options name other u differ is (inr e) = e
+
+means_as : (c : Command) (name : Text) (o u : List (OptionName × Text)) (operands : List Text) → AreSame o u → (name ≡ codes "make") ⊎ (u ≡ []) → Means c name o operands → Means c name u operands
+means_as (MakeLink tap) name o u operands same allowed m = (m.0, m.1, tap_as o u tap same m.2)
+means_as (MakeContent tap) name o u operands same allowed m = (m.0, m.1, tap_as o u tap same m.2)
+means_as RecoverLink name o u operands same allowed m = (m.0, m.1, no_options name (codes "recover") u refl m.0 allowed)
+means_as RecoverContent name o u operands same allowed m = (m.0, m.1, no_options name (codes "recover") u refl m.0 allowed)
+means_as Check name o u operands same allowed m = (m.0, m.1, no_options name (codes "check") u refl m.0 allowed)
+means_as (Damage damages) name o u operands same allowed m = (m.0, m.1, no_options name (codes "damage") u refl m.0 allowed)
+means_as (Sample n) name o u operands same allowed m = (m.0, m.1, no_options name (codes "sample") u refl m.0 allowed)
+
 pub command_once : (words : List Text) (c d : Command) → IsCommand words c → IsCommand words d → c ≡ d
 command_once words c d a b =
-    means_once a.name a.options a.operands c d a.means (same_means words a.name a.behind a.options a.operands d a.words_are a.arranged b)
+    let r = command_reads words c a in
+    let s = command_reads words d b in
+    let same : (b.name, s.rows) ≡ (a.name, r.rows) = same_Some (b.name, s.rows) (a.name, r.rows) (sym s.rows_are ∙ r.rows_are) in
+    let found = subst (λ (rows : List Row). AreFound rows b.options b.operands) (ap (λ (p : Text × List Row). p.1) same) s.found in
+    let both = found_same r.rows b.options a.options b.operands a.operands found r.found in
+    let named = subst (λ (n : Text). Means d n b.options b.operands) (ap (λ (p : Text × List Row). p.0) same) b.means in
+    let operands_are = subst (λ (os : List Text). Means d a.name b.options os) both.1 named in
+    means_once a.name a.options a.operands c d a.means (means_as d a.name b.options a.options a.operands both.0 r.allowed operands_are)

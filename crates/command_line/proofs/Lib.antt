@@ -1,9 +1,17 @@
 mod Digits
 mod Triples
 mod DamageTexts
-mod Arranging
-mod Reading
 mod GivenOptions
 mod Taps
 mod Meanings
 pub mod Laws
+mod Rows
+mod Words
+mod Turns
+mod Takings
+mod Accepting
+mod Programs
+mod Names
+mod Checking
+mod Deciding
+mod Judging

@@ -3,4 +3,4 @@ pub mod Damages
 pub mod Grammar
 pub mod Commands
 pub mod Parsing
-pub mod Scanning
+pub mod Forms

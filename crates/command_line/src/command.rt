@@ -1,14 +1,17 @@
 //! What the words of the command line ask for.
-ghost use Rattle.std.specs.Prelude.{◌≡◌, IfOk, List, [], MatchOption, Some, None, map, string_bytes, codes};
+ghost use Rattle.std.specs.Prelude.{◌≡◌, IfOk, List, [], MatchOption, Some, None, map, option_map, string_bytes, codes};
 ghost use Rattle.command_line.specs.Commands.{IsCommand, Means};
-ghost use Rattle.command_line.specs.Grammar.{Text, given, texts};
+ghost use Rattle.command_line.specs.Grammar.{Text, texts};
+ghost use Rattle.command_line.specs.Forms.{AreFound, HasOperands, IsParsed, Judges};
+ghost use Rattle.clap.specs.Words.{Row, found_of, rows_of, subcommand_rows_of};
 ghost use Rattle.command_line.specs.declared.options.OptionName.{OptionName as Name};
 
-use crate::arranged::arranged;
 use crate::damage::{Damages, read_damages};
+use crate::forms::{forms, operand_texts};
 use crate::numbers::read_number;
-use crate::options::OptionName;
 use crate::tap::{TapWords, read_tap};
+use clap::ArgMatches;
+use clap::error::ErrorKind;
 use outside_io::NoMemory;
 use std::alloc::Global;
 
@@ -45,33 +48,64 @@ pub enum Command {
 pub fn read_command(alloc: Global, words: &[String]) -> Result<Option<Command>, NoMemory>
     ensures { IfOk result (λ answer. MatchOption answer ((c : Command) → IsCommand (map string_bytes words.now) c → ⊥) (λ c. IsCommand (map string_bytes words.now) c)) }
 {
-    let [name, behind @ ..] = words else {
-        return Ok(None);
-    };
-    match arranged(alloc, behind)? {
-        Some(reading) => command_of(
-            alloc,
-            name.as_str(),
-            reading.options.as_slice(),
-            reading.operands.as_slice(),
-        ),
+    match parsed(alloc, words)? {
+        Some(matches) => found_command(alloc, &matches),
         None => Ok(None),
     }
 }
 
-/// The command that a name, options and operands ask for.
-fn command_of(
+/// What is found in words; none where they are of no command's form.
+fn parsed<'a>(alloc: Global, words: &'a [String]) -> Result<Option<ArgMatches<'a>>, NoMemory>
+    ensures { IfOk result (λ found. IsParsed (map string_bytes words.entry.now) (option_map subcommand_rows_of found)) }
+{
+    let command = forms(alloc)?;
+    match command.try_get_matches_from(words) {
+        Ok(matches) => Ok(Some(matches)),
+        Err(e) => {
+            if e.kind() == ErrorKind::OutOfMemory {
+                Err(NoMemory)
+            } else {
+                Ok(None)
+            }
+        }
+    }
+}
+
+/// The command that what was found asks for.
+fn found_command(alloc: Global, matches: &ArgMatches<'_>) -> Result<Option<Command>, NoMemory>
+    ensures { (name : Text) (rows : List Row) → subcommand_rows_of matches.now ≡ Some (name, rows) → IfOk result (Judges name rows) }
+{
+    match matches.subcommand() {
+        Some((name, found)) => named_command(alloc, name, found),
+        None => Ok(None),
+    }
+}
+
+/// The command that a name, and the options and operands found behind it, ask for.
+fn named_command(
     alloc: Global,
     name: &str,
-    options: &[(OptionName, &str)],
+    matches: &ArgMatches<'_>,
+) -> Result<Option<Command>, NoMemory>
+    ensures { IfOk result (Judges name.now (rows_of (found_of matches.now))) }
+{
+    match operand_texts(matches) {
+        Some(operands) => asked_command(alloc, name, matches, operands),
+        None => asked_command(alloc, name, matches, &[]),
+    }
+}
+
+/// The same, by the operands.
+fn asked_command(
+    alloc: Global,
+    name: &str,
+    matches: &ArgMatches<'_>,
     operands: &[&str],
 ) -> Result<Option<Command>, NoMemory>
-    ensures { IfOk result (λ answer. MatchOption answer ((c : Command) → Means c name.now (given options.now) (texts operands.now) → ⊥) (λ c. Means c name.now (given options.now) (texts operands.now))) }
+    ensures { HasOperands (rows_of (found_of matches.now)) (texts operands.now) → IfOk result (Judges name.now (rows_of (found_of matches.now))) }
 {
     if name == "make" {
-        Ok(make_command(options, operands))
-    } else if !options.is_empty() {
-        Ok(None)
+        Ok(make_command(matches, operands))
     } else if name == "damage" {
         damage_command(alloc, operands)
     } else {
@@ -80,13 +114,13 @@ fn command_of(
 }
 
 /// `make link` or `make content`.
-fn make_command(options: &[(OptionName, &str)], operands: &[&str]) -> Option<Command>
-    ensures { MatchOption result ((c : Command) → Means c (codes "make") (given options.now) (texts operands.now) → ⊥) (λ c. Means c (codes "make") (given options.now) (texts operands.now)) }
+fn make_command(matches: &ArgMatches<'_>, operands: &[&str]) -> Option<Command>
+    ensures { (options : List (Name × Text)) (found : List Text) → AreFound (rows_of (found_of matches.now)) options found → MatchOption result ((c : Command) → Means c (codes "make") options (texts operands.now) → ⊥) (λ c. Means c (codes "make") options (texts operands.now)) }
 {
     let [kind] = operands else {
         return None;
     };
-    let tap = read_tap(options)?;
+    let tap = read_tap(matches)?;
     match *kind {
         "link" => Some(Command::MakeLink(tap)),
         "content" => Some(Command::MakeContent(tap)),

@@ -4,9 +4,9 @@
 //! and around them, each as `--name VALUE` or as `--name=VALUE`. Behind the word `--` each word is an operand.
 #![tactic(auto)]
 
-mod arranged;
 mod command;
 mod damage;
+mod forms;
 mod numbers;
 mod options;
 mod tap;

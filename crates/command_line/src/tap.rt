@@ -1,12 +1,16 @@
 //! What the options of `make` say.
 ghost use Rattle.std.specs.Prelude.{◌≡◌, ℕ, List, Option as Maybe, MatchOption, Some, None, option_map};
-ghost use Rattle.command_line.specs.Grammar.{IsGiven, Text, given};
+ghost use Rattle.clap.specs.Words.{found_of, rows_of};
+ghost use Rattle.command_line.specs.Grammar.{Text};
+ghost use Rattle.command_line.specs.Forms.{AreFound};
 ghost use Rattle.command_line.specs.Commands.{AreSkews, IsLimit, IsOffset, IsTap, IsVersion};
-ghost use Rattle.command_line.specs.declared.options.OptionName.TheVariants.{Offset, Skew, Bits, Version};
+ghost use Rattle.command_line.specs.declared.options.OptionName.{OptionName as Name};
 ghost use Rattle.command_line.specs.declared.tap.TapWords.{TapWords as TapValue};
 
+use crate::forms::option_text;
 use crate::numbers::{read_number, three_numbers};
-use crate::options::{OptionName, value_of};
+use crate::options::OptionName;
+use clap::ArgMatches;
 
 // The greatest skew, in bits.
 const MAX_SKEW: u32 = 4095;
@@ -27,14 +31,14 @@ pub struct TapWords {
     pub bits: Option<u32>,
 }
 
-/// The tap that options ask for; none where one stands twice or its value is of another form.
-pub(crate) fn read_tap(options: &[(OptionName, &str)]) -> Option<TapWords>
-    ensures { MatchOption result ((tap : TapValue) → IsTap (given options.now) tap → ⊥) (λ tap. IsTap (given options.now) tap) }
+/// The tap that the options ask for that were found; none where the value of one is of another form.
+pub(crate) fn read_tap(matches: &ArgMatches<'_>) -> Option<TapWords>
+    ensures { (options : List (Name × Text)) (operands : List Text) → AreFound (rows_of (found_of matches.now)) options operands → MatchOption result ((tap : TapValue) → IsTap options tap → ⊥) (λ tap. IsTap options tap) }
 {
-    let offset = read_offset(options)?;
-    let skews = read_skews(options)?;
-    let bits = read_limit(options)?;
-    let version = read_version(options)?;
+    let offset = read_offset(option_text(matches, OptionName::Offset))?;
+    let skews = read_skews(option_text(matches, OptionName::Skew))?;
+    let bits = read_limit(option_text(matches, OptionName::Bits))?;
+    let version = read_version(option_text(matches, OptionName::Version))?;
     Some(TapWords {
         version,
         offset,
@@ -44,40 +48,40 @@ pub(crate) fn read_tap(options: &[(OptionName, &str)]) -> Option<TapWords>
 }
 
 /// The offset, 0 where it is left out.
-fn read_offset(options: &[(OptionName, &str)]) -> Option<u32>
-    ensures { MatchOption result ((text : Maybe Text) (n : ℕ) → IsGiven Offset (given options.now) text → IsOffset text n → ⊥) (λ n. (text : Maybe Text) × IsGiven Offset (given options.now) text × IsOffset text n) }
+fn read_offset(text: Option<&str>) -> Option<u32>
+    ensures { MatchOption result ((n : ℕ) → IsOffset (option_map (λ t. t.now) text.entry) n → ⊥) (λ n. IsOffset (option_map (λ t. t.now) text.entry) n) }
 {
-    match value_of(OptionName::Offset, options)? {
+    match text {
         Some(text) => read_number(text, u32::MAX),
         None => Some(0),
     }
 }
 
 /// The skews, 0 where they are left out.
-fn read_skews(options: &[(OptionName, &str)]) -> Option<[u32; 3]>
-    ensures { MatchOption result ((text : Maybe Text) (skews : List ℕ) → IsGiven Skew (given options.now) text → AreSkews text skews → ⊥) (λ skews. (text : Maybe Text) × IsGiven Skew (given options.now) text × AreSkews text skews) }
+fn read_skews(text: Option<&str>) -> Option<[u32; 3]>
+    ensures { MatchOption result ((skews : List ℕ) → AreSkews (option_map (λ t. t.now) text.entry) skews → ⊥) (λ skews. AreSkews (option_map (λ t. t.now) text.entry) skews) }
 {
-    match value_of(OptionName::Skew, options)? {
+    match text {
         Some(text) => three_numbers(text, MAX_SKEW),
         None => Some([0, 0, 0]),
     }
 }
 
 /// The most bits of a lane, none where they are left out.
-fn read_limit(options: &[(OptionName, &str)]) -> Option<Option<u32>>
-    ensures { MatchOption result ((text : Maybe Text) (limit : Maybe ℕ) → IsGiven Bits (given options.now) text → IsLimit text limit → ⊥) (λ limit. (text : Maybe Text) × IsGiven Bits (given options.now) text × IsLimit text limit) }
+fn read_limit(text: Option<&str>) -> Option<Option<u32>>
+    ensures { MatchOption result ((limit : Maybe ℕ) → IsLimit (option_map (λ t. t.now) text.entry) limit → ⊥) (λ limit. IsLimit (option_map (λ t. t.now) text.entry) limit) }
 {
-    match value_of(OptionName::Bits, options)? {
+    match text {
         Some(text) => Some(Some(read_number(text, u32::MAX)?)),
         None => Some(None),
     }
 }
 
 /// The version, 1 or 2: 1 where it is left out.
-fn read_version(options: &[(OptionName, &str)]) -> Option<u8>
-    ensures { MatchOption result ((text : Maybe Text) (n : ℕ) → IsGiven Version (given options.now) text → IsVersion text n → ⊥) (λ n. (text : Maybe Text) × IsGiven Version (given options.now) text × IsVersion text n) }
+fn read_version(text: Option<&str>) -> Option<u8>
+    ensures { MatchOption result ((n : ℕ) → IsVersion (option_map (λ t. t.now) text.entry) n → ⊥) (λ n. IsVersion (option_map (λ t. t.now) text.entry) n) }
 {
-    match value_of(OptionName::Version, options)? {
+    match text {
         Some(text) => match read_number(text, MAX_VERSION)? {
             1 => Some(1),
             2 => Some(2),

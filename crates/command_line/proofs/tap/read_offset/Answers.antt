@@ -1,10 +1,5 @@
-use Rattle.std.proofs.Common.{◌∙◌, ap, Option, Bor, List, ℕ}
-use Rattle.std.specs.Prelude.{option_map}
-use Rattle.command_line.specs.Grammar.{given, listed}
-use Rattle.command_line.proofs.Taps.{offset_judged}
+use Rattle.command_line.proofs.Triples.{number_judged}
 use Rattle.command_line.proofs.tap.read_offset.Goals as goal
 
 pub returns-in-Some : goal.returns-in-Some
-returns-in-Some c =
-    offset_judged (given c.args.options.now) c.in-Some.text.now c.read_number.result
-    (c.in_ok-text.ensures ∙ ap (λ (o : Option (Bor (List ℕ))). listed (option_map (λ t. t.now) o)) c.in-Some.is) c.read_number.ensures
+returns-in-Some c = rw c.in-Some.is (number_judged 4294967295 c.in-Some.text.now c.read_number.result c.read_number.ensures)

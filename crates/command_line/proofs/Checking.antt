@@ -1,0 +1,55 @@
+-- The words of `check`: none, or `--` alone.
+use Rattle.std.proofs.Common.{◌≡◌, ◌∙◌, ◌⊎◌, inl, inr, sym, ap, refl, subst, Bool, true, false, ℕ, List, [], ◌∷◌, ◌++◌, codes, Option, Some, None, bytes_eq}
+use Rattle.std.specs.Prelude.{unwrap_or}
+use Rattle.std.specs.List.{flat_map, filter_map}
+use Rattle.std.proofs.lemmas.Slice.Eq.{bytes_eq-Decides}
+use Rattle.clap.specs.Lexer.{long_of}
+use Rattle.clap.specs.Walk.{idle, nothing_held, walk_from, walked}
+use Rattle.clap.specs.Faults.{turn_fault, walk_fault, defaults_fault, level_fault}
+use Rattle.command_line.specs.Grammar.{Text, Piece, apart, joined, operand, piece_words, option_of, operand_of, rest_words, AreArranged}
+use Rattle.command_line.proofs.Turns.{leaf, walk_at, Turn, rest_turn, other_turn, idle_turn, trailing_turn, unknown_turn}
+use Rattle.command_line.proofs.Takings.{total, level_total, turn_told, or_else_first}
+
+unfoldable pub IsBare : List Text → Type 0
+IsBare words = (words ≡ []) ⊎ (words ≡ codes "--" ∷ [])
+
+bare_by : (word : Text) (words : List Text) → total (codes "check") [] (walk_at [] None idle 1 false) (word ∷ words) ≡ []
+    → (dashes : Bool) → bytes_eq word (codes "--") ≡ dashes → (long : Option (Text × Option Text)) → long_of word ≡ long → IsBare (word ∷ words)
+unfolding IsBare total
+bare_by word words h false d (Some p) e =
+    absurd (unknown_turn (codes "check") [] [] None idle 1 word p.0 p.1 d e refl (or_else_first (turn_fault (leaf (codes "check") []) [] (walk_at [] None idle 1 false) word) _ h))
+bare_by word words h false d None e =
+    let passes = or_else_first (turn_fault (leaf (codes "check") []) [] (walk_at [] None idle 1 false) word) _ h in
+    let t = idle_turn (codes "check") [] [] None idle 1 word tt (other_turn (codes "check") [] [] None idle 1 word (λ x. refl) d e passes) in
+    absurd (cc (turn_told (codes "check") [] _ word words _ _ t h).0)
+bare_by word [] h true d long e = inr (ap (λ (w : Text). w ∷ []) ((bytes_eq-Decides word (codes "--")).0 d))
+bare_by word (next ∷ words) h true d long e =
+    let h2 = subst (λ (w : Text). total (codes "check") [] (walk_at [] None idle 1 false) (w ∷ next ∷ words) ≡ []) ((bytes_eq-Decides word (codes "--")).0 d) h in
+    let told = turn_told (codes "check") [] _ (codes "--") (next ∷ words) _ _ (rest_turn (codes "check") [] [] None idle 1) h2 in
+    absurd (cc (turn_told (codes "check") [] _ next words _ _ (trailing_turn (codes "check") [] [] None idle 1 next) told.1).0)
+
+pub check_told : (words : List Text) → level_fault (leaf (codes "check") []) [] nothing_held words false [] ≡ [] → IsBare words
+unfolding IsBare
+check_told [] h = inl refl
+check_told (word ∷ words) h = bare_by word words (sym (level_total (codes "check") [] (word ∷ words)) ∙ h) (bytes_eq word (codes "--")) refl (long_of word) refl
+
+no_pieces : (pieces : List Piece) (rest : Option (List Text)) → [] ≡ filter_map option_of pieces → [] ≡ filter_map operand_of pieces ++ unwrap_or rest [] → IsBare (flat_map piece_words pieces ++ rest_words rest)
+unfolding IsBare
+no_pieces [] None o p = inl refl
+no_pieces [] (Some words) o p = inr (ap (λ (ws : List Text). codes "--" ∷ ws) (sym p))
+no_pieces (apart n v ∷ pieces) rest o p = absurd (cc o)
+no_pieces (joined n v ∷ pieces) rest o p = absurd (cc o)
+no_pieces (operand w ∷ pieces) rest o p = absurd (cc p)
+
+pub check_bare : (words : List Text) → AreArranged words [] [] → IsBare words
+check_bare words a = subst IsBare (sym a.words_are) (no_pieces a.pieces a.rest a.options_are a.operands_are)
+
+pub check_passes : (words : List Text) → IsBare words → level_fault (leaf (codes "check") []) [] nothing_held words false [] ≡ []
+unfolding IsBare walk_fault walked defaults_fault
+check_passes words (inl e) = subst (λ (ws : List Text). level_fault (leaf (codes "check") []) [] nothing_held ws false [] ≡ []) (sym e) refl
+check_passes words (inr e) = subst (λ (ws : List Text). level_fault (leaf (codes "check") []) [] nothing_held ws false [] ≡ []) (sym e) refl
+
+pub bare_arranged : (words : List Text) → IsBare words → AreArranged words [] []
+unfolding IsBare
+bare_arranged words (inl e) = record { pieces = []; rest = None; words_are = e; plain = tt; options_are = refl; operands_are = refl }
+bare_arranged words (inr e) = record { pieces = []; rest = Some []; words_are = e; plain = tt; options_are = refl; operands_are = refl }

@@ -1,0 +1,381 @@
+-- Words are taken by `clap`, and read as a command, exactly where the grammar has them.
+use Rattle.std.proofs.Common.{◌≡◌, ◌∙◌, ◌⊎◌, inl, inr, sym, ap, ap₂, refl, subst, arith, Bool, true, false, ◌==◌, ℕ, ◌+◌, ◌<◌, List, [], ◌∷◌, ◌++◌, length, codes, Option, Some, None, true≢false, append_assoc, append-nil, slice_index}
+use Rattle.std.specs.Prelude.{if◌then◌else◌, unwrap_or, MatchOption, IfOk, Result, Ok, Err}
+use Rattle.outside_io.specs.declared.NoMemory.{NoMemory}
+use Rattle.std.specs.List.{flat_map, filter_map, cons_option, list_all}
+use Rattle.std.specs.Str.Parse.{starts_with_minus}
+use Rattle.std.proofs.lemmas.Option.{none-some, same_Some}
+use Rattle.std.proofs.lemmas.Grind.{common_steps}
+use Rattle.std.proofs.lemmas.Bool.{and_parts}
+use Rattle.clap.specs.Walk.{Row, Rule, Walk, idle, settled, nothing_held, walk_from, walked, rows_after, arg_by_long}
+use Rattle.clap.specs.Faults.{fault_of, level_fault}
+use Rattle.clap.specs.Simple.{subcommand_of}
+use Rattle.command_line.specs.Numbers.{number_of, is_digit, IsNumber, AreThree}
+use Rattle.command_line.specs.Damages.{IsDamage, AreDamages}
+use Rattle.command_line.specs.Grammar.{Text, Piece, apart, joined, operand, piece_words, ArePlain, option_of, operand_of, rest_words, is_same, values_of, listed, AreArranged}
+use Rattle.command_line.specs.Commands.{IsOffset, AreSkews, IsLimit, IsVersion, IsTap, Means, IsCommand}
+use Rattle.command_line.specs.Forms.{option_id, vabgrot, AreFound, Judges}
+use Rattle.command_line.specs.declared.options.OptionName.{OptionName}
+use Rattle.command_line.specs.declared.options.OptionName.TheVariants.{Offset, Skew, Bits, Version}
+use Rattle.command_line.specs.declared.damage.DamageWord.{DamageWord}
+use Rattle.command_line.specs.declared.tap.TapWords.{TapWords}
+use Rattle.command_line.specs.declared.command.Command.{Command}
+use Rattle.command_line.specs.declared.command.Command.TheVariants.{MakeLink, MakeContent, RecoverLink, RecoverContent, Check, Damage, Sample}
+use Rattle.command_line.proofs.Triples.{digits_are}
+use Rattle.command_line.proofs.Rows.{option_built, is_itself, nothing_found}
+use Rattle.command_line.proofs.Turns.{leaf, IsForm, walk_at, place}
+use Rattle.command_line.proofs.Takings.{total, last, level_total, finished_rows, Took, taken}
+use Rattle.command_line.proofs.Accepting.{AreFew, Once, Accepts, pieces_found}
+use Rattle.command_line.proofs.Programs.{make_rules, single_rules, several_rules, make_form, single_form, several_form, make_long, Sub, to_make, to_recover, to_check, to_damage, to_sample, sub_name, sub_rules, sub_fault, sub_rows}
+use Rattle.command_line.proofs.Names.{Names, named_words}
+use Rattle.command_line.proofs.Checking.{IsBare, check_told, check_bare, check_passes, bare_arranged}
+
+-- ---- what is taken
+
+-- a command's name, options and operands, with what is found of them
+pub record Accepted (words : List Text) : Type 0 where
+  pub name : Text
+  pub behind : List Text
+  pub rows : List Row
+  pub pieces : List Piece
+  pub rest : Option (List Text)
+  pub words_are : words ≡ name ∷ behind
+  pub rows_are : subcommand_of vabgrot words ≡ Some (name, rows)
+  pub behind_are : behind ≡ flat_map piece_words pieces ++ rest_words rest
+  pub allowed : (name ≡ codes "make") ⊎ (filter_map option_of pieces ≡ [])
+  pub found : AreFound rows (filter_map option_of pieces) (filter_map operand_of pieces ++ unwrap_or rest [])
+
+form_taken : (s : Sub) (behind : List Text) (many has : Bool) → IsForm (sub_rules s) many has → (has ≡ true → sub_name s ≡ codes "make")
+    → fault_of vabgrot (sub_name s ∷ behind) ≡ [] → Accepted (sub_name s ∷ behind)
+unfolding last
+form_taken s behind many has f named h =
+    let faults = sym (level_total (sub_name s) (sub_rules s) behind) ∙ sym (sub_fault s behind) ∙ h in
+    let took = taken (sub_name s) (sub_rules s) many has f behind faults in
+    record {
+      name = sub_name s;
+      behind = behind;
+      rows = rows_after (sub_rules s) [] behind;
+      pieces = took.pieces;
+      rest = took.rest;
+      words_are = refl;
+      rows_are = sub_rows s behind;
+      behind_are = took.words_are;
+      allowed = allows has refl took.allowed;
+      found = subst (λ (rows : List Row). AreFound rows (filter_map option_of took.pieces) (filter_map operand_of took.pieces ++ unwrap_or took.rest []))
+          (sym (finished_rows (sub_rules s) many has f (last (sub_rules s) (walk_from nothing_held) behind).held)) took.found;
+    }
+  where
+    allows : {P : Type 0} (b : Bool) → has ≡ b → (has ≡ false → P) → (sub_name s ≡ codes "make") ⊎ P
+    allows true e forbids = inl (named e)
+    allows false e forbids = inr (forbids e)
+
+check_taken : (behind : List Text) → fault_of vabgrot (codes "check" ∷ behind) ≡ [] → Accepted (codes "check" ∷ behind)
+unfolding IsBare walked
+check_taken behind h = go behind (check_told behind (sym (sub_fault to_check behind) ∙ h))
+  where
+    bare : (rest : Option (List Text)) (words : List Text) → words ≡ rest_words rest → [] ≡ unwrap_or rest [] → rows_after [] [] words ≡ [] → Accepted (codes "check" ∷ words)
+    bare rest words e none rows = record {
+      name = codes "check";
+      behind = words;
+      rows = rows_after [] [] words;
+      pieces = [];
+      rest = rest;
+      words_are = refl;
+      rows_are = sub_rows to_check words;
+      behind_are = e;
+      allowed = inr refl;
+      found = subst (λ (os : List Text). AreFound (rows_after [] [] words) [] os) none (subst (λ (rs : List Row). AreFound rs [] []) (sym rows) nothing_found);
+    }
+
+    go : (words : List Text) → (words ≡ []) ⊎ (words ≡ codes "--" ∷ []) → Accepted (codes "check" ∷ words)
+    go words (inl e) = subst (λ (ws : List Text). Accepted (codes "check" ∷ ws)) (sym e) (bare None [] refl refl refl)
+    go words (inr e) = subst (λ (ws : List Text). Accepted (codes "check" ∷ ws)) (sym e) (bare (Some []) (codes "--" ∷ []) refl refl refl)
+
+sub_taken : (s : Sub) (behind : List Text) → fault_of vabgrot (sub_name s ∷ behind) ≡ [] → Accepted (sub_name s ∷ behind)
+sub_taken to_make behind h = form_taken to_make behind false true make_form (λ e. refl) h
+sub_taken to_recover behind h = form_taken to_recover behind false false single_form (λ e. absurd (true≢false (sym e))) h
+sub_taken to_check behind h = check_taken behind h
+sub_taken to_damage behind h = form_taken to_damage behind true false several_form (λ e. absurd (true≢false (sym e))) h
+sub_taken to_sample behind h = form_taken to_sample behind false false single_form (λ e. absurd (true≢false (sym e))) h
+
+pub accepted : (words : List Text) → fault_of vabgrot words ≡ [] → Accepted words
+accepted words h =
+    let n = named_words words h in
+    subst Accepted (sym n.words_are) (sub_taken n.sub n.behind (subst (λ (ws : List Text). fault_of vabgrot ws ≡ []) n.words_are h))
+
+-- ---- what the grammar has is taken
+
+-- the words of a command are taken, and its options and operands are found
+IsTaken : Sub → List Text → List (OptionName × Text) → List Text → Type 0
+IsTaken s behind options operands = (fault_of vabgrot (sub_name s ∷ behind) ≡ []) × AreFound (rows_after (sub_rules s) [] behind) options operands
+
+form_found : (s : Sub) (behind : List Text) (options : List (OptionName × Text)) (operands : List Text) (many has : Bool) → IsForm (sub_rules s) many has → AreArranged behind options operands
+    → ((has ≡ true) × ((n : OptionName) → arg_by_long (sub_rules s) (option_id n) ≡ Some (option_built n))) ⊎ (options ≡ []) → Once options → AreFew many operands
+    → Accepts (sub_name s) (sub_rules s) (walk_from nothing_held) behind options operands → IsTaken s behind options operands
+unfolding IsTaken Accepts last
+form_found s behind options operands many has f a offers once few accepts = (
+  sub_fault s behind ∙ level_total (sub_name s) (sub_rules s) behind ∙ accepts.0,
+  subst (λ (rows : List Row). AreFound rows options operands) (sym (finished_rows (sub_rules s) many has f (last (sub_rules s) (walk_from nothing_held) behind).held)) accepts.1,
+)
+
+accepts_by : (s : Sub) (behind : List Text) (options : List (OptionName × Text)) (operands : List Text) (many has : Bool) → IsForm (sub_rules s) many has → AreArranged behind options operands
+    → ((has ≡ true) × ((n : OptionName) → arg_by_long (sub_rules s) (option_id n) ≡ Some (option_built n))) ⊎ (options ≡ []) → Once options → AreFew many operands
+    → Accepts (sub_name s) (sub_rules s) (walk_at [] None idle (place many []) false) behind options operands
+accepts_by s behind options operands many has f a offers once few =
+    subst (λ (ws : List Text). Accepts (sub_name s) (sub_rules s) (walk_at [] None idle (place many []) false) ws options operands) (sym a.words_are)
+    (subst (λ (os : List (OptionName × Text)). Accepts (sub_name s) (sub_rules s) (walk_at [] None idle (place many []) false) (flat_map piece_words a.pieces ++ rest_words a.rest) os operands) (sym a.options_are)
+    (subst (λ (os : List Text). Accepts (sub_name s) (sub_rules s) (walk_at [] None idle (place many []) false) (flat_map piece_words a.pieces ++ rest_words a.rest) (filter_map option_of a.pieces) os) (sym a.operands_are)
+    (pieces_found (sub_name s) (sub_rules s) many has f a.pieces a.rest [] None idle [] [] tt refl nothing_found a.plain (offered offers)
+    (subst Once a.options_are once) (subst (AreFew many) a.operands_are few))))
+  where
+    offered : ((has ≡ true) × ((n : OptionName) → arg_by_long (sub_rules s) (option_id n) ≡ Some (option_built n))) ⊎ (options ≡ [])
+        → ((has ≡ true) × ((n : OptionName) → arg_by_long (sub_rules s) (option_id n) ≡ Some (option_built n))) ⊎ (filter_map option_of a.pieces ≡ [])
+    offered (inl o) = inl o
+    offered (inr e) = inr (sym a.options_are ∙ e)
+
+no_options_once : (options : List (OptionName × Text)) → options ≡ [] → Once options
+unfolding Once
+no_options_once options e = λ name. (None, ap (values_of name) e)
+
+tap_once : (options : List (OptionName × Text)) (tap : TapWords) → IsTap options tap → Once options
+unfolding Once
+tap_once options tap is Offset = (is.offset_text, is.offset_given)
+tap_once options tap is Skew = (is.skew_text, is.skew_given)
+tap_once options tap is Bits = (is.bits_text, is.bits_given)
+tap_once options tap is Version = (is.version_text, is.version_given)
+
+one_operand : (operands : List Text) (o : Text) → operands ≡ o ∷ [] → AreFew false operands
+one_operand operands o e = record { first = o; others = []; operands_are = e; few = inr refl }
+
+some_operands : (operands : List Text) → 0 < length operands → AreFew true operands
+some_operands [] some = absurd (omega (arith, some))
+some_operands (o ∷ os) some = record { first = o; others = os; operands_are = refl; few = inl refl }
+
+make_found : (behind : List Text) (options : List (OptionName × Text)) (operands : List Text) (o : Text) (tap : TapWords) → AreArranged behind options operands → operands ≡ o ∷ [] → IsTap options tap → IsTaken to_make behind options operands
+make_found behind options operands o tap a one is =
+    let few = one_operand operands o one in
+    form_found to_make behind options operands false true make_form a (inl (refl, make_long)) (tap_once options tap is) few
+    (accepts_by to_make behind options operands false true make_form a (inl (refl, make_long)) (tap_once options tap is) few)
+
+recover_found : (behind : List Text) (options : List (OptionName × Text)) (operands : List Text) (o : Text) → AreArranged behind options operands → operands ≡ o ∷ [] → options ≡ [] → IsTaken to_recover behind options operands
+recover_found behind options operands o a one none =
+    let few = one_operand operands o one in
+    form_found to_recover behind options operands false false single_form a (inr none) (no_options_once options none) few
+    (accepts_by to_recover behind options operands false false single_form a (inr none) (no_options_once options none) few)
+
+sample_found : (behind : List Text) (options : List (OptionName × Text)) (operands : List Text) (o : Text) → AreArranged behind options operands → operands ≡ o ∷ [] → options ≡ [] → IsTaken to_sample behind options operands
+sample_found behind options operands o a one none =
+    let few = one_operand operands o one in
+    form_found to_sample behind options operands false false single_form a (inr none) (no_options_once options none) few
+    (accepts_by to_sample behind options operands false false single_form a (inr none) (no_options_once options none) few)
+
+damage_found : (behind : List Text) (options : List (OptionName × Text)) (operands : List Text) → AreArranged behind options operands → 0 < length operands → options ≡ [] → IsTaken to_damage behind options operands
+damage_found behind options operands a some none =
+    let few = some_operands operands some in
+    form_found to_damage behind options operands true false several_form a (inr none) (no_options_once options none) few
+    (accepts_by to_damage behind options operands true false several_form a (inr none) (no_options_once options none) few)
+
+check_found : (behind : List Text) (options : List (OptionName × Text)) (operands : List Text) → AreArranged behind options operands → operands ≡ [] → options ≡ [] → IsTaken to_check behind options operands
+unfolding IsTaken IsBare walked
+check_found behind options operands a bare none =
+    let plain = subst (λ (os : List (OptionName × Text)). AreArranged behind os []) none (subst (λ (os : List Text). AreArranged behind options os) bare a) in
+    let is = check_bare behind plain in (
+      sub_fault to_check behind ∙ check_passes behind is,
+      subst (λ (os : List (OptionName × Text)). AreFound (rows_after [] [] behind) os operands) (sym none)
+          (subst (λ (os : List Text). AreFound (rows_after [] [] behind) [] os) (sym bare) (subst (λ (rs : List Row). AreFound rs [] []) (sym (rows behind is)) nothing_found)),
+    )
+  where
+    rows : (words : List Text) → (words ≡ []) ⊎ (words ≡ codes "--" ∷ []) → rows_after [] [] words ≡ []
+    rows words (inl e) = ap (rows_after [] []) e
+    rows words (inr e) = ap (rows_after [] []) e
+
+-- the words of a command are taken
+pub record Reads (words : List Text) (name : Text) (options : List (OptionName × Text)) (operands : List Text) : Type 0 where
+  pub rows : List Row
+  pub passes : fault_of vabgrot words ≡ []
+  pub rows_are : subcommand_of vabgrot words ≡ Some (name, rows)
+  pub found : AreFound rows options operands
+  pub allowed : (name ≡ codes "make") ⊎ (options ≡ [])
+
+reads : (s : Sub) (words : List Text) (name : Text) (behind : List Text) (options : List (OptionName × Text)) (operands : List Text) → words ≡ name ∷ behind → name ≡ sub_name s → IsTaken s behind options operands
+    → (name ≡ codes "make") ⊎ (options ≡ []) → Reads words name options operands
+unfolding IsTaken
+reads s words name behind options operands words_are is t allowed =
+    let same : words ≡ sub_name s ∷ behind = words_are ∙ ap (λ (n : Text). n ∷ behind) is in
+    record {
+      rows = rows_after (sub_rules s) [] behind;
+      passes = ap (fault_of vabgrot) same ∙ t.0;
+      rows_are = ap (subcommand_of vabgrot) same ∙ sub_rows s behind ∙ ap (λ (n : Text). Some (n, rows_after (sub_rules s) [] behind)) (sym is);
+      found = t.1;
+      allowed = allowed;
+    }
+
+reads_by : (words : List Text) (name : Text) (behind : List Text) (options : List (OptionName × Text)) (operands : List Text) (c : Command) → words ≡ name ∷ behind → AreArranged behind options operands
+    → Means c name options operands → Reads words name options operands
+reads_by words name behind options operands (MakeLink tap) is a m = reads to_make words name behind options operands is m.0 (make_found behind options operands (codes "link") tap a m.1 m.2) (inl m.0)
+reads_by words name behind options operands (MakeContent tap) is a m = reads to_make words name behind options operands is m.0 (make_found behind options operands (codes "content") tap a m.1 m.2) (inl m.0)
+reads_by words name behind options operands RecoverLink is a m = reads to_recover words name behind options operands is m.0 (recover_found behind options operands (codes "link") a m.1 m.2) (inr m.2)
+reads_by words name behind options operands RecoverContent is a m = reads to_recover words name behind options operands is m.0 (recover_found behind options operands (codes "content") a m.1 m.2) (inr m.2)
+reads_by words name behind options operands Check is a m = reads to_check words name behind options operands is m.0 (check_found behind options operands a m.1 m.2) (inr m.2)
+reads_by words name behind options operands (Damage damages) is a m = reads to_damage words name behind options operands is m.0 (damage_found behind options operands a m.1.1 m.2) (inr m.2)
+reads_by words name behind options operands (Sample n) is a m = reads to_sample words name behind options operands is m.0 (sample_found behind options operands m.1.0 a m.1.1 m.2) (inr m.2)
+
+pub command_reads : (words : List Text) (c : Command) (k : IsCommand words c) → Reads words k.name k.options k.operands
+command_reads words c k = reads_by words k.name k.behind k.options k.operands c k.words_are k.arranged k.means
+
+-- ---- values that are read begin with no `-`
+
+ValuesPlain : List (OptionName × Text) → Type 0
+ValuesPlain [] = Unit {0}
+ValuesPlain (o ∷ os) = (starts_with_minus o.1 ≡ false) × ValuesPlain os
+
+TextsPlain : List Text → Type 0
+TextsPlain [] = Unit {0}
+TextsPlain (t ∷ ts) = (starts_with_minus t ≡ false) × TextsPlain ts
+
+digit_plain : (x : ℕ) → is_digit x ≡ true → (x == 45) ≡ false
+digit_plain x h = grind (arith, common_steps)
+
+digits_plain : (t second third : Text) (n : ℕ) → number_of t ≡ Some n → starts_with_minus (t ++ codes "," ++ second ++ codes "," ++ third) ≡ false
+digits_plain [] second third n h = refl
+digits_plain (x ∷ xs) second third n h = digit_plain x (and_parts (is_digit x) (list_all is_digit xs) (digits_are (x ∷ xs) n h)).0
+
+number_plain : (most : ℕ) (t : Text) (n : ℕ) → IsNumber most t n → starts_with_minus t ≡ false
+number_plain most [] n is = refl
+number_plain most (x ∷ xs) n is = digit_plain x (and_parts (is_digit x) (list_all is_digit xs) (digits_are (x ∷ xs) n is.digits)).0
+
+three_plain : (most : ℕ) (t : Text) (a b c : ℕ) → AreThree most t a b c → starts_with_minus t ≡ false
+three_plain most t a b c is = ap starts_with_minus is.text_is ∙ digits_plain is.first is.second is.third a is.first_is.digits
+
+lane_plain : (lane : ℕ) (rest : Text) → starts_with_minus ((48 + lane) ∷ rest) ≡ false
+lane_plain lane rest = grind (arith, common_steps)
+
+damage_plain : (t : Text) (damage : DamageWord) → IsDamage t damage → starts_with_minus t ≡ false
+damage_plain t damage is = ap starts_with_minus is.text_is ∙ lane_plain damage.lane (codes ":" ++ is.place_text ++ codes ":" ++ is.digits)
+
+damages_plain : (ts : List Text) (damages : List DamageWord) → AreDamages ts damages → TextsPlain ts
+unfolding TextsPlain
+damages_plain [] [] are = tt
+damages_plain [] (d ∷ ds) are = tt
+damages_plain (t ∷ ts) [] are = absurd are
+damages_plain (t ∷ ts) (d ∷ ds) are = (damage_plain t d are.0, damages_plain ts ds are.1)
+
+listed_plain : (o : Option Text) → ((t : Text) → o ≡ Some t → starts_with_minus t ≡ false) → TextsPlain (listed o)
+unfolding TextsPlain
+listed_plain None h = tt
+listed_plain (Some t) h = (h t refl, tt)
+
+offset_plain : (o : Option Text) (n : ℕ) → IsOffset o n → TextsPlain (listed o)
+unfolding TextsPlain
+offset_plain None n is = tt
+offset_plain (Some t) n is = (number_plain 4294967295 t n is, tt)
+
+skews_plain : (o : Option Text) (n : List ℕ) → AreSkews o n → TextsPlain (listed o)
+unfolding TextsPlain
+skews_plain None n is = tt
+skews_plain (Some t) n is = (three_plain 4095 t is.0 is.1 is.2 is.3, tt)
+
+limit_plain : (o : Option Text) (n : Option ℕ) → IsLimit o n → TextsPlain (listed o)
+unfolding TextsPlain
+limit_plain None n is = tt
+limit_plain (Some t) n is = (number_plain 4294967295 t is.0 is.1, tt)
+
+version_plain : (o : Option Text) (n : ℕ) → IsVersion o n → TextsPlain (listed o)
+unfolding TextsPlain
+version_plain None n is = tt
+version_plain (Some t) n is = (number_plain 2 t n is.0, tt)
+
+each_plain : (options : List (OptionName × Text)) → ((name : OptionName) → TextsPlain (values_of name options)) → ValuesPlain options
+unfolding ValuesPlain TextsPlain
+each_plain [] h = tt
+each_plain (o ∷ os) h =
+    let own : values_of o.0 (o ∷ os) ≡ o.1 ∷ values_of o.0 os = ap (λ (b : Bool). cons_option (if b then Some o.1 else None) (values_of o.0 os)) (is_itself o.0) in
+    let here = subst TextsPlain own (h o.0) in
+    (here.0, each_plain os (λ name. drop_one (is_same name o.0) (values_of name os) (h name)))
+  where
+    drop_one : (b : Bool) (vs : List Text) → TextsPlain (cons_option (if b then Some o.1 else None) vs) → TextsPlain vs
+    drop_one true vs h = h.1
+    drop_one false vs h = h
+
+tap_plain : (options : List (OptionName × Text)) (tap : TapWords) → IsTap options tap → ValuesPlain options
+tap_plain options tap is = each_plain options by
+  where
+    by : (name : OptionName) → TextsPlain (values_of name options)
+    by Offset = subst TextsPlain (sym is.offset_given) (offset_plain is.offset_text tap.offset is.offset)
+    by Skew = subst TextsPlain (sym is.skew_given) (skews_plain is.skew_text tap.skews is.skews)
+    by Bits = subst TextsPlain (sym is.bits_given) (limit_plain is.bits_text tap.bits is.bits)
+    by Version = subst TextsPlain (sym is.version_given) (version_plain is.version_text tap.version is.version)
+
+no_values_plain : (options : List (OptionName × Text)) → options ≡ [] → ValuesPlain options
+unfolding ValuesPlain
+no_values_plain options e = subst ValuesPlain (sym e) tt
+
+one_text_plain : (operands : List Text) (t : Text) → operands ≡ t ∷ [] → starts_with_minus t ≡ false → TextsPlain operands
+unfolding TextsPlain
+one_text_plain operands t e plain = subst TextsPlain (sym e) (plain, tt)
+
+means_plain : (c : Command) (name : Text) (options : List (OptionName × Text)) (operands : List Text) → Means c name options operands → ValuesPlain options × TextsPlain operands
+unfolding TextsPlain
+means_plain (MakeLink tap) name options operands m = (tap_plain options tap m.2, one_text_plain operands (codes "link") m.1 refl)
+means_plain (MakeContent tap) name options operands m = (tap_plain options tap m.2, one_text_plain operands (codes "content") m.1 refl)
+means_plain RecoverLink name options operands m = (no_values_plain options m.2, one_text_plain operands (codes "link") m.1 refl)
+means_plain RecoverContent name options operands m = (no_values_plain options m.2, one_text_plain operands (codes "content") m.1 refl)
+means_plain Check name options operands m = (no_values_plain options m.2, subst TextsPlain (sym m.1) tt)
+means_plain (Damage damages) name options operands m = (no_values_plain options m.2, damages_plain operands damages m.1.0)
+means_plain (Sample n) name options operands m = (no_values_plain options m.2, one_text_plain operands m.1.0 m.1.1 (number_plain 20 m.1.0 n m.1.2))
+
+texts_front : (xs ys : List Text) → TextsPlain (xs ++ ys) → TextsPlain xs
+unfolding TextsPlain
+texts_front [] ys h = tt
+texts_front (x ∷ xs) ys h = (h.0, texts_front xs ys h.1)
+
+pieces_plain : (pieces : List Piece) → ValuesPlain (filter_map option_of pieces) → TextsPlain (filter_map operand_of pieces) → ArePlain pieces
+unfolding ValuesPlain TextsPlain
+pieces_plain [] v t = tt
+pieces_plain (apart n x ∷ pieces) v t = (v.0, pieces_plain pieces v.1 t)
+pieces_plain (joined n x ∷ pieces) v t = (v.0, pieces_plain pieces v.1 t)
+pieces_plain (operand w ∷ pieces) v t = (t.0, pieces_plain pieces v t.1)
+
+-- ---- the answer
+
+abbrev name_and_rows : Text × List Row → Text
+name_and_rows p = p.0
+
+pub judged : (words : List Text) (a : Accepted words) (r : Option Command) → Judges a.name a.rows r
+    → MatchOption r ((c : Command) → IsCommand words c → ⊥) (λ c. IsCommand words c)
+judged words a (Some c) j =
+    let m = j (filter_map option_of a.pieces) (filter_map operand_of a.pieces ++ unwrap_or a.rest []) a.found a.allowed in
+    let plain = means_plain c a.name (filter_map option_of a.pieces) (filter_map operand_of a.pieces ++ unwrap_or a.rest []) m in
+    record {
+      name = a.name;
+      behind = a.behind;
+      options = filter_map option_of a.pieces;
+      operands = filter_map operand_of a.pieces ++ unwrap_or a.rest [];
+      words_are = a.words_are;
+      arranged = record {
+        pieces = a.pieces;
+        rest = a.rest;
+        words_are = a.behind_are;
+        plain = pieces_plain a.pieces plain.0 (texts_front (filter_map operand_of a.pieces) (unwrap_or a.rest []) plain.1);
+        options_are = refl;
+        operands_are = refl;
+      };
+      means = m;
+    }
+judged words a None j = λ c k.
+    let r = command_reads words c k in
+    let same : (a.name, a.rows) ≡ (k.name, r.rows) = same_Some (a.name, a.rows) (k.name, r.rows) (sym a.rows_are ∙ r.rows_are) in
+    let names_are : k.name ≡ a.name = sym (ap (λ (p : Text × List Row). p.0) same) in
+    let rows_are : r.rows ≡ a.rows = sym (ap (λ (p : Text × List Row). p.1) same) in
+    j k.options k.operands (subst (λ (rs : List Row). AreFound rs k.options k.operands) rows_are r.found)
+    (subst (λ (n : Text). (n ≡ codes "make") ⊎ (k.options ≡ [])) names_are r.allowed) c
+    (subst (λ (n : Text). Means c n k.options k.operands) names_are k.means)
+
+-- words that are refused are no command
+pub refused : (words : List Text) (c : Command) → IsCommand words c → (fault_of vabgrot words ≡ [] → ⊥) → ⊥
+refused words c k faults = faults (command_reads words c k).passes
+
+pub answered : (words : List Text) (a : Accepted words) (r : Result (Option Command) NoMemory) → IfOk r (Judges a.name a.rows)
+    → IfOk r (λ answer. MatchOption answer ((c : Command) → IsCommand words c → ⊥) (λ c. IsCommand words c))
+answered words a (Ok r) j = judged words a r j
+answered words a (Err e) j = tt

@@ -1,0 +1,188 @@
+-- The commands of the program, as `clap` has them when they are built, and how it comes to one.
+use Rattle.std.proofs.Common.{◌≡◌, ◌∙◌, ◌⊎◌, inl, inr, sym, ap, ap₂, refl, subst, Bool, true, false, ◌&&◌, ◌||◌, not, ℕ, List, [], ◌∷◌, ◌++◌, length, codes, Option, Some, None, bytes_eq, true≢false, append_assoc, append-nil, fold, find, slice_get, drop, is_some}
+use Rattle.std.specs.Prelude.{if◌then◌else◌, option_map}
+use Rattle.std.specs.Option.{option_map_or}
+use Rattle.std.specs.Char.{encode_utf8}
+use Rattle.std.specs.Str.{chars}
+use Rattle.std.proofs.lemmas.Slice.Eq.{bytes_eq-Decides}
+use Rattle.clap.specs.Lexer.{long_of, short_of}
+use Rattle.clap.specs.Kinds.{Kinds, or_else}
+use Rattle.clap.specs.Walk.{Row, Rule, Held, Walk, Names, Waiting, idle, Step, trailing, value, plain, settled, walked, finished, nothing_held, walk_from, walk, rows_after, arg_by_long, arg_by_id, answers_to, subcommand_met, subcommand_or_other, long_or_other, short_or_plain, after_flag, bundle_step, bundle_met, used}
+use Rattle.clap.specs.Takes.{is_given}
+use Rattle.clap.specs.Faults.{fault_of, level_fault, entered_fault, walk_fault, turn_fault, settle_fault, defaults_fault, check_fault, other_fault, step_fault, flag_word_fault, bundle_fault, flags_fault, bundle_step_fault, short_fault}
+use Rattle.clap.specs.Simple.{App, Shape, built, entered, names_of, subcommand_of}
+use Rattle.clap.proofs.FaultLemmas.{stopped_fault}
+use Rattle.command_line.specs.Grammar.{Text}
+use Rattle.command_line.specs.Forms.{option_id, operand_id, vabgrot}
+use Rattle.command_line.specs.declared.options.OptionName.{OptionName}
+use Rattle.command_line.specs.declared.options.OptionName.TheVariants.{Offset, Skew, Bits, Version}
+use Rattle.command_line.proofs.Rows.{option_built, operand_built}
+use Rattle.command_line.proofs.Turns.{leaf, option_named, IsForm, or_else_nil}
+
+-- ---- the arguments
+
+abbrev pub make_rules : List Rule
+make_rules = operand_built false ∷ option_built Offset ∷ option_built Skew ∷ option_built Bits ∷ option_built Version ∷ []
+
+abbrev pub single_rules : List Rule
+single_rules = operand_built false ∷ []
+
+abbrev pub several_rules : List Rule
+several_rules = operand_built true ∷ []
+
+or_false : (b : Bool) → (b || false) ≡ b
+or_false true = refl
+or_false false = refl
+
+long_by : (a b c d : Bool)
+    → (if a || false then Some (option_built Offset) else (if b || false then Some (option_built Skew) else (if c || false then Some (option_built Bits) else (if d || false then Some (option_built Version) else None))))
+    ≡ option_map option_built (if a then Some Offset else if b then Some Skew else if c then Some Bits else if d then Some Version else None)
+long_by true b c d = refl
+long_by false true c d = refl
+long_by false false true d = refl
+long_by false false false true = refl
+long_by false false false false = refl
+
+make_by_id : (name : OptionName) → arg_by_id make_rules (option_id name) ≡ Some (option_built name)
+make_by_id Offset = refl
+make_by_id Skew = refl
+make_by_id Bits = refl
+make_by_id Version = refl
+
+pub make_form : IsForm make_rules false true
+make_form = record {
+  by_long = λ name. long_by (bytes_eq (codes "offset") name) (bytes_eq (codes "skew") name) (bytes_eq (codes "bits") name) (bytes_eq (codes "version") name);
+  by_short = λ x. refl;
+  by_id = λ offers name. make_by_id name;
+  operand_by_id = refl;
+  first = refl;
+  second = λ one. refl;
+  no_defaults = refl;
+  wants = λ rows. or_false (not (is_given operand_id rows));
+}
+
+pub single_form : IsForm single_rules false false
+single_form = record {
+  by_long = λ name. refl;
+  by_short = λ x. refl;
+  by_id = λ offers name. absurd (true≢false (sym offers));
+  operand_by_id = refl;
+  first = refl;
+  second = λ one. refl;
+  no_defaults = refl;
+  wants = λ rows. or_false (not (is_given operand_id rows));
+}
+
+pub several_form : IsForm several_rules true false
+several_form = record {
+  by_long = λ name. refl;
+  by_short = λ x. refl;
+  by_id = λ offers name. absurd (true≢false (sym offers));
+  operand_by_id = refl;
+  first = refl;
+  second = λ one. absurd (true≢false one);
+  no_defaults = refl;
+  wants = λ rows. or_false (not (is_given operand_id rows));
+}
+
+pub make_long : (name : OptionName) → arg_by_long make_rules (option_id name) ≡ Some (option_built name)
+make_long Offset = refl
+make_long Skew = refl
+make_long Bits = refl
+make_long Version = refl
+
+-- ---- the commands
+
+pub data Sub : Type 0 where
+  to_make : Sub
+  to_recover : Sub
+  to_check : Sub
+  to_damage : Sub
+  to_sample : Sub
+
+abbrev pub sub_name : Sub → Text
+sub_name to_make = codes "make"
+sub_name to_recover = codes "recover"
+sub_name to_check = codes "check"
+sub_name to_damage = codes "damage"
+sub_name to_sample = codes "sample"
+
+abbrev pub sub_rules : Sub → List Rule
+sub_rules to_make = make_rules
+sub_rules to_recover = single_rules
+sub_rules to_check = []
+sub_rules to_damage = several_rules
+sub_rules to_sample = single_rules
+
+abbrev pub whole : App
+whole = built vabgrot
+
+abbrev pub names : Names
+names = names_of whole
+
+-- a walk that has met a command keeps the words behind it
+stop_grows : (c : List Rule) (ns : Names) (w : Walk) (name : Text) (ws words : List Text)
+    → fold (walked c ns) (record w { stopped = Some (name, ws) }) words ≡ record w { stopped = Some (name, ws ++ words) }
+unfolding walked
+stop_grows c ns w name ws [] = ap (λ (vs : List Text). record w { stopped = Some (name, vs) }) (sym (append-nil ws))
+stop_grows c ns w name ws (word ∷ words) =
+    stop_grows c ns w name (ws ++ word ∷ []) words ∙ ap (λ (vs : List Text). record w { stopped = Some (name, vs) }) (append_assoc ws (word ∷ []) words)
+
+abbrev pub start : Walk
+start = walk_from nothing_held
+
+abbrev at_stop : Text → List Text → Walk
+at_stop name words = record start { stopped = Some (name, words) }
+
+first_word : (s : Sub) → walked [] names start (sub_name s) ≡ at_stop (sub_name s) []
+unfolding walked
+first_word to_make = refl
+first_word to_recover = refl
+first_word to_check = refl
+first_word to_damage = refl
+first_word to_sample = refl
+
+walk_is : (s : Sub) (behind : List Text) → walk whole.top.rules names nothing_held (sub_name s ∷ behind) ≡ at_stop (sub_name s) behind
+walk_is s behind = ap (λ (w : Walk). fold (walked [] names) w behind) (first_word s) ∙ stop_grows [] names start (sub_name s) [] behind
+
+first_fault : (s : Sub) → turn_fault whole.top names start (sub_name s) ≡ []
+first_fault to_make = refl
+first_fault to_recover = refl
+first_fault to_check = refl
+first_fault to_damage = refl
+first_fault to_sample = refl
+
+walk_passes : (s : Sub) (behind : List Text) → walk_fault whole.top names start (sub_name s ∷ behind) ≡ []
+unfolding walk_fault
+walk_passes s behind =
+    ap (λ (k : Kinds). or_else k (walk_fault whole.top names (walked [] names start (sub_name s)) behind)) (first_fault s)
+    ∙ ap (λ (w : Walk). walk_fault whole.top names w behind) (first_word s)
+    ∙ stopped_fault whole.top names start (sub_name s, []) behind
+
+abbrev fault_by : Walk → Kinds → Kinds
+fault_by w k =
+    or_else k (or_else (entered_fault whole w.stopped)
+    (or_else (settle_fault [] false w.held) (or_else (defaults_fault (settled [] w.held).rows []) (check_fault whole.top (finished [] w.held) (is_some (entered whole w.stopped))))))
+
+fault_is : (s : Sub) (behind : List Text) → fault_by (at_stop (sub_name s) behind) [] ≡ level_fault (leaf (sub_name s) (sub_rules s)) [] nothing_held behind false []
+unfolding defaults_fault
+fault_is to_make behind = or_else_nil (level_fault (leaf (codes "make") make_rules) [] nothing_held behind false [])
+fault_is to_recover behind = or_else_nil (level_fault (leaf (codes "recover") single_rules) [] nothing_held behind false [])
+fault_is to_check behind = or_else_nil (level_fault (leaf (codes "check") []) [] nothing_held behind false [])
+fault_is to_damage behind = or_else_nil (level_fault (leaf (codes "damage") several_rules) [] nothing_held behind false [])
+fault_is to_sample behind = or_else_nil (level_fault (leaf (codes "sample") single_rules) [] nothing_held behind false [])
+
+-- the faults of a command are those of its own words
+pub sub_fault : (s : Sub) (behind : List Text) → fault_of vabgrot (sub_name s ∷ behind) ≡ level_fault (leaf (sub_name s) (sub_rules s)) [] nothing_held behind false []
+sub_fault s behind = ap₂ fault_by (walk_is s behind) (walk_passes s behind) ∙ fault_is s behind
+
+rows_are : (s : Sub) (behind : List Text) → entered whole (Some (sub_name s, behind)) ≡ Some (sub_name s, rows_after (sub_rules s) [] behind)
+rows_are to_make behind = refl
+rows_are to_recover behind = refl
+rows_are to_check behind = refl
+rows_are to_damage behind = refl
+rows_are to_sample behind = refl
+
+-- and so its matches
+pub sub_rows : (s : Sub) (behind : List Text) → subcommand_of vabgrot (sub_name s ∷ behind) ≡ Some (sub_name s, rows_after (sub_rules s) [] behind)
+sub_rows s behind = ap (λ (w : Walk). entered whole w.stopped) (walk_is s behind) ∙ rows_are s behind

@@ -1,7 +1,0 @@
-use Rattle.std.proofs.Common.{arith}
-use Rattle.std.proofs.lemmas.Str.Pattern.{split_once_first}
-use Rattle.command_line.proofs.Triples.{split_told}
-use Rattle.command_line.proofs.arranged.equals_split.Goals as goal
-
-pub returns : goal.returns
-returns c = split_told 61 c.args.text.now c.split_once.result (split_once_first 61 c.args.text.now c.split_once.result c.split_once.ensures.cases (omega arith))
