@@ -1,14 +1,14 @@
 -- What is taken of an item of which not every column was taken: the columns that are missing can be given.
-use Rattle.std.proofs.Common.{◌≡◌, ℕ, suc, zero, ◌<◌, Bool, true, false, ◌==◌, ◌&&◌, List, [], ◌∷◌, ◌++◌, length, take, drop, get_or, map, replicate, refl, ap, ap₂, sym, subst, ◌∙◌, arith, append_assoc, append-nil, drop-cons}
+use Rattle.std.proofs.Common.{◌≡◌, ℕ, suc, zero, ◌<◌, Bool, true, false, ◌==◌, ◌&&◌, List, [], ◌∷◌, ◌++◌, length, take, drop, get_or, map, replicate, refl, ap, ap₂, sym, subst, ◌∙◌, arith, append_assoc, append-nil, drop-cons, ◌⊎◌, inl, inr}
 use Rattle.std.proofs.lemmas.Bool.{and_parts}
 use Rattle.std.proofs.lemmas.List.{take-append-drop, map-append}
 use Rattle.std.specs.List.{list_all}
 use Rattle.tmds_word.specs.Column.{Column, column_of}
 use Rattle.terc4.specs.Tables.{video_guard}
-use Rattle.island_pack.specs.Periods.{ControlRun, DataIsland, Period, values_of, Pixel, pixels_of}
+use Rattle.island_pack.specs.Periods.{ControlRun, DataIsland, Period, values_of, Pixel, pixels_of, SyncPair}
 use Rattle.island_pack.specs.Conforming.{is_packet, is_data_island, conforms}
 use Rattle.island_pack.specs.Packets.{Carries}
-use Rattle.island_pack.specs.Spelling.{SpellsPixels, SpellsVideo, SpellsIsland, SpellsPackets, SpellsPeriod, Spells, control_column, guard_columns, words_of}
+use Rattle.island_pack.specs.Spelling.{SpellsPixels, SpellsVideo, SpellsIsland, SpellsPackets, SpellsPeriod, Spells, control_column, guard_columns, words_of, guard_column}
 use Rattle.island_pack.specs.declared.packet.Packet.{Packet}
 use Rattle.island_pack.proofs.PixelColumns.{pixels_go_on}
 use Rattle.island_pack.proofs.Spelled.{packets_spelled, video_spelled, has_range, periods_spelled, conforming_ranges}
@@ -100,7 +100,13 @@ packets_front packets i d first old mid new columns own all lt is spelled carrie
           (SpellsPackets-append true first (take i packets) (get_or packets i d ∷ drop (suc i) packets) columns (own ++ rest.0) is spelled (own, rest.0, refl, carries, rest.1))),
     ))
 
--- A data island.
+-- A data island. Of two guard columns none was taken, or the first one.
+pub pair_front : (pair : SyncPair) (old new : List Column) → (new ≡ old) ⊎ (new ≡ old ++ guard_column pair.first ∷ []) → TookFront old new (λ columns. columns ≡ guard_columns pair)
+pair_front pair old new cut = elim cut [
+  | inl none ↦ ([], guard_columns pair, none ∙ sym (append-nil old), refl)
+  | inr one ↦ (guard_column pair.first ∷ [], guard_column pair.second ∷ [], one, refl)
+]
+
 pub opening_front : (x : DataIsland) (old new own : List Column) → is_data_island x ≡ true → own ≡ guard_columns x.opening
     → TookFront old new (λ columns. columns ≡ own) → TookFront old new (SpellsIsland x)
 opening_front x old new own h is front =
