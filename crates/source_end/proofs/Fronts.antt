@@ -1,6 +1,5 @@
 -- The first columns of some that are as they were to be.
-use Rattle.std.proofs.Common.{◌≡◌, ℕ, ℤ, suc, ◌+◌, ◌-◌, ◌*◌, ◌≤◌, ◌<◌, Bool, true, false, ◌==◌, ◌&&◌, List, [], ◌∷◌, ◌++◌, length, take, drop, get_or, map, replicate, min, refl, ap, sym, subst, ◌∙◌, arith, append_assoc, append-nil}
-use Rattle.std.proofs.lemmas.Bool.{and_parts}
+use Rattle.std.proofs.Common.{◌≡◌, ℕ, ℤ, ◌+◌, ◌-◌, ◌*◌, ◌<◌, List, [], ◌∷◌, ◌++◌, take, drop, map, replicate, min, ap, sym, subst, ◌∙◌, arith, append_assoc}
 use Rattle.std.proofs.lemmas.List.{take-append-drop, map-append}
 use Rattle.std.specs.Prelude.{Result, Ok, Err, OnOk, OnErr}
 use Rattle.tmds_word.specs.Column.{Column, column_of}
@@ -61,9 +60,9 @@ front_of_run old mid new count i n b g r x y z k ex ey ez was cut width begun =
     (λ cs e. (
       replicate left c,
       ap (λ (ds : List Column). replicate done c ++ (ds ++ replicate left c)) e
-      ∙ ap (λ (ds : List Column). replicate done c ++ ds) (replicate-add n left c)
-      ∙ replicate-add done (n + left) c
-      ∙ ap (λ m. replicate m c) all,
+          ∙ ap (λ (ds : List Column). replicate done c ++ ds) (replicate-add n left c)
+          ∙ replicate-add done (n + left) c
+          ∙ ap (λ m. replicate m c) all,
     ))
 
 -- the first columns of a block of pixels

@@ -1,15 +1,14 @@
 -- What is taken of an item of which not every column was taken: the columns that are missing can be given.
-use Rattle.std.proofs.Common.{◌≡◌, ℕ, suc, zero, ◌+◌, ◌<◌, ◌/◌, Bool, true, false, ◌==◌, ◌&&◌, List, [], ◌∷◌, ◌++◌, length, take, drop, get_or, map, replicate, refl, ap, ap₂, sym, subst, ◌∙◌, arith, append_assoc, append-nil, drop-cons}
+use Rattle.std.proofs.Common.{◌≡◌, ℕ, suc, zero, ◌<◌, Bool, true, false, ◌==◌, ◌&&◌, List, [], ◌∷◌, ◌++◌, length, take, drop, get_or, map, replicate, refl, ap, ap₂, sym, subst, ◌∙◌, arith, append_assoc, append-nil, drop-cons, ◌⊎◌, inl, inr}
 use Rattle.std.proofs.lemmas.Bool.{and_parts}
 use Rattle.std.proofs.lemmas.List.{take-append-drop, map-append}
 use Rattle.std.specs.List.{list_all}
 use Rattle.tmds_word.specs.Column.{Column, column_of}
 use Rattle.terc4.specs.Tables.{video_guard}
-use Rattle.tmds_code.specs.Pasts.{IsCoderAfter}
-use Rattle.island_pack.specs.Periods.{ControlRun, DataIsland, Period, values_of, Pixel, pixels_of}
+use Rattle.island_pack.specs.Periods.{ControlRun, DataIsland, Period, values_of, Pixel, pixels_of, SyncPair}
 use Rattle.island_pack.specs.Conforming.{is_packet, is_data_island, conforms}
 use Rattle.island_pack.specs.Packets.{Carries}
-use Rattle.island_pack.specs.Spelling.{SpellsPixels, SpellsVideo, SpellsIsland, SpellsPackets, SpellsPeriod, Spells, control_column, guard_columns, words_of}
+use Rattle.island_pack.specs.Spelling.{SpellsPixels, SpellsVideo, SpellsIsland, SpellsPackets, SpellsPeriod, Spells, control_column, guard_columns, words_of, guard_column}
 use Rattle.island_pack.specs.declared.packet.Packet.{Packet}
 use Rattle.island_pack.proofs.PixelColumns.{pixels_go_on}
 use Rattle.island_pack.proofs.Spelled.{packets_spelled, video_spelled, has_range, periods_spelled, conforming_ranges}
@@ -51,9 +50,9 @@ control_front runs i d old mid new lt was front =
     (λ cs e. (
       map control_column rest,
       ap (λ (ds : List Column). map control_column done ++ (ds ++ map control_column rest)) (e ∙ sym (map_replicate control_column x.count x.value))
-      ∙ ap (λ (ds : List Column). map control_column done ++ ds) (sym (map-append control_column own rest))
-      ∙ sym (map-append control_column done (own ++ rest))
-      ∙ ap (map control_column) (values_at runs i d lt),
+          ∙ ap (λ (ds : List Column). map control_column done ++ ds) (sym (map-append control_column own rest))
+          ∙ sym (map-append control_column done (own ++ rest))
+          ∙ ap (map control_column) (values_at runs i d lt),
     ))
 
 -- A video data period.
@@ -84,7 +83,7 @@ coded_front pixels upto old mid new done Own was front coded =
     let all = pixels_go_on (take upto pixels) (done ++ cs) (drop upto pixels) (coded cs own) in (
       all.0,
       subst (λ (ps : List Pixel). SpellsPixels ps (done ++ (cs ++ all.0))) (take-append-drop upto pixels)
-      (subst (λ (ds : List Column). SpellsPixels (take upto pixels ++ drop upto pixels) ds) (append_assoc done cs all.0) all.1),
+          (subst (λ (ds : List Column). SpellsPixels (take upto pixels ++ drop upto pixels) ds) (append_assoc done cs all.0) all.1),
     ))
 
 -- The packets of a data island.
@@ -97,11 +96,17 @@ packets_front packets i d first old mid new columns own all lt is spelled carrie
     (λ cs e. (
       rest.0,
       subst (λ (ds : List Column). SpellsPackets true packets (columns ++ (ds ++ rest.0))) (sym e)
-      (subst (λ (ps : List Packet). SpellsPackets true ps (columns ++ (own ++ rest.0))) (parts_at packets i d lt)
-      (SpellsPackets-append true first (take i packets) (get_or packets i d ∷ drop (suc i) packets) columns (own ++ rest.0) is spelled (own, rest.0, refl, carries, rest.1))),
+          (subst (λ (ps : List Packet). SpellsPackets true ps (columns ++ (own ++ rest.0))) (parts_at packets i d lt)
+          (SpellsPackets-append true first (take i packets) (get_or packets i d ∷ drop (suc i) packets) columns (own ++ rest.0) is spelled (own, rest.0, refl, carries, rest.1))),
     ))
 
--- A data island.
+-- A data island. Of two guard columns none was taken, or the first one.
+pub pair_front : (pair : SyncPair) (old new : List Column) → (new ≡ old) ⊎ (new ≡ old ++ guard_column pair.first ∷ []) → TookFront old new (λ columns. columns ≡ guard_columns pair)
+pair_front pair old new cut = elim cut [
+  | inl none ↦ ([], guard_columns pair, none ∙ sym (append-nil old), refl)
+  | inr one ↦ (guard_column pair.first ∷ [], guard_column pair.second ∷ [], one, refl)
+]
+
 pub opening_front : (x : DataIsland) (old new own : List Column) → is_data_island x ≡ true → own ≡ guard_columns x.opening
     → TookFront old new (λ columns. columns ≡ own) → TookFront old new (SpellsIsland x)
 opening_front x old new own h is front =
@@ -144,5 +149,5 @@ periods_front periods i p old mid new columns h lt at spelled was front =
     (λ cs own. (
       rest.0,
       subst (λ (ps : List Period). Spells ps (columns ++ (cs ++ rest.0))) parts
-      (Spells-append (take i periods) (p ∷ drop (suc i) periods) columns (cs ++ rest.0) spelled (cs, rest.0, refl, own, rest.1)),
+          (Spells-append (take i periods) (p ∷ drop (suc i) periods) columns (cs ++ rest.0) spelled (cs, rest.0, refl, own, rest.1)),
     ))

@@ -1,11 +1,10 @@
 -- Pixels coded block after block.
-use Rattle.std.proofs.Common.{◌≡◌, ℕ, suc, zero, ◌+◌, ◌-◌, ◌*◌, ◌/◌, ◌%◌, ◌≤◌, ◌<◌, List, [], ◌∷◌, ◌++◌, length, take, drop, set, get_or, map, replicate, min, refl, ap, ap₂, sym, subst, ◌∙◌, arith, append_assoc, append-nil, length-append, length-take, length-drop, take_all, ℤ, inl, inr}
-use Rattle.std.proofs.lemmas.List.{take_more_set, map-append, length-map, take-replicate, drop_all}
+use Rattle.std.proofs.Common.{◌≡◌, ℕ, suc, zero, ◌+◌, ◌-◌, ◌*◌, ◌/◌, ◌≤◌, ◌<◌, List, [], ◌∷◌, ◌++◌, length, take, drop, set, map, replicate, min, refl, ap, ap₂, sym, subst, ◌∙◌, arith, append_assoc, append-nil, take_all, ℤ, inl, inr}
+use Rattle.std.proofs.lemmas.List.{take_more_set, map-append, take-replicate}
 use Rattle.std.proofs.lemmas.Bool.{cases_lt}
 use Rattle.std.proofs.Math.Seq.{take-add}
 use Rattle.tmds_word.specs.Column.{Column, column_of}
 use Rattle.tmds_word.specs.Words.{columns_of}
-use Rattle.tmds_code.specs.Lanes.{IsLane}
 use Rattle.tmds_code.specs.Pasts.{IsCoderAfter}
 use Rattle.island_pack.specs.Periods.{Pixel, pixels_of}
 use Rattle.source_end.specs.LineCoding.{GoesOn, AreCodersAfter}

@@ -1,17 +1,14 @@
 -- The columns of a data island's packets, one packet after another.
-use Rattle.std.proofs.Common.{◌≡◌, ℕ, suc, zero, ◌*◌, ◌%◌, ◌<◌, All, Bool, true, false, ◌==◌, ◌&&◌, List, [], ◌∷◌, ◌++◌, length, get_or, map, refl, ap, ap₂, sym, subst, ◌∙◌, arith, append_assoc, append-nil, length-append, lt-ltb, eq-eqb}
+use Rattle.std.proofs.Common.{◌≡◌, ℕ, suc, zero, ◌*◌, ◌<◌, All, Bool, true, false, ◌==◌, ◌&&◌, List, [], ◌∷◌, ◌++◌, length, get_or, map, refl, ap, ap₂, sym, subst, ◌∙◌, arith, append_assoc, append-nil, length-append, lt-ltb, eq-eqb}
 use Rattle.std.proofs.lemmas.List.{length-map}
 use Rattle.std.proofs.lemmas.Bool.{ne_eqb, ltb-true}
-use Rattle.std.specs.Prelude.{nat_lt, slice_index}
+use Rattle.std.specs.Prelude.{nat_lt}
 use Rattle.std.specs.List.{list_all}
 use Rattle.island_pack.specs.Conforming.{are_bytes, is_packet, is_sync_pair, is_data_island}
 use Rattle.source_end.proofs.Turns.{left, right}
-use Rattle.tmds_word.specs.Column.{Column, column_of}
-use Rattle.island_pack.specs.Packets.{Carries, BeginsWith, AreTerc, body_of}
-use Rattle.island_pack.specs.Nibbles.{nibble_of, nibbles_of, sync_values, header_bits, body_bits, by_turns}
+use Rattle.tmds_word.specs.Column.{Column}
+use Rattle.island_pack.specs.Packets.{Carries}
 use Rattle.island_pack.specs.Periods.{DataIsland}
-use Rattle.bch_block.specs.Bits.{bit}
-use Rattle.terc4.specs.Tables.{is_terc}
 use Rattle.island_pack.specs.Spelling.{SpellsPackets, words_of}
 use Rattle.island_pack.specs.declared.packet.Packet.{Packet}
 

@@ -1,5 +1,5 @@
 //! The columns that spell one item.
-ghost use Rattle.std.specs.Prelude.{◌≡◌, ℕ, ◌≤◌, ◌<◌, ◌+◌, ◌*◌, ◌/◌, ◌%◌, ◌++◌, List, length, map, replicate, OnOk, OnErr, IsTrue, true};
+ghost use Rattle.std.specs.Prelude.{◌≡◌, ◌⊎◌, ℕ, ◌≤◌, ◌<◌, ◌+◌, ◌*◌, ◌/◌, ◌%◌, ◌++◌, ◌∷◌, [], List, length, map, replicate, OnOk, OnErr, IsTrue, true};
 ghost use Rattle.std.specs.List.{list_all};
 ghost use Rattle.outside_io.specs.Causes.{HasCause};
 ghost use Rattle.tmds_word.specs.Column.{Column, column_of};
@@ -107,12 +107,12 @@ fn island<C: ColumnSink>(island: &Island, out: &mut C) -> Result<(), NoMemory>
     guards(island.closing(), out)
 }
 
-/// Gives two guard columns of a data island.
+/// Gives two guard columns of a data island: after a refusal none or the first one.
 fn guards<C: ColumnSink>(sync: [u8; 2], out: &mut C) -> Result<(), NoMemory>
     requires range { IsTrue (is_sync_pair (pair_of sync)) }
     requires room { length (C.taken out.old) + 2 < 429496729 }
     ensures ok { OnOk result (C.taken out.new ≡ C.taken out.old ++ guard_columns (pair_of sync)) }
-    ensures part { OnErr result (TookFront (C.taken out.old) (C.taken out.new) (λ columns. columns ≡ guard_columns (pair_of sync))) }
+    ensures part { OnErr result ((C.taken out.new ≡ C.taken out.old) ⊎ (C.taken out.new ≡ C.taken out.old ++ guard_column (pair_of sync).first ∷ [])) }
     ensures cause { HasCause (C.refusals out.old) (C.refusals out.new) result }
 {
     out.column(island_guard(sync[0]))?;

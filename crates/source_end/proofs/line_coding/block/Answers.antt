@@ -1,4 +1,4 @@
-use Rattle.std.proofs.Common.{arith, rules, ◌≡◌, ◌≤◌, ◌*◌, ◌/◌, ◌+◌, ℕ, List, length, take, replicate, ◌∙◌}
+use Rattle.std.proofs.Common.{arith, rules, ◌≡◌, ◌/◌, ℕ, List, length, take, replicate}
 use Rattle.std.proofs.lemmas.Slice.{take-put_mid}
 use borrow.Rule.Slice.PartMut.{put_mid}
 use Rattle.tmds_word.specs.Words.{columns_of}

@@ -1,4 +1,4 @@
-use Rattle.std.proofs.Common.{arith, ◌≡◌, ◌≤◌, ◌<◌, ◌+◌, ◌*◌, ◌/◌, length, refl, ◌∙◌}
+use Rattle.std.proofs.Common.{arith, ◌<◌, ◌/◌, length, refl, ◌∙◌}
 use Rattle.std.proofs.lemmas.List.{length-set}
 use Rattle.island_pack.specs.Periods.{Pixel}
 use Rattle.source_end.proofs.LineCodings.{goes_more, goes_through}

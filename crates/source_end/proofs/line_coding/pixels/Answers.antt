@@ -1,4 +1,4 @@
-use Rattle.std.proofs.Common.{◌≡◌, ◌≤◌, ◌<◌, ◌+◌, ◌-◌, ◌*◌, ◌/◌, ◌++◌, List, length, map, take, drop, min, ap, sym, subst, ◌∙◌, arith, length-append, take_all, length-take, length-drop}
+use Rattle.std.proofs.Common.{◌≡◌, ◌≤◌, ◌<◌, ◌+◌, ◌-◌, ◌*◌, ◌/◌, ◌++◌, List, length, map, take, drop, ap, subst, ◌∙◌, arith, length-append, take_all, length-take, length-drop}
 use Rattle.tmds_word.specs.Column.{Column}
 use Rattle.tmds_code.specs.Pasts.{IsCoderAfter}
 use Rattle.tmds_code.specs.Lanes.{IsLane}

@@ -5,7 +5,7 @@ use Rattle.island_pack.specs.Spelling.{guard_columns}
 use Rattle.source_end.specs.Pairs.{pair_of}
 use Rattle.source_end.proofs.Packets.{opening_in_range, closing_in_range, packets_in_range, packets_length}
 use Rattle.source_end.proofs.Fronts.{on_err, err_map}
-use Rattle.source_end.proofs.ItemFronts.{opening_front, inner_front, closing_front}
+use Rattle.source_end.proofs.ItemFronts.{opening_front, inner_front, closing_front, pair_front}
 use Rattle.source_end.proofs.spell.island.Goals as goal
 
 pub guards-requires-clause-range : goal.guards-requires-clause-range
@@ -29,7 +29,8 @@ guards-requires-2-clause-room g c =
 pub returns-in_err-guards-clause-part : goal.returns-in_err-guards-clause-part
 returns-in_err-guards-clause-part g c =
     on_err c.from_residual.result
-    (opening_front c.args.island.now (g.C.ColumnSink.taken c.args.out.now) (g.C.ColumnSink.taken c.guards.new.out) (guard_columns (pair_of c.opening.result)) c.requires.range (ap guard_columns c.opening.ensures) c.in_err-guards.ensures.part)
+    (opening_front c.args.island.now (g.C.ColumnSink.taken c.args.out.now) (g.C.ColumnSink.taken c.guards.new.out) (guard_columns (pair_of c.opening.result)) c.requires.range (ap guard_columns c.opening.ensures)
+    (pair_front (pair_of c.opening.result) (g.C.ColumnSink.taken c.args.out.now) (g.C.ColumnSink.taken c.guards.new.out) c.in_err-guards.ensures.part))
 
 pub returns-in_err-packets-clause-part : goal.returns-in_err-packets-clause-part
 returns-in_err-packets-clause-part g c =
@@ -41,6 +42,8 @@ pub returns-clause-part : goal.returns-clause-part
 returns-clause-part g c =
     let more = c.in_ok-packets.ensures.ok in
     err_map c.guards-2.result
-    (closing_front c.args.island.now c.as_slice.result.now (g.C.ColumnSink.taken c.args.out.now) (g.C.ColumnSink.taken c.guards.new.out) (g.C.ColumnSink.taken c.packets.new.out) (g.C.ColumnSink.taken c.guards-2.new.out)
-    (guard_columns (pair_of c.opening.result)) more.0 (guard_columns (pair_of c.closing.result)) (ap guard_columns c.opening.ensures) c.as_slice.ensures (ap guard_columns c.closing.ensures) c.in_ok-guards.ensures.ok more.1 more.2)
+    (λ cut.
+    closing_front c.args.island.now c.as_slice.result.now (g.C.ColumnSink.taken c.args.out.now) (g.C.ColumnSink.taken c.guards.new.out) (g.C.ColumnSink.taken c.packets.new.out) (g.C.ColumnSink.taken c.guards-2.new.out)
+    (guard_columns (pair_of c.opening.result)) more.0 (guard_columns (pair_of c.closing.result)) (ap guard_columns c.opening.ensures) c.as_slice.ensures (ap guard_columns c.closing.ensures) c.in_ok-guards.ensures.ok more.1 more.2
+    (pair_front (pair_of c.closing.result) (g.C.ColumnSink.taken c.packets.new.out) (g.C.ColumnSink.taken c.guards-2.new.out) cut))
     c.guards-2.ensures.part

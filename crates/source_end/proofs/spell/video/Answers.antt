@@ -1,4 +1,3 @@
-use Rattle.std.proofs.Common.{◌++◌, replicate}
 use Rattle.tmds_word.specs.Column.{column_of}
 use Rattle.source_end.proofs.Fronts.{on_err, err_map, ok_map}
 use Rattle.source_end.proofs.ItemFronts.{guards_front, pixels_front, video_whole}
