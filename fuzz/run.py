@@ -13,8 +13,8 @@ replaced, lanes shifted. It is run twice, once over a file and once over a pipe 
 - an output that its status does not allow (a listing without its last line, a capture that its header does not fit),
 - a second run that answers otherwise.
 
-Case K of seed N depends on N and K alone, so `--seed N --first K --cases 1` runs it again. The last line counts
-executions and findings; the status is 1 where there was a finding. It is not part of the gate."""
+Case K of seed N depends on N, on K and on what the program makes of the examples, so `--seed N --first K --cases 1` runs it
+again. The last line counts executions and findings; the status is 1 where there was a finding. It is not part of the gate."""
 import argparse
 import collections
 import os

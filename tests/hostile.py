@@ -149,7 +149,7 @@ def heard(program):
         opened = [[opening[it][lane] for it in before] for lane in range(3)]
         middles[f"a {name} of steps"] = [more + middle for more, middle in zip(opened, [steps] * 3)]
         middles[f"a {name} of guards"] = [more + [opening[before[-1]][lane]] * 900 for lane, more in enumerate(opened)]
-        middles[f"a {name} of turns"] = [more + middle * 10 for more, middle in zip(opened, [[turned(0x2CC, by) for by in range(10)]] * 3)]
+        middles[f"a {name} of turns"] = [more + [turned(0x2CC, by) for by in range(10)] * 10 for more in opened]
     wanted = {row.split("|")[0]: row.split("|")[1:] for row in HEARD.strip().split("\n")}
     for name, rows in middles.items():
         data = lanes_of([sent(quiet + row + quiet, (48 + len(row)) * 10 // 8) for row in rows])
@@ -175,8 +175,8 @@ def listings(program):
             (b"\xff\xfe" * 1000, "1 form"),
         ):
             for end in (b"", b"\n", b"\nend\n"):
-                if not (text == longest and end == b""):
-                    yield f"{words} of {text[:9]}.. {end}", run(program, words, text + end), (3, b"", f"input: line {note}\n".encode())
+                came, want = run(program, words, text + end), (3, b"", f"input: line {note}\n".encode())
+                yield f"{words} of {len(text)} bytes {text[:9]}.. {end}", came, want
     for text, note in (
         (b"c 00 12\0\nend\n", "1 form"),
         (b"c 00 12\nend\n\0", "3 after"),
@@ -356,8 +356,8 @@ def pipes(program):
     yield "check to a reader of one byte", through(program, ["check"], [hurt], 1)[:2], (5, b"write failed\n")
     for words, source in ((["make", "link"], b"c 00 1000000\nend\n"), (["make", "content"], frames(60, 9))):
         yield f"{words} to a reader of one byte", through(program, words, [source], 1)[:2], (5, b"write failed\n")
-    head = "head -c 1 | od -An -c"
-    shell = subprocess.run(["bash", "-c", f'"$0" recover link | {head}; echo "${{PIPESTATUS[0]}}"', program], input=hurt, capture_output=True, timeout=60)
+    script = '"$0" recover link | head -c 1 | od -An -c; echo "${PIPESTATUS[0]}"'
+    shell = subprocess.run(["bash", "-c", script, program], input=hurt, capture_output=True, timeout=60)
     yield "recover link | head -c 1", (shell.stdout.split(), shell.stderr), ([b"c", b"5"], b"write failed\n")
 
 
@@ -386,13 +386,17 @@ def memory(program):
 
 def in_room(program, words, source, room):
     """A run in so many KiB of addresses."""
-    bound = (room * 1024, room * 1024)
-    ran = subprocess.run([program, *words], input=source, capture_output=True, timeout=60, preexec_fn=lambda: resource.setrlimit(resource.RLIMIT_AS, bound))
+
+    def bound():
+        resource.setrlimit(resource.RLIMIT_AS, (room * 1024, room * 1024))
+
+    ran = subprocess.run([program, *words], input=source, capture_output=True, timeout=60, preexec_fn=bound)
     return ran.returncode, ran.stdout, ran.stderr
 
 
 def main(arguments):
-    tables = {table.__name__: table for table in (headers, prefixes, lanes, heard, listings, longest, devices, full, pipes, memory, long)}
+    every = (headers, prefixes, lanes, heard, listings, longest, devices, full, pipes, memory, long)
+    tables = {table.__name__: table for table in every}
     reader = argparse.ArgumentParser(description=__doc__, formatter_class=argparse.RawDescriptionHelpFormatter)
     reader.add_argument("--program", default=f"{TOP}/crates/hdmi_cli/out/hdmi_cli")
     reader.add_argument("tables", nargs="*", metavar="TABLE", help=", ".join(tables))

@@ -87,8 +87,8 @@ def main(arguments):
                 else:
                     failed += 1
                     print(f"{name}: {came!r:.500} came")
-            told = ", ".join(f"{kind}: {count} of status {status} {note.decode().strip()}" for (kind, status, note), count in sorted(counted.items()))
-            print(f"{' '.join(words)}: {told}", flush=True)
+            for (kind, status, note), count in sorted(counted.items()):
+                print(f"{' '.join(words)}, {kind}: {count} with status {status} {note.decode().strip()}", flush=True)
     print(f"{passed} passed, {failed} failed")
     return 1 if failed else 0
 
