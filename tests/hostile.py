@@ -10,6 +10,7 @@ lists, all but `long` where none is named. Expected values are those of docs/FOR
 independent model of it. The last line is 'N passed, M failed'; the status is 1 where a case failed."""
 import argparse
 import hashlib
+import itertools
 import os
 import resource
 import subprocess
@@ -356,6 +357,12 @@ def pipes(program):
     yield "check to a reader of one byte", through(program, ["check"], [hurt], 1)[:2], (5, b"write failed\n")
     for words, source in ((["make", "link"], b"c 00 1000000\nend\n"), (["make", "content"], frames(60, 9))):
         yield f"{words} to a reader of one byte", through(program, words, [source], 1)[:2], (5, b"write failed\n")
+    for words in (["make", "link"], ["make", "content"], *READERS):
+        note = b"input: line 1 form\n" if words[0] == "make" else b"input: magic 0\n"
+        came = through(program, words, itertools.repeat(bytes(65_536)), None)
+        yield f"{words} of NUL bytes without end", (*came[:2], came[3]), (3, note, 0)
+    came = through(program, ["make", "link"], itertools.repeat(b"c 00 1\n" * 10_000), None)
+    yield "make link of control columns without end", (*came[:2], came[3]), (3, b"input: line 20000001 long\n", 0)
     script = '"$0" recover link | head -c 1 | od -An -c; echo "${PIPESTATUS[0]}"'
     shell = subprocess.run(["bash", "-c", script, program], input=hurt, capture_output=True, timeout=60)
     yield "recover link | head -c 1", (shell.stdout.split(), shell.stderr), ([b"c", b"5"], b"write failed\n")
