@@ -25,6 +25,8 @@ mod cases_tap;
 mod cases_version;
 #[cfg(test)]
 mod cases_wild;
+#[cfg(test)]
+mod device_tests;
 mod ending;
 #[cfg(test)]
 mod gate_tests;

@@ -1,0 +1,500 @@
+#!/usr/bin/env python3
+"""Feeds the built program with broken listings, contents, captures and words, and looks for what must never come.
+
+    fuzz/run.py [--seconds S] [--seed N] [--program PROGRAM] [--limit S] [--keep FOLDER]
+
+Each case is a seed of some command's input (the examples, and captures and listings that are made of them) after some
+random changes: bits flipped, bytes and lines cut, repeated, moved and spliced, numbers changed, characters of the lanes
+replaced, lanes shifted. It is run twice, once over a file and once over a pipe that is fed in small pieces. A finding is
+
+- a run that a signal ends, or that takes longer than the limit (twice in a row),
+- a status that the command has not over a whole input and a sound output,
+- on standard error anything but the one line of the status (docs/FORMATS.md, README.md), or anything on 0 and 1,
+- an output that its status does not allow (a listing without its last line, a capture that its header does not fit),
+- a second run that answers otherwise.
+
+Case K of seed N depends on N, on K and on what the program makes of the examples, so `--seed N --first K --cases 1` runs it
+again. The last line counts executions and findings; the status is 1 where there was a finding. It is not part of the gate."""
+import argparse
+import collections
+import os
+import random
+import re
+import subprocess
+import sys
+import tempfile
+import threading
+import time
+
+TOP = os.path.dirname(os.path.dirname(os.path.abspath(__file__)))
+PROGRAM = os.path.join(TOP, "crates", "hdmi_cli", "out", "hdmi_cli")
+BLOCK = 4096
+USAGE = rb"usage: make, recover, check, damage or sample\n"
+LINE = rb"line [1-9]\d* (?:fault|form|range|order|control|preamble|size|long|unended|after)"
+CAPTURE = rb"(?:magic|version|short|padding|trailing) \d+"
+REFUSED = {
+    "make link": LINE,
+    "make content": LINE + rb"|mode \d+|row \d+ \d+|noroom \d+ \d+|long",
+    "recover link": CAPTURE,
+    "recover content": CAPTURE,
+    "check": CAPTURE,
+    "damage": CAPTURE + rb"|place \d+",
+}
+STATUSES = {name: (0, 3) if name.startswith(("make", "damage")) else (0, 1, 3, 7) for name in REFUSED}
+CONTROL = [0x354, 0x0AB, 0x154, 0x2AB]
+TERC4 = [0x29C, 0x263, 0x2E4, 0x2E2, 0x171, 0x11E, 0x18E, 0x13C, 0x2CC, 0x139, 0x19C, 0x2C6, 0x28E, 0x271, 0x163, 0x2C3]
+MARKED = [*CONTROL, *TERC4, 0x133, 0x100, 0x3FF, 0x200]
+NUMBERS = [0, 1, 2, 3, 7, 8, 9, 11, 12, 13, 18, 19, 63, 64, 255, 256, 1023, 1024, 4095, 4096, 4097, 32767, 32768, 65535, 65536,
+           2**31 - 1, 2**31, 2**32 - 11, 2**32 - 1, 2**32, 9999999999]
+CONTENT = b"""mode 4 4 200 64 2 1 1 1 0
+avi 2 1 1 3 9 2 1 5 3 7 1 16 3 1 2 3 4
+audio 1 2 3 1 7 4 1
+spd 4142434445464748 30313233343536373839616263646566 0a
+info 85 01 00112233
+gcp 1 0 4
+acr 6144 27000
+s 000001 fffffe 1 2 1 0
+s 7fffff 800000 4 5 0 1
+s 123456 654321 0 0 0 0
+s 000000 000000 0 0 0 0
+s 00000a 00000b 0 0 0 0
+packet 0a0b0c 01020304050607 11121314151617 21222324252627 31323334353637
+row 000000ffffff102030ff00ff
+row 0102030405060708090a0b0c
+frame 4 2
+info 81 02
+row ffffff000000ffffff000000
+row ffffff000000ffffff000000
+frame 4 2
+end
+"""
+
+
+def ran(program, words, source=b""):
+    return subprocess.run([program, *words], input=source, capture_output=True, timeout=60)
+
+
+def pack(words):
+    """The bytes of a lane's characters and their number of bits."""
+    bits = "".join(format(word, "010b") for word in reversed(words))
+    return (int(bits, 2).to_bytes((len(bits) + 7) // 8, "little") if bits else b""), len(bits)
+
+
+def body(lanes):
+    most = max(map(len, lanes), default=0)
+    return b"".join(lane[at : at + BLOCK] for at in range(0, most, BLOCK) for lane in lanes)
+
+
+def capture(lanes, counts, version):
+    """The bytes of a capture; of the first version each lane has the bits of the shortest."""
+    if version == 1:
+        counts = [min(counts)] * 3
+    cut = []
+    for lane, count in zip(lanes, counts):
+        lane = bytearray(lane[: (count + 7) // 8])
+        if count % 8:
+            lane[-1] &= (1 << count % 8) - 1
+        cut.append(bytes(lane))
+    told = counts[:1] if version == 1 else counts
+    return b"TMC%d" % version + b"".join(count.to_bytes(4, "big") for count in told) + body(cut)
+
+
+def size_of(data):
+    """How many bytes a capture with this header has; none where there is no header."""
+    if len(data) < 8 or data[:3] != b"TMC":
+        return None
+    counts = [int.from_bytes(data[4:8], "big")] * 3
+    header = 8
+    if data[3:4] == b"2":
+        header, counts = 16, [int.from_bytes(data[at : at + 4], "big") for at in (4, 8, 12)]
+    return header + sum((count + 7) // 8 for count in counts)
+
+
+class Seeds:
+    """The inputs that cases begin with: listings, contents, captures, and the characters of three lanes."""
+
+    def __init__(self, program):
+        self.listings, self.contents, self.captures, self.lanes = [], [], [], []
+        for name in sorted(os.listdir(os.path.join(TOP, "examples"))):
+            with open(os.path.join(TOP, "examples", name), "rb") as file:
+                (self.contents if name.endswith(".content") else self.listings).append(file.read())
+        self.contents.append(CONTENT)
+        island = self.listings[0].split(b"v ")[0]
+        self.listings.append(island + b"v " + b"0123ab" * 700 + b"\nc 03 3000\n" + self.listings[0])
+        self.listings.append(b"c 00 12\n" + (b"c 14 8\ni 01\n" + 18 * (b"p 82020d " + 4 * b"66000800010000 " + 32 * b"1" + b"\n") + b"e 23\nc 00 12\n") * 3 + b"end\n")
+        makes = [(["make", "link"], it) for it in self.listings] + [(["make", "content"], it) for it in self.contents]
+        for words, text in makes:
+            for tap in ([], ["--offset", "7", "--skew", "0,70,35"], ["--version", "2", "--offset", "3", "--skew", "9,0,70"]):
+                self.captures.append(ran(program, words + tap, text).stdout)
+            self.lanes.append(self.columns(self.captures[-3]))
+        for data in self.captures[:]:
+            came = ran(program, ["recover", "link"], data).stdout
+            if came:
+                self.listings.append(came)
+
+    @staticmethod
+    def columns(data):
+        """The characters of a capture from bit 0 on, of the first version."""
+        rest, lanes = data[8:], [b"", b"", b""]
+        size = (int.from_bytes(data[4:8], "big") + 7) // 8
+        for at in range(0, size, BLOCK):
+            for lane in range(3):
+                part, rest = rest[: min(BLOCK, size - at)], rest[min(BLOCK, size - at) :]
+                lanes[lane] += part
+        rows = []
+        for lane in lanes:
+            bits = int.from_bytes(lane, "little")
+            text = format(bits, f"0{8 * size}b")[::-1]
+            rows.append([int(text[at : at + 10][::-1], 2) for at in range(0, 8 * size - 9, 10)])
+        return rows
+
+
+def change_bytes(rng, data, other):
+    """One change of bytes."""
+    data = bytearray(data)
+    size = len(data)
+    at, to = sorted((rng.randrange(size + 1), rng.randrange(size + 1)))
+    kind = rng.randrange(9)
+    if kind == 0 and size:
+        for _ in range(rng.choice((1, 1, 2, 8, 64))):
+            data[rng.randrange(size)] ^= 1 << rng.randrange(8)
+    elif kind == 1 and size:
+        data[rng.randrange(size)] = rng.choice((0, 9, 10, 13, 32, 33, 48, 57, 127, 128, 255, rng.randrange(256)))
+    elif kind == 2:
+        del data[at : min(to, at + rng.choice((1, 4, 64, size + 1)))]
+    elif kind == 3:
+        data[at:at] = data[at : min(to, at + 4096)] * rng.choice((1, 2, 3, 9))
+    elif kind == 4:
+        data[at:at] = rng.randbytes(rng.choice((1, 2, 7, 40, 5000)))
+    elif kind == 5:
+        cut = rng.randrange(len(other) + 1)
+        data[at:] = other[cut : cut + 50_000]
+    elif kind == 6:
+        del data[at:]
+    elif kind == 7:
+        data[at:to] = bytes([rng.choice((0, 255, 10, 0x55))]) * (to - at)
+    else:
+        data += rng.choice((b"\0", b"\n", b"x", bytes(4096)))
+    return bytes(data)
+
+
+def change_text(rng, data, other):
+    """One change of lines, fields and numbers."""
+    lines = data.split(b"\n")
+    at = rng.randrange(len(lines))
+    kind = rng.randrange(8)
+    if kind in (0, 1):
+        found = list(re.finditer(rb"(?<=[ ])\d{1,10}(?=[ \n]|$)", lines[at]))
+        if found:
+            spot = rng.choice(found)
+            old = int(spot.group())
+            most = 1_000_000 if rng.random() < 0.97 else 2**40
+            new = rng.choice([old + 1, max(0, old - 1), old * 2, old + rng.randrange(100), *NUMBERS])
+            if new <= most or old > most or not lines[at].startswith(b"c "):
+                text = b"%d" % new if rng.random() < 0.9 else b"%010d" % new
+                lines[at] = lines[at][: spot.start()] + text + lines[at][spot.end() :]
+    elif kind == 2:
+        del lines[at]
+    elif kind == 3:
+        lines[at:at] = [lines[at]] * rng.choice((1, 2, 20))
+    elif kind == 4:
+        to = rng.randrange(len(lines))
+        lines[at], lines[to] = lines[to], lines[at]
+    elif kind == 5:
+        rows = other.split(b"\n")
+        cut = rng.randrange(len(rows))
+        lines[at:at] = rows[cut : cut + rng.choice((1, 2, 5, 100))]
+    elif kind == 6:
+        fields = lines[at].split(b" ")
+        spot = rng.randrange(len(fields))
+        fields[spot : spot + 1] = rng.choice(([], [b""], [fields[spot]] * 2, [b"%x" % rng.randrange(2**24)], [fields[spot][:-1]], [b"-1"], [b"0x1"]))
+        lines[at] = b" ".join(fields)
+    else:
+        lines[at] = lines[at][: rng.randrange(len(lines[at]) + 1)] + rng.choice((b"", b" ", b"\0", b"\r", b"0" * 40_000))
+    return b"\n".join(lines)
+
+
+def change_lanes(rng, rows, other):
+    """One change of the characters of three lanes."""
+    lane, size = rng.randrange(3), min(map(len, rows))
+    at = rng.randrange(size + 1)
+    kind = rng.randrange(8)
+    if kind == 0:
+        for _ in range(rng.choice((1, 2, 5, 50))):
+            row = rows[rng.randrange(3)]
+            if row:
+                row[rng.randrange(len(row))] = rng.choice(MARKED + [rng.randrange(1024)])
+    elif kind == 1:
+        del rows[lane][at : at + rng.choice((1, 3, 7, 20))]
+    elif kind == 2:
+        rows[lane][at:at] = [rng.choice(MARKED)] * rng.choice((1, 2, 7, 12, 32))
+    elif kind == 3:
+        much = rng.choice((1, 2, 12, 32, 600))
+        for row in rows:
+            row[at:at] = row[at : at + much] * rng.choice((1, 2, 5))
+    elif kind == 4:
+        cut, much = rng.randrange(min(map(len, other)) + 1), rng.choice((1, 2, 14, 44, 700))
+        for row, more in zip(rows, other):
+            row[at:at] = more[cut : cut + much]
+    elif kind == 5:
+        guards = rng.choice(([0x2CC, 0x133, 0x2CC], [0x28E, 0x133, 0x133], [0x354, 0x354, 0x354], [0x354, 0x0AB, 0x354], [0x354, 0x0AB, 0x0AB]))
+        much = rng.choice((1, 2, 8, 12))
+        for row, word in zip(rows, guards):
+            row[at:at] = [word] * much
+    elif kind == 6:
+        much = rng.choice((1, 12, 32, 500))
+        for row in rows:
+            row[at:at] = [rng.choice(TERC4) for _ in range(much)]
+    else:
+        much = rng.choice((1, 2, 32, 600))
+        for row in rows:
+            del row[at : at + much]
+
+
+def captured(rng, seeds):
+    """A capture whose lanes were changed, and perhaps its bytes."""
+    rows = [row[:] for row in rng.choice(seeds.lanes)]
+    for _ in range(rng.choice((0, 1, 1, 2, 3, 6))):
+        change_lanes(rng, rows, rng.choice(seeds.lanes))
+        for row in rows:
+            del row[20_000:]
+    lanes, counts = [], []
+    for row in rows:
+        data, count = pack(row)
+        if rng.random() < 0.5:
+            shift = rng.randrange(80)
+            bits = int.from_bytes(data, "little") >> shift
+            count = max(0, count - shift)
+            data = bits.to_bytes((count + 7) // 8, "little")
+        lanes.append(data)
+        counts.append(count)
+    return capture(lanes, counts, rng.choice((1, 2)))
+
+
+def changed(rng, data, others, changes):
+    for _ in range(rng.choice((0, 1, 1, 1, 2, 3, 8))):
+        data = rng.choice(changes)(rng, data, rng.choice(others))
+    return data
+
+
+def hits(rng):
+    places = (0, 10, 20, 110, rng.randrange(130), rng.randrange(130), rng.randrange(300))
+    if rng.random() < 0.3:
+        places += (rng.randrange(40_000), 2**32 - 1)
+    return [f"{rng.randrange(3)}:{rng.choice(places)}:{rng.randrange(1024):03x}" for _ in range(rng.choice((1, 1, 2, 30)))]
+
+
+def tap(rng):
+    words = []
+    if rng.random() < 0.3:
+        words += ["--offset", str(rng.choice(NUMBERS[:-2]))]
+    if rng.random() < 0.3:
+        words.append("--skew=" + ",".join(str(rng.choice((0, 1, 35, 70, 71, 4095))) for _ in range(3)))
+    if rng.random() < 0.2:
+        words += ["--bits", str(rng.choice(NUMBERS[:-2]))]
+    if rng.random() < 0.4:
+        words.append(f"--version={rng.choice((1, 2))}")
+    return words
+
+
+def spoil(rng, words):
+    """Words after one change."""
+    words = words[:]
+    at = rng.randrange(len(words) + 1)
+    kind = rng.randrange(6)
+    if kind == 0 and words:
+        del words[at % len(words)]
+    elif kind == 1:
+        words.insert(at, rng.choice(("--", "-", "--offset", "--offset=7", "", "link", "check", "--skew=1,2", "0:0:000", "é", "\udcff", "x" * 5000)))
+    elif kind == 2 and words:
+        word = words[at % len(words)]
+        spot = rng.randrange(len(word) + 1)
+        words[at % len(words)] = word[:spot] + rng.choice(("", "0", ":", ",", "=", "-", "A")) + word[spot + rng.randrange(2) :]
+    elif kind == 3:
+        rng.shuffle(words)
+    elif kind == 4:
+        words += words[-1:] * rng.choice((1, 2, 500))
+    else:
+        words = [word.upper() for word in words]
+    return words
+
+
+def case(seeds, seed, number):
+    """Words and an input, by the seed and the number of the case alone."""
+    rng = random.Random(f"{seed} {number}")
+    name = rng.choice(list(REFUSED))
+    words = name.split(" ")
+    if name == "make link":
+        words += tap(rng)
+        data = changed(rng, rng.choice(seeds.listings), seeds.listings + seeds.contents, (change_text, change_text, change_bytes))
+    elif name == "make content":
+        words += tap(rng)
+        data = changed(rng, rng.choice(seeds.contents), seeds.listings + seeds.contents, (change_text, change_text, change_bytes))
+    else:
+        if name == "damage":
+            words += hits(rng)
+        data = captured(rng, seeds) if rng.random() < 0.7 else rng.choice(seeds.captures)
+        if rng.random() < 0.5:
+            data = changed(rng, data, seeds.captures, (change_bytes,))
+    if rng.random() < 0.05:
+        words = spoil(rng, words)
+    return words, data[:2_000_000]
+
+
+def fed(data, pipe):
+    """Writes into a pipe in pieces of a size that the data's length decides."""
+    piece = (1, 7, 4096, 65536)[len(data) % 4] if len(data) < 20_000 else 65_521
+    try:
+        for at in range(0, len(data), piece):
+            os.write(pipe, data[at : at + piece])
+    except OSError:
+        pass
+    os.close(pipe)
+
+
+def run_once(program, words, data, limit, folder, piped):
+    """The status, the output and the notes; a status of None is a run over its time."""
+    with open(os.path.join(folder, "out"), "w+b") as out, open(os.path.join(folder, "notes"), "w+b") as notes:
+        feeder = None
+        if piped:
+            given, pipe = os.pipe()
+            os.set_inheritable(pipe, False)
+        else:
+            with open(os.path.join(folder, "in"), "wb") as file:
+                file.write(data)
+            given = os.open(os.path.join(folder, "in"), os.O_RDONLY)
+        process = subprocess.Popen([program, *words], stdin=given, stdout=out, stderr=notes)
+        os.close(given)
+        if piped:
+            feeder = threading.Thread(target=fed, args=(data, pipe))
+            feeder.start()
+        try:
+            status = process.wait(limit)
+        except subprocess.TimeoutExpired:
+            process.kill()
+            process.wait()
+            status = None
+        if feeder:
+            feeder.join()
+        out.seek(0)
+        notes.seek(0)
+        return status, out.read(), notes.read()
+
+
+def name_of(words):
+    name = " ".join(words[:2]) if words[:1] in (["make"], ["recover"]) else "".join(words[:1])
+    if name not in REFUSED:  # options may stand before the operand
+        found = [it for it in REFUSED if it.split(" ")[0] == "".join(words[:1]) and it.split(" ")[-1] in words]
+        name = found[0] if found else name
+    return name
+
+
+def wrong_output(name, status, output, notes):
+    """What an output has that its status does not allow; none where all is right."""
+    if status in (2, 7) and output:
+        return "an output that must be empty"
+    if name.startswith("make") and status == 3 and output:
+        return "an output of a refused listing"
+    if name.startswith("make") and status == 0 and size_of(output) != len(output):
+        return "a capture of a wrong size"
+    if name == "damage" and status == 0 and size_of(output) != len(output):
+        return "a damaged capture of a wrong size"
+    if name == "damage" and status == 3 and notes.startswith(b"input: place") and output:
+        return "an output of a refused damage"
+    lines = output.split(b"\n")
+    if name.startswith("recover"):
+        if output and lines[-1] != b"":
+            return "a last line without a line feed"
+        if (status in (0, 1)) != (lines[-2:] == [b"end", b""]):
+            return "a wrong last line"
+        if name == "recover link" and status in (0, 1) and (status == 1) != any(it.startswith(b"! ") for it in lines):
+            return "fault lines that do not fit the status"
+    if name == "check":
+        last = {0: [b"clean", b""], 1: [b"faulty", b""]}.get(status)
+        if last and lines[-2:] != last:
+            return "a wrong last line"
+    return None
+
+
+def judge(words, answer):
+    """What is wrong with an answer; none where all is right."""
+    status, output, notes = answer
+    if status is None:
+        return "over its time"
+    if status < 0:
+        return f"signal {-status}"
+    if status == 2:
+        return None if re.fullmatch(USAGE, notes) and not output else "a wrong note or output of status 2"
+    name = name_of(words)
+    if name not in REFUSED:
+        return f"status {status} of words that name no command"
+    if status not in STATUSES[name]:
+        return f"status {status}"
+    wanted = {3: rb"input: (?:" + REFUSED[name] + rb")\n", 7: rb"no alignment\n"}.get(status, b"")
+    if not re.fullmatch(wanted, notes):
+        return f"a wrong note of status {status}: {notes[:200]!r}"
+    return wrong_output(name, status, output, notes)
+
+
+def found_in(program, words, data, limit, folder):
+    """What is wrong with a case, and its status."""
+    first = run_once(program, words, data, limit, folder, False)
+    if first[0] is None:
+        first = run_once(program, words, data, limit, folder, False)
+    second = run_once(program, words, data, limit, folder, True)
+    if second[0] is None:
+        second = run_once(program, words, data, limit, folder, True)
+    found = judge(words, first) or judge(words, second)
+    if found is None and first != second:
+        found = "a second run that answers otherwise"
+    return found, first[0]
+
+
+def keep(folder, seed, number, words, data):
+    os.makedirs(folder, exist_ok=True)
+    with open(os.path.join(folder, f"{seed}-{number}.in"), "wb") as file:
+        file.write(data)
+    with open(os.path.join(folder, f"{seed}-{number}.words"), "w", errors="surrogateescape") as file:
+        file.write("\n".join(words))
+
+
+def options():
+    reader = argparse.ArgumentParser(description=__doc__, formatter_class=argparse.RawDescriptionHelpFormatter)
+    reader.add_argument("--seconds", type=float, default=60)
+    reader.add_argument("--seed", type=int, default=1)
+    reader.add_argument("--program", default=PROGRAM)
+    reader.add_argument("--limit", type=float, default=20, help="the seconds that a run may take")
+    reader.add_argument("--first", type=int, default=0, help="the number of the first case")
+    reader.add_argument("--cases", type=int, default=None, help="how many cases at most")
+    reader.add_argument("--keep", default=None, help="a folder for the inputs of findings")
+    return reader.parse_args()
+
+
+def main():
+    given = options()
+    program = os.path.abspath(given.program)
+    if not os.path.isfile(program):
+        sys.exit(f"{program}: there is no such program; `rt ci` and `./vabgrot` build it")
+    seeds = Seeds(program)
+    ends, findings, number = collections.Counter(), 0, given.first
+    start = time.monotonic()
+    with tempfile.TemporaryDirectory() as folder:
+        while time.monotonic() - start < given.seconds and (given.cases is None or number - given.first < given.cases):
+            words, data = case(seeds, given.seed, number)
+            found, status = found_in(program, words, data, given.limit, folder)
+            ends[name_of(words) if status != 2 else "usage", status] += 1
+            if found:
+                findings += 1
+                print(f"seed {given.seed} case {number}: {found}: {words!r:.300}, {len(data)} bytes", flush=True)
+                if given.keep:
+                    keep(given.keep, given.seed, number, words, data)
+            number += 1
+    for (name, status), count in sorted(ends.items(), key=str):
+        print(f"{name:<16} status {status}: {count}")
+    cases = number - given.first
+    print(f"seed {given.seed}: {cases} cases, {2 * cases} executions, {findings} findings, {time.monotonic() - start:.0f} s")
+    return 1 if findings else 0
+
+
+if __name__ == "__main__":
+    sys.exit(main())

@@ -1,0 +1,428 @@
+#!/usr/bin/env python3
+"""Runs the built program over inputs and devices that are made to harm it: headers that promise too much, captures that end
+at each byte, lanes of nothing but noise, listings past each limit, closed and full devices, little memory, a reader that
+goes away.
+
+    tests/hostile.py [--program PROGRAM] [TABLE ..]
+
+PROGRAM is crates/hdmi_cli/out/hdmi_cli by default, which `rt ci` and `./vabgrot` build; the tables are those that --help
+lists, all but `long` where none is named. Expected values are those of docs/FORMATS.md, and, where a comment says so, of an
+independent model of it. The last line is 'N passed, M failed'; the status is 1 where a case failed."""
+import argparse
+import hashlib
+import itertools
+import os
+import resource
+import subprocess
+import sys
+import tempfile
+import threading
+import time
+
+from program import LISTING, TOP, run
+
+BLOCK = 4096
+READERS = (["recover", "link"], ["recover", "content"], ["check"], ["damage", "0:0:354"])
+ISLAND = b"""c 00 4
+c 14 8
+i 00
+p 82020d 66000800010000 00000000000000 00000000000000 00000000000000 00000000000000000000000000000000
+e 00
+c 00 4
+c 04 8
+v ff0000
+c 00 12
+end
+"""
+CONTENT = b"mode 2 4 30 14 1 1 1 1 0\nacr 6144 27000\ns 000001 fffffe 1 2 1 0\nrow 0102030405ff\nframe 2 1\nend\n"
+CONTROL = (0x354, 0x0AB, 0x154, 0x2AB)
+
+# What is between control columns, and for `recover link`, `recover content` and `check` the status, the number of bytes and
+# the first digits of the SHA-256 of what must be written.
+HEARD = """
+steps|1 31 8277d3fe|1 15 e70caca5|1 18 69f96864
+steps turned|1 31 8277d3fe|1 15 e70caca5|1 18 69f96864
+354|7 0 e3b0c442|7 0 e3b0c442|7 0 e3b0c442
+354 in its ten turns|1 764 06d6cfe5|1 475 4bc552f5|1 478 1eba3fab
+2ab|7 0 e3b0c442|7 0 e3b0c442|7 0 e3b0c442
+2ab in its ten turns|1 771 51251285|1 475 4bc552f5|1 478 1eba3fab
+133|1 31 8277d3fe|1 15 e70caca5|1 18 69f96864
+133 in its ten turns|1 31 8277d3fe|1 15 e70caca5|1 18 69f96864
+2cc|1 31 8277d3fe|1 15 e70caca5|1 18 69f96864
+2cc in its ten turns|1 31 8277d3fe|1 15 e70caca5|1 18 69f96864
+000|1 31 8277d3fe|1 15 e70caca5|1 18 69f96864
+000 in its ten turns|1 31 8277d3fe|1 15 e70caca5|1 18 69f96864
+3ff|1 31 8277d3fe|1 15 e70caca5|1 18 69f96864
+3ff in its ten turns|1 31 8277d3fe|1 15 e70caca5|1 18 69f96864
+a line of steps|1 1289 38375963|1 40 1e0b0409|1 43 6f99879e
+a line of guards|0 5429 eef56c67|0 4 48332fe6|0 6 2e22da2a
+a line of turns|1 665 aba4f414|1 40 1e0b0409|1 43 6f99879e
+a island of steps|1 966 75af6803|1 327 722eed9e|1 330 1facabd5
+a island of guards|1 58 eb9d91d9|1 26 e4049cba|1 29 b6590c56
+a island of turns|1 434 2da2e2e4|1 101 1aada626|1 104 454acd8a
+"""
+
+
+def lanes_of(rows):
+    """A capture of the first version of three lanes of as many bytes, all of whose bits count."""
+    size = len(rows[0])
+    blocks = [row[at : at + BLOCK] for at in range(0, size, BLOCK) for row in rows]
+    return b"TMC1" + (8 * size).to_bytes(4, "big") + b"".join(blocks)
+
+
+def sent(words, size):
+    """So many bytes of a lane that carries these characters over and over, the lowest bit first."""
+    bits = "".join(format(word, "010b")[::-1] for word in words)
+    bits = (bits * (8 * size // len(bits) + 1))[: 8 * size]
+    return int(bits[::-1], 2).to_bytes(size, "little")
+
+
+def turned(word, by):
+    """A character whose ten bits are turned round."""
+    return (word >> by | word << (10 - by)) & 0x3FF
+
+
+def headers(program):
+    """Headers with the greatest counts, and nothing more."""
+    for header, places in ((b"TMC1" + b"\xff" * 4, [4294967285] * 3), (b"TMC2" + b"\xff" * 12, [4294967285] * 3),
+                           (b"TMC2\0\0\0\0\xff\xff\xff\xff\0\0\0\x0a", [None, 4294967285, 0])):
+        note = b"input: short %d\n" % len(header)
+        for words in READERS[:3]:
+            yield f"{words} of {header}", run(program, words, header), (3, b"", note)
+        for lane, last in enumerate(places):
+            if last is not None:
+                yield f"damage {lane}:{last} of {header}", run(program, ["damage", f"{lane}:{last}:3ff"], header), (3, header, note)
+            for place in (0 if last is None else last + 1, 4294967295):
+                came = run(program, ["damage", f"{lane}:{place}:3ff"], header)
+                yield f"damage {lane}:{place} of {header}", came, (3, b"", b"input: place 0\n")
+
+
+def prefixes(program):
+    """Captures that end too early: each prefix of that of one red pixel, and some of one of three blocks."""
+    red = run(program, ["make", "link"], LISTING)[1]
+    yield "a capture of one red pixel", len(red), 110
+    for size in range(110):
+        note = b"input: short %d\n" % size
+        for words in READERS[:3]:
+            yield f"{words} of {size} bytes", run(program, words, red[:size]), (3, b"", note)
+        came = run(program, READERS[3], red[:size])
+        yield f"damage of {size} bytes", came, (3, red[:8] if size >= 8 else b"", note)
+    long = run(program, ["make", "link", "--offset", "5"], LISTING[:-4] + (LISTING[:-4] * 200) + b"c 00 4000\nend\n")[1]
+    yield "a capture of three blocks", (len(long) - 8) // (3 * BLOCK), 2
+    whole = {words[-1]: run(program, words, long)[1] for words in READERS}
+    for size in [*range(8, len(long), 1499), len(long) - 1]:
+        blocks = (size - 8) // (3 * BLOCK)
+        for words in READERS:
+            status, output, notes = run(program, words, long[:size])
+            name = f"{words} of {size} of {len(long)} bytes"
+            yield name, (status, notes), (3, b"input: short %d\n" % size)
+            yield name, whole[words[-1]].startswith(output) and not output.endswith((b"end\n", b"clean\n", b"faulty\n")), True
+            if words[0] == "damage":
+                yield name, len(output), 8 + 3 * BLOCK * blocks
+
+
+def lanes(program):
+    """Lanes that carry nothing that can be aligned."""
+    steps = bytes(range(256)) * (BLOCK // 256)
+    tables = [("00 to ff", [steps] * 3), ("00 to ff, turned", [steps, steps[::-1], steps[85:] + steps[:85]])]
+    tables += [(f"0x{word:03x} alone", [sent([word], BLOCK)] * 3) for word in (*CONTROL, 0, 0x3FF, 0x133, 0x2CC)]
+    tables += [("three control characters", [sent([word], BLOCK) for word in CONTROL[:3]])]
+    for word in (*CONTROL, 0x133, 0x100):
+        tables += [(f"0x{word:03x} turned by {by}", [sent([turned(word, by)], BLOCK)] * 3) for by in range(10)]
+        tables.append((f"0x{word:03x} in its ten turns", [sent([turned(word, by) for by in range(10)], BLOCK)] * 3))
+    for name, rows in tables:
+        data = lanes_of(rows)
+        for words in READERS[:3]:
+            yield f"{words} of lanes of {name}", run(program, words, data), (7, b"", b"no alignment\n")
+        yield f"damage of lanes of {name}", run(program, ["damage", "2:32758:3ff"], data)[::2], (0, b"")
+
+
+def heard(program):
+    """The same between two stretches of control columns, where they are heard. The status and the digest of the output that
+    are wanted are those of an independent model of docs/FORMATS.md."""
+    quiet, opening = [0x354] * 24, ([0x354, 0x0AB, 0x354], [0x2CC, 0x133, 0x2CC], [0x28E, 0x133, 0x133], [0x354, 0x0AB, 0x0AB])
+    steps = [int.from_bytes(bytes(range(256)), "little") >> 10 * at & 0x3FF for at in range(204)]
+    middles = {"steps": [steps] * 3, "steps turned": [steps, steps[::-1], steps[68:] + steps[:68]]}
+    for word in (0x354, 0x2AB, 0x133, 0x2CC, 0x000, 0x3FF):
+        middles[f"{word:03x}"] = [[word] * 700] * 3
+        middles[f"{word:03x} in its ten turns"] = [[turned(word, by) for by in range(10)] * 40] * 3
+    for name, before in (("line", [0, 0, 0, 0, 0, 0, 0, 0, 1, 1]), ("island", [3, 3, 3, 3, 3, 3, 3, 3, 2, 2])):
+        opened = [[opening[it][lane] for it in before] for lane in range(3)]
+        middles[f"a {name} of steps"] = [more + middle for more, middle in zip(opened, [steps] * 3)]
+        middles[f"a {name} of guards"] = [more + [opening[before[-1]][lane]] * 900 for lane, more in enumerate(opened)]
+        middles[f"a {name} of turns"] = [more + [turned(0x2CC, by) for by in range(10)] * 10 for more in opened]
+    wanted = {row.split("|")[0]: row.split("|")[1:] for row in HEARD.strip().split("\n")}
+    for name, rows in middles.items():
+        data = lanes_of([sent(quiet + row + quiet, (48 + len(row)) * 10 // 8) for row in rows])
+        for words, want in zip(READERS, wanted[name]):
+            status, output, notes = run(program, words, data)
+            came = f"{status} {len(output)} {hashlib.sha256(output).hexdigest()[:8]}"
+            yield f"{words} of {name}", (came, notes), (want, b"no alignment\n" if status == 7 else b"")
+
+
+def listings(program):
+    """Listings and contents past each limit."""
+    link, content = ["make", "link"], ["make", "content"]
+    longest = b"v " + b"0" * 32766
+    for words in (link, content):
+        for text, note in (
+            (longest, "1 form" if words == content else "1 range"),
+            (longest + b"0", "1 form"),
+            (longest + b"0" * 40_000_000, "1 form"),
+            (b"\0", "1 form"),
+            (b"\0" * 100_000, "1 form"),
+            (b"\0\n" * 50_000, "1 form"),
+            (b"\n" * 100_000, "1 form"),
+            (b"\xff\xfe" * 1000, "1 form"),
+        ):
+            for end in (b"", b"\n", b"\nend\n"):
+                came, want = run(program, words, text + end), (3, b"", f"input: line {note}\n".encode())
+                yield f"{words} of {len(text)} bytes {text[:9]}.. {end}", came, want
+    for text, note in (
+        (b"c 00 12\0\nend\n", "1 form"),
+        (b"c 00 12\nend\n\0", "3 after"),
+        (b"c 00 12\nend\n" + bytes(1_000_000), "3 after"),
+        (b"c 00 20000001\n", "1 range"),
+        (b"c 00 20000000\nc 00 1\n", "2 long"),
+        (b"c 00 1\n" * 100_000 + b"c 00 19900001\n", "100001 long"),
+        (b"c 00 19999987\nc 04 12\nv 000000\nc 00 12\nend\n", "3 long"),
+        (b"c 00 99999999999\n", "1 form"),
+    ):
+        yield f"make link of {text[:30]}", run(program, link, text), (3, b"", f"input: line {note}\n".encode())
+    for text, note in crowded():
+        yield f"make content, {note}", run(program, content, text), (3, b"", f"input: {note}\n".encode())
+
+
+def crowded():
+    """Contents with as many packets as a frame may have and one more."""
+    mode = b"mode 2 4 200 64 1 1 1 1 0\n"
+    rest = b"row 0102030405ff\nframe 2 1\nend\n"
+    yield mode + b"acr 6144 27000\n" * 65_536 + rest, "line 65537 long"
+    yield mode + b"s 000001 fffffe 0 0 0 0\n" * (4 * 65_535 + 1) + rest, "line 262142 long"
+    yield mode + b"packet 0a0b0c 01020304050607 11121314151617 21222324252627 31323334353637\n" * 65_535 + rest, "noroom 0 28"
+
+
+def longest(program):
+    """The longest listing, and what is made of its capture."""
+    status, output, notes = run(program, ["make", "link"], b"c 00 20000000\nend\n")
+    yield "the longest listing", (status, notes, output[:8], len(output)), (0, b"", b"TMC1\x0b\xeb\xc2\x00", 75_000_008)
+    lane = bytes.fromhex("54534d35d5") * 5_000_000
+    whole = all(output[8 + 3 * at : 8 + 3 * at + BLOCK] == lane[at : at + BLOCK] for at in range(0, 24_000_000, BLOCK))
+    yield "its lanes", whole, True
+    yield "recover link of it", run(program, ["recover", "link"], output), (7, b"", b"no alignment\n")
+    came = run(program, ["damage", "2:199999990:354"], output)
+    yield "damage of it", (came[0], came[1] == output, came[2]), (0, True, b"")
+
+
+def sources(program):
+    """Each command with its input."""
+    capture = run(program, ["make", "link"], ISLAND)[1]
+    yield ["make", "link"], ISLAND
+    yield ["make", "content"], CONTENT
+    for words in READERS:
+        yield words, capture
+
+
+def devices(program):
+    """Inputs that cannot be read, outputs that cannot be written, notes that nobody takes."""
+    for words, source in sources(program):
+        status, output, notes = run(program, words, source)
+        yield f"{words}", (status, notes), (0, b"")
+        folder = os.open(TOP, os.O_RDONLY)
+        yield f"{words} of a folder", run(program, words, stdin=folder), (4, b"", b"read failed\n")
+        os.close(folder)
+        yield f"{words} of a closed input", closed(program, words, b"", 0), (4, b"", b"read failed\n")
+        yield f"{words} to a closed output", closed(program, words, source, 1), (5, b"", b"write failed\n")
+        yield f"{words} with closed notes", closed(program, words, source, 2), (0, output, b"")
+        yield f"{words}, refused, with closed notes", closed(program, words, b"x", 2), (3, b"", b"")
+        yield f"{words} with all closed", closed(program, words, b"", 0, 1, 2), (4, b"", b"")
+        with open("/dev/full", "wb") as full:
+            yield f"{words} to a full device", run(program, words, source, stdout=full), (5, None, b"write failed\n")
+            told = subprocess.run([program, *words], input=b"x", stdout=subprocess.PIPE, stderr=full, timeout=60)
+            yield f"{words} with full notes", (told.returncode, told.stdout), (3, b"")
+        yield f"{words} of a pipe that has nothing yet", waiting(program, words), (4, b"", b"read failed\n")
+
+
+def closed(program, words, source, *files):
+    """A run in which some of the files 0, 1 and 2 are closed."""
+    shut = " ".join(("<&-", ">&-", "2>&-")[file] for file in files)
+    ran = subprocess.run(["sh", "-c", f'exec "$0" "$@" {shut}', program, *words], input=source, capture_output=True, timeout=60)
+    return ran.returncode, ran.stdout, ran.stderr
+
+
+def waiting(program, words):
+    """A run over a pipe that is read without waiting."""
+    given, pipe = os.pipe()
+    os.set_blocking(given, False)
+    came = run(program, words, stdin=given)
+    os.close(given)
+    os.close(pipe)
+    return came
+
+
+def busy(program):
+    """A capture with a fault in each of many lines, so that what each reader writes of it is long."""
+    lines = b"c 00 12\nc 04 8\nv " + b"10fe33" * 4 + b"\n"
+    capture = run(program, ["make", "link"], lines * 6000 + b"c 00 12\nend\n")[1]
+    return run(program, ["damage", *(f"2:{10 * (22 + 26 * line)}:2aa" for line in range(5900))], capture)[1]
+
+
+def frames(rows, count):
+    """A content of frames of 400 pixels across."""
+    frame = b"acr 6144 27000\n" + (b"row " + b"0a141e" * 400 + b"\n") * rows + b"frame 400 %d\n" % rows
+    return b"mode 400 4 30 14 %d 1 1 1 0\n" % rows + frame * count + b"end\n"
+
+
+def full(program):
+    """A disk of 64 KiB, where one can be mounted."""
+    hurt = busy(program)
+    content = frames(60, 2)
+    pictures = run(program, ["make", "content"], content)[1]
+    cases = [(["make", "link"], b"c 00 60000\nend\n"), (["make", "content"], content), (["recover", "link"], hurt),
+             (["recover", "content"], pictures), (["check"], hurt), (["damage", "0:0:354"], hurt)]
+    with tempfile.TemporaryDirectory() as folder:
+        mounted = subprocess.run(["mount", "-t", "tmpfs", "-o", "size=64k", "none", folder], capture_output=True).returncode == 0
+        if not mounted:
+            print("full: no disk of 64 KiB can be mounted here, so /dev/full alone was tried")
+            return
+        try:
+            for words, source in cases:
+                whole = run(program, words, source)[1]
+                yield f"{words} writes more than the disk has", len(whole) > 65_536, True
+                path = os.path.join(folder, "out")
+                with open(path, "wb") as out:
+                    yield f"{words} to a full disk", run(program, words, source, stdout=out), (5, None, b"write failed\n")
+                with open(path, "rb") as out:
+                    kept = out.read()
+                yield f"what {words} left", (whole.startswith(kept), 0 < len(kept) <= 65_536), (True, True)
+                os.unlink(path)
+        finally:
+            subprocess.run(["umount", folder], check=True)
+
+
+def endless(program, size):
+    """The pieces of a capture of so many bytes: whole blocks of one capture over and over."""
+    lines = b"c 00 12\nc 04 8\nv " + b"10fe33" * 500 + b"\n"
+    part = run(program, ["make", "link"], lines * 40 + b"c 00 12\nend\n")[1]
+    blocks = part[8 : 8 + (len(part) - 8) // (3 * BLOCK) * 3 * BLOCK]
+    copies = size // len(blocks)
+    yield b"TMC1" + (copies * len(blocks) // 3 * 8).to_bytes(4, "big")
+    for _ in range(copies):
+        yield blocks
+
+
+def feed(pipe, pieces):
+    """Writes pieces until the reader is gone, and says how many bytes went out."""
+    gone = 0
+    try:
+        for piece in pieces:
+            pipe.write(piece)
+            gone += len(piece)
+        pipe.close()
+    except BrokenPipeError:
+        pass
+    return gone
+
+
+def through(program, words, pieces, taken):
+    """A run that is fed by a pipe, and whose reader goes away after so many bytes (None: never). The status, the notes, how
+    many bytes went in and came out, and the greatest memory that was seen, in KiB."""
+    process = subprocess.Popen([program, *words], stdin=subprocess.PIPE, stdout=subprocess.PIPE, stderr=subprocess.PIPE)
+    fed = []
+    feeder = threading.Thread(target=lambda: fed.append(feed(process.stdin, pieces)))
+    feeder.start()
+    came, peak = 0, 0
+    while taken is None or came < taken:
+        piece = process.stdout.read(1 << 20 if taken is None else taken - came)
+        if not piece:
+            break
+        came += len(piece)
+        with open(f"/proc/{process.pid}/status") as status:
+            peak = max([peak] + [int(line.split()[1]) for line in status if line.startswith("VmHWM")])
+    process.stdout.close()
+    notes = process.stderr.read()
+    status = process.wait(120)
+    feeder.join()
+    return status, notes, fed[0], came, peak
+
+
+def pipes(program):
+    """A capture of 1 GB that is never stored, and readers that go away."""
+    for words in READERS[:2] + READERS[3:]:
+        status, notes, gone, came, _ = through(program, words, endless(program, 1_000_000_000), 1)
+        yield f"{words} of 1 GB to a reader of one byte", (status, notes, came), (5, b"write failed\n", 1)
+        yield f"{words} stops soon", gone < 20_000_000, True
+    hurt = busy(program)
+    yield "check to a reader of one byte", through(program, ["check"], [hurt], 1)[:2], (5, b"write failed\n")
+    for words, source in ((["make", "link"], b"c 00 1000000\nend\n"), (["make", "content"], frames(60, 9))):
+        yield f"{words} to a reader of one byte", through(program, words, [source], 1)[:2], (5, b"write failed\n")
+    for words in (["make", "link"], ["make", "content"], *READERS):
+        note = b"input: line 1 form\n" if words[0] == "make" else b"input: magic 0\n"
+        came = through(program, words, itertools.repeat(bytes(65_536)), None)
+        yield f"{words} of NUL bytes without end", (*came[:2], came[3]), (3, note, 0)
+    came = through(program, ["make", "link"], itertools.repeat(b"c 00 1\n" * 10_000), None)
+    yield "make link of control columns without end", (*came[:2], came[3]), (3, b"input: line 20000001 long\n", 0)
+    script = '"$0" recover link | head -c 1 | od -An -c; echo "${PIPESTATUS[0]}"'
+    shell = subprocess.run(["bash", "-c", script, program], input=hurt, capture_output=True, timeout=60)
+    yield "recover link | head -c 1", (shell.stdout.split(), shell.stderr), ([b"c", b"5"], b"write failed\n")
+
+
+def long(program):
+    """A capture of 1 GB to its end, and the memory that it takes; only where it is named, since it takes a minute."""
+    for words in READERS:
+        status, notes, gone, came, peak = through(program, words, endless(program, 1_000_000_000), None)
+        yield f"{words} of 1 GB", (status in (0, 1), notes, gone > 990_000_000), (True, b"", True)
+        yield f"memory of {words}: {peak} KiB", peak < 4000, True
+        if words[0] == "damage":
+            yield "what is written of 1 GB", came, gone
+
+
+def memory(program):
+    """Little room for the process: want of memory, or of threads, and nothing else."""
+    large = [(["make", "link"], b"c 00 600000\nend\n"), (["make", "content"], frames(60, 4))]
+    large += [(words, run(program, *large[0])[1]) for words in READERS]
+    for words, source in [*sources(program), *large]:
+        whole, rooms = run(program, words, source), range(2200, 9000, 100)
+        for room in rooms if len(source) < 1000 else rooms[::4]:
+            came = in_room(program, words, source, room)
+            loader = came[:2] == (127, b"") and b"while loading" in came[2]
+            spared = came in ((6, b"", b"out of memory\n"), (6, b"", b""))
+            yield f"{words} in {room} KiB", loader or spared or came == whole, True
+
+
+def in_room(program, words, source, room):
+    """A run in so many KiB of addresses."""
+
+    def bound():
+        resource.setrlimit(resource.RLIMIT_AS, (room * 1024, room * 1024))
+
+    ran = subprocess.run([program, *words], input=source, capture_output=True, timeout=60, preexec_fn=bound)
+    return ran.returncode, ran.stdout, ran.stderr
+
+
+def main(arguments):
+    every = (headers, prefixes, lanes, heard, listings, longest, devices, full, pipes, memory, long)
+    tables = {table.__name__: table for table in every}
+    reader = argparse.ArgumentParser(description=__doc__, formatter_class=argparse.RawDescriptionHelpFormatter)
+    reader.add_argument("--program", default=f"{TOP}/crates/hdmi_cli/out/hdmi_cli")
+    reader.add_argument("tables", nargs="*", metavar="TABLE", help=", ".join(tables))
+    given = reader.parse_args(arguments)
+    program = os.path.abspath(given.program)
+    if not os.path.isfile(program):
+        sys.exit(f"{program}: there is no such program; `rt ci` and `./vabgrot` build it")
+    failed = passed = 0
+    for table in given.tables or [name for name in tables if name != "long"]:
+        start, before = time.monotonic(), passed
+        for name, came, wanted in tables[table](program):
+            if came == wanted:
+                passed += 1
+            else:
+                failed += 1
+                print(f"{table}: {name}: {came!r:.500} came, {wanted!r:.500} is wanted")
+        print(f"{table}: {passed - before} passed in {time.monotonic() - start:.1f} s", flush=True)
+    print(f"{passed} passed, {failed} failed")
+    return 1 if failed else 0
+
+
+if __name__ == "__main__":
+    sys.exit(main(sys.argv[1:]))

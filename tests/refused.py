@@ -1,0 +1,97 @@
+#!/usr/bin/env python3
+"""Runs each command of the built program while one request of it is refused: each request of memory in turn, each thread,
+each read and each write, the last two also where a call moves one byte or seven at most.
+
+    tests/refused.py [PROGRAM]      PROGRAM is crates/hdmi_cli/out/hdmi_cli by default, which `rt ci` and `./vabgrot` build
+
+tests/refuse.c, which is built by `cc` and preloaded, refuses them; where there is no `cc`, nothing is tried. Wanted are
+status 6 with nothing written, or the answer of an undisturbed run, where memory is refused; that answer where no thread can
+be made; and status 4 or 5 with its note and a part of that answer where a read or a write fails. The last line is
+'N passed, M failed', its exit status 1 where a case failed."""
+import collections
+import os
+import shutil
+import subprocess
+import sys
+import tempfile
+
+from hostile import sources
+from program import TOP
+
+KINDS = ("memory", "read", "write", "thread")
+
+
+class Refusing:
+    """Runs of the program with the library that refuses."""
+
+    def __init__(self, program, folder):
+        self.program, self.told, self.library = program, os.path.join(folder, "told"), os.path.join(folder, "refuse.so")
+        words = ["cc", "-O1", "-shared", "-fPIC", "-o", self.library, f"{TOP}/tests/refuse.c", "-ldl"]
+        subprocess.run(words, check=True)
+
+    def run(self, words, source, kind="", at=0, on=False, piece=0):
+        """The status, the output and the notes where request `at` of a kind is refused (`on`: and each later one)."""
+        asked = {"KIND": kind, "AT": at, "ON": int(on), "PIECE": piece, "TOLD": self.told}
+        given = {**os.environ, "LD_PRELOAD": self.library, **{f"REFUSE_{name}": str(it) for name, it in asked.items()}}
+        ran = subprocess.run([self.program, *words], input=source, capture_output=True, timeout=60, env=given)
+        return ran.returncode, ran.stdout, ran.stderr
+
+    def counts(self):
+        """How many requests of each kind the last run made."""
+        with open(self.told) as told:
+            return dict(zip(KINDS, map(int, told.read().split())))
+
+
+def is_part(came, whole, status, note):
+    """Whether a run ended with a status and its note, and wrote a part of the output."""
+    return (came[0], came[2]) == (status, note) and whole[1].startswith(came[1])
+
+
+def of_command(it, words, source, counted):
+    """Each case of a command: its name, whether it went well, and what came."""
+    whole = it.run(words, source)
+    yield f"{words}", whole[0] in (0, 1) and whole[2] == b"", whole
+    counts = it.counts()
+    for on in (False, True):
+        for kind in ("memory", "thread"):
+            for at in range(1, counts[kind] + 1):
+                came = it.run(words, source, kind, at, on)
+                spared = kind == "memory" and came in ((6, b"", b"out of memory\n"), (6, b"", b""))
+                counted[kind, came[0], came[2]] += 1
+                yield f"{words}, {kind} {at}{' and on' * on}", came == whole or spared, came
+    for piece in (1, 7, 0):
+        yield f"{words} in pieces of {piece}", it.run(words, source, piece=piece) == whole, None
+        counts = it.counts()
+        for kind, status, note in (("read", 4, b"read failed\n"), ("write", 5, b"write failed\n")):
+            for at in range(1, counts[kind] + 1):
+                came = it.run(words, source, kind, at, False, piece)
+                counted[kind, came[0], came[2]] += 1
+                yield f"{words} in pieces of {piece}, {kind} {at}", is_part(came, whole, status, note), came
+
+
+def main(arguments):
+    program = os.path.abspath(arguments[0] if arguments else f"{TOP}/crates/hdmi_cli/out/hdmi_cli")
+    if not os.path.isfile(program):
+        sys.exit(f"{program}: there is no such program; `rt ci` and `./vabgrot` build it")
+    if shutil.which("cc") is None:
+        print("skipped, since there is no cc")
+        return 0
+    failed = passed = 0
+    with tempfile.TemporaryDirectory() as folder:
+        it = Refusing(program, folder)
+        for words, source in sources(program):
+            counted = collections.Counter()
+            for name, right, came in of_command(it, words, source, counted):
+                if right:
+                    passed += 1
+                else:
+                    failed += 1
+                    print(f"{name}: {came!r:.500} came")
+            for (kind, status, note), count in sorted(counted.items()):
+                print(f"{' '.join(words)}, {kind}: {count} with status {status} {note.decode().strip()}", flush=True)
+    print(f"{passed} passed, {failed} failed")
+    return 1 if failed else 0
+
+
+if __name__ == "__main__":
+    sys.exit(main(sys.argv[1:]))
