@@ -17,7 +17,7 @@ use Rattle.command_line.specs.Grammar.{Text, name_word, Piece, apart, joined, op
 use Rattle.command_line.specs.Forms.{option_id, operand_id, AreFound}
 use Rattle.command_line.specs.declared.options.OptionName.{OptionName}
 use Rattle.command_line.specs.declared.options.OptionName.TheVariants.{Offset, Skew, Bits, Version}
-use Rattle.command_line.proofs.Rows.{option_built, operand_built, found_option, found_operand, option_fits, operand_fits, given_told, nothing_found}
+use Rattle.command_line.proofs.FoundRows.{option_built, operand_built, found_option, found_operand, option_fits, operand_fits, given_told, nothing_found}
 use Rattle.command_line.proofs.Words.{long_text, long_told, plain_dashes, plain_long, plain_short, named_dashes, named_long, valued_dashes, valued_long}
 use Rattle.command_line.proofs.Turns.{leaf, option_named, IsForm, holding, walk_at, Turn, rest_turn, plain_turn, other_turn, place, waits_after, IsIdle, idle_after, value_turn, value_room, idle_turn, trailing_turn, waiting_turn, named_turn, valued_turn, unknown_turn}
 
