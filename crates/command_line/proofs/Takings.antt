@@ -205,10 +205,12 @@ rest_told name c many has f (word ∷ words) rows pending waiting options operan
     let v = value_turn name c many has f rows pending waiting true operands word room t in
     let told = turn_told name c _ word words _ _ v h in
     let next = rest_told name c many has f words (settled_rows c pending rows) (Some (operand_id, word ∷ [])) (waits_after many) options (operands ++ word ∷ [])
-    (finds_operand c many has f (settled_rows c pending rows) options operands word (finds told.0)) told.1 in
-    (told.0, subst (λ (end : Walk). AreFound (settled c end.held).rows options (operands ++ word ∷ words)) (sym (turn_last name c _ word words _ _ v))
-    (subst (λ (os : List Text). AreFound (settled c (last c (walk_at (settled_rows c pending rows) (Some (operand_id, word ∷ [])) (waits_after many) (place many (operands ++ word ∷ [])) true) words).held).rows options os)
-    (append_assoc operands (word ∷ []) words) next.1))
+    (finds_operand c many has f (settled_rows c pending rows) options operands word (finds told.0)) told.1 in (
+      told.0,
+      subst (λ (end : Walk). AreFound (settled c end.held).rows options (operands ++ word ∷ words)) (sym (turn_last name c _ word words _ _ v))
+          (subst (λ (os : List Text). AreFound (settled c (last c (walk_at (settled_rows c pending rows) (Some (operand_id, word ∷ [])) (waits_after many) (place many (operands ++ word ∷ [])) true) words).held).rows options os)
+          (append_assoc operands (word ∷ []) words) next.1),
+    )
 
 -- ---- before `--`
 
