@@ -12,7 +12,7 @@ use Rattle.command_line.specs.Grammar.{Text, name_word, Piece, apart, joined, op
 use Rattle.command_line.specs.Forms.{option_id, operand_id, all_values, AreFound}
 use Rattle.command_line.specs.declared.options.OptionName.{OptionName}
 use Rattle.command_line.proofs.GivenOptions.{values-append}
-use Rattle.command_line.proofs.Rows.{option_built, operand_built, is_itself, found_option, option_fits, operand_fits, given_told, nothing_found}
+use Rattle.command_line.proofs.FoundRows.{option_built, operand_built, is_itself, found_option, option_fits, operand_fits, given_told, nothing_found}
 use Rattle.command_line.proofs.Words.{plain_dashes, plain_long, plain_short, named_dashes, named_long, valued_dashes, valued_long}
 use Rattle.command_line.proofs.Turns.{IsForm, option_named, holding, walk_at, Turn, rest_turn, plain_turn, place, waits_after, IsIdle, idle_after, value_turn, idle_turn, trailing_turn, waiting_turn, named_turn, valued_turn}
 use Rattle.command_line.proofs.Takings.{total, last, end_fault, end_passes, or_else_both, turn_done, turn_last, settle_operand, settle_option, finds_operand, finds_option, Finds}

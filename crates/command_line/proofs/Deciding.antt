@@ -22,7 +22,7 @@ use Rattle.command_line.specs.declared.tap.TapWords.{TapWords}
 use Rattle.command_line.specs.declared.command.Command.{Command}
 use Rattle.command_line.specs.declared.command.Command.TheVariants.{MakeLink, MakeContent, RecoverLink, RecoverContent, Check, Damage, Sample}
 use Rattle.command_line.proofs.Triples.{digits_are}
-use Rattle.command_line.proofs.Rows.{option_built, is_itself, nothing_found}
+use Rattle.command_line.proofs.FoundRows.{option_built, is_itself, nothing_found}
 use Rattle.command_line.proofs.Turns.{leaf, IsForm, walk_at, place}
 use Rattle.command_line.proofs.Takings.{total, last, level_total, finished_rows, Took, taken}
 use Rattle.command_line.proofs.Accepting.{AreFew, Once, Accepts, pieces_found}

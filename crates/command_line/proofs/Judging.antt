@@ -21,7 +21,7 @@ use Rattle.command_line.specs.Forms.{operand_id, vabgrot, AreFound, HasOperands,
 use Rattle.command_line.specs.declared.options.OptionName.{OptionName}
 use Rattle.command_line.specs.declared.command.Command.{Command}
 use Rattle.command_line.proofs.Meanings.{apart}
-use Rattle.command_line.proofs.Rows.{operand_values}
+use Rattle.command_line.proofs.FoundRows.{operand_values}
 
 -- the answer is the command of a name, options and operands
 abbrev pub Judge : Option Command → Text → List (OptionName × Text) → List Text → Type 0

@@ -5,7 +5,7 @@ mod GivenOptions
 mod Taps
 mod Meanings
 pub mod Laws
-mod Rows
+mod FoundRows
 mod Words
 mod Turns
 mod Takings

@@ -16,7 +16,7 @@ use Rattle.command_line.specs.Grammar.{Text}
 use Rattle.command_line.specs.Forms.{option_id, operand_id, vabgrot}
 use Rattle.command_line.specs.declared.options.OptionName.{OptionName}
 use Rattle.command_line.specs.declared.options.OptionName.TheVariants.{Offset, Skew, Bits, Version}
-use Rattle.command_line.proofs.Rows.{option_built, operand_built}
+use Rattle.command_line.proofs.FoundRows.{option_built, operand_built}
 use Rattle.command_line.proofs.Turns.{leaf, option_named, IsForm, or_else_nil}
 
 -- ---- the arguments

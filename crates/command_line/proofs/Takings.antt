@@ -17,7 +17,7 @@ use Rattle.command_line.specs.Grammar.{Text, name_word, Piece, apart, joined, op
 use Rattle.command_line.specs.Forms.{option_id, operand_id, AreFound}
 use Rattle.command_line.specs.declared.options.OptionName.{OptionName}
 use Rattle.command_line.specs.declared.options.OptionName.TheVariants.{Offset, Skew, Bits, Version}
-use Rattle.command_line.proofs.Rows.{option_built, operand_built, found_option, found_operand, option_fits, operand_fits, given_told, nothing_found}
+use Rattle.command_line.proofs.FoundRows.{option_built, operand_built, found_option, found_operand, option_fits, operand_fits, given_told, nothing_found}
 use Rattle.command_line.proofs.Words.{long_text, long_told, plain_dashes, plain_long, plain_short, named_dashes, named_long, valued_dashes, valued_long}
 use Rattle.command_line.proofs.Turns.{leaf, option_named, IsForm, holding, walk_at, Turn, rest_turn, plain_turn, other_turn, place, waits_after, IsIdle, idle_after, value_turn, value_room, idle_turn, trailing_turn, waiting_turn, named_turn, valued_turn, unknown_turn}
 
@@ -205,10 +205,12 @@ rest_told name c many has f (word ∷ words) rows pending waiting options operan
     let v = value_turn name c many has f rows pending waiting true operands word room t in
     let told = turn_told name c _ word words _ _ v h in
     let next = rest_told name c many has f words (settled_rows c pending rows) (Some (operand_id, word ∷ [])) (waits_after many) options (operands ++ word ∷ [])
-    (finds_operand c many has f (settled_rows c pending rows) options operands word (finds told.0)) told.1 in
-    (told.0, subst (λ (end : Walk). AreFound (settled c end.held).rows options (operands ++ word ∷ words)) (sym (turn_last name c _ word words _ _ v))
-    (subst (λ (os : List Text). AreFound (settled c (last c (walk_at (settled_rows c pending rows) (Some (operand_id, word ∷ [])) (waits_after many) (place many (operands ++ word ∷ [])) true) words).held).rows options os)
-    (append_assoc operands (word ∷ []) words) next.1))
+    (finds_operand c many has f (settled_rows c pending rows) options operands word (finds told.0)) told.1 in (
+      told.0,
+      subst (λ (end : Walk). AreFound (settled c end.held).rows options (operands ++ word ∷ words)) (sym (turn_last name c _ word words _ _ v))
+          (subst (λ (os : List Text). AreFound (settled c (last c (walk_at (settled_rows c pending rows) (Some (operand_id, word ∷ [])) (waits_after many) (place many (operands ++ word ∷ [])) true) words).held).rows options os)
+          (append_assoc operands (word ∷ []) words) next.1),
+    )
 
 -- ---- before `--`
 

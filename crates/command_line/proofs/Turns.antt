@@ -16,7 +16,7 @@ use Rattle.command_line.specs.Grammar.{Text, name_word}
 use Rattle.command_line.specs.Forms.{option_id, operand_id}
 use Rattle.command_line.specs.declared.options.OptionName.{OptionName}
 use Rattle.command_line.specs.declared.options.OptionName.TheVariants.{Offset, Skew, Bits, Version}
-use Rattle.command_line.proofs.Rows.{same_id, option_built, operand_built}
+use Rattle.command_line.proofs.FoundRows.{same_id, option_built, operand_built}
 
 -- ---- a command
 

@@ -3,7 +3,7 @@ use Rattle.clap.specs.Words.{first_value, found_of, rows_of}
 use Rattle.clap.proofs.WalkLemmas.{first_value-rows}
 use Rattle.command_line.specs.Grammar.{listed}
 use Rattle.command_line.specs.Forms.{option_id}
-use Rattle.command_line.proofs.Rows.{option_value}
+use Rattle.command_line.proofs.FoundRows.{option_value}
 use Rattle.command_line.proofs.forms.option_text.Goals as goal
 
 pub returns : goal.returns
