@@ -43,7 +43,7 @@ mod trial;
 mod words;
 
 use lane_team::Open;
-use outside_io::{ReadSource, WriteSink};
+use outside_io::{ReadSource, WriteSink, write_all};
 pub use run::run;
 use std::env;
 use std::io::{self, ErrorKind};
@@ -63,11 +63,14 @@ fn words_of(rt: &(impl Env + AllocGlobal)) -> Result<Words, io::Error> {
 }
 
 /// Runs over standard input, output and error. Without memory for the words it ends with status 6 and
-/// writes nothing; a word that is no UTF-8 text is a wrong form, as no words are.
+/// its note; a word that is no UTF-8 text is a wrong form, as no words are.
 fn main(rt: HostRuntime) -> ExitCode {
     let words = match words_of(&rt) {
         Ok(words) => words,
-        Err(e) if e.kind() == ErrorKind::OutOfMemory => return ExitCode::from(6),
+        Err(e) if e.kind() == ErrorKind::OutOfMemory => {
+            let _ = write_all(&mut WriteSink::new(rt.stderr()), b"out of memory\n");
+            return ExitCode::from(6);
+        }
         Err(_) => Words::new(rt.alloc()),
     };
     let mut input = ReadSource::new(rt.stdin());
