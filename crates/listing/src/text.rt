@@ -76,7 +76,12 @@ fn next_line<S: Source, T: Teller>(
     };
     let line = lines.line();
     match piece {
-        Piece::Line => take_line(teller, line, place.line, place.bytes + line.len() as u64 + 1),
+        Piece::Line => take_line(
+            teller,
+            line,
+            place.line,
+            place.bytes + line.len() as u64 + 1,
+        ),
         Piece::Last => Err(unended(teller, line, place)),
         Piece::Long => Err(too_long(teller, line, place.line)),
     }
