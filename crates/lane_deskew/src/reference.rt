@@ -1,6 +1,6 @@
 //! The first full alignment of three whole rows and the columns from it on, found as their definitions
 //! say: what the tests compare a deskew with.
-ghost use Rattle.std.specs.Prelude.{ℕ, ◌≡◌, ◌<◌, ◌≤◌, ◌+◌, ◌*◌, ◌↔◌, IsTrue, MatchOption, IfSome, Some, None, length, slice_index};
+ghost use Rattle.std.specs.Prelude.{ℕ, ◌≡◌, ◌<◌, ◌≤◌, ◌+◌, ◌*◌, ◌^◌, ◌↔◌, IsTrue, MatchOption, IfSome, Some, None, length, slice_index};
 ghost use Rattle.tmds_word.specs.Bits.{window};
 ghost use Rattle.tmds_word.specs.Column.{column_of};
 ghost use Rattle.lane_align.specs.Lanes.{HasControl, IsRun, IsLock, IsEdge, IsNextEdge};
@@ -126,7 +126,8 @@ fn is_edge(row: &BitRow, lock: u32, e: u32) -> bool
 
 /// Whether twelve control words stand one behind another from a place on.
 fn has_run(row: &BitRow, p: u32) -> bool
-    requires { p + 120 ≤ length row.now }
+    requires within { p + 120 ≤ length row.now }
+    requires small { p + 120 < 2 ^ 32 }
     ensures { IsTrue result ↔ IsRun row.now p }
 {
     for k in 0..RUN {
