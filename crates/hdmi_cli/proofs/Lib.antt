@@ -4,5 +4,6 @@ pub mod Listings
 pub mod Heard
 pub mod OneCapture
 pub mod Headline
+pub mod Pictures
 pub mod Exact
 pub mod Hearings
