@@ -23,3 +23,4 @@ pub mod Contents
 pub mod Told
 pub mod PacketLines
 pub mod PictureLines
+pub mod Rasters

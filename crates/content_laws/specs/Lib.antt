@@ -2,3 +2,4 @@ pub mod Listed
 pub mod FrameLaws
 pub mod PacketLaws
 pub mod ListingLaws
+pub mod Rasters

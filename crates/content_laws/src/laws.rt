@@ -2,6 +2,7 @@
 ghost use Rattle.content_laws.specs.FrameLaws.{FramesComeBack, FramesHeard};
 ghost use Rattle.content_laws.specs.ListingLaws.{FrameLinesComeBack, PacketLinesAsSent, PacketLinesComeBack};
 ghost use Rattle.content_laws.specs.PacketLaws.{PacketsComeBack, OneWordAsSent, RasterPackets};
+ghost use Rattle.content_laws.specs.Rasters.{HasRaster};
 
 /// Of the account of a raster's columns exactly those frames are listed that count, each with the rows that came, and
 /// whole where the next sync lines, or the last columns, came: wherever damage lies.
@@ -42,4 +43,9 @@ pub fn packet_lines_as_sent()
 /// So are those of each told packet of conforming periods of which at most one word came unlike.
 pub fn packet_lines_come_back()
     ensures { PacketLinesComeBack }
+{}
+
+/// There is a raster that is not refused: a mode, and a frame with a row and a packet.
+pub fn has_raster()
+    ensures { HasRaster }
 {}

@@ -89,7 +89,7 @@ answered listing command ps sent received offset skews a blue green red d e f by
     }
 
 -- where no device failed and memory was had, something holds of the status and of what was written
-abbrev Unless : (ℕ → Option (List ℕ) → Option (List ℕ) → Type 0) → ℕ → Devices → Devices → Type 0
+abbrev pub Unless : (ℕ → Option (List ℕ) → Option (List ℕ) → Type 0) → ℕ → Devices → Devices → Type 0
 Unless P status before after =
     Rose before.input_faults after.input_faults ⊎ Rose before.output_faults after.output_faults ⊎ (status ≡ 6) ⊎ P status before.held after.held
 

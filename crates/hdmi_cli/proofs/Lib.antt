@@ -3,5 +3,6 @@ pub mod Answered
 pub mod Listings
 pub mod Heard
 pub mod Headline
+pub mod Pictures
 pub mod Exact
 pub mod Hearings

@@ -7,4 +7,5 @@ pub mod Outcome
 pub mod Endings
 pub mod Runs
 pub mod Headline
+pub mod Pictures
 pub mod Exact

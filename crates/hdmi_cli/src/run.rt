@@ -1,5 +1,5 @@
 //! The top call: the words decide what is done with the input.
-ghost use Rattle.std.specs.Prelude.{◌≡◌, ◌⊎◌, ◌+◌, ℕ, ◌<◌, ◌≤◌, Bool, true, List, [], ◌∷◌, take, All, Some, Contains};
+ghost use Rattle.std.specs.Prelude.{◌≡◌, ◌⊎◌, ◌+◌, ℕ, ◌<◌, ◌≤◌, Bool, true, List, [], ◌∷◌, take, All, Some, None, Contains};
 ghost use Rattle.std.specs.Io.KnownBytes.{Appends, IsAtEnd, Keeps};
 ghost use Rattle.outside_io.specs.Causes.{Rose};
 ghost use Rattle.tmds_word.specs.Column.{Column};
@@ -11,8 +11,13 @@ ghost use Rattle.island_pack.specs.Sparse.{IsSparseInPayload};
 ghost use Rattle.link_sink.specs.Laws.{AlignsUntil};
 ghost use Rattle.link_sink.specs.Pieces.{no_bits};
 ghost use Rattle.link_sink.specs.Streams.{StandsFor, most_bits};
+ghost use Rattle.source_end.specs.declared.mode.Mode.{Mode};
+ghost use Rattle.source_end.specs.Content.{Frame};
+ghost use Rattle.source_end.specs.Raster.{raster_of};
+ghost use Rattle.source_end.specs.RasterRefusals.{raster_fault};
 ghost use Rattle.hdmi_cli.specs.Commands.{IsCommand, tap_asked};
 ghost use Rattle.hdmi_cli.specs.Headline.{AreTapped, IsRecovered};
+ghost use Rattle.hdmi_cli.specs.Pictures.{ArePictures};
 ghost use Rattle.hdmi_cli.specs.Exact.{IsAlignedCapture, IsJudged};
 ghost use Rattle.hdmi_cli.specs.Listings.{link_listing, content_listing};
 ghost use Rattle.hdmi_cli.specs.Outcome.{Outcome, IsOutcome, NamesNone};
@@ -127,6 +132,30 @@ pub fn run<R: Threads, S: Source, K: Sink, N: Sink, G: Gate>(
         ⊎ (result ≡ 6)
         ⊎ ((d e f : ℕ) × IsFirst blue green red d e f
         × ((a : ℕ) × (a + 12 ≤ until) × IsRecovered content_listing ps sent received offset skews blue green red d e f a result (K.held output.old) (K.held output.new))) }
+
+    // Of a raster exactly the rows and frames that came are listed: for all modes and contents, every sparse damage, every tap.
+    ensures pictures { IsCommand words.now RecoverContent
+        → (mode : Mode) (frames : List Frame) → raster_fault mode frames ≡ None
+        → (sent received : List Column) (offset : ℕ) (skews counts : List ℕ) (blue green red : List Bool) (bytes : List ℕ)
+        → AreTapped (raster_of mode frames) sent received offset skews counts blue green red bytes
+        → (until : ℕ) → AlignsUntil (raster_of mode frames) sent received offset skews counts until
+        → S.left input.old ≡ Some bytes
+        → Rose (S.faults input.old) (S.faults input.new)
+        ⊎ Rose (K.faults output.old) (K.faults output.new)
+        ⊎ (result ≡ 6)
+        ⊎ ((d e f a : ℕ) × ArePictures mode frames sent received offset skews blue green red d e f a (K.held output.old) (K.held output.new)) }
+
+    // And so for sparse damage of payload alone, from the first full alignment on.
+    ensures pictures_of_payload { IsCommand words.now RecoverContent
+        → (mode : Mode) (frames : List Frame) → raster_fault mode frames ≡ None
+        → (sent received : List Column) (offset : ℕ) (skews counts : List ℕ) (blue green red : List Bool) (bytes : List ℕ)
+        → AreTapped (raster_of mode frames) sent received offset skews counts blue green red bytes → IsSparseInPayload (raster_of mode frames) sent received
+        → (d e f : ℕ) → IsFirst blue green red d e f
+        → S.left input.old ≡ Some bytes
+        → Rose (S.faults input.old) (S.faults input.new)
+        ⊎ Rose (K.faults output.old) (K.faults output.new)
+        ⊎ (result ≡ 6)
+        ⊎ ((a : ℕ) × ArePictures mode frames sent received offset skews blue green red d e f a (K.held output.old) (K.held output.new)) }
 
     // `check` of a capture with a first full alignment ends with `clean`, and the status is 0, where some conforming sender
     // could have sent the aligned columns before the cut, and with `faulty`, and it is 1, where none could.

@@ -1,0 +1,31 @@
+-- There is a raster that is not refused.
+use Rattle.std.proofs.Common.{◌≡◌, true, [], ◌∷◌, replicate, refl}
+use Rattle.std.specs.Prelude.{None}
+use Rattle.island_pack.specs.declared.packet.Packet.{Packet}
+use Rattle.source_end.specs.declared.mode.Mode.{Mode}
+use Rattle.source_end.specs.Content.{Frame}
+use Rattle.source_end.specs.Raster.{lines_of}
+use Rattle.source_end.specs.RasterRefusals.{raster_fault}
+use Rattle.content_laws.specs.Rasters.{IsRastered, HasRaster}
+
+-- A raster: one pixel, and room for a packet in each line without a row.
+
+mode : Mode
+mode = record { across = 1 ∷ 1 ∷ 1 ∷ 45 ∷ []; down = 1 ∷ 1 ∷ 1 ∷ 1 ∷ []; positive = true }
+
+packet : Packet
+packet = record { header = replicate 3 0; bodies = replicate 28 0; sync = [] }
+
+frame : Frame
+frame = record { packets = packet ∷ []; rows = (0 ∷ 128 ∷ 255 ∷ []) ∷ [] }
+
+taken : raster_fault mode (frame ∷ []) ≡ None
+unfolding raster_fault lines_of mode packet frame
+taken = refl
+
+is_rastered : IsRastered mode frame
+unfolding mode packet frame
+is_rastered = record { taken = taken; content = refl; row = (0 ∷ 128 ∷ 255 ∷ [], refl); packet = (packet, refl) }
+
+pub has_raster : HasRaster
+has_raster = (mode, frame, is_rastered)
