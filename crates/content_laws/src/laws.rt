@@ -2,7 +2,7 @@
 ghost use Rattle.content_laws.specs.FrameLaws.{FramesComeBack, FramesHeard};
 ghost use Rattle.content_laws.specs.ListingLaws.{FrameLinesComeBack, PacketLinesAsSent, PacketLinesComeBack};
 ghost use Rattle.content_laws.specs.PacketLaws.{PacketsComeBack, OneWordAsSent, RasterPackets};
-ghost use Rattle.content_laws.specs.Rasters.{HasRaster};
+ghost use Rattle.content_laws.specs.Rasters.{RastersCome, HasRaster};
 
 /// Of the account of a raster's columns exactly those frames are listed that count, each with the rows that came, and
 /// whole where the next sync lines, or the last columns, came: wherever damage lies.
@@ -45,7 +45,12 @@ pub fn packet_lines_come_back()
     ensures { PacketLinesComeBack }
 {}
 
-/// There is a raster that is not refused: a mode, and a frame with a row and a packet.
+/// Columns that spell a raster that is not refused, and whose bytes are content, came of it with no damage.
+pub fn rasters_come()
+    ensures { RastersCome }
+{}
+
+/// There is such a raster: a mode, and a frame with a row and a packet.
 pub fn has_raster()
     ensures { HasRaster }
 {}
