@@ -1,9 +1,9 @@
 -- Edges of whole rows: where one is, and the next of each lane.
-use Rattle.std.proofs.Common.{◌≡◌, ℕ, ◌+◌, ◌-◌, ◌%◌, ◌≤◌, Bool, List, length, take, drop, ap, subst, ◌∙◌, refl, arith, inl, inr}
+use Rattle.std.proofs.Common.{◌≡◌, ℕ, ◌+◌, ◌-◌, ◌%◌, ◌≤◌, Bool, List, length, take, drop, subst, refl, arith, inl, inr}
 use Rattle.std.proofs.lemmas.Bool.{cases_lt}
 use Rattle.tmds_word.specs.Bits.{number}
 use Rattle.lane_align.specs.Lanes.{HasControl, IsRun, IsLock, IsEdge, IsNextEdge}
-use Rattle.lane_align.proofs.Controls.{one_lock, window_here, other_word}
+use Rattle.lane_align.proofs.Controls.{window_here, other_word}
 use Rattle.lane_deskew.specs.Candidates.{AreReached}
 use Rattle.lane_deskew.specs.Triples.{IsFirst}
 
@@ -20,13 +20,6 @@ edge_here xs lock e is past aligned within run not = record {
   here = window_here xs e _ (λ short. omega arith) refl;
   no_control = other_word xs e within not;
 }
-
--- where an edge lies from the lock
-pub edge_lies : (xs : List Bool) (lock e : ℕ) → IsLock xs lock → IsEdge xs e → (lock + 120 ≤ e) × (e % 10 ≡ lock % 10)
-edge_lies xs lock e is edge =
-    let same = one_lock xs edge.lock lock edge.is_lock is in
-    let past = edge.past in
-    (omega arith, edge.aligned ∙ ap (λ n. n % 10) same)
 
 -- each edge from a place on lies at the next or past it
 pub next_least : (xs : List Bool) (from n p : ℕ) → IsNextEdge xs from n → from ≤ p → IsEdge xs p → n ≤ p
