@@ -1,5 +1,5 @@
 -- The rows and frames that `recover content` lists of a raster are those that came.
-use Rattle.std.proofs.Common.{◌≡◌, ◌≤◌, ◌<◌, ◌⊎◌, ℕ, ◌+◌, ◌-◌, Bool, List, length, map, take, drop, min, ap, sym, ◌∙◌, inl, inr, arith}
+use Rattle.std.proofs.Common.{◌≡◌, ◌≤◌, ◌<◌, ℕ, ◌+◌, Bool, List, length, take, drop, min, ap, sym, ◌∙◌, inl, inr, arith}
 use Rattle.std.specs.Prelude.{Option, Some, None}
 use Rattle.std.specs.List.{filter}
 use Rattle.std.proofs.lemmas.Bool.{cases_lt}
@@ -13,7 +13,7 @@ use Rattle.island_pack.specs.Sparse.{IsSparseInPayload}
 use Rattle.period_grammar.specs.Things.{Thing}
 use Rattle.period_grammar.specs.Heard.{heard}
 use Rattle.link_sink.specs.Account.{account}
-use Rattle.link_sink.specs.Laws.{CameOf, EndsControl, IsAccounted, AlignsUntil}
+use Rattle.link_sink.specs.Laws.{CameOf, IsAccounted, AlignsUntil}
 use Rattle.link_sink.proofs.Spelled.{fitting}
 use Rattle.link_sink.proofs.Lanes.{fitting_length}
 use Rattle.source_end.specs.declared.mode.Mode.{Mode}
@@ -21,8 +21,7 @@ use Rattle.source_end.specs.Content.{Frame}
 use Rattle.source_end.specs.Raster.{raster_of}
 use Rattle.source_end.specs.RasterRefusals.{raster_fault}
 use Rattle.listing.specs.ContentText.{content_lines, content_text}
-use Rattle.content_laws.specs.FrameLaws.{frames_came}
-use Rattle.content_laws.specs.ListingLaws.{tells_picture, line_of}
+use Rattle.content_laws.specs.ListingLaws.{tells_picture}
 use Rattle.content_laws.proofs.PictureLines.{frame_lines_come_back}
 use Rattle.command_line.specs.declared.command.Command.TheVariants.{RecoverContent}
 use Rattle.hdmi_cli.specs.Listings.{content_listing}
