@@ -7,7 +7,7 @@ use Rattle.tmds_word.specs.Words.{columns_of}
 use Rattle.lane_deskew.proofs.Consuming.{columns_drop}
 use Rattle.period_grammar.specs.Things.{Thing, thing_of}
 use Rattle.period_grammar.specs.Heard.{heard_so_far}
-use Rattle.period_grammar.proofs.While.{columns_here}
+use Rattle.period_grammar.proofs.Pixels.{columns_here}
 use Rattle.link_sink.specs.Telling.{told_of, TookMore, StoppedIn}
 use Rattle.link_sink.proofs.Listed.{columns_within}
 use Rattle.link_sink.proofs.Stops.{stops_after}
