@@ -8,3 +8,4 @@ mod Parities
 mod Laid
 mod Law
 pub mod Spelled
+mod PacketRanges

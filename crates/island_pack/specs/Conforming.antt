@@ -5,13 +5,14 @@
 use Rattle.std.specs.Prelude.{ℕ, ◌/◌, ◌%◌, Bool, false, ◌==◌, ◌&&◌, List, [], ◌∷◌, length, nat_le, nat_lt, IsTrue}
 use Rattle.std.specs.List.{list_all}
 use Rattle.island_pack.specs.Periods.{ControlRun, SyncPair, DataIsland, Period, control, video, island, values_of, has_preamble, VIDEO_PREAMBLE, ISLAND_PREAMBLE}
+use Rattle.island_pack.specs.Ranges.{is_control_in_range, is_line_in_range, are_sync_values, is_island_in_range}
 use Rattle.island_pack.specs.declared.packet.Packet.{Packet}
 
 abbrev pub is_run : ControlRun → Bool
 is_run r = nat_lt r.value 64 && nat_le 1 r.count
 
 unfoldable pub is_control_period : List ControlRun → Bool
-is_control_period runs = list_all is_run runs && nat_le 12 (length (values_of runs))
+is_control_period runs = list_all is_run runs && is_control_in_range (length (values_of runs))
 
 abbrev pub are_bytes : List ℕ → Bool
 are_bytes bytes = list_all (λ b. nat_lt b 256) bytes
@@ -19,10 +20,10 @@ are_bytes bytes = list_all (λ b. nat_lt b 256) bytes
 -- one to 4,096 whole pixels
 unfoldable pub is_video_period : List ℕ → Bool
 is_video_period bytes =
-    are_bytes bytes && ((length bytes % 3 == 0) && (nat_le 1 (length bytes / 3) && nat_le (length bytes / 3) 4096))
+    are_bytes bytes && ((length bytes % 3 == 0) && is_line_in_range (length bytes / 3))
 
 abbrev pub is_sync_pair : SyncPair → Bool
-is_sync_pair pair = nat_lt pair.first 4 && nat_lt pair.second 4
+is_sync_pair pair = are_sync_values pair.first pair.second
 
 -- three header bytes, four bodies of seven bytes, and a sync value below 4 for each of 32 columns
 unfoldable pub is_packet : Packet → Bool
@@ -34,7 +35,7 @@ is_packet p =
 unfoldable pub is_data_island : DataIsland → Bool
 is_data_island x =
     (is_sync_pair x.opening && is_sync_pair x.closing)
-    && (list_all is_packet x.packets && (nat_le 1 (length x.packets) && nat_le (length x.packets) 18))
+    && (list_all is_packet x.packets && is_island_in_range (length x.packets))
 
 unfoldable pub conforms : List Period → Bool
 conforms (control runs ∷ []) = is_control_period runs

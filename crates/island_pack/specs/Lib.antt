@@ -4,6 +4,7 @@ pub mod Registers
 pub mod Taken
 pub mod Periods
 pub mod Runs
+pub mod Ranges
 pub mod Conforming
 pub mod Spelling
 pub mod Kinds

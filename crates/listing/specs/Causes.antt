@@ -2,6 +2,7 @@
 use Rattle.std.specs.Prelude.{ℕ, ◌+◌, Bool, true, false, ◌&&◌, not, List, length, nat_le, nat_lt, Option, Some, None}
 use Rattle.std.specs.List.{list_all}
 use Rattle.island_pack.specs.declared.packet.Packet.{Packet}
+use Rattle.island_pack.specs.Ranges.{is_run_in_range, are_sync_values, has_room as fits}
 use Rattle.island_pack.specs.Periods.{Period, control, video, values_of, has_preamble, ISLAND_PREAMBLE}
 use Rattle.source_end.specs.Refusals.{last_period, is_control_last, is_long_enough, is_in_range, push_fault, close_fault}
 use Rattle.source_end.specs.declared.items.ItemFault.{ItemFault}
@@ -28,9 +29,9 @@ abbrev pub unless : Bool → ListCause → Option ListCause → Option ListCause
 unless true cause rest = rest
 unless false cause rest = Some cause
 
--- so many columns more are no more than 20,000,000
+-- so many columns more are no more than a stream may have
 abbrev pub has_room : Draft → ℕ → Bool
-has_room draft columns = nat_le (draft_columns draft + columns) 20000000
+has_room draft columns = fits (draft_columns draft) columns
 
 -- no data island is being told
 abbrev pub is_closed : Option OpenIsland → Bool
@@ -42,10 +43,9 @@ abbrev pub has_packets : ℕ → ℕ → Option OpenIsland → Bool
 has_packets least most None = false
 has_packets least most (Some x) = nat_le least (length x.packets) && nat_le (length x.packets) most
 
--- values below 64 in one to 20,000,000 columns
 unfoldable pub run_cause : Draft → ℕ → ℕ → Option ListCause
 run_cause draft value count =
-    unless (nat_lt value 64 && (nat_le 1 count && nat_le count 20000000)) Range
+    unless (is_run_in_range value count) Range
     (unless (is_closed draft.opened) Order
     (unless (has_room draft count) Long
     None))
@@ -63,7 +63,7 @@ announces_island _ = false
 
 unfoldable pub island_cause : Draft → ℕ → ℕ → Option ListCause
 island_cause draft a b =
-    unless (nat_lt a 4 && nat_lt b 4) Range
+    unless (are_sync_values a b) Range
     (unless (is_closed draft.opened && is_control_last (last_period draft.periods)) Order
     (unless (is_long_enough (last_period draft.periods)) Control
     (unless (announces_island (last_period draft.periods)) Preamble
@@ -83,7 +83,7 @@ packet_cause draft p =
 
 unfoldable pub close_cause : Draft → ℕ → ℕ → Option ListCause
 close_cause draft a b =
-    unless (nat_lt a 4 && nat_lt b 4) Range
+    unless (are_sync_values a b) Range
     (unless (has_packets 1 18 draft.opened) Order
     (unless (has_room draft 2) Long
     None))

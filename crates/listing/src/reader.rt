@@ -15,17 +15,14 @@ use crate::ListCause;
 use crate::digits::{are_digits, put_bytes};
 use crate::form::{Form, read_form};
 use crate::teller::{Refusal, Taken, Teller};
-use island_pack::Packet;
+use island_pack::{
+    Packet, are_sync_values, is_control_in_range, is_island_in_range, is_line_in_range, is_packet_in_range,
+    is_run_in_range,
+};
 use outside_io::NoMemory;
 use source_end::{Island, Item, ItemFault, Items, Pixels, Run, Runs, Stream};
 use std::alloc::Global;
 use std::marker::Model;
-
-/// The most columns of a stream.
-const COLUMN_LIMIT: u32 = 20_000_000;
-
-/// The most packets of a data island.
-const PACKET_LIMIT: usize = 18;
 
 /// Takes lines. The control period whose `c` lines still come is kept apart from the items before it,
 /// until the line that ends the video data period or the data island behind it.
@@ -123,7 +120,7 @@ impl Reader {
     fn has_room(&self, columns: u32) -> bool
         ensures { result ≡ has_room self.now columns }
     {
-        columns <= COLUMN_LIMIT - self.columns
+        island_pack::has_room(self.columns, columns)
     }
 
     /// Whether no data island is being told.
@@ -138,7 +135,7 @@ impl Reader {
         ensures { result ≡ is_nineteenth self.now.opened }
     {
         match &self.island {
-            Some(island) => island.len() >= PACKET_LIMIT,
+            Some(island) => !is_island_in_range(island.len() + 1),
             None => false,
         }
     }
@@ -171,7 +168,7 @@ impl Reader {
     fn is_long_enough(&self) -> bool
         ensures { result ≡ is_long_enough (last_period self.now.periods) }
     {
-        self.runs.columns() >= 12
+        is_control_in_range(self.runs.columns())
     }
 
     /// Whether it ends with the preamble of a data island.
@@ -435,43 +432,12 @@ fn with_island(items: Items, added: Island) -> Result<Items, NoMemory>
     }
 }
 
-/// Whether a control value and a number of columns are in their ranges.
-fn is_run_in_range(value: u8, count: u64) -> bool
-    ensures { result ≡ (nat_lt value 64 && (nat_le 1 count && nat_le count 20000000)) }
-{
-    value < 64 && (count >= 1 && count <= 20_000_000)
-}
-
-/// Whether two sync values are below 4.
-fn are_sync_values(values: &[u8; 2]) -> bool
-    ensures { result ≡ (nat_lt (slice_index values.now 0) 4 && nat_lt (slice_index values.now 1) 4) }
-{
-    values[0] < 4 && values[1] < 4
-}
-
-/// Whether the sync values of a packet are below 4.
-fn is_packet_in_range(packet: &Packet) -> bool
-    ensures answer { result ≡ list_all (λ v. nat_lt v 4) packet.now.sync }
-    ensures packet { result ≡ is_packet packet.now }
-{
-    are_parts_in_range(&packet.header, &packet.bodies, &packet.sync)
-}
-
-/// Whether sync values are below 4; a header and bodies are bytes whatever they are.
-fn are_parts_in_range(_header: &[u8; 3], _bodies: &[u8; 28], sync: &[u8; 32]) -> bool
-    ensures answer { result ≡ list_all (λ value. nat_lt value 4) sync.now }
-    ensures header { All (λ byte. byte < 256) _header.now }
-    ensures bodies { All (λ byte. byte < 256) _bodies.now }
-{
-    sync.iter().all(|value| *value < 4)
-}
-
 /// Whether a video data period may have so many pixels.
 #[tactic(auto, unfolding(source_end::specs::Refusals::is_in_range))]
 fn are_pixels_in_range(pixels: &Pixels) -> bool
     ensures { result ≡ is_in_range (video pixels.now) }
 {
-    pixels.len() >= 1 && pixels.len() <= 4096
+    is_line_in_range(pixels.len())
 }
 
 /// The pixels of hexadecimal digits. A byte that is no digit is a fault of the line's form.

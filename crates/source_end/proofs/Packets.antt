@@ -36,18 +36,6 @@ SpellsPackets-append first now (q ∷ ps) qs columns more e h k =
 pub SpellsPackets-more : (first now : Bool) (ps : List Packet) (p : Packet) (columns own : List Column) → now ≡ (first && (length ps == 0)) → SpellsPackets first ps columns → Carries p now (map words_of own) → SpellsPackets first (ps ++ p ∷ []) (columns ++ own)
 SpellsPackets-more first now ps p columns own e h k = SpellsPackets-append first now ps (p ∷ []) columns own e h (own, [], sym (append-nil own), k, refl)
 
--- What a packet's types give.
-all_bytes : (bytes : List ℕ) → All (λ byte. byte < 256) bytes → are_bytes bytes ≡ true
-all_bytes [] h = refl
-all_bytes (b ∷ bytes) h = ap₂ (λ a c. a && c) (lt-ltb b 256 (h 0 0 (omega arith))) (all_bytes bytes (λ k d lt. h (suc k) d (omega arith)))
-
-pub packet_is : (p : Packet) (v : Bool) → length p.header ≡ 3 → All (λ byte. byte < 256) p.header → length p.bodies ≡ 28 → All (λ byte. byte < 256) p.bodies → length p.sync ≡ 32 → v ≡ list_all (λ value. nat_lt value 4) p.sync → v ≡ is_packet p
-unfolding is_packet
-packet_is p v header header_bytes bodies body_bytes sync e =
-    e ∙ sym (ap₂ (λ a b. a && b) (ap₂ (λ a b. a && b) (eq-eqb (length p.header) 3 header) (all_bytes p.header header_bytes))
-    (ap₂ (λ a b. a && b) (ap₂ (λ a b. a && b) (eq-eqb (length p.bodies) 28 bodies) (all_bytes p.bodies body_bytes))
-    (ap (λ a. a && list_all (λ value. nat_lt value 4) p.sync) (eq-eqb (length p.sync) 32 sync))))
-
 -- What a packet in its ranges has.
 pub packet_at : (packets : List Packet) (i : ℕ) (d : Packet) → list_all is_packet packets ≡ true → i < length packets → is_packet (get_or packets i d) ≡ true
 packet_at [] i d h lt = absurd (omega arith)

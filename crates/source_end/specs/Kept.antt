@@ -3,6 +3,7 @@ use Rattle.std.specs.Prelude.{ℕ, ◌-◌, ◌^◌, ◌%◌, Bool, true, false,
 use Rattle.std.specs.List.{list_all, prefix_len}
 use Rattle.island_pack.specs.Periods.{ControlRun, Period, control, video, island, values_of, ctl, has_preamble, VIDEO_PREAMBLE, ISLAND_PREAMBLE}
 use Rattle.island_pack.specs.Conforming.{is_run, is_control_period, is_video_period, is_data_island}
+use Rattle.island_pack.specs.Ranges.{is_run_in_range as is_run_size}
 
 -- a count that stands still at the greatest u32
 abbrev pub capped : ℕ → ℕ
@@ -10,7 +11,7 @@ capped n = min n (2 ^ 32 - 1)
 
 -- a value and a count that an item may have
 unfoldable pub is_run_in_range : ControlRun → Bool
-is_run_in_range r = nat_lt r.value 64 && (nat_le 1 r.count && nat_le r.count 20000000)
+is_run_in_range r = is_run_size r.value r.count
 
 -- bytes, three to a pixel
 abbrev pub are_pixels : List ℕ → Bool

@@ -1,5 +1,6 @@
 -- Why there is no raster: the first cause, over the whole content, decides.
 use Rattle.std.specs.Prelude.{◌≡◌, Result, Ok, Err, ℕ, suc, zero, ◌+◌, ◌*◌, Bool, ◌==◌, ◌&&◌, cond, List, [], ◌∷◌, length, nat_le, Option, Some, None}
+use Rattle.island_pack.specs.Ranges.{has_room}
 use Rattle.source_end.specs.declared.mode.Mode.{Mode}
 use Rattle.source_end.specs.declared.refusal.RasterFault.{RasterFault}
 use Rattle.source_end.specs.declared.refusal.RasterFault.TheVariants.{BadMode, Row, NoRoom, Long, NoMemory}
@@ -48,7 +49,7 @@ no_room mode f (frame ∷ frames) =
     (Some (NoRoom f (room_of mode (lines_of mode frame))))
 
 abbrev pub too_long : Mode → List Frame → Option RasterFault
-too_long mode frames = cond (nat_le (length frames * (total mode.across * total mode.down) + 32) 20000000) None (Some Long)
+too_long mode frames = cond (has_room (length frames * (total mode.across * total mode.down)) 32) None (Some Long)
 
 unfoldable pub raster_fault : Mode → List Frame → Option RasterFault
 raster_fault mode frames =

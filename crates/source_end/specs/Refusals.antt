@@ -3,6 +3,7 @@ use Rattle.std.specs.Prelude.{◌≡◌, ◌+◌, ◌/◌, Bool, true, false, �
 use Rattle.std.specs.List.{list_all}
 use Rattle.island_pack.specs.Periods.{Period, control, video, island, values_of, has_preamble, VIDEO_PREAMBLE, ISLAND_PREAMBLE, period_columns, columns_of}
 use Rattle.island_pack.specs.Conforming.{is_data_island}
+use Rattle.island_pack.specs.Ranges.{is_run_in_range, is_line_in_range, is_control_in_range, has_room}
 use Rattle.source_end.specs.declared.items.ItemFault.{ItemFault}
 use Rattle.source_end.specs.declared.items.ItemFault.TheVariants.{Range, Order, Control, Preamble, Long, NoMemory}
 
@@ -11,10 +12,10 @@ last_period [] = None
 last_period (p ∷ []) = Some p
 last_period (p ∷ (q ∷ ps)) = last_period (q ∷ ps)
 
--- values below 64 in one to 20,000,000 columns, one to 4,096 pixels, one to 18 packets with sync values below 4
+-- whether the runs, the pixels or the packets are such as a period may have
 unfoldable pub is_in_range : Period → Bool
-is_in_range (control runs) = list_all (λ r. nat_lt r.value 64 && (nat_le 1 r.count && nat_le r.count 20000000)) runs
-is_in_range (video bytes) = nat_le 1 (length bytes / 3) && nat_le (length bytes / 3) 4096
+is_in_range (control runs) = list_all (λ r. is_run_in_range r.value r.count) runs
+is_in_range (video bytes) = is_line_in_range (length bytes / 3)
 is_in_range (island x) = is_data_island x
 
 -- control and other periods take turns, a control period first
@@ -34,7 +35,7 @@ is_in_order (Some (island before)) (island x) = false
 
 -- a control period of at least twelve columns stands before another period
 abbrev pub is_long_enough : Option Period → Bool
-is_long_enough (Some (control runs)) = nat_le 12 (length (values_of runs))
+is_long_enough (Some (control runs)) = is_control_in_range (length (values_of runs))
 is_long_enough _ = false
 
 abbrev pub has_control : Option Period → Period → Bool
@@ -60,7 +61,7 @@ push_fault periods p =
     (unless (is_in_order (last_period periods) p) Order
     (unless (has_control (last_period periods) p) Control
     (unless (is_announced (last_period periods) p) Preamble
-    (unless (nat_le (columns_of periods + period_columns p) 20000000) Long
+    (unless (has_room (columns_of periods) (period_columns p)) Long
     None))))
 
 abbrev pub is_control_last : Option Period → Bool

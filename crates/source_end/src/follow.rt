@@ -7,6 +7,7 @@ ghost use Rattle.source_end.specs.Kept.{capped, has_pixels, is_run_in_range};
 ghost use Rattle.source_end.specs.Refusals.{last_period, is_in_range, is_in_order, has_control, is_announced, is_control_last, is_long_enough};
 
 use crate::{Item, Run};
+use island_pack::{is_control_in_range, is_line_in_range};
 
 /// Whether values and counts are in their ranges.
 pub(crate) fn is_in_range(item: &Item) -> bool
@@ -15,7 +16,7 @@ pub(crate) fn is_in_range(item: &Item) -> bool
 {
     match item {
         Item::Control(runs) => are_in_range(runs.as_slice()),
-        Item::Video(pixels) => pixels.len() >= 1 && pixels.len() <= 4096,
+        Item::Video(pixels) => is_line_in_range(pixels.len()),
         Item::Island(island) => island.is_in_range(),
     }
 }
@@ -81,7 +82,7 @@ pub(crate) fn is_long_enough(items: &[Item]) -> bool
     ensures { result ≡ is_long_enough (last_period (map period_of items.now)) }
 {
     match items.last() {
-        Some(Item::Control(runs)) => runs.columns() >= 12,
+        Some(Item::Control(runs)) => is_control_in_range(runs.columns()),
         Some(Item::Video(_)) => false,
         Some(Item::Island(_)) => false,
         None => false,

@@ -2,9 +2,10 @@
 ghost use Rattle.std.specs.Prelude.{◌≡◌, ℕ, ◌↔◌, ◌++◌, ◌∷◌, [], List, IsTrue, OnOk, OnErr, length, ◌&&◌, ◌<◌, nat_le, nat_lt, All};
 ghost use Rattle.std.specs.List.{list_all};
 ghost use Rattle.island_pack.specs.Conforming.{is_sync_pair, is_packet, is_data_island};
+ghost use Rattle.island_pack.specs.Ranges.{is_island_in_range};
 ghost use Rattle.source_end.specs.Pairs.{pair_of};
 
-use island_pack::Packet;
+use island_pack::{Packet, are_sync_values, is_island_in_range, is_packet_in_range};
 use outside_io::NoMemory;
 use std::alloc::Global;
 use std::marker::Model;
@@ -118,39 +119,16 @@ impl Island {
 
     /// Whether the sync values of the packets are below 4, and there are 1 to 18 packets.
     fn are_packets_in_range(&self) -> bool
-        ensures { result ≡ (list_all is_packet self.now.packets && (nat_le 1 (length self.now.packets) && nat_le (length self.now.packets) 18)) }
+        ensures { result ≡ (list_all is_packet self.now.packets && is_island_in_range (length self.now.packets)) }
     {
         are_in_range(self.packets.as_slice())
-            && (self.packets.len() >= 1 && self.packets.len() <= 18)
+            && is_island_in_range(self.packets.len())
     }
-}
-
-/// Whether two sync values are below 4.
-fn are_sync_values(values: &[u8; 2]) -> bool
-    ensures { result ≡ is_sync_pair (pair_of values.now) }
-{
-    values[0] < 4 && values[1] < 4
 }
 
 /// Whether the sync values of each packet are below 4.
 fn are_in_range(packets: &[Packet]) -> bool
     ensures { result ≡ list_all is_packet packets.now }
 {
-    packets.iter().all(|packet| is_in_range(packet))
-}
-
-/// Whether the sync values of a packet are below 4.
-fn is_in_range(packet: &Packet) -> bool
-    ensures { result ≡ is_packet packet.now }
-{
-    are_parts_in_range(&packet.header, &packet.bodies, &packet.sync)
-}
-
-/// Whether sync values are below 4; a header and bodies are bytes whatever they are.
-fn are_parts_in_range(_header: &[u8; 3], _bodies: &[u8; 28], sync: &[u8; 32]) -> bool
-    ensures answer { result ≡ list_all (λ value. nat_lt value 4) sync.now }
-    ensures header { All (λ byte. byte < 256) _header.now }
-    ensures bodies { All (λ byte. byte < 256) _bodies.now }
-{
-    sync.iter().all(|value| *value < 4)
+    packets.iter().all(|packet| is_packet_in_range(packet))
 }

@@ -4,6 +4,7 @@ ghost use Rattle.island_pack.specs.Periods.{ControlRun, values_of, has_preamble,
 ghost use Rattle.source_end.specs.Kept.{capped, led_by, is_run_in_range, are_pixels};
 
 use crate::Island;
+use island_pack::is_run_in_range;
 use outside_io::NoMemory;
 use std::alloc::Global;
 use std::marker::Model;
@@ -39,7 +40,7 @@ impl Run {
     pub(crate) fn is_in_range(&self) -> bool
         ensures { result ≡ is_run_in_range self.now }
     {
-        self.value < 64 && (self.count >= 1 && self.count <= 20_000_000)
+        is_run_in_range(self.value, u64::from(self.count))
     }
 
     /// CTL0 to CTL3 of its columns.

@@ -6,6 +6,7 @@ use crate::follow::{
     is_long_enough,
 };
 use crate::{Item, Stream};
+use island_pack::has_room;
 use outside_io::NoMemory;
 use std::alloc::Global;
 use std::marker::Model;
@@ -102,7 +103,7 @@ impl Items {
             return Err(ItemFault::Preamble);
         }
         let columns = columns_of(&item);
-        if columns > 20_000_000 - self.columns {
+        if !has_room(self.columns, columns) {
             return Err(ItemFault::Long);
         }
         match self.list.push(item) {

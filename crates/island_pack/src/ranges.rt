@@ -1,0 +1,68 @@
+//! The sizes that the periods of a link may have (HDMI 1.4, sections 5.1.2, 5.2.1.2 and 5.2.3).
+ghost use Rattle.std.specs.Prelude.{◌≡◌, ◌<◌, ◌≤◌, All, nat_lt, slice_index};
+ghost use Rattle.std.specs.List.{list_all};
+ghost use Rattle.island_pack.specs.Conforming.{is_packet};
+ghost use Rattle.island_pack.specs.Ranges.{is_run_in_range, is_control_in_range, is_line_in_range, are_sync_values, is_island_in_range, has_room};
+
+use crate::Packet;
+
+/// Whether control columns may have this value, and so many columns one value after another: a value below 64 in 1 to
+/// 20,000,000 columns.
+pub fn is_run_in_range(value: u8, count: u64) -> bool
+    ensures { result ≡ is_run_in_range value count }
+{
+    value < 64 && (count >= 1 && count <= 20_000_000)
+}
+
+/// Whether a control period may have so many columns: 12 at least.
+pub fn is_control_in_range(columns: u32) -> bool
+    ensures { result ≡ is_control_in_range columns }
+{
+    columns >= 12
+}
+
+/// Whether a video data period may have so many pixels: 1 to 4,096.
+pub fn is_line_in_range(pixels: usize) -> bool
+    ensures { result ≡ is_line_in_range pixels }
+{
+    pixels >= 1 && pixels <= 4096
+}
+
+/// Whether the sync values of two guard columns, HSYNC plus twice VSYNC, are below 4.
+pub fn are_sync_values(values: &[u8; 2]) -> bool
+    ensures { result ≡ are_sync_values (slice_index values.now 0) (slice_index values.now 1) }
+{
+    values[0] < 4 && values[1] < 4
+}
+
+/// Whether a data island may have so many packets: 1 to 18.
+pub fn is_island_in_range(packets: usize) -> bool
+    ensures { result ≡ is_island_in_range packets }
+{
+    packets >= 1 && packets <= 18
+}
+
+/// Whether a stream of so many columns, 20,000,000 at most, may have so many more.
+pub fn has_room(columns: u32, more: u32) -> bool
+    requires { columns ≤ 20000000 }
+    ensures { result ≡ has_room columns more }
+{
+    more <= 20_000_000 - columns
+}
+
+/// Whether the sync values of a packet are below 4.
+pub fn is_packet_in_range(packet: &Packet) -> bool
+    ensures answer { result ≡ list_all (λ v. nat_lt v 4) packet.now.sync }
+    ensures packet { result ≡ is_packet packet.now }
+{
+    are_parts_in_range(&packet.header, &packet.bodies, &packet.sync)
+}
+
+/// Whether sync values are below 4; a header and bodies are bytes whatever they are.
+fn are_parts_in_range(_header: &[u8; 3], _bodies: &[u8; 28], sync: &[u8; 32]) -> bool
+    ensures answer { result ≡ list_all (λ value. nat_lt value 4) sync.now }
+    ensures header { All (λ byte. byte < 256) _header.now }
+    ensures bodies { All (λ byte. byte < 256) _bodies.now }
+{
+    sync.iter().all(|value| *value < 4)
+}
