@@ -13,7 +13,7 @@ use Rattle.island_pack.specs.Runs.{join}
 use Rattle.island_pack.proofs.Runs.{join_values}
 use Rattle.island_pack.specs.declared.packet.Packet.{Packet}
 use Rattle.period_grammar.specs.Things.{Thing, preamble, cut, symbols, guard, all_at, thing_of}
-use Rattle.period_grammar.specs.Packets.{verdicts_of}
+use Rattle.island_pack.specs.Repaired.{verdicts_of}
 use Rattle.period_grammar.specs.Column.{value_of}
 use Rattle.period_grammar.specs.Cut.{Run, columns, in_front, value, before_runs, runs as runs_of}
 use Rattle.period_grammar.specs.Island.{if_so, block_fault, block_faults, wrong_guards}

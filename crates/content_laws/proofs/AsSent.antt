@@ -12,8 +12,8 @@ use Rattle.island_pack.specs.Packets.{CarriesFreely, body_of}
 use Rattle.island_pack.specs.Spelling.{words_of}
 use Rattle.island_pack.specs.Taken.{verdict_on}
 use Rattle.island_pack.specs.declared.packet.Packet.{Packet}
-use Rattle.period_grammar.specs.Packets.{packet_of, verdict_of, verdicts_in, verdicts_of}
-use Rattle.period_grammar.proofs.Taking.{verdict_is}
+use Rattle.island_pack.specs.Repaired.{packet_of, verdict_of, verdicts_in, verdicts_of}
+use Rattle.island_pack.proofs.Repaired.{verdict_is}
 use Rattle.link_sink.specs.Account.{damage, sync_row, packet_row}
 use Rattle.link_sink.specs.Laws.{wrong_bits}
 use Rattle.link_sink.proofs.WrongBits.{header_wrong, body_wrong, same_or_flipped}

@@ -12,7 +12,7 @@ use Rattle.island_pack.specs.Spelling.{words_of, guard_columns}
 use Rattle.island_pack.specs.Taken.{verdict_on, spotless}
 use Rattle.island_pack.specs.declared.packet.Packet.{Packet}
 use Rattle.island_pack.specs.declared.packet.PacketVerdicts.{PacketVerdicts}
-use Rattle.period_grammar.specs.Packets.{verdicts_of}
+use Rattle.island_pack.specs.Repaired.{verdicts_of}
 use Rattle.infoframe.specs.Frames.{answer, frame_in, length_in, sum_of, kind_of, has_length, frame_of, first_lost as first_lost_block}
 use Rattle.infoframe.specs.Frames as info
 use Rattle.audio_packets.specs.Clock.{are_alike, clock_in}

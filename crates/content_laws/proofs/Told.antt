@@ -12,7 +12,7 @@ use Rattle.island_pack.specs.Periods.{ControlRun, DataIsland, Period, control, v
 use Rattle.island_pack.specs.Kinds.{EndsAt, kinds_of}
 use Rattle.island_pack.specs.declared.packet.Packet.{Packet}
 use Rattle.period_grammar.specs.Things.{Thing, preamble, cut, symbols, guard, all_at, thing_of}
-use Rattle.period_grammar.specs.Packets.{verdicts_of}
+use Rattle.island_pack.specs.Repaired.{verdicts_of}
 use Rattle.period_grammar.specs.Cut.{Run, columns, runs as runs_of}
 use Rattle.period_grammar.specs.Island.{if_so, block_fault, block_faults, wrong_guards}
 use Rattle.period_grammar.specs.Coding.{first_uncoded}

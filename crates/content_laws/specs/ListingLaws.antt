@@ -8,7 +8,7 @@ use Rattle.island_pack.specs.Spelling.{words_of}
 use Rattle.island_pack.specs.Packets.{Carries}
 use Rattle.island_pack.specs.Taken.{spotless}
 use Rattle.island_pack.specs.declared.packet.Packet.{Packet}
-use Rattle.period_grammar.specs.Packets.{verdicts_of}
+use Rattle.island_pack.specs.Repaired.{verdicts_of}
 use Rattle.period_grammar.specs.Heard.{heard}
 use Rattle.link_sink.specs.Account.{damage, packet_row}
 use Rattle.link_sink.specs.Laws.{CameOf, EndsControl}

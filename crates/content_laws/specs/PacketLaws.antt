@@ -9,7 +9,7 @@ use Rattle.island_pack.specs.Taken.{verdict_on}
 use Rattle.island_pack.specs.declared.packet.Packet.{Packet}
 use Rattle.island_pack.specs.declared.packet.PacketVerdicts.{PacketVerdicts}
 use Rattle.period_grammar.specs.Things.{Thing, packet}
-use Rattle.period_grammar.specs.Packets.{verdicts_of}
+use Rattle.island_pack.specs.Repaired.{verdicts_of}
 use Rattle.link_sink.specs.Account.{damage, packet_row, account}
 use Rattle.link_sink.specs.Laws.{CameOf, EndsControl}
 use Rattle.source_end.specs.declared.mode.Mode.{Mode}

@@ -9,3 +9,5 @@ mod Laid
 mod Law
 pub mod Spelled
 mod PacketRanges
+pub mod Repaired
+mod RepairedBlocks

@@ -7,6 +7,7 @@ pub mod Runs
 pub mod Ranges
 pub mod Conforming
 pub mod Spelling
+pub mod Repaired
 pub mod Kinds
 pub mod Sparse
 pub mod Laws

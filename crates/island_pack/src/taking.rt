@@ -6,6 +6,7 @@ ghost use Rattle.bch_block.specs.Bits.{bit, byte_bits, bits_of};
 ghost use Rattle.island_pack.specs.Nibbles.{nibbles_of, by_turns, foreign_on};
 ghost use Rattle.island_pack.specs.Registers.{spread_of};
 ghost use Rattle.island_pack.specs.Taken.{IsTaken, Taken};
+ghost use Rattle.island_pack.specs.Repaired.{packet_in, verdicts_in};
 
 use crate::packet::{Packet, PacketVerdicts};
 use bch_block::{Verdict, repair32, repair64};
@@ -30,6 +31,14 @@ struct Lane {
 /// Takes a packet from 32 columns: repairs each block's wrong bit, where one bit is wrong, and
 /// counts the words that are no TERC4 words, each of which gives the nibble 0.
 pub fn take(columns: &[[Word; 3]; 32]) -> (Packet, PacketVerdicts)
+    ensures packet { result.0 ≡ packet_in columns.now }
+    ensures verdicts { result.1 ≡ verdicts_in columns.now }
+{
+    taken(columns)
+}
+
+/// The packet, lane by lane.
+fn taken(columns: &[[Word; 3]; 32]) -> (Packet, PacketVerdicts)
     ensures { Taken columns.now result.0 result.1 }
 {
     let blue = read_lane(columns, 0);

@@ -11,7 +11,7 @@ use Rattle.island_pack.specs.Periods.{DataIsland, period_columns}
 use Rattle.island_pack.specs.Spelling.{guard_column, guard_columns, words_of}
 use Rattle.island_pack.specs.declared.packet.Packet.{Packet}
 use Rattle.period_grammar.specs.Column.{sync_digit}
-use Rattle.period_grammar.specs.Packets.{verdicts_of}
+use Rattle.island_pack.specs.Repaired.{verdicts_of}
 use Rattle.period_grammar.specs.Things.{Thing, cut, broken, empty, long_island, packet, open_island as opens_thing, close_island as closes_thing, thing_of, all_at}
 use Rattle.period_grammar.specs.Island.{Payload, parts, with_packet, when, if_so, packet_faults, packet_things, in_packets, left_at, begins_close, holds_packet, split, payload, wrong_guards, closing_things, in_closing, in_left, in_island, breaks}
 use Rattle.period_grammar.specs.Heard.{island, lacks, opened, opening, in_payload, payload_closes, payload_ends, in_gap, at_close, at_end}

@@ -15,8 +15,8 @@ use Rattle.island_pack.specs.Taken.{IsTaken, verdict_on}
 use Rattle.island_pack.specs.declared.packet.Packet.{Packet}
 use Rattle.island_pack.specs.declared.packet.PacketVerdicts.{PacketVerdicts}
 use Rattle.period_grammar.specs.Column.{sync_digit}
-use Rattle.period_grammar.specs.Packets.{packet_of, packet_in}
-use Rattle.period_grammar.proofs.Taking.{packet_is}
+use Rattle.island_pack.specs.Repaired.{packet_of, packet_in}
+use Rattle.island_pack.proofs.Repaired.{packet_is}
 use Rattle.link_sink.specs.Account.{damage, sync_row, packet_row}
 use Rattle.link_sink.specs.Laws.{wrong_bits}
 use Rattle.link_sink.proofs.WrongBits.{header_wrong, body_wrong, IsFlipped, same_or_flipped}

@@ -11,7 +11,7 @@ use Rattle.island_pack.specs.Sparse.{unlike_words}
 use Rattle.island_pack.specs.declared.packet.Packet.{Packet}
 use Rattle.period_grammar.specs.Column.{sync_digit}
 use Rattle.period_grammar.specs.Cut.{Run, columns, runs}
-use Rattle.period_grammar.specs.Packets.{packet_of, verdicts_of}
+use Rattle.island_pack.specs.Repaired.{packet_of, verdicts_of}
 use Rattle.period_grammar.specs.Island.{packet_faults, wrong_guards}
 use Rattle.period_grammar.specs.Heard.{words, has_preamble, codes_of, if_not}
 use Rattle.period_grammar.specs.Things.{Thing, run, line, preamble, cut, packet, open_island, close_island, thing_of}

@@ -6,7 +6,8 @@ use Rattle.bch_block.specs.declared.Verdict.{Verdict}
 use Rattle.bch_block.specs.declared.Verdict.TheVariants.{Clean}
 use Rattle.island_pack.specs.declared.packet.Packet.{Packet as PacketOf}
 use Rattle.island_pack.specs.declared.packet.PacketVerdicts.{PacketVerdicts}
-use Rattle.period_grammar.specs.Packets.{words_of, packet_of, verdicts_of}
+use Rattle.island_pack.specs.Spelling.{words_of}
+use Rattle.island_pack.specs.Repaired.{packet_of, verdicts_of}
 use Rattle.tmds_word.specs.Column.{Column}
 use Rattle.period_grammar.specs.Column.{sync_digit}
 use Rattle.terc4.specs.Columns.{is_island_guard, closing_words, closes}

@@ -10,7 +10,6 @@ pub mod Hearings
 pub mod Going
 pub mod Noting
 pub mod Joined
-pub mod Taking
 pub mod Sizes
 pub mod Pixels
 pub mod Balanced

@@ -14,7 +14,8 @@ use Rattle.terc4.specs.Columns.{is_video_guard, is_island_guard, closes}
 use Rattle.terc4.proofs.Entries.{value_below}
 use Rattle.period_grammar.specs.Coding.{first_uncoded}
 use Rattle.period_grammar.specs.Column.{control_bits, value_of, sync_digit}
-use Rattle.period_grammar.specs.Packets.{words_of, packet_in, packet_of, verdicts_of}
+use Rattle.island_pack.specs.Spelling.{words_of}
+use Rattle.island_pack.specs.Repaired.{packet_in, packet_of, verdicts_of}
 use Rattle.period_grammar.specs.Things.{Thing, short, preamble, empty, long_line, cut, symbols, long_island, broken, guard, Told, all_at, thing_of}
 use Rattle.period_grammar.specs.Cut.{Stretch, stretch, stretches, Run, columns, in_front, value, before_runs, runs}
 use Rattle.period_grammar.specs.Island.{Payload, parts, payload, when, if_so, block_fault, block_faults, packet_faults, packet_things, in_packets, wrong_guards, begins_close, closing_things, in_left, left_at, in_island, breaks}

@@ -7,7 +7,7 @@ use Rattle.period_grammar.specs.Column.{sync_digit}
 use Rattle.bch_block.specs.declared.Verdict.{Verdict}
 use Rattle.bch_block.specs.declared.Verdict.TheVariants.{Clean, Mended, Lost}
 use Rattle.island_pack.specs.declared.packet.PacketVerdicts.{PacketVerdicts}
-use Rattle.period_grammar.specs.Packets.{packet_of, verdicts_of}
+use Rattle.island_pack.specs.Repaired.{packet_of, verdicts_of}
 use Rattle.period_grammar.specs.Things.{Thing, packet, symbols, mended, lost, close_island, long_island, guard, empty, noise, Told, all_at}
 
 -- whole packets, and the columns after them

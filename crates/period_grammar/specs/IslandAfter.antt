@@ -5,7 +5,7 @@ use Rattle.tmds_word.specs.Column.{Column}
 use Rattle.terc4.specs.Columns.{is_island_guard, closing_words}
 use Rattle.period_grammar.specs.Column.{sync_digit}
 use Rattle.period_grammar.specs.Island.{Payload, parts, payload, begins_close}
-use Rattle.period_grammar.specs.Packets.{words_of}
+use Rattle.island_pack.specs.Spelling.{words_of}
 use Rattle.period_grammar.specs.declared.island.Left.{Left}
 use Rattle.period_grammar.specs.declared.island.Left.TheVariants.{Packet, First, Closed, Over}
 use Rattle.period_grammar.specs.declared.island.Island.{Island}

@@ -28,12 +28,12 @@ use Rattle.island_pack.specs.Sparse.{unlike_words}
 use Rattle.island_pack.specs.declared.packet.Packet.{Packet}
 use Rattle.period_grammar.specs.Column.{sync_digit}
 use Rattle.period_grammar.specs.Coding.{is_coded, first_from, first_uncoded}
-use Rattle.period_grammar.specs.Packets.{verdicts_of}
+use Rattle.island_pack.specs.Repaired.{verdicts_of}
 use Rattle.period_grammar.specs.Things.{Thing, cut, open_island}
 use Rattle.period_grammar.specs.Cut.{runs, stretches}
 use Rattle.period_grammar.specs.Island.{packet_faults, wrong_guards}
 use Rattle.period_grammar.specs.Heard.{code_fault, codes_of, heard, heard_so_far}
-use Rattle.period_grammar.proofs.Taking.{verdicts_are}
+use Rattle.island_pack.proofs.Repaired.{verdicts_are}
 use Rattle.link_sink.specs.Account.{control_row, wrong_preamble, open_video_row, open_island_row, close_island_row, video_row, video_told, packet_told, packets_told, island_told, period_row, account_from}
 use Rattle.link_sink.specs.Exact.{FrontIsClean}
 use Rattle.link_sink.proofs.Cutting.{AllControl, hear}

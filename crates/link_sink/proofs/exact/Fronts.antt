@@ -13,7 +13,7 @@ use Rattle.bch_block.specs.declared.Verdict.{Verdict}
 use Rattle.bch_block.specs.declared.Verdict.TheVariants.{Clean, Mended, Lost}
 use Rattle.period_grammar.specs.Column.{sync_digit}
 use Rattle.period_grammar.specs.Coding.{first_uncoded}
-use Rattle.period_grammar.specs.Packets.{verdicts_of}
+use Rattle.island_pack.specs.Repaired.{verdicts_of}
 use Rattle.period_grammar.specs.Things.{Thing, run, line, word, short, preamble, noise, empty, code, long_line, cut, open_island, packet, close_island, symbols, mended, lost, long_island, broken, guard, Told, all_at, thing_of}
 use Rattle.period_grammar.specs.Cut.{Stretch as Cut, stretch, stretches, Run, columns, runs}
 use Rattle.period_grammar.specs.Island.{Payload, parts, when, if_so, block_fault, block_faults, packet_faults, packet_things, in_packets, closing_things, left_at, payload, in_left, in_island, breaks, wrong_guards, begins_close, in_closing}

@@ -14,7 +14,8 @@ use Rattle.island_pack.specs.Periods.{SyncPair, DataIsland}
 use Rattle.island_pack.specs.Conforming.{is_packet, is_data_island}
 use Rattle.island_pack.specs.Spelling.{guard_column, guard_columns, freely, SpellsPacketsBy, SpellsIslandBy}
 use Rattle.period_grammar.specs.Column.{sync_digit}
-use Rattle.period_grammar.specs.Packets.{words_of, packet_of, verdicts_of}
+use Rattle.island_pack.specs.Spelling.{words_of}
+use Rattle.island_pack.specs.Repaired.{packet_of, verdicts_of}
 use Rattle.period_grammar.specs.Things.{Thing, long_island, empty, noise, thing_of, all_at}
 use Rattle.period_grammar.specs.Island.{Payload, parts, with_packet, split_by, when, if_so, packet_faults, packet_things, in_packets, closing_things, left_at, holds_packet, split, in_left, in_island, begins_close, wrong_guards}
 use Rattle.period_grammar.proofs.Islands.{holds_long}

@@ -6,7 +6,8 @@ use Rattle.tmds_code.specs.Coding.{takes_xnor, minimised, balanced, coded_bits, 
 use Rattle.terc4.specs.Tables.{terc_words, value_in, is_in, is_terc}
 use Rattle.island_pack.specs.Nibbles.{nibble_of, nibbles_of, by_turns, header_bits, body_bits, is_foreign, foreign_on, foreign_words}
 use Rattle.period_grammar.specs.Coding.{is_coded}
-use Rattle.period_grammar.specs.Packets.{words_of, divides, verdict_of, verdicts_in, verdicts_of}
+use Rattle.island_pack.specs.Spelling.{words_of}
+use Rattle.island_pack.specs.Repaired.{divides, verdict_of, verdicts_in, verdicts_of}
 use Rattle.period_grammar.specs.Island.{packet_faults}
 use Rattle.period_grammar.specs.Heard.{codes_of}
 use Rattle.link_sink.proofs.exact.Faultless.{Fine}

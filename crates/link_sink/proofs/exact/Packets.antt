@@ -22,10 +22,10 @@ use Rattle.island_pack.specs.Conforming.{are_bytes, is_packet}
 use Rattle.island_pack.specs.Taken.{after}
 use Rattle.island_pack.proofs.Registers.{eight_bits}
 use Rattle.island_pack.proofs.Parts.{length-four, All-four}
-use Rattle.period_grammar.specs.Packets.{choice, divides, mend_from, verdict_of, bytes_in, repaired, packet_in, verdicts_in}
+use Rattle.island_pack.specs.Repaired.{choice, divides, mend_from, verdict_of, bytes_in, repaired, packet_in, verdicts_in}
 use Rattle.period_grammar.specs.Things.{symbols}
 use Rattle.period_grammar.specs.Island.{if_so, block_fault, block_faults, packet_faults}
-use Rattle.period_grammar.proofs.Taking.{nothing_is}
+use Rattle.island_pack.proofs.Repaired.{nothing_is}
 use Rattle.link_sink.proofs.Rows.{and_both}
 use Rattle.link_sink.proofs.exact.Numbers.{number_below}
 use Rattle.link_sink.proofs.exact.Faultless.{Fine, fine_left, fine_right, if_so_fine, not_false}

@@ -3,7 +3,7 @@ use Rattle.tmds_word.specs.Column.{column_of}
 use Rattle.period_grammar.specs.Island.{payload}
 use Rattle.period_grammar.specs.After.{after_payload}
 use Rattle.period_grammar.specs.Noted.{lent}
-use Rattle.period_grammar.specs.Packets.{packet_in, verdicts_in}
+use Rattle.island_pack.specs.Repaired.{packet_in, verdicts_in}
 use Rattle.period_grammar.specs.IslandAfter.{IsPartsAfter}
 use Rattle.period_grammar.specs.declared.island.Left.{Left}
 use Rattle.period_grammar.specs.declared.island.Left.TheVariants.{Packet}

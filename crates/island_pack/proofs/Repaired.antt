@@ -1,4 +1,4 @@
--- What is computed of 32 columns is what is taken of them.
+-- What is repaired of 32 columns is what is taken of them, and nothing else is.
 use Rattle.std.proofs.Common.{◌≡◌, ◌≢◌, ℕ, suc, zero, ◌+◌, ◌*◌, ◌-◌, ◌/◌, ◌%◌, ◌^◌, ◌==◌, ◌<◌, ◌≤◌, Bool, true, false, not, ◌||◌, List, [], ◌∷◌, ◌++◌, length, take, drop, get_or, refl, ap, ap₂, ◌∙◌, sym, subst, arith, All, inl, inr, length-drop, length-take-le}
 use Rattle.std.specs.Prelude.{slice_index_or}
 use Rattle.std.proofs.lemmas.Bool.{cases_lt, true≢false}
@@ -20,7 +20,7 @@ use Rattle.island_pack.specs.Packets.{body_of}
 use Rattle.island_pack.specs.Taken.{after, IsTaken, verdict_on, Taken}
 use Rattle.island_pack.specs.declared.packet.Packet.{Packet}
 use Rattle.island_pack.specs.declared.packet.PacketVerdicts.{PacketVerdicts}
-use Rattle.period_grammar.specs.Packets.{is_nothing, divides, choice, mend_from, verdict_of, bytes_in, repaired, packet_in, verdicts_in}
+use Rattle.island_pack.specs.Repaired.{is_nothing, divides, choice, mend_from, verdict_of, bytes_in, repaired, packet_in, verdicts_in}
 
 -- whether division leaves nothing
 or_left : (a b : Bool) → not (a || b) ≡ true → a ≡ false
@@ -101,7 +101,7 @@ found x i (suc n) long short other e none =
       | inr more ↦ let same : i ≡ j = omega arith in subst (λ k. divides (flipped x k) ≡ false) same f
     ]))
 
-verdict_by : (x : List Bool) (p : Bool) → 8 ≤ length x → length x ≤ 64 → divides x ≡ p → IsVerdict x (choice p Clean (mend_from x 0 (length x)))
+pub verdict_by : (x : List Bool) (p : Bool) → 8 ≤ length x → length x ≤ 64 → divides x ≡ p → IsVerdict x (choice p Clean (mend_from x 0 (length x)))
 verdict_by x true long short e = is_block x long (divides_leaves x e)
 verdict_by x false long short e = found x 0 (length x) long short e (omega arith) (λ j lt. absurd (omega arith))
 
@@ -110,7 +110,7 @@ unfolding verdict_of
 verdict_is x v long short h = one_verdict x v (verdict_of x) short h (verdict_by x (divides x) long short refl)
 
 -- the bytes of bits
-eight_bits : (n : ℕ) → number_bits 8 n ≡ byte_bits n
+pub eight_bits : (n : ℕ) → number_bits 8 n ≡ byte_bits n
 unfolding number_bits
 eight_bits n =
     let e0 : n % 2 ≡ n / 2 ^ 0 % 2 = omega arith in
@@ -156,14 +156,14 @@ nibbles : (ws : List (List ℕ)) (lane : ℕ) → length (nibbles_of ws lane) �
 unfolding nibbles_of
 nibbles ws lane = length-map ws _
 
-body_long : (ws : List (List ℕ)) (b : ℕ) → length ws ≡ 32 → length (body_bits ws b) ≡ 64
+pub body_long : (ws : List (List ℕ)) (b : ℕ) → length ws ≡ 32 → length (body_bits ws b) ≡ 64
 unfolding body_bits
 body_long ws b long =
     let same = nibbles ws 1 ∙ sym (nibbles ws 2) in
     let whole = length-turns b (nibbles_of ws 1) (nibbles_of ws 2) same in
     omega (arith, whole, nibbles ws 1, long)
 
-header_long : (ws : List (List ℕ)) → length ws ≡ 32 → length (header_bits ws) ≡ 32
+pub header_long : (ws : List (List ℕ)) → length ws ≡ 32 → length (header_bits ws) ≡ 32
 unfolding header_bits
 header_long ws long = length-map (nibbles_of ws 0) _ ∙ nibbles ws 0 ∙ long
 
