@@ -71,18 +71,7 @@ fn hear_part<E: Ear>(
     if went == blue.len() {
         return Ok(went);
     }
-    hearing.hear(&[word(blue[went]), word(green[went]), word(red[went])]);
+    hearing.hear(&[Word::of(blue[went]), Word::of(green[went]), Word::of(red[went])]);
     tell(hearing, ear)?;
     Ok(went + 1)
-}
-
-/// The word of a number below 1,024.
-fn word(value: u16) -> Word
-    requires { value < 1024 }
-    ensures { result ≡ value }
-{
-    match Word::new(value) {
-        Some(word) => word,
-        None => unreachable!(),
-    }
 }

@@ -37,17 +37,6 @@ pub fn column_value(column: &[Word; 3]) -> u8
     control_pair(blue(column)) + 4 * control_pair(green(column)) + 16 * control_pair(red(column))
 }
 
-/// The word of a number below 1,024.
-pub fn word(value: u16) -> Word
-    requires { value < 1024 }
-    ensures { result ≡ value }
-{
-    match Word::new(value) {
-        Some(word) => word,
-        None => unreachable!(),
-    }
-}
-
 /// The word of lane 0.
 pub fn blue(column: &[Word; 3]) -> Word
     ensures { result ≡ (column_of column.now).blue }

@@ -12,7 +12,7 @@ ghost use Rattle.period_grammar.specs.GoesOn.{goes_on_run, goes_kept, is_alike};
 ghost use Rattle.period_grammar.specs.ControlAfter.{IsControlAfter, IsCounted};
 ghost use Rattle.period_grammar.specs.Noted.{things, Lent};
 
-use crate::column::{has_value, word};
+use crate::column::has_value;
 use crate::notes::{Note, Notes};
 use crate::told::Fault;
 use tmds_word::Word;
@@ -104,7 +104,7 @@ impl Kept {
         if blue.is_empty() {
             return 0;
         }
-        let first = [word(blue[0]), word(green[0]), word(red[0])];
+        let first = [Word::of(blue[0]), Word::of(green[0]), Word::of(red[0])];
         if !self.goes_on(&first) {
             return 0;
         }

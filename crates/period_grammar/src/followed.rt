@@ -5,9 +5,9 @@ ghost use Rattle.tmds_code.specs.Balances.{disparity_at, followed_all};
 ghost use Rattle.period_grammar.specs.Heard.{line_bytes};
 ghost use Rattle.period_grammar.specs.Balanced.{are_enough, is_pixel};
 
-use crate::column::word;
 use crate::held::put_three;
 use tmds_code::{Balance, decode};
+use tmds_word::Word;
 
 /// How many columns are followed before their balances are looked at.
 pub const GROUP: usize = 8;
@@ -61,7 +61,7 @@ fn put_group(
         red: from.red,
     };
     for i in 0..GROUP {
-        let column = [word(blue[i]), word(green[i]), word(red[i])];
+        let column = [Word::of(blue[i]), Word::of(green[i]), Word::of(red[i])];
         put_three(
             room,
             place + 3 * i,

@@ -5,7 +5,6 @@ ghost use Rattle.tmds_code.specs.Balances.{disparity_at, followed_all};
 ghost use Rattle.period_grammar.specs.Judged.{IsLaneAfter};
 ghost use Rattle.period_grammar.specs.LineSeen.{IsSized};
 
-use crate::column::word;
 use tmds_code::{Balance, CodeJudge};
 use tmds_word::Word;
 
@@ -68,7 +67,7 @@ impl Lane {
         ensures heard { (ws : List ℕ) → IsLaneAfter self.old ws → IsLaneAfter self.new (ws ++ words.now) }
     {
         for i in 0..words.len() {
-            self.hear(pixel + i as u32, word(words[i]));
+            self.hear(pixel + i as u32, Word::of(words[i]));
         }
     }
 }

@@ -155,9 +155,9 @@ impl Line {
     {
         for i in 0..blue.len() {
             let column = [
-                column::word(blue[i]),
-                column::word(green[i]),
-                column::word(red[i]),
+                Word::of(blue[i]),
+                Word::of(green[i]),
+                Word::of(red[i]),
             ];
             if is_control_column(&column) {
                 return i;

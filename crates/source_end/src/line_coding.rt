@@ -54,7 +54,7 @@ fn block<C: ColumnSink>(bytes: &[u8], coders: Coders, out: &mut C) -> Result<Cod
     ensures part { OnErr result (TookFront (C.taken out.old) (C.taken out.new) (AreCoded coders.blue coders.green coders.red (pixels_of bytes.now))) }
     ensures cause { HasCause (C.refusals out.old) (C.refusals out.new) result }
 {
-    let none = zero();
+    let none = Word::of(0);
     let mut blue = [none; BLOCK];
     let mut green = [none; BLOCK];
     let mut red = [none; BLOCK];
@@ -102,14 +102,4 @@ fn code(
         red_words[i] = red.next(bytes[3 * i]);
     }
     Coders { blue, green, red }
-}
-
-/// The character of the number 0, which stands where none is coded yet.
-fn zero() -> Word
-    ensures { result ≡ 0 }
-{
-    match Word::new(0) {
-        Some(word) => word,
-        None => unreachable!(),
-    }
 }

@@ -124,7 +124,7 @@ fn island_guard(sync: u8) -> [Word; 3]
     requires { sync < 4 }
     ensures { column_of result ≡ guard_column sync }
 {
-    [terc4::terc(12 + sync), word(0x133), word(0x133)]
+    [terc4::terc(12 + sync), Word::of(0x133), Word::of(0x133)]
 }
 
 /// Gives the columns of a data island's packets.
@@ -135,7 +135,7 @@ fn packets<C: ColumnSink>(packets: &[Packet], out: &mut C) -> Result<(), NoMemor
     ensures part { OnErr result (TookFront (C.taken out.old) (C.taken out.new) (SpellsPackets true packets.now)) }
     ensures cause { HasCause (C.refusals out.old) (C.refusals out.new) result }
 {
-    let mut block = [[word(0); 3]; 32];
+    let mut block = [[Word::of(0); 3]; 32];
     let mut first = true;
     for packet in packets {
         lay(packet, first, &mut block);
@@ -162,16 +162,5 @@ fn each<C: ColumnSink>(block: &[[Word; 3]; 32], out: &mut C) -> Result<(), NoMem
 fn guard_words() -> [Word; 3]
     ensures { column_of result ≡ column_of video_guard }
 {
-    [word(0x2cc), word(0x133), word(0x2cc)]
-}
-
-/// The character of a number below 1,024.
-fn word(value: u16) -> Word
-    requires { value < 1024 }
-    ensures { result ≡ value }
-{
-    match Word::new(value) {
-        Some(word) => word,
-        None => unreachable!(),
-    }
+    [Word::of(0x2cc), Word::of(0x133), Word::of(0x2cc)]
 }

@@ -20,7 +20,7 @@ pub fn control(value: u8) -> Word
     requires { value < 4 }
     ensures { result ≡ slice_index control_words value }
 {
-    word(control_word(value))
+    Word::of(control_word(value))
 }
 
 /// The four bits D3 to D0 that a TERC4 word carries, from 0 to 15; none for any other word
@@ -38,16 +38,5 @@ pub fn terc(value: u8) -> Word
     requires { value < 16 }
     ensures { result ≡ slice_index terc_words value }
 {
-    word(terc_word(value))
-}
-
-/// The word of a number below 1,024.
-fn word(value: u16) -> Word
-    requires { value < 1024 }
-    ensures { result ≡ value }
-{
-    match Word::new(value) {
-        Some(word) => word,
-        None => unreachable!(),
-    }
+    Word::of(terc_word(value))
 }

@@ -40,10 +40,7 @@ impl VideoCoder {
     {
         let entry = stepped(256 * usize::from(self.step) + usize::from(byte));
         self.step = (entry >> 10) as u8;
-        match Word::new(entry & 0x3ff) {
-            Some(word) => word,
-            None => unreachable!(),
-        }
+        Word::of(entry & 0x3ff)
     }
 
     /// The ones minus the zeros of the characters given so far: even, and from -8 to 8.

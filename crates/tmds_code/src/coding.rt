@@ -12,10 +12,7 @@ pub fn encode(byte: u8, disparity: i32) -> Word
     ensures { Coded disparity byte result }
 {
     let value = tables::coded(256 * sign(disparity) + usize::from(byte));
-    match Word::new(value) {
-        Some(word) => word,
-        None => unreachable!(),
-    }
+    Word::of(value)
 }
 
 /// The byte that a character carries; each of the 1,024 has one (DVI 1.0, section 3.3.3 with figure 3-6).

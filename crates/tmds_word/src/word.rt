@@ -34,6 +34,14 @@ impl Word {
         }
     }
 
+    /// The character of a number that has no more than ten bits.
+    pub fn of(value: u16) -> Word
+        requires { value < 1024 }
+        ensures { result ≡ value }
+    {
+        Word { value }
+    }
+
     /// The number.
     pub fn value(&self) -> u16
         ensures value { result ≡ self.now }

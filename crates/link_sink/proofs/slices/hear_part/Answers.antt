@@ -25,8 +25,8 @@ returns-in_err-tell-clause-stopped g c =
     let went = c.hear_while-went.result in
     let part = take went all in
     let more =
-    next_column c.args.blue.now c.args.green.now c.args.red.now went c.word.result c.word-2.result c.word-3.result
-    (omega (arith, c.hear_while-went.ensures.within, c.if-went-blue.false)) c.requires.green c.requires.red c.word.ensures c.word-2.ensures c.word-3.ensures in
+    next_column c.args.blue.now c.args.green.now c.args.red.now went c.of.result c.of-2.result c.of-3.result
+    (omega (arith, c.hear_while-went.ensures.within, c.if-went-blue.false)) c.requires.green c.requires.red c.of.ensures c.of-2.ensures c.of-3.ensures in
     on_err {P = (cs : List Column) → StandsFor c.args.hearing.now cs → StoppedIn g.E.Ear.took g.E.Ear.broke c.args.ear.now c.tell.new.ear cs all} _ (λ cs was.
     subst (λ (ds : List Column). StoppedIn g.E.Ear.took g.E.Ear.broke c.args.ear.now c.tell.new.ear cs ds) (take-append-drop (went + 1) all)
     (stopped_next g.E.Ear.took g.E.Ear.broke g.met.E.Ear.took_both _ _ _ cs part (take (went + 1) all) (drop (went + 1) all) _ _ more
@@ -39,8 +39,8 @@ returns-clause-heard g c = λ cs was.
     let went = c.hear_while-went.result in
     let part = take went all in
     let more =
-    next_column c.args.blue.now c.args.green.now c.args.red.now went c.word.result c.word-2.result c.word-3.result
-    (omega (arith, c.hear_while-went.ensures.within, c.if-went-blue.false)) c.requires.green c.requires.red c.word.ensures c.word-2.ensures c.word-3.ensures in
+    next_column c.args.blue.now c.args.green.now c.args.red.now went c.of.result c.of-2.result c.of-3.result
+    (omega (arith, c.hear_while-went.ensures.within, c.if-went-blue.false)) c.requires.green c.requires.red c.of.ensures c.of-2.ensures c.of-3.ensures in
     subst (λ (ds : List Column). StandsFor c.hear.new.self ds) (append_assoc cs part _ ∙ ap (λ ds. cs ++ ds) (sym more))
     (c.hear.ensures.heard (cs ++ part) (c.hear_while-went.ensures.heard cs was))
 
@@ -50,8 +50,8 @@ returns-clause-told g c = λ cs was.
     let went = c.hear_while-went.result in
     let part = take went all in
     let more =
-    next_column c.args.blue.now c.args.green.now c.args.red.now went c.word.result c.word-2.result c.word-3.result
-    (omega (arith, c.hear_while-went.ensures.within, c.if-went-blue.false)) c.requires.green c.requires.red c.word.ensures c.word-2.ensures c.word-3.ensures in
+    next_column c.args.blue.now c.args.green.now c.args.red.now went c.of.result c.of-2.result c.of-3.result
+    (omega (arith, c.hear_while-went.ensures.within, c.if-went-blue.false)) c.requires.green c.requires.red c.of.ensures c.of-2.ensures c.of-3.ensures in
     took_next g.E.Ear.took g.met.E.Ear.took_both _ _ _ cs part (take (went + 1) all) _ _ more
     (told_then (cs ++ part) _ (length (cs ++ part)) _ (c.hear.ensures.told (cs ++ part) (c.hear_while-went.ensures.heard cs was)))
     (took_quiet g.E.Ear.took _ cs part (g.met.E.Ear.took_none _) (c.hear_while-went.ensures.told cs was)) c.in_ok-tell.ensures.ok

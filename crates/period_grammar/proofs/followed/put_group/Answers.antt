@@ -19,14 +19,14 @@ loop-i-preserved c =
     let rt : i < length c.args.red.now = omega (arith, c.requires.red) in
     let inv = c.loop-i.invariant in
     let place : (c.args.place + 3 * i) + 3 ≡ c.args.place + 3 * (i + 1) = omega arith in
-    let here = columns_here c.args.blue.now c.args.green.now c.args.red.now i _ _ _ lt (omega (arith, c.requires.blue, c.requires.green)) (omega (arith, c.requires.blue, c.requires.red)) c.word.ensures c.word-in-loop-i.ensures c.word-in-loop-i-2.ensures in
+    let here = columns_here c.args.blue.now c.args.green.now c.args.red.now i _ _ _ lt (omega (arith, c.requires.blue, c.requires.green)) (omega (arith, c.requires.blue, c.requires.red)) c.of.ensures c.of-in-loop-i.ensures c.of-in-loop-i-2.ensures in
     record {
       long = c.put_three.ensures.long ∙ inv.long;
       put = ap (λ n. take n c.put_three.new.room) (sym place)
           ∙ pixel_bytes _ _ (take c.args.place c.args.room.now) cols i _ _ _ _ _ here inv.put c.put_three.ensures.put c.decode.ensures c.decode-in-loop-i.ensures c.decode-in-loop-i-2.ensures;
-      blue_at = pixel_followed _ _ _ c.args.blue.now i _ lt c.word.ensures inv.blue_at c.after-balances.ensures;
-      green_at = pixel_followed _ _ _ c.args.green.now i _ gt c.word-in-loop-i.ensures inv.green_at c.after-balances-in-loop-i.ensures;
-      red_at = pixel_followed _ _ _ c.args.red.now i _ rt c.word-in-loop-i-2.ensures inv.red_at c.after-balances-in-loop-i-2.ensures;
+      blue_at = pixel_followed _ _ _ c.args.blue.now i _ lt c.of.ensures inv.blue_at c.after-balances.ensures;
+      green_at = pixel_followed _ _ _ c.args.green.now i _ gt c.of-in-loop-i.ensures inv.green_at c.after-balances-in-loop-i.ensures;
+      red_at = pixel_followed _ _ _ c.args.red.now i _ rt c.of-in-loop-i-2.ensures inv.red_at c.after-balances-in-loop-i-2.ensures;
     }
 
 pub returns-clause-put : goal.returns-clause-put

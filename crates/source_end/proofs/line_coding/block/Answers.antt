@@ -14,7 +14,7 @@ written n w ws e = take-put_mid 0 n (replicate 64 w) ws n (omega (arith, e)) (om
 pub returns-clause-ok : goal.returns-clause-ok
 returns-clause-ok g c =
     let n = length c.args.bytes.now / 3 in
-    let w = c.zero-none.result in
+    let w = c.of-none.result in
     let code = c.code-after in
     let blue : length code.new.blue_words ≡ n = search rules in
     let green : length code.new.green_words ≡ n = search rules in
@@ -30,7 +30,7 @@ returns-clause-ok g c =
 pub returns-in_err-columns-clause-part : goal.returns-in_err-columns-clause-part
 returns-in_err-columns-clause-part g c =
     let n = length c.args.bytes.now / 3 in
-    let w = c.zero-none.result in
+    let w = c.of-none.result in
     let code = c.code-after in
     let cut = c.in_err-columns.ensures.part in
     let blue : length code.new.blue_words ≡ n = search rules in

@@ -3,4 +3,4 @@ use Rattle.source_end.proofs.spell.island_guard.Goals as goal
 
 pub returns : goal.returns
 unfolding island_guard
-returns c = λ i. record { blue = c.terc.ensures i; green = c.word.ensures i; red = c.word-2.ensures i }
+returns c = λ i. record { blue = c.terc.ensures i; green = c.of.ensures i; red = c.of-2.ensures i }

@@ -3,4 +3,4 @@ use Rattle.terc4.proofs.Entries.{control_word_is}
 use Rattle.terc4.proofs.values.control.Goals as goal
 
 pub returns : goal.returns
-returns c = c.word.ensures ∙ c.control_word.ensures ∙ control_word_is c.args.value
+returns c = c.of.ensures ∙ c.control_word.ensures ∙ control_word_is c.args.value

@@ -3,4 +3,4 @@ use Rattle.terc4.proofs.Entries.{terc_word_is}
 use Rattle.terc4.proofs.values.terc.Goals as goal
 
 pub returns : goal.returns
-returns c = c.word.ensures ∙ c.terc_word.ensures ∙ terc_word_is c.args.value
+returns c = c.of.ensures ∙ c.terc_word.ensures ∙ terc_word_is c.args.value

@@ -17,7 +17,7 @@ returns-then-not-goes_on-clause-count c =
     let cols = columns_of c.args.blue.now c.args.green.now c.args.red.now in
     let lt : 0 < length c.args.blue.now = some_long (length c.args.blue.now) (sym c.is_empty.ensures ∙ c.if-is_empty.false) in
     step_no (goes_kept c.args.self.now) cols 0 _ _
-    (columns_here c.args.blue.now c.args.green.now c.args.red.now 0 _ _ _ lt c.requires.green c.requires.red c.word.ensures c.word-2.ensures c.word-3.ensures)
+    (columns_here c.args.blue.now c.args.green.now c.args.red.now 0 _ _ _ lt c.requires.green c.requires.red c.of.ensures c.of-2.ensures c.of-3.ensures)
     (sym c.goes_on.ensures ∙ c.if-not-goes_on.true) (omega arith)
 
 pub returns-clause-count : goal.returns-clause-count
@@ -25,4 +25,4 @@ returns-clause-count c =
     let cols = columns_of c.args.blue.now c.args.green.now c.args.red.now in
     c.count_alike.ensures.count
     ∙ ap (λ (p : Column → Bool). prefix_len p cols)
-    (λ i d. alike_goes c.args.self.now c.word.result c.word-2.result c.word-3.result _ _ _ c.word.ensures c.word-2.ensures c.word-3.ensures (sym c.goes_on.ensures ∙ c.if-not-goes_on.false) d i)
+    (λ i d. alike_goes c.args.self.now c.of.result c.of-2.result c.of-3.result _ _ _ c.of.ensures c.of-2.ensures c.of-3.ensures (sym c.goes_on.ensures ∙ c.if-not-goes_on.false) d i)

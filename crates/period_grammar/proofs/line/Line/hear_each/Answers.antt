@@ -14,7 +14,7 @@ loop-i-preserved c =
     let i = c.loop-i.i in
     let lt : i < length c.args.blue.now = omega arith in
     let inv = c.loop-i.invariant in
-    let here = columns_here c.args.blue.now c.args.green.now c.args.red.now i _ _ _ lt c.requires.green c.requires.red c.word.ensures c.word-in-loop-i.ensures c.word-in-loop-i-2.ensures in
+    let here = columns_here c.args.blue.now c.args.green.now c.args.red.now i _ _ _ lt c.requires.green c.requires.red c.of.ensures c.of-in-loop-i.ensures c.of-in-loop-i-2.ensures in
     record {
       counted = omega (arith, c.hear.ensures.count, inv.counted);
       pixels = step_yes is_pixel cols i _ _ here (ap not (sym c.is_control_column.ensures ∙ c.if-is_control_column.false)) inv.pixels;
@@ -27,7 +27,7 @@ returns-then-is_control_column-clause-pixels c =
     let cols = columns_of c.args.blue.now c.args.green.now c.args.red.now in
     let i = c.loop-i.i in
     let lt : i < length c.args.blue.now = omega arith in
-    let here = columns_here c.args.blue.now c.args.green.now c.args.red.now i _ _ _ lt c.requires.green c.requires.red c.word.ensures c.word-in-loop-i.ensures c.word-in-loop-i-2.ensures in
+    let here = columns_here c.args.blue.now c.args.green.now c.args.red.now i _ _ _ lt c.requires.green c.requires.red c.of.ensures c.of-in-loop-i.ensures c.of-in-loop-i-2.ensures in
     step_no is_pixel cols i _ _ here (ap not (sym c.is_control_column.ensures ∙ c.if-is_control_column.true)) c.loop-i.invariant.pixels
 
 pub returns-clause-pixels : goal.returns-clause-pixels

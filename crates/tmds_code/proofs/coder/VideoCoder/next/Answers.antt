@@ -41,15 +41,15 @@ invariant_of-self c = few_steps c.self.inside.step c.args.byte c.stepped-entry.r
 
 pub returns-clause-coded : goal.returns-clause-coded
 returns-clause-coded c =
-    word_is c.self.inside.step c.args.byte c.stepped-entry.result c.from.result c.from-2.result c.in-Some.word c.stepped-entry.ensures c.from.ensures c.from-2.ensures c.self.invariant c.ranges.byte.fits c.in-Some.ensures.some
+    word_is c.self.inside.step c.args.byte c.stepped-entry.result c.from.result c.from-2.result c.of.result c.stepped-entry.ensures c.from.ensures c.from-2.ensures c.self.invariant c.ranges.byte.fits c.of.ensures
     ∙ ap (λ y. coded_word y c.args.byte) c.self.view_is
 
 pub returns-clause-stands : goal.returns-clause-stands
 returns-clause-stands c = λ bytes words past.
     let k = c.self.inside.step in
     let b = c.args.byte in
-    let w = c.in-Some.word in
-    let is = word_is k b c.stepped-entry.result c.from.result c.from-2.result w c.stepped-entry.ensures c.from.ensures c.from-2.ensures c.self.invariant c.ranges.byte.fits c.in-Some.ensures.some in
+    let w = c.of.result in
+    let is = word_is k b c.stepped-entry.result c.from.result c.from-2.result w c.stepped-entry.ensures c.from.ensures c.from-2.ensures c.self.invariant c.ranges.byte.fits c.of.ensures in
     let steps = steps_are k b c.stepped-entry.result c.from.result c.from-2.result c.stepped-entry.ensures c.from.ensures c.from-2.ensures c.self.invariant c.ranges.byte.fits in
     let below : w < 1024 = subst (λ n. n < 1024) (sym is) (word_below k b c.ranges.byte.fits) in
     let least : 5 ≤ k + ones (word_bits w) = subst (λ n. 5 ≤ k + ones (word_bits n)) (sym is) (step_low k b c.self.invariant c.ranges.byte.fits) in
