@@ -400,7 +400,7 @@ past_column w (control_period runs ∷ periods) ss rs a m =
     (control_row 0 (take m (drop a (take n (drop 1 rs)))) ++ account_from (n - a) (m - (n - a)) (drop a (take n (drop 1 rs))) periods cs ds)
     (account periods cs ds (a - n) m)) (sym (drop-drop n 1 ss)) (sym (drop-drop n 1 rs))
 
-at_start : (runs : List ControlRun) (periods : List Period) (ss rs : List Column) (m : ℕ) → 0 < period_columns (control_period runs)
+pub at_start : (runs : List ControlRun) (periods : List Period) (ss rs : List Column) (m : ℕ) → 0 < period_columns (control_period runs)
     → account (control_period runs ∷ periods) ss rs 0 m ≡ account_on [] 0 m (control_period runs ∷ periods) ss rs
 unfolding account account_at
 at_start runs periods ss rs m lt =

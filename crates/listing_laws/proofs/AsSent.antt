@@ -66,7 +66,7 @@ kept p ss rs carries same few (suc (suc (suc zero))) lt lost = kept_body p ss rs
 kept p ss rs carries same few (suc (suc (suc (suc zero)))) lt lost = kept_header p ss rs carries same few lost
 kept p ss rs carries same few (suc (suc (suc (suc (suc b))))) lt lost = absurd (omega (arith, lt))
 
-as_sent_row : (p : Packet) (ss rs : List Column) → damage ss rs ≤ 1 → packet_row p ss rs ≡ record { header = p.header; bodies = p.bodies; sync = sync_row p.sync ss rs }
+pub as_sent_row : (p : Packet) (ss rs : List Column) → damage ss rs ≤ 1 → packet_row p ss rs ≡ record { header = p.header; bodies = p.bodies; sync = sync_row p.sync ss rs }
 unfolding packet_row
 as_sent_row p ss rs few =
     ap (λ (t : Bool). cond t

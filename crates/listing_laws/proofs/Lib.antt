@@ -24,3 +24,16 @@ pub mod Told
 pub mod PacketLines
 pub mod PictureLines
 pub mod Rasters
+pub mod Text
+pub mod Digits
+pub mod LineForms
+pub mod LineSteps
+pub mod NoCause
+pub mod IslandForms
+pub mod Islands
+pub mod Periods
+pub mod Undamaged
+pub mod JoinedRuns
+pub mod SoundLines
+pub mod OwnRows
+pub mod LinkLaw

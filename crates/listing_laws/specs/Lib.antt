@@ -2,4 +2,5 @@ pub mod Listed
 pub mod FrameLaws
 pub mod PacketLaws
 pub mod ListingLaws
+pub mod LinkLaws
 pub mod Rasters

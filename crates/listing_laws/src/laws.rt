@@ -1,5 +1,7 @@
-//! What of a raster's frames and packets comes back. The functions do nothing: what they ensure are the laws.
+//! What of a raster's frames and packets comes back, and what a link's listing reads back as. The functions do nothing:
+//! what they ensure are the laws.
 ghost use Rattle.listing_laws.specs.FrameLaws.{FramesComeBack, FramesHeard};
+ghost use Rattle.listing_laws.specs.LinkLaws.{AccountReadsBack};
 ghost use Rattle.listing_laws.specs.ListingLaws.{FrameLinesComeBack, PacketLinesAsSent, PacketLinesComeBack};
 ghost use Rattle.listing_laws.specs.PacketLaws.{PacketsComeBack, OneWordAsSent, RasterPackets};
 ghost use Rattle.listing_laws.specs.Rasters.{RastersCome, HasRaster};
@@ -53,4 +55,9 @@ pub fn rasters_come()
 /// There is such a raster: a mode, and a frame with a row and a packet.
 pub fn has_raster()
     ensures { HasRaster }
+{}
+
+/// The listing of a stream that came whole and undamaged reads back as a stream with the same columns.
+pub fn listing_reads_back()
+    ensures { AccountReadsBack }
 {}

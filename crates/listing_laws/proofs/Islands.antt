@@ -14,12 +14,12 @@ use Rattle.listing.specs.Lines.{pieces_of}
 use Rattle.listing.specs.LineSteps.{Read, read_lines}
 use Rattle.listing.specs.Reading.{link_step}
 use Rattle.listing.proofs.Feeds.{and-left, and-right, both}
-use Rattle.link_text.specs.Text.{line_of, told_packet, packet_lines, period_lines}
-use Rattle.link_text.proofs.Digits.{below-from}
-use Rattle.link_text.proofs.IslandForms.{guard_body, open_words, open_form, open_feedless, close_words, close_form, close_feedless, packet_body, packet_words, packet_length, packet_seen, packet_feedless, packet_values}
-use Rattle.link_text.proofs.LineForms.{line_is}
-use Rattle.link_text.proofs.LineSteps.{read_more}
-use Rattle.link_text.proofs.NoCause.{island_cause_none, packet_cause_none, close_cause_none}
+use Rattle.listing_laws.proofs.Text.{line_of, told_packet, packet_lines, period_lines}
+use Rattle.listing_laws.proofs.Digits.{below-from}
+use Rattle.listing_laws.proofs.IslandForms.{guard_body, open_words, open_form, open_feedless, close_words, close_form, close_feedless, packet_body, packet_words, packet_length, packet_seen, packet_feedless, packet_values}
+use Rattle.listing_laws.proofs.LineForms.{line_is}
+use Rattle.listing_laws.proofs.LineSteps.{read_more}
+use Rattle.listing_laws.proofs.NoCause.{island_cause_none, packet_cause_none, close_cause_none}
 
 -- periods, and an island of which so many packets were told
 abbrev pub told : List Period → Draft

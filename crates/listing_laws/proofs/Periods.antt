@@ -1,11 +1,11 @@
--- The text of a conforming list of periods, read from a line on.
+-- The text of a conforming list of periods, read from a line on, and whole.
 use Rattle.std.proofs.Common.{◌≡◌, ℕ, zero, suc, ◌+◌, ◌*◌, ◌/◌, ◌%◌, ◌<◌, ◌≤◌, Bool, true, false, ◌&&◌, ◌==◌, List, [], ◌∷◌, ◌++◌, length, refl, ap, sym, subst, ◌∙◌, arith, append_assoc, append-nil, length-append}
 use Rattle.std.specs.Prelude.{Option, None, nat_le, nat_lt, replicate}
 use Rattle.std.specs.List.{list_all}
 use Rattle.std.proofs.lemmas.Bool.{le-leb, eqb-true}
 use Rattle.hex.specs.Hex.{IsBytes}
 use Rattle.island_pack.specs.Periods.{ControlRun, DataIsland, Period, control, video, island, values_of, has_preamble, VIDEO_PREAMBLE, ISLAND_PREAMBLE, period_columns, columns_of}
-use Rattle.island_pack.specs.Conforming.{is_run, is_control_period, is_video_period, is_data_island, conforms}
+use Rattle.island_pack.specs.Conforming.{is_run, is_control_period, is_video_period, is_data_island, conforms, IsConforming}
 use Rattle.period_grammar.specs.Things.{run as run_thing, line as line_thing}
 use Rattle.source_end.specs.Refusals.{last_period, is_control_last, is_in_range, is_in_order, is_announced, is_long_enough, push_fault}
 use Rattle.source_end.proofs.Faults.{push_none}
@@ -15,16 +15,16 @@ use Rattle.listing.specs.Lines.{pieces_of}
 use Rattle.listing.specs.Forms.{control_line, video_line}
 use Rattle.listing.specs.Causes.{announces_island}
 use Rattle.listing.specs.LineSteps.{Read, accepts, tells, read_lines}
-use Rattle.listing.specs.Reading.{link_step}
+use Rattle.listing.specs.Reading.{link_step, reads_as}
 use Rattle.listing.specs.Told.{with_open}
 use Rattle.listing.proofs.Feeds.{and-left, and-right}
 use Rattle.listing.proofs.OpenPeriods.{last_of_more, run_more, columns_open}
-use Rattle.link_text.specs.Text.{line_of, run_lines, period_lines, text_of}
-use Rattle.link_text.proofs.Digits.{below-from, bytes_from}
-use Rattle.link_text.proofs.LineForms.{line_is, run_body, run_words, run_body_short, run_form, run_feedless, video_body, video_words, video_body_length, video_seen, video_feedless, end_body, end_form}
-use Rattle.link_text.proofs.LineSteps.{read_more, read_end}
-use Rattle.link_text.proofs.Islands.{told, read_island}
-use Rattle.link_text.proofs.NoCause.{run_cause_none, video_cause_none, end_cause_none}
+use Rattle.listing_laws.proofs.Text.{line_of, run_lines, period_lines, text_of}
+use Rattle.listing_laws.proofs.Digits.{below-from, bytes_from}
+use Rattle.listing_laws.proofs.LineForms.{line_is, run_body, run_words, run_body_short, run_form, run_feedless, video_body, video_words, video_body_length, video_seen, video_feedless, end_body, end_form}
+use Rattle.listing_laws.proofs.LineSteps.{read_more, read_end}
+use Rattle.listing_laws.proofs.Islands.{told, read_island}
+use Rattle.listing_laws.proofs.NoCause.{run_cause_none, video_cause_none, end_cause_none}
 
 least : (a b : ℕ) → nat_le a b ≡ true → a ≤ b
 least a b h = grind arith
@@ -123,13 +123,13 @@ read_last n at ps runs period few before =
     read_end n at (told (ps ++ control runs ∷ [])) end_body refl end_form (end_cause_none (told (ps ++ control runs ∷ [])) (is_last ps runs) (is_long ps runs period)) (omega arith)
 
 -- what the test of a video data period says
-record IsVideo (bytes : List ℕ) : Type 0 where
+pub record IsVideo (bytes : List ℕ) : Type 0 where
   pub values : IsBytes bytes
   pub whole : length bytes % 3 ≡ 0
   pub range : is_in_range (video bytes) ≡ true
   pub few : length bytes / 3 ≤ 4096
 
-video_is : (bytes : List ℕ) → is_video_period bytes ≡ true → IsVideo bytes
+pub video_is : (bytes : List ℕ) → is_video_period bytes ≡ true → IsVideo bytes
 unfolding is_video_period is_in_range
 video_is bytes period =
     let all = list_all (λ b. nat_lt b 256) bytes in
@@ -252,7 +252,7 @@ joined_pair : (ps : List Period) (p q : Period) (rest : List Period) → ((ps ++
 joined_pair ps p q rest = append_assoc (ps ++ p ∷ []) (q ∷ []) rest ∙ append_assoc ps (p ∷ []) (q ∷ rest)
 
 -- the text of the periods `rest` behind the periods `ps`
-pub read_periods : (rest ps : List Period) (n at : ℕ) → conforms rest ≡ true → is_control_last (last_period ps) ≡ false → columns_of ps + columns_of rest ≤ 20000000 → at ≤ 14 * columns_of ps
+read_periods : (rest ps : List Period) (n at : ℕ) → conforms rest ≡ true → is_control_last (last_period ps) ≡ false → columns_of ps + columns_of rest ≤ 20000000 → at ≤ 14 * columns_of ps
     → read_lines link_step n at (told ps) (pieces_of (text_of rest)) ≡ accepts (ps ++ rest)
 unfolding conforms
 read_periods [] ps n at good turn few before = absurd cc
@@ -298,3 +298,8 @@ read_periods (control runs ∷ (island x ∷ rest)) ps n at good turn few before
     (λ m to within.
     read_periods rest ((ps ++ control runs ∷ []) ++ island x ∷ []) m to later (ap is_control_last (last_of_more (ps ++ control runs ∷ []) (island x))) (omega arith) (omega arith)
     ∙ ap accepts (joined_pair ps (control runs) (island x) rest))
+
+-- the text of a conforming stream of at most 20,000,000 columns reads as that stream
+pub reads_back : (periods : List Period) → IsConforming periods → columns_of periods ≤ 20000000 → reads_as (text_of periods) ≡ accepts periods
+unfolding reads_as columns_of
+reads_back periods good few = read_periods periods [] 1 0 good refl (omega arith) (omega arith)

@@ -11,8 +11,8 @@ use Rattle.listing.specs.Forms.{control_line, video_line, end_line, form_of, is_
 use Rattle.listing.specs.Held.{is_feedless}
 use Rattle.listing.proofs.Feeds.{both}
 use Rattle.listing.specs.Texts.{words_of}
-use Rattle.link_text.specs.Text.{line_of}
-use Rattle.link_text.proofs.Digits.{number_of-decimal, decimal_feedless, digit_feedless, encode_feedless}
+use Rattle.listing_laws.proofs.Text.{line_of}
+use Rattle.listing_laws.proofs.Digits.{number_of-decimal, decimal_feedless, digit_feedless, encode_feedless}
 
 not_long : (n : ℕ) → n ≤ 32768 → nat_lt 32768 n ≡ false
 not_long n short = grind arith

@@ -17,8 +17,8 @@ use Rattle.listing.specs.Held.{is_feedless}
 use Rattle.listing.specs.Texts.{words_of, packet_fields, sync_digits}
 use Rattle.listing.proofs.Feeds.{and-left, and-right, both}
 use Rattle.listing.proofs.PacketForms.{form_packet, body_room}
-use Rattle.link_text.specs.Text.{told_packet}
-use Rattle.link_text.proofs.Digits.{bytes_from, below-from, digit, no_feed, encode_feedless}
+use Rattle.listing_laws.proofs.Text.{told_packet}
+use Rattle.listing_laws.proofs.Digits.{bytes_from, below-from, digit, no_feed, encode_feedless}
 
 back : (n : ℕ) → 48 + n - 48 ≡ n
 back n = omega arith
