@@ -21,8 +21,8 @@ use Rattle.source_end.specs.Content.{Frame}
 use Rattle.source_end.specs.Raster.{raster_of}
 use Rattle.source_end.specs.RasterRefusals.{raster_fault}
 use Rattle.listing.specs.ContentText.{content_lines, content_text}
-use Rattle.content_laws.specs.ListingLaws.{tells_picture}
-use Rattle.content_laws.proofs.PictureLines.{frame_lines_come_back}
+use Rattle.listing_laws.specs.ListingLaws.{tells_picture}
+use Rattle.listing_laws.proofs.PictureLines.{frame_lines_come_back}
 use Rattle.command_line.specs.declared.command.Command.TheVariants.{RecoverContent}
 use Rattle.hdmi_cli.specs.Listings.{content_listing}
 use Rattle.hdmi_cli.specs.Commands.{IsCommand}

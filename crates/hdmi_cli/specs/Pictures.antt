@@ -9,8 +9,8 @@ use Rattle.source_end.specs.declared.mode.Mode.{Mode}
 use Rattle.source_end.specs.Content.{Frame}
 use Rattle.source_end.specs.Raster.{raster_of}
 use Rattle.listing.specs.ContentText.{text_of}
-use Rattle.content_laws.specs.FrameLaws.{frames_came}
-use Rattle.content_laws.specs.ListingLaws.{tells_picture, line_of}
+use Rattle.listing_laws.specs.FrameLaws.{frames_came}
+use Rattle.listing_laws.specs.ListingLaws.{tells_picture, line_of}
 
 -- the output grew by lines and `end`; of the lines those of rows and frames are those of the raster's frames that came, of the
 -- columns that are aligned at three edges, which begin with column a, twelve before the end of a control period

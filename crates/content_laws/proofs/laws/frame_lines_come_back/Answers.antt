@@ -1,5 +1,0 @@
-use Rattle.content_laws.proofs.PictureLines.{frame_lines_come_back}
-use Rattle.content_laws.proofs.laws.frame_lines_come_back.Goals as goal
-
-pub returns : goal.returns
-returns c = frame_lines_come_back

@@ -1,5 +1,0 @@
-use Rattle.content_laws.proofs.Law.{frames_come_back}
-use Rattle.content_laws.proofs.laws.frames_come_back.Goals as goal
-
-pub returns : goal.returns
-returns c = frames_come_back

@@ -1,5 +1,0 @@
-use Rattle.content_laws.proofs.Law.{frames_heard}
-use Rattle.content_laws.proofs.laws.frames_heard.Goals as goal
-
-pub returns : goal.returns
-returns c = frames_heard

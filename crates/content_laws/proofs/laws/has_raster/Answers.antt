@@ -1,5 +1,0 @@
-use Rattle.content_laws.proofs.Rasters.{has_raster}
-use Rattle.content_laws.proofs.laws.has_raster.Goals as goal
-
-pub returns : goal.returns
-returns c = has_raster

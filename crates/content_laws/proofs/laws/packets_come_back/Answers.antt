@@ -1,5 +1,0 @@
-use Rattle.content_laws.proofs.Told.{packets_come_back}
-use Rattle.content_laws.proofs.laws.packets_come_back.Goals as goal
-
-pub returns : goal.returns
-returns c = packets_come_back

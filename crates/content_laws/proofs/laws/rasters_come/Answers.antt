@@ -1,5 +1,0 @@
-use Rattle.content_laws.proofs.Rasters.{rasters_come}
-use Rattle.content_laws.proofs.laws.rasters_come.Goals as goal
-
-pub returns : goal.returns
-returns c = rasters_come

@@ -1,5 +1,0 @@
-pub mod Listed
-pub mod FrameLaws
-pub mod PacketLaws
-pub mod ListingLaws
-pub mod Rasters

@@ -1,0 +1,450 @@
+-- The account of a raster tells what is seen of its parts.
+use Rattle.std.proofs.Common.{◌≡◌, ℕ, zero, suc, ◌+◌, ◌-◌, ◌*◌, ◌/◌, ◌<◌, ◌≤◌, Bool, true, false, not, cond, ◌==◌, List, [], ◌∷◌, ◌++◌, map, length, take, drop, replicate, min, Option, Some, None, refl, sym, ap, ap₂, subst, ◌∙◌, append_assoc, append-nil, arith, length-drop}
+use Rattle.std.specs.Prelude.{nat_lt, nat_le}
+use Rattle.std.proofs.lemmas.List.{drop-drop, drop-take, map-append, length-take}
+use Rattle.std.proofs.lemmas.Bool.{lt-ltb, le-ltb, eqb-true}
+use Rattle.tmds_word.specs.Column.{Column}
+use Rattle.terc4.specs.Tables.{is_control}
+use Rattle.terc4.specs.Columns.{is_video_guard, is_island_guard}
+use Rattle.bch_block.specs.declared.Verdict.{Verdict}
+use Rattle.bch_block.specs.declared.Verdict.TheVariants.{Clean, Mended, Lost}
+use Rattle.island_pack.specs.Periods.{ControlRun, DataIsland, Period, control as control_period, video, island, values_of, Pixel, pixels_of, period_columns, VIDEO_PREAMBLE, ISLAND_PREAMBLE}
+use Rattle.island_pack.specs.Runs.{join}
+use Rattle.island_pack.proofs.Runs.{join_values}
+use Rattle.island_pack.specs.declared.packet.Packet.{Packet}
+use Rattle.period_grammar.specs.Things.{Thing, preamble, cut, symbols, guard, all_at, thing_of}
+use Rattle.island_pack.specs.Repaired.{verdicts_of}
+use Rattle.period_grammar.specs.Column.{value_of}
+use Rattle.period_grammar.specs.Cut.{Run, columns, in_front, value, before_runs, runs as runs_of}
+use Rattle.period_grammar.specs.Island.{if_so, block_fault, block_faults, wrong_guards}
+use Rattle.period_grammar.specs.Coding.{first_uncoded}
+use Rattle.period_grammar.specs.Heard.{other_word, other_words, words, has_preamble, if_not, codes_of, code_fault}
+use Rattle.frame_build.specs.Event.{vsync_of}
+use Rattle.link_sink.specs.Account.{runs_row, control_row, wrong_preamble, open_video_row, open_island_row, close_island_row, pixel_bytes, video_row, video_told, packet_told, packets_told, island_told, period_row, account_from, account_at, account}
+use Rattle.link_sink.proofs.Cutting.{things_at}
+use Rattle.link_sink.proofs.Joining.{no_row, account_zero}
+use Rattle.source_end.specs.Raster.{Part, column, pixels, packets, before, gathered}
+use Rattle.source_end.specs.Gathering.{size}
+use Rattle.listing_laws.proofs.Machine.{Tick, control, pixels as pixels_tick, parted, ticks, ticks_append}
+use Rattle.listing_laws.proofs.Cells.{Cell, Hears, none, one, apart, row, hears_append}
+use Rattle.listing_laws.proofs.Cells as cell
+use Rattle.listing_laws.proofs.Parts.{row_cells, gap_cells, part_cells, parts_cells, parts_none}
+
+-- Control columns.
+
+abbrev tick_of : Column → Tick
+tick_of c = control (vsync_of (value_of c))
+
+no_word : (lane j : ℕ) (t : Bool) → ticks (other_word lane j t) ≡ []
+unfolding ticks
+no_word lane j true = refl
+no_word lane j false = refl
+
+no_both : (xs ys : List Thing) → ticks xs ≡ [] → ticks ys ≡ [] → ticks (xs ++ ys) ≡ []
+no_both xs ys h g = ticks_append xs ys ∙ ap₂ (λ (a b : List Tick). a ++ b) h g
+
+no_other_words : (j : ℕ) (c : Column) → ticks (other_words j c) ≡ []
+unfolding other_words
+no_other_words j c =
+    no_both (other_word 0 j (is_control c.blue)) _ (no_word 0 j (is_control c.blue))
+    (no_both (other_word 1 j (is_control c.green)) _ (no_word 1 j (is_control c.green)) (no_word 2 j (is_control c.red)))
+
+no_words : (j : ℕ) (cs : List Column) → ticks (map thing_of (words j cs)) ≡ []
+unfolding ticks
+no_words j [] = refl
+no_words j (c ∷ cs) =
+    ap ticks (map-append thing_of (all_at j (other_words j c)) (words (j + 1) cs) ∙ ap (λ (ts : List Thing). ts ++ map thing_of (words (j + 1) cs)) (things_at j (other_words j c)))
+    ∙ no_both (other_words j c) (map thing_of (words (j + 1) cs)) (no_other_words j c) (no_words (j + 1) cs)
+
+-- the columns of runs
+abbrev ticks_in : List Run → List Tick
+ticks_in [] = []
+ticks_in (columns v cs ∷ rs) = replicate (length cs) (control (vsync_of v)) ++ ticks_in rs
+
+runs_ticks : (j : ℕ) (rs : List Run) → ticks (runs_row j rs) ≡ ticks_in rs
+unfolding runs_row ticks
+runs_ticks j [] = refl
+runs_ticks j (columns v cs ∷ rs) =
+    ticks_append (map thing_of (words j cs)) _
+    ∙ ap₂ (λ (xs ys : List Tick). xs ++ (replicate (length cs) (control (vsync_of v)) ++ ys)) (no_words j cs) (runs_ticks (j + length cs) rs)
+
+front_ticks : (t : Bool) (c : Column) (r : Run) (rs : List Run) → (value_of c == value r) ≡ t → ticks_in (in_front t c r rs) ≡ tick_of c ∷ ticks_in (r ∷ rs)
+front_ticks true c (columns v cs) rs e = ap (λ (w : ℕ). control (vsync_of w) ∷ (replicate (length cs) (control (vsync_of v)) ++ ticks_in rs)) (sym (eqb-true (value_of c) v e))
+front_ticks false c (columns v cs) rs e = refl
+
+before_ticks : (c : Column) (rs : List Run) → ticks_in (before_runs c rs) ≡ tick_of c ∷ ticks_in rs
+before_ticks c [] = refl
+before_ticks c (r ∷ rs) = front_ticks (value_of c == value r) c r rs refl
+
+columns_ticks : (cs : List Column) → ticks_in (runs_of cs) ≡ map tick_of cs
+unfolding runs_of
+columns_ticks [] = refl
+columns_ticks (c ∷ cs) = before_ticks c (runs_of cs) ∙ ap (λ (ts : List Tick). tick_of c ∷ ts) (columns_ticks cs)
+
+row_ticks : (j : ℕ) (cs : List Column) → ticks (control_row j cs) ≡ map tick_of cs
+row_ticks j cs = runs_ticks j (runs_of cs) ∙ columns_ticks cs
+
+-- Gaps.
+
+-- things that frames see as gaps
+record AreGaps (ts : List Thing) : Type 0 where
+  many : ℕ
+  are : ticks ts ≡ replicate many parted
+
+more_gaps : (n m : ℕ) → replicate n parted ++ replicate m parted ≡ replicate (n + m) parted
+more_gaps zero m = let e : m ≡ 0 + m = omega arith in ap (λ (k : ℕ). replicate k parted) e
+more_gaps (suc n) m = let e : suc (n + m) ≡ suc n + m = omega arith in ap (λ (ts : List Tick). parted ∷ ts) (more_gaps n m) ∙ ap (λ (k : ℕ). replicate k parted) e
+
+gaps_both : (xs ys : List Thing) → AreGaps xs → AreGaps ys → AreGaps (xs ++ ys)
+gaps_both xs ys h k = record { many = h.many + k.many; are = ticks_append xs ys ∙ ap₂ (λ (a b : List Tick). a ++ b) h.are k.are ∙ more_gaps h.many k.many }
+
+no_gaps : AreGaps []
+unfolding ticks
+no_gaps = record { many = 0; are = refl }
+
+so_gaps : (t : Bool) (s n : ℕ) → AreGaps (if_so t (symbols s n))
+unfolding ticks
+so_gaps true s n = record { many = 1; are = refl }
+so_gaps false s n = record { many = 0; are = refl }
+
+guard_gaps : (t : Bool) (b : ℕ) → AreGaps (if_so t (guard b))
+unfolding ticks
+guard_gaps true b = record { many = 1; are = refl }
+guard_gaps false b = record { many = 0; are = refl }
+
+lack_gaps : (t : Bool) (b : ℕ) → AreGaps (if_not t (preamble b))
+unfolding ticks
+lack_gaps true b = record { many = 0; are = refl }
+lack_gaps false b = record { many = 1; are = refl }
+
+block_gaps : (s i : ℕ) (v : Verdict) → AreGaps (block_fault s i v)
+unfolding ticks
+block_gaps s i Clean = record { many = 0; are = refl }
+block_gaps s i (Mended k) = record { many = 1; are = refl }
+block_gaps s i Lost = record { many = 1; are = refl }
+
+blocks_gaps : (s i : ℕ) (vs : List Verdict) → AreGaps (block_faults s i vs)
+blocks_gaps s i [] = no_gaps
+blocks_gaps s i (v ∷ vs) = gaps_both (block_fault s i v) (block_faults s (i + 1) vs) (block_gaps s i v) (blocks_gaps s (i + 1) vs)
+
+code_gaps : (lane s : ℕ) (found : Option ℕ) → AreGaps (code_fault lane s found)
+unfolding ticks
+code_gaps lane s None = record { many = 0; are = refl }
+code_gaps lane s (Some i) = record { many = 1; are = refl }
+
+codes_gaps : (s : ℕ) (cs : List Column) → AreGaps (codes_of s cs)
+unfolding codes_of
+codes_gaps s cs =
+    gaps_both (code_fault 0 s (first_uncoded (map (λ c. c.blue) cs))) _ (code_gaps 0 s (first_uncoded (map (λ c. c.blue) cs)))
+    (gaps_both (code_fault 1 s (first_uncoded (map (λ c. c.green) cs))) _ (code_gaps 1 s (first_uncoded (map (λ c. c.green) cs))) (code_gaps 2 s (first_uncoded (map (λ c. c.red) cs))))
+
+guards_gaps : (is : Column → Bool) (b : ℕ) (g h : Column) → AreGaps (wrong_guards is b g h)
+guards_gaps is b g h = gaps_both (if_so (not (is g)) (guard b)) (if_so (not (is h)) (guard (b + 1))) (guard_gaps (not (is g)) b) (guard_gaps (not (is h)) (b + 1))
+
+open_video_gaps : (b : ℕ) (before rs : List Column) → AreGaps (open_video_row b before rs)
+unfolding open_video_row
+open_video_gaps b before [] = no_gaps
+open_video_gaps b before (g ∷ []) = no_gaps
+open_video_gaps b before (g ∷ (h ∷ rs)) = gaps_both (wrong_preamble b VIDEO_PREAMBLE before) (wrong_guards is_video_guard b g h) (lack_gaps (has_preamble VIDEO_PREAMBLE before) b) (guards_gaps is_video_guard b g h)
+
+-- a thing more in front of gaps
+gap_first : (t : Thing) (ts : List Thing) → ticks (t ∷ []) ≡ parted ∷ [] → AreGaps ts → AreGaps (t ∷ ts)
+unfolding ticks
+gap_first t ts e h = gaps_both (t ∷ []) ts (record { many = 1; are = e }) h
+
+packet_gaps : (s : ℕ) (p : Packet) (ss rs : List Column) → AreGaps (packet_told s p ss rs)
+unfolding packet_told ticks
+packet_gaps s p ss rs =
+    gap_first _ _ refl
+    (gaps_both (if_so (not ((verdicts_of rs).symbols == 0)) (symbols s (verdicts_of rs).symbols)) (block_faults s 0 (verdicts_of rs).blocks)
+    (so_gaps (not ((verdicts_of rs).symbols == 0)) s (verdicts_of rs).symbols) (blocks_gaps s 0 (verdicts_of rs).blocks))
+
+close_gaps : (s : ℕ) (rs : List Column) → AreGaps (close_island_row s rs)
+unfolding close_island_row ticks
+close_gaps s [] = no_gaps
+close_gaps s (c ∷ []) = no_gaps
+close_gaps s (c ∷ (d ∷ rs)) = gap_first _ _ refl (guards_gaps is_island_guard s c d)
+
+cut_gaps : (s : ℕ) → AreGaps (cut s ∷ [])
+unfolding ticks
+cut_gaps s = record { many = 1; are = refl }
+
+cond_gaps : (t : Bool) (xs ys : List Thing) → AreGaps xs → AreGaps ys → AreGaps (cond t xs ys)
+cond_gaps true xs ys h g = h
+cond_gaps false xs ys h g = g
+
+packets_gaps : (s : ℕ) (ps : List Packet) (i : ℕ) (ss rs : List Column) → AreGaps (packets_told cut s ps i ss rs)
+unfolding packets_told
+packets_gaps s [] i ss rs = cond_gaps (nat_le 2 i) _ _ (close_gaps s rs) (cut_gaps s)
+packets_gaps s (p ∷ ps) i ss rs =
+    cond_gaps (nat_lt i 32) _ _ (cut_gaps s)
+    (gaps_both (packet_told s p (take 32 ss) (take 32 rs)) (packets_told cut (s + 32) ps (i - 32) (drop 32 ss) (drop 32 rs)) (packet_gaps s p (take 32 ss) (take 32 rs)) (packets_gaps (s + 32) ps (i - 32) (drop 32 ss) (drop 32 rs)))
+
+-- an island is a gap at least
+one_gap : (n : ℕ) (ts : List Tick) → ts ≡ replicate (suc n) parted → Hears ts (cell.parted ∷ [])
+one_gap n ts e = subst (λ (us : List Tick). Hears us (cell.parted ∷ [])) (sym (e ∙ ap (λ (us : List Tick). parted ∷ us) (sym (append-nil (replicate n parted))))) (apart n [] [] none)
+
+-- an island opens with a thing whatever is wrong with it
+open_island_gaps : (b : ℕ) (before : List Column) (g h : Column) (rs : List Column) → (n : ℕ) × (ticks (open_island_row b before (g ∷ (h ∷ rs))) ≡ replicate (suc n) parted)
+unfolding open_island_row ticks
+open_island_gaps b before g h rs =
+    let w = lack_gaps (has_preamble ISLAND_PREAMBLE before) b in
+    let k = guards_gaps is_island_guard b g h in
+    let e : w.many + suc k.many ≡ suc (w.many + k.many) = omega arith in
+    (w.many + k.many, ticks_append (wrong_preamble b ISLAND_PREAMBLE before) _ ∙ ap₂ (λ (xs ys : List Tick). xs ++ (parted ∷ ys)) w.are k.are ∙ more_gaps w.many (suc k.many) ∙ ap (λ (n : ℕ). replicate n parted) e)
+
+island_hears : (j m : ℕ) (before : List Column) (x : DataIsland) (ss rs : List Column) → min m 2 ≤ length rs → Hears (ticks (island_told j m before x ss rs)) (gap_cells m)
+unfolding island_told ticks
+island_hears j zero before x ss rs le = none
+island_hears j (suc zero) before x ss rs le = apart 0 [] [] none
+island_hears j (suc (suc i)) before x ss [] le = absurd (omega (arith, le))
+island_hears j (suc (suc i)) before x ss (g ∷ []) le = absurd (omega (arith, le))
+island_hears j (suc (suc i)) before x ss (g ∷ (h ∷ rs)) le =
+    let o = open_island_gaps j before g h rs in
+    let p = packets_gaps (j + 2) x.packets i (drop 2 ss) (drop 2 (g ∷ (h ∷ rs))) in
+    let e : suc o.0 + p.many ≡ suc (o.0 + p.many) = omega arith in
+    one_gap (o.0 + p.many) _
+    (ticks_append (open_island_row j before (g ∷ (h ∷ rs))) _ ∙ ap₂ (λ (xs ys : List Tick). xs ++ ys) o.1 p.are ∙ more_gaps (suc o.0) p.many ∙ ap (λ (n : ℕ). replicate n parted) e)
+
+-- A row.
+
+whole_hears : (j : ℕ) (bytes : List ℕ) (n : ℕ) (ts us : List Thing) → ticks ts ≡ replicate n parted → AreGaps us → (told : Thing) → ticks (told ∷ us) ≡ pixels_tick bytes ∷ ticks us → Hears (ticks (ts ++ (told ∷ us))) (cell.pixels bytes ∷ [])
+whole_hears j bytes n ts us e g told l =
+    subst (λ (xs : List Tick). Hears xs (cell.pixels bytes ∷ []))
+    (sym (ticks_append ts (told ∷ us) ∙ ap₂ (λ (xs ys : List Tick). xs ++ ys) e (l ∙ ap (λ (xs : List Tick). pixels_tick bytes ∷ xs) (g.are ∙ sym (append-nil (replicate g.many parted))))))
+    (row bytes n g.many [] [] none)
+
+cut_hears : (n : ℕ) (ts : List Thing) (s : ℕ) → ticks ts ≡ replicate n parted → Hears (ticks (ts ++ (cut s ∷ []))) (cell.parted ∷ [])
+unfolding ticks
+cut_hears n ts s e =
+    let d : n + 1 ≡ suc n = omega arith in
+    one_gap n _ (ticks_append ts (cut s ∷ []) ∙ ap (λ (xs : List Tick). xs ++ (parted ∷ [])) e ∙ more_gaps n 1 ∙ ap (λ (k : ℕ). replicate k parted) d)
+
+line_hears : (t : Bool) (j n : ℕ) (ts : List Thing) (ps : List Pixel) (ss rs : List Column) → ticks ts ≡ replicate n parted
+    → Hears (ticks (ts ++ cond t (video_row j ps ss rs) (cut (j + 2) ∷ []))) (cond t (cell.pixels (pixel_bytes ps ss rs) ∷ []) (cell.parted ∷ []))
+unfolding video_row ticks
+line_hears true j n ts ps ss rs e = whole_hears j (pixel_bytes ps ss rs) n ts (codes_of (j + 2) rs) e (codes_gaps (j + 2) rs) _ refl
+line_hears false j n ts ps ss rs e = cut_hears n ts (j + 2) e
+
+video_hears : (j m : ℕ) (before : List Column) (ps : List Pixel) (ss rs : List Column) → Hears (ticks (video_told j m before ps ss rs)) (row_cells m ps ss rs)
+unfolding video_told ticks
+video_hears j zero before ps ss rs = none
+video_hears j (suc zero) before ps ss rs = apart 0 [] [] none
+video_hears j (suc (suc i)) before ps ss rs =
+    let o = open_video_gaps j before rs in
+    line_hears (nat_lt (length ps) i) j o.many (open_video_row j before rs) ps (drop 2 ss) (drop 2 rs) o.are
+
+-- Periods.
+
+-- the account of periods from column j on, the first of which, where it is a control period, has columns before them
+abbrev account_on : List Column → ℕ → ℕ → List Period → List Column → List Column → List Thing
+account_on acc j m [] ss rs = account_from j m acc [] ss rs
+account_on acc j m (control_period runs ∷ ps) ss rs =
+    control_row j (take m (take (period_columns (control_period runs)) rs))
+    ++ account_from (j + period_columns (control_period runs)) (m - period_columns (control_period runs)) (acc ++ take (period_columns (control_period runs)) rs) ps (drop (period_columns (control_period runs)) ss) (drop (period_columns (control_period runs)) rs)
+account_on acc j m (video bytes ∷ ps) ss rs = account_from j m acc (video bytes ∷ ps) ss rs
+account_on acc j m (island x ∷ ps) ss rs = account_from j m acc (island x ∷ ps) ss rs
+
+on_some : (periods : List Period) (b : List Column) (j m : ℕ) (ss rs : List Column) → (acc : List Column) × (account_from j m b periods ss rs ≡ account_on acc j m periods ss rs)
+unfolding account_from period_row
+on_some [] b j m ss rs = (b, refl)
+on_some (control_period runs ∷ ps) b j m ss rs = ([], refl)
+on_some (video bytes ∷ ps) b j m ss rs = (b, refl)
+on_some (island x ∷ ps) b j m ss rs = (b, refl)
+
+nothing_on : (periods : List Period) (acc : List Column) (j : ℕ) (ss rs : List Column) → account_on acc j 0 periods ss rs ≡ []
+nothing_on [] acc j ss rs = account_zero j acc [] ss rs
+nothing_on (control_period runs ∷ ps) acc j ss rs =
+    let n = period_columns (control_period runs) in
+    let e : 0 - n ≡ 0 = omega arith in
+    ap₂ (λ (xs ys : List Thing). xs ++ ys) (no_row j) (ap (λ (k : ℕ). account_from (j + n) k (acc ++ take n rs) ps (drop n ss) (drop n rs)) e ∙ account_zero (j + n) (acc ++ take n rs) ps (drop n ss) (drop n rs))
+nothing_on (video bytes ∷ ps) acc j ss rs = account_zero j acc (video bytes ∷ ps) ss rs
+nothing_on (island x ∷ ps) acc j ss rs = account_zero j acc (island x ∷ ps) ss rs
+
+longer_period : (v : ℕ) (runs : List ControlRun) → period_columns (control_period (join v runs)) ≡ suc (period_columns (control_period runs))
+unfolding period_columns
+longer_period v runs = ap length (join_values v runs)
+
+one_period : (v : ℕ) → period_columns (control_period (join v [])) ≡ 1
+unfolding period_columns values_of
+one_period v = refl
+
+none_taken : (m : ℕ) → map tick_of (take m []) ≡ []
+none_taken zero = refl
+none_taken (suc m) = refl
+
+alone_tick : (v : ℕ) (periods : List Period) (acc : List Column) (j m : ℕ) (ss : List Column) (c : Column) (rs : List Column)
+    → account_from (j + 1) m (acc ++ c ∷ []) periods (drop 1 ss) rs ≡ account_on (acc ++ c ∷ []) (j + 1) m periods (drop 1 ss) rs
+    → ticks (account_on acc j (suc m) (control_period (join v []) ∷ periods) ss (c ∷ rs)) ≡ tick_of c ∷ ticks (account_on (acc ++ c ∷ []) (j + 1) m periods (drop 1 ss) rs)
+alone_tick v periods acc j m ss c rs is =
+    let d : suc m - 1 ≡ m = omega arith in
+    ap (λ (n : ℕ). ticks (control_row j (take (suc m) (take n (c ∷ rs))) ++ account_from (j + n) (suc m - n) (acc ++ take n (c ∷ rs)) periods (drop n ss) (drop n (c ∷ rs)))) (one_period v)
+    ∙ ticks_append (control_row j (c ∷ take m [])) (account_from (j + 1) (suc m - 1) (acc ++ c ∷ []) periods (drop 1 ss) rs)
+    ∙ ap₂ (λ (xs ys : List Tick). xs ++ ys) (row_ticks j (c ∷ take m []) ∙ ap (λ (ts : List Tick). tick_of c ∷ ts) (none_taken m))
+    (ap (λ (k : ℕ). ticks (account_from (j + 1) k (acc ++ c ∷ []) periods (drop 1 ss) rs)) d ∙ ap ticks is)
+
+-- a control column before periods
+first_tick : (v : ℕ) (periods : List Period) (acc : List Column) (j m : ℕ) (ss : List Column) (c : Column) (rs : List Column)
+    → ticks (account_on acc j (suc m) (before v periods) ss (c ∷ rs)) ≡ tick_of c ∷ ticks (account_on (acc ++ c ∷ []) (j + 1) m periods (drop 1 ss) rs)
+first_tick v [] acc j m ss c rs = alone_tick v [] acc j m ss c rs refl
+first_tick v (video bytes ∷ periods) acc j m ss c rs = alone_tick v (video bytes ∷ periods) acc j m ss c rs refl
+first_tick v (island x ∷ periods) acc j m ss c rs = alone_tick v (island x ∷ periods) acc j m ss c rs refl
+first_tick v (control_period runs ∷ periods) acc j m ss c rs =
+    let n = period_columns (control_period runs) in
+    let e : j + suc n ≡ (j + 1) + n = omega arith in
+    let d : suc m - suc n ≡ m - n = omega arith in
+    let s : suc n ≡ 1 + n = omega arith in
+    ap (λ (k : ℕ). ticks (control_row j (take (suc m) (take k (c ∷ rs))) ++ account_from (j + k) (suc m - k) (acc ++ take k (c ∷ rs)) periods (drop k ss) (drop k (c ∷ rs)))) (longer_period v runs)
+    ∙ ticks_append (control_row j (c ∷ take m (take n rs))) (account_from (j + suc n) (suc m - suc n) (acc ++ (c ∷ take n rs)) periods (drop (suc n) ss) (drop n rs))
+    ∙ ap₂ (λ (xs ys : List Tick). xs ++ ys) (row_ticks j (c ∷ take m (take n rs)))
+    (ap₂ (λ (i k : ℕ). ticks (account_from i k (acc ++ (c ∷ take n rs)) periods (drop (suc n) ss) (drop n rs))) e d
+    ∙ ap₂ (λ (xs ys : List Column). ticks (account_from ((j + 1) + n) (m - n) xs periods ys (drop n rs))) (sym (append_assoc acc (c ∷ []) (take n rs))) (ap (λ (k : ℕ). drop k ss) s ∙ sym (drop-drop n 1 ss)))
+    ∙ ap (λ (xs : List Tick). tick_of c ∷ (xs ++ ticks (account_from ((j + 1) + n) (m - n) ((acc ++ c ∷ []) ++ take n rs) periods (drop n (drop 1 ss)) (drop n rs)))) (sym (row_ticks (j + 1) (take m (take n rs))))
+    ∙ ap (λ (ts : List Tick). tick_of c ∷ ts) (sym (ticks_append (control_row (j + 1) (take m (take n rs))) (account_from ((j + 1) + n) (m - n) ((acc ++ c ∷ []) ++ take n rs) periods (drop n (drop 1 ss)) (drop n rs))))
+
+pub cells_first : (v : ℕ) (parts : List Part) (m : ℕ) (ss : List Column) (c : Column) (rs : List Column)
+    → parts_cells (suc m) (column v ∷ parts) ss (c ∷ rs) ≡ cell.control (vsync_of v) (vsync_of (value_of c)) ∷ parts_cells m parts (drop 1 ss) rs
+unfolding parts_cells part_cells
+cells_first v parts m ss c rs =
+    let d : suc m - 1 ≡ m = omega arith in
+    ap (λ (k : ℕ). cell.control (vsync_of v) (vsync_of (value_of c)) ∷ parts_cells k parts (drop 1 ss) rs) d
+
+no_cells : Hears (ticks []) []
+unfolding ticks
+no_cells = none
+
+nothing_hears : (parts : List Part) (acc : List Column) (j : ℕ) (ss rs : List Column) → Hears (ticks (account_on acc j 0 (gathered parts) ss rs)) (parts_cells 0 parts ss rs)
+nothing_hears parts acc j ss rs =
+    subst (λ (ts : List Thing). Hears (ticks ts) (parts_cells 0 parts ss rs)) (sym (nothing_on (gathered parts) acc j ss rs)) (subst (λ (cs : List Cell). Hears (ticks []) cs) (sym (parts_none parts ss rs)) no_cells)
+
+-- a part that is a period of its own, and the parts behind it
+period_hears : (n j m : ℕ) (own : List Thing) (here : List Cell) (parts : List Part) (b ss rs : List Column) → Hears (ticks own) here
+    → ((acc : List Column) → Hears (ticks (account_on acc (j + n) (m - n) (gathered parts) (drop n ss) (drop n rs))) (parts_cells (m - n) parts (drop n ss) (drop n rs)))
+    → Hears (ticks (own ++ account_from (j + n) (m - n) b (gathered parts) (drop n ss) (drop n rs))) (here ++ parts_cells (m - n) parts (drop n ss) (drop n rs))
+period_hears n j m own here parts b ss rs h later =
+    let o = on_some (gathered parts) b (j + n) (m - n) (drop n ss) (drop n rs) in
+    let k = subst (λ (ts : List Thing). Hears (ticks ts) (parts_cells (m - n) parts (drop n ss) (drop n rs))) (sym o.1) (later o.0) in
+    subst (λ (ts : List Tick). Hears ts (here ++ parts_cells (m - n) parts (drop n ss) (drop n rs))) (sym (ticks_append own (account_from (j + n) (m - n) b (gathered parts) (drop n ss) (drop n rs))))
+    (hears_append (ticks own) (ticks (account_from (j + n) (m - n) b (gathered parts) (drop n ss) (drop n rs))) here (parts_cells (m - n) parts (drop n ss) (drop n rs)) h k)
+
+shorter_rest : (n m : ℕ) (rs : List Column) → m ≤ length rs → m - n ≤ length (drop n rs)
+shorter_rest n m rs le = let l = length-drop n rs in omega (arith, le, l)
+
+parts_hear : (parts : List Part) (acc : List Column) (j m : ℕ) (ss rs : List Column) → m ≤ length rs → Hears (ticks (account_on acc j m (gathered parts) ss rs)) (parts_cells m parts ss rs)
+unfolding gathered parts_cells part_cells account_from period_row period_columns ticks
+parts_hear parts acc j zero ss rs le = nothing_hears parts acc j ss rs
+parts_hear [] acc j (suc m) ss rs le = none
+parts_hear (column v ∷ parts) acc j (suc m) ss [] le = absurd (omega (arith, le))
+parts_hear (column v ∷ parts) acc j (suc m) ss (c ∷ rs) le =
+    subst (λ (cs : List Cell). Hears (ticks (account_on acc j (suc m) (before v (gathered parts)) ss (c ∷ rs))) cs) (sym (cells_first v parts m ss c rs))
+    (subst (λ (ts : List Tick). Hears ts (cell.control (vsync_of v) (vsync_of (value_of c)) ∷ parts_cells m parts (drop 1 ss) rs)) (sym (first_tick v (gathered parts) acc j m ss c rs))
+    (one (vsync_of v) (vsync_of (value_of c)) _ _ (parts_hear parts (acc ++ c ∷ []) (j + 1) m (drop 1 ss) rs (omega (arith, le)))))
+parts_hear (pixels bytes ∷ parts) acc j (suc m) ss rs le =
+    let n = 2 + length bytes / 3 in
+    period_hears n j (suc m) (video_told j (suc m) acc (pixels_of bytes) (take n ss) (take n rs)) (row_cells (suc m) (pixels_of bytes) (take n ss) (take n rs)) parts (take n rs) ss rs
+    (video_hears j (suc m) acc (pixels_of bytes) (take n ss) (take n rs))
+    (λ acc2. parts_hear parts acc2 (j + n) (suc m - n) (drop n ss) (drop n rs) (shorter_rest n (suc m) rs le))
+parts_hear (packets x ∷ parts) acc j (suc m) ss rs le =
+    let n = 4 + 32 * length x.packets in
+    let l = length-take n rs in
+    period_hears n j (suc m) (island_told j (suc m) acc x (take n ss) (take n rs)) (gap_cells (suc m)) parts (take n rs) ss rs
+    (island_hears j (suc m) acc x (take n ss) (take n rs) (omega (arith, l, le)))
+    (λ acc2. parts_hear parts acc2 (j + n) (suc m - n) (drop n ss) (drop n rs) (shorter_rest n (suc m) rs le))
+
+-- From a column on.
+
+pub video_size : (bytes : List ℕ) → period_columns (video bytes) ≡ 2 + length bytes / 3
+unfolding period_columns
+video_size bytes = refl
+
+pub island_size : (x : DataIsland) → period_columns (island x) ≡ 4 + 32 * length x.packets
+unfolding period_columns
+island_size x = refl
+
+lt_shift : (a l : ℕ) → nat_lt (1 + a) (1 + l) ≡ nat_lt a l
+lt_shift a l = grind arith
+
+past : (p : Period) (ps : List Period) (ss rs : List Column) (n a b m : ℕ) → period_columns p ≡ n → b ≡ n + a
+    → account (p ∷ ps) ss rs b m ≡ account ps (drop n ss) (drop n rs) a m
+unfolding account
+past p ps ss rs n a b m e d =
+    let f : nat_lt b (period_columns p) ≡ false = le-ltb b (period_columns p) (omega (arith, e, d)) in
+    let g : b - period_columns p ≡ a = omega (arith, e, d) in
+    ap (λ (x : Bool). cond x (account_at p b m ps ss rs) (account ps (drop (period_columns p) ss) (drop (period_columns p) rs) (b - period_columns p) m)) f
+    ∙ ap₂ (λ (x y : ℕ). account ps (drop x ss) (drop x rs) y m) e g
+
+-- m columns of a period of k columns from column a of it on
+abbrev at_with : ℕ → ℕ → ℕ → List Column → List Period → List Column → List Column → List Thing
+at_with k a m first ps ss rs = control_row 0 (take m first) ++ account_from (k - a) (m - (k - a)) first ps (drop k ss) (drop k rs)
+
+first_dropped : (n a : ℕ) (rs : List Column) → drop (1 + a) (take (1 + n) rs) ≡ drop a (take n (drop 1 rs))
+first_dropped n a rs = sym (drop-drop a 1 (take (1 + n) rs)) ∙ ap (drop a) (drop-take 1 n rs)
+
+-- a control column more, before
+past_column : (w : ℕ) (periods : List Period) (ss rs : List Column) (a m : ℕ) → account (before w periods) ss rs (1 + a) m ≡ account periods (drop 1 ss) (drop 1 rs) a m
+unfolding account account_at
+past_column w [] ss rs a m = past (control_period (join w [])) [] ss rs 1 a (1 + a) m (one_period w) refl
+past_column w (video bytes ∷ periods) ss rs a m = past (control_period (join w [])) (video bytes ∷ periods) ss rs 1 a (1 + a) m (one_period w) refl
+past_column w (island x ∷ periods) ss rs a m = past (control_period (join w [])) (island x ∷ periods) ss rs 1 a (1 + a) m (one_period w) refl
+past_column w (control_period runs ∷ periods) ss rs a m =
+    let n = period_columns (control_period runs) in
+    let s : period_columns (control_period (join w runs)) ≡ 1 + n = longer_period w runs ∙ omega arith in
+    let e : (1 + n) - (1 + a) ≡ n - a = omega arith in
+    let d : (1 + a) - (1 + n) ≡ a - n = omega arith in
+    ap (λ (k : ℕ). cond (nat_lt (1 + a) k) (at_with k (1 + a) m (drop (1 + a) (take k rs)) periods ss rs) (account periods (drop k ss) (drop k rs) ((1 + a) - k) m)) s
+    ∙ ap₂ (λ (b : Bool) (cs : List Column). cond b (at_with (1 + n) (1 + a) m cs periods ss rs) (account periods (drop (1 + n) ss) (drop (1 + n) rs) ((1 + a) - (1 + n)) m)) (lt_shift a n) (first_dropped n a rs)
+    ∙ ap₂ (λ (i k : ℕ). cond (nat_lt a n)
+    (control_row 0 (take m (drop a (take n (drop 1 rs)))) ++ account_from i (m - i) (drop a (take n (drop 1 rs))) periods (drop (1 + n) ss) (drop (1 + n) rs))
+    (account periods (drop (1 + n) ss) (drop (1 + n) rs) k m)) e d
+    ∙ ap₂ (λ (cs ds : List Column). cond (nat_lt a n)
+    (control_row 0 (take m (drop a (take n (drop 1 rs)))) ++ account_from (n - a) (m - (n - a)) (drop a (take n (drop 1 rs))) periods cs ds)
+    (account periods cs ds (a - n) m)) (sym (drop-drop n 1 ss)) (sym (drop-drop n 1 rs))
+
+pub at_start : (runs : List ControlRun) (periods : List Period) (ss rs : List Column) (m : ℕ) → 0 < period_columns (control_period runs)
+    → account (control_period runs ∷ periods) ss rs 0 m ≡ account_on [] 0 m (control_period runs ∷ periods) ss rs
+unfolding account account_at
+at_start runs periods ss rs m lt =
+    let n = period_columns (control_period runs) in
+    let e : n - 0 ≡ 0 + n = omega arith in
+    let d : m - (0 + n) ≡ m - n = omega arith in
+    ap (λ (b : Bool). cond b (at_with n 0 m (take n rs) periods ss rs) (account periods (drop n ss) (drop n rs) (0 - n) m)) (lt-ltb 0 n lt)
+    ∙ ap (λ (k : ℕ). control_row 0 (take m (take n rs)) ++ account_from k (m - k) (take n rs) periods (drop n ss) (drop n rs)) e
+    ∙ ap (λ (k : ℕ). control_row 0 (take m (take n rs)) ++ account_from (0 + n) k (take n rs) periods (drop n ss) (drop n rs)) d
+
+starts : (v : ℕ) (periods : List Period) (ss rs : List Column) (m : ℕ) → account (before v periods) ss rs 0 m ≡ account_on [] 0 m (before v periods) ss rs
+starts v [] ss rs m = at_start (join v []) [] ss rs m (omega (arith, one_period v))
+starts v (video bytes ∷ periods) ss rs m = at_start (join v []) (video bytes ∷ periods) ss rs m (omega (arith, one_period v))
+starts v (island x ∷ periods) ss rs m = at_start (join v []) (island x ∷ periods) ss rs m (omega (arith, one_period v))
+starts v (control_period runs ∷ periods) ss rs m = at_start (join v runs) periods ss rs m (omega (arith, longer_period v runs))
+
+-- a part more in front
+front_hears : (n : ℕ) (periods more : List Period) (front back : List Part) (v m : ℕ) (ss rs : List Column)
+    → account more ss rs (n + size front) m ≡ account periods (drop n ss) (drop n rs) (size front) m
+    → Hears (ticks (account periods (drop n ss) (drop n rs) (size front) m)) (parts_cells m (column v ∷ back) (drop (size front) (drop n ss)) (drop (size front) (drop n rs)))
+    → Hears (ticks (account more ss rs (n + size front) m)) (parts_cells m (column v ∷ back) (drop (n + size front) ss) (drop (n + size front) rs))
+front_hears n periods more front back v m ss rs e h =
+    subst (λ (ts : List Thing). Hears (ticks ts) (parts_cells m (column v ∷ back) (drop (n + size front) ss) (drop (n + size front) rs))) (sym e)
+    (subst (λ (cs : List Cell). Hears (ticks (account periods (drop n ss) (drop n rs) (size front) m)) cs)
+    (ap₂ (λ (cs ds : List Column). parts_cells m (column v ∷ back) cs ds) (drop-drop (size front) n ss) (drop-drop (size front) n rs)) h)
+
+fewer_left : (n k m : ℕ) (rs : List Column) → n + k + m ≤ length rs → k + m ≤ length (drop n rs)
+fewer_left n k m rs le = let l = length-drop n rs in omega (arith, le, l)
+
+pub account_hears : (front back : List Part) (v : ℕ) (m : ℕ) (ss rs : List Column) → size front + m ≤ length rs
+    → Hears (ticks (account (gathered (front ++ (column v ∷ back))) ss rs (size front) m)) (parts_cells m (column v ∷ back) (drop (size front) ss) (drop (size front) rs))
+unfolding gathered size
+account_hears [] back v m ss rs le =
+    subst (λ (ts : List Thing). Hears (ticks ts) (parts_cells m (column v ∷ back) ss rs)) (sym (starts v (gathered back) ss rs m)) (parts_hear (column v ∷ back) [] 0 m ss rs (omega (arith, le)))
+account_hears (column w ∷ front) back v m ss rs le =
+    front_hears 1 (gathered (front ++ (column v ∷ back))) (before w (gathered (front ++ (column v ∷ back)))) front back v m ss rs (past_column w (gathered (front ++ (column v ∷ back))) ss rs (size front) m)
+    (account_hears front back v m (drop 1 ss) (drop 1 rs) (fewer_left 1 (size front) m rs le))
+account_hears (pixels bytes ∷ front) back v m ss rs le =
+    let n = 2 + length bytes / 3 in
+    front_hears n (gathered (front ++ (column v ∷ back))) (video bytes ∷ gathered (front ++ (column v ∷ back))) front back v m ss rs
+    (past (video bytes) (gathered (front ++ (column v ∷ back))) ss rs n (size front) (n + size front) m (video_size bytes) refl)
+    (account_hears front back v m (drop n ss) (drop n rs) (fewer_left n (size front) m rs le))
+account_hears (packets x ∷ front) back v m ss rs le =
+    let n = 4 + 32 * length x.packets in
+    front_hears n (gathered (front ++ (column v ∷ back))) (island x ∷ gathered (front ++ (column v ∷ back))) front back v m ss rs
+    (past (island x) (gathered (front ++ (column v ∷ back))) ss rs n (size front) (n + size front) m (island_size x) refl)
+    (account_hears front back v m (drop n ss) (drop n rs) (fewer_left n (size front) m rs le))

@@ -1,0 +1,198 @@
+-- The columns that were sent and that came of a raster's parts, part by part.
+use Rattle.std.proofs.Common.{◌≡◌, ℕ, suc, ◌+◌, ◌*◌, ◌/◌, ◌≤◌, true, List, [], ◌∷◌, ◌++◌, length, drop, replicate, refl, sym, ap, subst, ◌∙◌, arith, length-append}
+use Rattle.std.specs.Prelude.{nat_lt}
+use Rattle.std.proofs.lemmas.List.{drop-drop, length-replicate}
+use Rattle.std.proofs.Math.Seq.{drop-append_seam}
+use Rattle.tmds_word.proofs.Below.{and-left, and-right}
+use Rattle.tmds_word.specs.Column.{Column}
+use Rattle.terc4.specs.Columns.{is_control_column}
+use Rattle.island_pack.specs.Periods.{ControlRun, Period, control as control_period, video, island, values_of}
+use Rattle.island_pack.specs.Runs.{join}
+use Rattle.island_pack.specs.Spelling.{control_column}
+use Rattle.island_pack.specs.Sparse.{no_column}
+use Rattle.island_pack.proofs.Runs.{join_values}
+use Rattle.link_sink.specs.Laws.{CameOf}
+use Rattle.link_sink.proofs.Cutting.{AllControl, NoneControl}
+use Rattle.link_sink.proofs.Rows.{control_columns, Small}
+use Rattle.link_sink.proofs.Conformed.{Conforms, conforming, HasValues, has_values}
+use Rattle.link_sink.proofs.Joining.{ArrivesPeriod, controls, Arrives, nothing, more, sized, IsBetween, IsTail, ends, goes_on, is_tail, inner_gap}
+use Rattle.link_sink.proofs.Framing.{arrived}
+use Rattle.source_end.specs.Raster.{Part, column, pixels, packets, before, gathered}
+use Rattle.source_end.specs.Gathering.{size}
+use Rattle.listing_laws.proofs.Accounted.{video_size as video_columns, island_size as island_columns}
+
+-- columns of a period that holds no control columns, as sent and as they came
+pub record IsOther (n : ℕ) (own came : List Column) : Type 0 where
+  pub sent : length own ≡ n
+  pub received : length came ≡ n
+  pub quiet : NoneControl came
+
+unfoldable Came : List Period → List Column → List Column → Type 0
+Came [] ss rs = (ss ≡ []) × (rs ≡ [])
+Came (control_period runs ∷ ps) ss rs =
+    (cs sent received : List Column) × (ss ≡ control_columns (values_of runs) ++ sent) × (rs ≡ cs ++ received) × (length cs ≡ length (values_of runs)) × AllControl cs × Small (values_of runs) × Came ps sent received
+Came (video bytes ∷ ps) ss rs = (own came sent received : List Column) × (ss ≡ own ++ sent) × (rs ≡ came ++ received) × IsOther (2 + length bytes / 3) own came × Came ps sent received
+Came (island x ∷ ps) ss rs = (own came sent received : List Column) × (ss ≡ own ++ sent) × (rs ≡ came ++ received) × IsOther (4 + 32 * length x.packets) own came × Came ps sent received
+
+twelve : List Column
+twelve = replicate 12 no_column
+
+twelve_long : 12 ≤ length twelve
+unfolding twelve
+twelve_long = let l : length twelve ≡ 12 = length-replicate 12 no_column in omega (arith, l)
+
+inner_came : (x : Period) (xs : List Period) (own came ss rs : List Column) → IsBetween x → ArrivesPeriod x own came → Came xs ss rs → Came (x ∷ xs) (own ++ ss) (came ++ rs)
+unfolding Came IsBetween
+inner_came (control_period runs) xs own came ss rs i a h = absurd i
+inner_came (video bytes) xs own came ss rs i a h =
+    let g = inner_gap twelve (video bytes) own came twelve_long i a in
+    let s = sized (video bytes) own came a in
+    (own, came, ss, rs, refl, refl, record { sent = s.sent ∙ video_columns bytes; received = s.received ∙ video_columns bytes; quiet = g.quiet }, h)
+inner_came (island x) xs own came ss rs i a h =
+    let g = inner_gap twelve (island x) own came twelve_long i a in
+    let s = sized (island x) own came a in
+    (own, came, ss, rs, refl, refl, record { sent = s.sent ∙ island_columns x; received = s.received ∙ island_columns x; quiet = g.quiet }, h)
+
+inner_values : (x : Period) (xs : List Period) → IsBetween x → HasValues (x ∷ xs) → HasValues xs
+unfolding HasValues IsBetween
+inner_values (control_period runs) xs i h = absurd i
+inner_values (video bytes) xs i h = h.1
+inner_values (island x) xs i h = h
+
+first_values : (runs : List ControlRun) (xs : List Period) → HasValues (control_period runs ∷ xs) → Small (values_of runs) × HasValues xs
+unfolding HasValues
+first_values runs xs h = h
+
+tail_came : (tail : List Period) → IsTail tail → HasValues tail → (ss rs : List Column) → Arrives tail ss rs → Came tail ss rs
+unfolding Came
+tail_came _ ends v _ _ nothing = (refl, refl)
+tail_came _ (goes_on x runs rest i long f) v _ _ (more _ _ own came _ _ a (more _ _ _ _ ss rs (controls _ cs n all) b)) =
+    let w = first_values runs rest (inner_values x (control_period runs ∷ rest) i v) in
+    inner_came x (control_period runs ∷ rest) own came (control_columns (values_of runs) ++ ss) (cs ++ rs) i a
+    (cs, ss, rs, refl, refl, n, all, w.0, tail_came rest f w.1 ss rs b)
+
+periods_came : (ps : List Period) (ss rs : List Column) → Conforms ps → HasValues ps → Arrives ps ss rs → Came ps ss rs
+unfolding Conforms Came
+periods_came [] ss rs c v a = absurd c
+periods_came (video bytes ∷ rest) ss rs c v a = absurd c
+periods_came (island x ∷ rest) ss rs c v a = absurd c
+periods_came (control_period runs ∷ rest) _ _ c v (more _ _ _ _ ss rs (controls _ cs n all) a) =
+    let w = first_values runs rest v in
+    (cs, ss, rs, refl, refl, n, all, w.0, tail_came rest (is_tail (values_of runs) rest c) w.1 ss rs a)
+
+-- Parts.
+
+unfoldable pub Arrived : List Part → List Column → List Column → Type 0
+Arrived [] ss rs = (ss ≡ []) × (rs ≡ [])
+Arrived (column v ∷ ps) ss rs =
+    (c : Column) × (sent received : List Column) × (ss ≡ control_column v ∷ sent) × (rs ≡ c ∷ received) × (is_control_column c ≡ true) × (nat_lt v 64 ≡ true) × Arrived ps sent received
+Arrived (pixels bytes ∷ ps) ss rs = (own came sent received : List Column) × (ss ≡ own ++ sent) × (rs ≡ came ++ received) × IsOther (2 + length bytes / 3) own came × Arrived ps sent received
+Arrived (packets x ∷ ps) ss rs = (own came sent received : List Column) × (ss ≡ own ++ sent) × (rs ≡ came ++ received) × IsOther (4 + 32 * length x.packets) own came × Arrived ps sent received
+
+record FirstCame (n : ℕ) (cs : List Column) : Type 0 where
+  c : Column
+  rest : List Column
+  are : cs ≡ c ∷ rest
+  control : is_control_column c ≡ true
+  all : AllControl rest
+  long : length rest ≡ n
+
+first_came : (n : ℕ) (cs : List Column) → length cs ≡ suc n → AllControl cs → FirstCame n cs
+first_came n [] e all = absurd (omega (arith, e))
+first_came n (c ∷ cs) e all = record { c = c; rest = cs; are = refl; control = and-left _ _ all; all = and-right (is_control_column c) _ all; long = omega (arith, e) }
+
+record ColumnCame (v : ℕ) (periods : List Period) (ss rs : List Column) : Type 0 where
+  c : Column
+  sent : List Column
+  received : List Column
+  sent_are : ss ≡ control_column v ∷ sent
+  received_are : rs ≡ c ∷ received
+  control : is_control_column c ≡ true
+  small : nat_lt v 64 ≡ true
+  later : Came periods sent received
+
+-- a control column before periods
+column_before : (v : ℕ) (runs : List ControlRun) (periods after : List Period) (ss rs cs sent received : List Column) → ss ≡ control_columns (values_of (join v runs)) ++ sent → rs ≡ cs ++ received
+    → length cs ≡ length (values_of (join v runs)) → AllControl cs → Small (values_of (join v runs))
+    → ((ds : List Column) → length ds ≡ length (values_of runs) → AllControl ds → Small (values_of runs) → Came after (control_columns (values_of runs) ++ sent) (ds ++ received)) → ColumnCame v after ss rs
+column_before v runs periods after ss rs cs sent received e d n all small later =
+    let j = join_values v runs in
+    let f = first_came (length (values_of runs)) cs (n ∙ ap length j) all in
+    let s = subst (λ (vs : List ℕ). Small vs) j small in
+    record {
+      c = f.c;
+      sent = control_columns (values_of runs) ++ sent;
+      received = f.rest ++ received;
+      sent_are = e ∙ ap (λ (vs : List ℕ). control_columns vs ++ sent) j;
+      received_are = d ∙ ap (λ (ds : List Column). ds ++ received) f.are;
+      control = f.control;
+      small = and-left _ _ s;
+      later = later f.rest f.long f.all (and-right (nat_lt v 64) _ s);
+    }
+
+none_left : (ds : List Column) → length ds ≡ length (values_of []) → ds ≡ []
+unfolding values_of
+none_left [] e = refl
+none_left (d ∷ ds) e = absurd (omega (arith, e))
+
+none_values : values_of [] ≡ []
+unfolding values_of
+none_values = refl
+
+alone_before : (v : ℕ) (after : List Period) (ss rs cs sent received : List Column) → ss ≡ control_columns (values_of (join v [])) ++ sent → rs ≡ cs ++ received
+    → length cs ≡ length (values_of (join v [])) → AllControl cs → Small (values_of (join v [])) → Came after sent received → ColumnCame v after ss rs
+alone_before v after ss rs cs sent received e d n all small later =
+    column_before v [] after after ss rs cs sent received e d n all small
+    (λ ds l a s. subst (λ (xs : List Column). Came after xs (ds ++ received)) (sym (ap (λ (vs : List ℕ). control_columns vs ++ sent) none_values)) (subst (λ (xs : List Column). Came after sent (xs ++ received)) (sym (none_left ds l)) later))
+
+column_came : (v : ℕ) (periods : List Period) (ss rs : List Column) → Came (before v periods) ss rs → ColumnCame v periods ss rs
+unfolding Came
+column_came v [] ss rs h = alone_before v [] ss rs h.0 h.1 h.2 h.3 h.4 h.5 h.6 h.7 h.8
+column_came v (video bytes ∷ periods) ss rs h = alone_before v (video bytes ∷ periods) ss rs h.0 h.1 h.2 h.3 h.4 h.5 h.6 h.7 h.8
+column_came v (island x ∷ periods) ss rs h = alone_before v (island x ∷ periods) ss rs h.0 h.1 h.2 h.3 h.4 h.5 h.6 h.7 h.8
+column_came v (control_period runs ∷ periods) ss rs h =
+    column_before v runs periods (control_period runs ∷ periods) ss rs h.0 h.1 h.2 h.3 h.4 h.5 h.6 h.7
+    (λ ds l a s. (ds, h.1, h.2, refl, refl, l, a, s, h.8))
+
+parts_came : (parts : List Part) (ss rs : List Column) → Came (gathered parts) ss rs → Arrived parts ss rs
+unfolding gathered Came Arrived
+parts_came [] ss rs h = h
+parts_came (column v ∷ parts) ss rs h =
+    let k = column_came v (gathered parts) ss rs h in
+    (k.c, k.sent, k.received, k.sent_are, k.received_are, k.control, k.small, parts_came parts k.sent k.received k.later)
+parts_came (pixels bytes ∷ parts) ss rs h = (h.0, h.1, h.2, h.3, h.4, h.5, h.6, parts_came parts h.2 h.3 h.7)
+parts_came (packets x ∷ parts) ss rs h = (h.0, h.1, h.2, h.3, h.4, h.5, h.6, parts_came parts h.2 h.3 h.7)
+
+pub parts_arrived : (parts : List Part) (sent received : List Column) → CameOf (gathered parts) sent received → Arrived parts sent received
+parts_arrived parts sent received came =
+    let c = conforming (gathered parts) came.conforming in
+    parts_came parts sent received (periods_came (gathered parts) sent received c (has_values (gathered parts) c) (arrived (gathered parts) sent received came))
+
+pub drop_front : (k : ℕ) (own cs : List Column) → length own ≡ k → drop k (own ++ cs) ≡ cs
+drop_front k own cs e = ap (λ (i : ℕ). drop i (own ++ cs)) (sym e) ∙ drop-append_seam own cs
+
+one_less : (n : ℕ) (c : Column) (cs : List Column) → drop n cs ≡ drop (1 + n) (c ∷ cs)
+one_less n c cs = drop-drop n 1 (c ∷ cs)
+
+less : (k n : ℕ) (own cs ds : List Column) → length own ≡ k → ds ≡ own ++ cs → drop n cs ≡ drop (k + n) ds
+less k n own cs ds e is = ap (drop n) (sym (drop_front k own cs e)) ∙ drop-drop n k (own ++ cs) ∙ sym (ap (drop (k + n)) is)
+
+pub arrived_append : (xs ys : List Part) (ss rs : List Column) → Arrived (xs ++ ys) ss rs → Arrived ys (drop (size xs) ss) (drop (size xs) rs)
+unfolding Arrived size
+arrived_append [] ys ss rs h = h
+arrived_append (column v ∷ xs) ys ss rs h =
+    subst (λ (cs : List Column). Arrived ys (drop (1 + size xs) ss) cs) (one_less (size xs) h.0 h.2 ∙ sym (ap (drop (1 + size xs)) h.4))
+    (subst (λ (cs : List Column). Arrived ys cs (drop (size xs) h.2)) (one_less (size xs) (control_column v) h.1 ∙ sym (ap (drop (1 + size xs)) h.3)) (arrived_append xs ys h.1 h.2 h.7))
+arrived_append (pixels bytes ∷ xs) ys ss rs h =
+    subst (λ (cs : List Column). Arrived ys (drop (2 + length bytes / 3 + size xs) ss) cs) (less (2 + length bytes / 3) (size xs) h.1 h.3 rs h.6.received h.5)
+    (subst (λ (cs : List Column). Arrived ys cs (drop (size xs) h.3)) (less (2 + length bytes / 3) (size xs) h.0 h.2 ss h.6.sent h.4) (arrived_append xs ys h.2 h.3 h.7))
+arrived_append (packets x ∷ xs) ys ss rs h =
+    subst (λ (cs : List Column). Arrived ys (drop (4 + 32 * length x.packets + size xs) ss) cs) (less (4 + 32 * length x.packets) (size xs) h.1 h.3 rs h.6.received h.5)
+    (subst (λ (cs : List Column). Arrived ys cs (drop (size xs) h.3)) (less (4 + 32 * length x.packets) (size xs) h.0 h.2 ss h.6.sent h.4) (arrived_append xs ys h.2 h.3 h.7))
+
+pub arrived_size : (parts : List Part) (ss rs : List Column) → Arrived parts ss rs → length ss ≡ size parts
+unfolding Arrived size
+arrived_size [] ss rs h = ap length h.0
+arrived_size (column v ∷ parts) ss rs h = let e = ap length h.3 in let k = arrived_size parts h.1 h.2 h.7 in omega (arith, e, k)
+arrived_size (pixels bytes ∷ parts) ss rs h = let e = ap length h.4 in let l = length-append h.0 h.2 in let k = arrived_size parts h.2 h.3 h.7 in omega (arith, e, l, k, h.6.sent)
+arrived_size (packets x ∷ parts) ss rs h = let e = ap length h.4 in let l = length-append h.0 h.2 in let k = arrived_size parts h.2 h.3 h.7 in omega (arith, e, l, k, h.6.sent)

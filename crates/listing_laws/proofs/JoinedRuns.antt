@@ -1,0 +1,104 @@
+-- Periods whose neighbouring runs of one value are joined: they conform, and the same columns spell them.
+use Rattle.std.proofs.Common.{◌≡◌, ℕ, suc, ◌+◌, true, false, Bool, List, [], ◌∷◌, length, map, refl, ap, ap₂, sym, ◌∙◌, arith}
+use Rattle.std.specs.Prelude.{nat_lt, nat_le}
+use Rattle.std.specs.List.{list_all}
+use Rattle.std.proofs.lemmas.Bool.{le-leb}
+use Rattle.tmds_word.specs.Column.{Column}
+use Rattle.tmds_word.proofs.Below.{and-left, and-right}
+use Rattle.island_pack.specs.Periods.{ControlRun, Period, control, video, island, values_of, has_preamble, VIDEO_PREAMBLE, ISLAND_PREAMBLE, period_columns, columns_of}
+use Rattle.island_pack.specs.Conforming.{is_run, is_control_period, is_video_period, is_data_island, conforms}
+use Rattle.island_pack.specs.Spelling.{control_column, SpellsPeriod, Spells}
+use Rattle.island_pack.specs.Runs.{joined, join, longest}
+use Rattle.island_pack.proofs.Runs.{values_longest}
+use Rattle.link_sink.proofs.Rows.{and_both, Small}
+use Rattle.link_sink.proofs.Conformed.{is_control_of}
+
+-- a period with the longest runs of its values
+abbrev pub joined_period : Period → Period
+joined_period (control runs) = control (longest (values_of runs))
+joined_period (video bytes) = video bytes
+joined_period (island x) = island x
+
+abbrev pub joined_periods : List Period → List Period
+joined_periods periods = map joined_period periods
+
+-- ---- they conform
+
+longer_run : (r : ControlRun) → is_run r ≡ true → is_run (record { value = r.value; count = suc r.count }) ≡ true
+longer_run r h = and_both _ _ (and-left (nat_lt r.value 64) _ h) (le-leb 1 (suc r.count) (omega arith))
+
+joined_runs : (same : Bool) (v : ℕ) (r : ControlRun) (rs : List ControlRun) → nat_lt v 64 ≡ true → list_all is_run (r ∷ rs) ≡ true → list_all is_run (joined same v r rs) ≡ true
+joined_runs true v r rs small h = and_both _ _ (longer_run r (and-left (is_run r) _ h)) (and-right (is_run r) _ h)
+joined_runs false v r rs small h = and_both _ _ (and_both _ _ small refl) h
+
+join_runs : (v : ℕ) (rs : List ControlRun) → nat_lt v 64 ≡ true → list_all is_run rs ≡ true → list_all is_run (join v rs) ≡ true
+join_runs v [] small h = and_both _ _ (and_both _ _ small refl) refl
+join_runs v (r ∷ rs) small h = joined_runs _ v r rs small h
+
+longest_runs : (vs : List ℕ) → Small vs → list_all is_run (longest vs) ≡ true
+unfolding longest
+longest_runs [] small = refl
+longest_runs (v ∷ vs) small = join_runs v (longest vs) (and-left (nat_lt v 64) _ small) (longest_runs vs (and-right (nat_lt v 64) _ small))
+
+joined_control : (runs : List ControlRun) → is_control_period runs ≡ true → is_control_period (longest (values_of runs)) ≡ true
+unfolding is_control_period
+joined_control runs h =
+    let vs = values_of runs in
+    let is = is_control_of runs h in
+    and_both _ _ (longest_runs vs is.small) (ap (λ (us : List ℕ). nat_le 12 (length us)) (values_longest vs) ∙ le-leb 12 (length vs) is.long)
+
+joined_preamble : (bits : ℕ) (runs : List ControlRun) → has_preamble bits (values_of runs) ≡ true → has_preamble bits (values_of (longest (values_of runs))) ≡ true
+joined_preamble bits runs h = ap (has_preamble bits) (values_longest (values_of runs)) ∙ h
+
+pub joined_conform : (ps : List Period) → conforms ps ≡ true → conforms (joined_periods ps) ≡ true
+unfolding conforms
+joined_conform [] h = h
+joined_conform (video bytes ∷ rest) h = h
+joined_conform (island x ∷ rest) h = h
+joined_conform (control runs ∷ []) h = joined_control runs h
+joined_conform (control runs ∷ (control more ∷ rest)) h = h
+joined_conform (control runs ∷ (video bytes ∷ rest)) h =
+    let led = has_preamble VIDEO_PREAMBLE (values_of runs) in
+    let behind = and-right (is_control_period runs) _ h in
+    let own = and-right led _ behind in
+    and_both _ _ (joined_control runs (and-left (is_control_period runs) _ h))
+    (and_both _ _ (joined_preamble VIDEO_PREAMBLE runs (and-left led _ behind))
+    (and_both _ _ (and-left (is_video_period bytes) _ own) (joined_conform rest (and-right (is_video_period bytes) _ own))))
+joined_conform (control runs ∷ (island x ∷ rest)) h =
+    let led = has_preamble ISLAND_PREAMBLE (values_of runs) in
+    let behind = and-right (is_control_period runs) _ h in
+    let own = and-right led _ behind in
+    and_both _ _ (joined_control runs (and-left (is_control_period runs) _ h))
+    (and_both _ _ (joined_preamble ISLAND_PREAMBLE runs (and-left led _ behind))
+    (and_both _ _ (and-left (is_data_island x) _ own) (joined_conform rest (and-right (is_data_island x) _ own))))
+
+-- ---- they have the same columns
+
+period_same : (p : Period) → period_columns (joined_period p) ≡ period_columns p
+unfolding period_columns
+period_same (control runs) = ap length (values_longest (values_of runs))
+period_same (video bytes) = refl
+period_same (island x) = refl
+
+pub columns_same : (ps : List Period) → columns_of (joined_periods ps) ≡ columns_of ps
+unfolding columns_of
+columns_same [] = refl
+columns_same (p ∷ ps) = ap₂ (λ (n m : ℕ). n + m) (period_same p) (columns_same ps)
+
+spelled_period : (p : Period) (cs : List Column) → SpellsPeriod (joined_period p) cs → SpellsPeriod p cs
+spelled_period (control runs) cs h = h ∙ ap (map control_column) (values_longest (values_of runs))
+spelled_period (video bytes) cs h = h
+spelled_period (island x) cs h = h
+
+period_spelled : (p : Period) (cs : List Column) → SpellsPeriod p cs → SpellsPeriod (joined_period p) cs
+period_spelled (control runs) cs h = h ∙ ap (map control_column) (sym (values_longest (values_of runs)))
+period_spelled (video bytes) cs h = h
+period_spelled (island x) cs h = h
+
+pub spelled_joined : (ps : List Period) (cs : List Column) → Spells (joined_periods ps) cs → Spells ps cs
+spelled_joined [] cs h = h
+spelled_joined (p ∷ ps) cs h = (h.0, h.1, h.2, spelled_period p h.0 h.3, spelled_joined ps h.1 h.4)
+
+pub joined_spelled : (ps : List Period) (cs : List Column) → Spells ps cs → Spells (joined_periods ps) cs
+joined_spelled [] cs h = h
+joined_spelled (p ∷ ps) cs h = (h.0, h.1, h.2, period_spelled p h.0 h.3, joined_spelled ps h.1 h.4)

@@ -1,0 +1,97 @@
+-- The lines that are written: they have no line feed, and the reader sees their forms.
+use Rattle.std.proofs.Common.{◌≡◌, ℕ, zero, suc, ◌+◌, ◌*◌, ◌/◌, ◌%◌, ◌^◌, ◌<◌, ◌≤◌, true, false, List, [], ◌∷◌, ◌++◌, length, refl, ap, ◌∙◌, arith, append_assoc}
+use Rattle.std.specs.Prelude.{Ok, slice_index, nat_lt}
+use Rattle.std.specs.Fmt.{decimal}
+use Rattle.std.proofs.lemmas.Fmt.{length-decimal-le}
+use Rattle.hex.specs.Hex.{IsBytes, encode_lower, encode_with, lower_digits, decode_of}
+use Rattle.hex.proofs.HexLemmas.{decode_of-encode_lower, length-encode_with}
+use Rattle.island_pack.specs.Periods.{ControlRun}
+use Rattle.period_grammar.specs.Things.{Thing, run as run_thing, line as line_thing}
+use Rattle.listing.specs.Forms.{control_line, video_line, end_line, form_of, is_fault, control_form, video_form}
+use Rattle.listing.specs.Held.{is_feedless}
+use Rattle.listing.proofs.Feeds.{both}
+use Rattle.listing.specs.Texts.{words_of}
+use Rattle.listing_laws.proofs.Text.{line_of}
+use Rattle.listing_laws.proofs.Digits.{number_of-decimal, decimal_feedless, digit_feedless, encode_feedless}
+
+not_long : (n : ℕ) → n ≤ 32768 → nat_lt 32768 n ≡ false
+not_long n short = grind arith
+
+-- ---- the line of a run
+
+-- a line as it stands before what follows it
+pub line_is : (t : Thing) (body rest : List ℕ) → words_of t ≡ body → line_of t ++ rest ≡ body ++ 10 ∷ rest
+line_is t body rest e = append_assoc (words_of t) (10 ∷ []) rest ∙ ap (λ (words : List ℕ). words ++ 10 ∷ rest) e
+
+abbrev pub run_body : ControlRun → List ℕ
+run_body r = 99 ∷ 32 ∷ slice_index lower_digits (r.value / 16) ∷ slice_index lower_digits (r.value % 16) ∷ 32 ∷ decimal r.count
+
+pub run_words : (r : ControlRun) → words_of (run_thing r.value r.count) ≡ run_body r
+unfolding words_of encode_with
+run_words r = refl
+
+one_byte : (value : ℕ) → value < 64 → IsBytes (value ∷ [])
+one_byte value below zero = omega arith
+one_byte value below (suc i) = omega arith
+
+value_read : (value : ℕ) → value < 64 → decode_of (slice_index lower_digits (value / 16) ∷ slice_index lower_digits (value % 16) ∷ []) ≡ Ok (value ∷ [])
+unfolding encode_with
+value_read value below = decode_of-encode_lower (value ∷ []) (one_byte value below)
+
+control_read : (value count : ℕ) → value < 64 → count ≤ 20000000
+    → control_form (slice_index lower_digits (value / 16) ∷ slice_index lower_digits (value % 16) ∷ 32 ∷ decimal count) ≡ control_line value count
+unfolding control_form
+control_read value count below few = rw (value_read value below, number_of-decimal count few) refl
+
+pub run_body_short : (r : ControlRun) → r.count ≤ 20000000 → length (run_body r) ≤ 13
+run_body_short r few = let digits = length-decimal-le 8 r.count (omega arith) (omega arith) (omega arith) in omega arith
+
+pub run_form : (r : ControlRun) → r.value < 64 → r.count ≤ 20000000 → form_of (run_body r) ≡ control_line r.value r.count
+unfolding form_of is_fault
+run_form r below few =
+    let short = not_long (length (run_body r)) (omega (arith, run_body_short r few)) in
+    rw short (control_read r.value r.count below few)
+
+pub run_feedless : (r : ControlRun) → r.count ≤ 20000000 → is_feedless (run_body r) ≡ true
+run_feedless r few =
+    let small : r.count < 2 ^ 64 = omega arith in
+    let high = digit_feedless lower_digits (r.value / 16) refl in
+    let low = digit_feedless lower_digits (r.value % 16) refl in
+    both _ _ high (both _ _ low (decimal_feedless r.count small))
+
+-- ---- the line of a video data period
+
+abbrev pub video_body : List ℕ → List ℕ
+video_body bytes = 118 ∷ 32 ∷ encode_lower bytes
+
+pub video_words : (bytes : List ℕ) → words_of (line_thing bytes) ≡ video_body bytes
+unfolding words_of
+video_words bytes = refl
+
+pub video_body_length : (bytes : List ℕ) → length (video_body bytes) ≡ 2 + 2 * length bytes
+video_body_length bytes = let digits = length-encode_with lower_digits bytes in omega arith
+
+video_read : (bytes : List ℕ) → IsBytes bytes → length bytes % 3 ≡ 0 → video_form (encode_lower bytes) ≡ video_line bytes
+unfolding video_form
+video_read bytes all whole =
+    let digits = length-encode_with lower_digits bytes in
+    let six : length (encode_lower bytes) % 6 ≡ 0 = omega arith in
+    rw (six, decode_of-encode_lower bytes all) refl
+
+pub video_seen : (bytes : List ℕ) → IsBytes bytes → length bytes % 3 ≡ 0 → length bytes / 3 ≤ 4096 → form_of (video_body bytes) ≡ video_line bytes
+unfolding form_of is_fault
+video_seen bytes all whole few =
+    let short = not_long (length (video_body bytes)) (omega (arith, video_body_length bytes)) in
+    rw short (video_read bytes all whole)
+
+pub video_feedless : (bytes : List ℕ) → is_feedless (video_body bytes) ≡ true
+video_feedless bytes = encode_feedless bytes
+
+-- ---- the line `end`
+
+abbrev pub end_body : List ℕ
+end_body = 101 ∷ 110 ∷ 100 ∷ []
+
+pub end_form : form_of end_body ≡ end_line
+unfolding form_of is_fault
+end_form = refl

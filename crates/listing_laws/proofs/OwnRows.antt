@@ -1,0 +1,223 @@
+-- The lines of the account of a period that came as it was sent: they tell the period with its longest runs.
+use Rattle.std.proofs.Common.{◌≡◌, ℕ, suc, zero, ◌+◌, ◌-◌, ◌*◌, ◌%◌, ◌<◌, ◌≤◌, Bool, true, false, cond, ◌==◌, List, [], ◌∷◌, ◌++◌, length, map, take, drop, refl, ap, ap₂, sym, ◌∙◌, append_assoc, append-nil, arith, take_at, drop_at, take_all}
+use Rattle.std.specs.Prelude.{nat_lt}
+use Rattle.std.proofs.lemmas.Bool.{eqb-true, eq-eqb, le-leb, lt-ltb, le-ltb}
+use Rattle.std.proofs.lemmas.List.{length-map}
+use Rattle.tmds_word.specs.Column.{Column}
+use Rattle.tmds_word.proofs.Below.{and-left, and-right, passes_below, passes_at}
+use Rattle.tmds_code.specs.Coding.{decoded_byte}
+use Rattle.terc4.specs.Tables.{terc_words, value_in}
+use Rattle.terc4.specs.Columns.{is_video_guard, is_island_guard}
+use Rattle.island_pack.specs.Nibbles.{nibble_of}
+use Rattle.island_pack.specs.Periods.{ControlRun, SyncPair, DataIsland, control, video, island, values_of, pixels_of, VIDEO_PREAMBLE, ISLAND_PREAMBLE}
+use Rattle.island_pack.specs.Packets.{CarriesFreely}
+use Rattle.island_pack.specs.Runs.{joined, join, longest}
+use Rattle.island_pack.specs.Spelling.{guard_column, guard_columns, words_of as words_in, SpellsPixels, SpellsPackets, SpellsPeriod}
+use Rattle.island_pack.specs.declared.packet.Packet.{Packet}
+use Rattle.period_grammar.specs.Column.{value_of, sync_digit}
+use Rattle.period_grammar.specs.Cut.{Run, columns, in_front, before_runs, runs as runs_of}
+use Rattle.period_grammar.specs.Heard.{words, has_preamble}
+use Rattle.period_grammar.specs.Island.{wrong_guards}
+use Rattle.period_grammar.specs.Packets.{verdicts_of}
+use Rattle.period_grammar.specs.Things.{run, line, cut, open_island, packet, close_island, thing_of}
+use Rattle.link_sink.specs.Account.{runs_row, control_row, wrong_preamble, open_video_row, open_island_row, close_island_row, byte, pixel_bytes, video_row, video_told, damage, sync_row, packet_row, packet_told, packets_told, island_told, period_row}
+use Rattle.link_sink.proofs.Conformed.{IsIsland}
+use Rattle.link_sink.proofs.IslandColumns.{packet_sent}
+use Rattle.link_sink.proofs.IslandTold.{frame}
+use Rattle.link_sink.proofs.Rows.{control_columns, Small}
+use Rattle.listing.specs.Texts.{words_of}
+use Rattle.listing_laws.proofs.AsSent.{as_sent_row}
+use Rattle.listing_laws.proofs.Fine.{value_back}
+use Rattle.listing_laws.proofs.SoundLines.{sound_lines, sound_append, silent_both, silent_words, silent_preamble, silent_guards, silent_codes, silent_packet}
+use Rattle.listing_laws.proofs.Text.{line_of, told_packet, run_lines, packet_lines, period_lines}
+use Rattle.listing_laws.proofs.Undamaged.{none_unlike}
+
+-- ---- a control period
+
+abbrev run_in : Run → ControlRun
+run_in (columns v cs) = record { value = v; count = length cs }
+
+runs_lines : (j : ℕ) (rs : List Run) → sound_lines (runs_row j rs) ≡ run_lines (map run_in rs)
+unfolding runs_row run_lines
+runs_lines j [] = refl
+runs_lines j (columns v cs ∷ rs) =
+    sound_append (map thing_of (words j cs)) (run v (length cs) ∷ runs_row (j + length cs) rs)
+    ∙ ap₂ (λ (a b : List ℕ). a ++ (line_of (run v (length cs)) ++ b)) (silent_words j cs) (runs_lines (j + length cs) rs)
+
+front_run : (same : Bool) (c : Column) (v : ℕ) (cs : List Column) (rs : List Run) → map run_in (in_front same c (columns v cs) rs) ≡ joined same (value_of c) (record { value = v; count = length cs }) (map run_in rs)
+front_run true c v cs rs = refl
+front_run false c v cs rs = refl
+
+first_run : (c : Column) (rs : List Run) → map run_in (before_runs c rs) ≡ join (value_of c) (map run_in rs)
+first_run c [] = refl
+first_run c (columns v cs ∷ rs) = front_run (value_of c == v) c v cs rs
+
+runs_are : (cs : List Column) → map run_in (runs_of cs) ≡ longest (map value_of cs)
+unfolding runs_of longest
+runs_are [] = refl
+runs_are (c ∷ cs) = first_run c (runs_of cs) ∙ ap (join (value_of c)) (runs_are cs)
+
+values_back : (vs : List ℕ) → Small vs → map value_of (control_columns vs) ≡ vs
+values_back [] small = refl
+values_back (v ∷ vs) small =
+    ap₂ (λ (w : ℕ) (ws : List ℕ). w ∷ ws) (value_back v (and-left (nat_lt v 64) _ small)) (values_back vs (and-right (nat_lt v 64) _ small))
+
+control_lines : (j : ℕ) (vs : List ℕ) → Small vs → sound_lines (control_row j (control_columns vs)) ≡ run_lines (longest vs)
+control_lines j vs small = runs_lines j (runs_of (control_columns vs)) ∙ ap run_lines (runs_are (control_columns vs) ∙ ap longest (values_back vs small))
+
+pub own_control : (j m : ℕ) (before : List Column) (runs : List ControlRun) (own : List Column) → Small (values_of runs) → SpellsPeriod (control runs) own → length own ≤ m
+    → sound_lines (period_row j m before (control runs) own own) ≡ run_lines (longest (values_of runs))
+unfolding period_row
+own_control j m before runs own small h whole =
+    ap (λ (cs : List Column). sound_lines (control_row j cs)) (take_all m own whole ∙ h) ∙ control_lines j (values_of runs) small
+
+-- ---- a video data period
+
+own_byte : (b s : ℕ) → byte b s s ≡ b
+own_byte b s = ap (λ (same : Bool). cond same b (decoded_byte s)) (eq-eqb s s refl)
+
+own_bytes : (bytes : List ℕ) (cs : List Column) → length bytes % 3 ≡ 0 → length cs ≡ length (pixels_of bytes) → pixel_bytes (pixels_of bytes) cs cs ≡ bytes
+unfolding pixels_of pixel_bytes
+own_bytes [] cs whole long = refl
+own_bytes (r ∷ []) cs whole long = absurd (omega (arith, whole))
+own_bytes (r ∷ (g ∷ [])) cs whole long = absurd (omega (arith, whole))
+own_bytes (r ∷ (g ∷ (b ∷ bytes))) [] whole long = absurd (omega (arith, long))
+own_bytes (r ∷ (g ∷ (b ∷ bytes))) (c ∷ cs) whole long =
+    ap₂ (λ (x : ℕ) (xs : List ℕ). x ∷ xs) (own_byte r c.red)
+    (ap₂ (λ (x : ℕ) (xs : List ℕ). x ∷ xs) (own_byte g c.green)
+    (ap₂ (λ (x : ℕ) (xs : List ℕ). x ∷ xs) (own_byte b c.blue) (own_bytes bytes cs (omega (arith, whole)) (omega (arith, long)))))
+
+pixels_lines : (b : ℕ) (bytes : List ℕ) (cs : List Column) → length bytes % 3 ≡ 0 → length cs ≡ length (pixels_of bytes) → sound_lines (video_row b (pixels_of bytes) cs cs) ≡ line_of (line bytes)
+unfolding video_row
+pixels_lines b bytes cs whole long =
+    ap₂ (λ (x : List ℕ) (text : List ℕ). line_of (line x) ++ text) (own_bytes bytes cs whole long) (silent_codes (b + 2) cs) ∙ append-nil (line_of (line bytes))
+
+open_video : (b : ℕ) (before : List Column) (g h : Column) (rs : List Column) → sound_lines (open_video_row b before (g ∷ (h ∷ rs))) ≡ []
+unfolding open_video_row
+open_video b before g h rs =
+    silent_both (wrong_preamble b VIDEO_PREAMBLE before) (wrong_guards is_video_guard b g h) (silent_preamble (has_preamble VIDEO_PREAMBLE before) b) (silent_guards is_video_guard b g h)
+
+video_lines : (b m : ℕ) (before : List Column) (bytes : List ℕ) (g h : Column) (cs : List Column) → length bytes % 3 ≡ 0 → length cs ≡ length (pixels_of bytes) → 2 + length cs < m
+    → sound_lines (video_told b m before (pixels_of bytes) (g ∷ (h ∷ cs)) (g ∷ (h ∷ cs))) ≡ line_of (line bytes)
+unfolding video_told
+video_lines b zero before bytes g h cs whole long lt = absurd (omega (arith, lt))
+video_lines b (suc zero) before bytes g h cs whole long lt = absurd (omega (arith, lt))
+video_lines b (suc (suc i)) before bytes g h cs whole long lt =
+    let opens = open_video_row b before (g ∷ (h ∷ cs)) in
+    let row = video_row b (pixels_of bytes) cs cs in
+    ap (λ (all : Bool). sound_lines (opens ++ cond all row (cut (b + 2) ∷ []))) (lt-ltb (length (pixels_of bytes)) i (omega (arith, long, lt)))
+    ∙ sound_append opens row
+    ∙ ap₂ (λ (x y : List ℕ). x ++ y) (open_video b before g h cs) (pixels_lines b bytes cs whole long)
+
+pixel_columns : (bytes : List ℕ) (cs : List Column) → SpellsPixels (pixels_of bytes) cs → length cs ≡ length (pixels_of bytes)
+pixel_columns bytes cs h = sym (length-map cs (λ c. c.blue)) ∙ h.blue.same_length ∙ length-map (pixels_of bytes) (λ p. p.blue)
+
+pub own_video : (j m : ℕ) (before : List Column) (bytes : List ℕ) (own : List Column) → length bytes % 3 ≡ 0 → SpellsPeriod (video bytes) own → length own < m
+    → sound_lines (period_row j m before (video bytes) own own) ≡ line_of (line bytes)
+unfolding period_row
+own_video j m before bytes own whole h more =
+    let size = ap length h.1 in
+    ap (λ (cs : List Column). sound_lines (video_told j m before (pixels_of bytes) cs cs)) h.1
+    ∙ video_lines j m before bytes _ _ h.0 whole (pixel_columns bytes h.0 h.2) (omega (arith, size, more))
+
+-- ---- a data island
+
+sync_test : passes_below 4 (λ v. sync_digit (guard_column v).blue == v) ≡ true
+unfolding passes_below sync_digit nibble_of value_in terc_words
+sync_test = refl
+
+sync_back : (v : ℕ) → v < 4 → sync_digit (guard_column v).blue ≡ v
+sync_back v lt = eqb-true (sync_digit (guard_column v).blue) v (passes_at 4 (λ v. sync_digit (guard_column v).blue == v) v sync_test lt)
+
+open_lines : (b : ℕ) (before : List Column) (pair : SyncPair) (rs : List Column) → pair.first < 4 → pair.second < 4
+    → sound_lines (open_island_row b before (guard_column pair.first ∷ (guard_column pair.second ∷ rs))) ≡ line_of (open_island pair.first pair.second)
+unfolding open_island_row
+open_lines b before pair rs first second =
+    let g = guard_column pair.first in
+    let h = guard_column pair.second in
+    let opens = open_island (sync_digit g.blue) (sync_digit h.blue) in
+    sound_append (wrong_preamble b ISLAND_PREAMBLE before) (opens ∷ wrong_guards is_island_guard b g h)
+    ∙ ap₂ (λ (x y : List ℕ). x ++ (line_of opens ++ y)) (silent_preamble (has_preamble ISLAND_PREAMBLE before) b) (silent_guards is_island_guard b g h)
+    ∙ append-nil (line_of opens)
+    ∙ ap₂ (λ (x y : ℕ). line_of (open_island x y)) (sync_back pair.first first) (sync_back pair.second second)
+
+close_lines : (s : ℕ) (pair : SyncPair) → pair.first < 4 → pair.second < 4 → sound_lines (close_island_row s (guard_columns pair)) ≡ line_of (close_island pair.first pair.second)
+unfolding close_island_row
+close_lines s pair first second =
+    let c = guard_column pair.first in
+    let d = guard_column pair.second in
+    let closes = close_island (sync_digit c.blue) (sync_digit d.blue) in
+    ap (λ (text : List ℕ). line_of closes ++ text) (silent_guards is_island_guard s c d)
+    ∙ append-nil (line_of closes)
+    ∙ ap₂ (λ (x y : ℕ). line_of (close_island x y)) (sync_back pair.first first) (sync_back pair.second second)
+
+own_damage : (cs : List Column) → damage cs cs ≡ 0
+unfolding damage
+own_damage [] = refl
+own_damage (c ∷ cs) = ap₂ (λ (n m : ℕ). n + m) (none_unlike (words_in c)) (own_damage cs)
+
+own_sync : (vs : List ℕ) (cs : List Column) → length vs ≡ length cs → sync_row vs cs cs ≡ vs
+unfolding sync_row
+own_sync [] cs long = refl
+own_sync (v ∷ vs) [] long = absurd (omega (arith, long))
+own_sync (v ∷ vs) (c ∷ cs) long =
+    ap₂ (λ (w : ℕ) (ws : List ℕ). w ∷ ws) (ap (λ (same : Bool). cond same v (sync_digit c.blue)) (eq-eqb c.blue c.blue refl)) (own_sync vs cs (omega (arith, long)))
+
+-- a packet that came as it was sent
+own_packet : (p : Packet) (own : List Column) → CarriesFreely p (map words_in own) → packet_row p own own ≡ p
+own_packet p own carries =
+    let none = own_damage own in
+    let count = packet_sent true p own carries in
+    let sync = carries.whole.sync in
+    as_sent_row p own own (omega (arith, none)) ∙ ap (λ (vs : List ℕ). record { header = p.header; bodies = p.bodies; sync = vs }) (own_sync p.sync own (omega (arith, count, sync)))
+
+one_packet : (s : ℕ) (p : Packet) (own : List Column) → CarriesFreely p (map words_in own) → sound_lines (packet_told s p own own) ≡ line_of (told_packet p)
+unfolding packet_told words_of
+one_packet s p own carries =
+    let v = verdicts_of own in
+    ap₂ (λ (q : Packet) (text : List ℕ). line_of (packet q v s) ++ text) (own_packet p own carries) (silent_packet s v) ∙ append-nil (line_of (packet p v s))
+
+packets_lines : (first : Bool) (s i : ℕ) (ps : List Packet) (closing : SyncPair) (cs : List Column) → closing.first < 4 → closing.second < 4 → SpellsPackets first ps cs → 32 * length ps + 2 ≤ i
+    → sound_lines (packets_told cut s ps i (cs ++ guard_columns closing) (cs ++ guard_columns closing)) ≡ packet_lines ps ++ line_of (close_island closing.first closing.second)
+unfolding packets_told packet_lines
+packets_lines first s i [] closing cs a b h le =
+    let behind = guard_columns closing in
+    ap (λ (ds : List Column). sound_lines (packets_told cut s [] i (ds ++ behind) (ds ++ behind))) h
+    ∙ ap (λ (all : Bool). sound_lines (cond all (close_island_row s behind) (cut s ∷ []))) (le-leb 2 i (omega (arith, le)))
+    ∙ close_lines s closing a b
+packets_lines first s i (p ∷ ps) closing cs a b h le =
+    let behind = guard_columns closing in
+    let own = h.0 in
+    let rest = h.1 in
+    let n = packet_sent first p own h.3.free in
+    let all = cs ++ behind in
+    let e : all ≡ own ++ (rest ++ behind) = ap (λ (ds : List Column). ds ++ behind) h.2 ∙ append_assoc own rest behind in
+    let t : take 32 all ≡ own = ap (take 32) e ∙ take_at own (rest ++ behind) 32 n in
+    let d : drop 32 all ≡ rest ++ behind = ap (drop 32) e ∙ drop_at own (rest ++ behind) 32 n in
+    let close = line_of (close_island closing.first closing.second) in
+    ap (λ (less : Bool). sound_lines (cond less (cut s ∷ []) (packet_told s p (take 32 all) (take 32 all) ++ packets_told cut (s + 32) ps (i - 32) (drop 32 all) (drop 32 all)))) (le-ltb i 32 (omega (arith, le)))
+    ∙ ap₂ (λ (x y : List Column). sound_lines (packet_told s p x x ++ packets_told cut (s + 32) ps (i - 32) y y)) t d
+    ∙ sound_append (packet_told s p own own) (packets_told cut (s + 32) ps (i - 32) (rest ++ behind) (rest ++ behind))
+    ∙ ap₂ (λ (x y : List ℕ). x ++ y) (one_packet s p own h.3.free) (packets_lines false (s + 32) (i - 32) ps closing rest a b h.4 (omega (arith, le)))
+    ∙ sym (append_assoc (line_of (told_packet p)) (packet_lines ps) close)
+
+island_lines : (b m : ℕ) (before : List Column) (x : DataIsland) (cs : List Column) → IsIsland x → SpellsPackets true x.packets cs → 4 + 32 * length x.packets ≤ m
+    → sound_lines (island_told b m before x (frame x cs) (frame x cs)) ≡ period_lines (island x)
+unfolding island_told period_lines
+island_lines b zero before x cs is h le = absurd (omega (arith, le))
+island_lines b (suc zero) before x cs is h le = absurd (omega (arith, le))
+island_lines b (suc (suc i)) before x cs is h le =
+    let behind = cs ++ guard_columns x.closing in
+    let opens = open_island_row b before (frame x cs) in
+    let close = line_of (close_island x.closing.first x.closing.second) in
+    let open_text = line_of (open_island x.opening.first x.opening.second) in
+    sound_append opens (packets_told cut (b + 2) x.packets i behind behind)
+    ∙ ap₂ (λ (t u : List ℕ). t ++ u) (open_lines b before x.opening behind is.open_first is.open_second)
+    (packets_lines true (b + 2) i x.packets x.closing cs is.close_first is.close_second h (omega (arith, le)))
+    ∙ sym (append_assoc open_text (packet_lines x.packets) close)
+
+pub own_island : (j m : ℕ) (before : List Column) (x : DataIsland) (own : List Column) → IsIsland x → SpellsPeriod (island x) own → 4 + 32 * length x.packets ≤ m
+    → sound_lines (period_row j m before (island x) own own) ≡ period_lines (island x)
+unfolding period_row
+own_island j m before x own is h le =
+    ap (λ (cs : List Column). sound_lines (island_told j m before x cs cs)) h.1 ∙ island_lines j m before x h.0 is h.2 le

@@ -1,0 +1,159 @@
+-- The content lines of a packet of which at most one word came unlike, and of the packets of periods.
+use Rattle.std.proofs.Common.{◌≡◌, ℕ, ◌+◌, ◌-◌, ◌<◌, ◌≤◌, Bool, true, false, if◌then◌else◌, List, [], ◌∷◌, ◌++◌, map, length, take, drop, Option, None, refl, sym, ap, ap₂, subst, ◌∙◌, append_assoc, arith}
+use Rattle.std.specs.Prelude.{is_some, slice_index, nat_le, Ok, Err, ◌==◌}
+use Rattle.std.specs.List.{find}
+use Rattle.std.proofs.lemmas.List.{drop-drop}
+use Rattle.tmds_word.specs.Column.{Column}
+use Rattle.bch_block.specs.declared.Verdict.{Verdict}
+use Rattle.bch_block.specs.declared.Verdict.TheVariants.{Clean, Mended, Lost}
+use Rattle.island_pack.specs.Packets.{body_of, CarriesFreely}
+use Rattle.island_pack.specs.Periods.{DataIsland, Period, control, video, island, period_columns}
+use Rattle.island_pack.specs.Spelling.{words_of, guard_columns}
+use Rattle.island_pack.specs.Taken.{verdict_on, spotless}
+use Rattle.island_pack.specs.declared.packet.Packet.{Packet}
+use Rattle.island_pack.specs.declared.packet.PacketVerdicts.{PacketVerdicts}
+use Rattle.island_pack.specs.Repaired.{verdicts_of}
+use Rattle.infoframe.specs.Frames.{answer, frame_in, length_in, sum_of, kind_of, has_length, frame_of, first_lost as first_lost_block}
+use Rattle.infoframe.specs.Frames as info
+use Rattle.audio_packets.specs.Clock.{are_alike, clock_in}
+use Rattle.audio_packets.specs.Samples.{has_many_channels, samples_from}
+use Rattle.audio_packets.specs.Faults.{first_lost, unless_lost}
+use Rattle.audio_packets.specs.Faults as audio
+use Rattle.audio_packets.specs.declared.fault.AudioFault.TheVariants.{Uneven, Layout}
+use Rattle.listing.specs.ContentText.{packet_lines, carried_lines, clock_lines, sample_lines, control_lines, info_lines, other_words}
+use Rattle.link_sink.specs.Account.{damage, packet_row}
+use Rattle.link_sink.proofs.Between.{take_seam, drop_seam}
+use Rattle.link_sink.proofs.IslandColumns.{ArePackets, no_packets, one_more, packet_sent, packet_came}
+use Rattle.link_sink.proofs.IslandTold.{framed, frame}
+use Rattle.link_sink.proofs.Joining.{controls, pixels, packets, Arrives, nothing, more, sized}
+use Rattle.link_sink.proofs.Framing.{arrived}
+use Rattle.listing_laws.specs.PacketLaws.{Placed, each_at, placed, came_packet}
+use Rattle.listing_laws.specs.ListingLaws.{Each, unlike_in, told_lines, PacketLinesAsSent, PacketLinesComeBack}
+use Rattle.listing_laws.proofs.AsSent.{as_sent_freely}
+
+-- the lines of a packet of which these blocks are lost
+abbrev lines_by : Option ℕ → Option ℕ → Packet → ℕ → List (List ℕ)
+lines_by lost missing p column =
+    if is_some lost then [] else
+    (if slice_index p.header 0 == 0 then []
+    else (if slice_index p.header 0 == 1 then clock_lines column (unless_lost missing (if are_alike p then Ok (clock_in (body_of p 0)) else Err Uneven))
+    else (if slice_index p.header 0 == 2 then sample_lines column (unless_lost missing (if has_many_channels p then Err Layout else Ok (samples_from p 0)))
+    else (if slice_index p.header 0 == 3 then control_lines column p.bodies
+    else (if nat_le 0x80 (slice_index p.header 0) then info_lines column (answer lost (has_length (kind_of (frame_in p).type_code (frame_in p).version) (length_in p)) (sum_of p) (frame_in p))
+    else other_words p ∷ [])))))
+
+lines_are : (p : Packet) (v : PacketVerdicts) (column : ℕ) → packet_lines p v column ≡ lines_by (first_lost_block v) (first_lost v) p column
+unfolding packet_lines carried_lines frame_of
+lines_are p v column = refl
+
+-- a packet without its sync values
+abbrev bare : List ℕ → List ℕ → Packet
+bare header bodies = record { header = header; bodies = bodies; sync = [] }
+
+lines_bare : (lost missing : Option ℕ) (p : Packet) (column : ℕ) → lines_by lost missing p column ≡ lines_by lost missing (bare p.header p.bodies) column
+unfolding frame_in length_in sum_of other_words
+lines_bare lost missing p column = refl
+
+not_lost : (v : Verdict) → (v ≡ Lost → ⊥) → (audio.is_lost v ≡ false) × (info.is_lost v ≡ false)
+not_lost Clean h = (refl, refl)
+not_lost (Mended i) h = (refl, refl)
+not_lost Lost h = absurd (h refl)
+
+none_found : (p : ℕ → Bool) → p 0 ≡ false → p 1 ≡ false → p 2 ≡ false → p 3 ≡ false → p 4 ≡ false → find p (0 ∷ (1 ∷ (2 ∷ (3 ∷ (4 ∷ []))))) ≡ None
+none_found p a b c d e = rw a (rw b (rw c (rw d (rw e refl))))
+
+none_missing : (v : PacketVerdicts) → ((b : ℕ) → b < 5 → verdict_on v b ≡ Lost → ⊥) → first_lost v ≡ None
+none_missing v h =
+    none_found (λ b. audio.is_lost (verdict_on v b))
+    ((not_lost (verdict_on v 0) (h 0 (omega arith))).0) ((not_lost (verdict_on v 1) (h 1 (omega arith))).0) ((not_lost (verdict_on v 2) (h 2 (omega arith))).0) ((not_lost (verdict_on v 3) (h 3 (omega arith))).0) ((not_lost (verdict_on v 4) (h 4 (omega arith))).0)
+
+none_lost : (v : PacketVerdicts) → ((b : ℕ) → b < 5 → verdict_on v b ≡ Lost → ⊥) → first_lost_block v ≡ None
+unfolding first_lost_block
+none_lost v h =
+    none_found (λ b. info.is_lost (verdict_on v b))
+    ((not_lost (verdict_on v 0) (h 0 (omega arith))).1) ((not_lost (verdict_on v 1) (h 1 (omega arith))).1) ((not_lost (verdict_on v 2) (h 2 (omega arith))).1) ((not_lost (verdict_on v 3) (h 3 (omega arith))).1) ((not_lost (verdict_on v 4) (h 4 (omega arith))).1)
+
+spotless_kept : first_lost_block spotless ≡ None
+unfolding first_lost_block
+spotless_kept = refl
+
+spotless_whole : first_lost spotless ≡ None
+spotless_whole = refl
+
+lines_freely : (p : Packet) (sent received : List Column) → CarriesFreely p (map words_of sent) → length received ≡ 32 → damage sent received ≤ 1 → (column : ℕ)
+    → packet_lines (packet_row p sent received) (verdicts_of received) column ≡ packet_lines p spotless column
+lines_freely p sent received carries long few column =
+    let h = as_sent_freely p sent received carries long few in
+    let told = packet_row p sent received in
+    let v = verdicts_of received in
+    lines_are told v column
+    ∙ lines_bare (first_lost_block v) (first_lost v) told column
+    ∙ ap₂ (λ (a b : List ℕ). lines_by (first_lost_block v) (first_lost v) (bare a b) column) h.header h.bodies
+    ∙ ap₂ (λ (a b : Option ℕ). lines_by a b (bare p.header p.bodies) column) (none_lost v h.kept ∙ sym spotless_kept) (none_missing v h.kept ∙ sym spotless_whole)
+    ∙ sym (lines_bare (first_lost_block spotless) (first_lost spotless) p column)
+    ∙ sym (lines_are p spotless column)
+
+pub packet_lines_as_sent : PacketLinesAsSent
+packet_lines_as_sent p first sent received carries long few column = lines_freely p sent received carries.free long few column
+
+-- Packets where they stand.
+
+abbrev IsListed : List Column → List Column → ℕ → Placed → Type 0
+IsListed sent received a k = unlike_in sent received k ≤ 1 → told_lines (came_packet sent received a k) ≡ packet_lines k.packet spotless (k.at - a)
+
+listed_here : (sent received : List Column) (a y : ℕ) (p : Packet) (own came : List Column) → CarriesFreely p (map words_of own) → length came ≡ 32 → take 32 (drop y sent) ≡ own → take 32 (drop y received) ≡ came
+    → IsListed sent received a (record { packet = p; at = y })
+listed_here sent received a y p own came carries long e d few =
+    let n : damage own came ≤ 1 = subst (λ (cs : List Column). damage own cs ≤ 1) d (subst (λ (cs : List Column). damage cs (take 32 (drop y received)) ≤ 1) e few) in
+    ap₂ (λ (cs ds : List Column). packet_lines (packet_row p cs ds) (verdicts_of ds) (y - a)) e d ∙ lines_freely p own came carries long n (y - a)
+
+-- the columns behind these
+next : (all on rest own : List Column) (y : ℕ) → drop y all ≡ own ++ (on ++ rest) → length own ≡ 32 → drop (y + 32) all ≡ on ++ rest
+next all on rest own y is long =
+    sym (drop-drop 32 y all) ∙ ap (drop 32) is ∙ drop_seam own (on ++ rest) 32 long
+
+each_listed : (sent received : List Column) (a : ℕ) (first : Bool) (ps : List Packet) (pp qq : List Column) → ArePackets first ps pp qq → (y : ℕ) (ss rs : List Column) → drop y sent ≡ pp ++ ss → drop y received ≡ qq ++ rs
+    → Each (IsListed sent received a) (each_at y ps)
+unfolding each_at
+each_listed sent received a _ _ _ _ (no_packets first) y ss rs e d = tt
+each_listed sent received a _ _ _ _ (one_more first p ps own came sent_on came_on c h hs) y ss rs e d =
+    let s = packet_sent first p own c in
+    let r = packet_came first p own came c h in
+    let e2 : drop y sent ≡ own ++ (sent_on ++ ss) = e ∙ append_assoc own sent_on ss in
+    let d2 : drop y received ≡ came ++ (came_on ++ rs) = d ∙ append_assoc came came_on rs in (
+      listed_here sent received a y p own came c r (ap (take 32) e2 ∙ take_seam own (sent_on ++ ss) 32 s) (ap (take 32) d2 ∙ take_seam came (came_on ++ rs) 32 r),
+      each_listed sent received a false ps sent_on came_on hs (y + 32) ss rs (next sent sent_on ss own y e2 s) (next received came_on rs came y d2 r),
+    )
+
+each_both : (P : Placed → Type 0) (ks ls : List Placed) → Each P ks → Each P ls → Each P (ks ++ ls)
+each_both P [] ls h g = g
+each_both P (k ∷ ks) ls h g = (h.0, each_both P ks ls h.1 g)
+
+-- the columns behind a period
+behind : (all own rest : List Column) (x n : ℕ) → drop x all ≡ own ++ rest → length own ≡ n → drop (x + n) all ≡ rest
+behind all own rest x n is long = sym (drop-drop n x all) ∙ ap (drop n) is ∙ drop_seam own rest n long
+
+-- the packets behind the guard that opens an island
+inside : (sent : List Column) (x : ℕ) (i : DataIsland) (pp ss : List Column) → drop x sent ≡ frame i pp ++ ss → drop (x + 2) sent ≡ pp ++ (guard_columns i.closing ++ ss)
+inside sent x i pp ss e = sym (drop-drop 2 x sent) ∙ ap (drop 2) e ∙ append_assoc pp (guard_columns i.closing) ss
+
+inside_came : (received : List Column) (x : ℕ) (g k : Column) (qq : List Column) (c f : Column) (rs : List Column) → drop x received ≡ framed g k qq c f ++ rs → drop (x + 2) received ≡ qq ++ ((c ∷ (f ∷ [])) ++ rs)
+inside_came received x g k qq c f rs e = sym (drop-drop 2 x received) ∙ ap (drop 2) e ∙ append_assoc qq (c ∷ (f ∷ [])) rs
+
+placed_listed : (sent received : List Column) (a : ℕ) (xs : List Period) (ss rs : List Column) → Arrives xs ss rs → (x : ℕ) → drop x sent ≡ ss → drop x received ≡ rs → Each (IsListed sent received a) (placed x xs)
+unfolding placed
+placed_listed sent received a _ _ _ nothing x e d = tt
+placed_listed sent received a _ _ _ (more _ xs own came ss rs (controls runs cs n all) h) x e d =
+    let s = sized (control runs) own came (controls runs cs n all) in
+    placed_listed sent received a xs ss rs h (x + period_columns (control runs)) (behind sent own ss x (period_columns (control runs)) e s.sent) (behind received came rs x (period_columns (control runs)) d s.received)
+placed_listed sent received a _ _ _ (more _ xs own came ss rs (pixels bytes g i pp qq guards are) h) x e d =
+    let s = sized (video bytes) own came (pixels bytes g i pp qq guards are) in
+    placed_listed sent received a xs ss rs h (x + period_columns (video bytes)) (behind sent own ss x (period_columns (video bytes)) e s.sent) (behind received came rs x (period_columns (video bytes)) d s.received)
+placed_listed sent received a _ _ _ (more _ xs own came ss rs (packets i g k c f pp qq guards are) h) x e d =
+    let s = sized (island i) own came (packets i g k c f pp qq guards are) in
+    each_both (IsListed sent received a) (each_at (x + 2) i.packets) (placed (x + period_columns (island i)) xs)
+    (each_listed sent received a true i.packets pp qq are (x + 2) (guard_columns i.closing ++ ss) ((c ∷ (f ∷ [])) ++ rs) (inside sent x i pp ss e) (inside_came received x g k qq c f rs d))
+    (placed_listed sent received a xs ss rs h (x + period_columns (island i)) (behind sent own ss x (period_columns (island i)) e s.sent) (behind received came rs x (period_columns (island i)) d s.received))
+
+pub packet_lines_come_back : PacketLinesComeBack
+packet_lines_come_back periods sent received came a = placed_listed sent received a periods sent received (arrived periods sent received came) 0 refl refl

@@ -1,0 +1,68 @@
+-- What is seen of the parts of a raster, part by part.
+use Rattle.std.proofs.Common.{◌≡◌, ℕ, zero, suc, ◌+◌, ◌-◌, cond, List, [], ◌∷◌, ◌++◌, length, take, drop, refl, sym, ap, ap₂, ◌∙◌, append_assoc, arith}
+use Rattle.std.specs.Prelude.{nat_lt}
+use Rattle.std.proofs.lemmas.List.{drop-drop}
+use Rattle.tmds_word.specs.Column.{Column}
+use Rattle.island_pack.specs.Periods.{Pixel, pixels_of}
+use Rattle.island_pack.specs.Sparse.{column_at}
+use Rattle.period_grammar.specs.Column.{value_of}
+use Rattle.frame_build.specs.Event.{vsync_of}
+use Rattle.link_sink.specs.Account.{pixel_bytes}
+use Rattle.source_end.specs.Raster.{Part, column, pixels, packets}
+use Rattle.source_end.specs.Gathering.{part_size, size}
+use Rattle.listing_laws.proofs.Cells.{Cell, control, pixels as pixels_cell, parted}
+
+-- a control column that was sent with a value, where a column came
+abbrev pub came : ℕ → ℕ → List Column → List Cell
+came zero v rs = []
+came (suc m) v rs = control (vsync_of v) (vsync_of (value_of (column_at rs 0))) ∷ []
+
+-- a row, of which m columns came; where it did not come whole, with the column after it, it is a gap
+abbrev pub row_cells : ℕ → List Pixel → List Column → List Column → List Cell
+row_cells zero ps ss rs = []
+row_cells (suc zero) ps ss rs = parted ∷ []
+row_cells (suc (suc i)) ps ss rs = cond (nat_lt (length ps) i) (pixels_cell (pixel_bytes ps (drop 2 ss) (drop 2 rs)) ∷ []) (parted ∷ [])
+
+-- a data island is a gap
+abbrev pub gap_cells : ℕ → List Cell
+gap_cells zero = []
+gap_cells (suc m) = parted ∷ []
+
+unfoldable pub part_cells : ℕ → Part → List Column → List Column → List Cell
+part_cells m (column v) ss rs = came m v rs
+part_cells m (pixels bytes) ss rs = row_cells m (pixels_of bytes) ss rs
+part_cells m (packets x) ss rs = gap_cells m
+
+-- what is seen of parts of which m columns came
+unfoldable pub parts_cells : ℕ → List Part → List Column → List Column → List Cell
+parts_cells m [] ss rs = []
+parts_cells m (p ∷ ps) ss rs = part_cells m p (take (part_size p) ss) (take (part_size p) rs) ++ parts_cells (m - part_size p) ps (drop (part_size p) ss) (drop (part_size p) rs)
+
+pub parts_append : (xs ys : List Part) (m : ℕ) (ss rs : List Column) → parts_cells m (xs ++ ys) ss rs ≡ parts_cells m xs ss rs ++ parts_cells (m - size xs) ys (drop (size xs) ss) (drop (size xs) rs)
+unfolding parts_cells size
+parts_append [] ys m ss rs =
+    let d : m ≡ m - 0 = omega arith in
+    ap (λ (y : ℕ). parts_cells y ys ss rs) d
+parts_append (x ∷ xs) ys m ss rs =
+    let n = part_size x in
+    let d : (m - n) - size xs ≡ m - (n + size xs) = omega arith in
+    ap (λ (ts : List Cell). part_cells m x (take n ss) (take n rs) ++ ts)
+    (parts_append xs ys (m - n) (drop n ss) (drop n rs)
+    ∙ ap (λ (ts : List Cell). parts_cells (m - n) xs (drop n ss) (drop n rs) ++ ts)
+    (ap (λ (k : ℕ). parts_cells k ys (drop (size xs) (drop n ss)) (drop (size xs) (drop n rs))) d
+    ∙ ap₂ (λ (cs ds : List Column). parts_cells (m - (n + size xs)) ys cs ds) (drop-drop (size xs) n ss) (drop-drop (size xs) n rs)))
+    ∙ sym (append_assoc (part_cells m x (take n ss) (take n rs)) _ _)
+
+part_none : (p : Part) (ss rs : List Column) → part_cells 0 p ss rs ≡ []
+unfolding part_cells
+part_none (column v) ss rs = refl
+part_none (pixels bytes) ss rs = refl
+part_none (packets x) ss rs = refl
+
+pub parts_none : (ps : List Part) (ss rs : List Column) → parts_cells 0 ps ss rs ≡ []
+unfolding parts_cells
+parts_none [] ss rs = refl
+parts_none (p ∷ ps) ss rs =
+    let n = part_size p in
+    let d : 0 - n ≡ 0 = omega arith in
+    ap₂ (λ (xs ys : List Cell). xs ++ ys) (part_none p (take n ss) (take n rs)) (ap (λ (k : ℕ). parts_cells k ps (drop n ss) (drop n rs)) d ∙ parts_none ps (drop n ss) (drop n rs))

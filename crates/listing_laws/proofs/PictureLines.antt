@@ -1,0 +1,184 @@
+-- The lines `row ..` and `frame ..` of a content listing are those of the rows and frames that are listed.
+use Rattle.std.proofs.Common.{◌≡◌, ℕ, ◌/◌, Bool, true, false, ◌==◌, if◌then◌else◌, cond, List, [], ◌∷◌, ◌++◌, map, length, take, drop, Option, Some, None, refl, sym, ap, ap₂, ◌∙◌}
+use Rattle.std.specs.Prelude.{is_some, slice_index, nat_le, Result, Ok, Err, codes}
+use Rattle.std.specs.List.{filter, flat_map}
+use Rattle.std.proofs.lemmas.List.{map-append}
+use Rattle.std.proofs.lemmas.List.Elements.{filter-append}
+use Rattle.hex.specs.Hex.{encode_lower}
+use Rattle.island_pack.specs.declared.packet.Packet.{Packet}
+use Rattle.island_pack.specs.declared.packet.PacketVerdicts.{PacketVerdicts}
+use Rattle.period_grammar.specs.Things.{Thing, run, line, word, short, preamble, noise, empty, code, long_line, cut, open_island, packet, close_island, symbols, mended, lost, long_island, broken, guard}
+use Rattle.period_grammar.specs.Heard.{heard}
+use Rattle.frame_build.specs.Event.{Event, run as run_event}
+use Rattle.frame_build.specs.Group.{frame_at, line_at}
+use Rattle.frame_build.specs.declared.FrameNote.{FrameNote}
+use Rattle.frame_build.specs.declared.LineNote.{LineNote}
+use Rattle.infoframe.specs.Frames.{Frame, frame_of, kind_of, first_lost}
+use Rattle.infoframe.specs.declared.content.InfoKind.{InfoKind}
+use Rattle.infoframe.specs.declared.content.InfoKind.TheVariants.{Avi, Audio, Spd, Raw}
+use Rattle.infoframe.specs.declared.content.InfoFault.{InfoFault}
+use Rattle.infoframe.specs.declared.content.InfoFault.TheVariants.{Lost as LostInfo, Length, Checksum}
+use Rattle.audio_packets.specs.Clock.{acr_of}
+use Rattle.audio_packets.specs.Samples.{samples_of}
+use Rattle.audio_packets.specs.declared.clock.Acr.{Acr}
+use Rattle.audio_packets.specs.declared.sample.SampleNote.{SampleNote}
+use Rattle.audio_packets.specs.declared.fault.AudioFault.{AudioFault}
+use Rattle.audio_packets.specs.declared.fault.AudioFault.TheVariants.{Lost as LostAudio, Uneven, Layout}
+use Rattle.source_end.specs.Formats.{formats, mode_in}
+use Rattle.listing.specs.Texts.{words_of}
+use Rattle.listing.specs.Fields.{with_fields}
+use Rattle.listing.specs.ContentText.{row_lines, has_other_size, vic_lines, frame_lines, clock_lines, sample_words, parity_words, side_lines, note_lines, sample_lines, is_usual_depth, depth_in, depth_lines, control_words, control_lines, avi_words, audio_words, spd_words, raw_words, info_words, checksum_words, info_lines, other_words, carried_lines, packet_lines, event_of, events, last_vic, lines_at, lines_after, content_lines}
+use Rattle.listing_laws.specs.Listed.{Listed, row, frame, listed_at, listed_from, listed}
+use Rattle.listing_laws.specs.Listed as pictures
+use Rattle.listing_laws.specs.ListingLaws.{tells_picture, line_of, FrameLinesComeBack}
+use Rattle.listing_laws.proofs.Law.{frames_heard}
+
+-- no line of these tells a row or a frame
+abbrev NoPictures : List (List ℕ) → Type 0
+NoPictures lines = filter tells_picture lines ≡ []
+
+both_none : (xs ys : List (List ℕ)) → NoPictures xs → NoPictures ys → NoPictures (xs ++ ys)
+both_none xs ys h k = filter-append tells_picture xs ys ∙ ap₂ (λ (a b : List (List ℕ)). a ++ b) h k
+
+choice_none : (t : Bool) (xs ys : List (List ℕ)) → NoPictures xs → NoPictures ys → NoPictures (if t then xs else ys)
+choice_none true xs ys h k = h
+choice_none false xs ys h k = k
+
+-- Packets.
+
+no_clock : (column : ℕ) (r : Result Acr AudioFault) → NoPictures (clock_lines column r)
+unfolding clock_lines
+no_clock column (Ok acr) = refl
+no_clock column (Err Uneven) = refl
+no_clock column (Err Layout) = refl
+no_clock column (Err (LostAudio block)) = refl
+
+no_left : (column place : ℕ) (even : Bool) → NoPictures (side_lines column place (codes "l") even)
+unfolding parity_words
+no_left column place true = refl
+no_left column place false = refl
+
+no_right : (column place : ℕ) (even : Bool) → NoPictures (side_lines column place (codes "r") even)
+unfolding parity_words
+no_right column place true = refl
+no_right column place false = refl
+
+no_sample : (note : SampleNote) → NoPictures (sample_words note.sample ∷ [])
+unfolding sample_words
+no_sample note = refl
+
+no_note : (column : ℕ) (note : SampleNote) → NoPictures (note_lines column note)
+unfolding note_lines
+no_note column note =
+    both_none (sample_words note.sample ∷ []) (side_lines column note.place (codes "l") note.left_even ++ side_lines column note.place (codes "r") note.right_even) (no_sample note)
+    (both_none (side_lines column note.place (codes "l") note.left_even) (side_lines column note.place (codes "r") note.right_even) (no_left column note.place note.left_even) (no_right column note.place note.right_even))
+
+no_notes : (column : ℕ) (notes : List SampleNote) → NoPictures (flat_map (note_lines column) notes)
+no_notes column [] = refl
+no_notes column (note ∷ notes) = both_none (note_lines column note) (flat_map (note_lines column) notes) (no_note column note) (no_notes column notes)
+
+no_samples : (column : ℕ) (r : Result (List SampleNote) AudioFault) → NoPictures (sample_lines column r)
+unfolding sample_lines
+no_samples column (Ok notes) = no_notes column notes
+no_samples column (Err Layout) = refl
+no_samples column (Err Uneven) = refl
+no_samples column (Err (LostAudio block)) = refl
+
+no_depth : (column depth : ℕ) → NoPictures (depth_lines column depth)
+unfolding depth_lines
+no_depth column depth = choice_none (is_usual_depth depth) [] _ refl refl
+
+no_control : (column : ℕ) (bodies : List ℕ) → NoPictures (control_lines column bodies)
+unfolding control_lines control_words
+no_control column bodies = both_none (control_words bodies ∷ []) (depth_lines column (depth_in bodies)) refl (no_depth column (depth_in bodies))
+
+no_info_words : (kind : InfoKind) (f : Frame) → NoPictures (info_words kind f ∷ [])
+unfolding info_words avi_words audio_words spd_words raw_words
+no_info_words Avi f = refl
+no_info_words Audio f = refl
+no_info_words Spd f = refl
+no_info_words Raw f = refl
+
+no_info : (column : ℕ) (r : Result Frame InfoFault) → NoPictures (info_lines column r)
+unfolding info_lines checksum_words
+no_info column (Ok f) = no_info_words (kind_of f.type_code f.version) f
+no_info column (Err Length) = refl
+no_info column (Err (Checksum total)) = refl
+no_info column (Err (LostInfo block)) = refl
+
+no_other : (p : Packet) → NoPictures (other_words p ∷ [])
+unfolding other_words
+no_other p = refl
+
+no_carried : (type_code : ℕ) (p : Packet) (v : PacketVerdicts) (column : ℕ) → NoPictures (carried_lines type_code p v column)
+unfolding carried_lines
+no_carried type_code p v column =
+    choice_none (type_code == 0) [] _ refl
+    (choice_none (type_code == 1) (clock_lines column (acr_of p v)) _ (no_clock column (acr_of p v))
+    (choice_none (type_code == 2) (sample_lines column (samples_of p v)) _ (no_samples column (samples_of p v))
+    (choice_none (type_code == 3) (control_lines column p.bodies) _ (no_control column p.bodies)
+    (choice_none (nat_le 0x80 type_code) (info_lines column (frame_of p v)) (other_words p ∷ []) (no_info column (frame_of p v)) (no_other p)))))
+
+no_packet : (p : Packet) (v : PacketVerdicts) (column : ℕ) → NoPictures (packet_lines p v column)
+unfolding packet_lines
+no_packet p v column = choice_none (is_some (first_lost v)) [] (carried_lines (slice_index p.header 0) p v column) refl (no_carried (slice_index p.header 0) p v column)
+
+-- Rows and frames.
+
+no_vic : (vic : Option ℕ) (note : FrameNote) → NoPictures (vic_lines vic note)
+unfolding vic_lines
+no_vic None note = refl
+no_vic (Some vic) note = choice_none (has_other_size (mode_in formats vic) note) _ [] refl refl
+
+frame_line : (vic : Option ℕ) (o : Option FrameNote) → filter tells_picture (frame_lines vic o) ≡ map line_of (pictures.frame_lines o)
+unfolding frame_lines
+frame_line vic None = refl
+frame_line vic (Some note) = ap (λ (xs : List (List ℕ)). line_of (frame note) ∷ xs) (no_vic vic note)
+
+ragged_none : (t : Bool) (n : ℕ) → NoPictures (if t then with_fields (codes "! ragged") (n ∷ []) ∷ [] else [])
+ragged_none t n = choice_none t _ [] refl refl
+
+row_line : (pixels : List ℕ) (note : LineNote) → filter tells_picture (row_lines pixels note) ≡ map line_of (pictures.row_lines pixels note)
+unfolding row_lines
+row_line pixels note = by_test note.counts
+  where
+    by_test : (t : Bool) → filter tells_picture (if t then (codes "row " ++ encode_lower pixels) ∷ (if note.ragged then with_fields (codes "! ragged") (note.row ∷ []) ∷ [] else []) else []) ≡ map line_of (cond t (row pixels note ∷ []) [])
+    by_test true = ap (λ (xs : List (List ℕ)). line_of (row pixels note) ∷ xs) (ragged_none note.ragged note.row)
+    by_test false = refl
+
+-- what is listed at a thing
+thing_lines : (told : List Thing) (thing : Thing) → filter tells_picture (lines_at told thing) ≡ map line_of (listed_at (events told) thing)
+unfolding lines_at event_of words_of
+thing_lines told (run value count) = frame_line (last_vic told) (frame_at (events told) (run_event value count))
+thing_lines told (line pixels) = row_line pixels (line_at (events told) (length pixels / 3))
+thing_lines told (packet p verdicts column) = no_packet p verdicts column
+thing_lines told (open_island a b) = refl
+thing_lines told (close_island a b) = refl
+thing_lines told (word lane j) = refl
+thing_lines told (short j) = refl
+thing_lines told (preamble j) = refl
+thing_lines told (noise j) = refl
+thing_lines told (empty j) = refl
+thing_lines told (code lane j) = refl
+thing_lines told (long_line j) = refl
+thing_lines told (cut j) = refl
+thing_lines told (symbols j count) = refl
+thing_lines told (mended j block bit) = refl
+thing_lines told (lost j block) = refl
+thing_lines told (long_island j) = refl
+thing_lines told (broken j) = refl
+thing_lines told (guard j) = refl
+
+all_lines : (told things : List Thing) → filter tells_picture (lines_after told things) ≡ map line_of (listed_from (events told) things)
+unfolding lines_after listed_from
+all_lines told [] = refl
+all_lines told (thing ∷ things) =
+    filter-append tells_picture (lines_at told thing) (lines_after (told ++ thing ∷ []) things)
+    ∙ ap₂ (λ (xs ys : List (List ℕ)). xs ++ ys) (thing_lines told thing)
+    (all_lines (told ++ thing ∷ []) things ∙ ap (λ (es : List Event). map line_of (listed_from es things)) (map-append event_of told (thing ∷ [])))
+    ∙ sym (map-append line_of (listed_at (events told) thing) (listed_from (events told ++ event_of thing ∷ []) things))
+
+pub frame_lines_come_back : FrameLinesComeBack
+unfolding content_lines
+frame_lines_come_back mode frames fault sent received came a m end le =
+    all_lines [] (heard (take m (drop a received))) ∙ ap (map line_of) (frames_heard mode frames fault sent received came a m end le)

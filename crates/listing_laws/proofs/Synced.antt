@@ -1,0 +1,247 @@
+-- Three neighbouring control columns with VSYNC active: where they came is what the cells say.
+use Rattle.std.proofs.Common.{◌≡◌, ℕ, zero, suc, ◌+◌, ◌-◌, ◌*◌, ◌/◌, ◌≤◌, Bool, true, false, not, ◌&&◌, ◌||◌, cond, List, [], ◌∷◌, ◌++◌, length, take, drop, refl, sym, ap, ap₂, ◌∙◌, arith}
+use Rattle.std.specs.Prelude.{nat_lt}
+use Rattle.tmds_word.proofs.Below.{and-left, and-right}
+use Rattle.tmds_word.specs.Column.{Column}
+use Rattle.terc4.specs.Columns.{is_control_column}
+use Rattle.island_pack.specs.Periods.{Pixel, pixels_of}
+use Rattle.island_pack.specs.Spelling.{control_column}
+use Rattle.period_grammar.specs.Column.{value_of}
+use Rattle.frame_build.specs.Event.{vsync_of, Mark, column, gap, has_vsync}
+use Rattle.frame_build.specs.Change.{three_have}
+use Rattle.link_sink.specs.Account.{pixel_bytes}
+use Rattle.link_sink.proofs.Cutting.{NoneControl}
+use Rattle.source_end.specs.declared.mode.Mode.{Mode}
+use Rattle.source_end.specs.Raster.{level, Part, column as column_part, pixels, packets}
+use Rattle.listing_laws.specs.FrameLaws.{is_sync, has_sync}
+use Rattle.listing_laws.proofs.Cells.{Cell, control, pixels as pixels_cell, parted, same_self, alike, three_alike, no_gap}
+use Rattle.listing_laws.proofs.Threes.{met, three_wrong}
+use Rattle.listing_laws.proofs.Parts.{row_cells, parts_cells, parts_none}
+use Rattle.listing_laws.proofs.Accounted.{cells_first}
+use Rattle.listing_laws.proofs.Arrived.{IsOther, Arrived, drop_front}
+use Rattle.listing_laws.proofs.Fine.{row_first_cells, island_first_cells}
+
+-- A column's mark.
+
+abbrev mark_by : Bool → ℕ → Mark
+mark_by true v = column (vsync_of v)
+mark_by false v = gap
+
+abbrev mark : Column → Mark
+mark c = mark_by (is_control_column c) (value_of c)
+
+-- whether three neighbouring columns of a level are among these, behind marks
+abbrev met_in : Bool → List Mark → List Column → Bool
+met_in b ms [] = false
+met_in b ms (c ∷ cs) = three_have b (mark c ∷ ms) || met_in b (mark c ∷ ms) cs
+
+abbrev newest : Bool → List Mark → Bool
+newest b [] = false
+newest b (m ∷ ms) = has_vsync b m
+
+abbrev second : Bool → List Mark → Bool
+second b [] = false
+second b (m ∷ ms) = newest b ms
+
+-- the same, by the two columns before
+abbrev look : Mode → Bool → Bool → List Column → Bool
+look mode t u [] = false
+look mode t u (c ∷ cs) = (is_sync mode c && (u && t)) || look mode u (is_sync mode c) cs
+
+sync_level : (p v : Bool) → level v p ≡ has_vsync p (column v)
+sync_level true true = refl
+sync_level true false = refl
+sync_level false true = refl
+sync_level false false = refl
+
+sync_mark : (mode : Mode) (c : Column) → is_sync mode c ≡ has_vsync mode.positive (mark c)
+sync_mark mode c = by_test (is_control_column c)
+  where
+    by_test : (t : Bool) → (t && level (vsync_of (value_of c)) mode.positive) ≡ has_vsync mode.positive (mark_by t (value_of c))
+    by_test true = sync_level mode.positive (vsync_of (value_of c))
+    by_test false = sym (no_gap mode.positive)
+
+and_none : (a b : Bool) → (a && (b && false)) ≡ false
+and_none true true = refl
+and_none true false = refl
+and_none false b = refl
+
+and_assoc : (a b c : Bool) → ((a && b) && c) ≡ (a && (b && c))
+and_assoc true b c = refl
+and_assoc false b c = refl
+
+three_by : (b : Bool) (m : Mark) (ms : List Mark) → three_have b (m ∷ ms) ≡ (has_vsync b m && (newest b ms && second b ms))
+three_by b m [] = sym (and_none (has_vsync b m) false)
+three_by b m (n ∷ []) = sym (and_none (has_vsync b m) (has_vsync b n))
+three_by b m (n ∷ (k ∷ ms)) = and_assoc (has_vsync b m) (has_vsync b n) (has_vsync b k)
+
+look_met : (mode : Mode) (ms : List Mark) (cs : List Column) → met_in mode.positive ms cs ≡ look mode (second mode.positive ms) (newest mode.positive ms) cs
+look_met mode ms [] = refl
+look_met mode ms (c ∷ cs) =
+    ap₂ (λ (x y : Bool). x || y) (three_by mode.positive (mark c) ms ∙ ap (λ (x : Bool). x && (newest mode.positive ms && second mode.positive ms)) (sym (sync_mark mode c)))
+    (look_met mode (mark c ∷ ms) cs ∙ ap (λ (x : Bool). look mode (newest mode.positive ms) x cs) (sym (sync_mark mode c)))
+
+turn_round : (a b c : Bool) → (a && (b && c)) ≡ (c && (b && a))
+turn_round true true true = refl
+turn_round true true false = refl
+turn_round true false true = refl
+turn_round true false false = refl
+turn_round false true true = refl
+turn_round false true false = refl
+turn_round false false true = refl
+turn_round false false false = refl
+
+has_look : (mode : Mode) (c d : Column) (cs : List Column) → has_sync mode (c ∷ (d ∷ cs)) ≡ look mode (is_sync mode c) (is_sync mode d) cs
+unfolding has_sync
+has_look mode c d [] = refl
+has_look mode c d (e ∷ cs) = ap₂ (λ (x y : Bool). x || y) (turn_round (is_sync mode c) (is_sync mode d) (is_sync mode e)) (has_look mode d e cs)
+
+first_looks : (a b x : Bool) → ((a && (false && false)) || ((b && (a && false)) || x)) ≡ x
+first_looks true true x = refl
+first_looks true false x = refl
+first_looks false true x = refl
+first_looks false false x = refl
+
+all_look : (mode : Mode) (cs : List Column) → has_sync mode cs ≡ look mode false false cs
+unfolding has_sync
+all_look mode [] = refl
+all_look mode (c ∷ []) = sym (one (is_sync mode c))
+  where
+    one : (a : Bool) → ((a && (false && false)) || false) ≡ false
+    one true = refl
+    one false = refl
+all_look mode (c ∷ (d ∷ cs)) = has_look mode c d cs ∙ sym (first_looks (is_sync mode c) (is_sync mode d) (look mode (is_sync mode c) (is_sync mode d) cs))
+
+has_met : (mode : Mode) (cs : List Column) → has_sync mode cs ≡ met_in mode.positive [] cs
+has_met mode cs = all_look mode cs ∙ sym (look_met mode [] cs)
+
+-- Gaps.
+
+three_gap : (b : Bool) (ms : List Mark) → three_have b (gap ∷ ms) ≡ false
+three_gap b [] = refl
+three_gap b (m ∷ []) = refl
+three_gap b (m ∷ (n ∷ ms)) = ap (λ (t : Bool). t && has_vsync b m && has_vsync b n) (no_gap b)
+
+three_any : (b v : Bool) (ms ns : List Mark) → alike ms ns ≡ true → three_have b (column v ∷ ms) ≡ three_have b (column v ∷ ns)
+three_any true true ms ns h = three_alike true ms ns h
+three_any true false ms ns h = three_wrong true ms ∙ sym (three_wrong true ns)
+three_any false true ms ns h = three_wrong false ms ∙ sym (three_wrong false ns)
+three_any false false ms ns h = three_alike false ms ns h
+
+quiet_mark : (c : Column) → not (is_control_column c) ≡ true → mark c ≡ gap
+quiet_mark c h = by_test (is_control_column c) h
+  where
+    by_test : (t : Bool) → not t ≡ true → mark_by t (value_of c) ≡ gap
+    by_test true e = absurd cc
+    by_test false e = refl
+
+mark_like : (b : Bool) (m : Mark) (ms ns : List Mark) → alike ms ns ≡ true → three_have b (m ∷ ms) ≡ three_have b (m ∷ ns)
+mark_like b (column v) ms ns h = three_any b v ms ns h
+mark_like b gap ms ns h = three_gap b ms ∙ sym (three_gap b ns)
+
+mark_alike : (m : Mark) (ms ns : List Mark) → alike ms ns ≡ true → alike (m ∷ ms) (m ∷ ns) ≡ true
+mark_alike (column v) ms ns h = ap₂ (λ (x y : Bool). x && y) (same_self v) h
+mark_alike gap ms ns h = refl
+
+met_alike : (b : Bool) (cs : List Column) (ms ns : List Mark) → alike ms ns ≡ true → met_in b ms cs ≡ met_in b ns cs
+met_alike b [] ms ns h = refl
+met_alike b (c ∷ cs) ms ns h = ap₂ (λ (x y : Bool). x || y) (mark_like b (mark c) ms ns h) (met_alike b cs (mark c ∷ ms) (mark c ∷ ns) (mark_alike (mark c) ms ns h))
+
+gap_met : (b : Bool) (cs : List Column) (ms : List Mark) → met_in b (gap ∷ ms) cs ≡ met_in b (gap ∷ []) cs
+gap_met b cs ms = met_alike b cs (gap ∷ ms) (gap ∷ []) refl
+
+-- columns that are no control columns, and those behind them
+past_quiet : (b : Bool) (own rest : List Column) (k : ℕ) (ms : List Mark) → NoneControl own → met_in b (gap ∷ ms) (take k (own ++ rest)) ≡ met_in b (gap ∷ []) (take (k - length own) rest)
+past_quiet b [] rest k ms h = let e : k ≡ k - 0 = omega arith in gap_met b (take k rest) ms ∙ ap (λ (n : ℕ). met_in b (gap ∷ []) (take n rest)) e
+past_quiet b (c ∷ own) rest zero ms h = let e : 0 ≡ 0 - length (c ∷ own) = omega arith in ap (λ (n : ℕ). met_in b (gap ∷ []) (take n rest)) e
+past_quiet b (c ∷ own) rest (suc k) ms h =
+    let e : k - length own ≡ suc k - length (c ∷ own) = omega arith in
+    ap (λ (m : Mark). three_have b (m ∷ (gap ∷ ms)) || met_in b (m ∷ (gap ∷ ms)) (take k (own ++ rest))) (quiet_mark c (and-left (not (is_control_column c)) _ h))
+    ∙ ap (λ (t : Bool). t || met_in b (gap ∷ (gap ∷ ms)) (take k (own ++ rest))) (three_gap b (gap ∷ ms))
+    ∙ past_quiet b own rest k (gap ∷ ms) (and-right (not (is_control_column c)) _ h)
+    ∙ ap (λ (n : ℕ). met_in b (gap ∷ []) (take n rest)) e
+
+-- Parts.
+
+none_met_in : (b : Bool) (ms : List Mark) (cs : List Column) → met_in b ms (take 0 cs) ≡ false
+none_met_in b ms cs = refl
+
+row_one : (bytes : List ℕ) (b : Bool) (ns : List Mark) (cs : List Cell) → met b ns (pixels_cell bytes ∷ cs) ≡ met b (gap ∷ ns) cs
+unfolding met
+row_one bytes b ns cs = refl
+
+gap_one : (b : Bool) (ns : List Mark) (cs : List Cell) → met b ns (parted ∷ cs) ≡ met b (gap ∷ ns) cs
+unfolding met
+gap_one b ns cs = refl
+
+row_met : (b : Bool) (m : ℕ) (ps : List Pixel) (ss rs : List Column) (ns : List Mark) (cs : List Cell) → met b ns (row_cells (suc m) ps ss rs ++ cs) ≡ met b (gap ∷ ns) cs
+unfolding met
+row_met b zero ps ss rs ns cs = refl
+row_met b (suc i) ps ss rs ns cs = by_test (nat_lt (length ps) i)
+  where
+    by_test : (t : Bool) → met b ns (cond t (pixels_cell (pixel_bytes ps (drop 2 ss) (drop 2 rs)) ∷ []) (parted ∷ []) ++ cs) ≡ met b (gap ∷ ns) cs
+    by_test true = row_one (pixel_bytes ps (drop 2 ss) (drop 2 rs)) b ns cs
+    by_test false = gap_one b ns cs
+
+no_cells : (b : Bool) (ns : List Mark) → met b ns [] ≡ false
+unfolding met
+no_cells b ns = refl
+
+nothing_met : (b : Bool) (ns : List Mark) (parts : List Part) (ss rs : List Column) → met b ns (parts_cells 0 parts ss rs) ≡ false
+nothing_met b ns parts ss rs = ap (met b ns) (parts_none parts ss rs) ∙ no_cells b ns
+
+empty_met : (b : Bool) (ns : List Mark) (k : ℕ) (ss rs : List Column) → met b ns (parts_cells k [] ss rs) ≡ false
+unfolding parts_cells met
+empty_met b ns k ss rs = refl
+
+take_nothing : (k : ℕ) (b : Bool) (ms : List Mark) → met_in b ms (take k []) ≡ false
+take_nothing zero b ms = refl
+take_nothing (suc k) b ms = refl
+
+column_met : (b u v : Bool) (ns : List Mark) (cs : List Cell) → met b ns (control u v ∷ cs) ≡ (three_have b (column v ∷ ns) || met b (column v ∷ ns) cs)
+unfolding met
+column_met b u v ns cs = refl
+
+-- a part that is a gap, and the parts behind it
+other_met : (b : Bool) (n : ℕ) (own came ss rs sent received : List Column) (parts : List Part) (k : ℕ) (ms ns : List Mark) → 1 ≤ n → IsOther n own came → ss ≡ own ++ sent → rs ≡ came ++ received
+    → (met_in b (gap ∷ []) (take (suc k - n) received) ≡ met b (gap ∷ ns) (parts_cells (suc k - n) parts sent received))
+    → met_in b ms (take (suc k) rs) ≡ met b (gap ∷ ns) (parts_cells (suc k - n) parts (drop n ss) (drop n rs))
+other_met b n own [] ss rs sent received parts k ms ns some o e d h = absurd (let l = o.received in omega (arith, l, some))
+other_met b n own (c ∷ came) ss rs sent received parts k ms ns some o e d h =
+    let l = o.received in
+    let q : k - length came ≡ suc k - n = omega (arith, l) in
+    let s = ap (drop n) e ∙ drop_front n own sent o.sent in
+    let r = ap (drop n) d ∙ drop_front n (c ∷ came) received o.received in
+    ap (λ (cs : List Column). met_in b ms (take (suc k) cs)) d
+    ∙ ap (λ (m : Mark). three_have b (m ∷ ms) || met_in b (m ∷ ms) (take k (came ++ received))) (quiet_mark c (and-left (not (is_control_column c)) _ o.quiet))
+    ∙ ap (λ (t : Bool). t || met_in b (gap ∷ ms) (take k (came ++ received))) (three_gap b ms)
+    ∙ past_quiet b came received k ms (and-right (not (is_control_column c)) _ o.quiet)
+    ∙ ap (λ (i : ℕ). met_in b (gap ∷ []) (take i received)) q
+    ∙ h
+    ∙ sym (ap₂ (λ (xs ys : List Column). met b (gap ∷ ns) (parts_cells (suc k - n) parts xs ys)) s r)
+
+parts_met : (b : Bool) (parts : List Part) (ss rs : List Column) → Arrived parts ss rs → (k : ℕ) (ms ns : List Mark) → alike ms ns ≡ true → met_in b ms (take k rs) ≡ met b ns (parts_cells k parts ss rs)
+unfolding Arrived
+parts_met b parts ss rs a zero ms ns h = sym (nothing_met b ns parts ss rs)
+parts_met b [] ss rs a (suc k) ms ns h = ap (λ (cs : List Column). met_in b ms (take (suc k) cs)) a.1 ∙ take_nothing (suc k) b ms ∙ sym (empty_met b ns (suc k) ss rs)
+parts_met b (column_part v ∷ parts) ss rs a (suc k) ms ns h =
+    let c = a.0 in
+    let l = vsync_of (value_of c) in
+    ap (λ (cs : List Column). met_in b ms (take (suc k) cs)) a.4
+    ∙ ap (λ (t : Bool). three_have b (mark_by t (value_of c) ∷ ms) || met_in b (mark_by t (value_of c) ∷ ms) (take k a.2)) a.5
+    ∙ ap₂ (λ (x y : Bool). x || y) (three_any b l ms ns h) (parts_met b parts a.1 a.2 a.7 k (column l ∷ ms) (column l ∷ ns) (mark_alike (column l) ms ns h))
+    ∙ sym (ap₂ (λ (xs ys : List Column). met b ns (parts_cells (suc k) (column_part v ∷ parts) xs ys)) a.3 a.4
+    ∙ ap (met b ns) (cells_first v parts k (control_column v ∷ a.1) c a.2)
+    ∙ column_met b (vsync_of v) l ns (parts_cells k parts a.1 a.2))
+parts_met b (pixels bytes ∷ parts) ss rs a (suc k) ms ns h =
+    let n = 2 + length bytes / 3 in
+    other_met b n a.0 a.1 ss rs a.2 a.3 parts k ms ns (omega arith) a.6 a.4 a.5 (parts_met b parts a.2 a.3 a.7 (suc k - n) (gap ∷ []) (gap ∷ ns) refl)
+    ∙ sym (ap (met b ns) (row_first_cells bytes parts (suc k) ss rs) ∙ row_met b k (pixels_of bytes) (take n ss) (take n rs) ns (parts_cells (suc k - n) parts (drop n ss) (drop n rs)))
+parts_met b (packets x ∷ parts) ss rs a (suc k) ms ns h =
+    let n = 4 + 32 * length x.packets in
+    other_met b n a.0 a.1 ss rs a.2 a.3 parts k ms ns (omega arith) a.6 a.4 a.5 (parts_met b parts a.2 a.3 a.7 (suc k - n) (gap ∷ []) (gap ∷ ns) refl)
+    ∙ sym (ap (met b ns) (island_first_cells x parts (suc k) ss rs) ∙ gap_one b ns (parts_cells (suc k - n) parts (drop n ss) (drop n rs)))
+
+-- three neighbouring columns with VSYNC active came of parts where their cells have them
+pub sync_cells : (mode : Mode) (parts : List Part) (ss rs : List Column) → Arrived parts ss rs → (k : ℕ) → has_sync mode (take k rs) ≡ met mode.positive [] (parts_cells k parts ss rs)
+sync_cells mode parts ss rs a k = has_met mode (take k rs) ∙ parts_met mode.positive parts ss rs a k [] [] refl

@@ -1,0 +1,5 @@
+use Rattle.listing_laws.proofs.Told.{packets_come_back}
+use Rattle.listing_laws.proofs.laws.packets_come_back.Goals as goal
+
+pub returns : goal.returns
+returns c = packets_come_back

@@ -1,0 +1,6 @@
+pub mod Listed
+pub mod FrameLaws
+pub mod PacketLaws
+pub mod ListingLaws
+pub mod LinkLaws
+pub mod Rasters

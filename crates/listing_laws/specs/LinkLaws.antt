@@ -1,0 +1,17 @@
+-- What a link listing reads back as.
+use Rattle.std.specs.Prelude.{◌≡◌, ◌↔◌, ◌≤◌, List, length}
+use Rattle.tmds_word.specs.Column.{Column}
+use Rattle.island_pack.specs.Periods.{Period, columns_of}
+use Rattle.island_pack.specs.Conforming.{IsConforming}
+use Rattle.island_pack.specs.Spelling.{Spells}
+use Rattle.link_sink.specs.Account.{account}
+use Rattle.listing.specs.LineSteps.{accepts}
+use Rattle.listing.specs.Reading.{reads_as}
+use Rattle.listing.specs.Texts.{link_text}
+
+-- the listing of a stream that came whole and undamaged reads back as a stream with the same columns
+unfoldable pub AccountReadsBack : Type 0
+AccountReadsBack =
+    (periods : List Period) (sent : List Column) → IsConforming periods → Spells periods sent → columns_of periods ≤ 20000000
+    → (again : List Period) × (reads_as (link_text (account periods sent sent 0 (length sent))) ≡ accepts again)
+    × IsConforming again × ((columns : List Column) → Spells again columns ↔ Spells periods columns)

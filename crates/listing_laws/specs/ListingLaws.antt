@@ -1,0 +1,69 @@
+-- Which lines of a content listing tell rows and frames, and what is listed of a packet of which at most one word came unlike.
+use Rattle.std.specs.Prelude.{◌≡◌, ℕ, ◌+◌, ◌-◌, ◌≤◌, Bool, true, false, ◌&&◌, ◌||◌, ◌==◌, List, [], ◌∷◌, ◌++◌, map, length, take, drop, None, codes}
+use Rattle.std.specs.List.{filter}
+use Rattle.hex.specs.Hex.{encode_lower}
+use Rattle.tmds_word.specs.Column.{Column}
+use Rattle.island_pack.specs.Periods.{Period}
+use Rattle.island_pack.specs.Spelling.{words_of}
+use Rattle.island_pack.specs.Packets.{Carries}
+use Rattle.island_pack.specs.Taken.{spotless}
+use Rattle.island_pack.specs.declared.packet.Packet.{Packet}
+use Rattle.island_pack.specs.Repaired.{verdicts_of}
+use Rattle.period_grammar.specs.Heard.{heard}
+use Rattle.link_sink.specs.Account.{damage, packet_row}
+use Rattle.link_sink.specs.Laws.{CameOf, EndsControl}
+use Rattle.source_end.specs.declared.mode.Mode.{Mode}
+use Rattle.source_end.specs.Content.{Frame}
+use Rattle.source_end.specs.Raster.{raster_of}
+use Rattle.source_end.specs.RasterRefusals.{raster_fault}
+use Rattle.listing.specs.Fields.{with_fields}
+use Rattle.listing.specs.ContentText.{packet_lines, content_lines}
+use Rattle.listing_laws.specs.Listed.{Listed, row, frame}
+use Rattle.listing_laws.specs.FrameLaws.{frames_came}
+use Rattle.listing_laws.specs.PacketLaws.{Placed, placed, ToldPacket, came_packet}
+
+abbrev pub begins_with : List ℕ → List ℕ → Bool
+begins_with [] line = true
+begins_with (b ∷ bs) [] = false
+begins_with (b ∷ bs) (c ∷ cs) = (b == c) && begins_with bs cs
+
+-- a line `row ..` or `frame ..`
+abbrev pub tells_picture : List ℕ → Bool
+tells_picture line = begins_with (codes "row ") line || begins_with (codes "frame ") line
+
+abbrev pub line_of : Listed → List ℕ
+line_of (row bytes note) = codes "row " ++ encode_lower bytes
+line_of (frame note) = with_fields (codes "frame") (note.width ∷ note.height ∷ [])
+
+-- the lines `row ..` and `frame ..` of a content listing of columns a up to a + m of a raster are those of the frames that came
+abbrev pub FrameLinesComeBack : Type 0
+FrameLinesComeBack =
+    (mode : Mode) (frames : List Frame) → raster_fault mode frames ≡ None
+    → (sent received : List Column) → CameOf (raster_of mode frames) sent received
+    → (a m : ℕ) → EndsControl (raster_of mode frames) (a + 11) → a + m ≤ length received
+    → filter tells_picture (content_lines (heard (take m (drop a received)))) ≡ map line_of (frames_came mode sent received a (a + m) 0 frames)
+
+-- the content lines of a packet of which at most one word came unlike are those of the packet as it was sent
+abbrev pub PacketLinesAsSent : Type 0
+PacketLinesAsSent =
+    (p : Packet) (first : Bool) (sent received : List Column) → Carries p first (map words_of sent) → length received ≡ 32
+    → damage sent received ≤ 1 → (column : ℕ) → packet_lines (packet_row p sent received) (verdicts_of received) column ≡ packet_lines p spotless column
+
+-- each of these packets
+abbrev pub Each : (Placed → Type 0) → List Placed → Type 0
+Each P [] = Unit {0}
+Each P (k ∷ ks) = P k × Each P ks
+
+-- how many of its words came unlike
+abbrev pub unlike_in : List Column → List Column → Placed → ℕ
+unlike_in sent received k = damage (take 32 (drop k.at sent)) (take 32 (drop k.at received))
+
+-- the content lines of a told packet
+abbrev pub told_lines : ToldPacket → List (List ℕ)
+told_lines told = packet_lines told.packet told.verdicts told.column
+
+-- so are those of each packet of periods, as it is told in columns from column a on
+abbrev pub PacketLinesComeBack : Type 0
+PacketLinesComeBack =
+    (periods : List Period) (sent received : List Column) → CameOf periods sent received → (a : ℕ)
+    → Each (λ k. unlike_in sent received k ≤ 1 → told_lines (came_packet sent received a k) ≡ packet_lines k.packet spotless (k.at - a)) (placed 0 periods)

@@ -1,0 +1,63 @@
+//! What of a raster's frames and packets comes back, and what a link's listing reads back as. The functions do nothing:
+//! what they ensure are the laws.
+ghost use Rattle.listing_laws.specs.FrameLaws.{FramesComeBack, FramesHeard};
+ghost use Rattle.listing_laws.specs.LinkLaws.{AccountReadsBack};
+ghost use Rattle.listing_laws.specs.ListingLaws.{FrameLinesComeBack, PacketLinesAsSent, PacketLinesComeBack};
+ghost use Rattle.listing_laws.specs.PacketLaws.{PacketsComeBack, OneWordAsSent, RasterPackets};
+ghost use Rattle.listing_laws.specs.Rasters.{RastersCome, HasRaster};
+
+/// Of the account of a raster's columns exactly those frames are listed that count, each with the rows that came, and
+/// whole where the next sync lines, or the last columns, came: wherever damage lies.
+pub fn frames_come_back()
+    ensures { FramesComeBack }
+{}
+
+/// The same of what is heard of the columns that came.
+pub fn frames_heard()
+    ensures { FramesHeard }
+{}
+
+/// Of the account of conforming periods exactly those packets are told that came whole, in order.
+pub fn packets_come_back()
+    ensures { PacketsComeBack }
+{}
+
+/// A packet of which at most one word came unlike is told with its header and bodies, and none of its blocks is lost.
+pub fn one_word_as_sent()
+    ensures { OneWordAsSent }
+{}
+
+/// The packets of a raster are those of its content, in order.
+pub fn raster_packets()
+    ensures { RasterPackets }
+{}
+
+/// The lines `row ..` and `frame ..` of a content listing of what is heard of a raster are those of the frames that came.
+pub fn frame_lines_come_back()
+    ensures { FrameLinesComeBack }
+{}
+
+/// The content lines of a packet of which at most one word came unlike are those of the packet as it was sent.
+pub fn packet_lines_as_sent()
+    ensures { PacketLinesAsSent }
+{}
+
+/// So are those of each told packet of conforming periods of which at most one word came unlike.
+pub fn packet_lines_come_back()
+    ensures { PacketLinesComeBack }
+{}
+
+/// Columns that spell a raster that is not refused, and whose bytes are content, came of it with no damage.
+pub fn rasters_come()
+    ensures { RastersCome }
+{}
+
+/// There is such a raster: a mode, and a frame with a row and a packet.
+pub fn has_raster()
+    ensures { HasRaster }
+{}
+
+/// The listing of a stream that came whole and undamaged reads back as a stream with the same columns.
+pub fn listing_reads_back()
+    ensures { AccountReadsBack }
+{}
