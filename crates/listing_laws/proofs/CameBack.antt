@@ -12,7 +12,7 @@ use Rattle.source_end.specs.Lines.{left}
 use Rattle.source_end.proofs.Gathered.{size_append}
 use Rattle.source_end.proofs.RasterModes.{IsMode, IsFrame, AreFrames}
 use Rattle.source_end.proofs.RasterSizes.{size_blank, size_rows, sync_part, after_sync, back_part, after_back, rows_part, front_part, parts_first, parts_more, size_frame, four_areas}
-use Rattle.listing_laws.specs.Listed.{Listed, row}
+use Rattle.listing.specs.Listed.{Listed, row}
 use Rattle.listing_laws.specs.FrameLaws.{row_bytes, row_at, row_end, back_at, active_at, front_at, next_at, has_sync, counts, is_told, rows_came, whole_frame, frames_came}
 use Rattle.listing_laws.proofs.Cells.{Cell, State, after, after_append, fine, fresh}
 use Rattle.listing_laws.proofs.Ready.{Flat, clear_trail, columns as cells_of, begin, settle, is_heard, other_heard}

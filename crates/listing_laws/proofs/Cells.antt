@@ -8,7 +8,7 @@ use Rattle.frame_build.specs.Event.{Mark, column, gap, has_vsync}
 use Rattle.frame_build.specs.Change.{three_have, newer, differ}
 use Rattle.frame_build.specs.Group.{is_unlike, told_count}
 use Rattle.frame_build.specs.declared.LineNote.{LineNote}
-use Rattle.listing_laws.specs.Listed.{Listed, row_lines}
+use Rattle.listing.specs.Listed.{Listed, row_lines}
 use Rattle.listing_laws.proofs.Machine.{hears, ends}
 use Rattle.listing_laws.proofs.Machine as plain
 

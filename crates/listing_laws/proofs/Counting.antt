@@ -15,7 +15,7 @@ use Rattle.source_end.specs.Lines.{left}
 use Rattle.source_end.proofs.RasterModes.{IsMode, AreRows, IsFrame, AreFrames}
 use Rattle.source_end.proofs.RasterSizes.{size_blank, size_rows, sync_part, after_sync, back_part, after_back, rows_part, front_part, parts_none, parts_more}
 use Rattle.listing_laws.specs.FrameLaws.{whole_frame}
-use Rattle.listing_laws.specs.Listed.{Listed, frame}
+use Rattle.listing.specs.Listed.{Listed, frame}
 use Rattle.listing_laws.proofs.Machine.{ends}
 use Rattle.listing_laws.proofs.Cells.{Cell, State, after, says, after_append, says_append}
 use Rattle.listing_laws.proofs.Ready.{Ready, quiet, is_heard}

@@ -14,7 +14,7 @@ use Rattle.source_end.specs.Gathering.{size}
 use Rattle.source_end.proofs.RasterModes.{IsMode, AreRows}
 use Rattle.source_end.proofs.RasterSizes.{more_times, long_row, size_rows}
 use Rattle.listing_laws.specs.FrameLaws.{row_at, row_end}
-use Rattle.listing_laws.specs.Listed.{Listed, row_lines}
+use Rattle.listing.specs.Listed.{Listed, row_lines}
 use Rattle.listing_laws.proofs.Machine.{ends}
 use Rattle.listing_laws.proofs.Cells.{Cell, State, after, says, after_append, says_append}
 use Rattle.listing_laws.proofs.Ready.{flat, Flat, flat_append, Ready, quiet, columns as cells_of, IsTurned, turn, is_heard, fewer_said}

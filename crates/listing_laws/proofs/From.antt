@@ -16,7 +16,7 @@ use Rattle.source_end.specs.Lines.{left}
 use Rattle.source_end.proofs.Gathered.{size_append, size_same}
 use Rattle.source_end.proofs.RasterModes.{IsMode, AreRows, IsFrame, AreFrames}
 use Rattle.source_end.proofs.RasterSizes.{laid_append, size_blank, size_rows, long_row, sync_part, after_sync, back_part, after_back, rows_part, front_part, parts_none, parts_more}
-use Rattle.listing_laws.specs.Listed.{Listed, listed_from}
+use Rattle.listing.specs.Listed.{Listed, listed_from}
 use Rattle.listing_laws.proofs.Machine.{ends, ticks}
 use Rattle.listing_laws.proofs.Walk.{listed_ticks}
 use Rattle.listing_laws.proofs.Cells.{Cell, State, after, says, after_append, says_append, fine, fresh, all_say}

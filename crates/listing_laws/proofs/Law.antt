@@ -6,7 +6,7 @@ use Rattle.link_sink.proofs.Framing.{link_law}
 use Rattle.source_end.specs.Raster.{parts_of, raster_of}
 use Rattle.source_end.specs.Gathering.{size}
 use Rattle.source_end.proofs.RasterModes.{good_mode, good_frames}
-use Rattle.listing_laws.specs.Listed.{listed}
+use Rattle.listing.specs.Listed.{listed}
 use Rattle.listing_laws.specs.FrameLaws.{FramesComeBack, FramesHeard}
 use Rattle.listing_laws.proofs.Cells.{fresh, after}
 use Rattle.listing_laws.proofs.Ready.{is_heard}

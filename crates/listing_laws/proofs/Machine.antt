@@ -6,7 +6,7 @@ use Rattle.frame_build.specs.Event.{vsync_of, Mark, column, gap}
 use Rattle.frame_build.specs.Change.{three_have, newer, differ}
 use Rattle.frame_build.specs.Group.{frame_of, is_unlike, told_count}
 use Rattle.frame_build.specs.declared.LineNote.{LineNote}
-use Rattle.listing_laws.specs.Listed.{Listed, frame_lines, row_lines}
+use Rattle.listing.specs.Listed.{Listed, frame_lines, row_lines}
 
 -- what frames see of a told thing: each column of a run, a line, or a gap
 pub data Tick : Type 0 where

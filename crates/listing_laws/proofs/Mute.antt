@@ -8,7 +8,7 @@ use Rattle.link_sink.specs.Account.{pixel_bytes}
 use Rattle.source_end.specs.declared.mode.Mode.{Mode}
 use Rattle.source_end.specs.Raster.{Line, Part, pixels, columns, sync_at, guard_at, sync, back, active, total, until, whole}
 use Rattle.source_end.specs.Gathering.{size}
-use Rattle.listing_laws.specs.Listed.{Listed, row}
+use Rattle.listing.specs.Listed.{Listed, row}
 use Rattle.listing_laws.proofs.Cells.{Cell, pixels as pixels_cell, parted, State, note_of, after, says, after_append, says_append}
 use Rattle.listing_laws.proofs.Ready.{Flat, Ready, quiet}
 use Rattle.listing_laws.proofs.Parts.{row_cells, part_cells, parts_cells, parts_append}

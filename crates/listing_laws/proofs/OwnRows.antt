@@ -18,7 +18,7 @@ use Rattle.period_grammar.specs.Column.{value_of, sync_digit}
 use Rattle.period_grammar.specs.Cut.{Run, columns, in_front, before_runs, runs as runs_of}
 use Rattle.period_grammar.specs.Heard.{words, has_preamble}
 use Rattle.period_grammar.specs.Island.{wrong_guards}
-use Rattle.period_grammar.specs.Packets.{verdicts_of}
+use Rattle.island_pack.specs.Repaired.{verdicts_of}
 use Rattle.period_grammar.specs.Things.{run, line, cut, open_island, packet, close_island, thing_of}
 use Rattle.link_sink.specs.Account.{runs_row, control_row, wrong_preamble, open_video_row, open_island_row, close_island_row, byte, pixel_bytes, video_row, video_told, damage, sync_row, packet_row, packet_told, packets_told, island_told, period_row}
 use Rattle.link_sink.proofs.Conformed.{IsIsland}

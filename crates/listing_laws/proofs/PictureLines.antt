@@ -28,8 +28,8 @@ use Rattle.source_end.specs.Formats.{formats, mode_in}
 use Rattle.listing.specs.Texts.{words_of}
 use Rattle.listing.specs.Fields.{with_fields}
 use Rattle.listing.specs.ContentText.{row_lines, has_other_size, vic_lines, frame_lines, clock_lines, sample_words, parity_words, side_lines, note_lines, sample_lines, is_usual_depth, depth_in, depth_lines, control_words, control_lines, avi_words, audio_words, spd_words, raw_words, info_words, checksum_words, info_lines, other_words, carried_lines, packet_lines, event_of, events, last_vic, lines_at, lines_after, content_lines}
-use Rattle.listing_laws.specs.Listed.{Listed, row, frame, listed_at, listed_from, listed}
-use Rattle.listing_laws.specs.Listed as pictures
+use Rattle.listing.specs.Listed.{Listed, row, frame, listed_at, listed_from, listed}
+use Rattle.listing.specs.Listed as pictures
 use Rattle.listing_laws.specs.ListingLaws.{tells_picture, line_of, FrameLinesComeBack}
 use Rattle.listing_laws.proofs.Law.{frames_heard}
 

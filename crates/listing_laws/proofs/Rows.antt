@@ -16,7 +16,7 @@ use Rattle.source_end.specs.Gathering.{size}
 use Rattle.source_end.proofs.RasterModes.{IsMode}
 use Rattle.source_end.proofs.RasterSizes.{size_until, row_fits}
 use Rattle.listing_laws.specs.FrameLaws.{row_at, row_end}
-use Rattle.listing_laws.specs.Listed.{Listed, row_lines}
+use Rattle.listing.specs.Listed.{Listed, row_lines}
 use Rattle.listing_laws.proofs.Cells.{Cell, pixels as pixels_cell, parted, State, note_of, step, after, says, after_append, says_append}
 use Rattle.listing_laws.proofs.Ready.{Flat, flat_append, Ready, quiet, clear_trail, gap_clear}
 use Rattle.listing_laws.proofs.Parts.{row_cells, part_cells, parts_cells, parts_append}

@@ -8,7 +8,7 @@ use Rattle.frame_build.specs.Group.{width_of, group, counts, is_unlike, told_cou
 use Rattle.frame_build.specs.declared.LineNote.{LineNote}
 use Rattle.frame_build.proofs.Groups.{reverse-more, counts-more, group-more, group-changed}
 use Rattle.listing.specs.ContentText.{event_of}
-use Rattle.listing_laws.specs.Listed.{Listed, row_lines, listed_at, listed_from}
+use Rattle.listing.specs.Listed.{Listed, row_lines, listed_at, listed_from}
 use Rattle.listing_laws.proofs.Machine.{pixels, parted, ticks_of, ticks, State, turned, hears, run_marks, heard_after, run_state, ends, run_said, note_of, step, after, says, says_append, run_after, run_says}
 
 -- the state is that after these events

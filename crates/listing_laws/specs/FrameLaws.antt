@@ -12,7 +12,7 @@ use Rattle.source_end.specs.declared.mode.Mode.{Mode}
 use Rattle.source_end.specs.Content.{Frame}
 use Rattle.source_end.specs.Raster.{active, front, sync, back, total, level, raster_of}
 use Rattle.source_end.specs.RasterRefusals.{raster_fault}
-use Rattle.listing_laws.specs.Listed.{Listed, row, frame, listed}
+use Rattle.listing.specs.Listed.{Listed, row, frame, listed}
 
 -- Places. A frame's first column is column p.
 

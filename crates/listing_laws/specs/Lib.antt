@@ -1,4 +1,3 @@
-pub mod Listed
 pub mod FrameLaws
 pub mod PacketLaws
 pub mod ListingLaws

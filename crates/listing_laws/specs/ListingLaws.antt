@@ -18,7 +18,7 @@ use Rattle.source_end.specs.Raster.{raster_of}
 use Rattle.source_end.specs.RasterRefusals.{raster_fault}
 use Rattle.listing.specs.Fields.{with_fields}
 use Rattle.listing.specs.ContentText.{packet_lines, content_lines}
-use Rattle.listing_laws.specs.Listed.{Listed, row, frame}
+use Rattle.listing.specs.Listed.{Listed, row, frame}
 use Rattle.listing_laws.specs.FrameLaws.{frames_came}
 use Rattle.listing_laws.specs.PacketLaws.{Placed, placed, ToldPacket, came_packet}
 
