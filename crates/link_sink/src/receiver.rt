@@ -31,11 +31,9 @@ impl Receiver {
         ensures found { IfOk result (λ r. r.deskew.found ≡ None) }
         ensures bits { IfOk result (λ r. longest r.team ≡ 0) }
     {
+        let team = Team::open();
         let deskew = Deskew::open(alloc)?;
-        Ok(Receiver {
-            team: Team::open(),
-            deskew,
-        })
+        Ok(Receiver { team, deskew })
     }
 
     /// Makes it as after `open`.

@@ -39,12 +39,6 @@ pub pixels_in_range : (bytes : List ℕ) (n : ℕ) → n ≡ length bytes / 3 �
 unfolding is_in_range
 pixels_in_range bytes n e = ap (λ k. nat_le 1 k && nat_le k 4096) e
 
-pub above_least : (n m : ℕ) → 1 ≤ n → n ≡ m → nat_le m 4096 ≡ (nat_le 1 m && nat_le m 4096)
-above_least n m some e = grind arith
-
-pub below_least : (n : ℕ) → n < 1 → nat_le 1 n ≡ (nat_le 1 n && nat_le n 4096)
-below_least n none = grind arith
-
 over : (n : ℕ) → min (min n 4294967295 + 2) 4294967295 ≡ capped (2 + n)
 over n = omega arith
 

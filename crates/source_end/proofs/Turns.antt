@@ -1,7 +1,8 @@
 -- Lists of periods that grow by one, and that end.
-use Rattle.std.proofs.Common.{◌≡◌, ℕ, ◌+◌, ◌-◌, ◌≤◌, ◌<◌, Bool, true, false, ◌&&◌, List, [], ◌∷◌, ◌++◌, length, refl, ap, ◌∙◌, arith, ◌%◌, ◌==◌}
+use Rattle.std.proofs.Common.{◌≡◌, ℕ, ◌+◌, ◌-◌, ◌≤◌, ◌<◌, Bool, true, false, ◌&&◌, List, [], ◌∷◌, ◌++◌, length, refl, ap, sym, ◌∙◌, arith, ◌%◌, ◌==◌}
 use Rattle.std.specs.Prelude.{nat_le, nat_lt}
 use Rattle.std.specs.List.{list_all}
+use Rattle.std.proofs.lemmas.Bool.{leb-true, leb-false}
 use Rattle.island_pack.specs.Periods.{ControlRun, DataIsland, Period, control, video, island, values_of, has_preamble, VIDEO_PREAMBLE, ISLAND_PREAMBLE, period_columns, columns_of}
 use Rattle.island_pack.specs.Conforming.{is_run, is_control_period, is_video_period, is_data_island, conforms}
 use Rattle.source_end.specs.Kept.{capped, is_run_in_range, are_pixels, has_pixels, conforms_so_far}
@@ -144,3 +145,10 @@ not_long sum n m e few fits = grind arith
 
 pub same_sum : (sum n m : ℕ) → n ≡ capped m → n ≤ 20000000 - sum → sum + n ≡ sum + m
 same_sum sum n m e fits = omega arith
+
+-- what the test on the columns says
+pub room_left : (sum n : ℕ) (fits : Bool) → fits ≡ nat_le (sum + n) 20000000 → fits ≡ true → n ≤ 20000000 - sum
+room_left sum n fits e t = let le : sum + n ≤ 20000000 = leb-true (sum + n) 20000000 (sym e ∙ t) in omega arith
+
+pub no_room : (sum n : ℕ) (fits : Bool) → sum ≤ 20000000 → fits ≡ nat_le (sum + n) 20000000 → fits ≡ false → 20000000 - sum < n
+no_room sum n fits few e f = let lt : 20000000 < sum + n = leb-false (sum + n) 20000000 (sym e ∙ f) in omega arith

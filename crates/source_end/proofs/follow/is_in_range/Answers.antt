@@ -3,16 +3,12 @@ use Rattle.source_end.specs.ItemPeriods.{period_of}
 use Rattle.source_end.specs.Kept.{is_run_in_range}
 use Rattle.std.specs.List.{list_all}
 use Rattle.source_end.specs.Refusals.{is_in_range}
-use Rattle.source_end.proofs.Follows.{pixels_in_range, above_least, below_least, runs_in_range, island_in_range}
+use Rattle.source_end.proofs.Follows.{pixels_in_range, runs_in_range, island_in_range}
 use Rattle.source_end.proofs.follow.is_in_range.Goals as goal
 
-pub returns-then-len-ge1-clause-answer : goal.returns-then-len-ge1-clause-answer
-returns-then-len-ge1-clause-answer c =
-    above_least c.len.result c.len-then-len-ge1.result c.if-len-ge1.true (c.len.ensures.count ∙ sym c.len-then-len-ge1.ensures.count) ∙ pixels_in_range c.in-Video.pixels c.len-then-len-ge1.result c.len-then-len-ge1.ensures.count ∙ ap (λ x. is_in_range (period_of x)) (sym c.in-Video.is)
-
-pub returns-else-len-ge1-clause-answer : goal.returns-else-len-ge1-clause-answer
-returns-else-len-ge1-clause-answer c =
-    below_least c.len.result c.if-len-ge1.false ∙ pixels_in_range c.in-Video.pixels c.len.result c.len.ensures.count ∙ ap (λ x. is_in_range (period_of x)) (sym c.in-Video.is)
+pub returns-in-Video-clause-answer : goal.returns-in-Video-clause-answer
+returns-in-Video-clause-answer c =
+    c.is_line_in_range.ensures ∙ pixels_in_range c.in-Video.pixels c.len.result c.len.ensures.count ∙ ap (λ x. is_in_range (period_of x)) (sym c.in-Video.is)
 
 pub returns-in-Control-clause-answer : goal.returns-in-Control-clause-answer
 returns-in-Control-clause-answer c =

@@ -10,7 +10,7 @@ use Rattle.source_end.proofs.follow.is_long_enough.Goals as goal
 pub returns-in-Some-Control : goal.returns-in-Some-Control
 returns-in-Some-Control c =
     let last = last_is c.args.items.now c.in-Some-Control.field-0.now (Control c.in-Some-Control.runs) (sym (ap option_copied c.in-Some-Control.is) ∙ c.last.ensures.value) c.in-Some-Control.field-0-is in
-    capped_twelve (length (values_of c.in-Some-Control.runs)) c.columns.result c.columns.ensures ∙ ap is_long_enough (sym last)
+    c.is_control_in_range.ensures ∙ capped_twelve (length (values_of c.in-Some-Control.runs)) c.columns.result c.columns.ensures ∙ ap is_long_enough (sym last)
 
 pub returns-in-Some-Video : goal.returns-in-Some-Video
 returns-in-Some-Video c =

@@ -7,5 +7,6 @@ use Rattle.listing.proofs.reader.Reader.is_long_enough.Goals as goal
 pub returns : goal.returns
 returns c =
     let r = c.self.inside in
-    long_enough r.items r.runs c.columns.result c.self.invariant.turn c.columns.ensures
+    c.is_control_in_range.ensures
+    ∙ long_enough r.items r.runs c.columns.result c.self.invariant.turn c.columns.ensures
     ∙ ap (λ (t : Draft). is_long_enough (last_period t.periods)) c.self.view_is
