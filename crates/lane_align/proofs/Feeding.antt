@@ -1,5 +1,5 @@
 -- What a lane aligner stands for when bits come.
-use Rattle.std.proofs.Common.{◌≡◌, ℕ, suc, zero, ◌+◌, ◌-◌, ◌*◌, ◌/◌, ◌%◌, ◌^◌, ◌<◌, ◌≤◌, Bool, true, false, cond, List, [], ◌∷◌, ◌++◌, length, take, drop, refl, ap, ◌∙◌, sym, subst, arith, inl, inr, length-append, length-drop, append_assoc, Option, Some, None, MatchOption, is_some, append-nil, get_or, slice_get, max, drop-cons}
+use Rattle.std.proofs.Common.{◌≡◌, ℕ, suc, zero, ◌+◌, ◌-◌, ◌*◌, ◌/◌, ◌%◌, ◌^◌, ◌<◌, ◌≤◌, Bool, true, false, cond, List, [], ◌∷◌, ◌++◌, length, take, drop, refl, ap, ◌∙◌, sym, subst, arith, inl, inr, length-append, length-drop, append_assoc, Option, Some, None, MatchOption, is_some, append-nil, get_or, slice_get, max}
 use Rattle.std.proofs.lemmas.Bool.{cases_lt}
 use Rattle.std.proofs.lemmas.List.{drop-drop, drop-append-le, take-append-le, take_all, drop_all}
 use Rattle.std.proofs.lemmas.Nat.{shr-shr, pow-add}
@@ -8,7 +8,6 @@ use Rattle.std.proofs.Math.Seq.{take-suc, take-add}
 use Rattle.std.proofs.lemmas.Option.{slice_get_within, get_or_from_slice_get}
 use Rattle.tmds_word.specs.Bits.{bit, bits_of, bytes_bits, number}
 use Rattle.tmds_word.proofs.Rows.{number_of_bytes}
-use Rattle.tmds_word.proofs.Lists.{bytes_bits-one}
 use Rattle.tmds_word.proofs.Numbers.{number-append, number-drop, number-take, pow_positive}
 use Rattle.terc4.specs.Tables.{is_control}
 use Rattle.lane_align.specs.Lanes.{HasControl, IsLock}
@@ -35,7 +34,7 @@ words_add (suc m) n xs =
     ap (λ k. words_of k xs) e
     ∙ ap (λ ws. number (take 10 xs) ∷ ws) (words_add m n (drop 10 xs) ∙ ap (λ ys. words_of m (drop 10 xs) ++ words_of n ys) (drop-drop (10 * m) 10 xs ∙ ap (λ k. drop k xs) f))
 
-words_same : (n : ℕ) (xs ys : List Bool) → 10 * n ≤ length xs → words_of n (xs ++ ys) ≡ words_of n xs
+pub words_same : (n : ℕ) (xs ys : List Bool) → 10 * n ≤ length xs → words_of n (xs ++ ys) ≡ words_of n xs
 unfolding words_of
 words_same zero xs ys h = refl
 words_same (suc n) xs ys h =
@@ -304,13 +303,8 @@ unfolding bytes_bits
 drop_nil zero = refl
 drop_nil (suc n) = refl
 
-take_nil : (n : ℕ) → take n (bytes_bits []) ≡ bytes_bits []
-unfolding bytes_bits
-take_nil zero = refl
-take_nil (suc n) = refl
-
--- the bits of bytes, and of some of them
-bytes_drop : (j : ℕ) (bs : List ℕ) → drop (8 * j) (bytes_bits bs) ≡ bytes_bits (drop j bs)
+-- the bits of the bytes from a place on
+pub bytes_drop : (j : ℕ) (bs : List ℕ) → drop (8 * j) (bytes_bits bs) ≡ bytes_bits (drop j bs)
 unfolding bytes_bits bits_of
 bytes_drop zero bs = refl
 bytes_drop (suc j) [] = drop_nil (8 * suc j)
@@ -319,22 +313,6 @@ bytes_drop (suc j) (b ∷ bs) =
     ap (λ n. drop n (bits_of 8 b ++ bytes_bits bs)) e
     ∙ sym (drop-drop (8 * j) 8 (bits_of 8 b ++ bytes_bits bs))
     ∙ bytes_drop j bs
-
-bytes_take : (n : ℕ) (bs : List ℕ) → take (8 * n) (bytes_bits bs) ≡ bytes_bits (take n bs)
-unfolding bytes_bits bits_of
-bytes_take zero bs = refl
-bytes_take (suc n) [] = take_nil (8 * suc n)
-bytes_take (suc n) (b ∷ bs) =
-    let e : 8 * suc n ≡ 8 + 8 * n = omega arith in
-    ap (λ m. take m (bits_of 8 b ++ bytes_bits bs)) e
-    ∙ take-add 8 (8 * n) (bits_of 8 b ++ bytes_bits bs)
-    ∙ ap (λ ys. bits_of 8 b ++ ys) (bytes_take n bs)
-
-bytes_part : (n used : ℕ) (bs : List ℕ) → used % 8 ≡ 0 → take (used + 8 * n) (bytes_bits bs) ≡ take used (bytes_bits bs) ++ bytes_bits (take n (drop (used / 8) bs))
-bytes_part n used bs aligned =
-    let place : used ≡ 8 * (used / 8) = omega arith in
-    take-add used (8 * n) (bytes_bits bs) ∙ ap (λ m. take used (bytes_bits bs) ++ take (8 * n) (drop m (bytes_bits bs))) place
-    ∙ ap (λ ys. take used (bytes_bits bs) ++ ys) (ap (take (8 * n)) (bytes_drop (used / 8) bs) ∙ bytes_take n (drop (used / 8) bs))
 
 module _ (old mid new : LaneAligner) (bytes row after : List ℕ) (used at next size : ℕ) (fed : HasFed old mid bytes row used at size) where
   -- one bit more
@@ -362,40 +340,31 @@ module _ (old mid new : LaneAligner) (bytes row after : List ℕ) (used at next 
         words = λ xs st. words (xs ++ take used bits) (lane_words old.lock xs) (fed.stands xs st) (fed.words xs st) ∙ ap (lane_words new.lock) (all xs);
       }
 
-  -- some bytes more
-  pub fed_bytes : (n : ℕ) (bs : List Bool) → bs ≡ bytes_bits (take n (drop (used / 8) bytes)) → used % 8 ≡ 0 → new.fed ≡ mid.fed + 8 * n → length after ≡ length row → is_some mid.lock ≡ true → new.lock ≡ mid.lock
-      → 10 * next + new.held ≡ 10 * at + mid.held + 8 * n
-      → ((xs : List Bool) → StandsFor mid xs → StandsFor new (xs ++ bs))
-      → ((xs : List Bool) (ws : List ℕ) → StandsFor mid xs → ws ++ take at row ≡ lane_words mid.lock xs → ws ++ take next after ≡ lane_words new.lock (xs ++ bs))
-      → HasFed old new bytes after (used + 8 * n) next size
-  fed_bytes n bs is aligned more long locked same room stands words =
-      let bits = bytes_bits bytes in
-      let was = fed.fed in
-      let space = fed.room in
-      let grown : take (used + 8 * n) bits ≡ take used bits ++ bs = bytes_part n used bytes aligned ∙ ap (λ ys. take used bits ++ ys) (sym is) in
-      let all : (xs : List Bool) → (xs ++ take used bits) ++ bs ≡ xs ++ take (used + 8 * n) bits =
-      λ xs. append_assoc xs (take used bits) bs ∙ ap (λ ys. xs ++ ys) (sym grown) in
-      record {
-        fed = omega arith;
-        size_is = long ∙ fed.size_is;
-        start = λ e. not_locked mid.lock locked (sym same ∙ e);
-        room = omega arith;
-        stands = λ xs st. subst (StandsFor new) (all xs) (stands (xs ++ take used bits) (fed.stands xs st));
-        words = λ xs st. words (xs ++ take used bits) (lane_words old.lock xs) (fed.stands xs st) (fed.words xs st) ∙ ap (lane_words new.lock) (all xs);
-      }
-    where
-      not_locked : {A : Type 0} (o : Option ℕ) → is_some o ≡ true → o ≡ None → A
-      not_locked None h e = cc
-      not_locked (Some p) h e = cc
+  -- and all others, from a byte's first on
+  rest_is : (bits : ℕ) → used ≤ bits → used % 8 ≡ 0 → (xs : List Bool) → (xs ++ take used (bytes_bits bytes)) ++ take (bits - used) (bytes_bits (drop (used / 8) bytes)) ≡ xs ++ take bits (bytes_bits bytes)
+  rest_is bits within aligned xs =
+      let all = bytes_bits bytes in
+      let place : 8 * (used / 8) ≡ used = omega arith in
+      let whole : used + (bits - used) ≡ bits = omega arith in
+      append_assoc xs (take used all) (take (bits - used) (bytes_bits (drop (used / 8) bytes)))
+      ∙ ap (λ ys. xs ++ (take used all ++ take (bits - used) ys)) (sym (bytes_drop (used / 8) bytes) ∙ ap (λ n. drop n all) place)
+      ∙ ap (λ ys. xs ++ ys) (sym (take-add used (bits - used) all) ∙ ap (λ n. take n all) whole)
 
-none_bytes : number (bytes_bits []) ≡ 0
+  pub rest_stands : (bits : ℕ) → used ≤ bits → used % 8 ≡ 0 → ((xs : List Bool) → StandsFor mid xs → StandsFor new (xs ++ take (bits - used) (bytes_bits (drop (used / 8) bytes))))
+      → (xs : List Bool) → StandsFor old xs → StandsFor new (xs ++ take bits (bytes_bits bytes))
+  rest_stands bits within aligned stands xs st = subst (StandsFor new) (rest_is bits within aligned xs) (stands (xs ++ take used (bytes_bits bytes)) (fed.stands xs st))
+
+  pub rest_words : (bits : ℕ) → used ≤ bits → used % 8 ≡ 0
+      → ((xs : List Bool) (ws : List ℕ) → StandsFor mid xs → ws ++ take at row ≡ lane_words mid.lock xs → ws ++ take next after ≡ lane_words new.lock (xs ++ take (bits - used) (bytes_bits (drop (used / 8) bytes))))
+      → (xs : List Bool) → StandsFor old xs → lane_words old.lock xs ++ take next after ≡ lane_words new.lock (xs ++ take bits (bytes_bits bytes))
+  rest_words bits within aligned words xs st =
+      words (xs ++ take used (bytes_bits bytes)) (lane_words old.lock xs) (fed.stands xs st) (fed.words xs st) ∙ ap (lane_words new.lock) (rest_is bits within aligned xs)
+
+pub none_bytes : number (bytes_bits []) ≡ 0
 unfolding bytes_bits number
 none_bytes = refl
 
--- one byte, and five
-pub one_byte : (bytes : List ℕ) (j : ℕ) → j < length bytes → bits_of 8 (get_or bytes j 0) ≡ bytes_bits (take 1 (drop j bytes))
-one_byte bytes j lt = sym (ap (λ bs. bytes_bits (take 1 bs)) (drop-cons bytes j 0 lt) ∙ bytes_bits-one (get_or bytes j 0))
-
+-- five bytes
 pub five_number : (bs : List ℕ) → length bs ≡ 5 → ((i : ℕ) → get_or bs i 0 < 256)
     → number (bytes_bits bs) ≡ get_or bs 0 0 + 256 * (get_or bs 1 0 + 256 * (get_or bs 2 0 + 256 * (get_or bs 3 0 + 256 * get_or bs 4 0)))
 five_number [] h small = absurd (omega arith)
