@@ -27,3 +27,4 @@ pub mod ContentDrafts
 pub mod ContentReading
 pub mod ContentFormSeen
 pub mod ContentTold
+pub mod Listed

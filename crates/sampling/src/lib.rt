@@ -1,0 +1,13 @@
+//! What comes of the generator's content once it was sent, damaged and recovered.
+#![tactic(auto)]
+
+mod counts;
+mod hits;
+mod tally;
+
+pub use counts::{Counts, write_counts};
+pub use hits::hits_of;
+pub use tally::Tally;
+
+#[cfg(test)]
+mod tests;
