@@ -2,12 +2,12 @@
 #![tactic(auto)]
 
 mod counts;
-mod hits;
-mod tally;
+// mod hits;
+// mod tally;
 
 pub use counts::{Counts, write_counts};
-pub use hits::hits_of;
-pub use tally::Tally;
+// pub use hits::hits_of;
+// pub use tally::Tally;
 
-#[cfg(test)]
-mod tests;
+// #[cfg(test)]
+// mod tests;
