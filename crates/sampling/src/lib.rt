@@ -11,5 +11,5 @@ pub use counts::{Counts, write_counts};
 // pub use hits::hits_of;
 pub use tally::Tally;
 
-// #[cfg(test)]
-// mod tests;
+#[cfg(test)]
+mod tests;
