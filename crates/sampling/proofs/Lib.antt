@@ -1,0 +1,5 @@
+pub mod CountLines
+pub mod Counting
+pub mod Growing
+pub mod LineKinds
+pub mod Unlike

@@ -1,0 +1,76 @@
+-- What is counted of a content that was made by the generator, sent, damaged and recovered: of its content listing the lines
+-- of each kind, and the bytes of pictures that are not the generator's.
+use Rattle.std.specs.Prelude.{ℕ, suc, ◌+◌, ◌-◌, ◌^◌, ◌==◌, Bool, true, false, ◌&&◌, cond, List, [], ◌∷◌, ◌++◌, length, min, count_by, codes}
+use Rattle.period_grammar.specs.Things.{Thing, packet}
+use Rattle.source_end.specs.Generator.{row_bytes}
+use Rattle.listing.specs.Fields.{with_fields}
+use Rattle.listing.specs.ContentText.{content_lines, fault_line_count, text_of}
+use Rattle.listing.specs.Listed.{Listed, row, frame, listed}
+use Rattle.sampling.specs.declared.counts.Counts.{Counts}
+
+-- a count as it is kept: it stands still at the greatest u64
+abbrev pub kept : ℕ → ℕ
+kept n = min n (2 ^ 64 - 1)
+
+abbrev pub begins_with : List ℕ → List ℕ → Bool
+begins_with [] line = true
+begins_with (b ∷ bs) [] = false
+begins_with (b ∷ bs) (c ∷ cs) = (b == c) && begins_with bs cs
+
+-- how many lines begin so
+unfoldable pub lines_with : List ℕ → List (List ℕ) → ℕ
+lines_with first lines = count_by (begins_with first) lines
+
+abbrev pub is_packet : Thing → Bool
+is_packet (packet p verdicts column) = true
+is_packet _ = false
+
+-- the rows of each told frame; those behind the last frame are of none
+unfoldable pub told_frames : List (List ℕ) → List Listed → List (List (List ℕ))
+told_frames rows [] = []
+told_frames rows (row bytes note ∷ later) = told_frames (rows ++ bytes ∷ []) later
+told_frames rows (frame note ∷ later) = rows ∷ told_frames [] later
+
+-- how many bytes of two lists differ, place by place
+abbrev pub unlike : List ℕ → List ℕ → ℕ
+unlike (b ∷ bs) (c ∷ cs) = cond (b == c) 0 1 + unlike bs cs
+unlike _ _ = 0
+
+-- bytes of rows that are not those of the generator's frame f, from row y on
+unfoldable pub unlike_rows : ℕ → ℕ → List (List ℕ) → ℕ
+unlike_rows f y [] = 0
+unlike_rows f y (bytes ∷ rows) = unlike bytes (row_bytes f y (length bytes)) + unlike_rows f (suc y) rows
+
+-- and of frames, from the generator's frame f on
+unfoldable pub unlike_frames : ℕ → List (List (List ℕ)) → ℕ
+unlike_frames f [] = 0
+unlike_frames f (rows ∷ frames) = unlike_rows f 0 rows + unlike_frames (suc f) frames
+
+-- the ten counts of so many columns that tell these things. The capture begins in frame 0, so that the first frame told is
+-- frame 1.
+abbrev pub counts_of : ℕ → List Thing → Counts
+counts_of columns things =
+    let lines = content_lines things in
+    let symbols = kept (lines_with (codes "! symbols ") lines) in
+    let mended = kept (lines_with (codes "! mended ") lines) in
+    let code = kept (lines_with (codes "! code ") lines) in
+    record {
+      columns = columns;
+      frames = kept (lines_with (codes "frame ") lines);
+      rows = kept (lines_with (codes "row ") lines);
+      packets = kept (count_by is_packet things);
+      samples = kept (lines_with (codes "s ") lines);
+      symbols = symbols;
+      mended = mended;
+      code = code;
+      other = kept (fault_line_count lines) - (symbols + mended + code);
+      differ = kept (unlike_frames 1 (told_frames [] (listed things)));
+    }
+
+-- the ten lines
+unfoldable pub counts_text : Counts → List ℕ
+counts_text c = text_of (
+    with_fields (codes "columns") (c.columns ∷ []) ∷ with_fields (codes "frames") (c.frames ∷ []) ∷ with_fields (codes "rows") (c.rows ∷ [])
+    ∷ with_fields (codes "packets") (c.packets ∷ []) ∷ with_fields (codes "samples") (c.samples ∷ []) ∷ with_fields (codes "symbols") (c.symbols ∷ [])
+    ∷ with_fields (codes "mended") (c.mended ∷ []) ∷ with_fields (codes "code") (c.code ∷ []) ∷ with_fields (codes "other") (c.other ∷ [])
+    ∷ with_fields (codes "differ") (c.differ ∷ []) ∷ [])
