@@ -16,16 +16,11 @@ use Rattle.source_end.specs.declared.mode.Mode.{Mode}
 use Rattle.source_end.specs.Content.{Frame}
 use Rattle.source_end.specs.Raster.{raster_of}
 use Rattle.source_end.specs.RasterRefusals.{raster_fault}
-use Rattle.listing.specs.Fields.{with_fields}
+use Rattle.listing.specs.Fields.{with_fields, begins_with}
 use Rattle.listing.specs.ContentText.{packet_lines, content_lines}
 use Rattle.listing.specs.Listed.{Listed, row, frame}
 use Rattle.listing_laws.specs.FrameLaws.{frames_came}
 use Rattle.listing_laws.specs.PacketLaws.{Placed, placed, ToldPacket, came_packet}
-
-abbrev pub begins_with : List ℕ → List ℕ → Bool
-begins_with [] line = true
-begins_with (b ∷ bs) [] = false
-begins_with (b ∷ bs) (c ∷ cs) = (b == c) && begins_with bs cs
 
 -- a line `row ..` or `frame ..`
 abbrev pub tells_picture : List ℕ → Bool

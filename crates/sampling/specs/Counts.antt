@@ -3,7 +3,7 @@
 use Rattle.std.specs.Prelude.{ℕ, suc, ◌+◌, ◌-◌, ◌^◌, ◌==◌, Bool, true, false, ◌&&◌, cond, List, [], ◌∷◌, ◌++◌, length, min, count_by, codes}
 use Rattle.period_grammar.specs.Things.{Thing, packet}
 use Rattle.source_end.specs.Generator.{row_bytes}
-use Rattle.listing.specs.Fields.{with_fields}
+use Rattle.listing.specs.Fields.{with_fields, begins_with}
 use Rattle.listing.specs.ContentText.{content_lines, fault_line_count, text_of}
 use Rattle.listing.specs.Listed.{Listed, row, frame, listed}
 use Rattle.sampling.specs.declared.counts.Counts.{Counts}
@@ -11,11 +11,6 @@ use Rattle.sampling.specs.declared.counts.Counts.{Counts}
 -- a count as it is kept: it stands still at the greatest u64
 abbrev pub kept : ℕ → ℕ
 kept n = min n (2 ^ 64 - 1)
-
-abbrev pub begins_with : List ℕ → List ℕ → Bool
-begins_with [] line = true
-begins_with (b ∷ bs) [] = false
-begins_with (b ∷ bs) (c ∷ cs) = (b == c) && begins_with bs cs
 
 -- how many lines begin so
 unfoldable pub lines_with : List ℕ → List (List ℕ) → ℕ
