@@ -1,4 +1,4 @@
-//! Counts the lines of what is told.
+//! Counts the lines of each kind that what is told has, and the bytes that differ.
 ghost use Rattle.std.specs.Prelude.{◌≡◌, ℕ, ◌++◌, ◌∷◌, [], List, codes};
 ghost use Rattle.frame_build.specs.Event.{Event};
 ghost use Rattle.frame_build.specs.StandsFor.{StandsFor};
@@ -16,8 +16,7 @@ use frame_build::laws::word_faults_change_nothing;
 use island_pack::PacketRef;
 use period_grammar::{Fault, Told};
 
-/// How many rows and frames were listed, what they differ from the generator's, and how many lines there were of other
-/// kinds. Each count stands still at the greatest u64.
+/// All that is counted of what was told, but for the other fault lines. Each count stands still at the greatest u64.
 #[derive(Drop)]
 pub(crate) struct Counter {
     heard: Frames,
