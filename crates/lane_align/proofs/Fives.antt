@@ -17,7 +17,7 @@ use Rattle.lane_align.proofs.Feeding.{HasCut, cut_stands, cut_words, words_numbe
 -- the eight bytes from a place on as a number
 pub eight_bytes_are : (bytes : List ℕ) (j n : ℕ) → AreBytes bytes → j + 8 ≤ length bytes
     → n ≡ get_or bytes j 0 + get_or bytes (j + 1) 0 * 256 + get_or bytes (j + 2) 0 * 65536 + get_or bytes (j + 3) 0 * 16777216
-        + get_or bytes (j + 4) 0 * 4294967296 + get_or bytes (j + 5) 0 * 1099511627776 + get_or bytes (j + 6) 0 * 281474976710656 + get_or bytes (j + 7) 0 * 72057594037927936
+    + get_or bytes (j + 4) 0 * 4294967296 + get_or bytes (j + 5) 0 * 1099511627776 + get_or bytes (j + 6) 0 * 281474976710656 + get_or bytes (j + 7) 0 * 72057594037927936
     → n ≡ (number (bytes_bits bytes) / 2 ^ (8 * j)) % 18446744073709551616
 eight_bytes_are bytes j n are room sum =
     let all = number (bytes_bits bytes) in
