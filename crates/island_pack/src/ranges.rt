@@ -1,10 +1,16 @@
-//! The sizes that the periods of a link may have (HDMI 1.4, sections 5.1.2, 5.2.1.2 and 5.2.3).
+//! The sizes that the periods of a link may have (HDMI 1.4, sections 5.1.2, 5.2.1.2 and 5.2.3), and what announces them.
 ghost use Rattle.std.specs.Prelude.{◌≡◌, ◌<◌, ◌≤◌, All, nat_lt, slice_index};
 ghost use Rattle.std.specs.List.{list_all};
 ghost use Rattle.island_pack.specs.Conforming.{is_packet};
 ghost use Rattle.island_pack.specs.Ranges.{is_run_in_range, is_control_in_range, is_line_in_range, are_sync_values, is_island_in_range, has_room};
 
 use crate::Packet;
+
+/// CTL0 to CTL3 of the preamble of a video data period: CTL0 alone is 1 (HDMI 1.4, section 5.2.1.1).
+pub const VIDEO_CTL: u8 = 1;
+
+/// CTL0 to CTL3 of the preamble of a data island: CTL0 and CTL2 are 1 (HDMI 1.4, section 5.2.1.1).
+pub const ISLAND_CTL: u8 = 5;
 
 /// Whether control columns may have this value, and so many columns one value after another: a value below 64 in 1 to
 /// 20,000,000 columns.

@@ -71,7 +71,11 @@ fn hear_part<E: Ear>(
     if went == blue.len() {
         return Ok(went);
     }
-    hearing.hear(&[Word::of(blue[went]), Word::of(green[went]), Word::of(red[went])]);
+    hearing.hear(&[
+        Word::of(blue[went]),
+        Word::of(green[went]),
+        Word::of(red[went]),
+    ]);
     tell(hearing, ear)?;
     Ok(went + 1)
 }

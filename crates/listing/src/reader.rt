@@ -16,8 +16,8 @@ use crate::digits::{are_digits, put_bytes};
 use crate::form::{Form, read_form};
 use crate::teller::{Refusal, Taken, Teller};
 use island_pack::{
-    Packet, are_sync_values, is_control_in_range, is_island_in_range, is_line_in_range, is_packet_in_range,
-    is_run_in_range,
+    Packet, are_sync_values, is_control_in_range, is_island_in_range, is_line_in_range,
+    is_packet_in_range, is_run_in_range,
 };
 use outside_io::NoMemory;
 use source_end::{Island, Item, ItemFault, Items, Pixels, Run, Runs, Stream};

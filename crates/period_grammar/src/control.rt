@@ -17,12 +17,6 @@ use crate::notes::{Note, Notes};
 use crate::told::Fault;
 use tmds_word::Word;
 
-/// CTL0 to CTL3 of the preamble of a video period: CTL0 alone is 1 (HDMI 1.4, section 5.2.1.1).
-pub const VIDEO_PREAMBLE: u8 = 1;
-
-/// CTL0 to CTL3 of the preamble of a data island: CTL0 and CTL2 are 1 (HDMI 1.4, section 5.2.1.1).
-pub const ISLAND_PREAMBLE: u8 = 5;
-
 /// The number of columns, their last run, and how many last columns have its control bits.
 #[derive(Clone, Copy)]
 pub struct Kept {

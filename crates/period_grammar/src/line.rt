@@ -154,11 +154,7 @@ impl Line {
         ensures heard { (pixels : List Column) → IsLineAfter self.old pixels → IsLineAfter self.new (pixels ++ take result (columns_of blue.now green.now red.now)) }
     {
         for i in 0..blue.len() {
-            let column = [
-                Word::of(blue[i]),
-                Word::of(green[i]),
-                Word::of(red[i]),
-            ];
+            let column = [Word::of(blue[i]), Word::of(green[i]), Word::of(red[i])];
             if is_control_column(&column) {
                 return i;
             }

@@ -15,11 +15,12 @@ ghost use Rattle.period_grammar.specs.Seen.{IsPlaced};
 ghost use Rattle.period_grammar.specs.Stands.{IsStretchAfter, closed, going_on};
 
 use crate::column;
-use crate::control::{ISLAND_PREAMBLE, Kept, VIDEO_PREAMBLE};
+use crate::control::Kept;
 use crate::island::{Island, tell_guard};
 use crate::line::Line;
 use crate::notes::{Note, Notes};
 use crate::told::Fault;
+use island_pack::{ISLAND_CTL, VIDEO_CTL};
 use terc4::{
     is_control_word, is_island_guard, is_video_guard, island_guard_words, video_guard_words,
 };
@@ -144,14 +145,14 @@ pub fn go_on(
             digit,
         } => {
             if column::at_least(5, video, video_guard_words(column)) {
-                kept.tell_lacks(start, VIDEO_PREAMBLE, notes);
+                kept.tell_lacks(start, VIDEO_CTL, notes);
                 tell_guard(video == 3, start, notes);
                 tell_guard(is_video_guard(column), start + 1, notes);
                 line.clear();
                 return Phase::Video { start };
             }
             if column::at_least(5, opens, island_guard_words(column)) {
-                kept.tell_lacks(start, ISLAND_PREAMBLE, notes);
+                kept.tell_lacks(start, ISLAND_CTL, notes);
                 notes.push(Note::Open {
                     first: digit,
                     second: column::digit(column::blue(column)),

@@ -121,8 +121,7 @@ impl Island {
     fn are_packets_in_range(&self) -> bool
         ensures { result ≡ (list_all is_packet self.now.packets && is_island_in_range (length self.now.packets)) }
     {
-        are_in_range(self.packets.as_slice())
-            && is_island_in_range(self.packets.len())
+        are_in_range(self.packets.as_slice()) && is_island_in_range(self.packets.len())
     }
 }
 

@@ -4,16 +4,10 @@ ghost use Rattle.island_pack.specs.Periods.{ControlRun, values_of, has_preamble,
 ghost use Rattle.source_end.specs.Kept.{capped, led_by, is_run_in_range, are_pixels};
 
 use crate::Island;
-use island_pack::is_run_in_range;
+use island_pack::{ISLAND_CTL, VIDEO_CTL, is_run_in_range};
 use outside_io::NoMemory;
 use std::alloc::Global;
 use std::marker::Model;
-
-/// CTL0 to CTL3 before a video data period: CTL0 is 1.
-const BEFORE_VIDEO: u8 = 1;
-
-/// CTL0 to CTL3 before a data island: CTL0 and CTL2 are 1.
-const BEFORE_ISLAND: u8 = 5;
 
 /// Neighbouring control columns of one value.
 #[derive(Clone, Copy, Debug, PartialEq, Eq)]
@@ -97,8 +91,8 @@ impl Runs {
     {
         self.list.push(run)?;
         self.columns = self.columns.saturating_add(run.count);
-        self.before_video = led_with(self.before_video, BEFORE_VIDEO, run);
-        self.before_island = led_with(self.before_island, BEFORE_ISLAND, run);
+        self.before_video = led_with(self.before_video, VIDEO_CTL, run);
+        self.before_island = led_with(self.before_island, ISLAND_CTL, run);
         Ok(())
     }
 

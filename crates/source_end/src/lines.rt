@@ -11,15 +11,15 @@ use crate::content::{FrameContent, Row};
 use crate::gathering::Gathering;
 use crate::mode::{active, back, front, sync, total};
 use crate::{Island, Mode};
-use island_pack::Packet;
+use island_pack::{ISLAND_CTL, Packet, VIDEO_CTL};
 use outside_io::NoMemory;
 use std::alloc::Global;
 
 /// CTL0 to CTL3 of a video preamble, in bits 2 to 5 of a control column's value.
-const VIDEO_PREAMBLE: u8 = 0x04;
+const VIDEO_PREAMBLE: u8 = VIDEO_CTL << 2;
 
 /// CTL0 to CTL3 of an island preamble, in bits 2 to 5 of a control column's value.
-const ISLAND_PREAMBLE: u8 = 0x14;
+const ISLAND_PREAMBLE: u8 = ISLAND_CTL << 2;
 
 /// Writes control columns `from` up to `to` of a line, with these control bits.
 fn span(
