@@ -51,6 +51,7 @@ impl LaneAligner {
             return 0;
         }
         let next = self.five(&bytes[..5], row, at);
+        // the last group is read with three bytes more
         let groups = (bytes.len() - 8) / 5;
         self.fives(bytes, groups, row, next);
         groups + 1
@@ -82,7 +83,6 @@ impl LaneAligner {
     }
 
     /// Takes five bytes from the lock on, and writes the four characters that became whole.
-    #[inline(always)]
     fn five(&mut self, bytes: &[u8], row: &mut [u16], at: usize) -> usize
         requires lock { is_some self.old.lock ≡ true }
         requires five { length bytes.now ≡ 5 }
@@ -120,7 +120,6 @@ impl LaneAligner {
 }
 
 /// Five bytes as a number.
-#[inline(always)]
 fn number_of(bytes: &[u8]) -> u64
     requires { length bytes.now ≡ 5 }
     ensures value { result ≡ number (bytes_bits bytes.now) }
