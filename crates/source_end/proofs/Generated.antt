@@ -86,7 +86,7 @@ frame_made avi audio i old begun led done e b p r =
     ∙ ap₂ (λ (fs : List Frame) (qs : List Packet). fs ++ record { packets = qs; rows = first_rows i 480 } ∷ []) e (append-nil ps)
     ∙ sym (frame_more avi audio i)
 
-length_up : (n x : ℕ) → length (up_from x n) ≡ n
+pub length_up : (n x : ℕ) → length (up_from x n) ≡ n
 length_up zero x = refl
 length_up (suc n) x = ap (λ k. suc k) (length_up n (suc x))
 

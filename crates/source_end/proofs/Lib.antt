@@ -19,3 +19,4 @@ pub mod RasterFaults
 pub mod RasterRuns
 pub mod RasterWriting
 pub mod Generated
+mod GeneratedRaster
