@@ -1,13 +1,11 @@
 -- Chunks of a lane that goes on: the bytes that they have, and those with which they may begin.
-use Rattle.std.proofs.Common.{◌≡◌, ℕ, suc, zero, ◌+◌, ◌-◌, ◌*◌, ◌/◌, ◌%◌, ◌^◌, ◌<◌, ◌≤◌, Bool, false, List, [], ◌++◌, length, take, drop, min, get_or, refl, ap, ap₂, ◌∙◌, sym, arith, inl, inr, append_assoc, append-nil, length-append, length-drop, length-take, length-take-le, take-append-drop, subst, replicate}
+use Rattle.std.proofs.Common.{◌≡◌, ℕ, ◌+◌, ◌-◌, ◌*◌, ◌/◌, ◌%◌, ◌^◌, ◌<◌, ◌≤◌, Bool, false, List, ◌++◌, length, take, drop, min, get_or, refl, ap, ap₂, ◌∙◌, sym, arith, length-append, length-drop, length-take, replicate}
 use Rattle.std.proofs.Math.Seq.{take-append_seam, drop-append_seam, take-append-add}
-use Rattle.std.proofs.lemmas.Bool.{cases_lt}
-use Rattle.std.proofs.lemmas.List.{take_all, length-replicate, take-append-le, drop-append-le}
+use Rattle.std.proofs.lemmas.List.{length-replicate, take-append-le, drop-append-le}
 use Rattle.tmds_word.specs.Bits.{bytes_bits}
 use Rattle.tmds_word.proofs.Lists.{length-bytes_bits}
-use Rattle.capture_file.specs.Layout.{packed, header, high_first, chunk, block, blocks_below}
+use Rattle.capture_file.specs.Layout.{packed, header, high_first, chunk}
 use Rattle.capture_file.specs.Captures.{AreBytes}
-use Rattle.capture_file.proofs.Packing.{length-packed}
 use Rattle.capture_file.proofs.Packs.{packed-append, packed-bytes}
 
 -- parts of equal lengths of one list

@@ -1,19 +1,9 @@
 -- The bytes of a source that tells them, and four bytes as a count.
-use Rattle.std.proofs.Common.{◌≡◌, ℕ, suc, zero, ◌+◌, ◌-◌, ◌*◌, ◌/◌, ◌%◌, ◌^◌, ◌<◌, ◌≤◌, Bool, true, false, List, [], ◌∷◌, ◌++◌, length, take, drop, min, get_or, refl, ap, ap₂, ◌∙◌, sym, arith, append_assoc, append-nil, length-append, length-drop, length-take-le, take-append-drop, subst, replicate, inl, inr}
-use Rattle.std.specs.Prelude.{Option, Some, None, slice_get, codes}
+use Rattle.std.proofs.Common.{◌≡◌, ℕ, suc, zero, ◌+◌, ◌*◌, ◌/◌, ◌%◌, ◌^◌, ◌<◌, Bool, true, false, List, [], ◌∷◌, ◌++◌, length, take, drop, get_or, refl, ap₂, ◌∙◌, arith, subst}
+use Rattle.std.specs.Prelude.{Option, Some, None}
 use Rattle.std.specs.Io.KnownBytes.{Consumes}
-use Rattle.std.proofs.Math.ListN.{get_or-append}
-use Rattle.std.proofs.Math.Seq.{take-append_seam, take-append-add}
-use Rattle.std.proofs.lemmas.Bool.{cases_lt}
-use Rattle.std.proofs.lemmas.List.{take-take, take-append-le, get_or-take, length-replicate}
-use Rattle.std.proofs.lemmas.Option.{slice_get-get_or}
-use Rattle.tmds_word.specs.Bits.{bytes_bits}
-use Rattle.capture_file.specs.Layout.{packed, header, high_first}
+use Rattle.capture_file.specs.Layout.{high_first}
 use Rattle.capture_file.specs.Captures.{AreBytes}
-use Rattle.std.specs.Int.{w32, to_be_bytes, from_be_bytes}
-use Rattle.std.proofs.lemmas.Nat.{be_bytes_4}
-use Rattle.tmds_word.proofs.Lists.{length-bytes_bits}
-use Rattle.capture_file.specs.declared.fault.CaptureFault.TheVariants.{Short, Padding, Trailing}
 
 -- the bytes of a source that tells them
 consumed_to : (new : Option (List ℕ)) (bytes xs : List ℕ) → Consumes (Some bytes) new xs → (rest : List ℕ) × (bytes ≡ xs ++ rest) × (new ≡ Some rest)

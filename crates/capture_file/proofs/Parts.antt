@@ -1,5 +1,5 @@
 -- Bytes that are written part after part, and the bits that a tap takes of rows.
-use Rattle.std.proofs.Common.{◌≡◌, ℕ, suc, zero, ◌+◌, ◌-◌, ◌*◌, ◌/◌, ◌%◌, ◌^◌, ◌<◌, ◌≤◌, Bool, List, [], ◌++◌, length, take, drop, map, min, slice_index, refl, ap, ap₂, ◌∙◌, sym, arith, subst, append_assoc, length-append, length-drop, length-take, length-take-le, append-nil, add-one, inl, inr}
+use Rattle.std.proofs.Common.{◌≡◌, ℕ, suc, zero, ◌+◌, ◌-◌, ◌*◌, ◌/◌, ◌%◌, ◌^◌, ◌<◌, ◌≤◌, Bool, List, [], ◌++◌, length, take, drop, map, min, slice_index, refl, ap, ap₂, ◌∙◌, sym, arith, subst, append_assoc, append-nil, add-one, inl, inr}
 use Rattle.std.specs.Prelude.{Option, Some, None, if◌then◌else◌, true, false, ◌==◌}
 use Rattle.std.proofs.Math.Seq.{take-append-add}
 use Rattle.std.proofs.lemmas.Bool.{cases_lt}
@@ -12,10 +12,10 @@ use Rattle.tmds_word.specs.Taps.{part_of}
 use Rattle.capture_file.specs.declared.writing.Tap.{Tap}
 use Rattle.capture_file.specs.Lanes.{Collected}
 use Rattle.tmds_word.specs.Words.{all_words, columns_of}
-use Rattle.capture_file.specs.Layout.{packed, chunk, block, blocks_below, header, high_first}
+use Rattle.capture_file.specs.Layout.{chunk, block, blocks_below}
 use Rattle.capture_file.specs.Taps.{limited, tap_count, tap_lag, tap_of, greatest, HasBits}
 use Rattle.capture_file.proofs.Columns.{seen, lanes_of_columns, count_of_columns, row_bits-words_of, length-words_of}
-use Rattle.capture_file.proofs.Packing.{length-part, length-packed}
+use Rattle.capture_file.proofs.Packing.{length-part}
 
 -- two parts one after the other
 pub Appends-two : (a b c : Option (List ℕ)) (x y whole : List ℕ) → whole ≡ x ++ y → Appends a b x → Appends b c y → Appends a c whole

@@ -1,8 +1,6 @@
 -- What a function that reads a header says where it gives up.
-use Rattle.std.specs.Prelude.{ℕ, ◌<◌}
+use Rattle.std.specs.Prelude.{ℕ}
 use Rattle.outside_io.specs.Causes.{Rose}
-use Rattle.capture_file.specs.declared.fault.CaptureFault.{CaptureFault}
-use Rattle.capture_file.specs.declared.fault.CaptureFault.TheVariants.{Magic, Version, Short, Padding, Trailing}
 use Rattle.capture_file.specs.declared.fault.CaptureError.{CaptureError}
 use Rattle.capture_file.specs.declared.fault.CaptureError.TheVariants as errors
 use Rattle.capture_file.specs.declared.damaging.DamageError.{DamageError}

@@ -1,20 +1,18 @@
 -- Options and operands, as the grammar has them, are taken by `clap` and found.
-use Rattle.std.proofs.Common.{◌≡◌, ◌∙◌, ◌⊎◌, inl, inr, sym, ap, ap₂, refl, subst, Bool, true, false, ℕ, List, [], ◌∷◌, ◌++◌, codes, Option, Some, None, true≢false, append_assoc, append-nil}
+use Rattle.std.proofs.Common.{◌≡◌, ◌∙◌, ◌⊎◌, inl, inr, sym, ap, refl, subst, Bool, true, false, List, [], ◌∷◌, ◌++◌, codes, Option, Some, None, append_assoc, append-nil}
 use Rattle.std.specs.Prelude.{if◌then◌else◌, unwrap_or}
 use Rattle.std.specs.Option.{option_map_or}
 use Rattle.std.specs.List.{flat_map, filter_map, cons_option}
-use Rattle.std.specs.Str.Parse.{starts_with_minus}
-use Rattle.clap.specs.Kinds.{Kinds, or_else}
+use Rattle.clap.specs.Kinds.{Kinds}
 use Rattle.clap.specs.Walk.{Row, Rule, Held, Walk, Waiting, idle, option, positional, settled, settled_rows, used, nothing_held, walk_from}
-use Rattle.clap.specs.Takes.{is_given}
-use Rattle.clap.specs.Faults.{use_fault, settle_fault}
-use Rattle.command_line.specs.Grammar.{Text, name_word, Piece, apart, joined, operand, piece_words, IsPlain, ArePlain, option_of, operand_of, rest_words, is_same, values_of, listed, IsGiven, AreArranged}
+use Rattle.clap.specs.Faults.{settle_fault}
+use Rattle.command_line.specs.Grammar.{Text, name_word, Piece, apart, joined, operand, piece_words, ArePlain, option_of, operand_of, rest_words, values_of, listed, IsGiven}
 use Rattle.command_line.specs.Forms.{option_id, operand_id, all_values, AreFound}
 use Rattle.command_line.specs.declared.options.OptionName.{OptionName}
 use Rattle.command_line.proofs.GivenOptions.{values-append}
-use Rattle.command_line.proofs.FoundRows.{option_built, operand_built, is_itself, found_option, option_fits, operand_fits, given_told, nothing_found}
+use Rattle.command_line.proofs.FoundRows.{option_built, is_itself, found_option, option_fits, operand_fits, given_told}
 use Rattle.command_line.proofs.Words.{plain_dashes, plain_long, plain_short, named_dashes, named_long, valued_dashes, valued_long}
-use Rattle.command_line.proofs.Turns.{IsForm, option_named, holding, walk_at, Turn, rest_turn, plain_turn, place, waits_after, IsIdle, idle_after, value_turn, idle_turn, trailing_turn, waiting_turn, named_turn, valued_turn}
+use Rattle.command_line.proofs.Turns.{IsForm, holding, walk_at, Turn, rest_turn, plain_turn, place, waits_after, IsIdle, idle_after, value_turn, idle_turn, trailing_turn, waiting_turn, named_turn, valued_turn}
 use Rattle.command_line.proofs.Takings.{total, last, end_fault, end_passes, or_else_both, turn_done, turn_last, settle_operand, settle_option, finds_operand, finds_option, Finds}
 
 -- some operands, and no more than the command takes

@@ -1,14 +1,14 @@
 -- Words are taken by `clap`, and read as a command, exactly where the grammar has them.
-use Rattle.std.proofs.Common.{◌≡◌, ◌∙◌, ◌⊎◌, inl, inr, sym, ap, ap₂, refl, subst, arith, Bool, true, false, ◌==◌, ℕ, ◌+◌, ◌<◌, List, [], ◌∷◌, ◌++◌, length, codes, Option, Some, None, true≢false, append_assoc, append-nil, slice_index}
+use Rattle.std.proofs.Common.{◌≡◌, ◌∙◌, ◌⊎◌, inl, inr, sym, ap, refl, subst, arith, Bool, true, false, ◌==◌, ℕ, ◌+◌, ◌<◌, List, [], ◌∷◌, ◌++◌, length, codes, Option, Some, None, true≢false}
 use Rattle.std.specs.Prelude.{if◌then◌else◌, unwrap_or, MatchOption, IfOk, Result, Ok, Err}
 use Rattle.outside_io.specs.declared.NoMemory.{NoMemory}
 use Rattle.std.specs.List.{flat_map, filter_map, cons_option, list_all}
 use Rattle.std.specs.Str.Parse.{starts_with_minus}
-use Rattle.std.proofs.lemmas.Option.{none-some, same_Some}
+use Rattle.std.proofs.lemmas.Option.{same_Some}
 use Rattle.std.proofs.lemmas.Grind.{common_steps}
 use Rattle.std.proofs.lemmas.Bool.{and_parts}
-use Rattle.clap.specs.Walk.{Row, Rule, Walk, idle, settled, nothing_held, walk_from, walked, rows_after, arg_by_long}
-use Rattle.clap.specs.Faults.{fault_of, level_fault}
+use Rattle.clap.specs.Walk.{Row, idle, nothing_held, walk_from, walked, rows_after, arg_by_long}
+use Rattle.clap.specs.Faults.{fault_of}
 use Rattle.clap.specs.Simple.{subcommand_of}
 use Rattle.command_line.specs.Numbers.{number_of, is_digit, IsNumber, AreThree}
 use Rattle.command_line.specs.Damages.{IsDamage, AreDamages}
@@ -23,12 +23,12 @@ use Rattle.command_line.specs.declared.command.Command.{Command}
 use Rattle.command_line.specs.declared.command.Command.TheVariants.{MakeLink, MakeContent, RecoverLink, RecoverContent, Check, Damage, Sample}
 use Rattle.command_line.proofs.Triples.{digits_are}
 use Rattle.command_line.proofs.FoundRows.{option_built, is_itself, nothing_found}
-use Rattle.command_line.proofs.Turns.{leaf, IsForm, walk_at, place}
-use Rattle.command_line.proofs.Takings.{total, last, level_total, finished_rows, Took, taken}
+use Rattle.command_line.proofs.Turns.{IsForm, walk_at, place}
+use Rattle.command_line.proofs.Takings.{last, level_total, finished_rows, taken}
 use Rattle.command_line.proofs.Accepting.{AreFew, Once, Accepts, pieces_found}
-use Rattle.command_line.proofs.Programs.{make_rules, single_rules, several_rules, make_form, single_form, several_form, make_long, Sub, to_make, to_recover, to_check, to_damage, to_sample, sub_name, sub_rules, sub_fault, sub_rows}
-use Rattle.command_line.proofs.Names.{Names, named_words}
-use Rattle.command_line.proofs.Checking.{IsBare, check_told, check_bare, check_passes, bare_arranged}
+use Rattle.command_line.proofs.Programs.{make_form, single_form, several_form, make_long, Sub, to_make, to_recover, to_check, to_damage, to_sample, sub_name, sub_rules, sub_fault, sub_rows}
+use Rattle.command_line.proofs.Names.{named_words}
+use Rattle.command_line.proofs.Checking.{IsBare, check_told, check_bare, check_passes}
 
 -- ---- what is taken
 

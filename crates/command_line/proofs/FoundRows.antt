@@ -1,11 +1,11 @@
 -- The rows that `clap` keeps of options and operands.
-use Rattle.std.proofs.Common.{◌≡◌, ◌∙◌, ◌⊎◌, inl, inr, sym, ap, ap₂, refl, subst, Bool, true, false, ◌&&◌, ◌||◌, not, ℕ, List, [], ◌∷◌, ◌++◌, append_assoc, append-nil, codes, Option, Some, None, find, bytes_eq, is_some, true≢false}
+use Rattle.std.proofs.Common.{◌≡◌, ◌∙◌, ◌⊎◌, inl, inr, sym, ap, refl, subst, Bool, true, false, ◌||◌, List, [], ◌∷◌, ◌++◌, append-nil, Option, Some, None, find, bytes_eq, is_some, true≢false}
 use Rattle.std.specs.Prelude.{if◌then◌else◌, option_map, unwrap_or, option_and_then, slice_get}
 use Rattle.std.specs.Option.{option_map_or}
 use Rattle.std.proofs.lemmas.Slice.Eq.{bytes_eq-Decides}
 use Rattle.clap.specs.Facts.{explicit_source}
 use Rattle.clap.specs.Kinds.{Kinds, or_else}
-use Rattle.clap.specs.Walk.{Row, Rule, at_row, without, with_values, stronger, used, has_row, first_of, all_of}
+use Rattle.clap.specs.Walk.{Row, Rule, without, with_values, stronger, used, has_row, first_of, all_of}
 use Rattle.clap.specs.Takes.{is_given}
 use Rattle.clap.specs.Faults.{use_fault}
 use Rattle.clap.specs.Simple.{filled, with_index}

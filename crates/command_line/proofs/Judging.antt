@@ -1,8 +1,8 @@
 -- The command that is read of what `clap` found.
-use Rattle.std.proofs.Common.{◌≡◌, ◌∙◌, ◌⊎◌, inl, inr, sym, ap, refl, subst, true, false, List, [], ◌∷◌, codes, Option, Some, None, Result, Ok, Err, IfOk, Bor, Box, box_value, map, option_map, unwrap_or, bytes_eq}
-use Rattle.std.specs.Prelude.{MatchOption, MatchResult}
+use Rattle.std.proofs.Common.{◌≡◌, ◌∙◌, ◌⊎◌, inl, inr, sym, ap, refl, subst, true, false, List, [], codes, Option, Some, None, Result, Ok, Err, IfOk, Bor, Box, box_value, map, option_map, unwrap_or, bytes_eq}
+use Rattle.std.specs.Prelude.{MatchOption}
 use Rattle.std.proofs.lemmas.Option.{none-some, same_Some}
-use Rattle.clap.specs.Kinds.{FailsBy, HasKind, IsAmong, Kinds}
+use Rattle.clap.specs.Kinds.{HasKind, Kinds}
 use Rattle.clap.specs.Values.{kind_of}
 use Rattle.clap.specs.Walk.{Row, rows_of}
 use Rattle.clap.specs.Matches.{found_of, subcommand_name_of, raw_values, matched_of}

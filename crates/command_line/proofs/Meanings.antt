@@ -1,6 +1,6 @@
 -- What a command's name, options and operands ask for.
-use Rattle.std.proofs.Common.{◌≡◌, ◌∙◌, sym, ap, refl, subst, arith, ℕ, ◌<◌, ◌≤◌, List, [], ◌∷◌, length, get_or, take, drop, take_all, ◌-◌, map, string_bytes, String, Global, Option, Some, None, Bor, true≢false, false}
-use Rattle.std.specs.Prelude.{MatchOption, IfOk, Result, Ok, Err, codes}
+use Rattle.std.proofs.Common.{◌≡◌, ◌∙◌, sym, ap, refl, subst, arith, ℕ, ◌<◌, ◌≤◌, List, [], ◌∷◌, length, get_or, Some, Bor, true≢false, false}
+use Rattle.std.specs.Prelude.{codes}
 use Rattle.std.specs.Str.{bytes_eq}
 use Rattle.std.proofs.lemmas.Slice.Eq.{bytes_eq-Decides}
 use Rattle.command_line.specs.Parsing.{within}

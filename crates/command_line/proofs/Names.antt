@@ -1,19 +1,18 @@
 -- Words that `clap` takes begin with the name of a command.
-use Rattle.std.proofs.Common.{◌≡◌, ◌∙◌, ◌⊎◌, inl, inr, sym, ap, ap₂, refl, subst, Bool, true, false, ◌||◌, not, ℕ, List, [], ◌∷◌, ◌++◌, length, codes, Option, Some, None, bytes_eq, true≢false, find, slice_get, drop}
+use Rattle.std.proofs.Common.{◌≡◌, ◌∙◌, sym, ap, refl, subst, Bool, true, false, ◌||◌, ℕ, List, [], ◌∷◌, length, codes, Option, Some, None, bytes_eq, slice_get}
 use Rattle.std.specs.Prelude.{if◌then◌else◌, option_map}
 use Rattle.std.specs.Option.{option_map_or}
-use Rattle.std.specs.Char.{encode_utf8}
 use Rattle.std.specs.Str.{chars}
 use Rattle.std.proofs.lemmas.Slice.Eq.{bytes_eq-Decides}
 use Rattle.clap.specs.Lexer.{long_of, short_of}
 use Rattle.clap.specs.Kinds.{Kinds, or_else}
-use Rattle.clap.specs.Walk.{Held, Rule, Step, Walk, idle, trailing, plain, walked, walk, nothing_held, walk_from, answers_to, subcommand_met, subcommand_or_other, long_or_other, short_or_plain, after_flag, bundle_step, bundle_met}
-use Rattle.clap.specs.Faults.{fault_of, walk_fault, turn_fault, step_fault, other_fault, flag_word_fault, bundle_fault, flags_fault, bundle_step_fault, short_fault, defaults_fault}
+use Rattle.clap.specs.Walk.{Held, Step, idle, trailing, plain, walked, nothing_held, subcommand_met, subcommand_or_other, long_or_other, short_or_plain, after_flag, bundle_step, bundle_met}
+use Rattle.clap.specs.Faults.{fault_of, walk_fault, turn_fault, step_fault, other_fault, flag_word_fault, bundle_fault, flags_fault, bundle_step_fault, defaults_fault}
 use Rattle.clap.specs.declared.error.kind.ErrorKind.{ErrorKind}
 use Rattle.clap.specs.declared.error.kind.ErrorKind.TheVariants as kind
 use Rattle.command_line.specs.Grammar.{Text}
 use Rattle.command_line.specs.Forms.{vabgrot}
-use Rattle.command_line.proofs.Takings.{or_else_first, or_else_second}
+use Rattle.command_line.proofs.Takings.{or_else_first}
 use Rattle.command_line.proofs.Programs.{Sub, to_make, to_recover, to_check, to_damage, to_sample, sub_name, whole, names, start}
 
 no_kind : (k : ErrorKind) (ks : Kinds) → k ∷ ks ≡ [] → ⊥

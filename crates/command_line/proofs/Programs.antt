@@ -1,23 +1,18 @@
 -- The commands of the program, as `clap` has them when they are built, and how it comes to one.
-use Rattle.std.proofs.Common.{◌≡◌, ◌∙◌, ◌⊎◌, inl, inr, sym, ap, ap₂, refl, subst, Bool, true, false, ◌&&◌, ◌||◌, not, ℕ, List, [], ◌∷◌, ◌++◌, length, codes, Option, Some, None, bytes_eq, true≢false, append_assoc, append-nil, fold, find, slice_get, drop, is_some}
+use Rattle.std.proofs.Common.{◌≡◌, ◌∙◌, sym, ap, ap₂, refl, Bool, true, false, ◌||◌, not, List, [], ◌∷◌, ◌++◌, codes, Some, None, bytes_eq, true≢false, append_assoc, append-nil, fold, is_some}
 use Rattle.std.specs.Prelude.{if◌then◌else◌, option_map}
-use Rattle.std.specs.Option.{option_map_or}
-use Rattle.std.specs.Char.{encode_utf8}
-use Rattle.std.specs.Str.{chars}
-use Rattle.std.proofs.lemmas.Slice.Eq.{bytes_eq-Decides}
-use Rattle.clap.specs.Lexer.{long_of, short_of}
 use Rattle.clap.specs.Kinds.{Kinds, or_else}
-use Rattle.clap.specs.Walk.{Row, Rule, Held, Walk, Names, Waiting, idle, Step, trailing, value, plain, settled, walked, finished, nothing_held, walk_from, walk, rows_after, arg_by_long, arg_by_id, answers_to, subcommand_met, subcommand_or_other, long_or_other, short_or_plain, after_flag, bundle_step, bundle_met, used}
+use Rattle.clap.specs.Walk.{Rule, Walk, Names, settled, walked, finished, nothing_held, walk_from, walk, rows_after, arg_by_long, arg_by_id}
 use Rattle.clap.specs.Takes.{is_given}
-use Rattle.clap.specs.Faults.{fault_of, level_fault, entered_fault, walk_fault, turn_fault, settle_fault, defaults_fault, check_fault, other_fault, step_fault, flag_word_fault, bundle_fault, flags_fault, bundle_step_fault, short_fault}
-use Rattle.clap.specs.Simple.{App, Shape, built, entered, names_of, subcommand_of}
+use Rattle.clap.specs.Faults.{fault_of, level_fault, entered_fault, walk_fault, turn_fault, settle_fault, defaults_fault, check_fault}
+use Rattle.clap.specs.Simple.{App, built, entered, names_of, subcommand_of}
 use Rattle.clap.proofs.FaultLemmas.{stopped_fault}
 use Rattle.command_line.specs.Grammar.{Text}
 use Rattle.command_line.specs.Forms.{option_id, operand_id, vabgrot}
 use Rattle.command_line.specs.declared.options.OptionName.{OptionName}
 use Rattle.command_line.specs.declared.options.OptionName.TheVariants.{Offset, Skew, Bits, Version}
 use Rattle.command_line.proofs.FoundRows.{option_built, operand_built}
-use Rattle.command_line.proofs.Turns.{leaf, option_named, IsForm, or_else_nil}
+use Rattle.command_line.proofs.Turns.{leaf, IsForm, or_else_nil}
 
 -- ---- the arguments
 

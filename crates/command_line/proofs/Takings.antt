@@ -1,9 +1,9 @@
 -- The words that `clap` takes behind a command's name are options and operands, and options and operands are taken.
-use Rattle.std.proofs.Common.{◌≡◌, ◌∙◌, ◌⊎◌, inl, inr, sym, ap, ap₂, refl, subst, Bool, true, false, ◌&&◌, ◌||◌, not, ℕ, zero, suc, List, [], ◌∷◌, ◌++◌, length, codes, Option, Some, None, bytes_eq, true≢false, append_assoc, append-nil, fold}
+use Rattle.std.proofs.Common.{◌≡◌, ◌∙◌, ◌⊎◌, inl, inr, sym, ap, refl, subst, Bool, true, false, ◌||◌, not, List, [], ◌∷◌, ◌++◌, codes, Option, Some, None, bytes_eq, true≢false, append_assoc, append-nil, fold}
 use Rattle.std.specs.Prelude.{if◌then◌else◌, option_map, unwrap_or}
 use Rattle.std.specs.List.{flat_map, filter_map, list_all}
 use Rattle.clap.specs.Kinds.{Kinds, or_else}
-use Rattle.clap.specs.Walk.{Row, Rule, Held, Walk, Waiting, idle, option, positional, settled, settled_rows, walked, finished, with_default, nothing_held, walk_from, is_empty, has_row, default_rows, reading_by, used, used_by_id, arg_by_long}
+use Rattle.clap.specs.Walk.{Row, Rule, Held, Walk, Waiting, idle, option, settled, settled_rows, walked, finished, with_default, nothing_held, walk_from, is_empty, has_row, default_rows, reading_by, used, used_by_id, arg_by_long}
 use Rattle.clap.specs.Takes.{is_given}
 use Rattle.clap.specs.Faults.{use_fault, settle_fault, turn_fault, walk_fault, defaults_fault, check_fault, level_fault, default_fault, given_default_fault}
 use Rattle.clap.specs.Lexer.{long_of}
@@ -13,13 +13,13 @@ use Rattle.std.proofs.lemmas.Bool.{and_parts}
 use Rattle.std.proofs.lemmas.Option.{none-some, same_Some}
 use Rattle.std.proofs.lemmas.Slice.Eq.{bytes_eq-Decides}
 use Rattle.std.specs.Option.{option_map_or}
-use Rattle.command_line.specs.Grammar.{Text, name_word, Piece, apart, joined, operand, piece_words, IsPlain, ArePlain, option_of, operand_of, rest_words}
+use Rattle.command_line.specs.Grammar.{Text, name_word, Piece, apart, joined, operand, piece_words, option_of, operand_of, rest_words}
 use Rattle.command_line.specs.Forms.{option_id, operand_id, AreFound}
 use Rattle.command_line.specs.declared.options.OptionName.{OptionName}
 use Rattle.command_line.specs.declared.options.OptionName.TheVariants.{Offset, Skew, Bits, Version}
-use Rattle.command_line.proofs.FoundRows.{option_built, operand_built, found_option, found_operand, option_fits, operand_fits, given_told, nothing_found}
-use Rattle.command_line.proofs.Words.{long_text, long_told, plain_dashes, plain_long, plain_short, named_dashes, named_long, valued_dashes, valued_long}
-use Rattle.command_line.proofs.Turns.{leaf, option_named, IsForm, holding, walk_at, Turn, rest_turn, plain_turn, other_turn, place, waits_after, IsIdle, idle_after, value_turn, value_room, idle_turn, trailing_turn, waiting_turn, named_turn, valued_turn, unknown_turn}
+use Rattle.command_line.proofs.FoundRows.{option_built, operand_built, found_option, found_operand, nothing_found}
+use Rattle.command_line.proofs.Words.{long_text, long_told}
+use Rattle.command_line.proofs.Turns.{leaf, option_named, IsForm, holding, walk_at, Turn, rest_turn, other_turn, place, waits_after, IsIdle, idle_after, value_turn, value_room, idle_turn, trailing_turn, waiting_turn, named_turn, valued_turn, unknown_turn}
 
 -- ---- the faults of all words, and where the walk ends
 

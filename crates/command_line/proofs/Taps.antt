@@ -1,5 +1,5 @@
 -- What the values of options say.
-use Rattle.std.proofs.Common.{◌≡◌, ◌∙◌, sym, refl, subst, arith, ℕ, ◌≤◌, List, [], ◌∷◌, Option, Some, None}
+use Rattle.std.proofs.Common.{◌≡◌, ◌∙◌, sym, subst, arith, ℕ, ◌≤◌, List, [], ◌∷◌, Option, Some, None}
 use Rattle.std.specs.Prelude.{MatchOption}
 use Rattle.std.proofs.lemmas.Option.{none-some, same_Some}
 use Rattle.command_line.specs.Numbers.{IsNumber}
@@ -9,7 +9,7 @@ use Rattle.command_line.specs.Commands.{IsOffset, AreSkews, IsLimit, IsVersion, 
 use Rattle.command_line.specs.declared.tap.TapWords.{TapWords}
 use Rattle.command_line.specs.declared.options.OptionName.{OptionName}
 use Rattle.command_line.specs.declared.options.OptionName.TheVariants.{Offset, Skew, Bits, Version}
-use Rattle.command_line.proofs.Triples.{number_told, number_found, three_told, three_found}
+use Rattle.command_line.proofs.Triples.{number_found, three_told, three_found}
 use Rattle.command_line.proofs.GivenOptions.{given_once}
 
 abbrev Options : Type 0

@@ -1,18 +1,18 @@
 -- What one word does to a walk over the words behind a command's name.
-use Rattle.std.proofs.Common.{◌≡◌, ◌∙◌, ◌⊎◌, inl, inr, sym, ap, ap₂, refl, subst, Bool, true, false, ◌&&◌, ◌||◌, not, ℕ, zero, suc, List, [], ◌∷◌, ◌++◌, length, codes, Option, Some, None, bytes_eq, true≢false, slice_get, nat_lt, drop}
-use Rattle.std.specs.Prelude.{if◌then◌else◌, option_map, unwrap_or}
+use Rattle.std.proofs.Common.{◌≡◌, ◌∙◌, ◌⊎◌, inl, inr, sym, ap, ap₂, refl, Bool, true, false, ◌&&◌, ◌||◌, not, ℕ, List, [], ◌∷◌, ◌++◌, length, codes, Option, Some, None, bytes_eq, true≢false, slice_get, nat_lt, drop}
+use Rattle.std.specs.Prelude.{if◌then◌else◌, option_map}
 use Rattle.std.specs.Option.{option_map_or}
 use Rattle.std.specs.Char.{encode_utf8}
 use Rattle.std.specs.Str.{chars}
 use Rattle.std.specs.List.{list_all, list_any}
 use Rattle.clap.specs.Lexer.{long_of, short_of}
 use Rattle.clap.specs.Kinds.{Kinds, or_else}
-use Rattle.clap.specs.Walk.{Row, Rule, Held, Walk, Waiting, idle, option, positional, Step, value, Outcome, used, settled, settled_rows, walked, to_positional, after_step, after_flag, plain_word, long_or_other, long_met, long_word, short_or_plain, word_met, arg_by_long, arg_by_short, arg_by_id, arg_by_index, is_empty, is_pending, bundle, bundle_met, bundle_step, nothing_held, pushed, option_word, trailing, plain}
+use Rattle.clap.specs.Walk.{Row, Rule, Held, Walk, Waiting, idle, option, positional, Step, value, used, settled, settled_rows, walked, to_positional, after_step, after_flag, plain_word, long_or_other, long_met, short_or_plain, arg_by_long, arg_by_short, arg_by_id, arg_by_index, is_empty, is_pending, bundle_met, bundle_step, pushed, option_word, trailing, plain}
 use Rattle.clap.specs.Takes.{is_given}
-use Rattle.clap.specs.Faults.{use_fault, settle_fault, turn_fault, word_fault, step_fault, positional_fault, stray_fault, flag_word_fault, long_fault, bundle_fault, flags_fault, bundle_step_fault, short_fault}
+use Rattle.clap.specs.Faults.{use_fault, settle_fault, turn_fault, step_fault, positional_fault, stray_fault, flag_word_fault, long_fault, bundle_fault, flags_fault, bundle_step_fault, short_fault}
 use Rattle.clap.specs.Simple.{Shape}
 use Rattle.clap.specs.declared.error.kind.ErrorKind.TheVariants as kind
-use Rattle.command_line.specs.Grammar.{Text, name_word}
+use Rattle.command_line.specs.Grammar.{Text}
 use Rattle.command_line.specs.Forms.{option_id, operand_id}
 use Rattle.command_line.specs.declared.options.OptionName.{OptionName}
 use Rattle.command_line.specs.declared.options.OptionName.TheVariants.{Offset, Skew, Bits, Version}

@@ -1,9 +1,8 @@
 -- What the words of options look like to `clap`.
-use Rattle.std.proofs.Common.{◌≡◌, ◌≢◌, ◌∙◌, sym, ap, ap₂, refl, subst, arith, Bool, true, false, ◌==◌, ◌||◌, ℕ, zero, suc, ◌<◌, List, [], ◌∷◌, ◌++◌, length, get_or, codes, Option, Some, None, bytes_eq, true≢false, append_assoc}
+use Rattle.std.proofs.Common.{◌≡◌, ◌∙◌, sym, ap, ap₂, refl, arith, Bool, true, false, ◌==◌, ◌||◌, ℕ, ◌<◌, [], ◌∷◌, ◌++◌, length, get_or, codes, Option, Some, None, bytes_eq, true≢false, append_assoc}
 use Rattle.std.specs.Prelude.{if◌then◌else◌, option_and_then}
 use Rattle.std.specs.List.{list_any, before_first, after_first, position_or_len}
 use Rattle.std.specs.Str.Parse.{starts_with_minus}
-use Rattle.std.proofs.lemmas.Slice.Eq.{bytes_eq-Decides}
 use Rattle.std.proofs.lemmas.Bool.Decides.{nat_tests}
 use Rattle.std.proofs.lemmas.List.Sums.{split_at_first, passes_at_first}
 use Rattle.std.proofs.lemmas.Grind.{common_steps}

@@ -1,5 +1,5 @@
 -- The commands as `clap` is told of them, and what it finds of options and operands.
-use Rattle.std.specs.Prelude.{◌≡◌, ◌⊎◌, MatchOption, ℕ, Bool, true, false, List, [], ◌∷◌, codes, Option, Some, None, option_map, find}
+use Rattle.std.specs.Prelude.{◌≡◌, ◌⊎◌, MatchOption, Bool, true, false, List, [], ◌∷◌, codes, Option, Some, None, option_map, find}
 use Rattle.std.specs.Str.{bytes_eq}
 use Rattle.clap.specs.Facts.{explicit_source}
 use Rattle.clap.specs.Words.{App, Row, Rule, fault_of, subcommand_of, new_app, new_rule, with_rule, with_subcommand}

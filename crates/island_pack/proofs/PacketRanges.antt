@@ -1,5 +1,5 @@
 -- What a packet's types give: its header and its bodies are bytes, so that its sync values decide.
-use Rattle.std.proofs.Common.{◌≡◌, ℕ, suc, zero, ◌<◌, All, Bool, true, ◌&&◌, List, [], ◌∷◌, length, refl, ap, ap₂, sym, ◌∙◌, arith, lt-ltb, eq-eqb}
+use Rattle.std.proofs.Common.{◌≡◌, ℕ, suc, ◌<◌, All, Bool, true, ◌&&◌, List, [], ◌∷◌, length, refl, ap, ap₂, sym, ◌∙◌, arith, lt-ltb, eq-eqb}
 use Rattle.std.specs.Prelude.{nat_lt}
 use Rattle.std.specs.List.{list_all}
 use Rattle.island_pack.specs.Conforming.{are_bytes, is_packet}

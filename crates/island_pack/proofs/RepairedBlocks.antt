@@ -1,16 +1,15 @@
 -- What is repaired of 32 columns is a packet, and each block is repaired as its verdict says.
-use Rattle.std.proofs.Common.{◌≡◌, ℕ, suc, zero, ◌+◌, ◌*◌, ◌^◌, ◌<◌, ◌≤◌, Bool, List, [], ◌∷◌, ◌++◌, length, take, drop, refl, ap, ap₂, ◌∙◌, sym, subst, arith, All, length-drop, length-take-le, length-append}
+use Rattle.std.proofs.Common.{◌≡◌, ℕ, suc, zero, ◌+◌, ◌*◌, ◌<◌, ◌≤◌, Bool, List, ◌++◌, length, take, drop, refl, ap, ap₂, ◌∙◌, sym, subst, arith, All, length-drop, length-take-le}
 use Rattle.std.proofs.lemmas.List.{length-map}
-use Rattle.std.proofs.lemmas.List.Elements.{All-nil, All-cons, All-append}
+use Rattle.std.proofs.lemmas.List.Elements.{All-nil, All-cons}
 use Rattle.std.proofs.Math.Seq.{take-add}
 use Rattle.tmds_word.specs.Bits.{number, bits_of as number_bits}
 use Rattle.tmds_word.proofs.Numbers.{number-take, bits_of-number}
-use Rattle.bch_block.specs.Bits.{byte_bits, bits_of, flipped}
+use Rattle.bch_block.specs.Bits.{byte_bits, bits_of}
 use Rattle.bch_block.specs.declared.Verdict.{Verdict}
 use Rattle.bch_block.specs.declared.Verdict.TheVariants.{Clean, Mended, Lost}
 use Rattle.bch_block.proofs.Distances.{length-flipped}
 use Rattle.island_pack.specs.Nibbles.{nibbles_of, sync_values, header_bits, body_bits}
-use Rattle.island_pack.specs.Packets.{IsPacket}
 use Rattle.island_pack.specs.Taken.{after, IsTaken, Taken}
 use Rattle.island_pack.specs.Repaired.{divides, verdict_of, bytes_in, repaired, packet_in, verdicts_in}
 use Rattle.island_pack.proofs.Parts.{body_0, body_1, body_2, body_3, each_body, All-four, length-four}

@@ -1,10 +1,9 @@
 -- Lanes that were followed from word to word.
-use Rattle.std.proofs.Common.{◌≡◌, ℕ, ◌+◌, ◌<◌, Bool, true, false, not, cond, ◌==◌, ◌||◌, nat_le, ◌⊎◌, inl, inr, List, [], ◌∷◌, ◌++◌, length, map, take, refl, ap, ap₂, is_some, sym, subst, ◌∙◌, arith, All, eqb-true}
+use Rattle.std.proofs.Common.{◌≡◌, ℕ, ◌+◌, Bool, true, false, not, cond, ◌==◌, ◌||◌, nat_le, ◌⊎◌, inl, inr, List, [], ◌∷◌, ◌++◌, length, refl, ap, is_some, sym, subst, ◌∙◌, arith, All, eqb-true}
 use Rattle.std.specs.Prelude.{Option, Some, None, ℤ, pos, ◌+ℤ◌}
 use Rattle.std.proofs.Math.IntN.{+ℤ_assoc, +ℤ_idl, +ℤ_idr}
 use Rattle.std.proofs.lemmas.List.Elements.{All-nil, All-cons}
 use Rattle.tmds_word.specs.Bits.{bits_of, word_bits, balance, number, ones, zeros}
-use Rattle.tmds_word.specs.Column.{Column}
 use Rattle.tmds_word.specs.Words.{columns_of}
 use Rattle.terc4.specs.Tables.{control_words, is_control, is_in}
 use Rattle.terc4.specs.Columns.{is_control_column, one_if}

@@ -1,5 +1,5 @@
 -- Lines that are heard group after group.
-use Rattle.std.proofs.Common.{◌≡◌, ℕ, ◌+◌, ◌-◌, ◌*◌, ◌<◌, ◌≤◌, Bool, true, List, [], ◌∷◌, ◌++◌, length, take, drop, get_or, refl, ap, ap₂, is_some, sym, subst, ◌∙◌, arith, All, append_assoc, length-drop}
+use Rattle.std.proofs.Common.{◌≡◌, ℕ, ◌+◌, ◌-◌, ◌*◌, ◌<◌, ◌≤◌, true, List, [], ◌∷◌, ◌++◌, length, take, drop, get_or, refl, ap, ap₂, is_some, sym, subst, ◌∙◌, arith, All, append_assoc, length-drop}
 use Rattle.std.specs.Prelude.{Option, Some, None, IfSome, ℤ, nat_le}
 use Rattle.std.specs.List.{prefix_len}
 use Rattle.std.proofs.Math.Seq.{take-add}

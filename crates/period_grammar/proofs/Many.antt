@@ -1,5 +1,5 @@
 -- Many columns that go on with what is open.
-use Rattle.std.proofs.Common.{◌≡◌, ◌≢◌, ℕ, zero, suc, ◌+◌, ◌<◌, ◌≤◌, Bool, true, false, not, cond, ◌==◌, ◌&&◌, List, [], ◌∷◌, ◌++◌, length, take, refl, ap, ap₂, sym, ◌∙◌, subst, arith, append_assoc, append-nil, All, length-append, if◌then◌else◌}
+use Rattle.std.proofs.Common.{◌≡◌, ◌≢◌, ℕ, suc, ◌+◌, Bool, true, false, not, cond, ◌==◌, ◌&&◌, List, [], ◌∷◌, ◌++◌, length, take, refl, ap, ap₂, sym, ◌∙◌, subst, arith, append_assoc, append-nil, All, length-append, if◌then◌else◌}
 use Rattle.std.specs.List.{prefix_len}
 use Rattle.std.proofs.lemmas.Bool.{ne_eqb}
 use Rattle.std.proofs.lemmas.List.{length-take-le}
@@ -10,11 +10,10 @@ use Rattle.terc4.specs.Columns.{is_control_column}
 use Rattle.island_pack.specs.Periods.{ctl}
 use Rattle.period_grammar.specs.Column.{value_of}
 use Rattle.period_grammar.specs.Cut.{Stretch, stretch, stretches, runs}
-use Rattle.period_grammar.specs.Heard.{heard_so_far, opened, video, other_words}
+use Rattle.period_grammar.specs.Heard.{heard_so_far, opened, video}
 use Rattle.period_grammar.specs.After.{last, payload_gain, gains, grown}
-use Rattle.period_grammar.specs.GoesOn.{is_whole, goes_on, goes_on_run, goes_on_line, goes_kept, count_going_on}
+use Rattle.period_grammar.specs.GoesOn.{is_whole, goes_on, goes_on_line, goes_kept, count_going_on}
 use Rattle.period_grammar.specs.Balanced.{is_pixel}
-use Rattle.period_grammar.specs.LineSeen.{LineSeen}
 use Rattle.period_grammar.specs.Lines.{IsLineAfter}
 use Rattle.period_grammar.specs.ControlAfter.{IsControlAfter}
 use Rattle.period_grammar.specs.Seen.{Seen}

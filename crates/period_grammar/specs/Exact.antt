@@ -2,7 +2,7 @@
 -- where nothing is, are a prefix of the columns that spell some conforming periods: HDMI 1.4, section 5.1.2 (the order of
 -- the periods), 5.2.1 (control periods), 5.2.2 (video data periods) and 5.2.3 (data islands). Bit 3 of lane 0 in packet
 -- columns is free: a sink does not judge it.
-use Rattle.std.specs.Prelude.{◌≡◌, ◌↔◌, ℕ, Bool, true, false, not, List, [], ◌∷◌, ◌++◌, length, take}
+use Rattle.std.specs.Prelude.{◌≡◌, ℕ, Bool, true, false, not, List, [], ◌∷◌, ◌++◌, length, take}
 use Rattle.std.specs.List.{list_all}
 use Rattle.tmds_word.specs.Column.{Column}
 use Rattle.island_pack.specs.Periods.{Period}

@@ -1,4 +1,4 @@
-use Rattle.std.proofs.Common.{◌≡◌, ap, subst, List, IfOk}
+use Rattle.std.proofs.Common.{subst, List, IfOk}
 use Rattle.clap.specs.Words.{Row, found_of, rows_of}
 use Rattle.command_line.specs.Grammar.{Text}
 use Rattle.command_line.specs.Forms.{Judges}

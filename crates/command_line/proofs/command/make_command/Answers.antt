@@ -1,4 +1,4 @@
-use Rattle.std.proofs.Common.{rules, ◌≡◌, ◌∙◌, ap, refl, codes, [], ◌∷◌, arith, Bor, get_or}
+use Rattle.std.proofs.Common.{◌≡◌, ◌∙◌, ap, refl, codes, [], ◌∷◌, arith, Bor, get_or}
 use Rattle.std.proofs.lemmas.Grind.{common_steps}
 use Rattle.command_line.specs.Grammar.{Text, texts}
 use Rattle.command_line.proofs.Meanings.{no_tap, one_text}

@@ -1,4 +1,4 @@
-use Rattle.std.proofs.Common.{◌≡◌, ◌∙◌, ap, sym, Option, Bor, List, [], unwrap_or, option_map}
+use Rattle.std.proofs.Common.{◌∙◌, ap, sym, Option, Bor, List, [], unwrap_or, option_map}
 use Rattle.command_line.specs.Grammar.{Text, texts}
 use Rattle.command_line.proofs.command.named_command.Goals as goal
 

@@ -1,8 +1,6 @@
-use Rattle.std.proofs.Common.{rules, map, string_bytes, ◌≡◌}
-use Rattle.clap.specs.Values.{kind_of}
-use Rattle.clap.specs.declared.error.kind.ErrorKind.TheVariants as kind
+use Rattle.std.proofs.Common.{map, string_bytes}
 use Rattle.clap.specs.Words.{app_of}
-use Rattle.command_line.proofs.Judging.{parsed_ok, parsed_err}
+use Rattle.command_line.proofs.Judging.{parsed_ok}
 use Rattle.command_line.proofs.command.parsed.Goals as goal
 
 pub returns-in-Ok : goal.returns-in-Ok

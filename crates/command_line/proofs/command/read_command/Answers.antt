@@ -1,4 +1,4 @@
-use Rattle.std.proofs.Common.{◌≡◌, ◌∙◌, sym, refl, map, string_bytes}
+use Rattle.std.proofs.Common.{◌∙◌, map, string_bytes}
 use Rattle.command_line.proofs.Deciding.{accepted, answered, refused}
 use Rattle.command_line.proofs.command.read_command.Goals as goal
 

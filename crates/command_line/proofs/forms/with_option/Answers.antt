@@ -1,4 +1,4 @@
-use Rattle.std.proofs.Common.{rules, ap₂, ◌∙◌, refl, ◌≡◌, Bool, true, false, ◌||◌}
+use Rattle.std.proofs.Common.{ap₂, ◌∙◌, refl, ◌≡◌, Bool, true, false, ◌||◌}
 use Rattle.clap.specs.Words.{with_rule}
 use Rattle.command_line.proofs.forms.with_option.Goals as goal
 

@@ -1,8 +1,5 @@
-use Rattle.std.proofs.Common.{◌≡◌, ℕ, ◌+◌, ◌*◌, ◌<◌, ◌∙◌, ap, sym, refl, length, take, arith, List}
-use Rattle.std.proofs.lemmas.List.{append-nil, take_all}
+use Rattle.std.proofs.Common.{◌≡◌, ◌+◌, ◌*◌, ◌<◌, ◌∙◌, ap, sym, refl, length, take, arith}
 use Rattle.tmds_word.specs.Words.{columns_of}
-use Rattle.tmds_code.specs.Coding.{decoded_byte}
-use Rattle.period_grammar.specs.Heard.{line_bytes}
 use Rattle.period_grammar.proofs.Pixels.{columns_here, lanes_of}
 use Rattle.period_grammar.proofs.Groups.{none_put, pixel_bytes, pixel_followed, whole_group}
 use Rattle.period_grammar.proofs.followed.put_group.Goals as goal

@@ -1,4 +1,4 @@
-use Rattle.std.proofs.Common.{◌≡◌, ℕ, ◌+◌, ◌-◌, ◌*◌, ◌≤◌, ◌∙◌, ap, sym, refl, length, take, drop, true, All, List, arith}
+use Rattle.std.proofs.Common.{◌≡◌, ℕ, ◌+◌, ◌-◌, ◌*◌, ◌≤◌, ◌∙◌, ap, sym, refl, length, take, drop, true, arith}
 use Rattle.std.proofs.lemmas.List.Elements.{All-nil}
 use Rattle.tmds_word.specs.Words.{columns_of}
 use Rattle.period_grammar.specs.Balanced.{is_pixel}

@@ -1,8 +1,8 @@
-use Rattle.std.proofs.Common.{◌≡◌, ℕ, ◌<◌, Bool, List, [], ◌∷◌, length, drop, suc, slice_index, ap, sym, subst, refl, ◌∙◌, arith, eqb-true}
+use Rattle.std.proofs.Common.{◌≡◌, ◌<◌, Bool, length, ap, sym, ◌∙◌, arith, eqb-true}
 use Rattle.std.specs.List.{prefix_len}
 use Rattle.tmds_word.specs.Column.{Column}
 use Rattle.tmds_word.specs.Words.{columns_of}
-use Rattle.period_grammar.specs.GoesOn.{goes_kept, is_alike}
+use Rattle.period_grammar.specs.GoesOn.{goes_kept}
 use Rattle.period_grammar.proofs.Pixels.{columns_here, columns_none, step_no, some_long}
 use Rattle.period_grammar.proofs.Alike.{alike_goes}
 use Rattle.period_grammar.proofs.control.Kept.count_going_on.Goals as goal

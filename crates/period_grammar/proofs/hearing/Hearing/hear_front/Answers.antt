@@ -1,4 +1,4 @@
-use Rattle.std.proofs.Common.{◌≡◌, ℕ, ◌+◌, false, List, ap, sym, subst, refl, ◌∙◌, arith}
+use Rattle.std.proofs.Common.{List, ap, sym, subst, refl, ◌∙◌, arith}
 use Rattle.tmds_word.specs.Column.{Column}
 use Rattle.tmds_word.specs.Words.{columns_of}
 use Rattle.period_grammar.specs.Cut.{stretches}

@@ -1,10 +1,9 @@
-use Rattle.std.proofs.Common.{◌≡◌, ℕ, ◌+◌, List, ap, sym, subst, refl, ◌∙◌, arith}
-use Rattle.tmds_word.specs.Column.{Column}
+use Rattle.std.proofs.Common.{◌≡◌, ◌+◌, ap, sym, subst, refl, ◌∙◌}
 use Rattle.tmds_word.specs.Words.{columns_of}
 use Rattle.period_grammar.specs.Seen.{Seen}
 use Rattle.period_grammar.specs.Stands.{StandsFor}
 use Rattle.period_grammar.specs.declared.phase.Phase.TheVariants.{Video}
-use Rattle.period_grammar.proofs.Many.{Went, line_went}
+use Rattle.period_grammar.proofs.Many.{line_went}
 use Rattle.period_grammar.proofs.hearing.Hearing.hear_line.Goals as goal
 
 pub returns-clause-count : goal.returns-clause-count

@@ -1,4 +1,4 @@
-use Rattle.std.proofs.Common.{◌≡◌, ℕ, ◌∙◌, sym, refl, length, arith}
+use Rattle.std.proofs.Common.{◌∙◌, sym, refl, arith}
 use Rattle.tmds_code.specs.Balances.{disparity_at}
 use Rattle.period_grammar.proofs.Balanced.{some_of, lane_followed}
 use Rattle.period_grammar.proofs.lane.Lane.hear_followed.Goals as goal

@@ -1,5 +1,4 @@
-use Rattle.std.proofs.Common.{◌≡◌, ℕ, ◌+◌, ◌<◌, ◌++◌, List, [], length, take, drop, not, ap, sym, subst, ◌∙◌, arith}
-use Rattle.std.proofs.lemmas.List.{take_all}
+use Rattle.std.proofs.Common.{◌≡◌, ℕ, ◌<◌, ◌++◌, List, [], length, take, drop, not, ap, sym, subst, ◌∙◌, arith}
 use Rattle.tmds_word.specs.Column.{Column}
 use Rattle.tmds_word.specs.Words.{columns_of}
 use Rattle.period_grammar.specs.Balanced.{is_pixel}

@@ -1,4 +1,4 @@
-use Rattle.std.proofs.Common.{◌≡◌, ℕ, ◌+◌, ◌*◌, ◌<◌, ◌≤◌, ◌++◌, min, true, All, List, length, take, ap, sym, subst, ◌∙◌, ◌-◌, arith, length-append}
+use Rattle.std.proofs.Common.{◌≡◌, ℕ, ◌+◌, ◌≤◌, ◌++◌, min, true, All, List, length, take, ap, sym, subst, ◌∙◌, ◌-◌, arith, length-append}
 use Rattle.std.proofs.lemmas.List.{take-take, length-take-le}
 use Rattle.tmds_word.specs.Column.{Column}
 use Rattle.tmds_word.specs.Words.{columns_of}
