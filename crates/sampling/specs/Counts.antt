@@ -1,6 +1,6 @@
 -- What is counted of a content that was made by the generator, sent, damaged and recovered: of its content listing the lines
 -- of each kind, and the bytes of pictures that are not the generator's.
-use Rattle.std.specs.Prelude.{ℕ, suc, ◌+◌, ◌-◌, ◌^◌, ◌==◌, Bool, true, false, not, ◌&&◌, cond, List, [], ◌∷◌, ◌++◌, length, min, count_by, codes}
+use Rattle.std.specs.Prelude.{ℕ, suc, ◌+◌, ◌-◌, ◌^◌, ◌==◌, Bool, true, false, ◌&&◌, cond, List, [], ◌∷◌, ◌++◌, length, min, count_by, codes}
 use Rattle.period_grammar.specs.Things.{Thing, packet}
 use Rattle.source_end.specs.Generator.{row_bytes}
 use Rattle.listing.specs.Fields.{with_fields}

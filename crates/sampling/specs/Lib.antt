@@ -1,3 +1,4 @@
 pub mod Counts
 pub mod Strikes
+pub mod Struck
 pub mod Sampled

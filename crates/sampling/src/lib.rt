@@ -3,11 +3,11 @@
 
 mod counts;
 mod hits;
-mod tally;
+// mod tally;
 
-pub use counts::{Counts, write_counts};
+pub use counts::Counts;
 pub use hits::hits_of;
-pub use tally::Tally;
+// pub use tally::Tally;
 
 #[cfg(test)]
-mod tests;
+mod hits_tests;
