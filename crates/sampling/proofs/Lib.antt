@@ -1,1 +1,2 @@
+pub mod CountLines
 pub mod Struck

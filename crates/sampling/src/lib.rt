@@ -5,9 +5,11 @@ mod counts;
 mod hits;
 // mod tally;
 
-pub use counts::Counts;
+pub use counts::{Counts, write_counts};
 pub use hits::hits_of;
 // pub use tally::Tally;
 
 #[cfg(test)]
 mod hits_tests;
+// #[cfg(test)]
+// mod tests;
