@@ -1,2 +1,6 @@
 pub mod CountLines
+pub mod Counting
+pub mod Growing
+pub mod LineKinds
 pub mod Struck
+pub mod Unlike

@@ -1,0 +1,170 @@
+-- How many bytes differ, once a row or a frame more is listed.
+use Rattle.std.proofs.Common.{◌≡◌, ◌∙◌, ℕ, zero, suc, ◌+◌, ◌-◌, ◌*◌, ◌/◌, ◌%◌, ◌^◌, ◌<◌, ◌==◌, cond, List, [], ◌∷◌, ◌++◌, map, length, take, get_or, min, refl, ap, ap₂, sym, length-append, arith}
+use Rattle.std.proofs.lemmas.List.{length-map, length-take, take_more, take_all}
+use Rattle.frame_build.specs.declared.FrameNote.{FrameNote}
+use Rattle.frame_build.specs.declared.LineNote.{LineNote}
+use Rattle.source_end.specs.Raster.{up_from}
+use Rattle.source_end.specs.Generator.{row_byte, row_bytes}
+use Rattle.source_end.proofs.Generated.{byte_more}
+use Rattle.listing.specs.Listed.{Listed, row, frame}
+use Rattle.sampling.specs.Counts.{kept, told_frames, unlike, unlike_rows, unlike_frames}
+use Rattle.sampling.specs.Tallies.{open_rows, next_frame, Shows}
+use Rattle.sampling.specs.declared.pictures.Pictures.{Pictures}
+
+abbrev Frames : Type 0
+Frames = List (List (List ℕ))
+
+abbrev Rows : Type 0
+Rows = List (List ℕ)
+
+-- ---- rows and frames
+
+told_row : (rows : Rows) (xs : List Listed) (bytes : List ℕ) (note : LineNote) → told_frames rows (xs ++ row bytes note ∷ []) ≡ told_frames rows xs
+unfolding told_frames
+told_row rows [] bytes note = refl
+told_row rows (row b n ∷ xs) bytes note = told_row (rows ++ b ∷ []) xs bytes note
+told_row rows (frame n ∷ xs) bytes note = ap (λ (fs : Frames). rows ∷ fs) (told_row [] xs bytes note)
+
+told_frame : (rows : Rows) (xs : List Listed) (note : FrameNote) → told_frames rows (xs ++ frame note ∷ []) ≡ told_frames rows xs ++ open_rows rows xs ∷ []
+unfolding told_frames open_rows
+told_frame rows [] note = refl
+told_frame rows (row b n ∷ xs) note = told_frame (rows ++ b ∷ []) xs note
+told_frame rows (frame n ∷ xs) note = ap (λ (fs : Frames). rows ∷ fs) (told_frame [] xs note)
+
+open_row : (rows : Rows) (xs : List Listed) (bytes : List ℕ) (note : LineNote) → open_rows rows (xs ++ row bytes note ∷ []) ≡ open_rows rows xs ++ bytes ∷ []
+unfolding open_rows
+open_row rows [] bytes note = refl
+open_row rows (row b n ∷ xs) bytes note = open_row (rows ++ b ∷ []) xs bytes note
+open_row rows (frame n ∷ xs) bytes note = open_row [] xs bytes note
+
+open_frame : (rows : Rows) (xs : List Listed) (note : FrameNote) → open_rows rows (xs ++ frame note ∷ []) ≡ []
+unfolding open_rows
+open_frame rows [] note = refl
+open_frame rows (row b n ∷ xs) note = open_frame (rows ++ b ∷ []) xs note
+open_frame rows (frame n ∷ xs) note = open_frame [] xs note
+
+-- ---- bytes that differ
+
+alone : (a b : ℕ) → a ≡ b → a + 0 ≡ 0 + b
+alone a b e = omega arith
+
+behind : (a b c d e : ℕ) → b ≡ c + d → d ≡ e → a + b ≡ (a + c) + e
+behind a b c d e s t = omega arith
+
+rows_more : (f y : ℕ) (rows : Rows) (bytes : List ℕ) → unlike_rows f y (rows ++ bytes ∷ []) ≡ unlike_rows f y rows + unlike bytes (row_bytes f (y + length rows) (length bytes))
+unfolding unlike_rows
+rows_more f y [] bytes = let e : y ≡ y + 0 = omega arith in alone _ _ (ap (λ (k : ℕ). unlike bytes (row_bytes f k (length bytes))) e)
+rows_more f y (r ∷ rows) bytes =
+    let e : suc y + length rows ≡ y + length (r ∷ rows) = omega arith in
+    behind (unlike r (row_bytes f y (length r))) _ _ _ _ (rows_more f (suc y) rows bytes) (ap (λ (k : ℕ). unlike bytes (row_bytes f k (length bytes))) e)
+
+frames_more : (f : ℕ) (frames : Frames) (rows : Rows) → unlike_frames f (frames ++ rows ∷ []) ≡ unlike_frames f frames + unlike_rows (f + length frames) 0 rows
+unfolding unlike_frames
+frames_more f [] rows = let e : f ≡ f + 0 = omega arith in alone _ _ (ap (λ (k : ℕ). unlike_rows k 0 rows) e)
+frames_more f (g ∷ frames) rows =
+    let e : suc f + length frames ≡ f + length (g ∷ frames) = omega arith in
+    behind (unlike_rows f 0 g) _ _ _ _ (frames_more (suc f) frames rows) (ap (λ (k : ℕ). unlike_rows k 0 rows) e)
+
+-- ---- the generator's bytes repeat
+
+repeats : (f y c d : ℕ) → (31 * f + 7 * y + c + d) % 256 ≡ (31 * (f % 256) + 7 * (y % 256) + c + d) % 256
+repeats f y c d = omega arith
+
+map_same : (g h : ℕ → ℕ) (xs : List ℕ) → ((x : ℕ) → g x ≡ h x) → map g xs ≡ map h xs
+map_same g h [] same = refl
+map_same g h (x ∷ xs) same = ap₂ (λ (y : ℕ) (ys : List ℕ). y ∷ ys) (same x) (map_same g h xs same)
+
+row_repeats : (f y n : ℕ) → row_bytes f y n ≡ row_bytes (f % 256) (y % 256) n
+unfolding row_bytes
+row_repeats f y n = map_same (row_byte f y) (row_byte (f % 256) (y % 256)) (up_from 0 n) (λ k. repeats f y (3 * (k / 3)) (85 * (2 - k % 3)))
+
+-- ---- one more is listed
+
+grows : (k n a b c u : ℕ) → k ≡ kept a → n ≡ min (k + u) (2 ^ 64 - 1) → c ≡ a + b → b ≡ u → n ≡ kept c
+grows k n a b c u was now sum is = omega arith
+
+adds : (k l n a b c : ℕ) → k ≡ kept a → l ≡ kept b → n ≡ min (k + l) (2 ^ 64 - 1) → c ≡ a + b → n ≡ kept c
+adds k l n a b c was has now sum = omega arith
+
+pub row_shown : (p n : Pictures) (listed : List Listed) (bytes : List ℕ) (note : LineNote) (u : ℕ) → Shows p listed
+    → u ≡ unlike bytes (row_bytes p.frame p.row (length bytes)) → n.differ ≡ p.differ → n.pending ≡ min (p.pending + u) (2 ^ 64 - 1) → n.frame ≡ p.frame → n.row ≡ (p.row + 1) % 256
+    → Shows n (listed ++ row bytes note ∷ [])
+row_shown p n listed bytes note u was is d e f r =
+    let frames = told_row [] listed bytes note in
+    let rows = open_row [] listed bytes note in
+    let unlike_row : ℕ → ℕ → ℕ = λ g y. unlike bytes (row_bytes g y (length bytes)) in
+    let more =
+    ap₂ (λ (fs : Frames) (rs : Rows). unlike_rows (suc (length fs)) 0 rs) frames rows
+    ∙ rows_more (next_frame listed) 0 (open_rows [] listed) bytes in
+    let first : 0 + length (open_rows [] listed) ≡ length (open_rows [] listed) = omega arith in
+    let here =
+    ap (unlike_row (next_frame listed)) first
+    ∙ ap (unlike bytes) (row_repeats (next_frame listed) (length (open_rows [] listed)) (length bytes))
+    ∙ ap₂ unlike_row (sym was.frame) (sym was.row) ∙ sym is in
+    let count = ap length rows ∙ length-append (open_rows [] listed) (bytes ∷ []) in
+    record {
+      differ = d ∙ was.differ ∙ ap (λ (fs : Frames). kept (unlike_frames 1 fs)) (sym frames);
+      pending = grows p.pending n.pending _ _ _ u was.pending e more here;
+      frame = f ∙ was.frame ∙ ap (λ (fs : Frames). suc (length fs) % 256) (sym frames);
+      row = let at = was.row in omega (arith, r, at, count);
+    }
+
+pub frame_shown : (p n : Pictures) (listed : List Listed) (note : FrameNote) → Shows p listed
+    → n.differ ≡ min (p.differ + p.pending) (2 ^ 64 - 1) → n.pending ≡ 0 → n.frame ≡ (p.frame + 1) % 256 → n.row ≡ 0
+    → Shows n (listed ++ frame note ∷ [])
+unfolding unlike_rows
+frame_shown p n listed note was d e f r =
+    let frames = told_frame [] listed note in
+    let rows = open_frame [] listed note in
+    let next : 1 + length (told_frames [] listed) ≡ next_frame listed = omega arith in
+    let more =
+    ap (unlike_frames 1) frames ∙ frames_more 1 (told_frames [] listed) (open_rows [] listed)
+    ∙ ap (λ (g : ℕ). unlike_frames 1 (told_frames [] listed) + unlike_rows g 0 (open_rows [] listed)) next in
+    let count = ap length frames ∙ length-append (told_frames [] listed) (open_rows [] listed ∷ []) in
+    record {
+      differ = adds p.differ p.pending n.differ _ _ _ was.differ was.pending d more;
+      pending = e ∙ ap (λ (rs : Rows). kept (unlike_rows (next_frame (listed ++ frame note ∷ [])) 0 rs)) (sym rows);
+      frame = let at = was.frame in omega (arith, f, at, count);
+      row = r ∙ ap (λ (rs : Rows). length rs % 256) (sym rows);
+    }
+
+pub none_shown : (n : Pictures) → n.differ ≡ 0 → n.pending ≡ 0 → n.frame ≡ 1 → n.row ≡ 0 → Shows n []
+unfolding told_frames open_rows unlike_rows unlike_frames
+none_shown n d e f r = record { differ = d; pending = e; frame = f; row = r }
+
+-- ---- byte by byte
+
+one_differs : (xs ys : List ℕ) (x y : ℕ) → length xs ≡ length ys → unlike (xs ++ x ∷ []) (ys ++ y ∷ []) ≡ unlike xs ys + cond (x == y) 0 1
+one_differs [] [] x y same = let e : cond (x == y) 0 1 + 0 ≡ 0 + cond (x == y) 0 1 = omega arith in e
+one_differs [] (c ∷ cs) x y same = absurd cc
+one_differs (b ∷ bs) [] x y same = absurd cc
+one_differs (b ∷ bs) (c ∷ cs) x y same =
+    let rest : length bs ≡ length cs = omega (arith, same) in
+    let step : ℕ → ℕ = λ n. cond (b == c) 0 1 + n in
+    let later = one_differs bs cs x y rest in
+    ap step later ∙ (let e : cond (b == c) 0 1 + (unlike bs cs + cond (x == y) 0 1) ≡ (cond (b == c) 0 1 + unlike bs cs) + cond (x == y) 0 1 = omega arith in e)
+
+length_up : (n x : ℕ) → length (up_from x n) ≡ n
+length_up zero x = refl
+length_up (suc n) x = ap (λ (k : ℕ). suc k) (length_up n (suc x))
+
+row_length : (f y n : ℕ) → length (row_bytes f y n) ≡ n
+unfolding row_bytes
+row_length f y n = length-map (up_from 0 n) (row_byte f y) ∙ length_up n 0
+
+pub none_unlike : (f y : ℕ) → 0 ≡ unlike [] (row_bytes f y 0)
+unfolding row_bytes
+none_unlike f y = refl
+
+-- one byte more was looked at
+pub byte_unlike : (bytes : List ℕ) (f y k count next here : ℕ) → k < length bytes → count ≡ unlike (take k bytes) (row_bytes f y k) → here ≡ row_byte f y k
+    → next ≡ count + cond (get_or bytes k 0 == here) 0 1 → next ≡ unlike (take (k + 1) bytes) (row_bytes f y (k + 1))
+byte_unlike bytes f y k count next here within was is now =
+    let same : length (take k bytes) ≡ length (row_bytes f y k) = (let k_long : length (take k bytes) ≡ k = omega (arith, length-take k bytes, within) in k_long) ∙ sym (row_length f y k) in
+    now ∙ ap₂ (λ (n b : ℕ). n + cond (get_or bytes k 0 == b) 0 1) was is
+    ∙ sym (one_differs (take k bytes) (row_bytes f y k) (get_or bytes k 0) (row_byte f y k) same)
+    ∙ ap₂ unlike (sym (take_more bytes k 0 within)) (sym (byte_more f y k))
+
+-- all were
+pub all_unlike : (bytes : List ℕ) (f y k count : ℕ) → k ≡ length bytes → count ≡ unlike (take k bytes) (row_bytes f y k) → count ≡ unlike bytes (row_bytes f y (length bytes))
+all_unlike bytes f y k count all was = was ∙ ap₂ (λ (xs : List ℕ) (n : ℕ). unlike xs (row_bytes f y n)) (take_all k bytes (omega arith)) all

@@ -1,0 +1,84 @@
+//! Counts what is told of the generator's content.
+ghost use Rattle.std.specs.Prelude.{◌≡◌, ◌+◌, ◌-◌, ◌++◌, [], List};
+ghost use Rattle.period_grammar.specs.Things.{Thing};
+ghost use Rattle.sampling.specs.Counts.{counts_of};
+ghost use Rattle.sampling.specs.Tallies.{Stands};
+
+use crate::Counts;
+use crate::counter::Counter;
+use link_sink::Ear;
+use listing::ContentLister;
+use outside_io::{Failed, SteadySink};
+use period_grammar::Told;
+
+/// Counts what it is told of the generator's content. It takes no memory.
+#[derive(Drop)]
+pub struct Tally<'a> {
+    /// Counts the fault lines. What it writes is not kept.
+    lister: ContentLister<'a, SteadySink>,
+    counter: Counter,
+}
+
+impl<'a> Tally<'a> {
+    /// Nothing was told.
+    pub fn open(sink: &'a mut SteadySink) -> Tally<'a>
+        ensures { Stands result [] }
+    {
+        Tally {
+            lister: ContentLister::open(sink),
+            counter: Counter::new(),
+        }
+    }
+
+    /// The counts, for so many columns.
+    pub fn counts(&self, columns: u32) -> Counts
+        ensures { (told : List Thing) → Stands self.now told → result ≡ counts_of columns told }
+    {
+        let counter = &self.counter;
+        Counts {
+            columns: u64::from(columns),
+            frames: counter.frames,
+            rows: counter.rows,
+            packets: counter.packets,
+            samples: counter.samples,
+            symbols: counter.symbols,
+            mended: counter.mended,
+            code: counter.code,
+            other: self.other(),
+            differ: counter.differ(),
+        }
+    }
+
+    /// The fault lines that have no count of their own.
+    fn other(&self) -> u64
+        ensures { result ≡ self.now.lister.faults - (self.now.counter.symbols + self.now.counter.mended + self.now.counter.code) }
+    {
+        let counter = &self.counter;
+        self.lister
+            .faults()
+            .saturating_sub(counter.symbols)
+            .saturating_sub(counter.mended)
+            .saturating_sub(counter.code)
+    }
+}
+
+impl<'a> Ear for Tally<'a> {
+    ghost use Rattle.sampling.specs.Tallies.{stands_none, stands_both};
+
+    ghost faults = { λ _. 0 };
+
+    // What stood for all that was told before stands for the things told too.
+    ghost took = { λ x y things. (told : List Thing) → Stands x told → Stands y (told ++ things) };
+
+    // A steady sink never fails.
+    ghost broke = { λ x y thing. ⊥ };
+
+    fn hear(&mut self, told: Told<'_>) -> Result<(), Failed> {
+        self.counter.hear(&told);
+        self.lister.hear(told)
+    }
+
+    ghost took_none = { λ x. stands_none x };
+
+    ghost took_both = { λ x y z h k first then. stands_both x y z h k first then };
+}
