@@ -1,5 +1,5 @@
 -- The outcomes that the commands end with.
-use Rattle.std.proofs.Common.{◌≡◌, ◌⊎◌, ℕ, zero, suc, ◌<◌, ◌≤◌, List, [], ◌∷◌, ◌++◌, length, take, map, refl, ap, sym, ◌∙◌, subst, inl, inr, arith, append-nil}
+use Rattle.std.proofs.Common.{◌≡◌, ◌⊎◌, ℕ, zero, suc, ◌<◌, ◌≤◌, List, [], ◌∷◌, ◌++◌, length, take, map, refl, ap, sym, ◌∙◌, subst, inl, inr, arith}
 use Rattle.std.specs.Prelude.{Option, Some, None, Result, Ok, Err, OnOk, IfErr, All}
 use Rattle.outside_io.specs.Causes.{Rose}
 use Rattle.std.specs.Io.KnownBytes.{Appends, Keeps, IsAtEnd}
@@ -36,9 +36,11 @@ use Rattle.command_line.specs.declared.tap.TapWords.{TapWords}
 use Rattle.command_line.specs.Damages.{AreDamages}
 use Rattle.command_line.specs.Commands.{IsCommand as IsLine, IsVersion}
 use Rattle.hdmi_cli.specs.Outcome.{Outcome, MakesLink, MakesStream, MakesRaster, MakesContent, Does}
-use Rattle.hdmi_cli.specs.Endings.{Devices, IsAnswered, Parts, Ends, EndsUnwritten, StreamEnds, IsWhole, IsCut, damage_ending, raster_ending}
+use Rattle.sampling.specs.Counts.{counts_text}
+use Rattle.hdmi_cli.specs.Samples.{IsSampleWhole}
+use Rattle.hdmi_cli.specs.Endings.{Devices, IsAnswered, Answers, Parts, Ends, EndsUnwritten, StreamEnds, IsWhole, IsCut, damage_ending, raster_ending}
 use Rattle.command_line.specs.declared.command.Command.{Command}
-use Rattle.command_line.specs.declared.command.Command.TheVariants.{MakeLink, MakeContent, Damage}
+use Rattle.command_line.specs.declared.command.Command.TheVariants.{MakeLink, MakeContent, Damage, Sample}
 use Rattle.hdmi_cli.specs.declared.ending.Ending.{Ending}
 use Rattle.hdmi_cli.specs.declared.ending.Ending.TheVariants.{Done, Faulty, Usage, Listing, Raster, Capture, Place, ReadFailed, WriteFailed, NoMemory, Unaligned}
 
@@ -291,3 +293,17 @@ version_of_line words tap named = version_asked named.means.2.version_text tap.v
 
 pub version_of_content : (words : List (List ℕ)) (tap : TapWords) → IsLine words (MakeContent tap) → (tap.version ≡ 1) ⊎ (tap.version ≡ 2)
 version_of_content words tap named = version_asked named.means.2.version_text tap.version named.means.2.version
+
+-- `sample`
+
+pub sample_answers : (frames : ℕ) (before after : Devices) → IsSampleWhole frames before.held after.held → Answers (Sample frames) Done before after
+sample_answers frames before after is text told = record {
+  outcome = record { status = 0; output = counts_text is.counts; note = [] };
+  does = (is.counts, is.sampled, refl);
+  status = refl;
+  note = refl;
+  written = is.written;
+}
+
+pub frames_of_line : (words : List (List ℕ)) (frames : ℕ) → IsLine words (Sample frames) → frames ≤ 20
+frames_of_line words frames named = named.means.1.2.few

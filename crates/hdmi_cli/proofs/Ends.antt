@@ -5,16 +5,17 @@ use Rattle.std.specs.List.{list_all}
 use Rattle.std.specs.Io.KnownBytes.{Appends, IsAtEnd, Keeps}
 use Rattle.outside_io.specs.Causes.{Rose}
 use Rattle.outside_io.specs.declared.NoMemory.{NoMemory as NoMemoryAnswer}
-use Rattle.hdmi_cli.specs.Commands.{IsCarriedOut, IsCommand}
-use Rattle.command_line.specs.Commands.{IsCommand as IsLine}
+use Rattle.command_line.specs.Commands.{IsCommand}
 use Rattle.command_line.proofs.Laws.{command_once}
 use Rattle.hdmi_cli.specs.Notes.{usage_note, memory_note}
 use Rattle.hdmi_cli.specs.Outcome.{Outcome, IsOutcome, NamesNone}
-use Rattle.hdmi_cli.specs.Endings.{Devices, Answers, Ends, ReadsCapture, RunEnds, RunUnread, RunUnwritten, status_of, note_of}
+use Rattle.hdmi_cli.specs.Endings.{Devices, Answers, Ends, ReadsCapture, ReadsInput, RunEnds, RunUnread, RunUnwritten, status_of, note_of}
 use Rattle.hdmi_cli.specs.Runs.{IsNoteOf}
+use Rattle.hdmi_cli.specs.Samples.{SampleEnds, IsSampleWritten}
+use Rattle.hdmi_cli.proofs.Answered.{sample_answers}
 use Rattle.command_line.specs.declared.command.Command.{Command}
 use Rattle.command_line.specs.declared.tap.TapWords.{TapWords}
-use Rattle.command_line.specs.declared.command.Command.TheVariants.{MakeLink, MakeContent}
+use Rattle.command_line.specs.declared.command.Command.TheVariants.{MakeLink, MakeContent, Sample}
 use Rattle.hdmi_cli.specs.declared.ending.Ending.{Ending}
 use Rattle.hdmi_cli.specs.declared.ending.Ending.TheVariants.{Done, Faulty, Usage, Listing, Raster, Capture, Place, ReadFailed, WriteFailed, NoMemory, Unaligned}
 
@@ -32,12 +33,13 @@ pub record Says (words : List (List ℕ)) (before after : Devices) (status : ℕ
       → (o : Outcome) × IsOutcome words text o × (o.status ≡ status) × Appends before.held after.held o.output
   pub read_failed : status ≡ 4 → Rose before.input_faults after.input_faults
   pub write_failed : status ≡ 5 → Rose before.output_faults after.output_faults
-  pub ended : Contains (0 ∷ 1 ∷ 7 ∷ []) status → IsAtEnd after.left
+  pub ended : ((n : ℕ) → IsCommand words (Sample n) → ⊥) → Contains (0 ∷ 1 ∷ 7 ∷ []) status → IsAtEnd after.left
   pub unread : status ≡ 2 → Keeps before.left after.left
   pub unwritten : Contains (2 ∷ 6 ∷ 7 ∷ []) status → Keeps before.held after.held
   pub refused : status ≡ 3 → (tap : TapWords) → IsCommand words (MakeLink tap) ⊎ IsCommand words (MakeContent tap) → Keeps before.held after.held
   pub cut_short : status ≡ 4 → RunUnread words before after
   pub part : status ≡ 5 → RunUnwritten words before after
+  pub sampled : (n : ℕ) → IsCommand words (Sample n) → Keeps before.left after.left × IsSampleWritten n status before.held after.held
   pub noted : IsNoteOf words before.left status note
 
 clash : (b c : Bool) → (not b && c) ≡ true → b ≡ true → ⊥
@@ -107,12 +109,23 @@ no_done n a b (inr is) = unlike n 1 b is
 
 -- a command that reads a capture makes none
 no_make : (words : List (List ℕ)) (command : Command) (tap : TapWords) → IsCommand words command → ReadsCapture command → IsCommand words (MakeLink tap) ⊎ IsCommand words (MakeContent tap) → ⊥
-no_make words command tap named reads (inl other) = subst ReadsCapture (command_once words command (MakeLink tap) named.0 other.0) reads
-no_make words command tap named reads (inr other) = subst ReadsCapture (command_once words command (MakeContent tap) named.0 other.0) reads
+no_make words command tap named reads (inl other) = subst ReadsCapture (command_once words command (MakeLink tap) named other) reads
+no_make words command tap named reads (inr other) = subst ReadsCapture (command_once words command (MakeContent tap) named other) reads
+
+-- a command that reads the input is no `sample`
+no_sample : (words : List (List ℕ)) (command : Command) (n : ℕ) → IsCommand words command → ReadsInput command → IsCommand words (Sample n) → ⊥
+no_sample words command n named reads other = subst ReadsInput (command_once words command (Sample n) named other) reads
+
+same_frames : (m n : ℕ) → Sample m ≡ Sample n → m ≡ n
+same_frames m n e = cc
+
+-- the number of frames is told by the words
+frames_are : (words : List (List ℕ)) (m n : ℕ) → IsCommand words (Sample m) → IsCommand words (Sample n) → m ≡ n
+frames_are words m n one other = same_frames m n (command_once words (Sample m) (Sample n) one other)
 
 -- what a command's ending says
-command_says : (words : List (List ℕ)) (command : Command) (e : Ending) (before after : Devices) → IsCommand words command → Ends command e before after → Says words before after (status_of e) (note_of e)
-command_says words command Done before after named ends = record {
+command_says : (words : List (List ℕ)) (command : Command) (e : Ending) (before after : Devices) → IsCommand words command → ReadsInput command → Ends command e before after → Says words before after (status_of e) (note_of e)
+command_says words command Done before after named reads ends = record {
   known = (0, omega arith, refl);
   outcome = known_at words command Done before after named ends.1;
   usage = λ h. absurd (omega arith);
@@ -120,15 +133,16 @@ command_says words command Done before after named ends = record {
   done = λ h. written_at words command Done before after named ends.1;
   read_failed = λ h. absurd (omega arith);
   write_failed = λ h. absurd (omega arith);
-  ended = λ h. ends.0;
+  ended = λ other h. ends.0;
   unread = λ h. absurd (omega arith);
   unwritten = λ h. absurd (none_of (2 ∷ 6 ∷ 7 ∷ []) 0 refl h);
   refused = λ h. absurd (omega arith);
   cut_short = λ h. absurd (omega arith);
   part = λ h. absurd (omega arith);
+  sampled = λ n other. absurd (no_sample words command n named reads other);
   noted = record { done = λ h. refl; usage = λ h. absurd (omega arith); refused = λ h. absurd (omega arith); read_failed = λ h. absurd (omega arith); write_failed = λ h. absurd (omega arith); no_memory = λ h. absurd (omega arith); unaligned = λ h. absurd (omega arith) };
 }
-command_says words command Faulty before after named ends = record {
+command_says words command Faulty before after named reads ends = record {
   known = (1, omega arith, refl);
   outcome = known_at words command Faulty before after named ends.1;
   usage = λ h. absurd (omega arith);
@@ -136,15 +150,16 @@ command_says words command Faulty before after named ends = record {
   done = λ h. written_at words command Faulty before after named ends.1;
   read_failed = λ h. absurd (omega arith);
   write_failed = λ h. absurd (omega arith);
-  ended = λ h. ends.0;
+  ended = λ other h. ends.0;
   unread = λ h. absurd (omega arith);
   unwritten = λ h. absurd (none_of (2 ∷ 6 ∷ 7 ∷ []) 1 refl h);
   refused = λ h. absurd (omega arith);
   cut_short = λ h. absurd (omega arith);
   part = λ h. absurd (omega arith);
+  sampled = λ n other. absurd (no_sample words command n named reads other);
   noted = record { done = λ h. refl; usage = λ h. absurd (omega arith); refused = λ h. absurd (omega arith); read_failed = λ h. absurd (omega arith); write_failed = λ h. absurd (omega arith); no_memory = λ h. absurd (omega arith); unaligned = λ h. absurd (omega arith) };
 }
-command_says words command (Listing fault) before after named ends = record {
+command_says words command (Listing fault) before after named reads ends = record {
   known = (3, omega arith, refl);
   outcome = known_at words command (Listing fault) before after named ends.1;
   usage = λ h. absurd (omega arith);
@@ -152,15 +167,16 @@ command_says words command (Listing fault) before after named ends = record {
   done = λ h. written_at words command (Listing fault) before after named ends.1;
   read_failed = λ h. absurd (omega arith);
   write_failed = λ h. absurd (omega arith);
-  ended = λ h. absurd (none_of (0 ∷ 1 ∷ 7 ∷ []) 3 refl h);
+  ended = λ other h. absurd (none_of (0 ∷ 1 ∷ 7 ∷ []) 3 refl h);
   unread = λ h. absurd (omega arith);
   unwritten = λ h. absurd (none_of (2 ∷ 6 ∷ 7 ∷ []) 3 refl h);
   refused = λ h tap other. ends.0;
   cut_short = λ h. absurd (omega arith);
   part = λ h. absurd (omega arith);
+  sampled = λ n other. absurd (no_sample words command n named reads other);
   noted = record { done = λ h. absurd (no_done 3 refl refl h); usage = λ h. absurd (omega arith); refused = λ h. noted_at words command (Listing fault) before after named ends.1 refl; read_failed = λ h. absurd (omega arith); write_failed = λ h. absurd (omega arith); no_memory = λ h. absurd (omega arith); unaligned = λ h. absurd (omega arith) };
 }
-command_says words command (Raster fault) before after named ends = record {
+command_says words command (Raster fault) before after named reads ends = record {
   known = (3, omega arith, refl);
   outcome = known_at words command (Raster fault) before after named ends.1;
   usage = λ h. absurd (omega arith);
@@ -168,15 +184,16 @@ command_says words command (Raster fault) before after named ends = record {
   done = λ h. written_at words command (Raster fault) before after named ends.1;
   read_failed = λ h. absurd (omega arith);
   write_failed = λ h. absurd (omega arith);
-  ended = λ h. absurd (none_of (0 ∷ 1 ∷ 7 ∷ []) 3 refl h);
+  ended = λ other h. absurd (none_of (0 ∷ 1 ∷ 7 ∷ []) 3 refl h);
   unread = λ h. absurd (omega arith);
   unwritten = λ h. absurd (none_of (2 ∷ 6 ∷ 7 ∷ []) 3 refl h);
   refused = λ h tap other. ends.0;
   cut_short = λ h. absurd (omega arith);
   part = λ h. absurd (omega arith);
+  sampled = λ n other. absurd (no_sample words command n named reads other);
   noted = record { done = λ h. absurd (no_done 3 refl refl h); usage = λ h. absurd (omega arith); refused = λ h. noted_at words command (Raster fault) before after named ends.1 refl; read_failed = λ h. absurd (omega arith); write_failed = λ h. absurd (omega arith); no_memory = λ h. absurd (omega arith); unaligned = λ h. absurd (omega arith) };
 }
-command_says words command (Capture fault) before after named ends = record {
+command_says words command (Capture fault) before after named reads ends = record {
   known = (3, omega arith, refl);
   outcome = known_at words command (Capture fault) before after named ends.1;
   usage = λ h. absurd (omega arith);
@@ -184,15 +201,16 @@ command_says words command (Capture fault) before after named ends = record {
   done = λ h. written_at words command (Capture fault) before after named ends.1;
   read_failed = λ h. absurd (omega arith);
   write_failed = λ h. absurd (omega arith);
-  ended = λ h. absurd (none_of (0 ∷ 1 ∷ 7 ∷ []) 3 refl h);
+  ended = λ other h. absurd (none_of (0 ∷ 1 ∷ 7 ∷ []) 3 refl h);
   unread = λ h. absurd (omega arith);
   unwritten = λ h. absurd (none_of (2 ∷ 6 ∷ 7 ∷ []) 3 refl h);
   refused = λ h tap other. absurd (no_make words command tap named ends.0 other);
   cut_short = λ h. absurd (omega arith);
   part = λ h. absurd (omega arith);
+  sampled = λ n other. absurd (no_sample words command n named reads other);
   noted = record { done = λ h. absurd (no_done 3 refl refl h); usage = λ h. absurd (omega arith); refused = λ h. noted_at words command (Capture fault) before after named ends.1 refl; read_failed = λ h. absurd (omega arith); write_failed = λ h. absurd (omega arith); no_memory = λ h. absurd (omega arith); unaligned = λ h. absurd (omega arith) };
 }
-command_says words command (Place i) before after named ends = record {
+command_says words command (Place i) before after named reads ends = record {
   known = (3, omega arith, refl);
   outcome = known_at words command (Place i) before after named ends.1;
   usage = λ h. absurd (omega arith);
@@ -200,15 +218,16 @@ command_says words command (Place i) before after named ends = record {
   done = λ h. written_at words command (Place i) before after named ends.1;
   read_failed = λ h. absurd (omega arith);
   write_failed = λ h. absurd (omega arith);
-  ended = λ h. absurd (none_of (0 ∷ 1 ∷ 7 ∷ []) 3 refl h);
+  ended = λ other h. absurd (none_of (0 ∷ 1 ∷ 7 ∷ []) 3 refl h);
   unread = λ h. absurd (omega arith);
   unwritten = λ h. absurd (none_of (2 ∷ 6 ∷ 7 ∷ []) 3 refl h);
   refused = λ h tap other. ends.0;
   cut_short = λ h. absurd (omega arith);
   part = λ h. absurd (omega arith);
+  sampled = λ n other. absurd (no_sample words command n named reads other);
   noted = record { done = λ h. absurd (no_done 3 refl refl h); usage = λ h. absurd (omega arith); refused = λ h. noted_at words command (Place i) before after named ends.1 refl; read_failed = λ h. absurd (omega arith); write_failed = λ h. absurd (omega arith); no_memory = λ h. absurd (omega arith); unaligned = λ h. absurd (omega arith) };
 }
-command_says words command Unaligned before after named ends = record {
+command_says words command Unaligned before after named reads ends = record {
   known = (7, omega arith, refl);
   outcome = known_at words command Unaligned before after named ends.2;
   usage = λ h. absurd (omega arith);
@@ -216,15 +235,16 @@ command_says words command Unaligned before after named ends = record {
   done = λ h. written_at words command Unaligned before after named ends.2;
   read_failed = λ h. absurd (omega arith);
   write_failed = λ h. absurd (omega arith);
-  ended = λ h. ends.0;
+  ended = λ other h. ends.0;
   unread = λ h. absurd (omega arith);
   unwritten = λ h. ends.1;
   refused = λ h. absurd (omega arith);
   cut_short = λ h. absurd (omega arith);
   part = λ h. absurd (omega arith);
+  sampled = λ n other. absurd (no_sample words command n named reads other);
   noted = record { done = λ h. absurd (no_done 7 refl refl h); usage = λ h. absurd (omega arith); refused = λ h. absurd (omega arith); read_failed = λ h. absurd (omega arith); write_failed = λ h. absurd (omega arith); no_memory = λ h. absurd (omega arith); unaligned = λ h. refl };
 }
-command_says words command ReadFailed before after named ends = record {
+command_says words command ReadFailed before after named reads ends = record {
   known = (4, omega arith, refl);
   outcome = λ text told. inl ends.0;
   usage = λ h. absurd (omega arith);
@@ -232,15 +252,16 @@ command_says words command ReadFailed before after named ends = record {
   done = λ h. absurd (none_of (0 ∷ 1 ∷ 3 ∷ 7 ∷ []) 4 refl h);
   read_failed = λ h. ends.0;
   write_failed = λ h. absurd (omega arith);
-  ended = λ h. absurd (none_of (0 ∷ 1 ∷ 7 ∷ []) 4 refl h);
+  ended = λ other h. absurd (none_of (0 ∷ 1 ∷ 7 ∷ []) 4 refl h);
   unread = λ h. absurd (omega arith);
   unwritten = λ h. absurd (none_of (2 ∷ 6 ∷ 7 ∷ []) 4 refl h);
   refused = λ h. absurd (omega arith);
   cut_short = λ h. (command, named, ends.1);
   part = λ h. absurd (omega arith);
+  sampled = λ n other. absurd (no_sample words command n named reads other);
   noted = record { done = λ h. absurd (no_done 4 refl refl h); usage = λ h. absurd (omega arith); refused = λ h. absurd (omega arith); read_failed = λ h. refl; write_failed = λ h. absurd (omega arith); no_memory = λ h. absurd (omega arith); unaligned = λ h. absurd (omega arith) };
 }
-command_says words command WriteFailed before after named ends = record {
+command_says words command WriteFailed before after named reads ends = record {
   known = (5, omega arith, refl);
   outcome = λ text told. inr (inl ends.0);
   usage = λ h. absurd (omega arith);
@@ -248,15 +269,16 @@ command_says words command WriteFailed before after named ends = record {
   done = λ h. absurd (none_of (0 ∷ 1 ∷ 3 ∷ 7 ∷ []) 5 refl h);
   read_failed = λ h. absurd (omega arith);
   write_failed = λ h. ends.0;
-  ended = λ h. absurd (none_of (0 ∷ 1 ∷ 7 ∷ []) 5 refl h);
+  ended = λ other h. absurd (none_of (0 ∷ 1 ∷ 7 ∷ []) 5 refl h);
   unread = λ h. absurd (omega arith);
   unwritten = λ h. absurd (none_of (2 ∷ 6 ∷ 7 ∷ []) 5 refl h);
   refused = λ h. absurd (omega arith);
   cut_short = λ h. absurd (omega arith);
   part = λ h. (command, named, ends.1);
+  sampled = λ n other. absurd (no_sample words command n named reads other);
   noted = record { done = λ h. absurd (no_done 5 refl refl h); usage = λ h. absurd (omega arith); refused = λ h. absurd (omega arith); read_failed = λ h. absurd (omega arith); write_failed = λ h. refl; no_memory = λ h. absurd (omega arith); unaligned = λ h. absurd (omega arith) };
 }
-command_says words command NoMemory before after named ends = record {
+command_says words command NoMemory before after named reads ends = record {
   known = (6, omega arith, refl);
   outcome = λ text told. inr (inr (inl refl));
   usage = λ h. absurd (omega arith);
@@ -264,15 +286,16 @@ command_says words command NoMemory before after named ends = record {
   done = λ h. absurd (none_of (0 ∷ 1 ∷ 3 ∷ 7 ∷ []) 6 refl h);
   read_failed = λ h. absurd (omega arith);
   write_failed = λ h. absurd (omega arith);
-  ended = λ h. absurd (none_of (0 ∷ 1 ∷ 7 ∷ []) 6 refl h);
+  ended = λ other h. absurd (none_of (0 ∷ 1 ∷ 7 ∷ []) 6 refl h);
   unread = λ h. absurd (omega arith);
   unwritten = λ h. ends;
   refused = λ h. absurd (omega arith);
   cut_short = λ h. absurd (omega arith);
   part = λ h. absurd (omega arith);
+  sampled = λ n other. absurd (no_sample words command n named reads other);
   noted = record { done = λ h. absurd (no_done 6 refl refl h); usage = λ h. absurd (omega arith); refused = λ h. absurd (omega arith); read_failed = λ h. absurd (omega arith); write_failed = λ h. absurd (omega arith); no_memory = λ h. refl; unaligned = λ h. absurd (omega arith) };
 }
-command_says words command Usage before after named ends = absurd ends
+command_says words command Usage before after named reads ends = absurd ends
 
 -- what stands where the words name no command
 none_says : (words : List (List ℕ)) (before after : Devices) → NamesNone words → Keeps before.left after.left → Keeps before.held after.held → Says words before after 2 usage_note
@@ -284,18 +307,19 @@ none_says words before after none left held = record {
   done = λ h. absurd (none_of (0 ∷ 1 ∷ 3 ∷ 7 ∷ []) 2 refl h);
   read_failed = λ h. absurd (omega arith);
   write_failed = λ h. absurd (omega arith);
-  ended = λ h. absurd (none_of (0 ∷ 1 ∷ 7 ∷ []) 2 refl h);
+  ended = λ other h. absurd (none_of (0 ∷ 1 ∷ 7 ∷ []) 2 refl h);
   unread = λ h. left;
   unwritten = λ h. held;
   refused = λ h. absurd (omega arith);
   cut_short = λ h. absurd (omega arith);
   part = λ h. absurd (omega arith);
+  sampled = λ n named. absurd (none (Sample n) named);
   noted = record { done = λ h. absurd (no_done 2 refl refl h); usage = λ h. refl; refused = λ h. absurd (omega arith); read_failed = λ h. absurd (omega arith); write_failed = λ h. absurd (omega arith); no_memory = λ h. absurd (omega arith); unaligned = λ h. absurd (omega arith) };
 }
 
 -- what stands where there was no memory to read the words
-unread_says : (words : List (List ℕ)) (before after : Devices) → Keeps before.held after.held → Says words before after 6 memory_note
-unread_says words before after held = record {
+unread_says : (words : List (List ℕ)) (before after : Devices) → Keeps before.left after.left → Keeps before.held after.held → Says words before after 6 memory_note
+unread_says words before after left held = record {
   known = (6, omega arith, refl);
   outcome = λ text told. inr (inr (inl refl));
   usage = λ h. absurd (omega arith);
@@ -303,56 +327,98 @@ unread_says words before after held = record {
   done = λ h. absurd (none_of (0 ∷ 1 ∷ 3 ∷ 7 ∷ []) 6 refl h);
   read_failed = λ h. absurd (omega arith);
   write_failed = λ h. absurd (omega arith);
-  ended = λ h. absurd (none_of (0 ∷ 1 ∷ 7 ∷ []) 6 refl h);
+  ended = λ other h. absurd (none_of (0 ∷ 1 ∷ 7 ∷ []) 6 refl h);
   unread = λ h. absurd (omega arith);
   unwritten = λ h. held;
   refused = λ h. absurd (omega arith);
   cut_short = λ h. absurd (omega arith);
   part = λ h. absurd (omega arith);
+  sampled = λ n named. (left, inr (inr (refl, held)));
   noted = record { done = λ h. absurd (no_done 6 refl refl h); usage = λ h. absurd (omega arith); refused = λ h. absurd (omega arith); read_failed = λ h. absurd (omega arith); write_failed = λ h. absurd (omega arith); no_memory = λ h. refl; unaligned = λ h. absurd (omega arith) };
 }
 
+-- what a sample's ending says
+sample_says : (words : List (List ℕ)) (frames : ℕ) (e : Ending) (before after : Devices) → IsCommand words (Sample frames) → Keeps before.left after.left
+    → SampleEnds frames e before.held after.held before.output_faults after.output_faults → Says words before after (status_of e) (note_of e)
+sample_says words frames Done before after named left ends = record {
+  known = (0, omega arith, refl);
+  outcome = known_at words (Sample frames) Done before after named (sample_answers frames before after ends);
+  usage = λ h. absurd (omega arith);
+  unnamed = λ none. absurd (none (Sample frames) named);
+  done = λ h. written_at words (Sample frames) Done before after named (sample_answers frames before after ends);
+  read_failed = λ h. absurd (omega arith);
+  write_failed = λ h. absurd (omega arith);
+  ended = λ other h. absurd (other frames named);
+  unread = λ h. absurd (omega arith);
+  unwritten = λ h. absurd (none_of (2 ∷ 6 ∷ 7 ∷ []) 0 refl h);
+  refused = λ h. absurd (omega arith);
+  cut_short = λ h. absurd (omega arith);
+  part = λ h. absurd (omega arith);
+  sampled = λ n other. (left, subst (λ (m : ℕ). IsSampleWritten m 0 before.held after.held) (frames_are words frames n named other) (inl (refl, ends)));
+  noted = record { done = λ h. refl; usage = λ h. absurd (omega arith); refused = λ h. absurd (omega arith); read_failed = λ h. absurd (omega arith); write_failed = λ h. absurd (omega arith); no_memory = λ h. absurd (omega arith); unaligned = λ h. absurd (omega arith) };
+}
+sample_says words frames WriteFailed before after named left ends = record {
+  known = (5, omega arith, refl);
+  outcome = λ text told. inr (inl ends.0);
+  usage = λ h. absurd (omega arith);
+  unnamed = λ none. absurd (none (Sample frames) named);
+  done = λ h. absurd (none_of (0 ∷ 1 ∷ 3 ∷ 7 ∷ []) 5 refl h);
+  read_failed = λ h. absurd (omega arith);
+  write_failed = λ h. ends.0;
+  ended = λ other h. absurd (other frames named);
+  unread = λ h. absurd (omega arith);
+  unwritten = λ h. absurd (none_of (2 ∷ 6 ∷ 7 ∷ []) 5 refl h);
+  refused = λ h. absurd (omega arith);
+  cut_short = λ h. absurd (omega arith);
+  part = λ h. (Sample frames, named, ends.1);
+  sampled = λ n other. (left, subst (λ (m : ℕ). IsSampleWritten m 5 before.held after.held) (frames_are words frames n named other) (inr (inl (refl, ends.1))));
+  noted = record { done = λ h. absurd (no_done 5 refl refl h); usage = λ h. absurd (omega arith); refused = λ h. absurd (omega arith); read_failed = λ h. absurd (omega arith); write_failed = λ h. refl; no_memory = λ h. absurd (omega arith); unaligned = λ h. absurd (omega arith) };
+}
+sample_says words frames NoMemory before after named left ends = unread_says words before after left ends
+sample_says words frames Faulty before after named left ends = absurd ends
+sample_says words frames Usage before after named left ends = absurd ends
+sample_says words frames (Listing fault) before after named left ends = absurd ends
+sample_says words frames (Raster fault) before after named left ends = absurd ends
+sample_says words frames (Capture fault) before after named left ends = absurd ends
+sample_says words frames (Place i) before after named left ends = absurd ends
+sample_says words frames ReadFailed before after named left ends = absurd ends
+sample_says words frames Unaligned before after named left ends = absurd ends
+
 -- what a run says
 pub says : (words : List (List ℕ)) (e : Ending) (before after : Devices) (r : ℕ) → RunEnds words e before after → r ≡ status_of e → Says words before after r (note_of e)
-says words e before after r (inl (command, named, ends)) is = subst (λ s. Says words before after s (note_of e)) (sym is) (command_says words command e before after named ends)
-says words e before after r (inr (inl (none, usage, left, held))) is =
+says words e before after r (inl (command, named, reads, ends)) is = subst (λ s. Says words before after s (note_of e)) (sym is) (command_says words command e before after named reads ends)
+says words e before after r (inr (inl (frames, named, left, ends))) is = subst (λ s. Says words before after s (note_of e)) (sym is) (sample_says words frames e before after named left ends)
+says words e before after r (inr (inr (inl (none, usage, left, held)))) is =
     subst (λ s. Says words before after s (note_of e)) (sym (is ∙ ap status_of usage))
     (subst (λ n. Says words before after 2 n) (sym (ap note_of usage)) (none_says words before after none left held))
-says words e before after r (inr (inr (unheld, held))) is =
+says words e before after r (inr (inr (inr (unheld, left, held)))) is =
     subst (λ s. Says words before after s (note_of e)) (sym (is ∙ ap status_of unheld))
-    (subst (λ n. Says words before after 6 n) (sym (ap note_of unheld)) (unread_says words before after held))
+    (subst (λ n. Says words before after 6 n) (sym (ap note_of unheld)) (unread_says words before after left held))
 
--- ---- which words name a command that is carried out
+-- ---- which words name a command
 
 -- what the reader of words answered, as words name it
 pub line_of : (words : List (List ℕ)) (r : Result (Option Command) NoMemoryAnswer) (o : Option Command) (command : Command)
-    → IfOk r (λ answer. MatchOption answer ((c : Command) → IsLine words c → ⊥) (λ c. IsLine words c)) → r ≡ Ok o → o ≡ Some command → IsLine words command
+    → IfOk r (λ answer. MatchOption answer ((c : Command) → IsCommand words c → ⊥) (λ c. IsCommand words c)) → r ≡ Ok o → o ≡ Some command → IsCommand words command
 line_of words r o command answer ok some =
-    subst (λ (x : Option Command). MatchOption x ((c : Command) → IsLine words c → ⊥) (λ c. IsLine words c)) some
-    (subst (λ (x : Result (Option Command) NoMemoryAnswer). IfOk x (λ answer. MatchOption answer ((c : Command) → IsLine words c → ⊥) (λ c. IsLine words c))) ok answer)
+    subst (λ (x : Option Command). MatchOption x ((c : Command) → IsCommand words c → ⊥) (λ c. IsCommand words c)) some
+    (subst (λ (x : Result (Option Command) NoMemoryAnswer). IfOk x (λ answer. MatchOption answer ((c : Command) → IsCommand words c → ⊥) (λ c. IsCommand words c))) ok answer)
 
 no_line_of : (words : List (List ℕ)) (r : Result (Option Command) NoMemoryAnswer) (o : Option Command)
-    → IfOk r (λ answer. MatchOption answer ((c : Command) → IsLine words c → ⊥) (λ c. IsLine words c)) → r ≡ Ok o → o ≡ None → NamesNone words
+    → IfOk r (λ answer. MatchOption answer ((c : Command) → IsCommand words c → ⊥) (λ c. IsCommand words c)) → r ≡ Ok o → o ≡ None → NamesNone words
 no_line_of words r o answer ok none command named =
-    subst (λ (x : Option Command). MatchOption x ((c : Command) → IsLine words c → ⊥) (λ c. IsLine words c)) none
-    (subst (λ (x : Result (Option Command) NoMemoryAnswer). IfOk x (λ answer. MatchOption answer ((c : Command) → IsLine words c → ⊥) (λ c. IsLine words c))) ok answer)
-    command named.0
+    subst (λ (x : Option Command). MatchOption x ((c : Command) → IsCommand words c → ⊥) (λ c. IsCommand words c)) none
+    (subst (λ (x : Result (Option Command) NoMemoryAnswer). IfOk x (λ answer. MatchOption answer ((c : Command) → IsCommand words c → ⊥) (λ c. IsCommand words c))) ok answer)
+    command named
 
--- words that name a command that is not carried out name none that is
-not_carried : (words : List (List ℕ)) (command : Command) → IsLine words command → (IsCarriedOut command → ⊥) → NamesNone words
-not_carried words command line not d named = not (subst IsCarriedOut (command_once words d command named.0 line) named.1)
-
-keeps_itself : (held : Option (List ℕ)) → Keeps held held
+pub keeps_itself : (held : Option (List ℕ)) → Keeps held held
 keeps_itself None = tt
 keeps_itself (Some xs) = refl
 
 -- a run whose words name none does nothing
 usage_ends : (words : List (List ℕ)) (devices : Devices) → NamesNone words → RunEnds words Usage devices devices
-usage_ends words devices none = inr (inl (none, refl, keeps_itself devices.left, keeps_itself devices.held))
+usage_ends words devices none = inr (inr (inl (none, refl, keeps_itself devices.left, keeps_itself devices.held)))
 
 pub unread_ends : (words : List (List ℕ)) (devices : Devices) (r : Result (Option Command) NoMemoryAnswer) (o : Option Command)
-    → IfOk r (λ answer. MatchOption answer ((c : Command) → IsLine words c → ⊥) (λ c. IsLine words c)) → r ≡ Ok o → o ≡ None → RunEnds words Usage devices devices
+    → IfOk r (λ answer. MatchOption answer ((c : Command) → IsCommand words c → ⊥) (λ c. IsCommand words c)) → r ≡ Ok o → o ≡ None → RunEnds words Usage devices devices
 unread_ends words devices r o answer ok none = usage_ends words devices (no_line_of words r o answer ok none)
-
-pub uncarried_ends : (words : List (List ℕ)) (devices : Devices) (command : Command) → IsLine words command → (IsCarriedOut command → ⊥) → RunEnds words Usage devices devices
-uncarried_ends words devices command line not = usage_ends words devices (not_carried words command line not)

@@ -14,7 +14,7 @@ use Rattle.link_sink.specs.Alignment.{IsAlignedTold}
 use Rattle.listing.specs.Texts.{fault_lines}
 use Rattle.listing.specs.Checks.{check_text}
 use Rattle.listing.proofs.Exact.{count_is_exact, verdict_is_exact}
-use Rattle.hdmi_cli.specs.Commands.{IsCommand}
+use Rattle.command_line.specs.Commands.{IsCommand}
 use Rattle.hdmi_cli.specs.Outcome.{Outcome, ListsLanes, ListsCapture, Does, IsOutcome, status_with}
 use Rattle.hdmi_cli.specs.Endings.{Devices}
 use Rattle.hdmi_cli.specs.Listings.{check_listing}
@@ -27,7 +27,7 @@ use Rattle.capture_file.specs.Laws.{AreSame}
 use Rattle.capture_file.proofs.OneCapture.{one_capture, no_fault}
 
 check_does : (words : List (List ℕ)) (bytes : List ℕ) (o : Outcome) → IsCommand words Check → IsOutcome words bytes o → ListsCapture check_listing bytes o
-check_does words bytes o named (inl (command, other, does)) = subst (λ (c : Command). Does c bytes o) (command_once words command Check other.0 named.0) does
+check_does words bytes o named (inl (command, other, does)) = subst (λ (c : Command). Does c bytes o) (command_once words command Check other named) does
 check_does words bytes o named (inr (none, is)) = absurd (none Check named)
 
 -- The outcome of aligned lanes.

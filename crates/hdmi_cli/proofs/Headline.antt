@@ -17,16 +17,19 @@ use Rattle.link_sink.specs.Alignment.{IsAlignedTold}
 use Rattle.link_sink.specs.Laws.{IsAccounted, AlignsUntil, BeginColumn}
 use Rattle.link_sink.proofs.Tapped.{payload_accounted, tap_accounted}
 use Rattle.hdmi_cli.specs.Listings.{Listing as ListingOf}
-use Rattle.hdmi_cli.specs.Commands.{IsCommand}
+use Rattle.command_line.specs.Commands.{IsCommand}
 use Rattle.hdmi_cli.specs.Outcome.{Outcome, ListsLanes, ListsCapture, Does, status_with}
 use Rattle.hdmi_cli.specs.Headline.{AreTapped, IsRecovered}
 use Rattle.hdmi_cli.specs.Endings.{Devices, Answers, Ends, RunEnds, status_of}
+use Rattle.hdmi_cli.specs.Samples.{SampleEnds}
 use Rattle.command_line.specs.declared.command.Command.{Command}
+use Rattle.command_line.specs.declared.command.Command.TheVariants.{Sample}
 use Rattle.command_line.proofs.Laws.{command_once}
 use Rattle.hdmi_cli.specs.declared.ending.Ending.{Ending}
 use Rattle.hdmi_cli.specs.declared.ending.Ending.TheVariants.{Done, Faulty, Usage, Listing, Raster, Capture, Place, ReadFailed, WriteFailed, NoMemory, Unaligned}
 use Rattle.capture_file.specs.Laws.{AreSame}
 use Rattle.capture_file.proofs.OneCapture.{one_capture, no_fault}
+use Rattle.hdmi_cli.proofs.Answered.{sample_answers}
 
 -- where three lanes are aligned there is one first full alignment
 aligned_same : (x y z : List Bool) (d e f p q r : ℕ) → IsFirst x y z d e f → IsFirst x y z p q r → aligned_columns x y z d e f ≡ aligned_columns x y z p q r
@@ -107,19 +110,37 @@ ended P command WriteFailed before after says ends = inr (inl ends.0)
 ended P command NoMemory before after says ends = inr (inr (inl refl))
 ended P command Usage before after says ends = absurd ends
 
+-- and of a sample
+sample_ended : (P : ℕ → Option (List ℕ) → Option (List ℕ) → Type 0) (frames : ℕ) (ending : Ending) (before after : Devices)
+    → SampleEnds frames ending before.held after.held before.output_faults after.output_faults → (Answers (Sample frames) ending before after → P (status_of ending) before.held after.held) → Unless P (status_of ending) before after
+sample_ended P frames Done before after ends says = inr (inr (inr (says (sample_answers frames before after ends))))
+sample_ended P frames WriteFailed before after ends says = inr (inl ends.0)
+sample_ended P frames NoMemory before after ends says = inr (inr (inl refl))
+sample_ended P frames Faulty before after ends says = absurd ends
+sample_ended P frames Usage before after ends says = absurd ends
+sample_ended P frames (Listing fault) before after ends says = absurd ends
+sample_ended P frames (Raster fault) before after ends says = absurd ends
+sample_ended P frames (Capture fault) before after ends says = absurd ends
+sample_ended P frames (Place i) before after ends says = absurd ends
+sample_ended P frames ReadFailed before after ends says = absurd ends
+sample_ended P frames Unaligned before after ends says = absurd ends
+
 -- a command that words name is the one that they name
 named_ends : (words : List (List ℕ)) (command this : Command) (ending : Ending) (before after : Devices) → IsCommand words command → IsCommand words this
     → Ends command ending before after → Ends this ending before after
 named_ends words command this ending before after named again ends =
-    subst (λ (c : Command). Ends c ending before after) (command_once words command this named.0 again.0) ends
+    subst (λ (c : Command). Ends c ending before after) (command_once words command this named again) ends
 
 -- what a run of a command says, from what each of its ends with an outcome says
 run_ended : (P : ℕ → Option (List ℕ) → Option (List ℕ) → Type 0) (this : Command) (words : List (List ℕ)) (ending : Ending) (before after : Devices) (status : ℕ) → RunEnds words ending before after
     → status ≡ status_of ending → IsCommand words this → (Answers this ending before after → P (status_of ending) before.held after.held) → Unless P status before after
-run_ended P this words ending before after status (inl (command, named, ends)) is again says =
+run_ended P this words ending before after status (inl (command, named, reads, ends)) is again says =
     subst (λ s. Unless P s before after) (sym is) (ended P this ending before after says (named_ends words command this ending before after named again ends))
-run_ended P this words ending before after status (inr (inl (none, usage, kept, held))) is named says = absurd (none this named)
-run_ended P this words ending before after status (inr (inr (unheld, held))) is named says = inr (inr (inl (is ∙ ap status_of unheld)))
+run_ended P this words ending before after status (inr (inl (frames, named, kept, ends))) is again says =
+    subst (λ s. Unless P s before after) (sym is) (sample_ended P frames ending before after ends
+    (λ answers. says (subst (λ (c : Command). Answers c ending before after) (command_once words (Sample frames) this named again) answers)))
+run_ended P this words ending before after status (inr (inr (inl (none, usage, kept, held)))) is named says = absurd (none this named)
+run_ended P this words ending before after status (inr (inr (inr (unheld, kept, held)))) is named says = inr (inr (inl (is ∙ ap status_of unheld)))
 
 -- sparse damage of payload alone
 pub headlined : (listing : ListingOf) (this : Command) → ((bytes : List ℕ) (o : Outcome) → Does this bytes o → ListsCapture listing bytes o) → (words : List (List ℕ)) (ending : Ending) (before after : Devices) (status : ℕ) → RunEnds words ending before after → status ≡ status_of ending → IsCommand words this

@@ -6,3 +6,4 @@ pub mod Headline
 pub mod Pictures
 pub mod Exact
 pub mod Hearings
+pub mod Samples

@@ -25,7 +25,7 @@ use Rattle.listing_laws.specs.ListingLaws.{tells_picture}
 use Rattle.listing_laws.proofs.PictureLines.{frame_lines_come_back}
 use Rattle.command_line.specs.declared.command.Command.TheVariants.{RecoverContent}
 use Rattle.hdmi_cli.specs.Listings.{content_listing}
-use Rattle.hdmi_cli.specs.Commands.{IsCommand}
+use Rattle.command_line.specs.Commands.{IsCommand}
 use Rattle.hdmi_cli.specs.Headline.{AreTapped, IsRecovered}
 use Rattle.hdmi_cli.specs.Pictures.{ArePictures}
 use Rattle.hdmi_cli.specs.Endings.{Devices, RunEnds, status_of}

@@ -17,10 +17,12 @@ use Rattle.period_grammar.specs.Things.{Thing}
 use Rattle.link_sink.specs.Alignment.{IsAlignedTold}
 use Rattle.link_sink.specs.Sinks.{Fed, IsToldSoFar}
 use Rattle.hdmi_cli.specs.Blocks.{AreNext, AreRead}
-use Rattle.hdmi_cli.specs.Commands.{IsCommand, hit_asked}
+use Rattle.hdmi_cli.specs.Commands.{hit_asked}
 use Rattle.hdmi_cli.specs.Listings.{Listing as ListingOf, link_listing, check_listing, content_listing}
 use Rattle.hdmi_cli.specs.Notes.{listing_note, raster_note, capture_note, place_note, usage_note, read_note, write_note, memory_note, alignment_note}
 use Rattle.hdmi_cli.specs.Outcome.{Outcome, Does, NamesNone}
+use Rattle.hdmi_cli.specs.Samples.{IsSampleCut, SampleEnds}
+use Rattle.command_line.specs.Commands.{IsCommand}
 use Rattle.command_line.specs.declared.command.Command.{Command}
 use Rattle.command_line.specs.declared.command.Command.TheVariants.{MakeLink, MakeContent, RecoverLink, RecoverContent, Check, Damage, Sample}
 use Rattle.hdmi_cli.specs.declared.hearing.HearError.{HearError}
@@ -176,7 +178,17 @@ EndsUnwritten RecoverLink before after = ListsPart link_listing before after
 EndsUnwritten RecoverContent before after = ListsPart content_listing before after
 EndsUnwritten Check before after = ListsPart check_listing before after
 EndsUnwritten (Damage damages) before after = DamageUnwritten before.left after.left (map hit_asked damages) before.held after.held
-EndsUnwritten (Sample frames) before after = ⊥
+EndsUnwritten (Sample frames) before after = IsSampleCut frames before.held after.held
+
+-- the commands that read the input: all but `sample`
+abbrev pub ReadsInput : Command → Type 0
+ReadsInput (MakeLink tap) = Unit {0}
+ReadsInput (MakeContent tap) = Unit {0}
+ReadsInput RecoverLink = Unit {0}
+ReadsInput RecoverContent = Unit {0}
+ReadsInput Check = Unit {0}
+ReadsInput (Damage damages) = Unit {0}
+ReadsInput (Sample frames) = ⊥
 
 -- the commands that read a capture
 abbrev pub ReadsCapture : Command → Type 0
@@ -188,7 +200,7 @@ ReadsCapture (MakeLink tap) = ⊥
 ReadsCapture (MakeContent tap) = ⊥
 ReadsCapture (Sample frames) = ⊥
 
--- what stands where a command ends so
+-- what stands where a command that reads the input ends so
 abbrev pub Ends : Command → Ending → Devices → Devices → Type 0
 Ends command Done before after = IsAtEnd after.left × Answers command Done before after
 Ends command Faulty before after = IsAtEnd after.left × Answers command Faulty before after
@@ -203,12 +215,13 @@ Ends command NoMemory before after = Keeps before.held after.held
 Ends command Usage before after = ⊥
 
 -- what stands where a run with these words ends so: a command ended, or nothing was begun, as the words name none or
--- as there was no memory to read them
+-- as there was no memory to read them. `sample` reads nothing
 abbrev pub RunEnds : List (List ℕ) → Ending → Devices → Devices → Type 0
 RunEnds words ending before after =
-    ((command : Command) × IsCommand words command × Ends command ending before after)
+    ((command : Command) × IsCommand words command × ReadsInput command × Ends command ending before after)
+    ⊎ ((frames : ℕ) × IsCommand words (Sample frames) × Keeps before.left after.left × SampleEnds frames ending before.held after.held before.output_faults after.output_faults)
     ⊎ (NamesNone words × (ending ≡ Usage) × Keeps before.left after.left × Keeps before.held after.held)
-    ⊎ ((ending ≡ NoMemory) × Keeps before.held after.held)
+    ⊎ ((ending ≡ NoMemory) × Keeps before.left after.left × Keeps before.held after.held)
 
 -- what stands after a failed read, or a failed write, for the command that the words name
 abbrev pub RunUnread : List (List ℕ) → Devices → Devices → Type 0

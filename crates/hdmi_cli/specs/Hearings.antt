@@ -4,7 +4,6 @@ use Rattle.std.specs.Io.KnownBytes.{Consumes}
 use Rattle.outside_io.specs.Causes.{Rose}
 use Rattle.capture_file.specs.Captures.{Stands, IsCaptureOf, IsFault, place_of}
 use Rattle.capture_file.specs.declared.fault.CaptureFault.{CaptureFault}
-use Rattle.capture_file.specs.declared.fault.CaptureFault.TheVariants.{Short}
 use Rattle.capture_file.specs.declared.fault.CaptureError.{CaptureError}
 use Rattle.capture_file.specs.declared.fault.CaptureError.TheVariants.{Bad as Failed, Read as Unread}
 use Rattle.period_grammar.specs.Things.{Thing}

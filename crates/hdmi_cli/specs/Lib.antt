@@ -3,6 +3,7 @@ pub mod Notes
 pub mod Blocks
 pub mod Listings
 pub mod Hearings
+pub mod Samples
 pub mod Outcome
 pub mod Endings
 pub mod Runs

@@ -21,10 +21,14 @@ use Rattle.link_sink.specs.Sinks.{Fed, IsToldSoFar}
 use Rattle.listing.specs.Reading.{reads_as}
 use Rattle.listing.specs.LineSteps.{Read, accepts, refuses}
 use Rattle.listing.specs.ContentReading.{content_reads_as}
+use Rattle.sampling.specs.Counts.{counts_text}
+use Rattle.sampling.specs.Sampled.{IsSampled}
+use Rattle.sampling.specs.declared.counts.Counts.{Counts}
 use Rattle.hdmi_cli.specs.Blocks.{AreBefore}
-use Rattle.hdmi_cli.specs.Commands.{IsCommand, hit_asked, tap_asked}
+use Rattle.hdmi_cli.specs.Commands.{hit_asked, tap_asked}
 use Rattle.hdmi_cli.specs.Listings.{Listing, link_listing, check_listing, content_listing}
 use Rattle.hdmi_cli.specs.Notes.{listing_note, raster_note, capture_note, place_note, usage_note, alignment_note}
+use Rattle.command_line.specs.Commands.{IsCommand}
 use Rattle.command_line.specs.declared.command.Command.{Command}
 use Rattle.command_line.specs.declared.command.Command.TheVariants.{MakeLink, MakeContent, RecoverLink, RecoverContent, Check, Damage, Sample}
 
@@ -90,7 +94,11 @@ Damages hits bytes outcome =
     ⊎ ((i : ℕ) × IsMisplacedIn bytes hits i × (outcome ≡ record { status = 3; output = []; note = place_note i }))
     ⊎ ((fault : CaptureFault) × (out : List ℕ) × IsFaultyDamage bytes hits fault out × (outcome ≡ record { status = 3; output = out; note = capture_note fault }))
 
--- what a command that is carried out makes of the input's bytes
+-- the counts of a sample are written, whatever the input has
+abbrev pub Samples : ℕ → Outcome → Type 0
+Samples frames outcome = (counts : Counts) × IsSampled frames counts × (outcome ≡ record { status = 0; output = counts_text counts; note = [] })
+
+-- what a command makes of the input's bytes
 abbrev pub Does : Command → List ℕ → Outcome → Type 0
 Does (MakeLink tap) input outcome = MakesLink (tap_asked tap) (reads_as input) outcome
 Does (MakeContent tap) input outcome = MakesContent (tap_asked tap) (content_reads_as input) outcome
@@ -98,7 +106,7 @@ Does RecoverLink input outcome = ListsCapture link_listing input outcome
 Does RecoverContent input outcome = ListsCapture content_listing input outcome
 Does Check input outcome = ListsCapture check_listing input outcome
 Does (Damage damages) input outcome = Damages (map hit_asked damages) input outcome
-Does (Sample frames) input outcome = ⊥
+Does (Sample frames) input outcome = Samples frames outcome
 
 -- the words name no command
 abbrev pub NamesNone : List (List ℕ) → Type 0

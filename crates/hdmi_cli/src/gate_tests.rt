@@ -68,3 +68,31 @@ fn lanes_meet(rt: HostRuntime) -> Result<(), Fail> {
     }
     Ok(())
 }
+
+/// Counts the passes of each lane.
+#[derive(Drop)]
+struct Counter {
+    passes: [AtomicU64; 3],
+}
+
+impl Gate for Counter {
+    fn pass(&self, lane: u8) {
+        if lane < 3 {
+            self.passes[usize::from(lane)].fetch_add(1, Ordering::SeqCst);
+        }
+    }
+}
+
+#[test]
+fn lanes_of_a_sample_pass(rt: HostRuntime) -> Result<(), Fail> {
+    let gate = Counter {
+        passes: [AtomicU64::new(0), AtomicU64::new(0), AtomicU64::new(0)],
+    };
+    let it = answer_through(&rt, &["sample", "2"], b"", &STEADY, &gate)?;
+    assert_eq!(rt; it.status, 0);
+    for lane in 0..3usize {
+        let passes = gate.passes[lane].load(Ordering::SeqCst);
+        assert!(rt; passes >= 253, "lane {lane}: {passes}");
+    }
+    Ok(())
+}

@@ -36,6 +36,10 @@ mod note;
 #[cfg(test)]
 mod recover_tests;
 mod run;
+mod sample;
+#[cfg(test)]
+mod sample_tests;
+mod slice_source;
 #[cfg(test)]
 mod tests;
 #[cfg(test)]

@@ -15,7 +15,7 @@ ghost use Rattle.source_end.specs.declared.mode.Mode.{Mode};
 ghost use Rattle.source_end.specs.Content.{Frame};
 ghost use Rattle.source_end.specs.Raster.{raster_of};
 ghost use Rattle.source_end.specs.RasterRefusals.{raster_fault};
-ghost use Rattle.hdmi_cli.specs.Commands.{IsCommand, tap_asked};
+ghost use Rattle.hdmi_cli.specs.Commands.{tap_asked};
 ghost use Rattle.hdmi_cli.specs.Headline.{AreTapped, IsRecovered};
 ghost use Rattle.hdmi_cli.specs.Pictures.{ArePictures};
 ghost use Rattle.hdmi_cli.specs.Exact.{IsAlignedCapture, IsJudged};
@@ -23,19 +23,23 @@ ghost use Rattle.hdmi_cli.specs.Listings.{link_listing, content_listing};
 ghost use Rattle.hdmi_cli.specs.Outcome.{Outcome, IsOutcome, NamesNone};
 ghost use Rattle.hdmi_cli.specs.Endings.{Ends, RunEnds, RunUnread, RunUnwritten, StreamEnds, damage_ending, heard_ending, judged_ending, raster_ending};
 ghost use Rattle.hdmi_cli.specs.Runs.{IsNoteOf};
-ghost use Rattle.command_line.specs.declared.command.Command.TheVariants.{MakeLink, MakeContent, RecoverLink, RecoverContent, Check, Damage};
+ghost use Rattle.hdmi_cli.specs.Samples.{IsSampleWritten, SampleEnds};
+ghost use Rattle.command_line.specs.Commands.{IsCommand};
+ghost use Rattle.command_line.specs.declared.command.Command.TheVariants.{MakeLink, MakeContent, RecoverLink, RecoverContent, Check, Damage, Sample};
 
 use crate::Words;
 use crate::ending::Ending;
 use crate::hearing::{HearError, hear_capture};
 use crate::hit::hits_of;
 use crate::note::write_note;
+use crate::sample::sample;
 use capture_file::{DamageError, Lanes, Tap, write_capture};
 use command_line::{Command, DamageWord, TapWords};
 use lane_team::Gate;
 use link_sink::LinkSink;
 use listing::{CheckLister, ContentLister, LinkLister, ListError, read_content, read_link};
-use outside_io::{Failed, Sink, Source};
+use outside_io::{Failed, NoMemory, Sink, Source};
+use sampling::write_counts;
 use source_end::{RasterFault, Stream, raster};
 use std::alloc::Global;
 use std::thread::Threads;
@@ -45,7 +49,8 @@ use std::thread::Threads;
 /// the capture of a tap of it, and `make content` that of the raster of a content listing; `recover link` reads a capture
 /// and writes its link listing while it reads, `recover content` its pictures and sound, and `check` only the lines of its
 /// faults and of a cut and whether there was a fault; `damage` copies a capture, block by block, with the ten bits of each
-/// hit replaced. A worker of each lane passes the gate for each block.
+/// hit replaced; `sample` reads nothing, and counts what comes of generated frames that were damaged and recovered. A
+/// worker of each lane passes the gate for each block.
 pub fn run<R: Threads, S: Source, K: Sink, N: Sink, G: Gate>(
     rt: &R,
     alloc: Global,
@@ -74,7 +79,7 @@ pub fn run<R: Threads, S: Source, K: Sink, N: Sink, G: Gate>(
 
     // What is read, and what is written where not all is. After a failed read exactly what the whole blocks read tell so far
     // is listed; after a failed write a part, and at least all that was told before the last block read.
-    ensures ended { Contains (0 ∷ 1 ∷ 7 ∷ []) result → IsAtEnd (S.left input.new) }
+    ensures ended { ((n : ℕ) → IsCommand words.now (Sample n) → ⊥) → Contains (0 ∷ 1 ∷ 7 ∷ []) result → IsAtEnd (S.left input.new) }
     ensures unread { result ≡ 2 → Keeps (S.left input.old) (S.left input.new) }
     ensures unwritten { Contains (2 ∷ 6 ∷ 7 ∷ []) result → Keeps (K.held output.old) (K.held output.new) }
     ensures refused { result ≡ 3 → (tap : TapValue) → IsCommand words.now (MakeLink tap) ⊎ IsCommand words.now (MakeContent tap) → Keeps (K.held output.old) (K.held output.new) }
@@ -84,6 +89,10 @@ pub fn run<R: Threads, S: Source, K: Sink, N: Sink, G: Gate>(
     ensures part { result ≡ 5 → RunUnwritten words.now
         (record { left = S.left input.old; input_faults = S.faults input.old; held = K.held output.old; output_faults = K.faults output.old })
         (record { left = S.left input.new; input_faults = S.faults input.new; held = K.held output.new; output_faults = K.faults output.new }) }
+
+    // `sample` reads nothing, and writes the counts of what comes of the generator's content once it was damaged.
+    ensures sampled { (n : ℕ) → IsCommand words.now (Sample n)
+        → Keeps (S.left input.old) (S.left input.new) × IsSampleWritten n result (K.held output.old) (K.held output.new) }
 
     // `recover link` writes exactly what was sent: for all columns that conforming periods spell, every sparse damage of their
     // payload, every tap of them with skews of at most 70 bits, from their first full alignment on.
@@ -209,7 +218,7 @@ fn carry_out<R: Threads, S: Source, K: Sink, G: Gate>(
         Command::RecoverContent => recover_content(rt, alloc, input, output, gate),
         Command::Check => check(rt, alloc, input, output, gate),
         Command::Damage(damages) => damage(alloc, damages.as_slice(), input, output),
-        Command::Sample(_) => Ending::Usage,
+        Command::Sample(frames) => count_sample(rt, alloc, frames, output, gate),
     }
 }
 
@@ -492,5 +501,26 @@ fn damaged(written: Result<(), DamageError>) -> Ending
         Err(DamageError::Place(hit)) => Ending::Place(hit),
         Err(DamageError::Read) => Ending::ReadFailed,
         Err(DamageError::Write) => Ending::WriteFailed,
+    }
+}
+
+/// Writes the counts of a sample of so many frames.
+fn count_sample<R: Threads, K: Sink, G: Gate>(
+    rt: &R,
+    alloc: Global,
+    frames: u32,
+    output: &mut K,
+    gate: &G,
+) -> Ending
+    requires few { frames ≤ 20 }
+    ensures ends { SampleEnds frames result (K.held output.old) (K.held output.new) (K.faults output.old) (K.faults output.new) }
+    ensures later { K.faults output.old ≤ K.faults output.new }
+{
+    match sample(rt, alloc, frames, gate) {
+        Ok(counts) => match write_counts(&counts, output) {
+            Ok(()) => Ending::Done,
+            Err(Failed) => Ending::WriteFailed,
+        },
+        Err(NoMemory) => Ending::NoMemory,
     }
 }

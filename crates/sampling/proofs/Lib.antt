@@ -2,4 +2,5 @@ pub mod CountLines
 pub mod Counting
 pub mod Growing
 pub mod LineKinds
+pub mod Struck
 pub mod Unlike

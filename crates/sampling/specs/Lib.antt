@@ -1,4 +1,5 @@
 pub mod Counts
 pub mod Tallies
 pub mod Strikes
+pub mod Struck
 pub mod Sampled

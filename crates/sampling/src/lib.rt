@@ -3,13 +3,15 @@
 
 mod counter;
 mod counts;
-// mod hits;
+mod hits;
 mod pictures;
 mod tally;
 
 pub use counts::{Counts, write_counts};
-// pub use hits::hits_of;
+pub use hits::hits_of;
 pub use tally::Tally;
 
+#[cfg(test)]
+mod hits_tests;
 #[cfg(test)]
 mod tests;

@@ -52,6 +52,13 @@ impl Stream {
         self.columns
     }
 
+    /// The items, in order.
+    pub fn items(&self) -> &[Item]
+        ensures { map period_of result.now ≡ self.now }
+    {
+        self.list.as_slice()
+    }
+
     /// Gives the columns of its items to `out`. It is refused only where `out` refused a column; then `out` has
     /// taken the first of some columns that spell the items.
     pub fn spell<C: ColumnSink>(&self, out: &mut C) -> Result<(), NoMemory>

@@ -5,7 +5,7 @@ use Rattle.command_line.specs.declared.damage.DamageWord.{DamageWord}
 use Rattle.command_line.specs.declared.command.Command.{Command}
 use Rattle.hdmi_cli.specs.Endings.{Devices}
 use Rattle.hdmi_cli.proofs.Ends.{line_of, unread_ends}
-use Rattle.hdmi_cli.proofs.Answered.{lanes_of_line, version_of_line, version_of_content}
+use Rattle.hdmi_cli.proofs.Answered.{frames_of_line, lanes_of_line, version_of_line, version_of_content}
 use Rattle.hdmi_cli.proofs.run.carry_out.Goals as goal
 
 pub returns-in-Ok-None-clause-ends : goal.returns-in-Ok-None-clause-ends
@@ -32,3 +32,9 @@ make_content-requires g c =
       version = version_of_content c.args.words.now c.in-MakeContent.tap (subst (λ (d : Command). IsLine c.args.words.now d) c.in-MakeContent.is
           (line_of c.args.words.now c.command.result c.in-Ok-Some.field-0 c.in-Ok-Some.command c.command.ensures c.in-Ok-Some.is c.in-Ok-Some.field-0-is));
     }
+
+pub count_sample-requires-clause-few : goal.count_sample-requires-clause-few
+count_sample-requires-clause-few g c =
+    λ κs lives.
+    frames_of_line c.args.words.now c.in-Sample.frames (subst (λ (d : Command). IsLine c.args.words.now d) c.in-Sample.is
+    (line_of c.args.words.now c.command.result c.in-Ok-Some.field-0 c.in-Ok-Some.command c.command.ensures c.in-Ok-Some.is c.in-Ok-Some.field-0-is))

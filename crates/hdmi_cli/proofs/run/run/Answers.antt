@@ -128,6 +128,12 @@ returns-clause-check_exact g c =
     check_is_exact c.args.words.now before after c.status.result (note_of c.carry_out-ending.result)
     (says c.args.words.now c.carry_out-ending.result before after c.status.result c.carry_out-ending.ensures.ends c.status.ensures)
 
+pub returns-clause-sampled : goal.returns-clause-sampled
+returns-clause-sampled g c =
+    let before : Devices = record { left = g.S.Source.left c.args.input.now; input_faults = g.S.Source.faults c.args.input.now; held = g.K.Sink.held c.args.output.now; output_faults = g.K.Sink.faults c.args.output.now } in
+    let after : Devices = record { left = g.S.Source.left c.carry_out-ending.new.input; input_faults = g.S.Source.faults c.carry_out-ending.new.input; held = g.K.Sink.held c.carry_out-ending.new.output; output_faults = g.K.Sink.faults c.carry_out-ending.new.output } in
+    (says c.args.words.now c.carry_out-ending.result before after c.status.result c.carry_out-ending.ensures.ends c.status.ensures).sampled
+
 pub returns-clause-notes : goal.returns-clause-notes
 returns-clause-notes g c =
     let before : Devices = record { left = g.S.Source.left c.args.input.now; input_faults = g.S.Source.faults c.args.input.now; held = g.K.Sink.held c.args.output.now; output_faults = g.K.Sink.faults c.args.output.now } in
