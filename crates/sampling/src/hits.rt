@@ -59,7 +59,7 @@ fn push_item(
 {
     match item {
         Item::Control(_) => Ok(()),
-        Item::Video(_) => push_hit(hits, hit_at(2, at + 2 + 100, word(0x0ab), tap, columns)),
+        Item::Video(_) => push_hit(hits, hit_at(2, at + 2 + 100, Word::of(0x0ab), tap, columns)),
         Item::Island(island) => push_packets(hits, island.len() as u32, at, tap, columns),
     }
 }
@@ -79,7 +79,7 @@ fn push_packets(
     for i in 0..packets {
         push_hit(
             hits,
-            hit_at(1, at + 2 + 32 * i + 5, word(0x354), tap, columns),
+            hit_at(1, at + 2 + 32 * i + 5, Word::of(0x354), tap, columns),
         )?;
     }
     Ok(())
@@ -134,16 +134,5 @@ fn bits_of(lane: u8, tap: &Tap, columns: u32) -> u32
     match tap.bits {
         Some(most) => left.min(most),
         None => left,
-    }
-}
-
-/// The character of a number below 1,024.
-fn word(value: u16) -> Word
-    requires { value < 1024 }
-    ensures { result ≡ value }
-{
-    match Word::new(value) {
-        Some(word) => word,
-        None => unreachable!(),
     }
 }

@@ -17,7 +17,7 @@ loop-i-preserved c =
     let at = c.args.at in
     let i = c.loop-i.i in
     let old = c.args.hits.now.items in
-    let one = c.hit_at.ensures ∙ ap (λ (w : ℕ). struck tap n (record { lane = 1; column = at + 2 + 32 * i + 5; value = w } ∷ [])) c.word.ensures in
+    let one = c.hit_at.ensures ∙ ap (λ (w : ℕ). struck tap n (record { lane = 1; column = at + 2 + 32 * i + 5; value = w } ∷ [])) c.of.ensures in
     c.in_ok-push_hit.ensures
     ∙ ap₂ (λ (hs ks : List Hit). hs ++ ks) c.loop-i.invariant one
     ∙ append_assoc old (struck tap n (packet_strikes at i)) (struck tap n (packet_strike at i ∷ []))
