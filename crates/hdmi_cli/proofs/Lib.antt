@@ -7,3 +7,4 @@ pub mod Pictures
 pub mod Exact
 pub mod Hearings
 pub mod Samples
+pub mod SampleRaster

@@ -10,6 +10,7 @@ ghost use Rattle.link_sink.specs.Alignment.{AreTold};
 ghost use Rattle.link_sink.specs.Pieces.{no_bits};
 ghost use Rattle.link_sink.specs.Streams.{StandsFor, most_bits};
 ghost use Rattle.sampling.specs.Sampled.{sample_mode, sample_tap, IsSampled};
+ghost use Rattle.source_end.specs.declared.refusal.RasterFault.{RasterFault};
 ghost use Rattle.hdmi_cli.specs.Samples.{IsMade, IsSent, IsTapped, IsStruck};
 
 use crate::hearing::{HearError, hear_capture};
@@ -19,7 +20,7 @@ use lane_team::Gate;
 use link_sink::{Ear, LinkSink, Outcome};
 use outside_io::{Failed, MemSink, NoMemory, SteadySink};
 use sampling::{Counts, Tally, hits_of};
-use source_end::{Mode, Stream, generate, raster};
+use source_end::{Mode, RasterFault, Stream, generate, raster};
 use std::alloc::Global;
 use std::thread::Threads;
 
@@ -120,7 +121,20 @@ fn stream_of(alloc: Global, frames: u32) -> Result<Stream, NoMemory>
     let content = generate(alloc, frames)?;
     match raster(alloc, &mode(), &content) {
         Ok(stream) => Ok(stream),
-        Err(_) => Err(NoMemory),
+        Err(fault) => Err(wanting(fault)),
+    }
+}
+
+/// Want of memory, as a fault of a raster says it.
+fn wanting(fault: RasterFault) -> NoMemory
+    requires { fault ≡ RasterFault.NoMemory }
+{
+    match fault {
+        RasterFault::NoMemory => NoMemory,
+        RasterFault::BadMode(_) => unreachable!(),
+        RasterFault::Row { .. } => unreachable!(),
+        RasterFault::NoRoom { .. } => unreachable!(),
+        RasterFault::Long => unreachable!(),
     }
 }
 
