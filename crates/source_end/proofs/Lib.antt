@@ -19,4 +19,4 @@ pub mod RasterFaults
 pub mod RasterRuns
 pub mod RasterWriting
 pub mod Generated
-mod GeneratedRaster
+pub mod GeneratedRaster
