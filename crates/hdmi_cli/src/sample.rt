@@ -93,7 +93,8 @@ fn captured(alloc: Global, frames: u32) -> Result<(MemSink, Vec<Hit>), NoMemory>
     requires { frames ≤ 20 }
     ensures { IfOk result (λ made. IsTapped frames made.0.held made.1.items) }
 {
-    let (lanes, columns, hits) = sent(alloc, frames)?;
+    let (lanes, columns, mut hits) = sent(alloc, frames)?;
+    hits.shrink_to_fit();
     let mut out = memory(alloc, capture_size(columns))?;
     match write_capture(&lanes, &tap(), &mut out) {
         Ok(()) => Ok((out, hits)),
