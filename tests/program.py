@@ -12,6 +12,9 @@ import sys
 TOP = os.path.dirname(os.path.dirname(os.path.abspath(__file__)))
 LISTING = b"c 00 4\nc 04 8\nv ff0000\nc 00 12\nend\n"
 USAGE = b"usage: make, recover, check, damage or sample\n"
+SAMPLE = (
+    b"columns 1231895\nframes 2\nrows 960\npackets 406\nsamples 1600\nsymbols 406\nmended 800\ncode 1440\nother 0\ndiffer 956\n"
+)
 
 
 def run(program, words, source=b"", stdin=None, stdout=subprocess.PIPE):
@@ -41,6 +44,11 @@ def cases(program):
     for words, source in ((["make", "link"], LISTING), (["recover", "link"], capture), (["check"], capture), (["damage", "0:0:000"], capture)):
         with open("/dev/full", "wb") as full:
             yield f"{words[0]} to a full device", run(program, words, source, stdout=full), (5, None, b"write failed\n")
+    yield "sample 3", run(program, ["sample", "3"]), (0, SAMPLE, b"")
+    for word in ("1", "21", "x"):
+        yield f"sample {word}", run(program, ["sample", word]), (2, b"", USAGE)
+    with open("/dev/full", "wb") as full:
+        yield "sample to a full device", run(program, ["sample", "2"], stdout=full), (5, None, b"write failed\n")
     yield "no alignment", run(program, ["recover", "link"], b"TMC1\0\0\0\0"), (7, b"", b"no alignment\n")
 
 
