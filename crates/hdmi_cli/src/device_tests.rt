@@ -36,6 +36,7 @@ fn fail_each(
         let devices = Devices {
             read: piece,
             write: piece,
+            room: 65_536,
             failing_reads: if reads { failing } else { &[] },
             failing_writes: if reads { &[] } else { failing },
         };

@@ -69,7 +69,7 @@ fn hear_bytes<R: Threads, E: Ear, G: Gate>(
 }
 
 /// The capture of the generator's content, damaged.
-fn damaged(alloc: Global, frames: u32) -> Result<MemSink, NoMemory>
+pub(crate) fn damaged(alloc: Global, frames: u32) -> Result<MemSink, NoMemory>
     requires { frames ≤ 20 }
     ensures { IfOk result (λ out. IsStruck frames out.held) }
 {

@@ -1,4 +1,5 @@
 //! The counts of samples. The expected values are those of an independent model of the sample.
+use crate::sample::damaged;
 use crate::trial::{Devices, STEADY, answer_of, judge};
 use std::process::Abort;
 use std::test::*;
@@ -36,5 +37,26 @@ fn output_fails(rt: HostRuntime) -> Result<(), Fail> {
         assert_eq!(rt; it.output.len(), 7 * number as usize);
         assert!(rt; whole.output.starts_with(&it.output));
     }
+    Ok(())
+}
+
+/// The damaged capture of three frames without its last byte: the front of the whole listing is written.
+#[test]
+fn cut_short(rt: HostRuntime) -> Result<(), Fail> {
+    let capture = damaged(rt.alloc(), 3)?;
+    let words = ["recover", "content"];
+    let devices = Devices {
+        room: 8_000_000,
+        ..STEADY
+    };
+    let whole = answer_of(&rt, &words, capture.bytes(), &devices)?;
+    assert_eq!(rt; whole.status, 1);
+    assert!(rt; whole.output.ends_with(b"end\n"));
+    let (_, front) = capture.bytes().split_last().ok_or("no capture")?;
+    let cut = answer_of(&rt, &words, front, &devices)?;
+    assert_eq!(rt; cut.status, 3);
+    assert!(rt; whole.output.starts_with(&cut.output));
+    assert!(rt; !cut.output.ends_with(b"end\n"));
+    assert!(rt; cut.output.len() > 3_000_000);
     Ok(())
 }

@@ -164,6 +164,7 @@ fn red_by(
     let devices = Devices {
         read: 9,
         write: 4096,
+        room: 65_536,
         failing_reads: reads,
         failing_writes: writes,
     };

@@ -8,11 +8,12 @@ use std::test::Fail;
 use std::thread::Threads;
 
 /// How the devices of a run behave: the most bytes that a read gives and that a write takes, one at least,
-/// and the numbers of the reads and the writes that fail.
+/// how many the output has room for, and the numbers of the reads and the writes that fail.
 #[derive(Clone, Copy)]
 pub(crate) struct Devices<'a> {
     pub(crate) read: usize,
     pub(crate) write: usize,
+    pub(crate) room: usize,
     pub(crate) failing_reads: &'a [u64],
     pub(crate) failing_writes: &'a [u64],
 }
@@ -21,6 +22,7 @@ pub(crate) struct Devices<'a> {
 pub(crate) static STEADY: Devices<'static> = Devices {
     read: 65_536,
     write: 65_536,
+    room: 65_536,
     failing_reads: &[],
     failing_writes: &[],
 };
@@ -33,7 +35,7 @@ pub(crate) struct Answer {
     pub(crate) notes: Vec<u8>,
 }
 
-/// Runs words over an input, with room for an output of 65,536 bytes.
+/// Runs words over an input.
 pub(crate) fn answer_of(
     rt: &(impl Threads + AllocGlobal),
     words: &[&str],
@@ -59,7 +61,7 @@ pub(crate) fn answer_through<G: Gate>(
     let reads = devices.failing_reads.to_vec(alloc)?;
     let writes = devices.failing_writes.to_vec(alloc)?;
     let mut input = MemSource::new(input.to_vec(alloc)?, devices.read.max(1), reads);
-    let mut output = MemSink::new(alloc, 65_536, devices.write.max(1), writes)?;
+    let mut output = MemSink::new(alloc, devices.room, devices.write.max(1), writes)?;
     let mut notes = MemSink::new(alloc, 4096, 4096, Vec::new(alloc))?;
     let status = run(rt, alloc, &list, &mut input, &mut output, &mut notes, gate);
     Ok(Answer {
