@@ -43,9 +43,10 @@ impl Stream {
         ensures bits { IfOk result (λ s. longest s.receiver.team ≡ 0) }
     {
         let receiver = Receiver::open(alloc)?;
+        let hearing = Hearing::open(alloc)?;
         Ok(Stream {
             receiver,
-            hearing: Hearing::open(),
+            hearing,
             outcome: NOTHING,
         })
     }
