@@ -377,6 +377,10 @@ def long(program):
             yield "what is written of 1 GB", came, gone
 
 
+# What the system's loader says where there is no room for the program itself.
+LOADER = (b"while loading", b"cannot allocate TLS data structures")
+
+
 def memory(program):
     """Little room for the process: want of memory, or of threads, and nothing else."""
     large = [(["make", "link"], b"c 00 600000\nend\n"), (["make", "content"], frames(60, 4))]
@@ -385,7 +389,7 @@ def memory(program):
         whole, rooms = run(program, words, source), range(2200, 9000, 100)
         for room in rooms if len(source) < 1000 else rooms[::4]:
             came = in_room(program, words, source, room)
-            loader = came[:2] == (127, b"") and b"while loading" in came[2]
+            loader = came[:2] == (127, b"") and any(text in came[2] for text in LOADER)
             spared = came in ((6, b"", b"out of memory\n"), (6, b"", b""))
             yield f"{words} in {room} KiB", loader or spared or came == whole, True
 
