@@ -1,14 +1,12 @@
 //! Three lanes aligned side by side, each by a worker of its own.
 #![tactic(auto)]
 
-ghost use Rattle.std.specs.Prelude.{◌≡◌, ◌<◌, List, Bool, IfOk, slice_index};
+ghost use Rattle.std.specs.Prelude.{◌≡◌, ◌<◌, List, Bool, slice_index};
 ghost use Rattle.lane_align.specs.Lanes.{IsLockOf};
 ghost use Rattle.lane_align.specs.Aligners.{StandsFor, lock_of};
 ghost use Rattle.lane_team.specs.Sides.{IsFresh, AreFresh, CanTake, HasTaken, side_at};
 
 use lane_align::LaneAligner;
-use outside_io::NoMemory;
-use std::alloc::Global;
 use std::marker::Model;
 use std::thread::{Threads, join_mut};
 
@@ -37,7 +35,7 @@ impl Gate for Open {
 struct Side {
     aligner: LaneAligner,
     /// The characters, and room behind them.
-    row: Vec<u16>,
+    row: [u16; ROOM],
     /// How many characters the last feed gave.
     count: usize,
 }
@@ -51,14 +49,14 @@ pub struct Team {
 }
 
 impl Model for Side {
-    ghost use Rattle.std.specs.Prelude.{◌≡◌, ◌≤◌, take, length};
+    ghost use Rattle.std.specs.Prelude.{◌≤◌, take};
     ghost use Rattle.lane_team.specs.Sides as sides;
 
     ghost Value = { sides.Side };
 
-    ghost view = { λ s. record { aligner = s.aligner; words = take s.count s.row.items } };
+    ghost view = { λ s. record { aligner = s.aligner; words = take s.count s.row } };
 
-    ghost invariant = { λ s. (length s.row.items ≡ 4160) × (s.count ≤ 4160) };
+    ghost invariant = { λ s. s.count ≤ 4160 };
 }
 
 impl Model for Team {
@@ -71,14 +69,14 @@ impl Model for Team {
 
 impl Side {
     /// A lane to which no bit was fed.
-    fn open(alloc: Global) -> Result<Side, NoMemory>
-        ensures { IfOk result IsFresh }
+    fn open() -> Side
+        ensures { IsFresh result }
     {
-        Ok(Side {
+        Side {
             aligner: LaneAligner::new(),
-            row: vec![in alloc; 0; ROOM]?,
+            row: [0; ROOM],
             count: 0,
-        })
+        }
     }
 
     /// Takes bits of the lane.
@@ -86,14 +84,14 @@ impl Side {
         requires { CanTake self.old bytes.now bits }
         ensures { HasTaken self.old bytes.now bits self.new }
     {
-        self.count = self.aligner.feed(bytes, bits, self.row.as_mut_slice());
+        self.count = self.aligner.feed(bytes, bits, &mut self.row);
     }
 
     /// The characters of the last feed.
     fn words(&self) -> &[u16]
         ensures { result.now ≡ self.now.words }
     {
-        &self.row.as_slice()[..self.count]
+        &self.row[..self.count]
     }
 
     /// Makes it as after `open`.
@@ -106,15 +104,15 @@ impl Side {
 }
 
 impl Team {
-    /// Three lanes to which no bit was fed, with all memory that they ever have.
-    pub fn open(alloc: Global) -> Result<Team, NoMemory>
-        ensures { IfOk result AreFresh }
+    /// Three lanes to which no bit was fed. Their rows are within them: they take no memory.
+    pub fn open() -> Team
+        ensures { AreFresh result }
     {
-        Ok(Team {
-            first: Side::open(alloc)?,
-            second: Side::open(alloc)?,
-            third: Side::open(alloc)?,
-        })
+        Team {
+            first: Side::open(),
+            second: Side::open(),
+            third: Side::open(),
+        }
     }
 
     /// Takes bits of each lane, each lane its own number of them: bit i is bit `i % 8` of byte `i / 8`. One

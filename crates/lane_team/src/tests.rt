@@ -78,7 +78,7 @@ fn lanes_meet(rt: HostRuntime) -> Result<(), Fail> {
         passes: [AtomicU64::new(0), AtomicU64::new(0), AtomicU64::new(0)],
         missed: AtomicU64::new(0),
     };
-    let mut team = Team::open(rt.alloc())?;
+    let mut team = Team::open();
     team.feed_three(&rt, &LANES[0], &LANES[1], &LANES[2], [120; 3], &gate);
     expect_words(&rt, &team, 12);
     team.feed_three(&rt, &LANES[0], &LANES[1], &LANES[2], [120; 3], &gate);
@@ -95,7 +95,7 @@ fn lanes_meet(rt: HostRuntime) -> Result<(), Fail> {
 
 #[test]
 fn lanes_end_apart(rt: HostRuntime) -> Result<(), Fail> {
-    let mut team = Team::open(rt.alloc())?;
+    let mut team = Team::open();
     team.feed_three(&rt, &LANES[0], &LANES[1][..14], &[], [120, 112, 0], &Open);
     let mut aligner = LaneAligner::new();
     let mut row = [0; 25];

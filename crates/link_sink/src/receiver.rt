@@ -31,7 +31,7 @@ impl Receiver {
         ensures found { IfOk result (λ r. r.deskew.found ≡ None) }
         ensures bits { IfOk result (λ r. longest r.team ≡ 0) }
     {
-        let team = Team::open(alloc)?;
+        let team = Team::open();
         let deskew = Deskew::open(alloc)?;
         Ok(Receiver { team, deskew })
     }

@@ -43,10 +43,9 @@ impl Stream {
         ensures bits { IfOk result (λ s. longest s.receiver.team ≡ 0) }
     {
         let receiver = Receiver::open(alloc)?;
-        let hearing = Hearing::open(alloc)?;
         Ok(Stream {
             receiver,
-            hearing,
+            hearing: Hearing::open(),
             outcome: NOTHING,
         })
     }

@@ -1,5 +1,5 @@
 //! Hears columns one after another, and tells what they say.
-ghost use Rattle.std.specs.Prelude.{◌≡◌, ◌<◌, ◌≤◌, ◌+◌, ◌++◌, ◌∷◌, [], ℕ, All, List, length, map, take, true, false, IfOk, slice_get, Some};
+ghost use Rattle.std.specs.Prelude.{◌≡◌, ◌<◌, ◌≤◌, ◌+◌, ◌++◌, ◌∷◌, [], ℕ, All, List, length, map, take, true, false, slice_get, Some};
 ghost use Rattle.std.specs.Bool.{OnTrue, OnFalse};
 ghost use Rattle.tmds_word.specs.Column.{Column, column_of};
 ghost use Rattle.period_grammar.specs.Things.{all_at, thing_of};
@@ -21,8 +21,6 @@ use crate::notes::{Note, Notes};
 use crate::phase::{Phase, close, end, go_on, tell_words};
 use crate::told::Told;
 use island_pack::PacketRef;
-use outside_io::NoMemory;
-use std::alloc::Global;
 use std::marker::Model;
 use terc4::is_control_column;
 use tmds_word::Word;
@@ -51,22 +49,21 @@ impl Model for Hearing {
 }
 
 impl Hearing {
-    /// A hearing that has heard nothing, with room for a line of 4,096 pixels.
-    pub fn open(alloc: Global) -> Result<Hearing, NoMemory>
-        ensures open { IfOk result (λ h. h.finished ≡ false) }
-        ensures heard { IfOk result (λ h. StandsFor h []) }
-        ensures quiet { IfOk result (λ h. last_told h ≡ []) }
+    /// A hearing that has heard nothing. The room for a line of 4,096 pixels is within it: it takes no memory.
+    pub fn open() -> Hearing
+        ensures open { result.finished ≡ false }
+        ensures heard { StandsFor result [] }
+        ensures quiet { last_told result ≡ [] }
     {
-        let line = Line::open(alloc)?;
-        Ok(Hearing {
+        Hearing {
             columns: 0,
             phase: Phase::Control,
             control: Kept::new(),
-            line,
+            line: Line::new(),
             island: Island::new(),
             notes: Notes::new(),
             finished: false,
-        })
+        }
     }
 
     /// Hears one column, the words of lanes 0, 1 and 2; `tells` and `told` then say what it tells.

@@ -1,5 +1,5 @@
 //! A line of pixels.
-ghost use Rattle.std.specs.Prelude.{◌≡◌, ◌<◌, ◌≤◌, ◌+◌, ◌^◌, ◌++◌, ◌∷◌, [], All, List, length, take, true, IfOk, if◌then◌else◌, nat_le, Some, None, Option, ℕ};
+ghost use Rattle.std.specs.Prelude.{◌≡◌, ◌<◌, ◌≤◌, ◌+◌, ◌^◌, ◌++◌, ◌∷◌, [], All, List, length, take, true, if◌then◌else◌, nat_le, Some, None, Option, ℕ};
 ghost use Rattle.std.specs.List.{prefix_len};
 ghost use Rattle.tmds_word.specs.Column.{Column, column_of};
 ghost use Rattle.tmds_word.specs.Words.{columns_of};
@@ -15,8 +15,6 @@ use crate::held::Bytes;
 use crate::lane::Lane;
 use crate::notes::{Note, Notes};
 use crate::told::Fault;
-use outside_io::NoMemory;
-use std::alloc::Global;
 use std::marker::Model;
 use terc4::is_control_column;
 use tmds_word::Word;
@@ -43,17 +41,16 @@ impl Model for Line {
 
 impl Line {
     #[tactic(auto, unfolding(crate::specs::Heard::line_bytes))]
-    pub fn open(alloc: Global) -> Result<Line, NoMemory>
-        ensures { IfOk result (λ l. IsLineAfter l []) }
+    pub fn new() -> Line
+        ensures { IsLineAfter result [] }
     {
-        let bytes = Bytes::open(alloc)?;
-        Ok(Line {
-            bytes,
+        Line {
+            bytes: Bytes::new(),
             count: 0,
             blue: Lane::new(),
             green: Lane::new(),
             red: Lane::new(),
-        })
+        }
     }
 
     #[tactic(auto, unfolding(crate::specs::Heard::line_bytes))]
