@@ -21,8 +21,8 @@ use Rattle.link_sink.specs.Progress.{columns_from}
 use Rattle.link_sink.specs.Received.{CanFeed, IsFoundAt, IsReceived, longest}
 use Rattle.link_sink.specs.Streams.{IsHeard, IsBehind}
 use Rattle.link_sink.specs.declared.hear.Outcome.{Outcome}
-use Rattle.link_sink.specs.declared.receiver.Receiver.{Receiver}
-use Rattle.link_sink.specs.declared.streaming.Stream.{Stream}
+use Rattle.link_sink.specs.Seen.{Receiver}
+use Rattle.link_sink.specs.Seen.{Stream}
 use Rattle.link_sink.proofs.Growing.{told_none}
 use Rattle.link_sink.proofs.Listed.{few_columns}
 use Rattle.link_sink.proofs.Feeding.{length_grown}
@@ -177,3 +177,23 @@ fed_behind s fed a b c bits r aligned h can received is = record {
   aligned = is;
   columns = h.columns;
 }
+
+-- The same of a stream as contracts see it, whose hearing lies in memory of its own.
+
+pub fed_behind_at : (s t : Stream) → s ≡ t → (k : Seen) → k ≡ s.hearing → (fed : Fed) (a b c : List ℕ) (bits : List ℕ) (r : Receiver) (aligned : Bool) → IsHeard t fed
+    → CanFeed (fed_of t.receiver.team.first.aligner) (longest t.receiver.team) a (slice_index bits 0)
+    → ((f : Fed) (taken : ℕ) → IsReceived s.receiver f taken → IsReceived r (grown f a b c bits) taken) → aligned ≡ is_some r.deskew.found
+    → IsBehind (record { receiver = r; hearing = k; outcome = record { aligned = aligned; columns = s.outcome.columns } }) fed (grown fed a b c bits)
+fed_behind_at s t e k same fed a b c bits r aligned h can received is =
+    subst (λ (x : Seen). IsBehind (record { receiver = r; hearing = x; outcome = record { aligned = aligned; columns = s.outcome.columns } }) fed (grown fed a b c bits)) (sym same)
+    (fed_behind s fed a b c bits r aligned (subst (λ (x : Stream). IsHeard x fed) (sym e) h)
+    (subst (λ (x : Stream). CanFeed (fed_of x.receiver.team.first.aligner) (longest x.receiver.team) a (slice_index bits 0)) (sym e) can) received is)
+
+pub ends_heard_at : (s t : Stream) → s ≡ t → (k : Seen) → k ≡ s.hearing → (fed : Fed) (things : List Thing) → IsHeard t fed → s.outcome.aligned ≡ true
+    → ((cs : List Column) → IsHearingOf k cs → heard cs ≡ told_of cs ++ things) → IsLast fed s.outcome things
+ends_heard_at s t e k same fed things h aligned all =
+    ends_heard s fed things (subst (λ (x : Stream). IsHeard x fed) (sym e) h) aligned
+    (subst (λ (x : Seen). (cs : List Column) → IsHearingOf x cs → heard cs ≡ told_of cs ++ things) same all)
+
+pub ends_unheard_at : (s t : Stream) → s ≡ t → (fed : Fed) → IsHeard t fed → s.outcome.aligned ≡ false → IsLast fed s.outcome []
+ends_unheard_at s t e fed h = ends_unheard s fed (subst (λ (x : Stream). IsHeard x fed) (sym e) h)

@@ -10,7 +10,7 @@ use Rattle.lane_deskew.specs.declared.Aligned.{Aligned}
 use Rattle.lane_deskew.proofs.Fed.{evenly_fed, past_triples, past_alignments}
 use Rattle.link_sink.specs.Sinks.{Fed}
 use Rattle.link_sink.specs.Received.{CanFeed, GoesOn, IsLane, IsFoundAt, IsReceived, HasGained, MayPush, HasPushed, end_if, longest}
-use Rattle.link_sink.specs.declared.receiver.Receiver.{Receiver}
+use Rattle.link_sink.specs.Seen.{Receiver}
 use Rattle.link_sink.proofs.Feeding.{length_grown}
 use Rattle.link_sink.proofs.Room.{IsSame, kept_many, kept_is, few_kept, second_kept, third_kept}
 use Rattle.link_sink.proofs.Gaining.{fed_more, lane_gained, lane_going}

@@ -14,7 +14,7 @@ use Rattle.link_sink.specs.Sinks.{Fed}
 use Rattle.link_sink.specs.Pieces.{no_bits}
 use Rattle.link_sink.specs.Progress.{columns_from}
 use Rattle.link_sink.specs.Received.{IsFoundAt, IsReceived, longest}
-use Rattle.link_sink.specs.declared.receiver.Receiver.{Receiver}
+use Rattle.link_sink.specs.Seen.{Receiver}
 
 none_fed : (team : Sides) → AreFresh team → longest team ≡ 0
 none_fed team fresh = λ i. max (fresh.first.fed i) (max (fresh.second.fed i) (fresh.third.fed i))
@@ -51,3 +51,13 @@ pub columns_are : (r : Receiver) (fed : Fed) (taken : ℕ) (a b c : List ℕ) �
     → ((p : Past) (at : Aligned) → IsDeskewOf r.deskew p → r.deskew.found ≡ Some at → columns_of a b c ≡ drop p.taken (past_columns p at.edges))
     → columns_of a b c ≡ drop taken (columns_from fed r.deskew.found)
 columns_are r fed taken a b c h count before lent = columns_by r fed taken a b c r.deskew.found h refl before lent
+
+-- the same of a receiver as contracts see it, whose deskew lies in memory of its own
+pub columns_are_at : (r t : Receiver) → r ≡ t → (k : Deskew) → k ≡ r.deskew → (fed : Fed) (taken : ℕ) (a b c : List ℕ) → IsReceived t fed taken → AreColumns (ready_of k) a b c → (k.found ≡ None → a ≡ [])
+    → ((p : Past) (at : Aligned) → IsDeskewOf k p → k.found ≡ Some at → columns_of a b c ≡ drop p.taken (past_columns p at.edges))
+    → columns_of a b c ≡ drop taken (columns_from fed t.deskew.found)
+columns_are_at r t e k same fed taken a b c h count before lent =
+    let lends : Receiver = record { team = r.team; deskew = k } in
+    let is : lends ≡ t = (λ i. record { team = r.team; deskew = same i }) ∙ e in
+    columns_are lends fed taken a b c (subst (λ (x : Receiver). IsReceived x fed taken) (sym is) h) count before lent
+    ∙ ap (λ (x : Receiver). drop taken (columns_from fed x.deskew.found)) is

@@ -11,7 +11,7 @@ use Rattle.lane_deskew.proofs.Aligning.{row_length}
 use Rattle.lane_deskew.proofs.Gained.{room_left}
 use Rattle.link_sink.specs.Sinks.{Fed}
 use Rattle.link_sink.specs.Received.{GoesOn, IsReceived, longest}
-use Rattle.link_sink.specs.declared.receiver.Receiver.{Receiver}
+use Rattle.link_sink.specs.Seen.{Receiver}
 
 -- before the alignment those from 32 before the last settling on, and after it those that a column can reach
 abbrev pub kept_many : Past → Option Aligned → ℕ → ℕ

@@ -1,3 +1,4 @@
+pub mod Seen
 pub mod Ears
 pub mod Alignment
 pub mod Telling

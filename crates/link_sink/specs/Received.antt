@@ -11,7 +11,7 @@ use Rattle.lane_deskew.specs.Fed.{IsCutFrom, past_at}
 use Rattle.lane_deskew.specs.declared.deskew.Deskew.{Deskew}
 use Rattle.lane_deskew.specs.declared.Aligned.{Aligned}
 use Rattle.link_sink.specs.Sinks.{Fed}
-use Rattle.link_sink.specs.declared.receiver.Receiver.{Receiver}
+use Rattle.link_sink.specs.Seen.{Receiver}
 
 -- so many bits more may come of a lane that was fed some, where the longest lane was fed so many: no more than a feed
 -- takes, in whole bytes until the last, and none once another lane had more

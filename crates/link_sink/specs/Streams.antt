@@ -9,7 +9,7 @@ use Rattle.period_grammar.specs.Stands.{StandsFor as IsHearingOf}
 use Rattle.link_sink.specs.Sinks.{Fed}
 use Rattle.link_sink.specs.Progress.{columns_from}
 use Rattle.link_sink.specs.Received.{IsFoundAt, IsReceived, longest}
-use Rattle.link_sink.specs.declared.streaming.Stream.{Stream}
+use Rattle.link_sink.specs.Seen.{Stream}
 
 -- all columns of the lanes were heard and consumed
 pub record IsHeard (stream : Stream) (fed : Fed) : Type 0 where

@@ -3,8 +3,8 @@ ghost use Rattle.std.specs.Prelude.{◌≡◌, ◌<◌, ◌≤◌, ◌+◌, ◌-
 ghost use Rattle.tmds_word.specs.Words.{columns_of};
 ghost use Rattle.lane_align.specs.Words.{AreWords};
 ghost use Rattle.lane_align.specs.Aligners.{fed_of};
-ghost use Rattle.lane_team.specs.Sides.{side_at};
-ghost use Rattle.lane_deskew.specs.Pushed.{Pushed, Past, change, StandsFor, ready_of, AreColumns};
+ghost use Rattle.lane_team.specs.Sides.{side_at, AreFresh};
+ghost use Rattle.lane_deskew.specs.Pushed.{Pushed, Past, no_past, change, StandsFor, ready_of, AreColumns};
 ghost use Rattle.lane_deskew.specs.Fed.{past_at};
 ghost use Rattle.link_sink.specs.Sinks.{Fed, grown};
 ghost use Rattle.link_sink.specs.Pieces.{no_bits};
@@ -15,13 +15,22 @@ use lane_deskew::{ColumnsRef, Deskew};
 use lane_team::{Gate, Team};
 use outside_io::NoMemory;
 use std::alloc::Global;
+use std::marker::Model;
 use std::thread::Threads;
 
 /// Cuts three lanes into characters, and lines them up.
 #[derive(Drop)]
 pub struct Receiver {
-    team: Team,
-    deskew: Deskew,
+    team: Box<Team>,
+    deskew: Box<Deskew>,
+}
+
+impl Model for Receiver {
+    ghost use Rattle.link_sink.specs.Seen as seen;
+
+    ghost Value = { seen.Receiver };
+
+    ghost view = { λ r. record { team = r.team.value; deskew = r.deskew.value } };
 }
 
 impl Receiver {
@@ -31,8 +40,8 @@ impl Receiver {
         ensures found { IfOk result (λ r. r.deskew.found ≡ None) }
         ensures bits { IfOk result (λ r. longest r.team ≡ 0) }
     {
-        let team = Team::open();
-        let deskew = Deskew::open(alloc)?;
+        let team = open_team(alloc)?;
+        let deskew = open_deskew(alloc)?;
         Ok(Receiver { team, deskew })
     }
 
@@ -68,16 +77,7 @@ impl Receiver {
         ensures second { fed_of self.new.team.second.aligner ≡ fed_of self.old.team.second.aligner + slice_index bits 1 }
         ensures third { fed_of self.new.team.third.aligner ≡ fed_of self.old.team.third.aligner + slice_index bits 2 }
     {
-        self.team.feed_three(rt, a, b, c, bits, gate);
-        let [x, y, z] = bits;
-        push_gained(&self.team, &mut self.deskew, 0, x);
-        push_gained(&self.team, &mut self.deskew, 1, y);
-        push_gained(&self.team, &mut self.deskew, 2, z);
-        let most = x.max(y).max(z);
-        end_if_short(&mut self.deskew, 0, x < most);
-        end_if_short(&mut self.deskew, 1, y < most);
-        end_if_short(&mut self.deskew, 2, z < most);
-        self.deskew.settle().is_some()
+        feed_parts(&mut self.team, &mut self.deskew, rt, a, b, c, bits, gate)
     }
 
     /// The columns that are not consumed: none before the alignment.
@@ -102,6 +102,58 @@ impl Receiver {
     {
         self.deskew.consume(n);
     }
+}
+
+/// Feeds a team, and pushes what it gains to a deskew, whose columns are all consumed. Says whether the lanes are aligned.
+fn feed_parts<R: Threads, G: Gate>(
+    team: &mut Team,
+    deskew: &mut Deskew,
+    rt: &R,
+    a: &[u8],
+    b: &[u8],
+    c: &[u8],
+    bits: [u32; 3],
+    gate: &G,
+) -> bool
+    requires received { (fed : Fed) × (taken : ℕ) × IsReceived (record { team = team.old; deskew = deskew.old }) fed taken }
+    requires consumed { ready_of deskew.old ≡ 0 }
+    requires first { CanFeed (fed_of team.old.first.aligner) (longest team.old) a.now (slice_index bits 0) }
+    requires second { CanFeed (fed_of team.old.second.aligner) (longest team.old) b.now (slice_index bits 1) }
+    requires third { CanFeed (fed_of team.old.third.aligner) (longest team.old) c.now (slice_index bits 2) }
+    ensures received { (fed : Fed) (taken : ℕ) → IsReceived (record { team = team.old; deskew = deskew.old }) fed taken
+        → IsReceived (record { team = team.new; deskew = deskew.new }) (grown fed a.now b.now c.now bits) taken }
+    ensures aligned { result ≡ is_some deskew.new.found }
+    ensures first { fed_of team.new.first.aligner ≡ fed_of team.old.first.aligner + slice_index bits 0 }
+    ensures second { fed_of team.new.second.aligner ≡ fed_of team.old.second.aligner + slice_index bits 1 }
+    ensures third { fed_of team.new.third.aligner ≡ fed_of team.old.third.aligner + slice_index bits 2 }
+{
+    team.feed_three(rt, a, b, c, bits, gate);
+    let [x, y, z] = bits;
+    push_gained(team, deskew, 0, x);
+    push_gained(team, deskew, 1, y);
+    push_gained(team, deskew, 2, z);
+    let most = x.max(y).max(z);
+    end_if_short(deskew, 0, x < most);
+    end_if_short(deskew, 1, y < most);
+    end_if_short(deskew, 2, z < most);
+    deskew.settle().is_some()
+}
+
+/// A team in memory of its own: it is too large to be moved about.
+#[inline(never)]
+fn open_team(alloc: Global) -> Result<Box<Team>, NoMemory>
+    ensures { IfOk result (λ team. AreFresh team.value) }
+{
+    Ok(Box::new(alloc, Team::open())?)
+}
+
+/// A deskew in memory of its own.
+#[inline(never)]
+fn open_deskew(alloc: Global) -> Result<Box<Deskew>, NoMemory>
+    ensures stands { IfOk result (λ deskew. StandsFor deskew.value no_past) }
+    ensures found { IfOk result (λ deskew. deskew.value.found ≡ None) }
+{
+    Ok(Box::new(alloc, Deskew::open(alloc)?)?)
 }
 
 /// Pushes the characters that a feed of so many bits of a lane made whole.

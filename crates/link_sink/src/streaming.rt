@@ -1,9 +1,10 @@
 //! What three lanes say whose bits come feed after feed, in a memory of one size.
-ghost use Rattle.std.specs.Prelude.{◌≡◌, ◌<◌, ◌+◌, ◌^◌, List, length, true, IfOk, OnOk, OnErr, slice_index};
+ghost use Rattle.std.specs.Prelude.{◌≡◌, ◌<◌, ◌+◌, ◌^◌, List, length, true, IfOk, OnOk, OnErr, slice_index, false, []};
 ghost use Rattle.outside_io.specs.Causes.{HasCause};
 ghost use Rattle.lane_align.specs.Aligners.{fed_of};
 ghost use Rattle.lane_deskew.specs.Pushed.{ready_of};
 ghost use Rattle.period_grammar.specs.Things.{Thing};
+ghost use Rattle.period_grammar.specs.Stands.{StandsFor as IsHearingOf};
 ghost use Rattle.link_sink.specs.Ears.{StopsIn};
 ghost use Rattle.link_sink.specs.Sinks.{Fed, grown, IsGain, IsLast};
 ghost use Rattle.link_sink.specs.Pieces.{no_bits};
@@ -20,13 +21,14 @@ use lane_team::Gate;
 use outside_io::{Failed, NoMemory};
 use period_grammar::Hearing;
 use std::alloc::Global;
+use std::marker::Model;
 use std::thread::Threads;
 
 /// Receives three lanes, hears their columns, and keeps what it would answer if they ended.
 #[derive(Drop)]
 pub struct Stream {
     receiver: Receiver,
-    hearing: Hearing,
+    hearing: Box<Hearing>,
     outcome: Outcome,
 }
 
@@ -36,6 +38,14 @@ const NOTHING: Outcome = Outcome {
     columns: 0,
 };
 
+impl Model for Stream {
+    ghost use Rattle.link_sink.specs.Seen as seen;
+
+    ghost Value = { seen.Stream };
+
+    ghost view = { λ s. record { receiver = s.receiver; hearing = s.hearing.value; outcome = s.outcome } };
+}
+
 impl Stream {
     /// A stream of no bits, with all memory that it ever has.
     pub fn open(alloc: Global) -> Result<Stream, NoMemory>
@@ -43,9 +53,10 @@ impl Stream {
         ensures bits { IfOk result (λ s. longest s.receiver.team ≡ 0) }
     {
         let receiver = Receiver::open(alloc)?;
+        let hearing = open_hearing(alloc)?;
         Ok(Stream {
             receiver,
-            hearing: Hearing::open(),
+            hearing,
             outcome: NOTHING,
         })
     }
@@ -86,26 +97,12 @@ impl Stream {
         ensures cause { HasCause (E.faults ear.old) (E.faults ear.new) result }
     {
         self.outcome.aligned = self.receiver.feed(rt, a, b, c, bits, gate);
-        self.hear(ear)
-    }
-
-    /// Hears the columns that came, and tells the ear what they say.
-    fn hear<E: Ear>(&mut self, ear: &mut E) -> Result<(), Failed>
-        requires { (before now : Fed) × IsBehind self.old before now }
-        ensures heard { (before now : Fed) → IsBehind self.old before now → OnOk result (IsHeard self.new now) }
-        ensures told { (before now : Fed) → IsBehind self.old before now
-            → OnOk result ((things : List Thing) × IsGain before now things × E.took ear.old ear.new things) }
-        ensures stopped { (before now : Fed) → IsBehind self.old before now
-            → OnErr result ((things : List Thing) × IsGain before now things × StopsIn E.took E.broke ear.old ear.new things) }
-        ensures team { self.new.receiver.team ≡ self.old.receiver.team }
-        ensures cause { HasCause (E.faults ear.old) (E.faults ear.new) result }
-    {
-        let ColumnsRef { a, b, c } = self.receiver.columns();
-        let count = a.len();
-        hear_slices(a, b, c, &mut self.hearing, ear)?;
-        self.receiver.consume(count);
-        self.outcome.columns += count as u32;
-        Ok(())
+        hear_parts(
+            &mut self.receiver,
+            &mut self.hearing,
+            &mut self.outcome,
+            ear,
+        )
     }
 
     /// Tells the ear what the end of the lanes tells.
@@ -123,4 +120,38 @@ impl Stream {
         hear_end(&mut self.hearing, ear)?;
         Ok(self.outcome)
     }
+}
+
+/// Hears the columns that came, and tells the ear what they say.
+fn hear_parts<E: Ear>(
+    receiver: &mut Receiver,
+    hearing: &mut Hearing,
+    outcome: &mut Outcome,
+    ear: &mut E,
+) -> Result<(), Failed>
+    requires { (before now : Fed) × IsBehind (record { receiver = receiver.old; hearing = hearing.old; outcome = outcome.old }) before now }
+    ensures heard { (before now : Fed) → IsBehind (record { receiver = receiver.old; hearing = hearing.old; outcome = outcome.old }) before now
+        → OnOk result (IsHeard (record { receiver = receiver.new; hearing = hearing.new; outcome = outcome.new }) now) }
+    ensures told { (before now : Fed) → IsBehind (record { receiver = receiver.old; hearing = hearing.old; outcome = outcome.old }) before now
+        → OnOk result ((things : List Thing) × IsGain before now things × E.took ear.old ear.new things) }
+    ensures stopped { (before now : Fed) → IsBehind (record { receiver = receiver.old; hearing = hearing.old; outcome = outcome.old }) before now
+        → OnErr result ((things : List Thing) × IsGain before now things × StopsIn E.took E.broke ear.old ear.new things) }
+    ensures team { receiver.new.team ≡ receiver.old.team }
+    ensures cause { HasCause (E.faults ear.old) (E.faults ear.new) result }
+{
+    let ColumnsRef { a, b, c } = receiver.columns();
+    let count = a.len();
+    hear_slices(a, b, c, hearing, ear)?;
+    receiver.consume(count);
+    outcome.columns += count as u32;
+    Ok(())
+}
+
+/// A hearing in memory of its own: it is too large to be moved about.
+#[inline(never)]
+fn open_hearing(alloc: Global) -> Result<Box<Hearing>, NoMemory>
+    ensures open { IfOk result (λ h. h.value.finished ≡ false) }
+    ensures heard { IfOk result (λ h. IsHearingOf h.value []) }
+{
+    Ok(Box::new(alloc, Hearing::open())?)
 }
