@@ -19,7 +19,8 @@ const ROOM: usize = 4160;
 /// What a worker goes through before it searches its lane.
 pub trait Gate: Sync {
     /// Called once by the worker of a lane, in each feed.
-    fn pass(&self, lane: u8);
+    fn pass(&self, lane: u8)
+        requires { lane < 3 };
 }
 
 /// A gate that does nothing.

@@ -1,5 +1,5 @@
 //! The judge of one lane of a video period.
-ghost use Rattle.std.specs.Prelude.{◌≡◌, ℕ, ◌+◌, ◌<◌, ◌≤◌, ◌↔◌, ◌++◌, ◌∷◌, [], List, length, IsTrue, IfSome, is_some, true, pos, neg_ℤ, ◌≤ℤ◌};
+ghost use Rattle.std.specs.Prelude.{◌≡◌, ℕ, ◌+◌, ◌*◌, ◌<◌, ◌≤◌, ◌↔◌, ◌++◌, ◌∷◌, [], List, length, IsTrue, IfSome, is_some, true, pos, neg_ℤ, ◌-ℤ◌, ◌≤ℤ◌};
 ghost use Rattle.tmds_word.specs.Bits.{word_bits, balance};
 ghost use Rattle.tmds_code.specs.Coding.{Coded, decoded_byte};
 ghost use Rattle.tmds_code.specs.Pasts.{IsJudgeAfter};
@@ -60,9 +60,11 @@ impl CodeJudge {
         (byte, right)
     }
 
-    /// The balance behind the characters heard before; not right where no rightly coded lane has their disparity.
+    /// The balance behind the characters heard before: not right exactly where no rightly coded lane has their disparity, which
+    /// is even and from -8 to 8.
     pub fn balance(&self) -> Balance
-        ensures { IfSome (disparity_at result) (λ d. d ≡ self.now.disparity) }
+        ensures value { IfSome (disparity_at result) (λ d. d ≡ self.now.disparity) }
+        ensures step { (k : ℕ) → k ≤ 8 → self.now.disparity ≡ pos (2 * k) -ℤ pos 8 → result ≡ k }
     {
         Balance::at(self.disparity)
     }
