@@ -3,35 +3,37 @@
 ghost use Rattle.std.specs.Prelude.{ℕ, ◌≡◌, ◌<◌, ◌≤◌, ◌+◌, ◌*◌, ◌%◌, ◌↔◌, ◌^◌, IsTrue, MatchOption};
 ghost use Rattle.lane_align.specs.Lanes.{HasControl, IsRun, IsLock, IsEdge, IsNextEdge};
 
-use crate::{RUN, ends_run, with_answer};
+use crate::RUN;
 use terc4::control_of;
 use tmds_word::BitRow;
 
-/// From the first word of a run to its last, in bits.
-const SPAN: u32 = 10 * (RUN - 1);
+/// From the first bit of a run to its last.
+const SPAN: u32 = 10 * RUN - 1;
 
 /// The lock: the least place with control words as windows at it and at the eleven places ten bits
-/// apart after it. None exactly where the row has no such place. Looks once at each place.
+/// apart after it. None exactly where the row has no such place. Looks at each place.
 pub(crate) fn find_lock(row: &BitRow) -> Option<u32>
     ensures { MatchOption result ((p : ℕ) → IsRun row.now p → ⊥) (λ p. IsLock row.now p) }
 {
-    find_lock_from(row, 0)
-}
-
-/// The lock of a row of whose places before `from` none is a run's. None exactly where the row has no
-/// run. Looks once at each place from `from` on.
-fn find_lock_from(row: &BitRow, from: u32) -> Option<u32>
-    requires { (p : ℕ) → p < from → IsRun row.now p → ⊥ }
-    ensures { MatchOption result ((p : ℕ) → IsRun row.now p → ⊥) (λ p. IsLock row.now p) }
-{
-    let mut recent = 0;
-    for p in from..row.len().saturating_sub(9) {
-        recent = with_answer(recent, has_control(row, p));
-        if p - from >= SPAN && ends_run(recent) {
-            return Some(p - SPAN);
+    for p in 0..row.len().saturating_sub(SPAN) {
+        if begins_run(row, p) {
+            return Some(p);
         }
     }
     None
+}
+
+/// Whether a run begins at a place.
+fn begins_run(row: &BitRow, p: u32) -> bool
+    requires { p + 110 < 2 ^ 32 }
+    ensures { IsTrue result ↔ IsRun row.now p }
+{
+    for k in 0..RUN {
+        if !has_control(row, p + 10 * k) {
+            return false;
+        }
+    }
+    true
 }
 
 /// The least edge at or after `from`, in bits from the row's beginning, where `lock` is the row's

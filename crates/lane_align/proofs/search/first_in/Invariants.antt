@@ -1,0 +1,7 @@
+use Rattle.std.proofs.Common.{ℕ}
+use Rattle.tmds_word.specs.Bits.{bytes_bits}
+use Rattle.lane_align.specs.Search.{IsOther}
+use Rattle.lane_align.proofs.search.first_in.Given as goal
+
+abbrev pub invariant-loop-p : goal.invariant-loop-p
+invariant-loop-p l = (q : ℕ) → IsOther (bytes_bits l.bytes) l.from l.p l.phase q → ⊥

@@ -1,0 +1,162 @@
+//! The search for runs of twelve control words in packed bytes: a quick test of eighty places at a time, and place by
+//! place where it finds something.
+ghost use Rattle.std.specs.Prelude.{◌≡◌, ◌<◌, ◌≤◌, ◌+◌, ◌*◌, ◌/◌, ◌%◌, ◌^◌, ◌↔◌, ℕ, true, false, IsTrue, length, MatchOption, slice_index, take, drop};
+ghost use Rattle.tmds_word.specs.Bits.{bit, bytes_bits, number};
+ghost use Rattle.terc4.specs.Tables.{is_control};
+ghost use Rattle.lane_align.specs.Lanes.{HasControl, IsRun};
+ghost use Rattle.lane_align.specs.Search.{control_at, IsOther, IsFirstOther};
+
+use crate::{RUN, is_control_word};
+
+/// How many places the quick test sees.
+const STEP: u32 = 80;
+
+/// The ten lowest bits but one, by that one; all of them at place 10.
+static OTHERS: [u64; 11] = [
+    0x3fe, 0x3fd, 0x3fb, 0x3f7, 0x3ef, 0x3df, 0x3bf, 0x37f, 0x2ff, 0x1ff, 0x3ff,
+];
+
+/// The least place from `from` on and before `until` at which a run begins that lies no whole characters from a phase;
+/// phase 10 is none, so that no place is left out. All bits of a run that begins before `until` are to be there.
+pub fn first_run(bytes: &[u8], from: u32, until: u32, phase: u32) -> Option<u32>
+    requires phase { phase ≤ 10 }
+    requires room { from < until → until + 119 ≤ 8 * length bytes.now }
+    requires small { until < 2 ^ 31 }
+    ensures { MatchOption result ((p : ℕ) → IsOther (bytes_bits bytes.now) from until phase p → ⊥) (λ p. IsFirstOther (bytes_bits bytes.now) from until phase p) }
+{
+    let mut p = from;
+    while p < until {
+        let at = p.div_ceil(STEP);
+        let end = (STEP * at + 1).min(until);
+        if may_begin(eight_from(bytes, 10 * at as usize), phase) {
+            if let Some(found) = first_in(bytes, p, end, phase) {
+                return Some(found);
+            }
+        }
+        p = end;
+    }
+    None
+}
+
+/// Whether three control words in a row begin at one of the ten lowest places that are no whole characters from a phase.
+/// It may say so where none do.
+fn may_begin(bits: u64, phase: u32) -> bool
+    requires { phase ≤ 10 }
+    ensures { result ≡ false → (k : ℕ) → k < 10 → (k ≡ phase → ⊥) → control_at bits k ≡ true → control_at bits (k + 10) ≡ true → control_at bits (k + 20) ≡ true → ⊥ }
+{
+    let controls = control_places(bits);
+    controls & (controls >> 10) & (controls >> 20) & others(phase) != 0
+}
+
+/// The ten lowest bits but one.
+fn others(phase: u32) -> u64
+    requires { phase ≤ 10 }
+    ensures { result ≡ slice_index OTHERS phase }
+{
+    OTHERS[phase as usize]
+}
+
+/// At which of the 56 lowest places control words begin: a control word is a bit that is like the next one, and then
+/// seven transitions.
+fn control_places(bits: u64) -> u64
+    ensures { (k : ℕ) → k < 55 → bit result k ≡ control_at bits k }
+{
+    let turns = bits ^ (bits >> 1);
+    let twos = turns & (turns >> 1);
+    let fours = twos & (twos >> 2);
+    let sevens = fours & (fours >> 3);
+    let behind = sevens >> 1;
+    behind & (behind ^ turns)
+}
+
+/// The least place of a stretch at which a run begins that lies no whole characters from a phase, place by place.
+#[cold]
+fn first_in(bytes: &[u8], from: u32, until: u32, phase: u32) -> Option<u32>
+    requires room { from < until → until + 119 ≤ 8 * length bytes.now }
+    requires small { until < 2 ^ 31 }
+    ensures { MatchOption result ((p : ℕ) → IsOther (bytes_bits bytes.now) from until phase p → ⊥) (λ p. IsFirstOther (bytes_bits bytes.now) from until phase p) }
+{
+    for p in from..until {
+        if p % 10 != phase && begins_run(bytes, p) {
+            return Some(p);
+        }
+    }
+    None
+}
+
+/// Whether a run begins at a place.
+fn begins_run(bytes: &[u8], p: u32) -> bool
+    requires room { p + 120 ≤ 8 * length bytes.now }
+    requires small { p < 2 ^ 31 }
+    ensures { IsTrue result ↔ IsRun (bytes_bits bytes.now) p }
+{
+    for k in 0..RUN {
+        if !has_control(bytes, p + 10 * k) {
+            return false;
+        }
+    }
+    true
+}
+
+/// Whether the window at a place is a control word.
+fn has_control(bytes: &[u8], p: u32) -> bool
+    requires room { p + 10 ≤ 8 * length bytes.now }
+    ensures { IsTrue result ↔ HasControl (bytes_bits bytes.now) p }
+{
+    is_control_word(window_at(bytes, p))
+}
+
+/// The character at a place.
+pub(crate) fn window_at(bytes: &[u8], p: u32) -> u16
+    requires room { p + 10 ≤ 8 * length bytes.now }
+    ensures { result ≡ number (take 10 (drop p (bytes_bits bytes.now))) }
+{
+    ((eight_from(bytes, p as usize / 8) >> (p % 8)) & 0x3ff) as u16
+}
+
+/// Eight bytes from a place on as a number, the first lowest; zeros are read behind the last one.
+#[inline(always)]
+fn eight_from(bytes: &[u8], at: usize) -> u64
+    requires { at ≤ length bytes.now }
+    ensures { result ≡ (number (bytes_bits bytes.now) / 2 ^ (8 * at)) % 2 ^ 64 }
+{
+    if bytes.len() - at >= 8 {
+        eight_bytes(bytes, at)
+    } else {
+        last_bytes(bytes, at)
+    }
+}
+
+/// The last bytes from a place on as a number, the first lowest, where they are fewer than eight.
+#[cold]
+fn last_bytes(bytes: &[u8], at: usize) -> u64
+    requires place { at ≤ length bytes.now }
+    requires few { length bytes.now < at + 8 }
+    ensures { result ≡ (number (bytes_bits bytes.now) / 2 ^ (8 * at)) % 2 ^ 64 }
+{
+    let mut value = 0;
+    let mut i = bytes.len();
+    while i > at {
+        i -= 1;
+        value = (value << 8) | u64::from(bytes[i]);
+    }
+    value
+}
+
+/// Eight bytes from a place on as a number, the first lowest.
+#[inline(always)]
+pub(crate) fn eight_bytes(bytes: &[u8], at: usize) -> u64
+    requires { at + 8 ≤ length bytes.now }
+    ensures { result ≡ (number (bytes_bits bytes.now) / 2 ^ (8 * at)) % 2 ^ 64 }
+{
+    u64::from_le_bytes([
+        bytes[at],
+        bytes[at + 1],
+        bytes[at + 2],
+        bytes[at + 3],
+        bytes[at + 4],
+        bytes[at + 5],
+        bytes[at + 6],
+        bytes[at + 7],
+    ])
+}

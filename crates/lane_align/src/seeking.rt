@@ -1,0 +1,143 @@
+//! The search for the lock while bits come: for the first run of control words that ends within them.
+ghost use Rattle.std.specs.Prelude.{ℕ, ◌≡◌, ◌<◌, ◌≤◌, ◌+◌, ◌-◌, ◌*◌, ◌/◌, ◌%◌, ◌^◌, ◌++◌, ⊤, List, Bool, MatchOption, None, min, length, take, drop, get_or};
+ghost use Rattle.tmds_word.specs.Bits.{bytes_bits};
+ghost use Rattle.tmds_word.specs.Words.{words_of};
+ghost use Rattle.lane_align.specs.Lanes.{IsRun};
+ghost use Rattle.lane_align.specs.Words.{AreWords};
+ghost use Rattle.lane_align.specs.Aligners.{StandsFor, EndsFirst};
+
+use crate::aligner::KEPT;
+use crate::search::{first_run, window_at};
+use crate::{LaneAligner, RUN};
+
+/// The phase at which the search leaves out no place.
+const ANY: u32 = 10;
+
+/// From the first bit of a run to its last.
+const SPAN: u32 = 119;
+
+/// As many bytes of a piece as a run may reach into that began before it.
+const REACH: usize = 16;
+
+impl LaneAligner {
+    /// Looks for the first run that ends within the bits, and writes its characters. Answers how many of the bits came up
+    /// to its end; None where there is none.
+    pub(crate) fn seek(&self, bytes: &[u8], bits: u32, row: &mut [u16]) -> Option<u32>
+        requires seeks { self.now.lock ≡ None }
+        requires whole { self.now.fed % 8 ≡ 0 }
+        requires bits { bits ≤ 32768 }
+        requires bytes { length bytes.now ≡ (bits + 7) / 8 }
+        requires row { 12 ≤ length row.old }
+        ensures length { length row.new ≡ length row.old }
+        ensures within { MatchOption result ⊤ (λ used. (used ≤ bits) × (120 ≤ self.now.fed + used) × AreWords (take 12 row.new)) }
+        ensures found { (xs : List Bool) → StandsFor self.now xs → MatchOption result ((p : ℕ) → IsRun (xs ++ take bits (bytes_bits bytes.now)) p → ⊥)
+            (λ used. EndsFirst (xs ++ take bits (bytes_bits bytes.now)) (length xs + used) (take 12 row.new)) }
+    {
+        match self.begun_run(bytes, bits, row) {
+            Some(used) => Some(used),
+            None => whole_run(bytes, bits, row),
+        }
+    }
+
+    /// Looks for the first run that began before the bits and ends within them, and writes its characters. Answers how
+    /// many of the bits came up to its end.
+    fn begun_run(&self, bytes: &[u8], bits: u32, row: &mut [u16]) -> Option<u32>
+        requires seeks { self.now.lock ≡ None }
+        requires whole { self.now.fed % 8 ≡ 0 }
+        requires bits { bits ≤ 32768 }
+        requires bytes { length bytes.now ≡ (bits + 7) / 8 }
+        requires row { 12 ≤ length row.old }
+        ensures length { length row.new ≡ length row.old }
+        ensures within { MatchOption result ⊤ (λ used. (used ≤ bits) × (120 ≤ self.now.fed + used) × AreWords (take 12 row.new)) }
+        ensures found { (xs : List Bool) → StandsFor self.now xs → MatchOption result ((p : ℕ) → p < length xs → IsRun (xs ++ take bits (bytes_bits bytes.now)) p → ⊥)
+            (λ used. EndsFirst (xs ++ take bits (bytes_bits bytes.now)) (length xs + used) (take 12 row.new)) }
+    {
+        let kept = (self.fed / 8).min(KEPT as u64) as usize;
+        let had = 8 * kept as u32;
+        let joined = joined(&self.kept, bytes);
+        let view = &joined[KEPT - kept..];
+        let until = had.min((had + bits.min(128)).saturating_sub(SPAN));
+        match first_run(view, had.saturating_sub(SPAN), until, ANY) {
+            Some(place) => {
+                write_run(view, place, row);
+                Some(place + SPAN + 1 - had)
+            }
+            None => None,
+        }
+    }
+
+    /// Keeps the last bytes, after these came.
+    pub(crate) fn keep(&mut self, bytes: &[u8], bits: u32)
+        requires fed { self.old.fed + bits < 2 ^ 63 }
+        ensures fed { self.new.fed ≡ self.old.fed + bits }
+        ensures lock { self.new.lock ≡ self.old.lock }
+        ensures kept { self.new.kept ≡ drop (length bytes.now) (self.old.kept ++ bytes.now) }
+        ensures rest { self.new.rest ≡ self.old.rest }
+        ensures held { self.new.held ≡ self.old.held }
+    {
+        self.kept = last_of(&self.kept, bytes);
+        self.fed += u64::from(bits);
+    }
+}
+
+/// Looks for the first run of the bits, and writes its characters. Answers how many of the bits came up to its end.
+fn whole_run(bytes: &[u8], bits: u32, row: &mut [u16]) -> Option<u32>
+    requires bits { bits ≤ 32768 }
+    requires bytes { length bytes.now ≡ (bits + 7) / 8 }
+    requires row { 12 ≤ length row.old }
+    ensures length { length row.new ≡ length row.old }
+    ensures found { MatchOption result ((p : ℕ) → IsRun (take bits (bytes_bits bytes.now)) p → ⊥)
+        (λ used. (used ≤ bits) × (120 ≤ used) × AreWords (take 12 row.new) × EndsFirst (take bits (bytes_bits bytes.now)) used (take 12 row.new)) }
+{
+    match first_run(bytes, 0, bits.saturating_sub(SPAN), ANY) {
+        Some(place) => {
+            write_run(bytes, place, row);
+            Some(place + SPAN + 1)
+        }
+        None => None,
+    }
+}
+
+/// Writes the twelve characters from a place on.
+fn write_run(bytes: &[u8], place: u32, row: &mut [u16])
+    requires row { 12 ≤ length row.old }
+    requires room { place + 120 ≤ 8 * length bytes.now }
+    requires small { place < 2 ^ 31 }
+    ensures row { take 12 row.new ≡ words_of 12 (drop place (bytes_bits bytes.now)) }
+    ensures words { AreWords (take 12 row.new) }
+    ensures length { length row.new ≡ length row.old }
+{
+    for k in 0..RUN {
+        row[k as usize] = window_at(bytes, place + 10 * k);
+    }
+}
+
+/// The bytes that are kept and the first of a piece behind them.
+fn joined(kept: &[u8; KEPT], bytes: &[u8]) -> [u8; KEPT + REACH]
+    ensures { take (16 + min (length bytes.now) 16) result ≡ take (16 + min (length bytes.now) 16) (kept.now ++ bytes.now) }
+{
+    let mut joined = [0; KEPT + REACH];
+    for i in 0..KEPT + bytes.len().min(REACH) {
+        joined[i] = byte_at(kept, bytes, i);
+    }
+    joined
+}
+
+/// The last of the bytes that are kept with a piece behind them, as many as are kept.
+fn last_of(kept: &[u8; KEPT], bytes: &[u8]) -> [u8; KEPT]
+    ensures { result ≡ drop (length bytes.now) (kept.now ++ bytes.now) }
+{
+    let mut last = [0; KEPT];
+    for i in 0..KEPT {
+        last[i] = byte_at(kept, bytes, bytes.len() + i);
+    }
+    last
+}
+
+/// A byte of the bytes that are kept with a piece behind them.
+fn byte_at(kept: &[u8; KEPT], bytes: &[u8], i: usize) -> u8
+    requires { i < 16 + length bytes.now }
+    ensures { result ≡ get_or (kept.now ++ bytes.now) i 0 }
+{
+    if i < KEPT { kept[i] } else { bytes[i - KEPT] }
+}
