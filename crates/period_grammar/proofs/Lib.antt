@@ -9,6 +9,7 @@ pub mod Blocks
 pub mod Hearings
 pub mod Going
 pub mod Noting
+pub mod FewWords
 pub mod Joined
 pub mod Sizes
 pub mod Pixels
@@ -16,3 +17,5 @@ pub mod Balanced
 pub mod Many
 pub mod Groups
 pub mod Alike
+pub mod Pushed
+pub mod LinkOne

@@ -5,7 +5,7 @@ use Rattle.std.proofs.lemmas.List.{length_push, take_all, take-append-le, append
 use Rattle.std.proofs.lemmas.Bool.{lt-leb, le-leb}
 use Rattle.tmds_word.specs.Column.{Column}
 use Rattle.period_grammar.specs.Things.{Thing, line, long_line}
-use Rattle.period_grammar.specs.Heard.{line_bytes, pixel, line_of, codes_of, code_fault, if_not}
+use Rattle.period_grammar.specs.Heard.{line_bytes, pixel, line_of, line_at, codes_of, code_fault, if_not}
 use Rattle.period_grammar.specs.Noted.{things, noted, Lent, lent}
 use Rattle.period_grammar.specs.declared.notes.Note.{Note}
 use Rattle.period_grammar.specs.declared.island.Whole.{Whole}
@@ -16,14 +16,19 @@ use Rattle.period_grammar.specs.declared.lane.Lane.{Lane}
 use Rattle.period_grammar.specs.LineSeen.{LineSeen}
 use Rattle.period_grammar.specs.Lines.{IsLineAfter}
 
-abbrev pub lined : LineSeen → ℕ → List Thing
-lined l start =
-    line l.bytes ∷ ((code_fault 0 (start + 2) l.blue.first ++ (code_fault 1 (start + 2) l.green.first ++ code_fault 2 (start + 2) l.red.first)) ++ if_not (nat_le l.count 4096) (long_line start))
+abbrev pub lined : LineSeen → ℕ → ℕ → List Thing
+lined l start from =
+    line l.bytes ∷ ((code_fault 0 from l.blue.first ++ (code_fault 1 from l.green.first ++ code_fault 2 from l.red.first)) ++ if_not (nat_le l.count 4096) (long_line start))
 
-pub line_is : (l : LineSeen) (start : ℕ) (pixels : List Column) → IsLineAfter l pixels → 0 < l.count → line_of start pixels ≡ lined l start
-unfolding line_of codes_of
-line_is l start [] was pos = absurd (omega (arith, was.count))
-line_is l start (c ∷ cs) was pos = rw (was.bytes, was.blue.first, was.green.first, was.red.first, was.count) refl
+line_is : (l : LineSeen) (start from : ℕ) (pixels : List Column) → IsLineAfter l pixels → line_at start from pixels ≡ lined l start from
+unfolding codes_of
+line_is l start from pixels was = rw (was.bytes, was.blue.first, was.green.first, was.red.first, was.count) refl
+
+-- behind two guard columns
+pub line_behind : (l : LineSeen) (start : ℕ) (pixels : List Column) → IsLineAfter l pixels → 0 < l.count → line_of start pixels ≡ line_at start (start + 2) pixels
+unfolding line_of
+line_behind l start [] was pos = absurd (omega (arith, was.count))
+line_behind l start (c ∷ cs) was pos = refl
 
 pub line_bytes_push : (cs : List Column) (c : Column) → line_bytes (cs ++ c ∷ []) ≡ line_bytes cs ++ pixel c
 unfolding line_bytes
@@ -104,23 +109,31 @@ line_none l whole start [] [] now h none room e = ap (things (lent l.bytes whole
 line_none l whole start [] (n ∷ was) now h none room e = absurd (omega arith)
 line_none l whole start (c ∷ cs) was now h none room e = absurd (omega (arith, h.count))
 
-pub noted_line : (l : LineSeen) (whole : Whole) (start : ℕ) (pixels : List Column) (n0 n1 n2 n3 n4 n5 : List Note) → IsLineAfter l pixels → 0 < l.count → length n0 ≤ 0
+pub noted_pixels : (l : LineSeen) (whole : Whole) (start from : ℕ) (pixels : List Column) (n0 n1 n2 n3 n4 n5 : List Note) → IsLineAfter l pixels
     → n1 ≡ n0 ++ Line ∷ []
-    → ((bytes : Lent) → things bytes n2 ≡ things bytes n1 ++ code_fault 0 (start + 2) l.blue.first)
-    → ((bytes : Lent) → things bytes n3 ≡ things bytes n2 ++ code_fault 1 (start + 2) l.green.first)
-    → ((bytes : Lent) → things bytes n4 ≡ things bytes n3 ++ code_fault 2 (start + 2) l.red.first)
+    → ((bytes : Lent) → things bytes n2 ≡ things bytes n1 ++ code_fault 0 from l.blue.first)
+    → ((bytes : Lent) → things bytes n3 ≡ things bytes n2 ++ code_fault 1 from l.green.first)
+    → ((bytes : Lent) → things bytes n4 ≡ things bytes n3 ++ code_fault 2 from l.red.first)
     → things (lent l.bytes whole) n5 ≡ things (lent l.bytes whole) n4 ++ if_not (nat_le l.count 4096) (long_line start)
-    → things (lent l.bytes whole) n5 ≡ line_of start pixels
-noted_line l whole start pixels (n ∷ n0) n1 n2 n3 n4 n5 was pos room a b c d e = absurd (omega arith)
-noted_line l whole start pixels [] n1 n2 n3 n4 n5 was pos room a b c d e =
+    → things (lent l.bytes whole) n5 ≡ things (lent l.bytes whole) n0 ++ line_at start from pixels
+noted_pixels l whole start from pixels n0 n1 n2 n3 n4 n5 was a b c d e =
     let m = lent l.bytes whole in
-    e
-    ∙ ap (λ ts. ts ++ if_not (nat_le l.count 4096) (long_line start))
-    (d m ∙ ap (λ ts. ts ++ code_fault 2 (start + 2) l.red.first)
-    (c m ∙ ap (λ ts. ts ++ code_fault 1 (start + 2) l.green.first)
-    (b m ∙ ap (λ ts. ts ++ code_fault 0 (start + 2) l.blue.first) (ap (things m) a)))
-    ∙ ap (λ ts. line l.bytes ∷ ts) (append_assoc (code_fault 0 (start + 2) l.blue.first) (code_fault 1 (start + 2) l.green.first) (code_fault 2 (start + 2) l.red.first)))
-    ∙ sym (line_is l start pixels was pos)
+    let more = if_not (nat_le l.count 4096) (long_line start) in
+    let first : things m n1 ≡ things m n0 ++ line l.bytes ∷ [] = ap (things m) a ∙ map-append (noted m) n0 (Line ∷ []) in
+    let codes : things m n4 ≡ ((things m n0 ++ line l.bytes ∷ []) ++ code_fault 0 from l.blue.first) ++ (code_fault 1 from l.green.first ++ code_fault 2 from l.red.first) =
+    d m ∙ ap (λ ts. ts ++ code_fault 2 from l.red.first)
+    (c m ∙ ap (λ ts. ts ++ code_fault 1 from l.green.first) (b m ∙ ap (λ ts. ts ++ code_fault 0 from l.blue.first) first))
+    ∙ append_assoc ((things m n0 ++ line l.bytes ∷ []) ++ code_fault 0 from l.blue.first) (code_fault 1 from l.green.first) (code_fault 2 from l.red.first) in
+    e ∙ ap (λ ts. ts ++ more) codes
+    ∙ joined (things m n0) (line l.bytes) (code_fault 0 from l.blue.first) (code_fault 1 from l.green.first ++ code_fault 2 from l.red.first) more
+    ∙ ap (λ ts. things m n0 ++ ts) (sym (line_is l start from pixels was))
+  where
+    joined : (ts : List Thing) (t : Thing) (us vs ws : List Thing) → (((ts ++ t ∷ []) ++ us) ++ vs) ++ ws ≡ ts ++ (t ∷ ((us ++ vs) ++ ws))
+    joined ts t us vs ws = simp append_assoc
+
+pub none_before : (m : Lent) (was : List Note) → length was ≤ 0 → things m was ≡ []
+none_before m [] room = refl
+none_before m (n ∷ was) room = absurd (omega arith)
 
 pub more_than : (bytes : Lent) (was now : List Note) (count start : ℕ) → 4096 < count → now ≡ was ++ FaultNoted (LongLine start) ∷ []
     → things bytes now ≡ things bytes was ++ if_not (nat_le count 4096) (long_line start)

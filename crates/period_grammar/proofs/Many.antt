@@ -49,7 +49,7 @@ again_more kept n = λ i. record { columns = one kept.columns i; value = kept.va
     one : (m : ℕ) → (m + 1) + n ≡ m + suc n
     one m = omega arith
 
-again_one : (kept : Kept) (control : List Column) (c : Column) → kept.value ≡ value_of c → IsControlAfter kept control → IsControlAfter (again kept 1) (control ++ c ∷ [])
+pub again_one : (kept : Kept) (control : List Column) (c : Column) → kept.value ≡ value_of c → IsControlAfter kept control → IsControlAfter (again kept 1) (control ++ c ∷ [])
 again_one kept control c e was = kept_push kept (again kept 1) control c was refl e (run_on _ _ _ _ _ refl e refl) (run_on _ _ _ _ _ refl (ap ctl e) refl)
 
 -- what is kept of columns of the last run's value
@@ -62,7 +62,7 @@ kept_many kept control (c ∷ cs) all was =
     subst (λ (k : Kept). IsControlAfter k (control ++ c ∷ cs)) (again_more kept (length cs))
     (subst (λ (ds : List Column). IsControlAfter (again (again kept 1) (length cs)) ds) (append_assoc control (c ∷ []) cs) rest)
 
-whole_of : (kept : Kept) (c : Column) → goes_kept kept c ≡ true → IsWhole kept.value c
+pub whole_of : (kept : Kept) (c : Column) → goes_kept kept c ≡ true → IsWhole kept.value c
 whole_of kept c e = whole_is kept.value c (both (not (kept.run == 0)) (is_whole kept.value c) e).1
 
 same_goes : (kept : Kept) (c d : Column) → goes_kept kept c ≡ true → goes_kept (again kept 1) d ≡ goes_kept kept d
@@ -77,7 +77,7 @@ module _ (kept : Kept) (control cs : List Column) (c : Column) (at : last (stret
   run_goes : goes_on (last (stretches cs)) c ≡ goes_kept kept c
   run_goes = ap (λ x. goes_on x c) at ∙ sym (goes_run (runs control) kept.value kept.run was.run c)
 
-  run_last : IsWhole kept.value c → last (stretches (cs ++ c ∷ [])) ≡ stretch (control ++ c ∷ []) []
+  pub run_last : IsWhole kept.value c → last (stretches (cs ++ c ∷ [])) ≡ stretch (control ++ c ∷ []) []
   run_last whole = last_push_stretch cs c ∙ ap₂ (λ p x. grown p c x) (is_column kept.value c whole) at
 
   run_told : IsWhole kept.value c → heard_so_far (cs ++ c ∷ []) ≡ heard_so_far cs
@@ -132,7 +132,7 @@ module _ (control cs : List Column) (g h c : Column) (rest : List Column) (at : 
       told_other cs c (length cs) [] refl e (ap (λ k. payload_gain (start_of cs) k c rest) (sym opens) ∙ ap (gains false (start_of cs) (length cs) c) (sym at))
       ∙ append-nil (heard_so_far cs)
 
-no_control : (c : Column) → is_pixel c ≡ true → is_control_column c ≡ false
+pub no_control : (c : Column) → is_pixel c ≡ true → is_control_column c ≡ false
 unfolding is_pixel
 no_control c e = by (is_control_column c) e
   where
@@ -166,7 +166,7 @@ line_heard control cs (c ∷ ds) g h rest at opens all =
 
 -- As a whole.
 
-All-then : (P Q : Column → Type 0) → ((c : Column) → P c → Q c) → (cs : List Column) → All P cs → All Q cs
+pub All-then : (P Q : Column → Type 0) → ((c : Column) → P c → Q c) → (cs : List Column) → All P cs → All Q cs
 All-then P Q f [] all = All-nil Q
 All-then P Q f (c ∷ cs) all = All-cons Q c cs (f c (All-head P c cs all)) (All-then P Q f cs (All-tail P c cs all))
 
@@ -176,10 +176,10 @@ pub record Went (new : Seen) (cs cols : List Column) (n : ℕ) : Type 0 where
   pub stands : StandsFor new (cs ++ take n cols)
   pub told : heard_so_far (cs ++ take n cols) ≡ heard_so_far cs
 
-first_long : (p : Column → Bool) (cols : List Column) (n : ℕ) → n ≡ prefix_len p cols → length (take n cols) ≡ n
+pub first_long : (p : Column → Bool) (cols : List Column) (n : ℕ) → n ≡ prefix_len p cols → length (take n cols) ≡ n
 first_long p cols n e = length-take-le n cols (omega (arith, e, prefix_len-le-length p cols))
 
-first_all : (p : Column → Bool) (cols : List Column) (n : ℕ) → n ≡ prefix_len p cols → All (λ c. p c ≡ true) (take n cols)
+pub first_all : (p : Column → Bool) (cols : List Column) (n : ℕ) → n ≡ prefix_len p cols → All (λ c. p c ≡ true) (take n cols)
 first_all p cols n e = subst (λ m. All (λ c. p c ≡ true) (take m cols)) (sym e) (prefix_all p cols)
 
 pub run_went : (old new : Seen) (cs cols : List Column) (n : ℕ) → old.phase ≡ Control → new.phase ≡ Control → new.columns ≡ old.columns + n → n ≡ prefix_len (goes_kept old.control) cols

@@ -23,35 +23,35 @@ use Rattle.period_grammar.specs.Heard.{other_word, other_words, words, ended, in
 use Rattle.period_grammar.specs.Sizes.{IsSized}
 
 -- Lists of things, one after another.
-abbrev Sized : List Thing → Type 0
+abbrev pub Sized : List Thing → Type 0
 Sized [] = Unit {0}
 Sized (t ∷ ts) = IsSized t × Sized ts
 
-abbrev TellsSized : List Told → Type 0
+abbrev pub TellsSized : List Told → Type 0
 TellsSized [] = Unit {0}
 TellsSized (t ∷ ts) = IsSized (thing_of t) × TellsSized ts
 
-all_sized : (ts : List Thing) → Sized ts → All IsSized ts
+pub all_sized : (ts : List Thing) → Sized ts → All IsSized ts
 all_sized [] h = All-nil IsSized
 all_sized (t ∷ ts) h = All-cons IsSized t ts h.0 (all_sized ts h.1)
 
-sized_append : (ts us : List Thing) → Sized ts → Sized us → Sized (ts ++ us)
+pub sized_append : (ts us : List Thing) → Sized ts → Sized us → Sized (ts ++ us)
 sized_append [] us h k = k
 sized_append (t ∷ ts) us h k = (h.0, sized_append ts us h.1 k)
 
-tells_append : (ts us : List Told) → TellsSized ts → TellsSized us → TellsSized (ts ++ us)
+pub tells_append : (ts us : List Told) → TellsSized ts → TellsSized us → TellsSized (ts ++ us)
 tells_append [] us h k = k
 tells_append (t ∷ ts) us h k = (h.0, tells_append ts us h.1 k)
 
-tells_at : (j : ℕ) (ts : List Thing) → Sized ts → TellsSized (all_at j ts)
+pub tells_at : (j : ℕ) (ts : List Thing) → Sized ts → TellsSized (all_at j ts)
 tells_at j [] h = tt
 tells_at j (t ∷ ts) h = (h.0, tells_at j ts h.1)
 
-things_sized : (ts : List Told) → TellsSized ts → Sized (map thing_of ts)
+pub things_sized : (ts : List Told) → TellsSized ts → Sized (map thing_of ts)
 things_sized [] h = tt
 things_sized (t ∷ ts) h = (h.0, things_sized ts h.1)
 
-if_not_sized : (p : Bool) (t : Thing) → IsSized t → Sized (if_not p t)
+pub if_not_sized : (p : Bool) (t : Thing) → IsSized t → Sized (if_not p t)
 if_not_sized true t h = tt
 if_not_sized false t h = (h, tt)
 
@@ -60,19 +60,19 @@ when_sized true ts h = h
 when_sized false ts h = tt
 
 -- Values and digits.
-zero_or_below : (o : Option ℕ) → IfSome o (λ v. v < 4) → unwrap_or o 0 < 4
+pub zero_or_below : (o : Option ℕ) → IfSome o (λ v. v < 4) → unwrap_or o 0 < 4
 zero_or_below None h = omega arith
 zero_or_below (Some v) h = h
 
-control_value_below : (w : ℕ) → IfSome (value_in control_words w) (λ v. v < 4)
+pub control_value_below : (w : ℕ) → IfSome (value_in control_words w) (λ v. v < 4)
 unfolding control_words
 control_value_below w = value_below control_words w
 
-control_bits_below : (w : ℕ) → control_bits w < 4
+pub control_bits_below : (w : ℕ) → control_bits w < 4
 unfolding control_bits
 control_bits_below w = zero_or_below (value_in control_words w) (control_value_below w)
 
-value_of_below : (c : Column) → value_of c < 64
+pub value_of_below : (c : Column) → value_of c < 64
 unfolding value_of
 value_of_below c = omega (arith, control_bits_below c.blue, control_bits_below c.green, control_bits_below c.red)
 
@@ -85,53 +85,53 @@ unfolding sync_values
 sync_below ws = All-map (λ digit. digit < 4) (λ n. n % 4) (nibbles_of ws 0) (λ k d lt. mod_below _ 4 (omega arith))
 
 -- Control columns.
-other_word_sized : (lane j : ℕ) (p : Bool) → Sized (other_word lane j p)
+pub other_word_sized : (lane j : ℕ) (p : Bool) → Sized (other_word lane j p)
 other_word_sized lane j true = tt
 other_word_sized lane j false = (tt, tt)
 
-other_words_sized : (j : ℕ) (c : Column) → Sized (other_words j c)
+pub other_words_sized : (j : ℕ) (c : Column) → Sized (other_words j c)
 unfolding other_words
 other_words_sized j c =
     sized_append _ _ (other_word_sized 0 j (is_control c.blue))
     (sized_append _ _ (other_word_sized 1 j (is_control c.green)) (other_word_sized 2 j (is_control c.red)))
 
-words_sized : (j : ℕ) (cs : List Column) → TellsSized (words j cs)
+pub words_sized : (j : ℕ) (cs : List Column) → TellsSized (words j cs)
 words_sized j [] = tt
 words_sized j (c ∷ cs) = tells_append _ _ (tells_at j (other_words j c) (other_words_sized j c)) (words_sized (j + 1) cs)
 
-abbrev IsRun : Run → Type 0
+abbrev pub IsRun : Run → Type 0
 IsRun (columns v cs) = (v < 64) × (1 ≤ length cs)
 
-abbrev AreRuns : List Run → Type 0
+abbrev pub AreRuns : List Run → Type 0
 AreRuns [] = Unit {0}
 AreRuns (r ∷ rs) = IsRun r × AreRuns rs
 
-in_front_runs : (p : Bool) (c : Column) (r : Run) (rs : List Run) → IsRun r → AreRuns rs → AreRuns (in_front p c r rs)
+pub in_front_runs : (p : Bool) (c : Column) (r : Run) (rs : List Run) → IsRun r → AreRuns rs → AreRuns (in_front p c r rs)
 in_front_runs true c (columns v cs) rs h k = ((h.0, omega arith), k)
 in_front_runs false c r rs h k = ((value_of_below c, omega arith), (h, k))
 
-more_runs : (c : Column) (rs : List Run) → AreRuns rs → AreRuns (before_runs c rs)
+pub more_runs : (c : Column) (rs : List Run) → AreRuns rs → AreRuns (before_runs c rs)
 more_runs c [] h = ((value_of_below c, omega arith), tt)
 more_runs c (r ∷ rs) h = in_front_runs (value_of c == value r) c r rs h.0 h.1
 
-are_runs : (cs : List Column) → AreRuns (runs cs)
+pub are_runs : (cs : List Column) → AreRuns (runs cs)
 unfolding runs
 are_runs [] = tt
 are_runs (c ∷ cs) = more_runs c (runs cs) (are_runs cs)
 
-ended_sized : (j : ℕ) (r : Run) → IsRun r → TellsSized (ended j r)
+pub ended_sized : (j : ℕ) (r : Run) → IsRun r → TellsSized (ended j r)
 ended_sized j (columns v cs) h = (h, tt)
 
-in_run_sized : (j : ℕ) (r : Run) → TellsSized (in_run j r)
+pub in_run_sized : (j : ℕ) (r : Run) → TellsSized (in_run j r)
 in_run_sized j (columns v cs) = words_sized j cs
 
-in_runs_sized : (j : ℕ) (rs : List Run) → AreRuns rs → TellsSized (in_runs j rs)
+pub in_runs_sized : (j : ℕ) (rs : List Run) → AreRuns rs → TellsSized (in_runs j rs)
 in_runs_sized j [] h = tt
 in_runs_sized j (r ∷ []) h = in_run_sized j r
 in_runs_sized j (r ∷ (s ∷ rs)) h =
     tells_append _ _ (in_run_sized j r) (tells_append _ _ (ended_sized j r h.0) (in_runs_sized (j + size r) (s ∷ rs) h.1))
 
-last_run_sized : (rs : List Run) → AreRuns rs → Sized (last_run rs)
+pub last_run_sized : (rs : List Run) → AreRuns rs → Sized (last_run rs)
 last_run_sized [] h = tt
 last_run_sized (columns v cs ∷ []) h = (h.0, tt)
 last_run_sized (columns v cs ∷ (s ∷ rs)) h = last_run_sized (s ∷ rs) h.1
@@ -154,25 +154,25 @@ opening_sized b control g h island = sized_append _ _ (lacks_sized b control 5) 
 opening_sized b control g h neither = (tt, tt)
 
 -- A line.
-length-line_bytes : (cs : List Column) → length (line_bytes cs) ≡ length cs * 3
+pub length-line_bytes : (cs : List Column) → length (line_bytes cs) ≡ length cs * 3
 unfolding line_bytes
 length-line_bytes [] = refl
 length-line_bytes (c ∷ cs) = let e = length-line_bytes cs in omega (arith, e)
 
-code_fault_sized : (lane s : ℕ) (o : Option ℕ) → Sized (code_fault lane s o)
+pub code_fault_sized : (lane s : ℕ) (o : Option ℕ) → Sized (code_fault lane s o)
 code_fault_sized lane s None = tt
 code_fault_sized lane s (Some i) = (tt, tt)
 
-codes_of_sized : (s : ℕ) (pixels : List Column) → Sized (codes_of s pixels)
+pub codes_of_sized : (s : ℕ) (pixels : List Column) → Sized (codes_of s pixels)
 unfolding codes_of
 codes_of_sized s pixels =
     sized_append _ _ (code_fault_sized 0 s (first_uncoded (map (λ c. c.blue) pixels)))
     (sized_append _ _ (code_fault_sized 1 s (first_uncoded (map (λ c. c.green) pixels))) (code_fault_sized 2 s (first_uncoded (map (λ c. c.red) pixels))))
 
-whole_pixels : (cs : List Column) → length (line_bytes cs) % 3 ≡ 0
+pub whole_pixels : (cs : List Column) → length (line_bytes cs) % 3 ≡ 0
 whole_pixels cs = ap (λ n. n % 3) (length-line_bytes cs) ∙ mul-mod_left (length cs) 3
 
-take_at_most : (n : ℕ) (cs : List Column) → length (take n cs) ≤ n
+pub take_at_most : (n : ℕ) (cs : List Column) → length (take n cs) ≤ n
 take_at_most zero cs = omega arith
 take_at_most (suc n) [] = omega arith
 take_at_most (suc n) (c ∷ cs) = let le = take_at_most n cs in omega (arith, le)

@@ -47,7 +47,7 @@ stretches_total (c ∷ cs) = before_total (is_control_column c) c (stretches cs)
 
 -- The words of columns.
 
-words_push : (j n : ℕ) (cs : List Column) (c : Column) → n ≡ j + length cs → words j (cs ++ c ∷ []) ≡ words j cs ++ all_at n (other_words n c)
+pub words_push : (j n : ℕ) (cs : List Column) (c : Column) → n ≡ j + length cs → words j (cs ++ c ∷ []) ≡ words j cs ++ all_at n (other_words n c)
 words_push j n [] c e =
     let same : n ≡ j = omega arith in
     append-nil (all_at j (other_words j c)) ∙ ap (λ m. all_at m (other_words m c)) (sym same)
@@ -83,7 +83,7 @@ last_push false j n v cs c e =
     ap (λ m. words j cs ++ (at m (run v (length cs)) ∷ words m (c ∷ []))) (sym e)
     ∙ ap (λ ts. words j cs ++ (at n (run v (length cs)) ∷ ts)) (append-nil (all_at n (other_words n c)))
 
-in_runs_push : (j n : ℕ) (c : Column) (rs : List Run) → n ≡ j + total_runs rs
+pub in_runs_push : (j n : ℕ) (c : Column) (rs : List Run) → n ≡ j + total_runs rs
     → in_runs j (after_runs c rs) ≡ in_runs j rs ++ all_at n (change (value_of c) rs ++ other_words n c)
 in_runs_push j n c [] e =
     let same : n ≡ j = omega arith in

@@ -99,10 +99,13 @@ code_fault lane s (Some i) = code lane (s + i) ∷ []
 unfoldable pub codes_of : ℕ → List Column → List Thing
 codes_of s pixels = code_fault 0 s (first_uncoded (map (λ c. c.blue) pixels)) ++ (code_fault 1 s (first_uncoded (map (λ c. c.green) pixels)) ++ code_fault 2 s (first_uncoded (map (λ c. c.red) pixels)))
 
+-- the pixels of a period that begins at column b, from column s on
+abbrev pub line_at : ℕ → ℕ → List Column → List Thing
+line_at b s pixels = line (line_bytes (take 4096 pixels)) ∷ (codes_of s (take 4096 pixels) ++ if_not (nat_le (length pixels) 4096) (long_line b))
+
 unfoldable pub line_of : ℕ → List Column → List Thing
 line_of b [] = empty b ∷ []
-line_of b (c ∷ cs) =
-    line (line_bytes (take 4096 (c ∷ cs))) ∷ (codes_of (b + 2) (take 4096 (c ∷ cs)) ++ if_not (nat_le (length (c ∷ cs)) 4096) (long_line b))
+line_of b (c ∷ cs) = line_at b (b + 2) (c ∷ cs)
 
 -- Columns that are no control columns, from column b on, after control columns.
 

@@ -3,6 +3,7 @@ use Rattle.std.specs.Prelude.{◌≡◌, ◌<◌, ◌≤◌, ◌%◌, List, leng
 use Rattle.tmds_word.specs.Column.{Column}
 use Rattle.period_grammar.specs.Things.{Thing, run, line, open_island, packet, close_island}
 use Rattle.period_grammar.specs.Heard.{heard}
+use Rattle.period_grammar.specs.Column.{value_of}
 
 -- a run has a value below 64 and at least one column; a line has one to 4,096 whole pixels; sync digits are below 4
 abbrev pub IsSized : Thing → Type 0
@@ -16,3 +17,7 @@ IsSized _ = Unit {0}
 -- everything that is told is of these sizes
 abbrev pub Sizes : Type 0
 Sizes = (cs : List Column) → All IsSized (heard cs)
+
+-- the value of any column is one of the 64 that a control column can have
+abbrev pub ValueBelow : Type 0
+ValueBelow = (c : Column) → value_of c < 64

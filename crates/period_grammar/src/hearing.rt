@@ -299,7 +299,8 @@ impl Hearing {
     }
 }
 
-fn lend<'a>(note: Note, bytes: &'a [u8], whole: &'a Whole) -> Told<'a>
+/// Lends the thing of a note, with the bytes of a line or with a packet.
+pub fn lend<'a>(note: Note, bytes: &'a [u8], whole: &'a Whole) -> Told<'a>
     ensures { lent_thing result ≡ noted (lent bytes.entry.now whole.entry.now) note }
 {
     match note {

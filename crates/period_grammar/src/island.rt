@@ -174,6 +174,14 @@ fn put_column(block: &mut [[Word; 3]; 32], at: u32, column: &[Word; 3])
     block[at as usize] = *column;
 }
 
+impl Whole {
+    /// A packet of zeros, which no note names.
+    pub fn unused() -> Whole {
+        let word = terc(0);
+        taken(&[[word; 3]; 32])
+    }
+}
+
 impl Island {
     /// An island with no column.
     pub fn new() -> Island

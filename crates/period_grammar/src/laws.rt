@@ -1,7 +1,28 @@
 //! What holds of everything that is told. The functions do nothing: what they ensure are the laws.
-ghost use Rattle.period_grammar.specs.Sizes.{Sizes};
+ghost use Rattle.period_grammar.specs.Gains.{PushLaw, EndLaw, LinkIsOne};
+ghost use Rattle.period_grammar.specs.Sizes.{Sizes, ValueBelow};
 
 /// All runs, lines, packets and sync digits that are told are of the sizes that a link can have.
 pub fn sizes()
     ensures { Sizes }
+{}
+
+/// The value of any column, whether it is a control column or not, is below 64.
+pub fn value_below()
+    ensures { ValueBelow }
+{}
+
+/// What one column more tells, under every rule on what lies between control periods.
+pub fn push_law()
+    ensures { PushLaw }
+{}
+
+/// What the end tells, under every rule.
+pub fn end_law()
+    ensures { EndLaw }
+{}
+
+/// What is heard of a link is what its rule tells.
+pub fn link_is_one()
+    ensures { LinkIsOne }
 {}

@@ -4,7 +4,7 @@ ghost use Rattle.std.specs.List.{prefix_len};
 ghost use Rattle.tmds_word.specs.Column.{Column, column_of};
 ghost use Rattle.tmds_word.specs.Words.{columns_of};
 ghost use Rattle.period_grammar.specs.Balanced.{is_pixel};
-ghost use Rattle.period_grammar.specs.Heard.{line_of, code_fault};
+ghost use Rattle.period_grammar.specs.Heard.{line_of, line_at, code_fault};
 ghost use Rattle.period_grammar.specs.Lines.{IsLineAfter};
 ghost use Rattle.period_grammar.specs.Noted.{things, Lent, lent};
 ghost use Rattle.period_grammar.specs.declared.island.Whole.{Whole};
@@ -174,10 +174,20 @@ impl Line {
             notes.push(Note::Fault(Fault::Empty { column: start }));
             return;
         }
+        self.tell_pixels(start, start + 2, notes);
+    }
+
+    /// Tells the line of a period that begins at the start, and whose first pixel is at column `from`.
+    pub fn tell_pixels(&self, start: u32, from: u32, notes: &mut Notes)
+        requires room { length notes.old ≤ 1 }
+        requires fits { from + self.now.count < 2 ^ 32 }
+        ensures room { length notes.new ≤ length notes.old + 5 }
+        ensures told { (pixels : List Column) (whole : Whole) → IsLineAfter self.now pixels → things (lent self.now.bytes whole) notes.new ≡ things (lent self.now.bytes whole) notes.old ++ line_at start from pixels }
+    {
         notes.push(Note::Line);
-        tell_code(0, start + 2, self.blue.first, notes);
-        tell_code(1, start + 2, self.green.first, notes);
-        tell_code(2, start + 2, self.red.first, notes);
+        tell_code(0, from, self.blue.first, notes);
+        tell_code(1, from, self.green.first, notes);
+        tell_code(2, from, self.red.first, notes);
         if self.count > 4096 {
             notes.push(Note::Fault(Fault::LongLine { column: start }));
         }

@@ -88,8 +88,8 @@ pub fn close(
 }
 
 fn tell_word(lane: u8, n: u32, word: Word, notes: &mut Notes)
-    requires room { length notes.old < 8 }
-    ensures room { length notes.new ≤ length notes.old + 1 }
+    requires room { length notes.old + length (other_word lane n (is_control word)) ≤ 8 }
+    ensures room { length notes.new ≡ length notes.old + length (other_word lane n (is_control word)) }
     ensures told { (bytes : Lent) → things bytes notes.new ≡ things bytes notes.old ++ other_word lane n (is_control word) }
 {
     if !is_control_word(word) {
@@ -97,10 +97,11 @@ fn tell_word(lane: u8, n: u32, word: Word, notes: &mut Notes)
     }
 }
 
-/// Tells the words of a control column that are no control words.
+/// Tells the word of a control column that is no control word: there is one at most.
 pub fn tell_words(n: u32, column: &[Word; 3], notes: &mut Notes)
-    requires room { length notes.old ≤ 5 }
-    ensures room { length notes.new ≤ 8 }
+    requires room { length notes.old ≤ 7 }
+    requires control { is_control_column (column_of column.now) ≡ true }
+    ensures room { length notes.new ≤ length notes.old + 1 }
     ensures told { (bytes : Lent) → things bytes notes.new ≡ things bytes notes.old ++ other_words n (column_of column.now) }
 {
     tell_word(0, n, column::blue(column), notes);

@@ -20,7 +20,7 @@ hear_followed-requires-clause-followed c d f =
     let fits = c.min-fits.result in
     let fit : fits ≤ length bs = omega (arith, c.min-fits.ensures) in
     let le : n ≤ fits = omega (arith, c.push_groups-n.ensures.within, length-take-le fits bs fit) in
-    from_balance (disparity_at c.balance.result) _ c.self.inside.blue.judge.disparity d _ (take n bs) c.balance.ensures c.push_groups-n.ensures.blue (take-take n fits bs le) f
+    from_balance (disparity_at c.balance.result) _ c.self.inside.blue.judge.disparity d _ (take n bs) c.balance.ensures.value c.push_groups-n.ensures.blue (take-take n fits bs le) f
 
 pub hear_followed-requires-2-clause-followed : goal.hear_followed-requires-2-clause-followed
 hear_followed-requires-2-clause-followed c d f =
@@ -31,7 +31,7 @@ hear_followed-requires-2-clause-followed c d f =
     let fits = c.min-fits.result in
     let fit : fits ≤ length bs = omega (arith, c.min-fits.ensures) in
     let le : n ≤ fits = omega (arith, c.push_groups-n.ensures.within, length-take-le fits bs fit) in
-    from_balance (disparity_at c.balance-2.result) _ c.self.inside.green.judge.disparity d _ (take n gs) c.balance-2.ensures c.push_groups-n.ensures.green (take-take n fits gs le) f
+    from_balance (disparity_at c.balance-2.result) _ c.self.inside.green.judge.disparity d _ (take n gs) c.balance-2.ensures.value c.push_groups-n.ensures.green (take-take n fits gs le) f
 
 pub hear_followed-requires-2-clause-sized : goal.hear_followed-requires-2-clause-sized
 hear_followed-requires-2-clause-sized c =
@@ -47,7 +47,7 @@ hear_followed-requires-3-clause-followed c d f =
     let fits = c.min-fits.result in
     let fit : fits ≤ length bs = omega (arith, c.min-fits.ensures) in
     let le : n ≤ fits = omega (arith, c.push_groups-n.ensures.within, length-take-le fits bs fit) in
-    from_balance (disparity_at c.balance-3.result) _ c.self.inside.red.judge.disparity d _ (take n rs) c.balance-3.ensures c.push_groups-n.ensures.red (take-take n fits rs le) f
+    from_balance (disparity_at c.balance-3.result) _ c.self.inside.red.judge.disparity d _ (take n rs) c.balance-3.ensures.value c.push_groups-n.ensures.red (take-take n fits rs le) f
 
 pub hear_followed-requires-3-clause-sized : goal.hear_followed-requires-3-clause-sized
 hear_followed-requires-3-clause-sized c =

@@ -1,11 +1,8 @@
-use Rattle.std.proofs.Common.{◌≡◌, ◌++◌, sym, subst, arith}
-use Rattle.std.specs.Prelude.{nat_le}
-use Rattle.period_grammar.specs.Heard.{line_of, if_not}
-use Rattle.period_grammar.specs.Things.{long_line}
-use Rattle.period_grammar.specs.Noted.{things, lent}
-use Rattle.period_grammar.specs.Lines.{IsLineAfter}
+use Rattle.std.proofs.Common.{◌≡◌, ◌<◌, ◌+◌, ◌++◌, ap, sym, subst, arith, ◌∙◌}
+use Rattle.period_grammar.specs.Heard.{line_at}
+use Rattle.period_grammar.specs.Noted.{lent}
 use Rattle.period_grammar.specs.LineSeen.{LineSeen}
-use Rattle.period_grammar.proofs.Lined.{line_none, noted_line, more_than, no_more}
+use Rattle.period_grammar.proofs.Lined.{line_none, line_behind, none_before}
 use Rattle.period_grammar.proofs.line.Line.tell.Goals as goal
 
 pub returns-then-self-eq0-clause-told : goal.returns-then-self-eq0-clause-told
@@ -13,21 +10,9 @@ returns-then-self-eq0-clause-told c pixels whole was =
     line_none c.args.self.now whole c.args.start pixels c.args.notes.now c.push.new.self was
     (subst (λ (l : LineSeen). l.count ≡ 0) c.self.view_is c.if-self-eq0.true) c.requires.room c.push.ensures
 
-pub returns-then-self-gt4096-clause-told : goal.returns-then-self-gt4096-clause-told
-returns-then-self-gt4096-clause-told c pixels whole was =
-    let l : LineSeen = record { bytes = c.self.inside.bytes; count = c.self.inside.count; blue = c.self.inside.blue; green = c.self.inside.green; red = c.self.inside.red } in
-    let e : l ≡ c.args.self.now = c.self.view_is in
-    let last : things (lent l.bytes whole) c.push-then-self-gt4096.new.self ≡ things (lent l.bytes whole) c.tell_code-3.new.notes ++ if_not (nat_le l.count 4096) (long_line c.args.start) =
-    more_than (lent l.bytes whole) c.tell_code-3.new.notes c.push-then-self-gt4096.new.self l.count c.args.start c.if-self-gt4096.true c.push-then-self-gt4096.ensures in
-    subst (λ (s : LineSeen). things (lent s.bytes whole) c.push-then-self-gt4096.new.self ≡ line_of c.args.start pixels) e
-    (noted_line l whole c.args.start pixels c.args.notes.now c.push-2.new.self c.tell_code.new.notes c.tell_code-2.new.notes c.tell_code-3.new.notes c.push-then-self-gt4096.new.self
-    (subst (λ (s : LineSeen). IsLineAfter s pixels) (sym e) was) (omega arith) c.requires.room c.push-2.ensures c.tell_code.ensures.told c.tell_code-2.ensures.told c.tell_code-3.ensures.told last)
-
-pub returns-else-self-gt4096-clause-told : goal.returns-else-self-gt4096-clause-told
-returns-else-self-gt4096-clause-told c pixels whole was =
-    let l : LineSeen = record { bytes = c.self.inside.bytes; count = c.self.inside.count; blue = c.self.inside.blue; green = c.self.inside.green; red = c.self.inside.red } in
-    let e : l ≡ c.args.self.now = c.self.view_is in
-    let last = no_more (things (lent l.bytes whole) c.tell_code-3.new.notes) l.count c.args.start c.if-self-gt4096.false in
-    subst (λ (s : LineSeen). things (lent s.bytes whole) c.tell_code-3.new.notes ≡ line_of c.args.start pixels) e
-    (noted_line l whole c.args.start pixels c.args.notes.now c.push-2.new.self c.tell_code.new.notes c.tell_code-2.new.notes c.tell_code-3.new.notes c.tell_code-3.new.notes
-    (subst (λ (s : LineSeen). IsLineAfter s pixels) (sym e) was) (omega arith) c.requires.room c.push-2.ensures c.tell_code.ensures.told c.tell_code-2.ensures.told c.tell_code-3.ensures.told last)
+pub returns-clause-told : goal.returns-clause-told
+returns-clause-told c pixels whole was =
+    let some = subst (λ (l : LineSeen). 0 < l.count) c.self.view_is (omega (arith, c.if-self-eq0.false)) in
+    c.tell_pixels.ensures.told pixels whole was
+    ∙ ap (λ ts. ts ++ line_at c.args.start (c.args.start + 2) pixels) (none_before (lent c.args.self.now.bytes whole) c.args.notes.now c.requires.room)
+    ∙ sym (line_behind c.args.self.now c.args.start pixels was some)
