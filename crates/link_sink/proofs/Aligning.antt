@@ -12,7 +12,8 @@ use Rattle.tmds_word.specs.Taps.{part_of, AreNear, IsPart, HasSmallSkew}
 use Rattle.lane_deskew.specs.Triples.{IsTriple, IsFirst}
 use Rattle.lane_deskew.specs.Ends.{IsGuard, IsSent, damaged}
 use Rattle.lane_deskew.proofs.Ends.{same_word, length_damaged, kind_cases, no_guard_payload}
-use Rattle.lane_deskew.proofs.Shapes.{IsAlternating, alternating, ends_apart}
+use Rattle.lane_deskew.specs.Alternating.{IsAlternating}
+use Rattle.lane_deskew.proofs.Shapes.{alternating, ends_apart}
 use Rattle.island_pack.specs.Periods.{Period}
 use Rattle.island_pack.specs.Sparse.{AreFew, no_column, column_at, SparesUntil}
 use Rattle.link_sink.proofs.Ends.{near_from, flat}

@@ -11,29 +11,25 @@ use Rattle.lane_deskew.specs.declared.Aligned.{Aligned}
 use Rattle.lane_deskew.proofs.Fed.{first_stays}
 use Rattle.lane_deskew.proofs.First.{one_first}
 use Rattle.period_grammar.specs.Things.{Thing}
-use Rattle.period_grammar.specs.Heard.{heard}
-use Rattle.period_grammar.specs.Seen.{Seen}
-use Rattle.period_grammar.specs.Stands.{StandsFor as IsHearingOf}
-use Rattle.link_sink.specs.Alignment.{told_by}
-use Rattle.link_sink.specs.Telling.{told_of}
-use Rattle.link_sink.specs.Sinks.{Fed, grown, IsToldSoFar, IsGain, IsLast}
+use Rattle.link_sink.specs.Alignment.{told_under}
+use Rattle.link_sink.specs.Grammar.{Grammar}
+use Rattle.link_sink.specs.Hearings.{IsGrammar}
+use Rattle.link_sink.specs.Sinks.{Fed, grown, IsToldBy, IsGainBy, IsLastBy}
 use Rattle.link_sink.specs.Progress.{columns_from}
 use Rattle.link_sink.specs.Received.{CanFeed, IsFoundAt, IsReceived, longest}
 use Rattle.link_sink.specs.Streams.{IsHeard, IsBehind}
 use Rattle.link_sink.specs.declared.hear.Outcome.{Outcome}
 use Rattle.link_sink.specs.Seen.{Receiver}
 use Rattle.link_sink.specs.Seen.{Stream}
-use Rattle.link_sink.proofs.Growing.{told_none}
 use Rattle.link_sink.proofs.Listed.{few_columns}
 use Rattle.link_sink.proofs.Feeding.{length_grown}
 use Rattle.link_sink.proofs.Following.{gains, told_one}
 use Rattle.link_sink.proofs.Prefixes.{columns_grow, front_and_rest}
 
 -- what lanes tell is what is told of their columns
-pub told_at : (fed : Fed) (at : Option Aligned) → IsFoundAt fed at → IsToldSoFar fed (told_of (columns_from fed at))
-unfolding told_of
-told_at fed (Some at) h = inl (_, _, _, h, refl)
-told_at fed None h = inr (h, told_none)
+pub told_at : (g : Grammar) → IsGrammar g → (fed : Fed) (at : Option Aligned) → IsFoundAt fed at → IsToldBy g fed (g.so_far (columns_from fed at))
+told_at g is fed (Some at) h = inl (_, _, _, h, refl)
+told_at g is fed None h = inr (h, is.none)
 
 -- the columns of lanes lie in front of those of the grown lanes
 more_columns : (before now : Fed) (was is : Option Aligned) → IsFoundAt before was → IsFoundAt now is → HasGrown before.blue now.blue → HasGrown before.green now.green → HasGrown before.red now.red
@@ -46,10 +42,10 @@ more_columns before now (Some at) (Some here) first found blue green red =
     (more.0, (λ i. aligned_columns now.blue now.green now.red (same.0 i) (same.1 i) (same.2 i)) ∙ more.1)
 
 -- the columns that a receiver lends are those that were not heard
-pub lent_rest : (s : Stream) (before now : Fed) (lent : List Column) → (h : IsBehind s before now)
+pub lent_rest : {H : Type 0} (stands : H → List Column → Type 0) (s : Stream H) (before now : Fed) (lent : List Column) → (h : IsBehind stands s before now)
     → ((fed : Fed) (taken : ℕ) → IsReceived s.receiver fed taken → lent ≡ drop taken (columns_from fed s.receiver.deskew.found))
     → columns_from before h.was ++ lent ≡ columns_from now s.receiver.deskew.found
-lent_rest s before now lent h is =
+lent_rest stands s before now lent h is =
     let cs = columns_from before h.was in
     ap (λ ds. cs ++ ds) (is now (length cs) h.received)
     ∙ front_and_rest cs (columns_from now s.receiver.deskew.found) (more_columns before now h.was s.receiver.deskew.found h.found_was h.received.found h.blue h.green h.red)
@@ -67,45 +63,46 @@ few_now fed None short = omega arith
 few_now fed (Some at) short = few_columns fed.blue fed.green fed.red _ _ _ short
 
 -- how many there are
-pub count_lent : (s : Stream) (before now : Fed) (a b c : List ℕ) → (h : IsBehind s before now) → AreColumns (ready_of s.receiver.deskew) a b c
+pub count_lent : {H : Type 0} (stands : H → List Column → Type 0) (s : Stream H) (before now : Fed) (a b c : List ℕ) → (h : IsBehind stands s before now) → AreColumns (ready_of s.receiver.deskew) a b c
     → ((fed : Fed) (taken : ℕ) → IsReceived s.receiver fed taken → columns_of a b c ≡ drop taken (columns_from fed s.receiver.deskew.found))
     → length (columns_from before h.was) + length a ≡ length (columns_from now s.receiver.deskew.found)
-count_lent s before now a b c h count is =
-    let all = ap length (lent_rest s before now (columns_of a b c) h is) in
+count_lent stands s before now a b c h count is =
+    let all = ap length (lent_rest stands s before now (columns_of a b c) h is) in
     let n = columns_length a b c (ready_of s.receiver.deskew) count.first count.second count.third in
     let first = count.first in
     omega (arith, all, n, first, length-append (columns_from before h.was) (columns_of a b c))
 
 -- no more than a hearing can count
-pub few_lent : (s : Stream) (before now : Fed) (a b c : List ℕ) → IsBehind s before now → AreColumns (ready_of s.receiver.deskew) a b c
+pub few_lent : {H : Type 0} (stands : H → List Column → Type 0) (counted : H → ℕ) → ((h : H) (cs : List Column) → stands h cs → counted h ≡ length cs)
+    → (s : Stream H) (before now : Fed) (a b c : List ℕ) → IsBehind stands s before now → AreColumns (ready_of s.receiver.deskew) a b c
     → ((fed : Fed) (taken : ℕ) → IsReceived s.receiver fed taken → columns_of a b c ≡ drop taken (columns_from fed s.receiver.deskew.found))
-    → (s.hearing.columns + length a ≤ 429496730) × (s.outcome.columns + length a ≤ 429496730)
-few_lent s before now a b c h count is =
-    let all = count_lent s before now a b c h count is in
+    → (counted s.hearing + length a ≤ 429496730) × (s.outcome.columns + length a ≤ 429496730)
+few_lent stands counted counts s before now a b c h count is =
+    let all = count_lent stands s before now a b c h count is in
     let few = few_now now s.receiver.deskew.found h.short in
-    let heard_columns = h.heard.columns in
+    let heard_columns = counts s.hearing _ h.heard in
     let told = h.columns in
     (omega (arith, all, few, heard_columns), omega (arith, all, few, told))
 
 -- what they tell is told more
-pub lent_gain : (s : Stream) (before now : Fed) (lent : List Column) (things : List Thing) → (h : IsBehind s before now)
+pub lent_gain : {H : Type 0} (stands : H → List Column → Type 0) (g : Grammar) → IsGrammar g → (s : Stream H) (before now : Fed) (lent : List Column) (things : List Thing) → (h : IsBehind stands s before now)
     → ((fed : Fed) (taken : ℕ) → IsReceived s.receiver fed taken → lent ≡ drop taken (columns_from fed s.receiver.deskew.found))
-    → told_of (columns_from before h.was ++ lent) ≡ told_of (columns_from before h.was) ++ things → IsGain before now things
-lent_gain s before now lent things h is e =
-    gains before now (columns_from before h.was) (columns_from now s.receiver.deskew.found) things (told_at before h.was h.found_was) (told_at now s.receiver.deskew.found h.received.found)
-    (ap told_of (sym (lent_rest s before now lent h is)) ∙ e)
+    → g.so_far (columns_from before h.was ++ lent) ≡ g.so_far (columns_from before h.was) ++ things → IsGainBy g before now things
+lent_gain stands g laws s before now lent things h is e =
+    gains g before now (columns_from before h.was) (columns_from now s.receiver.deskew.found) things (told_at g laws before h.was h.found_was) (told_at g laws now s.receiver.deskew.found h.received.found)
+    (ap g.so_far (sym (lent_rest stands s before now lent h is)) ∙ e)
 
 -- and all columns are heard
-pub now_heard : (s : Stream) (before now : Fed) (a b c : List ℕ) (r : Receiver) (hearing : Seen) (outcome : Outcome) → (h : IsBehind s before now) → AreColumns (ready_of s.receiver.deskew) a b c
+pub now_heard : {H : Type 0} (stands : H → List Column → Type 0) (s : Stream H) (before now : Fed) (a b c : List ℕ) (r : Receiver) (hearing : H) (outcome : Outcome) → (h : IsBehind stands s before now) → AreColumns (ready_of s.receiver.deskew) a b c
     → ((fed : Fed) (taken : ℕ) → IsReceived s.receiver fed taken → columns_of a b c ≡ drop taken (columns_from fed s.receiver.deskew.found))
     → ready_of r.deskew ≡ ready_of s.receiver.deskew - length a
     → ((fed : Fed) (taken : ℕ) → IsReceived s.receiver fed taken → IsReceived r fed (taken + length a))
     → r.deskew.found ≡ s.receiver.deskew.found
-    → ((cs : List Column) → IsHearingOf s.hearing cs → IsHearingOf hearing (cs ++ columns_of a b c))
-    → hearing.finished ≡ false → outcome.aligned ≡ s.outcome.aligned → outcome.columns ≡ s.outcome.columns + length a
-    → IsHeard (record { receiver = r; hearing = hearing; outcome = outcome }) now
-now_heard s before now a b c r hearing outcome h count is ready received found hears goes_on aligned columns =
-    let all = count_lent s before now a b c h count is in
+    → ((cs : List Column) → stands s.hearing cs → stands hearing (cs ++ columns_of a b c))
+    → outcome.aligned ≡ s.outcome.aligned → outcome.columns ≡ s.outcome.columns + length a
+    → IsHeard stands (record { receiver = r; hearing = hearing; outcome = outcome }) now
+now_heard stands s before now a b c r hearing outcome h count is ready received found hears aligned columns =
+    let all = count_lent stands s before now a b c h count is in
     let same : columns_from now s.receiver.deskew.found ≡ columns_from now r.deskew.found = ap (columns_from now) (sym found) in
     let first = count.first in
     let told = h.columns in
@@ -113,54 +110,53 @@ now_heard s before now a b c r hearing outcome h count is ready received found h
     record {
       received = subst (λ n. IsReceived r now n) (all ∙ long) (received now (length (columns_from before h.was)) h.received);
       consumed = omega (arith, ready, first);
-      heard = subst (IsHearingOf hearing) (lent_rest s before now (columns_of a b c) h is ∙ same) (hears (columns_from before h.was) h.heard);
-      goes_on = goes_on;
+      heard = subst (stands hearing) (lent_rest stands s before now (columns_of a b c) h is ∙ same) (hears (columns_from before h.was) h.heard);
       aligned = aligned ∙ h.aligned ∙ ap is_some (sym found);
       columns = omega (arith, columns, told, all, long);
     }
 
 -- The end.
 
-last_at : (fed : Fed) (o : Option Aligned) (columns : ℕ) (things : List Thing) → IsFoundAt fed o → is_some o ≡ true → columns ≡ length (columns_from fed o)
-    → heard (columns_from fed o) ≡ told_of (columns_from fed o) ++ things → IsLast fed (record { aligned = true; columns = columns }) things
-last_at fed None columns things found some many all = absurd cc
-last_at fed (Some at) columns things found some many all = λ told so_far. record {
+last_at : (g : Grammar) → IsGrammar g → (fed : Fed) (o : Option Aligned) (columns : ℕ) (things : List Thing) → IsFoundAt fed o → is_some o ≡ true → columns ≡ length (columns_from fed o)
+    → g.whole (columns_from fed o) ≡ g.so_far (columns_from fed o) ++ things → IsLastBy g fed (record { aligned = true; columns = columns }) things
+last_at g is fed None columns things found some many all = absurd cc
+last_at g is fed (Some at) columns things found some many all = λ told so_far. record {
   d = _;
   e = _;
   f = _;
   first = found;
   columns_are = many;
-  told = ap (λ ts. ts ++ things) (told_one fed told _ so_far (told_at fed (Some at) found)) ∙ sym all;
+  told = ap (λ ts. ts ++ things) (told_one g fed told _ so_far (told_at g is fed (Some at) found)) ∙ sym all;
 }
 
-last_nowhere : (fed : Fed) (o : Option Aligned) (columns : ℕ) → IsFoundAt fed o → is_some o ≡ false → columns ≡ length (columns_from fed o) → IsLast fed (record { aligned = false; columns = columns }) []
-last_nowhere fed (Some at) columns found none many = absurd cc
-last_nowhere fed None columns found none many = λ told so_far. record {
+last_nowhere : (g : Grammar) (fed : Fed) (o : Option Aligned) (columns : ℕ) → IsFoundAt fed o → is_some o ≡ false → columns ≡ length (columns_from fed o) → IsLastBy g fed (record { aligned = false; columns = columns }) []
+last_nowhere g fed (Some at) columns found none many = absurd cc
+last_nowhere g fed None columns found none many = λ told so_far. record {
   nowhere = found;
   columns_are = many;
-  told = append-nil told ∙ told_one fed told [] so_far (inr (found, refl));
+  told = append-nil told ∙ told_one g fed told [] so_far (inr (found, refl));
 }
 
 -- what the end tells of lanes that are aligned
-pub ends_heard : (s : Stream) (fed : Fed) (things : List Thing) → IsHeard s fed → s.outcome.aligned ≡ true
-    → ((cs : List Column) → IsHearingOf s.hearing cs → heard cs ≡ told_of cs ++ things) → IsLast fed s.outcome things
-ends_heard s fed things h aligned all = λ told so_far.
-    subst (λ b. told_by b fed.blue fed.green fed.red s.outcome.columns (told ++ things)) (sym aligned)
-    (last_at fed s.receiver.deskew.found s.outcome.columns things h.received.found (sym h.aligned ∙ aligned) h.columns (all (columns_from fed s.receiver.deskew.found) h.heard) told so_far)
+pub ends_heard : {H : Type 0} (stands : H → List Column → Type 0) (g : Grammar) → IsGrammar g → (s : Stream H) (fed : Fed) (things : List Thing) → IsHeard stands s fed → s.outcome.aligned ≡ true
+    → ((cs : List Column) → stands s.hearing cs → g.whole cs ≡ g.so_far cs ++ things) → IsLastBy g fed s.outcome things
+ends_heard stands g is s fed things h aligned all = λ told so_far.
+    subst (λ b. told_under g b fed.blue fed.green fed.red s.outcome.columns (told ++ things)) (sym aligned)
+    (last_at g is fed s.receiver.deskew.found s.outcome.columns things h.received.found (sym h.aligned ∙ aligned) h.columns (all (columns_from fed s.receiver.deskew.found) h.heard) told so_far)
 
 -- and nothing where they are not
-pub ends_unheard : (s : Stream) (fed : Fed) → IsHeard s fed → s.outcome.aligned ≡ false → IsLast fed s.outcome []
-ends_unheard s fed h aligned = λ told so_far.
-    subst (λ b. told_by b fed.blue fed.green fed.red s.outcome.columns (told ++ [])) (sym aligned)
-    (last_nowhere fed s.receiver.deskew.found s.outcome.columns h.received.found (sym h.aligned ∙ aligned) h.columns told so_far)
+pub ends_unheard : {H : Type 0} (stands : H → List Column → Type 0) (g : Grammar) (s : Stream H) (fed : Fed) → IsHeard stands s fed → s.outcome.aligned ≡ false → IsLastBy g fed s.outcome []
+ends_unheard stands g s fed h aligned = λ told so_far.
+    subst (λ b. told_under g b fed.blue fed.green fed.red s.outcome.columns (told ++ [])) (sym aligned)
+    (last_nowhere g fed s.receiver.deskew.found s.outcome.columns h.received.found (sym h.aligned ∙ aligned) h.columns told so_far)
 
 -- A feed.
 
 -- after it the lanes have its bits, and the columns of them are not heard yet
-pub fed_behind : (s : Stream) (fed : Fed) (a b c : List ℕ) (bits : List ℕ) (r : Receiver) (aligned : Bool) → (h : IsHeard s fed) → CanFeed (fed_of s.receiver.team.first.aligner) (longest s.receiver.team) a (slice_index bits 0)
+pub fed_behind : {H : Type 0} (stands : H → List Column → Type 0) (s : Stream H) (fed : Fed) (a b c : List ℕ) (bits : List ℕ) (r : Receiver) (aligned : Bool) → (h : IsHeard stands s fed) → CanFeed (fed_of s.receiver.team.first.aligner) (longest s.receiver.team) a (slice_index bits 0)
     → ((f : Fed) (taken : ℕ) → IsReceived s.receiver f taken → IsReceived r (grown f a b c bits) taken) → aligned ≡ is_some r.deskew.found
-    → IsBehind (record { receiver = r; hearing = s.hearing; outcome = record { aligned = aligned; columns = s.outcome.columns } }) fed (grown fed a b c bits)
-fed_behind s fed a b c bits r aligned h can received is = record {
+    → IsBehind stands (record { receiver = r; hearing = s.hearing; outcome = record { aligned = aligned; columns = s.outcome.columns } }) fed (grown fed a b c bits)
+fed_behind stands s fed a b c bits r aligned h can received is = record {
   was = s.receiver.deskew.found;
   found_was = h.received.found;
   received = received fed (length (columns_from fed s.receiver.deskew.found)) h.received;
@@ -173,27 +169,26 @@ fed_behind s fed a b c bits r aligned h can received is = record {
       let total = can.total in
       omega (arith, long, was, total);
   heard = h.heard;
-  goes_on = h.goes_on;
   aligned = is;
   columns = h.columns;
 }
 
 -- The same of a stream as contracts see it, whose hearing lies in memory of its own.
 
-pub fed_behind_at : (s t : Stream) → s ≡ t → (k : Seen) → k ≡ s.hearing → (fed : Fed) (a b c : List ℕ) (bits : List ℕ) (r : Receiver) (aligned : Bool) → IsHeard t fed
+pub fed_behind_at : {H : Type 0} (stands : H → List Column → Type 0) (s t : Stream H) → s ≡ t → (k : H) → k ≡ s.hearing → (fed : Fed) (a b c : List ℕ) (bits : List ℕ) (r : Receiver) (aligned : Bool) → IsHeard stands t fed
     → CanFeed (fed_of t.receiver.team.first.aligner) (longest t.receiver.team) a (slice_index bits 0)
     → ((f : Fed) (taken : ℕ) → IsReceived s.receiver f taken → IsReceived r (grown f a b c bits) taken) → aligned ≡ is_some r.deskew.found
-    → IsBehind (record { receiver = r; hearing = k; outcome = record { aligned = aligned; columns = s.outcome.columns } }) fed (grown fed a b c bits)
-fed_behind_at s t e k same fed a b c bits r aligned h can received is =
-    subst (λ (x : Seen). IsBehind (record { receiver = r; hearing = x; outcome = record { aligned = aligned; columns = s.outcome.columns } }) fed (grown fed a b c bits)) (sym same)
-    (fed_behind s fed a b c bits r aligned (subst (λ (x : Stream). IsHeard x fed) (sym e) h)
-    (subst (λ (x : Stream). CanFeed (fed_of x.receiver.team.first.aligner) (longest x.receiver.team) a (slice_index bits 0)) (sym e) can) received is)
+    → IsBehind stands (record { receiver = r; hearing = k; outcome = record { aligned = aligned; columns = s.outcome.columns } }) fed (grown fed a b c bits)
+fed_behind_at {H = H} stands s t e k same fed a b c bits r aligned h can received is =
+    subst (λ (x : H). IsBehind stands (record { receiver = r; hearing = x; outcome = record { aligned = aligned; columns = s.outcome.columns } }) fed (grown fed a b c bits)) (sym same)
+    (fed_behind stands s fed a b c bits r aligned (subst (λ (x : Stream H). IsHeard stands x fed) (sym e) h)
+    (subst (λ (x : Stream H). CanFeed (fed_of x.receiver.team.first.aligner) (longest x.receiver.team) a (slice_index bits 0)) (sym e) can) received is)
 
-pub ends_heard_at : (s t : Stream) → s ≡ t → (k : Seen) → k ≡ s.hearing → (fed : Fed) (things : List Thing) → IsHeard t fed → s.outcome.aligned ≡ true
-    → ((cs : List Column) → IsHearingOf k cs → heard cs ≡ told_of cs ++ things) → IsLast fed s.outcome things
-ends_heard_at s t e k same fed things h aligned all =
-    ends_heard s fed things (subst (λ (x : Stream). IsHeard x fed) (sym e) h) aligned
-    (subst (λ (x : Seen). (cs : List Column) → IsHearingOf x cs → heard cs ≡ told_of cs ++ things) same all)
+pub ends_heard_at : {H : Type 0} (stands : H → List Column → Type 0) (g : Grammar) → IsGrammar g → (s t : Stream H) → s ≡ t → (k : H) → k ≡ s.hearing → (fed : Fed) (things : List Thing) → IsHeard stands t fed → s.outcome.aligned ≡ true
+    → ((cs : List Column) → stands k cs → g.whole cs ≡ g.so_far cs ++ things) → IsLastBy g fed s.outcome things
+ends_heard_at {H = H} stands g is s t e k same fed things h aligned all =
+    ends_heard stands g is s fed things (subst (λ (x : Stream H). IsHeard stands x fed) (sym e) h) aligned
+    (subst (λ (x : H). (cs : List Column) → stands x cs → g.whole cs ≡ g.so_far cs ++ things) same all)
 
-pub ends_unheard_at : (s t : Stream) → s ≡ t → (fed : Fed) → IsHeard t fed → s.outcome.aligned ≡ false → IsLast fed s.outcome []
-ends_unheard_at s t e fed h = ends_unheard s fed (subst (λ (x : Stream). IsHeard x fed) (sym e) h)
+pub ends_unheard_at : {H : Type 0} (stands : H → List Column → Type 0) (g : Grammar) (s t : Stream H) → s ≡ t → (fed : Fed) → IsHeard stands t fed → s.outcome.aligned ≡ false → IsLastBy g fed s.outcome []
+ends_unheard_at {H = H} stands g s t e fed h = ends_unheard stands g s fed (subst (λ (x : Stream H). IsHeard stands x fed) (sym e) h)

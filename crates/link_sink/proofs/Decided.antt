@@ -1,5 +1,5 @@
 -- Three lanes have a first full alignment, or they have none: so there is always what they tell.
-use Rattle.std.proofs.Common.{◌≡◌, ℕ, zero, suc, ◌+◌, ◌-◌, ◌*◌, ◌%◌, ◌<◌, ◌≤◌, max, Bool, true, false, List, [], length, map, refl, subst, arith, ◌⊎◌, inl, inr, Option, Some, None}
+use Rattle.std.proofs.Common.{◌≡◌, ℕ, zero, suc, ◌+◌, ◌-◌, ◌*◌, ◌%◌, ◌<◌, ◌≤◌, max, Bool, true, false, List, [], length, refl, subst, arith, ◌⊎◌, inl, inr, Option, Some, None}
 use mathlib.Core.Logic.Dec.{and as both}
 use native.Mathlib.Decide.{map_dec, ℕ_discrete, dec_le}
 use Rattle.std.proofs.Math.Bool.{Bool-discrete}
@@ -13,9 +13,9 @@ use Rattle.lane_align.proofs.Edges.{edge_within}
 use Rattle.lane_deskew.specs.Triples.{IsTriple, IsFirst}
 use Rattle.tmds_word.specs.Taps.{AreNear}
 use Rattle.lane_deskew.specs.Aligned.{aligned_columns}
-use Rattle.period_grammar.specs.Things.{Thing, thing_of}
-use Rattle.period_grammar.specs.Heard.{heard_so_far}
-use Rattle.link_sink.specs.Sinks.{Fed, IsToldSoFar}
+use Rattle.period_grammar.specs.Things.{Thing}
+use Rattle.link_sink.specs.Grammar.{Grammar}
+use Rattle.link_sink.specs.Sinks.{Fed, IsToldBy}
 
 -- the least number below a bound
 record IsLeast (P : ℕ → Type 0) (n p : ℕ) : Type 0 where
@@ -224,9 +224,9 @@ first_decided xs ys zs = by (least_or_none (HasTriple xs ys zs) (all_bits xs ys 
     by (inr none) = inr (λ d e f t. none (max d (max e f)) (largest_within xs ys zs d e f t) (up_to_largest xs ys zs d e f t))
 
 -- so there is what they tell while they go on
-pub told_so_far : (fed : Fed) → (things : List Thing) × IsToldSoFar fed things
-told_so_far fed = by (first_decided fed.blue fed.green fed.red)
+pub told_so_far : (g : Grammar) (fed : Fed) → (things : List Thing) × IsToldBy g fed things
+told_so_far g fed = by (first_decided fed.blue fed.green fed.red)
   where
-    by : ((d e f : ℕ) × IsFirst fed.blue fed.green fed.red d e f) ⊎ ((d e f : ℕ) → IsTriple fed.blue fed.green fed.red d e f → ⊥) → (things : List Thing) × IsToldSoFar fed things
-    by (inl h) = (map thing_of (heard_so_far (aligned_columns fed.blue fed.green fed.red h.0 h.1 h.2)), inl (h.0, h.1, h.2, h.3, refl))
+    by : ((d e f : ℕ) × IsFirst fed.blue fed.green fed.red d e f) ⊎ ((d e f : ℕ) → IsTriple fed.blue fed.green fed.red d e f → ⊥) → (things : List Thing) × IsToldBy g fed things
+    by (inl h) = (g.so_far (aligned_columns fed.blue fed.green fed.red h.0 h.1 h.2), inl (h.0, h.1, h.2, h.3, refl))
     by (inr none) = ([], inr (none, refl))

@@ -1,7 +1,8 @@
 -- Where the control periods of spelled columns end.
 use Rattle.std.proofs.Common.{◌≡◌, ℕ, ◌+◌, ◌*◌, ◌/◌, ◌≤◌, List, [], ◌∷◌, ◌++◌, length, replicate, refl, arith, ◌⊎◌, length-append}
 use Rattle.std.proofs.lemmas.List.{length-replicate}
-use Rattle.lane_deskew.proofs.Shapes.{IsMiddle, middle_video, middle_island, IsAlternating, last, more, EndsLater, where_ends, ends_alone, ends_late as alternating_late}
+use Rattle.lane_deskew.specs.Alternating.{IsMiddle, IsAlternating, last, more}
+use Rattle.lane_deskew.proofs.Shapes.{middle_video, middle_island, EndsLater, where_ends, ends_alone, ends_late as alternating_late}
 use Rattle.island_pack.specs.Periods.{ControlRun, Period, control, video, island, values_of, period_columns}
 use Rattle.island_pack.specs.Kinds.{Kind, control_column, pixel_column, packet_column, guard_pair, kinds_in, kinds_of, EndsAt}
 use Rattle.link_sink.proofs.Conformed.{IsInner, Follows, ends, goes_on}

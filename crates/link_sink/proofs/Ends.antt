@@ -4,7 +4,8 @@ use Rattle.std.specs.Prelude.{slice_index}
 use Rattle.lane_deskew.specs.Triples.{IsFirst}
 use Rattle.tmds_word.specs.Taps.{AreNear}
 use Rattle.lane_deskew.specs.Ends.{IsReceived, damaged}
-use Rattle.lane_deskew.proofs.Shapes.{IsAlternating, alternating}
+use Rattle.lane_deskew.specs.Alternating.{IsAlternating}
+use Rattle.lane_deskew.proofs.Shapes.{alternating}
 use Rattle.lane_deskew.proofs.Ends.{edge_ends, first_ends as lanes_first_ends}
 use Rattle.tmds_word.specs.Column.{blues, greens, reds}
 use Rattle.island_pack.specs.Periods.{Period}

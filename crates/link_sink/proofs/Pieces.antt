@@ -1,20 +1,18 @@
 -- What lanes tell, to the end.
-use Rattle.std.proofs.Common.{map, ◌≡◌, ℕ, ◌+◌, List, [], ◌++◌, length, refl, ap, sym, ◌∙◌}
+use Rattle.std.proofs.Common.{map, ◌≡◌, ℕ, List, ◌++◌, length, refl, ap, sym, ◌∙◌}
 use Rattle.lane_deskew.specs.Triples.{IsFirst}
 use Rattle.lane_deskew.specs.Aligned.{aligned_columns}
 use Rattle.period_grammar.specs.Things.{Thing, thing_of}
 use Rattle.period_grammar.specs.Cut.{stretches}
 use Rattle.period_grammar.specs.Heard.{heard_so_far, end_from}
 use Rattle.link_sink.specs.Alignment.{IsAlignedTold}
-use Rattle.link_sink.specs.Telling.{told_of}
 use Rattle.link_sink.specs.Sinks.{Fed}
-use Rattle.link_sink.proofs.Growing.{heard_whole}
+use Rattle.link_sink.specs.LinkHearing.{heard_whole}
 
 -- what the end tells of lanes that are aligned
 pub aligned_all : (fed : Fed) (d e f : ℕ) (so_far : List Thing) → IsFirst fed.blue fed.green fed.red d e f
     → so_far ≡ map thing_of (heard_so_far (aligned_columns fed.blue fed.green fed.red d e f))
     → (last : List Thing) × IsAlignedTold fed.blue fed.green fed.red (length (aligned_columns fed.blue fed.green fed.red d e f)) (so_far ++ last)
-unfolding told_of
 aligned_all fed d e f so_far first is =
     let columns = aligned_columns fed.blue fed.green fed.red d e f in
     let last = end_from 0 (stretches columns) in (

@@ -17,7 +17,8 @@ use Rattle.lane_deskew.specs.Ends.{IsGuard, IsReceived}
 use Rattle.lane_deskew.specs.Growing.{HasGrown}
 use Rattle.lane_deskew.proofs.Growth.{edge_before}
 use Rattle.lane_deskew.proofs.Ends.{tapped, word_is, tap_run, edge_ends}
-use Rattle.lane_deskew.proofs.Shapes.{built, IsAlternating, last, more, where_ends, ends_alone, ends_late, in_first, in_rest}
+use Rattle.lane_deskew.specs.Alternating.{built, IsAlternating, last, more}
+use Rattle.lane_deskew.proofs.Shapes.{where_ends, ends_alone, ends_late, in_first, in_rest}
 use Rattle.link_sink.proofs.Decided.{lock_of_run}
 
 -- the characters of one lane as they were received: until column f control and guard words came as they were sent

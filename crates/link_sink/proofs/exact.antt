@@ -6,6 +6,7 @@ pub mod Packets
 pub mod Islands
 pub mod Nulls
 pub mod Building
+pub mod Wholes
 pub mod Fronts
 pub mod ControlFine
 pub mod Arrivals

@@ -1,5 +1,8 @@
 pub mod Seen
 pub mod Ears
+pub mod Grammar
+pub mod Hearings
+pub mod LinkHearing
 pub mod Alignment
 pub mod Telling
 pub mod Account
@@ -12,3 +15,5 @@ pub mod Streams
 pub mod Progress
 pub mod Pieces
 pub mod Exact
+pub mod Whole
+pub mod Bytes

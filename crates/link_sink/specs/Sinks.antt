@@ -1,11 +1,11 @@
 -- What a sink is fed, what it tells more at each feed, and what it tells at the end.
-use Rattle.std.specs.Prelude.{◌≡◌, ◌⊎◌, ℕ, Bool, List, [], ◌++◌, map, take, slice_index}
+use Rattle.std.specs.Prelude.{◌≡◌, ◌⊎◌, ℕ, Bool, List, [], ◌++◌, take, slice_index}
 use Rattle.tmds_word.specs.Bits.{bytes_bits}
 use Rattle.lane_deskew.specs.Triples.{IsTriple, IsFirst}
 use Rattle.lane_deskew.specs.Aligned.{aligned_columns}
-use Rattle.period_grammar.specs.Things.{Thing, thing_of}
-use Rattle.period_grammar.specs.Heard.{heard_so_far}
-use Rattle.link_sink.specs.Alignment.{AreTold}
+use Rattle.period_grammar.specs.Things.{Thing}
+use Rattle.link_sink.specs.Grammar.{Grammar, link_grammar}
+use Rattle.link_sink.specs.Alignment.{AreToldBy}
 use Rattle.link_sink.specs.declared.hear.Outcome.{Outcome}
 
 -- the bits that three lanes were fed
@@ -15,10 +15,14 @@ pub record Fed : Type 0 where
   pub red : List Bool
 
 -- what lanes tell while they go on: what is heard so far of their aligned columns, and nothing where they are aligned nowhere
-abbrev pub IsToldSoFar : Fed → List Thing → Type 0
-IsToldSoFar fed things =
-    ((d e f : ℕ) × IsFirst fed.blue fed.green fed.red d e f × (things ≡ map thing_of (heard_so_far (aligned_columns fed.blue fed.green fed.red d e f))))
+abbrev pub IsToldBy : Grammar → Fed → List Thing → Type 0
+IsToldBy g fed things =
+    ((d e f : ℕ) × IsFirst fed.blue fed.green fed.red d e f × (things ≡ g.so_far (aligned_columns fed.blue fed.green fed.red d e f)))
     ⊎ (((d e f : ℕ) → IsTriple fed.blue fed.green fed.red d e f → ⊥) × (things ≡ []))
+
+-- the same of a link
+abbrev pub IsToldSoFar : Fed → List Thing → Type 0
+IsToldSoFar fed things = IsToldBy link_grammar fed things
 
 -- lanes after bits of bytes more, so many of each, those of lane 0 first
 abbrev pub grown : Fed → List ℕ → List ℕ → List ℕ → List ℕ → Fed
@@ -29,16 +33,23 @@ grown fed a b c bits = record {
 }
 
 -- what is told more
-abbrev pub IsGain : Fed → Fed → List Thing → Type 0
-IsGain before after things = (told : List Thing) → IsToldSoFar before told → IsToldSoFar after (told ++ things)
+abbrev pub IsGainBy : Grammar → Fed → Fed → List Thing → Type 0
+IsGainBy g before after things = (told : List Thing) → IsToldBy g before told → IsToldBy g after (told ++ things)
 
 -- what is told at the end: with it the lanes have told all
+abbrev pub IsLastBy : Grammar → Fed → Outcome → List Thing → Type 0
+IsLastBy g fed outcome things = (told : List Thing) → IsToldBy g fed told → AreToldBy g fed.blue fed.green fed.red outcome (told ++ things)
+
+-- the same of a link
+abbrev pub IsGain : Fed → Fed → List Thing → Type 0
+IsGain before after things = IsGainBy link_grammar before after things
+
 abbrev pub IsLast : Fed → Outcome → List Thing → Type 0
-IsLast fed outcome things = (told : List Thing) → IsToldSoFar fed told → AreTold fed.blue fed.green fed.red outcome (told ++ things)
+IsLast fed outcome things = IsLastBy link_grammar fed outcome things
 
 -- of any bits something is told so far, and nothing else: neither their cutting into feeds nor a gate can matter
 abbrev pub SomeTold : Type 0
-SomeTold = (fed : Fed) → (things : List Thing) × IsToldSoFar fed things
+SomeTold = (g : Grammar) (fed : Fed) → (things : List Thing) × IsToldBy g fed things
 
 abbrev pub OneTold : Type 0
-OneTold = (fed : Fed) (us vs : List Thing) → IsToldSoFar fed us → IsToldSoFar fed vs → us ≡ vs
+OneTold = (g : Grammar) (fed : Fed) (us vs : List Thing) → IsToldBy g fed us → IsToldBy g fed vs → us ≡ vs

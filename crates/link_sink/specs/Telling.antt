@@ -1,27 +1,23 @@
 -- What an ear is told of columns that come after others.
-use Rattle.std.specs.Prelude.{◌≡◌, ℕ, Bool, List, ◌++◌, map, slice_index}
+use Rattle.std.specs.Prelude.{◌≡◌, ℕ, Bool, List, ◌++◌, slice_index}
 use Rattle.tmds_word.specs.Column.{Column}
 use Rattle.lane_deskew.specs.Aligned.{aligned_columns}
-use Rattle.period_grammar.specs.Things.{Thing, thing_of}
-use Rattle.period_grammar.specs.Heard.{heard_so_far}
+use Rattle.period_grammar.specs.Things.{Thing}
 use Rattle.link_sink.specs.Ears.{StopsIn}
+use Rattle.link_sink.specs.Grammar.{Grammar}
 
 -- the columns of three lanes that are aligned at a list of three edges, lane 0 first
 abbrev pub columns_at : List Bool → List Bool → List Bool → List ℕ → List Column
 columns_at xs ys zs edges = aligned_columns xs ys zs (slice_index edges 0) (slice_index edges 1) (slice_index edges 2)
 
--- what is told of columns while they go on
-unfoldable pub told_of : List Column → List Thing
-told_of cs = map thing_of (heard_so_far cs)
-
 -- the ear took what is told of more columns, after some of which all was told
-pub record TookMore {A : Type 0} (took : A → A → List Thing → Type 0) (before now : A) (cs more : List Column) : Type 0 where
+pub record TookMore {A : Type 0} (g : Grammar) (took : A → A → List Thing → Type 0) (before now : A) (cs more : List Column) : Type 0 where
   pub things : List Thing
-  pub things_are : told_of (cs ++ more) ≡ told_of cs ++ things
+  pub things_are : g.so_far (cs ++ more) ≡ g.so_far cs ++ things
   pub took_things : took before now things
 
 -- the ear broke in the midst of what is told of them
-pub record StoppedIn {A : Type 0} (took : A → A → List Thing → Type 0) (broke : A → A → Thing → Type 0) (before now : A) (cs more : List Column) : Type 0 where
+pub record StoppedIn {A : Type 0} (g : Grammar) (took : A → A → List Thing → Type 0) (broke : A → A → Thing → Type 0) (before now : A) (cs more : List Column) : Type 0 where
   pub things : List Thing
-  pub things_are : told_of (cs ++ more) ≡ told_of cs ++ things
+  pub things_are : g.so_far (cs ++ more) ≡ g.so_far cs ++ things
   pub stops : StopsIn took broke before now things

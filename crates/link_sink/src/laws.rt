@@ -3,6 +3,8 @@
 ghost use Rattle.link_sink.specs.Laws.{FramingStands, PeriodsStand, LinkLaw, EdgesEnd, FirstEnds, FirstUntil, TapAccounted, PayloadAccounted, OneWrongBit, HasExample, HasPayloadExample};
 ghost use Rattle.link_sink.specs.PeriodLaws.{ControlLaw, VideoLaw, IslandLaw, JoiningLaw};
 ghost use Rattle.link_sink.specs.Literal.{AccountLiteral};
+ghost use Rattle.link_sink.specs.Whole.{CleanIsWhole, WholeHeard};
+ghost use Rattle.link_sink.specs.Bytes.{DecodedIsByte};
 ghost use Rattle.link_sink.specs.Exact.{CleanIsFront, FrontIsClean, CheckIsExact};
 ghost use Rattle.link_sink.specs.Sinks.{SomeTold, OneTold};
 
@@ -116,4 +118,19 @@ pub fn some_told()
 /// Nothing else is: so neither the cutting of the bits into feeds nor a gate matters.
 pub fn one_told()
     ensures { OneTold }
+{}
+
+/// Clean columns that end in a control period of twelve columns or more are spelled whole.
+pub fn clean_is_whole()
+    ensures { CleanIsWhole }
+{}
+
+/// What is heard of columns that are spelled whole is their account.
+pub fn whole_heard()
+    ensures { WholeHeard }
+{}
+
+/// Every word decodes to a byte.
+pub fn decoded_is_byte()
+    ensures { DecodedIsByte }
 {}

@@ -3,7 +3,9 @@
 
 mod ear;
 mod hear;
+mod hears;
 pub mod laws;
+mod link_hearing;
 mod receiver;
 mod sink;
 mod slices;
@@ -12,7 +14,9 @@ mod telling;
 
 pub use ear::Ear;
 pub use hear::Outcome;
-pub use sink::LinkSink;
+pub use hears::Hears;
+pub use receiver::Receiver;
+pub use sink::{LaneSink, LinkSink};
 
 #[cfg(test)]
 mod tests;

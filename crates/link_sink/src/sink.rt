@@ -3,46 +3,51 @@ ghost use Rattle.std.specs.Prelude.{◌≡◌, ◌+◌, List, true, false, IfOk,
 ghost use Rattle.outside_io.specs.Causes.{HasCause};
 ghost use Rattle.period_grammar.specs.Things.{Thing};
 ghost use Rattle.link_sink.specs.Ears.{StopsIn};
-ghost use Rattle.link_sink.specs.Sinks.{Fed, grown, IsGain, IsLast};
+ghost use Rattle.link_sink.specs.Sinks.{Fed, grown, IsGainBy, IsLastBy};
 ghost use Rattle.link_sink.specs.Pieces.{no_bits};
 ghost use Rattle.link_sink.specs.Received.{CanFeed};
-ghost use Rattle.link_sink.specs.Streams.{StandsFor, bits_of, most_bits};
+ghost use Rattle.link_sink.specs.Streams.{StandsBy, bits_of, most_bits};
 
 use crate::Ear;
 use crate::hear::Outcome;
+use crate::hears::Hears;
 use crate::streaming::Stream;
 use lane_team::Gate;
 use outside_io::{Failed, NoMemory};
+use period_grammar::Hearing;
 use std::alloc::Global;
 use std::marker::Model;
 use std::thread::Threads;
 
+/// Hears the columns of a link.
+pub type LinkSink = LaneSink<Hearing>;
+
 /// Hears three lanes whose bits come feed after feed, and tells an ear what they say from their first full alignment on.
 /// It has taken all its memory when it is opened.
 #[derive(Drop)]
-pub struct LinkSink {
-    stream: Stream,
+pub struct LaneSink<H: Hears> {
+    stream: Stream<H>,
     is_open: bool,
 }
 
-impl Model for LinkSink {
-    ghost use Rattle.link_sink.specs.Streams.{SinkSeen, IsKept};
+impl<H: Hears> Model for LaneSink<H> {
+    ghost use Rattle.link_sink.specs.Streams.{LaneSinkSeen, IsKept};
 
-    ghost Value = { SinkSeen };
+    ghost Value = { LaneSinkSeen H };
 
     ghost view = { λ s. record { stream = s.stream; is_open = s.is_open } };
 
-    ghost invariant = { λ s. IsKept s.is_open s.stream };
+    ghost invariant = { λ s. IsKept H.goes_on s.is_open s.stream };
 }
 
-impl LinkSink {
+impl<H: Hears> LaneSink<H> {
     /// A sink that was fed no bits, with all memory that it ever has.
-    pub fn open(alloc: Global) -> Result<LinkSink, NoMemory>
+    pub fn open(alloc: Global) -> Result<LaneSink<H>, NoMemory>
         ensures open { IfOk result (λ s. s.is_open ≡ true) }
-        ensures fed { IfOk result (λ s. StandsFor s no_bits) }
+        ensures fed { IfOk result (λ s. StandsBy H.goes_on s no_bits) }
         ensures bits { IfOk result (λ s. most_bits s ≡ 0) }
     {
-        Ok(LinkSink {
+        Ok(LaneSink {
             stream: Stream::open(alloc)?,
             is_open: true,
         })
@@ -51,7 +56,7 @@ impl LinkSink {
     /// Makes it as after `open`, also where it is spent or finished.
     pub fn restart(&mut self)
         ensures open { self.new.is_open ≡ true }
-        ensures fed { StandsFor self.new no_bits }
+        ensures fed { StandsBy H.goes_on self.new no_bits }
         ensures bits { most_bits self.new ≡ 0 }
     {
         self.stream.restart();
@@ -90,12 +95,12 @@ impl LinkSink {
         ensures first { OnOk result (bits_of self.new 0 ≡ bits_of self.old 0 + slice_index bits 0) }
         ensures second { OnOk result (bits_of self.new 1 ≡ bits_of self.old 1 + slice_index bits 1) }
         ensures third { OnOk result (bits_of self.new 2 ≡ bits_of self.old 2 + slice_index bits 2) }
-        ensures fed { (fed : Fed) → StandsFor self.old fed → OnOk result (StandsFor self.new (grown fed a.now b.now c.now bits)) }
-        ensures told { (fed : Fed) → StandsFor self.old fed
-            → OnOk result ((things : List Thing) × IsGain fed (grown fed a.now b.now c.now bits) things × E.took ear.old ear.new things) }
+        ensures fed { (fed : Fed) → StandsBy H.goes_on self.old fed → OnOk result (StandsBy H.goes_on self.new (grown fed a.now b.now c.now bits)) }
+        ensures told { (fed : Fed) → StandsBy H.goes_on self.old fed
+            → OnOk result ((things : List Thing) × IsGainBy H.grammar fed (grown fed a.now b.now c.now bits) things × E.took ear.old ear.new things) }
         ensures spent { OnErr result (self.new.is_open ≡ false) }
-        ensures stopped { (fed : Fed) → StandsFor self.old fed
-            → OnErr result ((things : List Thing) × IsGain fed (grown fed a.now b.now c.now bits) things × StopsIn E.took E.broke ear.old ear.new things) }
+        ensures stopped { (fed : Fed) → StandsBy H.goes_on self.old fed
+            → OnErr result ((things : List Thing) × IsGainBy H.grammar fed (grown fed a.now b.now c.now bits) things × StopsIn E.took E.broke ear.old ear.new things) }
         ensures cause { HasCause (E.faults ear.old) (E.faults ear.new) result }
     {
         match self.stream.feed(rt, a, b, c, bits, gate, ear) {
@@ -116,10 +121,10 @@ impl LinkSink {
     pub fn finish<E: Ear>(&mut self, ear: &mut E) -> Result<Outcome, Failed>
         requires open { self.old.is_open ≡ true }
         ensures closed { self.new.is_open ≡ false }
-        ensures told { (fed : Fed) → StandsFor self.old fed
-            → IfOk result (λ outcome. (things : List Thing) × IsLast fed outcome things × E.took ear.old ear.new things) }
-        ensures stopped { (fed : Fed) → StandsFor self.old fed
-            → OnErr result ((outcome : Outcome) × (things : List Thing) × IsLast fed outcome things × StopsIn E.took E.broke ear.old ear.new things) }
+        ensures told { (fed : Fed) → StandsBy H.goes_on self.old fed
+            → IfOk result (λ outcome. (things : List Thing) × IsLastBy H.grammar fed outcome things × E.took ear.old ear.new things) }
+        ensures stopped { (fed : Fed) → StandsBy H.goes_on self.old fed
+            → OnErr result ((outcome : Outcome) × (things : List Thing) × IsLastBy H.grammar fed outcome things × StopsIn E.took E.broke ear.old ear.new things) }
         ensures cause { HasCause (E.faults ear.old) (E.faults ear.new) result }
     {
         self.is_open = false;

@@ -1,34 +1,33 @@
 //! What three lanes say whose bits come feed after feed, in a memory of one size.
-ghost use Rattle.std.specs.Prelude.{◌≡◌, ◌<◌, ◌+◌, ◌^◌, List, length, true, IfOk, OnOk, OnErr, slice_index, false, []};
+ghost use Rattle.std.specs.Prelude.{◌≡◌, ◌<◌, ◌+◌, ◌^◌, List, length, true, IfOk, OnOk, OnErr, slice_index, []};
 ghost use Rattle.outside_io.specs.Causes.{HasCause};
 ghost use Rattle.lane_align.specs.Aligners.{fed_of};
 ghost use Rattle.lane_deskew.specs.Pushed.{ready_of};
 ghost use Rattle.period_grammar.specs.Things.{Thing};
-ghost use Rattle.period_grammar.specs.Stands.{StandsFor as IsHearingOf};
 ghost use Rattle.link_sink.specs.Ears.{StopsIn};
-ghost use Rattle.link_sink.specs.Sinks.{Fed, grown, IsGain, IsLast};
+ghost use Rattle.link_sink.specs.Sinks.{Fed, grown, IsGainBy, IsLastBy};
 ghost use Rattle.link_sink.specs.Pieces.{no_bits};
 ghost use Rattle.link_sink.specs.Received.{CanFeed, longest};
 ghost use Rattle.link_sink.specs.Streams.{IsHeard, IsBehind};
 
 use crate::Ear;
 use crate::hear::Outcome;
+use crate::hears::Hears;
 use crate::receiver::Receiver;
 use crate::slices::hear_slices;
 use crate::telling::hear_end;
 use lane_deskew::ColumnsRef;
 use lane_team::Gate;
 use outside_io::{Failed, NoMemory};
-use period_grammar::Hearing;
 use std::alloc::Global;
 use std::marker::Model;
 use std::thread::Threads;
 
 /// Receives three lanes, hears their columns, and keeps what it would answer if they ended.
 #[derive(Drop)]
-pub struct Stream {
+pub struct Stream<H: Hears> {
     receiver: Receiver,
-    hearing: Box<Hearing>,
+    hearing: Box<H>,
     outcome: Outcome,
 }
 
@@ -38,18 +37,18 @@ const NOTHING: Outcome = Outcome {
     columns: 0,
 };
 
-impl Model for Stream {
+impl<H: Hears> Model for Stream<H> {
     ghost use Rattle.link_sink.specs.Seen as seen;
 
-    ghost Value = { seen.Stream };
+    ghost Value = { seen.Stream H };
 
     ghost view = { λ s. record { receiver = s.receiver; hearing = s.hearing.value; outcome = s.outcome } };
 }
 
-impl Stream {
+impl<H: Hears> Stream<H> {
     /// A stream of no bits, with all memory that it ever has.
-    pub fn open(alloc: Global) -> Result<Stream, NoMemory>
-        ensures heard { IfOk result (λ s. IsHeard s no_bits) }
+    pub fn open(alloc: Global) -> Result<Stream<H>, NoMemory>
+        ensures heard { IfOk result (λ s. IsHeard H.goes_on s no_bits) }
         ensures bits { IfOk result (λ s. longest s.receiver.team ≡ 0) }
     {
         let receiver = Receiver::open(alloc)?;
@@ -63,7 +62,7 @@ impl Stream {
 
     /// Makes it as after `open`.
     pub fn restart(&mut self)
-        ensures heard { IsHeard self.new no_bits }
+        ensures heard { IsHeard H.goes_on self.new no_bits }
         ensures bits { longest self.new.receiver.team ≡ 0 }
     {
         self.receiver.restart();
@@ -82,15 +81,15 @@ impl Stream {
         gate: &G,
         ear: &mut E,
     ) -> Result<(), Failed>
-        requires heard { (fed : Fed) × IsHeard self.old fed }
+        requires heard { (fed : Fed) × IsHeard H.goes_on self.old fed }
         requires first { CanFeed (fed_of self.old.receiver.team.first.aligner) (longest self.old.receiver.team) a.now (slice_index bits 0) }
         requires second { CanFeed (fed_of self.old.receiver.team.second.aligner) (longest self.old.receiver.team) b.now (slice_index bits 1) }
         requires third { CanFeed (fed_of self.old.receiver.team.third.aligner) (longest self.old.receiver.team) c.now (slice_index bits 2) }
-        ensures heard { (fed : Fed) → IsHeard self.old fed → OnOk result (IsHeard self.new (grown fed a.now b.now c.now bits)) }
-        ensures told { (fed : Fed) → IsHeard self.old fed
-            → OnOk result ((things : List Thing) × IsGain fed (grown fed a.now b.now c.now bits) things × E.took ear.old ear.new things) }
-        ensures stopped { (fed : Fed) → IsHeard self.old fed
-            → OnErr result ((things : List Thing) × IsGain fed (grown fed a.now b.now c.now bits) things × StopsIn E.took E.broke ear.old ear.new things) }
+        ensures heard { (fed : Fed) → IsHeard H.goes_on self.old fed → OnOk result (IsHeard H.goes_on self.new (grown fed a.now b.now c.now bits)) }
+        ensures told { (fed : Fed) → IsHeard H.goes_on self.old fed
+            → OnOk result ((things : List Thing) × IsGainBy H.grammar fed (grown fed a.now b.now c.now bits) things × E.took ear.old ear.new things) }
+        ensures stopped { (fed : Fed) → IsHeard H.goes_on self.old fed
+            → OnErr result ((things : List Thing) × IsGainBy H.grammar fed (grown fed a.now b.now c.now bits) things × StopsIn E.took E.broke ear.old ear.new things) }
         ensures first { fed_of self.new.receiver.team.first.aligner ≡ fed_of self.old.receiver.team.first.aligner + slice_index bits 0 }
         ensures second { fed_of self.new.receiver.team.second.aligner ≡ fed_of self.old.receiver.team.second.aligner + slice_index bits 1 }
         ensures third { fed_of self.new.receiver.team.third.aligner ≡ fed_of self.old.receiver.team.third.aligner + slice_index bits 2 }
@@ -99,7 +98,7 @@ impl Stream {
         self.outcome.aligned = self.receiver.feed(rt, a, b, c, bits, gate);
         hear_parts(
             &mut self.receiver,
-            &mut self.hearing,
+            &mut *self.hearing,
             &mut self.outcome,
             ear,
         )
@@ -107,35 +106,35 @@ impl Stream {
 
     /// Tells the ear what the end of the lanes tells.
     pub fn finish<E: Ear>(&mut self, ear: &mut E) -> Result<Outcome, Failed>
-        requires { (fed : Fed) × IsHeard self.old fed }
-        ensures told { (fed : Fed) → IsHeard self.old fed
-            → IfOk result (λ outcome. (things : List Thing) × IsLast fed outcome things × E.took ear.old ear.new things) }
-        ensures stopped { (fed : Fed) → IsHeard self.old fed
-            → OnErr result ((outcome : Outcome) × (things : List Thing) × IsLast fed outcome things × StopsIn E.took E.broke ear.old ear.new things) }
+        requires { (fed : Fed) × IsHeard H.goes_on self.old fed }
+        ensures told { (fed : Fed) → IsHeard H.goes_on self.old fed
+            → IfOk result (λ outcome. (things : List Thing) × IsLastBy H.grammar fed outcome things × E.took ear.old ear.new things) }
+        ensures stopped { (fed : Fed) → IsHeard H.goes_on self.old fed
+            → OnErr result ((outcome : Outcome) × (things : List Thing) × IsLastBy H.grammar fed outcome things × StopsIn E.took E.broke ear.old ear.new things) }
         ensures cause { HasCause (E.faults ear.old) (E.faults ear.new) result }
     {
         if !self.outcome.aligned {
             return Ok(self.outcome);
         }
-        hear_end(&mut self.hearing, ear)?;
+        hear_end(&mut *self.hearing, ear)?;
         Ok(self.outcome)
     }
 }
 
 /// Hears the columns that came, and tells the ear what they say.
-fn hear_parts<E: Ear>(
+fn hear_parts<H: Hears, E: Ear>(
     receiver: &mut Receiver,
-    hearing: &mut Hearing,
+    hearing: &mut H,
     outcome: &mut Outcome,
     ear: &mut E,
 ) -> Result<(), Failed>
-    requires { (before now : Fed) × IsBehind (record { receiver = receiver.old; hearing = hearing.old; outcome = outcome.old }) before now }
-    ensures heard { (before now : Fed) → IsBehind (record { receiver = receiver.old; hearing = hearing.old; outcome = outcome.old }) before now
-        → OnOk result (IsHeard (record { receiver = receiver.new; hearing = hearing.new; outcome = outcome.new }) now) }
-    ensures told { (before now : Fed) → IsBehind (record { receiver = receiver.old; hearing = hearing.old; outcome = outcome.old }) before now
-        → OnOk result ((things : List Thing) × IsGain before now things × E.took ear.old ear.new things) }
-    ensures stopped { (before now : Fed) → IsBehind (record { receiver = receiver.old; hearing = hearing.old; outcome = outcome.old }) before now
-        → OnErr result ((things : List Thing) × IsGain before now things × StopsIn E.took E.broke ear.old ear.new things) }
+    requires { (before now : Fed) × IsBehind H.goes_on (record { receiver = receiver.old; hearing = hearing.old; outcome = outcome.old }) before now }
+    ensures heard { (before now : Fed) → IsBehind H.goes_on (record { receiver = receiver.old; hearing = hearing.old; outcome = outcome.old }) before now
+        → OnOk result (IsHeard H.goes_on (record { receiver = receiver.new; hearing = hearing.new; outcome = outcome.new }) now) }
+    ensures told { (before now : Fed) → IsBehind H.goes_on (record { receiver = receiver.old; hearing = hearing.old; outcome = outcome.old }) before now
+        → OnOk result ((things : List Thing) × IsGainBy H.grammar before now things × E.took ear.old ear.new things) }
+    ensures stopped { (before now : Fed) → IsBehind H.goes_on (record { receiver = receiver.old; hearing = hearing.old; outcome = outcome.old }) before now
+        → OnErr result ((things : List Thing) × IsGainBy H.grammar before now things × StopsIn E.took E.broke ear.old ear.new things) }
     ensures team { receiver.new.team ≡ receiver.old.team }
     ensures cause { HasCause (E.faults ear.old) (E.faults ear.new) result }
 {
@@ -149,9 +148,8 @@ fn hear_parts<E: Ear>(
 
 /// A hearing in memory of its own: it is too large to be moved about.
 #[inline(never)]
-fn open_hearing(alloc: Global) -> Result<Box<Hearing>, NoMemory>
-    ensures open { IfOk result (λ h. h.value.finished ≡ false) }
-    ensures heard { IfOk result (λ h. IsHearingOf h.value []) }
+fn open_hearing<H: Hears>(alloc: Global) -> Result<Box<H>, NoMemory>
+    ensures { IfOk result (λ h. H.goes_on h.value []) }
 {
-    Ok(Box::new(alloc, Hearing::open())?)
+    Ok(Box::new(alloc, H::open())?)
 }

@@ -4,8 +4,8 @@ use Rattle.std.proofs.Common.{◌≡◌, ℕ, suc, zero, ◌+◌, ◌-◌, ◌<�
 use Rattle.std.specs.Prelude.{nat_lt, nat_le, Option, Some, None, ℤ, pos, ◌+ℤ◌, count_by}
 use Rattle.std.specs.List.{list_all}
 use Rattle.std.proofs.Math.IntN.{+ℤ_assoc, +ℤ_idl, +ℤ_idr}
-use Rattle.std.proofs.lemmas.Bool.{eq-eqb, ltb-true}
-use Rattle.std.proofs.lemmas.List.{take_at, drop_at, length-map}
+use Rattle.std.proofs.lemmas.Bool.{eq-eqb, ltb-true, lt-ltb}
+use Rattle.std.proofs.lemmas.List.{take_at, drop_at, take_all, length-map}
 use Rattle.std.proofs.lemmas.List.Elements.{All-tail}
 use Rattle.std.proofs.lemmas.List.Sums.{sum_by-cons}
 use Rattle.std.proofs.Math.Seq.{take-append_seam}
@@ -34,8 +34,9 @@ use Rattle.period_grammar.specs.Cut.{runs, stretches}
 use Rattle.period_grammar.specs.Island.{packet_faults, wrong_guards}
 use Rattle.period_grammar.specs.Heard.{code_fault, codes_of, heard, heard_so_far}
 use Rattle.island_pack.proofs.Repaired.{verdicts_are}
-use Rattle.link_sink.specs.Account.{control_row, wrong_preamble, open_video_row, open_island_row, close_island_row, video_row, video_told, packet_told, packets_told, island_told, period_row, account_from}
+use Rattle.link_sink.specs.Account.{control_row, wrong_preamble, open_video_row, open_island_row, close_island_row, video_row, video_told, packet_told, packets_told, island_told, period_row, account_from, account_at, account}
 use Rattle.link_sink.specs.Exact.{FrontIsClean}
+use Rattle.link_sink.specs.Whole.{WholeHeard}
 use Rattle.link_sink.proofs.Cutting.{AllControl, hear}
 use Rattle.link_sink.proofs.Rows.{and_both, control_columns, clean, Small, all_clean}
 use Rattle.link_sink.proofs.Conformed.{IsIsland, IsInner, Follows, ends, goes_on, Conforms, conforming, HasValues, has_values}
@@ -339,6 +340,32 @@ spelled_fine (control runs ∷ xs) cs m c h =
     subst (λ (ts : List Thing). Fine ts) (sym told)
     (fine_both (control_row 0 (take m before)) (account_from (0 + length before) (m - length before) before xs rest rest) (control_fine 0 m vs small)
     (account_fine vs xs c (0 + length before) (m - length before) rest b.1 h.4))
+
+spelled_heard : (runs : List ControlRun) (xs : List Period) (cs : List Column) (m : ℕ) → Conforms (control runs ∷ xs) → SpellsBy freely (control runs ∷ xs) cs → hear 0 (stretches (take m cs)) ≡ account (control runs ∷ xs) cs cs 0 m
+unfolding Conforms account account_at period_columns
+spelled_heard runs xs cs m c h =
+    let vs = values_of runs in
+    let k = length vs in
+    let before = control_columns vs in
+    let rest = h.1 in
+    let b = first_values (control runs) xs (has_values (control runs ∷ xs) c) in
+    let small = small_values runs b.0 in
+    let e : cs ≡ before ++ rest = h.2 ∙ ap (λ own. own ++ rest) h.3 in
+    let n = length-map vs control_column in
+    let long = follows_long vs xs c in
+    let first : IsControlPeriod before = record { long = omega arith; all = control_arrives before (all_clean vs small) } in
+    let told = ap (λ (ds : List Column). hear 0 (stretches (take m ds))) e ∙ joined xs (is_tail vs xs c) before rest rest first (arrive xs rest b.1 h.4) 0 m in
+    let i : k - 0 ≡ 0 + length before = omega arith in
+    let l : m - (k - 0) ≡ m - length before = omega arith in
+    let at = ap₂ (λ (us ws : List Column). control_row 0 (take m us) ++ account_from (k - 0) (m - (k - 0)) us xs ws ws) (ap (take k) e ∙ take_at before rest k n) (ap (drop k) e ∙ drop_at before rest k n)
+    ∙ ap₂ (λ (p q : ℕ). control_row 0 (take m before) ++ account_from p q before xs rest rest) i l in
+    told ∙ sym (ap (λ q. cond q (control_row 0 (take m (take k cs)) ++ account_from (k - 0) (m - (k - 0)) (take k cs) xs (drop k cs) (drop k cs)) (account xs (drop k cs) (drop k cs) (0 - k) m)) (lt-ltb 0 k (omega arith)) ∙ at)
+
+pub whole_heard : WholeHeard
+unfolding heard heard_so_far
+whole_heard cs w =
+    let all = take_all (length cs) cs (omega arith) in
+    ap (λ (ds : List Column). hear 0 (stretches ds)) (sym all) ∙ spelled_heard w.runs w.periods cs (length cs) (conforming (control w.runs ∷ w.periods) w.conforming) w.spells
 
 pub front_is_clean : FrontIsClean
 unfolding heard heard_so_far

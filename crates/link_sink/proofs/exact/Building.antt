@@ -50,12 +50,12 @@ front (stretch control gap ∷ (y ∷ ys)) = control ++ (gap ++ front (y ∷ ys)
 -- Periods before others.
 
 -- a period that may follow control columns of these values
-abbrev inner : List ℕ → Period → Bool
+abbrev pub inner : List ℕ → Period → Bool
 inner vs (sends.control runs) = false
 inner vs (sends.video bytes) = has_preamble VIDEO_PREAMBLE vs && is_video_period bytes
 inner vs (sends.island x) = has_preamble ISLAND_PREAMBLE vs && is_data_island x
 
-conforms_more : (runs : List ControlRun) (x : Period) (rest : List Period) → is_control_period runs ≡ true → inner (values_of runs) x ≡ true → conforms rest ≡ true
+pub conforms_more : (runs : List ControlRun) (x : Period) (rest : List Period) → is_control_period runs ≡ true → inner (values_of runs) x ≡ true → conforms rest ≡ true
     → conforms (sends.control runs ∷ (x ∷ rest)) ≡ true
 unfolding conforms
 conforms_more runs (sends.control r) rest c i h = absurd cc
@@ -106,10 +106,10 @@ front_less xs ys f = record { periods = f.periods; spelled = f.spelled; conformi
 -- What a gap is.
 
 -- the period that a gap spells, after control columns
-record IsSpelled (control gap : List Column) : Type 0 where
-  x : Period
-  fits : inner (map value_of control) x ≡ true
-  spelled : SpellsPeriodBy freely x gap
+pub record IsSpelled (control gap : List Column) : Type 0 where
+  pub x : Period
+  pub fits : inner (map value_of control) x ≡ true
+  pub spelled : SpellsPeriodBy freely x gap
 
 -- one that it begins
 record IsBegun (control gap : List Column) : Type 0 where
@@ -190,9 +190,9 @@ going_fine b control g h k rest f =
     (subst (λ (ts : List Thing). Fine ts) (things_at (b + 1) (opening b control g h k)) (fine_left (map thing_of here) (map thing_of more) e), fine_right (map thing_of here) (map thing_of more) e)
 
 -- a gap that a control column closes
-record IsWhole (control gap : List Column) : Type 0 where
-  long : 12 ≤ length control
-  of : IsSpelled control gap
+pub record IsWhole (control gap : List Column) : Type 0 where
+  pub long : 12 ≤ length control
+  pub of : IsSpelled control gap
 
 island_by : (f : ℕ → Thing) (b : ℕ) (control : List Column) (g h : Column) (pl : Payload) → ((c : ℕ) → is_fault_thing (f c) ≡ true) → AreGuards g h → Fine (lacks b control ISLAND_PREAMBLE) → LongOf pl
     → Fine (map thing_of (in_island b pl)) → Fine (breaks f b pl) → IsWhole control (g ∷ (h ∷ flat_of pl))
@@ -217,7 +217,7 @@ whole_by b control g h island rest e f c =
     (island_by broken b control g h (payload rest) (λ c. refl) (both_guards g h sure.0 sure.1) l (split_long (length rest) rest) both.1 c)
 whole_by b control g h neither rest e f c = let both = going_fine b control g h neither rest f in let n = both.0 in absurd cc
 
-gap_whole : (b : ℕ) (control : List Column) (g : Column) (gap : List Column) → Fine (gap_things b control (g ∷ gap)) → Fine (at_close b (g ∷ gap)) → IsWhole control (g ∷ gap)
+pub gap_whole : (b : ℕ) (control : List Column) (g : Column) (gap : List Column) → Fine (gap_things b control (g ∷ gap)) → Fine (at_close b (g ∷ gap)) → IsWhole control (g ∷ gap)
 unfolding in_gap at_close
 gap_whole b control g [] f c = absurd cc
 gap_whole b control g (h ∷ rest) f c = whole_by b control g h (opened g h) rest refl f c

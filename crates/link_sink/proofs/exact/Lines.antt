@@ -63,7 +63,7 @@ length-byte : (w : ℕ) → length (decoded_bits (word_bits w)) ≡ 8
 unfolding word_bits bits_of
 length-byte w = length-decoded _ _ _ _ _ _ _ _ _ _
 
-byte_small : (w : ℕ) → nat_lt (decoded_byte w) 256 ≡ true
+pub byte_small : (w : ℕ) → nat_lt (decoded_byte w) 256 ≡ true
 unfolding decoded_byte
 byte_small w =
     let n = length-byte w in

@@ -1,20 +1,19 @@
 use Rattle.std.proofs.Common.{◌++◌, List, take, arith, sym, subst, ap, ◌∙◌, append_assoc, length, drop, ◌-◌, length-drop, length-take}
 use Rattle.tmds_word.specs.Column.{Column}
 use Rattle.tmds_word.specs.Words.{columns_of}
-use Rattle.period_grammar.specs.Stands.{StandsFor}
 use Rattle.link_sink.specs.Telling.{TookMore, StoppedIn}
 use Rattle.link_sink.proofs.Stops.{on_err}
-use Rattle.link_sink.proofs.Parts.{took_parts, stopped_parts, part_columns, whole_columns, all_columns}
+use Rattle.link_sink.proofs.Parts.{few_more, took_parts, stopped_parts, part_columns, whole_columns, all_columns}
 use Rattle.link_sink.proofs.slices.hear_slices.Goals as goal
 
 pub returns-in_err-j-clause-stopped : goal.returns-in_err-j-clause-stopped
 returns-in_err-j-clause-stopped g c =
     let all = columns_of c.args.blue.now c.args.green.now c.args.red.now in
     let j = c.loop-j.j in
-    on_err {P = (cs : List Column) → StandsFor c.args.hearing.now cs → StoppedIn g.E.Ear.took g.E.Ear.broke c.args.ear.now c.hear_part.new.ear cs all} _ (λ cs was.
-    subst (λ (ds : List Column). StoppedIn g.E.Ear.took g.E.Ear.broke c.args.ear.now c.hear_part.new.ear cs ds)
+    on_err {P = (cs : List Column) → g.H.Hears.goes_on c.args.hearing.now cs → StoppedIn g.H.Hears.grammar g.E.Ear.took g.E.Ear.broke c.args.ear.now c.hear_part.new.ear cs all} _ (λ cs was.
+    subst (λ (ds : List Column). StoppedIn g.H.Hears.grammar g.E.Ear.took g.E.Ear.broke c.args.ear.now c.hear_part.new.ear cs ds)
     (sym (whole_columns c.args.blue.now c.args.green.now c.args.red.now j))
-    (stopped_parts g.E.Ear.took g.E.Ear.broke g.met.E.Ear.took_both _ _ _ cs (take j all) _ (c.loop-j.invariant.told cs was)
+    (stopped_parts g.H.Hears.grammar g.E.Ear.took g.E.Ear.broke g.met.E.Ear.took_both _ _ _ cs (take j all) _ (c.loop-j.invariant.told cs was)
     (c.in_err-j.ensures.stopped (cs ++ take j all) (c.loop-j.invariant.stands cs was))))
 
 pub loop-j-preserved : goal.loop-j-preserved
@@ -25,24 +24,33 @@ loop-j-preserved g c =
     let more = part_columns c.args.blue.now c.args.green.now c.args.red.now j n in
     record {
       within = omega (arith, c.in_ok-j.ensures.count.1, length-drop j c.args.blue.now, length-take (length c.args.blue.now - j) (drop j c.args.blue.now));
-      columns = omega (arith, c.in_ok-j.ensures.columns, c.loop-j.invariant.columns);
-      finished = c.in_ok-j.ensures.open;
       stands = λ cs was.
-          subst (λ (ds : List Column). StandsFor c.hear_part.new.hearing ds) (append_assoc cs (take j all) _ ∙ ap (λ ds. cs ++ ds) (sym more))
+          subst (λ (ds : List Column). g.H.Hears.goes_on c.hear_part.new.hearing ds) (append_assoc cs (take j all) _ ∙ ap (λ ds. cs ++ ds) (sym more))
           (c.in_ok-j.ensures.heard (cs ++ take j all) (c.loop-j.invariant.stands cs was));
       told = λ cs was.
-          subst (λ (ds : List Column). TookMore g.E.Ear.took c.args.ear.now c.hear_part.new.ear cs ds) (sym more)
-          (took_parts g.E.Ear.took g.met.E.Ear.took_both _ _ _ cs (take j all) _ (c.loop-j.invariant.told cs was)
+          subst (λ (ds : List Column). TookMore g.H.Hears.grammar g.E.Ear.took c.args.ear.now c.hear_part.new.ear cs ds) (sym more)
+          (took_parts g.H.Hears.grammar g.E.Ear.took g.met.E.Ear.took_both _ _ _ cs (take j all) _ (c.loop-j.invariant.told cs was)
           (c.in_ok-j.ensures.told (cs ++ take j all) (c.loop-j.invariant.stands cs was)));
       later = omega (arith, c.loop-j.invariant.later, c.hear_part.ensures.cause.later);
     }
 
 pub returns-clause-heard : goal.returns-clause-heard
 returns-clause-heard g c = λ cs was.
-    subst (λ (ds : List Column). StandsFor c.loop-j.hearing (cs ++ ds)) (all_columns c.args.blue.now c.args.green.now c.args.red.now c.loop-j.j (omega (arith, c.loop-j-test.false)))
+    subst (λ (ds : List Column). g.H.Hears.goes_on c.loop-j.hearing (cs ++ ds)) (all_columns c.args.blue.now c.args.green.now c.args.red.now c.loop-j.j (omega (arith, c.loop-j-test.false)))
     (c.loop-j.invariant.stands cs was)
 
 pub returns-clause-told : goal.returns-clause-told
 returns-clause-told g c = λ cs was.
-    subst (λ (ds : List Column). TookMore g.E.Ear.took c.args.ear.now c.loop-j.ear cs ds) (all_columns c.args.blue.now c.args.green.now c.args.red.now c.loop-j.j (omega (arith, c.loop-j-test.false)))
+    subst (λ (ds : List Column). TookMore g.H.Hears.grammar g.E.Ear.took c.args.ear.now c.loop-j.ear cs ds) (all_columns c.args.blue.now c.args.green.now c.args.red.now c.loop-j.j (omega (arith, c.loop-j-test.false)))
     (c.loop-j.invariant.told cs was)
+
+pub hear_part-requires-clause-few : goal.hear_part-requires-clause-few
+hear_part-requires-clause-few g c =
+    let all = columns_of c.args.blue.now c.args.green.now c.args.red.now in
+    few_more g.H.Hears.goes_on g.H.Hears.counted g.met.H.Hears.counts c.args.hearing.now c.loop-j.hearing c.requires.heard.0 c.args.blue.now c.args.green.now c.args.red.now
+    c.loop-j.j c.requires.heard.1 (c.loop-j.invariant.stands c.requires.heard.0 c.requires.heard.1) c.requires.few
+
+pub hear_part-requires-clause-heard : goal.hear_part-requires-clause-heard
+hear_part-requires-clause-heard g c =
+    let all = columns_of c.args.blue.now c.args.green.now c.args.red.now in
+    (c.requires.heard.0 ++ take c.loop-j.j all, c.loop-j.invariant.stands c.requires.heard.0 c.requires.heard.1)

@@ -1,7 +1,6 @@
-use Rattle.std.proofs.Common.{◌≡◌, ◌+◌, ◌-◌, ◌≤◌, ◌++◌, List, length, take, false}
+use Rattle.std.proofs.Common.{◌-◌, ◌≤◌, ◌++◌, List, length, take}
 use Rattle.tmds_word.specs.Column.{Column}
 use Rattle.tmds_word.specs.Words.{columns_of}
-use Rattle.period_grammar.specs.Stands.{StandsFor}
 use Rattle.link_sink.specs.Telling.{TookMore}
 use Rattle.link_sink.proofs.slices.hear_slices.Given as goal
 
@@ -10,10 +9,8 @@ invariant-loop-j g l =
     let all = columns_of l.blue l.green l.red in
     record {
       within : l.j ≤ length l.blue;
-      columns : l.hearing.columns ≡ l.initial.hearing.columns + l.j;
-      finished : l.hearing.finished ≡ false;
-      stands : (cs : List Column) → StandsFor l.initial.hearing cs → StandsFor l.hearing (cs ++ take l.j all);
-      told : (cs : List Column) → StandsFor l.initial.hearing cs → TookMore g.E.Ear.took l.initial.ear l.ear cs (take l.j all);
+      stands : (cs : List Column) → g.H.Hears.goes_on l.initial.hearing cs → g.H.Hears.goes_on l.hearing (cs ++ take l.j all);
+      told : (cs : List Column) → g.H.Hears.goes_on l.initial.hearing cs → TookMore g.H.Hears.grammar g.E.Ear.took l.initial.ear l.ear cs (take l.j all);
       later : g.E.Ear.faults l.initial.ear ≤ g.E.Ear.faults l.ear;
     }
 

@@ -1,9 +1,8 @@
 use Rattle.std.proofs.Common.{◌≤◌, take}
-use Rattle.period_grammar.specs.Lending.{last_told}
 use Rattle.link_sink.proofs.telling.tell_each.Given as goal
 
 abbrev pub invariant-loop-i : goal.invariant-loop-i
 invariant-loop-i g l = record {
-  took : g.E.Ear.took l.initial.ear l.ear (take l.i (last_told l.hearing));
+  took : g.E.Ear.took l.initial.ear l.ear (take l.i (g.H.Hears.last l.hearing));
   later : g.E.Ear.faults l.initial.ear ≤ g.E.Ear.faults l.ear;
 }

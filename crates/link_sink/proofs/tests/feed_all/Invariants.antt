@@ -1,4 +1,4 @@
-use Rattle.std.proofs.Common.{◌≡◌, ◌-◌, ◌≤◌, ◌%◌, length, min, true, slice_index}
+use Rattle.std.proofs.Common.{◌≡◌, ◌-◌, ◌≤◌, ◌%◌, length, min, true}
 use Rattle.link_sink.specs.Streams.{bits_of}
 use Rattle.link_sink.proofs.tests.feed_all.Given as goal
 

@@ -1,0 +1,77 @@
+//! What hears columns: by the grammar of a link, or by another one.
+ghost use Rattle.std.specs.Prelude.{◌≡◌, ◌<◌, ◌≤◌, ◌+◌, ◌++◌, ◌∷◌, [], ℕ, All, List, length, take, slice_get, Some};
+ghost use Rattle.tmds_word.specs.Column.{Column, column_of};
+ghost use Rattle.tmds_word.specs.Words.{columns_of};
+ghost use Rattle.period_grammar.specs.Things.{Thing};
+ghost use Rattle.period_grammar.specs.Lending.{lent_thing};
+ghost use Rattle.link_sink.specs.Grammar.{Grammar};
+ghost use Rattle.link_sink.specs.Hearings.{IsGrammar};
+
+use period_grammar::Told;
+use tmds_word::Word;
+
+/// Hears columns one after another, and tells what they say.
+pub trait Hears: Drop {
+    /// What columns tell.
+    ghost grammar: { Grammar };
+
+    /// It has heard these columns, and goes on.
+    ghost goes_on: { Self → List Column → Type 0 };
+
+    /// How many columns it has heard.
+    ghost counted: { Self → ℕ };
+
+    /// What its last call told.
+    ghost last: { Self → List Thing };
+
+    /// One that has heard nothing. It takes no memory.
+    fn open() -> Self
+    where
+        Self: Sized,
+        ensures { goes_on result [] };
+
+    /// Forgets all that was heard and told.
+    fn restart(&mut self)
+        ensures { goes_on self.new [] };
+
+    /// Hears one column.
+    fn hear(&mut self, column: &[Word; 3])
+        requires few { counted self.old < 429496730 }
+        requires heard { (cs : List Column) × goes_on self.old cs }
+        ensures heard { (cs : List Column) → goes_on self.old cs → goes_on self.new (cs ++ column_of column.now ∷ []) }
+        ensures told { (cs : List Column) → goes_on self.old cs → grammar.so_far (cs ++ column_of column.now ∷ []) ≡ grammar.so_far cs ++ last self.new };
+
+    /// Hears columns of three lanes' words from the first on, as long as they tell nothing, or fewer of them, and answers
+    /// how many these are.
+    fn hear_while(&mut self, blue: &[u16], green: &[u16], red: &[u16]) -> usize
+        requires green { length green.now ≡ length blue.now }
+        requires red { length red.now ≡ length blue.now }
+        requires blue_words { All (λ w. w < 1024) blue.now }
+        requires green_words { All (λ w. w < 1024) green.now }
+        requires red_words { All (λ w. w < 1024) red.now }
+        requires few { counted self.old + length blue.now ≤ 429496730 }
+        requires heard { (cs : List Column) × goes_on self.old cs }
+        ensures within { result ≤ length blue.now }
+        ensures heard { (cs : List Column) → goes_on self.old cs → goes_on self.new (cs ++ take result (columns_of blue.now green.now red.now)) }
+        ensures told { (cs : List Column) → goes_on self.old cs → grammar.so_far (cs ++ take result (columns_of blue.now green.now red.now)) ≡ grammar.so_far cs };
+
+    /// Ends the columns.
+    fn finish(&mut self)
+        requires heard { (cs : List Column) × goes_on self.old cs }
+        ensures told { (cs : List Column) → goes_on self.old cs → grammar.whole cs ≡ grammar.so_far cs ++ last self.new };
+
+    /// How many things the last call told.
+    fn tells(&self) -> u8
+        ensures { result ≡ length (last self.now) };
+
+    /// Lends thing `i` of those that the last call told.
+    fn told(&self, i: u8) -> Told<'_>
+        requires { i < length (last self.now) }
+        ensures { slice_get (last self.now) i ≡ Some (lent_thing result) };
+
+    /// The columns are counted.
+    ghost counts: { (h : Self) (cs : List Column) → goes_on h cs → counted h ≡ length cs };
+
+    /// What columns tell is so.
+    ghost is_grammar: { IsGrammar grammar };
+}
