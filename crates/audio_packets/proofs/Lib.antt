@@ -4,3 +4,4 @@ mod Notes
 mod Marks
 mod WrittenClock
 mod WrittenSamples
+pub mod Pairs

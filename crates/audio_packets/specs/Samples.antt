@@ -1,6 +1,6 @@
 -- Packets of two-channel audio samples: HDMI 1.4, section 5.3.4. The bits of a side are those of time slots 4 to 31 of a
 -- subframe of IEC 60958-1, section 4.1: 24 of the value, then validity (V), user data (U), channel status (C), parity (P).
-use Rattle.std.specs.Prelude.{◌≡◌, ℕ, ◌+◌, ◌-◌, ◌*◌, ◌/◌, ◌%◌, ◌^◌, ◌<◌, Bool, true, List, [], ◌∷◌, ◌++◌, Result, Ok, Err, length, map, filter, replicate, slice_index, drop, count_ones, ◌==◌, if◌then◌else◌}
+use Rattle.std.specs.Prelude.{◌≡◌, ℕ, ◌+◌, ◌-◌, ◌*◌, ◌/◌, ◌%◌, ◌^◌, ◌<◌, Bool, true, List, [], ◌∷◌, ◌++◌, Result, Ok, Err, length, map, filter, replicate, slice_index, drop, count_ones, ◌&&◌, ◌==◌, if◌then◌else◌}
 use Rattle.std.specs.Int.{bit_at}
 use Rattle.std.specs.List.{flat_map, enumerate_from}
 use Rattle.tmds_word.specs.Bits.{number}
@@ -74,14 +74,29 @@ note_at packet place = record {
 abbrev pub packet_with : List ℕ → List ℕ → Packet
 packet_with header bodies = record { header = header; bodies = bodies; sync = [] }
 
+-- the samples of the bodies whose bits a mask has, from a body on
+abbrev pub notes_from : Packet → ℕ → ℕ → List SampleNote
+notes_from packet mask place = map (note_at packet) (filter (bit mask) (drop place (0 ∷ 1 ∷ 2 ∷ 3 ∷ [])))
+
 -- the samples of the present bodies, from a body on
 abbrev pub samples_from : Packet → ℕ → List SampleNote
-samples_from packet place = map (note_at packet) (filter (is_present packet) (drop place (0 ∷ 1 ∷ 2 ∷ 3 ∷ [])))
+samples_from packet place = notes_from packet (slice_index packet.header 1) place
 
 -- what an audio sample packet is read as
 abbrev pub samples_of : Packet → PacketVerdicts → Result (List SampleNote) AudioFault
 samples_of packet verdicts =
     unless_lost (first_lost verdicts) (if has_many_channels packet then Err Layout else Ok (samples_from packet 0))
+
+-- whether a body is present and has samples of a pair of channels, by header byte 1: with layout 0 all bodies have those of
+-- pair 0, with layout 1 each body those of the pair of its number (which pair it has is own)
+abbrev pub has_pair : ℕ → ℕ → ℕ → Bool
+has_pair present pair place = bit present place && (if bit present 4 then place == pair else pair == 0)
+
+-- what an audio sample packet is read as for one pair of channels
+abbrev pub pair_of : Packet → PacketVerdicts → ℕ → Result (List SampleNote) AudioFault
+pair_of packet verdicts pair =
+    unless_lost (first_lost verdicts)
+    (Ok (map (note_at packet) (filter (has_pair (slice_index packet.header 1) pair) (0 ∷ 1 ∷ 2 ∷ 3 ∷ []))))
 
 -- V, U, C and the P that makes a side even
 abbrev pub side_bits : ℕ → ℕ → ℕ

@@ -11,9 +11,9 @@ mod writing;
 
 pub use clock::{Acr, read_acr, write_acr};
 pub use fault::AudioFault;
-pub use reading::{SampleIter, samples};
+pub use reading::{SampleIter, pair, samples};
 pub use sample::{Sample, SampleNote};
-pub use writing::write_samples;
+pub use writing::{side_bits, write_samples};
 
 #[cfg(test)]
 mod tests;

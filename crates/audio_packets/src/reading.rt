@@ -1,8 +1,8 @@
 //! Samples read from packets.
-ghost use Rattle.std.specs.Prelude.{◌≡◌, ◌+◌, ◌*◌, ◌^◌, ◌<◌, ◌≤◌, ◌∷◌, [], IfSome, drop};
+ghost use Rattle.std.specs.Prelude.{◌≡◌, ◌+◌, ◌*◌, ◌^◌, ◌<◌, ◌≤◌, ◌∷◌, [], IfSome, drop, filter};
 ghost use Rattle.std.specs.List.{find};
 ghost use Rattle.bch_block.specs.Bits.{bit};
-ghost use Rattle.audio_packets.specs.Samples.{IsSamplePacket, packet_with, is_even, note_at, samples_of};
+ghost use Rattle.audio_packets.specs.Samples.{IsSamplePacket, packet_with, is_even, note_at, samples_of, pair_of, has_pair};
 
 use crate::fault::{AudioFault, lost_block};
 use crate::sample::{Sample, SampleNote};
@@ -27,28 +27,67 @@ pub fn samples<'a>(packet: PacketRef<'a>) -> Result<SampleIter<'a>, AudioFault>
     Ok(SampleIter {
         header,
         bodies: packet.bodies(),
+        mask: header[1],
         place: 0,
     })
 }
 
-/// The samples of a packet's present bodies, in order. Contracts see it as the list of the samples
-/// that are still to come.
+/// Reads the samples of one pair of channels, 0 to 3, of an audio sample packet: with layout 0 pair 0
+/// has those of all present bodies, with layout 1 each pair that of the body of its number, where
+/// that is present (HDMI 1.4, section 5.3.4; which pair a body has is own).
+///
+/// `Lost` has the least lost block. There is no other refusal.
+pub fn pair<'a>(packet: PacketRef<'a>, pair: u8) -> Result<SampleIter<'a>, AudioFault>
+    requires audio { IsSamplePacket packet.packet.now }
+    requires pairs { pair < 4 }
+    ensures { result ≡ pair_of packet.entry.packet.now packet.entry.verdicts.now pair }
+{
+    if let Some(lost) = lost_block(packet) {
+        return Err(AudioFault::Lost(lost));
+    }
+    let header = packet.header();
+    Ok(SampleIter {
+        header,
+        bodies: packet.bodies(),
+        mask: pair_mask(header[1], pair),
+        place: 0,
+    })
+}
+
+/// The present bodies that have samples of a pair, of those that a header byte names.
+fn pair_mask(present: u8, pair: u8) -> u8
+    requires { pair < 4 }
+    ensures { filter (bit result) (0 ∷ 1 ∷ 2 ∷ 3 ∷ []) ≡ filter (has_pair present pair) (0 ∷ 1 ∷ 2 ∷ 3 ∷ []) }
+{
+    if has_bit(present, 4) {
+        present & (1 << pair)
+    } else if pair == 0 {
+        present
+    } else {
+        0
+    }
+}
+
+/// The samples of bodies of a packet, in order. Contracts see it as the list of the samples that are
+/// still to come.
 #[derive(Debug, Drop)]
 pub struct SampleIter<'a> {
     header: &'a [u8; 3],
     bodies: &'a [u8; 28],
+    /// A bit for each body that is looked at, where it is present.
+    mask: u8,
     /// The first body that is still to be looked at.
     place: u8,
 }
 
 impl<'a> Model for SampleIter<'a> {
     ghost use Rattle.std.specs.Prelude.{List, ◌≤◌};
-    ghost use Rattle.audio_packets.specs.Samples.{packet_with, samples_from};
+    ghost use Rattle.audio_packets.specs.Samples.{packet_with, notes_from};
     ghost use Rattle.audio_packets.specs.declared.sample.SampleNote.{SampleNote};
 
     ghost Value = { List SampleNote };
 
-    ghost view = { λ s. samples_from (packet_with s.header.now s.bodies.now) s.place };
+    ghost view = { λ s. notes_from (packet_with s.header.now s.bodies.now) s.mask s.place };
 
     ghost invariant = { λ s. s.place ≤ 4 };
 }
@@ -63,19 +102,19 @@ impl<'a> Iterator for SampleIter<'a> {
     ghost remaining = { item_count (λ s. s) };
 
     fn next(&mut self) -> Option<SampleNote> {
-        let place = present_from(self.header[1], self.place)?;
+        let place = present_from(self.mask, self.place)?;
         self.place = place + 1;
         Some(note_at(self.header, self.bodies, place))
     }
 }
 
-/// The first present body from a body on, of those that a header byte names.
-fn present_from(present: u8, place: u8) -> Option<u8>
+/// The first body from a body on, of those that a mask names.
+fn present_from(mask: u8, place: u8) -> Option<u8>
     requires { place ≤ 4 }
-    ensures value { result ≡ find (bit present) (drop place (0 ∷ 1 ∷ 2 ∷ 3 ∷ [])) }
+    ensures value { result ≡ find (bit mask) (drop place (0 ∷ 1 ∷ 2 ∷ 3 ∷ [])) }
     ensures bound { IfSome result (λ body. (place ≤ body) × (body < 4)) }
 {
-    (place..4).find(|body| has_bit(present, *body))
+    (place..4).find(|body| has_bit(mask, *body))
 }
 
 /// The sample of a body, and whether its sides are even.

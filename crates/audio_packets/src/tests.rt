@@ -165,6 +165,29 @@ fn reads_samples(rt: HostRuntime) {
     }
 }
 
+// What each pair has of a packet of either layout, for each set of present bodies: the first sample's body.
+#[test]
+fn reads_pairs(rt: HostRuntime) {
+    let verdicts = lost_at(5);
+    for present in 0..16_u8 {
+        for number in 0..4_u8 {
+            let packet = packet_of(&[0x02, 0x10 + present, 0x00], &[0; 4]);
+            assert_eq!(rt; packet.header[0], 2);
+            let there = (present >> number) & 1 == 1;
+            match pair(PacketRef::new(&packet, &verdicts), number) {
+                Ok(mut notes) => {
+                    assert_eq!(rt;
+                        notes.next().map(|note| note.place),
+                        there.then_some(number)
+                    );
+                    assert_eq!(rt; notes.next(), None);
+                }
+                Err(_) => assert!(rt; false),
+            }
+        }
+    }
+}
+
 #[test]
 fn refuses_samples(rt: HostRuntime) {
     let packet = packet_of(&[0x02, 0x11, 0x00], &[0; 4]);

@@ -58,8 +58,9 @@ fn sample_body(sample: &Sample) -> [u8; 7]
     [l0, l1, l2, r0, r1, r2, left + 16 * right]
 }
 
-/// V, U and C of a side and the parity bit that makes it even.
-fn side_bits(value: u32, flags: u8) -> u8
+/// V, U and C of a side and the parity bit that makes it even, as time slots 28 to 31 of a subframe have
+/// them (IEC 60958-1, section 4.1).
+pub fn side_bits(value: u32, flags: u8) -> u8
     requires { flags < 8 }
     ensures value { result ≡ side_bits value flags }
     ensures below { result < 16 }

@@ -10,5 +10,5 @@ use Rattle.audio_packets.proofs.reading.present_from.Goals as goal
 pub returns-clause-value : goal.returns-clause-value
 returns-clause-value c =
     sym (option_map-same c.find.result)
-    ∙ find_from_yields_List (bit c.args.present) _ _ c.find.result c.find.ensures.ran (YieldsList-from_range c.args.place 4 (4 - c.args.place) refl refl) (λ x b q k. search (rules, tests))
-    ∙ ap (find (bit c.args.present)) (sym (drop-places c.args.place c.requires))
+    ∙ find_from_yields_List (bit c.args.mask) _ _ c.find.result c.find.ensures.ran (YieldsList-from_range c.args.place 4 (4 - c.args.place) refl refl) (λ x b q k. search (rules, tests))
+    ∙ ap (find (bit c.args.mask)) (sym (drop-places c.args.place c.requires))
