@@ -1,9 +1,9 @@
 //! What an item is asked before it follows others, each question with a yes or a no.
 ghost use Rattle.std.specs.Prelude.{◌≡◌, ℕ, List, map, IsTrue};
 ghost use Rattle.std.specs.List.{list_all};
-ghost use Rattle.island_pack.specs.Periods.{DataIsland, video, island, period_columns};
+ghost use Rattle.island_pack.specs.Periods.{DataIsland, video, island};
 ghost use Rattle.source_end.specs.ItemPeriods.{period_of};
-ghost use Rattle.source_end.specs.Kept.{capped, has_pixels, is_run_in_range};
+ghost use Rattle.source_end.specs.Kept.{has_pixels, is_run_in_range};
 ghost use Rattle.source_end.specs.Refusals.{last_period, is_in_range, is_in_order, has_control, is_announced, is_control_last, is_long_enough};
 
 use crate::{Item, Run};
@@ -25,22 +25,6 @@ fn are_in_range(runs: &[Run]) -> bool
     ensures { result ≡ list_all is_run_in_range runs.now }
 {
     runs.iter().all(|run| run.is_in_range())
-}
-
-/// How many columns it takes, at most the greatest u32.
-pub(crate) fn columns_of(item: &Item) -> u32
-    ensures { result ≡ capped (period_columns (period_of item.now)) }
-{
-    match item {
-        Item::Control(runs) => runs.columns(),
-        Item::Video(pixels) => u32::try_from(pixels.len())
-            .unwrap_or(u32::MAX)
-            .saturating_add(2),
-        Item::Island(island) => u32::try_from(island.len())
-            .unwrap_or(u32::MAX)
-            .saturating_mul(32)
-            .saturating_add(4),
-    }
 }
 
 /// Whether it takes its turn after the items before it.

@@ -1,20 +1,22 @@
-//! The items of a raster, gathered from its parts: neighbouring control columns are one control period,
+//! Items, gathered from parts: neighbouring control columns are one control period,
 //! of longest runs of like values.
-ghost use Rattle.std.specs.Prelude.{◌≡◌, ℕ, ◌+◌, ◌%◌, ◌^◌, ◌<◌, ◌++◌, ◌∷◌, [], List, length, map, replicate, OnOk, IfOk, IsTrue, ◌↔◌};
+ghost use Rattle.std.specs.Prelude.{◌≡◌, ℕ, ◌+◌, ◌%◌, ◌^◌, ◌<◌, ◌≤◌, ◌++◌, ◌∷◌, [], List, length, map, replicate, OnOk, IfOk, IsTrue, ◌↔◌};
 ghost use Rattle.island_pack.specs.Runs.{longest};
+ghost use Rattle.island_pack.specs.Periods.{columns_of};
+ghost use Rattle.island_pack.specs.Conforming.{IsConforming};
 ghost use Rattle.source_end.specs.ItemPeriods.{period_of};
 ghost use Rattle.source_end.specs.OpenRuns.{open_period};
 ghost use Rattle.source_end.specs.Raster.{Part, column, pixels, packets, gathered};
 
-use crate::{Island, Item, Pixels, Run, Runs};
+use crate::{Island, Item, Pixels, Run, Runs, Stream};
 use outside_io::NoMemory;
 use std::alloc::Global;
 use std::marker::Model;
 use std::mem;
 
-/// The runs of a control period that goes on.
+/// The runs of a control period that goes on, the longest of like values.
 #[derive(Drop)]
-pub(crate) struct OpenRuns {
+pub struct OpenRuns {
     /// The runs that are over.
     runs: Runs,
     /// The run that may still grow.
@@ -35,7 +37,7 @@ impl Model for OpenRuns {
 
 impl OpenRuns {
     /// No columns yet; keeps the allocator for its growth.
-    fn new(alloc: Global) -> OpenRuns
+    pub fn new(alloc: Global) -> OpenRuns
         ensures { result ≡ [] }
     {
         OpenRuns {
@@ -45,7 +47,7 @@ impl OpenRuns {
     }
 
     /// Appends columns of one value, as long as all of them fit 32 bits.
-    fn push(&mut self, value: u8, count: u32) -> Result<(), NoMemory>
+    pub fn push(&mut self, value: u8, count: u32) -> Result<(), NoMemory>
         ensures { (values : List ℕ) → self.old ≡ longest values → length values + count < 2 ^ 32 → OnOk result (self.new ≡ longest (values ++ replicate count value)) }
     {
         if count == 0 {
@@ -70,14 +72,14 @@ impl OpenRuns {
     }
 
     /// Whether there is no column.
-    fn is_empty(&self) -> bool
+    pub fn is_empty(&self) -> bool
         ensures { IsTrue result ↔ (self.now ≡ []) }
     {
         self.last.is_none()
     }
 
     /// The runs.
-    fn into_runs(self) -> Result<Runs, NoMemory>
+    pub fn into_runs(self) -> Result<Runs, NoMemory>
         ensures { IfOk result (λ runs. runs ≡ self) }
     {
         let OpenRuns { mut runs, last } = self;
@@ -88,9 +90,10 @@ impl OpenRuns {
     }
 }
 
-/// Items, gathered from parts.
+/// Items, gathered from parts: control columns of one value, rows of pixels and data islands. Neighbouring control columns
+/// are one control period.
 #[derive(Drop)]
-pub(crate) struct Gathering {
+pub struct Gathering {
     items: Vec<Item>,
     /// The control period that goes on after them.
     period: OpenRuns,
@@ -102,7 +105,7 @@ impl Gathering {
     ghost use Rattle.source_end.specs.Gathering.{size, Has};
 
     /// No parts yet; keeps the allocator for its growth.
-    pub(crate) fn new(alloc: Global) -> Gathering
+    pub fn new(alloc: Global) -> Gathering
         ensures { Has result [] }
     {
         Gathering {
@@ -113,21 +116,21 @@ impl Gathering {
     }
 
     /// The allocator of its growth.
-    pub(crate) fn alloc(&self) -> Global
+    pub fn alloc(&self) -> Global
         ensures { result ≡ self.now.alloc }
     {
         self.alloc
     }
 
     /// Appends control columns of one value, as long as all columns fit 32 bits.
-    pub(crate) fn columns(&mut self, value: u8, count: u32) -> Result<(), NoMemory>
+    pub fn columns(&mut self, value: u8, count: u32) -> Result<(), NoMemory>
         ensures { (parts : List Part) → Has self.old parts → size parts + count < 2 ^ 32 → OnOk result (Has self.new (parts ++ replicate count (column value))) }
     {
         self.period.push(value, count)
     }
 
     /// Appends a row.
-    pub(crate) fn row(&mut self, bytes: &[u8]) -> Result<(), NoMemory>
+    pub fn row(&mut self, bytes: &[u8]) -> Result<(), NoMemory>
         requires { length bytes.now % 3 ≡ 0 }
         ensures { (parts : List Part) → Has self.old parts → OnOk result (Has self.new (parts ++ pixels bytes.now ∷ [])) }
     {
@@ -138,7 +141,7 @@ impl Gathering {
     }
 
     /// Appends a data island.
-    pub(crate) fn island(&mut self, island: Island) -> Result<(), NoMemory>
+    pub fn island(&mut self, island: Island) -> Result<(), NoMemory>
         ensures { (parts : List Part) → Has self.old parts → OnOk result (Has self.new (parts ++ packets island ∷ [])) }
     {
         self.close()?;
@@ -161,12 +164,21 @@ impl Gathering {
     }
 
     /// The items.
-    pub(crate) fn into_items(self) -> Result<Vec<Item>, NoMemory>
+    pub fn into_items(self) -> Result<Vec<Item>, NoMemory>
         ensures { (parts : List Part) → Has self parts → IfOk result (λ items. map period_of items.items ≡ gathered parts) }
     {
         let mut whole = self;
         whole.close()?;
         let Gathering { items, .. } = whole;
         Ok(items)
+    }
+
+    /// The stream of the items, as long as their parts conform, and `columns` is how many columns they take.
+    pub fn into_stream(self, columns: u32) -> Result<Stream, NoMemory>
+        requires { (parts : List Part) × Has self parts × IsConforming (gathered parts) × (columns ≡ columns_of (gathered parts)) × (columns ≤ 20000000) }
+        ensures { (parts : List Part) → Has self parts → IfOk result (λ stream. stream ≡ gathered parts) }
+    {
+        let items = self.into_items()?;
+        Ok(Stream::new(items, columns))
     }
 }

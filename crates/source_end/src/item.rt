@@ -214,3 +214,24 @@ pub enum Item {
     /// A data island, its four guard columns included.
     Island(Island),
 }
+
+impl Item {
+    ghost use Rattle.island_pack.specs.Periods.{period_columns};
+    ghost use Rattle.source_end.specs.ItemPeriods.{period_of};
+
+    /// How many columns it takes, at most the greatest u32.
+    pub fn columns(&self) -> u32
+        ensures { result ≡ capped (period_columns (period_of self.now)) }
+    {
+        match self {
+            Item::Control(runs) => runs.columns(),
+            Item::Video(pixels) => u32::try_from(pixels.len())
+                .unwrap_or(u32::MAX)
+                .saturating_add(2),
+            Item::Island(island) => u32::try_from(island.len())
+                .unwrap_or(u32::MAX)
+                .saturating_mul(32)
+                .saturating_add(4),
+        }
+    }
+}

@@ -2,8 +2,7 @@
 ghost use Rattle.std.specs.Prelude.{◌≡◌, ℕ, ◌≤◌, ◌+◌, ◌++◌, ◌∷◌, [], List, OnOk, OnErr, IfOk, IsTrue, not, nat_le};
 
 use crate::follow::{
-    columns_of, has_control, is_announced, is_control_last, is_in_order, is_in_range,
-    is_long_enough,
+    has_control, is_announced, is_control_last, is_in_order, is_in_range, is_long_enough,
 };
 use crate::{Item, Stream};
 use island_pack::has_room;
@@ -102,7 +101,7 @@ impl Items {
         if !is_announced(self.list.as_slice(), &item) {
             return Err(ItemFault::Preamble);
         }
-        let columns = columns_of(&item);
+        let columns = item.columns();
         if !has_room(self.columns, columns) {
             return Err(ItemFault::Long);
         }

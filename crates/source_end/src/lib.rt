@@ -18,6 +18,7 @@ mod spell;
 mod stream;
 
 pub use content::Content;
+pub use gathering::{Gathering, OpenRuns};
 pub use generator::generate;
 pub use island::Island;
 pub use item::{Item, Pixels, Run, Runs};

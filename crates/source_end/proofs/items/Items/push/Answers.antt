@@ -55,7 +55,7 @@ returns-then-not-has_room-clause-fault c =
     let preamble : is_announced (last_period ps) p ≡ true = told (λ (qs : List Period). is_announced (last_period qs) p) (map period_of c.as_slice-3.result.now) ps c.is_announced.result true c.is_announced.ensures (ap (map period_of) c.as_slice-3.ensures.value ∙ c.self.view_is) c.if-not-is_announced.false in
     let sum = c.self.invariant.1 ∙ ap columns_of c.self.view_is in
     let long : nat_le (columns_of ps + period_columns p) 20000000 ≡ false =
-    ap (λ k. nat_le (k + period_columns p) 20000000) (sym sum) ∙ too_long c.self.inside.columns c.columns_of-columns.result (period_columns p) c.columns_of-columns.ensures c.self.invariant.2 (no_room c.self.inside.columns c.columns_of-columns.result c.has_room.result c.self.invariant.2 c.has_room.ensures c.if-not-has_room.true) in
+    ap (λ k. nat_le (k + period_columns p) 20000000) (sym sum) ∙ too_long c.self.inside.columns c.columns-columns.result (period_columns p) c.columns-columns.ensures c.self.invariant.2 (no_room c.self.inside.columns c.columns-columns.result c.has_room.result c.self.invariant.2 c.has_room.ensures c.if-not-has_room.true) in
     answers Long (push_fault ps p) (push_long ps p range order control preamble long)
 
 pub invariant_of-self : goal.invariant_of-self
@@ -66,11 +66,11 @@ invariant_of-self c =
     let order : is_in_order (last_period ps) p ≡ true = told (λ (qs : List Period). is_in_order (last_period qs) p) (map period_of c.as_slice.result.now) ps c.is_in_order.result true c.is_in_order.ensures (ap (map period_of) c.as_slice.ensures.value) c.if-not-is_in_order.false in
     let control : has_control (last_period ps) p ≡ true = told (λ (qs : List Period). has_control (last_period qs) p) (map period_of c.as_slice-2.result.now) ps c.has_control.result true c.has_control.ensures (ap (map period_of) c.as_slice-2.ensures.value) c.if-not-has_control.false in
     let preamble : is_announced (last_period ps) p ≡ true = told (λ (qs : List Period). is_announced (last_period qs) p) (map period_of c.as_slice-3.result.now) ps c.is_announced.result true c.is_announced.ensures (ap (map period_of) c.as_slice-3.ensures.value) c.if-not-is_announced.false in
-    let fits = room_left c.self.inside.columns c.columns_of-columns.result c.has_room.result c.has_room.ensures c.if-not-has_room.false in
+    let fits = room_left c.self.inside.columns c.columns-columns.result c.has_room.result c.has_room.ensures c.if-not-has_room.false in
     let grown : map period_of c.push.new.self.items ≡ ps ++ p ∷ [] = ap (map period_of) c.in-Ok.ensures.items ∙ map-append period_of c.self.inside.list.items (c.args.item ∷ []) in
     let follows : Follows ps p = record { range = range; order = order; control = control; preamble = preamble; whole = c.is_in_range.ensures.whole } in (
       subst (λ (qs : List Period). conforms_so_far qs ≡ true) (sym grown) (so_far-more ps p c.self.invariant.0 follows),
-      same_sum c.self.inside.columns c.columns_of-columns.result (period_columns p) c.columns_of-columns.ensures fits ∙ ap (λ k. k + period_columns p) c.self.invariant.1 ∙ sym (columns_of-more ps p) ∙ ap columns_of (sym grown),
+      same_sum c.self.inside.columns c.columns-columns.result (period_columns p) c.columns-columns.ensures fits ∙ ap (λ k. k + period_columns p) c.self.invariant.1 ∙ sym (columns_of-more ps p) ∙ ap columns_of (sym grown),
       omega (arith, fits, c.self.invariant.2),
     )
 
@@ -84,7 +84,7 @@ returns-clause-fault c =
     let preamble : is_announced (last_period ps) p ≡ true = told (λ (qs : List Period). is_announced (last_period qs) p) (map period_of c.as_slice-3.result.now) ps c.is_announced.result true c.is_announced.ensures (ap (map period_of) c.as_slice-3.ensures.value ∙ c.self.view_is) c.if-not-is_announced.false in
     let sum = c.self.invariant.1 ∙ ap columns_of c.self.view_is in
     let fits : nat_le (columns_of ps + period_columns p) 20000000 ≡ true =
-    ap (λ k. nat_le (k + period_columns p) 20000000) (sym sum) ∙ not_long c.self.inside.columns c.columns_of-columns.result (period_columns p) c.columns_of-columns.ensures c.self.invariant.2 (room_left c.self.inside.columns c.columns_of-columns.result c.has_room.result c.has_room.ensures c.if-not-has_room.false) in
+    ap (λ k. nat_le (k + period_columns p) 20000000) (sym sum) ∙ not_long c.self.inside.columns c.columns-columns.result (period_columns p) c.columns-columns.ensures c.self.invariant.2 (room_left c.self.inside.columns c.columns-columns.result c.has_room.result c.has_room.ensures c.if-not-has_room.false) in
     let none = push_none ps p range order control preamble fits in
     elim c.match-push.branch [
       | in-Ok w ↦ answers_ok c.match-push.result (push_fault ps p) none w.result-is

@@ -3,7 +3,7 @@ use Rattle.island_pack.specs.Periods.{period_columns}
 use Rattle.source_end.specs.ItemPeriods.{period_of}
 use Rattle.source_end.specs.Kept.{capped}
 use Rattle.source_end.proofs.Follows.{clamped, video_columns, island_columns, control_columns}
-use Rattle.source_end.proofs.follow.columns_of.Goals as goal
+use Rattle.source_end.proofs.item.Item.columns.Goals as goal
 
 pub returns-in-Control : goal.returns-in-Control
 returns-in-Control c =
