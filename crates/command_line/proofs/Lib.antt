@@ -4,7 +4,7 @@ mod DamageTexts
 mod GivenOptions
 mod Taps
 mod Meanings
-pub mod Laws
+pub mod OneCommand
 mod FoundRows
 mod Words
 mod Turns

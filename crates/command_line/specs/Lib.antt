@@ -4,3 +4,4 @@ pub mod Grammar
 pub mod Commands
 pub mod Parsing
 pub mod Forms
+pub mod Laws

@@ -7,6 +7,7 @@
 mod command;
 mod damage;
 mod forms;
+pub mod laws;
 mod numbers;
 mod options;
 mod tap;
