@@ -28,7 +28,7 @@ use Rattle.link_sink.proofs.IslandTold.{framed, frame}
 use Rattle.link_sink.proofs.Joining.{controls, pixels, packets, Arrives, nothing, more, sized}
 use Rattle.link_sink.proofs.Framing.{arrived}
 use Rattle.listing_laws.specs.PacketLaws.{Placed, each_at, placed, came_packet}
-use Rattle.listing_laws.specs.ListingLaws.{Each, unlike_in, told_lines, PacketLinesAsSent, PacketLinesComeBack}
+use Rattle.listing_laws.specs.ListingLaws.{LinesOfPayload, Each, unlike_in, told_lines, PacketLinesAsSent, PacketLinesComeBack}
 use Rattle.listing_laws.proofs.AsSent.{as_sent_freely}
 
 -- the lines of a packet of which these blocks are lost
@@ -80,15 +80,23 @@ spotless_kept = refl
 spotless_whole : first_lost spotless ≡ None
 spotless_whole = refl
 
+pub lines_of_payload : LinesOfPayload
+lines_of_payload p q v column header bodies =
+    lines_are p v column
+    ∙ lines_bare (first_lost_block v) (first_lost v) p column
+    ∙ ap₂ (λ (a b : List ℕ). lines_by (first_lost_block v) (first_lost v) (bare a b) column) header bodies
+    ∙ sym (lines_bare (first_lost_block v) (first_lost v) q column)
+    ∙ sym (lines_are q v column)
+
 lines_freely : (p : Packet) (sent received : List Column) → CarriesFreely p (map words_of sent) → length received ≡ 32 → damage sent received ≤ 1 → (column : ℕ)
     → packet_lines (packet_row p sent received) (verdicts_of received) column ≡ packet_lines p spotless column
 lines_freely p sent received carries long few column =
     let h = as_sent_freely p sent received carries long few in
     let told = packet_row p sent received in
     let v = verdicts_of received in
-    lines_are told v column
-    ∙ lines_bare (first_lost_block v) (first_lost v) told column
-    ∙ ap₂ (λ (a b : List ℕ). lines_by (first_lost_block v) (first_lost v) (bare a b) column) h.header h.bodies
+    lines_of_payload told p v column h.header h.bodies
+    ∙ lines_are p v column
+    ∙ lines_bare (first_lost_block v) (first_lost v) p column
     ∙ ap₂ (λ (a b : Option ℕ). lines_by a b (bare p.header p.bodies) column) (none_lost v h.kept ∙ sym spotless_kept) (none_missing v h.kept ∙ sym spotless_whole)
     ∙ sym (lines_bare (first_lost_block spotless) (first_lost spotless) p column)
     ∙ sym (lines_are p spotless column)

@@ -1,9 +1,10 @@
--- The lines `row ..` and `frame ..` of a content listing are those of the rows and frames that are listed.
-use Rattle.std.proofs.Common.{◌≡◌, ℕ, ◌/◌, Bool, true, false, ◌==◌, if◌then◌else◌, cond, List, [], ◌∷◌, ◌++◌, map, length, take, drop, Option, Some, None, refl, sym, ap, ap₂, ◌∙◌}
-use Rattle.std.specs.Prelude.{is_some, slice_index, nat_le, Result, Ok, Err, codes}
+-- The lines `row ..`, `frame ..` and `! ragged ..` of a content listing are those of the rows and frames that are listed.
+use Rattle.std.proofs.Common.{◌≡◌, ℕ, suc, ◌+◌, ◌/◌, Bool, true, false, ◌==◌, if◌then◌else◌, cond, List, [], ◌∷◌, ◌++◌, map, length, take, drop, Option, Some, None, refl, sym, ap, ap₂, ◌∙◌}
+use Rattle.std.specs.Prelude.{is_some, slice_index, nat_le, nat_lt, Result, Ok, Err, codes}
 use Rattle.std.specs.List.{filter, flat_map}
 use Rattle.std.proofs.lemmas.List.{map-append}
 use Rattle.std.proofs.lemmas.List.Elements.{filter-append}
+use Rattle.std.proofs.lemmas.Grind.{flat_map-append}
 use Rattle.hex.specs.Hex.{encode_lower}
 use Rattle.island_pack.specs.declared.packet.Packet.{Packet}
 use Rattle.island_pack.specs.declared.packet.PacketVerdicts.{PacketVerdicts}
@@ -24,12 +25,17 @@ use Rattle.audio_packets.specs.declared.clock.Acr.{Acr}
 use Rattle.audio_packets.specs.declared.sample.SampleNote.{SampleNote}
 use Rattle.audio_packets.specs.declared.fault.AudioFault.{AudioFault}
 use Rattle.audio_packets.specs.declared.fault.AudioFault.TheVariants.{Lost as LostAudio, Uneven, Layout}
+use Rattle.tmds_word.specs.Column.{Column}
+use Rattle.source_end.specs.declared.mode.Mode.{Mode}
+use Rattle.source_end.specs.Content.{Frame as Content}
+use Rattle.source_end.specs.Raster.{total}
 use Rattle.source_end.specs.Formats.{formats, mode_in}
 use Rattle.listing.specs.Texts.{words_of}
 use Rattle.listing.specs.Fields.{with_fields}
 use Rattle.listing.specs.ContentText.{row_lines, has_other_size, vic_lines, frame_lines, clock_lines, sample_words, parity_words, side_lines, note_lines, sample_lines, is_usual_depth, depth_in, depth_lines, control_words, control_lines, avi_words, audio_words, spd_words, raw_words, info_words, checksum_words, info_lines, other_words, carried_lines, packet_lines, event_of, events, last_vic, lines_at, lines_after, content_lines}
 use Rattle.listing.specs.Listed.{Listed, row, frame, listed_at, listed_from, listed}
 use Rattle.listing.specs.Listed as pictures
+use Rattle.listing_laws.specs.FrameLaws.{active_at, counts, frames_came, is_told, next_at, row_at, row_bytes, row_end, rows_came, whole_frame}
 use Rattle.listing_laws.specs.ListingLaws.{tells_picture, line_of, FrameLinesComeBack}
 use Rattle.listing_laws.proofs.Law.{frames_heard}
 
@@ -130,24 +136,31 @@ unfolding vic_lines
 no_vic None note = refl
 no_vic (Some vic) note = choice_none (has_other_size (mode_in formats vic) note) _ [] refl refl
 
-frame_line : (vic : Option ℕ) (o : Option FrameNote) → filter tells_picture (frame_lines vic o) ≡ map line_of (pictures.frame_lines o)
+-- the lines of a row, or of a frame
+abbrev told_lines : Listed → List (List ℕ)
+told_lines (row pixels note) = line_of (row pixels note) ∷ (if note.ragged then with_fields (codes "! ragged") (note.row ∷ []) ∷ [] else [])
+told_lines (frame note) = line_of (frame note) ∷ []
+
+frame_line : (vic : Option ℕ) (o : Option FrameNote) → filter tells_picture (frame_lines vic o) ≡ flat_map told_lines (pictures.frame_lines o)
 unfolding frame_lines
 frame_line vic None = refl
 frame_line vic (Some note) = ap (λ (xs : List (List ℕ)). line_of (frame note) ∷ xs) (no_vic vic note)
 
-ragged_none : (t : Bool) (n : ℕ) → NoPictures (if t then with_fields (codes "! ragged") (n ∷ []) ∷ [] else [])
-ragged_none t n = choice_none t _ [] refl refl
+ragged_line : (t : Bool) (n : ℕ)
+    → filter tells_picture (if t then with_fields (codes "! ragged") (n ∷ []) ∷ [] else []) ≡ (if t then with_fields (codes "! ragged") (n ∷ []) ∷ [] else []) ++ []
+ragged_line true n = refl
+ragged_line false n = refl
 
-row_line : (pixels : List ℕ) (note : LineNote) → filter tells_picture (row_lines pixels note) ≡ map line_of (pictures.row_lines pixels note)
+row_line : (pixels : List ℕ) (note : LineNote) → filter tells_picture (row_lines pixels note) ≡ flat_map told_lines (pictures.row_lines pixels note)
 unfolding row_lines
 row_line pixels note = by_test note.counts
   where
-    by_test : (t : Bool) → filter tells_picture (if t then (codes "row " ++ encode_lower pixels) ∷ (if note.ragged then with_fields (codes "! ragged") (note.row ∷ []) ∷ [] else []) else []) ≡ map line_of (cond t (row pixels note ∷ []) [])
-    by_test true = ap (λ (xs : List (List ℕ)). line_of (row pixels note) ∷ xs) (ragged_none note.ragged note.row)
+    by_test : (t : Bool) → filter tells_picture (if t then (codes "row " ++ encode_lower pixels) ∷ (if note.ragged then with_fields (codes "! ragged") (note.row ∷ []) ∷ [] else []) else []) ≡ flat_map told_lines (cond t (row pixels note ∷ []) [])
+    by_test true = ap (λ (xs : List (List ℕ)). line_of (row pixels note) ∷ xs) (ragged_line note.ragged note.row)
     by_test false = refl
 
 -- what is listed at a thing
-thing_lines : (told : List Thing) (thing : Thing) → filter tells_picture (lines_at told thing) ≡ map line_of (listed_at (events told) thing)
+thing_lines : (told : List Thing) (thing : Thing) → filter tells_picture (lines_at told thing) ≡ flat_map told_lines (listed_at (events told) thing)
 unfolding lines_at event_of words_of
 thing_lines told (run value count) = frame_line (last_vic told) (frame_at (events told) (run_event value count))
 thing_lines told (line pixels) = row_line pixels (line_at (events told) (length pixels / 3))
@@ -169,16 +182,49 @@ thing_lines told (long_island j) = refl
 thing_lines told (broken j) = refl
 thing_lines told (guard j) = refl
 
-all_lines : (told things : List Thing) → filter tells_picture (lines_after told things) ≡ map line_of (listed_from (events told) things)
+all_lines : (told things : List Thing) → filter tells_picture (lines_after told things) ≡ flat_map told_lines (listed_from (events told) things)
 unfolding lines_after listed_from
 all_lines told [] = refl
 all_lines told (thing ∷ things) =
     filter-append tells_picture (lines_at told thing) (lines_after (told ++ thing ∷ []) things)
     ∙ ap₂ (λ (xs ys : List (List ℕ)). xs ++ ys) (thing_lines told thing)
-    (all_lines (told ++ thing ∷ []) things ∙ ap (λ (es : List Event). map line_of (listed_from es things)) (map-append event_of told (thing ∷ [])))
-    ∙ sym (map-append line_of (listed_at (events told) thing) (listed_from (events told ++ event_of thing ∷ []) things))
+    (all_lines (told ++ thing ∷ []) things ∙ ap (λ (es : List Event). flat_map told_lines (listed_from es things)) (map-append event_of told (thing ∷ [])))
+    ∙ sym (flat_map-append told_lines (listed_at (events told) thing) (listed_from (events told ++ event_of thing ∷ []) things))
+
+-- No row that came is ragged.
+
+abbrev IsEven : List Listed → Type 0
+IsEven told = flat_map told_lines told ≡ map line_of told
+
+even_both : (xs ys : List Listed) → IsEven xs → IsEven ys → IsEven (xs ++ ys)
+even_both xs ys h k = flat_map-append told_lines xs ys ∙ ap₂ (λ (a b : List (List ℕ)). a ++ b) h k ∙ sym (map-append line_of xs ys)
+
+even_where : (t : Bool) (xs : List Listed) → IsEven xs → IsEven (cond t xs [])
+even_where true xs h = h
+even_where false xs h = refl
+
+even_rows : (mode : Mode) (sent received : List Column) (e p y : ℕ) (rows : List (List ℕ)) → IsEven (rows_came mode sent received e p y rows)
+unfolding rows_came
+even_rows mode sent received e p y [] = refl
+even_rows mode sent received e p y (bytes ∷ rows) =
+    even_both (cond (nat_lt (p + row_end mode) e) (row (row_bytes sent received (p + row_at mode) bytes) (record { counts = true; ragged = false; row = y }) ∷ []) [])
+    (rows_came mode sent received e (p + total mode.across) (suc y) rows)
+    (even_where (nat_lt (p + row_end mode) e) (row (row_bytes sent received (p + row_at mode) bytes) (record { counts = true; ragged = false; row = y }) ∷ []) refl)
+    (even_rows mode sent received e (p + total mode.across) (suc y) rows)
+
+even_frames : (mode : Mode) (sent received : List Column) (a e p : ℕ) (frames : List Content) → IsEven (frames_came mode sent received a e p frames)
+unfolding frames_came
+even_frames mode sent received a e p [] = refl
+even_frames mode sent received a e p (f ∷ frames) =
+    let rows = rows_came mode sent received e (active_at mode p) 0 f.rows in
+    let last = cond (is_told mode received a e p) (whole_frame mode ∷ []) [] in
+    even_both (cond (counts mode received a e p) (rows ++ last) []) (frames_came mode sent received a e (next_at mode p) frames)
+    (even_where (counts mode received a e p) (rows ++ last)
+    (even_both rows last (even_rows mode sent received e (active_at mode p) 0 f.rows) (even_where (is_told mode received a e p) (whole_frame mode ∷ []) refl)))
+    (even_frames mode sent received a e (next_at mode p) frames)
 
 pub frame_lines_come_back : FrameLinesComeBack
 unfolding content_lines
 frame_lines_come_back mode frames fault sent received came a m end le =
-    all_lines [] (heard (take m (drop a received))) ∙ ap (map line_of) (frames_heard mode frames fault sent received came a m end le)
+    all_lines [] (heard (take m (drop a received))) ∙ ap (flat_map told_lines) (frames_heard mode frames fault sent received came a m end le)
+    ∙ even_frames mode sent received a (a + m) 0 frames

@@ -7,7 +7,8 @@ use Rattle.island_pack.specs.Periods.{DataIsland, Period, control as control_per
 use Rattle.island_pack.specs.declared.packet.Packet.{Packet}
 use Rattle.island_pack.specs.Kinds.{Kind, control_column, second_guard, pixel_column, packet_column, guard_pair, kinds_in, kinds_of, kind_at, EndsAt}
 use Rattle.island_pack.proofs.Runs.{join_values}
-use Rattle.lane_deskew.proofs.Shapes.{IsMiddle, middle_video, middle_island, built, where_ends}
+use Rattle.lane_deskew.specs.Alternating.{IsMiddle, built}
+use Rattle.lane_deskew.proofs.Shapes.{middle_video, middle_island, where_ends}
 use Rattle.source_end.specs.declared.mode.Mode.{Mode}
 use Rattle.source_end.specs.Raster.{Line, Part, column, pixels, packets, up_from, columns, sync_at, value_at, guard_at, sync, back, active, total, island_of, until, before, gathered}
 use Rattle.source_end.specs.Gathering.{size}

@@ -8,6 +8,7 @@ use Rattle.island_pack.specs.Spelling.{words_of}
 use Rattle.island_pack.specs.Packets.{Carries}
 use Rattle.island_pack.specs.Taken.{spotless}
 use Rattle.island_pack.specs.declared.packet.Packet.{Packet}
+use Rattle.island_pack.specs.declared.packet.PacketVerdicts.{PacketVerdicts}
 use Rattle.island_pack.specs.Repaired.{verdicts_of}
 use Rattle.period_grammar.specs.Heard.{heard}
 use Rattle.link_sink.specs.Account.{damage, packet_row}
@@ -22,21 +23,27 @@ use Rattle.listing.specs.Listed.{Listed, row, frame}
 use Rattle.listing_laws.specs.FrameLaws.{frames_came}
 use Rattle.listing_laws.specs.PacketLaws.{Placed, placed, ToldPacket, came_packet}
 
--- a line `row ..` or `frame ..`
+-- a line `row ..`, `frame ..` or `! ragged ..`
 abbrev pub tells_picture : List ℕ → Bool
-tells_picture line = begins_with (codes "row ") line || begins_with (codes "frame ") line
+tells_picture line = begins_with (codes "row ") line || (begins_with (codes "frame ") line || begins_with (codes "! ragged ") line)
 
 abbrev pub line_of : Listed → List ℕ
 line_of (row bytes note) = codes "row " ++ encode_lower bytes
 line_of (frame note) = with_fields (codes "frame") (note.width ∷ note.height ∷ [])
 
--- the lines `row ..` and `frame ..` of a content listing of columns a up to a + m of a raster are those of the frames that came
+-- the lines `row ..`, `frame ..` and `! ragged ..` of a content listing of columns a up to a + m of a raster are the rows and
+-- frames that came: no row has another length than the first of its frame
 abbrev pub FrameLinesComeBack : Type 0
 FrameLinesComeBack =
     (mode : Mode) (frames : List Frame) → raster_fault mode frames ≡ None
     → (sent received : List Column) → CameOf (raster_of mode frames) sent received
     → (a m : ℕ) → EndsControl (raster_of mode frames) (a + 11) → a + m ≤ length received
     → filter tells_picture (content_lines (heard (take m (drop a received)))) ≡ map line_of (frames_came mode sent received a (a + m) 0 frames)
+
+-- the content lines of a packet are those of its header and its bodies
+abbrev pub LinesOfPayload : Type 0
+LinesOfPayload =
+    (p q : Packet) (verdicts : PacketVerdicts) (column : ℕ) → p.header ≡ q.header → p.bodies ≡ q.bodies → packet_lines p verdicts column ≡ packet_lines q verdicts column
 
 -- the content lines of a packet of which at most one word came unlike are those of the packet as it was sent
 abbrev pub PacketLinesAsSent : Type 0

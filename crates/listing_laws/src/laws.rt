@@ -2,7 +2,7 @@
 //! what they ensure are the laws.
 ghost use Rattle.listing_laws.specs.FrameLaws.{FramesComeBack, FramesHeard};
 ghost use Rattle.listing_laws.specs.LinkLaws.{AccountReadsBack};
-ghost use Rattle.listing_laws.specs.ListingLaws.{FrameLinesComeBack, PacketLinesAsSent, PacketLinesComeBack};
+ghost use Rattle.listing_laws.specs.ListingLaws.{FrameLinesComeBack, LinesOfPayload, PacketLinesAsSent, PacketLinesComeBack};
 ghost use Rattle.listing_laws.specs.PacketLaws.{PacketsComeBack, OneWordAsSent, RasterPackets};
 ghost use Rattle.listing_laws.specs.Rasters.{RastersCome, HasRaster};
 
@@ -32,9 +32,15 @@ pub fn raster_packets()
     ensures { RasterPackets }
 {}
 
-/// The lines `row ..` and `frame ..` of a content listing of what is heard of a raster are those of the frames that came.
+/// The lines `row ..`, `frame ..` and `! ragged ..` of a content listing of what is heard of a raster are the rows and frames
+/// that came: none is ragged.
 pub fn frame_lines_come_back()
     ensures { FrameLinesComeBack }
+{}
+
+/// The content lines of a packet are those of its header and its bodies.
+pub fn lines_of_payload()
+    ensures { LinesOfPayload }
 {}
 
 /// The content lines of a packet of which at most one word came unlike are those of the packet as it was sent.
