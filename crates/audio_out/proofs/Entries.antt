@@ -1,0 +1,68 @@
+-- The tables of four bits hold what the code has: each level, four bits and byte of half cells is computed.
+use Rattle.std.proofs.Common.{◌≡◌, ℕ, ◌+◌, ◌*◌, ◌/◌, ◌^◌, ◌<◌, Bool, true, false, refl, ◌∙◌, ◌==◌, slice_index, eqb-true}
+use Rattle.tmds_word.specs.Bits.{bits_of}
+use Rattle.tmds_word.proofs.Below.{passes_below, passes_at}
+use Rattle.audio_packets.proofs.Pairs.{same, same_is}
+use Rattle.audio_out.specs.Levels.{last_of, level_behind}
+use Rattle.audio_out.specs.Subframes.{carries}
+use Rattle.audio_out.specs.declared.tables.TheConstants.{CELLS, BITS}
+
+abbrev pub digit : Bool → ℕ
+digit true = 1
+digit false = 0
+
+unfoldable level_holds : ℕ → Bool
+level_holds byte = byte / 2 ^ 7 == digit (level_behind byte)
+
+levels : passes_below 256 level_holds ≡ true
+unfolding passes_below level_holds level_behind last_of bits_of
+levels = refl
+
+pub level_is : (byte : ℕ) → byte < 256 → byte / 2 ^ 7 ≡ digit (level_behind byte)
+unfolding level_holds
+level_is byte lt = eqb-true _ _ (passes_at 256 level_holds byte levels lt)
+
+unfoldable cells_hold : Bool → ℕ → ℕ → Bool
+cells_hold level n byte = same (carries level (bits_of 4 n) (bits_of 8 byte)) (slice_index CELLS (16 * digit level + n) == byte)
+
+all_low : passes_below 16 (λ n. passes_below 256 (cells_hold false n)) ≡ true
+unfolding passes_below cells_hold carries bits_of same
+all_low = refl
+
+all_high : passes_below 16 (λ n. passes_below 256 (cells_hold true n)) ≡ true
+unfolding passes_below cells_hold carries bits_of same
+all_high = refl
+
+all_cells : (level : Bool) → passes_below 16 (λ n. passes_below 256 (cells_hold level n)) ≡ true
+all_cells true = all_high
+all_cells false = all_low
+
+-- four bits have one byte of half cells
+pub cells_are : (level : Bool) (n byte : ℕ) → n < 16 → byte < 256
+    → carries level (bits_of 4 n) (bits_of 8 byte) ≡ (slice_index CELLS (16 * digit level + n) == byte)
+unfolding cells_hold
+cells_are level n byte a b =
+    same_is _ _ (passes_at 256 (cells_hold level n) byte (passes_at 16 (λ n. passes_below 256 (cells_hold level n)) n (all_cells level) a) b)
+
+unfoldable bits_hold : Bool → ℕ → ℕ → Bool
+bits_hold level n byte = same (slice_index CELLS (16 * digit level + n) == byte) (slice_index BITS (256 * digit level + byte) == n)
+
+bits_low : passes_below 16 (λ n. passes_below 256 (bits_hold false n)) ≡ true
+unfolding passes_below bits_hold same
+bits_low = refl
+
+bits_high : passes_below 16 (λ n. passes_below 256 (bits_hold true n)) ≡ true
+unfolding passes_below bits_hold same
+bits_high = refl
+
+all_bits : (level : Bool) → passes_below 16 (λ n. passes_below 256 (bits_hold level n)) ≡ true
+all_bits true = bits_high
+all_bits false = bits_low
+
+-- and half cells have those bits, or none
+pub bits_are : (level : Bool) (n byte : ℕ) → n < 16 → byte < 256
+    → carries level (bits_of 4 n) (bits_of 8 byte) ≡ (slice_index BITS (256 * digit level + byte) == n)
+unfolding bits_hold
+bits_are level n byte a b =
+    cells_are level n byte a b
+    ∙ same_is _ _ (passes_at 256 (bits_hold level n) byte (passes_at 16 (λ n. passes_below 256 (bits_hold level n)) n (all_bits level) a) b)

@@ -1,0 +1,9 @@
+pub mod Cells
+pub mod Entries
+pub mod Joined
+pub mod ReadBack
+pub mod Marked
+pub mod Spelled
+pub mod Frames
+pub mod Runs
+pub mod Packed

@@ -1,0 +1,5 @@
+pub mod Levels
+pub mod Subframes
+pub mod Frames
+pub mod Blocks
+pub mod Laws
