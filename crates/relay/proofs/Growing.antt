@@ -1,0 +1,59 @@
+-- How many columns what is relayed takes.
+use Rattle.std.proofs.Common.{◌≡◌, ℕ, ◌+◌, ◌≤◌, List, [], ◌∷◌, ◌++◌, length, map, replicate, ap, ◌∙◌, arith}
+use Rattle.std.specs.List.{fold}
+use Rattle.std.proofs.lemmas.List.{length-append}
+use Rattle.island_pack.specs.Periods.{control, period_columns, columns_of}
+use Rattle.island_pack.specs.Runs.{longest}
+use Rattle.island_pack.proofs.Runs.{values_longest}
+use Rattle.relay.specs.Relayed.{Kept, some_columns, some_line, some_island, data_of, without_faults, kept_from, nulled, Data, a_line, an_island, Turn, Turns, ended, joined, on_turn, filled, lengthened, announcing, preamble_of, announced_turn, period_of, periods_in, settled}
+use Rattle.relay.specs.Laws.{turns_in, begun_in, ColumnsGrow}
+use Rattle.relay.specs.Sizes.{room, size_in, size}
+use Rattle.relay.proofs.Conforming.{length-lengthened, length-announcing}
+use Rattle.relay.proofs.Gaining.{gained}
+
+control_columns : (vs : List ℕ) → period_columns (control (longest vs)) ≡ length vs
+unfolding period_columns
+control_columns vs = ap length (values_longest vs)
+
+columns_in : (xs : List Turn) (last : List ℕ)
+    → columns_of (periods_in (map announced_turn (map (on_turn lengthened) (map (on_turn filled) xs))) (lengthened (filled last))) ≡ size_in xs + room last
+unfolding columns_of
+columns_in [] last = let a = control_columns (lengthened (filled last)) in let b = length-lengthened last in omega arith
+columns_in (x ∷ xs) last =
+    let vs = lengthened (filled x.values) in
+    let bits = preamble_of x.inner in
+    let a = control_columns (announcing bits vs) in
+    let b = length-announcing bits vs in
+    let c = length-lengthened x.values in
+    let ih = columns_in xs last in
+    omega arith
+
+pub columns_settled : (t : Turns) → columns_of (settled t) ≡ size t
+unfolding settled
+columns_settled t = columns_in t.turns t.last
+
+pub size_both : (xs ys : List Turn) → size_in (xs ++ ys) ≡ size_in xs + size_in ys
+size_both [] ys = omega arith
+size_both (x ∷ xs) ys = let ih = size_both xs ys in omega arith
+
+pub size_ended : (t : Turns) (d : Data) → size (ended t d) ≡ size t + (period_columns (period_of d) + 12)
+size_ended t d = let a = size_both t.turns (record { values = t.last; inner = d } ∷ []) in omega arith
+
+size_grows : (t : Turns) (k : Kept) → size t ≤ size (joined t k)
+size_grows t (some_columns r) = let a = length-append t.last (replicate r.count r.value) in omega arith
+size_grows t (some_line bytes) = let a = size_ended t (a_line bytes) in omega arith
+size_grows t (some_island x) = let a = size_ended t (an_island (data_of x)) in omega arith
+
+size_fold : (ks : List Kept) (t : Turns) → size t ≤ size (fold joined t ks)
+size_fold [] t = omega arith
+size_fold (k ∷ ks) t = let a = size_grows t k in let b = size_fold ks (joined t k) in omega arith
+
+pub columns_grow : ColumnsGrow
+columns_grow told more =
+    let g = gained told more in
+    let h = gained (told ++ more) [] in
+    let ks = nulled (kept_from (begun_in told) (without_faults more)) in
+    let a = ap columns_of g.relayed_is ∙ columns_settled (turns_in told) in
+    let b = ap columns_of h.relayed_is ∙ columns_settled (turns_in (told ++ more)) ∙ ap size g.turns in
+    let c = size_fold ks (turns_in told) in
+    omega arith

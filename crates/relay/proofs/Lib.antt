@@ -1,0 +1,16 @@
+pub mod Lists
+pub mod Below
+pub mod Sound
+pub mod Conforming
+pub mod Gaining
+pub mod Growing
+pub mod Quiet
+pub mod Fitting
+pub mod Accounting
+pub mod Own
+pub mod Changing
+pub mod Handing
+pub mod Fits
+pub mod Going
+pub mod Moving
+pub mod Parting

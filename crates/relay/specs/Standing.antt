@@ -1,0 +1,78 @@
+-- What a relay keeps of the things that it was told.
+use Rattle.std.specs.Prelude.{◌≡◌, ◌≤◌, ◌<◌, ◌⊎◌, ◌+◌, Bool, true, not, List, [], ◌∷◌, ◌++◌, map, take, length, max, Option, Some, None}
+use Rattle.std.specs.List.{list_all}
+use Rattle.outside_io.specs.Causes.{next}
+use Rattle.island_pack.specs.Periods.{SyncPair, DataIsland, columns_of}
+use Rattle.island_pack.specs.Conforming.{is_sync_pair, is_packet}
+use Rattle.island_pack.specs.Runs.{longest}
+use Rattle.period_grammar.specs.Things.{Thing}
+use Rattle.period_grammar.specs.Exact.{faultless}
+use Rattle.source_end.specs.Gathering.{Has}
+use Rattle.source_end.specs.Raster.{Part}
+use Rattle.relay.specs.declared.relaying.Relay.{Relay}
+use Rattle.relay.specs.declared.relaying.RelayFault.TheVariants.{Long, NoMemory}
+use Rattle.relay.specs.Relayed.{Begun, sure, Turn, Turns, on_turn, filled, lengthened, announced_turn, relayed}
+use Rattle.relay.specs.Laws.{begun_in, turns_in}
+use Rattle.relay.specs.Parts.{parts_in}
+use Rattle.relay.specs.Sizes.{size_in}
+
+-- the parts of settled turns
+abbrev pub settled_parts : List Turn → List Part
+settled_parts xs = parts_in (map announced_turn (map (on_turn lengthened) (map (on_turn filled) xs))) []
+
+abbrev pub no_pair : SyncPair
+no_pair = record { first = 0; second = 0 }
+
+-- an island that goes on, as it is sent on: its first eighteen packets, and no closing guard yet
+abbrev pub held : Option Begun → Option DataIsland
+held None = None
+held (Some b) = Some (record { opening = b.opening; packets = map (λ p. (sure p).packet) (take 18 b.packets); closing = no_pair })
+
+-- an island that goes on could be one that is sent
+abbrev pub Fits : Option Begun → Type 0
+Fits None = Unit {0}
+Fits (Some b) = (is_sync_pair b.opening ≡ true) × (list_all is_packet (map (λ p. p.packet) b.packets) ≡ true)
+
+-- a relay keeps these turns and the island that goes on, and knows whether there was no fault
+pub record IsAt (relay : Relay) (t : Turns) (b : Option Begun) (good : Bool) : Type 0 where
+  pub whole : Has relay.whole (settled_parts t.turns)
+  pub period : relay.period ≡ longest t.last
+  pub period_columns : relay.period_columns ≡ length t.last
+  pub columns : relay.columns ≡ size_in t.turns
+  pub few : relay.columns + max 12 relay.period_columns ≤ 20000000
+  pub island : relay.island ≡ held b
+  pub fits : Fits b
+  pub faulty : relay.faulty ≡ not good
+
+-- a relay stands for a told list where it keeps what that list makes
+abbrev pub StandsFor : Relay → List Thing → Type 0
+StandsFor relay told = IsAt relay (turns_in told) (begun_in told) (faultless told)
+
+-- from the first state to the second it took these things
+abbrev pub Took : Relay → Relay → List Thing → Type 0
+Took x y things = ((told : List Thing) → StandsFor x told → StandsFor y (told ++ things)) × (y.trouble ≡ x.trouble)
+
+-- a thing that makes what is relayed too long
+abbrev pub IsTooLong : Relay → Thing → Type 0
+IsTooLong x thing = (told : List Thing) → StandsFor x told → 20000000 < columns_of (relayed (told ++ thing ∷ []))
+
+-- from the first state, without trouble, to the second it failed at this thing: it would be too long, or memory was wanting
+abbrev pub Broke : Relay → Relay → Thing → Type 0
+Broke x y thing = x.trouble ≡ None → ((y.trouble ≡ Some Long) × IsTooLong x thing) ⊎ (y.trouble ≡ Some NoMemory)
+
+-- only its count of failures is another
+abbrev pub counted_again : Relay → Relay
+counted_again x = record {
+  whole = x.whole;
+  period = x.period;
+  period_columns = x.period_columns;
+  columns = x.columns;
+  island = x.island;
+  faulty = x.faulty;
+  trouble = x.trouble;
+  faults = next x.faults;
+}
+
+-- what a relay stands for takes no more than 20,000,000 columns
+abbrev pub StandsForFew : Type 0
+StandsForFew = (relay : Relay) (told : List Thing) → StandsFor relay told → columns_of (relayed told) ≤ 20000000

@@ -1,0 +1,350 @@
+//! A repeater of what a link says.
+ghost use Rattle.std.specs.Prelude.{◌≡◌, ℕ, ◌+◌, ◌-◌, ◌*◌, ◌/◌, ◌%◌, ◌^◌, ◌<◌, ◌≤◌, ◌++◌, ◌∷◌, [], List, Bool, true, All, length, max, min, nat_lt, take, Option, Some, None, not, OnOk, OnErr, IfOk, IfErr, IsTrue, MatchResult};
+ghost use Rattle.std.specs.List.{fold};
+ghost use Rattle.island_pack.specs.Periods.{DataIsland, columns_of};
+ghost use Rattle.island_pack.specs.Conforming.{is_sync_pair, is_video_period};
+ghost use Rattle.outside_io.specs.Causes.{HasCause};
+ghost use Rattle.period_grammar.specs.Things.{Thing};
+ghost use Rattle.period_grammar.specs.Lending.{lent_thing};
+ghost use Rattle.period_grammar.specs.Sizes.{IsSized};
+ghost use Rattle.relay.specs.declared.relaying.RelayFault.{RelayFault};
+ghost use Rattle.relay.specs.declared.relaying.RelayFault.TheVariants.{Long};
+ghost use Rattle.source_end.specs.Pairs.{pair_of};
+ghost use Rattle.relay.specs.Relayed.{Begun, Judged, Turns, a_line, an_island, ended, joined, some_columns, filled, lengthened, with_packet, closed, nulled, relayed};
+ghost use Rattle.relay.specs.Changed.{changed_from};
+ghost use Rattle.relay.specs.Sizes.{size};
+ghost use Rattle.relay.specs.Standing.{IsAt, StandsFor, Took, Broke, IsTooLong, counted_again};
+ghost use Rattle.relay.specs.Steps.{Steps, IsSettled};
+
+use crate::packets::sent_on;
+use crate::settling::{at_least_twelve, settle};
+use island_pack::{ISLAND_CTL, Packet, PacketRef, VIDEO_CTL};
+use link_sink::Ear;
+use outside_io::{Failed, NoMemory};
+use period_grammar::Told;
+use source_end::{Gathering, Island, OpenRuns, Stream};
+use std::alloc::Global;
+use std::mem;
+use thiserror::Error;
+
+/// Why a relay failed.
+#[derive(Clone, Copy, Debug, PartialEq, Eq, Error)]
+pub enum RelayFault {
+    /// What is relayed takes more than 20,000,000 columns.
+    #[error("there are more than 20,000,000 columns")]
+    Long,
+    /// Want of memory.
+    #[error("out of memory")]
+    NoMemory,
+}
+
+impl From<NoMemory> for RelayFault {
+    ghost use Rattle.relay.specs.declared.relaying.RelayFault.{RelayFault};
+
+    ghost from_gives = { λ _ r. r ≡ RelayFault.NoMemory };
+
+    fn from(_error: NoMemory) -> RelayFault {
+        RelayFault::NoMemory
+    }
+}
+
+/// Makes a conforming stream of what it is told: it leaves out what is no whole period, and lengthens and announces what
+/// control periods it needs.
+#[derive(Drop)]
+pub struct Relay {
+    /// The settled periods, up to the last one that is no control period.
+    pub(crate) whole: Gathering,
+    /// The control period behind them, as it was told so far.
+    pub(crate) period: OpenRuns,
+    /// How many columns it has.
+    pub(crate) period_columns: u32,
+    /// How many columns the settled periods have.
+    pub(crate) columns: u32,
+    /// The data island that was opened and not closed, its first eighteen packets.
+    pub(crate) island: Option<Island>,
+    /// Whether a fault was told.
+    pub(crate) faulty: bool,
+    /// Why it failed.
+    pub(crate) trouble: Option<RelayFault>,
+    /// How often it failed. The count stands still at the greatest u64.
+    pub(crate) faults: u64,
+}
+
+/// Whether settled columns, a control period of so many, and so many more pass 20,000,000.
+fn is_long(columns: u32, period: u64, more: u32) -> bool
+    requires { period < 2 ^ 33 }
+    ensures { result ≡ nat_lt 20000000 (columns + max 12 period + more) }
+{
+    u64::from(columns) + period.max(12) + u64::from(more) > 20_000_000
+}
+
+/// How many columns a line takes, its guard columns included.
+fn line_columns(pixels: &[u8]) -> u32
+    requires { length pixels.now ≤ 12288 }
+    ensures { result ≡ 2 + length pixels.now / 3 }
+{
+    2 + (pixels.len() / 3) as u32
+}
+
+/// How many columns a data island of at most eighteen packets takes, its guard columns included.
+fn island_columns(island: &Island) -> u32
+    ensures { result ≡ 4 + 32 * min (length island.now.packets) 18 }
+{
+    4 + 32 * island.len().min(18) as u32
+}
+
+impl Relay {
+    /// Nothing was told. It keeps the allocator for its growth.
+    pub fn open(alloc: Global) -> Relay
+        ensures stands { StandsFor result [] }
+        ensures trouble { result.trouble ≡ None }
+    {
+        Relay {
+            whole: Gathering::new(alloc),
+            period: OpenRuns::new(alloc),
+            period_columns: 0,
+            columns: 0,
+            island: None,
+            faulty: false,
+            trouble: None,
+            faults: 0,
+        }
+    }
+
+    /// Why the last `hear` failed, if one did.
+    pub fn trouble(&self) -> Option<RelayFault>
+        ensures { result ≡ self.now.trouble }
+    {
+        self.trouble
+    }
+
+    /// Whether a fault was told.
+    pub fn is_faulty(&self) -> bool
+        ensures { result ≡ self.now.faulty }
+    {
+        self.faulty
+    }
+
+    /// Takes control columns of one value.
+    fn run(&mut self, value: u8, count: u32) -> Result<(), RelayFault>
+        ensures steps { (t : Turns) (b : Option Begun) (good : Bool) → IsAt self.old t b good → Steps self.new result (joined t (some_columns (record { value = value; count = count }))) None good }
+        ensures same { (self.new.trouble ≡ self.old.trouble) × (self.new.faults ≡ self.old.faults) }
+    {
+        self.island = None;
+        let period = u64::from(self.period_columns) + u64::from(count);
+        if is_long(self.columns, period, 0) {
+            return Err(RelayFault::Long);
+        }
+        self.period.push(value, count)?;
+        self.period_columns = self.period_columns.saturating_add(count);
+        Ok(())
+    }
+
+    /// Hands on the control period that goes on, at least twelve columns of it, the last `changed` of them with the control
+    /// bits.
+    fn settle(&mut self, changed: u32, ctl: u8) -> Result<(), NoMemory>
+        requires changed { changed ≤ 12 }
+        requires ctl { ctl < 16 }
+        ensures settled { (t : Turns) (b : Option Begun) (good : Bool) → IsAt self.old t b good → OnOk result (IsSettled self.old self.new t (changed_from ctl (length (lengthened (filled t.last)) - changed) (lengthened (filled t.last)))) }
+        ensures same { (self.new.trouble ≡ self.old.trouble) × (self.new.faults ≡ self.old.faults) }
+    {
+        let none = OpenRuns::new(self.whole.alloc());
+        let period = mem::replace(&mut self.period, none);
+        settle(period, self.period_columns, changed, ctl, &mut self.whole)?;
+        self.columns = self
+            .columns
+            .saturating_add(at_least_twelve(self.period_columns));
+        self.period_columns = 0;
+        Ok(())
+    }
+
+    /// Takes a line.
+    fn line(&mut self, pixels: &[u8]) -> Result<(), RelayFault>
+        requires whole { length pixels.now % 3 ≡ 0 }
+        requires some { 3 ≤ length pixels.now }
+        requires few { length pixels.now ≤ 12288 }
+        ensures steps { (t : Turns) (b : Option Begun) (good : Bool) → IsAt self.old t b good → Steps self.new result (ended t (a_line pixels.now)) None good }
+        ensures period { IsTrue (is_video_period pixels.now) }
+        ensures same { (self.new.trouble ≡ self.old.trouble) × (self.new.faults ≡ self.old.faults) }
+    {
+        self.island = None;
+        let columns = line_columns(pixels);
+        if is_long(self.columns, u64::from(self.period_columns), columns + 12) {
+            return Err(RelayFault::Long);
+        }
+        self.settle(8, VIDEO_CTL)?;
+        self.whole.row(pixels)?;
+        self.columns = self.columns.saturating_add(columns);
+        Ok(())
+    }
+
+    /// Takes a whole island. None goes on.
+    fn send_island(&mut self, island: Island) -> Result<(), RelayFault>
+        ensures steps { length island.packets ≤ 18 → (t : Turns) (good : Bool) → IsAt self.old t None good → Steps self.new result (ended t (an_island island)) None good }
+        ensures same { (self.new.trouble ≡ self.old.trouble) × (self.new.faults ≡ self.old.faults) }
+    {
+        let columns = island_columns(&island);
+        if is_long(self.columns, u64::from(self.period_columns), columns + 12) {
+            return Err(RelayFault::Long);
+        }
+        self.settle(8, ISLAND_CTL)?;
+        self.whole.island(island)?;
+        self.columns = self.columns.saturating_add(columns);
+        Ok(())
+    }
+
+    /// Begins an island. Another that goes on is left out.
+    fn begin(&mut self, sync: [u8; 2])
+        requires { IsTrue (is_sync_pair (pair_of sync)) }
+        ensures at { (t : Turns) (b : Option Begun) (good : Bool) → IsAt self.old t b good → IsAt self.new t (Some (record { opening = pair_of sync; packets = [] })) good }
+        ensures same { (self.new.trouble ≡ self.old.trouble) × (self.new.faults ≡ self.old.faults) }
+    {
+        let island = Island::new(self.whole.alloc(), sync, [0, 0]);
+        self.island = Some(island);
+    }
+
+    /// Takes a packet into the island that goes on. Outside an island, and past the eighteenth, it is left out.
+    fn packet(&mut self, packet: PacketRef<'_>) -> Result<(), NoMemory>
+        requires { All (λ digit. digit < 4) packet.packet.now.sync }
+        ensures at { (t : Turns) (b : Option Begun) (good : Bool) → IsAt self.old t b good → OnOk result (IsAt self.new t (with_packet (record { packet = packet.entry.packet.now; verdicts = packet.entry.verdicts.now }) b) good) }
+        ensures same { (self.new.trouble ≡ self.old.trouble) × (self.new.faults ≡ self.old.faults) }
+    {
+        let sent = sent_on(packet);
+        match &mut self.island {
+            Some(island) => push(island, sent),
+            None => Ok(()),
+        }
+    }
+
+    /// Ends the island that goes on, if one does, and takes it if it has a packet.
+    fn close(&mut self, sync: [u8; 2]) -> Result<(), RelayFault>
+        requires { IsTrue (is_sync_pair (pair_of sync)) }
+        ensures steps { (t : Turns) (b : Option Begun) (good : Bool) → IsAt self.old t b good → Steps self.new result (fold joined t (nulled (closed (pair_of sync) b))) None good }
+        ensures same { (self.new.trouble ≡ self.old.trouble) × (self.new.faults ≡ self.old.faults) }
+    {
+        match self.island.take() {
+            Some(island) => self.close_island(island, sync),
+            None => Ok(()),
+        }
+    }
+
+    /// Takes an island with its closing guard, if it has a packet.
+    fn close_island(&mut self, island: Island, sync: [u8; 2]) -> Result<(), RelayFault>
+        ensures empty { island.packets ≡ [] → (t : Turns) (good : Bool) → IsAt self.old t None good → Steps self.new result t None good }
+        ensures some { (island.packets ≡ [] → ⊥) → length island.packets ≤ 18 → (t : Turns) (good : Bool) → IsAt self.old t None good → Steps self.new result (ended t (an_island (record { opening = island.opening; packets = island.packets; closing = pair_of sync }))) None good }
+        ensures same { (self.new.trouble ≡ self.old.trouble) × (self.new.faults ≡ self.old.faults) }
+    {
+        if island.is_empty() {
+            return Ok(());
+        }
+        let mut island = island;
+        island.set_closing(sync);
+        self.send_island(island)
+    }
+
+    /// Takes a thing.
+    fn take_in(&mut self, told: Told<'_>) -> Result<(), RelayFault>
+        requires { IsSized (lent_thing told) }
+        ensures stands { (things : List Thing) → StandsFor self.old things → OnOk result (StandsFor self.new (things ++ lent_thing told.entry ∷ [])) }
+        ensures long { IfErr result (λ fault. fault ≡ Long → IsTooLong self.old (lent_thing told.entry)) }
+        ensures same { (self.new.trouble ≡ self.old.trouble) × (self.new.faults ≡ self.old.faults) }
+    {
+        match told {
+            Told::Run { value, count } => self.run(value, count),
+            Told::Line { pixels } => self.line(pixels),
+            Told::Open { sync } => {
+                self.begin(sync);
+                Ok(())
+            }
+            Told::Packet { packet, column: _ } => {
+                self.packet(packet)?;
+                Ok(())
+            }
+            Told::Close { sync } => self.close(sync),
+            Told::Fault(_) => {
+                self.faulty = true;
+                Ok(())
+            }
+            Told::Cut { column: _ } => {
+                self.island = None;
+                Ok(())
+            }
+        }
+    }
+
+    /// The stream of all that was told. On a refusal it is dropped.
+    pub fn take(self) -> Result<Stream, NoMemory>
+        requires { (told : List Thing) × StandsFor self told }
+        ensures { (told : List Thing) → StandsFor self told → IfOk result (λ stream. stream ≡ relayed told) }
+    {
+        let mut relay = self;
+        relay.settle(0, 0)?;
+        let Relay { whole, columns, .. } = relay;
+        whole.into_stream(columns)
+    }
+}
+
+/// Appends a packet to an island, unless it has eighteen.
+fn push(island: &mut Island, packet: Packet) -> Result<(), NoMemory>
+    ensures { length island.old.packets ≤ 18 → OnOk result (island.new ≡ record { opening = island.old.opening; packets = take 18 (island.old.packets ++ packet ∷ []); closing = island.old.closing }) }
+{
+    if island.len() >= 18 {
+        return Ok(());
+    }
+    island.push(packet)
+}
+
+/// Leaves a thing out.
+fn pass_over(told: Told<'_>) {
+    match told {
+        Told::Run { value: _, count: _ }
+        | Told::Line { pixels: _ }
+        | Told::Open { sync: _ }
+        | Told::Packet {
+            packet: _,
+            column: _,
+        }
+        | Told::Close { sync: _ }
+        | Told::Fault(_)
+        | Told::Cut { column: _ } => {}
+    }
+}
+
+impl Ear for Relay {
+    ghost use Rattle.std.proofs.Common.{refl, sym, ◌∙◌, subst, append_assoc, append-nil};
+
+    ghost faults = { λ r. r.faults };
+
+    // It stands for each list that it stood for, and these things behind it.
+    ghost took = { Took };
+
+    // It has trouble: what is relayed would be too long, or memory was wanting.
+    ghost broke = { Broke };
+
+    /// Takes a thing. After a failure it takes no more: each further call fails and changes nothing but the count.
+    fn hear(&mut self, told: Told<'_>) -> Result<(), Failed>
+        requires { IsSized (lent_thing told) }
+        ensures ok { OnOk result (Took self.old self.new (lent_thing told.entry ∷ [])) }
+        ensures err { OnErr result (Broke self.old self.new (lent_thing told.entry)) }
+        ensures cause { HasCause self.old.faults self.new.faults result }
+        ensures spent { (fault : RelayFault) → self.old.trouble ≡ Some fault → OnOk result ⊥ × (self.new ≡ counted_again self.old) }
+    {
+        if self.trouble.is_some() {
+            pass_over(told);
+            self.faults = self.faults.saturating_add(1);
+            return Err(Failed);
+        }
+        match self.take_in(told) {
+            Ok(()) => Ok(()),
+            Err(fault) => {
+                self.trouble = Some(fault);
+                self.faults = self.faults.saturating_add(1);
+                Err(Failed)
+            }
+        }
+    }
+
+    ghost took_none = { λ x. (λ told s. subst (StandsFor x) (sym (append-nil told)) s, refl) };
+
+    ghost took_both = { λ x y z h k f g. (λ told s. subst (StandsFor z) (append_assoc told h k) (g.0 (told ++ h) (f.0 told s)), g.1 ∙ f.1) };
+}
