@@ -1,0 +1,36 @@
+use Rattle.std.proofs.Common.{refl, sym, subst, ◌∙◌}
+use Rattle.tmds_word.specs.Column.{column_of}
+use Rattle.period_grammar.specs.After.{last}
+use Rattle.period_grammar.specs.Cut.{stretches}
+use Rattle.period_grammar.specs.Stands.{going_on}
+use Rattle.period_grammar.proofs.Hearings.{start_of, starts_at}
+use Rattle.dvi_hearing.specs.DviSeen.{DviSeen}
+use Rattle.dvi_hearing.specs.DviStands.{StandsFor}
+use Rattle.dvi_hearing.proofs.Hearings.{told_control, told_other, stands_control, stands_other}
+use Rattle.dvi_hearing.proofs.hearing.DviHearing.hear.Goals as goal
+
+pub returns-then-is_control_column-clause-heard : goal.returns-then-is_control_column-clause-heard
+returns-then-is_control_column-clause-heard c cs was =
+    let w = subst (λ (s : DviSeen). StandsFor s cs) (sym c.self.view_is) was in
+    let x = last (stretches cs) in
+    stands_control _ cs (column_of c.args.column.now) _ w.columns (sym c.is_control_column.ensures ∙ c.if-is_control_column.true) refl refl
+    (c.hear.ensures.heard (going_on x) (column_of c.args.column.now) c.column_value-value.ensures (c.close-kept.ensures.kept x w.stretch))
+
+pub returns-then-is_control_column-clause-told : goal.returns-then-is_control_column-clause-told
+returns-then-is_control_column-clause-told c cs was =
+    let w = subst (λ (s : DviSeen). StandsFor s cs) (sym c.self.view_is) was in
+    let x = last (stretches cs) in
+    told_control cs (column_of c.args.column.now) c.self.inside.columns c.column_value-value.result _ _ w.columns (sym c.is_control_column.ensures ∙ c.if-is_control_column.true) c.column_value-value.ensures
+    (c.close-kept.ensures.told x (start_of cs) c.self.inside.unused w.stretch (starts_at cs _ w.columns)) (c.tell_words.ensures.told _)
+
+pub returns-clause-heard : goal.returns-clause-heard
+returns-clause-heard c cs was =
+    let w = subst (λ (s : DviSeen). StandsFor s cs) (sym c.self.view_is) was in
+    stands_other _ cs (column_of c.args.column.now) _ w.columns (sym c.is_control_column.ensures ∙ c.if-is_control_column.false) refl
+    (c.go_on-self-inside.ensures.stands (last (stretches cs)) w.stretch)
+
+pub returns-clause-told : goal.returns-clause-told
+returns-clause-told c cs was =
+    let w = subst (λ (s : DviSeen). StandsFor s cs) (sym c.self.view_is) was in
+    told_other cs (column_of c.args.column.now) c.self.inside.columns _ w.columns (sym c.is_control_column.ensures ∙ c.if-is_control_column.false)
+    (c.go_on-self-inside.ensures.told (last (stretches cs)) (start_of cs) c.self.inside.unused w.stretch)

@@ -1,0 +1,15 @@
+use Rattle.std.proofs.Common.{subst}
+use Rattle.period_grammar.specs.Noted.{lent}
+use Rattle.dvi_hearing.specs.DviStands.{IsStretchAfter}
+use Rattle.dvi_hearing.specs.declared.phase.Phase.{Phase}
+use Rattle.period_grammar.proofs.Noting.{pushed}
+use Rattle.dvi_hearing.proofs.Phases.{end_control, end_pixels}
+use Rattle.dvi_hearing.proofs.phase.end.Goals as goal
+
+pub returns-in-Control-clause-told : goal.returns-in-Control-clause-told
+returns-in-Control-clause-told c x b whole was e =
+    end_control c.args.kept.now c.args.line.now c.args.n _ (λ control h. c.tell_run.ensures.told control (lent c.args.line.now.bytes whole) h) x b (subst (λ (p : Phase). IsStretchAfter p c.args.kept.now c.args.line.now c.args.n x) c.in-Control.is was)
+
+pub returns-in-Pixels-clause-told : goal.returns-in-Pixels-clause-told
+returns-in-Pixels-clause-told c x b whole was e =
+    end_pixels c.args.kept.now c.args.line.now c.args.n _ _ (pushed (lent c.args.line.now.bytes whole) _ _ _ c.requires.room c.push.ensures) x b (subst (λ (p : Phase). IsStretchAfter p c.args.kept.now c.args.line.now c.args.n x) c.in-Pixels.is was) e

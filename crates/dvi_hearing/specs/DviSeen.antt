@@ -1,0 +1,36 @@
+-- What contracts see of a hearing of a stream without guard columns.
+use Rattle.std.specs.Prelude.{◌≡◌, ◌≤◌, ◌+◌, ℕ, Bool, List, length}
+use Rattle.period_grammar.specs.LineSeen.{LineSeen}
+use Rattle.period_grammar.specs.ControlAfter.{IsCounted}
+use Rattle.period_grammar.specs.Noted.{things, lent}
+use Rattle.period_grammar.specs.Things.{Thing}
+use Rattle.period_grammar.specs.declared.control.Kept.{Kept}
+use Rattle.period_grammar.specs.declared.island.Whole.{Whole}
+use Rattle.period_grammar.specs.declared.notes.Note.{Note}
+use Rattle.dvi_hearing.specs.declared.phase.Phase.{Phase}
+use Rattle.dvi_hearing.specs.declared.phase.Phase.TheVariants.{Control, Pixels}
+
+pub record DviSeen : Type 0 where
+  pub columns : ℕ
+  pub phase : Phase
+  pub control : Kept
+  pub line : LineSeen
+  pub notes : List Note
+  pub unused : Whole
+  pub finished : Bool
+
+-- where a line began
+abbrev pub IsPlaced : Phase → ℕ → ℕ → Type 0
+IsPlaced Control count n = Unit {0}
+IsPlaced (Pixels start) count n = start + count ≡ n
+
+pub record IsSound (columns : ℕ) (phase : Phase) (control : Kept) (line : LineSeen) (notes : List Note) : Type 0 where
+  pub counted : IsCounted control
+  pub few : control.columns ≤ columns
+  pub placed : IsPlaced phase line.count columns
+  pub told : length notes ≤ 8
+  pub short : columns ≤ 429496730
+
+-- what the last call told
+abbrev pub last_told : DviSeen → List Thing
+last_told hearing = things (lent hearing.line.bytes hearing.unused) hearing.notes

@@ -1,0 +1,8 @@
+pub mod DviHeard
+pub mod DviGains
+pub mod DviGrammar
+pub mod DviSeen
+pub mod DviStands
+pub mod DviPeriods
+pub mod DviAccount
+pub mod DviLaws

@@ -1,0 +1,211 @@
+//! Hears columns one after another, and tells what they say.
+ghost use Rattle.std.specs.Prelude.{◌≡◌, ◌<◌, ◌≤◌, ◌+◌, ◌++◌, ◌∷◌, [], ℕ, All, List, length, map, take, true, false, slice_get, Some};
+ghost use Rattle.tmds_word.specs.Column.{Column, column_of};
+ghost use Rattle.tmds_word.specs.Words.{columns_of};
+ghost use Rattle.period_grammar.specs.Things.{all_at, thing_of};
+ghost use Rattle.period_grammar.specs.Lending.{lent_thing};
+ghost use Rattle.dvi_hearing.specs.DviHeard.{dvi_so_far, dvi_heard};
+ghost use Rattle.dvi_hearing.specs.DviSeen.{last_told};
+ghost use Rattle.dvi_hearing.specs.DviStands.{StandsFor};
+ghost use Rattle.dvi_hearing.specs.declared.phase.Phase.TheVariants.{Control, Pixels};
+
+use crate::phase::{Phase, close, end, go_on};
+use period_grammar::{Kept, Line, Notes, Told, Whole, column_value, lend, tell_words};
+use std::marker::Model;
+use terc4::is_control_column;
+use tmds_word::Word;
+
+/// Hears the columns of a stream without guard columns one after another. It keeps a few numbers of them and the bytes
+/// of one line.
+#[derive(Drop)]
+pub struct DviHearing {
+    columns: u32,
+    phase: Phase,
+    control: Kept,
+    line: Line,
+    notes: Notes,
+    unused: Whole,
+    finished: bool,
+}
+
+impl Model for DviHearing {
+    ghost use Rattle.dvi_hearing.specs.DviSeen.{DviSeen, IsSound};
+
+    ghost Value = { DviSeen };
+
+    ghost view = { λ h. record { columns = h.columns; phase = h.phase; control = h.control; line = h.line; notes = h.notes; unused = h.unused; finished = h.finished } };
+
+    ghost invariant = { λ h. IsSound h.columns h.phase h.control h.line h.notes };
+}
+
+impl DviHearing {
+    /// A hearing that has heard nothing. The room for a line of 4,096 pixels is within it: it takes no memory.
+    pub fn open() -> DviHearing
+        ensures open { result.finished ≡ false }
+        ensures heard { StandsFor result [] }
+        ensures quiet { last_told result ≡ [] }
+    {
+        DviHearing {
+            columns: 0,
+            phase: Phase::Control,
+            control: Kept::new(),
+            line: Line::new(),
+            notes: Notes::new(),
+            unused: Whole::unused(),
+            finished: false,
+        }
+    }
+
+    /// Forgets all that was heard and told: it is as a fresh one. It takes no memory.
+    pub fn restart(&mut self)
+        ensures open { self.new.finished ≡ false }
+        ensures heard { StandsFor self.new [] }
+        ensures quiet { last_told self.new ≡ [] }
+    {
+        self.columns = 0;
+        self.phase = Phase::Control;
+        self.control = Kept::new();
+        self.notes.clear();
+        self.finished = false;
+    }
+
+    /// Hears one column, the words of lanes 0, 1 and 2; `tells` and `told` then say what it tells.
+    pub fn hear(&mut self, column: &[Word; 3])
+        requires few { self.old.columns < 429496730 }
+        requires open { self.old.finished ≡ false }
+        ensures columns { self.new.columns ≡ self.old.columns + 1 }
+        ensures open { self.new.finished ≡ false }
+        ensures heard { (cs : List Column) → StandsFor self.old cs → StandsFor self.new (cs ++ column_of column.now ∷ []) }
+        ensures told { (cs : List Column) → StandsFor self.old cs → dvi_so_far (cs ++ column_of column.now ∷ []) ≡ dvi_so_far cs ++ all_at (length cs) (last_told self.new) }
+    {
+        self.notes.clear();
+        let n = self.columns;
+        if is_control_column(column) {
+            let value = column_value(column);
+            let mut kept = close(
+                self.phase,
+                n,
+                value,
+                self.control,
+                &self.line,
+                &mut self.notes,
+            );
+            kept.hear(value);
+            tell_words(n, column, &mut self.notes);
+            self.control = kept;
+            self.phase = Phase::Control;
+            self.columns = n + 1;
+            return;
+        }
+        self.phase = go_on(
+            self.phase,
+            n,
+            column,
+            &self.control,
+            &mut self.line,
+            &mut self.notes,
+        );
+        self.columns = n + 1;
+    }
+
+    /// Hears the columns of three lanes' words from the first on, as long as they go on with the run or the line that is
+    /// open, and answers how many these are: none where none is open. It tells nothing. `hear` takes the column that
+    /// comes then.
+    pub fn hear_while(&mut self, blue: &[u16], green: &[u16], red: &[u16]) -> usize
+        requires green { length green.now ≡ length blue.now }
+        requires red { length red.now ≡ length blue.now }
+        requires blue_words { All (λ w. w < 1024) blue.now }
+        requires green_words { All (λ w. w < 1024) green.now }
+        requires red_words { All (λ w. w < 1024) red.now }
+        requires few { self.old.columns + length blue.now ≤ 429496730 }
+        requires open { self.old.finished ≡ false }
+        ensures within { result ≤ length blue.now }
+        ensures columns { self.new.columns ≡ self.old.columns + result }
+        ensures open { self.new.finished ≡ false }
+        ensures heard { (cs : List Column) → StandsFor self.old cs → StandsFor self.new (cs ++ take result (columns_of blue.now green.now red.now)) }
+        ensures told { (cs : List Column) → StandsFor self.old cs → dvi_so_far (cs ++ take result (columns_of blue.now green.now red.now)) ≡ dvi_so_far cs }
+        ensures quiet { last_told self.new ≡ [] }
+    {
+        self.notes.clear();
+        match self.phase {
+            Phase::Control => self.hear_run(blue, green, red),
+            Phase::Pixels { .. } => self.hear_line(blue, green, red),
+        }
+    }
+
+    /// Hears control columns of the last run, and answers how many these are.
+    fn hear_run(&mut self, blue: &[u16], green: &[u16], red: &[u16]) -> usize
+        requires phase { self.old.phase ≡ Control }
+        requires green { length green.now ≡ length blue.now }
+        requires red { length red.now ≡ length blue.now }
+        requires blue_words { All (λ w. w < 1024) blue.now }
+        requires green_words { All (λ w. w < 1024) green.now }
+        requires red_words { All (λ w. w < 1024) red.now }
+        requires few { self.old.columns + length blue.now ≤ 429496730 }
+        ensures within { result ≤ length blue.now }
+        ensures columns { self.new.columns ≡ self.old.columns + result }
+        ensures open { self.new.finished ≡ self.old.finished }
+        ensures notes { self.new.notes ≡ self.old.notes }
+        ensures heard { (cs : List Column) → StandsFor self.old cs → StandsFor self.new (cs ++ take result (columns_of blue.now green.now red.now)) }
+        ensures told { (cs : List Column) → StandsFor self.old cs → dvi_so_far (cs ++ take result (columns_of blue.now green.now red.now)) ≡ dvi_so_far cs }
+    {
+        let count = self.control.count_going_on(blue, green, red);
+        self.control.hear_run(count as u32);
+        self.columns += count as u32;
+        count
+    }
+
+    /// Hears pixels of the line that is open, and answers how many these are.
+    fn hear_line(&mut self, blue: &[u16], green: &[u16], red: &[u16]) -> usize
+        requires phase { (start : ℕ) × (self.old.phase ≡ Pixels start) }
+        requires green { length green.now ≡ length blue.now }
+        requires red { length red.now ≡ length blue.now }
+        requires blue_words { All (λ w. w < 1024) blue.now }
+        requires green_words { All (λ w. w < 1024) green.now }
+        requires red_words { All (λ w. w < 1024) red.now }
+        requires few { self.old.columns + length blue.now ≤ 429496730 }
+        ensures within { result ≤ length blue.now }
+        ensures columns { self.new.columns ≡ self.old.columns + result }
+        ensures open { self.new.finished ≡ self.old.finished }
+        ensures notes { self.new.notes ≡ self.old.notes }
+        ensures heard { (cs : List Column) → StandsFor self.old cs → StandsFor self.new (cs ++ take result (columns_of blue.now green.now red.now)) }
+        ensures told { (cs : List Column) → StandsFor self.old cs → dvi_so_far (cs ++ take result (columns_of blue.now green.now red.now)) ≡ dvi_so_far cs }
+    {
+        let count = self.line.hear_while(blue, green, red);
+        self.columns += count as u32;
+        count
+    }
+
+    /// Ends the columns; `tells` and `told` then say what the end tells.
+    pub fn finish(&mut self)
+        requires { self.old.finished ≡ false }
+        ensures finished { self.new.finished ≡ true }
+        ensures told { (cs : List Column) → StandsFor self.old cs → dvi_heard cs ≡ map thing_of (dvi_so_far cs) ++ last_told self.new }
+    {
+        self.notes.clear();
+        end(
+            self.phase,
+            self.columns,
+            &self.control,
+            &self.line,
+            &mut self.notes,
+        );
+        self.finished = true;
+    }
+
+    /// How many things the last call told.
+    pub fn tells(&self) -> u8
+        ensures few { result ≤ 8 }
+        ensures count { result ≡ length self.now.notes }
+    {
+        self.notes.len()
+    }
+
+    /// Lends thing `i` of those that the last call told.
+    pub fn told(&self, i: u8) -> Told<'_>
+        requires { i < length self.now.notes }
+        ensures { slice_get (last_told self.now) i ≡ Some (lent_thing result) }
+    {
+        lend(self.notes.get(i), self.line.bytes(), &self.unused)
+    }
+}

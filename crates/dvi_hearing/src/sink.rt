@@ -1,0 +1,56 @@
+//! A sink of three lanes that carry a stream without guard columns.
+ghost use Rattle.std.specs.Prelude.{◌≡◌, ◌++◌, ◌∷◌, [], List, length, take};
+
+use crate::hearing::DviHearing;
+use link_sink::{Hears, LaneSink};
+use period_grammar::Told;
+use tmds_word::Word;
+
+/// Hears the columns of a stream without guard columns.
+pub type DviSink = LaneSink<DviHearing>;
+
+impl Hears for DviHearing {
+    ghost use Rattle.dvi_hearing.specs.DviSeen.{last_told};
+    ghost use Rattle.dvi_hearing.specs.DviGrammar.{dvi_grammar, dvi_is_grammar};
+    ghost use Rattle.dvi_hearing.specs.DviStands.{GoesOn, dvi_counts};
+
+    ghost grammar = { dvi_grammar };
+
+    ghost goes_on = { GoesOn };
+
+    ghost counted = { λ h. h.columns };
+
+    ghost last = { last_told };
+
+    fn open() -> DviHearing {
+        DviHearing::open()
+    }
+
+    fn restart(&mut self) {
+        self.restart();
+    }
+
+    fn hear(&mut self, column: &[Word; 3]) {
+        self.hear(column);
+    }
+
+    fn hear_while(&mut self, blue: &[u16], green: &[u16], red: &[u16]) -> usize {
+        self.hear_while(blue, green, red)
+    }
+
+    fn finish(&mut self) {
+        self.finish();
+    }
+
+    fn tells(&self) -> u8 {
+        self.tells()
+    }
+
+    fn told(&self, i: u8) -> Told<'_> {
+        self.told(i)
+    }
+
+    ghost counts = { dvi_counts };
+
+    ghost is_grammar = { dvi_is_grammar };
+}
