@@ -1,0 +1,7 @@
+mod Pieces
+pub mod Cutting
+pub mod Strays
+pub mod Around
+pub mod Begins
+mod Seeking
+pub mod Front

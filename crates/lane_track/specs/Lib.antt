@@ -1,0 +1,4 @@
+pub mod Strays
+pub mod Slips
+pub mod Laws
+pub mod Scouts

@@ -1,0 +1,13 @@
+-- What a scout stands for: the bits of a lane from the beginning of an epoch on, as far as it has looked through them.
+use Rattle.std.specs.Prelude.{ℕ, ◌+◌, ◌<◌, ◌≤◌, Bool, List, length, Option, MatchOption}
+use Rattle.lane_align.specs.Lanes.{IsRun, IsLock}
+use Rattle.lane_track.specs.Strays.{IsStray}
+
+-- no stray, and the lock if there is one, before a place
+pub record HasSought (xs : List Bool) (seen : ℕ) (found : Option ℕ) : Type 0 where
+  pub lock : MatchOption found ((p : ℕ) → p < seen → IsRun xs p → ⊥) (λ l. IsLock xs l × (l < seen))
+  pub none : (p : ℕ) → p < seen → IsStray xs p → ⊥
+
+-- all places of the bits that are decided were looked at: those of whose run all bits have come
+abbrev pub IsSought : List Bool → Option ℕ → Type 0
+IsSought xs lock = (seen : ℕ) × (length xs ≤ seen + 119) × HasSought xs seen lock

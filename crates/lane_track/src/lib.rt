@@ -1,0 +1,10 @@
+//! Strays of a lane: runs of control words that begin where no character of it begins; and the laws on a lane that loses bits.
+#![tactic(auto)]
+
+pub mod laws;
+mod scout;
+
+pub use scout::Scout;
+
+#[cfg(test)]
+mod tests;

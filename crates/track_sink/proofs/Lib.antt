@@ -1,0 +1,6 @@
+mod Second
+mod Staying
+mod Ends
+mod Calm
+mod One
+mod First

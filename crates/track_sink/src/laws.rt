@@ -1,0 +1,42 @@
+//! What follows from the laws on taps.
+ghost use Rattle.track_sink.specs.Laws.{SecondTold, EndStays, AtMostTwo, CalmHasNoEnd, OneTrack, FirstTold, PayloadHasNoEnd, OneEpoch};
+
+/// What the second epoch tells is the account.
+pub fn second_told()
+    ensures { SecondTold }
+{}
+
+/// An end that is found stays.
+pub fn end_stays()
+    ensures { EndStays }
+{}
+
+/// Where a lane slips once there are at most two epochs, and the second begins on that lane, behind the slip.
+pub fn at_most_two()
+    ensures { AtMostTwo }
+{}
+
+/// Where none slips there is one.
+pub fn calm_has_no_end()
+    ensures { CalmHasNoEnd }
+{}
+
+/// Of all bits one thing is told.
+pub fn one_track()
+    ensures { OneTrack }
+{}
+
+/// What the first epoch tells before the slip is the account.
+pub fn first_told()
+    ensures { FirstTold }
+{}
+
+/// The lanes of a tap whose damage lies in pixels and packets alone have one epoch.
+pub fn payload_has_no_end()
+    ensures { PayloadHasNoEnd }
+{}
+
+/// So have the lanes of a tap whose damage is sparse, wherever it lies.
+pub fn one_epoch()
+    ensures { OneEpoch }
+{}
