@@ -38,7 +38,7 @@ use Rattle.command_line.specs.Commands.{IsCommand as IsLine, IsVersion}
 use Rattle.hdmi_cli.specs.Outcome.{Outcome, MakesLink, MakesStream, MakesRaster, MakesContent, Does}
 use Rattle.sampling.specs.Counts.{counts_text}
 use Rattle.hdmi_cli.specs.Samples.{IsSampleWhole}
-use Rattle.hdmi_cli.specs.Endings.{Devices, IsAnswered, Answers, Parts, Ends, EndsUnwritten, StreamEnds, IsWhole, IsCut, damage_ending, raster_ending}
+use Rattle.hdmi_cli.specs.Endings.{Devices, IsAnswered, Answers, Parts, Ends, EndsUnwritten, StreamEnds, IsWhole, IsCut, damage_ending, raster_ending, ReadsCapture}
 use Rattle.command_line.specs.declared.command.Command.{Command}
 use Rattle.command_line.specs.declared.command.Command.TheVariants.{MakeLink, MakeContent, Damage, Sample}
 use Rattle.hdmi_cli.specs.declared.ending.Ending.{Ending}
@@ -65,9 +65,9 @@ listing_refused words fault before after text read kept = record {
 -- a stream that is written ends a command that makes it
 pub stream_ends : (command : Command) (tap : Tap) (ps : List Period) (e : Ending) (before after : Devices)
     → ((text : List ℕ) (o : Outcome) → before.left ≡ Some text → MakesStream tap ps o → Does command text o)
-    → (Parts command before after → EndsUnwritten command before after)
+    → (Parts command before after → EndsUnwritten command before after) → (ReadsCapture command → ⊥)
     → IsAtEnd after.left → StreamEnds tap ps e before.held after.held before.output_faults after.output_faults → Ends command e before after
-stream_ends command tap ps Done before after makes unwritten end is = (
+stream_ends command tap ps Done before after makes unwritten other end is = (
   end,
   λ text told. record {
     outcome = record { status = 0; output = tapped_capture is.columns tap; note = [] };
@@ -77,7 +77,7 @@ stream_ends command tap ps Done before after makes unwritten end is = (
     written = is.written;
   },
 )
-stream_ends command tap ps WriteFailed before after makes unwritten end is = (
+stream_ends command tap ps WriteFailed before after makes unwritten other end is = (
   is.0,
   unwritten (λ text told. record {
     outcome = record { status = 0; output = tapped_capture is.1.columns tap; note = [] };
@@ -88,15 +88,15 @@ stream_ends command tap ps WriteFailed before after makes unwritten end is = (
     written = is.1.written;
   }),
 )
-stream_ends command tap ps NoMemory before after makes unwritten end is = is
-stream_ends command tap ps Faulty before after makes unwritten end is = absurd is
-stream_ends command tap ps Usage before after makes unwritten end is = absurd is
-stream_ends command tap ps (Listing fault) before after makes unwritten end is = absurd is
-stream_ends command tap ps (Raster fault) before after makes unwritten end is = absurd is
-stream_ends command tap ps (Capture fault) before after makes unwritten end is = absurd is
-stream_ends command tap ps (Place i) before after makes unwritten end is = absurd is
-stream_ends command tap ps ReadFailed before after makes unwritten end is = absurd is
-stream_ends command tap ps Unaligned before after makes unwritten end is = absurd is
+stream_ends command tap ps NoMemory before after makes unwritten other end is = (is, λ reads. absurd (other reads))
+stream_ends command tap ps Faulty before after makes unwritten other end is = absurd is
+stream_ends command tap ps Usage before after makes unwritten other end is = absurd is
+stream_ends command tap ps (Listing fault) before after makes unwritten other end is = absurd is
+stream_ends command tap ps (Raster fault) before after makes unwritten other end is = absurd is
+stream_ends command tap ps (Capture fault) before after makes unwritten other end is = absurd is
+stream_ends command tap ps (Place i) before after makes unwritten other end is = absurd is
+stream_ends command tap ps ReadFailed before after makes unwritten other end is = absurd is
+stream_ends command tap ps Unaligned before after makes unwritten other end is = absurd is
 
 pub makes_link : (words : TapWords) (ps : List Period) (text : List ℕ) (o : Outcome) → reads_as text ≡ accepts ps → MakesStream (tap_asked words) ps o → Does (MakeLink words) text o
 makes_link words ps text o read made = subst (λ r. MakesLink (tap_asked words) r o) (sym read) made
@@ -199,7 +199,7 @@ long_is_other e = cc
 
 pub raster_ends : (words : TapWords) (mode : Mode) (frames : List Frame) (r : Result (List Period) RasterFault) (fault : RasterFault) (before after : Devices) → ((text : List ℕ) → before.left ≡ Some text → content_reads_as text ≡ accepts (mode, frames))
     → AnswersRasterFault (raster_fault mode frames) r → r ≡ Err fault → after.held ≡ before.held → Ends (MakeContent words) (raster_ending fault) before after
-raster_ends words mode frames r NoRaster before after read answers err kept = kept_held before.held after.held kept
+raster_ends words mode frames r NoRaster before after read answers err kept = (kept_held before.held after.held kept, λ reads. absurd reads)
 raster_ends words mode frames r (BadMode i) before after read answers err kept =
     (kept_held before.held after.held kept, λ text told. raster_refused words mode frames r (BadMode i) before after text (read text told) answers err (mode_is_other i) kept)
 raster_ends words mode frames r (Row f n) before after read answers err kept =

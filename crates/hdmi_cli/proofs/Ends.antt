@@ -6,7 +6,7 @@ use Rattle.std.specs.Io.KnownBytes.{Appends, IsAtEnd, Keeps}
 use Rattle.outside_io.specs.Causes.{Rose}
 use Rattle.outside_io.specs.declared.NoMemory.{NoMemory as NoMemoryAnswer}
 use Rattle.command_line.specs.Commands.{IsCommand}
-use Rattle.command_line.proofs.Laws.{command_once}
+use Rattle.command_line.proofs.OneCommand.{command_once}
 use Rattle.hdmi_cli.specs.Notes.{usage_note, memory_note}
 use Rattle.hdmi_cli.specs.Outcome.{Outcome, IsOutcome, NamesNone}
 use Rattle.hdmi_cli.specs.Endings.{Devices, Answers, Ends, ReadsCapture, ReadsInput, RunEnds, RunUnread, RunUnwritten, status_of, note_of}
@@ -33,6 +33,7 @@ pub record Says (words : List (List ℕ)) (before after : Devices) (status : ℕ
       → (o : Outcome) × IsOutcome words text o × (o.status ≡ status) × Appends before.held after.held o.output
   pub read_failed : status ≡ 4 → Rose before.input_faults after.input_faults
   pub write_failed : status ≡ 5 → Rose before.output_faults after.output_faults
+  pub memory : status ≡ 6 → (command : Command) → IsCommand words command → ReadsCapture command → Keeps before.left after.left
   pub ended : ((n : ℕ) → IsCommand words (Sample n) → ⊥) → Contains (0 ∷ 1 ∷ 7 ∷ []) status → IsAtEnd after.left
   pub unread : status ≡ 2 → Keeps before.left after.left
   pub unwritten : Contains (2 ∷ 6 ∷ 7 ∷ []) status → Keeps before.held after.held
@@ -133,6 +134,7 @@ command_says words command Done before after named reads ends = record {
   done = λ h. written_at words command Done before after named ends.1;
   read_failed = λ h. absurd (omega arith);
   write_failed = λ h. absurd (omega arith);
+  memory = λ h. absurd (omega arith);
   ended = λ other h. ends.0;
   unread = λ h. absurd (omega arith);
   unwritten = λ h. absurd (none_of (2 ∷ 6 ∷ 7 ∷ []) 0 refl h);
@@ -150,6 +152,7 @@ command_says words command Faulty before after named reads ends = record {
   done = λ h. written_at words command Faulty before after named ends.1;
   read_failed = λ h. absurd (omega arith);
   write_failed = λ h. absurd (omega arith);
+  memory = λ h. absurd (omega arith);
   ended = λ other h. ends.0;
   unread = λ h. absurd (omega arith);
   unwritten = λ h. absurd (none_of (2 ∷ 6 ∷ 7 ∷ []) 1 refl h);
@@ -167,6 +170,7 @@ command_says words command (Listing fault) before after named reads ends = recor
   done = λ h. written_at words command (Listing fault) before after named ends.1;
   read_failed = λ h. absurd (omega arith);
   write_failed = λ h. absurd (omega arith);
+  memory = λ h. absurd (omega arith);
   ended = λ other h. absurd (none_of (0 ∷ 1 ∷ 7 ∷ []) 3 refl h);
   unread = λ h. absurd (omega arith);
   unwritten = λ h. absurd (none_of (2 ∷ 6 ∷ 7 ∷ []) 3 refl h);
@@ -184,6 +188,7 @@ command_says words command (Raster fault) before after named reads ends = record
   done = λ h. written_at words command (Raster fault) before after named ends.1;
   read_failed = λ h. absurd (omega arith);
   write_failed = λ h. absurd (omega arith);
+  memory = λ h. absurd (omega arith);
   ended = λ other h. absurd (none_of (0 ∷ 1 ∷ 7 ∷ []) 3 refl h);
   unread = λ h. absurd (omega arith);
   unwritten = λ h. absurd (none_of (2 ∷ 6 ∷ 7 ∷ []) 3 refl h);
@@ -201,6 +206,7 @@ command_says words command (Capture fault) before after named reads ends = recor
   done = λ h. written_at words command (Capture fault) before after named ends.1;
   read_failed = λ h. absurd (omega arith);
   write_failed = λ h. absurd (omega arith);
+  memory = λ h. absurd (omega arith);
   ended = λ other h. absurd (none_of (0 ∷ 1 ∷ 7 ∷ []) 3 refl h);
   unread = λ h. absurd (omega arith);
   unwritten = λ h. absurd (none_of (2 ∷ 6 ∷ 7 ∷ []) 3 refl h);
@@ -218,6 +224,7 @@ command_says words command (Place i) before after named reads ends = record {
   done = λ h. written_at words command (Place i) before after named ends.1;
   read_failed = λ h. absurd (omega arith);
   write_failed = λ h. absurd (omega arith);
+  memory = λ h. absurd (omega arith);
   ended = λ other h. absurd (none_of (0 ∷ 1 ∷ 7 ∷ []) 3 refl h);
   unread = λ h. absurd (omega arith);
   unwritten = λ h. absurd (none_of (2 ∷ 6 ∷ 7 ∷ []) 3 refl h);
@@ -235,6 +242,7 @@ command_says words command Unaligned before after named reads ends = record {
   done = λ h. written_at words command Unaligned before after named ends.2;
   read_failed = λ h. absurd (omega arith);
   write_failed = λ h. absurd (omega arith);
+  memory = λ h. absurd (omega arith);
   ended = λ other h. ends.0;
   unread = λ h. absurd (omega arith);
   unwritten = λ h. ends.1;
@@ -252,6 +260,7 @@ command_says words command ReadFailed before after named reads ends = record {
   done = λ h. absurd (none_of (0 ∷ 1 ∷ 3 ∷ 7 ∷ []) 4 refl h);
   read_failed = λ h. ends.0;
   write_failed = λ h. absurd (omega arith);
+  memory = λ h. absurd (omega arith);
   ended = λ other h. absurd (none_of (0 ∷ 1 ∷ 7 ∷ []) 4 refl h);
   unread = λ h. absurd (omega arith);
   unwritten = λ h. absurd (none_of (2 ∷ 6 ∷ 7 ∷ []) 4 refl h);
@@ -269,6 +278,7 @@ command_says words command WriteFailed before after named reads ends = record {
   done = λ h. absurd (none_of (0 ∷ 1 ∷ 3 ∷ 7 ∷ []) 5 refl h);
   read_failed = λ h. absurd (omega arith);
   write_failed = λ h. ends.0;
+  memory = λ h. absurd (omega arith);
   ended = λ other h. absurd (none_of (0 ∷ 1 ∷ 7 ∷ []) 5 refl h);
   unread = λ h. absurd (omega arith);
   unwritten = λ h. absurd (none_of (2 ∷ 6 ∷ 7 ∷ []) 5 refl h);
@@ -286,9 +296,10 @@ command_says words command NoMemory before after named reads ends = record {
   done = λ h. absurd (none_of (0 ∷ 1 ∷ 3 ∷ 7 ∷ []) 6 refl h);
   read_failed = λ h. absurd (omega arith);
   write_failed = λ h. absurd (omega arith);
+  memory = λ h again other reads_it. ends.1 (subst ReadsCapture (command_once words again command other named) reads_it);
   ended = λ other h. absurd (none_of (0 ∷ 1 ∷ 7 ∷ []) 6 refl h);
   unread = λ h. absurd (omega arith);
-  unwritten = λ h. ends;
+  unwritten = λ h. ends.0;
   refused = λ h. absurd (omega arith);
   cut_short = λ h. absurd (omega arith);
   part = λ h. absurd (omega arith);
@@ -307,6 +318,7 @@ none_says words before after none left held = record {
   done = λ h. absurd (none_of (0 ∷ 1 ∷ 3 ∷ 7 ∷ []) 2 refl h);
   read_failed = λ h. absurd (omega arith);
   write_failed = λ h. absurd (omega arith);
+  memory = λ h. absurd (omega arith);
   ended = λ other h. absurd (none_of (0 ∷ 1 ∷ 7 ∷ []) 2 refl h);
   unread = λ h. left;
   unwritten = λ h. held;
@@ -327,6 +339,7 @@ unread_says words before after left held = record {
   done = λ h. absurd (none_of (0 ∷ 1 ∷ 3 ∷ 7 ∷ []) 6 refl h);
   read_failed = λ h. absurd (omega arith);
   write_failed = λ h. absurd (omega arith);
+  memory = λ h again other reads_it. left;
   ended = λ other h. absurd (none_of (0 ∷ 1 ∷ 7 ∷ []) 6 refl h);
   unread = λ h. absurd (omega arith);
   unwritten = λ h. held;
@@ -348,6 +361,7 @@ sample_says words frames Done before after named left ends = record {
   done = λ h. written_at words (Sample frames) Done before after named (sample_answers frames before after ends);
   read_failed = λ h. absurd (omega arith);
   write_failed = λ h. absurd (omega arith);
+  memory = λ h. absurd (omega arith);
   ended = λ other h. absurd (other frames named);
   unread = λ h. absurd (omega arith);
   unwritten = λ h. absurd (none_of (2 ∷ 6 ∷ 7 ∷ []) 0 refl h);
@@ -365,6 +379,7 @@ sample_says words frames WriteFailed before after named left ends = record {
   done = λ h. absurd (none_of (0 ∷ 1 ∷ 3 ∷ 7 ∷ []) 5 refl h);
   read_failed = λ h. absurd (omega arith);
   write_failed = λ h. ends.0;
+  memory = λ h. absurd (omega arith);
   ended = λ other h. absurd (other frames named);
   unread = λ h. absurd (omega arith);
   unwritten = λ h. absurd (none_of (2 ∷ 6 ∷ 7 ∷ []) 5 refl h);

@@ -21,7 +21,7 @@ use Rattle.hdmi_cli.specs.Listings.{check_listing}
 use Rattle.hdmi_cli.specs.Exact.{IsAlignedCapture, IsJudged}
 use Rattle.command_line.specs.declared.command.Command.{Command}
 use Rattle.command_line.specs.declared.command.Command.TheVariants.{Check}
-use Rattle.command_line.proofs.Laws.{command_once}
+use Rattle.command_line.proofs.OneCommand.{command_once}
 use Rattle.hdmi_cli.proofs.Ends.{Says}
 use Rattle.capture_file.specs.Laws.{AreSame}
 use Rattle.capture_file.proofs.OneCapture.{one_capture, no_fault}

@@ -14,17 +14,17 @@ use Rattle.period_grammar.specs.Things.{Thing}
 use Rattle.period_grammar.specs.Heard.{heard}
 use Rattle.link_sink.specs.Account.{account}
 use Rattle.link_sink.specs.Alignment.{IsAlignedTold}
-use Rattle.link_sink.specs.Laws.{IsAccounted, AlignsUntil, BeginColumn}
+use Rattle.link_sink.specs.Laws.{IsAccounted, BeginColumn}
 use Rattle.link_sink.proofs.Tapped.{payload_accounted, tap_accounted}
 use Rattle.hdmi_cli.specs.Listings.{Listing as ListingOf}
 use Rattle.command_line.specs.Commands.{IsCommand}
 use Rattle.hdmi_cli.specs.Outcome.{Outcome, ListsLanes, ListsCapture, Does, status_with}
-use Rattle.hdmi_cli.specs.Headline.{AreTapped, IsRecovered}
-use Rattle.hdmi_cli.specs.Endings.{Devices, Answers, Ends, RunEnds, status_of}
+use Rattle.hdmi_cli.specs.Headline.{TappedStream, IsTapped, AlignsBy, IsFirstOf, IsRecovered, IsRecoveredBy, aligned_of}
+use Rattle.hdmi_cli.specs.Endings.{Devices, Answers, Ends, RunEnds, Unless, status_of}
 use Rattle.hdmi_cli.specs.Samples.{SampleEnds}
 use Rattle.command_line.specs.declared.command.Command.{Command}
 use Rattle.command_line.specs.declared.command.Command.TheVariants.{Sample}
-use Rattle.command_line.proofs.Laws.{command_once}
+use Rattle.command_line.proofs.OneCommand.{command_once}
 use Rattle.hdmi_cli.specs.declared.ending.Ending.{Ending}
 use Rattle.hdmi_cli.specs.declared.ending.Ending.TheVariants.{Done, Faulty, Usage, Listing, Raster, Capture, Place, ReadFailed, WriteFailed, NoMemory, Unaligned}
 use Rattle.capture_file.specs.Laws.{AreSame}
@@ -76,25 +76,19 @@ capture_account listing ps sent received offset skews a blue green red d e f byt
     absurd (no_fault bytes fault (record { blue = blue; green = green; red = red; holds = captured }) is.is)
 
 -- what a run says of it
-
-answered : (listing : ListingOf) (command : Command) (ps : List Period) (sent received : List Column) (offset : ℕ) (skews : List ℕ) (a : ℕ) (blue green red : List Bool) (d e f : ℕ) (bytes : List ℕ) (ending : Ending) (before after : Devices)
-    → ((o : Outcome) → Does command bytes o → ListsCapture listing bytes o) → IsCaptureOf blue green red bytes → IsFirst blue green red d e f → IsAccounted ps sent received (aligned_columns blue green red d e f) a
-    → BeginColumn offset skews (a + 12) d e f → before.left ≡ Some bytes → Answers command ending before after
-    → IsRecovered listing ps sent received offset skews blue green red d e f a (status_of ending) before.held after.held
-answered listing command ps sent received offset skews a blue green red d e f bytes ending before after lists captured first accounted begins left answers =
-    let answer = answers bytes left in
-    let is = capture_account listing ps sent received offset skews a blue green red d e f bytes answer.outcome captured first accounted (lists answer.outcome answer.does) in
+answered : (listing : ListingOf) (command : Command) (t : TappedStream) (a d e f : ℕ) (ending : Ending) (before after : Devices)
+    → ((o : Outcome) → Does command t.bytes o → ListsCapture listing t.bytes o) → IsTapped t → IsFirstOf t d e f → IsAccounted t.periods t.sent t.received (aligned_of t d e f) a
+    → BeginColumn t.offset t.skews (a + 12) d e f → before.left ≡ Some t.bytes → Answers command ending before after
+    → IsRecovered listing t d e f a (status_of ending) before.held after.held
+answered listing command t a d e f ending before after lists tapped first accounted begins left answers =
+    let answer = answers t.bytes left in
+    let is = capture_account listing t.periods t.sent t.received t.offset t.skews a t.blue t.green t.red d e f t.bytes answer.outcome tapped.captured first accounted (lists answer.outcome answer.does) in
     record {
       accounted = accounted;
       begins = begins;
       status_is = sym answer.status ∙ is.status;
       written = subst (λ out. Appends before.held after.held out) is.output answer.written;
     }
-
--- where no device failed and memory was had, something holds of the status and of what was written
-abbrev pub Unless : (ℕ → Option (List ℕ) → Option (List ℕ) → Type 0) → ℕ → Devices → Devices → Type 0
-Unless P status before after =
-    Rose before.input_faults after.input_faults ⊎ Rose before.output_faults after.output_faults ⊎ (status ≡ 6) ⊎ P status before.held after.held
 
 ended : (P : ℕ → Option (List ℕ) → Option (List ℕ) → Type 0) (command : Command) (ending : Ending) (before after : Devices)
     → (Answers command ending before after → P (status_of ending) before.held after.held) → Ends command ending before after → Unless P (status_of ending) before after
@@ -144,24 +138,18 @@ run_ended P this words ending before after status (inr (inr (inr (unheld, kept, 
 
 -- sparse damage of payload alone
 pub headlined : (listing : ListingOf) (this : Command) → ((bytes : List ℕ) (o : Outcome) → Does this bytes o → ListsCapture listing bytes o) → (words : List (List ℕ)) (ending : Ending) (before after : Devices) (status : ℕ) → RunEnds words ending before after → status ≡ status_of ending → IsCommand words this
-    → (ps : List Period) (sent received : List Column) (offset : ℕ) (skews counts : List ℕ) (blue green red : List Bool) (bytes : List ℕ)
-    → AreTapped ps sent received offset skews counts blue green red bytes → IsSparseInPayload ps sent received
-    → (d e f : ℕ) → IsFirst blue green red d e f → before.left ≡ Some bytes
-    → Unless (λ s old new. (a : ℕ) × IsRecovered listing ps sent received offset skews blue green red d e f a s old new) status before after
-headlined listing this lists words ending before after status ends is named ps sent received offset skews counts blue green red bytes t alone d e f first left =
-    let law = payload_accounted ps sent received t.came alone offset skews counts blue green red t.tap t.small d e f first in
-    run_ended (λ s old new. (a : ℕ) × IsRecovered listing ps sent received offset skews blue green red d e f a s old new) this words ending before after status ends is named
-    (λ answers. (law.0, answered listing this ps sent received offset skews law.0 blue green red d e f bytes ending before after (lists bytes) t.captured first law.1 law.2 left answers))
+    → (t : TappedStream) → IsTapped t → IsSparseInPayload t.periods t.sent t.received → (d e f : ℕ) → IsFirstOf t d e f → before.left ≡ Some t.bytes
+    → Unless (λ s old new. (a : ℕ) × IsRecovered listing t d e f a s old new) status before after
+headlined listing this lists words ending before after status ends is named t tapped alone d e f first left =
+    let law = payload_accounted t.periods t.sent t.received tapped.came alone t.offset t.skews t.counts t.blue t.green t.red tapped.tap tapped.small d e f first in
+    run_ended (λ s old new. (a : ℕ) × IsRecovered listing t d e f a s old new) this words ending before after status ends is named
+    (λ answers. (law.0, answered listing this t law.0 d e f ending before after (lists t.bytes) tapped first law.1 law.2 left answers))
 
 -- and damage anywhere that spares control and guard words until a column
 pub headlined_anywhere : (listing : ListingOf) (this : Command) → ((bytes : List ℕ) (o : Outcome) → Does this bytes o → ListsCapture listing bytes o) → (words : List (List ℕ)) (ending : Ending) (before after : Devices) (status : ℕ) → RunEnds words ending before after → status ≡ status_of ending → IsCommand words this
-    → (ps : List Period) (sent received : List Column) (offset : ℕ) (skews counts : List ℕ) (blue green red : List Bool) (bytes : List ℕ)
-    → AreTapped ps sent received offset skews counts blue green red bytes
-    → (until : ℕ) → AlignsUntil ps sent received offset skews counts until → before.left ≡ Some bytes
-    → Unless (λ s old new. (d e f : ℕ) × IsFirst blue green red d e f
-    × ((a : ℕ) × (a + 12 ≤ until) × IsRecovered listing ps sent received offset skews blue green red d e f a s old new)) status before after
-headlined_anywhere listing this lists words ending before after status ends is named ps sent received offset skews counts blue green red bytes t until aligns left =
-    let law = tap_accounted ps sent received t.came offset skews counts blue green red t.tap t.small until aligns in
-    run_ended (λ s old new. (d e f : ℕ) × IsFirst blue green red d e f
-    × ((a : ℕ) × (a + 12 ≤ until) × IsRecovered listing ps sent received offset skews blue green red d e f a s old new)) this words ending before after status ends is named
-    (λ answers. (law.0, law.1, law.2, law.3, (law.4.0, law.4.1, answered listing this ps sent received offset skews law.4.0 blue green red law.0 law.1 law.2 bytes ending before after (lists bytes) t.captured law.3 law.4.2 law.4.3 left answers)))
+    → (t : TappedStream) → IsTapped t → (until : ℕ) → AlignsBy t until → before.left ≡ Some t.bytes
+    → Unless (IsRecoveredBy listing t until) status before after
+headlined_anywhere listing this lists words ending before after status ends is named t tapped until aligns left =
+    let law = tap_accounted t.periods t.sent t.received tapped.came t.offset t.skews t.counts t.blue t.green t.red tapped.tap tapped.small until aligns in
+    run_ended (IsRecoveredBy listing t until) this words ending before after status ends is named
+    (λ answers. (law.0, law.1, law.2, law.3, (law.4.0, law.4.1, answered listing this t law.4.0 law.0 law.1 law.2 ending before after (lists t.bytes) tapped law.3 law.4.2 law.4.3 left answers)))

@@ -14,7 +14,7 @@ use Rattle.listing.specs.Texts.{counted}
 use Rattle.command_line.specs.declared.command.Command.{Command}
 use Rattle.hdmi_cli.specs.Blocks.{AreBefore, AreRead, AreNext, IsHeardSoFar, IsBroken}
 use Rattle.hdmi_cli.specs.Hearings.{IsHeardSome}
-use Rattle.hdmi_cli.specs.Endings.{Devices, IsAnswered, ListsRead, ListsPart, EndsUnread, EndsUnwritten, Ends, ReadsCapture, heard_ending, judged_ending, status_of, note_of}
+use Rattle.hdmi_cli.specs.Endings.{Devices, IsAnswered, ListsRead, ListsPart, EndsUnread, EndsUnwritten, Ends, ReadsCapture, heard_ending, judged_ending, status_of, note_of, seen}
 use Rattle.hdmi_cli.specs.Listings.{Listing}
 use Rattle.hdmi_cli.specs.Notes.{capture_note, alignment_note}
 use Rattle.hdmi_cli.specs.Outcome.{Outcome, ListsCapture, Does, status_with}
@@ -23,10 +23,6 @@ use Rattle.hdmi_cli.specs.declared.ending.Ending.TheVariants.{Done, Faulty, Unal
 use Rattle.hdmi_cli.specs.declared.hearing.HearError.{HearError}
 use Rattle.hdmi_cli.specs.declared.hearing.HearError.TheVariants.{Bad, Read, Ear}
 use Rattle.hdmi_cli.proofs.Listings.{IsText, Writes, kept_none, broken_past, text_past, end_past, begins_told}
-
--- what is seen of the devices, the output through a lister
-abbrev pub seen : Option (List ℕ) → ℕ → Option (List ℕ) → ℕ → Devices
-seen left input_faults held output_faults = record { left = left; input_faults = input_faults; held = held; output_faults = output_faults }
 
 -- a command that lists captures so
 pub record IsLists (listing : Listing) (command : Command) : Type 0 where

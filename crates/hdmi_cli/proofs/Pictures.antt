@@ -1,19 +1,17 @@
 -- The rows and frames that `recover content` lists of a raster are those that came.
-use Rattle.std.proofs.Common.{◌≡◌, ◌≤◌, ◌<◌, ℕ, ◌+◌, Bool, List, length, take, drop, min, ap, sym, ◌∙◌, inl, inr, arith}
+use Rattle.std.proofs.Common.{◌≡◌, ◌≤◌, ◌<◌, ℕ, ◌+◌, Bool, List, length, take, drop, min, ap, sym, ◌∙◌, subst, inl, inr, arith}
 use Rattle.std.specs.Prelude.{Option, Some, None}
 use Rattle.std.specs.List.{filter}
 use Rattle.std.proofs.lemmas.Bool.{cases_lt}
 use Rattle.std.proofs.lemmas.List.{get_or_past, length-take, length-drop}
 use Rattle.tmds_word.specs.Column.{Column}
-use Rattle.lane_deskew.specs.Triples.{IsFirst}
-use Rattle.lane_deskew.specs.Aligned.{aligned_columns}
 use Rattle.island_pack.specs.Kinds.{Kind, control_column, second_guard, kinds_of, kind_at}
 use Rattle.island_pack.specs.Periods.{Period}
 use Rattle.island_pack.specs.Sparse.{IsSparseInPayload}
 use Rattle.period_grammar.specs.Things.{Thing}
 use Rattle.period_grammar.specs.Heard.{heard}
 use Rattle.link_sink.specs.Account.{account}
-use Rattle.link_sink.specs.Laws.{CameOf, IsAccounted, AlignsUntil}
+use Rattle.link_sink.specs.Laws.{CameOf, EndsControl, IsAccounted}
 use Rattle.link_sink.proofs.Spelled.{fitting}
 use Rattle.link_sink.proofs.Lanes.{fitting_length}
 use Rattle.source_end.specs.declared.mode.Mode.{Mode}
@@ -23,14 +21,16 @@ use Rattle.source_end.specs.RasterRefusals.{raster_fault}
 use Rattle.listing.specs.ContentText.{content_lines, content_text}
 use Rattle.listing_laws.specs.ListingLaws.{tells_picture}
 use Rattle.listing_laws.proofs.PictureLines.{frame_lines_come_back}
+use Rattle.listing_laws.proofs.PacketLines.{packet_lines_come_back}
+use Rattle.listing_laws.proofs.Told.{packets_come_back}
 use Rattle.command_line.specs.declared.command.Command.TheVariants.{RecoverContent}
 use Rattle.hdmi_cli.specs.Listings.{content_listing}
 use Rattle.command_line.specs.Commands.{IsCommand}
-use Rattle.hdmi_cli.specs.Headline.{AreTapped, IsRecovered}
-use Rattle.hdmi_cli.specs.Pictures.{ArePictures}
-use Rattle.hdmi_cli.specs.Endings.{Devices, RunEnds, status_of}
+use Rattle.hdmi_cli.specs.Headline.{TappedStream, IsTapped, AlignsBy, IsFirstOf, IsRecovered, IsRecoveredBy, aligned_of}
+use Rattle.hdmi_cli.specs.Pictures.{ArePackets, ArePictures}
+use Rattle.hdmi_cli.specs.Endings.{Devices, RunEnds, Unless, status_of}
 use Rattle.hdmi_cli.specs.declared.ending.Ending.{Ending}
-use Rattle.hdmi_cli.proofs.Headline.{Unless, headlined, headlined_anywhere}
+use Rattle.hdmi_cli.proofs.Headline.{headlined, headlined_anywhere}
 
 -- a control column is one of the columns
 within_kinds : (ks : List Kind) (i : ℕ) → kind_at ks i ≡ control_column → i < length ks
@@ -50,27 +50,25 @@ within_received ps sent received aligned a came accounted =
     omega (arith, same, many, end, taken, dropped)
 
 -- what is recovered of a raster lists its rows and frames that came
-pub pictures_are : (mode : Mode) (frames : List Frame) → raster_fault mode frames ≡ None
-    → (sent received : List Column) (offset : ℕ) (skews : List ℕ) (blue green red : List Bool) (d e f a status : ℕ) (old new : Option (List ℕ))
-    → CameOf (raster_of mode frames) sent received
-    → IsRecovered content_listing (raster_of mode frames) sent received offset skews blue green red d e f a status old new
-    → ArePictures mode frames sent received offset skews blue green red d e f a old new
+pub pictures_are : (mode : Mode) (frames : List Frame) → raster_fault mode frames ≡ None → (t : TappedStream) → t.periods ≡ raster_of mode frames
+    → (d e f a status : ℕ) (old new : Option (List ℕ)) → CameOf t.periods t.sent t.received → IsRecovered content_listing t d e f a status old new
+    → ArePictures mode frames t d e f a old new
 unfolding content_text
-pictures_are mode frames none sent received offset skews blue green red d e f a status old new came h =
-    let aligned = aligned_columns blue green red d e f in
-    let told : account (raster_of mode frames) sent received a (length aligned) ≡ heard (take (length aligned) (drop a received)) =
+pictures_are mode frames none t is d e f a status old new came h =
+    let aligned = aligned_of t d e f in
+    let told : account t.periods t.sent t.received a (length aligned) ≡ heard (take (length aligned) (drop a t.received)) =
     sym h.accounted.told ∙ ap heard h.accounted.columns in
     record {
       accounted = h.accounted;
       begins = h.begins;
-      lines = content_lines (account (raster_of mode frames) sent received a (length aligned));
       written = h.written;
       pictures = ap (λ (things : List Thing). filter tells_picture (content_lines things)) told
-          ∙ frame_lines_come_back mode frames none sent received came a (length aligned) h.accounted.ends (within_received (raster_of mode frames) sent received aligned a came h.accounted);
+          ∙ frame_lines_come_back mode frames none t.sent t.received (subst (λ (ps : List Period). CameOf ps t.sent t.received) is came) a (length aligned)
+          (subst (λ (ps : List Period). EndsControl ps (a + 11)) is h.accounted.ends) (within_received t.periods t.sent t.received aligned a came h.accounted);
     }
 
 -- what follows where no device failed and memory was had
-unless_so : (P Q : ℕ → Option (List ℕ) → Option (List ℕ) → Type 0) (status : ℕ) (before after : Devices) → (P status before.held after.held → Q status before.held after.held)
+pub unless_so : (P Q : ℕ → Option (List ℕ) → Option (List ℕ) → Type 0) (status : ℕ) (before after : Devices) → (P status before.held after.held → Q status before.held after.held)
     → Unless P status before after → Unless Q status before after
 unless_so P Q status before after so (inl read) = inl read
 unless_so P Q status before after so (inr (inl write)) = inr (inl write)
@@ -79,31 +77,63 @@ unless_so P Q status before after so (inr (inr (inr h))) = inr (inr (inr (so h))
 
 -- sparse damage of payload alone
 pub pictured : (words : List (List ℕ)) (ending : Ending) (before after : Devices) (status : ℕ) → RunEnds words ending before after → status ≡ status_of ending → IsCommand words RecoverContent
-    → (mode : Mode) (frames : List Frame) → raster_fault mode frames ≡ None
-    → (sent received : List Column) (offset : ℕ) (skews counts : List ℕ) (blue green red : List Bool) (bytes : List ℕ)
-    → AreTapped (raster_of mode frames) sent received offset skews counts blue green red bytes → IsSparseInPayload (raster_of mode frames) sent received
-    → (d e f : ℕ) → IsFirst blue green red d e f → before.left ≡ Some bytes
-    → Unless (λ s old new. (a : ℕ) × ArePictures mode frames sent received offset skews blue green red d e f a old new) status before after
-pictured words ending before after status ends is named mode frames none sent received offset skews counts blue green red bytes t alone d e f first left =
+    → (mode : Mode) (frames : List Frame) → raster_fault mode frames ≡ None → (t : TappedStream) → t.periods ≡ raster_of mode frames → IsTapped t → IsSparseInPayload t.periods t.sent t.received
+    → (d e f : ℕ) → IsFirstOf t d e f → before.left ≡ Some t.bytes
+    → Unless (λ s old new. (a : ℕ) × ArePictures mode frames t d e f a old new) status before after
+pictured words ending before after status ends is named mode frames none t raster tapped alone d e f first left =
     unless_so
-    (λ s old new. (a : ℕ) × IsRecovered content_listing (raster_of mode frames) sent received offset skews blue green red d e f a s old new)
-    (λ s old new. (a : ℕ) × ArePictures mode frames sent received offset skews blue green red d e f a old new)
+    (λ s old new. (a : ℕ) × IsRecovered content_listing t d e f a s old new)
+    (λ s old new. (a : ℕ) × ArePictures mode frames t d e f a old new)
     status before after
-    (λ h. (h.0, pictures_are mode frames none sent received offset skews blue green red d e f h.0 status before.held after.held t.came h.1))
-    (headlined content_listing RecoverContent (λ bytes o does. does) words ending before after status ends is named (raster_of mode frames) sent received offset skews counts blue green red bytes t alone d e f first left)
+    (λ h. (h.0, pictures_are mode frames none t raster d e f h.0 status before.held after.held tapped.came h.1))
+    (headlined content_listing RecoverContent (λ bytes o does. does) words ending before after status ends is named t tapped alone d e f first left)
 
 -- and damage anywhere that spares control and guard words until a column
 pub pictured_anywhere : (words : List (List ℕ)) (ending : Ending) (before after : Devices) (status : ℕ) → RunEnds words ending before after → status ≡ status_of ending → IsCommand words RecoverContent
-    → (mode : Mode) (frames : List Frame) → raster_fault mode frames ≡ None
-    → (sent received : List Column) (offset : ℕ) (skews counts : List ℕ) (blue green red : List Bool) (bytes : List ℕ)
-    → AreTapped (raster_of mode frames) sent received offset skews counts blue green red bytes
-    → (until : ℕ) → AlignsUntil (raster_of mode frames) sent received offset skews counts until → before.left ≡ Some bytes
-    → Unless (λ s old new. (d e f a : ℕ) × ArePictures mode frames sent received offset skews blue green red d e f a old new) status before after
-pictured_anywhere words ending before after status ends is named mode frames none sent received offset skews counts blue green red bytes t until aligns left =
+    → (mode : Mode) (frames : List Frame) → raster_fault mode frames ≡ None → (t : TappedStream) → t.periods ≡ raster_of mode frames → IsTapped t
+    → (until : ℕ) → AlignsBy t until → before.left ≡ Some t.bytes
+    → Unless (λ s old new. (d e f : ℕ) × IsFirstOf t d e f × ((a : ℕ) × (a + 12 ≤ until) × ArePictures mode frames t d e f a old new)) status before after
+pictured_anywhere words ending before after status ends is named mode frames none t raster tapped until aligns left =
     unless_so
-    (λ s old new. (d e f : ℕ) × IsFirst blue green red d e f
-    × ((a : ℕ) × (a + 12 ≤ until) × IsRecovered content_listing (raster_of mode frames) sent received offset skews blue green red d e f a s old new))
-    (λ s old new. (d e f a : ℕ) × ArePictures mode frames sent received offset skews blue green red d e f a old new)
+    (IsRecoveredBy content_listing t until)
+    (λ s old new. (d e f : ℕ) × IsFirstOf t d e f × ((a : ℕ) × (a + 12 ≤ until) × ArePictures mode frames t d e f a old new))
     status before after
-    (λ h. (h.0, h.1, h.2, h.4.0, pictures_are mode frames none sent received offset skews blue green red h.0 h.1 h.2 h.4.0 status before.held after.held t.came h.4.2))
-    (headlined_anywhere content_listing RecoverContent (λ bytes o does. does) words ending before after status ends is named (raster_of mode frames) sent received offset skews counts blue green red bytes t until aligns left)
+    (λ h. (h.0, h.1, h.2, h.3, (h.4.0, h.4.1, pictures_are mode frames none t raster h.0 h.1 h.2 h.4.0 status before.held after.held tapped.came h.4.2)))
+    (headlined_anywhere content_listing RecoverContent (λ bytes o does. does) words ending before after status ends is named t tapped until aligns left)
+
+-- what is recovered lists the packets that came
+packets_are : (t : TappedStream) (d e f a status : ℕ) (old new : Option (List ℕ)) → CameOf t.periods t.sent t.received → IsRecovered content_listing t d e f a status old new → ArePackets t d e f a old new
+unfolding content_text
+packets_are t d e f a status old new came h =
+    let aligned = aligned_of t d e f in
+    record {
+      accounted = h.accounted;
+      begins = h.begins;
+      written = h.written;
+      packets = packets_come_back t.periods t.sent t.received came a (length aligned) h.accounted.ends (within_received t.periods t.sent t.received aligned a came h.accounted);
+      lines = packet_lines_come_back t.periods t.sent t.received came a;
+    }
+
+-- of sparse damage of payload alone
+pub packeted : (words : List (List ℕ)) (ending : Ending) (before after : Devices) (status : ℕ) → RunEnds words ending before after → status ≡ status_of ending → IsCommand words RecoverContent
+    → (t : TappedStream) → IsTapped t → IsSparseInPayload t.periods t.sent t.received → (d e f : ℕ) → IsFirstOf t d e f → before.left ≡ Some t.bytes
+    → Unless (λ s old new. (a : ℕ) × ArePackets t d e f a old new) status before after
+packeted words ending before after status ends is named t tapped alone d e f first left =
+    unless_so
+    (λ s old new. (a : ℕ) × IsRecovered content_listing t d e f a s old new)
+    (λ s old new. (a : ℕ) × ArePackets t d e f a old new)
+    status before after
+    (λ h. (h.0, packets_are t d e f h.0 status before.held after.held tapped.came h.1))
+    (headlined content_listing RecoverContent (λ bytes o does. does) words ending before after status ends is named t tapped alone d e f first left)
+
+-- and of damage anywhere
+pub packeted_anywhere : (words : List (List ℕ)) (ending : Ending) (before after : Devices) (status : ℕ) → RunEnds words ending before after → status ≡ status_of ending → IsCommand words RecoverContent
+    → (t : TappedStream) → IsTapped t → (until : ℕ) → AlignsBy t until → before.left ≡ Some t.bytes
+    → Unless (λ s old new. (d e f : ℕ) × IsFirstOf t d e f × ((a : ℕ) × (a + 12 ≤ until) × ArePackets t d e f a old new)) status before after
+packeted_anywhere words ending before after status ends is named t tapped until aligns left =
+    unless_so
+    (IsRecoveredBy content_listing t until)
+    (λ s old new. (d e f : ℕ) × IsFirstOf t d e f × ((a : ℕ) × (a + 12 ≤ until) × ArePackets t d e f a old new))
+    status before after
+    (λ h. (h.0, h.1, h.2, h.3, (h.4.0, h.4.1, packets_are t h.0 h.1 h.2 h.4.0 status before.held after.held tapped.came h.4.2)))
+    (headlined_anywhere content_listing RecoverContent (λ bytes o does. does) words ending before after status ends is named t tapped until aligns left)

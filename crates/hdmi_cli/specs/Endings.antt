@@ -63,6 +63,14 @@ pub record Devices : Type 0 where
   pub held : Option (List ℕ)
   pub output_faults : ℕ
 
+abbrev pub seen : Option (List ℕ) → ℕ → Option (List ℕ) → ℕ → Devices
+seen left input_faults held output_faults = record { left = left; input_faults = input_faults; held = held; output_faults = output_faults }
+
+-- where no device failed and memory was had, something holds of the status and of what the output had and has
+abbrev pub Unless : (ℕ → Option (List ℕ) → Option (List ℕ) → Type 0) → ℕ → Devices → Devices → Type 0
+Unless P status before after =
+    Rose before.input_faults after.input_faults ⊎ Rose before.output_faults after.output_faults ⊎ (status ≡ 6) ⊎ P status before.held after.held
+
 -- an outcome of the command has this ending, and its output was written
 pub record IsAnswered (command : Command) (ending : Ending) (before after : Devices) (text : List ℕ) : Type 0 where
   pub outcome : Outcome
@@ -190,7 +198,7 @@ ReadsInput Check = Unit {0}
 ReadsInput (Damage damages) = Unit {0}
 ReadsInput (Sample frames) = ⊥
 
--- the commands that read a capture
+-- the commands that read a capture, and write while they read: all memory is taken before the first read
 abbrev pub ReadsCapture : Command → Type 0
 ReadsCapture RecoverLink = Unit {0}
 ReadsCapture RecoverContent = Unit {0}
@@ -211,7 +219,7 @@ Ends command (Place i) before after = Keeps before.held after.held × Answers co
 Ends command Unaligned before after = IsAtEnd after.left × Keeps before.held after.held × Answers command Unaligned before after
 Ends command ReadFailed before after = Rose before.input_faults after.input_faults × EndsUnread command before after
 Ends command WriteFailed before after = Rose before.output_faults after.output_faults × EndsUnwritten command before after
-Ends command NoMemory before after = Keeps before.held after.held
+Ends command NoMemory before after = Keeps before.held after.held × (ReadsCapture command → Keeps before.left after.left)
 Ends command Usage before after = ⊥
 
 -- what stands where a run with these words ends so: a command ended, or nothing was begun, as the words name none or

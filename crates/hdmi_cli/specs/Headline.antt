@@ -1,28 +1,60 @@
 -- What `recover` makes of the capture of a tap of columns that conforming periods spell, whatever the bit offset, with
 -- skews of at most 70 bits and with sparse damage.
-use Rattle.std.specs.Prelude.{◌≡◌, ◌+◌, ℕ, Bool, List, length, Option}
+use Rattle.std.specs.Prelude.{◌≡◌, ◌+◌, ◌≤◌, ℕ, Bool, List, length, Option}
 use Rattle.std.specs.Io.KnownBytes.{Appends}
 use Rattle.tmds_word.specs.Column.{Column}
 use Rattle.tmds_word.specs.Taps.{IsTap, HasSmallSkew}
 use Rattle.capture_file.specs.Captures.{IsCaptureOf}
 use Rattle.lane_deskew.specs.Aligned.{aligned_columns}
+use Rattle.lane_deskew.specs.Triples.{IsFirst}
 use Rattle.island_pack.specs.Periods.{Period}
-use Rattle.link_sink.specs.Laws.{CameOf, IsAccounted, BeginColumn}
+use Rattle.link_sink.specs.Laws.{CameOf, IsAccounted, AlignsUntil, BeginColumn}
 use Rattle.link_sink.specs.Account.{account}
 use Rattle.hdmi_cli.specs.Listings.{Listing}
 use Rattle.hdmi_cli.specs.Outcome.{status_with}
 
--- bytes are the capture, of either version, of a tap of columns that came of conforming periods with sparse damage
-pub record AreTapped (ps : List Period) (sent received : List Column) (offset : ℕ) (skews counts : List ℕ) (blue green red : List Bool) (bytes : List ℕ) : Type 0 where
-  pub came : CameOf ps sent received
-  pub tap : IsTap received offset skews counts blue green red
-  pub small : HasSmallSkew skews
-  pub captured : IsCaptureOf blue green red bytes
+-- a tapped stream: the periods that were sent, the columns as they were sent and as they came, where in them each lane
+-- begins and how many bits it has, and the bits and bytes of the capture
+pub record TappedStream : Type 0 where
+  pub periods : List Period
+  pub sent : List Column
+  pub received : List Column
+  pub offset : ℕ
+  pub skews : List ℕ
+  pub counts : List ℕ
+  pub blue : List Bool
+  pub green : List Bool
+  pub red : List Bool
+  pub bytes : List ℕ
+
+-- its bytes are the capture, of either version, of a tap of columns that came of conforming periods with sparse damage
+pub record IsTapped (t : TappedStream) : Type 0 where
+  pub came : CameOf t.periods t.sent t.received
+  pub tap : IsTap t.received t.offset t.skews t.counts t.blue t.green t.red
+  pub small : HasSmallSkew t.skews
+  pub captured : IsCaptureOf t.blue t.green t.red t.bytes
+
+-- damage that spares control, guard and preamble words until a column, which each of its lanes has with the twelve before it
+abbrev pub AlignsBy : TappedStream → ℕ → Type 0
+AlignsBy t until = AlignsUntil t.periods t.sent t.received t.offset t.skews t.counts until
+
+-- its columns that are aligned at three edges
+abbrev pub aligned_of : TappedStream → ℕ → ℕ → ℕ → List Column
+aligned_of t d e f = aligned_columns t.blue t.green t.red d e f
+
+-- three edges are its first full alignment
+abbrev pub IsFirstOf : TappedStream → ℕ → ℕ → ℕ → Type 0
+IsFirstOf t d e f = IsFirst t.blue t.green t.red d e f
 
 -- the output grew by the listing of the account of the columns that are aligned at three edges, which begin with column a,
 -- twelve before the end of a control period, and the status says whether it has a fault
-pub record IsRecovered (listing : Listing) (ps : List Period) (sent received : List Column) (offset : ℕ) (skews : List ℕ) (blue green red : List Bool) (d e f a status : ℕ) (old new : Option (List ℕ)) : Type 0 where
-  pub accounted : IsAccounted ps sent received (aligned_columns blue green red d e f) a
-  pub begins : BeginColumn offset skews (a + 12) d e f
-  pub status_is : status ≡ status_with (listing.faults (account ps sent received a (length (aligned_columns blue green red d e f))))
-  pub written : Appends old new (listing.text (account ps sent received a (length (aligned_columns blue green red d e f))))
+pub record IsRecovered (listing : Listing) (t : TappedStream) (d e f a status : ℕ) (old new : Option (List ℕ)) : Type 0 where
+  pub accounted : IsAccounted t.periods t.sent t.received (aligned_of t d e f) a
+  pub begins : BeginColumn t.offset t.skews (a + 12) d e f
+  pub status_is : status ≡ status_with (listing.faults (account t.periods t.sent t.received a (length (aligned_of t d e f))))
+  pub written : Appends old new (listing.text (account t.periods t.sent t.received a (length (aligned_of t d e f))))
+
+-- the same from the first full alignment on, which is at or before a column
+abbrev pub IsRecoveredBy : Listing → TappedStream → ℕ → ℕ → Option (List ℕ) → Option (List ℕ) → Type 0
+IsRecoveredBy listing t until status old new =
+    (d e f : ℕ) × IsFirstOf t d e f × ((a : ℕ) × (a + 12 ≤ until) × IsRecovered listing t d e f a status old new)

@@ -1,22 +1,36 @@
--- Which rows and frames `recover content` lists of the capture of a tap of a raster's columns, which came with sparse damage.
-use Rattle.std.specs.Prelude.{◌≡◌, ◌+◌, ℕ, Bool, List, ◌++◌, map, length, codes, Option}
+-- Which rows, frames and packets `recover content` lists of the capture of a tap of a raster's columns, which came with sparse damage.
+use Rattle.std.specs.Prelude.{◌≡◌, ◌+◌, ◌-◌, ◌≤◌, ℕ, List, ◌++◌, map, length, codes, Option}
 use Rattle.std.specs.List.{filter}
 use Rattle.std.specs.Io.KnownBytes.{Appends}
-use Rattle.tmds_word.specs.Column.{Column}
-use Rattle.lane_deskew.specs.Aligned.{aligned_columns}
+use Rattle.island_pack.specs.Taken.{spotless}
+use Rattle.link_sink.specs.Account.{account}
 use Rattle.link_sink.specs.Laws.{IsAccounted, BeginColumn}
 use Rattle.source_end.specs.declared.mode.Mode.{Mode}
 use Rattle.source_end.specs.Content.{Frame}
-use Rattle.source_end.specs.Raster.{raster_of}
-use Rattle.listing.specs.ContentText.{text_of}
+use Rattle.listing.specs.ContentText.{content_lines, packet_lines, text_of}
 use Rattle.listing_laws.specs.FrameLaws.{frames_came}
-use Rattle.listing_laws.specs.ListingLaws.{tells_picture, line_of}
+use Rattle.listing_laws.specs.ListingLaws.{Each, line_of, tells_picture, told_lines, unlike_in}
+use Rattle.listing_laws.specs.PacketLaws.{came_packet, packets_came, placed, told_packets}
+use Rattle.hdmi_cli.specs.Headline.{TappedStream, aligned_of}
 
--- the output grew by lines and `end`; of the lines those of rows and frames are those of the raster's frames that came, of the
--- columns that are aligned at three edges, which begin with column a, twelve before the end of a control period
-pub record ArePictures (mode : Mode) (frames : List Frame) (sent received : List Column) (offset : ℕ) (skews : List ℕ) (blue green red : List Bool) (d e f a : ℕ) (old new : Option (List ℕ)) : Type 0 where
-  pub accounted : IsAccounted (raster_of mode frames) sent received (aligned_columns blue green red d e f) a
-  pub begins : BeginColumn offset skews (a + 12) d e f
-  pub lines : List (List ℕ)
-  pub written : Appends old new (text_of lines ++ codes "end\n")
-  pub pictures : filter tells_picture lines ≡ map line_of (frames_came mode sent received a (a + length (aligned_columns blue green red d e f)) 0 frames)
+-- the output grew by the content listing of the account of the columns that are aligned at three edges, which begin with
+-- column a, twelve before the end of a control period; of its lines those of rows and frames, and of rows of another length
+-- than the first of their frame, are the rows and frames of the raster that came
+pub record ArePictures (mode : Mode) (frames : List Frame) (t : TappedStream) (d e f a : ℕ) (old new : Option (List ℕ)) : Type 0 where
+  pub accounted : IsAccounted t.periods t.sent t.received (aligned_of t d e f) a
+  pub begins : BeginColumn t.offset t.skews (a + 12) d e f
+  pub written : Appends old new (text_of (content_lines (account t.periods t.sent t.received a (length (aligned_of t d e f)))) ++ codes "end\n")
+  pub pictures :
+      filter tells_picture (content_lines (account t.periods t.sent t.received a (length (aligned_of t d e f))))
+      ≡ map line_of (frames_came mode t.sent t.received a (a + length (aligned_of t d e f)) 0 frames)
+
+-- the output grew by that listing, and of its packets those are told that came whole; each of which at most one word came
+-- unlike has the lines of the packet as it was sent
+pub record ArePackets (t : TappedStream) (d e f a : ℕ) (old new : Option (List ℕ)) : Type 0 where
+  pub accounted : IsAccounted t.periods t.sent t.received (aligned_of t d e f) a
+  pub begins : BeginColumn t.offset t.skews (a + 12) d e f
+  pub written : Appends old new (text_of (content_lines (account t.periods t.sent t.received a (length (aligned_of t d e f)))) ++ codes "end\n")
+  pub packets :
+      told_packets (account t.periods t.sent t.received a (length (aligned_of t d e f)))
+      ≡ packets_came t.sent t.received a (a + length (aligned_of t d e f)) (placed 0 t.periods)
+  pub lines : Each (λ k. unlike_in t.sent t.received k ≤ 1 → told_lines (came_packet t.sent t.received a k) ≡ packet_lines k.packet spotless (k.at - a)) (placed 0 t.periods)

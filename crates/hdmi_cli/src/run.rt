@@ -2,13 +2,9 @@
 ghost use Rattle.std.specs.Prelude.{◌≡◌, ◌⊎◌, ◌+◌, ℕ, ◌<◌, ◌≤◌, Bool, true, List, [], ◌∷◌, take, All, Some, None, Contains};
 ghost use Rattle.std.specs.Io.KnownBytes.{Appends, IsAtEnd, Keeps};
 ghost use Rattle.outside_io.specs.Causes.{Rose};
-ghost use Rattle.tmds_word.specs.Column.{Column};
 ghost use Rattle.command_line.specs.declared.tap.TapWords.{TapWords as TapValue};
-ghost use Rattle.lane_deskew.specs.Triples.{IsFirst};
 ghost use Rattle.lane_deskew.specs.Aligned.{aligned_columns};
-ghost use Rattle.island_pack.specs.Periods.{Period};
 ghost use Rattle.island_pack.specs.Sparse.{IsSparseInPayload};
-ghost use Rattle.link_sink.specs.Laws.{AlignsUntil};
 ghost use Rattle.link_sink.specs.Pieces.{no_bits};
 ghost use Rattle.link_sink.specs.Streams.{StandsFor, most_bits};
 ghost use Rattle.source_end.specs.declared.mode.Mode.{Mode};
@@ -16,15 +12,16 @@ ghost use Rattle.source_end.specs.Content.{Frame};
 ghost use Rattle.source_end.specs.Raster.{raster_of};
 ghost use Rattle.source_end.specs.RasterRefusals.{raster_fault};
 ghost use Rattle.hdmi_cli.specs.Commands.{tap_asked};
-ghost use Rattle.hdmi_cli.specs.Headline.{AreTapped, IsRecovered};
-ghost use Rattle.hdmi_cli.specs.Pictures.{ArePictures};
+ghost use Rattle.hdmi_cli.specs.Headline.{TappedStream, IsTapped, AlignsBy, IsFirstOf, IsRecovered, IsRecoveredBy};
+ghost use Rattle.hdmi_cli.specs.Pictures.{ArePackets, ArePictures};
 ghost use Rattle.hdmi_cli.specs.Exact.{IsAlignedCapture, IsJudged};
 ghost use Rattle.hdmi_cli.specs.Listings.{link_listing, content_listing};
 ghost use Rattle.hdmi_cli.specs.Outcome.{Outcome, IsOutcome, NamesNone};
-ghost use Rattle.hdmi_cli.specs.Endings.{Ends, RunEnds, RunUnread, RunUnwritten, StreamEnds, damage_ending, heard_ending, judged_ending, raster_ending};
+ghost use Rattle.hdmi_cli.specs.Endings.{Ends, ReadsCapture, RunEnds, RunUnread, RunUnwritten, StreamEnds, Unless, damage_ending, heard_ending, judged_ending, raster_ending, seen};
 ghost use Rattle.hdmi_cli.specs.Runs.{IsNoteOf};
 ghost use Rattle.hdmi_cli.specs.Samples.{IsSampleWritten, SampleEnds};
 ghost use Rattle.command_line.specs.Commands.{IsCommand};
+ghost use Rattle.command_line.specs.declared.command.Command.{Command as CommandValue};
 ghost use Rattle.command_line.specs.declared.command.Command.TheVariants.{MakeLink, MakeContent, RecoverLink, RecoverContent, Check, Damage, Sample};
 
 use crate::Words;
@@ -77,6 +74,9 @@ pub fn run<R: Threads, S: Source, K: Sink, N: Sink, G: Gate>(
     ensures read_failed { result ≡ 4 → Rose (S.faults input.old) (S.faults input.new) }
     ensures write_failed { result ≡ 5 → Rose (K.faults output.old) (K.faults output.new) }
 
+    // Memory is taken before the first read by the commands that read a capture.
+    ensures memory { result ≡ 6 → (command : CommandValue) → IsCommand words.now command → ReadsCapture command → Keeps (S.left input.old) (S.left input.new) }
+
     // What is read, and what is written where not all is. After a failed read exactly what the whole blocks read tell so far
     // is listed; after a failed write a part, and at least all that was told before the last block read.
     ensures ended { ((n : ℕ) → IsCommand words.now (Sample n) → ⊥) → Contains (0 ∷ 1 ∷ 7 ∷ []) result → IsAtEnd (S.left input.new) }
@@ -84,11 +84,11 @@ pub fn run<R: Threads, S: Source, K: Sink, N: Sink, G: Gate>(
     ensures unwritten { Contains (2 ∷ 6 ∷ 7 ∷ []) result → Keeps (K.held output.old) (K.held output.new) }
     ensures refused { result ≡ 3 → (tap : TapValue) → IsCommand words.now (MakeLink tap) ⊎ IsCommand words.now (MakeContent tap) → Keeps (K.held output.old) (K.held output.new) }
     ensures cut_short { result ≡ 4 → RunUnread words.now
-        (record { left = S.left input.old; input_faults = S.faults input.old; held = K.held output.old; output_faults = K.faults output.old })
-        (record { left = S.left input.new; input_faults = S.faults input.new; held = K.held output.new; output_faults = K.faults output.new }) }
+        (seen (S.left input.old) (S.faults input.old) (K.held output.old) (K.faults output.old))
+        (seen (S.left input.new) (S.faults input.new) (K.held output.new) (K.faults output.new)) }
     ensures part { result ≡ 5 → RunUnwritten words.now
-        (record { left = S.left input.old; input_faults = S.faults input.old; held = K.held output.old; output_faults = K.faults output.old })
-        (record { left = S.left input.new; input_faults = S.faults input.new; held = K.held output.new; output_faults = K.faults output.new }) }
+        (seen (S.left input.old) (S.faults input.old) (K.held output.old) (K.faults output.old))
+        (seen (S.left input.new) (S.faults input.new) (K.held output.new) (K.faults output.new)) }
 
     // `sample` reads nothing, and writes the counts of what comes of the generator's content once it was damaged.
     ensures sampled { (n : ℕ) → IsCommand words.now (Sample n)
@@ -96,85 +96,70 @@ pub fn run<R: Threads, S: Source, K: Sink, N: Sink, G: Gate>(
 
     // `recover link` writes exactly what was sent: for all columns that conforming periods spell, every sparse damage of their
     // payload, every tap of them with skews of at most 70 bits, from their first full alignment on.
-    ensures headline { IsCommand words.now RecoverLink
-        → (ps : List Period) (sent received : List Column) (offset : ℕ) (skews counts : List ℕ) (blue green red : List Bool) (bytes : List ℕ)
-        → AreTapped ps sent received offset skews counts blue green red bytes → IsSparseInPayload ps sent received
-        → (d e f : ℕ) → IsFirst blue green red d e f
-        → S.left input.old ≡ Some bytes
-        → Rose (S.faults input.old) (S.faults input.new)
-        ⊎ Rose (K.faults output.old) (K.faults output.new)
-        ⊎ (result ≡ 6)
-        ⊎ ((a : ℕ) × IsRecovered link_listing ps sent received offset skews blue green red d e f a result (K.held output.old) (K.held output.new)) }
+    ensures headline { IsCommand words.now RecoverLink → (t : TappedStream) → IsTapped t → IsSparseInPayload t.periods t.sent t.received
+        → (d e f : ℕ) → IsFirstOf t d e f → S.left input.old ≡ Some t.bytes
+        → Unless (λ status held holds. (a : ℕ) × IsRecovered link_listing t d e f a status held holds) result
+        (seen (S.left input.old) (S.faults input.old) (K.held output.old) (K.faults output.old))
+        (seen (S.left input.new) (S.faults input.new) (K.held output.new) (K.faults output.new)) }
 
     // The same for sparse damage of control, guard and preamble words too, where it spares them until a column that is the
     // first after a control period and that each lane of the tap has, with the twelve before it: there is a first full
     // alignment then, at or before that column.
-    ensures headline_anywhere { IsCommand words.now RecoverLink
-        → (ps : List Period) (sent received : List Column) (offset : ℕ) (skews counts : List ℕ) (blue green red : List Bool) (bytes : List ℕ)
-        → AreTapped ps sent received offset skews counts blue green red bytes
-        → (until : ℕ) → AlignsUntil ps sent received offset skews counts until
-        → S.left input.old ≡ Some bytes
-        → Rose (S.faults input.old) (S.faults input.new)
-        ⊎ Rose (K.faults output.old) (K.faults output.new)
-        ⊎ (result ≡ 6)
-        ⊎ ((d e f : ℕ) × IsFirst blue green red d e f
-        × ((a : ℕ) × (a + 12 ≤ until) × IsRecovered link_listing ps sent received offset skews blue green red d e f a result (K.held output.old) (K.held output.new))) }
+    ensures headline_anywhere { IsCommand words.now RecoverLink → (t : TappedStream) → IsTapped t
+        → (until : ℕ) → AlignsBy t until → S.left input.old ≡ Some t.bytes
+        → Unless (IsRecoveredBy link_listing t until) result
+        (seen (S.left input.old) (S.faults input.old) (K.held output.old) (K.faults output.old))
+        (seen (S.left input.new) (S.faults input.new) (K.held output.new) (K.faults output.new)) }
 
     // And `recover content` writes the content listing of the same, in both forms.
-    ensures content_headline { IsCommand words.now RecoverContent
-        → (ps : List Period) (sent received : List Column) (offset : ℕ) (skews counts : List ℕ) (blue green red : List Bool) (bytes : List ℕ)
-        → AreTapped ps sent received offset skews counts blue green red bytes → IsSparseInPayload ps sent received
-        → (d e f : ℕ) → IsFirst blue green red d e f
-        → S.left input.old ≡ Some bytes
-        → Rose (S.faults input.old) (S.faults input.new)
-        ⊎ Rose (K.faults output.old) (K.faults output.new)
-        ⊎ (result ≡ 6)
-        ⊎ ((a : ℕ) × IsRecovered content_listing ps sent received offset skews blue green red d e f a result (K.held output.old) (K.held output.new)) }
+    ensures content_headline { IsCommand words.now RecoverContent → (t : TappedStream) → IsTapped t → IsSparseInPayload t.periods t.sent t.received
+        → (d e f : ℕ) → IsFirstOf t d e f → S.left input.old ≡ Some t.bytes
+        → Unless (λ status held holds. (a : ℕ) × IsRecovered content_listing t d e f a status held holds) result
+        (seen (S.left input.old) (S.faults input.old) (K.held output.old) (K.faults output.old))
+        (seen (S.left input.new) (S.faults input.new) (K.held output.new) (K.faults output.new)) }
+    ensures content_headline_anywhere { IsCommand words.now RecoverContent → (t : TappedStream) → IsTapped t
+        → (until : ℕ) → AlignsBy t until → S.left input.old ≡ Some t.bytes
+        → Unless (IsRecoveredBy content_listing t until) result
+        (seen (S.left input.old) (S.faults input.old) (K.held output.old) (K.faults output.old))
+        (seen (S.left input.new) (S.faults input.new) (K.held output.new) (K.faults output.new)) }
 
-    ensures content_headline_anywhere { IsCommand words.now RecoverContent
-        → (ps : List Period) (sent received : List Column) (offset : ℕ) (skews counts : List ℕ) (blue green red : List Bool) (bytes : List ℕ)
-        → AreTapped ps sent received offset skews counts blue green red bytes
-        → (until : ℕ) → AlignsUntil ps sent received offset skews counts until
-        → S.left input.old ≡ Some bytes
-        → Rose (S.faults input.old) (S.faults input.new)
-        ⊎ Rose (K.faults output.old) (K.faults output.new)
-        ⊎ (result ≡ 6)
-        ⊎ ((d e f : ℕ) × IsFirst blue green red d e f
-        × ((a : ℕ) × (a + 12 ≤ until) × IsRecovered content_listing ps sent received offset skews blue green red d e f a result (K.held output.old) (K.held output.new))) }
-
-    // Of a raster exactly the rows and frames that came are listed: for all modes and contents, every sparse damage, every tap.
+    // Of a raster exactly the rows and frames that came are listed: for all modes and contents, every sparse damage, every tap,
+    // from the first full alignment on.
     ensures pictures { IsCommand words.now RecoverContent
-        → (mode : Mode) (frames : List Frame) → raster_fault mode frames ≡ None
-        → (sent received : List Column) (offset : ℕ) (skews counts : List ℕ) (blue green red : List Bool) (bytes : List ℕ)
-        → AreTapped (raster_of mode frames) sent received offset skews counts blue green red bytes
-        → (until : ℕ) → AlignsUntil (raster_of mode frames) sent received offset skews counts until
-        → S.left input.old ≡ Some bytes
-        → Rose (S.faults input.old) (S.faults input.new)
-        ⊎ Rose (K.faults output.old) (K.faults output.new)
-        ⊎ (result ≡ 6)
-        ⊎ ((d e f a : ℕ) × ArePictures mode frames sent received offset skews blue green red d e f a (K.held output.old) (K.held output.new)) }
+        → (mode : Mode) (frames : List Frame) → raster_fault mode frames ≡ None → (t : TappedStream) → t.periods ≡ raster_of mode frames → IsTapped t
+        → (until : ℕ) → AlignsBy t until → S.left input.old ≡ Some t.bytes
+        → Unless (λ status held holds. (d e f : ℕ) × IsFirstOf t d e f × ((a : ℕ) × (a + 12 ≤ until) × ArePictures mode frames t d e f a held holds)) result
+        (seen (S.left input.old) (S.faults input.old) (K.held output.old) (K.faults output.old))
+        (seen (S.left input.new) (S.faults input.new) (K.held output.new) (K.faults output.new)) }
 
-    // And so for sparse damage of payload alone, from the first full alignment on.
+    // And so for sparse damage of payload alone.
     ensures pictures_of_payload { IsCommand words.now RecoverContent
-        → (mode : Mode) (frames : List Frame) → raster_fault mode frames ≡ None
-        → (sent received : List Column) (offset : ℕ) (skews counts : List ℕ) (blue green red : List Bool) (bytes : List ℕ)
-        → AreTapped (raster_of mode frames) sent received offset skews counts blue green red bytes → IsSparseInPayload (raster_of mode frames) sent received
-        → (d e f : ℕ) → IsFirst blue green red d e f
-        → S.left input.old ≡ Some bytes
-        → Rose (S.faults input.old) (S.faults input.new)
-        ⊎ Rose (K.faults output.old) (K.faults output.new)
-        ⊎ (result ≡ 6)
-        ⊎ ((a : ℕ) × ArePictures mode frames sent received offset skews blue green red d e f a (K.held output.old) (K.held output.new)) }
+        → (mode : Mode) (frames : List Frame) → raster_fault mode frames ≡ None → (t : TappedStream) → t.periods ≡ raster_of mode frames → IsTapped t
+        → IsSparseInPayload t.periods t.sent t.received → (d e f : ℕ) → IsFirstOf t d e f → S.left input.old ≡ Some t.bytes
+        → Unless (λ status held holds. (a : ℕ) × ArePictures mode frames t d e f a held holds) result
+        (seen (S.left input.old) (S.faults input.old) (K.held output.old) (K.faults output.old))
+        (seen (S.left input.new) (S.faults input.new) (K.held output.new) (K.faults output.new)) }
+
+    // And of every stream exactly the packets that came whole, each with at most one damaged word as it was sent, in both forms.
+    ensures packets { IsCommand words.now RecoverContent → (t : TappedStream) → IsTapped t
+        → (until : ℕ) → AlignsBy t until → S.left input.old ≡ Some t.bytes
+        → Unless (λ status held holds. (d e f : ℕ) × IsFirstOf t d e f × ((a : ℕ) × (a + 12 ≤ until) × ArePackets t d e f a held holds)) result
+        (seen (S.left input.old) (S.faults input.old) (K.held output.old) (K.faults output.old))
+        (seen (S.left input.new) (S.faults input.new) (K.held output.new) (K.faults output.new)) }
+    ensures packets_of_payload { IsCommand words.now RecoverContent → (t : TappedStream) → IsTapped t → IsSparseInPayload t.periods t.sent t.received
+        → (d e f : ℕ) → IsFirstOf t d e f → S.left input.old ≡ Some t.bytes
+        → Unless (λ status held holds. (a : ℕ) × ArePackets t d e f a held holds) result
+        (seen (S.left input.old) (S.faults input.old) (K.held output.old) (K.faults output.old))
+        (seen (S.left input.new) (S.faults input.new) (K.held output.new) (K.faults output.new)) }
 
     // `check` of a capture with a first full alignment ends with `clean`, and the status is 0, where some conforming sender
     // could have sent the aligned columns before the cut, and with `faulty`, and it is 1, where none could.
     ensures check_exact { IsCommand words.now Check
         → (blue green red : List Bool) (d e f : ℕ) (bytes : List ℕ) → IsAlignedCapture blue green red d e f bytes
         → S.left input.old ≡ Some bytes
-        → Rose (S.faults input.old) (S.faults input.new)
-        ⊎ Rose (K.faults output.old) (K.faults output.new)
-        ⊎ (result ≡ 6)
-        ⊎ IsJudged (aligned_columns blue green red d e f) result (K.held output.old) (K.held output.new) }
+        → Unless (λ status held holds. IsJudged (aligned_columns blue green red d e f) status held holds) result
+        (seen (S.left input.old) (S.faults input.old) (K.held output.old) (K.faults output.old))
+        (seen (S.left input.new) (S.faults input.new) (K.held output.new) (K.faults output.new)) }
 
     // The notes grow by the one line of the status, or by a part of it where they fail.
     ensures notes { (note : List ℕ) × IsNoteOf words.now (S.left input.old) result note
@@ -201,8 +186,8 @@ fn carry_out<R: Threads, S: Source, K: Sink, G: Gate>(
     gate: &G,
 ) -> Ending
     ensures ends { RunEnds words.now result
-        (record { left = S.left input.old; input_faults = S.faults input.old; held = K.held output.old; output_faults = K.faults output.old })
-        (record { left = S.left input.new; input_faults = S.faults input.new; held = K.held output.new; output_faults = K.faults output.new }) }
+        (seen (S.left input.old) (S.faults input.old) (K.held output.old) (K.faults output.old))
+        (seen (S.left input.new) (S.faults input.new) (K.held output.new) (K.faults output.new)) }
     ensures input_later { S.faults input.old ≤ S.faults input.new }
     ensures output_later { K.faults output.old ≤ K.faults output.new }
 {
@@ -231,8 +216,8 @@ fn make_link<S: Source, K: Sink>(
 ) -> Ending
     requires version { (words.now.version ≡ 1) ⊎ (words.now.version ≡ 2) }
     ensures ends { Ends (MakeLink words.now) result
-        (record { left = S.left input.old; input_faults = S.faults input.old; held = K.held output.old; output_faults = K.faults output.old })
-        (record { left = S.left input.new; input_faults = S.faults input.new; held = K.held output.new; output_faults = K.faults output.new }) }
+        (seen (S.left input.old) (S.faults input.old) (K.held output.old) (K.faults output.old))
+        (seen (S.left input.new) (S.faults input.new) (K.held output.new) (K.faults output.new)) }
     ensures input_later { S.faults input.old ≤ S.faults input.new }
     ensures output_later { K.faults output.old ≤ K.faults output.new }
 {
@@ -253,8 +238,8 @@ fn make_content<S: Source, K: Sink>(
 ) -> Ending
     requires version { (words.now.version ≡ 1) ⊎ (words.now.version ≡ 2) }
     ensures ends { Ends (MakeContent words.now) result
-        (record { left = S.left input.old; input_faults = S.faults input.old; held = K.held output.old; output_faults = K.faults output.old })
-        (record { left = S.left input.new; input_faults = S.faults input.new; held = K.held output.new; output_faults = K.faults output.new }) }
+        (seen (S.left input.old) (S.faults input.old) (K.held output.old) (K.faults output.old))
+        (seen (S.left input.new) (S.faults input.new) (K.held output.new) (K.faults output.new)) }
     ensures input_later { S.faults input.old ≤ S.faults input.new }
     ensures output_later { K.faults output.old ≤ K.faults output.new }
 {
@@ -323,8 +308,8 @@ fn recover_link<R: Threads, S: Source, K: Sink, G: Gate>(
     gate: &G,
 ) -> Ending
     ensures ends { Ends RecoverLink result
-        (record { left = S.left input.old; input_faults = S.faults input.old; held = K.held output.old; output_faults = K.faults output.old })
-        (record { left = S.left input.new; input_faults = S.faults input.new; held = K.held output.new; output_faults = K.faults output.new }) }
+        (seen (S.left input.old) (S.faults input.old) (K.held output.old) (K.faults output.old))
+        (seen (S.left input.new) (S.faults input.new) (K.held output.new) (K.faults output.new)) }
     ensures input_later { S.faults input.old ≤ S.faults input.new }
     ensures output_later { K.faults output.old ≤ K.faults output.new }
 {
@@ -346,8 +331,8 @@ fn list_link<R: Threads, S: Source, K: Sink, G: Gate>(
     requires fresh { StandsFor sink.old no_bits }
     requires unfed { most_bits sink.old ≡ 0 }
     ensures ends { Ends RecoverLink result
-        (record { left = S.left input.old; input_faults = S.faults input.old; held = K.held output.old; output_faults = K.faults output.old })
-        (record { left = S.left input.new; input_faults = S.faults input.new; held = K.held output.new; output_faults = K.faults output.new }) }
+        (seen (S.left input.old) (S.faults input.old) (K.held output.old) (K.faults output.old))
+        (seen (S.left input.new) (S.faults input.new) (K.held output.new) (K.faults output.new)) }
     ensures input_later { S.faults input.old ≤ S.faults input.new }
     ensures output_later { K.faults output.old ≤ K.faults output.new }
 {
@@ -368,8 +353,8 @@ fn recover_content<R: Threads, S: Source, K: Sink, G: Gate>(
     gate: &G,
 ) -> Ending
     ensures ends { Ends RecoverContent result
-        (record { left = S.left input.old; input_faults = S.faults input.old; held = K.held output.old; output_faults = K.faults output.old })
-        (record { left = S.left input.new; input_faults = S.faults input.new; held = K.held output.new; output_faults = K.faults output.new }) }
+        (seen (S.left input.old) (S.faults input.old) (K.held output.old) (K.faults output.old))
+        (seen (S.left input.new) (S.faults input.new) (K.held output.new) (K.faults output.new)) }
     ensures input_later { S.faults input.old ≤ S.faults input.new }
     ensures output_later { K.faults output.old ≤ K.faults output.new }
 {
@@ -391,8 +376,8 @@ fn list_content<R: Threads, S: Source, K: Sink, G: Gate>(
     requires fresh { StandsFor sink.old no_bits }
     requires unfed { most_bits sink.old ≡ 0 }
     ensures ends { Ends RecoverContent result
-        (record { left = S.left input.old; input_faults = S.faults input.old; held = K.held output.old; output_faults = K.faults output.old })
-        (record { left = S.left input.new; input_faults = S.faults input.new; held = K.held output.new; output_faults = K.faults output.new }) }
+        (seen (S.left input.old) (S.faults input.old) (K.held output.old) (K.faults output.old))
+        (seen (S.left input.new) (S.faults input.new) (K.held output.new) (K.faults output.new)) }
     ensures input_later { S.faults input.old ≤ S.faults input.new }
     ensures output_later { K.faults output.old ≤ K.faults output.new }
 {
@@ -413,8 +398,8 @@ fn check<R: Threads, S: Source, K: Sink, G: Gate>(
     gate: &G,
 ) -> Ending
     ensures ends { Ends Check result
-        (record { left = S.left input.old; input_faults = S.faults input.old; held = K.held output.old; output_faults = K.faults output.old })
-        (record { left = S.left input.new; input_faults = S.faults input.new; held = K.held output.new; output_faults = K.faults output.new }) }
+        (seen (S.left input.old) (S.faults input.old) (K.held output.old) (K.faults output.old))
+        (seen (S.left input.new) (S.faults input.new) (K.held output.new) (K.faults output.new)) }
     ensures input_later { S.faults input.old ≤ S.faults input.new }
     ensures output_later { K.faults output.old ≤ K.faults output.new }
 {
@@ -436,8 +421,8 @@ fn list_check<R: Threads, S: Source, K: Sink, G: Gate>(
     requires fresh { StandsFor sink.old no_bits }
     requires unfed { most_bits sink.old ≡ 0 }
     ensures ends { Ends Check result
-        (record { left = S.left input.old; input_faults = S.faults input.old; held = K.held output.old; output_faults = K.faults output.old })
-        (record { left = S.left input.new; input_faults = S.faults input.new; held = K.held output.new; output_faults = K.faults output.new }) }
+        (seen (S.left input.old) (S.faults input.old) (K.held output.old) (K.faults output.old))
+        (seen (S.left input.new) (S.faults input.new) (K.held output.new) (K.faults output.new)) }
     ensures input_later { S.faults input.old ≤ S.faults input.new }
     ensures output_later { K.faults output.old ≤ K.faults output.new }
 {
@@ -480,8 +465,8 @@ fn damage<S: Source, K: Sink>(
 ) -> Ending
     requires { All (λ word. word.lane < 3) words.now }
     ensures ends { Ends (Damage words.now) result
-        (record { left = S.left input.old; input_faults = S.faults input.old; held = K.held output.old; output_faults = K.faults output.old })
-        (record { left = S.left input.new; input_faults = S.faults input.new; held = K.held output.new; output_faults = K.faults output.new }) }
+        (seen (S.left input.old) (S.faults input.old) (K.held output.old) (K.faults output.old))
+        (seen (S.left input.new) (S.faults input.new) (K.held output.new) (K.faults output.new)) }
     ensures input_later { S.faults input.old ≤ S.faults input.new }
     ensures output_later { K.faults output.old ≤ K.faults output.new }
 {

@@ -143,14 +143,17 @@ fn captures(rt: HostRuntime) -> Result<(), Fail> {
 
 #[test]
 fn long_lines(rt: HostRuntime) -> Result<(), Fail> {
-    for (length, note) in [(32_768, "range"), (32_769, "form")] {
+    for (length, note) in [
+        (32_768, "input: line 1 range\n"),
+        (32_769, "input: line 1 form\n"),
+    ] {
         let mut text = Vec::from_slice(rt.alloc(), b"v ")?;
         text.resize(length - length % 6 + 2, b'0')?;
         text.resize(length, b'0')?;
         text.push(b'\n')?;
         let it = answer_of(&rt, &MAKE, &text, &STEADY)?;
         assert_eq!(rt; it.status, 3);
-        assert!(rt; it.notes.ends_with(b"\n"), "{note}");
+        assert_eq!(rt; it.notes.as_slice(), note.as_bytes());
     }
     Ok(())
 }

@@ -6,12 +6,12 @@ use Rattle.listing.specs.Checks.{verdict_line}
 use Rattle.listing.specs.GrowingChecks.{checked_line, verdict_counted}
 use Rattle.listing.specs.declared.checker.CheckLister.{CheckLister}
 use Rattle.command_line.specs.declared.command.Command.TheVariants.{Check}
-use Rattle.hdmi_cli.specs.Endings.{Ends, heard_ending, judged_ending}
+use Rattle.hdmi_cli.specs.Endings.{Ends, heard_ending, judged_ending, seen}
 use Rattle.hdmi_cli.specs.Listings.{check_listing}
 use Rattle.hdmi_cli.specs.declared.ending.Ending.{Ending}
 use Rattle.hdmi_cli.specs.declared.ending.Ending.TheVariants.{Unaligned}
 use Rattle.hdmi_cli.proofs.Listings.{Writes, between, after_check, last_check, check_is_text}
-use Rattle.hdmi_cli.proofs.Heard.{IsLists, Unheard, kept_unheard, seen, unheard_ends, nowhere_ends, heard_ends}
+use Rattle.hdmi_cli.proofs.Heard.{IsLists, Unheard, kept_unheard, unheard_ends, nowhere_ends, heard_ends}
 use Rattle.hdmi_cli.proofs.run.list_check.Goals as goal
 
 lists : IsLists check_listing Check

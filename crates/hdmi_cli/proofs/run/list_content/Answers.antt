@@ -3,12 +3,12 @@ use Rattle.listing.specs.Texts.{counted}
 use Rattle.listing.specs.ContentText.{content_faults}
 use Rattle.listing.specs.declared.content_lister.ContentLister.{ContentLister}
 use Rattle.command_line.specs.declared.command.Command.TheVariants.{RecoverContent}
-use Rattle.hdmi_cli.specs.Endings.{Ends, heard_ending, judged_ending}
+use Rattle.hdmi_cli.specs.Endings.{Ends, heard_ending, judged_ending, seen}
 use Rattle.hdmi_cli.specs.Listings.{content_listing}
 use Rattle.hdmi_cli.specs.declared.ending.Ending.{Ending}
 use Rattle.hdmi_cli.specs.declared.ending.Ending.TheVariants.{Unaligned}
 use Rattle.hdmi_cli.proofs.Listings.{Writes, between, after_content, last_link, content_is_text, written_first, recalls_first, broken_after, counted_first}
-use Rattle.hdmi_cli.proofs.Heard.{IsLists, Unheard, kept_unheard, seen, unheard_ends, nowhere_ends, heard_ends}
+use Rattle.hdmi_cli.proofs.Heard.{IsLists, Unheard, kept_unheard, unheard_ends, nowhere_ends, heard_ends}
 use Rattle.hdmi_cli.proofs.run.list_content.Goals as goal
 
 lists : IsLists content_listing RecoverContent

@@ -2,12 +2,12 @@ use Rattle.std.proofs.Common.{rules, ◌≡◌, ◌∙◌, ◌≤◌, ℕ, false
 use Rattle.listing.specs.Texts.{fault_lines, counted}
 use Rattle.listing.specs.declared.lister.LinkLister.{LinkLister}
 use Rattle.command_line.specs.declared.command.Command.TheVariants.{RecoverLink}
-use Rattle.hdmi_cli.specs.Endings.{Ends, heard_ending, judged_ending}
+use Rattle.hdmi_cli.specs.Endings.{Ends, heard_ending, judged_ending, seen}
 use Rattle.hdmi_cli.specs.Listings.{link_listing}
 use Rattle.hdmi_cli.specs.declared.ending.Ending.{Ending}
 use Rattle.hdmi_cli.specs.declared.ending.Ending.TheVariants.{Unaligned}
 use Rattle.hdmi_cli.proofs.Listings.{Writes, between, after_link, last_link, link_is_text}
-use Rattle.hdmi_cli.proofs.Heard.{IsLists, Unheard, kept_unheard, seen, unheard_ends, nowhere_ends, heard_ends}
+use Rattle.hdmi_cli.proofs.Heard.{IsLists, Unheard, kept_unheard, unheard_ends, nowhere_ends, heard_ends}
 use Rattle.hdmi_cli.proofs.run.list_link.Goals as goal
 
 lists : IsLists link_listing RecoverLink

@@ -27,7 +27,7 @@ returns-in-Ok-raster-clause-ends g c =
     let accepts : (text : List ℕ) → before.left ≡ Some text → content_reads_as text ≡ accepts c.in-Ok.read = λ text told. read_contents _ c.read_content.result c.in-Ok.read (c.read_content.ensures.answers text told) c.in-Ok.is in
     stream_ends (MakeContent c.args.words.now) (tap_asked c.args.words.now) c.in-Ok-raster.stream c.write_stream.result before after
     (λ text o told made. makes_content c.args.words.now c.in-Ok.read.0 c.in-Ok.read.1 c.raster.result c.in-Ok-raster.stream text o (accepts text told) c.raster.ensures.fault c.in-Ok-raster.is (search rules) made)
-    (λ parts. parts) (search rules) c.write_stream.ensures.ends
+    (λ parts. parts) (λ reads. reads) (search rules) c.write_stream.ensures.ends
 
 pub returns-clause-ends : goal.returns-clause-ends
 returns-clause-ends g c =

@@ -25,4 +25,4 @@ returns-in-Ok-clause-ends g c =
     let after : Devices = record { left = g.S.Source.left c.read_link.new.source; input_faults = g.S.Source.faults c.read_link.new.source; held = g.K.Sink.held c.write_stream.new.output; output_faults = g.K.Sink.faults c.write_stream.new.output } in
     let accepted : (text : List ℕ) → before.left ≡ Some text → reads_as text ≡ accepts c.in-Ok.stream = λ text told. search rules in
     stream_ends (MakeLink c.args.words.now) (tap_asked c.args.words.now) c.in-Ok.stream c.write_stream.result before after
-    (λ text o told made. makes_link c.args.words.now c.in-Ok.stream text o (accepted text told) made) (λ parts. parts) (search rules) c.write_stream.ensures.ends
+    (λ text o told made. makes_link c.args.words.now c.in-Ok.stream text o (accepted text told) made) (λ parts. parts) (λ reads. reads) (search rules) c.write_stream.ensures.ends
