@@ -4,13 +4,17 @@ import argparse
 import io
 import signal
 import sys
+import textwrap
 from typing import NamedTuple
 
 DONE, FAULTY, REFUSED = 0, 1, 3
 STATUSES = "Status: 0 done; {}2 the words are wrong; 3 the input is refused, or a file cannot be read or written."
 MOST_COLUMNS = 20_000_000
+CUSTOM_CLOCK = 25_200_000  # of a mode of one's own, in Hz
 CONTENT = frozenset("vic mode row frame avi audio spd info acr gcp s packet ! cut".split())
 LINK = frozenset("c v i p e ! cut".split())
+EITHER = CONTENT | LINK
+KINDS = {CONTENT: "content listing", LINK: "link listing", EITHER: "listing"}
 
 
 class Refused(Exception):
@@ -43,6 +47,13 @@ class Mode(NamedTuple):
         """The columns of a frame."""
         return self.across * sum(self[4:8])
 
+    @property
+    def room(self):
+        """The packets that a frame has room for: each line some whole packets, and 18 at most (docs/FORMATS.md)."""
+        beside, alone = self.sync_across + self.back_across - 30, self.across - 16
+        blank = sum(self[5:8])
+        return self.active_down * max(0, min(18, beside // 32)) + blank * max(0, min(18, alone // 32))
+
 
 class Timing(NamedTuple):
     """What CTA-861 says of a video identification code: the mode, the frames a second, the picture's aspect ratio."""
@@ -72,9 +83,9 @@ VICS = {
 }
 
 
-def lines(source, names=CONTENT):
-    """The number, the name and the fields of each line of a listing, up to the line `end`."""
-    kind = "content" if names is CONTENT else "link"
+def lines(source, names=CONTENT, is_whole=True):
+    """The number, the name and the fields of each line of a listing, up to the line `end`; one that is not to be whole
+    may break off after any line."""
     number = 0
     text = io.TextIOWrapper(source, "ascii", "replace", "\n")
     for number, line in enumerate(text, 1):
@@ -86,11 +97,21 @@ def lines(source, names=CONTENT):
                 raise Refused(f"line {number + 1}: something follows the line `end`")
             return
         if name not in names or not fields:
-            raise Refused(f"line {number}: `{line[:20].strip()}` begins no line of a {kind} listing")
+            raise Refused(f"line {number}: `{line[:20].strip()}` begins no line of a {KINDS[names]}")
         yield number, name, fields
+    if not is_whole:
+        return
     if number == 0:
         raise Refused("nothing came")
-    raise Refused(f"the {kind} listing breaks off after {number} lines, without its line `end`")
+    raise Refused(f"the {KINDS[names]} breaks off after {number} lines, without its line `end`")
+
+
+def of_kind(lines, names):
+    """Lines of a listing, refused at the first that is of another kind of listing."""
+    for number, name, fields in lines:
+        if name not in names:
+            raise Refused(f"line {number}: `{' '.join((name, *fields))[:20]}` begins no line of a {KINDS[names]}")
+        yield number, name, fields
 
 
 def number(text, line):
@@ -126,10 +147,22 @@ def numbers(text, most):
     return [int(part) for part in parts]
 
 
-def parser(name, text, faulty=""):
-    """A reader of a tool's words; `faulty` says when its status is 1."""
+class Help(argparse.HelpFormatter):
+    """Fills each paragraph of a text, but keeps the lines of those that are set in."""
+
+    def _fill_text(self, text, width, indent):
+        parts = text.split("\n\n")
+        return "\n\n".join(
+            it if it.startswith("  ") else super(Help, self)._fill_text(it, width, indent) for it in parts
+        )
+
+
+def parser(name, text, faulty="", examples=""):
+    """A reader of a tool's words; `faulty` says when its status is 1, and `examples` are lines of commands."""
     epilog = STATUSES.format(f"1 {faulty}; " if faulty else "")
-    return argparse.ArgumentParser(prog=name, description=text, epilog=epilog)
+    if examples:
+        epilog += "\n\nExamples, at the top of the repository:\n\n" + textwrap.indent(examples, "  ")
+    return argparse.ArgumentParser(prog=name, description=text, epilog=epilog, formatter_class=Help)
 
 
 def run(name, work):

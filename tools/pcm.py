@@ -1,5 +1,6 @@
 """Sound for the tools: WAV files as samples of 24 bits a side, and the channel status that goes with them."""
 
+import io
 import wave
 from typing import NamedTuple
 
@@ -56,10 +57,24 @@ def side(data, width, channels, channel):
     return bytes(taken)
 
 
+def plain(data):
+    """A WAV file's bytes, those of the extensible format as the plain one, which `wave` reads: the first two bytes of
+    the subformat take the place of the tag."""
+    at = 12
+    while at + 8 <= len(data):
+        size = int.from_bytes(data[at + 4 : at + 8], "little")
+        if data[at : at + 4] == b"fmt " and size >= 40 and data[at + 8 : at + 10] == b"\xfe\xff":
+            return data[: at + 8] + data[at + 32 : at + 34] + data[at + 10 :]
+        at += 8 + size + size % 2
+    return data
+
+
 def read(path):
     """The sound of a WAV file of one or two channels."""
+    with open(path, "rb") as file:
+        source = io.BytesIO(plain(file.read()))
     try:
-        with wave.open(path) as file:
+        with wave.open(source) as file:
             channels, width, rate = file.getnchannels(), file.getsampwidth(), file.getframerate()
             data = file.readframes(file.getnframes())
     except (wave.Error, EOFError) as why:
@@ -85,6 +100,13 @@ def write(path, sound):
         file.setsampwidth(width)
         file.setframerate(sound.rate)
         file.writeframes(data)
+
+
+def rate_of(n, cycles, clock):
+    """The sampling rate by a clock packet and the pixel clock (HDMI 1.4, section 7.2); one within 0.2 percent of a
+    usual rate is that rate."""
+    rate = clock * n / (128 * cycles)
+    return next((usual for usual in RATES if abs(rate - usual) <= usual / 500), round(rate))
 
 
 def channel_status(sound, channel):

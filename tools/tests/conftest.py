@@ -10,6 +10,11 @@ TOP = Path(__file__).resolve().parents[2]
 BUILT = TOP / "crates" / "hdmi_cli" / "out" / "hdmi_cli"
 
 
+def built():
+    """The program that VABGROT_PROGRAM names, or the one that `./vabgrot` and `rt ci` build."""
+    return Path(os.environ.get("VABGROT_PROGRAM", BUILT)).resolve()
+
+
 def ran(words, source):
     return subprocess.run([str(word) for word in words], input=source, capture_output=True, timeout=300)
 
@@ -31,9 +36,8 @@ def tool():
 
 @pytest.fixture
 def program():
-    """Runs the program that VABGROT_PROGRAM names, or the one that `./vabgrot` and `rt ci` build; a command that it
-    does not have (status 2) skips the test."""
-    path = Path(os.environ.get("VABGROT_PROGRAM", BUILT))
+    """Runs the program; a command that it does not have (status 2) skips the test."""
+    path = built()
     if not path.is_file():
         pytest.skip(f"there is no program {path}: `./vabgrot` builds it, or VABGROT_PROGRAM names one")
 

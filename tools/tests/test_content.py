@@ -1,5 +1,6 @@
 """tools/content: images and sound as lines of a content listing. Expected values are written out by hand."""
 
+import struct
 import wave
 
 import pytest
@@ -76,7 +77,8 @@ def test_as_many_samples_a_frame_as_the_rate_asks_for(tool, image, sound):
 
 def test_the_channel_status(tool, image, sound):
     """IEC 60958-3: no copyright is bit 2, channel 1 bit 20, channel 2 bit 21, 48 kHz bit 25, 16 bits bit 33."""
-    came = tool("content", image(), "--mode", MODE, "--clock", 43000, "--sound", sound(bytes(4 * 384)))
+    wide = ["--mode", "2,4,16,640,1,1,20,1,1", "--clock", 1522600]  # 100 frames a second
+    came = tool("content", image(), *wide, "--sound", sound(bytes(4 * 384)))
     rows = [line.split() for line in lines(came) if line.startswith("s ")]
     ones = {side: [k for k, row in enumerate(rows) if row[side] == "4"] for side in (3, 4)}
     assert ones == {3: [2, 20, 25, 33, 194, 212, 217, 225], 4: [2, 21, 25, 33, 194, 213, 217, 225]}
@@ -119,6 +121,51 @@ def test_bad_words(tool, image):
     tool("content", status=2)
     for words in (["--vic", 5], ["--vic", 1, "--mode", MODE], ["--mode", "1,2"], ["--fit", "no"], ["--clock", 0]):
         tool("content", path, *words, status=2)
+
+
+@pytest.mark.parametrize("numbers", ["0,4,16,64,1,1,2,1,1", "2,4,16,13,1,1,2,1,1", "2,4097,16,64,1,1,2,1,1"])
+def test_a_mode_is_judged_before_it_is_written(tool, image, program, numbers):
+    """docs/FORMATS.md: 1 to 4,096, the back porch across at least 14; the program refuses what the tool refuses."""
+    tool("content", image(), "--mode", numbers, status=2)
+    listing = f"mode {numbers.replace(',', ' ')}\nrow 000000000000\nframe 2 1\nend\n".encode()
+    program("make", "content", source=listing, status=3)
+
+
+def test_packets_have_room(tool, image, sound, program):
+    """Lines of 86 columns: one packet before the row and two on each of four other lines."""
+    path, words = image(), ["--mode", MODE, "--sound", sound(bytes(4 * 100))]
+    listing = tool("content", path, *words, "--clock", 860000).stdout  # 24 samples a frame
+    assert program("make", "content", source=listing).startswith(b"TMC1")
+    came = tool("content", path, *words, "--clock", 825600, status=3)  # 25 samples
+    assert b"room for 9 packets, and 10 are wanted" in came.stderr and came.stdout == b""
+    assert b"room for 0 packets, and 1 are" in tool("content", path, "--mode", "2,1,2,14,1,1,1,1,0", status=3).stderr
+
+
+def test_grey_of_16_bits_is_scaled(tool, tmp_path):
+    picture = Image.new("I;16", (2, 1))
+    picture.putpixel((0, 0), 0x8080)
+    picture.putpixel((1, 0), 0xFFFF)
+    for name in ("a.png", "a.tif"):
+        picture.save(tmp_path / name)
+        assert lines(tool("content", tmp_path / name, "--mode", MODE))[2] == "row 808080ffffff"
+
+
+def extensible(data, channels, rate, bits, kind=1):
+    """A WAV file of the extensible format: the tag fffe, and the subformat's number at the head of its identifier."""
+    block = channels * bits // 8
+    form = struct.pack("<HHIIHHHHI", 0xFFFE, channels, rate, rate * block, block, bits, 22, bits, 3)
+    form += struct.pack("<H", kind) + bytes.fromhex("000000001000800000aa00389b71")
+    body = b"WAVEfmt " + struct.pack("<I", len(form)) + form + b"data" + struct.pack("<I", len(data)) + data
+    return b"RIFF" + struct.pack("<I", len(body)) + body
+
+
+def test_wav_of_the_extensible_format(tool, image, tmp_path):
+    data = b"\x56\x34\x12\x01\x00\x80"
+    (tmp_path / "a.wav").write_bytes(extensible(data, 2, 48000, 24))
+    words = [image(), "--mode", MODE, *CLOCK, "--sound", tmp_path / "a.wav"]
+    assert lines(tool("content", *words))[4] == "s 123456 800001 0 0 1 0"
+    (tmp_path / "a.wav").write_bytes(extensible(data, 2, 48000, 32, kind=3))  # floating point
+    assert b"no WAV file of linear PCM" in tool("content", *words, status=3).stderr
 
 
 def test_as_many_frames_as_a_listing_has_columns_for(tool, image):

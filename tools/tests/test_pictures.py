@@ -63,8 +63,18 @@ def test_marks_at_the_ends_of_a_row(tool, tmp_path):
     text = WIDE + WIDE + b"! code 2 19\nframe 12 2\nend\n"
     tool("pictures", "--mark", tmp_path, source=text, status=1)
     assert pixels(tmp_path / "frame0000.png")[1] == [(128,) * 3] * 12 + [MARK] * 4 + [(128,) * 3] * 4 + [MARK] * 4
-    tool("pictures", tmp_path, source=text, status=1)
+    tool("pictures", "--force", tmp_path, source=text, status=1)
     assert pixels(tmp_path / "frame0000.png")[1] == [(128,) * 3] * 24
+
+
+def test_frames_of_an_earlier_run(tool, tmp_path):
+    (tmp_path / "frames.png").write_bytes(b"kept")
+    tool("pictures", tmp_path, source=TWO)
+    one = TWO[: TWO.index(b"row 1111")] + b"end\n"
+    assert b"frame0000.png is there already" in tool("pictures", tmp_path, source=one, status=3).stderr
+    assert (tmp_path / "frame0001.png").exists()
+    tool("pictures", tmp_path, "--force", source=one)
+    assert sorted(path.name for path in tmp_path.iterdir()) == ["frame0000.png", "frames.png"]
 
 
 def test_boxes_round_pixels(tool, tmp_path):
@@ -84,6 +94,51 @@ def test_columns_are_not_counted_past_noise(tool, tmp_path):
     assert pixels(tmp_path / "frame0000.png")[1] == [MARK] * 4 + [(128,) * 3] * 4 + [MARK] * 4
 
 
+DVI = b"""c 00 12
+v 111111
+c 02 3
+c 00 12
+v 0102030a0b0c0d0e0f101112
+! code 2 29
+c 00 2
+c 02 1
+c 00 12
+v ff0000000000111111222222
+c 02 1
+! word 1 48
+c 02 2
+c 00 12
+v 222222
+c 00 12
+cut 90
+end
+"""
+
+
+def test_a_dvi_listing_has_the_frames_between_two_changes_of_vsync(tool, tmp_path):
+    """A single column of VSYNC changes nothing, and a `! word` parts no three columns; pixel 0 of the first row is
+    column 28."""
+    came = tool("pictures", "--mark", tmp_path, source=DVI, status=1)
+    assert came.stderr.splitlines() == [
+        b"frame 0: 1 code",
+        b"1 rows of a frame that did not end are left out",
+        b"1 frames, 1 faults in them, 1 others",
+    ]
+    first, second = [(1, 2, 3), (10, 11, 12), (13, 14, 15)], [(255, 0, 0), (0, 0, 0), (17, 17, 17)]
+    assert pixels(tmp_path / "frame0000.png") == ((4, 2), [*first, MARK, *second, MARK])
+
+
+def test_a_slip_leaves_its_frame_out(tool, tmp_path):
+    slipped = DVI.replace(b"cut 90\nend\n", b"! slip 1 900\n") + DVI
+    came = tool("pictures", tmp_path, source=slipped, status=1)
+    assert came.stderr.splitlines() == [
+        b"frame 0: 1 code",
+        b"frame 1: 1 code",
+        b"2 rows of a frame that did not end are left out",
+        b"2 frames, 2 faults in them, 3 others",
+    ]
+
+
 @pytest.mark.parametrize(
     "text, says",
     [
@@ -91,7 +146,11 @@ def test_columns_are_not_counted_past_noise(tool, tmp_path):
         (TWO[:-4], b"breaks off after 7 lines"),
         (TWO + b"x", b"line 9: something follows the line `end`"),
         (TWO[:60], b"line 3: the listing breaks off in it"),
-        (b"c 00 12\nend\n", b"line 1: `c 00 12` begins no line of a content listing"),
+        (b"c 00 12\nrow 010203\nend\n", b"line 2: `row 010203` begins no line of a link listing"),
+        (b"! code 0 9\nrow 010203\nc 00 12\nend\n", b"line 3: `c 00 12` begins no line of a content listing"),
+        (b"x\nend\n", b"line 1: `x` begins no line of a listing"),
+        (b"c 0x 12\nend\n", b"line 1: `0x` is no hexadecimal number"),
+        (b"c 00 12\n! code\nend\n", b"line 2: a fault without its place"),
         (b"row 01020\nend\n", b"line 1: `01020` is no row of 6 hexadecimal digits each"),
         (b"row 0102030405\nend\n", b"line 1: `0102030405` is no row"),
         (b"row x\nend\n", b"line 1"),

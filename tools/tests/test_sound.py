@@ -45,6 +45,8 @@ def test_samples_of_24_bits(tool, path):
         (AVI + b"acr 6144 20000\n", [], 60480),
         (b"vic 4\n" + AVI + b"acr 6144 74250\n", [], 48000),
         (ACR, ["--clock", 27000000], 51429),
+        (AVI.replace(b"0 1 0 0 0 0 0\n", b"0 0 0 0 0 0 0\n") + ACR, [], 48000),  # a mode without a code
+        (b"mode 32 8 16 64 24 2 2 2 1\n" + ACR, [], 48000),
         (b"", ["--rate", 32000], 32000),
         (AVI + ACR, ["--rate", 96000], 96000),
     ],

@@ -93,6 +93,32 @@ def test_marks_lie_on_the_damaged_pixels(tool, program, sent, tmp_path):
     assert box <= differ.keys() <= box | {(17, 10)}
 
 
+def test_a_link_listing_has_the_frames_of_the_content_listing(tool, program, sent, tmp_path):
+    """Both listings of one damaged capture give the same files and the same counts. Two rows lose their guard bands,
+    and what is marked behind them has its place by the lines before."""
+    _, paths, _, _ = sent
+    capture = program("make", "content", "--skew", "0,70,35", source=tool("content", *paths, "--mode", MODE).stdout)
+    at = [10 * ((2 * DOWN + FIRST_ROW + row) * ACROSS + FIRST_PIXEL) - 20 for row in (5, 9)]
+    hits = [f"{lane}:{place - SKEWS[lane]}:000" for place in at for lane in (1, 2)]
+    hits += [f"2:{10 * ((2 * DOWN + FIRST_ROW + row) * ACROSS + FIRST_PIXEL + 3 * row) - 35}:0ab" for row in (3, 7, 10)]
+    hurt = program("damage", *hits, source=capture)
+    content, link = (program("recover", kind, source=hurt, status=1) for kind in ("content", "link"))
+    assert content.count(b"! noise") == 2
+    came = tool("pictures", tmp_path / "content", source=content, status=1)
+    assert tool("pictures", tmp_path / "link", source=link, status=1).stderr == came.stderr
+    found = [image.tobytes() for image in shown(tmp_path / "content")]
+    assert len(found) == FRAMES - 1 and found == [image.tobytes() for image in shown(tmp_path / "link")]
+    tool("pictures", "--mark", tmp_path / "marked", source=link, status=1)
+    whole, marked = shown(tmp_path / "link")[1], shown(tmp_path / "marked")[1]
+    # rows 5 and 9 are missing, so rows 7 and 10 of the picture are its 6th and 8th
+    centres = {(9, 3), (21, 6), (30, 8)}
+    ring = {
+        (x + dx, y + dy) for x, y in centres for dx in range(-2, 3) for dy in range(-2, 3) if 2 in (abs(dx), abs(dy))
+    }
+    ring = {(x, y) for x, y in ring if x < 32} - centres
+    assert unlike(whole, marked).keys() == ring
+
+
 def test_a_usual_mode(tool, program, tmp_path):
     """640 x 480 pixels and 48 kHz, undamaged: the second frame and all its samples come back as they were sent."""
     image = Image.radial_gradient("L").resize((640, 480)).convert("RGB")

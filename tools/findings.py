@@ -1,0 +1,282 @@
+"""What a link listing tells, gathered for a page: periods, faults, frames, packets, samples, and the lines
+themselves."""
+
+from collections import Counter
+from dataclasses import dataclass, field
+
+import link
+import packets
+import pcm
+
+FAULTS = {  # each kind: on which row of the timeline it stands, and what it says
+    "word": ("lane", "a character of a control column is no control character"),
+    "code": ("lane", "the first character of a row on its lane that does not code its own byte"),
+    "short": ("structure", "fewer than twelve control columns before what opens here"),
+    "preamble": ("structure", "not the preamble of what opens here"),
+    "guard": ("structure", "one of two guard columns is none"),
+    "noise": ("structure", "columns that open neither a row nor an island"),
+    "empty": ("structure", "a row without pixels, or an island without packets"),
+    "longline": ("structure", "more than 4,096 pixels in a row"),
+    "broken": ("structure", "a control column before a packet or an island's end was whole"),
+    "longisland": ("packet", "the nineteenth packet of an island"),
+    "symbols": ("packet", "characters of a packet that are none of TERC4"),
+    "mended": ("packet", "a block of a packet with one wrong bit, which was mended"),
+    "lost": ("packet", "a block of a packet with more wrong bits"),
+    "slip": ("slip", "a lane lost bits, and the lanes were aligned anew"),
+}
+CONTENT_FAULTS = {
+    "length": "an InfoFrame whose length is not that of its kind",
+    "checksum": "an InfoFrame whose bytes do not sum to 0",
+    "parity": "a side of a sample whose ones are not even",
+    "layout": "samples of more than two channels, which are not read",
+    "uneven": "a clock packet whose four copies are not alike",
+    "depth": "a depth of colour other than 24 bits",
+    "ragged": "a row that is not as wide as the first of its frame",
+    "vic": "a frame of another size than its AVI InfoFrame says",
+}
+PERIODS = ("control", "video", "packet", "open", "close", "unknown")
+FULL_TEXT = 1_000_000  # bytes up to which the listing is kept whole
+FIRST_DIGITS = 48  # of a long row
+
+
+@dataclass
+class Text:
+    """The lines of the listing: whole where it is short, else without the pixels behind the first ones of a row."""
+
+    full: list = field(default_factory=list)
+    short: list = field(default_factory=list)
+    size: int = 0
+
+    def add(self, name, fields):
+        line = " ".join((name, *fields))
+        self.size += len(line) + 1
+        if self.size <= FULL_TEXT:
+            self.full.append(line)
+        if name == "v" and len(line) > FIRST_DIGITS + 26:
+            line = f"{line[: FIRST_DIGITS + 2]}.. ({(len(line) - 2) // 6} pixels)"
+        self.short.append(line)
+
+    @property
+    def is_whole(self):
+        return self.size <= FULL_TEXT
+
+    @property
+    def lines(self):
+        return self.full if self.is_whole else self.short
+
+
+class Blocks:
+    """Finds the channel status in the C bits of samples: 192 of them, from one that starts a block to the next."""
+
+    def __init__(self):
+        self.bits, self.told = ([], []), Counter()
+
+    def take(self, sample):
+        if sample.start:
+            self.bits = ([], [])
+        elif not self.bits[0]:
+            return
+        for bits, flags in zip(self.bits, (sample.left_flags, sample.right_flags)):
+            bits.append(flags >> 2 & 1)
+        if len(self.bits[0]) == pcm.BLOCK:
+            self.told[tuple(map(tuple, self.bits))] += 1
+            self.bits = ([], [])
+
+
+class Sound:
+    """The samples, the places of lost packets among them, and the first clock packet."""
+
+    def __init__(self):
+        self.left, self.right, self.gaps = bytearray(), bytearray(), []
+        self.clock, self.vic, self.blocks = None, None, Blocks()
+
+    @property
+    def samples(self):
+        return len(self.left) // 3
+
+    def take(self, content):
+        for sample in content.samples:
+            self.left += sample.left[::-1]
+            self.right += sample.right[::-1]
+            self.blocks.take(sample)
+
+    def lose(self):
+        self.gaps.append(self.samples)
+        self.blocks.bits = ([], [])
+
+
+@dataclass
+class Told:
+    """A packet with what was told of it."""
+
+    line: int
+    epoch: int
+    column: int
+    at: int
+    packet: packets.Packet
+    content: packets.Content | None = None
+    verdicts: list = field(default_factory=lambda: ["clean"] * 5)
+    symbols: int = 0
+
+    def read(self):
+        """Reads the content, where no block is lost."""
+        if "lost" not in self.verdicts:
+            self.content = packets.content_of(self.packet)
+
+    @property
+    def words(self):
+        return self.content.words if self.content else "not read, since a block is lost"
+
+
+class Findings:
+    """Takes the lines of a link listing, one after another, and gives each frame to `show` when it ends."""
+
+    def __init__(self, show, is_dvi=None):
+        self.show, self.frames_of, self.text, self.sound = show, link.Frames(is_dvi), Text(), Sound()
+        self.periods = {"kind": [], "at": [], "columns": [], "line": [], "value": []}
+        self.faults = {
+            "kind": [],
+            "lane": [],
+            "at": [],
+            "epoch": [],
+            "column": [],
+            "line": [],
+            "more": [],
+            "frame": [],
+            "x": [],
+            "y": [],
+            "rgb": [],
+        }
+        self.counts, self.content_counts = Counter(), Counter()
+        self.packets, self.frames, self.pending, self.last, self.vic = [], [], [], None, 0
+        self.epochs, self.rows, self.cut = [0], 0, None
+        self.unknown = -1  # the last period of no told length
+        self.is_certain = True
+
+    @property
+    def columns(self):
+        counter = self.frames_of.columns
+        return counter.before + counter.column
+
+    def take(self, line, name, fields):
+        thing = self.frames_of.columns.take(line, name, fields)
+        if not (thing.kind == "fault" and thing.fields[0] in link.OF_PACKET):
+            self.settle()
+        self.text.add(name, fields)
+        self.shift(self.frames_of.columns.missed)
+        ended = self.frames_of.take(thing)
+        if ended:
+            self.end_frame(ended, thing.at)
+        if thing.kind in ("fault", "slip"):
+            self.fault(thing)
+        elif thing.kind == "cut":
+            self.cut = thing
+        else:
+            self.period(thing)
+
+    def shift(self, columns):
+        """The last period of no told length has so many columns more, and all behind it begins as much later."""
+        if columns and self.unknown >= 0:
+            for number in range(self.unknown + 1, len(self.periods["at"])):
+                self.periods["at"][number] += columns
+
+    def period(self, thing):
+        value = thing.fields[0] if thing.kind == "control" else 0
+        if thing.kind == "video":
+            self.rows += 1
+            value = len(thing.fields[0]) // 6
+        elif thing.kind == "packet":
+            self.last = Told(
+                thing.line, thing.epoch, thing.column, thing.at, packets.packet_of(thing.fields, thing.line)
+            )
+            value = self.last.packet.kind
+        self.add(self.periods, PERIODS.index(thing.kind), thing.at, thing.columns, thing.line, value)
+
+    @staticmethod
+    def add(table, *values):
+        for column, value in zip(table.values(), values):
+            column.append(value)
+
+    def settle(self):
+        """Reads the last packet, now that all is told of it."""
+        told, self.last = self.last, None
+        if told is None:
+            return
+        told.read()
+        self.packets.append(told)
+        content = told.content
+        if content is None:
+            if told.packet.kind == 2:
+                self.sound.lose()
+            return
+        self.content_counts.update(fault.split()[0] for fault in content.faults)
+        if told.packet.kind == 1 and not content.faults and not self.sound.clock:
+            self.sound.clock = packets.clock_numbers(told.packet)
+        elif told.packet.kind == 0x82 and told.packet.header[1] == 2 and not content.faults:
+            self.vic = told.packet.bytes[4] & 127
+            self.sound.vic = self.sound.vic or self.vic
+        self.sound.take(content)
+
+    def fault(self, thing):
+        kind, *numbers = thing.fields
+        self.counts[kind, numbers[0] if kind in link.LANED or kind == "slip" else None] += 1
+        lane = numbers.pop(0) if kind in link.LANED or kind == "slip" else -1
+        x, y, rgb = self.pixel() if kind == "code" else (-1, -1, "")
+        if self.frames_of.frame.rows:
+            self.pending.append(len(self.faults["kind"]))
+        more = numbers if kind == "slip" else numbers[1:]
+        self.add(self.faults, kind, lane, thing.at, thing.epoch, thing.column, thing.line, more, -1, x, y, rgb)
+        if kind in link.OF_PACKET and self.last:
+            self.judge(kind, more)
+        elif kind == "slip":
+            self.is_certain &= thing.is_exact
+            self.epochs.append(self.columns)
+            self.sound.lose()
+            self.cut, self.unknown = None, -1
+        elif thing.columns or kind in link.UNCOUNTED:
+            self.unknown = len(self.periods["at"])
+            self.add(self.periods, PERIODS.index("unknown"), thing.at, thing.columns, thing.line, 0)
+
+    def judge(self, kind, more):
+        """What a fault says of the last packet."""
+        if kind == "symbols":
+            self.last.symbols = more[0]
+        elif kind in ("mended", "lost"):
+            self.last.verdicts[more[0]] = f"mended, bit {more[1]}" if kind == "mended" else "lost"
+
+    def pixel(self):
+        """The place of the last `! code` in its frame, and the colour that was read there."""
+        frame = self.frames_of.frame
+        if not frame.marks or frame.marks[-1].pixel is None:
+            return -1, len(frame.rows) - 1, ""
+        _, x, y = frame.marks[-1]
+        return x, y, frame.rows[y][3 * x : 3 * x + 3].hex()
+
+    def end_frame(self, frame, at):
+        """Shows a frame that ended, and gives the faults that came among its rows to it."""
+        number = len(self.frames)
+        for fault in self.pending:
+            self.faults["frame"][fault] = number
+        self.pending = []
+        ragged = sum(len(row) != len(frame.rows[0]) for row in frame.rows)
+        other = frame.is_whole and packets.is_other_size(self.vic, frame.width, len(frame.rows))
+        self.content_counts.update({"ragged": ragged * frame.is_whole, "vic": int(other)})
+        self.frames.append(self.show(frame, at, ragged, self.vic if other else None))
+
+    def finish(self, is_whole):
+        """No more lines come; a whole listing has its line `end`."""
+        if is_whole:
+            self.text.add("end", [])
+        self.settle()
+        self.is_certain &= self.frames_of.columns.is_exact
+        self.stretch()
+        frame = self.frames_of.finish()
+        if frame:
+            self.end_frame(frame, self.columns)
+
+    def stretch(self):
+        """What could not be counted goes on until the next period."""
+        ends = [*self.periods["at"][1:], self.columns]
+        for number, kind in enumerate(self.periods["kind"]):
+            if kind == PERIODS.index("unknown"):
+                self.periods["columns"][number] = max(1, ends[number] - self.periods["at"][number])

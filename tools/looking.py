@@ -1,0 +1,196 @@
+"""What a capture's lanes look like: control characters, what control periods end in, and the lanes' order and polarity."""
+
+from itertools import permutations, product
+from typing import NamedTuple
+
+import numpy as np
+from tqdm import tqdm
+
+CONTROL = (0x354, 0x0AB, 0x154, 0x2AB)  # HDMI 1.4, section 5.4.2
+RUN, PREAMBLE, TEN = 12, 8, 10
+ALL = 0x3FF
+GUARD, OTHER = 0x2CC, 0x133  # the two guard characters (sections 5.2.2.1 and 5.2.3.3)
+ISLAND_0 = (0x28E, 0x271, 0x163, 0x2C3)  # those of lane 0 before an island
+SKEW = 70
+PART = 1 << 22
+MOST_ENDS = 20_000
+IS_CONTROL = np.isin(np.arange(1024), CONTROL)
+
+
+class Ends(NamedTuple):
+    """Where control periods of twelve characters or more end: the places, the character of the preamble (0 where its
+    eight are not alike), and that of the guard (0 where its two are not alike)."""
+
+    lock: int
+    places: np.ndarray
+    preambles: np.ndarray
+    guards: np.ndarray
+
+
+def words_at_all(bits):
+    """The ten bits from each place on, first bit lowest."""
+    words = np.zeros(max(len(bits) - TEN + 1, 0), np.uint16)
+    for place in range(TEN):
+        words |= bits[place : place + len(words)].astype(np.uint16) << place
+    return words
+
+
+def lock_of(bits):
+    """The least place at which twelve control characters stand in a row."""
+    for first in range(0, len(bits), PART):
+        control = IS_CONTROL[words_at_all(bits[first : first + PART + TEN * RUN])]
+        size = len(control) - TEN * (RUN - 1)
+        if size <= 0:
+            return None
+        found = np.logical_and.reduce([control[TEN * step : TEN * step + size] for step in range(RUN)])
+        if found.any():
+            return first + int(found.argmax())
+    return None
+
+
+def characters_of(bits, start):
+    """The characters from a place on."""
+    count = (len(bits) - start) // TEN
+    rows = bits[start : start + TEN * count].reshape(count, TEN)
+    return rows.astype(np.uint16) @ (1 << np.arange(TEN)).astype(np.uint16)
+
+
+def ends_of(bits):
+    """The ends of the control periods of a lane, or nothing where it has none."""
+    lock = lock_of(bits)
+    if lock is None:
+        return None
+    words = characters_of(bits, lock)
+    control = IS_CONTROL[words]
+    others = np.flatnonzero(~control)
+    lengths = np.diff(others, prepend=-1) - 1
+    at = others[(lengths >= RUN) & (others < len(words) - 1)][:MOST_ENDS]
+    like = np.logical_and.reduce([words[at - back] == words[at - 1] for back in range(2, PREAMBLE + 1)])
+    guards = np.where(words[at] == words[at + 1], words[at], 0)
+    return Ends(lock, lock + TEN * at, np.where(like, words[at - 1], 0), guards)
+
+
+def as_it_is(bits):
+    return bits
+
+
+def bytes_turned(bits):
+    whole = len(bits) // 8 * 8
+    return bits[:whole].reshape(-1, 8)[:, ::-1].reshape(-1)
+
+
+def tens_turned(bits):
+    whole = len(bits) // TEN * TEN
+    return bits[:whole].reshape(-1, TEN)[:, ::-1].reshape(-1)
+
+
+BIT_ORDERS = {
+    "as it is": as_it_is,
+    "with each byte turned round": bytes_turned,
+    "with each ten turned round": tens_turned,
+}
+
+
+def score(ends):
+    """How many control periods end in a guard character."""
+    return int(np.isin(ends.guards, (GUARD, OTHER, *ISLAND_0)).sum()) if ends else -1
+
+
+def looked(bits):
+    """The bit order of a lane with the most guards, the first of them where it is as good as others, and its ends."""
+    best = max(((name, ends_of(turn(bits))) for name, turn in BIT_ORDERS.items()), key=lambda pair: score(pair[1]))
+    return best if best[1] else (None, None)
+
+
+def told(number, count, name, ends):
+    if not ends:
+        return f"lane {number}: {count} bits, no twelve control characters in a row in any bit order"
+    kinds = {"2cc": GUARD, "133": OTHER}
+    counts = ", ".join(f"{int((ends.guards == kind).sum())} in {text}" for text, kind in kinds.items())
+    islands = int(np.isin(ends.guards, ISLAND_0).sum())
+    return (
+        f"lane {number}: {count} bits, locks {name} at place {ends.lock}; of {len(ends.places)} control periods "
+        f"{counts} and {islands} in an island's guard of lane 0"
+    )
+
+
+def openings(found):
+    """The preambles and guards of the three lanes, a row an end that all three have within 70 bits."""
+    first = found[0].places
+    rows = [np.stack([found[0].preambles, found[0].guards], axis=1)]
+    near = np.ones(len(first), bool)
+    for ends in found[1:]:
+        if not len(ends.places):
+            return np.zeros((3, 0, 2), np.uint16)
+        at = np.clip(np.searchsorted(ends.places, first), 1, max(len(ends.places) - 1, 1))
+        at = np.minimum(at, len(ends.places) - 1)
+        before = np.maximum(at - 1, 0)
+        at = np.where(np.abs(ends.places[before] - first) <= np.abs(ends.places[at] - first), before, at)
+        near &= np.abs(ends.places[at] - first) <= SKEW
+        rows.append(np.stack([ends.preambles[at], ends.guards[at]], axis=1))
+    return np.stack(rows)[:, near]
+
+
+def right_openings(rows):
+    """How many rows of preambles and guards of lanes 0, 1 and 2 open a line or an island (HDMI 1.4, section 5.2.1.1)."""
+    (_, guard_0), (preamble_1, guard_1), (preamble_2, guard_2) = (lane.T for lane in rows)
+    both = (preamble_1 == 0x0AB) & (guard_1 == OTHER)
+    line = both & (preamble_2 == 0x354) & (guard_2 == GUARD) & (guard_0 == GUARD)
+    island = both & (preamble_2 == 0x0AB) & (guard_2 == OTHER) & np.isin(guard_0, ISLAND_0)
+    return int((line | island).sum())
+
+
+class Fit(NamedTuple):
+    """How many openings are right where lane `order[c]` is taken for lane c, those of `inverts` turned over first."""
+
+    right: int
+    order: tuple
+    inverts: tuple
+
+
+def fit_of(rows):
+    """The order and polarity with the most right openings, of the best ones that with the least change; and how many
+    others are as good."""
+    fits = []
+    for order, signs in product(permutations(range(3)), product((0, 1), repeat=3)):
+        turned = np.stack([np.where(rows[lane] > 0, rows[lane] ^ (ALL * sign), 0) for lane, sign in enumerate(signs)])
+        inverts = tuple(lane for lane in range(3) if signs[lane])
+        fits.append(Fit(right_openings(turned[list(order)]), order, inverts))
+    best = max(fits, key=lambda fit: (fit.right, -len(fit.inverts) - 2 * (fit.order != (0, 1, 2))))
+    return best, sum(fit.right == best.right for fit in fits) - 1
+
+
+def advice(fit, names):
+    """The words that pack the lanes as they are wanted."""
+    order = [fit.order.index(lane) for lane in range(3)]
+    words = ["--order " + ",".join(map(str, order))] if order != [0, 1, 2] else []
+    if fit.inverts:
+        words.append("--invert " + ",".join(map(str, sorted(order[lane] for lane in fit.inverts))))
+    if set(names) == {"with each byte turned round"}:
+        words.append("--msb")
+    return " ".join(words)
+
+
+def judged(lanes, counts):
+    """The lines that say what was found, and whether the capture is right as it is."""
+    found = []
+    for lane, count in zip(tqdm(lanes, unit="lane", disable=None), counts):
+        found.append(looked(np.unpackbits(np.frombuffer(lane, np.uint8), bitorder="little")[:count]))
+    lines = [told(number, count, *pair) for number, (count, pair) in enumerate(zip(counts, found))]
+    names, ends = zip(*found)
+    if None in names:
+        return lines + ["no alignment: not all lanes lock"], False
+    rows = openings(ends)
+    if not rows.shape[1]:
+        return lines + [f"no alignment: no control periods of the three lanes end within {SKEW} bits"], False
+    fit, others = fit_of(rows)
+    if not fit.right:
+        text = "no guards: order and polarity cannot be told (DVI has none), or a wire of another lane is here"
+        return lines + [text], set(names) == {"as it is"}
+    words, share = advice(fit, names), f"{fit.right} of {rows.shape[1]} openings"
+    if not words and set(names) == {"as it is"}:
+        return lines + [f"right as it is: {share}"], True
+    turned = [f"lane {number} {name}" for number, name in enumerate(names) if name != "as it is"]
+    besides = f" and {', '.join(turned)}" if turned and "--msb" not in words else ""
+    doubt = f"; so they are with {others} other orders and polarities" if others else ""
+    return lines + [f"with `{' '.join(['lanes pack', words]).strip()}`{besides}: {share} are right{doubt}"], False

@@ -1,0 +1,57 @@
+"""The program for the tools: where it is, and how it is run over a capture."""
+
+import os
+import shutil
+import subprocess
+from pathlib import Path
+
+from listing import Refused
+
+HERE = Path(__file__).resolve().parent
+BUILT = HERE.parent / "crates" / "hdmi_cli" / "out" / "hdmi_cli"
+INSTALLED = HERE.parent.parent / "bin" / "vabgrot"
+OTHER_WORDS, NO_CAPTURE, NO_ALIGNMENT = 2, 3, 7
+
+
+def find():
+    """The program that VABGROT_PROGRAM names, the one that was built or installed beside the tools, or that of the
+    PATH."""
+    named = os.environ.get("VABGROT_PROGRAM")
+    for path in [Path(named)] if named else [BUILT, INSTALLED]:
+        if path.is_file():
+            return path
+    found = not named and shutil.which("vabgrot")
+    if not found:
+        raise Refused(f"there is no program {named or BUILT}: `./vabgrot` builds it, or VABGROT_PROGRAM names one")
+    return Path(found)
+
+
+def has(*words):
+    """Whether the program has a command: it answers other words with status 2."""
+    ran = subprocess.run([find(), *words], stdin=subprocess.DEVNULL, capture_output=True)
+    return ran.returncode != OTHER_WORDS
+
+
+class Run:
+    """A command of the program that reads a file; its output is read line by line, and then its status and its note."""
+
+    def __init__(self, words, path):
+        with open(path, "rb") as source:
+            self.process = subprocess.Popen(
+                [find(), *words], stdin=source, stdout=subprocess.PIPE, stderr=subprocess.PIPE, bufsize=1 << 20
+            )
+        self.status, self.note = None, ""
+
+    @property
+    def output(self):
+        return self.process.stdout
+
+    def __enter__(self):
+        return self
+
+    def __exit__(self, kind, *_):
+        if kind:
+            self.process.kill()
+        self.process.stdout.close()
+        self.note = self.process.stderr.read().decode(errors="replace").strip()
+        self.status = self.process.wait()

@@ -1,0 +1,73 @@
+"""./vabgrot: its own statuses, and what it installs, over a copy with an `rt` and a program that are shell scripts."""
+
+import os
+import shutil
+import subprocess
+
+import pytest
+from conftest import TOP
+
+PROGRAM = '#!/bin/sh\necho "$@"\nexit 2\n'
+BUILDS = """#!/bin/sh
+mkdir -p "{0}/out" && cp "{1}" "{0}/out/hdmi_cli" && echo "rt: running out/hdmi_cli"
+"""
+
+
+@pytest.fixture
+def front(tmp_path):
+    """Runs a copy of the script; `rt` is what stands for the kit's command, if anything."""
+    top = tmp_path / "top"
+    (top / "crates" / "hdmi_cli").mkdir(parents=True)
+    (top / "crates.txt").write_text("hdmi_cli\n")
+    (tmp_path / "program").write_text(PROGRAM)
+    (tmp_path / "program").chmod(0o755)
+    shutil.copy(TOP / "vabgrot", top)
+    for folder in ("tools", "docs"):
+        shutil.copytree(TOP / folder, top / folder, ignore=shutil.ignore_patterns("tests", "__pycache__"))
+
+    def run(*words, rt=None):
+        (tmp_path / "path").mkdir(exist_ok=True)
+        if rt:
+            (tmp_path / "path" / "rt").write_text(rt.format(top / "crates" / "hdmi_cli", tmp_path / "program"))
+            (tmp_path / "path" / "rt").chmod(0o755)
+        words = [top / "vabgrot", *words]
+        env = {"PATH": f"{tmp_path / 'path'}:/usr/bin:/bin", "HOME": str(tmp_path / "home")}
+        came = subprocess.run(words, env=env, capture_output=True, text=True, stdin=subprocess.DEVNULL)
+        return came.returncode, came.stdout, came.stderr
+
+    return run
+
+
+def test_no_kit_and_no_build(front):
+    for words in (["check"], ["install"], ["install", "/nowhere"]):
+        status, out, said = front(*words)
+        assert (status, out) == (127, "") and "rt of the Rattle kit is not on the PATH" in said
+    status, out, said = front("check", rt="#!/bin/sh\necho 'rt: no proof'\nexit 1\n")
+    assert (status, out) == (70, "") and said.endswith("rt: no proof\nvabgrot: the build failed\n")
+
+
+def test_built_once_and_run(front):
+    """The program's words, output and status are its own; a second run builds nothing."""
+    status, out, said = front("recover", "link", rt=BUILDS)
+    assert (status, out) == (2, "recover link\n") and "built in" in said
+    assert front("check") == (2, "check\n", "")
+    assert front("install", "a", "b") == (2, "install a b\n", "")
+    for word in ("help", "--help", "-h"):
+        status, out, said = front(word)
+        assert (status, said) == (0, "") and out.startswith("usage: ./vabgrot")
+
+
+def test_installed(front, tmp_path):
+    """Below a prefix, or the home folder's .local; each tool runs from there by its name."""
+    assert front("install", rt=BUILDS)[0] == 0
+    bin = tmp_path / "home" / ".local" / "bin"
+    tools = [path.name for path in (TOP / "tools").iterdir() if path.is_file() and os.access(path, os.X_OK)]
+    assert {path.name for path in bin.iterdir()} == {"vabgrot", *(f"vabgrot-{name}" for name in tools)}
+    assert (bin / "vabgrot").read_text() == PROGRAM
+    for name in tools:
+        came = subprocess.run([bin / f"vabgrot-{name}", "--help"], capture_output=True, text=True)
+        assert came.returncode == 0 and came.stdout.startswith(f"usage: {name}"), came.stderr
+    assert (tmp_path / "home/.local/share/man/man1/vabgrot.1").is_file()
+    assert front("install", tmp_path / "other")[0] == 0 and (tmp_path / "other" / "bin" / "vabgrot-report").exists()
+    (tmp_path / "file").write_text("")
+    assert front("install", tmp_path / "file")[0] == 73

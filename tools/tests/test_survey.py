@@ -1,0 +1,188 @@
+"""tools/survey: many captures judged here, and on the workers of a real Dask scheduler."""
+
+import csv
+import signal
+import subprocess
+import sys
+import time
+from pathlib import Path
+
+import pytest
+
+from conftest import TOP, built
+
+EXAMPLES = TOP / "examples"
+RED = (EXAMPLES / "red.link").read_bytes()
+COUNTS = {"columns": "27", "lines": "1", "pixels": "1"}
+
+
+@pytest.fixture
+def folder(program, tmp_path):
+    """Twelve clean captures, one of a damaged pixel, one of no alignment, one that breaks off, and one of an island."""
+    folder = tmp_path / "captures"
+    (folder / "more").mkdir(parents=True)
+    red = program("make", "link", source=RED)
+    for number in range(12):
+        (folder / f"red{number:02}.tmc").write_bytes(red)
+    island = program("make", "link", source=(EXAMPLES / "island.link").read_bytes())
+    (folder / "more" / "island.tmc").write_bytes(program("damage", "2:140:133", source=island))
+    (folder / "pixel.tmc").write_bytes(program("damage", "2:140:300", source=red))
+    (folder / "none.tmc").write_bytes(b"TMC1\0\0\0\0")
+    (folder / "short.tmc").write_bytes(red[:-1])
+    (folder / "notes.txt").write_bytes(b"no capture")
+    return folder
+
+
+@pytest.fixture
+def slow(tmp_path):
+    """A program that takes its time, and notes for each check which process asked and for which file."""
+    path, log = tmp_path / "slow", tmp_path / "log"
+    path.write_text(
+        "#!/bin/sh\n"
+        f'[ "$1" = check ] && echo "$PPID $(readlink /proc/self/fd/0)" >> {log}\n'
+        f'sleep 0.25\nexec {built()} "$@"\n'
+    )
+    path.chmod(0o755)
+    log.write_bytes(b"")
+    return path, lambda: [line.split(" ", 1) for line in log.read_text().splitlines()]
+
+
+def rows_of(path):
+    with open(path, newline="") as file:
+        return {Path(row["path"]).name: row for row in csv.DictReader(file)}
+
+
+def taken(row, names):
+    return {name: row[name] for name in names}
+
+
+def test_each_capture_is_judged(tool, folder, tmp_path):
+    table = tmp_path / "survey.csv"
+    came = tool("survey", folder, "-o", table, "--program", built(), status=1)
+    assert came.stderr == b"16 captures, 16 judged now: 12 clean, 2 faulty, 1 refused, 1 unaligned\n"
+    rows = rows_of(table)
+    assert len(rows) == 16 and "notes.txt" not in rows
+    assert all(taken(rows[f"red{number:02}.tmc"], COUNTS) == COUNTS for number in range(12))
+    assert taken(rows["pixel.tmc"], ["verdict", "faults", "code"]) == {"verdict": "faulty", "faults": "1", "code": "1"}
+    island = {"verdict": "faulty", "columns": "75", "islands": "1", "packets": "1", "symbols": "1", "mended": "1"}
+    assert taken(rows["island.tmc"], island) == island
+    assert taken(rows["none.tmc"], ["verdict", "note"]) == {"verdict": "unaligned", "note": "no alignment"}
+    assert taken(rows["short.tmc"], ["verdict", "note"]) == {"verdict": "refused", "note": "input: short 109"}
+    page = (tmp_path / "survey.html").read_text()
+    assert "<h1>16 captures: 12 clean, 2 faulty, 1 refused, 1 unaligned</h1>" in page and page.count("<tr class=") == 16
+
+
+def test_what_is_done_and_unchanged_is_kept(tool, folder, program, tmp_path):
+    table, words = tmp_path / "survey.csv", ["--program", built()]
+    tool("survey", folder / "red00.tmc", folder / "red01.tmc", "-o", table, *words)
+    (folder / "red01.tmc").write_bytes((folder / "pixel.tmc").read_bytes())
+    came = tool(
+        "survey", folder / "red00.tmc", folder / "red01.tmc", folder / "red02.tmc", "-o", table, *words, status=1
+    )
+    assert came.stderr == b"3 captures, 2 judged now: 2 clean, 1 faulty\n"
+    came = tool("survey", folder / "red02.tmc", "-o", table, *words)
+    assert came.stderr == b"1 captures, 0 judged now: 1 clean\n" and len(rows_of(table)) == 3
+    with open(table, "r+b") as file:  # the last line breaks off
+        file.truncate(table.stat().st_size - 5)
+    came = tool("survey", folder / "red02.tmc", folder / "red00.tmc", "-o", table, *words)
+    assert came.stderr == b"2 captures, 0 judged now: 2 clean\n" and len(rows_of(table)) == 2
+    came = tool("survey", folder / "red02.tmc", "-o", table, "--anew", *words)
+    assert came.stderr == b"1 captures, 1 judged now: 1 clean\n" and len(rows_of(table)) == 1
+
+
+def waited(until, seconds=60):
+    """What `until` answers as soon as it is something."""
+    end = time.monotonic() + seconds
+    while time.monotonic() < end:
+        if found := until():
+            return found
+        time.sleep(0.05)
+    raise AssertionError("it took too long")
+
+
+def begun(words):
+    return subprocess.Popen([str(word) for word in words], stderr=subprocess.PIPE, stdout=subprocess.DEVNULL)
+
+
+def test_a_stopped_survey_goes_on(tool, folder, slow, tmp_path):
+    program, asked = slow
+    table = tmp_path / "survey.csv"
+    words = [folder, "-o", table, "--program", program]
+    survey = begun([TOP / "tools" / "survey", *words])
+    waited(lambda: table.exists() and table.read_bytes().count(b"\n") > 3)
+    survey.send_signal(signal.SIGKILL)
+    survey.communicate(timeout=60)
+    kept = len(rows_of(table))
+    assert 3 <= kept < 16
+    came = tool("survey", *words, status=1)
+    assert f"16 captures, {16 - kept} judged now: 12 clean".encode() in came.stderr and len(rows_of(table)) == 16
+
+
+@pytest.fixture
+def cluster(tmp_path):
+    """A Dask scheduler on the loopback and two workers: its address, and the workers."""
+    pytest.importorskip("distributed", reason="Debian's package python3-distributed is missing")
+    address = tmp_path / "scheduler.json"
+    dask = [sys.executable, "-m", "distributed.cli."]
+    running = []
+
+    def run(name, *words):
+        command = [*dask[:2], dask[2] + name, *map(str, words), "--no-dashboard"]
+        running.append(subprocess.Popen(command, stdout=subprocess.DEVNULL, stderr=subprocess.DEVNULL, cwd=tmp_path))
+        return running[-1]
+
+    run("dask_scheduler", "--host", "127.0.0.1", "--port", 0, "--scheduler-file", address)
+    waited(lambda: address.exists() and address.stat().st_size)
+    words = ["--scheduler-file", address, "--host", "127.0.0.1", "--nthreads", 1, "--no-nanny"]
+    workers = [run("dask_worker", *words, "--local-directory", tmp_path) for _ in range(2)]
+    import json
+
+    yield json.loads(address.read_text())["address"].removeprefix("tcp://"), workers
+    for process in running:
+        process.kill()
+        process.wait()
+
+
+def test_a_worker_that_dies_loses_no_capture(tool, folder, slow, cluster, tmp_path):
+    program, asked = slow
+    address, workers = cluster
+    table = tmp_path / "survey.csv"
+    words = [folder, "-o", table, "--program", program, "--scheduler", address]
+    survey = begun([TOP / "tools" / "survey", *words])
+    pids = {str(worker.pid) for worker in workers}
+    waited(lambda: {pid for pid, _ in asked()} == pids and asked()[-1][0] == str(workers[0].pid))
+    _, lost = [row for row in asked() if row[0] == str(workers[0].pid)][-1]
+    workers[0].kill()
+    _, told = survey.communicate(timeout=120)
+    assert survey.returncode == 1, told
+    assert told.endswith(b"16 captures, 16 judged now: 12 clean, 2 faulty, 1 refused, 1 unaligned\n")
+    assert {path for _, path in asked()} == {row["path"] for row in rows_of(table).values()}
+    assert [pid for pid, path in asked() if path == lost] == [str(worker.pid) for worker in workers]
+    assert tool("survey", *words, status=1).stderr.startswith(b"16 captures, 0 judged now")
+
+
+def test_what_is_refused(tool, folder, tmp_path):
+    table, words = tmp_path / "survey.csv", ["--program", built()]
+    for places, says in (
+        ([tmp_path / "missing"], b"there is no such file"),
+        ([folder / "more", tmp_path / "missing"], b"there is no such file"),
+        ([tmp_path / "empty"], b"it has no files *.tmc"),
+    ):
+        (tmp_path / "empty").mkdir(exist_ok=True)
+        assert says in tool("survey", *places, "-o", table, *words, status=3).stderr
+    assert b"no such program" in tool("survey", folder, "-o", table, "--program", folder, status=3).stderr
+    table.write_text("a,b\n1,2\n")
+    assert b"no table of a survey" in tool("survey", folder, "-o", table, *words, status=3).stderr
+    assert table.read_text() == "a,b\n1,2\n"
+    for bad in ([folder], ["-o", table], [folder, "-o", tmp_path / "survey.txt"]):
+        tool("survey", *bad, status=2)
+
+
+def test_no_scheduler(tool, folder, tmp_path):
+    pytest.importorskip("distributed", reason="Debian's package python3-distributed is missing")
+    words = [folder, "-o", tmp_path / "survey.csv", "--program", built(), "--scheduler"]
+    assert b"127.0.0.1:1: no scheduler answers" in tool("survey", *words, "127.0.0.1:1", status=3).stderr
+
+
+def test_help(tool):
+    assert tool("survey", "--help").stdout.startswith(b"usage: survey")
