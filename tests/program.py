@@ -15,6 +15,14 @@ USAGE = b"usage: make, recover, check, damage or sample\n"
 SAMPLE = (
     b"columns 1231895\nframes 2\nrows 960\npackets 406\nsamples 1600\nsymbols 406\nmended 800\ncode 1440\nother 0\ndiffer 956\n"
 )
+SAMPLE_OF_20 = (
+    b"columns 8371895\nframes 19\nrows 9120\npackets 3857\nsamples 15200\n"
+    b"symbols 3857\nmended 7600\ncode 9600\nother 0\ndiffer 9084\n"
+)
+# Frames of one row in a mode of four lines with 50 columns each; the raster ends 32 columns after the last of them.
+TINY_MODE = b"mode 2 4 30 14 1 1 1 1 0\n"
+TINY_FRAME = b"row 0102030405ff\nframe 2 1\n"
+MOST_TINY_FRAMES = (20_000_000 - 32) // 200
 
 
 def run(program, words, source=b"", stdin=None, stdout=subprocess.PIPE):
@@ -22,6 +30,28 @@ def run(program, words, source=b"", stdin=None, stdout=subprocess.PIPE):
     given = {"input": source} if stdin is None else {"stdin": stdin}
     ran = subprocess.run([program, *words], stdout=stdout, stderr=subprocess.PIPE, timeout=60, **given)
     return ran.returncode, ran.stdout, ran.stderr
+
+
+def replaced(capture, hits):
+    """A capture of one block with the ten bits of each hit replaced, one after another: as `damage` is to write it."""
+    size = (int.from_bytes(capture[4:8], "big") + 7) // 8
+    lanes = [int.from_bytes(capture[8 + lane * size :][:size], "little") for lane in range(3)]
+    for lane, place, value in hits:
+        lanes[lane] = lanes[lane] & ~(0x3FF << place) | value << place
+    return capture[:8] + b"".join(lane.to_bytes(size, "little") for lane in lanes)
+
+
+def wide(program):
+    """Work at its limits, which want of memory does not excuse."""
+    yield "sample 20", run(program, ["sample", "20"]), (0, SAMPLE_OF_20, b"")
+    capture = run(program, ["make", "link"], b"c 00 2400\nc 04 8\nv ff0000\nc 00 12\nend\n")[1]
+    hits = [(n % 3, 5 * n % 24000, 37 * n % 1024) for n in range(5000)]
+    words = [f"{lane}:{place}:{value:03x}" for lane, place, value in hits]
+    yield "damage of 5,000 words", run(program, ["damage", *words], capture), (0, replaced(capture, hits), b"")
+    status, made, notes = run(program, ["make", "content"], TINY_MODE + MOST_TINY_FRAMES * TINY_FRAME + b"end\n")
+    yield "the longest content", (status, int.from_bytes(made[4:8], "big"), notes), (0, 10 * (200 * MOST_TINY_FRAMES + 32), b"")
+    longer = TINY_MODE + (MOST_TINY_FRAMES + 1) * TINY_FRAME + b"end\n"
+    yield "a longer content", run(program, ["make", "content"], longer), (3, b"", b"input: long\n")
 
 
 def cases(program):
@@ -49,6 +79,7 @@ def cases(program):
         yield f"sample {word}", run(program, ["sample", word]), (2, b"", USAGE)
     with open("/dev/full", "wb") as full:
         yield "sample to a full device", run(program, ["sample", "2"], stdout=full), (5, None, b"write failed\n")
+    yield from wide(program)
     yield "no alignment", run(program, ["recover", "link"], b"TMC1\0\0\0\0"), (7, b"", b"no alignment\n")
 
 

@@ -1,0 +1,60 @@
+#!/usr/bin/env python3
+"""Compares the map of the proofs in docs/DEVELOPING.md with the first lines of the files below crates/*/proofs.
+
+    tests/map.py [--write]
+
+With --write the map is written anew. The last line is 'N passed, M failed', of the crates; the status is 1 where one is unlike."""
+import itertools
+import re
+import sys
+from pathlib import Path
+
+TOP = Path(__file__).resolve().parents[1]
+PAGE = TOP / "docs" / "DEVELOPING.md"
+CRATE = re.compile(r"\*\*`(\w+)`\*\*\n\n((?:- .*\n)+)")
+
+
+def said(path, folder):
+    """What a file's first comment says, as one line of the map; nothing for a file without one, which only names others."""
+    lines = path.read_text(encoding="utf-8").splitlines()
+    comment = itertools.takewhile(lambda line: line.startswith("--"), itertools.dropwhile(lambda line: not line.startswith("--"), lines))
+    words = [line.removeprefix("--").strip() for line in comment]
+    if not words:
+        return ""
+    text = " ".join(words).removesuffix(".")
+    first, _, rest = text.partition(" ")
+    return f"- `{path.relative_to(folder).with_suffix('')}`: {first if first.isupper() and len(first) > 1 else first[:1].lower() + first[1:]} {rest}\n"
+
+
+def maps():
+    """The crates that have lemma files, in their order, and the lines of each."""
+    for line in (TOP / "crates.txt").read_text(encoding="utf-8").splitlines():
+        name = re.match(r"\w+", line)
+        if name is None:
+            continue
+        folder = TOP / "crates" / name[0] / "proofs"
+        files = sorted(path for path in folder.glob("*.antt") if path.stem != "Lib")
+        below = sorted(path for file in files for path in file.with_suffix("").glob("*.antt"))  # of a file that names others
+        lines = "".join(said(path, folder) for path in [*files, *below])
+        if lines:
+            yield name[0], lines
+
+
+def main(words):
+    page = PAGE.read_text(encoding="utf-8")
+    front, title, behind = page.partition("## The map of the proofs\n")
+    wanted = dict(maps())
+    if words == ["--write"]:
+        lead = behind[: behind.index("**`")]
+        PAGE.write_text(front + title + lead + "\n".join(f"**`{crate}`**\n\n{lines}" for crate, lines in wanted.items()), encoding="utf-8")
+        return 0
+    stands = dict(CRATE.findall(behind))
+    unlike = sorted(crate for crate in wanted.keys() | stands.keys() if wanted.get(crate) != stands.get(crate))
+    for crate in unlike:
+        print(f"docs/DEVELOPING.md: the map of {crate} is not that of its files; tests/map.py --write mends it")
+    print(f"{len(wanted.keys() | stands.keys()) - len(unlike)} passed, {len(unlike)} failed")
+    return 1 if unlike else 0
+
+
+if __name__ == "__main__":
+    sys.exit(main(sys.argv[1:]))
