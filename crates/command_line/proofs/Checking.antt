@@ -1,4 +1,4 @@
--- The words of `check`: none, or `--` alone.
+-- The words behind a name that takes no operands, as `check`: none, or `--` alone.
 use Rattle.std.proofs.Common.{◌≡◌, ◌∙◌, ◌⊎◌, inl, inr, sym, ap, refl, subst, Bool, true, false, List, [], ◌∷◌, ◌++◌, codes, Option, Some, None, bytes_eq}
 use Rattle.std.specs.Prelude.{unwrap_or}
 use Rattle.std.specs.List.{flat_map, filter_map}
@@ -13,25 +13,25 @@ use Rattle.command_line.proofs.Takings.{total, level_total, turn_told, or_else_f
 unfoldable pub IsBare : List Text → Type 0
 IsBare words = (words ≡ []) ⊎ (words ≡ codes "--" ∷ [])
 
-bare_by : (word : Text) (words : List Text) → total (codes "check") [] (walk_at [] None idle 1 false) (word ∷ words) ≡ []
+bare_by : (name word : Text) (words : List Text) → total name [] (walk_at [] None idle 1 false) (word ∷ words) ≡ []
     → (dashes : Bool) → bytes_eq word (codes "--") ≡ dashes → (long : Option (Text × Option Text)) → long_of word ≡ long → IsBare (word ∷ words)
 unfolding IsBare total
-bare_by word words h false d (Some p) e =
-    absurd (unknown_turn (codes "check") [] [] None idle 1 word p.0 p.1 d e refl (or_else_first (turn_fault (leaf (codes "check") []) [] (walk_at [] None idle 1 false) word) _ h))
-bare_by word words h false d None e =
-    let passes = or_else_first (turn_fault (leaf (codes "check") []) [] (walk_at [] None idle 1 false) word) _ h in
-    let t = idle_turn (codes "check") [] [] None idle 1 word tt (other_turn (codes "check") [] [] None idle 1 word (λ x. refl) d e passes) in
-    absurd (cc (turn_told (codes "check") [] _ word words _ _ t h).0)
-bare_by word [] h true d long e = inr (ap (λ (w : Text). w ∷ []) ((bytes_eq-Decides word (codes "--")).0 d))
-bare_by word (next ∷ words) h true d long e =
-    let h2 = subst (λ (w : Text). total (codes "check") [] (walk_at [] None idle 1 false) (w ∷ next ∷ words) ≡ []) ((bytes_eq-Decides word (codes "--")).0 d) h in
-    let told = turn_told (codes "check") [] _ (codes "--") (next ∷ words) _ _ (rest_turn (codes "check") [] [] None idle 1) h2 in
-    absurd (cc (turn_told (codes "check") [] _ next words _ _ (trailing_turn (codes "check") [] [] None idle 1 next) told.1).0)
+bare_by name word words h false d (Some p) e =
+    absurd (unknown_turn name [] [] None idle 1 word p.0 p.1 d e refl (or_else_first (turn_fault (leaf name []) [] (walk_at [] None idle 1 false) word) _ h))
+bare_by name word words h false d None e =
+    let passes = or_else_first (turn_fault (leaf name []) [] (walk_at [] None idle 1 false) word) _ h in
+    let t = idle_turn name [] [] None idle 1 word tt (other_turn name [] [] None idle 1 word (λ x. refl) d e passes) in
+    absurd (cc (turn_told name [] _ word words _ _ t h).0)
+bare_by name word [] h true d long e = inr (ap (λ (w : Text). w ∷ []) ((bytes_eq-Decides word (codes "--")).0 d))
+bare_by name word (next ∷ words) h true d long e =
+    let h2 = subst (λ (w : Text). total name [] (walk_at [] None idle 1 false) (w ∷ next ∷ words) ≡ []) ((bytes_eq-Decides word (codes "--")).0 d) h in
+    let told = turn_told name [] _ (codes "--") (next ∷ words) _ _ (rest_turn name [] [] None idle 1) h2 in
+    absurd (cc (turn_told name [] _ next words _ _ (trailing_turn name [] [] None idle 1 next) told.1).0)
 
-pub check_told : (words : List Text) → level_fault (leaf (codes "check") []) [] nothing_held words false [] ≡ [] → IsBare words
+pub bare_told : (name : Text) (words : List Text) → level_fault (leaf name []) [] nothing_held words false [] ≡ [] → IsBare words
 unfolding IsBare
-check_told [] h = inl refl
-check_told (word ∷ words) h = bare_by word words (sym (level_total (codes "check") [] (word ∷ words)) ∙ h) (bytes_eq word (codes "--")) refl (long_of word) refl
+bare_told name [] h = inl refl
+bare_told name (word ∷ words) h = bare_by name word words (sym (level_total name [] (word ∷ words)) ∙ h) (bytes_eq word (codes "--")) refl (long_of word) refl
 
 no_pieces : (pieces : List Piece) (rest : Option (List Text)) → [] ≡ filter_map option_of pieces → [] ≡ filter_map operand_of pieces ++ unwrap_or rest [] → IsBare (flat_map piece_words pieces ++ rest_words rest)
 unfolding IsBare
@@ -41,13 +41,13 @@ no_pieces (apart n v ∷ pieces) rest o p = absurd (cc o)
 no_pieces (joined n v ∷ pieces) rest o p = absurd (cc o)
 no_pieces (operand w ∷ pieces) rest o p = absurd (cc p)
 
-pub check_bare : (words : List Text) → AreArranged words [] [] → IsBare words
-check_bare words a = subst IsBare (sym a.words_are) (no_pieces a.pieces a.rest a.options_are a.operands_are)
+pub arranged_bare : (words : List Text) → AreArranged words [] [] → IsBare words
+arranged_bare words a = subst IsBare (sym a.words_are) (no_pieces a.pieces a.rest a.options_are a.operands_are)
 
-pub check_passes : (words : List Text) → IsBare words → level_fault (leaf (codes "check") []) [] nothing_held words false [] ≡ []
+pub bare_passes : (name : Text) (words : List Text) → IsBare words → level_fault (leaf name []) [] nothing_held words false [] ≡ []
 unfolding IsBare walk_fault walked defaults_fault
-check_passes words (inl e) = subst (λ (ws : List Text). level_fault (leaf (codes "check") []) [] nothing_held ws false [] ≡ []) (sym e) refl
-check_passes words (inr e) = subst (λ (ws : List Text). level_fault (leaf (codes "check") []) [] nothing_held ws false [] ≡ []) (sym e) refl
+bare_passes name words (inl e) = subst (λ (ws : List Text). level_fault (leaf name []) [] nothing_held ws false [] ≡ []) (sym e) refl
+bare_passes name words (inr e) = subst (λ (ws : List Text). level_fault (leaf name []) [] nothing_held ws false [] ≡ []) (sym e) refl
 
 pub bare_arranged : (words : List Text) → IsBare words → AreArranged words [] []
 unfolding IsBare

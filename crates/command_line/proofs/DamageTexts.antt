@@ -28,16 +28,16 @@ lane_by text lane false false true p q r h =
     subst (λ (l : ℕ). (text ≡ (48 + l) ∷ []) × (l < 3)) (same_Some 2 lane (rw (p, q, r) at h)) ((bytes_eq-Decides text (codes "2")).0 r, omega arith)
 lane_by text lane false false false p q r h = absurd (none-some lane (rw (p, q, r) at h))
 
-lane_told : (text : List ℕ) (lane : ℕ) → lane_of text ≡ Some lane → (text ≡ (48 + lane) ∷ []) × (lane < 3)
+pub lane_told : (text : List ℕ) (lane : ℕ) → lane_of text ≡ Some lane → (text ≡ (48 + lane) ∷ []) × (lane < 3)
 lane_told text lane h = lane_by text lane (bytes_eq text (codes "0")) (bytes_eq text (codes "1")) (bytes_eq text (codes "2")) refl refl refl h
 
-lane_found : (lane : ℕ) → lane < 3 → lane_of ((48 + lane) ∷ []) ≡ Some lane
+pub lane_found : (lane : ℕ) → lane < 3 → lane_of ((48 + lane) ∷ []) ≡ Some lane
 lane_found zero lt = refl
 lane_found (suc zero) lt = refl
 lane_found (suc (suc zero)) lt = refl
 lane_found (suc (suc (suc n))) lt = absurd (omega (arith, lt))
 
-lane_digit : (lane : ℕ) → lane < 3 → list_all is_digit ((48 + lane) ∷ []) ≡ true
+pub lane_digit : (lane : ℕ) → lane < 3 → list_all is_digit ((48 + lane) ∷ []) ≡ true
 lane_digit zero lt = refl
 lane_digit (suc zero) lt = refl
 lane_digit (suc (suc zero)) lt = refl

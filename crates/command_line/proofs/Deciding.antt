@@ -8,27 +8,29 @@ use Rattle.std.proofs.lemmas.Option.{same_Some}
 use Rattle.std.proofs.lemmas.Grind.{common_steps}
 use Rattle.std.proofs.lemmas.Bool.{and_parts}
 use Rattle.clap.specs.Walk.{Row, idle, nothing_held, walk_from, walked, rows_after, arg_by_long}
-use Rattle.clap.specs.Faults.{fault_of}
+use Rattle.clap.specs.Faults.{fault_of, level_fault}
 use Rattle.clap.specs.Simple.{subcommand_of}
-use Rattle.command_line.specs.Numbers.{number_of, is_digit, IsNumber, AreThree}
+use Rattle.command_line.specs.Numbers.{number_of, is_digit, IsNumber, AreThree, digit_text}
 use Rattle.command_line.specs.Damages.{IsDamage, AreDamages}
+use Rattle.command_line.specs.Slips.{IsSlip}
 use Rattle.command_line.specs.Grammar.{Text, Piece, apart, joined, operand, piece_words, ArePlain, option_of, operand_of, rest_words, is_same, values_of, listed, AreArranged}
 use Rattle.command_line.specs.Commands.{IsOffset, AreSkews, IsLimit, IsVersion, IsTap, Means, IsCommand}
 use Rattle.command_line.specs.Forms.{option_id, vabgrot, AreFound, Judges}
 use Rattle.command_line.specs.declared.options.OptionName.{OptionName}
 use Rattle.command_line.specs.declared.options.OptionName.TheVariants.{Offset, Skew, Bits, Version}
 use Rattle.command_line.specs.declared.damage.DamageWord.{DamageWord}
+use Rattle.command_line.specs.declared.slip.SlipWord.{SlipWord}
 use Rattle.command_line.specs.declared.tap.TapWords.{TapWords}
 use Rattle.command_line.specs.declared.command.Command.{Command}
-use Rattle.command_line.specs.declared.command.Command.TheVariants.{MakeLink, MakeContent, RecoverLink, RecoverContent, Check, Damage, Sample}
+use Rattle.command_line.specs.declared.command.Command.TheVariants.{MakeLink, MakeContent, MakeDvi, RecoverLink, RecoverContent, RecoverTrack, RecoverBiphase, RecoverDvi, Check, Damage, Slip, ReadBiphase, Relay, Sample}
 use Rattle.command_line.proofs.Triples.{digits_are}
 use Rattle.command_line.proofs.FoundRows.{option_built, is_itself, nothing_found}
-use Rattle.command_line.proofs.Turns.{IsForm, walk_at, place}
+use Rattle.command_line.proofs.Turns.{IsForm, leaf, walk_at, place}
 use Rattle.command_line.proofs.Takings.{last, level_total, finished_rows, taken}
 use Rattle.command_line.proofs.Accepting.{AreFew, Once, Accepts, pieces_found}
-use Rattle.command_line.proofs.Programs.{make_form, single_form, several_form, make_long, Sub, to_make, to_recover, to_check, to_damage, to_sample, sub_name, sub_rules, sub_fault, sub_rows}
+use Rattle.command_line.proofs.Programs.{make_form, single_form, several_form, make_long, Sub, to_make, to_recover, to_check, to_damage, to_slip, to_read, to_relay, to_sample, sub_name, sub_rules, sub_fault, sub_rows}
 use Rattle.command_line.proofs.Names.{named_words}
-use Rattle.command_line.proofs.Checking.{IsBare, check_told, check_bare, check_passes}
+use Rattle.command_line.proofs.Checking.{IsBare, bare_told, arranged_bare, bare_passes}
 
 -- ---- what is taken
 
@@ -69,33 +71,37 @@ form_taken s behind many has f named h =
     allows true e forbids = inl (named e)
     allows false e forbids = inr (forbids e)
 
-check_taken : (behind : List Text) → fault_of vabgrot (codes "check" ∷ behind) ≡ [] → Accepted (codes "check" ∷ behind)
+-- a name that takes no operands and no options
+bare_taken : (name : Text) (behind : List Text) → ((words : List Text) → subcommand_of vabgrot (name ∷ words) ≡ Some (name, rows_after [] [] words)) → IsBare behind → Accepted (name ∷ behind)
 unfolding IsBare walked
-check_taken behind h = go behind (check_told behind (sym (sub_fault to_check behind) ∙ h))
+bare_taken name behind found is = go behind is
   where
-    bare : (rest : Option (List Text)) (words : List Text) → words ≡ rest_words rest → [] ≡ unwrap_or rest [] → rows_after [] [] words ≡ [] → Accepted (codes "check" ∷ words)
+    bare : (rest : Option (List Text)) (words : List Text) → words ≡ rest_words rest → [] ≡ unwrap_or rest [] → rows_after [] [] words ≡ [] → Accepted (name ∷ words)
     bare rest words e none rows = record {
-      name = codes "check";
+      name = name;
       behind = words;
       rows = rows_after [] [] words;
       pieces = [];
       rest = rest;
       words_are = refl;
-      rows_are = sub_rows to_check words;
+      rows_are = found words;
       behind_are = e;
       allowed = inr refl;
       found = subst (λ (os : List Text). AreFound (rows_after [] [] words) [] os) none (subst (λ (rs : List Row). AreFound rs [] []) (sym rows) nothing_found);
     }
 
-    go : (words : List Text) → (words ≡ []) ⊎ (words ≡ codes "--" ∷ []) → Accepted (codes "check" ∷ words)
-    go words (inl e) = subst (λ (ws : List Text). Accepted (codes "check" ∷ ws)) (sym e) (bare None [] refl refl refl)
-    go words (inr e) = subst (λ (ws : List Text). Accepted (codes "check" ∷ ws)) (sym e) (bare (Some []) (codes "--" ∷ []) refl refl refl)
+    go : (words : List Text) → (words ≡ []) ⊎ (words ≡ codes "--" ∷ []) → Accepted (name ∷ words)
+    go words (inl e) = subst (λ (ws : List Text). Accepted (name ∷ ws)) (sym e) (bare None [] refl refl refl)
+    go words (inr e) = subst (λ (ws : List Text). Accepted (name ∷ ws)) (sym e) (bare (Some []) (codes "--" ∷ []) refl refl refl)
 
 sub_taken : (s : Sub) (behind : List Text) → fault_of vabgrot (sub_name s ∷ behind) ≡ [] → Accepted (sub_name s ∷ behind)
 sub_taken to_make behind h = form_taken to_make behind false true make_form (λ e. refl) h
-sub_taken to_recover behind h = form_taken to_recover behind false false single_form (λ e. absurd (true≢false (sym e))) h
-sub_taken to_check behind h = check_taken behind h
+sub_taken to_recover behind h = form_taken to_recover behind true false several_form (λ e. absurd (true≢false (sym e))) h
+sub_taken to_check behind h = bare_taken (codes "check") behind (sub_rows to_check) (bare_told (codes "check") behind (sym (sub_fault to_check behind) ∙ h))
 sub_taken to_damage behind h = form_taken to_damage behind true false several_form (λ e. absurd (true≢false (sym e))) h
+sub_taken to_slip behind h = form_taken to_slip behind false false single_form (λ e. absurd (true≢false (sym e))) h
+sub_taken to_read behind h = form_taken to_read behind false false single_form (λ e. absurd (true≢false (sym e))) h
+sub_taken to_relay behind h = bare_taken (codes "relay") behind (sub_rows to_relay) (bare_told (codes "relay") behind (sym (sub_fault to_relay behind) ∙ h))
 sub_taken to_sample behind h = form_taken to_sample behind false false single_form (λ e. absurd (true≢false (sym e))) h
 
 pub accepted : (words : List Text) → fault_of vabgrot words ≡ [] → Accepted words
@@ -147,6 +153,9 @@ tap_once options tap is Version = (is.version_text, is.version_given)
 one_operand : (operands : List Text) (o : Text) → operands ≡ o ∷ [] → AreFew false operands
 one_operand operands o e = record { first = o; others = []; operands_are = e; few = inr refl }
 
+front_operand : (operands : List Text) (o : Text) (os : List Text) → operands ≡ o ∷ os → AreFew true operands
+front_operand operands o os e = record { first = o; others = os; operands_are = e; few = inl refl }
+
 some_operands : (operands : List Text) → 0 < length operands → AreFew true operands
 some_operands [] some = absurd (omega (arith, some))
 some_operands (o ∷ os) some = record { first = o; others = os; operands_are = refl; few = inl refl }
@@ -157,30 +166,25 @@ make_found behind options operands o tap a one is =
     form_found to_make behind options operands false true make_form a (inl (refl, make_long)) (tap_once options tap is) few
     (accepts_by to_make behind options operands false true make_form a (inl (refl, make_long)) (tap_once options tap is) few)
 
-recover_found : (behind : List Text) (options : List (OptionName × Text)) (operands : List Text) (o : Text) → AreArranged behind options operands → operands ≡ o ∷ [] → options ≡ [] → IsTaken to_recover behind options operands
-recover_found behind options operands o a one none =
-    let few = one_operand operands o one in
-    form_found to_recover behind options operands false false single_form a (inr none) (no_options_once options none) few
-    (accepts_by to_recover behind options operands false false single_form a (inr none) (no_options_once options none) few)
+-- operands and no options
+operands_found : (s : Sub) (many : Bool) (behind : List Text) (options : List (OptionName × Text)) (operands : List Text) → IsForm (sub_rules s) many false → AreArranged behind options operands → AreFew many operands
+    → options ≡ [] → IsTaken s behind options operands
+operands_found s true behind options operands f a few none =
+    form_found s behind options operands true false f a (inr none) (no_options_once options none) few
+    (accepts_by s behind options operands true false f a (inr none) (no_options_once options none) few)
+operands_found s false behind options operands f a few none =
+    form_found s behind options operands false false f a (inr none) (no_options_once options none) few
+    (accepts_by s behind options operands false false f a (inr none) (no_options_once options none) few)
 
-sample_found : (behind : List Text) (options : List (OptionName × Text)) (operands : List Text) (o : Text) → AreArranged behind options operands → operands ≡ o ∷ [] → options ≡ [] → IsTaken to_sample behind options operands
-sample_found behind options operands o a one none =
-    let few = one_operand operands o one in
-    form_found to_sample behind options operands false false single_form a (inr none) (no_options_once options none) few
-    (accepts_by to_sample behind options operands false false single_form a (inr none) (no_options_once options none) few)
-
-damage_found : (behind : List Text) (options : List (OptionName × Text)) (operands : List Text) → AreArranged behind options operands → 0 < length operands → options ≡ [] → IsTaken to_damage behind options operands
-damage_found behind options operands a some none =
-    let few = some_operands operands some in
-    form_found to_damage behind options operands true false several_form a (inr none) (no_options_once options none) few
-    (accepts_by to_damage behind options operands true false several_form a (inr none) (no_options_once options none) few)
-
-check_found : (behind : List Text) (options : List (OptionName × Text)) (operands : List Text) → AreArranged behind options operands → operands ≡ [] → options ≡ [] → IsTaken to_check behind options operands
-unfolding IsTaken IsBare walked
-check_found behind options operands a bare none =
+-- neither operands nor options
+bare_found : (name : Text) (behind : List Text) (options : List (OptionName × Text)) (operands : List Text)
+    → ((words : List Text) → fault_of vabgrot (name ∷ words) ≡ level_fault (leaf name []) [] nothing_held words false [])
+    → AreArranged behind options operands → operands ≡ [] → options ≡ [] → (fault_of vabgrot (name ∷ behind) ≡ []) × AreFound (rows_after [] [] behind) options operands
+unfolding IsBare walked
+bare_found name behind options operands fault a bare none =
     let plain = subst (λ (os : List (OptionName × Text)). AreArranged behind os []) none (subst (λ (os : List Text). AreArranged behind options os) bare a) in
-    let is = check_bare behind plain in (
-      sub_fault to_check behind ∙ check_passes behind is,
+    let is = arranged_bare behind plain in (
+      fault behind ∙ bare_passes name behind is,
       subst (λ (os : List (OptionName × Text)). AreFound (rows_after [] [] behind) os operands) (sym none)
           (subst (λ (os : List Text). AreFound (rows_after [] [] behind) [] os) (sym bare) (subst (λ (rs : List Row). AreFound rs [] []) (sym (rows behind is)) nothing_found)),
     )
@@ -188,6 +192,14 @@ check_found behind options operands a bare none =
     rows : (words : List Text) → (words ≡ []) ⊎ (words ≡ codes "--" ∷ []) → rows_after [] [] words ≡ []
     rows words (inl e) = ap (rows_after [] []) e
     rows words (inr e) = ap (rows_after [] []) e
+
+check_found : (behind : List Text) (options : List (OptionName × Text)) (operands : List Text) → AreArranged behind options operands → operands ≡ [] → options ≡ [] → IsTaken to_check behind options operands
+unfolding IsTaken
+check_found behind options operands a bare none = bare_found (codes "check") behind options operands (sub_fault to_check) a bare none
+
+relay_found : (behind : List Text) (options : List (OptionName × Text)) (operands : List Text) → AreArranged behind options operands → operands ≡ [] → options ≡ [] → IsTaken to_relay behind options operands
+unfolding IsTaken
+relay_found behind options operands a bare none = bare_found (codes "relay") behind options operands (sub_fault to_relay) a bare none
 
 -- the words of a command are taken
 pub record Reads (words : List Text) (name : Text) (options : List (OptionName × Text)) (operands : List Text) : Type 0 where
@@ -212,13 +224,34 @@ reads s words name behind options operands words_are is t allowed =
 
 reads_by : (words : List Text) (name : Text) (behind : List Text) (options : List (OptionName × Text)) (operands : List Text) (c : Command) → words ≡ name ∷ behind → AreArranged behind options operands
     → Means c name options operands → Reads words name options operands
-reads_by words name behind options operands (MakeLink tap) is a m = reads to_make words name behind options operands is m.0 (make_found behind options operands (codes "link") tap a m.1 m.2) (inl m.0)
-reads_by words name behind options operands (MakeContent tap) is a m = reads to_make words name behind options operands is m.0 (make_found behind options operands (codes "content") tap a m.1 m.2) (inl m.0)
-reads_by words name behind options operands RecoverLink is a m = reads to_recover words name behind options operands is m.0 (recover_found behind options operands (codes "link") a m.1 m.2) (inr m.2)
-reads_by words name behind options operands RecoverContent is a m = reads to_recover words name behind options operands is m.0 (recover_found behind options operands (codes "content") a m.1 m.2) (inr m.2)
-reads_by words name behind options operands Check is a m = reads to_check words name behind options operands is m.0 (check_found behind options operands a m.1 m.2) (inr m.2)
-reads_by words name behind options operands (Damage damages) is a m = reads to_damage words name behind options operands is m.0 (damage_found behind options operands a m.1.1 m.2) (inr m.2)
-reads_by words name behind options operands (Sample n) is a m = reads to_sample words name behind options operands is m.0 (sample_found behind options operands m.1.0 a m.1.1 m.2) (inr m.2)
+reads_by words name behind options operands (MakeLink tap) is a m =
+    reads to_make words name behind options operands is m.0 (make_found behind options operands (codes "link") tap a m.1 m.2) (inl m.0)
+reads_by words name behind options operands (MakeContent tap) is a m =
+    reads to_make words name behind options operands is m.0 (make_found behind options operands (codes "content") tap a m.1 m.2) (inl m.0)
+reads_by words name behind options operands (MakeDvi tap) is a m =
+    reads to_make words name behind options operands is m.0 (make_found behind options operands (codes "dvi") tap a m.1 m.2) (inl m.0)
+reads_by words name behind options operands RecoverLink is a m =
+    reads to_recover words name behind options operands is m.0 (operands_found to_recover true behind options operands several_form a (front_operand operands (codes "link") [] m.1) m.2) (inr m.2)
+reads_by words name behind options operands RecoverContent is a m =
+    reads to_recover words name behind options operands is m.0 (operands_found to_recover true behind options operands several_form a (front_operand operands (codes "content") [] m.1) m.2) (inr m.2)
+reads_by words name behind options operands RecoverTrack is a m =
+    reads to_recover words name behind options operands is m.0 (operands_found to_recover true behind options operands several_form a (front_operand operands (codes "track") [] m.1) m.2) (inr m.2)
+reads_by words name behind options operands (RecoverBiphase k) is a m =
+    reads to_recover words name behind options operands is m.0 (operands_found to_recover true behind options operands several_form a (front_operand operands (codes "biphase") (digit_text k ∷ []) m.1.0) m.2) (inr m.2)
+reads_by words name behind options operands RecoverDvi is a m =
+    reads to_recover words name behind options operands is m.0 (operands_found to_recover true behind options operands several_form a (front_operand operands (codes "dvi") [] m.1) m.2) (inr m.2)
+reads_by words name behind options operands Check is a m =
+    reads to_check words name behind options operands is m.0 (check_found behind options operands a m.1 m.2) (inr m.2)
+reads_by words name behind options operands (Damage damages) is a m =
+    reads to_damage words name behind options operands is m.0 (operands_found to_damage true behind options operands several_form a (some_operands operands m.1.1) m.2) (inr m.2)
+reads_by words name behind options operands (Slip slip) is a m =
+    reads to_slip words name behind options operands is m.0 (operands_found to_slip false behind options operands single_form a (one_operand operands m.1.0 m.1.1) m.2) (inr m.2)
+reads_by words name behind options operands ReadBiphase is a m =
+    reads to_read words name behind options operands is m.0 (operands_found to_read false behind options operands single_form a (one_operand operands (codes "biphase") m.1) m.2) (inr m.2)
+reads_by words name behind options operands Relay is a m =
+    reads to_relay words name behind options operands is m.0 (relay_found behind options operands a m.1 m.2) (inr m.2)
+reads_by words name behind options operands (Sample n) is a m =
+    reads to_sample words name behind options operands is m.0 (operands_found to_sample false behind options operands single_form a (one_operand operands m.1.0 m.1.1) m.2) (inr m.2)
 
 pub command_reads : (words : List Text) (c : Command) (k : IsCommand words c) → Reads words k.name k.options k.operands
 command_reads words c k = reads_by words k.name k.behind k.options k.operands c k.words_are k.arranged k.means
@@ -247,11 +280,14 @@ number_plain most (x ∷ xs) n is = digit_plain x (and_parts (is_digit x) (list_
 three_plain : (most : ℕ) (t : Text) (a b c : ℕ) → AreThree most t a b c → starts_with_minus t ≡ false
 three_plain most t a b c is = ap starts_with_minus is.text_is ∙ digits_plain is.first is.second is.third a is.first_is.digits
 
-lane_plain : (lane : ℕ) (rest : Text) → starts_with_minus ((48 + lane) ∷ rest) ≡ false
-lane_plain lane rest = grind (arith, common_steps)
+digit_first_plain : (n : ℕ) (rest : Text) → starts_with_minus ((48 + n) ∷ rest) ≡ false
+digit_first_plain n rest = grind (arith, common_steps)
 
 damage_plain : (t : Text) (damage : DamageWord) → IsDamage t damage → starts_with_minus t ≡ false
-damage_plain t damage is = ap starts_with_minus is.text_is ∙ lane_plain damage.lane (codes ":" ++ is.place_text ++ codes ":" ++ is.digits)
+damage_plain t damage is = ap starts_with_minus is.text_is ∙ digit_first_plain damage.lane (codes ":" ++ is.place_text ++ codes ":" ++ is.digits)
+
+slip_plain : (t : Text) (slip : SlipWord) → IsSlip t slip → starts_with_minus t ≡ false
+slip_plain t slip is = ap starts_with_minus is.text_is ∙ digit_first_plain slip.lane (codes ":" ++ is.place_text ++ codes ":" ++ digit_text slip.bits)
 
 damages_plain : (ts : List Text) (damages : List DamageWord) → AreDamages ts damages → TextsPlain ts
 unfolding TextsPlain
@@ -318,10 +354,17 @@ means_plain : (c : Command) (name : Text) (options : List (OptionName × Text)) 
 unfolding TextsPlain
 means_plain (MakeLink tap) name options operands m = (tap_plain options tap m.2, one_text_plain operands (codes "link") m.1 refl)
 means_plain (MakeContent tap) name options operands m = (tap_plain options tap m.2, one_text_plain operands (codes "content") m.1 refl)
+means_plain (MakeDvi tap) name options operands m = (tap_plain options tap m.2, one_text_plain operands (codes "dvi") m.1 refl)
 means_plain RecoverLink name options operands m = (no_values_plain options m.2, one_text_plain operands (codes "link") m.1 refl)
 means_plain RecoverContent name options operands m = (no_values_plain options m.2, one_text_plain operands (codes "content") m.1 refl)
+means_plain RecoverTrack name options operands m = (no_values_plain options m.2, one_text_plain operands (codes "track") m.1 refl)
+means_plain (RecoverBiphase k) name options operands m = (no_values_plain options m.2, subst TextsPlain (sym m.1.0) (refl, (digit_first_plain k [], tt)))
+means_plain RecoverDvi name options operands m = (no_values_plain options m.2, one_text_plain operands (codes "dvi") m.1 refl)
 means_plain Check name options operands m = (no_values_plain options m.2, subst TextsPlain (sym m.1) tt)
 means_plain (Damage damages) name options operands m = (no_values_plain options m.2, damages_plain operands damages m.1.0)
+means_plain (Slip slip) name options operands m = (no_values_plain options m.2, one_text_plain operands m.1.0 m.1.1 (slip_plain m.1.0 slip m.1.2))
+means_plain ReadBiphase name options operands m = (no_values_plain options m.2, one_text_plain operands (codes "biphase") m.1 refl)
+means_plain Relay name options operands m = (no_values_plain options m.2, subst TextsPlain (sym m.1) tt)
 means_plain (Sample n) name options operands m = (no_values_plain options m.2, one_text_plain operands m.1.0 m.1.1 (number_plain 20 m.1.0 n m.1.2))
 
 texts_front : (xs ys : List Text) → TextsPlain (xs ++ ys) → TextsPlain xs

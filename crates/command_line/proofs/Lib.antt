@@ -1,6 +1,7 @@
 mod Digits
 mod Triples
 mod DamageTexts
+mod SlipTexts
 mod GivenOptions
 mod Taps
 mod Meanings

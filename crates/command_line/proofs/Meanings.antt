@@ -1,16 +1,20 @@
 -- What a command's name, options and operands ask for.
-use Rattle.std.proofs.Common.{◌≡◌, ◌∙◌, sym, ap, refl, subst, arith, ℕ, ◌<◌, ◌≤◌, List, [], ◌∷◌, length, get_or, Some, Bor, true≢false, false}
+use Rattle.std.proofs.Common.{◌≡◌, ◌∙◌, sym, ap, refl, subst, arith, ℕ, ◌<◌, ◌≤◌, List, [], ◌∷◌, length, get_or, Some, None, Bor, true≢false, false}
 use Rattle.std.specs.Prelude.{codes}
 use Rattle.std.specs.Str.{bytes_eq}
 use Rattle.std.proofs.lemmas.Slice.Eq.{bytes_eq-Decides}
-use Rattle.command_line.specs.Parsing.{within}
+use Rattle.std.proofs.lemmas.Option.{none-some}
+use Rattle.command_line.specs.Numbers.{digit_text}
+use Rattle.command_line.specs.Parsing.{within, digit_within, slip_of}
+use Rattle.command_line.specs.Slips.{IsSlip}
 use Rattle.command_line.specs.Grammar.{Text, texts}
 use Rattle.command_line.specs.Commands.{IsTap, Means}
 use Rattle.command_line.specs.declared.options.OptionName.{OptionName}
 use Rattle.command_line.specs.declared.tap.TapWords.{TapWords}
 use Rattle.command_line.specs.declared.command.Command.{Command}
-use Rattle.command_line.specs.declared.command.Command.TheVariants.{MakeLink, MakeContent, RecoverLink, RecoverContent, Check, Damage, Sample}
+use Rattle.command_line.specs.declared.command.Command.TheVariants.{MakeLink, MakeContent, MakeDvi, RecoverLink, RecoverContent, RecoverTrack, RecoverBiphase, RecoverDvi, Check, Damage, Slip, ReadBiphase, Relay, Sample}
 use Rattle.command_line.proofs.Triples.{number_found}
+use Rattle.command_line.proofs.SlipTexts.{digit_found, slip_found}
 
 -- texts that a test tells apart
 pub apart : (a b : Text) → bytes_eq a b ≡ false → a ≡ b → ⊥
@@ -22,33 +26,89 @@ one_text [] d some one = absurd (omega arith)
 one_text (x ∷ []) d some one = refl
 one_text (x ∷ y ∷ rest) d some one = absurd (omega arith)
 
+-- the name of a command
+pub name_of : Command → Text
+name_of (MakeLink tap) = codes "make"
+name_of (MakeContent tap) = codes "make"
+name_of (MakeDvi tap) = codes "make"
+name_of RecoverLink = codes "recover"
+name_of RecoverContent = codes "recover"
+name_of RecoverTrack = codes "recover"
+name_of (RecoverBiphase k) = codes "recover"
+name_of RecoverDvi = codes "recover"
+name_of Check = codes "check"
+name_of (Damage damages) = codes "damage"
+name_of (Slip slip) = codes "slip"
+name_of ReadBiphase = codes "read"
+name_of Relay = codes "relay"
+name_of (Sample n) = codes "sample"
+
+-- the words of a command begin with its name
+pub named : (c : Command) (name : Text) (options : List (OptionName × Text)) (operands : List Text) → Means c name options operands → name ≡ name_of c
+unfolding name_of
+named (MakeLink tap) name options operands m = m.0
+named (MakeContent tap) name options operands m = m.0
+named (MakeDvi tap) name options operands m = m.0
+named (Damage damages) name options operands m = m.0
+named (Slip slip) name options operands m = m.0
+named (Sample n) name options operands m = m.0
+named (RecoverBiphase k) name options operands m = m.0
+named c name options operands m = m.0
+
+-- a command of another name
+abbrev other_name : (c : Command) (name : Text) (options : List (OptionName × Text)) (operands : List Text) → bytes_eq name (name_of c) ≡ false → Means c name options operands → ⊥
+other_name c name options operands differ m = apart name (name_of c) differ (named c name options operands m)
+
 -- no tap, no `make`
 pub no_tap : (options : List (OptionName × Text)) (operands : List Text) → ((tap : TapWords) → IsTap options tap → ⊥) → (c : Command) → Means c (codes "make") options operands → ⊥
+unfolding name_of
 no_tap options operands none (MakeLink tap) m = none tap m.2
 no_tap options operands none (MakeContent tap) m = none tap m.2
-no_tap options operands none RecoverLink m = apart (codes "make") (codes "recover") refl m.0
-no_tap options operands none RecoverContent m = apart (codes "make") (codes "recover") refl m.0
-no_tap options operands none Check m = apart (codes "make") (codes "check") refl m.0
-no_tap options operands none (Damage damages) m = apart (codes "make") (codes "damage") refl m.0
-no_tap options operands none (Sample n) m = apart (codes "make") (codes "sample") refl m.0
+no_tap options operands none (MakeDvi tap) m = none tap m.2
+no_tap options operands none c m = other_name c (codes "make") options operands refl m
 
-head_of : List Text → Text
+-- the first text, and the second
+unfoldable pub head_of : List Text → Text
 head_of [] = []
 head_of (t ∷ ts) = t
 
-pub same_head : (a b : Text) → a ∷ [] ≡ b ∷ [] → a ≡ b
+second_of : List Text → Text
+second_of [] = []
+second_of (t ∷ ts) = head_of ts
+
+pub same_head : (a b : Text) (us vs : List Text) → a ∷ us ≡ b ∷ vs → a ≡ b
 unfolding head_of
-same_head a b e = ap head_of e
+same_head a b us vs e = ap head_of e
+
+pub same_second : (a b c d : Text) (us vs : List Text) → a ∷ c ∷ us ≡ b ∷ d ∷ vs → c ≡ d
+unfolding second_of head_of
+same_second a b c d us vs e = ap second_of e
 
 -- no number of frames, no `sample`
 pub no_sample : (operands : List Text) (t : Text) → operands ≡ t ∷ [] → ((n : ℕ) → within 20 t ≡ Some n → 2 ≤ n → ⊥)
     → (c : Command) → Means c (codes "sample") [] operands → ⊥
-no_sample operands t is none (MakeLink tap) m = apart (codes "sample") (codes "make") refl m.0
-no_sample operands t is none (MakeContent tap) m = apart (codes "sample") (codes "make") refl m.0
-no_sample operands t is none RecoverLink m = apart (codes "sample") (codes "recover") refl m.0
-no_sample operands t is none RecoverContent m = apart (codes "sample") (codes "recover") refl m.0
-no_sample operands t is none Check m = apart (codes "sample") (codes "check") refl m.0
-no_sample operands t is none (Damage damages) m = apart (codes "sample") (codes "damage") refl m.0
+unfolding name_of
 no_sample operands t is none (Sample n) m =
-    let same : m.1.0 ≡ t = same_head m.1.0 t (sym m.1.1 ∙ is) in
+    let same : m.1.0 ≡ t = same_head m.1.0 t [] [] (sym m.1.1 ∙ is) in
     none n (subst (λ (u : Text). within 20 u ≡ Some n) same (number_found 20 m.1.0 n m.1.2)) m.1.3
+no_sample operands t is none c m = other_name c (codes "sample") [] operands refl m
+
+-- no word of a slip, no `slip`
+pub no_slip : (operands : List Text) (t : Text) → operands ≡ t ∷ [] → slip_of t ≡ None → (c : Command) → Means c (codes "slip") [] operands → ⊥
+unfolding name_of
+no_slip operands t is none (Slip slip) m =
+    let same : m.1.0 ≡ t = same_head m.1.0 t [] [] (sym m.1.1 ∙ is) in
+    none-some slip (sym none ∙ slip_found t slip (subst (λ (u : Text). IsSlip u slip) same m.1.2))
+no_slip operands t is none c m = other_name c (codes "slip") [] operands refl m
+
+-- no digit of a pair, no `recover` of two operands
+pub no_pair : (kind t : Text) → digit_within 0 3 t ≡ None → (c : Command) → Means c (codes "recover") [] (kind ∷ t ∷ []) → ⊥
+unfolding name_of
+no_pair kind t none (RecoverBiphase k) m =
+    let same : t ≡ digit_text k = same_second kind (codes "biphase") t (digit_text k) [] [] m.1.0 in
+    none-some k (sym none ∙ ap (digit_within 0 3) same ∙ digit_found 0 3 k (omega arith) m.1.1)
+no_pair kind t none RecoverLink m = absurd (cc m.1)
+no_pair kind t none RecoverContent m = absurd (cc m.1)
+no_pair kind t none RecoverTrack m = absurd (cc m.1)
+no_pair kind t none RecoverDvi m = absurd (cc m.1)
+no_pair kind t none c m = other_name c (codes "recover") [] (kind ∷ t ∷ []) refl m

@@ -13,7 +13,7 @@ use Rattle.clap.specs.declared.error.kind.ErrorKind.TheVariants as kind
 use Rattle.command_line.specs.Grammar.{Text}
 use Rattle.command_line.specs.Forms.{vabgrot}
 use Rattle.command_line.proofs.Takings.{or_else_first}
-use Rattle.command_line.proofs.Programs.{Sub, to_make, to_recover, to_check, to_damage, to_sample, sub_name, whole, names, start}
+use Rattle.command_line.proofs.Programs.{Sub, to_make, to_recover, to_check, to_damage, to_slip, to_read, to_relay, to_sample, sub_name, whole, names, start}
 
 no_kind : (k : ErrorKind) (ks : Kinds) → k ∷ ks ≡ [] → ⊥
 no_kind k ks h = cc h
@@ -71,9 +71,9 @@ no_name_fails word words false d met h =
     let looks : met_fault word None ≡ [] = ap (met_fault word) (sym met) ∙ turn in
     look_fails word (long_of word) (ap (λ (b : Bool). look_fault word b (long_of word)) (sym d) ∙ looks)
 
-abbrev met_by : Bool → Bool → Bool → Bool → Bool → Option (Text × List Text)
-met_by a b c d e =
-    if a || false then Some (codes "make", []) else (if b || false then Some (codes "recover", []) else (if c || false then Some (codes "check", []) else (if d || false then Some (codes "damage", []) else (if e || false then Some (codes "sample", []) else None))))
+abbrev met_by : Bool → Bool → Bool → Bool → Bool → Bool → Bool → Bool → Option (Text × List Text)
+met_by a b c d e f g h =
+    if a || false then Some (codes "make", []) else (if b || false then Some (codes "recover", []) else (if c || false then Some (codes "check", []) else (if d || false then Some (codes "damage", []) else (if e || false then Some (codes "slip", []) else (if f || false then Some (codes "read", []) else (if g || false then Some (codes "relay", []) else (if h || false then Some (codes "sample", []) else None)))))))
 
 -- the command that words begin with
 pub record Names (words : List Text) : Type 0 where
@@ -81,23 +81,31 @@ pub record Names (words : List Text) : Type 0 where
   pub behind : List Text
   pub words_are : words ≡ sub_name sub ∷ behind
 
-name_by : (word : Text) (words : List Text) (a b c d e : Bool) → bytes_eq (codes "make") word ≡ a → bytes_eq (codes "recover") word ≡ b → bytes_eq (codes "check") word ≡ c
-    → bytes_eq (codes "damage") word ≡ d → bytes_eq (codes "sample") word ≡ e → fault_of vabgrot (word ∷ words) ≡ [] → Names (word ∷ words)
-name_by word words true b c d e p q r s t h =
+name_by : (word : Text) (words : List Text) (a b c d e f g h : Bool)
+    → bytes_eq (codes "make") word ≡ a → bytes_eq (codes "recover") word ≡ b → bytes_eq (codes "check") word ≡ c
+    → bytes_eq (codes "damage") word ≡ d → bytes_eq (codes "slip") word ≡ e → bytes_eq (codes "read") word ≡ f
+    → bytes_eq (codes "relay") word ≡ g → bytes_eq (codes "sample") word ≡ h → fault_of vabgrot (word ∷ words) ≡ [] → Names (word ∷ words)
+name_by word words true b c d e f g h p q r s t u v x faults =
     record { sub = to_make; behind = words; words_are = ap (λ (w : Text). w ∷ words) (sym ((bytes_eq-Decides (codes "make") word).0 p)) }
-name_by word words false true c d e p q r s t h =
+name_by word words false true c d e f g h p q r s t u v x faults =
     record { sub = to_recover; behind = words; words_are = ap (λ (w : Text). w ∷ words) (sym ((bytes_eq-Decides (codes "recover") word).0 q)) }
-name_by word words false false true d e p q r s t h =
+name_by word words false false true d e f g h p q r s t u v x faults =
     record { sub = to_check; behind = words; words_are = ap (λ (w : Text). w ∷ words) (sym ((bytes_eq-Decides (codes "check") word).0 r)) }
-name_by word words false false false true e p q r s t h =
+name_by word words false false false true e f g h p q r s t u v x faults =
     record { sub = to_damage; behind = words; words_are = ap (λ (w : Text). w ∷ words) (sym ((bytes_eq-Decides (codes "damage") word).0 s)) }
-name_by word words false false false false true p q r s t h =
-    record { sub = to_sample; behind = words; words_are = ap (λ (w : Text). w ∷ words) (sym ((bytes_eq-Decides (codes "sample") word).0 t)) }
-name_by word words false false false false false p q r s t h =
-    let none : subcommand_met names idle word ≡ None = λ i. option_map (λ (l : Text × List Text). l.0) (met_by (p i) (q i) (r i) (s i) (t i)) in
-    absurd (no_name_fails word words (bytes_eq word (codes "--")) refl none h)
+name_by word words false false false false true f g h p q r s t u v x faults =
+    record { sub = to_slip; behind = words; words_are = ap (λ (w : Text). w ∷ words) (sym ((bytes_eq-Decides (codes "slip") word).0 t)) }
+name_by word words false false false false false true g h p q r s t u v x faults =
+    record { sub = to_read; behind = words; words_are = ap (λ (w : Text). w ∷ words) (sym ((bytes_eq-Decides (codes "read") word).0 u)) }
+name_by word words false false false false false false true h p q r s t u v x faults =
+    record { sub = to_relay; behind = words; words_are = ap (λ (w : Text). w ∷ words) (sym ((bytes_eq-Decides (codes "relay") word).0 v)) }
+name_by word words false false false false false false false true p q r s t u v x faults =
+    record { sub = to_sample; behind = words; words_are = ap (λ (w : Text). w ∷ words) (sym ((bytes_eq-Decides (codes "sample") word).0 x)) }
+name_by word words false false false false false false false false p q r s t u v x faults =
+    let none : subcommand_met names idle word ≡ None = λ i. option_map (λ (l : Text × List Text). l.0) (met_by (p i) (q i) (r i) (s i) (t i) (u i) (v i) (x i)) in
+    absurd (no_name_fails word words (bytes_eq word (codes "--")) refl none faults)
 
 pub named_words : (words : List Text) → fault_of vabgrot words ≡ [] → Names words
 unfolding walk_fault defaults_fault
 named_words [] h = absurd (no_kind kind.MissingSubcommand [] h)
-named_words (word ∷ words) h = name_by word words _ _ _ _ _ refl refl refl refl refl h
+named_words (word ∷ words) h = name_by word words _ _ _ _ _ _ _ _ refl refl refl refl refl refl refl refl h

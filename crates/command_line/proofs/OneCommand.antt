@@ -1,8 +1,10 @@
 -- Words name one command at most.
-use Rattle.std.proofs.Common.{◌≡◌, ◌⊎◌, inl, inr, Bool, true, false, bytes_eq, ◌∙◌, sym, ap, ap₂, refl, subst, ℕ, List, [], ◌∷◌, Option, Some, None}
-use Rattle.std.specs.Prelude.{codes}
+use Rattle.std.proofs.Common.{◌≡◌, ◌⊎◌, inl, inr, Bool, true, false, bytes_eq, ◌∙◌, sym, ap, ap₂, refl, subst, arith, ℕ, ◌≤◌, List, [], ◌∷◌, Option, Some, None}
+use Rattle.std.specs.Prelude.{codes, if◌then◌else◌}
 use Rattle.std.proofs.lemmas.Option.{none-some, same_Some}
-use Rattle.command_line.specs.Numbers.{IsNumber}
+use Rattle.command_line.specs.Numbers.{IsNumber, digit_text}
+use Rattle.command_line.specs.Parsing.{digit_within}
+use Rattle.command_line.specs.Slips.{IsSlip}
 use Rattle.command_line.specs.Damages.{IsDamage, AreDamages}
 use Rattle.command_line.specs.Grammar.{Text, values_of, listed}
 use Rattle.command_line.specs.Forms.{AreFound, one_value, all_values}
@@ -12,12 +14,14 @@ use Rattle.command_line.specs.declared.options.OptionName.{OptionName}
 use Rattle.command_line.specs.declared.options.OptionName.TheVariants.{Offset, Skew, Bits, Version}
 use Rattle.command_line.specs.declared.tap.TapWords.{TapWords}
 use Rattle.command_line.specs.declared.damage.DamageWord.{DamageWord}
+use Rattle.command_line.specs.declared.slip.SlipWord.{SlipWord}
 use Rattle.command_line.specs.declared.command.Command.{Command}
-use Rattle.command_line.specs.declared.command.Command.TheVariants.{MakeLink, MakeContent, RecoverLink, RecoverContent, Check, Damage, Sample}
+use Rattle.command_line.specs.declared.command.Command.TheVariants.{MakeLink, MakeContent, MakeDvi, RecoverLink, RecoverContent, RecoverTrack, RecoverBiphase, RecoverDvi, Check, Damage, Slip, ReadBiphase, Relay, Sample}
 use Rattle.command_line.proofs.Triples.{number_found, three_found}
 use Rattle.command_line.proofs.DamageTexts.{damage_found}
+use Rattle.command_line.proofs.SlipTexts.{digit_found, slip_found}
 use Rattle.command_line.proofs.Taps.{same_text}
-use Rattle.command_line.proofs.Meanings.{apart, same_head}
+use Rattle.command_line.proofs.Meanings.{apart, head_of, same_head, same_second}
 use Rattle.command_line.proofs.Deciding.{command_reads}
 
 -- a text has one number at most
@@ -69,57 +73,101 @@ damages_once (w ∷ ws) [] n a b = absurd a
 damages_once (w ∷ ws) (x ∷ xs) [] a b = absurd b
 damages_once (w ∷ ws) (x ∷ xs) (y ∷ ys) a b = ap₂ (λ (z : DamageWord) (zs : List DamageWord). z ∷ zs) (damage_once w x y a.0 b.0) (damages_once ws xs ys a.1 b.1)
 
+slip_once : (text : Text) (m n : SlipWord) → IsSlip text m → IsSlip text n → m ≡ n
+slip_once text m n a b = same_Some m n (sym (slip_found text m a) ∙ slip_found text n b)
+
+pair_once : (m n : ℕ) → m ≤ 3 → n ≤ 3 → digit_text m ≡ digit_text n → m ≡ n
+pair_once m n a b e = same_Some m n (sym (digit_found 0 3 m (omega arith) a) ∙ ap (digit_within 0 3) e ∙ digit_found 0 3 n (omega arith) b)
+
+-- the place of a command among the forms
+form : Command → ℕ
+form (MakeLink tap) = 0
+form (MakeContent tap) = 1
+form (MakeDvi tap) = 2
+form RecoverLink = 3
+form RecoverContent = 4
+form RecoverTrack = 5
+form (RecoverBiphase k) = 6
+form RecoverDvi = 7
+form Check = 8
+form (Damage damages) = 9
+form (Slip slip) = 10
+form ReadBiphase = 11
+form Relay = 12
+form (Sample n) = 13
+
+-- and the place that a name and a first operand tell
+abbrev make_form_of : Text → ℕ
+make_form_of first = if bytes_eq first (codes "link") then 0 else if bytes_eq first (codes "content") then 1 else 2
+
+abbrev recover_form_of : Text → ℕ
+recover_form_of first =
+    if bytes_eq first (codes "link") then 3
+    else if bytes_eq first (codes "content") then 4
+    else if bytes_eq first (codes "track") then 5
+    else if bytes_eq first (codes "biphase") then 6
+    else 7
+
+abbrev form_of : Text → List Text → ℕ
+form_of name operands =
+    if bytes_eq name (codes "make") then make_form_of (head_of operands)
+    else if bytes_eq name (codes "recover") then recover_form_of (head_of operands)
+    else if bytes_eq name (codes "check") then 8
+    else if bytes_eq name (codes "damage") then 9
+    else if bytes_eq name (codes "slip") then 10
+    else if bytes_eq name (codes "read") then 11
+    else if bytes_eq name (codes "relay") then 12
+    else 13
+
+by_name : (name other : Text) (operands : List Text) (n : ℕ) → name ≡ other → form_of other operands ≡ n → form_of name operands ≡ n
+by_name name other operands n is e = ap (λ (t : Text). form_of t operands) is ∙ e
+
+by_kind : (name other : Text) (operands others : List Text) (n : ℕ) → name ≡ other → operands ≡ others → form_of other others ≡ n → form_of name operands ≡ n
+by_kind name other operands others n is are e = ap₂ form_of is are ∙ e
+
+means_form : (c : Command) (name : Text) (options : List (OptionName × Text)) (operands : List Text) → Means c name options operands → form_of name operands ≡ form c
+unfolding form head_of
+means_form (MakeLink tap) name options operands m = by_kind name (codes "make") operands (codes "link" ∷ []) 0 m.0 m.1 refl
+means_form (MakeContent tap) name options operands m = by_kind name (codes "make") operands (codes "content" ∷ []) 1 m.0 m.1 refl
+means_form (MakeDvi tap) name options operands m = by_kind name (codes "make") operands (codes "dvi" ∷ []) 2 m.0 m.1 refl
+means_form RecoverLink name options operands m = by_kind name (codes "recover") operands (codes "link" ∷ []) 3 m.0 m.1 refl
+means_form RecoverContent name options operands m = by_kind name (codes "recover") operands (codes "content" ∷ []) 4 m.0 m.1 refl
+means_form RecoverTrack name options operands m = by_kind name (codes "recover") operands (codes "track" ∷ []) 5 m.0 m.1 refl
+means_form (RecoverBiphase k) name options operands m = by_kind name (codes "recover") operands (codes "biphase" ∷ digit_text k ∷ []) 6 m.0 m.1.0 refl
+means_form RecoverDvi name options operands m = by_kind name (codes "recover") operands (codes "dvi" ∷ []) 7 m.0 m.1 refl
+means_form Check name options operands m = by_name name (codes "check") operands 8 m.0 refl
+means_form (Damage damages) name options operands m = by_name name (codes "damage") operands 9 m.0 refl
+means_form (Slip slip) name options operands m = by_name name (codes "slip") operands 10 m.0 refl
+means_form ReadBiphase name options operands m = by_name name (codes "read") operands 11 m.0 refl
+means_form Relay name options operands m = by_name name (codes "relay") operands 12 m.0 refl
+means_form (Sample n) name options operands m = by_name name (codes "sample") operands 13 m.0 refl
+
+-- a name, options and operands ask for one command of a form at most
+form_once : (name : Text) (options : List (OptionName × Text)) (operands : List Text) (c d : Command) → form c ≡ form d → Means c name options operands → Means d name options operands → c ≡ d
+unfolding form
+form_once name options operands (MakeLink t) (MakeLink u) e a b = ap MakeLink (tap_once options t u a.2 b.2)
+form_once name options operands (MakeContent t) (MakeContent u) e a b = ap MakeContent (tap_once options t u a.2 b.2)
+form_once name options operands (MakeDvi t) (MakeDvi u) e a b = ap MakeDvi (tap_once options t u a.2 b.2)
+form_once name options operands RecoverLink RecoverLink e a b = refl
+form_once name options operands RecoverContent RecoverContent e a b = refl
+form_once name options operands RecoverTrack RecoverTrack e a b = refl
+form_once name options operands (RecoverBiphase k) (RecoverBiphase l) e a b =
+    ap RecoverBiphase (pair_once k l a.1.1 b.1.1 (same_second (codes "biphase") (codes "biphase") (digit_text k) (digit_text l) [] [] (sym a.1.0 ∙ b.1.0)))
+form_once name options operands RecoverDvi RecoverDvi e a b = refl
+form_once name options operands Check Check e a b = refl
+form_once name options operands (Damage ds) (Damage es) e a b = ap Damage (damages_once operands ds es a.1.0 b.1.0)
+form_once name options operands (Slip s) (Slip t) e a b =
+    ap Slip (slip_once a.1.0 s t a.1.2 (subst (λ (x : Text). IsSlip x t) (same_head b.1.0 a.1.0 [] [] (sym b.1.1 ∙ a.1.1)) b.1.2))
+form_once name options operands ReadBiphase ReadBiphase e a b = refl
+form_once name options operands Relay Relay e a b = refl
+form_once name options operands (Sample n) (Sample m) e a b =
+    ap Sample (number_once 20 a.1.0 n m a.1.2 (subst (λ (x : Text). IsNumber 20 x m) (same_head b.1.0 a.1.0 [] [] (sym b.1.1 ∙ a.1.1)) b.1.2))
+form_once name options operands c d e a b = absurd (omega (arith, e))
+
 -- a name, options and operands ask for one command at most
 pub means_once : (name : Text) (options : List (OptionName × Text)) (operands : List Text) (c d : Command) → Means c name options operands → Means d name options operands → c ≡ d
-means_once name options operands (MakeLink t) (MakeLink u) a b = ap MakeLink (tap_once options t u a.2 b.2)
-means_once name options operands (MakeLink t) (MakeContent u) a b = absurd (apart (codes "link") (codes "content") refl (same_head (codes "link") (codes "content") (sym a.1 ∙ b.1)))
-means_once name options operands (MakeLink t) RecoverLink a b = absurd (apart (codes "make") (codes "recover") refl (sym a.0 ∙ b.0))
-means_once name options operands (MakeLink t) RecoverContent a b = absurd (apart (codes "make") (codes "recover") refl (sym a.0 ∙ b.0))
-means_once name options operands (MakeLink t) Check a b = absurd (apart (codes "make") (codes "check") refl (sym a.0 ∙ b.0))
-means_once name options operands (MakeLink t) (Damage es) a b = absurd (apart (codes "make") (codes "damage") refl (sym a.0 ∙ b.0))
-means_once name options operands (MakeLink t) (Sample m) a b = absurd (apart (codes "make") (codes "sample") refl (sym a.0 ∙ b.0))
-means_once name options operands (MakeContent t) (MakeLink u) a b = absurd (apart (codes "content") (codes "link") refl (same_head (codes "content") (codes "link") (sym a.1 ∙ b.1)))
-means_once name options operands (MakeContent t) (MakeContent u) a b = ap MakeContent (tap_once options t u a.2 b.2)
-means_once name options operands (MakeContent t) RecoverLink a b = absurd (apart (codes "make") (codes "recover") refl (sym a.0 ∙ b.0))
-means_once name options operands (MakeContent t) RecoverContent a b = absurd (apart (codes "make") (codes "recover") refl (sym a.0 ∙ b.0))
-means_once name options operands (MakeContent t) Check a b = absurd (apart (codes "make") (codes "check") refl (sym a.0 ∙ b.0))
-means_once name options operands (MakeContent t) (Damage es) a b = absurd (apart (codes "make") (codes "damage") refl (sym a.0 ∙ b.0))
-means_once name options operands (MakeContent t) (Sample m) a b = absurd (apart (codes "make") (codes "sample") refl (sym a.0 ∙ b.0))
-means_once name options operands RecoverLink (MakeLink u) a b = absurd (apart (codes "recover") (codes "make") refl (sym a.0 ∙ b.0))
-means_once name options operands RecoverLink (MakeContent u) a b = absurd (apart (codes "recover") (codes "make") refl (sym a.0 ∙ b.0))
-means_once name options operands RecoverLink RecoverLink a b = refl
-means_once name options operands RecoverLink RecoverContent a b = absurd (apart (codes "link") (codes "content") refl (same_head (codes "link") (codes "content") (sym a.1 ∙ b.1)))
-means_once name options operands RecoverLink Check a b = absurd (apart (codes "recover") (codes "check") refl (sym a.0 ∙ b.0))
-means_once name options operands RecoverLink (Damage es) a b = absurd (apart (codes "recover") (codes "damage") refl (sym a.0 ∙ b.0))
-means_once name options operands RecoverLink (Sample m) a b = absurd (apart (codes "recover") (codes "sample") refl (sym a.0 ∙ b.0))
-means_once name options operands RecoverContent (MakeLink u) a b = absurd (apart (codes "recover") (codes "make") refl (sym a.0 ∙ b.0))
-means_once name options operands RecoverContent (MakeContent u) a b = absurd (apart (codes "recover") (codes "make") refl (sym a.0 ∙ b.0))
-means_once name options operands RecoverContent RecoverLink a b = absurd (apart (codes "content") (codes "link") refl (same_head (codes "content") (codes "link") (sym a.1 ∙ b.1)))
-means_once name options operands RecoverContent RecoverContent a b = refl
-means_once name options operands RecoverContent Check a b = absurd (apart (codes "recover") (codes "check") refl (sym a.0 ∙ b.0))
-means_once name options operands RecoverContent (Damage es) a b = absurd (apart (codes "recover") (codes "damage") refl (sym a.0 ∙ b.0))
-means_once name options operands RecoverContent (Sample m) a b = absurd (apart (codes "recover") (codes "sample") refl (sym a.0 ∙ b.0))
-means_once name options operands Check (MakeLink u) a b = absurd (apart (codes "check") (codes "make") refl (sym a.0 ∙ b.0))
-means_once name options operands Check (MakeContent u) a b = absurd (apart (codes "check") (codes "make") refl (sym a.0 ∙ b.0))
-means_once name options operands Check RecoverLink a b = absurd (apart (codes "check") (codes "recover") refl (sym a.0 ∙ b.0))
-means_once name options operands Check RecoverContent a b = absurd (apart (codes "check") (codes "recover") refl (sym a.0 ∙ b.0))
-means_once name options operands Check Check a b = refl
-means_once name options operands Check (Damage es) a b = absurd (apart (codes "check") (codes "damage") refl (sym a.0 ∙ b.0))
-means_once name options operands Check (Sample m) a b = absurd (apart (codes "check") (codes "sample") refl (sym a.0 ∙ b.0))
-means_once name options operands (Damage ds) (MakeLink u) a b = absurd (apart (codes "damage") (codes "make") refl (sym a.0 ∙ b.0))
-means_once name options operands (Damage ds) (MakeContent u) a b = absurd (apart (codes "damage") (codes "make") refl (sym a.0 ∙ b.0))
-means_once name options operands (Damage ds) RecoverLink a b = absurd (apart (codes "damage") (codes "recover") refl (sym a.0 ∙ b.0))
-means_once name options operands (Damage ds) RecoverContent a b = absurd (apart (codes "damage") (codes "recover") refl (sym a.0 ∙ b.0))
-means_once name options operands (Damage ds) Check a b = absurd (apart (codes "damage") (codes "check") refl (sym a.0 ∙ b.0))
-means_once name options operands (Damage ds) (Damage es) a b = ap Damage (damages_once operands ds es a.1.0 b.1.0)
-means_once name options operands (Damage ds) (Sample m) a b = absurd (apart (codes "damage") (codes "sample") refl (sym a.0 ∙ b.0))
-means_once name options operands (Sample n) (MakeLink u) a b = absurd (apart (codes "sample") (codes "make") refl (sym a.0 ∙ b.0))
-means_once name options operands (Sample n) (MakeContent u) a b = absurd (apart (codes "sample") (codes "make") refl (sym a.0 ∙ b.0))
-means_once name options operands (Sample n) RecoverLink a b = absurd (apart (codes "sample") (codes "recover") refl (sym a.0 ∙ b.0))
-means_once name options operands (Sample n) RecoverContent a b = absurd (apart (codes "sample") (codes "recover") refl (sym a.0 ∙ b.0))
-means_once name options operands (Sample n) Check a b = absurd (apart (codes "sample") (codes "check") refl (sym a.0 ∙ b.0))
-means_once name options operands (Sample n) (Damage es) a b = absurd (apart (codes "sample") (codes "damage") refl (sym a.0 ∙ b.0))
-means_once name options operands (Sample n) (Sample m) a b = ap Sample (number_once 20 a.1.0 n m a.1.2 (subst (λ (x : Text). IsNumber 20 x m) (same_head b.1.0 a.1.0 (sym b.1.1 ∙ a.1.1)) b.1.2))
+means_once name options operands c d a b =
+    form_once name options operands c d (sym (means_form c name options operands a) ∙ means_form d name options operands b) a b
 
 -- ---- words name one command at most
 
@@ -170,10 +218,17 @@ no_options name other u differ is (inr e) = e
 means_as : (c : Command) (name : Text) (o u : List (OptionName × Text)) (operands : List Text) → AreSame o u → (name ≡ codes "make") ⊎ (u ≡ []) → Means c name o operands → Means c name u operands
 means_as (MakeLink tap) name o u operands same allowed m = (m.0, m.1, tap_as o u tap same m.2)
 means_as (MakeContent tap) name o u operands same allowed m = (m.0, m.1, tap_as o u tap same m.2)
+means_as (MakeDvi tap) name o u operands same allowed m = (m.0, m.1, tap_as o u tap same m.2)
 means_as RecoverLink name o u operands same allowed m = (m.0, m.1, no_options name (codes "recover") u refl m.0 allowed)
 means_as RecoverContent name o u operands same allowed m = (m.0, m.1, no_options name (codes "recover") u refl m.0 allowed)
+means_as RecoverTrack name o u operands same allowed m = (m.0, m.1, no_options name (codes "recover") u refl m.0 allowed)
+means_as (RecoverBiphase k) name o u operands same allowed m = (m.0, m.1, no_options name (codes "recover") u refl m.0 allowed)
+means_as RecoverDvi name o u operands same allowed m = (m.0, m.1, no_options name (codes "recover") u refl m.0 allowed)
 means_as Check name o u operands same allowed m = (m.0, m.1, no_options name (codes "check") u refl m.0 allowed)
 means_as (Damage damages) name o u operands same allowed m = (m.0, m.1, no_options name (codes "damage") u refl m.0 allowed)
+means_as (Slip slip) name o u operands same allowed m = (m.0, m.1, no_options name (codes "slip") u refl m.0 allowed)
+means_as ReadBiphase name o u operands same allowed m = (m.0, m.1, no_options name (codes "read") u refl m.0 allowed)
+means_as Relay name o u operands same allowed m = (m.0, m.1, no_options name (codes "relay") u refl m.0 allowed)
 means_as (Sample n) name o u operands same allowed m = (m.0, m.1, no_options name (codes "sample") u refl m.0 allowed)
 
 pub command_once : (words : List Text) (c d : Command) → IsCommand words c → IsCommand words d → c ≡ d

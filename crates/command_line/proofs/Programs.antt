@@ -93,6 +93,9 @@ pub data Sub : Type 0 where
   to_recover : Sub
   to_check : Sub
   to_damage : Sub
+  to_slip : Sub
+  to_read : Sub
+  to_relay : Sub
   to_sample : Sub
 
 abbrev pub sub_name : Sub → Text
@@ -100,13 +103,19 @@ sub_name to_make = codes "make"
 sub_name to_recover = codes "recover"
 sub_name to_check = codes "check"
 sub_name to_damage = codes "damage"
+sub_name to_slip = codes "slip"
+sub_name to_read = codes "read"
+sub_name to_relay = codes "relay"
 sub_name to_sample = codes "sample"
 
 abbrev pub sub_rules : Sub → List Rule
 sub_rules to_make = make_rules
-sub_rules to_recover = single_rules
+sub_rules to_recover = several_rules
 sub_rules to_check = []
 sub_rules to_damage = several_rules
+sub_rules to_slip = single_rules
+sub_rules to_read = single_rules
+sub_rules to_relay = []
 sub_rules to_sample = single_rules
 
 abbrev pub whole : App
@@ -135,6 +144,9 @@ first_word to_make = refl
 first_word to_recover = refl
 first_word to_check = refl
 first_word to_damage = refl
+first_word to_slip = refl
+first_word to_read = refl
+first_word to_relay = refl
 first_word to_sample = refl
 
 walk_is : (s : Sub) (behind : List Text) → walk whole.top.rules names nothing_held (sub_name s ∷ behind) ≡ at_stop (sub_name s) behind
@@ -145,6 +157,9 @@ first_fault to_make = refl
 first_fault to_recover = refl
 first_fault to_check = refl
 first_fault to_damage = refl
+first_fault to_slip = refl
+first_fault to_read = refl
+first_fault to_relay = refl
 first_fault to_sample = refl
 
 walk_passes : (s : Sub) (behind : List Text) → walk_fault whole.top names start (sub_name s ∷ behind) ≡ []
@@ -162,9 +177,12 @@ fault_by w k =
 fault_is : (s : Sub) (behind : List Text) → fault_by (at_stop (sub_name s) behind) [] ≡ level_fault (leaf (sub_name s) (sub_rules s)) [] nothing_held behind false []
 unfolding defaults_fault
 fault_is to_make behind = or_else_nil (level_fault (leaf (codes "make") make_rules) [] nothing_held behind false [])
-fault_is to_recover behind = or_else_nil (level_fault (leaf (codes "recover") single_rules) [] nothing_held behind false [])
+fault_is to_recover behind = or_else_nil (level_fault (leaf (codes "recover") several_rules) [] nothing_held behind false [])
 fault_is to_check behind = or_else_nil (level_fault (leaf (codes "check") []) [] nothing_held behind false [])
 fault_is to_damage behind = or_else_nil (level_fault (leaf (codes "damage") several_rules) [] nothing_held behind false [])
+fault_is to_slip behind = or_else_nil (level_fault (leaf (codes "slip") single_rules) [] nothing_held behind false [])
+fault_is to_read behind = or_else_nil (level_fault (leaf (codes "read") single_rules) [] nothing_held behind false [])
+fault_is to_relay behind = or_else_nil (level_fault (leaf (codes "relay") []) [] nothing_held behind false [])
 fault_is to_sample behind = or_else_nil (level_fault (leaf (codes "sample") single_rules) [] nothing_held behind false [])
 
 -- the faults of a command are those of its own words
@@ -176,6 +194,9 @@ rows_are to_make behind = refl
 rows_are to_recover behind = refl
 rows_are to_check behind = refl
 rows_are to_damage behind = refl
+rows_are to_slip behind = refl
+rows_are to_read behind = refl
+rows_are to_relay behind = refl
 rows_are to_sample behind = refl
 
 -- and so its matches

@@ -1,13 +1,14 @@
 -- The commands of the program, by the words of the command line.
 use Rattle.std.specs.Prelude.{◌≡◌, ℕ, ◌<◌, ◌≤◌, List, [], ◌∷◌, length, codes, Option, Some, None}
-use Rattle.command_line.specs.Numbers.{IsNumber, AreThree}
+use Rattle.command_line.specs.Numbers.{IsNumber, AreThree, digit_text}
 use Rattle.command_line.specs.Damages.{AreDamages}
+use Rattle.command_line.specs.Slips.{IsSlip}
 use Rattle.command_line.specs.Grammar.{Text, IsGiven, AreArranged}
 use Rattle.command_line.specs.declared.options.OptionName.{OptionName}
 use Rattle.command_line.specs.declared.options.OptionName.TheVariants.{Offset, Skew, Bits, Version}
 use Rattle.command_line.specs.declared.tap.TapWords.{TapWords}
 use Rattle.command_line.specs.declared.command.Command.{Command}
-use Rattle.command_line.specs.declared.command.Command.TheVariants.{MakeLink, MakeContent, RecoverLink, RecoverContent, Check, Damage, Sample}
+use Rattle.command_line.specs.declared.command.Command.TheVariants.{MakeLink, MakeContent, MakeDvi, RecoverLink, RecoverContent, RecoverTrack, RecoverBiphase, RecoverDvi, Check, Damage, Slip, ReadBiphase, Relay, Sample}
 
 -- what the value of an option says, or that it is left out
 
@@ -42,15 +43,23 @@ pub record IsTap (options : List (OptionName × Text)) (tap : TapWords) : Type 0
   pub bits : IsLimit bits_text tap.bits
   pub version : IsVersion version_text tap.version
 
--- what a command's name, its options and its operands ask for: `make link` and `make content` with options,
--- `recover link`, `recover content`, `check`, `damage` with one operand or more, and `sample N`
+-- what a command's name, its options and its operands ask for: `make link`, `make content` and `make dvi` with options,
+-- `recover link`, `recover content`, `recover track`, `recover biphase K`, `recover dvi`, `check`, `damage` with one
+-- operand or more, `slip L:P:D`, `read biphase`, `relay` and `sample N`
 abbrev pub Means : Command → Text → List (OptionName × Text) → List Text → Type 0
 Means (MakeLink tap) name options operands = (name ≡ codes "make") × (operands ≡ codes "link" ∷ []) × IsTap options tap
 Means (MakeContent tap) name options operands = (name ≡ codes "make") × (operands ≡ codes "content" ∷ []) × IsTap options tap
+Means (MakeDvi tap) name options operands = (name ≡ codes "make") × (operands ≡ codes "dvi" ∷ []) × IsTap options tap
 Means RecoverLink name options operands = (name ≡ codes "recover") × (operands ≡ codes "link" ∷ []) × (options ≡ [])
 Means RecoverContent name options operands = (name ≡ codes "recover") × (operands ≡ codes "content" ∷ []) × (options ≡ [])
+Means RecoverTrack name options operands = (name ≡ codes "recover") × (operands ≡ codes "track" ∷ []) × (options ≡ [])
+Means (RecoverBiphase k) name options operands = (name ≡ codes "recover") × ((operands ≡ codes "biphase" ∷ digit_text k ∷ []) × (k ≤ 3)) × (options ≡ [])
+Means RecoverDvi name options operands = (name ≡ codes "recover") × (operands ≡ codes "dvi" ∷ []) × (options ≡ [])
 Means Check name options operands = (name ≡ codes "check") × (operands ≡ []) × (options ≡ [])
 Means (Damage damages) name options operands = (name ≡ codes "damage") × (AreDamages operands damages × (0 < length operands)) × (options ≡ [])
+Means (Slip slip) name options operands = (name ≡ codes "slip") × ((text : Text) × (operands ≡ text ∷ []) × IsSlip text slip) × (options ≡ [])
+Means ReadBiphase name options operands = (name ≡ codes "read") × (operands ≡ codes "biphase" ∷ []) × (options ≡ [])
+Means Relay name options operands = (name ≡ codes "relay") × (operands ≡ []) × (options ≡ [])
 Means (Sample n) name options operands = (name ≡ codes "sample") × ((text : Text) × (operands ≡ text ∷ []) × IsNumber 20 text n × (2 ≤ n)) × (options ≡ [])
 
 -- the words are a command's name, and behind it its options and operands

@@ -39,17 +39,30 @@ bare name = let a = new_app name in record a { top = record (a.top) { disable_he
 abbrev pub single : Text → App
 single name = with_rule (bare name) (operand_rule false)
 
+-- a command with one operand or more
+abbrev pub several : Text → App
+several name = with_rule (bare name) (operand_rule true)
+
 abbrev pub make : App
 make = with_rule (with_rule (with_rule (with_rule (single (codes "make")) (option_rule Offset)) (option_rule Skew)) (option_rule Bits)) (option_rule Version)
 
 abbrev pub recover : App
-recover = single (codes "recover")
+recover = several (codes "recover")
 
 abbrev pub check : App
 check = bare (codes "check")
 
 abbrev pub damage : App
-damage = with_rule (bare (codes "damage")) (operand_rule true)
+damage = several (codes "damage")
+
+abbrev pub slip : App
+slip = single (codes "slip")
+
+abbrev pub read : App
+read = single (codes "read")
+
+abbrev pub relay : App
+relay = bare (codes "relay")
 
 abbrev pub sample : App
 sample = single (codes "sample")
@@ -59,7 +72,9 @@ program = let a = bare (codes "vabgrot") in record a { top = record (a.top) { di
 
 -- the program with all its commands
 abbrev pub vabgrot : App
-vabgrot = with_subcommand (with_subcommand (with_subcommand (with_subcommand (with_subcommand program make.top) recover.top) check.top) damage.top) sample.top
+vabgrot =
+    let front = with_subcommand (with_subcommand (with_subcommand (with_subcommand program make.top) recover.top) check.top) damage.top in
+    with_subcommand (with_subcommand (with_subcommand (with_subcommand front slip.top) read.top) relay.top) sample.top
 
 -- ---- what is found
 

@@ -1,5 +1,6 @@
 pub mod Numbers
 pub mod Damages
+pub mod Slips
 pub mod Grammar
 pub mod Commands
 pub mod Parsing

@@ -20,6 +20,10 @@ pub record IsNumber (most : ℕ) (text : List ℕ) (n : ℕ) : Type 0 where
   pub digits : number_of text ≡ Some n
   pub few : n ≤ most
 
+-- the text of a number of one digit
+abbrev pub digit_text : ℕ → List ℕ
+digit_text n = (48 + n) ∷ []
+
 -- three numbers with commas between them, each at most so great
 pub record AreThree (most : ℕ) (text : List ℕ) (a b c : ℕ) : Type 0 where
   pub first : List ℕ

@@ -1,5 +1,5 @@
 -- The values of words, read from the front.
-use Rattle.std.specs.Prelude.{ℕ, ◌+◌, ◌*◌, Bool, if◌then◌else◌, nat_le, nat_lt, nat_eq, List, [], ◌∷◌, ◌++◌, length, Option, Some, None, Result, Ok, codes}
+use Rattle.std.specs.Prelude.{ℕ, ◌+◌, ◌-◌, ◌*◌, Bool, ◌&&◌, if◌then◌else◌, nat_le, nat_lt, nat_eq, List, [], ◌∷◌, ◌++◌, length, Option, Some, None, Result, Ok, codes}
 use Rattle.std.specs.Str.{bytes_eq}
 use Rattle.std.specs.Option.{is_some}
 use Rattle.std.specs.List.{position_or_len, before_first, after_first, list_all}
@@ -7,6 +7,7 @@ use Rattle.hex.specs.Hex.{decode_of}
 use Rattle.hex.specs.declared.error.FromHexError.{FromHexError}
 use Rattle.command_line.specs.Numbers.{number_of}
 use Rattle.command_line.specs.declared.damage.DamageWord.{DamageWord}
+use Rattle.command_line.specs.declared.slip.SlipWord.{SlipWord}
 
 -- the number of a text, where it is at most so great
 
@@ -16,6 +17,13 @@ at_most most None = None
 
 unfoldable pub within : ℕ → List ℕ → Option ℕ
 within most text = at_most most (number_of text)
+
+-- the number of a text of one digit, where it is in a range
+
+unfoldable pub digit_within : ℕ → ℕ → List ℕ → Option ℕ
+digit_within least most [] = None
+digit_within least most (c ∷ []) = if nat_le (48 + least) c && nat_le c (48 + most) then Some (c - 48) else None
+digit_within least most (c ∷ d ∷ more) = None
 
 -- what stands before the first mark of a text, and behind it
 
@@ -89,3 +97,22 @@ is_damage text = is_some (damage_of text)
 
 abbrev pub are_damages : List (List ℕ) → Bool
 are_damages texts = list_all is_damage texts
+
+-- the slip of a word that its first two colons part
+
+abbrev pub slip_by : Option ℕ → Option ℕ → Option ℕ → Option SlipWord
+slip_by (Some lane) (Some place) (Some bits) = Some (record { lane = lane; place = place; bits = bits })
+slip_by (Some lane) (Some place) None = None
+slip_by (Some lane) None bits = None
+slip_by None place bits = None
+
+abbrev pub slip_behind : List ℕ → Option (List ℕ × List ℕ) → Option SlipWord
+slip_behind first (Some parts) = slip_by (lane_of first) (within 4294967295 parts.0) (digit_within 1 9 parts.1)
+slip_behind first None = None
+
+abbrev pub slip_parted : Option (List ℕ × List ℕ) → Option SlipWord
+slip_parted (Some parts) = slip_behind parts.0 (mark_split 58 parts.1)
+slip_parted None = None
+
+unfoldable pub slip_of : List ℕ → Option SlipWord
+slip_of text = slip_parted (mark_split 58 text)

@@ -1,5 +1,5 @@
 //! What the words of the command line ask for.
-ghost use Rattle.std.specs.Prelude.{◌≡◌, IfOk, List, [], MatchOption, Some, None, map, option_map, string_bytes, codes};
+ghost use Rattle.std.specs.Prelude.{◌≡◌, ◌∷◌, IfOk, List, [], MatchOption, Some, None, map, option_map, string_bytes, codes};
 ghost use Rattle.command_line.specs.Commands.{IsCommand, Means};
 ghost use Rattle.command_line.specs.Grammar.{Text, texts};
 ghost use Rattle.command_line.specs.Forms.{AreFound, HasOperands, IsParsed, Judges};
@@ -8,7 +8,8 @@ ghost use Rattle.command_line.specs.declared.options.OptionName.{OptionName as N
 
 use crate::damage::{Damages, read_damages};
 use crate::forms::{forms, operand_texts};
-use crate::numbers::read_number;
+use crate::numbers::{read_digit, read_number};
+use crate::slip::{SlipWord, read_slip};
 use crate::tap::{TapWords, read_tap};
 use clap::ArgMatches;
 use clap::error::ErrorKind;
@@ -20,6 +21,9 @@ const FEWEST_FRAMES: u32 = 2;
 
 const MOST_FRAMES: u32 = 20;
 
+// The greatest pair of channels.
+const LAST_PAIR: u8 = 3;
+
 /// What the program is to do.
 #[derive(Drop)]
 pub enum Command {
@@ -27,14 +31,28 @@ pub enum Command {
     MakeLink(TapWords),
     /// `make content`: make the capture of a tap of the columns of frames with content.
     MakeContent(TapWords),
+    /// `make dvi`: make the capture of a tap of the columns of a stream without guard bands that a listing tells.
+    MakeDvi(TapWords),
     /// `recover link`: recover the listing of a capture.
     RecoverLink,
     /// `recover content`: recover the content listing of a capture.
     RecoverContent,
+    /// `recover track`: recover the listing of a capture whose lanes may lack bits.
+    RecoverTrack,
+    /// `recover biphase K`: recover the line code of the pair of audio channels K of a capture, from 0 to 3.
+    RecoverBiphase(u8),
+    /// `recover dvi`: recover the listing of a capture of a stream without guard bands.
+    RecoverDvi,
     /// `check`: list the faults of a capture.
     Check,
     /// `damage L:P:V ..`: damage a capture.
     Damage(Damages),
+    /// `slip L:P:D`: leave bits of a lane out of a capture.
+    Slip(SlipWord),
+    /// `read biphase`: list the audio frames of a line code.
+    ReadBiphase,
+    /// `relay`: make a clean capture of a damaged one.
+    Relay,
     /// `sample N`: make, damage and recover N generated frames, from 2 to 20.
     Sample(u32),
 }
@@ -113,7 +131,7 @@ fn asked_command(
     }
 }
 
-/// `make link` or `make content`.
+/// `make link`, `make content` or `make dvi`.
 fn make_command(matches: &ArgMatches<'_>, operands: &[&str]) -> Option<Command>
     ensures { (options : List (Name × Text)) (found : List Text) → AreFound (rows_of (found_of matches.now)) options found → MatchOption result ((c : Command) → Means c (codes "make") options (texts operands.now) → ⊥) (λ c. Means c (codes "make") options (texts operands.now)) }
 {
@@ -124,6 +142,7 @@ fn make_command(matches: &ArgMatches<'_>, operands: &[&str]) -> Option<Command>
     match *kind {
         "link" => Some(Command::MakeLink(tap)),
         "content" => Some(Command::MakeContent(tap)),
+        "dvi" => Some(Command::MakeDvi(tap)),
         _ => None,
     }
 }
@@ -147,22 +166,47 @@ fn plain_command(name: &str, operands: &[&str]) -> Option<Command>
     match name {
         "recover" => recover_command(operands),
         "check" => check_command(operands),
+        "slip" => slip_command(operands),
+        "read" => read_biphase_command(operands),
+        "relay" => relay_command(operands),
         "sample" => sample_command(operands),
         _ => None,
     }
 }
 
-/// `recover link` or `recover content`.
+/// `recover` with operands.
 fn recover_command(operands: &[&str]) -> Option<Command>
     ensures { MatchOption result ((c : Command) → Means c (codes "recover") [] (texts operands.now) → ⊥) (λ c. Means c (codes "recover") [] (texts operands.now)) }
 {
-    let [kind] = operands else {
-        return None;
-    };
-    match *kind {
+    match operands {
+        [kind] => recover_kind(kind),
+        [kind, pair] => recover_pair(kind, pair),
+        _ => None,
+    }
+}
+
+/// `recover link`, `recover content`, `recover track` or `recover dvi`.
+fn recover_kind(kind: &str) -> Option<Command>
+    ensures { MatchOption result ((c : Command) → Means c (codes "recover") [] (kind.now ∷ []) → ⊥) (λ c. Means c (codes "recover") [] (kind.now ∷ [])) }
+{
+    match kind {
         "link" => Some(Command::RecoverLink),
         "content" => Some(Command::RecoverContent),
+        "track" => Some(Command::RecoverTrack),
+        "dvi" => Some(Command::RecoverDvi),
         _ => None,
+    }
+}
+
+/// `recover biphase K`.
+fn recover_pair(kind: &str, pair: &str) -> Option<Command>
+    ensures { MatchOption result ((c : Command) → Means c (codes "recover") [] (kind.now ∷ pair.now ∷ []) → ⊥) (λ c. Means c (codes "recover") [] (kind.now ∷ pair.now ∷ [])) }
+{
+    let number = read_digit(pair, 0, LAST_PAIR)?;
+    if kind == "biphase" {
+        Some(Command::RecoverBiphase(number))
+    } else {
+        None
     }
 }
 
@@ -172,6 +216,41 @@ fn check_command(operands: &[&str]) -> Option<Command>
 {
     if operands.is_empty() {
         Some(Command::Check)
+    } else {
+        None
+    }
+}
+
+/// `slip L:P:D`.
+fn slip_command(operands: &[&str]) -> Option<Command>
+    ensures { MatchOption result ((c : Command) → Means c (codes "slip") [] (texts operands.now) → ⊥) (λ c. Means c (codes "slip") [] (texts operands.now)) }
+{
+    let [text] = operands else {
+        return None;
+    };
+    let slip = read_slip(text)?;
+    Some(Command::Slip(slip))
+}
+
+/// `read biphase`.
+fn read_biphase_command(operands: &[&str]) -> Option<Command>
+    ensures { MatchOption result ((c : Command) → Means c (codes "read") [] (texts operands.now) → ⊥) (λ c. Means c (codes "read") [] (texts operands.now)) }
+{
+    let [kind] = operands else {
+        return None;
+    };
+    match *kind {
+        "biphase" => Some(Command::ReadBiphase),
+        _ => None,
+    }
+}
+
+/// `relay`.
+fn relay_command(operands: &[&str]) -> Option<Command>
+    ensures { MatchOption result ((c : Command) → Means c (codes "relay") [] (texts operands.now) → ⊥) (λ c. Means c (codes "relay") [] (texts operands.now)) }
+{
+    if operands.is_empty() {
+        Some(Command::Relay)
     } else {
         None
     }

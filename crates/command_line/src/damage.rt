@@ -81,14 +81,14 @@ fn read_damage(text: &str) -> Option<DamageWord>
 }
 
 /// What stands before the first colon, and behind it.
-fn colon_split(text: &str) -> Option<(&str, &str)>
+pub(crate) fn colon_split(text: &str) -> Option<(&str, &str)>
     ensures { MatchOption result (mark_split 58 text.now ≡ None) (λ x. mark_split 58 text.now ≡ Some (x.0.now, x.1.now)) }
 {
     text.split_once(':')
 }
 
 /// The lane of a digit.
-fn read_lane(text: &str) -> Option<u8>
+pub(crate) fn read_lane(text: &str) -> Option<u8>
     ensures { result ≡ lane_of text.now }
 {
     match text {

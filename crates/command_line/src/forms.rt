@@ -4,7 +4,7 @@ ghost use Rattle.clap.specs.Words.{app_of, found_of, rows_of, rule_of, with_rule
 ghost use Rattle.clap.specs.declared.builder.command.Command.TheViews.{out-Command as fields_of};
 ghost use Rattle.command_line.specs.declared.options.OptionName.{OptionName as Name};
 ghost use Rattle.command_line.specs.Grammar.{IsGiven, Text, texts};
-ghost use Rattle.command_line.specs.Forms.{AreFound, bare, damage, make, operand_rule, option_rule, program, single, vabgrot};
+ghost use Rattle.command_line.specs.Forms.{AreFound, bare, make, operand_rule, option_rule, program, several, single, vabgrot};
 
 use crate::options::OptionName;
 use clap::{Arg, ArgAction, ArgMatches, Command};
@@ -16,13 +16,18 @@ pub(crate) fn forms<'a>(alloc: Global) -> Result<Command<'a>, AllocError>
     ensures local { IfOk result (λ c. (fields_of c).has_globals ≡ false) }
 {
     let make = make_form(alloc)?;
-    let recover = single_form(alloc, "recover")?;
-    let damage = damage_form(alloc)?;
+    let recover = several_form(alloc, "recover")?;
+    let damage = several_form(alloc, "damage")?;
+    let slip = single_form(alloc, "slip")?;
+    let read = single_form(alloc, "read")?;
     let sample = single_form(alloc, "sample")?;
     let command = program(alloc).subcommand(make)?;
     let command = command.subcommand(recover)?;
     let command = command.subcommand(bare(alloc, "check"))?;
     let command = command.subcommand(damage)?;
+    let command = command.subcommand(slip)?;
+    let command = command.subcommand(read)?;
+    let command = command.subcommand(bare(alloc, "relay"))?;
     let command = command.subcommand(sample)?;
     Ok(command)
 }
@@ -40,13 +45,13 @@ fn make_form<'a>(alloc: Global) -> Result<Command<'a>, AllocError>
     Ok(command)
 }
 
-/// `damage` with one operand or more.
-fn damage_form<'a>(alloc: Global) -> Result<Command<'a>, AllocError>
-    ensures app { IfOk result (λ c. app_of c ≡ damage) }
+/// A command with one operand or more.
+fn several_form<'a>(alloc: Global, name: &'a str) -> Result<Command<'a>, AllocError>
+    ensures app { IfOk result (λ c. app_of c ≡ several name.entry.now) }
     ensures local { IfOk result (λ c. (fields_of c).has_globals ≡ false) }
 {
     let argument = operands(alloc);
-    let command = bare(alloc, "damage").arg(argument)?;
+    let command = bare(alloc, name).arg(argument)?;
     Ok(command)
 }
 

@@ -10,12 +10,14 @@ mod forms;
 pub mod laws;
 mod numbers;
 mod options;
+mod slip;
 mod tap;
 
 pub use command::{Command, read_command};
 pub use damage::{DamageWord, Damages};
 pub use numbers::{number, number_within};
 pub use options::OptionName;
+pub use slip::SlipWord;
 pub use tap::TapWords;
 
 #[cfg(test)]

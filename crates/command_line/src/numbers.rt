@@ -1,7 +1,7 @@
 //! The numbers of words.
 ghost use Rattle.std.specs.Prelude.{◌≡◌, ℕ, MatchOption, Some, None};
 ghost use Rattle.command_line.specs.Numbers.{IsNumber, number_of};
-ghost use Rattle.command_line.specs.Parsing.{mark_split, three_of, within};
+ghost use Rattle.command_line.specs.Parsing.{digit_within, mark_split, three_of, within};
 
 // The most digits of a number.
 const MOST_DIGITS: usize = 10;
@@ -39,6 +39,22 @@ pub fn number(digits: &[u8]) -> Option<u64>
         value = 10 * value + u64::from(*digit - b'0');
     }
     Some(value)
+}
+
+/// The number of a text of one decimal digit, where it is from `least` to `most`; none for any other text.
+#[tactic(auto, unfolding(crate::specs::Parsing::digit_within))]
+pub(crate) fn read_digit(text: &str, least: u8, most: u8) -> Option<u8>
+    ensures { result ≡ digit_within least most text.now }
+{
+    let [byte] = text.as_bytes() else {
+        return None;
+    };
+    let digit = byte.checked_sub(b'0')?;
+    if least <= digit && digit <= most {
+        Some(digit)
+    } else {
+        None
+    }
 }
 
 /// Three numbers with commas between them, each at most `most`.

@@ -1,12 +1,12 @@
 //! Words of the command line, and what they name.
 
-/// 263 rows: the command that the words name, then the words, with a bar before each.
+/// 381 rows: the command that the words name, then the words, with a bar before each.
 pub(crate) static ROWS: &str = "
 none
 none|make
 make link 1 0 0,0,0 all|make|link
 make content 1 0 0,0,0 all|make|content
-none|make|dvi
+make dvi 1 0 0,0,0 all|make|dvi
 none|make|link|content
 none|make|link|link
 none|make|lin
@@ -20,7 +20,7 @@ none|recover
 none|recover|link|content
 none|recover|link|--offset|5
 none|recover|--offset=5|link
-none|recover|track
+recover track|recover|track
 recover link|recover|--|link
 recover link|recover|link|--
 none|recover|-|link
@@ -231,7 +231,7 @@ none|make|link
 none|make|link|--offset =5
 none|make|link|--| 
 none|recover|--version=2
-none|read|biphase
+read biphase|read|biphase
 none|--bits=0000000007|content|3:0:000|recover
 none|5|0:0:1|read|biphase
 none|recover|biphase
@@ -265,4 +265,122 @@ make link 2 0 0,0,0 0|make|--version|02|--bits|0|link|--
 make link 2 0 4095,4094,1 0|make|--version=02|--skew=4095,4094,1|--bits=0|link
 make link 1 0 0,0,0 all|make|--version=1|link
 make content 1 4294967295 0,0,0 all|make|content|--offset=4294967295
+make dvi 1 5 0,0,0 all|make|dvi|--offset|5
+make dvi 1 5 0,0,0 all|make|--offset=5|dvi
+make dvi 2 7 1,2,3 300|make|--version|2|--bits|300|--skew|1,2,3|--offset|7|dvi
+make dvi 1 0 0,0,0 all|make|--|dvi
+none|make|dvi|dvi
+none|make|dvi|link
+none|make|Dvi
+none|make|dvi|--skew|4096,0,0
+none|make|track
+none|make|biphase
+recover track|recover|track|--
+recover track|recover|--|track
+none|recover|track|link
+none|recover|track|track
+none|recover|tracks
+recover dvi|recover|dvi
+recover dvi|recover|--|dvi
+none|recover|dvi|dvi
+none|recover|dvi|--offset|5
+recover biphase 0|recover|biphase|0
+recover biphase 1|recover|biphase|1
+recover biphase 2|recover|biphase|2
+recover biphase 3|recover|biphase|3
+none|recover|biphase|4
+none|recover|biphase|9
+none|recover|biphase|00
+none|recover|biphase|01
+none|recover|biphase|
+none|recover|biphase|x
+none|recover|biphase|/
+none|recover|biphase|:
+none|recover|biphase|-1
+none|recover|biphase|+1
+none|recover|biphase|٣
+none|recover|biphase|0|1
+none|recover|biphase|3|3
+none|recover|0|biphase
+none|recover|biphase|biphase
+none|recover|link|0
+none|recover|track|0
+none|recover|dvi|3
+none|recover|Biphase|0
+recover biphase 3|recover|biphase|--|3
+recover biphase 3|recover|--|biphase|3
+recover biphase 3|recover|biphase|3|--
+none|recover|biphase|--|--
+none|recover|--pair|3|biphase
+none|recover|biphase|--pair=3
+none|recover|biphase0
+none|recover|biphase 0
+none|slip
+slip 0:0:1|slip|0:0:1
+slip 1:300:3|slip|1:300:3
+slip 2:4294967295:9|slip|2:4294967295:9
+slip 2:300:3|slip|2:300:3
+slip 0:7:5|slip|0:0000000007:5
+none|slip|0:00000000007:5
+none|slip|0:4294967296:5
+slip 0:7:5|slip|0:07:5
+none|slip|0:0:0
+none|slip|0:0:10
+none|slip|0:0:01
+none|slip|0:0:a
+none|slip|0:0::
+none|slip|0:0:/
+none|slip|3:0:1
+none|slip|9:0:1
+none|slip|00:0:1
+none|slip|0::1
+none|slip|:0:1
+none|slip|0:0:
+none|slip|0:0
+none|slip|0:0:1:1
+none|slip|0:-1:1
+none|slip|-1:0:1
+none|slip|0:0:-1
+none|slip|0:0:+1
+none|slip|0:0:000
+none|slip|0,0,1
+none|slip|0:0:1|0:0:1
+none|slip|0:0:1|1:1:2
+slip 0:0:1|slip|--|0:0:1
+slip 0:0:1|slip|0:0:1|--
+none|slip|--|--
+none|slip|0:0:1|--offset|5
+none|slip|--bits=1|0:0:1
+none|slip|
+none|slip| 0:0:1
+none|slip|0:0:1 
+none|slip|0:0:1x
+none|Slip|0:0:1
+none|read
+read biphase|read|--|biphase
+read biphase|read|biphase|--
+none|read|biphase|0
+none|read|biphase|biphase
+none|read|link
+none|read|track
+none|read|dvi
+none|read|content
+none|read|Biphase
+none|read|
+none|read|biphase|--version|1
+none|read|--help
+relay|relay
+relay|relay|--
+none|relay|--|--
+none|relay|x
+none|relay|
+none|relay|link
+none|relay|-
+none|relay|--help
+none|relay|--offset|5
+none|Relay
+none|track
+none|biphase
+none|dvi
+none|slips
 ";

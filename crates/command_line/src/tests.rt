@@ -1,6 +1,6 @@
 //! The words of the command line: which name a command, and which name none.
 use crate::rows::ROWS;
-use crate::{Command, Damages, TapWords, number, number_within, read_command};
+use crate::{Command, Damages, SlipWord, TapWords, number, number_within, read_command};
 use std::alloc::Global;
 use std::test::*;
 
@@ -19,10 +19,17 @@ fn named(alloc: Global, command: &Option<Command>) -> Result<String, Fail> {
     let text = match command {
         Some(Command::MakeLink(tap)) => made(alloc, "link", tap)?,
         Some(Command::MakeContent(tap)) => made(alloc, "content", tap)?,
+        Some(Command::MakeDvi(tap)) => made(alloc, "dvi", tap)?,
         Some(Command::RecoverLink) => String::from_str(alloc, "recover link")?,
         Some(Command::RecoverContent) => String::from_str(alloc, "recover content")?,
+        Some(Command::RecoverTrack) => String::from_str(alloc, "recover track")?,
+        Some(Command::RecoverBiphase(pair)) => format!(in alloc; "recover biphase {pair}")?,
+        Some(Command::RecoverDvi) => String::from_str(alloc, "recover dvi")?,
         Some(Command::Check) => String::from_str(alloc, "check")?,
         Some(Command::Damage(damages)) => damaged(alloc, damages)?,
+        Some(Command::Slip(slip)) => slipped(alloc, slip)?,
+        Some(Command::ReadBiphase) => String::from_str(alloc, "read biphase")?,
+        Some(Command::Relay) => String::from_str(alloc, "relay")?,
         Some(Command::Sample(frames)) => format!(in alloc; "sample {frames}")?,
         None => String::from_str(alloc, "none")?,
     };
@@ -49,6 +56,14 @@ fn damaged(alloc: Global, damages: &Damages) -> Result<String, Fail> {
         let more = format!(in alloc; " {lane}:{place}:{value}")?;
         text.push_str(more.as_str())?;
     }
+    Ok(text)
+}
+
+fn slipped(alloc: Global, slip: &SlipWord) -> Result<String, Fail> {
+    let lane = slip.lane;
+    let place = slip.place;
+    let bits = slip.bits;
+    let text = format!(in alloc; "slip {lane}:{place}:{bits}")?;
     Ok(text)
 }
 

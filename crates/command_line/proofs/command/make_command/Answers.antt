@@ -21,3 +21,9 @@ returns-in-content c = λ options found f.
     let one : texts c.args.operands.now ≡ (get_or c.args.operands.now 0 nothing).now ∷ [] = one_text c.args.operands.now nothing (omega arith) (omega arith) in
     let kind : (get_or c.args.operands.now 0 nothing).now ≡ codes "content" = grind (arith, common_steps) in
     (refl, one ∙ ap (λ (t : Text). t ∷ []) kind, c.in_ok-tap.ensures options found f)
+
+pub returns-in-dvi : goal.returns-in-dvi
+returns-in-dvi c = λ options found f.
+    let one : texts c.args.operands.now ≡ (get_or c.args.operands.now 0 nothing).now ∷ [] = one_text c.args.operands.now nothing (omega arith) (omega arith) in
+    let kind : (get_or c.args.operands.now 0 nothing).now ≡ codes "dvi" = grind (arith, common_steps) in
+    (refl, one ∙ ap (λ (t : Text). t ∷ []) kind, c.in_ok-tap.ensures options found f)

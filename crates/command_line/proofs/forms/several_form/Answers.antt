@@ -1,6 +1,6 @@
 use Rattle.std.proofs.Common.{ap₂, ◌∙◌, Bool, ◌||◌}
 use Rattle.clap.specs.Words.{with_rule}
-use Rattle.command_line.proofs.forms.damage_form.Goals as goal
+use Rattle.command_line.proofs.forms.several_form.Goals as goal
 
 pub returns-clause-app : goal.returns-clause-app
 returns-clause-app c = c.in_ok-command.ensures.shape c.operands-argument.ensures.local ∙ ap₂ with_rule c.bare.ensures.app c.operands-argument.ensures.rule
