@@ -18,5 +18,6 @@ pub mod Bitwise
 pub mod HitLanes
 pub mod Halfways
 pub mod Damages
+pub mod SlippedLanes
 pub mod OneCapture
 pub mod Tapped

@@ -6,4 +6,5 @@ pub mod Damage
 pub mod Refusals
 pub mod Captures
 pub mod BlockDamage
+pub mod Slips
 pub mod Laws

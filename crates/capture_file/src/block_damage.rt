@@ -20,7 +20,7 @@ use tmds_word::Word;
 
 impl Chunk {
     /// How many bits there are.
-    fn len(&self) -> u32
+    pub(crate) fn len(&self) -> u32
         ensures { result ≡ length self.now }
     {
         self.count

@@ -10,6 +10,7 @@ mod filling;
 mod heading;
 mod lanes;
 pub mod laws;
+mod slipping;
 mod writing;
 
 pub use block_damage::damage;
@@ -17,6 +18,7 @@ pub use capture_reader::{Block, CaptureReader};
 pub use damaging::{DamageError, Hit};
 pub use fault::{CaptureError, CaptureFault};
 pub use lanes::Lanes;
+pub use slipping::{SlipError, slip};
 pub use writing::{Tap, write_capture};
 
 #[cfg(test)]
@@ -25,5 +27,7 @@ mod damage_tests;
 mod reader_tests;
 #[cfg(test)]
 mod reading_tests;
+#[cfg(test)]
+mod slip_tests;
 #[cfg(test)]
 mod tests;

@@ -143,7 +143,7 @@ pub(crate) fn write_header<K: Sink>(
 }
 
 /// Writes the capture of some bits of three rows, each from a place of its own on.
-fn write_rows<K: Sink>(
+pub(crate) fn write_rows<K: Sink>(
     blue: &BitRow,
     green: &BitRow,
     red: &BitRow,
@@ -242,7 +242,7 @@ fn write_chunk<K: Sink>(
 }
 
 /// Fills `into` with the `count` bits of a row from `from` on, packed.
-fn copy_packed(row: &BitRow, from: u32, count: u32, into: &mut [u8])
+pub(crate) fn copy_packed(row: &BitRow, from: u32, count: u32, into: &mut [u8])
     requires within { from + count ≤ length row.now }
     requires room { length into.old ≡ (count + 7) / 8 }
     ensures { into.new ≡ packed (take count (drop from row.now)) }
