@@ -15,7 +15,7 @@ use Rattle.link_sink.proofs.Guards.{unlike, stays_control}
 use Rattle.link_sink.proofs.SpelledWords.{AreWords, lane_words, small_blue, small_green, small_red}
 use Rattle.link_sink.proofs.VideoTold.{PixelAt, ArePixels, no_pixels, pixel_count}
 use Rattle.link_sink.proofs.VideoTold as seen
-use Rattle.dvi_hearing.specs.DviPeriods.{dvi_conforms, DviSpells}
+use Rattle.source_end.specs.DviPeriods.{dvi_conforms, DviSpells}
 use Rattle.dvi_hearing.proofs.Joined.{CamePair, Came, ends, goes_on}
 
 -- columns with at most one damaged word each

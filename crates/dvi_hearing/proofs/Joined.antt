@@ -13,7 +13,7 @@ use Rattle.link_sink.proofs.Between.{take_seam, drop_seam}
 use Rattle.link_sink.proofs.Joining.{no_row, take_control, first_control}
 use Rattle.link_sink.proofs.VideoTold.{ArePixels, pixel_count, length_received, length_sent}
 use Rattle.dvi_hearing.specs.DviHeard.{dvi_gaps}
-use Rattle.dvi_hearing.specs.DviPeriods.{dvi_columns}
+use Rattle.source_end.specs.DviPeriods.{dvi_columns}
 use Rattle.dvi_hearing.specs.DviAccount.{dvi_video_told, dvi_row, dvi_account_from}
 use Rattle.dvi_hearing.proofs.Walk.{walk, walk_control, gap_law}
 use Rattle.dvi_hearing.proofs.Lines.{dvi_gap}

@@ -25,7 +25,7 @@ use Rattle.link_sink.proofs.VideoTold.{pixel_count}
 use Rattle.link_sink.proofs.Spelled.{FitsWord, FitsColumn, Fitting, no_columns, column, HasFewTurns, ArePayload, IsSmall, length-spelled}
 use Rattle.link_sink.proofs.Spelled as spelled
 use Rattle.link_sink.proofs.Lanes.{fitting_length, fitting_at, lane_sent, few_marked}
-use Rattle.dvi_hearing.specs.DviPeriods.{dvi_conforms, IsDviConforming, DviSpells, dvi_kinds_in, dvi_kinds, IsDviSparse, HasThree}
+use Rattle.source_end.specs.DviPeriods.{dvi_conforms, IsDviConforming, DviSpells, dvi_kinds_in, dvi_kinds, IsDviSparse, HasThree}
 use Rattle.dvi_hearing.specs.DviLaws.{DviEnds}
 use Rattle.dvi_hearing.proofs.Shape.{alternating}
 

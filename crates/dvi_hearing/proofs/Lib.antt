@@ -9,3 +9,4 @@ pub mod Tapped
 pub mod Hearings
 pub mod Phases
 pub mod Many
+pub mod Example

@@ -9,7 +9,7 @@ use Rattle.island_pack.specs.Kinds.{control_column, first_guard, second_guard, p
 use Rattle.lane_deskew.specs.Alternating.{IsMiddle, IsAlternating, last, more}
 use Rattle.lane_deskew.proofs.Shapes.{ends_apart as kinds_apart}
 use Rattle.link_sink.proofs.Conformed.{is_control_of}
-use Rattle.dvi_hearing.specs.DviPeriods.{dvi_conforms, IsDviConforming, dvi_kinds_in, dvi_kinds, HasThree}
+use Rattle.source_end.specs.DviPeriods.{dvi_conforms, IsDviConforming, dvi_kinds_in, dvi_kinds, HasThree}
 
 no_control : (n i : ℕ) → get_or (replicate n pixel_column) i second_guard ≡ control_column → ⊥
 no_control zero i h = cc

@@ -18,7 +18,7 @@ use Rattle.link_sink.proofs.Start.{drop_control, drop_over}
 use Rattle.link_sink.proofs.VideoTold.{pixel_count, length_received, length_sent}
 use Rattle.period_grammar.specs.Gaps.{so_far_by, heard_by}
 use Rattle.dvi_hearing.specs.DviHeard.{dvi_gaps, dvi_heard}
-use Rattle.dvi_hearing.specs.DviPeriods.{dvi_conforms, IsDviConforming, dvi_columns, DviSpells, dvi_kinds_in, dvi_kinds, HasThree}
+use Rattle.source_end.specs.DviPeriods.{dvi_conforms, IsDviConforming, dvi_columns, DviSpells, dvi_kinds_in, dvi_kinds, HasThree}
 use Rattle.dvi_hearing.specs.DviAccount.{dvi_account_from, dvi_account_at, dvi_account}
 use Rattle.dvi_hearing.proofs.Walk.{walk}
 use Rattle.dvi_hearing.proofs.Joined.{Came, ends, goes_on, joined, control_columns_are, video_columns_are}

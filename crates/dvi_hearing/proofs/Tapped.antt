@@ -12,7 +12,7 @@ use Rattle.lane_deskew.specs.Aligned.{aligned_columns}
 use Rattle.lane_deskew.proofs.Shapes.{ends_late}
 use Rattle.link_sink.proofs.Ends.{near_from}
 use Rattle.link_sink.proofs.Aligned.{AreCharacters, BeginAt, columns_taken}
-use Rattle.dvi_hearing.specs.DviPeriods.{IsDviConforming, DviSpells, dvi_kinds, IsDviSparse, HasThree}
+use Rattle.source_end.specs.DviPeriods.{IsDviConforming, DviSpells, dvi_kinds, IsDviSparse, HasThree}
 use Rattle.dvi_hearing.specs.DviHeard.{dvi_heard}
 use Rattle.dvi_hearing.specs.DviLaws.{IsDviAccounted}
 use Rattle.dvi_hearing.proofs.Shape.{alternating}

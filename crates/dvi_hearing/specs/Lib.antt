@@ -3,6 +3,5 @@ pub mod DviGains
 pub mod DviGrammar
 pub mod DviSeen
 pub mod DviStands
-pub mod DviPeriods
 pub mod DviAccount
 pub mod DviLaws

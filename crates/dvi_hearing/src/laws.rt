@@ -1,5 +1,5 @@
 //! What holds of streams without guard columns. The functions do nothing: what they ensure is the law.
-ghost use Rattle.dvi_hearing.specs.DviLaws.{DviLinkLaw, DviEdgesEnd, DviEndsApart, DviFirstEnds, DviTapAccounted};
+ghost use Rattle.dvi_hearing.specs.DviLaws.{DviLinkLaw, DviEdgesEnd, DviEndsApart, DviFirstEnds, DviTapAccounted, HasDviExample};
 
 /// What is told of the columns that came, from twelve before the end of a control period on, is the account.
 pub fn dvi_link_law()
@@ -24,4 +24,10 @@ pub fn dvi_first_ends()
 /// From the bits of three lanes, tapped anywhere with skews of at most 70 bits, to the account.
 pub fn dvi_tap_accounted()
     ensures { DviTapAccounted }
+{}
+
+/// There are columns with a damaged first pixel and another one, and a tap of them with a skew of 70 bits, that meet the
+/// premises and have a first full alignment.
+pub fn dvi_example()
+    ensures { HasDviExample }
 {}

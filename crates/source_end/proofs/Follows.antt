@@ -1,5 +1,5 @@
 -- The last period, and what the tests of one item after others say of it.
-use Rattle.std.proofs.Common.{◌≡◌, ℕ, suc, ◌+◌, ◌-◌, ◌*◌, ◌≤◌, ◌<◌, ◌&&◌, List, [], ◌∷◌, length, map, refl, ap, sym, ◌∙◌, arith, Option, Some, None, ◌/◌, min, Result, Ok, Err}
+use Rattle.std.proofs.Common.{◌≡◌, ℕ, suc, ◌+◌, ◌-◌, ◌*◌, ◌<◌, ◌&&◌, List, [], ◌∷◌, length, map, refl, ap, sym, ◌∙◌, arith, Option, Some, None, ◌/◌, min, Result, Ok, Err}
 use Rattle.std.specs.Result.{OkIff, result_unwrap_or}
 use Rattle.source_end.specs.Kept.{capped, is_run_in_range}
 use Rattle.std.specs.Prelude.{nat_le}
@@ -10,6 +10,7 @@ use Rattle.island_pack.specs.Periods.{ControlRun, DataIsland, Period, control, v
 use Rattle.island_pack.specs.Conforming.{is_data_island}
 use Rattle.source_end.specs.declared.item.Item.{Item}
 use Rattle.source_end.specs.ItemPeriods.{period_of}
+use Rattle.source_end.specs.DviPeriods.{dvi_columns}
 use Rattle.source_end.specs.Refusals.{last_period, is_in_range}
 
 last_place : (ps : List Period) → last_period ps ≡ slice_get ps (length ps - 1)
@@ -75,3 +76,16 @@ runs_in_range runs = refl
 pub island_in_range : (x : DataIsland) → is_data_island x ≡ is_in_range (island x)
 unfolding is_in_range
 island_in_range x = refl
+
+-- The same without guard bands.
+pub dvi_video_columns : (bytes : List ℕ) (n : ℕ) → n ≡ length bytes / 3 → min n 4294967295 ≡ capped (dvi_columns (video bytes))
+unfolding dvi_columns
+dvi_video_columns bytes n e = ap (λ k. capped k) e
+
+pub dvi_island_columns : (x : DataIsland) → 0 ≡ capped (dvi_columns (island x))
+unfolding dvi_columns
+dvi_island_columns x = refl
+
+pub dvi_control_columns : (runs : List ControlRun) → length (values_of runs) ≡ dvi_columns (control runs)
+unfolding dvi_columns
+dvi_control_columns runs = refl

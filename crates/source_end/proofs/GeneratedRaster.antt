@@ -1,11 +1,10 @@
 -- The generator's content is not refused in video format 1: its rows are as wide and as many as they are to be, there is room
 -- for its packets, and it is short enough.
-use Rattle.std.proofs.Common.{◌≡◌, ℕ, zero, suc, ◌+◌, ◌*◌, ◌≤◌, ◌==◌, Bool, true, false, cond, List, [], ◌∷◌, map, length, refl, ap, ap₂, sym, ◌∙◌, subst, arith, nat_le, eq-eqb, Option, Some, None}
+use Rattle.std.proofs.Common.{◌≡◌, ℕ, zero, suc, ◌+◌, ◌*◌, ◌≤◌, Bool, false, cond, List, [], ◌∷◌, map, length, refl, ap, ap₂, sym, ◌∙◌, arith, eq-eqb, Option, Some, None}
 use Rattle.std.proofs.lemmas.Bool.{le-leb}
 use Rattle.std.proofs.lemmas.List.{length-map}
 use Rattle.island_pack.specs.declared.packet.Packet.{Packet}
 use Rattle.source_end.specs.declared.mode.Mode.{Mode}
-use Rattle.source_end.specs.declared.refusal.RasterFault.{RasterFault}
 use Rattle.source_end.specs.declared.refusal.RasterFault.TheVariants.{Row, NoRoom, Long}
 use Rattle.source_end.specs.Content.{Frame}
 use Rattle.source_end.specs.Raster.{up_from, lines_of}

@@ -19,10 +19,10 @@ use Rattle.source_end.proofs.Packets.{SpellsPackets-append, packets_in_range}
 use Rattle.source_end.proofs.Streams.{Spells-append}
 
 -- A list with one item seen, and what stands behind it.
-parts_at : {A : Type 0} (xs : List A) (i : ℕ) (d : A) → i < length xs → take i xs ++ (get_or xs i d ∷ drop (suc i) xs) ≡ xs
+pub parts_at : {A : Type 0} (xs : List A) (i : ℕ) (d : A) → i < length xs → take i xs ++ (get_or xs i d ∷ drop (suc i) xs) ≡ xs
 parts_at xs i d lt = ap (λ ys. take i xs ++ ys) (sym (drop-cons xs i d lt)) ∙ take-append-drop i xs
 
-all_behind : {A : Type 0} (p : A → Bool) (xs : List A) (i : ℕ) → list_all p xs ≡ true → list_all p (drop i xs) ≡ true
+pub all_behind : {A : Type 0} (p : A → Bool) (xs : List A) (i : ℕ) → list_all p xs ≡ true → list_all p (drop i xs) ≡ true
 all_behind p xs zero h = h
 all_behind p [] (suc i) h = refl
 all_behind p (x ∷ xs) (suc i) h = all_behind p xs i (and_parts (p x) (list_all p xs) h).1

@@ -8,6 +8,8 @@ pub mod Packets
 pub mod Streams
 pub mod Fronts
 pub mod ItemFronts
+pub mod DviTurns
+pub mod DviStreams
 pub mod Gathered
 pub mod RasterModes
 pub mod RasterSizes

@@ -23,7 +23,7 @@ Spells-append (q ∷ ps) others columns more h k =
 pub Spells-more : (periods : List Period) (p : Period) (columns own : List Column) → Spells periods columns → SpellsPeriod p own → Spells (periods ++ p ∷ []) (columns ++ own)
 Spells-more periods p columns own h k = Spells-append periods (p ∷ []) columns own h (own, [], sym (append-nil own), k, refl)
 
-video_length : (bytes : List ℕ) (columns : List Column) → SpellsPixels (pixels_of bytes) columns → length columns ≡ length bytes / 3
+pub video_length : (bytes : List ℕ) (columns : List Column) → SpellsPixels (pixels_of bytes) columns → length columns ≡ length bytes / 3
 video_length bytes columns h =
     sym (length-map columns (λ (c : Column). c.blue)) ∙ h.blue.same_length ∙ length-map (pixels_of bytes) (λ (p : Pixel). p.blue) ∙ length-pixels_of bytes
 
@@ -48,11 +48,11 @@ Spells-length (p ∷ ps) columns h =
     ap length h.2 ∙ length-append h.0 h.1 ∙ omega (arith, own, rest)
 
 -- The periods of a conforming list can be sent.
-control_sendable : (runs : List ControlRun) → is_control_period runs ≡ true → list_all is_run runs ≡ true
+pub control_sendable : (runs : List ControlRun) → is_control_period runs ≡ true → list_all is_run runs ≡ true
 unfolding is_control_period
 control_sendable runs h = left (list_all is_run runs) (nat_le 12 (length (values_of runs))) h
 
-video_sendable : (bytes : List ℕ) → is_video_period bytes ≡ true → (length bytes % 3 == 0) ≡ true
+pub video_sendable : (bytes : List ℕ) → is_video_period bytes ≡ true → (length bytes % 3 == 0) ≡ true
 unfolding is_video_period
 video_sendable bytes h = left (length bytes % 3 == 0) (nat_le 1 (length bytes / 3) && nat_le (length bytes / 3) 4096) (right (list_all (λ b. nat_lt b 256) bytes) _ h)
 

@@ -1,8 +1,8 @@
 -- Lists of periods that grow by one, and that end.
-use Rattle.std.proofs.Common.{◌≡◌, ℕ, ◌+◌, ◌-◌, ◌≤◌, ◌<◌, Bool, true, false, ◌&&◌, List, [], ◌∷◌, ◌++◌, length, refl, ap, sym, ◌∙◌, arith, ◌%◌, ◌==◌}
+use Rattle.std.proofs.Common.{◌≡◌, ℕ, ◌+◌, ◌-◌, ◌≤◌, Bool, true, false, ◌&&◌, List, [], ◌∷◌, ◌++◌, length, refl, ap, sym, ◌∙◌, arith, ◌%◌, ◌==◌}
 use Rattle.std.specs.Prelude.{nat_le, nat_lt}
 use Rattle.std.specs.List.{list_all}
-use Rattle.std.proofs.lemmas.Bool.{leb-true, leb-false}
+use Rattle.std.proofs.lemmas.Bool.{leb-true}
 use Rattle.island_pack.specs.Periods.{ControlRun, DataIsland, Period, control, video, island, values_of, has_preamble, VIDEO_PREAMBLE, ISLAND_PREAMBLE, period_columns, columns_of}
 use Rattle.island_pack.specs.Conforming.{is_run, is_control_period, is_video_period, is_data_island, conforms}
 use Rattle.source_end.specs.Kept.{capped, is_run_in_range, are_pixels, has_pixels, conforms_so_far}
@@ -16,7 +16,7 @@ pub right : (a b : Bool) → (a && b) ≡ true → b ≡ true
 right true b h = h
 right false b h = absurd cc
 
-both : (a b : Bool) → a ≡ true → b ≡ true → (a && b) ≡ true
+pub both : (a b : Bool) → a ≡ true → b ≡ true → (a && b) ≡ true
 both true b h k = k
 both false b h k = absurd cc
 
@@ -31,11 +31,11 @@ runs_in_range (r ∷ runs) h =
     (without_most (nat_lt r.value 64) (nat_le 1 r.count) (nat_le r.count 20000000) (left (is_run_in_range r) (list_all is_run_in_range runs) h))
     (runs_in_range runs (right (is_run_in_range r) (list_all is_run_in_range runs) h))
 
-control_in_range : (runs : List ControlRun) → is_in_range (control runs) ≡ true → list_all is_run runs ≡ true
+pub control_in_range : (runs : List ControlRun) → is_in_range (control runs) ≡ true → list_all is_run runs ≡ true
 unfolding is_in_range is_run_in_range
 control_in_range runs h = runs_in_range runs h
 
-video_in_range : (bytes : List ℕ) → is_in_range (video bytes) ≡ true → are_pixels bytes ≡ true → is_video_period bytes ≡ true
+pub video_in_range : (bytes : List ℕ) → is_in_range (video bytes) ≡ true → are_pixels bytes ≡ true → is_video_period bytes ≡ true
 unfolding is_in_range is_video_period
 video_in_range bytes h k =
     let all = list_all (λ b. nat_lt b 256) bytes in
@@ -46,7 +46,7 @@ island_in_range : (x : DataIsland) → is_in_range (island x) ≡ true → is_da
 unfolding is_in_range
 island_in_range x h = h
 
-period_is : (runs : List ControlRun) → list_all is_run runs ≡ true → nat_le 12 (length (values_of runs)) ≡ true → is_control_period runs ≡ true
+pub period_is : (runs : List ControlRun) → list_all is_run runs ≡ true → nat_le 12 (length (values_of runs)) ≡ true → is_control_period runs ≡ true
 unfolding is_control_period
 period_is runs h k = both (list_all is_run runs) (nat_le 12 (length (values_of runs))) h k
 
@@ -137,11 +137,8 @@ unfolding conforms_so_far columns_of
 none_yet [] e = (refl, refl, omega arith)
 none_yet (p ∷ ps) e = absurd cc
 
-pub too_long : (sum n m : ℕ) → n ≡ capped m → sum ≤ 20000000 → 20000000 - sum < n → nat_le (sum + m) 20000000 ≡ false
-too_long sum n m e few more = grind arith
-
-pub not_long : (sum n m : ℕ) → n ≡ capped m → sum ≤ 20000000 → n ≤ 20000000 - sum → nat_le (sum + m) 20000000 ≡ true
-not_long sum n m e few fits = grind arith
+pub capped_room : (sum n m : ℕ) → n ≡ capped m → nat_le (sum + n) 20000000 ≡ nat_le (sum + m) 20000000
+capped_room sum n m e = grind arith
 
 pub same_sum : (sum n m : ℕ) → n ≡ capped m → n ≤ 20000000 - sum → sum + n ≡ sum + m
 same_sum sum n m e fits = omega arith
@@ -149,6 +146,3 @@ same_sum sum n m e fits = omega arith
 -- what the test on the columns says
 pub room_left : (sum n : ℕ) (fits : Bool) → fits ≡ nat_le (sum + n) 20000000 → fits ≡ true → n ≤ 20000000 - sum
 room_left sum n fits e t = let le : sum + n ≤ 20000000 = leb-true (sum + n) 20000000 (sym e ∙ t) in omega arith
-
-pub no_room : (sum n : ℕ) (fits : Bool) → sum ≤ 20000000 → fits ≡ nat_le (sum + n) 20000000 → fits ≡ false → 20000000 - sum < n
-no_room sum n fits few e f = let lt : 20000000 < sum + n = leb-false (sum + n) 20000000 (sym e ∙ f) in omega arith

@@ -1,5 +1,5 @@
 -- What is kept of the columns of a control period, and of the periods so far.
-use Rattle.std.specs.Prelude.{ℕ, ◌-◌, ◌^◌, ◌%◌, Bool, true, false, ◌==◌, ◌&&◌, List, [], ◌∷◌, length, min, reverse, nat_le, nat_lt}
+use Rattle.std.specs.Prelude.{ℕ, ◌-◌, ◌^◌, ◌%◌, Bool, true, false, ◌==◌, ◌&&◌, List, [], ◌∷◌, length, min, reverse, nat_lt}
 use Rattle.std.specs.List.{list_all, prefix_len}
 use Rattle.island_pack.specs.Periods.{ControlRun, Period, control, video, island, values_of, ctl, has_preamble, VIDEO_PREAMBLE, ISLAND_PREAMBLE}
 use Rattle.island_pack.specs.Conforming.{is_run, is_control_period, is_video_period, is_data_island}
@@ -28,6 +28,12 @@ is_sendable (control runs) = list_all is_run runs
 is_sendable (video bytes) = length bytes % 3 == 0
 is_sendable (island x) = is_data_island x
 
+-- the same of a period without guard bands, which is no island
+abbrev pub is_dvi_sendable : Period → Bool
+is_dvi_sendable (control runs) = list_all is_run runs
+is_dvi_sendable (video bytes) = length bytes % 3 == 0
+is_dvi_sendable (island x) = false
+
 -- how many columns at the end have these control bits
 unfoldable pub led_by : ℕ → List ControlRun → ℕ
 led_by bits runs = prefix_len (λ v. ctl v == bits) (reverse (values_of runs))
@@ -41,3 +47,10 @@ conforms_so_far (control runs ∷ (video bytes ∷ rest)) =
 conforms_so_far (control runs ∷ (island x ∷ rest)) =
     is_control_period runs && (has_preamble ISLAND_PREAMBLE (values_of runs) && (is_data_island x && conforms_so_far rest))
 conforms_so_far _ = false
+
+-- the same without guard bands
+unfoldable pub dvi_conforms_so_far : List Period → Bool
+dvi_conforms_so_far [] = true
+dvi_conforms_so_far (control runs ∷ []) = list_all is_run runs
+dvi_conforms_so_far (control runs ∷ (video bytes ∷ rest)) = is_control_period runs && (is_video_period bytes && dvi_conforms_so_far rest)
+dvi_conforms_so_far _ = false

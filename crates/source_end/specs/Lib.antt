@@ -1,6 +1,7 @@
 pub mod Pairs
 pub mod Kept
 pub mod ItemPeriods
+pub mod DviPeriods
 pub mod Refusals
 pub mod Laws
 pub mod Content

@@ -1,9 +1,10 @@
 -- Why an item is refused after the periods before it, and why a list of periods cannot end: the first cause decides.
-use Rattle.std.specs.Prelude.{◌≡◌, ◌+◌, ◌/◌, Bool, true, false, ◌&&◌, List, [], ◌∷◌, length, nat_le, nat_lt, Option, Some, None, Result, Ok, Err}
+use Rattle.std.specs.Prelude.{◌≡◌, ◌/◌, Bool, true, false, List, [], ◌∷◌, length, Option, Some, None, Result, Ok, Err}
 use Rattle.std.specs.List.{list_all}
 use Rattle.island_pack.specs.Periods.{Period, control, video, island, values_of, has_preamble, VIDEO_PREAMBLE, ISLAND_PREAMBLE, period_columns, columns_of}
 use Rattle.island_pack.specs.Conforming.{is_data_island}
 use Rattle.island_pack.specs.Ranges.{is_run_in_range, is_line_in_range, is_control_in_range, has_room}
+use Rattle.source_end.specs.DviPeriods.{dvi_columns, dvi_columns_of}
 use Rattle.source_end.specs.declared.items.ItemFault.{ItemFault}
 use Rattle.source_end.specs.declared.items.ItemFault.TheVariants.{Range, Order, Control, Preamble, Long, NoMemory}
 
@@ -55,14 +56,22 @@ abbrev pub unless : Bool → ItemFault → Option ItemFault → Option ItemFault
 unless true fault rest = rest
 unless false fault rest = Some fault
 
-unfoldable pub push_fault : List Period → Period → Option ItemFault
-push_fault periods p =
+-- the fault of an item that is announced or not, and whose columns have room or not
+abbrev pub first_fault : List Period → Period → Bool → Bool → Option ItemFault
+first_fault periods p announced room =
     unless (is_in_range p) Range
     (unless (is_in_order (last_period periods) p) Order
     (unless (has_control (last_period periods) p) Control
-    (unless (is_announced (last_period periods) p) Preamble
-    (unless (has_room (columns_of periods) (period_columns p)) Long
+    (unless announced Preamble
+    (unless room Long
     None))))
+
+unfoldable pub push_fault : List Period → Period → Option ItemFault
+push_fault periods p = first_fault periods p (is_announced (last_period periods) p) (has_room (columns_of periods) (period_columns p))
+
+-- without guard bands nothing has to be announced
+unfoldable pub dvi_push_fault : List Period → Period → Option ItemFault
+dvi_push_fault periods p = first_fault periods p true (has_room (dvi_columns_of periods) (dvi_columns p))
 
 abbrev pub is_control_last : Option Period → Bool
 is_control_last (Some (control runs)) = true

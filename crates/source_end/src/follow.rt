@@ -4,13 +4,51 @@ ghost use Rattle.std.specs.List.{list_all};
 ghost use Rattle.island_pack.specs.Periods.{DataIsland, video, island};
 ghost use Rattle.source_end.specs.ItemPeriods.{period_of};
 ghost use Rattle.source_end.specs.Kept.{has_pixels, is_run_in_range};
-ghost use Rattle.source_end.specs.Refusals.{last_period, is_in_range, is_in_order, has_control, is_announced, is_control_last, is_long_enough};
+ghost use Rattle.source_end.specs.Refusals.{last_period, is_in_range, is_in_order, has_control, is_announced, is_control_last, is_long_enough, first_fault, close_fault};
 
-use crate::{Item, Run};
+use crate::{Item, ItemFault, Run};
 use island_pack::{is_control_in_range, is_line_in_range};
 
+/// The first fault of an item after others, where it is `announced` or not, and its columns have `room` or not.
+pub(crate) fn first_fault(
+    items: &[Item],
+    item: &Item,
+    announced: bool,
+    room: bool,
+) -> Option<ItemFault>
+    ensures answer { result ≡ first_fault (map period_of items.now) (period_of item.now) announced room }
+    ensures whole { IsTrue (has_pixels (period_of item.now)) }
+{
+    if !is_in_range(item) {
+        Some(ItemFault::Range)
+    } else if !is_in_order(items, item) {
+        Some(ItemFault::Order)
+    } else if !has_control(items, item) {
+        Some(ItemFault::Control)
+    } else if !announced {
+        Some(ItemFault::Preamble)
+    } else if !room {
+        Some(ItemFault::Long)
+    } else {
+        None
+    }
+}
+
+/// The first fault of the end of items.
+pub(crate) fn end_fault(items: &[Item]) -> Option<ItemFault>
+    ensures { result ≡ close_fault (map period_of items.now) }
+{
+    if !is_control_last(items) {
+        Some(ItemFault::Order)
+    } else if !is_long_enough(items) {
+        Some(ItemFault::Control)
+    } else {
+        None
+    }
+}
+
 /// Whether values and counts are in their ranges.
-pub(crate) fn is_in_range(item: &Item) -> bool
+fn is_in_range(item: &Item) -> bool
     ensures answer { result ≡ is_in_range (period_of item.now) }
     ensures whole { IsTrue (has_pixels (period_of item.now)) }
 {
@@ -28,7 +66,7 @@ fn are_in_range(runs: &[Run]) -> bool
 }
 
 /// Whether it takes its turn after the items before it.
-pub(crate) fn is_in_order(items: &[Item], item: &Item) -> bool
+fn is_in_order(items: &[Item], item: &Item) -> bool
     ensures { result ≡ is_in_order (last_period (map period_of items.now)) (period_of item.now) }
 {
     match item {
@@ -39,7 +77,7 @@ pub(crate) fn is_in_order(items: &[Item], item: &Item) -> bool
 }
 
 /// Whether the last item is a control period.
-pub(crate) fn is_control_last(items: &[Item]) -> bool
+fn is_control_last(items: &[Item]) -> bool
     ensures { result ≡ is_control_last (last_period (map period_of items.now)) }
 {
     match items.last() {
@@ -51,7 +89,7 @@ pub(crate) fn is_control_last(items: &[Item]) -> bool
 }
 
 /// Whether it needs no control period before it, or a long enough one is there.
-pub(crate) fn has_control(items: &[Item], item: &Item) -> bool
+fn has_control(items: &[Item], item: &Item) -> bool
     ensures { result ≡ has_control (last_period (map period_of items.now)) (period_of item.now) }
 {
     match item {
@@ -62,7 +100,7 @@ pub(crate) fn has_control(items: &[Item], item: &Item) -> bool
 }
 
 /// Whether the last item is a control period of at least twelve columns.
-pub(crate) fn is_long_enough(items: &[Item]) -> bool
+fn is_long_enough(items: &[Item]) -> bool
     ensures { result ≡ is_long_enough (last_period (map period_of items.now)) }
 {
     match items.last() {

@@ -209,7 +209,7 @@ impl Pixels {
 pub enum Item {
     /// A control period.
     Control(Runs),
-    /// A video data period, its two guard columns included.
+    /// A video data period, in a link with its two guard columns.
     Video(Pixels),
     /// A data island, its four guard columns included.
     Island(Island),
@@ -217,6 +217,7 @@ pub enum Item {
 
 impl Item {
     ghost use Rattle.island_pack.specs.Periods.{period_columns};
+    ghost use Rattle.source_end.specs.DviPeriods.{dvi_columns};
     ghost use Rattle.source_end.specs.ItemPeriods.{period_of};
 
     /// How many columns it takes, at most the greatest u32.
@@ -232,6 +233,17 @@ impl Item {
                 .unwrap_or(u32::MAX)
                 .saturating_mul(32)
                 .saturating_add(4),
+        }
+    }
+
+    /// How many columns it takes without guard bands, at most the greatest u32; a data island none.
+    pub(crate) fn dvi_columns(&self) -> u32
+        ensures { result ≡ capped (dvi_columns (period_of self.now)) }
+    {
+        match self {
+            Item::Control(runs) => runs.columns(),
+            Item::Video(pixels) => u32::try_from(pixels.len()).unwrap_or(u32::MAX),
+            Item::Island(_) => 0,
         }
     }
 }

@@ -1,9 +1,7 @@
 //! Lists of items that can be the first ones of a conforming list.
 ghost use Rattle.std.specs.Prelude.{◌≡◌, ℕ, ◌≤◌, ◌+◌, ◌++◌, ◌∷◌, [], List, OnOk, OnErr, IfOk, IsTrue, not, nat_le};
 
-use crate::follow::{
-    has_control, is_announced, is_control_last, is_in_order, is_in_range, is_long_enough,
-};
+use crate::follow::{end_fault, first_fault, is_announced};
 use crate::{Item, Stream};
 use island_pack::has_room;
 use outside_io::NoMemory;
@@ -89,21 +87,11 @@ impl Items {
         ensures ok { OnOk result (self.new ≡ self.old ++ period_of item ∷ []) }
         ensures err { OnErr result (self.new ≡ self.old) }
     {
-        if !is_in_range(&item) {
-            return Err(ItemFault::Range);
-        }
-        if !is_in_order(self.list.as_slice(), &item) {
-            return Err(ItemFault::Order);
-        }
-        if !has_control(self.list.as_slice(), &item) {
-            return Err(ItemFault::Control);
-        }
-        if !is_announced(self.list.as_slice(), &item) {
-            return Err(ItemFault::Preamble);
-        }
         let columns = item.columns();
-        if !has_room(self.columns, columns) {
-            return Err(ItemFault::Long);
+        let announced = is_announced(self.list.as_slice(), &item);
+        let room = has_room(self.columns, columns);
+        if let Some(fault) = first_fault(self.list.as_slice(), &item, announced, room) {
+            return Err(fault);
         }
         match self.list.push(item) {
             Ok(()) => {
@@ -119,11 +107,8 @@ impl Items {
         ensures fault { AnswersOnlyFault (close_fault self) result }
         ensures ok { IfOk result (λ stream. stream ≡ self) }
     {
-        if !is_control_last(self.list.as_slice()) {
-            return Err(ItemFault::Order);
-        }
-        if !is_long_enough(self.list.as_slice()) {
-            return Err(ItemFault::Control);
+        if let Some(fault) = end_fault(self.list.as_slice()) {
+            return Err(fault);
         }
         Ok(Stream::new(self.list, self.columns))
     }

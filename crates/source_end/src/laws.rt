@@ -1,10 +1,15 @@
 //! Laws of streams, over their definitions alone.
-ghost use Rattle.source_end.specs.Laws.{SpelledAsMany};
+ghost use Rattle.source_end.specs.Laws.{SpelledAsMany, DviSpelledAsMany};
 ghost use Rattle.source_end.specs.RasterLaws.{RasterConforms, RasterColumns, GeneratedHasRaster};
 
 /// Columns that spell periods are as many as the periods take.
 pub fn spelled_as_many()
     ensures { SpelledAsMany }
+{}
+
+/// Columns that spell periods without guard bands are as many as the periods take.
+pub fn dvi_spelled_as_many()
+    ensures { DviSpelledAsMany }
 {}
 
 /// A raster that is not refused conforms.

@@ -2,6 +2,8 @@
 #![tactic(auto)]
 
 mod content;
+mod dvi_items;
+mod dvi_stream;
 mod follow;
 mod gathering;
 mod generator;
@@ -18,6 +20,8 @@ mod spell;
 mod stream;
 
 pub use content::Content;
+pub use dvi_items::DviItems;
+pub use dvi_stream::DviStream;
 pub use gathering::{Gathering, OpenRuns};
 pub use generator::generate;
 pub use island::Island;

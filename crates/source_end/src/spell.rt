@@ -10,7 +10,8 @@ ghost use Rattle.island_pack.specs.Spelling.{SpellsPeriod, SpellsVideo, SpellsIs
 ghost use Rattle.source_end.specs.ItemPeriods.{period_of};
 ghost use Rattle.source_end.specs.Fronts.{TookFront};
 ghost use Rattle.source_end.specs.Pairs.{pair_of};
-ghost use Rattle.source_end.specs.Kept.{is_sendable};
+ghost use Rattle.source_end.specs.DviPeriods.{dvi_columns, DviSpellsPeriod};
+ghost use Rattle.source_end.specs.Kept.{is_sendable, is_dvi_sendable};
 
 use crate::line_coding::pixels;
 use crate::{Island, Item, Run};
@@ -33,6 +34,21 @@ pub(crate) fn item<C: ColumnSink>(item: &Item, out: &mut C) -> Result<(), NoMemo
         Item::Control(runs) => control(runs.as_slice(), out),
         Item::Video(pixels) => video(pixels.as_slice(), out),
         Item::Island(data) => island(data, out),
+    }
+}
+
+/// Gives the columns of an item without guard bands.
+pub(crate) fn dvi_item<C: ColumnSink>(item: &Item, out: &mut C) -> Result<(), NoMemory>
+    requires sendable { IsTrue (is_dvi_sendable (period_of item.now)) }
+    requires room { length (C.taken out.old) + dvi_columns (period_of item.now) < 429496729 }
+    ensures ok { OnOk result ((columns : List Column) × (C.taken out.new ≡ C.taken out.old ++ columns) × DviSpellsPeriod (period_of item.now) columns) }
+    ensures part { OnErr result (TookFront (C.taken out.old) (C.taken out.new) (DviSpellsPeriod (period_of item.now))) }
+    ensures cause { HasCause (C.refusals out.old) (C.refusals out.new) result }
+{
+    match item {
+        Item::Control(runs) => control(runs.as_slice(), out),
+        Item::Video(bytes) => pixels(bytes.as_slice(), out),
+        Item::Island(_) => unreachable!(),
     }
 }
 

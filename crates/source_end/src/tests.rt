@@ -10,6 +10,7 @@ use std::process::Abort;
 use std::test::*;
 use tmds_word::{ColumnSink, Word};
 
+mod dvi;
 mod rasters;
 
 /// The columns of the red pixel between two control periods.

@@ -1,5 +1,5 @@
 -- The periods of a stream without guard bands, the columns that spell them, and sparse damage of them (DVI 1.0).
-use Rattle.std.specs.Prelude.{◌≡◌, ℕ, ◌-◌, ◌/◌, ◌<◌, ◌≤◌, Bool, false, ◌&&◌, List, [], ◌∷◌, ◌++◌, map, length, replicate, IsTrue}
+use Rattle.std.specs.Prelude.{◌≡◌, ℕ, ◌+◌, ◌-◌, ◌/◌, ◌<◌, ◌≤◌, Bool, true, false, ◌&&◌, List, [], ◌∷◌, ◌++◌, map, length, replicate, IsTrue}
 use Rattle.tmds_word.specs.Column.{Column, blues, greens, reds}
 use Rattle.terc4.specs.Tables.{is_control}
 use Rattle.island_pack.specs.Periods.{Period, control, video, island, values_of, pixels_of}
@@ -23,6 +23,16 @@ unfoldable pub dvi_columns : Period → ℕ
 dvi_columns (control runs) = length (values_of runs)
 dvi_columns (video bytes) = length bytes / 3
 dvi_columns (island x) = 0
+
+unfoldable pub dvi_columns_of : List Period → ℕ
+dvi_columns_of [] = 0
+dvi_columns_of (p ∷ ps) = dvi_columns p + dvi_columns_of ps
+
+-- there is none without guard bands
+abbrev pub is_island : Period → Bool
+is_island (control runs) = false
+is_island (video bytes) = false
+is_island (island x) = true
 
 abbrev pub DviSpellsPeriod : Period → List Column → Type 0
 DviSpellsPeriod (control runs) columns = columns ≡ map control_column (values_of runs)

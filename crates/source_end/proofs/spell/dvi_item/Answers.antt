@@ -1,0 +1,29 @@
+use Rattle.std.proofs.Common.{◌≡◌, ◌<◌, ◌+◌, length, true, ap, sym, ◌∙◌, subst}
+use Rattle.std.proofs.lemmas.Bool.{eqb-true}
+use Rattle.island_pack.specs.Periods.{Period, control, video}
+use Rattle.source_end.specs.DviPeriods.{dvi_columns}
+use Rattle.source_end.specs.ItemPeriods.{period_of}
+use Rattle.source_end.specs.Kept.{is_dvi_sendable}
+use Rattle.source_end.proofs.spell.dvi_item.Goals as goal
+
+pub control-requires-clause-runs : goal.control-requires-clause-runs
+control-requires-clause-runs g c =
+    let e : period_of c.args.item.now ≡ control c.as_slice.result.now = ap period_of c.in-Control.is ∙ ap control (sym c.as_slice.ensures) in
+    subst (λ (p : Period). is_dvi_sendable p ≡ true) e c.requires.sendable
+
+pub control-requires-clause-room : goal.control-requires-clause-room
+unfolding dvi_columns
+control-requires-clause-room g c =
+    let e : period_of c.args.item.now ≡ control c.as_slice.result.now = ap period_of c.in-Control.is ∙ ap control (sym c.as_slice.ensures) in
+    subst (λ (p : Period). length (g.C.ColumnSink.taken c.args.out.now) + dvi_columns p < 429496729) e c.requires.room
+
+pub pixels-requires-clause-whole : goal.pixels-requires-clause-whole
+pixels-requires-clause-whole g c =
+    let e : period_of c.args.item.now ≡ video c.as_slice-in-Video.result.now = ap period_of c.in-Video.is ∙ ap video (sym c.as_slice-in-Video.ensures) in
+    eqb-true _ _ (subst (λ (p : Period). is_dvi_sendable p ≡ true) e c.requires.sendable)
+
+pub pixels-requires-clause-room : goal.pixels-requires-clause-room
+unfolding dvi_columns
+pixels-requires-clause-room g c =
+    let e : period_of c.args.item.now ≡ video c.as_slice-in-Video.result.now = ap period_of c.in-Video.is ∙ ap video (sym c.as_slice-in-Video.ensures) in
+    subst (λ (p : Period). length (g.C.ColumnSink.taken c.args.out.now) + dvi_columns p < 429496729) e c.requires.room
