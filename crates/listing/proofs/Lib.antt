@@ -20,6 +20,9 @@ pub mod LongForm
 pub mod Numbers
 pub mod OneLine
 pub mod OpenPeriods
+pub mod DviOpen
+pub mod DviSteps
+pub mod DviCauses
 pub mod PacketForms
 pub mod Parts
 pub mod Pieces

@@ -141,13 +141,13 @@ video_last all now bytes more = ap (λ (ps : List Period). is_control_last (last
 
 -- The control period that is closed.
 
-in_turn : (before : Option Period) (runs : List ControlRun) → is_control_last before ≡ false → is_in_order before (control runs) ≡ true
+pub in_turn : (before : Option Period) (runs : List ControlRun) → is_control_last before ≡ false → is_in_order before (control runs) ≡ true
 in_turn None runs turn = refl
 in_turn (Some (control rs)) runs turn = absurd cc
 in_turn (Some (video bytes)) runs turn = refl
 in_turn (Some (island x)) runs turn = refl
 
-le_test : (a b : ℕ) → a ≤ b → nat_le a b ≡ true
+pub le_test : (a b : ℕ) → a ≤ b → nat_le a b ≡ true
 le_test a b h = grind arith
 
 pub closes : (ps : List Period) (rs : List ControlRun) → is_control_last (last_period ps) ≡ false → is_in_range (control rs) ≡ true → columns_of (with_open ps rs) ≤ 20000000 → push_fault ps (control rs) ≡ None

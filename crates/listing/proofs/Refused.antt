@@ -210,7 +210,7 @@ pub answers_read : {T : Type 0} (draft : Draft) (digits bytes : List ℕ) (resul
     → AnswersCause (line_cause draft (video_by true (decode_of digits))) result
 answers_read {T} draft digits bytes result read h = answers_line {T = T} draft (video_by true (decode_of digits)) (video_line bytes) result (ap (video_by true) read) h
 
-no_digits : (read : Result (List ℕ) FromHexError) → IsErr read → video_by true read ≡ no_line
+pub no_digits : (read : Result (List ℕ) FromHexError) → IsErr read → video_by true read ≡ no_line
 no_digits (Ok bytes) h = absurd cc
 no_digits (Err e) h = refl
 
@@ -221,16 +221,19 @@ cause_none_told draft = refl
 cause_no_digits : (draft : Draft) (read : Result (List ℕ) FromHexError) → IsErr read → line_cause draft (video_by true read) ≡ Some Form
 cause_no_digits draft read h = ap (line_cause draft) (no_digits read h) ∙ cause_none_told draft
 
-refused_digits : (T : Type 0) (draft : Draft) (digits : List ℕ) (refusal : Refusal) → (refusal ≡ NoMemory) ⊎ ((refusal ≡ Cause Form) × IsErr (decode_of digits))
-    → AnswersCause {T = T} (line_cause draft (video_by true (decode_of digits))) (Err refusal)
-refused_digits T draft digits refusal (inl e) = answers_same T (line_cause draft (video_by true (decode_of digits))) refusal e
-refused_digits T draft digits refusal (inr h) =
-    let seen = line_cause draft (video_by true (decode_of digits)) in
-    subst (λ (r : Refusal). AnswersCause {T = T} seen (Err r)) (sym h.0) (answers_cause T seen Form (cause_no_digits draft (decode_of digits) h.1))
+refused_digits : (T : Type 0) (seen : Option ListCause) (digits : List ℕ) (refusal : Refusal) → (IsErr (decode_of digits) → seen ≡ Some Form)
+    → (refusal ≡ NoMemory) ⊎ ((refusal ≡ Cause Form) × IsErr (decode_of digits)) → AnswersCause {T = T} seen (Err refusal)
+refused_digits T seen digits refusal form (inl e) = answers_same T seen refusal e
+refused_digits T seen digits refusal form (inr h) = subst (λ (r : Refusal). AnswersCause {T = T} seen (Err r)) (sym h.0) (answers_cause T seen Form (form h.1))
+
+pub answers_undecoded : (T : Type 0) (seen : Option ListCause) (digits : List ℕ) (result : Result T Refusal) (refusal : Refusal) → (IsErr (decode_of digits) → seen ≡ Some Form)
+    → (refusal ≡ NoMemory) ⊎ ((refusal ≡ Cause Form) × IsErr (decode_of digits)) → IsErrAnd result (λ r. r ≡ refusal) → AnswersCause seen result
+answers_undecoded T seen digits (Ok v) refusal form why h = absurd h
+answers_undecoded T seen digits (Err found) refusal form why h =
+    subst (λ (r : Refusal). AnswersCause {T = T} seen (Err r)) (sym h) (refused_digits T seen digits refusal form why)
 
 -- bytes that are no digits, or want of memory
 pub answers_unread : (T : Type 0) (draft : Draft) (digits : List ℕ) (result : Result T Refusal) (refusal : Refusal) → (refusal ≡ NoMemory) ⊎ ((refusal ≡ Cause Form) × IsErr (decode_of digits))
     → IsErrAnd result (λ r. r ≡ refusal) → AnswersCause (line_cause draft (video_by true (decode_of digits))) result
-answers_unread T draft digits (Ok v) refusal why h = absurd h
-answers_unread T draft digits (Err found) refusal why h =
-    subst (λ (r : Refusal). AnswersCause {T = T} (line_cause draft (video_by true (decode_of digits))) (Err r)) (sym h) (refused_digits T draft digits refusal why)
+answers_unread T draft digits result refusal why h =
+    answers_undecoded T (line_cause draft (video_by true (decode_of digits))) digits result refusal (λ none. cause_no_digits draft (decode_of digits) none) why h

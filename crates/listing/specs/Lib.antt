@@ -3,6 +3,7 @@ pub mod Forms
 pub mod Drafts
 pub mod Causes
 pub mod Reading
+pub mod DviReading
 pub mod Answers
 pub mod Held
 pub mod FormSeen

@@ -42,6 +42,10 @@ words_of (lost column block) = codes "! lost" ++ field column ++ field block
 words_of (broken column) = codes "! broken" ++ field column
 words_of (guard column) = codes "! guard" ++ field column
 
+-- the line of a slip: a lane, and the place of the capture from which on its characters are searched anew
+unfoldable pub slip_text : ℕ → ℕ → List ℕ
+slip_text lane place = codes "! slip" ++ field lane ++ field place ++ codes "\n"
+
 -- the lines of things
 unfoldable pub lines_of : List Thing → List ℕ
 lines_of [] = []

@@ -1,5 +1,6 @@
 //! The lines of what packets carry.
 ghost use Rattle.std.specs.Prelude.{◌≡◌, ◌+◌, ◌*◌, ◌≤◌, ◌<◌, ◌++◌, ◌∷◌, [], Bool, length, slice_index, is_some, Err, codes};
+ghost use Rattle.arrayvec.specs.ArrayVec.{array_vec_len};
 ghost use Rattle.infoframe.specs.Frames.{is_lost, first_lost, frame_of};
 ghost use Rattle.island_pack.specs.Packets.{body_of};
 ghost use Rattle.audio_packets.specs.Clock.{IsClockPacket, acr_of};
@@ -162,8 +163,9 @@ fn is_lost(verdict: Verdict) -> bool
 
 /// The line of a sample.
 #[tactic(auto, unfolding(crate::specs::ContentText::sample_words))]
-fn sample_line(sample: &Sample) -> Line
-    ensures { result.items ≡ sample_words sample.now ++ codes "\n" }
+pub fn sample_line(sample: &Sample) -> Line
+    ensures items { result.items ≡ sample_words sample.now ++ codes "\n" }
+    ensures few { array_vec_len result ≤ 60 }
 {
     let mut line = Line::new();
     put(&mut line, b"s ");

@@ -12,6 +12,7 @@ mod content_packets;
 mod content_past;
 mod content_reader;
 mod digits;
+mod dvi_reader;
 mod fault;
 mod form;
 pub mod laws;
@@ -26,10 +27,12 @@ mod text;
 
 pub use checker::CheckLister;
 pub use content_lister::ContentLister;
+pub use content_packets::sample_line;
 pub use fault::{ListCause, ListError, ListFault};
 pub use form::number;
+pub use line::Line;
 pub use lister::LinkLister;
-pub use read::{read_content, read_link};
+pub use read::{read_content, read_dvi, read_link};
 
 #[cfg(test)]
 mod content_tests;

@@ -4,15 +4,15 @@ ghost use Rattle.arrayvec.specs.ArrayVec.{array_vec_len};
 ghost use Rattle.hex.specs.Hex.{encode_lower};
 ghost use Rattle.period_grammar.specs.Lending.{fault_thing};
 ghost use Rattle.period_grammar.specs.Things.{run as run_thing, packet as packet_thing};
-ghost use Rattle.listing.specs.Texts.{words_of, field, sync_digits};
+ghost use Rattle.listing.specs.Texts.{words_of, field, slip_text, sync_digits};
 ghost use Rattle.listing.specs.Fields.{with_fields};
 
 use arrayvec::ArrayVec;
 use island_pack::PacketRef;
 use period_grammar::Fault;
 
-/// Room for the longest, an AVI InfoFrame's with its seventeen numbers.
-pub(crate) type Line = ArrayVec<u8, 192>;
+/// A short line, with room for the longest, an AVI InfoFrame's with its seventeen numbers.
+pub type Line = ArrayVec<u8, 192>;
 
 /// The line of a run of control columns.
 pub(crate) fn run_line(value: u8, count: u32) -> Line
@@ -81,6 +81,19 @@ pub(crate) fn fault_line(fault: Fault) -> Line
     }
 }
 
+/// The line of a slip.
+#[tactic(auto, unfolding(crate::specs::Texts::slip_text))]
+pub(crate) fn slip_line(lane: u8, place: u64) -> Line
+    ensures { result.items ≡ slip_text lane place }
+{
+    let mut line = Line::new();
+    put(&mut line, b"! slip");
+    put_field(&mut line, u32::from(lane));
+    put_long_field(&mut line, place);
+    put(&mut line, b"\n");
+    line
+}
+
 /// A line of a name and numbers.
 pub(crate) fn fields_line(name: &[u8], numbers: &[u32]) -> Line
     requires { length name.now + 11 * length numbers.now < 192 }
@@ -100,6 +113,17 @@ pub(crate) fn put_field(line: &mut Line, number: u32)
     requires { array_vec_len line.old + 11 ≤ 192 }
     ensures items { line.new.items ≡ line.old.items ++ field number }
     ensures len { array_vec_len line.new ≤ array_vec_len line.old + 11 }
+{
+    let mut digits = itoa::Buffer::new();
+    put(line, b" ");
+    put(line, digits.format(number).as_bytes());
+}
+
+/// Puts a space and a great number's decimal digits.
+fn put_long_field(line: &mut Line, number: u64)
+    requires { array_vec_len line.old + 21 ≤ 192 }
+    ensures items { line.new.items ≡ line.old.items ++ field number }
+    ensures len { array_vec_len line.new ≤ array_vec_len line.old + 21 }
 {
     let mut digits = itoa::Buffer::new();
     put(line, b" ");

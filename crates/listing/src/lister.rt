@@ -3,9 +3,9 @@ ghost use Rattle.std.specs.Prelude.{◌≡◌, ℕ, ◌+◌, ◌*◌, ◌≤◌,
 ghost use Rattle.std.specs.Io.KnownBytes.{Appends};
 ghost use Rattle.outside_io.specs.Causes.{HasCause};
 ghost use Rattle.hex.specs.Hex.{encode_lower};
-ghost use Rattle.listing.specs.Texts.{lines_of, fault_lines, counted};
+ghost use Rattle.listing.specs.Texts.{lines_of, fault_lines, counted, slip_text};
 
-use crate::line::{Line, fault_line, fields_line, guard_line, packet_line, run_line};
+use crate::line::{Line, fault_line, fields_line, guard_line, packet_line, run_line, slip_line};
 use link_sink::Ear;
 use outside_io::{Failed, Sink, write_all};
 use period_grammar::Told;
@@ -40,6 +40,21 @@ impl<'a, K: Sink> LinkLister<'a, K> {
         ensures { result ≡ self.now.faults }
     {
         self.faults
+    }
+
+    /// Writes the line of a slip, which is a fault line: the lane, and the place of the capture from which on its
+    /// characters are searched anew. Where the sink fails, a part of the line is written, and nothing is counted.
+    pub fn slip(&mut self, lane: u8, place: u64) -> Result<(), Failed>
+        ensures same { self.new.sink.ghost_name ≡ self.old.sink.ghost_name }
+        ensures counted { OnOk result (self.new.faults ≡ counted self.old.faults 1) }
+        ensures uncounted { OnErr result (self.new.faults ≡ self.old.faults) }
+        ensures whole { OnOk result (Appends (K.held self.old.sink.now) (K.held self.new.sink.now) (slip_text lane place)) }
+        ensures part { OnErr result ((n : ℕ) × (n < length (slip_text lane place)) × Appends (K.held self.old.sink.now) (K.held self.new.sink.now) (take n (slip_text lane place))) }
+        ensures cause { HasCause (K.faults self.old.sink.now) (K.faults self.new.sink.now) result }
+    {
+        write_short(self.sink, slip_line(lane, place))?;
+        self.faults = self.faults.saturating_add(1);
+        Ok(())
     }
 
     /// Writes the last line.

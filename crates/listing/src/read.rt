@@ -3,14 +3,16 @@ ghost use Rattle.std.specs.Prelude.{◌≡◌, ◌≤◌, ℕ, List, OnOk, IfErr
 ghost use Rattle.std.specs.Io.KnownBytes.{IsAtEnd};
 ghost use Rattle.listing.specs.Answers.{Answers, IsCaused};
 ghost use Rattle.listing.specs.ContentReading.{content_reads_as};
+ghost use Rattle.listing.specs.DviReading.{dvi_reads_as};
 ghost use Rattle.listing.specs.Reading.{reads_as};
 
 use crate::ListError;
 use crate::content_reader::ContentReader;
+use crate::dvi_reader::DviReader;
 use crate::reader::Reader;
 use crate::text::read_lines;
 use outside_io::Source;
-use source_end::{Content, Mode, Stream};
+use source_end::{Content, DviStream, Mode, Stream};
 use std::alloc::Global;
 
 /// Reads the text of a link listing to its end, line by line. The memory that it takes is that of the
@@ -22,6 +24,17 @@ pub fn read_link<S: Source>(alloc: Global, source: &mut S) -> Result<Stream, Lis
     ensures later { S.faults source.old ≤ S.faults source.new }
 {
     read_lines(alloc, source, Reader::new(alloc))
+}
+
+/// Reads the text of a listing without guard bands to its end, line by line: lines `c`, `v` and `end` alone. The memory
+/// that it takes is that of the items and of a buffer of 65,536 bytes.
+pub fn read_dvi<S: Source>(alloc: Global, source: &mut S) -> Result<DviStream, ListError>
+    ensures answers { (text : List ℕ) → S.left source.old ≡ Some text → Answers (dvi_reads_as text) result }
+    ensures ended { OnOk result (IsAtEnd (S.left source.new)) }
+    ensures caused { IfErr result (λ e. IsCaused (S.faults source.old) (S.faults source.new) e) }
+    ensures later { S.faults source.old ≤ S.faults source.new }
+{
+    read_lines(alloc, source, DviReader::new(alloc))
 }
 
 /// Reads the text of a content listing to its end, line by line. The memory that it takes is that of the

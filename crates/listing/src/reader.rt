@@ -441,7 +441,7 @@ fn are_pixels_in_range(pixels: &Pixels) -> bool
 }
 
 /// The pixels of hexadecimal digits. A byte that is no digit is a fault of the line's form.
-fn decode_pixels(alloc: Global, digits: &[u8]) -> Result<Pixels, Refusal>
+pub(crate) fn decode_pixels(alloc: Global, digits: &[u8]) -> Result<Pixels, Refusal>
     requires { length digits.now % 6 ≡ 0 }
     ensures ok { IfOk result (λ pixels. decode_of digits.now ≡ Ok pixels) }
     ensures err { IfErr result (λ refusal. (refusal ≡ Refusal.NoMemory) ⊎ ((refusal ≡ Refusal.Cause ListCause.Form) × IsErr (decode_of digits.now))) }
@@ -479,7 +479,7 @@ fn zeros(alloc: Global, count: usize) -> Result<Vec<u8>, NoMemory>
 }
 
 /// The cause that a fault of an item is in a listing.
-fn refusal_of(fault: ItemFault) -> Refusal
+pub(crate) fn refusal_of(fault: ItemFault) -> Refusal
     ensures { RefusesAs fault result }
 {
     match fault {

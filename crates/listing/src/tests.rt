@@ -2,6 +2,7 @@
 
 mod checks;
 mod contents;
+mod dvi;
 
 ghost use Rattle.period_grammar.specs.Lending.{lent_thing};
 ghost use Rattle.period_grammar.specs.Sizes.{IsSized};
@@ -618,5 +619,21 @@ fn numbers(rt: HostRuntime) -> Result<(), Fail> {
     for (digits, value) in rows {
         assert_eq!(rt; number(digits), value);
     }
+    Ok(())
+}
+
+// The third line has room for seven bytes alone.
+#[test]
+fn slip_lines(rt: HostRuntime) -> Result<(), Fail> {
+    let mut sink = MemSink::new(rt.alloc(), 50, 7, Vec::new(rt.alloc()))?;
+    let mut lister = LinkLister::open(&mut sink);
+    assert_eq!(rt; lister.slip(2, 437), Ok(()));
+    assert_eq!(rt; lister.slip(0, 18_446_744_073_709_551_615), Ok(()));
+    assert_eq!(rt; lister.faults(), 2);
+    assert_eq!(rt; lister.slip(1, 0), Err(Failed));
+    assert_eq!(rt; lister.faults(), 2);
+    drop(lister);
+    let text = b"! slip 2 437\n! slip 0 18446744073709551615\n! slip ";
+    assert_eq!(rt; sink.bytes(), text.as_slice());
     Ok(())
 }
