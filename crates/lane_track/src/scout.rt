@@ -1,5 +1,5 @@
 //! Looks through the bits of a lane, part after part, for its lock and its first stray.
-ghost use Rattle.std.specs.Prelude.{◌≡◌, ◌<◌, ◌≤◌, ◌+◌, ◌*◌, ◌%◌, ◌^◌, ℕ, Bool, List, length, MatchOption, None, Some, Option};
+ghost use Rattle.std.specs.Prelude.{◌≡◌, ◌<◌, ◌≤◌, ◌+◌, ◌*◌, ◌%◌, ◌^◌, ℕ, Bool, List, length, MatchOption, IfSome, None, Some, Option};
 ghost use Rattle.lane_align.specs.Lanes.{IsRun, IsLock};
 ghost use Rattle.lane_align.specs.Search.{Holds};
 ghost use Rattle.lane_track.specs.Strays.{IsFirstStray};
@@ -30,8 +30,10 @@ impl Scout {
     pub fn seek(&mut self, bytes: &[u8], base: u32, from: u32, until: u32) -> Option<u32>
         requires order { from ≤ until }
         requires room { from < until → until + 119 ≤ 8 * length bytes.now }
-        requires small { base + until < 2 ^ 31 }
-        ensures { (xs : List Bool) (count : ℕ) → Holds bytes.now xs base count → until + 119 ≤ count → HasSought xs (base + from) self.old.lock
+        requires small { until < 2 ^ 31 }
+        requires total { base + until < 2 ^ 32 }
+        ensures within { IfSome result (λ p. p < until) }
+        ensures sought { (xs : List Bool) (count : ℕ) → Holds bytes.now xs base count → until + 119 ≤ count → HasSought xs (base + from) self.old.lock
             → MatchOption result (HasSought xs (base + until) self.new.lock) (λ p. IsFirstStray xs (base + p)) }
     {
         match self.lock {
@@ -51,8 +53,9 @@ impl Scout {
 fn stray_in(bytes: &[u8], base: u32, from: u32, until: u32, lock: u32) -> Option<u32>
     requires order { from ≤ until }
     requires room { from < until → until + 119 ≤ 8 * length bytes.now }
-    requires small { base + until < 2 ^ 31 }
-    ensures { (xs : List Bool) (count : ℕ) → Holds bytes.now xs base count → until + 119 ≤ count → HasSought xs (base + from) (Some lock)
+    requires small { until < 2 ^ 31 }
+    ensures within { IfSome result (λ p. p < until) }
+    ensures sought { (xs : List Bool) (count : ℕ) → Holds bytes.now xs base count → until + 119 ≤ count → HasSought xs (base + from) (Some lock)
         → MatchOption result (HasSought xs (base + until) (Some lock)) (λ p. IsFirstStray xs (base + p)) }
 {
     first_run(bytes, from, until, phase_of(lock, base))

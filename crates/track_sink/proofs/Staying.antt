@@ -9,7 +9,7 @@ use Rattle.track_sink.specs.Epochs.{lane_of, IsEnd}
 use Rattle.track_sink.specs.Tracks.{Grows}
 
 -- a stray of a lane that has more bits, where its bits up to the end of the run had come or none came
-was_stray : (xs ys more : List Bool) (p : ℕ) → ys ≡ xs ++ more → (p + 120 ≤ length xs) ⊎ (more ≡ []) → IsStray ys p → IsStray xs p
+pub was_stray : (xs ys more : List Bool) (p : ℕ) → ys ≡ xs ++ more → (p + 120 ≤ length xs) ⊎ (more ≡ []) → IsStray ys p → IsStray xs p
 was_stray xs ys more p e known stray = elim known [
   | inl long ↦ stray_was xs more p long (subst (λ us. IsStray us p) e stray)
   | inr none ↦ subst (λ us. IsStray us p) (e ∙ ap (λ us. xs ++ us) none ∙ append-nil xs) stray

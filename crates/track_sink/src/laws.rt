@@ -1,5 +1,5 @@
 //! What follows from the laws on taps.
-ghost use Rattle.track_sink.specs.Laws.{SecondTold, EndStays, AtMostTwo, CalmHasNoEnd, OneTrack, FirstTold, PayloadHasNoEnd, OneEpoch};
+ghost use Rattle.track_sink.specs.Laws.{SecondTold, EndStays, AtMostTwo, CalmHasNoEnd, OneTrack, FirstTold, PayloadHasNoEnd, OneEpoch, SomeTrack, ToldStarts};
 
 /// What the second epoch tells is the account.
 pub fn second_told()
@@ -21,9 +21,19 @@ pub fn calm_has_no_end()
     ensures { CalmHasNoEnd }
 {}
 
+/// Of all bits something is told.
+pub fn some_track()
+    ensures { SomeTrack }
+{}
+
 /// Of all bits one thing is told.
 pub fn one_track()
     ensures { OneTrack }
+{}
+
+/// What a tracker told is the beginning of what is told of all.
+pub fn told_starts()
+    ensures { ToldStarts }
 {}
 
 /// What the first epoch tells before the slip is the account.

@@ -2,6 +2,15 @@
 #![tactic(auto)]
 
 mod ear;
+mod held;
+mod lane;
+mod lanes;
 pub mod laws;
+mod sink;
+mod tracker;
 
 pub use ear::{TrackEar, TrackOutcome};
+pub use sink::TrackSink;
+
+#[cfg(test)]
+mod tests;

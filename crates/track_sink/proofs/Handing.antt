@@ -1,0 +1,426 @@
+-- A tracker that takes bits, looks through them and hands them on.
+use Rattle.std.proofs.Common.{◌≡◌, ◌⊎◌, ℕ, suc, zero, ◌+◌, ◌-◌, ◌/◌, ◌%◌, ◌^◌, ◌<◌, ◌≤◌, max, min, Bool, true, false, List, [], ◌∷◌, ◌++◌, length, take, drop, Option, Some, None, refl, ap, ap₂, ◌∙◌, sym, subst, arith, inl, inr, append-nil, length-append, length-drop}
+use Rattle.std.specs.Prelude.{MatchOption, slice_index}
+use Rattle.std.proofs.Math.Seq.{take-add}
+use Rattle.std.proofs.lemmas.Bool.{cases_lt}
+use Rattle.std.proofs.lemmas.List.{drop-drop, drop-append-le, take_min}
+use Rattle.tmds_word.specs.Bits.{bytes_bits}
+use Rattle.lane_align.specs.Lanes.{IsRun, IsLock}
+use Rattle.lane_track.specs.Strays.{IsStray}
+use Rattle.lane_track.specs.Scouts.{HasSought}
+use Rattle.lane_track.specs.declared.scout.Scout.{Scout}
+use Rattle.lane_track.proofs.Cutting.{run_was}
+use Rattle.lane_track.proofs.Strays.{lock_grows, stray_was}
+use Rattle.period_grammar.specs.Things.{Thing}
+use Rattle.link_sink.specs.Sinks.{Fed, grown, IsToldSoFar, IsGain}
+use Rattle.link_sink.specs.Pieces.{no_bits}
+use Rattle.link_sink.specs.Received.{CanFeed}
+use Rattle.link_sink.specs.Streams.{SinkSeen, StandsFor, bits_of, most_bits}
+use Rattle.link_sink.proofs.Feeding.{length_grown}
+use Rattle.link_sink.proofs.Following.{told_at_first}
+use Rattle.track_sink.specs.Events.{Event}
+use Rattle.track_sink.specs.Epochs.{lane_of, rest_of, front_of, IsEnd, IsTrack}
+use Rattle.track_sink.specs.Tracks.{Grows}
+use Rattle.track_sink.specs.Lanes.{AreFresh, AreHeld, AreSought, EndsAt}
+use Rattle.track_sink.specs.declared.lanes.Stray.{Stray}
+use mir.Val.{bool_byte}
+use Rattle.terc4.specs.Columns.{one_if}
+use Rattle.track_sink.specs.Trackers.{most_of, most_fed, Follows, HoldsRest, Carries, HasLooked, Stays, Stands, IsSettled}
+use Rattle.track_sink.specs.declared.lane.Lane.{Lane}
+use Rattle.track_sink.specs.declared.lanes.Lanes.{Lanes}
+use Rattle.track_sink.specs.declared.tracker.Tracker.{Tracker}
+use Rattle.track_sink.proofs.Following.{fronts_stay, follows_grown, same_fed, no_longer}
+
+-- Handing on.
+
+-- a lane's first bits may be handed on
+pub can_hand : (bytes : List ℕ) (given most x handed len start bits : ℕ) → given ≡ min handed (len - start) → x ≡ min (len - (start + handed)) bits → bits ≤ 32768 → handed % 8 ≡ 0
+    → length bytes ≡ (x + 7) / 8 → most ≤ handed → given ≤ most → len < 2 ^ 32 → CanFeed given most bytes x
+can_hand bytes given most x handed len start bits g e few whole size above below small = elim (cases_lt 0 x) [
+  | inl some ↦
+      let all : given ≡ handed = omega arith in
+      let here : given % 8 ≡ 0 = ap (λ n. n % 8) all ∙ whole in
+      record { most = omega arith; bytes_given = size; whole = inr here; going = inr (omega arith); total = omega arith }
+  | inr none ↦ record { most = omega arith; bytes_given = size; whole = inl (omega arith); going = inl (omega arith); total = omega arith }
+]
+
+-- what a lane's sink has once they are
+hand_lane : (bytes : List ℕ) (held xs : List Bool) (start handed bits x : ℕ) → held ≡ drop (start + handed) xs → x ≡ min (length held) bits → take x (bytes_bits bytes) ≡ take x held
+    → take handed (drop start xs) ++ take x (bytes_bits bytes) ≡ take (handed + bits) (drop start xs)
+hand_lane bytes held xs start handed bits x is e same =
+    let swap : x ≡ min bits (length held) = omega arith in
+    ap (λ us. take handed (drop start xs) ++ us)
+    (same ∙ ap (λ n. take n held) swap ∙ take_min bits held ∙ ap (take bits) (is ∙ sym (drop-drop handed start xs)))
+    ∙ sym (take-add handed bits (drop start xs))
+
+pub handed_is : (t : Tracker) (fed : Fed) (a b c : List ℕ) (x y z bits : ℕ) → Carries t fed
+    → x ≡ min (length t.lanes.first.held) bits → y ≡ min (length t.lanes.second.held) bits → z ≡ min (length t.lanes.third.held) bits
+    → take x (bytes_bits a) ≡ take x t.lanes.first.held → take y (bytes_bits b) ≡ take y t.lanes.second.held → take z (bytes_bits c) ≡ take z t.lanes.third.held
+    → grown (front_of t.handed (rest_of t.start fed)) a b c (x ∷ y ∷ z ∷ []) ≡ front_of (t.handed + bits) (rest_of t.start fed)
+handed_is t fed a b c x y z bits carries ex ey ez sx sy sz =
+    same_fed (grown (front_of t.handed (rest_of t.start fed)) a b c (x ∷ y ∷ z ∷ [])) (front_of (t.handed + bits) (rest_of t.start fed))
+    (hand_lane a t.lanes.first.held fed.blue t.start t.handed bits x carries.first.held ex sx)
+    (hand_lane b t.lanes.second.held fed.green t.start t.handed bits y carries.second.held ey sy)
+    (hand_lane c t.lanes.third.held fed.red t.start t.handed bits z carries.third.held ez sz)
+
+pub can_hand_first : (t : Tracker) (fed : Fed) (bytes : List ℕ) (x bits : ℕ) → Carries t fed → t.handed % 8 ≡ 0 → bits ≤ 32768 → x ≡ min (length t.lanes.first.held) bits → length bytes ≡ (x + 7) / 8
+    → CanFeed (bits_of t.link 0) (most_bits t.link) bytes x
+can_hand_first t fed bytes x bits c whole few e size =
+    let a = c.first.given in
+    let b = c.second.given in
+    let d = c.third.given in
+    let small = c.small in
+    can_hand bytes (bits_of t.link 0) (most_bits t.link) x t.handed (length fed.blue) t.start bits a (e ∙ ap (λ n. min n bits) (ap length c.first.held ∙ length-drop (t.start + t.handed) fed.blue)) few whole size (omega arith) (omega arith) (omega arith)
+
+pub can_hand_second : (t : Tracker) (fed : Fed) (bytes : List ℕ) (x bits : ℕ) → Carries t fed → t.handed % 8 ≡ 0 → bits ≤ 32768 → x ≡ min (length t.lanes.second.held) bits → length bytes ≡ (x + 7) / 8
+    → CanFeed (bits_of t.link 1) (most_bits t.link) bytes x
+can_hand_second t fed bytes x bits c whole few e size =
+    let a = c.first.given in
+    let b = c.second.given in
+    let d = c.third.given in
+    let small = c.small in
+    can_hand bytes (bits_of t.link 1) (most_bits t.link) x t.handed (length fed.green) t.start bits b (e ∙ ap (λ n. min n bits) (ap length c.second.held ∙ length-drop (t.start + t.handed) fed.green)) few whole size (omega arith) (omega arith) (omega arith)
+
+pub can_hand_third : (t : Tracker) (fed : Fed) (bytes : List ℕ) (x bits : ℕ) → Carries t fed → t.handed % 8 ≡ 0 → bits ≤ 32768 → x ≡ min (length t.lanes.third.held) bits → length bytes ≡ (x + 7) / 8
+    → CanFeed (bits_of t.link 2) (most_bits t.link) bytes x
+can_hand_third t fed bytes x bits c whole few e size =
+    let a = c.first.given in
+    let b = c.second.given in
+    let d = c.third.given in
+    let small = c.small in
+    can_hand bytes (bits_of t.link 2) (most_bits t.link) x t.handed (length fed.red) t.start bits d (e ∙ ap (λ n. min n bits) (ap length c.third.held ∙ length-drop (t.start + t.handed) fed.red)) few whole size (omega arith) (omega arith) (omega arith)
+
+-- a lane without the bits that were handed on
+rest_handed : (before now : Lane) (given later x start handed bits : ℕ) (xs : List Bool) → HoldsRest before given start handed xs → now.held ≡ drop bits before.held → now.fed ≡ before.fed
+    → x ≡ min (length before.held) bits → later ≡ given + x → HoldsRest now later start (handed + bits) xs
+rest_handed before now given later x start handed bits xs was is same e more =
+    let long = ap length was.held ∙ length-drop (start + handed) xs in
+    let g = was.given in
+    let place : start + handed + bits ≡ start + (handed + bits) = omega arith in
+    record {
+      held = is ∙ ap (drop bits) was.held ∙ drop-drop bits (start + handed) xs ∙ ap (λ n. drop n xs) place;
+      fed = same ∙ was.fed;
+      given = omega arith;
+    }
+
+pub carries_handed : (t : Tracker) (fed : Fed) (link : SinkSeen) (lanes : Lanes) (x y z bits : ℕ) → Carries t fed → t.start + t.handed + bits ≤ most_of fed
+    → x ≡ min (length t.lanes.first.held) bits → y ≡ min (length t.lanes.second.held) bits → z ≡ min (length t.lanes.third.held) bits
+    → link.is_open ≡ true → StandsFor link (front_of (t.handed + bits) (rest_of t.start fed))
+    → bits_of link 0 ≡ bits_of t.link 0 + x → bits_of link 1 ≡ bits_of t.link 1 + y → bits_of link 2 ≡ bits_of t.link 2 + z
+    → lanes.first.held ≡ drop bits t.lanes.first.held → lanes.second.held ≡ drop bits t.lanes.second.held → lanes.third.held ≡ drop bits t.lanes.third.held
+    → lanes.first.fed ≡ t.lanes.first.fed → lanes.second.fed ≡ t.lanes.second.fed → lanes.third.fed ≡ t.lanes.third.fed
+    → Carries (record t { link = link; lanes = lanes; handed = t.handed + bits }) fed
+carries_handed t fed link lanes x y z bits c room ex ey ez opened stands gx gy gz hx hy hz fx fy fz = record {
+  link_open = opened;
+  link = stands;
+  first = rest_handed t.lanes.first lanes.first (bits_of t.link 0) (bits_of link 0) x t.start t.handed bits fed.blue c.first hx fx ex gx;
+  second = rest_handed t.lanes.second lanes.second (bits_of t.link 1) (bits_of link 1) y t.start t.handed bits fed.green c.second hy fy ey gy;
+  third = rest_handed t.lanes.third lanes.third (bits_of t.link 2) (bits_of link 2) z t.start t.handed bits fed.red c.third hz fz ez gz;
+  within = omega arith;
+  small = c.small;
+  few = c.few;
+  fewer = c.fewer;
+}
+
+-- Looking.
+
+pub are_held : (t : Tracker) (fed : Fed) → Carries t fed → AreHeld t.lanes t.handed (rest_of t.start fed)
+are_held t fed c = record {
+  first = c.first.held ∙ sym (drop-drop t.handed t.start fed.blue);
+  second = c.second.held ∙ sym (drop-drop t.handed t.start fed.green);
+  third = c.third.held ∙ sym (drop-drop t.handed t.start fed.red);
+}
+
+-- how many bits the lane holds that holds the most
+pub longest_held : (t : Tracker) (fed : Fed) → Carries t fed → max (length t.lanes.first.held) (max (length t.lanes.second.held) (length t.lanes.third.held)) + (t.start + t.handed) ≡ most_of fed
+longest_held t fed c =
+    let a = ap length c.first.held ∙ length-drop (t.start + t.handed) fed.blue in
+    let b = ap length c.second.held ∙ length-drop (t.start + t.handed) fed.green in
+    let d = ap length c.third.held ∙ length-drop (t.start + t.handed) fed.red in
+    let within = c.within in
+    omega arith
+
+-- Taking bits.
+
+-- where the places before one are all decided, more bits change nothing there
+lock_stays : (xs ys : List Bool) (seen : ℕ) (lock : Option ℕ) → ((p : ℕ) → p < seen → p + 120 ≤ length xs) → MatchOption lock ((p : ℕ) → p < seen → IsRun xs p → ⊥) (λ l. IsLock xs l × (l < seen))
+    → MatchOption lock ((p : ℕ) → p < seen → IsRun (xs ++ ys) p → ⊥) (λ l. IsLock (xs ++ ys) l × (l < seen))
+lock_stays xs ys seen None within none = λ p lt run. none p lt (run_was xs ys p (within p lt) run)
+lock_stays xs ys seen (Some l) within is = (lock_grows xs ys l is.0, is.1)
+
+sought_grows : (xs ys : List Bool) (seen : ℕ) (lock : Option ℕ) → (seen ≡ 0) ⊎ (seen + 119 ≤ length xs) → HasSought xs seen lock → HasSought (xs ++ ys) seen lock
+sought_grows xs ys seen lock known was =
+    let within : (p : ℕ) → p < seen → p + 120 ≤ length xs = λ p lt. elim known [ inl none ↦ absurd (omega arith) | inr long ↦ omega arith ] in
+    record { lock = lock_stays xs ys seen lock within was.lock; none = λ p lt stray. was.none p lt (stray_was xs ys p (within p lt) stray) }
+
+-- a lane that takes bits: as long as the longest before, or none come
+abbrev pub Comes : ℕ → List Bool → List Bool → Type 0
+Comes most xs more = (length xs ≡ most) ⊎ (more ≡ [])
+
+comes_of : (most fed : ℕ) (xs : List Bool) (bytes : List ℕ) (bits : ℕ) → fed ≡ length xs → CanFeed fed most bytes bits → Comes most xs (take bits (bytes_bits bytes))
+comes_of most fed xs bytes bits e can = elim can.going [
+  | inl none ↦ inr (ap (λ n. take n (bytes_bits bytes)) none)
+  | inr longest ↦ inl (omega arith)
+]
+
+-- a lane's part takes them
+rest_taken : (before now : Lane) (given start handed most : ℕ) (xs more : List Bool) → start + handed ≤ most → HoldsRest before given start handed xs → Comes most xs more
+    → now.held ≡ before.held ++ more → now.fed ≡ length (xs ++ more) → HoldsRest now given start handed (xs ++ more)
+rest_taken before now given start handed most xs more reached was (inl longest) is fed =
+    let g = was.given in
+    let long = length-append xs more in
+    record {
+      held = is ∙ ap (λ us. us ++ more) was.held ∙ sym (drop-append-le (start + handed) xs more (omega arith));
+      fed = fed;
+      given = omega arith;
+    }
+rest_taken before now given start handed most xs more reached was (inr none) is fed =
+    let same : xs ++ more ≡ xs = ap (λ us. xs ++ us) none ∙ append-nil xs in
+    record {
+      held = is ∙ ap (λ us. before.held ++ us) none ∙ append-nil before.held ∙ was.held ∙ ap (drop (start + handed)) (sym same);
+      fed = fed;
+      given = was.given ∙ ap (λ us. min handed (length us - start)) (sym same);
+    }
+
+sought_taken : (xs more : List Bool) (start seen most : ℕ) (lock : Option ℕ) → (seen ≡ 0) ⊎ (start + seen + 119 ≤ most) → start ≤ most → Comes most xs more → HasSought (drop start xs) seen lock → HasSought (drop start (xs ++ more)) seen lock
+sought_taken xs more start seen most lock known within (inl longest) was =
+    let P : List Bool → Type 0 = λ us. HasSought us seen lock in
+    subst P (sym (drop-append-le start xs more (omega arith)))
+    (sought_grows (drop start xs) more seen lock (elim known [ inl none ↦ inl none | inr long ↦ inr (omega (arith, length-drop start xs)) ]) was)
+sought_taken xs more start seen most lock known within (inr none) was =
+    let P : List Bool → Type 0 = λ us. HasSought us seen lock in subst P (ap (drop start) (sym (append-nil xs) ∙ ap (λ us. xs ++ us) (sym none))) was
+
+-- three lanes that take bits
+module _ (t : Tracker) (fed : Fed) (told : List Event) (a b c bits : List ℕ) (settled : IsSettled t fed told)
+    (first : CanFeed t.lanes.first.fed (most_fed t) a (slice_index bits 0)) (second : CanFeed t.lanes.second.fed (most_fed t) b (slice_index bits 1)) (third : CanFeed t.lanes.third.fed (most_fed t) c (slice_index bits 2)) where
+  abbrev now : Fed
+  now = grown fed a b c bits
+
+  carries : Carries t fed
+  carries = settled.stands.carries
+
+  most_is : most_fed t ≡ most_of fed
+  most_is = ap₂ max carries.first.fed (ap₂ max carries.second.fed carries.third.fed)
+
+  comes_first : Comes (most_of fed) fed.blue (take (slice_index bits 0) (bytes_bits a))
+  comes_first = comes_of (most_of fed) t.lanes.first.fed fed.blue a (slice_index bits 0) carries.first.fed (subst (λ n. CanFeed t.lanes.first.fed n a (slice_index bits 0)) most_is first)
+
+  comes_second : Comes (most_of fed) fed.green (take (slice_index bits 1) (bytes_bits b))
+  comes_second = comes_of (most_of fed) t.lanes.second.fed fed.green b (slice_index bits 1) carries.second.fed (subst (λ n. CanFeed t.lanes.second.fed n b (slice_index bits 1)) most_is second)
+
+  comes_third : Comes (most_of fed) fed.red (take (slice_index bits 2) (bytes_bits c))
+  comes_third = comes_of (most_of fed) t.lanes.third.fed fed.red c (slice_index bits 2) carries.third.fed (subst (λ n. CanFeed t.lanes.third.fed n c (slice_index bits 2)) most_is third)
+
+  known : (xs more : List Bool) → Comes (most_of fed) xs more → ((m : ℕ) → m < 3 → length (lane_of fed m) ≤ length xs) ⊎ (more ≡ [])
+  known xs more (inl longest) = inl (λ m lt. let h = no_longer fed m in omega arith)
+  known xs more (inr none) = inr none
+
+  pub taken_grows : Grows fed now
+  taken_grows zero lt = (take (slice_index bits 0) (bytes_bits a), refl, known fed.blue (take (slice_index bits 0) (bytes_bits a)) comes_first)
+  taken_grows (suc zero) lt = (take (slice_index bits 1) (bytes_bits b), refl, known fed.green (take (slice_index bits 1) (bytes_bits b)) comes_second)
+  taken_grows (suc (suc l)) lt = (take (slice_index bits 2) (bytes_bits c), refl, known fed.red (take (slice_index bits 2) (bytes_bits c)) comes_third)
+
+  long_first : length now.blue ≡ length fed.blue + slice_index bits 0
+  long_first = length_grown fed.blue now.blue a (slice_index bits 0) first.bytes_given refl
+
+  long_second : length now.green ≡ length fed.green + slice_index bits 1
+  long_second = length_grown fed.green now.green b (slice_index bits 1) second.bytes_given refl
+
+  long_third : length now.red ≡ length fed.red + slice_index bits 2
+  long_third = length_grown fed.red now.red c (slice_index bits 2) third.bytes_given refl
+
+  module _ (lanes : Lanes) (hx : lanes.first.held ≡ t.lanes.first.held ++ take (slice_index bits 0) (bytes_bits a)) (hy : lanes.second.held ≡ t.lanes.second.held ++ take (slice_index bits 1) (bytes_bits b))
+      (hz : lanes.third.held ≡ t.lanes.third.held ++ take (slice_index bits 2) (bytes_bits c))
+      (fx : lanes.first.fed ≡ t.lanes.first.fed + slice_index bits 0) (fy : lanes.second.fed ≡ t.lanes.second.fed + slice_index bits 1) (fz : lanes.third.fed ≡ t.lanes.third.fed + slice_index bits 2)
+      (sx : lanes.first.scout ≡ t.lanes.first.scout) (sy : lanes.second.scout ≡ t.lanes.second.scout) (sz : lanes.third.scout ≡ t.lanes.third.scout) where
+    abbrev next : Tracker
+    next = record t { lanes = lanes }
+
+    carried : Carries next now
+    carried = record {
+      link_open = carries.link_open;
+      link = subst (StandsFor t.link) (sym (fronts_stay fed now t.start t.handed taken_grows carries.within)) carries.link;
+      first = rest_taken t.lanes.first lanes.first (bits_of t.link 0) t.start t.handed (most_of fed) fed.blue (take (slice_index bits 0) (bytes_bits a)) carries.within carries.first comes_first hx (fx ∙ ap (λ n. n + slice_index bits 0) carries.first.fed ∙ sym long_first);
+      second = rest_taken t.lanes.second lanes.second (bits_of t.link 1) t.start t.handed (most_of fed) fed.green (take (slice_index bits 1) (bytes_bits b)) carries.within carries.second comes_second hy (fy ∙ ap (λ n. n + slice_index bits 1) carries.second.fed ∙ sym long_second);
+      third = rest_taken t.lanes.third lanes.third (bits_of t.link 2) t.start t.handed (most_of fed) fed.red (take (slice_index bits 2) (bytes_bits c)) carries.within carries.third comes_third hz (fz ∙ ap (λ n. n + slice_index bits 2) carries.third.fed ∙ sym long_third);
+      within = let h = carries.within in omega (arith, long_first, long_second, long_third);
+      small = let h = first.total in let k = second.total in let l = third.total in omega (arith, long_first, long_second, long_third, carries.first.fed, carries.second.fed, carries.third.fed);
+      few = carries.few;
+      fewer = carries.fewer;
+    }
+
+    reached : t.start ≤ most_of fed
+    reached = let h = carries.within in omega arith
+
+    looked : HasLooked t fed
+    looked = settled.stands.looked
+
+    scout_first : HasSought (drop t.start now.blue) t.seen lanes.first.scout.lock
+    scout_first = subst (λ (s : Scout). HasSought (drop t.start now.blue) t.seen s.lock) (sym sx) (sought_taken fed.blue (take (slice_index bits 0) (bytes_bits a)) t.start t.seen (most_of fed) t.lanes.first.scout.lock looked.decided reached comes_first looked.sought.first)
+
+    scout_second : HasSought (drop t.start now.green) t.seen lanes.second.scout.lock
+    scout_second = subst (λ (s : Scout). HasSought (drop t.start now.green) t.seen s.lock) (sym sy) (sought_taken fed.green (take (slice_index bits 1) (bytes_bits b)) t.start t.seen (most_of fed) t.lanes.second.scout.lock looked.decided reached comes_second looked.sought.second)
+
+    scout_third : HasSought (drop t.start now.red) t.seen lanes.third.scout.lock
+    scout_third = subst (λ (s : Scout). HasSought (drop t.start now.red) t.seen s.lock) (sym sz) (sought_taken fed.red (take (slice_index bits 2) (bytes_bits c)) t.start t.seen (most_of fed) t.lanes.third.scout.lock looked.decided reached comes_third looked.sought.third)
+
+    pub stands_taken : Stands next now told
+    stands_taken = record {
+      carries = carried;
+      looked = record {
+        sought = record { first = scout_first; second = scout_second; third = scout_third };
+        behind = looked.behind;
+        decided = elim looked.decided [ inl none ↦ inl none | inr far ↦ inr (omega (arith, long_first, long_second, long_third)) ];
+      };
+      follows = follows_grown fed now t.start t.handed t.begun t.epochs t.aligned told taken_grows carries.within settled.stands.follows;
+      whole = settled.stands.whole;
+      room = let h = settled.all in let n = settled.near in let x = first.most in let y = second.most in let z = third.most in omega (arith, long_first, long_second, long_third);
+    }
+
+-- Before any bit.
+
+zero_front : IsToldSoFar (front_of 0 (rest_of 0 no_bits)) []
+zero_front = told_at_first
+
+begin_follows : Follows no_bits 0 0 false 0 0 []
+begin_follows = record {
+  closed = [];
+  things = [];
+  goes_on = λ later grows n m rest tracked.
+      let en : n ≡ 0 + n = omega arith in
+      let em : m ≡ 0 + m = omega arith in
+      let P : ℕ → Type 0 = λ k. IsTrack later k (0 + m) rest in
+      let Q : ℕ → Type 0 = λ k. IsTrack later n k rest in
+      subst P en (subst Q em tracked);
+  so_far = zero_front;
+  told_are = refl;
+}
+
+pub settled_at_first : (link : SinkSeen) (lanes : Lanes) → link.is_open ≡ true → StandsFor link no_bits → most_bits link ≡ 0 → AreFresh lanes
+    → IsSettled (record { link = link; lanes = lanes; start = 0; handed = 0; seen = 0; begun = false; epochs = 0; aligned = 0 }) no_bits []
+settled_at_first link lanes opened stands none fresh = record {
+  stands = record {
+    carries = record {
+      link_open = opened;
+      link = stands;
+      first = record { held = fresh.first.held; fed = fresh.first.fed; given = omega arith };
+      second = record { held = fresh.second.held; fed = fresh.second.fed; given = omega arith };
+      third = record { held = fresh.third.held; fed = fresh.third.fed; given = omega arith };
+      within = omega arith;
+      small = omega arith;
+      few = omega arith;
+      fewer = omega arith;
+    };
+    looked = record {
+      sought = record { first = fresh.first.sought []; second = fresh.second.sought []; third = fresh.third.sought [] };
+      behind = omega arith;
+      decided = inl refl;
+    };
+    follows = begin_follows;
+    whole = refl;
+    room = omega arith;
+  };
+  all = omega arith;
+  near = omega arith;
+}
+
+-- where no bit is handed on, nothing is told
+pub none_gained : (t : Tracker) (fed : Fed) (bits : ℕ) → bits ≡ 0 → IsGain (front_of t.handed (rest_of t.start fed)) (front_of (t.handed + bits) (rest_of t.start fed)) []
+none_gained t fed bits none = λ told h.
+    let e : t.handed ≡ t.handed + bits = omega arith in
+    let P : List Thing → Type 0 = λ ts. IsToldSoFar (front_of (t.handed + bits) (rest_of t.start fed)) ts in
+    subst P (sym (append-nil told)) (subst (λ n. IsToldSoFar (front_of n (rest_of t.start fed)) told) e h)
+
+-- Searching.
+
+-- a tracker that has looked further has what it had
+stays_rest : (before now : Lane) (bits later start handed from on : ℕ) (xs : List Bool) → now.held ≡ before.held → now.fed ≡ before.fed → later ≡ bits → from ≡ start → on ≡ handed
+    → HoldsRest before bits start handed xs → HoldsRest now later from on xs
+stays_rest before now bits later start handed from on xs held fed given s h was = record {
+  held = held ∙ was.held ∙ ap₂ (λ m n. drop (m + n) xs) (sym s) (sym h);
+  fed = fed ∙ was.fed;
+  given = given ∙ was.given ∙ ap₂ (λ m n. min n (length xs - m)) (sym s) (sym h);
+}
+
+pub carries_stays : (t u : Tracker) (fed : Fed) → Stays t u → Carries t fed → Carries u fed
+carries_stays t u fed s c =
+    let P : SinkSeen → Type 0 = λ link. StandsFor link (front_of t.handed (rest_of t.start fed)) in
+    let Q : ℕ → Type 0 = λ n. StandsFor u.link (front_of n (rest_of t.start fed)) in
+    let R : ℕ → Type 0 = λ n. StandsFor u.link (front_of u.handed (rest_of n fed)) in
+    let es = s.start in
+    let eh = s.handed in
+    let ee = s.epochs in
+    let ea = s.aligned in
+    let within = c.within in
+    let few = c.few in
+    let fewer = c.fewer in
+    record {
+      link_open = ap (λ (l : SinkSeen). l.is_open) s.link ∙ c.link_open;
+      link = subst R (sym es) (subst Q (sym eh) (subst P (sym s.link) c.link));
+      first = stays_rest t.lanes.first u.lanes.first (bits_of t.link 0) (bits_of u.link 0) t.start t.handed u.start u.handed fed.blue s.first s.first_fed (ap (λ (l : SinkSeen). bits_of l 0) s.link) es eh c.first;
+      second = stays_rest t.lanes.second u.lanes.second (bits_of t.link 1) (bits_of u.link 1) t.start t.handed u.start u.handed fed.green s.second s.second_fed (ap (λ (l : SinkSeen). bits_of l 1) s.link) es eh c.second;
+      third = stays_rest t.lanes.third u.lanes.third (bits_of t.link 2) (bits_of u.link 2) t.start t.handed u.start u.handed fed.red s.third s.third_fed (ap (λ (l : SinkSeen). bits_of l 2) s.link) es eh c.third;
+      within = omega arith;
+      small = c.small;
+      few = omega arith;
+      fewer = omega arith;
+    }
+
+-- an end lies behind the places that were looked at
+pub end_behind : (fed : Fed) (lanes : Lanes) (seen lane place : ℕ) → AreSought lanes seen fed → IsEnd fed lane place → seen ≤ place
+end_behind fed lanes seen lane place sought end = elim (cases_lt place seen) [
+  | inr behind ↦ behind
+  | inl before ↦ absurd (on_lane lane before end.stray)
+]
+  where
+    on_lane : (l : ℕ) → place < seen → IsStray (lane_of fed l) place → ⊥
+    on_lane zero lt stray = sought.first.none place lt stray
+    on_lane (suc zero) lt stray = sought.second.none place lt stray
+    on_lane (suc (suc l)) lt stray = sought.third.none place lt stray
+
+pub stray_found : (t u : Tracker) (fed : Fed) (stray : Stray) → Stays t u → HasLooked u fed → EndsAt (rest_of u.start fed) stray → EndsAt (rest_of t.start fed) stray × (t.handed ≤ stray.place)
+stray_found t u fed stray s looked end =
+    let behind = end_behind (rest_of u.start fed) u.lanes u.seen stray.lane stray.place looked.sought end in
+    let h = looked.behind in
+    let e = s.handed in
+    let P : ℕ → Type 0 = λ n. EndsAt (rest_of n fed) stray in
+    (subst P s.start end, omega arith)
+
+pub stays_more : (t u : Tracker) (lanes : Lanes) (seen : ℕ) → Stays t u → lanes.first.held ≡ u.lanes.first.held → lanes.second.held ≡ u.lanes.second.held → lanes.third.held ≡ u.lanes.third.held
+    → lanes.first.fed ≡ u.lanes.first.fed → lanes.second.fed ≡ u.lanes.second.fed → lanes.third.fed ≡ u.lanes.third.fed → Stays t (record u { lanes = lanes; seen = seen })
+stays_more t u lanes seen s hx hy hz fx fy fz = record {
+  link = s.link;
+  first = hx ∙ s.first;
+  second = hy ∙ s.second;
+  third = hz ∙ s.third;
+  first_fed = fx ∙ s.first_fed;
+  second_fed = fy ∙ s.second_fed;
+  third_fed = fz ∙ s.third_fed;
+  start = s.start;
+  handed = s.handed;
+  begun = s.begun;
+  epochs = s.epochs;
+  aligned = s.aligned;
+}
+
+pub looked_more : (t u : Tracker) (fed : Fed) (lanes : Lanes) (more end longest : ℕ) → Stays t u → Carries t fed → HasLooked u fed → AreSought lanes (u.seen + more) (rest_of u.start fed)
+    → longest ≡ max (length t.lanes.first.held) (max (length t.lanes.second.held) (length t.lanes.third.held)) → end ≡ t.handed + longest - 119 → u.seen < end → more ≡ min (end - u.seen) 640
+    → HasLooked (record u { lanes = lanes; seen = u.seen + more }) fed
+looked_more t u fed lanes more end longest s c looked sought most e lt step =
+    let all = longest_held t fed c in
+    let es = s.start in
+    let behind = looked.behind in
+    record { sought = sought; behind = omega arith; decided = inr (omega (arith, most, e, all)) }
+
+pub looked_all : (t u : Tracker) (fed : Fed) (end longest : ℕ) → Stays t u → Carries t fed
+    → longest ≡ max (length t.lanes.first.held) (max (length t.lanes.second.held) (length t.lanes.third.held)) → end ≡ t.handed + longest - 119 → end ≤ u.seen → most_of fed ≤ u.start + u.seen + 119
+looked_all t u fed end longest s c most e done =
+    let all = longest_held t fed c in
+    let es = s.start in
+    omega (arith, most, e, all)
+
+-- a count goes up by one where the epoch was aligned
+pub byte_is : (b : Bool) → bool_byte b ≡ one_if b
+unfolding one_if
+byte_is true = refl
+byte_is false = refl

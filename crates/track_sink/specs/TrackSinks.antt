@@ -1,0 +1,32 @@
+-- What a sink of lanes that may lose bits stands for.
+use Rattle.std.specs.Prelude.{◌≡◌, ℕ, Bool, true, List}
+use Rattle.std.proofs.Common.{suc, zero}
+use Rattle.link_sink.specs.Sinks.{Fed}
+use Rattle.track_sink.specs.Events.{Event}
+use Rattle.track_sink.specs.Trackers.{most_fed, IsSettled}
+use Rattle.track_sink.specs.Tracks.{HasTracked}
+use Rattle.track_sink.specs.declared.tracker.Tracker.{Tracker}
+
+-- what contracts see of a sink
+pub record TrackSinkSeen : Type 0 where
+  pub tracker : Tracker
+  pub is_open : Bool
+
+-- a sink stands for the bits that it was fed and the events that it told of them: it has told all but what the last bits of
+-- each lane decide. Callers take how it stands as a whole
+pub record StandsFor (sink : TrackSinkSeen) (fed : Fed) (told : List Event) : Type 0 where
+  pub tracked : HasTracked fed told
+  pub settled : IsSettled sink.tracker fed told
+
+-- how many bits it was fed of a lane, and of the longest
+abbrev pub bits_of : TrackSinkSeen → ℕ → ℕ
+bits_of sink zero = sink.tracker.lanes.first.fed
+bits_of sink (suc zero) = sink.tracker.lanes.second.fed
+bits_of sink (suc (suc lane)) = sink.tracker.lanes.third.fed
+
+abbrev pub most_bits : TrackSinkSeen → ℕ
+most_bits sink = most_fed sink.tracker
+
+-- as long as it is open, there are bits and events that it stands for
+abbrev pub IsKept : Bool → Tracker → Type 0
+IsKept is_open tracker = is_open ≡ true → (fed : Fed) × (told : List Event) × IsSettled tracker fed told

@@ -1,0 +1,161 @@
+//! Bits of one lane that are not handed on yet.
+ghost use Rattle.std.specs.Prelude.{ℕ, ◌≡◌, ◌<◌, ◌≤◌, ◌+◌, ◌*◌, ◌/◌, ◌%◌, ◌^◌, ◌++◌, [], IfOk, length, take, drop};
+ghost use Rattle.tmds_word.specs.Bits.{bits_of, bytes_bits};
+
+use outside_io::NoMemory;
+use std::alloc::Global;
+use std::marker::Model;
+
+/// How many bytes a lane's buffer has.
+const ROOM: usize = 4224;
+
+/// A buffer of bits: bit i is bit `i % 8` of byte `i / 8`.
+#[derive(Drop)]
+pub(crate) struct Held {
+    bytes: Vec<u8>,
+    /// How many bits are held; what stands behind them in the bytes is of no account.
+    count: u32,
+}
+
+impl Model for Held {
+    ghost use Rattle.std.specs.Prelude.{List, Bool, length, take, ◌≡◌, ◌≤◌};
+    ghost use Rattle.tmds_word.specs.Bits.{bytes_bits};
+
+    ghost Value = { List Bool };
+
+    ghost view = { λ h. take h.count (bytes_bits h.bytes.items) };
+
+    ghost invariant = { λ h. (length h.bytes.items ≡ 4224) × (h.count ≤ 33776) };
+}
+
+impl Held {
+    /// A buffer that holds nothing.
+    pub(crate) fn open(alloc: Global) -> Result<Held, NoMemory>
+        ensures { IfOk result (λ h. h ≡ []) }
+    {
+        Ok(Held {
+            bytes: vec![in alloc; 0; ROOM]?,
+            count: 0,
+        })
+    }
+
+    /// How many bits it holds.
+    pub(crate) fn len(&self) -> u32
+        ensures len { result ≡ length self.now }
+        ensures most { result ≤ 33776 }
+    {
+        self.count
+    }
+
+    /// The bytes: those of its bits first.
+    pub(crate) fn bytes(&self) -> &[u8]
+        ensures bits { take (length self.now) (bytes_bits result.now) ≡ self.now }
+        ensures size { length result.now ≡ 4224 }
+    {
+        self.bytes.as_slice()
+    }
+
+    /// The bytes of its first bits, as many as are asked for.
+    pub(crate) fn front(&self, bits: u32) -> &[u8]
+        requires { bits ≤ length self.now }
+        ensures bits { take bits (bytes_bits result.now) ≡ take bits self.now }
+        ensures size { length result.now ≡ (bits + 7) / 8 }
+    {
+        &self.bytes[..(bits as usize + 7) / 8]
+    }
+
+    /// Appends bits.
+    pub(crate) fn append(&mut self, bytes: &[u8], bits: u32)
+        requires bytes { length bytes.now ≡ (bits + 7) / 8 }
+        requires room { length self.old + bits ≤ 33776 }
+        ensures { self.new ≡ self.old ++ take bits (bytes_bits bytes.now) }
+    {
+        put_at(self.bytes.as_mut_slice(), self.count, bytes, bits);
+        self.count += bits;
+    }
+
+    /// Drops its first bits.
+    pub(crate) fn consume(&mut self, bits: u32)
+        requires { bits ≤ length self.old }
+        ensures { self.new ≡ drop bits self.old }
+    {
+        let left = self.count - bits;
+        move_to_front(
+            self.bytes.as_mut_slice(),
+            bits as usize / 8,
+            bits % 8,
+            (left as usize + 7) / 8,
+        );
+        self.count = left;
+    }
+}
+
+/// Puts bits behind the first ones, which stay.
+fn put_at(into: &mut [u8], count: u32, bytes: &[u8], bits: u32)
+    requires bytes { length bytes.now ≡ (bits + 7) / 8 }
+    requires room { count + bits ≤ 33776 }
+    requires into { length into.old ≡ 4224 }
+    ensures { take (count + bits) (bytes_bits into.new) ≡ take count (bytes_bits into.old) ++ take bits (bytes_bits bytes.now) }
+{
+    let at = count as usize / 8;
+    let end = at + bytes.len() + 1;
+    put_behind(&mut into[at..end], count % 8, bytes);
+}
+
+/// Puts the bits of bytes behind the first few bits, which stay.
+fn put_behind(into: &mut [u8], few: u32, bytes: &[u8])
+    requires few { few < 8 }
+    requires room { length into.old ≡ length bytes.now + 1 }
+    ensures { take (few + 8 * length bytes.now) (bytes_bits into.new) ≡ take few (bytes_bits into.old) ++ bytes_bits bytes.now }
+{
+    if few == 0 {
+        into[..bytes.len()].copy_from_slice(bytes);
+    } else {
+        shift_behind(into, few, bytes);
+    }
+}
+
+/// Puts the bits of bytes behind the first few bits, byte by byte.
+fn shift_behind(into: &mut [u8], few: u32, bytes: &[u8])
+    requires few { few < 8 }
+    requires room { length into.old ≡ length bytes.now + 1 }
+    ensures { take (few + 8 * length bytes.now) (bytes_bits into.new) ≡ take few (bytes_bits into.old) ++ bytes_bits bytes.now }
+{
+    let mut left = into[0] & ((1 << few) - 1);
+    for i in 0..bytes.len() {
+        let [low, high] = joined(left, few, bytes[i]).to_le_bytes();
+        into[i] = low;
+        left = high;
+    }
+    into[bytes.len()] = left;
+}
+
+/// A few bits with those of a byte above them.
+fn joined(left: u8, few: u32, byte: u8) -> u16
+    requires few { few < 8 }
+    requires narrow { left < 2 ^ few }
+    ensures { result ≡ left + 2 ^ few * byte }
+{
+    (u16::from(byte) << few) | u16::from(left)
+}
+
+/// Moves bytes to the front from a bit of one of them on, as many as are asked for.
+fn move_to_front(bytes: &mut [u8], at: usize, bit: u32, count: usize)
+    requires bit { bit < 8 }
+    requires room { at + count + 1 ≤ length bytes.old }
+    ensures size { length bytes.new ≡ length bytes.old }
+    ensures bits { bytes_bits (take count bytes.new) ≡ take (8 * count) (drop (8 * at + bit) (bytes_bits bytes.old)) }
+{
+    for i in 0..count {
+        bytes[i] = byte_across(bytes[at + i], bytes[at + i + 1], bit);
+    }
+}
+
+/// The eight bits from a bit of the first of two bytes on.
+fn byte_across(low: u8, high: u8, bit: u32) -> u8
+    requires { bit < 8 }
+    ensures bits { result ≡ ((low + high * 256) / 2 ^ bit) % 256 }
+    ensures low { low < 256 }
+{
+    ((u16::from_le_bytes([low, high]) >> bit) & 0xff) as u8
+}

@@ -1,0 +1,92 @@
+//! One lane: its bits that are not handed on yet, and how far they were looked through.
+ghost use Rattle.std.specs.Prelude.{ℕ, ◌≡◌, ◌<◌, ◌≤◌, ◌+◌, ◌-◌, ◌/◌, ◌^◌, ◌++◌, min, List, Bool, [], None, IfOk, IfSome, length, take, drop, MatchOption};
+ghost use Rattle.tmds_word.specs.Bits.{bytes_bits};
+ghost use Rattle.lane_track.specs.Strays.{IsFirstStray};
+ghost use Rattle.lane_track.specs.Scouts.{HasSought};
+
+use crate::held::Held;
+use lane_track::Scout;
+use outside_io::NoMemory;
+use std::alloc::Global;
+
+/// From the first bit of a run to its last.
+const SPAN: u32 = 119;
+
+/// A lane of an epoch.
+#[derive(Drop)]
+pub(crate) struct Lane {
+    /// The epoch's bits from the first one on that is not handed on.
+    pub(crate) held: Held,
+    /// What looks through them.
+    scout: Scout,
+    /// How many bits were fed in all epochs.
+    pub(crate) fed: u32,
+}
+
+impl Lane {
+    /// A lane to which no bit was fed.
+    pub(crate) fn open(alloc: Global) -> Result<Lane, NoMemory>
+        ensures held { IfOk result (λ lane. lane.held ≡ []) }
+        ensures sought { IfOk result (λ lane. (xs : List Bool) → HasSought xs 0 lane.scout.lock) }
+        ensures fed { IfOk result (λ lane. lane.fed ≡ 0) }
+    {
+        Ok(Lane {
+            held: Held::open(alloc)?,
+            scout: Scout::new(),
+            fed: 0,
+        })
+    }
+
+    /// Appends bits.
+    pub(crate) fn append(&mut self, bytes: &[u8], bits: u32)
+        requires bytes { length bytes.now ≡ (bits + 7) / 8 }
+        requires room { length self.old.held + bits ≤ 33776 }
+        requires total { self.old.fed + bits < 2 ^ 32 }
+        ensures held { self.new.held ≡ self.old.held ++ take bits (bytes_bits bytes.now) }
+        ensures scout { self.new.scout ≡ self.old.scout }
+        ensures fed { self.new.fed ≡ self.old.fed + bits }
+    {
+        self.held.append(bytes, bits);
+        self.fed += bits;
+    }
+
+    /// Looks at the epoch's places from `from` on and before `until` that the bits decide, where bit `base` is the first
+    /// that is held, and answers the first stray; None where there is none before `until`. Of a lane that has ended no
+    /// later place can be a run's.
+    pub(crate) fn seek(&mut self, base: u32, from: u32, until: u32) -> Option<u32>
+        requires behind { base ≤ from }
+        requires order { from ≤ until }
+        ensures held { self.new.held ≡ self.old.held }
+        ensures fed { self.new.fed ≡ self.old.fed }
+        ensures within { IfSome result (λ p. p < until) }
+        ensures sought { (xs : List Bool) → self.old.held ≡ drop base xs → HasSought xs from self.old.scout.lock
+            → MatchOption result (HasSought xs until self.new.scout.lock) (λ p. IsFirstStray xs p) }
+    {
+        let last = self.held.len().saturating_sub(SPAN).min(until - base);
+        if last <= from - base {
+            return None;
+        }
+        match self.scout.seek(self.held.bytes(), base, from - base, last) {
+            Some(place) => Some(base + place),
+            None => None,
+        }
+    }
+
+    /// Drops the first bits, or all where there are fewer.
+    pub(crate) fn consume(&mut self, bits: u32)
+        ensures held { self.new.held ≡ drop bits self.old.held }
+        ensures scout { self.new.scout ≡ self.old.scout }
+        ensures fed { self.new.fed ≡ self.old.fed }
+    {
+        self.held.consume(self.held.len().min(bits));
+    }
+
+    /// Forgets what was looked at: an epoch begins with the first bit that is held.
+    pub(crate) fn restart(&mut self)
+        ensures held { self.new.held ≡ self.old.held }
+        ensures sought { (xs : List Bool) → HasSought xs 0 self.new.scout.lock }
+        ensures fed { self.new.fed ≡ self.old.fed }
+    {
+        self.scout = Scout::new();
+    }
+}

@@ -1,0 +1,123 @@
+//! A sink of the bits of three lanes that may lose some.
+ghost use Rattle.std.specs.Prelude.{ℕ, ◌≡◌, ◌+◌, ◌++◌, List, [], true, false, IfOk, OnOk, OnErr, slice_index};
+ghost use Rattle.outside_io.specs.Causes.{HasCause};
+ghost use Rattle.link_sink.specs.Sinks.{Fed, grown};
+ghost use Rattle.link_sink.specs.Pieces.{no_bits};
+ghost use Rattle.link_sink.specs.Received.{CanFeed};
+ghost use Rattle.track_sink.specs.Events.{Event};
+ghost use Rattle.track_sink.specs.Epochs.{IsTrack};
+ghost use Rattle.track_sink.specs.Tracks.{HasTracked};
+ghost use Rattle.track_sink.specs.Trackers.{Stops};
+ghost use Rattle.track_sink.specs.TrackSinks.{StandsFor, bits_of, most_bits};
+
+use crate::tracker::Tracker;
+use crate::{TrackEar, TrackOutcome};
+use outside_io::{Failed, NoMemory};
+use std::alloc::Global;
+use std::marker::Model;
+use std::thread::Threads;
+
+/// Hears three lanes whose bits come feed after feed, begins anew where a lane lost bits, and tells an ear what they say.
+/// It has taken all its memory when it is opened: a `LinkSink`, and a buffer of 4,224 bytes for each lane.
+#[derive(Drop)]
+pub struct TrackSink {
+    tracker: Tracker,
+    is_open: bool,
+}
+
+impl Model for TrackSink {
+    ghost use Rattle.track_sink.specs.Tracks.{HasTracked};
+    ghost use Rattle.track_sink.specs.Trackers.{Stops};
+    ghost use Rattle.track_sink.specs.TrackSinks.{TrackSinkSeen, IsKept};
+
+    ghost Value = { TrackSinkSeen };
+
+    ghost view = { λ s. record { tracker = s.tracker; is_open = s.is_open } };
+
+    ghost invariant = { λ s. IsKept s.is_open s.tracker };
+}
+
+impl TrackSink {
+    /// A sink that was fed no bits, with all memory that it ever has.
+    pub fn open(alloc: Global) -> Result<TrackSink, NoMemory>
+        ensures open { IfOk result (λ s. s.is_open ≡ true) }
+        ensures fed { IfOk result (λ s. StandsFor s no_bits []) }
+        ensures bits { IfOk result (λ s. most_bits s ≡ 0) }
+    {
+        Ok(TrackSink {
+            tracker: Tracker::open(alloc)?,
+            is_open: true,
+        })
+    }
+
+    /// Whether it is neither spent nor finished.
+    pub fn is_open(&self) -> bool
+        ensures { result ≡ self.now.is_open }
+    {
+        self.is_open
+    }
+
+    /// Takes bits of each lane, each lane its own number of them, and tells the ear what they decide: bit i is bit
+    /// `i % 8` of byte `i / 8`. Of a lane that had fewer bits than another no more come.
+    ///
+    /// # Errors
+    ///
+    /// Where a call of the ear failed; the sink is then spent. The ear took the first of the events that these bits tell,
+    /// and failed in the next.
+    pub fn feed<R: Threads, E: TrackEar>(
+        &mut self,
+        rt: &R,
+        a: &[u8],
+        b: &[u8],
+        c: &[u8],
+        bits: [u32; 3],
+        ear: &mut E,
+    ) -> Result<(), Failed>
+        requires open { self.old.is_open ≡ true }
+        requires first { CanFeed (bits_of self.old 0) (most_bits self.old) a.now (slice_index bits 0) }
+        requires second { CanFeed (bits_of self.old 1) (most_bits self.old) b.now (slice_index bits 1) }
+        requires third { CanFeed (bits_of self.old 2) (most_bits self.old) c.now (slice_index bits 2) }
+        ensures open { OnOk result (self.new.is_open ≡ true) }
+        ensures first { OnOk result (bits_of self.new 0 ≡ bits_of self.old 0 + slice_index bits 0) }
+        ensures second { OnOk result (bits_of self.new 1 ≡ bits_of self.old 1 + slice_index bits 1) }
+        ensures third { OnOk result (bits_of self.new 2 ≡ bits_of self.old 2 + slice_index bits 2) }
+        ensures told { (fed : Fed) (told : List Event) → StandsFor self.old fed told
+            → OnOk result ((more : List Event) × E.tracked ear.old ear.new more × StandsFor self.new (grown fed a.now b.now c.now bits) (told ++ more)) }
+        ensures stopped { (fed : Fed) (told : List Event) → StandsFor self.old fed told
+            → OnErr result ((more : List Event) × Stops E.tracked E.lost ear.old ear.new more × HasTracked (grown fed a.now b.now c.now bits) (told ++ more)) }
+        ensures spent { OnErr result (self.new.is_open ≡ false) }
+        ensures cause { HasCause (E.faults ear.old) (E.faults ear.new) result }
+    {
+        self.tracker.append(a, b, c, bits);
+        match self.tracker.follow(rt, ear) {
+            Ok(()) => Ok(()),
+            Err(_) => {
+                self.is_open = false;
+                Err(Failed)
+            }
+        }
+    }
+
+    /// Tells the ear the rest, and answers how many epochs there were, and how many of them were aligned. The sink is then
+    /// finished.
+    ///
+    /// # Errors
+    ///
+    /// Where a call of the ear failed: it took the first of the events that the rest tells, and failed in the next.
+    pub fn finish<R: Threads, E: TrackEar>(
+        &mut self,
+        rt: &R,
+        ear: &mut E,
+    ) -> Result<TrackOutcome, Failed>
+        requires open { self.old.is_open ≡ true }
+        ensures closed { self.new.is_open ≡ false }
+        ensures told { (fed : Fed) (told : List Event) → StandsFor self.old fed told
+            → IfOk result (λ outcome. (last : List Event) × E.tracked ear.old ear.new last × IsTrack fed outcome.epochs outcome.aligned (told ++ last)) }
+        ensures stopped { (fed : Fed) (told : List Event) → StandsFor self.old fed told
+            → OnErr result ((epochs aligned : ℕ) × (last : List Event) × Stops E.tracked E.lost ear.old ear.new last × IsTrack fed epochs aligned (told ++ last)) }
+        ensures cause { HasCause (E.faults ear.old) (E.faults ear.new) result }
+    {
+        self.is_open = false;
+        self.tracker.finish(rt, ear)
+    }
+}

@@ -1,0 +1,104 @@
+//! An ear that notes what it is told.
+ghost use Rattle.std.specs.Prelude.{⊤};
+ghost use Rattle.outside_io.specs.Causes.{HasCause};
+
+use crate::TrackEar;
+use link_sink::Ear;
+use outside_io::Failed;
+use period_grammar::{Fault, Told};
+
+/// The kind of an event and two of its numbers.
+pub type Row = [u32; 3];
+
+/// Notes the first events that it is told, but fails at one of them.
+#[derive(Drop)]
+pub struct Notes {
+    pub rows: [Row; 40],
+    pub count: usize,
+    fails_at: usize,
+    pub failed: u64,
+}
+
+impl Notes {
+    pub fn new(fails_at: usize) -> Notes {
+        Notes {
+            rows: [[0; 3]; 40],
+            count: 0,
+            fails_at,
+            failed: 0,
+        }
+    }
+
+    fn note(&mut self, row: Row) -> Result<(), Failed>
+        ensures cause { HasCause self.old.failed self.new.failed result }
+    {
+        if self.count == self.fails_at {
+            self.failed = self.failed.saturating_add(1);
+            return Err(Failed);
+        }
+        if self.count < self.rows.len() {
+            self.rows[self.count] = row;
+            self.count += 1;
+        }
+        Ok(())
+    }
+}
+
+/// The row of a line: the number of its bytes, and those of its first pixel.
+fn line_row(pixels: &[u8]) -> Row {
+    match pixels {
+        [red, green, blue, ..] => [
+            1,
+            u32::try_from(pixels.len()).unwrap_or(0),
+            u32::from_be_bytes([0, *red, *green, *blue]),
+        ],
+        _ => [1, 0, 0],
+    }
+}
+
+fn row_of(told: Told<'_>) -> Row {
+    match told {
+        Told::Run { value, count } => [0, u32::from(value), count],
+        Told::Line { pixels } => line_row(pixels),
+        Told::Open { sync } => [2, u32::from(sync[0]), u32::from(sync[1])],
+        Told::Packet { packet: _, column } => [3, column, 0],
+        Told::Close { sync } => [4, u32::from(sync[0]), u32::from(sync[1])],
+        Told::Fault(Fault::Word { lane, column }) => [5, u32::from(lane), column],
+        Told::Fault(_) => [9, 0, 0],
+        Told::Cut { column } => [6, column, 0],
+    }
+}
+
+impl Ear for Notes {
+    ghost faults = { λ notes. notes.failed };
+
+    ghost took = { λ _ _ _. ⊤ };
+
+    ghost broke = { λ _ _ _. ⊤ };
+
+    fn hear(&mut self, told: Told<'_>) -> Result<(), Failed> {
+        self.note(row_of(told))
+    }
+
+    ghost took_none = { λ _. tt };
+
+    ghost took_both = { λ _ _ _ _ _ _ _. tt };
+}
+
+impl TrackEar for Notes {
+    ghost tracked = { λ _ _ _. ⊤ };
+
+    ghost lost = { λ _ _ _. ⊤ };
+
+    fn slip(&mut self, lane: u8, place: u64) -> Result<(), Failed> {
+        self.note([10, u32::from(lane), u32::try_from(place).unwrap_or(0)])
+    }
+
+    ghost tracked_none = { λ _. tt };
+
+    ghost tracked_both = { λ _ _ _ _ _ _ _. tt };
+
+    ghost tracked_things = { λ _ _ _. (λ _. tt, λ _. tt) };
+
+    ghost lost_thing = { λ _ _ _. (λ _. tt, λ _. tt) };
+}

@@ -1,0 +1,312 @@
+//! Follows three lanes from epoch to epoch.
+ghost use Rattle.std.specs.Prelude.{ℕ, ◌≡◌, ◌<◌, ◌≤◌, ◌+◌, ◌/◌, ◌*◌, ◌%◌, ◌^◌, ◌||◌, ◌++◌, true, List, [], IfOk, OnOk, OnErr, MatchOption, slice_index};
+ghost use Rattle.outside_io.specs.Causes.{HasCause};
+ghost use Rattle.terc4.specs.Columns.{one_if};
+ghost use Rattle.period_grammar.specs.Things.{Thing};
+ghost use Rattle.link_sink.specs.Ears.{StopsIn};
+ghost use Rattle.link_sink.specs.declared.hear.Outcome.{Outcome as Hearing};
+ghost use Rattle.link_sink.specs.Sinks.{Fed, grown, IsGain, IsLast};
+ghost use Rattle.link_sink.specs.Pieces.{no_bits};
+ghost use Rattle.link_sink.specs.Received.{CanFeed};
+ghost use Rattle.link_sink.specs.Streams.{StandsFor, most_bits};
+ghost use Rattle.track_sink.specs.Events.{Event};
+ghost use Rattle.track_sink.specs.Epochs.{rest_of, front_of, IsTrack};
+ghost use Rattle.track_sink.specs.Lanes.{AreSought, EndsAt};
+ghost use Rattle.track_sink.specs.Trackers.{most_of, most_fed, Follows, Carries, HasLooked, Stays, CanClose, CanTurn, Stands, IsSettled, Stops, Passes};
+
+use crate::lanes::{Lanes, Stray};
+use crate::{TrackEar, TrackOutcome};
+use lane_team::Open;
+use link_sink::{LinkSink, Outcome};
+use outside_io::{Failed, NoMemory};
+use std::alloc::Global;
+use std::thread::Threads;
+
+/// How many places of each lane are looked at before those of the next: an epoch that ends early costs no more.
+const STRETCH: u32 = 640;
+
+/// From the first bit of a run to its last.
+const SPAN: u32 = 119;
+
+/// Where the machine stands: an epoch, and what was told before it.
+#[derive(Drop)]
+pub(crate) struct Tracker {
+    /// Hears the epoch.
+    link: LinkSink,
+    pub(crate) lanes: Lanes,
+    /// The place of the epoch's first bit.
+    start: u32,
+    /// How many bits of the epoch were handed on, as many of each lane that has them.
+    handed: u32,
+    /// No place of the epoch before this one is a stray's.
+    seen: u32,
+    /// Whether an epoch before was aligned.
+    begun: bool,
+    /// How many epochs have ended.
+    epochs: u32,
+    /// How many of them were aligned.
+    aligned: u32,
+}
+
+impl Tracker {
+    /// A tracker that was fed no bits, with all memory that it ever has.
+    pub(crate) fn open(alloc: Global) -> Result<Tracker, NoMemory>
+        ensures { IfOk result (λ t. IsSettled t no_bits []) }
+    {
+        Ok(Tracker {
+            link: LinkSink::open(alloc)?,
+            lanes: Lanes::open(alloc)?,
+            start: 0,
+            handed: 0,
+            seen: 0,
+            begun: false,
+            epochs: 0,
+            aligned: 0,
+        })
+    }
+
+    /// Appends bits of each lane.
+    pub(crate) fn append(&mut self, a: &[u8], b: &[u8], c: &[u8], bits: [u32; 3])
+        requires settled { (fed : Fed) × (told : List Event) × IsSettled self.old fed told }
+        requires first { CanFeed self.old.lanes.first.fed (most_fed self.old) a.now (slice_index bits 0) }
+        requires second { CanFeed self.old.lanes.second.fed (most_fed self.old) b.now (slice_index bits 1) }
+        requires third { CanFeed self.old.lanes.third.fed (most_fed self.old) c.now (slice_index bits 2) }
+        ensures { (fed : Fed) (told : List Event) → IsSettled self.old fed told → Stands self.new (grown fed a.now b.now c.now bits) told }
+    {
+        let [x, y, z] = bits;
+        self.lanes.first.append(a, x);
+        self.lanes.second.append(b, y);
+        self.lanes.third.append(c, z);
+    }
+
+    /// Tells the ear what the bits decide.
+    pub(crate) fn follow<R: Threads, E: TrackEar>(
+        &mut self,
+        rt: &R,
+        ear: &mut E,
+    ) -> Result<(), Failed>
+        requires stands { (fed : Fed) × (told : List Event) × Stands self.old fed told }
+        ensures told { (fed : Fed) (told : List Event) → Stands self.old fed told
+            → OnOk result ((more : List Event) × E.tracked ear.old ear.new more × IsSettled self.new fed (told ++ more)) }
+        ensures stopped { (fed : Fed) (told : List Event) → Stands self.old fed told
+            → OnErr result ((more : List Event) × Stops E.tracked E.lost ear.old ear.new more × Passes fed (told ++ more)) }
+        ensures cause { HasCause (E.faults ear.old) (E.faults ear.new) result }
+    {
+        while let Some(stray) = self.next_stray() {
+            self.close(rt, stray, ear)?;
+        }
+        self.hand_on(rt, self.seen / 8 * 8 - self.handed, ear)?;
+        Ok(())
+    }
+
+    /// The end of the epoch, where the bits have one.
+    fn next_stray(&mut self) -> Option<Stray>
+        requires looked { (fed : Fed) × Carries self.old fed × HasLooked self.old fed }
+        ensures stays { Stays self.old self.new }
+        ensures looked { (fed : Fed) → Carries self.old fed → HasLooked self.old fed
+            → MatchOption result (HasLooked self.new fed × (most_of fed ≤ self.new.start + self.new.seen + 119)) (λ stray. EndsAt (rest_of self.old.start fed) stray × (self.old.handed ≤ stray.place)) }
+    {
+        let end = (self.handed + self.lanes.longest()).saturating_sub(SPAN);
+        while self.seen < end {
+            let until = self.seen + (end - self.seen).min(STRETCH);
+            match self.lanes.seek(self.handed, self.seen, until) {
+                Some(stray) => return Some(stray),
+                None => self.seen = until,
+            }
+        }
+        None
+    }
+
+    /// Hands on the first bits of each lane, or all where there are fewer.
+    fn hand_on<R: Threads, E: TrackEar>(
+        &mut self,
+        rt: &R,
+        bits: u32,
+        ear: &mut E,
+    ) -> Result<(), Failed>
+        requires carries { (fed : Fed) × Carries self.old fed × (self.old.start + self.old.handed + bits ≤ most_of fed) }
+        requires whole { self.old.handed % 8 ≡ 0 }
+        requires most { bits ≤ 32768 }
+        ensures carries { (fed : Fed) → Carries self.old fed → self.old.start + self.old.handed + bits ≤ most_of fed → OnOk result (Carries self.new fed) }
+        ensures told { (fed : Fed) → Carries self.old fed → self.old.start + self.old.handed + bits ≤ most_of fed
+            → OnOk result ((things : List Thing) × IsGain (front_of self.old.handed (rest_of self.old.start fed)) (front_of (self.old.handed + bits) (rest_of self.old.start fed)) things
+            × E.took ear.old ear.new things) }
+        ensures stopped { (fed : Fed) → Carries self.old fed → self.old.start + self.old.handed + bits ≤ most_of fed
+            → OnErr result ((things : List Thing) × IsGain (front_of self.old.handed (rest_of self.old.start fed)) (front_of (self.old.handed + bits) (rest_of self.old.start fed)) things
+            × StopsIn E.took E.broke ear.old ear.new things) }
+        ensures handed { OnOk result (self.new.handed ≡ self.old.handed + bits) }
+        ensures first { self.new.lanes.first.scout ≡ self.old.lanes.first.scout }
+        ensures second { self.new.lanes.second.scout ≡ self.old.lanes.second.scout }
+        ensures third { self.new.lanes.third.scout ≡ self.old.lanes.third.scout }
+        ensures start { self.new.start ≡ self.old.start }
+        ensures seen { self.new.seen ≡ self.old.seen }
+        ensures begun { self.new.begun ≡ self.old.begun }
+        ensures epochs { self.new.epochs ≡ self.old.epochs }
+        ensures aligned { self.new.aligned ≡ self.old.aligned }
+        ensures cause { HasCause (E.faults ear.old) (E.faults ear.new) result }
+    {
+        if bits == 0 {
+            return Ok(());
+        }
+        let x = self.lanes.first.held.len().min(bits);
+        let y = self.lanes.second.held.len().min(bits);
+        let z = self.lanes.third.held.len().min(bits);
+        self.link.feed(
+            rt,
+            self.lanes.first.held.front(x),
+            self.lanes.second.held.front(y),
+            self.lanes.third.held.front(z),
+            [x, y, z],
+            &Open,
+            ear,
+        )?;
+        self.lanes.consume(bits);
+        self.handed += bits;
+        Ok(())
+    }
+
+    /// Hands on the first bits of each lane as `hand_on` does, whole bytes first: so many that one feed may not take them.
+    fn hand_all<R: Threads, E: TrackEar>(
+        &mut self,
+        rt: &R,
+        bits: u32,
+        ear: &mut E,
+    ) -> Result<(), Failed>
+        requires carries { (fed : Fed) × Carries self.old fed × (self.old.start + self.old.handed + bits ≤ most_of fed) }
+        requires whole { self.old.handed % 8 ≡ 0 }
+        requires most { bits ≤ 32775 }
+        ensures carries { (fed : Fed) → Carries self.old fed → self.old.start + self.old.handed + bits ≤ most_of fed → OnOk result (Carries self.new fed) }
+        ensures told { (fed : Fed) → Carries self.old fed → self.old.start + self.old.handed + bits ≤ most_of fed
+            → OnOk result ((things : List Thing) × IsGain (front_of self.old.handed (rest_of self.old.start fed)) (front_of (self.old.handed + bits) (rest_of self.old.start fed)) things
+            × E.took ear.old ear.new things) }
+        ensures stopped { (fed : Fed) → Carries self.old fed → self.old.start + self.old.handed + bits ≤ most_of fed
+            → OnErr result ((some : ℕ) × (some ≤ bits) × (things : List Thing) × IsGain (front_of self.old.handed (rest_of self.old.start fed)) (front_of (self.old.handed + some) (rest_of self.old.start fed)) things
+            × StopsIn E.took E.broke ear.old ear.new things) }
+        ensures handed { OnOk result (self.new.handed ≡ self.old.handed + bits) }
+        ensures start { self.new.start ≡ self.old.start }
+        ensures begun { self.new.begun ≡ self.old.begun }
+        ensures epochs { self.new.epochs ≡ self.old.epochs }
+        ensures aligned { self.new.aligned ≡ self.old.aligned }
+        ensures cause { HasCause (E.faults ear.old) (E.faults ear.new) result }
+    {
+        self.hand_on(rt, bits / 8 * 8, ear)?;
+        self.hand_on(rt, bits % 8, ear)?;
+        Ok(())
+    }
+
+    /// Ends the epoch at a stray, and begins the next one there.
+    fn close<R: Threads, E: TrackEar>(
+        &mut self,
+        rt: &R,
+        stray: Stray,
+        ear: &mut E,
+    ) -> Result<(), Failed>
+        requires close { (fed : Fed) × CanClose self.old fed stray }
+        ensures carries { (fed : Fed) → CanClose self.old fed stray → OnOk result (Carries self.new fed × HasLooked self.new fed) }
+        ensures told { (fed : Fed) (told : List Event) → CanClose self.old fed stray → Follows fed self.old.start self.old.handed self.old.begun self.old.epochs self.old.aligned told
+            → OnOk result ((more : List Event) × E.tracked ear.old ear.new more × Follows fed self.new.start self.new.handed self.new.begun self.new.epochs self.new.aligned (told ++ more)) }
+        ensures stopped { (fed : Fed) (told : List Event) → CanClose self.old fed stray → Follows fed self.old.start self.old.handed self.old.begun self.old.epochs self.old.aligned told
+            → OnErr result ((more : List Event) × Stops E.tracked E.lost ear.old ear.new more × Passes fed (told ++ more)) }
+        ensures start { OnOk result (self.new.start ≡ self.old.start + stray.place) }
+        ensures handed { OnOk result (self.new.handed ≡ 0) }
+        ensures cause { HasCause (E.faults ear.old) (E.faults ear.new) result }
+    {
+        self.hand_all(rt, stray.place - self.handed, ear)?;
+        self.turn(stray, ear)?;
+        Ok(())
+    }
+
+    /// Ends the epoch, all bits of which are handed on, and begins the next one at the stray.
+    fn turn<E: TrackEar>(&mut self, stray: Stray, ear: &mut E) -> Result<(), Failed>
+        requires turn { (fed : Fed) × CanTurn self.old fed stray }
+        ensures carries { (fed : Fed) → CanTurn self.old fed stray → OnOk result (Carries self.new fed × HasLooked self.new fed) }
+        ensures told { (fed : Fed) (told : List Event) → CanTurn self.old fed stray → Follows fed self.old.start self.old.handed self.old.begun self.old.epochs self.old.aligned told
+            → OnOk result ((more : List Event) × E.tracked ear.old ear.new more × Follows fed self.new.start self.new.handed self.new.begun self.new.epochs self.new.aligned (told ++ more)) }
+        ensures stopped { (fed : Fed) (told : List Event) → CanTurn self.old fed stray → Follows fed self.old.start self.old.handed self.old.begun self.old.epochs self.old.aligned told
+            → OnErr result ((more : List Event) × Stops E.tracked E.lost ear.old ear.new more × Passes fed (told ++ more)) }
+        ensures start { OnOk result (self.new.start ≡ self.old.start + stray.place) }
+        ensures handed { OnOk result (self.new.handed ≡ 0) }
+        ensures cause { HasCause (E.faults ear.old) (E.faults ear.new) result }
+    {
+        self.end(ear)?;
+        self.restart();
+        if !self.begun {
+            return Ok(());
+        }
+        ear.slip(stray.lane, u64::from(self.start))?;
+        Ok(())
+    }
+
+    /// Tells the ear what the end of the epoch tells, and counts it.
+    fn end<E: TrackEar>(&mut self, ear: &mut E) -> Result<Outcome, Failed>
+        requires open { self.old.link.is_open ≡ true }
+        requires few { self.old.epochs + 1 < 2 ^ 32 }
+        requires fewer { self.old.aligned ≤ self.old.epochs }
+        ensures told { (fed : Fed) → StandsFor self.old.link fed
+            → IfOk result (λ outcome. (things : List Thing) × IsLast fed outcome things × E.took ear.old ear.new things) }
+        ensures stopped { (fed : Fed) → StandsFor self.old.link fed
+            → OnErr result ((outcome : Hearing) × (things : List Thing) × IsLast fed outcome things × StopsIn E.took E.broke ear.old ear.new things) }
+        ensures begun { IfOk result (λ outcome. self.new.begun ≡ (self.old.begun || outcome.aligned)) }
+        ensures epochs { OnOk result (self.new.epochs ≡ self.old.epochs + 1) }
+        ensures aligned { IfOk result (λ outcome. self.new.aligned ≡ self.old.aligned + one_if outcome.aligned) }
+        ensures lanes { self.new.lanes ≡ self.old.lanes }
+        ensures start { self.new.start ≡ self.old.start }
+        ensures handed { self.new.handed ≡ self.old.handed }
+        ensures cause { HasCause (E.faults ear.old) (E.faults ear.new) result }
+    {
+        let outcome = self.link.finish(ear)?;
+        self.epochs += 1;
+        self.aligned += u32::from(outcome.aligned);
+        self.begun = self.begun || outcome.aligned;
+        Ok(outcome)
+    }
+
+    /// Begins an epoch with the first bits that are held.
+    fn restart(&mut self)
+        requires { self.old.start + self.old.handed < 2 ^ 32 }
+        ensures open { self.new.link.is_open ≡ true }
+        ensures link { StandsFor self.new.link no_bits }
+        ensures bits { most_bits self.new.link ≡ 0 }
+        ensures first { self.new.lanes.first.held ≡ self.old.lanes.first.held }
+        ensures second { self.new.lanes.second.held ≡ self.old.lanes.second.held }
+        ensures third { self.new.lanes.third.held ≡ self.old.lanes.third.held }
+        ensures first_fed { self.new.lanes.first.fed ≡ self.old.lanes.first.fed }
+        ensures second_fed { self.new.lanes.second.fed ≡ self.old.lanes.second.fed }
+        ensures third_fed { self.new.lanes.third.fed ≡ self.old.lanes.third.fed }
+        ensures sought { (fed : Fed) → AreSought self.new.lanes 0 fed }
+        ensures start { self.new.start ≡ self.old.start + self.old.handed }
+        ensures handed { self.new.handed ≡ 0 }
+        ensures seen { self.new.seen ≡ 0 }
+        ensures begun { self.new.begun ≡ self.old.begun }
+        ensures epochs { self.new.epochs ≡ self.old.epochs }
+        ensures aligned { self.new.aligned ≡ self.old.aligned }
+    {
+        self.link.restart();
+        self.lanes.restart();
+        self.start += self.handed;
+        self.handed = 0;
+        self.seen = 0;
+    }
+
+    /// Tells the ear the rest.
+    pub(crate) fn finish<R: Threads, E: TrackEar>(
+        &mut self,
+        rt: &R,
+        ear: &mut E,
+    ) -> Result<TrackOutcome, Failed>
+        requires settled { (fed : Fed) × (told : List Event) × IsSettled self.old fed told }
+        ensures told { (fed : Fed) (told : List Event) → IsSettled self.old fed told
+            → IfOk result (λ outcome. (last : List Event) × E.tracked ear.old ear.new last × IsTrack fed outcome.epochs outcome.aligned (told ++ last)) }
+        ensures stopped { (fed : Fed) (told : List Event) → IsSettled self.old fed told
+            → OnErr result ((epochs aligned : ℕ) × (last : List Event) × Stops E.tracked E.lost ear.old ear.new last × IsTrack fed epochs aligned (told ++ last)) }
+        ensures cause { HasCause (E.faults ear.old) (E.faults ear.new) result }
+    {
+        let left = self.lanes.longest();
+        self.hand_on(rt, left, ear)?;
+        self.end(ear)?;
+        Ok(TrackOutcome {
+            epochs: self.epochs,
+            aligned: self.aligned,
+        })
+    }
+}
