@@ -1,0 +1,7 @@
+pub mod Joining
+pub mod Stepping
+pub mod Sides
+pub mod Answering
+pub mod Ends
+pub mod Streaming
+pub mod Streams

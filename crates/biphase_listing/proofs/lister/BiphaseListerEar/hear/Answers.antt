@@ -1,0 +1,10 @@
+use Rattle.std.proofs.Common.{refl, arith}
+use Rattle.biphase_listing.proofs.Streaming.{nothing_heard}
+use Rattle.biphase_listing.proofs.lister.BiphaseListerEar.hear.Goals as goal
+
+pub returns-in-Run : goal.returns-in-Run
+returns-in-Run g c = record {
+  ok = (refl, refl, λ told recalls. nothing_heard _ told c.args.told _ _ _ c.in-Run.is recalls);
+  err = tt;
+  cause = record { later = omega arith; failed = tt };
+}

@@ -1,0 +1,31 @@
+use Rattle.std.proofs.Common.{rules, ℕ, sym, subst}
+use Rattle.std.proofs.lemmas.Result.{err_from_is_err_and}
+use Rattle.biphase_listing.specs.Reading.{HasListed}
+use Rattle.biphase_listing.proofs.Ends.{last_unwritten, none_listed, whole_listed}
+use Rattle.biphase_listing.proofs.reading.list_biphase.Goals as goal
+
+pub loop-init : goal.loop-init
+loop-init g c = record {
+  few = search rules;
+  listed =
+      subst (λ (n : ℕ). HasListed (g.S.Source.left c.args.input.now) (g.S.Source.left c.args.input.now) (g.K.Sink.held c.args.output.now) (g.K.Sink.held c.args.output.now) c.new-frames.result.blocks n)
+      (sym c.new-frames.ensures.count)
+      (none_listed (g.S.Source.left c.args.input.now) (g.K.Sink.held c.args.output.now) c.new-frames.result.blocks c.new-frames.ensures.blocks);
+  input_later = search rules;
+  output_later = search rules;
+}
+
+pub returns-in_err-list_next-clause-stopped : goal.returns-in_err-list_next-clause-stopped
+returns-in_err-list_next-clause-stopped g c =
+    let p = err_from_is_err_and c.from_residual.result c.from_residual.ensures.1 in
+    rw (p.1, p.2) (c.in_err-list_next.ensures.stopped _ _ c.loop.invariant.listed)
+
+pub returns-in-Ok-clause-whole : goal.returns-in-Ok-clause-whole
+returns-in-Ok-clause-whole g c =
+    let e = c.in_ok-list_next.ensures in
+    whole_listed _ _ _ _ _ _ c.list_next.new.frames.count (e.more _ _ c.loop.invariant.listed) e.few (e.ended c.if-branch.false) c.in-Ok.ensures.whole
+
+pub returns-in-Err-clause-stopped : goal.returns-in-Err-clause-stopped
+returns-in-Err-clause-stopped g c =
+    let e = c.in_ok-list_next.ensures in
+    last_unwritten _ _ _ _ _ _ c.list_next.new.frames.count c.in-Err.field-0.gone (e.more _ _ c.loop.invariant.listed) e.few (e.ended c.if-branch.false) c.in-Err.ensures.missing c.in-Err.ensures.part

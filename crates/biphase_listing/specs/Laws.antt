@@ -1,0 +1,24 @@
+-- What holds of streams and of what they are refused for.
+use Rattle.std.specs.Prelude.{◌≡◌, ℕ, ◌≤◌, false, List, All, length, map}
+use Rattle.audio_packets.specs.Samples.{IsSample}
+use Rattle.audio_packets.specs.declared.sample.Sample.{Sample}
+use Rattle.audio_out.specs.Frames.{biphase, from_start}
+use Rattle.biphase_listing.specs.Groups.{IsStream, most_frames}
+use Rattle.biphase_listing.specs.Refusals.{IsFault}
+use Rattle.biphase_listing.specs.declared.fault.BiphaseFault.{BiphaseFault}
+
+-- nothing is said of flat lines
+abbrev pub without_flat : Sample → Sample
+without_flat s = record s { flat = false }
+
+-- the stream of samples is one, of those from the first block's start on
+abbrev pub StreamIsRead : Type 0
+StreamIsRead = (samples : List Sample) → All IsSample samples → length (from_start samples) ≤ most_frames → IsStream (map without_flat (from_start samples)) (biphase samples)
+
+-- bytes are a stream of one list of samples at most
+abbrev pub OneStream : Type 0
+OneStream = (a b : List Sample) (bytes : List ℕ) → IsStream a bytes → IsStream b bytes → a ≡ b
+
+-- what is a stream has no fault
+abbrev pub StreamIsFaultless : Type 0
+StreamIsFaultless = (samples : List Sample) (bytes : List ℕ) (fault : BiphaseFault) → IsStream samples bytes → IsFault bytes fault → ⊥

@@ -1,0 +1,7 @@
+pub mod Groups
+pub mod FrameText
+pub mod Refusals
+pub mod Reading
+pub mod StreamText
+pub mod Growing
+pub mod Laws

@@ -1,0 +1,61 @@
+-- The biphase stream of one pair of channels, 0 to 3, of what a link says: that of the samples that its told packets of type 2
+-- carry, but those that have lost a block.
+use Rattle.std.specs.Prelude.{◌≡◌, ℕ, ◌<◌, ◌==◌, ◌&&◌, Bool, false, if◌then◌else◌, List, [], ◌∷◌, ◌++◌, length, take, map, flat_map, count_by, slice_index, is_some, Option, Result, Ok, Err}
+use Rattle.std.specs.Io.KnownBytes.{Appends}
+use Rattle.island_pack.specs.declared.packet.Packet.{Packet}
+use Rattle.audio_packets.specs.Faults.{first_lost}
+use Rattle.audio_packets.specs.Samples.{pair_of}
+use Rattle.audio_packets.specs.declared.fault.AudioFault.{AudioFault}
+use Rattle.audio_packets.specs.declared.sample.Sample.{Sample}
+use Rattle.audio_packets.specs.declared.sample.SampleNote.{SampleNote}
+use Rattle.audio_out.specs.Frames.{IsEncoderAfter, biphase}
+use Rattle.period_grammar.specs.Things.{Thing, packet}
+use Rattle.listing.specs.Texts.{counted}
+
+abbrev pub samples_in : Result (List SampleNote) AudioFault → List Sample
+samples_in (Ok notes) = map (λ note. note.sample) notes
+samples_in (Err fault) = []
+
+-- the type of a packet is header byte 0, as it was read
+abbrev pub is_sound : Packet → Bool
+is_sound p = slice_index p.header 0 == 2
+
+-- the samples of a pair that a thing carries: none where a block is lost
+unfoldable pub samples_at : ℕ → Thing → List Sample
+samples_at pair (packet p verdicts column) = if is_sound p then samples_in (pair_of p verdicts pair) else []
+samples_at pair _ = []
+
+unfoldable pub told_samples : ℕ → List Thing → List Sample
+told_samples pair things = flat_map (samples_at pair) things
+
+-- the stream
+unfoldable pub biphase_text : ℕ → List Thing → List ℕ
+biphase_text pair things = biphase (told_samples pair things)
+
+-- a packet of samples that has lost a block
+unfoldable pub is_lost_sound : Thing → Bool
+is_lost_sound (packet p verdicts column) = is_sound p && is_some (first_lost verdicts)
+is_lost_sound _ = false
+
+unfoldable pub biphase_faults : List Thing → ℕ
+biphase_faults things = count_by is_lost_sound things
+
+-- what is kept is that of all that was told
+abbrev pub Recalls : Bool → ℕ → List Thing → Type 0
+Recalls started pair told = IsEncoderAfter started (told_samples pair told)
+
+-- things were told after `told`: the stream grew by bytes, which were written, and the packets that had lost a block were counted
+pub record Lists (pair : ℕ) (told things : List Thing) (now : Bool) (before after : ℕ) (held holds : Option (List ℕ)) : Type 0 where
+  pub recalls : Recalls now pair (told ++ things)
+  pub faults : after ≡ counted before (biphase_faults things)
+  pub bytes : List ℕ
+  pub grows : biphase_text pair (told ++ things) ≡ biphase_text pair told ++ bytes
+  pub written : Appends held holds bytes
+
+-- a thing was told after `told`: of the bytes by which the stream grew not all were written
+pub record Breaks (pair : ℕ) (told : List Thing) (thing : Thing) (held holds : Option (List ℕ)) : Type 0 where
+  pub bytes : List ℕ
+  pub grows : biphase_text pair (told ++ thing ∷ []) ≡ biphase_text pair told ++ bytes
+  pub n : ℕ
+  pub missing : n < length bytes
+  pub written : Appends held holds (take n bytes)
