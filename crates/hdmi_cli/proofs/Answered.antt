@@ -1,6 +1,6 @@
 -- The outcomes that the commands end with.
 use Rattle.std.proofs.Common.{◌≡◌, ◌⊎◌, ℕ, zero, suc, ◌<◌, ◌≤◌, List, [], ◌∷◌, ◌++◌, length, take, map, refl, ap, sym, ◌∙◌, subst, inl, inr, arith}
-use Rattle.std.specs.Prelude.{Option, Some, None, Result, Ok, Err, OnOk, IfErr, All}
+use Rattle.std.specs.Prelude.{Option, Some, None, Result, Ok, Err, OnOk, IfErr, All, codes}
 use Rattle.outside_io.specs.Causes.{Rose}
 use Rattle.std.specs.Io.KnownBytes.{Appends, Keeps, IsAtEnd}
 use Rattle.std.proofs.KnownBytes.{Appends-nil}
@@ -12,15 +12,27 @@ use Rattle.capture_file.proofs.Damages.{nothing_written}
 use Rattle.capture_file.specs.declared.damaging.Hit.{Hit}
 use Rattle.capture_file.specs.declared.damaging.DamageError.{DamageError}
 use Rattle.capture_file.specs.declared.damaging.DamageError.TheVariants as damages
+use Rattle.capture_file.specs.Captures.{IsFault}
+use Rattle.capture_file.specs.Slips.{IsSlippedCapture, IsWithinLane, IsPastLane, SaysFaulty, StopsWriting}
+use Rattle.capture_file.specs.declared.fault.CaptureFault.{CaptureFault}
+use Rattle.capture_file.specs.declared.slipping.SlipError.{SlipError}
+use Rattle.capture_file.specs.declared.slipping.SlipError.TheVariants as slips
+use Rattle.biphase_listing.specs.FrameText.{frames_text}
+use Rattle.biphase_listing.specs.Reading.{IsListed, Stops, IsCaused}
+use Rattle.biphase_listing.specs.declared.fault.BiphaseError.{BiphaseError}
+use Rattle.biphase_listing.specs.declared.fault.BiphaseError.TheVariants as biphases
+use Rattle.command_line.specs.declared.slip.SlipWord.{SlipWord}
 use Rattle.capture_file.specs.Taps.{tapped_capture}
 use Rattle.capture_file.specs.declared.writing.Tap.{Tap}
 use Rattle.island_pack.specs.Periods.{Period}
 use Rattle.island_pack.specs.Spelling.{Spells}
 use Rattle.listing.specs.Answers.{Answers as AnswersReading}
 use Rattle.listing.specs.Reading.{reads_as}
+use Rattle.listing.specs.DviReading.{dvi_reads_as}
 use Rattle.listing.specs.LineSteps.{Read, accepts, refuses}
 use Rattle.listing.specs.ContentReading.{content_reads_as}
 use Rattle.source_end.specs.Content.{Frame}
+use Rattle.source_end.specs.DviPeriods.{DviSpells}
 use Rattle.source_end.specs.Raster.{raster_of}
 use Rattle.source_end.specs.RasterRefusals.{raster_fault, AnswersRasterFault}
 use Rattle.source_end.specs.declared.mode.Mode.{Mode}
@@ -29,7 +41,7 @@ use Rattle.source_end.specs.declared.refusal.RasterFault.TheVariants.{BadMode, R
 use Rattle.listing.specs.declared.fault.ListFault.{ListFault}
 use Rattle.listing.specs.declared.fault.ListError.{ListError}
 use Rattle.listing.specs.declared.fault.ListError.TheVariants.{Bad as BadListing}
-use Rattle.hdmi_cli.specs.Notes.{listing_note, raster_note, capture_note, place_note}
+use Rattle.hdmi_cli.specs.Notes.{listing_note, raster_note, capture_note, frames_note, place_note}
 use Rattle.hdmi_cli.specs.Commands.{hit_asked, tap_asked}
 use Rattle.command_line.specs.declared.damage.DamageWord.{DamageWord}
 use Rattle.command_line.specs.declared.tap.TapWords.{TapWords}
@@ -38,11 +50,12 @@ use Rattle.command_line.specs.Commands.{IsCommand as IsLine, IsVersion}
 use Rattle.hdmi_cli.specs.Outcome.{Outcome, MakesLink, MakesStream, MakesRaster, MakesContent, Does}
 use Rattle.sampling.specs.Counts.{counts_text}
 use Rattle.hdmi_cli.specs.Samples.{IsSampleWhole}
-use Rattle.hdmi_cli.specs.Endings.{Devices, IsAnswered, Answers, Parts, Ends, EndsUnwritten, StreamEnds, IsWhole, IsCut, damage_ending, raster_ending, ReadsCapture}
+use Rattle.hdmi_cli.specs.Endings.{Devices, IsAnswered, Answers, Parts, Ends, EndsUnwritten, ColumnsEnd, StreamEnds, damage_ending, frames_ending, raster_ending, slip_ending}
+use Rattle.hdmi_cli.specs.Manners.{WritesOn}
 use Rattle.command_line.specs.declared.command.Command.{Command}
-use Rattle.command_line.specs.declared.command.Command.TheVariants.{MakeLink, MakeContent, Damage, Sample}
+use Rattle.command_line.specs.declared.command.Command.TheVariants.{MakeLink, MakeContent, MakeDvi, RecoverBiphase, Slip, ReadBiphase, Damage, Sample}
 use Rattle.hdmi_cli.specs.declared.ending.Ending.{Ending}
-use Rattle.hdmi_cli.specs.declared.ending.Ending.TheVariants.{Done, Faulty, Usage, Listing, Raster, Capture, Place, ReadFailed, WriteFailed, NoMemory, Unaligned}
+use Rattle.hdmi_cli.specs.declared.ending.Ending.TheVariants.{Done, Faulty, Usage, Listing, Raster, Capture, Place, Frames, TooLong, ReadFailed, WriteFailed, NoMemory, Unaligned}
 
 -- `make link`
 
@@ -56,18 +69,28 @@ pub listing_refused : (words : TapWords) (fault : ListFault) (before after : Dev
     → IsAnswered (MakeLink words) (Listing fault) before after text
 listing_refused words fault before after text read kept = record {
   outcome = record { status = 3; output = []; note = listing_note fault.line fault.cause };
-  does = subst (λ r. MakesLink (tap_asked words) r (record { status = 3; output = []; note = listing_note fault.line fault.cause })) (sym read) refl;
+  does = subst (λ r. MakesLink Spells (tap_asked words) r (record { status = 3; output = []; note = listing_note fault.line fault.cause })) (sym read) refl;
+  status = refl;
+  note = refl;
+  written = same_held before.held after.held kept;
+}
+
+pub dvi_refused : (words : TapWords) (fault : ListFault) (before after : Devices) (text : List ℕ) → dvi_reads_as text ≡ refuses fault.line fault.cause → after.held ≡ before.held
+    → IsAnswered (MakeDvi words) (Listing fault) before after text
+dvi_refused words fault before after text read kept = record {
+  outcome = record { status = 3; output = []; note = listing_note fault.line fault.cause };
+  does = subst (λ r. MakesLink DviSpells (tap_asked words) r (record { status = 3; output = []; note = listing_note fault.line fault.cause })) (sym read) refl;
   status = refl;
   note = refl;
   written = same_held before.held after.held kept;
 }
 
 -- a stream that is written ends a command that makes it
-pub stream_ends : (command : Command) (tap : Tap) (ps : List Period) (e : Ending) (before after : Devices)
-    → ((text : List ℕ) (o : Outcome) → before.left ≡ Some text → MakesStream tap ps o → Does command text o)
-    → (Parts command before after → EndsUnwritten command before after) → (ReadsCapture command → ⊥)
-    → IsAtEnd after.left → StreamEnds tap ps e before.held after.held before.output_faults after.output_faults → Ends command e before after
-stream_ends command tap ps Done before after makes unwritten other end is = (
+pub stream_ends : (spells : List Period → List Column → Type 0) (command : Command) (tap : Tap) (ps : List Period) (e : Ending) (before after : Devices)
+    → ((text : List ℕ) (o : Outcome) → before.left ≡ Some text → MakesStream spells tap ps o → Does command text o)
+    → (Parts command before after → EndsUnwritten command before after) → (WritesOn command → ⊥)
+    → IsAtEnd after.left → StreamEnds spells tap ps e before.held after.held before.output_faults after.output_faults → Ends command e before after
+stream_ends spells command tap ps Done before after makes unwritten other end is = (
   end,
   λ text told. record {
     outcome = record { status = 0; output = tapped_capture is.columns tap; note = [] };
@@ -77,7 +100,7 @@ stream_ends command tap ps Done before after makes unwritten other end is = (
     written = is.written;
   },
 )
-stream_ends command tap ps WriteFailed before after makes unwritten other end is = (
+stream_ends spells command tap ps WriteFailed before after makes unwritten other end is = (
   is.0,
   unwritten (λ text told. record {
     outcome = record { status = 0; output = tapped_capture is.1.columns tap; note = [] };
@@ -88,35 +111,51 @@ stream_ends command tap ps WriteFailed before after makes unwritten other end is
     written = is.1.written;
   }),
 )
-stream_ends command tap ps NoMemory before after makes unwritten other end is = (is, λ reads. absurd (other reads))
-stream_ends command tap ps Faulty before after makes unwritten other end is = absurd is
-stream_ends command tap ps Usage before after makes unwritten other end is = absurd is
-stream_ends command tap ps (Listing fault) before after makes unwritten other end is = absurd is
-stream_ends command tap ps (Raster fault) before after makes unwritten other end is = absurd is
-stream_ends command tap ps (Capture fault) before after makes unwritten other end is = absurd is
-stream_ends command tap ps (Place i) before after makes unwritten other end is = absurd is
-stream_ends command tap ps ReadFailed before after makes unwritten other end is = absurd is
-stream_ends command tap ps Unaligned before after makes unwritten other end is = absurd is
+stream_ends spells command tap ps NoMemory before after makes unwritten other end is = (is, λ reads. absurd (other reads))
+stream_ends spells command tap ps Faulty before after makes unwritten other end is = absurd is
+stream_ends spells command tap ps Usage before after makes unwritten other end is = absurd is
+stream_ends spells command tap ps (Listing fault) before after makes unwritten other end is = absurd is
+stream_ends spells command tap ps (Raster fault) before after makes unwritten other end is = absurd is
+stream_ends spells command tap ps (Capture fault) before after makes unwritten other end is = absurd is
+stream_ends spells command tap ps (Place i) before after makes unwritten other end is = absurd is
+stream_ends spells command tap ps (Frames fault) before after makes unwritten other end is = absurd is
+stream_ends spells command tap ps TooLong before after makes unwritten other end is = absurd is
+stream_ends spells command tap ps ReadFailed before after makes unwritten other end is = absurd is
+stream_ends spells command tap ps Unaligned before after makes unwritten other end is = absurd is
 
-pub makes_link : (words : TapWords) (ps : List Period) (text : List ℕ) (o : Outcome) → reads_as text ≡ accepts ps → MakesStream (tap_asked words) ps o → Does (MakeLink words) text o
-makes_link words ps text o read made = subst (λ r. MakesLink (tap_asked words) r o) (sym read) made
+pub makes_link : (words : TapWords) (ps : List Period) (text : List ℕ) (o : Outcome) → reads_as text ≡ accepts ps → MakesStream Spells (tap_asked words) ps o → Does (MakeLink words) text o
+makes_link words ps text o read made = subst (λ r. MakesLink Spells (tap_asked words) r o) (sym read) made
+
+pub makes_dvi : (words : TapWords) (ps : List Period) (text : List ℕ) (o : Outcome) → dvi_reads_as text ≡ accepts ps → MakesStream DviSpells (tap_asked words) ps o → Does (MakeDvi words) text o
+makes_dvi words ps text o read made = subst (λ r. MakesLink DviSpells (tap_asked words) r o) (sym read) made
 
 -- a stream that was spelled into columns
 
-pub whole_of : (tap : Tap) (ps : List Period) (taken : List Column) (old new : Option (List ℕ)) → ((columns : List Column) × (taken ≡ [] ++ columns) × Spells ps columns)
-    → Appends old new (tapped_capture taken tap) → IsWhole tap ps old new
-whole_of tap ps taken old new spelled written =
-    record { columns = spelled.0; spelled = spelled.2; written = subst (λ cs. Appends old new (tapped_capture cs tap)) spelled.1 written }
-
-pub cut_of : (tap : Tap) (ps : List Period) (taken : List Column) (gone : ℕ) (old new : Option (List ℕ)) → ((columns : List Column) × (taken ≡ [] ++ columns) × Spells ps columns)
-    → gone < length (tapped_capture taken tap) → Appends old new (take gone (tapped_capture taken tap)) → IsCut tap ps old new
-cut_of tap ps taken gone old new spelled missing written = record {
-  columns = spelled.0;
-  spelled = spelled.2;
-  gone = gone;
-  missing = subst (λ cs. gone < length (tapped_capture cs tap)) spelled.1 missing;
-  written = subst (λ cs. Appends old new (take gone (tapped_capture cs tap))) spelled.1 written;
-}
+pub spelled_ends : (spells : List Period → List Column → Type 0) (tap : Tap) (ps : List Period) (taken : List Column) (e : Ending) (old new : Option (List ℕ)) (before after : ℕ) → ((columns : List Column) × (taken ≡ [] ++ columns) × spells ps columns)
+    → ColumnsEnd tap taken e old new before after → StreamEnds spells tap ps e old new before after
+spelled_ends spells tap ps taken Done old new before after spelled is =
+    record { columns = spelled.0; spelled = spelled.2; written = subst (λ cs. Appends old new (tapped_capture cs tap)) spelled.1 is }
+spelled_ends spells tap ps taken WriteFailed old new before after spelled is = (
+  is.0,
+  record {
+    columns = spelled.0;
+    spelled = spelled.2;
+    gone = is.1.0;
+    missing = subst (λ cs. is.1.0 < length (tapped_capture cs tap)) spelled.1 is.1.1;
+    written = subst (λ cs. Appends old new (take is.1.0 (tapped_capture cs tap))) spelled.1 is.1.2;
+  },
+)
+spelled_ends spells tap ps taken NoMemory old new before after spelled is = absurd is
+spelled_ends spells tap ps taken Faulty old new before after spelled is = absurd is
+spelled_ends spells tap ps taken Usage old new before after spelled is = absurd is
+spelled_ends spells tap ps taken (Listing fault) old new before after spelled is = absurd is
+spelled_ends spells tap ps taken (Raster fault) old new before after spelled is = absurd is
+spelled_ends spells tap ps taken (Capture fault) old new before after spelled is = absurd is
+spelled_ends spells tap ps taken (Place i) old new before after spelled is = absurd is
+spelled_ends spells tap ps taken (Frames fault) old new before after spelled is = absurd is
+spelled_ends spells tap ps taken TooLong old new before after spelled is = absurd is
+spelled_ends spells tap ps taken ReadFailed old new before after spelled is = absurd is
+spelled_ends spells tap ps taken Unaligned old new before after spelled is = absurd is
 
 -- `make content`
 
@@ -164,10 +203,10 @@ fault_told None (Err f) fault answers is other = absurd (other (sym (same_fault 
 fault_told (Some f) r fault answers is other = ap Some (same_fault f fault (sym answers ∙ is))
 
 pub makes_content : (words : TapWords) (mode : Mode) (frames : List Frame) (r : Result (List Period) RasterFault) (ps : List Period) (text : List ℕ) (o : Outcome) → content_reads_as text ≡ accepts (mode, frames)
-    → AnswersRasterFault (raster_fault mode frames) r → r ≡ Ok ps → ps ≡ raster_of mode frames → MakesStream (tap_asked words) ps o → Does (MakeContent words) text o
+    → AnswersRasterFault (raster_fault mode frames) r → r ≡ Ok ps → ps ≡ raster_of mode frames → MakesStream Spells (tap_asked words) ps o → Does (MakeContent words) text o
 makes_content words mode frames r ps text o read answers ok is made =
     subst (λ x. MakesContent (tap_asked words) x o) (sym read)
-    (subst (λ f. MakesRaster (tap_asked words) mode frames f o) (sym (raster_told (raster_fault mode frames) r ps answers ok)) (subst (λ x. MakesStream (tap_asked words) x o) is made))
+    (subst (λ f. MakesRaster (tap_asked words) mode frames f o) (sym (raster_told (raster_fault mode frames) r ps answers ok)) (subst (λ x. MakesStream Spells (tap_asked words) x o) is made))
 
 raster_refused : (words : TapWords) (mode : Mode) (frames : List Frame) (r : Result (List Period) RasterFault) (fault : RasterFault) (before after : Devices) (text : List ℕ) → content_reads_as text ≡ accepts (mode, frames)
     → AnswersRasterFault (raster_fault mode frames) r → r ≡ Err fault → (fault ≡ NoRaster → ⊥) → after.held ≡ before.held → IsAnswered (MakeContent words) (Raster fault) before after text
@@ -241,7 +280,7 @@ damaged words (Ok done) before after it = (
   },
 )
 damaged words (Err (damages.Bad fault)) before after it = (
-  tt,
+  λ last. absurd last,
   λ bytes told. let bad = it.bad bytes told in record {
     outcome = record { status = 3; output = bad.0; note = capture_note fault };
     does = inr (inr (fault, bad.0, bad.1, refl));
@@ -291,8 +330,15 @@ version_asked None n is = inl is
 pub version_of_line : (words : List (List ℕ)) (tap : TapWords) → IsLine words (MakeLink tap) → (tap.version ≡ 1) ⊎ (tap.version ≡ 2)
 version_of_line words tap named = version_asked named.means.2.version_text tap.version named.means.2.version
 
+pub version_of_dvi : (words : List (List ℕ)) (tap : TapWords) → IsLine words (MakeDvi tap) → (tap.version ≡ 1) ⊎ (tap.version ≡ 2)
+version_of_dvi words tap named = version_asked named.means.2.version_text tap.version named.means.2.version
+
 pub version_of_content : (words : List (List ℕ)) (tap : TapWords) → IsLine words (MakeContent tap) → (tap.version ≡ 1) ⊎ (tap.version ≡ 2)
 version_of_content words tap named = version_asked named.means.2.version_text tap.version named.means.2.version
+
+-- the pair that `recover biphase` asks for
+pub pair_of_line : (words : List (List ℕ)) (pair : ℕ) → IsLine words (RecoverBiphase pair) → pair < 4
+pair_of_line words pair named = let few = named.means.1.1 in omega (arith, few)
 
 -- `sample`
 
@@ -307,3 +353,109 @@ sample_answers frames before after is text told = record {
 
 pub frames_of_line : (words : List (List ℕ)) (frames : ℕ) → IsLine words (Sample frames) → frames ≤ 20
 frames_of_line words frames named = named.means.1.2.few
+
+-- `slip`
+
+-- what a copy without the bits of a slip says of its answer
+pub record Slipped (slip : SlipWord) (before after : Devices) (r : Result (Unit {0}) SlipError) : Type 0 where
+  pub done : (bytes : List ℕ) → before.left ≡ Some bytes → OnOk r ((whole : List ℕ) × IsSlippedCapture bytes slip.lane slip.place slip.bits whole × Appends before.held after.held whole)
+  pub bad : (bytes : List ℕ) → before.left ≡ Some bytes → IfErr r (λ e. SaysFaulty (λ fault. IsFault bytes fault × IsWithinLane bytes slip.lane slip.place slip.bits) e)
+  pub part : (bytes : List ℕ) → before.left ≡ Some bytes → r ≡ Err slips.Write → StopsWriting bytes slip.lane slip.place slip.bits before.held after.held × IsAtEnd after.left
+  pub place : r ≡ Err slips.Place → IsPastLane before.left after.left slip.lane slip.place slip.bits
+  pub unwritten : IfErr r (λ e. (e ≡ slips.Write → ⊥) → Keeps before.held after.held)
+  pub ended : OnOk r (IsAtEnd after.left)
+  pub read_cause : r ≡ Err slips.Read → Rose before.input_faults after.input_faults
+  pub write_cause : r ≡ Err slips.Write → Rose before.output_faults after.output_faults
+
+bad_is_no_write : (fault : CaptureFault) → slips.Bad fault ≡ slips.Write → ⊥
+bad_is_no_write fault e = cc
+
+place_is_no_write : slips.Place ≡ slips.Write → ⊥
+place_is_no_write e = cc
+
+read_is_no_write : slips.Read ≡ slips.Write → ⊥
+read_is_no_write e = cc
+
+memory_is_no_write : slips.NoMemory ≡ slips.Write → ⊥
+memory_is_no_write e = cc
+
+pub slipped_ends : (slip : SlipWord) (r : Result (Unit {0}) SlipError) (before after : Devices) → Slipped slip before after r → Ends (Slip slip) (slip_ending r) before after
+slipped_ends slip (Ok done) before after it = (
+  it.ended,
+  λ bytes told. let whole = it.done bytes told in record {
+    outcome = record { status = 0; output = whole.0; note = [] };
+    does = inl (whole.0, whole.1, refl);
+    status = refl;
+    note = refl;
+    written = whole.2;
+  },
+)
+slipped_ends slip (Err (slips.Bad fault)) before after it =
+    let kept = it.unwritten (bad_is_no_write fault) in (
+      λ last. kept,
+      λ bytes told. let bad = it.bad bytes told in record {
+        outcome = record { status = 3; output = []; note = capture_note fault };
+        does = inr (inr (fault, bad.0, bad.1, refl));
+        status = refl;
+        note = refl;
+        written = nothing_written before.held after.held kept;
+      },
+    )
+slipped_ends slip (Err slips.Place) before after it =
+    let kept = it.unwritten place_is_no_write in
+    let p = it.place refl in (
+      kept,
+      λ bytes told. let c = consumed before.left after.left bytes p.head told p.took in record {
+        outcome = record { status = 3; output = []; note = place_note 0 };
+        does = inr (inl ((p.head, p.counts, c.0, p.headed, c.1, p.past), refl));
+        status = refl;
+        note = refl;
+        written = nothing_written before.held after.held kept;
+      },
+    )
+slipped_ends slip (Err slips.Read) before after it = (it.read_cause refl, it.unwritten read_is_no_write)
+slipped_ends slip (Err slips.Write) before after it = (
+  it.write_cause refl,
+  λ bytes told. let part = (it.part bytes told refl).0 in record {
+    outcome = record { status = 0; output = part.whole; note = [] };
+    gone = part.gone;
+    does = inl (part.whole, part.slips, refl);
+    status = (0, omega arith, refl);
+    missing = part.missing;
+    written = part.wrote;
+  },
+)
+slipped_ends slip (Err slips.NoMemory) before after it = (it.unwritten memory_is_no_write, λ on. absurd on)
+
+-- `read biphase`
+
+-- what a list of frames says of its answer
+pub record FramesListed (before after : Devices) (r : Result (Unit {0}) BiphaseError) : Type 0 where
+  pub whole : (bytes : List ℕ) → before.left ≡ Some bytes → OnOk r (IsListed bytes before.held after.held)
+  pub ended : OnOk r (IsAtEnd after.left)
+  pub stopped : IfErr r (Stops before.left after.left before.held after.held)
+  pub caused : IfErr r (IsCaused before.input_faults after.input_faults before.output_faults after.output_faults)
+
+pub frames_end : (r : Result (Unit {0}) BiphaseError) (before after : Devices) → FramesListed before after r → Ends ReadBiphase (frames_ending r) before after
+frames_end (Ok done) before after it = (
+  it.ended,
+  λ bytes told. let l = it.whole bytes told in record {
+    outcome = record { status = 0; output = frames_text l.samples ++ codes "end\n"; note = [] };
+    does = inl (l.samples, l.stream, refl);
+    status = refl;
+    note = refl;
+    written = l.written;
+  },
+)
+frames_end (Err (biphases.Bad fault)) before after it = (
+  λ last. absurd last,
+  λ bytes told. let l = it.stopped bytes told in record {
+    outcome = record { status = 3; output = frames_text l.samples; note = frames_note fault };
+    does = inr (fault, l.samples, l.refused, refl);
+    status = refl;
+    note = refl;
+    written = l.written;
+  },
+)
+frames_end (Err biphases.Read) before after it = (it.caused, it.stopped)
+frames_end (Err biphases.Write) before after it = (it.caused, it.stopped)

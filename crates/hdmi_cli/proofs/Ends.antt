@@ -9,15 +9,15 @@ use Rattle.command_line.specs.Commands.{IsCommand}
 use Rattle.command_line.proofs.OneCommand.{command_once}
 use Rattle.hdmi_cli.specs.Notes.{usage_note, memory_note}
 use Rattle.hdmi_cli.specs.Outcome.{Outcome, IsOutcome, NamesNone}
-use Rattle.hdmi_cli.specs.Endings.{Devices, Answers, Ends, ReadsCapture, ReadsInput, RunEnds, RunUnread, RunUnwritten, status_of, note_of}
+use Rattle.hdmi_cli.specs.Manners.{ReadsInput, WritesLast, WritesOn}
+use Rattle.hdmi_cli.specs.Endings.{Devices, Answers, Ends, RunEnds, RunUnread, RunUnwritten, status_of, note_of}
 use Rattle.hdmi_cli.specs.Runs.{IsNoteOf}
 use Rattle.hdmi_cli.specs.Samples.{SampleEnds, IsSampleWritten}
 use Rattle.hdmi_cli.proofs.Answered.{sample_answers}
 use Rattle.command_line.specs.declared.command.Command.{Command}
-use Rattle.command_line.specs.declared.tap.TapWords.{TapWords}
-use Rattle.command_line.specs.declared.command.Command.TheVariants.{MakeLink, MakeContent, Sample}
+use Rattle.command_line.specs.declared.command.Command.TheVariants.{Sample}
 use Rattle.hdmi_cli.specs.declared.ending.Ending.{Ending}
-use Rattle.hdmi_cli.specs.declared.ending.Ending.TheVariants.{Done, Faulty, Usage, Listing, Raster, Capture, Place, ReadFailed, WriteFailed, NoMemory, Unaligned}
+use Rattle.hdmi_cli.specs.declared.ending.Ending.TheVariants.{Done, Faulty, Usage, Listing, Raster, Capture, Place, Frames, TooLong, ReadFailed, WriteFailed, NoMemory, Unaligned}
 
 -- all that a run says of its status and its note
 pub record Says (words : List (List ℕ)) (before after : Devices) (status : ℕ) (note : List ℕ) : Type 0 where
@@ -33,11 +33,11 @@ pub record Says (words : List (List ℕ)) (before after : Devices) (status : ℕ
       → (o : Outcome) × IsOutcome words text o × (o.status ≡ status) × Appends before.held after.held o.output
   pub read_failed : status ≡ 4 → Rose before.input_faults after.input_faults
   pub write_failed : status ≡ 5 → Rose before.output_faults after.output_faults
-  pub memory : status ≡ 6 → (command : Command) → IsCommand words command → ReadsCapture command → Keeps before.left after.left
+  pub memory : status ≡ 6 → (command : Command) → IsCommand words command → WritesOn command → Keeps before.left after.left
   pub ended : ((n : ℕ) → IsCommand words (Sample n) → ⊥) → Contains (0 ∷ 1 ∷ 7 ∷ []) status → IsAtEnd after.left
   pub unread : status ≡ 2 → Keeps before.left after.left
   pub unwritten : Contains (2 ∷ 6 ∷ 7 ∷ []) status → Keeps before.held after.held
-  pub refused : status ≡ 3 → (tap : TapWords) → IsCommand words (MakeLink tap) ⊎ IsCommand words (MakeContent tap) → Keeps before.held after.held
+  pub refused : status ≡ 3 → (command : Command) → IsCommand words command → WritesLast command → Keeps before.held after.held
   pub cut_short : status ≡ 4 → RunUnread words before after
   pub part : status ≡ 5 → RunUnwritten words before after
   pub sampled : (n : ℕ) → IsCommand words (Sample n) → Keeps before.left after.left × IsSampleWritten n status before.held after.held
@@ -109,10 +109,6 @@ no_done n a b (inl is) = unlike n 0 a is
 no_done n a b (inr is) = unlike n 1 b is
 
 -- a command that reads a capture makes none
-no_make : (words : List (List ℕ)) (command : Command) (tap : TapWords) → IsCommand words command → ReadsCapture command → IsCommand words (MakeLink tap) ⊎ IsCommand words (MakeContent tap) → ⊥
-no_make words command tap named reads (inl other) = subst ReadsCapture (command_once words command (MakeLink tap) named other) reads
-no_make words command tap named reads (inr other) = subst ReadsCapture (command_once words command (MakeContent tap) named other) reads
-
 -- a command that reads the input is no `sample`
 no_sample : (words : List (List ℕ)) (command : Command) (n : ℕ) → IsCommand words command → ReadsInput command → IsCommand words (Sample n) → ⊥
 no_sample words command n named reads other = subst ReadsInput (command_once words command (Sample n) named other) reads
@@ -123,6 +119,28 @@ same_frames m n e = cc
 -- the number of frames is told by the words
 frames_are : (words : List (List ℕ)) (m n : ℕ) → IsCommand words (Sample m) → IsCommand words (Sample n) → m ≡ n
 frames_are words m n one other = same_frames m n (command_once words (Sample m) (Sample n) one other)
+
+-- what an ending says that refuses the input
+refused_says : (words : List (List ℕ)) (command : Command) (e : Ending) (before after : Devices) → IsCommand words command → ReadsInput command → Answers command e before after
+    → status_of e ≡ 3 → (WritesLast command → Keeps before.held after.held) → Says words before after (status_of e) (note_of e)
+refused_says words command e before after named reads answers is kept = record {
+  known = (3, omega arith, sym is);
+  outcome = known_at words command e before after named answers;
+  usage = λ h. absurd (omega (arith, is, h));
+  unnamed = λ none. absurd (none command named);
+  done = λ h. written_at words command e before after named answers;
+  read_failed = λ h. absurd (omega (arith, is, h));
+  write_failed = λ h. absurd (omega (arith, is, h));
+  memory = λ h. absurd (omega (arith, is, h));
+  ended = λ other h. absurd (none_of (0 ∷ 1 ∷ 7 ∷ []) (status_of e) (ap (λ n. list_all (λ m. not (m == n)) (0 ∷ 1 ∷ 7 ∷ [])) is) h);
+  unread = λ h. absurd (omega (arith, is, h));
+  unwritten = λ h. absurd (none_of (2 ∷ 6 ∷ 7 ∷ []) (status_of e) (ap (λ n. list_all (λ m. not (m == n)) (2 ∷ 6 ∷ 7 ∷ [])) is) h);
+  refused = λ h again other last. kept (subst WritesLast (command_once words again command other named) last);
+  cut_short = λ h. absurd (omega (arith, is, h));
+  part = λ h. absurd (omega (arith, is, h));
+  sampled = λ n other. absurd (no_sample words command n named reads other);
+  noted = record { done = λ h. absurd (no_done (status_of e) (ap (λ n. n == 0) is) (ap (λ n. n == 1) is) h); usage = λ h. absurd (omega (arith, is, h)); refused = λ h. noted_at words command e before after named answers is; read_failed = λ h. absurd (omega (arith, is, h)); write_failed = λ h. absurd (omega (arith, is, h)); no_memory = λ h. absurd (omega (arith, is, h)); unaligned = λ h. absurd (omega (arith, is, h)) };
+}
 
 -- what a command's ending says
 command_says : (words : List (List ℕ)) (command : Command) (e : Ending) (before after : Devices) → IsCommand words command → ReadsInput command → Ends command e before after → Says words before after (status_of e) (note_of e)
@@ -162,78 +180,12 @@ command_says words command Faulty before after named reads ends = record {
   sampled = λ n other. absurd (no_sample words command n named reads other);
   noted = record { done = λ h. refl; usage = λ h. absurd (omega arith); refused = λ h. absurd (omega arith); read_failed = λ h. absurd (omega arith); write_failed = λ h. absurd (omega arith); no_memory = λ h. absurd (omega arith); unaligned = λ h. absurd (omega arith) };
 }
-command_says words command (Listing fault) before after named reads ends = record {
-  known = (3, omega arith, refl);
-  outcome = known_at words command (Listing fault) before after named ends.1;
-  usage = λ h. absurd (omega arith);
-  unnamed = λ none. absurd (none command named);
-  done = λ h. written_at words command (Listing fault) before after named ends.1;
-  read_failed = λ h. absurd (omega arith);
-  write_failed = λ h. absurd (omega arith);
-  memory = λ h. absurd (omega arith);
-  ended = λ other h. absurd (none_of (0 ∷ 1 ∷ 7 ∷ []) 3 refl h);
-  unread = λ h. absurd (omega arith);
-  unwritten = λ h. absurd (none_of (2 ∷ 6 ∷ 7 ∷ []) 3 refl h);
-  refused = λ h tap other. ends.0;
-  cut_short = λ h. absurd (omega arith);
-  part = λ h. absurd (omega arith);
-  sampled = λ n other. absurd (no_sample words command n named reads other);
-  noted = record { done = λ h. absurd (no_done 3 refl refl h); usage = λ h. absurd (omega arith); refused = λ h. noted_at words command (Listing fault) before after named ends.1 refl; read_failed = λ h. absurd (omega arith); write_failed = λ h. absurd (omega arith); no_memory = λ h. absurd (omega arith); unaligned = λ h. absurd (omega arith) };
-}
-command_says words command (Raster fault) before after named reads ends = record {
-  known = (3, omega arith, refl);
-  outcome = known_at words command (Raster fault) before after named ends.1;
-  usage = λ h. absurd (omega arith);
-  unnamed = λ none. absurd (none command named);
-  done = λ h. written_at words command (Raster fault) before after named ends.1;
-  read_failed = λ h. absurd (omega arith);
-  write_failed = λ h. absurd (omega arith);
-  memory = λ h. absurd (omega arith);
-  ended = λ other h. absurd (none_of (0 ∷ 1 ∷ 7 ∷ []) 3 refl h);
-  unread = λ h. absurd (omega arith);
-  unwritten = λ h. absurd (none_of (2 ∷ 6 ∷ 7 ∷ []) 3 refl h);
-  refused = λ h tap other. ends.0;
-  cut_short = λ h. absurd (omega arith);
-  part = λ h. absurd (omega arith);
-  sampled = λ n other. absurd (no_sample words command n named reads other);
-  noted = record { done = λ h. absurd (no_done 3 refl refl h); usage = λ h. absurd (omega arith); refused = λ h. noted_at words command (Raster fault) before after named ends.1 refl; read_failed = λ h. absurd (omega arith); write_failed = λ h. absurd (omega arith); no_memory = λ h. absurd (omega arith); unaligned = λ h. absurd (omega arith) };
-}
-command_says words command (Capture fault) before after named reads ends = record {
-  known = (3, omega arith, refl);
-  outcome = known_at words command (Capture fault) before after named ends.1;
-  usage = λ h. absurd (omega arith);
-  unnamed = λ none. absurd (none command named);
-  done = λ h. written_at words command (Capture fault) before after named ends.1;
-  read_failed = λ h. absurd (omega arith);
-  write_failed = λ h. absurd (omega arith);
-  memory = λ h. absurd (omega arith);
-  ended = λ other h. absurd (none_of (0 ∷ 1 ∷ 7 ∷ []) 3 refl h);
-  unread = λ h. absurd (omega arith);
-  unwritten = λ h. absurd (none_of (2 ∷ 6 ∷ 7 ∷ []) 3 refl h);
-  refused = λ h tap other. absurd (no_make words command tap named ends.0 other);
-  cut_short = λ h. absurd (omega arith);
-  part = λ h. absurd (omega arith);
-  sampled = λ n other. absurd (no_sample words command n named reads other);
-  noted = record { done = λ h. absurd (no_done 3 refl refl h); usage = λ h. absurd (omega arith); refused = λ h. noted_at words command (Capture fault) before after named ends.1 refl; read_failed = λ h. absurd (omega arith); write_failed = λ h. absurd (omega arith); no_memory = λ h. absurd (omega arith); unaligned = λ h. absurd (omega arith) };
-}
-command_says words command (Place i) before after named reads ends = record {
-  known = (3, omega arith, refl);
-  outcome = known_at words command (Place i) before after named ends.1;
-  usage = λ h. absurd (omega arith);
-  unnamed = λ none. absurd (none command named);
-  done = λ h. written_at words command (Place i) before after named ends.1;
-  read_failed = λ h. absurd (omega arith);
-  write_failed = λ h. absurd (omega arith);
-  memory = λ h. absurd (omega arith);
-  ended = λ other h. absurd (none_of (0 ∷ 1 ∷ 7 ∷ []) 3 refl h);
-  unread = λ h. absurd (omega arith);
-  unwritten = λ h. absurd (none_of (2 ∷ 6 ∷ 7 ∷ []) 3 refl h);
-  refused = λ h tap other. ends.0;
-  cut_short = λ h. absurd (omega arith);
-  part = λ h. absurd (omega arith);
-  sampled = λ n other. absurd (no_sample words command n named reads other);
-  noted = record { done = λ h. absurd (no_done 3 refl refl h); usage = λ h. absurd (omega arith); refused = λ h. noted_at words command (Place i) before after named ends.1 refl; read_failed = λ h. absurd (omega arith); write_failed = λ h. absurd (omega arith); no_memory = λ h. absurd (omega arith); unaligned = λ h. absurd (omega arith) };
-}
+command_says words command (Listing fault) before after named reads ends = refused_says words command (Listing fault) before after named reads ends.1 refl (λ last. ends.0)
+command_says words command (Raster fault) before after named reads ends = refused_says words command (Raster fault) before after named reads ends.1 refl (λ last. ends.0)
+command_says words command (Capture fault) before after named reads ends = refused_says words command (Capture fault) before after named reads ends.1 refl ends.0
+command_says words command (Place i) before after named reads ends = refused_says words command (Place i) before after named reads ends.1 refl (λ last. ends.0)
+command_says words command (Frames fault) before after named reads ends = refused_says words command (Frames fault) before after named reads ends.1 refl ends.0
+command_says words command TooLong before after named reads ends = refused_says words command TooLong before after named reads ends.1 refl (λ last. ends.0)
 command_says words command Unaligned before after named reads ends = record {
   known = (7, omega arith, refl);
   outcome = known_at words command Unaligned before after named ends.2;
@@ -296,7 +248,7 @@ command_says words command NoMemory before after named reads ends = record {
   done = λ h. absurd (none_of (0 ∷ 1 ∷ 3 ∷ 7 ∷ []) 6 refl h);
   read_failed = λ h. absurd (omega arith);
   write_failed = λ h. absurd (omega arith);
-  memory = λ h again other reads_it. ends.1 (subst ReadsCapture (command_once words again command other named) reads_it);
+  memory = λ h again other reads_it. ends.1 (subst WritesOn (command_once words again command other named) reads_it);
   ended = λ other h. absurd (none_of (0 ∷ 1 ∷ 7 ∷ []) 6 refl h);
   unread = λ h. absurd (omega arith);
   unwritten = λ h. ends.0;
@@ -396,6 +348,8 @@ sample_says words frames (Listing fault) before after named left ends = absurd e
 sample_says words frames (Raster fault) before after named left ends = absurd ends
 sample_says words frames (Capture fault) before after named left ends = absurd ends
 sample_says words frames (Place i) before after named left ends = absurd ends
+sample_says words frames (Frames fault) before after named left ends = absurd ends
+sample_says words frames TooLong before after named left ends = absurd ends
 sample_says words frames ReadFailed before after named left ends = absurd ends
 sample_says words frames Unaligned before after named left ends = absurd ends
 

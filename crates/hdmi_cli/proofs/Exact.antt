@@ -11,6 +11,7 @@ use Rattle.period_grammar.specs.Things.{Thing}
 use Rattle.period_grammar.specs.Heard.{heard}
 use Rattle.period_grammar.specs.Exact.{IsFront, whole_part}
 use Rattle.link_sink.specs.Alignment.{IsAlignedTold}
+use Rattle.link_sink.specs.Grammar.{link_grammar}
 use Rattle.listing.specs.Texts.{fault_lines}
 use Rattle.listing.specs.Checks.{check_text}
 use Rattle.listing.proofs.Exact.{count_is_exact, verdict_is_exact}
@@ -26,7 +27,7 @@ use Rattle.hdmi_cli.proofs.Ends.{Says}
 use Rattle.capture_file.specs.Laws.{AreSame}
 use Rattle.capture_file.proofs.OneCapture.{one_capture, no_fault}
 
-check_does : (words : List (List ℕ)) (bytes : List ℕ) (o : Outcome) → IsCommand words Check → IsOutcome words bytes o → ListsCapture check_listing bytes o
+check_does : (words : List (List ℕ)) (bytes : List ℕ) (o : Outcome) → IsCommand words Check → IsOutcome words bytes o → ListsCapture link_grammar check_listing bytes o
 check_does words bytes o named (inl (command, other, does)) = subst (λ (c : Command). Does c bytes o) (command_once words command Check other named) does
 check_does words bytes o named (inr (none, is)) = absurd (none Check named)
 
@@ -48,16 +49,16 @@ told_check blue green red d e f columns things o first told is =
       output = ap (λ (p : Outcome). p.output) is ∙ ap check_text things_are;
     }
 
-lanes_check : (blue green red : List Bool) (d e f : ℕ) (o : Outcome) → IsFirst blue green red d e f → ListsLanes check_listing blue green red o → IsCheckOf (aligned_columns blue green red d e f) o
+lanes_check : (blue green red : List Bool) (d e f : ℕ) (o : Outcome) → IsFirst blue green red d e f → ListsLanes link_grammar check_listing blue green red o → IsCheckOf (aligned_columns blue green red d e f) o
 lanes_check blue green red d e f o first (inl (columns, things, told, is)) = told_check blue green red d e f columns things o first told is
 lanes_check blue green red d e f o first (inr (columns, things, nowhere, is)) = absurd (nowhere.nowhere d e f first.triple)
 
-same_lanes : (x y z u v w : List Bool) (o : Outcome) → AreSame x y z u v w → ListsLanes check_listing u v w o → ListsLanes check_listing x y z o
+same_lanes : (x y z u v w : List Bool) (o : Outcome) → AreSame x y z u v w → ListsLanes link_grammar check_listing u v w o → ListsLanes link_grammar check_listing x y z o
 same_lanes x y z u v w o same h =
-    subst (λ a. ListsLanes check_listing a y z o) (sym same.blue)
-    (subst (λ b. ListsLanes check_listing u b z o) (sym same.green) (subst (λ c. ListsLanes check_listing u v c o) (sym same.red) h))
+    subst (λ a. ListsLanes link_grammar check_listing a y z o) (sym same.blue)
+    (subst (λ b. ListsLanes link_grammar check_listing u b z o) (sym same.green) (subst (λ c. ListsLanes link_grammar check_listing u v c o) (sym same.red) h))
 
-capture_check : (blue green red : List Bool) (d e f : ℕ) (bytes : List ℕ) (o : Outcome) → IsAlignedCapture blue green red d e f bytes → ListsCapture check_listing bytes o
+capture_check : (blue green red : List Bool) (d e f : ℕ) (bytes : List ℕ) (o : Outcome) → IsAlignedCapture blue green red d e f bytes → ListsCapture link_grammar check_listing bytes o
     → IsCheckOf (aligned_columns blue green red d e f) o
 capture_check blue green red d e f bytes o c (inl (x, y, z, is, lists)) =
     lanes_check blue green red d e f o c.first (same_lanes blue green red x y z o (one_capture blue green red x y z bytes c.captured is) lists)

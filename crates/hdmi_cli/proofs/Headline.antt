@@ -1,88 +1,89 @@
 -- What `recover` makes of the capture of a tap of columns that came with sparse damage.
-use Rattle.std.proofs.Common.{◌≡◌, ◌≤◌, ◌⊎◌, ℕ, ◌+◌, Bool, List, [], length, refl, ap, ap₂, sym, ◌∙◌, subst, inl, inr}
+use Rattle.std.proofs.Common.{◌≡◌, ℕ, ◌+◌, Bool, List, [], length, refl, ap, ap₂, sym, ◌∙◌, subst, inl, inr}
 use Rattle.std.specs.Prelude.{Option, Some}
 use Rattle.std.specs.Io.KnownBytes.{Appends}
-use Rattle.outside_io.specs.Causes.{Rose}
-use Rattle.tmds_word.specs.Column.{Column}
 use Rattle.capture_file.specs.Captures.{IsCaptureOf}
 use Rattle.lane_deskew.specs.Triples.{IsFirst}
 use Rattle.lane_deskew.specs.Aligned.{aligned_columns}
 use Rattle.lane_deskew.proofs.First.{one_first}
-use Rattle.island_pack.specs.Periods.{Period}
 use Rattle.island_pack.specs.Sparse.{IsSparseInPayload}
 use Rattle.period_grammar.specs.Things.{Thing}
-use Rattle.period_grammar.specs.Heard.{heard}
+use Rattle.link_sink.specs.Grammar.{Grammar, link_grammar}
 use Rattle.link_sink.specs.Account.{account}
-use Rattle.link_sink.specs.Alignment.{IsAlignedTold}
+use Rattle.link_sink.specs.Alignment.{IsAlignedBy}
+use Rattle.dvi_hearing.specs.DviAccount.{dvi_account}
+use Rattle.dvi_hearing.specs.DviGrammar.{dvi_grammar}
+use Rattle.dvi_hearing.proofs.Tapped.{tap_accounted as dvi_tap_accounted}
 use Rattle.link_sink.specs.Laws.{IsAccounted, BeginColumn}
 use Rattle.link_sink.proofs.Tapped.{payload_accounted, tap_accounted}
-use Rattle.hdmi_cli.specs.Listings.{Listing as ListingOf}
+use Rattle.hdmi_cli.specs.Listings.{Listing as ListingOf, link_listing}
 use Rattle.command_line.specs.Commands.{IsCommand}
 use Rattle.hdmi_cli.specs.Outcome.{Outcome, ListsLanes, ListsCapture, Does, status_with}
-use Rattle.hdmi_cli.specs.Headline.{TappedStream, IsTapped, AlignsBy, IsFirstOf, IsRecovered, IsRecoveredBy, aligned_of}
+use Rattle.hdmi_cli.specs.Headline.{TappedStream, IsTapped, AlignsBy, IsFirstOf, IsRecovered, IsRecoveredBy, IsDviTapped, IsDviRecovered, aligned_of}
 use Rattle.hdmi_cli.specs.Endings.{Devices, Answers, Ends, RunEnds, Unless, status_of}
 use Rattle.hdmi_cli.specs.Samples.{SampleEnds}
 use Rattle.command_line.specs.declared.command.Command.{Command}
-use Rattle.command_line.specs.declared.command.Command.TheVariants.{Sample}
+use Rattle.command_line.specs.declared.command.Command.TheVariants.{RecoverDvi, Sample}
 use Rattle.command_line.proofs.OneCommand.{command_once}
 use Rattle.hdmi_cli.specs.declared.ending.Ending.{Ending}
-use Rattle.hdmi_cli.specs.declared.ending.Ending.TheVariants.{Done, Faulty, Usage, Listing, Raster, Capture, Place, ReadFailed, WriteFailed, NoMemory, Unaligned}
+use Rattle.hdmi_cli.specs.declared.ending.Ending.TheVariants.{Done, Faulty, Usage, Listing, Raster, Capture, Place, Frames, TooLong, ReadFailed, WriteFailed, NoMemory, Unaligned}
 use Rattle.capture_file.specs.Laws.{AreSame}
 use Rattle.capture_file.proofs.OneCapture.{one_capture, no_fault}
 use Rattle.hdmi_cli.proofs.Answered.{sample_answers}
 
 -- where three lanes are aligned there is one first full alignment
-aligned_same : (x y z : List Bool) (d e f p q r : ℕ) → IsFirst x y z d e f → IsFirst x y z p q r → aligned_columns x y z d e f ≡ aligned_columns x y z p q r
+pub aligned_same : (x y z : List Bool) (d e f p q r : ℕ) → IsFirst x y z d e f → IsFirst x y z p q r → aligned_columns x y z d e f ≡ aligned_columns x y z p q r
 aligned_same x y z d e f p q r first other =
     let one = one_first x y z d e f p q r first other in
     ap (λ n. aligned_columns x y z n e f) one.0 ∙ ap₂ (λ m n. aligned_columns x y z p m n) one.1 one.2
 
--- an outcome is the listing of the account of the columns that are aligned at three edges
-record IsAccountOf (listing : ListingOf) (ps : List Period) (sent received : List Column) (a : ℕ) (blue green red : List Bool) (d e f : ℕ) (o : Outcome) : Type 0 where
-  status : o.status ≡ status_with (listing.faults (account ps sent received a (length (aligned_columns blue green red d e f))))
-  output : o.output ≡ listing.text (account ps sent received a (length (aligned_columns blue green red d e f)))
+-- an outcome is the listing of some things
+record IsListingOf (listing : ListingOf) (all : List Thing) (o : Outcome) : Type 0 where
+  status : o.status ≡ status_with (listing.faults all)
+  output : o.output ≡ listing.text all
 
-told_account : (listing : ListingOf) (ps : List Period) (sent received : List Column) (offset : ℕ) (skews : List ℕ) (a : ℕ) (blue green red : List Bool) (d e f columns : ℕ) (things : List Thing) (o : Outcome)
-    → IsFirst blue green red d e f → IsAccounted ps sent received (aligned_columns blue green red d e f) a → IsAlignedTold blue green red columns things
+told_listing : (g : Grammar) (listing : ListingOf) (all : List Thing) (blue green red : List Bool) (d e f columns : ℕ) (things : List Thing) (o : Outcome)
+    → IsFirst blue green red d e f → g.whole (aligned_columns blue green red d e f) ≡ all → IsAlignedBy g blue green red columns things
     → o ≡ record { status = status_with (listing.faults things); output = listing.text things; note = [] }
-    → IsAccountOf listing ps sent received a blue green red d e f o
-told_account listing ps sent received offset skews a blue green red d e f columns things o first accounted told is =
+    → IsListingOf listing all o
+told_listing g listing all blue green red d e f columns things o first whole told is =
     let same : aligned_columns blue green red told.d told.e told.f ≡ aligned_columns blue green red d e f =
     aligned_same blue green red told.d told.e told.f d e f told.first first in
-    let things_are : things ≡ account ps sent received a (length (aligned_columns blue green red d e f)) = told.told ∙ ap heard same ∙ accounted.told in
+    let things_are : things ≡ all = told.told ∙ ap g.whole same ∙ whole in
     record {
       status = ap (λ (p : Outcome). p.status) is ∙ ap (λ ts. status_with (listing.faults ts)) things_are;
       output = ap (λ (p : Outcome). p.output) is ∙ ap listing.text things_are;
     }
 
-lanes_account : (listing : ListingOf) (ps : List Period) (sent received : List Column) (offset : ℕ) (skews : List ℕ) (a : ℕ) (blue green red : List Bool) (d e f : ℕ) (o : Outcome)
-    → IsFirst blue green red d e f → IsAccounted ps sent received (aligned_columns blue green red d e f) a → ListsLanes listing blue green red o → IsAccountOf listing ps sent received a blue green red d e f o
-lanes_account listing ps sent received offset skews a blue green red d e f o first accounted (inl (columns, things, told, is)) =
-    told_account listing ps sent received offset skews a blue green red d e f columns things o first accounted told is
-lanes_account listing ps sent received offset skews a blue green red d e f o first accounted (inr (columns, things, nowhere, is)) = absurd (nowhere.nowhere d e f first.triple)
+lanes_listing : (g : Grammar) (listing : ListingOf) (all : List Thing) (blue green red : List Bool) (d e f : ℕ) (o : Outcome)
+    → IsFirst blue green red d e f → g.whole (aligned_columns blue green red d e f) ≡ all → ListsLanes g listing blue green red o → IsListingOf listing all o
+lanes_listing g listing all blue green red d e f o first whole (inl (columns, things, told, is)) =
+    told_listing g listing all blue green red d e f columns things o first whole told is
+lanes_listing g listing all blue green red d e f o first whole (inr (columns, things, nowhere, is)) = absurd (nowhere.nowhere d e f first.triple)
 
-same_lanes : (listing : ListingOf) (x y z u v w : List Bool) (o : Outcome) → AreSame x y z u v w → ListsLanes listing u v w o → ListsLanes listing x y z o
-same_lanes listing x y z u v w o same h =
-    subst (λ a. ListsLanes listing a y z o) (sym same.blue) (subst (λ b. ListsLanes listing u b z o) (sym same.green) (subst (λ c. ListsLanes listing u v c o) (sym same.red) h))
+same_lanes : (g : Grammar) (listing : ListingOf) (x y z u v w : List Bool) (o : Outcome) → AreSame x y z u v w → ListsLanes g listing u v w o → ListsLanes g listing x y z o
+same_lanes g listing x y z u v w o same h =
+    subst (λ a. ListsLanes g listing a y z o) (sym same.blue) (subst (λ b. ListsLanes g listing u b z o) (sym same.green) (subst (λ c. ListsLanes g listing u v c o) (sym same.red) h))
 
 -- the capture of such lanes is recovered so
-capture_account : (listing : ListingOf) (ps : List Period) (sent received : List Column) (offset : ℕ) (skews : List ℕ) (a : ℕ) (blue green red : List Bool) (d e f : ℕ) (bytes : List ℕ) (o : Outcome)
-    → IsCaptureOf blue green red bytes → IsFirst blue green red d e f → IsAccounted ps sent received (aligned_columns blue green red d e f) a → ListsCapture listing bytes o
-    → IsAccountOf listing ps sent received a blue green red d e f o
-capture_account listing ps sent received offset skews a blue green red d e f bytes o captured first accounted (inl (x, y, z, is, recovers)) =
+capture_listing : (g : Grammar) (listing : ListingOf) (all : List Thing) (blue green red : List Bool) (d e f : ℕ) (bytes : List ℕ) (o : Outcome)
+    → IsCaptureOf blue green red bytes → IsFirst blue green red d e f → g.whole (aligned_columns blue green red d e f) ≡ all → ListsCapture g listing bytes o
+    → IsListingOf listing all o
+capture_listing g listing all blue green red d e f bytes o captured first whole (inl (x, y, z, is, recovers)) =
     let same = one_capture blue green red x y z bytes captured is in
-    lanes_account listing ps sent received offset skews a blue green red d e f o first accounted (same_lanes listing blue green red x y z o same recovers)
-capture_account listing ps sent received offset skews a blue green red d e f bytes o captured first accounted (inr (fault, is)) =
+    lanes_listing g listing all blue green red d e f o first whole (same_lanes g listing blue green red x y z o same recovers)
+capture_listing g listing all blue green red d e f bytes o captured first whole (inr (fault, is)) =
     absurd (no_fault bytes fault (record { blue = blue; green = green; red = red; holds = captured }) is.is)
 
 -- what a run says of it
 answered : (listing : ListingOf) (command : Command) (t : TappedStream) (a d e f : ℕ) (ending : Ending) (before after : Devices)
-    → ((o : Outcome) → Does command t.bytes o → ListsCapture listing t.bytes o) → IsTapped t → IsFirstOf t d e f → IsAccounted t.periods t.sent t.received (aligned_of t d e f) a
+    → ((o : Outcome) → Does command t.bytes o → ListsCapture link_grammar listing t.bytes o) → IsTapped t → IsFirstOf t d e f → IsAccounted t.periods t.sent t.received (aligned_of t d e f) a
     → BeginColumn t.offset t.skews (a + 12) d e f → before.left ≡ Some t.bytes → Answers command ending before after
     → IsRecovered listing t d e f a (status_of ending) before.held after.held
 answered listing command t a d e f ending before after lists tapped first accounted begins left answers =
     let answer = answers t.bytes left in
-    let is = capture_account listing t.periods t.sent t.received t.offset t.skews a t.blue t.green t.red d e f t.bytes answer.outcome tapped.captured first accounted (lists answer.outcome answer.does) in
+    let all = account t.periods t.sent t.received a (length (aligned_of t d e f)) in
+    let is = capture_listing link_grammar listing all t.blue t.green t.red d e f t.bytes answer.outcome tapped.captured first accounted.told (lists answer.outcome answer.does) in
     record {
       accounted = accounted;
       begins = begins;
@@ -98,6 +99,8 @@ ended P command (Listing fault) before after says ends = inr (inr (inr (says end
 ended P command (Raster fault) before after says ends = inr (inr (inr (says ends.1)))
 ended P command (Capture fault) before after says ends = inr (inr (inr (says ends.1)))
 ended P command (Place i) before after says ends = inr (inr (inr (says ends.1)))
+ended P command (Frames fault) before after says ends = inr (inr (inr (says ends.1)))
+ended P command TooLong before after says ends = inr (inr (inr (says ends.1)))
 ended P command Unaligned before after says ends = inr (inr (inr (says ends.2)))
 ended P command ReadFailed before after says ends = inl ends.0
 ended P command WriteFailed before after says ends = inr (inl ends.0)
@@ -116,6 +119,8 @@ sample_ended P frames (Listing fault) before after ends says = absurd ends
 sample_ended P frames (Raster fault) before after ends says = absurd ends
 sample_ended P frames (Capture fault) before after ends says = absurd ends
 sample_ended P frames (Place i) before after ends says = absurd ends
+sample_ended P frames (Frames fault) before after ends says = absurd ends
+sample_ended P frames TooLong before after ends says = absurd ends
 sample_ended P frames ReadFailed before after ends says = absurd ends
 sample_ended P frames Unaligned before after ends says = absurd ends
 
@@ -126,7 +131,7 @@ named_ends words command this ending before after named again ends =
     subst (λ (c : Command). Ends c ending before after) (command_once words command this named again) ends
 
 -- what a run of a command says, from what each of its ends with an outcome says
-run_ended : (P : ℕ → Option (List ℕ) → Option (List ℕ) → Type 0) (this : Command) (words : List (List ℕ)) (ending : Ending) (before after : Devices) (status : ℕ) → RunEnds words ending before after
+pub run_ended : (P : ℕ → Option (List ℕ) → Option (List ℕ) → Type 0) (this : Command) (words : List (List ℕ)) (ending : Ending) (before after : Devices) (status : ℕ) → RunEnds words ending before after
     → status ≡ status_of ending → IsCommand words this → (Answers this ending before after → P (status_of ending) before.held after.held) → Unless P status before after
 run_ended P this words ending before after status (inl (command, named, reads, ends)) is again says =
     subst (λ s. Unless P s before after) (sym is) (ended P this ending before after says (named_ends words command this ending before after named again ends))
@@ -137,19 +142,38 @@ run_ended P this words ending before after status (inr (inr (inl (none, usage, k
 run_ended P this words ending before after status (inr (inr (inr (unheld, kept, held)))) is named says = inr (inr (inl (is ∙ ap status_of unheld)))
 
 -- sparse damage of payload alone
-pub headlined : (listing : ListingOf) (this : Command) → ((bytes : List ℕ) (o : Outcome) → Does this bytes o → ListsCapture listing bytes o) → (words : List (List ℕ)) (ending : Ending) (before after : Devices) (status : ℕ) → RunEnds words ending before after → status ≡ status_of ending → IsCommand words this
+pub headlined : (listing : ListingOf) (this : Command) → ((t : TappedStream) → IsTapped t → (o : Outcome) → Does this t.bytes o → ListsCapture link_grammar listing t.bytes o) → (words : List (List ℕ)) (ending : Ending) (before after : Devices) (status : ℕ) → RunEnds words ending before after → status ≡ status_of ending → IsCommand words this
     → (t : TappedStream) → IsTapped t → IsSparseInPayload t.periods t.sent t.received → (d e f : ℕ) → IsFirstOf t d e f → before.left ≡ Some t.bytes
     → Unless (λ s old new. (a : ℕ) × IsRecovered listing t d e f a s old new) status before after
 headlined listing this lists words ending before after status ends is named t tapped alone d e f first left =
     let law = payload_accounted t.periods t.sent t.received tapped.came alone t.offset t.skews t.counts t.blue t.green t.red tapped.tap tapped.small d e f first in
     run_ended (λ s old new. (a : ℕ) × IsRecovered listing t d e f a s old new) this words ending before after status ends is named
-    (λ answers. (law.0, answered listing this t law.0 d e f ending before after (lists t.bytes) tapped first law.1 law.2 left answers))
+    (λ answers. (law.0, answered listing this t law.0 d e f ending before after (lists t tapped) tapped first law.1 law.2 left answers))
 
 -- and damage anywhere that spares control and guard words until a column
-pub headlined_anywhere : (listing : ListingOf) (this : Command) → ((bytes : List ℕ) (o : Outcome) → Does this bytes o → ListsCapture listing bytes o) → (words : List (List ℕ)) (ending : Ending) (before after : Devices) (status : ℕ) → RunEnds words ending before after → status ≡ status_of ending → IsCommand words this
+pub headlined_anywhere : (listing : ListingOf) (this : Command) → ((t : TappedStream) → IsTapped t → (o : Outcome) → Does this t.bytes o → ListsCapture link_grammar listing t.bytes o) → (words : List (List ℕ)) (ending : Ending) (before after : Devices) (status : ℕ) → RunEnds words ending before after → status ≡ status_of ending → IsCommand words this
     → (t : TappedStream) → IsTapped t → (until : ℕ) → AlignsBy t until → before.left ≡ Some t.bytes
     → Unless (IsRecoveredBy listing t until) status before after
 headlined_anywhere listing this lists words ending before after status ends is named t tapped until aligns left =
     let law = tap_accounted t.periods t.sent t.received tapped.came t.offset t.skews t.counts t.blue t.green t.red tapped.tap tapped.small until aligns in
     run_ended (IsRecoveredBy listing t until) this words ending before after status ends is named
-    (λ answers. (law.0, law.1, law.2, law.3, (law.4.0, law.4.1, answered listing this t law.4.0 law.0 law.1 law.2 ending before after (lists t.bytes) tapped law.3 law.4.2 law.4.3 left answers)))
+    (λ answers. (law.0, law.1, law.2, law.3, (law.4.0, law.4.1, answered listing this t law.4.0 law.0 law.1 law.2 ending before after (lists t tapped) tapped law.3 law.4.2 law.4.3 left answers)))
+
+-- a stream without guard columns
+pub dvi_headlined : (words : List (List ℕ)) (ending : Ending) (before after : Devices) (status : ℕ) → RunEnds words ending before after → status ≡ status_of ending → IsCommand words RecoverDvi
+    → (t : TappedStream) → IsDviTapped t → (d e f : ℕ) → IsFirstOf t d e f → before.left ≡ Some t.bytes
+    → Unless (λ s old new. (a : ℕ) × IsDviRecovered t d e f a s old new) status before after
+dvi_headlined words ending before after status ends is named t tapped d e f first left =
+    let law = dvi_tap_accounted t.periods t.sent t.received tapped.conforming tapped.three tapped.spelled tapped.sparse t.offset t.skews t.counts t.blue t.green t.red tapped.tap tapped.small d e f first in
+    run_ended (λ s old new. (a : ℕ) × IsDviRecovered t d e f a s old new) RecoverDvi words ending before after status ends is named
+    (λ answers.
+    let answer = answers t.bytes left in
+    let all = dvi_account t.periods t.sent t.received law.0 (length (aligned_of t d e f)) in
+    let is = capture_listing dvi_grammar link_listing all t.blue t.green t.red d e f t.bytes answer.outcome tapped.captured first law.1.told answer.does in (
+      law.0,
+      record {
+        accounted = law.1;
+        status_is = sym answer.status ∙ is.status;
+        written = subst (λ out. Appends before.held after.held out) is.output answer.written;
+      },
+    ))

@@ -8,41 +8,39 @@ use Rattle.capture_file.specs.Captures.{IsCaptureOf, IsFault, place_of}
 use Rattle.capture_file.specs.declared.fault.CaptureFault.{CaptureFault}
 use Rattle.period_grammar.specs.Things.{Thing}
 use Rattle.link_sink.specs.declared.hear.Outcome.{Outcome as Hearing}
-use Rattle.link_sink.specs.Alignment.{told_by, AreTold, IsAlignedTold}
-use Rattle.link_sink.specs.Sinks.{Fed, IsToldSoFar}
+use Rattle.link_sink.specs.Alignment.{told_under, AreToldBy, IsAlignedBy}
+use Rattle.link_sink.specs.Grammar.{Grammar}
+use Rattle.link_sink.specs.Hearings.{IsGrammar}
+use Rattle.link_sink.specs.Sinks.{Fed, IsToldBy}
 use Rattle.listing.specs.Texts.{counted}
 use Rattle.command_line.specs.declared.command.Command.{Command}
 use Rattle.hdmi_cli.specs.Blocks.{AreBefore, AreRead, AreNext, IsHeardSoFar, IsBroken}
 use Rattle.hdmi_cli.specs.Hearings.{IsHeardSome}
-use Rattle.hdmi_cli.specs.Endings.{Devices, IsAnswered, ListsRead, ListsPart, EndsUnread, EndsUnwritten, Ends, ReadsCapture, heard_ending, judged_ending, status_of, note_of, seen}
+use Rattle.hdmi_cli.specs.Endings.{Devices, IsAnswered, ListsPart, Ends, heard_ending, judged_ending, status_of, note_of, seen}
+use Rattle.hdmi_cli.specs.Manners.{Manner, manner, writes_last, writes_on, reads_nothing, writing_last, writing_on, WritesLast, WritesOn}
 use Rattle.hdmi_cli.specs.Listings.{Listing}
 use Rattle.hdmi_cli.specs.Notes.{capture_note, alignment_note}
-use Rattle.hdmi_cli.specs.Outcome.{Outcome, ListsCapture, Does, status_with}
+use Rattle.hdmi_cli.specs.Outcome.{status_with}
 use Rattle.hdmi_cli.specs.declared.ending.Ending.{Ending}
 use Rattle.hdmi_cli.specs.declared.ending.Ending.TheVariants.{Done, Faulty, Unaligned}
 use Rattle.hdmi_cli.specs.declared.hearing.HearError.{HearError}
 use Rattle.hdmi_cli.specs.declared.hearing.HearError.TheVariants.{Bad, Read, Ear}
-use Rattle.hdmi_cli.proofs.Listings.{IsText, Writes, kept_none, broken_past, text_past, end_past, begins_told}
-
--- a command that lists captures so
-pub record IsLists (listing : Listing) (command : Command) : Type 0 where
-  pub does : (bytes : List ℕ) (o : Outcome) → ListsCapture listing bytes o → Does command bytes o
-  pub reads : ReadsCapture command
-  pub unread : (before after : Devices) → ListsRead listing before after → EndsUnread command before after
-  pub unwritten : (before after : Devices) → ListsPart listing before after → EndsUnwritten command before after
+use Rattle.hdmi_cli.specs.Listers.{IsText, Writes}
+use Rattle.hdmi_cli.specs.ListsCommands.{IsLists}
+use Rattle.hdmi_cli.proofs.Listings.{kept_none, broken_past, text_past, end_past, begins_told}
 
 -- a capture was not heard to its end
-pub record Unheard {A : Type 0} (took : A → A → List Thing → Type 0) (broke : A → A → Thing → Type 0) (left rest : Option (List ℕ)) (reads read_faults : ℕ) (old new : A) (writes write_faults : ℕ) (e : HearError) : Type 0 where
+pub record Unheard {A : Type 0} (g : Grammar) (took : A → A → List Thing → Type 0) (broke : A → A → Thing → Type 0) (left rest : Option (List ℕ)) (reads read_faults : ℕ) (old new : A) (writes write_faults : ℕ) (e : HearError) : Type 0 where
   pub bad :
       (bytes : List ℕ) (fault : CaptureFault) → left ≡ Some bytes → e ≡ Bad fault
-      → IsFault bytes fault × ((fed : Fed) × AreBefore bytes (place_of fault) fed × IsHeardSoFar took fed old new)
+      → IsFault bytes fault × ((fed : Fed) × AreBefore bytes (place_of fault) fed × IsHeardSoFar g took fed old new)
   pub read :
       e ≡ Read → Rose reads read_faults
-      × ((fed : Fed) × (read : List ℕ) × Consumes left rest read × AreRead read fed × IsHeardSoFar took fed old new)
+      × ((fed : Fed) × (read : List ℕ) × Consumes left rest read × AreRead read fed × IsHeardSoFar g took fed old new)
   pub broken :
       e ≡ Ear → Rose writes write_faults × (before now : Fed) × (things : List Thing) × (read : List ℕ) × Consumes left rest read
-      × ((AreNext before now read × IsToldSoFar now things × IsBroken took broke before things old new)
-      ⊎ ((outcome : Hearing) × IsAtEnd rest × IsCaptureOf now.blue now.green now.red read × AreTold now.blue now.green now.red outcome things × IsBroken took broke now things old new))
+      × ((AreNext before now read × IsToldBy g now things × IsBroken g took broke before things old new)
+      ⊎ ((outcome : Hearing) × IsAtEnd rest × IsCaptureOf now.blue now.green now.red read × AreToldBy g now.blue now.green now.red outcome things × IsBroken g took broke now things old new))
 
 -- an input that is read to its end was as long as what was read
 or_nil : Option (List ℕ) → List ℕ
@@ -56,7 +54,7 @@ some_same x y e = ap or_nil e
 none_some : (x : List ℕ) → None ≡ Some x → ⊥
 none_some x e = cc
 
-all_read : (left rest : Option (List ℕ)) (read bytes : List ℕ) → Consumes left rest read → IsAtEnd rest → left ≡ Some bytes → bytes ≡ read
+pub all_read : (left rest : Option (List ℕ)) (read bytes : List ℕ) → Consumes left rest read → IsAtEnd rest → left ≡ Some bytes → bytes ≡ read
 all_read None rest read bytes c end is = absurd (none_some bytes is)
 all_read (Some xs) None read bytes c end is = absurd c
 all_read (Some xs) (Some ys) read bytes c end is = sym (some_same xs bytes is) ∙ c ∙ ap (λ t. read ++ t) end ∙ append-nil read
@@ -65,26 +63,26 @@ nothing_more : {A : Type 0} (x : A) (xs : List A) → [] ≡ x ∷ xs → ⊥
 nothing_more x xs h = cc
 
 -- lanes that are aligned nowhere tell nothing at which an ear could stop
-aligned_if_told : (b : Bool) (x y z : List Bool) (columns : ℕ) (things taken rest : List Thing) (next : Thing) → told_by b x y z columns things → things ≡ taken ++ (next ∷ rest) → IsAlignedTold x y z columns things
-aligned_if_told true x y z columns things taken rest next told is = told
-aligned_if_told false x y z columns things [] rest next told is = absurd (nothing_more next rest (sym told.told ∙ is))
-aligned_if_told false x y z columns things (t ∷ taken) rest next told is = absurd (nothing_more t (taken ++ (next ∷ rest)) (sym told.told ∙ is))
+aligned_if_told : (g : Grammar) (b : Bool) (x y z : List Bool) (columns : ℕ) (things taken rest : List Thing) (next : Thing) → told_under g b x y z columns things → things ≡ taken ++ (next ∷ rest) → IsAlignedBy g x y z columns things
+aligned_if_told g true x y z columns things taken rest next told is = told
+aligned_if_told g false x y z columns things [] rest next told is = absurd (nothing_more next rest (sym told.told ∙ is))
+aligned_if_told g false x y z columns things (t ∷ taken) rest next told is = absurd (nothing_more t (taken ++ (next ∷ rest)) (sym told.told ∙ is))
 
 -- what was written where the ear broke
-broken_part : {A : Type 0} (listing : Listing) (after : List Thing → List Thing → List ℕ) (last : List Thing → List ℕ) (took : A → A → List Thing → Type 0) (broke : A → A → Thing → Type 0) (held : A → Option (List ℕ)) (faults : A → ℕ)
+broken_part : {A : Type 0} (g : Grammar) (listing : Listing) (after : List Thing → List Thing → List ℕ) (last : List Thing → List ℕ) (took : A → A → List Thing → Type 0) (broke : A → A → Thing → Type 0) (held : A → Option (List ℕ)) (faults : A → ℕ)
     (left rest : Option (List ℕ)) (reads read_faults : ℕ) (old new : A) → IsText listing after last → Writes listing after took broke held old
     → (before now : Fed) (things : List Thing) (read : List ℕ) → Consumes left rest read
-    → ((AreNext before now read × IsToldSoFar now things × IsBroken took broke before things old new)
-    ⊎ ((outcome : Hearing) × IsAtEnd rest × IsCaptureOf now.blue now.green now.red read × AreTold now.blue now.green now.red outcome things × IsBroken took broke now things old new))
-    → ListsPart listing (seen left reads (held old) (faults old)) (seen rest read_faults (held new) (faults new))
-broken_part listing after last took broke held faults left rest reads read_faults old new it writes before now things read c (inl (next, told, broken)) = record {
+    → ((AreNext before now read × IsToldBy g now things × IsBroken g took broke before things old new)
+    ⊎ ((outcome : Hearing) × IsAtEnd rest × IsCaptureOf now.blue now.green now.red read × AreToldBy g now.blue now.green now.red outcome things × IsBroken g took broke now things old new))
+    → ListsPart g listing (seen left reads (held old) (faults old)) (seen rest read_faults (held new) (faults new))
+broken_part g listing after last took broke held faults left rest reads read_faults old new it writes before now things read c (inl (next, told, broken)) = record {
   fed = before;
   first = broken.first;
   told = broken.told;
   things = things;
-  some = inl (now, read, c, next, told, broken_past listing after last took broke held before things old new it writes broken);
+  some = inl (now, read, c, next, told, broken_past g listing after last took broke held before things old new it writes broken);
 }
-broken_part listing after last took broke held faults left rest reads read_faults old new it writes before now things read c (inr (outcome, end, captured, told, broken)) = record {
+broken_part g listing after last took broke held faults left rest reads read_faults old new it writes before now things read c (inr (outcome, end, captured, told, broken)) = record {
   fed = now;
   first = broken.first;
   told = broken.told;
@@ -93,18 +91,27 @@ broken_part listing after last took broke held faults left rest reads read_fault
     outcome.columns,
     end,
     λ bytes is. subst (λ (bs : List ℕ). IsCaptureOf now.blue now.green now.red bs) (sym (all_read left rest read bytes c end is)) captured,
-    aligned_if_told outcome.aligned now.blue now.green now.red outcome.columns things broken.stops.taken broken.stops.rest broken.stops.next told broken.stops.things_are,
-    text_past listing after last broken.first things (held old) (held new) it (broken_past listing after last took broke held now things old new it writes broken),
+    aligned_if_told g outcome.aligned now.blue now.green now.red outcome.columns things broken.stops.taken broken.stops.rest broken.stops.next told broken.stops.things_are,
+    text_past listing after last broken.first things (held old) (held new) it (broken_past g listing after last took broke held now things old new it writes broken),
   );
 }
 
+-- a command that writes while it reads does not write last
+on_last : (command : Command) → WritesOn command → WritesLast command → ⊥
+on_last command on last = on_or (manner command) on last
+  where
+    on_or : (m : Manner) → writing_on m → writing_last m → ⊥
+    on_or writes_last on last = on
+    on_or writes_on on last = last
+    on_or reads_nothing on last = on
+
 -- the ending of what was not heard to its end
-pub unheard_ends : {A : Type 0} (listing : Listing) (after : List Thing → List Thing → List ℕ) (last : List Thing → List ℕ) (command : Command) (took : A → A → List Thing → Type 0) (broke : A → A → Thing → Type 0) (held : A → Option (List ℕ)) (faults : A → ℕ)
-    (left rest : Option (List ℕ)) (reads read_faults : ℕ) (old new : A) (e : HearError) → IsLists listing command → IsText listing after last → Writes listing after took broke held old
-    → Unheard took broke left rest reads read_faults old new (faults old) (faults new) e
+pub unheard_ends : {A : Type 0} (g : Grammar) (listing : Listing) (after : List Thing → List Thing → List ℕ) (last : List Thing → List ℕ) (command : Command) (took : A → A → List Thing → Type 0) (broke : A → A → Thing → Type 0) (held : A → Option (List ℕ)) (faults : A → ℕ)
+    (left rest : Option (List ℕ)) (reads read_faults : ℕ) (old new : A) (e : HearError) → IsLists g listing command → IsText listing after last → Writes listing after took broke held old
+    → Unheard g took broke left rest reads read_faults old new (faults old) (faults new) e
     → Ends command (heard_ending e) (seen left reads (held old) (faults old)) (seen rest read_faults (held new) (faults new))
-unheard_ends listing after last command took broke held faults left rest reads read_faults old new (Bad fault) lists it writes u = (
-  lists.reads,
+unheard_ends g listing after last command took broke held faults left rest reads read_faults old new (Bad fault) lists it writes u = (
+  λ last. absurd (on_last command lists.on last),
   λ bytes told. let b = u.bad bytes fault told refl in let h = b.1.2 in record {
     outcome = record { status = 3; output = listing.lines h.things; note = capture_note fault };
     does = lists.does bytes (record { status = 3; output = listing.lines h.things; note = capture_note fault })
@@ -114,7 +121,7 @@ unheard_ends listing after last command took broke held faults left rest reads r
     written = writes.grows new h.things h.taken;
   },
 )
-unheard_ends listing after last command took broke held faults left rest reads read_faults old new Read lists it writes u =
+unheard_ends g listing after last command took broke held faults left rest reads read_faults old new Read lists it writes u =
     let r = u.read refl in let h = r.1.4 in (
       r.0,
       lists.unread (seen left reads (held old) (faults old)) (seen rest read_faults (held new) (faults new)) (record {
@@ -127,9 +134,9 @@ unheard_ends listing after last command took broke held faults left rest reads r
         written = writes.grows new h.things h.taken;
       }),
     )
-unheard_ends listing after last command took broke held faults left rest reads read_faults old new Ear lists it writes u =
+unheard_ends g listing after last command took broke held faults left rest reads read_faults old new Ear lists it writes u =
     let b = u.broken refl in
-    (b.0, lists.unwritten (seen left reads (held old) (faults old)) (seen rest read_faults (held new) (faults new)) (broken_part listing after last took broke held faults left rest reads read_faults old new it writes b.1 b.2 b.3 b.4 b.5 b.6))
+    (b.0, lists.unwritten (seen left reads (held old) (faults old)) (seen rest read_faults (held new) (faults new)) (broken_part g listing after last took broke held faults left rest reads read_faults old new it writes b.1 b.2 b.3 b.4 b.5 b.6))
 
 -- what taking and breaking keep is kept where a capture was not heard to its end
 
@@ -139,37 +146,37 @@ bad_is_other fault e = cc
 read_is_other : Read ≡ Ear → ⊥
 read_is_other e = cc
 
-kept_by_broken : {A G : Type 0} (took : A → A → List Thing → Type 0) (broke : A → A → Thing → Type 0) (name : A → G) → ((x y : A) (h : List Thing) → took x y h → name y ≡ name x) → ((x y : A) (t : Thing) → broke x y t → name y ≡ name x)
-    → (before : Fed) (things : List Thing) (old new : A) → IsBroken took broke before things old new → name new ≡ name old
-kept_by_broken took broke name by_took by_broke before things old new b =
+kept_by_broken : {A G : Type 0} (g : Grammar) (took : A → A → List Thing → Type 0) (broke : A → A → Thing → Type 0) (name : A → G) → ((x y : A) (h : List Thing) → took x y h → name y ≡ name x) → ((x y : A) (t : Thing) → broke x y t → name y ≡ name x)
+    → (before : Fed) (things : List Thing) (old new : A) → IsBroken g took broke before things old new → name new ≡ name old
+kept_by_broken g took broke name by_took by_broke before things old new b =
     by_broke b.stops.between new b.stops.next b.stops.broke_then ∙ by_took old b.stops.between b.stops.taken b.stops.took_some
 
-kept_by_either : {A G : Type 0} (took : A → A → List Thing → Type 0) (broke : A → A → Thing → Type 0) (name : A → G) → ((x y : A) (h : List Thing) → took x y h → name y ≡ name x) → ((x y : A) (t : Thing) → broke x y t → name y ≡ name x)
+kept_by_either : {A G : Type 0} (g : Grammar) (took : A → A → List Thing → Type 0) (broke : A → A → Thing → Type 0) (name : A → G) → ((x y : A) (h : List Thing) → took x y h → name y ≡ name x) → ((x y : A) (t : Thing) → broke x y t → name y ≡ name x)
     → (rest : Option (List ℕ)) (old new : A) (before now : Fed) (things : List Thing) (read : List ℕ)
-    → ((AreNext before now read × IsToldSoFar now things × IsBroken took broke before things old new)
-    ⊎ ((outcome : Hearing) × IsAtEnd rest × IsCaptureOf now.blue now.green now.red read × AreTold now.blue now.green now.red outcome things × IsBroken took broke now things old new))
+    → ((AreNext before now read × IsToldBy g now things × IsBroken g took broke before things old new)
+    ⊎ ((outcome : Hearing) × IsAtEnd rest × IsCaptureOf now.blue now.green now.red read × AreToldBy g now.blue now.green now.red outcome things × IsBroken g took broke now things old new))
     → name new ≡ name old
-kept_by_either took broke name by_took by_broke rest old new before now things read (inl (next, told, broken)) = kept_by_broken took broke name by_took by_broke before things old new broken
-kept_by_either took broke name by_took by_broke rest old new before now things read (inr (outcome, end, captured, told, broken)) = kept_by_broken took broke name by_took by_broke now things old new broken
+kept_by_either g took broke name by_took by_broke rest old new before now things read (inl (next, told, broken)) = kept_by_broken g took broke name by_took by_broke before things old new broken
+kept_by_either g took broke name by_took by_broke rest old new before now things read (inr (outcome, end, captured, told, broken)) = kept_by_broken g took broke name by_took by_broke now things old new broken
 
-pub kept_unheard : {A G : Type 0} (took : A → A → List Thing → Type 0) (broke : A → A → Thing → Type 0) (name : A → G) (left rest : Option (List ℕ)) (reads read_faults : ℕ) (old new : A) (writes write_faults : ℕ) (e : HearError)
+pub kept_unheard : {A G : Type 0} (g : Grammar) (took : A → A → List Thing → Type 0) (broke : A → A → Thing → Type 0) (name : A → G) (left rest : Option (List ℕ)) (reads read_faults : ℕ) (old new : A) (writes write_faults : ℕ) (e : HearError)
     → ((x y : A) (h : List Thing) → took x y h → name y ≡ name x) → ((x y : A) (t : Thing) → broke x y t → name y ≡ name x)
-    → ((e ≡ Ear → ⊥) → IsHeardSome took old new) → Unheard took broke left rest reads read_faults old new writes write_faults e → name new ≡ name old
-kept_unheard took broke name left rest reads read_faults old new writes write_faults (Bad fault) by_took by_broke some u =
+    → ((e ≡ Ear → ⊥) → IsHeardSome g took old new) → Unheard g took broke left rest reads read_faults old new writes write_faults e → name new ≡ name old
+kept_unheard g took broke name left rest reads read_faults old new writes write_faults (Bad fault) by_took by_broke some u =
     let h = some (bad_is_other fault) in by_took old new h.1.things h.1.taken
-kept_unheard took broke name left rest reads read_faults old new writes write_faults Read by_took by_broke some u =
+kept_unheard g took broke name left rest reads read_faults old new writes write_faults Read by_took by_broke some u =
     let h = some read_is_other in by_took old new h.1.things h.1.taken
-kept_unheard took broke name left rest reads read_faults old new writes write_faults Ear by_took by_broke some u =
-    let b = u.broken refl in kept_by_either took broke name by_took by_broke rest old new b.1 b.2 b.3 b.4 b.6
+kept_unheard g took broke name left rest reads read_faults old new writes write_faults Ear by_took by_broke some u =
+    let b = u.broken refl in kept_by_either g took broke name by_took by_broke rest old new b.1 b.2 b.3 b.4 b.6
 
 -- lanes that are aligned nowhere
 
-pub nowhere_ends : (listing : Listing) (after : List Thing → List Thing → List ℕ) (last : List Thing → List ℕ) (command : Command) (fed : Fed) (outcome : Hearing) (things : List Thing) (before now : Devices)
-    → IsLists listing command → IsText listing after last → AreTold fed.blue fed.green fed.red outcome things → outcome.aligned ≡ false
+pub nowhere_ends : (g : Grammar) (listing : Listing) (after : List Thing → List Thing → List ℕ) (last : List Thing → List ℕ) (command : Command) (fed : Fed) (outcome : Hearing) (things : List Thing) (before now : Devices)
+    → IsLists g listing command → IsText listing after last → AreToldBy g fed.blue fed.green fed.red outcome things → outcome.aligned ≡ false
     → ((bytes : List ℕ) → before.left ≡ Some bytes → IsCaptureOf fed.blue fed.green fed.red bytes) → IsAtEnd now.left → Appends before.held now.held (listing.lines things)
     → Ends command Unaligned before now
-nowhere_ends listing after last command fed outcome things before now lists it told not captured end written =
-    let n = subst (λ b. told_by b fed.blue fed.green fed.red outcome.columns things) not told in
+nowhere_ends g listing after last command fed outcome things before now lists it told not captured end written =
+    let n = subst (λ b. told_under g b fed.blue fed.green fed.red outcome.columns things) not told in
     let none = subst (λ (ts : List Thing). Appends before.held now.held (listing.lines ts)) n.told written in (
       end,
       kept_none listing after last before.held now.held it none,
@@ -184,24 +191,24 @@ nowhere_ends listing after last command fed outcome things before now lists it t
 
 -- lanes that are aligned, and the last line
 
-no_faults : (n : ℕ) → 0 ≡ counted 0 n → status_with n ≡ 0
+pub no_faults : (n : ℕ) → 0 ≡ counted 0 n → status_with n ≡ 0
 no_faults zero h = refl
 no_faults (suc n) h = absurd (omega (arith, h))
 
-some_faults : (n m : ℕ) → suc m ≡ counted 0 n → status_with n ≡ 1
+pub some_faults : (n m : ℕ) → suc m ≡ counted 0 n → status_with n ≡ 1
 some_faults zero m h = absurd (omega (arith, h))
 some_faults (suc n) m h = refl
 
 -- a count that rose after it had not fallen has risen
-rose_after : (a b c : ℕ) → a ≤ b → Rose b c → Rose a c
+pub rose_after : (a b c : ℕ) → a ≤ b → Rose b c → Rose a c
 rose_after a b c le (inl more) = inl (omega arith)
 rose_after a b c le (inr top) = inr top
 
-all_answered : (listing : Listing) (after : List Thing → List Thing → List ℕ) (last : List Thing → List ℕ) (command : Command) (e : Ending) (fed : Fed) (columns : ℕ) (things : List Thing) (mid : Option (List ℕ)) (before now : Devices) (bytes : List ℕ)
-    → IsLists listing command → IsText listing after last → IsAlignedTold fed.blue fed.green fed.red columns things → IsCaptureOf fed.blue fed.green fed.red bytes
+all_answered : (g : Grammar) (listing : Listing) (after : List Thing → List Thing → List ℕ) (last : List Thing → List ℕ) (command : Command) (e : Ending) (fed : Fed) (columns : ℕ) (things : List Thing) (mid : Option (List ℕ)) (before now : Devices) (bytes : List ℕ)
+    → IsLists g listing command → IsText listing after last → IsAlignedBy g fed.blue fed.green fed.red columns things → IsCaptureOf fed.blue fed.green fed.red bytes
     → status_with (listing.faults things) ≡ status_of e → [] ≡ note_of e
     → Appends before.held mid (listing.lines things) → Appends mid now.held (last things) → IsAnswered command e before now bytes
-all_answered listing after last command e fed columns things mid before now bytes lists it told captured status note written then = record {
+all_answered g listing after last command e fed columns things mid before now bytes lists it told captured status note written then = record {
   outcome = record { status = status_with (listing.faults things); output = listing.text things; note = [] };
   does = lists.does bytes (record { status = status_with (listing.faults things); output = listing.text things; note = [] }) (inl (fed.blue, fed.green, fed.red, captured, inl (columns, things, told, refl)));
   status = status;
@@ -209,18 +216,18 @@ all_answered listing after last command e fed columns things mid before now byte
   written = subst (λ (bs : List ℕ). Appends before.held now.held bs) (sym (it.whole things)) (Appends-trans before.held mid now.held (listing.lines things) (last things) written then);
 }
 
-judged_ends : {E : Type 0} (listing : Listing) (after : List Thing → List Thing → List ℕ) (last : List Thing → List ℕ) (command : Command) (fed : Fed) (columns : ℕ) (things : List Thing) (mid : Option (List ℕ)) (middle : ℕ) (before now : Devices) (r : Result (Unit {0}) E) (faults : ℕ)
-    → IsLists listing command → IsText listing after last → IsAlignedTold fed.blue fed.green fed.red columns things
+judged_ends : {E : Type 0} (g : Grammar) (listing : Listing) (after : List Thing → List Thing → List ℕ) (last : List Thing → List ℕ) (command : Command) (fed : Fed) (columns : ℕ) (things : List Thing) (mid : Option (List ℕ)) (middle : ℕ) (before now : Devices) (r : Result (Unit {0}) E) (faults : ℕ)
+    → IsGrammar g → IsLists g listing command → IsText listing after last → IsAlignedBy g fed.blue fed.green fed.red columns things
     → ((bytes : List ℕ) → before.left ≡ Some bytes → IsCaptureOf fed.blue fed.green fed.red bytes) → IsAtEnd now.left
     → Appends before.held mid (listing.lines things) → faults ≡ counted 0 (listing.faults things) → before.output_faults ≤ middle
     → OnOk r (Appends mid now.held (last things)) → OnErr r ((n : ℕ) × (n < length (last things)) × Appends mid now.held (take n (last things))) → OnErr r (Rose middle now.output_faults)
     → Ends command (judged_ending r faults) before now
-judged_ends listing after last command fed columns things mid middle before now (Ok done) zero lists it told captured end written count le whole part rose =
-    (end, λ bytes is. all_answered listing after last command Done fed columns things mid before now bytes lists it told (captured bytes is) (no_faults (listing.faults things) count) refl written whole)
-judged_ends listing after last command fed columns things mid middle before now (Ok done) (suc m) lists it told captured end written count le whole part rose =
-    (end, λ bytes is. all_answered listing after last command Faulty fed columns things mid before now bytes lists it told (captured bytes is) (some_faults (listing.faults things) m count) refl written whole)
-judged_ends listing after last command fed columns things mid middle before now (Err failed) faults lists it told captured end written count le whole part rose =
-    let b = begins_told fed columns things told in (
+judged_ends g listing after last command fed columns things mid middle before now (Ok done) zero is lists it told captured end written count le whole part rose =
+    (end, λ bytes is. all_answered g listing after last command Done fed columns things mid before now bytes lists it told (captured bytes is) (no_faults (listing.faults things) count) refl written whole)
+judged_ends g listing after last command fed columns things mid middle before now (Ok done) (suc m) is lists it told captured end written count le whole part rose =
+    (end, λ bytes is. all_answered g listing after last command Faulty fed columns things mid before now bytes lists it told (captured bytes is) (some_faults (listing.faults things) m count) refl written whole)
+judged_ends g listing after last command fed columns things mid middle before now (Err failed) faults is lists it told captured end written count le whole part rose =
+    let b = begins_told g fed columns things is told in (
       rose_after before.output_faults middle now.output_faults le rose,
       lists.unwritten before now (record {
         fed = fed;
@@ -231,11 +238,11 @@ judged_ends listing after last command fed columns things mid middle before now 
       }),
     )
 
-pub heard_ends : {E : Type 0} (listing : Listing) (after : List Thing → List Thing → List ℕ) (last : List Thing → List ℕ) (command : Command) (fed : Fed) (outcome : Hearing) (things : List Thing) (mid : Option (List ℕ)) (middle : ℕ) (before now : Devices) (r : Result (Unit {0}) E) (faults : ℕ)
-    → IsLists listing command → IsText listing after last → AreTold fed.blue fed.green fed.red outcome things → outcome.aligned ≡ true
+pub heard_ends : {E : Type 0} (g : Grammar) (listing : Listing) (after : List Thing → List Thing → List ℕ) (last : List Thing → List ℕ) (command : Command) (fed : Fed) (outcome : Hearing) (things : List Thing) (mid : Option (List ℕ)) (middle : ℕ) (before now : Devices) (r : Result (Unit {0}) E) (faults : ℕ)
+    → IsGrammar g → IsLists g listing command → IsText listing after last → AreToldBy g fed.blue fed.green fed.red outcome things → outcome.aligned ≡ true
     → ((bytes : List ℕ) → before.left ≡ Some bytes → IsCaptureOf fed.blue fed.green fed.red bytes) → IsAtEnd now.left
     → Appends before.held mid (listing.lines things) → faults ≡ counted 0 (listing.faults things) → before.output_faults ≤ middle
     → OnOk r (Appends mid now.held (last things)) → OnErr r ((n : ℕ) × (n < length (last things)) × Appends mid now.held (take n (last things))) → OnErr r (Rose middle now.output_faults)
     → Ends command (judged_ending r faults) before now
-heard_ends listing after last command fed outcome things mid middle before now r faults lists it told is captured end written count le whole part rose =
-    judged_ends listing after last command fed outcome.columns things mid middle before now r faults lists it (subst (λ b. told_by b fed.blue fed.green fed.red outcome.columns things) is told) captured end written count le whole part rose
+heard_ends g listing after last command fed outcome things mid middle before now r faults grammar lists it told is captured end written count le whole part rose =
+    judged_ends g listing after last command fed outcome.columns things mid middle before now r faults grammar lists it (subst (λ b. told_under g b fed.blue fed.green fed.red outcome.columns things) is told) captured end written count le whole part rose

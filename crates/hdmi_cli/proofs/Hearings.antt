@@ -4,6 +4,7 @@ use Rattle.std.specs.Prelude.{slice_index}
 use Rattle.std.specs.Io.KnownBytes.{Consumes, IsAtEnd}
 use Rattle.std.proofs.KnownBytes.{Consumes-trans}
 use Rattle.tmds_word.specs.Bits.{bytes_bits}
+use Rattle.tmds_word.specs.Column.{Column}
 use Rattle.capture_file.specs.Captures.{HasRead, Stands, StopsIn, SaysOf, SaysRead, IsFault, IsEarlyFault, IsHeadless, IsCaptureOf, place_of, block_size}
 use Rattle.capture_file.specs.declared.fault.CaptureFault.{CaptureFault}
 use Rattle.capture_file.specs.declared.fault.CaptureError.{CaptureError}
@@ -12,12 +13,13 @@ use Rattle.capture_file.proofs.Marks.{consumed}
 use Rattle.period_grammar.specs.Things.{Thing}
 use Rattle.link_sink.specs.Ears.{StopsIn as StopsAtThing}
 use Rattle.link_sink.specs.Pieces.{no_bits}
-use Rattle.link_sink.specs.Sinks.{Fed, grown, IsGain, IsLast, IsToldSoFar}
-use Rattle.link_sink.specs.Streams.{SinkSeen, StandsFor, bits_of, most_bits}
+use Rattle.link_sink.specs.Grammar.{Grammar}
+use Rattle.link_sink.specs.Sinks.{Fed, grown, IsGainBy, IsLastBy, IsToldBy}
+use Rattle.link_sink.specs.Streams.{LaneSinkSeen, StandsBy, bits_of, most_bits}
 use Rattle.link_sink.specs.declared.hear.Outcome.{Outcome as Hearing}
-use Rattle.link_sink.proofs.Following.{told_at_first}
+use Rattle.link_sink.proofs.Following.{none_at_first}
 use Rattle.outside_io.specs.Causes.{Rose}
-use Rattle.link_sink.specs.Alignment.{AreTold}
+use Rattle.link_sink.specs.Alignment.{AreToldBy}
 use Rattle.hdmi_cli.specs.Blocks.{AreBefore, AreRead, AreNext, IsHeardSoFar, IsBroken}
 use Rattle.hdmi_cli.specs.Hearings.{AreFed, IsHeardSome, HasHeard, HasHeardAll, IsUntaken, StopsShort, IsCausedBy, refused_as}
 use Rattle.hdmi_cli.specs.declared.hearing.HearError.{HearError}
@@ -28,23 +30,23 @@ abbrev pub Joins : {A : Type 0} → (A → A → List Thing → Type 0) → Type
 Joins {A} took = (x y z : A) (h k : List Thing) → took x y h → took y z k → took x z (h ++ k)
 
 -- what a feed makes of the bits that were fed
-abbrev pub Adds : SinkSeen → SinkSeen → List ℕ → List ℕ → List ℕ → List ℕ → Type 0
-Adds old new a b d bits = (fed : Fed) → StandsFor old fed → StandsFor new (grown fed a b d bits)
+abbrev pub Adds : {H : Type 0} → (H → List Column → Type 0) → LaneSinkSeen H → LaneSinkSeen H → List ℕ → List ℕ → List ℕ → List ℕ → Type 0
+Adds goes_on old new a b d bits = (fed : Fed) → StandsBy goes_on old fed → StandsBy goes_on new (grown fed a b d bits)
 
 -- a block more was read
 abbrev pub Lends : ℕ → List ℕ → ℕ → List ℕ → List ℕ → List ℕ → List ℕ → Type 0
 Lends version counts j a b d bits = (taken : List ℕ) (x y z : List Bool) → Stands version counts j taken x y z
     → Stands version counts (j + 1) (taken ++ ((a ++ b) ++ d)) (x ++ take (slice_index bits 0) (bytes_bits a)) (y ++ take (slice_index bits 1) (bytes_bits b)) (z ++ take (slice_index bits 2) (bytes_bits d))
 
-at_its_length : (version : ℕ) (counts : List ℕ) (j : ℕ) (taken : List ℕ) (x y z : List Bool) → Stands version counts j taken x y z → HasRead counts j (length taken) taken x y z
+pub at_its_length : (version : ℕ) (counts : List ℕ) (j : ℕ) (taken : List ℕ) (x y z : List Bool) → Stands version counts j taken x y z → HasRead counts j (length taken) taken x y z
 at_its_length version counts j taken x y z h =
     record { head = h.head; headed = h.headed; count_x = h.count_x; count_y = h.count_y; count_z = h.count_z; taken_is = h.taken_is; place_is = refl }
 
-pub heard_more : {A : Type 0} (took : A → A → List Thing → Type 0) → Joins took → (version : ℕ) (counts : List ℕ) (j : ℕ) (from left0 left1 : Option (List ℕ)) (sink0 sink1 : SinkSeen) (a b d bits : List ℕ) (first old new : A)
-    → HasHeard took version counts j from left0 sink0 first old → Consumes left0 left1 ((a ++ b) ++ d) → Lends version counts j a b d bits → Adds sink0 sink1 a b d bits
-    → ((fed : Fed) → StandsFor sink0 fed → (things : List Thing) × IsGain fed (grown fed a b d bits) things × took old new things)
-    → HasHeard took version counts (j + 1) from left1 sink1 first new
-heard_more took both version counts j from left0 left1 sink0 sink1 a b d bits first old new h gone lent fed told =
+pub heard_more : {A H : Type 0} (g : Grammar) (goes_on : H → List Column → Type 0) (took : A → A → List Thing → Type 0) → Joins took → (version : ℕ) (counts : List ℕ) (j : ℕ) (from left0 left1 : Option (List ℕ)) (sink0 sink1 : LaneSinkSeen H) (a b d bits : List ℕ) (first old new : A)
+    → HasHeard g goes_on took version counts j from left0 sink0 first old → Consumes left0 left1 ((a ++ b) ++ d) → Lends version counts j a b d bits → Adds goes_on sink0 sink1 a b d bits
+    → ((fed : Fed) → StandsBy goes_on sink0 fed → (things : List Thing) × IsGainBy g fed (grown fed a b d bits) things × took old new things)
+    → HasHeard g goes_on took version counts (j + 1) from left1 sink1 first new
+heard_more g goes_on took both version counts j from left0 left1 sink0 sink1 a b d bits first old new h gone lent fed told =
     let t = told h.fed h.sunk in
     record {
       taken = h.taken ++ ((a ++ b) ++ d);
@@ -56,11 +58,11 @@ heard_more took both version counts j from left0 left1 sink0 sink1 a b d bits fi
     }
 
 -- the same of a reader that says the same
-pub moved : {A : Type 0} (took : A → A → List Thing → Type 0) (version version' : ℕ) (counts counts' : List ℕ) (j j' : ℕ) (from left : Option (List ℕ)) (sink : SinkSeen) (first now : A)
-    → version' ≡ version → counts' ≡ counts → j' ≡ j → HasHeard took version counts j from left sink first now → HasHeard took version' counts' j' from left sink first now
-moved took version version' counts counts' j j' from left sink first now ev ec ej h =
-    subst (λ v. HasHeard took v counts' j' from left sink first now) (sym ev)
-    (subst (λ cs. HasHeard took version cs j' from left sink first now) (sym ec) (subst (λ n. HasHeard took version counts n from left sink first now) (sym ej) h))
+pub moved : {A H : Type 0} (g : Grammar) (goes_on : H → List Column → Type 0) (took : A → A → List Thing → Type 0) (version version' : ℕ) (counts counts' : List ℕ) (j j' : ℕ) (from left : Option (List ℕ)) (sink : LaneSinkSeen H) (first now : A)
+    → version' ≡ version → counts' ≡ counts → j' ≡ j → HasHeard g goes_on took version counts j from left sink first now → HasHeard g goes_on took version' counts' j' from left sink first now
+moved g goes_on took version version' counts counts' j j' from left sink first now ev ec ej h =
+    subst (λ v. HasHeard g goes_on took v counts' j' from left sink first now) (sym ev)
+    (subst (λ cs. HasHeard g goes_on took version cs j' from left sink first now) (sym ec) (subst (λ n. HasHeard g goes_on took version counts n from left sink first now) (sym ej) h))
 
 pub carried : {T : Type 0} (P : T → T → Type 0) (x x' y y' : T) → x' ≡ x → y' ≡ y → P x y → P x' y'
 carried P x x' y y' ex ey h = subst (λ t. P t y') (sym ex) (subst (P x) (sym ey) h)
@@ -68,9 +70,9 @@ carried P x x' y y' ex ey h = subst (λ t. P t y') (sym ex) (subst (P x) (sym ey
 longer : (us vs : List Thing) → length us ≤ length (us ++ vs)
 longer us vs = let e = length-append us vs in omega (arith, e)
 
-stops_later : {A : Type 0} (took : A → A → List Thing → Type 0) (broke : A → A → Thing → Type 0) → Joins took → (fed : Fed) (things more : List Thing) (first old new : A)
-    → IsToldSoFar fed things → took first old things → StopsAtThing took broke old new more → IsBroken took broke fed (things ++ more) first new
-stops_later took broke both fed things more first old new told taken s = record {
+stops_later : {A : Type 0} (g : Grammar) (took : A → A → List Thing → Type 0) (broke : A → A → Thing → Type 0) → Joins took → (fed : Fed) (things more : List Thing) (first old new : A)
+    → IsToldBy g fed things → took first old things → StopsAtThing took broke old new more → IsBroken g took broke fed (things ++ more) first new
+stops_later g took broke both fed things more first old new told taken s = record {
   first = things;
   told = told;
   more = more;
@@ -87,11 +89,11 @@ stops_later took broke both fed things more first old new told taken s = record 
   past = longer things s.taken;
 }
 
-pub untaken : {A : Type 0} (took : A → A → List Thing → Type 0) (broke : A → A → Thing → Type 0) → Joins took → (version : ℕ) (counts : List ℕ) (j : ℕ) (from left0 left1 : Option (List ℕ)) (sink : SinkSeen) (a b d bits : List ℕ) (first old new : A)
-    → HasHeard took version counts j from left0 sink first old → Consumes left0 left1 ((a ++ b) ++ d) → Lends version counts j a b d bits
-    → ((fed : Fed) → StandsFor sink fed → (things : List Thing) × IsGain fed (grown fed a b d bits) things × StopsAtThing took broke old new things)
-    → IsUntaken took broke from left1 first new
-untaken took broke both version counts j from left0 left1 sink a b d bits first old new h gone lent stopped =
+pub untaken : {A H : Type 0} (g : Grammar) (goes_on : H → List Column → Type 0) (took : A → A → List Thing → Type 0) (broke : A → A → Thing → Type 0) → Joins took → (version : ℕ) (counts : List ℕ) (j : ℕ) (from left0 left1 : Option (List ℕ)) (sink : LaneSinkSeen H) (a b d bits : List ℕ) (first old new : A)
+    → HasHeard g goes_on took version counts j from left0 sink first old → Consumes left0 left1 ((a ++ b) ++ d) → Lends version counts j a b d bits
+    → ((fed : Fed) → StandsBy goes_on sink fed → (things : List Thing) × IsGainBy g fed (grown fed a b d bits) things × StopsAtThing took broke old new things)
+    → IsUntaken g took broke from left1 first new
+untaken g goes_on took broke both version counts j from left0 left1 sink a b d bits first old new h gone lent stopped =
     let s = stopped h.fed h.sunk in
     let next = lent h.taken h.fed.blue h.fed.green h.fed.red h.stands in
     record {
@@ -110,14 +112,14 @@ untaken took broke both version counts j from left0 left1 sink a b d bits first 
         has = at_its_length version counts (j + 1) _ _ _ _ next;
       };
       told = s.1 h.heard.things h.heard.told;
-      broken = stops_later took broke both h.fed h.heard.things s.0 first old new h.heard.told h.heard.taken s.2;
+      broken = stops_later g took broke both h.fed h.heard.things s.0 first old new h.heard.told h.heard.taken s.2;
     }
 
-pub heard_all : {A : Type 0} (took : A → A → List Thing → Type 0) (version : ℕ) (counts : List ℕ) (j : ℕ) (from left0 left1 : Option (List ℕ)) (sink : SinkSeen) (first now : A)
-    → HasHeard took version counts j from left0 sink first now → Consumes left0 left1 []
+pub heard_all : {A H : Type 0} (g : Grammar) (goes_on : H → List Column → Type 0) (took : A → A → List Thing → Type 0) (version : ℕ) (counts : List ℕ) (j : ℕ) (from left0 left1 : Option (List ℕ)) (sink : LaneSinkSeen H) (first now : A)
+    → HasHeard g goes_on took version counts j from left0 sink first now → Consumes left0 left1 []
     → ((taken : List ℕ) (x y z : List Bool) → Stands version counts j taken x y z → IsCaptureOf x y z taken)
-    → HasHeardAll took from left1 sink first now
-heard_all took version counts j from left0 left1 sink first now h gone whole = record {
+    → HasHeardAll g goes_on took from left1 sink first now
+heard_all g goes_on took version counts j from left0 left1 sink first now h gone whole = record {
   taken = h.taken;
   fed = h.fed;
   consumed = subst (Consumes from left1) (append-nil h.taken) (Consumes-trans from left0 left1 h.taken [] h.consumed gone);
@@ -127,12 +129,12 @@ heard_all took version counts j from left0 left1 sink first now h gone whole = r
 }
 
 -- a reader gives an error
-pub stops_short : {A : Type 0} (took : A → A → List Thing → Type 0) (broke : A → A → Thing → Type 0) (version : ℕ) (counts : List ℕ) (j : ℕ) (from left0 left1 : Option (List ℕ)) (sink : SinkSeen) (first now : A) (error : CaptureError)
-    → HasHeard took version counts j from left0 sink first now
+pub stops_short : {A H : Type 0} (g : Grammar) (goes_on : H → List Column → Type 0) (took : A → A → List Thing → Type 0) (broke : A → A → Thing → Type 0) (version : ℕ) (counts : List ℕ) (j : ℕ) (from left0 left1 : Option (List ℕ)) (sink : LaneSinkSeen H) (first now : A) (error : CaptureError)
+    → HasHeard g goes_on took version counts j from left0 sink first now
     → ((bytes taken : List ℕ) (x y z : List Bool) → left0 ≡ Some bytes → Stands version counts j taken x y z → SaysOf (λ fault. IsFault (taken ++ bytes) fault × StopsIn counts j taken (place_of fault)) error)
     → SaysRead ((part : List ℕ) × ((length part < block_size j counts) ⊎ (part ≡ [])) × Consumes left0 left1 part) error
-    → StopsShort took broke from left1 first now (refused_as error)
-stops_short took broke version counts j from left0 left1 sink first now (Failed fault) h says part = (
+    → StopsShort g took broke from left1 first now (refused_as error)
+stops_short g goes_on took broke version counts j from left0 left1 sink first now (Failed fault) h says part = (
   (h.fed, h.heard),
   λ bytes is.
       let c = consumed from left0 bytes h.taken is h.consumed in
@@ -144,7 +146,7 @@ stops_short took broke version counts j from left0 left1 sink first now (Failed 
         heard = h.heard;
       },
 )
-stops_short took broke version counts j from left0 left1 sink first now Unread h says part = record {
+stops_short g goes_on took broke version counts j from left0 left1 sink first now Unread h says part = record {
   fed = h.fed;
   read = h.taken ++ part.0;
   consumed = Consumes-trans from left0 left1 h.taken part.0 h.consumed part.2;
@@ -153,37 +155,37 @@ stops_short took broke version counts j from left0 left1 sink first now Unread h
 }
 
 -- nothing was fed yet, and nothing is told
-told_none : {A : Type 0} (took : A → A → List Thing → Type 0) (now : A) → took now now [] → IsHeardSoFar took no_bits now now
-told_none took now none = record { things = []; told = told_at_first; taken = none }
+told_none : {A : Type 0} (g : Grammar) (took : A → A → List Thing → Type 0) (now : A) → took now now [] → IsHeardSoFar g took no_bits now now
+told_none g took now none = record { things = []; told = none_at_first g; taken = none }
 
 -- a header was read
-pub heard_head : {A : Type 0} (took : A → A → List Thing → Type 0) (version : ℕ) (counts : List ℕ) (j : ℕ) (from left : Option (List ℕ)) (sink : SinkSeen) (now : A) → took now now [] → StandsFor sink no_bits
-    → (head : List ℕ) × Consumes from left head × Stands version counts j head [] [] [] → HasHeard took version counts j from left sink now now
-heard_head took version counts j from left sink now none sunk h = record { taken = h.0; fed = no_bits; consumed = h.1; stands = h.2; sunk = sunk; heard = told_none took now none }
+pub heard_head : {A H : Type 0} (g : Grammar) (goes_on : H → List Column → Type 0) (took : A → A → List Thing → Type 0) (version : ℕ) (counts : List ℕ) (j : ℕ) (from left : Option (List ℕ)) (sink : LaneSinkSeen H) (now : A) → took now now [] → StandsBy goes_on sink no_bits
+    → (head : List ℕ) × Consumes from left head × Stands version counts j head [] [] [] → HasHeard g goes_on took version counts j from left sink now now
+heard_head g goes_on took version counts j from left sink now none sunk h = record { taken = h.0; fed = no_bits; consumed = h.1; stands = h.2; sunk = sunk; heard = told_none g took now none }
 
 -- none was read
-pub headless : {A : Type 0} (took : A → A → List Thing → Type 0) (broke : A → A → Thing → Type 0) (from left : Option (List ℕ)) (now : A) (error : CaptureError) → took now now []
+pub headless : {A : Type 0} (g : Grammar) (took : A → A → List Thing → Type 0) (broke : A → A → Thing → Type 0) (from left : Option (List ℕ)) (now : A) (error : CaptureError) → took now now []
     → ((bytes : List ℕ) → from ≡ Some bytes → SaysOf (λ fault. IsEarlyFault bytes fault) error)
     → SaysRead ((part : List ℕ) × IsHeadless part × Consumes from left part) error
-    → StopsShort took broke from left now now (refused_as error)
-headless took broke from left now (Failed fault) none says part = (
-  (no_bits, told_none took now none),
-  λ bytes is. let s = says bytes is in record { faulty = s.0; fed = no_bits; before = inl (s.1, refl); heard = told_none took now none },
+    → StopsShort g took broke from left now now (refused_as error)
+headless g took broke from left now (Failed fault) none says part = (
+  (no_bits, told_none g took now none),
+  λ bytes is. let s = says bytes is in record { faulty = s.0; fed = no_bits; before = inl (s.1, refl); heard = told_none g took now none },
 )
-headless took broke from left now Unread none says part = record { fed = no_bits; read = part.0; consumed = part.2; are_read = inl (part.1, refl); heard = told_none took now none }
+headless g took broke from left now Unread none says part = record { fed = no_bits; read = part.0; consumed = part.2; are_read = inl (part.1, refl); heard = told_none g took now none }
 
 -- what was heard where it is not the ear that stopped
-pub some_heard : {A : Type 0} (took : A → A → List Thing → Type 0) (broke : A → A → Thing → Type 0) (from left : Option (List ℕ)) (old new : A) (e : HearError) → StopsShort took broke from left old new e → (e ≡ Ear → ⊥)
-    → IsHeardSome took old new
-some_heard took broke from left old new (Bad fault) short other = short.0
-some_heard took broke from left old new Read short other = (short.fed, short.heard)
-some_heard took broke from left old new Ear short other = absurd (other refl)
+pub some_heard : {A : Type 0} (g : Grammar) (took : A → A → List Thing → Type 0) (broke : A → A → Thing → Type 0) (from left : Option (List ℕ)) (old new : A) (e : HearError) → StopsShort g took broke from left old new e → (e ≡ Ear → ⊥)
+    → IsHeardSome g took old new
+some_heard g took broke from left old new (Bad fault) short other = short.0
+some_heard g took broke from left old new Read short other = (short.fed, short.heard)
+some_heard g took broke from left old new Ear short other = absurd (other refl)
 
 -- a sink that was fed nothing was fed no block
 zero_max : (a b c : ℕ) → max a (max b c) ≡ 0 → (a ≡ 0) × (b ≡ 0) × (c ≡ 0)
 zero_max a b c e = (grind (arith, e), grind (arith, e), grind (arith, e))
 
-pub fed_none : (sink : SinkSeen) (version : ℕ) (counts : List ℕ) (j : ℕ) (head : List ℕ) → most_bits sink ≡ 0 → Stands version counts j head [] [] [] → AreFed sink counts j
+pub fed_none : {H : Type 0} (sink : LaneSinkSeen H) (version : ℕ) (counts : List ℕ) (j : ℕ) (head : List ℕ) → most_bits sink ≡ 0 → Stands version counts j head [] [] [] → AreFed sink counts j
 fed_none sink version counts j head none h =
     let z = zero_max (bits_of sink 0) (bits_of sink 1) (bits_of sink 2) none in
     record { first = z.0 ∙ h.count_x; second = z.1 ∙ h.count_y; third = z.2 ∙ h.count_z }
@@ -191,11 +193,11 @@ fed_none sink version counts j head none h =
 left_none : (left : Option (List ℕ)) (rest : List ℕ) → left ≡ Some rest → IsAtEnd left → rest ≡ []
 left_none left rest is ended = subst IsAtEnd is ended
 
-pub heard_whole : {A : Type 0} (took : A → A → List Thing → Type 0) → Joins took → (from left : Option (List ℕ)) (sink : SinkSeen) (outcome : Hearing) (first old new : A)
-    → HasHeardAll took from left sink first old → IsAtEnd left
-    → ((fed : Fed) → StandsFor sink fed → (things : List Thing) × IsLast fed outcome things × took old new things)
-    → (fed : Fed) × (things : List Thing) × AreTold fed.blue fed.green fed.red outcome things × took first new things × ((bytes : List ℕ) → from ≡ Some bytes → IsCaptureOf fed.blue fed.green fed.red bytes)
-heard_whole took both from left sink outcome first old new h ended told =
+pub heard_whole : {A H : Type 0} (g : Grammar) (goes_on : H → List Column → Type 0) (took : A → A → List Thing → Type 0) → Joins took → (from left : Option (List ℕ)) (sink : LaneSinkSeen H) (outcome : Hearing) (first old new : A)
+    → HasHeardAll g goes_on took from left sink first old → IsAtEnd left
+    → ((fed : Fed) → StandsBy goes_on sink fed → (things : List Thing) × IsLastBy g fed outcome things × took old new things)
+    → (fed : Fed) × (things : List Thing) × AreToldBy g fed.blue fed.green fed.red outcome things × took first new things × ((bytes : List ℕ) → from ≡ Some bytes → IsCaptureOf fed.blue fed.green fed.red bytes)
+heard_whole g goes_on took both from left sink outcome first old new h ended told =
     let t = told h.fed h.sunk in (
       h.fed,
       h.heard.things ++ t.0,
@@ -208,42 +210,42 @@ heard_whole took both from left sink outcome first old new h ended told =
     )
 
 -- what a hearing says that an ear's failure ended
-abbrev pub Breaks : {A : Type 0} → (A → A → List Thing → Type 0) → (A → A → Thing → Type 0) → Option (List ℕ) → Option (List ℕ) → ℕ → ℕ → A → A → Type 0
-Breaks took broke from left was now old new = Rose was now
+abbrev pub Breaks : {A : Type 0} → Grammar → (A → A → List Thing → Type 0) → (A → A → Thing → Type 0) → Option (List ℕ) → Option (List ℕ) → ℕ → ℕ → A → A → Type 0
+Breaks g took broke from left was now old new = Rose was now
     × (before after : Fed) × (things : List Thing) × (read : List ℕ) × Consumes from left read
-    × ((AreNext before after read × IsToldSoFar after things × IsBroken took broke before things old new)
-    ⊎ ((outcome : Hearing) × IsAtEnd left × IsCaptureOf after.blue after.green after.red read × AreTold after.blue after.green after.red outcome things × IsBroken took broke after things old new))
+    × ((AreNext before after read × IsToldBy g after things × IsBroken g took broke before things old new)
+    ⊎ ((outcome : Hearing) × IsAtEnd left × IsCaptureOf after.blue after.green after.red read × AreToldBy g after.blue after.green after.red outcome things × IsBroken g took broke after things old new))
 
 -- one that a failed read ended
-abbrev pub Reads : {A : Type 0} → (A → A → List Thing → Type 0) → Option (List ℕ) → Option (List ℕ) → ℕ → ℕ → A → A → Type 0
-Reads took from left was now old new = Rose was now × ((fed : Fed) × (read : List ℕ) × Consumes from left read × AreRead read fed × IsHeardSoFar took fed old new)
+abbrev pub Reads : {A : Type 0} → Grammar → (A → A → List Thing → Type 0) → Option (List ℕ) → Option (List ℕ) → ℕ → ℕ → A → A → Type 0
+Reads g took from left was now old new = Rose was now × ((fed : Fed) × (read : List ℕ) × Consumes from left read × AreRead read fed × IsHeardSoFar g took fed old new)
 
-pub bad_of : {A : Type 0} (took : A → A → List Thing → Type 0) (broke : A → A → Thing → Type 0) (from from' left : Option (List ℕ)) (old new : A) (e : HearError) → from' ≡ from → StopsShort took broke from left old new e
-    → (bytes : List ℕ) (fault : CaptureFault) → from' ≡ Some bytes → e ≡ Bad fault → IsFault bytes fault × ((fed : Fed) × AreBefore bytes (place_of fault) fed × IsHeardSoFar took fed old new)
-bad_of took broke from from' left old new e ef h bytes fault is same =
-    let s = (subst (StopsShort took broke from left old new) same h).1 bytes (sym ef ∙ is) in (s.faulty, (s.fed, s.before, s.heard))
+pub bad_of : {A : Type 0} (g : Grammar) (took : A → A → List Thing → Type 0) (broke : A → A → Thing → Type 0) (from from' left : Option (List ℕ)) (old new : A) (e : HearError) → from' ≡ from → StopsShort g took broke from left old new e
+    → (bytes : List ℕ) (fault : CaptureFault) → from' ≡ Some bytes → e ≡ Bad fault → IsFault bytes fault × ((fed : Fed) × AreBefore bytes (place_of fault) fed × IsHeardSoFar g took fed old new)
+bad_of g took broke from from' left old new e ef h bytes fault is same =
+    let s = (subst (StopsShort g took broke from left old new) same h).1 bytes (sym ef ∙ is) in (s.faulty, (s.fed, s.before, s.heard))
 
-pub read_of : {A T : Type 0} (took : A → A → List Thing → Type 0) (broke : A → A → Thing → Type 0) (left_of : T → Option (List ℕ)) (faults_of : T → ℕ) (x x' y y' : T) (was now : ℕ) (old new : A) (e : HearError)
-    → x' ≡ x → y' ≡ y → StopsShort took broke (left_of x) (left_of y) old new e → IsCausedBy (faults_of x) (faults_of y) was now e → e ≡ Read
-    → Reads took (left_of x') (left_of y') (faults_of x') (faults_of y') old new
-read_of took broke left_of faults_of x x' y y' was now old new e ex ey short cause same =
-    let h = subst (StopsShort took broke (left_of x) (left_of y) old new) same short in
-    carried (λ s t. Reads took (left_of s) (left_of t) (faults_of s) (faults_of t) old new) x x' y y' ex ey
+pub read_of : {A T : Type 0} (g : Grammar) (took : A → A → List Thing → Type 0) (broke : A → A → Thing → Type 0) (left_of : T → Option (List ℕ)) (faults_of : T → ℕ) (x x' y y' : T) (was now : ℕ) (old new : A) (e : HearError)
+    → x' ≡ x → y' ≡ y → StopsShort g took broke (left_of x) (left_of y) old new e → IsCausedBy (faults_of x) (faults_of y) was now e → e ≡ Read
+    → Reads g took (left_of x') (left_of y') (faults_of x') (faults_of y') old new
+read_of g took broke left_of faults_of x x' y y' was now old new e ex ey short cause same =
+    let h = subst (StopsShort g took broke (left_of x) (left_of y) old new) same short in
+    carried (λ s t. Reads g took (left_of s) (left_of t) (faults_of s) (faults_of t) old new) x x' y y' ex ey
     (subst (IsCausedBy (faults_of x) (faults_of y) was now) same cause, (h.fed, h.read, h.consumed, h.are_read, h.heard))
 
-pub broken_of : {A T : Type 0} (took : A → A → List Thing → Type 0) (broke : A → A → Thing → Type 0) (left_of : T → Option (List ℕ)) (x x' y y' : T) (reads reading was now : ℕ) (old new : A) (e : HearError)
-    → x' ≡ x → y' ≡ y → StopsShort took broke (left_of x) (left_of y) old new e → IsCausedBy reads reading was now e → e ≡ Ear
-    → Breaks took broke (left_of x') (left_of y') was now old new
-broken_of took broke left_of x x' y y' reads reading was now old new e ex ey short cause same =
-    let h = subst (StopsShort took broke (left_of x) (left_of y) old new) same short in
-    carried (λ s t. Breaks took broke (left_of s) (left_of t) was now old new) x x' y y' ex ey
+pub broken_of : {A T : Type 0} (g : Grammar) (took : A → A → List Thing → Type 0) (broke : A → A → Thing → Type 0) (left_of : T → Option (List ℕ)) (x x' y y' : T) (reads reading was now : ℕ) (old new : A) (e : HearError)
+    → x' ≡ x → y' ≡ y → StopsShort g took broke (left_of x) (left_of y) old new e → IsCausedBy reads reading was now e → e ≡ Ear
+    → Breaks g took broke (left_of x') (left_of y') was now old new
+broken_of g took broke left_of x x' y y' reads reading was now old new e ex ey short cause same =
+    let h = subst (StopsShort g took broke (left_of x) (left_of y) old new) same short in
+    carried (λ s t. Breaks g took broke (left_of s) (left_of t) was now old new) x x' y y' ex ey
     (subst (IsCausedBy reads reading was now) same cause, h.before, h.after, h.things, h.read, h.consumed, inl (h.next, h.told, h.broken))
 
-pub unended : {A : Type 0} (took : A → A → List Thing → Type 0) (broke : A → A → Thing → Type 0) → Joins took → (from left : Option (List ℕ)) (sink : SinkSeen) (was now : ℕ) (first old new : A)
-    → HasHeardAll took from left sink first old → IsAtEnd left → Rose was now
-    → ((fed : Fed) → StandsFor sink fed → (outcome : Hearing) × (things : List Thing) × IsLast fed outcome things × StopsAtThing took broke old new things)
-    → Breaks took broke from left was now first new
-unended took broke both from left sink was now first old new h ended cause stopped =
+pub unended : {A H : Type 0} (g : Grammar) (goes_on : H → List Column → Type 0) (took : A → A → List Thing → Type 0) (broke : A → A → Thing → Type 0) → Joins took → (from left : Option (List ℕ)) (sink : LaneSinkSeen H) (was now : ℕ) (first old new : A)
+    → HasHeardAll g goes_on took from left sink first old → IsAtEnd left → Rose was now
+    → ((fed : Fed) → StandsBy goes_on sink fed → (outcome : Hearing) × (things : List Thing) × IsLastBy g fed outcome things × StopsAtThing took broke old new things)
+    → Breaks g took broke from left was now first new
+unended g goes_on took broke both from left sink was now first old new h ended cause stopped =
     let s = stopped h.fed h.sunk in
-    let broken = stops_later took broke both h.fed h.heard.things s.1 first old new h.heard.told h.heard.taken s.3 in
+    let broken = stops_later g took broke both h.fed h.heard.things s.1 first old new h.heard.told h.heard.taken s.3 in
     (cause, h.fed, h.fed, h.heard.things ++ s.1, h.taken, h.consumed, inr (s.0, ended, h.captured, s.2 h.heard.things h.heard.told, broken))

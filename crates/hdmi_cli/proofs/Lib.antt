@@ -8,3 +8,8 @@ pub mod Exact
 pub mod Hearings
 pub mod Samples
 pub mod SampleRaster
+pub mod Relaying
+pub mod Trackings
+pub mod Tracked
+pub mod TrackHeadline
+pub mod RelayHeadline

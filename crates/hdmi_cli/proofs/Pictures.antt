@@ -1,5 +1,5 @@
 -- The rows and frames that `recover content` lists of a raster are those that came.
-use Rattle.std.proofs.Common.{◌≡◌, ◌≤◌, ◌<◌, ℕ, ◌+◌, Bool, List, length, take, drop, min, ap, sym, ◌∙◌, subst, inl, inr, arith}
+use Rattle.std.proofs.Common.{◌≡◌, ◌≤◌, ◌<◌, ℕ, ◌+◌, List, length, take, drop, min, ap, sym, ◌∙◌, subst, inl, inr, arith}
 use Rattle.std.specs.Prelude.{Option, Some, None}
 use Rattle.std.specs.List.{filter}
 use Rattle.std.proofs.lemmas.Bool.{cases_lt}
@@ -86,7 +86,7 @@ pictured words ending before after status ends is named mode frames none t raste
     (λ s old new. (a : ℕ) × ArePictures mode frames t d e f a old new)
     status before after
     (λ h. (h.0, pictures_are mode frames none t raster d e f h.0 status before.held after.held tapped.came h.1))
-    (headlined content_listing RecoverContent (λ bytes o does. does) words ending before after status ends is named t tapped alone d e f first left)
+    (headlined content_listing RecoverContent (λ t tapped o does. does) words ending before after status ends is named t tapped alone d e f first left)
 
 -- and damage anywhere that spares control and guard words until a column
 pub pictured_anywhere : (words : List (List ℕ)) (ending : Ending) (before after : Devices) (status : ℕ) → RunEnds words ending before after → status ≡ status_of ending → IsCommand words RecoverContent
@@ -99,7 +99,7 @@ pictured_anywhere words ending before after status ends is named mode frames non
     (λ s old new. (d e f : ℕ) × IsFirstOf t d e f × ((a : ℕ) × (a + 12 ≤ until) × ArePictures mode frames t d e f a old new))
     status before after
     (λ h. (h.0, h.1, h.2, h.3, (h.4.0, h.4.1, pictures_are mode frames none t raster h.0 h.1 h.2 h.4.0 status before.held after.held tapped.came h.4.2)))
-    (headlined_anywhere content_listing RecoverContent (λ bytes o does. does) words ending before after status ends is named t tapped until aligns left)
+    (headlined_anywhere content_listing RecoverContent (λ t tapped o does. does) words ending before after status ends is named t tapped until aligns left)
 
 -- what is recovered lists the packets that came
 packets_are : (t : TappedStream) (d e f a status : ℕ) (old new : Option (List ℕ)) → CameOf t.periods t.sent t.received → IsRecovered content_listing t d e f a status old new → ArePackets t d e f a old new
@@ -124,7 +124,7 @@ packeted words ending before after status ends is named t tapped alone d e f fir
     (λ s old new. (a : ℕ) × ArePackets t d e f a old new)
     status before after
     (λ h. (h.0, packets_are t d e f h.0 status before.held after.held tapped.came h.1))
-    (headlined content_listing RecoverContent (λ bytes o does. does) words ending before after status ends is named t tapped alone d e f first left)
+    (headlined content_listing RecoverContent (λ t tapped o does. does) words ending before after status ends is named t tapped alone d e f first left)
 
 -- and of damage anywhere
 pub packeted_anywhere : (words : List (List ℕ)) (ending : Ending) (before after : Devices) (status : ℕ) → RunEnds words ending before after → status ≡ status_of ending → IsCommand words RecoverContent
@@ -136,4 +136,4 @@ packeted_anywhere words ending before after status ends is named t tapped until 
     (λ s old new. (d e f : ℕ) × IsFirstOf t d e f × ((a : ℕ) × (a + 12 ≤ until) × ArePackets t d e f a old new))
     status before after
     (λ h. (h.0, h.1, h.2, h.3, (h.4.0, h.4.1, packets_are t h.0 h.1 h.2 h.4.0 status before.held after.held tapped.came h.4.2)))
-    (headlined_anywhere content_listing RecoverContent (λ bytes o does. does) words ending before after status ends is named t tapped until aligns left)
+    (headlined_anywhere content_listing RecoverContent (λ t tapped o does. does) words ending before after status ends is named t tapped until aligns left)

@@ -1,11 +1,25 @@
 -- How a run ends, and what then stands.
-use Rattle.std.specs.Prelude.{◌≡◌, ◌⊎◌, ◌<◌, ◌≤◌, ℕ, zero, suc, List, [], ◌∷◌, length, map, take, Option, Some, Result, Ok, Err, Contains}
+use Rattle.std.specs.Prelude.{◌≡◌, ◌⊎◌, ◌<◌, ◌≤◌, ℕ, zero, suc, Bool, true, false, List, [], ◌∷◌, length, map, take, Option, Some, Result, Ok, Err, Contains}
 use Rattle.std.specs.Io.KnownBytes.{Appends, Consumes, IsAtEnd, Keeps}
 use Rattle.outside_io.specs.Causes.{Rose}
 use Rattle.capture_file.specs.Captures.{IsCaptureOf}
 use Rattle.capture_file.specs.BlockDamage.{ReadFailed as DamageUnread, WriteFailed as DamageUnwritten}
+use Rattle.capture_file.specs.declared.slipping.SlipError.{SlipError}
+use Rattle.capture_file.specs.declared.slipping.SlipError.TheVariants as slips
+use Rattle.biphase_listing.specs.Reading.{IsUnread as FramesUnread, IsUnwritten as FramesUnwritten}
+use Rattle.biphase_listing.specs.declared.fault.BiphaseError.{BiphaseError}
+use Rattle.biphase_listing.specs.declared.fault.BiphaseError.TheVariants as biphases
 use Rattle.capture_file.specs.declared.damaging.DamageError.{DamageError}
 use Rattle.capture_file.specs.declared.damaging.DamageError.TheVariants as damages
+use Rattle.period_grammar.specs.Exact.{faultless}
+use Rattle.relay.specs.Relayed.{relayed}
+use Rattle.relay.specs.declared.relaying.RelayFault.{RelayFault}
+use Rattle.relay.specs.declared.relaying.RelayFault.TheVariants as relay_faults
+use Rattle.track_sink.specs.Epochs.{IsTrack}
+use Rattle.track_sink.specs.Events.{Event}
+use Rattle.track_sink.specs.Tracks.{HasTracked}
+use Rattle.hdmi_cli.specs.TrackText.{track_lines, track_text}
+use Rattle.hdmi_cli.specs.Relays.{whole_tap}
 use Rattle.source_end.specs.declared.refusal.RasterFault.{RasterFault}
 use Rattle.source_end.specs.declared.refusal.RasterFault.TheVariants as raster_faults
 use Rattle.tmds_word.specs.Column.{Column}
@@ -14,21 +28,24 @@ use Rattle.island_pack.specs.Spelling.{Spells}
 use Rattle.capture_file.specs.Taps.{tapped_capture}
 use Rattle.capture_file.specs.declared.writing.Tap.{Tap}
 use Rattle.period_grammar.specs.Things.{Thing}
-use Rattle.link_sink.specs.Alignment.{IsAlignedTold}
-use Rattle.link_sink.specs.Sinks.{Fed, IsToldSoFar}
+use Rattle.dvi_hearing.specs.DviGrammar.{dvi_grammar}
+use Rattle.link_sink.specs.Alignment.{IsAlignedBy}
+use Rattle.link_sink.specs.Grammar.{Grammar, link_grammar}
+use Rattle.link_sink.specs.Sinks.{Fed, IsToldBy}
 use Rattle.hdmi_cli.specs.Blocks.{AreNext, AreRead}
 use Rattle.hdmi_cli.specs.Commands.{hit_asked}
-use Rattle.hdmi_cli.specs.Listings.{Listing as ListingOf, link_listing, check_listing, content_listing}
-use Rattle.hdmi_cli.specs.Notes.{listing_note, raster_note, capture_note, place_note, usage_note, read_note, write_note, memory_note, alignment_note}
+use Rattle.hdmi_cli.specs.Manners.{ReadsInput, WritesLast, WritesOn}
+use Rattle.hdmi_cli.specs.Listings.{Listing as ListingOf, link_listing, check_listing, content_listing, biphase_listing}
+use Rattle.hdmi_cli.specs.Notes.{listing_note, raster_note, capture_note, place_note, frames_note, long_note, usage_note, read_note, write_note, memory_note, alignment_note}
 use Rattle.hdmi_cli.specs.Outcome.{Outcome, Does, NamesNone}
 use Rattle.hdmi_cli.specs.Samples.{IsSampleCut, SampleEnds}
 use Rattle.command_line.specs.Commands.{IsCommand}
 use Rattle.command_line.specs.declared.command.Command.{Command}
-use Rattle.command_line.specs.declared.command.Command.TheVariants.{MakeLink, MakeContent, RecoverLink, RecoverContent, Check, Damage, Sample}
+use Rattle.command_line.specs.declared.command.Command.TheVariants.{MakeLink, MakeContent, MakeDvi, RecoverLink, RecoverContent, RecoverTrack, RecoverBiphase, RecoverDvi, Check, Damage, Slip, ReadBiphase, Relay, Sample}
 use Rattle.hdmi_cli.specs.declared.hearing.HearError.{HearError}
 use Rattle.hdmi_cli.specs.declared.hearing.HearError.TheVariants as heards
 use Rattle.hdmi_cli.specs.declared.ending.Ending.{Ending}
-use Rattle.hdmi_cli.specs.declared.ending.Ending.TheVariants.{Done, Faulty, Usage, Listing, Raster, Capture, Place, ReadFailed, WriteFailed, NoMemory, Unaligned}
+use Rattle.hdmi_cli.specs.declared.ending.Ending.TheVariants.{Done, Faulty, Usage, Listing, Raster, Capture, Place, Frames, TooLong, ReadFailed, WriteFailed, NoMemory, Unaligned}
 
 abbrev pub status_of : Ending → ℕ
 status_of Done = 0
@@ -38,6 +55,8 @@ status_of (Listing fault) = 3
 status_of (Raster fault) = 3
 status_of (Capture fault) = 3
 status_of (Place i) = 3
+status_of (Frames fault) = 3
+status_of TooLong = 3
 status_of ReadFailed = 4
 status_of WriteFailed = 5
 status_of NoMemory = 6
@@ -51,6 +70,8 @@ note_of (Listing fault) = listing_note fault.line fault.cause
 note_of (Raster fault) = raster_note fault
 note_of (Capture fault) = capture_note fault
 note_of (Place i) = place_note i
+note_of (Frames fault) = frames_note fault
+note_of TooLong = long_note
 note_of ReadFailed = read_note
 note_of WriteFailed = write_note
 note_of NoMemory = memory_note
@@ -95,13 +116,13 @@ abbrev pub Parts : Command → Devices → Devices → Type 0
 Parts command before after = (text : List ℕ) → before.left ≡ Some text → IsPart command before after text
 
 -- a read failed: exactly what the whole blocks that were read tell so far was listed
-pub record ListsRead (listing : ListingOf) (before after : Devices) : Type 0 where
+pub record ListsRead (g : Grammar) (listing : ListingOf) (before after : Devices) : Type 0 where
   pub read : List ℕ
   pub consumed : Consumes before.left after.left read
   pub fed : Fed
   pub are : AreRead read fed
   pub things : List Thing
-  pub told : IsToldSoFar fed things
+  pub told : IsToldBy g fed things
   pub written : Appends before.held after.held (listing.lines things)
 
 -- of a text not all was written, and at least the lines of these things
@@ -113,16 +134,55 @@ pub record IsWrittenPast (listing : ListingOf) (first : List Thing) (text : List
 
 -- a write failed: a part was written of the lines of what the blocks that were read tell so far, or at the end of the whole
 -- text, and at least the lines of what was told before the last block that was read
-pub record ListsPart (listing : ListingOf) (before after : Devices) : Type 0 where
+pub record ListsPart (g : Grammar) (listing : ListingOf) (before after : Devices) : Type 0 where
   pub fed : Fed
   pub first : List Thing
-  pub told : IsToldSoFar fed first
+  pub told : IsToldBy g fed first
   pub things : List Thing
   pub some :
-      ((now : Fed) × (read : List ℕ) × Consumes before.left after.left read × AreNext fed now read × IsToldSoFar now things
+      ((now : Fed) × (read : List ℕ) × Consumes before.left after.left read × AreNext fed now read × IsToldBy g now things
       × IsWrittenPast listing first (listing.lines things) before.held after.held)
       ⊎ ((columns : ℕ) × IsAtEnd after.left × ((bytes : List ℕ) → before.left ≡ Some bytes → IsCaptureOf fed.blue fed.green fed.red bytes)
-      × IsAlignedTold fed.blue fed.green fed.red columns things × IsWrittenPast listing first (listing.text things) before.held after.held)
+      × IsAlignedBy g fed.blue fed.green fed.red columns things × IsWrittenPast listing first (listing.text things) before.held after.held)
+
+-- a read failed: what was told so far of the whole blocks that were read was listed
+pub record TracksRead (before after : Devices) : Type 0 where
+  pub read : List ℕ
+  pub consumed : Consumes before.left after.left read
+  pub fed : Fed
+  pub are : AreRead read fed
+  pub events : List Event
+  pub told : HasTracked fed events
+  pub written : Appends before.held after.held (track_lines events)
+
+-- a write failed: a part was written of the lines of the first events of the blocks that were read, or at the end of the whole
+-- text
+pub record TracksPart (before after : Devices) : Type 0 where
+  pub events : List Event
+  pub fed : Fed
+  pub gone : ℕ
+  pub missing : gone < length (track_text events)
+  pub written : Appends before.held after.held (take gone (track_text events))
+  pub told :
+      ((was : Fed) × (read : List ℕ) × Consumes before.left after.left read × AreNext was fed read × HasTracked fed events)
+      ⊎ ((epochs aligned : ℕ) × IsAtEnd after.left × ((bytes : List ℕ) → before.left ≡ Some bytes → IsCaptureOf fed.blue fed.green fed.red bytes)
+      × IsTrack fed epochs aligned events)
+
+-- how a command ends that wrote a slipped capture, or none
+abbrev pub slip_ending : Result (Unit {0}) SlipError → Ending
+slip_ending (Ok done) = Done
+slip_ending (Err (slips.Bad fault)) = Capture fault
+slip_ending (Err slips.Place) = Place 0
+slip_ending (Err slips.Read) = ReadFailed
+slip_ending (Err slips.Write) = WriteFailed
+slip_ending (Err slips.NoMemory) = NoMemory
+
+-- how a command ends that listed frames, or a part of them
+abbrev pub frames_ending : Result (Unit {0}) BiphaseError → Ending
+frames_ending (Ok done) = Done
+frames_ending (Err (biphases.Bad fault)) = Frames fault
+frames_ending (Err biphases.Read) = ReadFailed
+frames_ending (Err biphases.Write) = WriteFailed
 
 -- how a command ends that wrote a damaged capture, or none
 abbrev pub damage_ending : Result (Unit {0}) DamageError → Ending
@@ -132,24 +192,53 @@ damage_ending (Err (damages.Place i)) = Place i
 damage_ending (Err damages.Read) = ReadFailed
 damage_ending (Err damages.Write) = WriteFailed
 
+-- the capture of a tap of columns was written, whole or in part
+abbrev pub ColumnsEnd : Tap → List Column → Ending → Option (List ℕ) → Option (List ℕ) → ℕ → ℕ → Type 0
+ColumnsEnd tap columns Done old new before after = Appends old new (tapped_capture columns tap)
+ColumnsEnd tap columns WriteFailed old new before after =
+    Rose before after × ((gone : ℕ) × (gone < length (tapped_capture columns tap)) × Appends old new (take gone (tapped_capture columns tap)))
+ColumnsEnd tap columns _ old new before after = ⊥
+
 -- the capture of a tap of columns that periods spell was written, whole or in part, or nothing of it
-pub record IsWhole (tap : Tap) (periods : List Period) (old new : Option (List ℕ)) : Type 0 where
+pub record IsWhole (spells : List Period → List Column → Type 0) (tap : Tap) (periods : List Period) (old new : Option (List ℕ)) : Type 0 where
   pub columns : List Column
-  pub spelled : Spells periods columns
+  pub spelled : spells periods columns
   pub written : Appends old new (tapped_capture columns tap)
 
-pub record IsCut (tap : Tap) (periods : List Period) (old new : Option (List ℕ)) : Type 0 where
+pub record IsCut (spells : List Period → List Column → Type 0) (tap : Tap) (periods : List Period) (old new : Option (List ℕ)) : Type 0 where
   pub columns : List Column
-  pub spelled : Spells periods columns
+  pub spelled : spells periods columns
   pub gone : ℕ
   pub missing : gone < length (tapped_capture columns tap)
   pub written : Appends old new (take gone (tapped_capture columns tap))
 
-abbrev pub StreamEnds : Tap → List Period → Ending → Option (List ℕ) → Option (List ℕ) → ℕ → ℕ → Type 0
-StreamEnds tap periods Done old new before after = IsWhole tap periods old new
-StreamEnds tap periods WriteFailed old new before after = Rose before after × IsCut tap periods old new
-StreamEnds tap periods NoMemory old new before after = Keeps old new
-StreamEnds tap periods _ old new before after = ⊥
+abbrev pub StreamEnds : (List Period → List Column → Type 0) → Tap → List Period → Ending → Option (List ℕ) → Option (List ℕ) → ℕ → ℕ → Type 0
+StreamEnds spells tap periods Done old new before after = IsWhole spells tap periods old new
+StreamEnds spells tap periods WriteFailed old new before after = Rose before after × IsCut spells tap periods old new
+StreamEnds spells tap periods NoMemory old new before after = Keeps old new
+StreamEnds spells tap periods _ old new before after = ⊥
+
+-- what is relayed of things was written, whole or in part, or nothing of it
+abbrev pub RelayEnds : List Thing → Ending → Option (List ℕ) → Option (List ℕ) → ℕ → ℕ → Type 0
+RelayEnds things Done old new before after = (faultless things ≡ true) × IsWhole Spells whole_tap (relayed things) old new
+RelayEnds things Faulty old new before after = (faultless things ≡ false) × IsWhole Spells whole_tap (relayed things) old new
+RelayEnds things WriteFailed old new before after = Rose before after × IsCut Spells whole_tap (relayed things) old new
+RelayEnds things NoMemory old new before after = Keeps old new
+RelayEnds things _ old new before after = ⊥
+
+-- how a command ends that may have heard faults
+abbrev pub faulty_end : Ending → Ending
+faulty_end Done = Faulty
+faulty_end ending = ending
+
+abbrev pub marked_end : Bool → Ending → Ending
+marked_end true ending = faulty_end ending
+marked_end false ending = ending
+
+-- how a command ends whose relay failed
+abbrev pub relay_ending : Option RelayFault → Ending
+relay_ending (Some relay_faults.Long) = TooLong
+relay_ending _ = NoMemory
 
 -- how a command ends whose content has no raster
 abbrev pub raster_ending : RasterFault → Ending
@@ -172,41 +261,35 @@ judged_ending (Err failed) n = WriteFailed
 abbrev pub EndsUnread : Command → Devices → Devices → Type 0
 EndsUnread (MakeLink tap) before after = Keeps before.held after.held
 EndsUnread (MakeContent tap) before after = Keeps before.held after.held
-EndsUnread RecoverLink before after = ListsRead link_listing before after
-EndsUnread RecoverContent before after = ListsRead content_listing before after
-EndsUnread Check before after = ListsRead check_listing before after
+EndsUnread (MakeDvi tap) before after = Keeps before.held after.held
+EndsUnread RecoverLink before after = ListsRead link_grammar link_listing before after
+EndsUnread RecoverContent before after = ListsRead link_grammar content_listing before after
+EndsUnread RecoverTrack before after = TracksRead before after
+EndsUnread (RecoverBiphase pair) before after = ListsRead link_grammar (biphase_listing pair) before after
+EndsUnread RecoverDvi before after = ListsRead dvi_grammar link_listing before after
+EndsUnread Check before after = ListsRead link_grammar check_listing before after
 EndsUnread (Damage damages) before after = DamageUnread before.left after.left (map hit_asked damages) before.held after.held
+EndsUnread (Slip slip) before after = Keeps before.held after.held
+EndsUnread ReadBiphase before after = FramesUnread before.left after.left before.held after.held
+EndsUnread Relay before after = Keeps before.held after.held
 EndsUnread (Sample frames) before after = ⊥
 
 -- and where a write failed
 abbrev pub EndsUnwritten : Command → Devices → Devices → Type 0
 EndsUnwritten (MakeLink tap) before after = Parts (MakeLink tap) before after
 EndsUnwritten (MakeContent tap) before after = Parts (MakeContent tap) before after
-EndsUnwritten RecoverLink before after = ListsPart link_listing before after
-EndsUnwritten RecoverContent before after = ListsPart content_listing before after
-EndsUnwritten Check before after = ListsPart check_listing before after
+EndsUnwritten (MakeDvi tap) before after = Parts (MakeDvi tap) before after
+EndsUnwritten RecoverLink before after = ListsPart link_grammar link_listing before after
+EndsUnwritten RecoverContent before after = ListsPart link_grammar content_listing before after
+EndsUnwritten RecoverTrack before after = TracksPart before after
+EndsUnwritten (RecoverBiphase pair) before after = ListsPart link_grammar (biphase_listing pair) before after
+EndsUnwritten RecoverDvi before after = ListsPart dvi_grammar link_listing before after
+EndsUnwritten Check before after = ListsPart link_grammar check_listing before after
 EndsUnwritten (Damage damages) before after = DamageUnwritten before.left after.left (map hit_asked damages) before.held after.held
+EndsUnwritten (Slip slip) before after = Parts (Slip slip) before after
+EndsUnwritten ReadBiphase before after = FramesUnwritten before.left after.left before.held after.held
+EndsUnwritten Relay before after = Parts Relay before after
 EndsUnwritten (Sample frames) before after = IsSampleCut frames before.held after.held
-
--- the commands that read the input: all but `sample`
-abbrev pub ReadsInput : Command → Type 0
-ReadsInput (MakeLink tap) = Unit {0}
-ReadsInput (MakeContent tap) = Unit {0}
-ReadsInput RecoverLink = Unit {0}
-ReadsInput RecoverContent = Unit {0}
-ReadsInput Check = Unit {0}
-ReadsInput (Damage damages) = Unit {0}
-ReadsInput (Sample frames) = ⊥
-
--- the commands that read a capture, and write while they read: all memory is taken before the first read
-abbrev pub ReadsCapture : Command → Type 0
-ReadsCapture RecoverLink = Unit {0}
-ReadsCapture RecoverContent = Unit {0}
-ReadsCapture Check = Unit {0}
-ReadsCapture (Damage damages) = Unit {0}
-ReadsCapture (MakeLink tap) = ⊥
-ReadsCapture (MakeContent tap) = ⊥
-ReadsCapture (Sample frames) = ⊥
 
 -- what stands where a command that reads the input ends so
 abbrev pub Ends : Command → Ending → Devices → Devices → Type 0
@@ -214,12 +297,14 @@ Ends command Done before after = IsAtEnd after.left × Answers command Done befo
 Ends command Faulty before after = IsAtEnd after.left × Answers command Faulty before after
 Ends command (Listing fault) before after = Keeps before.held after.held × Answers command (Listing fault) before after
 Ends command (Raster fault) before after = Keeps before.held after.held × Answers command (Raster fault) before after
-Ends command (Capture fault) before after = ReadsCapture command × Answers command (Capture fault) before after
+Ends command (Capture fault) before after = (WritesLast command → Keeps before.held after.held) × Answers command (Capture fault) before after
+Ends command (Frames fault) before after = (WritesLast command → Keeps before.held after.held) × Answers command (Frames fault) before after
+Ends command TooLong before after = Keeps before.held after.held × Answers command TooLong before after
 Ends command (Place i) before after = Keeps before.held after.held × Answers command (Place i) before after
 Ends command Unaligned before after = IsAtEnd after.left × Keeps before.held after.held × Answers command Unaligned before after
 Ends command ReadFailed before after = Rose before.input_faults after.input_faults × EndsUnread command before after
 Ends command WriteFailed before after = Rose before.output_faults after.output_faults × EndsUnwritten command before after
-Ends command NoMemory before after = Keeps before.held after.held × (ReadsCapture command → Keeps before.left after.left)
+Ends command NoMemory before after = Keeps before.held after.held × (WritesOn command → Keeps before.left after.left)
 Ends command Usage before after = ⊥
 
 -- what stands where a run with these words ends so: a command ended, or nothing was begun, as the words name none or

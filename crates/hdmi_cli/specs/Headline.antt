@@ -10,6 +10,16 @@ use Rattle.lane_deskew.specs.Triples.{IsFirst}
 use Rattle.island_pack.specs.Periods.{Period}
 use Rattle.link_sink.specs.Laws.{CameOf, IsAccounted, AlignsUntil, BeginColumn}
 use Rattle.link_sink.specs.Account.{account}
+use Rattle.source_end.specs.DviPeriods.{IsDviConforming, DviSpells, IsDviSparse, HasThree}
+use Rattle.dvi_hearing.specs.DviAccount.{dvi_account}
+use Rattle.dvi_hearing.specs.DviLaws.{IsDviAccounted}
+use Rattle.listing.specs.Texts.{fault_lines, link_text}
+use Rattle.island_pack.specs.Spelling.{Spells}
+use Rattle.capture_file.specs.Taps.{tapped_capture}
+use Rattle.period_grammar.specs.Exact.{faultless}
+use Rattle.relay.specs.Came.{came}
+use Rattle.relay.specs.Relayed.{conformed}
+use Rattle.hdmi_cli.specs.Relays.{relay_status, whole_tap}
 use Rattle.hdmi_cli.specs.Listings.{Listing}
 use Rattle.hdmi_cli.specs.Outcome.{status_with}
 
@@ -58,3 +68,37 @@ pub record IsRecovered (listing : Listing) (t : TappedStream) (d e f a status : 
 abbrev pub IsRecoveredBy : Listing → TappedStream → ℕ → ℕ → Option (List ℕ) → Option (List ℕ) → Type 0
 IsRecoveredBy listing t until status old new =
     (d e f : ℕ) × IsFirstOf t d e f × ((a : ℕ) × (a + 12 ≤ until) × IsRecovered listing t d e f a status old new)
+
+-- a tapped stream without guard columns: its bytes are the capture, of either version, of a tap of columns that came of
+-- conforming periods whose lines have three pixels or more, with sparse damage of their pixels
+pub record IsDviTapped (t : TappedStream) : Type 0 where
+  pub conforming : IsDviConforming t.periods
+  pub three : HasThree t.periods
+  pub spelled : DviSpells t.periods t.sent
+  pub sparse : IsDviSparse t.periods t.sent t.received
+  pub tap : IsTap t.received t.offset t.skews t.counts t.blue t.green t.red
+  pub small : HasSmallSkew t.skews
+  pub captured : IsCaptureOf t.blue t.green t.red t.bytes
+
+-- the output grew by the link listing of the account of such a stream, from twelve columns before the end of a control period
+-- on, and the status says whether it has a fault
+pub record IsDviRecovered (t : TappedStream) (d e f a status : ℕ) (old new : Option (List ℕ)) : Type 0 where
+  pub accounted : IsDviAccounted t.periods t.sent t.received (aligned_of t d e f) a
+  pub status_is : status ≡ status_with (fault_lines (dvi_account t.periods t.sent t.received a (length (aligned_of t d e f))))
+  pub written : Appends old new (link_text (dvi_account t.periods t.sent t.received a (length (aligned_of t d e f))))
+
+-- the output grew by the capture of the columns that are spelled by what came of the periods of a tapped stream, from twelve
+-- columns before the end of a control period on: whole periods with mended packets, whole preambles and guards, and Null
+-- packets for lost ones (`conformed`, `came`); and the status says whether a fault was told
+pub record IsSentOn (t : TappedStream) (d e f a status : ℕ) (old new : Option (List ℕ)) : Type 0 where
+  pub accounted : IsAccounted t.periods t.sent t.received (aligned_of t d e f) a
+  pub begins : BeginColumn t.offset t.skews (a + 12) d e f
+  pub columns : List Column
+  pub spelled : Spells (conformed (came t.periods t.sent t.received a (length (aligned_of t d e f)))) columns
+  pub status_is : status ≡ relay_status (faultless (account t.periods t.sent t.received a (length (aligned_of t d e f))))
+  pub written : Appends old new (tapped_capture columns whole_tap)
+
+-- the same from the first full alignment on, which is at or before a column
+abbrev pub IsSentOnBy : TappedStream → ℕ → ℕ → Option (List ℕ) → Option (List ℕ) → Type 0
+IsSentOnBy t until status old new =
+    (d e f : ℕ) × IsFirstOf t d e f × ((a : ℕ) × (a + 12 ≤ until) × IsSentOn t d e f a status old new)

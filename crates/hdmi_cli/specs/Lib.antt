@@ -1,11 +1,17 @@
 pub mod Commands
+pub mod Manners
 pub mod Notes
 pub mod Blocks
 pub mod Listings
+pub mod Listers
 pub mod Hearings
+pub mod Tracking
+pub mod TrackText
 pub mod Samples
+pub mod Relays
 pub mod Outcome
 pub mod Endings
+pub mod ListsCommands
 pub mod Runs
 pub mod Headline
 pub mod Pictures

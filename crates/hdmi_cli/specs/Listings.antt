@@ -1,6 +1,7 @@
 -- The listings that the program can write of what lanes tell.
 use Rattle.std.specs.Prelude.{ℕ, List}
 use Rattle.period_grammar.specs.Things.{Thing}
+use Rattle.biphase_listing.specs.StreamText.{biphase_text, biphase_faults}
 use Rattle.listing.specs.Texts.{lines_of, link_text, fault_lines}
 use Rattle.listing.specs.Checks.{check_lines, check_text}
 use Rattle.listing.specs.ContentText.{content_lines, content_text, content_faults, text_of}
@@ -20,3 +21,7 @@ check_listing = record { lines = check_lines; text = check_text; faults = fault_
 
 abbrev pub content_listing : Listing
 content_listing = record { lines = λ things. text_of (content_lines things); text = content_text; faults = content_faults }
+
+-- the biphase stream of a pair of channels, which has no lines and no last one; a fault is a packet of samples that has lost a block
+abbrev pub biphase_listing : ℕ → Listing
+biphase_listing pair = record { lines = biphase_text pair; text = biphase_text pair; faults = biphase_faults }

@@ -1,5 +1,7 @@
 -- The one line that the program writes on standard error for each status from 2 on.
 use Rattle.std.specs.Prelude.{ℕ, List, ◌++◌, codes, decimal}
+use Rattle.biphase_listing.specs.declared.fault.BiphaseFault.{BiphaseFault}
+use Rattle.biphase_listing.specs.declared.fault.BiphaseFault.TheVariants as frames
 use Rattle.capture_file.specs.declared.fault.CaptureFault.{CaptureFault}
 use Rattle.capture_file.specs.declared.fault.CaptureFault.TheVariants.{Magic, Version, Short, Padding, Trailing}
 use Rattle.source_end.specs.declared.refusal.RasterFault.{RasterFault}
@@ -44,13 +46,23 @@ capture_note fault = codes "input: " ++ capture_name fault ++ decimal (capture_n
 abbrev pub place_note : ℕ → List ℕ
 place_note i = codes "input: place " ++ decimal i ++ codes "\n"
 
+-- more than 20,000,000 columns
+abbrev pub long_note : List ℕ
+long_note = codes "input: long\n"
+
+-- why bytes are no list of frames
+abbrev pub frames_note : BiphaseFault → List ℕ
+frames_note (frames.Subframe n) = codes "input: subframe " ++ decimal n ++ codes "\n"
+frames_note frames.Long = long_note
+frames_note (frames.Short n) = codes "input: short " ++ decimal n ++ codes "\n"
+
 -- why a content has no raster in its mode: the number of the mode that is out of range, the first packet that has no room,
 -- or that there are too many columns. A row that does not fit is refused before, by its line
 abbrev pub raster_note : RasterFault → List ℕ
 raster_note (BadMode i) = codes "input: mode " ++ decimal i ++ codes "\n"
 raster_note (Row frame row) = codes "input: row " ++ decimal frame ++ codes " " ++ decimal row ++ codes "\n"
 raster_note (NoRoom frame packet) = codes "input: noroom " ++ decimal frame ++ codes " " ++ decimal packet ++ codes "\n"
-raster_note Long = codes "input: long\n"
+raster_note Long = long_note
 raster_note NoMemory = codes "out of memory\n"
 
 abbrev pub usage_note : List ℕ

@@ -1,6 +1,7 @@
 //! How a run ends.
 ghost use Rattle.std.specs.Prelude.{◌≡◌};
 
+use biphase_listing::BiphaseFault;
 use capture_file::CaptureFault;
 use listing::ListFault;
 use source_end::RasterFault;
@@ -22,6 +23,10 @@ pub enum Ending {
     Capture(CaptureFault),
     /// The ten bits of the hit of this number, from 0, pass the end of the capture's lanes.
     Place(u32),
+    /// The input is no list of frames of a biphase stream.
+    Frames(BiphaseFault),
+    /// What is relayed has more than 20,000,000 columns.
+    TooLong,
     /// A read failed.
     ReadFailed,
     /// A write failed.
@@ -47,6 +52,8 @@ impl Ending {
             Ending::Raster(_) => 3,
             Ending::Capture(_) => 3,
             Ending::Place(_) => 3,
+            Ending::Frames(_) => 3,
+            Ending::TooLong => 3,
             Ending::ReadFailed => 4,
             Ending::WriteFailed => 5,
             Ending::NoMemory => 6,

@@ -5,18 +5,18 @@ ghost use Rattle.outside_io.specs.Causes.{Rose};
 ghost use Rattle.capture_file.specs.Captures.{CanSay, IsCaptureOf, IsFault, place_of};
 ghost use Rattle.capture_file.specs.declared.fault.CaptureFault.{CaptureFault as FaultValue};
 ghost use Rattle.period_grammar.specs.Things.{Thing};
-ghost use Rattle.link_sink.specs.Alignment.{AreTold};
+ghost use Rattle.link_sink.specs.Alignment.{AreToldBy};
 ghost use Rattle.link_sink.specs.declared.hear.Outcome.{Outcome as Hearing};
 ghost use Rattle.link_sink.specs.Pieces.{no_bits};
-ghost use Rattle.link_sink.specs.Sinks.{Fed, IsToldSoFar};
-ghost use Rattle.link_sink.specs.Streams.{StandsFor, most_bits};
+ghost use Rattle.link_sink.specs.Sinks.{Fed, IsToldBy};
+ghost use Rattle.link_sink.specs.Streams.{StandsBy, most_bits};
 ghost use Rattle.hdmi_cli.specs.Blocks.{AreBefore, AreRead, AreNext, IsHeardSoFar, IsBroken};
 ghost use Rattle.hdmi_cli.specs.Hearings.{IsHeardSome, AreFed, HasHeard, HasHeardAll, HeardOn, StopsShort, IsCausedBy, refused_as};
 ghost use Rattle.hdmi_cli.specs.declared.hearing.HearError.TheVariants.{Bad, Read, Ear as EarFailed};
 
 use capture_file::{CaptureError, CaptureFault, CaptureReader};
 use lane_team::Gate;
-use link_sink::{Ear, LinkSink, Outcome};
+use link_sink::{Ear, Hears, LaneSink, Outcome};
 use outside_io::Source;
 use std::thread::Threads;
 
@@ -32,9 +32,9 @@ pub(crate) enum HearError {
 }
 
 /// Reads one block, feeds it to the sink and tells the ear what it decides, and says whether there was one.
-pub(crate) fn hear_block<R: Threads, S: Source, E: Ear, G: Gate>(
+pub(crate) fn hear_block<R: Threads, S: Source, H: Hears, E: Ear, G: Gate>(
     rt: &R,
-    sink: &mut LinkSink,
+    sink: &mut LaneSink<H>,
     reader: &mut CaptureReader<'_, S>,
     gate: &G,
     ear: &mut E,
@@ -51,13 +51,13 @@ pub(crate) fn hear_block<R: Threads, S: Source, E: Ear, G: Gate>(
     ensures below { IfOk result (λ more. more ≡ true → 32768 * reader.old.block < 2 ^ 32) }
     ensures block { IfOk result (λ more. more ≡ true → reader.new.block ≡ reader.old.block + 1) }
     ensures fed { IfOk result (λ more. more ≡ true → AreFed sink.new reader.old.bits (reader.old.block + 1)) }
-    ensures heard { (from : Option (List ℕ)) → HeardOn E.took (HasHeard E.took reader.old.version reader.old.bits reader.old.block from (S.left reader.old.source.now) sink.old) ear.old (λ first.
-        IfOk result (λ more. more ≡ true → HasHeard E.took reader.old.version reader.old.bits (reader.old.block + 1) from (S.left reader.new.source.now) sink.new first ear.new)) }
+    ensures heard { (from : Option (List ℕ)) → HeardOn E.took (HasHeard H.grammar H.goes_on E.took reader.old.version reader.old.bits reader.old.block from (S.left reader.old.source.now) sink.old) ear.old (λ first.
+        IfOk result (λ more. more ≡ true → HasHeard H.grammar H.goes_on E.took reader.old.version reader.old.bits (reader.old.block + 1) from (S.left reader.new.source.now) sink.new first ear.new)) }
     ensures ended { IfOk result (λ more. more ≡ false → IsAtEnd (S.left reader.new.source.now)) }
-    ensures whole { (from : Option (List ℕ)) → HeardOn E.took (HasHeard E.took reader.old.version reader.old.bits reader.old.block from (S.left reader.old.source.now) sink.old) ear.old (λ first.
-        IfOk result (λ more. more ≡ false → HasHeardAll E.took from (S.left reader.new.source.now) sink.new first ear.new)) }
-    ensures short { (from : Option (List ℕ)) → HeardOn E.took (HasHeard E.took reader.old.version reader.old.bits reader.old.block from (S.left reader.old.source.now) sink.old) ear.old (λ first.
-        IfErr result (StopsShort E.took E.broke from (S.left reader.new.source.now) first ear.new)) }
+    ensures whole { (from : Option (List ℕ)) → HeardOn E.took (HasHeard H.grammar H.goes_on E.took reader.old.version reader.old.bits reader.old.block from (S.left reader.old.source.now) sink.old) ear.old (λ first.
+        IfOk result (λ more. more ≡ false → HasHeardAll H.grammar H.goes_on E.took from (S.left reader.new.source.now) sink.new first ear.new)) }
+    ensures short { (from : Option (List ℕ)) → HeardOn E.took (HasHeard H.grammar H.goes_on E.took reader.old.version reader.old.bits reader.old.block from (S.left reader.old.source.now) sink.old) ear.old (λ first.
+        IfErr result (StopsShort H.grammar E.took E.broke from (S.left reader.new.source.now) first ear.new)) }
     ensures caused { IfErr result (IsCausedBy (S.faults reader.old.source.now) (S.faults reader.new.source.now) (E.faults ear.old) (E.faults ear.new)) }
     ensures input_later { S.faults reader.old.source.now ≤ S.faults reader.new.source.now }
     ensures ear_later { E.faults ear.old ≤ E.faults ear.new }
@@ -73,7 +73,7 @@ pub(crate) fn hear_block<R: Threads, S: Source, E: Ear, G: Gate>(
 }
 
 /// What an error of a reader is here.
-fn refused(error: CaptureError) -> HearError
+pub(crate) fn refused(error: CaptureError) -> HearError
     ensures refused { refused_as error ≡ result }
 {
     match error {
@@ -83,9 +83,9 @@ fn refused(error: CaptureError) -> HearError
 }
 
 /// Reads and feeds block after block, to the end.
-fn hear_blocks<R: Threads, S: Source, E: Ear, G: Gate>(
+fn hear_blocks<R: Threads, S: Source, H: Hears, E: Ear, G: Gate>(
     rt: &R,
-    sink: &mut LinkSink,
+    sink: &mut LaneSink<H>,
     reader: &mut CaptureReader<'_, S>,
     gate: &G,
     ear: &mut E,
@@ -97,10 +97,10 @@ fn hear_blocks<R: Threads, S: Source, E: Ear, G: Gate>(
     ensures same { reader.new.source.ghost_name ≡ reader.old.source.ghost_name }
     ensures open { OnOk result (sink.new.is_open ≡ true) }
     ensures ended { OnOk result (IsAtEnd (S.left reader.new.source.now)) }
-    ensures whole { (from : Option (List ℕ)) → HeardOn E.took (HasHeard E.took reader.old.version reader.old.bits reader.old.block from (S.left reader.old.source.now) sink.old) ear.old (λ first.
-        OnOk result (HasHeardAll E.took from (S.left reader.new.source.now) sink.new first ear.new)) }
-    ensures short { (from : Option (List ℕ)) → HeardOn E.took (HasHeard E.took reader.old.version reader.old.bits reader.old.block from (S.left reader.old.source.now) sink.old) ear.old (λ first.
-        IfErr result (StopsShort E.took E.broke from (S.left reader.new.source.now) first ear.new)) }
+    ensures whole { (from : Option (List ℕ)) → HeardOn E.took (HasHeard H.grammar H.goes_on E.took reader.old.version reader.old.bits reader.old.block from (S.left reader.old.source.now) sink.old) ear.old (λ first.
+        OnOk result (HasHeardAll H.grammar H.goes_on E.took from (S.left reader.new.source.now) sink.new first ear.new)) }
+    ensures short { (from : Option (List ℕ)) → HeardOn E.took (HasHeard H.grammar H.goes_on E.took reader.old.version reader.old.bits reader.old.block from (S.left reader.old.source.now) sink.old) ear.old (λ first.
+        IfErr result (StopsShort H.grammar E.took E.broke from (S.left reader.new.source.now) first ear.new)) }
     ensures caused { IfErr result (IsCausedBy (S.faults reader.old.source.now) (S.faults reader.new.source.now) (E.faults ear.old) (E.faults ear.new)) }
     ensures input_later { S.faults reader.old.source.now ≤ S.faults reader.new.source.now }
     ensures ear_later { E.faults ear.old ≤ E.faults ear.new }
@@ -115,28 +115,28 @@ fn hear_blocks<R: Threads, S: Source, E: Ear, G: Gate>(
 ///
 /// `Bad` where the bytes are no capture, and `Read` where a read failed: the ear was told what the whole blocks before
 /// decide. `Ear` where a call of the ear failed.
-pub(crate) fn hear_capture<R: Threads, S: Source, E: Ear, G: Gate>(
+pub(crate) fn hear_capture<R: Threads, S: Source, H: Hears, E: Ear, G: Gate>(
     rt: &R,
-    sink: &mut LinkSink,
+    sink: &mut LaneSink<H>,
     input: &mut S,
     gate: &G,
     ear: &mut E,
 ) -> Result<Outcome, HearError>
     requires open { sink.old.is_open ≡ true }
-    requires fresh { StandsFor sink.old no_bits }
+    requires fresh { StandsBy H.goes_on sink.old no_bits }
     requires unfed { most_bits sink.old ≡ 0 }
-    ensures heard { IfOk result (λ outcome. (fed : Fed) × (things : List Thing) × AreTold fed.blue fed.green fed.red outcome things × E.took ear.old ear.new things
+    ensures heard { IfOk result (λ outcome. (fed : Fed) × (things : List Thing) × AreToldBy H.grammar fed.blue fed.green fed.red outcome things × E.took ear.old ear.new things
         × ((bytes : List ℕ) → S.left input.old ≡ Some bytes → IsCaptureOf fed.blue fed.green fed.red bytes)) }
     ensures ended { OnOk result (IsAtEnd (S.left input.new)) }
-    ensures some { IfErr result (λ e. (e ≡ EarFailed → ⊥) → IsHeardSome E.took ear.old ear.new) }
+    ensures some { IfErr result (λ e. (e ≡ EarFailed → ⊥) → IsHeardSome H.grammar E.took ear.old ear.new) }
     ensures bad { (bytes : List ℕ) (fault : FaultValue) → S.left input.old ≡ Some bytes → IfErr result (λ e. e ≡ Bad fault
-        → IsFault bytes fault × ((fed : Fed) × AreBefore bytes (place_of fault) fed × IsHeardSoFar E.took fed ear.old ear.new)) }
+        → IsFault bytes fault × ((fed : Fed) × AreBefore bytes (place_of fault) fed × IsHeardSoFar H.grammar E.took fed ear.old ear.new)) }
     ensures read { IfErr result (λ e. e ≡ Read → Rose (S.faults input.old) (S.faults input.new)
-        × ((fed : Fed) × (read : List ℕ) × Consumes (S.left input.old) (S.left input.new) read × AreRead read fed × IsHeardSoFar E.took fed ear.old ear.new)) }
+        × ((fed : Fed) × (read : List ℕ) × Consumes (S.left input.old) (S.left input.new) read × AreRead read fed × IsHeardSoFar H.grammar E.took fed ear.old ear.new)) }
     ensures broken { IfErr result (λ e. e ≡ EarFailed → Rose (E.faults ear.old) (E.faults ear.new)
         × (before after : Fed) × (things : List Thing) × (read : List ℕ) × Consumes (S.left input.old) (S.left input.new) read
-        × ((AreNext before after read × IsToldSoFar after things × IsBroken E.took E.broke before things ear.old ear.new)
-        ⊎ ((outcome : Hearing) × IsAtEnd (S.left input.new) × IsCaptureOf after.blue after.green after.red read × AreTold after.blue after.green after.red outcome things × IsBroken E.took E.broke after things ear.old ear.new))) }
+        × ((AreNext before after read × IsToldBy H.grammar after things × IsBroken H.grammar E.took E.broke before things ear.old ear.new)
+        ⊎ ((outcome : Hearing) × IsAtEnd (S.left input.new) × IsCaptureOf after.blue after.green after.red read × AreToldBy H.grammar after.blue after.green after.red outcome things × IsBroken H.grammar E.took E.broke after things ear.old ear.new))) }
     ensures input_later { S.faults input.old ≤ S.faults input.new }
     ensures ear_later { E.faults ear.old ≤ E.faults ear.new }
 {

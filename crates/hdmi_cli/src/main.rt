@@ -4,11 +4,15 @@
 #[cfg(test)]
 mod cases_bad;
 #[cfg(test)]
+mod cases_biphase;
+#[cfg(test)]
 mod cases_content;
 #[cfg(test)]
 mod cases_damage;
 #[cfg(test)]
 mod cases_dense;
+#[cfg(test)]
+mod cases_dvi;
 #[cfg(test)]
 mod cases_guard;
 #[cfg(test)]
@@ -18,9 +22,13 @@ mod cases_link;
 #[cfg(test)]
 mod cases_packet;
 #[cfg(test)]
+mod cases_relay;
+#[cfg(test)]
 mod cases_sparse;
 #[cfg(test)]
 mod cases_tap;
+#[cfg(test)]
+mod cases_track;
 #[cfg(test)]
 mod cases_version;
 #[cfg(test)]
@@ -32,6 +40,7 @@ mod ending;
 mod gate_tests;
 mod hearing;
 mod hit;
+mod lister;
 mod note;
 #[cfg(test)]
 mod recover_tests;
@@ -39,9 +48,13 @@ mod run;
 mod sample;
 #[cfg(test)]
 mod sample_tests;
+mod sending;
 mod slice_source;
 #[cfg(test)]
 mod tests;
+mod track;
+mod track_lister;
+mod tracking;
 #[cfg(test)]
 mod trial;
 mod words;

@@ -4,10 +4,11 @@ ghost use Rattle.std.specs.Io.KnownBytes.{Appends};
 ghost use Rattle.arrayvec.specs.ArrayVec.{array_vec_len};
 ghost use Rattle.outside_io.specs.Causes.{Rose};
 ghost use Rattle.hdmi_cli.specs.Endings.{note_of};
-ghost use Rattle.hdmi_cli.specs.Notes.{cause_name, listing_note, capture_name, capture_number, capture_note, place_note, raster_note};
+ghost use Rattle.hdmi_cli.specs.Notes.{cause_name, listing_note, capture_name, capture_number, capture_note, frames_note, place_note, raster_note};
 
 use crate::ending::Ending;
 use arrayvec::ArrayVec;
+use biphase_listing::BiphaseFault;
 use capture_file::CaptureFault;
 use listing::{ListCause, ListFault};
 use outside_io::{Sink, write_all};
@@ -31,6 +32,8 @@ pub(crate) fn write_note<N: Sink>(ending: &Ending, notes: &mut N)
         Ending::Raster(fault) => write_line(raster_line(*fault).as_slice(), notes),
         Ending::Capture(fault) => write_line(capture_line(fault).as_slice(), notes),
         Ending::Place(hit) => write_line(place_line(*hit).as_slice(), notes),
+        Ending::Frames(fault) => write_line(frames_line(*fault).as_slice(), notes),
+        Ending::TooLong => write_line(b"input: long\n", notes),
         Ending::ReadFailed => write_line(b"read failed\n", notes),
         Ending::WriteFailed => write_line(b"write failed\n", notes),
         Ending::NoMemory => write_line(b"out of memory\n", notes),
@@ -126,6 +129,17 @@ fn capture_line(fault: &CaptureFault) -> Line
     append(&mut line, number.format(place(*fault)).as_bytes());
     append(&mut line, b"\n");
     line
+}
+
+/// The note of bytes that are no list of frames.
+fn frames_line(fault: BiphaseFault) -> Line
+    ensures { result.items ≡ frames_note fault }
+{
+    match fault {
+        BiphaseFault::Subframe(number) => number_line(b"input: subframe ", number),
+        BiphaseFault::Long => text_line(b"input: long\n"),
+        BiphaseFault::Short(bytes) => number_line(b"input: short ", bytes),
+    }
 }
 
 /// The note of a hit that passes the capture's end.

@@ -2,42 +2,54 @@
 ghost use Rattle.std.specs.Prelude.{◌≡◌, ◌⊎◌, ◌+◌, ℕ, ◌<◌, ◌≤◌, Bool, true, List, [], ◌∷◌, take, All, Some, None, Contains};
 ghost use Rattle.std.specs.Io.KnownBytes.{Appends, IsAtEnd, Keeps};
 ghost use Rattle.outside_io.specs.Causes.{Rose};
-ghost use Rattle.command_line.specs.declared.tap.TapWords.{TapWords as TapValue};
 ghost use Rattle.lane_deskew.specs.Aligned.{aligned_columns};
 ghost use Rattle.island_pack.specs.Sparse.{IsSparseInPayload};
 ghost use Rattle.link_sink.specs.Pieces.{no_bits};
-ghost use Rattle.link_sink.specs.Streams.{StandsFor, most_bits};
+ghost use Rattle.link_sink.specs.Streams.{StandsBy, most_bits};
 ghost use Rattle.source_end.specs.declared.mode.Mode.{Mode};
+ghost use Rattle.island_pack.specs.Spelling.{Spells};
 ghost use Rattle.source_end.specs.Content.{Frame};
+ghost use Rattle.source_end.specs.DviPeriods.{DviSpells};
 ghost use Rattle.source_end.specs.Raster.{raster_of};
 ghost use Rattle.source_end.specs.RasterRefusals.{raster_fault};
 ghost use Rattle.hdmi_cli.specs.Commands.{tap_asked};
-ghost use Rattle.hdmi_cli.specs.Headline.{TappedStream, IsTapped, AlignsBy, IsFirstOf, IsRecovered, IsRecoveredBy};
+ghost use Rattle.hdmi_cli.specs.Headline.{TappedStream, IsTapped, AlignsBy, IsFirstOf, IsRecovered, IsRecoveredBy, IsDviTapped, IsDviRecovered, IsSentOn, IsSentOnBy};
 ghost use Rattle.hdmi_cli.specs.Pictures.{ArePackets, ArePictures};
 ghost use Rattle.hdmi_cli.specs.Exact.{IsAlignedCapture, IsJudged};
 ghost use Rattle.hdmi_cli.specs.Listings.{link_listing, content_listing};
+ghost use Rattle.hdmi_cli.specs.ListsCommands.{IsLists};
+ghost use Rattle.hdmi_cli.specs.Manners.{WritesLast, WritesOn};
 ghost use Rattle.hdmi_cli.specs.Outcome.{Outcome, IsOutcome, NamesNone};
-ghost use Rattle.hdmi_cli.specs.Endings.{Ends, ReadsCapture, RunEnds, RunUnread, RunUnwritten, StreamEnds, Unless, damage_ending, heard_ending, judged_ending, raster_ending, seen};
+ghost use Rattle.hdmi_cli.specs.Endings.{ColumnsEnd, Ends, RunEnds, RunUnread, RunUnwritten, StreamEnds, Unless, damage_ending, frames_ending, heard_ending, judged_ending, raster_ending, seen, slip_ending};
 ghost use Rattle.hdmi_cli.specs.Runs.{IsNoteOf};
 ghost use Rattle.hdmi_cli.specs.Samples.{IsSampleWritten, SampleEnds};
 ghost use Rattle.command_line.specs.Commands.{IsCommand};
 ghost use Rattle.command_line.specs.declared.command.Command.{Command as CommandValue};
-ghost use Rattle.command_line.specs.declared.command.Command.TheVariants.{MakeLink, MakeContent, RecoverLink, RecoverContent, Check, Damage, Sample};
+ghost use Rattle.command_line.specs.declared.command.Command.TheVariants.{MakeLink, MakeContent, MakeDvi, RecoverLink, RecoverContent, RecoverTrack, RecoverBiphase, RecoverDvi, Check, Damage, Slip, ReadBiphase, Relay as RelayCommand, Sample};
 
 use crate::Words;
 use crate::ending::Ending;
 use crate::hearing::{HearError, hear_capture};
 use crate::hit::hits_of;
+use crate::lister::Lister;
 use crate::note::write_note;
 use crate::sample::sample;
-use capture_file::{DamageError, Lanes, Tap, write_capture};
-use command_line::{Command, DamageWord, TapWords};
+use crate::sending::send_on;
+use crate::track::recover_track;
+use biphase_listing::{BiphaseError, BiphaseLister, list_biphase};
+use capture_file::{DamageError, Lanes, SlipError, Tap, write_capture};
+use command_line::{Command, DamageWord, SlipWord, TapWords};
+use dvi_hearing::DviHearing;
 use lane_team::Gate;
-use link_sink::LinkSink;
-use listing::{CheckLister, ContentLister, LinkLister, ListError, read_content, read_link};
+use link_sink::{Hears, LaneSink};
+use listing::{
+    CheckLister, ContentLister, LinkLister, ListError, read_content, read_dvi, read_link,
+};
 use outside_io::{Failed, NoMemory, Sink, Source};
+use period_grammar::Hearing;
+use relay::laws::relayed_account;
 use sampling::write_counts;
-use source_end::{RasterFault, Stream, raster};
+use source_end::{DviStream, RasterFault, Stream, raster};
 use std::alloc::Global;
 use std::thread::Threads;
 
@@ -74,15 +86,15 @@ pub fn run<R: Threads, S: Source, K: Sink, N: Sink, G: Gate>(
     ensures read_failed { result ≡ 4 → Rose (S.faults input.old) (S.faults input.new) }
     ensures write_failed { result ≡ 5 → Rose (K.faults output.old) (K.faults output.new) }
 
-    // Memory is taken before the first read by the commands that read a capture.
-    ensures memory { result ≡ 6 → (command : CommandValue) → IsCommand words.now command → ReadsCapture command → Keeps (S.left input.old) (S.left input.new) }
+    // Memory is taken before the first read by the commands that write while they read.
+    ensures memory { result ≡ 6 → (command : CommandValue) → IsCommand words.now command → WritesOn command → Keeps (S.left input.old) (S.left input.new) }
 
     // What is read, and what is written where not all is. After a failed read exactly what the whole blocks read tell so far
     // is listed; after a failed write a part, and at least all that was told before the last block read.
     ensures ended { ((n : ℕ) → IsCommand words.now (Sample n) → ⊥) → Contains (0 ∷ 1 ∷ 7 ∷ []) result → IsAtEnd (S.left input.new) }
     ensures unread { result ≡ 2 → Keeps (S.left input.old) (S.left input.new) }
     ensures unwritten { Contains (2 ∷ 6 ∷ 7 ∷ []) result → Keeps (K.held output.old) (K.held output.new) }
-    ensures refused { result ≡ 3 → (tap : TapValue) → IsCommand words.now (MakeLink tap) ⊎ IsCommand words.now (MakeContent tap) → Keeps (K.held output.old) (K.held output.new) }
+    ensures refused { result ≡ 3 → (command : CommandValue) → IsCommand words.now command → WritesLast command → Keeps (K.held output.old) (K.held output.new) }
     ensures cut_short { result ≡ 4 → RunUnread words.now
         (seen (S.left input.old) (S.faults input.old) (K.held output.old) (K.faults output.old))
         (seen (S.left input.new) (S.faults input.new) (K.held output.new) (K.faults output.new)) }
@@ -152,6 +164,39 @@ pub fn run<R: Threads, S: Source, K: Sink, N: Sink, G: Gate>(
         (seen (S.left input.old) (S.faults input.old) (K.held output.old) (K.faults output.old))
         (seen (S.left input.new) (S.faults input.new) (K.held output.new) (K.faults output.new)) }
 
+    // `recover track` writes the same text in both forms: lanes that lost no bits have one epoch.
+    ensures track_headline { IsCommand words.now RecoverTrack → (t : TappedStream) → IsTapped t → IsSparseInPayload t.periods t.sent t.received
+        → (d e f : ℕ) → IsFirstOf t d e f → S.left input.old ≡ Some t.bytes
+        → Unless (λ status held holds. (a : ℕ) × IsRecovered link_listing t d e f a status held holds) result
+        (seen (S.left input.old) (S.faults input.old) (K.held output.old) (K.faults output.old))
+        (seen (S.left input.new) (S.faults input.new) (K.held output.new) (K.faults output.new)) }
+    ensures track_headline_anywhere { IsCommand words.now RecoverTrack → (t : TappedStream) → IsTapped t
+        → (until : ℕ) → AlignsBy t until → S.left input.old ≡ Some t.bytes
+        → Unless (IsRecoveredBy link_listing t until) result
+        (seen (S.left input.old) (S.faults input.old) (K.held output.old) (K.faults output.old))
+        (seen (S.left input.new) (S.faults input.new) (K.held output.new) (K.faults output.new)) }
+
+    // `relay` sends on what came of the periods that were sent, from the first full alignment on, in both forms; or it ends
+    // with 3, as that has too many columns.
+    ensures relay_headline { IsCommand words.now RelayCommand → (t : TappedStream) → IsTapped t → IsSparseInPayload t.periods t.sent t.received
+        → (d e f : ℕ) → IsFirstOf t d e f → S.left input.old ≡ Some t.bytes
+        → Unless (λ status held holds. (status ≡ 3) ⊎ ((a : ℕ) × IsSentOn t d e f a status held holds)) result
+        (seen (S.left input.old) (S.faults input.old) (K.held output.old) (K.faults output.old))
+        (seen (S.left input.new) (S.faults input.new) (K.held output.new) (K.faults output.new)) }
+    ensures relay_headline_anywhere { IsCommand words.now RelayCommand → (t : TappedStream) → IsTapped t
+        → (until : ℕ) → AlignsBy t until → S.left input.old ≡ Some t.bytes
+        → Unless (λ status held holds. (status ≡ 3) ⊎ IsSentOnBy t until status held holds) result
+        (seen (S.left input.old) (S.faults input.old) (K.held output.old) (K.faults output.old))
+        (seen (S.left input.new) (S.faults input.new) (K.held output.new) (K.faults output.new)) }
+
+    // `recover dvi` writes exactly what was sent of every stream without guard columns whose lines have three pixels or more,
+    // for every tap of it with skews of at most 70 bits and sparse damage of its pixels, from the first full alignment on.
+    ensures dvi_headline { IsCommand words.now RecoverDvi → (t : TappedStream) → IsDviTapped t
+        → (d e f : ℕ) → IsFirstOf t d e f → S.left input.old ≡ Some t.bytes
+        → Unless (λ status held holds. (a : ℕ) × IsDviRecovered t d e f a status held holds) result
+        (seen (S.left input.old) (S.faults input.old) (K.held output.old) (K.faults output.old))
+        (seen (S.left input.new) (S.faults input.new) (K.held output.new) (K.faults output.new)) }
+
     // `check` of a capture with a first full alignment ends with `clean`, and the status is 0, where some conforming sender
     // could have sent the aligned columns before the cut, and with `faulty`, and it is 1, where none could.
     ensures check_exact { IsCommand words.now Check
@@ -171,6 +216,7 @@ pub fn run<R: Threads, S: Source, K: Sink, N: Sink, G: Gate>(
     ensures output_later { K.faults output.old ≤ K.faults output.new }
     ensures notes_later { N.faults notes.old ≤ N.faults notes.new }
 {
+    relayed_account();
     let ending = carry_out(rt, alloc, words, input, output, gate);
     write_note(&ending, notes);
     ending.status()
@@ -199,10 +245,17 @@ fn carry_out<R: Threads, S: Source, K: Sink, G: Gate>(
     match command {
         Command::MakeLink(tap) => make_link(alloc, &tap, input, output),
         Command::MakeContent(tap) => make_content(alloc, &tap, input, output),
+        Command::MakeDvi(tap) => make_dvi(alloc, &tap, input, output),
         Command::RecoverLink => recover_link(rt, alloc, input, output, gate),
         Command::RecoverContent => recover_content(rt, alloc, input, output, gate),
+        Command::RecoverTrack => recover_track(rt, alloc, input, output),
+        Command::RecoverBiphase(pair) => recover_biphase(rt, alloc, pair, input, output, gate),
+        Command::RecoverDvi => recover_dvi(rt, alloc, input, output, gate),
         Command::Check => check(rt, alloc, input, output, gate),
         Command::Damage(damages) => damage(alloc, damages.as_slice(), input, output),
+        Command::Slip(words) => slip(alloc, words, input, output),
+        Command::ReadBiphase => read_biphase(input, output),
+        Command::Relay => send_on(rt, alloc, input, output, gate),
         Command::Sample(frames) => count_sample(rt, alloc, frames, output, gate),
     }
 }
@@ -222,7 +275,29 @@ fn make_link<S: Source, K: Sink>(
     ensures output_later { K.faults output.old ≤ K.faults output.new }
 {
     match read_link(alloc, input) {
-        Ok(stream) => write_stream(alloc, &stream, words, output),
+        Ok(stream) => write_stream(alloc, &stream, &tap_of(words), output),
+        Err(ListError::Bad(fault)) => Ending::Listing(fault),
+        Err(ListError::Read) => Ending::ReadFailed,
+        Err(ListError::NoMemory) => Ending::NoMemory,
+    }
+}
+
+/// Reads a listing without guard bands whole, and then writes its capture.
+fn make_dvi<S: Source, K: Sink>(
+    alloc: Global,
+    words: &TapWords,
+    input: &mut S,
+    output: &mut K,
+) -> Ending
+    requires version { (words.now.version ≡ 1) ⊎ (words.now.version ≡ 2) }
+    ensures ends { Ends (MakeDvi words.now) result
+        (seen (S.left input.old) (S.faults input.old) (K.held output.old) (K.faults output.old))
+        (seen (S.left input.new) (S.faults input.new) (K.held output.new) (K.faults output.new)) }
+    ensures input_later { S.faults input.old ≤ S.faults input.new }
+    ensures output_later { K.faults output.old ≤ K.faults output.new }
+{
+    match read_dvi(alloc, input) {
+        Ok(stream) => write_dvi(alloc, &stream, &tap_of(words), output),
         Err(ListError::Bad(fault)) => Ending::Listing(fault),
         Err(ListError::Read) => Ending::ReadFailed,
         Err(ListError::NoMemory) => Ending::NoMemory,
@@ -250,7 +325,7 @@ fn make_content<S: Source, K: Sink>(
         Err(ListError::NoMemory) => return Ending::NoMemory,
     };
     match raster(alloc, &mode, &content) {
-        Ok(stream) => write_stream(alloc, &stream, words, output),
+        Ok(stream) => write_stream(alloc, &stream, &tap_of(words), output),
         Err(fault) => unrastered(fault),
     }
 }
@@ -269,19 +344,49 @@ fn unrastered(fault: RasterFault) -> Ending
 }
 
 /// Writes the capture of a tap of the columns of a stream.
-fn write_stream<K: Sink>(alloc: Global, stream: &Stream, words: &TapWords, output: &mut K) -> Ending
-    requires version { (words.now.version ≡ 1) ⊎ (words.now.version ≡ 2) }
-    ensures ends { StreamEnds (tap_asked words.now) stream.now result (K.held output.old) (K.held output.new) (K.faults output.old) (K.faults output.new) }
+pub(crate) fn write_stream<K: Sink>(
+    alloc: Global,
+    stream: &Stream,
+    tap: &Tap,
+    output: &mut K,
+) -> Ending
+    requires version { (tap.now.version ≡ 1) ⊎ (tap.now.version ≡ 2) }
+    ensures ends { StreamEnds Spells tap.now stream.now result (K.held output.old) (K.held output.new) (K.faults output.old) (K.faults output.new) }
     ensures later { K.faults output.old ≤ K.faults output.new }
 {
     let mut lanes = match Lanes::with_capacity(alloc, stream.columns()) {
         Ok(lanes) => lanes,
         Err(_) => return Ending::NoMemory,
     };
-    if stream.spell(&mut lanes).is_err() {
-        return Ending::NoMemory;
+    match stream.spell(&mut lanes) {
+        Ok(()) => write_lanes(&lanes, tap, output),
+        Err(_) => Ending::NoMemory,
     }
-    match write_capture(&lanes, &tap_of(words), output) {
+}
+
+/// Writes the capture of a tap of the columns of a stream without guard columns.
+fn write_dvi<K: Sink>(alloc: Global, stream: &DviStream, tap: &Tap, output: &mut K) -> Ending
+    requires version { (tap.now.version ≡ 1) ⊎ (tap.now.version ≡ 2) }
+    ensures ends { StreamEnds DviSpells tap.now stream.now result (K.held output.old) (K.held output.new) (K.faults output.old) (K.faults output.new) }
+    ensures later { K.faults output.old ≤ K.faults output.new }
+{
+    let mut lanes = match Lanes::with_capacity(alloc, stream.columns()) {
+        Ok(lanes) => lanes,
+        Err(_) => return Ending::NoMemory,
+    };
+    match stream.spell(&mut lanes) {
+        Ok(()) => write_lanes(&lanes, tap, output),
+        Err(_) => Ending::NoMemory,
+    }
+}
+
+/// Writes the capture of a tap of columns.
+fn write_lanes<K: Sink>(lanes: &Lanes, tap: &Tap, output: &mut K) -> Ending
+    requires version { (tap.now.version ≡ 1) ⊎ (tap.now.version ≡ 2) }
+    ensures ends { ColumnsEnd tap.now lanes.now.columns result (K.held output.old) (K.held output.new) (K.faults output.old) (K.faults output.new) }
+    ensures later { K.faults output.old ≤ K.faults output.new }
+{
+    match write_capture(lanes, tap, output) {
         Ok(()) => Ending::Done,
         Err(_) => Ending::WriteFailed,
     }
@@ -313,35 +418,13 @@ fn recover_link<R: Threads, S: Source, K: Sink, G: Gate>(
     ensures input_later { S.faults input.old ≤ S.faults input.new }
     ensures output_later { K.faults output.old ≤ K.faults output.new }
 {
-    match LinkSink::open(alloc) {
-        Ok(mut sink) => list_link(rt, &mut sink, input, output, gate),
-        Err(_) => Ending::NoMemory,
-    }
-}
-
-/// The same with a sink that was fed nothing.
-fn list_link<R: Threads, S: Source, K: Sink, G: Gate>(
-    rt: &R,
-    sink: &mut LinkSink,
-    input: &mut S,
-    output: &mut K,
-    gate: &G,
-) -> Ending
-    requires open { sink.old.is_open ≡ true }
-    requires fresh { StandsFor sink.old no_bits }
-    requires unfed { most_bits sink.old ≡ 0 }
-    ensures ends { Ends RecoverLink result
-        (seen (S.left input.old) (S.faults input.old) (K.held output.old) (K.faults output.old))
-        (seen (S.left input.new) (S.faults input.new) (K.held output.new) (K.faults output.new)) }
-    ensures input_later { S.faults input.old ≤ S.faults input.new }
-    ensures output_later { K.faults output.old ≤ K.faults output.new }
-{
-    let mut lister = LinkLister::open(output);
-    match hear_capture(rt, sink, input, gate, &mut lister) {
-        Ok(heard) if heard.aligned => judged(lister.end(), lister.faults()),
-        Ok(_) => Ending::Unaligned,
-        Err(error) => unheard(error),
-    }
+    list_capture::<R, S, Hearing, LinkLister<'_, K>, G>(
+        rt,
+        alloc,
+        input,
+        gate,
+        &mut LinkLister::open(output),
+    )
 }
 
 /// Writes the pictures and the sound of a capture, while it is read.
@@ -358,35 +441,13 @@ fn recover_content<R: Threads, S: Source, K: Sink, G: Gate>(
     ensures input_later { S.faults input.old ≤ S.faults input.new }
     ensures output_later { K.faults output.old ≤ K.faults output.new }
 {
-    match LinkSink::open(alloc) {
-        Ok(mut sink) => list_content(rt, &mut sink, input, output, gate),
-        Err(_) => Ending::NoMemory,
-    }
-}
-
-/// The same with a sink that was fed nothing.
-fn list_content<R: Threads, S: Source, K: Sink, G: Gate>(
-    rt: &R,
-    sink: &mut LinkSink,
-    input: &mut S,
-    output: &mut K,
-    gate: &G,
-) -> Ending
-    requires open { sink.old.is_open ≡ true }
-    requires fresh { StandsFor sink.old no_bits }
-    requires unfed { most_bits sink.old ≡ 0 }
-    ensures ends { Ends RecoverContent result
-        (seen (S.left input.old) (S.faults input.old) (K.held output.old) (K.faults output.old))
-        (seen (S.left input.new) (S.faults input.new) (K.held output.new) (K.faults output.new)) }
-    ensures input_later { S.faults input.old ≤ S.faults input.new }
-    ensures output_later { K.faults output.old ≤ K.faults output.new }
-{
-    let mut lister = ContentLister::open(output);
-    match hear_capture(rt, sink, input, gate, &mut lister) {
-        Ok(heard) if heard.aligned => judged(lister.end(), lister.faults()),
-        Ok(_) => Ending::Unaligned,
-        Err(error) => unheard(error),
-    }
+    list_capture::<R, S, Hearing, ContentLister<'_, K>, G>(
+        rt,
+        alloc,
+        input,
+        gate,
+        &mut ContentLister::open(output),
+    )
 }
 
 /// Writes what a check of a capture lists, while it is read.
@@ -403,39 +464,167 @@ fn check<R: Threads, S: Source, K: Sink, G: Gate>(
     ensures input_later { S.faults input.old ≤ S.faults input.new }
     ensures output_later { K.faults output.old ≤ K.faults output.new }
 {
-    match LinkSink::open(alloc) {
-        Ok(mut sink) => list_check(rt, &mut sink, input, output, gate),
-        Err(_) => Ending::NoMemory,
-    }
+    list_capture::<R, S, Hearing, CheckLister<'_, K>, G>(
+        rt,
+        alloc,
+        input,
+        gate,
+        &mut CheckLister::open(output),
+    )
 }
 
-/// The same with a sink that was fed nothing.
-fn list_check<R: Threads, S: Source, K: Sink, G: Gate>(
+/// Writes the link listing of a capture of a stream without guard columns, while it is read.
+fn recover_dvi<R: Threads, S: Source, K: Sink, G: Gate>(
     rt: &R,
-    sink: &mut LinkSink,
+    alloc: Global,
     input: &mut S,
     output: &mut K,
     gate: &G,
 ) -> Ending
-    requires open { sink.old.is_open ≡ true }
-    requires fresh { StandsFor sink.old no_bits }
-    requires unfed { most_bits sink.old ≡ 0 }
-    ensures ends { Ends Check result
+    ensures ends { Ends RecoverDvi result
         (seen (S.left input.old) (S.faults input.old) (K.held output.old) (K.faults output.old))
         (seen (S.left input.new) (S.faults input.new) (K.held output.new) (K.faults output.new)) }
     ensures input_later { S.faults input.old ≤ S.faults input.new }
     ensures output_later { K.faults output.old ≤ K.faults output.new }
 {
-    let mut lister = CheckLister::open(output);
-    match hear_capture(rt, sink, input, gate, &mut lister) {
-        Ok(heard) if heard.aligned => judged(lister.end(), lister.faults()),
+    list_capture::<R, S, DviHearing, LinkLister<'_, K>, G>(
+        rt,
+        alloc,
+        input,
+        gate,
+        &mut LinkLister::open(output),
+    )
+}
+
+/// Writes the biphase stream of a pair of channels of a capture, while it is read.
+fn recover_biphase<R: Threads, S: Source, K: Sink, G: Gate>(
+    rt: &R,
+    alloc: Global,
+    pair: u8,
+    input: &mut S,
+    output: &mut K,
+    gate: &G,
+) -> Ending
+    requires few { pair < 4 }
+    ensures ends { Ends (RecoverBiphase pair) result
+        (seen (S.left input.old) (S.faults input.old) (K.held output.old) (K.faults output.old))
+        (seen (S.left input.new) (S.faults input.new) (K.held output.new) (K.faults output.new)) }
+    ensures input_later { S.faults input.old ≤ S.faults input.new }
+    ensures output_later { K.faults output.old ≤ K.faults output.new }
+{
+    list_capture::<R, S, Hearing, BiphaseLister<'_, K>, G>(
+        rt,
+        alloc,
+        input,
+        gate,
+        &mut BiphaseLister::open(output, pair),
+    )
+}
+
+/// Writes the samples of frames of a biphase stream as lines, while they are read.
+fn read_biphase<S: Source, K: Sink>(input: &mut S, output: &mut K) -> Ending
+    ensures ends { Ends ReadBiphase result
+        (seen (S.left input.old) (S.faults input.old) (K.held output.old) (K.faults output.old))
+        (seen (S.left input.new) (S.faults input.new) (K.held output.new) (K.faults output.new)) }
+    ensures input_later { S.faults input.old ≤ S.faults input.new }
+    ensures output_later { K.faults output.old ≤ K.faults output.new }
+{
+    listed(list_biphase(input, output))
+}
+
+/// How a command ends that listed frames, or a part of them.
+fn listed(answer: Result<(), BiphaseError>) -> Ending
+    ensures { result ≡ frames_ending answer }
+{
+    match answer {
+        Ok(()) => Ending::Done,
+        Err(BiphaseError::Bad(fault)) => Ending::Frames(fault),
+        Err(BiphaseError::Read) => Ending::ReadFailed,
+        Err(BiphaseError::Write) => Ending::WriteFailed,
+    }
+}
+
+/// Writes a capture without some bits of a lane.
+fn slip<S: Source, K: Sink>(alloc: Global, words: SlipWord, input: &mut S, output: &mut K) -> Ending
+    requires lane { words.lane < 3 }
+    requires some { 1 ≤ words.bits }
+    requires few { words.bits ≤ 9 }
+    ensures ends { Ends (Slip words) result
+        (seen (S.left input.old) (S.faults input.old) (K.held output.old) (K.faults output.old))
+        (seen (S.left input.new) (S.faults input.new) (K.held output.new) (K.faults output.new)) }
+    ensures input_later { S.faults input.old ≤ S.faults input.new }
+    ensures output_later { K.faults output.old ≤ K.faults output.new }
+{
+    slipped(capture_file::slip(alloc, input, words.lane, words.place, words.bits, output))
+}
+
+/// How a command ends that wrote a slipped capture, or none.
+fn slipped(written: Result<(), SlipError>) -> Ending
+    ensures { result ≡ slip_ending written }
+{
+    match written {
+        Ok(()) => Ending::Done,
+        Err(SlipError::Bad(fault)) => Ending::Capture(fault),
+        Err(SlipError::Place) => Ending::Place(0),
+        Err(SlipError::Read) => Ending::ReadFailed,
+        Err(SlipError::Write) => Ending::WriteFailed,
+        Err(SlipError::NoMemory) => Ending::NoMemory,
+    }
+}
+
+/// Writes what a lister lists of a capture, while it is read.
+fn list_capture<R: Threads, S: Source, H: Hears, L: Lister, G: Gate>(
+    rt: &R,
+    alloc: Global,
+    input: &mut S,
+    gate: &G,
+    lister: &mut L,
+) -> Ending
+    requires { L.fresh lister.old }
+    ensures ends { (command : CommandValue) → IsLists H.grammar (L.listing lister.old) command → Ends command result
+        (seen (S.left input.old) (S.faults input.old) (L.held lister.old) (L.faults lister.old))
+        (seen (S.left input.new) (S.faults input.new) (L.held lister.new) (L.faults lister.new)) }
+    ensures same { L.name lister.new ≡ L.name lister.old }
+    ensures input_later { S.faults input.old ≤ S.faults input.new }
+    ensures output_later { L.faults lister.old ≤ L.faults lister.new }
+{
+    match LaneSink::open(alloc) {
+        Ok(mut sink) => list_lanes::<R, S, H, L, G>(rt, &mut sink, input, gate, lister),
+        Err(_) => Ending::NoMemory,
+    }
+}
+
+/// The same with a sink that was fed nothing.
+fn list_lanes<R: Threads, S: Source, H: Hears, L: Lister, G: Gate>(
+    rt: &R,
+    sink: &mut LaneSink<H>,
+    input: &mut S,
+    gate: &G,
+    lister: &mut L,
+) -> Ending
+    requires open { sink.old.is_open ≡ true }
+    requires fed { StandsBy H.goes_on sink.old no_bits }
+    requires unfed { most_bits sink.old ≡ 0 }
+    requires told { L.fresh lister.old }
+    ensures ends { (command : CommandValue) → IsLists H.grammar (L.listing lister.old) command → Ends command result
+        (seen (S.left input.old) (S.faults input.old) (L.held lister.old) (L.faults lister.old))
+        (seen (S.left input.new) (S.faults input.new) (L.held lister.new) (L.faults lister.new)) }
+    ensures same { L.name lister.new ≡ L.name lister.old }
+    ensures input_later { S.faults input.old ≤ S.faults input.new }
+    ensures output_later { L.faults lister.old ≤ L.faults lister.new }
+{
+    match hear_capture(rt, sink, input, gate, lister) {
+        Ok(heard) if heard.aligned => {
+            let faults = lister.fault_lines();
+            judged(lister.end(), faults)
+        }
         Ok(_) => Ending::Unaligned,
         Err(error) => unheard(error),
     }
 }
 
 /// How a command ends that did not hear a capture to its end.
-fn unheard(error: HearError) -> Ending
+pub(crate) fn unheard(error: HearError) -> Ending
     ensures { result ≡ heard_ending error }
 {
     match error {
@@ -446,7 +635,7 @@ fn unheard(error: HearError) -> Ending
 }
 
 /// How a command ends after its last line, and so many faults.
-fn judged(last: Result<(), Failed>, faults: u64) -> Ending
+pub(crate) fn judged(last: Result<(), Failed>, faults: u64) -> Ending
     ensures { result ≡ judged_ending last faults }
 {
     match last {

@@ -22,7 +22,7 @@ returns-in-Ok-clause-heard g c =
     let b = c.in-Ok-Some.block in
     let gone : Consumes (g.S.Source.left o.source.now) (g.S.Source.left v.source.now) ((b.a.now ++ b.b.now) ++ b.c.now) = search rules in
     λ from first h _.
-    heard_more g.E.Ear.took g.met.E.Ear.took_both o.version o.bits o.block from (g.S.Source.left o.source.now) (g.S.Source.left v.source.now) c.args.sink.now c.feed.new.self b.a.now b.b.now b.c.now b.bits first c.args.ear.now c.feed.new.ear h gone (λ taken x y z s. some_of _ _ _ (c.in-Ok-Some.ensures.stands taken x y z s) c.in-Ok-Some.field-0-is) c.in-Ok.ensures.fed c.in-Ok.ensures.told
+    heard_more g.H.Hears.grammar g.H.Hears.goes_on g.E.Ear.took g.met.E.Ear.took_both o.version o.bits o.block from (g.S.Source.left o.source.now) (g.S.Source.left v.source.now) c.args.sink.now c.feed.new.self b.a.now b.b.now b.c.now b.bits first c.args.ear.now c.feed.new.ear h gone (λ taken x y z s. some_of _ _ _ (c.in-Ok-Some.ensures.stands taken x y z s) c.in-Ok-Some.field-0-is) c.in-Ok.ensures.fed c.in-Ok.ensures.told
 
 pub returns-in-Err-feed-clause-short : goal.returns-in-Err-feed-clause-short
 returns-in-Err-feed-clause-short g c =
@@ -31,7 +31,7 @@ returns-in-Err-feed-clause-short g c =
     let b = c.in-Ok-Some.block in
     let gone : Consumes (g.S.Source.left o.source.now) (g.S.Source.left v.source.now) ((b.a.now ++ b.b.now) ++ b.c.now) = search rules in
     λ from first h.
-    untaken g.E.Ear.took g.E.Ear.broke g.met.E.Ear.took_both o.version o.bits o.block from (g.S.Source.left o.source.now) (g.S.Source.left v.source.now) c.args.sink.now b.a.now b.b.now b.c.now b.bits first c.args.ear.now c.feed.new.ear h gone (λ taken x y z s. some_of _ _ _ (c.in-Ok-Some.ensures.stands taken x y z s) c.in-Ok-Some.field-0-is) c.in-Err-feed.ensures.stopped
+    untaken g.H.Hears.grammar g.H.Hears.goes_on g.E.Ear.took g.E.Ear.broke g.met.E.Ear.took_both o.version o.bits o.block from (g.S.Source.left o.source.now) (g.S.Source.left v.source.now) c.args.sink.now b.a.now b.b.now b.c.now b.bits first c.args.ear.now c.feed.new.ear h gone (λ taken x y z s. some_of _ _ _ (c.in-Ok-Some.ensures.stands taken x y z s) c.in-Ok-Some.field-0-is) c.in-Err-feed.ensures.stopped
 
 pub returns-in-Ok-None-clause-whole : goal.returns-in-Ok-None-clause-whole
 returns-in-Ok-None-clause-whole g c =
@@ -39,7 +39,7 @@ returns-in-Ok-None-clause-whole g c =
     let v = c.next.follows.lender-at-none in
     let gone : Consumes (g.S.Source.left o.source.now) (g.S.Source.left v.source.now) [] = search rules in
     λ from first h _.
-    heard_all g.E.Ear.took o.version o.bits o.block from (g.S.Source.left o.source.now) (g.S.Source.left v.source.now) c.args.sink.now first c.args.ear.now h gone (λ taken x y z s. none_of _ _ (c.in-Ok-None.ensures.whole taken x y z s) c.in-Ok-None.field-0-is)
+    heard_all g.H.Hears.grammar g.H.Hears.goes_on g.E.Ear.took o.version o.bits o.block from (g.S.Source.left o.source.now) (g.S.Source.left v.source.now) c.args.sink.now first c.args.ear.now h gone (λ taken x y z s. none_of _ _ (c.in-Ok-None.ensures.whole taken x y z s) c.in-Ok-None.field-0-is)
 
 pub returns-in-Err-clause-short : goal.returns-in-Err-clause-short
 returns-in-Err-clause-short g c =
@@ -47,5 +47,5 @@ returns-in-Err-clause-short g c =
     let v = c.next.follows.lender-at-none in
     let part = (err_case _ _ _ c.next.follows.holds-at-none.5 c.in-Err.is).2 in
     λ from first h.
-    subst (λ (r : HearError). StopsShort g.E.Ear.took g.E.Ear.broke from (g.S.Source.left v.source.now) first c.args.ear.now r) c.refused.ensures.refused
-    (stops_short g.E.Ear.took g.E.Ear.broke o.version o.bits o.block from (g.S.Source.left o.source.now) (g.S.Source.left v.source.now) c.args.sink.now first c.args.ear.now c.in-Err.error h c.in-Err.ensures.err part)
+    subst (λ (r : HearError). StopsShort g.H.Hears.grammar g.E.Ear.took g.E.Ear.broke from (g.S.Source.left v.source.now) first c.args.ear.now r) c.refused.ensures.refused
+    (stops_short g.H.Hears.grammar g.H.Hears.goes_on g.E.Ear.took g.E.Ear.broke o.version o.bits o.block from (g.S.Source.left o.source.now) (g.S.Source.left v.source.now) c.args.sink.now first c.args.ear.now c.in-Err.error h c.in-Err.ensures.err part)

@@ -25,7 +25,7 @@ loop-preserved g c =
       said = subst (λ (n : ℕ). CanSay n v.bits) (sym c.hear_block.ensures.version) (subst (λ (bs : List ℕ). CanSay o.version bs) (sym c.hear_block.ensures.bits) i.said);
       fed = subst (λ (n : ℕ). AreFed c.hear_block.new.sink v.bits n) (sym (e.block t)) (subst (λ (bs : List ℕ). AreFed c.hear_block.new.sink bs (o.block + 1)) (sym c.hear_block.ensures.bits) (e.fed t));
       heard = λ from first h.
-          moved g.E.Ear.took o.version v.version o.bits v.bits (o.block + 1) v.block from (g.S.Source.left v.source.now) c.hear_block.new.sink first c.hear_block.new.ear
+          moved g.H.Hears.grammar g.H.Hears.goes_on g.E.Ear.took o.version v.version o.bits v.bits (o.block + 1) v.block from (g.S.Source.left v.source.now) c.hear_block.new.sink first c.hear_block.new.ear
           c.hear_block.ensures.version c.hear_block.ensures.bits (e.block t) (e.heard from first (i.heard from first h) t);
       input_later = search rules;
       ear_later = search rules;

@@ -10,8 +10,8 @@ invariant-loop g l = record {
   same : l.reader.source.ghost_name ≡ l.initial.reader.source.ghost_name;
   said : CanSay l.reader.version l.reader.bits;
   fed : AreFed l.sink l.reader.bits l.reader.block;
-  heard : (from : Option (List ℕ)) → HeardOn g.E.Ear.took (HasHeard g.E.Ear.took l.initial.reader.version l.initial.reader.bits l.initial.reader.block from (g.S.Source.left l.initial.reader.source.now) l.initial.sink) l.initial.ear (λ first.
-      HasHeard g.E.Ear.took l.reader.version l.reader.bits l.reader.block from (g.S.Source.left l.reader.source.now) l.sink first l.ear);
+  heard : (from : Option (List ℕ)) → HeardOn g.E.Ear.took (HasHeard g.H.Hears.grammar g.H.Hears.goes_on g.E.Ear.took l.initial.reader.version l.initial.reader.bits l.initial.reader.block from (g.S.Source.left l.initial.reader.source.now) l.initial.sink) l.initial.ear (λ first.
+      HasHeard g.H.Hears.grammar g.H.Hears.goes_on g.E.Ear.took l.reader.version l.reader.bits l.reader.block from (g.S.Source.left l.reader.source.now) l.sink first l.ear);
   input_later : g.S.Source.faults l.initial.reader.source.now ≤ g.S.Source.faults l.reader.source.now;
   ear_later : g.E.Ear.faults l.initial.ear ≤ g.E.Ear.faults l.ear;
 }

@@ -17,15 +17,15 @@ returns-in-Err g c =
     let ear = c.args.ear.now in
     let faults = g.E.Ear.faults ear in
     let was = sym c.new-reader.ensures.source in
-    let short = subst (λ (r : HearError). StopsShort took broke (left old) (left new) ear ear r) c.refused.ensures.refused (headless took broke (left old) (left new) ear c.in-Err.error (g.met.E.Ear.took_none ear) e.err e.part) in
+    let short = subst (λ (r : HearError). StopsShort g.H.Hears.grammar took broke (left old) (left new) ear ear r) c.refused.ensures.refused (headless g.H.Hears.grammar took broke (left old) (left new) ear c.in-Err.error (g.met.E.Ear.took_none ear) e.err e.part) in
     let cause : IsCausedBy (g.S.Source.faults old) (g.S.Source.faults new) faults faults c.refused.result = search rules in
     record {
       heard = tt;
       ended = tt;
-      some = λ other. some_heard took broke (left old) (left new) ear ear c.refused.result short other;
-      bad = bad_of took broke (left old) (left c.args.input.now) (left new) ear ear c.refused.result (ap left was) short;
-      read = read_of took broke left g.S.Source.faults old c.args.input.now new _ faults faults ear ear c.refused.result was (search rules) short cause;
-      broken = broken_of took broke left old c.args.input.now new _ (g.S.Source.faults old) (g.S.Source.faults new) faults faults ear ear c.refused.result was (search rules) short cause;
+      some = λ other. some_heard g.H.Hears.grammar took broke (left old) (left new) ear ear c.refused.result short other;
+      bad = bad_of g.H.Hears.grammar took broke (left old) (left c.args.input.now) (left new) ear ear c.refused.result (ap left was) short;
+      read = read_of g.H.Hears.grammar took broke left g.S.Source.faults old c.args.input.now new _ faults faults ear ear c.refused.result was (search rules) short cause;
+      broken = broken_of g.H.Hears.grammar took broke left old c.args.input.now new _ (g.S.Source.faults old) (g.S.Source.faults new) faults faults ear ear c.refused.result was (search rules) short cause;
       input_later = search rules;
       ear_later = search rules;
     }
@@ -43,17 +43,17 @@ returns-in_err-hear_blocks g c =
     let then = c.hear_blocks.new.ear in
     let e = c.in_err-hear_blocks.field-0.0 in
     let was = sym c.new-reader.ensures.source in
-    let head = heard_head took r.version r.bits r.block (left old) (left r.source.now) c.args.sink.now ear (g.met.E.Ear.took_none ear) c.requires.fresh c.in_default.ensures.ok in
+    let head = heard_head g.H.Hears.grammar g.H.Hears.goes_on took r.version r.bits r.block (left old) (left r.source.now) c.args.sink.now ear (g.met.E.Ear.took_none ear) c.requires.fresh c.in_default.ensures.ok in
     let short = c.in_err-hear_blocks.ensures.short (left old) ear head in
     let cause : IsCausedBy (g.S.Source.faults old) (g.S.Source.faults new) (g.E.Ear.faults ear) (g.E.Ear.faults then) e = search rules in
     record {
       heard = rw p.1 tt;
       ended = rw p.1 tt;
-      some = rw (p.1, p.2) (λ other. some_heard took broke (left old) (left new) ear then e short other);
-      bad = λ bytes fault is. rw (p.1, p.2) (bad_of took broke (left old) (left c.args.input.now) (left new) ear then e (ap left was) short bytes fault is);
-      read = rw (p.1, p.2) (read_of took broke left g.S.Source.faults old c.args.input.now new _ (g.E.Ear.faults ear) (g.E.Ear.faults then) ear then e was (search rules) short cause);
+      some = rw (p.1, p.2) (λ other. some_heard g.H.Hears.grammar took broke (left old) (left new) ear then e short other);
+      bad = λ bytes fault is. rw (p.1, p.2) (bad_of g.H.Hears.grammar took broke (left old) (left c.args.input.now) (left new) ear then e (ap left was) short bytes fault is);
+      read = rw (p.1, p.2) (read_of g.H.Hears.grammar took broke left g.S.Source.faults old c.args.input.now new _ (g.E.Ear.faults ear) (g.E.Ear.faults then) ear then e was (search rules) short cause);
       broken =
-          rw (p.1, p.2) (broken_of took broke left old c.args.input.now new _ (g.S.Source.faults old) (g.S.Source.faults new) (g.E.Ear.faults ear) (g.E.Ear.faults then) ear then e was (search rules) short cause);
+          rw (p.1, p.2) (broken_of g.H.Hears.grammar took broke left old c.args.input.now new _ (g.S.Source.faults old) (g.S.Source.faults new) (g.E.Ear.faults ear) (g.E.Ear.faults then) ear then e was (search rules) short cause);
       input_later = search rules;
       ear_later = search rules;
     }
@@ -65,8 +65,8 @@ returns-in-Ok-clause-heard g c =
     let r = c.open.new.self in
     let new = c.hear_blocks.new.reader.source.now in
     let ear = c.args.ear.now in
-    let head = heard_head g.E.Ear.took r.version r.bits r.block (left old) (left r.source.now) c.args.sink.now ear (g.met.E.Ear.took_none ear) c.requires.fresh c.in_default.ensures.ok in
-    let h = heard_whole g.E.Ear.took g.met.E.Ear.took_both (left old) (left new) c.hear_blocks.new.sink c.in-Ok.outcome ear c.hear_blocks.new.ear c.finish.new.ear
+    let head = heard_head g.H.Hears.grammar g.H.Hears.goes_on g.E.Ear.took r.version r.bits r.block (left old) (left r.source.now) c.args.sink.now ear (g.met.E.Ear.took_none ear) c.requires.fresh c.in_default.ensures.ok in
+    let h = heard_whole g.H.Hears.grammar g.H.Hears.goes_on g.E.Ear.took g.met.E.Ear.took_both (left old) (left new) c.hear_blocks.new.sink c.in-Ok.outcome ear c.hear_blocks.new.ear c.finish.new.ear
     (c.in_ok-hear_blocks.ensures.whole (left old) ear head) c.in_ok-hear_blocks.ensures.ended c.in-Ok.ensures.told in
     (h.0, h.1, h.2, h.3, λ bytes is. h.4 bytes (ap left c.new-reader.ensures.source ∙ is))
 
@@ -80,9 +80,9 @@ returns-in-Err-finish-clause-broken g c =
     let new = c.hear_blocks.new.reader.source.now in
     let ear = c.args.ear.now in
     let then = c.finish.new.ear in
-    let head = heard_head took r.version r.bits r.block (left old) (left r.source.now) c.args.sink.now ear (g.met.E.Ear.took_none ear) c.requires.fresh c.in_default.ensures.ok in
+    let head = heard_head g.H.Hears.grammar g.H.Hears.goes_on took r.version r.bits r.block (left old) (left r.source.now) c.args.sink.now ear (g.met.E.Ear.took_none ear) c.requires.fresh c.in_default.ensures.ok in
     let whole = c.in_ok-hear_blocks.ensures.whole (left old) ear head in
     let cause : Rose (g.E.Ear.faults ear) (g.E.Ear.faults then) = search rules in
     λ _.
-    carried (λ x y. Breaks took broke (left x) (left y) (g.E.Ear.faults ear) (g.E.Ear.faults then) ear then) old c.args.input.now new _ (sym c.new-reader.ensures.source) (search rules)
-    (unended took broke g.met.E.Ear.took_both (left old) (left new) c.hear_blocks.new.sink (g.E.Ear.faults ear) (g.E.Ear.faults then) ear c.hear_blocks.new.ear then whole c.in_ok-hear_blocks.ensures.ended cause c.in-Err-finish.ensures.stopped)
+    carried (λ x y. Breaks g.H.Hears.grammar took broke (left x) (left y) (g.E.Ear.faults ear) (g.E.Ear.faults then) ear then) old c.args.input.now new _ (sym c.new-reader.ensures.source) (search rules)
+    (unended g.H.Hears.grammar g.H.Hears.goes_on took broke g.met.E.Ear.took_both (left old) (left new) c.hear_blocks.new.sink (g.E.Ear.faults ear) (g.E.Ear.faults then) ear c.hear_blocks.new.ear then whole c.in_ok-hear_blocks.ensures.ended cause c.in-Err-finish.ensures.stopped)

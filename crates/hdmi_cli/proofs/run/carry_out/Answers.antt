@@ -5,7 +5,7 @@ use Rattle.command_line.specs.declared.damage.DamageWord.{DamageWord}
 use Rattle.command_line.specs.declared.command.Command.{Command}
 use Rattle.hdmi_cli.specs.Endings.{Devices}
 use Rattle.hdmi_cli.proofs.Ends.{line_of, unread_ends}
-use Rattle.hdmi_cli.proofs.Answered.{frames_of_line, lanes_of_line, version_of_line, version_of_content}
+use Rattle.hdmi_cli.proofs.Answered.{frames_of_line, lanes_of_line, version_of_line, pair_of_line, version_of_content, version_of_dvi}
 use Rattle.hdmi_cli.proofs.run.carry_out.Goals as goal
 
 pub returns-in-Ok-None-clause-ends : goal.returns-in-Ok-None-clause-ends
@@ -26,6 +26,13 @@ make_link-requires g c =
           (line_of c.args.words.now c.command.result c.in-Ok-Some.field-0 c.in-Ok-Some.command c.command.ensures c.in-Ok-Some.is c.in-Ok-Some.field-0-is));
     }
 
+pub make_dvi-requires : goal.make_dvi-requires
+make_dvi-requires g c =
+    record {
+      version = version_of_dvi c.args.words.now c.in-MakeDvi.tap (subst (λ (d : Command). IsLine c.args.words.now d) c.in-MakeDvi.is
+          (line_of c.args.words.now c.command.result c.in-Ok-Some.field-0 c.in-Ok-Some.command c.command.ensures c.in-Ok-Some.is c.in-Ok-Some.field-0-is));
+    }
+
 pub make_content-requires : goal.make_content-requires
 make_content-requires g c =
     record {
@@ -38,3 +45,13 @@ count_sample-requires-clause-few g c =
     λ κs lives.
     frames_of_line c.args.words.now c.in-Sample.frames (subst (λ (d : Command). IsLine c.args.words.now d) c.in-Sample.is
     (line_of c.args.words.now c.command.result c.in-Ok-Some.field-0 c.in-Ok-Some.command c.command.ensures c.in-Ok-Some.is c.in-Ok-Some.field-0-is))
+
+pub recover_biphase-requires-clause-few : goal.recover_biphase-requires-clause-few
+recover_biphase-requires-clause-few g c = λ κs lives. pair_of_line c.args.words.now c.in-RecoverBiphase.pair (subst (λ (d : Command). IsLine c.args.words.now d) c.in-RecoverBiphase.is
+    (line_of c.args.words.now c.command.result c.in-Ok-Some.field-0 c.in-Ok-Some.command c.command.ensures c.in-Ok-Some.is c.in-Ok-Some.field-0-is))
+
+pub slip-requires : goal.slip-requires
+slip-requires g c =
+    let named = (subst (λ (d : Command). IsLine c.args.words.now d) c.in-Slip.is
+    (line_of c.args.words.now c.command.result c.in-Ok-Some.field-0 c.in-Ok-Some.command c.command.ensures c.in-Ok-Some.is c.in-Ok-Some.field-0-is)) in
+    record { lane = named.means.1.2.lane; some = named.means.1.2.some; few = named.means.1.2.few }

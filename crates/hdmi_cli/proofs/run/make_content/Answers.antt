@@ -1,6 +1,8 @@
 use Rattle.std.proofs.Common.{rules, ◌≡◌, ℕ, List, Some, refl, sym, subst}
+use Rattle.island_pack.specs.Spelling.{Spells}
 use Rattle.hdmi_cli.specs.Commands.{tap_asked}
-use Rattle.hdmi_cli.specs.Endings.{Devices, IsAnswered, Ends}
+use Rattle.capture_file.specs.declared.writing.Tap.{Tap}
+use Rattle.hdmi_cli.specs.Endings.{Devices, IsAnswered, Ends, StreamEnds}
 use Rattle.command_line.specs.declared.command.Command.TheVariants.{MakeContent}
 use Rattle.hdmi_cli.specs.declared.ending.Ending.{Ending}
 use Rattle.hdmi_cli.specs.declared.ending.Ending.TheVariants.{Listing}
@@ -25,9 +27,9 @@ returns-in-Ok-raster-clause-ends g c =
     let before : Devices = record { left = g.S.Source.left c.args.input.now; input_faults = g.S.Source.faults c.args.input.now; held = g.K.Sink.held c.args.output.now; output_faults = g.K.Sink.faults c.args.output.now } in
     let after : Devices = record { left = g.S.Source.left c.read_content.new.source; input_faults = g.S.Source.faults c.read_content.new.source; held = g.K.Sink.held c.write_stream.new.output; output_faults = g.K.Sink.faults c.write_stream.new.output } in
     let accepts : (text : List ℕ) → before.left ≡ Some text → content_reads_as text ≡ accepts c.in-Ok.read = λ text told. read_contents _ c.read_content.result c.in-Ok.read (c.read_content.ensures.answers text told) c.in-Ok.is in
-    stream_ends (MakeContent c.args.words.now) (tap_asked c.args.words.now) c.in-Ok-raster.stream c.write_stream.result before after
+    stream_ends Spells (MakeContent c.args.words.now) (tap_asked c.args.words.now) c.in-Ok-raster.stream c.write_stream.result before after
     (λ text o told made. makes_content c.args.words.now c.in-Ok.read.0 c.in-Ok.read.1 c.raster.result c.in-Ok-raster.stream text o (accepts text told) c.raster.ensures.fault c.in-Ok-raster.is (search rules) made)
-    (λ parts. parts) (λ reads. reads) (search rules) c.write_stream.ensures.ends
+    (λ parts. parts) (λ reads. reads) (search rules) (subst (λ (t : Tap). StreamEnds Spells t c.in-Ok-raster.stream c.write_stream.result (g.K.Sink.held c.args.output.now) (g.K.Sink.held c.write_stream.new.output) (g.K.Sink.faults c.args.output.now) (g.K.Sink.faults c.write_stream.new.output)) c.tap_of.ensures c.write_stream.ensures.ends)
 
 pub returns-clause-ends : goal.returns-clause-ends
 returns-clause-ends g c =

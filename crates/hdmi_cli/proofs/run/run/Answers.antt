@@ -1,9 +1,11 @@
 use Rattle.hdmi_cli.specs.Endings.{note_of, seen}
-use Rattle.command_line.specs.declared.command.Command.TheVariants.{RecoverLink, RecoverContent}
+use Rattle.command_line.specs.declared.command.Command.TheVariants.{RecoverLink, RecoverContent, RecoverTrack}
 use Rattle.hdmi_cli.specs.Listings.{link_listing, content_listing}
 use Rattle.hdmi_cli.proofs.Ends.{says}
 use Rattle.hdmi_cli.proofs.Exact.{check_is_exact}
-use Rattle.hdmi_cli.proofs.Headline.{headlined, headlined_anywhere}
+use Rattle.hdmi_cli.proofs.Headline.{headlined, headlined_anywhere, dvi_headlined}
+use Rattle.hdmi_cli.proofs.RelayHeadline.{relay_headlined, relay_headlined_anywhere}
+use Rattle.hdmi_cli.proofs.TrackHeadline.{tracks_as_link}
 use Rattle.hdmi_cli.proofs.Pictures.{packeted, packeted_anywhere, pictured, pictured_anywhere}
 use Rattle.hdmi_cli.proofs.run.run.Goals as goal
 
@@ -95,25 +97,25 @@ pub returns-clause-headline : goal.returns-clause-headline
 returns-clause-headline g c =
     let before = seen (g.S.Source.left c.args.input.now) (g.S.Source.faults c.args.input.now) (g.K.Sink.held c.args.output.now) (g.K.Sink.faults c.args.output.now) in
     let after = seen (g.S.Source.left c.carry_out-ending.new.input) (g.S.Source.faults c.carry_out-ending.new.input) (g.K.Sink.held c.carry_out-ending.new.output) (g.K.Sink.faults c.carry_out-ending.new.output) in
-    headlined link_listing RecoverLink (λ bytes o does. does) c.args.words.now c.carry_out-ending.result before after c.status.result c.carry_out-ending.ensures.ends c.status.ensures
+    headlined link_listing RecoverLink (λ t tapped o does. does) c.args.words.now c.carry_out-ending.result before after c.status.result c.carry_out-ending.ensures.ends c.status.ensures
 
 pub returns-clause-content_headline : goal.returns-clause-content_headline
 returns-clause-content_headline g c =
     let before = seen (g.S.Source.left c.args.input.now) (g.S.Source.faults c.args.input.now) (g.K.Sink.held c.args.output.now) (g.K.Sink.faults c.args.output.now) in
     let after = seen (g.S.Source.left c.carry_out-ending.new.input) (g.S.Source.faults c.carry_out-ending.new.input) (g.K.Sink.held c.carry_out-ending.new.output) (g.K.Sink.faults c.carry_out-ending.new.output) in
-    headlined content_listing RecoverContent (λ bytes o does. does) c.args.words.now c.carry_out-ending.result before after c.status.result c.carry_out-ending.ensures.ends c.status.ensures
+    headlined content_listing RecoverContent (λ t tapped o does. does) c.args.words.now c.carry_out-ending.result before after c.status.result c.carry_out-ending.ensures.ends c.status.ensures
 
 pub returns-clause-headline_anywhere : goal.returns-clause-headline_anywhere
 returns-clause-headline_anywhere g c =
     let before = seen (g.S.Source.left c.args.input.now) (g.S.Source.faults c.args.input.now) (g.K.Sink.held c.args.output.now) (g.K.Sink.faults c.args.output.now) in
     let after = seen (g.S.Source.left c.carry_out-ending.new.input) (g.S.Source.faults c.carry_out-ending.new.input) (g.K.Sink.held c.carry_out-ending.new.output) (g.K.Sink.faults c.carry_out-ending.new.output) in
-    headlined_anywhere link_listing RecoverLink (λ bytes o does. does) c.args.words.now c.carry_out-ending.result before after c.status.result c.carry_out-ending.ensures.ends c.status.ensures
+    headlined_anywhere link_listing RecoverLink (λ t tapped o does. does) c.args.words.now c.carry_out-ending.result before after c.status.result c.carry_out-ending.ensures.ends c.status.ensures
 
 pub returns-clause-content_headline_anywhere : goal.returns-clause-content_headline_anywhere
 returns-clause-content_headline_anywhere g c =
     let before = seen (g.S.Source.left c.args.input.now) (g.S.Source.faults c.args.input.now) (g.K.Sink.held c.args.output.now) (g.K.Sink.faults c.args.output.now) in
     let after = seen (g.S.Source.left c.carry_out-ending.new.input) (g.S.Source.faults c.carry_out-ending.new.input) (g.K.Sink.held c.carry_out-ending.new.output) (g.K.Sink.faults c.carry_out-ending.new.output) in
-    headlined_anywhere content_listing RecoverContent (λ bytes o does. does) c.args.words.now c.carry_out-ending.result before after c.status.result c.carry_out-ending.ensures.ends c.status.ensures
+    headlined_anywhere content_listing RecoverContent (λ t tapped o does. does) c.args.words.now c.carry_out-ending.result before after c.status.result c.carry_out-ending.ensures.ends c.status.ensures
 
 pub returns-clause-pictures : goal.returns-clause-pictures
 returns-clause-pictures g c =
@@ -161,3 +163,33 @@ returns-clause-notes g c =
       c.write_note.ensures.whole,
       c.write_note.ensures.part,
     )
+
+pub returns-clause-track_headline : goal.returns-clause-track_headline
+returns-clause-track_headline g c =
+    let before = seen (g.S.Source.left c.args.input.now) (g.S.Source.faults c.args.input.now) (g.K.Sink.held c.args.output.now) (g.K.Sink.faults c.args.output.now) in
+    let after = seen (g.S.Source.left c.carry_out-ending.new.input) (g.S.Source.faults c.carry_out-ending.new.input) (g.K.Sink.held c.carry_out-ending.new.output) (g.K.Sink.faults c.carry_out-ending.new.output) in
+    headlined link_listing RecoverTrack tracks_as_link c.args.words.now c.carry_out-ending.result before after c.status.result c.carry_out-ending.ensures.ends c.status.ensures
+
+pub returns-clause-track_headline_anywhere : goal.returns-clause-track_headline_anywhere
+returns-clause-track_headline_anywhere g c =
+    let before = seen (g.S.Source.left c.args.input.now) (g.S.Source.faults c.args.input.now) (g.K.Sink.held c.args.output.now) (g.K.Sink.faults c.args.output.now) in
+    let after = seen (g.S.Source.left c.carry_out-ending.new.input) (g.S.Source.faults c.carry_out-ending.new.input) (g.K.Sink.held c.carry_out-ending.new.output) (g.K.Sink.faults c.carry_out-ending.new.output) in
+    headlined_anywhere link_listing RecoverTrack tracks_as_link c.args.words.now c.carry_out-ending.result before after c.status.result c.carry_out-ending.ensures.ends c.status.ensures
+
+pub returns-clause-dvi_headline : goal.returns-clause-dvi_headline
+returns-clause-dvi_headline g c =
+    let before = seen (g.S.Source.left c.args.input.now) (g.S.Source.faults c.args.input.now) (g.K.Sink.held c.args.output.now) (g.K.Sink.faults c.args.output.now) in
+    let after = seen (g.S.Source.left c.carry_out-ending.new.input) (g.S.Source.faults c.carry_out-ending.new.input) (g.K.Sink.held c.carry_out-ending.new.output) (g.K.Sink.faults c.carry_out-ending.new.output) in
+    dvi_headlined c.args.words.now c.carry_out-ending.result before after c.status.result c.carry_out-ending.ensures.ends c.status.ensures
+
+pub returns-clause-relay_headline : goal.returns-clause-relay_headline
+returns-clause-relay_headline g c =
+    let before = seen (g.S.Source.left c.args.input.now) (g.S.Source.faults c.args.input.now) (g.K.Sink.held c.args.output.now) (g.K.Sink.faults c.args.output.now) in
+    let after = seen (g.S.Source.left c.carry_out-ending.new.input) (g.S.Source.faults c.carry_out-ending.new.input) (g.K.Sink.held c.carry_out-ending.new.output) (g.K.Sink.faults c.carry_out-ending.new.output) in
+    relay_headlined c.relayed_account.ensures c.args.words.now c.carry_out-ending.result before after c.status.result c.carry_out-ending.ensures.ends c.status.ensures
+
+pub returns-clause-relay_headline_anywhere : goal.returns-clause-relay_headline_anywhere
+returns-clause-relay_headline_anywhere g c =
+    let before = seen (g.S.Source.left c.args.input.now) (g.S.Source.faults c.args.input.now) (g.K.Sink.held c.args.output.now) (g.K.Sink.faults c.args.output.now) in
+    let after = seen (g.S.Source.left c.carry_out-ending.new.input) (g.S.Source.faults c.carry_out-ending.new.input) (g.K.Sink.held c.carry_out-ending.new.output) (g.K.Sink.faults c.carry_out-ending.new.output) in
+    relay_headlined_anywhere c.relayed_account.ensures c.args.words.now c.carry_out-ending.result before after c.status.result c.carry_out-ending.ensures.ends c.status.ensures

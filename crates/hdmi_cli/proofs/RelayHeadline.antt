@@ -1,0 +1,120 @@
+-- What `relay` makes of a tapped stream: what came of the periods that were sent, from the first full alignment on.
+use Rattle.std.proofs.Common.{◌≡◌, ◌≤◌, ◌⊎◌, ℕ, ◌+◌, Bool, List, [], length, refl, ap, ap₂, sym, ◌∙◌, subst, inl, inr}
+use Rattle.std.specs.Prelude.{Option, Some}
+use Rattle.std.specs.Io.KnownBytes.{Appends}
+use Rattle.tmds_word.specs.Column.{Column}
+use Rattle.capture_file.specs.Captures.{IsCaptureOf}
+use Rattle.capture_file.specs.Laws.{AreSame}
+use Rattle.capture_file.specs.Taps.{tapped_capture}
+use Rattle.capture_file.proofs.OneCapture.{one_capture, no_fault}
+use Rattle.lane_deskew.specs.Triples.{IsFirst}
+use Rattle.lane_deskew.specs.Aligned.{aligned_columns}
+use Rattle.island_pack.specs.Periods.{Period, columns_of}
+use Rattle.island_pack.specs.Sparse.{IsSparseInPayload}
+use Rattle.island_pack.specs.Spelling.{Spells}
+use Rattle.source_end.proofs.Streams.{Spells-length}
+use Rattle.period_grammar.specs.Exact.{faultless}
+use Rattle.period_grammar.specs.Heard.{heard}
+use Rattle.period_grammar.specs.Things.{Thing}
+use Rattle.link_sink.specs.Account.{account}
+use Rattle.link_sink.specs.Alignment.{IsAlignedTold, IsNowhereTold}
+use Rattle.link_sink.specs.Laws.{CameOf, IsAccounted, BeginColumn}
+use Rattle.link_sink.proofs.Tapped.{payload_accounted, tap_accounted}
+use Rattle.relay.specs.Came.{RelayedAccount, came}
+use Rattle.relay.specs.Relayed.{conformed, relayed}
+use Rattle.command_line.specs.Commands.{IsCommand}
+use Rattle.command_line.specs.declared.command.Command.TheVariants.{Relay}
+use Rattle.hdmi_cli.specs.Endings.{Devices, Answers, RunEnds, Unless, status_of}
+use Rattle.hdmi_cli.specs.Headline.{TappedStream, IsTapped, AlignsBy, IsFirstOf, IsSentOn, IsSentOnBy, aligned_of}
+use Rattle.hdmi_cli.specs.Outcome.{Outcome, Relays}
+use Rattle.hdmi_cli.specs.Relays.{IsRelayed, relay_status, whole_tap}
+use Rattle.hdmi_cli.specs.declared.ending.Ending.{Ending}
+use Rattle.hdmi_cli.proofs.Headline.{aligned_same, run_ended}
+
+-- an outcome is the capture of what is relayed of some things
+record IsRelayOf (all : List Thing) (o : Outcome) : Type 0 where
+  columns : List Column
+  spelled : Spells (relayed all) columns
+  status : o.status ≡ relay_status (faultless all)
+  output : o.output ≡ tapped_capture columns whole_tap
+
+same_told : (x y z u v w : List Bool) (columns : ℕ) (things : List Thing) → AreSame x y z u v w → IsAlignedTold u v w columns things → IsAlignedTold x y z columns things
+same_told x y z u v w columns things same h =
+    subst (λ a. IsAlignedTold a y z columns things) (sym same.blue) (subst (λ b. IsAlignedTold u b z columns things) (sym same.green) (subst (λ c. IsAlignedTold u v c columns things) (sym same.red) h))
+
+same_nowhere : (x y z u v w : List Bool) (columns : ℕ) (things : List Thing) → AreSame x y z u v w → IsNowhereTold u v w columns things → IsNowhereTold x y z columns things
+same_nowhere x y z u v w columns things same h =
+    subst (λ a. IsNowhereTold a y z columns things) (sym same.blue) (subst (λ b. IsNowhereTold u b z columns things) (sym same.green) (subst (λ c. IsNowhereTold u v c columns things) (sym same.red) h))
+
+told_relay : (all : List Thing) (blue green red : List Bool) (d e f columns : ℕ) (things : List Thing) (output : List ℕ) (o : Outcome) → IsFirst blue green red d e f → heard (aligned_columns blue green red d e f) ≡ all
+    → IsAlignedTold blue green red columns things → IsRelayed things output → o ≡ record { status = relay_status (faultless things); output = output; note = [] } → IsRelayOf all o
+told_relay all blue green red d e f columns things output o first whole told r is =
+    let same = aligned_same blue green red told.d told.e told.f d e f told.first first in
+    let things_are : things ≡ all = told.told ∙ ap heard same ∙ whole in
+    record {
+      columns = r.columns;
+      spelled = subst (λ (ts : List Thing). Spells (relayed ts) r.columns) things_are r.spelled;
+      status = ap (λ (p : Outcome). p.status) is ∙ ap (λ ts. relay_status (faultless ts)) things_are;
+      output = ap (λ (p : Outcome). p.output) is ∙ r.output_is;
+    }
+
+capture_relay : (all : List Thing) (blue green red : List Bool) (d e f : ℕ) (bytes : List ℕ) (o : Outcome) → IsCaptureOf blue green red bytes → IsFirst blue green red d e f → heard (aligned_columns blue green red d e f) ≡ all
+    → Relays bytes o → (o.status ≡ 3) ⊎ IsRelayOf all o
+capture_relay all blue green red d e f bytes o captured first whole (inl (x, y, z, columns, things, output, is, told, relays, same)) =
+    inr (told_relay all blue green red d e f columns things output o first whole (same_told blue green red x y z columns things (one_capture blue green red x y z bytes captured is) told) relays same)
+capture_relay all blue green red d e f bytes o captured first whole (inr (inl (x, y, z, columns, things, is, nowhere, same))) =
+    absurd ((same_nowhere blue green red x y z columns things (one_capture blue green red x y z bytes captured is) nowhere).nowhere d e f first.triple)
+capture_relay all blue green red d e f bytes o captured first whole (inr (inr (inl (passes, same)))) = inl (ap (λ (p : Outcome). p.status) same)
+capture_relay all blue green red d e f bytes o captured first whole (inr (inr (inr (fault, before, same)))) =
+    absurd (no_fault bytes fault (record { blue = blue; green = green; red = red; holds = captured }) before.is)
+
+sent_of : (t : TappedStream) (a d e f : ℕ) (ending : Ending) (before after : Devices) (o : Outcome) → IsAccounted t.periods t.sent t.received (aligned_of t d e f) a → BeginColumn t.offset t.skews (a + 12) d e f
+    → relayed (account t.periods t.sent t.received a (length (aligned_of t d e f))) ≡ conformed (came t.periods t.sent t.received a (length (aligned_of t d e f)))
+    → o.status ≡ status_of ending → Appends before.held after.held o.output
+    → (o.status ≡ 3) ⊎ IsRelayOf (account t.periods t.sent t.received a (length (aligned_of t d e f))) o
+    → (status_of ending ≡ 3) ⊎ IsSentOn t d e f a (status_of ending) before.held after.held
+sent_of t a d e f ending before after o accounted begins relayed_is status written (inl three) = inl (sym status ∙ three)
+sent_of t a d e f ending before after o accounted begins relayed_is status written (inr is) = inr (record {
+  accounted = accounted;
+  begins = begins;
+  columns = is.columns;
+  spelled = subst (λ (ps : List Period). Spells ps is.columns) relayed_is is.spelled;
+  status_is = sym status ∙ is.status;
+  written = subst (λ (out : List ℕ). Appends before.held after.held out) is.output written;
+})
+
+sent_on : RelayedAccount → (t : TappedStream) (a d e f : ℕ) (ending : Ending) (before after : Devices) → IsTapped t → IsFirstOf t d e f → IsAccounted t.periods t.sent t.received (aligned_of t d e f) a
+    → BeginColumn t.offset t.skews (a + 12) d e f → before.left ≡ Some t.bytes → Answers Relay ending before after
+    → (status_of ending ≡ 3) ⊎ IsSentOn t d e f a (status_of ending) before.held after.held
+sent_on law t a d e f ending before after tapped first accounted begins left answers =
+    let answer = answers t.bytes left in
+    let many = length (aligned_of t d e f) in
+    let all = account t.periods t.sent t.received a many in
+    let long = Spells-length t.periods t.sent tapped.came.spelled in
+    let relayed_is = law t.periods t.sent t.received tapped.came.conforming long (tapped.came.sparse.same_length ∙ long) a many in
+    sent_of t a d e f ending before after answer.outcome accounted begins relayed_is answer.status answer.written
+    (capture_relay all t.blue t.green t.red d e f t.bytes answer.outcome tapped.captured first accounted.told answer.does)
+
+pub relay_headlined : RelayedAccount → (words : List (List ℕ)) (ending : Ending) (before after : Devices) (status : ℕ) → RunEnds words ending before after → status ≡ status_of ending → IsCommand words Relay
+    → (t : TappedStream) → IsTapped t → IsSparseInPayload t.periods t.sent t.received → (d e f : ℕ) → IsFirstOf t d e f → before.left ≡ Some t.bytes
+    → Unless (λ s old new. (s ≡ 3) ⊎ ((a : ℕ) × IsSentOn t d e f a s old new)) status before after
+relay_headlined law words ending before after status ends is named t tapped alone d e f first left =
+    let told = payload_accounted t.periods t.sent t.received tapped.came alone t.offset t.skews t.counts t.blue t.green t.red tapped.tap tapped.small d e f first in
+    run_ended (λ s old new. (s ≡ 3) ⊎ ((a : ℕ) × IsSentOn t d e f a s old new)) Relay words ending before after status ends is named
+    (λ answers. chosen told.0 (sent_on law t told.0 d e f ending before after tapped first told.1 told.2 left answers))
+  where
+    chosen : (a : ℕ) → (status_of ending ≡ 3) ⊎ IsSentOn t d e f a (status_of ending) before.held after.held → (status_of ending ≡ 3) ⊎ ((a : ℕ) × IsSentOn t d e f a (status_of ending) before.held after.held)
+    chosen a (inl three) = inl three
+    chosen a (inr sent) = inr (a, sent)
+
+pub relay_headlined_anywhere : RelayedAccount → (words : List (List ℕ)) (ending : Ending) (before after : Devices) (status : ℕ) → RunEnds words ending before after → status ≡ status_of ending → IsCommand words Relay
+    → (t : TappedStream) → IsTapped t → (until : ℕ) → AlignsBy t until → before.left ≡ Some t.bytes
+    → Unless (λ s old new. (s ≡ 3) ⊎ IsSentOnBy t until s old new) status before after
+relay_headlined_anywhere law words ending before after status ends is named t tapped until aligns left =
+    let told = tap_accounted t.periods t.sent t.received tapped.came t.offset t.skews t.counts t.blue t.green t.red tapped.tap tapped.small until aligns in
+    run_ended (λ s old new. (s ≡ 3) ⊎ IsSentOnBy t until s old new) Relay words ending before after status ends is named
+    (λ answers. chosen told.0 told.1 told.2 told.3 told.4.0 told.4.1 (sent_on law t told.4.0 told.0 told.1 told.2 ending before after tapped told.3 told.4.2 told.4.3 left answers))
+  where
+    chosen : (d e f : ℕ) → IsFirstOf t d e f → (a : ℕ) → a + 12 ≤ until → (status_of ending ≡ 3) ⊎ IsSentOn t d e f a (status_of ending) before.held after.held → (status_of ending ≡ 3) ⊎ IsSentOnBy t until (status_of ending) before.held after.held
+    chosen d e f first a le (inl three) = inl three
+    chosen d e f first a le (inr sent) = inr (d, e, f, first, (a, le, sent))

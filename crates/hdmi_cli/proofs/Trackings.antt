@@ -1,0 +1,199 @@
+-- How a capture is followed block by block whose lanes may lose bits.
+use Rattle.std.proofs.Common.{arith, ◌≡◌, ◌≤◌, ◌+◌, ◌⊎◌, ◌<◌, ◌++◌, ◌∷◌, [], ℕ, List, Bool, max, sym, subst, refl, ap, ◌∙◌, inl, inr, length, append-nil, append_assoc, Option, Some}
+use Rattle.std.specs.Io.KnownBytes.{Consumes, IsAtEnd}
+use Rattle.std.proofs.KnownBytes.{Consumes-trans}
+use Rattle.capture_file.specs.Captures.{Stands, StopsIn, SaysOf, SaysRead, IsFault, IsEarlyFault, IsHeadless, IsCaptureOf, place_of, block_size}
+use Rattle.capture_file.specs.declared.fault.CaptureError.{CaptureError}
+use Rattle.capture_file.specs.declared.fault.CaptureError.TheVariants.{Bad as Failed, Read as Unread}
+use Rattle.capture_file.proofs.Marks.{consumed}
+use Rattle.link_sink.specs.Pieces.{no_bits}
+use Rattle.link_sink.specs.Sinks.{Fed, grown}
+use Rattle.track_sink.specs.Epochs.{IsTrack}
+use Rattle.track_sink.specs.Events.{Event}
+use Rattle.track_sink.specs.Tracks.{HasTracked}
+use Rattle.track_sink.specs.Trackers.{Stops}
+use Rattle.track_sink.specs.TrackSinks.{TrackSinkSeen, StandsFor, bits_of, most_bits}
+use Rattle.hdmi_cli.specs.Hearings.{IsCausedBy, refused_as}
+use Rattle.hdmi_cli.specs.Tracking.{AreFollowed, HasFollowed, HasFollowedAll, IsTrackedSoFar, IsUntakenOn, StopsOn}
+use Rattle.hdmi_cli.specs.declared.hearing.HearError.{HearError}
+use Rattle.hdmi_cli.specs.declared.hearing.HearError.TheVariants.{Bad, Read, Ear}
+use Rattle.hdmi_cli.proofs.Heard.{rose_after}
+use Rattle.hdmi_cli.proofs.Hearings.{Lends, at_its_length}
+
+-- an ear that takes one list after another takes both
+abbrev pub JoinsEvents : {A : Type 0} → (A → A → List Event → Type 0) → Type 0
+JoinsEvents {A} tracked = (x y z : A) (h k : List Event) → tracked x y h → tracked y z k → tracked x z (h ++ k)
+
+pub followed_more : {A : Type 0} (tracked : A → A → List Event → Type 0) → JoinsEvents tracked → (version : ℕ) (counts : List ℕ) (j : ℕ) (from left0 left1 : Option (List ℕ)) (sink0 sink1 : TrackSinkSeen) (a b d bits : List ℕ) (first old new : A)
+    → HasFollowed tracked version counts j from left0 sink0 first old → Consumes left0 left1 ((a ++ b) ++ d) → Lends version counts j a b d bits
+    → ((fed : Fed) (told : List Event) → StandsFor sink0 fed told → (more : List Event) × tracked old new more × StandsFor sink1 (grown fed a b d bits) (told ++ more))
+    → HasFollowed tracked version counts (j + 1) from left1 sink1 first new
+followed_more tracked both version counts j from left0 left1 sink0 sink1 a b d bits first old new h gone lent told =
+    let t = told h.fed h.events h.sunk in
+    record {
+      taken = h.taken ++ ((a ++ b) ++ d);
+      fed = grown h.fed a b d bits;
+      events = h.events ++ t.0;
+      consumed = Consumes-trans from left0 left1 h.taken ((a ++ b) ++ d) h.consumed gone;
+      stands = lent h.taken h.fed.blue h.fed.green h.fed.red h.stands;
+      sunk = t.2;
+      heard = both first old new h.events t.0 h.heard t.1;
+    }
+
+pub follows_so : {A : Type 0} (tracked : A → A → List Event → Type 0) (version version' : ℕ) (counts counts' : List ℕ) (j j' : ℕ) (from left : Option (List ℕ)) (sink : TrackSinkSeen) (first now : A)
+    → version' ≡ version → counts' ≡ counts → j' ≡ j → HasFollowed tracked version counts j from left sink first now → HasFollowed tracked version' counts' j' from left sink first now
+follows_so tracked version version' counts counts' j j' from left sink first now ev ec ej h =
+    subst (λ v. HasFollowed tracked v counts' j' from left sink first now) (sym ev)
+    (subst (λ cs. HasFollowed tracked version cs j' from left sink first now) (sym ec) (subst (λ n. HasFollowed tracked version counts n from left sink first now) (sym ej) h))
+
+stops_on : {A : Type 0} (tracked : A → A → List Event → Type 0) (lost : A → A → Event → Type 0) → JoinsEvents tracked → (events more : List Event) (first old new : A)
+    → tracked first old events → Stops tracked lost old new more → Stops tracked lost first new (events ++ more)
+stops_on tracked lost both events more first old new taken s = record {
+  taken = events ++ s.taken;
+  next = s.next;
+  rest = s.rest;
+  events_are = ap (λ l. events ++ l) s.events_are ∙ sym (append_assoc events s.taken (s.next ∷ s.rest));
+  between = s.between;
+  took_some = both first old s.between events s.taken taken s.took_some;
+  lost_then = s.lost_then;
+}
+
+pub untaken_on : {A : Type 0} (tracked : A → A → List Event → Type 0) (lost : A → A → Event → Type 0) → JoinsEvents tracked → (version : ℕ) (counts : List ℕ) (j : ℕ) (from left0 left1 : Option (List ℕ)) (sink : TrackSinkSeen) (a b d bits : List ℕ) (first old new : A)
+    → HasFollowed tracked version counts j from left0 sink first old → Consumes left0 left1 ((a ++ b) ++ d) → Lends version counts j a b d bits
+    → ((fed : Fed) (told : List Event) → StandsFor sink fed told → (more : List Event) × Stops tracked lost old new more × HasTracked (grown fed a b d bits) (told ++ more))
+    → IsUntakenOn tracked lost from left1 first new
+untaken_on tracked lost both version counts j from left0 left1 sink a b d bits first old new h gone lent stopped =
+    let s = stopped h.fed h.events h.sunk in
+    let next = lent h.taken h.fed.blue h.fed.green h.fed.red h.stands in
+    record {
+      before = h.fed;
+      after = grown h.fed a b d bits;
+      events = h.events ++ s.0;
+      read = h.taken ++ ((a ++ b) ++ d);
+      consumed = Consumes-trans from left0 left1 h.taken ((a ++ b) ++ d) h.consumed gone;
+      told = inl (
+        record {
+          counts = counts;
+          j = j;
+          taken = h.taken;
+          block = (a ++ b) ++ d;
+          read_is = refl;
+          had = at_its_length version counts j _ _ _ _ h.stands;
+          has = at_its_length version counts (j + 1) _ _ _ _ next;
+        },
+        s.2,
+      );
+      stops = stops_on tracked lost both h.events s.0 first old new h.heard s.1;
+    }
+
+pub followed_all : {A : Type 0} (tracked : A → A → List Event → Type 0) (version : ℕ) (counts : List ℕ) (j : ℕ) (from left0 left1 : Option (List ℕ)) (sink : TrackSinkSeen) (first now : A)
+    → HasFollowed tracked version counts j from left0 sink first now → Consumes left0 left1 []
+    → ((taken : List ℕ) (x y z : List Bool) → Stands version counts j taken x y z → IsCaptureOf x y z taken)
+    → HasFollowedAll tracked from left1 sink first now
+followed_all tracked version counts j from left0 left1 sink first now h gone whole = record {
+  taken = h.taken;
+  fed = h.fed;
+  events = h.events;
+  consumed = subst (Consumes from left1) (append-nil h.taken) (Consumes-trans from left0 left1 h.taken [] h.consumed gone);
+  captured = whole h.taken h.fed.blue h.fed.green h.fed.red h.stands;
+  sunk = h.sunk;
+  heard = h.heard;
+}
+
+so_far : {A : Type 0} (tracked : A → A → List Event → Type 0) (version : ℕ) (counts : List ℕ) (j : ℕ) (from left : Option (List ℕ)) (sink : TrackSinkSeen) (first now : A)
+    → (h : HasFollowed tracked version counts j from left sink first now) → IsTrackedSoFar tracked h.fed first now
+so_far tracked version counts j from left sink first now h = record { events = h.events; told = h.sunk.tracked; heard = h.heard }
+
+-- a reader gives an error
+pub short_on : {A : Type 0} (tracked : A → A → List Event → Type 0) (lost : A → A → Event → Type 0) (version : ℕ) (counts : List ℕ) (j : ℕ) (from left0 left1 : Option (List ℕ)) (sink : TrackSinkSeen) (first now : A) (error : CaptureError)
+    → HasFollowed tracked version counts j from left0 sink first now
+    → ((bytes taken : List ℕ) (x y z : List Bool) → left0 ≡ Some bytes → Stands version counts j taken x y z → SaysOf (λ fault. IsFault (taken ++ bytes) fault × StopsIn counts j taken (place_of fault)) error)
+    → SaysRead ((part : List ℕ) × ((length part < block_size j counts) ⊎ (part ≡ [])) × Consumes left0 left1 part) error
+    → StopsOn tracked lost from left1 first now (refused_as error)
+short_on tracked lost version counts j from left0 left1 sink first now (Failed fault) h says part = (
+  (h.fed, so_far tracked version counts j from left0 sink first now h),
+  λ bytes is.
+      let c = consumed from left0 bytes h.taken is h.consumed in
+      let s = says c.0 h.taken h.fed.blue h.fed.green h.fed.red c.2 h.stands in
+      record {
+        faulty = subst (λ bs. IsFault bs fault) (sym c.1) s.0;
+        fed = h.fed;
+        before = inr (h.taken, c.0, counts, j, c.1, at_its_length version counts j _ _ _ _ h.stands, s.1);
+        heard = so_far tracked version counts j from left0 sink first now h;
+      },
+)
+short_on tracked lost version counts j from left0 left1 sink first now Unread h says part = record {
+  fed = h.fed;
+  read = h.taken ++ part.0;
+  consumed = Consumes-trans from left0 left1 h.taken part.0 h.consumed part.2;
+  are_read = inr (h.taken, part.0, counts, j, refl, at_its_length version counts j _ _ _ _ h.stands, part.1);
+  heard = so_far tracked version counts j from left0 sink first now h;
+}
+
+-- a header was read
+pub followed_head : {A : Type 0} (tracked : A → A → List Event → Type 0) (version : ℕ) (counts : List ℕ) (j : ℕ) (from left : Option (List ℕ)) (sink : TrackSinkSeen) (now : A) → tracked now now [] → StandsFor sink no_bits []
+    → (head : List ℕ) × Consumes from left head × Stands version counts j head [] [] [] → HasFollowed tracked version counts j from left sink now now
+followed_head tracked version counts j from left sink now none sunk h = record { taken = h.0; fed = no_bits; events = []; consumed = h.1; stands = h.2; sunk = sunk; heard = none }
+
+-- none was read
+pub headless_on : {A : Type 0} (tracked : A → A → List Event → Type 0) (lost : A → A → Event → Type 0) (from left : Option (List ℕ)) (sink : TrackSinkSeen) (now : A) (error : CaptureError) → tracked now now [] → StandsFor sink no_bits []
+    → ((bytes : List ℕ) → from ≡ Some bytes → SaysOf (λ fault. IsEarlyFault bytes fault) error)
+    → SaysRead ((part : List ℕ) × IsHeadless part × Consumes from left part) error
+    → StopsOn tracked lost from left now now (refused_as error)
+headless_on tracked lost from left sink now (Failed fault) none sunk says part =
+    let so : IsTrackedSoFar tracked no_bits now now = record { events = []; told = sunk.tracked; heard = none } in (
+      (no_bits, so),
+      λ bytes is. let s = says bytes is in record { faulty = s.0; fed = no_bits; before = inl (s.1, refl); heard = so },
+    )
+headless_on tracked lost from left sink now Unread none sunk says part =
+    record { fed = no_bits; read = part.0; consumed = part.2; are_read = inl (part.1, refl); heard = record { events = []; told = sunk.tracked; heard = none } }
+
+-- a sink that was fed nothing was fed no block
+zero_max : (a b c : ℕ) → max a (max b c) ≡ 0 → (a ≡ 0) × (b ≡ 0) × (c ≡ 0)
+zero_max a b c e = (grind (arith, e), grind (arith, e), grind (arith, e))
+
+pub followed_none : (sink : TrackSinkSeen) (version : ℕ) (counts : List ℕ) (j : ℕ) (head : List ℕ) → most_bits sink ≡ 0 → Stands version counts j head [] [] [] → AreFollowed sink counts j
+followed_none sink version counts j head none h =
+    let z = zero_max (bits_of sink 0) (bits_of sink 1) (bits_of sink 2) none in
+    record { first = z.0 ∙ h.count_x; second = z.1 ∙ h.count_y; third = z.2 ∙ h.count_z }
+
+left_none : (left : Option (List ℕ)) (rest : List ℕ) → left ≡ Some rest → IsAtEnd left → rest ≡ []
+left_none left rest is ended = subst IsAtEnd is ended
+
+pub followed_whole : {A : Type 0} (tracked : A → A → List Event → Type 0) → JoinsEvents tracked → (from left : Option (List ℕ)) (sink : TrackSinkSeen) (epochs aligned : ℕ) (first old new : A)
+    → HasFollowedAll tracked from left sink first old → IsAtEnd left
+    → ((fed : Fed) (told : List Event) → StandsFor sink fed told → (last : List Event) × tracked old new last × IsTrack fed epochs aligned (told ++ last))
+    → (fed : Fed) × (events : List Event) × IsTrack fed epochs aligned events × tracked first new events × ((bytes : List ℕ) → from ≡ Some bytes → IsCaptureOf fed.blue fed.green fed.red bytes)
+followed_whole tracked both from left sink epochs aligned first old new h ended told =
+    let t = told h.fed h.events h.sunk in (
+      h.fed,
+      h.events ++ t.0,
+      t.2,
+      both first old new h.events t.0 h.heard t.1,
+      λ bytes is.
+          let c = consumed from left bytes h.taken is h.consumed in
+          let all : h.taken ≡ bytes = sym (c.1 ∙ ap (λ l. h.taken ++ l) (left_none left c.0 c.2 ended) ∙ append-nil h.taken) in
+          subst (IsCaptureOf h.fed.blue h.fed.green h.fed.red) all h.captured,
+    )
+
+pub unended_on : {A : Type 0} (tracked : A → A → List Event → Type 0) (lost : A → A → Event → Type 0) → JoinsEvents tracked → (from left : Option (List ℕ)) (sink : TrackSinkSeen) (first old new : A)
+    → HasFollowedAll tracked from left sink first old → IsAtEnd left
+    → ((fed : Fed) (told : List Event) → StandsFor sink fed told → (epochs aligned : ℕ) × (last : List Event) × Stops tracked lost old new last × IsTrack fed epochs aligned (told ++ last))
+    → IsUntakenOn tracked lost from left first new
+unended_on tracked lost both from left sink first old new h ended stopped =
+    let s = stopped h.fed h.events h.sunk in
+    record {
+      before = h.fed;
+      after = h.fed;
+      events = h.events ++ s.2;
+      read = h.taken;
+      consumed = h.consumed;
+      told = inr (ended, h.captured, (s.0, s.1, s.4));
+      stops = stops_on tracked lost both h.events s.2 first old new h.heard s.3;
+    }
+
+-- a count that rose later rose
+pub caused_later : (a b c m n : ℕ) (e : HearError) → a ≤ b → IsCausedBy b c m n e → IsCausedBy a c m n e
+caused_later a b c m n (Bad fault) le cause = cause
+caused_later a b c m n Read le cause = rose_after a b c le cause
+caused_later a b c m n Ear le cause = cause

@@ -1,0 +1,44 @@
+use Rattle.std.proofs.Common.{rules, ◌≡◌, ◌∙◌, false, [], ap, sym, subst}
+use Rattle.capture_file.specs.declared.fault.CaptureFault.{CaptureFault}
+use Rattle.command_line.specs.declared.command.Command.TheVariants.{Relay}
+use Rattle.hdmi_cli.specs.Endings.{Ends, relay_ending, seen}
+use Rattle.hdmi_cli.specs.declared.ending.Ending.{Ending}
+use Rattle.hdmi_cli.specs.declared.ending.Ending.TheVariants.{Capture}
+use Rattle.hdmi_cli.proofs.Ends.{keeps_itself}
+use Rattle.hdmi_cli.proofs.Relaying.{heard_sent, nowhere_sent, refused_sent, broken_sent}
+use Rattle.hdmi_cli.proofs.sending.send_lanes.Goals as goal
+
+pub write_relayed-requires : goal.write_relayed-requires
+write_relayed-requires g c = (c.in-Ok.ensures.heard.1, c.in-Ok.ensures.heard.3.0 [] c.open-relay.ensures.stands)
+
+pub returns-in-Ok-clause-ends : goal.returns-in-Ok-clause-ends
+returns-in-Ok-clause-ends g c =
+    let before = seen (g.S.Source.left c.args.input.now) (g.S.Source.faults c.args.input.now) (g.K.Sink.held c.args.output.now) (g.K.Sink.faults c.args.output.now) in
+    let after = seen (g.S.Source.left c.hear_capture.new.input) (g.S.Source.faults c.hear_capture.new.input) (g.K.Sink.held c.write_relayed.new.output) (g.K.Sink.faults c.write_relayed.new.output) in
+    let heard = c.in-Ok.ensures.heard in
+    let stands = heard.3.0 [] c.open-relay.ensures.stands in
+    heard_sent heard.0 c.in-Ok.heard heard.1 c.hear_capture.new.ear c.write_relayed.result before after heard.2 c.if-heard.true heard.4 (search rules) stands (c.write_relayed.ensures.ends heard.1 stands)
+
+pub returns-in-Ok-2-clause-ends : goal.returns-in-Ok-2-clause-ends
+returns-in-Ok-2-clause-ends g c =
+    let before = seen (g.S.Source.left c.args.input.now) (g.S.Source.faults c.args.input.now) (g.K.Sink.held c.args.output.now) (g.K.Sink.faults c.args.output.now) in
+    let after = seen (g.S.Source.left c.hear_capture.new.input) (g.S.Source.faults c.hear_capture.new.input) (g.K.Sink.held c.args.output.now) (g.K.Sink.faults c.args.output.now) in
+    let heard = c.in-Ok-2.ensures.heard in
+    let not : c.in-Ok-2.field-0.aligned ≡ false = search rules in
+    nowhere_sent heard.0 c.in-Ok-2.field-0 heard.1 before after heard.2 not heard.4 (search rules) (keeps_itself (g.K.Sink.held c.args.output.now))
+
+pub returns-in-Err-Bad-clause-ends : goal.returns-in-Err-Bad-clause-ends
+returns-in-Err-Bad-clause-ends g c =
+    let before = seen (g.S.Source.left c.args.input.now) (g.S.Source.faults c.args.input.now) (g.K.Sink.held c.args.output.now) (g.K.Sink.faults c.args.output.now) in
+    let after = seen (g.S.Source.left c.hear_capture.new.input) (g.S.Source.faults c.hear_capture.new.input) (g.K.Sink.held c.args.output.now) (g.K.Sink.faults c.args.output.now) in
+    subst (λ (f : CaptureFault). Ends Relay (Capture f) before after) (sym c.in-Err-Bad.fault-is)
+    (refused_sent c.in-Err-Bad.fault c.open-relay.result c.hear_capture.new.ear before after c.open-relay.ensures.stands (keeps_itself (g.K.Sink.held c.args.output.now))
+    (λ bytes told. c.in-Err-Bad.ensures.bad bytes c.in-Err-Bad.fault told c.in-Err-Bad.field-0-is))
+
+pub returns-clause-ends : goal.returns-clause-ends
+returns-clause-ends g c =
+    let before = seen (g.S.Source.left c.args.input.now) (g.S.Source.faults c.args.input.now) (g.K.Sink.held c.args.output.now) (g.K.Sink.faults c.args.output.now) in
+    let after = seen (g.S.Source.left c.hear_capture.new.input) (g.S.Source.faults c.hear_capture.new.input) (g.K.Sink.held c.args.output.now) (g.K.Sink.faults c.args.output.now) in
+    let b = c.in-Err-Ear.ensures.broken c.in-Err-Ear.field-0-is in
+    subst (λ (e : Ending). Ends Relay e before after) (sym (c.untaken.ensures ∙ ap relay_ending c.trouble.ensures))
+    (broken_sent before after c.open-relay.result c.hear_capture.new.ear b.1 b.2 b.3 b.4 c.open-relay.ensures.stands c.open-relay.ensures.trouble (keeps_itself (g.K.Sink.held c.args.output.now)) b.5 b.6)

@@ -1,0 +1,35 @@
+use Rattle.std.proofs.Common.{rules, ◌+◌, ◌∙◌, ℕ, List, sym, subst}
+use Rattle.std.proofs.lemmas.Result.{err_from_is_err_and}
+use Rattle.capture_file.specs.Captures.{CanSay}
+use Rattle.hdmi_cli.specs.Tracking.{AreFollowed}
+use Rattle.hdmi_cli.proofs.Trackings.{follows_so}
+use Rattle.hdmi_cli.proofs.tracking.follow_blocks.Goals as goal
+
+pub returns-in_err-follow_block-clause-short : goal.returns-in_err-follow_block-clause-short
+returns-in_err-follow_block-clause-short g c =
+    let p = err_from_is_err_and c.from_residual.result c.from_residual.ensures.1 in
+    λ from first h.
+    rw (p.1, p.2) (c.in_err-follow_block.ensures.short from first (c.loop.invariant.heard from first h))
+
+pub loop-preserved : goal.loop-preserved
+loop-preserved g c =
+    let i = c.loop.invariant in
+    let o = c.loop.reader in
+    let v = c.follow_block.new.reader in
+    let e = c.in_ok-follow_block.ensures in
+    let t = c.if-branch.true in
+    record {
+      goes_on = e.open;
+      more = e.more ∙ t;
+      same = c.follow_block.ensures.same ∙ i.same;
+      said = subst (λ (n : ℕ). CanSay n v.bits) (sym c.follow_block.ensures.version) (subst (λ (bs : List ℕ). CanSay o.version bs) (sym c.follow_block.ensures.bits) i.said);
+      fed = subst (λ (n : ℕ). AreFollowed c.follow_block.new.sink v.bits n) (sym (e.block t)) (subst (λ (bs : List ℕ). AreFollowed c.follow_block.new.sink bs (o.block + 1)) (sym c.follow_block.ensures.bits) (e.fed t));
+      heard = λ from first h.
+          follows_so g.E.TrackEar.tracked o.version v.version o.bits v.bits (o.block + 1) v.block from (g.S.Source.left v.source.now) c.follow_block.new.sink first c.follow_block.new.ear
+          c.follow_block.ensures.version c.follow_block.ensures.bits (e.block t) (e.heard from first (i.heard from first h) t);
+      input_later = search rules;
+      ear_later = search rules;
+    }
+
+pub returns-clause-whole : goal.returns-clause-whole
+returns-clause-whole g c = λ from first h. c.in_ok-follow_block.ensures.whole from first (c.loop.invariant.heard from first h) c.if-branch.false

@@ -1,0 +1,15 @@
+-- The commands that list what a capture says.
+use Rattle.std.specs.Prelude.{ℕ, List}
+use Rattle.link_sink.specs.Grammar.{Grammar}
+use Rattle.command_line.specs.declared.command.Command.{Command}
+use Rattle.hdmi_cli.specs.Endings.{Devices, ListsRead, ListsPart, EndsUnread, EndsUnwritten}
+use Rattle.hdmi_cli.specs.Manners.{WritesOn}
+use Rattle.hdmi_cli.specs.Listings.{Listing}
+use Rattle.hdmi_cli.specs.Outcome.{Outcome, ListsCapture, Does}
+
+-- a command that lists captures so
+pub record IsLists (g : Grammar) (listing : Listing) (command : Command) : Type 0 where
+  pub does : (bytes : List ℕ) (o : Outcome) → ListsCapture g listing bytes o → Does command bytes o
+  pub on : WritesOn command
+  pub unread : (before after : Devices) → ListsRead g listing before after → EndsUnread command before after
+  pub unwritten : (before after : Devices) → ListsPart g listing before after → EndsUnwritten command before after

@@ -1,0 +1,47 @@
+-- What `relay` makes of a capture: the capture of the columns that the relayed periods spell, from offset 0 and without skew.
+use Rattle.std.specs.Prelude.{◌≡◌, ◌⊎◌, ◌<◌, ◌≤◌, ℕ, Bool, true, false, List, [], ◌∷◌, ◌++◌, None}
+use Rattle.tmds_word.specs.Column.{Column}
+use Rattle.island_pack.specs.Periods.{columns_of}
+use Rattle.island_pack.specs.Spelling.{Spells}
+use Rattle.capture_file.specs.Captures.{IsCaptureOf, IsFault, place_of}
+use Rattle.capture_file.specs.Taps.{tapped_capture}
+use Rattle.capture_file.specs.declared.fault.CaptureFault.{CaptureFault}
+use Rattle.capture_file.specs.declared.writing.Tap.{Tap}
+use Rattle.period_grammar.specs.Things.{Thing}
+use Rattle.link_sink.specs.Alignment.{IsAlignedTold}
+use Rattle.link_sink.specs.Sinks.{Fed, IsToldSoFar}
+use Rattle.relay.specs.Relayed.{relayed}
+use Rattle.hdmi_cli.specs.Blocks.{AreBefore, HasBlocks}
+
+-- the whole of each lane, from its first bit on
+abbrev pub whole_tap : Tap
+whole_tap = record { version = 1; offset = 0; skews = 0 ∷ 0 ∷ 0 ∷ []; bits = None }
+
+abbrev pub relay_status : Bool → ℕ
+relay_status true = 0
+relay_status false = 1
+
+-- what is relayed of things has at most 20,000,000 columns, and these are written
+pub record IsRelayed (things : List Thing) (output : List ℕ) : Type 0 where
+  pub columns : List Column
+  pub few : columns_of (relayed things) ≤ 20000000
+  pub spelled : Spells (relayed things) columns
+  pub output_is : output ≡ tapped_capture columns whole_tap
+
+-- the first whole blocks of bytes, or all of a capture, tell things of which too many columns are relayed
+pub record PassesLimit (bytes : List ℕ) : Type 0 where
+  pub fed : Fed
+  pub things : List Thing
+  pub told :
+      ((taken rest counts : List ℕ) × (j : ℕ) × (bytes ≡ taken ++ rest) × HasBlocks counts j taken fed × IsToldSoFar fed things)
+      ⊎ ((columns : ℕ) × IsCaptureOf fed.blue fed.green fed.red bytes × IsAlignedTold fed.blue fed.green fed.red columns things)
+  pub passes : 20000000 < columns_of (relayed things)
+
+-- bytes stop being a capture, and no more than the limit is relayed of what their whole blocks tell
+pub record RelaysBefore (bytes : List ℕ) (fault : CaptureFault) : Type 0 where
+  pub is : IsFault bytes fault
+  pub fed : Fed
+  pub before : AreBefore bytes (place_of fault) fed
+  pub things : List Thing
+  pub told : IsToldSoFar fed things
+  pub few : columns_of (relayed things) ≤ 20000000

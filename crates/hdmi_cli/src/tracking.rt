@@ -1,0 +1,117 @@
+//! Follows a capture whose lanes may lose bits, block by block, while it is read.
+ghost use Rattle.std.specs.Prelude.{◌≡◌, ◌≤◌, ◌+◌, ◌*◌, ◌^◌, ◌<◌, ℕ, List, [], true, false, Option, Some, IfOk, OnOk, IfErr};
+ghost use Rattle.std.specs.Io.KnownBytes.{IsAtEnd};
+ghost use Rattle.capture_file.specs.Captures.{CanSay, IsCaptureOf};
+ghost use Rattle.link_sink.specs.Pieces.{no_bits};
+ghost use Rattle.link_sink.specs.Sinks.{Fed};
+ghost use Rattle.track_sink.specs.Epochs.{IsTrack};
+ghost use Rattle.track_sink.specs.Events.{Event};
+ghost use Rattle.track_sink.specs.TrackSinks.{StandsFor, most_bits};
+ghost use Rattle.hdmi_cli.specs.Hearings.{IsCausedBy, refused_as};
+ghost use Rattle.hdmi_cli.specs.Tracking.{AreFollowed, FollowedOn, HasFollowed, HasFollowedAll, StopsOn};
+
+use crate::hearing::{HearError, refused};
+use capture_file::CaptureReader;
+use outside_io::Source;
+use std::thread::Threads;
+use track_sink::{TrackEar, TrackOutcome, TrackSink};
+
+/// Reads one block, feeds it to the sink and tells the ear what it decides, and says whether there was one.
+fn follow_block<R: Threads, S: Source, E: TrackEar>(
+    rt: &R,
+    sink: &mut TrackSink,
+    reader: &mut CaptureReader<'_, S>,
+    ear: &mut E,
+) -> Result<bool, HearError>
+    requires open { sink.old.is_open ≡ true }
+    requires more { reader.old.is_open ≡ true }
+    requires fed { AreFollowed sink.old reader.old.bits reader.old.block }
+    requires said { CanSay reader.old.version reader.old.bits }
+    ensures same { reader.new.source.ghost_name ≡ reader.old.source.ghost_name }
+    ensures version { reader.new.version ≡ reader.old.version }
+    ensures bits { reader.new.bits ≡ reader.old.bits }
+    ensures open { OnOk result (sink.new.is_open ≡ true) }
+    ensures more { IfOk result (λ more. reader.new.is_open ≡ more) }
+    ensures below { IfOk result (λ more. more ≡ true → 32768 * reader.old.block < 2 ^ 32) }
+    ensures block { IfOk result (λ more. more ≡ true → reader.new.block ≡ reader.old.block + 1) }
+    ensures fed { IfOk result (λ more. more ≡ true → AreFollowed sink.new reader.old.bits (reader.old.block + 1)) }
+    ensures heard { (from : Option (List ℕ)) → FollowedOn E.tracked (HasFollowed E.tracked reader.old.version reader.old.bits reader.old.block from (S.left reader.old.source.now) sink.old) ear.old (λ first.
+        IfOk result (λ more. more ≡ true → HasFollowed E.tracked reader.old.version reader.old.bits (reader.old.block + 1) from (S.left reader.new.source.now) sink.new first ear.new)) }
+    ensures ended { IfOk result (λ more. more ≡ false → IsAtEnd (S.left reader.new.source.now)) }
+    ensures whole { (from : Option (List ℕ)) → FollowedOn E.tracked (HasFollowed E.tracked reader.old.version reader.old.bits reader.old.block from (S.left reader.old.source.now) sink.old) ear.old (λ first.
+        IfOk result (λ more. more ≡ false → HasFollowedAll E.tracked from (S.left reader.new.source.now) sink.new first ear.new)) }
+    ensures short { (from : Option (List ℕ)) → FollowedOn E.tracked (HasFollowed E.tracked reader.old.version reader.old.bits reader.old.block from (S.left reader.old.source.now) sink.old) ear.old (λ first.
+        IfErr result (StopsOn E.tracked E.lost from (S.left reader.new.source.now) first ear.new)) }
+    ensures caused { IfErr result (IsCausedBy (S.faults reader.old.source.now) (S.faults reader.new.source.now) (E.faults ear.old) (E.faults ear.new)) }
+    ensures input_later { S.faults reader.old.source.now ≤ S.faults reader.new.source.now }
+    ensures ear_later { E.faults ear.old ≤ E.faults ear.new }
+{
+    match reader.next() {
+        Ok(Some(block)) => match sink.feed(rt, block.a, block.b, block.c, block.bits, ear) {
+            Ok(()) => Ok(true),
+            Err(_) => Err(HearError::Ear),
+        },
+        Ok(None) => Ok(false),
+        Err(error) => Err(refused(error)),
+    }
+}
+
+/// Reads and feeds block after block, to the end.
+fn follow_blocks<R: Threads, S: Source, E: TrackEar>(
+    rt: &R,
+    sink: &mut TrackSink,
+    reader: &mut CaptureReader<'_, S>,
+    ear: &mut E,
+) -> Result<(), HearError>
+    requires open { sink.old.is_open ≡ true }
+    requires more { reader.old.is_open ≡ true }
+    requires fed { AreFollowed sink.old reader.old.bits reader.old.block }
+    requires said { CanSay reader.old.version reader.old.bits }
+    ensures same { reader.new.source.ghost_name ≡ reader.old.source.ghost_name }
+    ensures open { OnOk result (sink.new.is_open ≡ true) }
+    ensures ended { OnOk result (IsAtEnd (S.left reader.new.source.now)) }
+    ensures whole { (from : Option (List ℕ)) → FollowedOn E.tracked (HasFollowed E.tracked reader.old.version reader.old.bits reader.old.block from (S.left reader.old.source.now) sink.old) ear.old (λ first.
+        OnOk result (HasFollowedAll E.tracked from (S.left reader.new.source.now) sink.new first ear.new)) }
+    ensures short { (from : Option (List ℕ)) → FollowedOn E.tracked (HasFollowed E.tracked reader.old.version reader.old.bits reader.old.block from (S.left reader.old.source.now) sink.old) ear.old (λ first.
+        IfErr result (StopsOn E.tracked E.lost from (S.left reader.new.source.now) first ear.new)) }
+    ensures caused { IfErr result (IsCausedBy (S.faults reader.old.source.now) (S.faults reader.new.source.now) (E.faults ear.old) (E.faults ear.new)) }
+    ensures input_later { S.faults reader.old.source.now ≤ S.faults reader.new.source.now }
+    ensures ear_later { E.faults ear.old ≤ E.faults ear.new }
+{
+    while follow_block(rt, sink, reader, ear)? {}
+    Ok(())
+}
+
+/// Reads a capture, feeds each block to the sink and tells the ear what it decides, and at the end the rest.
+///
+/// # Errors
+///
+/// `Bad` where the bytes are no capture, and `Read` where a read failed: the ear was told what the whole blocks before told so
+/// far. `Ear` where a call of the ear failed.
+pub(crate) fn follow_capture<R: Threads, S: Source, E: TrackEar>(
+    rt: &R,
+    sink: &mut TrackSink,
+    input: &mut S,
+    ear: &mut E,
+) -> Result<TrackOutcome, HearError>
+    requires open { sink.old.is_open ≡ true }
+    requires fresh { StandsFor sink.old no_bits [] }
+    requires unfed { most_bits sink.old ≡ 0 }
+    ensures heard { IfOk result (λ outcome. (fed : Fed) × (events : List Event) × IsTrack fed outcome.epochs outcome.aligned events × E.tracked ear.old ear.new events
+        × ((bytes : List ℕ) → S.left input.old ≡ Some bytes → IsCaptureOf fed.blue fed.green fed.red bytes)) }
+    ensures ended { OnOk result (IsAtEnd (S.left input.new)) }
+    ensures short { IfErr result (StopsOn E.tracked E.lost (S.left input.old) (S.left input.new) ear.old ear.new) }
+    ensures caused { IfErr result (IsCausedBy (S.faults input.old) (S.faults input.new) (E.faults ear.old) (E.faults ear.new)) }
+    ensures input_later { S.faults input.old ≤ S.faults input.new }
+    ensures ear_later { E.faults ear.old ≤ E.faults ear.new }
+{
+    let mut reader = CaptureReader::new(input);
+    if let Err(error) = reader.open() {
+        return Err(refused(error));
+    }
+    follow_blocks(rt, sink, &mut reader, ear)?;
+    match sink.finish(rt, ear) {
+        Ok(outcome) => Ok(outcome),
+        Err(_) => Err(HearError::Ear),
+    }
+}
