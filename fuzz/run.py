@@ -3,9 +3,9 @@
 
     fuzz/run.py [--seconds S] [--seed N] [--program PROGRAM] [--limit S] [--keep FOLDER]
 
-Each case is a seed of some command's input (the examples, and captures and listings that are made of them) after some
-random changes: bits flipped, bytes and lines cut, repeated, moved and spliced, numbers changed, characters of the lanes
-replaced, lanes shifted. It is run twice, once over a file and once over a pipe that is fed in small pieces. A finding is
+Each case is a seed of some command's input (the examples, and captures, listings and biphase streams that are made of them)
+after some random changes: bits flipped, bytes and lines cut, repeated, moved and spliced, numbers changed, characters of the
+lanes replaced, lanes shifted, bits of a lane left out. It is run twice, once over a file and once over a pipe that is fed in small pieces. A finding is
 
 - a run that a signal ends, or that takes longer than the limit (twice in a row),
 - a status that the command has not over a whole input and a sound output,
@@ -39,8 +39,15 @@ REFUSED = {
     "recover content": CAPTURE,
     "check": CAPTURE,
     "damage": CAPTURE + rb"|place \d+",
+    "make dvi": LINE,
+    "recover track": CAPTURE,
+    "recover dvi": CAPTURE,
+    "recover biphase": CAPTURE,
+    "slip": CAPTURE + rb"|place 0",
+    "relay": CAPTURE + rb"|long",
+    "read biphase": rb"subframe \d+|short [1-9]\d*",
 }
-STATUSES = {name: (0, 3) if name.startswith(("make", "damage")) else (0, 1, 3, 7) for name in REFUSED}
+STATUSES = {name: (0, 3) if name.startswith(("make", "damage", "slip", "read")) else (0, 1, 3, 7) for name in REFUSED}
 CONTROL = [0x354, 0x0AB, 0x154, 0x2AB]
 TERC4 = [0x29C, 0x263, 0x2E4, 0x2E2, 0x171, 0x11E, 0x18E, 0x13C, 0x2CC, 0x139, 0x19C, 0x2C6, 0x28E, 0x271, 0x163, 0x2C3]
 MARKED = [*CONTROL, *TERC4, 0x133, 0x100, 0x3FF, 0x200]
@@ -114,7 +121,7 @@ class Seeds:
     """The inputs that cases begin with: listings, contents, captures, and the characters of three lanes."""
 
     def __init__(self, program):
-        self.listings, self.contents, self.captures, self.lanes = [], [], [], []
+        self.listings, self.contents, self.captures, self.lanes, self.streams = [], [], [], [], []
         for name in sorted(os.listdir(os.path.join(TOP, "examples"))):
             with open(os.path.join(TOP, "examples", name), "rb") as file:
                 (self.contents if name.endswith(".content") else self.listings).append(file.read())
@@ -123,6 +130,8 @@ class Seeds:
         self.listings.append(island + b"v " + b"0123ab" * 700 + b"\nc 03 3000\n" + self.listings[0])
         self.listings.append(b"c 00 12\n" + (b"c 14 8\ni 01\n" + 18 * (b"p 82020d " + 4 * b"66000800010000 " + 32 * b"1" + b"\n") + b"e 23\nc 00 12\n") * 3 + b"end\n")
         makes = [(["make", "link"], it) for it in self.listings] + [(["make", "content"], it) for it in self.contents]
+        self.dvi = [b"c 00 12\nv ff0000\nc 00 12\nend\n", b"c 00 30\n" + (b"v " + b"0123ab" * 300 + b"\nc 02 3\nc 01 20\n") * 5 + b"end\n"]
+        makes += [(["make", "dvi"], it) for it in self.dvi]
         for words, text in makes:
             for tap in ([], ["--offset", "7", "--skew", "0,70,35"], ["--version", "2", "--offset", "3", "--skew", "9,0,70"]):
                 self.captures.append(ran(program, words + tap, text).stdout)
@@ -131,6 +140,9 @@ class Seeds:
             came = ran(program, ["recover", "link"], data).stdout
             if came:
                 self.listings.append(came)
+            self.streams.append(ran(program, ["recover", "biphase", "0"], data).stdout)
+        block = bytes.fromhex("172b2dd3ca34cd4c2733333333333333" + "472b2dd3ca34cd4c2733333333333333" * 191)
+        self.streams = [it for it in self.streams if it] + [block[:16], block[:3000], block * 2]
 
     @staticmethod
     def columns(data):
@@ -251,6 +263,33 @@ def change_lanes(rng, rows, other):
             del row[at : at + much]
 
 
+def slip(rng, bits, count):
+    """The bits of a lane, some of which are left out at one place or at many, and their number."""
+    step = rng.choice((0, 0, 130, 1000))
+    for place in range(count - 10, 0, -step) if step else [rng.randrange(count + 1)]:
+        drop = min(rng.randrange(1, 10), count)
+        bits = bits & (1 << place) - 1 | bits >> place + drop << place
+        count -= min(drop, max(0, count - place))
+    return bits & (1 << count) - 1, count
+
+
+def change_subframes(rng, data, other):
+    """One change of whole subframes and of their marks."""
+    groups = [data[at : at + 8] for at in range(0, len(data), 8)] or [b""]
+    at = rng.randrange(len(groups))
+    kind = rng.randrange(4)
+    if kind == 0:
+        groups[at] = rng.choice((b"\x17", b"\x47", b"\x27", b"\xe8")) + groups[at][1:]
+    elif kind == 1:
+        del groups[at]
+    elif kind == 2:
+        cut = rng.randrange(len(other) // 8 + 1) * 8
+        groups[at:at] = [other[cut : cut + 8 * rng.choice((1, 2, 384))]]
+    else:
+        groups[at] = bytes(byte ^ 0xFF for byte in groups[at])
+    return b"".join(groups)
+
+
 def captured(rng, seeds):
     """A capture whose lanes were changed, and perhaps its bytes."""
     rows = [row[:] for row in rng.choice(seeds.lanes)]
@@ -261,11 +300,13 @@ def captured(rng, seeds):
     lanes, counts = [], []
     for row in rows:
         data, count = pack(row)
+        bits = int.from_bytes(data, "little")
         if rng.random() < 0.5:
             shift = rng.randrange(80)
-            bits = int.from_bytes(data, "little") >> shift
-            count = max(0, count - shift)
-            data = bits.to_bytes((count + 7) // 8, "little")
+            bits, count = bits >> shift, max(0, count - shift)
+        if rng.random() < 0.2:
+            bits, count = slip(rng, bits, count)
+        data = bits.to_bytes((count + 7) // 8, "little")
         lanes.append(data)
         counts.append(count)
     return capture(lanes, counts, rng.choice((1, 2)))
@@ -305,7 +346,7 @@ def spoil(rng, words):
     if kind == 0 and words:
         del words[at % len(words)]
     elif kind == 1:
-        words.insert(at, rng.choice(("--", "-", "--offset", "--offset=7", "", "link", "check", "--skew=1,2", "0:0:000", "é", "\udcff", "x" * 5000)))
+        words.insert(at, rng.choice(("--", "-", "--offset", "--offset=7", "", "link", "dvi", "check", "biphase", "track", "relay", "4", "--skew=1,2", "0:0:000", "é", "\udcff", "x" * 5000)))
     elif kind == 2 and words:
         word = words[at % len(words)]
         spot = rng.randrange(len(word) + 1)
@@ -327,12 +368,22 @@ def case(seeds, seed, number):
     if name == "make link":
         words += tap(rng)
         data = changed(rng, rng.choice(seeds.listings), seeds.listings + seeds.contents, (change_text, change_text, change_bytes))
+    elif name == "make dvi":
+        words += tap(rng)
+        data = changed(rng, rng.choice(seeds.dvi), seeds.dvi + seeds.listings, (change_text, change_text, change_bytes))
+    elif name == "read biphase":
+        data = changed(rng, rng.choice(seeds.streams), seeds.streams, (change_subframes, change_bytes))
     elif name == "make content":
         words += tap(rng)
         data = changed(rng, rng.choice(seeds.contents), seeds.listings + seeds.contents, (change_text, change_text, change_bytes))
     else:
         if name == "damage":
             words += hits(rng)
+        if name == "slip":
+            place = rng.choice((0, 119, 120, rng.randrange(300), rng.randrange(40_000), 2**32 - 1))
+            words.append(f"{rng.randrange(3)}:{place}:{rng.randrange(1, 10)}")
+        if name == "recover biphase":
+            words.append(str(rng.choice((0, 0, rng.randrange(4)))))
         data = captured(rng, seeds) if rng.random() < 0.7 else rng.choice(seeds.captures)
         if rng.random() < 0.5:
             data = changed(rng, data, seeds.captures, (change_bytes,))
@@ -382,7 +433,7 @@ def run_once(program, words, data, limit, folder, piped):
 
 
 def name_of(words):
-    name = " ".join(words[:2]) if words[:1] in (["make"], ["recover"]) else "".join(words[:1])
+    name = " ".join(words[:2]) if words[:1] in (["make"], ["recover"], ["read"]) else "".join(words[:1])
     if name not in REFUSED:  # options may stand before the operand
         found = [it for it in REFUSED if it.split(" ")[0] == "".join(words[:1]) and it.split(" ")[-1] in words]
         name = found[0] if found else name
@@ -401,13 +452,21 @@ def wrong_output(name, status, output, notes):
         return "a damaged capture of a wrong size"
     if name == "damage" and status == 3 and notes.startswith(b"input: place") and output:
         return "an output of a refused damage"
+    if name in ("slip", "relay") and status == 3 and output:
+        return "an output of a refused capture"
+    if name in ("slip", "relay") and status < 3 and size_of(output) != len(output):
+        return "a capture of a wrong size"
+    if name in ("slip", "relay") and status < 3 and output[3:4] != (b"2" if name == "slip" else b"1"):
+        return "a capture of another version"
+    if name == "recover biphase":
+        return "a stream without its first block, or of a wrong size" if len(output) % 16 or output[:1] not in (b"", b"\x17") else None
     lines = output.split(b"\n")
-    if name.startswith("recover"):
+    if name.startswith(("recover", "read")):
         if output and lines[-1] != b"":
             return "a last line without a line feed"
         if (status in (0, 1)) != (lines[-2:] == [b"end", b""]):
             return "a wrong last line"
-        if name == "recover link" and status in (0, 1) and (status == 1) != any(it.startswith(b"! ") for it in lines):
+        if name in ("recover link", "recover track", "recover dvi") and status in (0, 1) and (status == 1) != any(it.startswith(b"! ") for it in lines):
             return "fault lines that do not fit the status"
     if name == "check":
         last = {0: [b"clean", b""], 1: [b"faulty", b""]}.get(status)

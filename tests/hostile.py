@@ -1,14 +1,15 @@
 #!/usr/bin/env python3
 """Runs the built program over inputs and devices that are made to harm it: headers that promise too much, captures that end
-at each byte, lanes of nothing but noise, listings past each limit, closed and full devices, little memory, a reader that
-goes away.
+at each byte, lanes of nothing but noise, lanes full of slips, bytes that are nearly subframes, listings past each limit, closed
+and full devices, little memory, a reader that goes away.
 
     tests/hostile.py [--program PROGRAM] [TABLE ..]
 
 PROGRAM is crates/hdmi_cli/out/hdmi_cli by default, which `rt ci` and `./vabgrot` build; the tables are those that --help
-lists, all but `long` where none is named. Expected values are those of docs/FORMATS.md, and, where a comment says so, of an
-independent model of it. The last line is 'N passed, M failed'; the status is 1 where a case failed."""
+lists, all but `long` where none is named. Expected values are those of docs/FORMATS.md, of the small models of it in tests/model.py, and,
+where a comment says so, of another independent model of it. The last line is 'N passed, M failed'; the status is 1 where a case failed."""
 import argparse
+import functools
 import hashlib
 import itertools
 import os
@@ -19,10 +20,15 @@ import tempfile
 import threading
 import time
 
+import model
+from model import BLOCK, CONTROL
 from program import LISTING, TOP, run
 
-BLOCK = 4096
 READERS = (["recover", "link"], ["recover", "content"], ["check"], ["damage", "0:0:354"])
+FURTHER = (["recover", "track"], ["recover", "dvi"], ["recover", "biphase", "0"], ["relay"])
+SLIP = ["slip", "0:0:1"]
+KNOWN = (["make", "link"], ["make", "content"], *READERS)  # little room for the others is tried half as often
+SILENT = ("make", "slip", "relay")  # they read all before they write
 ISLAND = b"""c 00 4
 c 14 8
 i 00
@@ -35,7 +41,9 @@ c 00 12
 end
 """
 CONTENT = b"mode 2 4 30 14 1 1 1 1 0\nacr 6144 27000\ns 000001 fffffe 1 2 1 0\nrow 0102030405ff\nframe 2 1\nend\n"
-CONTROL = (0x354, 0x0AB, 0x154, 0x2AB)
+SOUND = ISLAND.replace(b"82020d 66000800010000 00000000000000", b"020310 56341200000000 00000001000000")
+DVI = b"c 00 12\nv ff0000\nc 00 12\nend\n"
+SLIPPED = b"c 00 4\nc 04 8\nv " + b"000000" * 30 + b"\nc 00 24\nc 04 8\nv ff0000\nc 00 12\nend\n"
 
 # What is between control columns, and for `recover link`, `recover content` and `check` the status, the number of bytes and
 # the first digits of the SHA-256 of what must be written.
@@ -87,8 +95,9 @@ def headers(program):
     for header, places in ((b"TMC1" + b"\xff" * 4, [4294967285] * 3), (b"TMC2" + b"\xff" * 12, [4294967285] * 3),
                            (b"TMC2\0\0\0\0\xff\xff\xff\xff\0\0\0\x0a", [None, 4294967285, 0])):
         note = b"input: short %d\n" % len(header)
-        for words in READERS[:3]:
+        for words in (*READERS[:3], *FURTHER):
             yield f"{words} of {header}", run(program, words, header), (3, b"", note)
+        yield from slip_headers(program, header, places, note)
         for lane, last in enumerate(places):
             if last is not None:
                 yield f"damage {lane}:{last} of {header}", run(program, ["damage", f"{lane}:{last}:3ff"], header), (3, header, note)
@@ -97,26 +106,38 @@ def headers(program):
                 yield f"damage {lane}:{place} of {header}", came, (3, b"", b"input: place 0\n")
 
 
+def slip_headers(program, header, places, note):
+    """The last bits of each lane that may be left out, the first that may not, and the greatest place."""
+    for lane, last in enumerate(places):
+        bits = 0 if last is None else last + 10
+        for place, drop in ((bits - 1, 1), (bits - 9, 9), (bits, 1), (bits - 8, 9), (4294967295, 9)):
+            if place >= 0:
+                wanted = note if place + drop <= bits else b"input: place 0\n"
+                word = f"{lane}:{place}:{drop}"
+                yield f"slip {word} of {header}", run(program, ["slip", word], header), (3, b"", wanted)
+
+
 def prefixes(program):
     """Captures that end too early: each prefix of that of one red pixel, and some of one of three blocks."""
     red = run(program, ["make", "link"], LISTING)[1]
     yield "a capture of one red pixel", len(red), 110
     for size in range(110):
         note = b"input: short %d\n" % size
-        for words in READERS[:3]:
+        for words in (*READERS[:3], *FURTHER, SLIP):
             yield f"{words} of {size} bytes", run(program, words, red[:size]), (3, b"", note)
         came = run(program, READERS[3], red[:size])
         yield f"damage of {size} bytes", came, (3, red[:8] if size >= 8 else b"", note)
     long = run(program, ["make", "link", "--offset", "5"], LISTING[:-4] + (LISTING[:-4] * 200) + b"c 00 4000\nend\n")[1]
     yield "a capture of three blocks", (len(long) - 8) // (3 * BLOCK), 2
-    whole = {words[-1]: run(program, words, long)[1] for words in READERS}
+    whole = {" ".join(words): run(program, words, long)[1] for words in (*READERS, *FURTHER, SLIP)}
     for size in [*range(8, len(long), 1499), len(long) - 1]:
         blocks = (size - 8) // (3 * BLOCK)
-        for words in READERS:
+        for words in (*READERS, *FURTHER, SLIP):
             status, output, notes = run(program, words, long[:size])
             name = f"{words} of {size} of {len(long)} bytes"
             yield name, (status, notes), (3, b"input: short %d\n" % size)
-            yield name, whole[words[-1]].startswith(output) and not output.endswith((b"end\n", b"clean\n", b"faulty\n")), True
+            is_part = whole[" ".join(words)].startswith(output) and not output.endswith((b"end\n", b"clean\n", b"faulty\n"))
+            yield name, output == b"" if words[0] in SILENT else is_part, True
             if words[0] == "damage":
                 yield name, len(output), 8 + 3 * BLOCK * blocks
 
@@ -132,9 +153,11 @@ def lanes(program):
         tables.append((f"0x{word:03x} in its ten turns", [sent([turned(word, by) for by in range(10)], BLOCK)] * 3))
     for name, rows in tables:
         data = lanes_of(rows)
-        for words in READERS[:3]:
+        for words in (*READERS[:3], *FURTHER):
             yield f"{words} of lanes of {name}", run(program, words, data), (7, b"", b"no alignment\n")
         yield f"damage of lanes of {name}", run(program, ["damage", "2:32758:3ff"], data)[::2], (0, b"")
+        slipped = model.capture_of(2, model.slipped(model.lanes_in(data), 2, 32759, 9))
+        yield f"slip of lanes of {name}", run(program, ["slip", "2:32759:9"], data), (0, slipped, b"")
 
 
 def heard(program):
@@ -158,13 +181,195 @@ def heard(program):
             status, output, notes = run(program, words, data)
             came = f"{status} {len(output)} {hashlib.sha256(output).hexdigest()[:8]}"
             yield f"{words} of {name}", (came, notes), (want, b"no alignment\n" if status == 7 else b"")
+        yield from further(program, name, data)
+
+
+def further(program, name, data):
+    """The commands that hear a capture in another way, by small models and by what `recover link` writes. What is relayed
+    is clean, and a relay of it is the same again but for the columns before the last twelve of its first control period."""
+    link = functools.partial(linked, program)
+    lanes = model.lanes_in(data)
+    status, listing = link(lanes)
+    columns = model.aligned(lanes)
+    yield f"recover track of {name}", run(program, FURTHER[0], data)[:2], model.tracked(lanes, link)
+    yield f"recover dvi of {name}", run(program, FURTHER[1], data)[:2], model.dvi_text(columns) if columns else (7, b"")
+    for pair in range(4):
+        wanted = model.biphase_of(listing, pair) if columns else (7, b"")
+        yield f"recover biphase {pair} of {name}", run(program, ["recover", "biphase", str(pair)], data)[:2], wanted
+    once = run(program, FURTHER[3], data)[:2]
+    wanted = (status, run(program, ["make", "link"], model.relayed(listing))[1]) if columns else (7, b"")
+    yield f"relay of {name}", once, wanted
+    if not columns:
+        return
+    is_quiet = model.aligned(model.lanes_in(once[1])) is None
+    yield f"check of a relay of {name}", run(program, ["check"], once[1])[:2], (7, b"") if is_quiet else (0, b"clean\n")
+    twice = run(program, FURTHER[3], once[1])
+    kept = 10 * len(model.aligned(model.lanes_in(once[1])) or ())
+    rows = [bits[len(bits) - kept :] for bits in model.lanes_in(once[1])]
+    yield f"relay of a relay of {name}", twice[:2], (7, b"") if is_quiet else (0, model.capture_of(1, rows))
+    if not is_quiet:
+        yield f"relay of relays of {name}", run(program, FURTHER[3], twice[1]), twice
+
+
+def linked(program, lanes):
+    """The status and the output of `recover link` of some bits. It is not asked where there is no full alignment."""
+    return run(program, ["recover", "link"], model.capture_of(2, lanes))[:2] if model.aligned(lanes) else (7, b"")
+
+
+def slips(program):
+    """A slip at each place of two small captures, of each length; and what is tracked behind it."""
+    red = run(program, ["make", "link"], LISTING)[1]
+    worn = run(program, ["make", "link", "--version", "2", "--skew", "0,70,35"], SLIPPED)[1]
+    for data in (red, worn):
+        lanes = model.lanes_in(data)
+        for place in range(max(map(len, lanes)) + 2):
+            for drop in range(1 + place % 2, 10, 2) if data == red else [1 + place % 9]:
+                lane = (place + drop) % 3
+                fits = place + drop <= len(lanes[lane])
+                wanted = (3, b"", b"input: place 0\n")
+                if fits:
+                    wanted = (0, model.capture_of(2, model.slipped(lanes, lane, place, drop)), b"")
+                yield f"slip {lane}:{place}:{drop}", run(program, ["slip", f"{lane}:{place}:{drop}"], data), wanted
+    yield from tracks(program, model.lanes_in(worn))
+    yield from worn_out(program)
+
+
+def tracks(program, lanes):
+    """What is tracked behind a slip at each place, and in lanes that slip every 130 bits, in each length, alone and all."""
+    once = functools.cache(lambda *bits: linked(program, bits))
+    for place in range(len(lanes[0])):
+        lane, drop = place % 3, 1 + place % 9
+        bits = model.slipped(lanes, lane, place, drop)
+        came, wanted = run(program, FURTHER[0], model.capture_of(2, bits))[:2], model.tracked(bits, lambda it: once(*it))
+        yield f"recover track of a slip {lane}:{place}:{drop}", came, wanted
+    quiet = b"c 00 40\nc 04 8\nv ff0000\n"
+    for text in (quiet * 8, quiet.replace(b"40", b"4") * 30, quiet.replace(b"40", b"200") * 2):
+        lanes = model.lanes_in(run(program, ["make", "link"], text + b"c 00 40\nend\n")[1])
+        for drop, hit in itertools.product(range(1, 10), ([0], [1], [2], [0, 1, 2])):
+            bits = lanes
+            for lane in hit:
+                for place in range(len(lanes[lane]) // 130 * 130, 100, -130):
+                    bits = model.slipped(bits, lane, place + 10 * lane * (drop % 3), drop)
+            came, wanted = run(program, FURTHER[0], model.capture_of(2, bits))[:2], model.tracked(bits, lambda it: once(*it))
+            yield f"recover track of {len(lanes[0])} bits with slips of {drop} on {hit}", came, wanted
+
+
+def worn_out(program):
+    """Lanes of 6,500 control characters that slip every 130 bits behind a good start: an epoch each."""
+    start = model.lanes_in(run(program, ["make", "link"], LISTING)[1])
+    quiet = model.sent_bits([0x354] * 13)
+    for hit in ([0], [1], [2], [0, 1, 2]):
+        bits = [row + "".join(quiet[(lane in hit) * (at % 9 + 1) :] for at in range(500)) for lane, row in enumerate(start)]
+        data = model.capture_of(2, bits)
+        before = resource.getrusage(resource.RUSAGE_CHILDREN)
+        came = run(program, FURTHER[0], data)
+        after = resource.getrusage(resource.RUSAGE_CHILDREN)
+        took = after.ru_utime + after.ru_stime - before.ru_utime - before.ru_stime
+        wanted = model.tracked(bits, functools.partial(linked, program))
+        yield f"recover track of 500 slips on {hit}", came, (*wanted, b"")
+        yield f"the time of it, {took:.1f} s of a core", took < 5, True
+
+
+def streams(program):
+    """Biphase streams that end too early, that have one wrong bit, and bytes that are nearly subframes."""
+    words = ["read", "biphase"]
+    samples = [(0x123456, 0, 0, 0, 1), (0xFFFFFF, 0x800000, 7, 1, 0), (0, 1, 2, 4, 0)]
+    three = b"".join(map(model.frame, samples))
+    for size in range(len(three) + 1):
+        yield f"{words} of {size} bytes", run(program, words, three[:size]), model.biphase_text(three[:size])
+    for bit in range(8 * len(three)):
+        hurt = bytearray(three)
+        hurt[bit // 8] ^= 1 << bit % 8
+        yield f"{words} with another bit {bit}", run(program, words, bytes(hurt)), model.biphase_text(bytes(hurt))
+    for name, data in nearly(three):
+        yield f"{words} of {name}", run(program, words, data), model.biphase_text(data)
+    for count in (191, 192, 193, 383, 384, 577):
+        for every in (192, 191, 193, 1, 10_000):
+            block = [(at, 5 * at, at % 8, at // 3 % 8, int(at % every == 0)) for at in range(count)]
+            data = b"".join(map(model.frame, block))
+            yield f"{words} of {count} frames, a start every {every}", run(program, words, data), model.biphase_text(data)
+
+
+def nearly(three):
+    """Bytes that are nearly biphase streams."""
+    left, right = three[:8], three[8:16]
+    turned = bytes(byte ^ 0xFF for byte in three)
+    yield "the other level", turned
+    yield "one turned subframe", left + turned[8:16]
+    yield "its bits in the other order", bytes(int(format(byte, "08b")[::-1], 2) for byte in three)
+    yield "its bytes in the other order", b"".join(three[at : at + 8][::-1] for at in range(0, len(three), 8))
+    marked = {"W first": "WM", "B twice": "BB", "M twice": "MM", "W twice": "WW", "M first": "MW", "B and M": "BM"}
+    for name, marks in marked.items():
+        yield name, b"".join(model.subframe(mark, 7, 0) for mark in marks) + three
+        yield name + " as the second", three + b"".join(model.subframe(mark, 7, 0) for mark in marks)
+    for byte in (0x00, 0xFF, 0x55, 0xAA, 0x33, 0xCC, 0x17, 0x47, 0x27):
+        yield f"{byte:02x} over and over", bytes([byte]) * 64
+        for mark in (0x17, 0x47, 0x27):
+            yield f"{mark:02x} and {byte:02x}", bytes([mark]) + bytes([byte]) * 7 + right
+    for mark in range(256):
+        yield f"the mark {mark:02x}", bytes([mark]) + left[1:] + right
+    yield "a frame and a half", three[:24]
+    yield "three halves of frames and one byte", three[:24] + b"\x47"
+    yield "a wrong subframe before a short end", three[:8] + bytes(8) + three[:3]
+    yield "one bit too early", (int.from_bytes(three, "little") >> 1).to_bytes(len(three), "little")
+    yield "two half cells too late", (int.from_bytes(three, "little") << 2).to_bytes(len(three) + 1, "little")
+
+
+def relays(program):
+    """Islands of nineteen packets and more, packets that are lost, captures whose relay is far longer, and relays of them."""
+    text = ISLAND.replace(b"00000000\ne 00", b"00000000\n" + ISLAND.split(b"\n")[3] + b"\ne 00")
+    data = run(program, ["make", "link"], text)[1]
+    lanes = model.lanes_in(data)
+    for count in (1, 2, 17, 18, 19, 20, 37):
+        bits = [row[: 10 * 14] + (row[140:460] if count else "") + row[460:780] * (count - 1) + row[780:] for row in lanes]
+        status, listing = linked(program, bits)
+        islands = text.replace(text.split(b"\n")[3] + b"\n", b"")
+        islands = islands.replace(b"i 00\n", b"i 00\n" + (text.split(b"\n")[3] + b"\n") * min(count, 18))
+        wanted = (int(count > 18), run(program, ["make", "link"], islands)[1], b"")
+        came, is_long = (status, listing.count(b"\np "), listing.count(b"! longisland")), int(count > 18)
+        yield f"packets of an island of {count}", came, (is_long, count, is_long)
+        yield f"relay of an island of {count} packets", run(program, FURTHER[3], model.capture_of(1, bits)), wanted
+        yield from further(program, f"an island of {count} packets", model.capture_of(1, bits))
+    for place in range(0, 10 * 82, 30):
+        hits = [f"{lane}:{at}:{value}" for at, value in ((place, "2aa"), (place + 50, "0ab")) for lane in range(3)]
+        hurt = run(program, ["damage", *hits[: 1 + place // 30 % 6]], data)[1]
+        yield from further(program, f"an island with damage from {place} on", hurt)
+    yield from grown(program)
+
+
+PIXEL = [0x354, 0x2CC, 0x2CC, 0x100], [0x354, 0x133, 0x133, 0x100], [0x354, 0x2CC, 0x2CC, 0x200]
+OPENING = [[0x354] * 5 + [row] * 8 for row in (0x354, 0x0AB, 0x354)]
+
+
+def grown(program):
+    """Lines of one pixel behind one control column each: a relay has eleven columns more for each, which pass the limit."""
+    count = 1_333_332
+    for quiet in (20, 24):
+        rows = [packed(first + row[1:]) + packed(row) * (count - 1) + packed([0x354] * quiet) for first, row in zip(OPENING, PIXEL)]
+        status, output, notes = run(program, FURTHER[3], lanes_of(rows))
+        columns = 15 * count + quiet
+        wanted = (1, 8 + 3 * (10 * columns // 8), b"") if columns <= 20_000_000 else (3, 0, b"input: long\n")
+        yield f"relay of {count} lines of a pixel", (status, len(output), notes), wanted
+
+
+def growing():
+    """The pieces of a capture of 1 GB that is like that."""
+    yield b"TMC1" + (8 * 333_000_000).to_bytes(4, "big")
+    body = lanes_of([packed(row) * BLOCK for row in PIXEL])[8:]
+    yield lanes_of([packed(first + row[1:]) + packed(row) * (BLOCK - 4) for first, row in zip(OPENING, PIXEL)])[8:]
+    yield from itertools.repeat(body, 5400)
+
+
+def packed(words):
+    """The bytes of characters of which four take five bytes."""
+    return sent(words, len(words) * 10 // 8)
 
 
 def listings(program):
     """Listings and contents past each limit."""
-    link, content = ["make", "link"], ["make", "content"]
+    link, content, dvi = ["make", "link"], ["make", "content"], ["make", "dvi"]
     longest = b"v " + b"0" * 32766
-    for words in (link, content):
+    for words in (link, content, dvi):
         for text, note in (
             (longest, "1 form" if words == content else "1 range"),
             (longest + b"0", "1 form"),
@@ -189,8 +394,39 @@ def listings(program):
         (b"c 00 99999999999\n", "1 form"),
     ):
         yield f"make link of {text[:30]}", run(program, link, text), (3, b"", f"input: line {note}\n".encode())
+    for text, note in odd_lines():
+        yield f"make dvi of {text[-40:]}", run(program, dvi, text), (3, b"", f"input: line {note}\n".encode())
+    most = b"c 3F 12\nv " + b"aB" * 3 * 4096 + b"\nc 00 0000000012\nc 01 1\nend\n"
+    yield "make dvi of a line of 4,096 pixels", len(run(program, dvi, most)[1]), 8 + 3 * (10 * (12 + 4096 + 13) // 8 + 1)
     for text, note in crowded():
         yield f"make content, {note}", run(program, content, text), (3, b"", f"input: {note}\n".encode())
+
+
+def odd_lines():
+    """Listings that are none of a stream without guard bands."""
+    quiet = b"c 00 12\n"
+    for line in (b"i 00", b"e 00", b"p 000000 00000000000000", ISLAND.split(b"\n")[3], b"v", b"V 000000", b"v 00000", b"v 0000000",
+                 b"v  000000", b"c 0 12", b"c 00 12 ", b" c 00 12", b"c 00  12", b"c 00 12\r", b"c 00 12\0", b"c +0 12", b"c 00 -1",
+                 b"c 00 00000000012", b"v 0000g0", b"row 000000", b"end ", b"End", b"", b"\xff", b"cut", b"!"):
+        yield quiet + line + b"\nend\n", "2 form"
+        yield quiet + line, "2 unended" if not line else "2 form"
+    for line, cause in ((b"! noise 12", "fault"), (b"! ", "fault"), (b"cut 12", "fault"), (b"cut ", "fault"), (b"c 40 1", "range"),
+                        (b"c 00 0", "range"), (b"c 00 20000001", "range"), (b"v ", "range"), (b"v " + b"000000" * 4097, "range"),
+                        (b"end", "unended")):
+        yield quiet + line, f"2 {cause}"
+    yield b"v 000000\n", "1 order"
+    yield b"end\n", "1 order"
+    yield quiet + b"v 000000\nv 000000\n", "3 order"
+    yield quiet + b"v 000000\nend\n", "3 order"
+    yield b"c 00 11\nv 000000\n", "2 control"
+    yield quiet + b"v 000000\nc 00 11\nend\n", "4 control"
+    yield b"c 00 11\nend\n", "2 control"
+    yield quiet + b"end\nc", "3 after"
+    yield quiet + b"end\n\n", "3 after"
+    yield quiet, "2 unended"
+    yield b"c 00 19999988\nv 000000\nc 00 12\nend\n", "3 long"
+    yield b"c 00 20000000\nv 000000\n", "2 long"
+    yield b"c 00 19995905\nv " + b"000000" * 4096 + b"\n", "2 long"
 
 
 def crowded():
@@ -219,21 +455,29 @@ def sources(program):
     capture = run(program, ["make", "link"], ISLAND)[1]
     yield ["make", "link"], ISLAND
     yield ["make", "content"], CONTENT
+    yield ["make", "dvi"], DVI
     for words in READERS:
         yield words, capture
+    worn = run(program, ["make", "link"], SLIPPED)[1]
+    yield ["slip", "2:300:3"], worn
+    yield ["recover", "track"], run(program, ["slip", "2:300:3"], worn)[1]
+    yield ["recover", "dvi"], run(program, ["make", "dvi"], DVI)[1]
+    yield ["recover", "biphase", "0"], run(program, ["make", "link"], SOUND)[1]
+    yield ["read", "biphase"], model.frame((0x123456, 0, 0, 0, 1)) + model.frame((0, 1, 2, 3, 0))
+    yield ["relay"], capture
 
 
 def devices(program):
     """Inputs that cannot be read, outputs that cannot be written, notes that nobody takes."""
     for words, source in sources(program):
         status, output, notes = run(program, words, source)
-        yield f"{words}", (status, notes), (0, b"")
+        yield f"{words}", (status, notes), (int(words[-1] == "track"), b"")
         folder = os.open(TOP, os.O_RDONLY)
         yield f"{words} of a folder", run(program, words, stdin=folder), (4, b"", b"read failed\n")
         os.close(folder)
         yield f"{words} of a closed input", closed(program, words, b"", 0), (4, b"", b"read failed\n")
         yield f"{words} to a closed output", closed(program, words, source, 1), (5, b"", b"write failed\n")
-        yield f"{words} with closed notes", closed(program, words, source, 2), (0, output, b"")
+        yield f"{words} with closed notes", closed(program, words, source, 2), (status, output, b"")
         yield f"{words}, refused, with closed notes", closed(program, words, b"x", 2), (3, b"", b"")
         yield f"{words} with all closed", closed(program, words, b"", 0, 1, 2), (4, b"", b"")
         with open("/dev/full", "wb") as full:
@@ -273,13 +517,29 @@ def frames(rows, count):
     return b"mode 400 4 30 14 %d 1 1 1 0\n" % rows + frame * count + b"end\n"
 
 
+def noisy(program):
+    """A capture of 7,200 samples."""
+    island = b"c 00 4\nc 14 8\n" + b"".join(SOUND.split(b"c 14 8\n")[1].partition(b"e 00\n")[:2])
+    island = island.replace(b"020310 56341200000000 00000001000000", b"020f10" + b" 56341200000000" * 2)
+    return run(program, ["make", "link"], island * 1800 + b"c 00 12\nend\n")[1]
+
+
+def loud(size):
+    """The pieces of a biphase stream of so many bytes at least: 4,096 blocks of 192 frames over and over."""
+    block = b"".join(model.frame((65_536 - at, 16_777_215 - at, at % 8, at // 8 % 8, int(at == 0))) for at in range(192))
+    for _ in range(max(1, -(-size // (64 * len(block))))):
+        yield block * 64
+
+
 def full(program):
     """A disk of 64 KiB, where one can be mounted."""
     hurt = busy(program)
     content = frames(60, 2)
     pictures = run(program, ["make", "content"], content)[1]
     cases = [(["make", "link"], b"c 00 60000\nend\n"), (["make", "content"], content), (["recover", "link"], hurt),
-             (["recover", "content"], pictures), (["check"], hurt), (["damage", "0:0:354"], hurt)]
+             (["recover", "content"], pictures), (["check"], hurt), (["damage", "0:0:354"], hurt), (SLIP, hurt), (["relay"], hurt)]
+    cases += [(["recover", "track"], hurt), (["make", "dvi"], b"c 00 60000\nend\n"), (["recover", "dvi"], hurt)]
+    cases += [(["recover", "biphase", "0"], noisy(program)), (["read", "biphase"], loud(0).__next__())]
     with tempfile.TemporaryDirectory() as folder:
         mounted = subprocess.run(["mount", "-t", "tmpfs", "-o", "size=64k", "none", folder], capture_output=True).returncode == 0
         if not mounted:
@@ -348,23 +608,39 @@ def through(program, words, pieces, taken):
 
 def pipes(program):
     """A capture of 1 GB that is never stored, and readers that go away."""
-    for words in READERS[:2] + READERS[3:]:
+    for words in READERS[:2] + READERS[3:] + FURTHER[:2]:
         status, notes, gone, came, _ = through(program, words, endless(program, 1_000_000_000), 1)
         yield f"{words} of 1 GB to a reader of one byte", (status, notes, came), (5, b"write failed\n", 1)
         yield f"{words} stops soon", gone < 20_000_000, True
     hurt = busy(program)
     yield "check to a reader of one byte", through(program, ["check"], [hurt], 1)[:2], (5, b"write failed\n")
-    for words, source in ((["make", "link"], b"c 00 1000000\nend\n"), (["make", "content"], frames(60, 9))):
+    long = b"c 00 1000000\nend\n"
+    for words, source in ((["make", "link"], long), (["make", "content"], frames(60, 9)), (["make", "dvi"], long), (["relay"], hurt),
+                          (SLIP, hurt), (["recover", "biphase", "0"], noisy(program))):
         yield f"{words} to a reader of one byte", through(program, words, [source], 1)[:2], (5, b"write failed\n")
-    for words in (["make", "link"], ["make", "content"], *READERS):
-        note = b"input: line 1 form\n" if words[0] == "make" else b"input: magic 0\n"
+    yield from streamed(program)
+    for words in (["make", "link"], ["make", "content"], ["make", "dvi"], ["read", "biphase"], *READERS, *FURTHER, SLIP):
+        note = b"input: %s\n" % {"make": b"line 1 form", "read": b"subframe 0"}.get(words[0], b"magic 0")
         came = through(program, words, itertools.repeat(bytes(65_536)), None)
         yield f"{words} of NUL bytes without end", (*came[:2], came[3]), (3, note, 0)
-    came = through(program, ["make", "link"], itertools.repeat(b"c 00 1\n" * 10_000), None)
-    yield "make link of control columns without end", (*came[:2], came[3]), (3, b"input: line 20000001 long\n", 0)
+    for words in (["make", "link"], ["make", "dvi"]):
+        came = through(program, words, itertools.repeat(b"c 00 1\n" * 10_000), None)
+        yield f"{words} of control columns without end", (*came[:2], came[3]), (3, b"input: line 20000001 long\n", 0)
     script = '"$0" recover link | head -c 1 | od -An -c; echo "${PIPESTATUS[0]}"'
     shell = subprocess.run(["bash", "-c", script, program], input=hurt, capture_output=True, timeout=60)
     yield "recover link | head -c 1", (shell.stdout.split(), shell.stderr), ([b"c", b"5"], b"write failed\n")
+
+
+def streamed(program):
+    """Biphase streams through a pipe, and a relay of a capture whose columns pass the limit long before its end."""
+    status, notes, gone, came, _ = through(program, ["read", "biphase"], loud(10**9), 1)
+    yield "read biphase of 1 GB to a reader of one byte", (status, notes, came, gone < 20_000_000), (5, b"write failed\n", 1, True)
+    status, notes, gone, came, peak = through(program, ["read", "biphase"], loud(24_000_000), None)
+    frames, blocks = gone // 16, gone // 16 // 192
+    yield "read biphase of 1,500,000 frames", (status, notes, came), (0, b"", 24 * frames + 104 * blocks + 4)
+    yield f"memory of it: {peak} KiB", peak < 4000, True
+    status, notes, gone, came, _ = through(program, ["relay"], growing(), None)
+    yield "relay of 1 GB", (status, notes, came, gone < 25_000_000), (3, b"input: long\n", 0, True)
 
 
 def long(program):
@@ -384,9 +660,10 @@ LOADER = (b"while loading", b"cannot allocate TLS data structures")
 def memory(program):
     """Little room for the process: want of memory, or of threads, and nothing else."""
     large = [(["make", "link"], b"c 00 600000\nend\n"), (["make", "content"], frames(60, 4))]
-    large += [(words, run(program, *large[0])[1]) for words in READERS]
+    large += [(words, run(program, *large[0])[1]) for words in (*READERS, SLIP)]
+    large += [(["make", "dvi"], large[0][1]), (["relay"], busy(program)), (["recover", "track"], busy(program))]
     for words, source in [*sources(program), *large]:
-        whole, rooms = run(program, words, source), range(2200, 9000, 100)
+        whole, rooms = run(program, words, source), range(2200, 9000, 100 if words in KNOWN else 200)
         for room in rooms if len(source) < 1000 else rooms[::4]:
             came = in_room(program, words, source, room)
             loader = came[:2] == (127, b"") and any(text in came[2] for text in LOADER)
@@ -405,7 +682,7 @@ def in_room(program, words, source, room):
 
 
 def main(arguments):
-    every = (headers, prefixes, lanes, heard, listings, longest, devices, full, pipes, memory, long)
+    every = (headers, prefixes, lanes, heard, slips, streams, relays, listings, longest, devices, full, pipes, memory, long)
     tables = {table.__name__: table for table in every}
     reader = argparse.ArgumentParser(description=__doc__, formatter_class=argparse.RawDescriptionHelpFormatter)
     reader.add_argument("--program", default=f"{TOP}/crates/hdmi_cli/out/hdmi_cli")

@@ -54,6 +54,85 @@ def wide(program):
     yield "a longer content", run(program, ["make", "content"], longer), (3, b"", b"input: long\n")
 
 
+def slipped(program):
+    """A listing is made, loses three bits of lane 2, and is tracked; one without a slip is heard as `recover link` hears it."""
+    listing = b"c 00 4\nc 04 8\nv " + b"000000" * 30 + b"\nc 00 24\nc 04 8\nv ff0000\nc 00 12\nend\n"
+    made = run(program, ["make", "link"], listing)[1]
+    hurt = run(program, ["slip", "2:300:3"], made)
+    yield "slip", (hurt[0], hurt[1][:16].hex(), hurt[2]), (0, "544d4332" + 2 * "0000038e" + "0000038b", b"")
+    tracked = b"c 00 4\nc 04 8\ncut 14\n! slip 2 437\n" + LISTING
+    yield "recover track", run(program, ["recover", "track"], hurt[1]), (1, tracked, b"")
+    yield "recover track without a slip", run(program, ["recover", "track"], made), (0, listing, b"")
+    yield "a slip past the end", run(program, ["slip", "2:908:3"], made), (3, b"", b"input: place 0\n")
+    yield "a slip at the end", run(program, ["slip", "2:907:3"], made)[0], 0
+    yield "recover track of nothing to align", run(program, ["recover", "track"], b"TMC1\0\0\0\0"), (7, b"", b"no alignment\n")
+    for word in ("2:300:0", "2:300:10", "3:300:3", "2:300", "2:300:3:1"):
+        yield f"slip {word}", run(program, ["slip", word], made), (2, b"", USAGE)
+
+
+def sound(program):
+    """Samples are made into a capture, written as a biphase stream, and read again; a lost packet is left out."""
+    samples = b"".join(b"s %06x %06x %d %d %d 0\n" % (77 * at, 16_777_215 - at, at % 8, at // 8 % 8, int(at % 192 == 0)) for at in range(400))
+    mode = b"mode 2 8 3600 64 1 2 2 4 0\n"
+    capture = run(program, ["make", "content"], mode + samples + b"row 0102030405ff\nframe 2 1\nend\n")[1]
+    status, stream, notes = run(program, ["recover", "biphase", "0"], capture)
+    yield "recover biphase", (status, len(stream), stream[:1], notes), (0, 16 * 400, b"\x17", b"")
+    read = run(program, ["read", "biphase"], stream)
+    lines = read[1].splitlines(True)
+    yield "read biphase", (read[0], b"".join(line for line in lines if line[:2] == b"s "), read[2]), (0, samples, b"")
+    yield "its blocks", [at for at, line in enumerate(lines) if line[:6] == b"block "], [192, 385]
+    yield "another pair", run(program, ["recover", "biphase", "1"], capture), (0, b"", b"")
+    # The first packet lies from column 14 on; two characters are hit so that a block is lost.
+    status, left, notes = run(program, ["recover", "biphase", "0"], run(program, ["damage", "1:150:354", "1:170:354"], capture)[1])
+    wanted = stream[16 * 192 :]  # the start of the first block is lost with the packet
+    yield "recover biphase with a lost packet", (status, left == wanted, notes), (1, True, b"")
+    one = bytes.fromhex("172b2dd3ca34cd4c2733333333333333")
+    yield "read biphase of a frame", run(program, ["read", "biphase"], one), (0, b"s 123456 000000 0 0 1 0\nend\n", b"")
+    yield "read biphase of a wrong one", run(program, ["read", "biphase"], one[:7] + b"\x4d" + one[8:]), (3, b"", b"input: subframe 0\n")
+    yield "read biphase of a short one", run(program, ["read", "biphase"], one[:15]), (3, b"", b"input: short 15\n")
+    yield "read biphase of nothing", run(program, ["read", "biphase"]), (0, b"end\n", b"")
+    for words in (["recover", "biphase"], ["recover", "biphase", "4"], ["recover", "biphase", "00"], ["read"], ["read", "biphase", "0"]):
+        yield f"usage {words!r}", run(program, words, capture), (2, b"", USAGE)
+
+
+def relayed(program):
+    """A damaged packet is mended and a lost one becomes the Null packet; runs alone, and a listing of one control period."""
+    packet = b"p 82020d 66000800010000 00000000000000 00000000000000 00000000000000 " + b"0" * 32 + b"\n"
+    island = b"c 00 4\nc 14 8\ni 00\n" + packet + b"e 00\n" + LISTING
+    clean = run(program, ["make", "link"], island)[1]
+    yield "relay of a clean capture", run(program, ["relay"], clean), (0, clean, b"")
+    tap = ["--offset", "7", "--skew", "0,70,35", "--version", "2"]
+    far = run(program, ["make", "link", *tap], b"c 00 9\n" + island)[1]
+    yield "relay of a clean capture with a tap", run(program, ["relay"], far)[::2], (0, b"")
+    once = run(program, ["damage", "2:140:133"], clean)[1]
+    yield "relay of a mended packet", run(program, ["relay"], once), (1, clean, b"")
+    null = island.replace(packet, b"p 000000" + b" 00000000000000" * 4 + b" " + b"0" * 32 + b"\n")
+    lost = run(program, ["damage", "1:150:354", "1:170:354"], clean)[1]
+    yield "relay of a lost packet", run(program, ["relay"], lost), (1, run(program, ["make", "link"], null)[1], b"")
+    twice = run(program, ["relay"], run(program, ["relay"], lost)[1])
+    yield "relay of a relay", twice, (0, run(program, ["make", "link"], null)[1], b"")
+    yield "relay of nothing to align", run(program, ["relay"], b"TMC1\0\0\0\0"), (7, b"", b"no alignment\n")
+    yield "relay of a short capture", run(program, ["relay"], clean[:-1]), (3, b"", b"input: short %d\n" % (len(clean) - 1))
+
+
+def dvi(program):
+    """Streams without guard bands, there and back."""
+    listing = b"c 00 12\nv ff0000\nc 00 12\nend\n"
+    status, made, notes = run(program, ["make", "dvi"], listing)
+    yield "make dvi", (status, len(made), made[:8].hex(), notes), (0, 104, "544d4331000000fa", b"")
+    yield "recover dvi", run(program, ["recover", "dvi"], made), (0, listing, b"")
+    heard = b"c 00 12\n! noise 12\nc 00 12\nend\n"
+    yield "recover link of it", run(program, ["recover", "link"], made), (1, heard, b"")
+    hurt = run(program, ["damage", "2:120:300"], made)[1]
+    told = b"c 00 12\nv 010000\n! code 2 12\nc 00 12\nend\n"
+    yield "recover dvi of a damaged pixel", run(program, ["recover", "dvi"], hurt), (1, told, b"")
+    yield "make dvi of an island", run(program, ["make", "dvi"], b"c 00 12\ni 00\n"), (3, b"", b"input: line 2 form\n")
+    wide = b"c 00 24\nv 000000000000000000\nc 00 12\nend\n"
+    tapped = run(program, ["make", "dvi", "--skew", "0,70,35"], wide)[1]
+    back = b"c 00 12\nv 000000000000000000\nc 00 5\nend\n"
+    yield "recover dvi with skews", run(program, ["recover", "dvi"], tapped), (0, back, b"")
+
+
 def cases(program):
     """Each case: its name, what came, and what is wanted."""
     capture = run(program, ["make", "link"], LISTING)[1]
@@ -80,6 +159,10 @@ def cases(program):
     with open("/dev/full", "wb") as full:
         yield "sample to a full device", run(program, ["sample", "2"], stdout=full), (5, None, b"write failed\n")
     yield from wide(program)
+    yield from slipped(program)
+    yield from sound(program)
+    yield from relayed(program)
+    yield from dvi(program)
     yield "no alignment", run(program, ["recover", "link"], b"TMC1\0\0\0\0"), (7, b"", b"no alignment\n")
 
 

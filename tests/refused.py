@@ -6,8 +6,9 @@ each read and each write, the last two also where a call moves one byte or seven
 
 tests/refuse.c, which is built by `cc` and preloaded, refuses them; where there is no `cc`, nothing is tried. Wanted are
 status 6 with nothing written, or the answer of an undisturbed run, where memory is refused; that answer where no thread can
-be made; and status 4 or 5 with its note and a part of that answer where a read or a write fails. The last line is
-'N passed, M failed', its exit status 1 where a case failed."""
+be made; and status 4 or 5 with its note and a part of that answer where a read or a write fails. A command that reads all
+before it writes has written nothing on 4; one that writes while it reads has taken its memory before the first read, so
+it has read nothing on 6. The last line is 'N passed, M failed', its exit status 1 where a case failed."""
 import collections
 import os
 import shutil
@@ -15,7 +16,7 @@ import subprocess
 import sys
 import tempfile
 
-from hostile import sources
+from hostile import SILENT, sources
 from program import TOP
 
 KINDS = ("memory", "read", "write", "thread")
@@ -47,6 +48,11 @@ def is_part(came, whole, status, note):
     return (came[0], came[2]) == (status, note) and whole[1].startswith(came[1])
 
 
+def is_early(it, words, kind):
+    """Whether a run that was refused memory asked for it when it may: before the first read, or where all is read first."""
+    return kind != "memory" or words[0] in SILENT or it.counts()["read"] == 0
+
+
 def of_command(it, words, source, counted):
     """Each case of a command: its name, whether it went well, and what came."""
     whole = it.run(words, source)
@@ -56,7 +62,7 @@ def of_command(it, words, source, counted):
         for kind in ("memory", "thread"):
             for at in range(1, counts[kind] + 1):
                 came = it.run(words, source, kind, at, on)
-                spared = kind == "memory" and came in ((6, b"", b"out of memory\n"), (6, b"", b""))
+                spared = kind == "memory" and came in ((6, b"", b"out of memory\n"), (6, b"", b"")) and is_early(it, words, kind)
                 counted[kind, came[0], came[2]] += 1
                 yield f"{words}, {kind} {at}{' and on' * on}", came == whole or spared, came
     for piece in (1, 7, 0):
@@ -66,7 +72,8 @@ def of_command(it, words, source, counted):
             for at in range(1, counts[kind] + 1):
                 came = it.run(words, source, kind, at, False, piece)
                 counted[kind, came[0], came[2]] += 1
-                yield f"{words} in pieces of {piece}, {kind} {at}", is_part(came, whole, status, note), came
+                silent = kind == "read" and words[0] in SILENT
+                yield f"{words} in pieces of {piece}, {kind} {at}", is_part(came, whole, status, note) and not (silent and came[1]), came
 
 
 def main(arguments):
