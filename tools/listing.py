@@ -12,9 +12,10 @@ STATUSES = "Status: 0 done; {}2 the words are wrong; 3 the input is refused, or 
 MOST_COLUMNS = 20_000_000
 CUSTOM_CLOCK = 25_200_000  # of a mode of one's own, in Hz
 CONTENT = frozenset("vic mode row frame avi audio spd info acr gcp s packet ! cut".split())
+SOUND = CONTENT | {"block"}
 LINK = frozenset("c v i p e ! cut".split())
 EITHER = CONTENT | LINK
-KINDS = {CONTENT: "content listing", LINK: "link listing", EITHER: "listing"}
+KINDS = {CONTENT: "content listing", SOUND: "content listing", LINK: "link listing", EITHER: "listing"}
 
 
 class Refused(Exception):

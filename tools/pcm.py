@@ -109,6 +109,11 @@ def rate_of(n, cycles, clock):
     return next((usual for usual in RATES if abs(rate - usual) <= usual / 500), round(rate))
 
 
+def rate_in(status):
+    """The sampling rate that the 24 bytes of a channel's status name, None where they name no usual one."""
+    return next((usual.hertz for usual in RATES.values() if usual.code == status[3] & 15), None)
+
+
 def channel_status(sound, channel):
     """The 192 bits of a channel's status (IEC 60958-3): consumer use, linear PCM, no copyright, the channel's number,
     the rate, and the bits of a sample."""

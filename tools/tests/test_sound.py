@@ -56,6 +56,22 @@ def test_rates(tool, path, head, words, rate):
     assert heard(path) == (rate, 2, DATA)
 
 
+BLOCK_48000 = b"0" * 4 + b"1002" + b"0" * 40
+
+
+def test_biphase_streams(tool, path):
+    """A listing of a biphase stream has no clock packet; its channel status names the rate, whatever the sides' numbers."""
+    told = b"block " + BLOCK_48000 + b" " + BLOCK_48000.replace(b"1002", b"2002") + b"\n"
+    tool("sound", path, source=SAMPLES + told + b"end\n")
+    assert heard(path) == (48000, 2, DATA)
+    tool("sound", path, "--rate", 32000, source=SAMPLES + told + b"end\n")
+    assert heard(path) == (32000, 2, DATA)
+    tool("sound", path, source=AVI + b"acr 6272 28000\n" + SAMPLES + told + b"end\n")
+    assert heard(path) == (44100, 2, DATA)
+    tool("sound", path, source=SAMPLES + told.replace(b"1002", b"1001") + told + b"end\n")  # code 1 names no rate
+    assert heard(path) == (48000, 2, DATA)
+
+
 def test_faults_are_counted(tool, path):
     faults = b"! parity 14 1 l\n! parity 14 1 r\n! lost 14 0\n! code 2 99\n! symbols 14 1\ncut 99\nend\n"
     came = tool("sound", path, source=AVI + ACR + SAMPLES + faults, status=1)
@@ -74,6 +90,9 @@ def test_faults_are_counted(tool, path):
         (ACR + b"s 1234 000000 0 0 1 0\nend\n", b"six hexadecimal digits"),
         (ACR + b"s 123400 000000\nend\n", b"line 2: it has 2 fields, and 6 are wanted"),
         (AVI + ACR + SAMPLES, b"breaks off after 4 lines"),
+        (SAMPLES + b"end\n", b"no clock packet"),
+        (SAMPLES + b"block 00 00\nend\n", b"line 3"),
+        (SAMPLES + b"block " + b"0" * 48 + b"\nend\n", b"line 3: it has 1 fields, and 2 are wanted"),
         (b"c 00 12\nend\n", b"line 1"),
     ],
 )

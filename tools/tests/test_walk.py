@@ -119,6 +119,53 @@ def test_a_link_listing_has_the_frames_of_the_content_listing(tool, program, sen
     assert unlike(whole, marked).keys() == ring
 
 
+@pytest.mark.parametrize("offset, first", [(0, 0), (OFFSET, 192)])
+def test_sound_comes_back_by_way_of_a_biphase_stream(tool, program, sent, tmp_path, offset, first):
+    """From the first block on that the capture has whole; `content` begins one each 192 samples."""
+    _, paths, _, _ = sent
+    data = random.Random(3).randbytes(6 * 700)
+    with wave.open(str(tmp_path / "a.wav"), "wb") as file:
+        file.setparams((2, 3, 48000, 0, "NONE", ""))
+        file.writeframes(data)
+    # at 1.2 MHz a frame of 3,600 columns has 144 samples
+    words = ["--mode", MODE, "--clock", 1_200_000, "--sound", tmp_path / "a.wav"]
+    capture = program("make", "content", "--offset", offset, source=tool("content", *paths, *words).stdout)
+    stream = program("recover", "biphase", "0", source=capture)
+    assert len(stream) == 16 * (700 - first)
+    found = program("read", "biphase", source=stream)
+    assert found.count(b"\nblock ") == 3 - first // 192
+    came = tool("sound", tmp_path / "b.wav", source=found)
+    assert came.stderr == b"%d samples of 24 bits at 48000 Hz, no faults\n" % (700 - first)
+    with wave.open(str(tmp_path / "b.wav")) as file:
+        assert file.readframes(700) == data[6 * first :]
+    assert program("recover", "biphase", "1", source=capture) == b""
+
+
+def test_pictures_come_back_without_guard_bands(tool, program, sent, tmp_path):
+    """What `recover dvi` writes has the frames, and a damaged pixel is marked in its place."""
+    images, paths, _, _ = sent
+    capture = program("make", "content", source=tool("content", *paths, "--mode", MODE).stdout)
+    lines = [line.split(b" ") for line in program("recover", "link", source=capture).splitlines()]
+    plain = [[b"c", b"%02x" % (int(line[1], 16) & 3), line[2]] if line[0] == b"c" else line for line in lines]
+    listing = b"".join(b" ".join(line) + b"\n" for line in plain if line[0] in (b"c", b"v", b"end"))
+    made = program("make", "dvi", "--offset", 7, "--skew", "0,70,35", source=listing)
+    tool("pictures", tmp_path / "whole", source=program("recover", "dvi", source=made))
+    back = shown(tmp_path / "whole")
+    # the first edge is that of the first row, behind the first sync lines
+    assert [image.tobytes() for image in back] == [image.tobytes() for image in images[1:]]
+    before = listing.split(b"\nv ")
+    pixels = [len(part.split(b"\n")[0]) // 6 for part in before[1:]]
+    runs = [sum(int(line.split(b" ")[2]) for line in part.split(b"\n") if line[:2] == b"c ") for part in before]
+    column = sum(runs[: 24 * 2 + 10 + 1]) + sum(pixels[: 24 * 2 + 10]) + 17
+    hurt = program("damage", f"2:{10 * column - 7 - 35}:0ab", source=made)
+    found = program("recover", "dvi", source=hurt, status=1)
+    tool("pictures", "--mark", tmp_path / "hurt", source=found, status=1)
+    marked = shown(tmp_path / "hurt")
+    box = {(x, y) for x in range(15, 20) for y in range(8, 13)} - {(x, y) for x in range(16, 19) for y in range(9, 12)}
+    differ = unlike(images[2], marked[1])
+    assert box <= differ.keys() <= box | {(17, 10)}
+
+
 def test_a_usual_mode(tool, program, tmp_path):
     """640 x 480 pixels and 48 kHz, undamaged: the second frame and all its samples come back as they were sent."""
     image = Image.radial_gradient("L").resize((640, 480)).convert("RGB")
