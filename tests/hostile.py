@@ -223,7 +223,7 @@ def slips(program):
     for data in (red, worn):
         lanes = model.lanes_in(data)
         for place in range(max(map(len, lanes)) + 2):
-            for drop in range(1 + place % 2, 10, 2) if data == red else [1 + place % 9]:
+            for drop in range(1 + place % 3, 10, 3) if data == red else [1 + place % 9]:
                 lane = (place + drop) % 3
                 fits = place + drop <= len(lanes[lane])
                 wanted = (3, b"", b"input: place 0\n")
@@ -237,7 +237,7 @@ def slips(program):
 def tracks(program, lanes):
     """What is tracked behind a slip at each place, and in lanes that slip every 130 bits, in each length, alone and all."""
     once = functools.cache(lambda *bits: linked(program, bits))
-    for place in range(len(lanes[0])):
+    for place in range(0, len(lanes[0]), 2):
         lane, drop = place % 3, 1 + place % 9
         bits = model.slipped(lanes, lane, place, drop)
         came, wanted = run(program, FURTHER[0], model.capture_of(2, bits))[:2], model.tracked(bits, lambda it: once(*it))
