@@ -331,6 +331,28 @@ def test_a_slipped_capture(report, tool, program, sent, tmp_path):
     assert "broken off by a slip" in "".join(page.run("return data.frames.map((one) => one.says)"))
 
 
+def without_guards(program, sent):
+    """The link listing of a content as a stream without guard bands and islands."""
+    lines = texts(program("recover", "link", source=program("make", "content", source=sent)))
+    fields = [line.split(" ") for line in lines if line[:2] in ("c ", "v ") or line == "end"]
+    plain = [["c", f"{int(one[1], 16) & 3:02x}", one[2]] if one[0] == "c" else one for one in fields]
+    return "".join(" ".join(one) + "\n" for one in plain).encode()
+
+
+def test_a_capture_without_guard_bands(report, tool, program, sent, tmp_path):
+    capture = program("make", "dvi", "--offset", 7, source=without_guards(program, sent))
+    listing = program("recover", "dvi", source=capture)
+    page = report(capture, 0, "--dvi")
+    assert page.lines() == texts(listing)
+    assert page.count("rows") == sum(line.startswith("v ") for line in texts(listing)) and page.count("faults") == 0
+    tool("pictures", tmp_path / "frames", source=listing)
+    wanted = [Image.open(path).convert("RGB") for path in sorted((tmp_path / "frames").glob("*.png"))]
+    assert len(wanted) > 1 and [one.tobytes() for one in page.frames()] == [one.tobytes() for one in wanted]
+    assert "DVI" in page.run("return document.body.textContent")
+    noise = report(capture, 1)
+    assert "--dvi" in noise.run("return document.querySelector('#advice').textContent")
+
+
 def test_no_alignment(report, program):
     page = report(b"TMC1" + (800).to_bytes(4, "big") + bytes(300), 1)
     assert "No alignment" in page.text("verdict") and page.count("columns") == 0
