@@ -1,13 +1,20 @@
 -- Pixels coded block after block.
-use Rattle.std.proofs.Common.{◌≡◌, ℕ, suc, zero, ◌+◌, ◌-◌, ◌*◌, ◌/◌, ◌≤◌, ◌<◌, List, [], ◌∷◌, ◌++◌, length, take, drop, set, map, replicate, min, refl, ap, ap₂, sym, subst, ◌∙◌, arith, append_assoc, append-nil, take_all, ℤ, inl, inr}
+use Rattle.std.proofs.Common.{◌≡◌, ℕ, suc, zero, ◌+◌, ◌-◌, ◌*◌, ◌/◌, ◌%◌, ◌≤◌, ◌<◌, List, [], ◌∷◌, ◌++◌, length, take, drop, set, map, replicate, min, refl, ap, ap₂, sym, subst, ◌∙◌, arith, append_assoc, append-nil, take_all, length-take-le, get_or, ℤ, inl, inr}
+use Rattle.std.specs.Prelude.{All}
 use Rattle.std.proofs.lemmas.List.{take_more_set, map-append, take-replicate}
 use Rattle.std.proofs.lemmas.Bool.{cases_lt}
 use Rattle.std.proofs.Math.Seq.{take-add}
 use Rattle.tmds_word.specs.Column.{Column, column_of}
-use Rattle.tmds_word.specs.Words.{columns_of}
+use Rattle.tmds_word.specs.Bits.{row_bits, bytes_bits}
+use Rattle.tmds_word.specs.Words.{words_of, all_words, columns_of}
+use Rattle.tmds_word.proofs.Lists.{length-bytes_bits}
+use Rattle.tmds_word.proofs.Characters.{words_of-more}
+use Rattle.tmds_word.proofs.Eights.{count_in_bytes}
+use Rattle.tmds_code.specs.Coding.{Coded, sign_of}
+use Rattle.tmds_code.proofs.TableWords.{coded_below}
 use Rattle.tmds_code.specs.Pasts.{IsCoderAfter}
 use Rattle.island_pack.specs.Periods.{Pixel, pixels_of}
-use Rattle.source_end.specs.LineCoding.{GoesOn, AreCodersAfter}
+use Rattle.source_end.specs.LineCoding.{GoesOn, AreCodersAfter, byte_of}
 use Rattle.source_end.proofs.Spellings.{pixel_at, lane_more, length-pixels_of}
 
 -- the pixels of a part of the bytes
@@ -106,16 +113,6 @@ lane_after before after bytes from upto columns own f h le was next =
     subst (λ (ws : List ℕ). IsCoderAfter after (map f (take upto ps)) ws) (sym (map-append h columns own))
     (subst (λ (bs : List ℕ). IsCoderAfter after bs (map h columns ++ map h own)) taken (next (map f (take from ps)) (map h columns) was))
 
--- as many as there are
-pub take_least : (n : ℕ) (bytes : List ℕ) → take (min (length bytes / 3) n) (pixels_of bytes) ≡ take n (pixels_of bytes)
-take_least n bytes =
-    let size = length-pixels_of bytes in
-    elim (cases_lt (length bytes / 3) n) [
-      | inl short ↦ let e : min (length bytes / 3) n ≡ length bytes / 3 = omega arith in
-          ap (λ k. take k (pixels_of bytes)) e ∙ take_all (length bytes / 3) (pixels_of bytes) (omega (arith, size)) ∙ sym (take_all n (pixels_of bytes) (omega (arith, size)))
-      | inr long ↦ let e : min (length bytes / 3) n ≡ n = omega arith in ap (λ k. take k (pixels_of bytes)) e
-    ]
-
 -- the columns of a block
 pub block_coded : (blue green red : ℤ) (ps : List Pixel) (blue_after green_after red_after : ℤ) (bs gs rs xs ys zs : List ℕ)
     → xs ≡ bs → ys ≡ gs → zs ≡ rs → length gs ≡ length bs → length rs ≡ length bs → length bs ≡ length ps
@@ -147,3 +144,108 @@ run_more old mid now count i n b g r x y z ex ey ez was new width begun =
     ∙ append_assoc old (replicate done own) (replicate n own)
     ∙ ap (λ cs. old ++ cs) (replicate-add done n own)
     ∙ ap (λ k. old ++ replicate k own) all
+
+-- Four characters at a time.
+
+-- one character more
+goes_one : (before mid after : ℤ) (bytes words : List ℕ) (j b w : ℕ) (f : Pixel → ℕ) → j < length bytes / 3
+    → GoesOn before mid (map f (take j (pixels_of bytes))) words
+    → ((past sent : List ℕ) → IsCoderAfter mid past sent → IsCoderAfter after (past ++ b ∷ []) (sent ++ w ∷ []))
+    → b ≡ f (pixel_at bytes (3 * j) (3 * j + 1) (3 * j + 2))
+    → GoesOn before after (map f (take (j + 1) (pixels_of bytes))) (words ++ w ∷ [])
+goes_one before mid after bytes words j b w f lt was next e = λ past sent h.
+    let done = map f (take j (pixels_of bytes)) in
+    let one = next (past ++ done) (sent ++ words) (was past sent h) in
+    let taken : (past ++ done) ++ b ∷ [] ≡ past ++ map f (take (j + 1) (pixels_of bytes)) =
+    append_assoc past done (b ∷ []) ∙ ap (λ x. past ++ (done ++ x ∷ [])) e ∙ ap (λ xs. past ++ xs) (sym (lane_more bytes j f lt)) in
+    subst (λ (ws : List ℕ). IsCoderAfter after (past ++ map f (take (j + 1) (pixels_of bytes))) ws) (append_assoc sent words (w ∷ []))
+    (subst (λ (bs : List ℕ). IsCoderAfter after bs ((sent ++ words) ++ w ∷ [])) taken one)
+
+-- a byte of a pixel, by its place in the row
+byte_at : (bytes : List ℕ) (part j at : ℕ) → part < 3 → at ≡ 3 * j + part → get_or bytes at 0 ≡ byte_of part (pixel_at bytes (3 * j) (3 * j + 1) (3 * j + 2))
+byte_at bytes zero j at few e = let z : at ≡ 3 * j = omega arith in ap (λ k. get_or bytes k 0) z
+byte_at bytes (suc zero) j at few e = ap (λ k. get_or bytes k 0) e
+byte_at bytes (suc (suc zero)) j at few e = ap (λ k. get_or bytes k 0) e
+byte_at bytes (suc (suc (suc part))) j at few e = absurd (omega arith)
+
+joined_four : (ws : List ℕ) (a b c d : ℕ) → (((ws ++ a ∷ []) ++ b ∷ []) ++ c ∷ []) ++ d ∷ [] ≡ ws ++ a ∷ b ∷ c ∷ d ∷ []
+joined_four ws a b c d =
+    append_assoc ((ws ++ a ∷ []) ++ b ∷ []) (c ∷ []) (d ∷ [])
+    ∙ append_assoc (ws ++ a ∷ []) (b ∷ []) (c ∷ d ∷ [])
+    ∙ append_assoc ws (a ∷ []) (b ∷ c ∷ d ∷ [])
+
+-- a group of four characters more
+pub goes_four : (before k0 k1 k2 k3 k4 : ℤ) (bytes words : List ℕ) (i part at a b c d : ℕ) → part < 3 → i < length bytes / 12 → at ≡ 12 * i + part
+    → GoesOn before k0 (map (byte_of part) (take (4 * i) (pixels_of bytes))) words
+    → ((past sent : List ℕ) → IsCoderAfter k0 past sent → IsCoderAfter k1 (past ++ get_or bytes at 0 ∷ []) (sent ++ a ∷ []))
+    → ((past sent : List ℕ) → IsCoderAfter k1 past sent → IsCoderAfter k2 (past ++ get_or bytes (at + 3) 0 ∷ []) (sent ++ b ∷ []))
+    → ((past sent : List ℕ) → IsCoderAfter k2 past sent → IsCoderAfter k3 (past ++ get_or bytes (at + 6) 0 ∷ []) (sent ++ c ∷ []))
+    → ((past sent : List ℕ) → IsCoderAfter k3 past sent → IsCoderAfter k4 (past ++ get_or bytes (at + 9) 0 ∷ []) (sent ++ d ∷ []))
+    → GoesOn before k4 (map (byte_of part) (take (4 * (i + 1)) (pixels_of bytes))) (words ++ a ∷ b ∷ c ∷ d ∷ [])
+goes_four before k0 k1 k2 k3 k4 bytes words i part at a b c d few lt place was first second third fourth =
+    let j = 4 * i in
+    let one = goes_one before k0 k1 bytes words j _ a (byte_of part) (omega arith) was first (byte_at bytes part j at few (omega arith)) in
+    let two = goes_one before k1 k2 bytes (words ++ a ∷ []) (j + 1) _ b (byte_of part) (omega arith) one second (byte_at bytes part (j + 1) (at + 3) few (omega arith)) in
+    let two' : GoesOn before k2 (map (byte_of part) (take (j + 2) (pixels_of bytes))) ((words ++ a ∷ []) ++ b ∷ []) = next_of (j + 1) (j + 2) (omega arith) two in
+    let three = goes_one before k2 k3 bytes ((words ++ a ∷ []) ++ b ∷ []) (j + 2) _ c (byte_of part) (omega arith) two' third (byte_at bytes part (j + 2) (at + 6) few (omega arith)) in
+    let three' : GoesOn before k3 (map (byte_of part) (take (j + 3) (pixels_of bytes))) (((words ++ a ∷ []) ++ b ∷ []) ++ c ∷ []) = next_of (j + 2) (j + 3) (omega arith) three in
+    let four = goes_one before k3 k4 bytes (((words ++ a ∷ []) ++ b ∷ []) ++ c ∷ []) (j + 3) _ d (byte_of part) (omega arith) three' fourth (byte_at bytes part (j + 3) (at + 9) few (omega arith)) in
+    subst (λ (ws : List ℕ). GoesOn before k4 (map (byte_of part) (take (4 * (i + 1)) (pixels_of bytes))) ws) (joined_four words a b c d) (next_of (j + 3) (4 * (i + 1)) (omega arith) four)
+  where
+    next_of : {after : ℤ} {ws : List ℕ} (m n : ℕ) → m + 1 ≡ n → GoesOn before after (map (byte_of part) (take (m + 1) (pixels_of bytes))) ws → GoesOn before after (map (byte_of part) (take n (pixels_of bytes))) ws
+    next_of {after} {ws} m n e h = subst (λ k. GoesOn before after (map (byte_of part) (take k (pixels_of bytes))) ws) e h
+
+-- packed behind those before them
+pub packed_four : (into now : List ℕ) (i a b c d : ℕ) → 5 * i + 5 ≤ length into → a < 1024 → b < 1024 → c < 1024 → d < 1024
+    → bytes_bits (take (5 * i + 5) now) ≡ bytes_bits (take (5 * i) into) ++ row_bits (a ∷ b ∷ c ∷ d ∷ [])
+    → all_words (bytes_bits (take (5 * (i + 1)) now)) ≡ all_words (bytes_bits (take (5 * i) into)) ++ a ∷ b ∷ c ∷ d ∷ []
+packed_four into now i a b c d room la lb lc ld e =
+    let next : 5 * (i + 1) ≡ 5 * i + 5 = omega arith in
+    let row = bytes_bits (take (5 * i) into) in
+    let whole : length row % 10 ≡ 0 = omega (arith, length-bytes_bits (take (5 * i) into), length-take-le (5 * i) into (omega arith)) in
+    ap (λ k. all_words (bytes_bits (take k now))) next ∙ ap all_words e ∙ words_of-more row (a ∷ b ∷ c ∷ d ∷ []) whole (below_four a b c d la lb lc ld)
+  where
+    below_four : (a b c d : ℕ) → a < 1024 → b < 1024 → c < 1024 → d < 1024 → All (λ w. w < 1024) (a ∷ b ∷ c ∷ d ∷ [])
+    below_four a b c d la lb lc ld zero z lt = la
+    below_four a b c d la lb lc ld (suc zero) z lt = lb
+    below_four a b c d la lb lc ld (suc (suc zero)) z lt = lc
+    below_four a b c d la lb lc ld (suc (suc (suc zero))) z lt = ld
+    below_four a b c d la lb lc ld (suc (suc (suc (suc i)))) z lt = absurd (omega arith)
+
+pub none_packed : (into : List ℕ) → all_words (bytes_bits (take (5 * 0) into)) ≡ []
+unfolding all_words words_of bytes_bits
+none_packed into = refl
+
+-- a coded byte's character
+pub character_below : (d : ℤ) (b w : ℕ) → Coded d b w → b < 256 → w < 1024
+character_below d b w coded lt = subst (λ n. n < 1024) (sym coded) (coded_below (sign_of d) b lt)
+
+-- the characters of all groups
+pub all_packed : (before after : ℤ) (bytes into : List ℕ) (i : ℕ) (f : Pixel → ℕ) → length bytes / 3 ≤ 4 * i → length into ≤ 5 * i
+    → GoesOn before after (map f (take (4 * i) (pixels_of bytes))) (all_words (bytes_bits (take (5 * i) into)))
+    → GoesOn before after (map f (pixels_of bytes)) (all_words (bytes_bits into))
+all_packed before after bytes into i f le room was =
+    subst (λ (bs : List ℕ). GoesOn before after (map f (pixels_of bytes)) (all_words (bytes_bits bs))) (take_all (5 * i) into room)
+    (subst (λ (ps : List Pixel). GoesOn before after (map f ps) (all_words (bytes_bits (take (5 * i) into)))) (take_all (4 * i) (pixels_of bytes) (omega (arith, length-pixels_of bytes))) was)
+
+-- how many characters the packed bytes of a block have
+pub packed_size : (bytes into : List ℕ) → length bytes % 12 ≡ 0 → length into ≡ length bytes / 12 * 5 → length (all_words (bytes_bits into)) ≡ length (pixels_of bytes)
+packed_size bytes into whole size = omega (arith, count_in_bytes into, length-pixels_of bytes)
+
+-- one part more of one lane, up to another place
+pub lane_upto : (before after : ℤ) (bytes piece : List ℕ) (from upto m n : ℕ) (columns own : List Column) (f : Pixel → ℕ) (h : Column → ℕ) → from ≤ upto → m ≡ from → upto ≡ n
+    → piece ≡ take (3 * upto - 3 * from) (drop (3 * from) bytes)
+    → IsCoderAfter before (map f (take m (pixels_of bytes))) (map h columns) → GoesOn before after (map f (pixels_of piece)) (map h own)
+    → IsCoderAfter after (map f (take n (pixels_of bytes))) (map h (columns ++ own))
+lane_upto before after bytes piece from upto m n columns own f h le e d is was next =
+    subst (λ k. IsCoderAfter after (map f (take k (pixels_of bytes))) (map h (columns ++ own))) d
+    (lane_after before after bytes from upto columns own f h le
+    (subst (λ k. IsCoderAfter before (map f (take k (pixels_of bytes))) (map h columns)) e was)
+    (subst (λ (bs : List ℕ). GoesOn before after (map f (pixels_of bs)) (map h own)) is next))
+
+pub no_lane : (kept : ℤ) (bytes : List ℕ) (n : ℕ) (f : Pixel → ℕ) (h : Column → ℕ) → n ≡ 0 → IsCoderAfter kept [] [] → IsCoderAfter kept (map f (take n (pixels_of bytes))) (map h [])
+no_lane kept bytes n f h e is = subst (λ k. IsCoderAfter kept (map f (take k (pixels_of bytes))) []) (sym e) is
+
+-- what stands behind the last group
+pub rest_of : (bytes : List ℕ) (count : ℕ) → length bytes % 3 ≡ 0 → take (length bytes - 3 * count) (drop (3 * count) bytes) ≡ take (3 * (length bytes / 3) - 3 * count) (drop (3 * count) bytes)
+rest_of bytes count whole = let e : length bytes ≡ 3 * (length bytes / 3) = omega arith in ap (λ n. take (n - 3 * count) (drop (3 * count) bytes)) e

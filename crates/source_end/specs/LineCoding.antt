@@ -1,8 +1,15 @@
 -- The coders of three lanes, seen as the disparities that they keep, before and after some pixels.
 use Rattle.std.specs.Prelude.{◌≡◌, ℕ, List, ◌++◌, length, map, ℤ}
+use Rattle.std.proofs.Common.{suc, zero}
 use Rattle.tmds_word.specs.Column.{Column}
 use Rattle.tmds_code.specs.Pasts.{IsCoderAfter}
 use Rattle.island_pack.specs.Periods.{Pixel}
+
+-- the bytes of a pixel in the order of a row of pixels: red, green, blue
+abbrev pub byte_of : ℕ → Pixel → ℕ
+byte_of zero p = p.red
+byte_of (suc zero) p = p.green
+byte_of (suc (suc i)) p = p.blue
 
 -- what a lane's coder stands for after a pixel's bytes and their characters, whatever was coded before
 abbrev pub GoesOn : ℤ → ℤ → List ℕ → List ℕ → Type 0

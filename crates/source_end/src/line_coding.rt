@@ -1,19 +1,28 @@
-//! The columns of pixels: three lanes are coded, block after block.
+//! The columns of pixels: block after block, and within a block lane after lane. Four characters are packed as
+//! five bytes as they are coded.
 ghost use Rattle.std.specs.Prelude.{◌≡◌, ℕ, ◌≤◌, ◌<◌, ◌+◌, ◌*◌, ◌/◌, ◌%◌, ◌++◌, [], List, length, map, OnOk, OnErr, IfOk};
 ghost use Rattle.outside_io.specs.Causes.{HasCause};
+ghost use Rattle.tmds_word.specs.Bits.{bytes_bits};
 ghost use Rattle.tmds_word.specs.Column.{Column};
+ghost use Rattle.tmds_word.specs.Words.{all_words};
 ghost use Rattle.tmds_code.specs.Pasts.{IsCoderAfter};
 ghost use Rattle.island_pack.specs.Periods.{pixels_of};
 ghost use Rattle.island_pack.specs.Spelling.{SpellsPixels};
 ghost use Rattle.source_end.specs.Fronts.{TookFront};
-ghost use Rattle.source_end.specs.LineCoding.{AreCodersAfter, AreCoded};
+ghost use Rattle.source_end.specs.LineCoding.{AreCodersAfter, AreCoded, GoesOn, byte_of};
 
 use outside_io::NoMemory;
 use tmds_code::VideoCoder;
-use tmds_word::{ColumnSink, Word};
+use tmds_word::{ColumnSink, Word, pack_four};
 
 /// How many pixels are coded at a time.
-const BLOCK: usize = 64;
+const BLOCK: usize = 256;
+
+/// How many bytes their characters take on a lane.
+const PACKED: usize = 320;
+
+/// How many characters are packed together.
+const GROUP: usize = 4;
 
 /// The coders of the three lanes.
 #[derive(Drop)]
@@ -36,30 +45,75 @@ pub(crate) fn pixels<C: ColumnSink>(bytes: &[u8], out: &mut C) -> Result<(), NoM
         green: VideoCoder::new(),
         red: VideoCoder::new(),
     };
-    let count = bytes.len() / 3;
+    let count = bytes.len() / 3 / GROUP * GROUP;
     for i in 0..count.div_ceil(BLOCK) {
         let from = BLOCK * i;
         let upto = count.min(from + BLOCK);
         coders = block(&bytes[3 * from..3 * upto], coders, out)?;
     }
+    rest(&bytes[3 * count..], coders, out)?;
     Ok(())
 }
 
-/// Gives the columns of at most 64 pixels, and the coders after them.
+/// Gives the columns of groups of four pixels, at most 256 pixels, and the coders after them.
 fn block<C: ColumnSink>(bytes: &[u8], coders: Coders, out: &mut C) -> Result<Coders, NoMemory>
+    requires whole { length bytes.now % 12 ≡ 0 }
+    requires few { length bytes.now ≤ 768 }
+    requires room { length (C.taken out.old) + length bytes.now / 3 < 429496729 }
+    ensures ok { IfOk result (λ after. (columns : List Column) × (C.taken out.new ≡ C.taken out.old ++ columns) × AreCodersAfter coders.blue coders.green coders.red (pixels_of bytes.now) columns after.blue after.green after.red) }
+    ensures part { OnErr result (TookFront (C.taken out.old) (C.taken out.new) (AreCoded coders.blue coders.green coders.red (pixels_of bytes.now))) }
+    ensures cause { HasCause (C.refusals out.old) (C.refusals out.new) result }
+{
+    let mut blue = [0; PACKED];
+    let mut green = [0; PACKED];
+    let mut red = [0; PACKED];
+    let size = bytes.len() / 12 * 5;
+    let after = Coders {
+        blue: code(bytes, 2, coders.blue, &mut blue[..size]),
+        green: code(bytes, 1, coders.green, &mut green[..size]),
+        red: code(bytes, 0, coders.red, &mut red[..size]),
+    };
+    out.packed(&blue[..size], &green[..size], &red[..size])?;
+    Ok(after)
+}
+
+/// Codes one of the three bytes of each pixel, packs the characters, and answers the coder after them.
+fn code(bytes: &[u8], part: usize, coder: VideoCoder, into: &mut [u8]) -> VideoCoder
+    requires part { part < 3 }
+    requires whole { length bytes.now % 12 ≡ 0 }
+    requires room { length into.old ≡ length bytes.now / 12 * 5 }
+    ensures coded { GoesOn coder result (map (byte_of part) (pixels_of bytes.now)) (all_words (bytes_bits into.new)) }
+    ensures size { length into.new ≡ length into.old }
+{
+    let mut coder = coder;
+    for i in 0..bytes.len() / 12 {
+        let at = 12 * i + part;
+        let words = [
+            coder.next(bytes[at]),
+            coder.next(bytes[at + 3]),
+            coder.next(bytes[at + 6]),
+            coder.next(bytes[at + 9]),
+        ];
+        pack_four(words, into, 5 * i);
+    }
+    coder
+}
+
+/// Gives the columns of at most four pixels, and the coders after them.
+fn rest<C: ColumnSink>(bytes: &[u8], coders: Coders, out: &mut C) -> Result<Coders, NoMemory>
     requires whole { length bytes.now % 3 ≡ 0 }
-    requires few { length bytes.now ≤ 192 }
+    requires few { length bytes.now ≤ 12 }
     requires room { length (C.taken out.old) + length bytes.now / 3 < 429496729 }
     ensures ok { IfOk result (λ after. (columns : List Column) × (C.taken out.new ≡ C.taken out.old ++ columns) × AreCodersAfter coders.blue coders.green coders.red (pixels_of bytes.now) columns after.blue after.green after.red) }
     ensures part { OnErr result (TookFront (C.taken out.old) (C.taken out.new) (AreCoded coders.blue coders.green coders.red (pixels_of bytes.now))) }
     ensures cause { HasCause (C.refusals out.old) (C.refusals out.new) result }
 {
     let none = Word::of(0);
-    let mut blue = [none; BLOCK];
-    let mut green = [none; BLOCK];
-    let mut red = [none; BLOCK];
+    let mut blue = [none; GROUP];
+    let mut green = [none; GROUP];
+    let mut red = [none; GROUP];
     let count = bytes.len() / 3;
-    let after = code(
+    let after = code_each(
         bytes,
         coders,
         &mut blue[..count],
@@ -71,7 +125,7 @@ fn block<C: ColumnSink>(bytes: &[u8], coders: Coders, out: &mut C) -> Result<Cod
 }
 
 /// Codes pixels into the characters of three lanes, and answers the coders after them.
-fn code(
+fn code_each(
     bytes: &[u8],
     coders: Coders,
     blue_words: &mut [Word],

@@ -531,6 +531,38 @@ fn spelled(rt: HostRuntime) -> Result<(), Fail> {
     spells(&rt, rt.alloc(), nulls, want.as_slice())
 }
 
+// A line of 263 pixels: the digests of its characters, the value of each behind 31 times those before it, modulo 65,521.
+#[test]
+fn long_line(rt: HostRuntime) -> Result<(), Fail> {
+    let mut pixels = Pixels::new(rt.alloc());
+    for i in 0..263u32 {
+        let red = (i.wrapping_mul(7 * i + 3) & 0xff) as u8;
+        let green = (i.wrapping_mul(i.wrapping_mul(i).wrapping_add(11)) & 0xff) as u8;
+        let blue = ((2047 - 5 * i) & 0xff) as u8;
+        pixels.push(red, green, blue)?;
+    }
+    let mut items = Items::new(rt.alloc());
+    items.push(item(rt.alloc(), START)?)?;
+    items.push(Item::Video(pixels))?;
+    items.push(item(rt.alloc(), Given::Control(&[(0, 12)]))?)?;
+    let stream = items.close()?;
+    let mut columns = Columns {
+        words: Vec::new(rt.alloc()),
+        refusals: 0,
+    };
+    stream.spell(&mut columns)?;
+    assert_eq!(rt; columns.words.len(), 289);
+    for (lane, want) in [(0, 14041), (1, 50879), (2, 50462)] {
+        let mut digest = 0u32;
+        for at in 14..277 {
+            let word = u32::from(columns.words[at][lane].value());
+            digest = digest.wrapping_mul(31).wrapping_add(word) % 65521;
+        }
+        assert_eq!(rt; digest, want, "lane {lane}");
+    }
+    Ok(())
+}
+
 #[test]
 fn parts(rt: HostRuntime) -> Result<(), Fail> {
     let mut runs = Runs::new(rt.alloc());

@@ -40,14 +40,14 @@ step_balance k w lt low = omega (arith, ints, ten_bits w lt, low)
 -- The table has at each disparity the character of each byte, and the steps after it above its ten bits.
 
 entry_holds : ℕ → ℕ → Bool
-entry_holds k b = slice_index STEPPED (256 * k + b) == word_after k b + 1024 * (k + ones (word_bits (word_after k b)) - 5)
+entry_holds k b = slice_index STEPPED (256 * k + b) == word_after k b + 16777216 * (k + ones (word_bits (word_after k b)) - 5)
 
 all_entries : passes_below 9 (λ k. passes_below 256 (entry_holds k)) ≡ true
 unfolding passes_below entry_holds word_after coded_at coded_bits balanced minimised takes_xnor bits_of word_bits number ones zeros balance
 all_entries = refl
 
 pub table_entry : (k b : ℕ) → k ≤ 8 → b < 256
-    → slice_index STEPPED (256 * k + b) ≡ coded_word (pos (2 * k) -ℤ pos 8) b + 1024 * (k + ones (word_bits (coded_word (pos (2 * k) -ℤ pos 8) b)) - 5)
+    → slice_index STEPPED (256 * k + b) ≡ coded_word (pos (2 * k) -ℤ pos 8) b + 16777216 * (k + ones (word_bits (coded_word (pos (2 * k) -ℤ pos 8) b)) - 5)
 unfolding entry_holds word_after
 table_entry k b le lt = eqb-true _ _ (passes_at 256 (entry_holds k) b (passes_at 9 (λ j. passes_below 256 (entry_holds j)) k all_entries (omega arith)) lt)
 

@@ -11,18 +11,19 @@ use tmds_word::Word;
 /// the disparity of the characters that it gave.
 #[derive(Debug, Drop)]
 pub struct VideoCoder {
-    /// Half of the disparity, counted from -4: the disparity is even and from -8 to 8.
-    step: u8,
+    /// Where the row of the disparity begins in the table: 256 times half of it, counted from -4. The disparity
+    /// is even and from -8 to 8.
+    row: u16,
 }
 
 impl Model for VideoCoder {
-    ghost use Rattle.std.specs.Prelude.{ℤ, pos, ◌-ℤ◌, ◌*◌, ◌≤◌};
+    ghost use Rattle.std.specs.Prelude.{ℤ, pos, ◌-ℤ◌, ◌*◌, ◌/◌, ◌%◌, ◌≡◌, ◌≤◌};
 
     ghost Value = { ℤ };
 
-    ghost view = { λ c. pos (2 * c.step) -ℤ pos 8 };
+    ghost view = { λ c. pos (2 * (c.row / 256)) -ℤ pos 8 };
 
-    ghost invariant = { λ c. c.step ≤ 8 };
+    ghost invariant = { λ c. (c.row ≤ 2048) × (c.row % 256 ≡ 0) };
 }
 
 impl VideoCoder {
@@ -30,7 +31,7 @@ impl VideoCoder {
     pub fn new() -> VideoCoder
         ensures { IsCoderAfter result [] [] }
     {
-        VideoCoder { step: 4 }
+        VideoCoder { row: 1024 }
     }
 
     /// The character of the next byte.
@@ -38,9 +39,9 @@ impl VideoCoder {
         ensures coded { Coded self.old byte result }
         ensures stands { (bytes words : List ℕ) → IsCoderAfter self.old bytes words → IsCoderAfter self.new (bytes ++ byte ∷ []) (words ++ result ∷ []) }
     {
-        let entry = stepped(256 * usize::from(self.step) + usize::from(byte));
-        self.step = (entry >> 10) as u8;
-        Word::of(entry & 0x3ff)
+        let entry = stepped(usize::from(self.row) + usize::from(byte));
+        self.row = (entry >> 16) as u16;
+        Word::of((entry & 0xffff) as u16)
     }
 
     /// The ones minus the zeros of the characters given so far: even, and from -8 to 8.
@@ -50,6 +51,6 @@ impl VideoCoder {
         ensures low { negsuc 7 ≤ℤ result }
         ensures high { result ≤ℤ pos 8 }
     {
-        2 * i32::from(self.step) - 8
+        2 * i32::from(self.row / 256) - 8
     }
 }

@@ -6,6 +6,8 @@ pub mod Setting
 pub mod Words
 pub mod Bytes
 pub mod Fives
+pub mod Eights
+pub mod Characters
 pub mod Lanes
 pub mod Turns
 pub mod Example

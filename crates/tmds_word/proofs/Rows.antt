@@ -293,7 +293,7 @@ take_row (b ∷ bytes) h t (suc j) k few less room =
 
 -- Appending whole bytes.
 
-no_bits : (t : ℕ) → bits_of 0 t ≡ []
+pub no_bits : (t : ℕ) → bits_of 0 t ≡ []
 unfolding bits_of
 no_bits t = refl
 

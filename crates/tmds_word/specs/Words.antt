@@ -2,7 +2,7 @@
 -- DVI 1.0, sections 3.1 and 3.2.3.
 use Rattle.std.specs.Prelude.{ℕ, ◌/◌, Bool, List, [], ◌∷◌, length, take, drop}
 use Rattle.std.proofs.Common.{suc, zero}
-use Rattle.tmds_word.specs.Bits.{number}
+use Rattle.tmds_word.specs.Bits.{number, bytes_bits}
 use Rattle.tmds_word.specs.Column.{Column}
 
 -- characters, one after another, as many as are asked for
@@ -18,3 +18,7 @@ all_words xs = words_of (length xs / 10) xs
 unfoldable pub columns_of : List ℕ → List ℕ → List ℕ → List Column
 columns_of (b ∷ bs) (g ∷ gs) (r ∷ rs) = record { blue = b; green = g; red = r } ∷ columns_of bs gs rs
 columns_of _ _ _ = []
+
+-- the columns of three lanes' bits, which are packed into bytes
+abbrev pub packed_columns : List ℕ → List ℕ → List ℕ → List Column
+packed_columns blue green red = columns_of (all_words (bytes_bits blue)) (all_words (bytes_bits green)) (all_words (bytes_bits red))

@@ -1,10 +1,11 @@
 //! What takes columns one after another.
-ghost use Rattle.std.specs.Prelude.{◌≡◌, ◌<◌, ◌≤◌, ◌+◌, ◌^◌, ◌++◌, ◌∷◌, [], ℕ, List, length, take, OnOk, OnErr};
+ghost use Rattle.std.specs.Prelude.{◌≡◌, ◌<◌, ◌≤◌, ◌+◌, ◌*◌, ◌/◌, ◌%◌, ◌^◌, ◌++◌, ◌∷◌, [], ℕ, List, length, take, OnOk, OnErr};
 ghost use Rattle.outside_io.specs.Causes.{HasCause};
 ghost use Rattle.tmds_word.specs.Column.{Column, column_of};
-ghost use Rattle.tmds_word.specs.Words.{columns_of};
+ghost use Rattle.tmds_word.specs.Words.{columns_of, packed_columns};
 
 use crate::Word;
+use crate::packing::word_at;
 use outside_io::NoMemory;
 
 /// Takes columns: one character of each lane at a time.
@@ -35,6 +36,23 @@ pub trait ColumnSink {
     {
         for i in 0..blue.len() {
             self.column([blue[i], green[i], red[i]])?;
+        }
+        Ok(())
+    }
+
+    /// Takes the columns of three lanes' bits, as many of each: each five bytes are four characters. After a
+    /// refusal it holds the columns before, and perhaps the first ones of these.
+    fn packed(&mut self, blue: &[u8], green: &[u8], red: &[u8]) -> Result<(), NoMemory>
+        requires fives { length blue.now % 5 ≡ 0 }
+        requires green { length green.now ≡ length blue.now }
+        requires red { length red.now ≡ length blue.now }
+        requires room { length (taken self.old) + length blue.now / 5 * 4 ≤ 429496729 }
+        ensures ok { OnOk result (taken self.new ≡ taken self.old ++ packed_columns blue.now green.now red.now) }
+        ensures part { OnErr result ((k : ℕ) × (taken self.new ≡ taken self.old ++ take k (packed_columns blue.now green.now red.now))) }
+        ensures cause { HasCause (refusals self.old) (refusals self.new) result }
+    {
+        for i in 0..blue.len() / 5 * 4 {
+            self.column([word_at(blue, i), word_at(green, i), word_at(red, i)])?;
         }
         Ok(())
     }

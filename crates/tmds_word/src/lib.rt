@@ -9,6 +9,7 @@ mod row;
 mod word;
 
 pub use column::ColumnSink;
+pub use packing::pack_four;
 pub use replace::replace_word;
 pub use row::BitRow;
 pub use word::Word;

@@ -3,7 +3,7 @@ ghost use Rattle.std.specs.Prelude.{ℕ, Bool, List, ◌≡◌, ◌<◌, ◌≤�
 ghost use Rattle.tmds_word.specs.Bits.{bits_of, word_bits, row_bits, bytes_bits, bytes_of, number};
 
 use crate::Word;
-use crate::packing::pack;
+use crate::packing::{pack, shift};
 use crate::replace::{set_bit, with_bit};
 use outside_io::NoMemory;
 use std::alloc::Global;
@@ -11,6 +11,9 @@ use std::marker::Model;
 
 /// How many characters are packed at a time.
 const BLOCK_WORDS: usize = 64;
+
+/// How many whole bytes are shifted at a time.
+const PART_BYTES: usize = 320;
 
 /// The bits of one lane in the order in which they are sent, fewer than 2^32, packed eight to a
 /// byte.
@@ -158,6 +161,26 @@ impl BitRow {
         }
     }
 
+    /// Appends the bits of whole bytes, bit 0 of each first. After a refusal the row is as before.
+    pub fn push_bytes(&mut self, bytes: &[u8]) -> Result<(), NoMemory>
+        requires { length self.old + 8 * length bytes.now < 2 ^ 32 }
+        ensures ok { OnOk result (self.new ≡ self.old ++ bytes_bits bytes.now) }
+        ensures err { OnErr result (self.new ≡ self.old) }
+    {
+        if self.held == 0 {
+            self.whole.extend_from_slice(bytes)?;
+            return Ok(());
+        }
+        let before = self.len();
+        match self.push_parts(bytes) {
+            Ok(()) => Ok(()),
+            Err(refusal) => {
+                self.truncate(before);
+                Err(refusal)
+            }
+        }
+    }
+
     /// Replaces the ten bits from a place on by those of a character.
     pub fn replace_word(&mut self, place: u32, word: Word)
         requires { place + 10 ≤ length self.old }
@@ -225,25 +248,57 @@ impl BitRow {
         byte_across(self.byte(at), self.byte(at + 1), from % 8)
     }
 
-    /// Appends the bits of whole bytes. After a refusal the row is as before.
-    fn push_bytes(&mut self, bytes: &[u8]) -> Result<(), NoMemory>
+    /// Appends whole bytes, part after part. After a refusal some of their bits may be appended.
+    fn push_parts(&mut self, bytes: &[u8]) -> Result<(), NoMemory>
         requires { length self.old + 8 * length bytes.now < 2 ^ 32 }
+        ensures ok { OnOk result (self.new ≡ self.old ++ bytes_bits bytes.now) }
+        ensures err { OnErr result ((more : List Bool) × (self.new ≡ self.old ++ more)) }
+    {
+        for i in 0..bytes.len().div_ceil(PART_BYTES) {
+            let from = PART_BYTES * i;
+            let upto = bytes.len().min(from + PART_BYTES);
+            self.push_part(&bytes[from..upto])?;
+        }
+        Ok(())
+    }
+
+    /// Appends the whole bytes of a part. After a refusal some of their bits may be appended.
+    fn push_part(&mut self, bytes: &[u8]) -> Result<(), NoMemory>
+        requires few { length bytes.now ≤ 320 }
+        requires room { length self.old + 8 * length bytes.now < 2 ^ 32 }
+        ensures ok { OnOk result (self.new ≡ self.old ++ bytes_bits bytes.now) }
+        ensures err { OnErr result ((more : List Bool) × (self.new ≡ self.old ++ more)) }
+    {
+        let eights = bytes.len() / 8 * 8;
+        self.push_eights(&bytes[..eights])?;
+        self.push_last(&bytes[eights..])?;
+        Ok(())
+    }
+
+    /// Appends groups of eight bytes. After a refusal the row is as before.
+    fn push_eights(&mut self, bytes: &[u8]) -> Result<(), NoMemory>
+        requires few { length bytes.now ≤ 320 }
+        requires eights { length bytes.now % 8 ≡ 0 }
+        requires room { length self.old + 8 * length bytes.now < 2 ^ 32 }
         ensures ok { OnOk result (self.new ≡ self.old ++ bytes_bits bytes.now) }
         ensures err { OnErr result (self.new ≡ self.old) }
     {
-        if self.held == 0 {
-            self.whole.extend_from_slice(bytes)?;
-            return Ok(());
-        }
-        let before = self.len();
+        let mut room = [0; PART_BYTES];
+        let shifted = &mut room[..bytes.len()];
+        let tail = shift(bytes, self.held, self.tail, shifted);
+        self.whole.extend_from_slice(shifted)?;
+        self.tail = tail;
+        Ok(())
+    }
+
+    /// Appends whole bytes one by one. After a refusal some of their bits may be appended.
+    fn push_last(&mut self, bytes: &[u8]) -> Result<(), NoMemory>
+        requires { length self.old + 8 * length bytes.now < 2 ^ 32 }
+        ensures ok { OnOk result (self.new ≡ self.old ++ bytes_bits bytes.now) }
+        ensures err { OnErr result ((more : List Bool) × (self.new ≡ self.old ++ more)) }
+    {
         for byte in bytes {
-            match self.put(u16::from(*byte), 8) {
-                Ok(()) => {}
-                Err(refusal) => {
-                    self.truncate(before);
-                    return Err(refusal);
-                }
-            }
+            self.put(u16::from(*byte), 8)?;
         }
         Ok(())
     }

@@ -1,7 +1,7 @@
 //! Characters and rows compared with values that were computed apart from this crate.
 ghost use Rattle.std.specs.Prelude.{ℕ, ◌<◌, List, length};
 
-use crate::{BitRow, ColumnSink, Word, replace_word};
+use crate::{BitRow, ColumnSink, Word, pack_four, replace_word};
 use outside_io::NoMemory;
 use std::alloc::Global;
 use std::process::Abort;
@@ -202,6 +202,57 @@ fn taken_lanes(rt: HostRuntime) -> Result<(), Fail> {
     assert_eq!(rt; sink.words.len(), 2);
     assert!(rt; sink.words[0] == [first, second, third]);
     assert!(rt; sink.words[1] == [second, third, first]);
+    Ok(())
+}
+
+// The characters 2cc, 133, 0ab and 354, and the same in the other order, as five bytes each.
+#[test]
+fn packed_lanes(rt: HostRuntime) -> Result<(), Fail> {
+    let words = [
+        Word::of(0x2cc),
+        Word::of(0x133),
+        Word::of(0x0ab),
+        Word::of(0x354),
+    ];
+    let there = [0xcc, 0xce, 0xb4, 0x0a, 0xd5];
+    let back = [0x54, 0xaf, 0x32, 0x13, 0xb3];
+    let mut into = [7; 7];
+    pack_four(words, &mut into, 1);
+    assert_eq!(rt; into, [7, 0xcc, 0xce, 0xb4, 0x0a, 0xd5, 7]);
+    let mut sink = Columns {
+        words: Vec::new(rt.alloc()),
+        refusals: 0,
+    };
+    sink.packed(&there, &back, &there)?;
+    assert_eq!(rt; sink.words.len(), 4);
+    for i in 0..4 {
+        assert!(rt;
+            sink.words[i] == [words[i], words[3 - i], words[i]],
+            "at {i}"
+        );
+    }
+    Ok(())
+}
+
+// Behind none to seven bits, in one call and two parts, the last of which ends within a group of eight bytes.
+#[test]
+fn many_bytes(rt: HostRuntime) -> Result<(), Fail> {
+    let mut bytes = [0; 355];
+    for i in 0..355usize {
+        bytes[i] = PACKED[i % 13];
+    }
+    for before in 0..8 {
+        let mut row = BitRow::new(rt.alloc());
+        row.push_bits(&PACKED[..(before as usize + 7) / 8], before)?;
+        assert!(rt; row.len() < 1000);
+        row.push_bytes(&bytes)?;
+        assert_eq!(rt; row.len(), before + 2840);
+        for i in 0..2840u32 {
+            let sent = (bytes[i as usize / 8] >> (i % 8)) & 1 == 1;
+            assert!(rt; i + before < row.len());
+            assert_eq!(rt; row.bit(i + before), sent, "behind {before} at {i}");
+        }
+    }
     Ok(())
 }
 

@@ -8,9 +8,9 @@ abbrev pub invariant-loop-i : goal.invariant-loop-i
 invariant-loop-i g l = record {
   columns : List Column;
   taken : g.C.ColumnSink.taken l.out ≡ g.C.ColumnSink.taken l.initial.out ++ columns;
-  blue_lane : IsCoderAfter l.coders.blue (map (λ (p : Pixel). p.blue) (take (64 * l.i) (pixels_of l.bytes))) (map (λ (c : Column). c.blue) columns);
-  green_lane : IsCoderAfter l.coders.green (map (λ (p : Pixel). p.green) (take (64 * l.i) (pixels_of l.bytes))) (map (λ (c : Column). c.green) columns);
-  red_lane : IsCoderAfter l.coders.red (map (λ (p : Pixel). p.red) (take (64 * l.i) (pixels_of l.bytes))) (map (λ (c : Column). c.red) columns);
-  as_many : length columns ≡ min (length l.bytes / 3) (64 * l.i);
+  blue_lane : IsCoderAfter l.coders.blue (map (λ (p : Pixel). p.blue) (take (min (length l.bytes / 3 / 4 * 4) (256 * l.i)) (pixels_of l.bytes))) (map (λ (c : Column). c.blue) columns);
+  green_lane : IsCoderAfter l.coders.green (map (λ (p : Pixel). p.green) (take (min (length l.bytes / 3 / 4 * 4) (256 * l.i)) (pixels_of l.bytes))) (map (λ (c : Column). c.green) columns);
+  red_lane : IsCoderAfter l.coders.red (map (λ (p : Pixel). p.red) (take (min (length l.bytes / 3 / 4 * 4) (256 * l.i)) (pixels_of l.bytes))) (map (λ (c : Column). c.red) columns);
+  as_many : length columns ≡ min (length l.bytes / 3 / 4 * 4) (256 * l.i);
   later : g.C.ColumnSink.refusals l.initial.out ≤ g.C.ColumnSink.refusals l.out;
 }
