@@ -4,6 +4,7 @@ pub mod Parts
 pub mod Packs
 pub mod Fronts
 pub mod Marks
+pub mod Consumed
 pub mod Hits
 pub mod Pieces
 pub mod Heads

@@ -14,7 +14,8 @@ use Rattle.capture_file.specs.Lanes.{Collected}
 use Rattle.tmds_word.specs.Words.{all_words, columns_of}
 use Rattle.capture_file.specs.Layout.{chunk, block, blocks_below}
 use Rattle.capture_file.specs.Taps.{limited, tap_count, tap_lag, tap_of, greatest, HasBits}
-use Rattle.capture_file.proofs.Columns.{seen, lanes_of_columns, count_of_columns, row_bits-words_of, length-words_of}
+use Rattle.tmds_word.proofs.Characters.{row_bits-words_of, length-words_of}
+use Rattle.capture_file.proofs.Columns.{seen, lanes_of_columns, count_of_columns}
 use Rattle.capture_file.proofs.Packing.{length-part}
 
 -- two parts one after the other

@@ -1,14 +1,13 @@
 -- Lanes that are read whole, and of which one is then without some of its bits.
-use Rattle.std.proofs.Common.{◌≡◌, ℕ, ◌+◌, ◌-◌, ◌*◌, ◌/◌, ◌<◌, ◌≤◌, Bool, List, [], ◌++◌, length, take, drop, min, refl, ap, ap₂, ◌∙◌, sym, arith, subst, inl, inr, append_assoc, append-nil}
-use Rattle.std.specs.Prelude.{Option, Some, Result, Ok, Err, OnOk, slice_index}
-use Rattle.std.specs.Io.KnownBytes.{Consumes}
+use Rattle.std.proofs.Common.{◌≡◌, ℕ, ◌+◌, ◌/◌, ◌<◌, ◌≤◌, Bool, List, ◌++◌, length, take, drop, refl, ap, ap₂, ◌∙◌, sym, arith, append_assoc}
+use Rattle.std.specs.Prelude.{Result, Ok, Err, OnOk, slice_index}
 use Rattle.std.proofs.lemmas.List.{take-append-drop, drop-drop, take_rest, length-drop}
 use Rattle.std.proofs.Math.Seq.{take-append_seam}
 use Rattle.outside_io.specs.declared.NoMemory.{NoMemory as Refusal}
 use Rattle.tmds_word.specs.Bits.{bytes_bits}
 use Rattle.capture_file.specs.Layout.{packed}
-use Rattle.capture_file.specs.Captures.{header_of, CanSay, IsHeader, Stands, IsHeadless, IsFault, SaysOf, IsCaptureOf, block_size}
-use Rattle.capture_file.specs.Slips.{IsWithinLane, IsReadPart, SaysFaulty, unread, without}
+use Rattle.capture_file.specs.Captures.{header_of, CanSay, IsHeader, IsHeadless, SaysOf}
+use Rattle.capture_file.specs.Slips.{IsWithinLane, SaysFaulty, unread, without}
 use Rattle.capture_file.specs.declared.slipping.SlipError.{SlipError}
 use Rattle.capture_file.specs.declared.slipping.SlipError.TheVariants.{Bad, Place, Read, Write, NoMemory}
 use Rattle.capture_file.specs.declared.fault.CaptureFault.{CaptureFault}

@@ -1,7 +1,7 @@
 -- Captures of which one lane lacks some bits: those from a place on are left out, and what follows them moves up.
 use Rattle.std.specs.Prelude.{◌≡◌, ◌⊎◌, ℕ, ◌+◌, ◌<◌, ◌≤◌, ◌==◌, Bool, List, [], ◌++◌, length, take, drop, slice_index, Option, if◌then◌else◌}
 use Rattle.std.specs.Io.KnownBytes.{Appends, Consumes}
-use Rattle.capture_file.specs.Captures.{counts_of, layout, IsHeader, IsCaptureOf, Stands, IsHeadless, IsFault, block_size}
+use Rattle.capture_file.specs.Captures.{counts_of, layout, IsHeader, IsCaptureOf, Stands, IsHeadless, block_size}
 use Rattle.capture_file.specs.declared.slipping.SlipError.{SlipError}
 use Rattle.capture_file.specs.declared.slipping.SlipError.TheVariants.{Bad, Place, Read, Write, NoMemory}
 use Rattle.capture_file.specs.declared.fault.CaptureFault.{CaptureFault}

@@ -160,6 +160,7 @@ fn damage_block<S: Source, K: Sink>(
         → IfErr result (λ e. SaysFault (λ fault. IsFault (taken ++ bytes) fault × StopsIn heading.bits j taken (place_of fault)) e) }
     ensures unwritten { IfErr result (λ e. (e ≡ Write → ⊥) → Keeps (K.held out.old) (K.held out.new)) }
     ensures part { result ≡ Err Read → (part : List ℕ) × (length part < block_size j heading.bits) × Consumes (S.left source.old) (S.left source.new) part }
+    ensures taken { (taken : List ℕ) × Consumes (S.left source.old) (S.left source.new) taken }
     ensures unplaced { (i : ℕ) → result ≡ Err (Place i) → ⊥ }
     ensures cut { (taken : List ℕ) (before : Option (List ℕ)) → Halfway heading.version heading.bits hits.now j taken before (K.held out.old) → result ≡ Err Write
         → (part : List ℕ) × Consumes (S.left source.old) (S.left source.new) part × CutIn heading.version heading.bits hits.now j (taken ++ part) before (K.held out.new) }
@@ -196,6 +197,7 @@ fn damage_lanes<S: Source, K: Sink>(
         → (j : ℕ) × (part more : List ℕ) × Halfway heading.version heading.bits hits.now j (taken ++ part) before (K.held out.new)
         × ((length more < block_size j heading.bits) ⊎ (more ≡ [])) × Consumes (S.left source.old) (S.left source.new) (part ++ more) }
     ensures unplaced { (i : ℕ) → result ≡ Err (Place i) → ⊥ }
+    ensures taken { (taken : List ℕ) × Consumes (S.left source.old) (S.left source.new) taken }
     ensures cut { (taken : List ℕ) (before : Option (List ℕ)) → Halfway heading.version heading.bits hits.now 0 taken before (K.held out.old) → result ≡ Err Write
         → (j : ℕ) × (part : List ℕ) × Consumes (S.left source.old) (S.left source.new) part × CutIn heading.version heading.bits hits.now j (taken ++ part) before (K.held out.new) }
     ensures ended { OnOk result (IsAtEnd (S.left source.new)) }
@@ -228,6 +230,7 @@ fn read_placed<S: Source>(source: &mut S, hits: &[Hit]) -> Result<Heading, Damag
     ensures err { (bytes : List ℕ) → S.left source.old ≡ Some bytes → IfErr result (λ e. SaysBad (λ fault. IsEarlyFault bytes fault) e) }
     ensures place { IfErr result (λ e. SaysPlace (λ i. IsMisplacedLane (S.left source.old) (S.left source.new) hits.now i) e) }
     ensures part { IfErr result (λ e. SaysUnread ((part : List ℕ) × IsHeadless part × Consumes (S.left source.old) (S.left source.new) part) e) }
+    ensures taken { (taken : List ℕ) × Consumes (S.left source.old) (S.left source.new) taken }
     ensures caused { IfErr result (λ e. IsReadCause (S.faults source.old) (S.faults source.new) e) }
     ensures later { S.faults source.old ≤ S.faults source.new }
 {
@@ -265,6 +268,7 @@ pub fn damage<S: Source, K: Sink>(
     ensures place { (i : ℕ) → result ≡ Err (Place i) → IsMisplacedLane (S.left source.old) (S.left source.new) hits.now i × Keeps (K.held out.old) (K.held out.new) }
     ensures read { result ≡ Err Read → ReadFailed (S.left source.old) (S.left source.new) hits.now (K.held out.old) (K.held out.new) }
     ensures part { result ≡ Err Write → WriteFailed (S.left source.old) (S.left source.new) hits.now (K.held out.old) (K.held out.new) }
+    ensures taken { (taken : List ℕ) × Consumes (S.left source.old) (S.left source.new) taken }
     ensures ended { OnOk result (IsAtEnd (S.left source.new)) }
     ensures read_cause { result ≡ Err Read → Rose (S.faults source.old) (S.faults source.new) }
     ensures write_cause { result ≡ Err Write → Rose (K.faults out.old) (K.faults out.new) }

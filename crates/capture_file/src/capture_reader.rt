@@ -74,6 +74,7 @@ impl<'a, S: Source> CaptureReader<'a, S> {
         ensures ok { OnOk result ((head : List ℕ) × Consumes (S.left self.old.source.now) (S.left self.new.source.now) head × Stands self.new.version self.new.bits self.new.block head [] [] []) }
         ensures err { (bytes : List ℕ) → S.left self.old.source.now ≡ Some bytes → IfErr result (λ e. SaysOf (λ fault. IsEarlyFault bytes fault) e) }
         ensures part { IfErr result (λ e. SaysRead ((part : List ℕ) × IsHeadless part × Consumes (S.left self.old.source.now) (S.left self.new.source.now) part) e) }
+        ensures taken { (taken : List ℕ) × Consumes (S.left self.old.source.now) (S.left self.new.source.now) taken }
         ensures caused { IfErr result (λ e. IsCaused (S.faults self.old.source.now) (S.faults self.new.source.now) e) }
         ensures later { S.faults self.old.source.now ≤ S.faults self.new.source.now }
     {
@@ -129,6 +130,7 @@ impl<'a, S: Source> CaptureReader<'a, S> {
         ensures err { (bytes taken : List ℕ) (x y z : List Bool) → S.left self.old.source.now ≡ Some bytes → Stands self.old.version self.old.bits self.old.block taken x y z
             → IfErr result (λ e. SaysOf (λ fault. IsFault (taken ++ bytes) fault × StopsIn self.old.bits self.old.block taken (place_of fault)) e) }
         ensures part { IfErr result (λ e. SaysRead ((part : List ℕ) × ((length part < block_size self.old.block self.old.bits) ⊎ (part ≡ [])) × Consumes (S.left self.old.source.now) (S.left self.new.source.now) part) e) }
+        ensures taken { (taken : List ℕ) × Consumes (S.left self.old.source.now) (S.left self.new.source.now) taken }
         ensures caused { IfErr result (λ e. IsCaused (S.faults self.old.source.now) (S.faults self.new.source.now) e) }
         ensures later { S.faults self.old.source.now ≤ S.faults self.new.source.now }
     {
@@ -177,7 +179,8 @@ impl<'a, S: Source> CaptureReader<'a, S> {
             ((v.is_open ≡ false) × Consumes (S.left self.old.source.now) (S.left v.source.now) [] × IsAtEnd (S.left v.source.now))
             (λ block. (v.is_open ≡ true) × (v.block ≡ self.old.block + 1) × Consumes (S.left self.old.source.now) (S.left v.source.now) ((block.a.now ++ block.b.now) ++ block.c.now)))
             × IfErr result (λ e. (v.is_open ≡ false) × IsCaused (S.faults self.old.source.now) (S.faults v.source.now) e
-            × SaysRead ((part : List ℕ) × ((length part < block_size self.old.block self.old.bits) ⊎ (part ≡ [])) × Consumes (S.left self.old.source.now) (S.left v.source.now) part) e))) }
+            × SaysRead ((part : List ℕ) × ((length part < block_size self.old.block self.old.bits) ⊎ (part ≡ [])) × Consumes (S.left self.old.source.now) (S.left v.source.now) part) e
+            × ((taken : List ℕ) × Consumes (S.left self.old.source.now) (S.left v.source.now) taken)))) }
     {
         let block = self.block;
         match self.advance() {

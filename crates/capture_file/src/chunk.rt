@@ -82,6 +82,7 @@ impl Chunk {
         ensures err { (bytes front : List ℕ) → S.left source.old ≡ Some bytes → (0 < count → Awaits front count) → place ≡ length front → IfErr result (λ e. SaysOf (λ fault. IsFault (front ++ bytes) fault) e) }
         ensures within { IfErr result (λ e. SaysOf (λ fault. IsWithin place ((count + 7) / 8) (place_of fault)) e) }
         ensures part { IfErr result (λ e. SaysRead ((part : List ℕ) × (length part < (count + 7) / 8) × Consumes (S.left source.old) (S.left source.new) part) e) }
+        ensures taken { (taken : List ℕ) × Consumes (S.left source.old) (S.left source.new) taken }
         ensures caused { IfErr result (λ e. IsCaused (S.faults source.old) (S.faults source.new) e) }
         ensures later { S.faults source.old ≤ S.faults source.new }
     {
@@ -107,6 +108,7 @@ fn read_front<S: Source>(
     ensures err { (bytes front : List ℕ) → S.left source.old ≡ Some bytes → (0 < count → Awaits front count) → place ≡ length front → IfErr result (λ e. SaysOf (λ fault. IsFault (front ++ bytes) fault) e) }
     ensures within { IfErr result (λ e. SaysOf (λ fault. IsWithin place ((count + 7) / 8) (place_of fault)) e) }
     ensures part { IfErr result (λ e. SaysRead ((part : List ℕ) × (length part < (count + 7) / 8) × Consumes (S.left source.old) (S.left source.new) part) e) }
+    ensures taken { (taken : List ℕ) × Consumes (S.left source.old) (S.left source.new) taken }
     ensures caused { IfErr result (λ e. IsCaused (S.faults source.old) (S.faults source.new) e) }
     ensures later { S.faults source.old ≤ S.faults source.new }
 {
@@ -130,6 +132,7 @@ fn read_part<S: Source>(
     ensures err { (bytes front : List ℕ) → S.left source.old ≡ Some bytes → (0 < count → Awaits front count) → place ≡ length front → IfErr result (λ e. SaysOf (λ fault. IsFault (front ++ bytes) fault) e) }
     ensures within { IfErr result (λ e. SaysOf (λ fault. IsWithin place ((count + 7) / 8) (place_of fault)) e) }
     ensures part { IfErr result (λ e. SaysRead ((part : List ℕ) × (length part < (count + 7) / 8) × Consumes (S.left source.old) (S.left source.new) part) e) }
+    ensures taken { (taken : List ℕ) × Consumes (S.left source.old) (S.left source.new) taken }
     ensures caused { IfErr result (λ e. IsCaused (S.faults source.old) (S.faults source.new) e) }
     ensures later { S.faults source.old ≤ S.faults source.new }
 {
@@ -196,6 +199,7 @@ impl Chunks {
         ensures err { (bytes taken : List ℕ) (x y z : List Bool) → S.left source.old ≡ Some bytes → HasRead bits j place taken x y z → IfErr result (λ e. SaysOf (λ fault. IsFault (taken ++ bytes) fault) e) }
         ensures within { IfErr result (λ e. SaysOf (λ fault. IsWithin place (block_size j bits) (place_of fault)) e) }
         ensures part { IfErr result (λ e. SaysRead ((part : List ℕ) × (length part < block_size j bits) × Consumes (S.left source.old) (S.left source.new) part) e) }
+        ensures taken { (taken : List ℕ) × Consumes (S.left source.old) (S.left source.new) taken }
         ensures caused { IfErr result (λ e. IsCaused (S.faults source.old) (S.faults source.new) e) }
         ensures later { S.faults source.old ≤ S.faults source.new }
     {

@@ -17,6 +17,7 @@ pub(crate) fn fill<S: Source>(source: &mut S, into: &mut [u8]) -> Result<usize, 
     ensures end { IfOk result (λ n. n < length into.new → IsAtEnd (S.left source.new)) }
     ensures part { IfErr result (λ n. Consumes (S.left source.old) (S.left source.new) (take n into.new)) }
     ensures less { IfErr result (λ n. n < length into.new) }
+    ensures taken { (taken : List ℕ) × Consumes (S.left source.old) (S.left source.new) taken }
     ensures cause { HasCause (S.faults source.old) (S.faults source.new) result }
 {
     let mut at = 0;
@@ -38,6 +39,7 @@ pub(crate) fn read_end<S: Source>(source: &mut S, place: u64) -> Result<(), Capt
     ensures none { (bytes : List ℕ) → S.left source.old ≡ Some bytes → OnOk result (bytes ≡ []) }
     ensures within { IfErr result (λ e. SaysOf (λ fault. place_of fault ≡ place) e) }
     ensures part { IfErr result (λ e. SaysRead (Consumes (S.left source.old) (S.left source.new) []) e) }
+    ensures taken { (taken : List ℕ) × Consumes (S.left source.old) (S.left source.new) taken }
     ensures caused { IfErr result (λ e. IsCaused (S.faults source.old) (S.faults source.new) e) }
     ensures later { S.faults source.old ≤ S.faults source.new }
 {

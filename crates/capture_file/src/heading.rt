@@ -35,6 +35,7 @@ pub(crate) fn read_heading<S: Source>(source: &mut S) -> Result<Heading, Capture
     ensures said { IfOk result (λ h. CanSay h.version h.bits) }
     ensures err { (bytes : List ℕ) → S.left source.old ≡ Some bytes → IfErr result (λ e. SaysOf (λ fault. IsEarlyFault bytes fault) e) }
     ensures part { IfErr result (λ e. SaysRead ((part : List ℕ) × IsHeadless part × Consumes (S.left source.old) (S.left source.new) part) e) }
+    ensures taken { (taken : List ℕ) × Consumes (S.left source.old) (S.left source.new) taken }
     ensures caused { IfErr result (λ e. IsCaused (S.faults source.old) (S.faults source.new) e) }
     ensures later { S.faults source.old ≤ S.faults source.new }
 {
@@ -62,6 +63,7 @@ fn read_first<S: Source>(source: &mut S) -> Result<[u8; 8], CaptureError>
     ensures version { IfOk result (λ head. (get_or head 3 0 ≡ 49) ⊎ (get_or head 3 0 ≡ 50)) }
     ensures err { (bytes : List ℕ) → S.left source.old ≡ Some bytes → IfErr result (λ e. SaysOf (λ fault. IsEarlyFault bytes fault) e) }
     ensures part { IfErr result (λ e. SaysRead ((part : List ℕ) × (length part < 8) × Consumes (S.left source.old) (S.left source.new) part) e) }
+    ensures taken { (taken : List ℕ) × Consumes (S.left source.old) (S.left source.new) taken }
     ensures caused { IfErr result (λ e. IsCaused (S.faults source.old) (S.faults source.new) e) }
     ensures later { S.faults source.old ≤ S.faults source.new }
 {
@@ -118,6 +120,7 @@ fn read_second<S: Source>(source: &mut S, bits: u32) -> Result<[u32; 2], Capture
     ensures small { IfOk result (λ more. (slice_index more 0 < 2 ^ 32) × (slice_index more 1 < 2 ^ 32)) }
     ensures err { (bytes : List ℕ) → S.left source.old ≡ Some bytes → IfErr result (λ e. SaysOf (λ fault. IsEarlyFault (((codes "TMC" ++ 50 ∷ []) ++ high_first bits) ++ bytes) fault) e) }
     ensures part { IfErr result (λ e. SaysRead ((part : List ℕ) × (length part < 8) × Consumes (S.left source.old) (S.left source.new) part) e) }
+    ensures taken { (taken : List ℕ) × Consumes (S.left source.old) (S.left source.new) taken }
     ensures caused { IfErr result (λ e. IsCaused (S.faults source.old) (S.faults source.new) e) }
     ensures later { S.faults source.old ≤ S.faults source.new }
 {

@@ -1,9 +1,9 @@
 //! Three lanes that take columns and keep their bits.
-ghost use Rattle.std.specs.Prelude.{◌≡◌, ℕ, ◌+◌, ◌*◌, ◌%◌, ◌^◌, ◌<◌, ◌≤◌, ◌++◌, ◌∷◌, [], length, take, slice_index, All, IfOk, OnOk, OnErr};
+ghost use Rattle.std.specs.Prelude.{◌≡◌, ℕ, ◌+◌, ◌*◌, ◌/◌, ◌%◌, ◌^◌, ◌<◌, ◌≤◌, ◌++◌, ◌∷◌, [], length, take, slice_index, All, IfOk, OnOk, OnErr};
 ghost use Rattle.outside_io.specs.Causes.{next, HasCause};
-ghost use Rattle.tmds_word.specs.Bits.{word_bits, row_bits};
+ghost use Rattle.tmds_word.specs.Bits.{word_bits, row_bits, bytes_bits};
 ghost use Rattle.tmds_word.specs.Column.{column_of};
-ghost use Rattle.tmds_word.specs.Words.{columns_of};
+ghost use Rattle.tmds_word.specs.Words.{columns_of, packed_columns};
 
 use outside_io::NoMemory;
 use std::alloc::Global;
@@ -122,6 +122,35 @@ impl ColumnSink for Lanes {
             }
         }
     }
+
+    fn packed(&mut self, blue: &[u8], green: &[u8], red: &[u8]) -> Result<(), NoMemory>
+        requires fives { length blue.now % 5 ≡ 0 }
+        requires green { length green.now ≡ length blue.now }
+        requires red { length red.now ≡ length blue.now }
+        requires room { length self.old.columns + length blue.now / 5 * 4 ≤ 429496729 }
+        ensures ok { OnOk result (self.new.columns ≡ self.old.columns ++ packed_columns blue.now green.now red.now) }
+        ensures part { OnErr result ((k : ℕ) × (self.new.columns ≡ self.old.columns ++ take k (packed_columns blue.now green.now red.now))) }
+        ensures cause { HasCause self.old.refusals self.new.refusals result }
+
+        ensures err { OnErr result (self.new.columns ≡ self.old.columns) }
+        ensures same { OnOk result (self.new.refusals ≡ self.old.refusals) }
+        ensures raised { OnErr result (self.new.refusals ≡ next self.old.refusals) }
+    {
+        match push_packed(
+            &mut self.blue,
+            &mut self.green,
+            &mut self.red,
+            blue,
+            green,
+            red,
+        ) {
+            Ok(()) => Ok(()),
+            Err(refused) => {
+                self.refusals = self.refusals.saturating_add(1);
+                Err(refused)
+            }
+        }
+    }
 }
 
 /// Appends one character to each of three rows of one length. After a refusal the rows are as before.
@@ -184,6 +213,41 @@ fn push_columns(
         return Err(refused);
     }
     if let Err(refused) = red.push_words(red_words) {
+        blue.truncate(before);
+        green.truncate(before);
+        return Err(refused);
+    }
+    Ok(())
+}
+
+/// Appends equally many bytes to each of three rows of one length. After a refusal the rows are as before.
+fn push_packed(
+    blue: &mut BitRow,
+    green: &mut BitRow,
+    red: &mut BitRow,
+    blue_bytes: &[u8],
+    green_bytes: &[u8],
+    red_bytes: &[u8],
+) -> Result<(), NoMemory>
+    requires green { length green.old ≡ length blue.old }
+    requires red { length red.old ≡ length blue.old }
+    requires green_bytes { length green_bytes.now ≡ length blue_bytes.now }
+    requires red_bytes { length red_bytes.now ≡ length blue_bytes.now }
+    requires room { length blue.old + 8 * length blue_bytes.now < 2 ^ 32 }
+    ensures blue_ok { OnOk result (blue.new ≡ blue.old ++ bytes_bits blue_bytes.now) }
+    ensures green_ok { OnOk result (green.new ≡ green.old ++ bytes_bits green_bytes.now) }
+    ensures red_ok { OnOk result (red.new ≡ red.old ++ bytes_bits red_bytes.now) }
+    ensures blue_err { OnErr result (blue.new ≡ blue.old) }
+    ensures green_err { OnErr result (green.new ≡ green.old) }
+    ensures red_err { OnErr result (red.new ≡ red.old) }
+{
+    let before = blue.len();
+    blue.push_bytes(blue_bytes)?;
+    if let Err(refused) = green.push_bytes(green_bytes) {
+        blue.truncate(before);
+        return Err(refused);
+    }
+    if let Err(refused) = red.push_bytes(red_bytes) {
         blue.truncate(before);
         green.truncate(before);
         return Err(refused);

@@ -102,6 +102,7 @@ impl Rows {
             → IfErr result (λ e. SaysFaulty (λ fault. IsFault (taken ++ bytes) fault) e) }
         ensures part { result ≡ Err Read → (part : List ℕ) × (length part < block_size j heading.bits) × Consumes (S.left source.old) (S.left source.new) part }
         ensures full { result ≡ Err WantsMemory → (part : List ℕ) × Consumes (S.left source.old) (S.left source.new) part }
+        ensures taken { (taken : List ℕ) × Consumes (S.left source.old) (S.left source.new) taken }
         ensures unplaced { result ≡ Err Place → ⊥ }
         ensures unwritten { result ≡ Err Write → ⊥ }
         ensures caused { result ≡ Err Read → Rose (S.faults source.old) (S.faults source.new) }
@@ -181,6 +182,7 @@ fn read_rows<S: Source>(alloc: Global, source: &mut S, heading: Heading) -> Resu
         → (part : List ℕ) × Consumes (S.left source.old) (S.left source.new) part × IsReadPart (header_of heading.version heading.bits ++ part) lane place count }
     ensures full { result ≡ Err WantsMemory → (part : List ℕ) × Consumes (S.left source.old) (S.left source.new) part }
     ensures unplaced { result ≡ Err Place → ⊥ }
+    ensures taken { (taken : List ℕ) × Consumes (S.left source.old) (S.left source.new) taken }
     ensures unwritten { result ≡ Err Write → ⊥ }
     ensures caused { result ≡ Err Read → Rose (S.faults source.old) (S.faults source.new) }
     ensures later { S.faults source.old ≤ S.faults source.new }
@@ -215,6 +217,7 @@ fn read_fitting<S: Source>(
     ensures err { (bytes : List ℕ) → S.left source.old ≡ Some bytes → IfErr result (λ e. SaysFaulty (λ fault. IsEarlyFault bytes fault) e) }
     ensures place { result ≡ Err Place → IsPastLane (S.left source.old) (S.left source.new) lane place count }
     ensures part { result ≡ Err Read → (part : List ℕ) × IsHeadless part × Consumes (S.left source.old) (S.left source.new) part }
+    ensures taken { (taken : List ℕ) × Consumes (S.left source.old) (S.left source.new) taken }
     ensures unwritten { result ≡ Err Write → ⊥ }
     ensures remembered { result ≡ Err WantsMemory → ⊥ }
     ensures caused { result ≡ Err Read → Rose (S.faults source.old) (S.faults source.new) }
@@ -262,6 +265,7 @@ pub fn slip<S: Source, K: Sink>(
     ensures place { result ≡ Err Place → IsPastLane (S.left source.old) (S.left source.new) lane place drop }
     ensures read { result ≡ Err Read → StopsReading (S.left source.old) (S.left source.new) lane place drop }
     ensures memory { result ≡ Err WantsMemory → StopsKeeping (S.left source.old) (S.left source.new) lane place drop }
+    ensures taken { (taken : List ℕ) × Consumes (S.left source.old) (S.left source.new) taken }
     ensures unwritten { IfErr result (λ e. (e ≡ Write → ⊥) → Keeps (K.held out.old) (K.held out.new)) }
     ensures ended { OnOk result (IsAtEnd (S.left source.new)) }
     ensures read_cause { result ≡ Err Read → Rose (S.faults source.old) (S.faults source.new) }

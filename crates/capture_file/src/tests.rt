@@ -263,6 +263,27 @@ fn taps(rt: HostRuntime) -> Result<(), Fail> {
     Ok(())
 }
 
+// Packed columns: on each lane the bits of the bytes.
+#[test]
+fn packed_columns(rt: HostRuntime) -> Result<(), Fail> {
+    let blue = [0xcc, 0xce, 0xb4, 0x0a, 0xd5];
+    let green = [0x54, 0xaf, 0x32, 0x13, 0xb3];
+    let red = [0x01, 0x02, 0x04, 0x08, 0x10];
+    let sent = b"TMC1\0\0\0\x28\xcc\xce\xb4\x0a\xd5\x54\xaf\x32\x13\xb3\x01\x02\x04\x08\x10";
+    let mut lanes = Lanes::new(rt.alloc());
+    lanes.packed(&blue, &green, &red)?;
+    let tap = Tap {
+        version: 1,
+        offset: 0,
+        skews: [0; 3],
+        bits: None,
+    };
+    let mut sink = MemSink::new(rt.alloc(), 200, 50, Vec::new(rt.alloc()))?;
+    assert_eq!(rt; write_capture(&lanes, &tap, &mut sink), Ok(()));
+    assert_eq!(rt; sink.bytes(), sent.as_slice());
+    Ok(())
+}
+
 #[test]
 fn long_taps(rt: HostRuntime) -> Result<(), Fail> {
     let lanes = lanes_of(rt.alloc(), &COLUMNS, 3500)?;

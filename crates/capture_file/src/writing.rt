@@ -162,8 +162,9 @@ pub(crate) fn write_rows<K: Sink>(
 {
     let most = bits[0].max(bits[1].max(bits[2]));
     let mut gone = write_header(version, bits, out)?;
+    let mut room = [0; 4096];
     for j in 0..blocks_for(most) {
-        match write_block(blue, green, red, starts, bits, j, out) {
+        match write_block(blue, green, red, starts, bits, j, &mut room, out) {
             Ok(count) => gone += count,
             Err(part) => {
                 return Err(Wrote {
@@ -176,6 +177,7 @@ pub(crate) fn write_rows<K: Sink>(
 }
 
 /// Writes block `j` of such a capture, the three lanes' chunks one after another, and says how many bytes it has.
+/// A chunk's bytes are made in `room`.
 fn write_block<K: Sink>(
     blue: &BitRow,
     green: &BitRow,
@@ -183,6 +185,7 @@ fn write_block<K: Sink>(
     starts: [u32; 3],
     bits: [u32; 3],
     j: u32,
+    room: &mut [u8; 4096],
     out: &mut K,
 ) -> Result<usize, Wrote>
     requires below { 32768 * j < 2 ^ 32 }
@@ -196,8 +199,8 @@ fn write_block<K: Sink>(
     ensures small { IfErr result (λ w. w.gone < 12288) }
     ensures cause { HasCause (K.faults out.old) (K.faults out.new) result }
 {
-    let first = write_chunk(blue, starts[0], bits[0], j, out)?;
-    let second = match write_chunk(green, starts[1], bits[1], j, out) {
+    let first = write_chunk(blue, starts[0], bits[0], j, room, out)?;
+    let second = match write_chunk(green, starts[1], bits[1], j, room, out) {
         Ok(count) => first + count,
         Err(part) => {
             return Err(Wrote {
@@ -205,7 +208,7 @@ fn write_block<K: Sink>(
             });
         }
     };
-    match write_chunk(red, starts[2], bits[2], j, out) {
+    match write_chunk(red, starts[2], bits[2], j, room, out) {
         Ok(count) => Ok(second + count),
         Err(part) => Err(Wrote {
             gone: second + part.gone,
@@ -214,11 +217,13 @@ fn write_block<K: Sink>(
 }
 
 /// Writes chunk `j` of the lane that the `bits` bits of a row from `from` on are, and says how many bytes it has.
+/// They are made in `room`.
 fn write_chunk<K: Sink>(
     row: &BitRow,
     from: u32,
     bits: u32,
     j: u32,
+    room: &mut [u8; 4096],
     out: &mut K,
 ) -> Result<usize, Wrote>
     requires below { 32768 * j < 2 ^ 32 }
@@ -235,8 +240,7 @@ fn write_chunk<K: Sink>(
     if count == 0 {
         return Ok(0);
     }
-    let mut bytes = [0; 4096];
-    let part = &mut bytes[..count.div_ceil(8) as usize];
+    let part = &mut room[..count.div_ceil(8) as usize];
     copy_packed(row, from + 32768 * j, count, part);
     write_piece(out, part)
 }

@@ -1,10 +1,13 @@
-use Rattle.std.proofs.Common.{◌≡◌, ◌++◌, ℕ, List, sym, subst, inr, append_assoc}
+use Rattle.std.proofs.Common.{◌≡◌, ◌++◌, ℕ, List, sym, subst, inl, inr, append_assoc}
 use Rattle.std.specs.Io.KnownBytes.{Appends}
 use Rattle.std.proofs.KnownBytes.{Consumes-trans}
 use Rattle.capture_file.specs.Captures.{header_of, block_size}
-use Rattle.capture_file.specs.BlockDamage.{Halfway, SaysFault, SaysBad, IsLateFault, IsDamageFault, IsDamagedCapture}
+use Rattle.capture_file.specs.BlockDamage.{Halfway, SaysFault, SaysBad, SaysUnread, IsLateFault, IsDamageFault, IsDamagedCapture}
+use Rattle.capture_file.specs.declared.damaging.DamageError.{DamageError}
+use Rattle.capture_file.specs.declared.damaging.DamageError.TheVariants.{Read}
 use Rattle.capture_file.specs.declared.fault.CaptureFault.{CaptureFault}
 use Rattle.capture_file.proofs.Marks.{consumed}
+use Rattle.capture_file.proofs.Consumed.{takes_more}
 use Rattle.capture_file.proofs.Damages.{halfway_head, halfway_done, fault_late, fault_early, keeps_self, on_done, on_error}
 use Rattle.capture_file.proofs.block_damage.damage.Goals as goal
 
@@ -87,3 +90,15 @@ returns-in-Ok-write_header-clause-part g c is =
         cut = p.3;
       });
     }
+
+unread_of : (said : Type 0) (e : DamageError) → e ≡ Read → SaysUnread said e → said
+unread_of said e same h = subst (λ (d : DamageError). SaysUnread said d) same h
+
+pub returns-in-Err-clause-read : goal.returns-in-Err-clause-read
+returns-in-Err-clause-read g c is =
+    let same : c.in-Err.error ≡ Read = cc in
+    let p = unread_of _ c.in-Err.error same c.in-Err.ensures.part in
+    record { read = p.0; took = p.2; wrote = inl (p.1, keeps_self (g.K.Sink.held c.args.out.now)) }
+
+pub returns-in-Ok-write_header-clause-taken : goal.returns-in-Ok-write_header-clause-taken
+returns-in-Ok-write_header-clause-taken g c = takes_more _ _ _ _ c.in-Ok.ensures.ok c.damage_lanes.ensures.taken

@@ -12,6 +12,7 @@ use Rattle.capture_file.specs.declared.fault.CaptureError.{CaptureError}
 use Rattle.capture_file.specs.declared.fault.CaptureError.TheVariants as errors
 use Rattle.capture_file.proofs.Marks.{consumed}
 use Rattle.capture_file.proofs.Standing.{says_end}
+use Rattle.capture_file.proofs.Consumed.{takes_more}
 use Rattle.capture_file.proofs.Halfways.{halfway_kept, late_fault}
 use Rattle.capture_file.proofs.block_damage.damage_lanes.Goals as goal
 
@@ -28,6 +29,7 @@ not_write e r own is w = cc
 pub loop-j-init : goal.loop-j-init
 loop-j-init g c = record {
   went = λ taken before h. ([], Consumes-nil _, subst (λ bs. Halfway c.args.heading.version c.args.heading.bits c.args.hits.now 0 bs before (g.K.Sink.held c.args.out.now)) (sym (append-nil taken)) h);
+  taken = ([], Consumes-nil _);
   input_later = omega arith;
   output_later = omega arith;
 }
@@ -44,6 +46,7 @@ loop-j-preserved g c =
             Consumes-trans _ _ _ w.0 b.0 w.1 b.1,
             subst (λ bs. Halfway c.args.heading.version c.args.heading.bits c.args.hits.now (c.loop-j.j + 1) bs before (g.K.Sink.held c.damage_block.new.out)) (append_assoc taken w.0 b.0) b.2,
           );
+      taken = takes_more _ _ _ i.taken.0 i.taken.1 e.taken;
       input_later = omega (arith, i.input_later, e.input_later);
       output_later = omega (arith, i.output_later, e.output_later);
     }
@@ -118,3 +121,12 @@ returns-in-Err-read_end-clause-part g c taken before h is =
     let w = c.loop-j.invariant.went taken before h in
     let none = read_part c.in-Err-read_end.error (Err c.from.result) c.from.result _ refl c.from.ensures is c.in-Err-read_end.ensures.part in
     (c.loop-j.j, w.0, [], w.2, inr refl, Consumes-trans _ _ _ w.0 [] w.1 none)
+
+pub returns-in-Err-clause-taken : goal.returns-in-Err-clause-taken
+returns-in-Err-clause-taken g c = takes_more _ _ _ c.loop-j.invariant.taken.0 c.loop-j.invariant.taken.1 c.in-Err.ensures.taken
+
+pub returns-in-Ok-clause-taken : goal.returns-in-Ok-clause-taken
+returns-in-Ok-clause-taken g c = takes_more _ _ _ c.loop-j.invariant.taken.0 c.loop-j.invariant.taken.1 c.in-Ok.ensures.taken
+
+pub returns-in-Err-read_end-clause-taken : goal.returns-in-Err-read_end-clause-taken
+returns-in-Err-read_end-clause-taken g c = takes_more _ _ _ c.loop-j.invariant.taken.0 c.loop-j.invariant.taken.1 c.in-Err-read_end.ensures.taken

@@ -9,6 +9,7 @@ invariant-loop-j g l = record {
   went :
       (taken : List ℕ) (before : Option (List ℕ)) → Halfway l.heading.version l.heading.bits l.hits 0 taken before (g.K.Sink.held l.fn.out)
       → (part : List ℕ) × Consumes (g.S.Source.left l.fn.source) (g.S.Source.left l.source) part × Halfway l.heading.version l.heading.bits l.hits l.j (taken ++ part) before (g.K.Sink.held l.out);
+  taken : (taken : List ℕ) × Consumes (g.S.Source.left l.fn.source) (g.S.Source.left l.source) taken;
   input_later : g.S.Source.faults l.fn.source ≤ g.S.Source.faults l.source;
   output_later : g.K.Sink.faults l.fn.out ≤ g.K.Sink.faults l.out;
 }

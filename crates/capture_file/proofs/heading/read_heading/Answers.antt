@@ -6,6 +6,7 @@ use Rattle.std.proofs.KnownBytes.{Consumes-trans}
 use Rattle.capture_file.specs.Layout.{high_first}
 use Rattle.capture_file.specs.Captures.{IsEarlyFault}
 use Rattle.capture_file.proofs.Marks.{consumed}
+use Rattle.capture_file.proofs.Consumed.{takes_more}
 use Rattle.capture_file.proofs.Judged.{says_of, says_read, headless_short, headless_part, head_is, first_is, header_one, header_two_is}
 use Rattle.capture_file.proofs.heading.read_heading.Goals as goal
 
@@ -50,3 +51,9 @@ returns-clause-ok g c =
     subst (λ bs. Consumes (g.S.Source.left c.args.source.now) (g.S.Source.left c.read_second.new.source) bs)
     (ap (λ xs. xs ++ (high_first (get_or c.in_ok-green.field-0 0 0) ++ high_first (get_or c.in_ok-green.field-0 1 0))) is ∙ sym (header_two_is n (get_or c.in_ok-green.field-0 0 0) (get_or c.in_ok-green.field-0 1 0)))
     (Consumes-trans _ _ _ _ _ h.ok c.in_ok-green.ensures.ok)
+
+pub returns-in_err-green-clause-taken : goal.returns-in_err-green-clause-taken
+returns-in_err-green-clause-taken g c = takes_more _ _ _ _ c.in_ok-head.ensures.ok c.in_err-green.ensures.taken
+
+pub returns-clause-taken : goal.returns-clause-taken
+returns-clause-taken g c = takes_more _ _ _ _ c.in_ok-head.ensures.ok c.in_ok-green.ensures.taken

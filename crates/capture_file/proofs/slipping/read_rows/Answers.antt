@@ -1,7 +1,7 @@
 use Rattle.std.proofs.Common.{arith, ◌≡◌, ◌+◌, ◌/◌, ◌≤◌, ◌++◌, [], ℕ, List, Bool, max, ◌∙◌, sym, ap, subst, refl, append_assoc, append-nil, inl, inr}
-use Rattle.std.specs.Prelude.{Option, Result, Err, slice_index}
+use Rattle.std.specs.Prelude.{Result, Err, slice_index}
 use Rattle.std.proofs.KnownBytes.{Consumes-nil, Consumes-trans}
-use Rattle.capture_file.specs.Captures.{SaysOf, SaysRead, IsFault, IsCaptureOf, Stands, StopsIn, header_of, block_size, place_of, place_at}
+use Rattle.capture_file.specs.Captures.{SaysRead, IsFault, IsCaptureOf, Stands, StopsIn, header_of, block_size, place_of, place_at}
 use Rattle.capture_file.specs.Slips.{SaysFaulty, unread}
 use Rattle.capture_file.specs.declared.slipping.SlipError.{SlipError}
 use Rattle.capture_file.specs.declared.slipping.SlipError.TheVariants.{Read, NoMemory as WantsMemory}
@@ -10,6 +10,7 @@ use Rattle.capture_file.specs.declared.fault.CaptureError.{CaptureError}
 use Rattle.capture_file.specs.declared.fault.CaptureError.TheVariants as errors
 use Rattle.capture_file.proofs.Marks.{consumed}
 use Rattle.capture_file.proofs.Standing.{stands_head, says_end}
+use Rattle.capture_file.proofs.Consumed.{takes_more}
 use Rattle.capture_file.proofs.Takings.{ended}
 use Rattle.capture_file.proofs.SlippedLanes.{faulty_of, faulty_as}
 use Rattle.capture_file.proofs.slipping.read_rows.Goals as goal
@@ -149,3 +150,9 @@ returns-in-Err-clause-full g c is =
     let same : c.in-Err.error ≡ WantsMemory = cc in
     let p = c.in-Err.ensures.full (ap Err same) in
     (w.0 ++ p.0, Consumes-trans _ _ _ w.0 p.0 w.1 p.1)
+
+pub returns-in-Err-clause-taken : goal.returns-in-Err-clause-taken
+returns-in-Err-clause-taken g c = takes_more _ _ _ c.loop-j.invariant.went.0 c.loop-j.invariant.went.1 c.in-Err.ensures.taken
+
+pub returns-in-Err-read_end-clause-taken : goal.returns-in-Err-read_end-clause-taken
+returns-in-Err-read_end-clause-taken g c = takes_more _ _ _ c.loop-j.invariant.went.0 c.loop-j.invariant.went.1 c.in-Err-read_end.ensures.taken

@@ -1,6 +1,7 @@
-use Rattle.std.proofs.Common.{sym, subst, refl}
+use Rattle.std.proofs.Common.{[], sym, subst, refl, inr}
 use Rattle.std.proofs.lemmas.Result.{err_from_is_err_and}
 use Rattle.capture_file.specs.Captures.{HasRead}
+use Rattle.capture_file.proofs.Judged.{says_read}
 use Rattle.capture_file.proofs.Standing.{says_end, says_inside}
 use Rattle.capture_file.proofs.capture_reader.CaptureReader.advance.Goals as goal
 
@@ -22,3 +23,8 @@ returns-in_err-read-clause-err g c bytes taken x y z e s =
 
 pub returns-clause-block : goal.returns-clause-block
 returns-clause-block g c = λ _. (refl, c.is_past.ensures.below c.if-is_past.false)
+
+pub returns-in_err-read_end-clause-part : goal.returns-in_err-read_end-clause-part
+returns-in_err-read_end-clause-part g c =
+    let p = err_from_is_err_and c.from_residual.result c.from_residual.ensures.1 in
+    rw (p.1, p.2) (says_read _ _ c.in_err-read_end.field-0.0 (λ none. ([], inr refl, none)) c.in_err-read_end.ensures.part)
