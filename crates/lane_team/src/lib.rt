@@ -1,4 +1,4 @@
-//! Three lanes aligned side by side, each by a worker of its own.
+//! Three lanes aligned side by side, each by a worker of its own, or one after another.
 #![tactic(auto)]
 
 ghost use Rattle.std.specs.Prelude.{◌≡◌, ◌<◌, List, Bool, slice_index};
@@ -167,6 +167,21 @@ impl Team {
                 );
             },
         );
+    }
+
+    /// Takes bits of each lane as `feed_three` does, one lane after another: for so few that workers take longer.
+    pub fn feed_in_turn(&mut self, a: &[u8], b: &[u8], c: &[u8], bits: [u32; 3])
+        requires first { CanTake self.old.first a.now (slice_index bits 0) }
+        requires second { CanTake self.old.second b.now (slice_index bits 1) }
+        requires third { CanTake self.old.third c.now (slice_index bits 2) }
+        ensures first { HasTaken self.old.first a.now (slice_index bits 0) self.new.first }
+        ensures second { HasTaken self.old.second b.now (slice_index bits 1) self.new.second }
+        ensures third { HasTaken self.old.third c.now (slice_index bits 2) self.new.third }
+    {
+        let [blue, green, red] = bits;
+        self.first.feed(a, blue);
+        self.second.feed(b, green);
+        self.third.feed(c, red);
     }
 
     /// The characters that the last feed gave of a lane.

@@ -16,12 +16,14 @@ use Rattle.lane_deskew.specs.Alternating.{IsAlternating}
 use Rattle.lane_deskew.proofs.Shapes.{alternating, ends_apart}
 use Rattle.island_pack.specs.Periods.{Period}
 use Rattle.island_pack.specs.Sparse.{AreFew, no_column, column_at, SparesUntil}
+use Rattle.link_sink.proofs.Freely.{free_came}
 use Rattle.link_sink.proofs.Ends.{near_from, flat}
 use Rattle.link_sink.proofs.Decided.{first_decided}
 use Rattle.link_sink.proofs.Lanes.{fitting_length, fitting_at, lane_sent, not_damaged, few_marked}
-use Rattle.link_sink.proofs.Spelled.{fitting}
+use Rattle.link_sink.proofs.Spelled.{fitting_freely}
 use Rattle.island_pack.specs.Kinds.{Kind, control_column, first_guard, IsPayload, kinds_of, kind_at, EndsAt, IsAfterControl}
-use Rattle.link_sink.specs.Laws.{CameOf, EndsControl, BeginColumn, HoldsEnd, FirstUntil}
+use Rattle.link_sink.specs.Freely.{CameFreely, FirstUntilFreely}
+use Rattle.link_sink.specs.Laws.{EndsControl, BeginColumn, HoldsEnd, FirstUntil}
 use Rattle.link_sink.proofs.Until.{IsReceivedUntil, Holds, edge_until, end_edge}
 
 -- One lane.
@@ -53,7 +55,7 @@ received_until ks f sent received s len below few spares =
     }
 
 -- the lane of a stream that a projection takes
-lane_until : (g : Column → ℕ) (ps : List Period) (sent received : List Column) (f : ℕ) → CameOf ps sent received → SparesUntil ps sent received f
+lane_until : (g : Column → ℕ) (ps : List Period) (sent received : List Column) (f : ℕ) → CameFreely ps sent received → SparesUntil ps sent received f
     → IsSent (kinds_of ps) (map g sent) → ((i : ℕ) → i < length received → g (column_at received i) < 1024) → AreFew (map g sent) (map g received)
     → IsReceivedUntil (kinds_of ps) f (map g received) (damaged (map g sent) (map g received))
 lane_until g ps sent received f came spares is_sent narrow few =
@@ -73,10 +75,10 @@ record LanesUntil (ps : List Period) (sent received : List Column) (f : ℕ) : T
   green : IsReceivedUntil (kinds_of ps) f (greens received) (damaged (greens sent) (greens received))
   red : IsReceivedUntil (kinds_of ps) f (reds received) (damaged (reds sent) (reds received))
 
-lanes_until : (ps : List Period) (sent received : List Column) (f : ℕ) → CameOf ps sent received → SparesUntil ps sent received f → LanesUntil ps sent received f
+lanes_until : (ps : List Period) (sent received : List Column) (f : ℕ) → CameFreely ps sent received → SparesUntil ps sent received f → LanesUntil ps sent received f
 lanes_until ps sent received f came spares =
     let ks = kinds_of ps in
-    let fit = fitting ps sent came.conforming came.spelled in
+    let fit = fitting_freely ps sent came.conforming came.spelled in
     let long = fitting_length ks sent fit in
     let at = fitting_at ks sent fit in
     let h = came.sparse in
@@ -151,7 +153,7 @@ record HoldsEach (received : List Column) (k1 k2 k3 n1 n2 n3 f : ℕ) : Type 0 w
   red : Holds (reds received) k3 n3 f
 
 -- there is a triple at column f
-here : (ps : List Period) (sent received : List Column) (f : ℕ) → CameOf ps sent received → SparesUntil ps sent received f → IsAfterControl (kinds_of ps) f
+here : (ps : List Period) (sent received : List Column) (f : ℕ) → CameFreely ps sent received → SparesUntil ps sent received f → IsAfterControl (kinds_of ps) f
     → (k1 k2 k3 n1 n2 n3 : ℕ) → HoldsEach received k1 k2 k3 n1 n2 n3 f → AreNear k1 k2 → AreNear k2 k3 → AreNear k1 k3
     → IsTriple (part_of (blues received) k1 n1) (part_of (greens received) k2 n2) (part_of (reds received) k3 n3) (10 * f - k1) (10 * f - k2) (10 * f - k3)
 here ps sent received f came spares after k1 k2 k3 n1 n2 n3 h n12 n23 n13 =
@@ -175,7 +177,7 @@ here ps sent received f came spares after k1 k2 k3 n1 n2 n3 h n12 n23 n13 =
     }
 
 -- a first full alignment, whose largest edge is at most that of the triple there, is the end of one control period
-first_end : (ps : List Period) (sent received : List Column) (f : ℕ) → CameOf ps sent received → SparesUntil ps sent received f → IsAfterControl (kinds_of ps) f
+first_end : (ps : List Period) (sent received : List Column) (f : ℕ) → CameFreely ps sent received → SparesUntil ps sent received f → IsAfterControl (kinds_of ps) f
     → (offset : ℕ) (skews : List ℕ) (n1 n2 n3 : ℕ) → HasSmallSkew skews
     → HoldsEach received (offset + slice_index skews 0) (offset + slice_index skews 1) (offset + slice_index skews 2) n1 n2 n3 f
     → (p q r : ℕ)
@@ -223,7 +225,7 @@ some_first : (ps : List Period) (offset : ℕ) (skews : List ℕ) (f : ℕ) (x y
 some_first ps offset skews f x y z d e g triple (inl is) then = (is.0, is.1, is.2, is.3, then is.0 is.1 is.2 is.3)
 some_first ps offset skews f x y z d e g triple (inr none) then = absurd (none d e g triple)
 
-found : (ps : List Period) (sent received : List Column) (f : ℕ) → CameOf ps sent received → SparesUntil ps sent received f → IsAfterControl (kinds_of ps) f
+found : (ps : List Period) (sent received : List Column) (f : ℕ) → CameFreely ps sent received → SparesUntil ps sent received f → IsAfterControl (kinds_of ps) f
     → (offset : ℕ) (skews : List ℕ) (n1 n2 n3 : ℕ) → HasSmallSkew skews
     → HoldsEach received (offset + slice_index skews 0) (offset + slice_index skews 1) (offset + slice_index skews 2) n1 n2 n3 f
     → Found ps offset skews f (part_of (blues received) (offset + slice_index skews 0) n1) (part_of (greens received) (offset + slice_index skews 1) n2) (part_of (reds received) (offset + slice_index skews 2) n3)
@@ -243,8 +245,8 @@ holds_of : (words : List ℕ) (offset : ℕ) (skews counts : List ℕ) (f lane :
     → HoldsEnd offset skews counts f → Holds words (offset + slice_index skews lane) (slice_index counts lane) f
 holds_of words offset skews counts f lane bits lt part h = record { begins = h.begins lane lt; reaches = h.reaches lane lt; within = part.within }
 
-pub first_until : FirstUntil
-first_until ps sent received came offset skews counts x y z tapped small f aligns =
+pub first_until_freely : FirstUntilFreely
+first_until_freely ps sent received came offset skews counts x y z tapped small f aligns =
     let a = tapped.blue_part in
     let b = tapped.green_part in
     let c = tapped.red_part in
@@ -255,3 +257,6 @@ first_until ps sent received came offset skews counts x y z tapped small f align
       green = holds_of (greens received) offset skews counts f 1 y (omega arith) b aligns.holds;
       red = holds_of (reds received) offset skews counts f 2 z (omega arith) c aligns.holds;
     }))
+
+pub first_until : FirstUntil
+first_until ps sent received came = first_until_freely ps sent received (free_came ps sent received came)

@@ -8,7 +8,7 @@ use Rattle.terc4.specs.Tables.{is_control, is_terc}
 use Rattle.island_pack.specs.Packets.{AreTerc, CarriesFreely}
 use Rattle.island_pack.specs.Periods.{ControlRun, Pixel, DataIsland, Period, control, video, island, values_of, pixels_of}
 use Rattle.island_pack.specs.Conforming.{are_bytes}
-use Rattle.island_pack.specs.Spelling.{control_column as column_of_value, guard_column, guard_columns, words_of, SpellsPixels, SpellsPackets, Spells}
+use Rattle.island_pack.specs.Spelling.{control_column as column_of_value, guard_column, guard_columns, words_of, SpellsPixels, SpellsPacketsBy, SpellsBy, freely}
 use Rattle.island_pack.specs.declared.packet.Packet.{Packet}
 use Rattle.link_sink.proofs.Cutting.{AllControl}
 use Rattle.link_sink.proofs.Rows.{and_both, control_columns, Small, clean, all_clean}
@@ -164,7 +164,7 @@ packet_front first p ps pp own later ks ss rs e c one rest = record {
   fits_back = rest.fits_back;
 }
 
-front_packets : (first : Bool) (ps : List Packet) (pp : List Column) (ks : List Kind) (ss rs : List Column) → SpellsPackets first ps pp
+front_packets : (first : Bool) (ps : List Packet) (pp : List Column) (ks : List Kind) (ss rs : List Column) → SpellsPacketsBy freely first ps pp
     → Fits (replicate (32 * length ps) packet_column ++ ks) (pp ++ ss) rs → PacketFront first ps pp ks ss rs
 front_packets first [] pp ks ss rs h f =
     let none = subst (λ cs. Fits ks (cs ++ ss) rs) h f in
@@ -172,7 +172,7 @@ front_packets first [] pp ks ss rs h f =
 front_packets first (p ∷ ps) pp ks ss rs h f =
     let own = h.0 in
     let later = h.1 in
-    let c = h.3.free in
+    let c = h.3 in
     let e : pp ++ ss ≡ own ++ (later ++ ss) = ap (λ cs. cs ++ ss) h.2 ∙ append_assoc own later ss in
     let k = packet_kinds (length ps) own ks (packet_sent first p own c) in
     let g = subst (λ cs. Fits (replicate (length own) packet_column ++ (replicate (32 * length ps) packet_column ++ ks)) cs rs) e (subst (λ xs. Fits xs (pp ++ ss) rs) k f) in
@@ -207,7 +207,7 @@ arriving_video bytes xs v back small lanes ih rs f =
     subst (λ rs. Arrives (video bytes ∷ xs) ((line_guard ∷ (line_guard ∷ v)) ++ back) rs) (sym e)
     (more (video bytes) xs (line_guard ∷ (line_guard ∷ v)) (a.g ∷ (a.h ∷ p.qq)) back p.back (pixels bytes a.g a.h v p.qq a.are p.are) (ih p.back p.fits_back))
 
-arriving_island : (x : DataIsland) (xs : List Period) (v back : List Column) → SpellsPackets true x.packets v
+arriving_island : (x : DataIsland) (xs : List Period) (v back : List Column) → SpellsPacketsBy freely true x.packets v
     → ((rs : List Column) → Fits (kinds_of xs) back rs → Arrives xs back rs)
     → (rs : List Column) → Fits (first_guard ∷ (second_guard ∷ (replicate (32 * length x.packets) packet_column ++ (first_guard ∷ (second_guard ∷ kinds_of xs))))) (guard_columns x.opening ++ (v ++ (guard_columns x.closing ++ back))) rs
     → Arrives (island x ∷ xs) (frame x v ++ back) rs
@@ -222,7 +222,7 @@ arriving_island x xs v back h ih rs f =
     subst (λ rs. Arrives (island x ∷ xs) (frame x v ++ back) rs) (sym e)
     (more (island x) xs (frame x v) came back z.back (packets x a.g a.h z.g z.h v p.qq (record { opening = a.are; closing = z.are }) p.are) (ih z.back z.fits_back))
 
-pub arriving : (xs : List Period) (sent received : List Column) → HasValues xs → Spells xs sent → Fits (kinds_of xs) sent received → Arrives xs sent received
+pub arriving : (xs : List Period) (sent received : List Column) → HasValues xs → SpellsBy freely xs sent → Fits (kinds_of xs) sent received → Arrives xs sent received
 unfolding HasValues kinds_of kinds_in
 arriving [] sent received small h f = subst (λ ss. Arrives [] ss received) (sym h) (none received (subst (λ ss. Fits [] ss received) h f))
 arriving (control runs ∷ xs) sent received small h f =
@@ -252,7 +252,7 @@ arriving (island x ∷ xs) sent received small h f =
     subst (λ ss. Arrives (island x ∷ xs) ss received) (sym e)
     (arriving_island x xs pp back h.3.2 (λ rs g. arriving xs back rs small h.4 g) received g2)
 
-pub arrive : (ps : List Period) (sent received : List Column) → Conforms ps → length (kinds_of ps) ≡ length sent → Spells ps sent → IsSparse ps sent received → Arrives ps sent received
+pub arrive : (ps : List Period) (sent received : List Column) → Conforms ps → length (kinds_of ps) ≡ length sent → SpellsBy freely ps sent → IsSparse ps sent received → Arrives ps sent received
 arrive ps sent received c many h s =
     arriving ps sent received (has_values ps c) h
     (fits (kinds_of ps) sent received many (record { same_length = s.same_length; one = s.one_a_column; pair = λ i is. next i (s.one_a_pair i is) }))

@@ -4,12 +4,14 @@ use Rattle.std.proofs.lemmas.List.{append-nil}
 use Rattle.tmds_word.specs.Column.{Column}
 use Rattle.island_pack.specs.Periods.{Period, control, video, island, values_of, period_columns}
 use Rattle.period_grammar.specs.Cut.{stretch, stretches}
+use Rattle.link_sink.specs.Freely.{PeriodsStandFreely}
 use Rattle.link_sink.specs.Laws.{cut_as, PeriodsStand}
+use Rattle.link_sink.proofs.Freely.{free_came}
 use Rattle.link_sink.proofs.Cutting.{AllControl, NoneControl, begins, cut_control, cut_both}
 use Rattle.link_sink.proofs.Conformed.{Conforms, conforming}
 use Rattle.link_sink.proofs.Between.{take_seam, drop_seam, begins_heads, IsControlPeriod}
 use Rattle.link_sink.proofs.Joining.{controls, Arrives, nothing, more, IsTail, ends, goes_on, is_tail, follows_long, inner_gap, first_control}
-use Rattle.link_sink.proofs.Framing.{arrived}
+use Rattle.link_sink.proofs.Framing.{arrived_freely}
 
 pub both : (control gap rest : List Column) → 1 ≤ length control → 1 ≤ length gap → AllControl control → NoneControl gap → begins (stretches rest) ≡ true
     → stretches (control ++ (gap ++ rest)) ≡ stretch control gap ∷ stretches rest
@@ -52,5 +54,8 @@ cut_of (control runs ∷ rest) _ _ c (more _ _ _ _ ss rs (controls _ cs n all) a
     let long = follows_long (values_of runs) rest c in
     cut_from (control runs) rest (is_tail (values_of runs) rest c) cs ss rs (record { long = omega arith; all = all }) n a
 
+pub periods_stand_freely : PeriodsStandFreely
+periods_stand_freely ps sent received came = cut_of ps sent received (conforming ps came.conforming) (arrived_freely ps sent received came)
+
 pub periods_stand : PeriodsStand
-periods_stand ps sent received came = cut_of ps sent received (conforming ps came.conforming) (arrived ps sent received came)
+periods_stand ps sent received came = periods_stand_freely ps sent received (free_came ps sent received came)

@@ -4,14 +4,16 @@ use Rattle.tmds_word.specs.Column.{Column}
 use Rattle.terc4.specs.Columns.{is_control_column}
 use Rattle.terc4.proofs.Words.{few_turns}
 use Rattle.island_pack.specs.Periods.{Period, control, video, island, values_of}
+use Rattle.link_sink.proofs.Freely.{free_came}
 use Rattle.link_sink.proofs.Guards.{unlike, IsQuiet, IsWhole, stays_quiet, stays_control}
 use Rattle.link_sink.proofs.Conformed.{Conforms, conforming}
 use Rattle.link_sink.proofs.EndPlaces.{control_kinds}
-use Rattle.link_sink.proofs.Spelled.{FitsColumn, fitting}
+use Rattle.link_sink.proofs.Spelled.{FitsColumn, fitting_freely}
 use Rattle.island_pack.specs.Kinds.{Kind, control_column, kinds_of, kind_at, EndsAt}
 use Rattle.island_pack.specs.Sparse.{column_at}
 use Rattle.period_grammar.specs.Heard.{heard}
 use Rattle.link_sink.specs.Account.{account}
+use Rattle.link_sink.specs.Freely.{CameFreely, FramingStandsFreely, LinkLawFreely}
 use Rattle.link_sink.specs.Laws.{CameOf, FramingStands, LinkLaw}
 use Rattle.link_sink.proofs.Joining.{controls, Arrives, more}
 use Rattle.link_sink.proofs.Start.{from_end}
@@ -38,11 +40,14 @@ by_kind k s r f one =
     kind_cases ((k ≡ control_column) ↔ (is_control_column r ≡ true)) k (λ is. (λ e. stays_control s r (whole k s is f) one, λ e. is))
     (λ apart. other k r apart (stays_quiet s r (quiet k s apart f) one))
 
-pub framing_stands : FramingStands
-framing_stands ps sent received came i lt =
+pub framing_stands_freely : FramingStandsFreely
+framing_stands_freely ps sent received came i lt =
     let l = came.sparse.same_length in
-    let at = fitting_at (kinds_of ps) sent (fitting ps sent came.conforming came.spelled) i (omega arith) in
+    let at = fitting_at (kinds_of ps) sent (fitting_freely ps sent came.conforming came.spelled) i (omega arith) in
     by_kind (kind_at (kinds_of ps) i) (column_at sent i) (column_at received i) at (came.sparse.one_a_column i)
+
+pub framing_stands : FramingStands
+framing_stands ps sent received came = framing_stands_freely ps sent received (free_came ps sent received came)
 
 -- What is told.
 
@@ -55,13 +60,19 @@ link_of (island x ∷ rest) sent received c arrives a m e = absurd c
 link_of (control runs ∷ rest) _ _ c (more _ _ _ _ ss rs (controls _ cs n all) arrives) a m e =
     from_end (values_of runs) rest c runs refl cs ss rs n all arrives a m (subst (λ ks. EndsAt ks (a + 11)) (control_kinds runs rest) e)
 
-kinds_many : (ps : List Period) (sent received : List Column) → CameOf ps sent received → length (kinds_of ps) ≡ length sent
-kinds_many ps sent received came = fitting_length (kinds_of ps) sent (fitting ps sent came.conforming came.spelled)
+kinds_many : (ps : List Period) (sent received : List Column) → CameFreely ps sent received → length (kinds_of ps) ≡ length sent
+kinds_many ps sent received came = fitting_length (kinds_of ps) sent (fitting_freely ps sent came.conforming came.spelled)
 
-pub arrived : (ps : List Period) (sent received : List Column) → CameOf ps sent received → Arrives ps sent received
-arrived ps sent received came =
+pub arrived_freely : (ps : List Period) (sent received : List Column) → CameFreely ps sent received → Arrives ps sent received
+arrived_freely ps sent received came =
     arrive ps sent received (conforming ps came.conforming) (kinds_many ps sent received came) came.spelled came.sparse
 
+pub arrived : (ps : List Period) (sent received : List Column) → CameOf ps sent received → Arrives ps sent received
+arrived ps sent received came = arrived_freely ps sent received (free_came ps sent received came)
+
+pub link_law_freely : LinkLawFreely
+link_law_freely ps sent received came a m e =
+    link_of ps sent received (conforming ps came.conforming) (arrived_freely ps sent received came) a m e
+
 pub link_law : LinkLaw
-link_law ps sent received came a m e =
-    link_of ps sent received (conforming ps came.conforming) (arrived ps sent received came) a m e
+link_law ps sent received came = link_law_freely ps sent received (free_came ps sent received came)

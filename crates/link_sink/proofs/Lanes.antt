@@ -13,8 +13,10 @@ use Rattle.lane_deskew.specs.Ends.{IsReceived, IsSent, IsSparse as IsSparseLane,
 use Rattle.lane_deskew.proofs.Ends.{sparse_received}
 use Rattle.island_pack.specs.Periods.{Period}
 use Rattle.island_pack.specs.Sparse.{unlike_words, AreFew, no_column, column_at, IsSparseInPayload}
+use Rattle.link_sink.specs.Freely.{CameFreely}
 use Rattle.link_sink.specs.Laws.{CameOf}
-use Rattle.link_sink.proofs.Spelled.{FitsWord, FitsColumn, Fitting, no_columns, column, fitting}
+use Rattle.link_sink.proofs.Freely.{free_came}
+use Rattle.link_sink.proofs.Spelled.{FitsWord, FitsColumn, Fitting, no_columns, column, fitting_freely}
 
 -- Sent words.
 
@@ -92,10 +94,10 @@ pub record AreReceived (ps : List Period) (sent received : List Column) : Type 0
   pub green : IsReceived (kinds_of ps) (greens received) (damaged (greens sent) (greens received))
   pub red : IsReceived (kinds_of ps) (reds received) (damaged (reds sent) (reds received))
 
-pub lanes_received : (ps : List Period) (sent received : List Column) → CameOf ps sent received → IsSparseInPayload ps sent received → AreReceived ps sent received
-lanes_received ps sent received came alone =
+pub lanes_received_freely : (ps : List Period) (sent received : List Column) → CameFreely ps sent received → IsSparseInPayload ps sent received → AreReceived ps sent received
+lanes_received_freely ps sent received came alone =
     let ks = kinds_of ps in
-    let fit = fitting ps sent came.conforming came.spelled in
+    let fit = fitting_freely ps sent came.conforming came.spelled in
     let long = fitting_length ks sent fit in
     let at = fitting_at ks sent fit in
     let h = came.sparse in
@@ -112,3 +114,6 @@ lanes_received ps sent received came alone =
           (lane_sent (λ c. c.red) ks sent long (λ i lt. (at i lt).red))
           (lane_sparse (λ c. c.red) ks sent received h.same_length (λ i lt. (h.characters i lt).red) same h.few_red);
     }
+
+pub lanes_received : (ps : List Period) (sent received : List Column) → CameOf ps sent received → IsSparseInPayload ps sent received → AreReceived ps sent received
+lanes_received ps sent received came = lanes_received_freely ps sent received (free_came ps sent received came)

@@ -12,10 +12,12 @@ pub mod IslandTold
 pub mod Joining
 pub mod EndPlaces
 pub mod Start
+pub mod Freely
 pub mod SpelledWords
 pub mod Arrival
 pub mod Spelled
 pub mod Lanes
+pub mod Calm
 pub mod Framing
 pub mod CutPeriods
 pub mod PeriodLaws
@@ -33,10 +35,12 @@ pub mod Stops
 pub mod Listed
 pub mod Growing
 pub mod Prefixes
+pub mod Growth
 pub mod Following
 pub mod Feeding
 pub mod Pieces
 pub mod exact
+pub mod CleanCame
 pub mod Room
 pub mod Gaining
 pub mod FedLanes

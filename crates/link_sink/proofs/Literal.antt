@@ -8,10 +8,12 @@ use Rattle.tmds_word.specs.Column.{Column}
 use Rattle.island_pack.specs.Kinds.{kinds_of, EndsAt}
 use Rattle.island_pack.specs.Periods.{ControlRun, Period, control, video, island, values_of, period_columns}
 use Rattle.period_grammar.specs.Cut.{runs, Stretch as Cut, stretch, stretches}
-use Rattle.period_grammar.specs.Things.{Thing, Told, at, all_at, thing_of}
+use Rattle.period_grammar.specs.Things.{Thing, Told, at, all_at, thing_of, column_told, told_before}
 use Rattle.period_grammar.specs.Heard.{in_runs, last_run, in_gap, at_close, told_from, end_from, heard_so_far, heard}
-use Rattle.period_grammar.proofs.Joined.{heard_of_first}
-use Rattle.link_sink.specs.Literal.{runs_placed, period_placed, periods_placed, placed_from, account_placed, column_told, told_before, AccountLiteral}
+use Rattle.period_grammar.proofs.Joined.{told_before_is}
+use Rattle.link_sink.specs.Freely.{AccountLiteralFreely}
+use Rattle.link_sink.specs.Literal.{runs_placed, period_placed, periods_placed, placed_from, account_placed, AccountLiteral}
+use Rattle.link_sink.proofs.Freely.{free_came}
 use Rattle.link_sink.proofs.Cutting.{AllControl, NoneControl}
 use Rattle.link_sink.proofs.Rows.{control_columns}
 use Rattle.link_sink.proofs.Conformed.{IsInner, Follows, ends as follows_ends, goes_on as follows_on, Conforms, conforming}
@@ -19,7 +21,7 @@ use Rattle.link_sink.proofs.Between.{take_seam, drop_seam, heads, begins_heads, 
 use Rattle.link_sink.proofs.Joining.{controls, Arrives, nothing, more, IsSized, sized, IsTail, ends, goes_on, is_tail, inner_gap, first_control}
 use Rattle.link_sink.proofs.EndPlaces.{kinds_from, ends_first, ends_only, control_kinds, ends_late, kinds_size}
 use Rattle.link_sink.proofs.Start.{drop_control, drop_over, control_size}
-use Rattle.link_sink.proofs.Framing.{arrived, link_law}
+use Rattle.link_sink.proofs.Framing.{arrived_freely, link_law_freely}
 use Rattle.link_sink.proofs.CutPeriods.{both, alone}
 use Rattle.link_sink.proofs.Placed.{control_placed, period_places}
 
@@ -190,19 +192,20 @@ none_before m n (t ∷ ts) le = ap (λ p. cond p (at n t ∷ told_before m (all_
 first_told : (m : ℕ) (cs : List Column) → m ≤ length cs → heard_so_far (take m cs) ≡ told_before m (whole 0 cs)
 unfolding heard_so_far
 first_told m cs le =
-    let n = length-take-le m cs le in
     let end = end_from 0 (stretches cs) in
-    heard_of_first (take m cs) (drop m cs)
-    ∙ ap₂ (λ (k : ℕ) (ds : List Column). told_before k (heard_so_far ds)) n (take-append-drop m cs)
+    sym (told_before_is m cs)
     ∙ sym (append-nil (told_before m (heard_so_far cs)))
     ∙ ap (λ ts. told_before m (heard_so_far cs) ++ ts) (sym (none_before m (0 + length cs) end (omega arith)))
     ∙ sym (filter-append (λ t. nat_lt (column_told t) m) (heard_so_far cs) (all_at (0 + length cs) end))
 
-pub account_literal : AccountLiteral
+pub account_literal_freely : AccountLiteralFreely
 unfolding heard
-account_literal ps sent received came a m e within =
+account_literal_freely ps sent received came a m e within =
     let rest = drop a received in
     let d = length-drop a received in
-    let placed = placed_of ps sent received (conforming ps came.conforming) (arrived ps sent received came) a e in
-    sym (link_law ps sent received came a m e)
+    let placed = placed_of ps sent received (conforming ps came.conforming) (arrived_freely ps sent received came) a e in
+    sym (link_law_freely ps sent received came a m e)
     ∙ ap (λ ts. map thing_of ts ++ end_from 0 (stretches (take m rest))) (first_told m rest (omega arith) ∙ ap (told_before m) placed)
+
+pub account_literal : AccountLiteral
+account_literal ps sent received came = account_literal_freely ps sent received (free_came ps sent received came)

@@ -7,15 +7,17 @@ use Rattle.island_pack.specs.Kinds.{control_column, pixel_column, packet_column,
 use Rattle.island_pack.specs.Sparse.{unlike_at}
 use Rattle.period_grammar.specs.Things.{Thing}
 use Rattle.link_sink.specs.Account.{control_row, period_row, account_from}
-use Rattle.link_sink.specs.PeriodLaws.{tells, PeriodCame, AreControl, ControlLaw, TellRow, VideoLaw, IslandLaw, JoiningLaw}
+use Rattle.link_sink.specs.Freely.{PeriodCameFreely, ControlLawFreely, VideoLawFreely, IslandLawFreely, JoiningLawFreely}
+use Rattle.link_sink.specs.PeriodLaws.{tells, AreControl, ControlLaw, TellRow, VideoLaw, IslandLaw, JoiningLaw}
+use Rattle.link_sink.proofs.Freely.{free_came, free_period_came}
 use Rattle.link_sink.proofs.Cutting.{hear_control}
 use Rattle.link_sink.proofs.Conformed.{is_control_of, is_video_of, is_island_of, Conforms, conforming, HasValues}
 use Rattle.link_sink.proofs.ControlTold.{control_row_told}
 use Rattle.link_sink.proofs.Between.{period_law}
 use Rattle.link_sink.proofs.Joining.{ArrivesPeriod, controls, Arrives, nothing, more, IsBetween, inner_gap, is_tail, follows_long, sized, taken_row, control_period, joined}
-use Rattle.link_sink.proofs.SpelledWords.{period_size}
+use Rattle.link_sink.proofs.SpelledWords.{period_size_freely}
 use Rattle.link_sink.proofs.Arrival.{fits, arriving}
-use Rattle.link_sink.proofs.Framing.{arrived}
+use Rattle.link_sink.proofs.Framing.{arrived_freely}
 
 -- One period.
 
@@ -37,12 +39,12 @@ one_of p _ _ (more _ _ own came _ _ a nothing) =
     subst (λ ss. ArrivesPeriod p ss (came ++ [])) (sym (append-nil own)) (subst (λ rs. ArrivesPeriod p own rs) (sym (append-nil came)) a)
 
 -- the columns of one period
-came_one : (p : Period) (sent received : List Column) → HasValues (p ∷ []) → PeriodCame p sent received → ArrivesPeriod p sent received
+came_one : (p : Period) (sent received : List Column) → HasValues (p ∷ []) → PeriodCameFreely p sent received → ArrivesPeriod p sent received
 came_one p sent received values h =
     let s = h.sparse in
     one_of p sent received
     (arriving (p ∷ []) sent received values (sent, [], sym (append-nil sent), h.spelled, refl)
-    (fits (kinds_of (p ∷ [])) sent received (kinds_one p ∙ sym (period_size p sent h.spelled))
+    (fits (kinds_of (p ∷ [])) sent received (kinds_one p ∙ sym (period_size_freely p sent h.spelled))
     (record { same_length = s.same_length; one = s.one_a_column; pair = λ i is. next sent received i (s.one_a_pair i is) })))
   where
     next : (sent received : List Column) (i : ℕ) → unlike_at sent received i + unlike_at sent received (i + 1) ≤ 1 → unlike_at sent received i + unlike_at sent received (suc i) ≤ 1
@@ -55,11 +57,14 @@ control_of : (runs : List ControlRun) (sent received : List Column) → ArrivesP
 unfolding period_row
 control_of runs _ _ (controls _ cs n all) long = (record { long = omega arith; all = all }, λ j m. taken_row j m cs all)
 
-pub control_law : ControlLaw
+pub control_law_freely : ControlLawFreely
 unfolding HasValues
-control_law runs sent received is h =
+control_law_freely runs sent received is h =
     let c = is_control_of runs is in
     control_of runs sent received (came_one (control runs) sent received (c.small, tt) h) c.long
+
+pub control_law : ControlLaw
+control_law runs sent received is h = control_law_freely runs sent received is (free_period_came (control runs) sent received h)
 
 -- a period between control periods
 
@@ -74,15 +79,21 @@ tell_row p sent received between a before next rest j m h at =
     period_law before p sent received (record { long = h.long; all = h.all }) g j m (next ∷ rest) at
     ∙ ap₂ (λ (ts : List Thing) (n : ℕ). ts ++ (row ++ tells (j + length before + n) (take (m - n) (next ∷ rest)))) (sym (told_before j before h)) (sym size)
 
-pub video_law : VideoLaw
+pub video_law_freely : VideoLawFreely
 unfolding HasValues IsBetween
-video_law bytes sent received is h =
+video_law_freely bytes sent received is h =
     let v = is_video_of bytes is in
     tell_row (video bytes) sent received v (came_one (video bytes) sent received (v.small, tt) h)
 
-pub island_law : IslandLaw
+pub video_law : VideoLaw
+video_law bytes sent received is h = video_law_freely bytes sent received is (free_period_came (video bytes) sent received h)
+
+pub island_law_freely : IslandLawFreely
 unfolding HasValues IsBetween
-island_law x sent received is h = tell_row (island x) sent received (is_island_of x is) (came_one (island x) sent received tt h)
+island_law_freely x sent received is h = tell_row (island x) sent received (is_island_of x is) (came_one (island x) sent received tt h)
+
+pub island_law : IslandLaw
+island_law x sent received is h = island_law_freely x sent received is (free_period_came (island x) sent received h)
 
 -- Periods one after another.
 
@@ -97,5 +108,8 @@ joining_of (control runs ∷ rest) _ _ c (more _ _ own came ss rs first a) j m =
     joined rest (is_tail (values_of runs) rest c) came ss rs (record { long = h.0.long; all = h.0.all }) a j m
     ∙ sym (control_period j m [] runs rest own came ss rs (sized (control runs) own came first))
 
+pub joining_law_freely : JoiningLawFreely
+joining_law_freely ps sent received came = joining_of ps sent received (conforming ps came.conforming) (arrived_freely ps sent received came)
+
 pub joining_law : JoiningLaw
-joining_law ps sent received came = joining_of ps sent received (conforming ps came.conforming) (arrived ps sent received came)
+joining_law ps sent received came = joining_law_freely ps sent received (free_came ps sent received came)

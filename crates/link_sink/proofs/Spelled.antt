@@ -14,11 +14,12 @@ use Rattle.terc4.specs.Tables.{control_words, terc_words, video_guard, island_gu
 use Rattle.terc4.proofs.Words.{terc_turns}
 use Rattle.island_pack.specs.Periods.{ControlRun, DataIsland, Period, control, video, island, values_of, Pixel, pixels_of}
 use Rattle.island_pack.specs.Conforming.{IsConforming, conforms, are_bytes}
-use Rattle.island_pack.specs.Packets.{Carries}
-use Rattle.island_pack.specs.Spelling.{control_column, SpellsPixels, guard_column, guard_columns, words_of, SpellsPackets, SpellsPeriod, Spells}
+use Rattle.island_pack.specs.Packets.{CarriesFreely}
+use Rattle.island_pack.specs.Spelling.{control_column, SpellsPixels, guard_column, guard_columns, words_of, SpellsPacketsBy, SpellsPeriodBy, SpellsBy, Spells, freely}
 use Rattle.island_pack.specs.declared.packet.Packet.{Packet}
 use Rattle.island_pack.specs.Sparse.{no_column, column_at}
 use Rattle.island_pack.specs.Kinds.{Kind, control_column as control_kind, first_guard, second_guard, pixel_column, packet_column, guard_pair, kinds_in, kinds_of}
+use Rattle.link_sink.proofs.Freely.{free_spelled}
 use Rattle.link_sink.proofs.Conformed.{conforming, HasValues, has_values}
 use Rattle.link_sink.proofs.VideoTold.{pixel_count}
 use Rattle.link_sink.proofs.SpelledWords.{packets_size}
@@ -196,28 +197,28 @@ length-spelled pixels pp h =
 
 -- Packets.
 
-packet_payload : (p : Packet) (first : Bool) (own : List Column) → Carries p first (map words_of own) → ArePayload own
-packet_payload p first own h = payload_from own (λ i lt.
+packet_payload : (p : Packet) (own : List Column) → CarriesFreely p (map words_of own) → ArePayload own
+packet_payload p own h = payload_from own (λ i lt.
     let many = length-map own words_of in
     let words : get_or (map words_of own) i [] ≡ words_of (column_at own i) = get_or-map words_of own i no_column [] lt in
     let quiet : (lane : ℕ) → lane < 3 → turns (word_bits (get_or (words_of (column_at own i)) lane 0)) ≤ 5 =
-    λ lane within. terc_turns _ (subst (λ ws. is_terc (get_or ws lane 0) ≡ true) words (h.free.terc lane within i [] (omega arith))) in
+    λ lane within. terc_turns _ (subst (λ ws. is_terc (get_or ws lane 0) ≡ true) words (h.terc lane within i [] (omega arith))) in
     record { blue = quiet 0 (omega arith); green = quiet 1 (omega arith); red = quiet 2 (omega arith) })
 
-packets_payload : (first : Bool) (packets : List Packet) (cs : List Column) → SpellsPackets first packets cs → ArePayload cs
+packets_payload : (first : Bool) (packets : List Packet) (cs : List Column) → SpellsPacketsBy freely first packets cs → ArePayload cs
 packets_payload first [] cs h = subst ArePayload (sym h) none
 packets_payload first (p ∷ ps) cs h =
-    subst ArePayload (sym h.2) (payload_both h.0 h.1 (packet_payload p first h.0 h.3) (packets_payload false ps h.1 h.4))
+    subst ArePayload (sym h.2) (payload_both h.0 h.1 (packet_payload p h.0 h.3) (packets_payload false ps h.1 h.4))
 
 -- Periods.
 
-fit_control_period : (runs : List ControlRun) (own : List Column) (ks : List Kind) (cs : List Column) → SpellsPeriod (control runs) own → Fitting ks cs
+fit_control_period : (runs : List ControlRun) (own : List Column) (ks : List Kind) (cs : List Column) → SpellsPeriodBy freely (control runs) own → Fitting ks cs
     → Fitting (kinds_in (control runs) ++ ks) (own ++ cs)
 unfolding kinds_in
 fit_control_period runs own ks cs h fit =
     subst (λ own. Fitting (replicate (length (values_of runs)) control_kind ++ ks) (own ++ cs)) (sym h) (fit_control (values_of runs) ks cs fit)
 
-fit_video : (bytes : List ℕ) (own : List Column) (ks : List Kind) (cs : List Column) → are_bytes bytes ≡ true → SpellsPeriod (video bytes) own → Fitting ks cs
+fit_video : (bytes : List ℕ) (own : List Column) (ks : List Kind) (cs : List Column) → are_bytes bytes ≡ true → SpellsPeriodBy freely (video bytes) own → Fitting ks cs
     → Fitting (kinds_in (video bytes) ++ ks) (own ++ cs)
 unfolding kinds_in
 fit_video bytes own ks cs small h fit =
@@ -227,7 +228,7 @@ fit_video bytes own ks cs small h fit =
     subst (λ own. Fitting (guard_pair ++ (replicate (length bytes / 3) pixel_column ++ ks)) (own ++ cs)) (sym h.1)
     (fit_pair _ _ _ _ fit_video_guard fit_video_guard inner)
 
-fit_island : (x : DataIsland) (own : List Column) (ks : List Kind) (cs : List Column) → SpellsPeriod (island x) own → Fitting ks cs
+fit_island : (x : DataIsland) (own : List Column) (ks : List Kind) (cs : List Column) → SpellsPeriodBy freely (island x) own → Fitting ks cs
     → Fitting (kinds_in (island x) ++ ks) (own ++ cs)
 unfolding kinds_in
 fit_island x own ks cs h fit =
@@ -241,7 +242,7 @@ fit_island x own ks cs h fit =
     let whole = subst (λ ks. Fitting ks ((pp ++ closing) ++ cs)) (sym (append_assoc (replicate (32 * length x.packets) packet_column) guard_pair ks)) columns in
     subst (λ own. Fitting (kinds_in (island x) ++ ks) (own ++ cs)) (sym h.1) (fit_pair _ _ _ _ (fit_guard x.opening.first) (fit_guard x.opening.second) whole)
 
-fit_periods : (ps : List Period) (sent : List Column) → HasValues ps → Spells ps sent → Fitting (kinds_of ps) sent
+fit_periods : (ps : List Period) (sent : List Column) → HasValues ps → SpellsBy freely ps sent → Fitting (kinds_of ps) sent
 unfolding HasValues kinds_of
 fit_periods [] sent small h = subst (λ cs. Fitting [] cs) (sym h) no_columns
 fit_periods (control runs ∷ ps) sent small h =
@@ -252,5 +253,8 @@ fit_periods (island x ∷ ps) sent small h =
     subst (λ cs. Fitting (kinds_of (island x ∷ ps)) cs) (sym h.2) (fit_island x h.0 (kinds_of ps) h.1 h.3 (fit_periods ps h.1 small h.4))
 
 -- the columns that spell conforming periods fit their kinds
+pub fitting_freely : (ps : List Period) (sent : List Column) → IsConforming ps → SpellsBy freely ps sent → Fitting (kinds_of ps) sent
+fitting_freely ps sent conforms spelled = fit_periods ps sent (has_values ps (conforming ps conforms)) spelled
+
 pub fitting : (ps : List Period) (sent : List Column) → IsConforming ps → Spells ps sent → Fitting (kinds_of ps) sent
-fitting ps sent conforms spelled = fit_periods ps sent (has_values ps (conforming ps conforms)) spelled
+fitting ps sent conforms spelled = fitting_freely ps sent conforms (free_spelled ps sent spelled)

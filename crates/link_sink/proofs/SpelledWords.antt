@@ -12,8 +12,9 @@ use Rattle.tmds_code.proofs.TableWords.{decoded_coded, coded_turns}
 use Rattle.terc4.proofs.Words.{few_turns}
 use Rattle.island_pack.specs.Periods.{Pixel, Period, control, video, island, values_of, pixels_of, period_columns}
 use Rattle.island_pack.specs.Conforming.{are_bytes}
-use Rattle.island_pack.specs.Spelling.{control_column, guard_columns, SpellsPackets, SpellsPeriod}
+use Rattle.island_pack.specs.Spelling.{control_column, guard_columns, SpellsPacketsBy, SpellsPeriod, SpellsPeriodBy, freely}
 use Rattle.island_pack.specs.declared.packet.Packet.{Packet}
+use Rattle.link_sink.proofs.Freely.{free_period}
 use Rattle.link_sink.proofs.Rows.{and_both}
 use Rattle.link_sink.proofs.VideoTold.{IsWord, pixel_count}
 use Rattle.link_sink.proofs.IslandColumns.{packet_sent}
@@ -71,28 +72,31 @@ small_red = small_lane (λ p. p.red) (λ p r g b. r)
 
 -- Sizes.
 
-pub packets_size : (first : Bool) (ps : List Packet) (pp : List Column) → SpellsPackets first ps pp → length pp ≡ 32 * length ps
+pub packets_size : (first : Bool) (ps : List Packet) (pp : List Column) → SpellsPacketsBy freely first ps pp → length pp ≡ 32 * length ps
 packets_size first [] pp h = ap length h
 packets_size first (p ∷ ps) pp h =
-    let own = packet_sent first p h.0 h.3.free in
+    let own = packet_sent first p h.0 h.3 in
     let rest = packets_size false ps h.1 h.4 in
     let all = ap length h.2 in
     let both = length-append h.0 h.1 in
     omega arith
 
 -- as many columns as the period has
-pub period_size : (x : Period) (own : List Column) → SpellsPeriod x own → length own ≡ period_columns x
+pub period_size_freely : (x : Period) (own : List Column) → SpellsPeriodBy freely x own → length own ≡ period_columns x
 unfolding period_columns
-period_size (control runs) own h = ap length h ∙ length-map (values_of runs) control_column
-period_size (video bytes) own h =
+period_size_freely (control runs) own h = ap length h ∙ length-map (values_of runs) control_column
+period_size_freely (video bytes) own h =
     let all = ap length h.1 in
     let lane = h.2.blue.same_length in
     let ws = length-map h.0 (λ c. c.blue) in
     let bs = length-map (pixels_of bytes) (λ p. p.blue) in
     let n = pixel_count bytes in
     omega arith
-period_size (island x) own h =
+period_size_freely (island x) own h =
     let all = ap length h.1 in
     let n = packets_size true x.packets h.0 h.2 in
     let both = length-append h.0 (guard_columns x.closing) in
     omega arith
+
+pub period_size : (x : Period) (own : List Column) → SpellsPeriod x own → length own ≡ period_columns x
+period_size x own h = period_size_freely x own (free_period x own h)

@@ -12,11 +12,13 @@ use Rattle.island_pack.specs.Periods.{Period}
 use Rattle.island_pack.specs.Kinds.{kinds_of}
 use Rattle.island_pack.specs.Sparse.{no_column, column_at}
 use Rattle.period_grammar.specs.Heard.{heard}
-use Rattle.link_sink.specs.Laws.{CameOf, EndsControl, BeginColumn, IsAccounted, TapAccounted, PayloadAccounted}
-use Rattle.link_sink.proofs.Ends.{first_ends}
+use Rattle.link_sink.specs.Freely.{CameFreely, TapAccountedFreely, PayloadAccountedFreely}
+use Rattle.link_sink.specs.Laws.{EndsControl, BeginColumn, IsAccounted, TapAccounted, PayloadAccounted}
+use Rattle.link_sink.proofs.Freely.{free_came}
+use Rattle.link_sink.proofs.Ends.{first_ends_freely}
 use Rattle.link_sink.proofs.Aligned.{AreCharacters, BeginAt, columns_taken}
-use Rattle.link_sink.proofs.Aligning.{first_until}
-use Rattle.link_sink.proofs.Framing.{link_law}
+use Rattle.link_sink.proofs.Aligning.{first_until_freely}
+use Rattle.link_sink.proofs.Framing.{link_law_freely}
 
 -- twelve words before the end of word i
 begins : (d offset k i : ℕ) → 120 ≤ d → 11 ≤ i → d + offset + k ≡ 10 * (i + 1) → d - 120 + (offset + k) ≡ 10 * (i - 11)
@@ -54,7 +56,7 @@ characters : (g : Column → ℕ) (received : List Column) → ((i : ℕ) → i 
 characters g received narrow i lt = let n = length-map received g in subst (λ w. w < 1024) (sym (get_or-map g received i no_column 0 (omega arith))) (narrow i (omega arith))
 
 -- a first full alignment at the end of a control period
-accounted : (ps : List Period) (sent received : List Column) → CameOf ps sent received → (offset : ℕ) (skews counts : List ℕ) (x y z : List Bool) → IsTap received offset skews counts x y z
+accounted : (ps : List Period) (sent received : List Column) → CameFreely ps sent received → (offset : ℕ) (skews counts : List ℕ) (x y z : List Bool) → IsTap received offset skews counts x y z
     → (d e f i : ℕ) → IsFirst x y z d e f → EndsControl ps i → BeginColumn offset skews (i + 1) d e f → 11 ≤ i
     → IsAccounted ps sent received (aligned_columns x y z d e f) (i - 11) × BeginColumn offset skews (i - 11 + 12) d e f
 accounted ps sent received came offset skews counts x y z tapped d e f i first ends_i edges far =
@@ -68,7 +70,7 @@ accounted ps sent received came offset skews counts x y z tapped d e f i first e
     columns_taken received (offset + slice_index skews 0) (offset + slice_index skews 1) (offset + slice_index skews 2)
     (slice_index counts 0) (slice_index counts 1) (slice_index counts 2) a x y z d e f at
     (characters (λ c. c.blue) received (λ i lt. (h.characters i lt).blue)) (characters (λ c. c.green) received (λ i lt. (h.characters i lt).green)) (characters (λ c. c.red) received (λ i lt. (h.characters i lt).red)) in (
-      record { ends = ends_a; columns = columns; told = ap heard columns ∙ link_law ps sent received came a (length cs) ends_a },
+      record { ends = ends_a; columns = columns; told = ap heard columns ∙ link_law_freely ps sent received came a (length cs) ends_a },
       record {
         blue = ends d offset (slice_index skews 0) i far edges.blue;
         green = ends e offset (slice_index skews 1) i far edges.green;
@@ -76,20 +78,26 @@ accounted ps sent received came offset skews counts x y z tapped d e f i first e
       },
     )
 
-late : (ps : List Period) (sent received : List Column) → CameOf ps sent received → (i : ℕ) → EndsControl ps i → 11 ≤ i
+late : (ps : List Period) (sent received : List Column) → CameFreely ps sent received → (i : ℕ) → EndsControl ps i → 11 ≤ i
 late ps sent received came i ends_i = ends_late (kinds_of ps) (alternating ps came.conforming) i ends_i
 
-pub tap_accounted : TapAccounted
-tap_accounted ps sent received came offset skews counts x y z tapped small until aligns =
-    let found = first_until ps sent received came offset skews counts x y z tapped small until aligns in
+pub tap_accounted_freely : TapAccountedFreely
+tap_accounted_freely ps sent received came offset skews counts x y z tapped small until aligns =
+    let found = first_until_freely ps sent received came offset skews counts x y z tapped small until aligns in
     let end = found.4 in
     let far = late ps sent received came end.0 end.1 in
     let before = end.2 in
     let told = accounted ps sent received came offset skews counts x y z tapped found.0 found.1 found.2 end.0 found.3 end.1 end.3 far in
     (found.0, found.1, found.2, found.3, (end.0 - 11, omega arith, told.0, told.1))
 
-pub payload_accounted : PayloadAccounted
-payload_accounted ps sent received came alone offset skews counts x y z tapped small d e f first =
-    let end = first_ends ps sent received came alone offset skews counts x y z tapped small d e f first in
+pub payload_accounted_freely : PayloadAccountedFreely
+payload_accounted_freely ps sent received came alone offset skews counts x y z tapped small d e f first =
+    let end = first_ends_freely ps sent received came alone offset skews counts x y z tapped small d e f first in
     let told = accounted ps sent received came offset skews counts x y z tapped d e f end.0 first end.1 end.2 (late ps sent received came end.0 end.1) in
     (end.0 - 11, told.0, told.1)
+
+pub tap_accounted : TapAccounted
+tap_accounted ps sent received came = tap_accounted_freely ps sent received (free_came ps sent received came)
+
+pub payload_accounted : PayloadAccounted
+payload_accounted ps sent received came = payload_accounted_freely ps sent received (free_came ps sent received came)

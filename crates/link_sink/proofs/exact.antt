@@ -1,4 +1,3 @@
-pub mod Numbers
 pub mod Faultless
 pub mod Controls
 pub mod Lines

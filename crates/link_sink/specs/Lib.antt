@@ -7,6 +7,7 @@ pub mod Alignment
 pub mod Telling
 pub mod Account
 pub mod Laws
+pub mod Calm
 pub mod PeriodLaws
 pub mod Literal
 pub mod Sinks
@@ -17,3 +18,5 @@ pub mod Pieces
 pub mod Exact
 pub mod Whole
 pub mod Bytes
+pub mod Growth
+pub mod Freely

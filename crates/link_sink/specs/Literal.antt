@@ -1,12 +1,12 @@
 -- The account said with no arithmetic on how many columns came: each thing that is told of columns that stand whole, with
 -- the column at which it is told. Those told at columns from m on are left out, and then comes what the end tells.
-use Rattle.std.specs.Prelude.{◌≡◌, ℕ, ◌+◌, ◌-◌, ◌≤◌, cond, List, [], ◌∷◌, ◌++◌, map, length, take, drop, filter, nat_lt}
+use Rattle.std.specs.Prelude.{◌≡◌, ℕ, ◌+◌, ◌-◌, ◌≤◌, cond, List, [], ◌∷◌, ◌++◌, map, length, take, drop, nat_lt}
 use Rattle.tmds_word.specs.Column.{Column}
 use Rattle.island_pack.specs.Periods.{DataIsland, Period, control, video, island, Pixel, pixels_of, period_columns}
 use Rattle.island_pack.specs.declared.packet.Packet.{Packet}
 use Rattle.period_grammar.specs.Cut.{Run, columns, runs, stretches}
 use Rattle.period_grammar.specs.Heard.{words, end_from}
-use Rattle.period_grammar.specs.Things.{run, Told, at, all_at, thing_of}
+use Rattle.period_grammar.specs.Things.{run, Told, at, all_at, thing_of, told_before}
 use Rattle.link_sink.specs.Account.{open_video_row, video_row, open_island_row, packet_told, close_island_row, account}
 use Rattle.link_sink.specs.Laws.{CameOf, EndsControl}
 
@@ -55,13 +55,6 @@ account_placed (p ∷ ps) ss rs a =
     cond (nat_lt a (period_columns p))
     (placed_from p a ps ss rs)
     (account_placed ps (drop (period_columns p) ss) (drop (period_columns p) rs) (a - period_columns p))
-
-abbrev pub column_told : Told → ℕ
-column_told (at j t) = j
-
--- what is told before column m
-abbrev pub told_before : ℕ → List Told → List Told
-told_before m ts = filter (λ t. nat_lt (column_told t) m) ts
 
 -- things told at columns from m on are left out, and the end tells what the hearing says
 abbrev pub AccountLiteral : Type 0

@@ -5,8 +5,11 @@ ghost use Rattle.link_sink.specs.PeriodLaws.{ControlLaw, VideoLaw, IslandLaw, Jo
 ghost use Rattle.link_sink.specs.Literal.{AccountLiteral};
 ghost use Rattle.link_sink.specs.Whole.{CleanIsWhole, WholeHeard};
 ghost use Rattle.link_sink.specs.Bytes.{DecodedIsByte};
+ghost use Rattle.link_sink.specs.Calm.{LanesAreCalm};
 ghost use Rattle.link_sink.specs.Exact.{CleanIsFront, FrontIsClean, CheckIsExact};
 ghost use Rattle.link_sink.specs.Sinks.{SomeTold, OneTold};
+ghost use Rattle.link_sink.specs.Freely.{FramingStandsFreely, PeriodsStandFreely, LinkLawFreely, ControlLawFreely, VideoLawFreely, IslandLawFreely, JoiningLawFreely, AccountLiteralFreely, EdgesEndFreely, FirstEndsFreely, FirstUntilFreely, TapAccountedFreely, PayloadAccountedFreely, CleanCame};
+ghost use Rattle.link_sink.specs.Growth.{ToldGrows, WholeGrows, LinkIsGrammar};
 
 /// The control columns that came are those of the control periods, wherever damage lies.
 pub fn framing_stands()
@@ -120,6 +123,21 @@ pub fn one_told()
     ensures { OneTold }
 {}
 
+/// What is told so far of three lanes begins what is told so far when each has any bits more.
+pub fn told_grows()
+    ensures { ToldGrows }
+{}
+
+/// And it begins all that those lanes tell to their end.
+pub fn whole_grows()
+    ensures { WholeGrows }
+{}
+
+/// What the columns of a link tell is told whatever comes after them, and what their end tells comes last.
+pub fn link_is_grammar()
+    ensures { LinkIsGrammar }
+{}
+
 /// Clean columns that end in a control period of twelve columns or more are spelled whole.
 pub fn clean_is_whole()
     ensures { CleanIsWhole }
@@ -133,4 +151,40 @@ pub fn whole_heard()
 /// Every word decodes to a byte.
 pub fn decoded_is_byte()
     ensures { DecodedIsByte }
+{}
+
+/// Lanes of columns that came with sparse damage, wherever it lies, are calm: of any eleven of their characters at most two
+/// came damaged, and each other one is a control character or has few transitions.
+pub fn lanes_are_calm()
+    ensures { LanesAreCalm }
+{}
+
+/// The laws on the framing hold where bit 3 of lane 0 in packet columns is free in the columns that were sent.
+pub fn framed_freely()
+    ensures framing { FramingStandsFreely }
+    ensures periods { PeriodsStandFreely }
+{}
+
+/// So do those on what is told.
+pub fn told_freely()
+    ensures link { LinkLawFreely }
+    ensures control { ControlLawFreely }
+    ensures video { VideoLawFreely }
+    ensures island { IslandLawFreely }
+    ensures joining { JoiningLawFreely }
+    ensures literal { AccountLiteralFreely }
+{}
+
+/// And those on edges, first full alignments, and taps.
+pub fn aligned_freely()
+    ensures edges { EdgesEndFreely }
+    ensures first { FirstEndsFreely }
+    ensures until { FirstUntilFreely }
+    ensures tap { TapAccountedFreely }
+    ensures payload { PayloadAccountedFreely }
+{}
+
+/// Clean columns that end in a control period of twelve columns or more meet these with what came for what was sent.
+pub fn clean_came()
+    ensures { CleanCame }
 {}

@@ -2,6 +2,7 @@
 #![tactic(auto)]
 
 mod ear;
+mod feeds;
 mod hear;
 mod hears;
 pub mod laws;

@@ -11,6 +11,7 @@ ghost use Rattle.link_sink.specs.Pieces.{no_bits};
 ghost use Rattle.link_sink.specs.Progress.{columns_from};
 ghost use Rattle.link_sink.specs.Received.{CanFeed, longest, IsReceived, MayPush, HasPushed, end_if};
 
+use crate::feeds::{Order, feed_team};
 use lane_deskew::{ColumnsRef, Deskew};
 use lane_team::{Gate, Team};
 use outside_io::NoMemory;
@@ -77,7 +78,42 @@ impl Receiver {
         ensures second { fed_of self.new.team.second.aligner ≡ fed_of self.old.team.second.aligner + slice_index bits 1 }
         ensures third { fed_of self.new.team.third.aligner ≡ fed_of self.old.team.third.aligner + slice_index bits 2 }
     {
-        feed_parts(&mut self.team, &mut self.deskew, rt, a, b, c, bits, gate)
+        self.feed_by(rt, a, b, c, bits, gate, Order::SideBySide)
+    }
+
+    /// Takes bits as `feed` does, the lanes fed in this order.
+    pub(crate) fn feed_by<R: Threads, G: Gate>(
+        &mut self,
+        rt: &R,
+        a: &[u8],
+        b: &[u8],
+        c: &[u8],
+        bits: [u32; 3],
+        gate: &G,
+        order: Order,
+    ) -> bool
+        requires received { (fed : Fed) × (taken : ℕ) × IsReceived self.old fed taken }
+        requires consumed { ready_of self.old.deskew ≡ 0 }
+        requires first { CanFeed (fed_of self.old.team.first.aligner) (longest self.old.team) a.now (slice_index bits 0) }
+        requires second { CanFeed (fed_of self.old.team.second.aligner) (longest self.old.team) b.now (slice_index bits 1) }
+        requires third { CanFeed (fed_of self.old.team.third.aligner) (longest self.old.team) c.now (slice_index bits 2) }
+        ensures received { (fed : Fed) (taken : ℕ) → IsReceived self.old fed taken → IsReceived self.new (grown fed a.now b.now c.now bits) taken }
+        ensures aligned { result ≡ is_some self.new.deskew.found }
+        ensures first { fed_of self.new.team.first.aligner ≡ fed_of self.old.team.first.aligner + slice_index bits 0 }
+        ensures second { fed_of self.new.team.second.aligner ≡ fed_of self.old.team.second.aligner + slice_index bits 1 }
+        ensures third { fed_of self.new.team.third.aligner ≡ fed_of self.old.team.third.aligner + slice_index bits 2 }
+    {
+        feed_parts(
+            &mut self.team,
+            &mut self.deskew,
+            rt,
+            a,
+            b,
+            c,
+            bits,
+            gate,
+            order,
+        )
     }
 
     /// The columns that are not consumed: none before the alignment.
@@ -114,6 +150,7 @@ fn feed_parts<R: Threads, G: Gate>(
     c: &[u8],
     bits: [u32; 3],
     gate: &G,
+    order: Order,
 ) -> bool
     requires received { (fed : Fed) × (taken : ℕ) × IsReceived (record { team = team.old; deskew = deskew.old }) fed taken }
     requires consumed { ready_of deskew.old ≡ 0 }
@@ -127,7 +164,7 @@ fn feed_parts<R: Threads, G: Gate>(
     ensures second { fed_of team.new.second.aligner ≡ fed_of team.old.second.aligner + slice_index bits 1 }
     ensures third { fed_of team.new.third.aligner ≡ fed_of team.old.third.aligner + slice_index bits 2 }
 {
-    team.feed_three(rt, a, b, c, bits, gate);
+    feed_team(team, rt, a, b, c, bits, gate, order);
     let [x, y, z] = bits;
     push_gained(team, deskew, 0, x);
     push_gained(team, deskew, 1, y);

@@ -9,10 +9,11 @@ ghost use Rattle.link_sink.specs.Received.{CanFeed};
 ghost use Rattle.link_sink.specs.Streams.{StandsBy, bits_of, most_bits};
 
 use crate::Ear;
+use crate::feeds::{Order, order_for};
 use crate::hear::Outcome;
 use crate::hears::Hears;
 use crate::streaming::Stream;
-use lane_team::Gate;
+use lane_team::{Gate, Open};
 use outside_io::{Failed, NoMemory};
 use period_grammar::Hearing;
 use std::alloc::Global;
@@ -103,7 +104,72 @@ impl<H: Hears> LaneSink<H> {
             → OnErr result ((things : List Thing) × IsGainBy H.grammar fed (grown fed a.now b.now c.now bits) things × StopsIn E.took E.broke ear.old ear.new things) }
         ensures cause { HasCause (E.faults ear.old) (E.faults ear.new) result }
     {
-        match self.stream.feed(rt, a, b, c, bits, gate, ear) {
+        self.feed_by(rt, a, b, c, bits, gate, Order::SideBySide, ear)
+    }
+
+    /// Takes bits of each lane as `feed` does with no gate to pass. Where they are few the lanes are fed one after another,
+    /// by no worker.
+    ///
+    /// # Errors
+    ///
+    /// Where a call of the ear failed; the sink is then spent.
+    pub fn feed_ungated<R: Threads, E: Ear>(
+        &mut self,
+        rt: &R,
+        a: &[u8],
+        b: &[u8],
+        c: &[u8],
+        bits: [u32; 3],
+        ear: &mut E,
+    ) -> Result<(), Failed>
+        requires open { self.old.is_open ≡ true }
+        requires first { CanFeed (bits_of self.old 0) (most_bits self.old) a.now (slice_index bits 0) }
+        requires second { CanFeed (bits_of self.old 1) (most_bits self.old) b.now (slice_index bits 1) }
+        requires third { CanFeed (bits_of self.old 2) (most_bits self.old) c.now (slice_index bits 2) }
+        ensures open { OnOk result (self.new.is_open ≡ true) }
+        ensures first { OnOk result (bits_of self.new 0 ≡ bits_of self.old 0 + slice_index bits 0) }
+        ensures second { OnOk result (bits_of self.new 1 ≡ bits_of self.old 1 + slice_index bits 1) }
+        ensures third { OnOk result (bits_of self.new 2 ≡ bits_of self.old 2 + slice_index bits 2) }
+        ensures fed { (fed : Fed) → StandsBy H.goes_on self.old fed → OnOk result (StandsBy H.goes_on self.new (grown fed a.now b.now c.now bits)) }
+        ensures told { (fed : Fed) → StandsBy H.goes_on self.old fed
+            → OnOk result ((things : List Thing) × IsGainBy H.grammar fed (grown fed a.now b.now c.now bits) things × E.took ear.old ear.new things) }
+        ensures spent { OnErr result (self.new.is_open ≡ false) }
+        ensures stopped { (fed : Fed) → StandsBy H.goes_on self.old fed
+            → OnErr result ((things : List Thing) × IsGainBy H.grammar fed (grown fed a.now b.now c.now bits) things × StopsIn E.took E.broke ear.old ear.new things) }
+        ensures cause { HasCause (E.faults ear.old) (E.faults ear.new) result }
+    {
+        self.feed_by(rt, a, b, c, bits, &Open, order_for(bits), ear)
+    }
+
+    /// Takes bits of each lane, the lanes fed in this order.
+    fn feed_by<R: Threads, E: Ear, G: Gate>(
+        &mut self,
+        rt: &R,
+        a: &[u8],
+        b: &[u8],
+        c: &[u8],
+        bits: [u32; 3],
+        gate: &G,
+        order: Order,
+        ear: &mut E,
+    ) -> Result<(), Failed>
+        requires open { self.old.is_open ≡ true }
+        requires first { CanFeed (bits_of self.old 0) (most_bits self.old) a.now (slice_index bits 0) }
+        requires second { CanFeed (bits_of self.old 1) (most_bits self.old) b.now (slice_index bits 1) }
+        requires third { CanFeed (bits_of self.old 2) (most_bits self.old) c.now (slice_index bits 2) }
+        ensures open { OnOk result (self.new.is_open ≡ true) }
+        ensures first { OnOk result (bits_of self.new 0 ≡ bits_of self.old 0 + slice_index bits 0) }
+        ensures second { OnOk result (bits_of self.new 1 ≡ bits_of self.old 1 + slice_index bits 1) }
+        ensures third { OnOk result (bits_of self.new 2 ≡ bits_of self.old 2 + slice_index bits 2) }
+        ensures fed { (fed : Fed) → StandsBy H.goes_on self.old fed → OnOk result (StandsBy H.goes_on self.new (grown fed a.now b.now c.now bits)) }
+        ensures told { (fed : Fed) → StandsBy H.goes_on self.old fed
+            → OnOk result ((things : List Thing) × IsGainBy H.grammar fed (grown fed a.now b.now c.now bits) things × E.took ear.old ear.new things) }
+        ensures spent { OnErr result (self.new.is_open ≡ false) }
+        ensures stopped { (fed : Fed) → StandsBy H.goes_on self.old fed
+            → OnErr result ((things : List Thing) × IsGainBy H.grammar fed (grown fed a.now b.now c.now bits) things × StopsIn E.took E.broke ear.old ear.new things) }
+        ensures cause { HasCause (E.faults ear.old) (E.faults ear.new) result }
+    {
+        match self.stream.feed(rt, a, b, c, bits, gate, order, ear) {
             Ok(()) => Ok(()),
             Err(_) => {
                 self.is_open = false;

@@ -11,6 +11,7 @@ ghost use Rattle.link_sink.specs.Received.{CanFeed, longest};
 ghost use Rattle.link_sink.specs.Streams.{IsHeard, IsBehind};
 
 use crate::Ear;
+use crate::feeds::Order;
 use crate::hear::Outcome;
 use crate::hears::Hears;
 use crate::receiver::Receiver;
@@ -79,6 +80,7 @@ impl<H: Hears> Stream<H> {
         c: &[u8],
         bits: [u32; 3],
         gate: &G,
+        order: Order,
         ear: &mut E,
     ) -> Result<(), Failed>
         requires heard { (fed : Fed) × IsHeard H.goes_on self.old fed }
@@ -95,7 +97,7 @@ impl<H: Hears> Stream<H> {
         ensures third { fed_of self.new.receiver.team.third.aligner ≡ fed_of self.old.receiver.team.third.aligner + slice_index bits 2 }
         ensures cause { HasCause (E.faults ear.old) (E.faults ear.new) result }
     {
-        self.outcome.aligned = self.receiver.feed(rt, a, b, c, bits, gate);
+        self.outcome.aligned = self.receiver.feed_by(rt, a, b, c, bits, gate, order);
         hear_parts(
             &mut self.receiver,
             &mut *self.hearing,

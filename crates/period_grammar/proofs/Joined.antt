@@ -1,11 +1,12 @@
 -- Laws of the definition that later proofs stand on.
-use Rattle.std.proofs.Common.{◌≡◌, ℕ, suc, ◌+◌, ◌<◌, ◌≤◌, Bool, true, false, List, [], ◌∷◌, ◌++◌, length, refl, ap, ap₂, sym, ◌∙◌, subst, append_assoc, arith, lt-ltb, le-ltb}
-use Rattle.std.specs.Prelude.{filter, nat_lt, cond}
-use Rattle.std.proofs.lemmas.List.{append-nil, length_push, length-append, take_at, drop_at}
+use Rattle.std.proofs.Common.{◌≡◌, ℕ, suc, ◌+◌, ◌<◌, ◌≤◌, Bool, true, false, List, [], ◌∷◌, ◌++◌, length, take, drop, refl, ap, ap₂, sym, ◌∙◌, subst, append_assoc, arith, lt-ltb, le-ltb}
+use Rattle.std.specs.Prelude.{nat_lt, nat_le, cond}
+use Rattle.std.proofs.lemmas.List.{append-nil, length_push, length-append, length-take-le, take-append-drop, take_all, take_at, drop_at}
+use Rattle.std.proofs.lemmas.Bool.{leb-true, leb-false}
 use Rattle.tmds_word.specs.Column.{Column}
 use Rattle.terc4.specs.Columns.{is_control_column}
 use Rattle.terc4.specs.Tables.{is_control}
-use Rattle.period_grammar.specs.Things.{Thing, Told, at, all_at}
+use Rattle.period_grammar.specs.Things.{Thing, Told, at, all_at, column_told, told_before}
 use Rattle.period_grammar.specs.Cut.{Stretch, stretch, before, stretches}
 use Rattle.period_grammar.specs.Island.{begins_close, with_packet, split}
 use Rattle.std.proofs.lemmas.List.Elements.{filter-append}
@@ -137,15 +138,9 @@ pub stretches_of_items : (control : List Column) (g : Column) (gap : List Column
 stretches_of_items control g gap c cs all e none f = items_by control g gap c cs all e none f (stretches (c ∷ cs)) refl (control_starts c cs f)
 
 -- What is told up to a column.
-abbrev pub column_of_told : Told → ℕ
-column_of_told (at j t) = j
-
-abbrev pub before_column : ℕ → List Told → List Told
-before_column n ts = filter (λ t. nat_lt (column_of_told t) n) ts
-
 abbrev pub AllBelow : ℕ → List Told → Type 0
 AllBelow n [] = Unit {0}
-AllBelow n (t ∷ ts) = (column_of_told t < n) × AllBelow n ts
+AllBelow n (t ∷ ts) = (column_told t < n) × AllBelow n ts
 
 below_append : (n : ℕ) (ts us : List Told) → AllBelow n ts → AllBelow n us → AllBelow n (ts ++ us)
 below_append n [] us h k = k
@@ -175,27 +170,41 @@ pub told_below : (cs : List Column) → AllBelow (length cs) (heard_so_far cs)
 unfolding heard_so_far stretches
 told_below cs = below_from [] cs tt
 
-all_before : (n : ℕ) (ts : List Told) → AllBelow n ts → before_column n ts ≡ ts
+all_before : (n : ℕ) (ts : List Told) → AllBelow n ts → told_before n ts ≡ ts
 all_before n [] h = refl
-all_before n (t ∷ ts) h = ap₂ (λ p us. cond p (t ∷ us) us) (lt-ltb (column_of_told t) n h.0) (all_before n ts h.1)
+all_before n (t ∷ ts) h = ap₂ (λ p us. cond p (t ∷ us) us) (lt-ltb (column_told t) n h.0) (all_before n ts h.1)
 
-none_before : (n m : ℕ) (ts : List Thing) → n ≤ m → before_column n (all_at m ts) ≡ []
+none_before : (n m : ℕ) (ts : List Thing) → n ≤ m → told_before n (all_at m ts) ≡ []
 none_before n m [] le = refl
-none_before n m (t ∷ ts) le = ap (λ p. cond p (at m t ∷ before_column n (all_at m ts)) (before_column n (all_at m ts))) (le-ltb m n le) ∙ none_before n m ts le
+none_before n m (t ∷ ts) le = ap (λ p. cond p (at m t ∷ told_before n (all_at m ts)) (told_before n (all_at m ts))) (le-ltb m n le) ∙ none_before n m ts le
 
-before_more : (n : ℕ) (xs ys : List Column) → n ≤ length xs → before_column n (heard_so_far (xs ++ ys)) ≡ before_column n (heard_so_far xs)
-before_more n xs [] le = ap (λ cs. before_column n (heard_so_far cs)) (append-nil xs)
+before_more : (n : ℕ) (xs ys : List Column) → n ≤ length xs → told_before n (heard_so_far (xs ++ ys)) ≡ told_before n (heard_so_far xs)
+before_more n xs [] le = ap (λ cs. told_before n (heard_so_far cs)) (append-nil xs)
 before_more n xs (y ∷ ys) le =
-    ap (λ cs. before_column n (heard_so_far cs)) (sym (append_assoc xs (y ∷ []) ys))
+    ap (λ cs. told_before n (heard_so_far cs)) (sym (append_assoc xs (y ∷ []) ys))
     ∙ before_more n (xs ++ y ∷ []) ys (omega (arith, length_push xs y))
-    ∙ ap (before_column n) (heard_push xs y (start_of xs) (starts xs))
-    ∙ filter-append (λ t. nat_lt (column_of_told t) n) (heard_so_far xs) _
-    ∙ ap (λ us. before_column n (heard_so_far xs) ++ us) (none_before n (length xs) _ le)
-    ∙ append-nil (before_column n (heard_so_far xs))
+    ∙ ap (told_before n) (heard_push xs y (start_of xs) (starts xs))
+    ∙ filter-append (λ t. nat_lt (column_told t) n) (heard_so_far xs) _
+    ∙ ap (λ us. told_before n (heard_so_far xs) ++ us) (none_before n (length xs) _ le)
+    ∙ append-nil (told_before n (heard_so_far xs))
 
 -- What is told of the first columns is what is told of all at those columns.
-pub heard_of_first : (xs ys : List Column) → heard_so_far xs ≡ before_column (length xs) (heard_so_far (xs ++ ys))
+pub heard_of_first : (xs ys : List Column) → heard_so_far xs ≡ told_before (length xs) (heard_so_far (xs ++ ys))
 heard_of_first xs ys = sym (before_more (length xs) xs ys (omega arith) ∙ all_before (length xs) (heard_so_far xs) (told_below xs))
+
+told_before_by : (p : Bool) (n : ℕ) (cs : List Column) → nat_le n (length cs) ≡ p → told_before n (heard_so_far cs) ≡ heard_so_far (take n cs)
+told_before_by true n cs e =
+    let long : length (take n cs) ≡ n = length-take-le n cs (leb-true n (length cs) e) in
+    ap (λ ds. told_before n (heard_so_far ds)) (sym (take-append-drop n cs))
+    ∙ before_more n (take n cs) (drop n cs) (omega (arith, long))
+    ∙ all_before n (heard_so_far (take n cs)) (below_more _ n _ (omega (arith, long)) (told_below (take n cs)))
+told_before_by false n cs e =
+    let few : length cs ≤ n = omega (arith, leb-false n (length cs) e) in
+    all_before n (heard_so_far cs) (below_more (length cs) n _ few (told_below cs)) ∙ ap heard_so_far (sym (take_all n cs few))
+
+-- What a list tells at columns before n is what its first n columns tell so far.
+pub told_before_is : (n : ℕ) (cs : List Column) → told_before n (heard_so_far cs) ≡ heard_so_far (take n cs)
+told_before_is n cs = told_before_by (nat_le n (length cs)) n cs refl
 
 -- Columns of control words alone tell no `Word`.
 abbrev pub AllWhole : List Column → Type 0

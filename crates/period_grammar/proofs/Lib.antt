@@ -11,6 +11,7 @@ pub mod Going
 pub mod Noting
 pub mod FewWords
 pub mod Joined
+pub mod Bytes
 pub mod Sizes
 pub mod Pixels
 pub mod Balanced

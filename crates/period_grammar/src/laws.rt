@@ -1,6 +1,7 @@
 //! What holds of everything that is told. The functions do nothing: what they ensure are the laws.
 ghost use Rattle.period_grammar.specs.Gains.{PushLaw, EndLaw, LinkIsOne};
 ghost use Rattle.period_grammar.specs.Sizes.{Sizes, ValueBelow};
+ghost use Rattle.period_grammar.specs.Before.{ToldBefore};
 
 /// All runs, lines, packets and sync digits that are told are of the sizes that a link can have.
 pub fn sizes()
@@ -25,4 +26,9 @@ pub fn end_law()
 /// What is heard of a link is what its rule tells.
 pub fn link_is_one()
     ensures { LinkIsOne }
+{}
+
+/// What a list tells at columns before a column is what its columns before that one tell so far.
+pub fn told_before()
+    ensures { ToldBefore }
 {}

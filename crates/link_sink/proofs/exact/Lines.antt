@@ -19,7 +19,7 @@ use Rattle.period_grammar.specs.Things.{long_line}
 use Rattle.period_grammar.specs.Heard.{if_not, line_bytes, code_fault, codes_of, line_of}
 use Rattle.link_sink.proofs.Rows.{and_both}
 use Rattle.link_sink.proofs.exact.Faultless.{Fine, fine_left, fine_right, if_not_fine, code_fine}
-use Rattle.link_sink.proofs.exact.Numbers.{number_below}
+use Rattle.period_grammar.proofs.Bytes.{decoded_below}
 
 -- One lane.
 
@@ -46,30 +46,8 @@ lane_of ws h = record {
 
 -- Bytes.
 
-length-unchained : (x b : Bool) (q : List Bool) → length (unchained x b q) ≡ length q
-length-unchained x b [] = refl
-length-unchained x b (c ∷ q) = ap suc (length-unchained x c q)
-
-length-restored : (x : Bool) (q : List Bool) → length (restored x q) ≡ length q
-length-restored x [] = refl
-length-restored x (b ∷ q) = ap suc (length-unchained x b q)
-
-length-decoded : (a b c d e f g h i j : Bool) → length (decoded_bits (a ∷ (b ∷ (c ∷ (d ∷ (e ∷ (f ∷ (g ∷ (h ∷ (i ∷ (j ∷ []))))))))))) ≡ 8
-unfolding decoded_bits
-length-decoded a b c d e f g h i true = length-restored (not i) (inverted (a ∷ (b ∷ (c ∷ (d ∷ (e ∷ (f ∷ (g ∷ (h ∷ [])))))))))
-length-decoded a b c d e f g h i false = length-restored (not i) (a ∷ (b ∷ (c ∷ (d ∷ (e ∷ (f ∷ (g ∷ (h ∷ []))))))))
-
-length-byte : (w : ℕ) → length (decoded_bits (word_bits w)) ≡ 8
-unfolding word_bits bits_of
-length-byte w = length-decoded _ _ _ _ _ _ _ _ _ _
-
-pub byte_small : (w : ℕ) → nat_lt (decoded_byte w) 256 ≡ true
-unfolding decoded_byte
-byte_small w =
-    let n = length-byte w in
-    let b = number_below (decoded_bits (word_bits w)) in
-    let c : number (decoded_bits (word_bits w)) < 2 ^ 8 = subst (λ k. number (decoded_bits (word_bits w)) < 2 ^ k) n b in
-    lt-ltb _ 256 (omega arith)
+byte_small : (w : ℕ) → nat_lt (decoded_byte w) 256 ≡ true
+byte_small w = lt-ltb _ 256 (decoded_below w)
 
 line_small : (cs : List Column) → are_bytes (line_bytes cs) ≡ true
 unfolding line_bytes

@@ -27,7 +27,7 @@ use Rattle.period_grammar.specs.Things.{symbols}
 use Rattle.period_grammar.specs.Island.{if_so, block_fault, block_faults, packet_faults}
 use Rattle.island_pack.proofs.Repaired.{nothing_is}
 use Rattle.link_sink.proofs.Rows.{and_both}
-use Rattle.link_sink.proofs.exact.Numbers.{number_below}
+use Rattle.period_grammar.proofs.Bytes.{number_below}
 use Rattle.link_sink.proofs.exact.Faultless.{Fine, fine_left, fine_right, if_so_fine, not_false}
 
 -- A block of which the verdict is clean.

@@ -1,5 +1,5 @@
 use Rattle.link_sink.specs.Sinks.{grown}
-use Rattle.link_sink.proofs.sink.LaneSink.feed.Goals as goal
+use Rattle.link_sink.proofs.sink.LaneSink.feed_by.Goals as goal
 
 pub invariant_of-self : goal.invariant_of-self
 invariant_of-self g c = λ is_open.
