@@ -4,4 +4,5 @@ pub mod Strays
 pub mod Around
 pub mod Begins
 mod Seeking
+mod Sevens
 pub mod Front

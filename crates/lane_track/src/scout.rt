@@ -5,7 +5,7 @@ ghost use Rattle.lane_align.specs.Search.{Holds};
 ghost use Rattle.lane_track.specs.Strays.{IsFirstStray};
 ghost use Rattle.lane_track.specs.Scouts.{HasSought};
 
-use lane_align::first_run;
+use crate::ahead::next_run;
 
 /// The phase at which nothing is left out.
 const ANY: u32 = 10;
@@ -38,7 +38,7 @@ impl Scout {
     {
         match self.lock {
             Some(lock) => stray_in(bytes, base, from, until, lock),
-            None => match first_run(bytes, from, until, ANY) {
+            None => match next_run(bytes, from, until, ANY) {
                 None => None,
                 Some(p) => {
                     self.lock = Some(base + p);
@@ -58,7 +58,7 @@ fn stray_in(bytes: &[u8], base: u32, from: u32, until: u32, lock: u32) -> Option
     ensures sought { (xs : List Bool) (count : ℕ) → Holds bytes.now xs base count → until + 119 ≤ count → HasSought xs (base + from) (Some lock)
         → MatchOption result (HasSought xs (base + until) (Some lock)) (λ p. IsFirstStray xs (base + p)) }
 {
-    first_run(bytes, from, until, phase_of(lock, base))
+    next_run(bytes, from, until, phase_of(lock, base))
 }
 
 /// The phase of a lock among places that are counted from another bit.

@@ -41,15 +41,15 @@ stray_behind words marks from many place dropped s p stray =
     ]
 
 -- the lane that slipped, as a part of a lane
-slipped_is : (x y : Fed) (words : ℕ → List ℕ) (marks : ℕ → List Bool) (from many : ℕ → ℕ) (lane place dropped : ℕ) → CalmLanes x words marks from many → Slipped x lane place dropped y
+pub slipped_is : (x y : Fed) (words : ℕ → List ℕ) (marks : ℕ → List Bool) (from many : ℕ → ℕ) (lane place dropped : ℕ) → CalmLanes x words marks from many → Slipped x lane place dropped y
     → lane_of y lane ≡ slipped_part (words lane) (from lane) (many lane) place dropped
 slipped_is x y words marks from many lane place dropped lanes slip = slip.this ∙ ap (λ us. slipped us place dropped) (lanes.parts lane slip.within)
 
-other_lane : (x y : Fed) (words : ℕ → List ℕ) (marks : ℕ → List Bool) (from many : ℕ → ℕ) (lane place dropped : ℕ) → CalmLanes x words marks from many → Slipped x lane place dropped y
+pub other_lane : (x y : Fed) (words : ℕ → List ℕ) (marks : ℕ → List Bool) (from many : ℕ → ℕ) (lane place dropped : ℕ) → CalmLanes x words marks from many → Slipped x lane place dropped y
     → (l : ℕ) → l < 3 → (l ≡ lane → ⊥) → lane_of y l ≡ part_of (words l) (from l) (many l)
 other_lane x y words marks from many lane place dropped lanes slip l lt apart = slip.others l lt apart ∙ lanes.parts l lt
 
-same_lane : (l lane : ℕ) → (l ≡ lane) ⊎ (l ≡ lane → ⊥)
+pub same_lane : (l lane : ℕ) → (l ≡ lane) ⊎ (l ≡ lane → ⊥)
 same_lane l lane = elim (cases_lt l lane) [
   | inl less ↦ inr (λ e. omega arith)
   | inr more ↦ elim (cases_lt lane l) [

@@ -1,5 +1,6 @@
 -- What an ear was told where it failed: the first events of those that were to be told.
 use Rattle.std.proofs.Common.{◌≡◌, ◌↔◌, ℕ, suc, zero, ◌+◌, ◌-◌, ◌*◌, ◌/◌, ◌%◌, ◌<◌, ◌≤◌, max, Bool, true, false, ◌||◌, List, [], ◌∷◌, ◌++◌, length, refl, ap, ap₂, ◌∙◌, sym, subst, arith, inl, inr, append_assoc, append-nil}
+use Rattle.std.specs.Prelude.{Result, Ok, Err, OnErr}
 use Rattle.std.proofs.lemmas.List.{map-append}
 use Rattle.terc4.specs.Columns.{one_if}
 use Rattle.lane_deskew.specs.Aligned.{aligned_columns}
@@ -26,6 +27,12 @@ LostGain took broke x z fed from upto = (things : List Thing) × IsGain (front_o
 
 abbrev pub LostSome : {A : Type 0} → (A → A → List Thing → Type 0) → (A → A → Thing → Type 0) → A → A → Fed → ℕ → ℕ → Type 0
 LostSome took broke x z fed from bits = (some : ℕ) × (some ≤ bits) × (things : List Thing) × IsGain (front_of from fed) (front_of (from + some) fed) things × StopsIn took broke x z things
+
+-- where all of them were handed on at once
+pub lost_some : {A T E : Type 0} (took : A → A → List Thing → Type 0) (broke : A → A → Thing → Type 0) (x z : A) (fed : Fed) (from bits : ℕ) (r : Result T E)
+    → OnErr r (LostGain took broke x z fed from (from + bits)) → OnErr r (LostSome took broke x z fed from bits)
+lost_some took broke x z fed from bits (Ok y) lost = tt
+lost_some took broke x z fed from bits (Err e) lost = (bits, omega arith, lost.0, lost.1, lost.2)
 
 abbrev pub LostMore : {A : Type 0} → (A → A → List Event → Type 0) → (A → A → Event → Type 0) → A → A → Fed → List Event → Type 0
 LostMore tracked lost x z fed told = (more : List Event) × Stops tracked lost x z more × Passes fed (told ++ more)

@@ -16,7 +16,7 @@ use Rattle.lane_track.proofs.Around.{length-part}
 use Rattle.track_sink.specs.Epochs.{lane_of}
 use Rattle.track_sink.specs.Laws.{Came, Slipped, fronts}
 
-front_part : (words : List ℕ) (from many n : ℕ) (xs : List Bool) → IsPart words from many xs → (count : ℕ) × IsPart words from count (take n xs)
+pub front_part : (words : List ℕ) (from many n : ℕ) (xs : List Bool) → IsPart words from many xs → (count : ℕ) × IsPart words from count (take n xs)
 front_part words from many n xs part =
     let within = part.within in
     let len : length xs ≡ many = ap length part.bits_are ∙ length-part words from many within in
@@ -26,7 +26,7 @@ front_part words from many n xs part =
     ]
 
 -- the first triple of the same edges
-first_same : (A B C D E F : ℕ → Type 0) → ((e : ℕ) → A e ↔ D e) → ((e : ℕ) → B e ↔ E e) → ((e : ℕ) → C e ↔ F e) → (d e f : ℕ) → AreFirst A B C d e f → AreFirst D E F d e f
+pub first_same : (A B C D E F : ℕ → Type 0) → ((e : ℕ) → A e ↔ D e) → ((e : ℕ) → B e ↔ E e) → ((e : ℕ) → C e ↔ F e) → (d e f : ℕ) → AreFirst A B C d e f → AreFirst D E F d e f
 first_same A B C D E F a b c d e f first =
     let t = first.triple in
     record {

@@ -404,7 +404,7 @@ stays_more t u lanes seen s hx hy hz fx fy fz = record {
 }
 
 pub looked_more : (t u : Tracker) (fed : Fed) (lanes : Lanes) (more end longest : ℕ) → Stays t u → Carries t fed → HasLooked u fed → AreSought lanes (u.seen + more) (rest_of u.start fed)
-    → longest ≡ max (length t.lanes.first.held) (max (length t.lanes.second.held) (length t.lanes.third.held)) → end ≡ t.handed + longest - 119 → u.seen < end → more ≡ min (end - u.seen) 640
+    → longest ≡ max (length t.lanes.first.held) (max (length t.lanes.second.held) (length t.lanes.third.held)) → end ≡ t.handed + longest - 119 → u.seen < end → more ≡ min (end - u.seen) 2560
     → HasLooked (record u { lanes = lanes; seen = u.seen + more }) fed
 looked_more t u fed lanes more end longest s c looked sought most e lt step =
     let all = longest_held t fed c in

@@ -1,6 +1,7 @@
 pub mod Looking
 pub mod Shifting
-mod Second
+mod Moving
+pub mod Second
 mod Staying
 pub mod Following
 pub mod Handing
@@ -9,7 +10,14 @@ pub mod Settling
 pub mod Failing
 pub mod Reaching
 pub mod Starting
-mod Ends
+pub mod Ends
 pub mod Calm
 pub mod One
-mod First
+pub mod First
+mod Middles
+pub mod Slipping
+pub mod Noticed
+pub mod Fronts
+pub mod Before
+mod SlipStream
+mod SlipExample

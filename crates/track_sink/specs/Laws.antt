@@ -1,8 +1,9 @@
 -- What holds of epochs.
-use Rattle.std.specs.Prelude.{◌≡◌, ◌⊎◌, ◌↔◌, ℕ, zero, suc, ◌+◌, ◌-◌, ◌*◌, ◌<◌, ◌≤◌, Bool, List, [], ◌∷◌, length, take, drop, slice_index}
+use Rattle.std.specs.Prelude.{◌≡◌, ◌⊎◌, ◌↔◌, ℕ, zero, suc, ◌+◌, ◌-◌, ◌*◌, ◌<◌, ◌≤◌, Bool, true, false, List, [], ◌∷◌, length, take, drop, slice_index}
 use Rattle.tmds_word.specs.Column.{Column, blues, greens, reds}
 use Rattle.tmds_word.specs.Taps.{part_of, IsTap, HasSmallSkew}
-use Rattle.lane_align.specs.Lanes.{IsEdge}
+use Rattle.terc4.specs.Tables.{is_control}
+use Rattle.lane_align.specs.Lanes.{IsLock, IsEdge}
 use Rattle.lane_align.specs.Laws.{IsCalm}
 use Rattle.lane_deskew.specs.Triples.{IsFirst}
 use Rattle.lane_deskew.specs.Aligned.{aligned_columns}
@@ -12,7 +13,7 @@ use Rattle.island_pack.specs.Sparse.{IsSparseInPayload}
 use Rattle.period_grammar.specs.Heard.{heard}
 use Rattle.link_sink.specs.Sinks.{Fed}
 use Rattle.link_sink.specs.Account.{account}
-use Rattle.link_sink.specs.Laws.{CameOf, EndsControl, BeginColumn, IsAccounted}
+use Rattle.link_sink.specs.Laws.{CameOf, EndsControl, BeginColumn, IsAccounted, HasUnlike}
 use Rattle.lane_track.specs.Slips.{Slips, slipped}
 use Rattle.track_sink.specs.Events.{Event}
 use Rattle.track_sink.specs.Epochs.{lane_of, rest_of, IsEnd, HasNoEnd, IsTracked}
@@ -85,10 +86,20 @@ pub record SlipsInVideo (ps : List Period) (sent received : List Column) (offset
       → slice_index (words_at received lane) i ≡ slice_index (words_at sent lane) i
   pub small : HasSmallSkew (later_skews skews lane dropped)
 
+-- where an epoch begins on a lane that lost bits, as a place of the lane before: at the control period that begins with column
+-- `next`, or one or two characters before it where these came as control words
+pub record BeginsAgain (received : List Column) (offset : ℕ) (skews : List ℕ) (lane dropped next start : ℕ) : Type 0 where
+  pub early : ℕ
+  pub few : early ≤ 2
+  pub control : (k : ℕ) → k < early → is_control (slice_index (words_at received lane) (next - 1 - k)) ≡ true
+  pub plain : is_control (slice_index (words_at received lane) (next - 1 - early)) ≡ false
+  pub place : start + dropped + offset + slice_index skews lane ≡ 10 * (next - early)
+
 -- what is told of the columns of the first epoch that end before the slip on the lane
-pub record FirstAccounted (ps : List Period) (sent received : List Column) (y : Fed) (lane place start d e f : ℕ) : Type 0 where
+pub record FirstAccounted (ps : List Period) (sent received : List Column) (offset : ℕ) (skews : List ℕ) (y : Fed) (lane place start d e f : ℕ) : Type 0 where
   pub a : ℕ
   pub ends : EndsControl ps (a + 11)
+  pub begins : BeginColumn offset skews (a + 12) d e f
   pub told :
       (m : ℕ) → slice_index (d ∷ e ∷ f ∷ []) lane - 120 + 10 * m ≤ place
       → m ≤ length (aligned_columns (take start y.blue) (take start y.green) (take start y.red) d e f)
@@ -101,20 +112,37 @@ FirstEpoch =
     → SlipsInVideo ps sent received offset skews counts lane place dropped first next
     → IsEnd y lane start
     → (d e f : ℕ) → IsFirst (take start y.blue) (take start y.green) (take start y.red) d e f
-    → FirstAccounted ps sent received y lane place start d e f
+    → FirstAccounted ps sent received offset skews y lane place start d e f
 
--- at most one slip is noticed, on that lane and behind the place, and what is told from there on is the account from the
--- first alignment of the second epoch on
+-- at most one slip is noticed, on that lane, at the control period behind the line, and what is told from there on is the
+-- account from the first alignment of the second epoch on
 abbrev pub SecondEpoch : Type 0
 SecondEpoch =
     (ps : List Period) (sent received : List Column) (offset : ℕ) (skews counts : List ℕ) (x y : Fed) (lane place dropped first next : ℕ)
     → Came ps sent received offset skews counts x → Slipped x lane place dropped y
     → SlipsInVideo ps sent received offset skews counts lane place dropped first next
     → (found start : ℕ) → IsEnd y found start
-    → (found ≡ lane) × (place ≤ start) × HasNoEnd (rest_of start y)
+    → (found ≡ lane) × (place ≤ start) × BeginsAgain received offset skews lane dropped next start × HasNoEnd (rest_of start y)
     × ((d e f : ℕ) → IsFirst (drop start y.blue) (drop start y.green) (drop start y.red) d e f
     → (a : ℕ) × IsAccounted ps sent received (aligned_columns (drop start y.blue) (drop start y.green) (drop start y.red) d e f) a
     × BeginColumn (offset + start) (later_skews skews lane dropped) (a + 12) d e f)
+
+-- it is noticed where the lane has a lock before it and the first twelve characters of that control period
+abbrev pub SlipNoticed : Type 0
+SlipNoticed =
+    (ps : List Period) (sent received : List Column) (offset : ℕ) (skews counts : List ℕ) (x y : Fed) (lane place dropped first next : ℕ)
+    → Came ps sent received offset skews counts x → Slipped x lane place dropped y
+    → SlipsInVideo ps sent received offset skews counts lane place dropped first next
+    → (lock : ℕ) → IsLock (lane_of x lane) lock → lock + 120 ≤ place → 10 * (next + 12) ≤ offset + slice_index skews lane + slice_index counts lane
+    → (start : ℕ) × IsEnd y lane start
+
+-- and not where the lane has no lock before it: there is one epoch, in which the lane locks behind the slip
+abbrev pub SlipPasses : Type 0
+SlipPasses =
+    (ps : List Period) (sent received : List Column) (offset : ℕ) (skews counts : List ℕ) (x y : Fed) (lane place dropped first next : ℕ)
+    → Came ps sent received offset skews counts x → Slipped x lane place dropped y
+    → SlipsInVideo ps sent received offset skews counts lane place dropped first next
+    → ((lock : ℕ) → IsLock (lane_of x lane) lock → lock + 120 ≤ place → ⊥) → HasNoEnd y
 
 -- what the second epoch tells, from the law on taps: its lanes are a tap of the same columns, later by its start, with the
 -- skews after the slip
@@ -167,3 +195,21 @@ abbrev pub PayloadHasNoEnd : Type 0
 PayloadHasNoEnd =
     (ps : List Period) (sent received : List Column) (offset : ℕ) (skews counts : List ℕ) (x : Fed) → Came ps sent received offset skews counts x
     → IsSparseInPayload ps sent received → HasNoEnd x
+
+-- a stream with a damaged pixel whose lane 0 loses three bits of a line, where the lanes' skews are up to 70 bits, and both
+-- epochs have a full alignment
+pub record IsSlipExample (ps : List Period) (sent received : List Column) (counts : List ℕ) (x y : Fed) (first next start : ℕ) : Type 0 where
+  pub came : Came ps sent received 7 (0 ∷ 70 ∷ 35 ∷ []) counts x
+  pub slips : Slipped x 0 400 3 y
+  pub in_line : SlipsInVideo ps sent received 7 (0 ∷ 70 ∷ 35 ∷ []) counts 0 400 3 first next
+  pub hurt : HasUnlike pixel_column ps sent received
+  pub end : IsEnd y 0 start
+  pub before : HasSmallSkew (0 ∷ 70 ∷ 35 ∷ [])
+  pub one : (d e f : ℕ) × IsFirst (take start y.blue) (take start y.green) (take start y.red) d e f
+  pub two : (d e f : ℕ) × IsFirst (drop start y.blue) (drop start y.green) (drop start y.red) d e f
+
+-- there is one
+abbrev pub HasSlipExample : Type 0
+HasSlipExample =
+    (ps : List Period) × (sent received : List Column) × (counts : List ℕ) × (x y : Fed) × (first next start : ℕ)
+    × IsSlipExample ps sent received counts x y first next start

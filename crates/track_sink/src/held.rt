@@ -1,7 +1,8 @@
 //! Bits of one lane that are not handed on yet.
 ghost use Rattle.std.specs.Prelude.{ℕ, ◌≡◌, ◌<◌, ◌≤◌, ◌+◌, ◌*◌, ◌/◌, ◌%◌, ◌^◌, ◌++◌, [], IfOk, length, take, drop};
-ghost use Rattle.tmds_word.specs.Bits.{bits_of, bytes_bits};
+ghost use Rattle.tmds_word.specs.Bits.{bits_of, bytes_bits, number};
 
+use lane_track::eight_bytes;
 use outside_io::NoMemory;
 use std::alloc::Global;
 use std::marker::Model;
@@ -146,9 +147,36 @@ fn move_to_front(bytes: &mut [u8], at: usize, bit: u32, count: usize)
     ensures size { length bytes.new ≡ length bytes.old }
     ensures bits { bytes_bits (take count bytes.new) ≡ take (8 * count) (drop (8 * at + bit) (bytes_bits bytes.old)) }
 {
-    for i in 0..count {
+    let whole = count / 8;
+    move_words(bytes, at, bit, whole);
+    for i in 8 * whole..count {
         bytes[i] = byte_across(bytes[at + i], bytes[at + i + 1], bit);
     }
+}
+
+/// Moves bytes to the front from a bit of one of them on, eight at a time.
+fn move_words(bytes: &mut [u8], at: usize, bit: u32, count: usize)
+    requires bit { bit < 8 }
+    requires room { at + 8 * count + 1 ≤ length bytes.old }
+    ensures size { length bytes.new ≡ length bytes.old }
+    ensures rest { drop (8 * count) bytes.new ≡ drop (8 * count) bytes.old }
+    ensures bits { bytes_bits (take (8 * count) bytes.new) ≡ take (8 * (8 * count)) (drop (8 * at + bit) (bytes_bits bytes.old)) }
+{
+    for i in 0..count {
+        let word = word_across(bytes, at + 8 * i, bit);
+        bytes[8 * i..8 * i + 8].copy_from_slice(&word.to_le_bytes());
+    }
+}
+
+/// The 64 bits from a bit of a byte on.
+fn word_across(bytes: &[u8], at: usize, bit: u32) -> u64
+    requires bit { bit < 8 }
+    requires room { at + 9 ≤ length bytes.now }
+    ensures { result ≡ number (bytes_bits bytes.now) / 2 ^ (8 * at + bit) % 2 ^ 64 }
+{
+    let low = u128::from(eight_bytes(bytes, at));
+    let high = u128::from(bytes[at + 8]);
+    ((((high << 64) | low) >> bit) & 0xffff_ffff_ffff_ffff) as u64
 }
 
 /// The eight bits from a bit of the first of two bytes on.

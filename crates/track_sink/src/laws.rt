@@ -1,5 +1,5 @@
 //! What follows from the laws on taps.
-ghost use Rattle.track_sink.specs.Laws.{SecondTold, EndStays, AtMostTwo, CalmHasNoEnd, OneTrack, FirstTold, PayloadHasNoEnd, OneEpoch, SomeTrack, ToldStarts};
+ghost use Rattle.track_sink.specs.Laws.{SecondTold, EndStays, AtMostTwo, CalmHasNoEnd, OneTrack, FirstTold, PayloadHasNoEnd, OneEpoch, SomeTrack, ToldStarts, FirstEpoch, SecondEpoch, SlipNoticed, SlipPasses, HasSlipExample};
 
 /// What the second epoch tells is the account.
 pub fn second_told()
@@ -49,4 +49,30 @@ pub fn payload_has_no_end()
 /// So have the lanes of a tap whose damage is sparse, wherever it lies.
 pub fn one_epoch()
     ensures { OneEpoch }
+{}
+
+/// What the first epoch tells of columns that end before a slip within a line is the account.
+pub fn first_epoch()
+    ensures { FirstEpoch }
+{}
+
+/// There are at most two epochs then, and the second begins where the next control period does, on the lane that slipped;
+/// what it tells from its first full alignment on is the account.
+pub fn second_epoch()
+    ensures { SecondEpoch }
+{}
+
+/// There are two where the lane has a lock before the slip and the first twelve characters of that control period.
+pub fn slip_noticed()
+    ensures { SlipNoticed }
+{}
+
+/// There is one where it has no lock before the slip.
+pub fn slip_passes()
+    ensures { SlipPasses }
+{}
+
+/// The premises can be met: a stream, a tap and a slip where both epochs have a full alignment.
+pub fn slip_example()
+    ensures { HasSlipExample }
 {}

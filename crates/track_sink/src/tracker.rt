@@ -16,17 +16,19 @@ ghost use Rattle.track_sink.specs.Trackers.{most_of, most_fed, Follows, Carries,
 
 use crate::lanes::{Lanes, Stray};
 use crate::{TrackEar, TrackOutcome};
-use lane_team::Open;
 use link_sink::{LinkSink, Outcome};
 use outside_io::{Failed, NoMemory};
 use std::alloc::Global;
 use std::thread::Threads;
 
 /// How many places of each lane are looked at before those of the next: an epoch that ends early costs no more.
-const STRETCH: u32 = 640;
+const STRETCH: u32 = 2560;
 
 /// From the first bit of a run to its last.
 const SPAN: u32 = 119;
+
+/// How many bits of a lane one feed takes at most.
+const MOST: u32 = 32768;
 
 /// Where the machine stands: an epoch, and what was told before it.
 #[derive(Drop)]
@@ -151,13 +153,12 @@ impl Tracker {
         let x = self.lanes.first.held.len().min(bits);
         let y = self.lanes.second.held.len().min(bits);
         let z = self.lanes.third.held.len().min(bits);
-        self.link.feed(
+        self.link.feed_ungated(
             rt,
             self.lanes.first.held.front(x),
             self.lanes.second.held.front(y),
             self.lanes.third.held.front(z),
             [x, y, z],
-            &Open,
             ear,
         )?;
         self.lanes.consume(bits);
@@ -165,7 +166,7 @@ impl Tracker {
         Ok(())
     }
 
-    /// Hands on the first bits of each lane as `hand_on` does, whole bytes first: so many that one feed may not take them.
+    /// Hands on the first bits of each lane as `hand_on` does, whole bytes first where one feed may not take so many.
     fn hand_all<R: Threads, E: TrackEar>(
         &mut self,
         rt: &R,
@@ -189,6 +190,9 @@ impl Tracker {
         ensures aligned { self.new.aligned ≡ self.old.aligned }
         ensures cause { HasCause (E.faults ear.old) (E.faults ear.new) result }
     {
+        if bits <= MOST {
+            return self.hand_on(rt, bits, ear);
+        }
         self.hand_on(rt, bits / 8 * 8, ear)?;
         self.hand_on(rt, bits % 8, ear)?;
         Ok(())

@@ -2,14 +2,14 @@ use Rattle.std.proofs.Common.{◌*◌, ◌/◌, ◌%◌, ◌++◌, arith}
 use Rattle.track_sink.specs.Epochs.{rest_of}
 use Rattle.track_sink.proofs.Turning.{rose_after, gains_two}
 use Rattle.link_sink.proofs.Stops.{on_err, stops_after}
-use Rattle.track_sink.proofs.Failing.{LostSome}
+use Rattle.track_sink.proofs.Failing.{LostSome, lost_some}
 use Rattle.track_sink.proofs.tracker.Tracker.hand_all.Goals as goal
 
-pub hand_on-requires-2-clause-carries : goal.hand_on-requires-2-clause-carries
-hand_on-requires-2-clause-carries g c =
+pub hand_on-requires-3-clause-carries : goal.hand_on-requires-3-clause-carries
+hand_on-requires-3-clause-carries g c =
     let fed = c.requires.carries.0 in
     let room = c.requires.carries.2 in
-    (fed, c.in_ok-hand_on.ensures.carries fed c.requires.carries.1 (omega arith), omega (arith, room, c.in_ok-hand_on.ensures.handed, c.hand_on.ensures.start))
+    (fed, c.in_ok-hand_on.ensures.carries fed c.requires.carries.1 (omega arith), omega (arith, room, c.in_ok-hand_on.ensures.handed, c.hand_on-2.ensures.start))
 
 pub returns-in_err-hand_on-2-clause-cause : goal.returns-in_err-hand_on-2-clause-cause
 returns-in_err-hand_on-2-clause-cause g c =
@@ -17,36 +17,40 @@ returns-in_err-hand_on-2-clause-cause g c =
     let then = c.in_err-hand_on-2.ensures.cause in
     record { later = let h = then.later in omega arith; failed = on_err _ (rose_after _ _ _ first then.failed) }
 
+pub returns-then-bits-le-MOST-clause-stopped : goal.returns-then-bits-le-MOST-clause-stopped
+returns-then-bits-le-MOST-clause-stopped g c = λ fed carries room.
+    lost_some g.E.Ear.took g.E.Ear.broke c.args.ear.now c.hand_on.new.ear (rest_of c.args.self.now.start fed) c.args.self.now.handed c.args.bits _ (c.hand_on.ensures.stopped fed carries room)
+
 pub returns-clause-carries : goal.returns-clause-carries
 returns-clause-carries g c = λ fed carries room.
-    c.in_ok-hand_on-2.ensures.carries fed (c.in_ok-hand_on.ensures.carries fed carries (omega arith)) (omega (arith, room, c.in_ok-hand_on.ensures.handed, c.hand_on.ensures.start))
+    c.in_ok-hand_on-2.ensures.carries fed (c.in_ok-hand_on.ensures.carries fed carries (omega arith)) (omega (arith, room, c.in_ok-hand_on.ensures.handed, c.hand_on-2.ensures.start))
 
 pub returns-clause-told : goal.returns-clause-told
 returns-clause-told g c = λ fed carries room.
     let t = c.args.self.now in
     let bits = c.args.bits in
     let first = c.in_ok-hand_on.ensures.told fed carries (omega arith) in
-    let second = c.in_ok-hand_on-2.ensures.told fed (c.in_ok-hand_on.ensures.carries fed carries (omega arith)) (omega (arith, room, c.in_ok-hand_on.ensures.handed, c.hand_on.ensures.start)) in (
+    let second = c.in_ok-hand_on-2.ensures.told fed (c.in_ok-hand_on.ensures.carries fed carries (omega arith)) (omega (arith, room, c.in_ok-hand_on.ensures.handed, c.hand_on-2.ensures.start)) in (
       first.0 ++ second.0,
-      gains_two fed t.start c.hand_on.new.self.start t.handed c.hand_on.new.self.handed (bits / 8 * 8) (bits % 8) bits first.0 second.0 c.hand_on.ensures.start c.in_ok-hand_on.ensures.handed (omega arith) first.1 second.1,
-      g.met.E.Ear.took_both c.args.ear.now c.hand_on.new.ear c.hand_on-2.new.ear first.0 second.0 first.2 second.2,
+      gains_two fed t.start c.hand_on-2.new.self.start t.handed c.hand_on-2.new.self.handed (bits / 8 * 8) (bits % 8) bits first.0 second.0 c.hand_on-2.ensures.start c.in_ok-hand_on.ensures.handed (omega arith) first.1 second.1,
+      g.met.E.Ear.took_both c.args.ear.now c.hand_on-2.new.ear c.hand_on-3.new.ear first.0 second.0 first.2 second.2,
     )
 
 pub returns-in_err-hand_on-clause-stopped : goal.returns-in_err-hand_on-clause-stopped
 returns-in_err-hand_on-clause-stopped g c = λ fed carries room.
     let first = c.in_err-hand_on.ensures.stopped fed carries (omega arith) in
-    on_err {P = LostSome g.E.Ear.took g.E.Ear.broke c.args.ear.now c.hand_on.new.ear (rest_of c.args.self.now.start fed) c.args.self.now.handed c.args.bits} _ (c.args.bits / 8 * 8, omega arith, first.0, first.1, first.2)
+    on_err {P = LostSome g.E.Ear.took g.E.Ear.broke c.args.ear.now c.hand_on-2.new.ear (rest_of c.args.self.now.start fed) c.args.self.now.handed c.args.bits} _ (c.args.bits / 8 * 8, omega arith, first.0, first.1, first.2)
 
 pub returns-in_err-hand_on-2-clause-stopped : goal.returns-in_err-hand_on-2-clause-stopped
 returns-in_err-hand_on-2-clause-stopped g c = λ fed carries room.
     let t = c.args.self.now in
     let bits = c.args.bits in
     let first = c.in_ok-hand_on.ensures.told fed carries (omega arith) in
-    let second = c.in_err-hand_on-2.ensures.stopped fed (c.in_ok-hand_on.ensures.carries fed carries (omega arith)) (omega (arith, room, c.in_ok-hand_on.ensures.handed, c.hand_on.ensures.start)) in
-    on_err {P = LostSome g.E.Ear.took g.E.Ear.broke c.args.ear.now c.hand_on-2.new.ear (rest_of t.start fed) t.handed bits} _ (
+    let second = c.in_err-hand_on-2.ensures.stopped fed (c.in_ok-hand_on.ensures.carries fed carries (omega arith)) (omega (arith, room, c.in_ok-hand_on.ensures.handed, c.hand_on-2.ensures.start)) in
+    on_err {P = LostSome g.E.Ear.took g.E.Ear.broke c.args.ear.now c.hand_on-3.new.ear (rest_of t.start fed) t.handed bits} _ (
       bits,
       omega arith,
       first.0 ++ second.0,
-      gains_two fed t.start c.hand_on.new.self.start t.handed c.hand_on.new.self.handed (bits / 8 * 8) (bits % 8) bits first.0 second.0 c.hand_on.ensures.start c.in_ok-hand_on.ensures.handed (omega arith) first.1 second.1,
-      stops_after g.E.Ear.took g.E.Ear.broke g.met.E.Ear.took_both c.args.ear.now c.hand_on.new.ear c.hand_on-2.new.ear first.0 second.0 first.2 second.2,
+      gains_two fed t.start c.hand_on-2.new.self.start t.handed c.hand_on-2.new.self.handed (bits / 8 * 8) (bits % 8) bits first.0 second.0 c.hand_on-2.ensures.start c.in_ok-hand_on.ensures.handed (omega arith) first.1 second.1,
+      stops_after g.E.Ear.took g.E.Ear.broke g.met.E.Ear.took_both c.args.ear.now c.hand_on-2.new.ear c.hand_on-3.new.ear first.0 second.0 first.2 second.2,
     )

@@ -11,16 +11,16 @@ pub returns-then-bits-eq0-clause-told : goal.returns-then-bits-eq0-clause-told
 returns-then-bits-eq0-clause-told g c = λ fed carries room.
     ([], none_gained c.args.self.now fed c.args.bits c.if-bits-eq0.true, g.met.E.Ear.took_none c.args.ear.now)
 
-pub feed-requires-clause-first : goal.feed-requires-clause-first
-feed-requires-clause-first g c κs within =
+pub feed_ungated-requires-clause-first : goal.feed_ungated-requires-clause-first
+feed_ungated-requires-clause-first g c =
     can_hand_first c.args.self.now c.requires.carries.0 c.front.result.now c.min-x.result c.args.bits c.requires.carries.1 c.requires.whole c.requires.most (c.min-x.ensures ∙ ap (λ n. min n c.args.bits) c.len.ensures.len) c.front.ensures.size
 
-pub feed-requires-clause-second : goal.feed-requires-clause-second
-feed-requires-clause-second g c κs within =
+pub feed_ungated-requires-clause-second : goal.feed_ungated-requires-clause-second
+feed_ungated-requires-clause-second g c =
     can_hand_second c.args.self.now c.requires.carries.0 c.front-2.result.now c.min-y.result c.args.bits c.requires.carries.1 c.requires.whole c.requires.most (c.min-y.ensures ∙ ap (λ n. min n c.args.bits) c.len-2.ensures.len) c.front-2.ensures.size
 
-pub feed-requires-clause-third : goal.feed-requires-clause-third
-feed-requires-clause-third g c κs within =
+pub feed_ungated-requires-clause-third : goal.feed_ungated-requires-clause-third
+feed_ungated-requires-clause-third g c =
     can_hand_third c.args.self.now c.requires.carries.0 c.front-3.result.now c.min-z.result c.args.bits c.requires.carries.1 c.requires.whole c.requires.most (c.min-z.ensures ∙ ap (λ n. min n c.args.bits) c.len-3.ensures.len) c.front-3.ensures.size
 
 pub returns-clause-carries : goal.returns-clause-carries
@@ -30,9 +30,9 @@ returns-clause-carries g c = λ fed carries room.
     let ey = c.min-y.ensures ∙ ap (λ n. min n c.args.bits) c.len-2.ensures.len in
     let ez = c.min-z.ensures ∙ ap (λ n. min n c.args.bits) c.len-3.ensures.len in
     let is = handed_is t fed c.front.result.now c.front-2.result.now c.front-3.result.now c.min-x.result c.min-y.result c.min-z.result c.args.bits carries ex ey ez c.front.ensures.bits c.front-2.ensures.bits c.front-3.ensures.bits in
-    carries_handed t fed c.feed.new.self c.consume.new.self c.min-x.result c.min-y.result c.min-z.result c.args.bits carries room ex ey ez c.in_ok-feed.ensures.open
-    (subst (StandsFor c.feed.new.self) is (c.in_ok-feed.ensures.fed (front_of t.handed (rest_of t.start fed)) carries.link))
-    c.in_ok-feed.ensures.first c.in_ok-feed.ensures.second c.in_ok-feed.ensures.third
+    carries_handed t fed c.feed_ungated.new.self c.consume.new.self c.min-x.result c.min-y.result c.min-z.result c.args.bits carries room ex ey ez c.in_ok-feed_ungated.ensures.open
+    (subst (StandsFor c.feed_ungated.new.self) is (c.in_ok-feed_ungated.ensures.fed (front_of t.handed (rest_of t.start fed)) carries.link))
+    c.in_ok-feed_ungated.ensures.first c.in_ok-feed_ungated.ensures.second c.in_ok-feed_ungated.ensures.third
     c.consume.ensures.first c.consume.ensures.second c.consume.ensures.third c.consume.ensures.first_fed c.consume.ensures.second_fed c.consume.ensures.third_fed
 
 pub returns-clause-told : goal.returns-clause-told
@@ -42,17 +42,17 @@ returns-clause-told g c = λ fed carries room.
     let ey = c.min-y.ensures ∙ ap (λ n. min n c.args.bits) c.len-2.ensures.len in
     let ez = c.min-z.ensures ∙ ap (λ n. min n c.args.bits) c.len-3.ensures.len in
     let is = handed_is t fed c.front.result.now c.front-2.result.now c.front-3.result.now c.min-x.result c.min-y.result c.min-z.result c.args.bits carries ex ey ez c.front.ensures.bits c.front-2.ensures.bits c.front-3.ensures.bits in
-    let told = c.in_ok-feed.ensures.told (front_of t.handed (rest_of t.start fed)) carries.link in
+    let told = c.in_ok-feed_ungated.ensures.told (front_of t.handed (rest_of t.start fed)) carries.link in
     let P : Fed → Type 0 = λ now. IsGain (front_of t.handed (rest_of t.start fed)) now told.0 in
     (told.0, subst P is told.1, told.2)
 
-pub returns-in_err-feed-clause-stopped : goal.returns-in_err-feed-clause-stopped
-returns-in_err-feed-clause-stopped g c = λ fed carries room.
+pub returns-in_err-feed_ungated-clause-stopped : goal.returns-in_err-feed_ungated-clause-stopped
+returns-in_err-feed_ungated-clause-stopped g c = λ fed carries room.
     let t = c.args.self.now in
     let ex = c.min-x.ensures ∙ ap (λ n. min n c.args.bits) c.len.ensures.len in
     let ey = c.min-y.ensures ∙ ap (λ n. min n c.args.bits) c.len-2.ensures.len in
     let ez = c.min-z.ensures ∙ ap (λ n. min n c.args.bits) c.len-3.ensures.len in
     let is = handed_is t fed c.front.result.now c.front-2.result.now c.front-3.result.now c.min-x.result c.min-y.result c.min-z.result c.args.bits carries ex ey ez c.front.ensures.bits c.front-2.ensures.bits c.front-3.ensures.bits in
-    let told = c.in_err-feed.ensures.stopped (front_of t.handed (rest_of t.start fed)) carries.link in
+    let told = c.in_err-feed_ungated.ensures.stopped (front_of t.handed (rest_of t.start fed)) carries.link in
     let P : Fed → Type 0 = λ now. IsGain (front_of t.handed (rest_of t.start fed)) now told.0 in
-    on_err {P = LostGain g.E.Ear.took g.E.Ear.broke c.args.ear.now c.feed.new.ear (rest_of t.start fed) t.handed (t.handed + c.args.bits)} _ (told.0, subst P is told.1, told.2)
+    on_err {P = LostGain g.E.Ear.took g.E.Ear.broke c.args.ear.now c.feed_ungated.new.ear (rest_of t.start fed) t.handed (t.handed + c.args.bits)} _ (told.0, subst P is told.1, told.2)

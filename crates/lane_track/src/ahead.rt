@@ -1,0 +1,151 @@
+//! The next run of control words, looked for by a test that most stretches of eighty places fail in a few steps.
+ghost use Rattle.std.specs.Prelude.{◌≡◌, ◌<◌, ◌≤◌, ◌+◌, ◌*◌, ◌/◌, ◌%◌, ◌^◌, ℕ, true, false, length, MatchOption, slice_index};
+ghost use Rattle.tmds_word.specs.Bits.{bit, bytes_bits, number};
+ghost use Rattle.lane_align.specs.Search.{control_at, IsOther, IsFirstOther};
+ghost use Rattle.lane_track.specs.Quiet.{IsQuiet};
+
+use lane_align::first_run;
+
+/// How many places a step sees.
+const STEP: u32 = 80;
+
+/// How many places are seen at a time in a step that is not quiet.
+const NEAR: u32 = 10;
+
+/// The phase at which nothing is left out.
+const ANY: u32 = 10;
+
+/// Ten bits from the second one on, but the one behind a phase's; all of them at phase 10.
+static BESIDE: [u64; 11] = [
+    0x7fc, 0x7fa, 0x7f6, 0x7ee, 0x7de, 0x7be, 0x77e, 0x6fe, 0x5fe, 0x3fe, 0x7fe,
+];
+
+/// Answers as `first_run` does, and sooner where no seven transitions in a row lie beside the phase.
+pub(crate) fn next_run(bytes: &[u8], from: u32, until: u32, phase: u32) -> Option<u32>
+    requires phase { phase ≤ 10 }
+    requires room { from < until → until + 119 ≤ 8 * length bytes.now }
+    requires small { until < 2 ^ 31 }
+    ensures { MatchOption result ((p : ℕ) → IsOther (bytes_bits bytes.now) from until phase p → ⊥) (λ p. IsFirstOther (bytes_bits bytes.now) from until phase p) }
+{
+    let mut p = from;
+    while p < until {
+        let start = quiet_until(bytes, p, until, phase);
+        let near = near_until(bytes, start, (start + STEP).min(until), phase);
+        let end = (near + NEAR).min(until);
+        if let Some(found) = first_run(bytes, near, end, phase) {
+            return Some(found);
+        }
+        p = end;
+    }
+    None
+}
+
+/// A place before which, from `from` on, no run begins that lies no whole characters from a phase.
+fn quiet_until(bytes: &[u8], from: u32, until: u32, phase: u32) -> u32
+    requires phase { phase ≤ 10 }
+    requires order { from < until }
+    requires small { until < 2 ^ 31 }
+    ensures after { from ≤ result }
+    ensures within { result ≤ until }
+    ensures none { (p : ℕ) → IsOther (bytes_bits bytes.now) from result phase p → ⊥ }
+{
+    let first = from.div_ceil(STEP) as usize;
+    // as many as are read whole
+    let last = ((bytes.len() + 2) / 10).min(until.div_ceil(STEP) as usize);
+    if last <= first {
+        return from;
+    }
+    let loud = first_loud(bytes, first, last, beside(phase));
+    if loud == first {
+        return from;
+    }
+    (STEP * (loud as u32 - 1) + 1).min(until)
+}
+
+/// As `quiet_until`, ten places at a time.
+fn near_until(bytes: &[u8], from: u32, until: u32, phase: u32) -> u32
+    requires phase { phase ≤ 10 }
+    requires order { from ≤ until }
+    requires room { from < until → until + 119 ≤ 8 * length bytes.now }
+    requires small { until < 2 ^ 31 }
+    ensures after { from ≤ result }
+    ensures within { result ≤ until }
+    ensures none { (p : ℕ) → IsOther (bytes_bits bytes.now) from result phase p → ⊥ }
+{
+    let mut p = from;
+    while p < until {
+        let bits = eight_bytes(bytes, p as usize / 8) >> (p % 8);
+        if has_turns(bits, beside(phase_from(phase, p))) {
+            return p;
+        }
+        p = (p + NEAR).min(until);
+    }
+    p
+}
+
+/// A phase among places that are counted from one of them.
+fn phase_from(phase: u32, place: u32) -> u32
+    requires { phase ≤ 10 }
+    ensures below { result ≤ 10 }
+    ensures same { (k : ℕ) → k < 10 → k ≡ result → (place + k) % 10 ≡ phase }
+{
+    if phase == ANY {
+        ANY
+    } else {
+        (phase + 10 - place % 10) % 10
+    }
+}
+
+/// The first step from one on that is not quiet.
+fn first_loud(bytes: &[u8], first: usize, last: usize, mask: u64) -> usize
+    requires order { first ≤ last }
+    requires room { 10 * last ≤ length bytes.now + 2 }
+    ensures after { first ≤ result }
+    ensures within { result ≤ last }
+    ensures quiet { (at : ℕ) → first ≤ at → at < result → IsQuiet bytes.now mask at }
+{
+    let mut at = first;
+    while at < last && !has_turns(eight_bytes(bytes, 10 * at), mask) {
+        at += 1;
+    }
+    at
+}
+
+/// Whether at a place of the mask, and ten places behind it, seven transitions in a row begin. Behind the first bit of
+/// a control word they do.
+#[inline(always)]
+fn has_turns(bits: u64, mask: u64) -> bool
+    ensures { result ≡ false → (k : ℕ) → k < 10 → bit mask (k + 1) ≡ true → control_at bits k ≡ true → control_at bits (k + 10) ≡ true → ⊥ }
+{
+    let turns = bits ^ (bits >> 1);
+    let twos = turns & (turns >> 1);
+    let fours = twos & (twos >> 2);
+    let sevens = fours & (fours >> 3);
+    sevens & (sevens >> 10) & mask != 0
+}
+
+/// The places behind those of a step that lie no whole characters from a phase.
+fn beside(phase: u32) -> u64
+    requires { phase ≤ 10 }
+    ensures { (k : ℕ) → k < 10 → (k ≡ phase → ⊥) → bit result (k + 1) ≡ true }
+{
+    BESIDE[phase as usize]
+}
+
+/// Eight bytes from a place on as a number, the first lowest.
+#[inline(always)]
+pub fn eight_bytes(bytes: &[u8], at: usize) -> u64
+    requires { at + 8 ≤ length bytes.now }
+    ensures { result ≡ (number (bytes_bits bytes.now) / 2 ^ (8 * at)) % 2 ^ 64 }
+{
+    u64::from_le_bytes([
+        bytes[at],
+        bytes[at + 1],
+        bytes[at + 2],
+        bytes[at + 3],
+        bytes[at + 4],
+        bytes[at + 5],
+        bytes[at + 6],
+        bytes[at + 7],
+    ])
+}
