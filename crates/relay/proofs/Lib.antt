@@ -14,3 +14,6 @@ pub mod Fits
 pub mod Going
 pub mod Moving
 pub mod Parting
+pub mod Completing
+pub mod Agreeing
+pub mod OneSpelling

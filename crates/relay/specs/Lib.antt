@@ -8,3 +8,4 @@ pub mod Handed
 pub mod Sizes
 pub mod Standing
 pub mod Steps
+pub mod Spelled

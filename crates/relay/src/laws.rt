@@ -4,6 +4,7 @@ ghost use Rattle.relay.specs.Came.{RelayedAccount};
 ghost use Rattle.relay.specs.Own.{OwnRelayed, RelayedAgain, WholeRelayed};
 ghost use Rattle.relay.specs.Parts.{PartsGather};
 ghost use Rattle.relay.specs.Changed.{AnnouncedFrom, ChangedNone};
+ghost use Rattle.relay.specs.Spelled.{OneSpelling, FreeSpellingsAgree, FreeSpellingAgrees};
 ghost use Rattle.relay.specs.Standing.{StandsForFew};
 
 /// Whatever is told, what is relayed conforms.
@@ -79,4 +80,16 @@ pub fn parts_gather()
 /// What a relay stands for takes no more than 20,000,000 columns.
 pub fn stands_for_few()
     ensures { StandsForFew }
+{}
+
+/// As a source spells them, periods are spelled by one list of columns at most.
+pub fn one_spelling()
+    ensures { OneSpelling }
+{}
+
+/// Columns that spell the same periods, whatever bit 3 of lane 0 is in packet columns, agree in
+/// all else; so they do with the columns that a source sends.
+pub fn free_spellings_agree()
+    ensures both { FreeSpellingsAgree }
+    ensures sent { FreeSpellingAgrees }
 {}
