@@ -1,11 +1,11 @@
--- The tables of four bits hold what the code has: each level, four bits and byte of half cells is computed.
-use Rattle.std.proofs.Common.{◌≡◌, ℕ, ◌+◌, ◌*◌, ◌/◌, ◌^◌, ◌<◌, Bool, true, false, refl, ◌∙◌, ◌==◌, slice_index, eqb-true}
+-- The table of four bits holds what the code has: each level, four bits and byte of half cells is computed.
+use Rattle.std.proofs.Common.{◌≡◌, ℕ, ◌+◌, ◌*◌, ◌/◌, ◌^◌, ◌<◌, Bool, true, false, refl, ◌==◌, slice_index, eqb-true}
 use Rattle.tmds_word.specs.Bits.{bits_of}
 use Rattle.tmds_word.proofs.Below.{passes_below, passes_at}
 use Rattle.audio_packets.proofs.Pairs.{same, same_is}
 use Rattle.audio_out.specs.Levels.{last_of, level_behind}
 use Rattle.audio_out.specs.Subframes.{carries}
-use Rattle.audio_out.specs.declared.tables.TheConstants.{CELLS, BITS}
+use Rattle.audio_out.specs.declared.tables.TheConstants.{CELLS}
 
 abbrev pub digit : Bool → ℕ
 digit true = 1
@@ -43,26 +43,3 @@ pub cells_are : (level : Bool) (n byte : ℕ) → n < 16 → byte < 256
 unfolding cells_hold
 cells_are level n byte a b =
     same_is _ _ (passes_at 256 (cells_hold level n) byte (passes_at 16 (λ n. passes_below 256 (cells_hold level n)) n (all_cells level) a) b)
-
-unfoldable bits_hold : Bool → ℕ → ℕ → Bool
-bits_hold level n byte = same (slice_index CELLS (16 * digit level + n) == byte) (slice_index BITS (256 * digit level + byte) == n)
-
-bits_low : passes_below 16 (λ n. passes_below 256 (bits_hold false n)) ≡ true
-unfolding passes_below bits_hold same
-bits_low = refl
-
-bits_high : passes_below 16 (λ n. passes_below 256 (bits_hold true n)) ≡ true
-unfolding passes_below bits_hold same
-bits_high = refl
-
-all_bits : (level : Bool) → passes_below 16 (λ n. passes_below 256 (bits_hold level n)) ≡ true
-all_bits true = bits_high
-all_bits false = bits_low
-
--- and half cells have those bits, or none
-pub bits_are : (level : Bool) (n byte : ℕ) → n < 16 → byte < 256
-    → carries level (bits_of 4 n) (bits_of 8 byte) ≡ (slice_index BITS (256 * digit level + byte) == n)
-unfolding bits_hold
-bits_are level n byte a b =
-    cells_are level n byte a b
-    ∙ same_is _ _ (passes_at 256 (bits_hold level n) byte (passes_at 16 (λ n. passes_below 256 (bits_hold level n)) n (all_bits level) a) b)

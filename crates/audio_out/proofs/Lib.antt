@@ -2,6 +2,11 @@ pub mod Cells
 pub mod Entries
 pub mod Joined
 pub mod ReadBack
+pub mod Fields
+pub mod EveryOther
+pub mod FoursRead
+pub mod Halves
+pub mod LastLevel
 pub mod Marked
 pub mod Spelled
 pub mod Frames

@@ -1,10 +1,14 @@
 //! Subframes.
-ghost use Rattle.std.specs.Prelude.{◌≡◌, ◌<◌, ℕ, MatchOption};
+ghost use Rattle.std.specs.Prelude.{◌≡◌, ◌*◌, ◌/◌, ◌%◌, ◌^◌, ◌<◌, ℕ, MatchOption};
 ghost use Rattle.tmds_word.specs.Bits.{bits_of};
+ghost use Rattle.audio_out.specs.Levels.{eight_from};
 ghost use Rattle.audio_out.specs.Subframes.{IsSound, IsSubframe, preamble, subframe_bytes};
 
-use crate::tables::{bits, cells};
+use crate::tables::cells;
 use audio_packets::side_bits;
+
+/// The last half cells before those of the 28 bits: half cells 7, 9, .. 61. Each is unlike the next one.
+const BORDERS: u64 = 0x2aaa_aaaa_aaaa_aa80;
 
 /// What begins with a subframe (IEC 60958-1, section 4.3).
 #[derive(Clone, Copy, Debug, PartialEq, Eq)]
@@ -52,31 +56,32 @@ pub fn write_subframe(sub: &Subframe) -> [u8; 8]
 pub fn read_subframe(bytes: &[u8; 8]) -> Option<Subframe>
     ensures { MatchOption result ((sub : Subframe) → IsSubframe sub bytes.now → ⊥) (λ sub. IsSubframe sub bytes.now) }
 {
-    let [first, a, b, c, d, e, f, g] = *bytes;
-    let mark = mark_of(first)?;
-    let low = bits(first, a);
-    let second = bits(a, b);
-    let third = bits(b, c);
-    let fourth = bits(c, d);
-    let fifth = bits(d, e);
-    let high = bits(e, f);
-    let side = bits(f, g);
-    let widest = low
-        .max(second)
-        .max(third)
-        .max(fourth)
-        .max(fifth)
-        .max(high)
-        .max(side);
-    if widest > 15 {
+    let mark = mark_of(bytes[0])?;
+    let halves = u64::from_le_bytes(*bytes);
+    let turns = halves ^ (halves >> 1);
+    if turns & BORDERS != BORDERS {
         return None;
     }
-    let value = u32::from_le_bytes([low + 16 * second, third + 16 * fourth, fifth + 16 * high, 0]);
-    let flags = side % 8;
-    if side_bits(value, flags) != side {
+    let last = halves >> 63;
+    if last != 0 {
         return None;
     }
-    Some(Subframe { mark, value, flags })
+    let [low, _, middle, _, high, _, side, _] = every_other(turns >> 8).to_le_bytes();
+    Some(Subframe {
+        mark,
+        value: u32::from_le_bytes([low, middle, high, 0]),
+        flags: side % 8,
+    })
+}
+
+/// The bits at even places: those of each sixteen as a byte, with a byte of zeros behind it.
+fn every_other(bits: u64) -> u64
+    ensures { (q : ℕ) → q < 4 → result / 2 ^ (16 * q) % 256 ≡ eight_from bits (16 * q) }
+{
+    let ones = bits & 0x5555_5555_5555_5555;
+    let twos = (ones | (ones >> 1)) & 0x3333_3333_3333_3333;
+    let fours = (twos | (twos >> 2)) & 0x0f0f_0f0f_0f0f_0f0f;
+    (fours | (fours >> 4)) & 0x00ff_00ff_00ff_00ff
 }
 
 /// The byte of a preamble.

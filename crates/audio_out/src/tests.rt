@@ -19,6 +19,40 @@ static SUBFRAMES: [(Mark, u32, u8, u64); 10] = [
     (Mark::W, 0xfedcba, 5, 0x274bb5ac52abaa52),
 ];
 
+// Subframes as their 32 time slots, slot n as bit n, by the code of the IEC 958 plug-in of alsa-lib 1.2.8 (src/pcm/pcm_iec958.c
+// in Debian's source package): the value in slots 4 to 27, V, U, C and P in 28 to 31, and for the preamble 8, 2 or 4. The plug-in
+// leaves V and U clear; where a row has one set, P is what the plug-in's own count of parity gives.
+static TIME_SLOTS: [(Mark, u32, u8, u32); 10] = [
+    (Mark::B, 0x123456, 0, 0x81234568),
+    (Mark::W, 0x000000, 0, 0x00000004),
+    (Mark::M, 0x000001, 0, 0x80000012),
+    (Mark::B, 0x7fffff, 4, 0x47fffff8),
+    (Mark::W, 0x800000, 4, 0x48000004),
+    (Mark::M, 0xabcdef, 4, 0x4abcdef2),
+    (Mark::W, 0xffffff, 0, 0x0ffffff4),
+    (Mark::M, 0x013579, 1, 0x90135792),
+    (Mark::W, 0xfedcba, 6, 0xefedcba4),
+    (Mark::M, 0x5a5a5a, 7, 0xf5a5a5a2),
+];
+
+/// Half cells, the first one lowest, of time slots: behind a preamble each bit is two half cells, of which the first is unlike
+/// the one before, and the second is unlike the first where the bit is 1.
+fn half_cells(slots: u32) -> u64 {
+    let mut halves: u64 = match slots % 16 {
+        8 => 0x17,
+        2 => 0x47,
+        _ => 0x27,
+    };
+    let mut level = false;
+    for slot in 4..32_u32 {
+        let first = !level;
+        level = first != ((slots >> slot) % 2 == 1);
+        halves |= u64::from(first) << (2 * slot);
+        halves |= u64::from(level) << (2 * slot + 1);
+    }
+    halves
+}
+
 /// Whether a subframe has a value of 24 bits and flags of three.
 fn is_sound(sub: &Subframe) -> bool
     ensures { IsTrue result ↔ IsSound sub.now }
@@ -38,6 +72,22 @@ fn subframes(rt: HostRuntime) {
             let other = bytes ^ (1 << half);
             assert_eq!(rt; read_subframe(&other.to_be_bytes()), None);
         }
+    }
+}
+
+#[test]
+fn time_slots(rt: HostRuntime) {
+    let rows = TIME_SLOTS;
+    for (mark, value, flags, slots) in rows {
+        let sub = Subframe { mark, value, flags };
+        let bytes = half_cells(slots).to_le_bytes();
+        assert!(rt; is_sound(&sub));
+        assert_eq!(rt; write_subframe(&sub), bytes);
+        assert_eq!(rt; read_subframe(&bytes), Some(sub));
+        assert_eq!(rt;
+            read_subframe(&half_cells(slots ^ (1 << 31)).to_le_bytes()),
+            None
+        );
     }
 }
 

@@ -37,7 +37,7 @@ pub record Ahead (from left held holds : Option (List ℕ)) (new : FrameLines) (
   pub counted : new.count ≡ length all
   pub consumed : Consumes from left (flat_map frame_bytes all ++ rest)
   pub before : Appends held holds (frames_text first)
-  pub text : frames_text all ≡ frames_text first ++ new.text.items
+  pub text : frames_text all ≡ frames_text first ++ new.text
   pub stands : IsBlocksAfter new.blocks all
 
 pub ahead : (from left now held holds : Option (List ℕ)) (old new : FrameLines) (piece : List ℕ) (samples : List Sample) (rest : List ℕ)
@@ -58,17 +58,17 @@ ahead from left now held holds old new piece samples rest has read adds = record
 }
 
 -- its lines are written, or a part of them
-pub written : (from left held holds now : Option (List ℕ)) (new : FrameLines) (rest : List ℕ) (a : Ahead from left held holds new rest) → Appends holds now new.text.items → Appends held now (frames_text a.all)
+pub written : (from left held holds now : Option (List ℕ)) (new : FrameLines) (rest : List ℕ) (a : Ahead from left held holds new rest) → Appends holds now new.text → Appends held now (frames_text a.all)
 written from left held holds now new rest a then =
-    subst (λ (xs : List ℕ). Appends held now xs) (sym a.text) (Appends-trans held holds now (frames_text a.first) new.text.items a.before then)
+    subst (λ (xs : List ℕ). Appends held now xs) (sym a.text) (Appends-trans held holds now (frames_text a.first) new.text a.before then)
 
 pub read_of : (from left held holds : Option (List ℕ)) (new : FrameLines) (rest : List ℕ) (a : Ahead from left held holds new rest) → new.count ≤ most_frames → AreRead a.all rest from left
 read_of from left held holds new rest a few = record { carried = a.carried; few = omega (arith, a.counted, few); consumed = a.consumed }
 
 pub unwritten : (from left held holds now : Option (List ℕ)) (new : FrameLines) (rest : List ℕ) (n : ℕ) → Ahead from left held holds new rest → new.count ≤ most_frames
-    → n < length new.text.items → Appends holds now (take n new.text.items) → IsUnwritten from left held now
+    → n < length new.text → Appends holds now (take n new.text) → IsUnwritten from left held now
 unwritten from left held holds now new rest n a few lt then =
-    let l = ap length a.text ∙ length-append (frames_text a.first) new.text.items in
+    let l = ap length a.text ∙ length-append (frames_text a.first) new.text in
     record {
       samples = a.all;
       rest = rest;
@@ -76,8 +76,8 @@ unwritten from left held holds now new rest n a few lt then =
       part = inl (
         length (frames_text a.first) + n,
         omega (arith, l, lt),
-        subst (λ (xs : List ℕ). Appends held now xs) (sym (ap (take (length (frames_text a.first) + n)) a.text ∙ take-append-add (frames_text a.first) new.text.items n))
-            (Appends-trans held holds now (frames_text a.first) (take n new.text.items) a.before then),
+        subst (λ (xs : List ℕ). Appends held now xs) (sym (ap (take (length (frames_text a.first) + n)) a.text ∙ take-append-add (frames_text a.first) new.text n))
+            (Appends-trans held holds now (frames_text a.first) (take n new.text) a.before then),
       );
     }
 

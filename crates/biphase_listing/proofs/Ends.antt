@@ -24,7 +24,7 @@ error_of (Ok done) = Read
 error_of (Err error) = error
 
 -- a group is no subframe of its side
-left_refused : (from left held holds out : Option (List ℕ)) (new : FrameLines) (rest : List ℕ) → Ahead from left held holds new rest → Appends holds out new.text.items
+left_refused : (from left held holds out : Option (List ℕ)) (new : FrameLines) (rest : List ℕ) → Ahead from left held holds new rest → Appends holds out new.text
     → new.count < most_frames → StopsAt Left rest → Stops from left held out (Bad (Subframe (2 * new.count)))
 left_refused from left held holds out new rest a then few stops = λ bytes is.
     let s = bytes_split from left bytes a.all rest is a.consumed in
@@ -34,7 +34,7 @@ left_refused from left held holds out new rest a then few stops = λ bytes is.
       written = written from left held holds out new rest a then;
     }
 
-right_refused : (from left held holds out : Option (List ℕ)) (new : FrameLines) (rest : List ℕ) → Ahead from left held holds new rest → Appends holds out new.text.items
+right_refused : (from left held holds out : Option (List ℕ)) (new : FrameLines) (rest : List ℕ) → Ahead from left held holds new rest → Appends holds out new.text
     → new.count < most_frames → StopsAt Right rest → Stops from left held out (Bad (Subframe (2 * new.count + 1)))
 right_refused from left held holds out new rest a then few stops = λ bytes is.
     let s = bytes_split from left bytes a.all rest is a.consumed in
@@ -44,7 +44,7 @@ right_refused from left held holds out new rest a then few stops = λ bytes is.
       written = written from left held holds out new rest a then;
     }
 
-answered : (stop : Stop) (from left held holds out : Option (List ℕ)) (new : FrameLines) (rest : List ℕ) (e : BiphaseError) → Ahead from left held holds new rest → Appends holds out new.text.items
+answered : (stop : Stop) (from left held holds out : Option (List ℕ)) (new : FrameLines) (rest : List ℕ) (e : BiphaseError) → Ahead from left held holds new rest → Appends holds out new.text
     → 16 * new.count + length rest ≤ 16 * most_frames + 1 → StopsAt stop rest → Err e ≡ stopped stop new.count → Stops from left held out e
 unfolding error_of
 answered End from left held holds out new rest e a then few stops is = absurd (cc is)
@@ -86,7 +86,7 @@ pub record Through (from now held out : Option (List ℕ)) (new : FrameLines) (o
   pub rest : List ℕ
   pub holds : Option (List ℕ)
   pub ahead : Ahead from now held holds new rest
-  pub then : Appends holds out new.text.items
+  pub then : Appends holds out new.text
   pub stops : StopsAt End rest
   pub sized : 16 * new.count + length rest ≡ 16 * old + size
   pub few : new.count ≤ most_frames

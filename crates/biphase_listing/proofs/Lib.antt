@@ -5,3 +5,7 @@ pub mod Answering
 pub mod Ends
 pub mod Streaming
 pub mod Streams
+pub mod Payload
+pub mod LineDigits
+pub mod Fours
+pub mod Letters

@@ -3,7 +3,6 @@ use Rattle.std.proofs.Common.{◌≡◌, ◌∙◌, ℕ, zero, suc, ◌+◌, ◌
 use Rattle.std.specs.Prelude.{flat_map}
 use Rattle.std.proofs.lemmas.List.{get_or_default}
 use Rattle.std.proofs.lemmas.List.Elements.{All-append, All-take, All-drop}
-use Rattle.arrayvec.specs.ArrayVec.{array_vec_len}
 use Rattle.audio_packets.specs.declared.sample.Sample.{Sample}
 use Rattle.audio_out.specs.Blocks.{IsBlocksAfter}
 use Rattle.audio_out.specs.Frames.{frame_bytes}
@@ -22,16 +21,16 @@ pub record ListedTo (piece : List ℕ) (place : ℕ) (old now : FrameLines) (sam
   pub bytes_are : take place piece ≡ flat_map frame_bytes samples
   pub carried : All IsCarried samples
   pub count : now.count ≡ old.count + length samples
-  pub room : array_vec_len now.text ≤ 164 * length samples
+  pub room : length now.text ≤ 164 * length samples
   pub blocks : (past : List Sample) → IsBlocksAfter old.blocks past → IsBlocksAfter now.blocks (past ++ samples)
-  pub text : (past : List Sample) → IsBlocksAfter old.blocks past → now.text.items ≡ text_after past samples
+  pub text : (past : List Sample) → IsBlocksAfter old.blocks past → now.text ≡ text_after past samples
 
 -- what one frame more adds
 pub record AddsOne (now new : FrameLines) (s : Sample) : Type 0 where
   pub count : new.count ≡ now.count + 1
-  pub room : array_vec_len new.text ≤ array_vec_len now.text + 164
+  pub room : length new.text ≤ length now.text + 164
   pub blocks : (past : List Sample) → IsBlocksAfter now.blocks past → IsBlocksAfter new.blocks (past ++ s ∷ [])
-  pub text : (past : List Sample) → IsBlocksAfter now.blocks past → new.text.items ≡ now.text.items ++ frame_text past s
+  pub text : (past : List Sample) → IsBlocksAfter now.blocks past → new.text ≡ now.text ++ frame_text past s
 
 pub all_bytes : (bytes : List ℕ) → ((k : ℕ) → get_or bytes k 0 < 256) → All (λ b. b < 256) bytes
 all_bytes bytes are k d lt = subst (λ (b : ℕ). b < 256) (get_or_default bytes k 0 d lt) (are k)
@@ -40,7 +39,7 @@ one_carried : (s : Sample) → IsCarried s → All IsCarried (s ∷ [])
 one_carried s is zero d lt = is
 one_carried s is (suc k) d lt = absurd (omega (arith, lt))
 
-pub listed_none : (piece : List ℕ) (old now : FrameLines) → now.text.items ≡ [] → now.count ≡ old.count → now.blocks ≡ old.blocks → ListedTo piece 0 old now []
+pub listed_none : (piece : List ℕ) (old now : FrameLines) → now.text ≡ [] → now.count ≡ old.count → now.blocks ≡ old.blocks → ListedTo piece 0 old now []
 unfolding text_after
 listed_none piece old now none count same = record {
   place_is = refl;

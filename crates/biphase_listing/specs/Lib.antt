@@ -1,4 +1,5 @@
 pub mod Groups
+pub mod Fours
 pub mod FrameText
 pub mod Refusals
 pub mod Reading

@@ -77,7 +77,7 @@ pub record Adds (bytes : List ℕ) (old new : FrameLines) (samples : List Sample
   pub carried : All IsCarried samples
   pub count : new.count ≡ old.count + length samples
   pub blocks : (past : List Sample) → IsBlocksAfter old.blocks past → IsBlocksAfter new.blocks (past ++ samples)
-  pub text : (past : List Sample) → IsBlocksAfter old.blocks past → new.text.items ≡ text_after past samples
+  pub text : (past : List Sample) → IsBlocksAfter old.blocks past → new.text ≡ text_after past samples
 
 -- all frames so far were listed, and of these the block keeps
 pub record HasListed (from left held holds : Option (List ℕ)) (blocks : OpenBlock) (count : ℕ) : Type 0 where
@@ -107,7 +107,7 @@ pub record ListsPiece (piece : List ℕ) (old new : FrameLines) (held holds : Op
   pub stop : Stop
   pub adds : Adds piece old new samples rest
   pub stops : StopsAt stop rest
-  pub writes : Writes new.text.items (stopped stop new.count) held holds result
+  pub writes : Writes new.text (stopped stop new.count) held holds result
 
 -- more may follow so many frames and bytes of the next, where a piece was filled; the input has ended where none was; or why
 -- the bytes so far are no list of frames

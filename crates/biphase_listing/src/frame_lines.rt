@@ -1,27 +1,23 @@
 //! The lines of frames.
 ghost use Rattle.std.specs.Prelude.{◌≡◌, ◌+◌, ◌*◌, ◌<◌, ◌≤◌, ℕ, List, [], ◌∷◌, ◌++◌, length, codes};
-ghost use Rattle.arrayvec.specs.ArrayVec.{array_vec_len};
 ghost use Rattle.hex.specs.Hex.{encode_lower};
 ghost use Rattle.audio_packets.specs.declared.sample.Sample.{Sample as SampleType};
 ghost use Rattle.audio_out.specs.Blocks.{IsBlocksAfter};
+ghost use Rattle.audio_out.specs.Subframes.{IsSound};
+ghost use Rattle.biphase_listing.specs.Fours.{HasFours};
 ghost use Rattle.biphase_listing.specs.Groups.{is_block, sample_of, most_frames};
 ghost use Rattle.biphase_listing.specs.FrameText.{frame_text, status_text};
 ghost use Rattle.biphase_listing.specs.Reading.{Adds, StopsAt};
 ghost use Rattle.std.specs.Prelude.{Some};
 
-use crate::side::{group_from, read_side};
-use arrayvec::ArrayVec;
-use audio_out::{BlockStatus, Blocks, Mark, Subframe};
+use crate::frame_line::{flags_of, frame_line};
+use crate::side::{Side, group_from, read_side};
+use crate::text::Text;
+use audio_out::{BlockStatus, Blocks, Mark};
 use audio_packets::Sample;
-use listing::sample_line;
 
 /// How many bytes are read at a time: those of 256 frames.
 pub(crate) const PIECE: usize = 4096;
-
-/// Room for the lines of 256 frames, of at most 164 bytes each.
-const ROOM: usize = 41_984;
-
-type Text = ArrayVec<u8, ROOM>;
 
 /// How the frames of a piece stop.
 #[derive(Clone, Copy, Debug, PartialEq, Eq)]
@@ -78,24 +74,28 @@ impl FrameLines {
     }
 
     /// Adds the lines of a frame.
-    fn add(&mut self, left: &Subframe, right: &Subframe)
-        requires room { array_vec_len self.old.text + 164 ≤ 41984 }
+    fn add(&mut self, left: &Side, right: &Side)
+        requires room { length self.old.text + 164 ≤ 41984 }
         requires few { self.old.count < most_frames }
-        ensures room { array_vec_len self.new.text ≤ array_vec_len self.old.text + 164 }
+        requires left { IsSound left.now.sub }
+        requires right { IsSound right.now.sub }
+        requires left_fours { HasFours left.now.sub left.now.fours }
+        requires right_fours { HasFours right.now.sub right.now.fours }
+        ensures room { length self.new.text ≤ length self.old.text + 164 }
         ensures count { self.new.count ≡ self.old.count + 1 }
-        ensures blocks { (past : List SampleType) → IsBlocksAfter self.old.blocks past → IsBlocksAfter self.new.blocks (past ++ sample_of left.now right.now ∷ []) }
+        ensures blocks { (past : List SampleType) → IsBlocksAfter self.old.blocks past → IsBlocksAfter self.new.blocks (past ++ sample_of left.now.sub right.now.sub ∷ []) }
         ensures text { (past : List SampleType) → IsBlocksAfter self.old.blocks past
-            → self.new.text.items ≡ self.old.text.items ++ frame_text past (sample_of left.now right.now) }
+            → self.new.text ≡ self.old.text ++ frame_text past (sample_of left.now.sub right.now.sub) }
     {
         let sample = Sample {
-            left: left.value,
-            right: right.value,
-            left_flags: left.flags,
-            right_flags: right.flags,
-            start: is_block(left.mark),
+            left: left.sub.value,
+            right: right.sub.value,
+            left_flags: flags_of(left),
+            right_flags: flags_of(right),
+            start: is_block(left.sub.mark),
             flat: false,
         };
-        put(&mut self.text, sample_line(&sample).as_slice());
+        self.text.put(&frame_line(left, right));
         if let Some(status) = self.blocks.push(&sample) {
             put_status(&mut self.text, &status);
         }
@@ -125,38 +125,26 @@ fn is_block(mark: Mark) -> bool
 /// Puts the line of the channel status of a block.
 #[tactic(auto, unfolding(crate::specs::FrameText::status_text))]
 fn put_status(text: &mut Text, status: &BlockStatus)
-    requires { array_vec_len text.old + 104 ≤ 41984 }
-    ensures items { text.new.items ≡ text.old.items ++ status_text (Some status.now) }
-    ensures len { array_vec_len text.new ≡ array_vec_len text.old + 104 }
+    requires { length text.old + 104 ≤ 41984 }
+    ensures items { text.new ≡ text.old ++ status_text (Some status.now) }
+    ensures len { length text.new ≡ length text.old + 104 }
 {
-    put(text, b"block ");
+    text.put(b"block ");
     put_hex(text, &status.left);
-    put(text, b" ");
+    text.put(b" ");
     put_hex(text, &status.right);
-    put(text, b"\n");
+    text.put(b"\n");
 }
 
 /// Puts the hexadecimal digits of the channel status of a side.
 fn put_hex(text: &mut Text, bytes: &[u8; 24])
-    requires { array_vec_len text.old + 48 ≤ 41984 }
-    ensures items { text.new.items ≡ text.old.items ++ encode_lower bytes.now }
-    ensures len { array_vec_len text.new ≡ array_vec_len text.old + 48 }
+    requires { length text.old + 48 ≤ 41984 }
+    ensures items { text.new ≡ text.old ++ encode_lower bytes.now }
+    ensures len { length text.new ≡ length text.old + 48 }
 {
     let mut digits = [0; 48];
     match hex::encode_to_slice(bytes, &mut digits) {
-        Ok(()) => put(text, &digits),
-        Err(_) => unreachable!(),
-    }
-}
-
-/// Puts bytes.
-fn put(text: &mut Text, bytes: &[u8])
-    requires { array_vec_len text.old + length bytes.now ≤ 41984 }
-    ensures items { text.new.items ≡ text.old.items ++ bytes.now }
-    ensures len { array_vec_len text.new ≡ array_vec_len text.old + length bytes.now }
-{
-    match text.try_extend_from_slice(bytes) {
-        Ok(()) => {}
+        Ok(()) => text.put(&digits),
         Err(_) => unreachable!(),
     }
 }

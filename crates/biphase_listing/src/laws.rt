@@ -1,5 +1,5 @@
-//! Laws of streams. The functions do nothing: what they ensure is the law.
-ghost use Rattle.biphase_listing.specs.Laws.{OneStream, StreamIsFaultless, StreamIsRead};
+//! Laws of streams and of the samples of packets. The functions do nothing: what they ensure is the law.
+ghost use Rattle.biphase_listing.specs.Laws.{OneStream, SamplesOfPayload, StreamIsFaultless, StreamIsRead};
 
 /// The frames that are written of samples are read as these samples, from the first block's start on.
 pub fn stream_is_read()
@@ -14,4 +14,9 @@ pub fn one_stream()
 /// Bytes are refused for nothing that are a list of frames.
 pub fn stream_is_faultless()
     ensures { StreamIsFaultless }
+{}
+
+/// The samples of a packet that has lost no block are those of its header and its bodies.
+pub fn samples_of_payload()
+    ensures { SamplesOfPayload }
 {}

@@ -4,11 +4,13 @@
 
 mod fault;
 mod filling;
+mod frame_line;
 mod frame_lines;
 pub mod laws;
 mod lister;
 mod reading;
 mod side;
+mod text;
 
 pub use fault::{BiphaseError, BiphaseFault};
 pub use lister::BiphaseLister;

@@ -28,6 +28,7 @@ pub fn list_biphase<S: Source, K: Sink>(input: &mut S, output: &mut K) -> Result
     ensures ended { OnOk result (IsAtEnd (S.left input.new)) }
     ensures stopped { IfErr result (Stops (S.left input.old) (S.left input.new) (K.held output.old) (K.held output.new)) }
     ensures caused { IfErr result (IsCaused (S.faults input.old) (S.faults input.new) (K.faults output.old) (K.faults output.new)) }
+    ensures taken { (taken : List ℕ) × Consumes (S.left input.old) (S.left input.new) taken }
     ensures input_later { S.faults input.old ≤ S.faults input.new }
     ensures output_later { K.faults output.old ≤ K.faults output.new }
 {
@@ -71,6 +72,7 @@ fn list_next<S: Source, K: Sink>(
     ensures stopped { (from held : Option (List ℕ)) → HasListed from (S.left input.old) held (K.held output.old) frames.old.blocks frames.old.count
         → IfErr result (Stops from (S.left input.new) held (K.held output.new)) }
     ensures caused { IfErr result (IsCaused (S.faults input.old) (S.faults input.new) (K.faults output.old) (K.faults output.new)) }
+    ensures taken { (taken : List ℕ) × Consumes (S.left input.old) (S.left input.new) taken }
     ensures input_later { S.faults input.old ≤ S.faults input.new }
     ensures output_later { K.faults output.old ≤ K.faults output.new }
 {

@@ -1,5 +1,6 @@
 pub mod CheckedLine
 pub mod Exact
+pub mod Consumed
 pub mod ContentAdding
 pub mod ContentCases
 pub mod ContentHearing

@@ -88,6 +88,7 @@ fn read_behind<S: Source>(bytes: &mut [u8], held: usize, source: &mut S) -> Resu
     ensures end { IfOk result (λ n. n ≡ 0 → IsAtEnd (S.left source.new)) }
     ensures front { OnErr result (take held bytes.new ≡ take held bytes.old) }
     ensures kept { OnErr result (Keeps (S.left source.old) (S.left source.new)) }
+    ensures taken { (taken : List ℕ) × Consumes (S.left source.old) (S.left source.new) taken }
     ensures cause { HasCause (S.faults source.old) (S.faults source.new) result }
 {
     source.read(&mut bytes[held..])
@@ -147,6 +148,7 @@ impl LineReader {
             × (self.new.pending ≡ self.old.pending ++ more)) }
         ensures end { IfOk result (λ n. n ≡ 0 → IsAtEnd (S.left source.new)) }
         ensures ungiven { IsUngiven (S.left source.old) (S.left source.new) self.old self.new }
+        ensures taken { (taken : List ℕ) × Consumes (S.left source.old) (S.left source.new) taken }
         ensures cause { HasCause (S.faults source.old) (S.faults source.new) result }
     {
         let held = self.end - self.start;
@@ -162,11 +164,13 @@ impl LineReader {
 
     /// Finds the next line, and reads as needed: only while no line feed is among the pending bytes
     /// and these are no more than a line may have. After `Failed` no byte is lost.
+    #[tactic(auto, using(crate::proofs::Consumed::takes_none, crate::proofs::Consumed::takes_more))]
     pub(crate) fn next<S: Source>(&mut self, source: &mut S) -> Result<Piece, Failed>
         ensures given { IfOk result (λ piece.
             IsNext (S.left source.old) (S.left source.new) self.old self.new piece) }
         ensures ungiven { OnErr result (
             IsUngiven (S.left source.old) (S.left source.new) self.old self.new) }
+        ensures taken { (taken : List ℕ) × Consumes (S.left source.old) (S.left source.new) taken }
         ensures cause { HasCause (S.faults source.old) (S.faults source.new) result }
     {
         let mut searched = 0;

@@ -1,6 +1,6 @@
 //! Reading listings from a source.
 ghost use Rattle.std.specs.Prelude.{◌≡◌, ◌≤◌, ℕ, List, OnOk, IfErr, Some};
-ghost use Rattle.std.specs.Io.KnownBytes.{IsAtEnd};
+ghost use Rattle.std.specs.Io.KnownBytes.{Consumes, IsAtEnd};
 ghost use Rattle.listing.specs.Answers.{Answers, IsCaused};
 ghost use Rattle.listing.specs.ContentReading.{content_reads_as};
 ghost use Rattle.listing.specs.DviReading.{dvi_reads_as};
@@ -20,6 +20,7 @@ use std::alloc::Global;
 pub fn read_link<S: Source>(alloc: Global, source: &mut S) -> Result<Stream, ListError>
     ensures answers { (text : List ℕ) → S.left source.old ≡ Some text → Answers (reads_as text) result }
     ensures ended { OnOk result (IsAtEnd (S.left source.new)) }
+    ensures taken { (taken : List ℕ) × Consumes (S.left source.old) (S.left source.new) taken }
     ensures caused { IfErr result (λ e. IsCaused (S.faults source.old) (S.faults source.new) e) }
     ensures later { S.faults source.old ≤ S.faults source.new }
 {
@@ -31,6 +32,7 @@ pub fn read_link<S: Source>(alloc: Global, source: &mut S) -> Result<Stream, Lis
 pub fn read_dvi<S: Source>(alloc: Global, source: &mut S) -> Result<DviStream, ListError>
     ensures answers { (text : List ℕ) → S.left source.old ≡ Some text → Answers (dvi_reads_as text) result }
     ensures ended { OnOk result (IsAtEnd (S.left source.new)) }
+    ensures taken { (taken : List ℕ) × Consumes (S.left source.old) (S.left source.new) taken }
     ensures caused { IfErr result (λ e. IsCaused (S.faults source.old) (S.faults source.new) e) }
     ensures later { S.faults source.old ≤ S.faults source.new }
 {
@@ -42,6 +44,7 @@ pub fn read_dvi<S: Source>(alloc: Global, source: &mut S) -> Result<DviStream, L
 pub fn read_content<S: Source>(alloc: Global, source: &mut S) -> Result<(Mode, Content), ListError>
     ensures answers { (text : List ℕ) → S.left source.old ≡ Some text → Answers (content_reads_as text) result }
     ensures ended { OnOk result (IsAtEnd (S.left source.new)) }
+    ensures taken { (taken : List ℕ) × Consumes (S.left source.old) (S.left source.new) taken }
     ensures caused { IfErr result (λ e. IsCaused (S.faults source.old) (S.faults source.new) e) }
     ensures later { S.faults source.old ≤ S.faults source.new }
 {

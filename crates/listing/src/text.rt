@@ -1,6 +1,6 @@
 //! Reading the text of a listing from a source.
 ghost use Rattle.std.specs.Prelude.{◌≡◌, ◌≢◌, ℕ, ◌+◌, ◌<◌, ◌≤◌, ◌++◌, List, [], length, true, false, nat_le, OnOk, IfOk, IfErr, Some, Err};
-ghost use Rattle.std.specs.Io.KnownBytes.{IsAtEnd};
+ghost use Rattle.std.specs.Io.KnownBytes.{Consumes, IsAtEnd};
 ghost use Rattle.listing.specs.Lines.{pieces_of};
 ghost use Rattle.listing.specs.LineSteps.{cut_short, ended_by, read_lines, within_text};
 ghost use Rattle.listing.specs.Answers.{Answers, IsCaused};
@@ -27,6 +27,7 @@ struct Place {
 
 /// Reads a text to its end, line by line. The memory that it takes is that of the teller and of a
 /// buffer of 65,536 bytes.
+#[tactic(auto, using(crate::proofs::Consumed::takes_none))]
 pub(crate) fn read_lines<S: Source, T: Teller>(
     alloc: Global,
     source: &mut S,
@@ -35,6 +36,7 @@ pub(crate) fn read_lines<S: Source, T: Teller>(
     requires { T.lines teller ≡ 0 }
     ensures answers { (text : List ℕ) → S.left source.old ≡ Some text → Answers (read_lines T.step 1 0 teller (pieces_of text)) result }
     ensures ended { OnOk result (IsAtEnd (S.left source.new)) }
+    ensures taken { (taken : List ℕ) × Consumes (S.left source.old) (S.left source.new) taken }
     ensures caused { IfErr result (λ e. IsCaused (S.faults source.old) (S.faults source.new) e) }
     ensures later { S.faults source.old ≤ S.faults source.new }
 {
@@ -67,6 +69,7 @@ fn next_line<S: Source, T: Teller>(
     ensures counted { IfOk result (CountsLine T.lines (T.lines teller)) }
     ensures some { OnOk result (1 ≤ length lines.new.line) }
     ensures short { OnOk result (place.bytes + length lines.new.line + 1 ≤ 4294967295) }
+    ensures taken { (taken : List ℕ) × Consumes (S.left source.old) (S.left source.new) taken }
     ensures caused { IfErr result (λ e. IsCaused (S.faults source.old) (S.faults source.new) e) }
     ensures later { S.faults source.old ≤ S.faults source.new }
 {
@@ -142,6 +145,7 @@ fn too_long<T: Teller>(teller: T, line: &[u8], number: u32) -> ListError
 
 /// What the line `end` ended, where nothing follows that line. What was read already is judged before
 /// more is read.
+#[tactic(auto, using(crate::proofs::Consumed::takes_none))]
 fn finish<S: Source, W: Drop>(
     whole: W,
     number: u32,
@@ -151,6 +155,7 @@ fn finish<S: Source, W: Drop>(
     ensures answers { (left : List ℕ) → S.left source.old ≡ Some left
         → Answers (ended_by number whole (pieces_of (lines.old.pending ++ left))) result }
     ensures ended { OnOk result (IsAtEnd (S.left source.new)) }
+    ensures taken { (taken : List ℕ) × Consumes (S.left source.old) (S.left source.new) taken }
     ensures caused { IfErr result (λ e. IsCaused (S.faults source.old) (S.faults source.new) e) }
     ensures later { S.faults source.old ≤ S.faults source.new }
 {

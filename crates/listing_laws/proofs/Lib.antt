@@ -21,6 +21,8 @@ pub mod Law
 pub mod AsSent
 pub mod Contents
 pub mod Told
+pub mod EachPlaced
+pub mod PacketsAsSent
 pub mod PacketLines
 pub mod PictureLines
 pub mod Rasters

@@ -1,14 +1,12 @@
 -- The content lines of a packet of which at most one word came unlike, and of the packets of periods.
-use Rattle.std.proofs.Common.{◌≡◌, ℕ, ◌+◌, ◌-◌, ◌<◌, ◌≤◌, Bool, true, false, if◌then◌else◌, List, [], ◌∷◌, ◌++◌, map, length, take, drop, Option, None, refl, sym, ap, ap₂, subst, ◌∙◌, append_assoc, arith}
+use Rattle.std.proofs.Common.{◌≡◌, ℕ, ◌-◌, ◌<◌, ◌≤◌, Bool, false, if◌then◌else◌, List, [], ◌∷◌, map, length, take, drop, Option, None, refl, sym, ap₂, subst, ◌∙◌, arith}
 use Rattle.std.specs.Prelude.{is_some, slice_index, nat_le, Ok, Err, ◌==◌}
 use Rattle.std.specs.List.{find}
-use Rattle.std.proofs.lemmas.List.{drop-drop}
 use Rattle.tmds_word.specs.Column.{Column}
 use Rattle.bch_block.specs.declared.Verdict.{Verdict}
 use Rattle.bch_block.specs.declared.Verdict.TheVariants.{Clean, Mended, Lost}
 use Rattle.island_pack.specs.Packets.{body_of, CarriesFreely}
-use Rattle.island_pack.specs.Periods.{DataIsland, Period, control, video, island, period_columns}
-use Rattle.island_pack.specs.Spelling.{words_of, guard_columns}
+use Rattle.island_pack.specs.Spelling.{words_of}
 use Rattle.island_pack.specs.Taken.{verdict_on, spotless}
 use Rattle.island_pack.specs.declared.packet.Packet.{Packet}
 use Rattle.island_pack.specs.declared.packet.PacketVerdicts.{PacketVerdicts}
@@ -22,14 +20,10 @@ use Rattle.audio_packets.specs.Faults as audio
 use Rattle.audio_packets.specs.declared.fault.AudioFault.TheVariants.{Uneven, Layout}
 use Rattle.listing.specs.ContentText.{packet_lines, carried_lines, clock_lines, sample_lines, control_lines, info_lines, other_words}
 use Rattle.link_sink.specs.Account.{damage, packet_row}
-use Rattle.link_sink.proofs.Between.{take_seam, drop_seam}
-use Rattle.link_sink.proofs.IslandColumns.{ArePackets, no_packets, one_more, packet_sent, packet_came}
-use Rattle.link_sink.proofs.IslandTold.{framed, frame}
-use Rattle.link_sink.proofs.Joining.{controls, pixels, packets, Arrives, nothing, more, sized}
-use Rattle.link_sink.proofs.Framing.{arrived}
-use Rattle.listing_laws.specs.PacketLaws.{Placed, each_at, placed, came_packet}
-use Rattle.listing_laws.specs.ListingLaws.{LinesOfPayload, Each, unlike_in, told_lines, PacketLinesAsSent, PacketLinesComeBack}
+use Rattle.listing_laws.specs.PacketLaws.{Placed, came_packet}
+use Rattle.listing_laws.specs.ListingLaws.{LinesOfPayload, unlike_in, told_lines, PacketLinesAsSent, PacketLinesComeBack}
 use Rattle.listing_laws.proofs.AsSent.{as_sent_freely}
+use Rattle.listing_laws.proofs.EachPlaced.{each_placed}
 
 -- the lines of a packet of which these blocks are lost
 abbrev lines_by : Option ℕ → Option ℕ → Packet → ℕ → List (List ℕ)
@@ -104,8 +98,6 @@ lines_freely p sent received carries long few column =
 pub packet_lines_as_sent : PacketLinesAsSent
 packet_lines_as_sent p first sent received carries long few column = lines_freely p sent received carries.free long few column
 
--- Packets where they stand.
-
 abbrev IsListed : List Column → List Column → ℕ → Placed → Type 0
 IsListed sent received a k = unlike_in sent received k ≤ 1 → told_lines (came_packet sent received a k) ≡ packet_lines k.packet spotless (k.at - a)
 
@@ -115,53 +107,6 @@ listed_here sent received a y p own came carries long e d few =
     let n : damage own came ≤ 1 = subst (λ (cs : List Column). damage own cs ≤ 1) d (subst (λ (cs : List Column). damage cs (take 32 (drop y received)) ≤ 1) e few) in
     ap₂ (λ (cs ds : List Column). packet_lines (packet_row p cs ds) (verdicts_of ds) (y - a)) e d ∙ lines_freely p own came carries long n (y - a)
 
--- the columns behind these
-next : (all on rest own : List Column) (y : ℕ) → drop y all ≡ own ++ (on ++ rest) → length own ≡ 32 → drop (y + 32) all ≡ on ++ rest
-next all on rest own y is long =
-    sym (drop-drop 32 y all) ∙ ap (drop 32) is ∙ drop_seam own (on ++ rest) 32 long
-
-each_listed : (sent received : List Column) (a : ℕ) (first : Bool) (ps : List Packet) (pp qq : List Column) → ArePackets first ps pp qq → (y : ℕ) (ss rs : List Column) → drop y sent ≡ pp ++ ss → drop y received ≡ qq ++ rs
-    → Each (IsListed sent received a) (each_at y ps)
-unfolding each_at
-each_listed sent received a _ _ _ _ (no_packets first) y ss rs e d = tt
-each_listed sent received a _ _ _ _ (one_more first p ps own came sent_on came_on c h hs) y ss rs e d =
-    let s = packet_sent first p own c in
-    let r = packet_came first p own came c h in
-    let e2 : drop y sent ≡ own ++ (sent_on ++ ss) = e ∙ append_assoc own sent_on ss in
-    let d2 : drop y received ≡ came ++ (came_on ++ rs) = d ∙ append_assoc came came_on rs in (
-      listed_here sent received a y p own came c r (ap (take 32) e2 ∙ take_seam own (sent_on ++ ss) 32 s) (ap (take 32) d2 ∙ take_seam came (came_on ++ rs) 32 r),
-      each_listed sent received a false ps sent_on came_on hs (y + 32) ss rs (next sent sent_on ss own y e2 s) (next received came_on rs came y d2 r),
-    )
-
-each_both : (P : Placed → Type 0) (ks ls : List Placed) → Each P ks → Each P ls → Each P (ks ++ ls)
-each_both P [] ls h g = g
-each_both P (k ∷ ks) ls h g = (h.0, each_both P ks ls h.1 g)
-
--- the columns behind a period
-behind : (all own rest : List Column) (x n : ℕ) → drop x all ≡ own ++ rest → length own ≡ n → drop (x + n) all ≡ rest
-behind all own rest x n is long = sym (drop-drop n x all) ∙ ap (drop n) is ∙ drop_seam own rest n long
-
--- the packets behind the guard that opens an island
-inside : (sent : List Column) (x : ℕ) (i : DataIsland) (pp ss : List Column) → drop x sent ≡ frame i pp ++ ss → drop (x + 2) sent ≡ pp ++ (guard_columns i.closing ++ ss)
-inside sent x i pp ss e = sym (drop-drop 2 x sent) ∙ ap (drop 2) e ∙ append_assoc pp (guard_columns i.closing) ss
-
-inside_came : (received : List Column) (x : ℕ) (g k : Column) (qq : List Column) (c f : Column) (rs : List Column) → drop x received ≡ framed g k qq c f ++ rs → drop (x + 2) received ≡ qq ++ ((c ∷ (f ∷ [])) ++ rs)
-inside_came received x g k qq c f rs e = sym (drop-drop 2 x received) ∙ ap (drop 2) e ∙ append_assoc qq (c ∷ (f ∷ [])) rs
-
-placed_listed : (sent received : List Column) (a : ℕ) (xs : List Period) (ss rs : List Column) → Arrives xs ss rs → (x : ℕ) → drop x sent ≡ ss → drop x received ≡ rs → Each (IsListed sent received a) (placed x xs)
-unfolding placed
-placed_listed sent received a _ _ _ nothing x e d = tt
-placed_listed sent received a _ _ _ (more _ xs own came ss rs (controls runs cs n all) h) x e d =
-    let s = sized (control runs) own came (controls runs cs n all) in
-    placed_listed sent received a xs ss rs h (x + period_columns (control runs)) (behind sent own ss x (period_columns (control runs)) e s.sent) (behind received came rs x (period_columns (control runs)) d s.received)
-placed_listed sent received a _ _ _ (more _ xs own came ss rs (pixels bytes g i pp qq guards are) h) x e d =
-    let s = sized (video bytes) own came (pixels bytes g i pp qq guards are) in
-    placed_listed sent received a xs ss rs h (x + period_columns (video bytes)) (behind sent own ss x (period_columns (video bytes)) e s.sent) (behind received came rs x (period_columns (video bytes)) d s.received)
-placed_listed sent received a _ _ _ (more _ xs own came ss rs (packets i g k c f pp qq guards are) h) x e d =
-    let s = sized (island i) own came (packets i g k c f pp qq guards are) in
-    each_both (IsListed sent received a) (each_at (x + 2) i.packets) (placed (x + period_columns (island i)) xs)
-    (each_listed sent received a true i.packets pp qq are (x + 2) (guard_columns i.closing ++ ss) ((c ∷ (f ∷ [])) ++ rs) (inside sent x i pp ss e) (inside_came received x g k qq c f rs d))
-    (placed_listed sent received a xs ss rs h (x + period_columns (island i)) (behind sent own ss x (period_columns (island i)) e s.sent) (behind received came rs x (period_columns (island i)) d s.received))
-
 pub packet_lines_come_back : PacketLinesComeBack
-packet_lines_come_back periods sent received came a = placed_listed sent received a periods sent received (arrived periods sent received came) 0 refl refl
+packet_lines_come_back periods sent received came a =
+    each_placed (IsListed sent received a) sent received (λ y p own cs. listed_here sent received a y p own cs) periods came

@@ -21,7 +21,7 @@ use Rattle.listing.specs.Fields.{with_fields, begins_with}
 use Rattle.listing.specs.ContentText.{packet_lines, content_lines}
 use Rattle.listing.specs.Listed.{Listed, row, frame}
 use Rattle.listing_laws.specs.FrameLaws.{frames_came}
-use Rattle.listing_laws.specs.PacketLaws.{Placed, placed, ToldPacket, came_packet}
+use Rattle.listing_laws.specs.PacketLaws.{IsAsSent, Placed, placed, ToldPacket, came_packet}
 
 -- a line `row ..`, `frame ..` or `! ragged ..`
 abbrev pub tells_picture : List ℕ → Bool
@@ -69,3 +69,9 @@ abbrev pub PacketLinesComeBack : Type 0
 PacketLinesComeBack =
     (periods : List Period) (sent received : List Column) → CameOf periods sent received → (a : ℕ)
     → Each (λ k. unlike_in sent received k ≤ 1 → told_lines (came_packet sent received a k) ≡ packet_lines k.packet spotless (k.at - a)) (placed 0 periods)
+
+-- each packet of periods of which at most one word came unlike is told with its header and bodies, and none of its blocks is lost
+abbrev pub PacketsAsSent : Type 0
+PacketsAsSent =
+    (periods : List Period) (sent received : List Column) → CameOf periods sent received → (a : ℕ)
+    → Each (λ k. unlike_in sent received k ≤ 1 → IsAsSent k.packet (came_packet sent received a k).packet (came_packet sent received a k).verdicts) (placed 0 periods)

@@ -2,7 +2,7 @@
 //! what they ensure are the laws.
 ghost use Rattle.listing_laws.specs.FrameLaws.{FramesComeBack, FramesHeard};
 ghost use Rattle.listing_laws.specs.LinkLaws.{AccountReadsBack};
-ghost use Rattle.listing_laws.specs.ListingLaws.{FrameLinesComeBack, LinesOfPayload, PacketLinesAsSent, PacketLinesComeBack};
+ghost use Rattle.listing_laws.specs.ListingLaws.{FrameLinesComeBack, LinesOfPayload, PacketLinesAsSent, PacketLinesComeBack, PacketsAsSent};
 ghost use Rattle.listing_laws.specs.PacketLaws.{PacketsComeBack, OneWordAsSent, RasterPackets};
 ghost use Rattle.listing_laws.specs.Rasters.{RastersCome, HasRaster};
 
@@ -25,6 +25,11 @@ pub fn packets_come_back()
 /// A packet of which at most one word came unlike is told with its header and bodies, and none of its blocks is lost.
 pub fn one_word_as_sent()
     ensures { OneWordAsSent }
+{}
+
+/// So is each packet of conforming periods of which at most one word came unlike.
+pub fn packets_as_sent()
+    ensures { PacketsAsSent }
 {}
 
 /// The packets of a raster are those of its content, in order.

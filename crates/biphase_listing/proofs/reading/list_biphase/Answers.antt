@@ -1,6 +1,7 @@
 use Rattle.std.proofs.Common.{rules, ℕ, sym, subst}
 use Rattle.std.proofs.lemmas.Result.{err_from_is_err_and}
 use Rattle.biphase_listing.specs.Reading.{HasListed}
+use Rattle.listing.proofs.Consumed.{takes_none, takes_more}
 use Rattle.biphase_listing.proofs.Ends.{last_unwritten, none_listed, whole_listed}
 use Rattle.biphase_listing.proofs.reading.list_biphase.Goals as goal
 
@@ -11,6 +12,7 @@ loop-init g c = record {
       subst (λ (n : ℕ). HasListed (g.S.Source.left c.args.input.now) (g.S.Source.left c.args.input.now) (g.K.Sink.held c.args.output.now) (g.K.Sink.held c.args.output.now) c.new-frames.result.blocks n)
       (sym c.new-frames.ensures.count)
       (none_listed (g.S.Source.left c.args.input.now) (g.K.Sink.held c.args.output.now) c.new-frames.result.blocks c.new-frames.ensures.blocks);
+  taken = takes_none _;
   input_later = search rules;
   output_later = search rules;
 }
@@ -29,3 +31,23 @@ pub returns-in-Err-clause-stopped : goal.returns-in-Err-clause-stopped
 returns-in-Err-clause-stopped g c =
     let e = c.in_ok-list_next.ensures in
     last_unwritten _ _ _ _ _ _ c.list_next.new.frames.count c.in-Err.field-0.gone (e.more _ _ c.loop.invariant.listed) e.few (e.ended c.if-branch.false) c.in-Err.ensures.missing c.in-Err.ensures.part
+
+pub returns-in_err-list_next-clause-taken : goal.returns-in_err-list_next-clause-taken
+returns-in_err-list_next-clause-taken g c = takes_more _ _ _ c.loop.invariant.taken c.list_next.ensures.taken
+
+pub returns-in-Ok-clause-taken : goal.returns-in-Ok-clause-taken
+returns-in-Ok-clause-taken g c = takes_more _ _ _ c.loop.invariant.taken c.list_next.ensures.taken
+
+pub returns-in-Err-clause-taken : goal.returns-in-Err-clause-taken
+returns-in-Err-clause-taken g c = takes_more _ _ _ c.loop.invariant.taken c.list_next.ensures.taken
+
+pub loop-preserved : goal.loop-preserved
+loop-preserved g c =
+    let e = c.in_ok-list_next.ensures in
+    record {
+      few = e.few;
+      listed = e.more _ _ c.loop.invariant.listed;
+      taken = takes_more _ _ _ c.loop.invariant.taken c.list_next.ensures.taken;
+      input_later = search rules;
+      output_later = search rules;
+    }

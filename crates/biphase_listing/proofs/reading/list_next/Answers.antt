@@ -52,3 +52,15 @@ pub returns-in_ok-list_piece-in-Ok-clause-on : goal.returns-in_ok-list_piece-in-
 returns-in_ok-list_piece-in-Ok-clause-on g c =
     let fills : Fills c.args.frames.now c.fill.new.into c.in-Ok.count = record { bound = c.in-Ok.ensures.bound; size = search rules; few = c.requires.few } in
     piece_more c.args.frames.now c.list_piece.new.frames c.fill.new.into c.in-Ok.count _ _ c.list_piece.result c.in_ok-list_piece-in-Ok.field-0 c.judge.result c.in_ok-list_piece-in-Ok.was fills c.list_piece.ensures.lists c.judge.ensures
+
+pub returns-in_err-list_piece-in-Ok-clause-taken : goal.returns-in_err-list_piece-in-Ok-clause-taken
+returns-in_err-list_piece-in-Ok-clause-taken g c = (take c.in-Ok.count c.fill.new.into, c.in-Ok.ensures.bytes)
+
+pub returns-in_ok-list_piece-in-Ok-clause-taken : goal.returns-in_ok-list_piece-in-Ok-clause-taken
+returns-in_ok-list_piece-in-Ok-clause-taken g c = (take c.in-Ok.count c.fill.new.into, c.in-Ok.ensures.bytes)
+
+pub returns-in_err-list_piece-in-Err-clause-taken : goal.returns-in_err-list_piece-in-Err-clause-taken
+returns-in_err-list_piece-in-Err-clause-taken g c = (take c.in-Err.count c.fill.new.into, c.in-Err.ensures.part)
+
+pub returns-in_ok-list_piece-in-Err-clause-taken : goal.returns-in_ok-list_piece-in-Err-clause-taken
+returns-in_ok-list_piece-in-Err-clause-taken g c = (take c.in-Err.count c.fill.new.into, c.in-Err.ensures.part)

@@ -3,6 +3,7 @@ use Rattle.std.specs.Prelude.{Some}
 use Rattle.listing.specs.Lines.{pieces_of}
 use Rattle.listing.specs.LineSteps.{read_lines}
 use Rattle.listing.specs.Leaves.{IsPlace}
+use Rattle.listing.proofs.Consumed.{Takes}
 use Rattle.listing.proofs.Leaving.{IsReadFrom}
 use Rattle.listing.proofs.text.read_lines.Given as goal
 
@@ -11,6 +12,7 @@ invariant-loop-lines g l =
     let step = g.T.Teller.step in record {
       told : (text : List ℕ) → g.S.Source.left l.initial.source ≡ Some text
           → IsReadFrom step (read_lines step 1 0 l.initial.told (pieces_of text)) l.place.line l.place.bytes l.told (g.S.Source.left l.source) l.lines;
+      taken : Takes (g.S.Source.left l.initial.source) (g.S.Source.left l.source);
       place : IsPlace l.place.line l.place.bytes;
       few : g.T.Teller.lines l.told < l.place.line;
       later : g.S.Source.faults l.initial.source ≤ g.S.Source.faults l.source;

@@ -11,10 +11,10 @@ pub loop-place-preserved : goal.loop-place-preserved
 loop-place-preserved c =
     let i = c.loop-place.invariant in (
       _,
-      listed_more c.args.piece.now c.loop-place.place _ c.loop-place.self c.add.new.self i.0 c.in-Some.left c.in-Some-read_side.right i.1 c.loop-place-test.true
+      listed_more c.args.piece.now c.loop-place.place _ c.loop-place.self c.add.new.self i.0 c.in-Some.left.sub c.in-Some-read_side.right.sub i.1 c.loop-place-test.true
           (all_bytes c.args.piece.now (λ k. (c.type_inv.piece k).fits))
-          (subst (λ (xs : List ℕ). IsSubframe c.in-Some.left xs) c.group_from.ensures c.in-Some.ensures.0) c.in-Some.ensures.1
-          (subst (λ (xs : List ℕ). IsSubframe c.in-Some-read_side.right xs) c.group_from-in-loop-place.ensures c.in-Some-read_side.ensures.0) c.in-Some-read_side.ensures.1
+          (subst (λ (xs : List ℕ). IsSubframe c.in-Some.left.sub xs) c.group_from.ensures c.in-Some.ensures.0) c.in-Some.ensures.1
+          (subst (λ (xs : List ℕ). IsSubframe c.in-Some-read_side.right.sub xs) c.group_from-in-loop-place.ensures c.in-Some-read_side.ensures.0) c.in-Some-read_side.ensures.1
           (record { count = c.add.ensures.count; room = c.add.ensures.room; blocks = c.add.ensures.blocks; text = c.add.ensures.text }),
     )
 
@@ -37,7 +37,7 @@ returns-in_default-read_side c =
       listed_all c.args.piece.now c.loop-place.place c.args.self.now _ c.loop-place.self i.0 refl refl i.1,
       (
         omega (arith, inside, length-drop c.loop-place.place c.args.piece.now),
-        subst (λ (xs : List ℕ). IsSide false xs) c.group_from.ensures (c.in-Some.left, c.in-Some.ensures.0, c.in-Some.ensures.1),
+        subst (λ (xs : List ℕ). IsSide false xs) c.group_from.ensures (c.in-Some.left.sub, c.in-Some.ensures.0, c.in-Some.ensures.1),
         subst (λ (xs : List ℕ). IsSide true xs → ⊥) (c.group_from-in-loop-place.ensures ∙ ap (λ (xs : List ℕ). take 8 xs) (sym (drop-drop 8 c.loop-place.place c.args.piece.now))) c.in_default-read_side.ensures,
       ),
     )
