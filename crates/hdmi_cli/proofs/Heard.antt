@@ -14,7 +14,8 @@ use Rattle.link_sink.specs.Hearings.{IsGrammar}
 use Rattle.link_sink.specs.Sinks.{Fed, IsToldBy}
 use Rattle.listing.specs.Texts.{counted}
 use Rattle.command_line.specs.declared.command.Command.{Command}
-use Rattle.hdmi_cli.specs.Blocks.{AreBefore, AreRead, AreNext, IsHeardSoFar, IsBroken}
+use Rattle.hdmi_cli.specs.Blocks.{AreBefore, AreRead, AreNext}
+use Rattle.link_sink.specs.Ears.{IsHeardSoFar, IsBroken}
 use Rattle.hdmi_cli.specs.Hearings.{IsHeardSome}
 use Rattle.hdmi_cli.specs.Endings.{Devices, IsAnswered, ListsPart, Ends, heard_ending, judged_ending, status_of, note_of, seen}
 use Rattle.hdmi_cli.specs.Manners.{Manner, manner, writes_last, writes_on, reads_nothing, writing_last, writing_on, WritesLast, WritesOn}

@@ -11,7 +11,7 @@ use Rattle.capture_file.specs.declared.fault.CaptureError.{CaptureError}
 use Rattle.capture_file.specs.declared.fault.CaptureError.TheVariants.{Bad as Failed, Read as Unread}
 use Rattle.capture_file.proofs.Marks.{consumed}
 use Rattle.period_grammar.specs.Things.{Thing}
-use Rattle.link_sink.specs.Ears.{StopsIn as StopsAtThing}
+use Rattle.link_sink.specs.Ears.{StopsIn as StopsAtThing, IsHeardSoFar, IsBroken}
 use Rattle.link_sink.specs.Pieces.{no_bits}
 use Rattle.link_sink.specs.Grammar.{Grammar}
 use Rattle.link_sink.specs.Sinks.{Fed, grown, IsGainBy, IsLastBy, IsToldBy}
@@ -20,7 +20,7 @@ use Rattle.link_sink.specs.declared.hear.Outcome.{Outcome as Hearing}
 use Rattle.link_sink.proofs.Following.{none_at_first}
 use Rattle.outside_io.specs.Causes.{Rose}
 use Rattle.link_sink.specs.Alignment.{AreToldBy}
-use Rattle.hdmi_cli.specs.Blocks.{AreBefore, AreRead, AreNext, IsHeardSoFar, IsBroken}
+use Rattle.hdmi_cli.specs.Blocks.{AreBefore, AreRead, AreNext}
 use Rattle.hdmi_cli.specs.Hearings.{AreFed, IsHeardSome, HasHeard, HasHeardAll, IsUntaken, StopsShort, IsCausedBy, refused_as}
 use Rattle.hdmi_cli.specs.declared.hearing.HearError.{HearError}
 use Rattle.hdmi_cli.specs.declared.hearing.HearError.TheVariants.{Bad, Read, Ear}

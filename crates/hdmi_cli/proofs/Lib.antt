@@ -1,9 +1,11 @@
+pub mod Consumed
 pub mod Ends
 pub mod Answered
 pub mod Listings
 pub mod Heard
 pub mod Headline
 pub mod Pictures
+pub mod Sounds
 pub mod Exact
 pub mod Hearings
 pub mod Samples
@@ -12,4 +14,11 @@ pub mod Relaying
 pub mod Trackings
 pub mod Tracked
 pub mod TrackHeadline
+pub mod TrackSlip
+pub mod RelayBlocks
+pub mod RelayLimit
+pub mod OwnCapture
 pub mod RelayHeadline
+pub mod RelayClean
+pub mod RelayAgain
+pub mod RelaySettles

@@ -11,7 +11,7 @@ use Rattle.link_sink.specs.Alignment.{IsAlignedBy}
 use Rattle.link_sink.specs.Grammar.{Grammar}
 use Rattle.link_sink.specs.Hearings.{IsGrammar}
 use Rattle.link_sink.specs.Sinks.{Fed, IsToldBy}
-use Rattle.hdmi_cli.specs.Blocks.{IsBroken}
+use Rattle.link_sink.specs.Ears.{IsBroken}
 use Rattle.hdmi_cli.specs.Endings.{IsWrittenPast}
 use Rattle.hdmi_cli.specs.Listings.{Listing}
 use Rattle.hdmi_cli.specs.Listers.{IsText, Writes}

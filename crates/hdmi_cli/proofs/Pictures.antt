@@ -40,7 +40,7 @@ within_kinds ks i h = elim (cases_lt i (length ks)) [
 ]
 
 -- aligned columns are some of those that came
-within_received : (ps : List Period) (sent received aligned : List Column) (a : ℕ) → CameOf ps sent received → IsAccounted ps sent received aligned a → a + length aligned ≤ length received
+pub within_received : (ps : List Period) (sent received aligned : List Column) (a : ℕ) → CameOf ps sent received → IsAccounted ps sent received aligned a → a + length aligned ≤ length received
 within_received ps sent received aligned a came accounted =
     let same = came.sparse.same_length in
     let many = fitting_length (kinds_of ps) sent (fitting ps sent came.conforming came.spelled) in

@@ -1,13 +1,14 @@
 -- What `relay` makes of a tapped stream: what came of the periods that were sent, from the first full alignment on.
-use Rattle.std.proofs.Common.{◌≡◌, ◌≤◌, ◌⊎◌, ℕ, ◌+◌, Bool, List, [], length, refl, ap, ap₂, sym, ◌∙◌, subst, inl, inr}
-use Rattle.std.specs.Prelude.{Option, Some}
-use Rattle.std.specs.Io.KnownBytes.{Appends}
+use Rattle.std.proofs.Common.{◌≡◌, ◌<◌, ◌≤◌, ◌⊎◌, ℕ, ◌+◌, Bool, List, [], length, ap, sym, ◌∙◌, subst, inl, inr}
+use Rattle.std.specs.Prelude.{Option, None, Some}
+use Rattle.std.proofs.lemmas.List.{append-nil}
+use Rattle.std.specs.Io.KnownBytes.{Appends, Keeps}
 use Rattle.tmds_word.specs.Column.{Column}
 use Rattle.capture_file.specs.Captures.{IsCaptureOf}
 use Rattle.capture_file.specs.Laws.{AreSame}
 use Rattle.capture_file.specs.Taps.{tapped_capture}
 use Rattle.capture_file.proofs.OneCapture.{one_capture, no_fault}
-use Rattle.lane_deskew.specs.Triples.{IsFirst}
+use Rattle.lane_deskew.specs.Triples.{IsFirst, IsTriple}
 use Rattle.lane_deskew.specs.Aligned.{aligned_columns}
 use Rattle.island_pack.specs.Periods.{Period, columns_of}
 use Rattle.island_pack.specs.Sparse.{IsSparseInPayload}
@@ -18,29 +19,39 @@ use Rattle.period_grammar.specs.Heard.{heard}
 use Rattle.period_grammar.specs.Things.{Thing}
 use Rattle.link_sink.specs.Account.{account}
 use Rattle.link_sink.specs.Alignment.{IsAlignedTold, IsNowhereTold}
-use Rattle.link_sink.specs.Laws.{CameOf, IsAccounted, BeginColumn}
+use Rattle.link_sink.specs.Laws.{IsAccounted, BeginColumn}
 use Rattle.link_sink.proofs.Tapped.{payload_accounted, tap_accounted}
-use Rattle.relay.specs.Came.{RelayedAccount, came}
-use Rattle.relay.specs.Relayed.{conformed, relayed}
+use Rattle.relay.specs.Came.{RelayedAccount}
+use Rattle.relay.specs.Relayed.{relayed}
 use Rattle.command_line.specs.Commands.{IsCommand}
 use Rattle.command_line.specs.declared.command.Command.TheVariants.{Relay}
 use Rattle.hdmi_cli.specs.Endings.{Devices, Answers, RunEnds, Unless, status_of}
-use Rattle.hdmi_cli.specs.Headline.{TappedStream, IsTapped, AlignsBy, IsFirstOf, IsSentOn, IsSentOnBy, aligned_of}
+use Rattle.hdmi_cli.specs.Headline.{TappedStream, IsTapped, AlignsBy, IsFirstOf, aligned_of}
 use Rattle.hdmi_cli.specs.Outcome.{Outcome, Relays}
+use Rattle.hdmi_cli.specs.RelayClauses.{IsSentWithin, IsSentWithinBy, sent_on}
 use Rattle.hdmi_cli.specs.Relays.{IsRelayed, relay_status, whole_tap}
 use Rattle.hdmi_cli.specs.declared.ending.Ending.{Ending}
 use Rattle.hdmi_cli.proofs.Headline.{aligned_same, run_ended}
+use Rattle.hdmi_cli.proofs.RelayLimit.{passes_nowhere, passes_whole, same_told}
 
--- an outcome is the capture of what is relayed of some things
-record IsRelayOf (all : List Thing) (o : Outcome) : Type 0 where
-  columns : List Column
-  spelled : Spells (relayed all) columns
-  status : o.status ≡ relay_status (faultless all)
-  output : o.output ≡ tapped_capture columns whole_tap
+-- an outcome is the capture of what is relayed of some things, which is within the limit
+pub record IsRelayOf (all : List Thing) (o : Outcome) : Type 0 where
+  pub few : columns_of (relayed all) ≤ 20000000
+  pub columns : List Column
+  pub spelled : Spells (relayed all) columns
+  pub status : o.status ≡ relay_status (faultless all)
+  pub output : o.output ≡ tapped_capture columns whole_tap
 
-same_told : (x y z u v w : List Bool) (columns : ℕ) (things : List Thing) → AreSame x y z u v w → IsAlignedTold u v w columns things → IsAlignedTold x y z columns things
-same_told x y z u v w columns things same h =
-    subst (λ a. IsAlignedTold a y z columns things) (sym same.blue) (subst (λ b. IsAlignedTold u b z columns things) (sym same.green) (subst (λ c. IsAlignedTold u v c columns things) (sym same.red) h))
+-- or what is relayed of them is past the limit
+pub record IsLongOf (all : List Thing) (o : Outcome) : Type 0 where
+  pub passes : 20000000 < columns_of (relayed all)
+  pub status : o.status ≡ 3
+  pub output : o.output ≡ []
+
+pub keeps_of : (old new : Option (List ℕ)) → Appends old new [] → Keeps old new
+keeps_of None new h = tt
+keeps_of (Some xs) None h = absurd h
+keeps_of (Some xs) (Some ys) h = h ∙ append-nil xs
 
 same_nowhere : (x y z u v w : List Bool) (columns : ℕ) (things : List Thing) → AreSame x y z u v w → IsNowhereTold u v w columns things → IsNowhereTold x y z columns things
 same_nowhere x y z u v w columns things same h =
@@ -52,41 +63,67 @@ told_relay all blue green red d e f columns things output o first whole told r i
     let same = aligned_same blue green red told.d told.e told.f d e f told.first first in
     let things_are : things ≡ all = told.told ∙ ap heard same ∙ whole in
     record {
+      few = subst (λ (ts : List Thing). columns_of (relayed ts) ≤ 20000000) things_are r.few;
       columns = r.columns;
       spelled = subst (λ (ts : List Thing). Spells (relayed ts) r.columns) things_are r.spelled;
       status = ap (λ (p : Outcome). p.status) is ∙ ap (λ ts. relay_status (faultless ts)) things_are;
       output = ap (λ (p : Outcome). p.output) is ∙ r.output_is;
     }
 
-capture_relay : (all : List Thing) (blue green red : List Bool) (d e f : ℕ) (bytes : List ℕ) (o : Outcome) → IsCaptureOf blue green red bytes → IsFirst blue green red d e f → heard (aligned_columns blue green red d e f) ≡ all
-    → Relays bytes o → (o.status ≡ 3) ⊎ IsRelayOf all o
+-- what is made of a capture with a first full alignment
+pub capture_relay : (all : List Thing) (blue green red : List Bool) (d e f : ℕ) (bytes : List ℕ) (o : Outcome) → IsCaptureOf blue green red bytes → IsFirst blue green red d e f → heard (aligned_columns blue green red d e f) ≡ all
+    → Relays bytes o → IsLongOf all o ⊎ IsRelayOf all o
 capture_relay all blue green red d e f bytes o captured first whole (inl (x, y, z, columns, things, output, is, told, relays, same)) =
     inr (told_relay all blue green red d e f columns things output o first whole (same_told blue green red x y z columns things (one_capture blue green red x y z bytes captured is) told) relays same)
 capture_relay all blue green red d e f bytes o captured first whole (inr (inl (x, y, z, columns, things, is, nowhere, same))) =
     absurd ((same_nowhere blue green red x y z columns things (one_capture blue green red x y z bytes captured is) nowhere).nowhere d e f first.triple)
-capture_relay all blue green red d e f bytes o captured first whole (inr (inr (inl (passes, same)))) = inl (ap (λ (p : Outcome). p.status) same)
+capture_relay all blue green red d e f bytes o captured first whole (inr (inr (inl (passes, same)))) = inl (record {
+  passes = subst (λ (ts : List Thing). 20000000 < columns_of (relayed ts)) whole (passes_whole blue green red d e f bytes captured first passes);
+  status = ap (λ (p : Outcome). p.status) same;
+  output = ap (λ (p : Outcome). p.output) same;
+})
 capture_relay all blue green red d e f bytes o captured first whole (inr (inr (inr (fault, before, same)))) =
     absurd (no_fault bytes fault (record { blue = blue; green = green; red = red; holds = captured }) before.is)
 
+-- and of one that is aligned nowhere
+pub nowhere_relay : (blue green red : List Bool) (bytes : List ℕ) (o : Outcome) → IsCaptureOf blue green red bytes → ((d e f : ℕ) → IsTriple blue green red d e f → ⊥) → Relays bytes o
+    → (o.status ≡ 7) × (o.output ≡ [])
+nowhere_relay blue green red bytes o captured none (inl (x, y, z, columns, things, output, is, told, relays, same)) =
+    let own = same_told blue green red x y z columns things (one_capture blue green red x y z bytes captured is) told in
+    absurd (none own.d own.e own.f own.first.triple)
+nowhere_relay blue green red bytes o captured none (inr (inl (x, y, z, columns, things, is, nowhere, same))) = (ap (λ (p : Outcome). p.status) same, ap (λ (p : Outcome). p.output) same)
+nowhere_relay blue green red bytes o captured none (inr (inr (inl (passes, same)))) = absurd (passes_nowhere blue green red bytes captured none passes)
+nowhere_relay blue green red bytes o captured none (inr (inr (inr (fault, before, same)))) =
+    absurd (no_fault bytes fault (record { blue = blue; green = green; red = red; holds = captured }) before.is)
+
 sent_of : (t : TappedStream) (a d e f : ℕ) (ending : Ending) (before after : Devices) (o : Outcome) → IsAccounted t.periods t.sent t.received (aligned_of t d e f) a → BeginColumn t.offset t.skews (a + 12) d e f
-    → relayed (account t.periods t.sent t.received a (length (aligned_of t d e f))) ≡ conformed (came t.periods t.sent t.received a (length (aligned_of t d e f)))
+    → relayed (account t.periods t.sent t.received a (length (aligned_of t d e f))) ≡ sent_on t d e f a
     → o.status ≡ status_of ending → Appends before.held after.held o.output
-    → (o.status ≡ 3) ⊎ IsRelayOf (account t.periods t.sent t.received a (length (aligned_of t d e f))) o
-    → (status_of ending ≡ 3) ⊎ IsSentOn t d e f a (status_of ending) before.held after.held
-sent_of t a d e f ending before after o accounted begins relayed_is status written (inl three) = inl (sym status ∙ three)
-sent_of t a d e f ending before after o accounted begins relayed_is status written (inr is) = inr (record {
+    → IsLongOf (account t.periods t.sent t.received a (length (aligned_of t d e f))) o ⊎ IsRelayOf (account t.periods t.sent t.received a (length (aligned_of t d e f))) o
+    → IsSentWithin t d e f a (status_of ending) before.held after.held
+sent_of t a d e f ending before after o accounted begins relayed_is status written (inl long) = inr (record {
   accounted = accounted;
   begins = begins;
-  columns = is.columns;
-  spelled = subst (λ (ps : List Period). Spells ps is.columns) relayed_is is.spelled;
-  status_is = sym status ∙ is.status;
-  written = subst (λ (out : List ℕ). Appends before.held after.held out) is.output written;
+  passes = subst (λ (ps : List Period). 20000000 < columns_of ps) relayed_is long.passes;
+  status_is = sym status ∙ long.status;
+  unwritten = keeps_of before.held after.held (subst (λ (out : List ℕ). Appends before.held after.held out) long.output written);
 })
+sent_of t a d e f ending before after o accounted begins relayed_is status written (inr is) = inl (
+  subst (λ (ps : List Period). columns_of ps ≤ 20000000) relayed_is is.few,
+  record {
+    accounted = accounted;
+    begins = begins;
+    columns = is.columns;
+    spelled = subst (λ (ps : List Period). Spells ps is.columns) relayed_is is.spelled;
+    status_is = sym status ∙ is.status;
+    written = subst (λ (out : List ℕ). Appends before.held after.held out) is.output written;
+  },
+)
 
-sent_on : RelayedAccount → (t : TappedStream) (a d e f : ℕ) (ending : Ending) (before after : Devices) → IsTapped t → IsFirstOf t d e f → IsAccounted t.periods t.sent t.received (aligned_of t d e f) a
+sent_within : RelayedAccount → (t : TappedStream) (a d e f : ℕ) (ending : Ending) (before after : Devices) → IsTapped t → IsFirstOf t d e f → IsAccounted t.periods t.sent t.received (aligned_of t d e f) a
     → BeginColumn t.offset t.skews (a + 12) d e f → before.left ≡ Some t.bytes → Answers Relay ending before after
-    → (status_of ending ≡ 3) ⊎ IsSentOn t d e f a (status_of ending) before.held after.held
-sent_on law t a d e f ending before after tapped first accounted begins left answers =
+    → IsSentWithin t d e f a (status_of ending) before.held after.held
+sent_within law t a d e f ending before after tapped first accounted begins left answers =
     let answer = answers t.bytes left in
     let many = length (aligned_of t d e f) in
     let all = account t.periods t.sent t.received a many in
@@ -97,24 +134,16 @@ sent_on law t a d e f ending before after tapped first accounted begins left ans
 
 pub relay_headlined : RelayedAccount → (words : List (List ℕ)) (ending : Ending) (before after : Devices) (status : ℕ) → RunEnds words ending before after → status ≡ status_of ending → IsCommand words Relay
     → (t : TappedStream) → IsTapped t → IsSparseInPayload t.periods t.sent t.received → (d e f : ℕ) → IsFirstOf t d e f → before.left ≡ Some t.bytes
-    → Unless (λ s old new. (s ≡ 3) ⊎ ((a : ℕ) × IsSentOn t d e f a s old new)) status before after
+    → Unless (λ s old new. (a : ℕ) × IsSentWithin t d e f a s old new) status before after
 relay_headlined law words ending before after status ends is named t tapped alone d e f first left =
     let told = payload_accounted t.periods t.sent t.received tapped.came alone t.offset t.skews t.counts t.blue t.green t.red tapped.tap tapped.small d e f first in
-    run_ended (λ s old new. (s ≡ 3) ⊎ ((a : ℕ) × IsSentOn t d e f a s old new)) Relay words ending before after status ends is named
-    (λ answers. chosen told.0 (sent_on law t told.0 d e f ending before after tapped first told.1 told.2 left answers))
-  where
-    chosen : (a : ℕ) → (status_of ending ≡ 3) ⊎ IsSentOn t d e f a (status_of ending) before.held after.held → (status_of ending ≡ 3) ⊎ ((a : ℕ) × IsSentOn t d e f a (status_of ending) before.held after.held)
-    chosen a (inl three) = inl three
-    chosen a (inr sent) = inr (a, sent)
+    run_ended (λ s old new. (a : ℕ) × IsSentWithin t d e f a s old new) Relay words ending before after status ends is named
+    (λ answers. (told.0, sent_within law t told.0 d e f ending before after tapped first told.1 told.2 left answers))
 
 pub relay_headlined_anywhere : RelayedAccount → (words : List (List ℕ)) (ending : Ending) (before after : Devices) (status : ℕ) → RunEnds words ending before after → status ≡ status_of ending → IsCommand words Relay
     → (t : TappedStream) → IsTapped t → (until : ℕ) → AlignsBy t until → before.left ≡ Some t.bytes
-    → Unless (λ s old new. (s ≡ 3) ⊎ IsSentOnBy t until s old new) status before after
+    → Unless (IsSentWithinBy t until) status before after
 relay_headlined_anywhere law words ending before after status ends is named t tapped until aligns left =
     let told = tap_accounted t.periods t.sent t.received tapped.came t.offset t.skews t.counts t.blue t.green t.red tapped.tap tapped.small until aligns in
-    run_ended (λ s old new. (s ≡ 3) ⊎ IsSentOnBy t until s old new) Relay words ending before after status ends is named
-    (λ answers. chosen told.0 told.1 told.2 told.3 told.4.0 told.4.1 (sent_on law t told.4.0 told.0 told.1 told.2 ending before after tapped told.3 told.4.2 told.4.3 left answers))
-  where
-    chosen : (d e f : ℕ) → IsFirstOf t d e f → (a : ℕ) → a + 12 ≤ until → (status_of ending ≡ 3) ⊎ IsSentOn t d e f a (status_of ending) before.held after.held → (status_of ending ≡ 3) ⊎ IsSentOnBy t until (status_of ending) before.held after.held
-    chosen d e f first a le (inl three) = inl three
-    chosen d e f first a le (inr sent) = inr (d, e, f, first, (a, le, sent))
+    run_ended (IsSentWithinBy t until) Relay words ending before after status ends is named
+    (λ answers. (told.0, told.1, told.2, told.3, (told.4.0, told.4.1, sent_within law t told.4.0 told.0 told.1 told.2 ending before after tapped told.3 told.4.2 told.4.3 left answers)))

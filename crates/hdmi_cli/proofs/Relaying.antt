@@ -25,7 +25,8 @@ use Rattle.relay.proofs.Going.{stream_columns}
 use Rattle.tmds_word.specs.Column.{Column}
 use Rattle.hdmi_cli.proofs.Heard.{all_read}
 use Rattle.command_line.specs.declared.command.Command.TheVariants.{Relay}
-use Rattle.hdmi_cli.specs.Blocks.{AreBefore, AreNext, IsBroken, IsHeardSoFar}
+use Rattle.hdmi_cli.specs.Blocks.{AreBefore, AreNext}
+use Rattle.link_sink.specs.Ears.{IsBroken, IsHeardSoFar}
 use Rattle.hdmi_cli.specs.Endings.{Devices, Ends, IsCut, IsWhole, RelayEnds, StreamEnds, faulty_end, marked_end, relay_ending}
 use Rattle.hdmi_cli.specs.Notes.{alignment_note, capture_note, long_note}
 use Rattle.hdmi_cli.specs.Outcome.{Outcome, Relays}

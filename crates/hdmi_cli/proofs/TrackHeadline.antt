@@ -20,14 +20,14 @@ use Rattle.hdmi_cli.specs.Outcome.{Outcome, ListsLanes, ListsCapture, TracksLane
 use Rattle.hdmi_cli.specs.TrackText.{thing_faults, thing_lines, track_faults, track_text}
 
 -- what is told of one epoch
-record IsEpoch (x : Fed) (aligned : ℕ) (events : List Event) : Type 0 where
-  outcome : Hearing
-  things : List Thing
-  told : AreTold x.blue x.green x.red outcome things
-  aligned_is : aligned ≡ one_if outcome.aligned
-  events_are : events ≡ events_of things
+pub record IsEpoch (x : Fed) (aligned : ℕ) (events : List Event) : Type 0 where
+  pub outcome : Hearing
+  pub things : List Thing
+  pub told : AreTold x.blue x.green x.red outcome things
+  pub aligned_is : aligned ≡ one_if outcome.aligned
+  pub events_are : events ≡ events_of things
 
-epoch_told : (begun : Bool) (z : ℕ) (x : Fed) (n m : ℕ) (events : List Event) → IsTracked begun z x n m events → HasNoEnd x → IsEpoch x m events
+pub epoch_told : (begun : Bool) (z : ℕ) (x : Fed) (n m : ℕ) (events : List Event) → IsTracked begun z x n m events → HasNoEnd x → IsEpoch x m events
 epoch_told begun z x n m events (last_epoch _ _ _ o things none told) no_end = record { outcome = o; things = things; told = told; aligned_is = refl; events_are = refl }
 epoch_told begun z x n m events (more_epochs _ _ _ o things lane place n1 m1 rest end told track) no_end = absurd (no_end lane end.within place end.stray)
 

@@ -1,11 +1,8 @@
 -- The whole blocks of a capture that stand before a place, or that were read: the bits that each lane has in them.
 use Rattle.std.specs.Prelude.{◌≡◌, ◌⊎◌, ◌<◌, ◌≤◌, ℕ, ◌+◌, List, [], ◌++◌, length}
 use Rattle.capture_file.specs.Captures.{HasRead, IsHeadless, StopsIn, block_size}
-use Rattle.period_grammar.specs.Things.{Thing}
-use Rattle.link_sink.specs.Ears.{StopsIn as StopsAtThing}
-use Rattle.link_sink.specs.Grammar.{Grammar}
 use Rattle.link_sink.specs.Pieces.{no_bits}
-use Rattle.link_sink.specs.Sinks.{Fed, IsToldBy}
+use Rattle.link_sink.specs.Sinks.{Fed}
 
 -- the header and the blocks below j have these bits
 abbrev pub HasBlocks : List ℕ → ℕ → List ℕ → Fed → Type 0
@@ -33,18 +30,3 @@ pub record AreNext (before after : Fed) (read : List ℕ) : Type 0 where
   pub read_is : read ≡ taken ++ block
   pub had : HasBlocks counts j taken before
   pub has : HasBlocks counts (j + 1) read after
-
--- an ear took all that lanes tell so far, by a grammar
-pub record IsHeardSoFar {A : Type 0} (g : Grammar) (took : A → A → List Thing → Type 0) (fed : Fed) (old new : A) : Type 0 where
-  pub things : List Thing
-  pub told : IsToldBy g fed things
-  pub taken : took old new things
-
--- it broke at a thing behind all that was told before the last block
-pub record IsBroken {A : Type 0} (g : Grammar) (took : A → A → List Thing → Type 0) (broke : A → A → Thing → Type 0) (before : Fed) (things : List Thing) (old new : A) : Type 0 where
-  pub first : List Thing
-  pub told : IsToldBy g before first
-  pub more : List Thing
-  pub things_are : things ≡ first ++ more
-  pub stops : StopsAtThing took broke old new things
-  pub past : length first ≤ length stops.taken

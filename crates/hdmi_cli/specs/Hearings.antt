@@ -11,7 +11,8 @@ use Rattle.link_sink.specs.Grammar.{Grammar}
 use Rattle.link_sink.specs.Sinks.{Fed, IsToldBy}
 use Rattle.link_sink.specs.Streams.{LaneSinkSeen, StandsBy, bits_of}
 use Rattle.tmds_word.specs.Column.{Column}
-use Rattle.hdmi_cli.specs.Blocks.{AreBefore, AreRead, AreNext, IsHeardSoFar, IsBroken}
+use Rattle.hdmi_cli.specs.Blocks.{AreBefore, AreRead, AreNext}
+use Rattle.link_sink.specs.Ears.{IsHeardSoFar, IsBroken}
 use Rattle.hdmi_cli.specs.declared.hearing.HearError.{HearError}
 use Rattle.hdmi_cli.specs.declared.hearing.HearError.TheVariants.{Bad, Read, Ear}
 

@@ -14,5 +14,9 @@ pub mod Endings
 pub mod ListsCommands
 pub mod Runs
 pub mod Headline
+pub mod TrackSlip
+pub mod RelayClauses
 pub mod Pictures
+pub mod Sounds
 pub mod Exact
+pub mod RelaySettles

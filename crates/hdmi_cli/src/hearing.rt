@@ -10,7 +10,8 @@ ghost use Rattle.link_sink.specs.declared.hear.Outcome.{Outcome as Hearing};
 ghost use Rattle.link_sink.specs.Pieces.{no_bits};
 ghost use Rattle.link_sink.specs.Sinks.{Fed, IsToldBy};
 ghost use Rattle.link_sink.specs.Streams.{StandsBy, most_bits};
-ghost use Rattle.hdmi_cli.specs.Blocks.{AreBefore, AreRead, AreNext, IsHeardSoFar, IsBroken};
+ghost use Rattle.hdmi_cli.specs.Blocks.{AreBefore, AreRead, AreNext};
+ghost use Rattle.link_sink.specs.Ears.{IsHeardSoFar, IsBroken};
 ghost use Rattle.hdmi_cli.specs.Hearings.{IsHeardSome, AreFed, HasHeard, HasHeardAll, HeardOn, StopsShort, IsCausedBy, refused_as};
 ghost use Rattle.hdmi_cli.specs.declared.hearing.HearError.TheVariants.{Bad, Read, Ear as EarFailed};
 
@@ -59,6 +60,7 @@ pub(crate) fn hear_block<R: Threads, S: Source, H: Hears, E: Ear, G: Gate>(
     ensures short { (from : Option (List ℕ)) → HeardOn E.took (HasHeard H.grammar H.goes_on E.took reader.old.version reader.old.bits reader.old.block from (S.left reader.old.source.now) sink.old) ear.old (λ first.
         IfErr result (StopsShort H.grammar E.took E.broke from (S.left reader.new.source.now) first ear.new)) }
     ensures caused { IfErr result (IsCausedBy (S.faults reader.old.source.now) (S.faults reader.new.source.now) (E.faults ear.old) (E.faults ear.new)) }
+    ensures taken { (taken : List ℕ) × Consumes (S.left reader.old.source.now) (S.left reader.new.source.now) taken }
     ensures input_later { S.faults reader.old.source.now ≤ S.faults reader.new.source.now }
     ensures ear_later { E.faults ear.old ≤ E.faults ear.new }
 {
@@ -83,6 +85,7 @@ pub(crate) fn refused(error: CaptureError) -> HearError
 }
 
 /// Reads and feeds block after block, to the end.
+#[tactic(auto, using(crate::proofs::Consumed::takes_none))]
 fn hear_blocks<R: Threads, S: Source, H: Hears, E: Ear, G: Gate>(
     rt: &R,
     sink: &mut LaneSink<H>,
@@ -102,6 +105,7 @@ fn hear_blocks<R: Threads, S: Source, H: Hears, E: Ear, G: Gate>(
     ensures short { (from : Option (List ℕ)) → HeardOn E.took (HasHeard H.grammar H.goes_on E.took reader.old.version reader.old.bits reader.old.block from (S.left reader.old.source.now) sink.old) ear.old (λ first.
         IfErr result (StopsShort H.grammar E.took E.broke from (S.left reader.new.source.now) first ear.new)) }
     ensures caused { IfErr result (IsCausedBy (S.faults reader.old.source.now) (S.faults reader.new.source.now) (E.faults ear.old) (E.faults ear.new)) }
+    ensures taken { (taken : List ℕ) × Consumes (S.left reader.old.source.now) (S.left reader.new.source.now) taken }
     ensures input_later { S.faults reader.old.source.now ≤ S.faults reader.new.source.now }
     ensures ear_later { E.faults ear.old ≤ E.faults ear.new }
 {
@@ -137,6 +141,7 @@ pub(crate) fn hear_capture<R: Threads, S: Source, H: Hears, E: Ear, G: Gate>(
         × (before after : Fed) × (things : List Thing) × (read : List ℕ) × Consumes (S.left input.old) (S.left input.new) read
         × ((AreNext before after read × IsToldBy H.grammar after things × IsBroken H.grammar E.took E.broke before things ear.old ear.new)
         ⊎ ((outcome : Hearing) × IsAtEnd (S.left input.new) × IsCaptureOf after.blue after.green after.red read × AreToldBy H.grammar after.blue after.green after.red outcome things × IsBroken H.grammar E.took E.broke after things ear.old ear.new))) }
+    ensures taken { (taken : List ℕ) × Consumes (S.left input.old) (S.left input.new) taken }
     ensures input_later { S.faults input.old ≤ S.faults input.new }
     ensures ear_later { E.faults ear.old ≤ E.faults ear.new }
 {

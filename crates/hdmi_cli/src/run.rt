@@ -1,10 +1,11 @@
 //! The top call: the words decide what is done with the input.
 ghost use Rattle.std.specs.Prelude.{◌≡◌, ◌⊎◌, ◌+◌, ℕ, ◌<◌, ◌≤◌, Bool, true, List, [], ◌∷◌, take, All, Some, None, Contains};
-ghost use Rattle.std.specs.Io.KnownBytes.{Appends, IsAtEnd, Keeps};
+ghost use Rattle.std.specs.Io.KnownBytes.{Appends, Consumes, IsAtEnd, Keeps};
 ghost use Rattle.outside_io.specs.Causes.{Rose};
 ghost use Rattle.lane_deskew.specs.Aligned.{aligned_columns};
 ghost use Rattle.island_pack.specs.Sparse.{IsSparseInPayload};
 ghost use Rattle.link_sink.specs.Pieces.{no_bits};
+ghost use Rattle.link_sink.specs.Sinks.{Fed};
 ghost use Rattle.link_sink.specs.Streams.{StandsBy, most_bits};
 ghost use Rattle.source_end.specs.declared.mode.Mode.{Mode};
 ghost use Rattle.island_pack.specs.Spelling.{Spells};
@@ -13,13 +14,20 @@ ghost use Rattle.source_end.specs.DviPeriods.{DviSpells};
 ghost use Rattle.source_end.specs.Raster.{raster_of};
 ghost use Rattle.source_end.specs.RasterRefusals.{raster_fault};
 ghost use Rattle.hdmi_cli.specs.Commands.{tap_asked};
-ghost use Rattle.hdmi_cli.specs.Headline.{TappedStream, IsTapped, AlignsBy, IsFirstOf, IsRecovered, IsRecoveredBy, IsDviTapped, IsDviRecovered, IsSentOn, IsSentOnBy};
+ghost use Rattle.hdmi_cli.specs.Headline.{TappedStream, IsTapped, AlignsBy, IsFirstOf, IsRecovered, IsRecoveredBy, IsDviTapped, IsDviRecovered};
+ghost use Rattle.hdmi_cli.specs.TrackSlip.{LineSlip, IsSlippedTap, IsNoticed, IsTrackedAcross};
+ghost use Rattle.hdmi_cli.specs.RelayClauses.{IsCleanToEnd, IsPassedOn, IsRelayedAgain, IsSentWithin, IsSentWithinBy};
+ghost use Rattle.hdmi_cli.specs.RelaySettles.{IsWritten, IsWrittenButBit3};
+ghost use Rattle.hdmi_cli.specs.Relays.{IsRelayed};
+ghost use Rattle.period_grammar.specs.Things.{Thing};
+ghost use Rattle.relay.specs.Relayed.{relayed};
 ghost use Rattle.hdmi_cli.specs.Pictures.{ArePackets, ArePictures};
+ghost use Rattle.hdmi_cli.specs.Sounds.{AreSamples};
 ghost use Rattle.hdmi_cli.specs.Exact.{IsAlignedCapture, IsJudged};
 ghost use Rattle.hdmi_cli.specs.Listings.{link_listing, content_listing};
 ghost use Rattle.hdmi_cli.specs.ListsCommands.{IsLists};
 ghost use Rattle.hdmi_cli.specs.Manners.{WritesLast, WritesOn};
-ghost use Rattle.hdmi_cli.specs.Outcome.{Outcome, IsOutcome, NamesNone};
+ghost use Rattle.hdmi_cli.specs.Outcome.{Outcome, IsOutcome, NamesNone, Relays};
 ghost use Rattle.hdmi_cli.specs.Endings.{ColumnsEnd, Ends, RunEnds, RunUnread, RunUnwritten, StreamEnds, Unless, damage_ending, frames_ending, heard_ending, judged_ending, raster_ending, seen, slip_ending};
 ghost use Rattle.hdmi_cli.specs.Runs.{IsNoteOf};
 ghost use Rattle.hdmi_cli.specs.Samples.{IsSampleWritten, SampleEnds};
@@ -47,7 +55,7 @@ use listing::{
 };
 use outside_io::{Failed, NoMemory, Sink, Source};
 use period_grammar::Hearing;
-use relay::laws::relayed_account;
+use relay::laws::{relayed_account, relayed_again, whole_relayed};
 use sampling::write_counts;
 use source_end::{DviStream, RasterFault, Stream, raster};
 use std::alloc::Global;
@@ -88,6 +96,9 @@ pub fn run<R: Threads, S: Source, K: Sink, N: Sink, G: Gate>(
 
     // Memory is taken before the first read by the commands that write while they read.
     ensures memory { result ≡ 6 → (command : CommandValue) → IsCommand words.now command → WritesOn command → Keeps (S.left input.old) (S.left input.new) }
+
+    // Whatever the status is, what was taken of the input begins what it had left.
+    ensures taken { (taken : List ℕ) × Consumes (S.left input.old) (S.left input.new) taken }
 
     // What is read, and what is written where not all is. After a failed read exactly what the whole blocks read tell so far
     // is listed; after a failed write a part, and at least all that was told before the last block read.
@@ -176,16 +187,69 @@ pub fn run<R: Threads, S: Source, K: Sink, N: Sink, G: Gate>(
         (seen (S.left input.old) (S.faults input.old) (K.held output.old) (K.faults output.old))
         (seen (S.left input.new) (S.faults input.new) (K.held output.new) (K.faults output.new)) }
 
+    // `recover biphase` writes the stream of the samples of the packets that came whole, each with at most one damaged word as it
+    // was sent, in both forms.
+    ensures biphase_headline { (pair : ℕ) → IsCommand words.now (RecoverBiphase pair) → (t : TappedStream) → IsTapped t → IsSparseInPayload t.periods t.sent t.received
+        → (d e f : ℕ) → IsFirstOf t d e f → S.left input.old ≡ Some t.bytes
+        → Unless (λ status held holds. (a : ℕ) × AreSamples pair t d e f a status held holds) result
+        (seen (S.left input.old) (S.faults input.old) (K.held output.old) (K.faults output.old))
+        (seen (S.left input.new) (S.faults input.new) (K.held output.new) (K.faults output.new)) }
+    ensures biphase_headline_anywhere { (pair : ℕ) → IsCommand words.now (RecoverBiphase pair) → (t : TappedStream) → IsTapped t
+        → (until : ℕ) → AlignsBy t until → S.left input.old ≡ Some t.bytes
+        → Unless (λ status held holds. (d e f : ℕ) × IsFirstOf t d e f × ((a : ℕ) × (a + 12 ≤ until) × AreSamples pair t d e f a status held holds)) result
+        (seen (S.left input.old) (S.faults input.old) (K.held output.old) (K.faults output.old))
+        (seen (S.left input.new) (S.faults input.new) (K.held output.new) (K.faults output.new)) }
+
+    // Where a lane loses one to nine bits within the pixels of a line, once it was locked, there are two epochs: the second
+    // begins at the control period behind the line, what it tells is the account from its first full alignment on, and what
+    // the first tells of columns that end before the slip is the account. The lines of both are written, and the slip's.
+    ensures track_slip { IsCommand words.now RecoverTrack → (t : TappedStream) → (s : LineSlip) → (y : Fed) → IsSlippedTap t s y → IsNoticed t s
+        → S.left input.old ≡ Some t.bytes → Unless (IsTrackedAcross t s y) result
+        (seen (S.left input.old) (S.faults input.old) (K.held output.old) (K.faults output.old))
+        (seen (S.left input.new) (S.faults input.new) (K.held output.new) (K.faults output.new)) }
+
     // `relay` sends on what came of the periods that were sent, from the first full alignment on, in both forms; or it ends
-    // with 3, as that has too many columns.
+    // with 3 and writes nothing, where that has more than 20,000,000 columns.
     ensures relay_headline { IsCommand words.now RelayCommand → (t : TappedStream) → IsTapped t → IsSparseInPayload t.periods t.sent t.received
         → (d e f : ℕ) → IsFirstOf t d e f → S.left input.old ≡ Some t.bytes
-        → Unless (λ status held holds. (status ≡ 3) ⊎ ((a : ℕ) × IsSentOn t d e f a status held holds)) result
+        → Unless (λ status held holds. (a : ℕ) × IsSentWithin t d e f a status held holds) result
         (seen (S.left input.old) (S.faults input.old) (K.held output.old) (K.faults output.old))
         (seen (S.left input.new) (S.faults input.new) (K.held output.new) (K.faults output.new)) }
     ensures relay_headline_anywhere { IsCommand words.now RelayCommand → (t : TappedStream) → IsTapped t
         → (until : ℕ) → AlignsBy t until → S.left input.old ≡ Some t.bytes
-        → Unless (λ status held holds. (status ≡ 3) ⊎ IsSentOnBy t until status held holds) result
+        → Unless (IsSentWithinBy t until) result
+        (seen (S.left input.old) (S.faults input.old) (K.held output.old) (K.faults output.old))
+        (seen (S.left input.new) (S.faults input.new) (K.held output.new) (K.faults output.new)) }
+
+    // Where `check` says `clean` of a capture, and its aligned columns end in a control period of at least twelve, `relay`
+    // writes columns of the same conforming periods as the aligned ones, in which bit 3 of lane 0 in packet columns is free.
+    ensures relay_clean { IsCommand words.now RelayCommand
+        → (blue green red : List Bool) (d e f : ℕ) (bytes : List ℕ) → IsAlignedCapture blue green red d e f bytes
+        → IsCleanToEnd (aligned_columns blue green red d e f) → S.left input.old ≡ Some bytes
+        → Unless (IsPassedOn (aligned_columns blue green red d e f)) result
+        (seen (S.left input.old) (S.faults input.old) (K.held output.old) (K.faults output.old))
+        (seen (S.left input.new) (S.faults input.new) (K.held output.new) (K.faults output.new)) }
+
+    // And they are the aligned columns themselves, but for bit 3 of lane 0 in packet columns.
+    ensures relay_clean_columns { IsCommand words.now RelayCommand
+        → (blue green red : List Bool) (d e f : ℕ) (bytes : List ℕ) → IsAlignedCapture blue green red d e f bytes
+        → IsCleanToEnd (aligned_columns blue green red d e f) → S.left input.old ≡ Some bytes
+        → Unless (IsWrittenButBit3 (aligned_columns blue green red d e f)) result
+        (seen (S.left input.old) (S.faults input.old) (K.held output.old) (K.faults output.old))
+        (seen (S.left input.new) (S.faults input.new) (K.held output.new) (K.faults output.new)) }
+
+    // Of what `relay` wrote it writes the same, with its first control period cut to its last twelve columns, and the status
+    // is 0; or 7 where that is one control period alone.
+    ensures relay_again { IsCommand words.now RelayCommand → (things : List Thing) (text : List ℕ) → IsRelayed things text
+        → S.left input.old ≡ Some text
+        → Unless (IsRelayedAgain (relayed things)) result
+        (seen (S.left input.old) (S.faults input.old) (K.held output.old) (K.faults output.old))
+        (seen (S.left input.new) (S.faults input.new) (K.held output.new) (K.faults output.new)) }
+
+    // What `relay` wrote of its own output, with status 0, it writes again byte for byte, and the status is 0.
+    ensures relay_settles { IsCommand words.now RelayCommand → (things : List Thing) (text : List ℕ) → IsRelayed things text
+        → (second : Outcome) → Relays text second → second.status ≡ 0 → S.left input.old ≡ Some second.output
+        → Unless (IsWritten second.output) result
         (seen (S.left input.old) (S.faults input.old) (K.held output.old) (K.faults output.old))
         (seen (S.left input.new) (S.faults input.new) (K.held output.new) (K.faults output.new)) }
 
@@ -217,12 +281,15 @@ pub fn run<R: Threads, S: Source, K: Sink, N: Sink, G: Gate>(
     ensures notes_later { N.faults notes.old ≤ N.faults notes.new }
 {
     relayed_account();
+    relayed_again();
+    whole_relayed();
     let ending = carry_out(rt, alloc, words, input, output, gate);
     write_note(&ending, notes);
     ending.status()
 }
 
 /// Does what the words say.
+#[tactic(auto, using(crate::proofs::Consumed::takes_none))]
 fn carry_out<R: Threads, S: Source, K: Sink, G: Gate>(
     rt: &R,
     alloc: Global,
@@ -234,6 +301,7 @@ fn carry_out<R: Threads, S: Source, K: Sink, G: Gate>(
     ensures ends { RunEnds words.now result
         (seen (S.left input.old) (S.faults input.old) (K.held output.old) (K.faults output.old))
         (seen (S.left input.new) (S.faults input.new) (K.held output.new) (K.faults output.new)) }
+    ensures taken { (taken : List ℕ) × Consumes (S.left input.old) (S.left input.new) taken }
     ensures input_later { S.faults input.old ≤ S.faults input.new }
     ensures output_later { K.faults output.old ≤ K.faults output.new }
 {
@@ -271,6 +339,7 @@ fn make_link<S: Source, K: Sink>(
     ensures ends { Ends (MakeLink words.now) result
         (seen (S.left input.old) (S.faults input.old) (K.held output.old) (K.faults output.old))
         (seen (S.left input.new) (S.faults input.new) (K.held output.new) (K.faults output.new)) }
+    ensures taken { (taken : List ℕ) × Consumes (S.left input.old) (S.left input.new) taken }
     ensures input_later { S.faults input.old ≤ S.faults input.new }
     ensures output_later { K.faults output.old ≤ K.faults output.new }
 {
@@ -293,6 +362,7 @@ fn make_dvi<S: Source, K: Sink>(
     ensures ends { Ends (MakeDvi words.now) result
         (seen (S.left input.old) (S.faults input.old) (K.held output.old) (K.faults output.old))
         (seen (S.left input.new) (S.faults input.new) (K.held output.new) (K.faults output.new)) }
+    ensures taken { (taken : List ℕ) × Consumes (S.left input.old) (S.left input.new) taken }
     ensures input_later { S.faults input.old ≤ S.faults input.new }
     ensures output_later { K.faults output.old ≤ K.faults output.new }
 {
@@ -315,6 +385,7 @@ fn make_content<S: Source, K: Sink>(
     ensures ends { Ends (MakeContent words.now) result
         (seen (S.left input.old) (S.faults input.old) (K.held output.old) (K.faults output.old))
         (seen (S.left input.new) (S.faults input.new) (K.held output.new) (K.faults output.new)) }
+    ensures taken { (taken : List ℕ) × Consumes (S.left input.old) (S.left input.new) taken }
     ensures input_later { S.faults input.old ≤ S.faults input.new }
     ensures output_later { K.faults output.old ≤ K.faults output.new }
 {
@@ -415,6 +486,7 @@ fn recover_link<R: Threads, S: Source, K: Sink, G: Gate>(
     ensures ends { Ends RecoverLink result
         (seen (S.left input.old) (S.faults input.old) (K.held output.old) (K.faults output.old))
         (seen (S.left input.new) (S.faults input.new) (K.held output.new) (K.faults output.new)) }
+    ensures taken { (taken : List ℕ) × Consumes (S.left input.old) (S.left input.new) taken }
     ensures input_later { S.faults input.old ≤ S.faults input.new }
     ensures output_later { K.faults output.old ≤ K.faults output.new }
 {
@@ -438,6 +510,7 @@ fn recover_content<R: Threads, S: Source, K: Sink, G: Gate>(
     ensures ends { Ends RecoverContent result
         (seen (S.left input.old) (S.faults input.old) (K.held output.old) (K.faults output.old))
         (seen (S.left input.new) (S.faults input.new) (K.held output.new) (K.faults output.new)) }
+    ensures taken { (taken : List ℕ) × Consumes (S.left input.old) (S.left input.new) taken }
     ensures input_later { S.faults input.old ≤ S.faults input.new }
     ensures output_later { K.faults output.old ≤ K.faults output.new }
 {
@@ -461,6 +534,7 @@ fn check<R: Threads, S: Source, K: Sink, G: Gate>(
     ensures ends { Ends Check result
         (seen (S.left input.old) (S.faults input.old) (K.held output.old) (K.faults output.old))
         (seen (S.left input.new) (S.faults input.new) (K.held output.new) (K.faults output.new)) }
+    ensures taken { (taken : List ℕ) × Consumes (S.left input.old) (S.left input.new) taken }
     ensures input_later { S.faults input.old ≤ S.faults input.new }
     ensures output_later { K.faults output.old ≤ K.faults output.new }
 {
@@ -484,6 +558,7 @@ fn recover_dvi<R: Threads, S: Source, K: Sink, G: Gate>(
     ensures ends { Ends RecoverDvi result
         (seen (S.left input.old) (S.faults input.old) (K.held output.old) (K.faults output.old))
         (seen (S.left input.new) (S.faults input.new) (K.held output.new) (K.faults output.new)) }
+    ensures taken { (taken : List ℕ) × Consumes (S.left input.old) (S.left input.new) taken }
     ensures input_later { S.faults input.old ≤ S.faults input.new }
     ensures output_later { K.faults output.old ≤ K.faults output.new }
 {
@@ -509,6 +584,7 @@ fn recover_biphase<R: Threads, S: Source, K: Sink, G: Gate>(
     ensures ends { Ends (RecoverBiphase pair) result
         (seen (S.left input.old) (S.faults input.old) (K.held output.old) (K.faults output.old))
         (seen (S.left input.new) (S.faults input.new) (K.held output.new) (K.faults output.new)) }
+    ensures taken { (taken : List ℕ) × Consumes (S.left input.old) (S.left input.new) taken }
     ensures input_later { S.faults input.old ≤ S.faults input.new }
     ensures output_later { K.faults output.old ≤ K.faults output.new }
 {
@@ -526,6 +602,7 @@ fn read_biphase<S: Source, K: Sink>(input: &mut S, output: &mut K) -> Ending
     ensures ends { Ends ReadBiphase result
         (seen (S.left input.old) (S.faults input.old) (K.held output.old) (K.faults output.old))
         (seen (S.left input.new) (S.faults input.new) (K.held output.new) (K.faults output.new)) }
+    ensures taken { (taken : List ℕ) × Consumes (S.left input.old) (S.left input.new) taken }
     ensures input_later { S.faults input.old ≤ S.faults input.new }
     ensures output_later { K.faults output.old ≤ K.faults output.new }
 {
@@ -552,6 +629,7 @@ fn slip<S: Source, K: Sink>(alloc: Global, words: SlipWord, input: &mut S, outpu
     ensures ends { Ends (Slip words) result
         (seen (S.left input.old) (S.faults input.old) (K.held output.old) (K.faults output.old))
         (seen (S.left input.new) (S.faults input.new) (K.held output.new) (K.faults output.new)) }
+    ensures taken { (taken : List ℕ) × Consumes (S.left input.old) (S.left input.new) taken }
     ensures input_later { S.faults input.old ≤ S.faults input.new }
     ensures output_later { K.faults output.old ≤ K.faults output.new }
 {
@@ -573,6 +651,7 @@ fn slipped(written: Result<(), SlipError>) -> Ending
 }
 
 /// Writes what a lister lists of a capture, while it is read.
+#[tactic(auto, using(crate::proofs::Consumed::takes_none))]
 fn list_capture<R: Threads, S: Source, H: Hears, L: Lister, G: Gate>(
     rt: &R,
     alloc: Global,
@@ -585,6 +664,7 @@ fn list_capture<R: Threads, S: Source, H: Hears, L: Lister, G: Gate>(
         (seen (S.left input.old) (S.faults input.old) (L.held lister.old) (L.faults lister.old))
         (seen (S.left input.new) (S.faults input.new) (L.held lister.new) (L.faults lister.new)) }
     ensures same { L.name lister.new ≡ L.name lister.old }
+    ensures taken { (taken : List ℕ) × Consumes (S.left input.old) (S.left input.new) taken }
     ensures input_later { S.faults input.old ≤ S.faults input.new }
     ensures output_later { L.faults lister.old ≤ L.faults lister.new }
 {
@@ -610,6 +690,7 @@ fn list_lanes<R: Threads, S: Source, H: Hears, L: Lister, G: Gate>(
         (seen (S.left input.old) (S.faults input.old) (L.held lister.old) (L.faults lister.old))
         (seen (S.left input.new) (S.faults input.new) (L.held lister.new) (L.faults lister.new)) }
     ensures same { L.name lister.new ≡ L.name lister.old }
+    ensures taken { (taken : List ℕ) × Consumes (S.left input.old) (S.left input.new) taken }
     ensures input_later { S.faults input.old ≤ S.faults input.new }
     ensures output_later { L.faults lister.old ≤ L.faults lister.new }
 {
@@ -646,6 +727,7 @@ pub(crate) fn judged(last: Result<(), Failed>, faults: u64) -> Ending
 }
 
 /// Writes a capture with the ten bits of each hit replaced.
+#[tactic(auto, using(crate::proofs::Consumed::takes_none))]
 fn damage<S: Source, K: Sink>(
     alloc: Global,
     words: &[DamageWord],
@@ -656,6 +738,7 @@ fn damage<S: Source, K: Sink>(
     ensures ends { Ends (Damage words.now) result
         (seen (S.left input.old) (S.faults input.old) (K.held output.old) (K.faults output.old))
         (seen (S.left input.new) (S.faults input.new) (K.held output.new) (K.faults output.new)) }
+    ensures taken { (taken : List ℕ) × Consumes (S.left input.old) (S.left input.new) taken }
     ensures input_later { S.faults input.old ≤ S.faults input.new }
     ensures output_later { K.faults output.old ≤ K.faults output.new }
 {

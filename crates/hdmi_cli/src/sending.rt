@@ -1,5 +1,6 @@
 //! Sends on what a capture says as a capture of its own.
-ghost use Rattle.std.specs.Prelude.{◌≡◌, ◌≤◌, true, List};
+ghost use Rattle.std.specs.Prelude.{◌≡◌, ◌≤◌, ℕ, true, List};
+ghost use Rattle.std.specs.Io.KnownBytes.{Consumes};
 ghost use Rattle.link_sink.specs.Pieces.{no_bits};
 ghost use Rattle.link_sink.specs.Streams.{StandsFor as SinkStandsFor, most_bits};
 ghost use Rattle.period_grammar.specs.Things.{Thing};
@@ -21,6 +22,7 @@ use std::thread::Threads;
 
 /// Reads a capture whole, and then writes the capture of what is relayed of it: whole periods with mended packets, whole
 /// preambles and guards, and Null packets for lost ones.
+#[tactic(auto, using(crate::proofs::Consumed::takes_none))]
 pub(crate) fn send_on<R: Threads, S: Source, K: Sink, G: Gate>(
     rt: &R,
     alloc: Global,
@@ -31,6 +33,7 @@ pub(crate) fn send_on<R: Threads, S: Source, K: Sink, G: Gate>(
     ensures ends { Ends RelayCommand result
         (seen (S.left input.old) (S.faults input.old) (K.held output.old) (K.faults output.old))
         (seen (S.left input.new) (S.faults input.new) (K.held output.new) (K.faults output.new)) }
+    ensures taken { (taken : List ℕ) × Consumes (S.left input.old) (S.left input.new) taken }
     ensures input_later { S.faults input.old ≤ S.faults input.new }
     ensures output_later { K.faults output.old ≤ K.faults output.new }
 {
@@ -55,6 +58,7 @@ fn send_lanes<R: Threads, S: Source, K: Sink, G: Gate>(
     ensures ends { Ends RelayCommand result
         (seen (S.left input.old) (S.faults input.old) (K.held output.old) (K.faults output.old))
         (seen (S.left input.new) (S.faults input.new) (K.held output.new) (K.faults output.new)) }
+    ensures taken { (taken : List ℕ) × Consumes (S.left input.old) (S.left input.new) taken }
     ensures input_later { S.faults input.old ≤ S.faults input.new }
     ensures output_later { K.faults output.old ≤ K.faults output.new }
 {

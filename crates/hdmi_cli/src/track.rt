@@ -1,5 +1,6 @@
 //! The command `recover track`.
-ghost use Rattle.std.specs.Prelude.{◌≡◌, ◌≤◌, [], true};
+ghost use Rattle.std.specs.Prelude.{◌≡◌, ◌≤◌, ℕ, [], true, List};
+ghost use Rattle.std.specs.Io.KnownBytes.{Consumes};
 ghost use Rattle.link_sink.specs.Pieces.{no_bits};
 ghost use Rattle.track_sink.specs.TrackSinks.{StandsFor, most_bits};
 ghost use Rattle.hdmi_cli.specs.Endings.{Ends, seen};
@@ -17,6 +18,7 @@ use track_sink::TrackSink;
 
 /// Writes the link listing of a capture whose lanes may lose bits, while it is read: where a lane's characters begin
 /// elsewhere, the lanes are searched anew.
+#[tactic(auto, using(crate::proofs::Consumed::takes_none))]
 pub(crate) fn recover_track<R: Threads, S: Source, K: Sink>(
     rt: &R,
     alloc: Global,
@@ -26,6 +28,7 @@ pub(crate) fn recover_track<R: Threads, S: Source, K: Sink>(
     ensures ends { Ends RecoverTrack result
         (seen (S.left input.old) (S.faults input.old) (K.held output.old) (K.faults output.old))
         (seen (S.left input.new) (S.faults input.new) (K.held output.new) (K.faults output.new)) }
+    ensures taken { (taken : List ℕ) × Consumes (S.left input.old) (S.left input.new) taken }
     ensures input_later { S.faults input.old ≤ S.faults input.new }
     ensures output_later { K.faults output.old ≤ K.faults output.new }
 {
@@ -48,6 +51,7 @@ fn list_track<R: Threads, S: Source, K: Sink>(
     ensures ends { Ends RecoverTrack result
         (seen (S.left input.old) (S.faults input.old) (K.held output.old) (K.faults output.old))
         (seen (S.left input.new) (S.faults input.new) (K.held output.new) (K.faults output.new)) }
+    ensures taken { (taken : List ℕ) × Consumes (S.left input.old) (S.left input.new) taken }
     ensures input_later { S.faults input.old ≤ S.faults input.new }
     ensures output_later { K.faults output.old ≤ K.faults output.new }
 {

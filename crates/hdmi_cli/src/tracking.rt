@@ -1,6 +1,6 @@
 //! Follows a capture whose lanes may lose bits, block by block, while it is read.
 ghost use Rattle.std.specs.Prelude.{◌≡◌, ◌≤◌, ◌+◌, ◌*◌, ◌^◌, ◌<◌, ℕ, List, [], true, false, Option, Some, IfOk, OnOk, IfErr};
-ghost use Rattle.std.specs.Io.KnownBytes.{IsAtEnd};
+ghost use Rattle.std.specs.Io.KnownBytes.{Consumes, IsAtEnd};
 ghost use Rattle.capture_file.specs.Captures.{CanSay, IsCaptureOf};
 ghost use Rattle.link_sink.specs.Pieces.{no_bits};
 ghost use Rattle.link_sink.specs.Sinks.{Fed};
@@ -43,6 +43,7 @@ fn follow_block<R: Threads, S: Source, E: TrackEar>(
     ensures short { (from : Option (List ℕ)) → FollowedOn E.tracked (HasFollowed E.tracked reader.old.version reader.old.bits reader.old.block from (S.left reader.old.source.now) sink.old) ear.old (λ first.
         IfErr result (StopsOn E.tracked E.lost from (S.left reader.new.source.now) first ear.new)) }
     ensures caused { IfErr result (IsCausedBy (S.faults reader.old.source.now) (S.faults reader.new.source.now) (E.faults ear.old) (E.faults ear.new)) }
+    ensures taken { (taken : List ℕ) × Consumes (S.left reader.old.source.now) (S.left reader.new.source.now) taken }
     ensures input_later { S.faults reader.old.source.now ≤ S.faults reader.new.source.now }
     ensures ear_later { E.faults ear.old ≤ E.faults ear.new }
 {
@@ -57,6 +58,7 @@ fn follow_block<R: Threads, S: Source, E: TrackEar>(
 }
 
 /// Reads and feeds block after block, to the end.
+#[tactic(auto, using(crate::proofs::Consumed::takes_none))]
 fn follow_blocks<R: Threads, S: Source, E: TrackEar>(
     rt: &R,
     sink: &mut TrackSink,
@@ -75,6 +77,7 @@ fn follow_blocks<R: Threads, S: Source, E: TrackEar>(
     ensures short { (from : Option (List ℕ)) → FollowedOn E.tracked (HasFollowed E.tracked reader.old.version reader.old.bits reader.old.block from (S.left reader.old.source.now) sink.old) ear.old (λ first.
         IfErr result (StopsOn E.tracked E.lost from (S.left reader.new.source.now) first ear.new)) }
     ensures caused { IfErr result (IsCausedBy (S.faults reader.old.source.now) (S.faults reader.new.source.now) (E.faults ear.old) (E.faults ear.new)) }
+    ensures taken { (taken : List ℕ) × Consumes (S.left reader.old.source.now) (S.left reader.new.source.now) taken }
     ensures input_later { S.faults reader.old.source.now ≤ S.faults reader.new.source.now }
     ensures ear_later { E.faults ear.old ≤ E.faults ear.new }
 {
@@ -102,6 +105,7 @@ pub(crate) fn follow_capture<R: Threads, S: Source, E: TrackEar>(
     ensures ended { OnOk result (IsAtEnd (S.left input.new)) }
     ensures short { IfErr result (StopsOn E.tracked E.lost (S.left input.old) (S.left input.new) ear.old ear.new) }
     ensures caused { IfErr result (IsCausedBy (S.faults input.old) (S.faults input.new) (E.faults ear.old) (E.faults ear.new)) }
+    ensures taken { (taken : List ℕ) × Consumes (S.left input.old) (S.left input.new) taken }
     ensures input_later { S.faults input.old ≤ S.faults input.new }
     ensures ear_later { E.faults ear.old ≤ E.faults ear.new }
 {

@@ -49,3 +49,23 @@ returns-in-Err-clause-short g c =
     λ from first h.
     subst (λ (r : HearError). StopsShort g.H.Hears.grammar g.E.Ear.took g.E.Ear.broke from (g.S.Source.left v.source.now) first c.args.ear.now r) c.refused.ensures.refused
     (stops_short g.H.Hears.grammar g.H.Hears.goes_on g.E.Ear.took g.E.Ear.broke o.version o.bits o.block from (g.S.Source.left o.source.now) (g.S.Source.left v.source.now) c.args.sink.now first c.args.ear.now c.in-Err.error h c.in-Err.ensures.err part)
+
+pub returns-in-Ok-clause-taken : goal.returns-in-Ok-clause-taken
+returns-in-Ok-clause-taken g c =
+    let b = c.in-Ok-Some.block in
+    let gone : Consumes (g.S.Source.left c.args.reader.now.source.now) (g.S.Source.left c.next.follows.lender-at-none.source.now) ((b.a.now ++ b.b.now) ++ b.c.now) = search rules in
+    ((b.a.now ++ b.b.now) ++ b.c.now, gone)
+
+pub returns-in-Err-feed-clause-taken : goal.returns-in-Err-feed-clause-taken
+returns-in-Err-feed-clause-taken g c =
+    let b = c.in-Ok-Some.block in
+    let gone : Consumes (g.S.Source.left c.args.reader.now.source.now) (g.S.Source.left c.next.follows.lender-at-none.source.now) ((b.a.now ++ b.b.now) ++ b.c.now) = search rules in
+    ((b.a.now ++ b.b.now) ++ b.c.now, gone)
+
+pub returns-in-Ok-None-clause-taken : goal.returns-in-Ok-None-clause-taken
+returns-in-Ok-None-clause-taken g c =
+    let gone : Consumes (g.S.Source.left c.args.reader.now.source.now) (g.S.Source.left c.next.follows.lender-at-none.source.now) [] = search rules in
+    ([], gone)
+
+pub returns-in-Err-clause-taken : goal.returns-in-Err-clause-taken
+returns-in-Err-clause-taken g c = (err_case _ _ _ c.next.follows.holds-at-none.5 c.in-Err.is).3

@@ -2,6 +2,7 @@ use Rattle.std.proofs.Common.{rules, ◌+◌, ◌∙◌, ℕ, List, sym, subst}
 use Rattle.std.proofs.lemmas.Result.{err_from_is_err_and}
 use Rattle.capture_file.specs.Captures.{CanSay}
 use Rattle.hdmi_cli.specs.Hearings.{AreFed}
+use Rattle.hdmi_cli.proofs.Consumed.{takes_more}
 use Rattle.hdmi_cli.proofs.Hearings.{moved}
 use Rattle.hdmi_cli.proofs.hearing.hear_blocks.Goals as goal
 
@@ -27,9 +28,16 @@ loop-preserved g c =
       heard = λ from first h.
           moved g.H.Hears.grammar g.H.Hears.goes_on g.E.Ear.took o.version v.version o.bits v.bits (o.block + 1) v.block from (g.S.Source.left v.source.now) c.hear_block.new.sink first c.hear_block.new.ear
           c.hear_block.ensures.version c.hear_block.ensures.bits (e.block t) (e.heard from first (i.heard from first h) t);
+      taken = takes_more _ _ _ i.taken c.hear_block.ensures.taken;
       input_later = search rules;
       ear_later = search rules;
     }
 
 pub returns-clause-whole : goal.returns-clause-whole
 returns-clause-whole g c = λ from first h. c.in_ok-hear_block.ensures.whole from first (c.loop.invariant.heard from first h) c.if-branch.false
+
+pub returns-in_err-hear_block-clause-taken : goal.returns-in_err-hear_block-clause-taken
+returns-in_err-hear_block-clause-taken g c = takes_more _ _ _ c.loop.invariant.taken c.hear_block.ensures.taken
+
+pub returns-clause-taken : goal.returns-clause-taken
+returns-clause-taken g c = takes_more _ _ _ c.loop.invariant.taken c.hear_block.ensures.taken

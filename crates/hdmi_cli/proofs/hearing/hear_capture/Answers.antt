@@ -3,6 +3,7 @@ use Rattle.std.proofs.lemmas.Result.{err_from_is_err_and}
 use Rattle.outside_io.specs.Causes.{Rose}
 use Rattle.hdmi_cli.specs.Hearings.{StopsShort, IsCausedBy}
 use Rattle.hdmi_cli.specs.declared.hearing.HearError.{HearError}
+use Rattle.hdmi_cli.proofs.Consumed.{Takes, takes_more}
 use Rattle.hdmi_cli.proofs.Hearings.{Breaks, carried, headless, heard_head, heard_whole, unended, some_heard, bad_of, read_of, broken_of}
 use Rattle.hdmi_cli.proofs.hearing.hear_capture.Goals as goal
 
@@ -26,6 +27,7 @@ returns-in-Err g c =
       bad = bad_of g.H.Hears.grammar took broke (left old) (left c.args.input.now) (left new) ear ear c.refused.result (ap left was) short;
       read = read_of g.H.Hears.grammar took broke left g.S.Source.faults old c.args.input.now new _ faults faults ear ear c.refused.result was (search rules) short cause;
       broken = broken_of g.H.Hears.grammar took broke left old c.args.input.now new _ (g.S.Source.faults old) (g.S.Source.faults new) faults faults ear ear c.refused.result was (search rules) short cause;
+      taken = carried (λ x y. Takes (left x) (left y)) old c.args.input.now new _ was (search rules) c.open.ensures.taken;
       input_later = search rules;
       ear_later = search rules;
     }
@@ -54,6 +56,7 @@ returns-in_err-hear_blocks g c =
       read = rw (p.1, p.2) (read_of g.H.Hears.grammar took broke left g.S.Source.faults old c.args.input.now new _ (g.E.Ear.faults ear) (g.E.Ear.faults then) ear then e was (search rules) short cause);
       broken =
           rw (p.1, p.2) (broken_of g.H.Hears.grammar took broke left old c.args.input.now new _ (g.S.Source.faults old) (g.S.Source.faults new) (g.E.Ear.faults ear) (g.E.Ear.faults then) ear then e was (search rules) short cause);
+      taken = carried (λ x y. Takes (left x) (left y)) old c.args.input.now new _ was (search rules) (takes_more _ _ _ c.open.ensures.taken c.hear_blocks.ensures.taken);
       input_later = search rules;
       ear_later = search rules;
     }
@@ -86,3 +89,15 @@ returns-in-Err-finish-clause-broken g c =
     λ _.
     carried (λ x y. Breaks g.H.Hears.grammar took broke (left x) (left y) (g.E.Ear.faults ear) (g.E.Ear.faults then) ear then) old c.args.input.now new _ (sym c.new-reader.ensures.source) (search rules)
     (unended g.H.Hears.grammar g.H.Hears.goes_on took broke g.met.E.Ear.took_both (left old) (left new) c.hear_blocks.new.sink (g.E.Ear.faults ear) (g.E.Ear.faults then) ear c.hear_blocks.new.ear then whole c.in_ok-hear_blocks.ensures.ended cause c.in-Err-finish.ensures.stopped)
+
+pub returns-in-Ok-clause-taken : goal.returns-in-Ok-clause-taken
+returns-in-Ok-clause-taken g c =
+    let left = g.S.Source.left in
+    carried (λ x y. Takes (left x) (left y)) c.new-reader.result.source.now c.args.input.now c.hear_blocks.new.reader.source.now _ (sym c.new-reader.ensures.source) (search rules)
+    (takes_more _ _ _ c.open.ensures.taken c.hear_blocks.ensures.taken)
+
+pub returns-in-Err-finish-clause-taken : goal.returns-in-Err-finish-clause-taken
+returns-in-Err-finish-clause-taken g c =
+    let left = g.S.Source.left in
+    carried (λ x y. Takes (left x) (left y)) c.new-reader.result.source.now c.args.input.now c.hear_blocks.new.reader.source.now _ (sym c.new-reader.ensures.source) (search rules)
+    (takes_more _ _ _ c.open.ensures.taken c.hear_blocks.ensures.taken)

@@ -28,3 +28,6 @@ returns-in-Ok-clause-ends g c =
     subst (λ (e : Ending). Ends (Damage c.args.words.now) e before after) (sym c.damaged.ensures)
     (damaged c.args.words.now c.damage.result before after
     (subst (λ (hits : List Hit). Damaged hits before after c.damage.result) (c.as_slice.ensures.value ∙ c.in-Ok.ensures.hits) told))
+
+pub returns-in-Ok-clause-taken : goal.returns-in-Ok-clause-taken
+returns-in-Ok-clause-taken g c = c.damage.ensures.taken

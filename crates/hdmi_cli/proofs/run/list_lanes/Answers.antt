@@ -51,3 +51,12 @@ returns-in-Err-clause-same g c =
     c.args.lister.now c.hear_capture.new.ear (g.L.Ear.faults c.args.lister.now) (g.L.Ear.faults c.hear_capture.new.ear) c.in-Err.error =
     record { bad = c.in-Err.ensures.bad; read = c.in-Err.ensures.read; broken = c.in-Err.ensures.broken } in
     kept_unheard g.H.Hears.grammar _ _ g.L.Lister.name _ _ _ _ c.args.lister.now c.hear_capture.new.ear _ _ c.in-Err.error g.met.L.Lister.keeps g.met.L.Lister.keeps_broken c.in-Err.ensures.some unheard
+
+pub returns-in-Ok-clause-taken : goal.returns-in-Ok-clause-taken
+returns-in-Ok-clause-taken g c = c.hear_capture.ensures.taken
+
+pub returns-in-Ok-2-clause-taken : goal.returns-in-Ok-2-clause-taken
+returns-in-Ok-2-clause-taken g c = c.hear_capture.ensures.taken
+
+pub returns-in-Err-clause-taken : goal.returns-in-Err-clause-taken
+returns-in-Err-clause-taken g c = c.hear_capture.ensures.taken

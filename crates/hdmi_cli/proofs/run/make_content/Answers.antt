@@ -38,3 +38,12 @@ returns-clause-ends g c =
     subst (λ (e : Ending). Ends (MakeContent c.args.words.now) e before after) (sym c.unrastered.ensures)
     (raster_ends c.args.words.now c.in-Ok.read.0 c.in-Ok.read.1 c.raster.result c.in-Err.fault before after
     (λ text told. read_contents _ c.read_content.result c.in-Ok.read (c.read_content.ensures.answers text told) c.in-Ok.is) c.raster.ensures.fault c.in-Err.is refl)
+
+pub returns-in-Ok-raster-clause-taken : goal.returns-in-Ok-raster-clause-taken
+returns-in-Ok-raster-clause-taken g c = c.read_content.ensures.taken
+
+pub returns-in-Err-Bad-clause-taken : goal.returns-in-Err-Bad-clause-taken
+returns-in-Err-Bad-clause-taken g c = c.read_content.ensures.taken
+
+pub returns-clause-taken : goal.returns-clause-taken
+returns-clause-taken g c = c.read_content.ensures.taken

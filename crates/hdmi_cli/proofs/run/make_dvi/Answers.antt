@@ -28,3 +28,9 @@ returns-in-Ok-clause-ends g c =
     let accepted : (text : List ℕ) → before.left ≡ Some text → dvi_reads_as text ≡ accepts c.in-Ok.stream = λ text told. search rules in
     stream_ends DviSpells (MakeDvi c.args.words.now) (tap_asked c.args.words.now) c.in-Ok.stream c.write_dvi.result before after
     (λ text o told made. makes_dvi c.args.words.now c.in-Ok.stream text o (accepted text told) made) (λ parts. parts) (λ reads. reads) (search rules) (subst (λ (t : Tap). StreamEnds DviSpells t c.in-Ok.stream c.write_dvi.result (g.K.Sink.held c.args.output.now) (g.K.Sink.held c.write_dvi.new.output) (g.K.Sink.faults c.args.output.now) (g.K.Sink.faults c.write_dvi.new.output)) c.tap_of.ensures c.write_dvi.ensures.ends)
+
+pub returns-in-Ok-clause-taken : goal.returns-in-Ok-clause-taken
+returns-in-Ok-clause-taken g c = c.read_dvi.ensures.taken
+
+pub returns-in-Err-Bad-clause-taken : goal.returns-in-Err-Bad-clause-taken
+returns-in-Err-Bad-clause-taken g c = c.read_dvi.ensures.taken

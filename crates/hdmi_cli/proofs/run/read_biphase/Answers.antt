@@ -12,3 +12,6 @@ returns-clause-ends g c =
     let e = c.list_biphase.ensures in
     subst (λ (ending : Ending). Ends ReadBiphase ending before after) (sym c.listed.ensures)
     (frames_end c.list_biphase.result before after (record { whole = e.whole; ended = e.ended; stopped = e.stopped; caused = e.caused }))
+
+pub returns-clause-taken : goal.returns-clause-taken
+returns-clause-taken g c = c.list_biphase.ensures.taken

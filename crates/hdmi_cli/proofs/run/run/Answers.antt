@@ -4,9 +4,14 @@ use Rattle.hdmi_cli.specs.Listings.{link_listing, content_listing}
 use Rattle.hdmi_cli.proofs.Ends.{says}
 use Rattle.hdmi_cli.proofs.Exact.{check_is_exact}
 use Rattle.hdmi_cli.proofs.Headline.{headlined, headlined_anywhere, dvi_headlined}
+use Rattle.hdmi_cli.proofs.RelayAgain.{relay_again}
+use Rattle.hdmi_cli.proofs.RelayClean.{relay_passes}
 use Rattle.hdmi_cli.proofs.RelayHeadline.{relay_headlined, relay_headlined_anywhere}
+use Rattle.hdmi_cli.proofs.RelaySettles.{relay_agrees, relay_settles}
 use Rattle.hdmi_cli.proofs.TrackHeadline.{tracks_as_link}
+use Rattle.hdmi_cli.proofs.TrackSlip.{tracked_across}
 use Rattle.hdmi_cli.proofs.Pictures.{packeted, packeted_anywhere, pictured, pictured_anywhere}
+use Rattle.hdmi_cli.proofs.Sounds.{sounded, sounded_anywhere}
 use Rattle.hdmi_cli.proofs.run.run.Goals as goal
 
 pub returns-clause-status : goal.returns-clause-status
@@ -176,6 +181,12 @@ returns-clause-track_headline_anywhere g c =
     let after = seen (g.S.Source.left c.carry_out-ending.new.input) (g.S.Source.faults c.carry_out-ending.new.input) (g.K.Sink.held c.carry_out-ending.new.output) (g.K.Sink.faults c.carry_out-ending.new.output) in
     headlined_anywhere link_listing RecoverTrack tracks_as_link c.args.words.now c.carry_out-ending.result before after c.status.result c.carry_out-ending.ensures.ends c.status.ensures
 
+pub returns-clause-track_slip : goal.returns-clause-track_slip
+returns-clause-track_slip g c =
+    let before = seen (g.S.Source.left c.args.input.now) (g.S.Source.faults c.args.input.now) (g.K.Sink.held c.args.output.now) (g.K.Sink.faults c.args.output.now) in
+    let after = seen (g.S.Source.left c.carry_out-ending.new.input) (g.S.Source.faults c.carry_out-ending.new.input) (g.K.Sink.held c.carry_out-ending.new.output) (g.K.Sink.faults c.carry_out-ending.new.output) in
+    tracked_across c.args.words.now c.carry_out-ending.result before after c.status.result c.carry_out-ending.ensures.ends c.status.ensures
+
 pub returns-clause-dvi_headline : goal.returns-clause-dvi_headline
 returns-clause-dvi_headline g c =
     let before = seen (g.S.Source.left c.args.input.now) (g.S.Source.faults c.args.input.now) (g.K.Sink.held c.args.output.now) (g.K.Sink.faults c.args.output.now) in
@@ -193,3 +204,42 @@ returns-clause-relay_headline_anywhere g c =
     let before = seen (g.S.Source.left c.args.input.now) (g.S.Source.faults c.args.input.now) (g.K.Sink.held c.args.output.now) (g.K.Sink.faults c.args.output.now) in
     let after = seen (g.S.Source.left c.carry_out-ending.new.input) (g.S.Source.faults c.carry_out-ending.new.input) (g.K.Sink.held c.carry_out-ending.new.output) (g.K.Sink.faults c.carry_out-ending.new.output) in
     relay_headlined_anywhere c.relayed_account.ensures c.args.words.now c.carry_out-ending.result before after c.status.result c.carry_out-ending.ensures.ends c.status.ensures
+
+pub returns-clause-biphase_headline : goal.returns-clause-biphase_headline
+returns-clause-biphase_headline g c =
+    let before = seen (g.S.Source.left c.args.input.now) (g.S.Source.faults c.args.input.now) (g.K.Sink.held c.args.output.now) (g.K.Sink.faults c.args.output.now) in
+    let after = seen (g.S.Source.left c.carry_out-ending.new.input) (g.S.Source.faults c.carry_out-ending.new.input) (g.K.Sink.held c.carry_out-ending.new.output) (g.K.Sink.faults c.carry_out-ending.new.output) in
+    sounded c.args.words.now c.carry_out-ending.result before after c.status.result c.carry_out-ending.ensures.ends c.status.ensures
+
+pub returns-clause-biphase_headline_anywhere : goal.returns-clause-biphase_headline_anywhere
+returns-clause-biphase_headline_anywhere g c =
+    let before = seen (g.S.Source.left c.args.input.now) (g.S.Source.faults c.args.input.now) (g.K.Sink.held c.args.output.now) (g.K.Sink.faults c.args.output.now) in
+    let after = seen (g.S.Source.left c.carry_out-ending.new.input) (g.S.Source.faults c.carry_out-ending.new.input) (g.K.Sink.held c.carry_out-ending.new.output) (g.K.Sink.faults c.carry_out-ending.new.output) in
+    sounded_anywhere c.args.words.now c.carry_out-ending.result before after c.status.result c.carry_out-ending.ensures.ends c.status.ensures
+
+pub returns-clause-relay_clean : goal.returns-clause-relay_clean
+returns-clause-relay_clean g c =
+    let before = seen (g.S.Source.left c.args.input.now) (g.S.Source.faults c.args.input.now) (g.K.Sink.held c.args.output.now) (g.K.Sink.faults c.args.output.now) in
+    let after = seen (g.S.Source.left c.carry_out-ending.new.input) (g.S.Source.faults c.carry_out-ending.new.input) (g.K.Sink.held c.carry_out-ending.new.output) (g.K.Sink.faults c.carry_out-ending.new.output) in
+    relay_passes c.whole_relayed.ensures c.args.words.now c.carry_out-ending.result before after c.status.result c.carry_out-ending.ensures.ends c.status.ensures
+
+pub returns-clause-relay_again : goal.returns-clause-relay_again
+returns-clause-relay_again g c =
+    let before = seen (g.S.Source.left c.args.input.now) (g.S.Source.faults c.args.input.now) (g.K.Sink.held c.args.output.now) (g.K.Sink.faults c.args.output.now) in
+    let after = seen (g.S.Source.left c.carry_out-ending.new.input) (g.S.Source.faults c.carry_out-ending.new.input) (g.K.Sink.held c.carry_out-ending.new.output) (g.K.Sink.faults c.carry_out-ending.new.output) in
+    relay_again c.relayed_again.ensures c.args.words.now c.carry_out-ending.result before after c.status.result c.carry_out-ending.ensures.ends c.status.ensures
+
+pub returns-clause-relay_clean_columns : goal.returns-clause-relay_clean_columns
+returns-clause-relay_clean_columns g c =
+    let before = seen (g.S.Source.left c.args.input.now) (g.S.Source.faults c.args.input.now) (g.K.Sink.held c.args.output.now) (g.K.Sink.faults c.args.output.now) in
+    let after = seen (g.S.Source.left c.carry_out-ending.new.input) (g.S.Source.faults c.carry_out-ending.new.input) (g.K.Sink.held c.carry_out-ending.new.output) (g.K.Sink.faults c.carry_out-ending.new.output) in
+    relay_agrees c.whole_relayed.ensures c.args.words.now c.carry_out-ending.result before after c.status.result c.carry_out-ending.ensures.ends c.status.ensures
+
+pub returns-clause-relay_settles : goal.returns-clause-relay_settles
+returns-clause-relay_settles g c =
+    let before = seen (g.S.Source.left c.args.input.now) (g.S.Source.faults c.args.input.now) (g.K.Sink.held c.args.output.now) (g.K.Sink.faults c.args.output.now) in
+    let after = seen (g.S.Source.left c.carry_out-ending.new.input) (g.S.Source.faults c.carry_out-ending.new.input) (g.K.Sink.held c.carry_out-ending.new.output) (g.K.Sink.faults c.carry_out-ending.new.output) in
+    relay_settles c.relayed_again.ensures c.args.words.now c.carry_out-ending.result before after c.status.result c.carry_out-ending.ensures.ends c.status.ensures
+
+pub returns-clause-taken : goal.returns-clause-taken
+returns-clause-taken g c = c.carry_out-ending.ensures.taken

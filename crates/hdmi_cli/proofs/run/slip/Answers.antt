@@ -13,3 +13,6 @@ returns-clause-ends g c =
     subst (λ (ending : Ending). Ends (Slip c.args.words) ending before after) (sym c.slipped.ensures)
     (slipped_ends c.args.words c.slip.result before after
     (record { done = e.done; bad = e.bad; part = e.part; place = e.place; unwritten = e.unwritten; ended = e.ended; read_cause = e.read_cause; write_cause = e.write_cause }))
+
+pub returns-clause-taken : goal.returns-clause-taken
+returns-clause-taken g c = c.slip.ensures.taken

@@ -42,3 +42,15 @@ returns-clause-ends g c =
     let b = c.in-Err-Ear.ensures.broken c.in-Err-Ear.field-0-is in
     subst (λ (e : Ending). Ends Relay e before after) (sym (c.untaken.ensures ∙ ap relay_ending c.trouble.ensures))
     (broken_sent before after c.open-relay.result c.hear_capture.new.ear b.1 b.2 b.3 b.4 c.open-relay.ensures.stands c.open-relay.ensures.trouble (keeps_itself (g.K.Sink.held c.args.output.now)) b.5 b.6)
+
+pub returns-in-Ok-clause-taken : goal.returns-in-Ok-clause-taken
+returns-in-Ok-clause-taken g c = c.hear_capture.ensures.taken
+
+pub returns-in-Ok-2-clause-taken : goal.returns-in-Ok-2-clause-taken
+returns-in-Ok-2-clause-taken g c = c.hear_capture.ensures.taken
+
+pub returns-in-Err-Bad-clause-taken : goal.returns-in-Err-Bad-clause-taken
+returns-in-Err-Bad-clause-taken g c = c.hear_capture.ensures.taken
+
+pub returns-clause-taken : goal.returns-clause-taken
+returns-clause-taken g c = c.hear_capture.ensures.taken

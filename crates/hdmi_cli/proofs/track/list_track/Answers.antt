@@ -47,3 +47,12 @@ returns-in-Err-clause-output_later g c =
     let kept = kept_short _ _ (λ (l : TrackLister g.row.K.Denot). l.lister.sink.ghost_name) (λ x y h t. t.0) (λ x y e l. l.0) _ _ first c.follow_capture.new.ear c.in-Err.error c.in-Err.ensures.short in
     let same : c.in-Err.output-in-Err-1-own.given.0 ≡ c.follow_capture.new.ear.lister.sink.now = c.in-Err.output-in-Err-1-own.given.1 (sym (kept ∙ c.open.ensures.same)) in
     between (λ x y. g.K.Sink.faults x ≤ g.K.Sink.faults y) c.args.output.now _ _ _ c.open.ensures.sink same c.follow_capture.ensures.ear_later
+
+pub returns-in-Ok-clause-taken : goal.returns-in-Ok-clause-taken
+returns-in-Ok-clause-taken g c = c.follow_capture.ensures.taken
+
+pub returns-in-Ok-2-clause-taken : goal.returns-in-Ok-2-clause-taken
+returns-in-Ok-2-clause-taken g c = c.follow_capture.ensures.taken
+
+pub returns-in-Err-clause-taken : goal.returns-in-Err-clause-taken
+returns-in-Err-clause-taken g c = c.follow_capture.ensures.taken

@@ -2,6 +2,7 @@ use Rattle.std.proofs.Common.{rules, ◌+◌, ◌∙◌, ℕ, List, sym, subst}
 use Rattle.std.proofs.lemmas.Result.{err_from_is_err_and}
 use Rattle.capture_file.specs.Captures.{CanSay}
 use Rattle.hdmi_cli.specs.Tracking.{AreFollowed}
+use Rattle.hdmi_cli.proofs.Consumed.{takes_more}
 use Rattle.hdmi_cli.proofs.Trackings.{follows_so}
 use Rattle.hdmi_cli.proofs.tracking.follow_blocks.Goals as goal
 
@@ -27,9 +28,16 @@ loop-preserved g c =
       heard = λ from first h.
           follows_so g.E.TrackEar.tracked o.version v.version o.bits v.bits (o.block + 1) v.block from (g.S.Source.left v.source.now) c.follow_block.new.sink first c.follow_block.new.ear
           c.follow_block.ensures.version c.follow_block.ensures.bits (e.block t) (e.heard from first (i.heard from first h) t);
+      taken = takes_more _ _ _ i.taken c.follow_block.ensures.taken;
       input_later = search rules;
       ear_later = search rules;
     }
 
 pub returns-clause-whole : goal.returns-clause-whole
 returns-clause-whole g c = λ from first h. c.in_ok-follow_block.ensures.whole from first (c.loop.invariant.heard from first h) c.if-branch.false
+
+pub returns-in_err-follow_block-clause-taken : goal.returns-in_err-follow_block-clause-taken
+returns-in_err-follow_block-clause-taken g c = takes_more _ _ _ c.loop.invariant.taken c.follow_block.ensures.taken
+
+pub returns-clause-taken : goal.returns-clause-taken
+returns-clause-taken g c = takes_more _ _ _ c.loop.invariant.taken c.follow_block.ensures.taken

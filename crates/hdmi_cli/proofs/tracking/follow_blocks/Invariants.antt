@@ -1,6 +1,7 @@
 use Rattle.std.proofs.Common.{◌≡◌, ◌≤◌, ◌-◌, true, ℕ, List, Option}
 use Rattle.capture_file.specs.Captures.{CanSay}
 use Rattle.hdmi_cli.specs.Tracking.{AreFollowed, FollowedOn, HasFollowed}
+use Rattle.hdmi_cli.proofs.Consumed.{Takes}
 use Rattle.hdmi_cli.proofs.tracking.follow_blocks.Given as goal
 
 abbrev pub invariant-loop : goal.invariant-loop
@@ -12,6 +13,7 @@ invariant-loop g l = record {
   fed : AreFollowed l.sink l.reader.bits l.reader.block;
   heard : (from : Option (List ℕ)) → FollowedOn g.E.TrackEar.tracked (HasFollowed g.E.TrackEar.tracked l.initial.reader.version l.initial.reader.bits l.initial.reader.block from (g.S.Source.left l.initial.reader.source.now) l.initial.sink) l.initial.ear (λ first.
       HasFollowed g.E.TrackEar.tracked l.reader.version l.reader.bits l.reader.block from (g.S.Source.left l.reader.source.now) l.sink first l.ear);
+  taken : Takes (g.S.Source.left l.initial.reader.source.now) (g.S.Source.left l.reader.source.now);
   input_later : g.S.Source.faults l.initial.reader.source.now ≤ g.S.Source.faults l.reader.source.now;
   ear_later : g.E.Ear.faults l.initial.ear ≤ g.E.Ear.faults l.ear;
 }

@@ -3,6 +3,7 @@ use Rattle.std.proofs.lemmas.Result.{err_from_is_err_and}
 use Rattle.hdmi_cli.specs.Hearings.{IsCausedBy}
 use Rattle.hdmi_cli.specs.Tracking.{IsUntakenOn, StopsOn}
 use Rattle.hdmi_cli.specs.declared.hearing.HearError.{HearError}
+use Rattle.hdmi_cli.proofs.Consumed.{Takes, takes_more}
 use Rattle.hdmi_cli.proofs.Hearings.{carried}
 use Rattle.hdmi_cli.proofs.Trackings.{caused_later, followed_head, followed_whole, headless_on, unended_on}
 use Rattle.hdmi_cli.proofs.tracking.follow_capture.Goals as goal
@@ -68,6 +69,24 @@ returns-in_err-follow_blocks g c =
       ended = rw p.1 tt;
       short = rw (p.1, p.2) (carried (λ x y. StopsOn tracked lost (left x) (left y) ear then e) old c.args.input.now new _ was (search rules) short);
       caused = rw (p.1, p.2) (carried (λ x y. IsCausedBy (g.S.Source.faults x) (g.S.Source.faults y) (g.E.Ear.faults ear) (g.E.Ear.faults then) e) old c.args.input.now new _ was (search rules) cause);
+      taken = carried (λ x y. Takes (left x) (left y)) old c.args.input.now new _ was (search rules) (takes_more _ _ _ c.open.ensures.taken c.follow_blocks.ensures.taken);
       input_later = search rules;
       ear_later = search rules;
     }
+
+pub returns-in-Err-clause-taken : goal.returns-in-Err-clause-taken
+returns-in-Err-clause-taken g c =
+    let left = g.S.Source.left in
+    carried (λ x y. Takes (left x) (left y)) c.new-reader.result.source.now c.args.input.now c.open.new.self.source.now _ (sym c.new-reader.ensures.source) (search rules) c.open.ensures.taken
+
+pub returns-in-Ok-clause-taken : goal.returns-in-Ok-clause-taken
+returns-in-Ok-clause-taken g c =
+    let left = g.S.Source.left in
+    carried (λ x y. Takes (left x) (left y)) c.new-reader.result.source.now c.args.input.now c.follow_blocks.new.reader.source.now _ (sym c.new-reader.ensures.source) (search rules)
+    (takes_more _ _ _ c.open.ensures.taken c.follow_blocks.ensures.taken)
+
+pub returns-in-Err-finish-clause-taken : goal.returns-in-Err-finish-clause-taken
+returns-in-Err-finish-clause-taken g c =
+    let left = g.S.Source.left in
+    carried (λ x y. Takes (left x) (left y)) c.new-reader.result.source.now c.args.input.now c.follow_blocks.new.reader.source.now _ (sym c.new-reader.ensures.source) (search rules)
+    (takes_more _ _ _ c.open.ensures.taken c.follow_blocks.ensures.taken)

@@ -1,0 +1,140 @@
+-- What `relay` makes of what it wrote: the same from the last twelve columns of its first control period on.
+use Rattle.std.proofs.Common.{◌≡◌, ◌<◌, ◌≤◌, ℕ, suc, zero, ◌-◌, true, List, [], ◌∷◌, length, map, drop, ap, sym, ◌∙◌, subst, inl, inr, refl, arith, length-drop}
+use Rattle.std.specs.Prelude.{Option, Some}
+use Rattle.std.specs.Io.KnownBytes.{Appends}
+use Rattle.std.proofs.lemmas.List.{drop-append-le, append-nil, length-map}
+use Rattle.tmds_word.specs.Column.{Column}
+use Rattle.capture_file.specs.Taps.{tapped_capture}
+use Rattle.island_pack.specs.Conforming.{IsConforming, conforms}
+use Rattle.island_pack.specs.Periods.{ControlRun, Period, control, video, island, values_of, period_columns, columns_of}
+use Rattle.island_pack.specs.Spelling.{control_column, SpellsBy, Spells, freely}
+use Rattle.island_pack.proofs.Runs.{values_longest}
+use Rattle.period_grammar.specs.Exact.{IsFront, faultless}
+use Rattle.period_grammar.specs.Heard.{heard}
+use Rattle.period_grammar.specs.Things.{Thing}
+use Rattle.link_sink.specs.Account.{account}
+use Rattle.link_sink.proofs.exact.Arrivals.{front_is_clean}
+use Rattle.relay.specs.Own.{RelayedAgain, cut_first}
+use Rattle.relay.specs.Relayed.{relayed}
+use Rattle.relay.proofs.Conforming.{relayed_conforms}
+use Rattle.relay.proofs.Own.{freely_spelled, spelled_long}
+use Rattle.command_line.specs.Commands.{IsCommand}
+use Rattle.command_line.specs.declared.command.Command.TheVariants.{Relay}
+use Rattle.hdmi_cli.specs.Endings.{Devices, RunEnds, Unless, status_of}
+use Rattle.hdmi_cli.specs.Outcome.{Outcome, Relays}
+use Rattle.hdmi_cli.specs.RelayClauses.{ComesBack, IsRelayedAgain, past_twelve}
+use Rattle.hdmi_cli.specs.Relays.{IsRelayed, relay_status, whole_tap}
+use Rattle.hdmi_cli.specs.declared.ending.Ending.{Ending}
+use Rattle.hdmi_cli.proofs.Headline.{run_ended}
+use Rattle.hdmi_cli.proofs.OwnCapture.{blue_of, green_of, red_of, own_aligned, own_captured, own_nowhere}
+use Rattle.hdmi_cli.proofs.RelayHeadline.{capture_relay, keeps_of, nowhere_relay}
+
+-- What is spelled without the first columns.
+
+map-drop : (a : ℕ) (vs : List ℕ) → map control_column (drop a vs) ≡ drop a (map control_column vs)
+map-drop zero vs = refl
+map-drop (suc a) [] = refl
+map-drop (suc a) (v ∷ vs) = map-drop a vs
+
+cut_spelled : (a : ℕ) (runs : List ControlRun) (ps : List Period) (cs : List Column) → a ≤ length (values_of runs) → SpellsBy freely (control runs ∷ ps) cs
+    → SpellsBy freely (cut_first a (control runs ∷ ps)) (drop a cs)
+unfolding cut_first
+cut_spelled a runs ps cs le h =
+    let long : length h.0 ≡ length (values_of runs) = ap length h.3 ∙ length-map (values_of runs) control_column in (
+      drop a h.0,
+      h.1,
+      ap (drop a) h.2 ∙ drop-append-le a h.0 h.1 (omega (arith, long, le)),
+      ap (drop a) h.3 ∙ sym (map-drop a (values_of runs)) ∙ ap (map control_column) (sym (values_longest (drop a (values_of runs)))),
+      h.4,
+    )
+
+-- With an edge.
+
+-- a period behind the first has columns
+columns_more : (runs : List ControlRun) (q : Period) (ps : List Period) → IsConforming (control runs ∷ (q ∷ ps)) → length (values_of runs) < columns_of (control runs ∷ (q ∷ ps))
+unfolding conforms columns_of period_columns
+columns_more runs (control more) ps good = absurd cc
+columns_more runs (video bytes) ps good = omega arith
+columns_more runs (island x) ps good = omega arith
+
+pub comes_back : RelayedAgain → (things : List Thing) (runs : List ControlRun) (q : Period) (ps : List Period) (columns : List Column) (o : Outcome) (status : ℕ) (old new : Option (List ℕ))
+    → relayed things ≡ control runs ∷ (q ∷ ps) → columns_of (relayed things) ≤ 20000000 → Spells (relayed things) columns → o.status ≡ status → Appends old new o.output
+    → Relays (tapped_capture columns whole_tap) o → ComesBack runs (q ∷ ps) status old new
+comes_back law things runs q ps columns o status old new are few spelled is written does =
+    let all = control runs ∷ (q ∷ ps) in
+    let good : IsConforming all = subst (λ (xs : List Period). IsConforming xs) are (relayed_conforms things) in
+    let own_spelled : Spells all columns = subst (λ (xs : List Period). Spells xs columns) are spelled in
+    let free = freely_spelled all columns own_spelled in
+    let many = spelled_long all columns free in
+    let size = ap columns_of are in
+    let more = columns_more runs q ps good in
+    let own = own_aligned runs q ps columns good own_spelled (omega (arith, many, more)) in
+    let a = own.a in
+    let from = own.from in
+    let m = length (drop a columns) in
+    let told = account all columns columns a m in
+    let rest = length-drop a columns in
+    let back : relayed told ≡ cut_first a all =
+    ap (λ xs. relayed (account xs columns columns a m)) (sym are) ∙ law things runs (q ∷ ps) are columns spelled a m from (omega (arith, rest)) ∙ ap (cut_first a) are in
+    let cut = cut_spelled a runs (q ∷ ps) columns (omega (arith, from)) free in
+    let cut_many = spelled_long (cut_first a all) (drop a columns) cut in
+    let back_many = ap columns_of back in
+    let front : IsFront (drop a columns) = record {
+      periods = cut_first a all;
+      spelled = drop a columns;
+      conforming = subst (λ (xs : List Period). IsConforming xs) back (relayed_conforms told);
+      spells = cut;
+      rest = [];
+      front = sym (append-nil (drop a columns));
+    } in
+    let same : heard (drop a columns) ≡ told = ap heard (sym own.aligned) ∙ own.told in
+    let quiet : faultless told ≡ true = subst (λ (ts : List Thing). faultless ts ≡ true) same (front_is_clean (drop a columns) front) in
+    let captured = own_captured columns (omega (arith, many, size, few)) in
+    elim (capture_relay told (blue_of columns) (green_of columns) (red_of columns) own.d own.e own.f (tapped_capture columns whole_tap) o captured own.first own.told does) [
+      | inl long ↦ let passes = long.passes in absurd (omega (arith, passes, back_many, cut_many, rest, many, size, few))
+      | inr sent ↦
+          let twelve : a ≡ past_twelve runs = omega (arith, from) in
+          record {
+            status_is = sym is ∙ sent.status ∙ ap relay_status quiet;
+            things = told;
+            same = back ∙ ap (λ k. cut_first k all) twelve;
+            output = o.output;
+            relayed_is = record { columns = sent.columns; few = sent.few; spelled = sent.spelled; output_is = sent.output };
+            written = written;
+          }
+    ]
+
+-- With none.
+
+pub stays_nowhere : (things : List Thing) (runs : List ControlRun) (columns : List Column) (o : Outcome) (status : ℕ) (old new : Option (List ℕ))
+    → relayed things ≡ control runs ∷ [] → columns_of (relayed things) ≤ 20000000 → Spells (relayed things) columns → o.status ≡ status → Appends old new o.output
+    → Relays (tapped_capture columns whole_tap) o → IsRelayedAgain (control runs ∷ []) status old new
+stays_nowhere things runs columns o status old new are few spelled is written does =
+    let all = control runs ∷ [] in
+    let good : IsConforming all = subst (λ (xs : List Period). IsConforming xs) are (relayed_conforms things) in
+    let own_spelled : Spells all columns = subst (λ (xs : List Period). Spells xs columns) are spelled in
+    let many = spelled_long all columns (freely_spelled all columns own_spelled) in
+    let size = ap columns_of are in
+    let captured = own_captured columns (omega (arith, many, size, few)) in
+    let made = nowhere_relay (blue_of columns) (green_of columns) (red_of columns) (tapped_capture columns whole_tap) o captured (own_nowhere runs columns good own_spelled) does in
+    (sym is ∙ made.0, keeps_of old new (subst (λ out. Appends old new out) made.1 written))
+
+-- Both.
+
+by_periods : RelayedAgain → (things : List Thing) (ps : List Period) (columns : List Column) (o : Outcome) (status : ℕ) (old new : Option (List ℕ)) → IsConforming ps
+    → relayed things ≡ ps → columns_of (relayed things) ≤ 20000000 → Spells (relayed things) columns → o.status ≡ status → Appends old new o.output
+    → Relays (tapped_capture columns whole_tap) o → IsRelayedAgain ps status old new
+unfolding conforms
+by_periods law things [] columns o status old new good are few spelled is written does = absurd cc
+by_periods law things (control runs ∷ []) columns o status old new good are few spelled is written does = stays_nowhere things runs columns o status old new are few spelled is written does
+by_periods law things (control runs ∷ (q ∷ ps)) columns o status old new good are few spelled is written does = comes_back law things runs q ps columns o status old new are few spelled is written does
+by_periods law things (video bytes ∷ ps) columns o status old new good are few spelled is written does = absurd cc
+by_periods law things (island x ∷ ps) columns o status old new good are few spelled is written does = absurd cc
+
+pub relay_again : RelayedAgain → (words : List (List ℕ)) (ending : Ending) (before after : Devices) (status : ℕ) → RunEnds words ending before after → status ≡ status_of ending → IsCommand words Relay
+    → (things : List Thing) (output : List ℕ) → IsRelayed things output → before.left ≡ Some output → Unless (IsRelayedAgain (relayed things)) status before after
+relay_again law words ending before after status ends is named things output sent left =
+    run_ended (IsRelayedAgain (relayed things)) Relay words ending before after status ends is named (λ answers.
+    let answer = answers output left in
+    by_periods law things (relayed things) sent.columns answer.outcome (status_of ending) before.held after.held (relayed_conforms things) refl sent.few sent.spelled answer.status answer.written
+    (subst (λ (bytes : List ℕ). Relays bytes answer.outcome) sent.output_is answer.does))

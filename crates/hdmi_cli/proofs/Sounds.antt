@@ -1,0 +1,115 @@
+-- The samples that `recover biphase K` writes of a tapped stream are those of the packets that came, each with at most one damaged word as it was sent.
+use Rattle.std.proofs.Common.{◌≡◌, ◌≤◌, ℕ, ◌+◌, List, [], ◌∷◌, ◌++◌, length, refl, ap, ap₂, sym, ◌∙◌, subst, append-nil}
+use Rattle.std.specs.Prelude.{flat_map, Option, Some}
+use Rattle.std.specs.Io.KnownBytes.{Appends}
+use Rattle.std.proofs.lemmas.Grind.{flat_map-append}
+use Rattle.tmds_word.specs.Column.{Column}
+use Rattle.audio_out.specs.Frames.{biphase}
+use Rattle.island_pack.specs.Sparse.{IsSparseInPayload}
+use Rattle.period_grammar.specs.Things.{Thing, run, line, word, short, preamble, noise, empty, code, long_line, cut, open_island, packet, close_island, symbols, mended, lost, long_island, broken, guard}
+use Rattle.link_sink.specs.Account.{account}
+use Rattle.link_sink.specs.Laws.{CameOf}
+use Rattle.listing_laws.specs.ListingLaws.{Each, unlike_in}
+use Rattle.listing_laws.specs.PacketLaws.{IsAsSent, Placed, came_packet, placed, told_packet, told_packets}
+use Rattle.listing_laws.proofs.PacketsAsSent.{packets_as_sent}
+use Rattle.listing_laws.proofs.Told.{packets_come_back}
+use Rattle.biphase_listing.specs.StreamText.{biphase_text, samples_at, told_samples}
+use Rattle.biphase_listing.proofs.Payload.{samples_of_payload}
+use Rattle.command_line.specs.Commands.{IsCommand}
+use Rattle.command_line.specs.declared.command.Command.TheVariants.{RecoverBiphase}
+use Rattle.hdmi_cli.specs.Endings.{Devices, RunEnds, Unless, status_of}
+use Rattle.hdmi_cli.specs.Headline.{TappedStream, IsTapped, AlignsBy, IsFirstOf, IsRecovered, IsRecoveredBy, aligned_of}
+use Rattle.hdmi_cli.specs.Listings.{biphase_listing}
+use Rattle.hdmi_cli.specs.Sounds.{AreSamples, samples_sent, samples_told}
+use Rattle.hdmi_cli.specs.declared.ending.Ending.{Ending}
+use Rattle.hdmi_cli.proofs.Headline.{headlined, headlined_anywhere}
+use Rattle.hdmi_cli.proofs.Pictures.{unless_so, within_received}
+
+-- what is told has the samples of the packets that are told
+
+of_thing : (pair : ℕ) (thing : Thing) → samples_at pair thing ≡ flat_map (samples_told pair) (told_packet thing)
+unfolding samples_at
+of_thing pair (run x y) = refl
+of_thing pair (line x) = refl
+of_thing pair (word x y) = refl
+of_thing pair (short x) = refl
+of_thing pair (preamble x) = refl
+of_thing pair (noise x) = refl
+of_thing pair (empty x) = refl
+of_thing pair (code x y) = refl
+of_thing pair (long_line x) = refl
+of_thing pair (cut x) = refl
+of_thing pair (open_island x y) = refl
+of_thing pair (packet p v x) = sym (append-nil (samples_at pair (packet p v x)))
+of_thing pair (close_island x y) = refl
+of_thing pair (symbols x y) = refl
+of_thing pair (mended x y z) = refl
+of_thing pair (lost x y) = refl
+of_thing pair (long_island x) = refl
+of_thing pair (broken x) = refl
+of_thing pair (guard x) = refl
+
+of_things : (pair : ℕ) (things : List Thing) → told_samples pair things ≡ flat_map (samples_told pair) (told_packets things)
+unfolding told_samples told_packets
+of_things pair [] = refl
+of_things pair (thing ∷ things) =
+    ap₂ (λ xs ys. xs ++ ys) (of_thing pair thing) (of_things pair things)
+    ∙ sym (flat_map-append (samples_told pair) (told_packet thing) (told_packets things))
+
+-- each packet that was sent
+
+abbrev IsSent : List Column → List Column → ℕ → Placed → Type 0
+IsSent sent received a k = unlike_in sent received k ≤ 1 → IsAsSent k.packet (came_packet sent received a k).packet (came_packet sent received a k).verdicts
+
+abbrev HasSamples : ℕ → List Column → List Column → ℕ → Placed → Type 0
+HasSamples pair sent received a k = unlike_in sent received k ≤ 1 → samples_told pair (came_packet sent received a k) ≡ samples_sent pair k
+
+each_has : (pair : ℕ) (sent received : List Column) (a : ℕ) (ks : List Placed) → Each (IsSent sent received a) ks → Each (HasSamples pair sent received a) ks
+each_has pair sent received a [] h = tt
+each_has pair sent received a (k ∷ ks) h =
+    let told = came_packet sent received a k in (
+      λ few. samples_of_payload pair told.packet k.packet told.verdicts told.column k.at (h.0 few).header (h.0 few).bodies (h.0 few).kept,
+      each_has pair sent received a ks h.1,
+    )
+
+-- what is recovered has the samples that came
+samples_are : (pair : ℕ) (t : TappedStream) (d e f a status : ℕ) (old new : Option (List ℕ)) → CameOf t.periods t.sent t.received
+    → IsRecovered (biphase_listing pair) t d e f a status old new → AreSamples pair t d e f a status old new
+unfolding biphase_text
+samples_are pair t d e f a status old new came h =
+    let aligned = aligned_of t d e f in
+    let told =
+    of_things pair (account t.periods t.sent t.received a (length aligned))
+    ∙ ap (flat_map (samples_told pair))
+    (packets_come_back t.periods t.sent t.received came a (length aligned) h.accounted.ends (within_received t.periods t.sent t.received aligned a came h.accounted)) in
+    record {
+      accounted = h.accounted;
+      begins = h.begins;
+      status_is = h.status_is;
+      written = subst (λ samples. Appends old new (biphase samples)) told h.written;
+      samples = each_has pair t.sent t.received a (placed 0 t.periods) (packets_as_sent t.periods t.sent t.received came a);
+    }
+
+-- of sparse damage of payload alone
+pub sounded : (words : List (List ℕ)) (ending : Ending) (before after : Devices) (status : ℕ) → RunEnds words ending before after → status ≡ status_of ending → (pair : ℕ) → IsCommand words (RecoverBiphase pair)
+    → (t : TappedStream) → IsTapped t → IsSparseInPayload t.periods t.sent t.received → (d e f : ℕ) → IsFirstOf t d e f → before.left ≡ Some t.bytes
+    → Unless (λ s old new. (a : ℕ) × AreSamples pair t d e f a s old new) status before after
+sounded words ending before after status ends is pair named t tapped alone d e f first left =
+    unless_so
+    (λ s old new. (a : ℕ) × IsRecovered (biphase_listing pair) t d e f a s old new)
+    (λ s old new. (a : ℕ) × AreSamples pair t d e f a s old new)
+    status before after
+    (λ h. (h.0, samples_are pair t d e f h.0 status before.held after.held tapped.came h.1))
+    (headlined (biphase_listing pair) (RecoverBiphase pair) (λ t tapped o does. does) words ending before after status ends is named t tapped alone d e f first left)
+
+-- and of damage anywhere
+pub sounded_anywhere : (words : List (List ℕ)) (ending : Ending) (before after : Devices) (status : ℕ) → RunEnds words ending before after → status ≡ status_of ending → (pair : ℕ) → IsCommand words (RecoverBiphase pair)
+    → (t : TappedStream) → IsTapped t → (until : ℕ) → AlignsBy t until → before.left ≡ Some t.bytes
+    → Unless (λ s old new. (d e f : ℕ) × IsFirstOf t d e f × ((a : ℕ) × (a + 12 ≤ until) × AreSamples pair t d e f a s old new)) status before after
+sounded_anywhere words ending before after status ends is pair named t tapped until aligns left =
+    unless_so
+    (IsRecoveredBy (biphase_listing pair) t until)
+    (λ s old new. (d e f : ℕ) × IsFirstOf t d e f × ((a : ℕ) × (a + 12 ≤ until) × AreSamples pair t d e f a s old new))
+    status before after
+    (λ h. (h.0, h.1, h.2, h.3, (h.4.0, h.4.1, samples_are pair t h.0 h.1 h.2 h.4.0 status before.held after.held tapped.came h.4.2)))
+    (headlined_anywhere (biphase_listing pair) (RecoverBiphase pair) (λ t tapped o does. does) words ending before after status ends is named t tapped until aligns left)

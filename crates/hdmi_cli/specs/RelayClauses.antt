@@ -1,0 +1,84 @@
+-- What `relay` writes of a tapped stream, of a clean capture, and of what it wrote itself, and where it passes the limit.
+use Rattle.std.specs.Prelude.{◌≡◌, ◌⊎◌, ◌<◌, ◌≤◌, ℕ, ◌+◌, ◌-◌, true, List, [], ◌∷◌, length, Option}
+use Rattle.std.specs.Io.KnownBytes.{Appends, Keeps}
+use Rattle.tmds_word.specs.Column.{Column}
+use Rattle.capture_file.specs.Taps.{tapped_capture}
+use Rattle.island_pack.specs.Conforming.{IsConforming}
+use Rattle.island_pack.specs.Periods.{ControlRun, Period, control, values_of, columns_of}
+use Rattle.island_pack.specs.Spelling.{SpellsBy, Spells, freely}
+use Rattle.link_sink.specs.Laws.{IsAccounted, BeginColumn}
+use Rattle.period_grammar.specs.Exact.{IsFront, whole_part}
+use Rattle.period_grammar.specs.Cut.{stretches}
+use Rattle.period_grammar.specs.Things.{Thing}
+use Rattle.link_sink.specs.Whole.{ends_long}
+use Rattle.relay.specs.Came.{came}
+use Rattle.relay.specs.Own.{cut_first}
+use Rattle.relay.specs.Relayed.{conformed, relayed}
+use Rattle.hdmi_cli.specs.Headline.{TappedStream, IsFirstOf, IsSentOn, aligned_of}
+use Rattle.hdmi_cli.specs.Relays.{IsRelayed, whole_tap}
+
+-- A tapped stream.
+
+-- what is sent on of a tapped stream, from column a of what came on
+abbrev pub sent_on : TappedStream → ℕ → ℕ → ℕ → ℕ → List Period
+sent_on t d e f a = conformed (came t.periods t.sent t.received a (length (aligned_of t d e f)))
+
+-- it has more than 20,000,000 columns, and nothing is written
+pub record IsTooLong (t : TappedStream) (d e f a status : ℕ) (old new : Option (List ℕ)) : Type 0 where
+  pub accounted : IsAccounted t.periods t.sent t.received (aligned_of t d e f) a
+  pub begins : BeginColumn t.offset t.skews (a + 12) d e f
+  pub passes : 20000000 < columns_of (sent_on t d e f a)
+  pub status_is : status ≡ 3
+  pub unwritten : Keeps old new
+
+-- it is sent on, where it has 20,000,000 columns or fewer
+abbrev pub IsSentWithin : TappedStream → ℕ → ℕ → ℕ → ℕ → ℕ → Option (List ℕ) → Option (List ℕ) → Type 0
+IsSentWithin t d e f a status old new =
+    ((columns_of (sent_on t d e f a) ≤ 20000000) × IsSentOn t d e f a status old new) ⊎ IsTooLong t d e f a status old new
+
+-- the same from the first full alignment on, which is at or before a column
+abbrev pub IsSentWithinBy : TappedStream → ℕ → ℕ → Option (List ℕ) → Option (List ℕ) → Type 0
+IsSentWithinBy t until status old new =
+    (d e f : ℕ) × IsFirstOf t d e f × ((a : ℕ) × (a + 12 ≤ until) × IsSentWithin t d e f a status old new)
+
+-- A clean capture.
+
+-- columns of which `check` says `clean`, and that end in a control period of at least twelve columns
+pub record IsCleanToEnd (cs : List Column) : Type 0 where
+  pub clean : IsFront (whole_part cs)
+  pub ends : ends_long (stretches cs) ≡ true
+
+-- conforming periods are spelled by columns as a source spells them, and by others with bit 3 of lane 0 in packet columns free
+pub record AreAsSent (cs columns : List Column) : Type 0 where
+  pub periods : List Period
+  pub conforming : IsConforming periods
+  pub came : SpellsBy freely periods cs
+  pub spelled : Spells periods columns
+
+-- as many columns of the same periods are written, where they are 20,000,000 or fewer
+abbrev pub IsPassedOn : List Column → ℕ → Option (List ℕ) → Option (List ℕ) → Type 0
+IsPassedOn cs status old new =
+    ((length cs ≤ 20000000) × (status ≡ 0) × ((columns : List Column) × AreAsSent cs columns × Appends old new (tapped_capture columns whole_tap)))
+    ⊎ ((20000000 < length cs) × (status ≡ 3) × Keeps old new)
+
+-- What was relayed.
+
+-- how many columns the first control period has past twelve
+abbrev pub past_twelve : List ControlRun → ℕ
+past_twelve runs = length (values_of runs) - 12
+
+-- what was relayed has an edge, and comes back with its first control period cut to its last twelve columns: some things
+-- are relayed as that, and the capture of it is written
+pub record ComesBack (runs : List ControlRun) (ps : List Period) (status : ℕ) (old new : Option (List ℕ)) : Type 0 where
+  pub status_is : status ≡ 0
+  pub things : List Thing
+  pub same : relayed things ≡ cut_first (past_twelve runs) (control runs ∷ ps)
+  pub output : List ℕ
+  pub relayed_is : IsRelayed things output
+  pub written : Appends old new output
+
+-- one control period alone has no edge
+abbrev pub IsRelayedAgain : List Period → ℕ → Option (List ℕ) → Option (List ℕ) → Type 0
+IsRelayedAgain (control runs ∷ []) status old new = (status ≡ 7) × Keeps old new
+IsRelayedAgain (control runs ∷ (p ∷ ps)) status old new = ComesBack runs (p ∷ ps) status old new
+IsRelayedAgain _ status old new = ⊥

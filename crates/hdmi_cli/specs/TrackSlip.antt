@@ -1,0 +1,86 @@
+-- What `recover track` makes of the capture of a tapped stream one lane of which lost bits within the pixels of a line.
+use Rattle.std.specs.Prelude.{◌≡◌, ◌+◌, ◌*◌, ◌≤◌, ◌||◌, ℕ, Bool, true, false, List, [], ◌++◌, length, take, drop, slice_index, Option}
+use Rattle.std.specs.Io.KnownBytes.{Appends}
+use Rattle.tmds_word.specs.Taps.{IsTap}
+use Rattle.capture_file.specs.Captures.{IsCaptureOf}
+use Rattle.lane_align.specs.Lanes.{IsLock}
+use Rattle.lane_deskew.specs.Aligned.{aligned_columns}
+use Rattle.lane_deskew.specs.Triples.{IsFirst}
+use Rattle.period_grammar.specs.Things.{Thing}
+use Rattle.link_sink.specs.Account.{account}
+use Rattle.link_sink.specs.Alignment.{AreTold}
+use Rattle.link_sink.specs.Laws.{CameOf, EndsControl, BeginColumn}
+use Rattle.link_sink.specs.Sinks.{Fed}
+use Rattle.link_sink.specs.declared.hear.Outcome.{Outcome as Hearing}
+use Rattle.track_sink.specs.Epochs.{lane_of, rest_of, front_of}
+use Rattle.track_sink.specs.Events.{Event, events_of, slip_if}
+use Rattle.track_sink.specs.Laws.{Slipped, SlipsInVideo, BeginsAgain, FirstAccounted, later_skews}
+use Rattle.hdmi_cli.specs.Headline.{TappedStream}
+use Rattle.hdmi_cli.specs.Outcome.{status_with}
+use Rattle.hdmi_cli.specs.TrackText.{track_faults, track_text}
+
+-- a lane lost so many bits from a place on, within pixels of a line, of which the first one named is column `first`; column
+-- `next` is the first of the control period behind that line
+pub record LineSlip : Type 0 where
+  pub lane : ℕ
+  pub place : ℕ
+  pub dropped : ℕ
+  pub first : ℕ
+  pub next : ℕ
+
+-- the lanes of a tapped stream, before any bit was lost
+abbrev pub lanes_of : TappedStream → Fed
+lanes_of t = record { blue = t.blue; green = t.green; red = t.red }
+
+-- columns that came of conforming periods with sparse damage of their payload, a tap of them, and the capture of its lanes
+-- once one of them lost bits; the skews are small after that, and may differ by up to 79 bits before
+pub record IsSlippedTap (t : TappedStream) (s : LineSlip) (y : Fed) : Type 0 where
+  pub came : CameOf t.periods t.sent t.received
+  pub tap : IsTap t.received t.offset t.skews t.counts t.blue t.green t.red
+  pub slips : Slipped (lanes_of t) s.lane s.place s.dropped y
+  pub in_line : SlipsInVideo t.periods t.sent t.received t.offset t.skews t.counts s.lane s.place s.dropped s.first s.next
+  pub captured : IsCaptureOf y.blue y.green y.red t.bytes
+
+-- the lane had a lock before it lost the bits, and has the first twelve characters of the control period behind the line
+pub record IsNoticed (t : TappedStream) (s : LineSlip) : Type 0 where
+  pub lock : ℕ
+  pub is_lock : IsLock (lane_of (lanes_of t) s.lane) lock
+  pub before : lock + 120 ≤ s.place
+  pub whole : 10 * (s.next + 12) ≤ t.offset + slice_index t.skews s.lane + slice_index t.counts s.lane
+
+abbrev pub IsFirstIn : Fed → ℕ → ℕ → ℕ → Type 0
+IsFirstIn x d e f = IsFirst x.blue x.green x.red d e f
+
+-- how many columns lanes have from three edges on
+abbrev pub columns_in : Fed → ℕ → ℕ → ℕ → ℕ
+columns_in x d e f = length (aligned_columns x.blue x.green x.red d e f)
+
+-- the things of two epochs, with the slip between them where the first has a full alignment
+abbrev pub events_across : Bool → List Thing → ℕ → ℕ → List Thing → List Event
+events_across aligned first lane start second = events_of first ++ (slip_if aligned lane start ++ events_of second)
+
+-- There are two epochs. The second begins at the control period behind the line, or one or two characters before it. What is
+-- told of the first is the account as far as columns end before the slip, what is told of the second is the account from
+-- its first full alignment on. The output grew by the lines of both with the slip's between them, or by nothing where none
+-- has a full alignment.
+pub record IsTrackedAcross (t : TappedStream) (s : LineSlip) (y : Fed) (status : ℕ) (old new : Option (List ℕ)) : Type 0 where
+  pub start : ℕ
+  pub begins : BeginsAgain t.received t.offset t.skews s.lane s.dropped s.next start
+  pub one : Hearing
+  pub two : Hearing
+  pub before : List Thing
+  pub behind : List Thing
+  pub first_told : AreTold (front_of start y).blue (front_of start y).green (front_of start y).red one before
+  pub second_told : AreTold (rest_of start y).blue (rest_of start y).green (rest_of start y).red two behind
+  pub first_is :
+      (d e f : ℕ) → IsFirstIn (front_of start y) d e f
+      → FirstAccounted t.periods t.sent t.received t.offset t.skews y s.lane s.place start d e f
+  pub second_is :
+      (d e f : ℕ) → IsFirstIn (rest_of start y) d e f
+      → (a : ℕ) × EndsControl t.periods (a + 11) × BeginColumn (t.offset + start) (later_skews t.skews s.lane s.dropped) (a + 12) d e f
+      × (behind ≡ account t.periods t.sent t.received a (columns_in (rest_of start y) d e f))
+  pub aligned :
+      (one.aligned || two.aligned) ≡ true
+      → (status ≡ status_with (track_faults (events_across one.aligned before s.lane start behind)))
+      × Appends old new (track_text (events_across one.aligned before s.lane start behind))
+  pub unaligned : (one.aligned || two.aligned) ≡ false → (status ≡ 7) × Appends old new []
