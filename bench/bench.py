@@ -1,200 +1,277 @@
 #!/usr/bin/env python3
-"""Times the program on a large input and prints rates and peak memory.
+"""Measures the program: times and peak memory on large inputs, instructions a column, and what its threads cost.
 
-    bench/bench.py [LINES]
+    bench/bench.py [--program PROGRAM] [--lines LINES] [PART ..]
 
-The listing has LINES lines of 1,920 pixels (4,000 if not given, at least 3), each with 3,080 columns around it: guard
-bands, control columns and, where the program reads islands, a data island of one packet. That is 5,000 columns a line,
-so 20,000,000 columns in all. The readers are given the capture of the listing from bit 123,457 on with the skews 0, 70
-and 35, so that no character begins where a byte does. Next to the program the same capture goes through cat and
-sha256sum, in the same run. Each command is run three times, and the best time counts. MB are those of the capture, and
-columns count as pixels.
+PROGRAM is crates/hdmi_cli/out/hdmi_cli by default; ./vabgrot builds it. The parts, all where none is named:
 
-After these, contents: eight frames of 1,920 by 1,080 noisy pixels (code 16), with an AVI InfoFrame and a clock packet, go
-through make content and recover content. Last, recover link reads captures of 1, 100 and 1,000 MB, and its peak is told.
+    instructions  each command's instructions by valgrind's callgrind, a column: the difference of a large and a small input, so
+                  that what the start takes is left out. Lines have 1,920 noisy pixels and 280 columns of control and no
+                  island, captures begin with bit 0; frames are of code 16 (1,920 by 1,080). Then what cannot be aligned, and
+                  control columns, through recover link, and lanes that slip every 130 bits through recover track. The same
+                  is told of `read biphase` a byte.
+    times         each command over LINES lines (4,000 if not given, at least 3) of 5,000 columns, 20,000,000 in all. Lines
+                  have an island of one packet where the command reads islands; the readers are given the capture from bit
+                  123,457 on with the skews 0, 70 and 35, so that no character begins where a byte does. Contents are eight
+                  frames of code 16. Beside them the same capture goes through cat and sha256sum. The best of three runs,
+                  each on one processor where `taskset` is there, as ./vabgrot starts the program.
+    clock         check over a capture of 33 MB on one, two and four processors, beside 0, 4 and 16 programs that this script
+                  starts and that use whole processors: the median of five runs. The load of the machine before is told: it is
+                  load 0 where nothing else runs.
+    memory        the peak of recover link for captures of 1, 100 and 1,000 MB.
 
-Where valgrind is installed, each command's instructions a column are told beside its time. They are counted by
-callgrind in a run of their own, over a listing of 100 lines of 1,920 pixels with 280 columns around each, as a picture
-of 1,920 by 1,080 has them, and its capture from bit 0 on; for contents, over one frame.
+MB are those of the capture, columns count as pixels, MiB are the greatest memory that was seen.
 """
 
+import argparse
 import os
-import random
 import re
 import shutil
+import statistics
 import subprocess
 import sys
 import tempfile
 import time
 
+import inputs
+
 TOP = os.path.dirname(os.path.dirname(os.path.abspath(__file__)))
 FRONT = os.path.join(TOP, "vabgrot")
-PROGRAM = os.path.join(TOP, "crates", "hdmi_cli", "out", "hdmi_cli")
+BUILT = os.path.join(TOP, "crates", "hdmi_cli", "out", "hdmi_cli")
 COLUMNS = 5000
-PIXELS = 1920
-COUNTED_LINES = 100
 COUNTED_COLUMNS = 2200
-KINDS = 64
-BLOCK = 3 * 4096  # bytes of a whole block of a capture
+COUNTED = (20, 60)  # lines of the small and the large input
+BLOCK = 3 * inputs.BLOCK  # bytes of a whole block of a capture
 FRAME_COLUMNS = 2200 * 1125
 FRAMES = 8
 TAP = ["--offset", "123457", "--skew", "0,70,35"]
-DAMAGE = ["1:1000:2cc", "0:12345:133", "2:20007:001"]
-ISLAND = "c 00 12\nc 14 8\ni 00\np {}\ne 00\n"
-ISLAND_COLUMNS = 12 + 8 + 2 + 32 + 2
+DAMAGE = ["damage", "1:1000:2cc", "0:12345:133", "2:20007:001"]
+READERS = (["recover", "link"], ["check"], DAMAGE, ["slip", "1:1000:3"], ["recover", "track"], ["recover", "biphase", "0"], ["relay"])
+ENDS = (0, 1)  # a fault may be told
 
 
-def packet(noise):
-    """The fields of a packet whose bytes are noise."""
-    bodies = " ".join(noise.randbytes(7).hex() for _ in range(4))
-    return f"{noise.randbytes(3).hex()} {bodies} {'0' * 32}"
+class Measured:
+    """One run: its time by the clock and its time of processors, in seconds, and its memory in MiB."""
+
+    def __init__(self, words, source, target, ends=ENDS):
+        with open(source, "rb") as given, open(target, "wb") as taken:
+            start = time.perf_counter()
+            process = subprocess.Popen(words, stdin=given, stdout=taken)
+            self.peak, ended = 0, (0, 0, None)
+            while not ended[0]:
+                self.peak = max(self.peak, resident(process.pid))
+                time.sleep(0.002)
+                ended = os.wait4(process.pid, os.WNOHANG)
+            self.clock = time.perf_counter() - start
+        self.used = ended[2].ru_utime + ended[2].ru_stime
+        process.returncode = os.waitstatus_to_exitcode(ended[1])
+        if process.returncode not in ends:
+            sys.exit(f"{' '.join(words)} ended with {process.returncode}")
 
 
-def write_listing(path, lines, columns, islands):
-    """A listing of noisy lines of so many columns; the seed is fixed, so it is the same at each run."""
-    noise = random.Random(1)
-    pixels = [noise.randbytes(3 * PIXELS).hex() for _ in range(KINDS)]
-    packets = [ISLAND.format(packet(noise)) if islands else "" for _ in range(KINDS)]
-    quiet = columns - PIXELS - 2 - 8 - 12 - (ISLAND_COLUMNS if islands else 0)
-    with open(path, "w") as out:
-        for line in range(lines):
-            kind = line % KINDS
-            out.write(f"{packets[kind]}c 00 {quiet}\nc 04 8\nv {pixels[kind]}\nc 00 12\n")
-        out.write("end\n")
-
-
-def write_content(path, frames):
-    """A content listing of so many noisy frames of code 16."""
-    noise = random.Random(2)
-    rows = [f"row {noise.randbytes(3 * PIXELS).hex()}\n" for _ in range(KINDS)]
-    with open(path, "w") as out:
-        out.write("vic 16\navi 0 0 0 0 8 0 0 0 0 0 0 16 0 0 0 0 0\nacr 6144 148500\n")
-        for _ in range(frames):
-            out.writelines(rows[row % KINDS] for row in range(1080))
-            out.write("frame 1920 1080\n")
-        out.write("end\n")
-
-
-def takes(words, text):
-    """Whether the program knows a command and does it with a small input."""
-    return subprocess.run([PROGRAM] + words, input=text, capture_output=True).returncode == 0
-
-
-def resident(process):
-    """The greatest memory that a running program had so far, in MiB; 0 where it is not known."""
+def resident(pid):
+    """The greatest memory that a running program had so far, in MiB; 0 where it is not known, or is that of this script."""
     try:
-        if os.path.realpath(f"/proc/{process.pid}/exe") != os.path.realpath(shutil.which(process.args[0])):
-            return 0  # not yet begun: these are this script's own pages
-        with open(f"/proc/{process.pid}/status") as status:
+        if os.path.realpath(f"/proc/{pid}/exe") == os.path.realpath(sys.executable):
+            return 0
+        with open(f"/proc/{pid}/status") as status:
             found = re.search(r"VmHWM:\s+(\d+) kB", status.read())
         return int(found.group(1)) / 1024 if found else 0
     except OSError:
         return 0
 
 
-def run(words, source, target, times=3, ends=(0,)):
-    """The best time of some runs in seconds, and the greatest memory that one of them had, in MiB."""
-    best, peak = None, 0
-    for _ in range(times):
-        with open(source, "rb") as given, open(target, "wb") as taken:
-            start = time.perf_counter()
-            process = subprocess.Popen(words, stdin=given, stdout=taken)
-            while process.poll() is None:
-                peak = max(peak, resident(process))
-                time.sleep(0.001)
-            took = time.perf_counter() - start
-        if process.returncode not in ends:
-            sys.exit(f"{' '.join(words)} ended with {process.returncode}")
-        best = took if best is None else min(best, took)
-    return best, peak
-
-
-def count(words, source, target):
-    """The instructions of one run, by callgrind; none where valgrind is not installed."""
-    if shutil.which("valgrind") is None:
+def on(count):
+    """Words that start a program on so many of the processors that this one may use; none where there are not so many, or no
+    `taskset`."""
+    places = sorted(os.sched_getaffinity(0))
+    if shutil.which("taskset") is None or len(places) < count:
         return None
-    with tempfile.TemporaryDirectory() as folder, open(source, "rb") as given, open(target, "wb") as taken:
+    return ["taskset", "-c", ",".join(map(str, places[-count:]))]
+
+
+def counted(words, source):
+    """The instructions of one run, by callgrind."""
+    with tempfile.TemporaryDirectory() as folder, open(source, "rb") as given:
         log = os.path.join(folder, "log")
         grind = ["valgrind", "--tool=callgrind", "--callgrind-out-file=" + os.path.join(folder, "out"), "--log-file=" + log]
-        status = subprocess.run(grind + words, stdin=given, stdout=taken, stderr=subprocess.DEVNULL).returncode
-        if status != 0:
+        status = subprocess.run(grind + words, stdin=given, stdout=subprocess.DEVNULL, stderr=subprocess.DEVNULL).returncode
+        if status not in (*ENDS, 7):
             sys.exit(f"{' '.join(words)} under valgrind ended with {status}")
         with open(log) as text:
-            found = re.search(r"Collected : (\d+)", text.read())
-    return int(found.group(1)) if found else None
+            return int(re.search(r"Collected : (\d+)", text.read()).group(1))
 
 
-def tell(name, took, peak, size, columns, counted, counted_columns=COUNTED_LINES * COUNTED_COLUMNS):
-    rates = f"{size / took / 1e6:10.0f} MB/s{columns / took / 1e6:10.1f} M pixels/s"
-    each = "" if counted is None else f"{counted / counted_columns:9.1f} instructions a column"
-    print(f"{name:<24}{took:8.3f} s{rates}{peak:9.1f} MiB peak{each}", flush=True)
+class Bench:
+    """The parts, over one program, with a folder for their inputs."""
+
+    def __init__(self, program, lines, folder):
+        self.program, self.lines, self.folder = program, lines, folder
+
+    def path(self, name):
+        return os.path.join(self.folder, name)
+
+    def made(self, words, source, name):
+        """The path of what the program makes of a file."""
+        with open(source, "rb") as given, open(self.path(name), "wb") as taken:
+            subprocess.run([self.program, *words], stdin=given, stdout=taken, check=True)
+        return self.path(name)
+
+    def written(self, write, name, *size):
+        """The path of an input."""
+        write(self.path(name), *size)
+        return self.path(name)
+
+    # ---- instructions
+
+    def each(self, name, words, small, large, more, unit="column"):
+        """Tells the instructions of a command for each column more."""
+        counts = [counted([self.program, *words], source) for source in (small, large)]
+        print(f"  {name:<44}{(counts[1] - counts[0]) / more:9.1f} a {unit}", flush=True)
+
+    def instructions(self):
+        if shutil.which("valgrind") is None:
+            print("instructions: not counted, since there is no valgrind")
+            return
+        print("Instructions (callgrind)")
+        more = (COUNTED[1] - COUNTED[0]) * COUNTED_COLUMNS
+        listings = [self.written(inputs.write_listing, f"{lines}.link", lines, COUNTED_COLUMNS) for lines in COUNTED]
+        self.each("make link", ["make", "link"], *listings, more)
+        captures = [self.made(["make", "link"], listing, f"{listing}.tmc") for listing in listings]
+        for words in READERS:
+            self.each(" ".join(words[: 1 if words[0] in ("damage", "slip") else 3]), words, *captures, more)
+        listings = [self.written(inputs.write_dvi, f"{lines}.dvi", lines, COUNTED_COLUMNS) for lines in COUNTED]
+        self.each("make dvi", ["make", "dvi"], *listings, more)
+        captures = [self.made(["make", "dvi"], listing, f"{listing}.tmc") for listing in listings]
+        self.each("recover dvi", ["recover", "dvi"], *captures, more)
+        listings = [self.written(inputs.write_content, f"{frames}.content", frames) for frames in (1, 2)]
+        self.each("make content", ["make", "content"], *listings, FRAME_COLUMNS)
+        captures = [self.made(["make", "content"], listing, f"{listing}.tmc") for listing in listings]
+        self.each("recover content", ["recover", "content"], *captures, FRAME_COLUMNS)
+        streams = [self.written(inputs.write_stream, f"{frames}.stream", frames) for frames in (192 * 50, 192 * 100)]
+        self.each("read biphase", ["read", "biphase"], *streams, 16 * 192 * 50, "byte")
+        self.unaligned()
+
+    def unaligned(self):
+        """Where nothing aligns, where there are control columns alone, and where lanes slip."""
+        for name, words, build, sizes in (
+            ("recover link: three lanes of noise", ["recover", "link"], inputs.noisy, (100_000, 600_000)),
+            ("recover link: three lanes of one value", ["recover", "link"], inputs.one_value, (100_000, 600_000)),
+            ("recover link: control beside two of noise", ["recover", "link"], inputs.one_lock, (100_000, 600_000)),
+            ("recover link: control columns", ["recover", "link"], inputs.clean_control, (100_000, 600_000)),
+            ("recover link: damaged control columns", ["recover", "link"], inputs.damaged_control, (100_000, 600_000)),
+            ("recover track: a slip every 130 bits", ["recover", "track"], inputs.slipping, (20_000, 60_000)),
+        ):
+            paths = [self.path(f"{columns}.unaligned") for columns in sizes]
+            for path, columns in zip(paths, sizes):
+                with open(path, "wb") as out:
+                    out.write(build(columns))
+            self.each(name, words, *paths, sizes[1] - sizes[0])
+
+    # ---- times
+
+    def timed(self, name, words, source, target, columns, size=None):
+        """Tells the best of three runs; the size is that of what a maker writes where none is given."""
+        runs = [Measured([*(on(1) or []), *words], source, target) for _ in range(3)]
+        best, peak = min(runs, key=lambda it: it.clock), max(it.peak for it in runs)
+        size = size or os.path.getsize(target)
+        rates = f"{size / best.clock / 1e6:7.0f} MB/s{columns / best.clock / 1e6:8.1f} M columns/s"
+        print(f"  {name:<24}{best.clock:8.3f} s, {best.used:6.3f} s of a processor{rates}{peak:8.1f} MiB", flush=True)
+
+    def times(self):
+        columns, other = self.lines * COLUMNS, self.path("other")
+        listing = self.written(inputs.write_listing, "large.link", self.lines, COLUMNS, True)
+        capture = self.path("large.tmc")
+        print(f"Times ({columns} columns, {self.lines} islands, {os.path.getsize(listing)} bytes; {told_load()})")
+        self.timed("make link", [self.program, "make", "link", *TAP], listing, capture, columns)
+        size = os.path.getsize(capture)
+        for words in READERS:
+            name = " ".join(words[: 1 if words[0] in ("damage", "slip") else 3])
+            self.timed(name, [self.program, *words], capture, other, columns, size)
+        for words in (["cat"], ["sha256sum"]):
+            self.timed(words[0], words, capture, other, columns, size)
+        listing = self.written(inputs.write_dvi, "large.dvi", self.lines, COLUMNS)
+        self.timed("make dvi", [self.program, "make", "dvi", *TAP], listing, capture, columns)
+        self.timed("recover dvi", [self.program, "recover", "dvi"], capture, other, columns, os.path.getsize(capture))
+        columns = FRAMES * FRAME_COLUMNS
+        listing = self.written(inputs.write_content, "frames.content", FRAMES)
+        self.timed("make content", [self.program, "make", "content"], listing, capture, columns)
+        self.timed("recover content", [self.program, "recover", "content"], capture, other, columns, os.path.getsize(capture))
+        stream = self.written(inputs.write_stream, "large.stream", 192 * 8000)
+        self.timed("read biphase (samples)", [self.program, "read", "biphase"], stream, other, 192 * 8000, os.path.getsize(stream))
+
+    # ---- the clock
+
+    def clock(self):
+        if on(1) is None:
+            print("clock: not measured, since there is no taskset")
+            return
+        listing = self.written(inputs.write_listing, "clock.link", 4000, COUNTED_COLUMNS)
+        capture = self.made(["make", "link"], listing, "clock.tmc")
+        print(f"Clock (check of {os.path.getsize(capture)} bytes; {told_load()})")
+        for load in (0, 4, 16):
+            busy = [subprocess.Popen([sys.executable, "-c", "while True: pass"]) for _ in range(load)]
+            try:
+                time.sleep(1)
+                for count in (1, 2, 4):
+                    self.on_processors(capture, load, count)
+            finally:
+                for process in busy:
+                    process.kill()
+                    process.wait()
+
+    def on_processors(self, capture, load, count):
+        if on(count) is None:
+            return
+        runs = [Measured([*on(count), self.program, "check"], capture, os.devnull) for _ in range(5)]
+        clock, used = (statistics.median(getattr(it, name) for it in runs) for name in ("clock", "used"))
+        places = "1 processor " if count == 1 else f"{count} processors"
+        print(f"  beside {load:>2} programs, on {places}{clock:9.3f} s, {used:6.3f} s of processors", flush=True)
+
+    # ---- memory
+
+    def memory(self):
+        """The peak of recover link for captures of three sizes, each whole blocks of one capture over and over."""
+        listing, long = self.written(inputs.write_listing, "long.link", 50, COUNTED_COLUMNS), self.path("long.tmc")
+        with open(self.made(["make", "link"], listing, "part.tmc"), "rb") as given:
+            part = given.read()
+        blocks = part[8 : 8 + (len(part) - 8) // BLOCK * BLOCK]
+        print("Memory (recover link)")
+        for size in (1_000_000, 100_000_000, 1_000_000_000):
+            copies = size // len(blocks)
+            with open(long, "wb") as out:
+                out.write(part[:4] + (copies * len(blocks) // 3 * 8).to_bytes(4, "big"))
+                for _ in range(copies):
+                    out.write(blocks)
+            run = Measured([*(on(1) or []), self.program, "recover", "link"], long, os.devnull)  # a seam is no period
+            print(f"  {size // 1_000_000:>5} MB{run.clock:9.3f} s{run.peak:8.1f} MiB", flush=True)
 
 
-def contents(folder):
-    """Contents through both commands."""
-    names = ("frames.content", "frames.tmc", "frame.content", "frame.tmc", "other")
-    listing, capture, counted, counted_capture, other = (os.path.join(folder, name) for name in names)
-    write_content(listing, FRAMES)
-    write_content(counted, 1)
-    make, recover = [PROGRAM, "make", "content"], [PROGRAM, "recover", "content"]
-    took, peak = run(make, listing, capture)
-    size = os.path.getsize(capture)
-    columns = FRAMES * FRAME_COLUMNS
-    tell("make content", took, peak, size, columns, count(make, counted, counted_capture), FRAME_COLUMNS)
-    took, peak = run(recover, capture, other)
-    tell("recover content", took, peak, size, columns, count(recover, counted_capture, other), FRAME_COLUMNS)
-
-
-def long_captures(folder):
-    """The peak of recover link for captures of three sizes, each whole blocks of one capture over and over."""
-    listing, long = os.path.join(folder, "long.link"), os.path.join(folder, "long.tmc")
-    write_listing(listing, 50, COUNTED_COLUMNS, False)
-    with open(listing, "rb") as given:
-        part = subprocess.run([PROGRAM, "make", "link"], stdin=given, stdout=subprocess.PIPE, check=True).stdout
-    blocks = part[8 : 8 + (len(part) - 8) // BLOCK * BLOCK]
-    for size in (1_000_000, 100_000_000, 1_000_000_000):
-        copies = size // len(blocks)
-        with open(long, "wb") as out:
-            out.write(part[:4] + (copies * len(blocks) // 3 * 8).to_bytes(4, "big"))
-            for _ in range(copies):
-                out.write(blocks)
-        took, peak = run([PROGRAM, "recover", "link"], long, os.devnull, times=1, ends=(0, 1))  # a seam is no period
-        print(f"recover link of {size // 1_000_000} MB{took:12.3f} s{peak:9.1f} MiB peak", flush=True)
+def told_load():
+    """How busy the machine is."""
+    with open("/proc/loadavg") as load:
+        return f"{len(os.sched_getaffinity(0))} processors, load average {load.read().split()[0]}"
 
 
 def main():
-    lines = int(sys.argv[1]) if len(sys.argv) > 1 else 4000
-    columns = lines * COLUMNS
-    with open(os.path.join(TOP, "examples", "red.link"), "rb") as given:  # builds the program where that is due
-        red = subprocess.run([FRONT, "make", "link"], stdin=given, stdout=subprocess.PIPE, check=True).stdout
-    small = (ISLAND.format(packet(random.Random(0))) + "c 00 12\nend\n").encode()
-    islands = takes(["make", "link"], small)
+    parts = ("instructions", "times", "clock", "memory")
+    reader = argparse.ArgumentParser(description=__doc__, formatter_class=argparse.RawDescriptionHelpFormatter)
+    reader.add_argument("--program")
+    reader.add_argument("--lines", type=int, default=4000)
+    reader.add_argument("parts", nargs="*", metavar="PART", help=", ".join(parts))
+    given = reader.parse_args()
+    unknown = [part for part in given.parts if part not in parts]
+    if unknown:
+        reader.error(f"there is no part {unknown[0]}")
+    if given.program is None:  # builds the program where that is due
+        subprocess.run([FRONT, "check"], stdin=subprocess.DEVNULL, stderr=subprocess.DEVNULL)
+    program = os.path.abspath(given.program or BUILT)
+    if not os.path.isfile(program):
+        sys.exit(f"{program}: there is no such program; `./vabgrot` builds it")
     with tempfile.TemporaryDirectory() as folder:
-        names = ("large.link", "large.tmc", "counted.link", "counted.tmc", "other")
-        listing, capture, counted, counted_capture, other = (os.path.join(folder, name) for name in names)
-        write_listing(listing, lines, COLUMNS, islands)
-        write_listing(counted, COUNTED_LINES, COUNTED_COLUMNS, islands)
-        make = [PROGRAM, "make", "link"]
-        took, peak = run(make + TAP, listing, capture)
-        size = os.path.getsize(capture)
-        print(f"{columns} columns, {lines if islands else 0} islands, listing {os.path.getsize(listing)} bytes,", end=" ")
-        print(f"capture {size} bytes")
-        tell("make link", took, peak, size, columns, count(make, counted, counted_capture))
-        with open(counted, "rb") as given, open(counted_capture, "wb") as taken:
-            subprocess.run(make, stdin=given, stdout=taken, check=True)
-        for name, words, probe in (
-            ("recover link", ["recover", "link"], ["recover", "link"]),
-            ("check", ["check"], ["check"]),
-            ("damage", ["damage"] + DAMAGE, ["damage", "0:0:000"]),
-        ):
-            if takes(probe, red):
-                took, peak = run([PROGRAM] + words, capture, other)
-                tell(name, took, peak, size, columns, count([PROGRAM] + words, counted_capture, other))
-        for words in (["cat"], ["sha256sum"]):
-            took, peak = run(words, capture, other)
-            tell(words[0] + " of the capture", took, peak, size, columns, None)
-        contents(folder)
-        long_captures(folder)
+        bench = Bench(program, given.lines, folder)
+        for part in given.parts or parts:
+            getattr(bench, part)()
 
 
 if __name__ == "__main__":

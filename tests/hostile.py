@@ -1,18 +1,19 @@
 #!/usr/bin/env python3
 """Runs the built program over inputs and devices that are made to harm it: headers that promise too much, captures that end
-at each byte, lanes of nothing but noise, lanes full of slips, bytes that are nearly subframes, listings past each limit, closed
-and full devices, little memory, a reader that goes away.
+at each byte, more words than anybody writes, lanes of nothing but noise, lanes full of slips, bytes that are nearly subframes,
+listings past each limit, closed and full devices, little memory, a reader that goes away.
 
     tests/hostile.py [--program PROGRAM] [TABLE ..]
 
 PROGRAM is crates/hdmi_cli/out/hdmi_cli by default, which `rt ci` and `./vabgrot` build; the tables are those that --help
-lists, all but `long` where none is named. Expected values are those of docs/FORMATS.md, of the small models of it in tests/model.py, and,
+lists, all but `long`, `most` and `texts` where none is named. Expected values are those of docs/FORMATS.md, of the small models of it in tests/model.py, and,
 where a comment says so, of another independent model of it. The last line is 'N passed, M failed'; the status is 1 where a case failed."""
 import argparse
 import functools
 import hashlib
 import itertools
 import os
+import re
 import resource
 import subprocess
 import sys
@@ -21,12 +22,10 @@ import threading
 import time
 
 import model
-from model import BLOCK, CONTROL
-from program import LISTING, TOP, run
+from model import BLOCK, CONTROL, lanes_of, packed, sent
+from pouring import OPENING, PIXEL, Poured, endless, growing, long, loud, most, texts
+from program import FURTHER, LISTING, READERS, SLIP, TOP, USAGE, replaced, run
 
-READERS = (["recover", "link"], ["recover", "content"], ["check"], ["damage", "0:0:354"])
-FURTHER = (["recover", "track"], ["recover", "dvi"], ["recover", "biphase", "0"], ["relay"])
-SLIP = ["slip", "0:0:1"]
 KNOWN = (["make", "link"], ["make", "content"], *READERS)  # little room for the others is tried half as often
 SILENT = ("make", "slip", "relay")  # they read all before they write
 ISLAND = b"""c 00 4
@@ -69,20 +68,6 @@ a island of steps|1 966 75af6803|1 327 722eed9e|1 330 1facabd5
 a island of guards|1 58 eb9d91d9|1 26 e4049cba|1 29 b6590c56
 a island of turns|1 434 2da2e2e4|1 101 1aada626|1 104 454acd8a
 """
-
-
-def lanes_of(rows):
-    """A capture of the first version of three lanes of as many bytes, all of whose bits count."""
-    size = len(rows[0])
-    blocks = [row[at : at + BLOCK] for at in range(0, size, BLOCK) for row in rows]
-    return b"TMC1" + (8 * size).to_bytes(4, "big") + b"".join(blocks)
-
-
-def sent(words, size):
-    """So many bytes of a lane that carries these characters over and over, the lowest bit first."""
-    bits = "".join(format(word, "010b")[::-1] for word in words)
-    bits = (bits * (8 * size // len(bits) + 1))[: 8 * size]
-    return int(bits[::-1], 2).to_bytes(size, "little")
 
 
 def turned(word, by):
@@ -142,6 +127,46 @@ def prefixes(program):
                 yield name, len(output), 8 + 3 * BLOCK * blocks
 
 
+def cut_texts(program):
+    """Listings that end too early: each prefix of three. The line that breaks off is refused, or its end is missed."""
+    odd = rb"(?:form|range|order|control|preamble|size|unended)"
+    for words, text in ((["make", "link"], ISLAND), (["make", "content"], CONTENT), (["make", "dvi"], DVI)):
+        for size in range(len(text)):
+            part = text[:size]
+            causes = b"unended" if part[-1:] in (b"", b"\n") else odd
+            status, output, notes = run(program, words, part)
+            note = rb"input: line %d %b\n" % (part.count(b"\n") + 1, causes)
+            yield f"{words} of {size} bytes", (status, output, bool(re.fullmatch(note, notes))), (3, b"", True)
+
+
+def operands(program):
+    """More words than anybody writes, and longer ones."""
+    capture = run(program, ["make", "link"], b"c 00 2400\nc 04 8\nv ff0000\nc 00 12\nend\n")[1]
+    hits = [(n % 3, 5 * n % 24000, 37 * n % 1024) for n in range(100_000)]
+    words = ["damage", *(f"{lane}:{place}:{value:03x}" for lane, place, value in hits)]
+    yield "damage of 100,000 words", crowd(program, words, capture), (0, replaced(capture, hits), b"")
+    past = crowd(program, [*words[:-1], "0:24241:000"], capture)
+    yield "the last of them past the end", past, (3, b"", b"input: place 99999\n")
+    yield "the last of them of no form", crowd(program, [*words, "0:0:400"], capture), (2, b"", USAGE)
+    every = (["make", "link"], ["make", "content"], ["make", "dvi"], ["read", "biphase"], ["sample", "2"], SLIP, *READERS, *FURTHER)
+    for words in every:
+        for more in (["x"] * 100_000, ["--offset", "1"] * 50_000, ["x" * 131_000], ["0" * 131_000], [""]):
+            yield f"{words} and {len(more)} words {more[0]:.9}", crowd(program, [*words, *more], capture), (2, b"", USAGE)
+
+
+def crowd(program, words, source):
+    """A run with room for many words."""
+
+    def bound():
+        resource.setrlimit(resource.RLIMIT_STACK, (64 << 20, resource.getrlimit(resource.RLIMIT_STACK)[1]))
+
+    try:
+        ran = subprocess.run([program, *words], input=source, capture_output=True, timeout=300, preexec_fn=bound)
+    except subprocess.TimeoutExpired:
+        return "over its time"
+    return ran.returncode, ran.stdout, ran.stderr
+
+
 def lanes(program):
     """Lanes that carry nothing that can be aligned."""
     steps = bytes(range(256)) * (BLOCK // 256)
@@ -191,6 +216,9 @@ def further(program, name, data):
     lanes = model.lanes_in(data)
     status, listing = link(lanes)
     columns = model.aligned(lanes)
+    faults = b"".join(line for line in listing.splitlines(True) if line.startswith((b"! ", b"cut ")))
+    wanted = (status, faults + (b"faulty\n" if status else b"clean\n")) if columns else (7, b"")
+    yield f"check of {name}", run(program, ["check"], data)[:2], wanted
     yield f"recover track of {name}", run(program, FURTHER[0], data)[:2], model.tracked(lanes, link)
     yield f"recover dvi of {name}", run(program, FURTHER[1], data)[:2], model.dvi_text(columns) if columns else (7, b"")
     for pair in range(4):
@@ -220,14 +248,12 @@ def slips(program):
     """A slip at each place of two small captures, of each length; and what is tracked behind it."""
     red = run(program, ["make", "link"], LISTING)[1]
     worn = run(program, ["make", "link", "--version", "2", "--skew", "0,70,35"], SLIPPED)[1]
-    for data in (red, worn):
+    for data, lengths in ((red, range(1, 10)), (worn, None)):
         lanes = model.lanes_in(data)
-        for place in range(max(map(len, lanes)) + 2):
-            for drop in range(1 + place % 3, 10, 3) if data == red else [1 + place % 9]:
-                lane = (place + drop) % 3
-                fits = place + drop <= len(lanes[lane])
+        for place, lane in itertools.product(range(max(map(len, lanes)) + 2), range(3)):
+            for drop in lengths or [1 + (place + 3 * lane) % 9]:
                 wanted = (3, b"", b"input: place 0\n")
-                if fits:
+                if place + drop <= len(lanes[lane]):
                     wanted = (0, model.capture_of(2, model.slipped(lanes, lane, place, drop)), b"")
                 yield f"slip {lane}:{place}:{drop}", run(program, ["slip", f"{lane}:{place}:{drop}"], data), wanted
     yield from tracks(program, model.lanes_in(worn))
@@ -237,8 +263,8 @@ def slips(program):
 def tracks(program, lanes):
     """What is tracked behind a slip at each place, and in lanes that slip every 130 bits, in each length, alone and all."""
     once = functools.cache(lambda *bits: linked(program, bits))
-    for place in range(0, len(lanes[0]), 2):
-        lane, drop = place % 3, 1 + place % 9
+    for place, more in itertools.product(range(len(lanes[0])), (0, 4)):
+        lane, drop = (place + more) % 3, 1 + (place + more) % 9
         bits = model.slipped(lanes, lane, place, drop)
         came, wanted = run(program, FURTHER[0], model.capture_of(2, bits))[:2], model.tracked(bits, lambda it: once(*it))
         yield f"recover track of a slip {lane}:{place}:{drop}", came, wanted
@@ -281,6 +307,9 @@ def streams(program):
         hurt = bytearray(three)
         hurt[bit // 8] ^= 1 << bit % 8
         yield f"{words} with another bit {bit}", run(program, words, bytes(hurt)), model.biphase_text(bytes(hurt))
+    for bit in range(8 * len(three) - 1):
+        hurt = (int.from_bytes(three, "little") ^ 3 << bit).to_bytes(len(three), "little")
+        yield f"{words} with other bits {bit} and {bit + 1}", run(program, words, hurt), model.biphase_text(hurt)
     for name, data in nearly(three):
         yield f"{words} of {name}", run(program, words, data), model.biphase_text(data)
     for count in (191, 192, 193, 383, 384, 577):
@@ -308,6 +337,10 @@ def nearly(three):
             yield f"{mark:02x} and {byte:02x}", bytes([mark]) + bytes([byte]) * 7 + right
     for mark in range(256):
         yield f"the mark {mark:02x}", bytes([mark]) + left[1:] + right
+    for at in range(28):
+        wrong = model.line_coded("B", 0x5123457 ^ 1 << at)
+        yield f"another parity by bit {at}", wrong + right
+        yield f"another parity on the right by bit {at}", left + model.line_coded("W", 0x5123457 ^ 1 << at) + three
     yield "a frame and a half", three[:24]
     yield "three halves of frames and one byte", three[:24] + b"\x47"
     yield "a wrong subframe before a short end", three[:8] + bytes(8) + three[:3]
@@ -317,6 +350,12 @@ def nearly(three):
 
 def relays(program):
     """Islands of nineteen packets and more, packets that are lost, captures whose relay is far longer, and relays of them."""
+    packet = ISLAND.split(b"\n")[3] + b"\n"
+    for count in (17, 18, 19, 20):
+        listing = ISLAND.replace(packet, packet * count)
+        status, capture, notes = run(program, ["make", "link"], listing)
+        come = run(program, ["recover", "link"], capture) if status == 0 else (status, capture, notes)
+        yield f"a listing of {count} packets", come, (0, listing, b"") if count < 19 else (3, b"", b"input: line 22 range\n")
     text = ISLAND.replace(b"00000000\ne 00", b"00000000\n" + ISLAND.split(b"\n")[3] + b"\ne 00")
     data = run(program, ["make", "link"], text)[1]
     lanes = model.lanes_in(data)
@@ -337,10 +376,6 @@ def relays(program):
     yield from grown(program)
 
 
-PIXEL = [0x354, 0x2CC, 0x2CC, 0x100], [0x354, 0x133, 0x133, 0x100], [0x354, 0x2CC, 0x2CC, 0x200]
-OPENING = [[0x354] * 5 + [row] * 8 for row in (0x354, 0x0AB, 0x354)]
-
-
 def grown(program):
     """Lines of one pixel behind one control column each: a relay has eleven columns more for each, which pass the limit."""
     count = 1_333_332
@@ -350,19 +385,6 @@ def grown(program):
         columns = 15 * count + quiet
         wanted = (1, 8 + 3 * (10 * columns // 8), b"") if columns <= 20_000_000 else (3, 0, b"input: long\n")
         yield f"relay of {count} lines of a pixel", (status, len(output), notes), wanted
-
-
-def growing():
-    """The pieces of a capture of 1 GB that is like that."""
-    yield b"TMC1" + (8 * 333_000_000).to_bytes(4, "big")
-    body = lanes_of([packed(row) * BLOCK for row in PIXEL])[8:]
-    yield lanes_of([packed(first + row[1:]) + packed(row) * (BLOCK - 4) for first, row in zip(OPENING, PIXEL)])[8:]
-    yield from itertools.repeat(body, 5400)
-
-
-def packed(words):
-    """The bytes of characters of which four take five bytes."""
-    return sent(words, len(words) * 10 // 8)
 
 
 def listings(program):
@@ -524,13 +546,6 @@ def noisy(program):
     return run(program, ["make", "link"], island * 1800 + b"c 00 12\nend\n")[1]
 
 
-def loud(size):
-    """The pieces of a biphase stream of so many bytes at least: 4,096 blocks of 192 frames over and over."""
-    block = b"".join(model.frame((65_536 - at, 16_777_215 - at, at % 8, at // 8 % 8, int(at == 0))) for at in range(192))
-    for _ in range(max(1, -(-size // (64 * len(block))))):
-        yield block * 64
-
-
 def full(program):
     """A disk of 64 KiB, where one can be mounted."""
     hurt = busy(program)
@@ -539,7 +554,7 @@ def full(program):
     cases = [(["make", "link"], b"c 00 60000\nend\n"), (["make", "content"], content), (["recover", "link"], hurt),
              (["recover", "content"], pictures), (["check"], hurt), (["damage", "0:0:354"], hurt), (SLIP, hurt), (["relay"], hurt)]
     cases += [(["recover", "track"], hurt), (["make", "dvi"], b"c 00 60000\nend\n"), (["recover", "dvi"], hurt)]
-    cases += [(["recover", "biphase", "0"], noisy(program)), (["read", "biphase"], loud(0).__next__())]
+    cases += [(["recover", "biphase", "0"], noisy(program)), (["read", "biphase"], next(loud(192 * 64)))]
     with tempfile.TemporaryDirectory() as folder:
         mounted = subprocess.run(["mount", "-t", "tmpfs", "-o", "size=64k", "none", folder], capture_output=True).returncode == 0
         if not mounted:
@@ -560,98 +575,52 @@ def full(program):
             subprocess.run(["umount", folder], check=True)
 
 
-def endless(program, size):
-    """The pieces of a capture of so many bytes: whole blocks of one capture over and over."""
-    lines = b"c 00 12\nc 04 8\nv " + b"10fe33" * 500 + b"\n"
-    part = run(program, ["make", "link"], lines * 40 + b"c 00 12\nend\n")[1]
-    blocks = part[8 : 8 + (len(part) - 8) // (3 * BLOCK) * 3 * BLOCK]
-    copies = size // len(blocks)
-    yield b"TMC1" + (copies * len(blocks) // 3 * 8).to_bytes(4, "big")
-    for _ in range(copies):
-        yield blocks
-
-
-def feed(pipe, pieces):
-    """Writes pieces until the reader is gone, and says how many bytes went out."""
-    gone = 0
-    try:
-        for piece in pieces:
-            pipe.write(piece)
-            gone += len(piece)
-        pipe.close()
-    except BrokenPipeError:
-        pass
-    return gone
-
-
-def through(program, words, pieces, taken):
-    """A run that is fed by a pipe, and whose reader goes away after so many bytes (None: never). The status, the notes, how
-    many bytes went in and came out, and the greatest memory that was seen, in KiB."""
-    process = subprocess.Popen([program, *words], stdin=subprocess.PIPE, stdout=subprocess.PIPE, stderr=subprocess.PIPE)
-    fed = []
-    feeder = threading.Thread(target=lambda: fed.append(feed(process.stdin, pieces)))
-    feeder.start()
-    came, peak = 0, 0
-    while taken is None or came < taken:
-        piece = process.stdout.read(1 << 20 if taken is None else taken - came)
-        if not piece:
-            break
-        came += len(piece)
-        with open(f"/proc/{process.pid}/status") as status:
-            peak = max([peak] + [int(line.split()[1]) for line in status if line.startswith("VmHWM")])
-    process.stdout.close()
-    notes = process.stderr.read()
-    status = process.wait(120)
-    feeder.join()
-    return status, notes, fed[0], came, peak
-
-
 def pipes(program):
     """A capture of 1 GB that is never stored, and readers that go away."""
     for words in READERS[:2] + READERS[3:] + FURTHER[:2]:
-        status, notes, gone, came, _ = through(program, words, endless(program, 1_000_000_000), 1)
-        yield f"{words} of 1 GB to a reader of one byte", (status, notes, came), (5, b"write failed\n", 1)
-        yield f"{words} stops soon", gone < 20_000_000, True
+        ran = Poured(program, words, endless(program, 1_000_000_000), 1)
+        yield f"{words} of 1 GB to a reader of one byte", (ran.status, ran.notes, ran.came), (5, b"write failed\n", 1)
+        yield f"{words} stops soon", ran.gone < 20_000_000, True
     hurt = busy(program)
-    yield "check to a reader of one byte", through(program, ["check"], [hurt], 1)[:2], (5, b"write failed\n")
+    ran = Poured(program, ["check"], [hurt], 1)
+    yield "check to a reader of one byte", (ran.status, ran.notes), (5, b"write failed\n")
     long = b"c 00 1000000\nend\n"
     for words, source in ((["make", "link"], long), (["make", "content"], frames(60, 9)), (["make", "dvi"], long), (["relay"], hurt),
                           (SLIP, hurt), (["recover", "biphase", "0"], noisy(program))):
-        yield f"{words} to a reader of one byte", through(program, words, [source], 1)[:2], (5, b"write failed\n")
+        ran = Poured(program, words, [source], 1)
+        yield f"{words} to a reader of one byte", (ran.status, ran.notes), (5, b"write failed\n")
     yield from streamed(program)
     for words in (["make", "link"], ["make", "content"], ["make", "dvi"], ["read", "biphase"], *READERS, *FURTHER, SLIP):
         note = b"input: %s\n" % {"make": b"line 1 form", "read": b"subframe 0"}.get(words[0], b"magic 0")
-        came = through(program, words, itertools.repeat(bytes(65_536)), None)
-        yield f"{words} of NUL bytes without end", (*came[:2], came[3]), (3, note, 0)
+        ran = Poured(program, words, itertools.repeat(bytes(65_536)))
+        yield f"{words} of NUL bytes without end", (ran.status, ran.notes, ran.came), (3, note, 0)
     for words in (["make", "link"], ["make", "dvi"]):
-        came = through(program, words, itertools.repeat(b"c 00 1\n" * 10_000), None)
-        yield f"{words} of control columns without end", (*came[:2], came[3]), (3, b"input: line 20000001 long\n", 0)
+        ran = Poured(program, words, itertools.repeat(b"c 00 1\n" * 10_000))
+        yield f"{words} of control columns without end", (ran.status, ran.notes, ran.came), (3, b"input: line 20000001 long\n", 0)
     script = '"$0" recover link | head -c 1 | od -An -c; echo "${PIPESTATUS[0]}"'
     shell = subprocess.run(["bash", "-c", script, program], input=hurt, capture_output=True, timeout=60)
     yield "recover link | head -c 1", (shell.stdout.split(), shell.stderr), ([b"c", b"5"], b"write failed\n")
 
 
 def streamed(program):
-    """Biphase streams through a pipe, and a relay of a capture whose columns pass the limit long before its end."""
-    status, notes, gone, came, _ = through(program, ["read", "biphase"], loud(10**9), 1)
-    yield "read biphase of 1 GB to a reader of one byte", (status, notes, came, gone < 20_000_000), (5, b"write failed\n", 1, True)
-    status, notes, gone, came, peak = through(program, ["read", "biphase"], loud(24_000_000), None)
-    frames, blocks = gone // 16, gone // 16 // 192
-    yield "read biphase of 1,500,000 frames", (status, notes, came), (0, b"", 24 * frames + 104 * blocks + 4)
-    yield f"memory of it: {peak} KiB", peak < 4000, True
-    status, notes, gone, came, _ = through(program, ["relay"], growing(), None)
-    yield "relay of 1 GB", (status, notes, came, gone < 25_000_000), (3, b"input: long\n", 0, True)
+    """Biphase streams through a pipe, and relays of a capture whose columns pass the limit long before its end."""
+    ran = Poured(program, ["read", "biphase"], loud(60_000_000), 1)
+    came = ran.status, ran.notes, ran.came, ran.gone < 20_000_000
+    yield "read biphase of 1 GB to a reader of one byte", came, (5, b"write failed\n", 1, True)
+    ran = Poured(program, ["read", "biphase"], loud(1_500_000))
+    yield "read biphase of 1,500,000 frames", (ran.status, ran.notes, ran.came), (0, b"", 24 * 1_500_000 + 104 * 7812 + 4)
+    yield f"memory of it: {ran.peak} KiB", ran.peak < 4000, True
+    ran = Poured(program, ["relay"], growing(1_000_000_000))
+    yield "relay of 1 GB", (ran.status, ran.notes, ran.came, ran.gone < 25_000_000), (3, b"input: long\n", 0, True)
+    # 1,333,333 lines become 20,000,000 columns; they take 20,000,000 bytes.
+    ran = Poured(program, ["relay"], growing(20_100_000), held=True)
+    yield "relay past its limit in an open pipe", (ran.status, ran.notes, ran.came), (3, b"input: long\n", 0)
+    short = Poured(program, ["relay"], growing(19_800_000))
+    wanted = 3, b"input: short %d\n" % short.gone, 0
+    yield "relay short of its limit", (short.status, short.notes, short.came), wanted
 
 
-def long(program):
-    """A capture of 1 GB to its end, and the memory that it takes; only where it is named, since it takes a minute."""
-    for words in READERS:
-        status, notes, gone, came, peak = through(program, words, endless(program, 1_000_000_000), None)
-        yield f"{words} of 1 GB", (status in (0, 1), notes, gone > 990_000_000), (True, b"", True)
-        yield f"memory of {words}: {peak} KiB", peak < 4000, True
-        if words[0] == "damage":
-            yield "what is written of 1 GB", came, gone
-
+NAMED = (long, most, texts)  # they are run only where they are named
 
 # What the system's loader says where there is no room for the program itself.
 LOADER = (b"while loading", b"cannot allocate TLS data structures")
@@ -682,7 +651,8 @@ def in_room(program, words, source, room):
 
 
 def main(arguments):
-    every = (headers, prefixes, lanes, heard, slips, streams, relays, listings, longest, devices, full, pipes, memory, long)
+    every = (headers, prefixes, cut_texts, operands, lanes, heard, slips, streams, relays, listings, longest, devices, full, pipes, memory)
+    every += NAMED
     tables = {table.__name__: table for table in every}
     reader = argparse.ArgumentParser(description=__doc__, formatter_class=argparse.RawDescriptionHelpFormatter)
     reader.add_argument("--program", default=f"{TOP}/crates/hdmi_cli/out/hdmi_cli")
@@ -692,7 +662,7 @@ def main(arguments):
     if not os.path.isfile(program):
         sys.exit(f"{program}: there is no such program; `rt ci` and `./vabgrot` build it")
     failed = passed = 0
-    for table in given.tables or [name for name in tables if name != "long"]:
+    for table in given.tables or [table.__name__ for table in every if table not in NAMED]:
         start, before = time.monotonic(), passed
         for name, came, wanted in tables[table](program):
             if came == wanted:

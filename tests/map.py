@@ -1,9 +1,10 @@
 #!/usr/bin/env python3
-"""Compares the map of the proofs in docs/DEVELOPING.md with the first lines of the files below crates/*/proofs.
+"""Compares the map of the proofs in docs/DEVELOPING.md with the first lines of the files below crates/*/proofs, and looks whether each lemma
+and function that docs/THEOREM.md names is there.
 
     tests/map.py [--write]
 
-With --write the map is written anew. The last line is 'N passed, M failed', of the crates; the status is 1 where one is unlike."""
+With --write the map is written anew. The last line is 'N passed, M failed', of the crates and the names; the status is 1 where one is unlike."""
 import itertools
 import re
 import sys
@@ -11,6 +12,8 @@ from pathlib import Path
 
 TOP = Path(__file__).resolve().parents[1]
 PAGE = TOP / "docs" / "DEVELOPING.md"
+WAY = TOP / "docs" / "THEOREM.md"
+STEP = re.compile(r"(?<![\w/])(\w+)/([\w/]+)(\.rt)?: (\w[\w-]*)")
 CRATE = re.compile(r"\*\*`(\w+)`\*\*\n\n((?:- .*\n)+)")
 
 
@@ -40,6 +43,13 @@ def maps():
             yield name[0], lines
 
 
+def stands(crate, file, is_code, name):
+    """Whether the crate's file has a function, or a lemma, of that name."""
+    path = TOP / "crates" / crate / (f"src/{file}.rt" if is_code else f"proofs/{file}.antt")
+    head = rf"(?m)^\s*(pub(\(crate\))? )?fn {name}\b" if is_code else rf"(?m)^pub {name} :"
+    return path.is_file() and re.search(head, path.read_text(encoding="utf-8")) is not None
+
+
 def main(words):
     page = PAGE.read_text(encoding="utf-8")
     front, title, behind = page.partition("## The map of the proofs\n")
@@ -48,12 +58,17 @@ def main(words):
         lead = behind[: behind.index("**`")]
         PAGE.write_text(front + title + lead + "\n".join(f"**`{crate}`**\n\n{lines}" for crate, lines in wanted.items()), encoding="utf-8")
         return 0
-    stands = dict(CRATE.findall(behind))
-    unlike = sorted(crate for crate in wanted.keys() | stands.keys() if wanted.get(crate) != stands.get(crate))
+    said_of = dict(CRATE.findall(behind))
+    unlike = sorted(crate for crate in wanted.keys() | said_of.keys() if wanted.get(crate) != said_of.get(crate))
     for crate in unlike:
         print(f"docs/DEVELOPING.md: the map of {crate} is not that of its files; tests/map.py --write mends it")
-    print(f"{len(wanted.keys() | stands.keys()) - len(unlike)} passed, {len(unlike)} failed")
-    return 1 if unlike else 0
+    steps = sorted(set(STEP.findall(WAY.read_text(encoding="utf-8"))) - {("crate", "File", "", "lemma"), ("crate", "file", ".rt", "name")})
+    gone = [step for step in steps if not stands(*step)]
+    for crate, file, ending, name in gone:
+        print(f"docs/THEOREM.md: {crate}/{file}{ending} has no {name}")
+    failed = len(unlike) + len(gone)
+    print(f"{len(wanted.keys() | said_of.keys()) + len(steps) - failed} passed, {failed} failed")
+    return 1 if failed else 0
 
 
 if __name__ == "__main__":

@@ -43,6 +43,25 @@ def capture_of(version, lanes):
     return b"TMC%d" % version + b"".join(count.to_bytes(4, "big") for count in counts) + b"".join(blocks)
 
 
+def lanes_of(rows):
+    """A capture of the first version of three lanes of as many bytes, all of whose bits count."""
+    size = len(rows[0])
+    blocks = [row[at : at + BLOCK] for at in range(0, size, BLOCK) for row in rows]
+    return b"TMC1" + (8 * size).to_bytes(4, "big") + b"".join(blocks)
+
+
+def sent(words, size):
+    """So many bytes of a lane that carries these characters over and over, the lowest bit first."""
+    bits = "".join(format(word, "010b")[::-1] for word in words)
+    bits = (bits * (8 * size // len(bits) + 1))[: 8 * size]
+    return int(bits[::-1], 2).to_bytes(size, "little")
+
+
+def packed(words):
+    """The bytes of characters of which four take five bytes."""
+    return sent(words, len(words) * 10 // 8)
+
+
 def slipped(lanes, lane, place, drop):
     """The lanes without some bits of one."""
     return [bits[:place] + bits[place + drop :] if at == lane else bits for at, bits in enumerate(lanes)]
@@ -182,7 +201,11 @@ def dvi_text(columns):
 def subframe(mark, value, flags):
     """The eight bytes of a subframe; V is bit 0 of the flags, U bit 1, C bit 2."""
     bits = value | flags << 24
-    bits |= (bits.bit_count() & 1) << 27
+    return line_coded(mark, bits | (bits.bit_count() & 1) << 27)
+
+
+def line_coded(mark, bits):
+    """The eight bytes of a mark and 28 bits, the last of which is their parity in a subframe."""
     halves = MARKS[mark]
     for at in range(28):
         first = "1" if halves[-1] == "0" else "0"

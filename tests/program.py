@@ -11,6 +11,9 @@ import sys
 
 TOP = os.path.dirname(os.path.dirname(os.path.abspath(__file__)))
 LISTING = b"c 00 4\nc 04 8\nv ff0000\nc 00 12\nend\n"
+READERS = (["recover", "link"], ["recover", "content"], ["check"], ["damage", "0:0:354"])
+FURTHER = (["recover", "track"], ["recover", "dvi"], ["recover", "biphase", "0"], ["relay"])
+SLIP = ["slip", "0:0:1"]
 USAGE = b"usage: make, recover, check, damage or sample\n"
 SAMPLE = (
     b"columns 1231895\nframes 2\nrows 960\npackets 406\nsamples 1600\nsymbols 406\nmended 800\ncode 1440\nother 0\ndiffer 956\n"

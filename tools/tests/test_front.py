@@ -57,6 +57,26 @@ def test_built_once_and_run(front):
         assert (status, said) == (0, "") and out.startswith("usage: ./vabgrot")
 
 
+@pytest.mark.skipif(shutil.which("taskset") is None, reason="taskset of util-linux is missing")
+def test_on_one_processor(front, tmp_path):
+    """What starts threads runs on one of the processors that the script may use, all else on all of them; and where
+    `taskset` is refused, all does."""
+    front("check", rt=BUILDS)
+    program = tmp_path / "top" / "crates" / "hdmi_cli" / "out" / "hdmi_cli"
+    program.write_text("#!/bin/sh\ngrep Cpus_allowed_list /proc/self/status | cut -f2\necho \"$@\"\n")
+    with open("/proc/self/status") as status:
+        every = next(line.split()[1] for line in status if line.startswith("Cpus_allowed_list"))
+    places = {str(place) for place in os.sched_getaffinity(0)}
+    for words in (["recover", "link"], ["recover", "a b"], ["check"], ["relay"], ["sample", "2"]):
+        place, said = front(*words)[1].splitlines()
+        assert place in places and said == " ".join(words)
+    for words in (["make", "link"], ["damage"], ["slip"], ["read", "biphase"], []):
+        assert front(*words)[1].splitlines() == [every, " ".join(words)]
+    (tmp_path / "path" / "taskset").write_text("#!/bin/sh\nexit 1\n")
+    (tmp_path / "path" / "taskset").chmod(0o755)
+    assert front("check")[1].splitlines() == [every, "check"]
+
+
 def test_installed(front, tmp_path):
     """Below a prefix, or the home folder's .local; each tool runs from there by its name."""
     assert front("install", rt=BUILDS)[0] == 0

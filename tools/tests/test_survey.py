@@ -1,6 +1,8 @@
 """tools/survey: many captures judged here, and on the workers of a real Dask scheduler."""
 
 import csv
+import os
+import shutil
 import signal
 import subprocess
 import sys
@@ -88,6 +90,37 @@ def test_what_is_done_and_unchanged_is_kept(tool, folder, program, tmp_path):
     assert came.stderr == b"2 captures, 0 judged now: 2 clean\n" and len(rows_of(table)) == 2
     came = tool("survey", folder / "red02.tmc", "-o", table, "--anew", *words)
     assert came.stderr == b"1 captures, 1 judged now: 1 clean\n" and len(rows_of(table)) == 1
+
+
+@pytest.mark.skipif(shutil.which("taskset") is None, reason="taskset of util-linux is missing")
+def test_one_processor_each(tool, folder, tmp_path):
+    """Each run of the program has one of the processors that the survey may use, and each of these is used."""
+    asked, program = tmp_path / "asked", tmp_path / "where"
+    program.write_text(
+        f"#!/bin/sh\ngrep Cpus_allowed_list /proc/self/status | cut -f2 >> {asked}\nsleep 0.05\nexec {built()} \"$@\"\n"
+    )
+    program.chmod(0o755)
+    places = sorted(os.sched_getaffinity(0))[-3:]
+    words = ["taskset", "-c", ",".join(map(str, places)), TOP / "tools" / "survey", folder, "-o", tmp_path / "survey.csv"]
+    came = subprocess.run([*map(str, words), "--program", program], capture_output=True)
+    assert came.returncode == 1, came.stderr
+    used = asked.read_text().split()
+    assert len(used) == 32 and set(used) == set(map(str, places))
+    words[2] = str(places[0])
+    subprocess.run([*map(str, words), "--program", program, "--anew"], capture_output=True)
+    assert asked.read_text().split()[32:] == [str(places[0])] * 32
+
+
+@pytest.mark.skipif(shutil.which("taskset") is None, reason="taskset of util-linux is missing")
+def test_no_processor_may_be_chosen(tool, folder, tmp_path, monkeypatch):
+    """Where `taskset` is refused the captures are judged as ever."""
+    refusing = tmp_path / "path" / "taskset"
+    refusing.parent.mkdir()
+    refusing.write_text("#!/bin/sh\nexit 1\n")
+    refusing.chmod(0o755)
+    monkeypatch.setenv("PATH", f"{refusing.parent}:{os.environ['PATH']}")
+    came = tool("survey", folder, "-o", tmp_path / "survey.csv", "--program", built(), status=1)
+    assert came.stderr == b"16 captures, 16 judged now: 12 clean, 2 faulty, 1 refused, 1 unaligned\n"
 
 
 def waited(until, seconds=60):
