@@ -47,7 +47,7 @@ changed_both bits (suc k) (u ∷ us) ws =
     let e : k - length us ≡ suc k - length (u ∷ us) = omega arith in
     ap (λ vs. u ∷ vs) (changed_both bits k us ws ∙ ap (λ m. changed_from bits k us ++ changed_from bits m ws) e)
 
--- Rule 6.
+-- Preambles.
 
 changed_all : (bits : ℕ) (vs : List ℕ) → changed_from bits 0 vs ≡ map (with_ctl bits) vs
 unfolding changed_from

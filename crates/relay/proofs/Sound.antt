@@ -22,7 +22,7 @@ pub sound_both : (ks ls : List Kept) → AreSound ks → AreSound ls → AreSoun
 sound_both [] ls h g = g
 sound_both (k ∷ ks) ls h g = (h.0, sound_both ks ls h.1 g)
 
--- Rule 1.
+-- What is kept.
 
 sound_where : (p : Bool) (k : Kept) → (p ≡ true → IsSound k) → AreSound (where_so p k)
 sound_where true k f = (f refl, tt)
@@ -47,7 +47,7 @@ unfolding kept_from
 sound_kept b [] = tt
 sound_kept b (x ∷ xs) = sound_both (adds b x) (kept_from (goes_on x b) xs) (sound_adds b x) (sound_kept (goes_on x b) xs)
 
--- Rule 2.
+-- Null packets.
 
 sound_null : (p : Packet) → is_packet p ≡ true → is_packet (null_packet p.sync) ≡ true
 unfolding is_packet
@@ -92,7 +92,7 @@ unfolding nulled
 sound_nulled [] h = tt
 sound_nulled (k ∷ ks) h = (sound_with k h.0, sound_nulled ks h.1)
 
--- Rule 3.
+-- Joined runs.
 
 abbrev pub Small : List ℕ → Type 0
 Small vs = list_all (λ v. nat_lt v 64) vs ≡ true

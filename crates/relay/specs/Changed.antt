@@ -13,7 +13,7 @@ changed_from bits (suc k) (v ∷ vs) = v ∷ changed_from bits k vs
 abbrev pub some_changed : ℕ → ℕ → ℕ → ℕ → List ℕ
 some_changed bits left v n = replicate (min n left) v ++ replicate (n - min n left) (with_ctl bits v)
 
--- rule 6 is that from the eighth place from the end on; with no place changed nothing is
+-- the preamble before a line or an island is that from the eighth place from the end on; with no place changed nothing is
 abbrev pub AnnouncedFrom : Type 0
 AnnouncedFrom = (bits : ℕ) (vs : List ℕ) → 8 ≤ length vs → announcing bits vs ≡ changed_from bits (length vs - 8) vs
 

@@ -11,7 +11,7 @@ use Rattle.island_pack.specs.declared.packet.Packet.{Packet}
 use Rattle.island_pack.specs.declared.packet.PacketVerdicts.{PacketVerdicts}
 use Rattle.period_grammar.specs.Things.{Thing, run, line, cut, open_island, packet, close_island}
 
--- Rule 1. Faults are left out, and what is no whole period.
+-- Faults are left out, and what is no whole period.
 
 -- a thing that is no fault
 pub data Said : Type 0 where
@@ -100,7 +100,7 @@ kept_from b (x ∷ xs) = adds b x ++ kept_from (goes_on x b) xs
 unfoldable pub kept : List Thing → List Kept
 kept told = kept_from None (without_faults told)
 
--- Rule 2. A packet with a lost block becomes the Null packet, with its sync values.
+-- A packet with a lost block becomes the Null packet, with its sync values.
 
 abbrev pub is_lost : Verdict → Bool
 is_lost Clean = false
@@ -126,7 +126,7 @@ with_nulls (some_island x) = some_island (record { opening = x.opening; packets 
 unfoldable pub nulled : List Kept → List Kept
 nulled ks = map with_nulls ks
 
--- Rule 3. Neighbouring runs become one control period.
+-- Neighbouring runs become one control period.
 
 -- what is no control period
 pub data Data : Type 0 where
@@ -164,20 +164,20 @@ on_turn f x = record { values = f x.values; inner = x.inner }
 abbrev pub on_values : (List ℕ → List ℕ) → Turns → Turns
 on_values f t = record { turns = map (on_turn f) t.turns; last = f t.last }
 
--- Rule 4. Where there are no control columns, before the first, between two or behind the last of what is none, twelve of
+-- Where there are no control columns, before the first, between two or behind the last of what is none, twelve of
 -- value 0 come.
 
 abbrev pub filled : List ℕ → List ℕ
 filled [] = replicate 12 0
 filled (v ∷ vs) = v ∷ vs
 
--- Rule 5. Fewer than twelve become twelve, by columns of the first value before them.
+-- Fewer than twelve become twelve, by columns of the first value before them.
 
 abbrev pub lengthened : List ℕ → List ℕ
 lengthened [] = []
 lengthened (v ∷ vs) = replicate (12 - length (v ∷ vs)) v ++ (v ∷ vs)
 
--- Rule 6. The last eight columns before a line or an island carry its preamble.
+-- The last eight columns before a line or an island carry its preamble.
 
 abbrev pub with_ctl : ℕ → ℕ → ℕ
 with_ctl bits value = value % 4 + 4 * bits
