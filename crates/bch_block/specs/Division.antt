@@ -1,5 +1,5 @@
--- The remainder of a list of bits by x^8 + x^7 + x^6 + 1, by long division. Only the contracts of private functions
--- cite it; a block is defined without it, by its quotient (`Block`).
+-- The remainder of a list of bits by x^8 + x^7 + x^6 + 1, by long division. No contract of this crate's public functions
+-- cites it: a block is defined by its quotient (`Block`). What is worked out of received packets is told by it.
 use Rattle.std.specs.Prelude.{ℕ, Bool, true, false, List, [], ◌∷◌}
 use Rattle.std.proofs.Common.{suc, zero}
 use Rattle.bch_block.specs.Bits.{xor, bit}

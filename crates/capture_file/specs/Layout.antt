@@ -1,4 +1,5 @@
--- The layout of a capture: the bits of three lanes, all of one length, as bytes. It is this project's own format.
+-- How the bits of lanes lie in the bytes of a capture: packed, and block after block; and the header of version 1, whose lanes
+-- are all of one length. It is this project's own format. `Captures` says what a capture of either version is.
 use Rattle.std.specs.Prelude.{ℕ, ◌+◌, ◌*◌, ◌/◌, ◌%◌, ◌^◌, Bool, List, [], ◌∷◌, ◌++◌, length, take, drop, codes}
 use Rattle.std.proofs.Common.{suc, zero}
 use Rattle.tmds_word.specs.Bits.{bytes_of, number}

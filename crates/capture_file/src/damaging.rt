@@ -20,7 +20,7 @@ pub struct Hit {
 pub enum DamageError {
     /// The bytes are no capture.
     Bad(CaptureFault),
-    /// The ten bits of the hit of this number, from 0, pass the lanes' end.
+    /// The ten bits of the hit of this number, from 0, pass the end of their lane, and those of no hit before it do.
     Place(u32),
     /// The source failed.
     Read,

@@ -53,7 +53,7 @@ impl Lanes {
         }
     }
 
-    /// No columns, and room for as many as are asked for.
+    /// No columns. Room is taken for so many at once.
     pub fn with_capacity(alloc: Global, columns: u32) -> Result<Lanes, NoMemory>
         ensures { IfOk result (λ lanes. lanes ≡ record { columns = []; refusals = 0 }) }
     {

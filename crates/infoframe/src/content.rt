@@ -68,7 +68,7 @@ pub struct Avi {
 /// An audio InfoFrame of version 1 (CTA-861, section 6.6).
 #[derive(Clone, Copy, Debug, PartialEq, Eq)]
 pub struct AudioInfo {
-    /// Channel count: PB1 bits 0 to 2.
+    /// Channel count less one, or 0 where the audio's own header says it: PB1 bits 0 to 2.
     pub cc: u8,
     /// Coding type: PB1 bits 4 to 7.
     pub ct: u8,

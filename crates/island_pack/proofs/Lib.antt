@@ -10,4 +10,4 @@ mod Law
 pub mod Spelled
 mod PacketRanges
 pub mod Repaired
-mod RepairedBlocks
+pub mod RepairedBlocks

@@ -26,7 +26,7 @@ use Rattle.island_pack.proofs.PixelColumns.{no_pixels, pixels_go_on}
 bytes_below : (bytes : List ℕ) → are_bytes bytes ≡ true → All (λ byte. byte < 256) bytes
 bytes_below bytes h = λ k d lt. ltb-true _ 256 (AllPass-from_list_all (λ b. nat_lt b 256) bytes h k d lt)
 
-whole_packet : (p : Packet) → is_packet p ≡ true → IsPacket p
+pub whole_packet : (p : Packet) → is_packet p ≡ true → IsPacket p
 unfolding is_packet
 whole_packet p h =
     let parts = and_parts ((length p.header == 3) && are_bytes p.header) _ h in
@@ -41,7 +41,7 @@ whole_packet p h =
       sync = eqb-true _ _ (and_parts (length p.sync == 32) _ others.1).0;
     }
 
-sync_small : (p : Packet) → is_packet p ≡ true → All (λ v. v < 4) p.sync
+pub sync_small : (p : Packet) → is_packet p ≡ true → All (λ v. v < 4) p.sync
 unfolding is_packet
 sync_small p h =
     let parts = and_parts ((length p.header == 3) && are_bytes p.header) _ h in

@@ -1,5 +1,5 @@
 -- The table of steps: each place is computed.
-use Rattle.std.proofs.Common.{◌≡◌, ℕ, zero, suc, ◌+◌, ◌-◌, ◌*◌, ◌<◌, ◌≤◌, Bool, true, false, cond, List, [], ◌∷◌, drop, get_or, refl, subst, nat_le, ◌==◌, ◌&&◌, arith, slice_index, eqb-true, ap, sym, ◌∙◌, inl, inr}
+use Rattle.std.proofs.Common.{◌≡◌, ℕ, zero, suc, ◌+◌, ◌-◌, ◌*◌, ◌/◌, ◌%◌, ◌<◌, ◌≤◌, Bool, true, false, cond, List, [], ◌∷◌, drop, get_or, refl, subst, nat_le, ◌==◌, ◌&&◌, arith, slice_index, eqb-true, ap, sym, ◌∙◌, inl, inr}
 use Rattle.std.specs.Prelude.{pos, ◌+ℤ◌, ◌-ℤ◌, Some, None}
 use Rattle.std.proofs.lemmas.Bool.{le-leb, cases_lt}
 use Rattle.std.proofs.lemmas.List.{get_or-drop}
@@ -15,10 +15,10 @@ use Rattle.tmds_code.proofs.Steps.{step_balance}
 right_at : ℕ → ℕ → Bool
 right_at k w = w == coded_word (pos (2 * k) -ℤ pos 8) (decoded_byte w)
 
--- the step behind a right word and behind a wrong one
+-- the row behind a right word and behind a wrong one
 entry_holds : Bool → ℕ → ℕ → ℕ → Bool
-entry_holds true k w v = (v + 5 == k + ones (word_bits w)) && nat_le v 8
-entry_holds false k w v = v == 9
+entry_holds true k w v = (v % 1024 == 0) && ((v / 1024 + 5 == k + ones (word_bits w)) && nat_le (v / 1024) 8)
+entry_holds false k w v = v == 9216
 
 -- whether the next n entries hold, from word w on
 matched : ℕ → ℕ → ℕ → List ℕ → Bool
@@ -96,66 +96,73 @@ holds_at k w le lt =
 all_nine : ℕ → List ℕ → Bool
 all_nine zero vs = true
 all_nine (suc n) [] = false
-all_nine (suc n) (v ∷ vs) = (v == 9) && all_nine n vs
+all_nine (suc n) (v ∷ vs) = (v == 9216) && all_nine n vs
 
-nine_at : (n : ℕ) (vs : List ℕ) (j : ℕ) → all_nine n vs ≡ true → j < n → get_or vs j 0 ≡ 9
+nine_at : (n : ℕ) (vs : List ℕ) (j : ℕ) → all_nine n vs ≡ true → j < n → get_or vs j 0 ≡ 9216
 unfolding all_nine
 nine_at zero vs j h lt = absurd (omega arith)
 nine_at (suc n) [] j h lt = cc
-nine_at (suc n) (v ∷ vs) zero h lt = eqb-true v 9 (and-left _ _ h)
+nine_at (suc n) (v ∷ vs) zero h lt = eqb-true v 9216 (and-left _ _ h)
 nine_at (suc n) (v ∷ vs) (suc j) h lt = nine_at n vs j (and-right _ _ h) (omega arith)
 
 past_nine : all_nine 1024 (drop 9216 FOLLOWED) ≡ true
 unfolding all_nine
 past_nine = refl
 
-past_at : (w : ℕ) → w < 1024 → slice_index FOLLOWED (9216 + w) ≡ 9
+past_at : (w : ℕ) → w < 1024 → slice_index FOLLOWED (9216 + w) ≡ 9216
 past_at w lt = sym (get_or-drop 9216 FOLLOWED w 0) ∙ nine_at 1024 (drop 9216 FOLLOWED) w past_nine lt
 
 -- what the table says at a step
-entry_by : (p : Bool) (k w v : ℕ) → w < 1024 → entry_holds p k w v ≡ true → disparity_at v ≡ cond p (Some ((pos (2 * k) -ℤ pos 8) +ℤ balance (word_bits w))) None
+entry_by : (p : Bool) (k w v : ℕ) → w < 1024 → entry_holds p k w v ≡ true → disparity_at (v / 1024) ≡ cond p (Some ((pos (2 * k) -ℤ pos 8) +ℤ balance (word_bits w))) None
 unfolding entry_holds
 entry_by true k w v lt e =
-    let sum : v + 5 ≡ k + ones (word_bits w) = eqb-true (v + 5) (k + ones (word_bits w)) (and-left (v + 5 == k + ones (word_bits w)) (nat_le v 8) e) in
-    let le : v ≤ 8 = leb-true v 8 (and-right (v + 5 == k + ones (word_bits w)) (nat_le v 8) e) in
-    let is : v ≡ k + ones (word_bits w) - 5 = omega arith in
-    ap (λ p. cond p (Some (pos (2 * v) -ℤ pos 8)) None) (le-leb v 8 le)
+    let step = v / 1024 in
+    let right = and-right (v % 1024 == 0) ((step + 5 == k + ones (word_bits w)) && nat_le step 8) e in
+    let sum : step + 5 ≡ k + ones (word_bits w) = eqb-true (step + 5) (k + ones (word_bits w)) (and-left (step + 5 == k + ones (word_bits w)) (nat_le step 8) right) in
+    let le : step ≤ 8 = leb-true step 8 (and-right (step + 5 == k + ones (word_bits w)) (nat_le step 8) right) in
+    let is : step ≡ k + ones (word_bits w) - 5 = omega (arith, sum) in
+    ap (λ p. cond p (Some (pos (2 * step) -ℤ pos 8)) None) (le-leb step 8 le)
     ∙ ap (λ n. Some (pos (2 * n) -ℤ pos 8)) is
-    ∙ ap Some (step_balance k w lt (omega arith))
-entry_by false k w v lt e = ap disparity_at (eqb-true v 9 e)
+    ∙ ap Some (step_balance k w lt (omega (arith, sum, le)))
+entry_by false k w v lt e = ap (λ n. disparity_at (n / 1024)) (eqb-true v 9216 e)
 
-at_step : (k w : ℕ) → k ≤ 8 → w < 1024 → disparity_at (slice_index FOLLOWED (1024 * k + w)) ≡ followed (disparity_at k) w
+at_step : (k w : ℕ) → k ≤ 8 → w < 1024 → disparity_at (slice_index FOLLOWED (1024 * k + w) / 1024) ≡ followed (disparity_at k) w
 unfolding right_at
 at_step k w le lt =
     entry_by (right_at k w) k w _ lt (holds_at k w le lt)
     ∙ sym (ap (λ p. followed (cond p (Some (pos (2 * k) -ℤ pos 8)) None) w) (le-leb k 8 le))
 
-at_past : (k w : ℕ) → k ≡ 9 → w < 1024 → disparity_at (slice_index FOLLOWED (1024 * k + w)) ≡ followed (disparity_at k) w
+at_past : (k w : ℕ) → k ≡ 9 → w < 1024 → disparity_at (slice_index FOLLOWED (1024 * k + w) / 1024) ≡ followed (disparity_at k) w
 at_past k w e lt =
-    ap (λ n. disparity_at (slice_index FOLLOWED (1024 * n + w))) e
-    ∙ ap disparity_at (past_at w lt)
+    ap (λ n. disparity_at (slice_index FOLLOWED (1024 * n + w) / 1024)) e
+    ∙ ap (λ n. disparity_at (n / 1024)) (past_at w lt)
     ∙ sym (ap (λ n. followed (disparity_at n) w) e)
 
 -- the step behind a word, at each step
-pub table_step : (k w : ℕ) → k ≤ 9 → w < 1024 → disparity_at (slice_index FOLLOWED (1024 * k + w)) ≡ followed (disparity_at k) w
+pub table_step : (k w : ℕ) → k ≤ 9 → w < 1024 → disparity_at (slice_index FOLLOWED (1024 * k + w) / 1024) ≡ followed (disparity_at k) w
 table_step k w le lt =
     elim (cases_lt k 9) [
       | inl less ↦ at_step k w (omega arith) lt
       | inr more ↦ at_past k w (omega arith) lt
     ]
 
--- no entry is above 9
-entry_below : (p : Bool) (k w v : ℕ) → entry_holds p k w v ≡ true → v ≤ 9
+-- an entry is the beginning of a row
+entry_row : (p : Bool) (k w v : ℕ) → entry_holds p k w v ≡ true → (v ≤ 9216) × (v % 1024 ≡ 0)
 unfolding entry_holds
-entry_below true k w v e =
-    let le : v ≤ 8 = leb-true v 8 (and-right (v + 5 == k + ones (word_bits w)) (nat_le v 8) e) in omega arith
-entry_below false k w v e = omega (arith, eqb-true v 9 e)
+entry_row true k w v e =
+    let step = v / 1024 in
+    let whole = eqb-true (v % 1024) 0 (and-left (v % 1024 == 0) ((step + 5 == k + ones (word_bits w)) && nat_le step 8) e) in
+    let right = and-right (v % 1024 == 0) ((step + 5 == k + ones (word_bits w)) && nat_le step 8) e in
+    let le : step ≤ 8 = leb-true step 8 (and-right (step + 5 == k + ones (word_bits w)) (nat_le step 8) right) in
+    (omega (arith, whole, le), whole)
+entry_row false k w v e = let is = eqb-true v 9216 e in (omega (arith, is), omega (arith, is))
 
-pub table_below : (k w : ℕ) → k ≤ 9 → w < 1024 → slice_index FOLLOWED (1024 * k + w) ≤ 9
-table_below k w le lt =
+pub table_row : (k w : ℕ) → k ≤ 9 → w < 1024 → (slice_index FOLLOWED (1024 * k + w) ≤ 9216) × (slice_index FOLLOWED (1024 * k + w) % 1024 ≡ 0)
+table_row k w le lt =
     elim (cases_lt k 9) [
-      | inl less ↦ entry_below (right_at k w) k w _ (holds_at k w (omega arith) lt)
+      | inl less ↦ entry_row (right_at k w) k w _ (holds_at k w (omega arith) lt)
       | inr more ↦
           let e : k ≡ 9 = omega arith in
-          omega (arith, ap (λ n. slice_index FOLLOWED (1024 * n + w)) e, past_at w lt)
+          let is = ap (λ n. slice_index FOLLOWED (1024 * n + w)) e ∙ past_at w lt in
+          (omega (arith, is), omega (arith, is))
     ]

@@ -6,24 +6,28 @@ use crate::following::followed;
 use std::marker::Model;
 use tmds_word::Word;
 
+/// Where the row behind a wrong character begins.
+const WRONG: usize = 9216;
+
 /// The disparity of a lane all of whose characters are rightly coded so far, or that one was not. Contracts see it as
 /// the number of its step, and `disparity_at` says what that stands for.
 #[derive(Clone, Copy, Debug, PartialEq, Eq)]
 pub struct Balance {
-    /// Half of the disparity, counted from -4: the disparity is even and from -8 to 8. 9 where a character was wrong.
-    step: u8,
+    /// Where the row of its step begins in the table: 1,024 times the step. A step is half of the disparity, counted from
+    /// -4, which is even and from -8 to 8; it is 9 where a character was wrong.
+    row: usize,
 }
 
 impl Model for Balance {
-    ghost use Rattle.std.specs.Prelude.{◌≤◌, ℕ};
+    ghost use Rattle.std.specs.Prelude.{◌≤◌, ℕ, ◌*◌, ◌/◌, ◌%◌, ◌≡◌};
 
     ghost Value = { ℕ };
 
-    ghost view = { λ b. b.step };
+    ghost view = { λ b. b.row / 1024 };
 
-    ghost inverse = { λ n. record { step = n } };
+    ghost inverse = { λ n. record { row = 1024 * n } };
 
-    ghost invariant = { λ b. b.step ≤ 9 };
+    ghost invariant = { λ b. (b.row ≤ 9216) × (b.row % 1024 ≡ 0) };
 }
 
 impl Balance {
@@ -32,12 +36,14 @@ impl Balance {
         ensures value { IfSome (disparity_at result) (λ d. d ≡ disparity) }
         ensures step { (k : ℕ) → k ≤ 8 → disparity ≡ pos (2 * k) -ℤ pos 8 → result ≡ k }
     {
-        for step in 0..9 {
+        for step in 0..9u8 {
             if 2 * i32::from(step) - 8 == disparity {
-                return Balance { step };
+                return Balance {
+                    row: 1024 * usize::from(step),
+                };
             }
         }
-        Balance { step: 9 }
+        Balance { row: WRONG }
     }
 
     /// The balance behind a character: not right any more where the character is wrongly coded.
@@ -45,7 +51,7 @@ impl Balance {
         ensures { disparity_at result ≡ followed (disparity_at self) word }
     {
         Balance {
-            step: followed(1024 * usize::from(self.step) + usize::from(word.value())),
+            row: followed(self.row + usize::from(word.value())),
         }
     }
 
@@ -53,7 +59,7 @@ impl Balance {
     pub fn is_right(self) -> bool
         ensures { result ≡ is_some (disparity_at self) }
     {
-        self.step < 9
+        self.row < WRONG
     }
 
     /// The ones minus the zeros of the characters so far: even, and from -8 to 8.
@@ -63,6 +69,6 @@ impl Balance {
         ensures low { negsuc 7 ≤ℤ result }
         ensures high { result ≤ℤ pos 8 }
     {
-        2 * i32::from(self.step) - 8
+        2 * (self.row / 1024) as i32 - 8
     }
 }

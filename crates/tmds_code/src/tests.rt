@@ -1,7 +1,7 @@
 //! The definitions, against characters and answers worked out apart from this crate.
 mod vectors;
 
-use crate::{CodeJudge, VideoCoder, decode, encode, laws};
+use crate::{CodeJudge, VideoCoder, decode, encode};
 use std::process::Abort;
 use tmds_word::Word;
 use vectors::{CODED, DECODED, JUDGED, LANE};
@@ -68,10 +68,4 @@ fn is_judged(lane: &[(u16, u8, bool); 12]) -> bool {
         }
     }
     true
-}
-
-#[test]
-fn laws_end() {
-    laws::decodes_coded();
-    laws::coded_is_quiet();
 }

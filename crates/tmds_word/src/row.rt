@@ -50,7 +50,7 @@ impl BitRow {
         }
     }
 
-    /// A row with no bits, and with room for as many as are asked for.
+    /// A row with no bits. Room is taken for so many at once.
     pub fn with_capacity(alloc: Global, bits: u32) -> Result<BitRow, NoMemory>
         ensures { IfOk result (λ row. row ≡ []) }
     {
