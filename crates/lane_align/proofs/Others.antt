@@ -1,6 +1,5 @@
 -- The masks of the ten lowest bits but one.
-use Rattle.std.proofs.Common.{◌≡◌, ℕ, ◌<◌, ◌≤◌, Bool, true, false, not, nat_eq, slice_index, refl, arith, ◌==◌, ◌||◌, eqb-true, ap, inl, inr, ◌∙◌, sym}
-use Rattle.std.proofs.lemmas.Bool.{cases_Bool}
+use Rattle.std.proofs.Common.{◌≡◌, ℕ, ◌<◌, ◌≤◌, Bool, true, false, slice_index, refl, arith, ◌==◌, ◌||◌, eqb-true}
 use Rattle.tmds_word.specs.Bits.{bit}
 use Rattle.tmds_word.proofs.Below.{passes_below, passes_at}
 use Rattle.lane_align.specs.declared.search.TheConstants.{OTHERS}
@@ -24,9 +23,3 @@ unfolding has_bits has_bit
 others_bit phase k le lt apart =
     or_right (k == phase) (bit (slice_index OTHERS phase) k) (λ h. apart (eqb-true k phase h))
     (passes_at 10 (has_bit phase) k (passes_at 11 has_bits phase all_bits (omega arith)) lt)
-
-pub zero_from : (n : ℕ) → not (nat_eq n 0) ≡ false → n ≡ 0
-zero_from n h = elim (cases_Bool (nat_eq n 0)) [
-  | inl same ↦ eqb-true n 0 same
-  | inr other ↦ let g : not (nat_eq n 0) ≡ true = ap not other in let f : true ≡ false = sym g ∙ h in cc
-]

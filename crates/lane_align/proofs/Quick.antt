@@ -1,13 +1,14 @@
 -- What the quick test says of the places of its stretch.
-use Rattle.std.proofs.Common.{◌≡◌, ℕ, ◌+◌, ◌-◌, ◌*◌, ◌/◌, ◌%◌, ◌^◌, ◌<◌, ◌≤◌, min, Bool, true, List, take, drop, ap, ap₂, ◌∙◌, sym, subst, arith, bit_and, eqb-true}
+use Rattle.std.proofs.Common.{◌≡◌, ℕ, ◌+◌, ◌-◌, ◌*◌, ◌/◌, ◌%◌, ◌^◌, ◌<◌, ◌≤◌, suc, zero, min, Bool, true, List, length, take, drop, refl, ap, ap₂, ◌∙◌, sym, subst, arith, bit_and, ◌==◌, eqb-true}
 use Rattle.std.specs.Int.{bit_at}
-use Rattle.std.proofs.lemmas.Nat.{field_of, shr-shr}
+use Rattle.std.proofs.lemmas.Nat.{field_of, shr-shr, and_mask}
 use Rattle.std.proofs.lemmas.Nat.Bits.{bit_at_and}
 use Rattle.std.proofs.Math.Pow.{mod-mod-pow}
 use Rattle.tmds_word.specs.Bits.{bit, number}
 use Rattle.tmds_word.proofs.Numbers.{number-window, zero_over}
 use Rattle.terc4.specs.Tables.{is_control}
-use Rattle.lane_align.specs.Lanes.{IsRun}
+use Rattle.lane_align.specs.Lanes.{HasControl, IsRun}
+use Rattle.lane_align.proofs.Controls.{control_here}
 use Rattle.lane_align.proofs.Calm.{control_is}
 use Rattle.lane_align.specs.Search.{control_at}
 
@@ -24,10 +25,10 @@ window_within xs c m few =
     ∙ sym (number-window (c + m) 10 xs)
 
 -- a run that begins at one of the eighty places up to the tested one
-pub quick_none : (xs : List Bool) (v at phase q : ℕ) → v ≡ number xs / 2 ^ (8 * (10 * at)) % 2 ^ 64
-    → ((k : ℕ) → k < 10 → (k ≡ phase → ⊥) → control_at v k ≡ true → control_at v (k + 10) ≡ true → control_at v (k + 20) ≡ true → ⊥)
-    → 80 * at < q + 80 → q ≤ 80 * at → (q % 10 ≡ phase → ⊥) → IsRun xs q → ⊥
-quick_none xs v at phase q e none near before apart run =
+pub quick_some : (P : ℕ → Type 0) (xs : List Bool) (v at phase q : ℕ) → v ≡ number xs / 2 ^ (8 * (10 * at)) % 2 ^ 64
+    → ((k : ℕ) → k < 10 → (k ≡ phase → ⊥) → control_at v k ≡ true → control_at v (k + 10) ≡ true → control_at v (k + 20) ≡ true → P k)
+    → 80 * at < q + 80 → q ≤ 80 * at → (q % 10 ≡ phase → ⊥) → IsRun xs q → P (q % 10)
+quick_some P xs v at phase q e some near before apart run =
     let c = 8 * (10 * at) in
     let j = (80 * at - q + 9) / 10 in
     let k = q + 10 * j - 80 * at in
@@ -40,22 +41,78 @@ quick_none xs v at phase q e none near before apart run =
     ∙ ap is_control (window_within xs c (k + 10 * i) (omega arith) ∙ ap (λ m. number (take 10 (drop m xs))) place)
     ∙ control_is xs (q + 10 * (j + i)) (run (j + i) (omega arith)) in
     let zero_of : k + 10 * 0 ≡ k = omega arith in
-    none k few (λ h. apart (omega arith)) (subst (λ m. control_at v m ≡ true) zero_of (found 0 (omega arith))) (found 1 (omega arith)) (found 2 (omega arith))
+    subst P same (some k few (λ h. apart (omega arith)) (subst (λ m. control_at v m ≡ true) zero_of (found 0 (omega arith))) (found 1 (omega arith)) (found 2 (omega arith)))
+
+pub quick_none : (xs : List Bool) (v at phase q : ℕ) → v ≡ number xs / 2 ^ (8 * (10 * at)) % 2 ^ 64
+    → ((k : ℕ) → k < 10 → (k ≡ phase → ⊥) → control_at v k ≡ true → control_at v (k + 10) ≡ true → control_at v (k + 20) ≡ true → ⊥)
+    → 80 * at < q + 80 → q ≤ 80 * at → (q % 10 ≡ phase → ⊥) → IsRun xs q → ⊥
+quick_none xs v at phase q e none near before apart run = quick_some (λ k. ⊥) xs v at phase q e none near before apart run
 
 is_one : (n k : ℕ) → bit n k ≡ true → bit_at n k ≡ 1
 is_one n k h = eqb-true _ _ h
 
+bit_over : (n s k : ℕ) → bit_at (n / 2 ^ s) k ≡ bit_at n (s + k)
+bit_over n s k = ap (λ x. x % 2) (shr-shr n s k)
+
+one_bit : (n k : ℕ) → bit_at n k ≡ 1 → bit n k ≡ true
+one_bit n k h = ap (λ x. x == 1) h
+
 -- places at which three begin, and a bit of the mask
-pub none_left : (c m k : ℕ) → bit_and (bit_and (bit_and c (c / 2 ^ 10)) (c / 2 ^ 20)) m ≡ 0
-    → bit c k ≡ true → bit c (k + 10) ≡ true → bit c (k + 20) ≡ true → bit m k ≡ true → ⊥
-none_left c m k e one ten twenty mask =
+pub all_left : (c m k : ℕ) → bit c k ≡ true → bit c (k + 10) ≡ true → bit c (k + 20) ≡ true → bit m k ≡ true
+    → bit (bit_and (bit_and (bit_and c (c / 2 ^ 10)) (c / 2 ^ 20)) m) k ≡ true
+all_left c m k one ten twenty mask =
     let f : 10 + k ≡ k + 10 = omega arith in
     let g : 20 + k ≡ k + 20 = omega arith in
-    let a : bit_at (c / 2 ^ 10) k ≡ 1 = ap (λ x. x % 2) (shr-shr c 10 k) ∙ ap (bit_at c) f ∙ is_one c (k + 10) ten in
-    let b : bit_at (c / 2 ^ 20) k ≡ 1 = ap (λ x. x % 2) (shr-shr c 20 k) ∙ ap (bit_at c) g ∙ is_one c (k + 20) twenty in
-    let h : bit_at (bit_and (bit_and (bit_and c (c / 2 ^ 10)) (c / 2 ^ 20)) m) k ≡ 1 =
-    bit_at_and (bit_and (bit_and c (c / 2 ^ 10)) (c / 2 ^ 20)) m k
-    ∙ ap₂ min (bit_at_and (bit_and c (c / 2 ^ 10)) (c / 2 ^ 20) k ∙ ap₂ min (bit_at_and c (c / 2 ^ 10) k ∙ ap₂ min (is_one c k one) a) b) (is_one m k mask) in
+    let a : bit_at (c / 2 ^ 10) k ≡ 1 = bit_over c 10 k ∙ ap (bit_at c) f ∙ is_one c (k + 10) ten in
+    let b : bit_at (c / 2 ^ 20) k ≡ 1 = bit_over c 20 k ∙ ap (bit_at c) g ∙ is_one c (k + 20) twenty in
+    one_bit (bit_and (bit_and (bit_and c (c / 2 ^ 10)) (c / 2 ^ 20)) m) k
+    (bit_at_and (bit_and (bit_and c (c / 2 ^ 10)) (c / 2 ^ 20)) m k
+    ∙ ap₂ min (bit_at_and (bit_and c (c / 2 ^ 10)) (c / 2 ^ 20) k ∙ ap₂ min (bit_at_and c (c / 2 ^ 10) k ∙ ap₂ min (is_one c k one) a) b) (is_one m k mask))
+
+pub none_marked : (k : ℕ) → bit 0 k ≡ true → ⊥
+none_marked k h =
     let z : bit_at 0 k ≡ 0 = ap (λ x. x % 2) (zero_over k) in
-    let w : 1 ≡ 0 = sym h ∙ ap (λ n. bit_at n k) e ∙ z in
+    let w : 1 ≡ 0 = sym (is_one 0 k h) ∙ z in
     omega (arith, w)
+
+-- Four words in a row.
+
+-- one of them, of 64 bits from a byte on
+pub four_control : (xs : List Bool) (v p k n : ℕ) → k < 4 → p + 40 ≤ length xs → v ≡ number xs / 2 ^ (8 * (p / 8)) % 2 ^ 64 → bit n (10 * k) ≡ control_at (v / 2 ^ (p % 8)) (10 * k)
+    → (bit n (10 * k) ≡ true → HasControl xs (p + 10 * k)) × (HasControl xs (p + 10 * k) → bit n (10 * k) ≡ true)
+four_control xs v p k n lt room e is =
+    let at = 8 * (p / 8) in
+    let place : at + (p % 8 + 10 * k) ≡ p + 10 * k = omega arith in
+    let w : number xs / 2 ^ at % 2 ^ 64 / 2 ^ (p % 8) / 2 ^ (10 * k) % 2 ^ 10 ≡ number (take 10 (drop (p + 10 * k) xs)) =
+    ap (λ x. x % 2 ^ 10) (shr-shr (number xs / 2 ^ at % 2 ^ 64) (p % 8) (10 * k)) ∙ window_within xs at (p % 8 + 10 * k) (omega arith) ∙ ap (λ m. number (take 10 (drop m xs))) place in
+    control_here xs (p + 10 * k) (number (take 10 (drop (p + 10 * k) xs))) (bit n (10 * k)) (λ short. omega arith) refl
+    (is ∙ ap (λ x. is_control (x / 2 ^ (p % 8) / 2 ^ (10 * k) % 2 ^ 10)) e ∙ ap is_control w)
+
+-- what the code computes of the places of control words
+abbrev pub four : ℕ → ℕ
+four c = bit_and (bit_and (bit_and c (c / 2 ^ 10)) (c / 2 ^ 20)) (c / 2 ^ 30)
+
+four_at : (c : ℕ) → bit_and (four c) 1 ≡ min (min (min (bit_at c 0) (bit_at c 10)) (bit_at c 20)) (bit_at c 30)
+four_at c =
+    and_mask (four c) 1 ∙ zero_at (four c)
+    ∙ bit_at_and (bit_and (bit_and c (c / 2 ^ 10)) (c / 2 ^ 20)) (c / 2 ^ 30) 0
+    ∙ ap₂ min (bit_at_and (bit_and c (c / 2 ^ 10)) (c / 2 ^ 20) 0 ∙ ap₂ min (bit_at_and c (c / 2 ^ 10) 0 ∙ ap (min (bit_at c 0)) (bit_over c 10 0)) (bit_over c 20 0)) (bit_over c 30 0)
+  where
+    zero_at : (n : ℕ) → n % 2 ≡ bit_at n 0
+    zero_at n = omega arith
+
+pub four_ones : (c : ℕ) → (bit_and (four c) 1 == 1) ≡ true → (k : ℕ) → k < 4 → bit c (10 * k) ≡ true
+four_ones c set k lt =
+    let all : min (min (min (bit_at c 0) (bit_at c 10)) (bit_at c 20)) (bit_at c 30) ≡ 1 = sym (four_at c) ∙ eqb-true _ _ set in
+    one_bit c (10 * k) (each k lt all)
+  where
+    each : (k : ℕ) → k < 4 → min (min (min (bit_at c 0) (bit_at c 10)) (bit_at c 20)) (bit_at c 30) ≡ 1 → bit_at c (10 * k) ≡ 1
+    each zero h all = omega (arith, all)
+    each (suc zero) h all = omega (arith, all)
+    each (suc (suc zero)) h all = omega (arith, all)
+    each (suc (suc (suc zero))) h all = omega (arith, all)
+    each (suc (suc (suc (suc k)))) h all = absurd (omega (arith, h))
+
+pub ones_four : (c : ℕ) → ((k : ℕ) → k < 4 → bit c (10 * k) ≡ true) → (bit_and (four c) 1 == 1) ≡ true
+ones_four c all =
+    ap (λ x. x == 1) (four_at c ∙ ap₂ min (ap₂ min (ap₂ min (is_one c 0 (all 0 (omega arith))) (is_one c 10 (all 1 (omega arith)))) (is_one c 20 (all 2 (omega arith)))) (is_one c 30 (all 3 (omega arith))))

@@ -1,5 +1,5 @@
 -- The characters that are cut from the bits of a lane from a place on, and its edges among them: where a receiver
--- keeps the characters from the lock on, it needs the bits no more.
+-- keeps the characters from the lock on, it needs only the bits past the last whole one.
 use Rattle.std.specs.Prelude.{◌≡◌, ◌↔◌, ℕ, ◌+◌, ◌-◌, ◌*◌, ◌/◌, ◌%◌, ◌<◌, ◌≤◌, Bool, true, false, List, [], ◌∷◌, length, drop, slice_index, slice_get, Option, Some, None, All}
 use Rattle.std.proofs.Common.{suc, zero}
 use Rattle.tmds_word.specs.Bits.{window}

@@ -6,7 +6,7 @@ ghost use Rattle.terc4.specs.Tables.{is_control};
 ghost use Rattle.lane_align.specs.Lanes.{HasControl, IsRun};
 ghost use Rattle.lane_align.specs.Search.{control_at, IsOther, IsFirstOther};
 
-use crate::{RUN, is_control_word};
+use crate::RUN;
 
 /// How many places the quick test sees.
 const STEP: u32 = 80;
@@ -28,8 +28,9 @@ pub fn first_run(bytes: &[u8], from: u32, until: u32, phase: u32) -> Option<u32>
     while p < until {
         let at = p.div_ceil(STEP);
         let end = (STEP * at + 1).min(until);
-        if may_begin(eight_from(bytes, 10 * at as usize), phase) {
-            if let Some(found) = first_in(bytes, p, end, phase) {
+        let marks = marks_of(eight_from(bytes, 10 * at as usize), phase);
+        if marks != 0 {
+            if let Some(found) = first_in(bytes, p, end, phase, marks) {
                 return Some(found);
             }
         }
@@ -38,14 +39,14 @@ pub fn first_run(bytes: &[u8], from: u32, until: u32, phase: u32) -> Option<u32>
     None
 }
 
-/// Whether three control words in a row begin at one of the ten lowest places that are no whole characters from a phase.
-/// It may say so where none do.
-fn may_begin(bits: u64, phase: u32) -> bool
+/// At which of the ten lowest places that are no whole characters from a phase three control words in a row begin. It may
+/// mark others.
+fn marks_of(bits: u64, phase: u32) -> u64
     requires { phase ≤ 10 }
-    ensures { result ≡ false → (k : ℕ) → k < 10 → (k ≡ phase → ⊥) → control_at bits k ≡ true → control_at bits (k + 10) ≡ true → control_at bits (k + 20) ≡ true → ⊥ }
+    ensures { (k : ℕ) → k < 10 → (k ≡ phase → ⊥) → control_at bits k ≡ true → control_at bits (k + 10) ≡ true → control_at bits (k + 20) ≡ true → bit result k ≡ true }
 {
     let controls = control_places(bits);
-    controls & (controls >> 10) & (controls >> 20) & others(phase) != 0
+    controls & (controls >> 10) & (controls >> 20) & others(phase)
 }
 
 /// The ten lowest bits but one.
@@ -69,19 +70,30 @@ fn control_places(bits: u64) -> u64
     behind & (behind ^ turns)
 }
 
-/// The least place of a stretch at which a run begins that lies no whole characters from a phase, place by place.
+/// The least place of a stretch at which a run begins that lies no whole characters from a phase, place by place. A run
+/// begins only at a place that is marked: `marks` has a bit for each last digit.
 #[cold]
-fn first_in(bytes: &[u8], from: u32, until: u32, phase: u32) -> Option<u32>
+fn first_in(bytes: &[u8], from: u32, until: u32, phase: u32, marks: u64) -> Option<u32>
     requires room { from < until → until + 119 ≤ 8 * length bytes.now }
     requires small { until < 2 ^ 31 }
+    requires marks { (p : ℕ) → IsOther (bytes_bits bytes.now) from until phase p → bit marks (p % 10) ≡ true }
     ensures { MatchOption result ((p : ℕ) → IsOther (bytes_bits bytes.now) from until phase p → ⊥) (λ p. IsFirstOther (bytes_bits bytes.now) from until phase p) }
 {
     for p in from..until {
-        if p % 10 != phase && begins_run(bytes, p) {
+        if p % 10 != phase && has_mark(marks, p % 10) && begins_run(bytes, p) {
             return Some(p);
         }
     }
     None
+}
+
+/// Whether a number has a bit.
+#[inline(always)]
+fn has_mark(marks: u64, k: u32) -> bool
+    requires { k < 10 }
+    ensures { result ≡ bit marks k }
+{
+    (marks >> k) & 1 == 1
 }
 
 /// Whether a run begins at a place.
@@ -90,20 +102,21 @@ fn begins_run(bytes: &[u8], p: u32) -> bool
     requires small { p < 2 ^ 31 }
     ensures { IsTrue result ↔ IsRun (bytes_bits bytes.now) p }
 {
-    for k in 0..RUN {
-        if !has_control(bytes, p + 10 * k) {
+    for k in 0..RUN / 4 {
+        if !has_four(bytes, p + 40 * k) {
             return false;
         }
     }
     true
 }
 
-/// Whether the window at a place is a control word.
-fn has_control(bytes: &[u8], p: u32) -> bool
-    requires room { p + 10 ≤ 8 * length bytes.now }
-    ensures { IsTrue result ↔ HasControl (bytes_bits bytes.now) p }
+/// Whether the windows at a place and ten, twenty and thirty places behind it are control words.
+fn has_four(bytes: &[u8], p: u32) -> bool
+    requires room { p + 40 ≤ 8 * length bytes.now }
+    ensures { IsTrue result ↔ ((k : ℕ) → k < 4 → HasControl (bytes_bits bytes.now) (p + 10 * k)) }
 {
-    is_control_word(window_at(bytes, p))
+    let controls = control_places(eight_from(bytes, p as usize / 8) >> (p % 8));
+    controls & (controls >> 10) & (controls >> 20) & (controls >> 30) & 1 == 1
 }
 
 /// The character at a place.

@@ -5,7 +5,7 @@ use Rattle.lane_align.proofs.aligner.cut_fives.Given as goal
 
 abbrev pub invariant-loop-i : goal.invariant-loop-i
 invariant-loop-i l = record {
-  written : take (l.at + 4 * l.i) l.row ++ words_in (4 * (l.groups - l.i)) (number (bytes_bits l.bytes) / 2 ^ (l.from + 40 * l.i))
+  written : take (l.at + 4 * (2 * l.i)) l.row ++ words_in (4 * (l.groups - 2 * l.i)) (number (bytes_bits l.bytes) / 2 ^ (l.from + 40 * (2 * l.i)))
       ≡ take l.at l.fn.row ++ words_in (4 * l.groups) (number (bytes_bits l.bytes) / 2 ^ l.from);
   same : length l.row ≡ length l.fn.row;
 }
