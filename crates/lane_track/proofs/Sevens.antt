@@ -1,5 +1,5 @@
 -- Control words have seven transitions in a row behind their first bit, and no run begins in steps where none are.
-use Rattle.std.proofs.Common.{◌≡◌, ℕ, ◌+◌, ◌-◌, ◌*◌, ◌/◌, ◌%◌, ◌^◌, ◌<◌, ◌≤◌, min, Bool, true, false, not, cond, List, take, drop, nat_eq, slice_index, refl, ap, ap₂, ◌∙◌, sym, subst, arith, inl, inr, ◌==◌, ◌||◌, bit_and, bit_xor, eqb-true}
+use Rattle.std.proofs.Common.{◌≡◌, ℕ, ◌+◌, ◌-◌, ◌*◌, ◌/◌, ◌%◌, ◌^◌, ◌<◌, ◌≤◌, min, Bool, true, false, not, List, take, drop, nat_eq, slice_index, refl, ap, ap₂, ◌∙◌, sym, subst, arith, inl, inr, ◌==◌, ◌||◌, bit_and, bit_xor, eqb-true}
 use Rattle.std.specs.Int.{bit_at}
 use Rattle.std.proofs.lemmas.Bool.{cases_Bool, cases_lt}
 use Rattle.std.proofs.lemmas.Nat.{field_of, shr-shr}

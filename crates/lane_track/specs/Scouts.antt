@@ -1,5 +1,5 @@
 -- What a scout stands for: the bits of a lane from the beginning of an epoch on, as far as it has looked through them.
-use Rattle.std.specs.Prelude.{ℕ, ◌+◌, ◌<◌, ◌≤◌, Bool, List, length, Option, MatchOption}
+use Rattle.std.specs.Prelude.{◌≡◌, ℕ, ◌+◌, ◌<◌, ◌≤◌, Bool, List, length, take, drop, Option, MatchOption}
 use Rattle.lane_align.specs.Lanes.{IsRun, IsLock}
 use Rattle.lane_track.specs.Strays.{IsStray}
 
@@ -11,3 +11,8 @@ pub record HasSought (xs : List Bool) (seen : ℕ) (found : Option ℕ) : Type 0
 -- all places of the bits that are decided were looked at: those of whose run all bits have come
 abbrev pub IsSought : List Bool → Option ℕ → Type 0
 IsSought xs lock = (seen : ℕ) × (length xs ≤ seen + 119) × HasSought xs seen lock
+
+-- the first bits are so many bits of a lane, which begin at a place of it; what stands behind them is of no account
+pub record HoldsBits (bits : List Bool) (xs : List Bool) (base count : ℕ) : Type 0 where
+  pub within : base + count ≤ length xs
+  pub same : take count bits ≡ take count (drop base xs)

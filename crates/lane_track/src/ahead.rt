@@ -1,5 +1,5 @@
 //! The next run of control words, looked for by a test that most stretches of eighty places fail in a few steps.
-ghost use Rattle.std.specs.Prelude.{◌≡◌, ◌<◌, ◌≤◌, ◌+◌, ◌*◌, ◌/◌, ◌%◌, ◌^◌, ℕ, true, false, length, MatchOption, slice_index};
+ghost use Rattle.std.specs.Prelude.{◌≡◌, ◌<◌, ◌≤◌, ◌+◌, ◌*◌, ◌/◌, ◌%◌, ◌^◌, ◌↔◌, ℕ, true, false, length, drop, MatchOption, slice_index};
 ghost use Rattle.tmds_word.specs.Bits.{bit, bytes_bits, number};
 ghost use Rattle.lane_align.specs.Search.{control_at, IsOther, IsFirstOther};
 ghost use Rattle.lane_track.specs.Quiet.{IsQuiet};
@@ -20,8 +20,36 @@ static BESIDE: [u64; 11] = [
     0x7fc, 0x7fa, 0x7f6, 0x7ee, 0x7de, 0x7be, 0x77e, 0x6fe, 0x5fe, 0x3fe, 0x7fe,
 ];
 
+/// Answers as `next_run` does of the bits behind the first few, with places that are counted from there.
+pub(crate) fn next_past(bytes: &[u8], skip: u32, from: u32, until: u32, phase: u32) -> Option<u32>
+    requires phase { phase ≤ 10 }
+    requires room { from < until → skip + until + 119 ≤ 8 * length bytes.now }
+    requires small { skip + until < 2 ^ 31 }
+    requires order { from ≤ until }
+    ensures { MatchOption result ((p : ℕ) → IsOther (drop skip (bytes_bits bytes.now)) from until phase p → ⊥) (λ p. IsFirstOther (drop skip (bytes_bits bytes.now)) from until phase p) }
+{
+    match next_run(bytes, skip + from, skip + until, phase_past(phase, skip)) {
+        Some(place) => Some(place - skip),
+        None => None,
+    }
+}
+
+/// A phase among places that are counted from an earlier bit.
+fn phase_past(phase: u32, skip: u32) -> u32
+    requires phase { phase ≤ 10 }
+    requires small { skip < 2 ^ 31 }
+    ensures below { result ≤ 10 }
+    ensures same { (k : ℕ) → (skip + k) % 10 ≡ result ↔ k % 10 ≡ phase }
+{
+    if phase == ANY {
+        ANY
+    } else {
+        (phase + skip) % 10
+    }
+}
+
 /// Answers as `first_run` does, and sooner where no seven transitions in a row lie beside the phase.
-pub(crate) fn next_run(bytes: &[u8], from: u32, until: u32, phase: u32) -> Option<u32>
+fn next_run(bytes: &[u8], from: u32, until: u32, phase: u32) -> Option<u32>
     requires phase { phase ≤ 10 }
     requires room { from < until → until + 119 ≤ 8 * length bytes.now }
     requires small { until < 2 ^ 31 }
@@ -72,10 +100,11 @@ fn near_until(bytes: &[u8], from: u32, until: u32, phase: u32) -> u32
     ensures within { result ≤ until }
     ensures none { (p : ℕ) → IsOther (bytes_bits bytes.now) from result phase p → ⊥ }
 {
+    let mask = beside(phase_from(phase, from));
     let mut p = from;
     while p < until {
         let bits = eight_bytes(bytes, p as usize / 8) >> (p % 8);
-        if has_turns(bits, beside(phase_from(phase, p))) {
+        if has_turns(bits, mask) {
             return p;
         }
         p = (p + NEAR).min(until);

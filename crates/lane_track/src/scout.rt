@@ -1,14 +1,17 @@
 //! Looks through the bits of a lane, part after part, for its lock and its first stray.
-ghost use Rattle.std.specs.Prelude.{◌≡◌, ◌<◌, ◌≤◌, ◌+◌, ◌*◌, ◌%◌, ◌^◌, ℕ, Bool, List, length, MatchOption, IfSome, None, Some, Option};
+ghost use Rattle.std.specs.Prelude.{◌≡◌, ◌<◌, ◌≤◌, ◌+◌, ◌*◌, ◌%◌, ◌^◌, ℕ, Bool, List, length, drop, MatchOption, IfSome, None, Some, Option};
 ghost use Rattle.lane_align.specs.Lanes.{IsRun, IsLock};
-ghost use Rattle.lane_align.specs.Search.{Holds};
+ghost use Rattle.tmds_word.specs.Bits.{bytes_bits};
 ghost use Rattle.lane_track.specs.Strays.{IsFirstStray};
-ghost use Rattle.lane_track.specs.Scouts.{HasSought};
+ghost use Rattle.lane_track.specs.Scouts.{HoldsBits, HasSought};
 
-use crate::ahead::next_run;
+use crate::ahead::next_past;
 
 /// The phase at which nothing is left out.
 const ANY: u32 = 10;
+
+/// From the lock to the first place that can be a stray's: no run overlaps one at another phase by more than nine bits.
+const APART: u32 = 111;
 
 /// Where the characters of a lane begin, as far as its bits were looked through.
 #[derive(Clone, Copy, Debug)]
@@ -25,24 +28,25 @@ impl Scout {
         Scout { lock: None }
     }
 
-    /// Looks at the places from `from` on and before `until`, counted from the first bit that the bytes hold, and answers
-    /// the first stray of the epoch; None where it has none before `until`.
-    pub fn seek(&mut self, bytes: &[u8], base: u32, from: u32, until: u32) -> Option<u32>
+    /// Looks at the places from `from` on and before `until`, counted from the first bit that the bytes hold behind `skip`
+    /// others, and answers the first stray of the epoch; None where it has none before `until`.
+    pub fn seek(&mut self, bytes: &[u8], skip: u32, base: u32, from: u32, until: u32) -> Option<u32>
         requires order { from ≤ until }
-        requires room { from < until → until + 119 ≤ 8 * length bytes.now }
-        requires small { until < 2 ^ 31 }
+        requires room { from < until → skip + until + 119 ≤ 8 * length bytes.now }
+        requires small { skip + until < 2 ^ 31 }
         requires total { base + until < 2 ^ 32 }
         ensures within { IfSome result (λ p. p < until) }
-        ensures sought { (xs : List Bool) (count : ℕ) → Holds bytes.now xs base count → until + 119 ≤ count → HasSought xs (base + from) self.old.lock
+        ensures sought { (xs : List Bool) (count : ℕ) → HoldsBits (drop skip (bytes_bits bytes.now)) xs base count → until + 119 ≤ count → HasSought xs (base + from) self.old.lock
             → MatchOption result (HasSought xs (base + until) self.new.lock) (λ p. IsFirstStray xs (base + p)) }
     {
         match self.lock {
-            Some(lock) => stray_in(bytes, base, from, until, lock),
-            None => match next_run(bytes, from, until, ANY) {
+            Some(lock) => stray_in(bytes, skip, base, from, until, lock),
+            None => match next_past(bytes, skip, from, until, ANY) {
                 None => None,
                 Some(p) => {
                     self.lock = Some(base + p);
-                    stray_in(bytes, base, p + 1, until, base + p)
+                    let next = (p + APART).min(until);
+                    stray_in(bytes, skip, base, next, until, base + p)
                 }
             },
         }
@@ -50,15 +54,15 @@ impl Scout {
 }
 
 /// The first stray of a lane with a lock, before `until`.
-fn stray_in(bytes: &[u8], base: u32, from: u32, until: u32, lock: u32) -> Option<u32>
+fn stray_in(bytes: &[u8], skip: u32, base: u32, from: u32, until: u32, lock: u32) -> Option<u32>
     requires order { from ≤ until }
-    requires room { from < until → until + 119 ≤ 8 * length bytes.now }
-    requires small { until < 2 ^ 31 }
+    requires room { from < until → skip + until + 119 ≤ 8 * length bytes.now }
+    requires small { skip + until < 2 ^ 31 }
     ensures within { IfSome result (λ p. p < until) }
-    ensures sought { (xs : List Bool) (count : ℕ) → Holds bytes.now xs base count → until + 119 ≤ count → HasSought xs (base + from) (Some lock)
+    ensures sought { (xs : List Bool) (count : ℕ) → HoldsBits (drop skip (bytes_bits bytes.now)) xs base count → until + 119 ≤ count → HasSought xs (base + from) (Some lock)
         → MatchOption result (HasSought xs (base + until) (Some lock)) (λ p. IsFirstStray xs (base + p)) }
 {
-    next_run(bytes, from, until, phase_of(lock, base))
+    next_past(bytes, skip, from, until, phase_of(lock, base))
 }
 
 /// The phase of a lock among places that are counted from another bit.

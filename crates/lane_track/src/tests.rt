@@ -52,9 +52,9 @@ fn stray_of(rt: &impl Abort, case: &Case, part: u32) -> Option<u32> {
     assert!(rt; part <= case.places && case.places <= 1000);
     assert!(rt; case.places as usize + 119 <= 8 * case.bytes.len().min(1000));
     let mut scout = Scout::new();
-    match scout.seek(case.bytes, 0, 0, part) {
+    match scout.seek(case.bytes, 0, 0, 0, part) {
         Some(place) => Some(place),
-        None => scout.seek(case.bytes, 0, part, case.places),
+        None => scout.seek(case.bytes, 0, 0, part, case.places),
     }
 }
 

@@ -68,7 +68,11 @@ near_lanes kinds alternates i j d e offset k l ends_i ends_j at_i at_j near hi l
 
 -- The lanes of the first epoch.
 
--- the lane that slipped has the edges of the bits before the slip
+-- the lane that slipped, cut behind the slip, has the edges of the bits before it
+abbrev pub HasFrontEdges : Fed → Fed → ℕ → ℕ → ℕ → Type 0
+HasFrontEdges x y lane place start = (e : ℕ) → IsEdge (take start (lane_of y lane)) e ↔ IsEdge (take place (lane_of x lane)) e
+
+-- so it does where an epoch ends
 pub edges_at : (ps : List Period) (sent received : List Column) (offset : ℕ) (skews counts : List ℕ) (x y : Fed) (lane place dropped first next start : ℕ)
     → Came ps sent received offset skews counts x → Slipped x lane place dropped y
     → SlipsInVideo ps sent received offset skews counts lane place dropped first next
@@ -89,9 +93,9 @@ edges_at ps sent received offset skews counts x y lane place dropped first next 
 ends_at : (ps : List Period) (sent received : List Column) (offset : ℕ) (skews counts : List ℕ) (x y : Fed) (lane place dropped first next start : ℕ)
     → Came ps sent received offset skews counts x → Slipped x lane place dropped y
     → SlipsInVideo ps sent received offset skews counts lane place dropped first next
-    → IsEnd y lane start → (l : ℕ) → l < 3 → (e : ℕ) → IsEdge (take start (lane_of y l)) e
+    → HasFrontEdges x y lane place start → (l : ℕ) → l < 3 → (e : ℕ) → IsEdge (take start (lane_of y l)) e
     → (i : ℕ) × (EndsAt (kinds_of ps) i) × (e + (offset + slice_index skews l) ≡ 10 * (i + 1))
-ends_at ps sent received offset skews counts x y lane place dropped first next start came slip s end l lt e edge =
+ends_at ps sent received offset skews counts x y lane place dropped first next start came slip s edges l lt e edge =
     let alternates = alternating ps came.came.conforming in
     let r = received_at ps sent received came.came s.alone l in
     let part = part_at ps sent received offset skews counts x came l lt in
@@ -103,7 +107,7 @@ ends_at ps sent received offset skews counts x y lane place dropped first next s
       | inr apart ↦ by start (subst (λ us. IsEdge (take start us) e) (slip.others l lt apart) edge)
       | inl same ↦
           let here = subst (λ k. IsEdge (take start (lane_of y k)) e) same edge in
-          let was = (edges_at ps sent received offset skews counts x y lane place dropped first next start came slip s end e).0 here in
+          let was = (edges e).0 here in
           by place (subst (λ k. IsEdge (take place (lane_of x k)) e) (sym same) was)
     ]
 
@@ -111,14 +115,14 @@ ends_at ps sent received offset skews counts x y lane place dropped first next s
 small_before : (ps : List Period) (sent received : List Column) (offset : ℕ) (skews counts : List ℕ) (x y : Fed) (lane place dropped first next start : ℕ)
     → Came ps sent received offset skews counts x → Slipped x lane place dropped y
     → SlipsInVideo ps sent received offset skews counts lane place dropped first next
-    → IsEnd y lane start → (d e f : ℕ) → IsFirst (take start y.blue) (take start y.green) (take start y.red) d e f → HasSmallSkew skews
-small_before ps sent received offset skews counts x y lane place dropped first next start came slip s end d e f alignment =
+    → HasFrontEdges x y lane place start → (d e f : ℕ) → IsFirst (take start y.blue) (take start y.green) (take start y.red) d e f → HasSmallSkew skews
+small_before ps sent received offset skews counts x y lane place dropped first next start came slip s edges d e f alignment =
     let t = alignment.triple in
     let alternates = alternating ps came.came.conforming in
     let wide = before_slip skews lane dropped slip.within slip.few.1 s.small in
-    let blue = ends_at ps sent received offset skews counts x y lane place dropped first next start came slip s end 0 (omega arith) d t.first in
-    let green = ends_at ps sent received offset skews counts x y lane place dropped first next start came slip s end 1 (omega arith) e t.second in
-    let red = ends_at ps sent received offset skews counts x y lane place dropped first next start came slip s end 2 (omega arith) f t.third in
+    let blue = ends_at ps sent received offset skews counts x y lane place dropped first next start came slip s edges 0 (omega arith) d t.first in
+    let green = ends_at ps sent received offset skews counts x y lane place dropped first next start came slip s edges 1 (omega arith) e t.second in
+    let red = ends_at ps sent received offset skews counts x y lane place dropped first next start came slip s edges 2 (omega arith) f t.third in
     record {
       first_second = near_lanes (kinds_of ps) alternates blue.0 green.0 d e offset (slice_index skews 0) (slice_index skews 1) blue.1 green.1 blue.2 green.2 t.first_second wide.0 wide.1;
       second_third = near_lanes (kinds_of ps) alternates green.0 red.0 e f offset (slice_index skews 1) (slice_index skews 2) green.1 red.1 green.2 red.2 t.second_third wide.2 wide.3;
@@ -159,17 +163,15 @@ told_front : (ps : List Period) (sent received : List Column) → CameOf ps sent
 told_front ps sent received came cs ds a m is within same =
     ap heard (same ∙ ap (take m) is.columns ∙ take-take m (length ds) (drop a received) within) ∙ link_law ps sent received came a m is.ends
 
-pub first_epoch : (ps : List Period) (sent received : List Column) (offset : ℕ) (skews counts : List ℕ) (x y : Fed) (lane place dropped first next start : ℕ)
+pub front_accounted : (ps : List Period) (sent received : List Column) (offset : ℕ) (skews counts : List ℕ) (x y : Fed) (lane place dropped first next start : ℕ)
     → Came ps sent received offset skews counts x → Slipped x lane place dropped y
     → SlipsInVideo ps sent received offset skews counts lane place dropped first next
-    → IsEnd y lane start
+    → place ≤ start → HasFrontEdges x y lane place start
     → (d e f : ℕ) → IsFirst (take start y.blue) (take start y.green) (take start y.red) d e f
     → FirstAccounted ps sent received offset skews y lane place start d e f
-first_epoch ps sent received offset skews counts x y lane place dropped first next start came slip s end d e f alignment =
-    let small = small_before ps sent received offset skews counts x y lane place dropped first next start came slip s end d e f alignment in
-    let behind = (second_epoch ps sent received offset skews counts x y lane place dropped first next came slip s lane start end).1 in
-    let told = first_told payload_accounted ps sent received offset skews counts x y lane place dropped start came s.alone slip small
-    (edges_at ps sent received offset skews counts x y lane place dropped first next start came slip s end) d e f alignment in
+front_accounted ps sent received offset skews counts x y lane place dropped first next start came slip s behind edges d e f alignment =
+    let small = small_before ps sent received offset skews counts x y lane place dropped first next start came slip s edges d e f alignment in
+    let told = first_told payload_accounted ps sent received offset skews counts x y lane place dropped start came s.alone slip small edges d e f alignment in
     let part = part_at ps sent received offset skews counts x came lane slip.within in
     let len : length (lane_of x lane) ≡ slice_index counts lane = ap length part.bits_are ∙ length-part (words_at received lane) (offset + slice_index skews lane) (slice_index counts lane) part.within in
     let room = s.ends in
@@ -183,3 +185,14 @@ first_epoch ps sent received offset skews counts x y lane place dropped first ne
           let same = front_columns x y lane place dropped start d e f m slip (omega arith) behind (omega arith) early within in
           told_front ps sent received came.came _ _ told.1.0 m told.1.1 same.0 same.1;
     }
+
+pub first_epoch : (ps : List Period) (sent received : List Column) (offset : ℕ) (skews counts : List ℕ) (x y : Fed) (lane place dropped first next start : ℕ)
+    → Came ps sent received offset skews counts x → Slipped x lane place dropped y
+    → SlipsInVideo ps sent received offset skews counts lane place dropped first next
+    → IsEnd y lane start
+    → (d e f : ℕ) → IsFirst (take start y.blue) (take start y.green) (take start y.red) d e f
+    → FirstAccounted ps sent received offset skews y lane place start d e f
+first_epoch ps sent received offset skews counts x y lane place dropped first next start came slip s end =
+    front_accounted ps sent received offset skews counts x y lane place dropped first next start came slip s
+    (second_epoch ps sent received offset skews counts x y lane place dropped first next came slip s lane start end).1
+    (edges_at ps sent received offset skews counts x y lane place dropped first next start came slip s end)

@@ -28,6 +28,7 @@ use Rattle.terc4.specs.Columns.{one_if}
 use Rattle.track_sink.specs.Trackers.{most_of, most_fed, Follows, HoldsRest, Carries, HasLooked, Stays, Stands, IsSettled}
 use Rattle.track_sink.specs.declared.lane.Lane.{Lane}
 use Rattle.track_sink.specs.declared.lanes.Lanes.{Lanes}
+use Rattle.track_sink.specs.declared.rows.Rows.{Rows}
 use Rattle.track_sink.specs.declared.tracker.Tracker.{Tracker}
 use Rattle.track_sink.proofs.Following.{fronts_stay, follows_grown, same_fed, no_longer}
 
@@ -103,14 +104,14 @@ rest_handed before now given later x start handed bits xs was is same e more =
       given = omega arith;
     }
 
-pub carries_handed : (t : Tracker) (fed : Fed) (link : SinkSeen) (lanes : Lanes) (x y z bits : ℕ) → Carries t fed → t.start + t.handed + bits ≤ most_of fed
+pub carries_handed : (t : Tracker) (fed : Fed) (link : SinkSeen) (lanes : Lanes) (rows : Rows) (x y z bits : ℕ) → Carries t fed → t.start + t.handed + bits ≤ most_of fed
     → x ≡ min (length t.lanes.first.held) bits → y ≡ min (length t.lanes.second.held) bits → z ≡ min (length t.lanes.third.held) bits
     → link.is_open ≡ true → StandsFor link (front_of (t.handed + bits) (rest_of t.start fed))
     → bits_of link 0 ≡ bits_of t.link 0 + x → bits_of link 1 ≡ bits_of t.link 1 + y → bits_of link 2 ≡ bits_of t.link 2 + z
     → lanes.first.held ≡ drop bits t.lanes.first.held → lanes.second.held ≡ drop bits t.lanes.second.held → lanes.third.held ≡ drop bits t.lanes.third.held
     → lanes.first.fed ≡ t.lanes.first.fed → lanes.second.fed ≡ t.lanes.second.fed → lanes.third.fed ≡ t.lanes.third.fed
-    → Carries (record t { link = link; lanes = lanes; handed = t.handed + bits }) fed
-carries_handed t fed link lanes x y z bits c room ex ey ez opened stands gx gy gz hx hy hz fx fy fz = record {
+    → Carries (record t { link = link; lanes = lanes; rows = rows; handed = t.handed + bits }) fed
+carries_handed t fed link lanes rows x y z bits c room ex ey ez opened stands gx gy gz hx hy hz fx fy fz = record {
   link_open = opened;
   link = stands;
   first = rest_handed t.lanes.first lanes.first (bits_of t.link 0) (bits_of link 0) x t.start t.handed bits fed.blue c.first hx fx ex gx;
@@ -296,9 +297,9 @@ begin_follows = record {
   told_are = refl;
 }
 
-pub settled_at_first : (link : SinkSeen) (lanes : Lanes) → link.is_open ≡ true → StandsFor link no_bits → most_bits link ≡ 0 → AreFresh lanes
-    → IsSettled (record { link = link; lanes = lanes; start = 0; handed = 0; seen = 0; begun = false; epochs = 0; aligned = 0 }) no_bits []
-settled_at_first link lanes opened stands none fresh = record {
+pub settled_at_first : (link : SinkSeen) (lanes : Lanes) (rows : Rows) → link.is_open ≡ true → StandsFor link no_bits → most_bits link ≡ 0 → AreFresh lanes
+    → IsSettled (record { link = link; lanes = lanes; rows = rows; start = 0; handed = 0; seen = 0; begun = false; epochs = 0; aligned = 0 }) no_bits []
+settled_at_first link lanes rows opened stands none fresh = record {
   stands = record {
     carries = record {
       link_open = opened;

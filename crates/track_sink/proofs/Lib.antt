@@ -19,5 +19,5 @@ pub mod Slipping
 pub mod Noticed
 pub mod Fronts
 pub mod Before
-mod SlipStream
-mod SlipExample
+pub mod SlipStream
+pub mod SlipExample

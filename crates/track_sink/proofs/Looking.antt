@@ -3,12 +3,10 @@ use Rattle.std.proofs.Common.{◌≡◌, ℕ, ◌+◌, ◌-◌, ◌<◌, ◌≤�
 use Rattle.std.specs.Prelude.{MatchOption, IfSome, ◌⊎◌}
 use Rattle.std.proofs.lemmas.Bool.{cases_lt}
 use Rattle.std.proofs.lemmas.List.{take_all}
-use Rattle.tmds_word.specs.Bits.{bytes_bits}
 use Rattle.lane_align.specs.Lanes.{IsRun}
-use Rattle.lane_align.specs.Search.{Holds}
 use Rattle.lane_align.proofs.Controls.{run_within}
 use Rattle.lane_track.specs.Strays.{IsStray, IsFirstStray}
-use Rattle.lane_track.specs.Scouts.{HasSought}
+use Rattle.lane_track.specs.Scouts.{HoldsBits, HasSought}
 use Rattle.link_sink.specs.Sinks.{Fed}
 use Rattle.track_sink.specs.Epochs.{lane_of}
 use Rattle.track_sink.specs.Lanes.{AreSought, EndsAt, IsStrayOn, IsLesser, IsLeastOf}
@@ -37,11 +35,11 @@ sought_past xs s t (Some l) long order was =
     }
 
 -- a lane that holds all bits from a place on
-pub holds_rest : (bytes : List ℕ) (held xs : List Bool) (base : ℕ) → held ≡ drop base xs → take (length held) (bytes_bits bytes) ≡ held → 0 < length held
-    → Holds bytes xs base (length held)
-holds_rest bytes held xs base is bits some =
+pub holds_rest : (bits held xs : List Bool) (base : ℕ) → held ≡ drop base xs → take (length held) bits ≡ held → 0 < length held
+    → HoldsBits bits xs base (length held)
+holds_rest bits held xs base is same some =
     let long : length held ≡ length xs - base = ap length is ∙ length-drop base xs in
-    record { within = omega arith; bits = bits ∙ is ∙ sym (take_all (length held) (drop base xs) (omega (arith, length-drop base xs))) }
+    record { within = omega arith; same = same ∙ is ∙ sym (take_all (length held) (drop base xs) (omega (arith, length-drop base xs))) }
 
 -- nothing is left to look at
 pub sought_none : (held xs : List Bool) (base from until last : ℕ) (lock : Option ℕ) → held ≡ drop base xs → base ≤ from → from ≤ until → last ≡ min (length held - 119) (until - base) → last ≤ from - base

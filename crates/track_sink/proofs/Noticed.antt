@@ -114,7 +114,7 @@ second_epoch ps sent received offset skews counts x y lane place dropped first n
 -- Whether it is noticed.
 
 -- the other lanes have no stray
-others_none : (ps : List Period) (sent received : List Column) (offset : ℕ) (skews counts : List ℕ) (x y : Fed) (lane place dropped first next : ℕ)
+pub others_none : (ps : List Period) (sent received : List Column) (offset : ℕ) (skews counts : List ℕ) (x y : Fed) (lane place dropped first next : ℕ)
     → Came ps sent received offset skews counts x → Slipped x lane place dropped y
     → SlipsInVideo ps sent received offset skews counts lane place dropped first next
     → (l : ℕ) → l < 3 → (l ≡ lane → ⊥) → HasNoStray (lane_of y l)

@@ -14,16 +14,28 @@ use Rattle.tmds_word.proofs.Lists.{length-bits_of, length-bytes_bits, bytes_bits
 use Rattle.tmds_word.proofs.Rows.{bits_of-mod, take_bytes, put_one, joined_below, tail_past, byte_after, no_more}
 use Rattle.lane_align.proofs.Begun.{bytes_take}
 use Rattle.lane_align.proofs.Feeding.{bytes_drop}
+use Rattle.lane_align.proofs.Parts.{take_piece}
 
 -- the first bits of the first bytes are the first bits
-pub front_bits : (bytes : List ℕ) (bits count : ℕ) → bits ≤ count → take bits (bytes_bits (take ((bits + 7) / 8) bytes)) ≡ take bits (take count (bytes_bits bytes))
-front_bits bytes bits count within =
-    ap (take bits) (sym (bytes_take ((bits + 7) / 8) bytes))
-    ∙ take-take bits (8 * ((bits + 7) / 8)) (bytes_bits bytes) (omega arith)
-    ∙ sym (take-take bits count (bytes_bits bytes) within)
+pub front_bits : (bytes : List ℕ) (bits : ℕ) → take bits (bytes_bits (take ((bits + 7) / 8) bytes)) ≡ take bits (bytes_bits bytes)
+front_bits bytes bits = ap (take bits) (sym (bytes_take ((bits + 7) / 8) bytes)) ∙ take-take bits (8 * ((bits + 7) / 8)) (bytes_bits bytes) (omega arith)
 
-pub length_held : (bytes : List ℕ) (count : ℕ) → count ≤ 8 * length bytes → length (take count (bytes_bits bytes)) ≡ count
-length_held bytes count within = length-take-le count (bytes_bits bytes) (let l = length-bytes_bits bytes in omega (arith, l))
+pub length_held : (bytes : List ℕ) (start count : ℕ) → start + count ≤ 8 * length bytes → length (take count (drop start (bytes_bits bytes))) ≡ count
+length_held bytes start count within =
+    length-take-le count (drop start (bytes_bits bytes)) (let l = length-bytes_bits bytes in let d = length-drop start (bytes_bits bytes) in omega (arith, l, d))
+
+-- the bytes from the first one on of which a bit is held
+pub lent_bits : (bytes : List ℕ) (start count : ℕ) → take count (drop (start % 8) (bytes_bits (drop (start / 8) bytes))) ≡ take count (drop start (bytes_bits bytes))
+lent_bits bytes start count =
+    let e : 8 * (start / 8) + start % 8 ≡ start = omega arith in
+    ap (λ us. take count (drop (start % 8) us)) (sym (bytes_drop (start / 8) bytes))
+    ∙ ap (take count) (drop-drop (start % 8) (8 * (start / 8)) (bytes_bits bytes) ∙ ap (λ n. drop n (bytes_bits bytes)) e)
+
+-- less its first bits
+pub less_held : (bits : List Bool) (start count few : ℕ) → few ≤ count → take (count - few) (drop (start + few) bits) ≡ drop few (take count (drop start bits))
+less_held bits start count few within =
+    let k : few + (count - few) ≡ count = omega arith in
+    ap (take (count - few)) (sym (drop-drop few start bits)) ∙ sym (drop-take few (count - few) (drop start bits)) ∙ ap (λ n. drop few (take n (drop start bits))) k
 
 -- a byte above a few bits, in sixteen
 pub or_is_sum : (t h w : ℕ) → t < 2 ^ h → w < 256 → h < 8 → bit_or (w * 2 ^ h % 65536) t ≡ t + 2 ^ h * w
@@ -185,18 +197,50 @@ put_into into new more count bits size room fits long sized same held =
     ∙ ap (λ n. take (n + bits) (head ++ bytes_bits more)) (sym lhead) ∙ take-append-add head (bytes_bits more) bits in
     cut ∙ ap (λ ys. all ++ ys) own ∙ sym (append_assoc all head (take bits (bytes_bits more))) ∙ ap (λ ys. ys ++ take bits (bytes_bits more)) start
 
--- what is left behind the first bits
-pub left_behind : (start now : List ℕ) (held : List Bool) (count bits : ℕ) → take count (bytes_bits start) ≡ held → count ≤ 8 * length start → bits ≤ count → length now ≡ length start
-    → bytes_bits (take ((count - bits + 7) / 8) now) ≡ take (8 * ((count - bits + 7) / 8)) (drop (8 * (bits / 8) + bits % 8) (bytes_bits start))
-    → take (count - bits) (bytes_bits now) ≡ drop bits held
-left_behind start now held count bits is room within size moved =
-    let n = (count - bits + 7) / 8 in
-    let at : 8 * (bits / 8) + bits % 8 ≡ bits = omega arith in
-    let k : bits + (count - bits) ≡ count = omega arith in
-    sym (take-take (count - bits) (8 * n) (bytes_bits now) (omega arith))
-    ∙ ap (take (count - bits)) (bytes_take n now ∙ moved)
-    ∙ take-take (count - bits) (8 * n) (drop (8 * (bits / 8) + bits % 8) (bytes_bits start)) (omega arith)
-    ∙ ap (λ m. take (count - bits) (drop m (bytes_bits start))) at
-    ∙ sym (drop-take bits (count - bits) (bytes_bits start))
-    ∙ ap (λ m. drop bits (take m (bytes_bits start))) k
-    ∙ ap (drop bits) is
+-- what is held has moved
+pub held_moved : (start now : List ℕ) (count place : ℕ) → bytes_bits (take ((count + 7) / 8) now) ≡ take (8 * ((count + 7) / 8)) (drop (8 * (place / 8) + place % 8) (bytes_bits start))
+    → take count (bytes_bits now) ≡ take count (drop place (bytes_bits start))
+held_moved start now count place moved =
+    let n = (count + 7) / 8 in
+    let at : 8 * (place / 8) + place % 8 ≡ place = omega arith in
+    sym (take-take count (8 * n) (bytes_bits now) (omega arith))
+    ∙ ap (take count) (bytes_take n now ∙ moved)
+    ∙ take-take count (8 * n) (drop (8 * (place / 8) + place % 8) (bytes_bits start)) (omega arith)
+    ∙ ap (λ m. take count (drop m (bytes_bits start))) at
+
+part_first : (from part rest : List ℕ) (count : ℕ) → count + 1 ≤ length from → part ≡ take (count + 1) from → take (count + 1) (part ++ rest) ≡ take (count + 1) from
+part_first from part rest count room is =
+    let long : length part ≡ count + 1 = ap length is ∙ length-take-le (count + 1) from room in
+    ap (λ n. take n (part ++ rest)) (sym long) ∙ take-append_seam part rest ∙ is
+
+-- bytes that were copied have the bits behind the first few
+pub copied_bits : (from now : List ℕ) (skip count : ℕ) → skip < 8 → take (count + 1) now ≡ take (count + 1) from
+    → take (8 * count) (drop skip (bytes_bits now)) ≡ take (8 * count) (drop skip (bytes_bits from))
+copied_bits from now skip count few same =
+    let n = 8 * (count + 1) in
+    let all : take n (bytes_bits now) ≡ take n (bytes_bits from) = bytes_take (count + 1) now ∙ ap bytes_bits same ∙ sym (bytes_take (count + 1) from) in
+    sym (take_piece n skip (8 * count) (bytes_bits now) (omega arith)) ∙ ap (λ us. take (8 * count) (drop skip us)) all ∙ take_piece n skip (8 * count) (bytes_bits from) (omega arith)
+
+-- they were copied, and then moved
+pub copied_moved : (from part rest now : List ℕ) (skip count : ℕ) → skip < 8 → count + 1 ≤ length from → part ≡ take (count + 1) from
+    → bytes_bits (take count now) ≡ take (8 * count) (drop (8 * 0 + skip) (bytes_bits (part ++ rest))) → bytes_bits (take count now) ≡ take (8 * count) (drop skip (bytes_bits from))
+copied_moved from part rest now skip count few room is moved =
+    let e : 8 * 0 + skip ≡ skip = omega arith in
+    moved ∙ ap (λ n. take (8 * count) (drop n (bytes_bits (part ++ rest)))) e ∙ copied_bits from (part ++ rest) skip count few (part_first from part rest count room is)
+
+pub copied_whole : (from part rest : List ℕ) (skip count : ℕ) → skip ≡ 0 → count + 1 ≤ length from → part ≡ take (count + 1) from
+    → bytes_bits (take count (part ++ rest)) ≡ take (8 * count) (drop skip (bytes_bits from))
+copied_whole from part rest skip count none room is =
+    sym (bytes_take count (part ++ rest)) ∙ ap (λ n. take (8 * count) (drop n (bytes_bits (part ++ rest)))) (sym none)
+    ∙ copied_bits from (part ++ rest) skip count (omega (arith, none)) (part_first from part rest count room is)
+
+-- the first bits of a copy
+pub copy_held : (now : List ℕ) (rest held : List Bool) (bits : ℕ) → bits ≤ length held → take (length held) rest ≡ held
+    → bytes_bits (take ((bits + 7) / 8) now) ≡ take (8 * ((bits + 7) / 8)) rest → take bits (bytes_bits now) ≡ take bits held
+copy_held now rest held bits within is copied =
+    let n = (bits + 7) / 8 in
+    sym (take-take bits (8 * n) (bytes_bits now) (omega arith))
+    ∙ ap (take bits) (bytes_take n now ∙ copied)
+    ∙ take-take bits (8 * n) rest (omega arith)
+    ∙ sym (take-take bits (length held) rest within)
+    ∙ ap (take bits) is

@@ -107,7 +107,7 @@ none_test : none_before blue 3 ≡ true
 unfolding passes_below blue received values_of control_words video_guard has window row_bits word_bits bits_of number is_control is_in
 none_test = refl
 
-lock : IsLock x.blue 3
+pub lock : IsLock x.blue 3
 unfolding blue
 lock = is_lock blue 3 run_test none_test
 

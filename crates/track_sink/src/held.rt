@@ -10,23 +10,32 @@ use std::marker::Model;
 /// How many bytes a lane's buffer has.
 const ROOM: usize = 4224;
 
-/// A buffer of bits: bit i is bit `i % 8` of byte `i / 8`.
+/// A buffer of bits: bit i of its bytes is bit `i % 8` of byte `i / 8`.
 #[derive(Drop)]
 pub(crate) struct Held {
     bytes: Vec<u8>,
-    /// How many bits are held; what stands behind them in the bytes is of no account.
+    /// The first bit that is held; what stands before it in the bytes is of no account.
+    start: u32,
+    /// How many bits are held; what stands behind them is of no account.
     count: u32,
 }
 
+/// Bytes that are lent for their bits behind the first few.
+#[derive(Clone, Copy, Debug)]
+pub(crate) struct Lent<'a> {
+    pub(crate) bytes: &'a [u8],
+    pub(crate) skip: u32,
+}
+
 impl Model for Held {
-    ghost use Rattle.std.specs.Prelude.{List, Bool, length, take, ◌≡◌, ◌≤◌};
+    ghost use Rattle.std.specs.Prelude.{List, Bool, length, take, drop, ◌≡◌, ◌≤◌, ◌+◌};
     ghost use Rattle.tmds_word.specs.Bits.{bytes_bits};
 
     ghost Value = { List Bool };
 
-    ghost view = { λ h. take h.count (bytes_bits h.bytes.items) };
+    ghost view = { λ h. take h.count (drop h.start (bytes_bits h.bytes.items)) };
 
-    ghost invariant = { λ h. (length h.bytes.items ≡ 4224) × (h.count ≤ 33776) };
+    ghost invariant = { λ h. (length h.bytes.items ≡ 4224) × (h.start + h.count ≤ 33776) };
 }
 
 impl Held {
@@ -36,6 +45,7 @@ impl Held {
     {
         Ok(Held {
             bytes: vec![in alloc; 0; ROOM]?,
+            start: 0,
             count: 0,
         })
     }
@@ -48,21 +58,17 @@ impl Held {
         self.count
     }
 
-    /// The bytes: those of its bits first.
-    pub(crate) fn bytes(&self) -> &[u8]
-        ensures bits { take (length self.now) (bytes_bits result.now) ≡ self.now }
-        ensures size { length result.now ≡ 4224 }
+    /// The bytes that have its bits.
+    pub(crate) fn lent(&self) -> Lent<'_>
+        ensures bits { take (length self.now) (drop result.skip (bytes_bits result.bytes.now)) ≡ self.now }
+        ensures size { result.skip + length self.now + 16 ≤ 8 * length result.bytes.now }
+        ensures few { result.skip < 8 }
+        ensures within { length result.bytes.now ≤ 4224 }
     {
-        self.bytes.as_slice()
-    }
-
-    /// The bytes of its first bits, as many as are asked for.
-    pub(crate) fn front(&self, bits: u32) -> &[u8]
-        requires { bits ≤ length self.now }
-        ensures bits { take bits (bytes_bits result.now) ≡ take bits self.now }
-        ensures size { length result.now ≡ (bits + 7) / 8 }
-    {
-        &self.bytes[..(bits as usize + 7) / 8]
+        Lent {
+            bytes: &self.bytes[self.start as usize / 8..],
+            skip: self.start % 8,
+        }
     }
 
     /// Appends bits.
@@ -71,7 +77,14 @@ impl Held {
         requires room { length self.old + bits ≤ 33776 }
         ensures { self.new ≡ self.old ++ take bits (bytes_bits bytes.now) }
     {
-        put_at(self.bytes.as_mut_slice(), self.count, bytes, bits);
+        put_behind_held(
+            self.bytes.as_mut_slice(),
+            self.start,
+            self.count,
+            bytes,
+            bits,
+        );
+        self.start = 0;
         self.count += bits;
     }
 
@@ -80,15 +93,26 @@ impl Held {
         requires { bits ≤ length self.old }
         ensures { self.new ≡ drop bits self.old }
     {
-        let left = self.count - bits;
-        move_to_front(
-            self.bytes.as_mut_slice(),
-            bits as usize / 8,
-            bits % 8,
-            (left as usize + 7) / 8,
-        );
-        self.count = left;
+        self.start += bits;
+        self.count -= bits;
     }
+}
+
+/// Moves bits to the front, and puts others behind them.
+fn put_behind_held(into: &mut [u8], start: u32, count: u32, bytes: &[u8], bits: u32)
+    requires bytes { length bytes.now ≡ (bits + 7) / 8 }
+    requires held { start + count ≤ 33776 }
+    requires room { count + bits ≤ 33776 }
+    requires into { length into.old ≡ 4224 }
+    ensures { take (count + bits) (bytes_bits into.new) ≡ take count (drop start (bytes_bits into.old)) ++ take bits (bytes_bits bytes.now) }
+{
+    move_to_front(
+        into,
+        start as usize / 8,
+        start % 8,
+        (count as usize + 7) / 8,
+    );
+    put_at(into, count, bytes, bits);
 }
 
 /// Puts bits behind the first ones, which stay.
@@ -138,6 +162,20 @@ fn joined(left: u8, few: u32, byte: u8) -> u16
     ensures { result ≡ left + 2 ^ few * byte }
 {
     (u16::from(byte) << few) | u16::from(left)
+}
+
+/// Copies bytes from a bit of the first one on, as many as are asked for, to the front of others.
+pub(crate) fn copy_past(bytes: &[u8], skip: u32, into: &mut [u8], count: usize)
+    requires skip { skip < 8 }
+    requires bytes { count + 1 ≤ length bytes.now }
+    requires room { count + 1 ≤ length into.old }
+    ensures size { length into.new ≡ length into.old }
+    ensures bits { bytes_bits (take count into.new) ≡ take (8 * count) (drop skip (bytes_bits bytes.now)) }
+{
+    into[..count + 1].copy_from_slice(&bytes[..count + 1]);
+    if skip > 0 {
+        move_to_front(into, 0, skip, count);
+    }
 }
 
 /// Moves bytes to the front from a bit of one of them on, as many as are asked for.

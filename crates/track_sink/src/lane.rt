@@ -66,7 +66,11 @@ impl Lane {
         if last <= from - base {
             return None;
         }
-        match self.scout.seek(self.held.bytes(), base, from - base, last) {
+        let lent = self.held.lent();
+        match self
+            .scout
+            .seek(lent.bytes, lent.skip, base, from - base, last)
+        {
             Some(place) => Some(base + place),
             None => None,
         }

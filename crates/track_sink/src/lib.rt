@@ -6,6 +6,7 @@ mod held;
 mod lane;
 mod lanes;
 pub mod laws;
+mod rows;
 mod sink;
 mod tracker;
 

@@ -15,6 +15,7 @@ ghost use Rattle.track_sink.specs.Lanes.{AreSought, EndsAt};
 ghost use Rattle.track_sink.specs.Trackers.{most_of, most_fed, Follows, Carries, HasLooked, Stays, CanClose, CanTurn, Stands, IsSettled, Stops, Passes};
 
 use crate::lanes::{Lanes, Stray};
+use crate::rows::Rows;
 use crate::{TrackEar, TrackOutcome};
 use link_sink::{LinkSink, Outcome};
 use outside_io::{Failed, NoMemory};
@@ -36,6 +37,8 @@ pub(crate) struct Tracker {
     /// Hears the epoch.
     link: LinkSink,
     pub(crate) lanes: Lanes,
+    /// What it is handed.
+    rows: Rows,
     /// The place of the epoch's first bit.
     start: u32,
     /// How many bits of the epoch were handed on, as many of each lane that has them.
@@ -58,6 +61,7 @@ impl Tracker {
         Ok(Tracker {
             link: LinkSink::open(alloc)?,
             lanes: Lanes::open(alloc)?,
+            rows: Rows::open(alloc)?,
             start: 0,
             handed: 0,
             seen: 0,
@@ -153,11 +157,14 @@ impl Tracker {
         let x = self.lanes.first.held.len().min(bits);
         let y = self.lanes.second.held.len().min(bits);
         let z = self.lanes.third.held.len().min(bits);
+        self.rows.first.copy(&self.lanes.first.held, x);
+        self.rows.second.copy(&self.lanes.second.held, y);
+        self.rows.third.copy(&self.lanes.third.held, z);
         self.link.feed_ungated(
             rt,
-            self.lanes.first.held.front(x),
-            self.lanes.second.held.front(y),
-            self.lanes.third.held.front(z),
+            self.rows.first.front(x),
+            self.rows.second.front(y),
+            self.rows.third.front(z),
             [x, y, z],
             ear,
         )?;

@@ -1,4 +1,5 @@
-use Rattle.std.proofs.Common.{◌≡◌, ◌+◌, ◌-◌, min, length, subst, arith}
+use Rattle.std.proofs.Common.{◌≡◌, ◌+◌, ◌-◌, min, length, drop, subst, arith}
+use Rattle.tmds_word.specs.Bits.{bytes_bits}
 use Rattle.lane_track.specs.Scouts.{HasSought}
 use Rattle.track_sink.proofs.Looking.{holds_rest, sought_none, sought_all}
 use Rattle.track_sink.proofs.lane.Lane.seek.Goals as goal
@@ -12,7 +13,7 @@ pub returns-in-Some-clause-sought : goal.returns-in-Some-clause-sought
 returns-in-Some-clause-sought c = λ xs is was.
     let some = c.if-last-from.false in
     let held = c.args.self.now.held in
-    let holds = holds_rest c.bytes.result.now held xs c.args.base is c.bytes.ensures.bits (omega (arith, some, c.min-last.ensures, c.saturating_sub.ensures, c.len.ensures.len)) in
+    let holds = holds_rest (drop c.lent-lent.result.skip (bytes_bits c.lent-lent.result.bytes.now)) held xs c.args.base is c.lent-lent.ensures.bits (omega (arith, some, c.min-last.ensures, c.saturating_sub.ensures, c.len.ensures.len)) in
     let from : c.args.from ≡ c.args.base + (c.args.from - c.args.base) = let behind = c.requires.behind in omega arith in
     c.in-Some.ensures.sought xs (length held) holds (omega (arith, some, c.min-last.ensures, c.saturating_sub.ensures, c.len.ensures.len)) (subst (λ n. HasSought xs n c.args.self.now.scout.lock) from was)
 
@@ -21,7 +22,7 @@ returns-in-None-clause-sought c = λ xs is was.
     let some = c.if-last-from.false in
     let held = c.args.self.now.held in
     let e : c.min-last.result ≡ min (length held - 119) (c.args.until - c.args.base) = omega (arith, c.min-last.ensures, c.saturating_sub.ensures, c.len.ensures.len) in
-    let holds = holds_rest c.bytes.result.now held xs c.args.base is c.bytes.ensures.bits (omega (arith, some, e)) in
+    let holds = holds_rest (drop c.lent-lent.result.skip (bytes_bits c.lent-lent.result.bytes.now)) held xs c.args.base is c.lent-lent.ensures.bits (omega (arith, some, e)) in
     let from : c.args.from ≡ c.args.base + (c.args.from - c.args.base) = let behind = c.requires.behind in omega arith in
     sought_all held xs c.args.base c.args.until c.min-last.result c.seek.new.self.lock is (let h = c.requires.behind in let k = c.requires.order in omega arith) (omega (arith, some)) e
     (c.in-None.ensures.sought xs (length held) holds (omega (arith, some, e)) (subst (λ n. HasSought xs n c.args.self.now.scout.lock) from was))

@@ -29,8 +29,8 @@ returns-clause-carries g c = λ fed carries room.
     let ex = c.min-x.ensures ∙ ap (λ n. min n c.args.bits) c.len.ensures.len in
     let ey = c.min-y.ensures ∙ ap (λ n. min n c.args.bits) c.len-2.ensures.len in
     let ez = c.min-z.ensures ∙ ap (λ n. min n c.args.bits) c.len-3.ensures.len in
-    let is = handed_is t fed c.front.result.now c.front-2.result.now c.front-3.result.now c.min-x.result c.min-y.result c.min-z.result c.args.bits carries ex ey ez c.front.ensures.bits c.front-2.ensures.bits c.front-3.ensures.bits in
-    carries_handed t fed c.feed_ungated.new.self c.consume.new.self c.min-x.result c.min-y.result c.min-z.result c.args.bits carries room ex ey ez c.in_ok-feed_ungated.ensures.open
+    let is = handed_is t fed c.front.result.now c.front-2.result.now c.front-3.result.now c.min-x.result c.min-y.result c.min-z.result c.args.bits carries ex ey ez (c.front.ensures.bits ∙ c.copy.ensures) (c.front-2.ensures.bits ∙ c.copy-2.ensures) (c.front-3.ensures.bits ∙ c.copy-3.ensures) in
+    carries_handed t fed c.feed_ungated.new.self c.consume.new.self (record c.args.self.now.rows { first = c.copy.new.self; second = c.copy-2.new.self; third = c.copy-3.new.self }) c.min-x.result c.min-y.result c.min-z.result c.args.bits carries room ex ey ez c.in_ok-feed_ungated.ensures.open
     (subst (StandsFor c.feed_ungated.new.self) is (c.in_ok-feed_ungated.ensures.fed (front_of t.handed (rest_of t.start fed)) carries.link))
     c.in_ok-feed_ungated.ensures.first c.in_ok-feed_ungated.ensures.second c.in_ok-feed_ungated.ensures.third
     c.consume.ensures.first c.consume.ensures.second c.consume.ensures.third c.consume.ensures.first_fed c.consume.ensures.second_fed c.consume.ensures.third_fed
@@ -41,7 +41,7 @@ returns-clause-told g c = λ fed carries room.
     let ex = c.min-x.ensures ∙ ap (λ n. min n c.args.bits) c.len.ensures.len in
     let ey = c.min-y.ensures ∙ ap (λ n. min n c.args.bits) c.len-2.ensures.len in
     let ez = c.min-z.ensures ∙ ap (λ n. min n c.args.bits) c.len-3.ensures.len in
-    let is = handed_is t fed c.front.result.now c.front-2.result.now c.front-3.result.now c.min-x.result c.min-y.result c.min-z.result c.args.bits carries ex ey ez c.front.ensures.bits c.front-2.ensures.bits c.front-3.ensures.bits in
+    let is = handed_is t fed c.front.result.now c.front-2.result.now c.front-3.result.now c.min-x.result c.min-y.result c.min-z.result c.args.bits carries ex ey ez (c.front.ensures.bits ∙ c.copy.ensures) (c.front-2.ensures.bits ∙ c.copy-2.ensures) (c.front-3.ensures.bits ∙ c.copy-3.ensures) in
     let told = c.in_ok-feed_ungated.ensures.told (front_of t.handed (rest_of t.start fed)) carries.link in
     let P : Fed → Type 0 = λ now. IsGain (front_of t.handed (rest_of t.start fed)) now told.0 in
     (told.0, subst P is told.1, told.2)
@@ -52,7 +52,7 @@ returns-in_err-feed_ungated-clause-stopped g c = λ fed carries room.
     let ex = c.min-x.ensures ∙ ap (λ n. min n c.args.bits) c.len.ensures.len in
     let ey = c.min-y.ensures ∙ ap (λ n. min n c.args.bits) c.len-2.ensures.len in
     let ez = c.min-z.ensures ∙ ap (λ n. min n c.args.bits) c.len-3.ensures.len in
-    let is = handed_is t fed c.front.result.now c.front-2.result.now c.front-3.result.now c.min-x.result c.min-y.result c.min-z.result c.args.bits carries ex ey ez c.front.ensures.bits c.front-2.ensures.bits c.front-3.ensures.bits in
+    let is = handed_is t fed c.front.result.now c.front-2.result.now c.front-3.result.now c.min-x.result c.min-y.result c.min-z.result c.args.bits carries ex ey ez (c.front.ensures.bits ∙ c.copy.ensures) (c.front-2.ensures.bits ∙ c.copy-2.ensures) (c.front-3.ensures.bits ∙ c.copy-3.ensures) in
     let told = c.in_err-feed_ungated.ensures.stopped (front_of t.handed (rest_of t.start fed)) carries.link in
     let P : Fed → Type 0 = λ now. IsGain (front_of t.handed (rest_of t.start fed)) now told.0 in
     on_err {P = LostGain g.E.Ear.took g.E.Ear.broke c.args.ear.now c.feed_ungated.new.ear (rest_of t.start fed) t.handed (t.handed + c.args.bits)} _ (told.0, subst P is told.1, told.2)
