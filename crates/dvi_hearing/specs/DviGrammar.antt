@@ -11,7 +11,7 @@ use Rattle.period_grammar.specs.Heard.{last_run, reach}
 use Rattle.period_grammar.specs.After.{last}
 use Rattle.period_grammar.specs.Sizes.{IsSized}
 use Rattle.period_grammar.proofs.Hearings.{start_of, starts}
-use Rattle.period_grammar.proofs.Sizes.{Sized, TellsSized, all_sized, sized_append, tells_append, tells_at, things_sized, if_not_sized, are_runs, in_runs_sized, last_run_sized, length-line_bytes, codes_of_sized, whole_pixels, take_at_most}
+use Rattle.period_grammar.proofs.Sizes.{Sized, TellsSized, all_sized, sized_append, tells_append, tells_at, things_sized, if_not_sized, are_runs, in_runs_sized, last_run_sized, bytes_below, length-line_bytes, codes_of_sized, whole_pixels, take_at_most}
 use Rattle.link_sink.proofs.Cutting.{things_at}
 use Rattle.period_grammar.specs.Gaps.{going_by, told_by, end_by, so_far_by, heard_by}
 use Rattle.dvi_hearing.specs.DviHeard.{dvi_line, dvi_closing, dvi_gaps, dvi_so_far, dvi_heard}
@@ -27,7 +27,7 @@ dvi_line_sized b n c cs =
     let most = take_at_most 4095 cs in
     let long = length-line_bytes (take 4096 (c ∷ cs)) in
     sized_append _ _ (if_not_sized (nat_le 12 n) (short b) tt) (
-      (whole_pixels (take 4096 (c ∷ cs)), omega (arith, long), omega (arith, long, most)),
+      (whole_pixels (take 4096 (c ∷ cs)), omega (arith, long), omega (arith, long, most), bytes_below (take 4096 (c ∷ cs))),
       sized_append _ _ (codes_of_sized b (take 4096 (c ∷ cs))) (if_not_sized (nat_le (length (c ∷ cs)) 4096) (long_line b) tt),
     )
 

@@ -1,4 +1,5 @@
-//! A sink of the bits of three lanes, which come feed after feed. It keeps none of them.
+//! A sink of the bits of three lanes, which come feed after feed. Of what it took it keeps what is still to be told: the last
+//! bits of each lane, the characters that wait for those of another lane, and the period that goes on.
 ghost use Rattle.std.specs.Prelude.{◌≡◌, ◌+◌, List, true, false, IfOk, OnOk, OnErr, slice_index};
 ghost use Rattle.outside_io.specs.Causes.{HasCause};
 ghost use Rattle.period_grammar.specs.Things.{Thing};

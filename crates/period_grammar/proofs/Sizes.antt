@@ -1,26 +1,33 @@
 -- Everything that is told is of the sizes that a link can have.
-use Rattle.std.proofs.Common.{◌≡◌, ℕ, zero, suc, ◌+◌, ◌*◌, ◌%◌, ◌==◌, ◌<◌, ◌≤◌, Bool, true, false, not, List, [], ◌∷◌, ◌++◌, length, map, take, refl, ap, ◌∙◌, arith, Option, Some, None, All}
+use Rattle.std.proofs.Common.{◌≡◌, ℕ, zero, suc, ◌+◌, ◌*◌, ◌%◌, ◌==◌, ◌<◌, ◌≤◌, Bool, true, false, not, List, [], ◌∷◌, ◌++◌, length, map, take, drop, refl, ap, ◌∙◌, arith, Option, Some, None, All}
 use Rattle.std.specs.Prelude.{nat_le, unwrap_or, IfSome}
 use Rattle.std.proofs.Math.Nat.{mul-mod_left}
 use Rattle.std.proofs.lemmas.Nat.{mod_below}
+use Rattle.std.proofs.lemmas.Bool.{leb-true}
+use Rattle.std.proofs.lemmas.List.{length-map, length-take-le}
 use Rattle.std.proofs.lemmas.List.Elements.{All-nil, All-cons, All-map}
 use Rattle.bch_block.specs.declared.Verdict.{Verdict}
 use Rattle.bch_block.specs.declared.Verdict.TheVariants.{Clean, Mended, Lost}
 use Rattle.island_pack.specs.Nibbles.{nibble_of, nibbles_of, sync_values}
 use Rattle.island_pack.specs.declared.packet.PacketVerdicts.{PacketVerdicts}
 use Rattle.tmds_word.specs.Column.{Column}
+use Rattle.tmds_word.proofs.Below.{and-right}
 use Rattle.terc4.specs.Tables.{control_words, value_in, is_control}
 use Rattle.terc4.specs.Columns.{is_video_guard, is_island_guard, closes}
 use Rattle.terc4.proofs.Entries.{value_below}
+use Rattle.tmds_code.specs.Coding.{decoded_byte}
 use Rattle.period_grammar.specs.Coding.{first_uncoded}
 use Rattle.period_grammar.specs.Column.{control_bits, value_of, sync_digit}
 use Rattle.island_pack.specs.Spelling.{words_of}
 use Rattle.island_pack.specs.Repaired.{packet_in, packet_of, verdicts_of}
 use Rattle.period_grammar.specs.Things.{Thing, short, preamble, empty, long_line, cut, symbols, long_island, broken, guard, Told, all_at, thing_of}
 use Rattle.period_grammar.specs.Cut.{Stretch, stretch, stretches, Run, columns, in_front, value, before_runs, runs}
-use Rattle.period_grammar.specs.Island.{Payload, parts, payload, when, if_so, block_fault, block_faults, packet_faults, packet_things, in_packets, wrong_guards, begins_close, closing_things, in_left, left_at, in_island, breaks}
+use Rattle.period_grammar.specs.Island.{Payload, parts, begins_close, holds_packet, with_packet, split_by, split, payload, when, if_so, block_fault, block_faults, packet_faults, packet_things, in_packets, wrong_guards, closing_things, in_left, left_at, in_island, breaks}
 use Rattle.period_grammar.specs.Heard.{other_word, other_words, words, ended, in_run, size, in_runs, last_run, has_preamble, if_not, Kind, video, island, neither, opened, lacks, opening, line_bytes, code_fault, codes_of, line_of, in_payload, in_gap, payload_closes, at_close, payload_ends, at_end, so_far, reach, closing, told_from, ending, end_from, heard_so_far, heard}
 use Rattle.period_grammar.specs.Sizes.{IsSized}
+use Rattle.island_pack.specs.Packets.{IsPacket}
+use Rattle.island_pack.proofs.RepairedBlocks.{repaired_is_taken}
+use Rattle.period_grammar.proofs.Bytes.{decoded_below}
 
 -- Lists of things, one after another.
 abbrev pub Sized : List Thing → Type 0
@@ -154,6 +161,16 @@ opening_sized b control g h island = sized_append _ _ (lacks_sized b control 5) 
 opening_sized b control g h neither = (tt, tt)
 
 -- A line.
+pub bytes_below : (cs : List Column) → All (λ byte. byte < 256) (line_bytes cs)
+unfolding line_bytes
+bytes_below [] = All-nil (λ byte. byte < 256)
+bytes_below (c ∷ cs) =
+    let blue = decoded_byte c.blue ∷ line_bytes cs in
+    let green = decoded_byte c.green ∷ blue in
+    All-cons (λ byte. byte < 256) (decoded_byte c.red) green (decoded_below c.red)
+    (All-cons (λ byte. byte < 256) (decoded_byte c.green) blue (decoded_below c.green)
+    (All-cons (λ byte. byte < 256) (decoded_byte c.blue) (line_bytes cs) (decoded_below c.blue) (bytes_below cs)))
+
 pub length-line_bytes : (cs : List Column) → length (line_bytes cs) ≡ length cs * 3
 unfolding line_bytes
 length-line_bytes [] = refl
@@ -183,7 +200,7 @@ line_of_sized b [] = (tt, tt)
 line_of_sized b (c ∷ cs) =
     let most = take_at_most 4095 cs in
     let long = length-line_bytes (take 4096 (c ∷ cs)) in (
-      (whole_pixels (take 4096 (c ∷ cs)), omega (arith, long), omega (arith, long, most)),
+      (whole_pixels (take 4096 (c ∷ cs)), omega (arith, long), omega (arith, long, most), bytes_below (take 4096 (c ∷ cs))),
       sized_append _ _ (codes_of_sized (b + 2) (take 4096 (c ∷ cs))) (if_not_sized (nat_le (length (c ∷ cs)) 4096) (long_line b) tt),
     )
 
@@ -205,15 +222,41 @@ packet_sync_below : (p : List Column) → All (λ digit. digit < 4) (packet_of p
 unfolding packet_in
 packet_sync_below p = sync_below (map words_of p)
 
-packet_things_sized : (s k : ℕ) (p : List Column) → Sized (packet_things s k p)
-unfolding packet_things
-packet_things_sized s k p =
-    (packet_sync_below p, sized_append _ _ (packet_faults_sized s (verdicts_of p)) (if_so_sized (k == 18) (long_island s) tt))
+abbrev pub AreWhole : List (List Column) → Type 0
+AreWhole [] = Unit {0}
+AreWhole (p ∷ ps) = (length p ≡ 32) × AreWhole ps
 
-in_packets_sized : (s k : ℕ) (ps : List (List Column)) → TellsSized (in_packets s k ps)
-in_packets_sized s k [] = tt
-in_packets_sized s k (p ∷ ps) =
-    tells_append _ _ (tells_at (s + 31) (packet_things s k p) (packet_things_sized s k p)) (in_packets_sized (s + 32) (k + 1) ps)
+abbrev pub HasWhole : Payload → Type 0
+HasWhole (parts ps t) = AreWhole ps
+
+with_packet_whole : (p : List Column) (x : Payload) → length p ≡ 32 → HasWhole x → HasWhole (with_packet p x)
+with_packet_whole p (parts ps t) e h = (e, h)
+
+split_by_whole : (b : Bool) (cs : List Column) (x : Payload) → (b ≡ true → length (take 32 cs) ≡ 32) → HasWhole x → HasWhole (split_by b cs x)
+split_by_whole true cs x e h = with_packet_whole (take 32 cs) x (e refl) h
+split_by_whole false cs x e h = tt
+
+packet_held : (cs : List Column) → holds_packet cs ≡ true → length (take 32 cs) ≡ 32
+unfolding holds_packet
+packet_held cs e = length-take-le 32 cs (leb-true 32 (length cs) (and-right (not (begins_close cs)) _ e))
+
+split_whole : (n : ℕ) (cs : List Column) → HasWhole (split n cs)
+unfolding split
+split_whole zero cs = tt
+split_whole (suc n) cs = split_by_whole (holds_packet cs) cs (split n (drop 32 cs)) (packet_held cs) (split_whole n (drop 32 cs))
+
+packet_whole : (p : List Column) → length p ≡ 32 → IsPacket (packet_of p)
+packet_whole p e = (repaired_is_taken (map words_of p) (length-map p words_of ∙ e)).whole
+
+packet_things_sized : (s k : ℕ) (p : List Column) → length p ≡ 32 → Sized (packet_things s k p)
+unfolding packet_things
+packet_things_sized s k p e =
+    ((packet_whole p e, packet_sync_below p), sized_append _ _ (packet_faults_sized s (verdicts_of p)) (if_so_sized (k == 18) (long_island s) tt))
+
+in_packets_sized : (s k : ℕ) (ps : List (List Column)) → AreWhole ps → TellsSized (in_packets s k ps)
+in_packets_sized s k [] h = tt
+in_packets_sized s k (p ∷ ps) h =
+    tells_append _ _ (tells_at (s + 31) (packet_things s k p) (packet_things_sized s k p h.0)) (in_packets_sized (s + 32) (k + 1) ps h.1)
 
 closing_things_sized : (b s k : ℕ) (c d : Column) → Sized (closing_things b s k c d)
 unfolding closing_things
@@ -229,9 +272,9 @@ in_left_sized b s k (c ∷ (d ∷ [])) = when_sized (closes c d) _ (tells_at (s 
 in_left_sized b s k (c ∷ (d ∷ (e ∷ cs))) =
     when_sized (closes c d) _ (tells_append _ _ (tells_at (s + 1) _ (closing_things_sized b s k c d)) (tt, tt))
 
-in_island_sized : (b : ℕ) (x : Payload) → TellsSized (in_island b x)
+in_island_sized : (b : ℕ) (x : Payload) → HasWhole x → TellsSized (in_island b x)
 unfolding in_island
-in_island_sized b (parts ps t) = tells_append _ _ (in_packets_sized (b + 2) 0 ps) (in_left_sized b (left_at b ps) (length ps) t)
+in_island_sized b (parts ps t) h = tells_append _ _ (in_packets_sized (b + 2) 0 ps h) (in_left_sized b (left_at b ps) (length ps) t)
 
 breaks_sized : (f : ℕ → Thing) (b : ℕ) (x : Payload) → ((n : ℕ) → IsSized (f n)) → Sized (breaks f b x)
 breaks_sized f b (parts ps t) h = if_so_sized (not (begins_close t)) (f (left_at b ps)) (h (left_at b ps))
@@ -239,7 +282,7 @@ breaks_sized f b (parts ps t) h = if_so_sized (not (begins_close t)) (f (left_at
 -- Columns after control columns.
 in_payload_sized : (b : ℕ) (k : Kind) (rest : List Column) → TellsSized (in_payload b k rest)
 in_payload_sized b video rest = tt
-in_payload_sized b island rest = in_island_sized b (payload rest)
+in_payload_sized b island rest = in_island_sized b (payload rest) (split_whole (length rest) rest)
 in_payload_sized b neither rest = tt
 
 in_gap_sized : (b : ℕ) (control gap : List Column) → TellsSized (in_gap b control gap)

@@ -1,10 +1,9 @@
 -- Lines and islands that came can stand in a conforming list.
-use Rattle.std.proofs.Common.{◌≡◌, ℕ, suc, ◌+◌, ◌*◌, ◌/◌, ◌%◌, ◌<◌, ◌≤◌, Bool, true, false, cond, ◌&&◌, ◌==◌, List, [], ◌∷◌, length, map, take, drop, refl, ap, sym, ◌∙◌, subst, arith, eq-eqb, All}
+use Rattle.std.proofs.Common.{◌≡◌, ℕ, suc, ◌+◌, ◌*◌, ◌/◌, ◌%◌, ◌≤◌, Bool, true, false, cond, ◌&&◌, ◌==◌, List, [], ◌∷◌, length, map, take, drop, refl, ap, sym, ◌∙◌, subst, arith, eq-eqb}
 use Rattle.std.specs.Prelude.{nat_lt, nat_le}
 use Rattle.std.specs.List.{list_all}
 use Rattle.std.proofs.lemmas.Bool.{and_parts, and_from, lt-ltb, eqb-true}
 use Rattle.std.proofs.lemmas.List.{length-map, length-take-le, length-drop}
-use Rattle.std.proofs.lemmas.List.Sums.{list_all-from_AllPass}
 use Rattle.tmds_word.specs.Column.{Column}
 use Rattle.tmds_code.specs.Coding.{decoded_byte}
 use Rattle.island_pack.specs.Nibbles.{nibble_of}
@@ -18,6 +17,7 @@ use Rattle.island_pack.specs.declared.packet.Packet.{Packet}
 use Rattle.period_grammar.specs.Column.{sync_digit}
 use Rattle.link_sink.specs.Account.{pixel_bytes, damage, sync_row, packet_row}
 use Rattle.relay.proofs.Below.{Facts}
+use Rattle.relay.proofs.Fits.{all_bytes}
 use Rattle.relay.specs.Relayed.{Judged, data_of}
 use Rattle.relay.specs.Came.{packets_came, digits_of, island_came}
 
@@ -93,9 +93,6 @@ as_many_syncs [] ss rs a b = refl
 as_many_syncs (v ∷ vs) [] rs a b = absurd (omega (arith, a))
 as_many_syncs (v ∷ vs) (s ∷ ss) [] a b = absurd (omega (arith, b))
 as_many_syncs (v ∷ vs) (s ∷ ss) (r ∷ rs) a b = ap (λ n. suc n) (as_many_syncs vs ss rs (omega (arith, a)) (omega (arith, b)))
-
-all_bytes : (bytes : List ℕ) → All (λ b. b < 256) bytes → are_bytes bytes ≡ true
-all_bytes bytes h = list_all-from_AllPass small bytes (λ k d lt. lt-ltb _ 256 (h k d lt))
 
 abbrev SmallSyncs : List ℕ → Type 0
 SmallSyncs vs = ((length vs == 32) && list_all (λ v. nat_lt v 4) vs) ≡ true

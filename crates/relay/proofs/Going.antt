@@ -1,11 +1,11 @@
 -- What a relay keeps, one period more.
-use Rattle.std.proofs.Common.{◌⊎◌, inl, inr, Bool, true, false, ◌&&◌, ◌==◌, ◌%◌, min, take, ◌≡◌, ℕ, ◌+◌, ◌-◌, ◌/◌, ◌^◌, ◌≤◌, max, List, [], ◌∷◌, ◌++◌, length, map, refl, ap, ap₂, sym, ◌∙◌, subst, arith, zero, suc}
+use Rattle.std.proofs.Common.{◌⊎◌, inl, inr, Bool, true, false, ◌&&◌, min, take, ◌≡◌, ℕ, ◌+◌, ◌-◌, ◌^◌, ◌≤◌, max, List, [], ◌∷◌, ◌++◌, length, map, refl, ap, ap₂, sym, ◌∙◌, subst, arith, zero, suc}
 use Rattle.std.specs.Prelude.{Option, Some, None, Result, not, nat_le}
 use Rattle.std.specs.List.{list_all, fold}
-use Rattle.std.proofs.lemmas.Bool.{and_parts, and_from, eq-eqb, le-leb}
+use Rattle.std.proofs.lemmas.Bool.{and_parts, and_from, le-leb}
 use Rattle.std.proofs.lemmas.List.{append_assoc, map-append, length-map}
 use Rattle.island_pack.specs.Periods.{SyncPair, DataIsland, period_columns, columns_of}
-use Rattle.island_pack.specs.Conforming.{are_bytes, is_video_period, is_sync_pair, is_packet, is_data_island}
+use Rattle.island_pack.specs.Conforming.{is_sync_pair, is_packet, is_data_island}
 use Rattle.island_pack.specs.Ranges.{is_island_in_range}
 use Rattle.island_pack.specs.Runs.{longest}
 use Rattle.island_pack.specs.declared.packet.Packet.{Packet}
@@ -296,10 +296,3 @@ stream_has now told h =
 
 pub stream_columns : (told : List Thing) → size (turns_in told) ≡ columns_of (relayed told)
 stream_columns told = sym (ap columns_of (gained told []).relayed_is ∙ columns_settled (turns_in told))
-
-pub video_period : (bytes : List ℕ) → are_bytes bytes ≡ true → length bytes % 3 ≡ 0 → 3 ≤ length bytes → length bytes ≤ 12288 → is_video_period bytes ≡ true
-unfolding is_video_period
-video_period bytes small whole some few =
-    and_from (are_bytes bytes) _ small
-    (and_from (length bytes % 3 == 0) _ (eq-eqb (length bytes % 3) 0 whole)
-    (and_from (nat_le 1 (length bytes / 3)) _ (le-leb 1 (length bytes / 3) (omega arith)) (le-leb (length bytes / 3) 4096 (omega arith))))

@@ -1,10 +1,9 @@
 //! Packets as they are sent on.
-ghost use Rattle.std.specs.Prelude.{◌≡◌, ◌<◌, ◌||◌, ℕ, All, IsTrue, length};
-ghost use Rattle.island_pack.specs.Conforming.{is_packet};
+ghost use Rattle.std.specs.Prelude.{◌≡◌, ◌||◌};
 ghost use Rattle.relay.specs.Relayed.{Judged, is_lost, has_lost as lost_in, sure};
 
 use bch_block::Verdict;
-use island_pack::{Packet, PacketRef, is_packet_in_range};
+use island_pack::{Packet, PacketRef};
 
 /// Whether the block has more wrong bits than can be mended.
 fn is_lost(verdict: Verdict) -> bool
@@ -51,19 +50,10 @@ fn packet_of(header: &[u8; 3], bodies: &[u8; 28], sync: &[u8; 32]) -> Packet
 
 /// The packet as it is sent on: where a block is lost, the Null packet with its sync values.
 pub(crate) fn sent_on(packet: PacketRef<'_>) -> Packet
-    requires { All (λ digit. digit < 4) packet.packet.now.sync }
-    ensures sure { (judged : Judged) → judged ≡ record { packet = packet.entry.packet.now; verdicts = packet.entry.verdicts.now } → result ≡ (sure judged).packet }
-    ensures fits { IsTrue (is_packet packet.entry.packet.now) }
+    ensures { (judged : Judged) → judged ≡ record { packet = packet.entry.packet.now; verdicts = packet.entry.verdicts.now } → result ≡ (sure judged).packet }
 {
-    let whole = packet_of(packet.header(), packet.bodies(), packet.sync());
-    prove!(is_packet_in_range(&whole));
     if has_lost(packet) {
-        let sync = whole.sync;
-        return Packet {
-            header: [0; 3],
-            bodies: [0; 28],
-            sync,
-        };
+        return packet_of(&[0; 3], &[0; 28], packet.sync());
     }
-    whole
+    packet_of(packet.header(), packet.bodies(), packet.sync())
 }

@@ -2,9 +2,10 @@
 ghost use Rattle.std.specs.Prelude.{◌≡◌, ℕ, ◌+◌, ◌-◌, ◌*◌, ◌/◌, ◌%◌, ◌^◌, ◌<◌, ◌≤◌, ◌++◌, ◌∷◌, [], List, Bool, true, All, length, max, min, nat_lt, take, Option, Some, None, not, OnOk, OnErr, IfOk, IfErr, IsTrue, MatchResult};
 ghost use Rattle.std.specs.List.{fold};
 ghost use Rattle.island_pack.specs.Periods.{DataIsland, columns_of};
-ghost use Rattle.island_pack.specs.Conforming.{is_sync_pair, is_video_period};
+ghost use Rattle.island_pack.specs.Conforming.{is_sync_pair};
+ghost use Rattle.island_pack.specs.Packets.{IsPacket};
 ghost use Rattle.outside_io.specs.Causes.{HasCause};
-ghost use Rattle.period_grammar.specs.Things.{Thing};
+ghost use Rattle.period_grammar.specs.Things.{Thing, line};
 ghost use Rattle.period_grammar.specs.Lending.{lent_thing};
 ghost use Rattle.period_grammar.specs.Sizes.{IsSized};
 ghost use Rattle.relay.specs.declared.relaying.RelayFault.{RelayFault};
@@ -160,11 +161,8 @@ impl Relay {
 
     /// Takes a line.
     fn line(&mut self, pixels: &[u8]) -> Result<(), RelayFault>
-        requires whole { length pixels.now % 3 ≡ 0 }
-        requires some { 3 ≤ length pixels.now }
-        requires few { length pixels.now ≤ 12288 }
+        requires { IsSized (line pixels.now) }
         ensures steps { (t : Turns) (b : Option Begun) (good : Bool) → IsAt self.old t b good → Steps self.new result (ended t (a_line pixels.now)) None good }
-        ensures period { IsTrue (is_video_period pixels.now) }
         ensures same { (self.new.trouble ≡ self.old.trouble) × (self.new.faults ≡ self.old.faults) }
     {
         self.island = None;
@@ -205,7 +203,8 @@ impl Relay {
 
     /// Takes a packet into the island that goes on. Outside an island, and past the eighteenth, it is left out.
     fn packet(&mut self, packet: PacketRef<'_>) -> Result<(), NoMemory>
-        requires { All (λ digit. digit < 4) packet.packet.now.sync }
+        requires whole { IsPacket packet.packet.now }
+        requires digits { All (λ digit. digit < 4) packet.packet.now.sync }
         ensures at { (t : Turns) (b : Option Begun) (good : Bool) → IsAt self.old t b good → OnOk result (IsAt self.new t (with_packet (record { packet = packet.entry.packet.now; verdicts = packet.entry.verdicts.now }) b) good) }
         ensures same { (self.new.trouble ≡ self.old.trouble) × (self.new.faults ≡ self.old.faults) }
     {

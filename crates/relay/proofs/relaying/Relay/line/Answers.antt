@@ -1,13 +1,12 @@
 use Rattle.std.proofs.Common.{◌≤◌, ◌∙◌, sym, refl, arith, None}
 use Rattle.std.proofs.lemmas.Bool.{ltb-true, ltb-false}
 use Rattle.island_pack.specs.Periods.{period_columns}
-use Rattle.source_end.proofs.Contents.{bytes_at}
 use Rattle.relay.specs.Relayed.{a_line, ended}
 use Rattle.relay.specs.Sizes.{size}
 use Rattle.relay.specs.Standing.{IsAt}
 use Rattle.relay.specs.declared.relaying.Relay.{Relay}
 use Rattle.relay.proofs.Growing.{size_ended}
-use Rattle.relay.proofs.Going.{at_ended, video_period}
+use Rattle.relay.proofs.Going.{at_ended}
 use Rattle.relay.proofs.relaying.Relay.line.Goals as goal
 
 pub returns-then-is_long-clause-steps : goal.returns-then-is_long-clause-steps
@@ -36,15 +35,3 @@ returns-clause-steps c t b good h =
     let now : Relay = record { whole = c.row.new.self; period = mid.period; period_columns = mid.period_columns; columns = c.saturating_add-self.result; island = mid.island; faulty = mid.faulty; trouble = mid.trouble; faults = mid.faults } in
     let few : size (ended t d) ≤ 20000000 = omega arith in
     (at_ended old mid now t d good c.line_columns-columns.result (omega arith) settled at.faulty at.island few (c.in_ok-row.ensures _ settled.whole) refl refl c.saturating_add-self.ensures refl refl, tt)
-
-pub returns-clause-period : goal.returns-clause-period
-returns-clause-period c = video_period c.args.pixels.now (bytes_at c.args.pixels.now (λ i. (c.type_inv.pixels i).fits)) c.requires.whole c.requires.some c.requires.few
-
-pub returns-then-is_long-clause-period : goal.returns-then-is_long-clause-period
-returns-then-is_long-clause-period c = video_period c.args.pixels.now (bytes_at c.args.pixels.now (λ i. (c.type_inv.pixels i).fits)) c.requires.whole c.requires.some c.requires.few
-
-pub returns-in_err-settle-clause-period : goal.returns-in_err-settle-clause-period
-returns-in_err-settle-clause-period c = video_period c.args.pixels.now (bytes_at c.args.pixels.now (λ i. (c.type_inv.pixels i).fits)) c.requires.whole c.requires.some c.requires.few
-
-pub returns-in_err-row-clause-period : goal.returns-in_err-row-clause-period
-returns-in_err-row-clause-period c = video_period c.args.pixels.now (bytes_at c.args.pixels.now (λ i. (c.type_inv.pixels i).fits)) c.requires.whole c.requires.some c.requires.few

@@ -9,6 +9,7 @@ use Rattle.source_end.proofs.Gathered.{on_ok}
 use Rattle.relay.specs.declared.relaying.Relay.{Relay}
 use Rattle.relay.specs.Laws.{turns_in, begun_in}
 use Rattle.relay.specs.Standing.{IsAt}
+use Rattle.relay.proofs.Fits.{line_told}
 use Rattle.relay.proofs.Moving.{run_turns, line_turns, close_turns, fault_turns, no_fault, some_fault, run_island, line_island, open_behind, packet_behind, close_island_behind, cut_behind, moved, moved_long, long_for_each, if_err}
 use Rattle.relay.proofs.relaying.Relay.take_in.Goals as goal
 
@@ -40,7 +41,7 @@ returns-in-Line-clause-stands c things s =
     let b = begun_in things in
     let good = faultless things in
     let steps = c.line.ensures.steps (turns_in things) b good s in
-    on_ok c.line.result _ _ (λ at. moved c.line.new.self things (lent_thing c.args.told) x _ None good e (line_turns (turns_in things) b c.in-Line.pixels.now c.line.ensures.period) (line_island b c.in-Line.pixels.now) (no_fault good x refl) at) steps.0
+    on_ok c.line.result _ _ (λ at. moved c.line.new.self things (lent_thing c.args.told) x _ None good e (line_turns (turns_in things) b c.in-Line.pixels.now (line_told c.in-Line.pixels.now sized)) (line_island b c.in-Line.pixels.now) (no_fault good x refl) at) steps.0
 
 pub returns-in-Line-clause-long : goal.returns-in-Line-clause-long
 returns-in-Line-clause-long c =
@@ -50,7 +51,7 @@ returns-in-Line-clause-long c =
     long_for_each c.line.result c.args.self.now (lent_thing c.args.told)
     (λ things s.
     let b = begun_in things in
-    if_err c.line.result _ _ (λ big. moved_long things (lent_thing c.args.told) x _ e (line_turns (turns_in things) b c.in-Line.pixels.now c.line.ensures.period) big) (c.line.ensures.steps (turns_in things) b (faultless things) s).1)
+    if_err c.line.result _ _ (λ big. moved_long things (lent_thing c.args.told) x _ e (line_turns (turns_in things) b c.in-Line.pixels.now (line_told c.in-Line.pixels.now sized)) big) (c.line.ensures.steps (turns_in things) b (faultless things) s).1)
 
 pub returns-in-Close-clause-stands : goal.returns-in-Close-clause-stands
 returns-in-Close-clause-stands c things s =
