@@ -1,17 +1,18 @@
 -- Frames of a content, the last of which may still be told.
 use Rattle.std.proofs.Common.{◌≡◌, ℕ, ◌+◌, ◌≤◌, Bool, true, false, ◌&&◌, List, [], ◌∷◌, ◌++◌, length, refl, ap, sym, subst, ◌∙◌, arith, length-append, eqb-true}
-use Rattle.std.specs.Prelude.{Option, Some, None, Result, nat_lt}
+use Rattle.std.specs.Prelude.{Option, Some, None, Result, is_some, nat_lt}
 use Rattle.std.proofs.lemmas.Bool.{ltb-true}
 use Rattle.audio_packets.specs.declared.sample.Sample.{Sample}
 use Rattle.source_end.specs.Content.{Frame, empty_frame, on_last}
-use Rattle.source_end.specs.declared.mode.Mode.{Mode}
+use Rattle.source_end.specs.declared.refusal.RasterFault.{RasterFault}
 use Rattle.listing.specs.declared.fault.ListCause.{ListCause}
 use Rattle.listing.specs.declared.fault.ListCause.TheVariants.{Order}
 use Rattle.listing.specs.declared.teller.Refusal.{Refusal}
 use Rattle.listing.specs.Causes.{unless}
 use Rattle.listing.specs.Told.{AnswersCause}
 use Rattle.listing.specs.ContentForms.{ContentLine, end_line}
-use Rattle.listing.specs.ContentDrafts.{ContentDraft, settled, with_samples, has_mode, is_settled, frame_cause, content_cause}
+use Rattle.listing.specs.ContentDrafts.{with_samples}
+use Rattle.listing.specs.ContentKept.{AreKept, ContentKept, is_kept_settled, is_told, kept_cause}
 use Rattle.listing.specs.ContentTold.{first_frames, last_frame, whole_frames, open_frame, pending, IsOpened}
 use Rattle.listing.proofs.Feeds.{and-left, and-right}
 
@@ -96,36 +97,38 @@ pub content_closed : (is_open : Bool) (frames : List Frame) (rows packets : ℕ)
 content_closed true frames rows packets begun none empty = absurd (omega (arith, begun.1, none, empty))
 content_closed false frames rows packets begun none empty = refl
 
+pub no_fault : (fault : Option RasterFault) → is_some fault ≡ false → fault ≡ None
+no_fault None h = refl
+no_fault (Some fault) h = cc h
+
+-- a row was told of frames that are kept
+pub frame_kept : (fault : Option RasterFault) (count rows packets : ℕ) (is_open : Bool) (frames : List Frame) → AreKept fault count rows is_open frames → IsOpened is_open frames rows packets → fault ≡ None → 1 ≤ rows
+    → (count ≡ length (whole_frames is_open frames)) × (frames ≡ whole_frames is_open frames ++ open_frame is_open frames ∷ [])
+frame_kept None count rows packets is_open frames kept begun none some = (kept.0, frame_ends is_open frames rows packets begun (omega (arith, kept.1, some)))
+frame_kept (Some fault) count rows packets is_open frames kept begun none some = absurd (cc none)
+
 unless_true : (b : Bool) → unless b Order None ≡ None → b ≡ true
 unless_true true h = refl
 unless_true false h = cc h
 
-unless_first : (b : Bool) (cause : ListCause) (rest : Option ListCause) → unless b cause rest ≡ None → b ≡ true
-unless_first true cause rest h = refl
-unless_first false cause rest h = cc h
-
 -- what holds where the line `end` has no cause
-pub end_none : (draft : ContentDraft) → content_cause draft end_line ≡ None → (has_mode draft && (nat_lt 0 (length draft.frames) && is_settled draft)) ≡ true
-unfolding content_cause
-end_none draft h = unless_true _ h
+end_none : (k : ContentKept) → kept_cause k end_line ≡ None → (is_told k.mode && (nat_lt 0 k.count && is_kept_settled k)) ≡ true
+unfolding kept_cause
+end_none k h = unless_true _ h
 
-pub no_mode : (draft : ContentDraft) → draft.mode ≡ None → has_mode draft ≡ false
-no_mode draft h = ap (λ (m : Option Mode). elim m [ Some mode ↦ true | None ↦ false ]) h
+pub end_told : (k : ContentKept) → kept_cause k end_line ≡ None → is_told k.mode ≡ true
+end_told k h = and-left _ _ (end_none k h)
 
--- a frame that may end here has a row
-pub frame_row : (draft : ContentDraft) (width height : ℕ) → frame_cause draft width height ≡ None → 1 ≤ length draft.current.rows
-frame_row draft width height h = ltb-true 0 _ (and-right (has_mode draft) _ (unless_first _ _ _ h))
-
-pub settled_row : (draft : ContentDraft) → 1 ≤ length draft.current.rows → 1 ≤ length (settled draft).current.rows
-settled_row draft some = omega (arith, some, ap length (with_samples_rows draft.samples draft.current))
-
-pub settled_none : (draft : ContentDraft) → is_settled draft ≡ true → (length draft.current.rows ≡ 0) × (length draft.current.packets ≡ 0)
-settled_none draft h = (eqb-true _ 0 (and-left _ _ h), eqb-true _ 0 (and-left _ _ (and-right _ _ h)))
+-- nothing of a frame is told there
+pub end_settled : (k : ContentKept) → kept_cause k end_line ≡ None → (k.rows ≡ 0) × (k.packets ≡ 0)
+end_settled k h =
+    let settled = and-right _ _ (and-right _ _ (end_none k h)) in
+    (eqb-true _ 0 (and-left _ _ settled), eqb-true _ 0 (and-left _ _ (and-right _ _ settled)))
 
 pub pending_one : (samples : List Sample) (s : Sample) → pending (samples ++ s ∷ []) ≡ 1
 pending_one [] s = refl
 pending_one (r ∷ samples) s = refl
 
-pub answers_told : {T : Type 0} (draft : ContentDraft) (told form : ContentLine) (result : Result T Refusal) → told ≡ form → AnswersCause {T = T} (content_cause draft form) result
-    → AnswersCause {T = T} (content_cause draft told) result
-answers_told draft told form result is answers = subst (λ (t : ContentLine). AnswersCause (content_cause draft t) result) (sym is) answers
+pub answers_told : {T : Type 0} (draft : ContentKept) (told form : ContentLine) (result : Result T Refusal) → told ≡ form → AnswersCause {T = T} (kept_cause draft form) result
+    → AnswersCause {T = T} (kept_cause draft told) result
+answers_told draft told form result is answers = subst (λ (t : ContentLine). AnswersCause (kept_cause draft t) result) (sym is) answers

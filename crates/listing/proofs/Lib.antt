@@ -4,6 +4,7 @@ pub mod Consumed
 pub mod ContentAdding
 pub mod ContentCases
 pub mod ContentHearing
+pub mod ContentKept
 pub mod ContentKinds
 pub mod ContentNotes
 pub mod ContentWritten
@@ -31,3 +32,4 @@ pub mod Refused
 pub mod ShortLines
 pub mod ToldSizes
 pub mod HexPairs
+pub mod DigitPairs

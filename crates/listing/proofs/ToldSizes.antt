@@ -1,9 +1,9 @@
 -- The sizes of what is told.
-use Rattle.std.proofs.Common.{◌≡◌, ℕ, ◌<◌, List, true, All}
-use Rattle.std.specs.Prelude.{nat_lt}
-use Rattle.std.specs.List.{list_all}
-use Rattle.std.proofs.lemmas.Bool.{ltb-true}
-use Rattle.std.proofs.lemmas.List.Sums.{AllPass-from_list_all}
+use Rattle.std.proofs.Common.{◌≡◌, ◌<◌, true, All}
+use Rattle.island_pack.specs.Conforming.{is_packet}
+use Rattle.island_pack.specs.Packets.{IsPacket}
+use Rattle.island_pack.specs.declared.packet.Packet.{Packet}
+use Rattle.island_pack.proofs.Spelled.{whole_packet, sync_small}
 use Rattle.period_grammar.specs.Lending.{fault_thing}
 use Rattle.period_grammar.specs.Sizes.{IsSized}
 use Rattle.period_grammar.specs.declared.told.Fault.{Fault}
@@ -25,6 +25,6 @@ fault_sized (LongIsland a) = tt
 fault_sized (Broken a) = tt
 fault_sized (Guard a) = tt
 
--- sync digits, by looking at each
-pub digits_sized : (digits : List ℕ) → list_all (λ n. nat_lt n 4) digits ≡ true → All (λ digit. digit < 4) digits
-digits_sized digits pass = λ k d within. ltb-true _ 4 (AllPass-from_list_all (λ n. nat_lt n 4) digits pass k d within)
+-- a packet, by looking at each byte and at each sync digit
+pub packet_sized : (p : Packet) → is_packet p ≡ true → IsPacket p × All (λ digit. digit < 4) p.sync
+packet_sized p pass = (whole_packet p pass, sync_small p pass)

@@ -26,18 +26,10 @@ abbrev pub open_frame : Bool → List Frame → Frame
 open_frame true frames = last_frame frames
 open_frame false frames = empty_frame
 
-abbrev pub content_drafted : Option Mode → Bool → List Frame → List Sample → ContentDraft
-content_drafted mode is_open frames samples = record { mode = mode; frames = whole_frames is_open frames; current = open_frame is_open frames; samples = samples }
-
 -- how many packets samples make that still lack one
 abbrev pub pending : List Sample → ℕ
 pending [] = 0
 pending (s ∷ samples) = 1
-
--- so many lines at least told this: one for each whole frame, and one for each row and each packet of the frame that is
--- still told
-abbrev pub lines_told : ContentDraft → ℕ
-lines_told draft = length draft.frames + length draft.current.rows + length draft.current.packets + pending draft.samples
 
 -- a frame that is still told has a row or a packet
 abbrev pub IsOpened : Bool → List Frame → ℕ → ℕ → Type 0

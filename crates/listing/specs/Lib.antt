@@ -28,4 +28,5 @@ pub mod ContentDrafts
 pub mod ContentReading
 pub mod ContentFormSeen
 pub mod ContentTold
+pub mod ContentKept
 pub mod Listed

@@ -28,7 +28,8 @@ impl<'a, K: Sink> CheckLister<'a, K> {
         CheckLister { sink, faults: 0 }
     }
 
-    /// How many fault lines were written, of things of which each line was. The count stands still at the greatest u64.
+    /// How many fault lines were written whole, one for each fault that it was told. The count stands still at the greatest
+    /// u64.
     pub fn faults(&self) -> u64
         ensures { result ≡ self.now.faults }
     {

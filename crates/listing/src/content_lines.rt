@@ -6,6 +6,7 @@ ghost use Rattle.listing.specs.ContentText.{is_fault_line, has_other_size, frame
 ghost use Rattle.listing.specs.Texts.{counted};
 ghost use Rattle.listing.specs.ContentAdded.{Adds};
 
+use crate::digit_pairs::DigitPairs;
 use crate::line::{Line, fields_line};
 use crate::lister::encode_pixels;
 use frame_build::{FrameNote, LineNote};
@@ -21,6 +22,7 @@ pub(crate) struct Lines {
     bytes: [u8; ROOM],
     size: usize,
     faults: u64,
+    digits: DigitPairs,
 }
 
 impl Model for Lines {
@@ -44,6 +46,7 @@ impl Lines {
             bytes: [0; ROOM],
             size: 0,
             faults: 0,
+            digits: DigitPairs::new(),
         }
     }
 
@@ -127,7 +130,7 @@ impl Lines {
         ensures text { self.new.text ≡ codes "row " ++ encode_lower pixels.now ++ codes "\n" }
         ensures faults { self.new.faults ≡ self.old.faults }
     {
-        self.size = encode_pixels(b"row ", pixels, &mut self.bytes);
+        self.size = encode_pixels(&self.digits, b"row ", pixels, &mut self.bytes);
     }
 
     /// Adds the line of a frame, and that its size is not that of the video identification code.

@@ -38,7 +38,9 @@ impl<'a, K: Sink> ContentLister<'a, K> {
         }
     }
 
-    /// How many fault lines were written, of things of which each line was. The count stands still at the greatest u64.
+    /// How many fault lines there were of things of which every line was written. A thing's fault lines are counted once all
+    /// its lines are written: where the sink failed within them none of them counts, also one that was written whole. The
+    /// count stands still at the greatest u64.
     pub fn faults(&self) -> u64
         ensures { result ≡ self.now.faults }
     {

@@ -1,12 +1,14 @@
 //! What the lines of a content listing tell, one line after the other.
 ghost use Rattle.std.specs.Prelude.{◌≡◌, ◌⊎◌, ℕ, ◌+◌, ◌%◌, ◌≤◌, ◌<◌, ◌&&◌, ◌||◌, ◌==◌, ◌∷◌, ◌++◌, [], length, true, false, nat_le, nat_lt, None, Some, Ok, IfOk, IfErr, IsErr, OnOk, All};
+ghost use Rattle.source_end.specs.declared.mode.Mode.{Mode};
 ghost use Rattle.hex.specs.Hex.{decode_of};
 ghost use Rattle.audio_packets.specs.Samples.{IsSample};
 ghost use Rattle.source_end.specs.Content.{with_packet, with_row};
 ghost use Rattle.listing.specs.ContentForms.{ContentLine, mode_line, row_by, row_line, frame_line, packet_line, sample_line, end_line};
 ghost use Rattle.listing.specs.ContentFormSeen.{IsContentForm, IsFit, SampleFits};
-ghost use Rattle.listing.specs.ContentDrafts.{content_cause, frame_cause, frame_fits, has_mode, has_room, has_sample_room, is_raster_mode, is_settled, row_cause, row_fits, settled, with_content, with_sample, with_samples};
-ghost use Rattle.listing.specs.ContentTold.{IsOpened, is_content_end, lines_told, open_frame, whole_frames};
+ghost use Rattle.listing.specs.ContentDrafts.{frame_fits, is_raster_mode, row_fits, with_samples};
+ghost use Rattle.listing.specs.ContentKept.{fault_after, frames_or, has_kept_room, has_kept_sample_room, is_kept_settled, is_told, kept_cause, kept_frame, kept_frame_cause, kept_lines, kept_row_cause, settled_kept, with_frame, with_kept, with_kept_sample};
+ghost use Rattle.listing.specs.ContentTold.{is_content_end, open_frame, whole_frames};
 ghost use Rattle.listing.specs.Told.{AnswersCause};
 
 use crate::ListCause;
@@ -17,7 +19,7 @@ use crate::teller::{Refusal, Taken, Teller};
 use audio_packets::{Sample, write_samples};
 use island_pack::Packet;
 use outside_io::NoMemory;
-use source_end::{Content, Mode};
+use source_end::{Content, Mode, RasterFault, mode_fault, next_fault};
 use std::alloc::Global;
 use std::marker::Model;
 
@@ -28,15 +30,21 @@ const PACKET_LIMIT: u64 = 65_535;
 const GROUP: usize = 4;
 
 /// Takes lines. The frame that is still being told is the last one of the content, from its first row or
-/// packet on; neighbouring samples are kept apart until they make a packet.
+/// packet on; neighbouring samples are kept apart until they make a packet. Frames are kept only as long as they may
+/// have a raster: from the first fault on they are judged and counted, and nothing of them is kept.
 #[derive(Drop)]
 pub(crate) struct ContentReader {
     alloc: Global,
     mode: Option<Mode>,
+    /// The first fault of the whole frames.
+    fault: Option<RasterFault>,
+    /// How many whole frames were told.
+    count: u32,
+    /// The frames, none where there is a fault.
     content: Content,
-    /// Whether the last frame is still being told.
+    /// Whether the last of these is still being told.
     is_open: bool,
-    /// How many rows it has.
+    /// How many rows the frame has that is being told.
     rows: u64,
     /// How many packets it has.
     packets: u64,
@@ -47,16 +55,15 @@ pub(crate) struct ContentReader {
 impl Model for ContentReader {
     ghost use Rattle.std.specs.Prelude.{◌≡◌, ◌≤◌, length, All};
     ghost use Rattle.audio_packets.specs.Samples.{IsSample};
-    ghost use Rattle.listing.specs.ContentDrafts.{ContentDraft};
-    ghost use Rattle.listing.specs.ContentTold.{content_drafted, open_frame, IsOpened};
+    ghost use Rattle.listing.specs.ContentKept.{ContentKept, AreKept, kept};
+    ghost use Rattle.listing.specs.ContentTold.{IsOpened};
 
-    ghost Value = { ContentDraft };
+    ghost Value = { ContentKept };
 
-    ghost view = { λ r. content_drafted r.mode r.is_open r.content r.samples.items };
+    ghost view = { λ r. kept r.mode r.fault r.count r.rows r.packets r.is_open r.content r.samples.items };
 
     ghost invariant = { λ r. record {
-      rows : r.rows ≡ length (open_frame r.is_open r.content).rows;
-      packets : r.packets ≡ length (open_frame r.is_open r.content).packets;
+      kept : AreKept r.fault r.count r.rows r.is_open r.content;
       begun : IsOpened r.is_open r.content r.rows r.packets;
       few : length r.samples.items ≤ 3;
       fits : All IsSample r.samples.items;
@@ -64,15 +71,18 @@ impl Model for ContentReader {
 }
 
 impl Teller for ContentReader {
-    ghost use Rattle.listing.specs.ContentReading.{content_step};
+    ghost use Rattle.listing.specs.ContentKept.{kept_step};
 
-    type Whole = (Mode, Content);
+    type Whole = Result<(Mode, Content), RasterFault>;
 
-    ghost step = { content_step };
+    ghost step = { kept_step };
 
-    ghost lines = { lines_told };
+    ghost lines = { kept_lines };
 
-    fn take(self, line: &[u8]) -> Result<Taken<ContentReader, (Mode, Content)>, Refusal> {
+    fn take(
+        self,
+        line: &[u8],
+    ) -> Result<Taken<ContentReader, Result<(Mode, Content), RasterFault>>, Refusal> {
         let form = read_content_form(line);
         let is_end = is_end_form(form);
         let reader = self.take_form(form)?;
@@ -85,14 +95,16 @@ impl Teller for ContentReader {
 }
 
 impl ContentReader {
-    ghost use Rattle.listing.specs.ContentDrafts.{no_content};
+    ghost use Rattle.listing.specs.ContentKept.{nothing_kept};
 
     pub(crate) fn new(alloc: Global) -> ContentReader
-        ensures { result ≡ no_content }
+        ensures { result ≡ nothing_kept }
     {
         ContentReader {
             alloc,
             mode: None,
+            fault: None,
+            count: 0,
             content: Content::new(alloc),
             is_open: false,
             rows: 0,
@@ -106,9 +118,9 @@ impl ContentReader {
     fn take_form(self, form: ContentForm<'_>) -> Result<ContentReader, Refusal>
         requires seen { (told : ContentLine) × IsContentForm form told }
         requires fits { IsFit form }
-        requires few { lines_told self ≤ 4294967290 }
-        ensures cause { (told : ContentLine) → IsContentForm form.entry told → AnswersCause (content_cause self told) result }
-        ensures ok { (told : ContentLine) → IsContentForm form.entry told → IfOk result (λ r. r ≡ with_content told self) }
+        requires few { kept_lines self ≤ 4294967290 }
+        ensures cause { (told : ContentLine) → IsContentForm form.entry told → AnswersCause (kept_cause self told) result }
+        ensures ok { (told : ContentLine) → IsContentForm form.entry told → IfOk result (λ r. r ≡ with_kept told self) }
     {
         match form {
             ContentForm::Mode(mode) => self.mode(mode),
@@ -127,38 +139,39 @@ impl ContentReader {
 impl ContentReader {
     /// Whether the mode was told.
     fn has_mode(&self) -> bool
-        ensures { result ≡ has_mode self.now }
+        ensures { result ≡ is_told self.now.mode }
     {
         self.mode.is_some()
     }
 
     /// Whether nothing of a frame was told.
     fn is_settled(&self) -> bool
-        ensures { result ≡ is_settled self.now }
+        ensures { result ≡ is_kept_settled self.now }
     {
         self.rows == 0 && (self.packets == 0 && self.samples.as_slice().is_empty())
     }
 
-    /// Takes the mode.
-    #[tactic(auto, unfolding(crate::specs::ContentDrafts::content_cause))]
+    /// Takes the mode, before which nothing is told.
+    #[tactic(auto, unfolding(crate::specs::ContentKept::kept_cause))]
     fn mode(self, mode: Option<Mode>) -> Result<ContentReader, Refusal>
-        ensures cause { AnswersCause (content_cause self (mode_line mode)) result }
-        ensures ok { IfOk result (λ r. r ≡ with_content (mode_line mode) self) }
+        ensures cause { AnswersCause (kept_cause self (mode_line mode)) result }
+        ensures ok { IfOk result (λ r. r ≡ with_kept (mode_line mode) self) }
     {
-        let mut reader = self;
         let Some(mode) = mode else {
             return Err(Refusal::Cause(ListCause::Range));
         };
-        if reader.has_mode() {
+        if self.has_mode() {
             return Err(Refusal::Cause(ListCause::Order));
         }
+        let mut reader = ContentReader::new(self.alloc);
+        reader.fault = mode_fault(&mode);
         reader.mode = Some(mode);
         Ok(reader)
     }
 
     /// The first cause for which a row of these bytes cannot come here.
     fn row_cause(&self, bytes: &[u8]) -> Option<ListCause>
-        ensures { result ≡ row_cause self.now bytes.now }
+        ensures { result ≡ kept_row_cause self.now bytes.now }
     {
         match &self.mode {
             Some(mode) if row_fits(mode, self.rows, bytes) => None,
@@ -168,27 +181,29 @@ impl ContentReader {
     }
 
     /// Takes a row, told by what should be its hexadecimal digits.
-    #[tactic(auto, unfolding(crate::specs::ContentDrafts::content_cause))]
+    #[tactic(auto, unfolding(crate::specs::ContentKept::kept_cause))]
     fn row(self, digits: &[u8]) -> Result<ContentReader, Refusal>
         requires pixels { length digits.now % 6 ≡ 0 }
-        requires few { lines_told self ≤ 4294967290 }
-        ensures cause { AnswersCause (content_cause self (row_by true (decode_of digits.now))) result }
-        ensures ok { IfOk result (λ r. r ≡ with_content (row_by true (decode_of digits.now)) self) }
+        requires few { kept_lines self ≤ 4294967290 }
+        ensures cause { AnswersCause (kept_cause self (row_by true (decode_of digits.now))) result }
+        ensures ok { IfOk result (λ r. r ≡ with_kept (row_by true (decode_of digits.now)) self) }
     {
         let bytes = decode_row(self.alloc, digits)?;
         if let Some(cause) = self.row_cause(bytes.as_slice()) {
             return Err(Refusal::Cause(cause));
         }
         let mut reader = self.settle()?;
-        push_row(&mut reader.content, reader.is_open, bytes.as_slice())?;
-        reader.is_open = true;
         reader.rows += 1;
+        if reader.fault.is_none() {
+            push_row(&mut reader.content, reader.is_open, bytes.as_slice())?;
+            reader.is_open = true;
+        }
         Ok(reader)
     }
 
     /// The first cause for which a frame of this size cannot end here.
     fn frame_cause(&self, width: u64, height: u64) -> Option<ListCause>
-        ensures { result ≡ frame_cause self.now width height }
+        ensures { result ≡ kept_frame_cause self.now width height }
     {
         match &self.mode {
             Some(_) if self.rows == 0 => Some(ListCause::Order),
@@ -199,27 +214,54 @@ impl ContentReader {
     }
 
     /// Takes the end of a frame.
-    #[tactic(auto, unfolding(crate::specs::ContentDrafts::content_cause))]
+    #[tactic(auto, unfolding(crate::specs::ContentKept::kept_cause))]
     fn frame(self, width: u64, height: u64) -> Result<ContentReader, Refusal>
-        requires few { lines_told self ≤ 4294967290 }
-        ensures cause { AnswersCause (content_cause self (frame_line width height)) result }
-        ensures ok { IfOk result (λ r. r ≡ with_content (frame_line width height) self) }
+        requires few { kept_lines self ≤ 4294967290 }
+        ensures cause { AnswersCause (kept_cause self (frame_line width height)) result }
+        ensures ok { IfOk result (λ r. r ≡ with_kept (frame_line width height) self) }
     {
         if let Some(cause) = self.frame_cause(width, height) {
             return Err(Refusal::Cause(cause));
         }
-        let mut reader = self.settle()?;
-        reader.is_open = false;
+        let reader = self.settle()?;
+        Ok(reader.end_frame())
+    }
+
+    /// Ends the frame that is being told. Where it has no raster, or the frames have too many columns with it, no frame
+    /// is kept.
+    fn end_frame(self) -> ContentReader
+        requires few { kept_lines self ≤ 4294967290 }
+        requires row { 1 ≤ self.rows }
+        requires none { self.samples ≡ [] }
+        ensures { result ≡ with_frame self }
+    {
+        let mut reader = self;
+        reader.fault = reader.fault_after();
+        reader.count += 1;
         reader.rows = 0;
         reader.packets = 0;
-        Ok(reader)
+        reader.is_open = false;
+        if reader.fault.is_some() {
+            reader.content = Content::new(reader.alloc);
+        }
+        reader
+    }
+
+    /// The first fault with the frame that is being told.
+    fn fault_after(&self) -> Option<RasterFault>
+        ensures { result ≡ fault_after self.now.mode self.now.fault self.now.count self.now.packets }
+    {
+        match &self.mode {
+            Some(mode) => next_fault(mode, self.fault, self.count, self.packets),
+            None => self.fault,
+        }
     }
 
     /// The first cause for which no packet can come here.
     fn packet_cause(&self) -> Option<ListCause>
-        ensures order { has_mode self.now ≡ false → result ≡ Some ListCause.Order }
-        ensures long { has_mode self.now ≡ true → has_room self.now ≡ false → result ≡ Some ListCause.Long }
-        ensures none { has_mode self.now ≡ true → has_room self.now ≡ true → result ≡ None }
+        ensures order { is_told self.now.mode ≡ false → result ≡ Some ListCause.Order }
+        ensures long { is_told self.now.mode ≡ true → has_kept_room self.now ≡ false → result ≡ Some ListCause.Long }
+        ensures none { is_told self.now.mode ≡ true → has_kept_room self.now ≡ true → result ≡ None }
     {
         if !self.has_mode() {
             Some(ListCause::Order)
@@ -231,11 +273,11 @@ impl ContentReader {
     }
 
     /// Takes a packet.
-    #[tactic(auto, unfolding(crate::specs::ContentDrafts::content_cause))]
+    #[tactic(auto, unfolding(crate::specs::ContentKept::kept_cause))]
     fn packet(self, packet: Option<Packet>) -> Result<ContentReader, Refusal>
-        requires few { lines_told self ≤ 4294967290 }
-        ensures cause { AnswersCause (content_cause self (packet_line packet)) result }
-        ensures ok { IfOk result (λ r. r ≡ with_content (packet_line packet) self) }
+        requires few { kept_lines self ≤ 4294967290 }
+        ensures cause { AnswersCause (kept_cause self (packet_line packet)) result }
+        ensures ok { IfOk result (λ r. r ≡ with_kept (packet_line packet) self) }
     {
         let Some(packet) = packet else {
             return Err(Refusal::Cause(ListCause::Range));
@@ -244,37 +286,50 @@ impl ContentReader {
             return Err(Refusal::Cause(cause));
         }
         let mut reader = self.settle()?;
-        push_packet(&mut reader.content, reader.is_open, packet)?;
-        reader.is_open = true;
         reader.packets += 1;
+        if reader.fault.is_none() {
+            push_packet(&mut reader.content, reader.is_open, packet)?;
+            reader.is_open = true;
+        }
         Ok(reader)
     }
 
     /// Makes a packet of the samples that still lack one, if there are any.
     fn settle(self) -> Result<ContentReader, NoMemory>
-        requires few { lines_told self ≤ 4294967290 }
-        ensures { IfOk result (λ r. r ≡ settled self) }
+        requires few { kept_lines self ≤ 4294967290 }
+        ensures { IfOk result (λ r. r ≡ settled_kept self) }
+    {
+        if self.samples.as_slice().is_empty() {
+            return Ok(self);
+        }
+        self.group()
+    }
+
+    /// Makes a packet of the samples that still lack one, of which there is one.
+    fn group(self) -> Result<ContentReader, NoMemory>
+        requires few { kept_lines self ≤ 4294967290 }
+        requires some { 1 ≤ length self.samples }
+        ensures { IfOk result (λ r. r ≡ settled_kept self) }
     {
         let mut reader = self;
-        if reader.samples.as_slice().is_empty() {
-            return Ok(reader);
-        }
-        push_samples(
-            &mut reader.content,
-            reader.is_open,
-            reader.samples.as_slice(),
-        )?;
-        reader.samples.clear();
-        reader.is_open = true;
         reader.packets += 1;
+        if reader.fault.is_none() {
+            push_samples(
+                &mut reader.content,
+                reader.is_open,
+                reader.samples.as_slice(),
+            )?;
+            reader.is_open = true;
+        }
+        reader.samples.clear();
         Ok(reader)
     }
 
     /// The first cause for which no sample can come here.
     fn sample_cause(&self) -> Option<ListCause>
-        ensures order { has_mode self.now ≡ false → result ≡ Some ListCause.Order }
-        ensures long { has_mode self.now ≡ true → has_sample_room self.now ≡ false → result ≡ Some ListCause.Long }
-        ensures none { has_mode self.now ≡ true → has_sample_room self.now ≡ true → result ≡ None }
+        ensures order { is_told self.now.mode ≡ false → result ≡ Some ListCause.Order }
+        ensures long { is_told self.now.mode ≡ true → has_kept_sample_room self.now ≡ false → result ≡ Some ListCause.Long }
+        ensures none { is_told self.now.mode ≡ true → has_kept_sample_room self.now ≡ true → result ≡ None }
     {
         if !self.has_mode() {
             Some(ListCause::Order)
@@ -286,12 +341,12 @@ impl ContentReader {
     }
 
     /// Takes a sample.
-    #[tactic(auto, unfolding(crate::specs::ContentDrafts::content_cause))]
+    #[tactic(auto, unfolding(crate::specs::ContentKept::kept_cause))]
     fn sample(self, sample: Option<Sample>) -> Result<ContentReader, Refusal>
         requires fits { SampleFits sample }
-        requires few { lines_told self ≤ 4294967290 }
-        ensures cause { AnswersCause (content_cause self (sample_line sample)) result }
-        ensures ok { IfOk result (λ r. r ≡ with_content (sample_line sample) self) }
+        requires few { kept_lines self ≤ 4294967290 }
+        ensures cause { AnswersCause (kept_cause self (sample_line sample)) result }
+        ensures ok { IfOk result (λ r. r ≡ with_kept (sample_line sample) self) }
     {
         let Some(sample) = sample else {
             return Err(Refusal::Cause(ListCause::Range));
@@ -311,27 +366,29 @@ impl ContentReader {
     fn fourth(self, sample: Sample) -> Result<ContentReader, Refusal>
         requires three { length self.samples ≡ 3 }
         requires fits { IsSample sample }
-        requires few { lines_told self ≤ 4294967290 }
+        requires few { kept_lines self ≤ 4294967290 }
         ensures known { IfErr result (λ refusal. refusal ≡ Refusal.NoMemory) }
-        ensures ok { IfOk result (λ r. r ≡ with_sample sample self) }
+        ensures ok { IfOk result (λ r. r ≡ with_kept_sample sample self) }
     {
         let mut reader = self;
         push_sample(&mut reader.samples, sample)?;
-        push_samples(
-            &mut reader.content,
-            reader.is_open,
-            reader.samples.as_slice(),
-        )?;
-        reader.samples.clear();
-        reader.is_open = true;
         reader.packets += 1;
+        if reader.fault.is_none() {
+            push_samples(
+                &mut reader.content,
+                reader.is_open,
+                reader.samples.as_slice(),
+            )?;
+            reader.is_open = true;
+        }
+        reader.samples.clear();
         Ok(reader)
     }
 
     /// Takes the line `end`.
-    #[tactic(auto, unfolding(crate::specs::ContentDrafts::content_cause))]
+    #[tactic(auto, unfolding(crate::specs::ContentKept::kept_cause))]
     fn end(self) -> Result<ContentReader, Refusal>
-        ensures cause { AnswersCause (content_cause self end_line) result }
+        ensures cause { AnswersCause (kept_cause self end_line) result }
         ensures ok { IfOk result (λ r. r ≡ self) }
     {
         if self.can_end() {
@@ -343,31 +400,23 @@ impl ContentReader {
 
     /// Whether the listing can end here.
     fn can_end(&self) -> bool
-        ensures { result ≡ (has_mode self.now && (nat_lt 0 (length self.now.frames) && is_settled self.now)) }
+        ensures { result ≡ (is_told self.now.mode && (nat_lt 0 self.now.count && is_kept_settled self.now)) }
     {
         if !self.is_settled() {
             return false;
         }
-        self.has_mode() && self.has_frame()
+        self.has_mode() && self.count > 0
     }
 
-    /// Whether a whole frame was told, where nothing is told behind it.
-    fn has_frame(&self) -> bool
-        requires { is_settled self.now ≡ true }
-        ensures { result ≡ nat_lt 0 (length self.now.frames) }
+    /// The mode and the content of all frames, or their first fault.
+    fn close(self) -> Result<(Mode, Content), RasterFault>
+        requires { kept_cause self end_line ≡ None }
+        ensures { (mode : Mode) → self.mode ≡ Some mode → result ≡ frames_or mode self.fault self.frames }
     {
-        self.content.len() > 0
-    }
-
-    /// The mode and the content of all frames.
-    fn close(self) -> (Mode, Content)
-        requires { content_cause self end_line ≡ None }
-        ensures mode { self.mode ≡ Some result.0 }
-        ensures content { result.1 ≡ self.frames }
-    {
-        match self.mode {
-            Some(mode) => (mode, self.content),
-            None => unreachable!(),
+        match (self.mode, self.fault) {
+            (_, Some(fault)) => Err(fault),
+            (Some(mode), None) => Ok((mode, self.content)),
+            (None, None) => unreachable!(),
         }
     }
 }

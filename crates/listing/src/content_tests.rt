@@ -1,10 +1,11 @@
 //! Listings of contents: worked packets and lists of things, whose texts come from a model in another language.
+ghost use Rattle.std.specs.Prelude.{◌≡◌, ◌≤◌, ◌%◌, length};
 
 use crate::ContentLister;
 use crate::content_lines::Lines;
 use bch_block::Verdict;
 use frame_build::FrameNote;
-use island_pack::{Packet, PacketRef, PacketVerdicts};
+use island_pack::{Packet, PacketRef, PacketVerdicts, is_packet_in_range};
 use link_sink::Ear;
 use outside_io::{Failed, MemSink};
 use period_grammar::{Fault, Told};
@@ -139,7 +140,7 @@ fn tell(rt: &impl Abort, lister: &mut ContentLister<'_, MemSink>, step: Step) {
         Step::Pixels(pixels) => {
             let size = pixels.len();
             assert!(rt; size % 3 == 0 && size >= 3 && size <= 12_288);
-            lister.hear(Told::Line { pixels })
+            tell_line(lister, pixels)
         }
         Step::Open => lister.hear(Told::Open { sync: [1, 2] }),
         Step::Avi(vic, checksum, verdict) => {
@@ -154,6 +155,15 @@ fn tell(rt: &impl Abort, lister: &mut ContentLister<'_, MemSink>, step: Step) {
         Step::Cut(column) => lister.hear(Told::Cut { column }),
     };
     assert_eq!(rt; answer, Ok(()));
+}
+
+/// Tells a lister a line of whole pixels.
+fn tell_line(lister: &mut ContentLister<'_, MemSink>, pixels: &[u8]) -> Result<(), Failed>
+    requires whole { length pixels.now % 3 ≡ 0 }
+    requires some { 3 ≤ length pixels.now }
+    requires few { length pixels.now ≤ 12288 }
+{
+    lister.hear(Told::Line { pixels })
 }
 
 /// Tells a lister a fault.
@@ -173,6 +183,9 @@ fn tell_packet(
         bodies,
         sync: [0; 32],
     };
+    if !is_packet_in_range(&packet) {
+        return Err(Failed);
+    }
     let verdicts = PacketVerdicts {
         blocks: [
             verdict,

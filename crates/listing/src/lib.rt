@@ -11,6 +11,7 @@ mod content_lister;
 mod content_packets;
 mod content_past;
 mod content_reader;
+mod digit_pairs;
 mod digits;
 mod dvi_reader;
 mod fault;

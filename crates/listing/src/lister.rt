@@ -5,6 +5,7 @@ ghost use Rattle.outside_io.specs.Causes.{HasCause};
 ghost use Rattle.hex.specs.Hex.{encode_lower};
 ghost use Rattle.listing.specs.Texts.{lines_of, fault_lines, counted, slip_text};
 
+use crate::digit_pairs::DigitPairs;
 use crate::line::{Line, fault_line, fields_line, guard_line, packet_line, run_line, slip_line};
 use link_sink::Ear;
 use outside_io::{Failed, Sink, write_all};
@@ -18,6 +19,7 @@ const PIXEL_LINE: usize = 24_579;
 pub struct LinkLister<'a, K: Sink> {
     sink: &'a mut K,
     faults: u64,
+    digits: DigitPairs,
     pixel_line: [u8; PIXEL_LINE],
 }
 
@@ -31,11 +33,13 @@ impl<'a, K: Sink> LinkLister<'a, K> {
         LinkLister {
             sink,
             faults: 0,
+            digits: DigitPairs::new(),
             pixel_line: [0; PIXEL_LINE],
         }
     }
 
-    /// How many fault lines were written, of things of which each line was. The count stands still at the greatest u64.
+    /// How many fault lines were written whole: one for each fault that it was told, and one for each slip. The count stands
+    /// still at the greatest u64.
     pub fn faults(&self) -> u64
         ensures { result ≡ self.now.faults }
     {
@@ -91,7 +95,7 @@ impl<'a, K: Sink> Ear for LinkLister<'a, K> {
         match told {
             Told::Run { value, count } => write_short(self.sink, run_line(value, count)),
             Told::Line { pixels } => {
-                let size = encode_pixels(b"v ", pixels, &mut self.pixel_line);
+                let size = encode_pixels(&self.digits, b"v ", pixels, &mut self.pixel_line);
                 write_line(self.sink, &self.pixel_line[..size])
             }
             Told::Open { sync } => write_short(self.sink, guard_line(b"i ", sync[0], sync[1])),
@@ -116,7 +120,12 @@ impl<'a, K: Sink> Ear for LinkLister<'a, K> {
 }
 
 /// Puts the line of pixels at the front of `line`, and says how long it is.
-pub(crate) fn encode_pixels(name: &[u8], pixels: &[u8], line: &mut [u8]) -> usize
+pub(crate) fn encode_pixels(
+    digits: &DigitPairs,
+    name: &[u8],
+    pixels: &[u8],
+    line: &mut [u8],
+) -> usize
     requires { length name.now + 2 * length pixels.now < length line.old }
     ensures size { result ≡ length name.now + 2 * length pixels.now + 1 }
     ensures length { length line.new ≡ length line.old }
@@ -125,10 +134,7 @@ pub(crate) fn encode_pixels(name: &[u8], pixels: &[u8], line: &mut [u8]) -> usiz
     let start = name.len();
     let end = start + 2 * pixels.len();
     line[..start].copy_from_slice(name);
-    match hex::encode_to_slice(pixels, &mut line[start..end]) {
-        Ok(()) => {}
-        Err(_) => unreachable!(),
-    }
+    digits.write(pixels, &mut line[start..end]);
     line[end] = b'\n';
     end + 1
 }

@@ -6,8 +6,9 @@ ghost use Rattle.listing_laws.specs.ListingLaws.{FrameLinesComeBack, LinesOfPayl
 ghost use Rattle.listing_laws.specs.PacketLaws.{PacketsComeBack, OneWordAsSent, RasterPackets};
 ghost use Rattle.listing_laws.specs.Rasters.{RastersCome, HasRaster};
 
-/// Of the account of a raster's columns exactly those frames are listed that count, each with the rows that came, and
-/// whole where the next sync lines, or the last columns, came: wherever damage lies.
+/// Of the account of a raster's columns, which came with sparse damage wherever it lies, the rows are listed of exactly those
+/// frames of whose sync lines three neighbouring control columns came with VSYNC active: each row that came with the column
+/// behind it. Such a frame is told where three such columns came behind its rows.
 pub fn frames_come_back()
     ensures { FramesComeBack }
 {}

@@ -18,6 +18,7 @@ pub mod RasterLines
 pub mod RasterLaw
 pub mod Contents
 pub mod RasterFaults
+pub mod FrameFaults
 pub mod RasterRuns
 pub mod RasterWriting
 pub mod Generated

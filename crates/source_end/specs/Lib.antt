@@ -8,6 +8,7 @@ pub mod Content
 pub mod Formats
 pub mod Raster
 pub mod RasterRefusals
+pub mod FrameFaults
 pub mod RasterLaws
 pub mod OpenRuns
 pub mod Lines

@@ -29,7 +29,7 @@ pub use item::{Item, Pixels, Run, Runs};
 pub use items::{ItemFault, Items};
 pub use mode::Mode;
 pub use rasters::raster;
-pub use refusal::RasterFault;
+pub use refusal::{RasterFault, mode_fault, next_fault};
 pub use stream::Stream;
 
 #[cfg(test)]

@@ -2,6 +2,7 @@
 ghost use Rattle.std.specs.Prelude.{◌≡◌, ℕ, ◌+◌, ◌-◌, ◌*◌, ◌^◌, ◌<◌, ◌≤◌, min, List, length};
 ghost use Rattle.source_end.specs.Content.{Frame};
 ghost use Rattle.source_end.specs.Raster.{active, total, lines_of};
+ghost use Rattle.source_end.specs.FrameFaults.{frame_room, next_fault};
 ghost use Rattle.source_end.specs.RasterRefusals.{numbers_of, is_in_range, bad_mode, bad_row, bad_rows, no_room, raster_fault, room_of};
 
 use crate::content::{FrameContent, Row};
@@ -79,8 +80,8 @@ pub(crate) fn raster_columns(mode: &Mode, frames: usize) -> u64
     (frames as u64).saturating_mul(columns).saturating_add(32)
 }
 
-/// The first number of a mode that is out of range.
-fn mode_fault(mode: &Mode) -> Option<RasterFault>
+/// The first number of a mode that is out of range: the first fault of a content of no frame.
+pub fn mode_fault(mode: &Mode) -> Option<RasterFault>
     ensures { result ≡ bad_mode 0 (numbers_of mode.now) }
 {
     let across = mode.across;
@@ -159,8 +160,35 @@ fn room_fault(mode: &Mode, frames: &[FrameContent]) -> Option<RasterFault>
     None
 }
 
+/// The first fault of a content with one frame more, of all its rows and so many packets, by the first fault of the
+/// `count` frames before. So a content that is read frame by frame is judged without its frames.
+#[tactic(auto, unfolding(crate::specs::FrameFaults::next_fault))]
+pub fn next_fault(
+    mode: &Mode,
+    fault: Option<RasterFault>,
+    count: u32,
+    packets: u64,
+) -> Option<RasterFault>
+    ensures { result ≡ next_fault mode.now fault count packets }
+{
+    let is_long = match fault {
+        None => raster_columns(mode, count as usize + 1) > 20_000_000,
+        Some(RasterFault::Long) => true,
+        Some(_) => return fault,
+    };
+    let room = frame_room(mode);
+    if packets > u64::from(room) {
+        return Some(RasterFault::NoRoom {
+            frame: count,
+            packet: room,
+        });
+    }
+    is_long.then_some(RasterFault::Long)
+}
+
 /// How many packets a frame has room for.
 fn frame_room(mode: &Mode) -> u32
+    ensures total { result ≡ frame_room mode.now }
     ensures value { (frame : Frame) → length frame.rows ≡ active mode.now.down → result ≡ room_of mode.now (lines_of mode.now frame) }
 {
     let blank_lines = sync(&mode.down) + back(&mode.down) + front(&mode.down);

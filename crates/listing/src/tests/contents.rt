@@ -110,7 +110,7 @@ fn read(
     alloc: Global,
     text: &str,
     failing: &[u64],
-) -> Result<Result<(Mode, Content), ListError>, NoMemory> {
+) -> Result<Result<Result<(Mode, Content), RasterFault>, ListError>, NoMemory> {
     let bytes = text.bytes().map(|b| if b == b'/' { b'\n' } else { b });
     let text = bytes.collect(alloc)?;
     let mut source = MemSource::new(text, 50, failing.to_vec(alloc)?);
@@ -118,7 +118,7 @@ fn read(
 }
 
 /// The line and the name of what was answered.
-fn named(answer: Result<(Mode, Content), ListError>) -> (u32, &'static str) {
+fn named(answer: Result<Result<(Mode, Content), RasterFault>, ListError>) -> (u32, &'static str) {
     match answer {
         Ok(_) => (0, "read"),
         Err(ListError::Read) => (0, "failed"),
@@ -170,10 +170,87 @@ fn makes_rasters(rt: HostRuntime) -> Result<(), Fail> {
     ];
     for (text, columns) in rows {
         let answer = match read(rt.alloc(), text, &[])? {
-            Ok((mode, content)) => raster(rt.alloc(), &mode, &content),
+            Ok(Ok((mode, content))) => raster(rt.alloc(), &mode, &content),
+            Ok(Err(fault)) => Err(fault),
             Err(_) => Err(RasterFault::NoMemory),
         };
         assert_eq!(rt; answer.map(|stream| stream.columns()), columns);
+    }
+    Ok(())
+}
+
+/// So many frames of 208,913 columns each, with room for no packet, and lines behind them.
+fn of_frames(alloc: Global, frames: u32, rest: &str) -> Result<Vec<u8>, NoMemory> {
+    let mut text = Vec::new(alloc);
+    text.extend_from_slice(b"mode 1 1 1 14 1 4096 4096 4096 0\n")?;
+    for _ in 0..frames {
+        text.extend_from_slice(b"row 000000\nframe 1 1\n")?;
+    }
+    for byte in rest.bytes() {
+        text.push(if byte == b'/' { b'\n' } else { byte })?;
+    }
+    Ok(text)
+}
+
+// Each row: how many frames there are, the lines behind them, and the raster's fault. 95 frames fit 20,000,000 columns; a
+// frame without room for its packets is told before the length, wherever it stands.
+#[test]
+fn judges_frames_that_are_not_kept(rt: HostRuntime) -> Result<(), Fail> {
+    let rows = [
+        (95, "end/", None),
+        (96, "end/", Some(RasterFault::Long)),
+        (
+            96,
+            "gcp 0 0 0/row 000000/frame 1 1/end/",
+            Some(RasterFault::NoRoom {
+                frame: 96,
+                packet: 0,
+            }),
+        ),
+        (
+            200,
+            "s 000000 000000 0 0 0 0/row 000000/frame 1 1/gcp 0 0 0/row 000000/frame 1 1/row 000000/frame 1 1/end/",
+            Some(RasterFault::NoRoom {
+                frame: 200,
+                packet: 0,
+            }),
+        ),
+    ];
+    for (frames, rest, fault) in rows {
+        let text = of_frames(rt.alloc(), frames, rest)?;
+        let mut source = MemSource::new(text, 60_000, Vec::new(rt.alloc()));
+        let found = match read_content(rt.alloc(), &mut source) {
+            Ok(Ok(_)) => None,
+            Ok(Err(fault)) => Some(fault),
+            Err(_) => Some(RasterFault::NoMemory),
+        };
+        assert_eq!(rt; found, fault);
+    }
+    Ok(())
+}
+
+// Each row: lines behind 100 frames, which have too many columns, and the line that the listing is refused for.
+#[test]
+fn judges_lines_behind_the_limit(rt: HostRuntime) -> Result<(), Fail> {
+    let rows = [
+        ("row 00000/", (202, "form")),
+        ("row 000000000000/", (202, "size")),
+        ("row 000000/row 000000/", (203, "size")),
+        ("row 000000/frame 1 2/", (203, "size")),
+        ("frame 1 1/", (202, "order")),
+        ("gcp 0 0 0/end/", (203, "order")),
+        ("mode 1 1 1 14 1 1 1 1 0/", (202, "order")),
+        ("end/!", (203, "after")),
+        ("row 000000/frame 1 1/end", (204, "unended")),
+    ];
+    for (rest, answer) in rows {
+        let text = of_frames(rt.alloc(), 100, rest)?;
+        let mut source = MemSource::new(text, 60_000, Vec::new(rt.alloc()));
+        assert_eq!(rt;
+            named(read_content(rt.alloc(), &mut source)),
+            answer,
+            "{rest}"
+        );
     }
     Ok(())
 }

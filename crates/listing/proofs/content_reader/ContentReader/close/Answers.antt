@@ -1,22 +1,26 @@
-use Rattle.std.proofs.Common.{◌≡◌, true, false, ap, sym, ◌∙◌}
-use Rattle.listing.specs.ContentDrafts.{ContentDraft, has_mode, is_settled}
-use Rattle.listing.specs.ContentTold.{content_drafted}
-use Rattle.listing.proofs.Feeds.{and-left, and-right}
-use Rattle.listing.proofs.ContentFrames.{end_none, no_mode, settled_none, content_closed}
+use Rattle.std.proofs.Common.{◌≡◌, List, None, Option, true, ap, ap₂, sym, ◌∙◌}
+use Rattle.source_end.specs.Content.{Frame}
+use Rattle.source_end.specs.declared.mode.Mode.{Mode}
+use Rattle.source_end.specs.declared.refusal.RasterFault.{RasterFault}
+use Rattle.listing.specs.ContentKept.{ContentKept, frames_or, is_told}
+use Rattle.listing.proofs.ContentFrames.{content_closed, end_settled, end_told}
 use Rattle.listing.proofs.content_reader.ContentReader.close.Goals as goal
 
 pub unreachable-requires : goal.unreachable-requires
 unreachable-requires c =
-    let mode : has_mode c.args.self ≡ true = and-left _ _ (end_none c.args.self c.requires) in
-    let none : has_mode c.args.self ≡ false = no_mode c.args.self (ap (λ (t : ContentDraft). t.mode) (sym c.self.view_is) ∙ c.in-None.is) in
-    absurd (cc (mode, none))
+    let told : is_told c.args.self.mode ≡ true = end_told c.args.self c.requires in
+    let none : c.args.self.mode ≡ None = ap (λ (k : ContentKept). k.mode) (sym c.self.view_is) ∙ c.in-None-None.is-0 in
+    absurd (cc (sym told ∙ ap is_told none))
 
-pub returns-clause-content : goal.returns-clause-content
-returns-clause-content c =
+pub returns-in-Some-None : goal.returns-in-Some-None
+returns-in-Some-None c = λ mode is.
     let r = c.self.inside in
-    let draft = content_drafted r.mode r.is_open r.content r.samples.items in
-    let told = c.self.view_is in
-    let settled : is_settled draft ≡ true = ap is_settled told ∙ and-right _ _ (and-right _ _ (end_none c.args.self c.requires)) in
-    let none = settled_none draft settled in
-    content_closed r.is_open r.content r.rows r.packets c.self.invariant.begun (c.self.invariant.rows ∙ none.0) (c.self.invariant.packets ∙ none.1)
-    ∙ ap (λ (t : ContentDraft). t.frames) told
+    let k = c.args.self in
+    let view = c.self.view_is in
+    let settled = end_settled k c.requires in
+    let same : c.in-Some-None.mode ≡ mode = cc (is, c.in-Some-None.is-0, ap (λ (t : ContentKept). t.mode) view) in
+    let fault : k.fault ≡ None = sym (ap (λ (t : ContentKept). t.fault) view) ∙ c.in-Some-None.is-1 in
+    let frames =
+    content_closed r.is_open r.content r.rows r.packets c.self.invariant.begun (ap (λ (t : ContentKept). t.rows) view ∙ settled.0) (ap (λ (t : ContentKept). t.packets) view ∙ settled.1)
+    ∙ ap (λ (t : ContentKept). t.frames) view in
+    ap₂ (λ (m : Mode) (fs : List Frame). frames_or m None fs) same frames ∙ ap (λ (o : Option RasterFault). frames_or mode o k.frames) (sym fault)

@@ -19,8 +19,7 @@ invariant_of-reader c =
     let fit : IsSample s = rw c.in-Some.is at c.requires.fits in
     let size = length-append r.samples.items (s ∷ []) in
     record {
-      rows = inv.rows;
-      packets = inv.packets;
+      kept = inv.kept;
       begun = inv.begun;
       few = omega (arith, inv.few, ap length is, size, c.if-len-eq-GROUP.false, c.len.ensures);
       fits = subst (All IsSample) (sym is) (All-append IsSample r.samples.items (s ∷ []) inv.fits (one s fit));

@@ -1,6 +1,6 @@
 use Rattle.std.proofs.Common.{ap, sym, ◌∙◌, arith}
 use Rattle.listing.specs.ContentForms.{content_form_of}
-use Rattle.listing.specs.ContentTold.{lines_told}
+use Rattle.listing.specs.ContentKept.{kept_lines}
 use Rattle.listing.proofs.ContentSteps.{more_lines, step_closes, step_long, step_tells, taken_short, taken_some, takes_refused}
 use Rattle.listing.proofs.Refused.{cause_none}
 use Rattle.listing.proofs.content_reader.ContentReaderTeller.take.Goals as goal
@@ -16,8 +16,8 @@ pub returns-then-is_end-clause-takes : goal.returns-then-is_end-clause-takes
 returns-then-is_end-clause-takes c =
     let line = c.args.line.now in
     let seen = c.read_content_form-form.ensures.form in
-    step_closes c.args.self c.in_ok-reader.reader c.close.result.0 c.close.result.1 line (cause_none _ _ (c.in_ok-reader.ensures.cause (content_form_of line) seen))
-    (sym (c.is_end_form-is_end.ensures (content_form_of line) seen) ∙ c.if-is_end.true) (c.in_ok-reader.ensures.ok (content_form_of line) seen) c.close.ensures.mode c.close.ensures.content
+    step_closes c.args.self c.in_ok-reader.reader c.close.result line (cause_none _ _ (c.in_ok-reader.ensures.cause (content_form_of line) seen))
+    (sym (c.is_end_form-is_end.ensures (content_form_of line) seen) ∙ c.if-is_end.true) (c.in_ok-reader.ensures.ok (content_form_of line) seen) c.close.ensures
 
 pub returns-then-is_end-clause-some : goal.returns-then-is_end-clause-some
 returns-then-is_end-clause-some c = taken_some c.args.self c.args.line.now (cause_none _ _ (c.in_ok-reader.ensures.cause (content_form_of c.args.line.now) c.read_content_form-form.ensures.form))
@@ -47,4 +47,4 @@ returns-else-is_end-clause-long c = step_long c.args.self c.args.line.now
 pub returns-else-is_end-clause-counted : goal.returns-else-is_end-clause-counted
 returns-else-is_end-clause-counted c =
     let form = content_form_of c.args.line.now in
-    omega (arith, ap lines_told (c.in_ok-reader.ensures.ok form c.read_content_form-form.ensures.form), more_lines form c.args.self)
+    omega (arith, ap kept_lines (c.in_ok-reader.ensures.ok form c.read_content_form-form.ensures.form), more_lines form c.args.self)
