@@ -1,6 +1,8 @@
 -- The last half cell of a subframe has level 0 exactly where its 28 bits are even.
-use Rattle.std.proofs.Common.{◌≡◌, ℕ, ◌+◌, ◌*◌, ◌/◌, ◌%◌, ◌^◌, ◌<◌, Bool, true, cond, ◌==◌, refl, ap, ap₂, ◌∙◌, sym, arith, eqb-true, count_ones}
-use Rattle.std.proofs.lemmas.Nat.{ones_cat}
+use Rattle.std.proofs.Common.{◌≡◌, ℕ, ◌+◌, ◌*◌, ◌/◌, ◌%◌, ◌^◌, ◌<◌, Bool, true, cond, ◌==◌, refl, ap, ap₂, ◌∙◌, sym, arith, eqb-true, count_ones, bit_and}
+use Rattle.std.specs.Int.{bit_at}
+use Rattle.std.proofs.lemmas.Nat.{ones_cat, and_block, and_mask, and_le_r}
+use Rattle.std.proofs.lemmas.Nat.Bits.{bit_at_xor}
 use Rattle.tmds_word.proofs.Below.{passes_below, passes_at}
 use Rattle.audio_packets.specs.Samples.{side_bits}
 use Rattle.tmds_word.specs.Bits.{bits_of}
@@ -8,7 +10,7 @@ use Rattle.audio_out.specs.Subframes.{preamble}
 use Rattle.audio_out.specs.declared.subframe.Mark.{Mark}
 use Rattle.audio_out.proofs.Entries.{digit, level_is}
 use Rattle.audio_out.proofs.Joined.{level_marked}
-use Rattle.audio_out.proofs.Fields.{four_in, found_in, is_bordered, turn_in}
+use Rattle.audio_out.proofs.Fields.{BORDERS, four_in, found_in, is_bordered, turn_in, turns_of}
 use Rattle.audio_out.proofs.Halves.{AreFour, field}
 
 -- the level behind four bits, by that before them and how many of them are 1
@@ -114,6 +116,35 @@ pub is_even : (n value side : ℕ) → n < 2 ^ 64 → AreFour n value side → f
 is_even n value side lt h first even =
     let small : side < 16 = omega (arith, h.side_is, h.l6) in
     omega (arith, last_is n value side lt h first, even, side_ones side small, small)
+
+-- borders, and the last half cell behind which there is none
+abbrev pub ENDS : ℕ
+ENDS = 0xaaaaaaaaaaaaaa80
+
+ends_are : (n : ℕ) → n < 2 ^ 64 → bit_and (turns_of n) ENDS ≡ n / 2 ^ 63 * 2 ^ 63 + bit_and (turns_of n) BORDERS
+unfolding turns_of
+ends_are n lt =
+    let t = turns_of n in
+    let high = t / 2 ^ 63 in
+    let low = t % 2 ^ 63 in
+    let whole : t ≡ high * 2 ^ 63 + low = omega arith in
+    let all = ap (λ k. bit_and k (1 * 2 ^ 63 + BORDERS)) whole ∙ and_block 63 high 1 low BORDERS (omega arith) (omega arith) in
+    let below = ap (λ k. bit_and k (0 * 2 ^ 63 + BORDERS)) whole ∙ and_block 63 high 0 low BORDERS (omega arith) (omega arith) in
+    let one : bit_and high 1 ≡ high % 2 ^ 1 = and_mask high 1 in
+    let none : bit_and high 0 ≡ high % 2 ^ 0 = and_mask high 0 in
+    let last : high % 2 ≡ (bit_at n 63 + bit_at (n / 2 ^ 1) 63) % 2 = bit_at_xor n (n / 2 ^ 1) 63 in
+    let here : bit_at n 63 ≡ n / 2 ^ 63 = omega arith in
+    let behind : bit_at (n / 2 ^ 1) 63 ≡ 0 = omega arith in
+    omega (arith, all, below, one, none, last, here, behind)
+
+pub ends_apart : (n : ℕ) → n < 2 ^ 64 → bit_and (turns_of n) ENDS ≡ BORDERS → (bit_and (turns_of n) BORDERS ≡ BORDERS) × (n / 2 ^ 63 ≡ 0)
+ends_apart n lt is =
+    let e = ends_are n lt in
+    let few = and_le_r (turns_of n) BORDERS in
+    (omega (arith, e, few, is), omega (arith, e, few, is))
+
+pub ends_both : (n : ℕ) → n < 2 ^ 64 → bit_and (turns_of n) BORDERS ≡ BORDERS → n / 2 ^ 63 ≡ 0 → bit_and (turns_of n) ENDS ≡ BORDERS
+ends_both n lt all last = omega (arith, ends_are n lt, all, last)
 
 -- a preamble ends with level 0
 pub first_level : (n p : ℕ) (mark : Mark) → p < 256 → field n 7 % 2 ≡ p / 128 → bits_of 8 p ≡ preamble mark → field n 7 % 2 ≡ 0

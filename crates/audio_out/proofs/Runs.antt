@@ -1,11 +1,13 @@
 -- The last run of samples, of which the first alone starts a block, with one sample more.
 use Rattle.std.proofs.Common.{◌≡◌, ℕ, ◌+◌, ◌<◌, ◌≤◌, Bool, true, false, ◌||◌, ◌&&◌, ◌==◌, cond, List, [], ◌∷◌, ◌++◌, length, map, refl, ap, ap₂, ◌∙◌, sym, arith, length-append, length-take-le, take, ◌⊎◌, inl, inr}
 use Rattle.std.proofs.lemmas.Bool.{cases_lt, lt-leb, le-leb, ne_eqb}
-use Rattle.std.specs.Prelude.{not, Some, None, if◌then◌else◌}
+use Rattle.std.specs.Prelude.{not, Option, Some, None, is_some, if◌then◌else◌}
+use Rattle.tmds_word.specs.Bits.{bytes_of, number}
 use Rattle.std.specs.List.{list_any}
 use Rattle.std.proofs.lemmas.List.{length-map, map-append}
 use Rattle.std.proofs.lemmas.List.Folds.{list_any-append}
 use Rattle.audio_packets.specs.declared.sample.Sample.{Sample}
+use Rattle.audio_out.specs.declared.blocks.BlockStatus.{BlockStatus}
 use Rattle.audio_out.specs.Blocks.{OpenBlock, IsBlocksAfter, last_run, open_run, block_of, status_of, full_status, left_status, right_status}
 
 abbrev starts : Sample → Bool
@@ -146,6 +148,30 @@ went_on past s base now h some few was nl nr =
           (was.left ∙ ap (map left_status) same.0) (was.right ∙ ap (map right_status) same.0) nl nr
       | inr long ↦ absurd (omega (arith, many, ap length long.0))
     ]
+
+-- the status of what is kept of samples is that of their last block
+pub status_is : (past : List Sample) (now : OpenBlock) → IsBlocksAfter now past → full_status now ≡ block_of past
+unfolding block_of
+status_is past now was =
+    let run = last_run past in
+    full_is now.left now.right (open_run past) was.left was.right
+    ∙ elim (open_cases past) [
+      | inl same ↦ ap (λ (r : List Sample). if length r == 192 then Some (status_of r) else None) same.0
+      | inr long ↦ ap (λ (r : List Sample). if length r == 192 then Some (status_of r) else None) long.0 ∙ sym (ap (λ b. if b then Some (status_of run) else None) (ne_eqb (length run) 192 (λ e. absurd (omega (arith, e, long.1)))))
+    ]
+
+abbrev status_if : Bool → BlockStatus → Option BlockStatus
+status_if b status = if b then Some status else None
+
+some_if : (b : Bool) (status : BlockStatus) → is_some (status_if b status) ≡ b
+some_if true status = refl
+some_if false status = refl
+
+pub is_full : (now : OpenBlock) → is_some (full_status now) ≡ (length now.left == 192)
+is_full now = some_if (length now.left == 192) (record { left = bytes_of 24 (number now.left); right = bytes_of 24 (number now.right) })
+
+pub not_full : (now : OpenBlock) → (length now.left == 192) ≡ false → full_status now ≡ None
+not_full now h = ap (λ b. status_if b (record { left = bytes_of 24 (number now.left); right = bytes_of 24 (number now.right) })) h
 
 -- how many bits a part of 192 has
 pub length-part : (n : ℕ) (xs ys : List Bool) → ys ≡ take n xs → n ≤ 192 → length xs ≡ 192 → length ys ≡ n

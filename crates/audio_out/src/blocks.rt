@@ -1,5 +1,5 @@
 //! Blocks of 192 frames, over which channel status is spread.
-ghost use Rattle.std.specs.Prelude.{◌≡◌, ◌+◌, ◌<◌, ◌≤◌, ◌∷◌, ◌++◌, [], List, length, take, drop};
+ghost use Rattle.std.specs.Prelude.{◌≡◌, ◌+◌, ◌<◌, ◌≤◌, ◌==◌, ◌∷◌, ◌++◌, [], List, Some, is_some, length, take, drop};
 ghost use Rattle.tmds_word.specs.Bits.{bytes_of, number};
 ghost use Rattle.bch_block.specs.Bits.{bit};
 ghost use Rattle.audio_packets.specs.declared.sample.Sample.{Sample as SampleType};
@@ -55,17 +55,27 @@ impl Blocks {
         ensures stands { (past : List SampleType) → IsBlocksAfter self.old past → IsBlocksAfter self.new (past ++ sample.now ∷ []) }
         ensures answers { (past : List SampleType) → IsBlocksAfter self.old past → result ≡ block_of (past ++ sample.now ∷ []) }
     {
+        let _ = self.take(sample);
+        self.status()
+    }
+
+    /// Takes the next sample, and answers whether it is the 192nd of a run of which the first alone starts a block: then
+    /// `status` has the channel status.
+    pub fn take(&mut self, sample: &Sample) -> bool
+        ensures stands { (past : List SampleType) → IsBlocksAfter self.old past → IsBlocksAfter self.new (past ++ sample.now ∷ []) }
+        ensures answers { (past : List SampleType) → IsBlocksAfter self.old past → result ≡ is_some (block_of (past ++ sample.now ∷ [])) }
+    {
         if sample.start {
             self.count = 0;
         } else if self.count == 0 || self.count == 192 {
             self.count = 0;
-            return None;
+            return false;
         }
         self.put(
             has_status(sample.left_flags),
             has_status(sample.right_flags),
         );
-        self.status()
+        self.is_full()
     }
 
     /// Adds a bit of each side.
@@ -74,22 +84,40 @@ impl Blocks {
         ensures left { self.new.left ≡ self.old.left ++ left ∷ [] }
         ensures right { self.new.right ≡ self.old.right ++ right ∷ [] }
     {
-        self.left[self.count] = left;
-        self.right[self.count] = right;
-        self.count += 1;
+        let count = self.count;
+        self.left[count] = left;
+        self.right[count] = right;
+        self.count = count + 1;
     }
 
-    /// The status, where the block is full.
-    fn status(&self) -> Option<BlockStatus>
-        ensures { result ≡ full_status self.now }
+    /// The channel status of the last block that has begun, where it is full.
+    pub fn status(&self) -> Option<BlockStatus>
+        ensures { (past : List SampleType) → IsBlocksAfter self.now past → result ≡ block_of past }
     {
-        if self.count < 192 {
-            return None;
+        if self.is_full() {
+            Some(self.whole())
+        } else {
+            None
         }
-        Some(BlockStatus {
+    }
+
+    /// Whether the block has its 192 samples.
+    fn is_full(&self) -> bool
+        ensures { result ≡ (length self.now.left == 192) }
+    {
+        self.count == 192
+    }
+
+    /// The status of a full block: seldom worked out, and so in no caller's way.
+    #[inline(never)]
+    fn whole(&self) -> BlockStatus
+        requires { length self.now.left ≡ 192 }
+        ensures { full_status self.now ≡ Some result }
+    {
+        BlockStatus {
             left: packed(&self.left),
             right: packed(&self.right),
-        })
+        }
     }
 }
 

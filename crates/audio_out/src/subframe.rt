@@ -10,6 +10,9 @@ use audio_packets::side_bits;
 /// The last half cells before those of the 28 bits: half cells 7, 9, .. 61. Each is unlike the next one.
 const BORDERS: u64 = 0x2aaa_aaaa_aaaa_aa80;
 
+/// These and the last half cell of all, which has no next one: it counts as unlike it where its level is 1.
+const ENDS: u64 = 0xaaaa_aaaa_aaaa_aa80;
+
 /// What begins with a subframe (IEC 60958-1, section 4.3).
 #[derive(Clone, Copy, Debug, PartialEq, Eq)]
 pub enum Mark {
@@ -59,11 +62,7 @@ pub fn read_subframe(bytes: &[u8; 8]) -> Option<Subframe>
     let mark = mark_of(bytes[0])?;
     let halves = u64::from_le_bytes(*bytes);
     let turns = halves ^ (halves >> 1);
-    if turns & BORDERS != BORDERS {
-        return None;
-    }
-    let last = halves >> 63;
-    if last != 0 {
+    if turns & ENDS != BORDERS {
         return None;
     }
     let [low, _, middle, _, high, _, side, _] = every_other(turns >> 8).to_le_bytes();

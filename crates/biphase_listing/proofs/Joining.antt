@@ -1,6 +1,6 @@
 -- Lists of frames joined: their bytes, their lines, and one frame more made of two subframes.
 use Rattle.std.proofs.Common.{◌≡◌, ◌∙◌, ℕ, ◌+◌, ◌*◌, ◌<◌, true, false, List, [], ◌∷◌, ◌++◌, length, take, drop, All, refl, ap, ap₂, sym, if◌then◌else◌, append_assoc, append-nil, length-append, take-add, drop-drop, arith}
-use Rattle.std.specs.Prelude.{Option, codes, flat_map}
+use Rattle.std.specs.Prelude.{Option, None, Some, codes, flat_map, is_some}
 use Rattle.std.proofs.lemmas.Grind.{flat_map-append}
 use Rattle.audio_packets.specs.declared.sample.Sample.{Sample}
 use Rattle.audio_out.specs.Blocks.{block_of}
@@ -84,10 +84,16 @@ more_bytes bytes place samples s are is =
     ∙ sym (one_more samples s)
 
 -- a frame's lines, behind those before
-pub frame_lines_more : (past : List Sample) (s t : Sample) (old put now : List ℕ) (status : Option BlockStatus)
-    → s ≡ t → put ≡ old ++ (sample_words s ++ codes "\n") → status ≡ block_of (past ++ s ∷ []) → now ≡ put ++ status_text status → now ≡ old ++ frame_text past t
+pub frame_lines_more : (past : List Sample) (s t : Sample) (old put now : List ℕ)
+    → s ≡ t → put ≡ old ++ (sample_words s ++ codes "\n") → now ≡ put ++ status_text (block_of (past ++ s ∷ [])) → now ≡ old ++ frame_text past t
 unfolding frame_text
-frame_lines_more past s t old put now status same line answers is =
-    is ∙ ap₂ (λ (a : List ℕ) (b : Option BlockStatus). a ++ status_text b) line answers
+frame_lines_more past s t old put now same line is =
+    is ∙ ap (λ (a : List ℕ). a ++ status_text (block_of (past ++ s ∷ []))) line
     ∙ append_assoc old (sample_words s ++ codes "\n") (status_text (block_of (past ++ s ∷ [])))
     ∙ ap (λ (u : Sample). old ++ ((sample_words u ++ codes "\n") ++ status_text (block_of (past ++ u ∷ [])))) same
+
+-- where no block ends there is no status
+pub no_status : (status : Option BlockStatus) → is_some status ≡ false → status_text status ≡ []
+unfolding status_text
+no_status None is = refl
+no_status (Some status) is = absurd (cc is)

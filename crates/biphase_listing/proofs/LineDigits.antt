@@ -1,14 +1,19 @@
--- The digits of a frame's line: those of values, of flags and of a block's start.
-use Rattle.std.proofs.Common.{◌≡◌, ◌∙◌, ℕ, ◌+◌, ◌*◌, ◌/◌, ◌%◌, ◌<◌, Bool, true, false, List, [], ◌∷◌, ◌++◌, slice_index, get_or, refl, ap, sym, nat_lt, ltb-true, arith}
+-- The line of a frame as three parts of eight bytes: the digits of values, of flags and of a block's start.
+use Rattle.std.proofs.Common.{◌≡◌, ◌∙◌, ℕ, zero, suc, ◌+◌, ◌*◌, ◌/◌, ◌%◌, ◌<◌, Bool, true, false, List, [], ◌∷◌, ◌++◌, length, slice_index, get_or, refl, ap, ap₂, sym, nat_lt, ltb-true, arith}
 use Rattle.std.specs.Prelude.{codes}
+use borrow.Rule.Slice.PartMut.{put_mid}
 use Rattle.std.proofs.lemmas.Fmt.{decimal_digit}
+use Rattle.std.proofs.lemmas.Nat.{le_bytes_8}
 use Rattle.hex.specs.Hex.{encode_with, lower_digits}
-use Rattle.std.specs.Int.{w64, to_be_bytes}
+use Rattle.std.specs.Int.{w64, to_le_bytes}
 use Rattle.tmds_word.proofs.Below.{passes_below, passes_at}
 use Rattle.audio_packets.specs.declared.sample.Sample.{Sample}
+use Rattle.audio_out.proofs.Joined.{eight}
 use Rattle.listing.specs.Texts.{field}
 use Rattle.listing.specs.ContentText.{digit_of, sample_words, value_digits}
-use Rattle.biphase_listing.specs.Fours.{six_bytes}
+use Rattle.biphase_listing.specs.FrameText.{last_words}
+use Rattle.biphase_listing.specs.Fours.{six_bytes, turned}
+use Rattle.biphase_listing.proofs.Fours.{turned_six}
 
 one_digit : (n : ℕ) → n < 8 → field n ≡ 32 ∷ (48 + n) ∷ []
 one_digit n lt = ap (λ (text : List ℕ). 32 ∷ text) (decimal_digit n (omega arith))
@@ -42,15 +47,6 @@ digits_joined s l r =
     (λ i. line_with (sym (six_digits s.left) i) (sym (six_digits s.right) i) (sym (one_digit s.left_flags l) i) (sym (one_digit s.right_flags r) i) (sym (one_digit (digit_of s.start) (digit_below s.start)) i) (sym (one_digit (digit_of s.flat) (digit_below s.flat)) i))
     ∙ sym (words_are s)
 
--- the last six of eight bytes are the digits of a value
-pub record AreDigits (v : ℕ) (bytes : List ℕ) : Type 0 where
-  pub at2 : get_or bytes 2 0 ≡ slice_index lower_digits (v / 65536 % 256 / 16)
-  pub at3 : get_or bytes 3 0 ≡ slice_index lower_digits (v / 65536 % 256 % 16)
-  pub at4 : get_or bytes 4 0 ≡ slice_index lower_digits (v / 256 % 256 / 16)
-  pub at5 : get_or bytes 5 0 ≡ slice_index lower_digits (v / 256 % 256 % 16)
-  pub at6 : get_or bytes 6 0 ≡ slice_index lower_digits (v % 256 / 16)
-  pub at7 : get_or bytes 7 0 ≡ slice_index lower_digits (v % 256 % 16)
-
 unfoldable code_fits : ℕ → Bool
 code_fits n = nat_lt (slice_index lower_digits n) 256
 
@@ -62,39 +58,103 @@ code_below : (n : ℕ) → n < 16 → slice_index lower_digits n < 256
 unfolding code_fits
 code_below n lt = ltb-true _ _ (passes_at 16 code_fits n all_fit lt)
 
-six_back : (x a b c d e f : ℕ) → a < 256 → b < 256 → c < 256 → d < 256 → e < 256 → f < 256
-    → x ≡ a + 256 * b + 65536 * c + 16777216 * d + 4294967296 * e + 1099511627776 * f
-    → (x % 256 ≡ a) × (x / 256 % 256 ≡ b) × (x / 65536 % 256 ≡ c) × (x / 16777216 % 256 ≡ d) × (x / 4294967296 % 256 ≡ e) × (x / 1099511627776 % 256 ≡ f)
-six_back x a b c d e f la lb lc ld le lf is = (omega arith, omega arith, omega arith, omega arith, omega arith, omega arith)
+pub six_below : (v : ℕ) → six_bytes (slice_index lower_digits) v < 281474976710656
+six_below v =
+    let below : (n : ℕ) → slice_index lower_digits (n % 16) < 256 = λ n. code_below (n % 16) (omega arith) in
+    omega (arith, below v, below (v / 16), below (v / 256), below (v / 4096), below (v / 65536), below (v / 1048576))
 
-pub digits_in : (v x : ℕ) (bytes : List ℕ) → x ≡ six_bytes (slice_index lower_digits) v → bytes ≡ to_be_bytes w64 x → AreDigits v bytes
-digits_in v x bytes is are =
-    let code = slice_index lower_digits in
-    let below : (n : ℕ) → code (n % 16) < 256 = λ n. code_below (n % 16) (omega arith) in
-    let six = six_back x _ _ _ _ _ _ (below v) (below (v / 16)) (below (v / 256)) (below (v / 4096)) (below (v / 65536)) (below (v / 1048576)) is in
-    let p2 : v / 1048576 % 16 ≡ v / 65536 % 256 / 16 = omega arith in
-    let p3 : v / 65536 % 16 ≡ v / 65536 % 256 % 16 = omega arith in
-    let p4 : v / 4096 % 16 ≡ v / 256 % 256 / 16 = omega arith in
-    let p5 : v / 256 % 16 ≡ v / 256 % 256 % 16 = omega arith in
-    let p6 : v / 16 % 16 ≡ v % 256 / 16 = omega arith in
-    let p7 : v % 16 ≡ v % 256 % 16 = omega arith in
-    record {
-      at2 = ap (λ xs. get_or xs 2 0) are ∙ six.5 ∙ ap code p2;
-      at3 = ap (λ xs. get_or xs 3 0) are ∙ six.4 ∙ ap code p3;
-      at4 = ap (λ xs. get_or xs 4 0) are ∙ six.3 ∙ ap code p4;
-      at5 = ap (λ xs. get_or xs 5 0) are ∙ six.2 ∙ ap code p5;
-      at6 = ap (λ xs. get_or xs 6 0) are ∙ six.1 ∙ ap code p6;
-      at7 = ap (λ xs. get_or xs 7 0) are ∙ six.0 ∙ ap code p7;
-    }
+-- the digits of a value, the highest first
+abbrev code : ℕ → ℕ
+code n = slice_index lower_digits (n % 16)
 
--- the line of a sample of two sides, of the digits of their values
-pub line_is : (s : Sample) (x y z : ℕ) (d e : List ℕ) → s.left_flags < 8 → s.right_flags < 8 → s.flat ≡ false → AreDigits s.left d → AreDigits s.right e
-    → x ≡ 48 + s.left_flags → y ≡ 48 + s.right_flags → z ≡ 48 + digit_of s.start
-    → 115 ∷ 32 ∷ get_or d 2 0 ∷ get_or d 3 0 ∷ get_or d 4 0 ∷ get_or d 5 0 ∷ get_or d 6 0 ∷ get_or d 7 0 ∷ 32
-    ∷ get_or e 2 0 ∷ get_or e 3 0 ∷ get_or e 4 0 ∷ get_or e 5 0 ∷ get_or e 6 0 ∷ get_or e 7 0 ∷ 32 ∷ x ∷ 32 ∷ y ∷ 32 ∷ z ∷ 32 ∷ 48 ∷ 10 ∷ []
-    ≡ sample_words s ++ codes "\n"
-line_is s x y z d e l r flat p q ex ey ez =
+abbrev codes_of : ℕ → List ℕ
+codes_of v = code (v / 1048576) ∷ code (v / 65536) ∷ code (v / 4096) ∷ code (v / 256) ∷ code (v / 16) ∷ code v ∷ []
+
+codes_are : (v : ℕ) → codes_of v ≡ value_digits v
+codes_are v =
+    let at = slice_index lower_digits in
+    let p5 : v / 1048576 % 16 ≡ v / 65536 % 256 / 16 = omega arith in
+    let p4 : v / 65536 % 16 ≡ v / 65536 % 256 % 16 = omega arith in
+    let p3 : v / 4096 % 16 ≡ v / 256 % 256 / 16 = omega arith in
+    let p2 : v / 256 % 16 ≡ v / 256 % 256 % 16 = omega arith in
+    let p1 : v / 16 % 16 ≡ v % 256 / 16 = omega arith in
+    let p0 : v % 16 ≡ v % 256 % 16 = omega arith in
+    (λ i. at (p5 i) ∷ at (p4 i) ∷ at (p3 i) ∷ at (p2 i) ∷ at (p1 i) ∷ at (p0 i) ∷ []) ∙ sym (six_digits v)
+
+digit_fits : (n : ℕ) → code n < 256
+digit_fits n = code_below (n % 16) (omega arith)
+
+pub second_is : (v x : ℕ) → x ≡ 0x2000000000000020 + 256 * six_bytes (slice_index lower_digits) (turned v) → to_le_bytes w64 x ≡ codes " " ++ value_digits v ++ codes " "
+second_is v x is =
+    le_bytes_8 (codes " " ++ codes_of v ++ codes " ") x refl fit (omega (arith, is, turned_six (slice_index lower_digits) v))
+    ∙ ap (λ (ds : List ℕ). codes " " ++ ds ++ codes " ") (codes_are v)
+  where
+    fit : (i : ℕ) → get_or (codes " " ++ codes_of v ++ codes " ") i 0 < 256
+    fit zero = omega arith
+    fit (suc zero) = digit_fits (v / 1048576)
+    fit (suc (suc zero)) = digit_fits (v / 65536)
+    fit (suc (suc (suc zero))) = digit_fits (v / 4096)
+    fit (suc (suc (suc (suc zero)))) = digit_fits (v / 256)
+    fit (suc (suc (suc (suc (suc zero))))) = digit_fits (v / 16)
+    fit (suc (suc (suc (suc (suc (suc zero)))))) = digit_fits v
+    fit (suc (suc (suc (suc (suc (suc (suc zero))))))) = omega arith
+    fit (suc (suc (suc (suc (suc (suc (suc (suc i)))))))) = omega arith
+
+pub first_is : (v x : ℕ) → x ≡ 0x2073 + 65536 * six_bytes (slice_index lower_digits) (turned v) → to_le_bytes w64 x ≡ codes "s " ++ value_digits v
+first_is v x is =
+    le_bytes_8 (codes "s " ++ codes_of v) x refl fit (omega (arith, is, turned_six (slice_index lower_digits) v))
+    ∙ ap (λ (ds : List ℕ). codes "s " ++ ds) (codes_are v)
+  where
+    fit : (i : ℕ) → get_or (codes "s " ++ codes_of v) i 0 < 256
+    fit zero = omega arith
+    fit (suc zero) = omega arith
+    fit (suc (suc zero)) = digit_fits (v / 1048576)
+    fit (suc (suc (suc zero))) = digit_fits (v / 65536)
+    fit (suc (suc (suc (suc zero)))) = digit_fits (v / 4096)
+    fit (suc (suc (suc (suc (suc zero))))) = digit_fits (v / 256)
+    fit (suc (suc (suc (suc (suc (suc zero)))))) = digit_fits (v / 16)
+    fit (suc (suc (suc (suc (suc (suc (suc zero))))))) = digit_fits v
+    fit (suc (suc (suc (suc (suc (suc (suc (suc i)))))))) = omega arith
+
+pub last_is : (l r x : ℕ) (start : Bool) → l < 8 → r < 8 → x ≡ 0x0a30200020302030 + l + 65536 * r + 4294967296 * (48 + digit_of start) → to_le_bytes w64 x ≡ last_words l r start
+last_is l r x start ll lr is = le_bytes_8 (last_words l r start) x refl fit (omega (arith, is))
+  where
+    fit : (i : ℕ) → get_or (last_words l r start) i 0 < 256
+    fit zero = omega (arith, ll)
+    fit (suc zero) = omega arith
+    fit (suc (suc zero)) = omega (arith, lr)
+    fit (suc (suc (suc zero))) = omega arith
+    fit (suc (suc (suc (suc zero)))) = omega (arith, digit_below start)
+    fit (suc (suc (suc (suc (suc zero))))) = omega arith
+    fit (suc (suc (suc (suc (suc (suc zero)))))) = omega arith
+    fit (suc (suc (suc (suc (suc (suc (suc zero))))))) = omega arith
+    fit (suc (suc (suc (suc (suc (suc (suc (suc i)))))))) = omega arith
+
+pub length-first : (v : ℕ) → length (codes "s " ++ value_digits v) ≡ 8
+length-first v = ap (λ (ds : List ℕ). length (codes "s " ++ ds)) (sym (codes_are v))
+
+pub length-second : (v : ℕ) → length (codes " " ++ value_digits v ++ codes " ") ≡ 8
+length-second v = ap (λ (ds : List ℕ). length (codes " " ++ ds ++ codes " ")) (sym (codes_are v))
+
+-- three parts of eight bytes put one behind another
+abbrev pub zeros : List ℕ
+zeros = 0 ∷ 0 ∷ 0 ∷ 0 ∷ 0 ∷ 0 ∷ 0 ∷ 0 ∷ 0 ∷ 0 ∷ 0 ∷ 0 ∷ 0 ∷ 0 ∷ 0 ∷ 0 ∷ []
+
+pub length-two : (x y : List ℕ) → length x ≡ 8 → length y ≡ 8 → length (put_mid 8 8 (x ++ zeros) y) ≡ 24
+length-two x y p q = ap₂ (λ (u v : List ℕ). length (put_mid 8 8 (u ++ zeros) v)) (eight x p) (eight y q)
+
+pub three_put : (x y z : List ℕ) → length x ≡ 8 → length y ≡ 8 → length z ≡ 8 → put_mid 16 8 (put_mid 8 8 (x ++ zeros) y) z ≡ x ++ (y ++ z)
+three_put x y z p q r =
+    let e = eight x p in
+    let f = eight y q in
+    let g = eight z r in
+    (λ i. put_mid 16 8 (put_mid 8 8 (e i ++ zeros) (f i)) (g i)) ∙ sym (λ i. e i ++ (f i ++ g i))
+
+-- the line of a sample of two sides, of its three parts
+pub line_is : (s : Sample) → s.left_flags < 8 → s.right_flags < 8 → s.flat ≡ false
+    → (codes "s " ++ value_digits s.left) ++ ((codes " " ++ value_digits s.right ++ codes " ") ++ last_words s.left_flags s.right_flags s.start) ≡ sample_words s ++ codes "\n"
+line_is s l r flat =
     let none : 48 ≡ 48 + digit_of s.flat = ap (λ b. 48 + digit_of b) (sym flat) in
-    (λ i. 115 ∷ 32 ∷ p.at2 i ∷ p.at3 i ∷ p.at4 i ∷ p.at5 i ∷ p.at6 i ∷ p.at7 i ∷ 32
-    ∷ q.at2 i ∷ q.at3 i ∷ q.at4 i ∷ q.at5 i ∷ q.at6 i ∷ q.at7 i ∷ 32 ∷ ex i ∷ 32 ∷ ey i ∷ 32 ∷ ez i ∷ 32 ∷ none i ∷ 10 ∷ [])
+    (λ i. (codes "s " ++ six_digits s.left i) ++ ((codes " " ++ six_digits s.right i ++ codes " ")
+    ++ (48 + s.left_flags) ∷ 32 ∷ (48 + s.right_flags) ∷ 32 ∷ (48 + digit_of s.start) ∷ 32 ∷ none i ∷ 10 ∷ []))
     ∙ digits_joined s l r

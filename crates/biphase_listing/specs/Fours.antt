@@ -9,6 +9,11 @@ six_bytes byte value =
     byte (value % 16) + 256 * byte (value / 16 % 16) + 65536 * byte (value / 256 % 16) + 16777216 * byte (value / 4096 % 16)
     + 4294967296 * byte (value / 65536 % 16) + 1099511627776 * byte (value / 1048576 % 16)
 
+-- the value whose four bits are those of a value in turned order
+abbrev pub turned : ℕ → ℕ
+turned value =
+    value / 1048576 % 16 + 16 * (value / 65536 % 16) + 256 * (value / 4096 % 16) + 4096 * (value / 256 % 16) + 65536 * (value / 16 % 16) + 1048576 * (value % 16)
+
 -- behind any byte those of the value's bits, and last that of V, U, C and P
 pub record HasFours (sub : Subframe) (fours : ℕ) : Type 0 where
   pub first : ℕ

@@ -1,10 +1,14 @@
 -- The lines of frames (docs/FORMATS.md): of each the sample that it carries, and of the 192nd of a block the channel status.
-use Rattle.std.specs.Prelude.{ℕ, List, [], ◌∷◌, ◌++◌, Option, Some, None, codes}
+use Rattle.std.specs.Prelude.{ℕ, ◌+◌, Bool, List, [], ◌∷◌, ◌++◌, Option, Some, None, codes}
 use Rattle.hex.specs.Hex.{encode_lower}
 use Rattle.audio_packets.specs.declared.sample.Sample.{Sample}
 use Rattle.audio_out.specs.Blocks.{block_of}
 use Rattle.audio_out.specs.declared.blocks.BlockStatus.{BlockStatus}
-use Rattle.listing.specs.ContentText.{sample_words}
+use Rattle.listing.specs.ContentText.{digit_of, sample_words}
+
+-- the last eight bytes of the line of a sample: the flags of its sides, whether a block starts, and that it is not flat
+abbrev pub last_words : ℕ → ℕ → Bool → List ℕ
+last_words left right start = (48 + left) ∷ 32 ∷ (48 + right) ∷ 32 ∷ (48 + digit_of start) ∷ codes " 0\n"
 
 -- the 24 bytes of each side, where a block ends
 unfoldable pub status_text : Option BlockStatus → List ℕ

@@ -2,7 +2,7 @@
 ghost use Rattle.std.specs.Prelude.{◌≡◌, ◌+◌, ◌*◌, ◌<◌, ◌≤◌, ℕ, List, [], ◌∷◌, ◌++◌, length, codes};
 ghost use Rattle.hex.specs.Hex.{encode_lower};
 ghost use Rattle.audio_packets.specs.declared.sample.Sample.{Sample as SampleType};
-ghost use Rattle.audio_out.specs.Blocks.{IsBlocksAfter};
+ghost use Rattle.audio_out.specs.Blocks.{IsBlocksAfter, block_of};
 ghost use Rattle.audio_out.specs.Subframes.{IsSound};
 ghost use Rattle.biphase_listing.specs.Fours.{HasFours};
 ghost use Rattle.biphase_listing.specs.Groups.{is_block, sample_of, most_frames};
@@ -53,14 +53,16 @@ impl FrameLines {
     }
 
     /// Lists the frames of a piece, and says how they stop.
+    #[inline(never)]
     pub(crate) fn list(&mut self, piece: &[u8]) -> Stop
         requires size { length piece.now ≤ 4096 }
         requires few { 16 * self.old.count + length piece.now ≤ 16 * most_frames + 1 }
         ensures { (samples : List SampleType) × (rest : List ℕ) × Adds piece.now self.old self.new samples rest × StopsAt result rest }
     {
         self.text.clear();
+        let whole = piece.len() / 16 * 16;
         let mut place = 0;
-        while place + 16 <= piece.len() {
+        while place < whole {
             let Some(left) = read_side(&group_from(piece, place), false) else {
                 return Stop::Left;
             };
@@ -96,10 +98,24 @@ impl FrameLines {
             flat: false,
         };
         self.text.put(&frame_line(left, right));
-        if let Some(status) = self.blocks.push(&sample) {
-            put_status(&mut self.text, &status);
+        if self.blocks.take(&sample) {
+            self.end_block();
         }
         self.count += 1;
+    }
+
+    /// Puts the line of the channel status of a block that is full: seldom, and so not in the way of other frames.
+    #[inline(never)]
+    fn end_block(&mut self)
+        requires { length self.old.text + 104 ≤ 41984 }
+        ensures blocks { self.new.blocks ≡ self.old.blocks }
+        ensures count { self.new.count ≡ self.old.count }
+        ensures room { length self.new.text ≤ length self.old.text + 104 }
+        ensures text { (past : List SampleType) → IsBlocksAfter self.old.blocks past → self.new.text ≡ self.old.text ++ status_text (block_of past) }
+    {
+        if let Some(status) = self.blocks.status() {
+            put_status(&mut self.text, &status);
+        }
     }
 }
 

@@ -5,7 +5,7 @@ use super::*;
 use audio_out::Encoder;
 use audio_packets::Sample;
 use bch_block::Verdict;
-use island_pack::{Packet, PacketRef, PacketVerdicts};
+use island_pack::{Packet, PacketRef, PacketVerdicts, is_packet_in_range};
 use link_sink::Ear;
 use outside_io::{Failed, MemSink, MemSource};
 use period_grammar::Told;
@@ -192,6 +192,9 @@ fn tell(
         bodies,
         sync: [0; 32],
     };
+    if !is_packet_in_range(&packet) {
+        return Err(Failed);
+    }
     let verdicts = PacketVerdicts {
         blocks: [Verdict::Clean, Verdict::Clean, Verdict::Clean, row.1, row.2],
         symbols: 0,

@@ -1,10 +1,22 @@
-use Rattle.std.proofs.Common.{◌+◌, refl, ap}
+use Rattle.std.proofs.Common.{◌∙◌, ◌≤◌, ◌++◌, length, refl, ap, arith}
+use borrow.Rule.Slice.PartMut.{put_mid}
 use Rattle.biphase_listing.specs.Groups.{sample_of}
-use Rattle.biphase_listing.proofs.LineDigits.{digits_in, line_is}
+use Rattle.biphase_listing.proofs.LineDigits.{length-first, length-second, length-two, line_is, three_put, zeros}
 use Rattle.biphase_listing.proofs.frame_line.frame_line.Goals as goal
+
+pub slice_bounds-line-end-3 : goal.slice_bounds-line-end-3
+slice_bounds-line-end-3 c =
+    let first = c.copy_from_slice.ensures.after ∙ c.first_part.ensures in
+    let second = c.copy_from_slice-2.ensures.after ∙ c.second_part.ensures in
+    let x = c.copy_from_slice.new.self in
+    let y = c.copy_from_slice-2.new.self in
+    let within : 24 ≤ length (put_mid 8 8 (x ++ zeros) y) = omega (arith, length-two x y (ap length first ∙ length-first _) (ap length second ∙ length-second _)) in
+    within
 
 pub returns : goal.returns
 returns c =
-    line_is (sample_of c.args.left.now.sub c.args.right.now.sub) _ _ _ _ _ c.requires.left.flags c.requires.right.flags refl
-    (digits_in c.args.left.now.sub.value _ _ c.digits.ensures c.to_be_bytes.ensures) (digits_in c.args.right.now.sub.value _ _ c.digits-2.ensures c.to_be_bytes-2.ensures)
-    (ap (λ n. 48 + n) c.flags_of.ensures) (ap (λ n. 48 + n) c.flags_of-2.ensures) c.block_digit-z.ensures
+    let first = c.copy_from_slice.ensures.after ∙ c.first_part.ensures in
+    let second = c.copy_from_slice-2.ensures.after ∙ c.second_part.ensures in
+    let last = c.copy_from_slice-3.ensures.after ∙ c.last_part.ensures in
+    three_put _ _ _ (ap length first ∙ length-first _) (ap length second ∙ length-second _) (ap length last) ∙ (λ i. first i ++ (second i ++ last i))
+    ∙ line_is (sample_of c.args.left.now.sub c.args.right.now.sub) c.requires.left.flags c.requires.right.flags refl

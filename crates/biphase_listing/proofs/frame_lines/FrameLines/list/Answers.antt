@@ -11,7 +11,7 @@ pub loop-place-preserved : goal.loop-place-preserved
 loop-place-preserved c =
     let i = c.loop-place.invariant in (
       _,
-      listed_more c.args.piece.now c.loop-place.place _ c.loop-place.self c.add.new.self i.0 c.in-Some.left.sub c.in-Some-read_side.right.sub i.1 c.loop-place-test.true
+      listed_more c.args.piece.now c.loop-place.place _ c.loop-place.self c.add.new.self i.0 c.in-Some.left.sub c.in-Some-read_side.right.sub i.1 (omega (arith, c.loop-place-test.true, i.1.place_is))
           (all_bytes c.args.piece.now (λ k. (c.type_inv.piece k).fits))
           (subst (λ (xs : List ℕ). IsSubframe c.in-Some.left.sub xs) c.group_from.ensures c.in-Some.ensures.0) c.in-Some.ensures.1
           (subst (λ (xs : List ℕ). IsSubframe c.in-Some-read_side.right.sub xs) c.group_from-in-loop-place.ensures c.in-Some-read_side.ensures.0) c.in-Some-read_side.ensures.1
@@ -21,7 +21,7 @@ loop-place-preserved c =
 pub returns-in_default : goal.returns-in_default
 returns-in_default c =
     let i = c.loop-place.invariant in
-    let inside : c.loop-place.place + 16 ≤ length c.args.piece.now = c.loop-place-test.true in (
+    let inside : c.loop-place.place + 16 ≤ length c.args.piece.now = omega (arith, c.loop-place-test.true, i.1.place_is) in (
       i.0,
       drop c.loop-place.place c.args.piece.now,
       listed_all c.args.piece.now c.loop-place.place c.args.self.now _ c.loop-place.self i.0 refl refl i.1,
@@ -31,7 +31,7 @@ returns-in_default c =
 pub returns-in_default-read_side : goal.returns-in_default-read_side
 returns-in_default-read_side c =
     let i = c.loop-place.invariant in
-    let inside : c.loop-place.place + 16 ≤ length c.args.piece.now = c.loop-place-test.true in (
+    let inside : c.loop-place.place + 16 ≤ length c.args.piece.now = omega (arith, c.loop-place-test.true, i.1.place_is) in (
       i.0,
       drop c.loop-place.place c.args.piece.now,
       listed_all c.args.piece.now c.loop-place.place c.args.self.now _ c.loop-place.self i.0 refl refl i.1,
