@@ -1,3 +1,5 @@
+pub mod Behind
+pub mod Beside
 pub mod CountLines
 pub mod Counting
 pub mod Growing

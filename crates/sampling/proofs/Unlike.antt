@@ -1,13 +1,16 @@
 -- How many bytes differ, once a row or a frame more is listed.
 use Rattle.std.proofs.Common.{◌≡◌, ◌∙◌, ℕ, zero, suc, ◌+◌, ◌-◌, ◌*◌, ◌/◌, ◌%◌, ◌^◌, ◌<◌, ◌==◌, cond, List, [], ◌∷◌, ◌++◌, map, length, take, get_or, min, refl, ap, ap₂, sym, length-append, arith}
+use Rattle.std.specs.Prelude.{sum_by}
+use Rattle.std.specs.List.{enumerate_from}
 use Rattle.std.proofs.lemmas.List.{length-map, length-take, take_more, take_all}
+use Rattle.std.proofs.lemmas.List.Sums.{sum_by-append}
 use Rattle.frame_build.specs.declared.FrameNote.{FrameNote}
 use Rattle.frame_build.specs.declared.LineNote.{LineNote}
 use Rattle.source_end.specs.Raster.{up_from}
 use Rattle.source_end.specs.Generator.{row_byte, row_bytes}
 use Rattle.source_end.proofs.Generated.{byte_more}
 use Rattle.listing.specs.Listed.{Listed, row, frame}
-use Rattle.sampling.specs.Counts.{kept, told_frames, unlike, unlike_rows, unlike_frames}
+use Rattle.sampling.specs.Counts.{kept, told_frames, unlike, unlike_row, unlike_frame, unlike_told}
 use Rattle.sampling.specs.Tallies.{open_rows, next_frame, Shows}
 use Rattle.sampling.specs.declared.pictures.Pictures.{Pictures}
 
@@ -45,25 +48,26 @@ open_frame rows (frame n ∷ xs) note = open_frame [] xs note
 
 -- ---- bytes that differ
 
-alone : (a b : ℕ) → a ≡ b → a + 0 ≡ 0 + b
-alone a b e = omega arith
+one_more : {X : Type 0} (n : ℕ) (xs : List X) (x : X) → enumerate_from n (xs ++ x ∷ []) ≡ enumerate_from n xs ++ (n + length xs, x) ∷ []
+one_more {X} n [] x = let e : n ≡ n + 0 = omega arith in ap {B = List (ℕ × X)} (λ k. (k, x) ∷ []) e
+one_more {X} n (y ∷ xs) x =
+    let e : n + 1 + length xs ≡ n + length (y ∷ xs) = omega arith in
+    ap (λ (rest : List (ℕ × X)). (n, y) ∷ rest) (one_more (n + 1) xs x ∙ ap {B = List (ℕ × X)} (λ k. enumerate_from (n + 1) xs ++ (k, x) ∷ []) e)
 
-behind : (a b c d e : ℕ) → b ≡ c + d → d ≡ e → a + b ≡ (a + c) + e
-behind a b c d e s t = omega arith
+-- what is summed of numbered elements grows by one
+sum_more : {X : Type 0} (f : ℕ × X → ℕ) (n at : ℕ) (xs : List X) (x : X) → n + length xs ≡ at → sum_by f (enumerate_from n (xs ++ x ∷ [])) ≡ sum_by f (enumerate_from n xs) + f (at, x)
+sum_more {X} f n at xs x place =
+    let alone : 0 + f (n + length xs, x) ≡ f (n + length xs, x) = omega arith in
+    ap (λ (ps : List (ℕ × X)). sum_by f ps) (one_more n xs x) ∙ sum_by-append f (enumerate_from n xs) ((n + length xs, x) ∷ [])
+    ∙ ap (λ (k : ℕ). sum_by f (enumerate_from n xs) + k) (alone ∙ ap (λ (k : ℕ). f (k, x)) place)
 
-rows_more : (f y : ℕ) (rows : Rows) (bytes : List ℕ) → unlike_rows f y (rows ++ bytes ∷ []) ≡ unlike_rows f y rows + unlike bytes (row_bytes f (y + length rows) (length bytes))
-unfolding unlike_rows
-rows_more f y [] bytes = let e : y ≡ y + 0 = omega arith in alone _ _ (ap (λ (k : ℕ). unlike bytes (row_bytes f k (length bytes))) e)
-rows_more f y (r ∷ rows) bytes =
-    let e : suc y + length rows ≡ y + length (r ∷ rows) = omega arith in
-    behind (unlike r (row_bytes f y (length r))) _ _ _ _ (rows_more f (suc y) rows bytes) (ap (λ (k : ℕ). unlike bytes (row_bytes f k (length bytes))) e)
+rows_more : (f : ℕ) (rows : Rows) (bytes : List ℕ) → unlike_frame (f, rows ++ bytes ∷ []) ≡ unlike_frame (f, rows) + unlike bytes (row_bytes f (length rows) (length bytes))
+unfolding unlike_frame
+rows_more f rows bytes = sum_more (unlike_row f) 0 (length rows) rows bytes (omega arith)
 
-frames_more : (f : ℕ) (frames : Frames) (rows : Rows) → unlike_frames f (frames ++ rows ∷ []) ≡ unlike_frames f frames + unlike_rows (f + length frames) 0 rows
-unfolding unlike_frames
-frames_more f [] rows = let e : f ≡ f + 0 = omega arith in alone _ _ (ap (λ (k : ℕ). unlike_rows k 0 rows) e)
-frames_more f (g ∷ frames) rows =
-    let e : suc f + length frames ≡ f + length (g ∷ frames) = omega arith in
-    behind (unlike_rows f 0 g) _ _ _ _ (frames_more (suc f) frames rows) (ap (λ (k : ℕ). unlike_rows k 0 rows) e)
+frames_more : (frames : Frames) (rows : Rows) → unlike_told (frames ++ rows ∷ []) ≡ unlike_told frames + unlike_frame (suc (length frames), rows)
+unfolding unlike_told
+frames_more frames rows = sum_more unlike_frame 1 (suc (length frames)) frames rows (omega arith)
 
 -- ---- the generator's bytes repeat
 
@@ -92,18 +96,16 @@ pub row_shown : (p n : Pictures) (listed : List Listed) (bytes : List ℕ) (note
 row_shown p n listed bytes note u was is d e f r =
     let frames = told_row [] listed bytes note in
     let rows = open_row [] listed bytes note in
-    let unlike_row : ℕ → ℕ → ℕ = λ g y. unlike bytes (row_bytes g y (length bytes)) in
+    let unlike_at : ℕ → ℕ → ℕ = λ g y. unlike bytes (row_bytes g y (length bytes)) in
     let more =
-    ap₂ (λ (fs : Frames) (rs : Rows). unlike_rows (suc (length fs)) 0 rs) frames rows
-    ∙ rows_more (next_frame listed) 0 (open_rows [] listed) bytes in
-    let first : 0 + length (open_rows [] listed) ≡ length (open_rows [] listed) = omega arith in
+    ap₂ (λ (fs : Frames) (rs : Rows). unlike_frame (suc (length fs), rs)) frames rows
+    ∙ rows_more (next_frame listed) (open_rows [] listed) bytes in
     let here =
-    ap (unlike_row (next_frame listed)) first
-    ∙ ap (unlike bytes) (row_repeats (next_frame listed) (length (open_rows [] listed)) (length bytes))
-    ∙ ap₂ unlike_row (sym was.frame) (sym was.row) ∙ sym is in
+    ap (unlike bytes) (row_repeats (next_frame listed) (length (open_rows [] listed)) (length bytes))
+    ∙ ap₂ unlike_at (sym was.frame) (sym was.row) ∙ sym is in
     let count = ap length rows ∙ length-append (open_rows [] listed) (bytes ∷ []) in
     record {
-      differ = d ∙ was.differ ∙ ap (λ (fs : Frames). kept (unlike_frames 1 fs)) (sym frames);
+      differ = d ∙ was.differ ∙ ap (λ (fs : Frames). kept (unlike_told fs)) (sym frames);
       pending = grows p.pending n.pending _ _ _ u was.pending e more here;
       frame = f ∙ was.frame ∙ ap (λ (fs : Frames). suc (length fs) % 256) (sym frames);
       row = let at = was.row in omega (arith, r, at, count);
@@ -112,24 +114,21 @@ row_shown p n listed bytes note u was is d e f r =
 pub frame_shown : (p n : Pictures) (listed : List Listed) (note : FrameNote) → Shows p listed
     → n.differ ≡ min (p.differ + p.pending) (2 ^ 64 - 1) → n.pending ≡ 0 → n.frame ≡ (p.frame + 1) % 256 → n.row ≡ 0
     → Shows n (listed ++ frame note ∷ [])
-unfolding unlike_rows
+unfolding unlike_frame
 frame_shown p n listed note was d e f r =
     let frames = told_frame [] listed note in
     let rows = open_frame [] listed note in
-    let next : 1 + length (told_frames [] listed) ≡ next_frame listed = omega arith in
-    let more =
-    ap (unlike_frames 1) frames ∙ frames_more 1 (told_frames [] listed) (open_rows [] listed)
-    ∙ ap (λ (g : ℕ). unlike_frames 1 (told_frames [] listed) + unlike_rows g 0 (open_rows [] listed)) next in
+    let more = ap unlike_told frames ∙ frames_more (told_frames [] listed) (open_rows [] listed) in
     let count = ap length frames ∙ length-append (told_frames [] listed) (open_rows [] listed ∷ []) in
     record {
       differ = adds p.differ p.pending n.differ _ _ _ was.differ was.pending d more;
-      pending = e ∙ ap (λ (rs : Rows). kept (unlike_rows (next_frame (listed ++ frame note ∷ [])) 0 rs)) (sym rows);
+      pending = e ∙ ap (λ (rs : Rows). kept (unlike_frame (next_frame (listed ++ frame note ∷ []), rs))) (sym rows);
       frame = let at = was.frame in omega (arith, f, at, count);
       row = r ∙ ap (λ (rs : Rows). length rs % 256) (sym rows);
     }
 
 pub none_shown : (n : Pictures) → n.differ ≡ 0 → n.pending ≡ 0 → n.frame ≡ 1 → n.row ≡ 0 → Shows n []
-unfolding told_frames open_rows unlike_rows unlike_frames
+unfolding told_frames open_rows unlike_frame unlike_told
 none_shown n d e f r = record { differ = d; pending = e; frame = f; row = r }
 
 -- ---- byte by byte

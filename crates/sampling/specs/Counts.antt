@@ -1,6 +1,7 @@
 -- What is counted of a content that was made by the generator, sent, damaged and recovered: of its content listing the lines
 -- of each kind, and the bytes of pictures that are not the generator's.
-use Rattle.std.specs.Prelude.{ℕ, suc, ◌+◌, ◌-◌, ◌^◌, ◌==◌, Bool, true, false, ◌&&◌, cond, List, [], ◌∷◌, ◌++◌, length, min, count_by, codes}
+use Rattle.std.specs.Prelude.{ℕ, ◌+◌, ◌-◌, ◌^◌, ◌==◌, Bool, true, false, cond, List, [], ◌∷◌, ◌++◌, length, min, sum_by, count_by, codes}
+use Rattle.std.specs.List.{enumerate_from}
 use Rattle.period_grammar.specs.Things.{Thing, packet}
 use Rattle.source_end.specs.Generator.{row_bytes}
 use Rattle.listing.specs.Fields.{with_fields, begins_with}
@@ -31,18 +32,19 @@ abbrev pub unlike : List ℕ → List ℕ → ℕ
 unlike (b ∷ bs) (c ∷ cs) = cond (b == c) 0 1 + unlike bs cs
 unlike _ _ = 0
 
--- bytes of rows that are not those of the generator's frame f, from row y on
-unfoldable pub unlike_rows : ℕ → ℕ → List (List ℕ) → ℕ
-unlike_rows f y [] = 0
-unlike_rows f y (bytes ∷ rows) = unlike bytes (row_bytes f y (length bytes)) + unlike_rows f (suc y) rows
+-- how many bytes of a row that is listed are not those of the row that has its number in the generator's frame f
+abbrev pub unlike_row : ℕ → ℕ × List ℕ → ℕ
+unlike_row f (y, bytes) = unlike bytes (row_bytes f y (length bytes))
 
--- and of frames, from the generator's frame f on
-unfoldable pub unlike_frames : ℕ → List (List (List ℕ)) → ℕ
-unlike_frames f [] = 0
-unlike_frames f (rows ∷ frames) = unlike_rows f 0 rows + unlike_frames (suc f) frames
+-- how many bytes of the rows of a frame are not those of the generator's frame that has its number; its rows are numbered from 0
+unfoldable pub unlike_frame : ℕ × List (List ℕ) → ℕ
+unlike_frame (f, rows) = sum_by (unlike_row f) (enumerate_from 0 rows)
 
--- the ten counts of so many columns that tell these things. The capture begins in frame 0, so that the first frame told is
--- frame 1.
+-- and of told frames. The capture begins in the generator's frame 0, so that they are its frames from frame 1 on, in order.
+unfoldable pub unlike_told : List (List (List ℕ)) → ℕ
+unlike_told frames = sum_by unlike_frame (enumerate_from 1 frames)
+
+-- the ten counts of so many columns that tell these things
 abbrev pub counts_of : ℕ → List Thing → Counts
 counts_of columns things =
     let lines = content_lines things in
@@ -59,7 +61,7 @@ counts_of columns things =
       mended = mended;
       code = code;
       other = kept (fault_line_count lines) - (symbols + mended + code);
-      differ = kept (unlike_frames 1 (told_frames [] (listed things)));
+      differ = kept (unlike_told (told_frames [] (listed things)));
     }
 
 -- the ten lines

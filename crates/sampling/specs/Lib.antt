@@ -3,3 +3,4 @@ pub mod Tallies
 pub mod Strikes
 pub mod Struck
 pub mod Sampled
+pub mod CountLaws

@@ -6,7 +6,7 @@ use Rattle.period_grammar.specs.Things.{Thing}
 use Rattle.listing.specs.ContentText.{events, content_lines, fault_line_count}
 use Rattle.listing.specs.ContentAdded.{Recalls}
 use Rattle.listing.specs.Listed.{Listed, row, frame, listed}
-use Rattle.sampling.specs.Counts.{kept, lines_with, is_packet, told_frames, unlike_rows, unlike_frames}
+use Rattle.sampling.specs.Counts.{kept, lines_with, is_packet, told_frames, unlike_frame, unlike_told}
 use Rattle.sampling.specs.declared.pictures.Pictures.{Pictures}
 use Rattle.sampling.specs.declared.counter.Counter.{Counter}
 use Rattle.sampling.specs.declared.tally.Tally.{Tally}
@@ -23,8 +23,8 @@ next_frame listed = suc (length (told_frames [] listed))
 
 -- rows and frames that were listed differ by so much, and the next row has these numbers
 pub record Shows (pictures : Pictures) (listed : List Listed) : Type 0 where
-  pub differ : pictures.differ ≡ kept (unlike_frames 1 (told_frames [] listed))
-  pub pending : pictures.pending ≡ kept (unlike_rows (next_frame listed) 0 (open_rows [] listed))
+  pub differ : pictures.differ ≡ kept (unlike_told (told_frames [] listed))
+  pub pending : pictures.pending ≡ kept (unlike_frame (next_frame listed, open_rows [] listed))
   pub frame : pictures.frame ≡ next_frame listed % 256
   pub row : pictures.row ≡ length (open_rows [] listed) % 256
 

@@ -4,6 +4,7 @@
 mod counter;
 mod counts;
 mod hits;
+pub mod laws;
 mod pictures;
 mod tally;
 

@@ -1,8 +1,9 @@
 //! Things that are told, with counts that were worked out by hand, and the text of counts.
+ghost use Rattle.std.specs.Prelude.{◌≡◌, ◌≤◌, ◌%◌, length};
 
 use crate::{Counts, Tally, write_counts};
 use bch_block::Verdict;
-use island_pack::{Packet, PacketRef, PacketVerdicts};
+use island_pack::{Packet, PacketRef, PacketVerdicts, is_packet_in_range};
 use link_sink::Ear;
 use outside_io::{Failed, MemSink, SteadySink};
 use period_grammar::{Fault, Told};
@@ -91,6 +92,9 @@ fn tell_packet<E: Ear>(
         bodies,
         sync: [0; 32],
     };
+    if !is_packet_in_range(&packet) {
+        return Err(Failed);
+    }
     let verdicts = PacketVerdicts {
         blocks: [
             verdict,
@@ -103,6 +107,15 @@ fn tell_packet<E: Ear>(
     };
     let packet = PacketRef::new(&packet, &verdicts);
     ear.hear(Told::Packet { packet, column: 14 })
+}
+
+/// Tells an ear a line of whole pixels.
+fn tell_line<E: Ear>(ear: &mut E, pixels: &[u8]) -> Result<(), Failed>
+    requires whole { length pixels.now % 3 ≡ 0 }
+    requires some { 3 ≤ length pixels.now }
+    requires few { length pixels.now ≤ 12288 }
+{
+    ear.hear(Told::Line { pixels })
 }
 
 /// Tells an ear a fault.
@@ -120,7 +133,7 @@ fn tell<E: Ear>(rt: &impl Abort, ear: &mut E, step: Step) {
         Step::Pixels(pixels) => {
             let size = pixels.len();
             assert!(rt; size % 3 == 0 && size >= 3 && size <= 12_288);
-            ear.hear(Told::Line { pixels })
+            tell_line(ear, pixels)
         }
         Step::Open => ear.hear(Told::Open { sync: [1, 2] }),
         Step::Packet(header, first, verdict) => tell_packet(ear, header, first, verdict),

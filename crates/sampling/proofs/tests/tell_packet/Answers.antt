@@ -1,8 +1,8 @@
-use Rattle.std.proofs.Common.{◌<◌, replicate, refl, sym, subst, All}
-use Rattle.island_pack.specs.declared.packet.Packet.{Packet}
-use Rattle.listing.proofs.ToldSizes.{digits_sized}
+use Rattle.std.proofs.Common.{sym, ap, ◌∙◌}
+use Rattle.island_pack.specs.Conforming.{is_packet}
+use Rattle.listing.proofs.ToldSizes.{packet_sized}
 use Rattle.sampling.proofs.tests.tell_packet.Goals as goal
 
 pub hear-requires : goal.hear-requires
 hear-requires g c =
-    subst (λ (p : Packet). All (λ digit. digit < 4) p.sync) (sym c.new-packet.ensures.packet) (digits_sized (replicate 32 0) refl)
+    packet_sized _ (ap is_packet c.new-packet.ensures.packet ∙ sym c.is_packet_in_range.ensures.packet ∙ c.if-not-is_packet_in_range.false)

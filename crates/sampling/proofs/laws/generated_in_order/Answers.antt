@@ -1,0 +1,5 @@
+use Rattle.sampling.proofs.Behind.{generated_in_order}
+use Rattle.sampling.proofs.laws.generated_in_order.Goals as goal
+
+pub returns : goal.returns
+returns c = generated_in_order
