@@ -30,7 +30,9 @@ use Rattle.listing.specs.Answers.{Answers as AnswersReading}
 use Rattle.listing.specs.Reading.{reads_as}
 use Rattle.listing.specs.DviReading.{dvi_reads_as}
 use Rattle.listing.specs.LineSteps.{Read, accepts, refuses}
+use Rattle.listing.specs.ContentKept.{frames_or, rastered, read_by}
 use Rattle.listing.specs.ContentReading.{content_reads_as}
+use Rattle.listing.specs.declared.fault.ListCause.{ListCause}
 use Rattle.source_end.specs.Content.{Frame}
 use Rattle.source_end.specs.DviPeriods.{DviSpells}
 use Rattle.source_end.specs.Raster.{raster_of}
@@ -159,8 +161,39 @@ spelled_ends spells tap ps taken Unaligned old new before after spelled is = abs
 
 -- `make content`
 
-pub read_contents : (reading : Read (Mode × List Frame)) (r : Result (Mode × List Frame) ListError) (content : Mode × List Frame) → AnswersReading reading r → r ≡ Ok content → reading ≡ accepts content
-read_contents reading r content answers is = subst (λ x. AnswersReading reading x) is answers
+-- what was read of a text: a content, the first fault for which it has no raster, or a line that is refused
+content_came : (reading : Read (Mode × List Frame)) (content : Mode × List Frame) → read_by rastered reading ≡ accepts (Ok content) → reading ≡ accepts content
+content_came (accepts told) content h = by_fault (raster_fault told.0 told.1) h where
+  by_fault : (o : Option RasterFault) → accepts (frames_or told.0 o told.1) ≡ accepts (Ok content) → accepts told ≡ accepts content
+  by_fault None e = let same : (told.0, told.1) ≡ content = cc in ap accepts same
+  by_fault (Some fault) e = absurd cc
+content_came (refuses line cause) content h = absurd cc
+
+pub read_contents : (reading : Read (Mode × List Frame)) (r : Result (Result (Mode × List Frame) RasterFault) ListError) (content : Mode × List Frame)
+    → AnswersReading (read_by rastered reading) r → r ≡ Ok (Ok content) → reading ≡ accepts content
+read_contents reading r content answers is = content_came reading content (subst (λ x. AnswersReading (read_by rastered reading) x) is answers)
+
+pub line_refused : (reading : Read (Mode × List Frame)) (line : ℕ) (cause : ListCause) → read_by rastered reading ≡ refuses line cause → reading ≡ refuses line cause
+line_refused (accepts told) line cause h = absurd cc
+line_refused (refuses n c) line cause h = cc
+
+-- a text that tells a content without a raster
+pub record HasNoRaster (text : List ℕ) (fault : RasterFault) : Type 0 where
+  pub mode : Mode
+  pub frames : List Frame
+  pub read : content_reads_as text ≡ accepts (mode, frames)
+  pub fault_is : raster_fault mode frames ≡ Some fault
+
+fault_came : (text : List ℕ) (fault : RasterFault) (reading : Read (Mode × List Frame)) → content_reads_as text ≡ reading → read_by rastered reading ≡ accepts (Err fault) → HasNoRaster text fault
+fault_came text fault (accepts told) is h = by_fault (raster_fault told.0 told.1) refl h where
+  by_fault : (o : Option RasterFault) → raster_fault told.0 told.1 ≡ o → accepts (frames_or told.0 o told.1) ≡ accepts (Err fault) → HasNoRaster text fault
+  by_fault None here e = absurd cc
+  by_fault (Some found) here e = let same : found ≡ fault = cc in record { mode = told.0; frames = told.1; read = is; fault_is = here ∙ ap Some same }
+fault_came text fault (refuses line cause) is h = absurd cc
+
+pub read_fault : (text : List ℕ) (r : Result (Result (Mode × List Frame) RasterFault) ListError) (fault : RasterFault)
+    → AnswersReading (read_by rastered (content_reads_as text)) r → r ≡ Ok (Err fault) → HasNoRaster text fault
+read_fault text r fault answers is = fault_came text fault (content_reads_as text) refl (subst (λ x. AnswersReading (read_by rastered (content_reads_as text)) x) is answers)
 
 pub content_refused : (words : TapWords) (fault : ListFault) (before after : Devices) (text : List ℕ) → content_reads_as text ≡ refuses fault.line fault.cause → after.held ≡ before.held
     → IsAnswered (MakeContent words) (Listing fault) before after text
@@ -208,13 +241,16 @@ makes_content words mode frames r ps text o read answers ok is made =
     subst (λ x. MakesContent (tap_asked words) x o) (sym read)
     (subst (λ f. MakesRaster (tap_asked words) mode frames f o) (sym (raster_told (raster_fault mode frames) r ps answers ok)) (subst (λ x. MakesStream Spells (tap_asked words) x o) is made))
 
-raster_refused : (words : TapWords) (mode : Mode) (frames : List Frame) (r : Result (List Period) RasterFault) (fault : RasterFault) (before after : Devices) (text : List ℕ) → content_reads_as text ≡ accepts (mode, frames)
-    → AnswersRasterFault (raster_fault mode frames) r → r ≡ Err fault → (fault ≡ NoRaster → ⊥) → after.held ≡ before.held → IsAnswered (MakeContent words) (Raster fault) before after text
-raster_refused words mode frames r fault before after text read answers err other kept = record {
+pub made_fault : (text : List ℕ) (mode : Mode) (frames : List Frame) (r : Result (List Period) RasterFault) (fault : RasterFault) → content_reads_as text ≡ accepts (mode, frames)
+    → AnswersRasterFault (raster_fault mode frames) r → r ≡ Err fault → (fault ≡ NoRaster → ⊥) → HasNoRaster text fault
+made_fault text mode frames r fault read answers err other = record { mode = mode; frames = frames; read = read; fault_is = fault_told (raster_fault mode frames) r fault answers err other }
+
+raster_refused : (words : TapWords) (fault : RasterFault) (before after : Devices) (text : List ℕ) → HasNoRaster text fault → after.held ≡ before.held → IsAnswered (MakeContent words) (Raster fault) before after text
+raster_refused words fault before after text none kept = record {
   outcome = record { status = 3; output = []; note = raster_note fault };
   does =
-      subst (λ x. MakesContent (tap_asked words) x (record { status = 3; output = []; note = raster_note fault })) (sym read)
-      (subst (λ f. MakesRaster (tap_asked words) mode frames f (record { status = 3; output = []; note = raster_note fault })) (sym (fault_told (raster_fault mode frames) r fault answers err other)) refl);
+      subst (λ x. MakesContent (tap_asked words) x (record { status = 3; output = []; note = raster_note fault })) (sym none.read)
+      (subst (λ f. MakesRaster (tap_asked words) none.mode none.frames f (record { status = 3; output = []; note = raster_note fault })) (sym none.fault_is) refl);
   status = refl;
   note = refl;
   written = same_held before.held after.held kept;
@@ -236,17 +272,17 @@ room_is_other f p e = cc
 long_is_other : Long ≡ NoRaster → ⊥
 long_is_other e = cc
 
-pub raster_ends : (words : TapWords) (mode : Mode) (frames : List Frame) (r : Result (List Period) RasterFault) (fault : RasterFault) (before after : Devices) → ((text : List ℕ) → before.left ≡ Some text → content_reads_as text ≡ accepts (mode, frames))
-    → AnswersRasterFault (raster_fault mode frames) r → r ≡ Err fault → after.held ≡ before.held → Ends (MakeContent words) (raster_ending fault) before after
-raster_ends words mode frames r NoRaster before after read answers err kept = (kept_held before.held after.held kept, λ reads. absurd reads)
-raster_ends words mode frames r (BadMode i) before after read answers err kept =
-    (kept_held before.held after.held kept, λ text told. raster_refused words mode frames r (BadMode i) before after text (read text told) answers err (mode_is_other i) kept)
-raster_ends words mode frames r (Row f n) before after read answers err kept =
-    (kept_held before.held after.held kept, λ text told. raster_refused words mode frames r (Row f n) before after text (read text told) answers err (row_is_other f n) kept)
-raster_ends words mode frames r (NoRoom f p) before after read answers err kept =
-    (kept_held before.held after.held kept, λ text told. raster_refused words mode frames r (NoRoom f p) before after text (read text told) answers err (room_is_other f p) kept)
-raster_ends words mode frames r Long before after read answers err kept =
-    (kept_held before.held after.held kept, λ text told. raster_refused words mode frames r Long before after text (read text told) answers err long_is_other kept)
+pub raster_ends : (words : TapWords) (fault : RasterFault) (before after : Devices) → ((fault ≡ NoRaster → ⊥) → (text : List ℕ) → before.left ≡ Some text → HasNoRaster text fault) → after.held ≡ before.held
+    → Ends (MakeContent words) (raster_ending fault) before after
+raster_ends words NoRaster before after none kept = (kept_held before.held after.held kept, λ reads. absurd reads)
+raster_ends words (BadMode i) before after none kept =
+    (kept_held before.held after.held kept, λ text told. raster_refused words (BadMode i) before after text (none (mode_is_other i) text told) kept)
+raster_ends words (Row f n) before after none kept =
+    (kept_held before.held after.held kept, λ text told. raster_refused words (Row f n) before after text (none (row_is_other f n) text told) kept)
+raster_ends words (NoRoom f p) before after none kept =
+    (kept_held before.held after.held kept, λ text told. raster_refused words (NoRoom f p) before after text (none (room_is_other f p) text told) kept)
+raster_ends words Long before after none kept =
+    (kept_held before.held after.held kept, λ text told. raster_refused words Long before after text (none long_is_other text told) kept)
 
 -- `damage`
 

@@ -38,9 +38,9 @@ aligned_same x y z d e f p q r first other =
     ap (λ n. aligned_columns x y z n e f) one.0 ∙ ap₂ (λ m n. aligned_columns x y z p m n) one.1 one.2
 
 -- an outcome is the listing of some things
-record IsListingOf (listing : ListingOf) (all : List Thing) (o : Outcome) : Type 0 where
-  status : o.status ≡ status_with (listing.faults all)
-  output : o.output ≡ listing.text all
+pub record IsListingOf (listing : ListingOf) (all : List Thing) (o : Outcome) : Type 0 where
+  pub status : o.status ≡ status_with (listing.faults all)
+  pub output : o.output ≡ listing.text all
 
 told_listing : (g : Grammar) (listing : ListingOf) (all : List Thing) (blue green red : List Bool) (d e f columns : ℕ) (things : List Thing) (o : Outcome)
     → IsFirst blue green red d e f → g.whole (aligned_columns blue green red d e f) ≡ all → IsAlignedBy g blue green red columns things
@@ -66,7 +66,7 @@ same_lanes g listing x y z u v w o same h =
     subst (λ a. ListsLanes g listing a y z o) (sym same.blue) (subst (λ b. ListsLanes g listing u b z o) (sym same.green) (subst (λ c. ListsLanes g listing u v c o) (sym same.red) h))
 
 -- the capture of such lanes is recovered so
-capture_listing : (g : Grammar) (listing : ListingOf) (all : List Thing) (blue green red : List Bool) (d e f : ℕ) (bytes : List ℕ) (o : Outcome)
+pub capture_listing : (g : Grammar) (listing : ListingOf) (all : List Thing) (blue green red : List Bool) (d e f : ℕ) (bytes : List ℕ) (o : Outcome)
     → IsCaptureOf blue green red bytes → IsFirst blue green red d e f → g.whole (aligned_columns blue green red d e f) ≡ all → ListsCapture g listing bytes o
     → IsListingOf listing all o
 capture_listing g listing all blue green red d e f bytes o captured first whole (inl (x, y, z, is, recovers)) =

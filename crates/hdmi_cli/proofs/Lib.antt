@@ -15,6 +15,9 @@ pub mod Trackings
 pub mod Tracked
 pub mod TrackHeadline
 pub mod TrackSlip
+pub mod Unnoticed
+pub mod TrackPasses
+pub mod TrackExamples
 pub mod RelayBlocks
 pub mod RelayLimit
 pub mod OwnCapture

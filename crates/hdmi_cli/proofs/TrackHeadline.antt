@@ -9,6 +9,7 @@ use Rattle.link_sink.specs.Grammar.{link_grammar}
 use Rattle.link_sink.specs.Sinks.{Fed}
 use Rattle.link_sink.specs.declared.hear.Outcome.{Outcome as Hearing}
 use Rattle.listing.specs.Texts.{fault_lines, link_text}
+use Rattle.capture_file.specs.Captures.{IsCaptureOf}
 use Rattle.capture_file.specs.Laws.{AreSame}
 use Rattle.capture_file.proofs.OneCapture.{one_capture, no_fault}
 use Rattle.track_sink.specs.Epochs.{HasNoEnd, IsTracked, last_epoch, more_epochs}
@@ -65,11 +66,16 @@ no_end_same x y same none zero lt = subst HasNoStray same.blue (none zero lt)
 no_end_same x y same none (suc zero) lt = subst HasNoStray same.green (none (suc zero) lt)
 no_end_same x y same none (suc (suc l)) lt = subst HasNoStray same.red (none (suc (suc l)) lt)
 
+-- of lanes that have no end the events are listed as `recover link` lists what they tell
+pub lists_as_link : (bytes : List ℕ) (x : Fed) → IsCaptureOf x.blue x.green x.red bytes → HasNoEnd x → (o : Outcome) → TracksCapture bytes o → ListsCapture link_grammar link_listing bytes o
+lists_as_link bytes x holds none o (inl (fed, captured, lanes)) =
+    let same = one_capture x.blue x.green x.red fed.blue fed.green fed.red bytes holds captured in
+    inl (fed.blue, fed.green, fed.red, captured, lists_epoch fed o lanes (no_end_same x fed same none))
+lists_as_link bytes x holds none o (inr (fault, fed, events, faulty, before, told, is)) =
+    absurd (no_fault bytes fault (record { blue = x.blue; green = x.green; red = x.red; holds = holds }) faulty)
+
 pub tracks_as_link : (t : TappedStream) → IsTapped t → (o : Outcome) → TracksCapture t.bytes o → ListsCapture link_grammar link_listing t.bytes o
-tracks_as_link t tapped o (inl (fed, captured, lanes)) =
+tracks_as_link t tapped o tracks =
     let x : Fed = record { blue = t.blue; green = t.green; red = t.red } in
     let none = one_epoch t.periods t.sent t.received t.offset t.skews t.counts x (record { came = tapped.came; tapped = tapped.tap }) in
-    let same = one_capture t.blue t.green t.red fed.blue fed.green fed.red t.bytes tapped.captured captured in
-    inl (fed.blue, fed.green, fed.red, captured, lists_epoch fed o lanes (no_end_same x fed same none))
-tracks_as_link t tapped o (inr (fault, fed, events, faulty, before, told, is)) =
-    absurd (no_fault t.bytes fault (record { blue = t.blue; green = t.green; red = t.red; holds = tapped.captured }) faulty)
+    lists_as_link t.bytes x tapped.captured none o tracks

@@ -15,6 +15,8 @@ pub mod ListsCommands
 pub mod Runs
 pub mod Headline
 pub mod TrackSlip
+pub mod TrackPasses
+pub mod TrackExamples
 pub mod RelayClauses
 pub mod Pictures
 pub mod Sounds

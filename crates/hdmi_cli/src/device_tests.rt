@@ -12,6 +12,17 @@ static ISLAND: &str =
 static CONTENT: &str =
     "mode 2 4 30 14 1 1 1 1 0\nacr 6144 27000\nrow 0102030405ff\nframe 2 1\nend\n";
 
+/// The same packet with one sample of the first pair, which starts a block.
+static SOUND: &str =
+    "c 00 4\nc 14 8\ni 00\np 020310 56341200000000 00000001000000 00000000000000 00000000000000 00000000000000000000000000000000\ne 00\nc 00 12\nend\n";
+
+/// A line of thirty pixels and one of one, of which a slip in the first leaves the second.
+static LINES: &str =
+    "c 00 4\nc 04 8\nv 000000000000000000000000000000000000000000000000000000000000000000000000000000000000000000000000000000000000000000000000000000000000000000000000000000000000000000000000000000\nc 00 24\nc 04 8\nv ff0000\nc 00 12\nend\n";
+
+/// A pixel without guard bands.
+static DVI: &str = "c 00 12\nv ff0000\nc 00 12\nend\n";
+
 /// More calls than a run makes.
 const CALLS: u64 = 10_000;
 
@@ -58,20 +69,32 @@ fn fail_each(
 
 #[test]
 fn each_call_fails_in_turn(rt: HostRuntime) -> Result<(), Fail> {
-    let capture = answer_of(&rt, &["make", "link"], ISLAND.as_bytes(), &STEADY)?.output;
-    let commands: [(&str, &[u8]); 6] = [
-        ("make link --bits 100", ISLAND.as_bytes()),
-        ("make content --bits 100", CONTENT.as_bytes()),
-        ("recover link", &capture),
-        ("recover content", &capture),
-        ("check", &capture),
-        ("damage 2:140:133 0:0:000", &capture),
+    // The words of a run, the commands that make its input of a text, each of what the last one wrote, and the text.
+    let runs: [(&str, &str, &str); 13] = [
+        ("make link --bits 100", "", ISLAND),
+        ("make content --bits 100", "", CONTENT),
+        ("make dvi --bits 100", "", DVI),
+        ("recover link", "make link", ISLAND),
+        ("recover content", "make link", ISLAND),
+        ("check", "make link", ISLAND),
+        ("damage 2:140:133 0:0:000", "make link", ISLAND),
+        ("slip 2:140:3", "make link", ISLAND),
+        ("relay", "make link", ISLAND),
+        ("recover track", "make link|slip 2:300:3", LINES),
+        ("recover dvi", "make dvi", DVI),
+        ("recover biphase 0", "make link", SOUND),
+        ("read biphase", "make link|recover biphase 0", SOUND),
     ];
-    for (words, input) in commands {
+    for (words, makers, text) in runs {
+        let mut input = text.as_bytes().to_vec(rt.alloc())?;
+        for maker in makers.split('|').filter(|it| !it.is_empty()) {
+            let maker: Vec<&str> = maker.split(' ').collect(rt.alloc())?;
+            input = answer_of(&rt, &maker, &input, &STEADY)?.output;
+        }
         let words: Vec<&str> = words.split(' ').collect(rt.alloc())?;
-        fail_each(&rt, &words, input, 7, true)?;
+        fail_each(&rt, &words, &input, 7, true)?;
         for piece in [1, 7, 65_536] {
-            fail_each(&rt, &words, input, piece, false)?;
+            fail_each(&rt, &words, &input, piece, false)?;
         }
     }
     Ok(())

@@ -3,6 +3,9 @@ ghost use Rattle.std.specs.Prelude.{◌<◌};
 
 use crate::trial::{STEADY, answer_of, answer_through};
 use lane_team::Gate;
+use link_sink::LinkSink;
+use listing::LinkLister;
+use outside_io::MemSink;
 use std::process::Abort;
 use std::sync::atomic::{AtomicU64, Ordering};
 use std::test::*;
@@ -23,6 +26,21 @@ struct Meeting {
 }
 
 impl Meeting {
+    fn new() -> Meeting {
+        Meeting {
+            passes: [AtomicU64::new(0), AtomicU64::new(0), AtomicU64::new(0)],
+            missed: AtomicU64::new(0),
+        }
+    }
+
+    /// Each lane passed once, and saw both others.
+    fn expect_one_pass(&self, rt: &impl Abort) {
+        assert_eq!(rt; self.missed.load(Ordering::SeqCst), 0);
+        for lane in 0..3usize {
+            assert_eq!(rt; self.passes[lane].load(Ordering::SeqCst), 1, "lane {lane}");
+        }
+    }
+
     /// Whether a lane comes to have passed so often.
     fn saw(&self, lane: usize, pass: u64) -> bool
         requires { lane < 3 }
@@ -53,19 +71,33 @@ fn lanes_meet(rt: HostRuntime) -> Result<(), Fail> {
     let capture = hex::decode(rt.alloc(), SKEWED)?;
     for words in ["recover link", "recover content", "check"] {
         let words: Vec<&str> = words.split(' ').collect(rt.alloc())?;
-        let gate = Meeting {
-            passes: [AtomicU64::new(0), AtomicU64::new(0), AtomicU64::new(0)],
-            missed: AtomicU64::new(0),
-        };
+        let gate = Meeting::new();
         let met = answer_through(&rt, &words, &capture, &STEADY, &gate)?;
         let alone = answer_of(&rt, &words, &capture, &STEADY)?;
         assert_eq!(rt; met.status, alone.status);
         assert_eq!(rt; met.output.as_slice(), alone.output.as_slice());
-        assert_eq!(rt; gate.missed.load(Ordering::SeqCst), 0);
-        for lane in 0..3usize {
-            assert_eq!(rt; gate.passes[lane].load(Ordering::SeqCst), 1, "lane {lane}");
-        }
+        gate.expect_one_pass(&rt);
     }
+    Ok(())
+}
+
+/// What the columns of that capture make a lister write while they are fed: all but the run of control columns that has not ended.
+const TEXT: &[u8] = b"c 00 4\nc 04 8\nv ff0000\n";
+
+/// A link's sink feeds the three lanes side by side, and tells a lister of the columns that are aligned.
+#[test]
+fn lanes_of_a_feed_meet(rt: HostRuntime) -> Result<(), Fail> {
+    let alloc = rt.alloc();
+    let capture = hex::decode(alloc, SKEWED)?;
+    assert_eq!(rt; capture.len(), 158);
+    let (a, b, c) = (&capture[8..58], &capture[58..108], &capture[108..158]);
+    let gate = Meeting::new();
+    let mut output = MemSink::new(alloc, 100, 100, Vec::new(alloc))?;
+    let mut sink = LinkSink::open(alloc)?;
+    let mut ear = LinkLister::open(&mut output);
+    assert_eq!(rt; sink.feed(&rt, a, b, c, [393; 3], &gate, &mut ear), Ok(()));
+    gate.expect_one_pass(&rt);
+    assert_eq!(rt; output.bytes(), TEXT);
     Ok(())
 }
 

@@ -40,6 +40,7 @@ mod ending;
 mod gate_tests;
 mod hearing;
 mod hit;
+mod laws;
 mod lister;
 mod note;
 #[cfg(test)]

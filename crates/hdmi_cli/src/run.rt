@@ -16,6 +16,7 @@ ghost use Rattle.source_end.specs.RasterRefusals.{raster_fault};
 ghost use Rattle.hdmi_cli.specs.Commands.{tap_asked};
 ghost use Rattle.hdmi_cli.specs.Headline.{TappedStream, IsTapped, AlignsBy, IsFirstOf, IsRecovered, IsRecoveredBy, IsDviTapped, IsDviRecovered};
 ghost use Rattle.hdmi_cli.specs.TrackSlip.{LineSlip, IsSlippedTap, IsNoticed, IsTrackedAcross};
+ghost use Rattle.hdmi_cli.specs.TrackPasses.{IsUnnoticed, IsTrackedAsOne};
 ghost use Rattle.hdmi_cli.specs.RelayClauses.{IsCleanToEnd, IsPassedOn, IsRelayedAgain, IsSentWithin, IsSentWithinBy};
 ghost use Rattle.hdmi_cli.specs.RelaySettles.{IsWritten, IsWrittenButBit3};
 ghost use Rattle.hdmi_cli.specs.Relays.{IsRelayed};
@@ -208,6 +209,14 @@ pub fn run<R: Threads, S: Source, K: Sink, N: Sink, G: Gate>(
         (seen (S.left input.old) (S.faults input.old) (K.held output.old) (K.faults output.old))
         (seen (S.left input.new) (S.faults input.new) (K.held output.new) (K.faults output.new)) }
 
+    // Where such a slip is not noticed, there is one epoch, and the text and the status are those of `recover link`. It is not
+    // where the lane had no lock before it, and then all is told as it was sent, from the first full alignment on; nor where
+    // the lane ends before it has twelve characters of the control period behind the line.
+    ensures track_slip_passes { IsCommand words.now RecoverTrack → (t : TappedStream) → (s : LineSlip) → (y : Fed) → IsSlippedTap t s y → IsUnnoticed t s
+        → S.left input.old ≡ Some t.bytes → Unless (IsTrackedAsOne t s y) result
+        (seen (S.left input.old) (S.faults input.old) (K.held output.old) (K.faults output.old))
+        (seen (S.left input.new) (S.faults input.new) (K.held output.new) (K.faults output.new)) }
+
     // `relay` sends on what came of the periods that were sent, from the first full alignment on, in both forms; or it ends
     // with 3 and writes nothing, where that has more than 20,000,000 columns.
     ensures relay_headline { IsCommand words.now RelayCommand → (t : TappedStream) → IsTapped t → IsSparseInPayload t.periods t.sent t.received
@@ -390,7 +399,8 @@ fn make_content<S: Source, K: Sink>(
     ensures output_later { K.faults output.old ≤ K.faults output.new }
 {
     let (mode, content) = match read_content(alloc, input) {
-        Ok(read) => read,
+        Ok(Ok(read)) => read,
+        Ok(Err(fault)) => return unrastered(fault),
         Err(ListError::Bad(fault)) => return Ending::Listing(fault),
         Err(ListError::Read) => return Ending::ReadFailed,
         Err(ListError::NoMemory) => return Ending::NoMemory,

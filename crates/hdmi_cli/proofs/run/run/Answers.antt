@@ -10,6 +10,7 @@ use Rattle.hdmi_cli.proofs.RelayHeadline.{relay_headlined, relay_headlined_anywh
 use Rattle.hdmi_cli.proofs.RelaySettles.{relay_agrees, relay_settles}
 use Rattle.hdmi_cli.proofs.TrackHeadline.{tracks_as_link}
 use Rattle.hdmi_cli.proofs.TrackSlip.{tracked_across}
+use Rattle.hdmi_cli.proofs.TrackPasses.{tracked_as_one}
 use Rattle.hdmi_cli.proofs.Pictures.{packeted, packeted_anywhere, pictured, pictured_anywhere}
 use Rattle.hdmi_cli.proofs.Sounds.{sounded, sounded_anywhere}
 use Rattle.hdmi_cli.proofs.run.run.Goals as goal
@@ -186,6 +187,12 @@ returns-clause-track_slip g c =
     let before = seen (g.S.Source.left c.args.input.now) (g.S.Source.faults c.args.input.now) (g.K.Sink.held c.args.output.now) (g.K.Sink.faults c.args.output.now) in
     let after = seen (g.S.Source.left c.carry_out-ending.new.input) (g.S.Source.faults c.carry_out-ending.new.input) (g.K.Sink.held c.carry_out-ending.new.output) (g.K.Sink.faults c.carry_out-ending.new.output) in
     tracked_across c.args.words.now c.carry_out-ending.result before after c.status.result c.carry_out-ending.ensures.ends c.status.ensures
+
+pub returns-clause-track_slip_passes : goal.returns-clause-track_slip_passes
+returns-clause-track_slip_passes g c =
+    let before = seen (g.S.Source.left c.args.input.now) (g.S.Source.faults c.args.input.now) (g.K.Sink.held c.args.output.now) (g.K.Sink.faults c.args.output.now) in
+    let after = seen (g.S.Source.left c.carry_out-ending.new.input) (g.S.Source.faults c.carry_out-ending.new.input) (g.K.Sink.held c.carry_out-ending.new.output) (g.K.Sink.faults c.carry_out-ending.new.output) in
+    tracked_as_one c.args.words.now c.carry_out-ending.result before after c.status.result c.carry_out-ending.ensures.ends c.status.ensures
 
 pub returns-clause-dvi_headline : goal.returns-clause-dvi_headline
 returns-clause-dvi_headline g c =

@@ -1,0 +1,17 @@
+//! That premises of the top call's clauses can be met. The functions do nothing: what they ensure are the laws.
+ghost use Rattle.hdmi_cli.specs.TrackExamples.{HasNoticedSlip, HasShortSlip, HasUnlockedSlip};
+
+/// A capture one lane of which lost three bits of a line, which `recover track` notices.
+pub fn noticed_slip()
+    ensures { HasNoticedSlip }
+{}
+
+/// One whose lane had no lock before them, so that they are not noticed, and whose lanes have a first full alignment.
+pub fn unlocked_slip()
+    ensures { HasUnlockedSlip }
+{}
+
+/// One whose lane ends in that line, so that they are not noticed either.
+pub fn short_slip()
+    ensures { HasShortSlip }
+{}
