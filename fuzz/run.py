@@ -3,8 +3,8 @@
 
     fuzz/run.py [--seconds S] [--seed N] [--program PROGRAM] [--limit S] [--keep FOLDER]
 
-Each case is a seed of some command's input (the examples, and captures, listings and biphase streams that are made of them)
-after some random changes: bits flipped, bytes and lines cut, repeated, moved and spliced, numbers changed, characters of the
+Each case is a seed of some command's input (the examples, captures, listings and biphase streams that are made of them, and random
+captures and listings of some blocks) after some random changes: bits flipped, bytes and lines cut, repeated, moved and spliced, numbers changed, characters of the
 lanes replaced, lanes shifted, bits of a lane left out. It is run twice, once over a file and once over a pipe that is fed in small pieces. A finding is
 
 - a run that a signal ends, or that takes longer than the limit (twice in a row),
@@ -12,8 +12,8 @@ lanes replaced, lanes shifted, bits of a lane left out. It is run twice, once ov
 - on standard error anything but the one line of the status (docs/FORMATS.md, README.md), or anything on 0 and 1,
 - an output that its status does not allow (a listing without its last line, a capture that its header does not fit),
 - a second run that answers otherwise,
-- of an input of at most 6,000 bytes, a status or an output of `check`, `slip`, `relay`, `read biphase` or of `recover track`, `dvi` or
-  `biphase` that is not the one of the small models of the formats (tests/model.py), some of them over what `recover link` writes.
+- of a capture or a stream of at most 60,000 bytes, so of six blocks, or of a listing of as many columns, another status or output than
+  that of the small models of the formats (tests/model.py, tests/hearing.py, tests/rasters.py).
 
 Case K of seed N depends on N, on K and on what the program makes of the examples, so `--seed N --first K --cases 1` runs it
 again. The last line counts executions and findings; the status is 1 where there was a finding. It is not part of the gate."""
@@ -30,9 +30,12 @@ import time
 
 TOP = os.path.dirname(os.path.dirname(os.path.abspath(__file__)))
 sys.path.insert(0, os.path.join(TOP, "tests"))
+import feeding  # noqa: E402
+import hearing  # noqa: E402
 import model  # noqa: E402
+import rasters  # noqa: E402
 
-SMALL = 6000
+SMALL = 60_000
 PROGRAM = os.path.join(TOP, "crates", "hdmi_cli", "out", "hdmi_cli")
 BLOCK = 4096
 USAGE = rb"usage: make, recover, check, damage or sample\n"
@@ -373,15 +376,18 @@ def case(seeds, seed, number):
     words = name.split(" ")
     if name == "make link":
         words += tap(rng)
-        data = changed(rng, rng.choice(seeds.listings), seeds.listings + seeds.contents, (change_text, change_text, change_bytes))
+        text = feeding.listing_of(rng, True) if rng.random() < 0.1 else rng.choice(seeds.listings)
+        data = changed(rng, text, seeds.listings + seeds.contents, (change_text, change_text, change_bytes))
     elif name == "make dvi":
         words += tap(rng)
-        data = changed(rng, rng.choice(seeds.dvi), seeds.dvi + seeds.listings, (change_text, change_text, change_bytes))
+        text = feeding.listing_of(rng, False) if rng.random() < 0.1 else rng.choice(seeds.dvi)
+        data = changed(rng, text, seeds.dvi + seeds.listings, (change_text, change_text, change_bytes))
     elif name == "read biphase":
         data = changed(rng, rng.choice(seeds.streams), seeds.streams, (change_subframes, change_bytes))
     elif name == "make content":
         words += tap(rng)
-        data = changed(rng, rng.choice(seeds.contents), seeds.listings + seeds.contents, (change_text, change_text, change_bytes))
+        text = feeding.content_of(rng) if rng.random() < 0.2 else rng.choice(seeds.contents)
+        data = changed(rng, text, seeds.listings + seeds.contents, (change_text, change_text, change_bytes))
     else:
         if name == "damage":
             words += hits(rng)
@@ -390,7 +396,8 @@ def case(seeds, seed, number):
             words.append(f"{rng.randrange(3)}:{place}:{rng.randrange(1, 10)}")
         if name == "recover biphase":
             words.append(str(rng.choice((0, 0, rng.randrange(4)))))
-        data = captured(rng, seeds) if rng.random() < 0.7 else rng.choice(seeds.captures)
+        kind = rng.random()
+        data = captured(rng, seeds) if kind < 0.6 else feeding.made_capture(rng)[0] if kind < 0.75 else rng.choice(seeds.captures)
         if rng.random() < 0.5:
             data = changed(rng, data, seeds.captures, (change_bytes,))
     if rng.random() < 0.05:
@@ -501,46 +508,82 @@ def judge(words, answer):
     return wrong_output(name, status, output, notes)
 
 
-def modelled(program, words, data):
-    """The status and the output of a case by the small models, where they know it: a whole capture, or a stream."""
+def tapped(words, columns):
+    """The capture of columns by the words of a tap, where they are of the forms that `tap` makes."""
+    given = dict(re.findall(r"--(\w+)[ =](\S+)", " ".join(words)))
+    offset, skews = int(given.get("offset", 0)), [int(it) for it in given.get("skew", "0,0,0").split(",")]
+    most, version = int(given.get("bits", 2**32)), int(given.get("version", 1))
+    skew_of = skews if version == 2 else [max(skews)] * 3
+    rows = [model.sent_bits([column[lane] for column in columns])[offset + skews[lane] :] for lane in range(3)]
+    counts = [min(max(0, 10 * len(columns) - offset - skew), most) for skew in skew_of]
+    return model.capture_of(version, [row[:count] for row, count in zip(rows, counts)])
+
+
+def made(words, text):
+    """What is made of a listing that was not refused; none where it is long."""
+    if words[1] == "content":
+        mode, frames = rasters.read(text)
+        count = sum(mode[:4]) * sum(mode[4:8]) * len(frames)
+    else:
+        count = sum(map(int, re.findall(rb"(?m)^c .. (\d+)$", text)))
+    if count > SMALL:
+        return None
+    columns = rasters.raster_of(text) if words[1] == "content" else hearing.sent_columns(text, words[1] == "link")
+    return 0, tapped(words, columns)
+
+
+def put_in(words, data):
+    """What `damage` makes of a capture."""
+    lanes = model.lanes_in(data)
+    for lane, place, value in (word.split(":") for word in words[1:]):
+        row, at = lanes[int(lane)], int(place)
+        lanes[int(lane)] = row[:at] + model.sent_bits([int(value, 16)]) + row[at + 10 :]
+    return 0, model.capture_of(int(data[3:4]), lanes)
+
+
+def modelled(words, data):
+    """The status and the output of a case by the small models, where they know it: none where they do not."""
     if words == ["read", "biphase"]:
         return model.biphase_text(data)[:2]
+    if words[0] == "make":
+        return made(words, data)
+    if words[0] == "damage":
+        return put_in(words, data)
+    lanes = model.lanes_in(data)
     if words[0] == "slip":
         lane, place, drop = map(int, words[1].split(":"))
-        return 0, model.capture_of(2, model.slipped(model.lanes_in(data), lane, place, drop))
-    lanes = model.lanes_in(data)
-    columns = model.aligned(lanes)
-
-    def link(lanes):
-        if model.aligned(lanes) is None:
-            return 7, b""
-        came = ran(program, ["recover", "link"], model.capture_of(2, lanes))
-        return came.returncode, came.stdout
-
+        return 0, model.capture_of(2, model.slipped(lanes, lane, place, drop))
     if words == ["recover", "track"]:
-        return model.tracked(lanes, link)
+        return model.tracked(lanes, hearing.link_of)
+    columns = model.aligned(lanes)
     if columns is None:
         return 7, b""
     if words == ["recover", "dvi"]:
         return model.dvi_text(columns)
-    status, listing = link(lanes)
+    if words == ["recover", "content"]:
+        return hearing.content_text(columns)
+    status, listing = hearing.link_text(columns)
+    if words == ["recover", "link"]:
+        return status, listing
     if words[:2] == ["recover", "biphase"]:
         return model.biphase_of(listing, int(words[2]))
     if words == ["relay"]:
-        return status, ran(program, ["make", "link"], model.relayed(listing)).stdout
-    faults = b"".join(line for line in listing.splitlines(True) if line.startswith((b"! ", b"cut ")))
-    return status, faults + (b"faulty\n" if status else b"clean\n")
+        return status, hearing.capture_of_columns(hearing.sent_columns(model.relayed(listing)))
+    return hearing.check_text(listing)
 
 
-MODELLED = re.compile(r"check|relay|read biphase|slip [0-2]:\d{1,10}:[1-9]|recover (?:track|dvi|biphase [0-3])")
+HIT = r"[0-2]:\d{1,10}:[0-3][0-9a-f]{2}"
+TAP = r"(?: --(?:offset|skew|bits|version)[ =][\d,]+)*"
+MODELLED = re.compile(rf"check|relay|read biphase|slip [0-2]:\d{{1,10}}:[1-9]|damage {HIT}(?: {HIT})*|make (?:link|content|dvi){TAP}|"
+                      r"recover (?:link|content|track|dvi|biphase [0-3])")
 
 
-def unlike_models(program, words, data, answer):
+def unlike_models(words, data, answer):
     """What is wrong with an answer by the small models; none where it is theirs, or where they are not asked."""
-    asked = {"read": (0, 3), "slip": (0,)}.get("".join(words[:1]), (0, 1, 7))
+    asked = {"read": (0, 3), "slip": (0,), "damage": (0,), "make": (0,)}.get("".join(words[:1]), (0, 1, 7))
     if len(data) > SMALL or answer[0] not in asked or not MODELLED.fullmatch(" ".join(words)):
         return None
-    return None if modelled(program, words, data) == answer[:2] else "another answer than that of the models"
+    return None if modelled(words, data) in (None, answer[:2]) else "another answer than that of the models"
 
 
 def found_in(program, words, data, limit, folder):
@@ -554,7 +597,7 @@ def found_in(program, words, data, limit, folder):
     found = judge(words, first) or judge(words, second)
     if found is None and first != second:
         found = "a second run that answers otherwise"
-    return found or unlike_models(program, words, data, first), first[0]
+    return found or unlike_models(words, data, first), first[0]
 
 
 def keep(folder, seed, number, words, data):
@@ -598,8 +641,9 @@ def main():
             number += 1
     for (name, status), count in sorted(ends.items(), key=str):
         print(f"{name:<16} status {status}: {count}")
-    cases = number - given.first
-    print(f"seed {given.seed}: {cases} cases, {2 * cases} executions, {findings} findings, {time.monotonic() - start:.0f} s")
+    cases, used = number - given.first, sum(os.times()[:4])
+    took = f"{time.monotonic() - start:.0f} s, {used:.0f} s of processors"
+    print(f"seed {given.seed}: {cases} cases, {2 * cases} executions, {findings} findings, {took}")
     return 1 if findings else 0
 
 

@@ -6,11 +6,10 @@ listings past each limit, closed and full devices, little memory, a reader that 
     tests/hostile.py [--program PROGRAM] [TABLE ..]
 
 PROGRAM is crates/hdmi_cli/out/hdmi_cli by default, which `rt ci` and `./vabgrot` build; the tables are those that --help
-lists, all but `long`, `most` and `texts` where none is named. Expected values are those of docs/FORMATS.md, of the small models of it in tests/model.py, and,
-where a comment says so, of another independent model of it. The last line is 'N passed, M failed'; the status is 1 where a case failed."""
+lists, all but `long`, `most` and `texts` where none is named. Expected values are those of docs/FORMATS.md and of the small models of it in
+tests/model.py, tests/hearing.py and tests/rasters.py. The last line is 'N passed, M failed'; the status is 1 where a case failed."""
 import argparse
 import functools
-import hashlib
 import itertools
 import os
 import re
@@ -18,12 +17,13 @@ import resource
 import subprocess
 import sys
 import tempfile
-import threading
 import time
 
+import hearing
 import model
+from feeding import answers, feeds
 from model import BLOCK, CONTROL, lanes_of, packed, sent
-from pouring import OPENING, PIXEL, Poured, endless, growing, long, loud, most, texts
+from pouring import OPENING, PIXEL, Poured, contents, endless, growing, long, loud, most, texts
 from program import FURTHER, LISTING, READERS, SLIP, TOP, USAGE, replaced, run
 
 KNOWN = (["make", "link"], ["make", "content"], *READERS)  # little room for the others is tried half as often
@@ -43,31 +43,6 @@ CONTENT = b"mode 2 4 30 14 1 1 1 1 0\nacr 6144 27000\ns 000001 fffffe 1 2 1 0\nr
 SOUND = ISLAND.replace(b"82020d 66000800010000 00000000000000", b"020310 56341200000000 00000001000000")
 DVI = b"c 00 12\nv ff0000\nc 00 12\nend\n"
 SLIPPED = b"c 00 4\nc 04 8\nv " + b"000000" * 30 + b"\nc 00 24\nc 04 8\nv ff0000\nc 00 12\nend\n"
-
-# What is between control columns, and for `recover link`, `recover content` and `check` the status, the number of bytes and
-# the first digits of the SHA-256 of what must be written.
-HEARD = """
-steps|1 31 8277d3fe|1 15 e70caca5|1 18 69f96864
-steps turned|1 31 8277d3fe|1 15 e70caca5|1 18 69f96864
-354|7 0 e3b0c442|7 0 e3b0c442|7 0 e3b0c442
-354 in its ten turns|1 764 06d6cfe5|1 475 4bc552f5|1 478 1eba3fab
-2ab|7 0 e3b0c442|7 0 e3b0c442|7 0 e3b0c442
-2ab in its ten turns|1 771 51251285|1 475 4bc552f5|1 478 1eba3fab
-133|1 31 8277d3fe|1 15 e70caca5|1 18 69f96864
-133 in its ten turns|1 31 8277d3fe|1 15 e70caca5|1 18 69f96864
-2cc|1 31 8277d3fe|1 15 e70caca5|1 18 69f96864
-2cc in its ten turns|1 31 8277d3fe|1 15 e70caca5|1 18 69f96864
-000|1 31 8277d3fe|1 15 e70caca5|1 18 69f96864
-000 in its ten turns|1 31 8277d3fe|1 15 e70caca5|1 18 69f96864
-3ff|1 31 8277d3fe|1 15 e70caca5|1 18 69f96864
-3ff in its ten turns|1 31 8277d3fe|1 15 e70caca5|1 18 69f96864
-a line of steps|1 1289 38375963|1 40 1e0b0409|1 43 6f99879e
-a line of guards|0 5429 eef56c67|0 4 48332fe6|0 6 2e22da2a
-a line of turns|1 665 aba4f414|1 40 1e0b0409|1 43 6f99879e
-a island of steps|1 966 75af6803|1 327 722eed9e|1 330 1facabd5
-a island of guards|1 58 eb9d91d9|1 26 e4049cba|1 29 b6590c56
-a island of turns|1 434 2da2e2e4|1 101 1aada626|1 104 454acd8a
-"""
 
 
 def turned(word, by):
@@ -186,8 +161,7 @@ def lanes(program):
 
 
 def heard(program):
-    """The same between two stretches of control columns, where they are heard. The status and the digest of the output that
-    are wanted are those of an independent model of docs/FORMATS.md."""
+    """The same between two stretches of control columns, where they are heard."""
     quiet, opening = [0x354] * 24, ([0x354, 0x0AB, 0x354], [0x2CC, 0x133, 0x2CC], [0x28E, 0x133, 0x133], [0x354, 0x0AB, 0x0AB])
     steps = [int.from_bytes(bytes(range(256)), "little") >> 10 * at & 0x3FF for at in range(204)]
     middles = {"steps": [steps] * 3, "steps turned": [steps, steps[::-1], steps[68:] + steps[:68]]}
@@ -199,35 +173,17 @@ def heard(program):
         middles[f"a {name} of steps"] = [more + middle for more, middle in zip(opened, [steps] * 3)]
         middles[f"a {name} of guards"] = [more + [opening[before[-1]][lane]] * 900 for lane, more in enumerate(opened)]
         middles[f"a {name} of turns"] = [more + [turned(0x2CC, by) for by in range(10)] * 10 for more in opened]
-    wanted = {row.split("|")[0]: row.split("|")[1:] for row in HEARD.strip().split("\n")}
     for name, rows in middles.items():
-        data = lanes_of([sent(quiet + row + quiet, (48 + len(row)) * 10 // 8) for row in rows])
-        for words, want in zip(READERS, wanted[name]):
-            status, output, notes = run(program, words, data)
-            came = f"{status} {len(output)} {hashlib.sha256(output).hexdigest()[:8]}"
-            yield f"{words} of {name}", (came, notes), (want, b"no alignment\n" if status == 7 else b"")
-        yield from further(program, name, data)
+        yield from answered(program, name, lanes_of([sent(quiet + row + quiet, (48 + len(row)) * 10 // 8) for row in rows]))
 
 
-def further(program, name, data):
-    """The commands that hear a capture in another way, by small models and by what `recover link` writes. What is relayed
-    is clean, and a relay of it is the same again but for the columns before the last twelve of its first control period."""
-    link = functools.partial(linked, program)
-    lanes = model.lanes_in(data)
-    status, listing = link(lanes)
-    columns = model.aligned(lanes)
-    faults = b"".join(line for line in listing.splitlines(True) if line.startswith((b"! ", b"cut ")))
-    wanted = (status, faults + (b"faulty\n" if status else b"clean\n")) if columns else (7, b"")
-    yield f"check of {name}", run(program, ["check"], data)[:2], wanted
-    yield f"recover track of {name}", run(program, FURTHER[0], data)[:2], model.tracked(lanes, link)
-    yield f"recover dvi of {name}", run(program, FURTHER[1], data)[:2], model.dvi_text(columns) if columns else (7, b"")
-    for pair in range(4):
-        wanted = model.biphase_of(listing, pair) if columns else (7, b"")
-        yield f"recover biphase {pair} of {name}", run(program, ["recover", "biphase", str(pair)], data)[:2], wanted
-    once = run(program, FURTHER[3], data)[:2]
-    wanted = (status, run(program, ["make", "link"], model.relayed(listing))[1]) if columns else (7, b"")
-    yield f"relay of {name}", once, wanted
-    if not columns:
+def answered(program, name, data):
+    """Each command that hears a capture, by the small models. What is relayed is clean, and a relay of it is the same again but for
+    the columns before the last twelve of its first control period."""
+    for words, wanted in answers(model.lanes_in(data)):
+        yield f"{words} of {name}", run(program, words, data), (*wanted, b"no alignment\n" if wanted[0] == 7 else b"")
+    once = run(program, FURTHER[3], data)
+    if once[0] == 7:
         return
     is_quiet = model.aligned(model.lanes_in(once[1])) is None
     yield f"check of a relay of {name}", run(program, ["check"], once[1])[:2], (7, b"") if is_quiet else (0, b"clean\n")
@@ -237,11 +193,6 @@ def further(program, name, data):
     yield f"relay of a relay of {name}", twice[:2], (7, b"") if is_quiet else (0, model.capture_of(1, rows))
     if not is_quiet:
         yield f"relay of relays of {name}", run(program, FURTHER[3], twice[1]), twice
-
-
-def linked(program, lanes):
-    """The status and the output of `recover link` of some bits. It is not asked where there is no full alignment."""
-    return run(program, ["recover", "link"], model.capture_of(2, lanes))[:2] if model.aligned(lanes) else (7, b"")
 
 
 def slips(program):
@@ -262,7 +213,7 @@ def slips(program):
 
 def tracks(program, lanes):
     """What is tracked behind a slip at each place, and in lanes that slip every 130 bits, in each length, alone and all."""
-    once = functools.cache(lambda *bits: linked(program, bits))
+    once = functools.cache(lambda *bits: hearing.link_of(bits))  # the bits before a slip come again and again
     for place, more in itertools.product(range(len(lanes[0])), (0, 4)):
         lane, drop = (place + more) % 3, 1 + (place + more) % 9
         bits = model.slipped(lanes, lane, place, drop)
@@ -291,7 +242,7 @@ def worn_out(program):
         came = run(program, FURTHER[0], data)
         after = resource.getrusage(resource.RUSAGE_CHILDREN)
         took = after.ru_utime + after.ru_stime - before.ru_utime - before.ru_stime
-        wanted = model.tracked(bits, functools.partial(linked, program))
+        wanted = model.tracked(bits, hearing.link_of)
         yield f"recover track of 500 slips on {hit}", came, (*wanted, b"")
         yield f"the time of it, {took:.1f} s of a core", took < 5, True
 
@@ -361,18 +312,18 @@ def relays(program):
     lanes = model.lanes_in(data)
     for count in (1, 2, 17, 18, 19, 20, 37):
         bits = [row[: 10 * 14] + (row[140:460] if count else "") + row[460:780] * (count - 1) + row[780:] for row in lanes]
-        status, listing = linked(program, bits)
+        status, listing, _ = run(program, READERS[0], model.capture_of(1, bits))
         islands = text.replace(text.split(b"\n")[3] + b"\n", b"")
         islands = islands.replace(b"i 00\n", b"i 00\n" + (text.split(b"\n")[3] + b"\n") * min(count, 18))
         wanted = (int(count > 18), run(program, ["make", "link"], islands)[1], b"")
         came, is_long = (status, listing.count(b"\np "), listing.count(b"! longisland")), int(count > 18)
         yield f"packets of an island of {count}", came, (is_long, count, is_long)
         yield f"relay of an island of {count} packets", run(program, FURTHER[3], model.capture_of(1, bits)), wanted
-        yield from further(program, f"an island of {count} packets", model.capture_of(1, bits))
+        yield from answered(program, f"an island of {count} packets", model.capture_of(1, bits))
     for place in range(0, 10 * 82, 30):
         hits = [f"{lane}:{at}:{value}" for at, value in ((place, "2aa"), (place + 50, "0ab")) for lane in range(3)]
         hurt = run(program, ["damage", *hits[: 1 + place // 30 % 6]], data)[1]
-        yield from further(program, f"an island with damage from {place} on", hurt)
+        yield from answered(program, f"an island with damage from {place} on", hurt)
     yield from grown(program)
 
 
@@ -651,8 +602,8 @@ def in_room(program, words, source, room):
 
 
 def main(arguments):
-    every = (headers, prefixes, cut_texts, operands, lanes, heard, slips, streams, relays, listings, longest, devices, full, pipes, memory)
-    every += NAMED
+    every = (headers, prefixes, cut_texts, operands, lanes, heard, slips, streams, relays, feeds)
+    every += (listings, contents, longest, devices, full, pipes, memory, *NAMED)
     tables = {table.__name__: table for table in every}
     reader = argparse.ArgumentParser(description=__doc__, formatter_class=argparse.RawDescriptionHelpFormatter)
     reader.add_argument("--program", default=f"{TOP}/crates/hdmi_cli/out/hdmi_cli")

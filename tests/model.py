@@ -311,7 +311,7 @@ def aligned(lanes):
     """The columns from the first full alignment on; none where there is none."""
     found = [list(edges(bits)) for bits in lanes]
     for last in sorted(itertools.chain(*found)):
-        near = [[edge for edge in lane if last - 70 <= edge <= last] for lane in found]
+        near = [lane[bisect.bisect_left(lane, last - 70) : bisect.bisect_right(lane, last)] for lane in found]
         if all(near):
             rows = [bits[edge[0] - 120 :] for bits, edge in zip(lanes, near)]
             rows = [[int(row[at : at + 10][::-1], 2) for at in range(0, len(row) - 9, 10)] for row in rows]

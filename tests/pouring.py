@@ -46,26 +46,35 @@ def growing(size):
     yield from itertools.repeat(body, size // len(body))
 
 
-TINY = b"mode 1 4 30 14 1 1 1 1 0\n", b"row 000000\nframe 1 1\n", b"end\n"
+# Contents that have no raster, or more columns than one may have: the mode, a part of which there are as many as asked for, how many
+# lines that has, and the note. What a text of 4 GB of these is refused for is known after some MB of it at most.
+ENDLESS = {
+    "frames of one pixel": (b"mode 1 4 30 14 1 1 1 1 0\n", b"row 000000\nframe 1 1\n", 2, b"long"),
+    "frames of one pixel and one packet": (b"mode 1 4 30 14 1 1 1 1 0\n", b"acr 6144 27000\nrow 000000\nframe 1 1\n", 3, b"long"),
+    "packets that have no room": (b"mode 1 1 1 14 1 1 1 1 0\n", b"gcp 1 0 4\nrow 000000\nframe 1 1\n", 3, b"noroom 0 0"),
+    "rows that have no mode": (b"mode 5000 4 30 14 1 1 1 1 0\n", b"row " + b"0a141e" * 5000 + b"\nframe 5000 1\n", 2, b"mode 0"),
+    "pictures": (b"mode 400 4 30 14 60 1 1 1 0\n", (b"row " + b"0a141e" * 400 + b"\n") * 60 + b"frame 400 60\n", 61, b"long"),
+}
+END = b"end\n"
 
 
-def tiny_frames(count):
-    """The pieces of a content of so many frames of one pixel."""
-    mode, frame, end = TINY
+def repeated(mode, part, count):
+    """The pieces of a content with so many parts."""
     yield mode
-    for _ in range(count // 10_000):
-        yield frame * 10_000
-    yield frame * (count % 10_000)
-    yield end
+    most = max(1, 200_000 // len(part))
+    for _ in range(count // most):
+        yield part * most
+    yield part * (count % most)
+    yield END
 
 
 class Poured:
     """A run that is fed by a pipe: its status and notes, how many bytes went in and came out, and the greatest memory that was
     seen, in KiB."""
 
-    def __init__(self, program, words, pieces, taken=None, held=False, room=None):
+    def __init__(self, program, words, pieces, taken=None, held=False, room=None, seconds=120):
         """Its reader goes away after so many bytes, if at all; the pipe may be held open behind the last piece, for a minute
-        at most; the program has so many KiB of addresses, if that is given."""
+        at most; the program has so many KiB of addresses, if that is given, and so many seconds from its last byte on."""
         bound = None if room is None else lambda: resource.setrlimit(resource.RLIMIT_AS, (room * 1024, room * 1024))
         pipes = {name: subprocess.PIPE for name in ("stdin", "stdout", "stderr")}
         self.process = subprocess.Popen([program, *words], preexec_fn=bound, **pipes)
@@ -78,7 +87,7 @@ class Poured:
         self.take(taken)
         self.process.stdout.close()
         self.notes = self.process.stderr.read()
-        self.status = self.process.wait(120)
+        self.status = self.process.wait(seconds)
         self.held.set()
         feeder.join()
 
@@ -111,6 +120,20 @@ class Poured:
             pass
 
 
+def refused(program, name, count, cause, room):
+    """A content of so many parts, which is refused in so many MiB of addresses, and of which nothing is written."""
+    mode, part, _, _ = ENDLESS[name]
+    ran = Poured(program, ["make", "content"], repeated(mode, part, count), room=room * 1024, seconds=600)
+    came = ran.status, ran.notes, ran.came
+    return f"make content of {count} {name} in {room} MiB: after {ran.gone} bytes, {ran.peak} KiB", came, (3, b"input: " + cause + b"\n", 0)
+
+
+def contents(program):
+    """Contents of 120 MB that have no raster, or more columns than one may have."""
+    for name, (_, part, _, cause) in ENDLESS.items():
+        yield refused(program, name, 120_000_000 // len(part), cause, 200)
+
+
 # ---- the tables that are run only where they are named
 
 def long(program):
@@ -134,13 +157,14 @@ def most(program):
 
 
 def texts(program):
-    """Contents of frames of one pixel, in 400 MiB of addresses: as many bytes as a text may have, and one frame more. They are
-    refused, or there is no room for what is kept of them; nothing is written."""
-    mode, frame, end = map(len, TINY)
-    most = (MOST_TEXT - mode - end) // frame
-    passed = 1 + 2 * most + 2  # the second line of the frame that is one too many has the byte that passes the limit
-    for count, note in ((most, b"long"), (most + 1, b"line %d long" % passed)):
-        ran = Poured(program, ["make", "content"], tiny_frames(count), room=400 * 1024)
-        allowed = (3, b"input: " + note + b"\n", 0), (6, b"out of memory\n", 0)
-        came = ran.status, ran.notes, ran.came
-        yield f"make content of {count} frames: {came} after {ran.gone} bytes", came in allowed, True
+    """Contents of as many bytes as a text may have, and of one part more."""
+    for name, (mode, part, lines, cause) in ENDLESS.items():
+        most = (MOST_TEXT - len(mode) - len(END)) // len(part)
+        passed = 1 + lines * most + passing(part, MOST_TEXT - len(mode) - most * len(part))
+        yield refused(program, name, most, cause, 400)
+        yield refused(program, name, most + 1, b"line %d long" % passed, 400)
+
+
+def passing(part, room):
+    """Which line of a part has the byte that is one more than there is room for."""
+    return part[:room].count(b"\n") + 1

@@ -5,6 +5,7 @@
 //   REFUSE_AT     N, counted from 1; 0 refuses none
 //   REFUSE_ON     1: each from the Nth on
 //   REFUSE_PIECE  the most bytes of a read or a write
+//   REFUSE_SEED   other than 0: each read and each write has a random size of at most REFUSE_PIECE bytes
 //   REFUSE_TOLD   the file of the numbers
 #define _GNU_SOURCE
 #include <dlfcn.h>
@@ -27,6 +28,7 @@ static int refused_kind = -1;
 static long refused_at;
 static int refused_on;
 static size_t piece = (size_t)-1;
+static unsigned long seed;
 static int begun;  // requests before `main` are the loader's and the C library's, and do not count
 
 extern void *__libc_malloc(size_t);
@@ -58,12 +60,22 @@ int posix_memalign(void **into, size_t align, size_t size) {
     return 0;
 }
 
+// How many bytes a call of this size moves. Reads and writes come from one thread.
+static size_t cut(size_t size) {
+    size_t most = piece;
+    if (seed != 0) {
+        seed = seed * 6364136223846793005u + 1442695040888963407u;
+        most = 1 + (seed >> 33) % piece;
+    }
+    return size < most ? size : most;
+}
+
 ssize_t read(int file, void *into, size_t size) {
     if (refuses(READ)) {
         errno = EIO;
         return -1;
     }
-    return syscall(SYS_read, file, into, size < piece ? size : piece);
+    return syscall(SYS_read, file, into, cut(size));
 }
 
 ssize_t write(int file, const void *from, size_t size) {
@@ -72,7 +84,7 @@ ssize_t write(int file, const void *from, size_t size) {
         errno = EIO;
         return -1;
     }
-    return syscall(SYS_write, file, from, size < piece ? size : piece);
+    return syscall(SYS_write, file, from, cut(size));
 }
 
 int pthread_create(pthread_t *thread, const pthread_attr_t *how, void *(*body)(void *), void *given) {
@@ -94,6 +106,7 @@ __attribute__((constructor)) static void begin(void) {
     refused_at = number_of("REFUSE_AT");
     refused_on = number_of("REFUSE_ON") == 1;
     if (number_of("REFUSE_PIECE") > 0) piece = (size_t)number_of("REFUSE_PIECE");
+    seed = (unsigned long)number_of("REFUSE_SEED");
     begun = 1;
 }
 

@@ -1,6 +1,7 @@
 #!/usr/bin/env python3
 """Runs each command of the built program while one request of it is refused: each request of memory in turn, each thread,
-each read and each write, the last two also where a call moves one byte or seven at most.
+each read and each write, the last two also where a call moves one byte or seven at most; and over inputs of some blocks, where
+each call moves a random number of bytes.
 
     tests/refused.py [PROGRAM]      PROGRAM is crates/hdmi_cli/out/hdmi_cli by default, which `rt ci` and `./vabgrot` build
 
@@ -11,13 +12,16 @@ before it writes has written nothing on 4; one that writes while it reads has ta
 it has read nothing on 6. The last line is 'N passed, M failed', its exit status 1 where a case failed."""
 import collections
 import os
+import random
 import shutil
 import subprocess
 import sys
 import tempfile
 
-from hostile import SILENT, sources
-from program import TOP
+import feeding
+import model
+from hostile import SILENT, frames, sources
+from program import FURTHER, READERS, SLIP, TOP
 
 KINDS = ("memory", "read", "write", "thread")
 
@@ -30,9 +34,9 @@ class Refusing:
         words = ["cc", "-O1", "-shared", "-fPIC", "-o", self.library, f"{TOP}/tests/refuse.c", "-ldl"]
         subprocess.run(words, check=True)
 
-    def run(self, words, source, kind="", at=0, on=False, piece=0):
+    def run(self, words, source, kind="", at=0, on=False, piece=0, seed=0):
         """The status, the output and the notes where request `at` of a kind is refused (`on`: and each later one)."""
-        asked = {"KIND": kind, "AT": at, "ON": int(on), "PIECE": piece, "TOLD": self.told}
+        asked = {"KIND": kind, "AT": at, "ON": int(on), "PIECE": piece, "SEED": seed, "TOLD": self.told}
         given = {**os.environ, "LD_PRELOAD": self.library, **{f"REFUSE_{name}": str(it) for name, it in asked.items()}}
         ran = subprocess.run([self.program, *words], input=source, capture_output=True, timeout=60, env=given)
         return ran.returncode, ran.stdout, ran.stderr
@@ -76,6 +80,31 @@ def of_command(it, words, source, counted):
                 yield f"{words} in pieces of {piece}, {kind} {at}", is_part(came, whole, status, note) and not (silent and came[1]), came
 
 
+def in_pieces(it):
+    """Each command over inputs of some blocks, whole and in reads and writes of random sizes."""
+    for case in range(8):
+        rng = random.Random(f"pieces {case}")
+        data, _ = feeding.made_capture(rng)
+        inputs = [(words, data) for words in (*READERS, *FURTHER, SLIP)]
+        inputs += [(["make", name], feeding.listing_of(rng, name == "link")) for name in ("link", "dvi")]
+        inputs += [(["make", "content"], frames(20, 1 + case)), (["read", "biphase"], model.frame((case, 5, 0, 7, 1)) * 700)]
+        for words, source in inputs:
+            whole = it.run(words, source)
+            for seed, piece in enumerate((3, 50, 5000), 1 + case):
+                came = it.run(words, source, piece=piece, seed=seed)
+                yield f"{words} in random pieces of at most {piece}, case {case}", came == whole and whole[0] in (0, 1, 7), came
+
+
+def cases(it):
+    """Each case: its name, whether it went well, and what came. What was refused is told command by command."""
+    for words, source in sources(it.program):
+        counted = collections.Counter()
+        yield from of_command(it, words, source, counted)
+        for (kind, status, note), count in sorted(counted.items()):
+            print(f"{' '.join(words)}, {kind}: {count} with status {status} {note.decode().strip()}", flush=True)
+    yield from in_pieces(it)
+
+
 def main(arguments):
     program = os.path.abspath(arguments[0] if arguments else f"{TOP}/crates/hdmi_cli/out/hdmi_cli")
     if not os.path.isfile(program):
@@ -85,17 +114,12 @@ def main(arguments):
         return 0
     failed = passed = 0
     with tempfile.TemporaryDirectory() as folder:
-        it = Refusing(program, folder)
-        for words, source in sources(program):
-            counted = collections.Counter()
-            for name, right, came in of_command(it, words, source, counted):
-                if right:
-                    passed += 1
-                else:
-                    failed += 1
-                    print(f"{name}: {came!r:.500} came")
-            for (kind, status, note), count in sorted(counted.items()):
-                print(f"{' '.join(words)}, {kind}: {count} with status {status} {note.decode().strip()}", flush=True)
+        for name, right, came in cases(Refusing(program, folder)):
+            if right:
+                passed += 1
+            else:
+                failed += 1
+                print(f"{name}: {came!r:.500} came")
     print(f"{passed} passed, {failed} failed")
     return 1 if failed else 0
 
