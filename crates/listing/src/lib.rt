@@ -36,6 +36,4 @@ pub use lister::LinkLister;
 pub use read::{read_content, read_dvi, read_link};
 
 #[cfg(test)]
-mod content_tests;
-#[cfg(test)]
 mod tests;

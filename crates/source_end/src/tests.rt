@@ -1,10 +1,13 @@
 //! Lists with each fault, and the columns of three streams, compared with values that were computed
 //! apart from this crate.
-ghost use Rattle.std.specs.Prelude.{◌≡◌, [], IsOk};
+ghost use Rattle.std.specs.Prelude.{◌≡◌, [], IfOk, false};
+ghost use Rattle.source_end.specs.DviPeriods.{is_island};
+ghost use Rattle.source_end.specs.ItemPeriods.{period_of};
 
-use crate::{Island, Item, ItemFault, Items, Pixels, Run, Runs, Stream};
+use crate::{Island, Item, Items, Pixels, Run, Runs};
 use island_pack::Packet;
 use outside_io::NoMemory;
+use rows::{LISTS, RUNS, SPELLED};
 use std::alloc::Global;
 use std::process::Abort;
 use std::test::*;
@@ -12,409 +15,72 @@ use tmds_word::{ColumnSink, Word};
 
 mod dvi;
 mod rasters;
+mod rows;
 
-/// The columns of the red pixel between two control periods.
-static RED: [[u16; 3]; 27] = [
-    [0x354, 0x354, 0x354],
-    [0x354, 0x354, 0x354],
-    [0x354, 0x354, 0x354],
-    [0x354, 0x354, 0x354],
-    [0x354, 0x0ab, 0x354],
-    [0x354, 0x0ab, 0x354],
-    [0x354, 0x0ab, 0x354],
-    [0x354, 0x0ab, 0x354],
-    [0x354, 0x0ab, 0x354],
-    [0x354, 0x0ab, 0x354],
-    [0x354, 0x0ab, 0x354],
-    [0x354, 0x0ab, 0x354],
-    [0x2cc, 0x133, 0x2cc],
-    [0x2cc, 0x133, 0x2cc],
-    [0x100, 0x100, 0x200],
-    [0x354, 0x354, 0x354],
-    [0x354, 0x354, 0x354],
-    [0x354, 0x354, 0x354],
-    [0x354, 0x354, 0x354],
-    [0x354, 0x354, 0x354],
-    [0x354, 0x354, 0x354],
-    [0x354, 0x354, 0x354],
-    [0x354, 0x354, 0x354],
-    [0x354, 0x354, 0x354],
-    [0x354, 0x354, 0x354],
-    [0x354, 0x354, 0x354],
-    [0x354, 0x354, 0x354],
-];
-
-/// The columns of four pixels between control periods of other values.
-static ROW: [[u16; 3]; 31] = [
-    [0x2ab, 0x154, 0x2ab],
-    [0x2ab, 0x154, 0x2ab],
-    [0x2ab, 0x154, 0x2ab],
-    [0x2ab, 0x154, 0x2ab],
-    [0x2ab, 0x154, 0x2ab],
-    [0x2ab, 0x0ab, 0x354],
-    [0x2ab, 0x0ab, 0x354],
-    [0x2ab, 0x0ab, 0x354],
-    [0x2ab, 0x0ab, 0x354],
-    [0x2ab, 0x0ab, 0x354],
-    [0x2ab, 0x0ab, 0x354],
-    [0x2ab, 0x0ab, 0x354],
-    [0x2ab, 0x0ab, 0x354],
-    [0x2cc, 0x133, 0x2cc],
-    [0x2cc, 0x133, 0x2cc],
-    [0x267, 0x1ec, 0x10e],
-    [0x300, 0x200, 0x37f],
-    [0x0ff, 0x0ff, 0x200],
-    [0x1f0, 0x1f0, 0x1f0],
-    [0x154, 0x354, 0x354],
-    [0x154, 0x354, 0x354],
-    [0x154, 0x354, 0x354],
-    [0x0ab, 0x354, 0x2ab],
-    [0x0ab, 0x354, 0x2ab],
-    [0x0ab, 0x354, 0x2ab],
-    [0x0ab, 0x354, 0x2ab],
-    [0x0ab, 0x354, 0x2ab],
-    [0x0ab, 0x354, 0x2ab],
-    [0x0ab, 0x354, 0x2ab],
-    [0x0ab, 0x354, 0x2ab],
-    [0x0ab, 0x354, 0x2ab],
-];
-
-/// The columns of two Null packets between control periods, each with how often it comes: the sync
-/// values are 0 in the first packet, 2 in the second, and 0 to 3 in the guard columns.
-static NULLS: [([u16; 3], u32); 10] = [
-    ([0x354, 0x354, 0x354], 4),
-    ([0x354, 0x0ab, 0x0ab], 8),
-    ([0x28e, 0x133, 0x133], 1),
-    ([0x271, 0x133, 0x133], 1),
-    ([0x29c, 0x29c, 0x29c], 1),
-    ([0x2cc, 0x29c, 0x29c], 31),
-    ([0x19c, 0x29c, 0x29c], 32),
-    ([0x163, 0x133, 0x133], 1),
-    ([0x2c3, 0x133, 0x133], 1),
-    ([0x354, 0x354, 0x354], 12),
-];
-
-/// An item of a list: the runs of a control period, the pixels of a video data period, or a data
-/// island.
-#[derive(Clone, Copy)]
-enum Given {
-    Control(&'static [(u8, u32)]),
-    Video(&'static [[u8; 3]]),
-    /// So many black pixels.
-    Black(u32),
-    /// Opening guard columns, the sync value of each Null packet, and closing guard columns.
-    Island([u8; 2], &'static [u8], [u8; 2]),
-    /// So many Null packets, each sync value 0.
-    Nulls(u32),
-}
-
-/// A control period that ends with the preamble.
-static START: Given = Given::Control(&[(0, 4), (4, 8)]);
-
-/// A control period that ends with the island preamble.
-static LEAD: Given = Given::Control(&[(0, 4), (20, 8)]);
-
-/// Items, what the last one's push answers, and what the list's close then answers: its columns or
-/// its fault.
-struct Row {
-    items: &'static [Given],
-    push: Result<(), ItemFault>,
-    close: Result<u32, ItemFault>,
-}
-
-/// Lists with each fault, in the order in which the faults are tried.
-static ROWS: [Row; 40] = [
-    Row {
-        items: &[Given::Control(&[(64, 1)])],
-        push: Err(ItemFault::Range),
-        close: Err(ItemFault::Order),
-    },
-    Row {
-        items: &[Given::Control(&[(0, 0)])],
-        push: Err(ItemFault::Range),
-        close: Err(ItemFault::Order),
-    },
-    Row {
-        items: &[Given::Control(&[(0, 12), (0, 20_000_001)])],
-        push: Err(ItemFault::Range),
-        close: Err(ItemFault::Order),
-    },
-    Row {
-        items: &[Given::Black(0)],
-        push: Err(ItemFault::Range),
-        close: Err(ItemFault::Order),
-    },
-    Row {
-        items: &[Given::Black(1)],
-        push: Err(ItemFault::Order),
-        close: Err(ItemFault::Order),
-    },
-    Row {
-        items: &[Given::Control(&[(0, 4), (4, 8)])],
-        push: Ok(()),
-        close: Ok(12),
-    },
-    Row {
-        items: &[
-            Given::Control(&[(0, 4), (4, 8)]),
-            Given::Control(&[(0, 12)]),
-        ],
-        push: Err(ItemFault::Order),
-        close: Ok(12),
-    },
-    Row {
-        items: &[Given::Control(&[(0, 3), (4, 8)]), Given::Black(1)],
-        push: Err(ItemFault::Control),
-        close: Err(ItemFault::Control),
-    },
-    Row {
-        items: &[Given::Control(&[(4, 11)]), Given::Black(1)],
-        push: Err(ItemFault::Control),
-        close: Err(ItemFault::Control),
-    },
-    Row {
-        items: &[Given::Control(&[(0, 5), (4, 7)]), Given::Black(1)],
-        push: Err(ItemFault::Preamble),
-        close: Ok(12),
-    },
-    Row {
-        items: &[Given::Control(&[(4, 12), (0, 1)]), Given::Black(1)],
-        push: Err(ItemFault::Preamble),
-        close: Ok(13),
-    },
-    Row {
-        items: &[Given::Control(&[(0, 4), (36, 8)]), Given::Black(1)],
-        push: Err(ItemFault::Preamble),
-        close: Ok(12),
-    },
-    Row {
-        items: &[
-            Given::Control(&[(0, 4), (4, 3), (7, 1), (6, 4)]),
-            Given::Black(1),
-        ],
-        push: Ok(()),
-        close: Err(ItemFault::Order),
-    },
-    Row {
-        items: &[Given::Control(&[(0, 4), (4, 8)]), Given::Black(4097)],
-        push: Err(ItemFault::Range),
-        close: Ok(12),
-    },
-    Row {
-        items: &[Given::Control(&[(0, 4), (4, 8)]), Given::Black(4096)],
-        push: Ok(()),
-        close: Err(ItemFault::Order),
-    },
-    Row {
-        items: &[Given::Control(&[(4, 20_000_000)]), Given::Black(1)],
-        push: Err(ItemFault::Long),
-        close: Ok(20_000_000),
-    },
-    Row {
-        items: &[Given::Control(&[(4, 19_999_997)]), Given::Black(1)],
-        push: Ok(()),
-        close: Err(ItemFault::Order),
-    },
-    Row {
-        items: &[Given::Control(&[(4, 20_000_000), (4, 1)])],
-        push: Err(ItemFault::Long),
-        close: Err(ItemFault::Order),
-    },
-    Row {
-        items: &[
-            Given::Control(&[(0, 4), (4, 8)]),
-            Given::Black(1),
-            Given::Black(1),
-        ],
-        push: Err(ItemFault::Order),
-        close: Err(ItemFault::Order),
-    },
-    Row {
-        items: &[
-            Given::Control(&[(0, 4), (4, 8)]),
-            Given::Black(1),
-            Given::Control(&[(0, 11)]),
-        ],
-        push: Ok(()),
-        close: Err(ItemFault::Control),
-    },
-    Row {
-        items: &[
-            Given::Control(&[(0, 4), (4, 8)]),
-            Given::Black(1),
-            Given::Control(&[(0, 12)]),
-        ],
-        push: Ok(()),
-        close: Ok(27),
-    },
-    Row {
-        items: &[
-            Given::Control(&[(0, 4), (4, 8)]),
-            Given::Black(1),
-            Given::Control(&[(0, 12)]),
-            Given::Black(1),
-        ],
-        push: Err(ItemFault::Preamble),
-        close: Ok(27),
-    },
-    Row {
-        items: &[Given::Nulls(1)],
-        push: Err(ItemFault::Order),
-        close: Err(ItemFault::Order),
-    },
-    Row {
-        items: &[Given::Control(&[(0, 4), (20, 8)]), Given::Nulls(1)],
-        push: Ok(()),
-        close: Err(ItemFault::Order),
-    },
-    Row {
-        items: &[
-            Given::Control(&[(0, 4), (20, 8)]),
-            Given::Nulls(1),
-            Given::Control(&[(0, 12)]),
-        ],
-        push: Ok(()),
-        close: Ok(60),
-    },
-    Row {
-        items: &[
-            Given::Control(&[(0, 4), (20, 8)]),
-            Given::Nulls(18),
-            Given::Control(&[(0, 12)]),
-        ],
-        push: Ok(()),
-        close: Ok(604),
-    },
-    Row {
-        items: &[Given::Control(&[(0, 4), (20, 8)]), Given::Nulls(0)],
-        push: Err(ItemFault::Range),
-        close: Ok(12),
-    },
-    Row {
-        items: &[Given::Control(&[(0, 4), (20, 8)]), Given::Nulls(19)],
-        push: Err(ItemFault::Range),
-        close: Ok(12),
-    },
-    Row {
-        items: &[
-            Given::Control(&[(0, 4), (20, 8)]),
-            Given::Island([0, 4], &[0], [0, 0]),
-        ],
-        push: Err(ItemFault::Range),
-        close: Ok(12),
-    },
-    Row {
-        items: &[
-            Given::Control(&[(0, 4), (20, 8)]),
-            Given::Island([0, 0], &[0], [4, 0]),
-        ],
-        push: Err(ItemFault::Range),
-        close: Ok(12),
-    },
-    Row {
-        items: &[
-            Given::Control(&[(0, 4), (20, 8)]),
-            Given::Island([3, 3], &[3, 4], [3, 3]),
-        ],
-        push: Err(ItemFault::Range),
-        close: Ok(12),
-    },
-    Row {
-        items: &[
-            Given::Control(&[(0, 4), (20, 8)]),
-            Given::Nulls(1),
-            Given::Nulls(1),
-        ],
-        push: Err(ItemFault::Order),
-        close: Err(ItemFault::Order),
-    },
-    Row {
-        items: &[
-            Given::Control(&[(0, 4), (20, 8)]),
-            Given::Nulls(1),
-            Given::Black(1),
-        ],
-        push: Err(ItemFault::Order),
-        close: Err(ItemFault::Order),
-    },
-    Row {
-        items: &[
-            Given::Control(&[(0, 4), (4, 8)]),
-            Given::Black(1),
-            Given::Nulls(1),
-        ],
-        push: Err(ItemFault::Order),
-        close: Err(ItemFault::Order),
-    },
-    Row {
-        items: &[Given::Control(&[(20, 11)]), Given::Nulls(1)],
-        push: Err(ItemFault::Control),
-        close: Err(ItemFault::Control),
-    },
-    Row {
-        items: &[Given::Control(&[(0, 4), (4, 8)]), Given::Nulls(1)],
-        push: Err(ItemFault::Preamble),
-        close: Ok(12),
-    },
-    Row {
-        items: &[Given::Control(&[(0, 4), (20, 8)]), Given::Black(1)],
-        push: Err(ItemFault::Preamble),
-        close: Ok(12),
-    },
-    Row {
-        items: &[Given::Control(&[(0, 5), (20, 7)]), Given::Nulls(1)],
-        push: Err(ItemFault::Preamble),
-        close: Ok(12),
-    },
-    Row {
-        items: &[Given::Control(&[(20, 19_999_965)]), Given::Nulls(1)],
-        push: Err(ItemFault::Long),
-        close: Ok(19_999_965),
-    },
-    Row {
-        items: &[Given::Control(&[(20, 19_999_964)]), Given::Nulls(1)],
-        push: Ok(()),
-        close: Err(ItemFault::Order),
-    },
-];
-
-/// The item that a table gives.
-fn item(alloc: Global, given: Given) -> Result<Item, NoMemory> {
-    let mut runs = Runs::new(alloc);
-    let mut pixels = Pixels::new(alloc);
-    match given {
-        Given::Control(list) => {
-            for &(value, count) in list {
-                runs.push(Run { value, count })?;
-            }
-            return Ok(Item::Control(runs));
-        }
-        Given::Video(list) => {
-            for &[red, green, blue] in list {
-                pixels.push(red, green, blue)?;
-            }
-        }
-        Given::Black(count) => {
-            for _ in 0..count {
-                pixels.push(0, 0, 0)?;
-            }
-        }
-        Given::Island(opening, syncs, closing) => {
-            let mut island = Island::new(alloc, opening, closing);
-            for &sync in syncs {
-                island.push(null_packet(sync))?;
-            }
-            return Ok(Item::Island(island));
-        }
-        Given::Nulls(count) => {
-            let mut island = Island::new(alloc, [0; 2], [0; 2]);
-            for _ in 0..count {
-                island.push(null_packet(0))?;
-            }
-            return Ok(Item::Island(island));
-        }
+/// The number of hexadecimal digits.
+fn number_of(digits: &str) -> u64 {
+    let mut number: u64 = 0;
+    for digit in digits.bytes() {
+        let value = if digit > b'9' {
+            digit.wrapping_sub(87)
+        } else {
+            digit.wrapping_sub(48)
+        };
+        number = number.wrapping_mul(16).wrapping_add(u64::from(value));
     }
-    Ok(Item::Video(pixels))
+    number
+}
+
+/// A control period of runs, each with its value and how many columns it has.
+fn control(alloc: Global, runs: &str) -> Result<Item, Fail>
+    ensures { IfOk result (λ item. is_island (period_of item) ≡ false) }
+{
+    let mut list = Runs::new(alloc);
+    for run in runs.split(',') {
+        let (value, count) = run.split_once('x').ok_or("a run of no count")?;
+        list.push(Run {
+            value: value.parse()?,
+            count: count.parse()?,
+        })?;
+    }
+    Ok(Item::Control(list))
+}
+
+/// A video data period of pixels.
+fn video(alloc: Global, pixels: &str) -> Result<Item, Fail>
+    ensures { IfOk result (λ item. is_island (period_of item) ≡ false) }
+{
+    let mut list = Pixels::new(alloc);
+    for pixel in pixels.split(',') {
+        let [blue, green, red, ..] = number_of(pixel).to_le_bytes();
+        list.push(red, green, blue)?;
+    }
+    Ok(Item::Video(list))
+}
+
+/// A video data period of so many black pixels.
+fn black(alloc: Global, count: u32) -> Result<Item, Fail>
+    ensures { IfOk result (λ item. is_island (period_of item) ≡ false) }
+{
+    let mut list = Pixels::new(alloc);
+    for _ in 0..count {
+        list.push(0, 0, 0)?;
+    }
+    Ok(Item::Video(list))
+}
+
+/// The control period or the video data period of a word.
+fn period(alloc: Global, word: &str) -> Result<Item, Fail>
+    ensures { IfOk result (λ item. is_island (period_of item) ≡ false) }
+{
+    if let Some(runs) = word.strip_prefix('c') {
+        return control(alloc, runs);
+    }
+    if let Some(pixels) = word.strip_prefix('v') {
+        return video(alloc, pixels);
+    }
+    let count = word.strip_prefix('b').ok_or("an item of no kind")?;
+    black(alloc, count.parse()?)
 }
 
 /// The Null packet, with a sync value in each column.
@@ -426,21 +92,68 @@ fn null_packet(sync: u8) -> Packet {
     }
 }
 
+/// The values of two digits.
+fn pair(digits: &str) -> Option<[u8; 2]> {
+    let mut values = digits.bytes();
+    let first = values.next()?.wrapping_sub(b'0');
+    let second = values.next()?.wrapping_sub(b'0');
+    Some([first, second])
+}
+
+/// A data island of Null packets: its opening guard columns, each packet's sync value, and its closing guard columns.
+fn null_island(alloc: Global, values: &str) -> Result<Item, Fail> {
+    let (opening, rest) = values.split_once(':').ok_or("an island of one part")?;
+    let (syncs, closing) = rest.split_once(':').ok_or("an island of two parts")?;
+    let opening = pair(opening).ok_or("an opening guard of no two values")?;
+    let closing = pair(closing).ok_or("a closing guard of no two values")?;
+    let mut island = Island::new(alloc, opening, closing);
+    for sync in syncs.bytes() {
+        island.push(null_packet(sync.wrapping_sub(b'0')))?;
+    }
+    Ok(Item::Island(island))
+}
+
+/// A data island of so many Null packets, each sync value 0.
+fn nulls(alloc: Global, count: u32) -> Result<Item, Fail> {
+    let mut island = Island::new(alloc, [0; 2], [0; 2]);
+    for _ in 0..count {
+        island.push(null_packet(0))?;
+    }
+    Ok(Item::Island(island))
+}
+
+/// The item of a word.
+fn item(alloc: Global, word: &str) -> Result<Item, Fail> {
+    if let Some(count) = word.strip_prefix('n') {
+        return nulls(alloc, count.parse()?);
+    }
+    if let Some(values) = word.strip_prefix('i') {
+        return null_island(alloc, values);
+    }
+    period(alloc, word)
+}
+
+/// What the last item's push answers, and what the list's close then answers.
+fn answers(alloc: Global, list: &str) -> Result<String, Fail> {
+    let mut items = Items::new(alloc);
+    let mut last = Ok(());
+    for word in list.split(' ') {
+        last?;
+        last = items.push(item(alloc, word)?);
+    }
+    let closed = match items.close() {
+        Ok(stream) => Ok(stream.columns()),
+        Err(fault) => Err(fault),
+    };
+    Ok(format!(in alloc; "{last:?}, {closed:?}")?)
+}
+
 #[test]
-fn faults(rt: HostRuntime) -> Result<(), Fail> {
-    for (at, row) in ROWS.iter().enumerate() {
-        let mut items = Items::new(rt.alloc());
-        let mut last = Ok(());
-        for &given in row.items {
-            assert_eq!(rt; last, Ok(()), "row {at}");
-            last = items.push(item(rt.alloc(), given)?);
-        }
-        assert_eq!(rt; last, row.push, "row {at}");
-        let closed = match items.close() {
-            Ok(stream) => Ok(stream.columns()),
-            Err(fault) => Err(fault),
-        };
-        assert_eq!(rt; closed, row.close, "row {at}");
+fn lists(rt: HostRuntime) -> Result<(), Fail> {
+    for row in LISTS.split('\n') {
+        let (wanted, list) = row.split_once('|').ok_or("a row of no list")?;
+        let text = answers(rt.alloc(), list)?;
+        assert_eq!(rt; text.as_str(), wanted, "{row}");
     }
     Ok(())
 }
@@ -472,116 +185,131 @@ impl ColumnSink for Columns {
     }
 }
 
-/// Spells a list of three items, and compares its columns.
-fn spells(rt: &impl Abort, alloc: Global, list: [Given; 3], want: &[[u16; 3]]) -> Result<(), Fail> {
-    let mut items = Items::new(alloc);
-    for given in list {
-        items.push(item(alloc, given)?)?;
-    }
-    let stream: Stream = items.close()?;
-    assert_eq!(rt; stream.columns() as usize, want.len());
-    let mut columns = Columns {
+/// No columns yet.
+fn no_columns(alloc: Global) -> Columns
+    ensures { result.words.items ≡ [] }
+{
+    Columns {
         words: Vec::new(alloc),
         refusals: 0,
-    };
+    }
+}
+
+/// The columns of a list of items.
+fn columns_of(alloc: Global, list: &str) -> Result<Columns, Fail> {
+    let mut items = Items::new(alloc);
+    for word in list.split(' ') {
+        items.push(item(alloc, word)?)?;
+    }
+    let stream = items.close()?;
+    let mut columns = no_columns(alloc);
     stream.spell(&mut columns)?;
-    assert_eq!(rt; columns.words.len(), want.len());
-    for (at, (words, numbers)) in columns.words.iter().zip(want).enumerate() {
-        for lane in 0..3 {
-            assert_eq!(rt;
-                words[lane].value(),
-                numbers[lane],
-                "lane {lane} of column {at}"
-            );
+    if columns.words.len() != stream.columns() as usize {
+        columns.words.clear();
+    }
+    Ok(columns)
+}
+
+/// Whether columns have these words: nine hexadecimal digits a column, behind how often it comes.
+fn have(columns: &Columns, words: &str) -> Result<bool, Fail> {
+    let mut left = columns.words.iter();
+    for word in words.split(' ') {
+        let (times, digits) = word.split_once('*').unwrap_or(("1", word));
+        let number = number_of(digits);
+        for _ in 0..times.parse::<u32>()? {
+            if left
+                .next()
+                .is_none_or(|column| number_of_column(column) != number)
+            {
+                return Ok(false);
+            }
         }
     }
-    Ok(())
+    Ok(left.next().is_none())
+}
+
+/// The number of a column's nine digits.
+fn number_of_column(column: &[Word; 3]) -> u64 {
+    let [blue, green, red] = *column;
+    (u64::from(blue.value()) << 24) | (u64::from(green.value()) << 12) | u64::from(red.value())
 }
 
 #[test]
 fn spelled(rt: HostRuntime) -> Result<(), Fail> {
-    let red = [
-        START,
-        Given::Video(&[[0xff, 0, 0]]),
-        Given::Control(&[(0, 12)]),
-    ];
-    spells(&rt, rt.alloc(), red, &RED)?;
-    let row = [
-        Given::Control(&[(0x3b, 5), (0x07, 8)]),
-        Given::Video(&[
-            [0x12, 0x34, 0x56],
-            [0x80, 0xff, 0x01],
-            [0xff, 0xff, 0xff],
-            [0x10, 0x10, 0x10],
-        ]),
-        Given::Control(&[(0x02, 3), (0x31, 9)]),
-    ];
-    spells(&rt, rt.alloc(), row, &ROW)?;
-    let nulls = [
-        LEAD,
-        Given::Island([0, 1], &[0, 2], [2, 3]),
-        Given::Control(&[(0, 12)]),
-    ];
-    let mut want = Vec::new(rt.alloc());
-    for (column, count) in NULLS {
-        for _ in 0..count {
-            want.push(column)?;
-        }
+    for row in SPELLED.split('\n') {
+        let (words, list) = row.split_once('|').ok_or("a row of no list")?;
+        let columns = columns_of(rt.alloc(), list)?;
+        assert!(rt; have(&columns, words)?, "{list}");
     }
-    spells(&rt, rt.alloc(), nulls, want.as_slice())
+    Ok(())
 }
 
-// A line of 263 pixels: the digests of its characters, the value of each behind 31 times those before it, modulo 65,521.
-#[test]
-fn long_line(rt: HostRuntime) -> Result<(), Fail> {
-    let mut pixels = Pixels::new(rt.alloc());
+/// The pixels of a line.
+fn line_of_263(alloc: Global) -> Result<Pixels, NoMemory> {
+    let mut pixels = Pixels::new(alloc);
     for i in 0..263u32 {
         let red = (i.wrapping_mul(7 * i + 3) & 0xff) as u8;
         let green = (i.wrapping_mul(i.wrapping_mul(i).wrapping_add(11)) & 0xff) as u8;
         let blue = ((2047 - 5 * i) & 0xff) as u8;
         pixels.push(red, green, blue)?;
     }
-    let mut items = Items::new(rt.alloc());
-    items.push(item(rt.alloc(), START)?)?;
-    items.push(Item::Video(pixels))?;
-    items.push(item(rt.alloc(), Given::Control(&[(0, 12)]))?)?;
-    let stream = items.close()?;
-    let mut columns = Columns {
-        words: Vec::new(rt.alloc()),
-        refusals: 0,
-    };
-    stream.spell(&mut columns)?;
-    assert_eq!(rt; columns.words.len(), 289);
-    for (lane, want) in [(0, 14041), (1, 50879), (2, 50462)] {
-        let mut digest = 0u32;
-        for at in 14..277 {
-            let word = u32::from(columns.words[at][lane].value());
-            digest = digest.wrapping_mul(31).wrapping_add(word) % 65521;
+    Ok(pixels)
+}
+
+/// The digests of the three lanes' characters: the value of each behind 31 times those before it, modulo 65,521.
+fn digests(columns: &[[Word; 3]]) -> [u32; 3] {
+    let mut digests = [0u32; 3];
+    for column in columns {
+        for lane in 0..3 {
+            let word = u32::from(column[lane].value());
+            digests[lane] = digests[lane].wrapping_mul(31).wrapping_add(word) % 65521;
         }
-        assert_eq!(rt; digest, want, "lane {lane}");
     }
+    digests
+}
+
+// A line of 263 pixels.
+#[test]
+fn long_line(rt: HostRuntime) -> Result<(), Fail> {
+    let alloc = rt.alloc();
+    let mut items = Items::new(alloc);
+    items.push(control(alloc, "0x4,4x8")?)?;
+    items.push(Item::Video(line_of_263(alloc)?))?;
+    items.push(control(alloc, "0x12")?)?;
+    let mut columns = no_columns(alloc);
+    items.close()?.spell(&mut columns)?;
+    assert!(rt; columns.words.len() == 289);
+    assert_eq!(rt; digests(&columns.words[14..277]), [14041, 50879, 50462]);
+    Ok(())
+}
+
+/// Adds a run, and tells what the list of runs then is.
+fn with_run(alloc: Global, runs: &mut Runs, run: &str) -> Result<String, Fail> {
+    let (value, count) = run.split_once(' ').ok_or("a run of no count")?;
+    runs.push(Run {
+        value: value.parse()?,
+        count: count.parse()?,
+    })?;
+    let columns = runs.columns();
+    let video = runs.announces_video();
+    let island = runs.announces_island();
+    Ok(format!(in alloc; "{columns} columns, video {video}, island {island}")?)
+}
+
+#[test]
+fn runs(rt: HostRuntime) -> Result<(), Fail> {
+    let mut runs = Runs::new(rt.alloc());
+    for row in RUNS.split('\n') {
+        let (wanted, run) = row.split_once('|').ok_or("a row of no run")?;
+        let text = with_run(rt.alloc(), &mut runs, run)?;
+        assert_eq!(rt; text.as_str(), wanted, "{run}");
+    }
+    assert_eq!(rt; runs.as_slice().len(), 8);
     Ok(())
 }
 
 #[test]
-fn parts(rt: HostRuntime) -> Result<(), Fail> {
-    let mut runs = Runs::new(rt.alloc());
-    for (value, count, columns, video, island) in [
-        (0x04, 7, 7, false, false),
-        (0x07, 1, 8, true, false),
-        (0x44, 0, 8, true, false),
-        (0x44, 9, 17, true, false),
-        (0x14, 7, 24, false, false),
-        (0x17, 1, 25, false, true),
-        (0x04, 0, 25, false, true),
-        (0x08, 1, 26, false, false),
-    ] {
-        runs.push(Run { value, count })?;
-        assert_eq!(rt; runs.columns(), columns, "at {value}");
-        assert_eq!(rt; runs.announces_video(), video, "at {value}");
-        assert_eq!(rt; runs.announces_island(), island, "at {value}");
-    }
-    assert_eq!(rt; runs.as_slice().len(), 8);
+fn pixels(rt: HostRuntime) -> Result<(), Fail> {
     let mut pixels = Pixels::new(rt.alloc());
     assert!(rt; pixels.is_empty());
     pixels.push(1, 2, 3)?;
@@ -598,8 +326,7 @@ fn island(rt: HostRuntime) -> Result<(), Fail> {
     island.push(null_packet(3))?;
     island.push(null_packet(1))?;
     island.set_closing([3, 1]);
-    assert!(rt; !island.is_empty());
-    assert_eq!(rt; island.len(), 2);
+    assert!(rt; !island.is_empty() && island.len() == 2);
     assert_eq!(rt; island.opening(), [1, 2]);
     assert_eq!(rt; island.closing(), [3, 1]);
     assert_eq!(rt; island.as_slice()[0].sync[31], 3);
