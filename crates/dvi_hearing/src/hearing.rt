@@ -1,7 +1,7 @@
 //! Hears columns one after another, and tells what they say.
-ghost use Rattle.std.specs.Prelude.{◌≡◌, ◌<◌, ◌≤◌, ◌+◌, ◌++◌, ◌∷◌, [], ℕ, All, List, length, map, take, true, false, slice_get, Some};
+ghost use Rattle.std.specs.Prelude.{◌≡◌, ◌<◌, ◌≤◌, ◌+◌, ◌++◌, ◌∷◌, [], ℕ, List, length, map, take, true, false, slice_get, Some};
 ghost use Rattle.tmds_word.specs.Column.{Column, column_of};
-ghost use Rattle.tmds_word.specs.Words.{columns_of};
+ghost use Rattle.tmds_word.specs.Lent.{columns_in};
 ghost use Rattle.period_grammar.specs.Things.{all_at, thing_of};
 ghost use Rattle.period_grammar.specs.Lending.{lent_thing};
 ghost use Rattle.dvi_hearing.specs.DviHeard.{dvi_so_far, dvi_heard};
@@ -13,7 +13,7 @@ use crate::phase::{Phase, close, end, go_on};
 use period_grammar::{Kept, Line, Notes, Told, Whole, column_value, lend, tell_words};
 use std::marker::Model;
 use terc4::is_control_column;
-use tmds_word::Word;
+use tmds_word::{Columns, Word};
 
 /// Hears the columns of a stream without guard columns one after another. It keeps a few numbers of them and the bytes
 /// of one line.
@@ -108,70 +108,54 @@ impl DviHearing {
         self.columns = n + 1;
     }
 
-    /// Hears the columns of three lanes' words from the first on, as long as they go on with the run or the line that is
-    /// open, and answers how many these are: none where none is open. It tells nothing. `hear` takes the column that
-    /// comes then.
-    pub fn hear_while(&mut self, blue: &[u16], green: &[u16], red: &[u16]) -> usize
-        requires green { length green.now ≡ length blue.now }
-        requires red { length red.now ≡ length blue.now }
-        requires blue_words { All (λ w. w < 1024) blue.now }
-        requires green_words { All (λ w. w < 1024) green.now }
-        requires red_words { All (λ w. w < 1024) red.now }
-        requires few { self.old.columns + length blue.now ≤ 429496730 }
+    /// Hears columns from the first on, as long as they go on with the run or the line that is open, and answers how many
+    /// these are: none where none is open. It tells nothing. `hear` takes the column that comes then.
+    pub fn hear_while(&mut self, columns: Columns<'_>) -> usize
+        requires few { self.old.columns + length (columns_in columns) ≤ 429496730 }
         requires open { self.old.finished ≡ false }
-        ensures within { result ≤ length blue.now }
+        ensures within { result ≤ length (columns_in columns.entry) }
         ensures columns { self.new.columns ≡ self.old.columns + result }
         ensures open { self.new.finished ≡ false }
-        ensures heard { (cs : List Column) → StandsFor self.old cs → StandsFor self.new (cs ++ take result (columns_of blue.now green.now red.now)) }
-        ensures told { (cs : List Column) → StandsFor self.old cs → dvi_so_far (cs ++ take result (columns_of blue.now green.now red.now)) ≡ dvi_so_far cs }
+        ensures heard { (cs : List Column) → StandsFor self.old cs → StandsFor self.new (cs ++ take result (columns_in columns.entry)) }
+        ensures told { (cs : List Column) → StandsFor self.old cs → dvi_so_far (cs ++ take result (columns_in columns.entry)) ≡ dvi_so_far cs }
         ensures quiet { last_told self.new ≡ [] }
     {
         self.notes.clear();
         match self.phase {
-            Phase::Control => self.hear_run(blue, green, red),
-            Phase::Pixels { .. } => self.hear_line(blue, green, red),
+            Phase::Control => self.hear_run(columns),
+            Phase::Pixels { .. } => self.hear_line(columns),
         }
     }
 
     /// Hears control columns of the last run, and answers how many these are.
-    fn hear_run(&mut self, blue: &[u16], green: &[u16], red: &[u16]) -> usize
+    fn hear_run(&mut self, columns: Columns<'_>) -> usize
         requires phase { self.old.phase ≡ Control }
-        requires green { length green.now ≡ length blue.now }
-        requires red { length red.now ≡ length blue.now }
-        requires blue_words { All (λ w. w < 1024) blue.now }
-        requires green_words { All (λ w. w < 1024) green.now }
-        requires red_words { All (λ w. w < 1024) red.now }
-        requires few { self.old.columns + length blue.now ≤ 429496730 }
-        ensures within { result ≤ length blue.now }
+        requires few { self.old.columns + length (columns_in columns) ≤ 429496730 }
+        ensures within { result ≤ length (columns_in columns.entry) }
         ensures columns { self.new.columns ≡ self.old.columns + result }
         ensures open { self.new.finished ≡ self.old.finished }
         ensures notes { self.new.notes ≡ self.old.notes }
-        ensures heard { (cs : List Column) → StandsFor self.old cs → StandsFor self.new (cs ++ take result (columns_of blue.now green.now red.now)) }
-        ensures told { (cs : List Column) → StandsFor self.old cs → dvi_so_far (cs ++ take result (columns_of blue.now green.now red.now)) ≡ dvi_so_far cs }
+        ensures heard { (cs : List Column) → StandsFor self.old cs → StandsFor self.new (cs ++ take result (columns_in columns.entry)) }
+        ensures told { (cs : List Column) → StandsFor self.old cs → dvi_so_far (cs ++ take result (columns_in columns.entry)) ≡ dvi_so_far cs }
     {
-        let count = self.control.count_going_on(blue, green, red);
+        let count = self.control.count_going_on(columns);
         self.control.hear_run(count as u32);
         self.columns += count as u32;
         count
     }
 
     /// Hears pixels of the line that is open, and answers how many these are.
-    fn hear_line(&mut self, blue: &[u16], green: &[u16], red: &[u16]) -> usize
+    fn hear_line(&mut self, columns: Columns<'_>) -> usize
         requires phase { (start : ℕ) × (self.old.phase ≡ Pixels start) }
-        requires green { length green.now ≡ length blue.now }
-        requires red { length red.now ≡ length blue.now }
-        requires blue_words { All (λ w. w < 1024) blue.now }
-        requires green_words { All (λ w. w < 1024) green.now }
-        requires red_words { All (λ w. w < 1024) red.now }
-        requires few { self.old.columns + length blue.now ≤ 429496730 }
-        ensures within { result ≤ length blue.now }
+        requires few { self.old.columns + length (columns_in columns) ≤ 429496730 }
+        ensures within { result ≤ length (columns_in columns.entry) }
         ensures columns { self.new.columns ≡ self.old.columns + result }
         ensures open { self.new.finished ≡ self.old.finished }
         ensures notes { self.new.notes ≡ self.old.notes }
-        ensures heard { (cs : List Column) → StandsFor self.old cs → StandsFor self.new (cs ++ take result (columns_of blue.now green.now red.now)) }
-        ensures told { (cs : List Column) → StandsFor self.old cs → dvi_so_far (cs ++ take result (columns_of blue.now green.now red.now)) ≡ dvi_so_far cs }
+        ensures heard { (cs : List Column) → StandsFor self.old cs → StandsFor self.new (cs ++ take result (columns_in columns.entry)) }
+        ensures told { (cs : List Column) → StandsFor self.old cs → dvi_so_far (cs ++ take result (columns_in columns.entry)) ≡ dvi_so_far cs }
     {
-        let count = self.line.hear_while(blue, green, red);
+        let count = self.line.hear_while(columns);
         self.columns += count as u32;
         count
     }

@@ -4,7 +4,7 @@ ghost use Rattle.std.specs.Prelude.{◌≡◌, ◌++◌, ◌∷◌, [], List, le
 use crate::hearing::DviHearing;
 use link_sink::{Hears, LaneSink};
 use period_grammar::Told;
-use tmds_word::Word;
+use tmds_word::{Columns, Word};
 
 /// Hears the columns of a stream without guard columns.
 pub type DviSink = LaneSink<DviHearing>;
@@ -34,8 +34,8 @@ impl Hears for DviHearing {
         self.hear(column);
     }
 
-    fn hear_while(&mut self, blue: &[u16], green: &[u16], red: &[u16]) -> usize {
-        self.hear_while(blue, green, red)
+    fn hear_while(&mut self, columns: Columns<'_>) -> usize {
+        self.hear_while(columns)
     }
 
     fn finish(&mut self) {

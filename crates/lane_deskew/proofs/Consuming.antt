@@ -1,8 +1,9 @@
 -- What three lanes keep after their alignment, as lanes end and as columns are consumed.
-use Rattle.std.proofs.Common.{◌≡◌, ℕ, suc, zero, ◌+◌, ◌-◌, ◌/◌, ◌^◌, ◌<◌, ◌≤◌, min, Bool, true, false, List, [], ◌∷◌, ◌++◌, length, take, drop, slice_index, refl, ap, ◌∙◌, sym, arith, length-drop, Option, Some, None, MatchOption, is_some}
+use Rattle.std.proofs.Common.{◌≡◌, ℕ, suc, zero, ◌+◌, ◌-◌, ◌/◌, ◌^◌, ◌<◌, ◌≤◌, min, Bool, true, false, List, [], ◌∷◌, ◌++◌, length, take, drop, slice_index, refl, ap, ◌∙◌, sym, arith, length-drop, Option, Some, None, MatchOption, is_some, cond}
 use Rattle.std.proofs.lemmas.List.{drop-drop, drop-take, take-take}
 use Rattle.lane_deskew.specs.Keeping.{Stored, stored, limit}
 use Rattle.tmds_word.specs.Words.{columns_of}
+use Rattle.tmds_word.proofs.Lent.{columns_drop}
 use Rattle.lane_deskew.specs.Pushed.{Pushed, Past, rested, ended, settled, consumed, from_edge, unconsumed, reach, IsPastAlignment, IsPastTriple, past_columns, Knows, Waits, Lends, AreKnown, Awaits, IsAligned, StandsFor, IsCut, reach_of}
 use Rattle.lane_deskew.specs.declared.lane.Lane.{Lane}
 use Rattle.lane_deskew.specs.declared.deskew.Deskew.{Deskew}
@@ -256,26 +257,6 @@ answer_of d p None awaits = λ x y z t. awaits.none x y z (record {
   first_third = t.first_third;
 })
 
--- the columns of three lists, without the first ones
-none_second : (xs zs : List ℕ) → columns_of xs [] zs ≡ []
-unfolding columns_of
-none_second [] zs = refl
-none_second (x ∷ xs) zs = refl
-
-none_third : (xs ys : List ℕ) → columns_of xs ys [] ≡ []
-unfolding columns_of
-none_third [] ys = refl
-none_third (x ∷ xs) [] = refl
-none_third (x ∷ xs) (y ∷ ys) = refl
-
-pub columns_drop : (t : ℕ) (xs ys zs : List ℕ) → drop t (columns_of xs ys zs) ≡ columns_of (drop t xs) (drop t ys) (drop t zs)
-unfolding columns_of
-columns_drop zero xs ys zs = refl
-columns_drop (suc t) [] ys zs = refl
-columns_drop (suc t) (x ∷ xs) [] zs = sym (none_second (drop t xs) (drop (suc t) zs))
-columns_drop (suc t) (x ∷ xs) (y ∷ ys) [] = sym (none_third (drop t xs) (drop t ys))
-columns_drop (suc t) (x ∷ xs) (y ∷ ys) (z ∷ zs) = columns_drop t xs ys zs
-
 -- as many of each as the shortest has give all columns
 pub columns_take : (n : ℕ) (xs ys zs : List ℕ) → min (length xs) (min (length ys) (length zs)) ≤ n → columns_of (take n xs) (take n ys) (take n zs) ≡ columns_of xs ys zs
 unfolding columns_of
@@ -287,6 +268,19 @@ columns_take (suc n) [] ys zs h = refl
 columns_take (suc n) (x ∷ xs) [] zs h = refl
 columns_take (suc n) (x ∷ xs) (y ∷ ys) [] h = refl
 columns_take (suc n) (x ∷ xs) (y ∷ ys) (z ∷ zs) h = ap (λ cs. record { blue = x; green = y; red = z } ∷ cs) (columns_take n xs ys zs (omega arith))
+
+-- how many columns as many of each give
+pub length_first : (n : ℕ) (xs ys zs : List ℕ) → n ≤ min (length xs) (min (length ys) (length zs)) → length (columns_of (take n xs) (take n ys) (take n zs)) ≡ n
+unfolding columns_of
+length_first zero xs ys zs le = refl
+length_first (suc n) [] ys zs le = absurd (omega arith)
+length_first (suc n) (x ∷ xs) [] zs le = absurd (omega arith)
+length_first (suc n) (x ∷ xs) (y ∷ ys) [] le = absurd (omega arith)
+length_first (suc n) (x ∷ xs) (y ∷ ys) (z ∷ zs) le = ap suc (length_first n xs ys zs (omega arith))
+
+pub ready_within : (o : Option Aligned) (n : ℕ) → cond (is_some o) n 0 ≤ n
+ready_within None n = omega arith
+ready_within (Some at) n = omega arith
 
 reach_enough : (a b c : Bool) (x y z : ℕ) → x < 2 ^ 63 → min x (min y z) ≤ three a x b y c z
 reach_enough true true true x y z h = omega arith

@@ -166,12 +166,6 @@ reach_of d = min (limit d.first.ended (length d.first.kept.row)) (min (limit d.s
 abbrev pub ready_of : Deskew → ℕ
 ready_of d = cond (is_some d.found) (min (length d.first.kept.row) (min (length d.second.kept.row) (length d.third.kept.row))) 0
 
--- three slices of as many characters each
-pub record AreColumns (n : ℕ) (a b c : List ℕ) : Type 0 where
-  pub first : length a ≡ n
-  pub second : length b ≡ n
-  pub third : length c ≡ n
-
 -- what is kept of a lane
 abbrev pub kept_of : Deskew → ℕ → List ℕ
 kept_of deskew lane = stored (lane_at deskew lane).kept

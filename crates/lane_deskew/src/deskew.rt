@@ -3,8 +3,8 @@
 
 ghost use Rattle.std.specs.Prelude.{ℕ, ◌≡◌, ◌<◌, ◌≤◌, ◌+◌, ◌-◌, ◌*◌, ◌^◌, ◌↔◌, ◌++◌, List, [], IsTrue, IfOk, IfSome, MatchOption, Some, None, length, take, drop, slice_index, true, min, cond, is_some};
 ghost use Rattle.lane_align.specs.Words.{AreWords};
-ghost use Rattle.lane_deskew.specs.Pushed.{Past, no_past, pushed, ended, settled, consumed, AreEven, IsPastTriple, IsPastAlignment, AreKnown, Awaits, IsAligned, StandsFor, CanPush, kept_of, IsCut, reach_of, ready_of, AreColumns, past_columns};
-ghost use Rattle.tmds_word.specs.Words.{columns_of};
+ghost use Rattle.lane_deskew.specs.Pushed.{Past, no_past, pushed, ended, settled, consumed, AreEven, IsPastTriple, IsPastAlignment, AreKnown, Awaits, IsAligned, StandsFor, CanPush, kept_of, IsCut, reach_of, ready_of, past_columns};
+ghost use Rattle.tmds_word.specs.Lent.{columns_in};
 ghost use Rattle.lane_deskew.specs.Stretches.{IsStretchTriple, AreFirstAt};
 ghost use Rattle.lane_deskew.specs.declared.Aligned.{Aligned};
 
@@ -13,6 +13,7 @@ use crate::lane::Lane;
 use crate::stretch::first_triple;
 use outside_io::NoMemory;
 use std::alloc::Global;
+use tmds_word::Columns;
 
 #[cfg(test)]
 mod tests;
@@ -27,14 +28,6 @@ pub struct Deskew {
     second: Lane,
     third: Lane,
     found: Option<Aligned>,
-}
-
-/// Columns that are lent: the characters of each lane, lane 0 first, as many of each.
-#[derive(Clone, Copy, Debug)]
-pub struct ColumnsRef<'a> {
-    pub a: &'a [u16],
-    pub b: &'a [u16],
-    pub c: &'a [u16],
 }
 
 impl Deskew {
@@ -184,24 +177,17 @@ impl Deskew {
     }
 
     /// The columns that are aligned and not consumed; none before the alignment.
-    pub fn columns(&self) -> ColumnsRef<'_>
-        ensures count { AreColumns (ready_of self.now) result.a.now result.b.now result.c.now }
-        ensures before { self.now.found ≡ None → result.a.now ≡ [] }
-        ensures first { AreWords result.a.now }
-        ensures second { AreWords result.b.now }
-        ensures third { AreWords result.c.now }
+    pub fn columns(&self) -> Columns<'_>
+        ensures count { length (columns_in result) ≡ ready_of self.now }
+        ensures before { self.now.found ≡ None → columns_in result ≡ [] }
         ensures columns { (p : Past) (at : Aligned) → StandsFor self.now p → self.now.found ≡ Some at
-            → columns_of result.a.now result.b.now result.c.now ≡ drop p.taken (past_columns p at.edges) }
+            → columns_in result ≡ drop p.taken (past_columns p at.edges) }
     {
         let n = self.ready();
         let a = self.first.words();
         let b = self.second.words();
         let c = self.third.words();
-        ColumnsRef {
-            a: &a[..n],
-            b: &b[..n],
-            c: &c[..n],
-        }
+        Columns::new(&a[..n], &b[..n], &c[..n])
     }
 
     /// Drops the first columns.

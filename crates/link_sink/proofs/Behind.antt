@@ -1,12 +1,11 @@
 -- A stream whose lanes have more bits than were heard, and what it tells of them.
-use Rattle.std.proofs.Common.{◌≡◌, ℕ, suc, zero, ◌+◌, ◌-◌, ◌^◌, ◌<◌, ◌≤◌, Bool, true, false, List, [], ◌∷◌, ◌++◌, length, drop, refl, ap, sym, ◌∙◌, subst, arith, inl, inr, Option, Some, None, is_some, slice_index, length-append}
+use Rattle.std.proofs.Common.{◌≡◌, ℕ, ◌+◌, ◌-◌, ◌^◌, ◌<◌, ◌≤◌, Bool, true, false, List, [], ◌++◌, length, drop, refl, ap, sym, ◌∙◌, subst, arith, inl, inr, Option, Some, None, is_some, slice_index, length-append}
 use Rattle.std.proofs.lemmas.List.{append-nil}
 use Rattle.tmds_word.specs.Column.{Column}
-use Rattle.tmds_word.specs.Words.{columns_of}
 use Rattle.lane_align.specs.Aligners.{fed_of}
 use Rattle.lane_deskew.specs.Growing.{HasGrown}
 use Rattle.lane_deskew.specs.Aligned.{aligned_columns}
-use Rattle.lane_deskew.specs.Pushed.{AreColumns, ready_of}
+use Rattle.lane_deskew.specs.Pushed.{ready_of}
 use Rattle.lane_deskew.specs.declared.Aligned.{Aligned}
 use Rattle.lane_deskew.proofs.Fed.{first_stays}
 use Rattle.lane_deskew.proofs.First.{one_first}
@@ -50,35 +49,25 @@ lent_rest stands s before now lent h is =
     ap (λ ds. cs ++ ds) (is now (length cs) h.received)
     ∙ front_and_rest cs (columns_from now s.receiver.deskew.found) (more_columns before now h.was s.receiver.deskew.found h.found_was h.received.found h.blue h.green h.red)
 
-columns_length : (a b c : List ℕ) (n : ℕ) → length a ≡ n → length b ≡ n → length c ≡ n → length (columns_of a b c) ≡ n
-unfolding columns_of
-columns_length [] b c n la lb lc = la
-columns_length (x ∷ a) [] c n la lb lc = absurd (omega (arith, la, lb))
-columns_length (x ∷ a) (y ∷ b) [] n la lb lc = absurd (omega (arith, la, lc))
-columns_length (x ∷ a) (y ∷ b) (z ∷ c) zero la lb lc = absurd (omega (arith, la))
-columns_length (x ∷ a) (y ∷ b) (z ∷ c) (suc n) la lb lc = let e = columns_length a b c n (omega (arith, la)) (omega (arith, lb)) (omega (arith, lc)) in omega (arith, e)
-
 few_now : (fed : Fed) (o : Option Aligned) → length fed.blue < 2 ^ 32 → length (columns_from fed o) ≤ 429496730
 few_now fed None short = omega arith
 few_now fed (Some at) short = few_columns fed.blue fed.green fed.red _ _ _ short
 
 -- how many there are
-pub count_lent : {H : Type 0} (stands : H → List Column → Type 0) (s : Stream H) (before now : Fed) (a b c : List ℕ) → (h : IsBehind stands s before now) → AreColumns (ready_of s.receiver.deskew) a b c
-    → ((fed : Fed) (taken : ℕ) → IsReceived s.receiver fed taken → columns_of a b c ≡ drop taken (columns_from fed s.receiver.deskew.found))
-    → length (columns_from before h.was) + length a ≡ length (columns_from now s.receiver.deskew.found)
-count_lent stands s before now a b c h count is =
-    let all = ap length (lent_rest stands s before now (columns_of a b c) h is) in
-    let n = columns_length a b c (ready_of s.receiver.deskew) count.first count.second count.third in
-    let first = count.first in
-    omega (arith, all, n, first, length-append (columns_from before h.was) (columns_of a b c))
+pub count_lent : {H : Type 0} (stands : H → List Column → Type 0) (s : Stream H) (before now : Fed) (lent : List Column) → (h : IsBehind stands s before now)
+    → ((fed : Fed) (taken : ℕ) → IsReceived s.receiver fed taken → lent ≡ drop taken (columns_from fed s.receiver.deskew.found))
+    → length (columns_from before h.was) + length lent ≡ length (columns_from now s.receiver.deskew.found)
+count_lent stands s before now lent h is =
+    let all = ap length (lent_rest stands s before now lent h is) in
+    omega (arith, all, length-append (columns_from before h.was) lent)
 
 -- no more than a hearing can count
 pub few_lent : {H : Type 0} (stands : H → List Column → Type 0) (counted : H → ℕ) → ((h : H) (cs : List Column) → stands h cs → counted h ≡ length cs)
-    → (s : Stream H) (before now : Fed) (a b c : List ℕ) → IsBehind stands s before now → AreColumns (ready_of s.receiver.deskew) a b c
-    → ((fed : Fed) (taken : ℕ) → IsReceived s.receiver fed taken → columns_of a b c ≡ drop taken (columns_from fed s.receiver.deskew.found))
-    → (counted s.hearing + length a ≤ 429496730) × (s.outcome.columns + length a ≤ 429496730)
-few_lent stands counted counts s before now a b c h count is =
-    let all = count_lent stands s before now a b c h count is in
+    → (s : Stream H) (before now : Fed) (lent : List Column) → IsBehind stands s before now
+    → ((fed : Fed) (taken : ℕ) → IsReceived s.receiver fed taken → lent ≡ drop taken (columns_from fed s.receiver.deskew.found))
+    → (counted s.hearing + length lent ≤ 429496730) × (s.outcome.columns + length lent ≤ 429496730)
+few_lent stands counted counts s before now lent h is =
+    let all = count_lent stands s before now lent h is in
     let few = few_now now s.receiver.deskew.found h.short in
     let heard_columns = counts s.hearing _ h.heard in
     let told = h.columns in
@@ -93,26 +82,25 @@ lent_gain stands g laws s before now lent things h is e =
     (ap g.so_far (sym (lent_rest stands s before now lent h is)) ∙ e)
 
 -- and all columns are heard
-pub now_heard : {H : Type 0} (stands : H → List Column → Type 0) (s : Stream H) (before now : Fed) (a b c : List ℕ) (r : Receiver) (hearing : H) (outcome : Outcome) → (h : IsBehind stands s before now) → AreColumns (ready_of s.receiver.deskew) a b c
-    → ((fed : Fed) (taken : ℕ) → IsReceived s.receiver fed taken → columns_of a b c ≡ drop taken (columns_from fed s.receiver.deskew.found))
-    → ready_of r.deskew ≡ ready_of s.receiver.deskew - length a
-    → ((fed : Fed) (taken : ℕ) → IsReceived s.receiver fed taken → IsReceived r fed (taken + length a))
+pub now_heard : {H : Type 0} (stands : H → List Column → Type 0) (s : Stream H) (before now : Fed) (lent : List Column) (r : Receiver) (hearing : H) (outcome : Outcome) → (h : IsBehind stands s before now) → length lent ≡ ready_of s.receiver.deskew
+    → ((fed : Fed) (taken : ℕ) → IsReceived s.receiver fed taken → lent ≡ drop taken (columns_from fed s.receiver.deskew.found))
+    → (n : ℕ) → n ≡ length lent → ready_of r.deskew ≡ ready_of s.receiver.deskew - n
+    → ((fed : Fed) (taken : ℕ) → IsReceived s.receiver fed taken → IsReceived r fed (taken + n))
     → r.deskew.found ≡ s.receiver.deskew.found
-    → ((cs : List Column) → stands s.hearing cs → stands hearing (cs ++ columns_of a b c))
-    → outcome.aligned ≡ s.outcome.aligned → outcome.columns ≡ s.outcome.columns + length a
+    → ((cs : List Column) → stands s.hearing cs → stands hearing (cs ++ lent))
+    → outcome.aligned ≡ s.outcome.aligned → outcome.columns ≡ s.outcome.columns + n
     → IsHeard stands (record { receiver = r; hearing = hearing; outcome = outcome }) now
-now_heard stands s before now a b c r hearing outcome h count is ready received found hears aligned columns =
-    let all = count_lent stands s before now a b c h count is in
+now_heard stands s before now lent r hearing outcome h count is n long_lent ready received found hears aligned columns =
+    let all = count_lent stands s before now lent h is in
     let same : columns_from now s.receiver.deskew.found ≡ columns_from now r.deskew.found = ap (columns_from now) (sym found) in
-    let first = count.first in
     let told = h.columns in
     let long = ap length same in
     record {
-      received = subst (λ n. IsReceived r now n) (all ∙ long) (received now (length (columns_from before h.was)) h.received);
-      consumed = omega (arith, ready, first);
-      heard = subst (stands hearing) (lent_rest stands s before now (columns_of a b c) h is ∙ same) (hears (columns_from before h.was) h.heard);
+      received = subst (λ n. IsReceived r now n) (ap (λ k. length (columns_from before h.was) + k) long_lent ∙ all ∙ long) (received now (length (columns_from before h.was)) h.received);
+      consumed = omega (arith, ready, count, long_lent);
+      heard = subst (stands hearing) (lent_rest stands s before now lent h is ∙ same) (hears (columns_from before h.was) h.heard);
       aligned = aligned ∙ h.aligned ∙ ap is_some (sym found);
-      columns = omega (arith, columns, told, all, long);
+      columns = omega (arith, columns, told, all, long, long_lent);
     }
 
 -- The end.

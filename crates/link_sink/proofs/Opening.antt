@@ -1,9 +1,9 @@
 -- A receiver that was fed nothing, and the columns that one lends.
-use Rattle.std.proofs.Common.{◌≡◌, ℕ, max, List, [], ◌∷◌, drop, refl, ap, sym, ◌∙◌, subst, inl, Option, Some, None}
+use Rattle.std.proofs.Common.{◌≡◌, ℕ, max, List, [], drop, refl, ap, sym, ◌∙◌, subst, inl, Option, Some, None}
 use Rattle.std.proofs.Math.Seq.{drop-nil}
-use Rattle.tmds_word.specs.Words.{columns_of}
+use Rattle.tmds_word.specs.Column.{Column}
 use Rattle.lane_team.specs.Sides.{Sides, AreFresh}
-use Rattle.lane_deskew.specs.Pushed.{Past, no_past, past_columns, StandsFor as IsDeskewOf, AreColumns, ready_of}
+use Rattle.lane_deskew.specs.Pushed.{Past, no_past, past_columns, StandsFor as IsDeskewOf}
 use Rattle.lane_deskew.specs.Fed.{AreCutFrom}
 use Rattle.lane_deskew.specs.declared.deskew.Deskew.{Deskew}
 use Rattle.lane_deskew.specs.declared.Aligned.{Aligned}
@@ -32,32 +32,21 @@ fresh_received team deskew fresh stands found =
       found = subst (IsFoundAt no_bits) (sym found) none_of_nothing;
     }
 
--- no columns without an alignment
-none_lent : (a b c : List ℕ) → a ≡ [] → columns_of a b c ≡ []
-unfolding columns_of
-none_lent [] b c e = refl
-none_lent (x ∷ a) b c e = absurd cc
-
-columns_by : (r : Receiver) (fed : Fed) (taken : ℕ) (a b c : List ℕ) (o : Option Aligned) → (h : IsReceived r fed taken) → r.deskew.found ≡ o → (r.deskew.found ≡ None → a ≡ [])
-    → ((p : Past) (at : Aligned) → IsDeskewOf r.deskew p → r.deskew.found ≡ Some at → columns_of a b c ≡ drop p.taken (past_columns p at.edges))
-    → columns_of a b c ≡ drop taken (columns_from fed o)
-columns_by r fed taken a b c None h e before lent = none_lent a b c (before e) ∙ sym (drop-nil taken)
-columns_by r fed taken a b c (Some at) h e before lent =
+columns_by : (r : Receiver) (fed : Fed) (taken : ℕ) (lent : List Column) (o : Option Aligned) → (h : IsReceived r fed taken) → r.deskew.found ≡ o → (r.deskew.found ≡ None → lent ≡ [])
+    → ((p : Past) (at : Aligned) → IsDeskewOf r.deskew p → r.deskew.found ≡ Some at → lent ≡ drop p.taken (past_columns p at.edges))
+    → lent ≡ drop taken (columns_from fed o)
+columns_by r fed taken lent None h e before is = before e ∙ sym (drop-nil taken)
+columns_by r fed taken lent (Some at) h e before is =
     let cut : AreCutFrom fed.blue fed.green fed.red h.past = record { first = h.first.cut; second = h.second.cut; third = h.third.cut } in
-    lent h.past at h.stands e ∙ ap (λ n. drop n (past_columns h.past at.edges)) h.taken_are
+    is h.past at h.stands e ∙ ap (λ n. drop n (past_columns h.past at.edges)) h.taken_are
     ∙ ap (drop taken) (past_columns_are fed.blue fed.green fed.red h.past at.edges cut (subst (IsFoundAt fed) e h.found))
 
-pub columns_are : (r : Receiver) (fed : Fed) (taken : ℕ) (a b c : List ℕ) → IsReceived r fed taken → AreColumns (ready_of r.deskew) a b c → (r.deskew.found ≡ None → a ≡ [])
-    → ((p : Past) (at : Aligned) → IsDeskewOf r.deskew p → r.deskew.found ≡ Some at → columns_of a b c ≡ drop p.taken (past_columns p at.edges))
-    → columns_of a b c ≡ drop taken (columns_from fed r.deskew.found)
-columns_are r fed taken a b c h count before lent = columns_by r fed taken a b c r.deskew.found h refl before lent
-
--- the same of a receiver as contracts see it, whose deskew lies in memory of its own
-pub columns_are_at : (r t : Receiver) → r ≡ t → (k : Deskew) → k ≡ r.deskew → (fed : Fed) (taken : ℕ) (a b c : List ℕ) → IsReceived t fed taken → AreColumns (ready_of k) a b c → (k.found ≡ None → a ≡ [])
-    → ((p : Past) (at : Aligned) → IsDeskewOf k p → k.found ≡ Some at → columns_of a b c ≡ drop p.taken (past_columns p at.edges))
-    → columns_of a b c ≡ drop taken (columns_from fed t.deskew.found)
-columns_are_at r t e k same fed taken a b c h count before lent =
-    let lends : Receiver = record { team = r.team; deskew = k } in
-    let is : lends ≡ t = (λ i. record { team = r.team; deskew = same i }) ∙ e in
-    columns_are lends fed taken a b c (subst (λ (x : Receiver). IsReceived x fed taken) (sym is) h) count before lent
+-- the columns that are lent are those of a receiver as contracts see it, whose deskew lies in memory of its own
+pub columns_are_at : (r t : Receiver) → r ≡ t → (k : Deskew) → k ≡ r.deskew → (fed : Fed) (taken : ℕ) (lent : List Column) → IsReceived t fed taken → (k.found ≡ None → lent ≡ [])
+    → ((p : Past) (at : Aligned) → IsDeskewOf k p → k.found ≡ Some at → lent ≡ drop p.taken (past_columns p at.edges))
+    → lent ≡ drop taken (columns_from fed t.deskew.found)
+columns_are_at r t e k same fed taken lent h before lends =
+    let with_k : Receiver = record { team = r.team; deskew = k } in
+    let is : with_k ≡ t = (λ i. record { team = r.team; deskew = same i }) ∙ e in
+    columns_by with_k fed taken lent k.found (subst (λ (x : Receiver). IsReceived x fed taken) (sym is) h) refl before lends
     ∙ ap (λ (x : Receiver). drop taken (columns_from fed x.deskew.found)) is

@@ -1,14 +1,14 @@
 //! What hears columns: by the grammar of a link, or by another one.
-ghost use Rattle.std.specs.Prelude.{◌≡◌, ◌<◌, ◌≤◌, ◌+◌, ◌++◌, ◌∷◌, [], ℕ, All, List, length, take, slice_get, Some};
+ghost use Rattle.std.specs.Prelude.{◌≡◌, ◌<◌, ◌≤◌, ◌+◌, ◌++◌, ◌∷◌, [], ℕ, List, length, take, slice_get, Some};
 ghost use Rattle.tmds_word.specs.Column.{Column, column_of};
-ghost use Rattle.tmds_word.specs.Words.{columns_of};
+ghost use Rattle.tmds_word.specs.Lent.{columns_in};
 ghost use Rattle.period_grammar.specs.Things.{Thing};
 ghost use Rattle.period_grammar.specs.Lending.{lent_thing};
 ghost use Rattle.link_sink.specs.Grammar.{Grammar};
 ghost use Rattle.link_sink.specs.Hearings.{IsGrammar};
 
 use period_grammar::Told;
-use tmds_word::Word;
+use tmds_word::{Columns, Word};
 
 /// Hears columns one after another, and tells what they say.
 pub trait Hears: Drop {
@@ -41,19 +41,13 @@ pub trait Hears: Drop {
         ensures heard { (cs : List Column) → goes_on self.old cs → goes_on self.new (cs ++ column_of column.now ∷ []) }
         ensures told { (cs : List Column) → goes_on self.old cs → grammar.so_far (cs ++ column_of column.now ∷ []) ≡ grammar.so_far cs ++ last self.new };
 
-    /// Hears columns of three lanes' words from the first on, as long as they tell nothing, or fewer of them, and answers
-    /// how many these are.
-    fn hear_while(&mut self, blue: &[u16], green: &[u16], red: &[u16]) -> usize
-        requires green { length green.now ≡ length blue.now }
-        requires red { length red.now ≡ length blue.now }
-        requires blue_words { All (λ w. w < 1024) blue.now }
-        requires green_words { All (λ w. w < 1024) green.now }
-        requires red_words { All (λ w. w < 1024) red.now }
-        requires few { counted self.old + length blue.now ≤ 429496730 }
+    /// Hears columns from the first on, as long as they tell nothing, or fewer of them, and answers how many these are.
+    fn hear_while(&mut self, columns: Columns<'_>) -> usize
+        requires few { counted self.old + length (columns_in columns) ≤ 429496730 }
         requires heard { (cs : List Column) × goes_on self.old cs }
-        ensures within { result ≤ length blue.now }
-        ensures heard { (cs : List Column) → goes_on self.old cs → goes_on self.new (cs ++ take result (columns_of blue.now green.now red.now)) }
-        ensures told { (cs : List Column) → goes_on self.old cs → grammar.so_far (cs ++ take result (columns_of blue.now green.now red.now)) ≡ grammar.so_far cs };
+        ensures within { result ≤ length (columns_in columns.entry) }
+        ensures heard { (cs : List Column) → goes_on self.old cs → goes_on self.new (cs ++ take result (columns_in columns.entry)) }
+        ensures told { (cs : List Column) → goes_on self.old cs → grammar.so_far (cs ++ take result (columns_in columns.entry)) ≡ grammar.so_far cs };
 
     /// Ends the columns.
     fn finish(&mut self)

@@ -1,6 +1,7 @@
 //! Tells an ear what the bits of three lanes say.
 #![tactic(auto)]
 
+mod columns;
 mod ear;
 mod feeds;
 mod hear;
@@ -9,11 +10,11 @@ pub mod laws;
 mod link_hearing;
 mod receiver;
 mod sink;
-mod slices;
 mod streaming;
 mod telling;
 
 pub use ear::Ear;
+pub use feeds::Order;
 pub use hear::Outcome;
 pub use hears::Hears;
 pub use receiver::Receiver;

@@ -3,7 +3,7 @@ ghost use Rattle.std.specs.Prelude.{◌≡◌, ◌++◌, ◌∷◌, [], List, le
 
 use crate::hears::Hears;
 use period_grammar::{Hearing, Told};
-use tmds_word::Word;
+use tmds_word::{Columns, Word};
 
 impl Hears for Hearing {
     ghost use Rattle.period_grammar.specs.Lending.{last_told};
@@ -31,8 +31,8 @@ impl Hears for Hearing {
         self.hear(column);
     }
 
-    fn hear_while(&mut self, blue: &[u16], green: &[u16], red: &[u16]) -> usize {
-        self.hear_while(blue, green, red)
+    fn hear_while(&mut self, columns: Columns<'_>) -> usize {
+        self.hear_while(columns)
     }
 
     fn finish(&mut self) {

@@ -1,10 +1,9 @@
 //! Three lanes whose bits come feed after feed, and the columns that they carry from their first full alignment on.
 ghost use Rattle.std.specs.Prelude.{◌≡◌, ◌<◌, ◌≤◌, ◌+◌, ◌-◌, ℕ, List, Bool, length, drop, IfOk, None, is_some, slice_index};
-ghost use Rattle.tmds_word.specs.Words.{columns_of};
-ghost use Rattle.lane_align.specs.Words.{AreWords};
+ghost use Rattle.tmds_word.specs.Lent.{columns_in};
 ghost use Rattle.lane_align.specs.Aligners.{fed_of};
 ghost use Rattle.lane_team.specs.Sides.{side_at, AreFresh};
-ghost use Rattle.lane_deskew.specs.Pushed.{Pushed, Past, no_past, change, StandsFor, ready_of, AreColumns};
+ghost use Rattle.lane_deskew.specs.Pushed.{Pushed, Past, no_past, change, StandsFor, ready_of};
 ghost use Rattle.lane_deskew.specs.Fed.{past_at};
 ghost use Rattle.link_sink.specs.Sinks.{Fed, grown};
 ghost use Rattle.link_sink.specs.Pieces.{no_bits};
@@ -12,12 +11,13 @@ ghost use Rattle.link_sink.specs.Progress.{columns_from};
 ghost use Rattle.link_sink.specs.Received.{CanFeed, longest, IsReceived, MayPush, HasPushed, end_if};
 
 use crate::feeds::{Order, feed_team};
-use lane_deskew::{ColumnsRef, Deskew};
+use lane_deskew::Deskew;
 use lane_team::{Gate, Team};
 use outside_io::NoMemory;
 use std::alloc::Global;
 use std::marker::Model;
 use std::thread::Threads;
+use tmds_word::Columns;
 
 /// Cuts three lanes into characters, and lines them up.
 #[derive(Drop)]
@@ -56,33 +56,9 @@ impl Receiver {
         self.deskew.restart();
     }
 
-    /// Takes bits of each lane, each lane its own number of them, and says whether the lanes are aligned. All columns that
-    /// the feeds before gave are consumed.
+    /// Takes bits of each lane, each lane its own number of them, the lanes fed in this order, and says whether they are
+    /// aligned. All columns that the feeds before gave are consumed.
     pub fn feed<R: Threads, G: Gate>(
-        &mut self,
-        rt: &R,
-        a: &[u8],
-        b: &[u8],
-        c: &[u8],
-        bits: [u32; 3],
-        gate: &G,
-    ) -> bool
-        requires received { (fed : Fed) × (taken : ℕ) × IsReceived self.old fed taken }
-        requires consumed { ready_of self.old.deskew ≡ 0 }
-        requires first { CanFeed (fed_of self.old.team.first.aligner) (longest self.old.team) a.now (slice_index bits 0) }
-        requires second { CanFeed (fed_of self.old.team.second.aligner) (longest self.old.team) b.now (slice_index bits 1) }
-        requires third { CanFeed (fed_of self.old.team.third.aligner) (longest self.old.team) c.now (slice_index bits 2) }
-        ensures received { (fed : Fed) (taken : ℕ) → IsReceived self.old fed taken → IsReceived self.new (grown fed a.now b.now c.now bits) taken }
-        ensures aligned { result ≡ is_some self.new.deskew.found }
-        ensures first { fed_of self.new.team.first.aligner ≡ fed_of self.old.team.first.aligner + slice_index bits 0 }
-        ensures second { fed_of self.new.team.second.aligner ≡ fed_of self.old.team.second.aligner + slice_index bits 1 }
-        ensures third { fed_of self.new.team.third.aligner ≡ fed_of self.old.team.third.aligner + slice_index bits 2 }
-    {
-        self.feed_by(rt, a, b, c, bits, gate, Order::SideBySide)
-    }
-
-    /// Takes bits as `feed` does, the lanes fed in this order.
-    pub(crate) fn feed_by<R: Threads, G: Gate>(
         &mut self,
         rt: &R,
         a: &[u8],
@@ -117,13 +93,10 @@ impl Receiver {
     }
 
     /// The columns that are not consumed: none before the alignment.
-    pub fn columns(&self) -> ColumnsRef<'_>
-        ensures count { AreColumns (ready_of self.now.deskew) result.a.now result.b.now result.c.now }
-        ensures first { AreWords result.a.now }
-        ensures second { AreWords result.b.now }
-        ensures third { AreWords result.c.now }
+    pub fn columns(&self) -> Columns<'_>
+        ensures count { length (columns_in result) ≡ ready_of self.now.deskew }
         ensures columns { (fed : Fed) (taken : ℕ) → IsReceived self.now fed taken
-            → columns_of result.a.now result.b.now result.c.now ≡ drop taken (columns_from fed self.now.deskew.found) }
+            → columns_in result ≡ drop taken (columns_from fed self.now.deskew.found) }
     {
         self.deskew.columns()
     }

@@ -105,7 +105,11 @@ impl<H: Hears> LaneSink<H> {
             → OnErr result ((things : List Thing) × IsGainBy H.grammar fed (grown fed a.now b.now c.now bits) things × StopsIn E.took E.broke ear.old ear.new things) }
         ensures cause { HasCause (E.faults ear.old) (E.faults ear.new) result }
     {
-        self.feed_by(rt, a, b, c, bits, gate, Order::SideBySide, ear)
+        self.is_open = false;
+        self.stream
+            .feed(rt, a, b, c, bits, gate, Order::SideBySide, ear)?;
+        self.is_open = true;
+        Ok(())
     }
 
     /// Takes bits of each lane as `feed` does with no gate to pass. Where they are few the lanes are fed one after another,
@@ -139,44 +143,11 @@ impl<H: Hears> LaneSink<H> {
             → OnErr result ((things : List Thing) × IsGainBy H.grammar fed (grown fed a.now b.now c.now bits) things × StopsIn E.took E.broke ear.old ear.new things) }
         ensures cause { HasCause (E.faults ear.old) (E.faults ear.new) result }
     {
-        self.feed_by(rt, a, b, c, bits, &Open, order_for(bits), ear)
-    }
-
-    /// Takes bits of each lane, the lanes fed in this order.
-    fn feed_by<R: Threads, E: Ear, G: Gate>(
-        &mut self,
-        rt: &R,
-        a: &[u8],
-        b: &[u8],
-        c: &[u8],
-        bits: [u32; 3],
-        gate: &G,
-        order: Order,
-        ear: &mut E,
-    ) -> Result<(), Failed>
-        requires open { self.old.is_open ≡ true }
-        requires first { CanFeed (bits_of self.old 0) (most_bits self.old) a.now (slice_index bits 0) }
-        requires second { CanFeed (bits_of self.old 1) (most_bits self.old) b.now (slice_index bits 1) }
-        requires third { CanFeed (bits_of self.old 2) (most_bits self.old) c.now (slice_index bits 2) }
-        ensures open { OnOk result (self.new.is_open ≡ true) }
-        ensures first { OnOk result (bits_of self.new 0 ≡ bits_of self.old 0 + slice_index bits 0) }
-        ensures second { OnOk result (bits_of self.new 1 ≡ bits_of self.old 1 + slice_index bits 1) }
-        ensures third { OnOk result (bits_of self.new 2 ≡ bits_of self.old 2 + slice_index bits 2) }
-        ensures fed { (fed : Fed) → StandsBy H.goes_on self.old fed → OnOk result (StandsBy H.goes_on self.new (grown fed a.now b.now c.now bits)) }
-        ensures told { (fed : Fed) → StandsBy H.goes_on self.old fed
-            → OnOk result ((things : List Thing) × IsGainBy H.grammar fed (grown fed a.now b.now c.now bits) things × E.took ear.old ear.new things) }
-        ensures spent { OnErr result (self.new.is_open ≡ false) }
-        ensures stopped { (fed : Fed) → StandsBy H.goes_on self.old fed
-            → OnErr result ((things : List Thing) × IsGainBy H.grammar fed (grown fed a.now b.now c.now bits) things × StopsIn E.took E.broke ear.old ear.new things) }
-        ensures cause { HasCause (E.faults ear.old) (E.faults ear.new) result }
-    {
-        match self.stream.feed(rt, a, b, c, bits, gate, order, ear) {
-            Ok(()) => Ok(()),
-            Err(_) => {
-                self.is_open = false;
-                Err(Failed)
-            }
-        }
+        self.is_open = false;
+        self.stream
+            .feed(rt, a, b, c, bits, &Open, order_for(bits), ear)?;
+        self.is_open = true;
+        Ok(())
     }
 
     /// Tells the ear what the end tells, and answers whether the lanes were aligned and how many columns they have. The

@@ -11,13 +11,12 @@ ghost use Rattle.link_sink.specs.Received.{CanFeed, longest};
 ghost use Rattle.link_sink.specs.Streams.{IsHeard, IsBehind};
 
 use crate::Ear;
+use crate::columns::hear_columns;
 use crate::feeds::Order;
 use crate::hear::Outcome;
 use crate::hears::Hears;
 use crate::receiver::Receiver;
-use crate::slices::hear_slices;
 use crate::telling::hear_end;
-use lane_deskew::ColumnsRef;
 use lane_team::Gate;
 use outside_io::{Failed, NoMemory};
 use std::alloc::Global;
@@ -97,7 +96,7 @@ impl<H: Hears> Stream<H> {
         ensures third { fed_of self.new.receiver.team.third.aligner ≡ fed_of self.old.receiver.team.third.aligner + slice_index bits 2 }
         ensures cause { HasCause (E.faults ear.old) (E.faults ear.new) result }
     {
-        self.outcome.aligned = self.receiver.feed_by(rt, a, b, c, bits, gate, order);
+        self.outcome.aligned = self.receiver.feed(rt, a, b, c, bits, gate, order);
         hear_parts(
             &mut self.receiver,
             &mut *self.hearing,
@@ -140,9 +139,9 @@ fn hear_parts<H: Hears, E: Ear>(
     ensures team { receiver.new.team ≡ receiver.old.team }
     ensures cause { HasCause (E.faults ear.old) (E.faults ear.new) result }
 {
-    let ColumnsRef { a, b, c } = receiver.columns();
-    let count = a.len();
-    hear_slices(a, b, c, hearing, ear)?;
+    let columns = receiver.columns();
+    let count = columns.len();
+    hear_columns(columns, hearing, ear)?;
     receiver.consume(count);
     outcome.columns += count as u32;
     Ok(())

@@ -71,19 +71,18 @@ three true false c e f g = cc
 three false b c e f g = cc
 
 -- what has the words of a column that goes on with the last run goes on with it, and nothing else does
-pub alike_goes : (kept : Kept) (a b r x y z : ℕ) → a ≡ x → b ≡ y → r ≡ z → goes_kept kept (record { blue = a; green = b; red = r }) ≡ true → (d : Column) → is_alike x y z d ≡ goes_kept kept d
-alike_goes kept a b r x y z ea eb er goes d =
-    let c : Column = record { blue = a; green = b; red = r } in
+pub alike_goes : (kept : Kept) (c : Column) → goes_kept kept c ≡ true → (d : Column) → is_alike c d ≡ goes_kept kept d
+alike_goes kept c goes d =
     let whole = whole_is kept.value c (both (not (kept.run == 0)) (is_whole kept.value c) goes).1 in
-    same_test (is_alike x y z d) (goes_kept kept d)
+    same_test (is_alike c d) (goes_kept kept d)
     (λ e.
-    let p = both (d.blue == x) _ e in
-    let q = both (d.green == y) _ p.1 in
-    let fb : c.blue ≡ d.blue = ea ∙ sym (eqb-true d.blue x p.0) in
-    let fg : c.green ≡ d.green = eb ∙ sym (eqb-true d.green y q.0) in
-    let fr : c.red ≡ d.red = er ∙ sym (eqb-true d.red z q.1) in
+    let p = both (d.blue == c.blue) _ e in
+    let q = both (d.green == c.green) _ p.1 in
+    let fb : c.blue ≡ d.blue = sym (eqb-true d.blue c.blue p.0) in
+    let fg : c.green ≡ d.green = sym (eqb-true d.green c.green q.0) in
+    let fr : c.red ≡ d.red = sym (eqb-true d.red c.red q.1) in
     subst (λ (k : Column). goes_kept kept k ≡ true) (λ i. record { blue = fb i; green = fg i; red = fr i }) goes)
     (λ e.
     let own = whole_is kept.value d (both (not (kept.run == 0)) (is_whole kept.value d) e).1 in
     let same = same_column kept.value c d whole own in
-    three (d.blue == x) (d.green == y) (d.red == z) (eq-eqb d.blue x (same.0 ∙ ea)) (eq-eqb d.green y (same.1 ∙ eb)) (eq-eqb d.red z (same.2 ∙ er)))
+    three (d.blue == c.blue) (d.green == c.green) (d.red == c.red) (eq-eqb d.blue c.blue same.0) (eq-eqb d.green c.green same.1) (eq-eqb d.red c.red same.2))

@@ -1,10 +1,10 @@
 -- Lanes that were followed from word to word.
-use Rattle.std.proofs.Common.{◌≡◌, ℕ, ◌+◌, Bool, true, false, not, cond, ◌==◌, ◌||◌, nat_le, ◌⊎◌, inl, inr, List, [], ◌∷◌, ◌++◌, length, refl, ap, is_some, sym, subst, ◌∙◌, arith, All, eqb-true}
+use Rattle.std.proofs.Common.{◌≡◌, ℕ, ◌+◌, Bool, true, false, not, cond, ◌==◌, ◌||◌, nat_le, ◌⊎◌, inl, inr, List, [], ◌∷◌, ◌++◌, refl, ap, is_some, sym, subst, ◌∙◌, All, eqb-true}
 use Rattle.std.specs.Prelude.{Option, Some, None, ℤ, pos, ◌+ℤ◌}
 use Rattle.std.proofs.Math.IntN.{+ℤ_assoc, +ℤ_idl, +ℤ_idr}
 use Rattle.std.proofs.lemmas.List.Elements.{All-nil, All-cons}
 use Rattle.tmds_word.specs.Bits.{bits_of, word_bits, balance, number, ones, zeros}
-use Rattle.tmds_word.specs.Words.{columns_of}
+use Rattle.tmds_word.specs.Column.{Column, blues, greens, reds}
 use Rattle.terc4.specs.Tables.{control_words, is_control, is_in}
 use Rattle.terc4.specs.Columns.{is_control_column, one_if}
 use Rattle.tmds_code.specs.Coding.{Sign, negative, null, positive, sign_of, coded_at, coded_word, coded_bits, balanced, minimised, takes_xnor, decoded_byte, decoded_bits}
@@ -131,18 +131,16 @@ pixel_by false false true a b c f g h e = cc
 pixel_by false false false a b c f g h e = cc
 
 -- where two lanes are still right, no column is a control column
-pub all_pixels : (x y z : Option ℤ) (bs gs rs : List ℕ) → length gs ≡ length bs → length rs ≡ length bs
-    → nat_le 2 ((one_if (is_some (followed_all x bs)) + one_if (is_some (followed_all y gs))) + one_if (is_some (followed_all z rs))) ≡ true
-    → All (λ c. is_pixel c ≡ true) (columns_of bs gs rs)
-unfolding columns_of is_pixel is_control_column
-all_pixels x y z [] gs rs m n e = All-nil (λ c. is_pixel c ≡ true)
-all_pixels x y z (b ∷ bs) [] rs m n e = absurd (omega arith)
-all_pixels x y z (b ∷ bs) (h ∷ gs) [] m n e = absurd (omega arith)
-all_pixels x y z (b ∷ bs) (h ∷ gs) (s ∷ rs) m n e =
-    All-cons (λ c. is_pixel c ≡ true) (record { blue = b; green = h; red = s }) (columns_of bs gs rs)
-    (pixel_by (is_some (followed_all (followed x b) bs)) (is_some (followed_all (followed y h) gs)) (is_some (followed_all (followed z s) rs)) (is_control b) (is_control h) (is_control s)
-    (λ k. right_word x b (first_right (followed x b) bs k)) (λ k. right_word y h (first_right (followed y h) gs k)) (λ k. right_word z s (first_right (followed z s) rs k)) e)
-    (all_pixels (followed x b) (followed y h) (followed z s) bs gs rs (omega arith) (omega arith) e)
+pub all_pixels : (x y z : Option ℤ) (cs : List Column)
+    → nat_le 2 ((one_if (is_some (followed_all x (blues cs))) + one_if (is_some (followed_all y (greens cs)))) + one_if (is_some (followed_all z (reds cs)))) ≡ true
+    → All (λ c. is_pixel c ≡ true) cs
+unfolding is_pixel is_control_column
+all_pixels x y z [] e = All-nil (λ c. is_pixel c ≡ true)
+all_pixels x y z (c ∷ cs) e =
+    All-cons (λ d. is_pixel d ≡ true) c cs
+    (pixel_by (is_some (followed_all (followed x c.blue) (blues cs))) (is_some (followed_all (followed y c.green) (greens cs))) (is_some (followed_all (followed z c.red) (reds cs))) (is_control c.blue) (is_control c.green) (is_control c.red)
+    (λ k. right_word x c.blue (first_right (followed x c.blue) (blues cs) k)) (λ k. right_word y c.green (first_right (followed y c.green) (greens cs) k)) (λ k. right_word z c.red (first_right (followed z c.red) (reds cs) k)) e)
+    (all_pixels (followed x c.blue) (followed y c.green) (followed z c.red) cs e)
 
 pub some_of : (o : Option ℤ) → is_some o ≡ true → (e : ℤ) × (o ≡ Some e)
 some_of None h = cc

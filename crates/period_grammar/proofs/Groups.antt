@@ -1,12 +1,11 @@
 -- Lines that are heard group after group.
-use Rattle.std.proofs.Common.{◌≡◌, ℕ, ◌+◌, ◌-◌, ◌*◌, ◌<◌, ◌≤◌, true, List, [], ◌∷◌, ◌++◌, length, take, drop, get_or, refl, ap, ap₂, is_some, sym, subst, ◌∙◌, arith, All, append_assoc, length-drop}
-use Rattle.std.specs.Prelude.{Option, Some, None, IfSome, ℤ, nat_le}
+use Rattle.std.proofs.Common.{◌≡◌, ℕ, ◌+◌, ◌*◌, ◌<◌, ◌≤◌, true, List, [], ◌∷◌, ◌++◌, length, take, drop, refl, ap, ap₂, is_some, sym, subst, ◌∙◌, arith, All, append_assoc, map}
+use Rattle.std.specs.Prelude.{Option, Some, None, IfSome, ℤ, nat_le, slice_get}
 use Rattle.std.specs.List.{prefix_len}
 use Rattle.std.proofs.Math.Seq.{take-add}
-use Rattle.std.proofs.lemmas.List.{take-take, take_at, take_more, take_all, take_rest, drop-drop, append-nil, length-take-le}
+use Rattle.std.proofs.lemmas.List.{take-take, take_at, take_all, drop-drop, append-nil, length-take-le, map-append}
 use Rattle.std.proofs.lemmas.List.Elements.{All-append}
-use Rattle.tmds_word.specs.Column.{Column}
-use Rattle.tmds_word.specs.Words.{columns_of}
+use Rattle.tmds_word.specs.Column.{Column, blues, greens, reds}
 use Rattle.terc4.specs.Columns.{one_if}
 use Rattle.tmds_code.specs.Coding.{decoded_byte}
 use Rattle.tmds_code.specs.Balances.{disparity_at, followed, followed_all}
@@ -16,16 +15,9 @@ use Rattle.period_grammar.specs.Balanced.{are_enough, is_pixel}
 use Rattle.period_grammar.specs.LineSeen.{LineSeen}
 use Rattle.period_grammar.specs.Lines.{IsLineAfter}
 use Rattle.period_grammar.specs.declared.followed.Balances.{Balances}
-use Rattle.period_grammar.proofs.Pixels.{AreLanes, columns_take, columns_drop, lanes_of, next_take, prefix_pass, prefix_take, prefix_whole}
+use Rattle.period_grammar.proofs.Pixels.{take_next, prefix_pass, prefix_take, prefix_whole}
 use Rattle.period_grammar.proofs.Lined.{line_bytes_append, line_bytes_push}
 use Rattle.period_grammar.proofs.Balanced.{none_some, all_pixels}
-
--- the columns of a group
-pub group_of : (bs gs rs : List ℕ) (at n : ℕ) → length gs ≡ length bs → length rs ≡ length bs
-    → columns_of (take n (drop at bs)) (take n (drop at gs)) (take n (drop at rs)) ≡ take n (drop at (columns_of bs gs rs))
-group_of bs gs rs at n g r =
-    sym (ap (take n) (columns_drop at bs gs rs g r)
-    ∙ columns_take n (drop at bs) (drop at gs) (drop at rs) (omega (arith, length-drop at gs, length-drop at bs, g)) (omega (arith, length-drop at rs, length-drop at bs, r)))
 
 pub group_bytes : (was now before : List ℕ) (cols more : List Column) (at n : ℕ) → more ≡ take n (drop at cols) → was ≡ before ++ line_bytes (take at cols) → now ≡ was ++ line_bytes more
     → now ≡ before ++ line_bytes (take (at + n) cols)
@@ -33,24 +25,24 @@ group_bytes was now before cols more at n m w e =
     e ∙ ap₂ (λ xs cs. xs ++ line_bytes cs) w m ∙ append_assoc before (line_bytes (take at cols)) (line_bytes (take n (drop at cols)))
     ∙ ap (λ xs. before ++ xs) (sym (line_bytes_append (take at cols) (take n (drop at cols))) ∙ ap line_bytes (sym (take-add at n cols)))
 
-pub group_followed : (from was now : Option ℤ) (ws more : List ℕ) (at n : ℕ) → more ≡ take n (drop at ws) → was ≡ followed_all from (take at ws) → now ≡ followed_all was more
-    → now ≡ followed_all from (take (at + n) ws)
-group_followed from was now ws more at n m w e =
-    e ∙ ap₂ followed_all w m ∙ sym (followed_append from (take at ws) (take n (drop at ws))) ∙ ap (followed_all from) (sym (take-add at n ws))
+pub group_followed : (from was now : Option ℤ) (f : Column → ℕ) (cols more : List Column) (at n : ℕ) → more ≡ take n (drop at cols) → was ≡ followed_all from (map f (take at cols))
+    → now ≡ followed_all was (map f more) → now ≡ followed_all from (map f (take (at + n) cols))
+group_followed from was now f cols more at n m w e =
+    e ∙ ap₂ (λ o cs. followed_all o (map f cs)) w m ∙ sym (followed_append from (map f (take at cols)) (map f (take n (drop at cols))))
+    ∙ ap (followed_all from) (sym (map-append f (take at cols) (take n (drop at cols))) ∙ ap (map f) (sym (take-add at n cols)))
 
-pub group_pixels : (was now : Balances) (cols : List Column) (bs gs rs : List ℕ) (at n : ℕ) → length gs ≡ length bs → length rs ≡ length bs
-    → columns_of bs gs rs ≡ take n (drop at cols) → All (λ c. is_pixel c ≡ true) (take at cols)
-    → disparity_at now.blue ≡ followed_all (disparity_at was.blue) bs → disparity_at now.green ≡ followed_all (disparity_at was.green) gs → disparity_at now.red ≡ followed_all (disparity_at was.red) rs
+pub group_pixels : (was now : Balances) (cols more : List Column) (at n : ℕ) → more ≡ take n (drop at cols) → All (λ c. is_pixel c ≡ true) (take at cols)
+    → disparity_at now.blue ≡ followed_all (disparity_at was.blue) (blues more) → disparity_at now.green ≡ followed_all (disparity_at was.green) (greens more) → disparity_at now.red ≡ followed_all (disparity_at was.red) (reds more)
     → are_enough now ≡ true → All (λ c. is_pixel c ≡ true) (take (at + n) cols)
 unfolding are_enough
-group_pixels was now cols bs gs rs at n g r same all eb eg er enough =
-    let three : nat_le 2 ((one_if (is_some (followed_all (disparity_at was.blue) bs)) + one_if (is_some (followed_all (disparity_at was.green) gs))) + one_if (is_some (followed_all (disparity_at was.red) rs))) ≡ true =
-    ap₂ (λ x y. nat_le 2 ((one_if (is_some x) + one_if (is_some y)) + one_if (is_some (followed_all (disparity_at was.red) rs)))) (sym eb) (sym eg)
+group_pixels was now cols more at n same all eb eg er enough =
+    let three : nat_le 2 ((one_if (is_some (followed_all (disparity_at was.blue) (blues more))) + one_if (is_some (followed_all (disparity_at was.green) (greens more)))) + one_if (is_some (followed_all (disparity_at was.red) (reds more)))) ≡ true =
+    ap₂ (λ x y. nat_le 2 ((one_if (is_some x) + one_if (is_some y)) + one_if (is_some (followed_all (disparity_at was.red) (reds more))))) (sym eb) (sym eg)
     ∙ ap (λ z. nat_le 2 ((one_if (is_some (disparity_at now.blue)) + one_if (is_some (disparity_at now.green))) + one_if (is_some z))) (sym er)
     ∙ enough in
     subst (λ (cs : List Column). All (λ c. is_pixel c ≡ true) cs) (sym (take-add at n cols))
     (All-append (λ c. is_pixel c ≡ true) (take at cols) (take n (drop at cols)) all
-    (subst (λ (cs : List Column). All (λ c. is_pixel c ≡ true) cs) same (all_pixels (disparity_at was.blue) (disparity_at was.green) (disparity_at was.red) bs gs rs g r three)))
+    (subst (λ (cs : List Column). All (λ c. is_pixel c ≡ true) cs) same (all_pixels (disparity_at was.blue) (disparity_at was.green) (disparity_at was.red) more three)))
 
 -- the bytes before a group stay
 pub group_before : (old new more before : List ℕ) (cols : List Column) (at p n : ℕ) → take (p + n) new ≡ take p old ++ more → p ≤ length old → take p old ≡ before ++ line_bytes (take at cols) → take p new ≡ before ++ line_bytes (take at cols)
@@ -58,16 +50,18 @@ group_before old new more before cols at p n e le was =
     sym (take-take p (p + n) new (omega arith)) ∙ ap (take p) e ∙ take_at (take p old) more p (length-take-le p old le) ∙ was
 
 -- one pixel more of a group
-pub pixel_bytes : (was now before : List ℕ) (cols : List Column) (i a b r : ℕ) (d : Column) (ds : List Column) → drop i cols ≡ d ∷ ds → was ≡ before ++ line_bytes (take i cols) → now ≡ was ++ (r ∷ (b ∷ (a ∷ [])))
+pub pixel_bytes : (was now before : List ℕ) (cols : List Column) (i a b r : ℕ) (d : Column) → slice_get cols i ≡ Some d → was ≡ before ++ line_bytes (take i cols) → now ≡ was ++ (r ∷ (b ∷ (a ∷ [])))
     → r ≡ decoded_byte d.red → b ≡ decoded_byte d.green → a ≡ decoded_byte d.blue → now ≡ before ++ line_bytes (take (i + 1) cols)
-pixel_bytes was now before cols i a b r d ds e w n er eb ea =
+pixel_bytes was now before cols i a b r d e w n er eb ea =
     n ∙ ap₂ (λ xs ys. xs ++ ys) w (λ k. er k ∷ (eb k ∷ (ea k ∷ [])))
     ∙ append_assoc before (line_bytes (take i cols)) (pixel d)
-    ∙ ap (λ xs. before ++ xs) (sym (line_bytes_push (take i cols) d) ∙ ap line_bytes (next_take [] cols i d ds e))
+    ∙ ap (λ xs. before ++ xs) (sym (line_bytes_push (take i cols) d) ∙ ap line_bytes (sym (take_next cols i d e)))
 
-pub pixel_followed : (from was now : Option ℤ) (ws : List ℕ) (i w : ℕ) → i < length ws → w ≡ get_or ws i 0 → was ≡ followed_all from (take i ws) → now ≡ followed was w → now ≡ followed_all from (take (i + 1) ws)
-pixel_followed from was now ws i w lt e s n =
-    n ∙ ap₂ followed s e ∙ sym (followed_append from (take i ws) (get_or ws i 0 ∷ [])) ∙ ap (followed_all from) (sym (take_more ws i 0 lt))
+pub pixel_followed : (from was now : Option ℤ) (f : Column → ℕ) (cols : List Column) (i : ℕ) (d : Column) → slice_get cols i ≡ Some d → was ≡ followed_all from (map f (take i cols))
+    → now ≡ followed was (f d) → now ≡ followed_all from (map f (take (i + 1) cols))
+pixel_followed from was now f cols i d e s n =
+    n ∙ ap (λ o. followed o (f d)) s ∙ sym (followed_append from (map f (take i cols)) (f d ∷ []))
+    ∙ ap (followed_all from) (sym (map-append f (take i cols) (d ∷ [])) ∙ ap (map f) (sym (take_next cols i d e)))
 
 pub none_put : (room : List ℕ) (place : ℕ) → take (place + 0) room ≡ take place room ++ line_bytes []
 unfolding line_bytes
@@ -79,37 +73,15 @@ pub whole_group : (room before : List ℕ) (cols : List Column) (place i n : ℕ
 whole_group room before cols place i n e le was =
     ap (λ k. take (place + 3 * k) room) (sym e) ∙ was ∙ ap (λ k. before ++ line_bytes (take k cols)) e ∙ ap (λ cs. before ++ line_bytes cs) (take_all n cols le)
 
-pub length_part : (bs gs : List ℕ) (at n m : ℕ) → m ≡ n → at + n ≤ length bs → length gs ≡ length bs → length (take m (drop at gs)) ≡ length (take m (drop at bs))
-length_part bs gs at n m e le g =
-    length-take-le m (drop at gs) (omega (arith, e, le, g, length-drop at gs)) ∙ sym (length-take-le m (drop at bs) (omega (arith, e, le, length-drop at bs)))
-
 -- what a lane's words give from its own disparity on
 pub from_balance : (b out : Option ℤ) (z d : ℤ) (ws vs : List ℕ) → IfSome b (λ x. x ≡ z) → out ≡ followed_all b ws → ws ≡ vs → out ≡ Some d → followed_all (Some z) vs ≡ Some d
 from_balance None out z d ws vs h e w f = absurd (none_some ws d (sym e ∙ f))
 from_balance (Some x) out z d ws vs h e w f = ap₂ (λ y us. followed_all (Some y) us) (sym h) (sym w) ∙ sym e ∙ f
 
--- the first n of the columns that fit
-pub first_fit : (bs gs rs : List ℕ) (fits n : ℕ) → length gs ≡ length bs → length rs ≡ length bs → n ≤ fits
-    → take n (columns_of (take fits bs) (take fits gs) (take fits rs)) ≡ take n (columns_of bs gs rs)
-first_fit bs gs rs fits n g r le = ap (take n) (sym (columns_take fits bs gs rs g r)) ∙ take-take n fits (columns_of bs gs rs) le
-
--- the lanes of the first n columns
-pub first_lanes : (bs gs rs : List ℕ) (n : ℕ) → length gs ≡ length bs → length rs ≡ length bs → n ≤ length bs → AreLanes (take n (columns_of bs gs rs)) (take n bs) (take n gs) (take n rs)
-first_lanes bs gs rs n g r le =
-    subst (λ (cs : List Column). AreLanes cs (take n bs) (take n gs) (take n rs)) (sym (columns_take n bs gs rs g r))
-    (lanes_of (take n bs) (take n gs) (take n rs) (omega (arith, length-take-le n gs (omega arith), length-take-le n bs le, g)) (omega (arith, length-take-le n rs (omega arith), length-take-le n bs le, r)))
-
 pub length_bytes : (cs : List Column) → length (line_bytes cs) ≡ 3 * length cs
 unfolding line_bytes
 length_bytes [] = refl
 length_bytes (c ∷ cs) = omega (arith, length_bytes cs)
-
-pub rest_columns : (bs gs rs : List ℕ) (at : ℕ) → length gs ≡ length bs → length rs ≡ length bs
-    → columns_of (take (length bs - at) (drop at bs)) (take (length gs - at) (drop at gs)) (take (length rs - at) (drop at rs)) ≡ drop at (columns_of bs gs rs)
-rest_columns bs gs rs at g r =
-    ap₂ (λ xs ys. columns_of xs ys (take (length rs - at) (drop at rs))) (take_rest bs at) (take_rest gs at)
-    ∙ ap (λ zs. columns_of (drop at bs) (drop at gs) zs) (take_rest rs at)
-    ∙ sym (columns_drop at bs gs rs g r)
 
 pub more_heard : (l : LineSeen) (pixels cols part : List Column) (at k : ℕ) → take k part ≡ take k (drop at cols) → IsLineAfter l ((pixels ++ take at cols) ++ take k part) → IsLineAfter l (pixels ++ take (at + k) cols)
 more_heard l pixels cols part at k e was =

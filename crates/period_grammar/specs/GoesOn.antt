@@ -14,9 +14,9 @@ use Rattle.period_grammar.specs.declared.control.Kept.{Kept}
 abbrev pub is_whole : ℕ → Column → Bool
 is_whole v c = is_control c.blue && (is_control c.green && (is_control c.red && (value_of c == v)))
 
--- whether the words of a column are these
-abbrev pub is_alike : ℕ → ℕ → ℕ → Column → Bool
-is_alike blue green red c = (c.blue == blue) && ((c.green == green) && (c.red == red))
+-- whether the words of a column are those of another
+abbrev pub is_alike : Column → Column → Bool
+is_alike other c = (c.blue == other.blue) && ((c.green == other.green) && (c.red == other.red))
 
 -- whether a column goes on with the last of some runs
 abbrev pub goes_on_run : List Run → Column → Bool

@@ -2,7 +2,7 @@
 ghost use Rattle.std.specs.Prelude.{◌≡◌, ◌<◌, ◌≤◌, ◌+◌, ◌^◌, ◌++◌, ◌∷◌, [], All, List, ℕ, length, slice_index, true, ◌==◌, ◌&&◌};
 ghost use Rattle.std.specs.List.{prefix_len};
 ghost use Rattle.tmds_word.specs.Column.{Column, column_of};
-ghost use Rattle.tmds_word.specs.Words.{columns_of};
+ghost use Rattle.tmds_word.specs.Lent.{columns_in};
 ghost use Rattle.island_pack.specs.Periods.{ctl};
 ghost use Rattle.period_grammar.specs.Column.{value_of};
 ghost use Rattle.period_grammar.specs.Cut.{runs};
@@ -12,10 +12,10 @@ ghost use Rattle.period_grammar.specs.GoesOn.{goes_on_run, goes_kept, is_alike};
 ghost use Rattle.period_grammar.specs.ControlAfter.{IsControlAfter, IsCounted};
 ghost use Rattle.period_grammar.specs.Noted.{things, Lent};
 
-use crate::column::has_value;
+use crate::column::{self, has_value};
 use crate::notes::{Note, Notes};
 use crate::told::Fault;
-use tmds_word::Word;
+use tmds_word::{Columns, Word};
 
 /// The number of columns, their last run, and how many last columns have its control bits.
 #[derive(Clone, Copy)]
@@ -85,24 +85,19 @@ impl Kept {
         self.ctl_run += 1;
     }
 
-    /// How many columns of three lanes' words, from the first on, go on with the last run.
-    pub fn count_going_on(&self, blue: &[u16], green: &[u16], red: &[u16]) -> usize
-        requires green { length green.now ≡ length blue.now }
-        requires red { length red.now ≡ length blue.now }
-        requires blue_words { All (λ w. w < 1024) blue.now }
-        requires green_words { All (λ w. w < 1024) green.now }
-        requires red_words { All (λ w. w < 1024) red.now }
-        ensures within { result ≤ length blue.now }
-        ensures count { result ≡ prefix_len (goes_kept self.now) (columns_of blue.now green.now red.now) }
+    /// How many columns, from the first on, go on with the last run.
+    pub fn count_going_on(&self, columns: Columns<'_>) -> usize
+        ensures within { result ≤ length (columns_in columns.entry) }
+        ensures count { result ≡ prefix_len (goes_kept self.now) (columns_in columns.entry) }
     {
-        if blue.is_empty() {
+        if columns.is_empty() {
             return 0;
         }
-        let first = [Word::of(blue[0]), Word::of(green[0]), Word::of(red[0])];
+        let first = columns.get(0);
         if !self.goes_on(&first) {
             return 0;
         }
-        count_alike(blue, green, red)
+        count_alike(columns, &first)
     }
 
     /// Hears columns of the last run's value, this many.
@@ -173,26 +168,25 @@ impl Kept {
     }
 }
 
-/// How many columns of three lanes' words, from the first on, have the words of the first.
-fn count_alike(blue: &[u16], green: &[u16], red: &[u16]) -> usize
-    requires some { 0 < length blue.now }
-    requires green { length green.now ≡ length blue.now }
-    requires red { length red.now ≡ length blue.now }
-    ensures within { result ≤ length blue.now }
-    ensures count { result ≡ prefix_len (is_alike (slice_index blue.now 0) (slice_index green.now 0) (slice_index red.now 0)) (columns_of blue.now green.now red.now) }
+/// How many columns, from the first on, have the words of another one.
+fn count_alike(columns: Columns<'_>, other: &[Word; 3]) -> usize
+    ensures within { result ≤ length (columns_in columns.entry) }
+    ensures count { result ≡ prefix_len (is_alike (column_of other.now)) (columns_in columns.entry) }
 {
-    let first = (blue[0], green[0], red[0]);
-    for i in 0..blue.len() {
-        if !same_words((blue[i], green[i], red[i]), first) {
+    for i in 0..columns.len() {
+        if !same_words(&columns.get(i), other) {
             return i;
         }
     }
-    blue.len()
+    columns.len()
 }
 
 /// Whether the words of two columns are the same.
-fn same_words(a: (u16, u16, u16), b: (u16, u16, u16)) -> bool
-    ensures { result ≡ ((a.0 == b.0) && ((a.1 == b.1) && (a.2 == b.2))) }
+fn same_words(a: &[Word; 3], b: &[Word; 3]) -> bool
+    ensures { result ≡ is_alike (column_of b.now) (column_of a.now) }
 {
-    (a.0 == b.0) & ((a.1 == b.1) & (a.2 == b.2))
+    let blue = column::blue(a).value() == column::blue(b).value();
+    let green = column::green(a).value() == column::green(b).value();
+    let red = column::red(a).value() == column::red(b).value();
+    blue & (green & red)
 }

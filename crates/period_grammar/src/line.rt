@@ -2,7 +2,7 @@
 ghost use Rattle.std.specs.Prelude.{◌≡◌, ◌<◌, ◌≤◌, ◌+◌, ◌^◌, ◌++◌, ◌∷◌, [], All, List, length, take, true, if◌then◌else◌, nat_le, Some, None, Option, ℕ};
 ghost use Rattle.std.specs.List.{prefix_len};
 ghost use Rattle.tmds_word.specs.Column.{Column, column_of};
-ghost use Rattle.tmds_word.specs.Words.{columns_of};
+ghost use Rattle.tmds_word.specs.Lent.{columns_in};
 ghost use Rattle.period_grammar.specs.Balanced.{is_pixel};
 ghost use Rattle.period_grammar.specs.Heard.{line_of, line_at, code_fault};
 ghost use Rattle.period_grammar.specs.Lines.{IsLineAfter};
@@ -17,7 +17,7 @@ use crate::notes::{Note, Notes};
 use crate::told::Fault;
 use std::marker::Model;
 use terc4::is_control_column;
-use tmds_word::Word;
+use tmds_word::{Columns, Word};
 
 /// The bytes and the judges of the first 4,096 pixels.
 #[derive(Drop)]
@@ -82,24 +82,19 @@ impl Line {
         self.count = pixel + 1;
     }
 
-    /// Hears columns of three lanes' words as long as they are no control columns, and answers how many these are.
-    pub fn hear_while(&mut self, blue: &[u16], green: &[u16], red: &[u16]) -> usize
-        requires green { length green.now ≡ length blue.now }
-        requires red { length red.now ≡ length blue.now }
-        requires blue_words { All (λ w. w < 1024) blue.now }
-        requires green_words { All (λ w. w < 1024) green.now }
-        requires red_words { All (λ w. w < 1024) red.now }
-        requires few { self.old.count + length blue.now < 2 ^ 32 }
-        ensures within { result ≤ length blue.now }
-        ensures pixels { result ≡ prefix_len is_pixel (columns_of blue.now green.now red.now) }
+    /// Hears columns as long as they are no control columns, and answers how many these are.
+    pub fn hear_while(&mut self, columns: Columns<'_>) -> usize
+        requires few { self.old.count + length (columns_in columns) < 2 ^ 32 }
+        ensures within { result ≤ length (columns_in columns.entry) }
+        ensures pixels { result ≡ prefix_len is_pixel (columns_in columns.entry) }
         ensures count { self.new.count ≡ self.old.count + result }
-        ensures heard { (pixels : List Column) → IsLineAfter self.old pixels → IsLineAfter self.new (pixels ++ take result (columns_of blue.now green.now red.now)) }
+        ensures heard { (pixels : List Column) → IsLineAfter self.old pixels → IsLineAfter self.new (pixels ++ take result (columns_in columns.entry)) }
     {
         let mut at = 0;
-        while at < blue.len() {
-            at += self.hear_groups(&blue[at..], &green[at..], &red[at..]);
-            let end = blue.len().min(at + GROUP);
-            let more = self.hear_each(&blue[at..end], &green[at..end], &red[at..end]);
+        while at < columns.len() {
+            at += self.hear_groups(columns.from(at));
+            let end = columns.len().min(at + GROUP);
+            let more = self.hear_each(columns.from(at).first(end - at));
             if more < end - at {
                 return at + more;
             }
@@ -109,16 +104,11 @@ impl Line {
     }
 
     /// Hears columns, group after group, as long as two lanes are rightly coded, and answers how many these are.
-    fn hear_groups(&mut self, blue: &[u16], green: &[u16], red: &[u16]) -> usize
-        requires green { length green.now ≡ length blue.now }
-        requires red { length red.now ≡ length blue.now }
-        requires blue_words { All (λ w. w < 1024) blue.now }
-        requires green_words { All (λ w. w < 1024) green.now }
-        requires red_words { All (λ w. w < 1024) red.now }
-        ensures within { result ≤ length blue.now }
-        ensures pixels { All (λ c. is_pixel c ≡ true) (take result (columns_of blue.now green.now red.now)) }
+    fn hear_groups(&mut self, columns: Columns<'_>) -> usize
+        ensures within { result ≤ length (columns_in columns.entry) }
+        ensures pixels { All (λ c. is_pixel c ≡ true) (take result (columns_in columns.entry)) }
         ensures count { self.new.count ≡ self.old.count + result }
-        ensures heard { (pixels : List Column) → IsLineAfter self.old pixels → IsLineAfter self.new (pixels ++ take result (columns_of blue.now green.now red.now)) }
+        ensures heard { (pixels : List Column) → IsLineAfter self.old pixels → IsLineAfter self.new (pixels ++ take result (columns_in columns.entry)) }
     {
         let pixel = self.count;
         let from = Balances {
@@ -129,38 +119,33 @@ impl Line {
         if pixel >= 4096 || !from.are_enough() {
             return 0;
         }
-        let fits = blue.len().min(4096 - pixel as usize);
-        let (n, balances) = self
-            .bytes
-            .push_groups(&blue[..fits], &green[..fits], &red[..fits], &from);
-        self.blue.hear_followed(pixel, &blue[..n], balances.blue);
-        self.green.hear_followed(pixel, &green[..n], balances.green);
-        self.red.hear_followed(pixel, &red[..n], balances.red);
+        let fits = columns.len().min(4096 - pixel as usize);
+        let (n, balances) = self.bytes.push_groups(columns.first(fits), &from);
+        let heard = columns.first(n);
+        self.blue.hear_followed(pixel, heard.blue(), balances.blue);
+        self.green
+            .hear_followed(pixel, heard.green(), balances.green);
+        self.red.hear_followed(pixel, heard.red(), balances.red);
         self.count = pixel + n as u32;
         n
     }
 
     /// Hears columns one by one as long as they are no control columns, and answers how many these are.
-    fn hear_each(&mut self, blue: &[u16], green: &[u16], red: &[u16]) -> usize
-        requires green { length green.now ≡ length blue.now }
-        requires red { length red.now ≡ length blue.now }
-        requires blue_words { All (λ w. w < 1024) blue.now }
-        requires green_words { All (λ w. w < 1024) green.now }
-        requires red_words { All (λ w. w < 1024) red.now }
-        requires few { self.old.count + length blue.now < 2 ^ 32 }
-        ensures within { result ≤ length blue.now }
-        ensures pixels { result ≡ prefix_len is_pixel (columns_of blue.now green.now red.now) }
+    fn hear_each(&mut self, columns: Columns<'_>) -> usize
+        requires few { self.old.count + length (columns_in columns) < 2 ^ 32 }
+        ensures within { result ≤ length (columns_in columns.entry) }
+        ensures pixels { result ≡ prefix_len is_pixel (columns_in columns.entry) }
         ensures count { self.new.count ≡ self.old.count + result }
-        ensures heard { (pixels : List Column) → IsLineAfter self.old pixels → IsLineAfter self.new (pixels ++ take result (columns_of blue.now green.now red.now)) }
+        ensures heard { (pixels : List Column) → IsLineAfter self.old pixels → IsLineAfter self.new (pixels ++ take result (columns_in columns.entry)) }
     {
-        for i in 0..blue.len() {
-            let column = [Word::of(blue[i]), Word::of(green[i]), Word::of(red[i])];
+        for i in 0..columns.len() {
+            let column = columns.get(i);
             if is_control_column(&column) {
                 return i;
             }
             self.hear(&column);
         }
-        blue.len()
+        columns.len()
     }
 
     /// Tells the line, whose first pixel is two columns after the start.

@@ -2,7 +2,6 @@ pub mod Below
 pub mod Numbers
 pub mod Lists
 pub mod Rows
-pub mod Setting
 pub mod Words
 pub mod Bytes
 pub mod Fives
@@ -11,3 +10,4 @@ pub mod Characters
 pub mod Lanes
 pub mod Turns
 pub mod Example
+pub mod Lent

@@ -3,3 +3,4 @@ pub mod Column
 pub mod Cuts
 pub mod Words
 pub mod Taps
+pub mod Lent

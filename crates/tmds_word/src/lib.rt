@@ -2,15 +2,15 @@
 #![tactic(auto)]
 
 mod column;
+mod columns;
 pub mod laws;
 mod packing;
-mod replace;
 mod row;
 mod word;
 
 pub use column::ColumnSink;
+pub use columns::Columns;
 pub use packing::pack_four;
-pub use replace::replace_word;
 pub use row::BitRow;
 pub use word::Word;
 

@@ -1,10 +1,9 @@
 //! Rows of the bits that one lane sends.
-ghost use Rattle.std.specs.Prelude.{ℕ, Bool, List, ◌≡◌, ◌<◌, ◌≤◌, ◌+◌, ◌-◌, ◌*◌, ◌/◌, ◌%◌, ◌↔◌, ◌^◌, ◌++◌, [], take, drop, length, slice_get, slice_index, slice_set, ◌∷◌, IfSome, IsNone, IsTrue, Some, IfOk, OnOk, OnErr, min};
+ghost use Rattle.std.specs.Prelude.{ℕ, Bool, List, ◌≡◌, ◌<◌, ◌≤◌, ◌+◌, ◌-◌, ◌*◌, ◌/◌, ◌%◌, ◌↔◌, ◌^◌, ◌++◌, [], take, drop, length, slice_get, slice_index, ◌∷◌, IfSome, IsNone, IsTrue, Some, IfOk, OnOk, OnErr, min};
 ghost use Rattle.tmds_word.specs.Bits.{bits_of, word_bits, row_bits, bytes_bits, bytes_of, number};
 
 use crate::Word;
 use crate::packing::{pack, shift};
-use crate::replace::{set_bit, with_bit};
 use outside_io::NoMemory;
 use std::alloc::Global;
 use std::marker::Model;
@@ -181,16 +180,6 @@ impl BitRow {
         }
     }
 
-    /// Replaces the ten bits from a place on by those of a character.
-    pub fn replace_word(&mut self, place: u32, word: Word)
-        requires { place + 10 ≤ length self.old }
-        ensures { self.new ≡ take place self.old ++ word_bits word ++ drop (place + 10) self.old }
-    {
-        for k in 0..10 {
-            self.set_bit(place as usize + usize::from(k), word.sent_bit(k));
-        }
-    }
-
     /// Keeps the first bits, as many as are asked for.
     pub fn truncate(&mut self, bits: u32)
         requires { bits ≤ length self.old }
@@ -202,18 +191,6 @@ impl BitRow {
         self.tail = byte & ((1 << held) - 1);
         self.held = held;
         self.whole.truncate(at);
-    }
-
-    /// Sets the bit at a place.
-    fn set_bit(&mut self, i: usize, value: bool)
-        requires { i < length self.old }
-        ensures { self.new ≡ slice_set self.old i value }
-    {
-        if i / 8 < self.whole.len() {
-            set_bit(self.whole.as_mut_slice(), i, value);
-        } else {
-            self.tail = with_bit(self.tail, (i % 8) as u8, value);
-        }
     }
 
     /// A number whose ten bits from bit `p % 8` on are the row's from `p` on; none where fewer than ten

@@ -1,7 +1,7 @@
 //! Characters and rows compared with values that were computed apart from this crate.
 ghost use Rattle.std.specs.Prelude.{ℕ, ◌<◌, List, length};
 
-use crate::{BitRow, ColumnSink, Word, pack_four, replace_word};
+use crate::{BitRow, ColumnSink, Word, pack_four};
 use outside_io::NoMemory;
 use std::alloc::Global;
 use std::process::Abort;
@@ -354,83 +354,23 @@ fn copied_bytes(rt: HostRuntime) -> Result<(), Fail> {
     Ok(())
 }
 
-/// Places in these bytes, characters that replace the ten bits from there on, and the bytes then.
-static REPLACED: [(u32, u16, [u8; 14]); 8] = [
-    (
-        0,
-        0x2ab,
-        [
-            0xab, 0xae, 0x42, 0xd5, 0xaa, 0x9c, 0x7a, 0xc4, 0x6c, 0x9c, 0x33, 0xfd, 0x1f, 0x00,
-        ],
-    ),
-    (
-        3,
-        0x3ff,
-        [
-            0xfc, 0xbf, 0x42, 0xd5, 0xaa, 0x9c, 0x7a, 0xc4, 0x6c, 0x9c, 0x33, 0xfd, 0x1f, 0x00,
-        ],
-    ),
-    (
-        8,
-        0x000,
-        [
-            0x54, 0x00, 0x40, 0xd5, 0xaa, 0x9c, 0x7a, 0xc4, 0x6c, 0x9c, 0x33, 0xfd, 0x1f, 0x00,
-        ],
-    ),
-    (
-        41,
-        0x2aa,
-        [
-            0x54, 0xaf, 0x42, 0xd5, 0xaa, 0x54, 0x7d, 0xc4, 0x6c, 0x9c, 0x33, 0xfd, 0x1f, 0x00,
-        ],
-    ),
-    (
-        95,
-        0x155,
-        [
-            0x54, 0xaf, 0x42, 0xd5, 0xaa, 0x9c, 0x7a, 0xc4, 0x6c, 0x9c, 0x33, 0xfd, 0xaa, 0x00,
-        ],
-    ),
-    (
-        96,
-        0x001,
-        [
-            0x54, 0xaf, 0x42, 0xd5, 0xaa, 0x9c, 0x7a, 0xc4, 0x6c, 0x9c, 0x33, 0xfd, 0x01, 0x00,
-        ],
-    ),
-    (
-        99,
-        0x2cc,
-        [
-            0x54, 0xaf, 0x42, 0xd5, 0xaa, 0x9c, 0x7a, 0xc4, 0x6c, 0x9c, 0x33, 0xfd, 0x67, 0x16,
-        ],
-    ),
-    (
-        100,
-        0x3fe,
-        [
-            0x54, 0xaf, 0x42, 0xd5, 0xaa, 0x9c, 0x7a, 0xc4, 0x6c, 0x9c, 0x33, 0xfd, 0xef, 0x3f,
-        ],
-    ),
-];
-
-// The row's 110 bits end six bits into the last byte, so that some characters reach into its tail.
 #[test]
-fn replaced_words(rt: HostRuntime) -> Result<(), Fail> {
-    for &(place, value, expected) in &REPLACED {
-        let word = Word::new(value).ok_or("ten bits")?;
-        let mut bytes = PACKED;
-        assert!(rt; place as usize + 10 <= 8 * bytes.as_slice().len());
-        replace_word(&mut bytes, place, word);
-        assert_eq!(rt; bytes, expected, "bytes at {place}");
-
-        let mut row = BitRow::new(rt.alloc());
-        row.push_bits(&PACKED, 110)?;
-        assert!(rt; place + 10 <= row.len());
-        row.replace_word(place, word);
-        assert_eq!(rt; row.len(), 110);
-        row.copy_bytes(0, &mut bytes);
-        assert_eq!(rt; bytes, expected, "a row at {place}");
-    }
-    Ok(())
+fn lends_columns(rt: HostRuntime) {
+    let columns = crate::Columns::new(
+        &[0x001, 0x002, 0x003, 0x004],
+        &[0x101, 0x102, 0x103, 0x104],
+        &[0x201, 0x202, 0x203, 0x204],
+    );
+    assert_eq!(rt; columns.len(), 4);
+    assert!(rt; !columns.is_empty());
+    let two = columns.from(1).first(2);
+    assert_eq!(rt; two.len(), 2);
+    assert_eq!(rt;
+        two.get(1),
+        [Word::of(0x003), Word::of(0x103), Word::of(0x203)]
+    );
+    assert_eq!(rt; two.blue(), [0x002, 0x003].as_slice());
+    assert_eq!(rt; two.green(), [0x102, 0x103].as_slice());
+    assert_eq!(rt; two.red(), [0x202, 0x203].as_slice());
+    assert!(rt; columns.from(4).is_empty());
 }

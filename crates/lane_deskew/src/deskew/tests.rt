@@ -6,7 +6,7 @@ ghost use Rattle.lane_align.specs.Aligners.{fed_of};
 ghost use Rattle.lane_deskew.specs.Keeping.{stored};
 ghost use Rattle.lane_deskew.specs.Pushed.{ready_of};
 
-use super::{ColumnsRef, Deskew};
+use super::Deskew;
 use crate::Aligned;
 use crate::lane::Lane;
 use crate::reference::first_alignment;
@@ -95,12 +95,13 @@ fn feed(
 fn expect_columns(rt: &impl Abort, deskew: &Deskew, case: &Case, taken: usize) -> usize
     ensures { result ≡ ready_of deskew.now }
 {
-    let ColumnsRef { a, b, c } = deskew.columns();
-    let n = a.len();
+    let columns = deskew.columns();
+    let n = columns.len();
     assert!(rt; taken <= case.columns.len() && n <= case.columns.len() - taken);
     for i in 0..n {
+        let [a, b, c] = columns.get(i);
         assert_eq!(rt;
-            [a[i], b[i], c[i]],
+            [a.value(), b.value(), c.value()],
             case.columns[taken + i],
             "column {i} past {taken}"
         );

@@ -1,5 +1,5 @@
 use Rattle.std.proofs.Common.{List, refl, arith}
-use Rattle.tmds_word.specs.Words.{columns_of}
+use Rattle.tmds_word.specs.Lent.{columns_in}
 use Rattle.period_grammar.specs.Things.{Thing}
 use Rattle.link_sink.specs.Ears.{StopsIn}
 use Rattle.link_sink.specs.Sinks.{IsGainBy}
@@ -7,36 +7,36 @@ use Rattle.link_sink.proofs.Stops.{on_err}
 use Rattle.link_sink.proofs.Behind.{few_lent, lent_gain, now_heard}
 use Rattle.link_sink.proofs.streaming.hear_parts.Goals as goal
 
-pub hear_slices-requires-clause-few : goal.hear_slices-requires-clause-few
-hear_slices-requires-clause-few g c =
+pub hear_columns-requires-clause-few : goal.hear_columns-requires-clause-few
+hear_columns-requires-clause-few g c =
     let behind = c.requires.2 in
-    (few_lent g.H.Hears.goes_on g.H.Hears.counted g.met.H.Hears.counts (record { receiver = c.args.receiver.now; hearing = c.args.hearing.now; outcome = c.args.outcome.now }) _ _ c.columns.result.a.now c.columns.result.b.now c.columns.result.c.now behind c.columns.ensures.count c.columns.ensures.columns).0
+    (few_lent g.H.Hears.goes_on g.H.Hears.counted g.met.H.Hears.counts (record { receiver = c.args.receiver.now; hearing = c.args.hearing.now; outcome = c.args.outcome.now }) _ _ _ behind c.columns-columns.ensures.columns).0
 
 pub overflow_cast-outcome : goal.overflow_cast-outcome
 overflow_cast-outcome g c =
-    let few = few_lent g.H.Hears.goes_on g.H.Hears.counted g.met.H.Hears.counts (record { receiver = c.args.receiver.now; hearing = c.args.hearing.now; outcome = c.args.outcome.now }) _ _ c.columns.result.a.now c.columns.result.b.now c.columns.result.c.now c.requires.2 c.columns.ensures.count c.columns.ensures.columns in
+    let few = few_lent g.H.Hears.goes_on g.H.Hears.counted g.met.H.Hears.counts (record { receiver = c.args.receiver.now; hearing = c.args.hearing.now; outcome = c.args.outcome.now }) _ _ _ c.requires.2 c.columns-columns.ensures.columns in
     omega (arith, few.1)
 
 pub overflow_add-outcome : goal.overflow_add-outcome
 overflow_add-outcome g c =
-    let few = few_lent g.H.Hears.goes_on g.H.Hears.counted g.met.H.Hears.counts (record { receiver = c.args.receiver.now; hearing = c.args.hearing.now; outcome = c.args.outcome.now }) _ _ c.columns.result.a.now c.columns.result.b.now c.columns.result.c.now c.requires.2 c.columns.ensures.count c.columns.ensures.columns in
+    let few = few_lent g.H.Hears.goes_on g.H.Hears.counted g.met.H.Hears.counts (record { receiver = c.args.receiver.now; hearing = c.args.hearing.now; outcome = c.args.outcome.now }) _ _ _ c.requires.2 c.columns-columns.ensures.columns in
     omega (arith, few.1)
 
-pub returns-in_err-hear_slices-clause-stopped : goal.returns-in_err-hear_slices-clause-stopped
-returns-in_err-hear_slices-clause-stopped g c = λ before now h.
-    let lent = columns_of c.columns.result.a.now c.columns.result.b.now c.columns.result.c.now in
-    let t = c.in_err-hear_slices.ensures.stopped _ h.heard in
-    on_err {P = (things : List Thing) × IsGainBy g.H.Hears.grammar before now things × StopsIn g.E.Ear.took g.E.Ear.broke c.args.ear.now c.hear_slices.new.ear things} _
-    (t.things, lent_gain g.H.Hears.goes_on g.H.Hears.grammar g.met.H.Hears.is_grammar (record { receiver = c.args.receiver.now; hearing = c.args.hearing.now; outcome = c.args.outcome.now }) before now lent t.things h c.columns.ensures.columns t.things_are, t.stops)
+pub returns-in_err-hear_columns-clause-stopped : goal.returns-in_err-hear_columns-clause-stopped
+returns-in_err-hear_columns-clause-stopped g c = λ before now h.
+    let lent = columns_in c.columns-columns.result in
+    let t = c.in_err-hear_columns.ensures.stopped _ h.heard in
+    on_err {P = (things : List Thing) × IsGainBy g.H.Hears.grammar before now things × StopsIn g.E.Ear.took g.E.Ear.broke c.args.ear.now c.hear_columns.new.ear things} _
+    (t.things, lent_gain g.H.Hears.goes_on g.H.Hears.grammar g.met.H.Hears.is_grammar (record { receiver = c.args.receiver.now; hearing = c.args.hearing.now; outcome = c.args.outcome.now }) before now lent t.things h c.columns-columns.ensures.columns t.things_are, t.stops)
 
 pub returns-clause-heard : goal.returns-clause-heard
 returns-clause-heard g c = λ before now h.
-    now_heard g.H.Hears.goes_on (record { receiver = c.args.receiver.now; hearing = c.args.hearing.now; outcome = c.args.outcome.now }) before now c.columns.result.a.now c.columns.result.b.now c.columns.result.c.now c.consume.new.self c.hear_slices.new.hearing _ h
-    c.columns.ensures.count c.columns.ensures.columns c.consume.ensures.ready c.consume.ensures.received c.consume.ensures.found
-    c.in_ok-hear_slices.ensures.heard refl refl
+    now_heard g.H.Hears.goes_on (record { receiver = c.args.receiver.now; hearing = c.args.hearing.now; outcome = c.args.outcome.now }) before now _ c.consume.new.self c.hear_columns.new.hearing _ h
+    c.columns-columns.ensures.count c.columns-columns.ensures.columns _ c.len-count.ensures c.consume.ensures.ready c.consume.ensures.received c.consume.ensures.found
+    c.in_ok-hear_columns.ensures.heard refl refl
 
 pub returns-clause-told : goal.returns-clause-told
 returns-clause-told g c = λ before now h.
-    let lent = columns_of c.columns.result.a.now c.columns.result.b.now c.columns.result.c.now in
-    let t = c.in_ok-hear_slices.ensures.told _ h.heard in
-    (t.things, lent_gain g.H.Hears.goes_on g.H.Hears.grammar g.met.H.Hears.is_grammar (record { receiver = c.args.receiver.now; hearing = c.args.hearing.now; outcome = c.args.outcome.now }) before now lent t.things h c.columns.ensures.columns t.things_are, t.took_things)
+    let lent = columns_in c.columns-columns.result in
+    let t = c.in_ok-hear_columns.ensures.told _ h.heard in
+    (t.things, lent_gain g.H.Hears.goes_on g.H.Hears.grammar g.met.H.Hears.is_grammar (record { receiver = c.args.receiver.now; hearing = c.args.hearing.now; outcome = c.args.outcome.now }) before now lent t.things h c.columns-columns.ensures.columns t.things_are, t.took_things)

@@ -1,5 +1,5 @@
 use Rattle.std.proofs.Common.{◌≡◌, ◌+◌, ap, sym, subst, refl, ◌∙◌}
-use Rattle.tmds_word.specs.Words.{columns_of}
+use Rattle.tmds_word.specs.Lent.{columns_in}
 use Rattle.dvi_hearing.specs.DviSeen.{DviSeen}
 use Rattle.dvi_hearing.specs.DviStands.{StandsFor}
 use Rattle.dvi_hearing.specs.declared.phase.Phase.TheVariants.{Pixels}
@@ -13,7 +13,7 @@ returns-clause-heard c cs was =
     let now_seen : DviSeen = record { columns = h.columns + c.hear_while-count.result; phase = h.phase; control = h.control; line = c.hear_while-count.new.self; notes = h.notes; unused = h.unused; finished = h.finished } in
     let phase : c.self.inside.phase ≡ Pixels c.requires.phase.0 = ap (λ (s : DviSeen). s.phase) c.self.view_is ∙ c.requires.phase.1 in
     let w = subst (λ (s : DviSeen). StandsFor s cs) (sym c.self.view_is) was in
-    (line_went was_seen now_seen cs (columns_of c.args.blue.now c.args.green.now c.args.red.now) c.hear_while-count.result _ phase phase refl refl c.hear_while-count.ensures.pixels c.hear_while-count.ensures.heard w).stands
+    (line_went was_seen now_seen cs (columns_in c.args.columns) c.hear_while-count.result _ phase phase refl refl c.hear_while-count.ensures.pixels c.hear_while-count.ensures.heard w).stands
 
 pub returns-clause-told : goal.returns-clause-told
 returns-clause-told c cs was =
@@ -22,4 +22,4 @@ returns-clause-told c cs was =
     let now_seen : DviSeen = record { columns = h.columns + c.hear_while-count.result; phase = h.phase; control = h.control; line = c.hear_while-count.new.self; notes = h.notes; unused = h.unused; finished = h.finished } in
     let phase : c.self.inside.phase ≡ Pixels c.requires.phase.0 = ap (λ (s : DviSeen). s.phase) c.self.view_is ∙ c.requires.phase.1 in
     let w = subst (λ (s : DviSeen). StandsFor s cs) (sym c.self.view_is) was in
-    (line_went was_seen now_seen cs (columns_of c.args.blue.now c.args.green.now c.args.red.now) c.hear_while-count.result _ phase phase refl refl c.hear_while-count.ensures.pixels c.hear_while-count.ensures.heard w).told
+    (line_went was_seen now_seen cs (columns_in c.args.columns) c.hear_while-count.result _ phase phase refl refl c.hear_while-count.ensures.pixels c.hear_while-count.ensures.heard w).told

@@ -1,5 +1,5 @@
 use Rattle.std.proofs.Common.{◌≡◌, ◌+◌, ap, sym, subst, refl, ◌∙◌}
-use Rattle.tmds_word.specs.Words.{columns_of}
+use Rattle.tmds_word.specs.Lent.{columns_in}
 use Rattle.dvi_hearing.specs.DviSeen.{DviSeen}
 use Rattle.dvi_hearing.specs.DviStands.{StandsFor}
 use Rattle.dvi_hearing.specs.declared.phase.Phase.TheVariants.{Control}
@@ -13,7 +13,7 @@ returns-clause-heard c cs was =
     let now_seen : DviSeen = record { columns = h.columns + c.count_going_on-count.result; phase = h.phase; control = c.hear_run.new.self; line = h.line; notes = h.notes; unused = h.unused; finished = h.finished } in
     let phase : c.self.inside.phase ≡ Control = ap (λ (s : DviSeen). s.phase) c.self.view_is ∙ c.requires.phase in
     let w = subst (λ (s : DviSeen). StandsFor s cs) (sym c.self.view_is) was in
-    (run_went was_seen now_seen cs (columns_of c.args.blue.now c.args.green.now c.args.red.now) c.count_going_on-count.result phase phase refl c.count_going_on-count.ensures.count c.hear_run.ensures.heard w).stands
+    (run_went was_seen now_seen cs (columns_in c.args.columns) c.count_going_on-count.result phase phase refl c.count_going_on-count.ensures.count c.hear_run.ensures.heard w).stands
 
 pub returns-clause-told : goal.returns-clause-told
 returns-clause-told c cs was =
@@ -22,4 +22,4 @@ returns-clause-told c cs was =
     let now_seen : DviSeen = record { columns = h.columns + c.count_going_on-count.result; phase = h.phase; control = c.hear_run.new.self; line = h.line; notes = h.notes; unused = h.unused; finished = h.finished } in
     let phase : c.self.inside.phase ≡ Control = ap (λ (s : DviSeen). s.phase) c.self.view_is ∙ c.requires.phase in
     let w = subst (λ (s : DviSeen). StandsFor s cs) (sym c.self.view_is) was in
-    (run_went was_seen now_seen cs (columns_of c.args.blue.now c.args.green.now c.args.red.now) c.count_going_on-count.result phase phase refl c.count_going_on-count.ensures.count c.hear_run.ensures.heard w).told
+    (run_went was_seen now_seen cs (columns_in c.args.columns) c.count_going_on-count.result phase phase refl c.count_going_on-count.ensures.count c.hear_run.ensures.heard w).told

@@ -1,8 +1,8 @@
-use Rattle.std.proofs.Common.{take, ap, ◌∙◌, subst, min, cond, is_some, length, Option, MatchOption}
+use Rattle.std.proofs.Common.{◌≡◌, ◌≤◌, take, ap, ◌∙◌, sym, subst, min, cond, is_some, length, Option, MatchOption, arith}
 use Rattle.tmds_word.specs.Words.{columns_of}
 use Rattle.lane_deskew.specs.Pushed.{Awaits, IsAligned}
 use Rattle.lane_deskew.specs.declared.Aligned.{Aligned}
-use Rattle.lane_deskew.proofs.Consuming.{columns_lent}
+use Rattle.lane_deskew.proofs.Consuming.{columns_lent, length_first, ready_within}
 use Rattle.lane_deskew.proofs.deskew.Deskew.columns.Goals as goal
 
 pub returns-clause-columns : goal.returns-clause-columns
@@ -11,5 +11,24 @@ returns-clause-columns c p at stands is =
     let n = c.ready-n.result in
     let al : IsAligned d p at.edges = subst (λ (o : Option Aligned). MatchOption o (Awaits d p) (λ at. IsAligned d p at.edges)) is stands.alignment in
     let ready = c.ready-n.ensures ∙ ap (λ (o : Option Aligned). cond (is_some o) (min (length d.first.kept.row) (min (length d.second.kept.row) (length d.third.kept.row))) 0) is in
-    (λ i. columns_of (take n (c.words-a.ensures.row i)) (take n (c.words-b.ensures.row i)) (take n (c.words-c.ensures.row i)))
+    c.new.ensures
+    ∙ (λ i. columns_of (take n (c.words-a.ensures.row i)) (take n (c.words-b.ensures.row i)) (take n (c.words-c.ensures.row i)))
     ∙ columns_lent d p at.edges n stands.known al ready
+
+pub returns-clause-count : goal.returns-clause-count
+returns-clause-count c =
+    let d = c.args.self.now in
+    let n = c.ready-n.result in
+    let least = min (length d.first.kept.row) (min (length d.second.kept.row) (length d.third.kept.row)) in
+    let le : n ≤ least = subst (λ k. k ≤ least) (sym c.ready-n.ensures) (ready_within d.found least) in
+    ap length c.new.ensures
+    ∙ (λ i. length (columns_of (take n (c.words-a.ensures.row i)) (take n (c.words-b.ensures.row i)) (take n (c.words-c.ensures.row i))))
+    ∙ length_first n d.first.kept.row d.second.kept.row d.third.kept.row le
+    ∙ c.ready-n.ensures
+
+pub returns-clause-before : goal.returns-clause-before
+unfolding columns_of
+returns-clause-before c none =
+    let d = c.args.self.now in
+    let zero : c.ready-n.result ≡ 0 = c.ready-n.ensures ∙ ap (λ (o : Option Aligned). cond (is_some o) (min (length d.first.kept.row) (min (length d.second.kept.row) (length d.third.kept.row))) 0) none in
+    c.new.ensures ∙ ap (λ k. columns_of (take k c.words-a.result.now) (take k c.words-b.result.now) (take k c.words-c.result.now)) zero

@@ -1,6 +1,6 @@
 use Rattle.std.proofs.Common.{List, ap, sym, subst, refl, ◌∙◌, arith}
 use Rattle.tmds_word.specs.Column.{Column}
-use Rattle.tmds_word.specs.Words.{columns_of}
+use Rattle.tmds_word.specs.Lent.{columns_in}
 use Rattle.period_grammar.specs.Cut.{stretches}
 use Rattle.period_grammar.specs.After.{last}
 use Rattle.period_grammar.specs.Seen.{Seen}
@@ -12,7 +12,7 @@ use Rattle.period_grammar.proofs.hearing.Hearing.hear_front.Goals as goal
 
 pub returns-in-First : goal.returns-in-First
 returns-in-First c =
-    let cols = columns_of c.args.blue.now c.args.green.now c.args.red.now in
+    let cols = columns_in c.args.columns in
     let h = c.args.self.now in
     let went : (cs : List Column) → StandsFor h cs → Went h cs cols 0 = λ cs was.
     none_went h cs cols (λ d. first_stays h.control h.line h.island h.columns _ _ _ _ d (last (stretches cs))
@@ -29,7 +29,7 @@ returns-in-First c =
 
 pub returns-in-Island : goal.returns-in-Island
 returns-in-Island c =
-    let cols = columns_of c.args.blue.now c.args.green.now c.args.red.now in
+    let cols = columns_in c.args.columns in
     let h = c.args.self.now in
     let went : (cs : List Column) → StandsFor h cs → Went h cs cols 0 = λ cs was.
     none_went h cs cols (λ d. island_stays h.control h.line h.island h.columns _ d (last (stretches cs))
@@ -46,7 +46,7 @@ returns-in-Island c =
 
 pub returns-in-Noise : goal.returns-in-Noise
 returns-in-Noise c =
-    let cols = columns_of c.args.blue.now c.args.green.now c.args.red.now in
+    let cols = columns_in c.args.columns in
     let h = c.args.self.now in
     let went : (cs : List Column) → StandsFor h cs → Went h cs cols 0 = λ cs was.
     none_went h cs cols (λ d. noise_stays h.control h.line h.island h.columns d (last (stretches cs))

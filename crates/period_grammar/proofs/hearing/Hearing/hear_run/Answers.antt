@@ -1,5 +1,5 @@
 use Rattle.std.proofs.Common.{◌≡◌, ◌+◌, ap, sym, subst, refl, ◌∙◌}
-use Rattle.tmds_word.specs.Words.{columns_of}
+use Rattle.tmds_word.specs.Lent.{columns_in}
 use Rattle.period_grammar.specs.Seen.{Seen}
 use Rattle.period_grammar.specs.Stands.{StandsFor}
 use Rattle.period_grammar.specs.declared.phase.Phase.TheVariants.{Control}
@@ -14,7 +14,7 @@ returns-clause-count c cs was =
     let now_seen : Seen = record { columns = h.columns + n; phase = h.phase; control = c.hear_run.new.self; line = h.line; island = h.island; notes = h.notes; finished = h.finished } in
     let phase : c.self.inside.phase ≡ Control = ap (λ (s : Seen). s.phase) c.self.view_is ∙ c.requires.phase in
     let w = subst (λ (s : Seen). StandsFor s cs) (sym c.self.view_is) was in
-    (run_went was_seen now_seen cs (columns_of c.args.blue.now c.args.green.now c.args.red.now) c.count_going_on-count.result phase phase refl c.count_going_on-count.ensures.count c.hear_run.ensures.heard w).count
+    (run_went was_seen now_seen cs (columns_in c.args.columns) c.count_going_on-count.result phase phase refl c.count_going_on-count.ensures.count c.hear_run.ensures.heard w).count
 
 pub returns-clause-heard : goal.returns-clause-heard
 returns-clause-heard c cs was =
@@ -24,7 +24,7 @@ returns-clause-heard c cs was =
     let now_seen : Seen = record { columns = h.columns + n; phase = h.phase; control = c.hear_run.new.self; line = h.line; island = h.island; notes = h.notes; finished = h.finished } in
     let phase : c.self.inside.phase ≡ Control = ap (λ (s : Seen). s.phase) c.self.view_is ∙ c.requires.phase in
     let w = subst (λ (s : Seen). StandsFor s cs) (sym c.self.view_is) was in
-    (run_went was_seen now_seen cs (columns_of c.args.blue.now c.args.green.now c.args.red.now) c.count_going_on-count.result phase phase refl c.count_going_on-count.ensures.count c.hear_run.ensures.heard w).stands
+    (run_went was_seen now_seen cs (columns_in c.args.columns) c.count_going_on-count.result phase phase refl c.count_going_on-count.ensures.count c.hear_run.ensures.heard w).stands
 
 pub returns-clause-told : goal.returns-clause-told
 returns-clause-told c cs was =
@@ -34,4 +34,4 @@ returns-clause-told c cs was =
     let now_seen : Seen = record { columns = h.columns + n; phase = h.phase; control = c.hear_run.new.self; line = h.line; island = h.island; notes = h.notes; finished = h.finished } in
     let phase : c.self.inside.phase ≡ Control = ap (λ (s : Seen). s.phase) c.self.view_is ∙ c.requires.phase in
     let w = subst (λ (s : Seen). StandsFor s cs) (sym c.self.view_is) was in
-    (run_went was_seen now_seen cs (columns_of c.args.blue.now c.args.green.now c.args.red.now) c.count_going_on-count.result phase phase refl c.count_going_on-count.ensures.count c.hear_run.ensures.heard w).told
+    (run_went was_seen now_seen cs (columns_in c.args.columns) c.count_going_on-count.result phase phase refl c.count_going_on-count.ensures.count c.hear_run.ensures.heard w).told

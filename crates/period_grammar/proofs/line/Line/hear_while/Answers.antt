@@ -1,89 +1,71 @@
-use Rattle.std.proofs.Common.{◌≡◌, ℕ, ◌+◌, ◌-◌, ◌≤◌, ◌++◌, min, List, [], length, take, drop, ap, sym, subst, ◌∙◌, arith, length-drop}
+use Rattle.std.proofs.Common.{◌≡◌, ℕ, ◌+◌, ◌-◌, ◌≤◌, ◌++◌, List, length, take, drop, ap, subst, ◌∙◌, arith, length-drop}
 use Rattle.std.specs.List.{prefix_len}
 use Rattle.std.proofs.lemmas.List.{take-take, length-take-le}
 use Rattle.tmds_word.specs.Column.{Column}
-use Rattle.tmds_word.specs.Words.{columns_of}
+use Rattle.tmds_word.specs.Lent.{columns_in}
 use Rattle.period_grammar.specs.Balanced.{is_pixel}
 use Rattle.period_grammar.specs.Lines.{IsLineAfter}
-use Rattle.period_grammar.proofs.Pixels.{lanes_of, columns_end, step_end}
-use Rattle.period_grammar.proofs.Groups.{group_of, rest_columns, more_heard, pixels_on, pixels_stop, pixels_whole}
+use Rattle.period_grammar.proofs.Pixels.{step_end}
+use Rattle.period_grammar.proofs.Groups.{more_heard, pixels_on, pixels_stop, pixels_whole}
 use Rattle.period_grammar.proofs.line.Line.hear_while.Goals as goal
 
 pub returns-then-more-end-clause-pixels : goal.returns-then-more-end-clause-pixels
 returns-then-more-end-clause-pixels c =
-    let bs = c.args.blue.now in
-    let gs = c.args.green.now in
-    let rs = c.args.red.now in
-    let cols = columns_of bs gs rs in
+    let cols = columns_in c.args.columns in
     let at = c.loop-at.at in
     let m = c.hear_groups-at.result in
     let to = c.min-end.result in
     let k = c.hear_each-more.result in
-    let rest = rest_columns bs gs rs at c.requires.green c.requires.red in
-    let long = (lanes_of bs gs rs c.requires.green c.requires.red).long in
-    let long_rest : length (drop at cols) ≡ length bs - at = omega (arith, length-drop at cols, long) in
-    let long_part : length (take (length bs - at) (drop at bs)) ≡ length bs - at = length-take-le (length bs - at) (drop at bs) (omega (arith, length-drop at bs)) in
-    let within : m ≤ length bs - at = omega (arith, c.hear_groups-at.ensures.within, long_part) in
-    let end_is : to ≡ min (length bs) ((at + m) + 8) = c.min-end.ensures in
-    let past : (at + m) ≤ to = omega (arith, end_is, within, c.loop-at.invariant.in_range) in
-    let most : to ≤ length bs = omega (arith, end_is) in
-    let on = pixels_on cols _ _ at m rest (subst (λ (cs : List Column). m ≤ length cs) (sym rest) (omega (arith, within, long_rest))) c.hear_groups-at.ensures.pixels c.loop-at.invariant.pixels in
-    let part = group_of bs gs rs (at + m) (to - (at + m)) c.requires.green c.requires.red in
-    let room : to - (at + m) ≤ length (drop (at + m) cols) = omega (arith, length-drop (at + m) cols, long, most) in
+    let rest = c.from.ensures in
+    let long = length-drop at cols in
+    let within : m ≤ length cols - at = omega (arith, c.hear_groups-at.ensures.within, ap (λ (cs : List Column). length cs) rest, long) in
+    let past : at + m ≤ to = omega (arith, c.min-end.ensures, within, c.loop-at.invariant.in_range) in
+    let most : to ≤ length cols = omega (arith, c.min-end.ensures) in
+    let on = pixels_on cols _ _ at m rest c.hear_groups-at.ensures.within c.hear_groups-at.ensures.pixels c.loop-at.invariant.pixels in
+    let part = c.first.ensures ∙ ap (take (to - (at + m))) c.from-in-loop-at.ensures in
+    let room : to - (at + m) ≤ length (drop (at + m) cols) = omega (arith, length-drop (at + m) cols, most) in
     pixels_stop cols _ _ (at + m) (to - (at + m)) k part room c.hear_each-more.ensures.pixels c.if-more-end.true on
 
 pub returns-then-more-end-clause-heard : goal.returns-then-more-end-clause-heard
 returns-then-more-end-clause-heard c =
-    let bs = c.args.blue.now in
-    let gs = c.args.green.now in
-    let rs = c.args.red.now in
-    let cols = columns_of bs gs rs in
+    let cols = columns_in c.args.columns in
     let at = c.loop-at.at in
     let m = c.hear_groups-at.result in
     let to = c.min-end.result in
     let k = c.hear_each-more.result in
-    let rest = rest_columns bs gs rs at c.requires.green c.requires.red in
-    let long = (lanes_of bs gs rs c.requires.green c.requires.red).long in
-    let long_rest : length (drop at cols) ≡ length bs - at = omega (arith, length-drop at cols, long) in
-    let long_part : length (take (length bs - at) (drop at bs)) ≡ length bs - at = length-take-le (length bs - at) (drop at bs) (omega (arith, length-drop at bs)) in
-    let within : m ≤ length bs - at = omega (arith, c.hear_groups-at.ensures.within, long_part) in
-    let end_is : to ≡ min (length bs) ((at + m) + 8) = c.min-end.ensures in
-    let past : (at + m) ≤ to = omega (arith, end_is, within, c.loop-at.invariant.in_range) in
-    let most : to ≤ length bs = omega (arith, end_is) in
-    let on = pixels_on cols _ _ at m rest (subst (λ (cs : List Column). m ≤ length cs) (sym rest) (omega (arith, within, long_rest))) c.hear_groups-at.ensures.pixels c.loop-at.invariant.pixels in
-    let part = group_of bs gs rs (at + m) (to - (at + m)) c.requires.green c.requires.red in
-    let room : to - (at + m) ≤ length (drop (at + m) cols) = omega (arith, length-drop (at + m) cols, long, most) in
+    let rest = c.from.ensures in
+    let long = length-drop at cols in
+    let within : m ≤ length cols - at = omega (arith, c.hear_groups-at.ensures.within, ap (λ (cs : List Column). length cs) rest, long) in
+    let past : at + m ≤ to = omega (arith, c.min-end.ensures, within, c.loop-at.invariant.in_range) in
+    let most : to ≤ length cols = omega (arith, c.min-end.ensures) in
+    let on = pixels_on cols _ _ at m rest c.hear_groups-at.ensures.within c.hear_groups-at.ensures.pixels c.loop-at.invariant.pixels in
+    let part = c.first.ensures ∙ ap (take (to - (at + m))) c.from-in-loop-at.ensures in
+    let room : to - (at + m) ≤ length (drop (at + m) cols) = omega (arith, length-drop (at + m) cols, most) in
     let mid : (pixels : List Column) → IsLineAfter c.args.self.now pixels → IsLineAfter c.hear_groups-at.new.self (pixels ++ take (at + m) cols) =
     λ pixels was. more_heard c.hear_groups-at.new.self pixels cols _ at m (ap (take m) rest) (c.hear_groups-at.ensures.heard (pixels ++ take at cols) (c.loop-at.invariant.heard pixels was)) in
-    let short : k ≤ to - (at + m) = omega (arith, c.hear_each-more.ensures.within, length-take-le (to - (at + m)) (drop (at + m) bs) (omega (arith, length-drop (at + m) bs, most))) in
+    let short : k ≤ to - (at + m) = omega (arith, c.hear_each-more.ensures.within, ap (λ (cs : List Column). length cs) part, length-take-le (to - (at + m)) (drop (at + m) cols) room) in
     let all : (pixels : List Column) → IsLineAfter c.args.self.now pixels → IsLineAfter c.hear_each-more.new.self (pixels ++ take ((at + m) + k) cols) =
     λ pixels was. more_heard c.hear_each-more.new.self pixels cols _ (at + m) k (ap (take k) part ∙ take-take k (to - (at + m)) (drop (at + m) cols) short) (c.hear_each-more.ensures.heard (pixels ++ take (at + m) cols) (mid pixels was)) in
     all
 
 pub loop-at-preserved : goal.loop-at-preserved
 loop-at-preserved c =
-    let bs = c.args.blue.now in
-    let gs = c.args.green.now in
-    let rs = c.args.red.now in
-    let cols = columns_of bs gs rs in
+    let cols = columns_in c.args.columns in
     let at = c.loop-at.at in
     let m = c.hear_groups-at.result in
     let to = c.min-end.result in
     let k = c.hear_each-more.result in
-    let rest = rest_columns bs gs rs at c.requires.green c.requires.red in
-    let long = (lanes_of bs gs rs c.requires.green c.requires.red).long in
-    let long_rest : length (drop at cols) ≡ length bs - at = omega (arith, length-drop at cols, long) in
-    let long_part : length (take (length bs - at) (drop at bs)) ≡ length bs - at = length-take-le (length bs - at) (drop at bs) (omega (arith, length-drop at bs)) in
-    let within : m ≤ length bs - at = omega (arith, c.hear_groups-at.ensures.within, long_part) in
-    let end_is : to ≡ min (length bs) ((at + m) + 8) = c.min-end.ensures in
-    let past : (at + m) ≤ to = omega (arith, end_is, within, c.loop-at.invariant.in_range) in
-    let most : to ≤ length bs = omega (arith, end_is) in
-    let on = pixels_on cols _ _ at m rest (subst (λ (cs : List Column). m ≤ length cs) (sym rest) (omega (arith, within, long_rest))) c.hear_groups-at.ensures.pixels c.loop-at.invariant.pixels in
-    let part = group_of bs gs rs (at + m) (to - (at + m)) c.requires.green c.requires.red in
-    let room : to - (at + m) ≤ length (drop (at + m) cols) = omega (arith, length-drop (at + m) cols, long, most) in
+    let rest = c.from.ensures in
+    let long = length-drop at cols in
+    let within : m ≤ length cols - at = omega (arith, c.hear_groups-at.ensures.within, ap (λ (cs : List Column). length cs) rest, long) in
+    let past : at + m ≤ to = omega (arith, c.min-end.ensures, within, c.loop-at.invariant.in_range) in
+    let most : to ≤ length cols = omega (arith, c.min-end.ensures) in
+    let on = pixels_on cols _ _ at m rest c.hear_groups-at.ensures.within c.hear_groups-at.ensures.pixels c.loop-at.invariant.pixels in
+    let part = c.first.ensures ∙ ap (take (to - (at + m))) c.from-in-loop-at.ensures in
+    let room : to - (at + m) ≤ length (drop (at + m) cols) = omega (arith, length-drop (at + m) cols, most) in
     let mid : (pixels : List Column) → IsLineAfter c.args.self.now pixels → IsLineAfter c.hear_groups-at.new.self (pixels ++ take (at + m) cols) =
     λ pixels was. more_heard c.hear_groups-at.new.self pixels cols _ at m (ap (take m) rest) (c.hear_groups-at.ensures.heard (pixels ++ take at cols) (c.loop-at.invariant.heard pixels was)) in
-    let short : k ≤ to - (at + m) = omega (arith, c.hear_each-more.ensures.within, length-take-le (to - (at + m)) (drop (at + m) bs) (omega (arith, length-drop (at + m) bs, most))) in
+    let short : k ≤ to - (at + m) = omega (arith, c.hear_each-more.ensures.within, ap (λ (cs : List Column). length cs) part, length-take-le (to - (at + m)) (drop (at + m) cols) room) in
     let all : (pixels : List Column) → IsLineAfter c.args.self.now pixels → IsLineAfter c.hear_each-more.new.self (pixels ++ take ((at + m) + k) cols) =
     λ pixels was. more_heard c.hear_each-more.new.self pixels cols _ (at + m) k (ap (take k) part ∙ take-take k (to - (at + m)) (drop (at + m) cols) short) (c.hear_each-more.ensures.heard (pixels ++ take (at + m) cols) (mid pixels was)) in
     let whole : k ≡ to - (at + m) = omega (arith, c.if-more-end.false, short) in
@@ -98,7 +80,4 @@ loop-at-preserved c =
     }
 
 pub returns-clause-pixels : goal.returns-clause-pixels
-returns-clause-pixels c =
-    let cols : List Column = columns_of c.args.blue.now c.args.green.now c.args.red.now in
-    let all : c.loop-at.at ≡ length c.args.blue.now = omega (arith, c.loop-at.invariant.in_range) in
-    step_end is_pixel cols c.loop-at.at _ (subst (λ (n : ℕ). drop n cols ≡ []) (sym all) (columns_end c.args.blue.now c.args.green.now c.args.red.now)) c.loop-at.invariant.pixels
+returns-clause-pixels c = step_end is_pixel (columns_in c.args.columns) c.loop-at.at _ (omega (arith, c.loop-at.invariant.in_range)) c.loop-at.invariant.pixels

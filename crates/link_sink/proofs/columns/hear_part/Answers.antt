@@ -1,31 +1,30 @@
 use Rattle.std.proofs.Common.{◌+◌, ◌++◌, List, take, drop, arith, sym, subst, ap, ◌∙◌, append_assoc, length-append}
 use Rattle.std.proofs.lemmas.List.{take-append-drop}
 use Rattle.tmds_word.specs.Column.{Column}
-use Rattle.tmds_word.specs.Words.{columns_of}
+use Rattle.tmds_word.specs.Lent.{columns_in}
+use Rattle.period_grammar.proofs.Pixels.{take_next}
 use Rattle.link_sink.specs.Telling.{StoppedIn}
 use Rattle.link_sink.proofs.Stops.{on_err}
 use Rattle.link_sink.proofs.Growing.{call_sized, took_next, stopped_next}
-use Rattle.link_sink.proofs.Parts.{length-take-most, took_quiet, next_column}
-use Rattle.link_sink.proofs.slices.hear_part.Goals as goal
+use Rattle.link_sink.proofs.Parts.{length-take-most, took_quiet}
+use Rattle.link_sink.proofs.columns.hear_part.Goals as goal
 
-pub returns-then-went-blue-clause-told : goal.returns-then-went-blue-clause-told
-returns-then-went-blue-clause-told g c = λ cs was. took_quiet g.H.Hears.grammar g.E.Ear.took _ cs _ (g.met.E.Ear.took_none _) (c.hear_while-went.ensures.told cs was)
+pub returns-then-went-len-clause-told : goal.returns-then-went-len-clause-told
+returns-then-went-len-clause-told g c = λ cs was. took_quiet g.H.Hears.grammar g.E.Ear.took _ cs _ (g.met.E.Ear.took_none _) (c.hear_while-went.ensures.told cs was)
 
 pub tell-requires : goal.tell-requires
 tell-requires g c =
-    let all = columns_of c.args.blue.now c.args.green.now c.args.red.now in
+    let all = columns_in c.args.columns in
     let cs = c.requires.heard.0 ++ take c.hear_while-went.result all in
     let stands = c.hear_while-went.ensures.heard c.requires.heard.0 c.requires.heard.1 in
     record { sized = call_sized g.H.Hears.grammar g.met.H.Hears.is_grammar cs _ _ (c.hear.ensures.told cs stands) }
 
 pub returns-in_err-tell-clause-stopped : goal.returns-in_err-tell-clause-stopped
 returns-in_err-tell-clause-stopped g c =
-    let all = columns_of c.args.blue.now c.args.green.now c.args.red.now in
+    let all = columns_in c.args.columns in
     let went = c.hear_while-went.result in
     let part = take went all in
-    let more =
-    next_column c.args.blue.now c.args.green.now c.args.red.now went c.of.result c.of-2.result c.of-3.result
-    (omega (arith, c.hear_while-went.ensures.within, c.if-went-blue.false)) c.requires.green c.requires.red c.of.ensures c.of-2.ensures c.of-3.ensures in
+    let more = take_next all went _ c.get.ensures in
     on_err {P = (cs : List Column) → g.H.Hears.goes_on c.args.hearing.now cs → StoppedIn g.H.Hears.grammar g.E.Ear.took g.E.Ear.broke c.args.ear.now c.tell.new.ear cs all} _ (λ cs was.
     subst (λ (ds : List Column). StoppedIn g.H.Hears.grammar g.E.Ear.took g.E.Ear.broke c.args.ear.now c.tell.new.ear cs ds) (take-append-drop (went + 1) all)
     (stopped_next g.H.Hears.grammar g.met.H.Hears.is_grammar g.E.Ear.took g.E.Ear.broke g.met.E.Ear.took_both _ _ _ cs part (take (went + 1) all) (drop (went + 1) all) _ _ more
@@ -34,38 +33,34 @@ returns-in_err-tell-clause-stopped g c =
 
 pub returns-clause-heard : goal.returns-clause-heard
 returns-clause-heard g c = λ cs was.
-    let all = columns_of c.args.blue.now c.args.green.now c.args.red.now in
+    let all = columns_in c.args.columns in
     let went = c.hear_while-went.result in
     let part = take went all in
-    let more =
-    next_column c.args.blue.now c.args.green.now c.args.red.now went c.of.result c.of-2.result c.of-3.result
-    (omega (arith, c.hear_while-went.ensures.within, c.if-went-blue.false)) c.requires.green c.requires.red c.of.ensures c.of-2.ensures c.of-3.ensures in
+    let more = take_next all went _ c.get.ensures in
     subst (λ (ds : List Column). g.H.Hears.goes_on c.hear.new.self ds) (append_assoc cs part _ ∙ ap (λ ds. cs ++ ds) (sym more))
     (c.hear.ensures.heard (cs ++ part) (c.hear_while-went.ensures.heard cs was))
 
 pub returns-clause-told : goal.returns-clause-told
 returns-clause-told g c = λ cs was.
-    let all = columns_of c.args.blue.now c.args.green.now c.args.red.now in
+    let all = columns_in c.args.columns in
     let went = c.hear_while-went.result in
     let part = take went all in
-    let more =
-    next_column c.args.blue.now c.args.green.now c.args.red.now went c.of.result c.of-2.result c.of-3.result
-    (omega (arith, c.hear_while-went.ensures.within, c.if-went-blue.false)) c.requires.green c.requires.red c.of.ensures c.of-2.ensures c.of-3.ensures in
+    let more = take_next all went _ c.get.ensures in
     took_next g.H.Hears.grammar g.E.Ear.took g.met.E.Ear.took_both _ _ _ cs part (take (went + 1) all) _ _ more
     (c.hear.ensures.told (cs ++ part) (c.hear_while-went.ensures.heard cs was))
     (took_quiet g.H.Hears.grammar g.E.Ear.took _ cs part (g.met.E.Ear.took_none _) (c.hear_while-went.ensures.told cs was)) c.in_ok-tell.ensures.ok
 
 pub hear-requires-clause-few : goal.hear-requires-clause-few
 hear-requires-clause-few g c =
-    let all = columns_of c.args.blue.now c.args.green.now c.args.red.now in
+    let all = columns_in c.args.columns in
     let went = c.hear_while-went.result in
     let cs = c.requires.heard.0 in
     let was = g.met.H.Hears.counts _ cs c.requires.heard.1 in
     let is = g.met.H.Hears.counts _ (cs ++ take went all) (c.hear_while-went.ensures.heard cs c.requires.heard.1) in
     let few = c.requires.few in
-    omega (arith, was, is, few, length-append cs (take went all), length-take-most went all, c.hear_while-went.ensures.within, c.if-went-blue.false)
+    omega (arith, was, is, few, length-append cs (take went all), length-take-most went all, c.hear_while-went.ensures.within, c.len.ensures, c.if-went-len.false)
 
 pub hear-requires-clause-heard : goal.hear-requires-clause-heard
 hear-requires-clause-heard g c =
-    let all = columns_of c.args.blue.now c.args.green.now c.args.red.now in
+    let all = columns_in c.args.columns in
     (c.requires.heard.0 ++ take c.hear_while-went.result all, c.hear_while-went.ensures.heard c.requires.heard.0 c.requires.heard.1)

@@ -1,18 +1,18 @@
 use Rattle.std.proofs.Common.{◌-◌, ◌≤◌, ◌++◌, List, length, take}
 use Rattle.tmds_word.specs.Column.{Column}
-use Rattle.tmds_word.specs.Words.{columns_of}
+use Rattle.tmds_word.specs.Lent.{columns_in}
 use Rattle.link_sink.specs.Telling.{TookMore}
-use Rattle.link_sink.proofs.slices.hear_slices.Given as goal
+use Rattle.link_sink.proofs.columns.hear_columns.Given as goal
 
 abbrev pub invariant-loop-j : goal.invariant-loop-j
 invariant-loop-j g l =
-    let all = columns_of l.blue l.green l.red in
+    let all = columns_in l.columns in
     record {
-      within : l.j ≤ length l.blue;
+      within : l.j ≤ length (columns_in l.columns);
       stands : (cs : List Column) → g.H.Hears.goes_on l.initial.hearing cs → g.H.Hears.goes_on l.hearing (cs ++ take l.j all);
       told : (cs : List Column) → g.H.Hears.goes_on l.initial.hearing cs → TookMore g.H.Hears.grammar g.E.Ear.took l.initial.ear l.ear cs (take l.j all);
       later : g.E.Ear.faults l.initial.ear ≤ g.E.Ear.faults l.ear;
     }
 
 abbrev pub decreases-loop-j : goal.decreases-loop-j
-decreases-loop-j g l = length l.blue - l.j
+decreases-loop-j g l = length (columns_in l.columns) - l.j

@@ -1,0 +1,55 @@
+use Rattle.std.proofs.Common.{◌++◌, List, length, take, arith, sym, subst, ap, ◌∙◌, append_assoc, length-drop}
+use Rattle.std.proofs.lemmas.List.{take_all, take-append-drop}
+use Rattle.std.proofs.Math.Seq.{take-add}
+use Rattle.tmds_word.specs.Column.{Column}
+use Rattle.tmds_word.specs.Lent.{columns_in}
+use Rattle.link_sink.specs.Telling.{TookMore, StoppedIn}
+use Rattle.link_sink.proofs.Stops.{on_err}
+use Rattle.link_sink.proofs.Parts.{few_more, took_parts, stopped_parts}
+use Rattle.link_sink.proofs.columns.hear_columns.Goals as goal
+
+pub returns-in_err-j-clause-stopped : goal.returns-in_err-j-clause-stopped
+returns-in_err-j-clause-stopped g c =
+    let all = columns_in c.args.columns in
+    let j = c.loop-j.j in
+    on_err {P = (cs : List Column) → g.H.Hears.goes_on c.args.hearing.now cs → StoppedIn g.H.Hears.grammar g.E.Ear.took g.E.Ear.broke c.args.ear.now c.hear_part.new.ear cs all} _ (λ cs was.
+    subst (λ (ds : List Column). StoppedIn g.H.Hears.grammar g.E.Ear.took g.E.Ear.broke c.args.ear.now c.hear_part.new.ear cs ds)
+    (ap (λ ds. take j all ++ ds) c.from.ensures ∙ take-append-drop j all)
+    (stopped_parts g.H.Hears.grammar g.E.Ear.took g.E.Ear.broke g.met.E.Ear.took_both _ _ _ cs (take j all) _ (c.loop-j.invariant.told cs was)
+    (c.in_err-j.ensures.stopped (cs ++ take j all) (c.loop-j.invariant.stands cs was))))
+
+pub loop-j-preserved : goal.loop-j-preserved
+loop-j-preserved g c =
+    let all = columns_in c.args.columns in
+    let j = c.loop-j.j in
+    let n = c.in_ok-j.field-0 in
+    let more = ap (λ ds. take j all ++ take n ds) c.from.ensures ∙ sym (take-add j n all) in
+    record {
+      within = omega (arith, c.in_ok-j.ensures.count.1, ap (λ (ds : List Column). length ds) c.from.ensures, length-drop j all);
+      stands = λ cs was.
+          subst (λ (ds : List Column). g.H.Hears.goes_on c.hear_part.new.hearing ds) (append_assoc cs (take j all) _ ∙ ap (λ ds. cs ++ ds) more)
+          (c.in_ok-j.ensures.heard (cs ++ take j all) (c.loop-j.invariant.stands cs was));
+      told = λ cs was.
+          subst (λ (ds : List Column). TookMore g.H.Hears.grammar g.E.Ear.took c.args.ear.now c.hear_part.new.ear cs ds) more
+          (took_parts g.H.Hears.grammar g.E.Ear.took g.met.E.Ear.took_both _ _ _ cs (take j all) _ (c.loop-j.invariant.told cs was)
+          (c.in_ok-j.ensures.told (cs ++ take j all) (c.loop-j.invariant.stands cs was)));
+      later = omega (arith, c.loop-j.invariant.later, c.hear_part.ensures.cause.later);
+    }
+
+pub returns-clause-heard : goal.returns-clause-heard
+returns-clause-heard g c = λ cs was.
+    subst (λ (ds : List Column). g.H.Hears.goes_on c.loop-j.hearing (cs ++ ds)) (take_all c.loop-j.j (columns_in c.args.columns) (omega (arith, c.loop-j-test.false)))
+    (c.loop-j.invariant.stands cs was)
+
+pub returns-clause-told : goal.returns-clause-told
+returns-clause-told g c = λ cs was.
+    subst (λ (ds : List Column). TookMore g.H.Hears.grammar g.E.Ear.took c.args.ear.now c.loop-j.ear cs ds) (take_all c.loop-j.j (columns_in c.args.columns) (omega (arith, c.loop-j-test.false)))
+    (c.loop-j.invariant.told cs was)
+
+pub hear_part-requires-clause-few : goal.hear_part-requires-clause-few
+hear_part-requires-clause-few g c =
+    few_more g.H.Hears.goes_on g.H.Hears.counted g.met.H.Hears.counts c.args.hearing.now c.loop-j.hearing c.requires.heard.0 (columns_in c.args.columns) _
+    c.loop-j.j c.requires.heard.1 (c.loop-j.invariant.stands c.requires.heard.0 c.requires.heard.1) c.from.ensures c.requires.few
+
+pub hear_part-requires-clause-heard : goal.hear_part-requires-clause-heard
+hear_part-requires-clause-heard g c = (c.requires.heard.0 ++ take c.loop-j.j (columns_in c.args.columns), c.loop-j.invariant.stands c.requires.heard.0 c.requires.heard.1)

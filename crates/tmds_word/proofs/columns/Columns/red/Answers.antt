@@ -1,0 +1,6 @@
+use Rattle.std.proofs.Common.{sym}
+use Rattle.tmds_word.proofs.Lent.{lanes}
+use Rattle.tmds_word.proofs.columns.Columns.red.Goals as goal
+
+pub returns-clause-lane : goal.returns-clause-lane
+returns-clause-lane c = sym (lanes c.args.self.now).red

@@ -1,5 +1,0 @@
-use Rattle.tmds_word.proofs.Setting.{byte_set}
-use Rattle.tmds_word.proofs.replace.set_bit.Goals as goal
-
-pub returns-clause-bits : goal.returns-clause-bits
-returns-clause-bits c = byte_set c.args.bytes.now c.args.i c.with_bit.result c.args.value c.requires c.with_bit.ensures.bits
