@@ -25,10 +25,6 @@ words_add (suc m) n xs =
     ap (λ k. words_of k xs) e
     ∙ ap (λ ws. number (take 10 xs) ∷ ws) (words_add m n (drop 10 xs) ∙ ap (λ ys. words_of m (drop 10 xs) ++ words_of n ys) (drop-drop (10 * m) 10 xs ∙ ap (λ k. drop k xs) f))
 
-pub one_word_more : (k : ℕ) (xs : List Bool) → words_of (k + 1) xs ≡ words_of k xs ++ number (take 10 (drop (10 * k) xs)) ∷ []
-unfolding words_of
-one_word_more k xs = words_add k 1 xs
-
 pub words_same : (n : ℕ) (xs ys : List Bool) → 10 * n ≤ length xs → words_of n (xs ++ ys) ≡ words_of n xs
 unfolding words_of
 words_same zero xs ys h = refl

@@ -1,7 +1,8 @@
 -- Groups of five bytes, read where they lie: what they say is what the bits say that are cut one after another.
-use Rattle.std.proofs.Common.{◌≡◌, ℕ, suc, zero, ◌+◌, ◌-◌, ◌*◌, ◌/◌, ◌%◌, ◌^◌, ◌<◌, ◌≤◌, Bool, true, List, [], ◌∷◌, ◌++◌, length, take, drop, refl, ap, ◌∙◌, sym, subst, arith, length-append, length-drop, append_assoc, Option, Some, None, MatchOption, is_some, get_or}
+use Rattle.std.proofs.Common.{◌≡◌, ℕ, suc, ◌+◌, ◌-◌, ◌*◌, ◌/◌, ◌%◌, ◌^◌, ◌<◌, ◌≤◌, Bool, true, List, [], ◌∷◌, ◌++◌, length, take, drop, refl, ap, ◌∙◌, sym, subst, arith, length-append, length-drop, append_assoc, Option, Some, None, MatchOption, is_some, get_or}
 use Rattle.std.proofs.lemmas.List.{drop-drop, drop-append-le, drop_at, take-append-drop, length-take-le}
-use Rattle.std.proofs.lemmas.Nat.{shr-shr}
+use Rattle.std.proofs.lemmas.Nat.{shr-shr, field_of}
+use Rattle.std.proofs.Math.Pow.{mod-mod-pow}
 use Rattle.std.proofs.Math.Seq.{take-add}
 use Rattle.tmds_word.specs.Bits.{bits_of, bytes_bits, number}
 use Rattle.tmds_word.specs.Words.{words_of}
@@ -42,25 +43,23 @@ words_low v w e =
     let d : v / 1073741824 % 1024 ≡ w / 1073741824 % 1024 = omega arith in
     four_words v ∙ (λ i. a i ∷ (b i ∷ (c i ∷ (d i ∷ [])))) ∙ sym (four_words w)
 
--- forty bits from one of the first eight on lie in sixty-four
-low_group : (r m : ℕ) → r < 8 → m % 18446744073709551616 / 2 ^ r % 1099511627776 ≡ m / 2 ^ r % 1099511627776
-low_group zero m h = omega arith
-low_group (suc zero) m h = omega arith
-low_group (suc (suc zero)) m h = omega arith
-low_group (suc (suc (suc zero))) m h = omega arith
-low_group (suc (suc (suc (suc zero)))) m h = omega arith
-low_group (suc (suc (suc (suc (suc zero))))) m h = omega arith
-low_group (suc (suc (suc (suc (suc (suc zero)))))) m h = omega arith
-low_group (suc (suc (suc (suc (suc (suc (suc zero))))))) m h = omega arith
-low_group (suc (suc (suc (suc (suc (suc (suc (suc r)))))))) m h = absurd (omega arith)
+-- forty bits from one of the first bits on lie in sixty-four
+low_group : (r m : ℕ) → r ≤ 24 → m % 2 ^ 64 / 2 ^ r % 2 ^ 40 ≡ m / 2 ^ r % 2 ^ 40
+low_group r m few =
+    let j = 24 - r in
+    let sum : (j + 40) + r ≡ 64 = omega arith in
+    ap (λ e. m % 2 ^ e / 2 ^ r % 2 ^ 40) (sym sum) ∙ ap (λ x. x % 2 ^ 40) (field_of m (j + 40) r) ∙ mod-mod-pow (m / 2 ^ r) j 40
+
+-- the four characters from a bit on, from the eight bytes in which they lie
+four_from : (big k at r g : ℕ) → 8 * at + r ≡ k → r ≤ 24 → g ≡ (big / 2 ^ (8 * at)) % 18446744073709551616 → words_in 4 (g / 2 ^ r) ≡ words_in 4 (big / 2 ^ k)
+four_from big k at r g place few is =
+    let m = big / 2 ^ (8 * at) in
+    words_low (g / 2 ^ r) (m / 2 ^ r) (ap (λ n. n / 2 ^ r % 1099511627776) is ∙ low_group r m few)
+    ∙ ap (words_in 4) (shr-shr big (8 * at) r ∙ ap (λ k. big / 2 ^ k) place)
 
 -- the characters of group i, from its eight bytes
 group_words : (big r i g : ℕ) → r < 8 → g ≡ (big / 2 ^ (8 * (5 * i))) % 18446744073709551616 → words_in 4 (g / 2 ^ r) ≡ words_in 4 (big / 2 ^ (r + 40 * i))
-group_words big r i g few is =
-    let m = big / 2 ^ (8 * (5 * i)) in
-    let place : 8 * (5 * i) + r ≡ r + 40 * i = omega arith in
-    words_low (g / 2 ^ r) (m / 2 ^ r) (ap (λ n. n / 2 ^ r % 1099511627776) is ∙ low_group r m few)
-    ∙ ap (words_in 4) (shr-shr big (8 * (5 * i)) r ∙ ap (λ k. big / 2 ^ k) place)
+group_words big r i g few is = four_from big (r + 40 * i) (5 * i) r g (omega arith) (omega arith) is
 
 -- four characters and then the others
 four_more : (n m v : ℕ) → n ≡ 4 + m → words_in n v ≡ words_in 4 v ++ words_in m (v / 1099511627776)
@@ -70,6 +69,21 @@ four_more n m v e =
     let past : v / 1024 / 1024 / 1024 / 1024 ≡ v / 1099511627776 = omega arith in
     ap (λ k. words_in k v) four
     ∙ ap (λ u. v % 1024 ∷ (v / 1024 % 1024 ∷ (v / 1024 / 1024 % 1024 ∷ (v / 1024 / 1024 / 1024 % 1024 ∷ words_in m u)))) past
+
+-- the twelve characters from a bit on, from three numbers of eight bytes
+pub twelve_words : (big p low high last : ℕ) → low ≡ (big / 2 ^ (8 * (p / 8))) % 18446744073709551616 → high ≡ (big / 2 ^ (8 * (p / 8 + 5))) % 18446744073709551616
+    → (end : ℕ) → end ≡ (p + 127) / 8 - 8 → last ≡ (big / 2 ^ (8 * end)) % 18446744073709551616
+    → (words_in 4 (low / 2 ^ (p % 8)) ++ words_in 4 (high / 2 ^ (p % 8))) ++ words_in 4 (last / 2 ^ (p + 80 - 8 * end)) ≡ words_in 12 (big / 2 ^ p)
+twelve_words big p low high last is_low is_high end place is_last =
+    let v = big / 2 ^ p in
+    let second : v / 1099511627776 ≡ big / 2 ^ (p + 40) = shr-shr big p 40 in
+    let third : v / 1099511627776 / 1099511627776 ≡ big / 2 ^ (p + 80) = shr-shr v 40 40 ∙ shr-shr big p 80 in
+    let a = four_from big p (p / 8) (p % 8) low (omega arith) (omega arith) is_low in
+    let b = four_from big (p + 40) (p / 8 + 5) (p % 8) high (omega arith) (omega arith) is_high ∙ ap (words_in 4) (sym second) in
+    let c = four_from big (p + 80) end (p + 80 - 8 * end) last (omega arith) (omega arith) is_last ∙ ap (words_in 4) (sym third) in
+    (λ i. (a i ++ b i) ++ c i)
+    ∙ append_assoc (words_in 4 v) (words_in 4 (v / 1099511627776)) (words_in 4 (v / 1099511627776 / 1099511627776))
+    ∙ sym (four_more 12 8 v refl ∙ ap (λ ws. words_in 4 v ++ ws) (four_more 8 4 (v / 1099511627776) refl))
 
 -- one group more was written
 pub group_written : (row after all : List ℕ) (big r i n at g : ℕ) → r < 8 → i < n → g ≡ (big / 2 ^ (8 * (5 * i))) % 18446744073709551616

@@ -1,7 +1,7 @@
 -- What the quick test says of the places of its stretch.
 use Rattle.std.proofs.Common.{◌≡◌, ℕ, ◌+◌, ◌-◌, ◌*◌, ◌/◌, ◌%◌, ◌^◌, ◌<◌, ◌≤◌, suc, zero, min, Bool, true, List, length, take, drop, refl, ap, ap₂, ◌∙◌, sym, subst, arith, bit_and, ◌==◌, eqb-true}
 use Rattle.std.specs.Int.{bit_at}
-use Rattle.std.proofs.lemmas.Nat.{field_of, shr-shr, and_mask}
+use Rattle.std.proofs.lemmas.Nat.{field_of, shr-shr}
 use Rattle.std.proofs.lemmas.Nat.Bits.{bit_at_and}
 use Rattle.std.proofs.Math.Pow.{mod-mod-pow}
 use Rattle.tmds_word.specs.Bits.{bit, number}
@@ -75,44 +75,47 @@ none_marked k h =
     let w : 1 ≡ 0 = sym (is_one 0 k h) ∙ z in
     omega (arith, w)
 
--- Four words in a row.
+-- Four words in a row, at each of sixteen places.
 
 -- one of them, of 64 bits from a byte on
-pub four_control : (xs : List Bool) (v p k n : ℕ) → k < 4 → p + 40 ≤ length xs → v ≡ number xs / 2 ^ (8 * (p / 8)) % 2 ^ 64 → bit n (10 * k) ≡ control_at (v / 2 ^ (p % 8)) (10 * k)
-    → (bit n (10 * k) ≡ true → HasControl xs (p + 10 * k)) × (HasControl xs (p + 10 * k) → bit n (10 * k) ≡ true)
-four_control xs v p k n lt room e is =
+pub four_control : (xs : List Bool) (v p i k n : ℕ) → i < 16 → k < 4 → p + i + 40 ≤ length xs → v ≡ number xs / 2 ^ (8 * (p / 8)) % 2 ^ 64
+    → bit n (i + 10 * k) ≡ control_at (v / 2 ^ (p % 8)) (i + 10 * k)
+    → (bit n (i + 10 * k) ≡ true → HasControl xs (p + i + 10 * k)) × (HasControl xs (p + i + 10 * k) → bit n (i + 10 * k) ≡ true)
+four_control xs v p i k n near lt room e is =
     let at = 8 * (p / 8) in
-    let place : at + (p % 8 + 10 * k) ≡ p + 10 * k = omega arith in
-    let w : number xs / 2 ^ at % 2 ^ 64 / 2 ^ (p % 8) / 2 ^ (10 * k) % 2 ^ 10 ≡ number (take 10 (drop (p + 10 * k) xs)) =
-    ap (λ x. x % 2 ^ 10) (shr-shr (number xs / 2 ^ at % 2 ^ 64) (p % 8) (10 * k)) ∙ window_within xs at (p % 8 + 10 * k) (omega arith) ∙ ap (λ m. number (take 10 (drop m xs))) place in
-    control_here xs (p + 10 * k) (number (take 10 (drop (p + 10 * k) xs))) (bit n (10 * k)) (λ short. omega arith) refl
-    (is ∙ ap (λ x. is_control (x / 2 ^ (p % 8) / 2 ^ (10 * k) % 2 ^ 10)) e ∙ ap is_control w)
+    let m = i + 10 * k in
+    let here = p + i + 10 * k in
+    let place : at + (p % 8 + m) ≡ here = omega arith in
+    let w : number xs / 2 ^ at % 2 ^ 64 / 2 ^ (p % 8) / 2 ^ m % 2 ^ 10 ≡ number (take 10 (drop here xs)) =
+    ap (λ x. x % 2 ^ 10) (shr-shr (number xs / 2 ^ at % 2 ^ 64) (p % 8) m) ∙ window_within xs at (p % 8 + m) (omega arith) ∙ ap (λ j. number (take 10 (drop j xs))) place in
+    control_here xs here (number (take 10 (drop here xs))) (bit n m) (λ short. omega arith) refl
+    (is ∙ ap (λ x. is_control (x / 2 ^ (p % 8) / 2 ^ m % 2 ^ 10)) e ∙ ap is_control w)
 
 -- what the code computes of the places of control words
 abbrev pub four : ℕ → ℕ
 four c = bit_and (bit_and (bit_and c (c / 2 ^ 10)) (c / 2 ^ 20)) (c / 2 ^ 30)
 
-four_at : (c : ℕ) → bit_and (four c) 1 ≡ min (min (min (bit_at c 0) (bit_at c 10)) (bit_at c 20)) (bit_at c 30)
-four_at c =
-    and_mask (four c) 1 ∙ zero_at (four c)
-    ∙ bit_at_and (bit_and (bit_and c (c / 2 ^ 10)) (c / 2 ^ 20)) (c / 2 ^ 30) 0
-    ∙ ap₂ min (bit_at_and (bit_and c (c / 2 ^ 10)) (c / 2 ^ 20) 0 ∙ ap₂ min (bit_at_and c (c / 2 ^ 10) 0 ∙ ap (min (bit_at c 0)) (bit_over c 10 0)) (bit_over c 20 0)) (bit_over c 30 0)
+four_at : (c i : ℕ) → bit_at (four c) i ≡ min (min (min (bit_at c (i + 10 * 0)) (bit_at c (i + 10 * 1))) (bit_at c (i + 10 * 2))) (bit_at c (i + 10 * 3))
+four_at c i =
+    let none : i ≡ i + 10 * 0 = omega arith in
+    bit_at_and (bit_and (bit_and c (c / 2 ^ 10)) (c / 2 ^ 20)) (c / 2 ^ 30) i
+    ∙ ap₂ min (bit_at_and (bit_and c (c / 2 ^ 10)) (c / 2 ^ 20) i ∙ ap₂ min (bit_at_and c (c / 2 ^ 10) i ∙ ap₂ min (ap (bit_at c) none) (behind 1)) (behind 2)) (behind 3)
   where
-    zero_at : (n : ℕ) → n % 2 ≡ bit_at n 0
-    zero_at n = omega arith
+    behind : (k : ℕ) → bit_at (c / 2 ^ (10 * k)) i ≡ bit_at c (i + 10 * k)
+    behind k = let e : 10 * k + i ≡ i + 10 * k = omega arith in bit_over c (10 * k) i ∙ ap (bit_at c) e
 
-pub four_ones : (c : ℕ) → (bit_and (four c) 1 == 1) ≡ true → (k : ℕ) → k < 4 → bit c (10 * k) ≡ true
-four_ones c set k lt =
-    let all : min (min (min (bit_at c 0) (bit_at c 10)) (bit_at c 20)) (bit_at c 30) ≡ 1 = sym (four_at c) ∙ eqb-true _ _ set in
-    one_bit c (10 * k) (each k lt all)
+pub four_ones : (c i : ℕ) → bit (four c) i ≡ true → (k : ℕ) → k < 4 → bit c (i + 10 * k) ≡ true
+four_ones c i set k lt =
+    one_bit c (i + 10 * k) (each k lt (sym (four_at c i) ∙ is_one (four c) i set))
   where
-    each : (k : ℕ) → k < 4 → min (min (min (bit_at c 0) (bit_at c 10)) (bit_at c 20)) (bit_at c 30) ≡ 1 → bit_at c (10 * k) ≡ 1
+    each : (k : ℕ) → k < 4 → min (min (min (bit_at c (i + 10 * 0)) (bit_at c (i + 10 * 1))) (bit_at c (i + 10 * 2))) (bit_at c (i + 10 * 3)) ≡ 1 → bit_at c (i + 10 * k) ≡ 1
     each zero h all = omega (arith, all)
     each (suc zero) h all = omega (arith, all)
     each (suc (suc zero)) h all = omega (arith, all)
     each (suc (suc (suc zero))) h all = omega (arith, all)
     each (suc (suc (suc (suc k)))) h all = absurd (omega (arith, h))
 
-pub ones_four : (c : ℕ) → ((k : ℕ) → k < 4 → bit c (10 * k) ≡ true) → (bit_and (four c) 1 == 1) ≡ true
-ones_four c all =
-    ap (λ x. x == 1) (four_at c ∙ ap₂ min (ap₂ min (ap₂ min (is_one c 0 (all 0 (omega arith))) (is_one c 10 (all 1 (omega arith)))) (is_one c 20 (all 2 (omega arith)))) (is_one c 30 (all 3 (omega arith))))
+pub ones_four : (c i : ℕ) → ((k : ℕ) → k < 4 → bit c (i + 10 * k) ≡ true) → bit (four c) i ≡ true
+ones_four c i all =
+    let one = λ (k : ℕ) (lt : k < 4). is_one c (i + 10 * k) (all k lt) in
+    one_bit (four c) i (four_at c i ∙ ap₂ min (ap₂ min (ap₂ min (one 0 (omega arith)) (one 1 (omega arith))) (one 2 (omega arith))) (one 3 (omega arith)))

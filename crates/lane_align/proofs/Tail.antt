@@ -1,8 +1,8 @@
 -- The last bytes of some as a number, and one more before them.
-use Rattle.std.proofs.Common.{◌≡◌, ℕ, suc, zero, ◌+◌, ◌*◌, ◌/◌, ◌%◌, ◌^◌, ◌<◌, ◌≤◌, List, [], ◌∷◌, length, drop, get_or, ap, ◌∙◌, sym, subst, arith, length-drop}
+use Rattle.std.proofs.Common.{◌≡◌, ℕ, suc, zero, ◌+◌, ◌-◌, ◌*◌, ◌/◌, ◌%◌, ◌^◌, ◌<◌, ◌≤◌, List, [], ◌∷◌, length, drop, get_or, ap, ◌∙◌, sym, subst, arith, length-drop}
 use Rattle.std.specs.Prelude.{bit_or}
 use Rattle.std.proofs.lemmas.List.{drop_more, drop_all}
-use Rattle.std.proofs.lemmas.Nat.{or_shifted, pow-add}
+use Rattle.std.proofs.lemmas.Nat.{or_shifted, pow-add, shr-shr}
 use Rattle.std.proofs.Math.Pow.{pow_mono}
 use Rattle.tmds_word.specs.Bits.{bytes_bits, number}
 use Rattle.tmds_word.proofs.Rows.{AreBytes, number_of_bytes, number_from}
@@ -56,3 +56,17 @@ all_read bytes at value are few read =
     let from = number_from at bytes are in
     let low : number (bytes_bits rest) ≡ number (bytes_bits rest) % 18446744073709551616 = omega arith in
     read ∙ low ∙ ap (λ n. n % 18446744073709551616) (sym from)
+
+-- fewer than eight, but not none, in the last eight
+pub last_read : (bytes : List ℕ) (at n : ℕ) → AreBytes bytes → 8 ≤ length bytes → at < length bytes → length bytes < at + 8
+    → n ≡ number (bytes_bits bytes) / 2 ^ (8 * (length bytes - 8)) % 18446744073709551616
+    → n / 2 ^ (8 * (at + 8 - length bytes)) ≡ number (bytes_bits bytes) / 2 ^ (8 * at) % 18446744073709551616
+last_read bytes at n are eight within few is =
+    let k = length bytes - 8 in
+    let s = 8 * (at + 8 - length bytes) in
+    let all = number (bytes_bits bytes) in
+    let below : number (bytes_bits (drop k bytes)) < 2 ^ 64 = few_below (drop k bytes) 8 (drop_bytes k bytes are) (omega (arith, length-drop k bytes)) in
+    let from = number_from k bytes are in
+    let place : 8 * k + s ≡ 8 * at = omega arith in
+    let whole : n ≡ all / 2 ^ (8 * k) = omega (arith, is, from, below) in
+    all_read bytes at (n / 2 ^ s) are few (ap (λ m. m / 2 ^ s) whole ∙ shr-shr all (8 * k) s ∙ ap (λ m. all / 2 ^ m) place ∙ number_from at bytes are)

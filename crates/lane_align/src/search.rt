@@ -1,5 +1,5 @@
-//! The search for runs of twelve control words in packed bytes: a quick test of eighty places at a time, and place by
-//! place where it finds something.
+//! The search for runs of twelve control words in packed bytes: a quick test of eighty places at a time, and where it
+//! finds something sixteen at a time.
 ghost use Rattle.std.specs.Prelude.{◌≡◌, ◌<◌, ◌≤◌, ◌+◌, ◌*◌, ◌/◌, ◌%◌, ◌^◌, ◌↔◌, ℕ, true, false, IsTrue, length, MatchOption, slice_index, take, drop};
 ghost use Rattle.tmds_word.specs.Bits.{bit, bytes_bits, number};
 ghost use Rattle.terc4.specs.Tables.{is_control};
@@ -10,6 +10,9 @@ use crate::RUN;
 
 /// How many places the quick test sees.
 const STEP: u32 = 80;
+
+/// How many places are looked at together where a run may begin.
+const NEAR: u32 = 16;
 
 /// The ten lowest bits but one, by that one; all of them at place 10.
 static OTHERS: [u64; 11] = [
@@ -24,13 +27,29 @@ pub fn first_run(bytes: &[u8], from: u32, until: u32, phase: u32) -> Option<u32>
     requires small { until < 2 ^ 31 }
     ensures { MatchOption result ((p : ℕ) → IsOther (bytes_bits bytes.now) from until phase p → ⊥) (λ p. IsFirstOther (bytes_bits bytes.now) from until phase p) }
 {
+    if from < until && until - from <= NEAR {
+        first_near(bytes, from, until, phase)
+    } else {
+        first_far(bytes, from, until, phase)
+    }
+}
+
+/// Answers as `first_run` does, by a quick test of eighty places at a time.
+#[inline(never)]
+fn first_far(bytes: &[u8], from: u32, until: u32, phase: u32) -> Option<u32>
+    requires phase { phase ≤ 10 }
+    requires room { from < until → until + 119 ≤ 8 * length bytes.now }
+    requires small { until < 2 ^ 31 }
+    ensures { MatchOption result ((p : ℕ) → IsOther (bytes_bits bytes.now) from until phase p → ⊥) (λ p. IsFirstOther (bytes_bits bytes.now) from until phase p) }
+{
     let mut p = from;
+    let mut at = from.div_ceil(STEP);
     while p < until {
-        let at = p.div_ceil(STEP);
         let end = (STEP * at + 1).min(until);
         let marks = marks_of(eight_from(bytes, 10 * at as usize), phase);
+        at += 1;
         if marks != 0 {
-            if let Some(found) = first_in(bytes, p, end, phase, marks) {
+            if let Some(found) = first_in(bytes, p, end, phase) {
                 return Some(found);
             }
         }
@@ -70,39 +89,51 @@ fn control_places(bits: u64) -> u64
     behind & (behind ^ turns)
 }
 
-/// The least place of a stretch at which a run begins that lies no whole characters from a phase, place by place. A run
-/// begins only at a place that is marked: `marks` has a bit for each last digit.
+/// The least place of a stretch at which a run begins that lies no whole characters from a phase, a few places at a time.
 #[cold]
-fn first_in(bytes: &[u8], from: u32, until: u32, phase: u32, marks: u64) -> Option<u32>
+fn first_in(bytes: &[u8], from: u32, until: u32, phase: u32) -> Option<u32>
     requires room { from < until → until + 119 ≤ 8 * length bytes.now }
     requires small { until < 2 ^ 31 }
-    requires marks { (p : ℕ) → IsOther (bytes_bits bytes.now) from until phase p → bit marks (p % 10) ≡ true }
     ensures { MatchOption result ((p : ℕ) → IsOther (bytes_bits bytes.now) from until phase p → ⊥) (λ p. IsFirstOther (bytes_bits bytes.now) from until phase p) }
 {
-    for p in from..until {
-        if p % 10 != phase && has_mark(marks, p % 10) && begins_run(bytes, p) {
-            return Some(p);
+    let mut p = from;
+    while p < until {
+        let end = (p + NEAR).min(until);
+        if let Some(found) = first_near(bytes, p, end, phase) {
+            return Some(found);
         }
+        p = end;
     }
     None
 }
 
-/// Whether a number has a bit.
-#[inline(always)]
-fn has_mark(marks: u64, k: u32) -> bool
-    requires { k < 10 }
-    ensures { result ≡ bit marks k }
+/// The least of a few places at which a run begins that lies no whole characters from a phase.
+fn first_near(bytes: &[u8], from: u32, until: u32, phase: u32) -> Option<u32>
+    requires order { from < until }
+    requires few { until ≤ from + 16 }
+    requires room { until + 119 ≤ 8 * length bytes.now }
+    requires small { until < 2 ^ 31 }
+    ensures { MatchOption result ((p : ℕ) → IsOther (bytes_bits bytes.now) from until phase p → ⊥) (λ p. IsFirstOther (bytes_bits bytes.now) from until phase p) }
 {
-    (marks >> k) & 1 == 1
+    let mut left = fours_at(bytes, from) & ((1 << (until - from)) - 1);
+    while left != 0 {
+        let place = from + left.trailing_zeros();
+        if place % 10 != phase && goes_on(bytes, place) {
+            return Some(place);
+        }
+        // all but the lowest
+        left &= left - 1;
+    }
+    None
 }
 
-/// Whether a run begins at a place.
-fn begins_run(bytes: &[u8], p: u32) -> bool
+/// Whether behind the first four control words of a run the other eight stand.
+fn goes_on(bytes: &[u8], p: u32) -> bool
     requires room { p + 120 ≤ 8 * length bytes.now }
     requires small { p < 2 ^ 31 }
-    ensures { IsTrue result ↔ IsRun (bytes_bits bytes.now) p }
+    ensures { IsTrue result ↔ ((k : ℕ) → 4 ≤ k → k < 12 → HasControl (bytes_bits bytes.now) (p + 10 * k)) }
 {
-    for k in 0..RUN / 4 {
+    for k in 1..RUN / 4 {
         if !has_four(bytes, p + 40 * k) {
             return false;
         }
@@ -110,21 +141,22 @@ fn begins_run(bytes: &[u8], p: u32) -> bool
     true
 }
 
-/// Whether the windows at a place and ten, twenty and thirty places behind it are control words.
+/// Whether four control words in a row begin at a place.
 fn has_four(bytes: &[u8], p: u32) -> bool
     requires room { p + 40 ≤ 8 * length bytes.now }
     ensures { IsTrue result ↔ ((k : ℕ) → k < 4 → HasControl (bytes_bits bytes.now) (p + 10 * k)) }
 {
-    let controls = control_places(eight_from(bytes, p as usize / 8) >> (p % 8));
-    controls & (controls >> 10) & (controls >> 20) & (controls >> 30) & 1 == 1
+    fours_at(bytes, p) & 1 == 1
 }
 
-/// The character at a place.
-pub(crate) fn window_at(bytes: &[u8], p: u32) -> u16
-    requires room { p + 10 ≤ 8 * length bytes.now }
-    ensures { result ≡ number (take 10 (drop p (bytes_bits bytes.now))) }
+/// At which of sixteen places from one on four control words in a row begin.
+#[inline(always)]
+fn fours_at(bytes: &[u8], p: u32) -> u64
+    requires { p ≤ 8 * length bytes.now }
+    ensures { (i : ℕ) → i < 16 → p + i + 40 ≤ 8 * length bytes.now → bit result i ≡ true ↔ ((k : ℕ) → k < 4 → HasControl (bytes_bits bytes.now) (p + i + 10 * k)) }
 {
-    ((eight_from(bytes, p as usize / 8) >> (p % 8)) & 0x3ff) as u16
+    let controls = control_places(eight_from(bytes, p as usize / 8) >> (p % 8));
+    controls & (controls >> 10) & (controls >> 20) & (controls >> 30)
 }
 
 /// Eight bytes from a place on as a number, the first lowest; zeros are read behind the last one.
@@ -141,8 +173,23 @@ fn eight_from(bytes: &[u8], at: usize) -> u64
 }
 
 /// The last bytes from a place on as a number, the first lowest, where they are fewer than eight.
-#[cold]
+#[inline(always)]
 fn last_bytes(bytes: &[u8], at: usize) -> u64
+    requires place { at ≤ length bytes.now }
+    requires few { length bytes.now < at + 8 }
+    ensures { result ≡ (number (bytes_bits bytes.now) / 2 ^ (8 * at)) % 2 ^ 64 }
+{
+    let len = bytes.len();
+    if len < 8 || at == len {
+        few_bytes(bytes, at)
+    } else {
+        eight_bytes(bytes, len - 8) >> (8 * (at + 8 - len))
+    }
+}
+
+/// The last bytes from a place on as a number, byte by byte.
+#[cold]
+fn few_bytes(bytes: &[u8], at: usize) -> u64
     requires place { at ≤ length bytes.now }
     requires few { length bytes.now < at + 8 }
     ensures { result ≡ (number (bytes_bits bytes.now) / 2 ^ (8 * at)) % 2 ^ 64 }

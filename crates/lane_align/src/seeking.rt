@@ -6,9 +6,10 @@ ghost use Rattle.lane_align.specs.Lanes.{IsRun};
 ghost use Rattle.lane_align.specs.Words.{AreWords};
 ghost use Rattle.lane_align.specs.Aligners.{StandsFor, EndsFirst};
 
-use crate::aligner::KEPT;
-use crate::search::{first_run, window_at};
-use crate::{LaneAligner, RUN};
+use crate::LaneAligner;
+use crate::aligner::{KEPT, write_four};
+use crate::eights::write_eight;
+use crate::search::{eight_bytes, first_run};
 
 /// The phase at which the search leaves out no place.
 const ANY: u32 = 10;
@@ -52,6 +53,9 @@ impl LaneAligner {
         ensures found { (xs : List Bool) → StandsFor self.now xs → MatchOption result ((p : ℕ) → p < length xs → IsRun (xs ++ take bits (bytes_bits bytes.now)) p → ⊥)
             (λ used. EndsFirst (xs ++ take bits (bytes_bits bytes.now)) (length xs + used) (take 12 row.new)) }
     {
+        if self.fed == 0 {
+            return None;
+        }
         let kept = (self.fed / 8).min(KEPT as u64) as usize;
         let had = 8 * kept as u32;
         let joined = joined(&self.kept, bytes);
@@ -107,9 +111,21 @@ fn write_run(bytes: &[u8], place: u32, row: &mut [u16])
     ensures words { AreWords (take 12 row.new) }
     ensures length { length row.new ≡ length row.old }
 {
-    for k in 0..RUN {
-        row[k as usize] = window_at(bytes, place + 10 * k);
-    }
+    let first = place as usize / 8;
+    // the run ends in the last of these eight bytes
+    let last = (place as usize + 120).div_ceil(8) - 8;
+    write_eight(
+        eight_bytes(bytes, first),
+        eight_bytes(bytes, first + 5),
+        place % 8,
+        row,
+        0,
+    );
+    write_four(
+        eight_bytes(bytes, last) >> (place + 80 - 8 * last as u32),
+        row,
+        8,
+    );
 }
 
 /// The bytes that are kept and the first of a piece behind them.
@@ -117,9 +133,9 @@ fn joined(kept: &[u8; KEPT], bytes: &[u8]) -> [u8; KEPT + REACH]
     ensures { take (16 + min (length bytes.now) 16) result ≡ take (16 + min (length bytes.now) 16) (kept.now ++ bytes.now) }
 {
     let mut joined = [0; KEPT + REACH];
-    for i in 0..KEPT + bytes.len().min(REACH) {
-        joined[i] = byte_at(kept, bytes, i);
-    }
+    let first = bytes.len().min(REACH);
+    joined[..KEPT].copy_from_slice(kept);
+    joined[KEPT..KEPT + first].copy_from_slice(&bytes[..first]);
     joined
 }
 
@@ -128,16 +144,8 @@ fn last_of(kept: &[u8; KEPT], bytes: &[u8]) -> [u8; KEPT]
     ensures { result ≡ drop (length bytes.now) (kept.now ++ bytes.now) }
 {
     let mut last = [0; KEPT];
-    for i in 0..KEPT {
-        last[i] = byte_at(kept, bytes, bytes.len() + i);
-    }
+    let first = bytes.len().min(KEPT);
+    last[..KEPT - first].copy_from_slice(&kept[first..]);
+    last[KEPT - first..].copy_from_slice(&bytes[bytes.len() - first..]);
     last
-}
-
-/// A byte of the bytes that are kept with a piece behind them.
-fn byte_at(kept: &[u8; KEPT], bytes: &[u8], i: usize) -> u8
-    requires { i < 16 + length bytes.now }
-    ensures { result ≡ get_or (kept.now ++ bytes.now) i 0 }
-{
-    if i < KEPT { kept[i] } else { bytes[i - KEPT] }
 }

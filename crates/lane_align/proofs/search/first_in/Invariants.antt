@@ -1,7 +1,10 @@
-use Rattle.std.proofs.Common.{ℕ}
+use Rattle.std.proofs.Common.{◌-◌, ◌≤◌, ℕ}
 use Rattle.tmds_word.specs.Bits.{bytes_bits}
 use Rattle.lane_align.specs.Search.{IsOther}
 use Rattle.lane_align.proofs.search.first_in.Given as goal
 
 abbrev pub invariant-loop-p : goal.invariant-loop-p
-invariant-loop-p l = (q : ℕ) → IsOther (bytes_bits l.bytes) l.from l.p l.phase q → ⊥
+invariant-loop-p l = record { after : l.from ≤ l.p; none : (q : ℕ) → IsOther (bytes_bits l.bytes) l.from l.p l.phase q → ⊥ }
+
+abbrev pub decreases-loop-p : goal.decreases-loop-p
+decreases-loop-p l = l.until - l.p

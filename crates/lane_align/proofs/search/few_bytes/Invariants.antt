@@ -1,6 +1,6 @@
 use Rattle.std.proofs.Common.{◌≡◌, ◌-◌, ◌≤◌, drop, length}
 use Rattle.tmds_word.specs.Bits.{bytes_bits, number}
-use Rattle.lane_align.proofs.search.last_bytes.Given as goal
+use Rattle.lane_align.proofs.search.few_bytes.Given as goal
 
 abbrev pub invariant-loop-i : goal.invariant-loop-i
 invariant-loop-i l = record {

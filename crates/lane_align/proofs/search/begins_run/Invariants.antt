@@ -1,7 +1,0 @@
-use Rattle.std.proofs.Common.{◌<◌, ◌+◌, ◌*◌, ℕ}
-use Rattle.tmds_word.specs.Bits.{bytes_bits}
-use Rattle.lane_align.specs.Lanes.{HasControl}
-use Rattle.lane_align.proofs.search.begins_run.Given as goal
-
-abbrev pub invariant-loop-k : goal.invariant-loop-k
-invariant-loop-k l = (k : ℕ) → k < 4 * l.k → HasControl (bytes_bits l.bytes) (l.p + 10 * k)
