@@ -191,7 +191,7 @@ some_last fed told (inr a) = (
 
 -- what is told at the end, of all bits once they are handed on
 pub tracks_some : (t : Tracker) (fed : Fed) (told : List Event) (us : List Thing) (longest : ℕ) → IsSettled t fed told
-    → longest ≡ max (length t.lanes.first.held) (max (length t.lanes.second.held) (length t.lanes.third.held))
+    → longest ≡ max (length t.lanes.first.held.bits) (max (length t.lanes.second.held.bits) (length t.lanes.third.held.bits))
     → IsGain (front_of t.handed (rest_of t.start fed)) (front_of (t.handed + longest) (rest_of t.start fed)) us
     → (epochs aligned : ℕ) × (last : List Thing) × IsTrack fed epochs aligned (told ++ events_of (us ++ last))
 tracks_some t fed told us longest settled most gain =
@@ -202,7 +202,7 @@ tracks_some t fed told us longest settled most gain =
     (v.epochs, v.aligned, last.1, tracks_all t u v fed told last.0 us last.1 longest settled most gain last.2 refl refl refl refl refl refl refl)
 
 pub tracks_last : (t u : Tracker) (fed : Fed) (told : List Event) (outcome : Outcome) (us last : List Thing) (longest : ℕ) → IsSettled t fed told
-    → longest ≡ max (length t.lanes.first.held) (max (length t.lanes.second.held) (length t.lanes.third.held))
+    → longest ≡ max (length t.lanes.first.held.bits) (max (length t.lanes.second.held.bits) (length t.lanes.third.held.bits))
     → IsGain (front_of t.handed (rest_of t.start fed)) (front_of (t.handed + longest) (rest_of t.start fed)) us → IsLast (front_of u.handed (rest_of u.start fed)) outcome last
     → u.start ≡ t.start → u.handed ≡ t.handed + longest → u.begun ≡ t.begun → u.epochs ≡ t.epochs → u.aligned ≡ t.aligned
     → IsTrack fed (u.epochs + 1) (u.aligned + one_if outcome.aligned) (told ++ events_of (us ++ last))

@@ -1,9 +1,9 @@
 -- A tracker that takes bits, looks through them and hands them on.
-use Rattle.std.proofs.Common.{◌≡◌, ◌⊎◌, ℕ, suc, zero, ◌+◌, ◌-◌, ◌/◌, ◌%◌, ◌^◌, ◌<◌, ◌≤◌, max, min, Bool, true, false, List, [], ◌∷◌, ◌++◌, length, take, drop, Option, Some, None, refl, ap, ap₂, ◌∙◌, sym, subst, arith, inl, inr, append-nil, length-append, length-drop}
+use Rattle.std.proofs.Common.{◌≡◌, ◌⊎◌, ℕ, suc, zero, ◌+◌, ◌-◌, ◌/◌, ◌%◌, ◌^◌, ◌<◌, ◌≤◌, max, min, Bool, true, false, List, [], ◌++◌, length, take, drop, Option, Some, None, refl, ap, ap₂, ◌∙◌, sym, subst, arith, inl, inr, append-nil, length-append, length-drop, length-take}
 use Rattle.std.specs.Prelude.{MatchOption, slice_index}
 use Rattle.std.proofs.Math.Seq.{take-add}
 use Rattle.std.proofs.lemmas.Bool.{cases_lt}
-use Rattle.std.proofs.lemmas.List.{drop-drop, drop-append-le, take_min}
+use Rattle.std.proofs.lemmas.List.{drop-drop, drop-append-le}
 use Rattle.tmds_word.specs.Bits.{bytes_bits}
 use Rattle.lane_align.specs.Lanes.{IsRun, IsLock}
 use Rattle.lane_track.specs.Strays.{IsStray}
@@ -21,14 +21,14 @@ use Rattle.link_sink.proofs.Following.{told_at_first}
 use Rattle.track_sink.specs.Events.{Event}
 use Rattle.track_sink.specs.Epochs.{lane_of, rest_of, front_of, IsEnd, IsTrack}
 use Rattle.track_sink.specs.Tracks.{Grows}
-use Rattle.track_sink.specs.Lanes.{AreFresh, AreHeld, AreSought, EndsAt}
+use Rattle.track_sink.specs.Buffers.{HeldSeen}
+use Rattle.track_sink.specs.Lanes.{AreFresh, AreHeld, AreSought, EndsAt, IsReleased}
 use Rattle.track_sink.specs.declared.lanes.Stray.{Stray}
 use mir.Val.{bool_byte}
 use Rattle.terc4.specs.Columns.{one_if}
 use Rattle.track_sink.specs.Trackers.{most_of, most_fed, Follows, HoldsRest, Carries, HasLooked, Stays, Stands, IsSettled}
 use Rattle.track_sink.specs.declared.lane.Lane.{Lane}
 use Rattle.track_sink.specs.declared.lanes.Lanes.{Lanes}
-use Rattle.track_sink.specs.declared.rows.Rows.{Rows}
 use Rattle.track_sink.specs.declared.tracker.Tracker.{Tracker}
 use Rattle.track_sink.proofs.Following.{fronts_stay, follows_grown, same_fed, no_longer}
 
@@ -45,78 +45,84 @@ can_hand bytes given most x handed len start bits g e few whole size above below
   | inr none ↦ record { most = omega arith; bytes_given = size; whole = inl (omega arith); going = inl (omega arith); total = omega arith }
 ]
 
+-- how many bits of a lane are released
+length_released : (before now : Lane) (bits x : ℕ) → IsReleased before now bits x → x ≡ length now.held.released
+length_released before now bits x r = omega (arith, r.many, ap length r.released, length-take bits before.held.bits)
+
 -- what a lane's sink has once they are
-hand_lane : (bytes : List ℕ) (held xs : List Bool) (start handed bits x : ℕ) → held ≡ drop (start + handed) xs → x ≡ min (length held) bits → take x (bytes_bits bytes) ≡ take x held
+hand_lane : (before now : Lane) (bytes : List ℕ) (xs : List Bool) (start handed bits x : ℕ) → before.held.bits ≡ drop (start + handed) xs → IsReleased before now bits x
+    → take (length now.held.released) (bytes_bits bytes) ≡ now.held.released
     → take handed (drop start xs) ++ take x (bytes_bits bytes) ≡ take (handed + bits) (drop start xs)
-hand_lane bytes held xs start handed bits x is e same =
-    let swap : x ≡ min bits (length held) = omega arith in
+hand_lane before now bytes xs start handed bits x is r same =
     ap (λ us. take handed (drop start xs) ++ us)
-    (same ∙ ap (λ n. take n held) swap ∙ take_min bits held ∙ ap (take bits) (is ∙ sym (drop-drop handed start xs)))
+    (ap (λ n. take n (bytes_bits bytes)) (length_released before now bits x r) ∙ same ∙ r.released ∙ ap (take bits) (is ∙ sym (drop-drop handed start xs)))
     ∙ sym (take-add handed bits (drop start xs))
 
-pub handed_is : (t : Tracker) (fed : Fed) (a b c : List ℕ) (x y z bits : ℕ) → Carries t fed
-    → x ≡ min (length t.lanes.first.held) bits → y ≡ min (length t.lanes.second.held) bits → z ≡ min (length t.lanes.third.held) bits
-    → take x (bytes_bits a) ≡ take x t.lanes.first.held → take y (bytes_bits b) ≡ take y t.lanes.second.held → take z (bytes_bits c) ≡ take z t.lanes.third.held
-    → grown (front_of t.handed (rest_of t.start fed)) a b c (x ∷ y ∷ z ∷ []) ≡ front_of (t.handed + bits) (rest_of t.start fed)
-handed_is t fed a b c x y z bits carries ex ey ez sx sy sz =
-    same_fed (grown (front_of t.handed (rest_of t.start fed)) a b c (x ∷ y ∷ z ∷ [])) (front_of (t.handed + bits) (rest_of t.start fed))
-    (hand_lane a t.lanes.first.held fed.blue t.start t.handed bits x carries.first.held ex sx)
-    (hand_lane b t.lanes.second.held fed.green t.start t.handed bits y carries.second.held ey sy)
-    (hand_lane c t.lanes.third.held fed.red t.start t.handed bits z carries.third.held ez sz)
+pub handed_is : (t : Tracker) (fed : Fed) (lanes : Lanes) (a b c counts : List ℕ) (bits : ℕ) → Carries t fed
+    → IsReleased t.lanes.first lanes.first bits (slice_index counts 0) → IsReleased t.lanes.second lanes.second bits (slice_index counts 1) → IsReleased t.lanes.third lanes.third bits (slice_index counts 2)
+    → take (length lanes.first.held.released) (bytes_bits a) ≡ lanes.first.held.released → take (length lanes.second.held.released) (bytes_bits b) ≡ lanes.second.held.released
+    → take (length lanes.third.held.released) (bytes_bits c) ≡ lanes.third.held.released
+    → grown (front_of t.handed (rest_of t.start fed)) a b c counts ≡ front_of (t.handed + bits) (rest_of t.start fed)
+handed_is t fed lanes a b c counts bits carries rx ry rz sx sy sz =
+    same_fed (grown (front_of t.handed (rest_of t.start fed)) a b c counts) (front_of (t.handed + bits) (rest_of t.start fed))
+    (hand_lane t.lanes.first lanes.first a fed.blue t.start t.handed bits (slice_index counts 0) carries.first.held rx sx)
+    (hand_lane t.lanes.second lanes.second b fed.green t.start t.handed bits (slice_index counts 1) carries.second.held ry sy)
+    (hand_lane t.lanes.third lanes.third c fed.red t.start t.handed bits (slice_index counts 2) carries.third.held rz sz)
 
-pub can_hand_first : (t : Tracker) (fed : Fed) (bytes : List ℕ) (x bits : ℕ) → Carries t fed → t.handed % 8 ≡ 0 → bits ≤ 32768 → x ≡ min (length t.lanes.first.held) bits → length bytes ≡ (x + 7) / 8
-    → CanFeed (bits_of t.link 0) (most_bits t.link) bytes x
-can_hand_first t fed bytes x bits c whole few e size =
+pub can_hand_first : (t : Tracker) (fed : Fed) (lanes : Lanes) (bytes : List ℕ) (x bits : ℕ) → Carries t fed → t.handed % 8 ≡ 0 → bits ≤ 32768 → IsReleased t.lanes.first lanes.first bits x
+    → length bytes ≡ (length lanes.first.held.released + 7) / 8 → CanFeed (bits_of t.link 0) (most_bits t.link) bytes x
+can_hand_first t fed lanes bytes x bits c whole few r size =
     let a = c.first.given in
     let b = c.second.given in
     let d = c.third.given in
     let small = c.small in
-    can_hand bytes (bits_of t.link 0) (most_bits t.link) x t.handed (length fed.blue) t.start bits a (e ∙ ap (λ n. min n bits) (ap length c.first.held ∙ length-drop (t.start + t.handed) fed.blue)) few whole size (omega arith) (omega arith) (omega arith)
+    can_hand bytes (bits_of t.link 0) (most_bits t.link) x t.handed (length fed.blue) t.start bits a (r.many ∙ ap (λ n. min n bits) (ap length c.first.held ∙ length-drop (t.start + t.handed) fed.blue)) few whole
+    (size ∙ ap (λ n. (n + 7) / 8) (sym (length_released t.lanes.first lanes.first bits x r))) (omega arith) (omega arith) (omega arith)
 
-pub can_hand_second : (t : Tracker) (fed : Fed) (bytes : List ℕ) (x bits : ℕ) → Carries t fed → t.handed % 8 ≡ 0 → bits ≤ 32768 → x ≡ min (length t.lanes.second.held) bits → length bytes ≡ (x + 7) / 8
-    → CanFeed (bits_of t.link 1) (most_bits t.link) bytes x
-can_hand_second t fed bytes x bits c whole few e size =
+pub can_hand_second : (t : Tracker) (fed : Fed) (lanes : Lanes) (bytes : List ℕ) (x bits : ℕ) → Carries t fed → t.handed % 8 ≡ 0 → bits ≤ 32768 → IsReleased t.lanes.second lanes.second bits x
+    → length bytes ≡ (length lanes.second.held.released + 7) / 8 → CanFeed (bits_of t.link 1) (most_bits t.link) bytes x
+can_hand_second t fed lanes bytes x bits c whole few r size =
     let a = c.first.given in
     let b = c.second.given in
     let d = c.third.given in
     let small = c.small in
-    can_hand bytes (bits_of t.link 1) (most_bits t.link) x t.handed (length fed.green) t.start bits b (e ∙ ap (λ n. min n bits) (ap length c.second.held ∙ length-drop (t.start + t.handed) fed.green)) few whole size (omega arith) (omega arith) (omega arith)
+    can_hand bytes (bits_of t.link 1) (most_bits t.link) x t.handed (length fed.green) t.start bits b (r.many ∙ ap (λ n. min n bits) (ap length c.second.held ∙ length-drop (t.start + t.handed) fed.green)) few whole
+    (size ∙ ap (λ n. (n + 7) / 8) (sym (length_released t.lanes.second lanes.second bits x r))) (omega arith) (omega arith) (omega arith)
 
-pub can_hand_third : (t : Tracker) (fed : Fed) (bytes : List ℕ) (x bits : ℕ) → Carries t fed → t.handed % 8 ≡ 0 → bits ≤ 32768 → x ≡ min (length t.lanes.third.held) bits → length bytes ≡ (x + 7) / 8
-    → CanFeed (bits_of t.link 2) (most_bits t.link) bytes x
-can_hand_third t fed bytes x bits c whole few e size =
+pub can_hand_third : (t : Tracker) (fed : Fed) (lanes : Lanes) (bytes : List ℕ) (x bits : ℕ) → Carries t fed → t.handed % 8 ≡ 0 → bits ≤ 32768 → IsReleased t.lanes.third lanes.third bits x
+    → length bytes ≡ (length lanes.third.held.released + 7) / 8 → CanFeed (bits_of t.link 2) (most_bits t.link) bytes x
+can_hand_third t fed lanes bytes x bits c whole few r size =
     let a = c.first.given in
     let b = c.second.given in
     let d = c.third.given in
     let small = c.small in
-    can_hand bytes (bits_of t.link 2) (most_bits t.link) x t.handed (length fed.red) t.start bits d (e ∙ ap (λ n. min n bits) (ap length c.third.held ∙ length-drop (t.start + t.handed) fed.red)) few whole size (omega arith) (omega arith) (omega arith)
+    can_hand bytes (bits_of t.link 2) (most_bits t.link) x t.handed (length fed.red) t.start bits d (r.many ∙ ap (λ n. min n bits) (ap length c.third.held ∙ length-drop (t.start + t.handed) fed.red)) few whole
+    (size ∙ ap (λ n. (n + 7) / 8) (sym (length_released t.lanes.third lanes.third bits x r))) (omega arith) (omega arith) (omega arith)
 
 -- a lane without the bits that were handed on
-rest_handed : (before now : Lane) (given later x start handed bits : ℕ) (xs : List Bool) → HoldsRest before given start handed xs → now.held ≡ drop bits before.held → now.fed ≡ before.fed
-    → x ≡ min (length before.held) bits → later ≡ given + x → HoldsRest now later start (handed + bits) xs
-rest_handed before now given later x start handed bits xs was is same e more =
+rest_handed : (before now : Lane) (given later x start handed bits : ℕ) (xs : List Bool) → HoldsRest before given start handed xs → IsReleased before now bits x → later ≡ given + x
+    → HoldsRest now later start (handed + bits) xs
+rest_handed before now given later x start handed bits xs was r more =
     let long = ap length was.held ∙ length-drop (start + handed) xs in
     let g = was.given in
     let place : start + handed + bits ≡ start + (handed + bits) = omega arith in
     record {
-      held = is ∙ ap (drop bits) was.held ∙ drop-drop bits (start + handed) xs ∙ ap (λ n. drop n xs) place;
-      fed = same ∙ was.fed;
-      given = omega arith;
+      held = r.held ∙ ap (drop bits) was.held ∙ drop-drop bits (start + handed) xs ∙ ap (λ n. drop n xs) place;
+      fed = r.fed ∙ was.fed;
+      given = omega (arith, r.many);
     }
 
-pub carries_handed : (t : Tracker) (fed : Fed) (link : SinkSeen) (lanes : Lanes) (rows : Rows) (x y z bits : ℕ) → Carries t fed → t.start + t.handed + bits ≤ most_of fed
-    → x ≡ min (length t.lanes.first.held) bits → y ≡ min (length t.lanes.second.held) bits → z ≡ min (length t.lanes.third.held) bits
+pub carries_handed : (t : Tracker) (fed : Fed) (link : SinkSeen) (lanes : Lanes) (counts : List ℕ) (bits : ℕ) → Carries t fed → t.start + t.handed + bits ≤ most_of fed
+    → IsReleased t.lanes.first lanes.first bits (slice_index counts 0) → IsReleased t.lanes.second lanes.second bits (slice_index counts 1) → IsReleased t.lanes.third lanes.third bits (slice_index counts 2)
     → link.is_open ≡ true → StandsFor link (front_of (t.handed + bits) (rest_of t.start fed))
-    → bits_of link 0 ≡ bits_of t.link 0 + x → bits_of link 1 ≡ bits_of t.link 1 + y → bits_of link 2 ≡ bits_of t.link 2 + z
-    → lanes.first.held ≡ drop bits t.lanes.first.held → lanes.second.held ≡ drop bits t.lanes.second.held → lanes.third.held ≡ drop bits t.lanes.third.held
-    → lanes.first.fed ≡ t.lanes.first.fed → lanes.second.fed ≡ t.lanes.second.fed → lanes.third.fed ≡ t.lanes.third.fed
-    → Carries (record t { link = link; lanes = lanes; rows = rows; handed = t.handed + bits }) fed
-carries_handed t fed link lanes rows x y z bits c room ex ey ez opened stands gx gy gz hx hy hz fx fy fz = record {
+    → bits_of link 0 ≡ bits_of t.link 0 + slice_index counts 0 → bits_of link 1 ≡ bits_of t.link 1 + slice_index counts 1 → bits_of link 2 ≡ bits_of t.link 2 + slice_index counts 2
+    → Carries (record t { link = link; lanes = lanes; handed = t.handed + bits }) fed
+carries_handed t fed link lanes counts bits c room rx ry rz opened stands gx gy gz = record {
   link_open = opened;
   link = stands;
-  first = rest_handed t.lanes.first lanes.first (bits_of t.link 0) (bits_of link 0) x t.start t.handed bits fed.blue c.first hx fx ex gx;
-  second = rest_handed t.lanes.second lanes.second (bits_of t.link 1) (bits_of link 1) y t.start t.handed bits fed.green c.second hy fy ey gy;
-  third = rest_handed t.lanes.third lanes.third (bits_of t.link 2) (bits_of link 2) z t.start t.handed bits fed.red c.third hz fz ez gz;
+  first = rest_handed t.lanes.first lanes.first (bits_of t.link 0) (bits_of link 0) (slice_index counts 0) t.start t.handed bits fed.blue c.first rx gx;
+  second = rest_handed t.lanes.second lanes.second (bits_of t.link 1) (bits_of link 1) (slice_index counts 1) t.start t.handed bits fed.green c.second ry gy;
+  third = rest_handed t.lanes.third lanes.third (bits_of t.link 2) (bits_of link 2) (slice_index counts 2) t.start t.handed bits fed.red c.third rz gz;
   within = omega arith;
   small = c.small;
   few = c.few;
@@ -133,7 +139,7 @@ are_held t fed c = record {
 }
 
 -- how many bits the lane holds that holds the most
-pub longest_held : (t : Tracker) (fed : Fed) → Carries t fed → max (length t.lanes.first.held) (max (length t.lanes.second.held) (length t.lanes.third.held)) + (t.start + t.handed) ≡ most_of fed
+pub longest_held : (t : Tracker) (fed : Fed) → Carries t fed → max (length t.lanes.first.held.bits) (max (length t.lanes.second.held.bits) (length t.lanes.third.held.bits)) + (t.start + t.handed) ≡ most_of fed
 longest_held t fed c =
     let a = ap length c.first.held ∙ length-drop (t.start + t.handed) fed.blue in
     let b = ap length c.second.held ∙ length-drop (t.start + t.handed) fed.green in
@@ -166,7 +172,7 @@ comes_of most fed xs bytes bits e can = elim can.going [
 
 -- a lane's part takes them
 rest_taken : (before now : Lane) (given start handed most : ℕ) (xs more : List Bool) → start + handed ≤ most → HoldsRest before given start handed xs → Comes most xs more
-    → now.held ≡ before.held ++ more → now.fed ≡ length (xs ++ more) → HoldsRest now given start handed (xs ++ more)
+    → now.held.bits ≡ before.held.bits ++ more → now.fed ≡ length (xs ++ more) → HoldsRest now given start handed (xs ++ more)
 rest_taken before now given start handed most xs more reached was (inl longest) is fed =
     let g = was.given in
     let long = length-append xs more in
@@ -178,7 +184,7 @@ rest_taken before now given start handed most xs more reached was (inl longest) 
 rest_taken before now given start handed most xs more reached was (inr none) is fed =
     let same : xs ++ more ≡ xs = ap (λ us. xs ++ us) none ∙ append-nil xs in
     record {
-      held = is ∙ ap (λ us. before.held ++ us) none ∙ append-nil before.held ∙ was.held ∙ ap (drop (start + handed)) (sym same);
+      held = is ∙ ap (λ us. before.held.bits ++ us) none ∙ append-nil before.held.bits ∙ was.held ∙ ap (drop (start + handed)) (sym same);
       fed = fed;
       given = was.given ∙ ap (λ us. min handed (length us - start)) (sym same);
     }
@@ -230,8 +236,8 @@ module _ (t : Tracker) (fed : Fed) (told : List Event) (a b c bits : List ℕ) (
   long_third : length now.red ≡ length fed.red + slice_index bits 2
   long_third = length_grown fed.red now.red c (slice_index bits 2) third.bytes_given refl
 
-  module _ (lanes : Lanes) (hx : lanes.first.held ≡ t.lanes.first.held ++ take (slice_index bits 0) (bytes_bits a)) (hy : lanes.second.held ≡ t.lanes.second.held ++ take (slice_index bits 1) (bytes_bits b))
-      (hz : lanes.third.held ≡ t.lanes.third.held ++ take (slice_index bits 2) (bytes_bits c))
+  module _ (lanes : Lanes) (hx : lanes.first.held.bits ≡ t.lanes.first.held.bits ++ take (slice_index bits 0) (bytes_bits a)) (hy : lanes.second.held.bits ≡ t.lanes.second.held.bits ++ take (slice_index bits 1) (bytes_bits b))
+      (hz : lanes.third.held.bits ≡ t.lanes.third.held.bits ++ take (slice_index bits 2) (bytes_bits c))
       (fx : lanes.first.fed ≡ t.lanes.first.fed + slice_index bits 0) (fy : lanes.second.fed ≡ t.lanes.second.fed + slice_index bits 1) (fz : lanes.third.fed ≡ t.lanes.third.fed + slice_index bits 2)
       (sx : lanes.first.scout ≡ t.lanes.first.scout) (sy : lanes.second.scout ≡ t.lanes.second.scout) (sz : lanes.third.scout ≡ t.lanes.third.scout) where
     abbrev next : Tracker
@@ -297,9 +303,9 @@ begin_follows = record {
   told_are = refl;
 }
 
-pub settled_at_first : (link : SinkSeen) (lanes : Lanes) (rows : Rows) → link.is_open ≡ true → StandsFor link no_bits → most_bits link ≡ 0 → AreFresh lanes
-    → IsSettled (record { link = link; lanes = lanes; rows = rows; start = 0; handed = 0; seen = 0; begun = false; epochs = 0; aligned = 0 }) no_bits []
-settled_at_first link lanes rows opened stands none fresh = record {
+pub settled_at_first : (link : SinkSeen) (lanes : Lanes) → link.is_open ≡ true → StandsFor link no_bits → most_bits link ≡ 0 → AreFresh lanes
+    → IsSettled (record { link = link; lanes = lanes; start = 0; handed = 0; seen = 0; begun = false; epochs = 0; aligned = 0 }) no_bits []
+settled_at_first link lanes opened stands none fresh = record {
   stands = record {
     carries = record {
       link_open = opened;
@@ -338,7 +344,7 @@ none_gained t fed bits none = λ told h.
 stays_rest : (before now : Lane) (bits later start handed from on : ℕ) (xs : List Bool) → now.held ≡ before.held → now.fed ≡ before.fed → later ≡ bits → from ≡ start → on ≡ handed
     → HoldsRest before bits start handed xs → HoldsRest now later from on xs
 stays_rest before now bits later start handed from on xs held fed given s h was = record {
-  held = held ∙ was.held ∙ ap₂ (λ m n. drop (m + n) xs) (sym s) (sym h);
+  held = ap (λ (h : HeldSeen). h.bits) held ∙ was.held ∙ ap₂ (λ m n. drop (m + n) xs) (sym s) (sym h);
   fed = fed ∙ was.fed;
   given = given ∙ was.given ∙ ap₂ (λ m n. min n (length xs - m)) (sym s) (sym h);
 }
@@ -405,7 +411,7 @@ stays_more t u lanes seen s hx hy hz fx fy fz = record {
 }
 
 pub looked_more : (t u : Tracker) (fed : Fed) (lanes : Lanes) (more end longest : ℕ) → Stays t u → Carries t fed → HasLooked u fed → AreSought lanes (u.seen + more) (rest_of u.start fed)
-    → longest ≡ max (length t.lanes.first.held) (max (length t.lanes.second.held) (length t.lanes.third.held)) → end ≡ t.handed + longest - 119 → u.seen < end → more ≡ min (end - u.seen) 2560
+    → longest ≡ max (length t.lanes.first.held.bits) (max (length t.lanes.second.held.bits) (length t.lanes.third.held.bits)) → end ≡ t.handed + longest - 119 → u.seen < end → more ≡ min (end - u.seen) 2560
     → HasLooked (record u { lanes = lanes; seen = u.seen + more }) fed
 looked_more t u fed lanes more end longest s c looked sought most e lt step =
     let all = longest_held t fed c in
@@ -414,7 +420,7 @@ looked_more t u fed lanes more end longest s c looked sought most e lt step =
     record { sought = sought; behind = omega arith; decided = inr (omega (arith, most, e, all)) }
 
 pub looked_all : (t u : Tracker) (fed : Fed) (end longest : ℕ) → Stays t u → Carries t fed
-    → longest ≡ max (length t.lanes.first.held) (max (length t.lanes.second.held) (length t.lanes.third.held)) → end ≡ t.handed + longest - 119 → end ≤ u.seen → most_of fed ≤ u.start + u.seen + 119
+    → longest ≡ max (length t.lanes.first.held.bits) (max (length t.lanes.second.held.bits) (length t.lanes.third.held.bits)) → end ≡ t.handed + longest - 119 → end ≤ u.seen → most_of fed ≤ u.start + u.seen + 119
 looked_all t u fed end longest s c most e done =
     let all = longest_held t fed c in
     let es = s.start in

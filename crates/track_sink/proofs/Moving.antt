@@ -1,19 +1,20 @@
--- Eight bytes at a time: the 64 bits from a bit of a byte on, and bytes that move to the front of their buffer.
-use Rattle.std.proofs.Common.{◌≡◌, ℕ, ◌+◌, ◌-◌, ◌*◌, ◌/◌, ◌%◌, ◌^◌, ◌<◌, ◌≤◌, Bool, List, [], ◌∷◌, ◌++◌, length, take, drop, get_or, refl, ap, ap₂, ◌∙◌, sym, subst, arith, bit_and, bit_or}
+-- Eight bytes at a time: the 64 bits from a bit of a byte on, bits that move to where a byte begins, and bits that are put behind a few others.
+use Rattle.std.proofs.Common.{◌≡◌, ℕ, ◌+◌, ◌-◌, ◌*◌, ◌/◌, ◌%◌, ◌^◌, ◌<◌, ◌≤◌, Bool, List, [], ◌∷◌, ◌++◌, length, take, drop, take-take, get_or, refl, ap, ap₂, ◌∙◌, sym, subst, arith, append_assoc, append-nil, length-take, bit_and, bit_or}
 use Rattle.std.specs.Int.{w64, to_le_bytes}
-use Rattle.std.proofs.Math.Nat.{mod-eq_of_lt}
-use Rattle.std.proofs.Math.Pow.{mod-mod-pow}
-use Rattle.std.proofs.Math.Seq.{take-add}
-use Rattle.std.proofs.lemmas.Nat.{field_of, shr-shr, or_shifted, and_mask}
-use Rattle.std.proofs.lemmas.List.{drop-drop, drop_more, length-take-le}
-use Rattle.std.proofs.lemmas.Slice.{take-put_mid, drop-put_mid}
+use Rattle.std.proofs.Math.Nat.{mod-eq_of_lt, mul-div_cancel, mul-mod_left}
+use Rattle.std.proofs.Math.Pow.{mod-mod-pow, pow_mono, shr_lt}
+use Rattle.std.proofs.Math.Seq.{take-add, drop-append_seam}
+use Rattle.std.proofs.lemmas.Nat.{field_of, shr-shr, or_shifted, and_mask, mod-pow-add}
+use Rattle.std.proofs.lemmas.List.{drop-drop, drop_more, drop-append-le, drop_at, drop_all, length-take-le, take-append-drop}
+use Rattle.std.proofs.lemmas.Slice.{take-put_mid, take-put_mid_below, drop-put_mid, between-put_mid}
 use Rattle.std.proofs.Common.{length-drop}
 use borrow.Rule.Slice.PartMut.{put_mid}
 use Rattle.tmds_word.specs.Bits.{bits_of, bytes_bits, bytes_of, number}
 use Rattle.tmds_word.proofs.Bytes.{bytes_of-bits}
-use Rattle.tmds_word.proofs.Lists.{length-bytes_bits, bytes_bits-append}
-use Rattle.tmds_word.proofs.Numbers.{number-window, bits_of-number}
-use Rattle.tmds_word.proofs.Rows.{AreBytes, number_from, number_of_bytes}
+use Rattle.tmds_word.proofs.Lists.{length-bits_of, length-bytes_bits, bytes_bits-append, bits_of-add, bits_of-join}
+use Rattle.tmds_word.proofs.Numbers.{number-window, bits_of-number, pow_positive}
+use Rattle.tmds_word.proofs.Rows.{AreBytes, number_from, number_of_bytes, bits_of-mod, take_low}
+use Rattle.lane_align.proofs.Begun.{bytes_take}
 use Rattle.lane_align.proofs.Feeding.{bytes_drop}
 
 -- a byte of a list of bits
@@ -65,6 +66,17 @@ low_first n =
     let h : n / 72057594037927936 % 256 ≡ n / 256 / 256 / 256 / 256 / 256 / 256 / 256 % 256 = omega arith in
     λ i. (n % 256) ∷ (b i ∷ (c i ∷ (d i ∷ (e i ∷ (f i ∷ (g i ∷ (h i ∷ [])))))))
 
+-- the bits of a number that was read from a place of bits on
+pub word_bits : (bits : List Bool) (p w : ℕ) → p + 64 ≤ length bits → w ≡ number bits / 2 ^ p % 2 ^ 64 → bits_of 64 w ≡ take 64 (drop p bits)
+word_bits bits p w room is =
+    let piece = take 64 (drop p bits) in
+    let long : length piece ≡ 64 = length-take-le 64 (drop p bits) (omega (arith, length-drop p bits)) in
+    ap (bits_of 64) (is ∙ sym (number-window p 64 bits)) ∙ ap (λ n. bits_of n (number piece)) (sym long) ∙ bits_of-number piece
+
+-- the bits of its bytes
+pub le_bits : (w : ℕ) → bytes_bits (to_le_bytes w64 w) ≡ bits_of 64 w
+le_bits w = ap bytes_bits (low_first w) ∙ bytes_of-bits 8 w
+
 none_moved : (bs : List ℕ) → bytes_bits (take 0 bs) ≡ []
 unfolding bytes_bits
 none_moved bs = refl
@@ -86,11 +98,8 @@ word_moved start was now at bit i k w same size few room is eight put held =
     let here : drop (8 * j + bit) (bytes_bits was) ≡ drop (8 * (8 * i)) bits =
     sym (drop-drop bit (8 * j) (bytes_bits was)) ∙ ap (drop bit) (bytes_drop j was ∙ ap bytes_bits rest ∙ sym (bytes_drop j start)) ∙ drop-drop bit (8 * j) (bytes_bits start)
     ∙ ap (λ n. drop n (bytes_bits start)) (let p : 8 * j + bit ≡ 8 * at + bit + 8 * (8 * i) = omega arith in p) ∙ sym (drop-drop (8 * (8 * i)) (8 * at + bit) (bytes_bits start)) in
-    let piece = take 64 (drop (8 * j + bit) (bytes_bits was)) in
-    let long : length piece ≡ 64 = length-take-le 64 (drop (8 * j + bit) (bytes_bits was)) (omega (arith, length-drop (8 * j + bit) (bytes_bits was), length-bytes_bits was)) in
     let word : bytes_bits (to_le_bytes w64 w) ≡ take 64 (drop (8 * (8 * i)) bits) =
-    ap bytes_bits (low_first w) ∙ bytes_of-bits 8 w ∙ ap (bits_of 64) (is ∙ sym (number-window (8 * j + bit) 64 (bytes_bits was)))
-    ∙ ap (λ n. bits_of n (number piece)) (sym long) ∙ bits_of-number piece ∙ ap (take 64) here in
+    le_bits w ∙ word_bits (bytes_bits was) (8 * j + bit) w (omega (arith, length-bytes_bits was)) is ∙ ap (take 64) here in
     let e : 8 * (i + 1) ≡ 8 * i + 8 = omega arith in
     ap bytes_bits (ap₂ take e put ∙ take-put_mid (8 * i) k was (to_le_bytes w64 w) (8 * i + 8) refl (omega arith))
     ∙ bytes_bits-append (take (8 * i) was) (to_le_bytes w64 w)
@@ -104,3 +113,158 @@ word_rest start was now i k w same within eight put =
     ap (drop (8 * (i + 1))) put
     ∙ drop-put_mid (8 * i) k was (to_le_bytes w64 w) (8 * (i + 1)) (omega arith) within (sym eight)
     ∙ ap (λ n. drop n was) (sym e) ∙ sym (drop-drop 8 (8 * i) was) ∙ ap (drop 8) same ∙ drop-drop 8 (8 * i) start ∙ ap (λ n. drop n start) e
+
+-- Fewer bits than a word.
+
+mask_is : (x k : ℕ) → k < 64 → bit_and x (1 * 2 ^ k % 18446744073709551616 - 1) ≡ x % 2 ^ k
+mask_is x k few =
+    let most : 2 ^ k ≤ 2 ^ 63 = pow_mono {i = k} {j = 63} (omega arith) in
+    let fits : 1 * 2 ^ k < 18446744073709551616 = omega arith in
+    let one : 1 * 2 ^ k ≡ 2 ^ k = omega arith in
+    ap (λ m. bit_and x (m - 1)) (mod-eq_of_lt fits ∙ one) ∙ and_mask x k
+
+-- the lowest bits of one number below the highest of another
+pub few_word : (x e k : ℕ) → k < 64 → e < 2 ^ 64
+    → bits_of 64 (bit_or (e / 2 ^ k * 2 ^ k % 18446744073709551616) (bit_and x (1 * 2 ^ k % 18446744073709551616 - 1))) ≡ bits_of k x ++ drop k (bits_of 64 e)
+few_word x e k few below =
+    let c = 2 ^ k in
+    let some = pow_positive k in
+    let low : x % c < c = omega arith in
+    let fits : e / c * c < 18446744073709551616 = omega arith in
+    let all : k + (64 - k) ≡ 64 = omega arith in
+    let turn : e / c * c + x % c ≡ x % c + c * (e / c) = omega arith in
+    let high : drop k (bits_of 64 e) ≡ bits_of (64 - k) (e / c) =
+    ap (drop k) (ap (λ n. bits_of n e) (sym all) ∙ bits_of-add k (64 - k) e) ∙ ap (λ n. drop n (bits_of k e ++ bits_of (64 - k) (e / c))) (sym (length-bits_of k e))
+    ∙ drop-append_seam (bits_of k e) (bits_of (64 - k) (e / c)) in
+    ap (bits_of 64) (ap₂ bit_or (mod-eq_of_lt fits) (mask_is x k few) ∙ or_shifted (e / c) k (x % c) low ∙ turn)
+    ∙ ap (λ n. bits_of n (x % c + c * (e / c))) (sym all) ∙ sym (bits_of-join k (64 - k) (x % c) (e / c) low)
+    ∙ ap₂ (λ us vs. us ++ vs) (bits_of-mod k x) (sym high)
+
+-- eight bytes put at a place
+put_from : (was now : List ℕ) (to k w : ℕ) → to + 8 ≤ length was → k ≡ 8 → now ≡ put_mid to k was (to_le_bytes w64 w)
+    → drop (8 * to) (bytes_bits now) ≡ bits_of 64 w ++ drop 64 (drop (8 * to) (bytes_bits was))
+put_from was now to k w room eight put =
+    let ys = to_le_bytes w64 w in
+    let all : drop to now ≡ take 8 (drop to now) ++ drop 8 (drop to now) = sym (take-append-drop 8 (drop to now)) in
+    let size : to + 8 - to ≡ 8 = omega arith in
+    let first : take 8 (drop to now) ≡ ys =
+    ap₂ (λ n us. take n (drop to us)) (sym size) put ∙ between-put_mid to k was ys (to + 8) (omega arith) (sym size) in
+    let rest : drop 8 (drop to now) ≡ drop 8 (drop to was) =
+    drop-drop 8 to now ∙ ap (drop (to + 8)) put ∙ drop-put_mid to k was ys (to + 8) (omega arith) (omega arith) (sym eight) ∙ sym (drop-drop 8 to was) in
+    bytes_drop to now ∙ ap bytes_bits all ∙ bytes_bits-append (take 8 (drop to now)) (drop 8 (drop to now))
+    ∙ ap₂ (λ us vs. us ++ vs) (ap bytes_bits first ∙ le_bits w) (ap bytes_bits rest ∙ sym (bytes_drop 8 (drop to was)) ∙ ap (drop 64) (sym (bytes_drop to was)))
+
+-- the first of them are moved, all others stay
+pub few_put : (was now : List ℕ) (to at bit count k x e w : ℕ) → bit < 8 → count < 64 → to ≤ at → at + 9 ≤ length was → k ≡ 8
+    → x ≡ number (bytes_bits was) / 2 ^ (8 * at + bit) % 2 ^ 64 → e ≡ number (bytes_bits was) / 2 ^ (8 * to) % 2 ^ 64
+    → w ≡ bit_or (e / 2 ^ count * 2 ^ count % 18446744073709551616) (bit_and x (1 * 2 ^ count % 18446744073709551616 - 1))
+    → now ≡ put_mid to k was (to_le_bytes w64 w)
+    → drop (8 * to) (bytes_bits now) ≡ take count (drop (8 * at + bit) (bytes_bits was)) ++ drop (8 * to + count) (bytes_bits was)
+few_put was now to at bit count k x e w lt few order room eight ex ee ew put =
+    let bits = bytes_bits was in
+    let own = drop (8 * to) bits in
+    let long : length bits ≡ 8 * length was = length-bytes_bits was in
+    let here : bits_of 64 e ≡ take 64 own = word_bits bits (8 * to) e (omega (arith, long)) ee in
+    let there : bits_of count x ≡ take count (drop (8 * at + bit) bits) =
+    sym (take_low count 64 x (omega arith)) ∙ ap (take count) (word_bits bits (8 * at + bit) x (omega (arith, long)) ex) ∙ take-take count 64 (drop (8 * at + bit) bits) (omega arith) in
+    let more : count + (64 - count) ≡ 64 = omega arith in
+    let all : drop count (bits_of 64 e) ++ drop 64 own ≡ drop count own =
+    ap (λ us. drop count us ++ drop 64 own) here ∙ sym (drop-append-le count (take 64 own) (drop 64 own) (omega (arith, length-take 64 own, length-drop (8 * to) bits, long)))
+    ∙ ap (drop count) (take-append-drop 64 own) in
+    put_from was now to k w (omega arith) eight put ∙ ap (λ us. us ++ drop 64 own) (ap (bits_of 64) ew ∙ few_word x e count few (omega (arith, ee)))
+    ∙ append_assoc (bits_of count x) (drop count (bits_of 64 e)) (drop 64 own)
+    ∙ ap₂ (λ us vs. us ++ vs) there (all ∙ drop-drop count (8 * to) bits)
+
+pub few_first : (was now : List ℕ) (to k w : ℕ) → to ≤ length was → now ≡ put_mid to k was (to_le_bytes w64 w) → take to now ≡ take to was
+few_first was now to k w within put = ap (take to) put ∙ take-put_mid_below to k was (to_le_bytes w64 w) to (omega arith) within
+
+-- words are moved, and then the few bits that are left
+pub all_moved : (start first now : List ℕ) (place count at : ℕ) → at ≡ place / 8
+    → drop (8 * (count / 64)) first ≡ drop (8 * (count / 64)) start
+    → bytes_bits (take (8 * (count / 64)) first) ≡ take (8 * (8 * (count / 64))) (drop (8 * at + place % 8) (bytes_bits start))
+    → take (8 * (count / 64)) now ≡ take (8 * (count / 64)) first
+    → drop (8 * (8 * (count / 64))) (bytes_bits now) ≡ take (count % 64) (drop (8 * (at + 8 * (count / 64)) + place % 8) (bytes_bits first)) ++ drop (8 * (8 * (count / 64)) + count % 64) (bytes_bits first)
+    → bytes_bits now ≡ take count (drop place (bytes_bits start)) ++ drop count (bytes_bits start)
+all_moved start first now place count at is same words before few =
+    let n = 8 * (count / 64) in
+    let c = count % 64 in
+    let bits = bytes_bits start in
+    let from = drop place bits in
+    let p : 8 * at + place % 8 ≡ place = omega arith in
+    let all : 8 * n + c ≡ count = omega arith in
+    let rest : drop (8 * n) (bytes_bits first) ≡ drop (8 * n) bits = bytes_drop n first ∙ ap bytes_bits same ∙ sym (bytes_drop n start) in
+    let there : drop (8 * (at + n) + place % 8) (bytes_bits first) ≡ drop (8 * n) from =
+    ap (λ m. drop m (bytes_bits first)) (let e : 8 * (at + n) + place % 8 ≡ 8 * n + place = omega arith in e) ∙ sym (drop-drop place (8 * n) (bytes_bits first))
+    ∙ ap (drop place) rest ∙ drop-drop place (8 * n) bits ∙ ap (λ m. drop m bits) (let e : 8 * n + place ≡ place + 8 * n = omega arith in e) ∙ sym (drop-drop (8 * n) place bits) in
+    let behind : drop (8 * n + c) (bytes_bits first) ≡ drop count bits =
+    sym (drop-drop c (8 * n) (bytes_bits first)) ∙ ap (drop c) rest ∙ drop-drop c (8 * n) bits ∙ ap (λ m. drop m bits) all in
+    sym (take-append-drop (8 * n) (bytes_bits now))
+    ∙ ap₂ (λ us vs. us ++ vs) (bytes_take n now ∙ ap bytes_bits before ∙ words ∙ ap (λ m. take (8 * n) (drop m bits)) p) (few ∙ ap₂ (λ us vs. take c us ++ vs) there behind)
+    ∙ sym (append_assoc (take (8 * n) from) (take c (drop (8 * n) from)) (drop count bits))
+    ∙ ap (λ us. us ++ drop count bits) (sym (take-add (8 * n) c from) ∙ ap (λ m. take m from) all)
+
+-- bits are moved within the bytes from one on
+pub settled_bits : (was now part new : List ℕ) (at k skip count : ℕ) → at ≤ length was → k ≡ length was - at → part ≡ drop at was → now ≡ put_mid at k was new
+    → bytes_bits new ≡ take count (drop skip (bytes_bits part)) ++ drop count (bytes_bits part)
+    → drop (8 * at) (bytes_bits now) ≡ take count (drop (8 * at + skip) (bytes_bits was)) ++ drop (8 * at + count) (bytes_bits was)
+settled_bits was now part new at k skip count within all is put moved =
+    let here : drop at now ≡ new =
+    ap (drop at) put ∙ drop_at (take at was) (new ++ drop k (drop at was)) at (length-take-le at was within)
+    ∙ ap (λ us. new ++ us) (drop_all k (drop at was) (omega (arith, length-drop at was, all))) ∙ append-nil new in
+    let own : bytes_bits part ≡ drop (8 * at) (bytes_bits was) = ap bytes_bits is ∙ sym (bytes_drop at was) in
+    bytes_drop at now ∙ ap bytes_bits here ∙ moved
+    ∙ ap₂ (λ us vs. take count us ++ vs) (ap (drop skip) own ∙ drop-drop skip (8 * at) (bytes_bits was)) (ap (drop count) own ∙ drop-drop count (8 * at) (bytes_bits was))
+
+-- they may lie there
+pub settled_none : (was : List ℕ) (at skip count : ℕ) → skip ≡ 0 → drop (8 * at) (bytes_bits was) ≡ take count (drop (8 * at + skip) (bytes_bits was)) ++ drop (8 * at + count) (bytes_bits was)
+settled_none was at skip count none =
+    let e : 8 * at ≡ 8 * at + skip = omega arith in
+    sym (take-append-drop count (drop (8 * at) (bytes_bits was)))
+    ∙ ap₂ (λ us vs. us ++ vs) (ap (λ n. take count (drop n (bytes_bits was))) e) (drop-drop count (8 * at) (bytes_bits was))
+
+-- Bits that are put behind a few others.
+
+pub behind_less : (few w : ℕ) → 0 < few → few < 8 → w < 2 ^ 64 → w / 2 ^ (64 - few) < 2 ^ few
+behind_less few w some lt below = let all : few + (64 - few) ≡ 64 = omega arith in shr_lt few (64 - few) (subst (λ n. w < 2 ^ n) (sym all) below)
+
+pub behind_byte : (few w : ℕ) → 0 < few → few < 8 → w < 2 ^ 64 → w / 2 ^ (64 - few) < 256
+behind_byte few w some lt below = let h = behind_less few w some lt below in let small : 2 ^ few ≤ 2 ^ 7 = pow_mono {i = few} {j = 7} (omega arith) in omega arith
+
+-- a word behind a few bits: as many find no room
+pub behind_few : (few left w : ℕ) → 0 < few → few < 8 → left < 2 ^ few → w < 2 ^ 64
+    → bits_of 64 (bit_or (w * 2 ^ few % 18446744073709551616) left) ++ bits_of few (w / 2 ^ (64 - few)) ≡ bits_of few left ++ bits_of 64 w
+behind_few few left w some lt low below =
+    let h = 64 - few in
+    let all : few + h ≡ 64 = omega arith in
+    let whole : h + few ≡ 64 = omega arith in
+    let positive = pow_positive few in
+    let kept : w * 2 ^ few % 18446744073709551616 ≡ w % 2 ^ h * 2 ^ few =
+    ap (λ n. w * 2 ^ few % 2 ^ n) (sym whole) ∙ mod-pow-add (w * 2 ^ few) h few
+    ∙ ap₂ (λ x y. x % 2 ^ h * 2 ^ few + y) (mul-div_cancel w positive) (mul-mod_left w (2 ^ few)) ∙ omega arith in
+    let turn : w % 2 ^ h * 2 ^ few + left ≡ left + 2 ^ few * (w % 2 ^ h) = omega arith in
+    let joined : bits_of 64 (bit_or (w * 2 ^ few % 18446744073709551616) left) ≡ bits_of few left ++ bits_of h w =
+    ap (bits_of 64) (ap (λ n. bit_or n left) kept ∙ or_shifted (w % 2 ^ h) few left low ∙ turn) ∙ ap (λ n. bits_of n (left + 2 ^ few * (w % 2 ^ h))) (sym all)
+    ∙ sym (bits_of-join few h left (w % 2 ^ h) low) ∙ ap (λ us. bits_of few left ++ us) (bits_of-mod h w) in
+    ap (λ us. us ++ bits_of few (w / 2 ^ h)) joined
+    ∙ append_assoc (bits_of few left) (bits_of h w) (bits_of few (w / 2 ^ h))
+    ∙ ap (λ us. bits_of few left ++ us) (sym (bits_of-add h few w) ∙ ap (λ n. bits_of n w) whole)
+
+-- one word more behind them
+pub word_behind : (start : List Bool) (was now more : List ℕ) (few left i k w : ℕ) → 0 < few → few < 8 → left < 2 ^ few → 8 * i + 8 ≤ length was → 8 * i + 8 ≤ length more
+    → w ≡ number (bytes_bits more) / 2 ^ (8 * (8 * i)) % 2 ^ 64 → now ≡ put_mid (8 * i) k was (to_le_bytes w64 (bit_or (w * 2 ^ few % 18446744073709551616) left))
+    → bytes_bits (take (8 * i) was) ++ bits_of few left ≡ start ++ bytes_bits (take (8 * i) more)
+    → bytes_bits (take (8 * (i + 1)) now) ++ bits_of few (w / 2 ^ (64 - few)) ≡ start ++ bytes_bits (take (8 * (i + 1)) more)
+word_behind start was now more few left i k w some lt low room within is put held =
+    let n = bit_or (w * 2 ^ few % 18446744073709551616) left in
+    let next = bits_of few (w / 2 ^ (64 - few)) in
+    let head = bytes_bits (take (8 * i) was) in
+    let e : 8 * (i + 1) ≡ 8 * i + 8 = omega arith in
+    let word : bits_of 64 w ≡ take 64 (drop (8 * (8 * i)) (bytes_bits more)) = word_bits (bytes_bits more) (8 * (8 * i)) w (omega (arith, length-bytes_bits more)) is in
+    ap (λ us. us ++ next) (ap bytes_bits (ap₂ take e put ∙ take-put_mid (8 * i) k was (to_le_bytes w64 n) (8 * i + 8) refl (omega arith)) ∙ bytes_bits-append (take (8 * i) was) (to_le_bytes w64 n) ∙ ap (λ us. head ++ us) (le_bits n))
+    ∙ append_assoc head (bits_of 64 n) next
+    ∙ ap (λ us. head ++ us) (behind_few few left w some lt low (omega (arith, is)))
+    ∙ sym (append_assoc head (bits_of few left) (bits_of 64 w))
+    ∙ ap₂ (λ us vs. us ++ vs) held word
+    ∙ append_assoc start (bytes_bits (take (8 * i) more)) (take 64 (drop (8 * (8 * i)) (bytes_bits more)))
+    ∙ ap (λ us. start ++ us) (ap (λ us. us ++ take 64 (drop (8 * (8 * i)) (bytes_bits more))) (sym (bytes_take (8 * i) more)) ∙ sym (take-add (8 * (8 * i)) 64 (bytes_bits more))
+    ∙ ap (λ m. take m (bytes_bits more)) (let p : 8 * (8 * i) + 64 ≡ 8 * (8 * (i + 1)) = omega arith in p) ∙ bytes_take (8 * (i + 1)) more)

@@ -131,7 +131,7 @@ settled_no_end t fed told s l lt p stray =
     all_sought t fed s.stands.carries s.stands.looked s.all l p (run_within (lane_of (rest_of t.start fed) l) p stray.run) stray
 
 pub tracks_all : (t u v : Tracker) (fed : Fed) (told : List Event) (outcome : Outcome) (us last : List Thing) (longest : ℕ) → IsSettled t fed told
-    → longest ≡ max (length t.lanes.first.held) (max (length t.lanes.second.held) (length t.lanes.third.held))
+    → longest ≡ max (length t.lanes.first.held.bits) (max (length t.lanes.second.held.bits) (length t.lanes.third.held.bits))
     → IsGain (front_of t.handed (rest_of t.start fed)) (front_of (t.handed + longest) (rest_of t.start fed)) us → IsLast (front_of u.handed (rest_of u.start fed)) outcome last
     → u.start ≡ t.start → u.handed ≡ t.handed + longest → u.begun ≡ t.begun → u.epochs ≡ t.epochs → u.aligned ≡ t.aligned
     → v.epochs ≡ u.epochs + 1 → v.aligned ≡ u.aligned + one_if outcome.aligned

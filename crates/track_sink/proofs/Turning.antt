@@ -8,6 +8,7 @@ use Rattle.link_sink.specs.Sinks.{Fed, IsToldSoFar, IsGain, IsLast}
 use Rattle.link_sink.specs.Pieces.{no_bits}
 use Rattle.link_sink.specs.Streams.{StandsFor, bits_of, most_bits}
 use Rattle.link_sink.specs.declared.hear.Outcome.{Outcome}
+use Rattle.track_sink.specs.Buffers.{HeldSeen}
 use Rattle.track_sink.specs.Events.{Event, slip, events_of, slip_if}
 use Rattle.track_sink.specs.Epochs.{lane_of, rest_of, front_of, IsEnd}
 use Rattle.track_sink.specs.Lanes.{AreSought, EndsAt}
@@ -47,7 +48,7 @@ one_at_most false = omega arith
 rest_turned : (before now : Lane) (given later start handed from : ℕ) (xs : List Bool) → HoldsRest before given start handed xs → now.held ≡ before.held → now.fed ≡ before.fed → later ≡ 0 → from ≡ start + handed
     → HoldsRest now later from 0 xs
 rest_turned before now given later start handed from xs was held fed none e = record {
-  held = held ∙ was.held ∙ ap (λ n. drop n xs) (let k : start + handed ≡ from + 0 = omega arith in k);
+  held = ap (λ (h : HeldSeen). h.bits) held ∙ was.held ∙ ap (λ n. drop n xs) (let k : start + handed ≡ from + 0 = omega arith in k);
   fed = fed ∙ was.fed;
   given = omega arith;
 }

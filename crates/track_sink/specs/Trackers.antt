@@ -30,7 +30,7 @@ pub record Follows (fed : Fed) (start handed : ℕ) (begun : Bool) (epochs align
 
 -- a lane holds the bits that are not handed on
 pub record HoldsRest (lane : Lane) (bits start handed : ℕ) (xs : List Bool) : Type 0 where
-  pub held : lane.held ≡ drop (start + handed) xs
+  pub held : lane.held.bits ≡ drop (start + handed) xs
   pub fed : lane.fed ≡ length xs
   pub given : bits ≡ min handed (length xs - start)
 

@@ -1,4 +1,4 @@
-//! Bits of one lane that are not handed on yet.
+//! Bits of one lane that are not handed on yet, and those that are handed on next: one buffer has both.
 ghost use Rattle.std.specs.Prelude.{ℕ, ◌≡◌, ◌<◌, ◌≤◌, ◌+◌, ◌*◌, ◌/◌, ◌%◌, ◌^◌, ◌++◌, [], IfOk, length, take, drop};
 ghost use Rattle.tmds_word.specs.Bits.{bits_of, bytes_bits, number};
 
@@ -14,10 +14,14 @@ const ROOM: usize = 4224;
 #[derive(Drop)]
 pub(crate) struct Held {
     bytes: Vec<u8>,
-    /// The first bit that is held; what stands before it in the bytes is of no account.
+    /// The first bit that is held.
     start: u32,
     /// How many bits are held; what stands behind them is of no account.
     count: u32,
+    /// The byte with which the bits begin that were released last.
+    border: u32,
+    /// How many they are.
+    released: u32,
 }
 
 /// Bytes that are lent for their bits behind the first few.
@@ -28,40 +32,46 @@ pub(crate) struct Lent<'a> {
 }
 
 impl Model for Held {
-    ghost use Rattle.std.specs.Prelude.{List, Bool, length, take, drop, ◌≡◌, ◌≤◌, ◌+◌};
+    ghost use Rattle.std.specs.Prelude.{length, take, drop, ◌≡◌, ◌≤◌, ◌+◌, ◌*◌};
     ghost use Rattle.tmds_word.specs.Bits.{bytes_bits};
+    ghost use Rattle.track_sink.specs.Buffers.{HeldSeen};
 
-    ghost Value = { List Bool };
+    ghost Value = { HeldSeen };
 
-    ghost view = { λ h. take h.count (drop h.start (bytes_bits h.bytes.items)) };
+    ghost view = { λ h. record {
+      bits = take h.count (drop h.start (bytes_bits h.bytes.items));
+      released = take h.released (drop (8 * h.border) (bytes_bits h.bytes.items));
+    } };
 
-    ghost invariant = { λ h. (length h.bytes.items ≡ 4224) × (h.start + h.count ≤ 33776) };
+    ghost invariant = { λ h. (length h.bytes.items ≡ 4224) × (h.start + h.count ≤ 33720) × (8 * h.border + h.released ≤ 33720) };
 }
 
 impl Held {
     /// A buffer that holds nothing.
     pub(crate) fn open(alloc: Global) -> Result<Held, NoMemory>
-        ensures { IfOk result (λ h. h ≡ []) }
+        ensures { IfOk result (λ h. h.bits ≡ []) }
     {
         Ok(Held {
             bytes: vec![in alloc; 0; ROOM]?,
             start: 0,
             count: 0,
+            border: 0,
+            released: 0,
         })
     }
 
     /// How many bits it holds.
     pub(crate) fn len(&self) -> u32
-        ensures len { result ≡ length self.now }
-        ensures most { result ≤ 33776 }
+        ensures len { result ≡ length self.now.bits }
+        ensures most { result ≤ 33720 }
     {
         self.count
     }
 
     /// The bytes that have its bits.
     pub(crate) fn lent(&self) -> Lent<'_>
-        ensures bits { take (length self.now) (drop result.skip (bytes_bits result.bytes.now)) ≡ self.now }
-        ensures size { result.skip + length self.now + 16 ≤ 8 * length result.bytes.now }
+        ensures bits { take (length self.now.bits) (drop result.skip (bytes_bits result.bytes.now)) ≡ self.now.bits }
+        ensures size { result.skip + length self.now.bits + 16 ≤ 8 * length result.bytes.now }
         ensures few { result.skip < 8 }
         ensures within { length result.bytes.now ≤ 4224 }
     {
@@ -74,51 +84,49 @@ impl Held {
     /// Appends bits.
     pub(crate) fn append(&mut self, bytes: &[u8], bits: u32)
         requires bytes { length bytes.now ≡ (bits + 7) / 8 }
-        requires room { length self.old + bits ≤ 33776 }
-        ensures { self.new ≡ self.old ++ take bits (bytes_bits bytes.now) }
+        requires room { length self.old.bits + bits ≤ 33720 }
+        ensures { self.new.bits ≡ self.old.bits ++ take bits (bytes_bits bytes.now) }
     {
-        put_behind_held(
-            self.bytes.as_mut_slice(),
-            self.start,
-            self.count,
-            bytes,
-            bits,
-        );
+        let into = self.bytes.as_mut_slice();
+        move_bits(into, self.start, self.count);
+        put_at(into, self.count, bytes, bits);
         self.start = 0;
         self.count += bits;
+        self.released = 0;
     }
 
-    /// Drops its first bits.
-    pub(crate) fn consume(&mut self, bits: u32)
-        requires { bits ≤ length self.old }
-        ensures { self.new ≡ drop bits self.old }
+    /// Drops its first bits, and moves them to where they begin with a byte.
+    pub(crate) fn release(&mut self, bits: u32)
+        requires { bits ≤ length self.old.bits }
+        ensures bits { self.new.bits ≡ drop bits self.old.bits }
+        ensures released { self.new.released ≡ take bits self.old.bits }
     {
+        self.border = self.start / 8;
+        self.released = bits;
+        settle(
+            self.bytes.as_mut_slice(),
+            self.border as usize,
+            self.start % 8,
+            bits,
+        );
         self.start += bits;
         self.count -= bits;
     }
-}
 
-/// Moves bits to the front, and puts others behind them.
-fn put_behind_held(into: &mut [u8], start: u32, count: u32, bytes: &[u8], bits: u32)
-    requires bytes { length bytes.now ≡ (bits + 7) / 8 }
-    requires held { start + count ≤ 33776 }
-    requires room { count + bits ≤ 33776 }
-    requires into { length into.old ≡ 4224 }
-    ensures { take (count + bits) (bytes_bits into.new) ≡ take count (drop start (bytes_bits into.old)) ++ take bits (bytes_bits bytes.now) }
-{
-    move_to_front(
-        into,
-        start as usize / 8,
-        start % 8,
-        (count as usize + 7) / 8,
-    );
-    put_at(into, count, bytes, bits);
+    /// The bytes of the bits that were released last.
+    pub(crate) fn released(&self) -> &[u8]
+        ensures bits { take (length self.now.released) (bytes_bits result.now) ≡ self.now.released }
+        ensures size { length result.now ≡ (length self.now.released + 7) / 8 }
+    {
+        let border = self.border as usize;
+        &self.bytes[border..border + (self.released as usize + 7) / 8]
+    }
 }
 
 /// Puts bits behind the first ones, which stay.
 fn put_at(into: &mut [u8], count: u32, bytes: &[u8], bits: u32)
     requires bytes { length bytes.now ≡ (bits + 7) / 8 }
-    requires room { count + bits ≤ 33776 }
+    requires room { count + bits ≤ 33720 }
     requires into { length into.old ≡ 4224 }
     ensures { take (count + bits) (bytes_bits into.new) ≡ take count (bytes_bits into.old) ++ take bits (bytes_bits bytes.now) }
 {
@@ -140,19 +148,41 @@ fn put_behind(into: &mut [u8], few: u32, bytes: &[u8])
     }
 }
 
-/// Puts the bits of bytes behind the first few bits, byte by byte.
+/// Puts the bits of bytes behind the first few bits, which stay: whole words first, and then byte by byte.
 fn shift_behind(into: &mut [u8], few: u32, bytes: &[u8])
+    requires some { 0 < few }
     requires few { few < 8 }
     requires room { length into.old ≡ length bytes.now + 1 }
     ensures { take (few + 8 * length bytes.now) (bytes_bits into.new) ≡ take few (bytes_bits into.old) ++ bytes_bits bytes.now }
 {
-    let mut left = into[0] & ((1 << few) - 1);
-    for i in 0..bytes.len() {
+    let words = bytes.len() / 8;
+    let mut left = shift_words(into, few, bytes, words);
+    for i in 8 * words..bytes.len() {
         let [low, high] = joined(left, few, bytes[i]).to_le_bytes();
         into[i] = low;
         left = high;
     }
     into[bytes.len()] = left;
+}
+
+/// Puts the bits of words behind the first few bits, which stay, and answers the last few, which find no room.
+fn shift_words(into: &mut [u8], few: u32, bytes: &[u8], words: usize) -> u8
+    requires some { 0 < few }
+    requires few { few < 8 }
+    requires bytes { 8 * words ≤ length bytes.now }
+    requires room { 8 * words < length into.old }
+    ensures size { length into.new ≡ length into.old }
+    ensures narrow { result < 2 ^ few }
+    ensures bits { bytes_bits (take (8 * words) into.new) ++ bits_of few result ≡ take few (bytes_bits into.old) ++ bytes_bits (take (8 * words) bytes.now) }
+{
+    let mut left = into[0] & ((1 << few) - 1);
+    for i in 0..words {
+        let word = eight_bytes(bytes, 8 * i);
+        let joined = (word << few) | u64::from(left);
+        into[8 * i..8 * i + 8].copy_from_slice(&joined.to_le_bytes());
+        left = (word >> (64 - few)) as u8;
+    }
+    left
 }
 
 /// A few bits with those of a byte above them.
@@ -164,32 +194,27 @@ fn joined(left: u8, few: u32, byte: u8) -> u16
     (u16::from(byte) << few) | u16::from(left)
 }
 
-/// Copies bytes from a bit of the first one on, as many as are asked for, to the front of others.
-pub(crate) fn copy_past(bytes: &[u8], skip: u32, into: &mut [u8], count: usize)
-    requires skip { skip < 8 }
-    requires bytes { count + 1 ≤ length bytes.now }
-    requires room { count + 1 ≤ length into.old }
-    ensures size { length into.new ≡ length into.old }
-    ensures bits { bytes_bits (take count into.new) ≡ take (8 * count) (drop skip (bytes_bits bytes.now)) }
+/// Moves bits from behind the first few of a byte to where it begins; all others stay.
+fn settle(bytes: &mut [u8], at: usize, skip: u32, count: u32)
+    requires room { 8 * at + skip + count + 72 ≤ 8 * length bytes.old }
+    ensures size { length bytes.new ≡ length bytes.old }
+    ensures bits { drop (8 * at) (bytes_bits bytes.new) ≡ take count (drop (8 * at + skip) (bytes_bits bytes.old)) ++ drop (8 * at + count) (bytes_bits bytes.old) }
 {
-    into[..count + 1].copy_from_slice(&bytes[..count + 1]);
     if skip > 0 {
-        move_to_front(into, 0, skip, count);
+        move_bits(&mut bytes[at..], skip, count);
     }
 }
 
-/// Moves bytes to the front from a bit of one of them on, as many as are asked for.
-fn move_to_front(bytes: &mut [u8], at: usize, bit: u32, count: usize)
-    requires bit { bit < 8 }
-    requires room { at + count + 1 ≤ length bytes.old }
+/// Moves bits to the front, from one of them on; all others stay.
+fn move_bits(bytes: &mut [u8], start: u32, count: u32)
+    requires room { start + count + 72 ≤ 8 * length bytes.old }
     ensures size { length bytes.new ≡ length bytes.old }
-    ensures bits { bytes_bits (take count bytes.new) ≡ take (8 * count) (drop (8 * at + bit) (bytes_bits bytes.old)) }
+    ensures bits { bytes_bits bytes.new ≡ take count (drop start (bytes_bits bytes.old)) ++ drop count (bytes_bits bytes.old) }
 {
-    let whole = count / 8;
-    move_words(bytes, at, bit, whole);
-    for i in 8 * whole..count {
-        bytes[i] = byte_across(bytes[at + i], bytes[at + i + 1], bit);
-    }
+    let at = start as usize / 8;
+    let words = count as usize / 64;
+    move_words(bytes, at, start % 8, words);
+    move_few(bytes, 8 * words, at + 8 * words, start % 8, count % 64);
 }
 
 /// Moves bytes to the front from a bit of one of them on, eight at a time.
@@ -206,6 +231,21 @@ fn move_words(bytes: &mut [u8], at: usize, bit: u32, count: usize)
     }
 }
 
+/// Moves bits, fewer than a word, from a bit of a byte on to where a byte begins; all others stay.
+fn move_few(bytes: &mut [u8], to: usize, at: usize, bit: u32, count: u32)
+    requires bit { bit < 8 }
+    requires few { count < 64 }
+    requires order { to ≤ at }
+    requires room { at + 9 ≤ length bytes.old }
+    ensures size { length bytes.new ≡ length bytes.old }
+    ensures before { take to bytes.new ≡ take to bytes.old }
+    ensures bits { drop (8 * to) (bytes_bits bytes.new) ≡ take count (drop (8 * at + bit) (bytes_bits bytes.old)) ++ drop (8 * to + count) (bytes_bits bytes.old) }
+{
+    let moved = word_across(bytes, at, bit) & ((1 << count) - 1);
+    let word = (eight_bytes(bytes, to) >> count << count) | moved;
+    bytes[to..to + 8].copy_from_slice(&word.to_le_bytes());
+}
+
 /// The 64 bits from a bit of a byte on.
 fn word_across(bytes: &[u8], at: usize, bit: u32) -> u64
     requires bit { bit < 8 }
@@ -215,13 +255,4 @@ fn word_across(bytes: &[u8], at: usize, bit: u32) -> u64
     let low = u128::from(eight_bytes(bytes, at));
     let high = u128::from(bytes[at + 8]);
     ((((high << 64) | low) >> bit) & 0xffff_ffff_ffff_ffff) as u64
-}
-
-/// The eight bits from a bit of the first of two bytes on.
-fn byte_across(low: u8, high: u8, bit: u32) -> u8
-    requires { bit < 8 }
-    ensures bits { result ≡ ((low + high * 256) / 2 ^ bit) % 256 }
-    ensures low { low < 256 }
-{
-    ((u16::from_le_bytes([low, high]) >> bit) & 0xff) as u8
 }

@@ -15,7 +15,7 @@ const SPAN: u32 = 119;
 /// A lane of an epoch.
 #[derive(Drop)]
 pub(crate) struct Lane {
-    /// The epoch's bits from the first one on that is not handed on.
+    /// The epoch's bits from the first one on that is not handed on, and those that are handed on next.
     pub(crate) held: Held,
     /// What looks through them.
     scout: Scout,
@@ -26,7 +26,7 @@ pub(crate) struct Lane {
 impl Lane {
     /// A lane to which no bit was fed.
     pub(crate) fn open(alloc: Global) -> Result<Lane, NoMemory>
-        ensures held { IfOk result (λ lane. lane.held ≡ []) }
+        ensures held { IfOk result (λ lane. lane.held.bits ≡ []) }
         ensures sought { IfOk result (λ lane. (xs : List Bool) → HasSought xs 0 lane.scout.lock) }
         ensures fed { IfOk result (λ lane. lane.fed ≡ 0) }
     {
@@ -40,9 +40,9 @@ impl Lane {
     /// Appends bits.
     pub(crate) fn append(&mut self, bytes: &[u8], bits: u32)
         requires bytes { length bytes.now ≡ (bits + 7) / 8 }
-        requires room { length self.old.held + bits ≤ 33776 }
+        requires room { length self.old.held.bits + bits ≤ 33720 }
         requires total { self.old.fed + bits < 2 ^ 32 }
-        ensures held { self.new.held ≡ self.old.held ++ take bits (bytes_bits bytes.now) }
+        ensures held { self.new.held.bits ≡ self.old.held.bits ++ take bits (bytes_bits bytes.now) }
         ensures scout { self.new.scout ≡ self.old.scout }
         ensures fed { self.new.fed ≡ self.old.fed + bits }
     {
@@ -59,7 +59,7 @@ impl Lane {
         ensures held { self.new.held ≡ self.old.held }
         ensures fed { self.new.fed ≡ self.old.fed }
         ensures within { IfSome result (λ p. p < until) }
-        ensures sought { (xs : List Bool) → self.old.held ≡ drop base xs → HasSought xs from self.old.scout.lock
+        ensures sought { (xs : List Bool) → self.old.held.bits ≡ drop base xs → HasSought xs from self.old.scout.lock
             → MatchOption result (HasSought xs until self.new.scout.lock) (λ p. IsFirstStray xs p) }
     {
         let last = self.held.len().saturating_sub(SPAN).min(until - base);
@@ -76,13 +76,17 @@ impl Lane {
         }
     }
 
-    /// Drops the first bits, or all where there are fewer.
-    pub(crate) fn consume(&mut self, bits: u32)
-        ensures held { self.new.held ≡ drop bits self.old.held }
+    /// Releases the first bits, or all where there are fewer, and answers how many.
+    pub(crate) fn release(&mut self, bits: u32) -> u32
+        ensures count { result ≡ min (length self.old.held.bits) bits }
+        ensures held { self.new.held.bits ≡ drop bits self.old.held.bits }
+        ensures released { self.new.held.released ≡ take bits self.old.held.bits }
         ensures scout { self.new.scout ≡ self.old.scout }
         ensures fed { self.new.fed ≡ self.old.fed }
     {
-        self.held.consume(self.held.len().min(bits));
+        let count = self.held.len().min(bits);
+        self.held.release(count);
+        count
     }
 
     /// Forgets what was looked at: an epoch begins with the first bit that is held.

@@ -1,8 +1,8 @@
 //! Three lanes of an epoch.
-ghost use Rattle.std.specs.Prelude.{ℕ, ◌≡◌, ◌<◌, ◌≤◌, ◌+◌, max, List, Bool, [], IfOk, MatchOption, Option, None, Some, length, drop};
+ghost use Rattle.std.specs.Prelude.{ℕ, ◌≡◌, ◌<◌, ◌≤◌, ◌+◌, max, List, Bool, [], IfOk, MatchOption, Option, None, Some, length, drop, slice_index};
 ghost use Rattle.lane_track.specs.Scouts.{HasSought};
 ghost use Rattle.link_sink.specs.Sinks.{Fed};
-ghost use Rattle.track_sink.specs.Lanes.{AreFresh, AreHeld, AreSought, EndsAt, IsStrayOn, IsLesser, IsLeastOf};
+ghost use Rattle.track_sink.specs.Lanes.{AreFresh, AreHeld, AreSought, EndsAt, IsReleased, last_stray};
 
 use crate::lane::Lane;
 use outside_io::NoMemory;
@@ -37,8 +37,8 @@ impl Lanes {
 
     /// How many bits the lane holds that holds the most.
     pub(crate) fn longest(&self) -> u32
-        ensures longest { result ≡ max (length self.now.first.held) (max (length self.now.second.held) (length self.now.third.held)) }
-        ensures most { result ≤ 33776 }
+        ensures longest { result ≡ max (length self.now.first.held.bits) (max (length self.now.second.held.bits) (length self.now.third.held.bits)) }
+        ensures most { result ≤ 33720 }
     {
         let first = self.first.held.len();
         let second = self.second.held.len();
@@ -47,7 +47,8 @@ impl Lanes {
     }
 
     /// Looks at the epoch's places from `from` on and before `until`, where bit `base` is the first that is held, and
-    /// answers the least stray of any lane, of the least lane that has it.
+    /// answers the least stray of any lane, of the least lane that has it. Where a lane has one, the next are looked
+    /// through up to its place alone.
     pub(crate) fn seek(&mut self, base: u32, from: u32, until: u32) -> Option<Stray>
         requires behind { base ≤ from }
         requires order { from ≤ until }
@@ -61,26 +62,24 @@ impl Lanes {
             → MatchOption result (AreSought self.new until fed) (EndsAt fed) }
     {
         let first = self.first.seek(base, from, until);
-        let second = self.second.seek(base, from, until);
-        let third = self.third.seek(base, from, until);
-        least_of(first, second, third)
+        let before_first = end_of(first, from, until);
+        let second = self.second.seek(base, from, before_first);
+        let before_second = end_of(second, from, before_first);
+        let third = self.third.seek(base, from, before_second);
+        last_of(first, second, third)
     }
 
-    /// Drops the first bits of each, or all where there are fewer.
-    pub(crate) fn consume(&mut self, bits: u32)
-        ensures first { self.new.first.held ≡ drop bits self.old.first.held }
-        ensures second { self.new.second.held ≡ drop bits self.old.second.held }
-        ensures third { self.new.third.held ≡ drop bits self.old.third.held }
-        ensures first_fed { self.new.first.fed ≡ self.old.first.fed }
-        ensures second_fed { self.new.second.fed ≡ self.old.second.fed }
-        ensures third_fed { self.new.third.fed ≡ self.old.third.fed }
-        ensures first_scout { self.new.first.scout ≡ self.old.first.scout }
-        ensures second_scout { self.new.second.scout ≡ self.old.second.scout }
-        ensures third_scout { self.new.third.scout ≡ self.old.third.scout }
+    /// Releases the first bits of each, or all where there are fewer, and answers how many.
+    pub(crate) fn release(&mut self, bits: u32) -> [u32; 3]
+        ensures first { IsReleased self.old.first self.new.first bits (slice_index result 0) }
+        ensures second { IsReleased self.old.second self.new.second bits (slice_index result 1) }
+        ensures third { IsReleased self.old.third self.new.third bits (slice_index result 2) }
     {
-        self.first.consume(bits);
-        self.second.consume(bits);
-        self.third.consume(bits);
+        [
+            self.first.release(bits),
+            self.second.release(bits),
+            self.third.release(bits),
+        ]
     }
 
     /// Forgets what was looked at: an epoch begins with the first bits that are held.
@@ -99,31 +98,26 @@ impl Lanes {
     }
 }
 
-/// The least of three places, and the least lane that has it.
-fn least_of(first: Option<u32>, second: Option<u32>, third: Option<u32>) -> Option<Stray>
-    ensures { IsLeastOf first second third result }
+/// The end of the places of the next lane that can still be the least: a place that was found, or where none was.
+fn end_of(found: Option<u32>, from: u32, until: u32) -> u32
+    requires { from ≤ until }
+    ensures order { from ≤ result }
+    ensures end { MatchOption found (result ≡ until) (λ place. result ≡ max place from) }
 {
-    let later = least(stray_on(1, second), stray_on(2, third));
-    least(stray_on(0, first), later)
-}
-
-/// A place as a stray of a lane.
-fn stray_on(lane: u8, place: Option<u32>) -> Option<Stray>
-    ensures { IsStrayOn lane place result }
-{
-    match place {
-        Some(place) => Some(Stray { lane, place }),
-        None => None,
+    match found {
+        Some(place) => place.max(from),
+        None => until,
     }
 }
 
-/// The one at the lesser place, the first of two at one place.
-fn least(one: Option<Stray>, other: Option<Stray>) -> Option<Stray>
-    ensures { IsLesser one other result }
+/// The place of the last lane that has one.
+fn last_of(first: Option<u32>, second: Option<u32>, third: Option<u32>) -> Option<Stray>
+    ensures { result ≡ last_stray first second third }
 {
-    match (one, other) {
-        (Some(a), Some(b)) => { if b.place < a.place { Some(b) } else { Some(a) } }
-        (Some(a), None) => Some(a),
-        (None, b) => b,
+    match (first, second, third) {
+        (_, _, Some(place)) => Some(Stray { lane: 2, place }),
+        (_, Some(place), None) => Some(Stray { lane: 1, place }),
+        (Some(place), None, None) => Some(Stray { lane: 0, place }),
+        (None, None, None) => None,
     }
 }

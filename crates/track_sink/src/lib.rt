@@ -6,7 +6,6 @@ mod held;
 mod lane;
 mod lanes;
 pub mod laws;
-mod rows;
 mod sink;
 mod tracker;
 

@@ -18,8 +18,7 @@ use std::marker::Model;
 use std::thread::Threads;
 
 /// Hears three lanes whose bits come feed after feed, begins anew where a lane lost bits, and tells an ear what they say.
-/// It has taken all its memory when it is opened: a `LinkSink`, and two buffers of 4,224 bytes for each
-/// lane.
+/// It has taken all its memory when it is opened: a `LinkSink`, and a buffer of 4,224 bytes for each lane.
 #[derive(Drop)]
 pub struct TrackSink {
     tracker: Tracker,

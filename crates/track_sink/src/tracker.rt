@@ -15,7 +15,6 @@ ghost use Rattle.track_sink.specs.Lanes.{AreSought, EndsAt};
 ghost use Rattle.track_sink.specs.Trackers.{most_of, most_fed, Follows, Carries, HasLooked, Stays, CanClose, CanTurn, Stands, IsSettled, Stops, Passes};
 
 use crate::lanes::{Lanes, Stray};
-use crate::rows::Rows;
 use crate::{TrackEar, TrackOutcome};
 use link_sink::{LinkSink, Outcome};
 use outside_io::{Failed, NoMemory};
@@ -37,8 +36,6 @@ pub(crate) struct Tracker {
     /// Hears the epoch.
     link: LinkSink,
     pub(crate) lanes: Lanes,
-    /// What it is handed.
-    rows: Rows,
     /// The place of the epoch's first bit.
     start: u32,
     /// How many bits of the epoch were handed on, as many of each lane that has them.
@@ -61,7 +58,6 @@ impl Tracker {
         Ok(Tracker {
             link: LinkSink::open(alloc)?,
             lanes: Lanes::open(alloc)?,
-            rows: Rows::open(alloc)?,
             start: 0,
             handed: 0,
             seen: 0,
@@ -154,21 +150,15 @@ impl Tracker {
         if bits == 0 {
             return Ok(());
         }
-        let x = self.lanes.first.held.len().min(bits);
-        let y = self.lanes.second.held.len().min(bits);
-        let z = self.lanes.third.held.len().min(bits);
-        self.rows.first.copy(&self.lanes.first.held, x);
-        self.rows.second.copy(&self.lanes.second.held, y);
-        self.rows.third.copy(&self.lanes.third.held, z);
+        let counts = self.lanes.release(bits);
         self.link.feed_ungated(
             rt,
-            self.rows.first.front(x),
-            self.rows.second.front(y),
-            self.rows.third.front(z),
-            [x, y, z],
+            self.lanes.first.held.released(),
+            self.lanes.second.held.released(),
+            self.lanes.third.held.released(),
+            counts,
             ear,
         )?;
-        self.lanes.consume(bits);
         self.handed += bits;
         Ok(())
     }

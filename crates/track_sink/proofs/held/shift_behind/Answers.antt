@@ -1,18 +1,8 @@
 use Rattle.std.proofs.Common.{◌≡◌, ◌<◌, ◌+◌, ◌/◌, ◌%◌, ◌^◌, ◌∙◌, ◌++◌, take, get_or, length, refl, ap, sym, subst, arith}
 use Rattle.std.specs.Prelude.{set}
 use Rattle.tmds_word.specs.Bits.{bits_of, bytes_bits}
-use Rattle.tmds_word.proofs.Numbers.{pow_positive}
-use Rattle.tmds_word.proofs.Rows.{mask_is}
-use Rattle.track_sink.proofs.Shifting.{begin_behind, more_behind, all_behind, narrow_rest}
+use Rattle.track_sink.proofs.Shifting.{more_behind, all_behind, narrow_rest}
 use Rattle.track_sink.proofs.held.shift_behind.Goals as goal
-
-pub loop-i-init : goal.loop-i-init
-loop-i-init c =
-    let e = mask_is (get_or c.args.into.now 0 0) c.args.few c.requires.few in
-    record {
-      narrow = let h = pow_positive c.args.few in omega (arith, e, h);
-      bits = begin_behind c.args.into.now c.args.bytes.now c.args.few _ c.requires.few (omega (arith, c.requires.room)) e;
-    }
 
 pub joined-requires-clause-narrow : goal.joined-requires-clause-narrow
 joined-requires-clause-narrow c = c.loop-i.invariant.narrow
@@ -28,11 +18,11 @@ loop-i-preserved c =
       bits =
           ap (λ m. bytes_bits (take (c.loop-i.i + 1) (set c.loop-i.into c.loop-i.i (get_or c.to_le_bytes.result 0 0))) ++ bits_of c.args.few m) high
           ∙ more_behind (take c.args.few (bytes_bits c.args.into.now)) c.loop-i.into _ c.args.bytes.now c.args.few c.loop-i.left n c.loop-i.i (get_or c.args.bytes.now c.loop-i.i 0) was.narrow c.joined.ensures refl c.loop-i-test.true
-          (omega (arith, c.requires.room, c.loop-i.auto.into, c.loop-i-test.true)) (ap (set c.loop-i.into c.loop-i.i) low) was.bits;
+          (omega (arith, c.requires.room, c.loop-i.auto.into, c.shift_words-left.ensures.size, c.loop-i-test.true)) (ap (set c.loop-i.into c.loop-i.i) low) was.bits;
     }
 
 pub returns : goal.returns
 returns c =
     let n : c.loop-i.i ≡ length c.args.bytes.now = omega (arith, c.loop-i-test.false, c.loop-i.auto.i-end) in
-    all_behind (take c.args.few (bytes_bits c.args.into.now)) c.loop-i.into _ c.args.bytes.now c.args.few c.loop-i.left c.requires.few (c.loop-i.auto.into ∙ c.requires.room) refl
+    all_behind (take c.args.few (bytes_bits c.args.into.now)) c.loop-i.into _ c.args.bytes.now c.args.few c.loop-i.left c.requires.few (c.loop-i.auto.into ∙ c.shift_words-left.ensures.size ∙ c.requires.room) refl
     (subst (λ k. bytes_bits (take k c.loop-i.into) ++ bits_of c.args.few c.loop-i.left ≡ take c.args.few (bytes_bits c.args.into.now) ++ bytes_bits (take k c.args.bytes.now)) n c.loop-i.invariant.bits)

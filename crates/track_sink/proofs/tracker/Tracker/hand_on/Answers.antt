@@ -1,4 +1,5 @@
-use Rattle.std.proofs.Common.{◌+◌, ◌∙◌, [], min, ap, subst}
+use Rattle.std.proofs.Common.{◌+◌, [], subst}
+use Rattle.std.specs.Prelude.{slice_index}
 use Rattle.link_sink.specs.Sinks.{Fed, IsGain}
 use Rattle.link_sink.specs.Streams.{StandsFor}
 use Rattle.track_sink.specs.Epochs.{rest_of, front_of}
@@ -13,35 +14,31 @@ returns-then-bits-eq0-clause-told g c = λ fed carries room.
 
 pub feed_ungated-requires-clause-first : goal.feed_ungated-requires-clause-first
 feed_ungated-requires-clause-first g c =
-    can_hand_first c.args.self.now c.requires.carries.0 c.front.result.now c.min-x.result c.args.bits c.requires.carries.1 c.requires.whole c.requires.most (c.min-x.ensures ∙ ap (λ n. min n c.args.bits) c.len.ensures.len) c.front.ensures.size
+    can_hand_first c.args.self.now c.requires.carries.0 c.release-counts.new.self c.released.result.now (slice_index c.release-counts.result 0) c.args.bits c.requires.carries.1 c.requires.whole c.requires.most c.release-counts.ensures.first c.released.ensures.size
 
 pub feed_ungated-requires-clause-second : goal.feed_ungated-requires-clause-second
 feed_ungated-requires-clause-second g c =
-    can_hand_second c.args.self.now c.requires.carries.0 c.front-2.result.now c.min-y.result c.args.bits c.requires.carries.1 c.requires.whole c.requires.most (c.min-y.ensures ∙ ap (λ n. min n c.args.bits) c.len-2.ensures.len) c.front-2.ensures.size
+    can_hand_second c.args.self.now c.requires.carries.0 c.release-counts.new.self c.released-2.result.now (slice_index c.release-counts.result 1) c.args.bits c.requires.carries.1 c.requires.whole c.requires.most c.release-counts.ensures.second c.released-2.ensures.size
 
 pub feed_ungated-requires-clause-third : goal.feed_ungated-requires-clause-third
 feed_ungated-requires-clause-third g c =
-    can_hand_third c.args.self.now c.requires.carries.0 c.front-3.result.now c.min-z.result c.args.bits c.requires.carries.1 c.requires.whole c.requires.most (c.min-z.ensures ∙ ap (λ n. min n c.args.bits) c.len-3.ensures.len) c.front-3.ensures.size
+    can_hand_third c.args.self.now c.requires.carries.0 c.release-counts.new.self c.released-3.result.now (slice_index c.release-counts.result 2) c.args.bits c.requires.carries.1 c.requires.whole c.requires.most c.release-counts.ensures.third c.released-3.ensures.size
 
 pub returns-clause-carries : goal.returns-clause-carries
 returns-clause-carries g c = λ fed carries room.
     let t = c.args.self.now in
-    let ex = c.min-x.ensures ∙ ap (λ n. min n c.args.bits) c.len.ensures.len in
-    let ey = c.min-y.ensures ∙ ap (λ n. min n c.args.bits) c.len-2.ensures.len in
-    let ez = c.min-z.ensures ∙ ap (λ n. min n c.args.bits) c.len-3.ensures.len in
-    let is = handed_is t fed c.front.result.now c.front-2.result.now c.front-3.result.now c.min-x.result c.min-y.result c.min-z.result c.args.bits carries ex ey ez (c.front.ensures.bits ∙ c.copy.ensures) (c.front-2.ensures.bits ∙ c.copy-2.ensures) (c.front-3.ensures.bits ∙ c.copy-3.ensures) in
-    carries_handed t fed c.feed_ungated.new.self c.consume.new.self (record c.args.self.now.rows { first = c.copy.new.self; second = c.copy-2.new.self; third = c.copy-3.new.self }) c.min-x.result c.min-y.result c.min-z.result c.args.bits carries room ex ey ez c.in_ok-feed_ungated.ensures.open
+    let is = handed_is t fed c.release-counts.new.self c.released.result.now c.released-2.result.now c.released-3.result.now c.release-counts.result c.args.bits carries
+    c.release-counts.ensures.first c.release-counts.ensures.second c.release-counts.ensures.third c.released.ensures.bits c.released-2.ensures.bits c.released-3.ensures.bits in
+    carries_handed t fed c.feed_ungated.new.self c.release-counts.new.self c.release-counts.result c.args.bits carries room
+    c.release-counts.ensures.first c.release-counts.ensures.second c.release-counts.ensures.third c.in_ok-feed_ungated.ensures.open
     (subst (StandsFor c.feed_ungated.new.self) is (c.in_ok-feed_ungated.ensures.fed (front_of t.handed (rest_of t.start fed)) carries.link))
     c.in_ok-feed_ungated.ensures.first c.in_ok-feed_ungated.ensures.second c.in_ok-feed_ungated.ensures.third
-    c.consume.ensures.first c.consume.ensures.second c.consume.ensures.third c.consume.ensures.first_fed c.consume.ensures.second_fed c.consume.ensures.third_fed
 
 pub returns-clause-told : goal.returns-clause-told
 returns-clause-told g c = λ fed carries room.
     let t = c.args.self.now in
-    let ex = c.min-x.ensures ∙ ap (λ n. min n c.args.bits) c.len.ensures.len in
-    let ey = c.min-y.ensures ∙ ap (λ n. min n c.args.bits) c.len-2.ensures.len in
-    let ez = c.min-z.ensures ∙ ap (λ n. min n c.args.bits) c.len-3.ensures.len in
-    let is = handed_is t fed c.front.result.now c.front-2.result.now c.front-3.result.now c.min-x.result c.min-y.result c.min-z.result c.args.bits carries ex ey ez (c.front.ensures.bits ∙ c.copy.ensures) (c.front-2.ensures.bits ∙ c.copy-2.ensures) (c.front-3.ensures.bits ∙ c.copy-3.ensures) in
+    let is = handed_is t fed c.release-counts.new.self c.released.result.now c.released-2.result.now c.released-3.result.now c.release-counts.result c.args.bits carries
+    c.release-counts.ensures.first c.release-counts.ensures.second c.release-counts.ensures.third c.released.ensures.bits c.released-2.ensures.bits c.released-3.ensures.bits in
     let told = c.in_ok-feed_ungated.ensures.told (front_of t.handed (rest_of t.start fed)) carries.link in
     let P : Fed → Type 0 = λ now. IsGain (front_of t.handed (rest_of t.start fed)) now told.0 in
     (told.0, subst P is told.1, told.2)
@@ -49,10 +46,8 @@ returns-clause-told g c = λ fed carries room.
 pub returns-in_err-feed_ungated-clause-stopped : goal.returns-in_err-feed_ungated-clause-stopped
 returns-in_err-feed_ungated-clause-stopped g c = λ fed carries room.
     let t = c.args.self.now in
-    let ex = c.min-x.ensures ∙ ap (λ n. min n c.args.bits) c.len.ensures.len in
-    let ey = c.min-y.ensures ∙ ap (λ n. min n c.args.bits) c.len-2.ensures.len in
-    let ez = c.min-z.ensures ∙ ap (λ n. min n c.args.bits) c.len-3.ensures.len in
-    let is = handed_is t fed c.front.result.now c.front-2.result.now c.front-3.result.now c.min-x.result c.min-y.result c.min-z.result c.args.bits carries ex ey ez (c.front.ensures.bits ∙ c.copy.ensures) (c.front-2.ensures.bits ∙ c.copy-2.ensures) (c.front-3.ensures.bits ∙ c.copy-3.ensures) in
+    let is = handed_is t fed c.release-counts.new.self c.released.result.now c.released-2.result.now c.released-3.result.now c.release-counts.result c.args.bits carries
+    c.release-counts.ensures.first c.release-counts.ensures.second c.release-counts.ensures.third c.released.ensures.bits c.released-2.ensures.bits c.released-3.ensures.bits in
     let told = c.in_err-feed_ungated.ensures.stopped (front_of t.handed (rest_of t.start fed)) carries.link in
     let P : Fed → Type 0 = λ now. IsGain (front_of t.handed (rest_of t.start fed)) now told.0 in
     on_err {P = LostGain g.E.Ear.took g.E.Ear.broke c.args.ear.now c.feed_ungated.new.ear (rest_of t.start fed) t.handed (t.handed + c.args.bits)} _ (told.0, subst P is told.1, told.2)
