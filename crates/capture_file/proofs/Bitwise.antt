@@ -8,7 +8,7 @@ use Rattle.std.proofs.lemmas.List.{length-set, set-append_left}
 use Rattle.tmds_word.specs.Bits.{word_bits, bytes_bits, bytes_of, number}
 use Rattle.tmds_word.proofs.Lists.{length-bytes_bits, length-word_bits, bytes_bits-append}
 use Rattle.tmds_word.proofs.Numbers.{number-append, number-drop}
-use Rattle.tmds_word.proofs.Setting.{one_more, none_replaced, bit_at}
+use Rattle.capture_file.proofs.Setting.{one_more, none_replaced, bit_at}
 use Rattle.capture_file.specs.Layout.{packed}
 use Rattle.capture_file.specs.Captures.{AreBytes}
 use Rattle.capture_file.proofs.Rooms.{front_bits}

@@ -1,5 +1,5 @@
 -- Three rows of characters, and their columns.
-use Rattle.std.proofs.Common.{◌≡◌, ℕ, suc, zero, ◌*◌, ◌/◌, ◌%◌, ◌<◌, ◌≤◌, Bool, List, [], ◌∷◌, ◌++◌, length, take, drop, map, refl, ap, ap₂, ◌∙◌, sym, arith, append_assoc, append-nil, length-append, length-drop, length-take-le, take-append-drop}
+use Rattle.std.proofs.Common.{◌≡◌, ℕ, suc, ◌/◌, ◌%◌, ◌<◌, Bool, List, [], ◌∷◌, ◌++◌, length, map, refl, ap, ap₂, ◌∙◌, sym, arith}
 use Rattle.std.specs.Prelude.{All}
 use Rattle.tmds_word.specs.Bits.{word_bits, row_bits, bytes_bits}
 use Rattle.tmds_word.proofs.Characters.{words_of-push, words_of-more, words_of-bytes, length-words_of}

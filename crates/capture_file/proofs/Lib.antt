@@ -4,7 +4,6 @@ pub mod Parts
 pub mod Packs
 pub mod Fronts
 pub mod Marks
-pub mod Consumed
 pub mod Hits
 pub mod Pieces
 pub mod Heads
@@ -15,6 +14,7 @@ pub mod Judged
 pub mod Rooms
 pub mod Standing
 pub mod Writes
+pub mod Setting
 pub mod Bitwise
 pub mod HitLanes
 pub mod Halfways

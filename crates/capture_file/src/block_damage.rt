@@ -1,5 +1,5 @@
 //! Blocks with some of their bits replaced.
-ghost use Rattle.std.specs.Prelude.{◌≡◌, ◌⊎◌, [], ℕ, ◌+◌, ◌-◌, ◌*◌, ◌^◌, ◌<◌, ◌≤◌, Bool, List, ◌++◌, length, take, drop, slice_set, All, Option, Some, Err, IfSome, IfNone, IfOk, IfErr, OnOk};
+ghost use Rattle.std.specs.Prelude.{◌≡◌, ◌⊎◌, [], ℕ, ◌+◌, ◌-◌, ◌*◌, ◌^◌, ◌<◌, ◌≤◌, true, false, Bool, List, ◌++◌, length, take, drop, slice_set, All, Option, Some, Err, IfSome, IfNone, IfOk, IfErr, OnOk};
 ghost use Rattle.std.specs.Io.KnownBytes.{Appends, Consumes, Keeps, IsAtEnd};
 ghost use Rattle.outside_io.specs.Causes.{HasCause, Rose};
 ghost use Rattle.capture_file.specs.Layout.{packed};
@@ -10,9 +10,8 @@ ghost use Rattle.capture_file.specs.Refusals.{IsReadCause};
 ghost use Rattle.capture_file.specs.BlockDamage.{HurtChunk, AllFitLanes, IsFirstPastLane, Halfway, CutIn, SaysFault, IsLateFault, SaysBad, SaysPlace, SaysUnread, IsMisplacedLane, IsDamagedCapture, IsDamageFault, ReadFailed, WriteFailed};
 ghost use Rattle.capture_file.specs.declared.damaging.DamageError.TheVariants.{Place, Read, Write};
 
-use crate::chunk::{Chunk, Chunks, blocks_for};
-use crate::filling::read_end;
-use crate::heading::{Heading, block_place, read_heading};
+use crate::chunk::{Chunk, Chunks};
+use crate::heading::{Heading, read_heading};
 use crate::writing::{write_header, write_piece};
 use crate::{DamageError, Hit};
 use outside_io::{Sink, Source, Wrote};
@@ -143,7 +142,8 @@ fn with_bit(byte: u8, at: u8, value: bool) -> u8
     }
 }
 
-/// Damages block `j` of a capture: reads it, replaces what the hits replace in it, and writes it.
+/// Damages block `j` of a capture: reads it, replaces what the hits replace in it, and writes it. Says whether there was one; where
+/// all blocks were read nothing is to follow.
 fn damage_block<S: Source, K: Sink>(
     source: &mut S,
     heading: Heading,
@@ -151,15 +151,16 @@ fn damage_block<S: Source, K: Sink>(
     hits: &[Hit],
     chunks: &mut Chunks,
     out: &mut K,
-) -> Result<(), DamageError>
-    requires below { 32768 * j < 2 ^ 32 }
+) -> Result<bool, DamageError>
     requires fits { AllFitLanes heading.bits hits.now }
+    ensures below { IfOk result (λ more. more ≡ true → 32768 * j < 2 ^ 32) }
     ensures ok { (taken : List ℕ) (before : Option (List ℕ)) → Halfway heading.version heading.bits hits.now j taken before (K.held out.old)
-        → OnOk result ((part : List ℕ) × Consumes (S.left source.old) (S.left source.new) part × Halfway heading.version heading.bits hits.now (j + 1) (taken ++ part) before (K.held out.new)) }
+        → IfOk result (λ more. more ≡ true → (part : List ℕ) × Consumes (S.left source.old) (S.left source.new) part × Halfway heading.version heading.bits hits.now (j + 1) (taken ++ part) before (K.held out.new)) }
+    ensures none { IfOk result (λ more. more ≡ false → (block_size j heading.bits ≡ 0) × Consumes (S.left source.old) (S.left source.new) [] × IsAtEnd (S.left source.new) × (K.held out.new ≡ K.held out.old)) }
     ensures err { (bytes taken : List ℕ) (before : Option (List ℕ)) → S.left source.old ≡ Some bytes → Halfway heading.version heading.bits hits.now j taken before (K.held out.old)
         → IfErr result (λ e. SaysFault (λ fault. IsFault (taken ++ bytes) fault × StopsIn heading.bits j taken (place_of fault)) e) }
     ensures unwritten { IfErr result (λ e. (e ≡ Write → ⊥) → Keeps (K.held out.old) (K.held out.new)) }
-    ensures part { result ≡ Err Read → (part : List ℕ) × (length part < block_size j heading.bits) × Consumes (S.left source.old) (S.left source.new) part }
+    ensures part { result ≡ Err Read → (part : List ℕ) × ((length part < block_size j heading.bits) ⊎ (part ≡ [])) × Consumes (S.left source.old) (S.left source.new) part }
     ensures taken { (taken : List ℕ) × Consumes (S.left source.old) (S.left source.new) taken }
     ensures unplaced { (i : ℕ) → result ≡ Err (Place i) → ⊥ }
     ensures cut { (taken : List ℕ) (before : Option (List ℕ)) → Halfway heading.version heading.bits hits.now j taken before (K.held out.old) → result ≡ Err Write
@@ -169,14 +170,14 @@ fn damage_block<S: Source, K: Sink>(
     ensures input_later { S.faults source.old ≤ S.faults source.new }
     ensures output_later { K.faults out.old ≤ K.faults out.new }
 {
-    let place = block_place(heading.version, heading.bits, j);
-    match chunks.read(source, heading.bits, j, place) {
-        Ok(()) => {}
+    match chunks.read_next(source, heading, j) {
+        Ok(true) => {}
+        Ok(false) => return Ok(false),
         Err(error) => return Err(DamageError::from(error)),
     }
     chunks.hit_all(j, hits);
     match chunks.write(out) {
-        Ok(()) => Ok(()),
+        Ok(()) => Ok(true),
         Err(_) => Err(DamageError::Write),
     }
 }
@@ -206,17 +207,14 @@ fn damage_lanes<S: Source, K: Sink>(
     ensures input_later { S.faults source.old ≤ S.faults source.new }
     ensures output_later { K.faults out.old ≤ K.faults out.new }
 {
-    let most = heading.bits[0].max(heading.bits[1].max(heading.bits[2]));
-    let blocks = blocks_for(most);
     let mut chunks = Chunks::new();
-    for j in 0..blocks {
-        if let Err(error) = damage_block(source, heading, j, hits, &mut chunks, out) {
-            return Err(error);
+    let mut j = 0;
+    loop {
+        match damage_block(source, heading, j, hits, &mut chunks, out) {
+            Ok(true) => j += 1,
+            Ok(false) => return Ok(()),
+            Err(error) => return Err(error),
         }
-    }
-    match read_end(source, block_place(heading.version, heading.bits, blocks)) {
-        Ok(()) => Ok(()),
-        Err(error) => Err(DamageError::from(error)),
     }
 }
 

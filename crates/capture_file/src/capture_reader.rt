@@ -8,9 +8,8 @@ ghost use Rattle.capture_file.specs.Faults.{IsCaused};
 ghost use Rattle.capture_file.specs.Captures.{IsFault, IsHeadless, IsEarlyFault, IsCaptureOf, Stands, StopsIn, SaysOf, SaysRead, IsWithin, place_of, place_at, header_size, header_of, CanSay, bits_in, block_size};
 
 use crate::CaptureError;
-use crate::chunk::{Chunks, blocks_for, chunk_len};
-use crate::filling::read_end;
-use crate::heading::{block_place, read_heading};
+use crate::chunk::{Chunks, chunk_len};
+use crate::heading::{Heading, read_heading};
 use outside_io::Source;
 
 /// A block of a capture: of each lane the bytes of its bits there, eight bits to a byte, and how many bits
@@ -103,15 +102,6 @@ impl<'a, S: Source> CaptureReader<'a, S> {
         self.is_open
     }
 
-    /// Whether all blocks were given.
-    fn is_past(&self) -> bool
-        ensures past { IsTrue result ↔ (block_size self.now.block self.now.bits ≡ 0) }
-        ensures below { result ≡ false → 32768 * self.now.block < 2 ^ 32 }
-    {
-        let most = self.bits[0].max(self.bits[1].max(self.bits[2]));
-        self.block >= blocks_for(most)
-    }
-
     /// Reads the next block, and says whether there was one.
     fn advance(&mut self) -> Result<bool, CaptureError>
         requires { self.old.is_open ≡ true }
@@ -134,16 +124,16 @@ impl<'a, S: Source> CaptureReader<'a, S> {
         ensures caused { IfErr result (λ e. IsCaused (S.faults self.old.source.now) (S.faults self.new.source.now) e) }
         ensures later { S.faults self.old.source.now ≤ S.faults self.new.source.now }
     {
-        let place = block_place(self.version, self.bits, self.block);
         self.is_open = false;
-        if self.is_past() {
-            read_end(self.source, place)?;
-            return Ok(false);
+        let heading = Heading {
+            version: self.version,
+            bits: self.bits,
+        };
+        if self.lanes.read_next(self.source, heading, self.block)? {
+            self.block += 1;
+            self.is_open = true;
         }
-        self.lanes.read(self.source, self.bits, self.block, place)?;
-        self.block += 1;
-        self.is_open = true;
-        Ok(true)
+        Ok(self.is_open)
     }
 
     /// Lends the next block, and takes exactly its bytes from the source. Where all blocks were given it reads

@@ -6,9 +6,8 @@ ghost use Rattle.capture_file.specs.Layout.{packed};
 ghost use Rattle.capture_file.specs.Faults.{IsCaused};
 ghost use Rattle.capture_file.specs.Captures.{AreBytes, Awaits, IsFault, HasRead, StopsIn, SaysOf, SaysRead, IsWithin, place_of, bits_in, block_size};
 
-use crate::filling::fill;
 use crate::{CaptureError, CaptureFault};
-use outside_io::Source;
+use outside_io::{Source, read_full};
 use std::marker::Model;
 
 /// How many blocks lanes of so many bits have.
@@ -139,7 +138,7 @@ fn read_part<S: Source>(
     if count == 0 {
         return Ok(());
     }
-    let Ok(read) = fill(source, part) else {
+    let Ok(read) = read_full(source, part) else {
         return Err(CaptureError::Read);
     };
     let size = part.len();

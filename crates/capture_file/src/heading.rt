@@ -5,9 +5,8 @@ ghost use Rattle.capture_file.specs.Layout.{high_first};
 ghost use Rattle.capture_file.specs.Faults.{IsCaused};
 ghost use Rattle.capture_file.specs.Captures.{header_of, CanSay, IsHeadless, IsEarlyFault, SaysOf, SaysRead, AreBytes, place_at};
 
-use crate::filling::fill;
 use crate::{CaptureError, CaptureFault};
-use outside_io::Source;
+use outside_io::{Source, read_full};
 
 /// The version of a capture, and how many bits each lane has.
 #[derive(Clone, Copy, Debug, PartialEq, Eq)]
@@ -68,7 +67,7 @@ fn read_first<S: Source>(source: &mut S) -> Result<[u8; 8], CaptureError>
     ensures later { S.faults source.old ≤ S.faults source.new }
 {
     let mut head = [0; 8];
-    let Ok(count) = fill(source, &mut head) else {
+    let Ok(count) = read_full(source, &mut head) else {
         return Err(CaptureError::Read);
     };
     match judge_first(&head, count) {
@@ -125,7 +124,7 @@ fn read_second<S: Source>(source: &mut S, bits: u32) -> Result<[u32; 2], Capture
     ensures later { S.faults source.old ≤ S.faults source.new }
 {
     let mut more = [0; 8];
-    let Ok(count) = fill(source, &mut more) else {
+    let Ok(count) = read_full(source, &mut more) else {
         return Err(CaptureError::Read);
     };
     match judge_second(&more, count) {

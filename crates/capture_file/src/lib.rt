@@ -6,11 +6,11 @@ mod capture_reader;
 mod chunk;
 mod damaging;
 mod fault;
-mod filling;
 mod heading;
 mod lanes;
 pub mod laws;
 mod slipping;
+mod walking;
 mod writing;
 
 pub use block_damage::damage;
@@ -21,13 +21,5 @@ pub use lanes::Lanes;
 pub use slipping::{SlipError, slip};
 pub use writing::{Tap, write_capture};
 
-#[cfg(test)]
-mod damage_tests;
-#[cfg(test)]
-mod reader_tests;
-#[cfg(test)]
-mod reading_tests;
-#[cfg(test)]
-mod slip_tests;
 #[cfg(test)]
 mod tests;

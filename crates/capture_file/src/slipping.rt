@@ -1,14 +1,13 @@
 //! Captures of which one lane lacks some bits.
-ghost use Rattle.std.specs.Prelude.{◌≡◌, ℕ, ◌+◌, ◌*◌, ◌^◌, ◌<◌, ◌≤◌, List, [], ◌++◌, length, take, min, slice_index, Some, Err, IfOk, IfErr, OnOk};
+ghost use Rattle.std.specs.Prelude.{◌≡◌, ◌⊎◌, ℕ, ◌+◌, ◌*◌, ◌^◌, ◌<◌, ◌≤◌, true, false, List, [], ◌++◌, length, take, min, slice_index, Some, Err, IfOk, IfErr, OnOk};
 ghost use Rattle.std.specs.Io.KnownBytes.{Appends, Consumes, Keeps, IsAtEnd};
 ghost use Rattle.outside_io.specs.Causes.{HasCause, Rose};
-ghost use Rattle.capture_file.specs.Captures.{header_of, layout, CanSay, IsCaptureOf, IsFault, IsHeadless, IsEarlyFault, Stands, block_size};
+ghost use Rattle.capture_file.specs.Captures.{header_of, layout, CanSay, IsCaptureOf, IsFault, IsHeadless, IsEarlyFault, Stands, StopsIn, block_size, place_of};
 ghost use Rattle.capture_file.specs.Slips.{IsSlippedCapture, IsWithinLane, IsPastLane, IsReadPart, StopsReading, StopsKeeping, StopsWriting, SaysFaulty, slipped, without};
 ghost use Rattle.capture_file.specs.declared.slipping.SlipError.TheVariants.{Place, Read, Write, NoMemory as WantsMemory};
 
-use crate::chunk::{Chunks, blocks_for};
-use crate::filling::read_end;
-use crate::heading::{Heading, block_place, read_heading};
+use crate::chunk::Chunks;
+use crate::heading::{Heading, read_heading};
 use crate::writing::{copy_packed, write_rows};
 use crate::{CaptureError, CaptureFault};
 use outside_io::{NoMemory, Sink, Source, Wrote};
@@ -81,26 +80,27 @@ impl Rows {
         self.red.push_bits(block.red.as_bytes(), block.red.len())
     }
 
-    /// Reads block `j` behind the blocks before it.
+    /// Reads block `j` behind the blocks before it. Says whether there was one; where all blocks were read nothing is to follow.
     fn read_block<S: Source>(
         &mut self,
         source: &mut S,
         heading: Heading,
         j: u32,
         chunks: &mut Chunks,
-    ) -> Result<(), SlipError>
-        requires below { 32768 * j < 2 ^ 32 }
+    ) -> Result<bool, SlipError>
         requires blue { length self.old.blue ≡ min (slice_index heading.bits 0) (32768 * j) }
         requires green { length self.old.green ≡ min (slice_index heading.bits 1) (32768 * j) }
         requires red { length self.old.red ≡ min (slice_index heading.bits 2) (32768 * j) }
-        ensures blue { OnOk result (length self.new.blue ≡ min (slice_index heading.bits 0) (32768 * (j + 1))) }
-        ensures green { OnOk result (length self.new.green ≡ min (slice_index heading.bits 1) (32768 * (j + 1))) }
-        ensures red { OnOk result (length self.new.red ≡ min (slice_index heading.bits 2) (32768 * (j + 1))) }
+        ensures below { IfOk result (λ more. more ≡ true → 32768 * j < 2 ^ 32) }
+        ensures blue { IfOk result (λ more. more ≡ true → length self.new.blue ≡ min (slice_index heading.bits 0) (32768 * (j + 1))) }
+        ensures green { IfOk result (λ more. more ≡ true → length self.new.green ≡ min (slice_index heading.bits 1) (32768 * (j + 1))) }
+        ensures red { IfOk result (λ more. more ≡ true → length self.new.red ≡ min (slice_index heading.bits 2) (32768 * (j + 1))) }
         ensures ok { (taken : List ℕ) → Stands heading.version heading.bits j taken self.old.blue self.old.green self.old.red
-            → OnOk result ((part : List ℕ) × Consumes (S.left source.old) (S.left source.new) part × Stands heading.version heading.bits (j + 1) (taken ++ part) self.new.blue self.new.green self.new.red) }
+            → IfOk result (λ more. more ≡ true → (part : List ℕ) × Consumes (S.left source.old) (S.left source.new) part × Stands heading.version heading.bits (j + 1) (taken ++ part) self.new.blue self.new.green self.new.red) }
+        ensures none { IfOk result (λ more. more ≡ false → (block_size j heading.bits ≡ 0) × Consumes (S.left source.old) (S.left source.new) [] × IsAtEnd (S.left source.new) × (self.new ≡ self.old)) }
         ensures err { (bytes taken : List ℕ) → S.left source.old ≡ Some bytes → Stands heading.version heading.bits j taken self.old.blue self.old.green self.old.red
-            → IfErr result (λ e. SaysFaulty (λ fault. IsFault (taken ++ bytes) fault) e) }
-        ensures part { result ≡ Err Read → (part : List ℕ) × (length part < block_size j heading.bits) × Consumes (S.left source.old) (S.left source.new) part }
+            → IfErr result (λ e. SaysFaulty (λ fault. IsFault (taken ++ bytes) fault × StopsIn heading.bits j taken (place_of fault)) e) }
+        ensures part { result ≡ Err Read → (part : List ℕ) × ((length part < block_size j heading.bits) ⊎ (part ≡ [])) × Consumes (S.left source.old) (S.left source.new) part }
         ensures full { result ≡ Err WantsMemory → (part : List ℕ) × Consumes (S.left source.old) (S.left source.new) part }
         ensures taken { (taken : List ℕ) × Consumes (S.left source.old) (S.left source.new) taken }
         ensures unplaced { result ≡ Err Place → ⊥ }
@@ -108,13 +108,13 @@ impl Rows {
         ensures caused { result ≡ Err Read → Rose (S.faults source.old) (S.faults source.new) }
         ensures later { S.faults source.old ≤ S.faults source.new }
     {
-        let place = block_place(heading.version, heading.bits, j);
-        match chunks.read(source, heading.bits, j, place) {
-            Ok(()) => {}
+        match chunks.read_next(source, heading, j) {
+            Ok(true) => {}
+            Ok(false) => return Ok(false),
             Err(error) => return Err(SlipError::from(error)),
         }
         match self.push(chunks) {
-            Ok(()) => Ok(()),
+            Ok(()) => Ok(true),
             Err(_) => Err(SlipError::NoMemory),
         }
     }
@@ -187,18 +187,15 @@ fn read_rows<S: Source>(alloc: Global, source: &mut S, heading: Heading) -> Resu
     ensures caused { result ≡ Err Read → Rose (S.faults source.old) (S.faults source.new) }
     ensures later { S.faults source.old ≤ S.faults source.new }
 {
-    let most = heading.bits[0].max(heading.bits[1].max(heading.bits[2]));
-    let blocks = blocks_for(most);
     let mut chunks = Chunks::new();
     let mut rows = Rows::new(alloc);
-    for j in 0..blocks {
-        if let Err(error) = rows.read_block(source, heading, j, &mut chunks) {
-            return Err(error);
+    let mut j = 0;
+    loop {
+        match rows.read_block(source, heading, j, &mut chunks) {
+            Ok(true) => j += 1,
+            Ok(false) => return Ok(rows),
+            Err(error) => return Err(error),
         }
-    }
-    match read_end(source, block_place(heading.version, heading.bits, blocks)) {
-        Ok(()) => Ok(rows),
-        Err(error) => Err(SlipError::from(error)),
     }
 }
 

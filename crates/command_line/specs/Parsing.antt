@@ -1,8 +1,7 @@
 -- The values of words, read from the front.
 use Rattle.std.specs.Prelude.{ℕ, ◌+◌, ◌-◌, ◌*◌, Bool, ◌&&◌, if◌then◌else◌, nat_le, nat_lt, nat_eq, List, [], ◌∷◌, ◌++◌, length, Option, Some, None, Result, Ok, codes}
 use Rattle.std.specs.Str.{bytes_eq}
-use Rattle.std.specs.Option.{is_some}
-use Rattle.std.specs.List.{position_or_len, before_first, after_first, list_all}
+use Rattle.std.specs.List.{position_or_len, before_first, after_first}
 use Rattle.hex.specs.Hex.{decode_of}
 use Rattle.hex.specs.declared.error.FromHexError.{FromHexError}
 use Rattle.command_line.specs.Numbers.{number_of}
@@ -89,14 +88,6 @@ damage_parted None = None
 
 unfoldable pub damage_of : List ℕ → Option DamageWord
 damage_of text = damage_parted (mark_split 58 text)
-
--- whether each of the words is one of a damage
-
-unfoldable pub is_damage : List ℕ → Bool
-is_damage text = is_some (damage_of text)
-
-abbrev pub are_damages : List (List ℕ) → Bool
-are_damages texts = list_all is_damage texts
 
 -- the slip of a word that its first two colons part
 

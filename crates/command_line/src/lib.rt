@@ -15,7 +15,6 @@ mod tap;
 
 pub use command::{Command, read_command};
 pub use damage::{DamageWord, Damages};
-pub use numbers::{number, number_within};
 pub use options::OptionName;
 pub use slip::SlipWord;
 pub use tap::TapWords;

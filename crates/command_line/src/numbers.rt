@@ -1,6 +1,6 @@
 //! The numbers of words.
-ghost use Rattle.std.specs.Prelude.{◌≡◌, ℕ, MatchOption, Some, None};
-ghost use Rattle.command_line.specs.Numbers.{IsNumber, number_of};
+ghost use Rattle.std.specs.Prelude.{◌≡◌, MatchOption, Some, None};
+ghost use Rattle.command_line.specs.Numbers.{number_of};
 ghost use Rattle.command_line.specs.Parsing.{digit_within, mark_split, three_of, within};
 
 // The most digits of a number.
@@ -8,13 +8,6 @@ const MOST_DIGITS: usize = 10;
 
 /// The number that one to ten decimal digits are, leading zeros allowed, where it is at most `most`; none for any
 /// other text.
-pub fn number_within(text: &str, most: u32) -> Option<u32>
-    ensures { MatchOption result ((n : ℕ) → IsNumber most text.now n → ⊥) (λ n. IsNumber most text.now n) }
-{
-    read_number(text, most)
-}
-
-/// The same, by the reading of its digits.
 #[tactic(auto, unfolding(crate::specs::Parsing::within))]
 pub(crate) fn read_number(text: &str, most: u32) -> Option<u32>
     ensures { result ≡ within most text.now }
@@ -25,7 +18,7 @@ pub(crate) fn read_number(text: &str, most: u32) -> Option<u32>
 
 /// The number that one to ten decimal digits are, leading zeros allowed; none for any other text.
 #[tactic(auto, unfolding(crate::specs::Numbers::number_of, crate::specs::Numbers::digits_after))]
-pub fn number(digits: &[u8]) -> Option<u64>
+pub(crate) fn number(digits: &[u8]) -> Option<u64>
     ensures { result ≡ number_of digits.now }
 {
     if digits.is_empty() || digits.len() > MOST_DIGITS {

@@ -1,6 +1,7 @@
 //! The words of the command line: which name a command, and which name none.
+use crate::numbers::{number, read_number};
 use crate::rows::ROWS;
-use crate::{Command, Damages, SlipWord, TapWords, number, number_within, read_command};
+use crate::{Command, Damages, SlipWord, TapWords, read_command};
 use std::alloc::Global;
 use std::test::*;
 
@@ -110,8 +111,8 @@ fn long_words(rt: HostRuntime) -> Result<(), Fail> {
 fn numbers(rt: HostRuntime) {
     assert_eq!(rt; number(b"9999999999"), Some(9_999_999_999));
     assert_eq!(rt; number(b"00000000007"), None);
-    assert_eq!(rt; number_within("0000000007", 7), Some(7));
-    assert_eq!(rt; number_within("8", 7), None);
+    assert_eq!(rt; read_number("0000000007", 7), Some(7));
+    assert_eq!(rt; read_number("8", 7), None);
 }
 
 #[test]

@@ -5,7 +5,7 @@
 //! count that rose.
 #![tactic(auto)]
 
-ghost use Rattle.std.specs.Prelude.{◌≡◌, ℕ, ◌^◌, ◌<◌, ◌≤◌, List, [], length, take, Option, Ok, IfOk, IfErr, OnOk, OnErr};
+ghost use Rattle.std.specs.Prelude.{◌≡◌, ℕ, ◌^◌, ◌<◌, ◌≤◌, List, [], length, take, Option, Ok, IfOk, IfErr, OnOk};
 ghost use Rattle.std.specs.Io.KnownBytes.{Appends, Consumes, IsAtEnd, ReadConsumes, WriteAppends};
 ghost use Rattle.outside_io.specs.Causes.{HasCause};
 ghost use Rattle.outside_io.specs.Known.{EndsExactly};
@@ -44,6 +44,12 @@ impl<T: Drop> From<AllocFailed<T>> for NoMemory {
 #[derive(Clone, Copy, Debug, PartialEq, Eq)]
 pub struct Wrote {
     pub gone: usize,
+}
+
+/// How many bytes came before a read failed.
+#[derive(Clone, Copy, Debug, PartialEq, Eq)]
+pub struct Got {
+    pub came: usize,
 }
 
 /// Gives bytes in order.
@@ -104,27 +110,28 @@ pub fn write_all<K: Sink>(sink: &mut K, piece: &[u8]) -> Result<(), Wrote>
     Ok(())
 }
 
-/// Reads until `into` is full or the input ends, and says how many bytes came.
-pub fn read_full<S: Source>(source: &mut S, into: &mut [u8]) -> Result<usize, Failed>
+/// Reads until `into` is full or the input ends, and says how many bytes came. Where a read fails it says
+/// how many came before, which are not all.
+pub fn read_full<S: Source>(source: &mut S, into: &mut [u8]) -> Result<usize, Got>
     ensures bound { IfOk result (λ n. n ≤ length into.new) }
     ensures bytes { IfOk result (λ n.
         Consumes (S.left source.old) (S.left source.new) (take n into.new)) }
     ensures end { IfOk result (λ n. n < length into.new → IsAtEnd (S.left source.new)) }
-
-    // Where a read fails, the bytes that came before it are at the front of `into`.
-    ensures part { OnErr result ((n : ℕ) × (n ≤ length into.new)
-        × Consumes (S.left source.old) (S.left source.new) (take n into.new)) }
+    ensures part { IfErr result (λ g.
+        Consumes (S.left source.old) (S.left source.new) (take g.came into.new)) }
+    ensures missing { IfErr result (λ g. g.came < length into.new) }
+    ensures taken { (taken : List ℕ) × Consumes (S.left source.old) (S.left source.new) taken }
     ensures cause { HasCause (S.faults source.old) (S.faults source.new) result }
 {
-    let mut at = 0;
-    while at < into.len() {
-        let count = source.read(&mut into[at..])?;
-        if count == 0 {
-            return Ok(at);
+    let mut came = 0;
+    while came < into.len() {
+        match source.read(&mut into[came..]) {
+            Ok(0) => return Ok(came),
+            Ok(count) => came += count,
+            Err(_) => return Err(Got { came }),
         }
-        at += count;
     }
-    Ok(at)
+    Ok(came)
 }
 
 #[cfg(test)]

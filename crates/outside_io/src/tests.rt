@@ -1,8 +1,8 @@
 //! Worked reads and writes, and devices that fail in mid-stream.
 
 use crate::{
-    Failed, MemSink, MemSource, ReadSource, Source, SteadySink, SteadySource, WriteSink, Wrote,
-    read_full, write_all,
+    Failed, Got, MemSink, MemSource, ReadSource, Source, SteadySink, SteadySource, WriteSink,
+    Wrote, read_full, write_all,
 };
 use std::io::{self, ErrorKind, Read};
 use std::test::Fail;
@@ -106,7 +106,7 @@ fn adapts_readers(rt: HostRuntime) {
     assert_eq!(rt; into, *b"oell");
     assert_eq!(rt; read_full(&mut source, &mut into), Ok(0));
     let mut unsteady = ReadSource::new(Unsteady { calls: 0 });
-    assert_eq!(rt; read_full(&mut unsteady, &mut into), Err(Failed));
+    assert_eq!(rt; read_full(&mut unsteady, &mut into), Err(Got { came: 2 }));
     assert_eq!(rt; into, *b"\x01\x02ll");
     assert_eq!(rt; unsteady.read(&mut into), Ok(1));
     assert_eq!(rt; into, *b"\x04\x02ll");

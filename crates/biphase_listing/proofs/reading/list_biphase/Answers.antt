@@ -1,7 +1,7 @@
 use Rattle.std.proofs.Common.{rules, ℕ, sym, subst}
 use Rattle.std.proofs.lemmas.Result.{err_from_is_err_and}
 use Rattle.biphase_listing.specs.Reading.{HasListed}
-use Rattle.listing.proofs.Consumed.{takes_none, takes_more}
+use Rattle.outside_io.proofs.Consumed.{takes_none, takes_more}
 use Rattle.biphase_listing.proofs.Ends.{last_unwritten, none_listed, whole_listed}
 use Rattle.biphase_listing.proofs.reading.list_biphase.Goals as goal
 

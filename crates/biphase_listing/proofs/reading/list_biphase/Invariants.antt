@@ -1,7 +1,7 @@
 use Rattle.std.proofs.Common.{◌≤◌, ◌+◌, ◌-◌}
 use Rattle.biphase_listing.specs.Groups.{most_frames}
 use Rattle.biphase_listing.specs.Reading.{HasListed}
-use Rattle.listing.proofs.Consumed.{Takes}
+use Rattle.outside_io.proofs.Consumed.{Takes}
 use Rattle.biphase_listing.proofs.reading.list_biphase.Given as goal
 
 abbrev pub invariant-loop : goal.invariant-loop

@@ -7,7 +7,7 @@ use Rattle.capture_file.specs.declared.damaging.DamageError.{DamageError}
 use Rattle.capture_file.specs.declared.damaging.DamageError.TheVariants.{Read}
 use Rattle.capture_file.specs.declared.fault.CaptureFault.{CaptureFault}
 use Rattle.capture_file.proofs.Marks.{consumed}
-use Rattle.capture_file.proofs.Consumed.{takes_more}
+use Rattle.outside_io.proofs.Consumed.{takes_more}
 use Rattle.capture_file.proofs.Damages.{halfway_head, halfway_done, fault_late, fault_early, keeps_self, on_done, on_error}
 use Rattle.capture_file.proofs.block_damage.damage.Goals as goal
 
@@ -101,4 +101,4 @@ returns-in-Err-clause-read g c is =
     record { read = p.0; took = p.2; wrote = inl (p.1, keeps_self (g.K.Sink.held c.args.out.now)) }
 
 pub returns-in-Ok-write_header-clause-taken : goal.returns-in-Ok-write_header-clause-taken
-returns-in-Ok-write_header-clause-taken g c = takes_more _ _ _ _ c.in-Ok.ensures.ok c.damage_lanes.ensures.taken
+returns-in-Ok-write_header-clause-taken g c = takes_more _ _ _ (_, c.in-Ok.ensures.ok) c.damage_lanes.ensures.taken

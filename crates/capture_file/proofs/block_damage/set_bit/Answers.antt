@@ -1,5 +1,5 @@
 use Rattle.std.proofs.Common.{arith}
-use Rattle.tmds_word.proofs.Setting.{byte_set}
+use Rattle.capture_file.proofs.Setting.{byte_set}
 use Rattle.capture_file.proofs.block_damage.set_bit.Goals as goal
 
 pub returns-clause-bits : goal.returns-clause-bits

@@ -1,6 +1,6 @@
 use Rattle.std.proofs.Common.{◌∙◌, ap, sym, set}
 use Rattle.tmds_word.specs.Bits.{bits_of}
-use Rattle.tmds_word.proofs.Setting.{one_set, zero_set}
+use Rattle.capture_file.proofs.Setting.{one_set, zero_set}
 use Rattle.capture_file.proofs.block_damage.with_bit.Goals as goal
 
 pub returns-then-value : goal.returns-then-value

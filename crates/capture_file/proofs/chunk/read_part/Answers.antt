@@ -10,22 +10,22 @@ use Rattle.capture_file.proofs.chunk.read_part.Goals as goal
 
 pub returns-else-is_padded-clause-err : goal.returns-else-is_padded-clause-err
 returns-else-is_padded-clause-err g c bytes front e w at =
-    let part = c.fill.new.into in
+    let part = c.read_full.new.into in
     let all : take c.in-Ok.read part ≡ part = take_all c.in-Ok.read part (omega (arith, c.if-read-size.false, c.in-Ok.ensures.bound)) in
     let s = consumed _ _ bytes (take c.in-Ok.read part) e c.in-Ok.ensures.bytes in
-    padding_stops front bytes part s.0 c.args.count c.args.place (w (omega (arith, c.if-count-eq0.false))) at (s.1 ∙ ap (λ xs. xs ++ s.0) all) (c.fill.auto.into ∙ c.requires.size) (omega (arith, c.if-count-eq0.false)) c.is_padded.ensures.bytes (λ h. clash _ (c.is_padded.ensures.spared.1 h) c.if-is_padded.false)
+    padding_stops front bytes part s.0 c.args.count c.args.place (w (omega (arith, c.if-count-eq0.false))) at (s.1 ∙ ap (λ xs. xs ++ s.0) all) (c.read_full.auto.into ∙ c.requires.size) (omega (arith, c.if-count-eq0.false)) c.is_padded.ensures.bytes (λ h. clash _ (c.is_padded.ensures.spared.1 h) c.if-is_padded.false)
 
 pub returns-then-count-eq0-clause-spared : goal.returns-then-count-eq0-clause-spared
 returns-then-count-eq0-clause-spared g c = none_packed c.args.count c.args.part.now c.if-count-eq0.true c.requires.size
 
 pub returns-then-read-size-clause-err : goal.returns-then-read-size-clause-err
 returns-then-read-size-clause-err g c bytes front e w at =
-    let part = c.fill.new.into in
+    let part = c.read_full.new.into in
     let read = take c.in-Ok.read part in
     let s = consumed _ _ bytes read e c.in-Ok.ensures.bytes in
     let none : s.0 ≡ [] = subst (λ o. IsAtEnd o) s.2 (c.in-Ok.ensures.end c.if-read-size.true) in
     let len : length read ≡ c.in-Ok.read = length-take-le c.in-Ok.read part c.in-Ok.ensures.bound in
-    let size : length part ≡ (c.args.count + 7) / 8 = c.fill.auto.into ∙ c.requires.size in
+    let size : length part ≡ (c.args.count + 7) / 8 = c.read_full.auto.into ∙ c.requires.size in
     let w = w (omega (arith, c.if-count-eq0.false)) in
     subst (λ n. IsFault (front ++ bytes) (Short (c.args.place + n))) len
     (short_piece front bytes read c.args.count c.args.place w at (s.1 ∙ ap (λ xs. read ++ xs) none ∙ append-nil read) (take_bytes c.in-Ok.read part (λ i. (c.type_inv.part i).fits)) (omega (arith, len, size, c.if-read-size.true)))

@@ -6,7 +6,7 @@ use Rattle.std.proofs.KnownBytes.{Consumes-trans}
 use Rattle.capture_file.specs.Layout.{high_first}
 use Rattle.capture_file.specs.Captures.{IsEarlyFault}
 use Rattle.capture_file.proofs.Marks.{consumed}
-use Rattle.capture_file.proofs.Consumed.{takes_more}
+use Rattle.outside_io.proofs.Consumed.{takes_more}
 use Rattle.capture_file.proofs.Judged.{says_of, says_read, headless_short, headless_part, head_is, first_is, header_one, header_two_is}
 use Rattle.capture_file.proofs.heading.read_heading.Goals as goal
 
@@ -53,7 +53,7 @@ returns-clause-ok g c =
     (Consumes-trans _ _ _ _ _ h.ok c.in_ok-green.ensures.ok)
 
 pub returns-in_err-green-clause-taken : goal.returns-in_err-green-clause-taken
-returns-in_err-green-clause-taken g c = takes_more _ _ _ _ c.in_ok-head.ensures.ok c.in_err-green.ensures.taken
+returns-in_err-green-clause-taken g c = takes_more _ _ _ (_, c.in_ok-head.ensures.ok) c.in_err-green.ensures.taken
 
 pub returns-clause-taken : goal.returns-clause-taken
-returns-clause-taken g c = takes_more _ _ _ _ c.in_ok-head.ensures.ok c.in_ok-green.ensures.taken
+returns-clause-taken g c = takes_more _ _ _ (_, c.in_ok-head.ensures.ok) c.in_ok-green.ensures.taken

@@ -9,8 +9,8 @@ use Rattle.capture_file.proofs.heading.read_second.Goals as goal
 
 pub returns-in-Err-clause-err : goal.returns-in-Err-clause-err
 returns-in-Err-clause-err g c bytes e =
-    let more = c.fill.new.into in
-    let len : length more ≡ 8 = grind (arith, common_steps, c.fill.auto.into) in
+    let more = c.read_full.new.into in
+    let len : length more ≡ 8 = grind (arith, common_steps, c.read_full.auto.into) in
     let s = consumed _ _ bytes (take c.in-Ok.count more) e c.in-Ok.ensures.bytes in
     subst (λ bs. IsEarlyFault (((codes "TMC" ++ 50 ∷ []) ++ high_first c.args.bits) ++ bs) c.in-Err.fault) (sym s.1)
     (c.in-Err.ensures.err c.args.bits s.0 c.ranges.bits.fits (λ less. subst (λ o. IsAtEnd o) s.2 (c.in-Ok.ensures.end (omega (arith, less, len)))))

@@ -1,4 +1,4 @@
-use Rattle.std.proofs.Common.{◌≡◌, ◌*◌, ◌≤◌, ◌++◌, ℕ, List, length, min}
+use Rattle.std.proofs.Common.{◌≡◌, ◌*◌, ◌-◌, ◌≤◌, ◌++◌, ℕ, List, length, min}
 use Rattle.std.specs.Prelude.{slice_index}
 use Rattle.std.specs.Io.KnownBytes.{Consumes}
 use Rattle.capture_file.specs.Captures.{header_of, Stands}
@@ -10,7 +10,11 @@ invariant-loop-j g l = record {
   green : length l.rows.green ≡ min (slice_index l.heading.bits 1) (32768 * l.j);
   red : length l.rows.red ≡ min (slice_index l.heading.bits 2) (32768 * l.j);
   went :
-      (part : List ℕ) × Consumes (g.S.Source.left l.fn.source) (g.S.Source.left l.source) part
+      (part : List ℕ) × Consumes (g.S.Source.left l.initial.source) (g.S.Source.left l.source) part
       × Stands l.heading.version l.heading.bits l.j (header_of l.heading.version l.heading.bits ++ part) l.rows.blue l.rows.green l.rows.red;
-  later : g.S.Source.faults l.fn.source ≤ g.S.Source.faults l.source;
+  few : l.j ≤ 131072;
+  later : g.S.Source.faults l.initial.source ≤ g.S.Source.faults l.source;
 }
+
+abbrev pub decreases-loop-j : goal.decreases-loop-j
+decreases-loop-j g l = 131072 - l.j

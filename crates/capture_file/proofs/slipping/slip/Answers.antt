@@ -6,7 +6,7 @@ use Rattle.std.proofs.KnownBytes.{Consumes-trans}
 use Rattle.capture_file.specs.Captures.{header_of, CanSay, IsFault, IsHeadless}
 use Rattle.capture_file.specs.Slips.{IsWithinLane, StopsKeeping}
 use Rattle.capture_file.proofs.Marks.{consumed}
-use Rattle.capture_file.proofs.Consumed.{takes_more}
+use Rattle.outside_io.proofs.Consumed.{takes_more}
 use Rattle.capture_file.proofs.SlippedLanes.{faulty_as, headless_within, header_within}
 use Rattle.capture_file.proofs.slipping.slip.Goals as goal
 
@@ -65,13 +65,13 @@ returns-in-Err-read_rows-clause-memory g c is =
     kept h.version c.args.lane c.args.place c.args.drop h.bits p.0 _ _ _ n.said n.fits n.ok p.1
 
 pub returns-in-Err-read_rows-clause-taken : goal.returns-in-Err-read_rows-clause-taken
-returns-in-Err-read_rows-clause-taken g c = takes_more _ _ _ _ c.in-Ok.ensures.ok c.in-Err-read_rows.ensures.taken
+returns-in-Err-read_rows-clause-taken g c = takes_more _ _ _ (_, c.in-Ok.ensures.ok) c.in-Err-read_rows.ensures.taken
 
 pub returns-then-is_err-clause-taken : goal.returns-then-is_err-clause-taken
-returns-then-is_err-clause-taken g c = takes_more _ _ _ _ c.in-Ok.ensures.ok c.in-Ok-read_rows.ensures.taken
+returns-then-is_err-clause-taken g c = takes_more _ _ _ (_, c.in-Ok.ensures.ok) c.in-Ok-read_rows.ensures.taken
 
 pub returns-in-Ok-write-clause-taken : goal.returns-in-Ok-write-clause-taken
-returns-in-Ok-write-clause-taken g c = takes_more _ _ _ _ c.in-Ok.ensures.ok c.in-Ok-read_rows.ensures.taken
+returns-in-Ok-write-clause-taken g c = takes_more _ _ _ (_, c.in-Ok.ensures.ok) c.in-Ok-read_rows.ensures.taken
 
 pub returns-clause-taken : goal.returns-clause-taken
-returns-clause-taken g c = takes_more _ _ _ _ c.in-Ok.ensures.ok c.in-Ok-read_rows.ensures.taken
+returns-clause-taken g c = takes_more _ _ _ (_, c.in-Ok.ensures.ok) c.in-Ok-read_rows.ensures.taken

@@ -1,5 +1,5 @@
 use Rattle.std.proofs.Common.{rules}
-use Rattle.listing.proofs.Consumed.{takes_more}
+use Rattle.outside_io.proofs.Consumed.{takes_more}
 use Rattle.listing.proofs.text.read_lines.Goals as goal
 
 pub returns-in_err-more-clause-taken : goal.returns-in_err-more-clause-taken

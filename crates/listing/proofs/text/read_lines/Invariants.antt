@@ -3,7 +3,7 @@ use Rattle.std.specs.Prelude.{Some}
 use Rattle.listing.specs.Lines.{pieces_of}
 use Rattle.listing.specs.LineSteps.{read_lines}
 use Rattle.listing.specs.Leaves.{IsPlace}
-use Rattle.listing.proofs.Consumed.{Takes}
+use Rattle.outside_io.proofs.Consumed.{Takes}
 use Rattle.listing.proofs.Leaving.{IsReadFrom}
 use Rattle.listing.proofs.text.read_lines.Given as goal
 

@@ -2,7 +2,7 @@ use Rattle.std.proofs.Common.{arith, ◌≡◌, ◌+◌, ◌-◌, ◌/◌, ◌%�
 use Rattle.std.specs.Prelude.{◌⊎◌}
 use Rattle.std.proofs.lemmas.List.{length-set}
 use Rattle.tmds_word.specs.Bits.{word_bits}
-use Rattle.tmds_word.proofs.Setting.{word_done}
+use Rattle.capture_file.proofs.Setting.{word_done}
 use Rattle.capture_file.specs.Damage.{with_word}
 use Rattle.capture_file.proofs.Bitwise.{begun, begun_more, set_inside, set_outside, untouched, sent_is}
 use Rattle.capture_file.proofs.chunk.Chunk.hit.Goals as goal

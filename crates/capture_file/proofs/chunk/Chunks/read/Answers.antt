@@ -9,7 +9,7 @@ use Rattle.capture_file.specs.declared.fault.CaptureError.{CaptureError}
 use Rattle.capture_file.proofs.Packing.{length-packed}
 use Rattle.capture_file.proofs.Marks.{consumed}
 use Rattle.capture_file.proofs.Judged.{says_of, says_read}
-use Rattle.capture_file.proofs.Consumed.{takes_more}
+use Rattle.outside_io.proofs.Consumed.{takes_more}
 use Rattle.capture_file.proofs.Rooms.{first_here, second_here, third_here}
 use Rattle.capture_file.proofs.chunk.Chunks.read.Goals as goal
 
@@ -82,8 +82,8 @@ returns-clause-part g c =
     (omega (arith, length-append (packed a) (packed b), length-packed a, length-packed b, c.in_ok-read.ensures.count, c.in_ok-read-2.ensures.count, c.chunk_len.ensures, c.chunk_len-2.ensures, c.chunk_len-3.ensures)) c.read-3.ensures.part
 
 pub returns-in_err-read-2-clause-taken : goal.returns-in_err-read-2-clause-taken
-returns-in_err-read-2-clause-taken g c = takes_more _ _ _ (packed c.read.new.self) c.in_ok-read.ensures.ok c.in_err-read-2.ensures.taken
+returns-in_err-read-2-clause-taken g c = takes_more _ _ _ (packed c.read.new.self, c.in_ok-read.ensures.ok) c.in_err-read-2.ensures.taken
 
 pub returns-clause-taken : goal.returns-clause-taken
 returns-clause-taken g c =
-    takes_more _ _ _ (packed c.read.new.self) c.in_ok-read.ensures.ok (takes_more _ _ _ (packed c.read-2.new.self) c.in_ok-read-2.ensures.ok c.read-3.ensures.taken)
+    takes_more _ _ _ (packed c.read.new.self, c.in_ok-read.ensures.ok) (takes_more _ _ _ (packed c.read-2.new.self, c.in_ok-read-2.ensures.ok) c.read-3.ensures.taken)

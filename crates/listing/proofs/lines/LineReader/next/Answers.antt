@@ -1,7 +1,7 @@
 use Rattle.std.proofs.Common.{rules, arith, ◌≡◌, ◌≤◌, ◌∙◌, ◌++◌, ap, ap₂, sym, subst, List, ℕ, IsTrue, length, take, length-append, length-take-le}
 use Rattle.std.proofs.lemmas.List.{take-append-le}
 use Rattle.listing.specs.Held.{is_feedless}
-use Rattle.listing.proofs.Consumed.{takes_more}
+use Rattle.outside_io.proofs.Consumed.{takes_more}
 use Rattle.listing.proofs.Given.{too_long}
 use Rattle.listing.proofs.lines.LineReader.next.Goals as goal
 

@@ -1,7 +1,7 @@
 use Rattle.std.proofs.Common.{◌-◌, ◌≤◌, length, take, IsTrue}
 use Rattle.std.specs.Io.KnownBytes.{Keeps}
 use Rattle.listing.specs.Held.{ahead, is_feedless}
-use Rattle.listing.proofs.Consumed.{Takes}
+use Rattle.outside_io.proofs.Consumed.{Takes}
 use Rattle.listing.proofs.lines.LineReader.next.Given as goal
 
 abbrev pub invariant-reads : goal.invariant-reads
