@@ -11,7 +11,7 @@ use Rattle.source_end.specs.Fronts.{TookFront}
 use Rattle.source_end.specs.Kept.{is_dvi_sendable}
 use Rattle.source_end.specs.DviPeriods.{dvi_columns, dvi_columns_of, dvi_conforms, DviSpellsPeriod, DviSpells}
 use Rattle.source_end.proofs.Turns.{left, right, both}
-use Rattle.source_end.proofs.Streams.{video_length, control_sendable, video_sendable}
+use Rattle.source_end.proofs.Streams.{video_length, control_sendable, video_sendable, passed_at}
 use Rattle.source_end.proofs.Fronts.{front_behind}
 use Rattle.source_end.proofs.ItemFronts.{parts_at, all_behind}
 
@@ -52,15 +52,8 @@ dvi_sendable_all (control runs ∷ (video bytes ∷ ps)) h =
     (both (is_dvi_sendable (video bytes)) _ (video_sendable bytes (left (is_video_period bytes) (dvi_conforms ps) rest))
     (dvi_sendable_all ps (right (is_video_period bytes) (dvi_conforms ps) rest)))
 
-sendable_in : (periods : List Period) (i : ℕ) (d : Period) → list_all is_dvi_sendable periods ≡ true → i < length periods → is_dvi_sendable (get_or periods i d) ≡ true
-sendable_in [] i d h lt = absurd (omega arith)
-sendable_in (p ∷ ps) zero d h lt = left (is_dvi_sendable p) (list_all is_dvi_sendable ps) h
-sendable_in (p ∷ ps) (suc i) d h lt =
-    let lt' : i < length ps = omega arith in
-    sendable_in ps i d (right (is_dvi_sendable p) (list_all is_dvi_sendable ps) h) lt'
-
 pub dvi_sendable_at : (periods : List Period) (i : ℕ) (d : Period) → dvi_conforms periods ≡ true → i < length periods → is_dvi_sendable (get_or periods i d) ≡ true
-dvi_sendable_at periods i d h lt = sendable_in periods i d (dvi_sendable_all periods h) lt
+dvi_sendable_at periods i d h lt = passed_at is_dvi_sendable periods i d (dvi_sendable_all periods h) lt
 
 -- the columns of the first periods and of the next one are among all
 pub dvi_periods_room : (periods : List Period) (i : ℕ) (d : Period) → i < length periods → dvi_columns_of (take i periods) + dvi_columns (get_or periods i d) ≤ dvi_columns_of periods

@@ -5,14 +5,15 @@ use Rattle.std.proofs.lemmas.List.{take-append-drop, map-append}
 use Rattle.std.specs.List.{list_all}
 use Rattle.tmds_word.specs.Column.{Column, column_of}
 use Rattle.terc4.specs.Tables.{video_guard}
-use Rattle.island_pack.specs.Periods.{ControlRun, DataIsland, Period, values_of, Pixel, pixels_of, SyncPair}
-use Rattle.island_pack.specs.Conforming.{is_packet, is_data_island, conforms}
+use Rattle.island_pack.specs.Periods.{ControlRun, DataIsland, Period, control, video, island, values_of, Pixel, pixels_of, SyncPair}
+use Rattle.island_pack.specs.Conforming.{is_packet, is_data_island}
 use Rattle.island_pack.specs.Packets.{Carries}
 use Rattle.island_pack.specs.Spelling.{SpellsPixels, SpellsVideo, SpellsIsland, SpellsPackets, SpellsPeriod, Spells, control_column, guard_columns, words_of, guard_column}
 use Rattle.island_pack.specs.declared.packet.Packet.{Packet}
 use Rattle.island_pack.proofs.PixelColumns.{pixels_go_on}
-use Rattle.island_pack.proofs.Spelled.{packets_spelled, video_spelled, has_range, periods_spelled, conforming_ranges}
+use Rattle.island_pack.proofs.Spelled.{packets_spelled, video_spelled}
 use Rattle.source_end.specs.Fronts.{TookFront}
+use Rattle.source_end.specs.Kept.{is_sendable}
 use Rattle.source_end.proofs.Fronts.{front_behind}
 use Rattle.source_end.proofs.Spellings.{map_replicate, joined}
 use Rattle.source_end.proofs.Packets.{SpellsPackets-append, packets_in_range}
@@ -139,11 +140,29 @@ closing_front x packets old mid late new own columns end is same ends was more s
       (columns, ap₂ (λ (ds es : List Column). (ds ++ columns) ++ es) is (append-nil cs ∙ e ∙ ends), subst (λ (ps : List Packet). SpellsPackets true ps columns) same spelled),
     ))
 
--- A list of periods.
-pub periods_front : (periods : List Period) (i : ℕ) (p : Period) (old mid new columns : List Column) → conforms periods ≡ true → i < length periods → get_or periods i p ≡ p
+-- A list of periods, each of which has columns that spell it.
+island_spelled : (x : DataIsland) → is_data_island x ≡ true → (columns : List Column) × SpellsIsland x columns
+island_spelled x h =
+    let packets = packets_spelled true x.packets (packets_in_range x h) in
+    ((guard_columns x.opening ++ packets.0) ++ guard_columns x.closing, (packets.0, refl, packets.1))
+
+period_spelled : (p : Period) → is_sendable p ≡ true → (columns : List Column) × SpellsPeriod p columns
+period_spelled (control runs) h = (map control_column (values_of runs), refl)
+period_spelled (video bytes) h = video_spelled bytes
+period_spelled (island x) h = island_spelled x h
+
+pub sendable_spelled : (periods : List Period) → list_all is_sendable periods ≡ true → (columns : List Column) × Spells periods columns
+sendable_spelled [] h = ([], refl)
+sendable_spelled (p ∷ ps) h =
+    let parts = and_parts (is_sendable p) (list_all is_sendable ps) h in
+    let own = period_spelled p parts.0 in
+    let rest = sendable_spelled ps parts.1 in
+    (own.0 ++ rest.0, (own.0, rest.0, refl, own.1, rest.1))
+
+pub periods_front : (periods : List Period) (i : ℕ) (p : Period) (old mid new columns : List Column) → list_all is_sendable periods ≡ true → i < length periods → get_or periods i p ≡ p
     → Spells (take i periods) columns → mid ≡ old ++ columns → TookFront mid new (SpellsPeriod p) → TookFront old new (Spells periods)
 periods_front periods i p old mid new columns h lt at spelled was front =
-    let rest = periods_spelled (drop (suc i) periods) (all_behind has_range periods (suc i) (conforming_ranges periods h)) in
+    let rest = sendable_spelled (drop (suc i) periods) (all_behind is_sendable periods (suc i) h) in
     let parts : take i periods ++ (p ∷ drop (suc i) periods) ≡ periods = ap (λ (q : Period). take i periods ++ (q ∷ drop (suc i) periods)) (sym at) ∙ parts_at periods i p lt in
     front_behind old mid new columns (SpellsPeriod p) (Spells periods) was front
     (λ cs own. (

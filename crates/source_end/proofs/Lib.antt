@@ -16,10 +16,12 @@ pub mod RasterSizes
 pub mod RasterPeriods
 pub mod RasterLines
 pub mod RasterLaw
+pub mod RowEnds
 pub mod Contents
 pub mod RasterFaults
 pub mod FrameFaults
 pub mod RasterRuns
 pub mod RasterWriting
+pub mod RasterFrames
 pub mod Generated
 pub mod GeneratedRaster

@@ -1,5 +1,5 @@
 -- Columns that spell periods, one period after another.
-use Rattle.std.proofs.Common.{◌≡◌, ℕ, suc, zero, ◌+◌, ◌*◌, ◌/◌, ◌%◌, ◌≤◌, ◌<◌, true, ◌==◌, ◌&&◌, List, [], ◌∷◌, ◌++◌, length, take, get_or, map, refl, ap, sym, subst, ◌∙◌, arith, append_assoc, append-nil, length-append}
+use Rattle.std.proofs.Common.{◌≡◌, ℕ, suc, zero, ◌+◌, ◌*◌, ◌/◌, ◌%◌, ◌≤◌, ◌<◌, Bool, true, ◌==◌, ◌&&◌, List, [], ◌∷◌, ◌++◌, length, take, get_or, map, refl, ap, sym, subst, ◌∙◌, arith, append_assoc, append-nil, length-append}
 use Rattle.std.specs.Prelude.{nat_le, nat_lt}
 use Rattle.std.specs.List.{list_all}
 use Rattle.std.proofs.Math.ListN.{get_or-map}
@@ -11,7 +11,7 @@ use Rattle.source_end.specs.declared.item.Item.{Item}
 use Rattle.source_end.specs.ItemPeriods.{period_of}
 use Rattle.source_end.specs.Kept.{is_sendable}
 use Rattle.island_pack.specs.Spelling.{SpellsPixels, SpellsIsland, SpellsPeriod, Spells, control_column, guard_columns}
-use Rattle.source_end.proofs.Turns.{left, right}
+use Rattle.source_end.proofs.Turns.{left, right, both}
 use Rattle.source_end.proofs.Spellings.{length-pixels_of}
 use Rattle.source_end.proofs.Packets.{packets_length}
 
@@ -56,26 +56,27 @@ pub video_sendable : (bytes : List ℕ) → is_video_period bytes ≡ true → (
 unfolding is_video_period
 video_sendable bytes h = left (length bytes % 3 == 0) (nat_le 1 (length bytes / 3) && nat_le (length bytes / 3) 4096) (right (list_all (λ b. nat_lt b 256) bytes) _ h)
 
-pub sendable_at : (periods : List Period) (i : ℕ) (d : Period) → conforms periods ≡ true → i < length periods → is_sendable (get_or periods i d) ≡ true
+pub sendable_all : (periods : List Period) → conforms periods ≡ true → list_all is_sendable periods ≡ true
 unfolding conforms
-sendable_at [] i d h lt = absurd (omega arith)
-sendable_at (video bytes ∷ ps) i d h lt = absurd cc
-sendable_at (island x ∷ ps) i d h lt = absurd cc
-sendable_at (control runs ∷ (control more ∷ ps)) i d h lt = absurd cc
-sendable_at (control runs ∷ []) zero d h lt = control_sendable runs h
-sendable_at (control runs ∷ []) (suc i) d h lt = absurd (omega arith)
-sendable_at (control runs ∷ (video bytes ∷ ps)) zero d h lt = control_sendable runs (left (is_control_period runs) _ h)
-sendable_at (control runs ∷ (video bytes ∷ ps)) (suc zero) d h lt =
-    video_sendable bytes (left (is_video_period bytes) (conforms ps) (right (has_preamble VIDEO_PREAMBLE (values_of runs)) _ (right (is_control_period runs) _ h)))
-sendable_at (control runs ∷ (video bytes ∷ ps)) (suc (suc i)) d h lt =
-    let lt' : i < length ps = omega arith in
-    sendable_at ps i d (right (is_video_period bytes) (conforms ps) (right (has_preamble VIDEO_PREAMBLE (values_of runs)) _ (right (is_control_period runs) _ h))) lt'
-sendable_at (control runs ∷ (island x ∷ ps)) zero d h lt = control_sendable runs (left (is_control_period runs) _ h)
-sendable_at (control runs ∷ (island x ∷ ps)) (suc zero) d h lt =
-    left (is_data_island x) (conforms ps) (right (has_preamble ISLAND_PREAMBLE (values_of runs)) _ (right (is_control_period runs) _ h))
-sendable_at (control runs ∷ (island x ∷ ps)) (suc (suc i)) d h lt =
-    let lt' : i < length ps = omega arith in
-    sendable_at ps i d (right (is_data_island x) (conforms ps) (right (has_preamble ISLAND_PREAMBLE (values_of runs)) _ (right (is_control_period runs) _ h))) lt'
+sendable_all [] h = refl
+sendable_all (video bytes ∷ ps) h = absurd cc
+sendable_all (island x ∷ ps) h = absurd cc
+sendable_all (control runs ∷ []) h = both (is_sendable (control runs)) true (control_sendable runs h) refl
+sendable_all (control runs ∷ (control more ∷ ps)) h = absurd cc
+sendable_all (control runs ∷ (video bytes ∷ ps)) h =
+    let rest = right (has_preamble VIDEO_PREAMBLE (values_of runs)) _ (right (is_control_period runs) _ h) in
+    both (is_sendable (control runs)) _ (control_sendable runs (left (is_control_period runs) _ h))
+    (both (is_sendable (video bytes)) _ (video_sendable bytes (left (is_video_period bytes) (conforms ps) rest)) (sendable_all ps (right (is_video_period bytes) (conforms ps) rest)))
+sendable_all (control runs ∷ (island x ∷ ps)) h =
+    let rest = right (has_preamble ISLAND_PREAMBLE (values_of runs)) _ (right (is_control_period runs) _ h) in
+    both (is_sendable (control runs)) _ (control_sendable runs (left (is_control_period runs) _ h))
+    (both (is_sendable (island x)) _ (left (is_data_island x) (conforms ps) rest) (sendable_all ps (right (is_data_island x) (conforms ps) rest)))
+
+-- what each of a list passes
+pub passed_at : {A : Type 0} (p : A → Bool) (xs : List A) (i : ℕ) (d : A) → list_all p xs ≡ true → i < length xs → p (get_or xs i d) ≡ true
+passed_at p [] i d h lt = absurd (omega arith)
+passed_at p (x ∷ xs) zero d h lt = left (p x) (list_all p xs) h
+passed_at p (x ∷ xs) (suc i) d h lt = let lt' : i < length xs = omega arith in passed_at p xs i d (right (p x) (list_all p xs) h) lt'
 
 -- the columns of the first periods and of the next one are among all
 pub periods_room : (periods : List Period) (i : ℕ) (d : Period) → i < length periods → columns_of (take i periods) + period_columns (get_or periods i d) ≤ columns_of periods

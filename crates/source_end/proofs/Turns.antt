@@ -127,10 +127,14 @@ so_far-ends (control runs ∷ (island x ∷ (q ∷ ps))) h k =
     let c = is_data_island x in
     fourth a b c (conforms_so_far (q ∷ ps)) (conforms (q ∷ ps)) h (so_far-ends (q ∷ ps) (the_fourth a b c (conforms_so_far (q ∷ ps)) h) k)
 
+pub columns_of-append : (periods others : List Period) → columns_of (periods ++ others) ≡ columns_of periods + columns_of others
+unfolding columns_of
+columns_of-append [] others = omega arith
+columns_of-append (q ∷ ps) others = ap (λ n. period_columns q + n) (columns_of-append ps others) ∙ omega arith
+
 pub columns_of-more : (periods : List Period) (p : Period) → columns_of (periods ++ p ∷ []) ≡ columns_of periods + period_columns p
 unfolding columns_of
-columns_of-more [] p = omega arith
-columns_of-more (q ∷ ps) p = ap (λ n. period_columns q + n) (columns_of-more ps p) ∙ omega arith
+columns_of-more periods p = columns_of-append periods (p ∷ []) ∙ omega arith
 
 pub none_yet : (periods : List Period) → periods ≡ [] → (conforms_so_far periods ≡ true) × (0 ≡ columns_of periods) × (0 ≤ 20000000)
 unfolding conforms_so_far columns_of

@@ -28,3 +28,12 @@ pub record Holds (periods : List Period) (runs : List ControlRun) (parts : List 
 
 abbrev pub Has : Gathering → List Part → Type 0
 Has g parts = Holds (map period_of g.items.items) g.period parts
+
+-- Parts whose first ones make periods that were taken out, to which no later part adds, and whose others a gathering has.
+pub record Parted (periods : List Period) (g : Gathering) (parts : List Part) : Type 0 where
+  pub earlier : List Part
+  pub rest : List Part
+  pub parts_are : parts ≡ earlier ++ rest
+  pub periods_are : periods ≡ gathered earlier
+  pub apart : (later : List Part) → gathered (earlier ++ later) ≡ gathered earlier ++ gathered later
+  pub held : Has g rest

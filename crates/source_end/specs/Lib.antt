@@ -4,6 +4,7 @@ pub mod ItemPeriods
 pub mod DviPeriods
 pub mod Refusals
 pub mod Laws
+pub mod Rows
 pub mod Content
 pub mod Formats
 pub mod Raster

@@ -3,39 +3,17 @@ ghost use Rattle.std.specs.Prelude.{◌≡◌, ℕ, ◌↔◌, ◌≤◌, ◌<�
 ghost use Rattle.island_pack.specs.Conforming.{are_bytes};
 ghost use Rattle.source_end.specs.Content.{empty_frame, with_packet, with_row, on_last, is_payload, are_content};
 
+use crate::rows::Rows;
 use island_pack::Packet;
 use outside_io::NoMemory;
 use std::alloc::Global;
 use std::marker::Model;
 
-/// A row, as it was given.
-#[derive(Drop)]
-pub(crate) struct Row {
-    bytes: Vec<u8>,
-}
-
-impl Model for Row {
-    ghost use Rattle.std.specs.Prelude.{List, ℕ};
-
-    ghost Value = { List ℕ };
-
-    ghost view = { λ r. r.bytes.items };
-}
-
-impl Row {
-    /// The bytes of the row.
-    pub(crate) fn as_slice(&self) -> &[u8]
-        ensures { result.now ≡ self.now }
-    {
-        self.bytes.as_slice()
-    }
-}
-
 /// A frame of a content.
 #[derive(Drop)]
 pub(crate) struct FrameContent {
     packets: Vec<Packet>,
-    rows: Vec<Row>,
+    rows: Rows,
 }
 
 impl Model for FrameContent {
@@ -43,7 +21,7 @@ impl Model for FrameContent {
 
     ghost Value = { Frame };
 
-    ghost view = { λ f. record { packets = f.packets.items; rows = f.rows.items } };
+    ghost view = { λ f. record { packets = f.packets.items; rows = f.rows } };
 }
 
 impl FrameContent {
@@ -53,7 +31,7 @@ impl FrameContent {
     {
         FrameContent {
             packets: Vec::new(alloc),
-            rows: Vec::new(alloc),
+            rows: Rows::new(alloc),
         }
     }
 
@@ -67,13 +45,11 @@ impl FrameContent {
     }
 
     /// Appends a row. After a refusal the frame is as before.
-    fn row(&mut self, alloc: Global, bytes: &[u8]) -> Result<(), NoMemory>
+    fn row(&mut self, bytes: &[u8]) -> Result<(), NoMemory>
         ensures ok { OnOk result (self.new ≡ with_row bytes.now self.old) }
         ensures err { OnErr result (self.new ≡ self.old) }
     {
-        let bytes = bytes.to_vec(alloc)?;
-        self.rows.push(Row { bytes })?;
-        Ok(())
+        self.rows.push(bytes)
     }
 
     /// The packets, in order.
@@ -84,10 +60,10 @@ impl FrameContent {
     }
 
     /// The rows, in order.
-    pub(crate) fn rows(&self) -> &[Row]
+    pub(crate) fn rows(&self) -> &Rows
         ensures { result.now ≡ self.now.rows }
     {
-        self.rows.as_slice()
+        &self.rows
     }
 }
 
@@ -167,7 +143,7 @@ impl Content {
         ensures err { OnErr result (self.new ≡ self.old) }
     {
         match self.frames.last_mut() {
-            Some(frame) => frame.row(self.alloc, bytes),
+            Some(frame) => frame.row(bytes),
             None => unreachable!(),
         }
     }
@@ -179,6 +155,15 @@ impl Content {
         ensures few { length self.now < 4294967296 }
     {
         self.frames.as_slice()
+    }
+
+    /// The frames, in order.
+    pub(crate) fn into_frames(self) -> Vec<FrameContent>
+        ensures value { result.items ≡ self }
+        ensures content { IsTrue (are_content self) }
+    {
+        let Content { frames, .. } = self;
+        frames
     }
 }
 

@@ -102,7 +102,7 @@ pub struct Gathering {
 
 impl Gathering {
     ghost use Rattle.island_pack.specs.Periods.{DataIsland};
-    ghost use Rattle.source_end.specs.Gathering.{size, Has};
+    ghost use Rattle.source_end.specs.Gathering.{size, Has, Parted};
 
     /// No parts yet; keeps the allocator for its growth.
     pub fn new(alloc: Global) -> Gathering
@@ -161,6 +161,14 @@ impl Gathering {
         let runs = period.into_runs()?;
         self.items.push(Item::Control(runs))?;
         Ok(())
+    }
+
+    /// Takes out the items, to whose periods no later part adds. The control period that goes on stays.
+    pub fn take_items(&mut self) -> Vec<Item>
+        ensures { (parts : List Part) → Has self.old parts → Parted (map period_of result.items) self.new parts }
+    {
+        let none = Vec::new(self.alloc);
+        mem::replace(&mut self.items, none)
     }
 
     /// The items.

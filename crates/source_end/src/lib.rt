@@ -16,6 +16,7 @@ mod lines;
 mod mode;
 mod rasters;
 mod refusal;
+mod rows;
 mod spell;
 mod stream;
 
@@ -28,7 +29,7 @@ pub use island::Island;
 pub use item::{Item, Pixels, Run, Runs};
 pub use items::{ItemFault, Items};
 pub use mode::Mode;
-pub use rasters::raster;
+pub use rasters::{count_columns, raster, spell_raster};
 pub use refusal::{RasterFault, mode_fault, next_fault};
 pub use stream::Stream;
 

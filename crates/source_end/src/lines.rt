@@ -7,9 +7,10 @@ ghost use Rattle.source_end.specs.Raster.{Part, packets, columns, blank, row_lin
 ghost use Rattle.source_end.specs.RasterRefusals.{numbers_of, bad_mode, bad_row};
 ghost use Rattle.source_end.specs.Lines.{lead, lead_end, left, AreWide};
 
-use crate::content::{FrameContent, Row};
+use crate::content::FrameContent;
 use crate::gathering::Gathering;
 use crate::mode::{active, back, front, sync, total};
+use crate::rows::Rows;
 use crate::{Island, Mode};
 use island_pack::{ISLAND_CTL, Packet, VIDEO_CTL};
 use outside_io::NoMemory;
@@ -153,7 +154,7 @@ fn blank_lines<'a>(
 /// Writes lines with rows. Answers the packets that they did not take.
 fn row_lines<'a>(
     mode: &Mode,
-    rows: &[Row],
+    rows: &Rows,
     packets: &'a [Packet],
     out: &mut Gathering,
 ) -> Result<&'a [Packet], NoMemory>
@@ -163,9 +164,9 @@ fn row_lines<'a>(
     ensures parts { (parts : List Part) → Has out.old parts → size parts + length rows.now * total mode.now.across < 2 ^ 32 → OnOk result (Has out.new (parts ++ laid mode.now (map row_line rows.now) packets.entry.now)) }
 {
     let mut rest = packets;
-    for row in rows {
+    for i in 0..rows.len() {
         let (taken, left) = rest.split_at(rest.len().min(mode.row_room() as usize));
-        row_line(mode, row.as_slice(), taken, out)?;
+        row_line(mode, rows.get(i), taken, out)?;
         rest = left;
     }
     Ok(rest)

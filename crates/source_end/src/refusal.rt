@@ -5,8 +5,9 @@ ghost use Rattle.source_end.specs.Raster.{active, total, lines_of};
 ghost use Rattle.source_end.specs.FrameFaults.{frame_room, next_fault};
 ghost use Rattle.source_end.specs.RasterRefusals.{numbers_of, is_in_range, bad_mode, bad_row, bad_rows, no_room, raster_fault, room_of};
 
-use crate::content::{FrameContent, Row};
+use crate::content::FrameContent;
 use crate::mode::{active, back, front, sync, total};
+use crate::rows::Rows;
 use crate::{Content, Mode};
 use outside_io::NoMemory;
 use thiserror::Error;
@@ -121,14 +122,14 @@ fn rows_fault(mode: &Mode, frames: &[FrameContent]) -> Option<RasterFault>
 }
 
 /// The first row of a frame that is missing, is one too many, or has not the mode's width.
-fn row_fault(mode: &Mode, frame: u32, rows: &[Row]) -> Option<RasterFault>
+fn row_fault(mode: &Mode, frame: u32, rows: &Rows) -> Option<RasterFault>
     ensures { result ≡ bad_row (active mode.now.across) frame 0 (active mode.now.down) rows.now }
 {
     let width = 3 * active(&mode.across) as usize;
     let height = active(&mode.down);
     let mut row: u32 = 0;
-    for bytes in rows {
-        if row == height || bytes.as_slice().len() != width {
+    for i in 0..rows.len() {
+        if row == height || rows.get(i).len() != width {
             return Some(RasterFault::Row { frame, row });
         }
         row += 1;

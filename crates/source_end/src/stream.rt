@@ -67,9 +67,6 @@ impl Stream {
         ensures part { OnErr result ((columns rest : List Column) × (C.taken out.new ≡ C.taken out.old ++ columns) × Spells self.now (columns ++ rest)) }
         ensures cause { HasCause (C.refusals out.old) (C.refusals out.new) result }
     {
-        for item in &self.list {
-            spell::item(item, out)?;
-        }
-        Ok(())
+        spell::items(self.list.as_slice(), out)
     }
 }

@@ -1,7 +1,7 @@
 //! Rasters and refusals of small contents and of two formats, compared with values that were computed
 //! apart from this crate.
 use super::Columns;
-use crate::{Content, Mode, RasterFault, Stream, generate, raster};
+use crate::{Content, Mode, RasterFault, Stream, generate, raster, spell_raster};
 use island_pack::Packet;
 use std::alloc::Global;
 use std::process::Abort;
@@ -448,6 +448,17 @@ fn sum(columns: &Columns) -> u32 {
     sum
 }
 
+/// How many columns a raster is given with, frame by frame, and a sum over their words; or the refusal.
+fn by_frames(alloc: Global, mode: &Mode, content: Content) -> Result<(u32, u32), RasterFault> {
+    let mut columns = Columns {
+        words: Vec::new(alloc),
+        refusals: 0,
+    };
+    spell_raster(alloc, mode, content, &mut columns)?;
+    let count = u32::try_from(columns.words.len()).unwrap_or(u32::MAX);
+    Ok((count, sum(&columns)))
+}
+
 #[test]
 fn rows(rt: HostRuntime) -> Result<(), Fail> {
     for (at, row) in ROWS.iter().enumerate() {
@@ -462,6 +473,8 @@ fn rows(rt: HostRuntime) -> Result<(), Fail> {
             Err(fault) => Err(fault),
         };
         assert_eq!(rt; found, row.want, "row {at}");
+        let found = by_frames(rt.alloc(), &mode, content);
+        assert_eq!(rt; found, row.want, "row {at}, frame by frame");
     }
     Ok(())
 }

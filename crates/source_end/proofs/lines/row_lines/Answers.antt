@@ -9,34 +9,35 @@ use Rattle.source_end.proofs.RasterSizes.{size_rows}
 use Rattle.source_end.proofs.RasterWriting.{Step, step, one_row, one_time, rows_take, row_at, none_laid, none_left}
 use Rattle.source_end.proofs.lines.row_lines.Goals as goal
 
-pub loop-row-init : goal.loop-row-init
-loop-row-init c = record {
+pub loop-i-init : goal.loop-i-init
+loop-i-init c = record {
   rest = sym (none_left c.args.mode.now c.args.packets.now);
   parts = λ parts h few. subst (λ (qs : List Part). Has c.args.out.now (parts ++ qs)) (sym (none_laid c.args.mode.now c.args.packets.now)) (subst (λ (qs : List Part). Has c.args.out.now qs) (sym (append-nil parts)) h);
 }
 
 pub row_line-requires-clause-width : goal.row_line-requires-clause-width
 row_line-requires-clause-width c =
-    ap length (c.as_slice.ensures ∙ c.row-item.is) ∙ row_at (active c.args.mode.now.across) c.loop-row.row-index c.args.rows.now c.row-item.result c.requires.rows c.loop-row-test.true
+    let lt : c.loop-i.i < length c.args.rows.now = omega (arith, c.loop-i-test.true, c.len-i-end.ensures) in
+    ap length (c.get.ensures []) ∙ row_at (active c.args.mode.now.across) c.loop-i.i c.args.rows.now [] c.requires.rows lt
 
-pub loop-row-preserved : goal.loop-row-preserved
-loop-row-preserved c =
+pub loop-i-preserved : goal.loop-i-preserved
+loop-i-preserved c =
     let mode = c.args.mode.now in
     let ps = c.args.packets.now in
     let rows = c.args.rows.now in
-    let i = c.loop-row.row-index in
+    let i = c.loop-i.i in
+    let lt : i < length rows = omega (arith, c.loop-i-test.true, c.len-i-end.ensures) in
     let t = total mode.across in
-    let d = c.row-item.result in
-    let row = c.as_slice.result.now in
+    let row = c.get.result.now in
     let lines = map row_line (take i rows) in
     let front = c.split_at.result.0.now in
     let back = c.split_at.result.1.now in
-    let rest = c.loop-row.rest.now in
+    let rest = c.loop-i.rest.now in
     let count : c.min.result ≡ min (length rest) (row_room mode) = c.min.ensures ∙ ap (min (length rest)) c.row_room.ensures.value in
-    let more : Step mode lines (row_line row) ps front back = step mode lines (row_line row) ps rest front back c.min.result c.loop-row.invariant.rest count c.split_at.ensures.front c.split_at.ensures.back in
-    let is : row ≡ get_or rows i d = c.as_slice.ensures ∙ c.row-item.is in
+    let more : Step mode lines (row_line row) ps front back = step mode lines (row_line row) ps rest front back c.min.result c.loop-i.invariant.rest count c.split_at.ensures.front c.split_at.ensures.back in
+    let is = c.get.ensures [] in
     let next : lines ++ row_line row ∷ [] ≡ map row_line (take (i + 1) rows) =
-    ap (λ (r : List ℕ). lines ++ row_line r ∷ []) is ∙ sym (one_row (take i rows) (get_or rows i d)) ∙ sym (ap (map row_line) (take_more rows i d c.loop-row-test.true)) in
+    ap (λ (r : List ℕ). lines ++ row_line r ∷ []) is ∙ sym (one_row (take i rows) (get_or rows i [])) ∙ sym (ap (map row_line) (take_more rows i [] lt)) in
     record {
       rest = more.rest ∙ ap (λ (ls : List Line). left mode ls ps) next;
       parts = λ parts h few.
@@ -45,10 +46,10 @@ loop-row-preserved c =
           let sum = one_time i t in
           let few1 : size parts + i * t < 2 ^ 32 = omega (arith, few, sum) in
           let s = size_append parts now in
-          let long : length (take i rows) ≡ i = omega (arith, length-take i rows, c.loop-row-test.true) in
+          let long : length (take i rows) ≡ i = omega (arith, length-take i rows, lt) in
           let k = size_rows mode (is_mode mode c.requires.mode) (take i rows) (rows_take (active mode.across) i rows c.requires.rows) ps ∙ ap (λ (n : ℕ). n * t) long in
           let few2 : size (parts ++ now) + t < 2 ^ 32 = omega (arith, few, sum, s, k) in
           subst (λ (qs : List Part). Has c.row_line.new.out qs)
           (append_assoc parts now here ∙ ap (λ (qs : List Part). parts ++ qs) (more.parts ∙ ap (λ (ls : List Line). laid mode ls ps) next))
-          (c.in_ok-row_line.ensures (parts ++ now) (c.loop-row.invariant.parts parts h few1) few2);
+          (c.in_ok-row_line.ensures (parts ++ now) (c.loop-i.invariant.parts parts h few1) few2);
     }
