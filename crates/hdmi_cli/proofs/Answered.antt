@@ -207,41 +207,41 @@ content_refused words fault before after text read kept = record {
 
 -- the raster of a content, or its fault
 
-is_failed : Result (List Period) RasterFault → Type 0
+is_failed : {T : Type 0} → Result T RasterFault → Type 0
 is_failed (Ok x) = ⊥
 is_failed (Err x) = Unit {0}
 
-failed_alone : (x : RasterFault) (y : List Period) → Err x ≡ Ok y → ⊥
+failed_alone : {T : Type 0} (x : RasterFault) (y : T) → Err x ≡ Ok y → ⊥
 unfolding is_failed
 failed_alone x y e = subst is_failed e tt
 
-fault_or : RasterFault → Result (List Period) RasterFault → RasterFault
+fault_or : {T : Type 0} → RasterFault → Result T RasterFault → RasterFault
 fault_or d (Ok x) = d
 fault_or d (Err x) = x
 
-abbrev no_raster : RasterFault → Result (List Period) RasterFault
+abbrev no_raster : {T : Type 0} → RasterFault → Result T RasterFault
 no_raster fault = Err fault
 
-same_fault : (x y : RasterFault) → no_raster x ≡ no_raster y → x ≡ y
+same_fault : {T : Type 0} (x y : RasterFault) → no_raster {T = T} x ≡ no_raster y → x ≡ y
 unfolding fault_or
 same_fault x y e = ap (fault_or x) e
 
-raster_told : (o : Option RasterFault) (r : Result (List Period) RasterFault) (ps : List Period) → AnswersRasterFault o r → r ≡ Ok ps → o ≡ None
-raster_told None r ps answers is = refl
-raster_told (Some fault) r ps answers is = absurd (failed_alone fault ps (sym answers ∙ is))
+raster_told : {T : Type 0} (o : Option RasterFault) (r : Result T RasterFault) (done : T) → AnswersRasterFault o r → r ≡ Ok done → o ≡ None
+raster_told None r done answers is = refl
+raster_told (Some fault) r done answers is = absurd (failed_alone fault done (sym answers ∙ is))
 
-fault_told : (o : Option RasterFault) (r : Result (List Period) RasterFault) (fault : RasterFault) → AnswersRasterFault o r → r ≡ Err fault → (fault ≡ NoRaster → ⊥) → o ≡ Some fault
-fault_told None (Ok ps) fault answers is other = absurd (failed_alone fault ps (sym is))
+fault_told : {T : Type 0} (o : Option RasterFault) (r : Result T RasterFault) (fault : RasterFault) → AnswersRasterFault o r → r ≡ Err fault → (fault ≡ NoRaster → ⊥) → o ≡ Some fault
+fault_told None (Ok done) fault answers is other = absurd (failed_alone fault done (sym is))
 fault_told None (Err f) fault answers is other = absurd (other (sym (same_fault f fault is) ∙ answers))
 fault_told (Some f) r fault answers is other = ap Some (same_fault f fault (sym answers ∙ is))
 
-pub makes_content : (words : TapWords) (mode : Mode) (frames : List Frame) (r : Result (List Period) RasterFault) (ps : List Period) (text : List ℕ) (o : Outcome) → content_reads_as text ≡ accepts (mode, frames)
-    → AnswersRasterFault (raster_fault mode frames) r → r ≡ Ok ps → ps ≡ raster_of mode frames → MakesStream Spells (tap_asked words) ps o → Does (MakeContent words) text o
-makes_content words mode frames r ps text o read answers ok is made =
+pub makes_content : {T : Type 0} (words : TapWords) (mode : Mode) (frames : List Frame) (r : Result T RasterFault) (done : T) (text : List ℕ) (o : Outcome) → content_reads_as text ≡ accepts (mode, frames)
+    → AnswersRasterFault (raster_fault mode frames) r → r ≡ Ok done → MakesStream Spells (tap_asked words) (raster_of mode frames) o → Does (MakeContent words) text o
+makes_content words mode frames r done text o read answers ok made =
     subst (λ x. MakesContent (tap_asked words) x o) (sym read)
-    (subst (λ f. MakesRaster (tap_asked words) mode frames f o) (sym (raster_told (raster_fault mode frames) r ps answers ok)) (subst (λ x. MakesStream Spells (tap_asked words) x o) is made))
+    (subst (λ f. MakesRaster (tap_asked words) mode frames f o) (sym (raster_told (raster_fault mode frames) r done answers ok)) made)
 
-pub made_fault : (text : List ℕ) (mode : Mode) (frames : List Frame) (r : Result (List Period) RasterFault) (fault : RasterFault) → content_reads_as text ≡ accepts (mode, frames)
+pub made_fault : {T : Type 0} (text : List ℕ) (mode : Mode) (frames : List Frame) (r : Result T RasterFault) (fault : RasterFault) → content_reads_as text ≡ accepts (mode, frames)
     → AnswersRasterFault (raster_fault mode frames) r → r ≡ Err fault → (fault ≡ NoRaster → ⊥) → HasNoRaster text fault
 made_fault text mode frames r fault read answers err other = record { mode = mode; frames = frames; read = read; fault_is = fault_told (raster_fault mode frames) r fault answers err other }
 

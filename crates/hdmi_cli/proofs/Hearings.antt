@@ -1,5 +1,5 @@
 -- How a capture is heard block by block.
-use Rattle.std.proofs.Common.{arith, ◌≡◌, ◌≤◌, ◌+◌, ◌⊎◌, ◌<◌, ◌++◌, ◌∷◌, [], ℕ, List, Bool, max, sym, subst, refl, ap, ◌∙◌, inl, inr, length, take, append-nil, append_assoc, length-append, Option, Some}
+use Rattle.std.proofs.Common.{arith, ◌≡◌, ◌≤◌, ◌+◌, ◌⊎◌, ◌<◌, ◌++◌, ◌∷◌, [], ℕ, List, Bool, sym, subst, refl, ap, ◌∙◌, inl, inr, length, take, append-nil, append_assoc, length-append, Option, Some}
 use Rattle.std.specs.Prelude.{slice_index}
 use Rattle.std.specs.Io.KnownBytes.{Consumes, IsAtEnd}
 use Rattle.std.proofs.KnownBytes.{Consumes-trans}
@@ -15,13 +15,13 @@ use Rattle.link_sink.specs.Ears.{StopsIn as StopsAtThing, IsHeardSoFar, IsBroken
 use Rattle.link_sink.specs.Pieces.{no_bits}
 use Rattle.link_sink.specs.Grammar.{Grammar}
 use Rattle.link_sink.specs.Sinks.{Fed, grown, IsGainBy, IsLastBy, IsToldBy}
-use Rattle.link_sink.specs.Streams.{LaneSinkSeen, StandsBy, bits_of, most_bits}
+use Rattle.link_sink.specs.Streams.{LaneSinkSeen, StandsBy}
 use Rattle.link_sink.specs.declared.hear.Outcome.{Outcome as Hearing}
 use Rattle.link_sink.proofs.Following.{none_at_first}
 use Rattle.outside_io.specs.Causes.{Rose}
 use Rattle.link_sink.specs.Alignment.{AreToldBy}
 use Rattle.hdmi_cli.specs.Blocks.{AreBefore, AreRead, AreNext}
-use Rattle.hdmi_cli.specs.Hearings.{AreFed, IsHeardSome, HasHeard, HasHeardAll, IsUntaken, StopsShort, IsCausedBy, refused_as}
+use Rattle.hdmi_cli.specs.Hearings.{IsHeardSome, HasHeard, HasHeardAll, IsUntaken, StopsShort, IsCausedBy, refused_as}
 use Rattle.hdmi_cli.specs.declared.hearing.HearError.{HearError}
 use Rattle.hdmi_cli.specs.declared.hearing.HearError.TheVariants.{Bad, Read, Ear}
 
@@ -182,14 +182,6 @@ some_heard g took broke from left old new Read short other = (short.fed, short.h
 some_heard g took broke from left old new Ear short other = absurd (other refl)
 
 -- a sink that was fed nothing was fed no block
-zero_max : (a b c : ℕ) → max a (max b c) ≡ 0 → (a ≡ 0) × (b ≡ 0) × (c ≡ 0)
-zero_max a b c e = (grind (arith, e), grind (arith, e), grind (arith, e))
-
-pub fed_none : {H : Type 0} (sink : LaneSinkSeen H) (version : ℕ) (counts : List ℕ) (j : ℕ) (head : List ℕ) → most_bits sink ≡ 0 → Stands version counts j head [] [] [] → AreFed sink counts j
-fed_none sink version counts j head none h =
-    let z = zero_max (bits_of sink 0) (bits_of sink 1) (bits_of sink 2) none in
-    record { first = z.0 ∙ h.count_x; second = z.1 ∙ h.count_y; third = z.2 ∙ h.count_z }
-
 left_none : (left : Option (List ℕ)) (rest : List ℕ) → left ≡ Some rest → IsAtEnd left → rest ≡ []
 left_none left rest is ended = subst IsAtEnd is ended
 

@@ -152,9 +152,6 @@ refused_sent fault first now before after fresh kept bad = (
 
 -- too much was told: some things, and with one more too many columns
 
-some_trouble : (now : RelayValue) (e : Option RelayFault) → now.trouble ≡ e → relay_ending now.trouble ≡ relay_ending e
-some_trouble now e is = ap relay_ending is
-
 passes : (first between now : RelayValue) (things taken rest : List Thing) (next : Thing) → StandsFor first [] → Took first between taken → IsTooLong between next → things ≡ taken ++ next ∷ rest
     → 20000000 < columns_of (relayed things)
 passes first between now things taken rest next fresh took long is =

@@ -1,5 +1,5 @@
 -- How a capture is followed block by block whose lanes may lose bits.
-use Rattle.std.proofs.Common.{arith, ◌≡◌, ◌≤◌, ◌+◌, ◌⊎◌, ◌<◌, ◌++◌, ◌∷◌, [], ℕ, List, Bool, max, sym, subst, refl, ap, ◌∙◌, inl, inr, length, append-nil, append_assoc, Option, Some}
+use Rattle.std.proofs.Common.{◌≡◌, ◌≤◌, ◌+◌, ◌⊎◌, ◌<◌, ◌++◌, ◌∷◌, [], ℕ, List, Bool, sym, subst, refl, ap, ◌∙◌, inl, inr, length, append-nil, append_assoc, Option, Some}
 use Rattle.std.specs.Io.KnownBytes.{Consumes, IsAtEnd}
 use Rattle.std.proofs.KnownBytes.{Consumes-trans}
 use Rattle.capture_file.specs.Captures.{Stands, StopsIn, SaysOf, SaysRead, IsFault, IsEarlyFault, IsHeadless, IsCaptureOf, place_of, block_size}
@@ -12,9 +12,9 @@ use Rattle.track_sink.specs.Epochs.{IsTrack}
 use Rattle.track_sink.specs.Events.{Event}
 use Rattle.track_sink.specs.Tracks.{HasTracked}
 use Rattle.track_sink.specs.Trackers.{Stops}
-use Rattle.track_sink.specs.TrackSinks.{TrackSinkSeen, StandsFor, bits_of, most_bits}
+use Rattle.track_sink.specs.TrackSinks.{TrackSinkSeen, StandsFor}
 use Rattle.hdmi_cli.specs.Hearings.{IsCausedBy, refused_as}
-use Rattle.hdmi_cli.specs.Tracking.{AreFollowed, HasFollowed, HasFollowedAll, IsTrackedSoFar, IsUntakenOn, StopsOn}
+use Rattle.hdmi_cli.specs.Tracking.{HasFollowed, HasFollowedAll, IsTrackedSoFar, IsUntakenOn, StopsOn}
 use Rattle.hdmi_cli.specs.declared.hearing.HearError.{HearError}
 use Rattle.hdmi_cli.specs.declared.hearing.HearError.TheVariants.{Bad, Read, Ear}
 use Rattle.hdmi_cli.proofs.Heard.{rose_after}
@@ -149,14 +149,6 @@ headless_on tracked lost from left sink now Unread none sunk says part =
     record { fed = no_bits; read = part.0; consumed = part.2; are_read = inl (part.1, refl); heard = record { events = []; told = sunk.tracked; heard = none } }
 
 -- a sink that was fed nothing was fed no block
-zero_max : (a b c : ℕ) → max a (max b c) ≡ 0 → (a ≡ 0) × (b ≡ 0) × (c ≡ 0)
-zero_max a b c e = (grind (arith, e), grind (arith, e), grind (arith, e))
-
-pub followed_none : (sink : TrackSinkSeen) (version : ℕ) (counts : List ℕ) (j : ℕ) (head : List ℕ) → most_bits sink ≡ 0 → Stands version counts j head [] [] [] → AreFollowed sink counts j
-followed_none sink version counts j head none h =
-    let z = zero_max (bits_of sink 0) (bits_of sink 1) (bits_of sink 2) none in
-    record { first = z.0 ∙ h.count_x; second = z.1 ∙ h.count_y; third = z.2 ∙ h.count_z }
-
 left_none : (left : Option (List ℕ)) (rest : List ℕ) → left ≡ Some rest → IsAtEnd left → rest ≡ []
 left_none left rest is ended = subst IsAtEnd is ended
 

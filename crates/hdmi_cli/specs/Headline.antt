@@ -97,8 +97,3 @@ pub record IsSentOn (t : TappedStream) (d e f a status : ℕ) (old new : Option 
   pub spelled : Spells (conformed (came t.periods t.sent t.received a (length (aligned_of t d e f)))) columns
   pub status_is : status ≡ relay_status (faultless (account t.periods t.sent t.received a (length (aligned_of t d e f))))
   pub written : Appends old new (tapped_capture columns whole_tap)
-
--- the same from the first full alignment on, which is at or before a column
-abbrev pub IsSentOnBy : TappedStream → ℕ → ℕ → Option (List ℕ) → Option (List ℕ) → Type 0
-IsSentOnBy t until status old new =
-    (d e f : ℕ) × IsFirstOf t d e f × ((a : ℕ) × (a + 12 ≤ until) × IsSentOn t d e f a status old new)

@@ -1,54 +1,18 @@
 //! Vabgrot: the sender and the receiver of one HDMI TMDS link.
 #![tactic(auto)]
 
-#[cfg(test)]
-mod cases_bad;
-#[cfg(test)]
-mod cases_biphase;
-#[cfg(test)]
-mod cases_content;
-#[cfg(test)]
-mod cases_damage;
-#[cfg(test)]
-mod cases_dense;
-#[cfg(test)]
-mod cases_dvi;
-#[cfg(test)]
-mod cases_guard;
-#[cfg(test)]
-mod cases_island;
-#[cfg(test)]
-mod cases_link;
-#[cfg(test)]
-mod cases_packet;
-#[cfg(test)]
-mod cases_relay;
-#[cfg(test)]
-mod cases_sparse;
-#[cfg(test)]
-mod cases_tap;
-#[cfg(test)]
-mod cases_track;
-#[cfg(test)]
-mod cases_version;
-#[cfg(test)]
-mod cases_wild;
-#[cfg(test)]
-mod device_tests;
+mod copying;
 mod ending;
-#[cfg(test)]
-mod gate_tests;
 mod hearing;
 mod hit;
 mod laws;
 mod lister;
+mod making;
 mod note;
-#[cfg(test)]
-mod recover_tests;
+mod rastering;
+mod recovering;
 mod run;
 mod sample;
-#[cfg(test)]
-mod sample_tests;
 mod sending;
 mod slice_source;
 #[cfg(test)]
@@ -56,8 +20,6 @@ mod tests;
 mod track;
 mod track_lister;
 mod tracking;
-#[cfg(test)]
-mod trial;
 mod words;
 
 use lane_team::Open;

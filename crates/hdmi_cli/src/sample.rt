@@ -11,22 +11,44 @@ ghost use Rattle.link_sink.specs.Pieces.{no_bits};
 ghost use Rattle.link_sink.specs.Streams.{StandsFor, most_bits};
 ghost use Rattle.sampling.specs.Sampled.{sample_mode, sample_tap, IsSampled};
 ghost use Rattle.source_end.specs.declared.refusal.RasterFault.{RasterFault};
-ghost use Rattle.hdmi_cli.specs.Samples.{IsMade, IsSent, IsTapped, IsStruck};
+ghost use Rattle.hdmi_cli.specs.Samples.{IsMade, IsSent, IsTapped, IsStruck, SampleEnds};
 
+use crate::ending::Ending;
 use crate::hearing::{HearError, hear_capture};
 use crate::slice_source::SliceSource;
 use capture_file::{DamageError, Hit, Lanes, Tap, damage, write_capture};
 use lane_team::Gate;
 use link_sink::{Ear, LinkSink, Outcome};
-use outside_io::{Failed, MemSink, NoMemory, SteadySink};
-use sampling::{Counts, Tally, hits_of};
+use outside_io::{Failed, MemSink, NoMemory, Sink, SteadySink};
+use sampling::{Counts, Tally, hits_of, write_counts};
 use source_end::{Mode, RasterFault, Stream, generate, raster};
 use std::alloc::Global;
 use std::thread::Threads;
 
+/// Writes the counts of a sample of so many frames.
+pub(crate) fn count_sample<R: Threads, K: Sink, G: Gate>(
+    rt: &R,
+    alloc: Global,
+    frames: u32,
+    output: &mut K,
+    gate: &G,
+) -> Ending
+    requires few { frames ≤ 20 }
+    ensures ends { SampleEnds frames result (K.held output.old) (K.held output.new) (K.faults output.old) (K.faults output.new) }
+    ensures later { K.faults output.old ≤ K.faults output.new }
+{
+    match sample(rt, alloc, frames, gate) {
+        Ok(counts) => match write_counts(&counts, output) {
+            Ok(()) => Ending::Done,
+            Err(Failed) => Ending::WriteFailed,
+        },
+        Err(NoMemory) => Ending::NoMemory,
+    }
+}
+
 /// Makes the generator's content into a capture, damages and recovers it, and counts what came. A worker of each lane
 /// passes the gate for each block.
-pub(crate) fn sample<R: Threads, G: Gate>(
+fn sample<R: Threads, G: Gate>(
     rt: &R,
     alloc: Global,
     frames: u32,

@@ -11,7 +11,7 @@ ghost use Rattle.command_line.specs.declared.command.Command.TheVariants.{Relay 
 
 use crate::ending::Ending;
 use crate::hearing::{HearError, hear_capture};
-use crate::run::write_stream;
+use crate::making::write_stream;
 use capture_file::Tap;
 use lane_team::Gate;
 use link_sink::LinkSink;

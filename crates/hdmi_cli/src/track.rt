@@ -7,7 +7,7 @@ ghost use Rattle.hdmi_cli.specs.Endings.{Ends, seen};
 ghost use Rattle.command_line.specs.declared.command.Command.TheVariants.{RecoverTrack};
 
 use crate::ending::Ending;
-use crate::run::{judged, unheard};
+use crate::recovering::{judged, unheard};
 use crate::track_lister::TrackLister;
 use crate::tracking::follow_capture;
 use listing::LinkLister;

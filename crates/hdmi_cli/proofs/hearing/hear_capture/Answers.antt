@@ -3,7 +3,7 @@ use Rattle.std.proofs.lemmas.Result.{err_from_is_err_and}
 use Rattle.outside_io.specs.Causes.{Rose}
 use Rattle.hdmi_cli.specs.Hearings.{StopsShort, IsCausedBy}
 use Rattle.hdmi_cli.specs.declared.hearing.HearError.{HearError}
-use Rattle.hdmi_cli.proofs.Consumed.{Takes, takes_more}
+use Rattle.outside_io.proofs.Consumed.{Takes, takes_more}
 use Rattle.hdmi_cli.proofs.Hearings.{Breaks, carried, headless, heard_head, heard_whole, unended, some_heard, bad_of, read_of, broken_of}
 use Rattle.hdmi_cli.proofs.hearing.hear_capture.Goals as goal
 

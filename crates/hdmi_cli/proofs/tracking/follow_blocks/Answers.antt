@@ -2,7 +2,7 @@ use Rattle.std.proofs.Common.{rules, ◌+◌, ◌∙◌, ℕ, List, sym, subst}
 use Rattle.std.proofs.lemmas.Result.{err_from_is_err_and}
 use Rattle.capture_file.specs.Captures.{CanSay}
 use Rattle.hdmi_cli.specs.Tracking.{AreFollowed}
-use Rattle.hdmi_cli.proofs.Consumed.{takes_more}
+use Rattle.outside_io.proofs.Consumed.{takes_more}
 use Rattle.hdmi_cli.proofs.Trackings.{follows_so}
 use Rattle.hdmi_cli.proofs.tracking.follow_blocks.Goals as goal
 

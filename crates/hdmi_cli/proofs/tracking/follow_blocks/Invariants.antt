@@ -1,7 +1,7 @@
 use Rattle.std.proofs.Common.{◌≡◌, ◌≤◌, ◌-◌, true, ℕ, List, Option}
 use Rattle.capture_file.specs.Captures.{CanSay}
 use Rattle.hdmi_cli.specs.Tracking.{AreFollowed, FollowedOn, HasFollowed}
-use Rattle.hdmi_cli.proofs.Consumed.{Takes}
+use Rattle.outside_io.proofs.Consumed.{Takes}
 use Rattle.hdmi_cli.proofs.tracking.follow_blocks.Given as goal
 
 abbrev pub invariant-loop : goal.invariant-loop

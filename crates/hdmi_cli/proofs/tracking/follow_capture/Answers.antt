@@ -3,7 +3,7 @@ use Rattle.std.proofs.lemmas.Result.{err_from_is_err_and}
 use Rattle.hdmi_cli.specs.Hearings.{IsCausedBy}
 use Rattle.hdmi_cli.specs.Tracking.{IsUntakenOn, StopsOn}
 use Rattle.hdmi_cli.specs.declared.hearing.HearError.{HearError}
-use Rattle.hdmi_cli.proofs.Consumed.{Takes, takes_more}
+use Rattle.outside_io.proofs.Consumed.{Takes, takes_more}
 use Rattle.hdmi_cli.proofs.Hearings.{carried}
 use Rattle.hdmi_cli.proofs.Trackings.{caused_later, followed_head, followed_whole, headless_on, unended_on}
 use Rattle.hdmi_cli.proofs.tracking.follow_capture.Goals as goal
