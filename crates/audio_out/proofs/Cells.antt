@@ -3,7 +3,7 @@ use Rattle.std.proofs.Common.{◌≡◌, ℕ, ◌*◌, Bool, true, false, ◌&&�
 use Rattle.std.specs.Prelude.{not}
 use Rattle.bch_block.specs.Bits.{xor}
 use Rattle.tmds_word.specs.Bits.{bits_of}
-use Rattle.audio_out.specs.Levels.{last_of, level_behind}
+use Rattle.audio_out.specs.Levels.{last_of, level_after}
 use Rattle.audio_out.specs.Subframes.{carries, cells_of}
 
 and_moved : (a b c d : Bool) → (a && (b && (c && d))) ≡ ((a && (b && c)) && d)
@@ -24,8 +24,8 @@ carries-append before (x ∷ xs) ys (u ∷ (w ∷ us)) vs len =
 
 -- four bits and eight half cells, and those behind them
 pub carries-four : (before : Bool) (n byte : ℕ) (ys vs : List Bool)
-    → carries before (bits_of 4 n ++ ys) (bits_of 8 byte ++ vs) ≡ (carries before (bits_of 4 n) (bits_of 8 byte) && carries (level_behind byte) ys vs)
-unfolding bits_of last_of level_behind
+    → carries before (bits_of 4 n ++ ys) (bits_of 8 byte ++ vs) ≡ (carries before (bits_of 4 n) (bits_of 8 byte) && carries (level_after byte) ys vs)
+unfolding bits_of last_of level_after
 carries-four before n byte ys vs = carries-append before (bits_of 4 n) ys (bits_of 8 byte) vs refl
 
 pub length-cells_of : (before : Bool) (bits : List Bool) → length (cells_of before bits) ≡ 2 * length bits

@@ -3,7 +3,7 @@ use Rattle.std.proofs.Common.{◌≡◌, ℕ, ◌+◌, ◌*◌, ◌/◌, ◌^◌
 use Rattle.tmds_word.specs.Bits.{bits_of}
 use Rattle.tmds_word.proofs.Below.{passes_below, passes_at}
 use Rattle.audio_packets.proofs.Pairs.{same, same_is}
-use Rattle.audio_out.specs.Levels.{last_of, level_behind}
+use Rattle.audio_out.specs.Levels.{last_of, level_after}
 use Rattle.audio_out.specs.Subframes.{carries}
 use Rattle.audio_out.specs.declared.tables.TheConstants.{CELLS}
 
@@ -12,13 +12,13 @@ digit true = 1
 digit false = 0
 
 unfoldable level_holds : ℕ → Bool
-level_holds byte = byte / 2 ^ 7 == digit (level_behind byte)
+level_holds byte = byte / 2 ^ 7 == digit (level_after byte)
 
 levels : passes_below 256 level_holds ≡ true
-unfolding passes_below level_holds level_behind last_of bits_of
+unfolding passes_below level_holds level_after last_of bits_of
 levels = refl
 
-pub level_is : (byte : ℕ) → byte < 256 → byte / 2 ^ 7 ≡ digit (level_behind byte)
+pub level_is : (byte : ℕ) → byte < 256 → byte / 2 ^ 7 ≡ digit (level_after byte)
 unfolding level_holds
 level_is byte lt = eqb-true _ _ (passes_at 256 level_holds byte levels lt)
 

@@ -7,7 +7,7 @@ use Rattle.std.proofs.Math.Pow.{mod-mod-pow}
 use Rattle.tmds_word.specs.Bits.{bits_of}
 use Rattle.tmds_word.proofs.Below.{passes_below, passes_at}
 use Rattle.audio_packets.proofs.Pairs.{same, same_is}
-use Rattle.audio_out.specs.Levels.{level_behind}
+use Rattle.audio_out.specs.Levels.{level_after}
 use Rattle.audio_out.specs.Subframes.{carries}
 use Rattle.audio_out.proofs.Entries.{digit, level_is}
 use Rattle.audio_out.proofs.ReadBack.{IsRead}
@@ -47,7 +47,7 @@ pub field_read : (before cells m : ℕ) → before < 256 → cells < 256 → m �
 field_read before cells m a b e n lt =
     let half : m / 2 ≡ cells = omega arith in
     let low : m % 2 ≡ before / 2 ^ 7 = omega arith in
-    let level : (m % 2 == 1) ≡ level_behind before = ap (λ k. k == 1) (low ∙ level_is before a) ∙ level_back (level_behind before) in
+    let level : (m % 2 == 1) ≡ level_after before = ap (λ k. k == 1) (low ∙ level_is before a) ∙ level_back (level_after before) in
     ap₂ (λ l c. carries l (bits_of 4 n) (bits_of 8 c)) (sym level) (sym half) ∙ field_carries m n (omega arith) lt
 
 -- where its bits are found, they are bordered

@@ -32,8 +32,8 @@ pub record AreFours (sub : Subframe) (fours : ℕ) : Type 0 where
   pub is7 : fours / 2 ^ (8 * 7) % 256 ≡ side_bits sub.value sub.flags
 
 pub fours_of : (sub : Subframe) (bytes : List ℕ) (n : ℕ) → length bytes ≡ 8 → ((k : ℕ) → get_or bytes k 0 < 256) → n ≡ joined bytes → IsSubframe sub bytes → AreFours sub (fours (turns_of n))
-fours_of sub bytes n told fits is h =
-    let list = eight bytes told in
+fours_of sub bytes n reported fits is h =
+    let list = eight bytes reported in
     let eight_bytes = each_byte bytes fits in
     let read = halves_read n _ _ _ _ _ _ _ _ eight_bytes (joined_of bytes n list is) in
     let b = bits_read sub _ _ _ _ _ _ _ _ _ _ _ _ _ _ _ read (subst (IsSubframe sub) list h) in

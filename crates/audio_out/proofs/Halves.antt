@@ -147,11 +147,11 @@ unfolding eight_from
 two_fours n q = omega (arith, lower_four n q, upper_four n q)
 
 -- behind the last half cell there is none
-none_behind : (m : ℕ) → m < 2 → four_in m ≡ 0
+none_after : (m : ℕ) → m < 2 → four_in m ≡ 0
 unfolding four_in turn_in
-none_behind zero lt = refl
-none_behind (suc zero) lt = refl
-none_behind (suc (suc m)) lt = absurd (omega arith)
+none_after zero lt = refl
+none_after (suc zero) lt = refl
+none_after (suc (suc m)) lt = absurd (omega arith)
 
 four_below : (m : ℕ) → four_in m < 16
 unfolding four_in turn_in
@@ -207,7 +207,7 @@ four_are n value side low middle high lt all is0 is1 is2 is3 is =
     let t1 = is1 ∙ two_fours n 1 in
     let t2 = is2 ∙ two_fours n 2 in
     let t3 = is3 ∙ two_fours n 3 in
-    let none = none_behind (field n 63) (omega (arith, lt)) in
+    let none = none_after (field n 63) (omega (arith, lt)) in
     record {
       l0 = omega (arith, f0, b0);
       l1 = omega (arith, f1, b1);

@@ -3,7 +3,7 @@ use Rattle.std.proofs.Common.{◌≡◌, ℕ, ◌+◌, ◌*◌, ◌/◌, ◌%◌
 use Rattle.tmds_word.specs.Bits.{bits_of, bytes_bits}
 use Rattle.tmds_word.proofs.Lists.{bits_of-add, bits_of-low}
 use Rattle.audio_packets.specs.Samples.{side_bits}
-use Rattle.audio_out.specs.Levels.{last_of, level_behind}
+use Rattle.audio_out.specs.Levels.{last_of, level_after}
 use Rattle.audio_out.specs.Subframes.{IsSound, IsSubframe, preamble, slots, carries}
 use Rattle.audio_out.specs.declared.subframe.Mark.{Mark}
 use Rattle.audio_out.specs.declared.subframe.Mark.TheVariants.{B, M, W}
@@ -56,12 +56,12 @@ slots_are sub =
 unfoldable pub seven : (level : Bool) (n0 n1 n2 n3 n4 n5 n6 a b c d e f g : ℕ) → Bool
 seven level n0 n1 n2 n3 n4 n5 n6 a b c d e f g =
     carries level (bits_of 4 n0) (bits_of 8 a)
-    && (carries (level_behind a) (bits_of 4 n1) (bits_of 8 b)
-    && (carries (level_behind b) (bits_of 4 n2) (bits_of 8 c)
-    && (carries (level_behind c) (bits_of 4 n3) (bits_of 8 d)
-    && (carries (level_behind d) (bits_of 4 n4) (bits_of 8 e)
-    && (carries (level_behind e) (bits_of 4 n5) (bits_of 8 f)
-    && carries (level_behind f) (bits_of 4 n6) (bits_of 8 g))))))
+    && (carries (level_after a) (bits_of 4 n1) (bits_of 8 b)
+    && (carries (level_after b) (bits_of 4 n2) (bits_of 8 c)
+    && (carries (level_after c) (bits_of 4 n3) (bits_of 8 d)
+    && (carries (level_after d) (bits_of 4 n4) (bits_of 8 e)
+    && (carries (level_after e) (bits_of 4 n5) (bits_of 8 f)
+    && carries (level_after f) (bits_of 4 n6) (bits_of 8 g))))))
 
 seven_carry : (level : Bool) (n0 n1 n2 n3 n4 n5 n6 a b c d e f g : ℕ)
     → carries level (bits_of 4 n0 ++ (bits_of 4 n1 ++ (bits_of 4 n2 ++ (bits_of 4 n3 ++ (bits_of 4 n4 ++ (bits_of 4 n5 ++ bits_of 4 n6))))))
@@ -69,12 +69,12 @@ seven_carry : (level : Bool) (n0 n1 n2 n3 n4 n5 n6 a b c d e f g : ℕ)
     ≡ seven level n0 n1 n2 n3 n4 n5 n6 a b c d e f g
 unfolding seven
 seven_carry level n0 n1 n2 n3 n4 n5 n6 a b c d e f g =
-    let at6 = ap (carries (level_behind f) (bits_of 4 n6)) (append-nil (bits_of 8 g)) in
-    let at5 = carries-four (level_behind e) n5 f _ _ ∙ ap (λ r. carries (level_behind e) (bits_of 4 n5) (bits_of 8 f) && r) at6 in
-    let at4 = carries-four (level_behind d) n4 e _ _ ∙ ap (λ r. carries (level_behind d) (bits_of 4 n4) (bits_of 8 e) && r) at5 in
-    let at3 = carries-four (level_behind c) n3 d _ _ ∙ ap (λ r. carries (level_behind c) (bits_of 4 n3) (bits_of 8 d) && r) at4 in
-    let at2 = carries-four (level_behind b) n2 c _ _ ∙ ap (λ r. carries (level_behind b) (bits_of 4 n2) (bits_of 8 c) && r) at3 in
-    let at1 = carries-four (level_behind a) n1 b _ _ ∙ ap (λ r. carries (level_behind a) (bits_of 4 n1) (bits_of 8 b) && r) at2 in
+    let at6 = ap (carries (level_after f) (bits_of 4 n6)) (append-nil (bits_of 8 g)) in
+    let at5 = carries-four (level_after e) n5 f _ _ ∙ ap (λ r. carries (level_after e) (bits_of 4 n5) (bits_of 8 f) && r) at6 in
+    let at4 = carries-four (level_after d) n4 e _ _ ∙ ap (λ r. carries (level_after d) (bits_of 4 n4) (bits_of 8 e) && r) at5 in
+    let at3 = carries-four (level_after c) n3 d _ _ ∙ ap (λ r. carries (level_after c) (bits_of 4 n3) (bits_of 8 d) && r) at4 in
+    let at2 = carries-four (level_after b) n2 c _ _ ∙ ap (λ r. carries (level_after b) (bits_of 4 n2) (bits_of 8 c) && r) at3 in
+    let at1 = carries-four (level_after a) n1 b _ _ ∙ ap (λ r. carries (level_after a) (bits_of 4 n1) (bits_of 8 b) && r) at2 in
     carries-four level n0 a _ _ ∙ ap (λ r. carries level (bits_of 4 n0) (bits_of 8 a) && r) at1
 
 -- the seven bytes of a subframe, behind a level
@@ -83,10 +83,10 @@ sub_seven level sub a b c d e f g =
     let v = sub.value in
     seven level (v % 16) (v / 16 % 16) (v / 256 % 16) (v / 4096 % 16) (v / 65536 % 16) (v / 1048576 % 16) (side_bits v sub.flags) a b c d e f g
 
-behind_first : (p a b c d e f g : ℕ) → drop 8 (bytes_bits (p ∷ a ∷ b ∷ c ∷ d ∷ e ∷ f ∷ g ∷ []))
+after_first : (p a b c d e f g : ℕ) → drop 8 (bytes_bits (p ∷ a ∷ b ∷ c ∷ d ∷ e ∷ f ∷ g ∷ []))
     ≡ bits_of 8 a ++ (bits_of 8 b ++ (bits_of 8 c ++ (bits_of 8 d ++ (bits_of 8 e ++ (bits_of 8 f ++ (bits_of 8 g ++ []))))))
 unfolding bytes_bits bits_of
-behind_first p a b c d e f g = refl
+after_first p a b c d e f g = refl
 
 pub first_eight : (p : ℕ) (bytes : List ℕ) → take 8 (bytes_bits (p ∷ bytes)) ≡ bits_of 8 p
 unfolding bytes_bits bits_of
@@ -95,7 +95,7 @@ first_eight p bytes = refl
 carried_seven : (sub : Subframe) (p a b c d e f g : ℕ)
     → carries false (slots sub) (drop 8 (bytes_bits (p ∷ a ∷ b ∷ c ∷ d ∷ e ∷ f ∷ g ∷ []))) ≡ sub_seven false sub a b c d e f g
 carried_seven sub p a b c d e f g =
-    ap₂ (carries false) (slots_are sub) (behind_first p a b c d e f g) ∙ seven_carry false _ _ _ _ _ _ _ a b c d e f g
+    ap₂ (carries false) (slots_are sub) (after_first p a b c d e f g) ∙ seven_carry false _ _ _ _ _ _ _ a b c d e f g
 
 preamble_level : (mark : Mark) → last_of false (preamble mark) ≡ false
 unfolding last_of preamble
@@ -104,12 +104,12 @@ preamble_level M = refl
 preamble_level W = refl
 
 -- a preamble ends with level 0
-pub level_marked : (p : ℕ) (mark : Mark) → bits_of 8 p ≡ preamble mark → level_behind p ≡ false
-unfolding level_behind
+pub level_marked : (p : ℕ) (mark : Mark) → bits_of 8 p ≡ preamble mark → level_after p ≡ false
+unfolding level_after
 level_marked p mark h = ap (last_of false) h ∙ preamble_level mark
 
 -- eight bytes that are a subframe
-pub is_joined : (sub : Subframe) (p a b c d e f g : ℕ) → IsSound sub → bits_of 8 p ≡ preamble sub.mark → sub_seven (level_behind p) sub a b c d e f g ≡ true
+pub is_joined : (sub : Subframe) (p a b c d e f g : ℕ) → IsSound sub → bits_of 8 p ≡ preamble sub.mark → sub_seven (level_after p) sub a b c d e f g ≡ true
     → IsSubframe sub (p ∷ a ∷ b ∷ c ∷ d ∷ e ∷ f ∷ g ∷ [])
 is_joined sub p a b c d e f g sound marked h = record {
   sound = sound;
@@ -120,7 +120,7 @@ is_joined sub p a b c d e f g sound marked h = record {
 pub marked_first : (sub : Subframe) (p : ℕ) (bytes : List ℕ) → IsSubframe sub (p ∷ bytes) → bits_of 8 p ≡ preamble sub.mark
 marked_first sub p bytes h = sym (first_eight p bytes) ∙ h.marked
 
-pub joined_is : (sub : Subframe) (p a b c d e f g : ℕ) → IsSubframe sub (p ∷ a ∷ b ∷ c ∷ d ∷ e ∷ f ∷ g ∷ []) → sub_seven (level_behind p) sub a b c d e f g ≡ true
+pub joined_is : (sub : Subframe) (p a b c d e f g : ℕ) → IsSubframe sub (p ∷ a ∷ b ∷ c ∷ d ∷ e ∷ f ∷ g ∷ []) → sub_seven (level_after p) sub a b c d e f g ≡ true
 joined_is sub p a b c d e f g h =
     ap (λ level. sub_seven level sub a b c d e f g) (level_marked p sub.mark (marked_first sub p _ h))
     ∙ sym (carried_seven sub p a b c d e f g) ∙ h.carried

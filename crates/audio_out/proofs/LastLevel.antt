@@ -134,8 +134,8 @@ ends_are n lt =
     let none : bit_and high 0 ≡ high % 2 ^ 0 = and_mask high 0 in
     let last : high % 2 ≡ (bit_at n 63 + bit_at (n / 2 ^ 1) 63) % 2 = bit_at_xor n (n / 2 ^ 1) 63 in
     let here : bit_at n 63 ≡ n / 2 ^ 63 = omega arith in
-    let behind : bit_at (n / 2 ^ 1) 63 ≡ 0 = omega arith in
-    omega (arith, all, below, one, none, last, here, behind)
+    let after : bit_at (n / 2 ^ 1) 63 ≡ 0 = omega arith in
+    omega (arith, all, below, one, none, last, here, after)
 
 pub ends_apart : (n : ℕ) → n < 2 ^ 64 → bit_and (turns_of n) ENDS ≡ BORDERS → (bit_and (turns_of n) BORDERS ≡ BORDERS) × (n / 2 ^ 63 ≡ 0)
 ends_apart n lt is =

@@ -3,7 +3,7 @@ use Rattle.std.proofs.Common.{◌≡◌, ℕ, ◌+◌, ◌*◌, ◌/◌, ◌%◌
 use Rattle.tmds_word.specs.Bits.{bits_of}
 use Rattle.tmds_word.proofs.Below.{and-left, and-right}
 use Rattle.audio_packets.specs.Samples.{side_bits}
-use Rattle.audio_out.specs.Levels.{level_behind}
+use Rattle.audio_out.specs.Levels.{level_after}
 use Rattle.audio_out.specs.Subframes.{IsSound, IsSubframe, preamble, carries}
 use Rattle.audio_out.specs.declared.subframe.Mark.{Mark}
 use Rattle.audio_out.specs.declared.subframe.Subframe.{Subframe}
@@ -11,7 +11,7 @@ use Rattle.audio_out.proofs.Joined.{seven, is_joined, joined_is}
 
 -- four bits are read of a byte of half cells behind another
 abbrev pub IsRead : ℕ → ℕ → ℕ → Type 0
-IsRead before cells found = (n : ℕ) → n < 16 → carries (level_behind before) (bits_of 4 n) (bits_of 8 cells) ≡ (found == n)
+IsRead before cells found = (n : ℕ) → n < 16 → carries (level_after before) (bits_of 4 n) (bits_of 8 cells) ≡ (found == n)
 
 pub record AreRead (p a b c d e f g n0 n1 n2 n3 n4 n5 n6 : ℕ) : Type 0 where
   pub r0 : IsRead p a n0
@@ -34,7 +34,7 @@ pub record AreBits (sub : Subframe) (n0 n1 n2 n3 n4 n5 n6 : ℕ) : Type 0 where
 pub side_below : (value flags : ℕ) → flags < 8 → side_bits value flags < 16
 side_below value flags lt = omega arith
 
-found_is : (before cells found n : ℕ) → IsRead before cells found → n < 16 → carries (level_behind before) (bits_of 4 n) (bits_of 8 cells) ≡ true → found ≡ n
+found_is : (before cells found n : ℕ) → IsRead before cells found → n < 16 → carries (level_after before) (bits_of 4 n) (bits_of 8 cells) ≡ true → found ≡ n
 found_is before cells found n read lt h = eqb-true _ _ (sym (read n lt) ∙ h)
 
 -- the bits of a subframe are read
@@ -59,7 +59,7 @@ bits_read sub p a b c d e f g n0 n1 n2 n3 n4 n5 n6 r h =
       b6 = found_is f g n6 _ r.r6 (side_below sub.value sub.flags h.sound.flags) t6;
     }
 
-carried_found : (before cells found n : ℕ) → IsRead before cells found → n < 16 → found ≡ n → carries (level_behind before) (bits_of 4 n) (bits_of 8 cells) ≡ true
+carried_found : (before cells found n : ℕ) → IsRead before cells found → n < 16 → found ≡ n → carries (level_after before) (bits_of 4 n) (bits_of 8 cells) ≡ true
 carried_found before cells found n read lt e = read n lt ∙ eq-eqb found n e
 
 pub both : (x y : Bool) → x ≡ true → y ≡ true → (x && y) ≡ true

@@ -49,11 +49,11 @@ marked_front B xs = refl
 marked_front M xs = refl
 marked_front W xs = refl
 
-behind_mark : (mark : Mark) (xs : List Bool) → drop 8 (preamble mark ++ xs) ≡ xs
+after_mark : (mark : Mark) (xs : List Bool) → drop 8 (preamble mark ++ xs) ≡ xs
 unfolding preamble
-behind_mark B xs = refl
-behind_mark M xs = refl
-behind_mark W xs = refl
+after_mark B xs = refl
+after_mark M xs = refl
+after_mark W xs = refl
 
 pub spelled_is : (sub : Subframe) → IsSound sub → IsSubframe sub (subframe_bytes sub)
 spelled_is sub sound = record {
@@ -61,7 +61,7 @@ spelled_is sub sound = record {
   marked = ap (take 8) (spelled_cells sub) ∙ marked_front sub.mark _;
   carried =
       ap (λ cells. carries false (slots sub) (drop 8 cells)) (spelled_cells sub)
-      ∙ ap (carries false (slots sub)) (behind_mark sub.mark (cells_of false (slots sub)))
+      ∙ ap (carries false (slots sub)) (after_mark sub.mark (cells_of false (slots sub)))
       ∙ cells_carry false (slots sub);
 }
 
@@ -99,9 +99,9 @@ pub cells_are : (sub : Subframe) (bytes : List ℕ) → IsSubframe sub bytes →
 cells_are sub bytes h =
     sym (take-append-drop 8 (bytes_bits bytes)) ∙ ap₂ (λ xs ys. xs ++ ys) h.marked (carries_one false (slots sub) (drop 8 (bytes_bits bytes)) h.carried)
 
-behind_byte : (a : ℕ) (x : List ℕ) → drop 8 (bytes_bits (a ∷ x)) ≡ bytes_bits x
+after_byte : (a : ℕ) (x : List ℕ) → drop 8 (bytes_bits (a ∷ x)) ≡ bytes_bits x
 unfolding bytes_bits bits_of
-behind_byte a x = refl
+after_byte a x = refl
 
 byte_same : (a b : ℕ) → a < 256 → b < 256 → bits_of 8 a ≡ bits_of 8 b → a ≡ b
 byte_same a b lt less h =
@@ -115,7 +115,7 @@ bytes_same [] (b ∷ y) p q h = absurd (omega (arith, ap length h, length-bytes_
 bytes_same (a ∷ x) [] p q h = absurd (omega (arith, ap length h, length-bytes_bits (a ∷ x), length-bytes_bits []))
 bytes_same (a ∷ x) (b ∷ y) p q h =
     let first = byte_same a b (p 0 0 (omega arith)) (q 0 0 (omega arith)) (sym (first_eight a x) ∙ ap (take 8) h ∙ first_eight b y) in
-    let later = bytes_same x y (All-tail (λ b. b < 256) a x p) (All-tail (λ b. b < 256) b y q) (sym (behind_byte a x) ∙ ap (drop 8) h ∙ behind_byte b y) in
+    let later = bytes_same x y (All-tail (λ b. b < 256) a x p) (All-tail (λ b. b < 256) b y q) (sym (after_byte a x) ∙ ap (drop 8) h ∙ after_byte b y) in
     λ i. first i ∷ later i
 
 pub bytes_of_fit : (k n : ℕ) → All (λ b. b < 256) (bytes_of k n)
@@ -160,8 +160,8 @@ cells_back before (a ∷ x) [] h = absurd (cc)
 cells_back before (a ∷ x) (b ∷ y) h =
     let first : xor (not before) a ≡ xor (not before) b = cc in
     let same = same_bit (not before) a b first in
-    let behind : cells_of (xor (not before) a) x ≡ cells_of (xor (not before) b) y = cc in
-    let later = cells_back (xor (not before) a) x y (behind ∙ ap (λ c. cells_of c y) (sym first)) in
+    let after : cells_of (xor (not before) a) x ≡ cells_of (xor (not before) b) y = cc in
+    let later = cells_back (xor (not before) a) x y (after ∙ ap (λ c. cells_of c y) (sym first)) in
     λ i. same i ∷ later i
 
 front_bits : (v : ℕ) (xs : List Bool) → take 24 (bits_of 24 v ++ xs) ≡ bits_of 24 v
@@ -177,8 +177,8 @@ unfolding slots
 same_slots a b p q h =
     let front = sym (front_bits a.value _) ∙ ap (take 24) h ∙ front_bits b.value _ in
     let value : a.value % 2 ^ 24 ≡ b.value % 2 ^ 24 = sym (number-bits_of 24 a.value) ∙ ap number front ∙ number-bits_of 24 b.value in
-    let behind = sym (last_bits a.value _) ∙ ap (drop 24) h ∙ last_bits b.value _ in
-    let side : side_bits a.value a.flags % 2 ^ 4 ≡ side_bits b.value b.flags % 2 ^ 4 = sym (number-bits_of 4 _) ∙ ap number behind ∙ number-bits_of 4 _ in
+    let after = sym (last_bits a.value _) ∙ ap (drop 24) h ∙ last_bits b.value _ in
+    let side : side_bits a.value a.flags % 2 ^ 4 ≡ side_bits b.value b.flags % 2 ^ 4 = sym (number-bits_of 4 _) ∙ ap number after ∙ number-bits_of 4 _ in
     let low : a.value < 16777216 = p.value in
     let few : b.value < 16777216 = q.value in
     let small = p.flags in
@@ -189,6 +189,6 @@ pub one_reading : OneReading
 one_reading = λ a b bytes p q.
     let same = sym (cells_are a bytes p) ∙ cells_are b bytes q in
     let marks = one_mark a.mark b.mark (sym (marked_front a.mark _) ∙ ap (take 8) same ∙ marked_front b.mark _) in
-    let cells = sym (behind_mark a.mark _) ∙ ap (drop 8) same ∙ behind_mark b.mark _ in
+    let cells = sym (after_mark a.mark _) ∙ ap (drop 8) same ∙ after_mark b.mark _ in
     let bits = same_slots a b p.sound q.sound (cells_back false (slots a) (slots b) cells) in
     λ i. record { mark = marks i; value = bits.0 i; flags = bits.1 i }

@@ -8,8 +8,8 @@ unfoldable pub last_of : Bool → List Bool → Bool
 last_of before [] = before
 last_of before (half ∷ halves) = last_of half halves
 
-unfoldable pub level_behind : ℕ → Bool
-level_behind byte = last_of false (bits_of 8 byte)
+unfoldable pub level_after : ℕ → Bool
+level_after byte = last_of false (bits_of 8 byte)
 
 -- the byte of eight bits of a number, every other from a place on, the first one lowest
 unfoldable pub eight_from : ℕ → ℕ → ℕ

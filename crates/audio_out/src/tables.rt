@@ -2,7 +2,7 @@
 ghost use Rattle.std.specs.Prelude.{◌≡◌, ◌<◌, true, slice_index};
 ghost use Rattle.tmds_word.specs.Bits.{bits_of};
 ghost use Rattle.audio_out.specs.Subframes.{carries};
-ghost use Rattle.audio_out.specs.Levels.{level_behind};
+ghost use Rattle.audio_out.specs.Levels.{level_after};
 
 /// The eight half cells of four bits, for each of their sixteen values behind level 0, then behind
 /// level 1.
@@ -14,7 +14,7 @@ static CELLS: [u8; 32] = [
 /// The half cells of four bits behind a byte of half cells.
 pub(crate) fn cells(before: u8, bits: u8) -> u8
     requires { bits < 16 }
-    ensures { carries (level_behind before) (bits_of 4 bits) (bits_of 8 result) ≡ true }
+    ensures { carries (level_after before) (bits_of 4 bits) (bits_of 8 result) ≡ true }
 {
     cells_at(16 * usize::from(before >> 7) + usize::from(bits))
 }

@@ -44,9 +44,9 @@ pub filter-places : (p : ℕ → Bool) (place body : ℕ) → place ≤ 4 → bo
     → filter p (drop place (0 ∷ 1 ∷ 2 ∷ 3 ∷ [])) ≡ body ∷ filter p (drop (body + 1) (0 ∷ 1 ∷ 2 ∷ 3 ∷ []))
 filter-places p place body le lt e =
     let here = drop-places place le in
-    let behind : body + 1 ≤ 4 = omega arith in
+    let after : body + 1 ≤ 4 = omega arith in
     let many : place + (4 - place) - (body + 1) ≡ 4 - (body + 1) = omega arith in
     ap (filter p) here
     ∙ filter-range p place (4 - place) body (subst (λ xs. find p xs ≡ Some body) here e)
     ∙ ap (λ n. body ∷ filter p (range_with_len (body + 1) n)) many
-    ∙ ap (λ xs. body ∷ filter p xs) (sym (drop-places (body + 1) behind))
+    ∙ ap (λ xs. body ∷ filter p xs) (sym (drop-places (body + 1) after))

@@ -5,7 +5,7 @@ use Rattle.std.proofs.lemmas.Nat.{xor_comm}
 use Rattle.std.proofs.lemmas.Nat.Bits.{bit_at_xor, bit_at-lt}
 use Rattle.std.specs.Int.{bit_at}
 use Rattle.std.specs.Int.Bits.{xor_self}
-use Rattle.bch_block.specs.Bits.{xor, bit, byte_bits, bits_of, flipped}
+use Rattle.bch_block.specs.Bits.{xor, bit, byte_bits, bits_of_bytes, flipped}
 use Rattle.bch_block.specs.Block.{IsBlock}
 use Rattle.bch_block.specs.Division.{Remainder, nothing, step, remainder_from, remainder, times_power, kept}
 use Rattle.bch_block.proofs.Quotient.{is_block, remainder_of_block}
@@ -44,17 +44,17 @@ pub remainder_from-append : (x y : List Bool) (r : Remainder) → remainder_from
 remainder_from-append [] y r = refl
 remainder_from-append (b ∷ x) y r = remainder_from-append x y (step r b)
 
-pub bits_of-append : (xs ys : List ℕ) → bits_of (xs ++ ys) ≡ bits_of xs ++ bits_of ys
+pub bits_of-append : (xs ys : List ℕ) → bits_of_bytes (xs ++ ys) ≡ bits_of_bytes xs ++ bits_of_bytes ys
 bits_of-append [] ys = refl
 bits_of-append (b ∷ xs) ys = ap (λ z. byte_bits b ++ z) (bits_of-append xs ys)
 
-pub length-bits_of : (xs : List ℕ) → length (bits_of xs) ≡ 8 * length xs
+pub length-bits_of : (xs : List ℕ) → length (bits_of_bytes xs) ≡ 8 * length xs
 length-bits_of [] = refl
 length-bits_of (b ∷ xs) = omega (arith, length-bits_of xs)
 
 -- `left` is what some bytes leave, as the byte behind them meets it
 abbrev pub Leaves : List ℕ → ℕ → Type 0
-Leaves bytes left = (p : ℕ) → remainder (bits_of (bytes ++ p ∷ [])) ≡ kept (bit_xor left p)
+Leaves bytes left = (p : ℕ) → remainder (bits_of_bytes (bytes ++ p ∷ [])) ≡ kept (bit_xor left p)
 
 pub leaves_none : Leaves [] 0
 leaves_none p = refl
@@ -62,7 +62,7 @@ leaves_none p = refl
 pub leaves_more : (bytes : List ℕ) (left b next : ℕ) → Leaves bytes left → kept next ≡ times_power (kept (bit_xor left b)) 8 → Leaves (bytes ++ b ∷ []) next
 leaves_more bytes left b next was is p =
     ap remainder (bits_of-append (bytes ++ b ∷ []) (p ∷ []))
-    ∙ remainder_from-append (bits_of (bytes ++ b ∷ [])) (byte_bits p) nothing
+    ∙ remainder_from-append (bits_of_bytes (bytes ++ b ∷ [])) (byte_bits p) nothing
     ∙ ap (λ (r : Remainder). remainder_from r (byte_bits p)) (was b)
     ∙ remainder_from-byte (kept (bit_xor left b)) p
     ∙ ap (λ (r : Remainder). plus (kept p) r) (sym is)
@@ -70,24 +70,24 @@ leaves_more bytes left b next was is p =
     ∙ ap kept (xor_comm p next)
 
 -- what a whole block leaves, by its last byte
-pub remainder-bits_of : (block : List ℕ) (left : ℕ) → 0 < length block → Leaves (take (length block - 1) block) left → remainder (bits_of block) ≡ kept (bit_xor left (slice_index block (length block - 1)))
+pub remainder-bits_of : (block : List ℕ) (left : ℕ) → 0 < length block → Leaves (take (length block - 1) block) left → remainder (bits_of_bytes block) ≡ kept (bit_xor left (slice_index block (length block - 1)))
 remainder-bits_of block left some leaves =
     let last = length block - 1 in
     let parts : take last block ++ slice_index block last ∷ [] ≡ block =
     sym (take_more block last 0 (omega arith)) ∙ take_all (last + 1) block (omega arith) in
-    ap (λ (bytes : List ℕ). remainder (bits_of bytes)) (sym parts) ∙ leaves (slice_index block last)
+    ap (λ (bytes : List ℕ). remainder (bits_of_bytes bytes)) (sym parts) ∙ leaves (slice_index block last)
 
 -- it is the one byte that makes a block
 kept-self : (a : ℕ) → kept (bit_xor a a) ≡ nothing
 kept-self a = ap kept (xor_self a)
 
-pub makes_block : (bytes : List ℕ) (left : ℕ) → Leaves bytes left → IsBlock (bits_of (bytes ++ left ∷ []))
+pub makes_block : (bytes : List ℕ) (left : ℕ) → Leaves bytes left → IsBlock (bits_of_bytes (bytes ++ left ∷ []))
 makes_block bytes left leaves =
-    is_block (bits_of (bytes ++ left ∷ [])) (omega (arith, length-bits_of (bytes ++ left ∷ []), length-append bytes (left ∷ []))) (leaves left ∙ kept-self left)
+    is_block (bits_of_bytes (bytes ++ left ∷ [])) (omega (arith, length-bits_of (bytes ++ left ∷ []), length-append bytes (left ∷ []))) (leaves left ∙ kept-self left)
 
-pub makes_block_alone : (bytes : List ℕ) (left p : ℕ) → Leaves bytes left → left < 256 → p < 256 → IsBlock (bits_of (bytes ++ p ∷ [])) → p ≡ left
+pub makes_block_alone : (bytes : List ℕ) (left p : ℕ) → Leaves bytes left → left < 256 → p < 256 → IsBlock (bits_of_bytes (bytes ++ p ∷ [])) → p ≡ left
 makes_block_alone bytes left p leaves ll lp b =
-    let sum : plus (kept left) (kept p) ≡ nothing = sym (kept-xor left p) ∙ sym (leaves p) ∙ remainder_of_block (bits_of (bytes ++ p ∷ [])) b in
+    let sum : plus (kept left) (kept p) ≡ nothing = sym (kept-xor left p) ∙ sym (leaves p) ∙ remainder_of_block (bits_of_bytes (bytes ++ p ∷ [])) b in
     sym (kept_once left p ll lp (equal_remainders (kept left) (kept p) sum))
 
 -- a bit of a byte turned over
@@ -105,18 +105,18 @@ flipped-byte b (suc (suc (suc (suc (suc (suc zero)))))) x lt = ap (λ y. y ++ x)
 flipped-byte b (suc (suc (suc (suc (suc (suc (suc zero))))))) x lt = ap (λ y. y ++ x) (byte_bits-xor b 128)
 flipped-byte b (suc (suc (suc (suc (suc (suc (suc (suc j)))))))) x lt = absurd (omega arith)
 
-flipped_from : (xs : List ℕ) (k j : ℕ) → k < length xs → j < 8 → bits_of (slice_set xs k (bit_xor (slice_index xs k) (2 ^ j))) ≡ flipped (bits_of xs) (8 * k + j)
+flipped_from : (xs : List ℕ) (k j : ℕ) → k < length xs → j < 8 → bits_of_bytes (slice_set xs k (bit_xor (slice_index xs k) (2 ^ j))) ≡ flipped (bits_of_bytes xs) (8 * k + j)
 flipped_from [] k j lk lj = absurd (omega arith)
-flipped_from (b ∷ xs) zero j lk lj = let e : 8 * 0 + j ≡ j = omega arith in flipped-byte b j (bits_of xs) lj ∙ ap (λ n. flipped (bits_of (b ∷ xs)) n) (sym e)
+flipped_from (b ∷ xs) zero j lk lj = let e : 8 * 0 + j ≡ j = omega arith in flipped-byte b j (bits_of_bytes xs) lj ∙ ap (λ n. flipped (bits_of_bytes (b ∷ xs)) n) (sym e)
 flipped_from (b ∷ xs) (suc k) j lk lj =
     let e : 8 * suc k + j ≡ suc (suc (suc (suc (suc (suc (suc (suc (8 * k + j)))))))) = omega arith in
-    ap (λ z. byte_bits b ++ z) (flipped_from xs k j (omega arith) lj) ∙ ap (λ n. flipped (bits_of (b ∷ xs)) n) (sym e)
+    ap (λ z. byte_bits b ++ z) (flipped_from xs k j (omega arith) lj) ∙ ap (λ n. flipped (bits_of_bytes (b ∷ xs)) n) (sym e)
 
 -- place p is bit p % 8 of byte p / 8
-pub flipped-bits_of : (xs : List ℕ) (p : ℕ) → p < 8 * length xs → bits_of (slice_set xs (p / 8) (bit_xor (slice_index xs (p / 8)) (2 ^ (p % 8)))) ≡ flipped (bits_of xs) p
+pub flipped-bits_of : (xs : List ℕ) (p : ℕ) → p < 8 * length xs → bits_of_bytes (slice_set xs (p / 8) (bit_xor (slice_index xs (p / 8)) (2 ^ (p % 8)))) ≡ flipped (bits_of_bytes xs) p
 flipped-bits_of xs p lt =
     let e : 8 * (p / 8) + p % 8 ≡ p = omega arith in
-    flipped_from xs (p / 8) (p % 8) (omega arith) (omega arith) ∙ ap (λ n. flipped (bits_of xs) n) e
+    flipped_from xs (p / 8) (p % 8) (omega arith) (omega arith) ∙ ap (λ n. flipped (bits_of_bytes xs) n) e
 
 -- the weight of a bit of a byte, as it is shifted
 pub weight_of : (j : ℕ) → j < 8 → 1 * 2 ^ j % 256 ≡ 2 ^ j

@@ -37,18 +37,18 @@ same_without_differences (false ∷ x) (false ∷ y) e h = ap (λ z. false ∷ z
 -- a place where two lists differ, with the number of bits behind it; turned over, one difference less is left
 pub record Difference (x y : List Bool) (n : ℕ) : Type 0 where
   pub place : ℕ
-  pub behind : ℕ
-  pub inside : place + suc behind ≡ length x
+  pub after : ℕ
+  pub inside : place + suc after ≡ length x
   pub fewer : differences (flipped x place) y ≡ n
 
 later : (b : Bool) (x y : List Bool) (n : ℕ) → Difference x y n → Difference (b ∷ x) (b ∷ y) n
-later true x y n d = record { place = suc d.place; behind = d.behind; inside = omega (arith, d.inside); fewer = omega (arith, d.fewer) }
-later false x y n d = record { place = suc d.place; behind = d.behind; inside = omega (arith, d.inside); fewer = omega (arith, d.fewer) }
+later true x y n d = record { place = suc d.place; after = d.after; inside = omega (arith, d.inside); fewer = omega (arith, d.fewer) }
+later false x y n d = record { place = suc d.place; after = d.after; inside = omega (arith, d.inside); fewer = omega (arith, d.fewer) }
 
 pub difference : (x y : List Bool) (n : ℕ) → length y ≡ length x → differences x y ≡ suc n → Difference x y n
 difference [] y n e h = absurd (omega arith)
 difference (a ∷ x) [] n e h = absurd (omega arith)
 difference (true ∷ x) (true ∷ y) n e h = later true x y n (difference x y n (omega arith) (omega arith))
-difference (true ∷ x) (false ∷ y) n e h = record { place = 0; behind = length x; inside = omega arith; fewer = omega arith }
-difference (false ∷ x) (true ∷ y) n e h = record { place = 0; behind = length x; inside = omega arith; fewer = omega arith }
+difference (true ∷ x) (false ∷ y) n e h = record { place = 0; after = length x; inside = omega arith; fewer = omega arith }
+difference (false ∷ x) (true ∷ y) n e h = record { place = 0; after = length x; inside = omega arith; fewer = omega arith }
 difference (false ∷ x) (false ∷ y) n e h = later false x y n (difference x y n (omega arith) (omega arith))

@@ -12,26 +12,26 @@ use Rattle.bch_block.proofs.Distances.{length-flipped, flipped-flipped, differen
 use Rattle.bch_block.proofs.Powers.{distinct, one_power, three_powers}
 
 -- how many bits stand behind bit i
-abbrev behind : List Bool → ℕ → ℕ
-behind x i = length x - suc i
+abbrev after : List Bool → ℕ → ℕ
+after x i = length x - suc i
 
-remainder-flipped : (x : List Bool) (i : ℕ) → i < length x → remainder (flipped x i) ≡ plus (remainder x) (power (behind x i))
-remainder-flipped x i lt = remainder_from-flipped x nothing i (behind x i) (omega arith)
+remainder-flipped : (x : List Bool) (i : ℕ) → i < length x → remainder (flipped x i) ≡ plus (remainder x) (power (after x i))
+remainder-flipped x i lt = remainder_from-flipped x nothing i (after x i) (omega arith)
 
 -- a block where a difference has been turned over
-remainder_by_difference : (x y : List Bool) (n : ℕ) (d : Difference x y n) → remainder (flipped x d.place) ≡ plus (remainder x) (power d.behind)
-remainder_by_difference x y n d = remainder_from-flipped x nothing d.place d.behind d.inside
+remainder_by_difference : (x y : List Bool) (n : ℕ) (d : Difference x y n) → remainder (flipped x d.place) ≡ plus (remainder x) (power d.after)
+remainder_by_difference x y n d = remainder_from-flipped x nothing d.place d.after d.inside
 
 -- the remainder decides
 pub clean : (x : List Bool) → 8 ≤ length x → remainder x ≡ nothing → IsVerdict x Clean
 clean x long e = is_block x long e
 
-pub mended : (x : List Bool) (i : ℕ) → 8 ≤ length x → length x ≤ 64 → i < length x → remainder x ≡ power (behind x i) → IsVerdict x (Mended i)
+pub mended : (x : List Bool) (i : ℕ) → 8 ≤ length x → length x ≤ 64 → i < length x → remainder x ≡ power (after x i) → IsVerdict x (Mended i)
 mended x i long short lt e = (
-  λ b. one_power (behind x i) (omega arith) (sym e ∙ remainder_of_block x b),
+  λ b. one_power (after x i) (omega arith) (sym e ∙ remainder_of_block x b),
   lt,
   is_block (flipped x i) (omega (arith, length-flipped x i))
-      (remainder-flipped x i lt ∙ ap (λ (r : Remainder). plus r (power (behind x i))) e ∙ plus-self (power (behind x i))),
+      (remainder-flipped x i lt ∙ ap (λ (r : Remainder). plus r (power (after x i))) e ∙ plus-self (power (after x i))),
 )
 
 lost_at : (x y : List Bool) (n : ℕ) → differences x y ≡ n → remainder x ≢ nothing → ((k : ℕ) → k < length x → remainder x ≢ power k) → IsBlock y → length y ≡ length x → 2 ≤ n
@@ -41,9 +41,9 @@ lost_at x y (suc zero) e none other b same =
     let d = difference x y 0 same e in
     let f = flipped x d.place in
     let is : y ≡ f = same_without_differences f y (same ∙ sym (length-flipped x d.place)) d.fewer in
-    let zero_sum : plus (remainder x) (power d.behind) ≡ nothing =
+    let zero_sum : plus (remainder x) (power d.after) ≡ nothing =
     sym (remainder_by_difference x y 0 d) ∙ ap remainder (sym is) ∙ remainder_of_block y b in
-    absurd (other d.behind (omega (arith, d.inside)) (equal_remainders (remainder x) (power d.behind) zero_sum))
+    absurd (other d.after (omega (arith, d.inside)) (equal_remainders (remainder x) (power d.after) zero_sum))
 lost_at x y (suc (suc n)) e none other b same = omega arith
 
 pub lost : (x : List Bool) → remainder x ≢ nothing → ((k : ℕ) → k < length x → remainder x ≢ power k) → IsVerdict x Lost
@@ -52,9 +52,9 @@ lost x none other y b same = lost_at x y (differences x y) refl none other b sam
 -- two verdicts on one list are the same
 mended_once : (x : List Bool) (i j : ℕ) → length x ≤ 64 → i < length x → j < length x → IsBlock (flipped x i) → IsBlock (flipped x j) → i ≡ j
 mended_once x i j short li lj bi bj =
-    let ei = equal_remainders (remainder x) (power (behind x i)) (sym (remainder-flipped x i li) ∙ remainder_of_block (flipped x i) bi) in
-    let ej = equal_remainders (remainder x) (power (behind x j)) (sym (remainder-flipped x j lj) ∙ remainder_of_block (flipped x j) bj) in
-    let same : behind x i ≡ behind x j = distinct (behind x i) (behind x j) (omega arith) (omega arith) (sym ei ∙ ej) in
+    let ei = equal_remainders (remainder x) (power (after x i)) (sym (remainder-flipped x i li) ∙ remainder_of_block (flipped x i) bi) in
+    let ej = equal_remainders (remainder x) (power (after x j)) (sym (remainder-flipped x j lj) ∙ remainder_of_block (flipped x j) bj) in
+    let same : after x i ≡ after x j = distinct (after x i) (after x j) (omega arith) (omega arith) (sym ei ∙ ej) in
     omega arith
 
 clean_or_lost : (x : List Bool) → IsBlock x → IsVerdict x Lost → ⊥
@@ -75,20 +75,20 @@ one_verdict x Lost (Mended j) short hv hw = absurd (mended_or_lost x j hw hv)
 one_verdict x Lost Lost short hv hw = refl
 
 -- one bit of a block turned over leaves its power of x, two leave the sum
-one_leaves : (x : List Bool) (i : ℕ) → IsBlock x → i < length x → remainder (flipped x i) ≡ power (behind x i)
+one_leaves : (x : List Bool) (i : ℕ) → IsBlock x → i < length x → remainder (flipped x i) ≡ power (after x i)
 one_leaves x i b lt =
     remainder-flipped x i lt
-    ∙ ap (λ (r : Remainder). plus r (power (behind x i))) (remainder_of_block x b)
-    ∙ nothing-plus (power (behind x i))
+    ∙ ap (λ (r : Remainder). plus r (power (after x i))) (remainder_of_block x b)
+    ∙ nothing-plus (power (after x i))
 
-two_leave : (x : List Bool) (i j : ℕ) → IsBlock x → i < length x → j < length x → remainder (flipped (flipped x i) j) ≡ plus (power (behind x i)) (power (behind x j))
+two_leave : (x : List Bool) (i j : ℕ) → IsBlock x → i < length x → j < length x → remainder (flipped (flipped x i) j) ≡ plus (power (after x i)) (power (after x j))
 two_leave x i j b li lj =
-    remainder_from-flipped (flipped x i) nothing j (behind x j) (omega (arith, length-flipped x i))
-    ∙ ap (λ (r : Remainder). plus r (power (behind x j))) (one_leaves x i b li)
+    remainder_from-flipped (flipped x i) nothing j (after x j) (omega (arith, length-flipped x i))
+    ∙ ap (λ (r : Remainder). plus r (power (after x j))) (one_leaves x i b li)
 
 pub one_wrong : (x : List Bool) (i : ℕ) → length x ≤ 64 → IsBlock x → i < length x → IsVerdict (flipped x i) (Mended i)
 one_wrong x i short b lt = (
-  λ other. one_power (behind x i) (omega arith) (sym (one_leaves x i b lt) ∙ remainder_of_block (flipped x i) other),
+  λ other. one_power (after x i) (omega arith) (sym (one_leaves x i b lt) ∙ remainder_of_block (flipped x i) other),
   omega (arith, length-flipped x i),
   subst IsBlock (sym (flipped-flipped x i)) b,
 )
@@ -100,20 +100,20 @@ two_wrong x i j short b li lj apart =
     let same : length z ≡ length x = length-flipped (flipped x i) j ∙ length-flipped x i in
     lost z
     (λ none.
-    let e : behind x i ≡ behind x j =
-    distinct (behind x i) (behind x j) (omega arith) (omega arith)
-    (equal_remainders (power (behind x i)) (power (behind x j)) (sym leaves ∙ none)) in
+    let e : after x i ≡ after x j =
+    distinct (after x i) (after x j) (omega arith) (omega arith)
+    (equal_remainders (power (after x i)) (power (after x j)) (sym leaves ∙ none)) in
     apart (omega arith))
     (λ k lk e.
-    three_powers (behind x i) (behind x j) k (omega arith) (omega arith) (omega arith)
+    three_powers (after x i) (after x j) k (omega arith) (omega arith) (omega arith)
     (ap (λ (r : Remainder). plus r (power k)) (sym leaves ∙ e) ∙ plus-self (power k)))
 
 -- two unlike blocks differ in four places at least: one place leaves a power, two a sum of two, three a sum of three
-first_leaves : (x y : List Bool) (n : ℕ) (d : Difference x y n) → IsBlock x → remainder (flipped x d.place) ≡ power d.behind
+first_leaves : (x y : List Bool) (n : ℕ) (d : Difference x y n) → IsBlock x → remainder (flipped x d.place) ≡ power d.after
 first_leaves x y n d b =
     remainder_by_difference x y n d
-    ∙ ap (λ (r : Remainder). plus r (power d.behind)) (remainder_of_block x b)
-    ∙ nothing-plus (power d.behind)
+    ∙ ap (λ (r : Remainder). plus r (power d.after)) (remainder_of_block x b)
+    ∙ nothing-plus (power d.after)
 
 still_one_length : (x y : List Bool) (i : ℕ) → length y ≡ length x → length y ≡ length (flipped x i)
 still_one_length x y i same = same ∙ sym (length-flipped x i)
@@ -122,7 +122,7 @@ not_one : (x y : List Bool) → length x ≤ 64 → length y ≡ length x → Is
 not_one x y short same bx by e =
     let d = difference x y 0 same e in
     let is : y ≡ flipped x d.place = same_without_differences (flipped x d.place) y (still_one_length x y d.place same) d.fewer in
-    one_power d.behind (omega (arith, d.inside)) (sym (first_leaves x y 0 d bx) ∙ ap remainder (sym is) ∙ remainder_of_block y by)
+    one_power d.after (omega (arith, d.inside)) (sym (first_leaves x y 0 d bx) ∙ ap remainder (sym is) ∙ remainder_of_block y by)
 
 not_two : (x y : List Bool) → length x ≤ 64 → length y ≡ length x → IsBlock x → IsBlock y → differences x y ≡ 2 → ⊥
 not_two x y short same bx by e =
@@ -132,13 +132,13 @@ not_two x y short same bx by e =
     let d2 = difference f y 0 same_f d.fewer in
     let g = flipped f d2.place in
     let is : y ≡ g = same_without_differences g y (still_one_length f y d2.place same_f) d2.fewer in
-    let sum : plus (power d.behind) (power d2.behind) ≡ nothing =
-    sym (remainder_by_difference f y 0 d2 ∙ ap (λ (r : Remainder). plus r (power d2.behind)) (first_leaves x y 1 d bx))
+    let sum : plus (power d.after) (power d2.after) ≡ nothing =
+    sym (remainder_by_difference f y 0 d2 ∙ ap (λ (r : Remainder). plus r (power d2.after)) (first_leaves x y 1 d bx))
     ∙ ap remainder (sym is)
     ∙ remainder_of_block y by in
-    let equal : d.behind ≡ d2.behind =
-    distinct d.behind d2.behind (omega (arith, d.inside)) (omega (arith, d2.inside, length-flipped x d.place))
-    (equal_remainders (power d.behind) (power d2.behind) sum) in
+    let equal : d.after ≡ d2.after =
+    distinct d.after d2.after (omega (arith, d.inside)) (omega (arith, d2.inside, length-flipped x d.place))
+    (equal_remainders (power d.after) (power d2.after) sum) in
     let again : d2.place ≡ d.place = omega (arith, d.inside, d2.inside, length-flipped x d.place, equal) in
     let back_again : g ≡ x = ap (λ i. flipped f i) again ∙ flipped-flipped x d.place in
     let none : differences x y ≡ 0 = ap (λ z. differences x z) (is ∙ back_again) ∙ differences-self x in
@@ -155,13 +155,13 @@ not_three x y short same bx by e =
     let d3 = difference g y 0 same_g d2.fewer in
     let h = flipped g d3.place in
     let is : y ≡ h = same_without_differences h y (still_one_length g y d3.place same_g) d3.fewer in
-    let two : remainder g ≡ plus (power d.behind) (power d2.behind) =
-    remainder_by_difference f y 1 d2 ∙ ap (λ (r : Remainder). plus r (power d2.behind)) (first_leaves x y 2 d bx) in
-    let sum : plus (plus (power d.behind) (power d2.behind)) (power d3.behind) ≡ nothing =
-    sym (remainder_by_difference g y 0 d3 ∙ ap (λ (r : Remainder). plus r (power d3.behind)) two)
+    let two : remainder g ≡ plus (power d.after) (power d2.after) =
+    remainder_by_difference f y 1 d2 ∙ ap (λ (r : Remainder). plus r (power d2.after)) (first_leaves x y 2 d bx) in
+    let sum : plus (plus (power d.after) (power d2.after)) (power d3.after) ≡ nothing =
+    sym (remainder_by_difference g y 0 d3 ∙ ap (λ (r : Remainder). plus r (power d3.after)) two)
     ∙ ap remainder (sym is)
     ∙ remainder_of_block y by in
-    three_powers d.behind d2.behind d3.behind
+    three_powers d.after d2.after d3.after
     (omega (arith, d.inside))
     (omega (arith, d2.inside, length-flipped x d.place))
     (omega (arith, d3.inside, length-flipped x d.place, length-flipped f d2.place))

@@ -18,9 +18,9 @@ abbrev pub byte_bits : ℕ → List Bool
 byte_bits byte = bit byte 0 ∷ bit byte 1 ∷ bit byte 2 ∷ bit byte 3 ∷ bit byte 4 ∷ bit byte 5 ∷ bit byte 6 ∷ bit byte 7 ∷ []
 
 -- the bits of bytes, the first byte first
-abbrev pub bits_of : List ℕ → List Bool
-bits_of [] = []
-bits_of (byte ∷ bytes) = byte_bits byte ++ bits_of bytes
+abbrev pub bits_of_bytes : List ℕ → List Bool
+bits_of_bytes [] = []
+bits_of_bytes (byte ∷ bytes) = byte_bits byte ++ bits_of_bytes bytes
 
 -- the list with bit i turned over
 abbrev pub flipped : List Bool → ℕ → List Bool

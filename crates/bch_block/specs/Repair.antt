@@ -1,6 +1,6 @@
 -- What may be said of a list of bits that should have been a block, and what a repair makes of it.
 use Rattle.std.specs.Prelude.{◌≡◌, ℕ, ◌<◌, ◌≤◌, Bool, List, length}
-use Rattle.bch_block.specs.Bits.{flipped, differences, bits_of}
+use Rattle.bch_block.specs.Bits.{flipped, differences, bits_of_bytes}
 use Rattle.bch_block.specs.Block.{IsBlock}
 use Rattle.bch_block.specs.declared.Verdict.{Verdict}
 use Rattle.bch_block.specs.declared.Verdict.TheVariants.{Clean, Mended, Lost}
@@ -15,5 +15,5 @@ IsVerdict x Lost = (y : List Bool) → IsBlock y → length y ≡ length x → 2
 -- under a verdict, the bytes become these: bit i is turned over after Mended i, and else nothing changes
 abbrev pub Repairs : List ℕ → List ℕ → Verdict → Type 0
 Repairs old new Clean = new ≡ old
-Repairs old new (Mended i) = bits_of new ≡ flipped (bits_of old) i
+Repairs old new (Mended i) = bits_of_bytes new ≡ flipped (bits_of_bytes old) i
 Repairs old new Lost = new ≡ old

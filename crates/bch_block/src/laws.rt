@@ -1,7 +1,7 @@
 //! Laws of the code, each the contract of a function with nothing to do.
 
 ghost use Rattle.std.specs.Prelude.{◌≡◌, ◌≢◌, ◌<◌, ◌≤◌, ℕ, Bool, List, length};
-ghost use Rattle.bch_block.specs.Bits.{bits_of, flipped, differences};
+ghost use Rattle.bch_block.specs.Bits.{bits_of_bytes, flipped, differences};
 ghost use Rattle.bch_block.specs.Block.{IsBlock};
 ghost use Rattle.bch_block.specs.Repair.{IsVerdict, Repairs};
 ghost use Rattle.bch_block.specs.declared.Verdict.{Verdict};
@@ -26,7 +26,7 @@ pub fn one_wrong_bit_is_mended()
 pub fn flipping_twice_restores()
     ensures twice { (x : List Bool) (i : ℕ) → flipped (flipped x i) i ≡ x }
     ensures restored { (x : List Bool) (i : ℕ) (old new : List ℕ) (v : Verdict) → length x ≤ 64 → IsBlock x → i < length x →
-        bits_of old ≡ flipped x i → IsVerdict (bits_of old) v → Repairs old new v → bits_of new ≡ x }
+        bits_of_bytes old ≡ flipped x i → IsVerdict (bits_of_bytes old) v → Repairs old new v → bits_of_bytes new ≡ x }
 {}
 
 /// Two wrong bits of a block are noticed: the verdict is that it is lost, and no other verdict holds.

@@ -5,7 +5,7 @@
 #![tactic(auto)]
 
 ghost use Rattle.std.specs.Prelude.{◌≡◌, ◌≢◌, ◌+◌, ◌*◌, ◌<◌, ◌≤◌, ℕ, Bool, List, [], ◌∷◌, ◌++◌, length, bit_xor, IfSome, Some};
-ghost use Rattle.bch_block.specs.Bits.{bits_of, flipped};
+ghost use Rattle.bch_block.specs.Bits.{bits_of_bytes, flipped};
 ghost use Rattle.bch_block.specs.Block.{IsBlock};
 ghost use Rattle.bch_block.specs.Division.{remainder, kept, power, times_power};
 ghost use Rattle.bch_block.specs.Repair.{IsVerdict, Repairs};
@@ -30,16 +30,16 @@ pub enum Verdict {
 
 /// The byte that makes a block of 32 bits, behind three bytes.
 pub fn parity32(bytes: &[u8; 3]) -> u8
-    ensures block { IsBlock (bits_of (bytes.now ++ result ∷ [])) }
-    ensures only { (p : ℕ) → p < 256 → IsBlock (bits_of (bytes.now ++ p ∷ [])) → p ≡ result }
+    ensures block { IsBlock (bits_of_bytes (bytes.now ++ result ∷ [])) }
+    ensures only { (p : ℕ) → p < 256 → IsBlock (bits_of_bytes (bytes.now ++ p ∷ [])) → p ≡ result }
 {
     parity(bytes)
 }
 
 /// The byte that makes a block of 64 bits, behind seven bytes.
 pub fn parity64(bytes: &[u8; 7]) -> u8
-    ensures block { IsBlock (bits_of (bytes.now ++ result ∷ [])) }
-    ensures only { (p : ℕ) → p < 256 → IsBlock (bits_of (bytes.now ++ p ∷ [])) → p ≡ result }
+    ensures block { IsBlock (bits_of_bytes (bytes.now ++ result ∷ [])) }
+    ensures only { (p : ℕ) → p < 256 → IsBlock (bits_of_bytes (bytes.now ++ p ∷ [])) → p ≡ result }
 {
     parity(bytes)
 }
@@ -47,9 +47,9 @@ pub fn parity64(bytes: &[u8; 7]) -> u8
 /// Repairs one wrong bit of a block of 32 bits. What differs from every block in two bits or more stays as it is.
 /// So one wrong bit is restored and two wrong bits are lost, as `laws` has it; three may be taken for another one.
 pub fn repair32(block: &mut [u8; 4]) -> Verdict
-    ensures verdict { IsVerdict (bits_of block.old) result }
+    ensures verdict { IsVerdict (bits_of_bytes block.old) result }
     ensures after { Repairs block.old block.new result }
-    ensures restored { result ≢ Verdict.Lost → IsBlock (bits_of block.new) }
+    ensures restored { result ≢ Verdict.Lost → IsBlock (bits_of_bytes block.new) }
 {
     repair(block)
 }
@@ -57,16 +57,16 @@ pub fn repair32(block: &mut [u8; 4]) -> Verdict
 /// Repairs one wrong bit of a block of 64 bits. What differs from every block in two bits or more stays as it is.
 /// So one wrong bit is restored and two wrong bits are lost, as `laws` has it; three may be taken for another one.
 pub fn repair64(block: &mut [u8; 8]) -> Verdict
-    ensures verdict { IsVerdict (bits_of block.old) result }
+    ensures verdict { IsVerdict (bits_of_bytes block.old) result }
     ensures after { Repairs block.old block.new result }
-    ensures restored { result ≢ Verdict.Lost → IsBlock (bits_of block.new) }
+    ensures restored { result ≢ Verdict.Lost → IsBlock (bits_of_bytes block.new) }
 {
     repair(block)
 }
 
 /// The byte that makes a block behind some bytes: with another last byte, the remainder is the sum of the two.
 fn parity(bytes: &[u8]) -> u8
-    ensures { (last : ℕ) → remainder (bits_of (bytes.now ++ last ∷ [])) ≡ kept (bit_xor result last) }
+    ensures { (last : ℕ) → remainder (bits_of_bytes (bytes.now ++ last ∷ [])) ≡ kept (bit_xor result last) }
 {
     let mut left = 0;
     for byte in bytes {
@@ -108,7 +108,7 @@ fn verdict_of(left: u8, bits: u8) -> Verdict
 /// Turns one bit over.
 fn flip(block: &mut [u8], place: u8)
     requires { place < 8 * length block.old }
-    ensures { bits_of block.new ≡ flipped (bits_of block.old) place }
+    ensures { bits_of_bytes block.new ≡ flipped (bits_of_bytes block.old) place }
 {
     block[usize::from(place / 8)] ^= 1 << (place % 8);
 }
@@ -117,7 +117,7 @@ fn flip(block: &mut [u8], place: u8)
 fn repair(block: &mut [u8]) -> Verdict
     requires least { 0 < length block.old }
     requires most { length block.old ≤ 8 }
-    ensures verdict { IsVerdict (bits_of block.old) result }
+    ensures verdict { IsVerdict (bits_of_bytes block.old) result }
     ensures after { Repairs block.old block.new result }
 {
     let last = block.len() - 1;

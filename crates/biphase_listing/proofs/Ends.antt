@@ -196,9 +196,6 @@ pub record IsFull (old size : ℕ) : Type 0 where
 full_none : (new old size rest : ℕ) → IsFull old size → 16 * new + rest ≡ 16 * old + size → rest < 16 → 16 * new + rest ≤ 16 * most_frames → rest ≡ 0
 full_none new old size rest full sized less few = omega (arith, full.is, full.few, sized, less, few)
 
-pub full_more : (new old size rest : ℕ) → IsFull old size → 16 * new + rest ≡ 16 * old + size → rest < 16 → 16 * new + rest ≤ 16 * most_frames → new ≡ old + 256
-full_more new old size rest full sized less few = omega (arith, full.is, full.few, sized, less, few)
-
 nothing_left : (new old size rest : ℕ) (full more : Bool) → (full ≡ true → IsFull old size) → 16 * new + rest ≡ 16 * old + size → rest < 16 → 16 * new + rest ≤ 16 * most_frames
     → more ≡ full → (more ≡ false → rest ≡ 0) → rest ≡ 0
 nothing_left new old size rest full true is sized less few same none = full_none new old size rest (is (sym same)) sized less few

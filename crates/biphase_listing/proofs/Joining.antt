@@ -12,7 +12,7 @@ use Rattle.audio_out.specs.declared.subframe.Mark.TheVariants.{B, M, W}
 use Rattle.audio_out.specs.declared.subframe.Subframe.{Subframe}
 use Rattle.audio_out.proofs.Frames.{length-subframe}
 use Rattle.audio_out.proofs.Spelled.{one_spelling}
-use Rattle.listing.specs.ContentText.{sample_words}
+use Rattle.listing_writer.specs.ContentText.{sample_words}
 use Rattle.biphase_listing.specs.Groups.{IsCarried, is_right, is_block, sample_of}
 use Rattle.biphase_listing.specs.FrameText.{frame_text, status_text, text_after}
 

@@ -9,8 +9,8 @@ use Rattle.std.specs.Int.{w64, to_le_bytes}
 use Rattle.tmds_word.proofs.Below.{passes_below, passes_at}
 use Rattle.audio_packets.specs.declared.sample.Sample.{Sample}
 use Rattle.audio_out.proofs.Joined.{eight}
-use Rattle.listing.specs.Texts.{field}
-use Rattle.listing.specs.ContentText.{digit_of, sample_words, value_digits}
+use Rattle.listing_writer.specs.Texts.{field}
+use Rattle.listing_writer.specs.ContentText.{digit_of, sample_words, value_digits}
 use Rattle.biphase_listing.specs.FrameText.{last_words}
 use Rattle.biphase_listing.specs.Fours.{six_bytes, turned}
 use Rattle.biphase_listing.proofs.Fours.{turned_six}

@@ -10,7 +10,7 @@ use Rattle.island_pack.specs.declared.packet.PacketVerdicts.{PacketVerdicts}
 use Rattle.audio_packets.specs.Faults.{first_lost, is_lost, unless_lost}
 use Rattle.audio_packets.specs.Samples.{has_pair, note_at, packet_with}
 use Rattle.audio_packets.specs.declared.sample.Sample.{Sample}
-use Rattle.period_grammar.specs.Things.{packet}
+use Rattle.period_grammar.specs.Events.{packet}
 use Rattle.biphase_listing.specs.Laws.{SamplesOfPayload}
 use Rattle.biphase_listing.specs.StreamText.{samples_at, samples_in}
 

@@ -19,14 +19,14 @@ use Rattle.audio_packets.specs.Samples.{IsSample, IsSamplePacket, has_pair, note
 use Rattle.audio_packets.specs.declared.sample.Sample.{Sample}
 use Rattle.audio_packets.specs.declared.sample.SampleNote.{SampleNote}
 use Rattle.audio_out.specs.Frames.{IsEncoderAfter, biphase, bytes_in}
-use Rattle.period_grammar.specs.Lending.{fault_thing, lent_thing}
-use Rattle.period_grammar.specs.Things.{Thing, cut, line, packet, run}
-use Rattle.period_grammar.specs.declared.told.Fault.{Fault}
-use Rattle.period_grammar.specs.declared.told.Fault.TheVariants.{Word, Short, Preamble, Noise, Empty, Code, LongLine, Symbols, Mended, Lost, LongIsland, Broken, Guard}
-use Rattle.period_grammar.specs.declared.told.Told.{Told}
-use Rattle.period_grammar.specs.declared.told.Told.TheVariants.{Run, Line, Open, Close, Fault as FaultTold, Cut}
-use Rattle.listing.specs.Texts.{counted}
-use Rattle.biphase_listing.specs.StreamText.{Breaks, Lists, Recalls, biphase_faults, biphase_text, is_lost_sound, samples_at, samples_in, told_samples}
+use Rattle.period_grammar.specs.Lending.{fault_event, lent_event}
+use Rattle.period_grammar.specs.Events.{Event, cut, line, packet, run}
+use Rattle.period_grammar.specs.declared.event.Fault.{Fault}
+use Rattle.period_grammar.specs.declared.event.Fault.TheVariants.{Word, Short, Preamble, Noise, Empty, Code, LongLine, Symbols, Mended, Lost, LongIsland, Broken, Guard}
+use Rattle.period_grammar.specs.declared.event.EventRef.{EventRef}
+use Rattle.period_grammar.specs.declared.event.EventRef.TheVariants.{Run, Line, Open, Close, Fault as FaultReported, Cut}
+use Rattle.listing_writer.specs.Texts.{counted}
+use Rattle.biphase_listing.specs.StreamText.{Breaks, Lists, Recalls, biphase_faults, biphase_text, is_lost_sound, samples_at, samples_in, reported_samples}
 
 abbrev pub samples_of_notes : List SampleNote → List Sample
 samples_of_notes notes = map (λ note. note.sample) notes
@@ -70,19 +70,12 @@ framed_more notes left note old now new frames more frame f is few stands writte
       ∙ ap (λ (xs : List ℕ). biphase past ++ xs) (sym is);
 }
 
-pub all_framed : (notes : List SampleNote) (old now : Bool) (frames : List ℕ) (f : Framed notes [] old now frames) → f.seen ≡ notes
-all_framed notes old now frames f = sym (append-nil f.seen) ∙ sym f.split
-
 -- the next of few notes fits, and so does its frame
 pub next_fits : (notes left : List SampleNote) (note : SampleNote) (old now : Bool) (frames : List ℕ) → Framed notes (note ∷ left) old now frames → All (λ n. IsSample n.sample) notes → IsSample note.sample
 next_fits notes left note old now frames f fit =
     let rest : All (λ (n : SampleNote). IsSample n.sample) (note ∷ left) = subst (λ (xs : List SampleNote). All (λ (n : SampleNote). IsSample n.sample) xs)
     (ap (drop (length f.seen)) f.split ∙ drop-append_seam f.seen (note ∷ left)) (All-drop (λ (n : SampleNote). IsSample n.sample) (length f.seen) notes fit) in
     rest 0 note (omega arith)
-
-pub next_room : (notes left : List SampleNote) (note : SampleNote) (old now : Bool) (frames : List ℕ) → Framed notes (note ∷ left) old now frames → length notes ≤ 4 → length frames + 16 ≤ 64
-next_room notes left note old now frames f few =
-    let l = ap length f.split ∙ length-append f.seen (note ∷ left) in omega (arith, l, f.room, few)
 
 -- ---- what the samples of a packet are
 
@@ -150,18 +143,18 @@ pair_fits p verdicts pair notes fit is =
     subst (λ (xs : List SampleNote). All (λ (note : SampleNote). IsSample note.sample) xs) (sym (ok_inside notes (map (note_at p) places) (first_lost verdicts) is))
     (All-map (λ (note : SampleNote). IsSample note.sample) (note_at p) places (All-filter (has_pair (slice_index p.header 1) pair) P (0 ∷ 1 ∷ 2 ∷ 3 ∷ []) four))
 
--- ---- one thing more
+-- ---- one event more
 
-one_told : (pair : ℕ) (told : List Thing) (thing : Thing) → told_samples pair (told ++ thing ∷ []) ≡ told_samples pair told ++ samples_at pair thing
-unfolding told_samples
-one_told pair told thing = flat_map-append (samples_at pair) told (thing ∷ []) ∙ ap (λ (xs : List Sample). flat_map (samples_at pair) told ++ xs) (append-nil (samples_at pair thing))
+one_reported : (pair : ℕ) (reported : List Event) (event : Event) → reported_samples pair (reported ++ event ∷ []) ≡ reported_samples pair reported ++ samples_at pair event
+unfolding reported_samples
+one_reported pair reported event = flat_map-append (samples_at pair) reported (event ∷ []) ∙ ap (λ (xs : List Sample). flat_map (samples_at pair) reported ++ xs) (append-nil (samples_at pair event))
 
-pub lists_one : (pair : ℕ) (told : List Thing) (thing : Thing) (now : Bool) (before after : ℕ) (held holds : Option (List ℕ)) (samples : List Sample) (bytes : List ℕ)
-    → samples_at pair thing ≡ samples → after ≡ counted before (biphase_faults (thing ∷ [])) → IsEncoderAfter now (told_samples pair told ++ samples)
-    → biphase (told_samples pair told ++ samples) ≡ biphase (told_samples pair told) ++ bytes → Appends held holds bytes → Lists pair told (thing ∷ []) now before after held holds
+pub lists_one : (pair : ℕ) (reported : List Event) (event : Event) (now : Bool) (before after : ℕ) (held holds : Option (List ℕ)) (samples : List Sample) (bytes : List ℕ)
+    → samples_at pair event ≡ samples → after ≡ counted before (biphase_faults (event ∷ [])) → IsEncoderAfter now (reported_samples pair reported ++ samples)
+    → biphase (reported_samples pair reported ++ samples) ≡ biphase (reported_samples pair reported) ++ bytes → Appends held holds bytes → Lists pair reported (event ∷ []) now before after held holds
 unfolding biphase_text
-lists_one pair told thing now before after held holds samples bytes are counts stands grows put =
-    let all = one_told pair told thing ∙ ap (λ (xs : List Sample). told_samples pair told ++ xs) are in
+lists_one pair reported event now before after held holds samples bytes are counts stands grows put =
+    let all = one_reported pair reported event ∙ ap (λ (xs : List Sample). reported_samples pair reported ++ xs) are in
     record {
       recalls = subst (λ (xs : List Sample). IsEncoderAfter now xs) (sym all) stands;
       faults = counts;
@@ -170,25 +163,25 @@ lists_one pair told thing now before after held holds samples bytes are counts s
       written = put;
     }
 
-pub breaks_one : (pair : ℕ) (told : List Thing) (thing : Thing) (held holds : Option (List ℕ)) (samples : List Sample) (bytes : List ℕ) (n : ℕ)
-    → samples_at pair thing ≡ samples → biphase (told_samples pair told ++ samples) ≡ biphase (told_samples pair told) ++ bytes → n < length bytes → Appends held holds (take n bytes)
-    → Breaks pair told thing held holds
+pub breaks_one : (pair : ℕ) (reported : List Event) (event : Event) (held holds : Option (List ℕ)) (samples : List Sample) (bytes : List ℕ) (n : ℕ)
+    → samples_at pair event ≡ samples → biphase (reported_samples pair reported ++ samples) ≡ biphase (reported_samples pair reported) ++ bytes → n < length bytes → Appends held holds (take n bytes)
+    → Breaks pair reported event held holds
 unfolding biphase_text
-breaks_one pair told thing held holds samples bytes n are grows missing put = record {
+breaks_one pair reported event held holds samples bytes n are grows missing put = record {
   bytes = bytes;
-  grows = ap biphase (one_told pair told thing ∙ ap (λ (xs : List Sample). told_samples pair told ++ xs) are) ∙ grows;
+  grows = ap biphase (one_reported pair reported event ∙ ap (λ (xs : List Sample). reported_samples pair reported ++ xs) are) ∙ grows;
   n = n;
   missing = missing;
   written = put;
 }
 
--- a thing without samples of the pair
-pub lists_quiet : (pair : ℕ) (told : List Thing) (thing : Thing) (now : Bool) (before after : ℕ) (held : Option (List ℕ))
-    → samples_at pair thing ≡ [] → after ≡ counted before (biphase_faults (thing ∷ [])) → Recalls now pair told → Lists pair told (thing ∷ []) now before after held held
-lists_quiet pair told thing now before after held none counts stands =
-    lists_one pair told thing now before after held held [] [] none counts
-    (subst (λ (xs : List Sample). IsEncoderAfter now xs) (sym (append-nil (told_samples pair told))) stands)
-    (ap biphase (append-nil (told_samples pair told)) ∙ sym (append-nil (biphase (told_samples pair told)))) (Appends-nil held)
+-- an event without samples of the pair
+pub lists_quiet : (pair : ℕ) (reported : List Event) (event : Event) (now : Bool) (before after : ℕ) (held : Option (List ℕ))
+    → samples_at pair event ≡ [] → after ≡ counted before (biphase_faults (event ∷ [])) → Recalls now pair reported → Lists pair reported (event ∷ []) now before after held held
+lists_quiet pair reported event now before after held none counts stands =
+    lists_one pair reported event now before after held held [] [] none counts
+    (subst (λ (xs : List Sample). IsEncoderAfter now xs) (sym (append-nil (reported_samples pair reported))) stands)
+    (ap biphase (append-nil (reported_samples pair reported)) ∙ sym (append-nil (biphase (reported_samples pair reported)))) (Appends-nil held)
 
 -- the samples of a packet, and its fault
 pub sound_samples : (p : Packet) (verdicts : PacketVerdicts) (column pair : ℕ) (notes : List SampleNote) → IsSamplePacket p → Ok notes ≡ pair_of p verdicts pair
@@ -211,8 +204,8 @@ abbrev mark : Bool → ℕ
 mark true = 1
 mark false = 0
 
-abbrev lost_mark : Thing → ℕ
-lost_mark thing = cond (is_lost_sound thing) 1 0
+abbrev lost_mark : Event → ℕ
+lost_mark event = cond (is_lost_sound event) 1 0
 
 mark_is : (lost b : Bool) → lost ≡ b → cond lost 1 0 ≡ mark b
 mark_is true true is = refl
@@ -220,11 +213,11 @@ mark_is false false is = refl
 mark_is true false is = absurd (cc is)
 mark_is false true is = absurd (cc is)
 
-faults_one : (thing : Thing) (b : Bool) → is_lost_sound thing ≡ b → biphase_faults (thing ∷ []) ≡ mark b
+faults_one : (event : Event) (b : Bool) → is_lost_sound event ≡ b → biphase_faults (event ∷ []) ≡ mark b
 unfolding biphase_faults
-faults_one thing b is =
-    let one = sum_by-cons lost_mark thing [] in
-    let e = mark_is (is_lost_sound thing) b is in
+faults_one event b is =
+    let one = sum_by-cons lost_mark event [] in
+    let e = mark_is (is_lost_sound event) b is in
     omega (arith, one, e)
 
 pub sound_faults : (p : Packet) (verdicts : PacketVerdicts) (column pair : ℕ) (notes : List SampleNote) → IsSamplePacket p → Ok notes ≡ pair_of p verdicts pair
@@ -248,54 +241,54 @@ other_faults p verdicts column other = faults_one (packet p verdicts column) fal
 pub none_counted : (before n : ℕ) → n ≡ 0 → before ≡ counted before n
 none_counted before n none = omega (arith, none)
 
--- ---- things that are no packets
+-- ---- events that are no packets
 
-record IsQuiet (thing : Thing) : Type 0 where
-  pub samples : (pair : ℕ) → samples_at pair thing ≡ []
-  pub faults : biphase_faults (thing ∷ []) ≡ 0
+record IsQuiet (event : Event) : Type 0 where
+  pub samples : (pair : ℕ) → samples_at pair event ≡ []
+  pub faults : biphase_faults (event ∷ []) ≡ 0
 
-lists_nothing : (pair : ℕ) (told : List Thing) (thing : Thing) (now : Bool) (faults : ℕ) (held : Option (List ℕ)) → IsQuiet thing → Recalls now pair told
-    → Lists pair told (thing ∷ []) now faults faults held held
-lists_nothing pair told thing now faults held quiet recalls = lists_quiet pair told thing now faults faults held (quiet.samples pair) (none_counted faults _ quiet.faults) recalls
+lists_nothing : (pair : ℕ) (reported : List Event) (event : Event) (now : Bool) (faults : ℕ) (held : Option (List ℕ)) → IsQuiet event → Recalls now pair reported
+    → Lists pair reported (event ∷ []) now faults faults held held
+lists_nothing pair reported event now faults held quiet recalls = lists_quiet pair reported event now faults faults held (quiet.samples pair) (none_counted faults _ quiet.faults) recalls
 
-quiet : (thing : Thing) → ((pair : ℕ) → samples_at pair thing ≡ []) → is_lost_sound thing ≡ false → IsQuiet thing
-quiet thing none sound = record { samples = none; faults = faults_one thing false sound }
+quiet : (event : Event) → ((pair : ℕ) → samples_at pair event ≡ []) → is_lost_sound event ≡ false → IsQuiet event
+quiet event none sound = record { samples = none; faults = faults_one event false sound }
 
-fault_quiet : (fault : Fault) → IsQuiet (fault_thing fault)
+fault_quiet : (fault : Fault) → IsQuiet (fault_event fault)
 unfolding samples_at is_lost_sound
-fault_quiet (Word a b) = quiet (fault_thing (Word a b)) (λ pair. refl) refl
-fault_quiet (Short a) = quiet (fault_thing (Short a)) (λ pair. refl) refl
-fault_quiet (Preamble a) = quiet (fault_thing (Preamble a)) (λ pair. refl) refl
-fault_quiet (Noise a) = quiet (fault_thing (Noise a)) (λ pair. refl) refl
-fault_quiet (Empty a) = quiet (fault_thing (Empty a)) (λ pair. refl) refl
-fault_quiet (Code a b) = quiet (fault_thing (Code a b)) (λ pair. refl) refl
-fault_quiet (LongLine a) = quiet (fault_thing (LongLine a)) (λ pair. refl) refl
-fault_quiet (Symbols a b) = quiet (fault_thing (Symbols a b)) (λ pair. refl) refl
-fault_quiet (Mended a b c) = quiet (fault_thing (Mended a b c)) (λ pair. refl) refl
-fault_quiet (Lost a b) = quiet (fault_thing (Lost a b)) (λ pair. refl) refl
-fault_quiet (LongIsland a) = quiet (fault_thing (LongIsland a)) (λ pair. refl) refl
-fault_quiet (Broken a) = quiet (fault_thing (Broken a)) (λ pair. refl) refl
-fault_quiet (Guard a) = quiet (fault_thing (Guard a)) (λ pair. refl) refl
+fault_quiet (Word a b) = quiet (fault_event (Word a b)) (λ pair. refl) refl
+fault_quiet (Short a) = quiet (fault_event (Short a)) (λ pair. refl) refl
+fault_quiet (Preamble a) = quiet (fault_event (Preamble a)) (λ pair. refl) refl
+fault_quiet (Noise a) = quiet (fault_event (Noise a)) (λ pair. refl) refl
+fault_quiet (Empty a) = quiet (fault_event (Empty a)) (λ pair. refl) refl
+fault_quiet (Code a b) = quiet (fault_event (Code a b)) (λ pair. refl) refl
+fault_quiet (LongLine a) = quiet (fault_event (LongLine a)) (λ pair. refl) refl
+fault_quiet (Symbols a b) = quiet (fault_event (Symbols a b)) (λ pair. refl) refl
+fault_quiet (Mended a b c) = quiet (fault_event (Mended a b c)) (λ pair. refl) refl
+fault_quiet (Lost a b) = quiet (fault_event (Lost a b)) (λ pair. refl) refl
+fault_quiet (LongIsland a) = quiet (fault_event (LongIsland a)) (λ pair. refl) refl
+fault_quiet (Broken a) = quiet (fault_event (Broken a)) (λ pair. refl) refl
+fault_quiet (Guard a) = quiet (fault_event (Guard a)) (λ pair. refl) refl
 
 -- what is no packet
-abbrev pub IsNoPacket : Told → Type 0
-IsNoPacket told =
-    ((value : ℕ) × (count : ℕ) × (told ≡ Run value count))
-    ⊎ (((pixels : Bor (List ℕ)) × (told ≡ Line pixels))
-    ⊎ (((sync : List ℕ) × (told ≡ Open sync))
-    ⊎ (((sync : List ℕ) × (told ≡ Close sync))
-    ⊎ (((column : ℕ) × (told ≡ Cut column))
-    ⊎ ((fault : Fault) × (told ≡ FaultTold fault))))))
+abbrev pub IsNoPacket : EventRef → Type 0
+IsNoPacket reported =
+    ((value : ℕ) × (count : ℕ) × (reported ≡ Run value count))
+    ⊎ (((pixels : Bor (List ℕ)) × (reported ≡ Line pixels))
+    ⊎ (((sync : List ℕ) × (reported ≡ Open sync))
+    ⊎ (((sync : List ℕ) × (reported ≡ Close sync))
+    ⊎ (((column : ℕ) × (reported ≡ Cut column))
+    ⊎ ((fault : Fault) × (reported ≡ FaultReported fault))))))
 
-told_quiet : (told : Told) → IsNoPacket told → IsQuiet (lent_thing told)
+reported_quiet : (reported : EventRef) → IsNoPacket reported → IsQuiet (lent_event reported)
 unfolding samples_at is_lost_sound
-told_quiet told (inl (value, count, is)) = subst (λ (t : Told). IsQuiet (lent_thing t)) (sym is) (quiet (run value count) (λ pair. refl) refl)
-told_quiet told (inr (inl (pixels, is))) = subst (λ (t : Told). IsQuiet (lent_thing t)) (sym is) (quiet (line pixels.now) (λ pair. refl) refl)
-told_quiet told (inr (inr (inl (sync, is)))) = subst (λ (t : Told). IsQuiet (lent_thing t)) (sym is) (quiet (lent_thing (Open sync)) (λ pair. refl) refl)
-told_quiet told (inr (inr (inr (inl (sync, is))))) = subst (λ (t : Told). IsQuiet (lent_thing t)) (sym is) (quiet (lent_thing (Close sync)) (λ pair. refl) refl)
-told_quiet told (inr (inr (inr (inr (inl (column, is)))))) = subst (λ (t : Told). IsQuiet (lent_thing t)) (sym is) (quiet (cut column) (λ pair. refl) refl)
-told_quiet told (inr (inr (inr (inr (inr (fault, is)))))) = subst (λ (t : Told). IsQuiet (lent_thing t)) (sym is) (fault_quiet fault)
+reported_quiet reported (inl (value, count, is)) = subst (λ (t : EventRef). IsQuiet (lent_event t)) (sym is) (quiet (run value count) (λ pair. refl) refl)
+reported_quiet reported (inr (inl (pixels, is))) = subst (λ (t : EventRef). IsQuiet (lent_event t)) (sym is) (quiet (line pixels.now) (λ pair. refl) refl)
+reported_quiet reported (inr (inr (inl (sync, is)))) = subst (λ (t : EventRef). IsQuiet (lent_event t)) (sym is) (quiet (lent_event (Open sync)) (λ pair. refl) refl)
+reported_quiet reported (inr (inr (inr (inl (sync, is))))) = subst (λ (t : EventRef). IsQuiet (lent_event t)) (sym is) (quiet (lent_event (Close sync)) (λ pair. refl) refl)
+reported_quiet reported (inr (inr (inr (inr (inl (column, is)))))) = subst (λ (t : EventRef). IsQuiet (lent_event t)) (sym is) (quiet (cut column) (λ pair. refl) refl)
+reported_quiet reported (inr (inr (inr (inr (inr (fault, is)))))) = subst (λ (t : EventRef). IsQuiet (lent_event t)) (sym is) (fault_quiet fault)
 
-pub nothing_heard : (pair : ℕ) (before : List Thing) (told : Told) (now : Bool) (faults : ℕ) (held : Option (List ℕ)) → IsNoPacket told → Recalls now pair before
-    → Lists pair before (lent_thing told ∷ []) now faults faults held held
-nothing_heard pair before told now faults held is recalls = lists_nothing pair before (lent_thing told) now faults held (told_quiet told is) recalls
+pub nothing_heard : (pair : ℕ) (before : List Event) (reported : EventRef) (now : Bool) (faults : ℕ) (held : Option (List ℕ)) → IsNoPacket reported → Recalls now pair before
+    → Lists pair before (lent_event reported ∷ []) now faults faults held held
+nothing_heard pair before reported now faults held is recalls = lists_nothing pair before (lent_event reported) now faults held (reported_quiet reported is) recalls

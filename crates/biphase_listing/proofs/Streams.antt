@@ -73,8 +73,8 @@ one_sample s t xs ys p q same =
     let flat = p.flat ∙ sym q.flat in
     λ i. record { left = (left i).value; right = (right i).value; left_flags = (left i).flags; right_flags = (right i).flags; start = start i; flat = flat i }
 
-behind_frame : (s : Sample) (xs : List ℕ) → drop 16 (frame_bytes s ++ xs) ≡ xs
-behind_frame s xs = ap (λ (n : ℕ). drop n (frame_bytes s ++ xs)) (sym (length-frame s)) ∙ drop-append_seam (frame_bytes s) xs
+after_frame : (s : Sample) (xs : List ℕ) → drop 16 (frame_bytes s ++ xs) ≡ xs
+after_frame s xs = ap (λ (n : ℕ). drop n (frame_bytes s ++ xs)) (sym (length-frame s)) ∙ drop-append_seam (frame_bytes s) xs
 
 same_samples : (a b : List Sample) → All IsCarried a → All IsCarried b → flat_map frame_bytes a ≡ flat_map frame_bytes b → a ≡ b
 same_samples [] [] p q same = refl
@@ -84,7 +84,7 @@ same_samples (s ∷ a) [] p q same =
     let n = sym (ap length same) ∙ length-append (frame_bytes s) (flat_map frame_bytes a) in absurd (omega (arith, n, length-frame s))
 same_samples (s ∷ a) (t ∷ b) p q same =
     ap₂ (λ (x : Sample) (xs : List Sample). x ∷ xs) (one_sample s t _ _ (p 0 s (omega arith)) (q 0 t (omega arith)) same)
-    (same_samples a b (rest_carried s a p) (rest_carried t b q) (sym (behind_frame s (flat_map frame_bytes a)) ∙ ap (drop 16) same ∙ behind_frame t (flat_map frame_bytes b)))
+    (same_samples a b (rest_carried s a p) (rest_carried t b q) (sym (after_frame s (flat_map frame_bytes a)) ∙ ap (drop 16) same ∙ after_frame t (flat_map frame_bytes b)))
 
 pub one_stream : OneStream
 one_stream = λ a b bytes p q. same_samples a b p.frames.carried q.frames.carried (sym p.frames.bytes_are ∙ q.frames.bytes_are)

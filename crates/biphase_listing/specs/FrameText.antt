@@ -4,7 +4,7 @@ use Rattle.hex.specs.Hex.{encode_lower}
 use Rattle.audio_packets.specs.declared.sample.Sample.{Sample}
 use Rattle.audio_out.specs.Blocks.{block_of}
 use Rattle.audio_out.specs.declared.blocks.BlockStatus.{BlockStatus}
-use Rattle.listing.specs.ContentText.{digit_of, sample_words}
+use Rattle.listing_writer.specs.ContentText.{digit_of, sample_words}
 
 -- the last eight bytes of the line of a sample: the flags of its sides, whether a block starts, and that it is not flat
 abbrev pub last_words : ℕ → ℕ → Bool → List ℕ

@@ -7,7 +7,7 @@ use Rattle.island_pack.specs.declared.packet.PacketVerdicts.{PacketVerdicts}
 use Rattle.audio_packets.specs.Samples.{IsSample}
 use Rattle.audio_packets.specs.declared.sample.Sample.{Sample}
 use Rattle.audio_out.specs.Frames.{biphase, from_start}
-use Rattle.period_grammar.specs.Things.{packet}
+use Rattle.period_grammar.specs.Events.{packet}
 use Rattle.biphase_listing.specs.Groups.{IsStream, most_frames}
 use Rattle.biphase_listing.specs.Refusals.{IsFault}
 use Rattle.biphase_listing.specs.StreamText.{samples_at}

@@ -9,8 +9,8 @@ use Rattle.audio_packets.specs.declared.fault.AudioFault.{AudioFault}
 use Rattle.audio_packets.specs.declared.sample.Sample.{Sample}
 use Rattle.audio_packets.specs.declared.sample.SampleNote.{SampleNote}
 use Rattle.audio_out.specs.Frames.{IsEncoderAfter, biphase}
-use Rattle.period_grammar.specs.Things.{Thing, packet}
-use Rattle.listing.specs.Texts.{counted}
+use Rattle.period_grammar.specs.Events.{Event, packet}
+use Rattle.listing_writer.specs.Texts.{counted}
 
 abbrev pub samples_in : Result (List SampleNote) AudioFault → List Sample
 samples_in (Ok notes) = map (λ note. note.sample) notes
@@ -20,42 +20,42 @@ samples_in (Err fault) = []
 abbrev pub is_sound : Packet → Bool
 is_sound p = slice_index p.header 0 == 2
 
--- the samples of a pair that a thing carries: none where a block is lost
-unfoldable pub samples_at : ℕ → Thing → List Sample
+-- the samples of a pair that an event carries: none where a block is lost
+unfoldable pub samples_at : ℕ → Event → List Sample
 samples_at pair (packet p verdicts column) = if is_sound p then samples_in (pair_of p verdicts pair) else []
 samples_at pair _ = []
 
-unfoldable pub told_samples : ℕ → List Thing → List Sample
-told_samples pair things = flat_map (samples_at pair) things
+unfoldable pub reported_samples : ℕ → List Event → List Sample
+reported_samples pair events = flat_map (samples_at pair) events
 
 -- the stream
-unfoldable pub biphase_text : ℕ → List Thing → List ℕ
-biphase_text pair things = biphase (told_samples pair things)
+unfoldable pub biphase_text : ℕ → List Event → List ℕ
+biphase_text pair events = biphase (reported_samples pair events)
 
 -- a packet of samples that has lost a block
-unfoldable pub is_lost_sound : Thing → Bool
+unfoldable pub is_lost_sound : Event → Bool
 is_lost_sound (packet p verdicts column) = is_sound p && is_some (first_lost verdicts)
 is_lost_sound _ = false
 
-unfoldable pub biphase_faults : List Thing → ℕ
-biphase_faults things = count_by is_lost_sound things
+unfoldable pub biphase_faults : List Event → ℕ
+biphase_faults events = count_by is_lost_sound events
 
 -- what is kept is that of all that was told
-abbrev pub Recalls : Bool → ℕ → List Thing → Type 0
-Recalls started pair told = IsEncoderAfter started (told_samples pair told)
+abbrev pub Recalls : Bool → ℕ → List Event → Type 0
+Recalls started pair reported = IsEncoderAfter started (reported_samples pair reported)
 
--- things were told after `told`: the stream grew by bytes, which were written, and the packets that had lost a block were counted
-pub record Lists (pair : ℕ) (told things : List Thing) (now : Bool) (before after : ℕ) (held holds : Option (List ℕ)) : Type 0 where
-  pub recalls : Recalls now pair (told ++ things)
-  pub faults : after ≡ counted before (biphase_faults things)
+-- events were told after `reported`: the stream grew by bytes, which were written, and the packets that had lost a block were counted
+pub record Lists (pair : ℕ) (reported events : List Event) (now : Bool) (before after : ℕ) (held holds : Option (List ℕ)) : Type 0 where
+  pub recalls : Recalls now pair (reported ++ events)
+  pub faults : after ≡ counted before (biphase_faults events)
   pub bytes : List ℕ
-  pub grows : biphase_text pair (told ++ things) ≡ biphase_text pair told ++ bytes
+  pub grows : biphase_text pair (reported ++ events) ≡ biphase_text pair reported ++ bytes
   pub written : Appends held holds bytes
 
--- a thing was told after `told`: of the bytes by which the stream grew not all were written
-pub record Breaks (pair : ℕ) (told : List Thing) (thing : Thing) (held holds : Option (List ℕ)) : Type 0 where
+-- an event was told after `reported`: of the bytes by which the stream grew not all were written
+pub record Breaks (pair : ℕ) (reported : List Event) (event : Event) (held holds : Option (List ℕ)) : Type 0 where
   pub bytes : List ℕ
-  pub grows : biphase_text pair (told ++ thing ∷ []) ≡ biphase_text pair told ++ bytes
+  pub grows : biphase_text pair (reported ++ event ∷ []) ≡ biphase_text pair reported ++ bytes
   pub n : ℕ
   pub missing : n < length bytes
   pub written : Appends held holds (take n bytes)

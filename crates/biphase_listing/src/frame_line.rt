@@ -1,7 +1,7 @@
 //! The line of one frame.
 ghost use Rattle.std.specs.Prelude.{◌≡◌, ◌++◌, ◌+◌, ◌<◌, codes, slice_index};
 ghost use Rattle.hex.specs.Hex.{lower_digits};
-ghost use Rattle.listing.specs.ContentText.{digit_of, sample_words, value_digits};
+ghost use Rattle.listing_writer.specs.ContentText.{digit_of, sample_words, value_digits};
 ghost use Rattle.audio_out.specs.Subframes.{IsSound};
 ghost use Rattle.biphase_listing.specs.FrameText.{last_words};
 ghost use Rattle.biphase_listing.specs.Fours.{HasFours, six_bytes, turned};

@@ -3,7 +3,6 @@
 #![tactic(auto)]
 
 mod fault;
-mod filling;
 mod frame_line;
 mod frame_lines;
 pub mod laws;

@@ -6,7 +6,7 @@ ghost use Rattle.outside_io.specs.Causes.{HasCause};
 ghost use Rattle.audio_packets.specs.Samples.{IsSample, IsSamplePacket, packet_with, sample_at};
 ghost use Rattle.audio_packets.specs.declared.sample.Sample.{Sample as SampleType};
 ghost use Rattle.audio_out.specs.Frames.{IsEncoderAfter, biphase};
-ghost use Rattle.period_grammar.specs.Things.{Thing, packet as packet_thing};
+ghost use Rattle.period_grammar.specs.Events.{Event, packet as packet_event};
 ghost use Rattle.biphase_listing.specs.StreamText.{Recalls, Lists, Breaks};
 
 use arrayvec::ArrayVec;
@@ -16,7 +16,7 @@ use audio_packets::{SampleIter, pair};
 use island_pack::PacketRef;
 use link_sink::Ear;
 use outside_io::{Failed, Sink, write_all};
-use period_grammar::Told;
+use period_grammar::EventRef;
 use std::marker::Model;
 
 /// The number of a pair of channels, 0 to 3. It is seen as a number.
@@ -95,10 +95,10 @@ impl<'a, K: Sink> BiphaseLister<'a, K> {
     fn packet(&mut self, packet: PacketRef<'_>, column: u32) -> Result<(), Failed>
         ensures same { self.new.sink.ghost_name ≡ self.old.sink.ghost_name }
         ensures pair { self.new.pair ≡ self.old.pair }
-        ensures ok { (told : List Thing) → Recalls self.old.encoder self.old.pair told
-            → OnOk result (Lists self.old.pair told (packet_thing packet.entry.packet.now packet.entry.verdicts.now column ∷ []) self.new.encoder self.old.faults self.new.faults (K.held self.old.sink.now) (K.held self.new.sink.now)) }
-        ensures err { (told : List Thing) → Recalls self.old.encoder self.old.pair told
-            → OnErr result (Breaks self.old.pair told (packet_thing packet.entry.packet.now packet.entry.verdicts.now column) (K.held self.old.sink.now) (K.held self.new.sink.now)) }
+        ensures ok { (reported : List Event) → Recalls self.old.encoder self.old.pair reported
+            → OnOk result (Lists self.old.pair reported (packet_event packet.entry.packet.now packet.entry.verdicts.now column ∷ []) self.new.encoder self.old.faults self.new.faults (K.held self.old.sink.now) (K.held self.new.sink.now)) }
+        ensures err { (reported : List Event) → Recalls self.old.encoder self.old.pair reported
+            → OnErr result (Breaks self.old.pair reported (packet_event packet.entry.packet.now packet.entry.verdicts.now column) (K.held self.old.sink.now) (K.held self.new.sink.now)) }
         ensures uncounted { OnErr result (self.new.faults ≡ self.old.faults) }
         ensures cause { HasCause (K.faults self.old.sink.now) (K.faults self.new.sink.now) result }
     {
@@ -114,10 +114,10 @@ impl<'a, K: Sink> BiphaseLister<'a, K> {
         requires { IsSamplePacket packet.packet.now }
         ensures same { self.new.sink.ghost_name ≡ self.old.sink.ghost_name }
         ensures pair { self.new.pair ≡ self.old.pair }
-        ensures ok { (told : List Thing) → Recalls self.old.encoder self.old.pair told
-            → OnOk result (Lists self.old.pair told (packet_thing packet.entry.packet.now packet.entry.verdicts.now column ∷ []) self.new.encoder self.old.faults self.new.faults (K.held self.old.sink.now) (K.held self.new.sink.now)) }
-        ensures err { (told : List Thing) → Recalls self.old.encoder self.old.pair told
-            → OnErr result (Breaks self.old.pair told (packet_thing packet.entry.packet.now packet.entry.verdicts.now column) (K.held self.old.sink.now) (K.held self.new.sink.now)) }
+        ensures ok { (reported : List Event) → Recalls self.old.encoder self.old.pair reported
+            → OnOk result (Lists self.old.pair reported (packet_event packet.entry.packet.now packet.entry.verdicts.now column ∷ []) self.new.encoder self.old.faults self.new.faults (K.held self.old.sink.now) (K.held self.new.sink.now)) }
+        ensures err { (reported : List Event) → Recalls self.old.encoder self.old.pair reported
+            → OnErr result (Breaks self.old.pair reported (packet_event packet.entry.packet.now packet.entry.verdicts.now column) (K.held self.old.sink.now) (K.held self.new.sink.now)) }
         ensures uncounted { OnErr result (self.new.faults ≡ self.old.faults) }
         ensures cause { HasCause (K.faults self.old.sink.now) (K.faults self.new.sink.now) result }
     {
@@ -181,27 +181,27 @@ impl<'a, K: Sink> Ear for BiphaseLister<'a, K> {
     ghost faults = { λ l. K.faults l.sink.now };
 
     // For all that was told before: the sink grew by the bytes by which the stream did, and the count by the packets that had lost a block.
-    ghost took = { λ x y things.
+    ghost took = { λ x y events.
         (y.sink.ghost_name ≡ x.sink.ghost_name)
         × (y.pair ≡ x.pair)
-        × ((told : List Thing) → Recalls x.encoder x.pair told → Lists x.pair told things y.encoder x.faults y.faults (K.held x.sink.now) (K.held y.sink.now)) };
+        × ((reported : List Event) → Recalls x.encoder x.pair reported → Lists x.pair reported events y.encoder x.faults y.faults (K.held x.sink.now) (K.held y.sink.now)) };
 
     // The sink grew by a part of these bytes, not by all, and nothing was counted.
-    ghost broke = { λ x y thing.
+    ghost broke = { λ x y event.
         (y.sink.ghost_name ≡ x.sink.ghost_name)
         × (y.pair ≡ x.pair)
         × (y.faults ≡ x.faults)
-        × ((told : List Thing) → Recalls x.encoder x.pair told → Breaks x.pair told thing (K.held x.sink.now) (K.held y.sink.now)) };
+        × ((reported : List Event) → Recalls x.encoder x.pair reported → Breaks x.pair reported event (K.held x.sink.now) (K.held y.sink.now)) };
 
-    fn hear(&mut self, told: Told<'_>) -> Result<(), Failed> {
-        match told {
-            Told::Packet { packet, column } => self.packet(packet, column),
-            Told::Run { value: _, count: _ }
-            | Told::Line { pixels: _ }
-            | Told::Open { sync: _ }
-            | Told::Close { sync: _ }
-            | Told::Cut { column: _ }
-            | Told::Fault(_) => Ok(()),
+    fn hear(&mut self, event: EventRef<'_>) -> Result<(), Failed> {
+        match event {
+            EventRef::Packet { packet, column } => self.packet(packet, column),
+            EventRef::Run { value: _, count: _ }
+            | EventRef::Line { pixels: _ }
+            | EventRef::Open { sync: _ }
+            | EventRef::Close { sync: _ }
+            | EventRef::Cut { column: _ }
+            | EventRef::Fault(_) => Ok(()),
         }
     }
 

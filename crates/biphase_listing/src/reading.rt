@@ -8,9 +8,8 @@ ghost use Rattle.biphase_listing.specs.declared.fault.BiphaseFault.{BiphaseFault
 ghost use Rattle.biphase_listing.specs.declared.fault.BiphaseError.TheVariants.{Bad, Read, Write};
 
 use crate::fault::{BiphaseError, BiphaseFault};
-use crate::filling::fill;
 use crate::frame_lines::{FrameLines, PIECE, Stop};
-use outside_io::{Sink, Source, write_all};
+use outside_io::{Sink, Source, read_full, write_all};
 
 /// The most bytes of a list of frames: 268,435,455 times 16.
 const MOST_BYTES: u64 = 4_294_967_280;
@@ -76,13 +75,13 @@ fn list_next<S: Source, K: Sink>(
     ensures input_later { S.faults input.old ≤ S.faults input.new }
     ensures output_later { K.faults output.old ≤ K.faults output.new }
 {
-    match fill(input, piece) {
+    match read_full(input, piece) {
         Ok(count) => {
             list_piece(&piece[..count], frames, output)?;
             judge(frames.count, count % 16, count == piece.len())
         }
-        Err(count) => {
-            list_piece(&piece[..count], frames, output)?;
+        Err(got) => {
+            list_piece(&piece[..got.arrived], frames, output)?;
             Err(BiphaseError::Read)
         }
     }

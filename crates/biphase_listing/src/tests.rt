@@ -8,7 +8,7 @@ use bch_block::Verdict;
 use island_pack::{Packet, PacketRef, PacketVerdicts, is_packet_in_range};
 use link_sink::Ear;
 use outside_io::{Failed, MemSink, MemSource};
-use period_grammar::Told;
+use period_grammar::EventRef;
 use std::alloc::Global;
 use std::test::*;
 
@@ -200,7 +200,7 @@ fn tell(
         symbols: 0,
     };
     let packet = PacketRef::new(&packet, &verdicts);
-    lister.hear(Told::Packet { packet, column: 14 })
+    lister.hear(EventRef::Packet { packet, column: 14 })
 }
 
 #[test]

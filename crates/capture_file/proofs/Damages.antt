@@ -6,18 +6,15 @@ use Rattle.std.proofs.lemmas.List.Elements.{All-get_or}
 use Rattle.std.proofs.lemmas.Option.{get_or_from_slice_get, slice_get_within}
 use Rattle.capture_file.specs.Layout.{packed, blocks_below}
 use Rattle.capture_file.specs.Captures.{counts_of, header_of, CanSay, IsHeader, HasRead, IsHeadless, IsFault, lane_blocks, block_size, place_at}
-use Rattle.capture_file.specs.Damage.{hurt}
-use Rattle.capture_file.specs.Refusals.{refused}
+use Rattle.capture_file.specs.Damage.{damaged}
 use Rattle.capture_file.specs.BlockDamage.{AllFitLanes, Halfway, IsDamagedFront, IsDamagedCapture, IsLateFault, IsDamageFault, SaysFault, SaysBad}
 use Rattle.capture_file.specs.declared.damaging.Hit.{Hit}
 use Rattle.capture_file.specs.declared.damaging.DamageError.{DamageError}
 use Rattle.capture_file.specs.declared.damaging.DamageError.TheVariants.{Bad, Place, Read, Write}
-use Rattle.capture_file.specs.declared.fault.CaptureError.{CaptureError}
-use Rattle.capture_file.specs.declared.fault.CaptureError.TheVariants as errors
 use Rattle.capture_file.proofs.Heads.{same_heads}
 use Rattle.capture_file.proofs.Standing.{size_of, none_below}
 use Rattle.capture_file.proofs.Takings.{ended, no_block}
-use Rattle.capture_file.proofs.Halfways.{lane_fits, hurt_all}
+use Rattle.capture_file.proofs.Halfways.{lane_fits, damaged_all}
 
 -- hits fit lanes of the same counts
 pub fits_same : (counts other : List ℕ) (hits : List Hit) → ((c : ℕ) → c < 3 → slice_index counts c ≡ slice_index other c) → All (λ (h : Hit). h.lane < 3) hits → AllFitLanes counts hits → AllFitLanes other hits
@@ -47,7 +44,7 @@ halfway_head version counts hits before now s wrote =
       said = s;
       head_is = refl;
       out_is = λ u v w eu ev ew.
-          sym (ap (λ xs. h ++ xs) (none_below (packed (hurt 0 hits ([] ++ u))) (packed (hurt 1 hits ([] ++ v))) (packed (hurt 2 hits ([] ++ w)))) ∙ append-nil h);
+          sym (ap (λ xs. h ++ xs) (none_below (packed (damaged 0 hits ([] ++ u))) (packed (damaged 1 hits ([] ++ v))) (packed (damaged 2 hits ([] ++ w)))) ∙ append-nil h);
     } in
     record { out = h; front = front; wrote = wrote }
 
@@ -61,12 +58,12 @@ halfway_done version counts hits j taken before now lanes fit none was =
     let e0 : length h.x ≡ slice_index counts 0 = omega (arith, h.read.count_x, b.0) in
     let e1 : length h.y ≡ slice_index counts 1 = omega (arith, h.read.count_y, b.1) in
     let e2 : length h.z ≡ slice_index counts 2 = omega (arith, h.read.count_z, b.2) in
-    let f = hurt 0 hits h.x in
-    let g = hurt 1 hits h.y in
-    let k = hurt 2 hits h.z in
-    let l0 : length f ≡ slice_index counts 0 = hurt_all 0 hits h.x (lane_fits counts hits 0 (length h.x) fit e0) ∙ e0 in
-    let l1 : length g ≡ slice_index counts 1 = hurt_all 1 hits h.y (lane_fits counts hits 1 (length h.y) fit e1) ∙ e1 in
-    let l2 : length k ≡ slice_index counts 2 = hurt_all 2 hits h.z (lane_fits counts hits 2 (length h.z) fit e2) ∙ e2 in
+    let f = damaged 0 hits h.x in
+    let g = damaged 1 hits h.y in
+    let k = damaged 2 hits h.z in
+    let l0 : length f ≡ slice_index counts 0 = damaged_all 0 hits h.x (lane_fits counts hits 0 (length h.x) fit e0) ∙ e0 in
+    let l1 : length g ≡ slice_index counts 1 = damaged_all 1 hits h.y (lane_fits counts hits 1 (length h.y) fit e1) ∙ e1 in
+    let l2 : length k ≡ slice_index counts 2 = damaged_all 2 hits h.z (lane_fits counts hits 2 (length h.z) fit e2) ∙ e2 in
     let below = blocks_below j (packed f) (packed g) (packed k) in
     let headed : IsHeader head counts = record { version = version; said = h.said; head_is = refl } in
     let own : HasRead counts j (length (head ++ below)) (head ++ below) f g k =
@@ -88,9 +85,9 @@ halfway_done version counts hits j taken before now lanes fit none was =
     let x_is = append-nil h.x in
     let y_is = append-nil h.y in
     let z_is = append-nil h.z in
-    let written : head ++ blocks_below j (packed (hurt 0 hits (h.x ++ []))) (packed (hurt 1 hits (h.y ++ []))) (packed (hurt 2 hits (h.z ++ []))) ≡ head ++ below =
-    ap (λ r. head ++ blocks_below j (packed (hurt 0 hits r)) (packed (hurt 1 hits (h.y ++ []))) (packed (hurt 2 hits (h.z ++ [])))) x_is
-    ∙ ap₂ (λ r s. head ++ blocks_below j (packed f) (packed (hurt 1 hits r)) (packed (hurt 2 hits s))) y_is z_is in (
+    let written : head ++ blocks_below j (packed (damaged 0 hits (h.x ++ []))) (packed (damaged 1 hits (h.y ++ []))) (packed (damaged 2 hits (h.z ++ []))) ≡ head ++ below =
+    ap (λ r. head ++ blocks_below j (packed (damaged 0 hits r)) (packed (damaged 1 hits (h.y ++ []))) (packed (damaged 2 hits (h.z ++ [])))) x_is
+    ∙ ap₂ (λ r s. head ++ blocks_below j (packed f) (packed (damaged 1 hits r)) (packed (damaged 2 hits s))) y_is z_is in (
       old.head ++ lane_blocks f g k,
       record {
         x = h.x;
@@ -152,11 +149,6 @@ fault_early hits bytes before now (Bad fault) kept h = (
 fault_early hits bytes before now (Place i) kept h = h
 fault_early hits bytes before now Read kept h = h
 fault_early hits bytes before now Write kept h = h
-
--- a refusal of the reader names no place
-pub refused_placed : (e : CaptureError) (i : ℕ) → refused e ≡ Place i → ⊥
-refused_placed (errors.Bad fault) i is = cc
-refused_placed errors.Read i is = cc
 
 pub keeps_self : (a : Option (List ℕ)) → Keeps a a
 keeps_self None = tt

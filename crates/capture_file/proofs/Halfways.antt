@@ -7,8 +7,8 @@ use Rattle.std.proofs.lemmas.List.{take_all}
 use Rattle.std.specs.Io.KnownBytes.{Appends, Keeps}
 use Rattle.capture_file.specs.Layout.{packed, chunk, block, blocks_below}
 use Rattle.capture_file.specs.Captures.{header_of, IsHeader, CanSay, HasRead, bits_in, block_size, place_of, IsFault, StopsIn}
-use Rattle.capture_file.specs.Damage.{hurt}
-use Rattle.capture_file.specs.BlockDamage.{AllFitLanes, LaneFits, Halfway, IsDamagedFront, HurtChunk, CutIn, SaysFault, IsLateFault}
+use Rattle.capture_file.specs.Damage.{damaged}
+use Rattle.capture_file.specs.BlockDamage.{AllFitLanes, LaneFits, Halfway, IsDamagedFront, DamagedChunk, CutIn, SaysFault, IsLateFault}
 use Rattle.capture_file.specs.declared.damaging.DamageError.{DamageError}
 use Rattle.capture_file.specs.declared.damaging.DamageError.TheVariants.{Bad, Place, Read, Write}
 use Rattle.capture_file.specs.declared.damaging.Hit.{Hit}
@@ -18,23 +18,23 @@ use Rattle.capture_file.proofs.Pieces.{three, piece_of, length-pieces, length-pi
 use Rattle.capture_file.proofs.Takings.{chunk_past, nothing_packed, nothing}
 use Rattle.capture_file.proofs.Standing.{stands_more}
 use Rattle.capture_file.proofs.Heads.{same_heads}
-use Rattle.capture_file.proofs.HitLanes.{hurt_long}
+use Rattle.capture_file.proofs.HitLanes.{damaged_long}
 
 pub lane_fits : (counts : List ℕ) (hits : List Hit) (lane n : ℕ) → AllFitLanes counts hits → n ≡ slice_index counts lane → LaneFits lane n hits
 lane_fits counts hits lane n fit is i hit at own = omega (arith, is, fit i hit at, ap (λ l. slice_index counts l) own)
 
-pub hurt_all : (lane : ℕ) (hits : List Hit) (row : List Bool) → LaneFits lane (length row) hits → length (hurt lane hits row) ≡ length row
-hurt_all lane hits row fit = ap (λ hs. length (hurt lane hs row)) (sym (take_all (length hits) hits (omega arith))) ∙ hurt_long lane (length hits) hits row fit
+pub damaged_all : (lane : ℕ) (hits : List Hit) (row : List Bool) → LaneFits lane (length row) hits → length (damaged lane hits row) ≡ length row
+damaged_all lane hits row fit = ap (λ hs. length (damaged lane hs row)) (sym (take_all (length hits) hits (omega arith))) ∙ damaged_long lane (length hits) hits row fit
 
 -- a chunk of a damaged lane
-pub hurt_chunk : (lane t j : ℕ) (hits : List Hit) (x a u now : List Bool) → length x ≡ min t (32768 * j) → length a ≡ bits_in j t → length ((x ++ a) ++ u) ≡ t → LaneFits lane t hits
-    → HurtChunk lane (32768 * j) hits a now → chunk j (packed (hurt lane hits (x ++ (a ++ u)))) ≡ packed now
-hurt_chunk lane t j hits x a u now lx la all fit h =
+pub damaged_chunk : (lane t j : ℕ) (hits : List Hit) (x a u now : List Bool) → length x ≡ min t (32768 * j) → length a ≡ bits_in j t → length ((x ++ a) ++ u) ≡ t → LaneFits lane t hits
+    → DamagedChunk lane (32768 * j) hits a now → chunk j (packed (damaged lane hits (x ++ (a ++ u)))) ≡ packed now
+damaged_chunk lane t j hits x a u now lx la all fit h =
     let row = x ++ (a ++ u) in
     let long : length row ≡ t = ap length (sym (append_assoc x a u)) ∙ all in
     let fits : LaneFits lane (length row) hits = subst (λ n. LaneFits lane n hits) (sym long) fit in
-    let w = hurt lane hits row in
-    let len : length w ≡ t = hurt_all lane hits row fits ∙ long in
+    let w = damaged lane hits row in
+    let len : length w ≡ t = damaged_all lane hits row fits ∙ long in
     elim (cases_lt 0 (length a)) [
       | inl some ↦
           let at : length x ≡ 32768 * j = omega arith in
@@ -62,13 +62,13 @@ next_head version counts taken part x y z j place said head blocks is own r =
 -- what was written, however the lanes go on
 halfway_wrote : (version : ℕ) (counts : List ℕ) (hits : List Hit) (j : ℕ) (taken : List ℕ) (before now : Option (List ℕ)) → (h : Halfway version counts hits j taken before now)
     → (u v w : List Bool) → length (h.front.x ++ u) ≡ slice_index counts 0 → length (h.front.y ++ v) ≡ slice_index counts 1 → length (h.front.z ++ w) ≡ slice_index counts 2
-    → Appends before now (header_of version counts ++ blocks_below j (packed (hurt 0 hits (h.front.x ++ u))) (packed (hurt 1 hits (h.front.y ++ v))) (packed (hurt 2 hits (h.front.z ++ w))))
+    → Appends before now (header_of version counts ++ blocks_below j (packed (damaged 0 hits (h.front.x ++ u))) (packed (damaged 1 hits (h.front.y ++ v))) (packed (damaged 2 hits (h.front.z ++ w))))
 halfway_wrote version counts hits j taken before now h u v w eu ev ew = subst (λ bs. Appends before now bs) (h.front.out_is u v w eu ev ew) h.wrote
 
 -- a block more
 pub halfway_more : (version : ℕ) (counts : List ℕ) (hits : List Hit) (j : ℕ) (taken : List ℕ) (before mid now : Option (List ℕ)) (a b d a' b' d' : List Bool)
     → AllFitLanes counts hits → length a ≡ bits_in j (slice_index counts 0) → length b ≡ bits_in j (slice_index counts 1) → length d ≡ bits_in j (slice_index counts 2)
-    → HurtChunk 0 (32768 * j) hits a a' → HurtChunk 1 (32768 * j) hits b b' → HurtChunk 2 (32768 * j) hits d d'
+    → DamagedChunk 0 (32768 * j) hits a a' → DamagedChunk 1 (32768 * j) hits b b' → DamagedChunk 2 (32768 * j) hits d d'
     → Appends mid now ((packed a' ++ packed b') ++ packed d') → Halfway version counts hits j taken before mid → Halfway version counts hits (j + 1) (taken ++ ((packed a ++ packed b) ++ packed d)) before now
 halfway_more version counts hits j taken before mid now a b d a' b' d' fit la lb ld ha hb hd wrote was =
     let head = header_of version counts in
@@ -83,24 +83,24 @@ halfway_more version counts hits j taken before mid now a b d a' b' d' fit la lb
       head_is = next_head version counts taken ((packed a ++ packed b) ++ packed d) (old.x ++ a) (old.y ++ b) (old.z ++ d) (j + 1) _ old.said old.read.head (blocks_below j (packed old.x) (packed old.y) (packed old.z)) old.read.taken_is old.head_is
           (stands_more version counts j taken old.x old.y old.z a b d old.read la lb ld);
       out_is = λ u v w eu ev ew.
-          let f = hurt 0 hits (old.x ++ (a ++ u)) in
-          let g = hurt 1 hits (old.y ++ (b ++ v)) in
-          let h = hurt 2 hits (old.z ++ (d ++ w)) in
+          let f = damaged 0 hits (old.x ++ (a ++ u)) in
+          let g = damaged 1 hits (old.y ++ (b ++ v)) in
+          let h = damaged 2 hits (old.z ++ (d ++ w)) in
           let e0 = append_assoc old.x a u in
           let e1 = append_assoc old.y b v in
           let e2 = append_assoc old.z d w in
           let first = old.out_is (a ++ u) (b ++ v) (d ++ w) (ap length (sym e0) ∙ eu) (ap length (sym e1) ∙ ev) (ap length (sym e2) ∙ ew) in
-          let c0 = hurt_chunk 0 (slice_index counts 0) j hits old.x a u a' old.read.count_x la eu (lane_fits counts hits 0 (slice_index counts 0) fit refl) ha in
-          let c1 = hurt_chunk 1 (slice_index counts 1) j hits old.y b v b' old.read.count_y lb ev (lane_fits counts hits 1 (slice_index counts 1) fit refl) hb in
-          let c2 = hurt_chunk 2 (slice_index counts 2) j hits old.z d w d' old.read.count_z ld ew (lane_fits counts hits 2 (slice_index counts 2) fit refl) hd in
+          let c0 = damaged_chunk 0 (slice_index counts 0) j hits old.x a u a' old.read.count_x la eu (lane_fits counts hits 0 (slice_index counts 0) fit refl) ha in
+          let c1 = damaged_chunk 1 (slice_index counts 1) j hits old.y b v b' old.read.count_y lb ev (lane_fits counts hits 1 (slice_index counts 1) fit refl) hb in
+          let c2 = damaged_chunk 2 (slice_index counts 2) j hits old.z d w d' old.read.count_z ld ew (lane_fits counts hits 2 (slice_index counts 2) fit refl) hd in
           let block_is_own : block j (packed f) (packed g) (packed h) ≡ (packed a' ++ packed b') ++ packed d' =
           block_is j (packed f) (packed g) (packed h) ∙ ap₂ (λ p q. (p ++ q) ++ chunk j (packed h)) c0 c1 ∙ ap (λ q. (packed a' ++ packed b') ++ q) c2 in
           let all : head ++ blocks_below (j + 1) (packed f) (packed g) (packed h) ≡ (head ++ blocks_below j (packed f) (packed g) (packed h)) ++ ((packed a' ++ packed b') ++ packed d') =
           blocks-more head (packed f) (packed g) (packed h) j ∙ ap (λ q. (head ++ blocks_below j (packed f) (packed g) (packed h)) ++ q) block_is_own in
-          let same : head ++ blocks_below (j + 1) (packed (hurt 0 hits ((old.x ++ a) ++ u))) (packed (hurt 1 hits ((old.y ++ b) ++ v))) (packed (hurt 2 hits ((old.z ++ d) ++ w)))
+          let same : head ++ blocks_below (j + 1) (packed (damaged 0 hits ((old.x ++ a) ++ u))) (packed (damaged 1 hits ((old.y ++ b) ++ v))) (packed (damaged 2 hits ((old.z ++ d) ++ w)))
           ≡ head ++ blocks_below (j + 1) (packed f) (packed g) (packed h) =
-          ap (λ r. head ++ blocks_below (j + 1) (packed (hurt 0 hits r)) (packed (hurt 1 hits ((old.y ++ b) ++ v))) (packed (hurt 2 hits ((old.z ++ d) ++ w)))) e0
-          ∙ ap₂ (λ r s. head ++ blocks_below (j + 1) (packed f) (packed (hurt 1 hits r)) (packed (hurt 2 hits s))) e1 e2 in
+          ap (λ r. head ++ blocks_below (j + 1) (packed (damaged 0 hits r)) (packed (damaged 1 hits ((old.y ++ b) ++ v))) (packed (damaged 2 hits ((old.z ++ d) ++ w)))) e0
+          ∙ ap₂ (λ r s. head ++ blocks_below (j + 1) (packed f) (packed (damaged 1 hits r)) (packed (damaged 2 hits s))) e1 e2 in
           ap (λ q. q ++ own) first ∙ sym (same ∙ all);
     } in
     record {
@@ -128,7 +128,7 @@ same_long counts j x y z f g h ex ey ez ef eg eh =
 -- a block that is written in a part alone
 pub halfway_cut : (version : ℕ) (counts : List ℕ) (hits : List Hit) (j gone : ℕ) (taken : List ℕ) (before mid now : Option (List ℕ)) (a b d a' b' d' : List Bool)
     → AllFitLanes counts hits → length a ≡ bits_in j (slice_index counts 0) → length b ≡ bits_in j (slice_index counts 1) → length d ≡ bits_in j (slice_index counts 2)
-    → HurtChunk 0 (32768 * j) hits a a' → HurtChunk 1 (32768 * j) hits b b' → HurtChunk 2 (32768 * j) hits d d' → gone < length ((packed a' ++ packed b') ++ packed d')
+    → DamagedChunk 0 (32768 * j) hits a a' → DamagedChunk 1 (32768 * j) hits b b' → DamagedChunk 2 (32768 * j) hits d d' → gone < length ((packed a' ++ packed b') ++ packed d')
     → Appends mid now (take gone ((packed a' ++ packed b') ++ packed d')) → Halfway version counts hits j taken before mid → CutIn version counts hits j (taken ++ ((packed a ++ packed b) ++ packed d)) before now
 halfway_cut version counts hits j gone taken before mid now a b d a' b' d' fit la lb ld ha hb hd less wrote was =
     let head = header_of version counts in
@@ -165,9 +165,9 @@ halfway_cut version counts hits j gone taken before mid now a b d a' b' d' fit l
       missing = omega (arith, less, long, length-append taken old);
       most = omega (arith, size, length-append taken old);
       wrote = λ u v w eu ev ew.
-          let f = hurt 0 hits (was.front.x ++ (a ++ u)) in
-          let g = hurt 1 hits (was.front.y ++ (b ++ v)) in
-          let h = hurt 2 hits (was.front.z ++ (d ++ w)) in
+          let f = damaged 0 hits (was.front.x ++ (a ++ u)) in
+          let g = damaged 1 hits (was.front.y ++ (b ++ v)) in
+          let h = damaged 2 hits (was.front.z ++ (d ++ w)) in
           let e0 = append_assoc was.front.x a u in
           let e1 = append_assoc was.front.y b v in
           let e2 = append_assoc was.front.z d w in
@@ -175,12 +175,12 @@ halfway_cut version counts hits j gone taken before mid now a b d a' b' d' fit l
           let t1 = ap length (sym e1) ∙ ev in
           let t2 = ap length (sym e2) ∙ ew in
           let first = halfway_wrote version counts hits j taken before mid was (a ++ u) (b ++ v) (d ++ w) t0 t1 t2 in
-          let c0 = hurt_chunk 0 (slice_index counts 0) j hits was.front.x a u a' was.front.read.count_x la eu (lane_fits counts hits 0 (slice_index counts 0) fit refl) ha in
-          let c1 = hurt_chunk 1 (slice_index counts 1) j hits was.front.y b v b' was.front.read.count_y lb ev (lane_fits counts hits 1 (slice_index counts 1) fit refl) hb in
-          let c2 = hurt_chunk 2 (slice_index counts 2) j hits was.front.z d w d' was.front.read.count_z ld ew (lane_fits counts hits 2 (slice_index counts 2) fit refl) hd in
-          let f_long = hurt_all 0 hits (was.front.x ++ (a ++ u)) (lane_fits counts hits 0 (length (was.front.x ++ (a ++ u))) fit t0) ∙ t0 in
-          let g_long = hurt_all 1 hits (was.front.y ++ (b ++ v)) (lane_fits counts hits 1 (length (was.front.y ++ (b ++ v))) fit t1) ∙ t1 in
-          let h_long = hurt_all 2 hits (was.front.z ++ (d ++ w)) (lane_fits counts hits 2 (length (was.front.z ++ (d ++ w))) fit t2) ∙ t2 in
+          let c0 = damaged_chunk 0 (slice_index counts 0) j hits was.front.x a u a' was.front.read.count_x la eu (lane_fits counts hits 0 (slice_index counts 0) fit refl) ha in
+          let c1 = damaged_chunk 1 (slice_index counts 1) j hits was.front.y b v b' was.front.read.count_y lb ev (lane_fits counts hits 1 (slice_index counts 1) fit refl) hb in
+          let c2 = damaged_chunk 2 (slice_index counts 2) j hits was.front.z d w d' was.front.read.count_z ld ew (lane_fits counts hits 2 (slice_index counts 2) fit refl) hd in
+          let f_long = damaged_all 0 hits (was.front.x ++ (a ++ u)) (lane_fits counts hits 0 (length (was.front.x ++ (a ++ u))) fit t0) ∙ t0 in
+          let g_long = damaged_all 1 hits (was.front.y ++ (b ++ v)) (lane_fits counts hits 1 (length (was.front.y ++ (b ++ v))) fit t1) ∙ t1 in
+          let h_long = damaged_all 2 hits (was.front.z ++ (d ++ w)) (lane_fits counts hits 2 (length (was.front.z ++ (d ++ w))) fit t2) ∙ t2 in
           let front = head ++ blocks_below j (packed f) (packed g) (packed h) in
           let front_long : length front ≡ length taken =
           omega (
@@ -194,10 +194,10 @@ halfway_cut version counts hits j gone taken before mid now a b d a' b' d' fit l
           let own_block : block j (packed f) (packed g) (packed h) ≡ own =
           block_is j (packed f) (packed g) (packed h) ∙ ap₂ (λ p q. (p ++ q) ++ chunk j (packed h)) c0 c1 ∙ ap (λ q. (packed a' ++ packed b') ++ q) c2 in
           let all : head ++ blocks_below (j + 1) (packed f) (packed g) (packed h) ≡ front ++ own = blocks-more head (packed f) (packed g) (packed h) j ∙ ap (λ q. front ++ q) own_block in
-          let same : head ++ blocks_below (j + 1) (packed (hurt 0 hits ((was.front.x ++ a) ++ u))) (packed (hurt 1 hits ((was.front.y ++ b) ++ v))) (packed (hurt 2 hits ((was.front.z ++ d) ++ w)))
+          let same : head ++ blocks_below (j + 1) (packed (damaged 0 hits ((was.front.x ++ a) ++ u))) (packed (damaged 1 hits ((was.front.y ++ b) ++ v))) (packed (damaged 2 hits ((was.front.z ++ d) ++ w)))
           ≡ head ++ blocks_below (j + 1) (packed f) (packed g) (packed h) =
-          ap (λ r. head ++ blocks_below (j + 1) (packed (hurt 0 hits r)) (packed (hurt 1 hits ((was.front.y ++ b) ++ v))) (packed (hurt 2 hits ((was.front.z ++ d) ++ w)))) e0
-          ∙ ap₂ (λ r s. head ++ blocks_below (j + 1) (packed f) (packed (hurt 1 hits r)) (packed (hurt 2 hits s))) e1 e2 in
+          ap (λ r. head ++ blocks_below (j + 1) (packed (damaged 0 hits r)) (packed (damaged 1 hits ((was.front.y ++ b) ++ v))) (packed (damaged 2 hits ((was.front.z ++ d) ++ w)))) e0
+          ∙ ap₂ (λ r s. head ++ blocks_below (j + 1) (packed f) (packed (damaged 1 hits r)) (packed (damaged 2 hits s))) e1 e2 in
           Appends-part before mid now front own [] _ (length taken) gone (same ∙ all ∙ sym (append-nil (front ++ own))) front_long less first wrote;
     }
 

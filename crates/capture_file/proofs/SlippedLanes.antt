@@ -48,18 +48,18 @@ pub moved_up : (row first second third : List Bool) (place count few more : ℕ)
     → bytes ≡ packed (take more (drop ((place + count) + few) row)) → third ≡ second ++ take more (bytes_bits bytes) → third ≡ without place count row
 moved_up row first second third place count few more byte bytes all front byte_is then bytes_are last =
     let from = place + count in
-    let behind = drop from row in
-    let u = take few behind in
+    let after = drop from row in
+    let u = take few after in
     let v = take more (drop (from + few) row) in
     let lu : length u ≡ few = length-part row from few (omega arith) in
     let lv : length v ≡ more = length-part row (from + few) more (omega arith) in
-    let rest : v ≡ drop few behind =
+    let rest : v ≡ drop few after =
     ap (λ n. take n (drop (from + few) row)) (omega (arith, all, length-drop (from + few) row)) ∙ take_rest row (from + few) ∙ sym (drop-drop few from row) in
     let second_is : second ≡ take place row ++ u = pushed first second u byte few byte_is (sym lu) then ∙ ap (λ xs. xs ++ u) front in
     pushed second third v bytes more bytes_are (sym lv) last
     ∙ ap₂ (λ xs ys. xs ++ ys) second_is rest
-    ∙ append_assoc (take place row) u (drop few behind)
-    ∙ ap (λ xs. take place row ++ xs) (take-append-drop few behind)
+    ∙ append_assoc (take place row) u (drop few after)
+    ∙ ap (λ xs. take place row ++ xs) (take-append-drop few after)
 
 -- ---- refusals
 

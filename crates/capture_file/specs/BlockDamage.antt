@@ -4,7 +4,7 @@ use Rattle.std.specs.Prelude.{◌≡◌, ◌⊎◌, ℕ, ◌+◌, ◌<◌, ◌�
 use Rattle.std.specs.Io.KnownBytes.{Appends, Keeps, Consumes}
 use Rattle.capture_file.specs.Captures.{counts_of, header_of, CanSay, IsHeader, lane_blocks, IsCaptureOf, Stands, StopsIn, IsHeadless, IsFault, place_of, block_size}
 use Rattle.capture_file.specs.Layout.{packed, blocks_below}
-use Rattle.capture_file.specs.Damage.{hurt}
+use Rattle.capture_file.specs.Damage.{damaged}
 use Rattle.capture_file.specs.declared.damaging.Hit.{Hit}
 use Rattle.capture_file.specs.declared.damaging.DamageError.{DamageError}
 use Rattle.capture_file.specs.declared.damaging.DamageError.TheVariants.{Bad, Place, Read, Write}
@@ -29,9 +29,9 @@ pub record IsFirstPastLane (counts : List ℕ) (hits : List Hit) (i : ℕ) : Typ
   pub before : (k : ℕ) (h : Hit) → k < i → slice_get hits k ≡ Some h → FitsLane counts h
 
 -- a chunk that begins at a place of its lane, after hits: it is that part of the lane after the hits, whatever the lane is
-pub record HurtChunk (lane from : ℕ) (hits : List Hit) (old now : List Bool) : Type 0 where
+pub record DamagedChunk (lane from : ℕ) (hits : List Hit) (old now : List Bool) : Type 0 where
   pub long : length now ≡ length old
-  pub part : (row : List Bool) → LaneFits lane (length row) hits → old ≡ take (length old) (drop from row) → now ≡ take (length old) (drop from (hurt lane hits row))
+  pub part : (row : List Bool) → LaneFits lane (length row) hits → old ≡ take (length old) (drop from row) → now ≡ take (length old) (drop from (damaged lane hits row))
 
 -- the header and the blocks below j were taken, and this is what they are damaged, whatever the lanes go on with
 pub record IsDamagedFront (version : ℕ) (counts : List ℕ) (hits : List Hit) (j : ℕ) (taken out : List ℕ) : Type 0 where
@@ -43,7 +43,7 @@ pub record IsDamagedFront (version : ℕ) (counts : List ℕ) (hits : List Hit) 
   pub head_is : read.head ≡ header_of version counts
   pub out_is :
       (u v w : List Bool) → length (x ++ u) ≡ slice_index counts 0 → length (y ++ v) ≡ slice_index counts 1 → length (z ++ w) ≡ slice_index counts 2
-      → out ≡ header_of version counts ++ blocks_below j (packed (hurt 0 hits (x ++ u))) (packed (hurt 1 hits (y ++ v))) (packed (hurt 2 hits (z ++ w)))
+      → out ≡ header_of version counts ++ blocks_below j (packed (damaged 0 hits (x ++ u))) (packed (damaged 1 hits (y ++ v))) (packed (damaged 2 hits (z ++ w)))
 
 -- the header and the blocks below j were taken, and written damaged
 pub record Halfway (version : ℕ) (counts : List ℕ) (hits : List Hit) (j : ℕ) (taken : List ℕ) (before now : Option (List ℕ)) : Type 0 where
@@ -71,7 +71,7 @@ pub record CutIn (version : ℕ) (counts : List ℕ) (hits : List Hit) (j : ℕ)
   pub most : length taken ≤ gone + block_size j counts
   pub wrote :
       (u v w : List Bool) → length (x ++ u) ≡ slice_index counts 0 → length (y ++ v) ≡ slice_index counts 1 → length (z ++ w) ≡ slice_index counts 2
-      → Appends before now (take gone (header_of version counts ++ blocks_below (j + 1) (packed (hurt 0 hits (x ++ u))) (packed (hurt 1 hits (y ++ v))) (packed (hurt 2 hits (z ++ w)))))
+      → Appends before now (take gone (header_of version counts ++ blocks_below (j + 1) (packed (damaged 0 hits (x ++ u))) (packed (damaged 1 hits (y ++ v))) (packed (damaged 2 hits (z ++ w)))))
 
 -- a fault behind the header: as far as the last whole block before its place all was taken and written damaged
 pub record IsLateFault (version : ℕ) (counts : List ℕ) (hits : List Hit) (bytes taken : List ℕ) (before now : Option (List ℕ)) (fault : CaptureFault) : Type 0 where
@@ -90,7 +90,7 @@ pub record IsDamagedCapture (bytes : List ℕ) (hits : List Hit) (whole : List �
   pub z : List Bool
   pub holds : IsCaptureOf x y z bytes
   pub fits : AllFitLanes (counts_of x y z) hits
-  pub whole_is : whole ≡ holds.head ++ lane_blocks (hurt 0 hits x) (hurt 1 hits y) (hurt 2 hits z)
+  pub whole_is : whole ≡ holds.head ++ lane_blocks (damaged 0 hits x) (damaged 1 hits y) (damaged 2 hits z)
 
 -- where the bytes have a whole header, each hit lies within its own lane as that header says it
 abbrev pub AreWithinLanes : List ℕ → List Hit → Type 0

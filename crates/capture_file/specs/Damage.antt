@@ -12,6 +12,6 @@ hit_by true hit row = with_word hit.place hit.value row
 hit_by false hit row = row
 
 -- a lane after the hits that are its own, one after another
-unfoldable pub hurt : ℕ → List Hit → List Bool → List Bool
-hurt lane [] row = row
-hurt lane (h ∷ hs) row = hurt lane hs (hit_by (h.lane == lane) h row)
+unfoldable pub damaged : ℕ → List Hit → List Bool → List Bool
+damaged lane [] row = row
+damaged lane (h ∷ hs) row = damaged lane hs (hit_by (h.lane == lane) h row)

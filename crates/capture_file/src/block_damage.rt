@@ -7,7 +7,7 @@ ghost use Rattle.tmds_word.specs.Bits.{bits_of, bytes_bits};
 ghost use Rattle.capture_file.specs.Damage.{with_word};
 ghost use Rattle.capture_file.specs.Captures.{AreBytes, IsFault, StopsIn, place_of, block_size, header_of, CanSay, IsHeadless, IsEarlyFault};
 ghost use Rattle.capture_file.specs.Refusals.{IsReadCause};
-ghost use Rattle.capture_file.specs.BlockDamage.{HurtChunk, AllFitLanes, IsFirstPastLane, Halfway, CutIn, SaysFault, IsLateFault, SaysBad, SaysPlace, SaysUnread, IsMisplacedLane, IsDamagedCapture, IsDamageFault, ReadFailed, WriteFailed};
+ghost use Rattle.capture_file.specs.BlockDamage.{DamagedChunk, AllFitLanes, IsFirstPastLane, Halfway, CutIn, SaysFault, IsLateFault, SaysBad, SaysPlace, SaysUnread, IsMisplacedLane, IsDamagedCapture, IsDamageFault, ReadFailed, WriteFailed};
 ghost use Rattle.capture_file.specs.declared.damaging.DamageError.TheVariants.{Place, Read, Write};
 
 use crate::chunk::{Chunk, Chunks};
@@ -56,7 +56,7 @@ impl Chunk {
 
     /// Replaces what hits of a lane, one after another, replace in the chunk.
     pub(crate) fn hit_all(&mut self, from: u32, lane: u8, hits: &[Hit])
-        ensures { HurtChunk lane from hits.now self.old self.new }
+        ensures { DamagedChunk lane from hits.now self.old self.new }
     {
         for hit in hits {
             if hit.lane == lane {
@@ -70,9 +70,9 @@ impl Chunks {
     /// Replaces what hits, one after another, replace in block `j`.
     fn hit_all(&mut self, j: u32, hits: &[Hit])
         requires { 32768 * j < 2 ^ 32 }
-        ensures blue { HurtChunk 0 (32768 * j) hits.now self.old.blue self.new.blue }
-        ensures green { HurtChunk 1 (32768 * j) hits.now self.old.green self.new.green }
-        ensures red { HurtChunk 2 (32768 * j) hits.now self.old.red self.new.red }
+        ensures blue { DamagedChunk 0 (32768 * j) hits.now self.old.blue self.new.blue }
+        ensures green { DamagedChunk 1 (32768 * j) hits.now self.old.green self.new.green }
+        ensures red { DamagedChunk 2 (32768 * j) hits.now self.old.red self.new.red }
     {
         self.blue.hit_all(32768 * j, 0, hits);
         self.green.hit_all(32768 * j, 1, hits);

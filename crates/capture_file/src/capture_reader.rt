@@ -1,11 +1,11 @@
 //! A capture that is read block by block.
-ghost use Rattle.std.specs.Prelude.{◌≡◌, ◌⊎◌, ℕ, ◌+◌, ◌*◌, ◌/◌, ◌^◌, ◌<◌, ◌≤◌, ◌↔◌, ⊤, true, false, Bool, List, [], ◌++◌, length, take, slice_index, get_or, Some, IfOk, IfErr, OnOk, OnErr, IfSome, IfNone, MatchOption, IsTrue};
+ghost use Rattle.std.specs.Prelude.{◌≡◌, ◌⊎◌, ℕ, ◌+◌, ◌*◌, ◌/◌, ◌^◌, ◌<◌, ◌≤◌, ⊤, true, false, Bool, List, [], ◌++◌, length, take, slice_index, Some, IfOk, IfErr, OnOk, OnErr, IfSome, IfNone, MatchOption};
 ghost use Rattle.std.specs.Borrow.{sem};
 ghost use Rattle.std.specs.Io.KnownBytes.{Consumes, IsAtEnd};
 ghost use Rattle.tmds_word.specs.Bits.{bytes_bits};
 ghost use Rattle.capture_file.specs.Layout.{packed};
 ghost use Rattle.capture_file.specs.Faults.{IsCaused};
-ghost use Rattle.capture_file.specs.Captures.{IsFault, IsHeadless, IsEarlyFault, IsCaptureOf, Stands, StopsIn, SaysOf, SaysRead, IsWithin, place_of, place_at, header_size, header_of, CanSay, bits_in, block_size};
+ghost use Rattle.capture_file.specs.Captures.{IsFault, IsHeadless, IsEarlyFault, IsCaptureOf, Stands, StopsIn, SaysOf, SaysRead, place_of, CanSay, bits_in, block_size};
 
 use crate::CaptureError;
 use crate::chunk::{Chunks, chunk_len};

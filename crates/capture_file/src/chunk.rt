@@ -4,7 +4,7 @@ ghost use Rattle.std.specs.Io.KnownBytes.{Consumes};
 ghost use Rattle.tmds_word.specs.Bits.{bytes_bits};
 ghost use Rattle.capture_file.specs.Layout.{packed};
 ghost use Rattle.capture_file.specs.Faults.{IsCaused};
-ghost use Rattle.capture_file.specs.Captures.{AreBytes, Awaits, IsFault, HasRead, StopsIn, SaysOf, SaysRead, IsWithin, place_of, bits_in, block_size};
+ghost use Rattle.capture_file.specs.Captures.{AreBytes, Awaits, IsFault, HasRead, SaysOf, SaysRead, IsWithin, place_of, bits_in, block_size};
 
 use crate::{CaptureError, CaptureFault};
 use outside_io::{Source, read_full};

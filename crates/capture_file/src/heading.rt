@@ -1,5 +1,5 @@
 //! The header of a capture, in both versions.
-ghost use Rattle.std.specs.Prelude.{◌≡◌, ◌⊎◌, ℕ, ◌+◌, ◌^◌, ◌<◌, ◌≤◌, List, [], ◌∷◌, ◌++◌, length, take, min, get_or, slice_index, codes, Some, IfOk, IfErr, OnOk};
+ghost use Rattle.std.specs.Prelude.{◌≡◌, ◌⊎◌, ℕ, ◌+◌, ◌*◌, ◌/◌, ◌^◌, ◌<◌, ◌≤◌, List, [], ◌∷◌, ◌++◌, length, take, min, get_or, slice_index, codes, Some, IfOk, IfErr, OnOk};
 ghost use Rattle.std.specs.Io.KnownBytes.{Consumes};
 ghost use Rattle.capture_file.specs.Layout.{high_first};
 ghost use Rattle.capture_file.specs.Faults.{IsCaused};
@@ -21,11 +21,15 @@ pub(crate) fn block_place(version: u8, bits: [u32; 3], j: u32) -> u64
     ensures small { result < 2 ^ 40 }
 {
     let header: u64 = if version == 2 { 16 } else { 8 };
-    let end = 4096 * u64::from(j);
-    header
-        + u64::from(bits[0].div_ceil(8)).min(end)
-        + u64::from(bits[1].div_ceil(8)).min(end)
-        + u64::from(bits[2].div_ceil(8)).min(end)
+    header + bytes_below(bits[0], j) + bytes_below(bits[1], j) + bytes_below(bits[2], j)
+}
+
+/// How many bytes the blocks before block `j` have of a lane of so many bits.
+fn bytes_below(bits: u32, j: u32) -> u64
+    ensures size { result ≡ min ((bits + 7) / 8) (4096 * j) }
+    ensures small { result ≤ 2 ^ 29 }
+{
+    u64::from(bits.div_ceil(8)).min(4096 * u64::from(j))
 }
 
 /// Reads a header.

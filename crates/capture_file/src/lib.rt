@@ -20,6 +20,3 @@ pub use fault::{CaptureError, CaptureFault};
 pub use lanes::Lanes;
 pub use slipping::{SlipError, slip};
 pub use writing::{Tap, write_capture};
-
-#[cfg(test)]
-mod tests;

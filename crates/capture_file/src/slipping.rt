@@ -156,9 +156,9 @@ fn cut_out(alloc: Global, row: &mut BitRow, place: u32, count: u32) -> Result<()
 {
     let len = row.len();
     let from = place + count;
-    let behind = len - from;
-    let few = ((8 - place % 8) % 8).min(behind);
-    let more = behind - few;
+    let after = len - from;
+    let few = ((8 - place % 8) % 8).min(after);
+    let more = after - few;
     let mut bytes = vec![in alloc; 0; more.div_ceil(8) as usize]?;
     copy_packed(row, from + few, more, bytes.as_mut_slice());
     let mut byte = [0; 1];

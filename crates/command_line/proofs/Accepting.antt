@@ -4,13 +4,13 @@ use Rattle.std.specs.Prelude.{if◌then◌else◌, unwrap_or}
 use Rattle.std.specs.Option.{option_map_or}
 use Rattle.std.specs.List.{flat_map, filter_map, cons_option}
 use Rattle.clap.specs.Kinds.{Kinds}
-use Rattle.clap.specs.Walk.{Row, Rule, Held, Walk, Waiting, idle, option, positional, settled, settled_rows, used, nothing_held, walk_from}
+use Rattle.clap.specs.Walk.{Row, Rule, Walk, Waiting, idle, option, settled, settled_rows, used}
 use Rattle.clap.specs.Faults.{settle_fault}
 use Rattle.command_line.specs.Grammar.{Text, name_word, Piece, apart, joined, operand, piece_words, ArePlain, option_of, operand_of, rest_words, values_of, listed, IsGiven}
 use Rattle.command_line.specs.Forms.{option_id, operand_id, all_values, AreFound}
 use Rattle.command_line.specs.declared.options.OptionName.{OptionName}
 use Rattle.command_line.proofs.GivenOptions.{values-append}
-use Rattle.command_line.proofs.FoundRows.{option_built, is_itself, found_option, option_fits, operand_fits, given_told}
+use Rattle.command_line.proofs.FoundRows.{option_built, is_itself, found_option, option_fits, operand_fits, given_reported}
 use Rattle.command_line.proofs.Words.{plain_dashes, plain_long, plain_short, named_dashes, named_long, valued_dashes, valued_long}
 use Rattle.command_line.proofs.Turns.{IsForm, holding, walk_at, Turn, rest_turn, plain_turn, place, waits_after, IsIdle, idle_after, value_turn, idle_turn, trailing_turn, waiting_turn, named_turn, valued_turn}
 use Rattle.command_line.proofs.Takings.{total, last, end_fault, end_passes, or_else_both, turn_done, turn_last, settle_operand, settle_option, finds_operand, finds_option, Finds}
@@ -30,7 +30,7 @@ ends : (name : Text) (c : List Rule) (many has : Bool) → IsForm c many has →
     → settle_fault c false (holding rows pending) ≡ [] → AreFound (settled_rows c pending rows) options operands → AreFew many operands → end_fault name c (holding rows pending) ≡ []
 ends name c many has f rows pending options operands settles found few =
     end_passes name c many has f (holding rows pending) settles
-    (given_told operand_id (settled_rows c pending rows) ∙ ap (λ (o : Option (List Text × Bool)). option_map_or (λ p. p.1) o false) found.operands_are
+    (given_reported operand_id (settled_rows c pending rows) ∙ ap (λ (o : Option (List Text × Bool)). option_map_or (λ p. p.1) o false) found.operands_are
     ∙ given_by operands few.first few.others few.operands_are)
 
 room_by : (many : Bool) (operands : List Text) (word : Text) (more : List Text) (o : Text) (os : List Text) → operands ++ word ∷ more ≡ o ∷ os → (many ≡ true) ⊎ (os ≡ []) → (many ≡ true) ⊎ (operands ≡ [])
@@ -80,11 +80,11 @@ rest_found name c many has f (word ∷ words) rows pending waiting options opera
     let there = room many operands word words few in
     let t = value_turn name c many has f rows pending waiting true operands word there (trailing_turn name c rows pending waiting (place many operands) word) in
     let fits = operand_settles c many has f (settled_rows c pending rows) options operands word found there in
-    let behind = rest_found name c many has f words (settled_rows c pending rows) (Some (operand_id, word ∷ [])) (waits_after many) options (operands ++ word ∷ []) fits
+    let after = rest_found name c many has f words (settled_rows c pending rows) (Some (operand_id, word ∷ [])) (waits_after many) options (operands ++ word ∷ []) fits
     (finds_operand c many has f (settled_rows c pending rows) options operands word found fits)
     (few_as many (operands ++ word ∷ words) ((operands ++ word ∷ []) ++ words) (sym (append_assoc operands (word ∷ []) words)) few) in
     accepts_turn name c _ word words _ _ options (operands ++ word ∷ words) t settles
-    (accepts_as name c _ words options options ((operands ++ word ∷ []) ++ words) (operands ++ word ∷ words) refl (append_assoc operands (word ∷ []) words) behind)
+    (accepts_as name c _ words options options ((operands ++ word ∷ []) ++ words) (operands ++ word ∷ words) refl (append_assoc operands (word ∷ []) words) after)
 
 -- each option stands at most once
 unfoldable pub Once : List (OptionName × Text) → Type 0
@@ -123,7 +123,7 @@ pieces_found name c many has f [] (Some words) rows pending waiting options oper
     (rest_found name c many has f words rows pending waiting options operands settles found few))
 pieces_found name c many has f (apart n v ∷ pieces) rest rows pending waiting options operands is settles found plain (inr none) once few = absurd (cc none)
 pieces_found name c many has f (apart n v ∷ pieces) rest rows pending waiting options operands is settles found plain (inl offers) once few =
-    let behind = flat_map piece_words pieces ++ rest_words rest in
+    let after = flat_map piece_words pieces ++ rest_words rest in
     let t = named_turn name c n rows pending waiting (place many operands) (name_word n) (named_dashes n) (named_long n) (offers.1 n) in
     let u = waiting_turn name c n (settled_rows c pending rows) (place many operands) v (f.by_id offers.0 n)
     (plain_turn name c (settled_rows c pending rows) (Some (option_id n, [])) (option (option_id n)) (place many operands) v (plain_dashes v plain.0) (plain_long v plain.0) (plain_short v plain.0)) in
@@ -132,22 +132,22 @@ pieces_found name c many has f (apart n v ∷ pieces) rest rows pending waiting 
     let next = pieces_found name c many has f pieces rest (settled_rows c pending rows) (Some (option_id n, v ∷ [])) idle (options ++ (n, v) ∷ []) operands tt fits
     (finds_option c many has f offers.0 n (settled_rows c pending rows) options operands v found fits) plain.1 (inl offers)
     (subst Once (sym (append_assoc options ((n, v) ∷ []) (filter_map option_of pieces))) once) few in
-    accepts_turn name c _ (name_word n) (v ∷ behind) _ _ (options ++ (n, v) ∷ filter_map option_of pieces) (operands ++ (filter_map operand_of pieces ++ unwrap_or rest [])) t settles
-    (accepts_turn name c _ v behind _ _ (options ++ (n, v) ∷ filter_map option_of pieces) (operands ++ (filter_map operand_of pieces ++ unwrap_or rest [])) u refl
-    (accepts_as name c _ behind _ (options ++ (n, v) ∷ filter_map option_of pieces) _ (operands ++ (filter_map operand_of pieces ++ unwrap_or rest [])) (append_assoc options ((n, v) ∷ []) (filter_map option_of pieces)) refl next))
+    accepts_turn name c _ (name_word n) (v ∷ after) _ _ (options ++ (n, v) ∷ filter_map option_of pieces) (operands ++ (filter_map operand_of pieces ++ unwrap_or rest [])) t settles
+    (accepts_turn name c _ v after _ _ (options ++ (n, v) ∷ filter_map option_of pieces) (operands ++ (filter_map operand_of pieces ++ unwrap_or rest [])) u refl
+    (accepts_as name c _ after _ (options ++ (n, v) ∷ filter_map option_of pieces) _ (operands ++ (filter_map operand_of pieces ++ unwrap_or rest [])) (append_assoc options ((n, v) ∷ []) (filter_map option_of pieces)) refl next))
 pieces_found name c many has f (joined n v ∷ pieces) rest rows pending waiting options operands is settles found plain (inr none) once few = absurd (cc none)
 pieces_found name c many has f (joined n v ∷ pieces) rest rows pending waiting options operands is settles found plain (inl offers) once few =
-    let behind = flat_map piece_words pieces ++ rest_words rest in
+    let after = flat_map piece_words pieces ++ rest_words rest in
     let t = valued_turn name c n rows pending waiting (place many operands) (name_word n ++ codes "=" ++ v) v (valued_dashes n v) (valued_long n v) (offers.1 n) in
     let fits = option_fits (settled_rows c pending rows) options operands n v found (first_once options n v (filter_map option_of pieces) once) in
     let next = pieces_found name c many has f pieces rest (used (option_built n) (v ∷ []) (settled_rows c pending rows)) None idle (options ++ (n, v) ∷ []) operands tt refl
     (found_option (settled_rows c pending rows) options operands n v found fits) plain.1 (inl offers)
     (subst Once (sym (append_assoc options ((n, v) ∷ []) (filter_map option_of pieces))) once) few in
-    accepts_turn name c _ (name_word n ++ codes "=" ++ v) behind _ _ (options ++ (n, v) ∷ filter_map option_of pieces) (operands ++ (filter_map operand_of pieces ++ unwrap_or rest [])) t
+    accepts_turn name c _ (name_word n ++ codes "=" ++ v) after _ _ (options ++ (n, v) ∷ filter_map option_of pieces) (operands ++ (filter_map operand_of pieces ++ unwrap_or rest [])) t
     (or_else_both (settle_fault c false (holding rows pending)) _ settles fits)
-    (accepts_as name c _ behind _ (options ++ (n, v) ∷ filter_map option_of pieces) _ (operands ++ (filter_map operand_of pieces ++ unwrap_or rest [])) (append_assoc options ((n, v) ∷ []) (filter_map option_of pieces)) refl next)
+    (accepts_as name c _ after _ (options ++ (n, v) ∷ filter_map option_of pieces) _ (operands ++ (filter_map operand_of pieces ++ unwrap_or rest [])) (append_assoc options ((n, v) ∷ []) (filter_map option_of pieces)) refl next)
 pieces_found name c many has f (operand word ∷ pieces) rest rows pending waiting options operands is settles found plain offers once few =
-    let behind = flat_map piece_words pieces ++ rest_words rest in
+    let after = flat_map piece_words pieces ++ rest_words rest in
     let more = filter_map operand_of pieces ++ unwrap_or rest [] in
     let there = room many operands word (filter_map operand_of pieces ++ unwrap_or rest []) few in
     let t = value_turn name c many has f rows pending waiting false operands word there (idle_turn name c rows pending waiting (place many operands) word is
@@ -156,5 +156,5 @@ pieces_found name c many has f (operand word ∷ pieces) rest rows pending waiti
     let next = pieces_found name c many has f pieces rest (settled_rows c pending rows) (Some (operand_id, word ∷ [])) (waits_after many) options (operands ++ word ∷ []) (idle_after many) fits
     (finds_operand c many has f (settled_rows c pending rows) options operands word found fits) plain.1 offers once
     (few_as many (operands ++ word ∷ (filter_map operand_of pieces ++ unwrap_or rest [])) ((operands ++ word ∷ []) ++ (filter_map operand_of pieces ++ unwrap_or rest [])) (sym (append_assoc operands (word ∷ []) (filter_map operand_of pieces ++ unwrap_or rest []))) few) in
-    accepts_turn name c _ word behind _ _ (options ++ filter_map option_of pieces) (operands ++ word ∷ (filter_map operand_of pieces ++ unwrap_or rest [])) t settles
-    (accepts_as name c _ behind (options ++ filter_map option_of pieces) (options ++ filter_map option_of pieces) _ (operands ++ word ∷ (filter_map operand_of pieces ++ unwrap_or rest [])) refl (append_assoc operands (word ∷ []) (filter_map operand_of pieces ++ unwrap_or rest [])) next)
+    accepts_turn name c _ word after _ _ (options ++ filter_map option_of pieces) (operands ++ word ∷ (filter_map operand_of pieces ++ unwrap_or rest [])) t settles
+    (accepts_as name c _ after (options ++ filter_map option_of pieces) (options ++ filter_map option_of pieces) _ (operands ++ word ∷ (filter_map operand_of pieces ++ unwrap_or rest [])) refl (append_assoc operands (word ∷ []) (filter_map operand_of pieces ++ unwrap_or rest [])) next)

@@ -8,7 +8,7 @@ use Rattle.clap.specs.Walk.{idle, nothing_held, walked}
 use Rattle.clap.specs.Faults.{turn_fault, walk_fault, defaults_fault, level_fault}
 use Rattle.command_line.specs.Grammar.{Text, Piece, apart, joined, operand, piece_words, option_of, operand_of, rest_words, AreArranged}
 use Rattle.command_line.proofs.Turns.{leaf, walk_at, rest_turn, other_turn, idle_turn, trailing_turn, unknown_turn}
-use Rattle.command_line.proofs.Takings.{total, level_total, turn_told, or_else_first}
+use Rattle.command_line.proofs.Takings.{total, level_total, turn_reported, or_else_first}
 
 unfoldable pub IsBare : List Text → Type 0
 IsBare words = (words ≡ []) ⊎ (words ≡ codes "--" ∷ [])
@@ -21,17 +21,17 @@ bare_by name word words h false d (Some p) e =
 bare_by name word words h false d None e =
     let passes = or_else_first (turn_fault (leaf name []) [] (walk_at [] None idle 1 false) word) _ h in
     let t = idle_turn name [] [] None idle 1 word tt (other_turn name [] [] None idle 1 word (λ x. refl) d e passes) in
-    absurd (cc (turn_told name [] _ word words _ _ t h).0)
+    absurd (cc (turn_reported name [] _ word words _ _ t h).0)
 bare_by name word [] h true d long e = inr (ap (λ (w : Text). w ∷ []) ((bytes_eq-Decides word (codes "--")).0 d))
 bare_by name word (next ∷ words) h true d long e =
     let h2 = subst (λ (w : Text). total name [] (walk_at [] None idle 1 false) (w ∷ next ∷ words) ≡ []) ((bytes_eq-Decides word (codes "--")).0 d) h in
-    let told = turn_told name [] _ (codes "--") (next ∷ words) _ _ (rest_turn name [] [] None idle 1) h2 in
-    absurd (cc (turn_told name [] _ next words _ _ (trailing_turn name [] [] None idle 1 next) told.1).0)
+    let reported = turn_reported name [] _ (codes "--") (next ∷ words) _ _ (rest_turn name [] [] None idle 1) h2 in
+    absurd (cc (turn_reported name [] _ next words _ _ (trailing_turn name [] [] None idle 1 next) reported.1).0)
 
-pub bare_told : (name : Text) (words : List Text) → level_fault (leaf name []) [] nothing_held words false [] ≡ [] → IsBare words
+pub bare_reported : (name : Text) (words : List Text) → level_fault (leaf name []) [] nothing_held words false [] ≡ [] → IsBare words
 unfolding IsBare
-bare_told name [] h = inl refl
-bare_told name (word ∷ words) h = bare_by name word words (sym (level_total name [] (word ∷ words)) ∙ h) (bytes_eq word (codes "--")) refl (long_of word) refl
+bare_reported name [] h = inl refl
+bare_reported name (word ∷ words) h = bare_by name word words (sym (level_total name [] (word ∷ words)) ∙ h) (bytes_eq word (codes "--")) refl (long_of word) refl
 
 no_pieces : (pieces : List Piece) (rest : Option (List Text)) → [] ≡ filter_map option_of pieces → [] ≡ filter_map operand_of pieces ++ unwrap_or rest [] → IsBare (flat_map piece_words pieces ++ rest_words rest)
 unfolding IsBare
@@ -48,8 +48,3 @@ pub bare_passes : (name : Text) (words : List Text) → IsBare words → level_f
 unfolding IsBare walk_fault walked defaults_fault
 bare_passes name words (inl e) = subst (λ (ws : List Text). level_fault (leaf name []) [] nothing_held ws false [] ≡ []) (sym e) refl
 bare_passes name words (inr e) = subst (λ (ws : List Text). level_fault (leaf name []) [] nothing_held ws false [] ≡ []) (sym e) refl
-
-pub bare_arranged : (words : List Text) → IsBare words → AreArranged words [] []
-unfolding IsBare
-bare_arranged words (inl e) = record { pieces = []; rest = None; words_are = e; plain = tt; options_are = refl; operands_are = refl }
-bare_arranged words (inr e) = record { pieces = []; rest = Some []; words_are = e; plain = tt; options_are = refl; operands_are = refl }

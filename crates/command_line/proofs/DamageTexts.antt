@@ -13,8 +13,8 @@ use Rattle.hex.specs.declared.error.FromHexError.{FromHexError}
 use Rattle.command_line.specs.declared.damage.DamageWord.{DamageWord}
 use Rattle.command_line.specs.Numbers.{is_digit}
 use Rattle.command_line.specs.Damages.{IsDamage, AreDamages}
-use Rattle.command_line.specs.Parsing.{within, mark_split, lane_of, character_below, character_by, character_of, damage_by, damage_behind, damage_parted, damage_of}
-use Rattle.command_line.proofs.Triples.{number_told, number_found, digits_are, split_parts, split_found, colon}
+use Rattle.command_line.specs.Parsing.{within, mark_split, lane_of, character_below, character_by, character_of, damage_by, damage_after, damage_parted, damage_of}
+use Rattle.command_line.proofs.Triples.{number_reported, number_found, digits_are, split_parts, split_found, colon}
 
 -- the lane
 
@@ -28,8 +28,8 @@ lane_by text lane false false true p q r h =
     subst (λ (l : ℕ). (text ≡ (48 + l) ∷ []) × (l < 3)) (same_Some 2 lane (rw (p, q, r) at h)) ((bytes_eq-Decides text (codes "2")).0 r, omega arith)
 lane_by text lane false false false p q r h = absurd (none-some lane (rw (p, q, r) at h))
 
-pub lane_told : (text : List ℕ) (lane : ℕ) → lane_of text ≡ Some lane → (text ≡ (48 + lane) ∷ []) × (lane < 3)
-lane_told text lane h = lane_by text lane (bytes_eq text (codes "0")) (bytes_eq text (codes "1")) (bytes_eq text (codes "2")) refl refl refl h
+pub lane_reported : (text : List ℕ) (lane : ℕ) → lane_of text ≡ Some lane → (text ≡ (48 + lane) ∷ []) × (lane < 3)
+lane_reported text lane h = lane_by text lane (bytes_eq text (codes "0")) (bytes_eq text (codes "1")) (bytes_eq text (codes "2")) refl refl refl h
 
 pub lane_found : (lane : ℕ) → lane < 3 → lane_of ((48 + lane) ∷ []) ≡ Some lane
 lane_found zero lt = refl
@@ -49,28 +49,28 @@ then_some : {A : Type 0} (b : Bool) (o : Option A) (x : A) → (if b then o else
 then_some true o x h = (refl, h)
 then_some false o x h = absurd (none-some x h)
 
-character_by_told : (r : Result (List ℕ) FromHexError) (value : ℕ) → character_by r ≡ Some value
+character_by_reported : (r : Result (List ℕ) FromHexError) (value : ℕ) → character_by r ≡ Some value
     → (high low : ℕ) × (r ≡ Ok (high ∷ low ∷ [])) × (value ≡ 256 * high + low) × (value < 1024)
-character_by_told (Err e) value h = absurd (none-some value h)
-character_by_told (Ok []) value h = absurd (none-some value h)
-character_by_told (Ok (a ∷ [])) value h = absurd (none-some value h)
-character_by_told (Ok (a ∷ b ∷ [])) value h =
+character_by_reported (Err e) value h = absurd (none-some value h)
+character_by_reported (Ok []) value h = absurd (none-some value h)
+character_by_reported (Ok (a ∷ [])) value h = absurd (none-some value h)
+character_by_reported (Ok (a ∷ b ∷ [])) value h =
     let parts = cond_some (nat_lt (256 * a + b) 1024) (256 * a + b) value h in
     let small : nat_lt (256 * a + b) 1024 ≡ true = parts.0 in
     let same : 256 * a + b ≡ value = parts.1 in
     (a, b, refl, sym same, subst (λ (n : ℕ). n < 1024) same (grind (arith, common_steps)))
-character_by_told (Ok (a ∷ b ∷ c ∷ more)) value h = absurd (none-some value h)
+character_by_reported (Ok (a ∷ b ∷ c ∷ more)) value h = absurd (none-some value h)
 
 same_count : (n m : ℕ) → nat_eq n m ≡ true → n ≡ m
 same_count n m h = grind (arith, common_steps)
 
-character_told : (digits : List ℕ) (value : ℕ) → character_of digits ≡ Some value
+character_reported : (digits : List ℕ) (value : ℕ) → character_of digits ≡ Some value
     → (high low : ℕ) × (length digits ≡ 3) × (decode_of (codes "0" ++ digits) ≡ Ok (high ∷ low ∷ [])) × (value ≡ 256 * high + low) × (value < 1024)
 unfolding character_of
-character_told digits value h =
-    let told = then_some (nat_eq (length digits) 3) (character_by (decode_of (codes "0" ++ digits))) value h in
-    let by = character_by_told (decode_of (codes "0" ++ digits)) value told.1 in
-    (by.0, by.1, same_count (length digits) 3 told.0, by.2, by.3, by.4)
+character_reported digits value h =
+    let reported = then_some (nat_eq (length digits) 3) (character_by (decode_of (codes "0" ++ digits))) value h in
+    let by = character_by_reported (decode_of (codes "0" ++ digits)) value reported.1 in
+    (by.0, by.1, same_count (length digits) 3 reported.0, by.2, by.3, by.4)
 
 character_found : (digits : List ℕ) (high low value : ℕ) → length digits ≡ 3 → decode_of (codes "0" ++ digits) ≡ Ok (high ∷ low ∷ []) → value ≡ 256 * high + low → value < 1024
     → character_of digits ≡ Some value
@@ -83,42 +83,42 @@ character_found digits high low value three decoded is small =
 
 -- the damage
 
-damage_by_told : (text first place digits : List ℕ) (damage : DamageWord) (x y z : Option ℕ) → text ≡ first ++ 58 ∷ (place ++ 58 ∷ digits)
+damage_by_reported : (text first place digits : List ℕ) (damage : DamageWord) (x y z : Option ℕ) → text ≡ first ++ 58 ∷ (place ++ 58 ∷ digits)
     → lane_of first ≡ x → within 4294967295 place ≡ y → character_of digits ≡ z → damage_by x y z ≡ Some damage → IsDamage text damage
-damage_by_told text first place digits damage (Some lane) (Some n) (Some value) is p q r h =
-    let lane_is = lane_told first lane p in
-    let told = character_told digits value r in
+damage_by_reported text first place digits damage (Some lane) (Some n) (Some value) is p q r h =
+    let lane_is = lane_reported first lane p in
+    let reported = character_reported digits value r in
     subst (λ (t : DamageWord). IsDamage text t) (same_Some (record { lane = lane; place = n; value = value }) damage h) (record {
       place_text = place;
       digits = digits;
-      high = told.0;
-      low = told.1;
+      high = reported.0;
+      low = reported.1;
       text_is = is ∙ ap (λ (t : List ℕ). t ++ 58 ∷ (place ++ 58 ∷ digits)) lane_is.0 ∙ ap (λ (t : List ℕ). (48 + lane) ∷ 58 ∷ t) (sym (append_assoc place (codes ":") digits));
       lane = lane_is.1;
-      place = number_told 4294967295 place n q;
-      three = told.2;
-      value_is = told.3;
-      value = told.4;
-      character = told.5;
+      place = number_reported 4294967295 place n q;
+      three = reported.2;
+      value_is = reported.3;
+      value = reported.4;
+      character = reported.5;
     })
-damage_by_told text first place digits damage (Some lane) (Some n) None is p q r h = absurd (none-some damage h)
-damage_by_told text first place digits damage (Some lane) None z is p q r h = absurd (none-some damage h)
-damage_by_told text first place digits damage None y z is p q r h = absurd (none-some damage h)
+damage_by_reported text first place digits damage (Some lane) (Some n) None is p q r h = absurd (none-some damage h)
+damage_by_reported text first place digits damage (Some lane) None z is p q r h = absurd (none-some damage h)
+damage_by_reported text first place digits damage None y z is p q r h = absurd (none-some damage h)
 
-damage_behind_told : (text first rest : List ℕ) (damage : DamageWord) (o : Option (List ℕ × List ℕ)) → text ≡ first ++ 58 ∷ rest → mark_split 58 rest ≡ o → damage_behind first o ≡ Some damage → IsDamage text damage
-damage_behind_told text first rest damage None is e h = absurd (none-some damage h)
-damage_behind_told text first rest damage (Some parts) is e h =
-    damage_by_told text first parts.0 parts.1 damage (lane_of first) (within 4294967295 parts.0) (character_of parts.1)
+damage_after_reported : (text first rest : List ℕ) (damage : DamageWord) (o : Option (List ℕ × List ℕ)) → text ≡ first ++ 58 ∷ rest → mark_split 58 rest ≡ o → damage_after first o ≡ Some damage → IsDamage text damage
+damage_after_reported text first rest damage None is e h = absurd (none-some damage h)
+damage_after_reported text first rest damage (Some parts) is e h =
+    damage_by_reported text first parts.0 parts.1 damage (lane_of first) (within 4294967295 parts.0) (character_of parts.1)
     (is ∙ ap (λ (t : List ℕ). first ++ 58 ∷ t) (split_parts 58 rest parts e)) refl refl refl h
 
-damage_parted_told : (text : List ℕ) (damage : DamageWord) (o : Option (List ℕ × List ℕ)) → mark_split 58 text ≡ o → damage_parted o ≡ Some damage → IsDamage text damage
-damage_parted_told text damage None e h = absurd (none-some damage h)
-damage_parted_told text damage (Some parts) e h = damage_behind_told text parts.0 parts.1 damage (mark_split 58 parts.1) (split_parts 58 text parts e) refl h
+damage_parted_reported : (text : List ℕ) (damage : DamageWord) (o : Option (List ℕ × List ℕ)) → mark_split 58 text ≡ o → damage_parted o ≡ Some damage → IsDamage text damage
+damage_parted_reported text damage None e h = absurd (none-some damage h)
+damage_parted_reported text damage (Some parts) e h = damage_after_reported text parts.0 parts.1 damage (mark_split 58 parts.1) (split_parts 58 text parts e) refl h
 
 -- what is read is the damage that a word tells
-pub damage_told : (text : List ℕ) (damage : DamageWord) → damage_of text ≡ Some damage → IsDamage text damage
+pub damage_reported : (text : List ℕ) (damage : DamageWord) → damage_of text ≡ Some damage → IsDamage text damage
 unfolding damage_of
-damage_told text damage h = damage_parted_told text damage (mark_split 58 text) refl h
+damage_reported text damage h = damage_parted_reported text damage (mark_split 58 text) refl h
 
 text_in_order : (lane : ℕ) (place digits : List ℕ) → (48 + lane) ∷ codes ":" ++ place ++ codes ":" ++ digits ≡ ((48 + lane) ∷ []) ++ 58 ∷ (place ++ 58 ∷ digits)
 text_in_order lane place digits = ap (λ (t : List ℕ). (48 + lane) ∷ 58 ∷ t) (append_assoc place (codes ":") digits)
@@ -129,7 +129,7 @@ unfolding damage_of
 damage_found text damage is =
     ap (λ (t : List ℕ). damage_parted (mark_split 58 t)) (is.text_is ∙ text_in_order damage.lane is.place_text is.digits)
     ∙ ap damage_parted (split_found 58 ((48 + damage.lane) ∷ []) (is.place_text ++ 58 ∷ is.digits) colon (lane_digit damage.lane is.lane))
-    ∙ ap (damage_behind ((48 + damage.lane) ∷ [])) (split_found 58 is.place_text is.digits colon (digits_are is.place_text damage.place is.place.digits))
+    ∙ ap (damage_after ((48 + damage.lane) ∷ [])) (split_found 58 is.place_text is.digits colon (digits_are is.place_text damage.place is.place.digits))
     ∙ ap (λ (o : Option ℕ). damage_by o (within 4294967295 is.place_text) (character_of is.digits)) (lane_found damage.lane is.lane)
     ∙ ap (λ (o : Option ℕ). damage_by (Some damage.lane) o (character_of is.digits)) (number_found 4294967295 is.place_text damage.place is.place)
     ∙ ap (λ (o : Option ℕ). damage_by (Some damage.lane) (Some damage.place) o) (character_found is.digits is.high is.low damage.value is.three is.value_is is.value is.character)
@@ -160,4 +160,4 @@ pub damages_more : (words : List (Bor (List ℕ))) (i : ℕ) (d : Bor (List ℕ)
     → damage_of (get_or words i d).now ≡ Some damage → AreDamages (map (λ (w : Bor (List ℕ)). w.now) (take (i + 1) words)) (damages ++ damage ∷ [])
 damages_more words i d damages damage are lt read =
     subst (λ (ts : List (List ℕ)). AreDamages ts (damages ++ damage ∷ [])) (sym (map_more (λ (w : Bor (List ℕ)). w.now) words i d lt))
-    (damages_end (map (λ (w : Bor (List ℕ)). w.now) (take i words)) damages (get_or words i d).now damage are (damage_told (get_or words i d).now damage read))
+    (damages_end (map (λ (w : Bor (List ℕ)). w.now) (take i words)) damages (get_or words i d).now damage are (damage_reported (get_or words i d).now damage read))

@@ -30,41 +30,41 @@ use Rattle.command_line.proofs.Takings.{last, level_total, finished_rows, taken}
 use Rattle.command_line.proofs.Accepting.{AreFew, Once, Accepts, pieces_found}
 use Rattle.command_line.proofs.Programs.{make_form, single_form, several_form, make_long, Sub, to_make, to_recover, to_check, to_damage, to_slip, to_read, to_relay, to_sample, sub_name, sub_rules, sub_fault, sub_rows}
 use Rattle.command_line.proofs.Names.{named_words}
-use Rattle.command_line.proofs.Checking.{IsBare, bare_told, arranged_bare, bare_passes}
+use Rattle.command_line.proofs.Checking.{IsBare, bare_reported, arranged_bare, bare_passes}
 
 -- ---- what is taken
 
 -- a command's name, options and operands, with what is found of them
 pub record Accepted (words : List Text) : Type 0 where
   pub name : Text
-  pub behind : List Text
+  pub after : List Text
   pub rows : List Row
   pub pieces : List Piece
   pub rest : Option (List Text)
-  pub words_are : words ≡ name ∷ behind
+  pub words_are : words ≡ name ∷ after
   pub rows_are : subcommand_of vabgrot words ≡ Some (name, rows)
-  pub behind_are : behind ≡ flat_map piece_words pieces ++ rest_words rest
+  pub after_are : after ≡ flat_map piece_words pieces ++ rest_words rest
   pub allowed : (name ≡ codes "make") ⊎ (filter_map option_of pieces ≡ [])
   pub found : AreFound rows (filter_map option_of pieces) (filter_map operand_of pieces ++ unwrap_or rest [])
 
-form_taken : (s : Sub) (behind : List Text) (many has : Bool) → IsForm (sub_rules s) many has → (has ≡ true → sub_name s ≡ codes "make")
-    → fault_of vabgrot (sub_name s ∷ behind) ≡ [] → Accepted (sub_name s ∷ behind)
+form_taken : (s : Sub) (after : List Text) (many has : Bool) → IsForm (sub_rules s) many has → (has ≡ true → sub_name s ≡ codes "make")
+    → fault_of vabgrot (sub_name s ∷ after) ≡ [] → Accepted (sub_name s ∷ after)
 unfolding last
-form_taken s behind many has f named h =
-    let faults = sym (level_total (sub_name s) (sub_rules s) behind) ∙ sym (sub_fault s behind) ∙ h in
-    let took = taken (sub_name s) (sub_rules s) many has f behind faults in
+form_taken s after many has f named h =
+    let faults = sym (level_total (sub_name s) (sub_rules s) after) ∙ sym (sub_fault s after) ∙ h in
+    let took = taken (sub_name s) (sub_rules s) many has f after faults in
     record {
       name = sub_name s;
-      behind = behind;
-      rows = rows_after (sub_rules s) [] behind;
+      after = after;
+      rows = rows_after (sub_rules s) [] after;
       pieces = took.pieces;
       rest = took.rest;
       words_are = refl;
-      rows_are = sub_rows s behind;
-      behind_are = took.words_are;
+      rows_are = sub_rows s after;
+      after_are = took.words_are;
       allowed = allows has refl took.allowed;
       found = subst (λ (rows : List Row). AreFound rows (filter_map option_of took.pieces) (filter_map operand_of took.pieces ++ unwrap_or took.rest []))
-          (sym (finished_rows (sub_rules s) many has f (last (sub_rules s) (walk_from nothing_held) behind).held)) took.found;
+          (sym (finished_rows (sub_rules s) many has f (last (sub_rules s) (walk_from nothing_held) after).held)) took.found;
     }
   where
     allows : {P : Type 0} (b : Bool) → has ≡ b → (has ≡ false → P) → (sub_name s ≡ codes "make") ⊎ P
@@ -72,20 +72,20 @@ form_taken s behind many has f named h =
     allows false e forbids = inr (forbids e)
 
 -- a name that takes no operands and no options
-bare_taken : (name : Text) (behind : List Text) → ((words : List Text) → subcommand_of vabgrot (name ∷ words) ≡ Some (name, rows_after [] [] words)) → IsBare behind → Accepted (name ∷ behind)
+bare_taken : (name : Text) (after : List Text) → ((words : List Text) → subcommand_of vabgrot (name ∷ words) ≡ Some (name, rows_after [] [] words)) → IsBare after → Accepted (name ∷ after)
 unfolding IsBare walked
-bare_taken name behind found is = go behind is
+bare_taken name after found is = go after is
   where
     bare : (rest : Option (List Text)) (words : List Text) → words ≡ rest_words rest → [] ≡ unwrap_or rest [] → rows_after [] [] words ≡ [] → Accepted (name ∷ words)
     bare rest words e none rows = record {
       name = name;
-      behind = words;
+      after = words;
       rows = rows_after [] [] words;
       pieces = [];
       rest = rest;
       words_are = refl;
       rows_are = found words;
-      behind_are = e;
+      after_are = e;
       allowed = inr refl;
       found = subst (λ (os : List Text). AreFound (rows_after [] [] words) [] os) none (subst (λ (rs : List Row). AreFound rs [] []) (sym rows) nothing_found);
     }
@@ -94,40 +94,40 @@ bare_taken name behind found is = go behind is
     go words (inl e) = subst (λ (ws : List Text). Accepted (name ∷ ws)) (sym e) (bare None [] refl refl refl)
     go words (inr e) = subst (λ (ws : List Text). Accepted (name ∷ ws)) (sym e) (bare (Some []) (codes "--" ∷ []) refl refl refl)
 
-sub_taken : (s : Sub) (behind : List Text) → fault_of vabgrot (sub_name s ∷ behind) ≡ [] → Accepted (sub_name s ∷ behind)
-sub_taken to_make behind h = form_taken to_make behind false true make_form (λ e. refl) h
-sub_taken to_recover behind h = form_taken to_recover behind true false several_form (λ e. absurd (true≢false (sym e))) h
-sub_taken to_check behind h = bare_taken (codes "check") behind (sub_rows to_check) (bare_told (codes "check") behind (sym (sub_fault to_check behind) ∙ h))
-sub_taken to_damage behind h = form_taken to_damage behind true false several_form (λ e. absurd (true≢false (sym e))) h
-sub_taken to_slip behind h = form_taken to_slip behind false false single_form (λ e. absurd (true≢false (sym e))) h
-sub_taken to_read behind h = form_taken to_read behind false false single_form (λ e. absurd (true≢false (sym e))) h
-sub_taken to_relay behind h = bare_taken (codes "relay") behind (sub_rows to_relay) (bare_told (codes "relay") behind (sym (sub_fault to_relay behind) ∙ h))
-sub_taken to_sample behind h = form_taken to_sample behind false false single_form (λ e. absurd (true≢false (sym e))) h
+sub_taken : (s : Sub) (after : List Text) → fault_of vabgrot (sub_name s ∷ after) ≡ [] → Accepted (sub_name s ∷ after)
+sub_taken to_make after h = form_taken to_make after false true make_form (λ e. refl) h
+sub_taken to_recover after h = form_taken to_recover after true false several_form (λ e. absurd (true≢false (sym e))) h
+sub_taken to_check after h = bare_taken (codes "check") after (sub_rows to_check) (bare_reported (codes "check") after (sym (sub_fault to_check after) ∙ h))
+sub_taken to_damage after h = form_taken to_damage after true false several_form (λ e. absurd (true≢false (sym e))) h
+sub_taken to_slip after h = form_taken to_slip after false false single_form (λ e. absurd (true≢false (sym e))) h
+sub_taken to_read after h = form_taken to_read after false false single_form (λ e. absurd (true≢false (sym e))) h
+sub_taken to_relay after h = bare_taken (codes "relay") after (sub_rows to_relay) (bare_reported (codes "relay") after (sym (sub_fault to_relay after) ∙ h))
+sub_taken to_sample after h = form_taken to_sample after false false single_form (λ e. absurd (true≢false (sym e))) h
 
 pub accepted : (words : List Text) → fault_of vabgrot words ≡ [] → Accepted words
 accepted words h =
     let n = named_words words h in
-    subst Accepted (sym n.words_are) (sub_taken n.sub n.behind (subst (λ (ws : List Text). fault_of vabgrot ws ≡ []) n.words_are h))
+    subst Accepted (sym n.words_are) (sub_taken n.sub n.after (subst (λ (ws : List Text). fault_of vabgrot ws ≡ []) n.words_are h))
 
 -- ---- what the grammar has is taken
 
 -- the words of a command are taken, and its options and operands are found
 IsTaken : Sub → List Text → List (OptionName × Text) → List Text → Type 0
-IsTaken s behind options operands = (fault_of vabgrot (sub_name s ∷ behind) ≡ []) × AreFound (rows_after (sub_rules s) [] behind) options operands
+IsTaken s after options operands = (fault_of vabgrot (sub_name s ∷ after) ≡ []) × AreFound (rows_after (sub_rules s) [] after) options operands
 
-form_found : (s : Sub) (behind : List Text) (options : List (OptionName × Text)) (operands : List Text) (many has : Bool) → IsForm (sub_rules s) many has → AreArranged behind options operands
+form_found : (s : Sub) (after : List Text) (options : List (OptionName × Text)) (operands : List Text) (many has : Bool) → IsForm (sub_rules s) many has → AreArranged after options operands
     → ((has ≡ true) × ((n : OptionName) → arg_by_long (sub_rules s) (option_id n) ≡ Some (option_built n))) ⊎ (options ≡ []) → Once options → AreFew many operands
-    → Accepts (sub_name s) (sub_rules s) (walk_from nothing_held) behind options operands → IsTaken s behind options operands
+    → Accepts (sub_name s) (sub_rules s) (walk_from nothing_held) after options operands → IsTaken s after options operands
 unfolding IsTaken Accepts last
-form_found s behind options operands many has f a offers once few accepts = (
-  sub_fault s behind ∙ level_total (sub_name s) (sub_rules s) behind ∙ accepts.0,
-  subst (λ (rows : List Row). AreFound rows options operands) (sym (finished_rows (sub_rules s) many has f (last (sub_rules s) (walk_from nothing_held) behind).held)) accepts.1,
+form_found s after options operands many has f a offers once few accepts = (
+  sub_fault s after ∙ level_total (sub_name s) (sub_rules s) after ∙ accepts.0,
+  subst (λ (rows : List Row). AreFound rows options operands) (sym (finished_rows (sub_rules s) many has f (last (sub_rules s) (walk_from nothing_held) after).held)) accepts.1,
 )
 
-accepts_by : (s : Sub) (behind : List Text) (options : List (OptionName × Text)) (operands : List Text) (many has : Bool) → IsForm (sub_rules s) many has → AreArranged behind options operands
+accepts_by : (s : Sub) (after : List Text) (options : List (OptionName × Text)) (operands : List Text) (many has : Bool) → IsForm (sub_rules s) many has → AreArranged after options operands
     → ((has ≡ true) × ((n : OptionName) → arg_by_long (sub_rules s) (option_id n) ≡ Some (option_built n))) ⊎ (options ≡ []) → Once options → AreFew many operands
-    → Accepts (sub_name s) (sub_rules s) (walk_at [] None idle (place many []) false) behind options operands
-accepts_by s behind options operands many has f a offers once few =
+    → Accepts (sub_name s) (sub_rules s) (walk_at [] None idle (place many []) false) after options operands
+accepts_by s after options operands many has f a offers once few =
     subst (λ (ws : List Text). Accepts (sub_name s) (sub_rules s) (walk_at [] None idle (place many []) false) ws options operands) (sym a.words_are)
     (subst (λ (os : List (OptionName × Text)). Accepts (sub_name s) (sub_rules s) (walk_at [] None idle (place many []) false) (flat_map piece_words a.pieces ++ rest_words a.rest) os operands) (sym a.options_are)
     (subst (λ (os : List Text). Accepts (sub_name s) (sub_rules s) (walk_at [] None idle (place many []) false) (flat_map piece_words a.pieces ++ rest_words a.rest) (filter_map option_of a.pieces) os) (sym a.operands_are)
@@ -160,46 +160,46 @@ some_operands : (operands : List Text) → 0 < length operands → AreFew true o
 some_operands [] some = absurd (omega (arith, some))
 some_operands (o ∷ os) some = record { first = o; others = os; operands_are = refl; few = inl refl }
 
-make_found : (behind : List Text) (options : List (OptionName × Text)) (operands : List Text) (o : Text) (tap : TapWords) → AreArranged behind options operands → operands ≡ o ∷ [] → IsTap options tap → IsTaken to_make behind options operands
-make_found behind options operands o tap a one is =
+make_found : (after : List Text) (options : List (OptionName × Text)) (operands : List Text) (o : Text) (tap : TapWords) → AreArranged after options operands → operands ≡ o ∷ [] → IsTap options tap → IsTaken to_make after options operands
+make_found after options operands o tap a one is =
     let few = one_operand operands o one in
-    form_found to_make behind options operands false true make_form a (inl (refl, make_long)) (tap_once options tap is) few
-    (accepts_by to_make behind options operands false true make_form a (inl (refl, make_long)) (tap_once options tap is) few)
+    form_found to_make after options operands false true make_form a (inl (refl, make_long)) (tap_once options tap is) few
+    (accepts_by to_make after options operands false true make_form a (inl (refl, make_long)) (tap_once options tap is) few)
 
 -- operands and no options
-operands_found : (s : Sub) (many : Bool) (behind : List Text) (options : List (OptionName × Text)) (operands : List Text) → IsForm (sub_rules s) many false → AreArranged behind options operands → AreFew many operands
-    → options ≡ [] → IsTaken s behind options operands
-operands_found s true behind options operands f a few none =
-    form_found s behind options operands true false f a (inr none) (no_options_once options none) few
-    (accepts_by s behind options operands true false f a (inr none) (no_options_once options none) few)
-operands_found s false behind options operands f a few none =
-    form_found s behind options operands false false f a (inr none) (no_options_once options none) few
-    (accepts_by s behind options operands false false f a (inr none) (no_options_once options none) few)
+operands_found : (s : Sub) (many : Bool) (after : List Text) (options : List (OptionName × Text)) (operands : List Text) → IsForm (sub_rules s) many false → AreArranged after options operands → AreFew many operands
+    → options ≡ [] → IsTaken s after options operands
+operands_found s true after options operands f a few none =
+    form_found s after options operands true false f a (inr none) (no_options_once options none) few
+    (accepts_by s after options operands true false f a (inr none) (no_options_once options none) few)
+operands_found s false after options operands f a few none =
+    form_found s after options operands false false f a (inr none) (no_options_once options none) few
+    (accepts_by s after options operands false false f a (inr none) (no_options_once options none) few)
 
 -- neither operands nor options
-bare_found : (name : Text) (behind : List Text) (options : List (OptionName × Text)) (operands : List Text)
+bare_found : (name : Text) (after : List Text) (options : List (OptionName × Text)) (operands : List Text)
     → ((words : List Text) → fault_of vabgrot (name ∷ words) ≡ level_fault (leaf name []) [] nothing_held words false [])
-    → AreArranged behind options operands → operands ≡ [] → options ≡ [] → (fault_of vabgrot (name ∷ behind) ≡ []) × AreFound (rows_after [] [] behind) options operands
+    → AreArranged after options operands → operands ≡ [] → options ≡ [] → (fault_of vabgrot (name ∷ after) ≡ []) × AreFound (rows_after [] [] after) options operands
 unfolding IsBare walked
-bare_found name behind options operands fault a bare none =
-    let plain = subst (λ (os : List (OptionName × Text)). AreArranged behind os []) none (subst (λ (os : List Text). AreArranged behind options os) bare a) in
-    let is = arranged_bare behind plain in (
-      fault behind ∙ bare_passes name behind is,
-      subst (λ (os : List (OptionName × Text)). AreFound (rows_after [] [] behind) os operands) (sym none)
-          (subst (λ (os : List Text). AreFound (rows_after [] [] behind) [] os) (sym bare) (subst (λ (rs : List Row). AreFound rs [] []) (sym (rows behind is)) nothing_found)),
+bare_found name after options operands fault a bare none =
+    let plain = subst (λ (os : List (OptionName × Text)). AreArranged after os []) none (subst (λ (os : List Text). AreArranged after options os) bare a) in
+    let is = arranged_bare after plain in (
+      fault after ∙ bare_passes name after is,
+      subst (λ (os : List (OptionName × Text)). AreFound (rows_after [] [] after) os operands) (sym none)
+          (subst (λ (os : List Text). AreFound (rows_after [] [] after) [] os) (sym bare) (subst (λ (rs : List Row). AreFound rs [] []) (sym (rows after is)) nothing_found)),
     )
   where
     rows : (words : List Text) → (words ≡ []) ⊎ (words ≡ codes "--" ∷ []) → rows_after [] [] words ≡ []
     rows words (inl e) = ap (rows_after [] []) e
     rows words (inr e) = ap (rows_after [] []) e
 
-check_found : (behind : List Text) (options : List (OptionName × Text)) (operands : List Text) → AreArranged behind options operands → operands ≡ [] → options ≡ [] → IsTaken to_check behind options operands
+check_found : (after : List Text) (options : List (OptionName × Text)) (operands : List Text) → AreArranged after options operands → operands ≡ [] → options ≡ [] → IsTaken to_check after options operands
 unfolding IsTaken
-check_found behind options operands a bare none = bare_found (codes "check") behind options operands (sub_fault to_check) a bare none
+check_found after options operands a bare none = bare_found (codes "check") after options operands (sub_fault to_check) a bare none
 
-relay_found : (behind : List Text) (options : List (OptionName × Text)) (operands : List Text) → AreArranged behind options operands → operands ≡ [] → options ≡ [] → IsTaken to_relay behind options operands
+relay_found : (after : List Text) (options : List (OptionName × Text)) (operands : List Text) → AreArranged after options operands → operands ≡ [] → options ≡ [] → IsTaken to_relay after options operands
 unfolding IsTaken
-relay_found behind options operands a bare none = bare_found (codes "relay") behind options operands (sub_fault to_relay) a bare none
+relay_found after options operands a bare none = bare_found (codes "relay") after options operands (sub_fault to_relay) a bare none
 
 -- the words of a command are taken
 pub record Reads (words : List Text) (name : Text) (options : List (OptionName × Text)) (operands : List Text) : Type 0 where
@@ -209,52 +209,52 @@ pub record Reads (words : List Text) (name : Text) (options : List (OptionName �
   pub found : AreFound rows options operands
   pub allowed : (name ≡ codes "make") ⊎ (options ≡ [])
 
-reads : (s : Sub) (words : List Text) (name : Text) (behind : List Text) (options : List (OptionName × Text)) (operands : List Text) → words ≡ name ∷ behind → name ≡ sub_name s → IsTaken s behind options operands
+reads : (s : Sub) (words : List Text) (name : Text) (after : List Text) (options : List (OptionName × Text)) (operands : List Text) → words ≡ name ∷ after → name ≡ sub_name s → IsTaken s after options operands
     → (name ≡ codes "make") ⊎ (options ≡ []) → Reads words name options operands
 unfolding IsTaken
-reads s words name behind options operands words_are is t allowed =
-    let same : words ≡ sub_name s ∷ behind = words_are ∙ ap (λ (n : Text). n ∷ behind) is in
+reads s words name after options operands words_are is t allowed =
+    let same : words ≡ sub_name s ∷ after = words_are ∙ ap (λ (n : Text). n ∷ after) is in
     record {
-      rows = rows_after (sub_rules s) [] behind;
+      rows = rows_after (sub_rules s) [] after;
       passes = ap (fault_of vabgrot) same ∙ t.0;
-      rows_are = ap (subcommand_of vabgrot) same ∙ sub_rows s behind ∙ ap (λ (n : Text). Some (n, rows_after (sub_rules s) [] behind)) (sym is);
+      rows_are = ap (subcommand_of vabgrot) same ∙ sub_rows s after ∙ ap (λ (n : Text). Some (n, rows_after (sub_rules s) [] after)) (sym is);
       found = t.1;
       allowed = allowed;
     }
 
-reads_by : (words : List Text) (name : Text) (behind : List Text) (options : List (OptionName × Text)) (operands : List Text) (c : Command) → words ≡ name ∷ behind → AreArranged behind options operands
+reads_by : (words : List Text) (name : Text) (after : List Text) (options : List (OptionName × Text)) (operands : List Text) (c : Command) → words ≡ name ∷ after → AreArranged after options operands
     → Means c name options operands → Reads words name options operands
-reads_by words name behind options operands (MakeLink tap) is a m =
-    reads to_make words name behind options operands is m.0 (make_found behind options operands (codes "link") tap a m.1 m.2) (inl m.0)
-reads_by words name behind options operands (MakeContent tap) is a m =
-    reads to_make words name behind options operands is m.0 (make_found behind options operands (codes "content") tap a m.1 m.2) (inl m.0)
-reads_by words name behind options operands (MakeDvi tap) is a m =
-    reads to_make words name behind options operands is m.0 (make_found behind options operands (codes "dvi") tap a m.1 m.2) (inl m.0)
-reads_by words name behind options operands RecoverLink is a m =
-    reads to_recover words name behind options operands is m.0 (operands_found to_recover true behind options operands several_form a (front_operand operands (codes "link") [] m.1) m.2) (inr m.2)
-reads_by words name behind options operands RecoverContent is a m =
-    reads to_recover words name behind options operands is m.0 (operands_found to_recover true behind options operands several_form a (front_operand operands (codes "content") [] m.1) m.2) (inr m.2)
-reads_by words name behind options operands RecoverTrack is a m =
-    reads to_recover words name behind options operands is m.0 (operands_found to_recover true behind options operands several_form a (front_operand operands (codes "track") [] m.1) m.2) (inr m.2)
-reads_by words name behind options operands (RecoverBiphase k) is a m =
-    reads to_recover words name behind options operands is m.0 (operands_found to_recover true behind options operands several_form a (front_operand operands (codes "biphase") (digit_text k ∷ []) m.1.0) m.2) (inr m.2)
-reads_by words name behind options operands RecoverDvi is a m =
-    reads to_recover words name behind options operands is m.0 (operands_found to_recover true behind options operands several_form a (front_operand operands (codes "dvi") [] m.1) m.2) (inr m.2)
-reads_by words name behind options operands Check is a m =
-    reads to_check words name behind options operands is m.0 (check_found behind options operands a m.1 m.2) (inr m.2)
-reads_by words name behind options operands (Damage damages) is a m =
-    reads to_damage words name behind options operands is m.0 (operands_found to_damage true behind options operands several_form a (some_operands operands m.1.1) m.2) (inr m.2)
-reads_by words name behind options operands (Slip slip) is a m =
-    reads to_slip words name behind options operands is m.0 (operands_found to_slip false behind options operands single_form a (one_operand operands m.1.0 m.1.1) m.2) (inr m.2)
-reads_by words name behind options operands ReadBiphase is a m =
-    reads to_read words name behind options operands is m.0 (operands_found to_read false behind options operands single_form a (one_operand operands (codes "biphase") m.1) m.2) (inr m.2)
-reads_by words name behind options operands Relay is a m =
-    reads to_relay words name behind options operands is m.0 (relay_found behind options operands a m.1 m.2) (inr m.2)
-reads_by words name behind options operands (Sample n) is a m =
-    reads to_sample words name behind options operands is m.0 (operands_found to_sample false behind options operands single_form a (one_operand operands m.1.0 m.1.1) m.2) (inr m.2)
+reads_by words name after options operands (MakeLink tap) is a m =
+    reads to_make words name after options operands is m.0 (make_found after options operands (codes "link") tap a m.1 m.2) (inl m.0)
+reads_by words name after options operands (MakeContent tap) is a m =
+    reads to_make words name after options operands is m.0 (make_found after options operands (codes "content") tap a m.1 m.2) (inl m.0)
+reads_by words name after options operands (MakeDvi tap) is a m =
+    reads to_make words name after options operands is m.0 (make_found after options operands (codes "dvi") tap a m.1 m.2) (inl m.0)
+reads_by words name after options operands RecoverLink is a m =
+    reads to_recover words name after options operands is m.0 (operands_found to_recover true after options operands several_form a (front_operand operands (codes "link") [] m.1) m.2) (inr m.2)
+reads_by words name after options operands RecoverContent is a m =
+    reads to_recover words name after options operands is m.0 (operands_found to_recover true after options operands several_form a (front_operand operands (codes "content") [] m.1) m.2) (inr m.2)
+reads_by words name after options operands RecoverTrack is a m =
+    reads to_recover words name after options operands is m.0 (operands_found to_recover true after options operands several_form a (front_operand operands (codes "track") [] m.1) m.2) (inr m.2)
+reads_by words name after options operands (RecoverBiphase k) is a m =
+    reads to_recover words name after options operands is m.0 (operands_found to_recover true after options operands several_form a (front_operand operands (codes "biphase") (digit_text k ∷ []) m.1.0) m.2) (inr m.2)
+reads_by words name after options operands RecoverDvi is a m =
+    reads to_recover words name after options operands is m.0 (operands_found to_recover true after options operands several_form a (front_operand operands (codes "dvi") [] m.1) m.2) (inr m.2)
+reads_by words name after options operands Check is a m =
+    reads to_check words name after options operands is m.0 (check_found after options operands a m.1 m.2) (inr m.2)
+reads_by words name after options operands (Damage damages) is a m =
+    reads to_damage words name after options operands is m.0 (operands_found to_damage true after options operands several_form a (some_operands operands m.1.1) m.2) (inr m.2)
+reads_by words name after options operands (Slip slip) is a m =
+    reads to_slip words name after options operands is m.0 (operands_found to_slip false after options operands single_form a (one_operand operands m.1.0 m.1.1) m.2) (inr m.2)
+reads_by words name after options operands ReadBiphase is a m =
+    reads to_read words name after options operands is m.0 (operands_found to_read false after options operands single_form a (one_operand operands (codes "biphase") m.1) m.2) (inr m.2)
+reads_by words name after options operands Relay is a m =
+    reads to_relay words name after options operands is m.0 (relay_found after options operands a m.1 m.2) (inr m.2)
+reads_by words name after options operands (Sample n) is a m =
+    reads to_sample words name after options operands is m.0 (operands_found to_sample false after options operands single_form a (one_operand operands m.1.0 m.1.1) m.2) (inr m.2)
 
 pub command_reads : (words : List Text) (c : Command) (k : IsCommand words c) → Reads words k.name k.options k.operands
-command_reads words c k = reads_by words k.name k.behind k.options k.operands c k.words_are k.arranged k.means
+command_reads words c k = reads_by words k.name k.after k.options k.operands c k.words_are k.arranged k.means
 
 -- ---- values that are read begin with no `-`
 
@@ -295,11 +295,6 @@ damages_plain [] [] are = tt
 damages_plain [] (d ∷ ds) are = tt
 damages_plain (t ∷ ts) [] are = absurd are
 damages_plain (t ∷ ts) (d ∷ ds) are = (damage_plain t d are.0, damages_plain ts ds are.1)
-
-listed_plain : (o : Option Text) → ((t : Text) → o ≡ Some t → starts_with_minus t ≡ false) → TextsPlain (listed o)
-unfolding TextsPlain
-listed_plain None h = tt
-listed_plain (Some t) h = (h t refl, tt)
 
 offset_plain : (o : Option Text) (n : ℕ) → IsOffset o n → TextsPlain (listed o)
 unfolding TextsPlain
@@ -381,9 +376,6 @@ pieces_plain (operand w ∷ pieces) v t = (t.0, pieces_plain pieces v t.1)
 
 -- ---- the answer
 
-abbrev name_and_rows : Text × List Row → Text
-name_and_rows p = p.0
-
 pub judged : (words : List Text) (a : Accepted words) (r : Option Command) → Judges a.name a.rows r
     → MatchOption r ((c : Command) → IsCommand words c → ⊥) (λ c. IsCommand words c)
 judged words a (Some c) j =
@@ -391,14 +383,14 @@ judged words a (Some c) j =
     let plain = means_plain c a.name (filter_map option_of a.pieces) (filter_map operand_of a.pieces ++ unwrap_or a.rest []) m in
     record {
       name = a.name;
-      behind = a.behind;
+      after = a.after;
       options = filter_map option_of a.pieces;
       operands = filter_map operand_of a.pieces ++ unwrap_or a.rest [];
       words_are = a.words_are;
       arranged = record {
         pieces = a.pieces;
         rest = a.rest;
-        words_are = a.behind_are;
+        words_are = a.after_are;
         plain = pieces_plain a.pieces plain.0 (texts_front (filter_map operand_of a.pieces) (unwrap_or a.rest []) plain.1);
         options_are = refl;
         operands_are = refl;

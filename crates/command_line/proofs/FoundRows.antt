@@ -14,7 +14,7 @@ use Rattle.clap.specs.declared.builder.value_parser.Reading.TheVariants as readi
 use Rattle.clap.specs.declared.parser.matches.ValueSource.{ValueSource}
 use Rattle.clap.specs.declared.parser.matches.ValueSource.TheVariants.{DefaultValue, CommandLine}
 use Rattle.command_line.specs.Grammar.{Text, is_same, values_of, listed, IsGiven}
-use Rattle.command_line.specs.Forms.{option_id, operand_id, option_rule, operand_rule, row_value, told, one_value, all_values, AreFound}
+use Rattle.command_line.specs.Forms.{option_id, operand_id, option_rule, operand_rule, row_value, reported, one_value, all_values, AreFound}
 use Rattle.command_line.specs.declared.options.OptionName.{OptionName}
 use Rattle.command_line.specs.declared.options.OptionName.TheVariants.{Offset, Skew, Bits, Version}
 use Rattle.command_line.proofs.GivenOptions.{values-append}
@@ -93,41 +93,41 @@ before None = []
 before (Some p) = p.0
 
 -- the values that an id gets join those that it has
-told_same : (id : Text) (how : Reading) (values : List Text) (rows : List Row) → bytes_eq id id ≡ true
-    → told id (with_values id how CommandLine values rows) ≡ Some (before (told id rows) ++ values, true)
-told_same id how values [] own = rw own refl
-told_same id how values (r ∷ rs) own = go (bytes_eq r.id id) refl (told_same id how values rs own)
+reported_same : (id : Text) (how : Reading) (values : List Text) (rows : List Row) → bytes_eq id id ≡ true
+    → reported id (with_values id how CommandLine values rows) ≡ Some (before (reported id rows) ++ values, true)
+reported_same id how values [] own = rw own refl
+reported_same id how values (r ∷ rs) own = go (bytes_eq r.id id) refl (reported_same id how values rs own)
   where
-    go : (b : Bool) → bytes_eq r.id id ≡ b → told id (with_values id how CommandLine values rs) ≡ Some (before (told id rs) ++ values, true)
-        → told id (with_values id how CommandLine values (r ∷ rs)) ≡ Some (before (told id (r ∷ rs)) ++ values, true)
+    go : (b : Bool) → bytes_eq r.id id ≡ b → reported id (with_values id how CommandLine values rs) ≡ Some (before (reported id rs) ++ values, true)
+        → reported id (with_values id how CommandLine values (r ∷ rs)) ≡ Some (before (reported id (r ∷ rs)) ++ values, true)
     go true e ih = rw (e, e) (ap (λ (x : Bool). Some (r.values ++ values, x)) (explicit_still r.source))
     go false e ih = rw (e, e) ih
 
 -- and another id keeps what it has
-told_other : (id other : Text) (how : Reading) (values : List Text) (rows : List Row) → bytes_eq id other ≡ false
-    → told other (with_values id how CommandLine values rows) ≡ told other rows
-told_other id other how values [] apart = rw apart refl
-told_other id other how values (r ∷ rs) apart = go (bytes_eq r.id id) refl (told_other id other how values rs apart)
+reported_other : (id other : Text) (how : Reading) (values : List Text) (rows : List Row) → bytes_eq id other ≡ false
+    → reported other (with_values id how CommandLine values rows) ≡ reported other rows
+reported_other id other how values [] apart = rw apart refl
+reported_other id other how values (r ∷ rs) apart = go (bytes_eq r.id id) refl (reported_other id other how values rs apart)
   where
-    skip : (b : Bool) → told other (with_values id how CommandLine values rs) ≡ told other rs
+    skip : (b : Bool) → reported other (with_values id how CommandLine values rs) ≡ reported other rs
         → option_map row_value (if b then Some r else find (λ (x : Row). bytes_eq x.id other) (with_values id how CommandLine values rs))
         ≡ option_map row_value (if b then Some r else find (λ (x : Row). bytes_eq x.id other) rs)
     skip true ih = refl
     skip false ih = ih
 
-    go : (b : Bool) → bytes_eq r.id id ≡ b → told other (with_values id how CommandLine values rs) ≡ told other rs
-        → told other (with_values id how CommandLine values (r ∷ rs)) ≡ told other (r ∷ rs)
+    go : (b : Bool) → bytes_eq r.id id ≡ b → reported other (with_values id how CommandLine values rs) ≡ reported other rs
+        → reported other (with_values id how CommandLine values (r ∷ rs)) ≡ reported other (r ∷ rs)
     go true e ih =
         let own : r.id ≡ id = (bytes_eq-Decides r.id id).0 e in
         let differs : bytes_eq r.id other ≡ false = ap (λ (t : Text). bytes_eq t other) own ∙ apart in
         rw (e, differs) refl
     go false e ih = rw e (skip (bytes_eq r.id other) ih)
 
-pub row_told : (id : Text) (rows : List Row) → has_row id rows ≡ is_some (told id rows)
-row_told id [] = refl
-row_told id (r ∷ rs) = go (bytes_eq r.id id) (row_told id rs)
+pub row_reported : (id : Text) (rows : List Row) → has_row id rows ≡ is_some (reported id rows)
+row_reported id [] = refl
+row_reported id (r ∷ rs) = go (bytes_eq r.id id) (row_reported id rs)
   where
-    go : (b : Bool) → has_row id rs ≡ is_some (told id rs)
+    go : (b : Bool) → has_row id rs ≡ is_some (reported id rs)
         → (b || has_row id rs) ≡ is_some (option_map row_value (if b then Some r else find (λ (x : Row). bytes_eq x.id id) rs))
     go true ih = refl
     go false ih = ih
@@ -140,8 +140,8 @@ without_none id (r ∷ rs) none = go (bytes_eq r.id id) refl none (without_none 
     go true e h ih = absurd (true≢false h)
     go false e h ih = rw e (ap (λ (x : List Row). r ∷ x) (ih h))
 
-pub given_told : (id : Text) (rows : List Row) → is_given id rows ≡ option_map_or (λ p. p.1) (told id rows) false
-given_told id rows = go (find (λ (r : Row). bytes_eq r.id id) rows)
+pub given_reported : (id : Text) (rows : List Row) → is_given id rows ≡ option_map_or (λ p. p.1) (reported id rows) false
+given_reported id rows = go (find (λ (r : Row). bytes_eq r.id id) rows)
   where
     go : (o : Option Row) → option_map_or (λ (r : Row). explicit_source r.source) o false
         ≡ option_map_or (λ (p : List Text × Bool). p.1) (option_map row_value o) false
@@ -151,15 +151,15 @@ given_told id rows = go (find (λ (r : Row). bytes_eq r.id id) rows)
 abbrev first_in : Option (List Text × Bool) → Option Text
 first_in = option_and_then (λ p. slice_get p.0 0)
 
-pub first_told : (id : Text) (rows : List Row) → first_of id rows ≡ first_in (told id rows)
-first_told id rows = go (find (λ (r : Row). bytes_eq r.id id) rows)
+pub first_reported : (id : Text) (rows : List Row) → first_of id rows ≡ first_in (reported id rows)
+first_reported id rows = go (find (λ (r : Row). bytes_eq r.id id) rows)
   where
     go : (o : Option Row) → option_and_then (λ (r : Row). slice_get r.values 0) o ≡ first_in (option_map row_value o)
     go None = refl
     go (Some r) = refl
 
-pub all_told : (id : Text) (rows : List Row) → all_of id rows ≡ option_map (λ p. p.0) (told id rows)
-all_told id rows = go (find (λ (r : Row). bytes_eq r.id id) rows)
+pub all_reported : (id : Text) (rows : List Row) → all_of id rows ≡ option_map (λ p. p.0) (reported id rows)
+all_reported id rows = go (find (λ (r : Row). bytes_eq r.id id) rows)
   where
     go : (o : Option Row) → option_map (λ (r : Row). r.values) o ≡ option_map (λ (p : List Text × Bool). p.0) (option_map row_value o)
     go None = refl
@@ -167,7 +167,7 @@ all_told id rows = go (find (λ (r : Row). bytes_eq r.id id) rows)
 
 -- the value of an option that is found
 pub option_value : (rows : List Row) (options : List (OptionName × Text)) (operands : List Text) (f : AreFound rows options operands) (name : OptionName) → first_of (option_id name) rows ≡ f.value name
-option_value rows options operands f name = first_told (option_id name) rows ∙ ap first_in (f.options_are name) ∙ go (f.value name)
+option_value rows options operands f name = first_reported (option_id name) rows ∙ ap first_in (f.options_are name) ∙ go (f.value name)
   where
     go : (o : Option Text) → first_in (one_value o) ≡ o
     go None = refl
@@ -175,7 +175,7 @@ option_value rows options operands f name = first_told (option_id name) rows ∙
 
 -- and the operands
 pub operand_values : (rows : List Row) (options : List (OptionName × Text)) (operands : List Text) → AreFound rows options operands → unwrap_or (all_of operand_id rows) [] ≡ operands
-operand_values rows options operands f = ap (λ (o : Option (List Text)). unwrap_or o []) (all_told operand_id rows ∙ ap (option_map (λ p. p.0)) f.operands_are) ∙ go operands
+operand_values rows options operands f = ap (λ (o : Option (List Text)). unwrap_or o []) (all_reported operand_id rows ∙ ap (option_map (λ p. p.0)) f.operands_are) ∙ go operands
   where
     go : (vs : List Text) → unwrap_or (option_map (λ (p : List Text × Bool). p.0) (all_values vs)) [] ≡ vs
     go [] = refl
@@ -215,8 +215,8 @@ once_single value rows h = go (has_row operand_id rows) refl
     go false e = e
     go true e = let bad = rw e at h in cc
 
-none_told : (id : Text) (rows : List Row) → has_row id rows ≡ false → told id rows ≡ None
-none_told id rows none = go (told id rows) (sym (row_told id rows) ∙ none)
+none_reported : (id : Text) (rows : List Row) → has_row id rows ≡ false → reported id rows ≡ None
+none_reported id rows none = go (reported id rows) (sym (row_reported id rows) ∙ none)
   where
     go : (o : Option (List Text × Bool)) → is_some o ≡ false → o ≡ None
     go None e = refl
@@ -243,13 +243,13 @@ pub found_option : (rows : List Row) (options : List (OptionName × Text)) (oper
 found_option rows options operands name value f fits =
     let none = once_option name value rows fits in
     let clear : without (option_id name) rows ≡ rows = without_none (option_id name) rows none in
-    let missing : f.value name ≡ None = no_value (f.value name) (sym (f.options_are name) ∙ none_told (option_id name) rows none) in
+    let missing : f.value name ≡ None = no_value (f.value name) (sym (f.options_are name) ∙ none_reported (option_id name) rows none) in
     subst (λ (rs : List Row). AreFound (with_values (option_id name) reading.AsWritten CommandLine (value ∷ []) rs) (options ++ (name, value) ∷ []) operands) (sym clear)
     (record {
       value = value_after f.value name value;
       given = λ other. given_by other (is_same other name) refl missing;
-      options_are = λ other. told_by other (is_same other name) refl none;
-      operands_are = told_other (option_id name) operand_id reading.AsWritten (value ∷ []) rows (option_operand name) ∙ f.operands_are;
+      options_are = λ other. reported_by other (is_same other name) refl none;
+      operands_are = reported_other (option_id name) operand_id reading.AsWritten (value ∷ []) rows (option_operand name) ∙ f.operands_are;
     })
   where
     given_by : (other : OptionName) (b : Bool) → is_same other name ≡ b → f.value name ≡ None → IsGiven other (options ++ (name, value) ∷ []) (if b then Some value else f.value other)
@@ -260,13 +260,13 @@ found_option rows options operands name value f fits =
     given_by other false e missing =
         values-append other options ((name, value) ∷ []) ∙ ap (λ (vs : List Text). values_of other options ++ vs) (rw e refl) ∙ append-nil (values_of other options) ∙ f.given other
 
-    told_by : (other : OptionName) (b : Bool) → is_same other name ≡ b → has_row (option_id name) rows ≡ false
-        → told (option_id other) (with_values (option_id name) reading.AsWritten CommandLine (value ∷ []) rows) ≡ one_value (if b then Some value else f.value other)
-    told_by other true e none =
-        subst (λ (o : OptionName). told (option_id o) (with_values (option_id name) reading.AsWritten CommandLine (value ∷ []) rows) ≡ Some (value ∷ [], true)) (sym (same_name other name e))
-        (told_same (option_id name) reading.AsWritten (value ∷ []) rows (same_id name) ∙ ap (λ (o : Option (List Text × Bool)). Some (before o ++ value ∷ [], true)) (none_told (option_id name) rows none))
-    told_by other false e none =
-        told_other (option_id name) (option_id other) reading.AsWritten (value ∷ []) rows (ids_apart name other ∙ e) ∙ f.options_are other
+    reported_by : (other : OptionName) (b : Bool) → is_same other name ≡ b → has_row (option_id name) rows ≡ false
+        → reported (option_id other) (with_values (option_id name) reading.AsWritten CommandLine (value ∷ []) rows) ≡ one_value (if b then Some value else f.value other)
+    reported_by other true e none =
+        subst (λ (o : OptionName). reported (option_id o) (with_values (option_id name) reading.AsWritten CommandLine (value ∷ []) rows) ≡ Some (value ∷ [], true)) (sym (same_name other name e))
+        (reported_same (option_id name) reading.AsWritten (value ∷ []) rows (same_id name) ∙ ap (λ (o : Option (List Text × Bool)). Some (before o ++ value ∷ [], true)) (none_reported (option_id name) rows none))
+    reported_by other false e none =
+        reported_other (option_id name) (option_id other) reading.AsWritten (value ∷ []) rows (ids_apart name other ∙ e) ∙ f.options_are other
 
 -- one more operand is found
 pub found_operand : (many : Bool) (rows : List Row) (options : List (OptionName × Text)) (operands : List Text) (value : Text) → AreFound rows options operands
@@ -274,8 +274,8 @@ pub found_operand : (many : Bool) (rows : List Row) (options : List (OptionName 
 found_operand true rows options operands value f fits = record {
   value = f.value;
   given = f.given;
-  options_are = λ name. told_other operand_id (option_id name) reading.AsWritten (value ∷ []) rows (operand_option name) ∙ f.options_are name;
-  operands_are = told_same operand_id reading.AsWritten (value ∷ []) rows refl ∙ ap (λ (o : Option (List Text × Bool)). Some (before o ++ value ∷ [], true)) f.operands_are ∙ go operands;
+  options_are = λ name. reported_other operand_id (option_id name) reading.AsWritten (value ∷ []) rows (operand_option name) ∙ f.options_are name;
+  operands_are = reported_same operand_id reading.AsWritten (value ∷ []) rows refl ∙ ap (λ (o : Option (List Text × Bool)). Some (before o ++ value ∷ [], true)) f.operands_are ∙ go operands;
 }
   where
     go : (vs : List Text) → Some (before (all_values vs) ++ value ∷ [], true) ≡ all_values (vs ++ value ∷ [])
@@ -284,13 +284,13 @@ found_operand true rows options operands value f fits = record {
 found_operand false rows options operands value f fits =
     let none = once_single value rows fits in
     let clear : without operand_id rows ≡ rows = without_none operand_id rows none in
-    let empty : operands ≡ [] = no_values operands (sym f.operands_are ∙ none_told operand_id rows none) in
+    let empty : operands ≡ [] = no_values operands (sym f.operands_are ∙ none_reported operand_id rows none) in
     subst (λ (rs : List Row). AreFound (with_values operand_id reading.AsWritten CommandLine (value ∷ []) rs) options (operands ++ value ∷ [])) (sym clear)
     (record {
       value = f.value;
       given = f.given;
-      options_are = λ name. told_other operand_id (option_id name) reading.AsWritten (value ∷ []) rows (operand_option name) ∙ f.options_are name;
-      operands_are = told_same operand_id reading.AsWritten (value ∷ []) rows refl ∙ ap (λ (o : Option (List Text × Bool)). Some (before o ++ value ∷ [], true)) (none_told operand_id rows none)
+      options_are = λ name. reported_other operand_id (option_id name) reading.AsWritten (value ∷ []) rows (operand_option name) ∙ f.options_are name;
+      operands_are = reported_same operand_id reading.AsWritten (value ∷ []) rows refl ∙ ap (λ (o : Option (List Text × Bool)). Some (before o ++ value ∷ [], true)) (none_reported operand_id rows none)
           ∙ sym (ap (λ (os : List Text). all_values (os ++ value ∷ [])) empty);
     })
 
@@ -299,7 +299,7 @@ pub option_fits : (rows : List Row) (options : List (OptionName × Text)) (opera
     → values_of name options ≡ [] → use_fault false (option_built name) (value ∷ []) rows ≡ []
 option_fits rows options operands name value f none =
     let missing : f.value name ≡ None = not_listed (f.value name) (sym none ∙ f.given name) in
-    fits_option name value rows (row_told (option_id name) rows ∙ ap is_some (f.options_are name ∙ ap one_value missing))
+    fits_option name value rows (row_reported (option_id name) rows ∙ ap is_some (f.options_are name ∙ ap one_value missing))
 
 -- and an operand where several may stand or none is there
 pub operand_fits : (many : Bool) (rows : List Row) (options : List (OptionName × Text)) (operands : List Text) (value : Text) → AreFound rows options operands
@@ -307,7 +307,7 @@ pub operand_fits : (many : Bool) (rows : List Row) (options : List (OptionName �
 operand_fits true rows options operands value f room = refl
 operand_fits false rows options operands value f (inl e) = absurd (true≢false (sym e))
 operand_fits false rows options operands value f (inr empty) =
-    fits_single value rows (row_told operand_id rows ∙ ap is_some (f.operands_are ∙ ap all_values empty))
+    fits_single value rows (row_reported operand_id rows ∙ ap is_some (f.operands_are ∙ ap all_values empty))
 
 -- nothing is found in no rows
 pub nothing_found : AreFound [] [] []

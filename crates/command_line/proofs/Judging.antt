@@ -2,13 +2,10 @@
 use Rattle.std.proofs.Common.{◌≡◌, ◌∙◌, ◌⊎◌, inl, inr, sym, ap, refl, subst, true, false, List, [], codes, Option, Some, None, Result, Ok, Err, IfOk, Bor, Box, box_value, map, option_map, unwrap_or, bytes_eq}
 use Rattle.std.specs.Prelude.{MatchOption}
 use Rattle.std.proofs.lemmas.Option.{none-some, same_Some}
-use Rattle.clap.specs.Kinds.{HasKind, Kinds}
-use Rattle.clap.specs.Values.{kind_of}
 use Rattle.clap.specs.Walk.{Row, rows_of}
 use Rattle.clap.specs.Matches.{found_of, subcommand_name_of, raw_values, matched_of}
 use Rattle.clap.specs.Simple.{App, HasMatchesOf, subcommand_rows, subcommand_rows_of, subcommand_of, is_simple}
 use Rattle.clap.specs.Faults.{fault_of, is_simple_and_free}
-use Rattle.clap.specs.declared.error.Error.{Error}
 use Rattle.clap.specs.declared.error.kind.ErrorKind.TheVariants as kind
 use Rattle.clap.specs.declared.parser.matches.ArgMatches.{ArgMatches}
 use Rattle.clap.specs.declared.parser.matches.ArgMatches.TheViews.{out-ArgMatches}
@@ -83,14 +80,6 @@ parsed_ok a words m is faults matches = (
   ap (λ (x : App). fault_of x words) (sym is) ∙ faults (ap is_simple_and_free is ∙ simple_and_free),
   (matches (ap is_simple is ∙ simple)).1 ∙ ap (λ (x : App). subcommand_of x words) is,
 )
-
-pub parsed_err : (a : App) (words : List Text) (e : Error) → a ≡ vabgrot → (is_simple_and_free a ≡ true → HasKind (fault_of a words) e) → (kind_of e ≡ kind.OutOfMemory → ⊥) → fault_of vabgrot words ≡ [] → ⊥
-parsed_err a words e is fails other none =
-    go (subst (λ (k : Kinds). HasKind k e) (ap (λ (x : App). fault_of x words) is ∙ none) (fails (ap is_simple_and_free is ∙ simple_and_free)))
-  where
-    go : HasKind [] e → ⊥
-    go (inl memory) = other memory
-    go (inr among) = among
 
 -- the operands that are found
 pub texts_found : (found : Found) (r : Option (Bor (List (Bor Text)))) → option_map (λ s. map (λ v. v.now) s.now) r ≡ option_map raw_values (matched_of found operand_id)

@@ -78,29 +78,29 @@ met_by a b c d e f g h =
 -- the command that words begin with
 pub record Names (words : List Text) : Type 0 where
   pub sub : Sub
-  pub behind : List Text
-  pub words_are : words ≡ sub_name sub ∷ behind
+  pub after : List Text
+  pub words_are : words ≡ sub_name sub ∷ after
 
 name_by : (word : Text) (words : List Text) (a b c d e f g h : Bool)
     → bytes_eq (codes "make") word ≡ a → bytes_eq (codes "recover") word ≡ b → bytes_eq (codes "check") word ≡ c
     → bytes_eq (codes "damage") word ≡ d → bytes_eq (codes "slip") word ≡ e → bytes_eq (codes "read") word ≡ f
     → bytes_eq (codes "relay") word ≡ g → bytes_eq (codes "sample") word ≡ h → fault_of vabgrot (word ∷ words) ≡ [] → Names (word ∷ words)
 name_by word words true b c d e f g h p q r s t u v x faults =
-    record { sub = to_make; behind = words; words_are = ap (λ (w : Text). w ∷ words) (sym ((bytes_eq-Decides (codes "make") word).0 p)) }
+    record { sub = to_make; after = words; words_are = ap (λ (w : Text). w ∷ words) (sym ((bytes_eq-Decides (codes "make") word).0 p)) }
 name_by word words false true c d e f g h p q r s t u v x faults =
-    record { sub = to_recover; behind = words; words_are = ap (λ (w : Text). w ∷ words) (sym ((bytes_eq-Decides (codes "recover") word).0 q)) }
+    record { sub = to_recover; after = words; words_are = ap (λ (w : Text). w ∷ words) (sym ((bytes_eq-Decides (codes "recover") word).0 q)) }
 name_by word words false false true d e f g h p q r s t u v x faults =
-    record { sub = to_check; behind = words; words_are = ap (λ (w : Text). w ∷ words) (sym ((bytes_eq-Decides (codes "check") word).0 r)) }
+    record { sub = to_check; after = words; words_are = ap (λ (w : Text). w ∷ words) (sym ((bytes_eq-Decides (codes "check") word).0 r)) }
 name_by word words false false false true e f g h p q r s t u v x faults =
-    record { sub = to_damage; behind = words; words_are = ap (λ (w : Text). w ∷ words) (sym ((bytes_eq-Decides (codes "damage") word).0 s)) }
+    record { sub = to_damage; after = words; words_are = ap (λ (w : Text). w ∷ words) (sym ((bytes_eq-Decides (codes "damage") word).0 s)) }
 name_by word words false false false false true f g h p q r s t u v x faults =
-    record { sub = to_slip; behind = words; words_are = ap (λ (w : Text). w ∷ words) (sym ((bytes_eq-Decides (codes "slip") word).0 t)) }
+    record { sub = to_slip; after = words; words_are = ap (λ (w : Text). w ∷ words) (sym ((bytes_eq-Decides (codes "slip") word).0 t)) }
 name_by word words false false false false false true g h p q r s t u v x faults =
-    record { sub = to_read; behind = words; words_are = ap (λ (w : Text). w ∷ words) (sym ((bytes_eq-Decides (codes "read") word).0 u)) }
+    record { sub = to_read; after = words; words_are = ap (λ (w : Text). w ∷ words) (sym ((bytes_eq-Decides (codes "read") word).0 u)) }
 name_by word words false false false false false false true h p q r s t u v x faults =
-    record { sub = to_relay; behind = words; words_are = ap (λ (w : Text). w ∷ words) (sym ((bytes_eq-Decides (codes "relay") word).0 v)) }
+    record { sub = to_relay; after = words; words_are = ap (λ (w : Text). w ∷ words) (sym ((bytes_eq-Decides (codes "relay") word).0 v)) }
 name_by word words false false false false false false false true p q r s t u v x faults =
-    record { sub = to_sample; behind = words; words_are = ap (λ (w : Text). w ∷ words) (sym ((bytes_eq-Decides (codes "sample") word).0 x)) }
+    record { sub = to_sample; after = words; words_are = ap (λ (w : Text). w ∷ words) (sym ((bytes_eq-Decides (codes "sample") word).0 x)) }
 name_by word words false false false false false false false false p q r s t u v x faults =
     let none : subcommand_met names idle word ≡ None = λ i. option_map (λ (l : Text × List Text). l.0) (met_by (p i) (q i) (r i) (s i) (t i) (u i) (v i) (x i)) in
     absurd (no_name_fails word words (bytes_eq word (codes "--")) refl none faults)

@@ -149,8 +149,8 @@ first_word to_read = refl
 first_word to_relay = refl
 first_word to_sample = refl
 
-walk_is : (s : Sub) (behind : List Text) → walk whole.top.rules names nothing_held (sub_name s ∷ behind) ≡ at_stop (sub_name s) behind
-walk_is s behind = ap (λ (w : Walk). fold (walked [] names) w behind) (first_word s) ∙ stop_grows [] names start (sub_name s) [] behind
+walk_is : (s : Sub) (after : List Text) → walk whole.top.rules names nothing_held (sub_name s ∷ after) ≡ at_stop (sub_name s) after
+walk_is s after = ap (λ (w : Walk). fold (walked [] names) w after) (first_word s) ∙ stop_grows [] names start (sub_name s) [] after
 
 first_fault : (s : Sub) → turn_fault whole.top names start (sub_name s) ≡ []
 first_fault to_make = refl
@@ -162,43 +162,43 @@ first_fault to_read = refl
 first_fault to_relay = refl
 first_fault to_sample = refl
 
-walk_passes : (s : Sub) (behind : List Text) → walk_fault whole.top names start (sub_name s ∷ behind) ≡ []
+walk_passes : (s : Sub) (after : List Text) → walk_fault whole.top names start (sub_name s ∷ after) ≡ []
 unfolding walk_fault
-walk_passes s behind =
-    ap (λ (k : Kinds). or_else k (walk_fault whole.top names (walked [] names start (sub_name s)) behind)) (first_fault s)
-    ∙ ap (λ (w : Walk). walk_fault whole.top names w behind) (first_word s)
-    ∙ stopped_fault whole.top names start (sub_name s, []) behind
+walk_passes s after =
+    ap (λ (k : Kinds). or_else k (walk_fault whole.top names (walked [] names start (sub_name s)) after)) (first_fault s)
+    ∙ ap (λ (w : Walk). walk_fault whole.top names w after) (first_word s)
+    ∙ stopped_fault whole.top names start (sub_name s, []) after
 
 abbrev fault_by : Walk → Kinds → Kinds
 fault_by w k =
     or_else k (or_else (entered_fault whole w.stopped)
     (or_else (settle_fault [] false w.held) (or_else (defaults_fault (settled [] w.held).rows []) (check_fault whole.top (finished [] w.held) (is_some (entered whole w.stopped))))))
 
-fault_is : (s : Sub) (behind : List Text) → fault_by (at_stop (sub_name s) behind) [] ≡ level_fault (leaf (sub_name s) (sub_rules s)) [] nothing_held behind false []
+fault_is : (s : Sub) (after : List Text) → fault_by (at_stop (sub_name s) after) [] ≡ level_fault (leaf (sub_name s) (sub_rules s)) [] nothing_held after false []
 unfolding defaults_fault
-fault_is to_make behind = or_else_nil (level_fault (leaf (codes "make") make_rules) [] nothing_held behind false [])
-fault_is to_recover behind = or_else_nil (level_fault (leaf (codes "recover") several_rules) [] nothing_held behind false [])
-fault_is to_check behind = or_else_nil (level_fault (leaf (codes "check") []) [] nothing_held behind false [])
-fault_is to_damage behind = or_else_nil (level_fault (leaf (codes "damage") several_rules) [] nothing_held behind false [])
-fault_is to_slip behind = or_else_nil (level_fault (leaf (codes "slip") single_rules) [] nothing_held behind false [])
-fault_is to_read behind = or_else_nil (level_fault (leaf (codes "read") single_rules) [] nothing_held behind false [])
-fault_is to_relay behind = or_else_nil (level_fault (leaf (codes "relay") []) [] nothing_held behind false [])
-fault_is to_sample behind = or_else_nil (level_fault (leaf (codes "sample") single_rules) [] nothing_held behind false [])
+fault_is to_make after = or_else_nil (level_fault (leaf (codes "make") make_rules) [] nothing_held after false [])
+fault_is to_recover after = or_else_nil (level_fault (leaf (codes "recover") several_rules) [] nothing_held after false [])
+fault_is to_check after = or_else_nil (level_fault (leaf (codes "check") []) [] nothing_held after false [])
+fault_is to_damage after = or_else_nil (level_fault (leaf (codes "damage") several_rules) [] nothing_held after false [])
+fault_is to_slip after = or_else_nil (level_fault (leaf (codes "slip") single_rules) [] nothing_held after false [])
+fault_is to_read after = or_else_nil (level_fault (leaf (codes "read") single_rules) [] nothing_held after false [])
+fault_is to_relay after = or_else_nil (level_fault (leaf (codes "relay") []) [] nothing_held after false [])
+fault_is to_sample after = or_else_nil (level_fault (leaf (codes "sample") single_rules) [] nothing_held after false [])
 
 -- the faults of a command are those of its own words
-pub sub_fault : (s : Sub) (behind : List Text) → fault_of vabgrot (sub_name s ∷ behind) ≡ level_fault (leaf (sub_name s) (sub_rules s)) [] nothing_held behind false []
-sub_fault s behind = ap₂ fault_by (walk_is s behind) (walk_passes s behind) ∙ fault_is s behind
+pub sub_fault : (s : Sub) (after : List Text) → fault_of vabgrot (sub_name s ∷ after) ≡ level_fault (leaf (sub_name s) (sub_rules s)) [] nothing_held after false []
+sub_fault s after = ap₂ fault_by (walk_is s after) (walk_passes s after) ∙ fault_is s after
 
-rows_are : (s : Sub) (behind : List Text) → entered whole (Some (sub_name s, behind)) ≡ Some (sub_name s, rows_after (sub_rules s) [] behind)
-rows_are to_make behind = refl
-rows_are to_recover behind = refl
-rows_are to_check behind = refl
-rows_are to_damage behind = refl
-rows_are to_slip behind = refl
-rows_are to_read behind = refl
-rows_are to_relay behind = refl
-rows_are to_sample behind = refl
+rows_are : (s : Sub) (after : List Text) → entered whole (Some (sub_name s, after)) ≡ Some (sub_name s, rows_after (sub_rules s) [] after)
+rows_are to_make after = refl
+rows_are to_recover after = refl
+rows_are to_check after = refl
+rows_are to_damage after = refl
+rows_are to_slip after = refl
+rows_are to_read after = refl
+rows_are to_relay after = refl
+rows_are to_sample after = refl
 
 -- and so its matches
-pub sub_rows : (s : Sub) (behind : List Text) → subcommand_of vabgrot (sub_name s ∷ behind) ≡ Some (sub_name s, rows_after (sub_rules s) [] behind)
-sub_rows s behind = ap (λ (w : Walk). entered whole w.stopped) (walk_is s behind) ∙ rows_are s behind
+pub sub_rows : (s : Sub) (after : List Text) → subcommand_of vabgrot (sub_name s ∷ after) ≡ Some (sub_name s, rows_after (sub_rules s) [] after)
+sub_rows s after = ap (λ (w : Walk). entered whole w.stopped) (walk_is s after) ∙ rows_are s after

@@ -18,7 +18,7 @@ use Rattle.command_line.specs.Forms.{option_id, operand_id, AreFound}
 use Rattle.command_line.specs.declared.options.OptionName.{OptionName}
 use Rattle.command_line.specs.declared.options.OptionName.TheVariants.{Offset, Skew, Bits, Version}
 use Rattle.command_line.proofs.FoundRows.{option_built, operand_built, found_option, found_operand, nothing_found}
-use Rattle.command_line.proofs.Words.{long_text, long_told}
+use Rattle.command_line.proofs.Words.{long_text, long_reported}
 use Rattle.command_line.proofs.Turns.{leaf, option_named, IsForm, holding, walk_at, Turn, rest_turn, other_turn, place, waits_after, IsIdle, idle_after, value_turn, value_room, idle_turn, trailing_turn, waiting_turn, named_turn, valued_turn, unknown_turn}
 
 -- ---- the faults of all words, and where the walk ends
@@ -62,10 +62,10 @@ unfolding end_fault
 level_total name c words = walk_total name c (walk_from nothing_held) words
 
 -- one word, and then the others
-pub turn_told : (name : Text) (c : List Rule) (w : Walk) (word : Text) (words : List Text) (fault : Kinds) (after : Walk) → Turn name c w word fault after
+pub turn_reported : (name : Text) (c : List Rule) (w : Walk) (word : Text) (words : List Text) (fault : Kinds) (after : Walk) → Turn name c w word fault after
     → total name c w (word ∷ words) ≡ [] → (fault ≡ []) × (total name c after words ≡ [])
 unfolding total
-turn_told name c w word words fault after t h = (
+turn_reported name c w word words fault after t h = (
   sym t.fault_is ∙ or_else_first (turn_fault (leaf name c) [] w word) (total name c (walked c [] w word) words) h,
   ap (λ (x : Walk). total name c x words) (sym t.after_is) ∙ or_else_second (turn_fault (leaf name c) [] w word) (total name c (walked c [] w word) words) h,
 )
@@ -193,20 +193,20 @@ finds_option c many has f offers name rows options operands word found settles =
 
 -- ---- behind `--`
 
-rest_told : (name : Text) (c : List Rule) (many has : Bool) → IsForm c many has → (words : List Text) → RestTells name c many words
+rest_reported : (name : Text) (c : List Rule) (many has : Bool) → IsForm c many has → (words : List Text) → RestTells name c many words
 unfolding RestTells Finds total end_fault last
-rest_told name c many has f [] rows pending waiting options operands finds h =
+rest_reported name c many has f [] rows pending waiting options operands finds h =
     let settles = or_else_first (settle_fault c false (holding rows pending)) _ h in
     (settles, subst (λ (os : List Text). AreFound (settled_rows c pending rows) options os) (sym (append-nil operands)) (finds settles))
-rest_told name c many has f (word ∷ words) rows pending waiting options operands finds h =
+rest_reported name c many has f (word ∷ words) rows pending waiting options operands finds h =
     let t = trailing_turn name c rows pending waiting (place many operands) word in
-    let first = turn_told name c _ word words _ _ t h in
+    let first = turn_reported name c _ word words _ _ t h in
     let room = value_room name c many has f (holding rows pending) operands first.0 in
     let v = value_turn name c many has f rows pending waiting true operands word room t in
-    let told = turn_told name c _ word words _ _ v h in
-    let next = rest_told name c many has f words (settled_rows c pending rows) (Some (operand_id, word ∷ [])) (waits_after many) options (operands ++ word ∷ [])
-    (finds_operand c many has f (settled_rows c pending rows) options operands word (finds told.0)) told.1 in (
-      told.0,
+    let reported = turn_reported name c _ word words _ _ v h in
+    let next = rest_reported name c many has f words (settled_rows c pending rows) (Some (operand_id, word ∷ [])) (waits_after many) options (operands ++ word ∷ [])
+    (finds_operand c many has f (settled_rows c pending rows) options operands word (finds reported.0)) reported.1 in (
+      reported.0,
       subst (λ (end : Walk). AreFound (settled c end.held).rows options (operands ++ word ∷ words)) (sym (turn_last name c _ word words _ _ v))
           (subst (λ (os : List Text). AreFound (settled c (last c (walk_at (settled_rows c pending rows) (Some (operand_id, word ∷ [])) (waits_after many) (place many (operands ++ word ∷ [])) true) words).held).rows options os)
           (append_assoc operands (word ∷ []) words) next.1),
@@ -310,9 +310,9 @@ open_long name c many has f rows pending waiting options operands word words fin
 open_long name c many has f rows pending waiting options operands word words finds h opens waits dashes l None is (inr k) =
     let here : long_of word ≡ Some (option_id k.0, None) = is ∙ ap (λ (t : Text). Some (t, None)) k.1 in
     let t = named_turn name c k.0 rows pending waiting (place many operands) word dashes here k.3 in
-    let told = turn_told name c _ word words _ _ t h in
-    let w = waits k.0 (settled_rows c pending rows) options operands k.2 (finds told.0) told.1 in
-    let spelled : word ≡ name_word k.0 = long_told word (option_id k.0) None here ∙ text_named k.0 in
+    let reported = turn_reported name c _ word words _ _ t h in
+    let w = waits k.0 (settled_rows c pending rows) options operands k.2 (finds reported.0) reported.1 in
+    let spelled : word ≡ name_word k.0 = long_reported word (option_id k.0) None here ∙ text_named k.0 in
     subst (λ (end : Walk). Took c has (word ∷ words) options operands end) (sym (turn_last name c _ word words _ _ t))
     (subst (λ (x : Text). Took c has (x ∷ words) options operands (last c (walk_at (settled_rows c pending rows) (Some (option_id k.0, [])) (option (option_id k.0)) (place many operands) false) words)) (sym spelled)
     (subst (λ (ws : List Text). Took c has (name_word k.0 ∷ ws) options operands (last c (walk_at (settled_rows c pending rows) (Some (option_id k.0, [])) (option (option_id k.0)) (place many operands) false) words)) (sym w.2)
@@ -320,12 +320,12 @@ open_long name c many has f rows pending waiting options operands word words fin
 open_long name c many has f rows pending waiting options operands word words finds h opens waits dashes l (Some v) is (inr k) =
     let here : long_of word ≡ Some (option_id k.0, Some v) = is ∙ ap (λ (t : Text). Some (t, Some v)) k.1 in
     let t = valued_turn name c k.0 rows pending waiting (place many operands) word v dashes here k.3 in
-    let told = turn_told name c _ word words _ _ t h in
-    let settles = or_else_first (settle_fault c false (holding rows pending)) _ told.0 in
-    let fits = or_else_second (settle_fault c false (holding rows pending)) _ told.0 in
+    let reported = turn_reported name c _ word words _ _ t h in
+    let settles = or_else_first (settle_fault c false (holding rows pending)) _ reported.0 in
+    let fits = or_else_second (settle_fault c false (holding rows pending)) _ reported.0 in
     let next = opens (used (option_built k.0) (v ∷ []) (settled_rows c pending rows)) None idle (options ++ (k.0, v) ∷ []) operands tt
-    (λ s. found_option (settled_rows c pending rows) options operands k.0 v (finds settles) fits) told.1 in
-    let spelled : word ≡ name_word k.0 ++ codes "=" ++ v = long_told word (option_id k.0) (Some v) here ∙ text_valued k.0 v in
+    (λ s. found_option (settled_rows c pending rows) options operands k.0 v (finds settles) fits) reported.1 in
+    let spelled : word ≡ name_word k.0 ++ codes "=" ++ v = long_reported word (option_id k.0) (Some v) here ∙ text_valued k.0 v in
     subst (λ (end : Walk). Took c has (word ∷ words) options operands end) (sym (turn_last name c _ word words _ _ t))
     (subst (λ (x : Text). Took c has (x ∷ words) options operands (last c (walk_at (used (option_built k.0) (v ∷ []) (settled_rows c pending rows)) None idle (place many operands) false) words)) (sym spelled)
     (took_joined c has k.0 v words options operands _ k.2 next))
@@ -340,12 +340,12 @@ unfolding Finds OpenTells total
 open_other name c many has f rows pending waiting options operands word words is finds h opens dashes long =
     let passes = or_else_first (turn_fault (leaf name c) [] (walk_at rows pending waiting (place many operands) false) word) _ h in
     let t = idle_turn name c rows pending waiting (place many operands) word is (other_turn name c rows pending waiting (place many operands) word f.by_short dashes long passes) in
-    let first = turn_told name c _ word words _ _ t h in
+    let first = turn_reported name c _ word words _ _ t h in
     let room = value_room name c many has f (holding rows pending) operands first.0 in
     let v = value_turn name c many has f rows pending waiting false operands word room t in
-    let told = turn_told name c _ word words _ _ v h in
+    let reported = turn_reported name c _ word words _ _ v h in
     let next = opens (settled_rows c pending rows) (Some (operand_id, word ∷ [])) (waits_after many) options (operands ++ word ∷ []) (idle_after many)
-    (finds_operand c many has f (settled_rows c pending rows) options operands word (finds told.0)) told.1 in
+    (finds_operand c many has f (settled_rows c pending rows) options operands word (finds reported.0)) reported.1 in
     subst (λ (end : Walk). Took c has (word ∷ words) options operands end) (sym (turn_last name c _ word words _ _ v)) (took_operand c has word words options operands _ next)
 
 open_by : (name : Text) (c : List Rule) (many has : Bool) → IsForm c many has → (rows : List Row) (pending : Option (Text × List Text)) (waiting : Waiting) (options : List (OptionName × Text)) (operands : List Text)
@@ -362,8 +362,8 @@ open_by name c many has f rows pending waiting options operands word words is fi
     let same : codes "--" ≡ word = sym ((bytes_eq-Decides word (codes "--")).0 d) in
     let t = rest_turn name c rows pending waiting (place many operands) in
     let h2 = subst (λ (x : Text). total name c (walk_at rows pending waiting (place many operands) false) (x ∷ words) ≡ []) (sym same) h in
-    let told = turn_told name c _ (codes "--") words _ _ t h2 in
-    let next = rest_told name c many has f words rows pending waiting options operands finds told.1 in
+    let reported = turn_reported name c _ (codes "--") words _ _ t h2 in
+    let next = rest_reported name c many has f words rows pending waiting options operands finds reported.1 in
     subst (λ (x : Text). Took c has (x ∷ words) options operands (last c (walk_at rows pending waiting (place many operands) false) (x ∷ words))) same
     (subst (λ (end : Walk). Took c has (codes "--" ∷ words) options operands end) (sym (turn_last name c _ (codes "--") words _ _ t)) (took_rest c has words options operands _ next.1))
 
@@ -377,9 +377,9 @@ wait_by : (name : Text) (c : List Rule) (many has : Bool) → IsForm c many has 
 unfolding Finds OpenTells RestTells Known total
 wait_by name c many has f option_name rows options operands word words offers found h opens true d long e =
     let h2 = subst (λ (x : Text). total name c (walk_at rows (Some (option_id option_name, [])) (option (option_id option_name)) (place many operands) false) (x ∷ words) ≡ []) ((bytes_eq-Decides word (codes "--")).0 d) h in
-    let told = turn_told name c _ (codes "--") words _ _ (rest_turn name c rows (Some (option_id option_name, [])) (option (option_id option_name)) (place many operands)) h2 in
-    let next = rest_told name c many has f words rows (Some (option_id option_name, [])) (option (option_id option_name)) options operands
-    (λ s. absurd (settle_waits c many has f offers option_name rows s)) told.1 in
+    let reported = turn_reported name c _ (codes "--") words _ _ (rest_turn name c rows (Some (option_id option_name, [])) (option (option_id option_name)) (place many operands)) h2 in
+    let next = rest_reported name c many has f words rows (Some (option_id option_name, [])) (option (option_id option_name)) options operands
+    (λ s. absurd (settle_waits c many has f offers option_name rows s)) reported.1 in
     absurd (settle_waits c many has f offers option_name rows next.0)
 wait_by name c many has f option_name rows options operands word words offers found h opens false d (Some p) e =
     let passes = or_else_first (turn_fault (leaf name c) [] (walk_at rows (Some (option_id option_name, [])) (option (option_id option_name)) (place many operands) false) word) _ h in
@@ -398,9 +398,9 @@ wait_by name c many has f option_name rows options operands word words offers fo
     let passes = or_else_first (turn_fault (leaf name c) [] (walk_at rows (Some (option_id option_name, [])) (option (option_id option_name)) (place many operands) false) word) _ h in
     let t = waiting_turn name c option_name rows (place many operands) word (f.by_id offers option_name)
     (other_turn name c rows (Some (option_id option_name, [])) (option (option_id option_name)) (place many operands) word f.by_short d e passes) in
-    let told = turn_told name c _ word words _ _ t h in
+    let reported = turn_reported name c _ word words _ _ t h in
     let next = opens rows (Some (option_id option_name, word ∷ [])) idle (options ++ (option_name, word) ∷ []) operands tt
-    (finds_option c many has f offers option_name rows options operands word found) told.1 in
+    (finds_option c many has f offers option_name rows options operands word found) reported.1 in
     subst (λ (end : Walk). Took c has words (options ++ (option_name, word) ∷ []) operands end) (sym (turn_last name c _ word words _ _ t)) next
 
 Tells : Text → List Rule → Bool → Bool → List Text → Type 0
@@ -422,11 +422,11 @@ all_tell name c many has f [] = (
   λ option_name rows options operands offers found h. absurd (settle_waits c many has f offers option_name rows (or_else_first (settle_fault c false (holding rows (Some (option_id option_name, [])))) _ h)),
 )
 all_tell name c many has f (word ∷ words) =
-    let behind = all_tell name c many has f words in (
+    let after = all_tell name c many has f words in (
       λ rows pending waiting options operands is finds h.
-          open_by name c many has f rows pending waiting options operands word words is finds h behind.0 behind.1 (bytes_eq word (codes "--")) refl (long_of word) refl,
+          open_by name c many has f rows pending waiting options operands word words is finds h after.0 after.1 (bytes_eq word (codes "--")) refl (long_of word) refl,
       λ option_name rows options operands offers found h.
-          (word, words, refl, wait_by name c many has f option_name rows options operands word words offers found h behind.0 (bytes_eq word (codes "--")) refl (long_of word) refl),
+          (word, words, refl, wait_by name c many has f option_name rows options operands word words offers found h after.0 (bytes_eq word (codes "--")) refl (long_of word) refl),
     )
 
 -- what a command takes are options and operands, and these are found

@@ -9,7 +9,7 @@ use Rattle.command_line.specs.Commands.{IsOffset, AreSkews, IsLimit, IsVersion, 
 use Rattle.command_line.specs.declared.tap.TapWords.{TapWords}
 use Rattle.command_line.specs.declared.options.OptionName.{OptionName}
 use Rattle.command_line.specs.declared.options.OptionName.TheVariants.{Offset, Skew, Bits, Version}
-use Rattle.command_line.proofs.Triples.{number_found, three_told, three_found}
+use Rattle.command_line.proofs.Triples.{number_found, three_reported, three_found}
 use Rattle.command_line.proofs.GivenOptions.{given_once}
 
 abbrev Options : Type 0
@@ -27,7 +27,7 @@ same_number most t m n e is = same_Some m n (sym e ∙ number_found most t n is)
 
 pub skews_judged : (t : Text) (r : Option (List ℕ)) → r ≡ three_of 4095 t → MatchOption r ((skews : List ℕ) → AreSkews (Some t) skews → ⊥) (λ skews. AreSkews (Some t) skews)
 skews_judged t None e = λ skews are. none-some (are.0 ∷ are.1 ∷ are.2 ∷ []) (e ∙ three_found 4095 t are.0 are.1 are.2 are.3)
-skews_judged t (Some skews) e = three_told 4095 t skews (sym e)
+skews_judged t (Some skews) e = three_reported 4095 t skews (sym e)
 
 pub other_version : (t : Text) (m : ℕ) → within 2 t ≡ Some m → (m ≡ 1 → ⊥) → (m ≡ 2 → ⊥) → (n : ℕ) → IsVersion (Some t) n → ⊥
 other_version t m e one two = λ n are.

@@ -66,16 +66,13 @@ abbrev pub long_text : Text → Option Text → Text
 long_text name None = codes "--" ++ name
 long_text name (Some value) = codes "--" ++ (name ++ codes "=" ++ value)
 
-is_equals : ℕ → Bool
-is_equals x = x == 61
-
 any_within : (p : ℕ → Bool) (t : Text) → list_any p t ≡ true → position_or_len p t < length t
 any_within p [] h = absurd (true≢false (sym h))
 any_within p (x ∷ xs) h = go (p x) refl h (any_within p xs)
   where
     go : (b : Bool) → p x ≡ b → (b || list_any p xs) ≡ true → (list_any p xs ≡ true → position_or_len p xs < length xs) → position_or_len p (x ∷ xs) < length (x ∷ xs)
     go true e h ih = rw e (omega arith)
-    go false e h ih = let behind = ih h in rw e (omega arith)
+    go false e h ih = let after = ih h in rw e (omega arith)
 
 none_before : (t : Text) → list_any (λ x. x == 61) t ≡ false → before_first (λ x. x == 61) t ≡ t
 none_before t none = before_first-Lacks 61 t (lacks_by t none)
@@ -84,8 +81,8 @@ none_before t none = before_first-Lacks 61 t (lacks_by t none)
 abbrev name_text : Text × Option Text → Text
 name_text p = elim p.1 [ None ↦ p.0 | Some value ↦ p.0 ++ codes "=" ++ value ]
 
-name_told : (t : Text) → t ≡ name_text (name_and_value t)
-name_told t = go (has_byte 61 t) refl
+name_reported : (t : Text) → t ≡ name_text (name_and_value t)
+name_reported t = go (has_byte 61 t) refl
   where
     go : (b : Bool) → has_byte 61 t ≡ b
         → t ≡ name_text (before_first (λ x. x == 61) t, if b then Some (after_first (λ x. x == 61) t) else None)
@@ -97,9 +94,9 @@ name_told t = go (has_byte 61 t) refl
         ∙ ap (λ (c : ℕ). before_first (λ x. x == 61) t ++ c ∷ after_first (λ x. x == 61) t) found
         ∙ sym (append_assoc (before_first (λ x. x == 61) t) (codes "=") (after_first (λ x. x == 61) t))
 
-rest_told : (rest long : Text) (v : Option Text) → long_of_rest rest ≡ Some (long, v) → rest ≡ name_text (long, v)
-rest_told [] long v h = absurd (none-some (long, v) h)
-rest_told (x ∷ xs) long v h = name_told (x ∷ xs) ∙ ap name_text (same_Some (name_and_value (x ∷ xs)) (long, v) h)
+rest_reported : (rest long : Text) (v : Option Text) → long_of_rest rest ≡ Some (long, v) → rest ≡ name_text (long, v)
+rest_reported [] long v h = absurd (none-some (long, v) h)
+rest_reported (x ∷ xs) long v h = name_reported (x ∷ xs) ∙ ap name_text (same_Some (name_and_value (x ∷ xs)) (long, v) h)
 
 stripped : (word rest : Text) → strip_byte 45 word ≡ Some rest → word ≡ 45 ∷ rest
 stripped [] rest h = absurd (none-some rest h)
@@ -114,11 +111,11 @@ long_by : (word long : Text) (v : Option Text) (a b : Option Text) → strip_byt
 long_by word long v None b p q h = absurd (none-some (long, v) (ap (option_and_then long_of_rest) q ∙ h))
 long_by word long v (Some one) None p q h = absurd (none-some (long, v) h)
 long_by word long v (Some one) (Some two) p q h =
-    stripped word one p ∙ ap (λ (t : Text). 45 ∷ t) (stripped one two q) ∙ ap (λ (t : Text). 45 ∷ 45 ∷ t) (rest_told two long v h) ∙ spelled v
+    stripped word one p ∙ ap (λ (t : Text). 45 ∷ t) (stripped one two q) ∙ ap (λ (t : Text). 45 ∷ 45 ∷ t) (rest_reported two long v h) ∙ spelled v
   where
     spelled : (o : Option Text) → 45 ∷ 45 ∷ name_text (long, o) ≡ long_text long o
     spelled None = refl
     spelled (Some value) = refl
 
-pub long_told : (word long : Text) (v : Option Text) → long_of word ≡ Some (long, v) → word ≡ long_text long v
-long_told word long v h = long_by word long v (strip_byte 45 word) (option_and_then (strip_byte 45) (strip_byte 45 word)) refl refl h
+pub long_reported : (word long : Text) (v : Option Text) → long_of word ≡ Some (long, v) → word ≡ long_text long v
+long_reported word long v h = long_by word long v (strip_byte 45 word) (option_and_then (strip_byte 45) (strip_byte 45 word)) refl refl h

@@ -65,9 +65,9 @@ Means (Sample n) name options operands = (name ≡ codes "sample") × ((text : T
 -- the words are a command's name, and behind it its options and operands
 pub record IsCommand (words : List Text) (command : Command) : Type 0 where
   pub name : Text
-  pub behind : List Text
+  pub after : List Text
   pub options : List (OptionName × Text)
   pub operands : List Text
-  pub words_are : words ≡ name ∷ behind
-  pub arranged : AreArranged behind options operands
+  pub words_are : words ≡ name ∷ after
+  pub arranged : AreArranged after options operands
   pub means : Means command name options operands

@@ -82,8 +82,8 @@ vabgrot =
 abbrev pub row_value : Row → List Text × Bool
 row_value r = (r.values, explicit_source r.source)
 
-abbrev pub told : Text → List Row → Option (List Text × Bool)
-told id rows = option_map row_value (find (λ r. bytes_eq r.id id) rows)
+abbrev pub reported : Text → List Row → Option (List Text × Bool)
+reported id rows = option_map row_value (find (λ r. bytes_eq r.id id) rows)
 
 abbrev pub one_value : Option Text → Option (List Text × Bool)
 one_value None = None
@@ -97,8 +97,8 @@ all_values (value ∷ values) = Some (value ∷ values, true)
 pub record AreFound (rows : List Row) (options : List (OptionName × Text)) (operands : List Text) : Type 0 where
   pub value : OptionName → Option Text
   pub given : (name : OptionName) → IsGiven name options (value name)
-  pub options_are : (name : OptionName) → told (option_id name) rows ≡ one_value (value name)
-  pub operands_are : told operand_id rows ≡ all_values operands
+  pub options_are : (name : OptionName) → reported (option_id name) rows ≡ one_value (value name)
+  pub operands_are : reported operand_id rows ≡ all_values operands
 
 -- the answer is the command that these rows of a name ask for
 abbrev pub Judges : Text → List Row → Option Command → Type 0

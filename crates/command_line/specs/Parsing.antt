@@ -42,12 +42,12 @@ three_by (Some a) (Some b) None = None
 three_by (Some a) None last = None
 three_by None second last = None
 
-abbrev pub three_behind : ℕ → List ℕ → Option (List ℕ × List ℕ) → Option (List ℕ)
-three_behind most first (Some parts) = three_by (within most first) (within most parts.0) (within most parts.1)
-three_behind most first None = None
+abbrev pub three_after : ℕ → List ℕ → Option (List ℕ × List ℕ) → Option (List ℕ)
+three_after most first (Some parts) = three_by (within most first) (within most parts.0) (within most parts.1)
+three_after most first None = None
 
 abbrev pub three_parted : ℕ → Option (List ℕ × List ℕ) → Option (List ℕ)
-three_parted most (Some parts) = three_behind most parts.0 (mark_split 44 parts.1)
+three_parted most (Some parts) = three_after most parts.0 (mark_split 44 parts.1)
 three_parted most None = None
 
 unfoldable pub three_of : ℕ → List ℕ → Option (List ℕ)
@@ -78,12 +78,12 @@ damage_by (Some lane) (Some place) None = None
 damage_by (Some lane) None value = None
 damage_by None place value = None
 
-abbrev pub damage_behind : List ℕ → Option (List ℕ × List ℕ) → Option DamageWord
-damage_behind first (Some parts) = damage_by (lane_of first) (within 4294967295 parts.0) (character_of parts.1)
-damage_behind first None = None
+abbrev pub damage_after : List ℕ → Option (List ℕ × List ℕ) → Option DamageWord
+damage_after first (Some parts) = damage_by (lane_of first) (within 4294967295 parts.0) (character_of parts.1)
+damage_after first None = None
 
 abbrev pub damage_parted : Option (List ℕ × List ℕ) → Option DamageWord
-damage_parted (Some parts) = damage_behind parts.0 (mark_split 58 parts.1)
+damage_parted (Some parts) = damage_after parts.0 (mark_split 58 parts.1)
 damage_parted None = None
 
 unfoldable pub damage_of : List ℕ → Option DamageWord
@@ -97,12 +97,12 @@ slip_by (Some lane) (Some place) None = None
 slip_by (Some lane) None bits = None
 slip_by None place bits = None
 
-abbrev pub slip_behind : List ℕ → Option (List ℕ × List ℕ) → Option SlipWord
-slip_behind first (Some parts) = slip_by (lane_of first) (within 4294967295 parts.0) (digit_within 1 9 parts.1)
-slip_behind first None = None
+abbrev pub slip_after : List ℕ → Option (List ℕ × List ℕ) → Option SlipWord
+slip_after first (Some parts) = slip_by (lane_of first) (within 4294967295 parts.0) (digit_within 1 9 parts.1)
+slip_after first None = None
 
 abbrev pub slip_parted : Option (List ℕ × List ℕ) → Option SlipWord
-slip_parted (Some parts) = slip_behind parts.0 (mark_split 58 parts.1)
+slip_parted (Some parts) = slip_after parts.0 (mark_split 58 parts.1)
 slip_parted None = None
 
 unfoldable pub slip_of : List ℕ → Option SlipWord

@@ -1,10 +1,10 @@
 //! The commands, their options and their operands, as `clap` is told of them, and what it found of them.
-ghost use Rattle.std.specs.Prelude.{◌≡◌, List, [], IfOk, codes, false, true, option_map, unwrap_or};
-ghost use Rattle.clap.specs.Words.{app_of, found_of, rows_of, rule_of, with_rule};
+ghost use Rattle.std.specs.Prelude.{◌≡◌, List, [], IfOk, false, true, option_map, unwrap_or};
+ghost use Rattle.clap.specs.Words.{app_of, found_of, rows_of, rule_of, with_rule, with_subcommand};
 ghost use Rattle.clap.specs.declared.builder.command.Command.TheViews.{out-Command as fields_of};
 ghost use Rattle.command_line.specs.declared.options.OptionName.{OptionName as Name};
 ghost use Rattle.command_line.specs.Grammar.{IsGiven, Text, texts};
-ghost use Rattle.command_line.specs.Forms.{AreFound, bare, make, operand_rule, option_rule, program, several, single, vabgrot};
+ghost use Rattle.command_line.specs.Forms.{AreFound, bare, make, operand_rule, option_rule, program, vabgrot};
 
 use crate::options::OptionName;
 use clap::{Arg, ArgAction, ArgMatches, Command};
@@ -16,19 +16,14 @@ pub(crate) fn forms<'a>(alloc: Global) -> Result<Command<'a>, AllocError>
     ensures local { IfOk result (λ c. (fields_of c).has_globals ≡ false) }
 {
     let make = make_form(alloc)?;
-    let recover = several_form(alloc, "recover")?;
-    let damage = several_form(alloc, "damage")?;
-    let slip = single_form(alloc, "slip")?;
-    let read = single_form(alloc, "read")?;
-    let sample = single_form(alloc, "sample")?;
     let command = program(alloc).subcommand(make)?;
-    let command = command.subcommand(recover)?;
+    let command = with_form(alloc, command, "recover", operands(alloc))?;
     let command = command.subcommand(bare(alloc, "check"))?;
-    let command = command.subcommand(damage)?;
-    let command = command.subcommand(slip)?;
-    let command = command.subcommand(read)?;
+    let command = with_form(alloc, command, "damage", operands(alloc))?;
+    let command = with_form(alloc, command, "slip", operand(alloc))?;
+    let command = with_form(alloc, command, "read", operand(alloc))?;
     let command = command.subcommand(bare(alloc, "relay"))?;
-    let command = command.subcommand(sample)?;
+    let command = with_form(alloc, command, "sample", operand(alloc))?;
     Ok(command)
 }
 
@@ -37,7 +32,7 @@ fn make_form<'a>(alloc: Global) -> Result<Command<'a>, AllocError>
     ensures app { IfOk result (λ c. app_of c ≡ make) }
     ensures local { IfOk result (λ c. (fields_of c).has_globals ≡ false) }
 {
-    let command = single_form(alloc, "make")?;
+    let command = form(alloc, "make", operand(alloc))?;
     let command = with_option(alloc, command, OptionName::Offset)?;
     let command = with_option(alloc, command, OptionName::Skew)?;
     let command = with_option(alloc, command, OptionName::Bits)?;
@@ -45,22 +40,28 @@ fn make_form<'a>(alloc: Global) -> Result<Command<'a>, AllocError>
     Ok(command)
 }
 
-/// A command with one operand or more.
-fn several_form<'a>(alloc: Global, name: &'a str) -> Result<Command<'a>, AllocError>
-    ensures app { IfOk result (λ c. app_of c ≡ several name.entry.now) }
-    ensures local { IfOk result (λ c. (fields_of c).has_globals ≡ false) }
+/// The program with one more command, which takes such operands.
+fn with_form<'a>(
+    alloc: Global,
+    program: Command<'a>,
+    name: &'a str,
+    argument: Arg<'a>,
+) -> Result<Command<'a>, AllocError>
+    requires { argument.global ≡ false }
+    ensures app { IfOk result (λ c. app_of c ≡ with_subcommand (app_of program.entry) (with_rule (bare name.entry.now) (rule_of argument.entry)).top) }
+    ensures local { IfOk result (λ c. (fields_of c).has_globals ≡ (fields_of program.entry).has_globals) }
 {
-    let argument = operands(alloc);
-    let command = bare(alloc, name).arg(argument)?;
-    Ok(command)
+    let command = form(alloc, name, argument)?;
+    let program = program.subcommand(command)?;
+    Ok(program)
 }
 
-/// A command with one operand.
-fn single_form<'a>(alloc: Global, name: &'a str) -> Result<Command<'a>, AllocError>
-    ensures app { IfOk result (λ c. app_of c ≡ single name.entry.now) }
+/// A command that takes such operands.
+fn form<'a>(alloc: Global, name: &'a str, argument: Arg<'a>) -> Result<Command<'a>, AllocError>
+    requires { argument.global ≡ false }
+    ensures app { IfOk result (λ c. app_of c ≡ with_rule (bare name.entry.now) (rule_of argument.entry)) }
     ensures local { IfOk result (λ c. (fields_of c).has_globals ≡ false) }
 {
-    let argument = operand(alloc);
     let command = bare(alloc, name).arg(argument)?;
     Ok(command)
 }

@@ -18,8 +18,3 @@ pub use damage::{DamageWord, Damages};
 pub use options::OptionName;
 pub use slip::SlipWord;
 pub use tap::TapWords;
-
-#[cfg(test)]
-mod rows;
-#[cfg(test)]
-mod tests;

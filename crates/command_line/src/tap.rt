@@ -1,5 +1,5 @@
 //! What the options of `make` say.
-ghost use Rattle.std.specs.Prelude.{◌≡◌, ℕ, List, Option as Maybe, MatchOption, Some, None, option_map};
+ghost use Rattle.std.specs.Prelude.{ℕ, List, Option as Maybe, MatchOption, Some, None, option_map};
 ghost use Rattle.clap.specs.Words.{found_of, rows_of};
 ghost use Rattle.command_line.specs.Grammar.{Text};
 ghost use Rattle.command_line.specs.Forms.{AreFound};

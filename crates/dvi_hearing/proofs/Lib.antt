@@ -1,12 +1,3 @@
-pub mod Walk
-pub mod Lines
-pub mod Joined
-pub mod Coming
-pub mod Shape
-pub mod Starting
-pub mod Lanes
-pub mod Tapped
 pub mod Hearings
 pub mod Phases
 pub mod Many
-pub mod Example

@@ -1,4 +1,4 @@
--- Many columns that go on with what is open.
+-- Many columns without guard columns that go on with the run or the line that is open, and tell nothing.
 use Rattle.std.proofs.Common.{◌≡◌, ℕ, ◌+◌, true, false, List, [], ◌∷◌, ◌++◌, length, take, refl, ap, ap₂, sym, ◌∙◌, subst, arith, append_assoc, append-nil, All, length-append}
 use Rattle.std.specs.List.{prefix_len}
 use Rattle.std.proofs.lemmas.List.Elements.{All-head, All-tail}
@@ -11,7 +11,7 @@ use Rattle.period_grammar.specs.GoesOn.{goes_kept}
 use Rattle.period_grammar.specs.Balanced.{is_pixel}
 use Rattle.period_grammar.specs.Lines.{IsLineAfter}
 use Rattle.period_grammar.specs.ControlAfter.{IsControlAfter}
-use Rattle.period_grammar.specs.declared.control.Kept.{Kept}
+use Rattle.period_grammar.specs.declared.control.ControlState.{ControlState}
 use Rattle.period_grammar.proofs.Leads.{no_change}
 use Rattle.period_grammar.proofs.Going.{IsWhole, is_column, tells_no_word}
 use Rattle.period_grammar.proofs.Step.{last_push_stretch}
@@ -21,39 +21,39 @@ use Rattle.dvi_hearing.specs.DviHeard.{dvi_so_far, dvi_gaps}
 use Rattle.dvi_hearing.specs.DviGains.{no_gain}
 use Rattle.period_grammar.specs.Gains.{gains_by}
 use Rattle.dvi_hearing.specs.DviSeen.{DviSeen}
-use Rattle.dvi_hearing.specs.DviStands.{IsStretchAfter, StandsFor, closed}
+use Rattle.dvi_hearing.specs.DviStands.{IsStretchAfter, DviHearingRepresents, closed}
 use Rattle.dvi_hearing.specs.declared.phase.Phase.{Phase}
 use Rattle.dvi_hearing.specs.declared.phase.Phase.TheVariants.{Control, Pixels}
-use Rattle.dvi_hearing.proofs.Hearings.{told_control, told_other}
+use Rattle.dvi_hearing.proofs.Hearings.{reported_control, reported_other}
 
 -- columns after which the last stretch is this one, and that tell nothing
 record Goes (cs ds : List Column) (x : Stretch) : Type 0 where
   pub last : last (stretches (cs ++ ds)) ≡ x
-  pub told : dvi_so_far (cs ++ ds) ≡ dvi_so_far cs
+  pub reported : dvi_so_far (cs ++ ds) ≡ dvi_so_far cs
 
 none_goes : (cs : List Column) (x : Stretch) → last (stretches cs) ≡ x → Goes cs [] x
-none_goes cs x at = record { last = ap (λ xs. last (stretches xs)) (append-nil cs) ∙ at; told = ap dvi_so_far (append-nil cs) }
+none_goes cs x at = record { last = ap (λ xs. last (stretches xs)) (append-nil cs) ∙ at; reported = ap dvi_so_far (append-nil cs) }
 
 more_goes : (cs : List Column) (c : Column) (ds : List Column) (x : Stretch) → dvi_so_far (cs ++ c ∷ []) ≡ dvi_so_far cs → Goes (cs ++ c ∷ []) ds x → Goes cs (c ∷ ds) x
 more_goes cs c ds x one rest = record {
   last = ap (λ xs. last (stretches xs)) (sym (append_assoc cs (c ∷ []) ds)) ∙ rest.last;
-  told = ap dvi_so_far (sym (append_assoc cs (c ∷ []) ds)) ∙ rest.told ∙ one;
+  reported = ap dvi_so_far (sym (append_assoc cs (c ∷ []) ds)) ∙ rest.reported ∙ one;
 }
 
 -- A run.
 
-run_told : (kept : Kept) (control cs : List Column) (c : Column) → last (stretches cs) ≡ stretch control [] → IsControlAfter kept control → IsWhole kept.value c → dvi_so_far (cs ++ c ∷ []) ≡ dvi_so_far cs
-run_told kept control cs c at was whole =
-    told_control cs c (length cs) (value_of c) [] [] refl (is_column kept.value c whole) refl
+run_reported : (kept : ControlState) (control cs : List Column) (c : Column) → last (stretches cs) ≡ stretch control [] → IsControlAfter kept control → IsWhole kept.value c → dvi_so_far (cs ++ c ∷ []) ≡ dvi_so_far cs
+run_reported kept control cs c at was whole =
+    reported_control cs c (length cs) (value_of c) [] [] refl (is_column kept.value c whole) refl
     (no_change kept control (value_of c) was whole.value ∙ ap (closed (value_of c) (start_of cs)) (sym at)) (sym (tells_no_word kept.value (length cs) c whole))
     ∙ append-nil (dvi_so_far cs)
 
-run_goes : (kept : Kept) (control cs ds : List Column) → last (stretches cs) ≡ stretch control [] → IsControlAfter kept control → All (λ c. IsWhole kept.value c) ds → Goes cs ds (stretch (control ++ ds) [])
+run_goes : (kept : ControlState) (control cs ds : List Column) → last (stretches cs) ≡ stretch control [] → IsControlAfter kept control → All (λ c. IsWhole kept.value c) ds → Goes cs ds (stretch (control ++ ds) [])
 run_goes kept control cs [] at was all = none_goes cs (stretch (control ++ []) []) (at ∙ ap (λ xs. stretch xs []) (sym (append-nil control)))
 run_goes kept control cs (c ∷ ds) at was all =
     let whole = All-head (λ d. IsWhole kept.value d) c ds all in
     let rest = run_goes (again kept 1) (control ++ c ∷ []) (cs ++ c ∷ []) ds (run_last kept control cs c at was whole) (again_one kept control c whole.value was) (All-tail (λ d. IsWhole kept.value d) c ds all) in
-    more_goes cs c ds (stretch (control ++ c ∷ ds) []) (run_told kept control cs c at was whole)
+    more_goes cs c ds (stretch (control ++ c ∷ ds) []) (run_reported kept control cs c at was whole)
     (subst (λ (xs : List Column). Goes (cs ++ c ∷ []) ds (stretch xs [])) (append_assoc control (c ∷ []) ds) rest)
 
 -- A line.
@@ -61,28 +61,28 @@ run_goes kept control cs (c ∷ ds) at was all =
 pixel_last : (control cs : List Column) (g c : Column) (gap : List Column) → last (stretches cs) ≡ stretch control (g ∷ gap) → is_control_column c ≡ false → last (stretches (cs ++ c ∷ [])) ≡ stretch control (g ∷ (gap ++ c ∷ []))
 pixel_last control cs g c gap at e = last_push_stretch cs c ∙ ap₂ (λ p x. grown p c x) e at
 
-pixel_told : (control cs : List Column) (g c : Column) (gap : List Column) → last (stretches cs) ≡ stretch control (g ∷ gap) → is_control_column c ≡ false → dvi_so_far (cs ++ c ∷ []) ≡ dvi_so_far cs
-pixel_told control cs g c gap at e =
-    told_other cs c (length cs) [] refl e (ap (gains_by dvi_gaps no_gain false (start_of cs) (length cs) c) (sym at)) ∙ append-nil (dvi_so_far cs)
+pixel_reported : (control cs : List Column) (g c : Column) (gap : List Column) → last (stretches cs) ≡ stretch control (g ∷ gap) → is_control_column c ≡ false → dvi_so_far (cs ++ c ∷ []) ≡ dvi_so_far cs
+pixel_reported control cs g c gap at e =
+    reported_other cs c (length cs) [] refl e (ap (gains_by dvi_gaps no_gain false (start_of cs) (length cs) c) (sym at)) ∙ append-nil (dvi_so_far cs)
 
 line_goes : (control cs ds : List Column) (g : Column) (gap : List Column) → last (stretches cs) ≡ stretch control (g ∷ gap) → All (λ c. is_pixel c ≡ true) ds → Goes cs ds (stretch control (g ∷ (gap ++ ds)))
 line_goes control cs [] g gap at all = none_goes cs (stretch control (g ∷ (gap ++ []))) (at ∙ ap (λ xs. stretch control (g ∷ xs)) (sym (append-nil gap)))
 line_goes control cs (c ∷ ds) g gap at all =
     let e = no_control c (All-head (λ d. is_pixel d ≡ true) c ds all) in
     let rest = line_goes control (cs ++ c ∷ []) ds g (gap ++ c ∷ []) (pixel_last control cs g c gap at e) (All-tail (λ d. is_pixel d ≡ true) c ds all) in
-    more_goes cs c ds (stretch control (g ∷ (gap ++ c ∷ ds))) (pixel_told control cs g c gap at e)
+    more_goes cs c ds (stretch control (g ∷ (gap ++ c ∷ ds))) (pixel_reported control cs g c gap at e)
     (subst (λ (xs : List Column). Goes (cs ++ c ∷ []) ds (stretch control (g ∷ xs))) (append_assoc gap (c ∷ []) ds) rest)
 
 -- As a whole.
 
 -- a hearing that heard the first n columns, which tell nothing
 pub record Went (new : DviSeen) (cs cols : List Column) (n : ℕ) : Type 0 where
-  pub stands : StandsFor new (cs ++ take n cols)
-  pub told : dvi_so_far (cs ++ take n cols) ≡ dvi_so_far cs
+  pub stands : DviHearingRepresents new (cs ++ take n cols)
+  pub reported : dvi_so_far (cs ++ take n cols) ≡ dvi_so_far cs
 
 pub run_went : (old new : DviSeen) (cs cols : List Column) (n : ℕ) → old.phase ≡ Control → new.phase ≡ Control → new.columns ≡ old.columns + n → n ≡ prefix_len (goes_kept old.control) cols
     → ((control ds : List Column) → length ds ≡ n → All (λ c. old.control.value ≡ value_of c) ds → IsControlAfter old.control control → IsControlAfter new.control (control ++ ds))
-    → StandsFor old cs → Went new cs cols n
+    → DviHearingRepresents old cs → Went new cs cols n
 run_went old new cs cols n phase next more first heard was =
     by (last (stretches cs)) refl (subst (λ (p : Phase). IsStretchAfter p old.control old.line old.columns (last (stretches cs))) phase was.stretch)
   where
@@ -93,7 +93,7 @@ run_went old new cs cols n phase next more first heard was =
         let all = run_goes old.control control cs (take n cols) at kept.0 whole in
         let now : IsControlAfter new.control (control ++ take n cols) = heard control (take n cols) long (All-then (λ c. IsWhole old.control.value c) (λ c. old.control.value ≡ value_of c) (λ c w. w.value) (take n cols) whole) kept.0 in
         record {
-          told = all.told;
+          reported = all.reported;
           stands = record {
             columns = omega (arith, more, was.columns, long, length-append cs (take n cols));
             stretch =
@@ -105,7 +105,7 @@ run_went old new cs cols n phase next more first heard was =
 
 pub line_went : (old new : DviSeen) (cs cols : List Column) (n start : ℕ) → old.phase ≡ Pixels start → new.phase ≡ Pixels start → new.control ≡ old.control → new.columns ≡ old.columns + n → n ≡ prefix_len is_pixel cols
     → ((pixels : List Column) → IsLineAfter old.line pixels → IsLineAfter new.line (pixels ++ take n cols))
-    → StandsFor old cs → Went new cs cols n
+    → DviHearingRepresents old cs → Went new cs cols n
 line_went old new cs cols n start phase next kept more first heard was =
     by (last (stretches cs)) refl (subst (λ (p : Phase). IsStretchAfter p old.control old.line old.columns (last (stretches cs))) phase was.stretch)
   where
@@ -114,10 +114,10 @@ line_went old new cs cols n start phase next kept more first heard was =
     by (stretch control (g ∷ gap)) at w =
         let long = first_long is_pixel cols n first in
         let all = line_goes control cs (take n cols) g gap at (first_all is_pixel cols n first) in
-        let here : IsControlAfter new.control control = subst (λ (k : Kept). IsControlAfter k control) (sym kept) w.0 in
+        let here : IsControlAfter new.control control = subst (λ (k : ControlState). IsControlAfter k control) (sym kept) w.0 in
         let place = w.1.0 in
         record {
-          told = all.told;
+          reported = all.reported;
           stands = record {
             columns = omega (arith, more, was.columns, long, length-append cs (take n cols));
             stretch =

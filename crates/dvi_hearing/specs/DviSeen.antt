@@ -2,21 +2,21 @@
 use Rattle.std.specs.Prelude.{◌≡◌, ◌≤◌, ◌+◌, ℕ, Bool, List, length}
 use Rattle.period_grammar.specs.LineSeen.{LineSeen}
 use Rattle.period_grammar.specs.ControlAfter.{IsCounted}
-use Rattle.period_grammar.specs.Noted.{things, lent}
-use Rattle.period_grammar.specs.Things.{Thing}
-use Rattle.period_grammar.specs.declared.control.Kept.{Kept}
-use Rattle.period_grammar.specs.declared.island.Whole.{Whole}
-use Rattle.period_grammar.specs.declared.notes.Note.{Note}
+use Rattle.period_grammar.specs.Noted.{events, lent}
+use Rattle.period_grammar.specs.Events.{Event}
+use Rattle.period_grammar.specs.declared.control.ControlState.{ControlState}
+use Rattle.period_grammar.specs.declared.island.WholePacket.{WholePacket}
+use Rattle.period_grammar.specs.declared.event_queue.QueuedEvent.{QueuedEvent}
 use Rattle.dvi_hearing.specs.declared.phase.Phase.{Phase}
 use Rattle.dvi_hearing.specs.declared.phase.Phase.TheVariants.{Control, Pixels}
 
 pub record DviSeen : Type 0 where
   pub columns : ℕ
   pub phase : Phase
-  pub control : Kept
+  pub control : ControlState
   pub line : LineSeen
-  pub notes : List Note
-  pub unused : Whole
+  pub notes : List QueuedEvent
+  pub unused : WholePacket
   pub finished : Bool
 
 -- where a line began
@@ -24,13 +24,13 @@ abbrev pub IsPlaced : Phase → ℕ → ℕ → Type 0
 IsPlaced Control count n = Unit {0}
 IsPlaced (Pixels start) count n = start + count ≡ n
 
-pub record IsSound (columns : ℕ) (phase : Phase) (control : Kept) (line : LineSeen) (notes : List Note) : Type 0 where
+pub record IsSound (columns : ℕ) (phase : Phase) (control : ControlState) (line : LineSeen) (notes : List QueuedEvent) : Type 0 where
   pub counted : IsCounted control
   pub few : control.columns ≤ columns
   pub placed : IsPlaced phase line.count columns
-  pub told : length notes ≤ 8
+  pub reported : length notes ≤ 8
   pub short : columns ≤ 429496730
 
 -- what the last call told
-abbrev pub last_told : DviSeen → List Thing
-last_told hearing = things (lent hearing.line.bytes hearing.unused) hearing.notes
+abbrev pub last_reported : DviSeen → List Event
+last_reported hearing = events (lent hearing.line.bytes hearing.unused) hearing.notes

@@ -3,5 +3,3 @@ pub mod DviGains
 pub mod DviGrammar
 pub mod DviSeen
 pub mod DviStands
-pub mod DviAccount
-pub mod DviLaws

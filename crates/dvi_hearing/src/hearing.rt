@@ -2,15 +2,17 @@
 ghost use Rattle.std.specs.Prelude.{◌≡◌, ◌<◌, ◌≤◌, ◌+◌, ◌++◌, ◌∷◌, [], ℕ, List, length, map, take, true, false, slice_get, Some};
 ghost use Rattle.tmds_word.specs.Column.{Column, column_of};
 ghost use Rattle.tmds_word.specs.Lent.{columns_in};
-ghost use Rattle.period_grammar.specs.Things.{all_at, thing_of};
-ghost use Rattle.period_grammar.specs.Lending.{lent_thing};
+ghost use Rattle.period_grammar.specs.Events.{all_at, event_of};
+ghost use Rattle.period_grammar.specs.Lending.{lent_event};
 ghost use Rattle.dvi_hearing.specs.DviHeard.{dvi_so_far, dvi_heard};
-ghost use Rattle.dvi_hearing.specs.DviSeen.{last_told};
-ghost use Rattle.dvi_hearing.specs.DviStands.{StandsFor};
+ghost use Rattle.dvi_hearing.specs.DviSeen.{last_reported};
+ghost use Rattle.dvi_hearing.specs.DviStands.{DviHearingRepresents};
 ghost use Rattle.dvi_hearing.specs.declared.phase.Phase.TheVariants.{Control, Pixels};
 
 use crate::phase::{Phase, close, end, go_on};
-use period_grammar::{Kept, Line, Notes, Told, Whole, column_value, lend, tell_words};
+use period_grammar::{
+    ControlState, EventQueue, EventRef, Line, WholePacket, column_value, lend, tell_words,
+};
 use std::marker::Model;
 use terc4::is_control_column;
 use tmds_word::{Columns, Word};
@@ -21,10 +23,10 @@ use tmds_word::{Columns, Word};
 pub struct DviHearing {
     columns: u32,
     phase: Phase,
-    control: Kept,
+    control: ControlState,
     line: Line,
-    notes: Notes,
-    unused: Whole,
+    notes: EventQueue,
+    unused: WholePacket,
     finished: bool,
 }
 
@@ -42,16 +44,16 @@ impl DviHearing {
     /// A hearing that has heard nothing. The room for a line of 4,096 pixels is within it: it takes no memory.
     pub fn open() -> DviHearing
         ensures open { result.finished ≡ false }
-        ensures heard { StandsFor result [] }
-        ensures quiet { last_told result ≡ [] }
+        ensures heard { DviHearingRepresents result [] }
+        ensures quiet { last_reported result ≡ [] }
     {
         DviHearing {
             columns: 0,
             phase: Phase::Control,
-            control: Kept::new(),
+            control: ControlState::new(),
             line: Line::new(),
-            notes: Notes::new(),
-            unused: Whole::unused(),
+            notes: EventQueue::new(),
+            unused: WholePacket::unused(),
             finished: false,
         }
     }
@@ -59,24 +61,24 @@ impl DviHearing {
     /// Forgets all that was heard and told: it is as a fresh one. It takes no memory.
     pub fn restart(&mut self)
         ensures open { self.new.finished ≡ false }
-        ensures heard { StandsFor self.new [] }
-        ensures quiet { last_told self.new ≡ [] }
+        ensures heard { DviHearingRepresents self.new [] }
+        ensures quiet { last_reported self.new ≡ [] }
     {
         self.columns = 0;
         self.phase = Phase::Control;
-        self.control = Kept::new();
+        self.control = ControlState::new();
         self.notes.clear();
         self.finished = false;
     }
 
-    /// Hears one column, the words of lanes 0, 1 and 2; `tells` and `told` then say what it tells.
+    /// Hears one column, the words of lanes 0, 1 and 2; `tells` and `reported` then say what it tells.
     pub fn hear(&mut self, column: &[Word; 3])
         requires few { self.old.columns < 429496730 }
         requires open { self.old.finished ≡ false }
         ensures columns { self.new.columns ≡ self.old.columns + 1 }
         ensures open { self.new.finished ≡ false }
-        ensures heard { (cs : List Column) → StandsFor self.old cs → StandsFor self.new (cs ++ column_of column.now ∷ []) }
-        ensures told { (cs : List Column) → StandsFor self.old cs → dvi_so_far (cs ++ column_of column.now ∷ []) ≡ dvi_so_far cs ++ all_at (length cs) (last_told self.new) }
+        ensures heard { (cs : List Column) → DviHearingRepresents self.old cs → DviHearingRepresents self.new (cs ++ column_of column.now ∷ []) }
+        ensures reported { (cs : List Column) → DviHearingRepresents self.old cs → dvi_so_far (cs ++ column_of column.now ∷ []) ≡ dvi_so_far cs ++ all_at (length cs) (last_reported self.new) }
     {
         self.notes.clear();
         let n = self.columns;
@@ -116,9 +118,9 @@ impl DviHearing {
         ensures within { result ≤ length (columns_in columns.entry) }
         ensures columns { self.new.columns ≡ self.old.columns + result }
         ensures open { self.new.finished ≡ false }
-        ensures heard { (cs : List Column) → StandsFor self.old cs → StandsFor self.new (cs ++ take result (columns_in columns.entry)) }
-        ensures told { (cs : List Column) → StandsFor self.old cs → dvi_so_far (cs ++ take result (columns_in columns.entry)) ≡ dvi_so_far cs }
-        ensures quiet { last_told self.new ≡ [] }
+        ensures heard { (cs : List Column) → DviHearingRepresents self.old cs → DviHearingRepresents self.new (cs ++ take result (columns_in columns.entry)) }
+        ensures reported { (cs : List Column) → DviHearingRepresents self.old cs → dvi_so_far (cs ++ take result (columns_in columns.entry)) ≡ dvi_so_far cs }
+        ensures quiet { last_reported self.new ≡ [] }
     {
         self.notes.clear();
         match self.phase {
@@ -135,8 +137,8 @@ impl DviHearing {
         ensures columns { self.new.columns ≡ self.old.columns + result }
         ensures open { self.new.finished ≡ self.old.finished }
         ensures notes { self.new.notes ≡ self.old.notes }
-        ensures heard { (cs : List Column) → StandsFor self.old cs → StandsFor self.new (cs ++ take result (columns_in columns.entry)) }
-        ensures told { (cs : List Column) → StandsFor self.old cs → dvi_so_far (cs ++ take result (columns_in columns.entry)) ≡ dvi_so_far cs }
+        ensures heard { (cs : List Column) → DviHearingRepresents self.old cs → DviHearingRepresents self.new (cs ++ take result (columns_in columns.entry)) }
+        ensures reported { (cs : List Column) → DviHearingRepresents self.old cs → dvi_so_far (cs ++ take result (columns_in columns.entry)) ≡ dvi_so_far cs }
     {
         let count = self.control.count_going_on(columns);
         self.control.hear_run(count as u32);
@@ -152,19 +154,19 @@ impl DviHearing {
         ensures columns { self.new.columns ≡ self.old.columns + result }
         ensures open { self.new.finished ≡ self.old.finished }
         ensures notes { self.new.notes ≡ self.old.notes }
-        ensures heard { (cs : List Column) → StandsFor self.old cs → StandsFor self.new (cs ++ take result (columns_in columns.entry)) }
-        ensures told { (cs : List Column) → StandsFor self.old cs → dvi_so_far (cs ++ take result (columns_in columns.entry)) ≡ dvi_so_far cs }
+        ensures heard { (cs : List Column) → DviHearingRepresents self.old cs → DviHearingRepresents self.new (cs ++ take result (columns_in columns.entry)) }
+        ensures reported { (cs : List Column) → DviHearingRepresents self.old cs → dvi_so_far (cs ++ take result (columns_in columns.entry)) ≡ dvi_so_far cs }
     {
         let count = self.line.hear_while(columns);
         self.columns += count as u32;
         count
     }
 
-    /// Ends the columns; `tells` and `told` then say what the end tells.
+    /// Ends the columns; `tells` and `reported` then say what the end tells.
     pub fn finish(&mut self)
         requires { self.old.finished ≡ false }
         ensures finished { self.new.finished ≡ true }
-        ensures told { (cs : List Column) → StandsFor self.old cs → dvi_heard cs ≡ map thing_of (dvi_so_far cs) ++ last_told self.new }
+        ensures reported { (cs : List Column) → DviHearingRepresents self.old cs → dvi_heard cs ≡ map event_of (dvi_so_far cs) ++ last_reported self.new }
     {
         self.notes.clear();
         end(
@@ -177,7 +179,7 @@ impl DviHearing {
         self.finished = true;
     }
 
-    /// How many things the last call told.
+    /// How many events the last call told.
     pub fn tells(&self) -> u8
         ensures few { result ≤ 8 }
         ensures count { result ≡ length self.now.notes }
@@ -185,10 +187,10 @@ impl DviHearing {
         self.notes.len()
     }
 
-    /// Lends thing `i` of those that the last call told.
-    pub fn told(&self, i: u8) -> Told<'_>
+    /// Lends event `i` of those that the last call told.
+    pub fn reported(&self, i: u8) -> EventRef<'_>
         requires { i < length self.now.notes }
-        ensures { slice_get (last_told self.now) i ≡ Some (lent_thing result) }
+        ensures { slice_get (last_reported self.now) i ≡ Some (lent_event result) }
     {
         lend(self.notes.get(i), self.line.bytes(), &self.unused)
     }

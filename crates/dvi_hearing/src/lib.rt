@@ -3,7 +3,6 @@
 #![tactic(auto)]
 
 mod hearing;
-pub mod laws;
 mod phase;
 mod sink;
 

@@ -5,17 +5,18 @@ ghost use Rattle.period_grammar.specs.Cut.{Stretch};
 ghost use Rattle.period_grammar.specs.Heard.{if_not};
 ghost use Rattle.period_grammar.specs.After.{grown, gap_of};
 ghost use Rattle.period_grammar.specs.ControlAfter.{IsControlAfter, IsCounted};
-ghost use Rattle.period_grammar.specs.Things.{short};
-ghost use Rattle.period_grammar.specs.Noted.{things, lent, Lent};
+ghost use Rattle.period_grammar.specs.Events.{short};
+ghost use Rattle.period_grammar.specs.Noted.{events, lent, Lent};
 ghost use Rattle.period_grammar.specs.Stands.{going_on};
 ghost use Rattle.period_grammar.specs.Gains.{gains_by, ends_by};
-ghost use Rattle.period_grammar.specs.declared.island.Whole.{Whole};
+ghost use Rattle.period_grammar.specs.declared.island.WholePacket.{WholePacket};
 ghost use Rattle.dvi_hearing.specs.DviHeard.{dvi_gaps};
 ghost use Rattle.dvi_hearing.specs.DviGains.{no_gain};
 ghost use Rattle.dvi_hearing.specs.DviSeen.{IsPlaced};
 ghost use Rattle.dvi_hearing.specs.DviStands.{IsStretchAfter, closed};
 
-use period_grammar::{Fault, Kept, Line, Note, Notes};
+use period_grammar::{ControlState, EventQueue, Fault, Line, QueuedEvent};
+use terc4::RUN;
 use tmds_word::Word;
 
 /// Where the hearing is: in control columns, or in a line whose first pixel is at the start.
@@ -26,7 +27,14 @@ pub enum Phase {
 }
 
 /// Tells what ends at a control column, and gives what is kept of the control columns that go on.
-pub fn close(phase: Phase, n: u32, value: u8, kept: Kept, line: &Line, notes: &mut Notes) -> Kept
+pub fn close(
+    phase: Phase,
+    n: u32,
+    value: u8,
+    kept: ControlState,
+    line: &Line,
+    notes: &mut EventQueue,
+) -> ControlState
     requires room { length notes.old ≤ 0 }
     requires counted { IsCounted kept }
     requires fits { n + 40 < 2 ^ 32 }
@@ -35,7 +43,7 @@ pub fn close(phase: Phase, n: u32, value: u8, kept: Kept, line: &Line, notes: &m
     ensures room { length notes.new ≤ 6 }
     ensures counted { IsCounted result }
     ensures few { result.columns ≤ n }
-    ensures told { (x : Stretch) (b : ℕ) (whole : Whole) → IsStretchAfter phase kept line.now n x → b + length (gap_of x) ≡ n → things (lent line.now.bytes whole) notes.new ≡ closed value b x }
+    ensures reported { (x : Stretch) (b : ℕ) (whole : WholePacket) → IsStretchAfter phase kept line.now n x → b + length (gap_of x) ≡ n → events (lent line.now.bytes whole) notes.new ≡ closed value b x }
     ensures kept { (x : Stretch) → IsStretchAfter phase kept line.now n x → IsControlAfter result (going_on x) }
 {
     match phase {
@@ -46,19 +54,19 @@ pub fn close(phase: Phase, n: u32, value: u8, kept: Kept, line: &Line, notes: &m
         Phase::Pixels { start } => {
             tell_short(kept.columns, start, notes);
             line.tell_pixels(start, start, notes);
-            Kept::new()
+            ControlState::new()
         }
     }
 }
 
 /// Tells that fewer than twelve control columns stand before a line.
-fn tell_short(columns: u32, start: u32, notes: &mut Notes)
+fn tell_short(columns: u32, start: u32, notes: &mut EventQueue)
     requires room { length notes.old ≤ 0 }
     ensures room { length notes.new ≤ 1 }
-    ensures told { (bytes : Lent) → things bytes notes.new ≡ if_not (nat_le 12 columns) (short start) }
+    ensures reported { (bytes : Lent) → events bytes notes.new ≡ if_not (nat_le 12 columns) (short start) }
 {
-    if columns < 12 {
-        notes.push(Note::Fault(Fault::Short { column: start }));
+    if columns < RUN {
+        notes.push(QueuedEvent::Fault(Fault::Short { column: start }));
     }
 }
 
@@ -67,16 +75,16 @@ pub fn go_on(
     phase: Phase,
     n: u32,
     column: &[Word; 3],
-    kept: &Kept,
+    kept: &ControlState,
     line: &mut Line,
-    notes: &mut Notes,
+    notes: &mut EventQueue,
 ) -> Phase
     requires room { length notes.old ≤ 0 }
     requires placed { IsPlaced phase line.old.count n }
     requires fits { n + 40 < 2 ^ 32 }
     ensures room { length notes.new ≤ 1 }
     ensures placed { IsPlaced result line.new.count (n + 1) }
-    ensures told { (x : Stretch) (b : ℕ) (whole : Whole) → IsStretchAfter phase kept.now line.old n x → things (lent line.new.bytes whole) notes.new ≡ gains_by dvi_gaps no_gain false b n (column_of column.now) x }
+    ensures reported { (x : Stretch) (b : ℕ) (whole : WholePacket) → IsStretchAfter phase kept.now line.old n x → events (lent line.new.bytes whole) notes.new ≡ gains_by dvi_gaps no_gain false b n (column_of column.now) x }
     ensures stands { (x : Stretch) → IsStretchAfter phase kept.now line.old n x → IsStretchAfter result kept.now line.new (n + 1) (grown false (column_of column.now) x) }
 {
     match phase {
@@ -94,13 +102,13 @@ pub fn go_on(
 }
 
 /// Tells what the end tells.
-pub fn end(phase: Phase, n: u32, kept: &Kept, line: &Line, notes: &mut Notes)
+pub fn end(phase: Phase, n: u32, kept: &ControlState, line: &Line, notes: &mut EventQueue)
     requires room { length notes.old ≤ 0 }
     ensures room { length notes.new ≤ 1 }
-    ensures told { (x : Stretch) (b : ℕ) (whole : Whole) → IsStretchAfter phase kept.now line.now n x → b + length (gap_of x) ≡ n → things (lent line.now.bytes whole) notes.new ≡ ends_by dvi_gaps b x }
+    ensures reported { (x : Stretch) (b : ℕ) (whole : WholePacket) → IsStretchAfter phase kept.now line.now n x → b + length (gap_of x) ≡ n → events (lent line.now.bytes whole) notes.new ≡ ends_by dvi_gaps b x }
 {
     match phase {
         Phase::Control => kept.tell_run(notes),
-        Phase::Pixels { start } => notes.push(Note::Cut { column: start }),
+        Phase::Pixels { start } => notes.push(QueuedEvent::Cut { column: start }),
     }
 }

@@ -3,14 +3,14 @@ ghost use Rattle.std.specs.Prelude.{◌≡◌, ◌++◌, ◌∷◌, [], List, le
 
 use crate::hearing::DviHearing;
 use link_sink::{Hears, LaneSink};
-use period_grammar::Told;
+use period_grammar::EventRef;
 use tmds_word::{Columns, Word};
 
 /// Hears the columns of a stream without guard columns.
 pub type DviSink = LaneSink<DviHearing>;
 
 impl Hears for DviHearing {
-    ghost use Rattle.dvi_hearing.specs.DviSeen.{last_told};
+    ghost use Rattle.dvi_hearing.specs.DviSeen.{last_reported};
     ghost use Rattle.dvi_hearing.specs.DviGrammar.{dvi_grammar, dvi_is_grammar};
     ghost use Rattle.dvi_hearing.specs.DviStands.{GoesOn, dvi_counts};
 
@@ -20,7 +20,7 @@ impl Hears for DviHearing {
 
     ghost counted = { λ h. h.columns };
 
-    ghost last = { last_told };
+    ghost last = { last_reported };
 
     fn open() -> DviHearing {
         DviHearing::open()
@@ -46,8 +46,8 @@ impl Hears for DviHearing {
         self.tells()
     }
 
-    fn told(&self, i: u8) -> Told<'_> {
-        self.told(i)
+    fn reported(&self, i: u8) -> EventRef<'_> {
+        self.reported(i)
     }
 
     ghost counts = { dvi_counts };

@@ -2,7 +2,7 @@
 ghost use Rattle.std.specs.Prelude.{◌≡◌, ◌≤◌, ◌+◌, length, false};
 
 use crate::DviHearing;
-use period_grammar::{Fault, Told};
+use period_grammar::{EventRef, Fault};
 use std::alloc::Global;
 use std::process::Abort;
 use std::test::*;
@@ -24,7 +24,7 @@ const BLACK: [u16; 3] = [0x100, 0x100, 0x100];
 
 const RED: [u16; 3] = [0x100, 0x100, 0x200];
 
-const HURT: [u16; 3] = [0x100, 0x100, 0x300];
+const DAMAGED: [u16; 3] = [0x100, 0x100, 0x300];
 
 const ONE_WORD: [u16; 3] = [0x354, 0x100, 0x354];
 
@@ -33,19 +33,19 @@ const TWELVE: Row = Row::Run {
     count: 12,
 };
 
-fn row_of(told: Told<'_>) -> Row {
-    match told {
-        Told::Run { value, count } => Row::Run { value, count },
-        Told::Line { pixels } => Row::Line {
+fn row_of(event: EventRef<'_>) -> Row {
+    match event {
+        EventRef::Run { value, count } => Row::Run { value, count },
+        EventRef::Line { pixels } => Row::Line {
             bytes: pixels.len(),
             first: pixels.first().copied().unwrap_or(0),
         },
-        Told::Fault(fault) => Row::Fault(fault),
-        Told::Cut { column } => Row::Cut { column },
-        Told::Open { sync } | Told::Close { sync } => Row::Island {
+        EventRef::Fault(fault) => Row::Fault(fault),
+        EventRef::Cut { column } => Row::Cut { column },
+        EventRef::Open { sync } | EventRef::Close { sync } => Row::Island {
             first: u32::from(sync[0]),
         },
-        Told::Packet { packet, column } => Row::Island {
+        EventRef::Packet { packet, column } => Row::Island {
             first: column.max(u32::from(packet.symbols())),
         },
     }
@@ -54,7 +54,7 @@ fn row_of(told: Told<'_>) -> Row {
 /// Adds the rows of what the last call told.
 fn add(rows: &mut Vec<Row>, hearing: &DviHearing) -> Result<(), Fail> {
     for i in 0..hearing.tells() {
-        rows.push(row_of(hearing.told(i)))?;
+        rows.push(row_of(hearing.reported(i)))?;
     }
     Ok(())
 }
@@ -121,7 +121,7 @@ fn lines(rt: HostRuntime) -> Result<(), Fail> {
         bytes: 3,
         first: 0xff,
     };
-    let hurt = Row::Line { bytes: 3, first: 1 };
+    let damaged = Row::Line { bytes: 3, first: 1 };
     let wrong = Row::Fault(Fault::Code {
         lane: 2,
         column: 12,
@@ -132,7 +132,15 @@ fn lines(rt: HostRuntime) -> Result<(), Fail> {
         count: 11,
     };
     expect(rt, alloc, 12, RED, 1, 12, &[TWELVE, red, TWELVE])?;
-    expect(rt, alloc, 12, HURT, 1, 12, &[TWELVE, hurt, wrong, TWELVE])?;
+    expect(
+        rt,
+        alloc,
+        12,
+        DAMAGED,
+        1,
+        12,
+        &[TWELVE, damaged, wrong, TWELVE],
+    )?;
     expect(rt, alloc, 11, RED, 1, 12, &[few, short, red, TWELVE])?;
     let first = Row::Fault(Fault::Short { column: 0 });
     expect(rt, alloc, 0, RED, 1, 12, &[first, red, TWELVE])
@@ -167,7 +175,7 @@ fn long_lines(rt: HostRuntime) -> Result<(), Fail> {
         first: 0,
     };
     let long = Row::Fault(Fault::LongLine { column: 12 });
-    let told = [
+    let reported = [
         TWELVE,
         line,
         second_pixel(0),
@@ -176,5 +184,5 @@ fn long_lines(rt: HostRuntime) -> Result<(), Fail> {
         long,
         TWELVE,
     ];
-    expect(rt, rt.alloc(), 12, BLACK, 4097, 12, &told)
+    expect(rt, rt.alloc(), 12, BLACK, 4097, 12, &reported)
 }

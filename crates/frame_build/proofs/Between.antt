@@ -2,95 +2,95 @@
 use Rattle.std.proofs.Common.{◌≡◌, List, [], ◌∷◌, ◌++◌, Bool, true, false, ◌||◌, if◌then◌else◌, refl, sym, ap, subst, ◌∙◌, reverse}
 use Rattle.std.proofs.lemmas.Bool.{or_right}
 use Rattle.std.proofs.lemmas.List.{reverse-append, append_assoc, reverse-reverse}
-use Rattle.frame_build.specs.Event.{Event}
+use Rattle.frame_build.specs.FrameEvent.{FrameEvent}
 use Rattle.frame_build.specs.Change.{is_change, changes_at, has_change, since_change, IsBetweenChanges}
 
-pub reverse-around : (before : List Event) (thing : Event) (after : List Event) → reverse (before ++ thing ∷ after) ≡ reverse after ++ thing ∷ reverse before
-reverse-around before thing after =
-    reverse-append before (thing ∷ after)
-    ∙ ap (λ (xs : List Event). xs ++ reverse before) (reverse-append (thing ∷ []) after)
-    ∙ append_assoc (reverse after) (thing ∷ []) (reverse before)
+pub reverse-around : (before : List FrameEvent) (event : FrameEvent) (after : List FrameEvent) → reverse (before ++ event ∷ after) ≡ reverse after ++ event ∷ reverse before
+reverse-around before event after =
+    reverse-append before (event ∷ after)
+    ∙ ap (λ (xs : List FrameEvent). xs ++ reverse before) (reverse-append (event ∷ []) after)
+    ∙ append_assoc (reverse after) (event ∷ []) (reverse before)
 
--- no change is heard at any thing of `later`, told after `past`; both have the newest first
-abbrev pub IsQuiet : List Event → List Event → Type 0
+-- no change is heard at any event of `later`, told after `past`; both have the newest first
+abbrev pub IsQuiet : List FrameEvent → List FrameEvent → Type 0
 IsQuiet [] past = Unit {0}
-IsQuiet (thing ∷ later) past = (is_change thing (later ++ past) ≡ false) × IsQuiet later past
+IsQuiet (event ∷ later) past = (is_change event (later ++ past) ≡ false) × IsQuiet later past
 
-pub since_change-quiet : (later past : List Event) (first : Event) → is_change first past ≡ true → IsQuiet later (first ∷ past) → since_change (later ++ first ∷ past) ≡ later
+pub since_change-quiet : (later past : List FrameEvent) (first : FrameEvent) → is_change first past ≡ true → IsQuiet later (first ∷ past) → since_change (later ++ first ∷ past) ≡ later
 since_change-quiet [] past first opens quiet = ap (λ (b : Bool). if b then [] else first ∷ since_change past) opens
-since_change-quiet (thing ∷ later) past first opens quiet =
-    ap (λ (b : Bool). if b then [] else thing ∷ since_change (later ++ first ∷ past)) quiet.0
-    ∙ ap (λ (xs : List Event). thing ∷ xs) (since_change-quiet later past first opens quiet.1)
+since_change-quiet (event ∷ later) past first opens quiet =
+    ap (λ (b : Bool). if b then [] else event ∷ since_change (later ++ first ∷ past)) quiet.0
+    ∙ ap (λ (xs : List FrameEvent). event ∷ xs) (since_change-quiet later past first opens quiet.1)
 
-pub has_change-after : (later past : List Event) (first : Event) → is_change first past ≡ true → has_change (later ++ first ∷ past) ≡ true
+pub has_change-after : (later past : List FrameEvent) (first : FrameEvent) → is_change first past ≡ true → has_change (later ++ first ∷ past) ≡ true
 has_change-after [] past first opens = ap (λ (b : Bool). b || has_change past) opens
-has_change-after (thing ∷ later) past first opens = or_right _ _ (has_change-after later past first opens)
+has_change-after (event ∷ later) past first opens = or_right _ _ (has_change-after later past first opens)
 
--- quiet, from each thing
-IsQuiet-each : (later past : List Event) → ((newer : List Event) (thing : Event) (older : List Event) → later ≡ newer ++ thing ∷ older → is_change thing (older ++ past) ≡ false) → IsQuiet later past
+-- quiet, from each event
+IsQuiet-each : (later past : List FrameEvent) → ((newer : List FrameEvent) (event : FrameEvent) (older : List FrameEvent) → later ≡ newer ++ event ∷ older → is_change event (older ++ past) ≡ false) → IsQuiet later past
 IsQuiet-each [] past each = tt
-IsQuiet-each (thing ∷ later) past each =
-    (each [] thing later refl, IsQuiet-each later past (λ newer other older is. each (thing ∷ newer) other older (ap (λ (xs : List Event). thing ∷ xs) is)))
+IsQuiet-each (event ∷ later) past each =
+    (each [] event later refl, IsQuiet-each later past (λ newer other older is. each (event ∷ newer) other older (ap (λ (xs : List FrameEvent). event ∷ xs) is)))
 
--- and to each thing
-IsQuiet-at : (newer : List Event) (thing : Event) (older past : List Event) → IsQuiet (newer ++ thing ∷ older) past → is_change thing (older ++ past) ≡ false
-IsQuiet-at [] thing older past quiet = quiet.0
-IsQuiet-at (first ∷ newer) thing older past quiet = IsQuiet-at newer thing older past quiet.1
+-- and to each event
+IsQuiet-at : (newer : List FrameEvent) (event : FrameEvent) (older past : List FrameEvent) → IsQuiet (newer ++ event ∷ older) past → is_change event (older ++ past) ≡ false
+IsQuiet-at [] event older past quiet = quiet.0
+IsQuiet-at (first ∷ newer) event older past quiet = IsQuiet-at newer event older past quiet.1
 
 -- the last change, and what was told since
-pub record LastChange (past : List Event) : Type 0 where
-  pub later : List Event
-  pub first : Event
-  pub older : List Event
+pub record LastChange (past : List FrameEvent) : Type 0 where
+  pub later : List FrameEvent
+  pub first : FrameEvent
+  pub older : List FrameEvent
   pub parts : past ≡ later ++ first ∷ older
   pub opens : is_change first older ≡ true
   pub quiet : IsQuiet later (first ∷ older)
 
-before_change : (thing : Event) (past : List Event) → is_change thing past ≡ false → LastChange past → LastChange (thing ∷ past)
-before_change thing past same was =
+before_change : (event : FrameEvent) (past : List FrameEvent) → is_change event past ≡ false → LastChange past → LastChange (event ∷ past)
+before_change event past same was =
     record {
-      later = thing ∷ was.later;
+      later = event ∷ was.later;
       first = was.first;
       older = was.older;
-      parts = ap (λ (xs : List Event). thing ∷ xs) was.parts;
+      parts = ap (λ (xs : List FrameEvent). event ∷ xs) was.parts;
       opens = was.opens;
-      quiet = (subst (λ (xs : List Event). is_change thing xs ≡ false) was.parts same, was.quiet);
+      quiet = (subst (λ (xs : List FrameEvent). is_change event xs ≡ false) was.parts same, was.quiet);
     }
 
-pub last_change : (past : List Event) → has_change past ≡ true → LastChange past
+pub last_change : (past : List FrameEvent) → has_change past ≡ true → LastChange past
 last_change [] has = cc
-last_change (thing ∷ past) has = step (is_change thing past) refl has (λ h. last_change past h)
+last_change (event ∷ past) has = step (is_change event past) refl has (λ h. last_change past h)
   where
-    step : (b : Bool) → is_change thing past ≡ b → (b || has_change past) ≡ true → (has_change past ≡ true → LastChange past) → LastChange (thing ∷ past)
-    step true opens has before = record { later = []; first = thing; older = past; parts = refl; opens = opens; quiet = tt }
-    step false same has before = before_change thing past same (before has)
+    step : (b : Bool) → is_change event past ≡ b → (b || has_change past) ≡ true → (has_change past ≡ true → LastChange past) → LastChange (event ∷ past)
+    step true opens has before = record { later = []; first = event; older = past; parts = refl; opens = opens; quiet = tt }
+    step false same has before = before_change event past same (before has)
 
 -- what is told between two changes is quiet
-pub quiet-between : (before : List Event) (first : Event) (between : List Event) (last : Event) → IsBetweenChanges before first between last → IsQuiet (reverse between) (first ∷ reverse before)
+pub quiet-between : (before : List FrameEvent) (first : FrameEvent) (between : List FrameEvent) (last : FrameEvent) → IsBetweenChanges before first between last → IsQuiet (reverse between) (first ∷ reverse before)
 quiet-between before first between last is =
     IsQuiet-each (reverse between) (first ∷ reverse before)
-    (λ newer thing older parts.
-    subst (λ (xs : List Event). is_change thing xs ≡ false)
-    (reverse-around before first (reverse older) ∙ ap (λ (xs : List Event). xs ++ first ∷ reverse before) (reverse-reverse older))
-    (is.quiet (reverse older) thing (reverse newer)
-    (sym (reverse-reverse between) ∙ ap (λ (xs : List Event). reverse xs) parts ∙ reverse-around newer thing older)))
+    (λ newer event older parts.
+    subst (λ (xs : List FrameEvent). is_change event xs ≡ false)
+    (reverse-around before first (reverse older) ∙ ap (λ (xs : List FrameEvent). xs ++ first ∷ reverse before) (reverse-reverse older))
+    (is.quiet (reverse older) event (reverse newer)
+    (sym (reverse-reverse between) ∙ ap (λ (xs : List FrameEvent). reverse xs) parts ∙ reverse-around newer event older)))
 
 -- the change at `last` and the last one before it have quiet between them
-pub between-last : (told : List Event) (last : Event) (was : LastChange (reverse told)) → changes_at told last ≡ true → (told ≡ reverse was.older ++ was.first ∷ reverse was.later) × IsBetweenChanges (reverse was.older) was.first (reverse was.later) last
-between-last told last was closes =
-    let parts : told ≡ reverse was.older ++ was.first ∷ reverse was.later =
-    sym (reverse-reverse told) ∙ ap (λ (xs : List Event). reverse xs) was.parts ∙ reverse-around was.later was.first was.older in (
+pub between-last : (reported : List FrameEvent) (last : FrameEvent) (was : LastChange (reverse reported)) → changes_at reported last ≡ true → (reported ≡ reverse was.older ++ was.first ∷ reverse was.later) × IsBetweenChanges (reverse was.older) was.first (reverse was.later) last
+between-last reported last was closes =
+    let parts : reported ≡ reverse was.older ++ was.first ∷ reverse was.later =
+    sym (reverse-reverse reported) ∙ ap (λ (xs : List FrameEvent). reverse xs) was.parts ∙ reverse-around was.later was.first was.older in (
       parts,
       record {
-        opens = subst (λ (xs : List Event). is_change was.first xs ≡ true) (sym (reverse-reverse was.older)) was.opens;
-        quiet = λ front thing back is.
-            let later_is : was.later ≡ reverse back ++ thing ∷ reverse front =
-            sym (reverse-reverse was.later) ∙ ap (λ (xs : List Event). reverse xs) is ∙ reverse-around front thing back in
-            let quiet : is_change thing (reverse front ++ was.first ∷ was.older) ≡ false =
-            IsQuiet-at (reverse back) thing (reverse front) (was.first ∷ was.older) (subst (λ (xs : List Event). IsQuiet xs (was.first ∷ was.older)) later_is was.quiet) in
-            subst (λ (xs : List Event). is_change thing xs ≡ false)
-            (sym (reverse-around (reverse was.older) was.first front ∙ ap (λ (xs : List Event). reverse front ++ was.first ∷ xs) (reverse-reverse was.older)))
+        opens = subst (λ (xs : List FrameEvent). is_change was.first xs ≡ true) (sym (reverse-reverse was.older)) was.opens;
+        quiet = λ front event back is.
+            let later_is : was.later ≡ reverse back ++ event ∷ reverse front =
+            sym (reverse-reverse was.later) ∙ ap (λ (xs : List FrameEvent). reverse xs) is ∙ reverse-around front event back in
+            let quiet : is_change event (reverse front ++ was.first ∷ was.older) ≡ false =
+            IsQuiet-at (reverse back) event (reverse front) (was.first ∷ was.older) (subst (λ (xs : List FrameEvent). IsQuiet xs (was.first ∷ was.older)) later_is was.quiet) in
+            subst (λ (xs : List FrameEvent). is_change event xs ≡ false)
+            (sym (reverse-around (reverse was.older) was.first front ∙ ap (λ (xs : List FrameEvent). reverse front ++ was.first ∷ xs) (reverse-reverse was.older)))
             quiet;
-        closes = subst (λ (xs : List Event). changes_at xs last ≡ true) parts closes;
+        closes = subst (λ (xs : List FrameEvent). changes_at xs last ≡ true) parts closes;
       },
     )

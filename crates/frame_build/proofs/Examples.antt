@@ -1,6 +1,6 @@
--- The definitions at small lists of told things; the values come from a model in another language.
+-- The definitions at small lists of told events; the values come from a model in another language.
 use Rattle.std.proofs.Common.{◌≡◌, [], ◌∷◌, Some, None, true, false, refl}
-use Rattle.frame_build.specs.Event.{run, line, word_fault, other}
+use Rattle.frame_build.specs.FrameEvent.{run, line, word_fault, other}
 use Rattle.frame_build.specs.Group.{frame_at, line_at}
 
 -- three columns of the other value end a frame
@@ -23,7 +23,7 @@ no_frame-before-change = refl
 frame-across-word-faults : frame_at (run 0 3 ∷ run 2 1 ∷ word_fault ∷ run 2 1 ∷ word_fault ∷ run 2 1 ∷ line 3 ∷ run 0 1 ∷ word_fault ∷ word_fault ∷ []) (run 0 2) ≡ Some (record { width = 3; height = 1 })
 frame-across-word-faults = refl
 
--- any other thing does
+-- any other event does
 no_frame-across-other : frame_at (run 0 3 ∷ run 2 3 ∷ line 5 ∷ run 0 2 ∷ other ∷ []) (run 0 1) ≡ None
 no_frame-across-other = refl
 

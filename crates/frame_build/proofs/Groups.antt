@@ -1,58 +1,58 @@
--- One told thing more.
+-- One told event more.
 use Rattle.std.proofs.Common.{◌≡◌, ℕ, List, [], ◌∷◌, ◌++◌, Bool, true, false, ◌||◌, if◌then◌else◌, reverse, filter_map, sym, ap, subst, ◌∙◌, append-nil}
 use Rattle.std.proofs.lemmas.List.{reverse-append}
 use Rattle.std.proofs.lemmas.List.Elements.{filter_map-append}
-use Rattle.frame_build.specs.Event.{Event}
+use Rattle.frame_build.specs.FrameEvent.{FrameEvent}
 use Rattle.frame_build.specs.Change.{is_change, has_change, since_change}
 use Rattle.frame_build.specs.Group.{width_of, group, counts}
 use Rattle.frame_build.specs.State.{Sync, Lines}
-use Rattle.frame_build.specs.StandsFor.{StandsFor, IsSyncOf, IsGroup}
+use Rattle.frame_build.specs.FramesRepresent.{FramesRepresent, IsSyncOf, IsGroup}
 
--- the newest thing comes first
-pub reverse-more : (told : List Event) (thing : Event) → reverse (told ++ thing ∷ []) ≡ thing ∷ reverse told
-reverse-more told thing = reverse-append told (thing ∷ [])
+-- the newest event comes first
+pub reverse-more : (reported : List FrameEvent) (event : FrameEvent) → reverse (reported ++ event ∷ []) ≡ event ∷ reverse reported
+reverse-more reported event = reverse-append reported (event ∷ [])
 
-pub counts-more : (told : List Event) (thing : Event) → counts (told ++ thing ∷ []) ≡ (is_change thing (reverse told) || counts told)
-counts-more told thing = ap has_change (reverse-more told thing)
+pub counts-more : (reported : List FrameEvent) (event : FrameEvent) → counts (reported ++ event ∷ []) ≡ (is_change event (reverse reported) || counts reported)
+counts-more reported event = ap has_change (reverse-more reported event)
 
 -- the lines of what is told since the last change
-unfoldable pub widths_of : List Event → List ℕ
+unfoldable pub widths_of : List FrameEvent → List ℕ
 widths_of past = filter_map width_of (reverse past)
 
-pub widths_of-more : (past : List Event) (thing : Event) → widths_of (thing ∷ past) ≡ widths_of past ++ filter_map width_of (thing ∷ [])
+pub widths_of-more : (past : List FrameEvent) (event : FrameEvent) → widths_of (event ∷ past) ≡ widths_of past ++ filter_map width_of (event ∷ [])
 unfolding widths_of
-widths_of-more past thing =
-    ap (λ (xs : List Event). filter_map width_of xs) (reverse-append (thing ∷ []) past) ∙ filter_map-append width_of (reverse past) (thing ∷ [])
+widths_of-more past event =
+    ap (λ (xs : List FrameEvent). filter_map width_of xs) (reverse-append (event ∷ []) past) ∙ filter_map-append width_of (reverse past) (event ∷ [])
 
-since_more : (changed : Bool) (thing : Event) (past : List Event) → List Event
-since_more changed thing past = if changed then [] else thing ∷ since_change past
+since_more : (changed : Bool) (event : FrameEvent) (past : List FrameEvent) → List FrameEvent
+since_more changed event past = if changed then [] else event ∷ since_change past
 
-group-since : (told : List Event) (thing : Event) → group (told ++ thing ∷ []) ≡ widths_of (since_more (is_change thing (reverse told)) thing (reverse told))
+group-since : (reported : List FrameEvent) (event : FrameEvent) → group (reported ++ event ∷ []) ≡ widths_of (since_more (is_change event (reverse reported)) event (reverse reported))
 unfolding widths_of since_more
-group-since told thing = ap (λ (past : List Event). filter_map width_of (reverse (since_change past))) (reverse-more told thing)
+group-since reported event = ap (λ (past : List FrameEvent). filter_map width_of (reverse (since_change past))) (reverse-more reported event)
 
 -- at a change the group is empty
-pub group-changed : (told : List Event) (thing : Event) → is_change thing (reverse told) ≡ true → group (told ++ thing ∷ []) ≡ []
+pub group-changed : (reported : List FrameEvent) (event : FrameEvent) → is_change event (reverse reported) ≡ true → group (reported ++ event ∷ []) ≡ []
 unfolding widths_of since_more
-group-changed told thing changed = group-since told thing ∙ ap (λ (b : Bool). widths_of (since_more b thing (reverse told))) changed
+group-changed reported event changed = group-since reported event ∙ ap (λ (b : Bool). widths_of (since_more b event (reverse reported))) changed
 
--- elsewhere it grows by the thing's line, if it is one
-pub group-more : (told : List Event) (thing : Event) → is_change thing (reverse told) ≡ false → group (told ++ thing ∷ []) ≡ group told ++ filter_map width_of (thing ∷ [])
+-- elsewhere it grows by the event's line, if it is one
+pub group-more : (reported : List FrameEvent) (event : FrameEvent) → is_change event (reverse reported) ≡ false → group (reported ++ event ∷ []) ≡ group reported ++ filter_map width_of (event ∷ [])
 unfolding widths_of since_more
-group-more told thing same =
-    group-since told thing ∙ ap (λ (b : Bool). widths_of (since_more b thing (reverse told))) same ∙ widths_of-more (since_change (reverse told)) thing
+group-more reported event same =
+    group-since reported event ∙ ap (λ (b : Bool). widths_of (since_more b event (reverse reported))) same ∙ widths_of-more (since_change (reverse reported)) event
 
--- a state stands for a list with one thing more
-pub stands-more : (sync : Sync) (lines : Lines) (told : List Event) (thing : Event) (counting : Bool) (widths : List ℕ) → IsSyncOf sync (thing ∷ reverse told) → IsGroup lines counting widths → counts (told ++ thing ∷ []) ≡ counting → group (told ++ thing ∷ []) ≡ widths → StandsFor (record { sync = sync; lines = lines }) (told ++ thing ∷ [])
-stands-more sync lines told thing counting widths in_sync in_lines counting_is widths_are =
+-- a state stands for a list with one event more
+pub stands-more : (sync : Sync) (lines : Lines) (reported : List FrameEvent) (event : FrameEvent) (counting : Bool) (widths : List ℕ) → IsSyncOf sync (event ∷ reverse reported) → IsGroup lines counting widths → counts (reported ++ event ∷ []) ≡ counting → group (reported ++ event ∷ []) ≡ widths → FramesRepresent (record { sync = sync; lines = lines }) (reported ++ event ∷ [])
+stands-more sync lines reported event counting widths in_sync in_lines counting_is widths_are =
     record {
-      sync = subst (λ (past : List Event). IsSyncOf sync past) (sym (reverse-more told thing)) in_sync;
-      lines = subst (λ (b : Bool). IsGroup lines b (group (told ++ thing ∷ []))) (sym counting_is) (subst (λ (xs : List ℕ). IsGroup lines counting xs) (sym widths_are) in_lines);
+      sync = subst (λ (past : List FrameEvent). IsSyncOf sync past) (sym (reverse-more reported event)) in_sync;
+      lines = subst (λ (b : Bool). IsGroup lines b (group (reported ++ event ∷ []))) (sym counting_is) (subst (λ (xs : List ℕ). IsGroup lines counting xs) (sym widths_are) in_lines);
     }
 
--- a thing that changes nothing and is no line
-pub stands-same : (sync : Sync) (lines : Lines) (told : List Event) (thing : Event) → is_change thing (reverse told) ≡ false → filter_map width_of (thing ∷ []) ≡ [] → IsSyncOf sync (thing ∷ reverse told) → IsGroup lines (counts told) (group told) → StandsFor (record { sync = sync; lines = lines }) (told ++ thing ∷ [])
-stands-same sync lines told thing same no_line in_sync in_lines =
-    stands-more sync lines told thing (counts told) (group told) in_sync in_lines
-    (counts-more told thing ∙ ap (λ (b : Bool). b || counts told) same)
-    (group-more told thing same ∙ ap (λ (xs : List ℕ). group told ++ xs) no_line ∙ append-nil (group told))
+-- an event that changes nothing and is no line
+pub stands-same : (sync : Sync) (lines : Lines) (reported : List FrameEvent) (event : FrameEvent) → is_change event (reverse reported) ≡ false → filter_map width_of (event ∷ []) ≡ [] → IsSyncOf sync (event ∷ reverse reported) → IsGroup lines (counts reported) (group reported) → FramesRepresent (record { sync = sync; lines = lines }) (reported ++ event ∷ [])
+stands-same sync lines reported event same no_line in_sync in_lines =
+    stands-more sync lines reported event (counts reported) (group reported) in_sync in_lines
+    (counts-more reported event ∙ ap (λ (b : Bool). b || counts reported) same)
+    (group-more reported event same ∙ ap (λ (xs : List ℕ). group reported ++ xs) no_line ∙ append-nil (group reported))

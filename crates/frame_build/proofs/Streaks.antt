@@ -3,10 +3,10 @@ use Rattle.std.proofs.Common.{◌≡◌, ℕ, zero, suc, min, ◌+◌, ◌<◌, 
 use Rattle.std.proofs.lemmas.Bool.{le-leb, lt-leb}
 use Rattle.std.specs.Option.{option_eq}
 use mathlib.Core.Bool.{beq}
-use Rattle.frame_build.specs.Event.{Event, run, Mark, column, has_vsync, vsync_of, marks}
+use Rattle.frame_build.specs.FrameEvent.{FrameEvent, run, Mark, column, has_vsync, vsync_of, marks}
 use Rattle.frame_build.specs.Change.{three_have, heard_at, last_heard, newer, differ}
 use Rattle.frame_build.specs.State.{Sync}
-use Rattle.frame_build.specs.StandsFor.{streak_of, IsSyncOf}
+use Rattle.frame_build.specs.FramesRepresent.{streak_of, IsSyncOf}
 
 -- columns of one VSYNC lengthen the streak of that VSYNC
 pub streak_of-run : (vsync : Bool) (n : ℕ) (marks : List Mark) → streak_of vsync (replicate n (column vsync) ++ marks) ≡ n + streak_of vsync marks
@@ -45,9 +45,9 @@ three_have-streak vsync (a ∷ b ∷ c ∷ earlier) =
     three-tests (has_vsync vsync a) (has_vsync vsync b) (has_vsync vsync c) (streak_of vsync earlier)
 
 some_if : Bool → Bool → Option Bool
-some_if told vsync = if told then Some vsync else None
+some_if reported vsync = if reported then Some vsync else None
 
-heard_at-run : (value count : ℕ) (past : List Event) → 0 < count → heard_at (run value count) past ≡ some_if (nat_le 3 (count + streak_of (vsync_of value) (marks past))) (vsync_of value)
+heard_at-run : (value count : ℕ) (past : List FrameEvent) → 0 < count → heard_at (run value count) past ≡ some_if (nat_le 3 (count + streak_of (vsync_of value) (marks past))) (vsync_of value)
 unfolding some_if
 heard_at-run value count past some =
     let v = vsync_of value in
@@ -56,13 +56,13 @@ heard_at-run value count past some =
     ∙ ap (λ (k : ℕ). some_if (nat_le 3 k) v) (streak_of-run v count (marks past))
 
 -- the third column in a row makes its VSYNC heard
-pub heard_at-three : (value count : ℕ) (past : List Event) (streak : ℕ) → 0 < count → streak ≡ min (count + streak_of (vsync_of value) (marks past)) 3 → streak ≡ 3 → heard_at (run value count) past ≡ Some (vsync_of value)
+pub heard_at-three : (value count : ℕ) (past : List FrameEvent) (streak : ℕ) → 0 < count → streak ≡ min (count + streak_of (vsync_of value) (marks past)) 3 → streak ≡ 3 → heard_at (run value count) past ≡ Some (vsync_of value)
 unfolding some_if
 heard_at-three value count past streak some is three =
     heard_at-run value count past some ∙ ap (λ (b : Bool). some_if b (vsync_of value)) (le-leb 3 (count + streak_of (vsync_of value) (marks past)) (omega arith))
 
 -- and fewer do not
-pub heard_at-fewer : (value count : ℕ) (past : List Event) (streak : ℕ) → 0 < count → streak ≡ min (count + streak_of (vsync_of value) (marks past)) 3 → streak < 3 → heard_at (run value count) past ≡ None
+pub heard_at-fewer : (value count : ℕ) (past : List FrameEvent) (streak : ℕ) → 0 < count → streak ≡ min (count + streak_of (vsync_of value) (marks past)) 3 → streak < 3 → heard_at (run value count) past ≡ None
 unfolding some_if
 heard_at-fewer value count past streak some is fewer =
     heard_at-run value count past some ∙ ap (λ (b : Bool). some_if b (vsync_of value)) (lt-leb 3 (count + streak_of (vsync_of value) (marks past)) (omega arith))
@@ -77,7 +77,7 @@ differ-other false (Some true) = refl
 differ-other false (Some false) = refl
 
 -- the columns after a run
-pub sync-run : (sync : Sync) (value count : ℕ) (past : List Event) → 0 < count → sync.level ≡ vsync_of value → sync.streak ≡ min (count + streak_of (vsync_of value) (marks past)) 3 → sync.heard ≡ newer (heard_at (run value count) past) (last_heard past) → IsSyncOf sync (run value count ∷ past)
+pub sync-run : (sync : Sync) (value count : ℕ) (past : List FrameEvent) → 0 < count → sync.level ≡ vsync_of value → sync.streak ≡ min (count + streak_of (vsync_of value) (marks past)) 3 → sync.heard ≡ newer (heard_at (run value count) past) (last_heard past) → IsSyncOf sync (run value count ∷ past)
 sync-run sync value count past some level streak heard =
     record {
       streak = streak ∙ ap (λ (k : ℕ). min k 3) (sym (streak_of-run (vsync_of value) count (marks past))) ∙ ap (λ (v : Bool). min (streak_of v (marks (run value count ∷ past))) 3) (sym level);

@@ -1,48 +1,48 @@
--- Groups of lines between changes, and what is said of them. `told` is all that was told, the oldest first.
+-- Groups of lines between changes, and what is said of them. `reported` is all that was told, the oldest first.
 use Rattle.std.specs.Prelude.{◌≡◌, ◌++◌, ℕ, ◌-◌, ◌^◌, ◌==◌, min, Bool, false, not, ◌&&◌, List, [], ◌∷◌, length, reverse, filter_map, Option, Some, None, if◌then◌else◌}
-use Rattle.frame_build.specs.Event.{Event, run, line, word_fault, other}
+use Rattle.frame_build.specs.FrameEvent.{FrameEvent, run, line, word_fault, other}
 use Rattle.frame_build.specs.Change.{changes_at, has_change, since_change, IsBetweenChanges}
 use Rattle.frame_build.specs.declared.FrameNote.{FrameNote}
 use Rattle.frame_build.specs.declared.LineNote.{LineNote}
 
-abbrev pub width_of : Event → Option ℕ
+abbrev pub width_of : FrameEvent → Option ℕ
 width_of (line width) = Some width
 width_of (run value count) = None
 width_of word_fault = None
 width_of other = None
 
--- the widths of the lines among these things
-abbrev pub widths : List Event → List ℕ
-widths told = filter_map width_of told
+-- the widths of the lines among these events
+abbrev pub widths : List FrameEvent → List ℕ
+widths reported = filter_map width_of reported
 
 -- the group: the widths of the lines told since the last change, or since the start, the first line first
-abbrev pub group : List Event → List ℕ
-group told = widths (reverse (since_change (reverse told)))
+abbrev pub group : List FrameEvent → List ℕ
+group reported = widths (reverse (since_change (reverse reported)))
 
 -- whether the group counts: a change was heard before it
-abbrev pub counts : List Event → Bool
-counts told = has_change (reverse told)
+abbrev pub counts : List FrameEvent → Bool
+counts reported = has_change (reverse reported)
 
 -- a number of lines, as it is told: it stops at the greatest `u32`
-abbrev pub told_count : ℕ → ℕ
-told_count lines = min lines (2 ^ 32 - 1)
+abbrev pub reported_count : ℕ → ℕ
+reported_count lines = min lines (2 ^ 32 - 1)
 
 -- the frame of a group of lines: the first line's width and the number of lines; no lines are no frame
 abbrev pub frame_of : List ℕ → Option FrameNote
 frame_of [] = None
-frame_of (first ∷ later) = Some (record { width = first; height = told_count (length (first ∷ later)) })
+frame_of (first ∷ later) = Some (record { width = first; height = reported_count (length (first ∷ later)) })
 
--- the frame told at a thing: that of the group before it, where a change is heard at it and the group counts
-abbrev pub frame_at : List Event → Event → Option FrameNote
-frame_at told thing =
-    if changes_at told thing && counts told then frame_of (group told) else None
+-- the frame told at an event: that of the group before it, where a change is heard at it and the group counts
+abbrev pub frame_at : List FrameEvent → FrameEvent → Option FrameNote
+frame_at reported event =
+    if changes_at reported event && counts reported then frame_of (group reported) else None
 
--- the frame is that of the lines between the last change in `told` and the change at `last`
-pub record EndsFrame (told : List Event) (last : Event) (frame : FrameNote) : Type 0 where
-  pub before : List Event
-  pub first : Event
-  pub between : List Event
-  pub parts : told ≡ before ++ first ∷ between
+-- the frame is that of the lines between the last change in `reported` and the change at `last`
+pub record EndsFrame (reported : List FrameEvent) (last : FrameEvent) (frame : FrameNote) : Type 0 where
+  pub before : List FrameEvent
+  pub first : FrameEvent
+  pub between : List FrameEvent
+  pub parts : reported ≡ before ++ first ∷ between
   pub changes : IsBetweenChanges before first between last
   pub frame_is : frame_of (widths between) ≡ Some frame
 
@@ -52,10 +52,10 @@ is_unlike [] width = false
 is_unlike (first ∷ later) width = not (width == first)
 
 -- what is said of a line that is told next
-abbrev pub line_at : List Event → ℕ → LineNote
-line_at told width =
+abbrev pub line_at : List FrameEvent → ℕ → LineNote
+line_at reported width =
     record {
-      counts = counts told;
-      ragged = counts told && is_unlike (group told) width;
-      row = told_count (length (group told));
+      counts = counts reported;
+      ragged = counts reported && is_unlike (group reported) width;
+      row = reported_count (length (group reported));
     }

@@ -1,6 +1,6 @@
-pub mod Event
+pub mod FrameEvent
 pub mod Change
 pub mod Group
 pub mod State
-pub mod StandsFor
+pub mod FramesRepresent
 pub mod Laws

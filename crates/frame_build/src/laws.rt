@@ -1,5 +1,5 @@
 //! Laws of frames and lines, over the definitions alone. The functions do nothing: what they ensure is the law.
-ghost use Rattle.frame_build.specs.Laws.{FramesPassOverWordFaults, LinesPassOverWordFaults, StatesPassOverWordFaults, ToldFramesLieBetweenChanges, FramesBetweenChangesAreTold};
+ghost use Rattle.frame_build.specs.Laws.{FramesPassOverWordFaults, LinesPassOverWordFaults, StatesPassOverWordFaults, ReportedFramesLieBetweenChanges, FramesBetweenChangesAreReported};
 
 /// A fault of one word changes nothing: the three columns that make a VSYNC heard may have it among them, and frames
 /// and lines are told as if it were not there. So a `Frames` is told of no such fault.
@@ -11,6 +11,6 @@ pub fn word_faults_change_nothing()
 
 /// The frames that are told are exactly those of the lines between two changes of VSYNC with no change between them.
 pub fn frames_lie_between_changes()
-    ensures told { ToldFramesLieBetweenChanges }
-    ensures all { FramesBetweenChangesAreTold }
+    ensures reported { ReportedFramesLieBetweenChanges }
+    ensures all { FramesBetweenChangesAreReported }
 {}

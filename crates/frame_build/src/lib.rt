@@ -1,14 +1,14 @@
 //! Lines into frames: a frame is the lines between two changes of VSYNC.
 //!
 //! A VSYNC value is heard when three columns in a row have it, with nothing told between them but faults of one word,
-//! and a change is heard when that value is not the one heard last. The definitions are over the whole list of things
+//! and a change is heard when that value is not the one heard last. The definitions are over the whole list of events
 //! told (`specs/`); a `Frames` keeps a few numbers, and each call says what it answers for every list that these stand for.
 #![tactic(auto)]
 
 ghost use Rattle.std.specs.Prelude.{◌≡◌, ◌++◌, ◌∷◌, [], List, ℕ};
-ghost use Rattle.frame_build.specs.Event.{Event, run, line, other};
+ghost use Rattle.frame_build.specs.FrameEvent.{FrameEvent, run, line, other};
 ghost use Rattle.frame_build.specs.Group.{frame_at, line_at};
-ghost use Rattle.frame_build.specs.StandsFor.{StandsFor};
+ghost use Rattle.frame_build.specs.FramesRepresent.{FramesRepresent};
 
 pub mod laws;
 mod lines;
@@ -56,7 +56,7 @@ impl Model for Frames {
 impl Frames {
     /// Nothing was told yet.
     pub fn new() -> Frames
-        ensures { StandsFor result [] }
+        ensures { FramesRepresent result [] }
     {
         Frames {
             sync: Sync::new(),
@@ -67,8 +67,8 @@ impl Frames {
     /// Hears a run of `count` control columns. Bit 0 of `value` is HSYNC, bit 1 VSYNC, bits 2 to 5 are CTL0 to
     /// CTL3. The answer is the frame that ends here, if one does.
     pub fn run(&mut self, value: u8, count: u32) -> Option<FrameNote>
-        ensures stands { (told : List Event) → StandsFor self.old told → StandsFor self.new (told ++ run value count ∷ []) }
-        ensures frame { (told : List Event) → StandsFor self.old told → result ≡ frame_at told (run value count) }
+        ensures stands { (reported : List FrameEvent) → FramesRepresent self.old reported → FramesRepresent self.new (reported ++ run value count ∷ []) }
+        ensures frame { (reported : List FrameEvent) → FramesRepresent self.old reported → result ≡ frame_at reported (run value count) }
     {
         if self.sync.hear(value, count) {
             self.lines.end()
@@ -79,8 +79,8 @@ impl Frames {
 
     /// Hears a line of `width` pixels.
     pub fn line(&mut self, width: u32) -> LineNote
-        ensures stands { (told : List Event) → StandsFor self.old told → StandsFor self.new (told ++ line width ∷ []) }
-        ensures note { (told : List Event) → StandsFor self.old told → result ≡ line_at told width }
+        ensures stands { (reported : List FrameEvent) → FramesRepresent self.old reported → FramesRepresent self.new (reported ++ line width ∷ []) }
+        ensures note { (reported : List FrameEvent) → FramesRepresent self.old reported → result ≡ line_at reported width }
     {
         self.sync.part();
         self.lines.add(width)
@@ -88,7 +88,7 @@ impl Frames {
 
     /// Hears anything else that is told, but a fault of one word, which changes nothing.
     pub fn other(&mut self)
-        ensures { (told : List Event) → StandsFor self.old told → StandsFor self.new (told ++ other ∷ []) }
+        ensures { (reported : List FrameEvent) → FramesRepresent self.old reported → FramesRepresent self.new (reported ++ other ∷ []) }
     {
         self.sync.part();
     }

@@ -1,8 +1,8 @@
 //! The lines of a group.
 
 ghost use Rattle.std.specs.Prelude.{◌≡◌, ◌++◌, ◌∷◌, [], List, ℕ, Bool, false, true, ◌&&◌, length, if◌then◌else◌};
-ghost use Rattle.frame_build.specs.Group.{frame_of, is_unlike, told_count};
-ghost use Rattle.frame_build.specs.StandsFor.{IsGroup};
+ghost use Rattle.frame_build.specs.Group.{frame_of, is_unlike, reported_count};
+ghost use Rattle.frame_build.specs.FramesRepresent.{IsGroup};
 
 use super::{FrameNote, LineNote};
 use std::marker::Model;
@@ -59,7 +59,7 @@ impl Lines {
         ensures more { (counting : Bool) (widths : List ℕ) → IsGroup self.old counting widths → IsGroup self.new counting (widths ++ width ∷ []) }
         ensures counts { (counting : Bool) (widths : List ℕ) → IsGroup self.old counting widths → result.counts ≡ counting }
         ensures ragged { (counting : Bool) (widths : List ℕ) → IsGroup self.old counting widths → result.ragged ≡ (counting && is_unlike widths width) }
-        ensures row { (counting : Bool) (widths : List ℕ) → IsGroup self.old counting widths → result.row ≡ told_count (length widths) }
+        ensures row { (counting : Bool) (widths : List ℕ) → IsGroup self.old counting widths → result.row ≡ reported_count (length widths) }
     {
         let first = *self.first.get_or_insert(width);
         let row = self.count;

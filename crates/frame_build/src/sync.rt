@@ -1,9 +1,9 @@
 //! The VSYNC values that are heard.
 
 ghost use Rattle.std.specs.Prelude.{◌≡◌, ◌+◌, min, ◌∷◌, [], List, ℕ};
-ghost use Rattle.frame_build.specs.Event.{Event, run, line, other, vsync_of, marks};
+ghost use Rattle.frame_build.specs.FrameEvent.{FrameEvent, run, line, other, vsync_of, marks};
 ghost use Rattle.frame_build.specs.Change.{is_change};
-ghost use Rattle.frame_build.specs.StandsFor.{IsSyncOf, streak_of};
+ghost use Rattle.frame_build.specs.FramesRepresent.{IsSyncOf, streak_of};
 
 use std::marker::Model;
 
@@ -48,7 +48,7 @@ impl Sync {
 
     /// How many columns in a row, up to three, have this VSYNC after `count` more of them.
     fn streak_with(&self, vsync: bool, count: u32) -> u32
-        ensures { (past : List Event) → IsSyncOf self.now past → result ≡ min (count + streak_of vsync (marks past)) 3 }
+        ensures { (past : List FrameEvent) → IsSyncOf self.now past → result ≡ min (count + streak_of vsync (marks past)) 3 }
     {
         let before = if vsync == self.level { self.streak } else { 0 };
         before.saturating_add(count).min(ENOUGH)
@@ -56,8 +56,8 @@ impl Sync {
 
     /// Hears a run, and answers whether a change is heard at it.
     pub fn hear(&mut self, value: u8, count: u32) -> bool
-        ensures after { (past : List Event) → IsSyncOf self.old past → IsSyncOf self.new (run value count ∷ past) }
-        ensures change { (past : List Event) → IsSyncOf self.old past → result ≡ is_change (run value count) past }
+        ensures after { (past : List FrameEvent) → IsSyncOf self.old past → IsSyncOf self.new (run value count ∷ past) }
+        ensures change { (past : List FrameEvent) → IsSyncOf self.old past → result ≡ is_change (run value count) past }
     {
         if count == 0 {
             return false;
@@ -71,8 +71,8 @@ impl Sync {
 
     /// Hears that the columns before are parted from those after.
     pub fn part(&mut self)
-        ensures line { (past : List Event) (width : ℕ) → IsSyncOf self.old past → IsSyncOf self.new (line width ∷ past) }
-        ensures other { (past : List Event) → IsSyncOf self.old past → IsSyncOf self.new (other ∷ past) }
+        ensures line { (past : List FrameEvent) (width : ℕ) → IsSyncOf self.old past → IsSyncOf self.new (line width ∷ past) }
+        ensures other { (past : List FrameEvent) → IsSyncOf self.old past → IsSyncOf self.new (other ∷ past) }
     {
         self.streak = 0;
     }

@@ -1,74 +1,55 @@
-//! Lists of told things, whose answers come from a model in another language.
+//! Lists of told events, whose answers come from a model in another language.
 
 mod lists;
 
-use super::*;
-use Step::{Even, Fault, Frame, Loose, Other, Ragged, Run};
+use crate::{FrameNote, Frames, LineNote};
 use lists::LISTS;
 use std::process::Abort;
+use std::test::Fail;
 
-/// A told thing, and the answer that is wanted.
-#[derive(Clone, Copy)]
-pub enum Step {
-    /// A run of this value and of so many columns, at which no frame ends.
-    Run(u8, u32),
-    /// A run, at which a frame of the width and the height that follow ends.
-    Frame(u8, u32, u32, u32),
-    /// A line of this width and with this number in a group that does not count.
-    Loose(u32, u32),
-    /// A line of a group that counts, as wide as its first.
-    Even(u32, u32),
-    /// A line of a group that counts, not as wide as its first.
-    Ragged(u32, u32),
-    /// A fault of one word, of which `Frames` is told nothing.
-    Fault,
-    Other,
-}
-
-fn line_note(counts: bool, ragged: bool, row: u32) -> LineNote {
-    LineNote {
-        counts,
-        ragged,
-        row,
+/// The frame of a size, if there is one.
+fn frame_of(size: &str) -> Result<Option<FrameNote>, Fail> {
+    match size.split_once('x') {
+        Some((width, height)) => Ok(Some(FrameNote {
+            width: width.parse()?,
+            height: height.parse()?,
+        })),
+        None => Ok(None),
     }
 }
 
-fn follow(rt: &impl Abort, list: usize, steps: &[Step]) {
-    let mut frames = Frames::new();
-    for step in steps {
-        match *step {
-            Run(value, count) => assert_eq!(rt; frames.run(value, count), None, "list {list}"),
-            Frame(value, count, width, height) => {
-                assert_eq!(rt;
-                    frames.run(value, count),
-                    Some(FrameNote { width, height }),
-                    "list {list}"
-                );
-            }
-            Loose(width, row) => assert_eq!(rt;
-                frames.line(width),
-                line_note(false, false, row),
-                "list {list}"
-            ),
-            Even(width, row) => assert_eq!(rt;
-                frames.line(width),
-                line_note(true, false, row),
-                "list {list}"
-            ),
-            Ragged(width, row) => assert_eq!(rt;
-                frames.line(width),
-                line_note(true, true, row),
-                "list {list}"
-            ),
-            Fault => {}
-            Other => frames.other(),
+/// Tells an event of a list, and compares what is answered.
+fn tell(rt: &impl Abort, frames: &mut Frames, event: &str, list: &str) -> Result<(), Fail> {
+    let (reported, size) = event.split_once(" = ").unwrap_or((event, ""));
+    let (name, numbers) = reported.split_once(' ').unwrap_or((reported, ""));
+    let (first, second) = numbers.split_once(' ').unwrap_or((numbers, ""));
+    match name {
+        "fault" => {}
+        "other" => frames.other(),
+        "run" => {
+            let frame = frames.run(first.parse()?, second.parse()?);
+            assert_eq!(rt; frame, frame_of(size)?, "{event} in {list}");
         }
+        "loose" | "even" | "ragged" => {
+            let note = LineNote {
+                counts: name != "loose",
+                ragged: name == "ragged",
+                row: second.parse()?,
+            };
+            assert_eq!(rt; frames.line(first.parse()?), note, "{event} in {list}");
+        }
+        _ => return Err("an event of no name")?,
     }
+    Ok(())
 }
 
 #[test]
-fn answers_as_the_model_does(rt: HostRuntime) {
-    for (list, steps) in LISTS.iter().enumerate() {
-        follow(&rt, list, steps);
+fn answers_as_the_model_does(rt: HostRuntime) -> Result<(), Fail> {
+    for list in LISTS.split('\n') {
+        let mut frames = Frames::new();
+        for event in list.split("; ") {
+            tell(&rt, &mut frames, event, list)?;
+        }
     }
+    Ok(())
 }

@@ -26,13 +26,13 @@ use Rattle.capture_file.specs.Taps.{tapped_capture}
 use Rattle.capture_file.specs.declared.writing.Tap.{Tap}
 use Rattle.island_pack.specs.Periods.{Period}
 use Rattle.island_pack.specs.Spelling.{Spells}
-use Rattle.listing.specs.Answers.{Answers as AnswersReading}
-use Rattle.listing.specs.Reading.{reads_as}
-use Rattle.listing.specs.DviReading.{dvi_reads_as}
-use Rattle.listing.specs.LineSteps.{Read, accepts, refuses}
-use Rattle.listing.specs.ContentKept.{frames_or, rastered, read_by}
-use Rattle.listing.specs.ContentReading.{content_reads_as}
-use Rattle.listing.specs.declared.fault.ListCause.{ListCause}
+use Rattle.listing_reader.specs.Answers.{Answers as AnswersReading}
+use Rattle.listing_reader.specs.Reading.{reads_as}
+use Rattle.listing_reader.specs.DviReading.{dvi_reads_as}
+use Rattle.listing_reader.specs.LineSteps.{Read, accepts, refuses}
+use Rattle.listing_reader.specs.ContentKept.{frames_or, rastered, read_by}
+use Rattle.listing_reader.specs.ContentReading.{content_reads_as}
+use Rattle.listing_reader.specs.declared.fault.ListCause.{ListCause}
 use Rattle.source_end.specs.Content.{Frame}
 use Rattle.source_end.specs.DviPeriods.{DviSpells}
 use Rattle.source_end.specs.Raster.{raster_of}
@@ -40,16 +40,16 @@ use Rattle.source_end.specs.RasterRefusals.{raster_fault, AnswersRasterFault}
 use Rattle.source_end.specs.declared.mode.Mode.{Mode}
 use Rattle.source_end.specs.declared.refusal.RasterFault.{RasterFault}
 use Rattle.source_end.specs.declared.refusal.RasterFault.TheVariants.{BadMode, Row, NoRoom, Long, NoMemory as NoRaster}
-use Rattle.listing.specs.declared.fault.ListFault.{ListFault}
-use Rattle.listing.specs.declared.fault.ListError.{ListError}
-use Rattle.listing.specs.declared.fault.ListError.TheVariants.{Bad as BadListing}
+use Rattle.listing_reader.specs.declared.fault.ListFault.{ListFault}
+use Rattle.listing_reader.specs.declared.fault.ListError.{ListError}
+use Rattle.listing_reader.specs.declared.fault.ListError.TheVariants.{Bad as BadListing}
 use Rattle.hdmi_cli.specs.Notes.{listing_note, raster_note, capture_note, frames_note, place_note}
 use Rattle.hdmi_cli.specs.Commands.{hit_asked, tap_asked}
 use Rattle.command_line.specs.declared.damage.DamageWord.{DamageWord}
 use Rattle.command_line.specs.declared.tap.TapWords.{TapWords}
 use Rattle.command_line.specs.Damages.{AreDamages}
 use Rattle.command_line.specs.Commands.{IsCommand as IsLine, IsVersion}
-use Rattle.hdmi_cli.specs.Outcome.{Outcome, MakesLink, MakesStream, MakesRaster, MakesContent, Does}
+use Rattle.hdmi_cli.specs.Outcome.{RunOutcome, MakesLink, MakesStream, MakesRaster, MakesContent, Does}
 use Rattle.sampling.specs.Counts.{counts_text}
 use Rattle.hdmi_cli.specs.Samples.{IsSampleWhole}
 use Rattle.hdmi_cli.specs.Endings.{Devices, IsAnswered, Answers, Parts, Ends, EndsUnwritten, ColumnsEnd, StreamEnds, damage_ending, frames_ending, raster_ending, slip_ending}
@@ -89,14 +89,14 @@ dvi_refused words fault before after text read kept = record {
 
 -- a stream that is written ends a command that makes it
 pub stream_ends : (spells : List Period → List Column → Type 0) (command : Command) (tap : Tap) (ps : List Period) (e : Ending) (before after : Devices)
-    → ((text : List ℕ) (o : Outcome) → before.left ≡ Some text → MakesStream spells tap ps o → Does command text o)
+    → ((text : List ℕ) (o : RunOutcome) → before.left ≡ Some text → MakesStream spells tap ps o → Does command text o)
     → (Parts command before after → EndsUnwritten command before after) → (WritesOn command → ⊥)
     → IsAtEnd after.left → StreamEnds spells tap ps e before.held after.held before.output_faults after.output_faults → Ends command e before after
 stream_ends spells command tap ps Done before after makes unwritten other end is = (
   end,
-  λ text told. record {
+  λ text reported. record {
     outcome = record { status = 0; output = tapped_capture is.columns tap; note = [] };
-    does = makes text (record { status = 0; output = tapped_capture is.columns tap; note = [] }) told (is.columns, is.spelled, refl);
+    does = makes text (record { status = 0; output = tapped_capture is.columns tap; note = [] }) reported (is.columns, is.spelled, refl);
     status = refl;
     note = refl;
     written = is.written;
@@ -104,10 +104,10 @@ stream_ends spells command tap ps Done before after makes unwritten other end is
 )
 stream_ends spells command tap ps WriteFailed before after makes unwritten other end is = (
   is.0,
-  unwritten (λ text told. record {
+  unwritten (λ text reported. record {
     outcome = record { status = 0; output = tapped_capture is.1.columns tap; note = [] };
     gone = is.1.gone;
-    does = makes text (record { status = 0; output = tapped_capture is.1.columns tap; note = [] }) told (is.1.columns, is.1.spelled, refl);
+    does = makes text (record { status = 0; output = tapped_capture is.1.columns tap; note = [] }) reported (is.1.columns, is.1.spelled, refl);
     status = (0, omega arith, refl);
     missing = is.1.missing;
     written = is.1.written;
@@ -125,10 +125,10 @@ stream_ends spells command tap ps TooLong before after makes unwritten other end
 stream_ends spells command tap ps ReadFailed before after makes unwritten other end is = absurd is
 stream_ends spells command tap ps Unaligned before after makes unwritten other end is = absurd is
 
-pub makes_link : (words : TapWords) (ps : List Period) (text : List ℕ) (o : Outcome) → reads_as text ≡ accepts ps → MakesStream Spells (tap_asked words) ps o → Does (MakeLink words) text o
+pub makes_link : (words : TapWords) (ps : List Period) (text : List ℕ) (o : RunOutcome) → reads_as text ≡ accepts ps → MakesStream Spells (tap_asked words) ps o → Does (MakeLink words) text o
 makes_link words ps text o read made = subst (λ r. MakesLink Spells (tap_asked words) r o) (sym read) made
 
-pub makes_dvi : (words : TapWords) (ps : List Period) (text : List ℕ) (o : Outcome) → dvi_reads_as text ≡ accepts ps → MakesStream DviSpells (tap_asked words) ps o → Does (MakeDvi words) text o
+pub makes_dvi : (words : TapWords) (ps : List Period) (text : List ℕ) (o : RunOutcome) → dvi_reads_as text ≡ accepts ps → MakesStream DviSpells (tap_asked words) ps o → Does (MakeDvi words) text o
 makes_dvi words ps text o read made = subst (λ r. MakesLink DviSpells (tap_asked words) r o) (sym read) made
 
 -- a stream that was spelled into columns
@@ -162,19 +162,19 @@ spelled_ends spells tap ps taken Unaligned old new before after spelled is = abs
 -- `make content`
 
 -- what was read of a text: a content, the first fault for which it has no raster, or a line that is refused
-content_came : (reading : Read (Mode × List Frame)) (content : Mode × List Frame) → read_by rastered reading ≡ accepts (Ok content) → reading ≡ accepts content
-content_came (accepts told) content h = by_fault (raster_fault told.0 told.1) h where
-  by_fault : (o : Option RasterFault) → accepts (frames_or told.0 o told.1) ≡ accepts (Ok content) → accepts told ≡ accepts content
-  by_fault None e = let same : (told.0, told.1) ≡ content = cc in ap accepts same
+content_received : (reading : Read (Mode × List Frame)) (content : Mode × List Frame) → read_by rastered reading ≡ accepts (Ok content) → reading ≡ accepts content
+content_received (accepts reported) content h = by_fault (raster_fault reported.0 reported.1) h where
+  by_fault : (o : Option RasterFault) → accepts (frames_or reported.0 o reported.1) ≡ accepts (Ok content) → accepts reported ≡ accepts content
+  by_fault None e = let same : (reported.0, reported.1) ≡ content = cc in ap accepts same
   by_fault (Some fault) e = absurd cc
-content_came (refuses line cause) content h = absurd cc
+content_received (refuses line cause) content h = absurd cc
 
 pub read_contents : (reading : Read (Mode × List Frame)) (r : Result (Result (Mode × List Frame) RasterFault) ListError) (content : Mode × List Frame)
     → AnswersReading (read_by rastered reading) r → r ≡ Ok (Ok content) → reading ≡ accepts content
-read_contents reading r content answers is = content_came reading content (subst (λ x. AnswersReading (read_by rastered reading) x) is answers)
+read_contents reading r content answers is = content_received reading content (subst (λ x. AnswersReading (read_by rastered reading) x) is answers)
 
 pub line_refused : (reading : Read (Mode × List Frame)) (line : ℕ) (cause : ListCause) → read_by rastered reading ≡ refuses line cause → reading ≡ refuses line cause
-line_refused (accepts told) line cause h = absurd cc
+line_refused (accepts reported) line cause h = absurd cc
 line_refused (refuses n c) line cause h = cc
 
 -- a text that tells a content without a raster
@@ -184,16 +184,16 @@ pub record HasNoRaster (text : List ℕ) (fault : RasterFault) : Type 0 where
   pub read : content_reads_as text ≡ accepts (mode, frames)
   pub fault_is : raster_fault mode frames ≡ Some fault
 
-fault_came : (text : List ℕ) (fault : RasterFault) (reading : Read (Mode × List Frame)) → content_reads_as text ≡ reading → read_by rastered reading ≡ accepts (Err fault) → HasNoRaster text fault
-fault_came text fault (accepts told) is h = by_fault (raster_fault told.0 told.1) refl h where
-  by_fault : (o : Option RasterFault) → raster_fault told.0 told.1 ≡ o → accepts (frames_or told.0 o told.1) ≡ accepts (Err fault) → HasNoRaster text fault
+fault_received : (text : List ℕ) (fault : RasterFault) (reading : Read (Mode × List Frame)) → content_reads_as text ≡ reading → read_by rastered reading ≡ accepts (Err fault) → HasNoRaster text fault
+fault_received text fault (accepts reported) is h = by_fault (raster_fault reported.0 reported.1) refl h where
+  by_fault : (o : Option RasterFault) → raster_fault reported.0 reported.1 ≡ o → accepts (frames_or reported.0 o reported.1) ≡ accepts (Err fault) → HasNoRaster text fault
   by_fault None here e = absurd cc
-  by_fault (Some found) here e = let same : found ≡ fault = cc in record { mode = told.0; frames = told.1; read = is; fault_is = here ∙ ap Some same }
-fault_came text fault (refuses line cause) is h = absurd cc
+  by_fault (Some found) here e = let same : found ≡ fault = cc in record { mode = reported.0; frames = reported.1; read = is; fault_is = here ∙ ap Some same }
+fault_received text fault (refuses line cause) is h = absurd cc
 
 pub read_fault : (text : List ℕ) (r : Result (Result (Mode × List Frame) RasterFault) ListError) (fault : RasterFault)
     → AnswersReading (read_by rastered (content_reads_as text)) r → r ≡ Ok (Err fault) → HasNoRaster text fault
-read_fault text r fault answers is = fault_came text fault (content_reads_as text) refl (subst (λ x. AnswersReading (read_by rastered (content_reads_as text)) x) is answers)
+read_fault text r fault answers is = fault_received text fault (content_reads_as text) refl (subst (λ x. AnswersReading (read_by rastered (content_reads_as text)) x) is answers)
 
 pub content_refused : (words : TapWords) (fault : ListFault) (before after : Devices) (text : List ℕ) → content_reads_as text ≡ refuses fault.line fault.cause → after.held ≡ before.held
     → IsAnswered (MakeContent words) (Listing fault) before after text
@@ -226,24 +226,24 @@ same_fault : {T : Type 0} (x y : RasterFault) → no_raster {T = T} x ≡ no_ras
 unfolding fault_or
 same_fault x y e = ap (fault_or x) e
 
-raster_told : {T : Type 0} (o : Option RasterFault) (r : Result T RasterFault) (done : T) → AnswersRasterFault o r → r ≡ Ok done → o ≡ None
-raster_told None r done answers is = refl
-raster_told (Some fault) r done answers is = absurd (failed_alone fault done (sym answers ∙ is))
+raster_reported : {T : Type 0} (o : Option RasterFault) (r : Result T RasterFault) (done : T) → AnswersRasterFault o r → r ≡ Ok done → o ≡ None
+raster_reported None r done answers is = refl
+raster_reported (Some fault) r done answers is = absurd (failed_alone fault done (sym answers ∙ is))
 
-fault_told : {T : Type 0} (o : Option RasterFault) (r : Result T RasterFault) (fault : RasterFault) → AnswersRasterFault o r → r ≡ Err fault → (fault ≡ NoRaster → ⊥) → o ≡ Some fault
-fault_told None (Ok done) fault answers is other = absurd (failed_alone fault done (sym is))
-fault_told None (Err f) fault answers is other = absurd (other (sym (same_fault f fault is) ∙ answers))
-fault_told (Some f) r fault answers is other = ap Some (same_fault f fault (sym answers ∙ is))
+fault_reported : {T : Type 0} (o : Option RasterFault) (r : Result T RasterFault) (fault : RasterFault) → AnswersRasterFault o r → r ≡ Err fault → (fault ≡ NoRaster → ⊥) → o ≡ Some fault
+fault_reported None (Ok done) fault answers is other = absurd (failed_alone fault done (sym is))
+fault_reported None (Err f) fault answers is other = absurd (other (sym (same_fault f fault is) ∙ answers))
+fault_reported (Some f) r fault answers is other = ap Some (same_fault f fault (sym answers ∙ is))
 
-pub makes_content : {T : Type 0} (words : TapWords) (mode : Mode) (frames : List Frame) (r : Result T RasterFault) (done : T) (text : List ℕ) (o : Outcome) → content_reads_as text ≡ accepts (mode, frames)
+pub makes_content : {T : Type 0} (words : TapWords) (mode : Mode) (frames : List Frame) (r : Result T RasterFault) (done : T) (text : List ℕ) (o : RunOutcome) → content_reads_as text ≡ accepts (mode, frames)
     → AnswersRasterFault (raster_fault mode frames) r → r ≡ Ok done → MakesStream Spells (tap_asked words) (raster_of mode frames) o → Does (MakeContent words) text o
 makes_content words mode frames r done text o read answers ok made =
     subst (λ x. MakesContent (tap_asked words) x o) (sym read)
-    (subst (λ f. MakesRaster (tap_asked words) mode frames f o) (sym (raster_told (raster_fault mode frames) r done answers ok)) made)
+    (subst (λ f. MakesRaster (tap_asked words) mode frames f o) (sym (raster_reported (raster_fault mode frames) r done answers ok)) made)
 
 pub made_fault : {T : Type 0} (text : List ℕ) (mode : Mode) (frames : List Frame) (r : Result T RasterFault) (fault : RasterFault) → content_reads_as text ≡ accepts (mode, frames)
     → AnswersRasterFault (raster_fault mode frames) r → r ≡ Err fault → (fault ≡ NoRaster → ⊥) → HasNoRaster text fault
-made_fault text mode frames r fault read answers err other = record { mode = mode; frames = frames; read = read; fault_is = fault_told (raster_fault mode frames) r fault answers err other }
+made_fault text mode frames r fault read answers err other = record { mode = mode; frames = frames; read = read; fault_is = fault_reported (raster_fault mode frames) r fault answers err other }
 
 raster_refused : (words : TapWords) (fault : RasterFault) (before after : Devices) (text : List ℕ) → HasNoRaster text fault → after.held ≡ before.held → IsAnswered (MakeContent words) (Raster fault) before after text
 raster_refused words fault before after text none kept = record {
@@ -276,13 +276,13 @@ pub raster_ends : (words : TapWords) (fault : RasterFault) (before after : Devic
     → Ends (MakeContent words) (raster_ending fault) before after
 raster_ends words NoRaster before after none kept = (kept_held before.held after.held kept, λ reads. absurd reads)
 raster_ends words (BadMode i) before after none kept =
-    (kept_held before.held after.held kept, λ text told. raster_refused words (BadMode i) before after text (none (mode_is_other i) text told) kept)
+    (kept_held before.held after.held kept, λ text reported. raster_refused words (BadMode i) before after text (none (mode_is_other i) text reported) kept)
 raster_ends words (Row f n) before after none kept =
-    (kept_held before.held after.held kept, λ text told. raster_refused words (Row f n) before after text (none (row_is_other f n) text told) kept)
+    (kept_held before.held after.held kept, λ text reported. raster_refused words (Row f n) before after text (none (row_is_other f n) text reported) kept)
 raster_ends words (NoRoom f p) before after none kept =
-    (kept_held before.held after.held kept, λ text told. raster_refused words (NoRoom f p) before after text (none (room_is_other f p) text told) kept)
+    (kept_held before.held after.held kept, λ text reported. raster_refused words (NoRoom f p) before after text (none (room_is_other f p) text reported) kept)
 raster_ends words Long before after none kept =
-    (kept_held before.held after.held kept, λ text told. raster_refused words Long before after text (none long_is_other text told) kept)
+    (kept_held before.held after.held kept, λ text reported. raster_refused words Long before after text (none long_is_other text reported) kept)
 
 -- `damage`
 
@@ -299,15 +299,15 @@ pub record Damaged (hits : List Hit) (before after : Devices) (r : Result (Unit 
 
 -- the header that was taken is that of the bytes
 misplaced : (hits : List Hit) (left rest : Option (List ℕ)) (bytes : List ℕ) (i : ℕ) → left ≡ Some bytes → IsMisplacedLane left rest hits i → IsMisplacedIn bytes hits i
-misplaced hits left rest bytes i told h =
-    let c = consumed left rest bytes h.head told h.took in
+misplaced hits left rest bytes i reported h =
+    let c = consumed left rest bytes h.head reported h.took in
     record { head = h.head; tail = c.0; counts = h.counts; headed = h.headed; bytes_are = c.1; first = h.first }
 
 pub damaged : (words : List DamageWord) (r : Result (Unit {0}) DamageError) (before after : Devices)
     → Damaged (map hit_asked words) before after r → Ends (Damage words) (damage_ending r) before after
 damaged words (Ok done) before after it = (
   it.ended,
-  λ bytes told. let whole = it.done bytes told in record {
+  λ bytes reported. let whole = it.done bytes reported in record {
     outcome = record { status = 0; output = whole.0; note = [] };
     does = inl (whole.0, whole.1, refl);
     status = refl;
@@ -317,7 +317,7 @@ damaged words (Ok done) before after it = (
 )
 damaged words (Err (damages.Bad fault)) before after it = (
   λ last. absurd last,
-  λ bytes told. let bad = it.bad bytes told in record {
+  λ bytes reported. let bad = it.bad bytes reported in record {
     outcome = record { status = 3; output = bad.0; note = capture_note fault };
     does = inr (inr (fault, bad.0, bad.1, refl));
     status = refl;
@@ -328,9 +328,9 @@ damaged words (Err (damages.Bad fault)) before after it = (
 damaged words (Err (damages.Place i)) before after it =
     let p = it.place i refl in (
       p.1,
-      λ bytes told. record {
+      λ bytes reported. record {
         outcome = record { status = 3; output = []; note = place_note i };
-        does = inr (inl (i, misplaced (map hit_asked words) before.left after.left bytes i told p.0, refl));
+        does = inr (inl (i, misplaced (map hit_asked words) before.left after.left bytes i reported p.0, refl));
         status = refl;
         note = refl;
         written = nothing_written before.held after.held p.1;
@@ -379,7 +379,7 @@ pair_of_line words pair named = let few = named.means.1.1 in omega (arith, few)
 -- `sample`
 
 pub sample_answers : (frames : ℕ) (before after : Devices) → IsSampleWhole frames before.held after.held → Answers (Sample frames) Done before after
-sample_answers frames before after is text told = record {
+sample_answers frames before after is text reported = record {
   outcome = record { status = 0; output = counts_text is.counts; note = [] };
   does = (is.counts, is.sampled, refl);
   status = refl;
@@ -418,7 +418,7 @@ memory_is_no_write e = cc
 pub slipped_ends : (slip : SlipWord) (r : Result (Unit {0}) SlipError) (before after : Devices) → Slipped slip before after r → Ends (Slip slip) (slip_ending r) before after
 slipped_ends slip (Ok done) before after it = (
   it.ended,
-  λ bytes told. let whole = it.done bytes told in record {
+  λ bytes reported. let whole = it.done bytes reported in record {
     outcome = record { status = 0; output = whole.0; note = [] };
     does = inl (whole.0, whole.1, refl);
     status = refl;
@@ -429,7 +429,7 @@ slipped_ends slip (Ok done) before after it = (
 slipped_ends slip (Err (slips.Bad fault)) before after it =
     let kept = it.unwritten (bad_is_no_write fault) in (
       λ last. kept,
-      λ bytes told. let bad = it.bad bytes told in record {
+      λ bytes reported. let bad = it.bad bytes reported in record {
         outcome = record { status = 3; output = []; note = capture_note fault };
         does = inr (inr (fault, bad.0, bad.1, refl));
         status = refl;
@@ -441,7 +441,7 @@ slipped_ends slip (Err slips.Place) before after it =
     let kept = it.unwritten place_is_no_write in
     let p = it.place refl in (
       kept,
-      λ bytes told. let c = consumed before.left after.left bytes p.head told p.took in record {
+      λ bytes reported. let c = consumed before.left after.left bytes p.head reported p.took in record {
         outcome = record { status = 3; output = []; note = place_note 0 };
         does = inr (inl ((p.head, p.counts, c.0, p.headed, c.1, p.past), refl));
         status = refl;
@@ -452,7 +452,7 @@ slipped_ends slip (Err slips.Place) before after it =
 slipped_ends slip (Err slips.Read) before after it = (it.read_cause refl, it.unwritten read_is_no_write)
 slipped_ends slip (Err slips.Write) before after it = (
   it.write_cause refl,
-  λ bytes told. let part = (it.part bytes told refl).0 in record {
+  λ bytes reported. let part = (it.part bytes reported refl).0 in record {
     outcome = record { status = 0; output = part.whole; note = [] };
     gone = part.gone;
     does = inl (part.whole, part.slips, refl);
@@ -475,7 +475,7 @@ pub record FramesListed (before after : Devices) (r : Result (Unit {0}) BiphaseE
 pub frames_end : (r : Result (Unit {0}) BiphaseError) (before after : Devices) → FramesListed before after r → Ends ReadBiphase (frames_ending r) before after
 frames_end (Ok done) before after it = (
   it.ended,
-  λ bytes told. let l = it.whole bytes told in record {
+  λ bytes reported. let l = it.whole bytes reported in record {
     outcome = record { status = 0; output = frames_text l.samples ++ codes "end\n"; note = [] };
     does = inl (l.samples, l.stream, refl);
     status = refl;
@@ -485,7 +485,7 @@ frames_end (Ok done) before after it = (
 )
 frames_end (Err (biphases.Bad fault)) before after it = (
   λ last. absurd last,
-  λ bytes told. let l = it.stopped bytes told in record {
+  λ bytes reported. let l = it.stopped bytes reported in record {
     outcome = record { status = 3; output = frames_text l.samples; note = frames_note fault };
     does = inr (fault, l.samples, l.refused, refl);
     status = refl;

@@ -8,7 +8,7 @@ use Rattle.outside_io.specs.declared.NoMemory.{NoMemory as NoMemoryAnswer}
 use Rattle.command_line.specs.Commands.{IsCommand}
 use Rattle.command_line.proofs.OneCommand.{command_once}
 use Rattle.hdmi_cli.specs.Notes.{usage_note, memory_note}
-use Rattle.hdmi_cli.specs.Outcome.{Outcome, IsOutcome, NamesNone}
+use Rattle.hdmi_cli.specs.Outcome.{RunOutcome, IsOutcome, NamesNone}
 use Rattle.hdmi_cli.specs.Manners.{ReadsInput, WritesLast, WritesOn}
 use Rattle.hdmi_cli.specs.Endings.{Devices, Answers, Ends, RunEnds, RunUnread, RunUnwritten, status_of, note_of}
 use Rattle.hdmi_cli.specs.Runs.{IsNoteOf}
@@ -25,12 +25,12 @@ pub record Says (words : List (List ℕ)) (before after : Devices) (status : ℕ
   pub outcome :
       (text : List ℕ) → before.left ≡ Some text
       → Rose before.input_faults after.input_faults ⊎ Rose before.output_faults after.output_faults ⊎ (status ≡ 6)
-      ⊎ ((o : Outcome) × IsOutcome words text o × (status ≡ o.status))
+      ⊎ ((o : RunOutcome) × IsOutcome words text o × (status ≡ o.status))
   pub usage : status ≡ 2 → NamesNone words
   pub unnamed : NamesNone words → (status ≡ 2) ⊎ (status ≡ 6)
   pub done :
       Contains (0 ∷ 1 ∷ 3 ∷ 7 ∷ []) status → (text : List ℕ) → before.left ≡ Some text
-      → (o : Outcome) × IsOutcome words text o × (o.status ≡ status) × Appends before.held after.held o.output
+      → (o : RunOutcome) × IsOutcome words text o × (o.status ≡ status) × Appends before.held after.held o.output
   pub read_failed : status ≡ 4 → Rose before.input_faults after.input_faults
   pub write_failed : status ≡ 5 → Rose before.output_faults after.output_faults
   pub memory : status ≡ 6 → (command : Command) → IsCommand words command → WritesOn command → Keeps before.left after.left
@@ -58,31 +58,31 @@ second false c h = cc
 -- what an ending with an outcome says
 answered : (words : List (List ℕ)) (command : Command) (e : Ending) (before after : Devices) → IsCommand words command → Answers command e before after
     → (text : List ℕ) → before.left ≡ Some text
-    → (o : Outcome) × IsOutcome words text o × (o.status ≡ status_of e) × (o.note ≡ note_of e) × Appends before.held after.held o.output
-answered words command e before after named answers text told =
-    let a = answers text told in
+    → (o : RunOutcome) × IsOutcome words text o × (o.status ≡ status_of e) × (o.note ≡ note_of e) × Appends before.held after.held o.output
+answered words command e before after named answers text reported =
+    let a = answers text reported in
     (a.outcome, inl (command, named, a.does), a.status, a.note, a.written)
 
 known_at : (words : List (List ℕ)) (command : Command) (e : Ending) (before after : Devices) → IsCommand words command → Answers command e before after
     → (text : List ℕ) → before.left ≡ Some text
     → Rose before.input_faults after.input_faults ⊎ Rose before.output_faults after.output_faults ⊎ (status_of e ≡ 6)
-    ⊎ ((o : Outcome) × IsOutcome words text o × (status_of e ≡ o.status))
-known_at words command e before after named answers text told =
-    let a = answered words command e before after named answers text told in
+    ⊎ ((o : RunOutcome) × IsOutcome words text o × (status_of e ≡ o.status))
+known_at words command e before after named answers text reported =
+    let a = answered words command e before after named answers text reported in
     inr (inr (inr (a.0, a.1, sym a.2)))
 
 written_at : (words : List (List ℕ)) (command : Command) (e : Ending) (before after : Devices) → IsCommand words command → Answers command e before after
     → (text : List ℕ) → before.left ≡ Some text
-    → (o : Outcome) × IsOutcome words text o × (o.status ≡ status_of e) × Appends before.held after.held o.output
-written_at words command e before after named answers text told =
-    let a = answered words command e before after named answers text told in
+    → (o : RunOutcome) × IsOutcome words text o × (o.status ≡ status_of e) × Appends before.held after.held o.output
+written_at words command e before after named answers text reported =
+    let a = answered words command e before after named answers text reported in
     (a.0, a.1, a.2, a.4)
 
 noted_at : (words : List (List ℕ)) (command : Command) (e : Ending) (before after : Devices) → IsCommand words command → Answers command e before after
     → status_of e ≡ 3 → (text : List ℕ) → before.left ≡ Some text
-    → (o : Outcome) × IsOutcome words text o × (o.status ≡ 3) × (note_of e ≡ o.note)
-noted_at words command e before after named answers three text told =
-    let a = answered words command e before after named answers text told in
+    → (o : RunOutcome) × IsOutcome words text o × (o.status ≡ 3) × (note_of e ≡ o.note)
+noted_at words command e before after named answers three text reported =
+    let a = answered words command e before after named answers text reported in
     (a.0, a.1, a.2 ∙ three, sym a.3)
 
 same : (x n : ℕ) → x ≡ n → (x == n) ≡ true
@@ -206,7 +206,7 @@ command_says words command Unaligned before after named reads ends = record {
 }
 command_says words command ReadFailed before after named reads ends = record {
   known = (4, omega arith, refl);
-  outcome = λ text told. inl ends.0;
+  outcome = λ text reported. inl ends.0;
   usage = λ h. absurd (omega arith);
   unnamed = λ none. absurd (none command named);
   done = λ h. absurd (none_of (0 ∷ 1 ∷ 3 ∷ 7 ∷ []) 4 refl h);
@@ -224,7 +224,7 @@ command_says words command ReadFailed before after named reads ends = record {
 }
 command_says words command WriteFailed before after named reads ends = record {
   known = (5, omega arith, refl);
-  outcome = λ text told. inr (inl ends.0);
+  outcome = λ text reported. inr (inl ends.0);
   usage = λ h. absurd (omega arith);
   unnamed = λ none. absurd (none command named);
   done = λ h. absurd (none_of (0 ∷ 1 ∷ 3 ∷ 7 ∷ []) 5 refl h);
@@ -242,7 +242,7 @@ command_says words command WriteFailed before after named reads ends = record {
 }
 command_says words command NoMemory before after named reads ends = record {
   known = (6, omega arith, refl);
-  outcome = λ text told. inr (inr (inl refl));
+  outcome = λ text reported. inr (inr (inl refl));
   usage = λ h. absurd (omega arith);
   unnamed = λ none. absurd (none command named);
   done = λ h. absurd (none_of (0 ∷ 1 ∷ 3 ∷ 7 ∷ []) 6 refl h);
@@ -264,7 +264,7 @@ command_says words command Usage before after named reads ends = absurd ends
 none_says : (words : List (List ℕ)) (before after : Devices) → NamesNone words → Keeps before.left after.left → Keeps before.held after.held → Says words before after 2 usage_note
 none_says words before after none left held = record {
   known = (2, omega arith, refl);
-  outcome = λ text told. inr (inr (inr (record { status = 2; output = []; note = usage_note }, inr (none, refl), refl)));
+  outcome = λ text reported. inr (inr (inr (record { status = 2; output = []; note = usage_note }, inr (none, refl), refl)));
   usage = λ h. none;
   unnamed = λ h. inl refl;
   done = λ h. absurd (none_of (0 ∷ 1 ∷ 3 ∷ 7 ∷ []) 2 refl h);
@@ -285,7 +285,7 @@ none_says words before after none left held = record {
 unread_says : (words : List (List ℕ)) (before after : Devices) → Keeps before.left after.left → Keeps before.held after.held → Says words before after 6 memory_note
 unread_says words before after left held = record {
   known = (6, omega arith, refl);
-  outcome = λ text told. inr (inr (inl refl));
+  outcome = λ text reported. inr (inr (inl refl));
   usage = λ h. absurd (omega arith);
   unnamed = λ none. inr refl;
   done = λ h. absurd (none_of (0 ∷ 1 ∷ 3 ∷ 7 ∷ []) 6 refl h);
@@ -325,7 +325,7 @@ sample_says words frames Done before after named left ends = record {
 }
 sample_says words frames WriteFailed before after named left ends = record {
   known = (5, omega arith, refl);
-  outcome = λ text told. inr (inl ends.0);
+  outcome = λ text reported. inr (inl ends.0);
   usage = λ h. absurd (omega arith);
   unnamed = λ none. absurd (none (Sample frames) named);
   done = λ h. absurd (none_of (0 ∷ 1 ∷ 3 ∷ 7 ∷ []) 5 refl h);

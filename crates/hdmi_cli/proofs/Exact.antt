@@ -7,16 +7,16 @@ use Rattle.tmds_word.specs.Column.{Column}
 use Rattle.lane_deskew.specs.Triples.{IsFirst}
 use Rattle.lane_deskew.specs.Aligned.{aligned_columns}
 use Rattle.lane_deskew.proofs.First.{one_first}
-use Rattle.period_grammar.specs.Things.{Thing}
+use Rattle.period_grammar.specs.Events.{Event}
 use Rattle.period_grammar.specs.Heard.{heard}
 use Rattle.period_grammar.specs.Exact.{IsFront, whole_part}
-use Rattle.link_sink.specs.Alignment.{IsAlignedTold}
+use Rattle.link_sink.specs.Alignment.{IsAlignedReported}
 use Rattle.link_sink.specs.Grammar.{link_grammar}
-use Rattle.listing.specs.Texts.{fault_lines}
-use Rattle.listing.specs.Checks.{check_text}
-use Rattle.listing.proofs.Exact.{count_is_exact, verdict_is_exact}
+use Rattle.listing_writer.specs.Texts.{fault_lines}
+use Rattle.listing_writer.specs.Checks.{check_text}
+use Rattle.listing_laws.proofs.Exact.{count_is_exact, verdict_is_exact}
 use Rattle.command_line.specs.Commands.{IsCommand}
-use Rattle.hdmi_cli.specs.Outcome.{Outcome, ListsLanes, ListsCapture, Does, IsOutcome, status_with}
+use Rattle.hdmi_cli.specs.Outcome.{RunOutcome, ListsLanes, ListsCapture, Does, IsOutcome, status_with}
 use Rattle.hdmi_cli.specs.Endings.{Devices}
 use Rattle.hdmi_cli.specs.Listings.{check_listing}
 use Rattle.hdmi_cli.specs.Exact.{IsAlignedCapture, IsJudged}
@@ -27,38 +27,38 @@ use Rattle.hdmi_cli.proofs.Ends.{Says}
 use Rattle.capture_file.specs.Laws.{AreSame}
 use Rattle.capture_file.proofs.OneCapture.{one_capture, no_fault}
 
-check_does : (words : List (List ℕ)) (bytes : List ℕ) (o : Outcome) → IsCommand words Check → IsOutcome words bytes o → ListsCapture link_grammar check_listing bytes o
+check_does : (words : List (List ℕ)) (bytes : List ℕ) (o : RunOutcome) → IsCommand words Check → IsOutcome words bytes o → ListsCapture link_grammar check_listing bytes o
 check_does words bytes o named (inl (command, other, does)) = subst (λ (c : Command). Does c bytes o) (command_once words command Check other named) does
 check_does words bytes o named (inr (none, is)) = absurd (none Check named)
 
 -- The outcome of aligned lanes.
 
-record IsCheckOf (cs : List Column) (o : Outcome) : Type 0 where
+record IsCheckOf (cs : List Column) (o : RunOutcome) : Type 0 where
   status : o.status ≡ status_with (fault_lines (heard cs))
   output : o.output ≡ check_text (heard cs)
 
-told_check : (blue green red : List Bool) (d e f columns : ℕ) (things : List Thing) (o : Outcome) → IsFirst blue green red d e f → IsAlignedTold blue green red columns things
-    → o ≡ record { status = status_with (fault_lines things); output = check_text things; note = [] } → IsCheckOf (aligned_columns blue green red d e f) o
-told_check blue green red d e f columns things o first told is =
-    let one = one_first blue green red told.d told.e told.f d e f told.first first in
-    let same : aligned_columns blue green red told.d told.e told.f ≡ aligned_columns blue green red d e f =
-    ap (λ n. aligned_columns blue green red n told.e told.f) one.0 ∙ ap₂ (λ m n. aligned_columns blue green red d m n) one.1 one.2 in
-    let things_are : things ≡ heard (aligned_columns blue green red d e f) = told.told ∙ ap heard same in
+reported_check : (blue green red : List Bool) (d e f columns : ℕ) (events : List Event) (o : RunOutcome) → IsFirst blue green red d e f → IsAlignedReported blue green red columns events
+    → o ≡ record { status = status_with (fault_lines events); output = check_text events; note = [] } → IsCheckOf (aligned_columns blue green red d e f) o
+reported_check blue green red d e f columns events o first reported is =
+    let one = one_first blue green red reported.d reported.e reported.f d e f reported.first first in
+    let same : aligned_columns blue green red reported.d reported.e reported.f ≡ aligned_columns blue green red d e f =
+    ap (λ n. aligned_columns blue green red n reported.e reported.f) one.0 ∙ ap₂ (λ m n. aligned_columns blue green red d m n) one.1 one.2 in
+    let events_are : events ≡ heard (aligned_columns blue green red d e f) = reported.reported ∙ ap heard same in
     record {
-      status = ap (λ (p : Outcome). p.status) is ∙ ap (λ ts. status_with (fault_lines ts)) things_are;
-      output = ap (λ (p : Outcome). p.output) is ∙ ap check_text things_are;
+      status = ap (λ (p : RunOutcome). p.status) is ∙ ap (λ ts. status_with (fault_lines ts)) events_are;
+      output = ap (λ (p : RunOutcome). p.output) is ∙ ap check_text events_are;
     }
 
-lanes_check : (blue green red : List Bool) (d e f : ℕ) (o : Outcome) → IsFirst blue green red d e f → ListsLanes link_grammar check_listing blue green red o → IsCheckOf (aligned_columns blue green red d e f) o
-lanes_check blue green red d e f o first (inl (columns, things, told, is)) = told_check blue green red d e f columns things o first told is
-lanes_check blue green red d e f o first (inr (columns, things, nowhere, is)) = absurd (nowhere.nowhere d e f first.triple)
+lanes_check : (blue green red : List Bool) (d e f : ℕ) (o : RunOutcome) → IsFirst blue green red d e f → ListsLanes link_grammar check_listing blue green red o → IsCheckOf (aligned_columns blue green red d e f) o
+lanes_check blue green red d e f o first (inl (columns, events, reported, is)) = reported_check blue green red d e f columns events o first reported is
+lanes_check blue green red d e f o first (inr (columns, events, nowhere, is)) = absurd (nowhere.nowhere d e f first.triple)
 
-same_lanes : (x y z u v w : List Bool) (o : Outcome) → AreSame x y z u v w → ListsLanes link_grammar check_listing u v w o → ListsLanes link_grammar check_listing x y z o
+same_lanes : (x y z u v w : List Bool) (o : RunOutcome) → AreSame x y z u v w → ListsLanes link_grammar check_listing u v w o → ListsLanes link_grammar check_listing x y z o
 same_lanes x y z u v w o same h =
     subst (λ a. ListsLanes link_grammar check_listing a y z o) (sym same.blue)
     (subst (λ b. ListsLanes link_grammar check_listing u b z o) (sym same.green) (subst (λ c. ListsLanes link_grammar check_listing u v c o) (sym same.red) h))
 
-capture_check : (blue green red : List Bool) (d e f : ℕ) (bytes : List ℕ) (o : Outcome) → IsAlignedCapture blue green red d e f bytes → ListsCapture link_grammar check_listing bytes o
+capture_check : (blue green red : List Bool) (d e f : ℕ) (bytes : List ℕ) (o : RunOutcome) → IsAlignedCapture blue green red d e f bytes → ListsCapture link_grammar check_listing bytes o
     → IsCheckOf (aligned_columns blue green red d e f) o
 capture_check blue green red d e f bytes o c (inl (x, y, z, is, lists)) =
     lanes_check blue green red d e f o c.first (same_lanes blue green red x y z o (one_capture blue green red x y z bytes c.captured is) lists)
@@ -86,7 +86,7 @@ JudgedUnless cs status before after =
 
 by_outcome : (words : List (List ℕ)) (before after : Devices) (status : ℕ) (note : List ℕ) → Says words before after status note → IsCommand words Check
     → (blue green red : List Bool) (d e f : ℕ) (bytes : List ℕ) → IsAlignedCapture blue green red d e f bytes → before.left ≡ Some bytes
-    → Rose before.input_faults after.input_faults ⊎ Rose before.output_faults after.output_faults ⊎ (status ≡ 6) ⊎ ((o : Outcome) × IsOutcome words bytes o × (status ≡ o.status))
+    → Rose before.input_faults after.input_faults ⊎ Rose before.output_faults after.output_faults ⊎ (status ≡ 6) ⊎ ((o : RunOutcome) × IsOutcome words bytes o × (status ≡ o.status))
     → JudgedUnless (aligned_columns blue green red d e f) status before after
 by_outcome words before after status note says named blue green red d e f bytes c left (inl rose) = inl rose
 by_outcome words before after status note says named blue green red d e f bytes c left (inr (inl rose)) = inr (inl rose)

@@ -7,18 +7,18 @@ use Rattle.lane_deskew.specs.Triples.{IsFirst}
 use Rattle.lane_deskew.specs.Aligned.{aligned_columns}
 use Rattle.lane_deskew.proofs.First.{one_first}
 use Rattle.island_pack.specs.Sparse.{IsSparseInPayload}
-use Rattle.period_grammar.specs.Things.{Thing}
+use Rattle.period_grammar.specs.Events.{Event}
 use Rattle.link_sink.specs.Grammar.{Grammar, link_grammar}
-use Rattle.link_sink.specs.Account.{account}
+use Rattle.link_laws.specs.Account.{account}
 use Rattle.link_sink.specs.Alignment.{IsAlignedBy}
-use Rattle.dvi_hearing.specs.DviAccount.{dvi_account}
+use Rattle.dvi_laws.specs.DviAccount.{dvi_account}
 use Rattle.dvi_hearing.specs.DviGrammar.{dvi_grammar}
-use Rattle.dvi_hearing.proofs.Tapped.{tap_accounted as dvi_tap_accounted}
-use Rattle.link_sink.specs.Laws.{IsAccounted, BeginColumn}
-use Rattle.link_sink.proofs.Tapped.{payload_accounted, tap_accounted}
+use Rattle.dvi_laws.proofs.Tapped.{tap_accounted as dvi_tap_accounted}
+use Rattle.link_laws.specs.Laws.{IsAccounted, BeginColumn}
+use Rattle.link_laws.proofs.Tapped.{payload_accounted, tap_accounted}
 use Rattle.hdmi_cli.specs.Listings.{Listing as ListingOf, link_listing}
 use Rattle.command_line.specs.Commands.{IsCommand}
-use Rattle.hdmi_cli.specs.Outcome.{Outcome, ListsLanes, ListsCapture, Does, status_with}
+use Rattle.hdmi_cli.specs.Outcome.{RunOutcome, ListsLanes, ListsCapture, Does, status_with}
 use Rattle.hdmi_cli.specs.Headline.{TappedStream, IsTapped, AlignsBy, IsFirstOf, IsRecovered, IsRecoveredBy, IsDviTapped, IsDviRecovered, aligned_of}
 use Rattle.hdmi_cli.specs.Endings.{Devices, Answers, Ends, RunEnds, Unless, status_of}
 use Rattle.hdmi_cli.specs.Samples.{SampleEnds}
@@ -38,35 +38,35 @@ aligned_same x y z d e f p q r first other =
     ap (λ n. aligned_columns x y z n e f) one.0 ∙ ap₂ (λ m n. aligned_columns x y z p m n) one.1 one.2
 
 -- an outcome is the listing of some things
-pub record IsListingOf (listing : ListingOf) (all : List Thing) (o : Outcome) : Type 0 where
+pub record IsListingOf (listing : ListingOf) (all : List Event) (o : RunOutcome) : Type 0 where
   pub status : o.status ≡ status_with (listing.faults all)
   pub output : o.output ≡ listing.text all
 
-told_listing : (g : Grammar) (listing : ListingOf) (all : List Thing) (blue green red : List Bool) (d e f columns : ℕ) (things : List Thing) (o : Outcome)
-    → IsFirst blue green red d e f → g.whole (aligned_columns blue green red d e f) ≡ all → IsAlignedBy g blue green red columns things
-    → o ≡ record { status = status_with (listing.faults things); output = listing.text things; note = [] }
+reported_listing : (g : Grammar) (listing : ListingOf) (all : List Event) (blue green red : List Bool) (d e f columns : ℕ) (events : List Event) (o : RunOutcome)
+    → IsFirst blue green red d e f → g.whole (aligned_columns blue green red d e f) ≡ all → IsAlignedBy g blue green red columns events
+    → o ≡ record { status = status_with (listing.faults events); output = listing.text events; note = [] }
     → IsListingOf listing all o
-told_listing g listing all blue green red d e f columns things o first whole told is =
-    let same : aligned_columns blue green red told.d told.e told.f ≡ aligned_columns blue green red d e f =
-    aligned_same blue green red told.d told.e told.f d e f told.first first in
-    let things_are : things ≡ all = told.told ∙ ap g.whole same ∙ whole in
+reported_listing g listing all blue green red d e f columns events o first whole reported is =
+    let same : aligned_columns blue green red reported.d reported.e reported.f ≡ aligned_columns blue green red d e f =
+    aligned_same blue green red reported.d reported.e reported.f d e f reported.first first in
+    let events_are : events ≡ all = reported.reported ∙ ap g.whole same ∙ whole in
     record {
-      status = ap (λ (p : Outcome). p.status) is ∙ ap (λ ts. status_with (listing.faults ts)) things_are;
-      output = ap (λ (p : Outcome). p.output) is ∙ ap listing.text things_are;
+      status = ap (λ (p : RunOutcome). p.status) is ∙ ap (λ ts. status_with (listing.faults ts)) events_are;
+      output = ap (λ (p : RunOutcome). p.output) is ∙ ap listing.text events_are;
     }
 
-lanes_listing : (g : Grammar) (listing : ListingOf) (all : List Thing) (blue green red : List Bool) (d e f : ℕ) (o : Outcome)
+lanes_listing : (g : Grammar) (listing : ListingOf) (all : List Event) (blue green red : List Bool) (d e f : ℕ) (o : RunOutcome)
     → IsFirst blue green red d e f → g.whole (aligned_columns blue green red d e f) ≡ all → ListsLanes g listing blue green red o → IsListingOf listing all o
-lanes_listing g listing all blue green red d e f o first whole (inl (columns, things, told, is)) =
-    told_listing g listing all blue green red d e f columns things o first whole told is
-lanes_listing g listing all blue green red d e f o first whole (inr (columns, things, nowhere, is)) = absurd (nowhere.nowhere d e f first.triple)
+lanes_listing g listing all blue green red d e f o first whole (inl (columns, events, reported, is)) =
+    reported_listing g listing all blue green red d e f columns events o first whole reported is
+lanes_listing g listing all blue green red d e f o first whole (inr (columns, events, nowhere, is)) = absurd (nowhere.nowhere d e f first.triple)
 
-same_lanes : (g : Grammar) (listing : ListingOf) (x y z u v w : List Bool) (o : Outcome) → AreSame x y z u v w → ListsLanes g listing u v w o → ListsLanes g listing x y z o
+same_lanes : (g : Grammar) (listing : ListingOf) (x y z u v w : List Bool) (o : RunOutcome) → AreSame x y z u v w → ListsLanes g listing u v w o → ListsLanes g listing x y z o
 same_lanes g listing x y z u v w o same h =
     subst (λ a. ListsLanes g listing a y z o) (sym same.blue) (subst (λ b. ListsLanes g listing u b z o) (sym same.green) (subst (λ c. ListsLanes g listing u v c o) (sym same.red) h))
 
 -- the capture of such lanes is recovered so
-pub capture_listing : (g : Grammar) (listing : ListingOf) (all : List Thing) (blue green red : List Bool) (d e f : ℕ) (bytes : List ℕ) (o : Outcome)
+pub capture_listing : (g : Grammar) (listing : ListingOf) (all : List Event) (blue green red : List Bool) (d e f : ℕ) (bytes : List ℕ) (o : RunOutcome)
     → IsCaptureOf blue green red bytes → IsFirst blue green red d e f → g.whole (aligned_columns blue green red d e f) ≡ all → ListsCapture g listing bytes o
     → IsListingOf listing all o
 capture_listing g listing all blue green red d e f bytes o captured first whole (inl (x, y, z, is, recovers)) =
@@ -77,13 +77,13 @@ capture_listing g listing all blue green red d e f bytes o captured first whole 
 
 -- what a run says of it
 answered : (listing : ListingOf) (command : Command) (t : TappedStream) (a d e f : ℕ) (ending : Ending) (before after : Devices)
-    → ((o : Outcome) → Does command t.bytes o → ListsCapture link_grammar listing t.bytes o) → IsTapped t → IsFirstOf t d e f → IsAccounted t.periods t.sent t.received (aligned_of t d e f) a
+    → ((o : RunOutcome) → Does command t.bytes o → ListsCapture link_grammar listing t.bytes o) → IsTapped t → IsFirstOf t d e f → IsAccounted t.periods t.sent t.received (aligned_of t d e f) a
     → BeginColumn t.offset t.skews (a + 12) d e f → before.left ≡ Some t.bytes → Answers command ending before after
     → IsRecovered listing t d e f a (status_of ending) before.held after.held
 answered listing command t a d e f ending before after lists tapped first accounted begins left answers =
     let answer = answers t.bytes left in
     let all = account t.periods t.sent t.received a (length (aligned_of t d e f)) in
-    let is = capture_listing link_grammar listing all t.blue t.green t.red d e f t.bytes answer.outcome tapped.captured first accounted.told (lists answer.outcome answer.does) in
+    let is = capture_listing link_grammar listing all t.blue t.green t.red d e f t.bytes answer.outcome tapped.captured first accounted.reported (lists answer.outcome answer.does) in
     record {
       accounted = accounted;
       begins = begins;
@@ -142,20 +142,20 @@ run_ended P this words ending before after status (inr (inr (inl (none, usage, k
 run_ended P this words ending before after status (inr (inr (inr (unheld, kept, held)))) is named says = inr (inr (inl (is ∙ ap status_of unheld)))
 
 -- sparse damage of payload alone
-pub headlined : (listing : ListingOf) (this : Command) → ((t : TappedStream) → IsTapped t → (o : Outcome) → Does this t.bytes o → ListsCapture link_grammar listing t.bytes o) → (words : List (List ℕ)) (ending : Ending) (before after : Devices) (status : ℕ) → RunEnds words ending before after → status ≡ status_of ending → IsCommand words this
+pub headlined : (listing : ListingOf) (this : Command) → ((t : TappedStream) → IsTapped t → (o : RunOutcome) → Does this t.bytes o → ListsCapture link_grammar listing t.bytes o) → (words : List (List ℕ)) (ending : Ending) (before after : Devices) (status : ℕ) → RunEnds words ending before after → status ≡ status_of ending → IsCommand words this
     → (t : TappedStream) → IsTapped t → IsSparseInPayload t.periods t.sent t.received → (d e f : ℕ) → IsFirstOf t d e f → before.left ≡ Some t.bytes
     → Unless (λ s old new. (a : ℕ) × IsRecovered listing t d e f a s old new) status before after
 headlined listing this lists words ending before after status ends is named t tapped alone d e f first left =
-    let law = payload_accounted t.periods t.sent t.received tapped.came alone t.offset t.skews t.counts t.blue t.green t.red tapped.tap tapped.small d e f first in
+    let law = payload_accounted t.periods t.sent t.received tapped.reception alone t.offset t.skews t.counts t.blue t.green t.red tapped.tap tapped.small d e f first in
     run_ended (λ s old new. (a : ℕ) × IsRecovered listing t d e f a s old new) this words ending before after status ends is named
     (λ answers. (law.0, answered listing this t law.0 d e f ending before after (lists t tapped) tapped first law.1 law.2 left answers))
 
 -- and damage anywhere that spares control and guard words until a column
-pub headlined_anywhere : (listing : ListingOf) (this : Command) → ((t : TappedStream) → IsTapped t → (o : Outcome) → Does this t.bytes o → ListsCapture link_grammar listing t.bytes o) → (words : List (List ℕ)) (ending : Ending) (before after : Devices) (status : ℕ) → RunEnds words ending before after → status ≡ status_of ending → IsCommand words this
+pub headlined_anywhere : (listing : ListingOf) (this : Command) → ((t : TappedStream) → IsTapped t → (o : RunOutcome) → Does this t.bytes o → ListsCapture link_grammar listing t.bytes o) → (words : List (List ℕ)) (ending : Ending) (before after : Devices) (status : ℕ) → RunEnds words ending before after → status ≡ status_of ending → IsCommand words this
     → (t : TappedStream) → IsTapped t → (until : ℕ) → AlignsBy t until → before.left ≡ Some t.bytes
     → Unless (IsRecoveredBy listing t until) status before after
 headlined_anywhere listing this lists words ending before after status ends is named t tapped until aligns left =
-    let law = tap_accounted t.periods t.sent t.received tapped.came t.offset t.skews t.counts t.blue t.green t.red tapped.tap tapped.small until aligns in
+    let law = tap_accounted t.periods t.sent t.received tapped.reception t.offset t.skews t.counts t.blue t.green t.red tapped.tap tapped.small until aligns in
     run_ended (IsRecoveredBy listing t until) this words ending before after status ends is named
     (λ answers. (law.0, law.1, law.2, law.3, (law.4.0, law.4.1, answered listing this t law.4.0 law.0 law.1 law.2 ending before after (lists t tapped) tapped law.3 law.4.2 law.4.3 left answers)))
 
@@ -169,7 +169,7 @@ dvi_headlined words ending before after status ends is named t tapped d e f firs
     (λ answers.
     let answer = answers t.bytes left in
     let all = dvi_account t.periods t.sent t.received law.0 (length (aligned_of t d e f)) in
-    let is = capture_listing dvi_grammar link_listing all t.blue t.green t.red d e f t.bytes answer.outcome tapped.captured first law.1.told answer.does in (
+    let is = capture_listing dvi_grammar link_listing all t.blue t.green t.red d e f t.bytes answer.outcome tapped.captured first law.1.reported answer.does in (
       law.0,
       record {
         accounted = law.1;

@@ -10,24 +10,24 @@ use Rattle.capture_file.specs.declared.fault.CaptureFault.{CaptureFault}
 use Rattle.capture_file.specs.declared.fault.CaptureError.{CaptureError}
 use Rattle.capture_file.specs.declared.fault.CaptureError.TheVariants.{Bad as Failed, Read as Unread}
 use Rattle.capture_file.proofs.Marks.{consumed}
-use Rattle.period_grammar.specs.Things.{Thing}
-use Rattle.link_sink.specs.Ears.{StopsIn as StopsAtThing, IsHeardSoFar, IsBroken}
+use Rattle.period_grammar.specs.Events.{Event}
+use Rattle.link_sink.specs.Ears.{StopsIn as StopsAtEvent, IsHeardSoFar, IsBroken}
 use Rattle.link_sink.specs.Pieces.{no_bits}
 use Rattle.link_sink.specs.Grammar.{Grammar}
-use Rattle.link_sink.specs.Sinks.{Fed, grown, IsGainBy, IsLastBy, IsToldBy}
+use Rattle.link_sink.specs.Sinks.{Fed, grown, IsGainBy, IsLastBy, IsReportedBy}
 use Rattle.link_sink.specs.Streams.{LaneSinkSeen, StandsBy}
 use Rattle.link_sink.specs.declared.hear.Outcome.{Outcome as Hearing}
 use Rattle.link_sink.proofs.Following.{none_at_first}
 use Rattle.outside_io.specs.Causes.{Rose}
-use Rattle.link_sink.specs.Alignment.{AreToldBy}
+use Rattle.link_sink.specs.Alignment.{AreReportedBy}
 use Rattle.hdmi_cli.specs.Blocks.{AreBefore, AreRead, AreNext}
 use Rattle.hdmi_cli.specs.Hearings.{IsHeardSome, HasHeard, HasHeardAll, IsUntaken, StopsShort, IsCausedBy, refused_as}
 use Rattle.hdmi_cli.specs.declared.hearing.HearError.{HearError}
 use Rattle.hdmi_cli.specs.declared.hearing.HearError.TheVariants.{Bad, Read, Ear}
 
 -- an ear that takes one list after another takes both
-abbrev pub Joins : {A : Type 0} → (A → A → List Thing → Type 0) → Type 0
-Joins {A} took = (x y z : A) (h k : List Thing) → took x y h → took y z k → took x z (h ++ k)
+abbrev pub Joins : {A : Type 0} → (A → A → List Event → Type 0) → Type 0
+Joins {A} took = (x y z : A) (h k : List Event) → took x y h → took y z k → took x z (h ++ k)
 
 -- what a feed makes of the bits that were fed
 abbrev pub Adds : {H : Type 0} → (H → List Column → Type 0) → LaneSinkSeen H → LaneSinkSeen H → List ℕ → List ℕ → List ℕ → List ℕ → Type 0
@@ -42,23 +42,23 @@ pub at_its_length : (version : ℕ) (counts : List ℕ) (j : ℕ) (taken : List 
 at_its_length version counts j taken x y z h =
     record { head = h.head; headed = h.headed; count_x = h.count_x; count_y = h.count_y; count_z = h.count_z; taken_is = h.taken_is; place_is = refl }
 
-pub heard_more : {A H : Type 0} (g : Grammar) (goes_on : H → List Column → Type 0) (took : A → A → List Thing → Type 0) → Joins took → (version : ℕ) (counts : List ℕ) (j : ℕ) (from left0 left1 : Option (List ℕ)) (sink0 sink1 : LaneSinkSeen H) (a b d bits : List ℕ) (first old new : A)
+pub heard_more : {A H : Type 0} (g : Grammar) (goes_on : H → List Column → Type 0) (took : A → A → List Event → Type 0) → Joins took → (version : ℕ) (counts : List ℕ) (j : ℕ) (from left0 left1 : Option (List ℕ)) (sink0 sink1 : LaneSinkSeen H) (a b d bits : List ℕ) (first old new : A)
     → HasHeard g goes_on took version counts j from left0 sink0 first old → Consumes left0 left1 ((a ++ b) ++ d) → Lends version counts j a b d bits → Adds goes_on sink0 sink1 a b d bits
-    → ((fed : Fed) → StandsBy goes_on sink0 fed → (things : List Thing) × IsGainBy g fed (grown fed a b d bits) things × took old new things)
+    → ((fed : Fed) → StandsBy goes_on sink0 fed → (events : List Event) × IsGainBy g fed (grown fed a b d bits) events × took old new events)
     → HasHeard g goes_on took version counts (j + 1) from left1 sink1 first new
-heard_more g goes_on took both version counts j from left0 left1 sink0 sink1 a b d bits first old new h gone lent fed told =
-    let t = told h.fed h.sunk in
+heard_more g goes_on took both version counts j from left0 left1 sink0 sink1 a b d bits first old new h gone lent fed reported =
+    let t = reported h.fed h.sunk in
     record {
       taken = h.taken ++ ((a ++ b) ++ d);
       fed = grown h.fed a b d bits;
       consumed = Consumes-trans from left0 left1 h.taken ((a ++ b) ++ d) h.consumed gone;
       stands = lent h.taken h.fed.blue h.fed.green h.fed.red h.stands;
       sunk = fed h.fed h.sunk;
-      heard = record { things = h.heard.things ++ t.0; told = t.1 h.heard.things h.heard.told; taken = both first old new h.heard.things t.0 h.heard.taken t.2 };
+      heard = record { events = h.heard.events ++ t.0; reported = t.1 h.heard.events h.heard.reported; taken = both first old new h.heard.events t.0 h.heard.taken t.2 };
     }
 
 -- the same of a reader that says the same
-pub moved : {A H : Type 0} (g : Grammar) (goes_on : H → List Column → Type 0) (took : A → A → List Thing → Type 0) (version version' : ℕ) (counts counts' : List ℕ) (j j' : ℕ) (from left : Option (List ℕ)) (sink : LaneSinkSeen H) (first now : A)
+pub moved : {A H : Type 0} (g : Grammar) (goes_on : H → List Column → Type 0) (took : A → A → List Event → Type 0) (version version' : ℕ) (counts counts' : List ℕ) (j j' : ℕ) (from left : Option (List ℕ)) (sink : LaneSinkSeen H) (first now : A)
     → version' ≡ version → counts' ≡ counts → j' ≡ j → HasHeard g goes_on took version counts j from left sink first now → HasHeard g goes_on took version' counts' j' from left sink first now
 moved g goes_on took version version' counts counts' j j' from left sink first now ev ec ej h =
     subst (λ v. HasHeard g goes_on took v counts' j' from left sink first now) (sym ev)
@@ -67,31 +67,31 @@ moved g goes_on took version version' counts counts' j j' from left sink first n
 pub carried : {T : Type 0} (P : T → T → Type 0) (x x' y y' : T) → x' ≡ x → y' ≡ y → P x y → P x' y'
 carried P x x' y y' ex ey h = subst (λ t. P t y') (sym ex) (subst (P x) (sym ey) h)
 
-longer : (us vs : List Thing) → length us ≤ length (us ++ vs)
+longer : (us vs : List Event) → length us ≤ length (us ++ vs)
 longer us vs = let e = length-append us vs in omega (arith, e)
 
-stops_later : {A : Type 0} (g : Grammar) (took : A → A → List Thing → Type 0) (broke : A → A → Thing → Type 0) → Joins took → (fed : Fed) (things more : List Thing) (first old new : A)
-    → IsToldBy g fed things → took first old things → StopsAtThing took broke old new more → IsBroken g took broke fed (things ++ more) first new
-stops_later g took broke both fed things more first old new told taken s = record {
-  first = things;
-  told = told;
+stops_later : {A : Type 0} (g : Grammar) (took : A → A → List Event → Type 0) (broke : A → A → Event → Type 0) → Joins took → (fed : Fed) (events more : List Event) (first old new : A)
+    → IsReportedBy g fed events → took first old events → StopsAtEvent took broke old new more → IsBroken g took broke fed (events ++ more) first new
+stops_later g took broke both fed events more first old new reported taken s = record {
+  first = events;
+  reported = reported;
   more = more;
-  things_are = refl;
+  events_are = refl;
   stops = record {
-    taken = things ++ s.taken;
+    taken = events ++ s.taken;
     next = s.next;
     rest = s.rest;
-    things_are = ap (λ l. things ++ l) s.things_are ∙ sym (append_assoc things s.taken (s.next ∷ s.rest));
+    events_are = ap (λ l. events ++ l) s.events_are ∙ sym (append_assoc events s.taken (s.next ∷ s.rest));
     between = s.between;
-    took_some = both first old s.between things s.taken taken s.took_some;
+    took_some = both first old s.between events s.taken taken s.took_some;
     broke_then = s.broke_then;
   };
-  past = longer things s.taken;
+  past = longer events s.taken;
 }
 
-pub untaken : {A H : Type 0} (g : Grammar) (goes_on : H → List Column → Type 0) (took : A → A → List Thing → Type 0) (broke : A → A → Thing → Type 0) → Joins took → (version : ℕ) (counts : List ℕ) (j : ℕ) (from left0 left1 : Option (List ℕ)) (sink : LaneSinkSeen H) (a b d bits : List ℕ) (first old new : A)
+pub untaken : {A H : Type 0} (g : Grammar) (goes_on : H → List Column → Type 0) (took : A → A → List Event → Type 0) (broke : A → A → Event → Type 0) → Joins took → (version : ℕ) (counts : List ℕ) (j : ℕ) (from left0 left1 : Option (List ℕ)) (sink : LaneSinkSeen H) (a b d bits : List ℕ) (first old new : A)
     → HasHeard g goes_on took version counts j from left0 sink first old → Consumes left0 left1 ((a ++ b) ++ d) → Lends version counts j a b d bits
-    → ((fed : Fed) → StandsBy goes_on sink fed → (things : List Thing) × IsGainBy g fed (grown fed a b d bits) things × StopsAtThing took broke old new things)
+    → ((fed : Fed) → StandsBy goes_on sink fed → (events : List Event) × IsGainBy g fed (grown fed a b d bits) events × StopsAtEvent took broke old new events)
     → IsUntaken g took broke from left1 first new
 untaken g goes_on took broke both version counts j from left0 left1 sink a b d bits first old new h gone lent stopped =
     let s = stopped h.fed h.sunk in
@@ -99,7 +99,7 @@ untaken g goes_on took broke both version counts j from left0 left1 sink a b d b
     record {
       before = h.fed;
       after = grown h.fed a b d bits;
-      things = h.heard.things ++ s.0;
+      events = h.heard.events ++ s.0;
       read = h.taken ++ ((a ++ b) ++ d);
       consumed = Consumes-trans from left0 left1 h.taken ((a ++ b) ++ d) h.consumed gone;
       next = record {
@@ -111,11 +111,11 @@ untaken g goes_on took broke both version counts j from left0 left1 sink a b d b
         had = at_its_length version counts j _ _ _ _ h.stands;
         has = at_its_length version counts (j + 1) _ _ _ _ next;
       };
-      told = s.1 h.heard.things h.heard.told;
-      broken = stops_later g took broke both h.fed h.heard.things s.0 first old new h.heard.told h.heard.taken s.2;
+      reported = s.1 h.heard.events h.heard.reported;
+      broken = stops_later g took broke both h.fed h.heard.events s.0 first old new h.heard.reported h.heard.taken s.2;
     }
 
-pub heard_all : {A H : Type 0} (g : Grammar) (goes_on : H → List Column → Type 0) (took : A → A → List Thing → Type 0) (version : ℕ) (counts : List ℕ) (j : ℕ) (from left0 left1 : Option (List ℕ)) (sink : LaneSinkSeen H) (first now : A)
+pub heard_all : {A H : Type 0} (g : Grammar) (goes_on : H → List Column → Type 0) (took : A → A → List Event → Type 0) (version : ℕ) (counts : List ℕ) (j : ℕ) (from left0 left1 : Option (List ℕ)) (sink : LaneSinkSeen H) (first now : A)
     → HasHeard g goes_on took version counts j from left0 sink first now → Consumes left0 left1 []
     → ((taken : List ℕ) (x y z : List Bool) → Stands version counts j taken x y z → IsCaptureOf x y z taken)
     → HasHeardAll g goes_on took from left1 sink first now
@@ -129,7 +129,7 @@ heard_all g goes_on took version counts j from left0 left1 sink first now h gone
 }
 
 -- a reader gives an error
-pub stops_short : {A H : Type 0} (g : Grammar) (goes_on : H → List Column → Type 0) (took : A → A → List Thing → Type 0) (broke : A → A → Thing → Type 0) (version : ℕ) (counts : List ℕ) (j : ℕ) (from left0 left1 : Option (List ℕ)) (sink : LaneSinkSeen H) (first now : A) (error : CaptureError)
+pub stops_short : {A H : Type 0} (g : Grammar) (goes_on : H → List Column → Type 0) (took : A → A → List Event → Type 0) (broke : A → A → Event → Type 0) (version : ℕ) (counts : List ℕ) (j : ℕ) (from left0 left1 : Option (List ℕ)) (sink : LaneSinkSeen H) (first now : A) (error : CaptureError)
     → HasHeard g goes_on took version counts j from left0 sink first now
     → ((bytes taken : List ℕ) (x y z : List Bool) → left0 ≡ Some bytes → Stands version counts j taken x y z → SaysOf (λ fault. IsFault (taken ++ bytes) fault × StopsIn counts j taken (place_of fault)) error)
     → SaysRead ((part : List ℕ) × ((length part < block_size j counts) ⊎ (part ≡ [])) × Consumes left0 left1 part) error
@@ -155,27 +155,27 @@ stops_short g goes_on took broke version counts j from left0 left1 sink first no
 }
 
 -- nothing was fed yet, and nothing is told
-told_none : {A : Type 0} (g : Grammar) (took : A → A → List Thing → Type 0) (now : A) → took now now [] → IsHeardSoFar g took no_bits now now
-told_none g took now none = record { things = []; told = none_at_first g; taken = none }
+reported_none : {A : Type 0} (g : Grammar) (took : A → A → List Event → Type 0) (now : A) → took now now [] → IsHeardSoFar g took no_bits now now
+reported_none g took now none = record { events = []; reported = none_at_first g; taken = none }
 
 -- a header was read
-pub heard_head : {A H : Type 0} (g : Grammar) (goes_on : H → List Column → Type 0) (took : A → A → List Thing → Type 0) (version : ℕ) (counts : List ℕ) (j : ℕ) (from left : Option (List ℕ)) (sink : LaneSinkSeen H) (now : A) → took now now [] → StandsBy goes_on sink no_bits
+pub heard_head : {A H : Type 0} (g : Grammar) (goes_on : H → List Column → Type 0) (took : A → A → List Event → Type 0) (version : ℕ) (counts : List ℕ) (j : ℕ) (from left : Option (List ℕ)) (sink : LaneSinkSeen H) (now : A) → took now now [] → StandsBy goes_on sink no_bits
     → (head : List ℕ) × Consumes from left head × Stands version counts j head [] [] [] → HasHeard g goes_on took version counts j from left sink now now
-heard_head g goes_on took version counts j from left sink now none sunk h = record { taken = h.0; fed = no_bits; consumed = h.1; stands = h.2; sunk = sunk; heard = told_none g took now none }
+heard_head g goes_on took version counts j from left sink now none sunk h = record { taken = h.0; fed = no_bits; consumed = h.1; stands = h.2; sunk = sunk; heard = reported_none g took now none }
 
 -- none was read
-pub headless : {A : Type 0} (g : Grammar) (took : A → A → List Thing → Type 0) (broke : A → A → Thing → Type 0) (from left : Option (List ℕ)) (now : A) (error : CaptureError) → took now now []
+pub headless : {A : Type 0} (g : Grammar) (took : A → A → List Event → Type 0) (broke : A → A → Event → Type 0) (from left : Option (List ℕ)) (now : A) (error : CaptureError) → took now now []
     → ((bytes : List ℕ) → from ≡ Some bytes → SaysOf (λ fault. IsEarlyFault bytes fault) error)
     → SaysRead ((part : List ℕ) × IsHeadless part × Consumes from left part) error
     → StopsShort g took broke from left now now (refused_as error)
 headless g took broke from left now (Failed fault) none says part = (
-  (no_bits, told_none g took now none),
-  λ bytes is. let s = says bytes is in record { faulty = s.0; fed = no_bits; before = inl (s.1, refl); heard = told_none g took now none },
+  (no_bits, reported_none g took now none),
+  λ bytes is. let s = says bytes is in record { faulty = s.0; fed = no_bits; before = inl (s.1, refl); heard = reported_none g took now none },
 )
-headless g took broke from left now Unread none says part = record { fed = no_bits; read = part.0; consumed = part.2; are_read = inl (part.1, refl); heard = told_none g took now none }
+headless g took broke from left now Unread none says part = record { fed = no_bits; read = part.0; consumed = part.2; are_read = inl (part.1, refl); heard = reported_none g took now none }
 
 -- what was heard where it is not the ear that stopped
-pub some_heard : {A : Type 0} (g : Grammar) (took : A → A → List Thing → Type 0) (broke : A → A → Thing → Type 0) (from left : Option (List ℕ)) (old new : A) (e : HearError) → StopsShort g took broke from left old new e → (e ≡ Ear → ⊥)
+pub some_heard : {A : Type 0} (g : Grammar) (took : A → A → List Event → Type 0) (broke : A → A → Event → Type 0) (from left : Option (List ℕ)) (old new : A) (e : HearError) → StopsShort g took broke from left old new e → (e ≡ Ear → ⊥)
     → IsHeardSome g took old new
 some_heard g took broke from left old new (Bad fault) short other = short.0
 some_heard g took broke from left old new Read short other = (short.fed, short.heard)
@@ -185,16 +185,16 @@ some_heard g took broke from left old new Ear short other = absurd (other refl)
 left_none : (left : Option (List ℕ)) (rest : List ℕ) → left ≡ Some rest → IsAtEnd left → rest ≡ []
 left_none left rest is ended = subst IsAtEnd is ended
 
-pub heard_whole : {A H : Type 0} (g : Grammar) (goes_on : H → List Column → Type 0) (took : A → A → List Thing → Type 0) → Joins took → (from left : Option (List ℕ)) (sink : LaneSinkSeen H) (outcome : Hearing) (first old new : A)
+pub heard_whole : {A H : Type 0} (g : Grammar) (goes_on : H → List Column → Type 0) (took : A → A → List Event → Type 0) → Joins took → (from left : Option (List ℕ)) (sink : LaneSinkSeen H) (outcome : Hearing) (first old new : A)
     → HasHeardAll g goes_on took from left sink first old → IsAtEnd left
-    → ((fed : Fed) → StandsBy goes_on sink fed → (things : List Thing) × IsLastBy g fed outcome things × took old new things)
-    → (fed : Fed) × (things : List Thing) × AreToldBy g fed.blue fed.green fed.red outcome things × took first new things × ((bytes : List ℕ) → from ≡ Some bytes → IsCaptureOf fed.blue fed.green fed.red bytes)
-heard_whole g goes_on took both from left sink outcome first old new h ended told =
-    let t = told h.fed h.sunk in (
+    → ((fed : Fed) → StandsBy goes_on sink fed → (events : List Event) × IsLastBy g fed outcome events × took old new events)
+    → (fed : Fed) × (events : List Event) × AreReportedBy g fed.blue fed.green fed.red outcome events × took first new events × ((bytes : List ℕ) → from ≡ Some bytes → IsCaptureOf fed.blue fed.green fed.red bytes)
+heard_whole g goes_on took both from left sink outcome first old new h ended reported =
+    let t = reported h.fed h.sunk in (
       h.fed,
-      h.heard.things ++ t.0,
-      t.1 h.heard.things h.heard.told,
-      both first old new h.heard.things t.0 h.heard.taken t.2,
+      h.heard.events ++ t.0,
+      t.1 h.heard.events h.heard.reported,
+      both first old new h.heard.events t.0 h.heard.taken t.2,
       λ bytes is.
           let c = consumed from left bytes h.taken is h.consumed in
           let all : h.taken ≡ bytes = sym (c.1 ∙ ap (λ l. h.taken ++ l) (left_none left c.0 c.2 ended) ∙ append-nil h.taken) in
@@ -202,22 +202,22 @@ heard_whole g goes_on took both from left sink outcome first old new h ended tol
     )
 
 -- what a hearing says that an ear's failure ended
-abbrev pub Breaks : {A : Type 0} → Grammar → (A → A → List Thing → Type 0) → (A → A → Thing → Type 0) → Option (List ℕ) → Option (List ℕ) → ℕ → ℕ → A → A → Type 0
+abbrev pub Breaks : {A : Type 0} → Grammar → (A → A → List Event → Type 0) → (A → A → Event → Type 0) → Option (List ℕ) → Option (List ℕ) → ℕ → ℕ → A → A → Type 0
 Breaks g took broke from left was now old new = Rose was now
-    × (before after : Fed) × (things : List Thing) × (read : List ℕ) × Consumes from left read
-    × ((AreNext before after read × IsToldBy g after things × IsBroken g took broke before things old new)
-    ⊎ ((outcome : Hearing) × IsAtEnd left × IsCaptureOf after.blue after.green after.red read × AreToldBy g after.blue after.green after.red outcome things × IsBroken g took broke after things old new))
+    × (before after : Fed) × (events : List Event) × (read : List ℕ) × Consumes from left read
+    × ((AreNext before after read × IsReportedBy g after events × IsBroken g took broke before events old new)
+    ⊎ ((outcome : Hearing) × IsAtEnd left × IsCaptureOf after.blue after.green after.red read × AreReportedBy g after.blue after.green after.red outcome events × IsBroken g took broke after events old new))
 
 -- one that a failed read ended
-abbrev pub Reads : {A : Type 0} → Grammar → (A → A → List Thing → Type 0) → Option (List ℕ) → Option (List ℕ) → ℕ → ℕ → A → A → Type 0
+abbrev pub Reads : {A : Type 0} → Grammar → (A → A → List Event → Type 0) → Option (List ℕ) → Option (List ℕ) → ℕ → ℕ → A → A → Type 0
 Reads g took from left was now old new = Rose was now × ((fed : Fed) × (read : List ℕ) × Consumes from left read × AreRead read fed × IsHeardSoFar g took fed old new)
 
-pub bad_of : {A : Type 0} (g : Grammar) (took : A → A → List Thing → Type 0) (broke : A → A → Thing → Type 0) (from from' left : Option (List ℕ)) (old new : A) (e : HearError) → from' ≡ from → StopsShort g took broke from left old new e
+pub bad_of : {A : Type 0} (g : Grammar) (took : A → A → List Event → Type 0) (broke : A → A → Event → Type 0) (from from' left : Option (List ℕ)) (old new : A) (e : HearError) → from' ≡ from → StopsShort g took broke from left old new e
     → (bytes : List ℕ) (fault : CaptureFault) → from' ≡ Some bytes → e ≡ Bad fault → IsFault bytes fault × ((fed : Fed) × AreBefore bytes (place_of fault) fed × IsHeardSoFar g took fed old new)
 bad_of g took broke from from' left old new e ef h bytes fault is same =
     let s = (subst (StopsShort g took broke from left old new) same h).1 bytes (sym ef ∙ is) in (s.faulty, (s.fed, s.before, s.heard))
 
-pub read_of : {A T : Type 0} (g : Grammar) (took : A → A → List Thing → Type 0) (broke : A → A → Thing → Type 0) (left_of : T → Option (List ℕ)) (faults_of : T → ℕ) (x x' y y' : T) (was now : ℕ) (old new : A) (e : HearError)
+pub read_of : {A T : Type 0} (g : Grammar) (took : A → A → List Event → Type 0) (broke : A → A → Event → Type 0) (left_of : T → Option (List ℕ)) (faults_of : T → ℕ) (x x' y y' : T) (was now : ℕ) (old new : A) (e : HearError)
     → x' ≡ x → y' ≡ y → StopsShort g took broke (left_of x) (left_of y) old new e → IsCausedBy (faults_of x) (faults_of y) was now e → e ≡ Read
     → Reads g took (left_of x') (left_of y') (faults_of x') (faults_of y') old new
 read_of g took broke left_of faults_of x x' y y' was now old new e ex ey short cause same =
@@ -225,19 +225,19 @@ read_of g took broke left_of faults_of x x' y y' was now old new e ex ey short c
     carried (λ s t. Reads g took (left_of s) (left_of t) (faults_of s) (faults_of t) old new) x x' y y' ex ey
     (subst (IsCausedBy (faults_of x) (faults_of y) was now) same cause, (h.fed, h.read, h.consumed, h.are_read, h.heard))
 
-pub broken_of : {A T : Type 0} (g : Grammar) (took : A → A → List Thing → Type 0) (broke : A → A → Thing → Type 0) (left_of : T → Option (List ℕ)) (x x' y y' : T) (reads reading was now : ℕ) (old new : A) (e : HearError)
+pub broken_of : {A T : Type 0} (g : Grammar) (took : A → A → List Event → Type 0) (broke : A → A → Event → Type 0) (left_of : T → Option (List ℕ)) (x x' y y' : T) (reads reading was now : ℕ) (old new : A) (e : HearError)
     → x' ≡ x → y' ≡ y → StopsShort g took broke (left_of x) (left_of y) old new e → IsCausedBy reads reading was now e → e ≡ Ear
     → Breaks g took broke (left_of x') (left_of y') was now old new
 broken_of g took broke left_of x x' y y' reads reading was now old new e ex ey short cause same =
     let h = subst (StopsShort g took broke (left_of x) (left_of y) old new) same short in
     carried (λ s t. Breaks g took broke (left_of s) (left_of t) was now old new) x x' y y' ex ey
-    (subst (IsCausedBy reads reading was now) same cause, h.before, h.after, h.things, h.read, h.consumed, inl (h.next, h.told, h.broken))
+    (subst (IsCausedBy reads reading was now) same cause, h.before, h.after, h.events, h.read, h.consumed, inl (h.next, h.reported, h.broken))
 
-pub unended : {A H : Type 0} (g : Grammar) (goes_on : H → List Column → Type 0) (took : A → A → List Thing → Type 0) (broke : A → A → Thing → Type 0) → Joins took → (from left : Option (List ℕ)) (sink : LaneSinkSeen H) (was now : ℕ) (first old new : A)
+pub unended : {A H : Type 0} (g : Grammar) (goes_on : H → List Column → Type 0) (took : A → A → List Event → Type 0) (broke : A → A → Event → Type 0) → Joins took → (from left : Option (List ℕ)) (sink : LaneSinkSeen H) (was now : ℕ) (first old new : A)
     → HasHeardAll g goes_on took from left sink first old → IsAtEnd left → Rose was now
-    → ((fed : Fed) → StandsBy goes_on sink fed → (outcome : Hearing) × (things : List Thing) × IsLastBy g fed outcome things × StopsAtThing took broke old new things)
+    → ((fed : Fed) → StandsBy goes_on sink fed → (outcome : Hearing) × (events : List Event) × IsLastBy g fed outcome events × StopsAtEvent took broke old new events)
     → Breaks g took broke from left was now first new
 unended g goes_on took broke both from left sink was now first old new h ended cause stopped =
     let s = stopped h.fed h.sunk in
-    let broken = stops_later g took broke both h.fed h.heard.things s.1 first old new h.heard.told h.heard.taken s.3 in
-    (cause, h.fed, h.fed, h.heard.things ++ s.1, h.taken, h.consumed, inr (s.0, ended, h.captured, s.2 h.heard.things h.heard.told, broken))
+    let broken = stops_later g took broke both h.fed h.heard.events s.1 first old new h.heard.reported h.heard.taken s.3 in
+    (cause, h.fed, h.fed, h.heard.events ++ s.1, h.taken, h.consumed, inr (s.0, ended, h.captured, s.2 h.heard.events h.heard.reported, broken))

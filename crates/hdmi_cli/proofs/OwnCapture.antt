@@ -23,10 +23,10 @@ use Rattle.island_pack.specs.Sparse.{IsSparseInPayload}
 use Rattle.island_pack.specs.Spelling.{Spells}
 use Rattle.source_end.proofs.Streams.{Spells-length}
 use Rattle.period_grammar.specs.Heard.{heard}
-use Rattle.link_sink.specs.Account.{account}
-use Rattle.link_sink.specs.Laws.{CameOf, AlignsUntil}
-use Rattle.link_sink.proofs.Ends.{edges_end}
-use Rattle.link_sink.proofs.Tapped.{tap_accounted}
+use Rattle.link_laws.specs.Account.{account}
+use Rattle.link_laws.specs.Laws.{ReceivedOf, AlignsUntil}
+use Rattle.link_laws.proofs.Ends.{edges_end}
+use Rattle.link_laws.proofs.Tapped.{tap_accounted}
 use Rattle.listing_laws.proofs.Undamaged.{undamaged}
 use Rattle.hdmi_cli.specs.Relays.{whole_tap}
 
@@ -92,8 +92,8 @@ first_control n i ks lt =
     let l = length-replicate n control_column in
     get_or_append_left (replicate n control_column) ks second_guard i (omega arith) ∙ get_or-replicate n i control_column second_guard lt
 
-behind_first : (n : ℕ) (k : Kind) (ks : List Kind) → kind_at (replicate n control_column ++ (k ∷ ks)) n ≡ k
-behind_first n k ks =
+first_kind : (n : ℕ) (k : Kind) (ks : List Kind) → kind_at (replicate n control_column ++ (k ∷ ks)) n ≡ k
+first_kind n k ks =
     let e : n - n ≡ 0 = omega arith in
     get_or-append_right (replicate n control_column) (k ∷ ks) n n second_guard (length-replicate n control_column) (omega arith) ∙ ap (λ m. get_or (k ∷ ks) m second_guard) e
 
@@ -112,7 +112,7 @@ after_first n q ps kinds long opens =
     let k : n ≡ (n - 1) + 1 = omega arith in
     record {
       before = (n - 1, k, subst (λ ks. kind_at ks (n - 1) ≡ control_column) (sym opens.are) (first_control n (n - 1) (first_guard ∷ opens.rest) (omega arith)));
-      opens = subst (λ ks. kind_at ks n ≡ first_guard) (sym opens.are) (behind_first n first_guard opens.rest);
+      opens = subst (λ ks. kind_at ks n ≡ first_guard) (sym opens.are) (first_kind n first_guard opens.rest);
     }
 
 -- the only control period that ends at or before its end
@@ -136,11 +136,11 @@ first_long runs (island x ∷ ps) good = control_long runs (and_parts (is_contro
 
 -- Nothing came other than it was sent.
 
-own_came : (ps : List Period) (columns : List Column) → IsConforming ps → Spells ps columns → CameOf ps columns columns
-own_came ps columns good spelled = undamaged ps columns good spelled
+own_received : (ps : List Period) (columns : List Column) → IsConforming ps → Spells ps columns → ReceivedOf ps columns columns
+own_received ps columns good spelled = undamaged ps columns good spelled
 
-own_payload : (ps : List Period) (columns : List Column) → CameOf ps columns columns → IsSparseInPayload ps columns columns
-own_payload ps columns came = record { sparse = came.sparse; spares = λ f i le not. refl }
+own_payload : (ps : List Period) (columns : List Column) → ReceivedOf ps columns columns → IsSparseInPayload ps columns columns
+own_payload ps columns reception = record { sparse = reception.sparse; spares = λ f i le not. refl }
 
 by_lane : (P : ℕ → ℕ → Type 0) (m : ℕ) → P 0 m → (lane : ℕ) → lane < 3 → P (slice_index no_skews lane) (slice_index (m ∷ m ∷ m ∷ []) lane)
 by_lane P m h zero lt = h
@@ -173,7 +173,7 @@ pub record IsOwn (runs : List ControlRun) (ps : List Period) (columns : List Col
   pub a : ℕ
   pub from : a + 12 ≡ length (values_of runs)
   pub aligned : aligned_columns (blue_of columns) (green_of columns) (red_of columns) d e f ≡ drop a columns
-  pub told : heard (aligned_columns (blue_of columns) (green_of columns) (red_of columns) d e f) ≡ account (control runs ∷ ps) columns columns a (length (drop a columns))
+  pub reported : heard (aligned_columns (blue_of columns) (green_of columns) (red_of columns) d e f) ≡ account (control runs ∷ ps) columns columns a (length (drop a columns))
 
 -- from the end of its first control period on it is aligned
 pub own_aligned : (runs : List ControlRun) (q : Period) (ps : List Period) (columns : List Column) → IsConforming (control runs ∷ (q ∷ ps)) → Spells (control runs ∷ (q ∷ ps)) columns
@@ -184,8 +184,8 @@ own_aligned runs q ps columns good spelled more =
     let x = blue_of columns in
     let y = green_of columns in
     let z = red_of columns in
-    let came = own_came all columns good spelled in
-    let found = tap_accounted all columns columns came 0 no_skews (tap_counts whole_tap columns) x y z (own_tap columns) small_skews n (own_aligns runs q ps columns good more) in
+    let reception = own_received all columns good spelled in
+    let found = tap_accounted all columns columns reception 0 no_skews (tap_counts whole_tap columns) x y z (own_tap columns) small_skews n (own_aligns runs q ps columns good more) in
     let d = found.0 in
     let e = found.1 in
     let f = found.2 in
@@ -211,7 +211,7 @@ own_aligned runs q ps columns good spelled more =
       a = a;
       from = omega (arith, there);
       aligned = aligned;
-      told = account_is.told ∙ ap (λ k. account all columns columns a k) same;
+      reported = account_is.reported ∙ ap (λ k. account all columns columns a k) same;
     }
 
 -- With none.
@@ -241,9 +241,9 @@ pub own_nowhere : (runs : List ControlRun) (columns : List Column) → IsConform
     → IsTriple (blue_of columns) (green_of columns) (red_of columns) d e f → ⊥
 own_nowhere runs columns good spelled d e f triple =
     let all = control runs ∷ [] in
-    let came = own_came all columns good spelled in
+    let reception = own_received all columns good spelled in
     let m = 10 * length columns - 0 - 0 in
-    let end = (edges_end all columns columns came (own_payload all columns came)).0.edges 0 m d triple.first in
+    let end = (edges_end all columns columns reception (own_payload all columns reception)).0.edges 0 m d triple.first in
     let n = length (values_of runs) in
     let there = alone_end n end.0 (kinds_of all) (alone_kinds runs) end.1.here end.1.then in
     let within = edge_within (blue_of columns) d triple.first in

@@ -8,21 +8,21 @@ use Rattle.tmds_word.specs.Column.{Column}
 use Rattle.island_pack.specs.Kinds.{Kind, control_column, second_guard, kinds_of, kind_at}
 use Rattle.island_pack.specs.Periods.{Period}
 use Rattle.island_pack.specs.Sparse.{IsSparseInPayload}
-use Rattle.period_grammar.specs.Things.{Thing}
+use Rattle.period_grammar.specs.Events.{Event}
 use Rattle.period_grammar.specs.Heard.{heard}
-use Rattle.link_sink.specs.Account.{account}
-use Rattle.link_sink.specs.Laws.{CameOf, EndsControl, IsAccounted}
-use Rattle.link_sink.proofs.Spelled.{fitting}
-use Rattle.link_sink.proofs.Lanes.{fitting_length}
+use Rattle.link_laws.specs.Account.{account}
+use Rattle.link_laws.specs.Laws.{ReceivedOf, EndsControl, IsAccounted}
+use Rattle.link_laws.proofs.Spelled.{fitting}
+use Rattle.link_laws.proofs.Lanes.{fitting_length}
 use Rattle.source_end.specs.declared.mode.Mode.{Mode}
 use Rattle.source_end.specs.Content.{Frame}
 use Rattle.source_end.specs.Raster.{raster_of}
 use Rattle.source_end.specs.RasterRefusals.{raster_fault}
-use Rattle.listing.specs.ContentText.{content_lines, content_text}
+use Rattle.listing_writer.specs.ContentText.{content_lines, content_text}
 use Rattle.listing_laws.specs.ListingLaws.{tells_picture}
 use Rattle.listing_laws.proofs.PictureLines.{frame_lines_come_back}
 use Rattle.listing_laws.proofs.PacketLines.{packet_lines_come_back}
-use Rattle.listing_laws.proofs.Told.{packets_come_back}
+use Rattle.listing_laws.proofs.Reported.{packets_come_back}
 use Rattle.command_line.specs.declared.command.Command.TheVariants.{RecoverContent}
 use Rattle.hdmi_cli.specs.Listings.{content_listing}
 use Rattle.command_line.specs.Commands.{IsCommand}
@@ -40,10 +40,10 @@ within_kinds ks i h = elim (cases_lt i (length ks)) [
 ]
 
 -- aligned columns are some of those that came
-pub within_received : (ps : List Period) (sent received aligned : List Column) (a : ℕ) → CameOf ps sent received → IsAccounted ps sent received aligned a → a + length aligned ≤ length received
-within_received ps sent received aligned a came accounted =
-    let same = came.sparse.same_length in
-    let many = fitting_length (kinds_of ps) sent (fitting ps sent came.conforming came.spelled) in
+pub within_received : (ps : List Period) (sent received aligned : List Column) (a : ℕ) → ReceivedOf ps sent received → IsAccounted ps sent received aligned a → a + length aligned ≤ length received
+within_received ps sent received aligned a reception accounted =
+    let same = reception.sparse.same_length in
+    let many = fitting_length (kinds_of ps) sent (fitting ps sent reception.conforming reception.spelled) in
     let end = within_kinds (kinds_of ps) (a + 11) accounted.ends.here in
     let taken : length aligned ≡ min (length aligned) (length (drop a received)) = ap length accounted.columns ∙ length-take (length aligned) (drop a received) in
     let dropped = length-drop a received in
@@ -51,20 +51,20 @@ within_received ps sent received aligned a came accounted =
 
 -- what is recovered of a raster lists its rows and frames that came
 pub pictures_are : (mode : Mode) (frames : List Frame) → raster_fault mode frames ≡ None → (t : TappedStream) → t.periods ≡ raster_of mode frames
-    → (d e f a status : ℕ) (old new : Option (List ℕ)) → CameOf t.periods t.sent t.received → IsRecovered content_listing t d e f a status old new
+    → (d e f a status : ℕ) (old new : Option (List ℕ)) → ReceivedOf t.periods t.sent t.received → IsRecovered content_listing t d e f a status old new
     → ArePictures mode frames t d e f a old new
 unfolding content_text
-pictures_are mode frames none t is d e f a status old new came h =
+pictures_are mode frames none t is d e f a status old new reception h =
     let aligned = aligned_of t d e f in
-    let told : account t.periods t.sent t.received a (length aligned) ≡ heard (take (length aligned) (drop a t.received)) =
-    sym h.accounted.told ∙ ap heard h.accounted.columns in
+    let reported : account t.periods t.sent t.received a (length aligned) ≡ heard (take (length aligned) (drop a t.received)) =
+    sym h.accounted.reported ∙ ap heard h.accounted.columns in
     record {
       accounted = h.accounted;
       begins = h.begins;
       written = h.written;
-      pictures = ap (λ (things : List Thing). filter tells_picture (content_lines things)) told
-          ∙ frame_lines_come_back mode frames none t.sent t.received (subst (λ (ps : List Period). CameOf ps t.sent t.received) is came) a (length aligned)
-          (subst (λ (ps : List Period). EndsControl ps (a + 11)) is h.accounted.ends) (within_received t.periods t.sent t.received aligned a came h.accounted);
+      pictures = ap (λ (events : List Event). filter tells_picture (content_lines events)) reported
+          ∙ frame_lines_come_back mode frames none t.sent t.received (subst (λ (ps : List Period). ReceivedOf ps t.sent t.received) is reception) a (length aligned)
+          (subst (λ (ps : List Period). EndsControl ps (a + 11)) is h.accounted.ends) (within_received t.periods t.sent t.received aligned a reception h.accounted);
     }
 
 -- what follows where no device failed and memory was had
@@ -85,7 +85,7 @@ pictured words ending before after status ends is named mode frames none t raste
     (λ s old new. (a : ℕ) × IsRecovered content_listing t d e f a s old new)
     (λ s old new. (a : ℕ) × ArePictures mode frames t d e f a old new)
     status before after
-    (λ h. (h.0, pictures_are mode frames none t raster d e f h.0 status before.held after.held tapped.came h.1))
+    (λ h. (h.0, pictures_are mode frames none t raster d e f h.0 status before.held after.held tapped.reception h.1))
     (headlined content_listing RecoverContent (λ t tapped o does. does) words ending before after status ends is named t tapped alone d e f first left)
 
 -- and damage anywhere that spares control and guard words until a column
@@ -98,20 +98,20 @@ pictured_anywhere words ending before after status ends is named mode frames non
     (IsRecoveredBy content_listing t until)
     (λ s old new. (d e f : ℕ) × IsFirstOf t d e f × ((a : ℕ) × (a + 12 ≤ until) × ArePictures mode frames t d e f a old new))
     status before after
-    (λ h. (h.0, h.1, h.2, h.3, (h.4.0, h.4.1, pictures_are mode frames none t raster h.0 h.1 h.2 h.4.0 status before.held after.held tapped.came h.4.2)))
+    (λ h. (h.0, h.1, h.2, h.3, (h.4.0, h.4.1, pictures_are mode frames none t raster h.0 h.1 h.2 h.4.0 status before.held after.held tapped.reception h.4.2)))
     (headlined_anywhere content_listing RecoverContent (λ t tapped o does. does) words ending before after status ends is named t tapped until aligns left)
 
 -- what is recovered lists the packets that came
-packets_are : (t : TappedStream) (d e f a status : ℕ) (old new : Option (List ℕ)) → CameOf t.periods t.sent t.received → IsRecovered content_listing t d e f a status old new → ArePackets t d e f a old new
+packets_are : (t : TappedStream) (d e f a status : ℕ) (old new : Option (List ℕ)) → ReceivedOf t.periods t.sent t.received → IsRecovered content_listing t d e f a status old new → ArePackets t d e f a old new
 unfolding content_text
-packets_are t d e f a status old new came h =
+packets_are t d e f a status old new reception h =
     let aligned = aligned_of t d e f in
     record {
       accounted = h.accounted;
       begins = h.begins;
       written = h.written;
-      packets = packets_come_back t.periods t.sent t.received came a (length aligned) h.accounted.ends (within_received t.periods t.sent t.received aligned a came h.accounted);
-      lines = packet_lines_come_back t.periods t.sent t.received came a;
+      packets = packets_come_back t.periods t.sent t.received reception a (length aligned) h.accounted.ends (within_received t.periods t.sent t.received aligned a reception h.accounted);
+      lines = packet_lines_come_back t.periods t.sent t.received reception a;
     }
 
 -- of sparse damage of payload alone
@@ -123,7 +123,7 @@ packeted words ending before after status ends is named t tapped alone d e f fir
     (λ s old new. (a : ℕ) × IsRecovered content_listing t d e f a s old new)
     (λ s old new. (a : ℕ) × ArePackets t d e f a old new)
     status before after
-    (λ h. (h.0, packets_are t d e f h.0 status before.held after.held tapped.came h.1))
+    (λ h. (h.0, packets_are t d e f h.0 status before.held after.held tapped.reception h.1))
     (headlined content_listing RecoverContent (λ t tapped o does. does) words ending before after status ends is named t tapped alone d e f first left)
 
 -- and of damage anywhere
@@ -135,5 +135,5 @@ packeted_anywhere words ending before after status ends is named t tapped until 
     (IsRecoveredBy content_listing t until)
     (λ s old new. (d e f : ℕ) × IsFirstOf t d e f × ((a : ℕ) × (a + 12 ≤ until) × ArePackets t d e f a old new))
     status before after
-    (λ h. (h.0, h.1, h.2, h.3, (h.4.0, h.4.1, packets_are t h.0 h.1 h.2 h.4.0 status before.held after.held tapped.came h.4.2)))
+    (λ h. (h.0, h.1, h.2, h.3, (h.4.0, h.4.1, packets_are t h.0 h.1 h.2 h.4.0 status before.held after.held tapped.reception h.4.2)))
     (headlined_anywhere content_listing RecoverContent (λ t tapped o does. does) words ending before after status ends is named t tapped until aligns left)

@@ -11,17 +11,17 @@ use Rattle.island_pack.specs.Spelling.{control_column, SpellsBy, Spells, freely}
 use Rattle.island_pack.proofs.Runs.{values_longest}
 use Rattle.period_grammar.specs.Exact.{IsFront, faultless}
 use Rattle.period_grammar.specs.Heard.{heard}
-use Rattle.period_grammar.specs.Things.{Thing}
-use Rattle.link_sink.specs.Account.{account}
-use Rattle.link_sink.proofs.exact.Arrivals.{front_is_clean}
-use Rattle.relay.specs.Own.{RelayedAgain, cut_first}
+use Rattle.period_grammar.specs.Events.{Event}
+use Rattle.link_laws.specs.Account.{account}
+use Rattle.link_laws.proofs.exact.Arrivals.{front_is_clean}
+use Rattle.relay_laws.specs.Own.{RelayedAgain, cut_first}
 use Rattle.relay.specs.Relayed.{relayed}
 use Rattle.relay.proofs.Conforming.{relayed_conforms}
-use Rattle.relay.proofs.Own.{freely_spelled, spelled_long}
+use Rattle.relay_laws.proofs.Own.{freely_spelled, spelled_long}
 use Rattle.command_line.specs.Commands.{IsCommand}
 use Rattle.command_line.specs.declared.command.Command.TheVariants.{Relay}
 use Rattle.hdmi_cli.specs.Endings.{Devices, RunEnds, Unless, status_of}
-use Rattle.hdmi_cli.specs.Outcome.{Outcome, Relays}
+use Rattle.hdmi_cli.specs.Outcome.{RunOutcome, Relays}
 use Rattle.hdmi_cli.specs.RelayClauses.{ComesBack, IsRelayedAgain, past_twelve}
 use Rattle.hdmi_cli.specs.Relays.{IsRelayed, relay_status, whole_tap}
 use Rattle.hdmi_cli.specs.declared.ending.Ending.{Ending}
@@ -57,12 +57,12 @@ columns_more runs (control more) ps good = absurd cc
 columns_more runs (video bytes) ps good = omega arith
 columns_more runs (island x) ps good = omega arith
 
-pub comes_back : RelayedAgain → (things : List Thing) (runs : List ControlRun) (q : Period) (ps : List Period) (columns : List Column) (o : Outcome) (status : ℕ) (old new : Option (List ℕ))
-    → relayed things ≡ control runs ∷ (q ∷ ps) → columns_of (relayed things) ≤ 20000000 → Spells (relayed things) columns → o.status ≡ status → Appends old new o.output
+pub comes_back : RelayedAgain → (events : List Event) (runs : List ControlRun) (q : Period) (ps : List Period) (columns : List Column) (o : RunOutcome) (status : ℕ) (old new : Option (List ℕ))
+    → relayed events ≡ control runs ∷ (q ∷ ps) → columns_of (relayed events) ≤ 20000000 → Spells (relayed events) columns → o.status ≡ status → Appends old new o.output
     → Relays (tapped_capture columns whole_tap) o → ComesBack runs (q ∷ ps) status old new
-comes_back law things runs q ps columns o status old new are few spelled is written does =
+comes_back law events runs q ps columns o status old new are few spelled is written does =
     let all = control runs ∷ (q ∷ ps) in
-    let good : IsConforming all = subst (λ (xs : List Period). IsConforming xs) are (relayed_conforms things) in
+    let good : IsConforming all = subst (λ (xs : List Period). IsConforming xs) are (relayed_conforms events) in
     let own_spelled : Spells all columns = subst (λ (xs : List Period). Spells xs columns) are spelled in
     let free = freely_spelled all columns own_spelled in
     let many = spelled_long all columns free in
@@ -72,31 +72,31 @@ comes_back law things runs q ps columns o status old new are few spelled is writ
     let a = own.a in
     let from = own.from in
     let m = length (drop a columns) in
-    let told = account all columns columns a m in
+    let reported = account all columns columns a m in
     let rest = length-drop a columns in
-    let back : relayed told ≡ cut_first a all =
-    ap (λ xs. relayed (account xs columns columns a m)) (sym are) ∙ law things runs (q ∷ ps) are columns spelled a m from (omega (arith, rest)) ∙ ap (cut_first a) are in
+    let back : relayed reported ≡ cut_first a all =
+    ap (λ xs. relayed (account xs columns columns a m)) (sym are) ∙ law events runs (q ∷ ps) are columns spelled a m from (omega (arith, rest)) ∙ ap (cut_first a) are in
     let cut = cut_spelled a runs (q ∷ ps) columns (omega (arith, from)) free in
     let cut_many = spelled_long (cut_first a all) (drop a columns) cut in
     let back_many = ap columns_of back in
     let front : IsFront (drop a columns) = record {
       periods = cut_first a all;
       spelled = drop a columns;
-      conforming = subst (λ (xs : List Period). IsConforming xs) back (relayed_conforms told);
+      conforming = subst (λ (xs : List Period). IsConforming xs) back (relayed_conforms reported);
       spells = cut;
       rest = [];
       front = sym (append-nil (drop a columns));
     } in
-    let same : heard (drop a columns) ≡ told = ap heard (sym own.aligned) ∙ own.told in
-    let quiet : faultless told ≡ true = subst (λ (ts : List Thing). faultless ts ≡ true) same (front_is_clean (drop a columns) front) in
+    let same : heard (drop a columns) ≡ reported = ap heard (sym own.aligned) ∙ own.reported in
+    let quiet : faultless reported ≡ true = subst (λ (ts : List Event). faultless ts ≡ true) same (front_is_clean (drop a columns) front) in
     let captured = own_captured columns (omega (arith, many, size, few)) in
-    elim (capture_relay told (blue_of columns) (green_of columns) (red_of columns) own.d own.e own.f (tapped_capture columns whole_tap) o captured own.first own.told does) [
+    elim (capture_relay reported (blue_of columns) (green_of columns) (red_of columns) own.d own.e own.f (tapped_capture columns whole_tap) o captured own.first own.reported does) [
       | inl long ↦ let passes = long.passes in absurd (omega (arith, passes, back_many, cut_many, rest, many, size, few))
       | inr sent ↦
           let twelve : a ≡ past_twelve runs = omega (arith, from) in
           record {
             status_is = sym is ∙ sent.status ∙ ap relay_status quiet;
-            things = told;
+            events = reported;
             same = back ∙ ap (λ k. cut_first k all) twelve;
             output = o.output;
             relayed_is = record { columns = sent.columns; few = sent.few; spelled = sent.spelled; output_is = sent.output };
@@ -106,12 +106,12 @@ comes_back law things runs q ps columns o status old new are few spelled is writ
 
 -- With none.
 
-pub stays_nowhere : (things : List Thing) (runs : List ControlRun) (columns : List Column) (o : Outcome) (status : ℕ) (old new : Option (List ℕ))
-    → relayed things ≡ control runs ∷ [] → columns_of (relayed things) ≤ 20000000 → Spells (relayed things) columns → o.status ≡ status → Appends old new o.output
+pub stays_nowhere : (events : List Event) (runs : List ControlRun) (columns : List Column) (o : RunOutcome) (status : ℕ) (old new : Option (List ℕ))
+    → relayed events ≡ control runs ∷ [] → columns_of (relayed events) ≤ 20000000 → Spells (relayed events) columns → o.status ≡ status → Appends old new o.output
     → Relays (tapped_capture columns whole_tap) o → IsRelayedAgain (control runs ∷ []) status old new
-stays_nowhere things runs columns o status old new are few spelled is written does =
+stays_nowhere events runs columns o status old new are few spelled is written does =
     let all = control runs ∷ [] in
-    let good : IsConforming all = subst (λ (xs : List Period). IsConforming xs) are (relayed_conforms things) in
+    let good : IsConforming all = subst (λ (xs : List Period). IsConforming xs) are (relayed_conforms events) in
     let own_spelled : Spells all columns = subst (λ (xs : List Period). Spells xs columns) are spelled in
     let many = spelled_long all columns (freely_spelled all columns own_spelled) in
     let size = ap columns_of are in
@@ -121,20 +121,20 @@ stays_nowhere things runs columns o status old new are few spelled is written do
 
 -- Both.
 
-by_periods : RelayedAgain → (things : List Thing) (ps : List Period) (columns : List Column) (o : Outcome) (status : ℕ) (old new : Option (List ℕ)) → IsConforming ps
-    → relayed things ≡ ps → columns_of (relayed things) ≤ 20000000 → Spells (relayed things) columns → o.status ≡ status → Appends old new o.output
+by_periods : RelayedAgain → (events : List Event) (ps : List Period) (columns : List Column) (o : RunOutcome) (status : ℕ) (old new : Option (List ℕ)) → IsConforming ps
+    → relayed events ≡ ps → columns_of (relayed events) ≤ 20000000 → Spells (relayed events) columns → o.status ≡ status → Appends old new o.output
     → Relays (tapped_capture columns whole_tap) o → IsRelayedAgain ps status old new
 unfolding conforms
-by_periods law things [] columns o status old new good are few spelled is written does = absurd cc
-by_periods law things (control runs ∷ []) columns o status old new good are few spelled is written does = stays_nowhere things runs columns o status old new are few spelled is written does
-by_periods law things (control runs ∷ (q ∷ ps)) columns o status old new good are few spelled is written does = comes_back law things runs q ps columns o status old new are few spelled is written does
-by_periods law things (video bytes ∷ ps) columns o status old new good are few spelled is written does = absurd cc
-by_periods law things (island x ∷ ps) columns o status old new good are few spelled is written does = absurd cc
+by_periods law events [] columns o status old new good are few spelled is written does = absurd cc
+by_periods law events (control runs ∷ []) columns o status old new good are few spelled is written does = stays_nowhere events runs columns o status old new are few spelled is written does
+by_periods law events (control runs ∷ (q ∷ ps)) columns o status old new good are few spelled is written does = comes_back law events runs q ps columns o status old new are few spelled is written does
+by_periods law events (video bytes ∷ ps) columns o status old new good are few spelled is written does = absurd cc
+by_periods law events (island x ∷ ps) columns o status old new good are few spelled is written does = absurd cc
 
 pub relay_again : RelayedAgain → (words : List (List ℕ)) (ending : Ending) (before after : Devices) (status : ℕ) → RunEnds words ending before after → status ≡ status_of ending → IsCommand words Relay
-    → (things : List Thing) (output : List ℕ) → IsRelayed things output → before.left ≡ Some output → Unless (IsRelayedAgain (relayed things)) status before after
-relay_again law words ending before after status ends is named things output sent left =
-    run_ended (IsRelayedAgain (relayed things)) Relay words ending before after status ends is named (λ answers.
+    → (events : List Event) (output : List ℕ) → IsRelayed events output → before.left ≡ Some output → Unless (IsRelayedAgain (relayed events)) status before after
+relay_again law words ending before after status ends is named events output sent left =
+    run_ended (IsRelayedAgain (relayed events)) Relay words ending before after status ends is named (λ answers.
     let answer = answers output left in
-    by_periods law things (relayed things) sent.columns answer.outcome (status_of ending) before.held after.held (relayed_conforms things) refl sent.few sent.spelled answer.status answer.written
+    by_periods law events (relayed events) sent.columns answer.outcome (status_of ending) before.held after.held (relayed_conforms events) refl sent.few sent.spelled answer.status answer.written
     (subst (λ (bytes : List ℕ). Relays bytes answer.outcome) sent.output_is answer.does))

@@ -6,25 +6,25 @@ use Rattle.tmds_word.specs.Column.{Column}
 use Rattle.lane_deskew.specs.Aligned.{aligned_columns}
 use Rattle.period_grammar.specs.Exact.{IsClean}
 use Rattle.period_grammar.specs.Heard.{heard}
-use Rattle.link_sink.proofs.exact.Arrivals.{whole_heard}
-use Rattle.link_sink.proofs.exact.Law.{check_is_exact}
-use Rattle.link_sink.proofs.exact.Wholes.{clean_is_whole}
-use Rattle.relay.specs.Own.{WholeRelayed}
+use Rattle.link_laws.proofs.exact.Arrivals.{whole_heard}
+use Rattle.link_laws.proofs.exact.Law.{check_is_exact}
+use Rattle.link_laws.proofs.exact.Wholes.{clean_is_whole}
+use Rattle.relay_laws.specs.Own.{WholeRelayed}
 use Rattle.relay.specs.Relayed.{relayed}
 use Rattle.relay.proofs.Conforming.{relayed_conforms}
-use Rattle.relay.proofs.Own.{spelled_long}
+use Rattle.relay_laws.proofs.Own.{spelled_long}
 use Rattle.command_line.specs.Commands.{IsCommand}
 use Rattle.command_line.specs.declared.command.Command.TheVariants.{Relay}
 use Rattle.hdmi_cli.specs.Endings.{Devices, RunEnds, Unless, status_of}
 use Rattle.hdmi_cli.specs.Exact.{IsAlignedCapture}
-use Rattle.hdmi_cli.specs.Outcome.{Outcome}
+use Rattle.hdmi_cli.specs.Outcome.{RunOutcome}
 use Rattle.hdmi_cli.specs.RelayClauses.{IsCleanToEnd, IsPassedOn}
 use Rattle.hdmi_cli.specs.Relays.{relay_status}
 use Rattle.hdmi_cli.specs.declared.ending.Ending.{Ending}
 use Rattle.hdmi_cli.proofs.Headline.{run_ended}
 use Rattle.hdmi_cli.proofs.RelayHeadline.{IsLongOf, IsRelayOf, capture_relay, keeps_of}
 
-passed_of : WholeRelayed → (cs : List Column) (o : Outcome) (status : ℕ) (old new : Option (List ℕ)) → IsCleanToEnd cs → o.status ≡ status → Appends old new o.output
+passed_of : WholeRelayed → (cs : List Column) (o : RunOutcome) (status : ℕ) (old new : Option (List ℕ)) → IsCleanToEnd cs → o.status ≡ status → Appends old new o.output
     → IsLongOf (heard cs) o ⊎ IsRelayOf (heard cs) o → IsPassedOn cs status old new
 passed_of law cs o status old new clean is written made =
     let quiet : IsClean cs = (check_is_exact cs).1 clean.clean in
@@ -40,7 +40,7 @@ passed_of law cs o status old new clean is written made =
             sym is ∙ sent.status ∙ ap relay_status quiet,
             (
               sent.columns,
-              record { periods = relayed (heard cs); conforming = relayed_conforms (heard cs); came = spelled; spelled = sent.spelled },
+              record { periods = relayed (heard cs); conforming = relayed_conforms (heard cs); reception = spelled; spelled = sent.spelled },
               subst (λ out. Appends old new out) sent.output written,
             ),
           )

@@ -16,26 +16,26 @@ use Rattle.island_pack.specs.Spelling.{Spells}
 use Rattle.source_end.proofs.Streams.{Spells-length}
 use Rattle.period_grammar.specs.Exact.{faultless}
 use Rattle.period_grammar.specs.Heard.{heard}
-use Rattle.period_grammar.specs.Things.{Thing}
-use Rattle.link_sink.specs.Account.{account}
-use Rattle.link_sink.specs.Alignment.{IsAlignedTold, IsNowhereTold}
-use Rattle.link_sink.specs.Laws.{IsAccounted, BeginColumn}
-use Rattle.link_sink.proofs.Tapped.{payload_accounted, tap_accounted}
-use Rattle.relay.specs.Came.{RelayedAccount}
+use Rattle.period_grammar.specs.Events.{Event}
+use Rattle.link_laws.specs.Account.{account}
+use Rattle.link_sink.specs.Alignment.{IsAlignedReported, IsNowhereReported}
+use Rattle.link_laws.specs.Laws.{IsAccounted, BeginColumn}
+use Rattle.link_laws.proofs.Tapped.{payload_accounted, tap_accounted}
+use Rattle.relay_laws.specs.Received.{RelayedAccount}
 use Rattle.relay.specs.Relayed.{relayed}
 use Rattle.command_line.specs.Commands.{IsCommand}
 use Rattle.command_line.specs.declared.command.Command.TheVariants.{Relay}
 use Rattle.hdmi_cli.specs.Endings.{Devices, Answers, RunEnds, Unless, status_of}
 use Rattle.hdmi_cli.specs.Headline.{TappedStream, IsTapped, AlignsBy, IsFirstOf, aligned_of}
-use Rattle.hdmi_cli.specs.Outcome.{Outcome, Relays}
+use Rattle.hdmi_cli.specs.Outcome.{RunOutcome, Relays}
 use Rattle.hdmi_cli.specs.RelayClauses.{IsSentWithin, IsSentWithinBy, sent_on}
 use Rattle.hdmi_cli.specs.Relays.{IsRelayed, relay_status, whole_tap}
 use Rattle.hdmi_cli.specs.declared.ending.Ending.{Ending}
 use Rattle.hdmi_cli.proofs.Headline.{aligned_same, run_ended}
-use Rattle.hdmi_cli.proofs.RelayLimit.{passes_nowhere, passes_whole, same_told}
+use Rattle.hdmi_cli.proofs.RelayLimit.{passes_nowhere, passes_whole, same_reported}
 
 -- an outcome is the capture of what is relayed of some things, which is within the limit
-pub record IsRelayOf (all : List Thing) (o : Outcome) : Type 0 where
+pub record IsRelayOf (all : List Event) (o : RunOutcome) : Type 0 where
   pub few : columns_of (relayed all) ≤ 20000000
   pub columns : List Column
   pub spelled : Spells (relayed all) columns
@@ -43,7 +43,7 @@ pub record IsRelayOf (all : List Thing) (o : Outcome) : Type 0 where
   pub output : o.output ≡ tapped_capture columns whole_tap
 
 -- or what is relayed of them is past the limit
-pub record IsLongOf (all : List Thing) (o : Outcome) : Type 0 where
+pub record IsLongOf (all : List Event) (o : RunOutcome) : Type 0 where
   pub passes : 20000000 < columns_of (relayed all)
   pub status : o.status ≡ 3
   pub output : o.output ≡ []
@@ -53,50 +53,50 @@ keeps_of None new h = tt
 keeps_of (Some xs) None h = absurd h
 keeps_of (Some xs) (Some ys) h = h ∙ append-nil xs
 
-same_nowhere : (x y z u v w : List Bool) (columns : ℕ) (things : List Thing) → AreSame x y z u v w → IsNowhereTold u v w columns things → IsNowhereTold x y z columns things
-same_nowhere x y z u v w columns things same h =
-    subst (λ a. IsNowhereTold a y z columns things) (sym same.blue) (subst (λ b. IsNowhereTold u b z columns things) (sym same.green) (subst (λ c. IsNowhereTold u v c columns things) (sym same.red) h))
+same_nowhere : (x y z u v w : List Bool) (columns : ℕ) (events : List Event) → AreSame x y z u v w → IsNowhereReported u v w columns events → IsNowhereReported x y z columns events
+same_nowhere x y z u v w columns events same h =
+    subst (λ a. IsNowhereReported a y z columns events) (sym same.blue) (subst (λ b. IsNowhereReported u b z columns events) (sym same.green) (subst (λ c. IsNowhereReported u v c columns events) (sym same.red) h))
 
-told_relay : (all : List Thing) (blue green red : List Bool) (d e f columns : ℕ) (things : List Thing) (output : List ℕ) (o : Outcome) → IsFirst blue green red d e f → heard (aligned_columns blue green red d e f) ≡ all
-    → IsAlignedTold blue green red columns things → IsRelayed things output → o ≡ record { status = relay_status (faultless things); output = output; note = [] } → IsRelayOf all o
-told_relay all blue green red d e f columns things output o first whole told r is =
-    let same = aligned_same blue green red told.d told.e told.f d e f told.first first in
-    let things_are : things ≡ all = told.told ∙ ap heard same ∙ whole in
+reported_relay : (all : List Event) (blue green red : List Bool) (d e f columns : ℕ) (events : List Event) (output : List ℕ) (o : RunOutcome) → IsFirst blue green red d e f → heard (aligned_columns blue green red d e f) ≡ all
+    → IsAlignedReported blue green red columns events → IsRelayed events output → o ≡ record { status = relay_status (faultless events); output = output; note = [] } → IsRelayOf all o
+reported_relay all blue green red d e f columns events output o first whole reported r is =
+    let same = aligned_same blue green red reported.d reported.e reported.f d e f reported.first first in
+    let events_are : events ≡ all = reported.reported ∙ ap heard same ∙ whole in
     record {
-      few = subst (λ (ts : List Thing). columns_of (relayed ts) ≤ 20000000) things_are r.few;
+      few = subst (λ (ts : List Event). columns_of (relayed ts) ≤ 20000000) events_are r.few;
       columns = r.columns;
-      spelled = subst (λ (ts : List Thing). Spells (relayed ts) r.columns) things_are r.spelled;
-      status = ap (λ (p : Outcome). p.status) is ∙ ap (λ ts. relay_status (faultless ts)) things_are;
-      output = ap (λ (p : Outcome). p.output) is ∙ r.output_is;
+      spelled = subst (λ (ts : List Event). Spells (relayed ts) r.columns) events_are r.spelled;
+      status = ap (λ (p : RunOutcome). p.status) is ∙ ap (λ ts. relay_status (faultless ts)) events_are;
+      output = ap (λ (p : RunOutcome). p.output) is ∙ r.output_is;
     }
 
 -- what is made of a capture with a first full alignment
-pub capture_relay : (all : List Thing) (blue green red : List Bool) (d e f : ℕ) (bytes : List ℕ) (o : Outcome) → IsCaptureOf blue green red bytes → IsFirst blue green red d e f → heard (aligned_columns blue green red d e f) ≡ all
+pub capture_relay : (all : List Event) (blue green red : List Bool) (d e f : ℕ) (bytes : List ℕ) (o : RunOutcome) → IsCaptureOf blue green red bytes → IsFirst blue green red d e f → heard (aligned_columns blue green red d e f) ≡ all
     → Relays bytes o → IsLongOf all o ⊎ IsRelayOf all o
-capture_relay all blue green red d e f bytes o captured first whole (inl (x, y, z, columns, things, output, is, told, relays, same)) =
-    inr (told_relay all blue green red d e f columns things output o first whole (same_told blue green red x y z columns things (one_capture blue green red x y z bytes captured is) told) relays same)
-capture_relay all blue green red d e f bytes o captured first whole (inr (inl (x, y, z, columns, things, is, nowhere, same))) =
-    absurd ((same_nowhere blue green red x y z columns things (one_capture blue green red x y z bytes captured is) nowhere).nowhere d e f first.triple)
+capture_relay all blue green red d e f bytes o captured first whole (inl (x, y, z, columns, events, output, is, reported, relays, same)) =
+    inr (reported_relay all blue green red d e f columns events output o first whole (same_reported blue green red x y z columns events (one_capture blue green red x y z bytes captured is) reported) relays same)
+capture_relay all blue green red d e f bytes o captured first whole (inr (inl (x, y, z, columns, events, is, nowhere, same))) =
+    absurd ((same_nowhere blue green red x y z columns events (one_capture blue green red x y z bytes captured is) nowhere).nowhere d e f first.triple)
 capture_relay all blue green red d e f bytes o captured first whole (inr (inr (inl (passes, same)))) = inl (record {
-  passes = subst (λ (ts : List Thing). 20000000 < columns_of (relayed ts)) whole (passes_whole blue green red d e f bytes captured first passes);
-  status = ap (λ (p : Outcome). p.status) same;
-  output = ap (λ (p : Outcome). p.output) same;
+  passes = subst (λ (ts : List Event). 20000000 < columns_of (relayed ts)) whole (passes_whole blue green red d e f bytes captured first passes);
+  status = ap (λ (p : RunOutcome). p.status) same;
+  output = ap (λ (p : RunOutcome). p.output) same;
 })
 capture_relay all blue green red d e f bytes o captured first whole (inr (inr (inr (fault, before, same)))) =
     absurd (no_fault bytes fault (record { blue = blue; green = green; red = red; holds = captured }) before.is)
 
 -- and of one that is aligned nowhere
-pub nowhere_relay : (blue green red : List Bool) (bytes : List ℕ) (o : Outcome) → IsCaptureOf blue green red bytes → ((d e f : ℕ) → IsTriple blue green red d e f → ⊥) → Relays bytes o
+pub nowhere_relay : (blue green red : List Bool) (bytes : List ℕ) (o : RunOutcome) → IsCaptureOf blue green red bytes → ((d e f : ℕ) → IsTriple blue green red d e f → ⊥) → Relays bytes o
     → (o.status ≡ 7) × (o.output ≡ [])
-nowhere_relay blue green red bytes o captured none (inl (x, y, z, columns, things, output, is, told, relays, same)) =
-    let own = same_told blue green red x y z columns things (one_capture blue green red x y z bytes captured is) told in
+nowhere_relay blue green red bytes o captured none (inl (x, y, z, columns, events, output, is, reported, relays, same)) =
+    let own = same_reported blue green red x y z columns events (one_capture blue green red x y z bytes captured is) reported in
     absurd (none own.d own.e own.f own.first.triple)
-nowhere_relay blue green red bytes o captured none (inr (inl (x, y, z, columns, things, is, nowhere, same))) = (ap (λ (p : Outcome). p.status) same, ap (λ (p : Outcome). p.output) same)
+nowhere_relay blue green red bytes o captured none (inr (inl (x, y, z, columns, events, is, nowhere, same))) = (ap (λ (p : RunOutcome). p.status) same, ap (λ (p : RunOutcome). p.output) same)
 nowhere_relay blue green red bytes o captured none (inr (inr (inl (passes, same)))) = absurd (passes_nowhere blue green red bytes captured none passes)
 nowhere_relay blue green red bytes o captured none (inr (inr (inr (fault, before, same)))) =
     absurd (no_fault bytes fault (record { blue = blue; green = green; red = red; holds = captured }) before.is)
 
-sent_of : (t : TappedStream) (a d e f : ℕ) (ending : Ending) (before after : Devices) (o : Outcome) → IsAccounted t.periods t.sent t.received (aligned_of t d e f) a → BeginColumn t.offset t.skews (a + 12) d e f
+sent_of : (t : TappedStream) (a d e f : ℕ) (ending : Ending) (before after : Devices) (o : RunOutcome) → IsAccounted t.periods t.sent t.received (aligned_of t d e f) a → BeginColumn t.offset t.skews (a + 12) d e f
     → relayed (account t.periods t.sent t.received a (length (aligned_of t d e f))) ≡ sent_on t d e f a
     → o.status ≡ status_of ending → Appends before.held after.held o.output
     → IsLongOf (account t.periods t.sent t.received a (length (aligned_of t d e f))) o ⊎ IsRelayOf (account t.periods t.sent t.received a (length (aligned_of t d e f))) o
@@ -127,23 +127,23 @@ sent_within law t a d e f ending before after tapped first accounted begins left
     let answer = answers t.bytes left in
     let many = length (aligned_of t d e f) in
     let all = account t.periods t.sent t.received a many in
-    let long = Spells-length t.periods t.sent tapped.came.spelled in
-    let relayed_is = law t.periods t.sent t.received tapped.came.conforming long (tapped.came.sparse.same_length ∙ long) a many in
+    let long = Spells-length t.periods t.sent tapped.reception.spelled in
+    let relayed_is = law t.periods t.sent t.received tapped.reception.conforming long (tapped.reception.sparse.same_length ∙ long) a many in
     sent_of t a d e f ending before after answer.outcome accounted begins relayed_is answer.status answer.written
-    (capture_relay all t.blue t.green t.red d e f t.bytes answer.outcome tapped.captured first accounted.told answer.does)
+    (capture_relay all t.blue t.green t.red d e f t.bytes answer.outcome tapped.captured first accounted.reported answer.does)
 
 pub relay_headlined : RelayedAccount → (words : List (List ℕ)) (ending : Ending) (before after : Devices) (status : ℕ) → RunEnds words ending before after → status ≡ status_of ending → IsCommand words Relay
     → (t : TappedStream) → IsTapped t → IsSparseInPayload t.periods t.sent t.received → (d e f : ℕ) → IsFirstOf t d e f → before.left ≡ Some t.bytes
     → Unless (λ s old new. (a : ℕ) × IsSentWithin t d e f a s old new) status before after
 relay_headlined law words ending before after status ends is named t tapped alone d e f first left =
-    let told = payload_accounted t.periods t.sent t.received tapped.came alone t.offset t.skews t.counts t.blue t.green t.red tapped.tap tapped.small d e f first in
+    let reported = payload_accounted t.periods t.sent t.received tapped.reception alone t.offset t.skews t.counts t.blue t.green t.red tapped.tap tapped.small d e f first in
     run_ended (λ s old new. (a : ℕ) × IsSentWithin t d e f a s old new) Relay words ending before after status ends is named
-    (λ answers. (told.0, sent_within law t told.0 d e f ending before after tapped first told.1 told.2 left answers))
+    (λ answers. (reported.0, sent_within law t reported.0 d e f ending before after tapped first reported.1 reported.2 left answers))
 
 pub relay_headlined_anywhere : RelayedAccount → (words : List (List ℕ)) (ending : Ending) (before after : Devices) (status : ℕ) → RunEnds words ending before after → status ≡ status_of ending → IsCommand words Relay
     → (t : TappedStream) → IsTapped t → (until : ℕ) → AlignsBy t until → before.left ≡ Some t.bytes
     → Unless (IsSentWithinBy t until) status before after
 relay_headlined_anywhere law words ending before after status ends is named t tapped until aligns left =
-    let told = tap_accounted t.periods t.sent t.received tapped.came t.offset t.skews t.counts t.blue t.green t.red tapped.tap tapped.small until aligns in
+    let reported = tap_accounted t.periods t.sent t.received tapped.reception t.offset t.skews t.counts t.blue t.green t.red tapped.tap tapped.small until aligns in
     run_ended (IsSentWithinBy t until) Relay words ending before after status ends is named
-    (λ answers. (told.0, told.1, told.2, told.3, (told.4.0, told.4.1, sent_within law t told.4.0 told.0 told.1 told.2 ending before after tapped told.3 told.4.2 told.4.3 left answers)))
+    (λ answers. (reported.0, reported.1, reported.2, reported.3, (reported.4.0, reported.4.1, sent_within law t reported.4.0 reported.0 reported.1 reported.2 ending before after tapped reported.3 reported.4.2 reported.4.3 left answers)))

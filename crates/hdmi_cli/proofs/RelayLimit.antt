@@ -8,18 +8,18 @@ use Rattle.lane_deskew.specs.Aligned.{aligned_columns}
 use Rattle.lane_deskew.specs.Triples.{IsFirst, IsTriple}
 use Rattle.lane_deskew.proofs.Fed.{first_stays}
 use Rattle.period_grammar.specs.Heard.{heard}
-use Rattle.period_grammar.specs.Things.{Thing}
-use Rattle.link_sink.specs.Alignment.{IsAlignedTold}
+use Rattle.period_grammar.specs.Events.{Event}
+use Rattle.link_sink.specs.Alignment.{IsAlignedReported}
 use Rattle.link_sink.specs.Grammar.{link_grammar}
 use Rattle.link_sink.specs.LinkHearing.{link_is_grammar}
-use Rattle.link_sink.specs.Sinks.{Fed, IsToldSoFar}
+use Rattle.link_sink.specs.Sinks.{Fed, IsReportedSoFar}
 use Rattle.relay.specs.Laws.{turns_in}
 use Rattle.relay.specs.Relayed.{without_faults, kept_from, kept, nulled, gathered, relayed}
 use Rattle.relay.proofs.Going.{stream_columns}
 use Rattle.relay.proofs.Growing.{columns_grow}
-use Rattle.link_sink.specs.Growth.{AreGrown, Begins}
+use Rattle.link_laws.specs.Growth.{AreGrown, Begins}
 use Rattle.hdmi_cli.specs.Relays.{PassesLimit}
-use Rattle.link_sink.proofs.Growth.{whole_grows}
+use Rattle.link_laws.proofs.Growth.{whole_grows}
 use Rattle.hdmi_cli.proofs.Headline.{aligned_same}
 use Rattle.hdmi_cli.proofs.RelayBlocks.{LanesBegin, blocks_begin}
 
@@ -31,28 +31,28 @@ grown : (x y z : List Bool) (fed : Fed) → LanesBegin x y z fed.blue fed.green 
 grown x y z fed h = record { blue = h.blue; green = h.green; red = h.red }
 
 -- the same lanes are told the same
-pub same_told : (x y z u v w : List Bool) (columns : ℕ) (things : List Thing) → AreSame x y z u v w → IsAlignedTold u v w columns things → IsAlignedTold x y z columns things
-same_told x y z u v w columns things same h =
-    subst (λ a. IsAlignedTold a y z columns things) (sym same.blue) (subst (λ b. IsAlignedTold u b z columns things) (sym same.green) (subst (λ c. IsAlignedTold u v c columns things) (sym same.red) h))
+pub same_reported : (x y z u v w : List Bool) (columns : ℕ) (events : List Event) → AreSame x y z u v w → IsAlignedReported u v w columns events → IsAlignedReported x y z columns events
+same_reported x y z u v w columns events same h =
+    subst (λ a. IsAlignedReported a y z columns events) (sym same.blue) (subst (λ b. IsAlignedReported u b z columns events) (sym same.green) (subst (λ c. IsAlignedReported u v c columns events) (sym same.red) h))
 
-more_passes : (things all : List Thing) → Begins things all → 20000000 < columns_of (relayed things) → 20000000 < columns_of (relayed all)
-more_passes things all b passes =
-    let grow = columns_grow things b.0 in
-    let same : columns_of (relayed all) ≡ columns_of (relayed (things ++ b.0)) = ap (λ ts. columns_of (relayed ts)) b.1 in
+more_passes : (events all : List Event) → Begins events all → 20000000 < columns_of (relayed events) → 20000000 < columns_of (relayed all)
+more_passes events all b passes =
+    let grow = columns_grow events b.0 in
+    let same : columns_of (relayed all) ≡ columns_of (relayed (events ++ b.0)) = ap (λ ts. columns_of (relayed ts)) b.1 in
     omega (arith, grow, same, passes)
 
 -- what the aligned columns tell, all of them, is relayed past the limit
 pub passes_whole : (x y z : List Bool) (d e f : ℕ) (bytes : List ℕ) → IsCaptureOf x y z bytes → IsFirst x y z d e f → PassesLimit bytes
     → 20000000 < columns_of (relayed (heard (aligned_columns x y z d e f)))
-passes_whole x y z d e f bytes captured first p = elim (p.told) [
-  | inl (taken, rest, counts, j, split, has, told) ↦
+passes_whole x y z d e f bytes captured first p = elim (p.reported) [
+  | inl (taken, rest, counts, j, split, has, reported) ↦
       let begin = blocks_begin x y z p.fed.blue p.fed.green p.fed.red bytes taken rest counts j _ captured split has in
-      let whole = whole_grows link_grammar link_is_grammar p.fed (lanes x y z) (length (aligned_columns x y z d e f)) p.things (heard (aligned_columns x y z d e f)) (grown x y z p.fed begin) told
-      (record { d = d; e = e; f = f; first = first; columns_are = refl; told = refl }) in
-      more_passes p.things (heard (aligned_columns x y z d e f)) whole p.passes
-  | inr (columns, is, told) ↦
-      let own = same_told x y z p.fed.blue p.fed.green p.fed.red columns p.things (one_capture x y z p.fed.blue p.fed.green p.fed.red bytes captured is) told in
-      let all : p.things ≡ heard (aligned_columns x y z d e f) = own.told ∙ ap heard (aligned_same x y z own.d own.e own.f d e f own.first first) in
+      let whole = whole_grows link_grammar link_is_grammar p.fed (lanes x y z) (length (aligned_columns x y z d e f)) p.events (heard (aligned_columns x y z d e f)) (grown x y z p.fed begin) reported
+      (record { d = d; e = e; f = f; first = first; columns_are = refl; reported = refl }) in
+      more_passes p.events (heard (aligned_columns x y z d e f)) whole p.passes
+  | inr (columns, is, reported) ↦
+      let own = same_reported x y z p.fed.blue p.fed.green p.fed.red columns p.events (one_capture x y z p.fed.blue p.fed.green p.fed.red bytes captured is) reported in
+      let all : p.events ≡ heard (aligned_columns x y z d e f) = own.reported ∙ ap heard (aligned_same x y z own.d own.e own.f d e f own.first first) in
       subst (λ ts. 20000000 < columns_of (relayed ts)) all p.passes
 ]
 
@@ -60,18 +60,18 @@ none_columns : columns_of (relayed []) ≤ 20000000
 unfolding turns_in gathered nulled kept without_faults kept_from
 none_columns = let e = stream_columns [] in omega (arith, e)
 
-none_told : (x y z : List Bool) (fed : Fed) (things : List Thing) → ((d e f : ℕ) → IsTriple x y z d e f → ⊥) → LanesBegin x y z fed.blue fed.green fed.red → IsToldSoFar fed things → things ≡ []
-none_told x y z fed things nowhere h (inl (d, e, f, first, told)) = absurd (nowhere d e f (first_stays _ _ _ _ _ _ d e f h.blue h.green h.red first).triple)
-none_told x y z fed things nowhere h (inr (none, told)) = told
+none_reported : (x y z : List Bool) (fed : Fed) (events : List Event) → ((d e f : ℕ) → IsTriple x y z d e f → ⊥) → LanesBegin x y z fed.blue fed.green fed.red → IsReportedSoFar fed events → events ≡ []
+none_reported x y z fed events nowhere h (inl (d, e, f, first, reported)) = absurd (nowhere d e f (first_stays _ _ _ _ _ _ d e f h.blue h.green h.red first).triple)
+none_reported x y z fed events nowhere h (inr (none, reported)) = reported
 
 -- and where the lanes are aligned nowhere the limit is not passed
 pub passes_nowhere : (x y z : List Bool) (bytes : List ℕ) → IsCaptureOf x y z bytes → ((d e f : ℕ) → IsTriple x y z d e f → ⊥) → PassesLimit bytes → ⊥
-passes_nowhere x y z bytes captured nowhere p = elim (p.told) [
-  | inl (taken, rest, counts, j, split, has, told) ↦
+passes_nowhere x y z bytes captured nowhere p = elim (p.reported) [
+  | inl (taken, rest, counts, j, split, has, reported) ↦
       let begin = blocks_begin x y z p.fed.blue p.fed.green p.fed.red bytes taken rest counts j _ captured split has in
-      let passes = subst (λ ts. 20000000 < columns_of (relayed ts)) (none_told x y z p.fed p.things nowhere begin told) p.passes in
+      let passes = subst (λ ts. 20000000 < columns_of (relayed ts)) (none_reported x y z p.fed p.events nowhere begin reported) p.passes in
       omega (arith, passes, none_columns)
-  | inr (columns, is, told) ↦
-      let own = same_told x y z p.fed.blue p.fed.green p.fed.red columns p.things (one_capture x y z p.fed.blue p.fed.green p.fed.red bytes captured is) told in
+  | inr (columns, is, reported) ↦
+      let own = same_reported x y z p.fed.blue p.fed.green p.fed.red columns p.events (one_capture x y z p.fed.blue p.fed.green p.fed.red bytes captured is) reported in
       nowhere own.d own.e own.f own.first.triple
 ]

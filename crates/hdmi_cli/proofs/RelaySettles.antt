@@ -1,5 +1,5 @@
 -- What `relay` wrote of its own output it writes again; and a clean capture but for bit 3 of lane 0 in packet columns.
-use Rattle.std.proofs.Common.{◌≡◌, ◌⊎◌, ℕ, ◌+◌, ◌-◌, Bool, List, [], ◌∷◌, length, map, drop, refl, ap, ap₂, sym, ◌∙◌, subst, arith, inl, inr, length-drop}
+use Rattle.std.proofs.Common.{◌≡◌, ℕ, ◌-◌, Bool, List, [], ◌∷◌, length, drop, refl, ap, ap₂, sym, ◌∙◌, subst, arith, inl, inr, length-drop}
 use Rattle.std.specs.Prelude.{Option, Some}
 use Rattle.std.specs.Io.KnownBytes.{Appends}
 use Rattle.tmds_word.specs.Column.{Column}
@@ -10,16 +10,16 @@ use Rattle.island_pack.specs.Periods.{ControlRun, Period, control, video, island
 use Rattle.island_pack.specs.Runs.{longest}
 use Rattle.island_pack.specs.Spelling.{Spells}
 use Rattle.island_pack.proofs.Runs.{values_longest}
-use Rattle.period_grammar.specs.Things.{Thing}
-use Rattle.relay.specs.Own.{RelayedAgain, WholeRelayed, cut_first}
+use Rattle.period_grammar.specs.Events.{Event}
+use Rattle.relay_laws.specs.Own.{RelayedAgain, WholeRelayed, cut_first}
 use Rattle.relay.specs.Relayed.{relayed}
 use Rattle.relay.proofs.Conforming.{relayed_conforms}
-use Rattle.relay.proofs.OneSpelling.{one_spelling, free_spelling_agrees}
+use Rattle.relay_laws.proofs.OneSpelling.{one_spelling, free_spelling_agrees}
 use Rattle.command_line.specs.Commands.{IsCommand}
 use Rattle.command_line.specs.declared.command.Command.TheVariants.{Relay}
 use Rattle.hdmi_cli.specs.Endings.{Devices, RunEnds, Unless, status_of}
 use Rattle.hdmi_cli.specs.Exact.{IsAlignedCapture}
-use Rattle.hdmi_cli.specs.Outcome.{Outcome, Relays}
+use Rattle.hdmi_cli.specs.Outcome.{RunOutcome, Relays}
 use Rattle.hdmi_cli.specs.RelayClauses.{IsCleanToEnd, IsPassedOn, past_twelve}
 use Rattle.hdmi_cli.specs.RelaySettles.{IsWritten, IsWrittenButBit3}
 use Rattle.hdmi_cli.specs.Relays.{IsRelayed, whole_tap}
@@ -30,22 +30,22 @@ use Rattle.hdmi_cli.proofs.RelayClean.{relay_passes}
 
 -- What was relayed comes back with its first control period cut to its last twelve columns.
 
-record Back (runs : List ControlRun) (ps : List Period) (o : Outcome) : Type 0 where
+record Back (runs : List ControlRun) (ps : List Period) (o : RunOutcome) : Type 0 where
   status_is : o.status ≡ 0
-  things : List Thing
-  same : relayed things ≡ cut_first (past_twelve runs) (control runs ∷ ps)
-  relayed_is : IsRelayed things o.output
+  events : List Event
+  same : relayed events ≡ cut_first (past_twelve runs) (control runs ∷ ps)
+  relayed_is : IsRelayed events o.output
 
-back : RelayedAgain → (things : List Thing) (text : List ℕ) (runs : List ControlRun) (q : Period) (ps : List Period) (o : Outcome)
-    → relayed things ≡ control runs ∷ (q ∷ ps) → IsRelayed things text → Relays text o → Back runs (q ∷ ps) o
-back law things text runs q ps o are sent does =
+back : RelayedAgain → (events : List Event) (text : List ℕ) (runs : List ControlRun) (q : Period) (ps : List Period) (o : RunOutcome)
+    → relayed events ≡ control runs ∷ (q ∷ ps) → IsRelayed events text → Relays text o → Back runs (q ∷ ps) o
+back law events text runs q ps o are sent does =
     let own : Relays (tapped_capture sent.columns whole_tap) o = subst (λ (bytes : List ℕ). Relays bytes o) sent.output_is does in
-    let made = comes_back law things runs q ps sent.columns o o.status (Some []) (Some o.output) are sent.few sent.spelled refl refl own in
+    let made = comes_back law events runs q ps sent.columns o o.status (Some []) (Some o.output) are sent.few sent.spelled refl refl own in
     record {
       status_is = made.status_is;
-      things = made.things;
+      events = made.events;
       same = made.same;
-      relayed_is = subst (λ (out : List ℕ). IsRelayed made.things out) (sym made.written) made.relayed_is;
+      relayed_is = subst (λ (out : List ℕ). IsRelayed made.events out) (sym made.written) made.relayed_is;
     }
 
 -- Twelve columns are not cut again.
@@ -67,39 +67,39 @@ cut_is runs ps = refl
 
 -- So the third is the second.
 
-third_is : RelayedAgain → (runs : List ControlRun) (q : Period) (ps : List Period) (second third : Outcome) → Back runs (q ∷ ps) second → Relays second.output third
+third_is : RelayedAgain → (runs : List ControlRun) (q : Period) (ps : List Period) (second third : RunOutcome) → Back runs (q ∷ ps) second → Relays second.output third
     → (third.status ≡ 0) × (third.output ≡ second.output)
 third_is law runs q ps second third b does =
     let cut = longest (drop (past_twelve runs) (values_of runs)) in
     let is = cut_is runs (q ∷ ps) in
-    let c = back law b.things second.output cut q ps third (b.same ∙ is) b.relayed_is does in
-    let same : relayed c.things ≡ relayed b.things =
+    let c = back law b.events second.output cut q ps third (b.same ∙ is) b.relayed_is does in
+    let same : relayed c.events ≡ relayed b.events =
     c.same ∙ ap (cut_first (past_twelve cut)) (sym is) ∙ cut_again runs (q ∷ ps) ∙ sym b.same in
     let spelled = subst (λ (xs : List Period). Spells xs c.relayed_is.columns) same c.relayed_is.spelled in
-    let columns = one_spelling (relayed b.things) c.relayed_is.columns b.relayed_is.columns spelled b.relayed_is.spelled in
+    let columns = one_spelling (relayed b.events) c.relayed_is.columns b.relayed_is.columns spelled b.relayed_is.spelled in
     (c.status_is, c.relayed_is.output_is ∙ ap (λ (cs : List Column). tapped_capture cs whole_tap) columns ∙ sym b.relayed_is.output_is)
 
-by_periods : RelayedAgain → (things : List Thing) (text : List ℕ) (ps : List Period) (second third : Outcome) → IsConforming ps → relayed things ≡ ps → IsRelayed things text
+by_periods : RelayedAgain → (events : List Event) (text : List ℕ) (ps : List Period) (second third : RunOutcome) → IsConforming ps → relayed events ≡ ps → IsRelayed events text
     → Relays text second → second.status ≡ 0 → Relays second.output third → (third.status ≡ 0) × (third.output ≡ second.output)
 unfolding conforms
-by_periods law things text [] second third good are sent does zero next = absurd cc
-by_periods law things text (control runs ∷ []) second third good are sent does zero next =
+by_periods law events text [] second third good are sent does zero next = absurd cc
+by_periods law events text (control runs ∷ []) second third good are sent does zero next =
     let own : Relays (tapped_capture sent.columns whole_tap) second = subst (λ (bytes : List ℕ). Relays bytes second) sent.output_is does in
-    let none = stays_nowhere things runs sent.columns second second.status (Some []) (Some second.output) are sent.few sent.spelled refl refl own in
+    let none = stays_nowhere events runs sent.columns second second.status (Some []) (Some second.output) are sent.few sent.spelled refl refl own in
     let seven = none.0 in
     absurd (omega (arith, seven, zero))
-by_periods law things text (control runs ∷ (q ∷ ps)) second third good are sent does zero next =
-    third_is law runs q ps second third (back law things text runs q ps second are sent does) next
-by_periods law things text (video bytes ∷ ps) second third good are sent does zero next = absurd cc
-by_periods law things text (island x ∷ ps) second third good are sent does zero next = absurd cc
+by_periods law events text (control runs ∷ (q ∷ ps)) second third good are sent does zero next =
+    third_is law runs q ps second third (back law events text runs q ps second are sent does) next
+by_periods law events text (video bytes ∷ ps) second third good are sent does zero next = absurd cc
+by_periods law events text (island x ∷ ps) second third good are sent does zero next = absurd cc
 
 pub relay_settles : RelayedAgain → (words : List (List ℕ)) (ending : Ending) (before after : Devices) (status : ℕ) → RunEnds words ending before after → status ≡ status_of ending → IsCommand words Relay
-    → (things : List Thing) (text : List ℕ) → IsRelayed things text → (second : Outcome) → Relays text second → second.status ≡ 0 → before.left ≡ Some second.output
+    → (events : List Event) (text : List ℕ) → IsRelayed events text → (second : RunOutcome) → Relays text second → second.status ≡ 0 → before.left ≡ Some second.output
     → Unless (IsWritten second.output) status before after
-relay_settles law words ending before after status ends is named things text sent second does zero left =
+relay_settles law words ending before after status ends is named events text sent second does zero left =
     run_ended (IsWritten second.output) Relay words ending before after status ends is named (λ answers.
     let answer = answers second.output left in
-    let same = by_periods law things text (relayed things) second answer.outcome (relayed_conforms things) refl sent does zero answer.does in
+    let same = by_periods law events text (relayed events) second answer.outcome (relayed_conforms events) refl sent does zero answer.does in
     (sym answer.status ∙ same.0, subst (λ (out : List ℕ). Appends before.held after.held out) same.1 answer.written))
 
 -- A clean capture.
@@ -107,7 +107,7 @@ relay_settles law words ending before after status ends is named things text sen
 agreed : (cs : List Column) (status : ℕ) (old new : Option (List ℕ)) → IsPassedOn cs status old new → IsWrittenButBit3 cs status old new
 agreed cs status old new (inl h) =
     let sent = h.2.1 in
-    inl (h.0, h.1, (sent.periods, h.2.0, sent.conforming, sent.came, free_spelling_agrees sent.periods cs h.2.0 sent.came sent.spelled, h.2.2))
+    inl (h.0, h.1, (sent.periods, h.2.0, sent.conforming, sent.reception, free_spelling_agrees sent.periods cs h.2.0 sent.reception sent.spelled, h.2.2))
 agreed cs status old new (inr h) = inr h
 
 in_each : (P Q : ℕ → Option (List ℕ) → Option (List ℕ) → Type 0) (status : ℕ) (before after : Devices) → (P status before.held after.held → Q status before.held after.held)

@@ -10,13 +10,13 @@ use Rattle.capture_file.specs.declared.fault.CaptureFault.{CaptureFault}
 use Rattle.capture_file.proofs.Marks.{consumed}
 use Rattle.capture_file.proofs.Damages.{nothing_written}
 use Rattle.period_grammar.specs.Exact.{faultless}
-use Rattle.period_grammar.specs.Things.{Thing}
-use Rattle.link_sink.specs.Alignment.{AreTold, told_by, IsAlignedTold}
+use Rattle.period_grammar.specs.Events.{Event}
+use Rattle.link_sink.specs.Alignment.{AreReported, reported_by, IsAlignedReported}
 use Rattle.link_sink.specs.Grammar.{link_grammar}
-use Rattle.link_sink.specs.Sinks.{Fed, IsToldSoFar}
+use Rattle.link_sink.specs.Sinks.{Fed, IsReportedSoFar}
 use Rattle.link_sink.specs.declared.hear.Outcome.{Outcome as Hearing}
 use Rattle.relay.specs.Relayed.{relayed}
-use Rattle.relay.specs.Standing.{StandsFor, Took, Broke, IsTooLong}
+use Rattle.relay.specs.Standing.{RelayRepresents, Took, Broke, IsTooLong}
 use Rattle.relay.specs.declared.relaying.Relay.{Relay as RelayValue}
 use Rattle.relay.specs.declared.relaying.RelayFault.TheVariants.{Long, NoMemory as Wanting}
 use Rattle.relay.specs.declared.relaying.RelayFault.{RelayFault}
@@ -29,15 +29,15 @@ use Rattle.hdmi_cli.specs.Blocks.{AreBefore, AreNext}
 use Rattle.link_sink.specs.Ears.{IsBroken, IsHeardSoFar}
 use Rattle.hdmi_cli.specs.Endings.{Devices, Ends, IsCut, IsWhole, RelayEnds, StreamEnds, faulty_end, marked_end, relay_ending}
 use Rattle.hdmi_cli.specs.Notes.{alignment_note, capture_note, long_note}
-use Rattle.hdmi_cli.specs.Outcome.{Outcome, Relays}
+use Rattle.hdmi_cli.specs.Outcome.{RunOutcome, Relays}
 use Rattle.hdmi_cli.specs.Relays.{PassesLimit, relay_status, whole_tap}
 use Rattle.hdmi_cli.specs.declared.ending.Ending.{Ending}
 use Rattle.hdmi_cli.specs.declared.ending.Ending.TheVariants.{Done, Faulty, Usage, Listing, Raster, Capture, Place, Frames, TooLong, ReadFailed, WriteFailed, NoMemory, Unaligned}
 
 -- what a relay stands for passes the limit nowhere
-pub few_of : (relay : RelayValue) (things : List Thing) → StandsFor relay things → columns_of (relayed things) ≤ 20000000
-few_of relay things s =
-    let a = stream_columns things in
+pub few_of : (relay : RelayValue) (events : List Event) → RelayRepresents relay events → columns_of (relayed events) ≤ 20000000
+few_of relay events s =
+    let a = stream_columns events in
     let b = s.columns in
     let d = s.period_columns in
     let f = s.few in
@@ -45,90 +45,90 @@ few_of relay things s =
 
 -- the capture was heard to its end, and what is relayed of it was written, whole or in part
 
-record IsHeardWhole (fed : Fed) (things : List Thing) (before after : Devices) : Type 0 where
+record IsHeardWhole (fed : Fed) (events : List Event) (before after : Devices) : Type 0 where
   columns : ℕ
   captured : (bytes : List ℕ) → before.left ≡ Some bytes → IsCaptureOf fed.blue fed.green fed.red bytes
   ended : IsAtEnd after.left
-  told : IsAlignedTold fed.blue fed.green fed.red columns things
-  few : columns_of (relayed things) ≤ 20000000
+  reported : IsAlignedReported fed.blue fed.green fed.red columns events
+  few : columns_of (relayed events) ≤ 20000000
 
-abbrev sent_outcome : List Thing → List ℕ → Outcome
-sent_outcome things output = record { status = relay_status (faultless things); output = output; note = [] }
+abbrev sent_outcome : List Event → List ℕ → RunOutcome
+sent_outcome events output = record { status = relay_status (faultless events); output = output; note = [] }
 
-sends : (fed : Fed) (things : List Thing) (before after : Devices) (columns : List Column) (bytes : List ℕ) → IsHeardWhole fed things before after → Spells (relayed things) columns → before.left ≡ Some bytes
-    → Relays bytes (sent_outcome things (tapped_capture columns whole_tap))
-sends fed things before after columns bytes h spelled told =
-    inl (fed.blue, fed.green, fed.red, h.columns, things, tapped_capture columns whole_tap, h.captured bytes told, h.told, record { columns = columns; few = h.few; spelled = spelled; output_is = refl }, refl)
+sends : (fed : Fed) (events : List Event) (before after : Devices) (columns : List Column) (bytes : List ℕ) → IsHeardWhole fed events before after → Spells (relayed events) columns → before.left ≡ Some bytes
+    → Relays bytes (sent_outcome events (tapped_capture columns whole_tap))
+sends fed events before after columns bytes h spelled reported =
+    inl (fed.blue, fed.green, fed.red, h.columns, events, tapped_capture columns whole_tap, h.captured bytes reported, h.reported, record { columns = columns; few = h.few; spelled = spelled; output_is = refl }, refl)
 
 known_status : (b : Bool) → Contains (0 ∷ 1 ∷ []) (relay_status b)
 known_status true = (0, omega arith, refl)
 known_status false = (1, omega arith, refl)
 
-sent_ends : (fed : Fed) (things : List Thing) (e : Ending) (before after : Devices) → IsHeardWhole fed things before after
-    → RelayEnds things e before.held after.held before.output_faults after.output_faults → Ends Relay e before after
-sent_ends fed things Done before after h is = (
+sent_ends : (fed : Fed) (events : List Event) (e : Ending) (before after : Devices) → IsHeardWhole fed events before after
+    → RelayEnds events e before.held after.held before.output_faults after.output_faults → Ends Relay e before after
+sent_ends fed events Done before after h is = (
   h.ended,
-  λ bytes told. record {
-    outcome = sent_outcome things (tapped_capture is.1.columns whole_tap);
-    does = sends fed things before after is.1.columns bytes h is.1.spelled told;
+  λ bytes reported. record {
+    outcome = sent_outcome events (tapped_capture is.1.columns whole_tap);
+    does = sends fed events before after is.1.columns bytes h is.1.spelled reported;
     status = ap relay_status is.0;
     note = refl;
     written = is.1.written;
   },
 )
-sent_ends fed things Faulty before after h is = (
+sent_ends fed events Faulty before after h is = (
   h.ended,
-  λ bytes told. record {
-    outcome = sent_outcome things (tapped_capture is.1.columns whole_tap);
-    does = sends fed things before after is.1.columns bytes h is.1.spelled told;
+  λ bytes reported. record {
+    outcome = sent_outcome events (tapped_capture is.1.columns whole_tap);
+    does = sends fed events before after is.1.columns bytes h is.1.spelled reported;
     status = ap relay_status is.0;
     note = refl;
     written = is.1.written;
   },
 )
-sent_ends fed things WriteFailed before after h is = (
+sent_ends fed events WriteFailed before after h is = (
   is.0,
-  λ bytes told. record {
-    outcome = sent_outcome things (tapped_capture is.1.columns whole_tap);
+  λ bytes reported. record {
+    outcome = sent_outcome events (tapped_capture is.1.columns whole_tap);
     gone = is.1.gone;
-    does = sends fed things before after is.1.columns bytes h is.1.spelled told;
-    status = known_status (faultless things);
+    does = sends fed events before after is.1.columns bytes h is.1.spelled reported;
+    status = known_status (faultless events);
     missing = is.1.missing;
     written = is.1.written;
   },
 )
-sent_ends fed things NoMemory before after h is = (is, λ on. absurd on)
-sent_ends fed things Usage before after h is = absurd is
-sent_ends fed things (Listing fault) before after h is = absurd is
-sent_ends fed things (Raster fault) before after h is = absurd is
-sent_ends fed things (Capture fault) before after h is = absurd is
-sent_ends fed things (Place i) before after h is = absurd is
-sent_ends fed things (Frames fault) before after h is = absurd is
-sent_ends fed things TooLong before after h is = absurd is
-sent_ends fed things ReadFailed before after h is = absurd is
-sent_ends fed things Unaligned before after h is = absurd is
+sent_ends fed events NoMemory before after h is = (is, λ on. absurd on)
+sent_ends fed events Usage before after h is = absurd is
+sent_ends fed events (Listing fault) before after h is = absurd is
+sent_ends fed events (Raster fault) before after h is = absurd is
+sent_ends fed events (Capture fault) before after h is = absurd is
+sent_ends fed events (Place i) before after h is = absurd is
+sent_ends fed events (Frames fault) before after h is = absurd is
+sent_ends fed events TooLong before after h is = absurd is
+sent_ends fed events ReadFailed before after h is = absurd is
+sent_ends fed events Unaligned before after h is = absurd is
 
-pub heard_sent : (fed : Fed) (outcome : Hearing) (things : List Thing) (relay : RelayValue) (e : Ending) (before after : Devices) → AreTold fed.blue fed.green fed.red outcome things → outcome.aligned ≡ true
-    → ((bytes : List ℕ) → before.left ≡ Some bytes → IsCaptureOf fed.blue fed.green fed.red bytes) → IsAtEnd after.left → StandsFor relay things
-    → RelayEnds things e before.held after.held before.output_faults after.output_faults → Ends Relay e before after
-heard_sent fed outcome things relay e before after told is captured ended stands ends =
-    sent_ends fed things e before after (record {
+pub heard_sent : (fed : Fed) (outcome : Hearing) (events : List Event) (relay : RelayValue) (e : Ending) (before after : Devices) → AreReported fed.blue fed.green fed.red outcome events → outcome.aligned ≡ true
+    → ((bytes : List ℕ) → before.left ≡ Some bytes → IsCaptureOf fed.blue fed.green fed.red bytes) → IsAtEnd after.left → RelayRepresents relay events
+    → RelayEnds events e before.held after.held before.output_faults after.output_faults → Ends Relay e before after
+heard_sent fed outcome events relay e before after reported is captured ended stands ends =
+    sent_ends fed events e before after (record {
       columns = outcome.columns;
       captured = captured;
       ended = ended;
-      told = subst (λ b. told_by b fed.blue fed.green fed.red outcome.columns things) is told;
-      few = few_of relay things stands;
+      reported = subst (λ b. reported_by b fed.blue fed.green fed.red outcome.columns events) is reported;
+      few = few_of relay events stands;
     }) ends
 
 -- lanes that are aligned nowhere
-pub nowhere_sent : (fed : Fed) (outcome : Hearing) (things : List Thing) (before after : Devices) → AreTold fed.blue fed.green fed.red outcome things → outcome.aligned ≡ false
+pub nowhere_sent : (fed : Fed) (outcome : Hearing) (events : List Event) (before after : Devices) → AreReported fed.blue fed.green fed.red outcome events → outcome.aligned ≡ false
     → ((bytes : List ℕ) → before.left ≡ Some bytes → IsCaptureOf fed.blue fed.green fed.red bytes) → IsAtEnd after.left → Keeps before.held after.held → Ends Relay Unaligned before after
-nowhere_sent fed outcome things before after told not captured ended kept = (
+nowhere_sent fed outcome events before after reported not captured ended kept = (
   ended,
   kept,
   λ bytes is. record {
     outcome = record { status = 7; output = []; note = alignment_note };
-    does = inr (inl (fed.blue, fed.green, fed.red, outcome.columns, things, captured bytes is, subst (λ b. told_by b fed.blue fed.green fed.red outcome.columns things) not told, refl));
+    does = inr (inl (fed.blue, fed.green, fed.red, outcome.columns, events, captured bytes is, subst (λ b. reported_by b fed.blue fed.green fed.red outcome.columns events) not reported, refl));
     status = refl;
     note = refl;
     written = nothing_written before.held after.held kept;
@@ -136,14 +136,14 @@ nowhere_sent fed outcome things before after told not captured ended kept = (
 )
 
 -- bytes that stop being a capture
-pub refused_sent : (fault : CaptureFault) (first now : RelayValue) (before after : Devices) → StandsFor first [] → Keeps before.held after.held
+pub refused_sent : (fault : CaptureFault) (first now : RelayValue) (before after : Devices) → RelayRepresents first [] → Keeps before.held after.held
     → ((bytes : List ℕ) → before.left ≡ Some bytes → IsFault bytes fault × ((fed : Fed) × AreBefore bytes (place_of fault) fed × IsHeardSoFar link_grammar Took fed first now))
     → Ends Relay (Capture fault) before after
 refused_sent fault first now before after fresh kept bad = (
   λ last. kept,
-  λ bytes told. let b = bad bytes told in let h = b.1.2 in record {
+  λ bytes reported. let b = bad bytes reported in let h = b.1.2 in record {
     outcome = record { status = 3; output = []; note = capture_note fault };
-    does = inr (inr (inr (fault, record { is = b.0; fed = b.1.0; before = b.1.1; things = h.things; told = h.told; few = few_of now h.things (h.taken.0 [] fresh) }, refl)));
+    does = inr (inr (inr (fault, record { is = b.0; fed = b.1.0; before = b.1.1; events = h.events; reported = h.reported; few = few_of now h.events (h.taken.0 [] fresh) }, refl)));
     status = refl;
     note = refl;
     written = nothing_written before.held after.held kept;
@@ -152,63 +152,63 @@ refused_sent fault first now before after fresh kept bad = (
 
 -- too much was told: some things, and with one more too many columns
 
-passes : (first between now : RelayValue) (things taken rest : List Thing) (next : Thing) → StandsFor first [] → Took first between taken → IsTooLong between next → things ≡ taken ++ next ∷ rest
-    → 20000000 < columns_of (relayed things)
-passes first between now things taken rest next fresh took long is =
+passes : (first between now : RelayValue) (events taken rest : List Event) (next : Event) → RelayRepresents first [] → Took first between taken → IsTooLong between next → events ≡ taken ++ next ∷ rest
+    → 20000000 < columns_of (relayed events)
+passes first between now events taken rest next fresh took long is =
     let more = long taken (took.0 [] fresh) in
     let grow = columns_grow (taken ++ next ∷ []) rest in
-    let same : columns_of (relayed ((taken ++ next ∷ []) ++ rest)) ≡ columns_of (relayed things) = ap (λ ts. columns_of (relayed ts)) (append_assoc taken (next ∷ []) rest ∙ sym is) in
+    let same : columns_of (relayed ((taken ++ next ∷ []) ++ rest)) ≡ columns_of (relayed events) = ap (λ ts. columns_of (relayed ts)) (append_assoc taken (next ∷ []) rest ∙ sym is) in
     omega (arith, more, grow, same)
 
-abbrev Told : Option (List ℕ) → Fed → Fed → List Thing → List ℕ → RelayValue → RelayValue → Type 0
-Told rest before now things read first last =
-    (AreNext before now read × IsToldSoFar now things × IsBroken link_grammar Took Broke before things first last)
-    ⊎ ((outcome : Hearing) × IsAtEnd rest × IsCaptureOf now.blue now.green now.red read × AreTold now.blue now.green now.red outcome things × IsBroken link_grammar Took Broke now things first last)
+abbrev Reported : Option (List ℕ) → Fed → Fed → List Event → List ℕ → RelayValue → RelayValue → Type 0
+Reported rest before now events read first last =
+    (AreNext before now read × IsReportedSoFar now events × IsBroken link_grammar Took Broke before events first last)
+    ⊎ ((outcome : Hearing) × IsAtEnd rest × IsCaptureOf now.blue now.green now.red read × AreReported now.blue now.green now.red outcome events × IsBroken link_grammar Took Broke now events first last)
 
-long_next : (bytes read rest : List ℕ) (before now : Fed) (things : List Thing) → bytes ≡ read ++ rest → (next : AreNext before now read) → IsToldSoFar now things → 20000000 < columns_of (relayed things) → PassesLimit bytes
-long_next bytes read rest before now things is next told more =
-    record { fed = now; things = things; told = inl (read, rest, next.counts, next.j + 1, is, next.has, told); passes = more }
+long_next : (bytes read rest : List ℕ) (before now : Fed) (events : List Event) → bytes ≡ read ++ rest → (next : AreNext before now read) → IsReportedSoFar now events → 20000000 < columns_of (relayed events) → PassesLimit bytes
+long_next bytes read rest before now events is next reported more =
+    record { fed = now; events = events; reported = inl (read, rest, next.counts, next.j + 1, is, next.has, reported); passes = more }
 
 nothing_more : {A : Type 0} (x : A) (xs : List A) → [] ≡ x ∷ xs → ⊥
 nothing_more x xs h = cc
 
-aligned_if : (b : Bool) (x y z : List Bool) (columns : ℕ) (things taken rest : List Thing) (next : Thing) → told_by b x y z columns things → things ≡ taken ++ (next ∷ rest) → IsAlignedTold x y z columns things
-aligned_if true x y z columns things taken rest next told is = told
-aligned_if false x y z columns things [] rest next told is = absurd (nothing_more next rest (sym told.told ∙ is))
-aligned_if false x y z columns things (t ∷ taken) rest next told is = absurd (nothing_more t (taken ++ (next ∷ rest)) (sym told.told ∙ is))
+aligned_if : (b : Bool) (x y z : List Bool) (columns : ℕ) (events taken rest : List Event) (next : Event) → reported_by b x y z columns events → events ≡ taken ++ (next ∷ rest) → IsAlignedReported x y z columns events
+aligned_if true x y z columns events taken rest next reported is = reported
+aligned_if false x y z columns events [] rest next reported is = absurd (nothing_more next rest (sym reported.reported ∙ is))
+aligned_if false x y z columns events (t ∷ taken) rest next reported is = absurd (nothing_more t (taken ++ (next ∷ rest)) (sym reported.reported ∙ is))
 
 -- the trouble of a relay that broke
-broke_of : (first last : RelayValue) (fed : Fed) (things : List Thing) → first.trouble ≡ None → (b : IsBroken link_grammar Took Broke fed things first last)
+broke_of : (first last : RelayValue) (fed : Fed) (events : List Event) → first.trouble ≡ None → (b : IsBroken link_grammar Took Broke fed events first last)
     → ((last.trouble ≡ Some Long) × IsTooLong b.stops.between b.stops.next) ⊎ (last.trouble ≡ Some Wanting)
-broke_of first last fed things none b = b.stops.broke_then (b.stops.took_some.1 ∙ none)
+broke_of first last fed events none b = b.stops.broke_then (b.stops.took_some.1 ∙ none)
 
-too_long : (left rest : Option (List ℕ)) (first last : RelayValue) (before now : Fed) (things : List Thing) (read : List ℕ) → StandsFor first [] → first.trouble ≡ None → Consumes left rest read → Told rest before now things read first last
+too_long : (left rest : Option (List ℕ)) (first last : RelayValue) (before now : Fed) (events : List Event) (read : List ℕ) → RelayRepresents first [] → first.trouble ≡ None → Consumes left rest read → Reported rest before now events read first last
     → ((last.trouble ≡ Some Long) × ((bytes : List ℕ) → left ≡ Some bytes → PassesLimit bytes)) ⊎ (last.trouble ≡ Some Wanting)
-too_long left rest first last before now things read fresh none took (inl (next, told, b)) =
-    by (broke_of first last before things none b)
+too_long left rest first last before now events read fresh none took (inl (next, reported, b)) =
+    by (broke_of first last before events none b)
   where
     by : ((last.trouble ≡ Some Long) × IsTooLong b.stops.between b.stops.next) ⊎ (last.trouble ≡ Some Wanting) → ((last.trouble ≡ Some Long) × ((bytes : List ℕ) → left ≡ Some bytes → PassesLimit bytes)) ⊎ (last.trouble ≡ Some Wanting)
     by (inl (long, more)) = inl (
       long,
       λ bytes is. let c = consumed left rest bytes read is took in
-          long_next bytes read c.0 before now things c.1 next told (passes first b.stops.between last things b.stops.taken b.stops.rest b.stops.next fresh b.stops.took_some more b.stops.things_are),
+          long_next bytes read c.0 before now events c.1 next reported (passes first b.stops.between last events b.stops.taken b.stops.rest b.stops.next fresh b.stops.took_some more b.stops.events_are),
     )
     by (inr wanting) = inr wanting
-too_long left rest first last before now things read fresh none took (inr (outcome, ended, captured, told, b)) =
-    by (broke_of first last now things none b)
+too_long left rest first last before now events read fresh none took (inr (outcome, ended, captured, reported, b)) =
+    by (broke_of first last now events none b)
   where
     by : ((last.trouble ≡ Some Long) × IsTooLong b.stops.between b.stops.next) ⊎ (last.trouble ≡ Some Wanting) → ((last.trouble ≡ Some Long) × ((bytes : List ℕ) → left ≡ Some bytes → PassesLimit bytes)) ⊎ (last.trouble ≡ Some Wanting)
     by (inl (long, more)) = inl (
       long,
       λ bytes is. record {
         fed = now;
-        things = things;
-        told = inr (
+        events = events;
+        reported = inr (
           outcome.columns,
           subst (λ (bs : List ℕ). IsCaptureOf now.blue now.green now.red bs) (sym (all_read left rest read bytes took ended is)) captured,
-          aligned_if outcome.aligned now.blue now.green now.red outcome.columns things b.stops.taken b.stops.rest b.stops.next told b.stops.things_are,
+          aligned_if outcome.aligned now.blue now.green now.red outcome.columns events b.stops.taken b.stops.rest b.stops.next reported b.stops.events_are,
         );
-        passes = passes first b.stops.between last things b.stops.taken b.stops.rest b.stops.next fresh b.stops.took_some more b.stops.things_are;
+        passes = passes first b.stops.between last events b.stops.taken b.stops.rest b.stops.next fresh b.stops.took_some more b.stops.events_are;
       },
     )
     by (inr wanting) = inr wanting
@@ -217,9 +217,9 @@ troubled : (before after : Devices) (trouble : Option RelayFault) → Keeps befo
     → ((trouble ≡ Some Long) × ((bytes : List ℕ) → before.left ≡ Some bytes → PassesLimit bytes)) ⊎ (trouble ≡ Some Wanting) → Ends Relay (relay_ending trouble) before after
 troubled before after trouble kept (inl (long, passing)) = subst (λ (t : Option RelayFault). Ends Relay (relay_ending t) before after) (sym long) (
   kept,
-  λ bytes told. record {
+  λ bytes reported. record {
     outcome = record { status = 3; output = []; note = long_note };
-    does = inr (inr (inl (passing bytes told, refl)));
+    does = inr (inr (inl (passing bytes reported, refl)));
     status = refl;
     note = refl;
     written = nothing_written before.held after.held kept;
@@ -227,44 +227,44 @@ troubled before after trouble kept (inl (long, passing)) = subst (λ (t : Option
 )
 troubled before after trouble kept (inr wanting) = subst (λ (t : Option RelayFault). Ends Relay (relay_ending t) before after) (sym wanting) (kept, λ on. absurd on)
 
-pub broken_sent : (before after : Devices) (first last : RelayValue) (fed now : Fed) (things : List Thing) (read : List ℕ) → StandsFor first [] → first.trouble ≡ None → Keeps before.held after.held → Consumes before.left after.left read
-    → Told after.left fed now things read first last → Ends Relay (relay_ending last.trouble) before after
-broken_sent before after first last fed now things read fresh none kept took told =
-    troubled before after last.trouble kept (too_long before.left after.left first last fed now things read fresh none took told)
+pub broken_sent : (before after : Devices) (first last : RelayValue) (fed now : Fed) (events : List Event) (read : List ℕ) → RelayRepresents first [] → first.trouble ≡ None → Keeps before.held after.held → Consumes before.left after.left read
+    → Reported after.left fed now events read first last → Ends Relay (relay_ending last.trouble) before after
+broken_sent before after first last fed now events read fresh none kept took reported =
+    troubled before after last.trouble kept (too_long before.left after.left first last fed now events read fresh none took reported)
 
 -- a stream of what is relayed was written
 
-good_ends : (things : List Thing) (ps : List Period) (e : Ending) (old new : Option (List ℕ)) (before after : ℕ) → ps ≡ relayed things → faultless things ≡ true → StreamEnds Spells whole_tap ps e old new before after
-    → RelayEnds things e old new before after
-good_ends things ps Done old new before after is good ends = (good, subst (λ (qs : List Period). IsWhole Spells whole_tap qs old new) is ends)
-good_ends things ps WriteFailed old new before after is good ends = (ends.0, subst (λ (qs : List Period). IsCut Spells whole_tap qs old new) is ends.1)
-good_ends things ps NoMemory old new before after is good ends = ends
-good_ends things ps Faulty old new before after is good ends = absurd ends
-good_ends things ps Usage old new before after is good ends = absurd ends
-good_ends things ps (Listing fault) old new before after is good ends = absurd ends
-good_ends things ps (Raster fault) old new before after is good ends = absurd ends
-good_ends things ps (Capture fault) old new before after is good ends = absurd ends
-good_ends things ps (Place i) old new before after is good ends = absurd ends
-good_ends things ps (Frames fault) old new before after is good ends = absurd ends
-good_ends things ps TooLong old new before after is good ends = absurd ends
-good_ends things ps ReadFailed old new before after is good ends = absurd ends
-good_ends things ps Unaligned old new before after is good ends = absurd ends
+good_ends : (events : List Event) (ps : List Period) (e : Ending) (old new : Option (List ℕ)) (before after : ℕ) → ps ≡ relayed events → faultless events ≡ true → StreamEnds Spells whole_tap ps e old new before after
+    → RelayEnds events e old new before after
+good_ends events ps Done old new before after is good ends = (good, subst (λ (qs : List Period). IsWhole Spells whole_tap qs old new) is ends)
+good_ends events ps WriteFailed old new before after is good ends = (ends.0, subst (λ (qs : List Period). IsCut Spells whole_tap qs old new) is ends.1)
+good_ends events ps NoMemory old new before after is good ends = ends
+good_ends events ps Faulty old new before after is good ends = absurd ends
+good_ends events ps Usage old new before after is good ends = absurd ends
+good_ends events ps (Listing fault) old new before after is good ends = absurd ends
+good_ends events ps (Raster fault) old new before after is good ends = absurd ends
+good_ends events ps (Capture fault) old new before after is good ends = absurd ends
+good_ends events ps (Place i) old new before after is good ends = absurd ends
+good_ends events ps (Frames fault) old new before after is good ends = absurd ends
+good_ends events ps TooLong old new before after is good ends = absurd ends
+good_ends events ps ReadFailed old new before after is good ends = absurd ends
+good_ends events ps Unaligned old new before after is good ends = absurd ends
 
-faulty_ends : (things : List Thing) (ps : List Period) (e : Ending) (old new : Option (List ℕ)) (before after : ℕ) → ps ≡ relayed things → faultless things ≡ false → StreamEnds Spells whole_tap ps e old new before after
-    → RelayEnds things (faulty_end e) old new before after
-faulty_ends things ps Done old new before after is bad ends = (bad, subst (λ (qs : List Period). IsWhole Spells whole_tap qs old new) is ends)
-faulty_ends things ps WriteFailed old new before after is bad ends = (ends.0, subst (λ (qs : List Period). IsCut Spells whole_tap qs old new) is ends.1)
-faulty_ends things ps NoMemory old new before after is bad ends = ends
-faulty_ends things ps Faulty old new before after is bad ends = absurd ends
-faulty_ends things ps Usage old new before after is bad ends = absurd ends
-faulty_ends things ps (Listing fault) old new before after is bad ends = absurd ends
-faulty_ends things ps (Raster fault) old new before after is bad ends = absurd ends
-faulty_ends things ps (Capture fault) old new before after is bad ends = absurd ends
-faulty_ends things ps (Place i) old new before after is bad ends = absurd ends
-faulty_ends things ps (Frames fault) old new before after is bad ends = absurd ends
-faulty_ends things ps TooLong old new before after is bad ends = absurd ends
-faulty_ends things ps ReadFailed old new before after is bad ends = absurd ends
-faulty_ends things ps Unaligned old new before after is bad ends = absurd ends
+faulty_ends : (events : List Event) (ps : List Period) (e : Ending) (old new : Option (List ℕ)) (before after : ℕ) → ps ≡ relayed events → faultless events ≡ false → StreamEnds Spells whole_tap ps e old new before after
+    → RelayEnds events (faulty_end e) old new before after
+faulty_ends events ps Done old new before after is bad ends = (bad, subst (λ (qs : List Period). IsWhole Spells whole_tap qs old new) is ends)
+faulty_ends events ps WriteFailed old new before after is bad ends = (ends.0, subst (λ (qs : List Period). IsCut Spells whole_tap qs old new) is ends.1)
+faulty_ends events ps NoMemory old new before after is bad ends = ends
+faulty_ends events ps Faulty old new before after is bad ends = absurd ends
+faulty_ends events ps Usage old new before after is bad ends = absurd ends
+faulty_ends events ps (Listing fault) old new before after is bad ends = absurd ends
+faulty_ends events ps (Raster fault) old new before after is bad ends = absurd ends
+faulty_ends events ps (Capture fault) old new before after is bad ends = absurd ends
+faulty_ends events ps (Place i) old new before after is bad ends = absurd ends
+faulty_ends events ps (Frames fault) old new before after is bad ends = absurd ends
+faulty_ends events ps TooLong old new before after is bad ends = absurd ends
+faulty_ends events ps ReadFailed old new before after is bad ends = absurd ends
+faulty_ends events ps Unaligned old new before after is bad ends = absurd ends
 
 not_of : (b : Bool) → true ≡ not b → b ≡ false
 not_of false it = refl
@@ -280,7 +280,7 @@ yes_of false it = absurd (unlike it)
     unlike : false ≡ true → ⊥
     unlike h = cc
 
-pub marked_ends : (faulty : Bool) (things : List Thing) (ps : List Period) (e : Ending) (old new : Option (List ℕ)) (before after : ℕ) → ps ≡ relayed things → faulty ≡ not (faultless things)
-    → StreamEnds Spells whole_tap ps e old new before after → RelayEnds things (marked_end faulty e) old new before after
-marked_ends true things ps e old new before after is heard ends = faulty_ends things ps e old new before after is (not_of (faultless things) heard) ends
-marked_ends false things ps e old new before after is heard ends = good_ends things ps e old new before after is (yes_of (faultless things) heard) ends
+pub marked_ends : (faulty : Bool) (events : List Event) (ps : List Period) (e : Ending) (old new : Option (List ℕ)) (before after : ℕ) → ps ≡ relayed events → faulty ≡ not (faultless events)
+    → StreamEnds Spells whole_tap ps e old new before after → RelayEnds events (marked_end faulty e) old new before after
+marked_ends true events ps e old new before after is heard ends = faulty_ends events ps e old new before after is (not_of (faultless events) heard) ends
+marked_ends false events ps e old new before after is heard ends = good_ends events ps e old new before after is (yes_of (faultless events) heard) ends

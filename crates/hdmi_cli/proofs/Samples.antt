@@ -9,7 +9,7 @@ use Rattle.tmds_word.specs.Column.{Column, blues, greens, reds}
 use Rattle.tmds_word.specs.Taps.{part_of}
 use Rattle.tmds_word.proofs.Lists.{length-row_bits}
 use Rattle.capture_file.specs.Captures.{IsCapture, IsCaptureOf, counts_of, header_of, lane_blocks, layout}
-use Rattle.capture_file.specs.Damage.{hurt}
+use Rattle.capture_file.specs.Damage.{damaged}
 use Rattle.capture_file.specs.BlockDamage.{IsDamagedCapture, IsMisplacedLane, SaysBad}
 use Rattle.capture_file.specs.Taps.{tap_count, tap_counts, tap_of, tapped_capture}
 use Rattle.capture_file.specs.declared.damaging.Hit.{Hit}
@@ -17,15 +17,15 @@ use Rattle.capture_file.specs.declared.damaging.DamageError.{DamageError}
 use Rattle.capture_file.specs.declared.damaging.DamageError.TheVariants.{Bad}
 use Rattle.capture_file.specs.declared.fault.CaptureFault.{CaptureFault}
 use Rattle.capture_file.proofs.Damages.{fits_same}
-use Rattle.capture_file.proofs.Halfways.{lane_fits, hurt_all}
+use Rattle.capture_file.proofs.Halfways.{lane_fits, damaged_all}
 use Rattle.capture_file.proofs.Heads.{same_heads, header_same}
 use Rattle.capture_file.proofs.Marks.{consumed}
 use Rattle.capture_file.proofs.Tapped.{tap_is_captured}
 use Rattle.island_pack.specs.Periods.{Period}
 use Rattle.island_pack.specs.Spelling.{Spells}
 use Rattle.source_end.specs.Raster.{raster_of}
-use Rattle.period_grammar.specs.Things.{Thing}
-use Rattle.link_sink.specs.Alignment.{AreTold}
+use Rattle.period_grammar.specs.Events.{Event}
+use Rattle.link_sink.specs.Alignment.{AreReported}
 use Rattle.link_sink.specs.declared.hear.Outcome.{Outcome as Hearing}
 use Rattle.sampling.specs.Counts.{counts_of as sample_counts}
 use Rattle.sampling.specs.Strikes.{hits_of}
@@ -159,24 +159,24 @@ bad_of says e fault h is = subst (SaysBad says) is h
 pub struck_is_capture : (bytes : List ℕ) (hits : List Hit) (whole : List ℕ) → IsDamagedCapture bytes hits whole → IsCapture whole
 struck_is_capture bytes hits whole d =
     let counts = counts_of d.x d.y d.z in
-    let x = hurt_all 0 hits d.x (lane_fits counts hits 0 (length d.x) d.fits refl) in
-    let y = hurt_all 1 hits d.y (lane_fits counts hits 1 (length d.y) d.fits refl) in
-    let z = hurt_all 2 hits d.z (lane_fits counts hits 2 (length d.z) d.fits refl) in
+    let x = damaged_all 0 hits d.x (lane_fits counts hits 0 (length d.x) d.fits refl) in
+    let y = damaged_all 1 hits d.y (lane_fits counts hits 1 (length d.y) d.fits refl) in
+    let z = damaged_all 2 hits d.z (lane_fits counts hits 2 (length d.z) d.fits refl) in
     record {
-      blue = hurt 0 hits d.x;
-      green = hurt 1 hits d.y;
-      red = hurt 2 hits d.z;
+      blue = damaged 0 hits d.x;
+      green = damaged 1 hits d.y;
+      red = damaged 2 hits d.z;
       holds = record {
         head = d.holds.head;
-        headed = header_same d.holds.head counts (counts_of (hurt 0 hits d.x) (hurt 1 hits d.y) (hurt 2 hits d.z)) (by_lane d.x d.y d.z (hurt 0 hits d.x) (hurt 1 hits d.y) (hurt 2 hits d.z) (sym x) (sym y) (sym z)) d.holds.headed;
+        headed = header_same d.holds.head counts (counts_of (damaged 0 hits d.x) (damaged 1 hits d.y) (damaged 2 hits d.z)) (by_lane d.x d.y d.z (damaged 0 hits d.x) (damaged 1 hits d.y) (damaged 2 hits d.z) (sym x) (sym y) (sym z)) d.holds.headed;
         bytes_are = d.whole_is;
       };
     }
 
 -- what is counted of a damaged capture of the generator's content are the counts of a sample
-pub sampled : (frames : ℕ) (damaged : List ℕ) (blue green red : List Bool) (outcome : Hearing) (things : List Thing) (counts : Counts) → IsStruck frames damaged → IsCaptureOf blue green red damaged
-    → AreTold blue green red outcome things → counts ≡ sample_counts outcome.columns things → IsSampled frames counts
-sampled frames damaged blue green red outcome things counts s captured told is =
+pub sampled : (frames : ℕ) (damaged : List ℕ) (blue green red : List Bool) (outcome : Hearing) (events : List Event) (counts : Counts) → IsStruck frames damaged → IsCaptureOf blue green red damaged
+    → AreReported blue green red outcome events → counts ≡ sample_counts outcome.columns events → IsSampled frames counts
+sampled frames damaged blue green red outcome events counts s captured reported is =
     let t = s.tapped in
     let made = t.is_sent.made in
     let hits : s.hits ≡ hits_of sample_tap (raster_of sample_mode made.content) = t.is_sent.hits_are ∙ ap (hits_of sample_tap) made.periods_are in
@@ -192,7 +192,7 @@ sampled frames damaged blue green red outcome things counts s captured told is =
       red = red;
       captured = captured;
       outcome = outcome;
-      things = things;
-      told = told;
+      events = events;
+      reported = reported;
       counts_are = is;
     }

@@ -6,88 +6,88 @@ use Rattle.std.proofs.lemmas.Grind.{flat_map-append}
 use Rattle.tmds_word.specs.Column.{Column}
 use Rattle.audio_out.specs.Frames.{biphase}
 use Rattle.island_pack.specs.Sparse.{IsSparseInPayload}
-use Rattle.period_grammar.specs.Things.{Thing, run, line, word, short, preamble, noise, empty, code, long_line, cut, open_island, packet, close_island, symbols, mended, lost, long_island, broken, guard}
-use Rattle.link_sink.specs.Account.{account}
-use Rattle.link_sink.specs.Laws.{CameOf}
+use Rattle.period_grammar.specs.Events.{Event, run, line, word, short, preamble, noise, empty, code, long_line, cut, open_island, packet, close_island, symbols, mended, lost, long_island, broken, guard}
+use Rattle.link_laws.specs.Account.{account}
+use Rattle.link_laws.specs.Laws.{ReceivedOf}
 use Rattle.listing_laws.specs.ListingLaws.{Each, unlike_in}
-use Rattle.listing_laws.specs.PacketLaws.{IsAsSent, Placed, came_packet, placed, told_packet, told_packets}
+use Rattle.listing_laws.specs.PacketLaws.{IsAsSent, Placed, received_packet, placed, reported_packet, reported_packets}
 use Rattle.listing_laws.proofs.PacketsAsSent.{packets_as_sent}
-use Rattle.listing_laws.proofs.Told.{packets_come_back}
-use Rattle.biphase_listing.specs.StreamText.{biphase_text, samples_at, told_samples}
+use Rattle.listing_laws.proofs.Reported.{packets_come_back}
+use Rattle.biphase_listing.specs.StreamText.{biphase_text, samples_at, reported_samples}
 use Rattle.biphase_listing.proofs.Payload.{samples_of_payload}
 use Rattle.command_line.specs.Commands.{IsCommand}
 use Rattle.command_line.specs.declared.command.Command.TheVariants.{RecoverBiphase}
 use Rattle.hdmi_cli.specs.Endings.{Devices, RunEnds, Unless, status_of}
 use Rattle.hdmi_cli.specs.Headline.{TappedStream, IsTapped, AlignsBy, IsFirstOf, IsRecovered, IsRecoveredBy, aligned_of}
 use Rattle.hdmi_cli.specs.Listings.{biphase_listing}
-use Rattle.hdmi_cli.specs.Sounds.{AreSamples, samples_sent, samples_told}
+use Rattle.hdmi_cli.specs.Sounds.{AreSamples, samples_sent, samples_reported}
 use Rattle.hdmi_cli.specs.declared.ending.Ending.{Ending}
 use Rattle.hdmi_cli.proofs.Headline.{headlined, headlined_anywhere}
 use Rattle.hdmi_cli.proofs.Pictures.{unless_so, within_received}
 
 -- what is told has the samples of the packets that are told
 
-of_thing : (pair : ℕ) (thing : Thing) → samples_at pair thing ≡ flat_map (samples_told pair) (told_packet thing)
+of_event : (pair : ℕ) (event : Event) → samples_at pair event ≡ flat_map (samples_reported pair) (reported_packet event)
 unfolding samples_at
-of_thing pair (run x y) = refl
-of_thing pair (line x) = refl
-of_thing pair (word x y) = refl
-of_thing pair (short x) = refl
-of_thing pair (preamble x) = refl
-of_thing pair (noise x) = refl
-of_thing pair (empty x) = refl
-of_thing pair (code x y) = refl
-of_thing pair (long_line x) = refl
-of_thing pair (cut x) = refl
-of_thing pair (open_island x y) = refl
-of_thing pair (packet p v x) = sym (append-nil (samples_at pair (packet p v x)))
-of_thing pair (close_island x y) = refl
-of_thing pair (symbols x y) = refl
-of_thing pair (mended x y z) = refl
-of_thing pair (lost x y) = refl
-of_thing pair (long_island x) = refl
-of_thing pair (broken x) = refl
-of_thing pair (guard x) = refl
+of_event pair (run x y) = refl
+of_event pair (line x) = refl
+of_event pair (word x y) = refl
+of_event pair (short x) = refl
+of_event pair (preamble x) = refl
+of_event pair (noise x) = refl
+of_event pair (empty x) = refl
+of_event pair (code x y) = refl
+of_event pair (long_line x) = refl
+of_event pair (cut x) = refl
+of_event pair (open_island x y) = refl
+of_event pair (packet p v x) = sym (append-nil (samples_at pair (packet p v x)))
+of_event pair (close_island x y) = refl
+of_event pair (symbols x y) = refl
+of_event pair (mended x y z) = refl
+of_event pair (lost x y) = refl
+of_event pair (long_island x) = refl
+of_event pair (broken x) = refl
+of_event pair (guard x) = refl
 
-of_things : (pair : ℕ) (things : List Thing) → told_samples pair things ≡ flat_map (samples_told pair) (told_packets things)
-unfolding told_samples told_packets
-of_things pair [] = refl
-of_things pair (thing ∷ things) =
-    ap₂ (λ xs ys. xs ++ ys) (of_thing pair thing) (of_things pair things)
-    ∙ sym (flat_map-append (samples_told pair) (told_packet thing) (told_packets things))
+of_events : (pair : ℕ) (events : List Event) → reported_samples pair events ≡ flat_map (samples_reported pair) (reported_packets events)
+unfolding reported_samples reported_packets
+of_events pair [] = refl
+of_events pair (event ∷ events) =
+    ap₂ (λ xs ys. xs ++ ys) (of_event pair event) (of_events pair events)
+    ∙ sym (flat_map-append (samples_reported pair) (reported_packet event) (reported_packets events))
 
 -- each packet that was sent
 
 abbrev IsSent : List Column → List Column → ℕ → Placed → Type 0
-IsSent sent received a k = unlike_in sent received k ≤ 1 → IsAsSent k.packet (came_packet sent received a k).packet (came_packet sent received a k).verdicts
+IsSent sent received a k = unlike_in sent received k ≤ 1 → IsAsSent k.packet (received_packet sent received a k).packet (received_packet sent received a k).verdicts
 
 abbrev HasSamples : ℕ → List Column → List Column → ℕ → Placed → Type 0
-HasSamples pair sent received a k = unlike_in sent received k ≤ 1 → samples_told pair (came_packet sent received a k) ≡ samples_sent pair k
+HasSamples pair sent received a k = unlike_in sent received k ≤ 1 → samples_reported pair (received_packet sent received a k) ≡ samples_sent pair k
 
 each_has : (pair : ℕ) (sent received : List Column) (a : ℕ) (ks : List Placed) → Each (IsSent sent received a) ks → Each (HasSamples pair sent received a) ks
 each_has pair sent received a [] h = tt
 each_has pair sent received a (k ∷ ks) h =
-    let told = came_packet sent received a k in (
-      λ few. samples_of_payload pair told.packet k.packet told.verdicts told.column k.at (h.0 few).header (h.0 few).bodies (h.0 few).kept,
+    let reported = received_packet sent received a k in (
+      λ few. samples_of_payload pair reported.packet k.packet reported.verdicts reported.column k.at (h.0 few).header (h.0 few).bodies (h.0 few).kept,
       each_has pair sent received a ks h.1,
     )
 
 -- what is recovered has the samples that came
-samples_are : (pair : ℕ) (t : TappedStream) (d e f a status : ℕ) (old new : Option (List ℕ)) → CameOf t.periods t.sent t.received
+samples_are : (pair : ℕ) (t : TappedStream) (d e f a status : ℕ) (old new : Option (List ℕ)) → ReceivedOf t.periods t.sent t.received
     → IsRecovered (biphase_listing pair) t d e f a status old new → AreSamples pair t d e f a status old new
 unfolding biphase_text
-samples_are pair t d e f a status old new came h =
+samples_are pair t d e f a status old new reception h =
     let aligned = aligned_of t d e f in
-    let told =
-    of_things pair (account t.periods t.sent t.received a (length aligned))
-    ∙ ap (flat_map (samples_told pair))
-    (packets_come_back t.periods t.sent t.received came a (length aligned) h.accounted.ends (within_received t.periods t.sent t.received aligned a came h.accounted)) in
+    let reported =
+    of_events pair (account t.periods t.sent t.received a (length aligned))
+    ∙ ap (flat_map (samples_reported pair))
+    (packets_come_back t.periods t.sent t.received reception a (length aligned) h.accounted.ends (within_received t.periods t.sent t.received aligned a reception h.accounted)) in
     record {
       accounted = h.accounted;
       begins = h.begins;
       status_is = h.status_is;
-      written = subst (λ samples. Appends old new (biphase samples)) told h.written;
-      samples = each_has pair t.sent t.received a (placed 0 t.periods) (packets_as_sent t.periods t.sent t.received came a);
+      written = subst (λ samples. Appends old new (biphase samples)) reported h.written;
+      samples = each_has pair t.sent t.received a (placed 0 t.periods) (packets_as_sent t.periods t.sent t.received reception a);
     }
 
 -- of sparse damage of payload alone
@@ -99,7 +99,7 @@ sounded words ending before after status ends is pair named t tapped alone d e f
     (λ s old new. (a : ℕ) × IsRecovered (biphase_listing pair) t d e f a s old new)
     (λ s old new. (a : ℕ) × AreSamples pair t d e f a s old new)
     status before after
-    (λ h. (h.0, samples_are pair t d e f h.0 status before.held after.held tapped.came h.1))
+    (λ h. (h.0, samples_are pair t d e f h.0 status before.held after.held tapped.reception h.1))
     (headlined (biphase_listing pair) (RecoverBiphase pair) (λ t tapped o does. does) words ending before after status ends is named t tapped alone d e f first left)
 
 -- and of damage anywhere
@@ -111,5 +111,5 @@ sounded_anywhere words ending before after status ends is pair named t tapped un
     (IsRecoveredBy (biphase_listing pair) t until)
     (λ s old new. (d e f : ℕ) × IsFirstOf t d e f × ((a : ℕ) × (a + 12 ≤ until) × AreSamples pair t d e f a s old new))
     status before after
-    (λ h. (h.0, h.1, h.2, h.3, (h.4.0, h.4.1, samples_are pair t h.0 h.1 h.2 h.4.0 status before.held after.held tapped.came h.4.2)))
+    (λ h. (h.0, h.1, h.2, h.3, (h.4.0, h.4.1, samples_are pair t h.0 h.1 h.2 h.4.0 status before.held after.held tapped.reception h.4.2)))
     (headlined_anywhere (biphase_listing pair) (RecoverBiphase pair) (λ t tapped o does. does) words ending before after status ends is named t tapped until aligns left)

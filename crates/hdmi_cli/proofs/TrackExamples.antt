@@ -12,19 +12,19 @@ use Rattle.island_pack.specs.Kinds.{control_column, pixel_column}
 use Rattle.island_pack.specs.Periods.{values_of}
 use Rattle.lane_align.specs.Lanes.{HasControl, IsRun, IsEdge}
 use Rattle.lane_deskew.specs.Triples.{IsFirst}
-use Rattle.lane_deskew.proofs.Computed.{has, not_true, clash}
-use Rattle.link_sink.specs.Laws.{HoldsEnd}
+use Rattle.link_laws.proofs.Computed.{has, not_true, clash}
+use Rattle.link_laws.specs.Laws.{HoldsEnd}
 use Rattle.link_sink.specs.Sinks.{Fed}
-use Rattle.link_sink.proofs.Aligning.{first_until}
+use Rattle.link_laws.proofs.Aligning.{first_until}
 use Rattle.lane_track.specs.Slips.{slipped}
 use Rattle.lane_track.proofs.Around.{length-part}
 use Rattle.lane_track.proofs.Cutting.{length_slipped}
 use Rattle.track_sink.specs.Epochs.{lane_of}
-use Rattle.track_sink.specs.Laws.{Slipped, SlipsInVideo}
-use Rattle.track_sink.proofs.First.{first_same}
+use Rattle.track_laws.specs.Laws.{Slipped, SlipsInVideo}
+use Rattle.track_laws.proofs.First.{first_same}
 use Rattle.hdmi_cli.proofs.Unnoticed.{lane_like}
-use Rattle.track_sink.proofs.SlipExample.{lock}
-use Rattle.track_sink.proofs.SlipStream.{stream, sent, received, long_received, came, alone, after_second, pixels, then_control, middle, hurt}
+use Rattle.track_laws.proofs.SlipExample.{lock}
+use Rattle.track_laws.proofs.SlipStream.{stream, sent, received, long_received, reception, alone, after_second, pixels, then_control, middle, damaged}
 use Rattle.hdmi_cli.specs.Headline.{TappedStream}
 use Rattle.hdmi_cli.specs.TrackSlip.{LineSlip, IsSlippedTap, IsNoticed}
 use Rattle.hdmi_cli.specs.TrackPasses.{HasNoLockBefore, EndsBeforeTwelve}
@@ -153,7 +153,7 @@ slipped_tap offset place b g r fit =
     let red : length x.red ≡ r = length-part (reds received) (offset + 35) r t.red_part.within in
     let size = length_slipped x.blue place 3 (omega arith) in
     record {
-      came = came;
+      reception = reception;
       tap = t;
       slips = slips place x;
       in_line = in_line offset place b g r fit;
@@ -161,7 +161,7 @@ slipped_tap offset place b g r fit =
     }
 
 slip_case : (says : Type 0) (offset place b g r : ℕ) → AreFit offset place b g r → says → IsSlipCase says (tapped offset place b g r) (loses place) (left place (lanes offset b g r))
-slip_case says offset place b g r fit holds = record { bytes_are = refl; slipped = slipped_tap offset place b g r fit; hurt = hurt; holds = holds }
+slip_case says offset place b g r fit holds = record { bytes_are = refl; slipped = slipped_tap offset place b g r fit; damaged = damaged; holds = holds }
 
 -- One that is noticed.
 
@@ -235,7 +235,7 @@ y = left 280 x
 aligned : (d e f : ℕ) × IsFirst y.blue y.green y.red d e f
 aligned =
     let t = is_tap 127 280 783 713 748 unlocked_fit in
-    let like = lane_like stream sent received 127 skews (783 ∷ (713 ∷ (748 ∷ []))) x y 0 280 3 26 56 (record { came = came; tapped = t }) (slips 280 x)
+    let like = lane_like stream sent received 127 skews (783 ∷ (713 ∷ (748 ∷ []))) x y 0 280 3 26 56 (record { reception = reception; tapped = t }) (slips 280 x)
     (in_line 127 280 783 713 748 unlocked_fit) (λ lock is before. no_lock lock (is, before)) in
     let ns : List ℕ = 780 ∷ (713 ∷ (748 ∷ [])) in
     let tap : IsTap received 127 later ns (drop 3 x.blue) x.green x.red = record { blue_part = like.part; green_part = t.green_part; red_part = t.red_part } in
@@ -243,7 +243,7 @@ aligned =
       begins = each_lane (λ l. 127 + slice_index later l + 120 ≤ 10 * 76) (omega arith) (omega arith) (omega arith);
       reaches = each_lane (λ l. 10 * 76 + 10 ≤ 127 + slice_index later l + slice_index ns l) (omega arith) (omega arith) (omega arith);
     } in
-    let h = first_until stream sent received came 127 later ns _ _ _ tap after 76 (record { after = after_second; spares = alone.spares 76; holds = holds }) in (
+    let h = first_until stream sent received reception 127 later ns _ _ _ tap after 76 (record { after = after_second; spares = alone.spares 76; holds = holds }) in (
       h.0,
       h.1,
       h.2,

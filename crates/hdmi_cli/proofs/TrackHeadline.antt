@@ -2,39 +2,39 @@
 use Rattle.std.proofs.Common.{◌≡◌, ℕ, zero, suc, ◌<◌, Bool, true, false, List, [], ◌++◌, refl, ap, ap₂, sym, ◌∙◌, subst, inl, inr, arith}
 use Rattle.std.specs.Prelude.{codes}
 use Rattle.terc4.specs.Columns.{one_if}
-use Rattle.period_grammar.specs.Things.{Thing}
+use Rattle.period_grammar.specs.Events.{Event}
 use Rattle.lane_track.specs.Strays.{HasNoStray}
-use Rattle.link_sink.specs.Alignment.{AreTold, told_by}
+use Rattle.link_sink.specs.Alignment.{AreReported, reported_by}
 use Rattle.link_sink.specs.Grammar.{link_grammar}
 use Rattle.link_sink.specs.Sinks.{Fed}
 use Rattle.link_sink.specs.declared.hear.Outcome.{Outcome as Hearing}
-use Rattle.listing.specs.Texts.{fault_lines, link_text}
+use Rattle.listing_writer.specs.Texts.{fault_lines, link_text}
 use Rattle.capture_file.specs.Captures.{IsCaptureOf}
 use Rattle.capture_file.specs.Laws.{AreSame}
 use Rattle.capture_file.proofs.OneCapture.{one_capture, no_fault}
 use Rattle.track_sink.specs.Epochs.{HasNoEnd, IsTracked, last_epoch, more_epochs}
-use Rattle.track_sink.specs.Events.{Event, events_of}
-use Rattle.track_sink.proofs.Calm.{one_epoch}
+use Rattle.track_sink.specs.TrackEvents.{TrackEvent, track_events_of}
+use Rattle.track_laws.proofs.Calm.{one_epoch}
 use Rattle.hdmi_cli.specs.Headline.{TappedStream, IsTapped}
 use Rattle.hdmi_cli.specs.Listings.{link_listing}
-use Rattle.hdmi_cli.specs.Outcome.{Outcome, ListsLanes, ListsCapture, TracksLanes, TracksCapture, status_with}
-use Rattle.hdmi_cli.specs.TrackText.{thing_faults, thing_lines, track_faults, track_text}
+use Rattle.hdmi_cli.specs.Outcome.{RunOutcome, ListsLanes, ListsCapture, TracksLanes, TracksCapture, status_with}
+use Rattle.hdmi_cli.specs.TrackText.{event_faults, event_lines, track_faults, track_text}
 
 -- what is told of one epoch
-pub record IsEpoch (x : Fed) (aligned : ℕ) (events : List Event) : Type 0 where
+pub record IsEpoch (x : Fed) (aligned : ℕ) (track_events : List TrackEvent) : Type 0 where
   pub outcome : Hearing
-  pub things : List Thing
-  pub told : AreTold x.blue x.green x.red outcome things
+  pub events : List Event
+  pub reported : AreReported x.blue x.green x.red outcome events
   pub aligned_is : aligned ≡ one_if outcome.aligned
-  pub events_are : events ≡ events_of things
+  pub track_events_are : track_events ≡ track_events_of events
 
-pub epoch_told : (begun : Bool) (z : ℕ) (x : Fed) (n m : ℕ) (events : List Event) → IsTracked begun z x n m events → HasNoEnd x → IsEpoch x m events
-epoch_told begun z x n m events (last_epoch _ _ _ o things none told) no_end = record { outcome = o; things = things; told = told; aligned_is = refl; events_are = refl }
-epoch_told begun z x n m events (more_epochs _ _ _ o things lane place n1 m1 rest end told track) no_end = absurd (no_end lane end.within place end.stray)
+pub epoch_reported : (begun : Bool) (z : ℕ) (x : Fed) (n m : ℕ) (track_events : List TrackEvent) → IsTracked begun z x n m track_events → HasNoEnd x → IsEpoch x m track_events
+epoch_reported begun z x n m track_events (last_epoch _ _ _ o events none reported) no_end = record { outcome = o; events = events; reported = reported; aligned_is = refl; track_events_are = refl }
+epoch_reported begun z x n m track_events (more_epochs _ _ _ o events lane place n1 m1 rest end reported track) no_end = absurd (no_end lane end.within place end.stray)
 
-text_of_things : (things : List Thing) → track_text (events_of things) ≡ link_text things
+text_of_events : (events : List Event) → track_text (track_events_of events) ≡ link_text events
 unfolding track_text link_text
-text_of_things things = ap (λ (t : List ℕ). t ++ codes "end\n") (thing_lines things)
+text_of_events events = ap (λ (t : List ℕ). t ++ codes "end\n") (event_lines events)
 
 some_aligned : (b : Bool) → 0 < one_if b → b ≡ true
 unfolding one_if
@@ -46,19 +46,19 @@ unfolding one_if
 none_aligned true none = absurd (omega (arith, none))
 none_aligned false none = refl
 
-lists_epoch : (x : Fed) (o : Outcome) → TracksLanes x o → HasNoEnd x → ListsLanes link_grammar link_listing x.blue x.green x.red o
-lists_epoch x o (epochs, aligned, events, track, inl (some, is)) no_end =
-    let e = epoch_told false 0 x epochs aligned events track no_end in
+lists_epoch : (x : Fed) (o : RunOutcome) → TracksLanes x o → HasNoEnd x → ListsLanes link_grammar link_listing x.blue x.green x.red o
+lists_epoch x o (epochs, aligned, track_events, track, inl (some, is)) no_end =
+    let e = epoch_reported false 0 x epochs aligned track_events track no_end in
     let yes_aligned = some_aligned e.outcome.aligned (subst (λ n. 0 < n) e.aligned_is some) in
-    let outcome_of : List Event → Outcome = λ es. record { status = status_with (track_faults es); output = track_text es; note = [] } in
-    let with_things : Outcome = record { status = status_with (fault_lines e.things); output = link_text e.things; note = [] } in
-    let same : outcome_of (events_of e.things) ≡ with_things =
-    ap₂ (λ n t. record { status = status_with n; output = t; note = [] }) (thing_faults e.things) (text_of_things e.things) in
-    inl (e.outcome.columns, e.things, subst (λ b. told_by b x.blue x.green x.red e.outcome.columns e.things) yes_aligned e.told, is ∙ ap outcome_of e.events_are ∙ same)
-lists_epoch x o (epochs, aligned, events, track, inr (none, is)) no_end =
-    let e = epoch_told false 0 x epochs aligned events track no_end in
+    let outcome_of : List TrackEvent → RunOutcome = λ es. record { status = status_with (track_faults es); output = track_text es; note = [] } in
+    let with_events : RunOutcome = record { status = status_with (fault_lines e.events); output = link_text e.events; note = [] } in
+    let same : outcome_of (track_events_of e.events) ≡ with_events =
+    ap₂ (λ n t. record { status = status_with n; output = t; note = [] }) (event_faults e.events) (text_of_events e.events) in
+    inl (e.outcome.columns, e.events, subst (λ b. reported_by b x.blue x.green x.red e.outcome.columns e.events) yes_aligned e.reported, is ∙ ap outcome_of e.track_events_are ∙ same)
+lists_epoch x o (epochs, aligned, track_events, track, inr (none, is)) no_end =
+    let e = epoch_reported false 0 x epochs aligned track_events track no_end in
     let not_aligned = none_aligned e.outcome.aligned (sym e.aligned_is ∙ none) in
-    inr (e.outcome.columns, e.things, subst (λ b. told_by b x.blue x.green x.red e.outcome.columns e.things) not_aligned e.told, is)
+    inr (e.outcome.columns, e.events, subst (λ b. reported_by b x.blue x.green x.red e.outcome.columns e.events) not_aligned e.reported, is)
 
 -- the same lanes have no end either
 no_end_same : (x y : Fed) → AreSame x.blue x.green x.red y.blue y.green y.red → HasNoEnd x → HasNoEnd y
@@ -67,15 +67,15 @@ no_end_same x y same none (suc zero) lt = subst HasNoStray same.green (none (suc
 no_end_same x y same none (suc (suc l)) lt = subst HasNoStray same.red (none (suc (suc l)) lt)
 
 -- of lanes that have no end the events are listed as `recover link` lists what they tell
-pub lists_as_link : (bytes : List ℕ) (x : Fed) → IsCaptureOf x.blue x.green x.red bytes → HasNoEnd x → (o : Outcome) → TracksCapture bytes o → ListsCapture link_grammar link_listing bytes o
+pub lists_as_link : (bytes : List ℕ) (x : Fed) → IsCaptureOf x.blue x.green x.red bytes → HasNoEnd x → (o : RunOutcome) → TracksCapture bytes o → ListsCapture link_grammar link_listing bytes o
 lists_as_link bytes x holds none o (inl (fed, captured, lanes)) =
     let same = one_capture x.blue x.green x.red fed.blue fed.green fed.red bytes holds captured in
     inl (fed.blue, fed.green, fed.red, captured, lists_epoch fed o lanes (no_end_same x fed same none))
-lists_as_link bytes x holds none o (inr (fault, fed, events, faulty, before, told, is)) =
+lists_as_link bytes x holds none o (inr (fault, fed, track_events, faulty, before, reported, is)) =
     absurd (no_fault bytes fault (record { blue = x.blue; green = x.green; red = x.red; holds = holds }) faulty)
 
-pub tracks_as_link : (t : TappedStream) → IsTapped t → (o : Outcome) → TracksCapture t.bytes o → ListsCapture link_grammar link_listing t.bytes o
+pub tracks_as_link : (t : TappedStream) → IsTapped t → (o : RunOutcome) → TracksCapture t.bytes o → ListsCapture link_grammar link_listing t.bytes o
 tracks_as_link t tapped o tracks =
     let x : Fed = record { blue = t.blue; green = t.green; red = t.red } in
-    let none = one_epoch t.periods t.sent t.received t.offset t.skews t.counts x (record { came = tapped.came; tapped = tapped.tap }) in
+    let none = one_epoch t.periods t.sent t.received t.offset t.skews t.counts x (record { reception = tapped.reception; tapped = tapped.tap }) in
     lists_as_link t.bytes x tapped.captured none o tracks

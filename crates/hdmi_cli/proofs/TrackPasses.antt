@@ -4,49 +4,49 @@ use Rattle.std.specs.Prelude.{Option, Some}
 use Rattle.std.specs.Io.KnownBytes.{Appends}
 use Rattle.lane_deskew.specs.Aligned.{aligned_columns}
 use Rattle.period_grammar.specs.Heard.{heard}
-use Rattle.link_sink.specs.Account.{account}
+use Rattle.link_laws.specs.Account.{account}
 use Rattle.link_sink.specs.Grammar.{link_grammar}
 use Rattle.link_sink.specs.Sinks.{Fed}
 use Rattle.command_line.specs.Commands.{IsCommand}
 use Rattle.command_line.specs.declared.command.Command.TheVariants.{RecoverTrack}
 use Rattle.track_sink.specs.Epochs.{front_of, HasNoEnd}
-use Rattle.track_sink.specs.Laws.{Came, FirstAccounted}
-use Rattle.track_sink.proofs.Noticed.{slip_passes}
-use Rattle.hdmi_cli.proofs.Unnoticed.{passed_told, short_passes, short_told}
+use Rattle.track_laws.specs.Laws.{Received, FirstAccounted}
+use Rattle.track_laws.proofs.Noticed.{slip_passes}
+use Rattle.hdmi_cli.proofs.Unnoticed.{passed_reported, short_passes, short_reported}
 use Rattle.hdmi_cli.specs.Endings.{Devices, RunEnds, Unless, status_of}
 use Rattle.hdmi_cli.specs.Headline.{TappedStream}
 use Rattle.hdmi_cli.specs.Listings.{link_listing}
-use Rattle.hdmi_cli.specs.Outcome.{Outcome, TracksCapture}
+use Rattle.hdmi_cli.specs.Outcome.{RunOutcome, TracksCapture}
 use Rattle.hdmi_cli.specs.TrackPasses.{IsUnnoticed, IsAccountedBefore, IsTrackedAsOne}
 use Rattle.hdmi_cli.specs.TrackSlip.{LineSlip, lanes_of, IsSlippedTap, columns_in}
 use Rattle.hdmi_cli.specs.declared.ending.Ending.{Ending}
 use Rattle.hdmi_cli.proofs.Headline.{capture_listing, run_ended}
 use Rattle.hdmi_cli.proofs.TrackHeadline.{lists_as_link}
 
-came_of : (t : TappedStream) (s : LineSlip) (y : Fed) → IsSlippedTap t s y → Came t.periods t.sent t.received t.offset t.skews t.counts (lanes_of t)
-came_of t s y tapped = record { came = tapped.came; tapped = tapped.tap }
+received_of : (t : TappedStream) (s : LineSlip) (y : Fed) → IsSlippedTap t s y → Received t.periods t.sent t.received t.offset t.skews t.counts (lanes_of t)
+received_of t s y tapped = record { reception = tapped.reception; tapped = tapped.tap }
 
 passes : (t : TappedStream) (s : LineSlip) (y : Fed) → IsSlippedTap t s y → IsUnnoticed t s → HasNoEnd y
 passes t s y tapped (inl none) =
-    slip_passes t.periods t.sent t.received t.offset t.skews t.counts (lanes_of t) y s.lane s.place s.dropped s.first s.next (came_of t s y tapped) tapped.slips tapped.in_line (λ lock is before. none lock (is, before))
+    slip_passes t.periods t.sent t.received t.offset t.skews t.counts (lanes_of t) y s.lane s.place s.dropped s.first s.next (received_of t s y tapped) tapped.slips tapped.in_line (λ lock is before. none lock (is, before))
 passes t s y tapped (inr short) =
-    short_passes t.periods t.sent t.received t.offset t.skews t.counts (lanes_of t) y s.lane s.place s.dropped s.first s.next (came_of t s y tapped) tapped.slips tapped.in_line short
+    short_passes t.periods t.sent t.received t.offset t.skews t.counts (lanes_of t) y s.lane s.place s.dropped s.first s.next (received_of t s y tapped) tapped.slips tapped.in_line short
 
 -- columns of the first bits of lanes that have no more
 front_is : (t : TappedStream) (s : LineSlip) (y : Fed) (d e f start : ℕ) → front_of start y ≡ y → FirstAccounted t.periods t.sent t.received t.offset t.skews y s.lane s.place start d e f
     → IsAccountedBefore t s y d e f
-front_is t s y d e f start whole told =
+front_is t s y d e f start whole reported =
     let columns : aligned_columns (take start y.blue) (take start y.green) (take start y.red) d e f ≡ aligned_columns y.blue y.green y.red d e f =
     ap (λ (z : Fed). aligned_columns z.blue z.green z.red d e f) whole in
     record {
-      a = told.a;
-      ends = told.ends;
-      begins = told.begins;
-      told = λ m early within.
-          sym (ap (λ cs. heard (take m cs)) columns) ∙ told.told m early (subst (λ cs. m ≤ length cs) (sym columns) within);
+      a = reported.a;
+      ends = reported.ends;
+      begins = reported.begins;
+      reported = λ m early within.
+          sym (ap (λ cs. heard (take m cs)) columns) ∙ reported.reported m early (subst (λ cs. m ≤ length cs) (sym columns) within);
     }
 
-as_one : (t : TappedStream) (s : LineSlip) (y : Fed) → IsSlippedTap t s y → IsUnnoticed t s → (o : Outcome) (status : ℕ) (old new : Option (List ℕ))
+as_one : (t : TappedStream) (s : LineSlip) (y : Fed) → IsSlippedTap t s y → IsUnnoticed t s → (o : RunOutcome) (status : ℕ) (old new : Option (List ℕ))
     → TracksCapture t.bytes o → o.status ≡ status → Appends old new o.output → IsTrackedAsOne t s y status old new
 as_one t s y tapped unnoticed o status old new tracks status_is written =
     let none = passes t s y tapped unnoticed in
@@ -58,10 +58,10 @@ as_one t s y tapped unnoticed o status old new tracks status_is written =
       status_is = sym status_is;
       written = written;
       recovered = λ unlocked d e f first.
-          let law = passed_told t.periods t.sent t.received t.offset t.skews t.counts (lanes_of t) y s.lane s.place s.dropped s.first s.next (came_of t s y tapped)
+          let law = passed_reported t.periods t.sent t.received t.offset t.skews t.counts (lanes_of t) y s.lane s.place s.dropped s.first s.next (received_of t s y tapped)
           tapped.slips tapped.in_line (λ lock is before. unlocked lock (is, before)) d e f first in
           let all = account t.periods t.sent t.received law.0 (columns_in y d e f) in
-          let is = capture_listing link_grammar link_listing all y.blue y.green y.red d e f t.bytes o tapped.captured first law.1.told lists in (
+          let is = capture_listing link_grammar link_listing all y.blue y.green y.red d e f t.bytes o tapped.captured first law.1.reported lists in (
             law.0,
             record {
               accounted = law.1;
@@ -71,7 +71,7 @@ as_one t s y tapped unnoticed o status old new tracks status_is written =
             },
           );
       before = λ lock is d e f first.
-          let law = short_told t.periods t.sent t.received t.offset t.skews t.counts (lanes_of t) y s.lane s.place s.dropped s.first s.next (came_of t s y tapped)
+          let law = short_reported t.periods t.sent t.received t.offset t.skews t.counts (lanes_of t) y s.lane s.place s.dropped s.first s.next (received_of t s y tapped)
           tapped.slips tapped.in_line lock is.0 is.1 none d e f first in
           front_is t s y d e f law.0 law.1 law.2;
     }

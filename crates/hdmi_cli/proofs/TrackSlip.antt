@@ -1,74 +1,73 @@
 -- `recover track` of a tapped stream one lane of which lost bits within a line: there are two epochs, and the text is theirs.
-use Rattle.std.proofs.Common.{◌≡◌, ◌⊎◌, ℕ, zero, ◌+◌, ◌<◌, Bool, true, false, ◌||◌, List, [], ◌++◌, length, take, drop, refl, ap, sym, ◌∙◌, subst, inl, inr, arith}
+use Rattle.std.proofs.Common.{◌≡◌, ℕ, ◌+◌, ◌<◌, Bool, true, false, ◌||◌, List, ◌++◌, take, drop, ap, sym, ◌∙◌, subst, inl, inr, arith}
 use Rattle.std.specs.Prelude.{Option, Some}
 use Rattle.std.specs.Io.KnownBytes.{Appends}
 use Rattle.terc4.specs.Columns.{one_if}
 use Rattle.lane_deskew.specs.Aligned.{aligned_columns}
 use Rattle.lane_deskew.specs.Triples.{IsFirst}
 use Rattle.period_grammar.specs.Heard.{heard}
-use Rattle.period_grammar.specs.Things.{Thing}
-use Rattle.link_sink.specs.Alignment.{AreTold, told_by}
+use Rattle.period_grammar.specs.Events.{Event}
+use Rattle.link_sink.specs.Alignment.{AreReported, reported_by}
 use Rattle.link_sink.specs.Sinks.{Fed}
 use Rattle.link_sink.specs.declared.hear.Outcome.{Outcome as Hearing}
 use Rattle.capture_file.proofs.OneCapture.{one_capture, no_fault}
 use Rattle.command_line.specs.Commands.{IsCommand}
 use Rattle.command_line.specs.declared.command.Command.TheVariants.{RecoverTrack}
 use Rattle.track_sink.specs.Epochs.{rest_of, IsEnd, HasNoEnd, IsTracked, last_epoch, more_epochs}
-use Rattle.track_sink.specs.Events.{Event, events_of, slip_if}
-use Rattle.track_sink.specs.Laws.{Came}
-use Rattle.track_sink.proofs.One.{one_end}
-use Rattle.track_sink.proofs.Noticed.{second_epoch, slip_noticed}
-use Rattle.track_sink.proofs.Before.{first_epoch}
-use Rattle.hdmi_cli.specs.Endings.{Devices, Answers, RunEnds, Unless, status_of}
+use Rattle.track_sink.specs.TrackEvents.{TrackEvent, track_events_of, slip_if}
+use Rattle.track_laws.specs.Laws.{Received}
+use Rattle.track_laws.proofs.One.{one_end}
+use Rattle.track_laws.proofs.Noticed.{second_epoch, slip_noticed}
+use Rattle.track_laws.proofs.Before.{first_epoch}
+use Rattle.hdmi_cli.specs.Endings.{Devices, RunEnds, Unless, status_of}
 use Rattle.hdmi_cli.specs.Headline.{TappedStream}
-use Rattle.hdmi_cli.specs.Outcome.{Outcome, TracksLanes, TracksCapture, status_with}
-use Rattle.hdmi_cli.specs.Notes.{alignment_note}
-use Rattle.hdmi_cli.specs.TrackSlip.{LineSlip, lanes_of, IsSlippedTap, IsNoticed, events_across, IsTrackedAcross}
+use Rattle.hdmi_cli.specs.Outcome.{RunOutcome, TracksLanes, TracksCapture, status_with}
+use Rattle.hdmi_cli.specs.TrackSlip.{LineSlip, lanes_of, IsSlippedTap, IsNoticed, track_events_across, IsTrackedAcross}
 use Rattle.hdmi_cli.specs.TrackText.{track_faults, track_text}
 use Rattle.hdmi_cli.specs.declared.ending.Ending.{Ending}
 use Rattle.hdmi_cli.proofs.Headline.{aligned_same, run_ended}
-use Rattle.hdmi_cli.proofs.TrackHeadline.{epoch_told}
+use Rattle.hdmi_cli.proofs.TrackHeadline.{epoch_reported}
 
 -- what is told of two epochs
-record IsTwice (begun : Bool) (z : ℕ) (y : Fed) (lane start aligned : ℕ) (events : List Event) : Type 0 where
+record IsTwice (begun : Bool) (z : ℕ) (y : Fed) (lane start aligned : ℕ) (track_events : List TrackEvent) : Type 0 where
   one : Hearing
   two : Hearing
-  first : List Thing
-  second : List Thing
-  first_told : AreTold (take start y.blue) (take start y.green) (take start y.red) one first
-  second_told : AreTold (drop start y.blue) (drop start y.green) (drop start y.red) two second
+  first : List Event
+  second : List Event
+  first_reported : AreReported (take start y.blue) (take start y.green) (take start y.red) one first
+  second_reported : AreReported (drop start y.blue) (drop start y.green) (drop start y.red) two second
   aligned_is : aligned ≡ one_if one.aligned + one_if two.aligned
-  events_are : events ≡ events_of first ++ (slip_if (begun || one.aligned) lane (z + start) ++ events_of second)
+  track_events_are : track_events ≡ track_events_of first ++ (slip_if (begun || one.aligned) lane (z + start) ++ track_events_of second)
 
-told_twice : (begun : Bool) (z : ℕ) (y : Fed) (n m : ℕ) (events : List Event) → IsTracked begun z y n m events
-    → (lane start : ℕ) → IsEnd y lane start → HasNoEnd (rest_of start y) → IsTwice begun z y lane start m events
-told_twice begun z y n m events (last_epoch _ _ _ o things none told) lane start end no_end = absurd (none lane end.within start end.stray)
-told_twice begun z y n m events (more_epochs _ _ _ o things l p n1 m1 rest found told track) lane start end no_end =
+reported_twice : (begun : Bool) (z : ℕ) (y : Fed) (n m : ℕ) (track_events : List TrackEvent) → IsTracked begun z y n m track_events
+    → (lane start : ℕ) → IsEnd y lane start → HasNoEnd (rest_of start y) → IsTwice begun z y lane start m track_events
+reported_twice begun z y n m track_events (last_epoch _ _ _ o events none reported) lane start end no_end = absurd (none lane end.within start end.stray)
+reported_twice begun z y n m track_events (more_epochs _ _ _ o events l p n1 m1 rest found reported track) lane start end no_end =
     let e = one_end y l lane p start found end in
     let moved : IsTracked (begun || o.aligned) (z + start) (rest_of start y) n1 m1 rest = subst (λ q. IsTracked (begun || o.aligned) (z + q) (rest_of q y) n1 m1 rest) e.1 track in
-    let second = epoch_told (begun || o.aligned) (z + start) (rest_of start y) n1 m1 rest moved no_end in
+    let second = epoch_reported (begun || o.aligned) (z + start) (rest_of start y) n1 m1 rest moved no_end in
     record {
       one = o;
       two = second.outcome;
-      first = things;
-      second = second.things;
-      first_told = subst (λ q. AreTold (take q y.blue) (take q y.green) (take q y.red) o things) e.1 told;
-      second_told = second.told;
+      first = events;
+      second = second.events;
+      first_reported = subst (λ q. AreReported (take q y.blue) (take q y.green) (take q y.red) o events) e.1 reported;
+      second_reported = second.reported;
       aligned_is = ap (λ k. one_if o.aligned + k) second.aligned_is;
-      events_are = λ i. events_of things ++ (slip_if (begun || o.aligned) (e.0 i) (z + (e.1 i)) ++ (second.events_are i));
+      track_events_are = λ i. track_events_of events ++ (slip_if (begun || o.aligned) (e.0 i) (z + (e.1 i)) ++ (second.track_events_are i));
     }
 
 -- of a whole capture
-twice_whole : (y : Fed) (lane start aligned : ℕ) (events : List Event) (h : IsTwice false 0 y lane start aligned events) → events ≡ events_across h.one.aligned h.first lane start h.second
-twice_whole y lane start aligned events h =
+twice_whole : (y : Fed) (lane start aligned : ℕ) (track_events : List TrackEvent) (h : IsTwice false 0 y lane start aligned track_events) → track_events ≡ track_events_across h.one.aligned h.first lane start h.second
+twice_whole y lane start aligned track_events h =
     let e : 0 + start ≡ start = omega arith in
-    h.events_are ∙ ap (λ n. events_of h.first ++ (slip_if h.one.aligned lane n ++ events_of h.second)) e
+    h.track_events_are ∙ ap (λ n. track_events_of h.first ++ (slip_if h.one.aligned lane n ++ track_events_of h.second)) e
 
 -- what is told of lanes with a full alignment
-told_at : (b : Bool) (xs ys zs : List Bool) (columns : ℕ) (things : List Thing) (d e f : ℕ) → told_by b xs ys zs columns things → IsFirst xs ys zs d e f
-    → things ≡ heard (aligned_columns xs ys zs d e f)
-told_at true xs ys zs columns things d e f told first = told.told ∙ ap heard (aligned_same xs ys zs told.d told.e told.f d e f told.first first)
-told_at false xs ys zs columns things d e f told first = absurd (told.nowhere d e f first.triple)
+reported_at : (b : Bool) (xs ys zs : List Bool) (columns : ℕ) (events : List Event) (d e f : ℕ) → reported_by b xs ys zs columns events → IsFirst xs ys zs d e f
+    → events ≡ heard (aligned_columns xs ys zs d e f)
+reported_at true xs ys zs columns events d e f reported first = reported.reported ∙ ap heard (aligned_same xs ys zs reported.d reported.e reported.f d e f reported.first first)
+reported_at false xs ys zs columns events d e f reported first = absurd (reported.nowhere d e f first.triple)
 
 both_or : (a b : Bool) → (a || b) ≡ true → one_if a + one_if b ≡ 0 → ⊥
 unfolding one_if
@@ -82,17 +81,17 @@ neither true b h lt = cc
 neither false true h lt = cc
 neither false false h lt = omega (arith, lt)
 
-across : (t : TappedStream) (s : LineSlip) (y : Fed) → IsSlippedTap t s y → IsNoticed t s → (o : Outcome) (status : ℕ) (old new : Option (List ℕ))
+across : (t : TappedStream) (s : LineSlip) (y : Fed) → IsSlippedTap t s y → IsNoticed t s → (o : RunOutcome) (status : ℕ) (old new : Option (List ℕ))
     → TracksLanes y o → o.status ≡ status → Appends old new o.output → IsTrackedAcross t s y status old new
-across t s y tapped noticed o status old new (epochs, aligned, events, track, outcome) status_is written =
-    let came : Came t.periods t.sent t.received t.offset t.skews t.counts (lanes_of t) = record { came = tapped.came; tapped = tapped.tap } in
-    let found = slip_noticed t.periods t.sent t.received t.offset t.skews t.counts (lanes_of t) y s.lane s.place s.dropped s.first s.next came tapped.slips tapped.in_line
+across t s y tapped noticed o status old new (epochs, aligned, track_events, track, outcome) status_is written =
+    let reception : Received t.periods t.sent t.received t.offset t.skews t.counts (lanes_of t) = record { reception = tapped.reception; tapped = tapped.tap } in
+    let found = slip_noticed t.periods t.sent t.received t.offset t.skews t.counts (lanes_of t) y s.lane s.place s.dropped s.first s.next reception tapped.slips tapped.in_line
     noticed.lock noticed.is_lock noticed.before noticed.whole in
     let start = found.0 in
     let end = found.1 in
-    let law = second_epoch t.periods t.sent t.received t.offset t.skews t.counts (lanes_of t) y s.lane s.place s.dropped s.first s.next came tapped.slips tapped.in_line s.lane start end in
-    let h = told_twice false 0 y epochs aligned events track s.lane start end law.3 in
-    let same = twice_whole y s.lane start aligned events h in
+    let law = second_epoch t.periods t.sent t.received t.offset t.skews t.counts (lanes_of t) y s.lane s.place s.dropped s.first s.next reception tapped.slips tapped.in_line s.lane start end in
+    let h = reported_twice false 0 y epochs aligned track_events track s.lane start end law.3 in
+    let same = twice_whole y s.lane start aligned track_events h in
     let few = h.aligned_is in
     record {
       start = start;
@@ -100,36 +99,36 @@ across t s y tapped noticed o status old new (epochs, aligned, events, track, ou
       one = h.one;
       two = h.two;
       before = h.first;
-      behind = h.second;
-      first_told = h.first_told;
-      second_told = h.second_told;
-      first_is = λ d e f first. first_epoch t.periods t.sent t.received t.offset t.skews t.counts (lanes_of t) y s.lane s.place s.dropped s.first s.next start came tapped.slips tapped.in_line end d e f first;
+      after = h.second;
+      first_reported = h.first_reported;
+      second_reported = h.second_reported;
+      first_is = λ d e f first. first_epoch t.periods t.sent t.received t.offset t.skews t.counts (lanes_of t) y s.lane s.place s.dropped s.first s.next start reception tapped.slips tapped.in_line end d e f first;
       second_is = λ d e f first.
           let is = law.4 d e f first in
-          (is.0, is.1.ends, is.2, told_at h.two.aligned (drop start y.blue) (drop start y.green) (drop start y.red) h.two.columns h.second d e f h.second_told first ∙ is.1.told);
+          (is.0, is.1.ends, is.2, reported_at h.two.aligned (drop start y.blue) (drop start y.green) (drop start y.red) h.two.columns h.second d e f h.second_reported first ∙ is.1.reported);
       aligned = λ some. elim outcome [
         | inl listed ↦ (
-          sym status_is ∙ ap (λ (p : Outcome). p.status) listed.1 ∙ ap (λ es. status_with (track_faults es)) same,
-          subst (λ out. Appends old new out) (ap (λ (p : Outcome). p.output) listed.1 ∙ ap track_text same) written,
+          sym status_is ∙ ap (λ (p : RunOutcome). p.status) listed.1 ∙ ap (λ es. status_with (track_faults es)) same,
+          subst (λ out. Appends old new out) (ap (λ (p : RunOutcome). p.output) listed.1 ∙ ap track_text same) written,
         )
         | inr none ↦ absurd (both_or h.one.aligned h.two.aligned some (sym few ∙ none.0))
       ];
       unaligned = λ none. elim outcome [
         | inl listed ↦ absurd (neither h.one.aligned h.two.aligned none (subst (λ k. 0 < k) few listed.0))
         | inr other ↦ (
-          sym status_is ∙ ap (λ (p : Outcome). p.status) other.1,
-          subst (λ out. Appends old new out) (ap (λ (p : Outcome). p.output) other.1) written,
+          sym status_is ∙ ap (λ (p : RunOutcome). p.status) other.1,
+          subst (λ out. Appends old new out) (ap (λ (p : RunOutcome). p.output) other.1) written,
         )
       ];
     }
 
-of_capture : (t : TappedStream) (s : LineSlip) (y : Fed) → IsSlippedTap t s y → IsNoticed t s → (o : Outcome) (status : ℕ) (old new : Option (List ℕ))
+of_capture : (t : TappedStream) (s : LineSlip) (y : Fed) → IsSlippedTap t s y → IsNoticed t s → (o : RunOutcome) (status : ℕ) (old new : Option (List ℕ))
     → TracksCapture t.bytes o → o.status ≡ status → Appends old new o.output → IsTrackedAcross t s y status old new
 of_capture t s y tapped noticed o status old new (inl (fed, captured, lanes)) status_is written =
     let same = one_capture y.blue y.green y.red fed.blue fed.green fed.red t.bytes tapped.captured captured in
     let fed_is : fed ≡ y = λ i. record { blue = sym same.blue i; green = sym same.green i; red = sym same.red i } in
     across t s y tapped noticed o status old new (subst (λ x. TracksLanes x o) fed_is lanes) status_is written
-of_capture t s y tapped noticed o status old new (inr (fault, fed, events, faulty, before, told, is)) status_is written =
+of_capture t s y tapped noticed o status old new (inr (fault, fed, track_events, faulty, before, reported, is)) status_is written =
     absurd (no_fault t.bytes fault (record { blue = y.blue; green = y.green; red = y.red; holds = tapped.captured }) faulty)
 
 pub tracked_across : (words : List (List ℕ)) (ending : Ending) (before after : Devices) (status : ℕ) → RunEnds words ending before after → status ≡ status_of ending → IsCommand words RecoverTrack

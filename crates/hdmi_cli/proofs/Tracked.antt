@@ -7,12 +7,12 @@ use Rattle.std.proofs.lemmas.List.{take-append-le}
 use Rattle.outside_io.specs.Causes.{Rose}
 use Rattle.terc4.specs.Columns.{one_if}
 use Rattle.capture_file.specs.Captures.{IsCaptureOf}
-use Rattle.period_grammar.specs.Things.{Thing}
-use Rattle.link_sink.specs.Alignment.{told_by}
+use Rattle.period_grammar.specs.Events.{Event}
+use Rattle.link_sink.specs.Alignment.{reported_by}
 use Rattle.link_sink.specs.Sinks.{Fed}
-use Rattle.listing.specs.Texts.{counted}
+use Rattle.listing_writer.specs.Texts.{counted}
 use Rattle.track_sink.specs.Epochs.{IsTrack, IsTracked, last_epoch, more_epochs}
-use Rattle.track_sink.specs.Events.{Event, events_of, slip_if}
+use Rattle.track_sink.specs.TrackEvents.{TrackEvent, track_events_of, slip_if}
 use Rattle.track_sink.specs.Tracks.{HasTracked}
 use Rattle.track_sink.specs.Trackers.{Stops}
 use Rattle.command_line.specs.declared.command.Command.TheVariants.{RecoverTrack}
@@ -21,7 +21,7 @@ use Rattle.hdmi_cli.specs.Endings.{Devices, Ends, IsAnswered, TracksPart, heard_
 use Rattle.hdmi_cli.specs.Hearings.{IsCausedBy}
 use Rattle.hdmi_cli.specs.Notes.{alignment_note, capture_note}
 use Rattle.hdmi_cli.specs.Outcome.{status_with}
-use Rattle.hdmi_cli.specs.TrackText.{event_text, no_events, one_event, track_faults, track_lines, track_lines_append, track_text}
+use Rattle.hdmi_cli.specs.TrackText.{track_event_text, no_track_events, one_track_event, track_faults, track_lines, track_lines_append, track_text}
 use Rattle.hdmi_cli.specs.Tracking.{IsUntakenOn, StopsOn}
 use Rattle.hdmi_cli.specs.declared.ending.Ending.{Ending}
 use Rattle.hdmi_cli.specs.declared.ending.Ending.TheVariants.{Done, Faulty, Unaligned}
@@ -40,8 +40,8 @@ one_of false is = refl
 first_zero : (n m : ℕ) → n + m ≡ 0 → (n ≡ 0) × (m ≡ 0)
 first_zero n m is = (omega (arith, is), omega (arith, is))
 
-unaligned_none : (aligned : Bool) (x y z : List Bool) (columns : ℕ) (things : List Thing) → aligned ≡ false → told_by aligned x y z columns things → things ≡ []
-unaligned_none aligned x y z columns things is told = (subst (λ b. told_by b x y z columns things) is told).told
+unaligned_none : (aligned : Bool) (x y z : List Bool) (columns : ℕ) (events : List Event) → aligned ≡ false → reported_by aligned x y z columns events → events ≡ []
+unaligned_none aligned x y z columns events is reported = (subst (λ b. reported_by b x y z columns events) is reported).reported
 
 false_or : (a b : Bool) → a ≡ false → b ≡ false → (a || b) ≡ false
 false_or a b first second = ap (λ c. c || b) first ∙ second
@@ -49,30 +49,30 @@ false_or a b first second = ap (λ c. c || b) first ∙ second
 no_slip : (b : Bool) (lane place : ℕ) → b ≡ false → slip_if b lane place ≡ []
 no_slip b lane place is = ap (λ c. slip_if c lane place) is
 
-pub nothing_told : (begun : Bool) (z : ℕ) (fed : Fed) (n m : ℕ) (events : List Event) → IsTracked begun z fed n m events → begun ≡ false → m ≡ 0 → events ≡ []
-nothing_told begun z fed n m events (last_epoch _ _ _ o things none told) start zeros =
-    ap events_of (unaligned_none o.aligned fed.blue fed.green fed.red o.columns things (one_of o.aligned zeros) told)
-nothing_told begun z fed n m events (more_epochs _ _ _ o things lane place n1 m1 rest end told track) start zeros =
+pub nothing_reported : (begun : Bool) (z : ℕ) (fed : Fed) (n m : ℕ) (track_events : List TrackEvent) → IsTracked begun z fed n m track_events → begun ≡ false → m ≡ 0 → track_events ≡ []
+nothing_reported begun z fed n m track_events (last_epoch _ _ _ o events none reported) start zeros =
+    ap track_events_of (unaligned_none o.aligned fed.blue fed.green fed.red o.columns events (one_of o.aligned zeros) reported)
+nothing_reported begun z fed n m track_events (more_epochs _ _ _ o events lane place n1 m1 rest end reported track) start zeros =
     let split = first_zero (one_if o.aligned) m1 zeros in
     let not = one_of o.aligned split.0 in
-    let none = unaligned_none o.aligned (take place fed.blue) (take place fed.green) (take place fed.red) o.columns things not told in
+    let none = unaligned_none o.aligned (take place fed.blue) (take place fed.green) (take place fed.red) o.columns events not reported in
     let later = false_or begun o.aligned start not in
-    let rest_none = nothing_told (begun || o.aligned) (z + place) _ n1 m1 rest track later split.1 in
-    ap (λ ts. events_of ts ++ (slip_if (begun || o.aligned) lane (z + place) ++ rest)) none
+    let rest_none = nothing_reported (begun || o.aligned) (z + place) _ n1 m1 rest track later split.1 in
+    ap (λ ts. track_events_of ts ++ (slip_if (begun || o.aligned) lane (z + place) ++ rest)) none
     ∙ ap (λ es. es ++ rest) (no_slip (begun || o.aligned) lane (z + place) later) ∙ rest_none
 
 -- lanes that were followed to the end, and of which no epoch is aligned
-pub unaligned_ends : (fed : Fed) (epochs aligned : ℕ) (events : List Event) (before now : Devices) → IsTrack fed epochs aligned events → aligned ≡ 0
-    → ((bytes : List ℕ) → before.left ≡ Some bytes → IsCaptureOf fed.blue fed.green fed.red bytes) → IsAtEnd now.left → Appends before.held now.held (track_lines events)
+pub unaligned_ends : (fed : Fed) (epochs aligned : ℕ) (track_events : List TrackEvent) (before now : Devices) → IsTrack fed epochs aligned track_events → aligned ≡ 0
+    → ((bytes : List ℕ) → before.left ≡ Some bytes → IsCaptureOf fed.blue fed.green fed.red bytes) → IsAtEnd now.left → Appends before.held now.held (track_lines track_events)
     → Ends RecoverTrack Unaligned before now
-unaligned_ends fed epochs aligned events before now track none captured end written =
-    let empty = nothing_told false 0 fed epochs aligned events track refl none in
-    let nothing = subst (λ (bytes : List ℕ). Appends before.held now.held bytes) (ap track_lines empty ∙ no_events) written in (
+unaligned_ends fed epochs aligned track_events before now track none captured end written =
+    let empty = nothing_reported false 0 fed epochs aligned track_events track refl none in
+    let nothing = subst (λ (bytes : List ℕ). Appends before.held now.held bytes) (ap track_lines empty ∙ no_track_events) written in (
       end,
       kept_nothing before.held now.held nothing,
       λ bytes is. record {
         outcome = record { status = 7; output = []; note = alignment_note };
-        does = inl (fed, captured bytes is, (epochs, aligned, events, track, inr (none, refl)));
+        does = inl (fed, captured bytes is, (epochs, aligned, track_events, track, inr (none, refl)));
         status = refl;
         note = refl;
         written = nothing;
@@ -81,115 +81,115 @@ unaligned_ends fed epochs aligned events before now track none captured end writ
 
 -- and of which some are
 
-text_whole : (events : List Event) → track_text events ≡ track_lines events ++ codes "end\n"
+text_whole : (track_events : List TrackEvent) → track_text track_events ≡ track_lines track_events ++ codes "end\n"
 unfolding track_text
-text_whole events = refl
+text_whole track_events = refl
 
-record IsFollowed (fed : Fed) (epochs aligned : ℕ) (events : List Event) (mid : Option (List ℕ)) (before now : Devices) : Type 0 where
-  track : IsTrack fed epochs aligned events
+record IsFollowed (fed : Fed) (epochs aligned : ℕ) (track_events : List TrackEvent) (mid : Option (List ℕ)) (before now : Devices) : Type 0 where
+  track : IsTrack fed epochs aligned track_events
   some : 0 < aligned
   captured : (bytes : List ℕ) → before.left ≡ Some bytes → IsCaptureOf fed.blue fed.green fed.red bytes
   ended : IsAtEnd now.left
-  written : Appends before.held mid (track_lines events)
+  written : Appends before.held mid (track_lines track_events)
 
-all_followed : (e : Ending) (fed : Fed) (epochs aligned : ℕ) (events : List Event) (mid : Option (List ℕ)) (before now : Devices) (bytes : List ℕ) → IsFollowed fed epochs aligned events mid before now
-    → before.left ≡ Some bytes → status_with (track_faults events) ≡ status_of e → [] ≡ note_of e → Appends mid now.held (codes "end\n") → IsAnswered RecoverTrack e before now bytes
-all_followed e fed epochs aligned events mid before now bytes h is status note then = record {
-  outcome = record { status = status_with (track_faults events); output = track_text events; note = [] };
-  does = inl (fed, h.captured bytes is, (epochs, aligned, events, h.track, inl (h.some, refl)));
+all_followed : (e : Ending) (fed : Fed) (epochs aligned : ℕ) (track_events : List TrackEvent) (mid : Option (List ℕ)) (before now : Devices) (bytes : List ℕ) → IsFollowed fed epochs aligned track_events mid before now
+    → before.left ≡ Some bytes → status_with (track_faults track_events) ≡ status_of e → [] ≡ note_of e → Appends mid now.held (codes "end\n") → IsAnswered RecoverTrack e before now bytes
+all_followed e fed epochs aligned track_events mid before now bytes h is status note then = record {
+  outcome = record { status = status_with (track_faults track_events); output = track_text track_events; note = [] };
+  does = inl (fed, h.captured bytes is, (epochs, aligned, track_events, h.track, inl (h.some, refl)));
   status = status;
   note = note;
-  written = subst (λ (bs : List ℕ). Appends before.held now.held bs) (sym (text_whole events)) (Appends-trans before.held mid now.held (track_lines events) (codes "end\n") h.written then);
+  written = subst (λ (bs : List ℕ). Appends before.held now.held bs) (sym (text_whole track_events)) (Appends-trans before.held mid now.held (track_lines track_events) (codes "end\n") h.written then);
 }
 
-judged_track : {E : Type 0} (fed : Fed) (epochs aligned : ℕ) (events : List Event) (mid : Option (List ℕ)) (middle : ℕ) (before now : Devices) (r : Result (Unit {0}) E) (faults : ℕ)
-    → IsFollowed fed epochs aligned events mid before now → faults ≡ counted 0 (track_faults events) → before.output_faults ≤ middle
+judged_track : {E : Type 0} (fed : Fed) (epochs aligned : ℕ) (track_events : List TrackEvent) (mid : Option (List ℕ)) (middle : ℕ) (before now : Devices) (r : Result (Unit {0}) E) (faults : ℕ)
+    → IsFollowed fed epochs aligned track_events mid before now → faults ≡ counted 0 (track_faults track_events) → before.output_faults ≤ middle
     → OnOk r (Appends mid now.held (codes "end\n")) → OnErr r ((n : ℕ) × (n < 4) × Appends mid now.held (take n (codes "end\n"))) → OnErr r (Rose middle now.output_faults)
     → Ends RecoverTrack (judged_ending r faults) before now
-judged_track fed epochs aligned events mid middle before now (Ok done) zero h count le whole part rose =
-    (h.ended, λ bytes is. all_followed Done fed epochs aligned events mid before now bytes h is (no_faults (track_faults events) count) refl whole)
-judged_track fed epochs aligned events mid middle before now (Ok done) (suc m) h count le whole part rose =
-    (h.ended, λ bytes is. all_followed Faulty fed epochs aligned events mid before now bytes h is (some_faults (track_faults events) m count) refl whole)
-judged_track fed epochs aligned events mid middle before now (Err failed) faults h count le whole part rose = (
+judged_track fed epochs aligned track_events mid middle before now (Ok done) zero h count le whole part rose =
+    (h.ended, λ bytes is. all_followed Done fed epochs aligned track_events mid before now bytes h is (no_faults (track_faults track_events) count) refl whole)
+judged_track fed epochs aligned track_events mid middle before now (Ok done) (suc m) h count le whole part rose =
+    (h.ended, λ bytes is. all_followed Faulty fed epochs aligned track_events mid before now bytes h is (some_faults (track_faults track_events) m count) refl whole)
+judged_track fed epochs aligned track_events mid middle before now (Err failed) faults h count le whole part rose = (
   rose_after before.output_faults middle now.output_faults le rose,
   record {
-    events = events;
+    track_events = track_events;
     fed = fed;
-    gone = length (track_lines events) + part.0;
-    missing = shorter (track_text events) (track_lines events) (codes "end\n") part.0 (text_whole events) part.1;
-    written = subst (λ (bytes : List ℕ). Appends before.held now.held bytes) (front_of (track_text events) (track_lines events) (codes "end\n") part.0 (text_whole events))
-        (Appends-trans before.held mid now.held (track_lines events) (take part.0 (codes "end\n")) h.written part.2);
-    told = inr (epochs, aligned, h.ended, h.captured, h.track);
+    gone = length (track_lines track_events) + part.0;
+    missing = shorter (track_text track_events) (track_lines track_events) (codes "end\n") part.0 (text_whole track_events) part.1;
+    written = subst (λ (bytes : List ℕ). Appends before.held now.held bytes) (front_of (track_text track_events) (track_lines track_events) (codes "end\n") part.0 (text_whole track_events))
+        (Appends-trans before.held mid now.held (track_lines track_events) (take part.0 (codes "end\n")) h.written part.2);
+    reported = inr (epochs, aligned, h.ended, h.captured, h.track);
   },
 )
 
-pub aligned_ends : {E : Type 0} (fed : Fed) (epochs aligned : ℕ) (events : List Event) (mid : Option (List ℕ)) (middle : ℕ) (before now : Devices) (r : Result (Unit {0}) E) (faults : ℕ)
-    → IsTrack fed epochs aligned events → 0 < aligned → ((bytes : List ℕ) → before.left ≡ Some bytes → IsCaptureOf fed.blue fed.green fed.red bytes) → IsAtEnd now.left → Appends before.held mid (track_lines events)
-    → faults ≡ counted 0 (track_faults events) → before.output_faults ≤ middle
+pub aligned_ends : {E : Type 0} (fed : Fed) (epochs aligned : ℕ) (track_events : List TrackEvent) (mid : Option (List ℕ)) (middle : ℕ) (before now : Devices) (r : Result (Unit {0}) E) (faults : ℕ)
+    → IsTrack fed epochs aligned track_events → 0 < aligned → ((bytes : List ℕ) → before.left ≡ Some bytes → IsCaptureOf fed.blue fed.green fed.red bytes) → IsAtEnd now.left → Appends before.held mid (track_lines track_events)
+    → faults ≡ counted 0 (track_faults track_events) → before.output_faults ≤ middle
     → OnOk r (Appends mid now.held (codes "end\n")) → OnErr r ((n : ℕ) × (n < 4) × Appends mid now.held (take n (codes "end\n"))) → OnErr r (Rose middle now.output_faults)
     → Ends RecoverTrack (judged_ending r faults) before now
-aligned_ends fed epochs aligned events mid middle before now r faults track some captured end written count le whole part rose =
-    judged_track fed epochs aligned events mid middle before now r faults (record { track = track; some = some; captured = captured; ended = end; written = written }) count le whole part rose
+aligned_ends fed epochs aligned track_events mid middle before now r faults track some captured end written count le whole part rose =
+    judged_track fed epochs aligned track_events mid middle before now r faults (record { track = track; some = some; captured = captured; ended = end; written = written }) count le whole part rose
 
 -- a capture that was not followed to its end
 
 -- what stands as an ear takes events, from one that was told nothing on
-pub record WritesEvents {A : Type 0} (tracked : A → A → List Event → Type 0) (lost : A → A → Event → Type 0) (held : A → Option (List ℕ)) : Type 0 where
-  pub grows : (x y : A) (h : List Event) → tracked x y h → Appends (held x) (held y) (track_lines h)
-  pub breaks : (x y : A) (e : Event) → lost x y e → (n : ℕ) × (n < length (event_text e)) × Appends (held x) (held y) (take n (event_text e))
+pub record WritesTrackEvents {A : Type 0} (tracked : A → A → List TrackEvent → Type 0) (lost : A → A → TrackEvent → Type 0) (held : A → Option (List ℕ)) : Type 0 where
+  pub grows : (x y : A) (h : List TrackEvent) → tracked x y h → Appends (held x) (held y) (track_lines h)
+  pub breaks : (x y : A) (e : TrackEvent) → lost x y e → (n : ℕ) × (n < length (track_event_text e)) × Appends (held x) (held y) (take n (track_event_text e))
 
-lines_parts : (events taken rest : List Event) (next : Event) → events ≡ taken ++ next ∷ rest → track_lines events ≡ track_lines taken ++ (event_text next ++ track_lines rest)
-lines_parts events taken rest next is =
-    ap track_lines is ∙ track_lines_append taken (next ∷ rest) ∙ ap (λ t. track_lines taken ++ t) (track_lines_append (next ∷ []) rest ∙ ap (λ t. t ++ track_lines rest) (one_event next))
+lines_parts : (track_events taken rest : List TrackEvent) (next : TrackEvent) → track_events ≡ taken ++ next ∷ rest → track_lines track_events ≡ track_lines taken ++ (track_event_text next ++ track_lines rest)
+lines_parts track_events taken rest next is =
+    ap track_lines is ∙ track_lines_append taken (next ∷ rest) ∙ ap (λ t. track_lines taken ++ t) (track_lines_append (next ∷ []) rest ∙ ap (λ t. t ++ track_lines rest) (one_track_event next))
 
-record IsPast (events : List Event) (old new : Option (List ℕ)) : Type 0 where
+record IsPast (track_events : List TrackEvent) (old new : Option (List ℕ)) : Type 0 where
   gone : ℕ
-  missing : gone < length (track_text events)
-  written : Appends old new (take gone (track_text events))
+  missing : gone < length (track_text track_events)
+  written : Appends old new (take gone (track_text track_events))
 
-broken_text : {A : Type 0} (tracked : A → A → List Event → Type 0) (lost : A → A → Event → Type 0) (held : A → Option (List ℕ)) (events : List Event) (old new : A)
-    → WritesEvents tracked lost held → Stops tracked lost old new events → IsPast events (held old) (held new)
-broken_text tracked lost held events old new writes s =
+broken_text : {A : Type 0} (tracked : A → A → List TrackEvent → Type 0) (lost : A → A → TrackEvent → Type 0) (held : A → Option (List ℕ)) (track_events : List TrackEvent) (old new : A)
+    → WritesTrackEvents tracked lost held → Stops tracked lost old new track_events → IsPast track_events (held old) (held new)
+broken_text tracked lost held track_events old new writes s =
     let broken = writes.breaks s.between new s.next s.lost_then in
-    let line = event_text s.next in
+    let line = track_event_text s.next in
     let more = track_lines s.rest ++ codes "end\n" in
-    let parts : track_text events ≡ track_lines s.taken ++ (line ++ more) =
-    text_whole events ∙ ap (λ t. t ++ codes "end\n") (lines_parts events s.taken s.rest s.next s.events_are)
+    let parts : track_text track_events ≡ track_lines s.taken ++ (line ++ more) =
+    text_whole track_events ∙ ap (λ t. t ++ codes "end\n") (lines_parts track_events s.taken s.rest s.next s.track_events_are)
     ∙ append_assoc (track_lines s.taken) (line ++ track_lines s.rest) (codes "end\n")
     ∙ ap (λ t. track_lines s.taken ++ t) (append_assoc line (track_lines s.rest) (codes "end\n")) in
     let m = length-append line more in
     record {
       gone = length (track_lines s.taken) + broken.0;
-      missing = shorter (track_text events) (track_lines s.taken) (line ++ more) broken.0 parts (let lt = broken.1 in omega (arith, m, lt));
-      written = subst (λ (bytes : List ℕ). Appends (held old) (held new) bytes) (front_of (track_text events) (track_lines s.taken) (line ++ more) broken.0 parts)
+      missing = shorter (track_text track_events) (track_lines s.taken) (line ++ more) broken.0 parts (let lt = broken.1 in omega (arith, m, lt));
+      written = subst (λ (bytes : List ℕ). Appends (held old) (held new) bytes) (front_of (track_text track_events) (track_lines s.taken) (line ++ more) broken.0 parts)
           (Appends-trans (held old) (held s.between) (held new) (track_lines s.taken) (take broken.0 (line ++ more)) (writes.grows old s.between s.taken s.took_some)
           (subst (λ (bytes : List ℕ). Appends (held s.between) (held new) bytes) (sym (take-append-le broken.0 line more (let lt = broken.1 in omega (arith, lt)))) broken.2));
     }
 
-untaken_part : {A : Type 0} (tracked : A → A → List Event → Type 0) (lost : A → A → Event → Type 0) (held : A → Option (List ℕ)) (faults : A → ℕ) (left rest : Option (List ℕ)) (reads read_faults : ℕ) (old new : A)
-    → WritesEvents tracked lost held → (u : IsUntakenOn tracked lost left rest old new) → TracksPart (seen left reads (held old) (faults old)) (seen rest read_faults (held new) (faults new))
+untaken_part : {A : Type 0} (tracked : A → A → List TrackEvent → Type 0) (lost : A → A → TrackEvent → Type 0) (held : A → Option (List ℕ)) (faults : A → ℕ) (left rest : Option (List ℕ)) (reads read_faults : ℕ) (old new : A)
+    → WritesTrackEvents tracked lost held → (u : IsUntakenOn tracked lost left rest old new) → TracksPart (seen left reads (held old) (faults old)) (seen rest read_faults (held new) (faults new))
 untaken_part tracked lost held faults left rest reads read_faults old new writes u =
-    let p = broken_text tracked lost held u.events old new writes u.stops in
-    record { events = u.events; fed = u.after; gone = p.gone; missing = p.missing; written = p.written; told = by u.told }
+    let p = broken_text tracked lost held u.track_events old new writes u.stops in
+    record { track_events = u.track_events; fed = u.after; gone = p.gone; missing = p.missing; written = p.written; reported = by u.reported }
   where
-    by : (AreNext u.before u.after u.read × HasTracked u.after u.events) ⊎ (IsAtEnd rest × IsCaptureOf u.after.blue u.after.green u.after.red u.read × ((epochs aligned : ℕ) × IsTrack u.after epochs aligned u.events))
-        → ((was : Fed) × (read : List ℕ) × Consumes left rest read × AreNext was u.after read × HasTracked u.after u.events)
-        ⊎ ((epochs aligned : ℕ) × IsAtEnd rest × ((bytes : List ℕ) → left ≡ Some bytes → IsCaptureOf u.after.blue u.after.green u.after.red bytes) × IsTrack u.after epochs aligned u.events)
+    by : (AreNext u.before u.after u.read × HasTracked u.after u.track_events) ⊎ (IsAtEnd rest × IsCaptureOf u.after.blue u.after.green u.after.red u.read × ((epochs aligned : ℕ) × IsTrack u.after epochs aligned u.track_events))
+        → ((was : Fed) × (read : List ℕ) × Consumes left rest read × AreNext was u.after read × HasTracked u.after u.track_events)
+        ⊎ ((epochs aligned : ℕ) × IsAtEnd rest × ((bytes : List ℕ) → left ≡ Some bytes → IsCaptureOf u.after.blue u.after.green u.after.red bytes) × IsTrack u.after epochs aligned u.track_events)
     by (inl (next, passes)) = inl (u.before, u.read, u.consumed, next, passes)
     by (inr (end, captured, track)) =
         inr (track.0, track.1, end, λ bytes is. subst (λ (bs : List ℕ). IsCaptureOf u.after.blue u.after.green u.after.red bs) (sym (all_read left rest u.read bytes u.consumed end is)) captured, track.2)
 
-pub short_ends : {A : Type 0} (tracked : A → A → List Event → Type 0) (lost : A → A → Event → Type 0) (held : A → Option (List ℕ)) (faults : A → ℕ) (left rest : Option (List ℕ)) (reads read_faults : ℕ) (old new : A) (e : HearError)
-    → WritesEvents tracked lost held → StopsOn tracked lost left rest old new e → IsCausedBy reads read_faults (faults old) (faults new) e
+pub short_ends : {A : Type 0} (tracked : A → A → List TrackEvent → Type 0) (lost : A → A → TrackEvent → Type 0) (held : A → Option (List ℕ)) (faults : A → ℕ) (left rest : Option (List ℕ)) (reads read_faults : ℕ) (old new : A) (e : HearError)
+    → WritesTrackEvents tracked lost held → StopsOn tracked lost left rest old new e → IsCausedBy reads read_faults (faults old) (faults new) e
     → Ends RecoverTrack (heard_ending e) (seen left reads (held old) (faults old)) (seen rest read_faults (held new) (faults new))
 short_ends tracked lost held faults left rest reads read_faults old new (Bad fault) writes short cause = (
   λ last. absurd last,
-  λ bytes told. let b = short.1 bytes told in let h = b.heard in record {
-    outcome = record { status = 3; output = track_lines h.events; note = capture_note fault };
-    does = inr (fault, b.fed, h.events, b.faulty, b.before, h.told, refl);
+  λ bytes reported. let b = short.1 bytes reported in let h = b.heard in record {
+    outcome = record { status = 3; output = track_lines h.track_events; note = capture_note fault };
+    does = inr (fault, b.fed, h.track_events, b.faulty, b.before, h.reported, refl);
     status = refl;
     note = refl;
-    written = writes.grows old new h.events h.heard;
+    written = writes.grows old new h.track_events h.heard;
   },
 )
 short_ends tracked lost held faults left rest reads read_faults old new Read writes short cause = (
@@ -199,18 +199,18 @@ short_ends tracked lost held faults left rest reads read_faults old new Read wri
     consumed = short.consumed;
     fed = short.fed;
     are = short.are_read;
-    events = short.heard.events;
-    told = short.heard.told;
-    written = writes.grows old new short.heard.events short.heard.heard;
+    track_events = short.heard.track_events;
+    reported = short.heard.reported;
+    written = writes.grows old new short.heard.track_events short.heard.heard;
   },
 )
 short_ends tracked lost held faults left rest reads read_faults old new Ear writes short cause =
     (cause, untaken_part tracked lost held faults left rest reads read_faults old new writes short)
 
 -- what taking and losing keep is kept there
-pub kept_short : {A G : Type 0} (tracked : A → A → List Event → Type 0) (lost : A → A → Event → Type 0) (name : A → G) → ((x y : A) (h : List Event) → tracked x y h → name y ≡ name x) → ((x y : A) (e : Event) → lost x y e → name y ≡ name x)
+pub kept_short : {A G : Type 0} (tracked : A → A → List TrackEvent → Type 0) (lost : A → A → TrackEvent → Type 0) (name : A → G) → ((x y : A) (h : List TrackEvent) → tracked x y h → name y ≡ name x) → ((x y : A) (e : TrackEvent) → lost x y e → name y ≡ name x)
     → (left rest : Option (List ℕ)) (old new : A) (e : HearError) → StopsOn tracked lost left rest old new e → name new ≡ name old
-kept_short tracked lost name by_tracked by_lost left rest old new (Bad fault) short = by_tracked old new short.0.1.events short.0.1.heard
-kept_short tracked lost name by_tracked by_lost left rest old new Read short = by_tracked old new short.heard.events short.heard.heard
+kept_short tracked lost name by_tracked by_lost left rest old new (Bad fault) short = by_tracked old new short.0.1.track_events short.0.1.heard
+kept_short tracked lost name by_tracked by_lost left rest old new Read short = by_tracked old new short.heard.track_events short.heard.heard
 kept_short tracked lost name by_tracked by_lost left rest old new Ear short =
     let s = short.stops in by_lost s.between new s.next s.lost_then ∙ by_tracked old s.between s.taken s.took_some

@@ -9,10 +9,10 @@ use Rattle.capture_file.proofs.Marks.{consumed}
 use Rattle.link_sink.specs.Pieces.{no_bits}
 use Rattle.link_sink.specs.Sinks.{Fed, grown}
 use Rattle.track_sink.specs.Epochs.{IsTrack}
-use Rattle.track_sink.specs.Events.{Event}
+use Rattle.track_sink.specs.TrackEvents.{TrackEvent}
 use Rattle.track_sink.specs.Tracks.{HasTracked}
 use Rattle.track_sink.specs.Trackers.{Stops}
-use Rattle.track_sink.specs.TrackSinks.{TrackSinkSeen, StandsFor}
+use Rattle.track_sink.specs.TrackSinks.{TrackSinkSeen, TrackSinkRepresents}
 use Rattle.hdmi_cli.specs.Hearings.{IsCausedBy, refused_as}
 use Rattle.hdmi_cli.specs.Tracking.{HasFollowed, HasFollowedAll, IsTrackedSoFar, IsUntakenOn, StopsOn}
 use Rattle.hdmi_cli.specs.declared.hearing.HearError.{HearError}
@@ -21,57 +21,57 @@ use Rattle.hdmi_cli.proofs.Heard.{rose_after}
 use Rattle.hdmi_cli.proofs.Hearings.{Lends, at_its_length}
 
 -- an ear that takes one list after another takes both
-abbrev pub JoinsEvents : {A : Type 0} → (A → A → List Event → Type 0) → Type 0
-JoinsEvents {A} tracked = (x y z : A) (h k : List Event) → tracked x y h → tracked y z k → tracked x z (h ++ k)
+abbrev pub JoinsTrackEvents : {A : Type 0} → (A → A → List TrackEvent → Type 0) → Type 0
+JoinsTrackEvents {A} tracked = (x y z : A) (h k : List TrackEvent) → tracked x y h → tracked y z k → tracked x z (h ++ k)
 
-pub followed_more : {A : Type 0} (tracked : A → A → List Event → Type 0) → JoinsEvents tracked → (version : ℕ) (counts : List ℕ) (j : ℕ) (from left0 left1 : Option (List ℕ)) (sink0 sink1 : TrackSinkSeen) (a b d bits : List ℕ) (first old new : A)
+pub followed_more : {A : Type 0} (tracked : A → A → List TrackEvent → Type 0) → JoinsTrackEvents tracked → (version : ℕ) (counts : List ℕ) (j : ℕ) (from left0 left1 : Option (List ℕ)) (sink0 sink1 : TrackSinkSeen) (a b d bits : List ℕ) (first old new : A)
     → HasFollowed tracked version counts j from left0 sink0 first old → Consumes left0 left1 ((a ++ b) ++ d) → Lends version counts j a b d bits
-    → ((fed : Fed) (told : List Event) → StandsFor sink0 fed told → (more : List Event) × tracked old new more × StandsFor sink1 (grown fed a b d bits) (told ++ more))
+    → ((fed : Fed) (reported : List TrackEvent) → TrackSinkRepresents sink0 fed reported → (more : List TrackEvent) × tracked old new more × TrackSinkRepresents sink1 (grown fed a b d bits) (reported ++ more))
     → HasFollowed tracked version counts (j + 1) from left1 sink1 first new
-followed_more tracked both version counts j from left0 left1 sink0 sink1 a b d bits first old new h gone lent told =
-    let t = told h.fed h.events h.sunk in
+followed_more tracked both version counts j from left0 left1 sink0 sink1 a b d bits first old new h gone lent reported =
+    let t = reported h.fed h.track_events h.sunk in
     record {
       taken = h.taken ++ ((a ++ b) ++ d);
       fed = grown h.fed a b d bits;
-      events = h.events ++ t.0;
+      track_events = h.track_events ++ t.0;
       consumed = Consumes-trans from left0 left1 h.taken ((a ++ b) ++ d) h.consumed gone;
       stands = lent h.taken h.fed.blue h.fed.green h.fed.red h.stands;
       sunk = t.2;
-      heard = both first old new h.events t.0 h.heard t.1;
+      heard = both first old new h.track_events t.0 h.heard t.1;
     }
 
-pub follows_so : {A : Type 0} (tracked : A → A → List Event → Type 0) (version version' : ℕ) (counts counts' : List ℕ) (j j' : ℕ) (from left : Option (List ℕ)) (sink : TrackSinkSeen) (first now : A)
+pub follows_so : {A : Type 0} (tracked : A → A → List TrackEvent → Type 0) (version version' : ℕ) (counts counts' : List ℕ) (j j' : ℕ) (from left : Option (List ℕ)) (sink : TrackSinkSeen) (first now : A)
     → version' ≡ version → counts' ≡ counts → j' ≡ j → HasFollowed tracked version counts j from left sink first now → HasFollowed tracked version' counts' j' from left sink first now
 follows_so tracked version version' counts counts' j j' from left sink first now ev ec ej h =
     subst (λ v. HasFollowed tracked v counts' j' from left sink first now) (sym ev)
     (subst (λ cs. HasFollowed tracked version cs j' from left sink first now) (sym ec) (subst (λ n. HasFollowed tracked version counts n from left sink first now) (sym ej) h))
 
-stops_on : {A : Type 0} (tracked : A → A → List Event → Type 0) (lost : A → A → Event → Type 0) → JoinsEvents tracked → (events more : List Event) (first old new : A)
-    → tracked first old events → Stops tracked lost old new more → Stops tracked lost first new (events ++ more)
-stops_on tracked lost both events more first old new taken s = record {
-  taken = events ++ s.taken;
+stops_on : {A : Type 0} (tracked : A → A → List TrackEvent → Type 0) (lost : A → A → TrackEvent → Type 0) → JoinsTrackEvents tracked → (track_events more : List TrackEvent) (first old new : A)
+    → tracked first old track_events → Stops tracked lost old new more → Stops tracked lost first new (track_events ++ more)
+stops_on tracked lost both track_events more first old new taken s = record {
+  taken = track_events ++ s.taken;
   next = s.next;
   rest = s.rest;
-  events_are = ap (λ l. events ++ l) s.events_are ∙ sym (append_assoc events s.taken (s.next ∷ s.rest));
+  track_events_are = ap (λ l. track_events ++ l) s.track_events_are ∙ sym (append_assoc track_events s.taken (s.next ∷ s.rest));
   between = s.between;
-  took_some = both first old s.between events s.taken taken s.took_some;
+  took_some = both first old s.between track_events s.taken taken s.took_some;
   lost_then = s.lost_then;
 }
 
-pub untaken_on : {A : Type 0} (tracked : A → A → List Event → Type 0) (lost : A → A → Event → Type 0) → JoinsEvents tracked → (version : ℕ) (counts : List ℕ) (j : ℕ) (from left0 left1 : Option (List ℕ)) (sink : TrackSinkSeen) (a b d bits : List ℕ) (first old new : A)
+pub untaken_on : {A : Type 0} (tracked : A → A → List TrackEvent → Type 0) (lost : A → A → TrackEvent → Type 0) → JoinsTrackEvents tracked → (version : ℕ) (counts : List ℕ) (j : ℕ) (from left0 left1 : Option (List ℕ)) (sink : TrackSinkSeen) (a b d bits : List ℕ) (first old new : A)
     → HasFollowed tracked version counts j from left0 sink first old → Consumes left0 left1 ((a ++ b) ++ d) → Lends version counts j a b d bits
-    → ((fed : Fed) (told : List Event) → StandsFor sink fed told → (more : List Event) × Stops tracked lost old new more × HasTracked (grown fed a b d bits) (told ++ more))
+    → ((fed : Fed) (reported : List TrackEvent) → TrackSinkRepresents sink fed reported → (more : List TrackEvent) × Stops tracked lost old new more × HasTracked (grown fed a b d bits) (reported ++ more))
     → IsUntakenOn tracked lost from left1 first new
 untaken_on tracked lost both version counts j from left0 left1 sink a b d bits first old new h gone lent stopped =
-    let s = stopped h.fed h.events h.sunk in
+    let s = stopped h.fed h.track_events h.sunk in
     let next = lent h.taken h.fed.blue h.fed.green h.fed.red h.stands in
     record {
       before = h.fed;
       after = grown h.fed a b d bits;
-      events = h.events ++ s.0;
+      track_events = h.track_events ++ s.0;
       read = h.taken ++ ((a ++ b) ++ d);
       consumed = Consumes-trans from left0 left1 h.taken ((a ++ b) ++ d) h.consumed gone;
-      told = inl (
+      reported = inl (
         record {
           counts = counts;
           j = j;
@@ -83,29 +83,29 @@ untaken_on tracked lost both version counts j from left0 left1 sink a b d bits f
         },
         s.2,
       );
-      stops = stops_on tracked lost both h.events s.0 first old new h.heard s.1;
+      stops = stops_on tracked lost both h.track_events s.0 first old new h.heard s.1;
     }
 
-pub followed_all : {A : Type 0} (tracked : A → A → List Event → Type 0) (version : ℕ) (counts : List ℕ) (j : ℕ) (from left0 left1 : Option (List ℕ)) (sink : TrackSinkSeen) (first now : A)
+pub followed_all : {A : Type 0} (tracked : A → A → List TrackEvent → Type 0) (version : ℕ) (counts : List ℕ) (j : ℕ) (from left0 left1 : Option (List ℕ)) (sink : TrackSinkSeen) (first now : A)
     → HasFollowed tracked version counts j from left0 sink first now → Consumes left0 left1 []
     → ((taken : List ℕ) (x y z : List Bool) → Stands version counts j taken x y z → IsCaptureOf x y z taken)
     → HasFollowedAll tracked from left1 sink first now
 followed_all tracked version counts j from left0 left1 sink first now h gone whole = record {
   taken = h.taken;
   fed = h.fed;
-  events = h.events;
+  track_events = h.track_events;
   consumed = subst (Consumes from left1) (append-nil h.taken) (Consumes-trans from left0 left1 h.taken [] h.consumed gone);
   captured = whole h.taken h.fed.blue h.fed.green h.fed.red h.stands;
   sunk = h.sunk;
   heard = h.heard;
 }
 
-so_far : {A : Type 0} (tracked : A → A → List Event → Type 0) (version : ℕ) (counts : List ℕ) (j : ℕ) (from left : Option (List ℕ)) (sink : TrackSinkSeen) (first now : A)
+so_far : {A : Type 0} (tracked : A → A → List TrackEvent → Type 0) (version : ℕ) (counts : List ℕ) (j : ℕ) (from left : Option (List ℕ)) (sink : TrackSinkSeen) (first now : A)
     → (h : HasFollowed tracked version counts j from left sink first now) → IsTrackedSoFar tracked h.fed first now
-so_far tracked version counts j from left sink first now h = record { events = h.events; told = h.sunk.tracked; heard = h.heard }
+so_far tracked version counts j from left sink first now h = record { track_events = h.track_events; reported = h.sunk.tracked; heard = h.heard }
 
 -- a reader gives an error
-pub short_on : {A : Type 0} (tracked : A → A → List Event → Type 0) (lost : A → A → Event → Type 0) (version : ℕ) (counts : List ℕ) (j : ℕ) (from left0 left1 : Option (List ℕ)) (sink : TrackSinkSeen) (first now : A) (error : CaptureError)
+pub short_on : {A : Type 0} (tracked : A → A → List TrackEvent → Type 0) (lost : A → A → TrackEvent → Type 0) (version : ℕ) (counts : List ℕ) (j : ℕ) (from left0 left1 : Option (List ℕ)) (sink : TrackSinkSeen) (first now : A) (error : CaptureError)
     → HasFollowed tracked version counts j from left0 sink first now
     → ((bytes taken : List ℕ) (x y z : List Bool) → left0 ≡ Some bytes → Stands version counts j taken x y z → SaysOf (λ fault. IsFault (taken ++ bytes) fault × StopsIn counts j taken (place_of fault)) error)
     → SaysRead ((part : List ℕ) × ((length part < block_size j counts) ⊎ (part ≡ [])) × Consumes left0 left1 part) error
@@ -131,57 +131,57 @@ short_on tracked lost version counts j from left0 left1 sink first now Unread h 
 }
 
 -- a header was read
-pub followed_head : {A : Type 0} (tracked : A → A → List Event → Type 0) (version : ℕ) (counts : List ℕ) (j : ℕ) (from left : Option (List ℕ)) (sink : TrackSinkSeen) (now : A) → tracked now now [] → StandsFor sink no_bits []
+pub followed_head : {A : Type 0} (tracked : A → A → List TrackEvent → Type 0) (version : ℕ) (counts : List ℕ) (j : ℕ) (from left : Option (List ℕ)) (sink : TrackSinkSeen) (now : A) → tracked now now [] → TrackSinkRepresents sink no_bits []
     → (head : List ℕ) × Consumes from left head × Stands version counts j head [] [] [] → HasFollowed tracked version counts j from left sink now now
-followed_head tracked version counts j from left sink now none sunk h = record { taken = h.0; fed = no_bits; events = []; consumed = h.1; stands = h.2; sunk = sunk; heard = none }
+followed_head tracked version counts j from left sink now none sunk h = record { taken = h.0; fed = no_bits; track_events = []; consumed = h.1; stands = h.2; sunk = sunk; heard = none }
 
 -- none was read
-pub headless_on : {A : Type 0} (tracked : A → A → List Event → Type 0) (lost : A → A → Event → Type 0) (from left : Option (List ℕ)) (sink : TrackSinkSeen) (now : A) (error : CaptureError) → tracked now now [] → StandsFor sink no_bits []
+pub headless_on : {A : Type 0} (tracked : A → A → List TrackEvent → Type 0) (lost : A → A → TrackEvent → Type 0) (from left : Option (List ℕ)) (sink : TrackSinkSeen) (now : A) (error : CaptureError) → tracked now now [] → TrackSinkRepresents sink no_bits []
     → ((bytes : List ℕ) → from ≡ Some bytes → SaysOf (λ fault. IsEarlyFault bytes fault) error)
     → SaysRead ((part : List ℕ) × IsHeadless part × Consumes from left part) error
     → StopsOn tracked lost from left now now (refused_as error)
 headless_on tracked lost from left sink now (Failed fault) none sunk says part =
-    let so : IsTrackedSoFar tracked no_bits now now = record { events = []; told = sunk.tracked; heard = none } in (
+    let so : IsTrackedSoFar tracked no_bits now now = record { track_events = []; reported = sunk.tracked; heard = none } in (
       (no_bits, so),
       λ bytes is. let s = says bytes is in record { faulty = s.0; fed = no_bits; before = inl (s.1, refl); heard = so },
     )
 headless_on tracked lost from left sink now Unread none sunk says part =
-    record { fed = no_bits; read = part.0; consumed = part.2; are_read = inl (part.1, refl); heard = record { events = []; told = sunk.tracked; heard = none } }
+    record { fed = no_bits; read = part.0; consumed = part.2; are_read = inl (part.1, refl); heard = record { track_events = []; reported = sunk.tracked; heard = none } }
 
 -- a sink that was fed nothing was fed no block
 left_none : (left : Option (List ℕ)) (rest : List ℕ) → left ≡ Some rest → IsAtEnd left → rest ≡ []
 left_none left rest is ended = subst IsAtEnd is ended
 
-pub followed_whole : {A : Type 0} (tracked : A → A → List Event → Type 0) → JoinsEvents tracked → (from left : Option (List ℕ)) (sink : TrackSinkSeen) (epochs aligned : ℕ) (first old new : A)
+pub followed_whole : {A : Type 0} (tracked : A → A → List TrackEvent → Type 0) → JoinsTrackEvents tracked → (from left : Option (List ℕ)) (sink : TrackSinkSeen) (epochs aligned : ℕ) (first old new : A)
     → HasFollowedAll tracked from left sink first old → IsAtEnd left
-    → ((fed : Fed) (told : List Event) → StandsFor sink fed told → (last : List Event) × tracked old new last × IsTrack fed epochs aligned (told ++ last))
-    → (fed : Fed) × (events : List Event) × IsTrack fed epochs aligned events × tracked first new events × ((bytes : List ℕ) → from ≡ Some bytes → IsCaptureOf fed.blue fed.green fed.red bytes)
-followed_whole tracked both from left sink epochs aligned first old new h ended told =
-    let t = told h.fed h.events h.sunk in (
+    → ((fed : Fed) (reported : List TrackEvent) → TrackSinkRepresents sink fed reported → (last : List TrackEvent) × tracked old new last × IsTrack fed epochs aligned (reported ++ last))
+    → (fed : Fed) × (track_events : List TrackEvent) × IsTrack fed epochs aligned track_events × tracked first new track_events × ((bytes : List ℕ) → from ≡ Some bytes → IsCaptureOf fed.blue fed.green fed.red bytes)
+followed_whole tracked both from left sink epochs aligned first old new h ended reported =
+    let t = reported h.fed h.track_events h.sunk in (
       h.fed,
-      h.events ++ t.0,
+      h.track_events ++ t.0,
       t.2,
-      both first old new h.events t.0 h.heard t.1,
+      both first old new h.track_events t.0 h.heard t.1,
       λ bytes is.
           let c = consumed from left bytes h.taken is h.consumed in
           let all : h.taken ≡ bytes = sym (c.1 ∙ ap (λ l. h.taken ++ l) (left_none left c.0 c.2 ended) ∙ append-nil h.taken) in
           subst (IsCaptureOf h.fed.blue h.fed.green h.fed.red) all h.captured,
     )
 
-pub unended_on : {A : Type 0} (tracked : A → A → List Event → Type 0) (lost : A → A → Event → Type 0) → JoinsEvents tracked → (from left : Option (List ℕ)) (sink : TrackSinkSeen) (first old new : A)
+pub unended_on : {A : Type 0} (tracked : A → A → List TrackEvent → Type 0) (lost : A → A → TrackEvent → Type 0) → JoinsTrackEvents tracked → (from left : Option (List ℕ)) (sink : TrackSinkSeen) (first old new : A)
     → HasFollowedAll tracked from left sink first old → IsAtEnd left
-    → ((fed : Fed) (told : List Event) → StandsFor sink fed told → (epochs aligned : ℕ) × (last : List Event) × Stops tracked lost old new last × IsTrack fed epochs aligned (told ++ last))
+    → ((fed : Fed) (reported : List TrackEvent) → TrackSinkRepresents sink fed reported → (epochs aligned : ℕ) × (last : List TrackEvent) × Stops tracked lost old new last × IsTrack fed epochs aligned (reported ++ last))
     → IsUntakenOn tracked lost from left first new
 unended_on tracked lost both from left sink first old new h ended stopped =
-    let s = stopped h.fed h.events h.sunk in
+    let s = stopped h.fed h.track_events h.sunk in
     record {
       before = h.fed;
       after = h.fed;
-      events = h.events ++ s.2;
+      track_events = h.track_events ++ s.2;
       read = h.taken;
       consumed = h.consumed;
-      told = inr (ended, h.captured, (s.0, s.1, s.4));
-      stops = stops_on tracked lost both h.events s.2 first old new h.heard s.3;
+      reported = inr (ended, h.captured, (s.0, s.1, s.4));
+      stops = stops_on tracked lost both h.track_events s.2 first old new h.heard s.3;
     }
 
 -- a count that rose later rose

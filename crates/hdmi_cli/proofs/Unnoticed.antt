@@ -19,21 +19,21 @@ use Rattle.lane_align.proofs.Parts.{run_in_front, run_in_rest, run_of_front, run
 use Rattle.lane_deskew.specs.Triples.{IsFirst}
 use Rattle.lane_deskew.specs.Aligned.{aligned_columns}
 use Rattle.island_pack.specs.Periods.{Period}
-use Rattle.link_sink.specs.Laws.{BeginColumn, IsAccounted}
+use Rattle.link_laws.specs.Laws.{BeginColumn, IsAccounted}
 use Rattle.link_sink.specs.Sinks.{Fed}
-use Rattle.link_sink.proofs.Tapped.{payload_accounted}
+use Rattle.link_laws.proofs.Tapped.{payload_accounted}
 use Rattle.lane_track.specs.Slips.{Slips, BeginsControl, slipped_part}
 use Rattle.lane_track.specs.Strays.{IsStray, IsFirstStray, HasNoStray}
-use Rattle.lane_track.proofs.Around.{drop_part, length-part, no_run_across, strays_behind}
+use Rattle.lane_track.proofs.Around.{drop_part, length-part, no_run_across, strays_after}
 use Rattle.lane_track.proofs.Begins.{stray_starts}
-use Rattle.lane_track.proofs.Cutting.{drop_slipped, front_piece, length_slipped, run_before, run_behind, run_stays_before, run_stays_behind}
+use Rattle.lane_track.proofs.Cutting.{drop_slipped, front_piece, length_slipped, run_before, run_after, run_stays_before, run_stays_after}
 use Rattle.track_sink.specs.Epochs.{lane_of, front_of, HasNoEnd}
-use Rattle.track_sink.specs.Laws.{Came, Slipped, SlipsInVideo, FirstAccounted, later_skews, words_at}
-use Rattle.track_sink.proofs.Before.{front_accounted}
-use Rattle.track_sink.proofs.Ends.{none_of, same_lane, slipped_is}
-use Rattle.track_sink.proofs.First.{first_same}
-use Rattle.track_sink.proofs.Noticed.{lock_before, others_none}
-use Rattle.track_sink.proofs.Slipping.{marks_at, begins_control, calm_lanes, slips_at}
+use Rattle.track_laws.specs.Laws.{Received, Slipped, SlipsInVideo, FirstAccounted, later_skews, words_at}
+use Rattle.track_laws.proofs.Before.{front_accounted}
+use Rattle.track_laws.proofs.Ends.{none_of, same_lane, slipped_is}
+use Rattle.track_laws.proofs.First.{first_same}
+use Rattle.track_laws.proofs.Noticed.{lock_before, others_none}
+use Rattle.track_laws.proofs.Slipping.{marks_at, begins_control, calm_lanes, slips_at}
 
 -- The runs of a lane that had no lock before it slipped.
 
@@ -49,7 +49,7 @@ character_apart : (words : List ℕ) (marks : List Bool) (from many place droppe
 character_apart words marks from many place dropped s r j run lt = elim (cases_lt place (r + 10 * j + 130)) [
   | inr before ↦ inl before
   | inl past ↦ elim (cases_lt (r + 10 * j) (place + dropped + 120)) [
-    | inr behind ↦ inr behind
+    | inr after ↦ inr after
     | inl near ↦
         let xs = part_of words from many in
         let len : length xs ≡ many = length-part words from many s.within in
@@ -81,7 +81,7 @@ run_later words marks from many place dropped s none p run =
     let e : p + dropped ≡ dropped + p = omega arith in
     elim (no_run_across words marks from many place dropped s p run) [
       | inl before ↦ absurd (no_run_early xs place none (p + 1) p (omega arith) before (run_before xs place dropped p (omega arith) before run))
-      | inr behind ↦ (behind, run_in_rest dropped xs p (subst (IsRun xs) e (run_behind xs place dropped p (omega arith) behind run)))
+      | inr after ↦ (after, run_in_rest dropped xs p (subst (IsRun xs) e (run_after xs place dropped p (omega arith) after run)))
     ]
 
 run_was : (words : List ℕ) (marks : List Bool) (from many place dropped : ℕ) → Slips words marks from many place dropped
@@ -95,7 +95,7 @@ run_was words marks from many place dropped s none p run =
     let was : IsRun xs (p + dropped) = subst (IsRun xs) e (run_of_rest dropped xs p run) in
     elim (character_apart words marks from many place dropped s (p + dropped) 0 was (omega arith)) [
       | inl before ↦ absurd (no_run_early xs place none (p + dropped + 1) (p + dropped) (omega arith) (omega arith) was)
-      | inr behind ↦ (omega arith, run_stays_behind xs place dropped p (omega arith) (omega arith) was)
+      | inr after ↦ (omega arith, run_stays_after xs place dropped p (omega arith) (omega arith) was)
     ]
 
 -- Its edges, and the characters from their runs on.
@@ -143,9 +143,9 @@ slipped_like words marks from many place dropped s none =
     let size = length_slipped xs place dropped (omega arith) in
     let long : length ys ≡ length zs = omega (arith, length-drop dropped xs) in
     let same : (q : ℕ) → place ≤ q → drop q ys ≡ drop q zs =
-    λ q behind.
+    λ q after.
     let e : q + dropped ≡ dropped + q = omega arith in
-    drop_slipped xs place dropped q (omega arith) behind ∙ ap (λ m. drop m xs) e ∙ sym (drop-drop q dropped xs) in
+    drop_slipped xs place dropped q (omega arith) after ∙ ap (λ m. drop m xs) e ∙ sym (drop-drop q dropped xs) in
     let there = run_later words marks from many place dropped s none in
     let back = run_was words marks from many place dropped s none in
     record {
@@ -159,16 +159,16 @@ slipped_like words marks from many place dropped s none =
 
 -- the lane of a tap
 pub lane_like : (ps : List Period) (sent received : List Column) (offset : ℕ) (skews counts : List ℕ) (x y : Fed) (lane place dropped first next : ℕ)
-    → Came ps sent received offset skews counts x → Slipped x lane place dropped y
+    → Received ps sent received offset skews counts x → Slipped x lane place dropped y
     → SlipsInVideo ps sent received offset skews counts lane place dropped first next
     → ((lock : ℕ) → IsLock (lane_of x lane) lock → lock + 120 ≤ place → ⊥)
     → IsLike (words_at received lane) (offset + (slice_index skews lane + dropped)) (slice_index counts lane - dropped) (lane_of y lane) (drop dropped (lane_of x lane))
-lane_like ps sent received offset skews counts x y lane place dropped first next came slip s none =
+lane_like ps sent received offset skews counts x y lane place dropped first next reception slip s none =
     let words = words_at received lane in
     let from = offset + slice_index skews lane in
     let many = slice_index counts lane in
-    let lanes = calm_lanes ps sent received offset skews counts x came s.alone in
-    let slips = slips_at ps sent received offset skews counts x y lane place dropped first next came slip s in
+    let lanes = calm_lanes ps sent received offset skews counts x reception s.alone in
+    let slips = slips_at ps sent received offset skews counts x y lane place dropped first next reception slip s in
     let mine = slipped_is x y (words_at received) (marks_at sent received) (λ l. offset + slice_index skews l) (λ l. slice_index counts l) lane place dropped lanes slip in
     let own = lanes.parts lane slip.within in
     let e : from + dropped ≡ offset + (slice_index skews lane + dropped) = omega arith in
@@ -189,15 +189,15 @@ unfolding aligned_columns
 alike_columns xs ys zs us vs ws d e f blue green red = λ i. columns_of (blue i) (green i) (red i)
 
 -- what is told from the first full alignment on is the account, where the lane had no lock before it slipped
-pub passed_told : (ps : List Period) (sent received : List Column) (offset : ℕ) (skews counts : List ℕ) (x y : Fed) (lane place dropped first next : ℕ)
-    → Came ps sent received offset skews counts x → Slipped x lane place dropped y
+pub passed_reported : (ps : List Period) (sent received : List Column) (offset : ℕ) (skews counts : List ℕ) (x y : Fed) (lane place dropped first next : ℕ)
+    → Received ps sent received offset skews counts x → Slipped x lane place dropped y
     → SlipsInVideo ps sent received offset skews counts lane place dropped first next
     → ((lock : ℕ) → IsLock (lane_of x lane) lock → lock + 120 ≤ place → ⊥)
     → (d e f : ℕ) → IsFirst y.blue y.green y.red d e f
     → (a : ℕ) × IsAccounted ps sent received (aligned_columns y.blue y.green y.red d e f) a
     × BeginColumn offset (later_skews skews lane dropped) (a + 12) d e f
-passed_told ps sent received offset skews counts x y zero place dropped first next came slip s none d e f alignment =
-    let like = lane_like ps sent received offset skews counts x y zero place dropped first next came slip s none in
+passed_reported ps sent received offset skews counts x y zero place dropped first next reception slip s none d e f alignment =
+    let like = lane_like ps sent received offset skews counts x y zero place dropped first next reception slip s none in
     let green = slip.others 1 (omega arith) (λ h. omega arith) in
     let red = slip.others 2 (omega arith) (λ h. omega arith) in
     let here = first_same (IsEdge y.blue) (IsEdge y.green) (IsEdge y.red) (IsEdge (drop dropped x.blue)) (IsEdge x.green) (IsEdge x.red)
@@ -205,11 +205,11 @@ passed_told ps sent received offset skews counts x y zero place dropped first ne
     let columns = alike_columns y.blue y.green y.red (drop dropped x.blue) x.green x.red d e f
     (like.characters d alignment.triple.first) (ap (λ us. words_from us (e - 120)) green) (ap (λ us. words_from us (f - 120)) red) in
     subst (λ cs. (a : ℕ) × IsAccounted ps sent received cs a × BeginColumn offset (later_skews skews zero dropped) (a + 12) d e f) (sym columns)
-    (payload_accounted ps sent received came.came s.alone offset (later_skews skews zero dropped)
+    (payload_accounted ps sent received reception.reception s.alone offset (later_skews skews zero dropped)
     ((slice_index counts 0 - dropped) ∷ (slice_index counts 1 ∷ (slice_index counts 2 ∷ []))) (drop dropped x.blue) x.green x.red
-    (record { blue_part = like.part; green_part = came.tapped.green_part; red_part = came.tapped.red_part }) s.small d e f here)
-passed_told ps sent received offset skews counts x y (suc zero) place dropped first next came slip s none d e f alignment =
-    let like = lane_like ps sent received offset skews counts x y (suc zero) place dropped first next came slip s none in
+    (record { blue_part = like.part; green_part = reception.tapped.green_part; red_part = reception.tapped.red_part }) s.small d e f here)
+passed_reported ps sent received offset skews counts x y (suc zero) place dropped first next reception slip s none d e f alignment =
+    let like = lane_like ps sent received offset skews counts x y (suc zero) place dropped first next reception slip s none in
     let blue = slip.others 0 (omega arith) (λ h. omega arith) in
     let red = slip.others 2 (omega arith) (λ h. omega arith) in
     let here = first_same (IsEdge y.blue) (IsEdge y.green) (IsEdge y.red) (IsEdge x.blue) (IsEdge (drop dropped x.green)) (IsEdge x.red)
@@ -217,11 +217,11 @@ passed_told ps sent received offset skews counts x y (suc zero) place dropped fi
     let columns = alike_columns y.blue y.green y.red x.blue (drop dropped x.green) x.red d e f
     (ap (λ us. words_from us (d - 120)) blue) (like.characters e alignment.triple.second) (ap (λ us. words_from us (f - 120)) red) in
     subst (λ cs. (a : ℕ) × IsAccounted ps sent received cs a × BeginColumn offset (later_skews skews (suc zero) dropped) (a + 12) d e f) (sym columns)
-    (payload_accounted ps sent received came.came s.alone offset (later_skews skews (suc zero) dropped)
+    (payload_accounted ps sent received reception.reception s.alone offset (later_skews skews (suc zero) dropped)
     (slice_index counts 0 ∷ ((slice_index counts 1 - dropped) ∷ (slice_index counts 2 ∷ []))) x.blue (drop dropped x.green) x.red
-    (record { blue_part = came.tapped.blue_part; green_part = like.part; red_part = came.tapped.red_part }) s.small d e f here)
-passed_told ps sent received offset skews counts x y (suc (suc zero)) place dropped first next came slip s none d e f alignment =
-    let like = lane_like ps sent received offset skews counts x y (suc (suc zero)) place dropped first next came slip s none in
+    (record { blue_part = reception.tapped.blue_part; green_part = like.part; red_part = reception.tapped.red_part }) s.small d e f here)
+passed_reported ps sent received offset skews counts x y (suc (suc zero)) place dropped first next reception slip s none d e f alignment =
+    let like = lane_like ps sent received offset skews counts x y (suc (suc zero)) place dropped first next reception slip s none in
     let blue = slip.others 0 (omega arith) (λ h. omega arith) in
     let green = slip.others 1 (omega arith) (λ h. omega arith) in
     let here = first_same (IsEdge y.blue) (IsEdge y.green) (IsEdge y.red) (IsEdge x.blue) (IsEdge x.green) (IsEdge (drop dropped x.red))
@@ -229,10 +229,10 @@ passed_told ps sent received offset skews counts x y (suc (suc zero)) place drop
     let columns = alike_columns y.blue y.green y.red x.blue x.green (drop dropped x.red) d e f
     (ap (λ us. words_from us (d - 120)) blue) (ap (λ us. words_from us (e - 120)) green) (like.characters f alignment.triple.third) in
     subst (λ cs. (a : ℕ) × IsAccounted ps sent received cs a × BeginColumn offset (later_skews skews (suc (suc zero)) dropped) (a + 12) d e f) (sym columns)
-    (payload_accounted ps sent received came.came s.alone offset (later_skews skews (suc (suc zero)) dropped)
+    (payload_accounted ps sent received reception.reception s.alone offset (later_skews skews (suc (suc zero)) dropped)
     (slice_index counts 0 ∷ (slice_index counts 1 ∷ ((slice_index counts 2 - dropped) ∷ []))) x.blue x.green (drop dropped x.red)
-    (record { blue_part = came.tapped.blue_part; green_part = came.tapped.green_part; red_part = like.part }) s.small d e f here)
-passed_told ps sent received offset skews counts x y (suc (suc (suc l))) place dropped first next came slip s none d e f alignment =
+    (record { blue_part = reception.tapped.blue_part; green_part = reception.tapped.green_part; red_part = like.part }) s.small d e f here)
+passed_reported ps sent received offset skews counts x y (suc (suc (suc l))) place dropped first next reception slip s none d e f alignment =
     let lt = slip.within in absurd (omega arith)
 
 -- Where the lane ends before the twelfth character of the control period behind the line.
@@ -260,18 +260,18 @@ short_none words marks from many place dropped s start b short (suc n) p lt stra
     omega arith
 
 pub short_passes : (ps : List Period) (sent received : List Column) (offset : ℕ) (skews counts : List ℕ) (x y : Fed) (lane place dropped first next : ℕ)
-    → Came ps sent received offset skews counts x → Slipped x lane place dropped y
+    → Received ps sent received offset skews counts x → Slipped x lane place dropped y
     → SlipsInVideo ps sent received offset skews counts lane place dropped first next
     → ((early : ℕ) → early ≤ 2 → ((k : ℕ) → k < early → is_control (slice_index (words_at received lane) (next - 1 - k)) ≡ true)
     → offset + slice_index skews lane + slice_index counts lane < 10 * (next - early + 12))
     → HasNoEnd y
-short_passes ps sent received offset skews counts x y lane place dropped first next came slip s short l lt =
-    let lanes = calm_lanes ps sent received offset skews counts x came s.alone in
-    let slips = slips_at ps sent received offset skews counts x y lane place dropped first next came slip s in
+short_passes ps sent received offset skews counts x y lane place dropped first next reception slip s short l lt =
+    let lanes = calm_lanes ps sent received offset skews counts x reception s.alone in
+    let slips = slips_at ps sent received offset skews counts x y lane place dropped first next reception slip s in
     let mine = slipped_is x y (words_at received) (marks_at sent received) (λ l. offset + slice_index skews l) (λ l. slice_index counts l) lane place dropped lanes slip in
-    let b = begins_control ps sent received offset skews counts lane place dropped first next came.came s in
+    let b = begins_control ps sent received offset skews counts lane place dropped first next reception.reception s in
     elim (same_lane l lane) [
-      | inr apart ↦ others_none ps sent received offset skews counts x y lane place dropped first next came slip s l lt apart
+      | inr apart ↦ others_none ps sent received offset skews counts x y lane place dropped first next reception slip s l lt apart
       | inl same ↦ none_of (lane_of y l) _ (ap (lane_of y) same ∙ mine)
           (λ p stray. short_none (words_at received lane) (marks_at sent received lane) (offset + slice_index skews lane) (slice_index counts lane) place dropped slips next b short (p + 1) p (omega arith) stray)
     ]
@@ -293,7 +293,7 @@ short_edges words marks from many place dropped s lock is_lock before none e =
     λ p run.
     elim (no_run_across words marks from many place dropped s p run) [
       | inl here ↦ here
-      | inr behind ↦ absurd (none p ((strays_behind words marks from many place dropped s lock is_lock before p).1 (behind, run)))
+      | inr after ↦ absurd (none p ((strays_after words marks from many place dropped s lock is_lock before p).1 (after, run)))
     ] in
     let was : (p : ℕ) → IsRun ys p → IsRun xs p = λ p run. run_before xs place dropped p (omega arith) (early p run) run in
     let there : (p : ℕ) → IsRun ys p → IsRun (take place xs) p = λ p run. run_in_front place xs p (early p run) (was p run) in
@@ -321,15 +321,15 @@ lane_front n y (suc (suc l)) whole = ap (λ (z : Fed). z.red) whole
 front_whole : (n : ℕ) (y : Fed) → length y.blue ≤ n → length y.green ≤ n → length y.red ≤ n → front_of n y ≡ y
 front_whole n y blue green red = λ i. record { blue = take_all n y.blue blue i; green = take_all n y.green green i; red = take_all n y.red red i }
 
-pub short_told : (ps : List Period) (sent received : List Column) (offset : ℕ) (skews counts : List ℕ) (x y : Fed) (lane place dropped first next : ℕ)
-    → Came ps sent received offset skews counts x → Slipped x lane place dropped y
+pub short_reported : (ps : List Period) (sent received : List Column) (offset : ℕ) (skews counts : List ℕ) (x y : Fed) (lane place dropped first next : ℕ)
+    → Received ps sent received offset skews counts x → Slipped x lane place dropped y
     → SlipsInVideo ps sent received offset skews counts lane place dropped first next
     → (lock : ℕ) → IsLock (lane_of x lane) lock → lock + 120 ≤ place → HasNoEnd y
     → (d e f : ℕ) → IsFirst y.blue y.green y.red d e f
     → (start : ℕ) × (front_of start y ≡ y) × FirstAccounted ps sent received offset skews y lane place start d e f
-short_told ps sent received offset skews counts x y lane place dropped first next came slip s lock is_lock before none d e f alignment =
-    let lanes = calm_lanes ps sent received offset skews counts x came s.alone in
-    let slips = slips_at ps sent received offset skews counts x y lane place dropped first next came slip s in
+short_reported ps sent received offset skews counts x y lane place dropped first next reception slip s lock is_lock before none d e f alignment =
+    let lanes = calm_lanes ps sent received offset skews counts x reception s.alone in
+    let slips = slips_at ps sent received offset skews counts x y lane place dropped first next reception slip s in
     let mine = slipped_is x y (words_at received) (marks_at sent received) (λ l. offset + slice_index skews l) (λ l. slice_index counts l) lane place dropped lanes slip in
     let own = lanes.parts lane slip.within in
     let start = length y.blue + length y.green + length y.red + place in
@@ -343,4 +343,4 @@ short_told ps sent received offset skews counts x y lane place dropped first nex
       λ g. subst (λ us. IsEdge us h) (sym (lane_whole ∙ mine)) (both.1 (subst (λ us. IsEdge (take place us) h) own g)),
     ) in
     let here = subst (λ (z : Fed). IsFirst z.blue z.green z.red d e f) (sym whole) alignment in
-    (start, whole, front_accounted ps sent received offset skews counts x y lane place dropped first next start came slip s (omega arith) edges d e f here)
+    (start, whole, front_accounted ps sent received offset skews counts x y lane place dropped first next start reception slip s (omega arith) edges d e f here)

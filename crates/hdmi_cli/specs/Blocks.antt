@@ -1,5 +1,5 @@
 -- The whole blocks of a capture that stand before a place, or that were read: the bits that each lane has in them.
-use Rattle.std.specs.Prelude.{◌≡◌, ◌⊎◌, ◌<◌, ◌≤◌, ℕ, ◌+◌, List, [], ◌++◌, length}
+use Rattle.std.specs.Prelude.{◌≡◌, ◌⊎◌, ◌<◌, ℕ, ◌+◌, List, [], ◌++◌, length}
 use Rattle.capture_file.specs.Captures.{HasRead, IsHeadless, StopsIn, block_size}
 use Rattle.link_sink.specs.Pieces.{no_bits}
 use Rattle.link_sink.specs.Sinks.{Fed}

@@ -16,7 +16,7 @@ use Rattle.relay.specs.Relayed.{relayed}
 use Rattle.relay.specs.declared.relaying.RelayFault.{RelayFault}
 use Rattle.relay.specs.declared.relaying.RelayFault.TheVariants as relay_faults
 use Rattle.track_sink.specs.Epochs.{IsTrack}
-use Rattle.track_sink.specs.Events.{Event}
+use Rattle.track_sink.specs.TrackEvents.{TrackEvent}
 use Rattle.track_sink.specs.Tracks.{HasTracked}
 use Rattle.hdmi_cli.specs.TrackText.{track_lines, track_text}
 use Rattle.hdmi_cli.specs.Relays.{whole_tap}
@@ -27,17 +27,17 @@ use Rattle.island_pack.specs.Periods.{Period}
 use Rattle.island_pack.specs.Spelling.{Spells}
 use Rattle.capture_file.specs.Taps.{tapped_capture}
 use Rattle.capture_file.specs.declared.writing.Tap.{Tap}
-use Rattle.period_grammar.specs.Things.{Thing}
+use Rattle.period_grammar.specs.Events.{Event}
 use Rattle.dvi_hearing.specs.DviGrammar.{dvi_grammar}
 use Rattle.link_sink.specs.Alignment.{IsAlignedBy}
 use Rattle.link_sink.specs.Grammar.{Grammar, link_grammar}
-use Rattle.link_sink.specs.Sinks.{Fed, IsToldBy}
+use Rattle.link_sink.specs.Sinks.{Fed, IsReportedBy}
 use Rattle.hdmi_cli.specs.Blocks.{AreNext, AreRead}
 use Rattle.hdmi_cli.specs.Commands.{hit_asked}
 use Rattle.hdmi_cli.specs.Manners.{ReadsInput, WritesLast, WritesOn}
 use Rattle.hdmi_cli.specs.Listings.{Listing as ListingOf, link_listing, check_listing, content_listing, biphase_listing}
 use Rattle.hdmi_cli.specs.Notes.{listing_note, raster_note, capture_note, place_note, frames_note, long_note, usage_note, read_note, write_note, memory_note, alignment_note}
-use Rattle.hdmi_cli.specs.Outcome.{Outcome, Does, NamesNone}
+use Rattle.hdmi_cli.specs.Outcome.{RunOutcome, Does, NamesNone}
 use Rattle.hdmi_cli.specs.Samples.{IsSampleCut, SampleEnds}
 use Rattle.command_line.specs.Commands.{IsCommand}
 use Rattle.command_line.specs.declared.command.Command.{Command}
@@ -94,7 +94,7 @@ Unless P status before after =
 
 -- an outcome of the command has this ending, and its output was written
 pub record IsAnswered (command : Command) (ending : Ending) (before after : Devices) (text : List ℕ) : Type 0 where
-  pub outcome : Outcome
+  pub outcome : RunOutcome
   pub does : Does command text outcome
   pub status : outcome.status ≡ status_of ending
   pub note : outcome.note ≡ note_of ending
@@ -105,7 +105,7 @@ Answers command ending before after = (text : List ℕ) → before.left ≡ Some
 
 -- a part of the output of an outcome was written, and not all of it
 pub record IsPart (command : Command) (before after : Devices) (text : List ℕ) : Type 0 where
-  pub outcome : Outcome
+  pub outcome : RunOutcome
   pub gone : ℕ
   pub does : Does command text outcome
   pub status : Contains (0 ∷ 1 ∷ []) outcome.status
@@ -121,12 +121,12 @@ pub record ListsRead (g : Grammar) (listing : ListingOf) (before after : Devices
   pub consumed : Consumes before.left after.left read
   pub fed : Fed
   pub are : AreRead read fed
-  pub things : List Thing
-  pub told : IsToldBy g fed things
-  pub written : Appends before.held after.held (listing.lines things)
+  pub events : List Event
+  pub reported : IsReportedBy g fed events
+  pub written : Appends before.held after.held (listing.lines events)
 
--- of a text not all was written, and at least the lines of these things
-pub record IsWrittenPast (listing : ListingOf) (first : List Thing) (text : List ℕ) (old new : Option (List ℕ)) : Type 0 where
+-- of a text not all was written, and at least the lines of these events
+pub record IsWrittenPast (listing : ListingOf) (first : List Event) (text : List ℕ) (old new : Option (List ℕ)) : Type 0 where
   pub gone : ℕ
   pub least : length (listing.lines first) ≤ gone
   pub missing : gone < length text
@@ -136,14 +136,14 @@ pub record IsWrittenPast (listing : ListingOf) (first : List Thing) (text : List
 -- text, and at least the lines of what was told before the last block that was read
 pub record ListsPart (g : Grammar) (listing : ListingOf) (before after : Devices) : Type 0 where
   pub fed : Fed
-  pub first : List Thing
-  pub told : IsToldBy g fed first
-  pub things : List Thing
+  pub first : List Event
+  pub reported : IsReportedBy g fed first
+  pub events : List Event
   pub some :
-      ((now : Fed) × (read : List ℕ) × Consumes before.left after.left read × AreNext fed now read × IsToldBy g now things
-      × IsWrittenPast listing first (listing.lines things) before.held after.held)
+      ((now : Fed) × (read : List ℕ) × Consumes before.left after.left read × AreNext fed now read × IsReportedBy g now events
+      × IsWrittenPast listing first (listing.lines events) before.held after.held)
       ⊎ ((columns : ℕ) × IsAtEnd after.left × ((bytes : List ℕ) → before.left ≡ Some bytes → IsCaptureOf fed.blue fed.green fed.red bytes)
-      × IsAlignedBy g fed.blue fed.green fed.red columns things × IsWrittenPast listing first (listing.text things) before.held after.held)
+      × IsAlignedBy g fed.blue fed.green fed.red columns events × IsWrittenPast listing first (listing.text events) before.held after.held)
 
 -- a read failed: what was told so far of the whole blocks that were read was listed
 pub record TracksRead (before after : Devices) : Type 0 where
@@ -151,22 +151,22 @@ pub record TracksRead (before after : Devices) : Type 0 where
   pub consumed : Consumes before.left after.left read
   pub fed : Fed
   pub are : AreRead read fed
-  pub events : List Event
-  pub told : HasTracked fed events
-  pub written : Appends before.held after.held (track_lines events)
+  pub track_events : List TrackEvent
+  pub reported : HasTracked fed track_events
+  pub written : Appends before.held after.held (track_lines track_events)
 
 -- a write failed: a part was written of the lines of the first events of the blocks that were read, or at the end of the whole
 -- text
 pub record TracksPart (before after : Devices) : Type 0 where
-  pub events : List Event
+  pub track_events : List TrackEvent
   pub fed : Fed
   pub gone : ℕ
-  pub missing : gone < length (track_text events)
-  pub written : Appends before.held after.held (take gone (track_text events))
-  pub told :
-      ((was : Fed) × (read : List ℕ) × Consumes before.left after.left read × AreNext was fed read × HasTracked fed events)
+  pub missing : gone < length (track_text track_events)
+  pub written : Appends before.held after.held (take gone (track_text track_events))
+  pub reported :
+      ((was : Fed) × (read : List ℕ) × Consumes before.left after.left read × AreNext was fed read × HasTracked fed track_events)
       ⊎ ((epochs aligned : ℕ) × IsAtEnd after.left × ((bytes : List ℕ) → before.left ≡ Some bytes → IsCaptureOf fed.blue fed.green fed.red bytes)
-      × IsTrack fed epochs aligned events)
+      × IsTrack fed epochs aligned track_events)
 
 -- how a command ends that wrote a slipped capture, or none
 abbrev pub slip_ending : Result (Unit {0}) SlipError → Ending
@@ -218,13 +218,13 @@ StreamEnds spells tap periods WriteFailed old new before after = Rose before aft
 StreamEnds spells tap periods NoMemory old new before after = Keeps old new
 StreamEnds spells tap periods _ old new before after = ⊥
 
--- what is relayed of things was written, whole or in part, or nothing of it
-abbrev pub RelayEnds : List Thing → Ending → Option (List ℕ) → Option (List ℕ) → ℕ → ℕ → Type 0
-RelayEnds things Done old new before after = (faultless things ≡ true) × IsWhole Spells whole_tap (relayed things) old new
-RelayEnds things Faulty old new before after = (faultless things ≡ false) × IsWhole Spells whole_tap (relayed things) old new
-RelayEnds things WriteFailed old new before after = Rose before after × IsCut Spells whole_tap (relayed things) old new
-RelayEnds things NoMemory old new before after = Keeps old new
-RelayEnds things _ old new before after = ⊥
+-- what is relayed of events was written, whole or in part, or nothing of it
+abbrev pub RelayEnds : List Event → Ending → Option (List ℕ) → Option (List ℕ) → ℕ → ℕ → Type 0
+RelayEnds events Done old new before after = (faultless events ≡ true) × IsWhole Spells whole_tap (relayed events) old new
+RelayEnds events Faulty old new before after = (faultless events ≡ false) × IsWhole Spells whole_tap (relayed events) old new
+RelayEnds events WriteFailed old new before after = Rose before after × IsCut Spells whole_tap (relayed events) old new
+RelayEnds events NoMemory old new before after = Keeps old new
+RelayEnds events _ old new before after = ⊥
 
 -- how a command ends that may have heard faults
 abbrev pub faulty_end : Ending → Ending

@@ -7,7 +7,7 @@ use Rattle.capture_file.specs.Captures.{IsCaptureOf}
 use Rattle.lane_deskew.specs.Triples.{IsFirst}
 use Rattle.period_grammar.specs.Heard.{heard}
 use Rattle.period_grammar.specs.Exact.{IsFront, whole_part}
-use Rattle.listing.specs.Checks.{check_lines}
+use Rattle.listing_writer.specs.Checks.{check_lines}
 
 -- bytes are the capture of three lanes whose first full alignment is at three edges
 pub record IsAlignedCapture (blue green red : List Bool) (d e f : ℕ) (bytes : List ℕ) : Type 0 where

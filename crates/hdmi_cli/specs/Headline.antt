@@ -8,16 +8,16 @@ use Rattle.capture_file.specs.Captures.{IsCaptureOf}
 use Rattle.lane_deskew.specs.Aligned.{aligned_columns}
 use Rattle.lane_deskew.specs.Triples.{IsFirst}
 use Rattle.island_pack.specs.Periods.{Period}
-use Rattle.link_sink.specs.Laws.{CameOf, IsAccounted, AlignsUntil, BeginColumn}
-use Rattle.link_sink.specs.Account.{account}
+use Rattle.link_laws.specs.Laws.{ReceivedOf, IsAccounted, AlignsUntil, BeginColumn}
+use Rattle.link_laws.specs.Account.{account}
 use Rattle.source_end.specs.DviPeriods.{IsDviConforming, DviSpells, IsDviSparse, HasThree}
-use Rattle.dvi_hearing.specs.DviAccount.{dvi_account}
-use Rattle.dvi_hearing.specs.DviLaws.{IsDviAccounted}
-use Rattle.listing.specs.Texts.{fault_lines, link_text}
+use Rattle.dvi_laws.specs.DviAccount.{dvi_account}
+use Rattle.dvi_laws.specs.DviLaws.{IsDviAccounted}
+use Rattle.listing_writer.specs.Texts.{fault_lines, link_text}
 use Rattle.island_pack.specs.Spelling.{Spells}
 use Rattle.capture_file.specs.Taps.{tapped_capture}
 use Rattle.period_grammar.specs.Exact.{faultless}
-use Rattle.relay.specs.Came.{came}
+use Rattle.relay_laws.specs.Received.{reception}
 use Rattle.relay.specs.Relayed.{conformed}
 use Rattle.hdmi_cli.specs.Relays.{relay_status, whole_tap}
 use Rattle.hdmi_cli.specs.Listings.{Listing}
@@ -39,7 +39,7 @@ pub record TappedStream : Type 0 where
 
 -- its bytes are the capture, of either version, of a tap of columns that came of conforming periods with sparse damage
 pub record IsTapped (t : TappedStream) : Type 0 where
-  pub came : CameOf t.periods t.sent t.received
+  pub reception : ReceivedOf t.periods t.sent t.received
   pub tap : IsTap t.received t.offset t.skews t.counts t.blue t.green t.red
   pub small : HasSmallSkew t.skews
   pub captured : IsCaptureOf t.blue t.green t.red t.bytes
@@ -89,11 +89,11 @@ pub record IsDviRecovered (t : TappedStream) (d e f a status : ℕ) (old new : O
 
 -- the output grew by the capture of the columns that are spelled by what came of the periods of a tapped stream, from twelve
 -- columns before the end of a control period on: whole periods with mended packets, whole preambles and guards, and Null
--- packets for lost ones (`conformed`, `came`); and the status says whether a fault was told
+-- packets for lost ones (`conformed`, `reception`); and the status says whether a fault was told
 pub record IsSentOn (t : TappedStream) (d e f a status : ℕ) (old new : Option (List ℕ)) : Type 0 where
   pub accounted : IsAccounted t.periods t.sent t.received (aligned_of t d e f) a
   pub begins : BeginColumn t.offset t.skews (a + 12) d e f
   pub columns : List Column
-  pub spelled : Spells (conformed (came t.periods t.sent t.received a (length (aligned_of t d e f)))) columns
+  pub spelled : Spells (conformed (reception t.periods t.sent t.received a (length (aligned_of t d e f)))) columns
   pub status_is : status ≡ relay_status (faultless (account t.periods t.sent t.received a (length (aligned_of t d e f))))
   pub written : Appends old new (tapped_capture columns whole_tap)

@@ -6,10 +6,10 @@ use Rattle.capture_file.specs.Captures.{Stands, IsCaptureOf, IsFault, place_of}
 use Rattle.capture_file.specs.declared.fault.CaptureFault.{CaptureFault}
 use Rattle.capture_file.specs.declared.fault.CaptureError.{CaptureError}
 use Rattle.capture_file.specs.declared.fault.CaptureError.TheVariants.{Bad as Failed, Read as Unread}
-use Rattle.period_grammar.specs.Things.{Thing}
+use Rattle.period_grammar.specs.Events.{Event}
 use Rattle.link_sink.specs.Grammar.{Grammar}
-use Rattle.link_sink.specs.Sinks.{Fed, IsToldBy}
-use Rattle.link_sink.specs.Streams.{LaneSinkSeen, StandsBy, bits_of}
+use Rattle.link_sink.specs.Sinks.{Fed, IsReportedBy}
+use Rattle.link_sink.specs.Streams.{LaneSinkSeen, StandsBy, bits_fed}
 use Rattle.tmds_word.specs.Column.{Column}
 use Rattle.hdmi_cli.specs.Blocks.{AreBefore, AreRead, AreNext}
 use Rattle.link_sink.specs.Ears.{IsHeardSoFar, IsBroken}
@@ -18,12 +18,12 @@ use Rattle.hdmi_cli.specs.declared.hearing.HearError.TheVariants.{Bad, Read, Ear
 
 -- a sink was fed the blocks below j
 pub record AreFed {H : Type 0} (sink : LaneSinkSeen H) (counts : List ℕ) (j : ℕ) : Type 0 where
-  pub first : bits_of sink 0 ≡ min (slice_index counts 0) (32768 * j)
-  pub second : bits_of sink 1 ≡ min (slice_index counts 1) (32768 * j)
-  pub third : bits_of sink 2 ≡ min (slice_index counts 2) (32768 * j)
+  pub first : bits_fed sink 0 ≡ min (slice_index counts 0) (32768 * j)
+  pub second : bits_fed sink 1 ≡ min (slice_index counts 1) (32768 * j)
+  pub third : bits_fed sink 2 ≡ min (slice_index counts 2) (32768 * j)
 
 -- the blocks below j were read since the source had some bytes left, and the ear took what they tell
-pub record HasHeard {A H : Type 0} (g : Grammar) (goes_on : H → List Column → Type 0) (took : A → A → List Thing → Type 0) (version : ℕ) (counts : List ℕ) (j : ℕ) (from left : Option (List ℕ)) (sink : LaneSinkSeen H) (old new : A) : Type 0 where
+pub record HasHeard {A H : Type 0} (g : Grammar) (goes_on : H → List Column → Type 0) (took : A → A → List Event → Type 0) (version : ℕ) (counts : List ℕ) (j : ℕ) (from left : Option (List ℕ)) (sink : LaneSinkSeen H) (old new : A) : Type 0 where
   pub taken : List ℕ
   pub fed : Fed
   pub consumed : Consumes from left taken
@@ -32,7 +32,7 @@ pub record HasHeard {A H : Type 0} (g : Grammar) (goes_on : H → List Column �
   pub heard : IsHeardSoFar g took fed old new
 
 -- the whole capture was
-pub record HasHeardAll {A H : Type 0} (g : Grammar) (goes_on : H → List Column → Type 0) (took : A → A → List Thing → Type 0) (from left : Option (List ℕ)) (sink : LaneSinkSeen H) (old new : A) : Type 0 where
+pub record HasHeardAll {A H : Type 0} (g : Grammar) (goes_on : H → List Column → Type 0) (took : A → A → List Event → Type 0) (from left : Option (List ℕ)) (sink : LaneSinkSeen H) (old new : A) : Type 0 where
   pub taken : List ℕ
   pub fed : Fed
   pub consumed : Consumes from left taken
@@ -41,14 +41,14 @@ pub record HasHeardAll {A H : Type 0} (g : Grammar) (goes_on : H → List Column
   pub heard : IsHeardSoFar g took fed old new
 
 -- the bytes are no capture, and the ear took what the whole blocks before the fault tell
-pub record IsRefusedAt {A : Type 0} (g : Grammar) (took : A → A → List Thing → Type 0) (bytes : List ℕ) (fault : CaptureFault) (old new : A) : Type 0 where
+pub record IsRefusedAt {A : Type 0} (g : Grammar) (took : A → A → List Event → Type 0) (bytes : List ℕ) (fault : CaptureFault) (old new : A) : Type 0 where
   pub faulty : IsFault bytes fault
   pub fed : Fed
   pub before : AreBefore bytes (place_of fault) fed
   pub heard : IsHeardSoFar g took fed old new
 
 -- a read failed, and it took what the whole blocks tell that were read
-pub record IsUnread {A : Type 0} (g : Grammar) (took : A → A → List Thing → Type 0) (from left : Option (List ℕ)) (old new : A) : Type 0 where
+pub record IsUnread {A : Type 0} (g : Grammar) (took : A → A → List Event → Type 0) (from left : Option (List ℕ)) (old new : A) : Type 0 where
   pub fed : Fed
   pub read : List ℕ
   pub consumed : Consumes from left read
@@ -56,22 +56,22 @@ pub record IsUnread {A : Type 0} (g : Grammar) (took : A → A → List Thing �
   pub heard : IsHeardSoFar g took fed old new
 
 -- a call of it failed in what one block more tells
-pub record IsUntaken {A : Type 0} (g : Grammar) (took : A → A → List Thing → Type 0) (broke : A → A → Thing → Type 0) (from left : Option (List ℕ)) (old new : A) : Type 0 where
+pub record IsUntaken {A : Type 0} (g : Grammar) (took : A → A → List Event → Type 0) (broke : A → A → Event → Type 0) (from left : Option (List ℕ)) (old new : A) : Type 0 where
   pub before : Fed
   pub after : Fed
-  pub things : List Thing
+  pub events : List Event
   pub read : List ℕ
   pub consumed : Consumes from left read
   pub next : AreNext before after read
-  pub told : IsToldBy g after things
-  pub broken : IsBroken g took broke before things old new
+  pub reported : IsReportedBy g after events
+  pub broken : IsBroken g took broke before events old new
 
 -- it took all that some lanes tell so far
-abbrev pub IsHeardSome : {A : Type 0} → Grammar → (A → A → List Thing → Type 0) → A → A → Type 0
+abbrev pub IsHeardSome : {A : Type 0} → Grammar → (A → A → List Event → Type 0) → A → A → Type 0
 IsHeardSome g took old new = (fed : Fed) × IsHeardSoFar g took fed old new
 
 -- why blocks were not heard to the end
-abbrev pub StopsShort : {A : Type 0} → Grammar → (A → A → List Thing → Type 0) → (A → A → Thing → Type 0) → Option (List ℕ) → Option (List ℕ) → A → A → HearError → Type 0
+abbrev pub StopsShort : {A : Type 0} → Grammar → (A → A → List Event → Type 0) → (A → A → Event → Type 0) → Option (List ℕ) → Option (List ℕ) → A → A → HearError → Type 0
 StopsShort g took broke from left old new (Bad fault) = IsHeardSome g took old new × ((bytes : List ℕ) → from ≡ Some bytes → IsRefusedAt g took bytes fault old new)
 StopsShort g took broke from left old new Read = IsUnread g took from left old new
 StopsShort g took broke from left old new Ear = IsUntaken g took broke from left old new
@@ -83,7 +83,7 @@ IsCausedBy input_old input_new ear_old ear_new Read = Rose input_old input_new
 IsCausedBy input_old input_new ear_old ear_new Ear = Rose ear_old ear_new
 
 -- wherever an ear began that has heard so
-abbrev pub HeardOn : {A : Type 0} → (A → A → List Thing → Type 0) → (A → A → Type 0) → A → (A → Type 0) → Type 0
+abbrev pub HeardOn : {A : Type 0} → (A → A → List Event → Type 0) → (A → A → Type 0) → A → (A → Type 0) → Type 0
 HeardOn {A} took heard now says = (first : A) → heard first now → says first
 
 -- what an error of a reader is here

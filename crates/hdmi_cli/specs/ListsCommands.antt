@@ -5,11 +5,11 @@ use Rattle.command_line.specs.declared.command.Command.{Command}
 use Rattle.hdmi_cli.specs.Endings.{Devices, ListsRead, ListsPart, EndsUnread, EndsUnwritten}
 use Rattle.hdmi_cli.specs.Manners.{WritesOn}
 use Rattle.hdmi_cli.specs.Listings.{Listing}
-use Rattle.hdmi_cli.specs.Outcome.{Outcome, ListsCapture, Does}
+use Rattle.hdmi_cli.specs.Outcome.{RunOutcome, ListsCapture, Does}
 
 -- a command that lists captures so
 pub record IsLists (g : Grammar) (listing : Listing) (command : Command) : Type 0 where
-  pub does : (bytes : List ℕ) (o : Outcome) → ListsCapture g listing bytes o → Does command bytes o
+  pub does : (bytes : List ℕ) (o : RunOutcome) → ListsCapture g listing bytes o → Does command bytes o
   pub on : WritesOn command
   pub unread : (before after : Devices) → ListsRead g listing before after → EndsUnread command before after
   pub unwritten : (before after : Devices) → ListsPart g listing before after → EndsUnwritten command before after

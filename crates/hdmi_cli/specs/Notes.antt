@@ -6,8 +6,8 @@ use Rattle.capture_file.specs.declared.fault.CaptureFault.{CaptureFault}
 use Rattle.capture_file.specs.declared.fault.CaptureFault.TheVariants.{Magic, Version, Short, Padding, Trailing}
 use Rattle.source_end.specs.declared.refusal.RasterFault.{RasterFault}
 use Rattle.source_end.specs.declared.refusal.RasterFault.TheVariants.{BadMode, Row, NoRoom, Long, NoMemory}
-use Rattle.listing.specs.declared.fault.ListCause.{ListCause}
-use Rattle.listing.specs.declared.fault.ListCause.TheVariants.{Fault, Form, Range, Order, Control, Preamble, Size, Long as LongText, Unended, After}
+use Rattle.listing_reader.specs.declared.fault.ListCause.{ListCause}
+use Rattle.listing_reader.specs.declared.fault.ListCause.TheVariants.{Fault, Form, Range, Order, Control, Preamble, Size, Long as LongText, Unended, After}
 
 abbrev pub cause_name : ListCause → List ℕ
 cause_name Fault = codes "fault"

@@ -3,14 +3,14 @@ use Rattle.std.specs.Prelude.{◌≡◌, ◌+◌, ◌-◌, ◌≤◌, ℕ, List,
 use Rattle.std.specs.List.{filter}
 use Rattle.std.specs.Io.KnownBytes.{Appends}
 use Rattle.island_pack.specs.Taken.{spotless}
-use Rattle.link_sink.specs.Account.{account}
-use Rattle.link_sink.specs.Laws.{IsAccounted, BeginColumn}
+use Rattle.link_laws.specs.Account.{account}
+use Rattle.link_laws.specs.Laws.{IsAccounted, BeginColumn}
 use Rattle.source_end.specs.declared.mode.Mode.{Mode}
 use Rattle.source_end.specs.Content.{Frame}
-use Rattle.listing.specs.ContentText.{content_lines, packet_lines, text_of}
-use Rattle.listing_laws.specs.FrameLaws.{frames_came}
-use Rattle.listing_laws.specs.ListingLaws.{Each, line_of, tells_picture, told_lines, unlike_in}
-use Rattle.listing_laws.specs.PacketLaws.{came_packet, packets_came, placed, told_packets}
+use Rattle.listing_writer.specs.ContentText.{content_lines, packet_lines, text_of}
+use Rattle.listing_laws.specs.FrameLaws.{frames_received}
+use Rattle.listing_laws.specs.ListingLaws.{Each, line_of, tells_picture, reported_lines, unlike_in}
+use Rattle.listing_laws.specs.PacketLaws.{received_packet, packets_received, placed, reported_packets}
 use Rattle.hdmi_cli.specs.Headline.{TappedStream, aligned_of}
 
 -- the output grew by the content listing of the account of the columns that are aligned at three edges, which begin with
@@ -22,7 +22,7 @@ pub record ArePictures (mode : Mode) (frames : List Frame) (t : TappedStream) (d
   pub written : Appends old new (text_of (content_lines (account t.periods t.sent t.received a (length (aligned_of t d e f)))) ++ codes "end\n")
   pub pictures :
       filter tells_picture (content_lines (account t.periods t.sent t.received a (length (aligned_of t d e f))))
-      ≡ map line_of (frames_came mode t.sent t.received a (a + length (aligned_of t d e f)) 0 frames)
+      ≡ map line_of (frames_received mode t.sent t.received a (a + length (aligned_of t d e f)) 0 frames)
 
 -- the output grew by that listing, and of its packets those are told that came whole; each of which at most one word came
 -- unlike has the lines of the packet as it was sent
@@ -31,6 +31,6 @@ pub record ArePackets (t : TappedStream) (d e f a : ℕ) (old new : Option (List
   pub begins : BeginColumn t.offset t.skews (a + 12) d e f
   pub written : Appends old new (text_of (content_lines (account t.periods t.sent t.received a (length (aligned_of t d e f)))) ++ codes "end\n")
   pub packets :
-      told_packets (account t.periods t.sent t.received a (length (aligned_of t d e f)))
-      ≡ packets_came t.sent t.received a (a + length (aligned_of t d e f)) (placed 0 t.periods)
-  pub lines : Each (λ k. unlike_in t.sent t.received k ≤ 1 → told_lines (came_packet t.sent t.received a k) ≡ packet_lines k.packet spotless (k.at - a)) (placed 0 t.periods)
+      reported_packets (account t.periods t.sent t.received a (length (aligned_of t d e f)))
+      ≡ packets_received t.sent t.received a (a + length (aligned_of t d e f)) (placed 0 t.periods)
+  pub lines : Each (λ k. unlike_in t.sent t.received k ≤ 1 → reported_lines (received_packet t.sent t.received a k) ≡ packet_lines k.packet spotless (k.at - a)) (placed 0 t.periods)

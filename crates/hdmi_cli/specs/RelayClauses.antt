@@ -6,13 +6,13 @@ use Rattle.capture_file.specs.Taps.{tapped_capture}
 use Rattle.island_pack.specs.Conforming.{IsConforming}
 use Rattle.island_pack.specs.Periods.{ControlRun, Period, control, values_of, columns_of}
 use Rattle.island_pack.specs.Spelling.{SpellsBy, Spells, freely}
-use Rattle.link_sink.specs.Laws.{IsAccounted, BeginColumn}
+use Rattle.link_laws.specs.Laws.{IsAccounted, BeginColumn}
 use Rattle.period_grammar.specs.Exact.{IsFront, whole_part}
 use Rattle.period_grammar.specs.Cut.{stretches}
-use Rattle.period_grammar.specs.Things.{Thing}
-use Rattle.link_sink.specs.Whole.{ends_long}
-use Rattle.relay.specs.Came.{came}
-use Rattle.relay.specs.Own.{cut_first}
+use Rattle.period_grammar.specs.Events.{Event}
+use Rattle.link_laws.specs.Whole.{ends_long}
+use Rattle.relay_laws.specs.Received.{reception}
+use Rattle.relay_laws.specs.Own.{cut_first}
 use Rattle.relay.specs.Relayed.{conformed, relayed}
 use Rattle.hdmi_cli.specs.Headline.{TappedStream, IsFirstOf, IsSentOn, aligned_of}
 use Rattle.hdmi_cli.specs.Relays.{IsRelayed, whole_tap}
@@ -21,7 +21,7 @@ use Rattle.hdmi_cli.specs.Relays.{IsRelayed, whole_tap}
 
 -- what is sent on of a tapped stream, from column a of what came on
 abbrev pub sent_on : TappedStream → ℕ → ℕ → ℕ → ℕ → List Period
-sent_on t d e f a = conformed (came t.periods t.sent t.received a (length (aligned_of t d e f)))
+sent_on t d e f a = conformed (reception t.periods t.sent t.received a (length (aligned_of t d e f)))
 
 -- it has more than 20,000,000 columns, and nothing is written
 pub record IsTooLong (t : TappedStream) (d e f a status : ℕ) (old new : Option (List ℕ)) : Type 0 where
@@ -52,7 +52,7 @@ pub record IsCleanToEnd (cs : List Column) : Type 0 where
 pub record AreAsSent (cs columns : List Column) : Type 0 where
   pub periods : List Period
   pub conforming : IsConforming periods
-  pub came : SpellsBy freely periods cs
+  pub reception : SpellsBy freely periods cs
   pub spelled : Spells periods columns
 
 -- as many columns of the same periods are written, where they are 20,000,000 or fewer
@@ -71,10 +71,10 @@ past_twelve runs = length (values_of runs) - 12
 -- are relayed as that, and the capture of it is written
 pub record ComesBack (runs : List ControlRun) (ps : List Period) (status : ℕ) (old new : Option (List ℕ)) : Type 0 where
   pub status_is : status ≡ 0
-  pub things : List Thing
-  pub same : relayed things ≡ cut_first (past_twelve runs) (control runs ∷ ps)
+  pub events : List Event
+  pub same : relayed events ≡ cut_first (past_twelve runs) (control runs ∷ ps)
   pub output : List ℕ
-  pub relayed_is : IsRelayed things output
+  pub relayed_is : IsRelayed events output
   pub written : Appends old new output
 
 -- one control period alone has no edge

@@ -7,7 +7,7 @@ use Rattle.island_pack.specs.Conforming.{IsConforming}
 use Rattle.island_pack.specs.Kinds.{kinds_of}
 use Rattle.island_pack.specs.Periods.{Period}
 use Rattle.island_pack.specs.Spelling.{SpellsBy, freely}
-use Rattle.relay.specs.Spelled.{Agree}
+use Rattle.relay_laws.specs.Spelled.{Agree}
 use Rattle.hdmi_cli.specs.Relays.{whole_tap}
 
 -- a text is written, and no fault was told

@@ -7,9 +7,9 @@ use Rattle.capture_file.specs.Captures.{IsCaptureOf, IsFault, place_of}
 use Rattle.capture_file.specs.Taps.{tapped_capture}
 use Rattle.capture_file.specs.declared.fault.CaptureFault.{CaptureFault}
 use Rattle.capture_file.specs.declared.writing.Tap.{Tap}
-use Rattle.period_grammar.specs.Things.{Thing}
-use Rattle.link_sink.specs.Alignment.{IsAlignedTold}
-use Rattle.link_sink.specs.Sinks.{Fed, IsToldSoFar}
+use Rattle.period_grammar.specs.Events.{Event}
+use Rattle.link_sink.specs.Alignment.{IsAlignedReported}
+use Rattle.link_sink.specs.Sinks.{Fed, IsReportedSoFar}
 use Rattle.relay.specs.Relayed.{relayed}
 use Rattle.hdmi_cli.specs.Blocks.{AreBefore, HasBlocks}
 
@@ -21,27 +21,27 @@ abbrev pub relay_status : Bool → ℕ
 relay_status true = 0
 relay_status false = 1
 
--- what is relayed of things has at most 20,000,000 columns, and these are written
-pub record IsRelayed (things : List Thing) (output : List ℕ) : Type 0 where
+-- what is relayed of events has at most 20,000,000 columns, and these are written
+pub record IsRelayed (events : List Event) (output : List ℕ) : Type 0 where
   pub columns : List Column
-  pub few : columns_of (relayed things) ≤ 20000000
-  pub spelled : Spells (relayed things) columns
+  pub few : columns_of (relayed events) ≤ 20000000
+  pub spelled : Spells (relayed events) columns
   pub output_is : output ≡ tapped_capture columns whole_tap
 
--- the first whole blocks of bytes, or all of a capture, tell things of which too many columns are relayed
+-- the first whole blocks of bytes, or all of a capture, tell events of which too many columns are relayed
 pub record PassesLimit (bytes : List ℕ) : Type 0 where
   pub fed : Fed
-  pub things : List Thing
-  pub told :
-      ((taken rest counts : List ℕ) × (j : ℕ) × (bytes ≡ taken ++ rest) × HasBlocks counts j taken fed × IsToldSoFar fed things)
-      ⊎ ((columns : ℕ) × IsCaptureOf fed.blue fed.green fed.red bytes × IsAlignedTold fed.blue fed.green fed.red columns things)
-  pub passes : 20000000 < columns_of (relayed things)
+  pub events : List Event
+  pub reported :
+      ((taken rest counts : List ℕ) × (j : ℕ) × (bytes ≡ taken ++ rest) × HasBlocks counts j taken fed × IsReportedSoFar fed events)
+      ⊎ ((columns : ℕ) × IsCaptureOf fed.blue fed.green fed.red bytes × IsAlignedReported fed.blue fed.green fed.red columns events)
+  pub passes : 20000000 < columns_of (relayed events)
 
 -- bytes stop being a capture, and no more than the limit is relayed of what their whole blocks tell
 pub record RelaysBefore (bytes : List ℕ) (fault : CaptureFault) : Type 0 where
   pub is : IsFault bytes fault
   pub fed : Fed
   pub before : AreBefore bytes (place_of fault) fed
-  pub things : List Thing
-  pub told : IsToldSoFar fed things
-  pub few : columns_of (relayed things) ≤ 20000000
+  pub events : List Event
+  pub reported : IsReportedSoFar fed events
+  pub few : columns_of (relayed events) ≤ 20000000

@@ -5,18 +5,18 @@ use Rattle.std.specs.Io.KnownBytes.{Appends}
 use Rattle.audio_packets.specs.declared.sample.Sample.{Sample}
 use Rattle.audio_out.specs.Frames.{biphase}
 use Rattle.island_pack.specs.Taken.{spotless}
-use Rattle.period_grammar.specs.Things.{packet}
-use Rattle.link_sink.specs.Account.{account}
-use Rattle.link_sink.specs.Laws.{IsAccounted, BeginColumn}
+use Rattle.period_grammar.specs.Events.{packet}
+use Rattle.link_laws.specs.Account.{account}
+use Rattle.link_laws.specs.Laws.{IsAccounted, BeginColumn}
 use Rattle.listing_laws.specs.ListingLaws.{Each, unlike_in}
-use Rattle.listing_laws.specs.PacketLaws.{Placed, ToldPacket, came_packet, packets_came, placed}
+use Rattle.listing_laws.specs.PacketLaws.{Placed, ReportedPacket, received_packet, packets_received, placed}
 use Rattle.biphase_listing.specs.StreamText.{biphase_faults, samples_at}
 use Rattle.hdmi_cli.specs.Headline.{TappedStream, aligned_of}
 use Rattle.hdmi_cli.specs.Outcome.{status_with}
 
 -- the samples of a pair of channels that a packet gives as it is told: none if it is of another type than 2 or has lost a block
-abbrev pub samples_told : ℕ → ToldPacket → List Sample
-samples_told pair told = samples_at pair (packet told.packet told.verdicts told.column)
+abbrev pub samples_reported : ℕ → ReportedPacket → List Sample
+samples_reported pair reported = samples_at pair (packet reported.packet reported.verdicts reported.column)
 
 -- those that it gives as it was sent
 abbrev pub samples_sent : ℕ → Placed → List Sample
@@ -29,5 +29,5 @@ pub record AreSamples (pair : ℕ) (t : TappedStream) (d e f a status : ℕ) (ol
   pub accounted : IsAccounted t.periods t.sent t.received (aligned_of t d e f) a
   pub begins : BeginColumn t.offset t.skews (a + 12) d e f
   pub status_is : status ≡ status_with (biphase_faults (account t.periods t.sent t.received a (length (aligned_of t d e f))))
-  pub written : Appends old new (biphase (flat_map (samples_told pair) (packets_came t.sent t.received a (a + length (aligned_of t d e f)) (placed 0 t.periods))))
-  pub samples : Each (λ k. unlike_in t.sent t.received k ≤ 1 → samples_told pair (came_packet t.sent t.received a k) ≡ samples_sent pair k) (placed 0 t.periods)
+  pub written : Appends old new (biphase (flat_map (samples_reported pair) (packets_received t.sent t.received a (a + length (aligned_of t d e f)) (placed 0 t.periods))))
+  pub samples : Each (λ k. unlike_in t.sent t.received k ≤ 1 → samples_reported pair (received_packet t.sent t.received a k) ≡ samples_sent pair k) (placed 0 t.periods)

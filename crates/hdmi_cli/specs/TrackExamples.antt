@@ -2,7 +2,7 @@
 use Rattle.std.specs.Prelude.{◌≡◌, ℕ}
 use Rattle.capture_file.specs.Captures.{layout}
 use Rattle.island_pack.specs.Kinds.{pixel_column}
-use Rattle.link_sink.specs.Laws.{HasUnlike}
+use Rattle.link_laws.specs.Laws.{HasUnlike}
 use Rattle.link_sink.specs.Sinks.{Fed}
 use Rattle.hdmi_cli.specs.Headline.{TappedStream}
 use Rattle.hdmi_cli.specs.TrackSlip.{LineSlip, IsSlippedTap, IsNoticed, IsFirstIn}
@@ -13,7 +13,7 @@ use Rattle.hdmi_cli.specs.TrackPasses.{HasNoLockBefore, EndsBeforeTwelve}
 pub record IsSlipCase (says : Type 0) (t : TappedStream) (s : LineSlip) (y : Fed) : Type 0 where
   pub bytes_are : t.bytes ≡ layout 2 y.blue y.green y.red
   pub slipped : IsSlippedTap t s y
-  pub hurt : HasUnlike pixel_column t.periods t.sent t.received
+  pub damaged : HasUnlike pixel_column t.periods t.sent t.received
   pub holds : says
 
 abbrev pub HasSlipCase : (TappedStream → LineSlip → Fed → Type 0) → Type 0

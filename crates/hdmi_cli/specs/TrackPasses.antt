@@ -6,15 +6,15 @@ use Rattle.terc4.specs.Tables.{is_control}
 use Rattle.lane_align.specs.Lanes.{IsLock}
 use Rattle.lane_deskew.specs.Aligned.{aligned_columns}
 use Rattle.period_grammar.specs.Heard.{heard}
-use Rattle.link_sink.specs.Account.{account}
-use Rattle.link_sink.specs.Laws.{EndsControl, BeginColumn}
+use Rattle.link_laws.specs.Account.{account}
+use Rattle.link_laws.specs.Laws.{EndsControl, BeginColumn}
 use Rattle.link_sink.specs.Sinks.{Fed}
 use Rattle.track_sink.specs.Epochs.{lane_of, HasNoEnd}
-use Rattle.track_sink.specs.Laws.{later_skews, words_at}
+use Rattle.track_laws.specs.Laws.{later_skews, words_at}
 use Rattle.command_line.specs.declared.command.Command.TheVariants.{RecoverLink}
 use Rattle.hdmi_cli.specs.Headline.{TappedStream, IsRecovered}
 use Rattle.hdmi_cli.specs.Listings.{link_listing}
-use Rattle.hdmi_cli.specs.Outcome.{Outcome, Does}
+use Rattle.hdmi_cli.specs.Outcome.{RunOutcome, Does}
 use Rattle.hdmi_cli.specs.TrackSlip.{LineSlip, lanes_of, IsFirstIn, columns_in}
 
 -- the lane had a lock before it lost the bits, or it had none
@@ -55,7 +55,7 @@ pub record IsAccountedBefore (t : TappedStream) (s : LineSlip) (y : Fed) (d e f 
   pub a : ℕ
   pub ends : EndsControl t.periods (a + 11)
   pub begins : BeginColumn t.offset t.skews (a + 12) d e f
-  pub told :
+  pub reported :
       (m : ℕ) → slice_index (d ∷ e ∷ f ∷ []) s.lane - 120 + 10 * m ≤ s.place → m ≤ columns_in y d e f
       → heard (take m (aligned_columns y.blue y.green y.red d e f)) ≡ account t.periods t.sent t.received a m
 
@@ -65,7 +65,7 @@ pub record IsAccountedBefore (t : TappedStream) (s : LineSlip) (y : Fed) (d e f 
 -- Where it had one, what is told of the columns that end before the slip is the account.
 pub record IsTrackedAsOne (t : TappedStream) (s : LineSlip) (y : Fed) (status : ℕ) (old new : Option (List ℕ)) : Type 0 where
   pub one : HasNoEnd y
-  pub link : Outcome
+  pub link : RunOutcome
   pub does : Does RecoverLink t.bytes link
   pub status_is : status ≡ link.status
   pub written : Appends old new link.output

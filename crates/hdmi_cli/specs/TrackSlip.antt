@@ -1,20 +1,20 @@
 -- What `recover track` makes of the capture of a tapped stream one lane of which lost bits within the pixels of a line.
-use Rattle.std.specs.Prelude.{◌≡◌, ◌+◌, ◌*◌, ◌≤◌, ◌||◌, ℕ, Bool, true, false, List, [], ◌++◌, length, take, drop, slice_index, Option}
+use Rattle.std.specs.Prelude.{◌≡◌, ◌+◌, ◌*◌, ◌≤◌, ◌||◌, ℕ, Bool, true, false, List, [], ◌++◌, length, slice_index, Option}
 use Rattle.std.specs.Io.KnownBytes.{Appends}
 use Rattle.tmds_word.specs.Taps.{IsTap}
 use Rattle.capture_file.specs.Captures.{IsCaptureOf}
 use Rattle.lane_align.specs.Lanes.{IsLock}
 use Rattle.lane_deskew.specs.Aligned.{aligned_columns}
 use Rattle.lane_deskew.specs.Triples.{IsFirst}
-use Rattle.period_grammar.specs.Things.{Thing}
-use Rattle.link_sink.specs.Account.{account}
-use Rattle.link_sink.specs.Alignment.{AreTold}
-use Rattle.link_sink.specs.Laws.{CameOf, EndsControl, BeginColumn}
+use Rattle.period_grammar.specs.Events.{Event}
+use Rattle.link_laws.specs.Account.{account}
+use Rattle.link_sink.specs.Alignment.{AreReported}
+use Rattle.link_laws.specs.Laws.{ReceivedOf, EndsControl, BeginColumn}
 use Rattle.link_sink.specs.Sinks.{Fed}
 use Rattle.link_sink.specs.declared.hear.Outcome.{Outcome as Hearing}
 use Rattle.track_sink.specs.Epochs.{lane_of, rest_of, front_of}
-use Rattle.track_sink.specs.Events.{Event, events_of, slip_if}
-use Rattle.track_sink.specs.Laws.{Slipped, SlipsInVideo, BeginsAgain, FirstAccounted, later_skews}
+use Rattle.track_sink.specs.TrackEvents.{TrackEvent, track_events_of, slip_if}
+use Rattle.track_laws.specs.Laws.{Slipped, SlipsInVideo, BeginsAgain, FirstAccounted, later_skews}
 use Rattle.hdmi_cli.specs.Headline.{TappedStream}
 use Rattle.hdmi_cli.specs.Outcome.{status_with}
 use Rattle.hdmi_cli.specs.TrackText.{track_faults, track_text}
@@ -35,7 +35,7 @@ lanes_of t = record { blue = t.blue; green = t.green; red = t.red }
 -- columns that came of conforming periods with sparse damage of their payload, a tap of them, and the capture of its lanes
 -- once one of them lost bits; the skews are small after that, and may differ by up to 79 bits before
 pub record IsSlippedTap (t : TappedStream) (s : LineSlip) (y : Fed) : Type 0 where
-  pub came : CameOf t.periods t.sent t.received
+  pub reception : ReceivedOf t.periods t.sent t.received
   pub tap : IsTap t.received t.offset t.skews t.counts t.blue t.green t.red
   pub slips : Slipped (lanes_of t) s.lane s.place s.dropped y
   pub in_line : SlipsInVideo t.periods t.sent t.received t.offset t.skews t.counts s.lane s.place s.dropped s.first s.next
@@ -55,9 +55,9 @@ IsFirstIn x d e f = IsFirst x.blue x.green x.red d e f
 abbrev pub columns_in : Fed → ℕ → ℕ → ℕ → ℕ
 columns_in x d e f = length (aligned_columns x.blue x.green x.red d e f)
 
--- the things of two epochs, with the slip between them where the first has a full alignment
-abbrev pub events_across : Bool → List Thing → ℕ → ℕ → List Thing → List Event
-events_across aligned first lane start second = events_of first ++ (slip_if aligned lane start ++ events_of second)
+-- the events of two epochs, with the slip between them where the first has a full alignment
+abbrev pub track_events_across : Bool → List Event → ℕ → ℕ → List Event → List TrackEvent
+track_events_across aligned first lane start second = track_events_of first ++ (slip_if aligned lane start ++ track_events_of second)
 
 -- There are two epochs. The second begins at the control period behind the line, or one or two characters before it. What is
 -- told of the first is the account as far as columns end before the slip, what is told of the second is the account from
@@ -68,19 +68,19 @@ pub record IsTrackedAcross (t : TappedStream) (s : LineSlip) (y : Fed) (status :
   pub begins : BeginsAgain t.received t.offset t.skews s.lane s.dropped s.next start
   pub one : Hearing
   pub two : Hearing
-  pub before : List Thing
-  pub behind : List Thing
-  pub first_told : AreTold (front_of start y).blue (front_of start y).green (front_of start y).red one before
-  pub second_told : AreTold (rest_of start y).blue (rest_of start y).green (rest_of start y).red two behind
+  pub before : List Event
+  pub after : List Event
+  pub first_reported : AreReported (front_of start y).blue (front_of start y).green (front_of start y).red one before
+  pub second_reported : AreReported (rest_of start y).blue (rest_of start y).green (rest_of start y).red two after
   pub first_is :
       (d e f : ℕ) → IsFirstIn (front_of start y) d e f
       → FirstAccounted t.periods t.sent t.received t.offset t.skews y s.lane s.place start d e f
   pub second_is :
       (d e f : ℕ) → IsFirstIn (rest_of start y) d e f
       → (a : ℕ) × EndsControl t.periods (a + 11) × BeginColumn (t.offset + start) (later_skews t.skews s.lane s.dropped) (a + 12) d e f
-      × (behind ≡ account t.periods t.sent t.received a (columns_in (rest_of start y) d e f))
+      × (after ≡ account t.periods t.sent t.received a (columns_in (rest_of start y) d e f))
   pub aligned :
       (one.aligned || two.aligned) ≡ true
-      → (status ≡ status_with (track_faults (events_across one.aligned before s.lane start behind)))
-      × Appends old new (track_text (events_across one.aligned before s.lane start behind))
+      → (status ≡ status_with (track_faults (track_events_across one.aligned before s.lane start after)))
+      × Appends old new (track_text (track_events_across one.aligned before s.lane start after))
   pub unaligned : (one.aligned || two.aligned) ≡ false → (status ≡ 7) × Appends old new []

@@ -6,46 +6,46 @@ use Rattle.std.specs.Io.KnownBytes.{Appends}
 use Rattle.std.proofs.KnownBytes.{Appends-nil, Appends-trans}
 use Rattle.std.proofs.lemmas.Grind.{flat_map-append}
 use Rattle.std.proofs.lemmas.List.Sums.{sum_by-append}
-use Rattle.period_grammar.specs.Exact.{is_fault_thing}
-use Rattle.period_grammar.specs.Things.{Thing}
-use Rattle.listing.specs.Texts.{lines_of, fault_lines, slip_text, counted}
-use Rattle.listing.specs.Growing.{lines_append, fault_lines_append}
-use Rattle.track_sink.specs.Events.{Event, thing, slip, events_of}
+use Rattle.period_grammar.specs.Exact.{is_fault_event}
+use Rattle.period_grammar.specs.Events.{Event}
+use Rattle.listing_writer.specs.Texts.{lines_of, fault_lines, slip_text, counted}
+use Rattle.listing_writer.specs.Growing.{lines_append, fault_lines_append}
+use Rattle.track_sink.specs.TrackEvents.{TrackEvent, event, slip, track_events_of}
 
-abbrev pub event_text : Event → List ℕ
-event_text (thing t) = lines_of (t ∷ [])
-event_text (slip lane place) = slip_text lane place
+abbrev pub track_event_text : TrackEvent → List ℕ
+track_event_text (event t) = lines_of (t ∷ [])
+track_event_text (slip lane place) = slip_text lane place
 
-unfoldable pub track_lines : List Event → List ℕ
-track_lines events = flat_map event_text events
+unfoldable pub track_lines : List TrackEvent → List ℕ
+track_lines track_events = flat_map track_event_text track_events
 
-unfoldable pub track_text : List Event → List ℕ
-track_text events = track_lines events ++ codes "end\n"
+unfoldable pub track_text : List TrackEvent → List ℕ
+track_text track_events = track_lines track_events ++ codes "end\n"
 
-abbrev pub is_fault_event : Event → Bool
-is_fault_event (thing t) = is_fault_thing t
-is_fault_event (slip lane place) = true
+abbrev pub is_fault_track_event : TrackEvent → Bool
+is_fault_track_event (event t) = is_fault_event t
+is_fault_track_event (slip lane place) = true
 
-unfoldable pub track_faults : List Event → ℕ
-track_faults events = count_by is_fault_event events
+unfoldable pub track_faults : List TrackEvent → ℕ
+track_faults track_events = count_by is_fault_track_event track_events
 
 -- they grow by events
 
-pub no_events : track_lines [] ≡ []
+pub no_track_events : track_lines [] ≡ []
 unfolding track_lines
-no_events = refl
+no_track_events = refl
 
-pub track_lines_append : (h k : List Event) → track_lines (h ++ k) ≡ track_lines h ++ track_lines k
+pub track_lines_append : (h k : List TrackEvent) → track_lines (h ++ k) ≡ track_lines h ++ track_lines k
 unfolding track_lines
-track_lines_append h k = flat_map-append event_text h k
+track_lines_append h k = flat_map-append track_event_text h k
 
-pub track_faults_append : (h k : List Event) → track_faults (h ++ k) ≡ track_faults h + track_faults k
+pub track_faults_append : (h k : List TrackEvent) → track_faults (h ++ k) ≡ track_faults h + track_faults k
 unfolding track_faults
 track_faults_append h k = sum_by-append _ h k
 
-pub one_event : (e : Event) → track_lines (e ∷ []) ≡ event_text e
+pub one_track_event : (e : TrackEvent) → track_lines (e ∷ []) ≡ track_event_text e
 unfolding track_lines
-one_event e = append-nil (event_text e)
+one_track_event e = append-nil (track_event_text e)
 
 pub one_slip_fault : (lane place : ℕ) → track_faults (slip lane place ∷ []) ≡ 1
 unfolding track_faults
@@ -55,12 +55,12 @@ no_lines : [] ≡ lines_of []
 unfolding lines_of
 no_lines = refl
 
-pub thing_lines : (things : List Thing) → track_lines (events_of things) ≡ lines_of things
+pub event_lines : (events : List Event) → track_lines (track_events_of events) ≡ lines_of events
 unfolding track_lines
-thing_lines [] = no_lines
-thing_lines (t ∷ ts) = ap (λ (bytes : List ℕ). lines_of (t ∷ []) ++ bytes) (thing_lines ts) ∙ sym (lines_append (t ∷ []) ts)
+event_lines [] = no_lines
+event_lines (t ∷ ts) = ap (λ (bytes : List ℕ). lines_of (t ∷ []) ++ bytes) (event_lines ts) ∙ sym (lines_append (t ∷ []) ts)
 
-one_fault : (t : Thing) → track_faults (thing t ∷ []) ≡ fault_lines (t ∷ [])
+one_fault : (t : Event) → track_faults (event t ∷ []) ≡ fault_lines (t ∷ [])
 unfolding track_faults fault_lines
 one_fault t = refl
 
@@ -68,13 +68,13 @@ no_faults : track_faults [] ≡ fault_lines []
 unfolding track_faults fault_lines
 no_faults = refl
 
-pub thing_faults : (things : List Thing) → track_faults (events_of things) ≡ fault_lines things
-thing_faults [] = no_faults
-thing_faults (t ∷ ts) =
-    let a = track_faults_append (thing t ∷ []) (events_of ts) in
+pub event_faults : (events : List Event) → track_faults (track_events_of events) ≡ fault_lines events
+event_faults [] = no_faults
+event_faults (t ∷ ts) =
+    let a = track_faults_append (event t ∷ []) (track_events_of ts) in
     let b = fault_lines_append (t ∷ []) ts in
     let c = one_fault t in
-    let d = thing_faults ts in
+    let d = event_faults ts in
     omega (arith, a, b, c, d)
 
 pub tracks_none : (x : ℕ) → x ≡ counted x (track_faults [])
@@ -84,7 +84,7 @@ tracks_none x = omega arith
 counted_sum : (x a b : ℕ) → counted (counted x a) b ≡ counted x (a + b)
 counted_sum x a b = omega arith
 
-pub tracks_both : (x y z : ℕ) (h k : List Event) → y ≡ counted x (track_faults h) → z ≡ counted y (track_faults k) → z ≡ counted x (track_faults (h ++ k))
+pub tracks_both : (x y z : ℕ) (h k : List TrackEvent) → y ≡ counted x (track_faults h) → z ≡ counted y (track_faults k) → z ≡ counted x (track_faults (h ++ k))
 tracks_both x y z h k first then =
     then ∙ ap (λ (n : ℕ). counted n (track_faults k)) first ∙ counted_sum x (track_faults h) (track_faults k)
     ∙ sym (ap (λ (n : ℕ). counted x n) (track_faults_append h k))
@@ -93,23 +93,23 @@ pub grows_none : (a : Option (List ℕ)) → Appends a a (track_lines [])
 unfolding track_lines
 grows_none a = Appends-nil a
 
-pub grows_both : (a b c : Option (List ℕ)) (h k : List Event) → Appends a b (track_lines h) → Appends b c (track_lines k) → Appends a c (track_lines (h ++ k))
+pub grows_both : (a b c : Option (List ℕ)) (h k : List TrackEvent) → Appends a b (track_lines h) → Appends b c (track_lines k) → Appends a c (track_lines (h ++ k))
 grows_both a b c h k first then =
     subst (λ (text : List ℕ). Appends a c text) (sym (track_lines_append h k)) (Appends-trans a b c (track_lines h) (track_lines k) first then)
 
--- things that were written and counted are events that were
+-- events that were written and counted are events that were
 
-pub written_things : (a b : Option (List ℕ)) (h : List Thing) → Appends a b (lines_of h) → Appends a b (track_lines (events_of h))
-written_things a b h is = subst (λ (text : List ℕ). Appends a b text) (sym (thing_lines h)) is
+pub written_events : (a b : Option (List ℕ)) (h : List Event) → Appends a b (lines_of h) → Appends a b (track_lines (track_events_of h))
+written_events a b h is = subst (λ (text : List ℕ). Appends a b text) (sym (event_lines h)) is
 
-pub things_written : (a b : Option (List ℕ)) (h : List Thing) → Appends a b (track_lines (events_of h)) → Appends a b (lines_of h)
-things_written a b h is = subst (λ (text : List ℕ). Appends a b text) (thing_lines h) is
+pub events_written : (a b : Option (List ℕ)) (h : List Event) → Appends a b (track_lines (track_events_of h)) → Appends a b (lines_of h)
+events_written a b h is = subst (λ (text : List ℕ). Appends a b text) (event_lines h) is
 
-pub counted_things : (x y : ℕ) (h : List Thing) → y ≡ counted x (fault_lines h) → y ≡ counted x (track_faults (events_of h))
-counted_things x y h is = is ∙ sym (ap (λ (n : ℕ). counted x n) (thing_faults h))
+pub counted_events : (x y : ℕ) (h : List Event) → y ≡ counted x (fault_lines h) → y ≡ counted x (track_faults (track_events_of h))
+counted_events x y h is = is ∙ sym (ap (λ (n : ℕ). counted x n) (event_faults h))
 
-pub things_counted : (x y : ℕ) (h : List Thing) → y ≡ counted x (track_faults (events_of h)) → y ≡ counted x (fault_lines h)
-things_counted x y h is = is ∙ ap (λ (n : ℕ). counted x n) (thing_faults h)
+pub events_counted : (x y : ℕ) (h : List Event) → y ≡ counted x (track_faults (track_events_of h)) → y ≡ counted x (fault_lines h)
+events_counted x y h is = is ∙ ap (λ (n : ℕ). counted x n) (event_faults h)
 
 -- a slip that was written and counted is an event that was
 
@@ -118,7 +118,7 @@ pub slip_tracked : {E N : Type 0} (r : Result (Unit {0}) E) (lane place x y : �
 slip_tracked (Ok done) lane place x y a b same count written = (
   same,
   count ∙ sym (ap (λ (n : ℕ). counted x n) (one_slip_fault lane place)),
-  subst (λ (text : List ℕ). Appends a b text) (sym (one_event (slip lane place))) written,
+  subst (λ (text : List ℕ). Appends a b text) (sym (one_track_event (slip lane place))) written,
 )
 slip_tracked (Err failed) lane place x y a b same count written = tt
 

@@ -3,7 +3,7 @@ ghost use Rattle.std.specs.Prelude.{◌≡◌};
 
 use biphase_listing::BiphaseFault;
 use capture_file::CaptureFault;
-use listing::ListFault;
+use listing_reader::ListFault;
 use source_end::RasterFault;
 
 /// How a run ends.

@@ -1,14 +1,14 @@
 //! Hears a capture block by block, while it is read.
-ghost use Rattle.std.specs.Prelude.{◌≡◌, ◌≤◌, ◌⊎◌, ◌+◌, ◌*◌, ◌^◌, ◌<◌, ℕ, List, [], true, false, Option, Some, IfOk, OnOk, IfErr};
+ghost use Rattle.std.specs.Prelude.{◌≡◌, ◌≤◌, ◌⊎◌, ◌+◌, ◌*◌, ◌^◌, ◌<◌, ℕ, List, true, false, Option, Some, IfOk, OnOk, IfErr};
 ghost use Rattle.std.specs.Io.KnownBytes.{Consumes, IsAtEnd};
 ghost use Rattle.outside_io.specs.Causes.{Rose};
 ghost use Rattle.capture_file.specs.Captures.{CanSay, IsCaptureOf, IsFault, place_of};
 ghost use Rattle.capture_file.specs.declared.fault.CaptureFault.{CaptureFault as FaultValue};
-ghost use Rattle.period_grammar.specs.Things.{Thing};
-ghost use Rattle.link_sink.specs.Alignment.{AreToldBy};
+ghost use Rattle.period_grammar.specs.Events.{Event};
+ghost use Rattle.link_sink.specs.Alignment.{AreReportedBy};
 ghost use Rattle.link_sink.specs.declared.hear.Outcome.{Outcome as Hearing};
 ghost use Rattle.link_sink.specs.Pieces.{no_bits};
-ghost use Rattle.link_sink.specs.Sinks.{Fed, IsToldBy};
+ghost use Rattle.link_sink.specs.Sinks.{Fed, IsReportedBy};
 ghost use Rattle.link_sink.specs.Streams.{StandsBy, most_bits};
 ghost use Rattle.hdmi_cli.specs.Blocks.{AreBefore, AreRead, AreNext};
 ghost use Rattle.link_sink.specs.Ears.{IsHeardSoFar, IsBroken};
@@ -129,7 +129,7 @@ pub(crate) fn hear_capture<R: Threads, S: Source, H: Hears, E: Ear, G: Gate>(
     requires open { sink.old.is_open ≡ true }
     requires fresh { StandsBy H.goes_on sink.old no_bits }
     requires unfed { most_bits sink.old ≡ 0 }
-    ensures heard { IfOk result (λ outcome. (fed : Fed) × (things : List Thing) × AreToldBy H.grammar fed.blue fed.green fed.red outcome things × E.took ear.old ear.new things
+    ensures heard { IfOk result (λ outcome. (fed : Fed) × (events : List Event) × AreReportedBy H.grammar fed.blue fed.green fed.red outcome events × E.took ear.old ear.new events
         × ((bytes : List ℕ) → S.left input.old ≡ Some bytes → IsCaptureOf fed.blue fed.green fed.red bytes)) }
     ensures ended { OnOk result (IsAtEnd (S.left input.new)) }
     ensures some { IfErr result (λ e. (e ≡ EarFailed → ⊥) → IsHeardSome H.grammar E.took ear.old ear.new) }
@@ -138,9 +138,9 @@ pub(crate) fn hear_capture<R: Threads, S: Source, H: Hears, E: Ear, G: Gate>(
     ensures read { IfErr result (λ e. e ≡ Read → Rose (S.faults input.old) (S.faults input.new)
         × ((fed : Fed) × (read : List ℕ) × Consumes (S.left input.old) (S.left input.new) read × AreRead read fed × IsHeardSoFar H.grammar E.took fed ear.old ear.new)) }
     ensures broken { IfErr result (λ e. e ≡ EarFailed → Rose (E.faults ear.old) (E.faults ear.new)
-        × (before after : Fed) × (things : List Thing) × (read : List ℕ) × Consumes (S.left input.old) (S.left input.new) read
-        × ((AreNext before after read × IsToldBy H.grammar after things × IsBroken H.grammar E.took E.broke before things ear.old ear.new)
-        ⊎ ((outcome : Hearing) × IsAtEnd (S.left input.new) × IsCaptureOf after.blue after.green after.red read × AreToldBy H.grammar after.blue after.green after.red outcome things × IsBroken H.grammar E.took E.broke after things ear.old ear.new))) }
+        × (before after : Fed) × (events : List Event) × (read : List ℕ) × Consumes (S.left input.old) (S.left input.new) read
+        × ((AreNext before after read × IsReportedBy H.grammar after events × IsBroken H.grammar E.took E.broke before events ear.old ear.new)
+        ⊎ ((outcome : Hearing) × IsAtEnd (S.left input.new) × IsCaptureOf after.blue after.green after.red read × AreReportedBy H.grammar after.blue after.green after.red outcome events × IsBroken H.grammar E.took E.broke after events ear.old ear.new))) }
     ensures taken { (taken : List ℕ) × Consumes (S.left input.old) (S.left input.new) taken }
     ensures input_later { S.faults input.old ≤ S.faults input.new }
     ensures ear_later { E.faults ear.old ≤ E.faults ear.new }

@@ -1,16 +1,16 @@
 //! The ears that write a listing.
-ghost use Rattle.std.specs.Prelude.{◌≡◌, ℕ, ◌<◌, List, [], ◌∷◌, take, length, Option, OnOk, OnErr};
+ghost use Rattle.std.specs.Prelude.{◌≡◌, ℕ, ◌<◌, List, [], take, length, Option, OnOk, OnErr};
 ghost use Rattle.std.specs.Io.KnownBytes.{Appends};
 ghost use Rattle.outside_io.specs.Causes.{HasCause};
-ghost use Rattle.period_grammar.specs.Things.{Thing};
-ghost use Rattle.listing.specs.Texts.{counted};
-ghost use Rattle.listing.specs.ContentAdded.{Recalls};
+ghost use Rattle.period_grammar.specs.Events.{Event};
+ghost use Rattle.listing_writer.specs.Texts.{counted};
+ghost use Rattle.listing_writer.specs.ContentAdded.{Recalls};
 ghost use Rattle.hdmi_cli.specs.Listers.{IsText, Writes};
 ghost use Rattle.hdmi_cli.specs.Listings.{Listing};
 
 use biphase_listing::BiphaseLister;
 use link_sink::Ear;
-use listing::{CheckLister, ContentLister, LinkLister};
+use listing_writer::{CheckLister, ContentLister, LinkLister};
 use outside_io::{Failed, Sink};
 
 /// Is told what a link says, and writes a listing of it.
@@ -18,11 +18,11 @@ pub(crate) trait Lister: Ear {
     /// What it writes.
     ghost listing: { Self → Listing };
 
-    /// What it writes of things behind others.
-    ghost after: { Self → List Thing → List Thing → List ℕ };
+    /// What it writes of events behind others.
+    ghost after: { Self → List Event → List Event → List ℕ };
 
     /// What it writes last.
-    ghost last: { Self → List Thing → List ℕ };
+    ghost last: { Self → List Event → List ℕ };
 
     /// It was told nothing.
     ghost fresh: { Self → Type 0 };
@@ -36,13 +36,13 @@ pub(crate) trait Lister: Ear {
     /// Writes the last line.
     fn end(&mut self) -> Result<(), Failed>
         ensures same { name self.new ≡ name self.old }
-        ensures whole { (first : Self) (things : List Thing) → fresh first → Self.took first self.old things → OnOk result (Appends (held self.old) (held self.new) (last first things)) }
-        ensures part { (first : Self) (things : List Thing) → fresh first → Self.took first self.old things → OnErr result ((n : ℕ) × (n < length (last first things)) × Appends (held self.old) (held self.new) (take n (last first things))) }
+        ensures whole { (first : Self) (events : List Event) → fresh first → Self.took first self.old events → OnOk result (Appends (held self.old) (held self.new) (last first events)) }
+        ensures part { (first : Self) (events : List Event) → fresh first → Self.took first self.old events → OnErr result ((n : ℕ) × (n < length (last first events)) × Appends (held self.old) (held self.new) (take n (last first events))) }
         ensures cause { HasCause (Self.faults self.old) (Self.faults self.new) result };
 
     /// How many of the lines written are of faults.
     fn fault_lines(&self) -> u64
-        ensures { (first : Self) (things : List Thing) → fresh first → Self.took first self.now things → result ≡ counted 0 ((listing first).faults things) };
+        ensures { (first : Self) (events : List Event) → fresh first → Self.took first self.now events → result ≡ counted 0 ((listing first).faults events) };
 
     /// Its text is a listing's.
     ghost is_text: { (first : Self) → IsText (listing first) (after first) (last first) };
@@ -51,9 +51,9 @@ pub(crate) trait Lister: Ear {
     ghost writes: { (first : Self) → fresh first → Writes (listing first) (after first) Self.took Self.broke held first };
 
     /// It keeps its output.
-    ghost keeps: { (x y : Self) (h : List Thing) → Self.took x y h → name y ≡ name x };
+    ghost keeps: { (x y : Self) (h : List Event) → Self.took x y h → name y ≡ name x };
 
-    ghost keeps_broken: { (x y : Self) (t : Thing) → Self.broke x y t → name y ≡ name x };
+    ghost keeps_broken: { (x y : Self) (t : Event) → Self.broke x y t → name y ≡ name x };
 }
 
 impl<'a, K: Sink> Lister for LinkLister<'a, K> {

@@ -11,7 +11,7 @@ use crate::ending::Ending;
 use crate::rastering::write_raster;
 use capture_file::{Lanes, Tap, write_capture};
 use command_line::TapWords;
-use listing::{ListError, read_content, read_dvi, read_link};
+use listing_reader::{ListError, read_content, read_dvi, read_link};
 use outside_io::{NoMemory, Sink, Source};
 use source_end::{DviStream, RasterFault, Stream};
 use std::alloc::Global;

@@ -10,7 +10,7 @@ use crate::ending::Ending;
 use arrayvec::ArrayVec;
 use biphase_listing::BiphaseFault;
 use capture_file::CaptureFault;
-use listing::{ListCause, ListFault};
+use listing_reader::{ListCause, ListFault};
 use outside_io::{Sink, write_all};
 use source_end::RasterFault;
 

@@ -15,7 +15,7 @@ use biphase_listing::{BiphaseError, BiphaseLister, list_biphase};
 use dvi_hearing::DviHearing;
 use lane_team::Gate;
 use link_sink::{Hears, LaneSink};
-use listing::{CheckLister, ContentLister, LinkLister};
+use listing_writer::{CheckLister, ContentLister, LinkLister};
 use outside_io::{Failed, Sink, Source};
 use period_grammar::Hearing;
 use std::alloc::Global;
@@ -178,7 +178,7 @@ fn list_lanes<R: Threads, S: Source, H: Hears, L: Lister, G: Gate>(
     requires open { sink.old.is_open ≡ true }
     requires fed { StandsBy H.goes_on sink.old no_bits }
     requires unfed { most_bits sink.old ≡ 0 }
-    requires told { L.fresh lister.old }
+    requires reported { L.fresh lister.old }
     ensures ends { (command : CommandValue) → IsLists H.grammar (L.listing lister.old) command → Ends command result
         (seen (S.left input.old) (S.faults input.old) (L.held lister.old) (L.faults lister.old))
         (seen (S.left input.new) (S.faults input.new) (L.held lister.new) (L.faults lister.new)) }

@@ -15,14 +15,14 @@ ghost use Rattle.hdmi_cli.specs.TrackPasses.{IsUnnoticed, IsTrackedAsOne};
 ghost use Rattle.hdmi_cli.specs.RelayClauses.{IsCleanToEnd, IsPassedOn, IsRelayedAgain, IsSentWithin, IsSentWithinBy};
 ghost use Rattle.hdmi_cli.specs.RelaySettles.{IsWritten, IsWrittenButBit3};
 ghost use Rattle.hdmi_cli.specs.Relays.{IsRelayed};
-ghost use Rattle.period_grammar.specs.Things.{Thing};
+ghost use Rattle.period_grammar.specs.Events.{Event};
 ghost use Rattle.relay.specs.Relayed.{relayed};
 ghost use Rattle.hdmi_cli.specs.Pictures.{ArePackets, ArePictures};
 ghost use Rattle.hdmi_cli.specs.Sounds.{AreSamples};
 ghost use Rattle.hdmi_cli.specs.Exact.{IsAlignedCapture, IsJudged};
 ghost use Rattle.hdmi_cli.specs.Listings.{link_listing, content_listing};
 ghost use Rattle.hdmi_cli.specs.Manners.{WritesLast, WritesOn};
-ghost use Rattle.hdmi_cli.specs.Outcome.{Outcome, IsOutcome, NamesNone, Relays};
+ghost use Rattle.hdmi_cli.specs.Outcome.{RunOutcome, IsOutcome, NamesNone, Relays};
 ghost use Rattle.hdmi_cli.specs.Endings.{RunEnds, RunUnread, RunUnwritten, Unless, seen};
 ghost use Rattle.hdmi_cli.specs.Runs.{IsNoteOf};
 ghost use Rattle.hdmi_cli.specs.Samples.{IsSampleWritten};
@@ -44,17 +44,20 @@ use crate::track::recover_track;
 use command_line::Command;
 use lane_team::Gate;
 use outside_io::{Sink, Source};
-use relay::laws::{relayed_account, relayed_again, whole_relayed};
+use relay_laws::{relayed_account, relayed_again, whole_relayed};
 use std::alloc::Global;
 use std::thread::Threads;
 
 /// Does what the words say with the input, and answers the status: 0 done, 1 done with faults heard, 2 usage, 3 input
 /// refused, 4 read failed, 5 write failed, 6 out of memory, 7 no alignment. `make link` reads a link listing and writes
-/// the capture of a tap of it, and `make content` that of the raster of a content listing; `recover link` reads a capture
-/// and writes its link listing while it reads, `recover content` its pictures and sound, and `check` only the lines of its
-/// faults and of a cut and whether there was a fault; `damage` copies a capture, block by block, with the ten bits of each
-/// hit replaced; `sample` reads nothing, and counts what comes of generated frames that were damaged and recovered. A
-/// worker of each lane passes the gate for each block.
+/// the capture of a tap of it, `make dvi` that of the same without guard bands, and `make content` that of the raster of a
+/// content listing; `recover link` reads a capture and writes its link listing while it reads, `recover track` with the
+/// slips of its lanes, `recover dvi` that of a stream without guard bands, `recover content` its pictures and sound,
+/// `recover biphase` the frames of one pair of channels, and `check` only the lines of its faults and of a cut and whether
+/// there was a fault; `read biphase` lists such frames; `relay` writes the capture of what was heard, sent anew; `damage`
+/// copies a capture, block by block, with the ten bits of each hit replaced, and `slip` without some bits of a lane;
+/// `sample` reads nothing, and counts what comes of generated frames that were damaged and recovered. A worker of each
+/// lane passes the gate for each block.
 pub fn run<R: Threads, S: Source, K: Sink, N: Sink, G: Gate>(
     rt: &R,
     alloc: Global,
@@ -71,13 +74,13 @@ pub fn run<R: Threads, S: Source, K: Sink, N: Sink, G: Gate>(
         → Rose (S.faults input.old) (S.faults input.new)
         ⊎ Rose (K.faults output.old) (K.faults output.new)
         ⊎ (result ≡ 6)
-        ⊎ ((o : Outcome) × IsOutcome words.now text o × (result ≡ o.status)) }
+        ⊎ ((o : RunOutcome) × IsOutcome words.now text o × (result ≡ o.status)) }
 
     // Each status has its cause, and where the outcome's status is answered its output is written, all of it.
     ensures usage { result ≡ 2 → NamesNone words.now }
     ensures unnamed { NamesNone words.now → (result ≡ 2) ⊎ (result ≡ 6) }
     ensures done { Contains (0 ∷ 1 ∷ 3 ∷ 7 ∷ []) result → (text : List ℕ) → S.left input.old ≡ Some text
-        → (o : Outcome) × IsOutcome words.now text o × (o.status ≡ result) × Appends (K.held output.old) (K.held output.new) o.output }
+        → (o : RunOutcome) × IsOutcome words.now text o × (o.status ≡ result) × Appends (K.held output.old) (K.held output.new) o.output }
     ensures read_failed { result ≡ 4 → Rose (S.faults input.old) (S.faults input.new) }
     ensures write_failed { result ≡ 5 → Rose (K.faults output.old) (K.faults output.new) }
 
@@ -235,15 +238,15 @@ pub fn run<R: Threads, S: Source, K: Sink, N: Sink, G: Gate>(
 
     // Of what `relay` wrote it writes the same, with its first control period cut to its last twelve columns, and the status
     // is 0; or 7 where that is one control period alone.
-    ensures relay_again { IsCommand words.now RelayCommand → (things : List Thing) (text : List ℕ) → IsRelayed things text
+    ensures relay_again { IsCommand words.now RelayCommand → (events : List Event) (text : List ℕ) → IsRelayed events text
         → S.left input.old ≡ Some text
-        → Unless (IsRelayedAgain (relayed things)) result
+        → Unless (IsRelayedAgain (relayed events)) result
         (seen (S.left input.old) (S.faults input.old) (K.held output.old) (K.faults output.old))
         (seen (S.left input.new) (S.faults input.new) (K.held output.new) (K.faults output.new)) }
 
     // What `relay` wrote of its own output, with status 0, it writes again byte for byte, and the status is 0.
-    ensures relay_settles { IsCommand words.now RelayCommand → (things : List Thing) (text : List ℕ) → IsRelayed things text
-        → (second : Outcome) → Relays text second → second.status ≡ 0 → S.left input.old ≡ Some second.output
+    ensures relay_settles { IsCommand words.now RelayCommand → (events : List Event) (text : List ℕ) → IsRelayed events text
+        → (second : RunOutcome) → Relays text second → second.status ≡ 0 → S.left input.old ≡ Some second.output
         → Unless (IsWritten second.output) result
         (seen (S.left input.old) (S.faults input.old) (K.held output.old) (K.faults output.old))
         (seen (S.left input.new) (S.faults input.new) (K.held output.new) (K.faults output.new)) }

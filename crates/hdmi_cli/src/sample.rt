@@ -5,10 +5,10 @@ ghost use Rattle.outside_io.specs.Causes.{Rose};
 ghost use Rattle.island_pack.specs.Spelling.{Spells};
 ghost use Rattle.capture_file.specs.Captures.{IsCapture, IsCaptureOf};
 ghost use Rattle.capture_file.specs.Taps.{tap_count};
-ghost use Rattle.period_grammar.specs.Things.{Thing};
-ghost use Rattle.link_sink.specs.Alignment.{AreTold};
+ghost use Rattle.period_grammar.specs.Events.{Event};
+ghost use Rattle.link_sink.specs.Alignment.{AreReported};
 ghost use Rattle.link_sink.specs.Pieces.{no_bits};
-ghost use Rattle.link_sink.specs.Streams.{StandsFor, most_bits};
+ghost use Rattle.link_sink.specs.Streams.{SinkRepresents, most_bits};
 ghost use Rattle.sampling.specs.Sampled.{sample_mode, sample_tap, IsSampled};
 ghost use Rattle.source_end.specs.declared.refusal.RasterFault.{RasterFault};
 ghost use Rattle.hdmi_cli.specs.Samples.{IsMade, IsSent, IsTapped, IsStruck, SampleEnds};
@@ -76,10 +76,10 @@ fn hear_bytes<R: Threads, E: Ear, G: Gate>(
     ear: &mut E,
 ) -> Result<Outcome, Failed>
     requires open { sink.old.is_open ≡ true }
-    requires fresh { StandsFor sink.old no_bits }
+    requires fresh { SinkRepresents sink.old no_bits }
     requires unfed { most_bits sink.old ≡ 0 }
     requires capture { IsCapture bytes.now }
-    ensures heard { IfOk result (λ outcome. (blue green red : List Bool) × IsCaptureOf blue green red bytes.now × ((things : List Thing) × AreTold blue green red outcome things × E.took ear.old ear.new things)) }
+    ensures heard { IfOk result (λ outcome. (blue green red : List Bool) × IsCaptureOf blue green red bytes.now × ((events : List Event) × AreReported blue green red outcome events × E.took ear.old ear.new events)) }
     ensures cause { OnErr result (Rose (E.faults ear.old) (E.faults ear.new)) }
 {
     match hear_capture(rt, sink, &mut SliceSource::new(bytes), gate, ear) {

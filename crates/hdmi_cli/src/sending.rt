@@ -2,9 +2,9 @@
 ghost use Rattle.std.specs.Prelude.{◌≡◌, ◌≤◌, ℕ, true, List};
 ghost use Rattle.std.specs.Io.KnownBytes.{Consumes};
 ghost use Rattle.link_sink.specs.Pieces.{no_bits};
-ghost use Rattle.link_sink.specs.Streams.{StandsFor as SinkStandsFor, most_bits};
-ghost use Rattle.period_grammar.specs.Things.{Thing};
-ghost use Rattle.relay.specs.Standing.{StandsFor};
+ghost use Rattle.link_sink.specs.Streams.{SinkRepresents, most_bits};
+ghost use Rattle.period_grammar.specs.Events.{Event};
+ghost use Rattle.relay.specs.Standing.{RelayRepresents};
 ghost use Rattle.hdmi_cli.specs.Endings.{Ends, RelayEnds, marked_end, relay_ending, seen};
 ghost use Rattle.hdmi_cli.specs.Relays.{whole_tap};
 ghost use Rattle.command_line.specs.declared.command.Command.TheVariants.{Relay as RelayCommand};
@@ -53,7 +53,7 @@ fn send_lanes<R: Threads, S: Source, K: Sink, G: Gate>(
     gate: &G,
 ) -> Ending
     requires open { sink.old.is_open ≡ true }
-    requires fresh { SinkStandsFor sink.old no_bits }
+    requires fresh { SinkRepresents sink.old no_bits }
     requires unfed { most_bits sink.old ≡ 0 }
     ensures ends { Ends RelayCommand result
         (seen (S.left input.old) (S.faults input.old) (K.held output.old) (K.faults output.old))
@@ -74,8 +74,8 @@ fn send_lanes<R: Threads, S: Source, K: Sink, G: Gate>(
 
 /// Writes the capture of what is relayed.
 fn write_relayed<K: Sink>(alloc: Global, relay: Relay, output: &mut K) -> Ending
-    requires { (things : List Thing) × StandsFor relay things }
-    ensures ends { (things : List Thing) → StandsFor relay things → RelayEnds things result (K.held output.old) (K.held output.new) (K.faults output.old) (K.faults output.new) }
+    requires { (events : List Event) × RelayRepresents relay events }
+    ensures ends { (events : List Event) → RelayRepresents relay events → RelayEnds events result (K.held output.old) (K.held output.new) (K.faults output.old) (K.faults output.new) }
     ensures later { K.faults output.old ≤ K.faults output.new }
 {
     let faulty = relay.is_faulty();

@@ -2,7 +2,7 @@
 ghost use Rattle.std.specs.Prelude.{◌≡◌, ◌≤◌, ℕ, [], true, List};
 ghost use Rattle.std.specs.Io.KnownBytes.{Consumes};
 ghost use Rattle.link_sink.specs.Pieces.{no_bits};
-ghost use Rattle.track_sink.specs.TrackSinks.{StandsFor, most_bits};
+ghost use Rattle.track_sink.specs.TrackSinks.{TrackSinkRepresents, most_bits};
 ghost use Rattle.hdmi_cli.specs.Endings.{Ends, seen};
 ghost use Rattle.command_line.specs.declared.command.Command.TheVariants.{RecoverTrack};
 
@@ -10,7 +10,7 @@ use crate::ending::Ending;
 use crate::recovering::{judged, unheard};
 use crate::track_lister::TrackLister;
 use crate::tracking::follow_capture;
-use listing::LinkLister;
+use listing_writer::LinkLister;
 use outside_io::{Sink, Source};
 use std::alloc::Global;
 use std::thread::Threads;
@@ -46,7 +46,7 @@ fn list_track<R: Threads, S: Source, K: Sink>(
     output: &mut K,
 ) -> Ending
     requires open { sink.old.is_open ≡ true }
-    requires fresh { StandsFor sink.old no_bits [] }
+    requires fresh { TrackSinkRepresents sink.old no_bits [] }
     requires unfed { most_bits sink.old ≡ 0 }
     ensures ends { Ends RecoverTrack result
         (seen (S.left input.old) (S.faults input.old) (K.held output.old) (K.faults output.old))

@@ -1,17 +1,17 @@
 //! Writes the listing of what is told of lanes that may lose bits.
-ghost use Rattle.std.specs.Prelude.{◌≡◌, ℕ, ◌<◌, [], ◌∷◌, List, length, take, codes, OnOk, OnErr};
+ghost use Rattle.std.specs.Prelude.{◌≡◌, ℕ, ◌<◌, [], ◌∷◌, length, take, codes, OnOk, OnErr};
 ghost use Rattle.std.specs.Io.KnownBytes.{Appends};
 ghost use Rattle.outside_io.specs.Causes.{HasCause};
-ghost use Rattle.listing.specs.Texts.{lines_of, fault_lines, counted};
-ghost use Rattle.hdmi_cli.specs.TrackText.{event_text, track_lines, track_faults};
+ghost use Rattle.listing_writer.specs.Texts.{lines_of, fault_lines, counted};
+ghost use Rattle.hdmi_cli.specs.TrackText.{track_event_text, track_lines, track_faults};
 
 use link_sink::Ear;
-use listing::LinkLister;
+use listing_writer::LinkLister;
 use outside_io::{Failed, Sink};
-use period_grammar::Told;
+use period_grammar::EventRef;
 use track_sink::TrackEar;
 
-/// Writes a line for each thing that it is told, and for each slip.
+/// Writes a line for each event that it is told, and for each slip.
 #[derive(Drop)]
 pub(crate) struct TrackLister<'a, K: Sink> {
     pub(crate) lister: LinkLister<'a, K>,
@@ -39,24 +39,24 @@ impl<'a, K: Sink> TrackLister<'a, K> {
 
 impl<'a, K: Sink> Ear for TrackLister<'a, K> {
     ghost use Rattle.std.proofs.Common.{refl, ◌∙◌};
-    ghost use Rattle.listing.specs.Growing.{counted_none, counted_both, appends_none, appends_both};
+    ghost use Rattle.listing_writer.specs.Growing.{counted_none, counted_both, appends_none, appends_both};
 
     ghost faults = { λ l. K.faults l.lister.sink.now };
 
-    // The sink grew by the lines of the things, and the count by their fault lines.
-    ghost took = { λ x y things.
+    // The sink grew by the lines of the events, and the count by their fault lines.
+    ghost took = { λ x y events.
         (y.lister.sink.ghost_name ≡ x.lister.sink.ghost_name)
-        × (y.lister.faults ≡ counted x.lister.faults (fault_lines things))
-        × Appends (K.held x.lister.sink.now) (K.held y.lister.sink.now) (lines_of things) };
+        × (y.lister.faults ≡ counted x.lister.faults (fault_lines events))
+        × Appends (K.held x.lister.sink.now) (K.held y.lister.sink.now) (lines_of events) };
 
-    // The sink grew by a part of the thing's line, and nothing was counted.
-    ghost broke = { λ x y thing.
+    // The sink grew by a part of the event's line, and nothing was counted.
+    ghost broke = { λ x y event.
         (y.lister.sink.ghost_name ≡ x.lister.sink.ghost_name)
         × (y.lister.faults ≡ x.lister.faults)
-        × ((n : ℕ) × (n < length (lines_of (thing ∷ []))) × Appends (K.held x.lister.sink.now) (K.held y.lister.sink.now) (take n (lines_of (thing ∷ [])))) };
+        × ((n : ℕ) × (n < length (lines_of (event ∷ []))) × Appends (K.held x.lister.sink.now) (K.held y.lister.sink.now) (take n (lines_of (event ∷ [])))) };
 
-    fn hear(&mut self, told: Told<'_>) -> Result<(), Failed> {
-        self.lister.hear(told)
+    fn hear(&mut self, event: EventRef<'_>) -> Result<(), Failed> {
+        self.lister.hear(event)
     }
 
     ghost took_none = { λ x. (refl, counted_none x.lister.faults, appends_none (K.held x.lister.sink.now)) };
@@ -70,19 +70,19 @@ impl<'a, K: Sink> Ear for TrackLister<'a, K> {
 
 impl<'a, K: Sink> TrackEar for TrackLister<'a, K> {
     ghost use Rattle.std.proofs.Common.{refl, ◌∙◌};
-    ghost use Rattle.hdmi_cli.specs.TrackText.{tracks_none, tracks_both, grows_none, grows_both, written_things, things_written, counted_things, things_counted};
+    ghost use Rattle.hdmi_cli.specs.TrackText.{tracks_none, tracks_both, grows_none, grows_both, written_events, events_written, counted_events, events_counted};
 
     // The sink grew by the lines of the events, and the count by those of faults and slips.
-    ghost tracked = { λ x y events.
+    ghost tracked = { λ x y track_events.
         (y.lister.sink.ghost_name ≡ x.lister.sink.ghost_name)
-        × (y.lister.faults ≡ counted x.lister.faults (track_faults events))
-        × Appends (K.held x.lister.sink.now) (K.held y.lister.sink.now) (track_lines events) };
+        × (y.lister.faults ≡ counted x.lister.faults (track_faults track_events))
+        × Appends (K.held x.lister.sink.now) (K.held y.lister.sink.now) (track_lines track_events) };
 
     // The sink grew by a part of the event's line, and nothing was counted.
-    ghost lost = { λ x y event.
+    ghost lost = { λ x y track_event.
         (y.lister.sink.ghost_name ≡ x.lister.sink.ghost_name)
         × (y.lister.faults ≡ x.lister.faults)
-        × ((n : ℕ) × (n < length (event_text event)) × Appends (K.held x.lister.sink.now) (K.held y.lister.sink.now) (take n (event_text event))) };
+        × ((n : ℕ) × (n < length (track_event_text track_event)) × Appends (K.held x.lister.sink.now) (K.held y.lister.sink.now) (take n (track_event_text track_event))) };
 
     fn slip(&mut self, lane: u8, place: u64) -> Result<(), Failed> {
         self.lister.slip(lane, place)
@@ -96,10 +96,10 @@ impl<'a, K: Sink> TrackEar for TrackLister<'a, K> {
       grows_both (K.held x.lister.sink.now) (K.held y.lister.sink.now) (K.held z.lister.sink.now) h k first.2 then.2,
     ) };
 
-    ghost tracked_things = { λ x y h. (
-      λ t. (t.0, counted_things x.lister.faults y.lister.faults h t.1, written_things (K.held x.lister.sink.now) (K.held y.lister.sink.now) h t.2),
-      λ t. (t.0, things_counted x.lister.faults y.lister.faults h t.1, things_written (K.held x.lister.sink.now) (K.held y.lister.sink.now) h t.2),
+    ghost tracked_events = { λ x y h. (
+      λ t. (t.0, counted_events x.lister.faults y.lister.faults h t.1, written_events (K.held x.lister.sink.now) (K.held y.lister.sink.now) h t.2),
+      λ t. (t.0, events_counted x.lister.faults y.lister.faults h t.1, events_written (K.held x.lister.sink.now) (K.held y.lister.sink.now) h t.2),
     ) };
 
-    ghost lost_thing = { λ x y t. (λ l. l, λ l. l) };
+    ghost lost_event = { λ x y t. (λ l. l, λ l. l) };
 }

@@ -5,9 +5,9 @@ ghost use Rattle.capture_file.specs.Captures.{CanSay, IsCaptureOf};
 ghost use Rattle.link_sink.specs.Pieces.{no_bits};
 ghost use Rattle.link_sink.specs.Sinks.{Fed};
 ghost use Rattle.track_sink.specs.Epochs.{IsTrack};
-ghost use Rattle.track_sink.specs.Events.{Event};
-ghost use Rattle.track_sink.specs.TrackSinks.{StandsFor, most_bits};
-ghost use Rattle.hdmi_cli.specs.Hearings.{IsCausedBy, refused_as};
+ghost use Rattle.track_sink.specs.TrackEvents.{TrackEvent};
+ghost use Rattle.track_sink.specs.TrackSinks.{TrackSinkRepresents, most_bits};
+ghost use Rattle.hdmi_cli.specs.Hearings.{IsCausedBy};
 ghost use Rattle.hdmi_cli.specs.Tracking.{AreFollowed, FollowedOn, HasFollowed, HasFollowedAll, StopsOn};
 
 use crate::hearing::{HearError, refused};
@@ -98,9 +98,9 @@ pub(crate) fn follow_capture<R: Threads, S: Source, E: TrackEar>(
     ear: &mut E,
 ) -> Result<TrackOutcome, HearError>
     requires open { sink.old.is_open ≡ true }
-    requires fresh { StandsFor sink.old no_bits [] }
+    requires fresh { TrackSinkRepresents sink.old no_bits [] }
     requires unfed { most_bits sink.old ≡ 0 }
-    ensures heard { IfOk result (λ outcome. (fed : Fed) × (events : List Event) × IsTrack fed outcome.epochs outcome.aligned events × E.tracked ear.old ear.new events
+    ensures heard { IfOk result (λ outcome. (fed : Fed) × (track_events : List TrackEvent) × IsTrack fed outcome.epochs outcome.aligned track_events × E.tracked ear.old ear.new track_events
         × ((bytes : List ℕ) → S.left input.old ≡ Some bytes → IsCaptureOf fed.blue fed.green fed.red bytes)) }
     ensures ended { OnOk result (IsAtEnd (S.left input.new)) }
     ensures short { IfErr result (StopsOn E.tracked E.lost (S.left input.old) (S.left input.new) ear.old ear.new) }

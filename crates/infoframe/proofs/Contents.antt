@@ -19,23 +19,23 @@ avi_bytes x free1 free4 free5 =
     ∷ bar_bytes x.bars
 
 unfoldable pub audio_bytes : AudioInfo → ℕ → ℕ → ℕ → ℕ → List ℕ → List ℕ
-audio_bytes x free1 free2 free3 free5 behind =
+audio_bytes x free1 free2 free3 free5 after =
     (x.cc + 8 * free1 + 16 * x.ct)
     ∷ (x.ss + 4 * x.sf + 32 * free2)
     ∷ free3
     ∷ x.ca
     ∷ (free5 + 8 * x.lsv + 128 * x.dm)
-    ∷ behind
+    ∷ after
 
 -- bars behind five bytes
-bars_behind : (bars : List ℕ) (b1 b2 b3 b4 b5 : ℕ) → length bars ≡ 4 → ((k : ℕ) → get_or bars k 0 < 65536)
+bars_after : (bars : List ℕ) (b1 b2 b3 b4 b5 : ℕ) → length bars ≡ 4 → ((k : ℕ) → get_or bars k 0 < 65536)
     → (let xs : List ℕ = b1 ∷ b2 ∷ b3 ∷ b4 ∷ b5 ∷ bar_bytes bars in field xs 6 0 15 ∷ field xs 8 0 15 ∷ field xs 10 0 15 ∷ field xs 12 0 15 ∷ []) ≡ bars
-bars_behind [] b1 b2 b3 b4 b5 long below = absurd (omega arith)
-bars_behind (p ∷ []) b1 b2 b3 b4 b5 long below = absurd (omega arith)
-bars_behind (p ∷ (q ∷ [])) b1 b2 b3 b4 b5 long below = absurd (omega arith)
-bars_behind (p ∷ (q ∷ (r ∷ []))) b1 b2 b3 b4 b5 long below = absurd (omega arith)
-bars_behind (p ∷ (q ∷ (r ∷ (s ∷ (t ∷ bars))))) b1 b2 b3 b4 b5 long below = absurd (omega arith)
-bars_behind (p ∷ (q ∷ (r ∷ (s ∷ [])))) b1 b2 b3 b4 b5 long below =
+bars_after [] b1 b2 b3 b4 b5 long below = absurd (omega arith)
+bars_after (p ∷ []) b1 b2 b3 b4 b5 long below = absurd (omega arith)
+bars_after (p ∷ (q ∷ [])) b1 b2 b3 b4 b5 long below = absurd (omega arith)
+bars_after (p ∷ (q ∷ (r ∷ []))) b1 b2 b3 b4 b5 long below = absurd (omega arith)
+bars_after (p ∷ (q ∷ (r ∷ (s ∷ (t ∷ bars))))) b1 b2 b3 b4 b5 long below = absurd (omega arith)
+bars_after (p ∷ (q ∷ (r ∷ (s ∷ [])))) b1 b2 b3 b4 b5 long below =
     let xs : List ℕ = b1 ∷ b2 ∷ b3 ∷ b4 ∷ b5 ∷ bar_bytes (p ∷ q ∷ r ∷ s ∷ []) in
     let e6 : field xs 6 0 15 ≡ p = field_of_two xs 6 (omega arith) (omega arith) (omega arith) ∙ whole p (below 0) in
     let e8 : field xs 8 0 15 ≡ q = field_of_two xs 8 (omega arith) (omega arith) (omega arith) ∙ whole q (below 1) in
@@ -64,7 +64,7 @@ avi_of_bytes x h long below =
     let e_itc : field xs 3 7 7 ≡ x.itc = field_in_byte xs 3 7 7 (omega arith) (omega arith) (omega arith) ∙ (omega arith) in
     let e_vic : field xs 4 0 6 ≡ x.vic = field_in_byte xs 4 0 6 (omega arith) (omega arith) (omega arith) ∙ (omega arith) in
     let e_pr : field xs 5 0 3 ≡ x.pr = field_in_byte xs 5 0 3 (omega arith) (omega arith) (omega arith) ∙ (omega arith) in
-    let e_bars = bars_behind x.bars (x.s + 4 * x.b + 16 * x.a + 32 * x.y + 128 * 0) (x.r + 16 * x.m + 64 * x.c) (x.sc + 4 * x.q + 16 * x.ec + 128 * x.itc) (x.vic + 128 * 0) (x.pr + 16 * 0) long below in
+    let e_bars = bars_after x.bars (x.s + 4 * x.b + 16 * x.a + 32 * x.y + 128 * 0) (x.r + 16 * x.m + 64 * x.c) (x.sc + 4 * x.q + 16 * x.ec + 128 * x.itc) (x.vic + 128 * 0) (x.pr + 16 * 0) long below in
     λ i. record { s = e_s i; b = e_b i; a = e_a i; y = e_y i; r = e_r i; m = e_m i; c = e_c i; sc = e_sc i; q = e_q i; ec = e_ec i; itc = e_itc i; vic = e_vic i; pr = e_pr i; bars = e_bars i }
 
 -- and no other bits

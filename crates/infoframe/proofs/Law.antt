@@ -324,7 +324,7 @@ one_writing info p q h wp wq =
     let long = same_length p q header in (
       header,
       sym (take-append-drop (length_in p + 1) p.bodies)
-          ∙ ap₂ (λ (xs ys : List ℕ). xs ++ ys) begin.1 (wp.behind ∙ ap (λ n. replicate (27 - n) 0) long ∙ sym wq.behind)
+          ∙ ap₂ (λ (xs ys : List ℕ). xs ++ ys) begin.1 (wp.after ∙ ap (λ n. replicate (27 - n) 0) long ∙ sym wq.after)
           ∙ take-append-drop (length_in q + 1) q.bodies,
     )
 
@@ -355,7 +355,7 @@ unfolding reserved_in
 no_high_bits p zeros = zeros 0 0 (omega arith)
 
 pub read_is_written : ReadIsWritten
-read_is_written p verdicts f whole e zeros behind =
+read_is_written p verdicts f whole e zeros after =
     let read = is_read p verdicts f e in
     subst (λ (g : Frame). IsWritten (info_of g) p) read.frame (record {
       whole = whole;
@@ -363,5 +363,5 @@ read_is_written p verdicts f whole e zeros behind =
       checksum = read.checksum;
       says = refl;
       reserved = zeros;
-      behind = behind;
+      after = after;
     })

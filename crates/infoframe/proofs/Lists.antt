@@ -9,16 +9,16 @@ abbrev pub items_from : List ℕ → ℕ → ℕ → List ℕ
 items_from xs j zero = []
 items_from xs j (suc n) = get_or xs j 0 ∷ items_from xs (suc j) n
 
-items_behind : (x : ℕ) (xs : List ℕ) (j n : ℕ) → items_from (x ∷ xs) (suc j) n ≡ items_from xs j n
-items_behind x xs j zero = refl
-items_behind x xs j (suc n) = ap (λ ys. get_or xs j 0 ∷ ys) (items_behind x xs (suc j) n)
+items_after : (x : ℕ) (xs : List ℕ) (j n : ℕ) → items_from (x ∷ xs) (suc j) n ≡ items_from xs j n
+items_after x xs j zero = refl
+items_after x xs j (suc n) = ap (λ ys. get_or xs j 0 ∷ ys) (items_after x xs (suc j) n)
 
 -- a list of n items is these
 pub all_items : (xs : List ℕ) (n : ℕ) → length xs ≡ n → items_from xs 0 n ≡ xs
 all_items [] zero e = refl
 all_items [] (suc n) e = absurd (omega arith)
 all_items (x ∷ xs) zero e = absurd (omega arith)
-all_items (x ∷ xs) (suc n) e = ap (λ ys. x ∷ ys) (items_behind x xs 0 n ∙ all_items xs n (omega arith))
+all_items (x ∷ xs) (suc n) e = ap (λ ys. x ∷ ys) (items_after x xs 0 n ∙ all_items xs n (omega arith))
 
 passed_over : (f : ℕ → Bool) (x : ℕ) (xs : List ℕ) → f x ≡ false → find f (x ∷ xs) ≡ find f xs
 passed_over f x xs h = ap (λ t. cond t (Some x) (find f xs)) h
@@ -55,12 +55,12 @@ take_none zero = refl
 take_none (suc n) = refl
 
 -- a part, without its first item
-pub behind_first : (xs : List ℕ) (n : ℕ) → take (length (take (n + 1) xs) - 1) (drop 1 (take (n + 1) xs)) ≡ take n (drop 1 xs)
-behind_first xs n = take_rest (take (n + 1) xs) 1 ∙ first xs n
+pub after_first : (xs : List ℕ) (n : ℕ) → take (length (take (n + 1) xs) - 1) (drop 1 (take (n + 1) xs)) ≡ take n (drop 1 xs)
+after_first xs n = take_rest (take (n + 1) xs) 1 ∙ first xs n
   where
     first : (ys : List ℕ) (m : ℕ) → drop 1 (take (m + 1) ys) ≡ take m (drop 1 ys)
     first [] m = ap (λ k. drop 1 (take {A = ℕ} k [])) (add-one m) ∙ sym (take_none m)
     first (y ∷ ys) m = ap (λ k. drop 1 (take k (y ∷ ys))) (add-one m)
 
-pub drop_behind_first : (xs : List ℕ) (n : ℕ) → drop (n + 1) xs ≡ drop n (drop 1 xs)
-drop_behind_first xs n = ap (λ k. drop k xs) (omega arith) ∙ sym (drop-drop n 1 xs)
+pub drop_after_first : (xs : List ℕ) (n : ℕ) → drop (n + 1) xs ≡ drop n (drop 1 xs)
+drop_after_first xs n = ap (λ k. drop k xs) (omega arith) ∙ sym (drop-drop n 1 xs)

@@ -13,7 +13,7 @@ use Rattle.infoframe.specs.Written.{padded, info_as, info_of, type_of, version_o
 use Rattle.infoframe.specs.declared.content.Info.{Info}
 use Rattle.infoframe.specs.declared.content.Info.TheVariants.{Raw}
 use Rattle.infoframe.proofs.Bounds.{RawBounds, zeros_of}
-use Rattle.infoframe.proofs.Lists.{drop_behind_first}
+use Rattle.infoframe.proofs.Lists.{drop_after_first}
 
 abbrev frame : ℕ → ℕ → List ℕ → Frame
 frame type_code version payload = record { type_code = type_code; version = version; payload = payload }
@@ -54,8 +54,8 @@ written_from info p payload zeros whole header long few bodies checksum says res
       checksum = checksum;
       says = ap (λ (f : Frame). info_as (kind_of f.type_code f.version) f) e ∙ says;
       reserved = all_zero _ (suc zeros) (λ i. clear i ∷ rest i);
-      behind =
-          ap (λ m. drop (m + 1) p.bodies) n ∙ drop_behind_first p.bodies (length payload)
+      after =
+          ap (λ m. drop (m + 1) p.bodies) n ∙ drop_after_first p.bodies (length payload)
           ∙ ap (drop (length payload)) bodies ∙ drop-append_seam payload _ ∙ ap (λ m. replicate (27 - m) 0) (sym n);
     }
 

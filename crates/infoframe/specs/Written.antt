@@ -74,4 +74,4 @@ pub record IsWritten (info : Info) (p : Packet) : Type 0 where
   pub checksum : sum_of p ≡ 0
   pub says : info_of (frame_in p) ≡ info
   pub reserved : All (λ bits. bits ≡ 0) (reserved_in p)
-  pub behind : drop (length_in p + 1) p.bodies ≡ replicate (27 - length_in p) 0
+  pub after : drop (length_in p + 1) p.bodies ≡ replicate (27 - length_in p) 0

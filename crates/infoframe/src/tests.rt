@@ -1,18 +1,19 @@
 //! Worked frames, and what an independent model of the format reads of them.
 ghost use Rattle.std.specs.Prelude.{◌≤◌, slice_index};
 
-mod vectors;
+mod rows;
 
-use super::*;
-use bch_block::{Verdict, parity32, parity64};
+use crate::{AudioInfo, Avi, Info, InfoFault, InfoKind, InfoRef, Spd, write};
+use bch_block::Verdict::{self, Clean, Lost, Mended};
+use bch_block::{parity32, parity64};
 use island_pack::{Packet, PacketRef, PacketVerdicts};
+use rows::{AVI, OTHERS, RAW, UNWRITTEN};
 use std::process::Abort;
 use std::test::*;
-use vectors::{Row, others, pictures, raw, unwritten};
 
 /// Verdicts on a packet without a fault.
 const CLEAN: PacketVerdicts = PacketVerdicts {
-    blocks: [Verdict::Clean; 5],
+    blocks: [Clean; 5],
     symbols: 0,
 };
 
@@ -25,6 +26,116 @@ fn packet_of(header: &[u8; 3], bodies: &[u8; 28]) -> Packet {
         bodies: *bodies,
         sync,
     }
+}
+
+/// The packet of the digits of a row.
+fn packet_at(header: &str, bodies: &str) -> Result<Packet, Fail> {
+    let mut packet = packet_of(&[0; 3], &[0; 28]);
+    hex::decode_to_slice(header, &mut packet.header)?;
+    hex::decode_to_slice(bodies, &mut packet.bodies)?;
+    Ok(packet)
+}
+
+/// Thirteen numbers: those of the words, and 0 behind them.
+fn numbers_of(words: &str) -> Result<[u8; 13], Fail> {
+    let mut numbers = [0; 13];
+    for (number, word) in numbers.iter_mut().zip(words.split_whitespace()) {
+        *number = word.parse()?;
+    }
+    Ok(numbers)
+}
+
+/// An AVI InfoFrame of its numbers and the digits of its bars.
+fn avi_of(numbers: &[u8; 13], digits: &str) -> Result<Info, Fail> {
+    let [s, b, a, y, r, m, c, sc, q, ec, itc, vic, pr] = *numbers;
+    let mut bytes = [0; 8];
+    hex::decode_to_slice(digits, &mut bytes)?;
+    let [d, e, f, g, h, i, j, k] = bytes;
+    let bars = [[d, e], [f, g], [h, i], [j, k]].map(|bar| u16::from_be_bytes(bar));
+    Ok(Info::Avi(Avi {
+        s,
+        b,
+        a,
+        y,
+        r,
+        m,
+        c,
+        sc,
+        q,
+        ec,
+        itc,
+        vic,
+        pr,
+        bars,
+    }))
+}
+
+/// An audio InfoFrame of its numbers.
+fn audio_of(numbers: &[u8; 13]) -> Info {
+    let [cc, ct, ss, sf, ca, lsv, dm, ..] = *numbers;
+    Info::Audio(AudioInfo {
+        cc,
+        ct,
+        ss,
+        sf,
+        ca,
+        lsv,
+        dm,
+    })
+}
+
+/// A source product description of its kind and the digits of its names.
+fn spd_of(kind: u8, digits: &str) -> Result<Info, Fail> {
+    let (vendor, product) = digits.split_once(' ').ok_or("a vendor of no product")?;
+    let mut spd = Spd {
+        vendor: [0; 8],
+        product: [0; 16],
+        kind,
+    };
+    hex::decode_to_slice(vendor, &mut spd.vendor)?;
+    hex::decode_to_slice(product, &mut spd.product)?;
+    Ok(Info::Spd(spd))
+}
+
+/// An InfoFrame of no known layout, of its type, version and length and the digits of its payload.
+fn raw_of(numbers: &[u8; 13], digits: &str) -> Result<Info, Fail> {
+    let [kind, version, length, ..] = *numbers;
+    let mut bytes = [0; 27];
+    let payload = &mut bytes[..usize::from(length.min(27))];
+    hex::decode_to_slice(digits, payload)?;
+    Ok(Info::Raw {
+        kind,
+        version,
+        length,
+        bytes,
+    })
+}
+
+/// What a row says is read.
+fn wanted(name: &str, numbers: &str, digits: &str) -> Result<Result<Info, InfoFault>, Fail> {
+    let numbers = numbers_of(numbers)?;
+    let info = match name {
+        "avi" => avi_of(&numbers, digits)?,
+        "audio" => audio_of(&numbers),
+        "spd" => spd_of(numbers[0], digits)?,
+        "raw" => raw_of(&numbers, digits)?,
+        "length" => return Ok(Err(InfoFault::Length)),
+        "checksum" => return Ok(Err(InfoFault::Checksum(numbers[0]))),
+        _ => return Err("a name of nothing")?,
+    };
+    Ok(Ok(info))
+}
+
+/// The fields of a row.
+fn fields_of(row: &str) -> [&str; 5] {
+    let mut fields = row.split('|');
+    [
+        fields.next().unwrap_or(""),
+        fields.next().unwrap_or(""),
+        fields.next().unwrap_or(""),
+        fields.next().unwrap_or(""),
+        fields.next().unwrap_or(""),
+    ]
 }
 
 /// What a packet says.
@@ -52,46 +163,32 @@ fn said(packet: &Packet, verdicts: &PacketVerdicts) -> Result<Info, InfoFault>
     })
 }
 
-/// Reads each row.
-fn read_rows(rt: &impl Abort, rows: &[Row]) {
-    for (header, bodies, want) in rows {
-        let packet = packet_of(header, bodies);
+/// Reads each row, and writes what it says where it is written so.
+fn follow(rt: &impl Abort, table: &str, writes: bool) -> Result<(), Fail> {
+    for row in table.split('\n') {
+        let [header, bodies, name, numbers, digits] = fields_of(row);
+        let packet = packet_at(header, bodies)?;
+        let want = wanted(name, numbers, digits)?;
         assert!(rt; packet.header[0] >= 0x80);
-        assert_eq!(rt; said(&packet, &CLEAN), *want);
-    }
-}
-
-/// Reads each row, and writes what it says.
-fn read_and_write_rows(rt: &impl Abort, rows: &[Row]) {
-    read_rows(rt, rows);
-    for (header, bodies, want) in rows {
-        if let Ok(info) = want {
+        assert_eq!(rt; said(&packet, &CLEAN), want, "{row}");
+        if let Ok(info) = want
+            && writes
+        {
             assert!(rt; info.fits());
             let mut out = packet_of(&[9; 3], &[7; 28]);
-            write(info, &mut out);
-            assert_eq!(rt; out, packet_of(header, bodies));
+            write(&info, &mut out);
+            assert_eq!(rt; out, packet, "{row}");
         }
     }
+    Ok(())
 }
 
 #[test]
-fn avi_frames(rt: HostRuntime) {
-    read_and_write_rows(&rt, &pictures::ROWS);
-}
-
-#[test]
-fn other_layouts(rt: HostRuntime) {
-    read_and_write_rows(&rt, &others::ROWS);
-}
-
-#[test]
-fn raw_frames(rt: HostRuntime) {
-    read_and_write_rows(&rt, &raw::ROWS);
-}
-
-#[test]
-fn packets_that_are_not_written_so(rt: HostRuntime) {
-    read_rows(&rt, &unwritten::ROWS);
+fn packets(rt: HostRuntime) -> Result<(), Fail> {
+    for (table, writes) in [(AVI, true), (OTHERS, true), (RAW, true), (UNWRITTEN, false)] {
+        follow(&rt, table, writes)?;
+    }
+    Ok(())
 }
 
 #[test]
@@ -145,57 +242,12 @@ fn lent_parts(rt: HostRuntime) {
 
 /// The blocks that are lost, and the one that is named.
 const LOST: [([Verdict; 5], u8); 6] = [
-    (
-        [
-            Verdict::Lost,
-            Verdict::Clean,
-            Verdict::Clean,
-            Verdict::Clean,
-            Verdict::Clean,
-        ],
-        0,
-    ),
-    (
-        [
-            Verdict::Mended(3),
-            Verdict::Lost,
-            Verdict::Lost,
-            Verdict::Clean,
-            Verdict::Lost,
-        ],
-        1,
-    ),
-    (
-        [
-            Verdict::Clean,
-            Verdict::Clean,
-            Verdict::Lost,
-            Verdict::Mended(0),
-            Verdict::Clean,
-        ],
-        2,
-    ),
-    (
-        [
-            Verdict::Clean,
-            Verdict::Clean,
-            Verdict::Clean,
-            Verdict::Lost,
-            Verdict::Lost,
-        ],
-        3,
-    ),
-    (
-        [
-            Verdict::Mended(1),
-            Verdict::Mended(2),
-            Verdict::Mended(3),
-            Verdict::Mended(4),
-            Verdict::Lost,
-        ],
-        4,
-    ),
-    ([Verdict::Lost; 5], 0),
+    ([Lost, Clean, Clean, Clean, Clean], 0),
+    ([Mended(3), Lost, Lost, Clean, Lost], 1),
+    ([Clean, Clean, Lost, Mended(0), Clean], 2),
+    ([Clean, Clean, Clean, Lost, Lost], 3),
+    ([Mended(1), Mended(2), Mended(3), Mended(4), Lost], 4),
+    ([Lost; 5], 0),
 ];
 
 /// A lost block is told before a wrong length or a wrong sum.

@@ -14,7 +14,7 @@ use Rattle.terc4.proofs.Members.{is_some-value_in}
 use Rattle.bch_block.specs.Bits.{bit}
 use Rattle.island_pack.specs.Nibbles.{nibble_of, nibbles_of, sync_values, header_bits, by_turns, body_bits}
 use Rattle.island_pack.specs.Packets.{IsPacket, BeginsWith, body_of, AreTerc, Carries}
-use Rattle.island_pack.specs.Registers.{crossed_of, laid_nibbles, words_of}
+use Rattle.island_pack.specs.Registers.{crossed_of, laid_nibbles, register_words}
 use Rattle.island_pack.specs.declared.packet.Packet.{Packet}
 use Rattle.island_pack.proofs.Columns.{length-nibbles_of}
 use Rattle.island_pack.proofs.Parts.{each_body}
@@ -61,13 +61,13 @@ bit_at-crossed blocks place =
 -- the columns of laid nibbles
 abbrev AreLaid : List (List ℕ) → ℕ → List ℕ → List ℕ → Bool → Type 0
 AreLaid columns header bodies sync first =
-    (k : ℕ) → k < 32 → get_or columns k [] ≡ words_of (laid_nibbles header bodies (slice_index sync k) first k)
+    (k : ℕ) → k < 32 → get_or columns k [] ≡ register_words (laid_nibbles header bodies (slice_index sync k) first k)
 
 word_at : (columns : List (List ℕ)) (header : ℕ) (bodies sync : List ℕ) (first : Bool) → AreLaid columns header bodies sync first → (k : ℕ) → k < 32
     → (slice_index (get_or columns k []) 0 ≡ slice_index terc_words (blue_at header (slice_index sync k) first k))
     × (slice_index (get_or columns k []) 1 ≡ slice_index terc_words (crossed_of bodies (2 * k)))
     × (slice_index (get_or columns k []) 2 ≡ slice_index terc_words (crossed_of bodies (2 * k + 1)))
-unfolding words_of laid_nibbles blue_at
+unfolding register_words laid_nibbles blue_at
 word_at columns header bodies sync first laid k lt = (
   ap (λ (ws : List ℕ). slice_index ws 0) (laid k lt),
   ap (λ (ws : List ℕ). slice_index ws 1) (laid k lt),

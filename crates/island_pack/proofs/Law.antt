@@ -6,7 +6,7 @@ use Rattle.std.proofs.lemmas.List.Sums.{sum_by-append}
 use Rattle.tmds_word.specs.Bits.{number}
 use Rattle.tmds_word.proofs.Numbers.{number-bits_of}
 use Rattle.terc4.specs.Tables.{is_terc}
-use Rattle.bch_block.specs.Bits.{byte_bits, bits_of}
+use Rattle.bch_block.specs.Bits.{byte_bits, bits_of_bytes}
 use Rattle.bch_block.specs.declared.Verdict.{Verdict}
 use Rattle.bch_block.specs.declared.Verdict.TheVariants.{Clean}
 use Rattle.bch_block.proofs.Bytes.{bits_of-append}
@@ -26,13 +26,13 @@ byte_from b rest lt =
 
 -- bytes with the same bits are the same
 same_bytes : (xs ys : List ℕ) → length xs ≡ length ys → ((k : ℕ) → k < length xs → get_or xs k 0 < 256) → ((k : ℕ) → k < length ys → get_or ys k 0 < 256)
-    → bits_of xs ≡ bits_of ys → xs ≡ ys
+    → bits_of_bytes xs ≡ bits_of_bytes ys → xs ≡ ys
 same_bytes [] [] long fx fy e = refl
 same_bytes [] (y ∷ ys) long fx fy e = absurd (omega arith)
 same_bytes (x ∷ xs) [] long fx fy e = absurd (omega arith)
 same_bytes (x ∷ xs) (y ∷ ys) long fx fy e =
     ap₂ (λ a (rest : List ℕ). a ∷ rest)
-    (byte_from x (bits_of xs) (fx 0 (omega arith)) ∙ ap (λ z. number (take 8 z)) e ∙ sym (byte_from y (bits_of ys) (fy 0 (omega arith))))
+    (byte_from x (bits_of_bytes xs) (fx 0 (omega arith)) ∙ ap (λ z. number (take 8 z)) e ∙ sym (byte_from y (bits_of_bytes ys) (fy 0 (omega arith))))
     (same_bytes xs ys (omega arith) (λ k lt. fx (suc k) (omega arith)) (λ k lt. fy (suc k) (omega arith)) (ap (drop 8) e))
 
 -- what is taken from a block is clean
@@ -41,7 +41,7 @@ clean_of x bytes taken n v few long b t = one_verdict x v Clean (omega (arith, b
 
 -- and has the same bits
 bits_taken : (x : List Bool) (bytes taken : List ℕ) (n : ℕ) (v : Verdict) → length bytes ≡ n → length taken ≡ n → BeginsWith x bytes → IsTaken x taken v → v ≡ Clean
-    → bits_of taken ≡ bits_of bytes
+    → bits_of_bytes taken ≡ bits_of_bytes bytes
 bits_taken x bytes taken n v long same b t clean =
     t.begins ∙ ap₂ (λ m y. take (8 * m) y) (same ∙ sym long) (ap (after x) clean) ∙ b.begins
 
@@ -51,17 +51,17 @@ length-body_of packet long b lt =
 
 -- the bits of 28 bytes, seven bytes at a time
 four_parts : (xs : List ℕ) → length xs ≡ 28
-    → bits_of xs ≡ bits_of (take 7 xs) ++ (bits_of (take 7 (drop 7 xs)) ++ (bits_of (take 7 (drop 14 xs)) ++ bits_of (take 7 (drop 21 xs))))
+    → bits_of_bytes xs ≡ bits_of_bytes (take 7 xs) ++ (bits_of_bytes (take 7 (drop 7 xs)) ++ (bits_of_bytes (take 7 (drop 14 xs)) ++ bits_of_bytes (take 7 (drop 21 xs))))
 four_parts xs long =
-    ap bits_of (next_part xs 0 7) ∙ bits_of-append (take 7 xs) (drop 7 xs)
-    ∙ ap (λ z. bits_of (take 7 xs) ++ z)
-    (ap bits_of (next_part xs 7 7) ∙ bits_of-append (take 7 (drop 7 xs)) (drop 14 xs)
-    ∙ ap (λ z. bits_of (take 7 (drop 7 xs)) ++ z)
-    (ap bits_of (next_part xs 14 7) ∙ bits_of-append (take 7 (drop 14 xs)) (drop 21 xs)
-    ∙ ap (λ z. bits_of (take 7 (drop 14 xs)) ++ z)
-    (ap bits_of (sym (whole_list (drop 21 xs) 7 (omega (arith, long, length-drop 21 xs)))))))
+    ap bits_of_bytes (next_part xs 0 7) ∙ bits_of-append (take 7 xs) (drop 7 xs)
+    ∙ ap (λ z. bits_of_bytes (take 7 xs) ++ z)
+    (ap bits_of_bytes (next_part xs 7 7) ∙ bits_of-append (take 7 (drop 7 xs)) (drop 14 xs)
+    ∙ ap (λ z. bits_of_bytes (take 7 (drop 7 xs)) ++ z)
+    (ap bits_of_bytes (next_part xs 14 7) ∙ bits_of-append (take 7 (drop 14 xs)) (drop 21 xs)
+    ∙ ap (λ z. bits_of_bytes (take 7 (drop 14 xs)) ++ z)
+    (ap bits_of_bytes (sym (whole_list (drop 21 xs) 7 (omega (arith, long, length-drop 21 xs)))))))
 
-same_bodies : (p q : Packet) → length p.bodies ≡ 28 → length q.bodies ≡ 28 → ((b : ℕ) → b < 4 → bits_of (body_of q b) ≡ bits_of (body_of p b)) → bits_of q.bodies ≡ bits_of p.bodies
+same_bodies : (p q : Packet) → length p.bodies ≡ 28 → length q.bodies ≡ 28 → ((b : ℕ) → b < 4 → bits_of_bytes (body_of q b) ≡ bits_of_bytes (body_of p b)) → bits_of_bytes q.bodies ≡ bits_of_bytes p.bodies
 same_bodies p q lp lq e =
     four_parts q.bodies lq
     ∙ ap₂ (λ x y. x ++ y) (e 0 (omega arith))

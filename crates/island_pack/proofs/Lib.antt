@@ -1,7 +1,7 @@
 pub mod Parts
 pub mod Runs
 pub mod Registers
-mod Columns
+pub mod Columns
 pub mod WordColumns
 pub mod PixelColumns
 mod Parities

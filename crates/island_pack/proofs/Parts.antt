@@ -133,8 +133,8 @@ seven_of : (xs ys : List ℕ) → length xs ≡ 7 → take 7 (xs ++ ys) ≡ xs
 seven_of xs ys l = ap (λ n. take n (xs ++ ys)) (sym l) ∙ take-append_seam xs ys
 
 -- what stands behind a list of n items
-behind : (xs ys : List ℕ) (n : ℕ) → length xs ≡ n → drop n (xs ++ ys) ≡ ys
-behind xs ys n l = ap (λ m. drop m (xs ++ ys)) (sym l) ∙ drop-append_seam xs ys
+after : (xs ys : List ℕ) (n : ℕ) → length xs ≡ n → drop n (xs ++ ys) ≡ ys
+after xs ys n l = ap (λ m. drop m (xs ++ ys)) (sym l) ∙ drop-append_seam xs ys
 
 pub body_0 : (a b c d : List ℕ) → length a ≡ 7 → take 7 (a ++ b ++ c ++ d) ≡ a
 body_0 a b c d la = ap (take 7) (append_assoc (a ++ b) c d ∙ append_assoc a b (c ++ d)) ∙ seven_of a (b ++ (c ++ d)) la
@@ -142,16 +142,16 @@ body_0 a b c d la = ap (take 7) (append_assoc (a ++ b) c d ∙ append_assoc a b 
 pub body_1 : (a b c d : List ℕ) → length a ≡ 7 → length b ≡ 7 → take 7 (drop 7 (a ++ b ++ c ++ d)) ≡ b
 body_1 a b c d la lb =
     ap (λ ys. take 7 (drop 7 ys)) (append_assoc (a ++ b) c d ∙ append_assoc a b (c ++ d))
-    ∙ ap (take 7) (behind a (b ++ (c ++ d)) 7 la) ∙ seven_of b (c ++ d) lb
+    ∙ ap (take 7) (after a (b ++ (c ++ d)) 7 la) ∙ seven_of b (c ++ d) lb
 
 pub body_2 : (a b c d : List ℕ) → length a ≡ 7 → length b ≡ 7 → length c ≡ 7 → take 7 (drop 14 (a ++ b ++ c ++ d)) ≡ c
 body_2 a b c d la lb lc =
     ap (λ ys. take 7 (drop 14 ys)) (append_assoc (a ++ b) c d)
-    ∙ ap (take 7) (behind (a ++ b) (c ++ d) 14 (omega (arith, length-append a b))) ∙ seven_of c d lc
+    ∙ ap (take 7) (after (a ++ b) (c ++ d) 14 (omega (arith, length-append a b))) ∙ seven_of c d lc
 
 pub body_3 : (a b c d : List ℕ) → length a ≡ 7 → length b ≡ 7 → length c ≡ 7 → length d ≡ 7 → take 7 (drop 21 (a ++ b ++ c ++ d)) ≡ d
 body_3 a b c d la lb lc ld =
-    ap (take 7) (behind (a ++ b ++ c) d 21 (omega (arith, length-append (a ++ b) c, length-append a b)))
+    ap (take 7) (after (a ++ b ++ c) d 21 (omega (arith, length-append (a ++ b) c, length-append a b)))
     ∙ whole_list d 7 ld
 
 -- what holds of each of four bodies

@@ -3,7 +3,7 @@ use Rattle.std.proofs.Common.{◌≡◌, ℕ, suc, zero, ◌+◌, ◌*◌, ◌/�
 use Rattle.std.proofs.Math.Seq.{take-append_seam}
 use Rattle.tmds_word.specs.Bits.{bits_of as number_bits}
 use Rattle.tmds_word.proofs.Lists.{bits_of-byte}
-use Rattle.bch_block.specs.Bits.{byte_bits, bits_of}
+use Rattle.bch_block.specs.Bits.{byte_bits, bits_of_bytes}
 use Rattle.bch_block.specs.Block.{IsBlock}
 use Rattle.bch_block.specs.Repair.{IsVerdict, Repairs}
 use Rattle.bch_block.specs.declared.Verdict.{Verdict}
@@ -54,7 +54,7 @@ first_byte k b m lt =
     bits_of-byte k (b + 256 * m) ∙ ap₂ (λ l h. number_bits 8 l ++ number_bits k h) low high ∙ ap (λ xs. xs ++ number_bits k m) (eight_bits b)
 
 -- its bits are those of the bytes
-pub bits_of_number : (bs : List ℕ) (k : ℕ) → k ≡ 8 * length bs → ((i : ℕ) → get_or bs i 0 < 256) → number_bits k (number_of bs) ≡ bits_of bs
+pub bits_of_number : (bs : List ℕ) (k : ℕ) → k ≡ 8 * length bs → ((i : ℕ) → get_or bs i 0 < 256) → number_bits k (number_of bs) ≡ bits_of_bytes bs
 unfolding number_of number_bits
 bits_of_number [] k e f = ap (λ j. number_bits j 0) e
 bits_of_number (b ∷ bs) k e f =
@@ -68,20 +68,20 @@ unfolding number_of
 number_of_four a b c d n e = omega arith
 
 -- bytes with one byte more that makes a block
-pub begins : (x : List Bool) (bytes : List ℕ) (p : ℕ) → x ≡ bits_of (bytes ++ p ∷ []) → IsBlock (bits_of (bytes ++ p ∷ [])) → BeginsWith x bytes
+pub begins : (x : List Bool) (bytes : List ℕ) (p : ℕ) → x ≡ bits_of_bytes (bytes ++ p ∷ []) → IsBlock (bits_of_bytes (bytes ++ p ∷ [])) → BeginsWith x bytes
 begins x bytes p e block = record {
   bits = ap length e ∙ length-bits_of (bytes ++ p ∷ []) ∙ ap (λ n. 8 * n) (length-append bytes (p ∷ [])) ∙ omega arith;
   begins =
       ap₂ take (sym (length-bits_of bytes)) (e ∙ bits_of-append bytes (p ∷ []))
-      ∙ take-append_seam (bits_of bytes) (bits_of (p ∷ []));
+      ∙ take-append_seam (bits_of_bytes bytes) (bits_of_bytes (p ∷ []));
   block = subst IsBlock (sym e) block;
 }
 
 -- what is repaired
-pub repaired : (old new : List ℕ) (v : Verdict) → Repairs old new v → bits_of new ≡ after (bits_of old) v
-repaired old new Clean r = ap bits_of r
+pub repaired : (old new : List ℕ) (v : Verdict) → Repairs old new v → bits_of_bytes new ≡ after (bits_of_bytes old) v
+repaired old new Clean r = ap bits_of_bytes r
 repaired old new (Mended i) r = r
-repaired old new Lost r = ap bits_of r
+repaired old new Lost r = ap bits_of_bytes r
 
 -- a number of four bytes, byte by byte
 pub byte_0 : (p q r s : ℕ) → p < 256 → (p + 256 * q + 65536 * r + 16777216 * s) % 256 ≡ p
@@ -97,7 +97,7 @@ pub byte_3 : (p q r s : ℕ) → p < 256 → q < 256 → r < 256 → s < 256 →
 byte_3 p q r s lp lq lr ls = omega arith
 
 -- bytes of a known number that the bits begin with
-pub taken : (x : List Bool) (bytes : List ℕ) (n : ℕ) (v : Verdict) → IsVerdict x v → length bytes ≡ n → bits_of bytes ≡ take (8 * n) (after x v) → IsTaken x bytes v
+pub taken : (x : List Bool) (bytes : List ℕ) (n : ℕ) (v : Verdict) → IsVerdict x v → length bytes ≡ n → bits_of_bytes bytes ≡ take (8 * n) (after x v) → IsTaken x bytes v
 taken x bytes n v is long e = record { found = is; begins = e ∙ ap (λ m. take (8 * m) (after x v)) (sym long) }
 
 pub fits_four : (a b c d : ℕ) → a < 256 → b < 256 → c < 256 → d < 256 → (i : ℕ) → get_or (a ∷ b ∷ c ∷ d ∷ []) i 0 < 256

@@ -6,7 +6,7 @@ use Rattle.std.proofs.lemmas.List.Elements.{All-get_or, All-take, All-drop}
 use Rattle.std.proofs.lemmas.List.{take-append-drop, drop-drop, take_all, length-map}
 use Rattle.tmds_word.specs.Bits.{number, bits_of as number_bits}
 use Rattle.tmds_word.proofs.Numbers.{number-bits_of}
-use Rattle.bch_block.specs.Bits.{byte_bits, bits_of, flipped}
+use Rattle.bch_block.specs.Bits.{byte_bits, bits_of_bytes, flipped}
 use Rattle.bch_block.specs.Block.{IsBlock}
 use Rattle.bch_block.specs.Division.{Remainder, nothing, remainder, power}
 use Rattle.bch_block.specs.Repair.{IsVerdict}
@@ -128,11 +128,11 @@ first_byte b rest lt =
     let e : b % 2 ^ 8 ≡ b = omega arith in
     ap number (sym (eight_bits b)) ∙ number-bits_of 8 b ∙ e
 
-bytes_are : (bs : List ℕ) (rest : List Bool) → ((k : ℕ) → k < length bs → get_or bs k 0 < 256) → bytes_in (length bs) (bits_of bs ++ rest) ≡ bs
+bytes_are : (bs : List ℕ) (rest : List Bool) → ((k : ℕ) → k < length bs → get_or bs k 0 < 256) → bytes_in (length bs) (bits_of_bytes bs ++ rest) ≡ bs
 unfolding bytes_in
 bytes_are [] rest fits = refl
 bytes_are (b ∷ bs) rest fits =
-    ap₂ (λ x (xs : List ℕ). x ∷ xs) (first_byte b (bits_of bs ++ rest) (fits 0 (omega arith))) (bytes_are bs rest (λ k lt. fits (suc k) (omega arith)))
+    ap₂ (λ x (xs : List ℕ). x ∷ xs) (first_byte b (bits_of_bytes bs ++ rest) (fits 0 (omega arith))) (bytes_are bs rest (λ k lt. fits (suc k) (omega arith)))
 
 -- the bytes that are taken of a block
 pub bytes_taken : (x : List Bool) (bytes : List ℕ) (n : ℕ) (v : Verdict) → length bytes ≡ n → ((k : ℕ) → k < length bytes → get_or bytes k 0 < 256) → 8 ≤ length x → length x ≤ 64

@@ -5,7 +5,7 @@ use Rattle.std.proofs.lemmas.List.Elements.{All-nil, All-cons}
 use Rattle.std.proofs.Math.Seq.{take-add}
 use Rattle.tmds_word.specs.Bits.{number, bits_of as number_bits}
 use Rattle.tmds_word.proofs.Numbers.{number-take, bits_of-number}
-use Rattle.bch_block.specs.Bits.{byte_bits, bits_of}
+use Rattle.bch_block.specs.Bits.{byte_bits, bits_of_bytes}
 use Rattle.bch_block.specs.declared.Verdict.{Verdict}
 use Rattle.bch_block.specs.declared.Verdict.TheVariants.{Clean, Mended, Lost}
 use Rattle.bch_block.proofs.Distances.{length-flipped}
@@ -21,7 +21,7 @@ byte_back y long =
     let n = length-take-le 8 y long in
     sym (eight_bits (number (take 8 y))) ∙ ap (λ k. number_bits k (number (take 8 y))) (sym n) ∙ bits_of-number (take 8 y)
 
-bytes_back : (n : ℕ) (y : List Bool) → 8 * n ≤ length y → bits_of (bytes_in n y) ≡ take (8 * n) y
+bytes_back : (n : ℕ) (y : List Bool) → 8 * n ≤ length y → bits_of_bytes (bytes_in n y) ≡ take (8 * n) y
 unfolding bytes_in
 bytes_back zero y long = refl
 bytes_back (suc n) y long =

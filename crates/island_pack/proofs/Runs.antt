@@ -29,28 +29,28 @@ one v = record { value = v; count = 1 }
 abbrev longer : ControlRun → ControlRun
 longer r = record { value = r.value; count = suc r.count }
 
-abbrev behind : Bool → ℕ → ControlRun → List ControlRun
-behind true v r = longer r ∷ []
-behind false v r = r ∷ one v ∷ []
+abbrev after : Bool → ℕ → ControlRun → List ControlRun
+after true v r = longer r ∷ []
+after false v r = r ∷ one v ∷ []
 
 abbrev more : ℕ → List ControlRun → List ControlRun
 more v [] = one v ∷ []
-more v (r ∷ []) = behind (v == r.value) v r
+more v (r ∷ []) = after (v == r.value) v r
 more v (r ∷ (q ∷ rs)) = r ∷ more v (q ∷ rs)
 
 -- a value before and a value behind do not see one another, but where they are alone
 
-two : (p q : Bool) (u v : ℕ) → (u == v) ≡ p → (v == u) ≡ q → joined p u (one v) [] ≡ behind q v (one u)
+two : (p q : Bool) (u v : ℕ) → (u == v) ≡ p → (v == u) ≡ q → joined p u (one v) [] ≡ after q v (one u)
 two true true u v e d = ap (λ (x : ℕ). record { value = x; count = 2 } ∷ []) (sym (eqb-true u v e))
 two true false u v e d = let k = eq-eqb v u (sym (eqb-true u v e)) in absurd cc
 two false true u v e d = let k = eq-eqb u v (sym (eqb-true v u d)) in absurd cc
 two false false u v e d = refl
 
-beside_one : (p q : Bool) (u v : ℕ) (r : ControlRun) → (u == r.value) ≡ p → (v == r.value) ≡ q → join u (behind q v r) ≡ more v (joined p u r [])
-beside_one true true u v r e d = ap (λ (b : Bool). joined b u (longer r) []) e ∙ sym (ap (λ (b : Bool). behind b v (longer r)) d)
-beside_one true false u v r e d = ap (λ (b : Bool). joined b u r (one v ∷ [])) e ∙ sym (ap (λ (b : Bool). behind b v (longer r)) d)
-beside_one false true u v r e d = ap (λ (b : Bool). joined b u (longer r) []) e ∙ sym (ap (λ (b : Bool). one u ∷ behind b v r) d)
-beside_one false false u v r e d = ap (λ (b : Bool). joined b u r (one v ∷ [])) e ∙ sym (ap (λ (b : Bool). one u ∷ behind b v r) d)
+beside_one : (p q : Bool) (u v : ℕ) (r : ControlRun) → (u == r.value) ≡ p → (v == r.value) ≡ q → join u (after q v r) ≡ more v (joined p u r [])
+beside_one true true u v r e d = ap (λ (b : Bool). joined b u (longer r) []) e ∙ sym (ap (λ (b : Bool). after b v (longer r)) d)
+beside_one true false u v r e d = ap (λ (b : Bool). joined b u r (one v ∷ [])) e ∙ sym (ap (λ (b : Bool). after b v (longer r)) d)
+beside_one false true u v r e d = ap (λ (b : Bool). joined b u (longer r) []) e ∙ sym (ap (λ (b : Bool). one u ∷ after b v r) d)
+beside_one false false u v r e d = ap (λ (b : Bool). joined b u r (one v ∷ [])) e ∙ sym (ap (λ (b : Bool). one u ∷ after b v r) d)
 
 beside_two : (p : Bool) (u v : ℕ) (r q : ControlRun) (rs : List ControlRun) → joined p u r (more v (q ∷ rs)) ≡ more v (joined p u r (q ∷ rs))
 beside_two true u v r q rs = refl
@@ -61,12 +61,12 @@ both_ends u v [] = two (u == v) (v == u) u v refl refl
 both_ends u v (r ∷ []) = beside_one (u == r.value) (v == r.value) u v r refl refl
 both_ends u v (r ∷ (q ∷ rs)) = beside_two (u == r.value) u v r q rs
 
-longest_behind : (vs : List ℕ) (v : ℕ) → longest (vs ++ v ∷ []) ≡ more v (longest vs)
+longest_after : (vs : List ℕ) (v : ℕ) → longest (vs ++ v ∷ []) ≡ more v (longest vs)
 unfolding longest
-longest_behind [] v = refl
-longest_behind (w ∷ vs) v = ap (join w) (longest_behind vs v) ∙ both_ends w v (longest vs)
+longest_after [] v = refl
+longest_after (w ∷ vs) v = ap (join w) (longest_after vs v) ∙ both_ends w v (longest vs)
 
-more_at_end : (v : ℕ) (rs : List ControlRun) (r : ControlRun) → more v (rs ++ r ∷ []) ≡ rs ++ behind (v == r.value) v r
+more_at_end : (v : ℕ) (rs : List ControlRun) (r : ControlRun) → more v (rs ++ r ∷ []) ≡ rs ++ after (v == r.value) v r
 more_at_end v [] r = refl
 more_at_end v (q ∷ []) r = refl
 more_at_end v (q ∷ (s ∷ rs)) r = ap (λ (xs : List ControlRun). q ∷ xs) (more_at_end v (s ∷ rs) r)
@@ -81,7 +81,7 @@ longest_grows zero v rs r vs e same =
 longest_grows (suc n) v rs r vs e same =
     let d : suc r.count + n ≡ r.count + suc n = omega arith in
     ap longest (sym (append_assoc vs (v ∷ []) (replicate n v)))
-    ∙ longest_grows n v rs (longer r) (vs ++ v ∷ []) (longest_behind vs v ∙ ap (more v) e ∙ more_at_end v rs r ∙ ap (λ (b : Bool). rs ++ behind b v r) (eq-eqb v r.value same)) same
+    ∙ longest_grows n v rs (longer r) (vs ++ v ∷ []) (longest_after vs v ∙ ap (more v) e ∙ more_at_end v rs r ∙ ap (λ (b : Bool). rs ++ after b v r) (eq-eqb v r.value same)) same
     ∙ ap (λ (k : ℕ). rs ++ record { value = r.value; count = k } ∷ []) d
 
 -- it has another
@@ -89,7 +89,7 @@ pub longest_turns : (n v : ℕ) (rs : List ControlRun) (r : ControlRun) (vs : Li
 longest_turns n v rs r vs e other =
     let d : 1 + n ≡ suc n = omega arith in
     ap longest (sym (append_assoc vs (v ∷ []) (replicate n v)))
-    ∙ longest_grows n v (rs ++ r ∷ []) (one v) (vs ++ v ∷ []) (longest_behind vs v ∙ ap (more v) e ∙ more_at_end v rs r ∙ ap (λ (b : Bool). rs ++ behind b v r) other ∙ sym (append_assoc rs (r ∷ []) (one v ∷ []))) refl
+    ∙ longest_grows n v (rs ++ r ∷ []) (one v) (vs ++ v ∷ []) (longest_after vs v ∙ ap (more v) e ∙ more_at_end v rs r ∙ ap (λ (b : Bool). rs ++ after b v r) other ∙ sym (append_assoc rs (r ∷ []) (one v ∷ []))) refl
     ∙ ap (λ (k : ℕ). (rs ++ r ∷ []) ++ record { value = v; count = k } ∷ []) d
 
 -- there is none

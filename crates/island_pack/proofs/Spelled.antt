@@ -11,8 +11,8 @@ use Rattle.terc4.specs.Tables.{video_guard}
 use Rattle.island_pack.specs.Periods.{DataIsland, Period, control, video, island, values_of, has_preamble, VIDEO_PREAMBLE, ISLAND_PREAMBLE, pixels_of}
 use Rattle.island_pack.specs.Conforming.{are_bytes, is_control_period, is_video_period, is_sync_pair, is_packet, is_data_island, conforms}
 use Rattle.island_pack.specs.Packets.{IsPacket, BeginsWith, body_of, Carries}
-use Rattle.island_pack.specs.Registers.{laid_nibbles, words_of as words_of_nibbles}
-use Rattle.island_pack.specs.Spelling.{control_column, guard_columns, words_of, SpellsVideo, SpellsPackets, SpellsIsland, SpellsPeriod, Spells}
+use Rattle.island_pack.specs.Registers.{laid_nibbles, register_words as words_of_nibbles}
+use Rattle.island_pack.specs.Spelling.{control_column, guard_columns, column_words, SpellsVideo, SpellsPackets, SpellsIsland, SpellsPeriod, Spells}
 use Rattle.island_pack.specs.Laws.{ConformingIsSpelled}
 use Rattle.island_pack.specs.declared.packet.Packet.{Packet}
 use Rattle.island_pack.proofs.Parts.{each_body}
@@ -65,7 +65,7 @@ get_or-table f (suc n) zero lt = refl
 get_or-table f (suc n) (suc k) lt = get_or-table (λ j. f (suc j)) n k (omega arith)
 
 -- There are columns that carry a packet.
-pub packet_spelled : (p : Packet) (first : Bool) → is_packet p ≡ true → (columns : List Column) × Carries p first (map words_of columns)
+pub packet_spelled : (p : Packet) (first : Bool) → is_packet p ≡ true → (columns : List Column) × Carries p first (map column_words columns)
 packet_spelled p first h =
     let whole = whole_packet p h in
     let small = sync_small p h in

@@ -7,26 +7,26 @@ use Rattle.terc4.specs.Tables.{is_terc}
 use Rattle.bch_block.specs.Bits.{bit}
 use Rattle.island_pack.specs.Nibbles.{nibble_of, nibbles_of, sync_values, header_bits, body_bits, by_turns}
 use Rattle.island_pack.specs.Packets.{Carries, BeginsWith, AreTerc, body_of}
-use Rattle.island_pack.specs.Spelling.{words_of}
+use Rattle.island_pack.specs.Spelling.{column_words}
 use Rattle.island_pack.specs.declared.packet.Packet.{Packet}
 
-word_at : (words : List ℕ) (lane : ℕ) → lane < 3 → slice_index (words_of (column_of words)) lane ≡ slice_index words lane
+word_at : (words : List ℕ) (lane : ℕ) → lane < 3 → slice_index (column_words (column_of words)) lane ≡ slice_index words lane
 word_at words zero lt = refl
 word_at words (suc zero) lt = refl
 word_at words (suc (suc zero)) lt = refl
 word_at words (suc (suc (suc lane))) lt = absurd (omega arith)
 
-nibbles_same : (block : List (List ℕ)) (lane : ℕ) → lane < 3 → nibbles_of (map words_of (map column_of block)) lane ≡ nibbles_of block lane
+nibbles_same : (block : List (List ℕ)) (lane : ℕ) → lane < 3 → nibbles_of (map column_words (map column_of block)) lane ≡ nibbles_of block lane
 unfolding nibbles_of
 nibbles_same [] lane lt = refl
 nibbles_same (words ∷ block) lane lt = ap₂ (λ n (ns : List ℕ). nibble_of n ∷ ns) (word_at words lane lt) (nibbles_same block lane lt)
 
-terc_same : (block : List (List ℕ)) (lane : ℕ) → lane < 3 → AreTerc block lane → AreTerc (map words_of (map column_of block)) lane
+terc_same : (block : List (List ℕ)) (lane : ℕ) → lane < 3 → AreTerc block lane → AreTerc (map column_words (map column_of block)) lane
 terc_same [] lane lt h k d within = absurd (omega arith)
 terc_same (words ∷ block) lane lt h zero d within = ap is_terc (word_at words lane lt) ∙ h zero d (omega arith)
 terc_same (words ∷ block) lane lt h (suc k) d within = terc_same block lane lt (λ i e less. h (suc i) e (omega arith)) k d (omega arith)
 
-pub carries_columns : (p : Packet) (first : Bool) (block : List (List ℕ)) → Carries p first block → Carries p first (map words_of (map column_of block))
+pub carries_columns : (p : Packet) (first : Bool) (block : List (List ℕ)) → Carries p first block → Carries p first (map column_words (map column_of block))
 unfolding sync_values header_bits body_bits
 carries_columns p first block h =
     let blue = nibbles_same block 0 (omega arith) in
@@ -35,7 +35,7 @@ carries_columns p first block h =
     record {
       free = record {
         whole = h.free.whole;
-        count = length-map (map column_of block) words_of ∙ length-map block column_of ∙ h.free.count;
+        count = length-map (map column_of block) column_words ∙ length-map block column_of ∙ h.free.count;
         terc = λ lane lt. terc_same block lane lt (h.free.terc lane lt);
         sync = ap (map (λ n. n % 4)) blue ∙ h.free.sync;
         header = subst (λ bits. BeginsWith bits p.header) (sym (ap (map (λ n. bit n 2)) blue)) h.free.header;

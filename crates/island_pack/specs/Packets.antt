@@ -1,7 +1,7 @@
 -- How 32 columns carry a packet of a data island: HDMI 1.4, sections 5.2.3 and 5.2.3.4.
 use Rattle.std.specs.Prelude.{◌≡◌, ℕ, ◌+◌, ◌*◌, ◌<◌, Bool, true, not, ◌&&◌, ◌==◌, List, length, take, drop, All, slice_index}
 use Rattle.terc4.specs.Tables.{is_terc}
-use Rattle.bch_block.specs.Bits.{bit, bits_of}
+use Rattle.bch_block.specs.Bits.{bit, bits_of_bytes}
 use Rattle.bch_block.specs.Block.{IsBlock}
 use Rattle.island_pack.specs.Nibbles.{nibbles_of, sync_values, header_bits, body_bits}
 use Rattle.island_pack.specs.declared.packet.Packet.{Packet}
@@ -21,7 +21,7 @@ body_of packet b = take 7 (drop (7 * b) packet.bodies)
 -- a block that begins with the bits of bytes and has eight bits more
 pub record BeginsWith (x : List Bool) (bytes : List ℕ) : Type 0 where
   pub bits : length x ≡ 8 * length bytes + 8
-  pub begins : take (8 * length bytes) x ≡ bits_of bytes
+  pub begins : take (8 * length bytes) x ≡ bits_of_bytes bytes
   pub block : IsBlock x
 
 -- each word of a lane is a TERC4 word

@@ -20,5 +20,5 @@ laid_nibbles header bodies sync first i =
     (sync + 4 * bit_at header i + 8 * one_if (not (first && (i == 0)))) ∷ crossed_of bodies (2 * i) ∷ crossed_of bodies (2 * i + 1) ∷ []
 
 -- the TERC4 words of nibbles
-unfoldable pub words_of : List ℕ → List ℕ
-words_of ns = map (λ n. slice_index terc_words n) ns
+unfoldable pub register_words : List ℕ → List ℕ
+register_words ns = map (λ n. slice_index terc_words n) ns

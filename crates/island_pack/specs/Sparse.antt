@@ -3,7 +3,7 @@ use Rattle.std.specs.Prelude.{◌≡◌, ℕ, ◌+◌, ◌<◌, ◌≤◌, not, 
 use Rattle.tmds_word.specs.Column.{Column, blues, greens, reds}
 use Rattle.terc4.specs.Columns.{one_if}
 use Rattle.island_pack.specs.Periods.{Period}
-use Rattle.island_pack.specs.Spelling.{words_of}
+use Rattle.island_pack.specs.Spelling.{column_words}
 use Rattle.island_pack.specs.Kinds.{first_guard, IsPayload, kinds_of, kind_at}
 
 -- how many words of two lists are unlike
@@ -29,7 +29,7 @@ pub record IsNarrow (c : Column) : Type 0 where
 
 -- how many words of column i are unlike
 abbrev pub unlike_at : List Column → List Column → ℕ → ℕ
-unlike_at sent received i = unlike_words (words_of (column_at sent i)) (words_of (column_at received i))
+unlike_at sent received i = unlike_words (column_words (column_at sent i)) (column_words (column_at received i))
 
 -- few words of each column, of each pair of guard columns and of any eleven in a row are unlike, wherever they lie
 pub record IsSparse (periods : List Period) (sent received : List Column) : Type 0 where

@@ -34,8 +34,8 @@ abbrev pub guard_columns : SyncPair → List Column
 guard_columns pair = guard_column pair.first ∷ guard_column pair.second ∷ []
 
 -- the words of a column, lane 0 first
-abbrev pub words_of : Column → List ℕ
-words_of c = c.blue ∷ c.green ∷ c.red ∷ []
+abbrev pub column_words : Column → List ℕ
+column_words c = c.blue ∷ c.green ∷ c.red ∷ []
 
 -- how columns carry a packet, which is an island's first or not
 abbrev pub Carrying : Type 1
@@ -49,7 +49,7 @@ freely p first columns = CarriesFreely p columns
 abbrev pub SpellsPacketsBy : Carrying → Bool → List Packet → List Column → Type 0
 SpellsPacketsBy carries first [] columns = columns ≡ []
 SpellsPacketsBy carries first (p ∷ ps) columns =
-    (own rest : List Column) × (columns ≡ own ++ rest) × carries p first (map words_of own) × SpellsPacketsBy carries false ps rest
+    (own rest : List Column) × (columns ≡ own ++ rest) × carries p first (map column_words own) × SpellsPacketsBy carries false ps rest
 
 -- two guard columns, the packets, and two guard columns
 abbrev pub SpellsIslandBy : Carrying → DataIsland → List Column → Type 0

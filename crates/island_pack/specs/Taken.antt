@@ -1,6 +1,6 @@
 -- What is taken from 32 columns of a data island, some of whose words may be wrong.
 use Rattle.std.specs.Prelude.{◌≡◌, ℕ, ◌*◌, ◌<◌, Bool, List, [], ◌∷◌, length, take, slice_index_or}
-use Rattle.bch_block.specs.Bits.{bits_of, flipped}
+use Rattle.bch_block.specs.Bits.{bits_of_bytes, flipped}
 use Rattle.bch_block.specs.Repair.{IsVerdict}
 use Rattle.bch_block.specs.declared.Verdict.{Verdict}
 use Rattle.bch_block.specs.declared.Verdict.TheVariants.{Clean, Mended, Lost}
@@ -18,7 +18,7 @@ after x Lost = x
 -- bytes, and the verdict under which the bits begin with them
 pub record IsTaken (x : List Bool) (bytes : List ℕ) (verdict : Verdict) : Type 0 where
   pub found : IsVerdict x verdict
-  pub begins : bits_of bytes ≡ take (8 * length bytes) (after x verdict)
+  pub begins : bits_of_bytes bytes ≡ take (8 * length bytes) (after x verdict)
 
 -- the verdict on a block: blocks 0 to 3 are the bodies, block 4 is the header
 abbrev pub verdict_on : PacketVerdicts → ℕ → Verdict

@@ -4,7 +4,7 @@ ghost use Rattle.std.specs.Int.{bit_at};
 ghost use Rattle.tmds_word.specs.Bits.{bits_of};
 ghost use Rattle.terc4.specs.Columns.{one_if};
 ghost use Rattle.island_pack.specs.Packets.{Carries, BeginsWith, body_of};
-ghost use Rattle.island_pack.specs.Registers.{crossed_of, laid_nibbles, words_of};
+ghost use Rattle.island_pack.specs.Registers.{crossed_of, laid_nibbles, register_words};
 
 use crate::packet::Packet;
 use bch_block::{parity32, parity64};
@@ -82,7 +82,7 @@ fn body_block(bodies: &[u8; 28], b: usize) -> u64
 fn column_of(blocks: &Blocks, sync: u8, first: bool, i: u8) -> [Word; 3]
     requires sync { sync < 4 }
     requires column { i < 32 }
-    ensures { result ≡ words_of (laid_nibbles blocks.now.header blocks.now.bodies sync first i) }
+    ensures { result ≡ register_words (laid_nibbles blocks.now.header blocks.now.bodies sync first i) }
 {
     let header_bit = bit(u64::from(blocks.header), i);
     [

@@ -5,6 +5,7 @@ ghost use Rattle.island_pack.specs.Conforming.{is_packet};
 ghost use Rattle.island_pack.specs.Ranges.{is_run_in_range, is_control_in_range, is_line_in_range, are_sync_values, is_island_in_range, has_room};
 
 use crate::Packet;
+use terc4::RUN;
 
 /// CTL0 to CTL3 of the preamble of a video data period: CTL0 alone is 1 (HDMI 1.4, section 5.2.1.1).
 pub const VIDEO_CTL: u8 = 1;
@@ -24,7 +25,7 @@ pub fn is_run_in_range(value: u8, count: u64) -> bool
 pub fn is_control_in_range(columns: u32) -> bool
     ensures { result ≡ is_control_in_range columns }
 {
-    columns >= 12
+    columns >= RUN
 }
 
 /// Whether a video data period may have so many pixels: 1 to 4,096.

@@ -2,7 +2,7 @@
 ghost use Rattle.std.specs.Prelude.{◌≡◌, ◌<◌, ◌≤◌, ◌+◌, ◌*◌, ◌%◌, ◌++◌, ℕ, All, IfSome, length, map, take, drop, slice_index};
 ghost use Rattle.std.specs.Int.{bit_at};
 ghost use Rattle.terc4.specs.Tables.{terc_words, value_in};
-ghost use Rattle.bch_block.specs.Bits.{bit, byte_bits, bits_of};
+ghost use Rattle.bch_block.specs.Bits.{bit, byte_bits, bits_of_bytes};
 ghost use Rattle.island_pack.specs.Nibbles.{nibbles_of, by_turns, foreign_on};
 ghost use Rattle.island_pack.specs.Registers.{spread_of};
 ghost use Rattle.island_pack.specs.Taken.{IsTaken, Taken};
@@ -151,7 +151,7 @@ fn third_bit(nibble: u8) -> u8
 fn quads_of(green: &[u8; 32], red: &[u8; 32]) -> [[u8; 4]; 8]
     requires green { All (λ n. n < 16) green.now }
     requires red { All (λ n. n < 16) red.now }
-    ensures { (b : ℕ) → b < 4 → bits_of (map (λ bytes. slice_index bytes b) result) ≡ by_turns b green.now red.now }
+    ensures { (b : ℕ) → b < 4 → bits_of_bytes (map (λ bytes. slice_index bytes b) result) ≡ by_turns b green.now red.now }
 {
     [
         quad(green, red, 0),
@@ -202,7 +202,7 @@ fn spread(nibble: u8) -> u32
 /// Body b, repaired, and the verdict on its block.
 fn body(quads: &[[u8; 4]; 8], b: usize) -> ([u8; 7], Verdict)
     requires { b < 4 }
-    ensures taken { IsTaken (bits_of (map (λ bytes. slice_index bytes b) quads.now)) result.0 result.1 }
+    ensures taken { IsTaken (bits_of_bytes (map (λ bytes. slice_index bytes b) quads.now)) result.0 result.1 }
     ensures long { length result.0 ≡ 7 }
     ensures bytes { All (λ byte. byte < 256) result.0 }
 {

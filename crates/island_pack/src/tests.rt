@@ -1,15 +1,15 @@
 //! Worked packets, and what an independent model of the format answers.
 ghost use Rattle.std.specs.Prelude.{◌<◌};
 
-mod vectors;
+mod rows;
 
-use super::*;
+use crate::{Packet, PacketRef, PacketVerdicts, lay, take};
 use bch_block::Verdict;
+use rows::{ONE_DAMAGED, TWO_DAMAGED, WHOLE};
 use std::process::Abort;
 use std::test::*;
 use terc4::terc;
 use tmds_word::Word;
-use vectors::{Row, one_hurt, two_hurt, whole};
 
 /// The TERC4 words by their nibbles.
 static TERC4: [u16; 16] = [
@@ -17,117 +17,140 @@ static TERC4: [u16; 16] = [
     0x271, 0x163, 0x2c3,
 ];
 
-/// Columns, lanes and words of the parity bytes e4 behind the header 82 02 0d, and 35 behind the body 66 00 08 00 01 00 00.
-static PARITIES: [(u16, u16, u16); 16] = [
-    (24, 0, 0x2cc),
-    (25, 0, 0x2cc),
-    (26, 0, 0x28e),
-    (27, 0, 0x2cc),
-    (28, 0, 0x2cc),
-    (29, 0, 0x28e),
-    (30, 0, 0x28e),
-    (31, 0, 0x28e),
-    (28, 1, 0x263),
-    (28, 2, 0x29c),
-    (29, 1, 0x263),
-    (29, 2, 0x29c),
-    (30, 1, 0x263),
-    (30, 2, 0x263),
-    (31, 1, 0x29c),
-    (31, 2, 0x29c),
-];
+/// A packet with header and bodies of the worked island, and its parity bytes' words: those of e4 behind the header, and of 35 behind
+/// the first body.
+static WORKED: &str =
+    "82020d 66000800010000000000000000000000000000000000000000000000 00000000000000000000000000000000";
 
-/// Takes a packet out of few numbers.
-fn unpacked(header: u32, bodies: &[u64; 4], sync: u64) -> Packet {
-    let [h0, h1, h2, _] = header.to_le_bytes();
-    let [a0, a1, a2, a3, a4, a5, a6, _] = bodies[0].to_le_bytes();
-    let [b0, b1, b2, b3, b4, b5, b6, _] = bodies[1].to_le_bytes();
-    let [c0, c1, c2, c3, c4, c5, c6, _] = bodies[2].to_le_bytes();
-    let [d0, d1, d2, d3, d4, d5, d6, _] = bodies[3].to_le_bytes();
-    let mut values = [0; 32];
-    let mut rest = sync;
-    for value in values.iter_mut() {
-        *value = (rest % 4) as u8;
-        rest /= 4;
+static PARITIES: &str =
+    "24.0=02cc 25.0=02cc 26.0=028e 27.0=02cc 28.0=02cc 29.0=028e 30.0=028e 31.0=028e 28.1=0263 28.2=029c \
+    29.1=0263 29.2=029c 30.1=0263 30.2=0263 31.1=029c 31.2=029c";
+
+/// A packet: its header, its bodies, and its sync value in each column.
+fn packet_of(text: &str) -> Result<Packet, Fail> {
+    let (header, rest) = text.split_once(' ').ok_or("a packet of no bodies")?;
+    let (bodies, values) = rest.split_once(' ').ok_or("a packet of no sync values")?;
+    let mut packet = Packet {
+        header: [0; 3],
+        bodies: [0; 28],
+        sync: [0; 32],
+    };
+    hex::decode_to_slice(header, &mut packet.header)?;
+    hex::decode_to_slice(bodies, &mut packet.bodies)?;
+    for (value, digit) in packet.sync.iter_mut().zip(values.bytes()) {
+        *value = digit.wrapping_sub(b'0');
     }
-    let bodies = [
-        a0, a1, a2, a3, a4, a5, a6, b0, b1, b2, b3, b4, b5, b6, c0, c1, c2, c3, c4, c5, c6, d0, d1,
-        d2, d3, d4, d5, d6,
-    ];
-    Packet {
-        header: [h0, h1, h2],
-        bodies,
-        sync: values,
-    }
+    Ok(packet)
 }
 
 /// Columns that carry nothing yet.
 fn blank() -> [[Word; 3]; 32] {
-    let word = terc(0);
-    [[word; 3]; 32]
+    [[terc(0); 3]; 32]
 }
 
 /// Puts a word in the place of another one.
-fn hurt(columns: &mut [[Word; 3]; 32], column: u16, lane: u16, number: u16) {
+fn put(columns: &mut [[Word; 3]; 32], column: usize, lane: usize, number: u16) {
     if column < 32 && lane < 3 {
         if let Some(word) = Word::new(number) {
-            columns[usize::from(column)][usize::from(lane)] = word;
+            columns[column][lane] = word;
         }
     }
 }
 
-/// Whether the columns have the words of these nibbles.
-fn stand(columns: &[[Word; 3]; 32], lanes: &[u128; 3]) -> bool {
-    let [mut blue, mut green, mut red] = *lanes;
-    for words in columns {
-        let numbers = [words[0].value(), words[1].value(), words[2].value()];
-        let want = [
-            TERC4[(blue % 16) as usize],
-            TERC4[(green % 16) as usize],
-            TERC4[(red % 16) as usize],
-        ];
-        if numbers != want {
-            return false;
+/// The columns of the nibbles of three lanes.
+fn columns_of(lanes: &str) -> Result<[[Word; 3]; 32], Fail> {
+    let mut columns = blank();
+    for (lane, digits) in lanes.split(' ').enumerate() {
+        let mut nibbles = [0u8; 16];
+        hex::decode_to_slice(digits, &mut nibbles)?;
+        for (i, pair) in nibbles.iter().enumerate() {
+            put(&mut columns, 2 * i, lane, TERC4[usize::from(*pair / 16)]);
+            put(
+                &mut columns,
+                2 * i + 1,
+                lane,
+                TERC4[usize::from(*pair % 16)],
+            );
         }
-        blue /= 16;
-        green /= 16;
-        red /= 16;
     }
-    true
+    Ok(columns)
+}
+
+/// Puts words in the places of others.
+fn damaged(columns: &mut [[Word; 3]; 32], words: &str) -> Result<(), Fail> {
+    for word in words.split_whitespace() {
+        let (place, digits) = word.split_once('=').ok_or("a place of no word")?;
+        let (column, lane) = place.split_once('.').ok_or("a column of no lane")?;
+        let mut number = [0; 2];
+        hex::decode_to_slice(digits, &mut number)?;
+        put(
+            columns,
+            column.parse()?,
+            lane.parse()?,
+            u16::from_be_bytes(number),
+        );
+    }
+    Ok(())
+}
+
+/// The verdict of a word.
+fn verdict_of(word: &str) -> Result<Verdict, Fail> {
+    match word {
+        "-" => Ok(Verdict::Clean),
+        "lost" => Ok(Verdict::Lost),
+        bit => Ok(Verdict::Mended(bit.parse()?)),
+    }
+}
+
+/// The verdicts on the blocks, and how many words are no TERC4 words.
+fn verdicts_of(text: &str) -> Result<PacketVerdicts, Fail> {
+    let (blocks, symbols) = text.rsplit_once(' ').ok_or("verdicts of no words")?;
+    let mut verdicts = PacketVerdicts {
+        blocks: [Verdict::Clean; 5],
+        symbols: symbols.parse()?,
+    };
+    for (verdict, word) in verdicts.blocks.iter_mut().zip(blocks.split(' ')) {
+        *verdict = verdict_of(word)?;
+    }
+    Ok(verdicts)
+}
+
+/// The fields of a row.
+fn fields_of(row: &str) -> [&str; 6] {
+    let mut fields = row.split('|');
+    [
+        fields.next().unwrap_or(""),
+        fields.next().unwrap_or(""),
+        fields.next().unwrap_or(""),
+        fields.next().unwrap_or(""),
+        fields.next().unwrap_or(""),
+        fields.next().unwrap_or(""),
+    ]
 }
 
 /// Lays the packet of each row, hurts its columns, and takes a packet from them.
-fn follow(rt: &impl Abort, rows: &[Row]) {
-    for (
-        first,
-        header,
-        bodies,
-        sync,
-        lanes,
-        damage,
-        then,
-        after,
-        values,
-        v0,
-        v1,
-        v2,
-        v3,
-        v4,
-        symbols,
-    ) in rows {
-        let packet = unpacked(*header, bodies, *sync);
+fn follow(rt: &impl Abort, table: &str) -> Result<(), Fail> {
+    for row in table.split('\n') {
+        let [place, sent, lanes, words, verdicts, reception] = fields_of(row);
+        let packet = packet_of(sent)?;
         assert!(rt; packet.sync.iter().all(|value| *value < 4));
         let mut columns = blank();
-        lay(&packet, *first, &mut columns);
-        assert!(rt; stand(&columns, lanes));
-        let [column, lane, number, other_column, other_lane, other_number] = *damage;
-        hurt(&mut columns, column, lane, number);
-        hurt(&mut columns, other_column, other_lane, other_number);
-        let (taken, verdicts) = take(&columns);
-        assert_eq!(rt; taken, unpacked(*then, after, *values));
-        assert_eq!(rt; verdicts.blocks, [*v0, *v1, *v2, *v3, *v4]);
-        assert_eq!(rt; verdicts.symbols, *symbols);
+        lay(&packet, place == "first", &mut columns);
+        assert!(rt; columns == columns_of(lanes)?, "{row}");
+        damaged(&mut columns, words)?;
+        let (taken, found) = take(&columns);
+        assert_eq!(rt;
+            taken,
+            packet_of(if reception.is_empty() {
+                sent
+            } else {
+                reception
+            })?,
+            "{row}"
+        );
+        assert_eq!(rt; found, verdicts_of(verdicts)?, "{row}");
     }
+    Ok(())
 }
 
 #[test]
@@ -151,49 +174,34 @@ fn null_packet(rt: HostRuntime) {
 }
 
 #[test]
-fn parity_bytes(rt: HostRuntime) {
-    let packet = unpacked(0x0d0282, &[0x00000100080066, 0, 0, 0], 0);
+fn parity_bytes(rt: HostRuntime) -> Result<(), Fail> {
+    let packet = packet_of(WORKED)?;
     assert!(rt; packet.sync.iter().all(|value| *value < 4));
     let mut columns = blank();
     lay(&packet, false, &mut columns);
     let laid = columns;
-    for (column, lane, number) in &PARITIES {
-        hurt(&mut columns, *column, *lane, *number);
-    }
+    damaged(&mut columns, PARITIES)?;
     assert!(rt;
         columns == laid,
         "the words of the parity bytes stand already"
     );
+    Ok(())
 }
 
 #[test]
-fn packets_that_come_whole(rt: HostRuntime) {
-    follow(&rt, &whole::ROWS);
+fn packets(rt: HostRuntime) -> Result<(), Fail> {
+    for table in [WHOLE, ONE_DAMAGED, TWO_DAMAGED] {
+        follow(&rt, table)?;
+    }
+    Ok(())
 }
 
 #[test]
-fn packets_with_one_word_hurt(rt: HostRuntime) {
-    follow(&rt, &one_hurt::ROWS);
-}
-
-#[test]
-fn packets_with_two_words_hurt(rt: HostRuntime) {
-    follow(&rt, &two_hurt::ROWS);
-}
-
-#[test]
-fn lent_packets(rt: HostRuntime) {
-    let packet = unpacked(0x030201, &[0x07060504030201, 8, 9, 10], 0x1b);
-    let verdicts = PacketVerdicts {
-        blocks: [
-            Verdict::Clean,
-            Verdict::Mended(7),
-            Verdict::Lost,
-            Verdict::Clean,
-            Verdict::Mended(3),
-        ],
-        symbols: 9,
-    };
+fn lent_packets(rt: HostRuntime) -> Result<(), Fail> {
+    let packet = packet_of(
+        "010203 0102030405060708000000000000090000000000000a000000000000 32100000000000000000000000000000",
+    )?;
+    let verdicts = verdicts_of("- 7 lost - 3 9")?;
     let lent = PacketRef::new(&packet, &verdicts);
     assert_eq!(rt; *lent.header(), packet.header);
     assert_eq!(rt; *lent.bodies(), packet.bodies);
@@ -201,4 +209,5 @@ fn lent_packets(rt: HostRuntime) {
     assert!(rt; lent.body(1) == &packet.bodies[7..14]);
     assert_eq!(rt; lent.verdict(4), Verdict::Mended(3));
     assert_eq!(rt; lent.symbols(), 9);
+    Ok(())
 }

@@ -10,7 +10,7 @@ use Rattle.tmds_word.specs.Words.{words_of}
 use Rattle.lane_align.specs.Words.{words_from, lane_words}
 use Rattle.lane_align.specs.Lanes.{IsRun, IsLock}
 use Rattle.lane_align.specs.Search.{IsOther, IsFirstOther, Holds}
-use Rattle.lane_align.specs.Aligners.{EndsFirst, Seeks, Cuts, StandsFor}
+use Rattle.lane_align.specs.Aligners.{EndsFirst, Seeks, Cuts, AlignerRepresents}
 use Rattle.lane_align.specs.declared.aligner.LaneAligner.{LaneAligner}
 use Rattle.lane_align.proofs.Controls.{run_within}
 use Rattle.lane_align.proofs.Growing.{run_was, lock_was}
@@ -163,7 +163,7 @@ words_run xs ys used place words within at are =
     ∙ ap (λ n. words_of n (drop place us)) twelve
 
 -- what is known before the lock
-pub seeks_of : (aligner : LaneAligner) (xs : List Bool) → aligner.lock ≡ None → StandsFor aligner xs → Seeks aligner xs
+pub seeks_of : (aligner : LaneAligner) (xs : List Bool) → aligner.lock ≡ None → AlignerRepresents aligner xs → Seeks aligner xs
 seeks_of aligner xs none stands = subst (λ (o : Option ℕ). MatchOption o (Seeks aligner xs) (Cuts aligner xs)) none stands.found
 
 -- nothing is left over before the lock
@@ -174,9 +174,9 @@ empty_of aligner none =
     (held, omega arith)
 
 -- a piece in which no run ended
-pub still_seeks : (old new : LaneAligner) (bytes : List ℕ) (xs : List Bool) (bits : ℕ) → old.lock ≡ None → StandsFor old xs → length old.kept ≡ 16
+pub still_seeks : (old new : LaneAligner) (bytes : List ℕ) (xs : List Bool) (bits : ℕ) → old.lock ≡ None → AlignerRepresents old xs → length old.kept ≡ 16
     → new.fed ≡ old.fed + bits → new.lock ≡ old.lock → new.kept ≡ drop (length bytes) (old.kept ++ bytes) → length bytes ≡ (bits + 7) / 8
-    → length xs % 8 ≡ 0 → ((p : ℕ) → IsRun (xs ++ take bits (bytes_bits bytes)) p → ⊥) → StandsFor new (xs ++ take bits (bytes_bits bytes))
+    → length xs % 8 ≡ 0 → ((p : ℕ) → IsRun (xs ++ take bits (bytes_bits bytes)) p → ⊥) → AlignerRepresents new (xs ++ take bits (bytes_bits bytes))
 still_seeks old new bytes xs bits none stands size fed lock kept long whole free =
     let us = xs ++ take bits (bytes_bits bytes) in
     let was = stands.fed in
@@ -190,7 +190,7 @@ still_seeks old new bytes xs bits none stands size fed lock kept long whole free
     }
 
 -- the end of the first run
-module _ (old new : LaneAligner) (xs ys : List Bool) (used : ℕ) (words : List ℕ) (none : old.lock ≡ None) (stands : StandsFor old xs) (within : used ≤ length ys)
+module _ (old new : LaneAligner) (xs ys : List Bool) (used : ℕ) (words : List ℕ) (none : old.lock ≡ None) (stands : AlignerRepresents old xs) (within : used ≤ length ys)
     (ends : EndsFirst (xs ++ ys) (length xs + used) words) (fed : new.fed ≡ old.fed + used) (lock : new.lock ≡ Some (old.fed + used - 120)) (held : new.held ≡ old.held) (rest : new.rest ≡ old.rest)
   where
     place_is : old.fed + used - 120 ≡ ends.place
@@ -199,7 +199,7 @@ module _ (old new : LaneAligner) (xs ys : List Bool) (used : ℕ) (words : List 
     now_locked : new.lock ≡ Some ends.place
     now_locked = lock ∙ ap Some place_is
 
-    pub run_stands : StandsFor new (xs ++ take used ys)
+    pub run_stands : AlignerRepresents new (xs ++ take used ys)
     run_stands =
         let was = stands.fed in
         let us = xs ++ take used ys in

@@ -6,7 +6,7 @@ use Rattle.tmds_word.proofs.Rows.{number_of_bytes}
 use Rattle.tmds_word.proofs.Numbers.{number-append, number-drop, number-take}
 use Rattle.lane_align.specs.Words.{words_from, words_in, lane_words}
 use Rattle.tmds_word.specs.Words.{words_of}
-use Rattle.lane_align.specs.Aligners.{Seeks, Cuts, StandsFor}
+use Rattle.lane_align.specs.Aligners.{Seeks, Cuts, AlignerRepresents}
 use Rattle.lane_align.specs.declared.aligner.LaneAligner.{LaneAligner}
 use Rattle.lane_align.proofs.Growing.{lock_stays}
 
@@ -86,7 +86,7 @@ number_none = refl
 
 -- bits that came from the lock on, and the characters that they made whole
 pub cut_stands : (old new : LaneAligner) (xs bs : List Bool) (value count : ℕ) → (is_locked : (o : Option ℕ) → old.lock ≡ o → new.lock ≡ o) → (old.lock ≡ None → ⊥)
-    → HasCut old new value count → length bs ≡ count → number bs ≡ value → new.fed ≡ old.fed + count → StandsFor old xs → StandsFor new (xs ++ bs)
+    → HasCut old new value count → length bs ≡ count → number bs ≡ value → new.fed ≡ old.fed + count → AlignerRepresents old xs → AlignerRepresents new (xs ++ bs)
 cut_stands old new xs bs value count same locked cut long is fed stands = record {
   fed = let was = stands.fed in omega (arith, length-append xs bs);
   found = by_lock old.lock refl stands.found;
@@ -97,7 +97,7 @@ cut_stands old new xs bs value count same locked cut long is fed stands = record
     by_lock (Some p) e h = subst (λ (o : Option ℕ). MatchOption o (Seeks new (xs ++ bs)) (Cuts new (xs ++ bs))) (sym (same (Some p) e)) (cuts_more old new xs bs p value count h cut long is)
 
 pub cut_words : (old new : LaneAligner) (xs bs : List Bool) (value count : ℕ) (before after ws : List ℕ) → ((o : Option ℕ) → old.lock ≡ o → new.lock ≡ o) → (old.lock ≡ None → ⊥)
-    → HasCut old new value count → length bs ≡ count → number bs ≡ value → StandsFor old xs
+    → HasCut old new value count → length bs ≡ count → number bs ≡ value → AlignerRepresents old xs
     → after ≡ before ++ words_in ((old.held + count) / 10) (old.rest + 2 ^ old.held * value)
     → ws ++ before ≡ lane_words old.lock xs → ws ++ after ≡ lane_words new.lock (xs ++ bs)
 unfolding lane_words

@@ -10,7 +10,7 @@ use Rattle.tmds_word.proofs.Rows.{AreBytes, four_bytes_are, byte_after, number_o
 use Rattle.tmds_word.proofs.Lists.{length-bytes_bits, bytes_bits-append}
 use Rattle.tmds_word.proofs.Numbers.{number-append, number-drop}
 use Rattle.lane_align.specs.Words.{AreWords, words_in, lane_words}
-use Rattle.lane_align.specs.Aligners.{Seeks, Cuts, StandsFor}
+use Rattle.lane_align.specs.Aligners.{Seeks, Cuts, AlignerRepresents}
 use Rattle.lane_align.specs.declared.aligner.LaneAligner.{LaneAligner}
 use Rattle.lane_align.proofs.Cutting.{four_words}
 use Rattle.lane_align.proofs.Feeding.{HasCut, cut_stands, cut_words, words_number, words_same, bytes_drop, none_bytes}
@@ -125,7 +125,7 @@ drop_past : (k j n : ℕ) (xs ys : List Bool) → length xs ≡ k → n ≡ k + 
 drop_past k j n xs ys long e = ap (λ m. drop m (xs ++ ys)) e ∙ sym (drop-drop j k (xs ++ ys)) ∙ ap (drop j) (drop_at xs ys k long)
 
 -- the last bits of five bytes that were fed last are those that are kept
-kept_bits : (old : LaneAligner) (xs first : List Bool) → length first ≡ 40 → is_some old.lock ≡ true → StandsFor old (xs ++ first) → old.rest ≡ number (drop (40 - old.held) first)
+kept_bits : (old : LaneAligner) (xs first : List Bool) → length first ≡ 40 → is_some old.lock ≡ true → AlignerRepresents old (xs ++ first) → old.rest ≡ number (drop (40 - old.held) first)
 kept_bits old xs first long locked stands = by_lock old.lock locked stands.found
   where
     by_lock : (o : Option ℕ) → is_some o ≡ true → MatchOption o (Seeks old (xs ++ first)) (Cuts old (xs ++ first)) → old.rest ≡ number (drop (40 - old.held) first)
@@ -137,7 +137,7 @@ kept_bits old xs first long locked stands = by_lock old.lock locked stands.found
         h.rest ∙ ap number (drop_past (length xs) (40 - old.held) (p + 10 * h.count) xs first refl place)
 
 -- groups of five bytes behind the first five, which were fed last
-module _ (old : LaneAligner) (xs : List Bool) (bytes : List ℕ) (groups : ℕ) (room : 5 * groups + 8 ≤ length bytes) (locked : is_some old.lock ≡ true) (stands : StandsFor old (xs ++ bytes_bits (take 5 bytes))) where
+module _ (old : LaneAligner) (xs : List Bool) (bytes : List ℕ) (groups : ℕ) (room : 5 * groups + 8 ≤ length bytes) (locked : is_some old.lock ≡ true) (stands : AlignerRepresents old (xs ++ bytes_bits (take 5 bytes))) where
   few : old.held < 10
   few = old.few
 
@@ -217,10 +217,10 @@ module _ (old : LaneAligner) (xs : List Bool) (bytes : List ℕ) (groups : ℕ) 
         by_lock None h e = cc
         by_lock (Some p) h e = cc
 
-    pub groups_stand : new.fed ≡ old.fed + 40 * groups → StandsFor new (xs ++ bytes_bits (take (5 * (groups + 1)) bytes))
+    pub groups_stand : new.fed ≡ old.fed + 40 * groups → AlignerRepresents new (xs ++ bytes_bits (take (5 * (groups + 1)) bytes))
     groups_stand fed =
         let more = bytes_bits (take (5 * groups) (drop 5 bytes)) in
-        subst (StandsFor new) regrouped
+        subst (AlignerRepresents new) regrouped
         (cut_stands old new (xs ++ bytes_bits (take 5 bytes)) more (number more) (40 * groups) (λ o e. lock ∙ e) not_none cut length-groups refl fed stands)
 
     pub groups_written : (k r : ℕ) (before after ws : List ℕ) → 8 * k + r ≡ 40 - old.held → after ≡ before ++ words_in (4 * groups) (number (bytes_bits (drop k bytes)) / 2 ^ r)
@@ -238,14 +238,14 @@ pub record HasTaken (old new : LaneAligner) (bytes before row : List ℕ) (taken
   pub lock : new.lock ≡ old.lock
   pub room : 10 * at + new.held ≡ 10 * first + old.held + 8 * taken
   pub small : AreWords before → AreWords (take at row)
-  pub stands : (xs : List Bool) → StandsFor old xs → StandsFor new (xs ++ bytes_bits (take taken bytes))
-  pub words : (xs : List Bool) (ws : List ℕ) → StandsFor old xs → ws ++ before ≡ lane_words old.lock xs → ws ++ take at row ≡ lane_words new.lock (xs ++ bytes_bits (take taken bytes))
+  pub stands : (xs : List Bool) → AlignerRepresents old xs → AlignerRepresents new (xs ++ bytes_bits (take taken bytes))
+  pub words : (xs : List Bool) (ws : List ℕ) → AlignerRepresents old xs → ws ++ before ≡ lane_words old.lock xs → ws ++ take at row ≡ lane_words new.lock (xs ++ bytes_bits (take taken bytes))
 
 -- one byte more
 pub taken_byte : (old mid new : LaneAligner) (bytes before row after : List ℕ) (i first at next size : ℕ) → HasTaken old mid bytes before row i first at size → i < length bytes
     → new.fed ≡ mid.fed + 8 → length after ≡ length row → new.lock ≡ mid.lock → 10 * next + new.held ≡ 10 * at + mid.held + 8 → (AreWords (take at row) → AreWords (take next after))
-    → ((xs : List Bool) → StandsFor mid xs → StandsFor new (xs ++ bits_of 8 (get_or bytes i 0)))
-    → ((xs : List Bool) (ws : List ℕ) → StandsFor mid xs → ws ++ take at row ≡ lane_words mid.lock xs → ws ++ take next after ≡ lane_words new.lock (xs ++ bits_of 8 (get_or bytes i 0)))
+    → ((xs : List Bool) → AlignerRepresents mid xs → AlignerRepresents new (xs ++ bits_of 8 (get_or bytes i 0)))
+    → ((xs : List Bool) (ws : List ℕ) → AlignerRepresents mid xs → ws ++ take at row ≡ lane_words mid.lock xs → ws ++ take next after ≡ lane_words new.lock (xs ++ bits_of 8 (get_or bytes i 0)))
     → HasTaken old new bytes before after (i + 1) first next size
 taken_byte old mid new bytes before row after i first at next size taken within more long same room small stands words =
     let so_far = λ (xs : List Bool). xs ++ bytes_bits (take i bytes) in
@@ -259,6 +259,6 @@ taken_byte old mid new bytes before row after i first at next size taken within 
       lock = same ∙ taken.lock;
       room = omega arith;
       small = λ are. small (taken.small are);
-      stands = λ xs st. subst (StandsFor new) (all xs) (stands (so_far xs) (taken.stands xs st));
+      stands = λ xs st. subst (AlignerRepresents new) (all xs) (stands (so_far xs) (taken.stands xs st));
       words = λ xs ws st w. words (so_far xs) ws (taken.stands xs st) (taken.words xs ws st w) ∙ ap (lane_words new.lock) (all xs);
     }

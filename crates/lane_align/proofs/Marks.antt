@@ -73,7 +73,7 @@ module _ (xs : List Bool) (from until phase left : ℕ) (some : 0 < left) (fits 
   still_marked never q other = elim (cases_lt q (from + skip)) [
     | inl before ↦ absurd (none_before q before other)
     | inr after ↦ elim (cases_lt (from + skip) q) [
-      | inl behind ↦
+      | inl later ↦
           let lowest = bit_at-trailing_zeros w64 left some fits in
           others_left skip left (q - from) lowest.1 lowest.2 (omega arith) (marked q other)
       | inr here ↦ let same : q ≡ from + skip = omega arith in absurd (never (subst (IsOther xs from until phase) same other))

@@ -122,8 +122,8 @@ none_held bytes xs base count from until holds long none q after before run =
     })
 
 -- what follows a list
-pub behind_ends : (xs ys : List Bool) (used : ℕ) (words : List ℕ) → ((p : ℕ) → p < length xs → IsRun (xs ++ ys) p → ⊥) → EndsFirst ys used words → EndsFirst (xs ++ ys) (length xs + used) words
-behind_ends xs ys used words none ends =
+pub after_ends : (xs ys : List Bool) (used : ℕ) (words : List ℕ) → ((p : ℕ) → p < length xs → IsRun (xs ++ ys) p → ⊥) → EndsFirst ys used words → EndsFirst (xs ++ ys) (length xs + used) words
+after_ends xs ys used words none ends =
     let at = ends.at in
     let cut : drop (length xs) (xs ++ ys) ≡ ys = drop_at xs ys (length xs) (λ i. length xs) in
     record {
@@ -141,11 +141,11 @@ behind_ends xs ys used words none ends =
       words_are = ends.words_are ∙ ap (words_of 12) (ap (drop ends.place) (sym cut) ∙ drop-drop ends.place (length xs) (xs ++ ys));
     }
 
-pub behind_none : (xs ys : List Bool) → ((p : ℕ) → p < length xs → IsRun (xs ++ ys) p → ⊥) → ((p : ℕ) → IsRun ys p → ⊥) → (p : ℕ) → IsRun (xs ++ ys) p → ⊥
-behind_none xs ys before behind p run = elim (cases_lt p (length xs)) [
+pub after_none : (xs ys : List Bool) → ((p : ℕ) → p < length xs → IsRun (xs ++ ys) p → ⊥) → ((p : ℕ) → IsRun ys p → ⊥) → (p : ℕ) → IsRun (xs ++ ys) p → ⊥
+after_none xs ys before after p run = elim (cases_lt p (length xs)) [
   | inl early ↦ before p early run
   | inr here ↦
       let e : length xs + (p - length xs) ≡ p = omega arith in
       let cut : drop (length xs) (xs ++ ys) ≡ ys = drop_at xs ys (length xs) (λ i. length xs) in
-      behind (p - length xs) (subst (λ zs. IsRun zs (p - length xs)) cut (run_in_rest (length xs) (xs ++ ys) (p - length xs) (subst (IsRun (xs ++ ys)) (sym e) run)))
+      after (p - length xs) (subst (λ zs. IsRun zs (p - length xs)) cut (run_in_rest (length xs) (xs ++ ys) (p - length xs) (subst (IsRun (xs ++ ys)) (sym e) run)))
 ]

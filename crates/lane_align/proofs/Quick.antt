@@ -99,10 +99,10 @@ four_at : (c i : ℕ) → bit_at (four c) i ≡ min (min (min (bit_at c (i + 10 
 four_at c i =
     let none : i ≡ i + 10 * 0 = omega arith in
     bit_at_and (bit_and (bit_and c (c / 2 ^ 10)) (c / 2 ^ 20)) (c / 2 ^ 30) i
-    ∙ ap₂ min (bit_at_and (bit_and c (c / 2 ^ 10)) (c / 2 ^ 20) i ∙ ap₂ min (bit_at_and c (c / 2 ^ 10) i ∙ ap₂ min (ap (bit_at c) none) (behind 1)) (behind 2)) (behind 3)
+    ∙ ap₂ min (bit_at_and (bit_and c (c / 2 ^ 10)) (c / 2 ^ 20) i ∙ ap₂ min (bit_at_and c (c / 2 ^ 10) i ∙ ap₂ min (ap (bit_at c) none) (after 1)) (after 2)) (after 3)
   where
-    behind : (k : ℕ) → bit_at (c / 2 ^ (10 * k)) i ≡ bit_at c (i + 10 * k)
-    behind k = let e : 10 * k + i ≡ i + 10 * k = omega arith in bit_over c (10 * k) i ∙ ap (bit_at c) e
+    after : (k : ℕ) → bit_at (c / 2 ^ (10 * k)) i ≡ bit_at c (i + 10 * k)
+    after k = let e : 10 * k + i ≡ i + 10 * k = omega arith in bit_over c (10 * k) i ∙ ap (bit_at c) e
 
 pub four_ones : (c i : ℕ) → bit (four c) i ≡ true → (k : ℕ) → k < 4 → bit c (i + 10 * k) ≡ true
 four_ones c i set k lt =

@@ -3,12 +3,12 @@
 ghost use Rattle.std.specs.Prelude.{ℕ, ◌≡◌, ◌<◌, ◌≤◌, ◌+◌, ◌*◌, ◌%◌, ◌↔◌, ◌^◌, IsTrue, MatchOption};
 ghost use Rattle.lane_align.specs.Lanes.{HasControl, IsRun, IsLock, IsEdge, IsNextEdge};
 
-use crate::RUN;
-use terc4::control_of;
+use crate::RUN_BITS;
+use terc4::{RUN, control_of};
 use tmds_word::BitRow;
 
 /// From the first bit of a run to its last.
-const SPAN: u32 = 10 * RUN - 1;
+const SPAN: u32 = RUN_BITS - 1;
 
 /// The lock: the least place with control words as windows at it and at the eleven places ten bits
 /// apart after it. None exactly where the row has no such place. Looks at each place.

@@ -6,7 +6,7 @@ ghost use Rattle.terc4.specs.Tables.{is_control};
 ghost use Rattle.lane_align.specs.Lanes.{HasControl, IsRun};
 ghost use Rattle.lane_align.specs.Search.{control_at, IsOther, IsFirstOther};
 
-use crate::RUN;
+use terc4::RUN;
 
 /// How many places the quick test sees.
 const STEP: u32 = 80;
@@ -85,8 +85,8 @@ fn control_places(bits: u64) -> u64
     let twos = turns & (turns >> 1);
     let fours = twos & (twos >> 2);
     let sevens = fours & (fours >> 3);
-    let behind = sevens >> 1;
-    behind & (behind ^ turns)
+    let after = sevens >> 1;
+    after & (after ^ turns)
 }
 
 /// The least place of a stretch at which a run begins that lies no whole characters from a phase, a few places at a time.

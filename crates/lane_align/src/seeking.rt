@@ -4,18 +4,18 @@ ghost use Rattle.tmds_word.specs.Bits.{bytes_bits};
 ghost use Rattle.tmds_word.specs.Words.{words_of};
 ghost use Rattle.lane_align.specs.Lanes.{IsRun};
 ghost use Rattle.lane_align.specs.Words.{AreWords};
-ghost use Rattle.lane_align.specs.Aligners.{StandsFor, EndsFirst};
+ghost use Rattle.lane_align.specs.Aligners.{AlignerRepresents, EndsFirst};
 
-use crate::LaneAligner;
 use crate::aligner::{KEPT, write_four};
 use crate::eights::write_eight;
 use crate::search::{eight_bytes, first_run};
+use crate::{FEED_BITS, LaneAligner, RUN_BITS};
 
 /// The phase at which the search leaves out no place.
 const ANY: u32 = 10;
 
 /// From the first bit of a run to its last.
-const SPAN: u32 = 119;
+const SPAN: u32 = RUN_BITS - 1;
 
 /// As many bytes of a piece as a run may reach into that began before it.
 const REACH: usize = 16;
@@ -26,12 +26,12 @@ impl LaneAligner {
     pub(crate) fn seek(&self, bytes: &[u8], bits: u32, row: &mut [u16]) -> Option<u32>
         requires seeks { self.now.lock ≡ None }
         requires whole { self.now.fed % 8 ≡ 0 }
-        requires bits { bits ≤ 32768 }
+        requires bits { bits ≤ FEED_BITS }
         requires bytes { length bytes.now ≡ (bits + 7) / 8 }
         requires row { 12 ≤ length row.old }
         ensures length { length row.new ≡ length row.old }
         ensures within { MatchOption result ⊤ (λ used. (used ≤ bits) × (120 ≤ self.now.fed + used) × AreWords (take 12 row.new)) }
-        ensures found { (xs : List Bool) → StandsFor self.now xs → MatchOption result ((p : ℕ) → IsRun (xs ++ take bits (bytes_bits bytes.now)) p → ⊥)
+        ensures found { (xs : List Bool) → AlignerRepresents self.now xs → MatchOption result ((p : ℕ) → IsRun (xs ++ take bits (bytes_bits bytes.now)) p → ⊥)
             (λ used. EndsFirst (xs ++ take bits (bytes_bits bytes.now)) (length xs + used) (take 12 row.new)) }
     {
         match self.begun_run(bytes, bits, row) {
@@ -45,12 +45,12 @@ impl LaneAligner {
     fn begun_run(&self, bytes: &[u8], bits: u32, row: &mut [u16]) -> Option<u32>
         requires seeks { self.now.lock ≡ None }
         requires whole { self.now.fed % 8 ≡ 0 }
-        requires bits { bits ≤ 32768 }
+        requires bits { bits ≤ FEED_BITS }
         requires bytes { length bytes.now ≡ (bits + 7) / 8 }
         requires row { 12 ≤ length row.old }
         ensures length { length row.new ≡ length row.old }
         ensures within { MatchOption result ⊤ (λ used. (used ≤ bits) × (120 ≤ self.now.fed + used) × AreWords (take 12 row.new)) }
-        ensures found { (xs : List Bool) → StandsFor self.now xs → MatchOption result ((p : ℕ) → p < length xs → IsRun (xs ++ take bits (bytes_bits bytes.now)) p → ⊥)
+        ensures found { (xs : List Bool) → AlignerRepresents self.now xs → MatchOption result ((p : ℕ) → p < length xs → IsRun (xs ++ take bits (bytes_bits bytes.now)) p → ⊥)
             (λ used. EndsFirst (xs ++ take bits (bytes_bits bytes.now)) (length xs + used) (take 12 row.new)) }
     {
         if self.fed == 0 {
@@ -86,7 +86,7 @@ impl LaneAligner {
 
 /// Looks for the first run of the bits, and writes its characters. Answers how many of the bits came up to its end.
 fn whole_run(bytes: &[u8], bits: u32, row: &mut [u16]) -> Option<u32>
-    requires bits { bits ≤ 32768 }
+    requires bits { bits ≤ FEED_BITS }
     requires bytes { length bytes.now ≡ (bits + 7) / 8 }
     requires row { 12 ≤ length row.old }
     ensures length { length row.new ≡ length row.old }

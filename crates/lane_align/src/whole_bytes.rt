@@ -3,7 +3,7 @@
 ghost use Rattle.std.specs.Prelude.{ℕ, ◌≡◌, ◌<◌, ◌≤◌, ◌+◌, ◌-◌, ◌*◌, ◌^◌, ◌++◌, List, Bool, is_some, true, length, take, drop};
 ghost use Rattle.tmds_word.specs.Bits.{bits_of, bytes_bits, number};
 ghost use Rattle.lane_align.specs.Words.{AreWords, lane_words};
-ghost use Rattle.lane_align.specs.Aligners.{StandsFor};
+ghost use Rattle.lane_align.specs.Aligners.{AlignerRepresents};
 
 use crate::LaneAligner;
 use crate::aligner::cut_fives;
@@ -19,8 +19,8 @@ impl LaneAligner {
         ensures lock { self.new.lock ≡ self.old.lock }
         ensures room { 10 * result + self.new.held ≡ 10 * at + self.old.held + 8 * length bytes.now }
         ensures small { AreWords (take at row.old) → AreWords (take result row.new) }
-        ensures stands { (xs : List Bool) → StandsFor self.old xs → StandsFor self.new (xs ++ bytes_bits bytes.now) }
-        ensures words { (xs : List Bool) (ws : List ℕ) → StandsFor self.old xs → ws ++ take at row.old ≡ lane_words self.old.lock xs
+        ensures stands { (xs : List Bool) → AlignerRepresents self.old xs → AlignerRepresents self.new (xs ++ bytes_bits bytes.now) }
+        ensures words { (xs : List Bool) (ws : List ℕ) → AlignerRepresents self.old xs → ws ++ take at row.old ≡ lane_words self.old.lock xs
             → ws ++ take result row.new ≡ lane_words self.new.lock (xs ++ bytes_bits bytes.now) }
     {
         let fives = self.most(bytes, row, at);
@@ -43,8 +43,8 @@ impl LaneAligner {
         ensures lock { self.new.lock ≡ self.old.lock }
         ensures held { self.new.held ≡ self.old.held }
         ensures small { AreWords (take at row.old) → AreWords (take (at + 4 * result) row.new) }
-        ensures stands { (xs : List Bool) → StandsFor self.old xs → StandsFor self.new (xs ++ bytes_bits (take (5 * result) bytes.now)) }
-        ensures words { (xs : List Bool) (ws : List ℕ) → StandsFor self.old xs → ws ++ take at row.old ≡ lane_words self.old.lock xs
+        ensures stands { (xs : List Bool) → AlignerRepresents self.old xs → AlignerRepresents self.new (xs ++ bytes_bits (take (5 * result) bytes.now)) }
+        ensures words { (xs : List Bool) (ws : List ℕ) → AlignerRepresents self.old xs → ws ++ take at row.old ≡ lane_words self.old.lock xs
             → ws ++ take (at + 4 * result) row.new ≡ lane_words self.new.lock (xs ++ bytes_bits (take (5 * result) bytes.now)) }
     {
         if bytes.len() < 8 {
@@ -69,9 +69,9 @@ impl LaneAligner {
         ensures lock { self.new.lock ≡ self.old.lock }
         ensures held { self.new.held ≡ self.old.held }
         ensures small { AreWords (take at row.old) → AreWords (take (at + 4 * groups) row.new) }
-        ensures stands { (xs : List Bool) → StandsFor self.old (xs ++ bytes_bits (take 5 bytes.now))
-            → StandsFor self.new (xs ++ bytes_bits (take (5 * (groups + 1)) bytes.now)) }
-        ensures words { (xs : List Bool) (ws : List ℕ) → StandsFor self.old (xs ++ bytes_bits (take 5 bytes.now))
+        ensures stands { (xs : List Bool) → AlignerRepresents self.old (xs ++ bytes_bits (take 5 bytes.now))
+            → AlignerRepresents self.new (xs ++ bytes_bits (take (5 * (groups + 1)) bytes.now)) }
+        ensures words { (xs : List Bool) (ws : List ℕ) → AlignerRepresents self.old (xs ++ bytes_bits (take 5 bytes.now))
             → ws ++ take at row.old ≡ lane_words self.old.lock (xs ++ bytes_bits (take 5 bytes.now))
             → ws ++ take (at + 4 * groups) row.new ≡ lane_words self.new.lock (xs ++ bytes_bits (take (5 * (groups + 1)) bytes.now)) }
     {
@@ -93,8 +93,8 @@ impl LaneAligner {
         ensures lock { self.new.lock ≡ self.old.lock }
         ensures room { 10 * result + self.new.held ≡ 10 * at + self.old.held + 40 }
         ensures small { AreWords (take at row.old) → AreWords (take result row.new) }
-        ensures stands { (xs : List Bool) → StandsFor self.old xs → StandsFor self.new (xs ++ bytes_bits bytes.now) }
-        ensures words { (xs : List Bool) (ws : List ℕ) → StandsFor self.old xs → ws ++ take at row.old ≡ lane_words self.old.lock xs
+        ensures stands { (xs : List Bool) → AlignerRepresents self.old xs → AlignerRepresents self.new (xs ++ bytes_bits bytes.now) }
+        ensures words { (xs : List Bool) (ws : List ℕ) → AlignerRepresents self.old xs → ws ++ take at row.old ≡ lane_words self.old.lock xs
             → ws ++ take result row.new ≡ lane_words self.new.lock (xs ++ bytes_bits bytes.now) }
     {
         self.cut_four(number_of(bytes), row, at);
@@ -111,8 +111,8 @@ impl LaneAligner {
         ensures lock { self.new.lock ≡ self.old.lock }
         ensures room { 10 * result + self.new.held ≡ 10 * at + self.old.held + 8 }
         ensures small { AreWords (take at row.old) → AreWords (take result row.new) }
-        ensures stands { (xs : List Bool) → StandsFor self.old xs → StandsFor self.new (xs ++ bits_of 8 byte) }
-        ensures words { (xs : List Bool) (ws : List ℕ) → StandsFor self.old xs → ws ++ take at row.old ≡ lane_words self.old.lock xs
+        ensures stands { (xs : List Bool) → AlignerRepresents self.old xs → AlignerRepresents self.new (xs ++ bits_of 8 byte) }
+        ensures words { (xs : List Bool) (ws : List ℕ) → AlignerRepresents self.old xs → ws ++ take at row.old ≡ lane_words self.old.lock xs
             → ws ++ take result row.new ≡ lane_words self.new.lock (xs ++ bits_of 8 byte) }
     {
         self.cut(byte, 8, row, at)

@@ -4,8 +4,8 @@ use Rattle.std.proofs.lemmas.List.{drop-drop, drop-take, take-take}
 use Rattle.lane_deskew.specs.Keeping.{Stored, stored, limit}
 use Rattle.tmds_word.specs.Words.{columns_of}
 use Rattle.tmds_word.proofs.Lent.{columns_drop}
-use Rattle.lane_deskew.specs.Pushed.{Pushed, Past, rested, ended, settled, consumed, from_edge, unconsumed, reach, IsPastAlignment, IsPastTriple, past_columns, Knows, Waits, Lends, AreKnown, Awaits, IsAligned, StandsFor, IsCut, reach_of}
-use Rattle.lane_deskew.specs.declared.lane.Lane.{Lane}
+use Rattle.lane_deskew.specs.Pushed.{Pushed, History, ended, settled, consumed, from_edge, unconsumed, reach, IsPastAlignment, IsPastTriple, past_columns, Knows, Waits, Lends, AreKnown, Awaits, IsAligned, IsCut, reach_of}
+use Rattle.lane_deskew.specs.Seen.{Held}
 use Rattle.lane_deskew.specs.declared.deskew.Deskew.{Deskew}
 use Rattle.lane_deskew.specs.declared.Aligned.{Aligned}
 use Rattle.lane_deskew.proofs.Reaching.{reach_cut, reach_consumed, take_min}
@@ -14,17 +14,17 @@ use Rattle.lane_deskew.proofs.Aligning.{three, row_length}
 use Rattle.std.proofs.Math.Seq.{take-length}
 
 -- a lane has fewer characters than numbers go
-few_words : (lane : Lane) (past : Pushed) (taken e : ℕ) → Knows lane past → length (unconsumed taken past e) < 2 ^ 63
+few_words : (lane : Held) (past : Pushed) (taken e : ℕ) → Knows lane past → length (unconsumed taken past e) < 2 ^ 63
 few_words lane past taken e knows =
     let small = lane.small in
     let count = knows.count in
     omega (arith, length-drop taken (from_edge past e), length-drop ((e - 120 - past.lock) / 10) past.words)
 
 -- what is kept of a lane whose kept characters are the same
-waits_same : (old new : Lane) (past : Pushed) → new.kept ≡ old.kept → Waits old past → Waits new past
+waits_same : (old new : Held) (past : Pushed) → new.kept ≡ old.kept → Waits old past → Waits new past
 waits_same old new past same waits = ap stored same ∙ waits
 
-lends_same : (old new : Lane) (past : Pushed) (taken e r : ℕ) → new.kept ≡ old.kept → Lends old past taken e r → Lends new past taken e r
+lends_same : (old new : Held) (past : Pushed) (taken e r : ℕ) → new.kept ≡ old.kept → Lends old past taken e r → Lends new past taken e r
 lends_same old new past taken e r same lends = record {
   ring = ap (λ (k : Stored). k.ring) same ∙ lends.ring;
   row = ap (λ (k : Stored). k.row) same ∙ lends.row;
@@ -45,7 +45,7 @@ awaited None A B e h = h
 awaited (Some at) A B e h = cc
 
 -- one lane has ended: before the alignment
-module _ (d after : Deskew) (p : Past) (a : after.first.kept ≡ d.first.kept) (b : after.second.kept ≡ d.second.kept) (c : after.third.kept ≡ d.third.kept) where
+module _ (d after : Deskew) (p : History) (a : after.first.kept ≡ d.first.kept) (b : after.second.kept ≡ d.second.kept) (c : after.third.kept ≡ d.third.kept) where
   pub awaits_ended : (lane : ℕ) → Awaits d p → Awaits after (ended lane p)
   awaits_ended zero awaits = record {
     first = waits_same d.first after.first p.first a awaits.first;
@@ -70,7 +70,7 @@ module _ (d after : Deskew) (p : Past) (a : after.first.kept ≡ d.first.kept) (
   }
 
 -- after it, with what was reachable before
-pub record IsAlignedTo (deskew : Deskew) (p : Past) (edges : List ℕ) (r : ℕ) : Type 0 where
+pub record IsAlignedTo (deskew : Deskew) (p : History) (edges : List ℕ) (r : ℕ) : Type 0 where
   pub alignment : IsPastAlignment p edges
   pub first : Lends deskew.first p.first p.taken (slice_index edges 0) r
   pub second : Lends deskew.second p.second p.taken (slice_index edges 1) r
@@ -80,7 +80,7 @@ limit_over : (b : Bool) (n : ℕ) → n < 2 ^ 63 → limit true n ≤ limit b n
 limit_over true n h = omega arith
 limit_over false n h = omega arith
 
-module _ (d after : Deskew) (p : Past) (edges : List ℕ) (known : AreKnown d p) (al : IsAligned d p edges)
+module _ (d after : Deskew) (p : History) (edges : List ℕ) (known : AreKnown d p) (al : IsAligned d p edges)
     (a : after.first.kept ≡ d.first.kept) (b : after.second.kept ≡ d.second.kept) (c : after.third.kept ≡ d.third.kept)
   where
     one : Lends after.first p.first p.taken (slice_index edges 0) (reach p edges)
@@ -117,7 +117,7 @@ module _ (d after : Deskew) (p : Past) (edges : List ℕ) (known : AreKnown d p)
     reach_ended (suc zero) = let h = limit_over p.second.ended _ (few_words d.second p.second p.taken (slice_index edges 1) known.second) in omega arith
     reach_ended (suc (suc n)) = let h = limit_over p.third.ended _ (few_words d.third p.third p.taken (slice_index edges 2) known.third) in omega arith
 
-cut_lane : (old new : Lane) (past : Pushed) (taken e r s n : ℕ) → Lends old past taken e r → s ≤ r → n ≡ s → IsCut n old new → Lends new past taken e s
+cut_lane : (old new : Held) (past : Pushed) (taken e r s n : ℕ) → Lends old past taken e r → s ≤ r → n ≡ s → IsCut n old new → Lends new past taken e s
 cut_lane old new past taken e r s n lends le same cut = record {
   ring = cut.ring ∙ lends.ring;
   row = cut.row ∙ ap (λ m. take m old.kept.row) same ∙ ap (take s) lends.row ∙ take-take s r (unconsumed taken past e) le;
@@ -125,7 +125,7 @@ cut_lane old new past taken e r s n lends le same cut = record {
 }
 
 -- what no column can reach any more is cut
-pub aligned_cut : (d after : Deskew) (p : Past) (edges : List ℕ) (r : ℕ) → AreKnown d p → IsAlignedTo d p edges r → reach p edges ≤ r
+pub aligned_cut : (d after : Deskew) (p : History) (edges : List ℕ) (r : ℕ) → AreKnown d p → IsAlignedTo d p edges r → reach p edges ≤ r
     → IsCut (reach_of d) d.first after.first → IsCut (reach_of d) d.second after.second → IsCut (reach_of d) d.third after.third → IsAligned after p edges
 aligned_cut d after p edges r known al le a b c =
     let x = row_length d.first p.first p.taken (slice_index edges 0) r al.first in
@@ -142,7 +142,7 @@ aligned_cut d after p edges r known al le a b c =
     }
 
 -- numbers stay known where they are the same
-pub known_same : (old new : Lane) (past : Pushed) → (new.lock ≡ old.lock) × (new.count ≡ old.count) × (new.ended ≡ old.ended) → Knows old past → Knows new past
+pub known_same : (old new : Held) (past : Pushed) → (new.lock ≡ old.lock) × (new.count ≡ old.count) × (new.ended ≡ old.ended) → Knows old past → Knows new past
 known_same old new past same knows = record {
   count = same.1 ∙ knows.count;
   lock = same.0 ∙ knows.lock;
@@ -150,20 +150,20 @@ known_same old new past same knows = record {
   settled = knows.settled;
 }
 
-pub cut_known : (n : ℕ) (old new : Lane) (past : Pushed) → IsCut n old new → Knows old past → Knows new past
+pub cut_known : (n : ℕ) (old new : Held) (past : Pushed) → IsCut n old new → Knows old past → Knows new past
 cut_known n old new past cut knows = known_same old new past (cut.lock, cut.count, cut.ended) knows
 
 -- a lane of which n characters were consumed
-pub record HasConsumed (n : ℕ) (old new : Lane) : Type 0 where
+pub record HasConsumed (n : ℕ) (old new : Held) : Type 0 where
   pub ring : new.kept.ring ≡ old.kept.ring
   pub row : new.kept.row ≡ drop n old.kept.row
   pub same : (new.lock ≡ old.lock) × (new.count ≡ old.count) × (new.ended ≡ old.ended)
 
-waits_consumed : (n : ℕ) (old new : Lane) (past : Pushed) → n ≡ 0 → HasConsumed n old new → Waits old past → Waits new past
+waits_consumed : (n : ℕ) (old new : Held) (past : Pushed) → n ≡ 0 → HasConsumed n old new → Waits old past → Waits new past
 waits_consumed n old new past none gone waits =
     (λ i. gone.ring i ++ gone.row i) ∙ ap (λ m. old.kept.ring ++ drop m old.kept.row) none ∙ waits
 
-lends_consumed : (n : ℕ) (old new : Lane) (past : Pushed) (taken e r s : ℕ) → HasConsumed n old new → Lends old past taken e r → n ≤ length old.kept.row
+lends_consumed : (n : ℕ) (old new : Held) (past : Pushed) (taken e r s : ℕ) → HasConsumed n old new → Lends old past taken e r → n ≤ length old.kept.row
     → min (r - n) (length (unconsumed taken past e) - n) ≡ min s (length (unconsumed taken past e) - n) → Lends new past (taken + n) e s
 lends_consumed n old new past taken e r s gone lends le same =
     let xs = unconsumed taken past e in
@@ -180,7 +180,7 @@ lends_consumed n old new past taken e r s gone lends le same =
     }
 
 -- columns were consumed
-module _ (d after : Deskew) (p : Past) (n : ℕ) (known : AreKnown d p)
+module _ (d after : Deskew) (p : History) (n : ℕ) (known : AreKnown d p)
     (a : HasConsumed n d.first after.first) (b : HasConsumed n d.second after.second) (c : HasConsumed n d.third after.third)
   where
     pub known_consumed : AreKnown after (consumed n p)
@@ -235,17 +235,8 @@ module _ (d after : Deskew) (p : Past) (n : ℕ) (known : AreKnown d p)
             ≡ min (three p.first.ended (length (unconsumed p.taken p.first (slice_index edges 0)) - n) p.second.ended (length (unconsumed p.taken p.second (slice_index edges 1)) - n) p.third.ended (length (unconsumed p.taken p.third (slice_index edges 2)) - n)) k
         reach_moved edges k = λ i. min (three p.first.ended (left p.first (slice_index edges 0) i) p.second.ended (left p.second (slice_index edges 1) i) p.third.ended (left p.third (slice_index edges 2) i)) k
 
--- a settling after the alignment changes nothing
-pub aligned_settled : (d : Deskew) (p : Past) (edges : List ℕ) → IsAligned d p edges → IsAligned d (settled p) edges
-aligned_settled d p edges al = record {
-  alignment = al.alignment;
-  first = record { ring = al.first.ring; row = al.first.row; within = al.first.within };
-  second = record { ring = al.second.ring; row = al.second.row; within = al.second.within };
-  third = record { ring = al.third.ring; row = al.third.row; within = al.third.within };
-}
-
 -- what a settling answers of all that was pushed
-pub answer_of : (d : Deskew) (p : Past) (o : Option Aligned) → MatchOption o (Awaits d (settled p)) (λ at. IsAligned d (settled p) at.edges)
+pub answer_of : (d : Deskew) (p : History) (o : Option Aligned) → MatchOption o (Awaits d (settled p)) (λ at. IsAligned d (settled p) at.edges)
     → MatchOption o ((x y z : ℕ) → IsPastTriple p x y z → ⊥) (λ at. IsPastAlignment p at.edges)
 answer_of d p (Some at) al = al.alignment
 answer_of d p None awaits = λ x y z t. awaits.none x y z (record {
@@ -293,7 +284,7 @@ reach_enough false false true x y z h = omega arith
 reach_enough false false false x y z h = omega arith
 
 -- the rows' columns are those that are not consumed
-pub columns_lent : (d : Deskew) (p : Past) (edges : List ℕ) (n : ℕ) → AreKnown d p → IsAligned d p edges
+pub columns_lent : (d : Deskew) (p : History) (edges : List ℕ) (n : ℕ) → AreKnown d p → IsAligned d p edges
     → n ≡ min (length d.first.kept.row) (min (length d.second.kept.row) (length d.third.kept.row))
     → columns_of (take n d.first.kept.row) (take n d.second.kept.row) (take n d.third.kept.row) ≡ drop p.taken (past_columns p edges)
 columns_lent d p edges n known al is =
@@ -317,24 +308,3 @@ columns_lent d p edges n known al is =
 
     at_least : (n r u v w x y z : ℕ) → n ≡ min u (min v w) → u ≡ min r x → v ≡ min r y → w ≡ min r z → min x (min y z) ≤ r → min x (min y z) ≤ n
     at_least n r u v w x y z is a b c le = omega arith
-
--- what is known in numbers does not depend on settlings
-known_rested : (lane : Lane) (past : Pushed) → Knows lane past → Knows lane (rested past)
-known_rested lane past knows = record { count = knows.count; lock = knows.lock; ended = knows.ended; settled = omega arith }
-
-pub known_settled : (d : Deskew) (p : Past) → AreKnown d p → AreKnown d (settled p)
-known_settled d p known = record { first = known_rested d.first p.first known.first; second = known_rested d.second p.second known.second; third = known_rested d.third p.third known.third }
-
--- nor on what was found
-abbrev pub with_found : Deskew → Option Aligned → Deskew
-with_found d o = record { first = d.first; second = d.second; third = d.third; found = o }
-
-pub stands_found : (d : Deskew) (o : Option Aligned) (p : Past) → AreKnown d p → MatchOption o (Awaits d p) (λ at. IsAligned d p at.edges) → StandsFor (with_found d o) p
-stands_found d o p known h = record {
-  known = record { first = known.first; second = known.second; third = known.third };
-  alignment = by_found o h;
-}
-  where
-    by_found : (q : Option Aligned) → MatchOption q (Awaits d p) (λ at. IsAligned d p at.edges) → MatchOption q (Awaits (with_found d o) p) (λ at. IsAligned (with_found d o) p at.edges)
-    by_found None a = record { first = a.first; second = a.second; third = a.third; none = a.none; fresh = a.fresh }
-    by_found (Some at) a = record { alignment = a.alignment; first = a.first; second = a.second; third = a.third }

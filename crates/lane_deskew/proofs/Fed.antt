@@ -11,7 +11,7 @@ use Rattle.lane_deskew.specs.Triples.{AreTriple, AreFirst, IsTriple, IsFirst, Is
 use Rattle.lane_deskew.specs.Aligned.{aligned_columns}
 use Rattle.tmds_word.specs.Words.{columns_of}
 use Rattle.lane_deskew.specs.Growing.{HasGrown, Extends}
-use Rattle.lane_deskew.specs.Pushed.{Pushed, Past, edge_of, from_edge, IsEven, IsPastTriple, IsPastAlignment, past_columns}
+use Rattle.lane_deskew.specs.Pushed.{Pushed, History, edge_of, from_edge, IsEven, IsPastTriple, IsPastAlignment, past_columns}
 use Rattle.lane_deskew.specs.Fed.{IsCutFrom, AreCutFrom, WasFed}
 use Rattle.lane_deskew.proofs.Growth.{edge_kept, edge_before, lock_kept}
 use Rattle.lane_deskew.proofs.Settling.{first_extends}
@@ -52,7 +52,7 @@ first_moved A B C X Y Z d e f a b c first = record {
   least = λ p q r t. first.least p q r (triple_moved X Y Z A B C p q r (a p).1 (b q).1 (c r).1 t);
 }
 
-module _ (xs ys zs : List Bool) (p : Past) (cut : AreCutFrom xs ys zs p) where
+module _ (xs ys zs : List Bool) (p : History) (cut : AreCutFrom xs ys zs p) where
   one : (n : ℕ) → edge_of p.first n ↔ IsEdge xs n
   one n = edge_cut xs p.first n cut.first
 
@@ -84,7 +84,7 @@ from_cut xs lane e None none words edge = absurd (none edge.lock edge.is_lock.ru
 from_cut xs lane e (Some p) locked words edge =
     ap (λ n. drop ((e - 120 - n) / 10) lane.words) locked.1 ∙ ap (drop ((e - 120 - p) / 10)) words ∙ edge_words xs p e locked.0 edge
 
-pub past_columns_are : (xs ys zs : List Bool) (p : Past) (edges : List ℕ) → AreCutFrom xs ys zs p → IsAlignment xs ys zs edges
+pub past_columns_are : (xs ys zs : List Bool) (p : History) (edges : List ℕ) → AreCutFrom xs ys zs p → IsAlignment xs ys zs edges
     → past_columns p edges ≡ aligned_columns xs ys zs (slice_index edges 0) (slice_index edges 1) (slice_index edges 2)
 unfolding aligned_columns
 past_columns_are xs ys zs p edges cut first =
@@ -102,12 +102,12 @@ unfolding lane_words
 even_by n xs us before lane None None grown fed none was none_now now settled =
     let a : length before.words ≡ 0 = ap length was in
     let b : length lane.words ≡ 0 = ap length now in
-    record { behind = λ some. absurd (omega arith); whole = λ more. absurd (omega arith) }
+    record { after = λ some. absurd (omega arith); whole = λ more. absurd (omega arith) }
 even_by n xs us before lane None (Some p) grown fed none was locked now settled =
     let a : length before.words ≡ 0 = ap length was in
     let at = locked.1 in
     record {
-      behind = λ some. absurd (omega arith);
+      after = λ some. absurd (omega arith);
       whole = λ more. elim (cases_lt n (p + 120)) [
         | inl far ↦ omega arith
         | inr near ↦ elim fed [
@@ -125,7 +125,7 @@ even_by n xs us before lane (Some p) (Some q) grown fed locked was later now set
     let b : length lane.words ≡ (length us - q) / 10 = ap length now ∙ length-words_from us q in
     let few : length xs ≤ n = elim fed [ inl all ↦ omega arith | inr ended ↦ ended.1 ] in
     record {
-      behind = λ some. omega arith;
+      after = λ some. omega arith;
       whole = λ more. elim fed [
         | inl all ↦ omega arith
         | inr ended ↦ let len : length us ≡ length xs = ap length ended.0 in absurd (omega arith)

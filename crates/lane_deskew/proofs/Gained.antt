@@ -8,9 +8,9 @@ use Rattle.lane_align.proofs.Growing.{run_stays}
 use Rattle.lane_align.proofs.Words.{length-words_from}
 use Rattle.lane_deskew.specs.Keeping.{stored, limit}
 use Rattle.lane_deskew.specs.Growing.{HasGrown}
-use Rattle.lane_deskew.specs.Pushed.{Pushed, Past, no_words, no_past, more, edge_of, from_edge, unconsumed, reach, Knows, Lends, Awaits, IsAligned, StandsFor, CanPush, lane_at, kept_of, ready_of}
+use Rattle.lane_deskew.specs.Pushed.{Pushed, History, no_words, no_history, more, edge_of, from_edge, unconsumed, reach, Knows, Lends, Awaits, IsAligned, DeskewRepresents, CanPush, lane_at, kept_of, ready_of}
 use Rattle.lane_deskew.specs.Fed.{IsCutFrom, AreCutFrom, AreGained, IsFedTo, past_at}
-use Rattle.lane_deskew.specs.declared.lane.Lane.{Lane}
+use Rattle.lane_deskew.specs.Seen.{Held}
 use Rattle.lane_deskew.specs.declared.deskew.Deskew.{Deskew}
 use Rattle.lane_deskew.specs.declared.Aligned.{Aligned}
 use Rattle.lane_deskew.proofs.Growth.{lock_kept}
@@ -48,7 +48,7 @@ no_bits = refl
 lane_cut : IsCutFrom [] no_words
 lane_cut = record { found = None; lock = λ p run. let within = run_within [] p run in absurd (omega arith); words = sym no_bits }
 
-pub nothing_cut : AreCutFrom [] [] [] no_past
+pub nothing_cut : AreCutFrom [] [] [] no_history
 nothing_cut = record { first = lane_cut; second = lane_cut; third = lane_cut }
 
 pub none_gained : (xs us : List Bool) (lane : Pushed) → HasGrown xs us → ((p : ℕ) → IsRun us p → ⊥) → IsCutFrom xs lane → IsCutFrom us lane
@@ -81,12 +81,12 @@ nothing_more xs lock words (Some p) is_p is all =
     empty [] h = refl
     empty (w ∷ ws) h = absurd (omega arith)
 
-known_at : (d : Deskew) (p : Past) (lane : ℕ) → StandsFor d p → Knows (lane_at d lane) (past_at p lane)
+known_at : (d : Deskew) (p : History) (lane : ℕ) → DeskewRepresents d p → Knows (lane_at d lane) (past_at p lane)
 known_at d p zero stands = stands.known.first
 known_at d p (suc zero) stands = stands.known.second
 known_at d p (suc (suc n)) stands = stands.known.third
 
-pub gained_fit : (d : Deskew) (p : Past) (lane lock : ℕ) (words : List ℕ) (xs us : List Bool) → StandsFor d p → IsCutFrom xs (past_at p lane) → AreGained xs us lock words
+pub gained_fit : (d : Deskew) (p : History) (lane lock : ℕ) (words : List ℕ) (xs us : List Bool) → DeskewRepresents d p → IsCutFrom xs (past_at p lane) → AreGained xs us lock words
     → length us < 2 ^ 63 → ((past_at p lane).ended ≡ true → us ≡ xs) → length (kept_of d lane) + length words ≤ 4160 → CanPush d lane lock words
 gained_fit d p lane lock words xs us stands cut gained small over room =
     let past = past_at p lane in
@@ -145,7 +145,7 @@ limit_ended true n r h e = h
 limit_ended false n r h e = cc
 
 -- a lane that is aligned is such a lane
-lane_short : (lane : Lane) (past : Pushed) (taken e r n : ℕ) (xs : List Bool) → Lends lane past taken e r → edge_of past e → IsCutFrom xs past → IsFedTo n xs past
+lane_short : (lane : Held) (past : Pushed) (taken e r n : ℕ) (xs : List Bool) → Lends lane past taken e r → edge_of past e → IsCutFrom xs past → IsFedTo n xs past
     → r ≤ limit past.ended (length (unconsumed taken past e)) → 120 ≤ e → IsShort r n taken past.ended (length (unconsumed taken past e)) (length xs) e (length lane.kept.row)
 lane_short lane past taken e r n xs lends edge cut fed le far =
     let from = ap length (from_cut xs past e cut.found cut.lock cut.words ((edge_cut xs past e cut).0 edge)) ∙ length-words_from xs (e - 120) in
@@ -160,10 +160,10 @@ lane_short lane past taken e r n xs lends edge cut fed le far =
 far_edge : (past : Pushed) (e : ℕ) → edge_of past e → 120 ≤ e
 far_edge past e edge = let at = edge.at in let past_run = edge.ends.past in omega arith
 
-kept_short : (lane : Lane) → lane.kept.ring ≡ [] → length lane.kept.row ≤ 7 → length (stored lane.kept) ≤ 7
+kept_short : (lane : Held) → lane.kept.ring ≡ [] → length lane.kept.row ≤ 7 → length (stored lane.kept) ≤ 7
 kept_short lane ring few = let e = ap length (stored_row lane.kept ring) in omega arith
 
-pub room_left : (d : Deskew) (p : Past) (at : Aligned) (n : ℕ) (xs ys zs : List Bool) → StandsFor d p → d.found ≡ Some at → AreCutFrom xs ys zs p
+pub room_left : (d : Deskew) (p : History) (at : Aligned) (n : ℕ) (xs ys zs : List Bool) → DeskewRepresents d p → d.found ≡ Some at → AreCutFrom xs ys zs p
     → IsFedTo n xs p.first → IsFedTo n ys p.second → IsFedTo n zs p.third → ready_of d ≡ 0 → (lane : ℕ) → length (kept_of d lane) ≤ 7
 room_left d p at n xs ys zs stands found cut a b c none lane =
     let edges = at.edges in

@@ -2,11 +2,12 @@
 use Rattle.std.specs.Prelude.{◌≡◌, ℕ, ◌+◌, ◌-◌, ◌*◌, ◌/◌, ◌^◌, ◌<◌, ◌≤◌, min, cond, Bool, true, false, List, [], ◌++◌, length, take, drop, slice_index, MatchOption, is_some}
 use Rattle.std.proofs.Common.{suc, zero}
 use Rattle.lane_align.specs.Words.{IsWordEdge}
+use Rattle.lane_align.specs.declared.TheConstants.{ROW_WORDS}
 use Rattle.lane_deskew.specs.Keeping.{stored, limit}
 use Rattle.tmds_word.specs.Column.{Column}
 use Rattle.tmds_word.specs.Words.{columns_of}
 use Rattle.lane_deskew.specs.Triples.{AreTriple, AreFirst}
-use Rattle.lane_deskew.specs.declared.lane.Lane.{Lane}
+use Rattle.lane_deskew.specs.Seen.{Held}
 use Rattle.lane_deskew.specs.declared.deskew.Deskew.{Deskew}
 
 -- a lane: its lock, all characters that it has pushed from there on, how many of them it had at the last settling,
@@ -18,7 +19,7 @@ pub record Pushed : Type 0 where
   pub ended : Bool
 
 -- three of them, and how many columns were consumed
-pub record Past : Type 0 where
+pub record History : Type 0 where
   pub first : Pushed
   pub second : Pushed
   pub third : Pushed
@@ -28,8 +29,8 @@ pub record Past : Type 0 where
 abbrev pub no_words : Pushed
 no_words = record { lock = 0; words = []; settled = 0; ended = false }
 
-abbrev pub no_past : Past
-no_past = record { first = no_words; second = no_words; third = no_words; taken = 0 }
+abbrev pub no_history : History
+no_history = record { first = no_words; second = no_words; third = no_words; taken = 0 }
 
 -- after a call on a lane
 abbrev pub more : ℕ → List ℕ → Pushed → Pushed
@@ -42,31 +43,31 @@ abbrev pub rested : Pushed → Pushed
 rested lane = record { lock = lane.lock; words = lane.words; settled = length lane.words; ended = lane.ended }
 
 -- with one lane changed
-abbrev pub change : (Pushed → Pushed) → ℕ → Past → Past
+abbrev pub change : (Pushed → Pushed) → ℕ → History → History
 change f zero p = record { first = f p.first; second = p.second; third = p.third; taken = p.taken }
 change f (suc zero) p = record { first = p.first; second = f p.second; third = p.third; taken = p.taken }
 change f (suc (suc n)) p = record { first = p.first; second = p.second; third = f p.third; taken = p.taken }
 
 -- after each call
-abbrev pub pushed : ℕ → ℕ → List ℕ → Past → Past
+abbrev pub pushed : ℕ → ℕ → List ℕ → History → History
 pushed lane lock words = change (more lock words) lane
 
-abbrev pub ended : ℕ → Past → Past
+abbrev pub ended : ℕ → History → History
 ended lane = change over lane
 
-abbrev pub settled : Past → Past
+abbrev pub settled : History → History
 settled p = record { first = rested p.first; second = rested p.second; third = rested p.third; taken = p.taken }
 
-abbrev pub consumed : ℕ → Past → Past
+abbrev pub consumed : ℕ → History → History
 consumed n p = record { first = p.first; second = p.second; third = p.third; taken = p.taken + n }
 
 -- the lanes were pushed evenly: at the last settling no lane had passed a place; a lane that has pushed since had come
 -- near it, or began its run so near
 pub record IsEven (place : ℕ) (lane : Pushed) : Type 0 where
-  pub behind : 0 < lane.settled → lane.lock + 10 * lane.settled ≤ place
+  pub after : 0 < lane.settled → lane.lock + 10 * lane.settled ≤ place
   pub whole : lane.settled < length lane.words → place < lane.lock + 10 * lane.settled + 120
 
-abbrev pub AreEven : Past → Type 0
+abbrev pub AreEven : History → Type 0
 AreEven p = (place : ℕ) × IsEven place p.first × IsEven place p.second × IsEven place p.third
 
 -- the edges of a lane: of all its characters, and of those that it had at the last settling
@@ -77,10 +78,10 @@ abbrev pub settled_edge : Pushed → ℕ → Type 0
 settled_edge lane = IsWordEdge lane.lock (take lane.settled lane.words)
 
 -- the full alignments of all that was pushed, and the first of them
-abbrev pub IsPastTriple : Past → ℕ → ℕ → ℕ → Type 0
+abbrev pub IsPastTriple : History → ℕ → ℕ → ℕ → Type 0
 IsPastTriple p = AreTriple (edge_of p.first) (edge_of p.second) (edge_of p.third)
 
-abbrev pub IsPastAlignment : Past → List ℕ → Type 0
+abbrev pub IsPastAlignment : History → List ℕ → Type 0
 IsPastAlignment p edges = AreFirst (edge_of p.first) (edge_of p.second) (edge_of p.third) (slice_index edges 0) (slice_index edges 1) (slice_index edges 2)
 
 -- the characters of a lane from the run before an edge on, but for those that were consumed
@@ -91,35 +92,35 @@ abbrev pub unconsumed : ℕ → Pushed → ℕ → List ℕ
 unconsumed taken lane e = drop taken (from_edge lane e)
 
 -- how many of them a column can reach: those that each lane has that has ended
-abbrev pub reach : Past → List ℕ → ℕ
+abbrev pub reach : History → List ℕ → ℕ
 reach p edges =
     min (limit p.first.ended (length (unconsumed p.taken p.first (slice_index edges 0))))
     (min (limit p.second.ended (length (unconsumed p.taken p.second (slice_index edges 1))))
     (limit p.third.ended (length (unconsumed p.taken p.third (slice_index edges 2)))))
 
 -- the columns of all that was pushed, from an alignment's runs on
-abbrev pub past_columns : Past → List ℕ → List Column
+abbrev pub past_columns : History → List ℕ → List Column
 past_columns p edges = columns_of (from_edge p.first (slice_index edges 0)) (from_edge p.second (slice_index edges 1)) (from_edge p.third (slice_index edges 2))
 
 -- what is kept of a lane in numbers
-pub record Knows (lane : Lane) (past : Pushed) : Type 0 where
+pub record Knows (lane : Held) (past : Pushed) : Type 0 where
   pub count : lane.count ≡ length past.words
   pub lock : lane.lock ≡ past.lock
   pub ended : lane.ended ≡ past.ended
   pub settled : past.settled ≤ length past.words
 
 -- before the alignment: its last characters, from 32 before the last settling on
-abbrev pub Waits : Lane → Pushed → Type 0
+abbrev pub Waits : Held → Pushed → Type 0
 Waits lane past = stored lane.kept ≡ drop (past.settled - 32) past.words
 
 -- after it: its characters from the edge's run on that are not consumed and that a column can reach
-pub record Lends (lane : Lane) (past : Pushed) (taken e reach : ℕ) : Type 0 where
+pub record Lends (lane : Held) (past : Pushed) (taken e reach : ℕ) : Type 0 where
   pub ring : lane.kept.ring ≡ []
   pub row : lane.kept.row ≡ take reach (unconsumed taken past e)
   pub within : taken ≤ length (from_edge past e)
 
 -- no alignment was found at the last settling
-pub record Awaits (deskew : Deskew) (p : Past) : Type 0 where
+pub record Awaits (deskew : Deskew) (p : History) : Type 0 where
   pub first : Waits deskew.first p.first
   pub second : Waits deskew.second p.second
   pub third : Waits deskew.third p.third
@@ -127,31 +128,31 @@ pub record Awaits (deskew : Deskew) (p : Past) : Type 0 where
   pub fresh : p.taken ≡ 0
 
 -- one was found
-pub record IsAligned (deskew : Deskew) (p : Past) (edges : List ℕ) : Type 0 where
+pub record IsAligned (deskew : Deskew) (p : History) (edges : List ℕ) : Type 0 where
   pub alignment : IsPastAlignment p edges
   pub first : Lends deskew.first p.first p.taken (slice_index edges 0) (reach p edges)
   pub second : Lends deskew.second p.second p.taken (slice_index edges 1) (reach p edges)
   pub third : Lends deskew.third p.third p.taken (slice_index edges 2) (reach p edges)
 
 -- what is kept in numbers
-pub record AreKnown (deskew : Deskew) (p : Past) : Type 0 where
+pub record AreKnown (deskew : Deskew) (p : History) : Type 0 where
   pub first : Knows deskew.first p.first
   pub second : Knows deskew.second p.second
   pub third : Knows deskew.third p.third
 
 -- what a deskew keeps of all that was pushed
-pub record StandsFor (deskew : Deskew) (p : Past) : Type 0 where
+pub record DeskewRepresents (deskew : Deskew) (p : History) : Type 0 where
   pub known : AreKnown deskew p
   pub alignment : MatchOption deskew.found (Awaits deskew p) (λ at. IsAligned deskew p at.edges)
 
 -- one of the lanes
-abbrev pub lane_at : Deskew → ℕ → Lane
+abbrev pub lane_at : Deskew → ℕ → Held
 lane_at deskew zero = deskew.first
 lane_at deskew (suc zero) = deskew.second
 lane_at deskew (suc (suc n)) = deskew.third
 
 -- a lane of which the first n characters in the row are kept
-pub record IsCut (n : ℕ) (old new : Lane) : Type 0 where
+pub record IsCut (n : ℕ) (old new : Held) : Type 0 where
   pub ring : new.kept.ring ≡ old.kept.ring
   pub row : new.kept.row ≡ take n old.kept.row
   pub lock : new.lock ≡ old.lock
@@ -174,6 +175,6 @@ kept_of deskew lane = stored (lane_at deskew lane).kept
 -- them fits, and the lane has not ended
 pub record CanPush (deskew : Deskew) (lane lock : ℕ) (words : List ℕ) : Type 0 where
   pub same : 0 < (lane_at deskew lane).count → lock ≡ (lane_at deskew lane).lock
-  pub room : length (kept_of deskew lane) + length words ≤ 4160
+  pub room : length (kept_of deskew lane) + length words ≤ ROW_WORDS
   pub total : lock + 10 * ((lane_at deskew lane).count + length words) < 2 ^ 63
   pub going : (lane_at deskew lane).ended ≡ true → words ≡ []

@@ -3,37 +3,46 @@
 
 ghost use Rattle.std.specs.Prelude.{ℕ, ◌≡◌, ◌<◌, ◌≤◌, ◌+◌, ◌-◌, ◌*◌, ◌^◌, ◌↔◌, ◌++◌, List, [], IsTrue, IfOk, IfSome, MatchOption, Some, None, length, take, drop, slice_index, true, min, cond, is_some};
 ghost use Rattle.lane_align.specs.Words.{AreWords};
-ghost use Rattle.lane_deskew.specs.Pushed.{Past, no_past, pushed, ended, settled, consumed, AreEven, IsPastTriple, IsPastAlignment, AreKnown, Awaits, IsAligned, StandsFor, CanPush, kept_of, IsCut, reach_of, ready_of, past_columns};
+ghost use Rattle.lane_deskew.specs.Pushed.{History, no_history, pushed, ended, settled, consumed, AreEven, IsPastTriple, IsPastAlignment, AreKnown, Awaits, IsAligned, DeskewRepresents, CanPush, kept_of, IsCut, reach_of, ready_of, past_columns};
 ghost use Rattle.tmds_word.specs.Lent.{columns_in};
 ghost use Rattle.lane_deskew.specs.Stretches.{IsStretchTriple, AreFirstAt};
 ghost use Rattle.lane_deskew.specs.declared.Aligned.{Aligned};
 
-use crate::Aligned;
 use crate::lane::Lane;
 use crate::stretch::first_triple;
+use crate::{Aligned, RUN};
+use lane_align::ROW_WORDS;
 use outside_io::NoMemory;
 use std::alloc::Global;
+use std::marker::Model;
 use tmds_word::Columns;
 
-#[cfg(test)]
-mod tests;
-
-/// How many control words stand before an edge.
-const RUN: usize = 12;
-
-/// Lines three lanes up.
+/// Lines three lanes up. It is seen as where they are aligned and what is kept of each.
 #[derive(Drop)]
 pub struct Deskew {
-    first: Lane,
-    second: Lane,
-    third: Lane,
+    pub(crate) first: Lane,
+    pub(crate) second: Lane,
+    pub(crate) third: Lane,
     found: Option<Aligned>,
+}
+
+impl Model for Deskew {
+    ghost use Rattle.lane_deskew.specs.Seen.{Seen, held_of};
+
+    ghost Value = { Seen };
+
+    ghost view = { λ d. record {
+      first = held_of d.first;
+      second = held_of d.second;
+      third = held_of d.third;
+      found = d.found;
+    } };
 }
 
 impl Deskew {
     /// A deskew to which nothing was pushed, with all memory that it ever has.
     pub fn open(alloc: Global) -> Result<Deskew, NoMemory>
-        ensures stands { IfOk result (λ deskew. StandsFor deskew no_past) }
+        ensures stands { IfOk result (λ deskew. DeskewRepresents deskew no_history) }
         ensures found { IfOk result (λ deskew. deskew.found ≡ None) }
     {
         Ok(Deskew {
@@ -46,7 +55,7 @@ impl Deskew {
 
     /// Makes it as after `open`.
     pub fn restart(&mut self)
-        ensures stands { StandsFor self.new no_past }
+        ensures stands { DeskewRepresents self.new no_history }
         ensures found { self.new.found ≡ None }
     {
         self.first.clear();
@@ -62,7 +71,7 @@ impl Deskew {
         requires lane { lane < 3 }
         requires words { AreWords words.now }
         requires push { CanPush self.old lane lock words.now }
-        ensures stands { (p : Past) → StandsFor self.old p → StandsFor self.new (pushed lane lock words.now p) }
+        ensures stands { (p : History) → DeskewRepresents self.old p → DeskewRepresents self.new (pushed lane lock words.now p) }
         ensures found { self.new.found ≡ self.old.found }
     {
         let reach = self.room();
@@ -76,7 +85,7 @@ impl Deskew {
     /// Tells that a lane gets no more characters.
     pub fn end(&mut self, lane: u8)
         requires { lane < 3 }
-        ensures stands { (p : Past) → StandsFor self.old p → StandsFor self.new (ended lane p) }
+        ensures stands { (p : History) → DeskewRepresents self.old p → DeskewRepresents self.new (ended lane p) }
         ensures found { self.new.found ≡ self.old.found }
     {
         self.mark(lane);
@@ -88,7 +97,7 @@ impl Deskew {
     /// Marks a lane as ended.
     fn mark(&mut self, lane: u8)
         requires { lane < 3 }
-        ensures known { (p : Past) → AreKnown self.old p → AreKnown self.new (ended lane p) }
+        ensures known { (p : History) → AreKnown self.old p → AreKnown self.new (ended lane p) }
         ensures first { self.new.first.kept ≡ self.old.first.kept }
         ensures second { self.new.second.kept ≡ self.old.second.kept }
         ensures third { self.new.third.kept ≡ self.old.third.kept }
@@ -105,7 +114,7 @@ impl Deskew {
     pub fn held(&self, lane: u8) -> usize
         requires { lane < 3 }
         ensures held { result ≡ length (kept_of self.now lane) }
-        ensures within { result ≤ 4160 }
+        ensures within { result ≤ ROW_WORDS }
     {
         match lane {
             0 => self.first.held(),
@@ -117,22 +126,24 @@ impl Deskew {
     /// The first full alignment of all characters pushed so far; None exactly where they have none. Until
     /// there is one, the lanes are to be pushed evenly.
     pub fn settle(&mut self) -> Option<Aligned>
-        ensures stands { (p : Past) → StandsFor self.old p → (self.old.found ≡ None → AreEven p) → StandsFor self.new (settled p) }
-        ensures answer { (p : Past) → StandsFor self.old p → (self.old.found ≡ None → AreEven p) → MatchOption result ((d e f : ℕ) → IsPastTriple p d e f → ⊥) (λ at. IsPastAlignment p at.edges) }
+        ensures stands { (p : History) → DeskewRepresents self.old p → (self.old.found ≡ None → AreEven p) → DeskewRepresents self.new (settled p) }
+        ensures answer { (p : History) → DeskewRepresents self.old p → (self.old.found ≡ None → AreEven p) → MatchOption result ((d e f : ℕ) → IsPastTriple p d e f → ⊥) (λ at. IsPastAlignment p at.edges) }
         ensures few { result ≡ None → (lane : ℕ) → length (kept_of self.new lane) ≤ 32 }
         ensures found { self.new.found ≡ result }
     {
-        if self.found.is_none() {
-            self.found = self.seek();
+        if self.found.is_some() {
+            return self.found;
         }
-        self.found
+        let found = self.seek();
+        self.found = found;
+        found
     }
 
     /// Looks for it in what is kept.
     fn seek(&mut self) -> Option<Aligned>
-        ensures known { (p : Past) → AreKnown self.old p → AreKnown self.new (settled p) }
+        ensures known { (p : History) → AreKnown self.old p → AreKnown self.new (settled p) }
         ensures few { result ≡ None → (lane : ℕ) → length (kept_of self.new lane) ≤ 32 }
-        ensures found { (p : Past) → AreKnown self.old p → Awaits self.old p → AreEven p → MatchOption result (Awaits self.new (settled p)) (λ at. IsAligned self.new (settled p) at.edges) }
+        ensures found { (p : History) → AreKnown self.old p → Awaits self.old p → AreEven p → MatchOption result (Awaits self.new (settled p)) (λ at. IsAligned self.new (settled p) at.edges) }
     {
         self.first.gather();
         self.second.gather();
@@ -180,7 +191,7 @@ impl Deskew {
     pub fn columns(&self) -> Columns<'_>
         ensures count { length (columns_in result) ≡ ready_of self.now }
         ensures before { self.now.found ≡ None → columns_in result ≡ [] }
-        ensures columns { (p : Past) (at : Aligned) → StandsFor self.now p → self.now.found ≡ Some at
+        ensures columns { (p : History) (at : Aligned) → DeskewRepresents self.now p → self.now.found ≡ Some at
             → columns_in result ≡ drop p.taken (past_columns p at.edges) }
     {
         let n = self.ready();
@@ -194,7 +205,7 @@ impl Deskew {
     pub fn consume(&mut self, n: usize)
         requires { n ≤ ready_of self.old }
         ensures ready { ready_of self.new ≡ ready_of self.old - n }
-        ensures stands { (p : Past) → StandsFor self.old p → StandsFor self.new (consumed n p) }
+        ensures stands { (p : History) → DeskewRepresents self.old p → DeskewRepresents self.new (consumed n p) }
         ensures found { self.new.found ≡ self.old.found }
     {
         self.first.consume(n);

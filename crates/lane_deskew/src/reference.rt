@@ -9,17 +9,12 @@ ghost use Rattle.lane_deskew.specs.Candidates.{AreAllNear, AreReached, sum_of};
 ghost use Rattle.lane_deskew.specs.Aligned.{place, column_at};
 
 use crate::Aligned;
-use lane_align::is_control_word;
+use lane_align::{RUN_BITS, is_control_word};
+use terc4::RUN;
 use tmds_word::{BitRow, Word};
 
 /// How far two edges of an alignment lie apart at most, in bits.
 const NEAR: u32 = 70;
-
-/// How many control words make a run.
-const RUN: u32 = 12;
-
-/// The bits of a run.
-const RUN_BITS: u32 = 120;
 
 /// The bits of a character.
 const WORD: u32 = 10;

@@ -3,7 +3,8 @@ use Rattle.std.specs.Prelude.{◌≡◌, ℕ, ◌+◌, ◌/◌, ◌%◌, ◌^◌
 use Rattle.std.proofs.Common.{suc, zero}
 use Rattle.tmds_word.specs.Bits.{bytes_bits}
 use Rattle.lane_align.specs.Words.{AreWords, lane_words}
-use Rattle.lane_align.specs.Aligners.{StandsFor, fed_of, lock_of}
+use Rattle.lane_align.specs.declared.TheConstants.{FEED_BITS}
+use Rattle.lane_align.specs.Aligners.{AlignerRepresents, fed_of, lock_of}
 use Rattle.lane_align.specs.declared.aligner.LaneAligner.{LaneAligner}
 
 -- a lane: its aligner, and the characters that its last feed gave
@@ -24,7 +25,7 @@ side_at sides (suc (suc n)) = sides.third
 
 -- no bit was fed to a lane
 pub record IsFresh (side : Side) : Type 0 where
-  pub stands : StandsFor side.aligner []
+  pub stands : AlignerRepresents side.aligner []
   pub fed : fed_of side.aligner ≡ 0
   pub lock : lock_of side.aligner ≡ None
   pub words : side.words ≡ []
@@ -36,7 +37,7 @@ pub record AreFresh (sides : Sides) : Type 0 where
 
 -- what an aligner asks of a feed
 pub record CanTake (side : Side) (bytes : List ℕ) (bits : ℕ) : Type 0 where
-  pub most : bits ≤ 32768
+  pub most : bits ≤ FEED_BITS
   pub bytes_given : length bytes ≡ (bits + 7) / 8
   pub whole : (bits ≡ 0) ⊎ (fed_of side.aligner % 8 ≡ 0)
   pub total : fed_of side.aligner + bits < 2 ^ 63
@@ -46,6 +47,6 @@ pub record HasTaken (old : Side) (bytes : List ℕ) (bits : ℕ) (new : Side) : 
   pub fed : fed_of new.aligner ≡ fed_of old.aligner + bits
   pub few : length new.words ≤ bits / 10 + 13
   pub small : AreWords new.words
-  pub stands : (xs : List Bool) → StandsFor old.aligner xs → StandsFor new.aligner (xs ++ take bits (bytes_bits bytes))
-  pub words : (xs : List Bool) → StandsFor old.aligner xs
+  pub stands : (xs : List Bool) → AlignerRepresents old.aligner xs → AlignerRepresents new.aligner (xs ++ take bits (bytes_bits bytes))
+  pub words : (xs : List Bool) → AlignerRepresents old.aligner xs
       → lane_words (lock_of old.aligner) xs ++ new.words ≡ lane_words (lock_of new.aligner) (xs ++ take bits (bytes_bits bytes))

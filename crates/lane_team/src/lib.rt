@@ -3,18 +3,15 @@
 
 ghost use Rattle.std.specs.Prelude.{◌≡◌, ◌<◌, List, Bool, slice_index};
 ghost use Rattle.lane_align.specs.Lanes.{IsLockOf};
-ghost use Rattle.lane_align.specs.Aligners.{StandsFor, lock_of};
+ghost use Rattle.lane_align.specs.Aligners.{AlignerRepresents, lock_of};
 ghost use Rattle.lane_team.specs.Sides.{IsFresh, AreFresh, CanTake, HasTaken, side_at};
 
-use lane_align::LaneAligner;
+use lane_align::{LaneAligner, ROW_WORDS};
 use std::marker::Model;
 use std::thread::{Threads, join_mut};
 
 #[cfg(test)]
 mod tests;
-
-/// How many characters a row holds: as many as a feed of 32,768 bits makes whole, and more.
-const ROOM: usize = 4160;
 
 /// What a worker goes through before it searches its lane.
 pub trait Gate: Sync {
@@ -36,7 +33,7 @@ impl Gate for Open {
 struct Side {
     aligner: LaneAligner,
     /// The characters, and room behind them.
-    row: [u16; ROOM],
+    row: [u16; ROW_WORDS],
     /// How many characters the last feed gave.
     count: usize,
 }
@@ -51,13 +48,14 @@ pub struct Team {
 
 impl Model for Side {
     ghost use Rattle.std.specs.Prelude.{◌≤◌, take};
+    ghost use Rattle.lane_align.specs.declared.TheConstants.{ROW_WORDS};
     ghost use Rattle.lane_team.specs.Sides as sides;
 
     ghost Value = { sides.Side };
 
     ghost view = { λ s. record { aligner = s.aligner; words = take s.count s.row } };
 
-    ghost invariant = { λ s. s.count ≤ 4160 };
+    ghost invariant = { λ s. s.count ≤ ROW_WORDS };
 }
 
 impl Model for Team {
@@ -75,7 +73,7 @@ impl Side {
     {
         Side {
             aligner: LaneAligner::new(),
-            row: [0; ROOM],
+            row: [0; ROW_WORDS],
             count: 0,
         }
     }
@@ -200,7 +198,7 @@ impl Team {
     pub fn locked(&self, lane: u8) -> Option<u64>
         requires { lane < 3 }
         ensures lock { result ≡ lock_of (side_at self.now lane).aligner }
-        ensures found { (xs : List Bool) → StandsFor (side_at self.now lane).aligner xs → IsLockOf xs result }
+        ensures found { (xs : List Bool) → AlignerRepresents (side_at self.now lane).aligner xs → IsLockOf xs result }
     {
         match lane {
             0 => self.first.aligner.locked(),

@@ -12,7 +12,7 @@ use Rattle.lane_track.specs.Strays.{IsStray, HasNoStray}
 use Rattle.lane_track.specs.Slips.{Slips, slipped, slipped_part, AreQuiet}
 use Rattle.lane_track.proofs.Pieces.{piece_cost, take_both}
 use Rattle.lane_align.proofs.Parts.{take_piece}
-use Rattle.lane_track.proofs.Cutting.{drop_slipped, run_before, run_behind, run_stays_before}
+use Rattle.lane_track.proofs.Cutting.{drop_slipped, run_before, run_after, run_stays_before}
 
 pub length-part : (words : List ℕ) (from many : ℕ) → from + many ≤ 10 * length words → length (part_of words from many) ≡ many
 length-part words from many within =
@@ -43,7 +43,7 @@ across_cut xs place dropped p a b long at sum =
 
 too_few : (words : List ℕ) (marks : List Bool) (from many place dropped : ℕ) → Slips words marks from many place dropped
     → (p : ℕ) → IsRun (slipped_part words from many place dropped) p → p < place → place < p + 120 → ⊥
-too_few words marks from many place dropped s p run before behind =
+too_few words marks from many place dropped s p run before after =
     let xs = part_of words from many in
     let len : length xs ≡ many = length-part words from many s.within in
     let begins = s.begins in
@@ -61,7 +61,7 @@ too_few words marks from many place dropped s p run before behind =
 pub no_run_across : (words : List ℕ) (marks : List Bool) (from many place dropped : ℕ) → Slips words marks from many place dropped
     → (p : ℕ) → IsRun (slipped_part words from many place dropped) p → (p + 120 ≤ place) ⊎ (place ≤ p)
 no_run_across words marks from many place dropped s p run = elim (cases_lt p place) [
-  | inr behind ↦ inr behind
+  | inr after ↦ inr after
   | inl before ↦ elim (cases_lt place (p + 120)) [
     | inl across ↦ absurd (too_few words marks from many place dropped s p run before across)
     | inr whole ↦ inl whole
@@ -77,7 +77,7 @@ runs_around words marks from many place dropped s p run =
     let ends = s.ends in
     elim (no_run_across words marks from many place dropped s p run) [
       | inl before ↦ inl (before, tap_lock words marks s.calm from many p (run_before xs place dropped p (omega arith) before run))
-      | inr behind ↦ inr (behind, tap_lock words marks s.calm from many (p + dropped) (run_behind xs place dropped p (omega arith) behind run))
+      | inr after ↦ inr (after, tap_lock words marks s.calm from many (p + dropped) (run_after xs place dropped p (omega arith) after run))
     ]
 
 -- a lock before the slip stays
@@ -92,11 +92,11 @@ lock_stays words marks from many place dropped s lock is_lock before =
       least = λ q less run. is_lock.least q less (run_before xs place dropped q (omega arith) (omega arith) run);
     }
 
-pub strays_behind : (words : List ℕ) (marks : List Bool) (from many place dropped : ℕ) → Slips words marks from many place dropped
+pub strays_after : (words : List ℕ) (marks : List Bool) (from many place dropped : ℕ) → Slips words marks from many place dropped
     → (lock : ℕ) → IsLock (part_of words from many) lock → lock + 120 ≤ place
     → (p : ℕ) → IsStray (slipped_part words from many place dropped) p
     ↔ ((place ≤ p) × IsRun (slipped_part words from many place dropped) p)
-strays_behind words marks from many place dropped s lock is_lock before p =
+strays_after words marks from many place dropped s lock is_lock before p =
     let whole = tap_lock words marks s.calm from many lock is_lock.run in
     let some = s.some in
     let few = s.few in (
@@ -104,7 +104,7 @@ strays_behind words marks from many place dropped s lock is_lock before p =
           let around = runs_around words marks from many place dropped s in
           let was = around stray.lock stray.is_lock.run in
           elim (around p stray.run) [
-            | inr behind ↦ (behind.0, stray.run)
+            | inr after ↦ (after.0, stray.run)
             | inl early ↦ elim was [
               | inl w ↦ let a = w.1 in let b = early.1 in absurd (stray.apart (omega arith))
               | inr w ↦ let a = w.0 in let b = early.0 in let c = stray.past in absurd (omega arith)
@@ -163,10 +163,10 @@ drop_part words from many z =
 
 pub rest_is_part : (words : List ℕ) (from many place dropped z : ℕ) → place ≤ z → place + dropped ≤ many → from + many ≤ 10 * length words
     → drop z (slipped_part words from many place dropped) ≡ part_of words (from + dropped + z) (many - dropped - z)
-rest_is_part words from many place dropped z behind long within =
+rest_is_part words from many place dropped z after long within =
     let len : length (part_of words from many) ≡ many = length-part words from many within in
     let e : from + (z + dropped) ≡ from + dropped + z = omega arith in
     let f : many - (z + dropped) ≡ many - dropped - z = omega arith in
-    drop_slipped (part_of words from many) place dropped z (omega arith) behind
+    drop_slipped (part_of words from many) place dropped z (omega arith) after
     ∙ drop_part words from many (z + dropped)
     ∙ ap₂ (part_of words) e f

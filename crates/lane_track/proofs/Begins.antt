@@ -15,8 +15,8 @@ use Rattle.lane_align.proofs.Across.{control_turns}
 use Rattle.lane_track.specs.Strays.{IsFirstStray}
 use Rattle.lane_track.specs.Slips.{Slips, slipped_part, BeginsControl}
 use Rattle.lane_align.proofs.Parts.{take_piece}
-use Rattle.lane_track.proofs.Cutting.{run_behind, run_stays_behind}
-use Rattle.lane_track.proofs.Around.{length-part, runs_around, strays_behind}
+use Rattle.lane_track.proofs.Cutting.{run_after, run_stays_after}
+use Rattle.lane_track.proofs.Around.{length-part, runs_around, strays_after}
 
 -- what a window of a part of a lane says, where a character begins there
 part_word : (words : List ℕ) (from many q j : ℕ) → from + many ≤ 10 * length words → q + 10 ≤ many → q + from ≡ 10 * j
@@ -81,7 +81,7 @@ starts_far words marks from many place dropped start s b = elim (cases_lt (10 * 
   | inr far ↦ far
   | inl near ↦
       let within = b.within in
-      let behind = b.behind in
+      let after = b.after in
       let few = s.quiet start (omega arith) (omega arith) (omega arith) in
       let e : start + 0 ≡ start = omega arith in
       let many_turns = control_turns (get_or words start 0) (subst (λ m. is_control (get_or words m 0) ≡ true) e (b.control 0 (omega arith))) in
@@ -92,13 +92,13 @@ starts_far words marks from many place dropped start s b = elim (cases_lt (10 * 
 none_before : (words : List ℕ) (marks : List Bool) (from many place dropped start early : ℕ) → Slips words marks from many place dropped
     → BeginsControl words marks (from + place + dropped) start → early ≤ 2 → is_control (get_or words (start - 1 - early) 0) ≡ false
     → (q : ℕ) → place ≤ q → q + dropped + from < 10 * (start - early) → IsRun (slipped_part words from many place dropped) q → ⊥
-none_before words marks from many place dropped start early s b few plain q behind less run =
+none_before words marks from many place dropped start early s b few plain q after less run =
     let xs = part_of words from many in
     let len : length xs ≡ many = length-part words from many s.within in
     let ends = s.ends in
     let far = starts_far words marks from many place dropped start s b in
     let within = b.within in
-    let was : IsRun xs (q + dropped) = run_behind xs place dropped q (omega arith) behind run in
+    let was : IsRun xs (q + dropped) = run_after xs place dropped q (omega arith) after run in
     let whole : (q + dropped + from) % 10 ≡ 0 = elim (runs_around words marks from many place dropped s q run) [
       | inl w ↦ let a = w.0 in absurd (omega arith)
       | inr w ↦ w.1
@@ -141,13 +141,13 @@ first_at words marks from many place dropped s lock is_lock before start b whole
     let len : length xs ≡ many = length-part words from many s.within in
     let ends = s.ends in
     let far = starts_far words marks from many place dropped start s b in
-    let behind = strays_behind words marks from many place dropped s lock is_lock before in
+    let after = strays_after words marks from many place dropped s lock is_lock before in
     let run : IsRun xs (p + dropped) = run_here words from many (p + dropped) (start - early) s.within (omega arith) at b.small
     (begin_run words marks (from + place + dropped) start early b (omega arith) control) in
     record {
-      stray = (behind p).1 (omega arith, run_stays_behind xs place dropped p (omega arith) (omega arith) run);
+      stray = (after p).1 (omega arith, run_stays_after xs place dropped p (omega arith) (omega arith) run);
       least = λ q less stray.
-          let h = (behind q).0 stray in
+          let h = (after q).0 stray in
           none_before words marks from many place dropped start early s b few plain q h.0 (omega arith) h.1;
     }
 
@@ -211,9 +211,9 @@ stray_starts words marks from many place dropped s lock is_lock before start b p
     let ends = s.ends in
     let few = e.1 in
     let far = starts_far words marks from many place dropped start s b in
-    let behind = strays_behind words marks from many place dropped s lock is_lock before in
-    let h = (behind p).0 first.stray in
-    let was = run_behind xs place dropped p (omega arith) h.0 h.1 in
+    let after = strays_after words marks from many place dropped s lock is_lock before in
+    let h = (after p).0 first.stray in
+    let was = run_after xs place dropped p (omega arith) h.0 h.1 in
     let long = run_within xs (p + dropped) was in
     let q = 10 * (start - e.0) - dropped - from in
     let at : q + dropped + from ≡ 10 * (start - e.0) = omega arith in
@@ -225,7 +225,7 @@ stray_starts words marks from many place dropped s lock is_lock before start b p
         | inl later ↦
             let run : IsRun xs (q + dropped) = run_here words from many (q + dropped) (start - e.0) s.within (omega arith) at b.small
             (begin_run words marks (from + place + dropped) start e.0 b (omega arith) e.2) in
-            absurd (first.least q later ((behind q).1 (omega arith, run_stays_behind xs place dropped q (omega arith) (omega arith) run)))
+            absurd (first.least q later ((after q).1 (omega arith, run_stays_after xs place dropped q (omega arith) (omega arith) run)))
       ]
     ] in
     (e.0, e.1, e.2, e.3, here)

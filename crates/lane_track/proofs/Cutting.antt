@@ -43,22 +43,22 @@ run_before xs place dropped p long before run =
 pub run_stays_before : (xs : List Bool) (place dropped p : ℕ) → place + dropped ≤ length xs → p + 120 ≤ place → IsRun xs p → IsRun (slipped xs place dropped) p
 run_stays_before xs place dropped p long before run = run_grows (take place xs) (drop (place + dropped) xs) p (run_in_front place xs p before run)
 
-behind_piece : (xs : List Bool) (place dropped p k : ℕ) → place + dropped ≤ length xs → place ≤ p
+after_piece : (xs : List Bool) (place dropped p k : ℕ) → place + dropped ≤ length xs → place ≤ p
     → take 10 (drop (p + 10 * k) (slipped xs place dropped)) ≡ take 10 (drop (p + dropped + 10 * k) xs)
-behind_piece xs place dropped p k long behind =
+after_piece xs place dropped p k long after =
     let e : p + 10 * k + dropped ≡ p + dropped + 10 * k = omega arith in
     ap (take 10) (drop_slipped xs place dropped (p + 10 * k) long (omega arith)) ∙ ap (λ m. take 10 (drop m xs)) e
 
-pub run_behind : (xs : List Bool) (place dropped p : ℕ) → place + dropped ≤ length xs → place ≤ p → IsRun (slipped xs place dropped) p → IsRun xs (p + dropped)
-run_behind xs place dropped p long behind run k lt =
+pub run_after : (xs : List Bool) (place dropped p : ℕ) → place + dropped ≤ length xs → place ≤ p → IsRun (slipped xs place dropped) p → IsRun xs (p + dropped)
+run_after xs place dropped p long after run k lt =
     let ys = slipped xs place dropped in
     let within = control_within ys (p + 10 * k) (run k lt) in
     let len = length_slipped xs place dropped long in
-    same_control ys xs (p + 10 * k) (p + dropped + 10 * k) (behind_piece xs place dropped p k long behind) (omega arith) (run k lt)
+    same_control ys xs (p + 10 * k) (p + dropped + 10 * k) (after_piece xs place dropped p k long after) (omega arith) (run k lt)
 
-pub run_stays_behind : (xs : List Bool) (place dropped p : ℕ) → place + dropped ≤ length xs → place ≤ p → IsRun xs (p + dropped) → IsRun (slipped xs place dropped) p
-run_stays_behind xs place dropped p long behind run k lt =
+pub run_stays_after : (xs : List Bool) (place dropped p : ℕ) → place + dropped ≤ length xs → place ≤ p → IsRun xs (p + dropped) → IsRun (slipped xs place dropped) p
+run_stays_after xs place dropped p long after run k lt =
     let ys = slipped xs place dropped in
     let within = control_within xs (p + dropped + 10 * k) (run k lt) in
     let len = length_slipped xs place dropped long in
-    same_control xs ys (p + dropped + 10 * k) (p + 10 * k) (sym (behind_piece xs place dropped p k long behind)) (omega arith) (run k lt)
+    same_control xs ys (p + dropped + 10 * k) (p + 10 * k) (sym (after_piece xs place dropped p k long after)) (omega arith) (run k lt)

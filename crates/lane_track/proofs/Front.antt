@@ -14,7 +14,7 @@ use Rattle.lane_track.specs.Strays.{IsFirstStray}
 use Rattle.lane_track.specs.Slips.{Slips, slipped, slipped_part}
 use Rattle.lane_align.proofs.Parts.{same_control, take_piece, run_of_front}
 use Rattle.lane_track.proofs.Cutting.{front_piece, run_before, length_slipped}
-use Rattle.lane_track.proofs.Around.{length-part, runs_around, strays_behind}
+use Rattle.lane_track.proofs.Around.{length-part, runs_around, strays_after}
 
 run_same : (xs ys : List Bool) (place p : ℕ) → ((q : ℕ) → q + 10 ≤ place → take 10 (drop q xs) ≡ take 10 (drop q ys)) → place ≤ length ys → p + 120 ≤ place → IsRun xs p → IsRun ys p
 run_same xs ys place p same long before run k lt = same_control xs ys (p + 10 * k) (p + 10 * k) (same (p + 10 * k) (omega arith)) (omega arith) (run k lt)
@@ -68,8 +68,8 @@ front_edges words marks from many place dropped s lock is_lock before z first e 
     let len : length xs ≡ many = length-part words from many s.within in
     let ends = s.ends in
     let slip_len = length_slipped xs place dropped (omega arith) in
-    let behind = strays_behind words marks from many place dropped s lock is_lock before in
-    let late = (behind z).0 first.stray in
+    let after = strays_after words marks from many place dropped s lock is_lock before in
+    let late = (after z).0 first.stray in
     let within = run_within ys z first.stray.run in
     let front : length (take place xs) ≡ place = length-take-le place xs (omega arith) in
     let cut : length (take z ys) ≡ z = length-take-le z ys (omega arith) in
@@ -85,7 +85,7 @@ front_edges words marks from many place dropped s lock is_lock before z first e 
             | inl h ↦
                 let ok = ends_early words marks from many place dropped s (e - 120) (run_before xs place dropped (e - 120) (omega arith) h.0 run) h.0 h.1 in
                 omega arith
-            | inr h ↦ absurd (first.least (e - 120) (omega arith) ((behind (e - 120)).1 (h.0, run)))
+            | inr h ↦ absurd (first.least (e - 120) (omega arith) ((after (e - 120)).1 (h.0, run)))
           ] in
           edge_same (take z ys) (take place xs) place e same (omega arith) (omega arith) early edge,
       λ edge.

@@ -8,10 +8,6 @@ pub record HasSought (xs : List Bool) (seen : ℕ) (found : Option ℕ) : Type 0
   pub lock : MatchOption found ((p : ℕ) → p < seen → IsRun xs p → ⊥) (λ l. IsLock xs l × (l < seen))
   pub none : (p : ℕ) → p < seen → IsStray xs p → ⊥
 
--- all places of the bits that are decided were looked at: those of whose run all bits have come
-abbrev pub IsSought : List Bool → Option ℕ → Type 0
-IsSought xs lock = (seen : ℕ) × (length xs ≤ seen + 119) × HasSought xs seen lock
-
 -- the first bits are so many bits of a lane, which begin at a place of it; what stands behind them is of no account
 pub record HoldsBits (bits : List Bool) (xs : List Bool) (base count : ℕ) : Type 0 where
   pub within : base + count ≤ length xs

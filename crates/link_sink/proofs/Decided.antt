@@ -13,9 +13,9 @@ use Rattle.lane_align.proofs.Edges.{edge_within}
 use Rattle.lane_deskew.specs.Triples.{IsTriple, IsFirst}
 use Rattle.tmds_word.specs.Taps.{AreNear}
 use Rattle.lane_deskew.specs.Aligned.{aligned_columns}
-use Rattle.period_grammar.specs.Things.{Thing}
+use Rattle.period_grammar.specs.Events.{Event}
 use Rattle.link_sink.specs.Grammar.{Grammar}
-use Rattle.link_sink.specs.Sinks.{Fed, IsToldBy}
+use Rattle.link_sink.specs.Sinks.{Fed, IsReportedBy}
 
 -- the least number below a bound
 record IsLeast (P : ℕ → Type 0) (n p : ℕ) : Type 0 where
@@ -224,9 +224,9 @@ first_decided xs ys zs = by (least_or_none (HasTriple xs ys zs) (all_bits xs ys 
     by (inr none) = inr (λ d e f t. none (max d (max e f)) (largest_within xs ys zs d e f t) (up_to_largest xs ys zs d e f t))
 
 -- so there is what they tell while they go on
-pub told_so_far : (g : Grammar) (fed : Fed) → (things : List Thing) × IsToldBy g fed things
-told_so_far g fed = by (first_decided fed.blue fed.green fed.red)
+pub reported_so_far : (g : Grammar) (fed : Fed) → (events : List Event) × IsReportedBy g fed events
+reported_so_far g fed = by (first_decided fed.blue fed.green fed.red)
   where
-    by : ((d e f : ℕ) × IsFirst fed.blue fed.green fed.red d e f) ⊎ ((d e f : ℕ) → IsTriple fed.blue fed.green fed.red d e f → ⊥) → (things : List Thing) × IsToldBy g fed things
+    by : ((d e f : ℕ) × IsFirst fed.blue fed.green fed.red d e f) ⊎ ((d e f : ℕ) → IsTriple fed.blue fed.green fed.red d e f → ⊥) → (events : List Event) × IsReportedBy g fed events
     by (inl h) = (g.so_far (aligned_columns fed.blue fed.green fed.red h.0 h.1 h.2), inl (h.0, h.1, h.2, h.3, refl))
     by (inr none) = ([], inr (none, refl))

@@ -3,13 +3,13 @@ use Rattle.std.proofs.Common.{◌≡◌, ◌⊎◌, ℕ, ◌+◌, ◌≤◌, max
 use Rattle.std.proofs.lemmas.Bool.{lt-ltb, cases_lt}
 use Rattle.lane_align.specs.Aligners.{fed_of}
 use Rattle.lane_team.specs.Sides.{Side, Sides, HasTaken}
-use Rattle.lane_deskew.specs.Pushed.{Pushed, Past, change, rested, settled, IsEven, AreEven, IsPastTriple, IsPastAlignment, StandsFor as IsDeskewOf, kept_of, ready_of}
+use Rattle.lane_deskew.specs.Pushed.{Pushed, History, change, rested, settled, IsEven, AreEven, IsPastTriple, IsPastAlignment, DeskewRepresents as IsDeskewOf, kept_of, ready_of}
 use Rattle.lane_deskew.specs.Fed.{IsCutFrom, AreCutFrom, WasFed}
 use Rattle.lane_deskew.specs.declared.deskew.Deskew.{Deskew}
 use Rattle.lane_deskew.specs.declared.Aligned.{Aligned}
 use Rattle.lane_deskew.proofs.Fed.{evenly_fed, past_triples, past_alignments}
 use Rattle.link_sink.specs.Sinks.{Fed}
-use Rattle.link_sink.specs.Received.{CanFeed, GoesOn, IsLane, IsFoundAt, IsReceived, HasGained, MayPush, HasPushed, end_if, longest}
+use Rattle.link_sink.specs.Received.{CanFeed, GoesOn, IsLane, IsFoundAt, ReceiverRepresents, HasGained, MayPush, HasPushed, end_if, longest}
 use Rattle.link_sink.specs.Seen.{Receiver}
 use Rattle.link_sink.proofs.Feeding.{length_grown}
 use Rattle.link_sink.proofs.Room.{IsSame, kept_many, kept_is, few_kept, second_kept, third_kept}
@@ -17,7 +17,7 @@ use Rattle.link_sink.proofs.Gaining.{fed_more, lane_gained, lane_going}
 
 -- The first lane may push, then the second, then the third.
 
-pub may_first : (r : Receiver) (fed : Fed) (taken : ℕ) (side : Side) (bytes : List ℕ) (bits : ℕ) → (h : IsReceived r fed taken) → ready_of r.deskew ≡ 0
+pub may_first : (r : Receiver) (fed : Fed) (taken : ℕ) (side : Side) (bytes : List ℕ) (bits : ℕ) → (h : ReceiverRepresents r fed taken) → ready_of r.deskew ≡ 0
     → CanFeed (fed_of r.team.first.aligner) (longest r.team) bytes bits → HasTaken r.team.first bytes bits side
     → MayPush side r.deskew 0 bits h.past fed.blue (fed_more fed.blue bytes bits)
 may_first r fed taken side bytes bits h none can took = record {
@@ -31,7 +31,7 @@ may_first r fed taken side bytes bits h none can took = record {
       omega (arith, many, few);
 }
 
-pub may_second : (r : Receiver) (fed : Fed) (taken : ℕ) (side : Side) (bytes : List ℕ) (bits : ℕ) → (h : IsReceived r fed taken) → ready_of r.deskew ≡ 0
+pub may_second : (r : Receiver) (fed : Fed) (taken : ℕ) (side : Side) (bytes : List ℕ) (bits : ℕ) → (h : ReceiverRepresents r fed taken) → ready_of r.deskew ≡ 0
     → CanFeed (fed_of r.team.second.aligner) (longest r.team) bytes bits → HasTaken r.team.second bytes bits side
     → (d : Deskew) (first : Pushed) → IsSame h.past.first first → d.found ≡ r.deskew.found → IsDeskewOf d (change (λ _. first) 0 h.past)
     → MayPush side d 1 bits (change (λ _. first) 0 h.past) fed.green (fed_more fed.green bytes bits)
@@ -47,7 +47,7 @@ may_second r fed taken side bytes bits h none can took d first same found stands
       omega (arith, many, few);
 }
 
-pub may_third : (r : Receiver) (fed : Fed) (taken : ℕ) (side : Side) (bytes : List ℕ) (bits : ℕ) → (h : IsReceived r fed taken) → ready_of r.deskew ≡ 0
+pub may_third : (r : Receiver) (fed : Fed) (taken : ℕ) (side : Side) (bytes : List ℕ) (bits : ℕ) → (h : ReceiverRepresents r fed taken) → ready_of r.deskew ≡ 0
     → CanFeed (fed_of r.team.third.aligner) (longest r.team) bytes bits → HasTaken r.team.third bytes bits side
     → (d : Deskew) (first second : Pushed) → IsSame h.past.first first → IsSame h.past.second second → d.found ≡ r.deskew.found
     → IsDeskewOf d (change (λ _. second) 1 (change (λ _. first) 0 h.past))
@@ -145,15 +145,15 @@ lane_after n m bits short old new xs us before now f =
 -- Three of them.
 
 -- before they are looked through
-abbrev pub fed_past : Past → Bool → Bool → Bool → Pushed → Pushed → Pushed → Past
+abbrev pub fed_past : History → Bool → Bool → Bool → Pushed → Pushed → Pushed → History
 fed_past p s0 s1 s2 n0 n1 n2 = record { first = end_if s0 n0; second = end_if s1 n1; third = end_if s2 n2; taken = p.taken }
 
-pub record AreFed (r : Receiver) (fed now : Fed) (p : Past) (team : Sides) (m x y z : ℕ) (s0 s1 s2 : Bool) (n0 n1 n2 : Pushed) : Type 0 where
+pub record AreFed (r : Receiver) (fed now : Fed) (p : History) (team : Sides) (m x y z : ℕ) (s0 s1 s2 : Bool) (n0 n1 n2 : Pushed) : Type 0 where
   pub first : IsFedLane (longest r.team) m x s0 r.team.first team.first fed.blue now.blue p.first n0
   pub second : IsFedLane (longest r.team) m y s1 r.team.second team.second fed.green now.green p.second n1
   pub third : IsFedLane (longest r.team) m z s2 r.team.third team.third fed.red now.red p.third n2
 
-pub are_even : (r : Receiver) (fed now : Fed) (p : Past) (team : Sides) (m x y z : ℕ) (s0 s1 s2 : Bool) (n0 n1 n2 : Pushed) → AreFed r fed now p team m x y z s0 s1 s2 n0 n1 n2
+pub are_even : (r : Receiver) (fed now : Fed) (p : History) (team : Sides) (m x y z : ℕ) (s0 s1 s2 : Bool) (n0 n1 n2 : Pushed) → AreFed r fed now p team m x y z s0 s1 s2 n0 n1 n2
     → AreEven (fed_past p s0 s1 s2 n0 n1 n2)
 are_even r fed now p team m x y z s0 s1 s2 n0 n1 n2 all = (
   longest r.team,
@@ -162,7 +162,7 @@ are_even r fed now p team m x y z s0 s1 s2 n0 n1 n2 all = (
   lane_even _ m z s2 _ _ _ _ _ n2 all.third,
 )
 
-found_by : (fed : Fed) (p : Past) (o : Option Aligned) → AreCutFrom fed.blue fed.green fed.red p
+found_by : (fed : Fed) (p : History) (o : Option Aligned) → AreCutFrom fed.blue fed.green fed.red p
     → MatchOption o ((d e f : ℕ) → IsPastTriple p d e f → ⊥) (λ at. IsPastAlignment p at.edges) → IsFoundAt fed o
 found_by fed p None cut none = λ d e f t. none d e f ((past_triples fed.blue fed.green fed.red p cut d e f).1 t)
 found_by fed p (Some at) cut first = (past_alignments fed.blue fed.green fed.red p cut at.edges).0 first
@@ -185,10 +185,10 @@ longest_fed old team x y z m e a b c i j k =
     (λ t. max (a t) (max (b t) (c t))) ∙ longest_more (fed_of old.first.aligner) (fed_of old.second.aligner) (fed_of old.third.aligner) x y z (longest old) refl i j k ∙ ap (λ w. longest old + w) (sym e)
 
 -- so a receiver stands for the bits of all feeds
-pub now_received : (r : Receiver) (fed now : Fed) (p : Past) (taken : ℕ) (team : Sides) (d : Deskew) (m x y z : ℕ) (s0 s1 s2 : Bool) (n0 n1 n2 : Pushed) → AreFed r fed now p team m x y z s0 s1 s2 n0 n1 n2
+pub now_received : (r : Receiver) (fed now : Fed) (p : History) (taken : ℕ) (team : Sides) (d : Deskew) (m x y z : ℕ) (s0 s1 s2 : Bool) (n0 n1 n2 : Pushed) → AreFed r fed now p team m x y z s0 s1 s2 n0 n1 n2
     → p.taken ≡ taken → longest team ≡ longest r.team + m → IsDeskewOf d (settled (fed_past p s0 s1 s2 n0 n1 n2)) → (o : Option Aligned) → d.found ≡ o
     → MatchOption o ((i j k : ℕ) → IsPastTriple (fed_past p s0 s1 s2 n0 n1 n2) i j k → ⊥) (λ at. IsPastAlignment (fed_past p s0 s1 s2 n0 n1 n2) at.edges)
-    → IsReceived (record { team = team; deskew = d }) now taken
+    → ReceiverRepresents (record { team = team; deskew = d }) now taken
 now_received r fed now p taken team d m x y z s0 s1 s2 n0 n1 n2 all took long stands o found answer =
     let more = sym long in
     record {

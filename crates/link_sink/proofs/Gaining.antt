@@ -4,10 +4,10 @@ use Rattle.std.proofs.lemmas.List.{append-nil}
 use Rattle.tmds_word.specs.Bits.{bytes_bits}
 use Rattle.lane_align.specs.Lanes.{IsRun, IsLockOf}
 use Rattle.lane_align.specs.Words.{lane_words}
-use Rattle.lane_align.specs.Aligners.{StandsFor as IsAlignerOf, Seeks, Cuts, fed_of, lock_of}
+use Rattle.lane_align.specs.Aligners.{AlignerRepresents as IsAlignerOf, Seeks, Cuts, fed_of, lock_of}
 use Rattle.lane_align.specs.declared.aligner.LaneAligner.{LaneAligner}
 use Rattle.lane_team.specs.Sides.{Side, HasTaken}
-use Rattle.lane_deskew.specs.Pushed.{Pushed, Past, more, change, pushed, StandsFor as IsDeskewOf, CanPush}
+use Rattle.lane_deskew.specs.Pushed.{Pushed, History, more, change, pushed, DeskewRepresents as IsDeskewOf, CanPush}
 use Rattle.lane_deskew.specs.Fed.{IsCutFrom, AreGained, past_at}
 use Rattle.lane_deskew.specs.declared.deskew.Deskew.{Deskew}
 use Rattle.lane_deskew.proofs.Gained.{gained_pushed, gained_fit, none_gained}
@@ -67,10 +67,10 @@ gained_at side bits lock words xs us g e same = record {
 }
 
 -- it goes on where it has bits
-goes : (side : Side) (d : Deskew) (lane bits : ℕ) (p : Past) (xs us : List Bool) → MayPush side d lane bits p xs us → (bits ≡ 0 → ⊥) → (past_at p lane).ended ≡ false
+goes : (side : Side) (d : Deskew) (lane bits : ℕ) (p : History) (xs us : List Bool) → MayPush side d lane bits p xs us → (bits ≡ 0 → ⊥) → (past_at p lane).ended ≡ false
 goes side d lane bits p xs us m some = elim m.going [ inl none ↦ absurd (some none) | inr on ↦ on ]
 
-pub can_push : (side : Side) (d : Deskew) (lane bits lock : ℕ) (words : List ℕ) (p : Past) (xs us : List Bool) → MayPush side d lane bits p xs us → (bits ≡ 0 → ⊥)
+pub can_push : (side : Side) (d : Deskew) (lane bits lock : ℕ) (words : List ℕ) (p : History) (xs us : List Bool) → MayPush side d lane bits p xs us → (bits ≡ 0 → ⊥)
     → lock_of side.aligner ≡ Some lock → words ≡ side.words → CanPush d lane lock words
 can_push side d lane bits lock words p xs us m some e same =
     let on = goes side d lane bits p xs us m some in
@@ -81,21 +81,21 @@ can_push side d lane bits lock words p xs us m some e same =
     (λ ended. let h : true ≡ false = sym ended ∙ on in absurd cc) (omega (arith, few, room, long))
 
 -- what a call on one lane changes
-same_change : (f : Pushed → Pushed) (lane : ℕ) (p : Past) → change f lane p ≡ change (λ _. f (past_at p lane)) lane p
+same_change : (f : Pushed → Pushed) (lane : ℕ) (p : History) → change f lane p ≡ change (λ _. f (past_at p lane)) lane p
 same_change f zero p = refl
 same_change f (suc zero) p = refl
 same_change f (suc (suc n)) p = refl
 
-no_change : (lane : ℕ) (p : Past) → p ≡ change (λ _. past_at p lane) lane p
+no_change : (lane : ℕ) (p : History) → p ≡ change (λ _. past_at p lane) lane p
 no_change zero p = refl
 no_change (suc zero) p = refl
 no_change (suc (suc n)) p = refl
 
 -- a lane that has pushed
-abbrev pub IsPushed : Deskew → ℕ → Past → List Bool → Type 0
+abbrev pub IsPushed : Deskew → ℕ → History → List Bool → Type 0
 IsPushed d lane p us = (now : Pushed) × HasPushed us (past_at p lane) now × IsDeskewOf d (change (λ _. now) lane p)
 
-pub pushes : (side : Side) (d new : Deskew) (lane bits lock : ℕ) (words : List ℕ) (p : Past) (xs us : List Bool) → MayPush side d lane bits p xs us → (bits ≡ 0 → ⊥)
+pub pushes : (side : Side) (d new : Deskew) (lane bits lock : ℕ) (words : List ℕ) (p : History) (xs us : List Bool) → MayPush side d lane bits p xs us → (bits ≡ 0 → ⊥)
     → lock_of side.aligner ≡ Some lock → words ≡ side.words → IsDeskewOf new (pushed lane lock words p) → IsPushed new lane p us
 pushes side d new lane bits lock words p xs us m some e same stands =
     let on = goes side d lane bits p xs us m some in (
@@ -104,22 +104,22 @@ pushes side d new lane bits lock words p xs us m some e same stands =
       subst (IsDeskewOf new) (same_change (more lock words) lane p) stands,
     )
 
-stays : (d : Deskew) (lane : ℕ) (p : Past) (us : List Bool) → IsDeskewOf d p → IsCutFrom us (past_at p lane) → IsPushed d lane p us
+stays : (d : Deskew) (lane : ℕ) (p : History) (us : List Bool) → IsDeskewOf d p → IsCutFrom us (past_at p lane) → IsPushed d lane p us
 stays d lane p us stands cut = (past_at p lane, record { cut = cut; settled = refl; ended = inl refl }, subst (IsDeskewOf d) (no_change lane p) stands)
 
 -- a lane of which no bit came
-pub pushes_none : (side : Side) (d : Deskew) (lane bits : ℕ) (p : Past) (xs us : List Bool) → MayPush side d lane bits p xs us → bits ≡ 0 → IsPushed d lane p us
+pub pushes_none : (side : Side) (d : Deskew) (lane bits : ℕ) (p : History) (xs us : List Bool) → MayPush side d lane bits p xs us → bits ≡ 0 → IsPushed d lane p us
 pushes_none side d lane bits p xs us m none =
     stays d lane p us m.stands (subst (λ (vs : List Bool). IsCutFrom vs (past_at p lane)) (sym (m.gained.none none)) m.cut)
 
 -- or that has no lock yet
-pub pushes_unlocked : (side : Side) (d : Deskew) (lane bits : ℕ) (p : Past) (xs us : List Bool) → MayPush side d lane bits p xs us → lock_of side.aligner ≡ None → IsPushed d lane p us
+pub pushes_unlocked : (side : Side) (d : Deskew) (lane bits : ℕ) (p : History) (xs us : List Bool) → MayPush side d lane bits p xs us → lock_of side.aligner ≡ None → IsPushed d lane p us
 pushes_unlocked side d lane bits p xs us m e =
     let none : (q : ℕ) → IsRun us q → ⊥ = subst (IsLockOf us) e (lock_found side.aligner us m.gained.aligner) in
     stays d lane p us m.stands (none_gained xs us (past_at p lane) m.gained.grown none m.cut)
 
 -- a lane that does not end
-pub goes_on : (b : Bool) (lane : ℕ) (p : Past) → b ≡ false → p ≡ change (end_if b) lane p
+pub goes_on : (b : Bool) (lane : ℕ) (p : History) → b ≡ false → p ≡ change (end_if b) lane p
 goes_on true lane p e = absurd cc
 goes_on false zero p e = refl
 goes_on false (suc zero) p e = refl

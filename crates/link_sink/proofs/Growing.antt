@@ -3,7 +3,7 @@ use Rattle.std.proofs.Common.{◌≡◌, List, [], ◌∷◌, ◌++◌, length, 
 use Rattle.std.proofs.Math.Seq.{take-append_seam, drop-append_seam}
 use Rattle.std.proofs.lemmas.List.Elements.{All-take, All-drop}
 use Rattle.tmds_word.specs.Column.{Column}
-use Rattle.period_grammar.specs.Things.{Thing}
+use Rattle.period_grammar.specs.Events.{Event}
 use Rattle.period_grammar.specs.Sizes.{IsSized}
 use Rattle.link_sink.specs.Ears.{StopsIn}
 use Rattle.link_sink.specs.Grammar.{Grammar}
@@ -18,42 +18,42 @@ all_back : {X : Type 0} (P : X → Type 0) (xs ys : List X) → All P (xs ++ ys)
 all_back P xs ys h = subst (All P) (drop-append_seam xs ys) (All-drop P (length xs) (xs ++ ys) h)
 
 -- what the end tells is of the sizes of all that is told
-pub end_sized : (g : Grammar) → IsGrammar g → (cs : List Column) (us : List Thing) → g.whole cs ≡ g.so_far cs ++ us → All IsSized us
+pub end_sized : (g : Grammar) → IsGrammar g → (cs : List Column) (us : List Event) → g.whole cs ≡ g.so_far cs ++ us → All IsSized us
 end_sized g is cs us e = all_back IsSized (g.so_far cs) us (subst (All IsSized) e (is.sized cs))
 
 -- so is what a call told
-pub call_sized : (g : Grammar) → IsGrammar g → (cs ds : List Column) (us : List Thing) → g.so_far ds ≡ g.so_far cs ++ us → All IsSized us
+pub call_sized : (g : Grammar) → IsGrammar g → (cs ds : List Column) (us : List Event) → g.so_far ds ≡ g.so_far cs ++ us → All IsSized us
 call_sized g is cs ds us e =
     let end = is.ended ds in
     all_back IsSized (g.so_far cs) us (subst (All IsSized) e (all_front IsSized (g.so_far ds) end.0 (subst (All IsSized) end.1 (is.sized ds))))
 
 -- an ear that took what columns tell takes what the next one tells
-pub took_next : {A : Type 0} (g : Grammar) (took : A → A → List Thing → Type 0) → ((x y z : A) (h k : List Thing) → took x y h → took y z k → took x z (h ++ k))
-    → (x y z : A) (cs part next : List Column) (c : Column) (us : List Thing) → next ≡ part ++ c ∷ []
+pub took_next : {A : Type 0} (g : Grammar) (took : A → A → List Event → Type 0) → ((x y z : A) (h k : List Event) → took x y h → took y z k → took x z (h ++ k))
+    → (x y z : A) (cs part next : List Column) (c : Column) (us : List Event) → next ≡ part ++ c ∷ []
     → g.so_far ((cs ++ part) ++ c ∷ []) ≡ g.so_far (cs ++ part) ++ us → TookMore g took x y cs part → took y z us → TookMore g took x z cs next
 took_next g took both x y z cs part next c us e t h k = record {
-  things = h.things ++ us;
-  things_are =
+  events = h.events ++ us;
+  events_are =
       ap (λ ds. g.so_far (cs ++ ds)) e ∙ ap g.so_far (sym (append_assoc cs part (c ∷ []))) ∙ t
-      ∙ ap (λ ts. ts ++ us) h.things_are ∙ append_assoc (g.so_far cs) h.things us;
-  took_things = both x y z h.things us h.took_things k;
+      ∙ ap (λ ts. ts ++ us) h.events_are ∙ append_assoc (g.so_far cs) h.events us;
+  took_events = both x y z h.events us h.took_events k;
 }
 
 -- and one that breaks there stops in what all columns tell
-pub stopped_next : {A : Type 0} (g : Grammar) → IsGrammar g → (took : A → A → List Thing → Type 0) (broke : A → A → Thing → Type 0)
-    → ((x y z : A) (h k : List Thing) → took x y h → took y z k → took x z (h ++ k))
-    → (x y z : A) (cs part next rest : List Column) (c : Column) (us : List Thing) → next ≡ part ++ c ∷ []
+pub stopped_next : {A : Type 0} (g : Grammar) → IsGrammar g → (took : A → A → List Event → Type 0) (broke : A → A → Event → Type 0)
+    → ((x y z : A) (h k : List Event) → took x y h → took y z k → took x z (h ++ k))
+    → (x y z : A) (cs part next rest : List Column) (c : Column) (us : List Event) → next ≡ part ++ c ∷ []
     → g.so_far ((cs ++ part) ++ c ∷ []) ≡ g.so_far (cs ++ part) ++ us → TookMore g took x y cs part → StopsIn took broke y z us
     → StoppedIn g took broke x z cs (next ++ rest)
 stopped_next g is took broke both x y z cs part next rest c us e t h s =
-    let so_far : g.so_far (cs ++ next) ≡ g.so_far cs ++ (h.things ++ us) =
+    let so_far : g.so_far (cs ++ next) ≡ g.so_far cs ++ (h.events ++ us) =
     ap (λ ds. g.so_far (cs ++ ds)) e ∙ ap g.so_far (sym (append_assoc cs part (c ∷ []))) ∙ t
-    ∙ ap (λ ts. ts ++ us) h.things_are ∙ append_assoc (g.so_far cs) h.things us in
+    ∙ ap (λ ts. ts ++ us) h.events_are ∙ append_assoc (g.so_far cs) h.events us in
     let more = is.more (cs ++ next) rest in
     record {
-      things = (h.things ++ us) ++ more.0;
-      things_are =
+      events = (h.events ++ us) ++ more.0;
+      events_are =
           ap g.so_far (sym (append_assoc cs next rest)) ∙ more.1 ∙ ap (λ ts. ts ++ more.0) so_far
-          ∙ append_assoc (g.so_far cs) (h.things ++ us) more.0;
-      stops = stops_before took broke x z (h.things ++ us) more.0 (stops_after took broke both x y z h.things us h.took_things s);
+          ∙ append_assoc (g.so_far cs) (h.events ++ us) more.0;
+      stops = stops_before took broke x z (h.events ++ us) more.0 (stops_after took broke both x y z h.events us h.took_events s);
     }

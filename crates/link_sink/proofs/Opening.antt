@@ -3,7 +3,7 @@ use Rattle.std.proofs.Common.{◌≡◌, ℕ, max, List, [], drop, refl, ap, sym
 use Rattle.std.proofs.Math.Seq.{drop-nil}
 use Rattle.tmds_word.specs.Column.{Column}
 use Rattle.lane_team.specs.Sides.{Sides, AreFresh}
-use Rattle.lane_deskew.specs.Pushed.{Past, no_past, past_columns, StandsFor as IsDeskewOf}
+use Rattle.lane_deskew.specs.Pushed.{History, no_history, past_columns, DeskewRepresents as IsDeskewOf}
 use Rattle.lane_deskew.specs.Fed.{AreCutFrom}
 use Rattle.lane_deskew.specs.declared.deskew.Deskew.{Deskew}
 use Rattle.lane_deskew.specs.declared.Aligned.{Aligned}
@@ -13,17 +13,17 @@ use Rattle.lane_deskew.proofs.Growth.{none_of_nothing}
 use Rattle.link_sink.specs.Sinks.{Fed}
 use Rattle.link_sink.specs.Pieces.{no_bits}
 use Rattle.link_sink.specs.Progress.{columns_from}
-use Rattle.link_sink.specs.Received.{IsFoundAt, IsReceived, longest}
+use Rattle.link_sink.specs.Received.{IsFoundAt, ReceiverRepresents, longest}
 use Rattle.link_sink.specs.Seen.{Receiver}
 
 none_fed : (team : Sides) → AreFresh team → longest team ≡ 0
 none_fed team fresh = λ i. max (fresh.first.fed i) (max (fresh.second.fed i) (fresh.third.fed i))
 
-pub fresh_received : (team : Sides) (deskew : Deskew) → AreFresh team → IsDeskewOf deskew no_past → deskew.found ≡ None → IsReceived (record { team = team; deskew = deskew }) no_bits 0
+pub fresh_received : (team : Sides) (deskew : Deskew) → AreFresh team → IsDeskewOf deskew no_history → deskew.found ≡ None → ReceiverRepresents (record { team = team; deskew = deskew }) no_bits 0
 fresh_received team deskew fresh stands found =
     let none = sym (none_fed team fresh) in
     record {
-      past = no_past;
+      past = no_history;
       stands = stands;
       taken_are = refl;
       first = record { aligner = fresh.first.stands; cut = nothing_cut.first; settled = refl; going = inl (refl, none) };
@@ -32,8 +32,8 @@ fresh_received team deskew fresh stands found =
       found = subst (IsFoundAt no_bits) (sym found) none_of_nothing;
     }
 
-columns_by : (r : Receiver) (fed : Fed) (taken : ℕ) (lent : List Column) (o : Option Aligned) → (h : IsReceived r fed taken) → r.deskew.found ≡ o → (r.deskew.found ≡ None → lent ≡ [])
-    → ((p : Past) (at : Aligned) → IsDeskewOf r.deskew p → r.deskew.found ≡ Some at → lent ≡ drop p.taken (past_columns p at.edges))
+columns_by : (r : Receiver) (fed : Fed) (taken : ℕ) (lent : List Column) (o : Option Aligned) → (h : ReceiverRepresents r fed taken) → r.deskew.found ≡ o → (r.deskew.found ≡ None → lent ≡ [])
+    → ((p : History) (at : Aligned) → IsDeskewOf r.deskew p → r.deskew.found ≡ Some at → lent ≡ drop p.taken (past_columns p at.edges))
     → lent ≡ drop taken (columns_from fed o)
 columns_by r fed taken lent None h e before is = before e ∙ sym (drop-nil taken)
 columns_by r fed taken lent (Some at) h e before is =
@@ -42,11 +42,11 @@ columns_by r fed taken lent (Some at) h e before is =
     ∙ ap (drop taken) (past_columns_are fed.blue fed.green fed.red h.past at.edges cut (subst (IsFoundAt fed) e h.found))
 
 -- the columns that are lent are those of a receiver as contracts see it, whose deskew lies in memory of its own
-pub columns_are_at : (r t : Receiver) → r ≡ t → (k : Deskew) → k ≡ r.deskew → (fed : Fed) (taken : ℕ) (lent : List Column) → IsReceived t fed taken → (k.found ≡ None → lent ≡ [])
-    → ((p : Past) (at : Aligned) → IsDeskewOf k p → k.found ≡ Some at → lent ≡ drop p.taken (past_columns p at.edges))
+pub columns_are_at : (r t : Receiver) → r ≡ t → (k : Deskew) → k ≡ r.deskew → (fed : Fed) (taken : ℕ) (lent : List Column) → ReceiverRepresents t fed taken → (k.found ≡ None → lent ≡ [])
+    → ((p : History) (at : Aligned) → IsDeskewOf k p → k.found ≡ Some at → lent ≡ drop p.taken (past_columns p at.edges))
     → lent ≡ drop taken (columns_from fed t.deskew.found)
 columns_are_at r t e k same fed taken lent h before lends =
     let with_k : Receiver = record { team = r.team; deskew = k } in
     let is : with_k ≡ t = (λ i. record { team = r.team; deskew = same i }) ∙ e in
-    columns_by with_k fed taken lent k.found (subst (λ (x : Receiver). IsReceived x fed taken) (sym is) h) refl before lends
+    columns_by with_k fed taken lent k.found (subst (λ (x : Receiver). ReceiverRepresents x fed taken) (sym is) h) refl before lends
     ∙ ap (λ (x : Receiver). drop taken (columns_from fed x.deskew.found)) is

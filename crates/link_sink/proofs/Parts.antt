@@ -1,8 +1,8 @@
--- Columns that are lent and heard part after part.
+-- An ear that is told of columns part after part was told of them all.
 use Rattle.std.proofs.Common.{◌≡◌, ℕ, ◌+◌, ◌≤◌, List, [], ◌++◌, length, take, drop, ap, sym, ◌∙◌, arith, append_assoc, length-append, length-drop, length-take}
 use Rattle.std.proofs.lemmas.List.{append-nil}
 use Rattle.tmds_word.specs.Column.{Column}
-use Rattle.period_grammar.specs.Things.{Thing}
+use Rattle.period_grammar.specs.Events.{Event}
 use Rattle.link_sink.specs.Grammar.{Grammar}
 use Rattle.link_sink.specs.Telling.{TookMore, StoppedIn}
 use Rattle.link_sink.proofs.Stops.{stops_after}
@@ -10,28 +10,28 @@ use Rattle.link_sink.proofs.Stops.{stops_after}
 -- An ear that is told what parts say.
 
 -- columns of which nothing is told
-pub took_quiet : {A : Type 0} (g : Grammar) (took : A → A → List Thing → Type 0) (x : A) (cs more : List Column) → took x x [] → g.so_far (cs ++ more) ≡ g.so_far cs → TookMore g took x x cs more
-took_quiet g took x cs more none e = record { things = []; things_are = e ∙ sym (append-nil (g.so_far cs)); took_things = none }
+pub took_quiet : {A : Type 0} (g : Grammar) (took : A → A → List Event → Type 0) (x : A) (cs more : List Column) → took x x [] → g.so_far (cs ++ more) ≡ g.so_far cs → TookMore g took x x cs more
+took_quiet g took x cs more none e = record { events = []; events_are = e ∙ sym (append-nil (g.so_far cs)); took_events = none }
 
-told_parts : (g : Grammar) (cs part more : List Column) (h k : List Thing) → g.so_far (cs ++ part) ≡ g.so_far cs ++ h → g.so_far ((cs ++ part) ++ more) ≡ g.so_far (cs ++ part) ++ k
+reported_parts : (g : Grammar) (cs part more : List Column) (h k : List Event) → g.so_far (cs ++ part) ≡ g.so_far cs ++ h → g.so_far ((cs ++ part) ++ more) ≡ g.so_far (cs ++ part) ++ k
     → g.so_far (cs ++ (part ++ more)) ≡ g.so_far cs ++ (h ++ k)
-told_parts g cs part more h k d e = ap g.so_far (sym (append_assoc cs part more)) ∙ e ∙ ap (λ ts. ts ++ k) d ∙ append_assoc (g.so_far cs) h k
+reported_parts g cs part more h k d e = ap g.so_far (sym (append_assoc cs part more)) ∙ e ∙ ap (λ ts. ts ++ k) d ∙ append_assoc (g.so_far cs) h k
 
-pub took_parts : {A : Type 0} (g : Grammar) (took : A → A → List Thing → Type 0) → ((x y z : A) (h k : List Thing) → took x y h → took y z k → took x z (h ++ k))
+pub took_parts : {A : Type 0} (g : Grammar) (took : A → A → List Event → Type 0) → ((x y z : A) (h k : List Event) → took x y h → took y z k → took x z (h ++ k))
     → (x y z : A) (cs part more : List Column) → TookMore g took x y cs part → TookMore g took y z (cs ++ part) more → TookMore g took x z cs (part ++ more)
 took_parts g took both x y z cs part more h k = record {
-  things = h.things ++ k.things;
-  things_are = told_parts g cs part more h.things k.things h.things_are k.things_are;
-  took_things = both x y z h.things k.things h.took_things k.took_things;
+  events = h.events ++ k.events;
+  events_are = reported_parts g cs part more h.events k.events h.events_are k.events_are;
+  took_events = both x y z h.events k.events h.took_events k.took_events;
 }
 
-pub stopped_parts : {A : Type 0} (g : Grammar) (took : A → A → List Thing → Type 0) (broke : A → A → Thing → Type 0)
-    → ((x y z : A) (h k : List Thing) → took x y h → took y z k → took x z (h ++ k))
+pub stopped_parts : {A : Type 0} (g : Grammar) (took : A → A → List Event → Type 0) (broke : A → A → Event → Type 0)
+    → ((x y z : A) (h k : List Event) → took x y h → took y z k → took x z (h ++ k))
     → (x y z : A) (cs part more : List Column) → TookMore g took x y cs part → StoppedIn g took broke y z (cs ++ part) more → StoppedIn g took broke x z cs (part ++ more)
 stopped_parts g took broke both x y z cs part more h k = record {
-  things = h.things ++ k.things;
-  things_are = told_parts g cs part more h.things k.things h.things_are k.things_are;
-  stops = stops_after took broke both x y z h.things k.things h.took_things k.stops;
+  events = h.events ++ k.events;
+  events_are = reported_parts g cs part more h.events k.events h.events_are k.events_are;
+  stops = stops_after took broke both x y z h.events k.events h.took_events k.stops;
 }
 
 -- How many columns a hearing has heard.
@@ -46,6 +46,6 @@ few_more goes_on counted counts was is cs all rest j h k e few =
     let a = counts was cs h in
     let b = counts is _ k in
     let long : length rest ≡ length (drop j all) = ap length e in
-    let behind = length-drop j all in
+    let after = length-drop j all in
     let front = length-take j all in
-    omega (arith, a, b, few, long, behind, front, length-append cs (take j all))
+    omega (arith, a, b, few, long, after, front, length-append cs (take j all))

@@ -1,30 +1,30 @@
 -- How many characters are kept of a lane, by what was pushed.
 use Rattle.std.proofs.Common.{◌≡◌, ◌⊎◌, ℕ, suc, zero, ◌-◌, ◌<◌, ◌≤◌, min, Bool, false, List, length, refl, ap, sym, ◌∙◌, arith, inl, inr, length-drop, slice_index, Option, Some, None, MatchOption}
 use Rattle.lane_deskew.specs.Keeping.{stored, limit}
-use Rattle.lane_deskew.specs.Pushed.{Pushed, Past, change, unconsumed, reach, Waits, Lends, Awaits, IsAligned, StandsFor, kept_of, ready_of}
+use Rattle.lane_deskew.specs.Pushed.{Pushed, History, change, unconsumed, reach, Waits, Lends, Awaits, IsAligned, DeskewRepresents, kept_of, ready_of}
 use Rattle.lane_deskew.specs.Fed.{past_at, AreCutFrom, IsFedTo}
-use Rattle.lane_deskew.specs.declared.lane.Lane.{Lane}
+use Rattle.lane_deskew.specs.Seen.{Held}
 use Rattle.lane_deskew.specs.declared.deskew.Deskew.{Deskew}
 use Rattle.lane_deskew.specs.declared.Aligned.{Aligned}
 use Rattle.lane_deskew.proofs.Seeking.{stored_row}
 use Rattle.lane_deskew.proofs.Aligning.{row_length}
 use Rattle.lane_deskew.proofs.Gained.{room_left}
 use Rattle.link_sink.specs.Sinks.{Fed}
-use Rattle.link_sink.specs.Received.{GoesOn, IsReceived, longest}
+use Rattle.link_sink.specs.Received.{GoesOn, ReceiverRepresents, longest}
 use Rattle.link_sink.specs.Seen.{Receiver}
 
 -- before the alignment those from 32 before the last settling on, and after it those that a column can reach
-abbrev pub kept_many : Past → Option Aligned → ℕ → ℕ
+abbrev pub kept_many : History → Option Aligned → ℕ → ℕ
 kept_many p None lane = length (past_at p lane).words - ((past_at p lane).settled - 32)
 kept_many p (Some at) lane = min (reach p at.edges) (length (unconsumed p.taken (past_at p lane) (slice_index at.edges lane)))
 
-waits_many : (lane : Lane) (past : Pushed) → Waits lane past → length (stored lane.kept) ≡ length past.words - (past.settled - 32)
+waits_many : (lane : Held) (past : Pushed) → Waits lane past → length (stored lane.kept) ≡ length past.words - (past.settled - 32)
 waits_many lane past w = ap length w ∙ length-drop (past.settled - 32) past.words
 
-lends_many : (lane : Lane) (past : Pushed) (taken e r : ℕ) → Lends lane past taken e r → length (stored lane.kept) ≡ min r (length (unconsumed taken past e))
+lends_many : (lane : Held) (past : Pushed) (taken e r : ℕ) → Lends lane past taken e r → length (stored lane.kept) ≡ min r (length (unconsumed taken past e))
 lends_many lane past taken e r l = ap length (stored_row lane.kept l.ring) ∙ row_length lane past taken e r l
 
-kept_by : (d : Deskew) (p : Past) (o : Option Aligned) → MatchOption o (Awaits d p) (λ at. IsAligned d p at.edges) → (lane : ℕ) → lane < 3 → length (kept_of d lane) ≡ kept_many p o lane
+kept_by : (d : Deskew) (p : History) (o : Option Aligned) → MatchOption o (Awaits d p) (λ at. IsAligned d p at.edges) → (lane : ℕ) → lane < 3 → length (kept_of d lane) ≡ kept_many p o lane
 kept_by d p None w zero lt = waits_many d.first p.first w.first
 kept_by d p None w (suc zero) lt = waits_many d.second p.second w.second
 kept_by d p None w (suc (suc zero)) lt = waits_many d.third p.third w.third
@@ -34,7 +34,7 @@ kept_by d p (Some at) w (suc zero) lt = lends_many d.second p.second p.taken (sl
 kept_by d p (Some at) w (suc (suc zero)) lt = lends_many d.third p.third p.taken (slice_index at.edges 2) (reach p at.edges) w.third
 kept_by d p (Some at) w (suc (suc (suc n))) lt = absurd (omega (arith, lt))
 
-pub kept_is : (d : Deskew) (p : Past) (lane : ℕ) → StandsFor d p → lane < 3 → length (kept_of d lane) ≡ kept_many p d.found lane
+pub kept_is : (d : Deskew) (p : History) (lane : ℕ) → DeskewRepresents d p → lane < 3 → length (kept_of d lane) ≡ kept_many p d.found lane
 kept_is d p lane stands lt = kept_by d p d.found stands.alignment lane lt
 
 -- A lane that pushes.
@@ -48,29 +48,29 @@ limit_same before now taken e (inl same) = ap (λ (l : Pushed). limit l.ended (l
 limit_same before now taken e (inr on) =
     ap (λ b. limit b (length (unconsumed taken now e))) on.1 ∙ sym (ap (λ b. limit b (length (unconsumed taken before e))) on.0)
 
-abbrev limit_of : Past → Pushed → ℕ → ℕ
+abbrev limit_of : History → Pushed → ℕ → ℕ
 limit_of p lane e = limit lane.ended (length (unconsumed p.taken lane e))
 
 -- as much is kept of the others
-pub second_kept : (p : Past) (now : Pushed) (o : Option Aligned) → IsSame p.first now → kept_many (change (λ _. now) 0 p) o 1 ≡ kept_many p o 1
+pub second_kept : (p : History) (now : Pushed) (o : Option Aligned) → IsSame p.first now → kept_many (change (λ _. now) 0 p) o 1 ≡ kept_many p o 1
 second_kept p now None h = refl
 second_kept p now (Some at) h =
     ap (λ n. min (min n (min (limit_of p p.second (slice_index at.edges 1)) (limit_of p p.third (slice_index at.edges 2)))) (length (unconsumed p.taken p.second (slice_index at.edges 1))))
     (limit_same p.first now p.taken (slice_index at.edges 0) h)
 
-third_after_first : (p : Past) (now : Pushed) (o : Option Aligned) → IsSame p.first now → kept_many (change (λ _. now) 0 p) o 2 ≡ kept_many p o 2
+third_after_first : (p : History) (now : Pushed) (o : Option Aligned) → IsSame p.first now → kept_many (change (λ _. now) 0 p) o 2 ≡ kept_many p o 2
 third_after_first p now None h = refl
 third_after_first p now (Some at) h =
     ap (λ n. min (min n (min (limit_of p p.second (slice_index at.edges 1)) (limit_of p p.third (slice_index at.edges 2)))) (length (unconsumed p.taken p.third (slice_index at.edges 2))))
     (limit_same p.first now p.taken (slice_index at.edges 0) h)
 
-third_after_second : (p : Past) (now : Pushed) (o : Option Aligned) → IsSame p.second now → kept_many (change (λ _. now) 1 p) o 2 ≡ kept_many p o 2
+third_after_second : (p : History) (now : Pushed) (o : Option Aligned) → IsSame p.second now → kept_many (change (λ _. now) 1 p) o 2 ≡ kept_many p o 2
 third_after_second p now None h = refl
 third_after_second p now (Some at) h =
     ap (λ n. min (min (limit_of p p.first (slice_index at.edges 0)) (min n (limit_of p p.third (slice_index at.edges 2)))) (length (unconsumed p.taken p.third (slice_index at.edges 2))))
     (limit_same p.second now p.taken (slice_index at.edges 1) h)
 
-pub third_kept : (p : Past) (first second : Pushed) (o : Option Aligned) → IsSame p.first first → IsSame p.second second
+pub third_kept : (p : History) (first second : Pushed) (o : Option Aligned) → IsSame p.first first → IsSame p.second second
     → kept_many (change (λ _. second) 1 (change (λ _. first) 0 p)) o 2 ≡ kept_many p o 2
 third_kept p first second o h k =
     third_after_second (change (λ _. first) 0 p) second o k ∙ third_after_first p first o h
@@ -84,7 +84,7 @@ fed_to n xs lane (inr over) = inr (over.0, omega (arith, over.1))
 rested_few : (m s : ℕ) → s ≡ m → m - (s - 32) ≤ 32
 rested_few m s e = omega (arith, e)
 
-few_by : (r : Receiver) (fed : Fed) (taken : ℕ) (o : Option Aligned) → (h : IsReceived r fed taken) → ready_of r.deskew ≡ 0 → r.deskew.found ≡ o → (lane : ℕ) → lane < 3 → kept_many h.past o lane ≤ 32
+few_by : (r : Receiver) (fed : Fed) (taken : ℕ) (o : Option Aligned) → (h : ReceiverRepresents r fed taken) → ready_of r.deskew ≡ 0 → r.deskew.found ≡ o → (lane : ℕ) → lane < 3 → kept_many h.past o lane ≤ 32
 few_by r fed taken None h none e zero lt = rested_few (length h.past.first.words) h.past.first.settled h.first.settled
 few_by r fed taken None h none e (suc zero) lt = rested_few (length h.past.second.words) h.past.second.settled h.second.settled
 few_by r fed taken None h none e (suc (suc zero)) lt = rested_few (length h.past.third.words) h.past.third.settled h.third.settled
@@ -98,5 +98,5 @@ few_by r fed taken (Some at) h none e lane lt =
     omega (arith, few, many)
 
 -- little is kept once all columns are consumed
-pub few_kept : (r : Receiver) (fed : Fed) (taken : ℕ) → (h : IsReceived r fed taken) → ready_of r.deskew ≡ 0 → (lane : ℕ) → lane < 3 → kept_many h.past r.deskew.found lane ≤ 32
+pub few_kept : (r : Receiver) (fed : Fed) (taken : ℕ) → (h : ReceiverRepresents r fed taken) → ready_of r.deskew ≡ 0 → (lane : ℕ) → lane < 3 → kept_many h.past r.deskew.found lane ≤ 32
 few_kept r fed taken h none lane lt = few_by r fed taken r.deskew.found h none refl lane lt

@@ -2,39 +2,39 @@
 use Rattle.std.specs.Prelude.{◌≡◌, ℕ, Bool, true, false, List, [], length}
 use Rattle.lane_deskew.specs.Triples.{IsTriple, IsFirst}
 use Rattle.lane_deskew.specs.Aligned.{aligned_columns}
-use Rattle.period_grammar.specs.Things.{Thing}
+use Rattle.period_grammar.specs.Events.{Event}
 use Rattle.link_sink.specs.Grammar.{Grammar, link_grammar}
 use Rattle.link_sink.specs.declared.hear.Outcome.{Outcome}
 
 -- the lanes tell what a grammar hears of their aligned columns
-pub record IsAlignedBy (g : Grammar) (xs ys zs : List Bool) (columns : ℕ) (things : List Thing) : Type 0 where
+pub record IsAlignedBy (g : Grammar) (xs ys zs : List Bool) (columns : ℕ) (events : List Event) : Type 0 where
   pub d : ℕ
   pub e : ℕ
   pub f : ℕ
   pub first : IsFirst xs ys zs d e f
   pub columns_are : columns ≡ length (aligned_columns xs ys zs d e f)
-  pub told : things ≡ g.whole (aligned_columns xs ys zs d e f)
+  pub reported : events ≡ g.whole (aligned_columns xs ys zs d e f)
 
 -- the lanes are aligned nowhere, and tell nothing
-pub record IsNowhereTold (xs ys zs : List Bool) (columns : ℕ) (things : List Thing) : Type 0 where
+pub record IsNowhereReported (xs ys zs : List Bool) (columns : ℕ) (events : List Event) : Type 0 where
   pub nowhere : (d e f : ℕ) → IsTriple xs ys zs d e f → ⊥
   pub columns_are : columns ≡ 0
-  pub told : things ≡ []
+  pub reported : events ≡ []
 
-abbrev pub told_under : Grammar → Bool → List Bool → List Bool → List Bool → ℕ → List Thing → Type 0
-told_under g true xs ys zs columns things = IsAlignedBy g xs ys zs columns things
-told_under g false xs ys zs columns things = IsNowhereTold xs ys zs columns things
+abbrev pub reported_under : Grammar → Bool → List Bool → List Bool → List Bool → ℕ → List Event → Type 0
+reported_under g true xs ys zs columns events = IsAlignedBy g xs ys zs columns events
+reported_under g false xs ys zs columns events = IsNowhereReported xs ys zs columns events
 
--- the lanes have this outcome, and tell these things
-abbrev pub AreToldBy : Grammar → List Bool → List Bool → List Bool → Outcome → List Thing → Type 0
-AreToldBy g xs ys zs outcome things = told_under g outcome.aligned xs ys zs outcome.columns things
+-- the lanes have this outcome, and tell these events
+abbrev pub AreReportedBy : Grammar → List Bool → List Bool → List Bool → Outcome → List Event → Type 0
+AreReportedBy g xs ys zs outcome events = reported_under g outcome.aligned xs ys zs outcome.columns events
 
 -- the same of a link
-abbrev pub told_by : Bool → List Bool → List Bool → List Bool → ℕ → List Thing → Type 0
-told_by aligned xs ys zs columns things = told_under link_grammar aligned xs ys zs columns things
+abbrev pub reported_by : Bool → List Bool → List Bool → List Bool → ℕ → List Event → Type 0
+reported_by aligned xs ys zs columns events = reported_under link_grammar aligned xs ys zs columns events
 
-abbrev pub IsAlignedTold : List Bool → List Bool → List Bool → ℕ → List Thing → Type 0
-IsAlignedTold xs ys zs columns things = IsAlignedBy link_grammar xs ys zs columns things
+abbrev pub IsAlignedReported : List Bool → List Bool → List Bool → ℕ → List Event → Type 0
+IsAlignedReported xs ys zs columns events = IsAlignedBy link_grammar xs ys zs columns events
 
-abbrev pub AreTold : List Bool → List Bool → List Bool → Outcome → List Thing → Type 0
-AreTold xs ys zs outcome things = AreToldBy link_grammar xs ys zs outcome things
+abbrev pub AreReported : List Bool → List Bool → List Bool → Outcome → List Event → Type 0
+AreReported xs ys zs outcome events = AreReportedBy link_grammar xs ys zs outcome events

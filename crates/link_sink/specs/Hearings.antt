@@ -1,21 +1,21 @@
 -- What a hearing owes to a sink that hands it columns.
 use Rattle.std.specs.Prelude.{◌≡◌, false, List, [], ◌++◌, All}
 use Rattle.tmds_word.specs.Column.{Column}
-use Rattle.period_grammar.specs.Things.{Thing}
+use Rattle.period_grammar.specs.Events.{Event}
 use Rattle.period_grammar.specs.Sizes.{IsSized}
 use Rattle.period_grammar.specs.Seen.{Seen}
-use Rattle.period_grammar.specs.Stands.{StandsFor}
+use Rattle.period_grammar.specs.Stands.{HearingRepresents}
 use Rattle.link_sink.specs.Grammar.{Grammar}
 
 -- what holds of a grammar: before any column nothing is told, what columns tell is told whatever comes after them, what
 -- the end tells comes last, and all that is told is of the sizes that an ear is promised
 pub record IsGrammar (g : Grammar) : Type 0 where
   pub none : g.so_far [] ≡ []
-  pub more : (cs ds : List Column) → (us : List Thing) × (g.so_far (cs ++ ds) ≡ g.so_far cs ++ us)
-  pub ended : (cs : List Column) → (us : List Thing) × (g.whole cs ≡ g.so_far cs ++ us)
+  pub more : (cs ds : List Column) → (us : List Event) × (g.so_far (cs ++ ds) ≡ g.so_far cs ++ us)
+  pub ended : (cs : List Column) → (us : List Event) × (g.whole cs ≡ g.so_far cs ++ us)
   pub sized : (cs : List Column) → All IsSized (g.whole cs)
 
 -- the hearing of a link has heard these columns, and goes on
 pub record GoesOn (hearing : Seen) (cs : List Column) : Type 0 where
-  pub heard : StandsFor hearing cs
+  pub heard : HearingRepresents hearing cs
   pub open_still : hearing.finished ≡ false

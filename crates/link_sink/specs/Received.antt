@@ -2,11 +2,12 @@
 use Rattle.std.specs.Prelude.{◌≡◌, ◌⊎◌, ◌++◌, ℕ, ◌+◌, ◌/◌, ◌%◌, ◌^◌, ◌<◌, ◌≤◌, max, Bool, true, false, List, length, Option, MatchOption}
 use Rattle.lane_align.specs.Lanes.{IsLockOf}
 use Rattle.lane_align.specs.Words.{AreWords, lane_words}
-use Rattle.lane_align.specs.Aligners.{StandsFor as IsAlignerOf, fed_of, lock_of}
+use Rattle.lane_align.specs.Aligners.{AlignerRepresents as IsAlignerOf, fed_of, lock_of}
+use Rattle.lane_align.specs.declared.TheConstants.{FEED_BITS}
 use Rattle.lane_team.specs.Sides.{Side, Sides}
 use Rattle.lane_deskew.specs.Triples.{IsTriple, IsAlignment}
 use Rattle.lane_deskew.specs.Growing.{HasGrown}
-use Rattle.lane_deskew.specs.Pushed.{Pushed, Past, over, StandsFor as IsDeskewOf, kept_of}
+use Rattle.lane_deskew.specs.Pushed.{Pushed, History, over, DeskewRepresents as IsDeskewOf, kept_of}
 use Rattle.lane_deskew.specs.Fed.{IsCutFrom, past_at}
 use Rattle.lane_deskew.specs.declared.deskew.Deskew.{Deskew}
 use Rattle.lane_deskew.specs.declared.Aligned.{Aligned}
@@ -16,7 +17,7 @@ use Rattle.link_sink.specs.Seen.{Receiver}
 -- so many bits more may come of a lane that was fed some, where the longest lane was fed so many: no more than a feed
 -- takes, in whole bytes until the last, and none once another lane had more
 pub record CanFeed (fed longest : ℕ) (bytes : List ℕ) (bits : ℕ) : Type 0 where
-  pub most : bits ≤ 32768
+  pub most : bits ≤ FEED_BITS
   pub bytes_given : length bytes ≡ (bits + 7) / 8
   pub whole : (bits ≡ 0) ⊎ (fed % 8 ≡ 0)
   pub going : (bits ≡ 0) ⊎ (fed ≡ longest)
@@ -43,8 +44,8 @@ IsFoundAt fed at =
     MatchOption at ((d e f : ℕ) → IsTriple fed.blue fed.green fed.red d e f → ⊥) (λ here. IsAlignment fed.blue fed.green fed.red here.edges)
 
 -- a receiver stands for the bits of three lanes, of which so many columns were taken
-pub record IsReceived (receiver : Receiver) (fed : Fed) (taken : ℕ) : Type 0 where
-  pub past : Past
+pub record ReceiverRepresents (receiver : Receiver) (fed : Fed) (taken : ℕ) : Type 0 where
+  pub past : History
   pub stands : IsDeskewOf receiver.deskew past
   pub taken_are : past.taken ≡ taken
   pub first : IsLane receiver.team.first fed.blue (longest receiver.team) past.first
@@ -65,7 +66,7 @@ pub record HasGained (side : Side) (bits : ℕ) (xs us : List Bool) : Type 0 whe
   pub small : AreWords side.words
 
 -- a lane may push them: it had pushed the characters before, and there is room
-pub record MayPush (side : Side) (deskew : Deskew) (lane bits : ℕ) (p : Past) (xs us : List Bool) : Type 0 where
+pub record MayPush (side : Side) (deskew : Deskew) (lane bits : ℕ) (p : History) (xs us : List Bool) : Type 0 where
   pub stands : IsDeskewOf deskew p
   pub cut : IsCutFrom xs (past_at p lane)
   pub gained : HasGained side bits xs us

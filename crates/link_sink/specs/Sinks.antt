@@ -3,9 +3,9 @@ use Rattle.std.specs.Prelude.{◌≡◌, ◌⊎◌, ℕ, Bool, List, [], ◌++�
 use Rattle.tmds_word.specs.Bits.{bytes_bits}
 use Rattle.lane_deskew.specs.Triples.{IsTriple, IsFirst}
 use Rattle.lane_deskew.specs.Aligned.{aligned_columns}
-use Rattle.period_grammar.specs.Things.{Thing}
+use Rattle.period_grammar.specs.Events.{Event}
 use Rattle.link_sink.specs.Grammar.{Grammar, link_grammar}
-use Rattle.link_sink.specs.Alignment.{AreToldBy}
+use Rattle.link_sink.specs.Alignment.{AreReportedBy}
 use Rattle.link_sink.specs.declared.hear.Outcome.{Outcome}
 
 -- the bits that three lanes were fed
@@ -15,14 +15,14 @@ pub record Fed : Type 0 where
   pub red : List Bool
 
 -- what lanes tell while they go on: what is heard so far of their aligned columns, and nothing where they are aligned nowhere
-abbrev pub IsToldBy : Grammar → Fed → List Thing → Type 0
-IsToldBy g fed things =
-    ((d e f : ℕ) × IsFirst fed.blue fed.green fed.red d e f × (things ≡ g.so_far (aligned_columns fed.blue fed.green fed.red d e f)))
-    ⊎ (((d e f : ℕ) → IsTriple fed.blue fed.green fed.red d e f → ⊥) × (things ≡ []))
+abbrev pub IsReportedBy : Grammar → Fed → List Event → Type 0
+IsReportedBy g fed events =
+    ((d e f : ℕ) × IsFirst fed.blue fed.green fed.red d e f × (events ≡ g.so_far (aligned_columns fed.blue fed.green fed.red d e f)))
+    ⊎ (((d e f : ℕ) → IsTriple fed.blue fed.green fed.red d e f → ⊥) × (events ≡ []))
 
 -- the same of a link
-abbrev pub IsToldSoFar : Fed → List Thing → Type 0
-IsToldSoFar fed things = IsToldBy link_grammar fed things
+abbrev pub IsReportedSoFar : Fed → List Event → Type 0
+IsReportedSoFar fed events = IsReportedBy link_grammar fed events
 
 -- lanes after bits of bytes more, so many of each, those of lane 0 first
 abbrev pub grown : Fed → List ℕ → List ℕ → List ℕ → List ℕ → Fed
@@ -33,23 +33,23 @@ grown fed a b c bits = record {
 }
 
 -- what is told more
-abbrev pub IsGainBy : Grammar → Fed → Fed → List Thing → Type 0
-IsGainBy g before after things = (told : List Thing) → IsToldBy g before told → IsToldBy g after (told ++ things)
+abbrev pub IsGainBy : Grammar → Fed → Fed → List Event → Type 0
+IsGainBy g before after events = (reported : List Event) → IsReportedBy g before reported → IsReportedBy g after (reported ++ events)
 
 -- what is told at the end: with it the lanes have told all
-abbrev pub IsLastBy : Grammar → Fed → Outcome → List Thing → Type 0
-IsLastBy g fed outcome things = (told : List Thing) → IsToldBy g fed told → AreToldBy g fed.blue fed.green fed.red outcome (told ++ things)
+abbrev pub IsLastBy : Grammar → Fed → Outcome → List Event → Type 0
+IsLastBy g fed outcome events = (reported : List Event) → IsReportedBy g fed reported → AreReportedBy g fed.blue fed.green fed.red outcome (reported ++ events)
 
 -- the same of a link
-abbrev pub IsGain : Fed → Fed → List Thing → Type 0
-IsGain before after things = IsGainBy link_grammar before after things
+abbrev pub IsGain : Fed → Fed → List Event → Type 0
+IsGain before after events = IsGainBy link_grammar before after events
 
-abbrev pub IsLast : Fed → Outcome → List Thing → Type 0
-IsLast fed outcome things = IsLastBy link_grammar fed outcome things
+abbrev pub IsLast : Fed → Outcome → List Event → Type 0
+IsLast fed outcome events = IsLastBy link_grammar fed outcome events
 
 -- of any bits something is told so far, and nothing else: neither their cutting into feeds nor a gate can matter
-abbrev pub SomeTold : Type 0
-SomeTold = (g : Grammar) (fed : Fed) → (things : List Thing) × IsToldBy g fed things
+abbrev pub SomeReported : Type 0
+SomeReported = (g : Grammar) (fed : Fed) → (events : List Event) × IsReportedBy g fed events
 
-abbrev pub OneTold : Type 0
-OneTold = (g : Grammar) (fed : Fed) (us vs : List Thing) → IsToldBy g fed us → IsToldBy g fed vs → us ≡ vs
+abbrev pub OneReported : Type 0
+OneReported = (g : Grammar) (fed : Fed) (us vs : List Event) → IsReportedBy g fed us → IsReportedBy g fed vs → us ≡ vs

@@ -8,24 +8,24 @@ use Rattle.lane_deskew.specs.Growing.{HasGrown}
 use Rattle.lane_deskew.specs.declared.Aligned.{Aligned}
 use Rattle.link_sink.specs.Sinks.{Fed}
 use Rattle.link_sink.specs.Progress.{columns_from}
-use Rattle.link_sink.specs.Received.{IsFoundAt, IsReceived, longest}
+use Rattle.link_sink.specs.Received.{IsFoundAt, ReceiverRepresents, longest}
 use Rattle.period_grammar.specs.Seen.{Seen}
 use Rattle.link_sink.specs.Hearings.{GoesOn}
-use Rattle.link_sink.specs.Seen.{Stream}
+use Rattle.link_sink.specs.Seen.{HearingStream}
 
 -- all columns of the lanes were heard and consumed
-pub record IsHeard {H : Type 0} (stands : H → List Column → Type 0) (stream : Stream H) (fed : Fed) : Type 0 where
-  pub received : IsReceived stream.receiver fed (length (columns_from fed stream.receiver.deskew.found))
+pub record IsHeard {H : Type 0} (stands : H → List Column → Type 0) (stream : HearingStream H) (fed : Fed) : Type 0 where
+  pub received : ReceiverRepresents stream.receiver fed (length (columns_from fed stream.receiver.deskew.found))
   pub consumed : ready_of stream.receiver.deskew ≡ 0
   pub heard : stands stream.hearing (columns_from fed stream.receiver.deskew.found)
   pub aligned : stream.outcome.aligned ≡ is_some stream.receiver.deskew.found
   pub columns : stream.outcome.columns ≡ length (columns_from fed stream.receiver.deskew.found)
 
 -- the lanes have more bits: all columns before were heard, and none of those that came since
-pub record IsBehind {H : Type 0} (stands : H → List Column → Type 0) (stream : Stream H) (before now : Fed) : Type 0 where
+pub record IsAfter {H : Type 0} (stands : H → List Column → Type 0) (stream : HearingStream H) (before now : Fed) : Type 0 where
   pub was : Option Aligned
   pub found_was : IsFoundAt before was
-  pub received : IsReceived stream.receiver now (length (columns_from before was))
+  pub received : ReceiverRepresents stream.receiver now (length (columns_from before was))
   pub blue : HasGrown before.blue now.blue
   pub green : HasGrown before.green now.green
   pub red : HasGrown before.red now.red
@@ -36,7 +36,7 @@ pub record IsBehind {H : Type 0} (stands : H → List Column → Type 0) (stream
 
 -- what contracts see of a sink
 pub record LaneSinkSeen (H : Type 0) : Type 0 where
-  pub stream : Stream H
+  pub stream : HearingStream H
   pub is_open : Bool
 
 -- a sink stands for the bits that it was fed. Callers take it as a whole: what it says is the sink's own
@@ -47,16 +47,16 @@ StandsBy stands sink fed = IsHeard stands sink.stream fed
 abbrev pub SinkSeen : Type 0
 SinkSeen = LaneSinkSeen Seen
 
-abbrev pub StandsFor : SinkSeen → Fed → Type 0
-StandsFor sink fed = StandsBy GoesOn sink fed
+abbrev pub SinkRepresents : SinkSeen → Fed → Type 0
+SinkRepresents sink fed = StandsBy GoesOn sink fed
 
 -- how many bits it was fed of a lane, and of the longest
-abbrev pub bits_of : {H : Type 0} → LaneSinkSeen H → ℕ → ℕ
-bits_of sink lane = fed_of (side_at sink.stream.receiver.team lane).aligner
+abbrev pub bits_fed : {H : Type 0} → LaneSinkSeen H → ℕ → ℕ
+bits_fed sink lane = fed_of (side_at sink.stream.receiver.team lane).aligner
 
 abbrev pub most_bits : {H : Type 0} → LaneSinkSeen H → ℕ
 most_bits sink = longest sink.stream.receiver.team
 
 -- as long as it is open, there are bits that it stands for
-abbrev pub IsKept : {H : Type 0} → (H → List Column → Type 0) → Bool → Stream H → Type 0
+abbrev pub IsKept : {H : Type 0} → (H → List Column → Type 0) → Bool → HearingStream H → Type 0
 IsKept stands is_open stream = is_open ≡ true → (fed : Fed) × IsHeard stands stream fed

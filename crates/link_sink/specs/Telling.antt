@@ -2,7 +2,7 @@
 use Rattle.std.specs.Prelude.{◌≡◌, ℕ, Bool, List, ◌++◌, slice_index}
 use Rattle.tmds_word.specs.Column.{Column}
 use Rattle.lane_deskew.specs.Aligned.{aligned_columns}
-use Rattle.period_grammar.specs.Things.{Thing}
+use Rattle.period_grammar.specs.Events.{Event}
 use Rattle.link_sink.specs.Ears.{StopsIn}
 use Rattle.link_sink.specs.Grammar.{Grammar}
 
@@ -11,13 +11,13 @@ abbrev pub columns_at : List Bool → List Bool → List Bool → List ℕ → L
 columns_at xs ys zs edges = aligned_columns xs ys zs (slice_index edges 0) (slice_index edges 1) (slice_index edges 2)
 
 -- the ear took what is told of more columns, after some of which all was told
-pub record TookMore {A : Type 0} (g : Grammar) (took : A → A → List Thing → Type 0) (before now : A) (cs more : List Column) : Type 0 where
-  pub things : List Thing
-  pub things_are : g.so_far (cs ++ more) ≡ g.so_far cs ++ things
-  pub took_things : took before now things
+pub record TookMore {A : Type 0} (g : Grammar) (took : A → A → List Event → Type 0) (before now : A) (cs more : List Column) : Type 0 where
+  pub events : List Event
+  pub events_are : g.so_far (cs ++ more) ≡ g.so_far cs ++ events
+  pub took_events : took before now events
 
 -- the ear broke in the midst of what is told of them
-pub record StoppedIn {A : Type 0} (g : Grammar) (took : A → A → List Thing → Type 0) (broke : A → A → Thing → Type 0) (before now : A) (cs more : List Column) : Type 0 where
-  pub things : List Thing
-  pub things_are : g.so_far (cs ++ more) ≡ g.so_far cs ++ things
-  pub stops : StopsIn took broke before now things
+pub record StoppedIn {A : Type 0} (g : Grammar) (took : A → A → List Event → Type 0) (broke : A → A → Event → Type 0) (before now : A) (cs more : List Column) : Type 0 where
+  pub events : List Event
+  pub events_are : g.so_far (cs ++ more) ≡ g.so_far cs ++ events
+  pub stops : StopsIn took broke before now events

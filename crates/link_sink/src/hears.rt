@@ -2,12 +2,12 @@
 ghost use Rattle.std.specs.Prelude.{◌≡◌, ◌<◌, ◌≤◌, ◌+◌, ◌++◌, ◌∷◌, [], ℕ, List, length, take, slice_get, Some};
 ghost use Rattle.tmds_word.specs.Column.{Column, column_of};
 ghost use Rattle.tmds_word.specs.Lent.{columns_in};
-ghost use Rattle.period_grammar.specs.Things.{Thing};
-ghost use Rattle.period_grammar.specs.Lending.{lent_thing};
+ghost use Rattle.period_grammar.specs.Events.{Event};
+ghost use Rattle.period_grammar.specs.Lending.{lent_event};
 ghost use Rattle.link_sink.specs.Grammar.{Grammar};
 ghost use Rattle.link_sink.specs.Hearings.{IsGrammar};
 
-use period_grammar::Told;
+use period_grammar::EventRef;
 use tmds_word::{Columns, Word};
 
 /// Hears columns one after another, and tells what they say.
@@ -22,7 +22,7 @@ pub trait Hears: Drop {
     ghost counted: { Self → ℕ };
 
     /// What its last call told.
-    ghost last: { Self → List Thing };
+    ghost last: { Self → List Event };
 
     /// One that has heard nothing. It takes no memory.
     fn open() -> Self
@@ -39,7 +39,7 @@ pub trait Hears: Drop {
         requires few { counted self.old < 429496730 }
         requires heard { (cs : List Column) × goes_on self.old cs }
         ensures heard { (cs : List Column) → goes_on self.old cs → goes_on self.new (cs ++ column_of column.now ∷ []) }
-        ensures told { (cs : List Column) → goes_on self.old cs → grammar.so_far (cs ++ column_of column.now ∷ []) ≡ grammar.so_far cs ++ last self.new };
+        ensures reported { (cs : List Column) → goes_on self.old cs → grammar.so_far (cs ++ column_of column.now ∷ []) ≡ grammar.so_far cs ++ last self.new };
 
     /// Hears columns from the first on, as long as they tell nothing, or fewer of them, and answers how many these are.
     fn hear_while(&mut self, columns: Columns<'_>) -> usize
@@ -47,21 +47,21 @@ pub trait Hears: Drop {
         requires heard { (cs : List Column) × goes_on self.old cs }
         ensures within { result ≤ length (columns_in columns.entry) }
         ensures heard { (cs : List Column) → goes_on self.old cs → goes_on self.new (cs ++ take result (columns_in columns.entry)) }
-        ensures told { (cs : List Column) → goes_on self.old cs → grammar.so_far (cs ++ take result (columns_in columns.entry)) ≡ grammar.so_far cs };
+        ensures reported { (cs : List Column) → goes_on self.old cs → grammar.so_far (cs ++ take result (columns_in columns.entry)) ≡ grammar.so_far cs };
 
     /// Ends the columns.
     fn finish(&mut self)
         requires heard { (cs : List Column) × goes_on self.old cs }
-        ensures told { (cs : List Column) → goes_on self.old cs → grammar.whole cs ≡ grammar.so_far cs ++ last self.new };
+        ensures reported { (cs : List Column) → goes_on self.old cs → grammar.whole cs ≡ grammar.so_far cs ++ last self.new };
 
-    /// How many things the last call told.
+    /// How many events the last call told.
     fn tells(&self) -> u8
         ensures { result ≡ length (last self.now) };
 
-    /// Lends thing `i` of those that the last call told.
-    fn told(&self, i: u8) -> Told<'_>
+    /// Lends event `i` of those that the last call told.
+    fn reported(&self, i: u8) -> EventRef<'_>
         requires { i < length (last self.now) }
-        ensures { slice_get (last self.now) i ≡ Some (lent_thing result) };
+        ensures { slice_get (last self.now) i ≡ Some (lent_event result) };
 
     /// The columns are counted.
     ghost counts: { (h : Self) (cs : List Column) → goes_on h cs → counted h ≡ length cs };

@@ -6,7 +6,6 @@ mod ear;
 mod feeds;
 mod hear;
 mod hears;
-pub mod laws;
 mod link_hearing;
 mod receiver;
 mod sink;

@@ -2,11 +2,11 @@
 ghost use Rattle.std.specs.Prelude.{◌≡◌, ◌++◌, ◌∷◌, [], List, length, take};
 
 use crate::hears::Hears;
-use period_grammar::{Hearing, Told};
+use period_grammar::{EventRef, Hearing};
 use tmds_word::{Columns, Word};
 
 impl Hears for Hearing {
-    ghost use Rattle.period_grammar.specs.Lending.{last_told};
+    ghost use Rattle.period_grammar.specs.Lending.{last_reported};
     ghost use Rattle.link_sink.specs.Grammar.{link_grammar};
     ghost use Rattle.link_sink.specs.Hearings.{GoesOn};
     ghost use Rattle.link_sink.specs.LinkHearing.{link_counts, link_is_grammar};
@@ -17,7 +17,7 @@ impl Hears for Hearing {
 
     ghost counted = { λ h. h.columns };
 
-    ghost last = { last_told };
+    ghost last = { last_reported };
 
     fn open() -> Hearing {
         Hearing::open()
@@ -43,8 +43,8 @@ impl Hears for Hearing {
         self.tells()
     }
 
-    fn told(&self, i: u8) -> Told<'_> {
-        self.told(i)
+    fn reported(&self, i: u8) -> EventRef<'_> {
+        self.reported(i)
     }
 
     ghost counts = { link_counts };

@@ -3,12 +3,12 @@ ghost use Rattle.std.specs.Prelude.{◌≡◌, ◌<◌, ◌≤◌, ◌+◌, ◌-
 ghost use Rattle.tmds_word.specs.Lent.{columns_in};
 ghost use Rattle.lane_align.specs.Aligners.{fed_of};
 ghost use Rattle.lane_team.specs.Sides.{side_at, AreFresh};
-ghost use Rattle.lane_deskew.specs.Pushed.{Pushed, Past, no_past, change, StandsFor, ready_of};
+ghost use Rattle.lane_deskew.specs.Pushed.{Pushed, History, no_history, change, DeskewRepresents, ready_of};
 ghost use Rattle.lane_deskew.specs.Fed.{past_at};
 ghost use Rattle.link_sink.specs.Sinks.{Fed, grown};
 ghost use Rattle.link_sink.specs.Pieces.{no_bits};
 ghost use Rattle.link_sink.specs.Progress.{columns_from};
-ghost use Rattle.link_sink.specs.Received.{CanFeed, longest, IsReceived, MayPush, HasPushed, end_if};
+ghost use Rattle.link_sink.specs.Received.{CanFeed, longest, ReceiverRepresents, MayPush, HasPushed, end_if};
 
 use crate::feeds::{Order, feed_team};
 use lane_deskew::Deskew;
@@ -37,7 +37,7 @@ impl Model for Receiver {
 impl Receiver {
     /// A receiver that was fed no bits, with all memory that it ever has.
     pub fn open(alloc: Global) -> Result<Receiver, NoMemory>
-        ensures received { IfOk result (λ r. IsReceived r no_bits 0) }
+        ensures received { IfOk result (λ r. ReceiverRepresents r no_bits 0) }
         ensures found { IfOk result (λ r. r.deskew.found ≡ None) }
         ensures bits { IfOk result (λ r. longest r.team ≡ 0) }
     {
@@ -48,7 +48,7 @@ impl Receiver {
 
     /// Makes it as after `open`.
     pub fn restart(&mut self)
-        ensures received { IsReceived self.new no_bits 0 }
+        ensures received { ReceiverRepresents self.new no_bits 0 }
         ensures found { self.new.deskew.found ≡ None }
         ensures bits { longest self.new.team ≡ 0 }
     {
@@ -68,12 +68,12 @@ impl Receiver {
         gate: &G,
         order: Order,
     ) -> bool
-        requires received { (fed : Fed) × (taken : ℕ) × IsReceived self.old fed taken }
+        requires received { (fed : Fed) × (taken : ℕ) × ReceiverRepresents self.old fed taken }
         requires consumed { ready_of self.old.deskew ≡ 0 }
         requires first { CanFeed (fed_of self.old.team.first.aligner) (longest self.old.team) a.now (slice_index bits 0) }
         requires second { CanFeed (fed_of self.old.team.second.aligner) (longest self.old.team) b.now (slice_index bits 1) }
         requires third { CanFeed (fed_of self.old.team.third.aligner) (longest self.old.team) c.now (slice_index bits 2) }
-        ensures received { (fed : Fed) (taken : ℕ) → IsReceived self.old fed taken → IsReceived self.new (grown fed a.now b.now c.now bits) taken }
+        ensures received { (fed : Fed) (taken : ℕ) → ReceiverRepresents self.old fed taken → ReceiverRepresents self.new (grown fed a.now b.now c.now bits) taken }
         ensures aligned { result ≡ is_some self.new.deskew.found }
         ensures first { fed_of self.new.team.first.aligner ≡ fed_of self.old.team.first.aligner + slice_index bits 0 }
         ensures second { fed_of self.new.team.second.aligner ≡ fed_of self.old.team.second.aligner + slice_index bits 1 }
@@ -95,7 +95,7 @@ impl Receiver {
     /// The columns that are not consumed: none before the alignment.
     pub fn columns(&self) -> Columns<'_>
         ensures count { length (columns_in result) ≡ ready_of self.now.deskew }
-        ensures columns { (fed : Fed) (taken : ℕ) → IsReceived self.now fed taken
+        ensures columns { (fed : Fed) (taken : ℕ) → ReceiverRepresents self.now fed taken
             → columns_in result ≡ drop taken (columns_from fed self.now.deskew.found) }
     {
         self.deskew.columns()
@@ -105,7 +105,7 @@ impl Receiver {
     pub fn consume(&mut self, n: usize)
         requires { n ≤ ready_of self.old.deskew }
         ensures ready { ready_of self.new.deskew ≡ ready_of self.old.deskew - n }
-        ensures received { (fed : Fed) (taken : ℕ) → IsReceived self.old fed taken → IsReceived self.new fed (taken + n) }
+        ensures received { (fed : Fed) (taken : ℕ) → ReceiverRepresents self.old fed taken → ReceiverRepresents self.new fed (taken + n) }
         ensures found { self.new.deskew.found ≡ self.old.deskew.found }
         ensures team { self.new.team ≡ self.old.team }
     {
@@ -125,13 +125,13 @@ fn feed_parts<R: Threads, G: Gate>(
     gate: &G,
     order: Order,
 ) -> bool
-    requires received { (fed : Fed) × (taken : ℕ) × IsReceived (record { team = team.old; deskew = deskew.old }) fed taken }
+    requires received { (fed : Fed) × (taken : ℕ) × ReceiverRepresents (record { team = team.old; deskew = deskew.old }) fed taken }
     requires consumed { ready_of deskew.old ≡ 0 }
     requires first { CanFeed (fed_of team.old.first.aligner) (longest team.old) a.now (slice_index bits 0) }
     requires second { CanFeed (fed_of team.old.second.aligner) (longest team.old) b.now (slice_index bits 1) }
     requires third { CanFeed (fed_of team.old.third.aligner) (longest team.old) c.now (slice_index bits 2) }
-    ensures received { (fed : Fed) (taken : ℕ) → IsReceived (record { team = team.old; deskew = deskew.old }) fed taken
-        → IsReceived (record { team = team.new; deskew = deskew.new }) (grown fed a.now b.now c.now bits) taken }
+    ensures received { (fed : Fed) (taken : ℕ) → ReceiverRepresents (record { team = team.old; deskew = deskew.old }) fed taken
+        → ReceiverRepresents (record { team = team.new; deskew = deskew.new }) (grown fed a.now b.now c.now bits) taken }
     ensures aligned { result ≡ is_some deskew.new.found }
     ensures first { fed_of team.new.first.aligner ≡ fed_of team.old.first.aligner + slice_index bits 0 }
     ensures second { fed_of team.new.second.aligner ≡ fed_of team.old.second.aligner + slice_index bits 1 }
@@ -160,7 +160,7 @@ fn open_team(alloc: Global) -> Result<Box<Team>, NoMemory>
 /// A deskew in memory of its own.
 #[inline(never)]
 fn open_deskew(alloc: Global) -> Result<Box<Deskew>, NoMemory>
-    ensures stands { IfOk result (λ deskew. StandsFor deskew.value no_past) }
+    ensures stands { IfOk result (λ deskew. DeskewRepresents deskew.value no_history) }
     ensures found { IfOk result (λ deskew. deskew.value.found ≡ None) }
 {
     Ok(Box::new(alloc, Deskew::open(alloc)?)?)
@@ -169,9 +169,9 @@ fn open_deskew(alloc: Global) -> Result<Box<Deskew>, NoMemory>
 /// Pushes the characters that a feed of so many bits of a lane made whole.
 fn push_gained(team: &Team, deskew: &mut Deskew, lane: u8, bits: u32)
     requires lane { lane < 3 }
-    requires push { (p : Past) × (xs us : List Bool) × MayPush (side_at team.now lane) deskew.old lane bits p xs us }
-    ensures pushed { (p : Past) (xs us : List Bool) → MayPush (side_at team.now lane) deskew.old lane bits p xs us
-        → (now : Pushed) × HasPushed us (past_at p lane) now × StandsFor deskew.new (change (λ _. now) lane p) }
+    requires push { (p : History) × (xs us : List Bool) × MayPush (side_at team.now lane) deskew.old lane bits p xs us }
+    ensures pushed { (p : History) (xs us : List Bool) → MayPush (side_at team.now lane) deskew.old lane bits p xs us
+        → (now : Pushed) × HasPushed us (past_at p lane) now × DeskewRepresents deskew.new (change (λ _. now) lane p) }
     ensures found { deskew.new.found ≡ deskew.old.found }
 {
     if bits == 0 {
@@ -185,7 +185,7 @@ fn push_gained(team: &Team, deskew: &mut Deskew, lane: u8, bits: u32)
 /// Ends a lane that had fewer bits than another.
 fn end_if_short(deskew: &mut Deskew, lane: u8, short: bool)
     requires lane { lane < 3 }
-    ensures ended { (p : Past) → StandsFor deskew.old p → StandsFor deskew.new (change (end_if short) lane p) }
+    ensures ended { (p : History) → DeskewRepresents deskew.old p → DeskewRepresents deskew.new (change (end_if short) lane p) }
     ensures found { deskew.new.found ≡ deskew.old.found }
 {
     if short {

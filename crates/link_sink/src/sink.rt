@@ -2,18 +2,18 @@
 //! bits of each lane, the characters that wait for those of another lane, and the period that goes on.
 ghost use Rattle.std.specs.Prelude.{◌≡◌, ◌+◌, List, true, false, IfOk, OnOk, OnErr, slice_index};
 ghost use Rattle.outside_io.specs.Causes.{HasCause};
-ghost use Rattle.period_grammar.specs.Things.{Thing};
+ghost use Rattle.period_grammar.specs.Events.{Event};
 ghost use Rattle.link_sink.specs.Ears.{StopsIn};
 ghost use Rattle.link_sink.specs.Sinks.{Fed, grown, IsGainBy, IsLastBy};
 ghost use Rattle.link_sink.specs.Pieces.{no_bits};
 ghost use Rattle.link_sink.specs.Received.{CanFeed};
-ghost use Rattle.link_sink.specs.Streams.{StandsBy, bits_of, most_bits};
+ghost use Rattle.link_sink.specs.Streams.{StandsBy, bits_fed, most_bits};
 
 use crate::Ear;
 use crate::feeds::{Order, order_for};
 use crate::hear::Outcome;
 use crate::hears::Hears;
-use crate::streaming::Stream;
+use crate::streaming::HearingStream;
 use lane_team::{Gate, Open};
 use outside_io::{Failed, NoMemory};
 use period_grammar::Hearing;
@@ -28,7 +28,7 @@ pub type LinkSink = LaneSink<Hearing>;
 /// It has taken all its memory when it is opened.
 #[derive(Drop)]
 pub struct LaneSink<H: Hears> {
-    stream: Stream<H>,
+    stream: HearingStream<H>,
     is_open: bool,
 }
 
@@ -50,7 +50,7 @@ impl<H: Hears> LaneSink<H> {
         ensures bits { IfOk result (λ s. most_bits s ≡ 0) }
     {
         Ok(LaneSink {
-            stream: Stream::open(alloc)?,
+            stream: HearingStream::open(alloc)?,
             is_open: true,
         })
     }
@@ -90,19 +90,19 @@ impl<H: Hears> LaneSink<H> {
         ear: &mut E,
     ) -> Result<(), Failed>
         requires open { self.old.is_open ≡ true }
-        requires first { CanFeed (bits_of self.old 0) (most_bits self.old) a.now (slice_index bits 0) }
-        requires second { CanFeed (bits_of self.old 1) (most_bits self.old) b.now (slice_index bits 1) }
-        requires third { CanFeed (bits_of self.old 2) (most_bits self.old) c.now (slice_index bits 2) }
+        requires first { CanFeed (bits_fed self.old 0) (most_bits self.old) a.now (slice_index bits 0) }
+        requires second { CanFeed (bits_fed self.old 1) (most_bits self.old) b.now (slice_index bits 1) }
+        requires third { CanFeed (bits_fed self.old 2) (most_bits self.old) c.now (slice_index bits 2) }
         ensures open { OnOk result (self.new.is_open ≡ true) }
-        ensures first { OnOk result (bits_of self.new 0 ≡ bits_of self.old 0 + slice_index bits 0) }
-        ensures second { OnOk result (bits_of self.new 1 ≡ bits_of self.old 1 + slice_index bits 1) }
-        ensures third { OnOk result (bits_of self.new 2 ≡ bits_of self.old 2 + slice_index bits 2) }
+        ensures first { OnOk result (bits_fed self.new 0 ≡ bits_fed self.old 0 + slice_index bits 0) }
+        ensures second { OnOk result (bits_fed self.new 1 ≡ bits_fed self.old 1 + slice_index bits 1) }
+        ensures third { OnOk result (bits_fed self.new 2 ≡ bits_fed self.old 2 + slice_index bits 2) }
         ensures fed { (fed : Fed) → StandsBy H.goes_on self.old fed → OnOk result (StandsBy H.goes_on self.new (grown fed a.now b.now c.now bits)) }
-        ensures told { (fed : Fed) → StandsBy H.goes_on self.old fed
-            → OnOk result ((things : List Thing) × IsGainBy H.grammar fed (grown fed a.now b.now c.now bits) things × E.took ear.old ear.new things) }
+        ensures reported { (fed : Fed) → StandsBy H.goes_on self.old fed
+            → OnOk result ((events : List Event) × IsGainBy H.grammar fed (grown fed a.now b.now c.now bits) events × E.took ear.old ear.new events) }
         ensures spent { OnErr result (self.new.is_open ≡ false) }
         ensures stopped { (fed : Fed) → StandsBy H.goes_on self.old fed
-            → OnErr result ((things : List Thing) × IsGainBy H.grammar fed (grown fed a.now b.now c.now bits) things × StopsIn E.took E.broke ear.old ear.new things) }
+            → OnErr result ((events : List Event) × IsGainBy H.grammar fed (grown fed a.now b.now c.now bits) events × StopsIn E.took E.broke ear.old ear.new events) }
         ensures cause { HasCause (E.faults ear.old) (E.faults ear.new) result }
     {
         self.is_open = false;
@@ -128,19 +128,19 @@ impl<H: Hears> LaneSink<H> {
         ear: &mut E,
     ) -> Result<(), Failed>
         requires open { self.old.is_open ≡ true }
-        requires first { CanFeed (bits_of self.old 0) (most_bits self.old) a.now (slice_index bits 0) }
-        requires second { CanFeed (bits_of self.old 1) (most_bits self.old) b.now (slice_index bits 1) }
-        requires third { CanFeed (bits_of self.old 2) (most_bits self.old) c.now (slice_index bits 2) }
+        requires first { CanFeed (bits_fed self.old 0) (most_bits self.old) a.now (slice_index bits 0) }
+        requires second { CanFeed (bits_fed self.old 1) (most_bits self.old) b.now (slice_index bits 1) }
+        requires third { CanFeed (bits_fed self.old 2) (most_bits self.old) c.now (slice_index bits 2) }
         ensures open { OnOk result (self.new.is_open ≡ true) }
-        ensures first { OnOk result (bits_of self.new 0 ≡ bits_of self.old 0 + slice_index bits 0) }
-        ensures second { OnOk result (bits_of self.new 1 ≡ bits_of self.old 1 + slice_index bits 1) }
-        ensures third { OnOk result (bits_of self.new 2 ≡ bits_of self.old 2 + slice_index bits 2) }
+        ensures first { OnOk result (bits_fed self.new 0 ≡ bits_fed self.old 0 + slice_index bits 0) }
+        ensures second { OnOk result (bits_fed self.new 1 ≡ bits_fed self.old 1 + slice_index bits 1) }
+        ensures third { OnOk result (bits_fed self.new 2 ≡ bits_fed self.old 2 + slice_index bits 2) }
         ensures fed { (fed : Fed) → StandsBy H.goes_on self.old fed → OnOk result (StandsBy H.goes_on self.new (grown fed a.now b.now c.now bits)) }
-        ensures told { (fed : Fed) → StandsBy H.goes_on self.old fed
-            → OnOk result ((things : List Thing) × IsGainBy H.grammar fed (grown fed a.now b.now c.now bits) things × E.took ear.old ear.new things) }
+        ensures reported { (fed : Fed) → StandsBy H.goes_on self.old fed
+            → OnOk result ((events : List Event) × IsGainBy H.grammar fed (grown fed a.now b.now c.now bits) events × E.took ear.old ear.new events) }
         ensures spent { OnErr result (self.new.is_open ≡ false) }
         ensures stopped { (fed : Fed) → StandsBy H.goes_on self.old fed
-            → OnErr result ((things : List Thing) × IsGainBy H.grammar fed (grown fed a.now b.now c.now bits) things × StopsIn E.took E.broke ear.old ear.new things) }
+            → OnErr result ((events : List Event) × IsGainBy H.grammar fed (grown fed a.now b.now c.now bits) events × StopsIn E.took E.broke ear.old ear.new events) }
         ensures cause { HasCause (E.faults ear.old) (E.faults ear.new) result }
     {
         self.is_open = false;
@@ -159,10 +159,10 @@ impl<H: Hears> LaneSink<H> {
     pub fn finish<E: Ear>(&mut self, ear: &mut E) -> Result<Outcome, Failed>
         requires open { self.old.is_open ≡ true }
         ensures closed { self.new.is_open ≡ false }
-        ensures told { (fed : Fed) → StandsBy H.goes_on self.old fed
-            → IfOk result (λ outcome. (things : List Thing) × IsLastBy H.grammar fed outcome things × E.took ear.old ear.new things) }
+        ensures reported { (fed : Fed) → StandsBy H.goes_on self.old fed
+            → IfOk result (λ outcome. (events : List Event) × IsLastBy H.grammar fed outcome events × E.took ear.old ear.new events) }
         ensures stopped { (fed : Fed) → StandsBy H.goes_on self.old fed
-            → OnErr result ((outcome : Outcome) × (things : List Thing) × IsLastBy H.grammar fed outcome things × StopsIn E.took E.broke ear.old ear.new things) }
+            → OnErr result ((outcome : Outcome) × (events : List Event) × IsLastBy H.grammar fed outcome events × StopsIn E.took E.broke ear.old ear.new events) }
         ensures cause { HasCause (E.faults ear.old) (E.faults ear.new) result }
     {
         self.is_open = false;

@@ -3,12 +3,12 @@ ghost use Rattle.std.specs.Prelude.{◌≡◌, ◌<◌, ◌+◌, ◌^◌, List, 
 ghost use Rattle.outside_io.specs.Causes.{HasCause};
 ghost use Rattle.lane_align.specs.Aligners.{fed_of};
 ghost use Rattle.lane_deskew.specs.Pushed.{ready_of};
-ghost use Rattle.period_grammar.specs.Things.{Thing};
+ghost use Rattle.period_grammar.specs.Events.{Event};
 ghost use Rattle.link_sink.specs.Ears.{StopsIn};
 ghost use Rattle.link_sink.specs.Sinks.{Fed, grown, IsGainBy, IsLastBy};
 ghost use Rattle.link_sink.specs.Pieces.{no_bits};
 ghost use Rattle.link_sink.specs.Received.{CanFeed, longest};
-ghost use Rattle.link_sink.specs.Streams.{IsHeard, IsBehind};
+ghost use Rattle.link_sink.specs.Streams.{IsHeard, IsAfter};
 
 use crate::Ear;
 use crate::columns::hear_columns;
@@ -25,7 +25,7 @@ use std::thread::Threads;
 
 /// Receives three lanes, hears their columns, and keeps what it would answer if they ended.
 #[derive(Drop)]
-pub struct Stream<H: Hears> {
+pub struct HearingStream<H: Hears> {
     receiver: Receiver,
     hearing: Box<H>,
     outcome: Outcome,
@@ -37,23 +37,23 @@ const NOTHING: Outcome = Outcome {
     columns: 0,
 };
 
-impl<H: Hears> Model for Stream<H> {
+impl<H: Hears> Model for HearingStream<H> {
     ghost use Rattle.link_sink.specs.Seen as seen;
 
-    ghost Value = { seen.Stream H };
+    ghost Value = { seen.HearingStream H };
 
     ghost view = { λ s. record { receiver = s.receiver; hearing = s.hearing.value; outcome = s.outcome } };
 }
 
-impl<H: Hears> Stream<H> {
+impl<H: Hears> HearingStream<H> {
     /// A stream of no bits, with all memory that it ever has.
-    pub fn open(alloc: Global) -> Result<Stream<H>, NoMemory>
+    pub fn open(alloc: Global) -> Result<HearingStream<H>, NoMemory>
         ensures heard { IfOk result (λ s. IsHeard H.goes_on s no_bits) }
         ensures bits { IfOk result (λ s. longest s.receiver.team ≡ 0) }
     {
         let receiver = Receiver::open(alloc)?;
         let hearing = open_hearing(alloc)?;
-        Ok(Stream {
+        Ok(HearingStream {
             receiver,
             hearing,
             outcome: NOTHING,
@@ -87,10 +87,10 @@ impl<H: Hears> Stream<H> {
         requires second { CanFeed (fed_of self.old.receiver.team.second.aligner) (longest self.old.receiver.team) b.now (slice_index bits 1) }
         requires third { CanFeed (fed_of self.old.receiver.team.third.aligner) (longest self.old.receiver.team) c.now (slice_index bits 2) }
         ensures heard { (fed : Fed) → IsHeard H.goes_on self.old fed → OnOk result (IsHeard H.goes_on self.new (grown fed a.now b.now c.now bits)) }
-        ensures told { (fed : Fed) → IsHeard H.goes_on self.old fed
-            → OnOk result ((things : List Thing) × IsGainBy H.grammar fed (grown fed a.now b.now c.now bits) things × E.took ear.old ear.new things) }
+        ensures reported { (fed : Fed) → IsHeard H.goes_on self.old fed
+            → OnOk result ((events : List Event) × IsGainBy H.grammar fed (grown fed a.now b.now c.now bits) events × E.took ear.old ear.new events) }
         ensures stopped { (fed : Fed) → IsHeard H.goes_on self.old fed
-            → OnErr result ((things : List Thing) × IsGainBy H.grammar fed (grown fed a.now b.now c.now bits) things × StopsIn E.took E.broke ear.old ear.new things) }
+            → OnErr result ((events : List Event) × IsGainBy H.grammar fed (grown fed a.now b.now c.now bits) events × StopsIn E.took E.broke ear.old ear.new events) }
         ensures first { fed_of self.new.receiver.team.first.aligner ≡ fed_of self.old.receiver.team.first.aligner + slice_index bits 0 }
         ensures second { fed_of self.new.receiver.team.second.aligner ≡ fed_of self.old.receiver.team.second.aligner + slice_index bits 1 }
         ensures third { fed_of self.new.receiver.team.third.aligner ≡ fed_of self.old.receiver.team.third.aligner + slice_index bits 2 }
@@ -108,10 +108,10 @@ impl<H: Hears> Stream<H> {
     /// Tells the ear what the end of the lanes tells.
     pub fn finish<E: Ear>(&mut self, ear: &mut E) -> Result<Outcome, Failed>
         requires { (fed : Fed) × IsHeard H.goes_on self.old fed }
-        ensures told { (fed : Fed) → IsHeard H.goes_on self.old fed
-            → IfOk result (λ outcome. (things : List Thing) × IsLastBy H.grammar fed outcome things × E.took ear.old ear.new things) }
+        ensures reported { (fed : Fed) → IsHeard H.goes_on self.old fed
+            → IfOk result (λ outcome. (events : List Event) × IsLastBy H.grammar fed outcome events × E.took ear.old ear.new events) }
         ensures stopped { (fed : Fed) → IsHeard H.goes_on self.old fed
-            → OnErr result ((outcome : Outcome) × (things : List Thing) × IsLastBy H.grammar fed outcome things × StopsIn E.took E.broke ear.old ear.new things) }
+            → OnErr result ((outcome : Outcome) × (events : List Event) × IsLastBy H.grammar fed outcome events × StopsIn E.took E.broke ear.old ear.new events) }
         ensures cause { HasCause (E.faults ear.old) (E.faults ear.new) result }
     {
         if !self.outcome.aligned {
@@ -129,13 +129,13 @@ fn hear_parts<H: Hears, E: Ear>(
     outcome: &mut Outcome,
     ear: &mut E,
 ) -> Result<(), Failed>
-    requires { (before now : Fed) × IsBehind H.goes_on (record { receiver = receiver.old; hearing = hearing.old; outcome = outcome.old }) before now }
-    ensures heard { (before now : Fed) → IsBehind H.goes_on (record { receiver = receiver.old; hearing = hearing.old; outcome = outcome.old }) before now
+    requires { (before now : Fed) × IsAfter H.goes_on (record { receiver = receiver.old; hearing = hearing.old; outcome = outcome.old }) before now }
+    ensures heard { (before now : Fed) → IsAfter H.goes_on (record { receiver = receiver.old; hearing = hearing.old; outcome = outcome.old }) before now
         → OnOk result (IsHeard H.goes_on (record { receiver = receiver.new; hearing = hearing.new; outcome = outcome.new }) now) }
-    ensures told { (before now : Fed) → IsBehind H.goes_on (record { receiver = receiver.old; hearing = hearing.old; outcome = outcome.old }) before now
-        → OnOk result ((things : List Thing) × IsGainBy H.grammar before now things × E.took ear.old ear.new things) }
-    ensures stopped { (before now : Fed) → IsBehind H.goes_on (record { receiver = receiver.old; hearing = hearing.old; outcome = outcome.old }) before now
-        → OnErr result ((things : List Thing) × IsGainBy H.grammar before now things × StopsIn E.took E.broke ear.old ear.new things) }
+    ensures reported { (before now : Fed) → IsAfter H.goes_on (record { receiver = receiver.old; hearing = hearing.old; outcome = outcome.old }) before now
+        → OnOk result ((events : List Event) × IsGainBy H.grammar before now events × E.took ear.old ear.new events) }
+    ensures stopped { (before now : Fed) → IsAfter H.goes_on (record { receiver = receiver.old; hearing = hearing.old; outcome = outcome.old }) before now
+        → OnErr result ((events : List Event) × IsGainBy H.grammar before now events × StopsIn E.took E.broke ear.old ear.new events) }
     ensures team { receiver.new.team ≡ receiver.old.team }
     ensures cause { HasCause (E.faults ear.old) (E.faults ear.new) result }
 {

@@ -23,7 +23,7 @@ pub fn tell<H: Hears, E: Ear>(hearing: &H, ear: &mut E) -> Result<(), Failed>
     tell_each(hearing, ear)
 }
 
-/// Tells an ear each thing that the last call of a hearing told.
+/// Tells an ear each event that the last call of a hearing told.
 #[cold]
 fn tell_each<H: Hears, E: Ear>(hearing: &H, ear: &mut E) -> Result<(), Failed>
     requires sized { All IsSized (H.last hearing.now) }
@@ -32,7 +32,7 @@ fn tell_each<H: Hears, E: Ear>(hearing: &H, ear: &mut E) -> Result<(), Failed>
     ensures cause { HasCause (E.faults ear.old) (E.faults ear.new) result }
 {
     for i in 0..hearing.tells() {
-        ear.hear(hearing.told(i))?;
+        ear.hear(hearing.reported(i))?;
     }
     Ok(())
 }
@@ -41,7 +41,7 @@ fn tell_each<H: Hears, E: Ear>(hearing: &H, ear: &mut E) -> Result<(), Failed>
 fn end<H: Hears>(hearing: &mut H)
     requires heard { (cs : List Column) × H.goes_on hearing.old cs }
     ensures sized { All IsSized (H.last hearing.new) }
-    ensures told { (cs : List Column) → H.goes_on hearing.old cs → H.grammar.whole cs ≡ H.grammar.so_far cs ++ H.last hearing.new }
+    ensures reported { (cs : List Column) → H.goes_on hearing.old cs → H.grammar.whole cs ≡ H.grammar.so_far cs ++ H.last hearing.new }
 {
     hearing.finish();
 }
@@ -50,7 +50,7 @@ fn end<H: Hears>(hearing: &mut H)
 pub fn hear_end<H: Hears, E: Ear>(hearing: &mut H, ear: &mut E) -> Result<(), Failed>
     requires heard { (cs : List Column) × H.goes_on hearing.old cs }
     ensures end { (cs : List Column) → H.goes_on hearing.old cs → H.grammar.whole cs ≡ H.grammar.so_far cs ++ H.last hearing.new }
-    ensures told { OnOk result (E.took ear.old ear.new (H.last hearing.new)) }
+    ensures reported { OnOk result (E.took ear.old ear.new (H.last hearing.new)) }
     ensures stopped { OnErr result (StopsIn E.took E.broke ear.old ear.new (H.last hearing.new)) }
     ensures cause { HasCause (E.faults ear.old) (E.faults ear.new) result }
 {

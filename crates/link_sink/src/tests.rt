@@ -1,6 +1,6 @@
 //! What a sink tells of the rows of three lanes that come feed after feed.
 ghost use Rattle.std.specs.Prelude.{◌≡◌, ◌+◌, ◌*◌, ◌≤◌, ◌<◌, ◌%◌, true, length, min, OnOk};
-ghost use Rattle.link_sink.specs.Streams.{bits_of};
+ghost use Rattle.link_sink.specs.Streams.{bits_fed};
 
 mod rows;
 mod vectors;
@@ -8,14 +8,14 @@ mod vectors;
 use crate::{LinkSink, Outcome};
 use lane_team::{Gate, Open};
 use outside_io::Failed;
-use rows::{NOTHING, Notes, Row, TELLS, even_rows, rows_of};
+use rows::{NOTHING, Notes, Row, TELLS, even_rows, rows_of, tells_of};
 use std::alloc::Global;
 use std::process::Abort;
 use std::sync::atomic::{AtomicU64, Ordering};
 use std::test::*;
 use std::thread::Threads;
 use tmds_word::BitRow;
-use vectors::{HURT, HURT_TELLS, ISLAND, ISLAND_TELLS};
+use vectors::{DAMAGED, ISLAND};
 
 /// How many bits of each lane come in three feeds, over and over.
 static FEEDS: [[u32; 3]; 4] = [
@@ -42,13 +42,13 @@ fn feed_next<R: Threads>(
     requires open { sink.old.is_open ≡ true }
     requires whole { from % 8 ≡ 0 }
     requires most { most ≤ 32768 }
-    requires first { bits_of sink.old 0 ≡ min from (length a.now) }
-    requires second { bits_of sink.old 1 ≡ min from (length b.now) }
-    requires third { bits_of sink.old 2 ≡ min from (length c.now) }
+    requires first { bits_fed sink.old 0 ≡ min from (length a.now) }
+    requires second { bits_fed sink.old 1 ≡ min from (length b.now) }
+    requires third { bits_fed sink.old 2 ≡ min from (length c.now) }
     ensures open { OnOk result (sink.new.is_open ≡ true) }
-    ensures first { OnOk result (bits_of sink.new 0 ≡ min (from + most) (length a.now)) }
-    ensures second { OnOk result (bits_of sink.new 1 ≡ min (from + most) (length b.now)) }
-    ensures third { OnOk result (bits_of sink.new 2 ≡ min (from + most) (length c.now)) }
+    ensures first { OnOk result (bits_fed sink.new 0 ≡ min (from + most) (length a.now)) }
+    ensures second { OnOk result (bits_fed sink.new 1 ≡ min (from + most) (length b.now)) }
+    ensures third { OnOk result (bits_fed sink.new 2 ≡ min (from + most) (length c.now)) }
 {
     let x = most.min(a.len().saturating_sub(from));
     let y = most.min(b.len().saturating_sub(from));
@@ -82,9 +82,9 @@ fn feed_all<R: Threads>(
     notes: &mut Notes,
 ) -> Result<Outcome, Failed>
     requires open { sink.old.is_open ≡ true }
-    requires first { bits_of sink.old 0 ≡ 0 }
-    requires second { bits_of sink.old 1 ≡ 0 }
-    requires third { bits_of sink.old 2 ≡ 0 }
+    requires first { bits_fed sink.old 0 ≡ 0 }
+    requires second { bits_fed sink.old 1 ≡ 0 }
+    requires third { bits_fed sink.old 2 ≡ 0 }
 {
     let a = &rows[0];
     let b = &rows[1];
@@ -104,7 +104,7 @@ fn feed_all<R: Threads>(
     sink.finish(notes)
 }
 
-/// That three rows have this outcome, and tell these things, in feeds of each kind, by one sink that is restarted.
+/// That three rows have this outcome, and tell these events, in feeds of each kind, by one sink that is restarted.
 fn expect<R: Threads + Abort>(
     rt: &R,
     alloc: Global,
@@ -158,10 +158,14 @@ fn islands(rt: HostRuntime) -> Result<(), Fail> {
         aligned: true,
         columns: 75,
     };
-    let rows = rows_of(rt.alloc(), &ISLAND)?;
-    expect(&rt, rt.alloc(), &rows, &FEEDS, outcome, &ISLAND_TELLS)?;
-    let rows = rows_of(rt.alloc(), &HURT)?;
-    expect(&rt, rt.alloc(), &rows, &FEEDS, outcome, &HURT_TELLS)
+    for case in [ISLAND, DAMAGED] {
+        let (events, lanes) = case.split_once('\n').ok_or("no lanes")?;
+        let tells = tells_of(rt.alloc(), events)?;
+        let rows = rows_of(rt.alloc(), lanes, [0; 3], 0)?;
+        assert!(&rt; tells.len() <= 16);
+        expect(&rt, rt.alloc(), &rows, &FEEDS, outcome, tells.as_slice())?;
+    }
+    Ok(())
 }
 
 #[test]
@@ -201,7 +205,7 @@ fn lanes_of_unlike_lengths(rt: HostRuntime) -> Result<(), Fail> {
     Ok(())
 }
 
-/// That an ear that fails at one of four things was told those before it and no more, in feeds of each kind, and that the
+/// That an ear that fails at one of four events was told those before it and no more, in feeds of each kind, and that the
 /// sink is then spent.
 fn expect_failures<R: Threads + Abort>(
     rt: &R,

@@ -12,17 +12,17 @@ use Rattle.island_pack.specs.Periods.{ControlRun, DataIsland, Period, control as
 use Rattle.island_pack.specs.Runs.{join}
 use Rattle.island_pack.proofs.Runs.{join_values}
 use Rattle.island_pack.specs.declared.packet.Packet.{Packet}
-use Rattle.period_grammar.specs.Things.{Thing, preamble, cut, symbols, guard, all_at, thing_of}
+use Rattle.period_grammar.specs.Events.{Event, preamble, cut, symbols, guard, all_at, event_of}
 use Rattle.island_pack.specs.Repaired.{verdicts_of}
 use Rattle.period_grammar.specs.Column.{value_of}
 use Rattle.period_grammar.specs.Cut.{Run, columns, in_front, value, before_runs, runs as runs_of}
 use Rattle.period_grammar.specs.Island.{if_so, block_fault, block_faults, wrong_guards}
 use Rattle.period_grammar.specs.Coding.{first_uncoded}
 use Rattle.period_grammar.specs.Heard.{other_word, other_words, words, has_preamble, if_not, codes_of, code_fault}
-use Rattle.frame_build.specs.Event.{vsync_of}
-use Rattle.link_sink.specs.Account.{runs_row, control_row, wrong_preamble, open_video_row, open_island_row, close_island_row, pixel_bytes, video_row, video_told, packet_told, packets_told, island_told, period_row, account_from, account_at, account}
-use Rattle.link_sink.proofs.Cutting.{things_at}
-use Rattle.link_sink.proofs.Joining.{no_row, account_zero}
+use Rattle.period_grammar.proofs.Hearings.{events_at}
+use Rattle.frame_build.specs.FrameEvent.{vsync_of}
+use Rattle.link_laws.specs.Account.{runs_row, control_row, wrong_preamble, open_video_row, open_island_row, close_island_row, pixel_bytes, video_row, video_reported, packet_reported, packets_reported, island_reported, period_row, account_from, account_at, account}
+use Rattle.link_laws.proofs.Joining.{no_row, account_zero}
 use Rattle.source_end.specs.Raster.{Part, column, pixels, packets, before, gathered}
 use Rattle.source_end.specs.Gathering.{size}
 use Rattle.listing_laws.proofs.Machine.{Tick, control, pixels as pixels_tick, parted, ticks, ticks_append}
@@ -40,7 +40,7 @@ unfolding ticks
 no_word lane j true = refl
 no_word lane j false = refl
 
-no_both : (xs ys : List Thing) → ticks xs ≡ [] → ticks ys ≡ [] → ticks (xs ++ ys) ≡ []
+no_both : (xs ys : List Event) → ticks xs ≡ [] → ticks ys ≡ [] → ticks (xs ++ ys) ≡ []
 no_both xs ys h g = ticks_append xs ys ∙ ap₂ (λ (a b : List Tick). a ++ b) h g
 
 no_other_words : (j : ℕ) (c : Column) → ticks (other_words j c) ≡ []
@@ -49,12 +49,12 @@ no_other_words j c =
     no_both (other_word 0 j (is_control c.blue)) _ (no_word 0 j (is_control c.blue))
     (no_both (other_word 1 j (is_control c.green)) _ (no_word 1 j (is_control c.green)) (no_word 2 j (is_control c.red)))
 
-no_words : (j : ℕ) (cs : List Column) → ticks (map thing_of (words j cs)) ≡ []
+no_words : (j : ℕ) (cs : List Column) → ticks (map event_of (words j cs)) ≡ []
 unfolding ticks
 no_words j [] = refl
 no_words j (c ∷ cs) =
-    ap ticks (map-append thing_of (all_at j (other_words j c)) (words (j + 1) cs) ∙ ap (λ (ts : List Thing). ts ++ map thing_of (words (j + 1) cs)) (things_at j (other_words j c)))
-    ∙ no_both (other_words j c) (map thing_of (words (j + 1) cs)) (no_other_words j c) (no_words (j + 1) cs)
+    ap ticks (map-append event_of (all_at j (other_words j c)) (words (j + 1) cs) ∙ ap (λ (ts : List Event). ts ++ map event_of (words (j + 1) cs)) (events_at j (other_words j c)))
+    ∙ no_both (other_words j c) (map event_of (words (j + 1) cs)) (no_other_words j c) (no_words (j + 1) cs)
 
 -- the columns of runs
 abbrev ticks_in : List Run → List Tick
@@ -65,7 +65,7 @@ runs_ticks : (j : ℕ) (rs : List Run) → ticks (runs_row j rs) ≡ ticks_in rs
 unfolding runs_row ticks
 runs_ticks j [] = refl
 runs_ticks j (columns v cs ∷ rs) =
-    ticks_append (map thing_of (words j cs)) _
+    ticks_append (map event_of (words j cs)) _
     ∙ ap₂ (λ (xs ys : List Tick). xs ++ (replicate (length cs) (control (vsync_of v)) ++ ys)) (no_words j cs) (runs_ticks (j + length cs) rs)
 
 front_ticks : (t : Bool) (c : Column) (r : Run) (rs : List Run) → (value_of c == value r) ≡ t → ticks_in (in_front t c r rs) ≡ tick_of c ∷ ticks_in (r ∷ rs)
@@ -86,8 +86,8 @@ row_ticks j cs = runs_ticks j (runs_of cs) ∙ columns_ticks cs
 
 -- Gaps.
 
--- things that frames see as gaps
-record AreGaps (ts : List Thing) : Type 0 where
+-- events that frames see as gaps
+record AreGaps (ts : List Event) : Type 0 where
   many : ℕ
   are : ticks ts ≡ replicate many parted
 
@@ -95,7 +95,7 @@ more_gaps : (n m : ℕ) → replicate n parted ++ replicate m parted ≡ replica
 more_gaps zero m = let e : m ≡ 0 + m = omega arith in ap (λ (k : ℕ). replicate k parted) e
 more_gaps (suc n) m = let e : suc (n + m) ≡ suc n + m = omega arith in ap (λ (ts : List Tick). parted ∷ ts) (more_gaps n m) ∙ ap (λ (k : ℕ). replicate k parted) e
 
-gaps_both : (xs ys : List Thing) → AreGaps xs → AreGaps ys → AreGaps (xs ++ ys)
+gaps_both : (xs ys : List Event) → AreGaps xs → AreGaps ys → AreGaps (xs ++ ys)
 gaps_both xs ys h k = record { many = h.many + k.many; are = ticks_append xs ys ∙ ap₂ (λ (a b : List Tick). a ++ b) h.are k.are ∙ more_gaps h.many k.many }
 
 no_gaps : AreGaps []
@@ -147,13 +147,13 @@ open_video_gaps b before [] = no_gaps
 open_video_gaps b before (g ∷ []) = no_gaps
 open_video_gaps b before (g ∷ (h ∷ rs)) = gaps_both (wrong_preamble b VIDEO_PREAMBLE before) (wrong_guards is_video_guard b g h) (lack_gaps (has_preamble VIDEO_PREAMBLE before) b) (guards_gaps is_video_guard b g h)
 
--- a thing more in front of gaps
-gap_first : (t : Thing) (ts : List Thing) → ticks (t ∷ []) ≡ parted ∷ [] → AreGaps ts → AreGaps (t ∷ ts)
+-- an event more in front of gaps
+gap_first : (t : Event) (ts : List Event) → ticks (t ∷ []) ≡ parted ∷ [] → AreGaps ts → AreGaps (t ∷ ts)
 unfolding ticks
 gap_first t ts e h = gaps_both (t ∷ []) ts (record { many = 1; are = e }) h
 
-packet_gaps : (s : ℕ) (p : Packet) (ss rs : List Column) → AreGaps (packet_told s p ss rs)
-unfolding packet_told ticks
+packet_gaps : (s : ℕ) (p : Packet) (ss rs : List Column) → AreGaps (packet_reported s p ss rs)
+unfolding packet_reported ticks
 packet_gaps s p ss rs =
     gap_first _ _ refl
     (gaps_both (if_so (not ((verdicts_of rs).symbols == 0)) (symbols s (verdicts_of rs).symbols)) (block_faults s 0 (verdicts_of rs).blocks)
@@ -169,22 +169,22 @@ cut_gaps : (s : ℕ) → AreGaps (cut s ∷ [])
 unfolding ticks
 cut_gaps s = record { many = 1; are = refl }
 
-cond_gaps : (t : Bool) (xs ys : List Thing) → AreGaps xs → AreGaps ys → AreGaps (cond t xs ys)
+cond_gaps : (t : Bool) (xs ys : List Event) → AreGaps xs → AreGaps ys → AreGaps (cond t xs ys)
 cond_gaps true xs ys h g = h
 cond_gaps false xs ys h g = g
 
-packets_gaps : (s : ℕ) (ps : List Packet) (i : ℕ) (ss rs : List Column) → AreGaps (packets_told cut s ps i ss rs)
-unfolding packets_told
+packets_gaps : (s : ℕ) (ps : List Packet) (i : ℕ) (ss rs : List Column) → AreGaps (packets_reported cut s ps i ss rs)
+unfolding packets_reported
 packets_gaps s [] i ss rs = cond_gaps (nat_le 2 i) _ _ (close_gaps s rs) (cut_gaps s)
 packets_gaps s (p ∷ ps) i ss rs =
     cond_gaps (nat_lt i 32) _ _ (cut_gaps s)
-    (gaps_both (packet_told s p (take 32 ss) (take 32 rs)) (packets_told cut (s + 32) ps (i - 32) (drop 32 ss) (drop 32 rs)) (packet_gaps s p (take 32 ss) (take 32 rs)) (packets_gaps (s + 32) ps (i - 32) (drop 32 ss) (drop 32 rs)))
+    (gaps_both (packet_reported s p (take 32 ss) (take 32 rs)) (packets_reported cut (s + 32) ps (i - 32) (drop 32 ss) (drop 32 rs)) (packet_gaps s p (take 32 ss) (take 32 rs)) (packets_gaps (s + 32) ps (i - 32) (drop 32 ss) (drop 32 rs)))
 
 -- an island is a gap at least
 one_gap : (n : ℕ) (ts : List Tick) → ts ≡ replicate (suc n) parted → Hears ts (cell.parted ∷ [])
 one_gap n ts e = subst (λ (us : List Tick). Hears us (cell.parted ∷ [])) (sym (e ∙ ap (λ (us : List Tick). parted ∷ us) (sym (append-nil (replicate n parted))))) (apart n [] [] none)
 
--- an island opens with a thing whatever is wrong with it
+-- an island opens with an event whatever is wrong with it
 open_island_gaps : (b : ℕ) (before : List Column) (g h : Column) (rs : List Column) → (n : ℕ) × (ticks (open_island_row b before (g ∷ (h ∷ rs))) ≡ replicate (suc n) parted)
 unfolding open_island_row ticks
 open_island_gaps b before g h rs =
@@ -193,8 +193,8 @@ open_island_gaps b before g h rs =
     let e : w.many + suc k.many ≡ suc (w.many + k.many) = omega arith in
     (w.many + k.many, ticks_append (wrong_preamble b ISLAND_PREAMBLE before) _ ∙ ap₂ (λ (xs ys : List Tick). xs ++ (parted ∷ ys)) w.are k.are ∙ more_gaps w.many (suc k.many) ∙ ap (λ (n : ℕ). replicate n parted) e)
 
-island_hears : (j m : ℕ) (before : List Column) (x : DataIsland) (ss rs : List Column) → min m 2 ≤ length rs → Hears (ticks (island_told j m before x ss rs)) (gap_cells m)
-unfolding island_told ticks
+island_hears : (j m : ℕ) (before : List Column) (x : DataIsland) (ss rs : List Column) → min m 2 ≤ length rs → Hears (ticks (island_reported j m before x ss rs)) (gap_cells m)
+unfolding island_reported ticks
 island_hears j zero before x ss rs le = none
 island_hears j (suc zero) before x ss rs le = apart 0 [] [] none
 island_hears j (suc (suc i)) before x ss [] le = absurd (omega (arith, le))
@@ -208,26 +208,26 @@ island_hears j (suc (suc i)) before x ss (g ∷ (h ∷ rs)) le =
 
 -- A row.
 
-whole_hears : (j : ℕ) (bytes : List ℕ) (n : ℕ) (ts us : List Thing) → ticks ts ≡ replicate n parted → AreGaps us → (told : Thing) → ticks (told ∷ us) ≡ pixels_tick bytes ∷ ticks us → Hears (ticks (ts ++ (told ∷ us))) (cell.pixels bytes ∷ [])
-whole_hears j bytes n ts us e g told l =
+whole_hears : (j : ℕ) (bytes : List ℕ) (n : ℕ) (ts us : List Event) → ticks ts ≡ replicate n parted → AreGaps us → (reported : Event) → ticks (reported ∷ us) ≡ pixels_tick bytes ∷ ticks us → Hears (ticks (ts ++ (reported ∷ us))) (cell.pixels bytes ∷ [])
+whole_hears j bytes n ts us e g reported l =
     subst (λ (xs : List Tick). Hears xs (cell.pixels bytes ∷ []))
-    (sym (ticks_append ts (told ∷ us) ∙ ap₂ (λ (xs ys : List Tick). xs ++ ys) e (l ∙ ap (λ (xs : List Tick). pixels_tick bytes ∷ xs) (g.are ∙ sym (append-nil (replicate g.many parted))))))
+    (sym (ticks_append ts (reported ∷ us) ∙ ap₂ (λ (xs ys : List Tick). xs ++ ys) e (l ∙ ap (λ (xs : List Tick). pixels_tick bytes ∷ xs) (g.are ∙ sym (append-nil (replicate g.many parted))))))
     (row bytes n g.many [] [] none)
 
-cut_hears : (n : ℕ) (ts : List Thing) (s : ℕ) → ticks ts ≡ replicate n parted → Hears (ticks (ts ++ (cut s ∷ []))) (cell.parted ∷ [])
+cut_hears : (n : ℕ) (ts : List Event) (s : ℕ) → ticks ts ≡ replicate n parted → Hears (ticks (ts ++ (cut s ∷ []))) (cell.parted ∷ [])
 unfolding ticks
 cut_hears n ts s e =
     let d : n + 1 ≡ suc n = omega arith in
     one_gap n _ (ticks_append ts (cut s ∷ []) ∙ ap (λ (xs : List Tick). xs ++ (parted ∷ [])) e ∙ more_gaps n 1 ∙ ap (λ (k : ℕ). replicate k parted) d)
 
-line_hears : (t : Bool) (j n : ℕ) (ts : List Thing) (ps : List Pixel) (ss rs : List Column) → ticks ts ≡ replicate n parted
+line_hears : (t : Bool) (j n : ℕ) (ts : List Event) (ps : List Pixel) (ss rs : List Column) → ticks ts ≡ replicate n parted
     → Hears (ticks (ts ++ cond t (video_row j ps ss rs) (cut (j + 2) ∷ []))) (cond t (cell.pixels (pixel_bytes ps ss rs) ∷ []) (cell.parted ∷ []))
 unfolding video_row ticks
 line_hears true j n ts ps ss rs e = whole_hears j (pixel_bytes ps ss rs) n ts (codes_of (j + 2) rs) e (codes_gaps (j + 2) rs) _ refl
 line_hears false j n ts ps ss rs e = cut_hears n ts (j + 2) e
 
-video_hears : (j m : ℕ) (before : List Column) (ps : List Pixel) (ss rs : List Column) → Hears (ticks (video_told j m before ps ss rs)) (row_cells m ps ss rs)
-unfolding video_told ticks
+video_hears : (j m : ℕ) (before : List Column) (ps : List Pixel) (ss rs : List Column) → Hears (ticks (video_reported j m before ps ss rs)) (row_cells m ps ss rs)
+unfolding video_reported ticks
 video_hears j zero before ps ss rs = none
 video_hears j (suc zero) before ps ss rs = apart 0 [] [] none
 video_hears j (suc (suc i)) before ps ss rs =
@@ -237,7 +237,7 @@ video_hears j (suc (suc i)) before ps ss rs =
 -- Periods.
 
 -- the account of periods from column j on, the first of which, where it is a control period, has columns before them
-abbrev account_on : List Column → ℕ → ℕ → List Period → List Column → List Column → List Thing
+abbrev account_on : List Column → ℕ → ℕ → List Period → List Column → List Column → List Event
 account_on acc j m [] ss rs = account_from j m acc [] ss rs
 account_on acc j m (control_period runs ∷ ps) ss rs =
     control_row j (take m (take (period_columns (control_period runs)) rs))
@@ -257,7 +257,7 @@ nothing_on [] acc j ss rs = account_zero j acc [] ss rs
 nothing_on (control_period runs ∷ ps) acc j ss rs =
     let n = period_columns (control_period runs) in
     let e : 0 - n ≡ 0 = omega arith in
-    ap₂ (λ (xs ys : List Thing). xs ++ ys) (no_row j) (ap (λ (k : ℕ). account_from (j + n) k (acc ++ take n rs) ps (drop n ss) (drop n rs)) e ∙ account_zero (j + n) (acc ++ take n rs) ps (drop n ss) (drop n rs))
+    ap₂ (λ (xs ys : List Event). xs ++ ys) (no_row j) (ap (λ (k : ℕ). account_from (j + n) k (acc ++ take n rs) ps (drop n ss) (drop n rs)) e ∙ account_zero (j + n) (acc ++ take n rs) ps (drop n ss) (drop n rs))
 nothing_on (video bytes ∷ ps) acc j ss rs = account_zero j acc (video bytes ∷ ps) ss rs
 nothing_on (island x ∷ ps) acc j ss rs = account_zero j acc (island x ∷ ps) ss rs
 
@@ -315,15 +315,15 @@ no_cells = none
 
 nothing_hears : (parts : List Part) (acc : List Column) (j : ℕ) (ss rs : List Column) → Hears (ticks (account_on acc j 0 (gathered parts) ss rs)) (parts_cells 0 parts ss rs)
 nothing_hears parts acc j ss rs =
-    subst (λ (ts : List Thing). Hears (ticks ts) (parts_cells 0 parts ss rs)) (sym (nothing_on (gathered parts) acc j ss rs)) (subst (λ (cs : List Cell). Hears (ticks []) cs) (sym (parts_none parts ss rs)) no_cells)
+    subst (λ (ts : List Event). Hears (ticks ts) (parts_cells 0 parts ss rs)) (sym (nothing_on (gathered parts) acc j ss rs)) (subst (λ (cs : List Cell). Hears (ticks []) cs) (sym (parts_none parts ss rs)) no_cells)
 
 -- a part that is a period of its own, and the parts behind it
-period_hears : (n j m : ℕ) (own : List Thing) (here : List Cell) (parts : List Part) (b ss rs : List Column) → Hears (ticks own) here
+period_hears : (n j m : ℕ) (own : List Event) (here : List Cell) (parts : List Part) (b ss rs : List Column) → Hears (ticks own) here
     → ((acc : List Column) → Hears (ticks (account_on acc (j + n) (m - n) (gathered parts) (drop n ss) (drop n rs))) (parts_cells (m - n) parts (drop n ss) (drop n rs)))
     → Hears (ticks (own ++ account_from (j + n) (m - n) b (gathered parts) (drop n ss) (drop n rs))) (here ++ parts_cells (m - n) parts (drop n ss) (drop n rs))
 period_hears n j m own here parts b ss rs h later =
     let o = on_some (gathered parts) b (j + n) (m - n) (drop n ss) (drop n rs) in
-    let k = subst (λ (ts : List Thing). Hears (ticks ts) (parts_cells (m - n) parts (drop n ss) (drop n rs))) (sym o.1) (later o.0) in
+    let k = subst (λ (ts : List Event). Hears (ticks ts) (parts_cells (m - n) parts (drop n ss) (drop n rs))) (sym o.1) (later o.0) in
     subst (λ (ts : List Tick). Hears ts (here ++ parts_cells (m - n) parts (drop n ss) (drop n rs))) (sym (ticks_append own (account_from (j + n) (m - n) b (gathered parts) (drop n ss) (drop n rs))))
     (hears_append (ticks own) (ticks (account_from (j + n) (m - n) b (gathered parts) (drop n ss) (drop n rs))) here (parts_cells (m - n) parts (drop n ss) (drop n rs)) h k)
 
@@ -341,13 +341,13 @@ parts_hear (column v ∷ parts) acc j (suc m) ss (c ∷ rs) le =
     (one (vsync_of v) (vsync_of (value_of c)) _ _ (parts_hear parts (acc ++ c ∷ []) (j + 1) m (drop 1 ss) rs (omega (arith, le)))))
 parts_hear (pixels bytes ∷ parts) acc j (suc m) ss rs le =
     let n = 2 + length bytes / 3 in
-    period_hears n j (suc m) (video_told j (suc m) acc (pixels_of bytes) (take n ss) (take n rs)) (row_cells (suc m) (pixels_of bytes) (take n ss) (take n rs)) parts (take n rs) ss rs
+    period_hears n j (suc m) (video_reported j (suc m) acc (pixels_of bytes) (take n ss) (take n rs)) (row_cells (suc m) (pixels_of bytes) (take n ss) (take n rs)) parts (take n rs) ss rs
     (video_hears j (suc m) acc (pixels_of bytes) (take n ss) (take n rs))
     (λ acc2. parts_hear parts acc2 (j + n) (suc m - n) (drop n ss) (drop n rs) (shorter_rest n (suc m) rs le))
 parts_hear (packets x ∷ parts) acc j (suc m) ss rs le =
     let n = 4 + 32 * length x.packets in
     let l = length-take n rs in
-    period_hears n j (suc m) (island_told j (suc m) acc x (take n ss) (take n rs)) (gap_cells (suc m)) parts (take n rs) ss rs
+    period_hears n j (suc m) (island_reported j (suc m) acc x (take n ss) (take n rs)) (gap_cells (suc m)) parts (take n rs) ss rs
     (island_hears j (suc m) acc x (take n ss) (take n rs) (omega (arith, l, le)))
     (λ acc2. parts_hear parts acc2 (j + n) (suc m - n) (drop n ss) (drop n rs) (shorter_rest n (suc m) rs le))
 
@@ -374,7 +374,7 @@ past p ps ss rs n a b m e d =
     ∙ ap₂ (λ (x y : ℕ). account ps (drop x ss) (drop x rs) y m) e g
 
 -- m columns of a period of k columns from column a of it on
-abbrev at_with : ℕ → ℕ → ℕ → List Column → List Period → List Column → List Column → List Thing
+abbrev at_with : ℕ → ℕ → ℕ → List Column → List Period → List Column → List Column → List Event
 at_with k a m first ps ss rs = control_row 0 (take m first) ++ account_from (k - a) (m - (k - a)) first ps (drop k ss) (drop k rs)
 
 first_dropped : (n a : ℕ) (rs : List Column) → drop (1 + a) (take (1 + n) rs) ≡ drop a (take n (drop 1 rs))
@@ -423,7 +423,7 @@ front_hears : (n : ℕ) (periods more : List Period) (front back : List Part) (v
     → Hears (ticks (account periods (drop n ss) (drop n rs) (size front) m)) (parts_cells m (column v ∷ back) (drop (size front) (drop n ss)) (drop (size front) (drop n rs)))
     → Hears (ticks (account more ss rs (n + size front) m)) (parts_cells m (column v ∷ back) (drop (n + size front) ss) (drop (n + size front) rs))
 front_hears n periods more front back v m ss rs e h =
-    subst (λ (ts : List Thing). Hears (ticks ts) (parts_cells m (column v ∷ back) (drop (n + size front) ss) (drop (n + size front) rs))) (sym e)
+    subst (λ (ts : List Event). Hears (ticks ts) (parts_cells m (column v ∷ back) (drop (n + size front) ss) (drop (n + size front) rs))) (sym e)
     (subst (λ (cs : List Cell). Hears (ticks (account periods (drop n ss) (drop n rs) (size front) m)) cs)
     (ap₂ (λ (cs ds : List Column). parts_cells m (column v ∷ back) cs ds) (drop-drop (size front) n ss) (drop-drop (size front) n rs)) h)
 
@@ -434,7 +434,7 @@ pub account_hears : (front back : List Part) (v : ℕ) (m : ℕ) (ss rs : List C
     → Hears (ticks (account (gathered (front ++ (column v ∷ back))) ss rs (size front) m)) (parts_cells m (column v ∷ back) (drop (size front) ss) (drop (size front) rs))
 unfolding gathered size
 account_hears [] back v m ss rs le =
-    subst (λ (ts : List Thing). Hears (ticks ts) (parts_cells m (column v ∷ back) ss rs)) (sym (starts v (gathered back) ss rs m)) (parts_hear (column v ∷ back) [] 0 m ss rs (omega (arith, le)))
+    subst (λ (ts : List Event). Hears (ticks ts) (parts_cells m (column v ∷ back) ss rs)) (sym (starts v (gathered back) ss rs m)) (parts_hear (column v ∷ back) [] 0 m ss rs (omega (arith, le)))
 account_hears (column w ∷ front) back v m ss rs le =
     front_hears 1 (gathered (front ++ (column v ∷ back))) (before w (gathered (front ++ (column v ∷ back)))) front back v m ss rs (past_column w (gathered (front ++ (column v ∷ back))) ss rs (size front) m)
     (account_hears front back v m (drop 1 ss) (drop 1 rs) (fewer_left 1 (size front) m rs le))

@@ -11,28 +11,28 @@ use Rattle.island_pack.specs.Runs.{join}
 use Rattle.island_pack.specs.Spelling.{control_column}
 use Rattle.island_pack.specs.Sparse.{no_column}
 use Rattle.island_pack.proofs.Runs.{join_values}
-use Rattle.link_sink.specs.Laws.{CameOf}
-use Rattle.link_sink.proofs.Cutting.{AllControl, NoneControl}
-use Rattle.link_sink.proofs.Rows.{control_columns, Small}
-use Rattle.link_sink.proofs.Conformed.{Conforms, conforming, HasValues, has_values}
-use Rattle.link_sink.proofs.Joining.{ArrivesPeriod, controls, Arrives, nothing, more, sized, IsBetween, IsTail, ends, goes_on, is_tail, inner_gap}
-use Rattle.link_sink.proofs.Framing.{arrived}
+use Rattle.link_laws.specs.Laws.{ReceivedOf}
+use Rattle.link_laws.proofs.Cutting.{AllControl, NoneControl}
+use Rattle.link_laws.proofs.Rows.{control_columns, Small}
+use Rattle.link_laws.proofs.Conformed.{Conforms, conforming, HasValues, has_values}
+use Rattle.link_laws.proofs.Joining.{ArrivesPeriod, controls, Arrives, nothing, more, sized, IsBetween, IsTail, ends, goes_on, is_tail, inner_gap}
+use Rattle.link_laws.proofs.Framing.{arrived}
 use Rattle.source_end.specs.Raster.{Part, column, pixels, packets, before, gathered}
 use Rattle.source_end.specs.Gathering.{size}
 use Rattle.listing_laws.proofs.Accounted.{video_size as video_columns, island_size as island_columns}
 
 -- columns of a period that holds no control columns, as sent and as they came
-pub record IsOther (n : ℕ) (own came : List Column) : Type 0 where
+pub record IsOther (n : ℕ) (own reception : List Column) : Type 0 where
   pub sent : length own ≡ n
-  pub received : length came ≡ n
-  pub quiet : NoneControl came
+  pub received : length reception ≡ n
+  pub quiet : NoneControl reception
 
-unfoldable Came : List Period → List Column → List Column → Type 0
-Came [] ss rs = (ss ≡ []) × (rs ≡ [])
-Came (control_period runs ∷ ps) ss rs =
-    (cs sent received : List Column) × (ss ≡ control_columns (values_of runs) ++ sent) × (rs ≡ cs ++ received) × (length cs ≡ length (values_of runs)) × AllControl cs × Small (values_of runs) × Came ps sent received
-Came (video bytes ∷ ps) ss rs = (own came sent received : List Column) × (ss ≡ own ++ sent) × (rs ≡ came ++ received) × IsOther (2 + length bytes / 3) own came × Came ps sent received
-Came (island x ∷ ps) ss rs = (own came sent received : List Column) × (ss ≡ own ++ sent) × (rs ≡ came ++ received) × IsOther (4 + 32 * length x.packets) own came × Came ps sent received
+unfoldable Received : List Period → List Column → List Column → Type 0
+Received [] ss rs = (ss ≡ []) × (rs ≡ [])
+Received (control_period runs ∷ ps) ss rs =
+    (cs sent received : List Column) × (ss ≡ control_columns (values_of runs) ++ sent) × (rs ≡ cs ++ received) × (length cs ≡ length (values_of runs)) × AllControl cs × Small (values_of runs) × Received ps sent received
+Received (video bytes ∷ ps) ss rs = (own reception sent received : List Column) × (ss ≡ own ++ sent) × (rs ≡ reception ++ received) × IsOther (2 + length bytes / 3) own reception × Received ps sent received
+Received (island x ∷ ps) ss rs = (own reception sent received : List Column) × (ss ≡ own ++ sent) × (rs ≡ reception ++ received) × IsOther (4 + 32 * length x.packets) own reception × Received ps sent received
 
 twelve : List Column
 twelve = replicate 12 no_column
@@ -41,17 +41,17 @@ twelve_long : 12 ≤ length twelve
 unfolding twelve
 twelve_long = let l : length twelve ≡ 12 = length-replicate 12 no_column in omega (arith, l)
 
-inner_came : (x : Period) (xs : List Period) (own came ss rs : List Column) → IsBetween x → ArrivesPeriod x own came → Came xs ss rs → Came (x ∷ xs) (own ++ ss) (came ++ rs)
-unfolding Came IsBetween
-inner_came (control_period runs) xs own came ss rs i a h = absurd i
-inner_came (video bytes) xs own came ss rs i a h =
-    let g = inner_gap twelve (video bytes) own came twelve_long i a in
-    let s = sized (video bytes) own came a in
-    (own, came, ss, rs, refl, refl, record { sent = s.sent ∙ video_columns bytes; received = s.received ∙ video_columns bytes; quiet = g.quiet }, h)
-inner_came (island x) xs own came ss rs i a h =
-    let g = inner_gap twelve (island x) own came twelve_long i a in
-    let s = sized (island x) own came a in
-    (own, came, ss, rs, refl, refl, record { sent = s.sent ∙ island_columns x; received = s.received ∙ island_columns x; quiet = g.quiet }, h)
+inner_received : (x : Period) (xs : List Period) (own reception ss rs : List Column) → IsBetween x → ArrivesPeriod x own reception → Received xs ss rs → Received (x ∷ xs) (own ++ ss) (reception ++ rs)
+unfolding Received IsBetween
+inner_received (control_period runs) xs own reception ss rs i a h = absurd i
+inner_received (video bytes) xs own reception ss rs i a h =
+    let g = inner_gap twelve (video bytes) own reception twelve_long i a in
+    let s = sized (video bytes) own reception a in
+    (own, reception, ss, rs, refl, refl, record { sent = s.sent ∙ video_columns bytes; received = s.received ∙ video_columns bytes; quiet = g.quiet }, h)
+inner_received (island x) xs own reception ss rs i a h =
+    let g = inner_gap twelve (island x) own reception twelve_long i a in
+    let s = sized (island x) own reception a in
+    (own, reception, ss, rs, refl, refl, record { sent = s.sent ∙ island_columns x; received = s.received ∙ island_columns x; quiet = g.quiet }, h)
 
 inner_values : (x : Period) (xs : List Period) → IsBetween x → HasValues (x ∷ xs) → HasValues xs
 unfolding HasValues IsBetween
@@ -63,22 +63,22 @@ first_values : (runs : List ControlRun) (xs : List Period) → HasValues (contro
 unfolding HasValues
 first_values runs xs h = h
 
-tail_came : (tail : List Period) → IsTail tail → HasValues tail → (ss rs : List Column) → Arrives tail ss rs → Came tail ss rs
-unfolding Came
-tail_came _ ends v _ _ nothing = (refl, refl)
-tail_came _ (goes_on x runs rest i long f) v _ _ (more _ _ own came _ _ a (more _ _ _ _ ss rs (controls _ cs n all) b)) =
+tail_received : (tail : List Period) → IsTail tail → HasValues tail → (ss rs : List Column) → Arrives tail ss rs → Received tail ss rs
+unfolding Received
+tail_received _ ends v _ _ nothing = (refl, refl)
+tail_received _ (goes_on x runs rest i long f) v _ _ (more _ _ own reception _ _ a (more _ _ _ _ ss rs (controls _ cs n all) b)) =
     let w = first_values runs rest (inner_values x (control_period runs ∷ rest) i v) in
-    inner_came x (control_period runs ∷ rest) own came (control_columns (values_of runs) ++ ss) (cs ++ rs) i a
-    (cs, ss, rs, refl, refl, n, all, w.0, tail_came rest f w.1 ss rs b)
+    inner_received x (control_period runs ∷ rest) own reception (control_columns (values_of runs) ++ ss) (cs ++ rs) i a
+    (cs, ss, rs, refl, refl, n, all, w.0, tail_received rest f w.1 ss rs b)
 
-periods_came : (ps : List Period) (ss rs : List Column) → Conforms ps → HasValues ps → Arrives ps ss rs → Came ps ss rs
-unfolding Conforms Came
-periods_came [] ss rs c v a = absurd c
-periods_came (video bytes ∷ rest) ss rs c v a = absurd c
-periods_came (island x ∷ rest) ss rs c v a = absurd c
-periods_came (control_period runs ∷ rest) _ _ c v (more _ _ _ _ ss rs (controls _ cs n all) a) =
+periods_received : (ps : List Period) (ss rs : List Column) → Conforms ps → HasValues ps → Arrives ps ss rs → Received ps ss rs
+unfolding Conforms Received
+periods_received [] ss rs c v a = absurd c
+periods_received (video bytes ∷ rest) ss rs c v a = absurd c
+periods_received (island x ∷ rest) ss rs c v a = absurd c
+periods_received (control_period runs ∷ rest) _ _ c v (more _ _ _ _ ss rs (controls _ cs n all) a) =
     let w = first_values runs rest v in
-    (cs, ss, rs, refl, refl, n, all, w.0, tail_came rest (is_tail (values_of runs) rest c) w.1 ss rs a)
+    (cs, ss, rs, refl, refl, n, all, w.0, tail_received rest (is_tail (values_of runs) rest c) w.1 ss rs a)
 
 -- Parts.
 
@@ -86,10 +86,10 @@ unfoldable pub Arrived : List Part → List Column → List Column → Type 0
 Arrived [] ss rs = (ss ≡ []) × (rs ≡ [])
 Arrived (column v ∷ ps) ss rs =
     (c : Column) × (sent received : List Column) × (ss ≡ control_column v ∷ sent) × (rs ≡ c ∷ received) × (is_control_column c ≡ true) × (nat_lt v 64 ≡ true) × Arrived ps sent received
-Arrived (pixels bytes ∷ ps) ss rs = (own came sent received : List Column) × (ss ≡ own ++ sent) × (rs ≡ came ++ received) × IsOther (2 + length bytes / 3) own came × Arrived ps sent received
-Arrived (packets x ∷ ps) ss rs = (own came sent received : List Column) × (ss ≡ own ++ sent) × (rs ≡ came ++ received) × IsOther (4 + 32 * length x.packets) own came × Arrived ps sent received
+Arrived (pixels bytes ∷ ps) ss rs = (own reception sent received : List Column) × (ss ≡ own ++ sent) × (rs ≡ reception ++ received) × IsOther (2 + length bytes / 3) own reception × Arrived ps sent received
+Arrived (packets x ∷ ps) ss rs = (own reception sent received : List Column) × (ss ≡ own ++ sent) × (rs ≡ reception ++ received) × IsOther (4 + 32 * length x.packets) own reception × Arrived ps sent received
 
-record FirstCame (n : ℕ) (cs : List Column) : Type 0 where
+record FirstReceived (n : ℕ) (cs : List Column) : Type 0 where
   c : Column
   rest : List Column
   are : cs ≡ c ∷ rest
@@ -97,11 +97,11 @@ record FirstCame (n : ℕ) (cs : List Column) : Type 0 where
   all : AllControl rest
   long : length rest ≡ n
 
-first_came : (n : ℕ) (cs : List Column) → length cs ≡ suc n → AllControl cs → FirstCame n cs
-first_came n [] e all = absurd (omega (arith, e))
-first_came n (c ∷ cs) e all = record { c = c; rest = cs; are = refl; control = and-left _ _ all; all = and-right (is_control_column c) _ all; long = omega (arith, e) }
+first_received : (n : ℕ) (cs : List Column) → length cs ≡ suc n → AllControl cs → FirstReceived n cs
+first_received n [] e all = absurd (omega (arith, e))
+first_received n (c ∷ cs) e all = record { c = c; rest = cs; are = refl; control = and-left _ _ all; all = and-right (is_control_column c) _ all; long = omega (arith, e) }
 
-record ColumnCame (v : ℕ) (periods : List Period) (ss rs : List Column) : Type 0 where
+record ColumnReceived (v : ℕ) (periods : List Period) (ss rs : List Column) : Type 0 where
   c : Column
   sent : List Column
   received : List Column
@@ -109,15 +109,15 @@ record ColumnCame (v : ℕ) (periods : List Period) (ss rs : List Column) : Type
   received_are : rs ≡ c ∷ received
   control : is_control_column c ≡ true
   small : nat_lt v 64 ≡ true
-  later : Came periods sent received
+  later : Received periods sent received
 
 -- a control column before periods
 column_before : (v : ℕ) (runs : List ControlRun) (periods after : List Period) (ss rs cs sent received : List Column) → ss ≡ control_columns (values_of (join v runs)) ++ sent → rs ≡ cs ++ received
     → length cs ≡ length (values_of (join v runs)) → AllControl cs → Small (values_of (join v runs))
-    → ((ds : List Column) → length ds ≡ length (values_of runs) → AllControl ds → Small (values_of runs) → Came after (control_columns (values_of runs) ++ sent) (ds ++ received)) → ColumnCame v after ss rs
+    → ((ds : List Column) → length ds ≡ length (values_of runs) → AllControl ds → Small (values_of runs) → Received after (control_columns (values_of runs) ++ sent) (ds ++ received)) → ColumnReceived v after ss rs
 column_before v runs periods after ss rs cs sent received e d n all small later =
     let j = join_values v runs in
-    let f = first_came (length (values_of runs)) cs (n ∙ ap length j) all in
+    let f = first_received (length (values_of runs)) cs (n ∙ ap length j) all in
     let s = subst (λ (vs : List ℕ). Small vs) j small in
     record {
       c = f.c;
@@ -140,33 +140,33 @@ unfolding values_of
 none_values = refl
 
 alone_before : (v : ℕ) (after : List Period) (ss rs cs sent received : List Column) → ss ≡ control_columns (values_of (join v [])) ++ sent → rs ≡ cs ++ received
-    → length cs ≡ length (values_of (join v [])) → AllControl cs → Small (values_of (join v [])) → Came after sent received → ColumnCame v after ss rs
+    → length cs ≡ length (values_of (join v [])) → AllControl cs → Small (values_of (join v [])) → Received after sent received → ColumnReceived v after ss rs
 alone_before v after ss rs cs sent received e d n all small later =
     column_before v [] after after ss rs cs sent received e d n all small
-    (λ ds l a s. subst (λ (xs : List Column). Came after xs (ds ++ received)) (sym (ap (λ (vs : List ℕ). control_columns vs ++ sent) none_values)) (subst (λ (xs : List Column). Came after sent (xs ++ received)) (sym (none_left ds l)) later))
+    (λ ds l a s. subst (λ (xs : List Column). Received after xs (ds ++ received)) (sym (ap (λ (vs : List ℕ). control_columns vs ++ sent) none_values)) (subst (λ (xs : List Column). Received after sent (xs ++ received)) (sym (none_left ds l)) later))
 
-column_came : (v : ℕ) (periods : List Period) (ss rs : List Column) → Came (before v periods) ss rs → ColumnCame v periods ss rs
-unfolding Came
-column_came v [] ss rs h = alone_before v [] ss rs h.0 h.1 h.2 h.3 h.4 h.5 h.6 h.7 h.8
-column_came v (video bytes ∷ periods) ss rs h = alone_before v (video bytes ∷ periods) ss rs h.0 h.1 h.2 h.3 h.4 h.5 h.6 h.7 h.8
-column_came v (island x ∷ periods) ss rs h = alone_before v (island x ∷ periods) ss rs h.0 h.1 h.2 h.3 h.4 h.5 h.6 h.7 h.8
-column_came v (control_period runs ∷ periods) ss rs h =
+column_received : (v : ℕ) (periods : List Period) (ss rs : List Column) → Received (before v periods) ss rs → ColumnReceived v periods ss rs
+unfolding Received
+column_received v [] ss rs h = alone_before v [] ss rs h.0 h.1 h.2 h.3 h.4 h.5 h.6 h.7 h.8
+column_received v (video bytes ∷ periods) ss rs h = alone_before v (video bytes ∷ periods) ss rs h.0 h.1 h.2 h.3 h.4 h.5 h.6 h.7 h.8
+column_received v (island x ∷ periods) ss rs h = alone_before v (island x ∷ periods) ss rs h.0 h.1 h.2 h.3 h.4 h.5 h.6 h.7 h.8
+column_received v (control_period runs ∷ periods) ss rs h =
     column_before v runs periods (control_period runs ∷ periods) ss rs h.0 h.1 h.2 h.3 h.4 h.5 h.6 h.7
     (λ ds l a s. (ds, h.1, h.2, refl, refl, l, a, s, h.8))
 
-parts_came : (parts : List Part) (ss rs : List Column) → Came (gathered parts) ss rs → Arrived parts ss rs
-unfolding gathered Came Arrived
-parts_came [] ss rs h = h
-parts_came (column v ∷ parts) ss rs h =
-    let k = column_came v (gathered parts) ss rs h in
-    (k.c, k.sent, k.received, k.sent_are, k.received_are, k.control, k.small, parts_came parts k.sent k.received k.later)
-parts_came (pixels bytes ∷ parts) ss rs h = (h.0, h.1, h.2, h.3, h.4, h.5, h.6, parts_came parts h.2 h.3 h.7)
-parts_came (packets x ∷ parts) ss rs h = (h.0, h.1, h.2, h.3, h.4, h.5, h.6, parts_came parts h.2 h.3 h.7)
+parts_received : (parts : List Part) (ss rs : List Column) → Received (gathered parts) ss rs → Arrived parts ss rs
+unfolding gathered Received Arrived
+parts_received [] ss rs h = h
+parts_received (column v ∷ parts) ss rs h =
+    let k = column_received v (gathered parts) ss rs h in
+    (k.c, k.sent, k.received, k.sent_are, k.received_are, k.control, k.small, parts_received parts k.sent k.received k.later)
+parts_received (pixels bytes ∷ parts) ss rs h = (h.0, h.1, h.2, h.3, h.4, h.5, h.6, parts_received parts h.2 h.3 h.7)
+parts_received (packets x ∷ parts) ss rs h = (h.0, h.1, h.2, h.3, h.4, h.5, h.6, parts_received parts h.2 h.3 h.7)
 
-pub parts_arrived : (parts : List Part) (sent received : List Column) → CameOf (gathered parts) sent received → Arrived parts sent received
-parts_arrived parts sent received came =
-    let c = conforming (gathered parts) came.conforming in
-    parts_came parts sent received (periods_came (gathered parts) sent received c (has_values (gathered parts) c) (arrived (gathered parts) sent received came))
+pub parts_arrived : (parts : List Part) (sent received : List Column) → ReceivedOf (gathered parts) sent received → Arrived parts sent received
+parts_arrived parts sent received reception =
+    let c = conforming (gathered parts) reception.conforming in
+    parts_received parts sent received (periods_received (gathered parts) sent received c (has_values (gathered parts) c) (arrived (gathered parts) sent received reception))
 
 pub drop_front : (k : ℕ) (own cs : List Column) → length own ≡ k → drop k (own ++ cs) ≡ cs
 drop_front k own cs e = ap (λ (i : ℕ). drop i (own ++ cs)) (sym e) ∙ drop-append_seam own cs

@@ -9,24 +9,24 @@ use Rattle.bch_block.specs.declared.Verdict.TheVariants.{Clean, Mended, Lost}
 use Rattle.bch_block.proofs.Verdicts.{one_wrong}
 use Rattle.island_pack.specs.Nibbles.{nibbles_of, by_turns, header_bits, body_bits}
 use Rattle.island_pack.specs.Packets.{CarriesFreely, body_of}
-use Rattle.island_pack.specs.Spelling.{words_of}
+use Rattle.island_pack.specs.Spelling.{column_words}
 use Rattle.island_pack.specs.Taken.{verdict_on}
 use Rattle.island_pack.specs.declared.packet.Packet.{Packet}
 use Rattle.island_pack.specs.Repaired.{packet_of, verdict_of, verdicts_in, verdicts_of}
 use Rattle.island_pack.proofs.Repaired.{verdict_is}
-use Rattle.link_sink.specs.Account.{damage, sync_row, packet_row}
-use Rattle.link_sink.specs.Laws.{wrong_bits}
-use Rattle.link_sink.proofs.WrongBits.{header_wrong, body_wrong, same_or_flipped}
+use Rattle.link_laws.specs.Account.{damage, sync_row, packet_row}
+use Rattle.link_laws.specs.Laws.{wrong_bits}
+use Rattle.link_laws.proofs.WrongBits.{header_wrong, body_wrong, same_or_flipped}
 use Rattle.listing_laws.specs.PacketLaws.{IsAsSent, OneWordAsSent}
 
-length-header : (ss rs : List Column) → length rs ≡ length ss → length (header_bits (map words_of rs)) ≡ length (header_bits (map words_of ss))
+length-header : (ss rs : List Column) → length rs ≡ length ss → length (header_bits (map column_words rs)) ≡ length (header_bits (map column_words ss))
 unfolding header_bits nibbles_of
 length-header [] [] e = refl
 length-header [] (r ∷ rs) e = absurd (omega (arith, e))
 length-header (s ∷ ss) [] e = absurd (omega (arith, e))
 length-header (s ∷ ss) (r ∷ rs) e = ap (λ n. suc n) (length-header ss rs (omega (arith, e)))
 
-length-body : (b : ℕ) (ss rs : List Column) → length rs ≡ length ss → length (body_bits (map words_of rs) b) ≡ length (body_bits (map words_of ss) b)
+length-body : (b : ℕ) (ss rs : List Column) → length rs ≡ length ss → length (body_bits (map column_words rs) b) ≡ length (body_bits (map column_words ss) b)
 unfolding body_bits nibbles_of by_turns
 length-body b [] [] e = refl
 length-body b [] (r ∷ rs) e = absurd (omega (arith, e))
@@ -45,19 +45,19 @@ kept_block s x block low high same few lost = elim (same_or_flipped s x same few
       let v = verdict_is x (Mended f.place) (omega (arith, low, same)) (omega (arith, high, same)) (subst (λ (y : List Bool). IsVerdict y (Mended f.place)) (sym f.is) found) in cc
 ]
 
-kept_body : (p : Packet) (ss rs : List Column) → CarriesFreely p (map words_of ss) → length rs ≡ length ss → damage ss rs ≤ 1 → (b : ℕ) → b < 4 → verdict_of (body_bits (map words_of rs) b) ≡ Lost → ⊥
+kept_body : (p : Packet) (ss rs : List Column) → CarriesFreely p (map column_words ss) → length rs ≡ length ss → damage ss rs ≤ 1 → (b : ℕ) → b < 4 → verdict_of (body_bits (map column_words rs) b) ≡ Lost → ⊥
 kept_body p ss rs carries same few b lt lost =
     let begins = carries.bodies b lt in
     let l = length-bytes p b carries.whole.bodies lt in
-    kept_block (body_bits (map words_of ss) b) (body_bits (map words_of rs) b) begins.block (omega (arith, begins.bits, l)) (omega (arith, begins.bits, l)) (length-body b ss rs same) (omega (arith, body_wrong b ss rs, few)) lost
+    kept_block (body_bits (map column_words ss) b) (body_bits (map column_words rs) b) begins.block (omega (arith, begins.bits, l)) (omega (arith, begins.bits, l)) (length-body b ss rs same) (omega (arith, body_wrong b ss rs, few)) lost
 
-kept_header : (p : Packet) (ss rs : List Column) → CarriesFreely p (map words_of ss) → length rs ≡ length ss → damage ss rs ≤ 1 → verdict_of (header_bits (map words_of rs)) ≡ Lost → ⊥
+kept_header : (p : Packet) (ss rs : List Column) → CarriesFreely p (map column_words ss) → length rs ≡ length ss → damage ss rs ≤ 1 → verdict_of (header_bits (map column_words rs)) ≡ Lost → ⊥
 kept_header p ss rs carries same few lost =
     let begins = carries.header in
     let l = carries.whole.header in
-    kept_block (header_bits (map words_of ss)) (header_bits (map words_of rs)) begins.block (omega (arith, begins.bits, l)) (omega (arith, begins.bits, l)) (length-header ss rs same) (omega (arith, header_wrong ss rs, few)) lost
+    kept_block (header_bits (map column_words ss)) (header_bits (map column_words rs)) begins.block (omega (arith, begins.bits, l)) (omega (arith, begins.bits, l)) (length-header ss rs same) (omega (arith, header_wrong ss rs, few)) lost
 
-kept : (p : Packet) (ss rs : List Column) → CarriesFreely p (map words_of ss) → length rs ≡ length ss → damage ss rs ≤ 1 → (b : ℕ) → b < 5 → verdict_on (verdicts_of rs) b ≡ Lost → ⊥
+kept : (p : Packet) (ss rs : List Column) → CarriesFreely p (map column_words ss) → length rs ≡ length ss → damage ss rs ≤ 1 → (b : ℕ) → b < 5 → verdict_on (verdicts_of rs) b ≡ Lost → ⊥
 unfolding verdicts_in
 kept p ss rs carries same few zero lt lost = kept_body p ss rs carries same few 0 (omega arith) lost
 kept p ss rs carries same few (suc zero) lt lost = kept_body p ss rs carries same few 1 (omega arith) lost
@@ -73,9 +73,9 @@ as_sent_row p ss rs few =
     (record { header = p.header; bodies = p.bodies; sync = sync_row p.sync ss rs })
     (record { header = (packet_of rs).header; bodies = (packet_of rs).bodies; sync = sync_row p.sync ss rs })) (le-leb (damage ss rs) 1 few)
 
-pub as_sent_freely : (p : Packet) (ss rs : List Column) → CarriesFreely p (map words_of ss) → length rs ≡ 32 → damage ss rs ≤ 1 → IsAsSent p (packet_row p ss rs) (verdicts_of rs)
+pub as_sent_freely : (p : Packet) (ss rs : List Column) → CarriesFreely p (map column_words ss) → length rs ≡ 32 → damage ss rs ≤ 1 → IsAsSent p (packet_row p ss rs) (verdicts_of rs)
 as_sent_freely p ss rs carries long few =
-    let n = length-map ss words_of in
+    let n = length-map ss column_words in
     let same : length rs ≡ length ss = omega (arith, long, n, carries.count) in
     let e = as_sent_row p ss rs few in
     record { header = ap (λ (q : Packet). q.header) e; bodies = ap (λ (q : Packet). q.bodies) e; kept = kept p ss rs carries same few }

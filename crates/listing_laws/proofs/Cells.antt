@@ -4,11 +4,11 @@ use Rattle.std.proofs.Common.{◌≡◌, ℕ, zero, suc, ◌+◌, ◌/◌, Bool,
 use Rattle.std.specs.Prelude.{nat_le}
 use Rattle.tmds_word.proofs.Below.{and-left, and-right}
 use Rattle.terc4.specs.Columns.{one_if}
-use Rattle.frame_build.specs.Event.{Mark, column, gap, has_vsync}
+use Rattle.frame_build.specs.FrameEvent.{Mark, column, gap, has_vsync}
 use Rattle.frame_build.specs.Change.{three_have, newer, differ}
-use Rattle.frame_build.specs.Group.{is_unlike, told_count}
+use Rattle.frame_build.specs.Group.{is_unlike, reported_count}
 use Rattle.frame_build.specs.declared.LineNote.{LineNote}
-use Rattle.listing.specs.Listed.{Listed, row_lines}
+use Rattle.listing_writer.specs.Listed.{Listed, listed_rows}
 use Rattle.listing_laws.proofs.Machine.{hears, ends}
 use Rattle.listing_laws.proofs.Machine as plain
 
@@ -60,7 +60,7 @@ abbrev pub column_said : Bool → State → List Listed
 column_said w s = ends (differ (heard_at w s) s.heard) s.counting s.group
 
 abbrev pub note_of : State → ℕ → LineNote
-note_of s width = record { counts = s.counting; ragged = s.counting && is_unlike s.group width; row = told_count (length s.group) }
+note_of s width = record { counts = s.counting; ragged = s.counting && is_unlike s.group width; row = reported_count (length s.group) }
 
 abbrev pub step : Cell → State → State
 step (control b v) s = column_state (not (same b (taken b v s.recent))) (taken b v s.recent) s
@@ -69,7 +69,7 @@ step parted s = record { marks = gap ∷ s.marks; heard = s.heard; counting = s.
 
 abbrev pub said : Cell → State → List Listed
 said (control b v) s = column_said (taken b v s.recent) s
-said (pixels bytes) s = row_lines bytes (note_of s (length bytes / 3))
+said (pixels bytes) s = listed_rows bytes (note_of s (length bytes / 3))
 said parted s = []
 
 unfoldable pub after : List Cell → State → State
@@ -195,9 +195,6 @@ record Like (s : plain.State) (t : State) : Type 0 where
   pub counting : s.counting ≡ t.counting
   pub group : s.group ≡ t.group
 
-gap_alike : (ms ns : List Mark) → alike (gap ∷ ms) (gap ∷ ns) ≡ true
-gap_alike ms ns = refl
-
 pub same_self : (v : Bool) → same v v ≡ true
 same_self true = refl
 same_self false = refl
@@ -263,7 +260,7 @@ row_like bytes s t n = record { marks = refl; heard = n.heard; counting = n.coun
 
 row_same : (bytes : List ℕ) (s : plain.State) (t : State) → Near s t → plain.said (plain.pixels bytes) s ≡ said (pixels bytes) t
 row_same bytes s t n =
-    ap₂ (λ (c : Bool) (g : List ℕ). row_lines bytes (record { counts = c; ragged = c && is_unlike g (length bytes / 3); row = told_count (length g) })) n.counting n.group
+    ap₂ (λ (c : Bool) (g : List ℕ). listed_rows bytes (record { counts = c; ragged = c && is_unlike g (length bytes / 3); row = reported_count (length g) })) n.counting n.group
 
 -- gaps say nothing
 past_gaps : (k : ℕ) (ts : List plain.Tick) (s : plain.State) → plain.says (replicate k plain.parted ++ ts) s ≡ plain.says ts (plain.after (replicate k plain.parted) s)

@@ -6,7 +6,7 @@ use Rattle.std.proofs.lemmas.List.{length-replicate}
 use Rattle.tmds_word.specs.Column.{Column}
 use Rattle.terc4.specs.Columns.{one_if}
 use Rattle.island_pack.specs.declared.packet.Packet.{Packet}
-use Rattle.frame_build.specs.Event.{vsync_of}
+use Rattle.frame_build.specs.FrameEvent.{vsync_of}
 use Rattle.source_end.specs.declared.mode.Mode.{Mode}
 use Rattle.source_end.specs.Content.{Frame}
 use Rattle.source_end.specs.Raster.{Part, column, sync, back, active, front, total, laid, blank, final_columns, parts_of}
@@ -15,7 +15,7 @@ use Rattle.source_end.specs.Lines.{left}
 use Rattle.source_end.proofs.RasterModes.{IsMode, AreRows, IsFrame, AreFrames}
 use Rattle.source_end.proofs.RasterSizes.{size_blank, size_rows, sync_part, after_sync, back_part, after_back, rows_part, front_part, parts_none, parts_more}
 use Rattle.listing_laws.specs.FrameLaws.{whole_frame}
-use Rattle.listing.specs.Listed.{Listed, frame}
+use Rattle.listing_writer.specs.Listed.{Listed, frame}
 use Rattle.listing_laws.proofs.Machine.{ends}
 use Rattle.listing_laws.proofs.Cells.{Cell, State, after, says, after_append, says_append}
 use Rattle.listing_laws.proofs.Ready.{Ready, quiet, is_heard}
@@ -69,15 +69,15 @@ pub turns_last : (e p : ℕ) (last : Bool) → p ≤ e → e < p + 11 → turns 
 turns_last e p last le lt = ap₂ (λ (t u : Bool). t || (u && last)) (lt-leb (p + 11) e lt) (le-leb p e le)
 
 -- a frame is told where the sync lines after it are heard
-unfoldable pub frame_told : Mode → ℕ → Bool → ℕ → List Listed
-frame_told mode e last p = cond (turns e last p) (whole_frame mode ∷ []) []
+unfoldable pub frame_reported : Mode → ℕ → Bool → ℕ → List Listed
+frame_reported mode e last p = cond (turns e last p) (whole_frame mode ∷ []) []
 
 -- what is listed of frames from column p on that all count
 unfoldable pub frames_listed : Mode → List Column → List Column → ℕ → Bool → ℕ → List Frame → List Listed
 frames_listed mode ss rs e last p [] = []
 frames_listed mode ss rs e last p (f ∷ frames) =
     rows_listed mode true ss rs e (p + sync_area mode + back_area mode) 0 f.rows
-    ++ (frame_told mode e last (p + frame_area mode) ++ frames_listed mode ss rs e last (p + frame_area mode) frames)
+    ++ (frame_reported mode e last (p + frame_area mode) ++ frames_listed mode ss rs e last (p + frame_area mode) frames)
 
 -- the frame of a group that was there before
 unfoldable pub pending : ℕ → Bool → ℕ → Bool → List ℕ → List Listed
@@ -95,9 +95,9 @@ pending_none : (e p : ℕ) (last : Bool) (c : Bool) (g : List ℕ) → e < p →
 unfolding pending
 pending_none e p last c g lt = ap (λ (t : Bool). cond t (ends true c g) []) (turns_no e p last lt)
 
-pub told_none : (mode : Mode) (e p : ℕ) (last : Bool) → e < p → frame_told mode e last p ≡ []
-unfolding frame_told
-told_none mode e p last lt = ap (λ (t : Bool). cond t (whole_frame mode ∷ []) []) (turns_no e p last lt)
+pub reported_none : (mode : Mode) (e p : ℕ) (last : Bool) → e < p → frame_reported mode e last p ≡ []
+unfolding frame_reported
+reported_none mode e p last lt = ap (λ (t : Bool). cond t (whole_frame mode ∷ []) []) (turns_no e p last lt)
 
 -- the frame of a frame's rows
 frame_is : (mode : Mode) → IsMode mode → ends true true (replicate (active mode.down) (active mode.across)) ≡ whole_frame mode ∷ []
@@ -111,11 +111,11 @@ frame_is mode ok = some (active mode.down) (active mode.across) ok.active_lines 
         ap (λ (k : ℕ). frame (record { width = w; height = k }) ∷ []) e
 
 -- the frame of rows that came, where the sync lines after them are heard
-pending_frame : (mode : Mode) → IsMode mode → (e p : ℕ) (last : Bool) (g : List ℕ) → (p ≤ e → g ≡ replicate (active mode.down) (active mode.across)) → pending e last p true g ≡ frame_told mode e last p
-unfolding pending frame_told
+pending_frame : (mode : Mode) → IsMode mode → (e p : ℕ) (last : Bool) (g : List ℕ) → (p ≤ e → g ≡ replicate (active mode.down) (active mode.across)) → pending e last p true g ≡ frame_reported mode e last p
+unfolding pending frame_reported
 pending_frame mode ok e p last g grown =
     elim (cases_lt e p) [
-      | inl lt ↦ pending_none e p last true g lt ∙ sym (told_none mode e p last lt)
+      | inl lt ↦ pending_none e p last true g lt ∙ sym (reported_none mode e p last lt)
       | inr le ↦ ap (λ (xs : List Listed). cond (turns e last p) xs []) (ap (λ (xs : List ℕ). ends true true xs) (grown le) ∙ frame_is mode ok)
     ]
 
@@ -127,7 +127,7 @@ frames_none mode ok ss rs e p last (f ∷ frames) lt =
     let w = wide_sync mode ok in
     ap₂ (λ (xs ys : List Listed). xs ++ ys)
     (none_listed mode true ss rs e (p + sync_area mode + back_area mode) 0 f.rows (omega (arith, ok.back_columns, lt, w)))
-    (ap₂ (λ (xs ys : List Listed). xs ++ ys) (told_none mode e (p + frame_area mode) last (omega (arith, lt, w))) (frames_none mode ok ss rs e (p + frame_area mode) last frames (omega (arith, lt, w))))
+    (ap₂ (λ (xs ys : List Listed). xs ++ ys) (reported_none mode e (p + frame_area mode) last (omega (arith, lt, w))) (frames_none mode ok ss rs e (p + frame_area mode) last frames (omega (arith, lt, w))))
 
 -- From the rows on.
 
@@ -142,7 +142,7 @@ pub last_by : (mode : Mode) (xs ys : List Cell) (s : State) (last : Bool) → xs
 last_by mode xs ys s last e h = subst (λ (ts : List Cell). IsLast mode ts s last) e h
 
 pub frames_more : (mode : Mode) (f : Frame) (frames : List Frame) (ss rs : List Column) (e p : ℕ) (last : Bool) → frames_listed mode ss rs e last p (f ∷ frames)
-    ≡ rows_listed mode true ss rs e (p + sync_area mode + back_area mode) 0 f.rows ++ (frame_told mode e last (p + frame_area mode) ++ frames_listed mode ss rs e last (p + frame_area mode) frames)
+    ≡ rows_listed mode true ss rs e (p + sync_area mode + back_area mode) 0 f.rows ++ (frame_reported mode e last (p + frame_area mode) ++ frames_listed mode ss rs e last (p + frame_area mode) frames)
 unfolding frames_listed
 frames_more mode f frames ss rs e p last = refl
 
@@ -235,12 +235,12 @@ back_lines mode ok n some qs back lines ss rs e p q last place silent s c g no_f
     ]
 
 pub silent_frame : (mode : Mode) → IsMode mode → (f : Frame) (frames : List Frame) (ss rs : List Column) (e p : ℕ) (last : Bool) → e < p + sync_area mode + 11
-    → rows_listed mode true ss rs e (p + sync_area mode + back_area mode) 0 f.rows ++ (frame_told mode e last (p + frame_area mode) ++ frames_listed mode ss rs e last (p + frame_area mode) frames) ≡ []
+    → rows_listed mode true ss rs e (p + sync_area mode + back_area mode) 0 f.rows ++ (frame_reported mode e last (p + frame_area mode) ++ frames_listed mode ss rs e last (p + frame_area mode) frames) ≡ []
 silent_frame mode ok f frames ss rs e p last lt =
     let w = wide_back mode ok in
     ap₂ (λ (xs ys : List Listed). xs ++ ys)
     (none_listed mode true ss rs e (p + sync_area mode + back_area mode) 0 f.rows (omega (arith, ok.back_columns, lt)))
-    (ap₂ (λ (xs ys : List Listed). xs ++ ys) (told_none mode e (p + frame_area mode) last (omega (arith, lt, w))) (frames_none mode ok ss rs e (p + frame_area mode) last frames (omega (arith, lt, w))))
+    (ap₂ (λ (xs ys : List Listed). xs ++ ys) (reported_none mode e (p + frame_area mode) last (omega (arith, lt, w))) (frames_none mode ok ss rs e (p + frame_area mode) last frames (omega (arith, lt, w))))
 
 -- what is said of a frame's columns after its sync lines
 pub after_sync_lines : (mode : Mode) → IsMode mode → (f : Frame) → IsFrame mode f → (frames : List Frame) (ss rs : List Column) (e p : ℕ) (last : Bool) → e ≤ length ss → e ≤ length rs
@@ -249,14 +249,14 @@ pub after_sync_lines : (mode : Mode) → IsMode mode → (f : Frame) → IsFrame
     → says (seen ss rs e (p + frame_area mode) (parts_of mode frames)) t ≡ pending e last (p + frame_area mode) c g ++ frames_listed mode ss rs e last (p + frame_area mode) frames)
     → IsLast mode (seen ss rs e (p + sync_area mode) (back_part mode f ++ (rows_part mode f ++ (front_part mode f ++ parts_of mode frames)))) s last
     → says (seen ss rs e (p + sync_area mode) (back_part mode f ++ (rows_part mode f ++ (front_part mode f ++ parts_of mode frames)))) s
-    ≡ rows_listed mode true ss rs e (p + sync_area mode + back_area mode) 0 f.rows ++ (frame_told mode e last (p + frame_area mode) ++ frames_listed mode ss rs e last (p + frame_area mode) frames)
+    ≡ rows_listed mode true ss rs e (p + sync_area mode + back_area mode) 0 f.rows ++ (frame_reported mode e last (p + frame_area mode) ++ frames_listed mode ss rs e last (p + frame_area mode) frames)
 after_sync_lines mode ok f good frames ss rs e p last ends_sent ends_received s c g no_frame was next final =
     let area : length f.rows * total mode.across ≡ active_area mode = ap (λ (n : ℕ). n * total mode.across) good.count in
     let count : 0 + length f.rows ≡ active mode.down = omega (arith, good.count) in
     back_lines mode ok (back mode.down) ok.back_lines (after_sync mode f) (rows_part mode f ++ (front_part mode f ++ parts_of mode frames)) _
     ss rs e (p + sync_area mode) (p + sync_area mode + back_area mode) last refl (silent_frame mode ok f frames ss rs e p last) s c g no_frame was
     (λ t now final2.
-    rows_and_front mode ok f.rows good.rows (after_back mode f) (parts_of mode frames) (frame_told mode e last (p + frame_area mode) ++ frames_listed mode ss rs e last (p + frame_area mode) frames)
+    rows_and_front mode ok f.rows good.rows (after_back mode f) (parts_of mode frames) (frame_reported mode e last (p + frame_area mode) ++ frames_listed mode ss rs e last (p + frame_area mode) frames)
     ss rs e (p + sync_area mode + back_area mode) (p + frame_area mode) last (omega (arith, area)) ends_sent ends_received t true 0 count now
     (λ u h grown ready final3. next u true h ready final3 ∙ ap (λ (xs : List Listed). xs ++ frames_listed mode ss rs e last (p + frame_area mode) frames) (pending_frame mode ok e (p + frame_area mode) last h grown)) final2) final
 

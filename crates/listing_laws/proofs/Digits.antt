@@ -6,9 +6,9 @@ use Rattle.std.specs.List.{list_all}
 use Rattle.std.proofs.lemmas.Bool.{le-leb}
 use Rattle.std.proofs.lemmas.Fmt.{decimal_by_steps, decimal_nonempty, length-decimal-le}
 use Rattle.hex.specs.Hex.{IsBytes, encode_with, lower_digits}
-use Rattle.listing.specs.Forms.{digits_after, is_digit, number_of}
-use Rattle.listing.specs.Held.{is_feedless}
-use Rattle.listing.proofs.Feeds.{and-left, and-right, both}
+use Rattle.listing_reader.specs.Forms.{digits_after, is_digit, number_of}
+use Rattle.listing_reader.specs.Held.{is_feedless}
+use Rattle.listing_reader.proofs.Feeds.{and-left, and-right, both}
 
 -- ---- decimal digits
 

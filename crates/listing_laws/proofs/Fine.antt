@@ -9,10 +9,10 @@ use Rattle.terc4.specs.Tables.{control_words, value_in}
 use Rattle.terc4.specs.Columns.{one_if}
 use Rattle.island_pack.specs.Periods.{DataIsland, Pixel, pixels_of}
 use Rattle.island_pack.specs.Spelling.{control_column}
-use Rattle.link_sink.specs.Account.{pixel_bytes}
+use Rattle.link_laws.specs.Account.{pixel_bytes}
 use Rattle.island_pack.specs.Sparse.{unlike_words, AreFew}
 use Rattle.period_grammar.specs.Column.{control_bits, value_of}
-use Rattle.frame_build.specs.Event.{vsync_of}
+use Rattle.frame_build.specs.FrameEvent.{vsync_of}
 use Rattle.std.proofs.lemmas.Bool.{ltb-true}
 use Rattle.source_end.specs.Raster.{Part, column, pixels, packets}
 use Rattle.listing_laws.proofs.Cells.{Cell, pixels as pixels_cell, parted, wrongs, few, same, same_self, fine}

@@ -93,8 +93,8 @@ found_front b xs ys i h mute = record {
 }
 
 -- found in a part behind others
-pub found_behind : (b : Bool) (xs ys : List Part) (i at : ℕ) → i ≡ size xs + at → Found b ys at → Found b (xs ++ ys) i
-found_behind b xs ys i at place h = record {
+pub found_after : (b : Bool) (xs ys : List Part) (i at : ℕ) → i ≡ size xs + at → Found b ys at → Found b (xs ++ ys) i
+found_after b xs ys i at place h = record {
   front = xs ++ h.front;
   mid = h.mid;
   are = ap (λ (ps : List Part). xs ++ ps) h.are ∙ sym (append_assoc xs h.front h.mid);
@@ -103,13 +103,13 @@ found_behind b xs ys i at place h = record {
   mute = h.mute;
 }
 
-behind : (b : Bool) (xs ys : List Part) (rest : List Kind) (i : ℕ) (at : ℕ) → i ≡ size xs + at → Where b ys rest at → Where b (xs ++ ys) rest i
-behind b xs ys rest i at place (inl h) = inl (found_behind b xs ys i at place h)
-behind b xs ys rest i at place (inr h) = inr (record { at = h.at; place = let s = size_append xs ys in omega (arith, s, place, h.place); ends = h.ends })
+after : (b : Bool) (xs ys : List Part) (rest : List Kind) (i : ℕ) (at : ℕ) → i ≡ size xs + at → Where b ys rest at → Where b (xs ++ ys) rest i
+after b xs ys rest i at place (inl h) = inl (found_after b xs ys i at place h)
+after b xs ys rest i at place (inr h) = inr (record { at = h.at; place = let s = size_append xs ys in omega (arith, s, place, h.place); ends = h.ends })
 
 pub where_both : (b : Bool) (xs ys : List Part) (rest : List Kind) (i : ℕ) → Mute b ys → Where b xs (kinds ys ++ rest) i → ((at : ℕ) → EndsAt (kinds ys ++ rest) at → Where b ys rest at) → Where b (xs ++ ys) rest i
 where_both b xs ys rest i mute (inl h) later = inl (found_front b xs ys i h mute)
-where_both b xs ys rest i mute (inr h) later = behind b xs ys rest i h.at h.place (later h.at h.ends)
+where_both b xs ys rest i mute (inr h) later = after b xs ys rest i h.at h.place (later h.at h.ends)
 
 none_size : (i : ℕ) → i ≡ size [] + i
 unfolding size

@@ -14,7 +14,7 @@ use Rattle.source_end.specs.Gathering.{size}
 use Rattle.source_end.proofs.RasterModes.{IsMode, AreRows}
 use Rattle.source_end.proofs.RasterSizes.{more_times, long_row, size_rows}
 use Rattle.listing_laws.specs.FrameLaws.{row_at, row_end}
-use Rattle.listing.specs.Listed.{Listed, row_lines}
+use Rattle.listing_writer.specs.Listed.{Listed, listed_rows}
 use Rattle.listing_laws.proofs.Machine.{ends}
 use Rattle.listing_laws.proofs.Cells.{Cell, State, after, says, after_append, says_append}
 use Rattle.listing_laws.proofs.Ready.{flat, Flat, flat_append, Ready, quiet, columns as cells_of, IsTurned, turn, is_heard, fewer_said}
@@ -86,14 +86,14 @@ row_lines_of rows = map row_line rows
 unfoldable pub rows_listed : Mode → Bool → List Column → List Column → ℕ → ℕ → ℕ → List (List ℕ) → List Listed
 rows_listed mode c ss rs e p y [] = []
 rows_listed mode c ss rs e p y (row ∷ rows) =
-    cond (nat_lt (p + row_end mode) e) (row_lines (bytes_at ss rs (p + row_at mode) row) (note c y)) []
+    cond (nat_lt (p + row_end mode) e) (listed_rows (bytes_at ss rs (p + row_at mode) row) (note c y)) []
     ++ rows_listed mode c ss rs e (p + total mode.across) (suc y) rows
 
 pub none_listed : (mode : Mode) (c : Bool) (ss rs : List Column) (e p y : ℕ) (rows : List (List ℕ)) → e ≤ p + row_end mode → rows_listed mode c ss rs e p y rows ≡ []
 unfolding rows_listed
 none_listed mode c ss rs e p y [] le = refl
 none_listed mode c ss rs e p y (row ∷ rows) le =
-    ap₂ (λ (t : Bool) (xs : List Listed). cond t (row_lines (bytes_at ss rs (p + row_at mode) row) (note c y)) [] ++ xs) (le-ltb (p + row_end mode) e le)
+    ap₂ (λ (t : Bool) (xs : List Listed). cond t (listed_rows (bytes_at ss rs (p + row_at mode) row) (note c y)) [] ++ xs) (le-ltb (p + row_end mode) e le)
     (none_listed mode c ss rs e (p + total mode.across) (suc y) rows (omega arith))
 
 seen_laid : (mode : Mode) (line : Line) (lines : List Line) (ps : List Packet) (ss rs : List Column) (e p q : ℕ) → p + size (whole mode line (take (room mode line) ps) line.row) ≡ q
@@ -140,10 +140,10 @@ unfolding rows_listed
 listed_none mode c ss rs e p y = refl
 
 listed_row : (mode : Mode) (c : Bool) (ss rs : List Column) (e p y : ℕ) (row : List ℕ) (rows : List (List ℕ)) → p + row_end mode < e
-    → rows_listed mode c ss rs e p y (row ∷ rows) ≡ row_lines (bytes_at ss rs (p + row_at mode) row) (note c y) ++ rows_listed mode c ss rs e (p + total mode.across) (suc y) rows
+    → rows_listed mode c ss rs e p y (row ∷ rows) ≡ listed_rows (bytes_at ss rs (p + row_at mode) row) (note c y) ++ rows_listed mode c ss rs e (p + total mode.across) (suc y) rows
 unfolding rows_listed
 listed_row mode c ss rs e p y row rows lt =
-    ap (λ (t : Bool). cond t (row_lines (bytes_at ss rs (p + row_at mode) row) (note c y)) [] ++ rows_listed mode c ss rs e (p + total mode.across) (suc y) rows) (lt-ltb (p + row_end mode) e lt)
+    ap (λ (t : Bool). cond t (listed_rows (bytes_at ss rs (p + row_at mode) row) (note c y)) [] ++ rows_listed mode c ss rs e (p + total mode.across) (suc y) rows) (lt-ltb (p + row_end mode) e lt)
 
 -- the next row came, and what is said of those after it
 row_more : (mode : Mode) → IsMode mode → (row : List ℕ) (rows : List (List ℕ)) → length row ≡ 3 * active mode.across → (ps : List Packet) (ss rs : List Column) (e p : ℕ)

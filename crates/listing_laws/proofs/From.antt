@@ -6,8 +6,8 @@ use Rattle.tmds_word.proofs.Below.{and-right}
 use Rattle.tmds_word.specs.Column.{Column}
 use Rattle.terc4.specs.Columns.{one_if}
 use Rattle.island_pack.specs.Kinds.{Kind, control_column, kind_at, EndsAt}
-use Rattle.lane_deskew.proofs.Shapes.{ends_alone}
-use Rattle.link_sink.specs.Account.{account}
+use Rattle.link_laws.proofs.Shapes.{ends_alone}
+use Rattle.link_laws.specs.Account.{account}
 use Rattle.source_end.specs.declared.mode.Mode.{Mode}
 use Rattle.source_end.specs.Content.{Frame}
 use Rattle.source_end.specs.Raster.{Line, Part, column, sync, back, active, front, total, laid, blank, parts_of, gathered, raster_of}
@@ -16,7 +16,7 @@ use Rattle.source_end.specs.Lines.{left}
 use Rattle.source_end.proofs.Gathered.{size_append, size_same}
 use Rattle.source_end.proofs.RasterModes.{IsMode, AreRows, IsFrame, AreFrames}
 use Rattle.source_end.proofs.RasterSizes.{laid_append, size_blank, size_rows, long_row, sync_part, after_sync, back_part, after_back, rows_part, front_part, parts_none, parts_more}
-use Rattle.listing.specs.Listed.{Listed, listed_from}
+use Rattle.listing_writer.specs.Listed.{Listed, listed_from}
 use Rattle.listing_laws.proofs.Machine.{ends, ticks}
 use Rattle.listing_laws.proofs.Walk.{listed_ticks}
 use Rattle.listing_laws.proofs.Cells.{Cell, State, after, says, after_append, says_append, fine, fresh, all_say}
@@ -26,7 +26,7 @@ use Rattle.listing_laws.proofs.Accounted.{account_hears}
 use Rattle.listing_laws.proofs.Lines.{Begins, begins_more, begins_first, begins_same, opened, final_vsync, size_values}
 use Rattle.listing_laws.proofs.Rows.{seen, seen_append}
 use Rattle.listing_laws.proofs.Frames.{row_lines_of, rows_listed, begins_blank}
-use Rattle.listing_laws.proofs.Counting.{sync_area, back_area, active_area, front_area, frame_area, wide_sync, turns, frame_told, frames_listed, pending, frames_none, IsLast, last_rest, last_by, begins_parts, even_same, silent_frame, frames_say, after_sync_lines, nothing_said}
+use Rattle.listing_laws.proofs.Counting.{sync_area, back_area, active_area, front_area, frame_area, wide_sync, turns, frame_reported, frames_listed, pending, frames_none, IsLast, last_rest, last_by, begins_parts, even_same, silent_frame, frames_say, after_sync_lines, nothing_said}
 use Rattle.listing_laws.proofs.Mute.{Mute, mute_even}
 use Rattle.listing_laws.proofs.Starts.{kinds, kinds_append, Found}
 use Rattle.listing_laws.proofs.Found.{AreLines, lines_append, blank_lines, starts_control, lines_ends}
@@ -89,19 +89,19 @@ from_mid mode b mid more lines ss rs e p q last begins mute place silent later f
 unfoldable pub frames_from : Mode → List Column → List Column → ℕ → ℕ → Bool → ℕ → List Frame → List Listed
 frames_from mode ss rs a e last p [] = []
 frames_from mode ss rs a e last p (f ∷ frames) =
-    cond (nat_lt a (p + sync_area mode)) (rows_listed mode true ss rs e (p + sync_area mode + back_area mode) 0 f.rows ++ frame_told mode e last (p + frame_area mode)) []
+    cond (nat_lt a (p + sync_area mode)) (rows_listed mode true ss rs e (p + sync_area mode + back_area mode) 0 f.rows ++ frame_reported mode e last (p + frame_area mode)) []
     ++ frames_from mode ss rs a e last (p + frame_area mode) frames
 
 pub counted : (mode : Mode) (f : Frame) (frames : List Frame) (ss rs : List Column) (a e p : ℕ) (last : Bool) → a < p + sync_area mode → frames_from mode ss rs a e last p (f ∷ frames)
-    ≡ (rows_listed mode true ss rs e (p + sync_area mode + back_area mode) 0 f.rows ++ frame_told mode e last (p + frame_area mode)) ++ frames_from mode ss rs a e last (p + frame_area mode) frames
+    ≡ (rows_listed mode true ss rs e (p + sync_area mode + back_area mode) 0 f.rows ++ frame_reported mode e last (p + frame_area mode)) ++ frames_from mode ss rs a e last (p + frame_area mode) frames
 unfolding frames_from
 counted mode f frames ss rs a e p last lt =
-    ap (λ (t : Bool). cond t (rows_listed mode true ss rs e (p + sync_area mode + back_area mode) 0 f.rows ++ frame_told mode e last (p + frame_area mode)) [] ++ frames_from mode ss rs a e last (p + frame_area mode) frames) (lt-ltb a (p + sync_area mode) lt)
+    ap (λ (t : Bool). cond t (rows_listed mode true ss rs e (p + sync_area mode + back_area mode) 0 f.rows ++ frame_reported mode e last (p + frame_area mode)) [] ++ frames_from mode ss rs a e last (p + frame_area mode) frames) (lt-ltb a (p + sync_area mode) lt)
 
 pub uncounted : (mode : Mode) (f : Frame) (frames : List Frame) (ss rs : List Column) (a e p : ℕ) (last : Bool) → p + sync_area mode ≤ a → frames_from mode ss rs a e last p (f ∷ frames) ≡ frames_from mode ss rs a e last (p + frame_area mode) frames
 unfolding frames_from
 uncounted mode f frames ss rs a e p last le =
-    ap (λ (t : Bool). cond t (rows_listed mode true ss rs e (p + sync_area mode + back_area mode) 0 f.rows ++ frame_told mode e last (p + frame_area mode)) [] ++ frames_from mode ss rs a e last (p + frame_area mode) frames) (le-ltb a (p + sync_area mode) le)
+    ap (λ (t : Bool). cond t (rows_listed mode true ss rs e (p + sync_area mode + back_area mode) 0 f.rows ++ frame_reported mode e last (p + frame_area mode)) [] ++ frames_from mode ss rs a e last (p + frame_area mode) frames) (le-ltb a (p + sync_area mode) le)
 
 -- all frames that begin at column a or later count
 all_counted : (mode : Mode) → IsMode mode → (ss rs : List Column) (a e p : ℕ) (last : Bool) (frames : List Frame) → a ≤ p → frames_from mode ss rs a e last p frames ≡ frames_listed mode ss rs e last p frames
@@ -109,8 +109,8 @@ unfolding frames_from frames_listed
 all_counted mode ok ss rs a e p last [] le = refl
 all_counted mode ok ss rs a e p last (f ∷ frames) le =
     counted mode f frames ss rs a e p last (let w = wide_sync mode ok in omega (arith, w, le))
-    ∙ append_assoc (rows_listed mode true ss rs e (p + sync_area mode + back_area mode) 0 f.rows) (frame_told mode e last (p + frame_area mode)) (frames_from mode ss rs a e last (p + frame_area mode) frames)
-    ∙ ap (λ (xs : List Listed). rows_listed mode true ss rs e (p + sync_area mode + back_area mode) 0 f.rows ++ (frame_told mode e last (p + frame_area mode) ++ xs)) (all_counted mode ok ss rs a e (p + frame_area mode) last frames (omega (arith, le)))
+    ∙ append_assoc (rows_listed mode true ss rs e (p + sync_area mode + back_area mode) 0 f.rows) (frame_reported mode e last (p + frame_area mode)) (frames_from mode ss rs a e last (p + frame_area mode) frames)
+    ∙ ap (λ (xs : List Listed). rows_listed mode true ss rs e (p + sync_area mode + back_area mode) 0 f.rows ++ (frame_reported mode e last (p + frame_area mode) ++ xs)) (all_counted mode ok ss rs a e (p + frame_area mode) last frames (omega (arith, le)))
 
 no_frames : (mode : Mode) (ss rs : List Column) (a e p : ℕ) (last : Bool) → frames_from mode ss rs a e last p [] ≡ []
 unfolding frames_from
@@ -211,8 +211,8 @@ in_sync mode ok f good frames are i h =
       says_all = λ ss rs e p last sent received final.
           let lt : p + size h.front < p + sync_area mode = omega (arith, z, n, l) in
           let list = counted mode f frames ss rs (p + size h.front) e p last lt
-          ∙ append_assoc (rows_listed mode true ss rs e (p + sync_area mode + back_area mode) 0 f.rows) (frame_told mode e last (p + frame_area mode)) (frames_from mode ss rs (p + size h.front) e last (p + frame_area mode) frames)
-          ∙ ap (λ (xs : List Listed). rows_listed mode true ss rs e (p + sync_area mode + back_area mode) 0 f.rows ++ (frame_told mode e last (p + frame_area mode) ++ xs))
+          ∙ append_assoc (rows_listed mode true ss rs e (p + sync_area mode + back_area mode) 0 f.rows) (frame_reported mode e last (p + frame_area mode)) (frames_from mode ss rs (p + size h.front) e last (p + frame_area mode) frames)
+          ∙ ap (λ (xs : List Listed). rows_listed mode true ss rs e (p + sync_area mode + back_area mode) 0 f.rows ++ (frame_reported mode e last (p + frame_area mode) ++ xs))
           (all_counted mode ok ss rs (p + size h.front) e (p + frame_area mode) last frames (omega (arith, lt))) in
           from_mid mode mode.positive h.mid more _ ss rs e (p + size h.front) (p + sync_area mode) last h.begins h.mute (omega (arith, z, n)) (λ few. silent_frame mode ok f frames ss rs e p last (omega (arith, few, lt)))
           (λ t g now final2.

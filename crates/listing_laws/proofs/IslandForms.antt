@@ -10,14 +10,14 @@ use Rattle.hex.proofs.HexLemmas.{decode_of-encode_lower, length-encode_with}
 use Rattle.island_pack.specs.Packets.{body_of}
 use Rattle.island_pack.specs.Conforming.{is_packet}
 use Rattle.island_pack.specs.declared.packet.Packet.{Packet}
-use Rattle.period_grammar.specs.Things.{open_island, close_island}
-use Rattle.listing.specs.Forms.{LineForm, island_line, packet_line, close_line, form_of, is_fault, is_digit, part, has_spaces, pair_by, pair_form, packet_form}
-use Rattle.listing.specs.FormSeen.{HasBodies}
-use Rattle.listing.specs.Held.{is_feedless}
-use Rattle.listing.specs.Texts.{words_of, packet_fields, sync_digits}
-use Rattle.listing.proofs.Feeds.{and-left, and-right, both}
-use Rattle.listing.proofs.PacketForms.{form_packet, body_room}
-use Rattle.listing_laws.proofs.Text.{told_packet}
+use Rattle.period_grammar.specs.Events.{open_island, close_island}
+use Rattle.listing_reader.specs.Forms.{LineForm, island_line, packet_line, close_line, form_of, is_fault, is_digit, part, has_spaces, pair_by, pair_form, packet_form}
+use Rattle.listing_reader.specs.FormSeen.{HasBodies}
+use Rattle.listing_reader.specs.Held.{is_feedless}
+use Rattle.listing_writer.specs.Texts.{line_words, packet_fields, sync_digits}
+use Rattle.listing_reader.proofs.Feeds.{and-left, and-right, both}
+use Rattle.listing_reader.proofs.PacketForms.{form_packet, body_room}
+use Rattle.listing_laws.proofs.Text.{reported_packet}
 use Rattle.listing_laws.proofs.Digits.{bytes_from, below-from, digit, no_feed, encode_feedless}
 
 back : (n : ℕ) → 48 + n - 48 ≡ n
@@ -28,12 +28,12 @@ back n = omega arith
 abbrev pub guard_body : ℕ → ℕ → ℕ → List ℕ
 guard_body name a b = name ∷ 32 ∷ (48 + a) ∷ (48 + b) ∷ []
 
-pub open_words : (a b : ℕ) → words_of (open_island a b) ≡ guard_body 105 a b
-unfolding words_of sync_digits
+pub open_words : (a b : ℕ) → line_words (open_island a b) ≡ guard_body 105 a b
+unfolding line_words sync_digits
 open_words a b = refl
 
-pub close_words : (a b : ℕ) → words_of (close_island a b) ≡ guard_body 101 a b
-unfolding words_of sync_digits
+pub close_words : (a b : ℕ) → line_words (close_island a b) ≡ guard_body 101 a b
+unfolding line_words sync_digits
 close_words a b = refl
 
 pair_read : (form : ℕ → ℕ → LineForm) (a b : ℕ) → a < 4 → b < 4 → pair_form form ((48 + a) ∷ (48 + b) ∷ []) ≡ form a b
@@ -66,15 +66,15 @@ nested : (h a b c d y : List ℕ)
 nested h a b c d y = simp append_assoc
 
 -- what is behind a field and its space
-behind : (xs rest : List ℕ) (n m : ℕ) → length xs ≡ n → m ≡ n + 1 → drop m (xs ++ 32 ∷ rest) ≡ rest
-behind xs rest n m size e =
+after : (xs rest : List ℕ) (n m : ℕ) → length xs ≡ n → m ≡ n + 1 → drop m (xs ++ 32 ∷ rest) ≡ rest
+after xs rest n m size e =
     ap (λ (k : ℕ). drop k (xs ++ 32 ∷ rest)) e ∙ sym (drop-drop 1 n (xs ++ 32 ∷ rest)) ∙ ap (drop 1) (drop_at xs (32 ∷ rest) n size)
 
 space_at : (xs rest : List ℕ) (n : ℕ) → length xs ≡ n → (slice_index (xs ++ 32 ∷ rest) n == 32) ≡ true
 space_at xs rest n size = ap (λ (c : ℕ). c == 32) (get_or_at xs 32 rest 0 n size)
 
-space_behind : (t rest xs : List ℕ) (k n m : ℕ) → drop k t ≡ xs ++ 32 ∷ rest → length xs ≡ n → m ≡ k + n → (slice_index t m == 32) ≡ true
-space_behind t rest xs k n m e size sum =
+space_after : (t rest xs : List ℕ) (k n m : ℕ) → drop k t ≡ xs ++ 32 ∷ rest → length xs ≡ n → m ≡ k + n → (slice_index t m == 32) ≡ true
+space_after t rest xs k n m e size sum =
     ap (λ (j : ℕ). slice_index t j == 32) sum ∙ ap (λ (c : ℕ). c == 32) (sym (get_or-drop k t n 0)) ∙ ap (λ (u : List ℕ). slice_index u n == 32) e ∙ space_at xs rest n size
 
 record Parts (t h a b c d y : List ℕ) : Type 0 where
@@ -95,11 +95,11 @@ parts_of t h a b c d y e lh la lb lc ld ly =
     let n3 : List ℕ = c ++ (32 ∷ n4) in
     let n2 : List ℕ = b ++ (32 ∷ n3) in
     let n1 : List ℕ = a ++ (32 ∷ n2) in
-    let d1 : drop 7 t ≡ n1 = ap (drop 7) e ∙ behind h n1 6 7 lh refl in
-    let d2 : drop 22 t ≡ n2 = sym (drop-drop 15 7 t) ∙ ap (drop 15) d1 ∙ behind a n2 14 15 la refl in
-    let d3 : drop 37 t ≡ n3 = sym (drop-drop 15 22 t) ∙ ap (drop 15) d2 ∙ behind b n3 14 15 lb refl in
-    let d4 : drop 52 t ≡ n4 = sym (drop-drop 15 37 t) ∙ ap (drop 15) d3 ∙ behind c n4 14 15 lc refl in
-    let d5 : drop 67 t ≡ y = sym (drop-drop 15 52 t) ∙ ap (drop 15) d4 ∙ behind d y 14 15 ld refl in
+    let d1 : drop 7 t ≡ n1 = ap (drop 7) e ∙ after h n1 6 7 lh refl in
+    let d2 : drop 22 t ≡ n2 = sym (drop-drop 15 7 t) ∙ ap (drop 15) d1 ∙ after a n2 14 15 la refl in
+    let d3 : drop 37 t ≡ n3 = sym (drop-drop 15 22 t) ∙ ap (drop 15) d2 ∙ after b n3 14 15 lb refl in
+    let d4 : drop 52 t ≡ n4 = sym (drop-drop 15 37 t) ∙ ap (drop 15) d3 ∙ after c n4 14 15 lc refl in
+    let d5 : drop 67 t ≡ y = sym (drop-drop 15 52 t) ∙ ap (drop 15) d4 ∙ after d y 14 15 ld refl in
     let s4 = length-append d (32 ∷ y) in
     let s3 = length-append c (32 ∷ n4) in
     let s2 = length-append b (32 ∷ n3) in
@@ -109,11 +109,11 @@ parts_of t h a b c d y e lh la lb lc ld ly =
     record {
       size = omega arith;
       spaces =
-          both _ _ (space_behind t n1 h 0 6 6 e lh refl)
-          (both _ _ (space_behind t n2 a 7 14 21 d1 la refl)
-          (both _ _ (space_behind t n3 b 22 14 36 d2 lb refl)
-          (both _ _ (space_behind t n4 c 37 14 51 d3 lc refl)
-          (both _ _ (space_behind t y d 52 14 66 d4 ld refl) refl))));
+          both _ _ (space_after t n1 h 0 6 6 e lh refl)
+          (both _ _ (space_after t n2 a 7 14 21 d1 la refl)
+          (both _ _ (space_after t n3 b 22 14 36 d2 lb refl)
+          (both _ _ (space_after t n4 c 37 14 51 d3 lc refl)
+          (both _ _ (space_after t y d 52 14 66 d4 ld refl) refl))));
       header = ap (take 6) e ∙ take_at h (32 ∷ n1) 6 lh;
       first = ap (take 14) d1 ∙ take_at a (32 ∷ n2) 14 la;
       second = ap (take 14) d2 ∙ take_at b (32 ∷ n3) 14 lb;
@@ -190,8 +190,8 @@ values_back (v ∷ vs) = ap₂ (λ (w : ℕ) (ws : List ℕ). w ∷ ws) (back v)
 abbrev pub packet_body : Packet → List ℕ
 packet_body p = 112 ∷ 32 ∷ packet_fields p
 
-pub packet_words : (p : Packet) → words_of (told_packet p) ≡ packet_body p
-unfolding words_of
+pub packet_words : (p : Packet) → line_words (reported_packet p) ≡ packet_body p
+unfolding line_words
 packet_words p = refl
 
 fields_nested : (p : Packet)

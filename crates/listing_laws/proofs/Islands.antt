@@ -6,15 +6,15 @@ use Rattle.island_pack.specs.Periods.{SyncPair, DataIsland, Period, island, colu
 use Rattle.island_pack.specs.Conforming.{is_sync_pair, is_packet, is_data_island}
 use Rattle.island_pack.specs.declared.packet.Packet.{Packet}
 use Rattle.source_end.specs.Refusals.{last_period, is_control_last, is_long_enough}
-use Rattle.period_grammar.specs.Things.{open_island, close_island}
-use Rattle.listing.specs.Causes.{announces_island}
-use Rattle.listing.specs.Drafts.{Draft}
-use Rattle.listing.specs.Forms.{island_line, packet_line, close_line}
-use Rattle.listing.specs.Lines.{pieces_of}
-use Rattle.listing.specs.LineSteps.{Read, read_lines}
-use Rattle.listing.specs.Reading.{link_step}
-use Rattle.listing.proofs.Feeds.{and-left, and-right, both}
-use Rattle.listing_laws.proofs.Text.{line_of, told_packet, packet_lines, period_lines}
+use Rattle.period_grammar.specs.Events.{open_island, close_island}
+use Rattle.listing_reader.specs.Causes.{announces_island}
+use Rattle.listing_reader.specs.Drafts.{Draft}
+use Rattle.listing_reader.specs.Forms.{island_line, packet_line, close_line}
+use Rattle.listing_reader.specs.Lines.{pieces_of}
+use Rattle.listing_reader.specs.LineSteps.{Read, read_lines}
+use Rattle.listing_reader.specs.Reading.{link_step}
+use Rattle.listing_reader.proofs.Feeds.{and-left, and-right, both}
+use Rattle.listing_laws.proofs.Text.{line_of, reported_packet, packet_lines, period_lines}
 use Rattle.listing_laws.proofs.Digits.{below-from}
 use Rattle.listing_laws.proofs.IslandForms.{guard_body, open_words, open_form, open_feedless, close_words, close_form, close_feedless, packet_body, packet_words, packet_length, packet_seen, packet_feedless, packet_values}
 use Rattle.listing_laws.proofs.LineForms.{line_is}
@@ -22,8 +22,8 @@ use Rattle.listing_laws.proofs.LineSteps.{read_more}
 use Rattle.listing_laws.proofs.NoCause.{island_cause_none, packet_cause_none, close_cause_none}
 
 -- periods, and an island of which so many packets were told
-abbrev pub told : List Period → Draft
-told ps = record { periods = ps; opened = None }
+abbrev pub reported : List Period → Draft
+reported ps = record { periods = ps; opened = None }
 
 abbrev within : List Period → SyncPair → List Packet → Draft
 within ps opening packets = record { periods = ps; opened = Some (record { opening = opening; packets = packets }) }
@@ -59,24 +59,24 @@ second_below pair h = below-from pair.second 4 (and-right (nat_lt pair.first 4) 
 
 read_open : (n at : ℕ) (ps : List Period) (pair : SyncPair) (rest : List ℕ) → is_sync_pair pair ≡ true → is_control_last (last_period ps) ≡ true → is_long_enough (last_period ps) ≡ true → announces_island (last_period ps) ≡ true
     → columns_of ps + 2 ≤ 20000000 → at ≤ 14 * columns_of ps
-    → read_lines link_step n at (told ps) (pieces_of (line_of (open_island pair.first pair.second) ++ rest)) ≡ read_lines link_step (n + 1) (at + 4 + 1) (within ps pair []) (pieces_of rest)
+    → read_lines link_step n at (reported ps) (pieces_of (line_of (open_island pair.first pair.second) ++ rest)) ≡ read_lines link_step (n + 1) (at + 4 + 1) (within ps pair []) (pieces_of rest)
 read_open n at ps pair rest sync turn long announced few before =
     let first = first_below pair sync in
     let second = second_below pair sync in
-    ap (λ (text : List ℕ). read_lines link_step n at (told ps) (pieces_of text)) (line_is (open_island pair.first pair.second) (guard_body 105 pair.first pair.second) rest (open_words pair.first pair.second))
-    ∙ read_more n at (told ps) (within ps pair []) (guard_body 105 pair.first pair.second) rest (island_line pair.first pair.second) (open_feedless pair.first pair.second first second) (open_form pair.first pair.second first second)
-    (island_cause_none (told ps) pair.first pair.second sync turn long announced (omega arith))
+    ap (λ (text : List ℕ). read_lines link_step n at (reported ps) (pieces_of text)) (line_is (open_island pair.first pair.second) (guard_body 105 pair.first pair.second) rest (open_words pair.first pair.second))
+    ∙ read_more n at (reported ps) (within ps pair []) (guard_body 105 pair.first pair.second) rest (island_line pair.first pair.second) (open_feedless pair.first pair.second first second) (open_form pair.first pair.second first second)
+    (island_cause_none (reported ps) pair.first pair.second sync turn long announced (omega arith))
     refl (omega arith)
 
 read_close : (n at : ℕ) (ps : List Period) (x : DataIsland) (rest : List ℕ) → is_sync_pair x.closing ≡ true → (nat_le 1 (length x.packets) && nat_le (length x.packets) 18) ≡ true
     → columns_of ps + (4 + 32 * length x.packets) ≤ 20000000 → at ≤ 14 * (columns_of ps + (2 + 32 * length x.packets))
-    → read_lines link_step n at (within ps x.opening x.packets) (pieces_of (line_of (close_island x.closing.first x.closing.second) ++ rest)) ≡ read_lines link_step (n + 1) (at + 4 + 1) (told (ps ++ island x ∷ [])) (pieces_of rest)
+    → read_lines link_step n at (within ps x.opening x.packets) (pieces_of (line_of (close_island x.closing.first x.closing.second) ++ rest)) ≡ read_lines link_step (n + 1) (at + 4 + 1) (reported (ps ++ island x ∷ [])) (pieces_of rest)
 read_close n at ps x rest sync some few before =
     let pair = x.closing in
     let first = first_below pair sync in
     let second = second_below pair sync in
     ap (λ (text : List ℕ). read_lines link_step n at (within ps x.opening x.packets) (pieces_of text)) (line_is (close_island pair.first pair.second) (guard_body 101 pair.first pair.second) rest (close_words pair.first pair.second))
-    ∙ read_more n at (within ps x.opening x.packets) (told (ps ++ island x ∷ [])) (guard_body 101 pair.first pair.second) rest (close_line pair.first pair.second) (close_feedless pair.first pair.second first second)
+    ∙ read_more n at (within ps x.opening x.packets) (reported (ps ++ island x ∷ [])) (guard_body 101 pair.first pair.second) rest (close_line pair.first pair.second) (close_feedless pair.first pair.second first second)
     (close_form pair.first pair.second first second)
     (close_cause_none (within ps x.opening x.packets) pair.first pair.second sync some (omega arith))
     refl (omega arith)
@@ -91,10 +91,10 @@ few_packets n few = grind arith
 
 read_packet : (n at : ℕ) (ps : List Period) (opening : SyncPair) (done : List Packet) (p : Packet) (rest : List ℕ) → is_packet p ≡ true → length done + 1 ≤ 18
     → columns_of ps + (2 + 32 * length done) + 32 ≤ 20000000 → at ≤ 14 * (columns_of ps + (2 + 32 * length done))
-    → read_lines link_step n at (within ps opening done) (pieces_of (line_of (told_packet p) ++ rest)) ≡ read_lines link_step (n + 1) (at + length (packet_body p) + 1) (within ps opening (done ++ p ∷ [])) (pieces_of rest)
+    → read_lines link_step n at (within ps opening done) (pieces_of (line_of (reported_packet p) ++ rest)) ≡ read_lines link_step (n + 1) (at + length (packet_body p) + 1) (within ps opening (done ++ p ∷ [])) (pieces_of rest)
 read_packet n at ps opening done p rest packet room few before =
     let size = packet_length p packet in
-    ap (λ (text : List ℕ). read_lines link_step n at (within ps opening done) (pieces_of text)) (line_is (told_packet p) (packet_body p) rest (packet_words p))
+    ap (λ (text : List ℕ). read_lines link_step n at (within ps opening done) (pieces_of text)) (line_is (reported_packet p) (packet_body p) rest (packet_words p))
     ∙ read_more n at (within ps opening done) (within ps opening (done ++ p ∷ [])) (packet_body p) rest (packet_line p) (packet_feedless p packet) (packet_seen p packet)
     (packet_cause_none (within ps opening done) p (both _ _ (packet_values p packet) (not_last (length done) room)) (few_packets (length done) room) (omega arith))
     refl (omega arith)
@@ -105,18 +105,18 @@ read_packets : (ps : List Period) (opening : SyncPair) (done packets all : List 
     → ((m to : ℕ) → to ≤ 14 * (columns_of ps + (2 + 32 * length all)) → read_lines link_step m to (within ps opening all) (pieces_of rest) ≡ goal)
     → read_lines link_step n at (within ps opening done) (pieces_of (packet_lines packets ++ rest)) ≡ goal
 unfolding packet_lines
-read_packets ps opening done [] all n at rest goal every is room few before behind =
+read_packets ps opening done [] all n at rest goal every is room few before after =
     let same : done ≡ all = sym (append-nil done) ∙ is in
     let to : at ≤ 14 * (columns_of ps + (2 + 32 * length all)) = subst (λ (qs : List Packet). at ≤ 14 * (columns_of ps + (2 + 32 * length qs))) same before in
-    ap (λ (qs : List Packet). read_lines link_step n at (within ps opening qs) (pieces_of rest)) same ∙ behind n at to
-read_packets ps opening done (p ∷ packets) all n at rest goal every is room few before behind =
+    ap (λ (qs : List Packet). read_lines link_step n at (within ps opening qs) (pieces_of rest)) same ∙ after n at to
+read_packets ps opening done (p ∷ packets) all n at rest goal every is room few before after =
     let packet : is_packet p ≡ true = and-left (is_packet p) (list_all is_packet packets) every in
     let later : list_all is_packet packets ≡ true = and-right (is_packet p) (list_all is_packet packets) every in
     let more : length (done ++ p ∷ []) ≡ length done + 1 = length-append done (p ∷ []) in
     let size = packet_length p packet in
-    ap (λ (text : List ℕ). read_lines link_step n at (within ps opening done) (pieces_of text)) (append_assoc (line_of (told_packet p)) (packet_lines packets) rest)
+    ap (λ (text : List ℕ). read_lines link_step n at (within ps opening done) (pieces_of text)) (append_assoc (line_of (reported_packet p)) (packet_lines packets) rest)
     ∙ read_packet n at ps opening done p (packet_lines packets ++ rest) packet (omega arith) (omega arith) before
-    ∙ read_packets ps opening (done ++ p ∷ []) packets all (n + 1) (at + length (packet_body p) + 1) rest goal later (append_assoc done (p ∷ []) packets ∙ is) (omega arith) (omega arith) (omega arith) behind
+    ∙ read_packets ps opening (done ++ p ∷ []) packets all (n + 1) (at + length (packet_body p) + 1) rest goal later (append_assoc done (p ∷ []) packets ∙ is) (omega arith) (omega arith) (omega arith) after
 
 -- ---- a whole island
 
@@ -131,16 +131,16 @@ island_lines x rest =
 pub read_island : (ps : List Period) (x : DataIsland) (n at : ℕ) (rest : List ℕ) (goal : Read (List Period)) → is_data_island x ≡ true
     → is_control_last (last_period ps) ≡ true → is_long_enough (last_period ps) ≡ true → announces_island (last_period ps) ≡ true
     → columns_of ps + (4 + 32 * length x.packets) ≤ 20000000 → at ≤ 14 * columns_of ps
-    → ((m to : ℕ) → to ≤ 14 * (columns_of ps + (4 + 32 * length x.packets)) → read_lines link_step m to (told (ps ++ island x ∷ [])) (pieces_of rest) ≡ goal)
-    → read_lines link_step n at (told ps) (pieces_of (period_lines (island x) ++ rest)) ≡ goal
-read_island ps x n at rest goal good turn long announced few before behind =
+    → ((m to : ℕ) → to ≤ 14 * (columns_of ps + (4 + 32 * length x.packets)) → read_lines link_step m to (reported (ps ++ island x ∷ [])) (pieces_of rest) ≡ goal)
+    → read_lines link_step n at (reported ps) (pieces_of (period_lines (island x) ++ rest)) ≡ goal
+read_island ps x n at rest goal good turn long announced few before after =
     let is = island_is x good in
     let few_of : length x.packets ≤ 18 = most (length x.packets) is.count in
     let close : List ℕ = line_of (close_island x.closing.first x.closing.second) ++ rest in
-    ap (λ (text : List ℕ). read_lines link_step n at (told ps) (pieces_of text)) (island_lines x rest)
+    ap (λ (text : List ℕ). read_lines link_step n at (reported ps) (pieces_of text)) (island_lines x rest)
     ∙ read_open n at ps x.opening (packet_lines x.packets ++ close) is.opening turn long announced (omega arith) before
     ∙ read_packets ps x.opening [] x.packets x.packets (n + 1) (at + 4 + 1) close goal is.packets refl (omega arith) (omega arith) (omega arith)
-    (λ m to within_it. read_close m to ps x rest is.closing is.count few within_it ∙ behind (m + 1) (to + 4 + 1) (omega arith))
+    (λ m to within_it. read_close m to ps x rest is.closing is.count few within_it ∙ after (m + 1) (to + 4 + 1) (omega arith))
   where
     most : (n : ℕ) → (nat_le 1 n && nat_le n 18) ≡ true → n ≤ 18
     most n h = grind arith

@@ -10,8 +10,8 @@ use Rattle.island_pack.specs.Conforming.{is_run, is_control_period, is_video_per
 use Rattle.island_pack.specs.Spelling.{control_column, SpellsPeriod, Spells}
 use Rattle.island_pack.specs.Runs.{joined, join, longest}
 use Rattle.island_pack.proofs.Runs.{values_longest}
-use Rattle.link_sink.proofs.Rows.{and_both, Small}
-use Rattle.link_sink.proofs.Conformed.{is_control_of}
+use Rattle.link_laws.proofs.Rows.{and_both, Small}
+use Rattle.link_laws.proofs.Conformed.{is_control_of}
 
 -- a period with the longest runs of its values
 abbrev pub joined_period : Period → Period
@@ -59,17 +59,17 @@ joined_conform (control runs ∷ []) h = joined_control runs h
 joined_conform (control runs ∷ (control more ∷ rest)) h = h
 joined_conform (control runs ∷ (video bytes ∷ rest)) h =
     let led = has_preamble VIDEO_PREAMBLE (values_of runs) in
-    let behind = and-right (is_control_period runs) _ h in
-    let own = and-right led _ behind in
+    let after = and-right (is_control_period runs) _ h in
+    let own = and-right led _ after in
     and_both _ _ (joined_control runs (and-left (is_control_period runs) _ h))
-    (and_both _ _ (joined_preamble VIDEO_PREAMBLE runs (and-left led _ behind))
+    (and_both _ _ (joined_preamble VIDEO_PREAMBLE runs (and-left led _ after))
     (and_both _ _ (and-left (is_video_period bytes) _ own) (joined_conform rest (and-right (is_video_period bytes) _ own))))
 joined_conform (control runs ∷ (island x ∷ rest)) h =
     let led = has_preamble ISLAND_PREAMBLE (values_of runs) in
-    let behind = and-right (is_control_period runs) _ h in
-    let own = and-right led _ behind in
+    let after = and-right (is_control_period runs) _ h in
+    let own = and-right led _ after in
     and_both _ _ (joined_control runs (and-left (is_control_period runs) _ h))
-    (and_both _ _ (joined_preamble ISLAND_PREAMBLE runs (and-left led _ behind))
+    (and_both _ _ (joined_preamble ISLAND_PREAMBLE runs (and-left led _ after))
     (and_both _ _ (and-left (is_data_island x) _ own) (joined_conform rest (and-right (is_data_island x) _ own))))
 
 -- ---- they have the same columns

@@ -16,11 +16,11 @@ pub mod From
 pub mod Arrived
 pub mod Fine
 pub mod Synced
-pub mod CameBack
+pub mod ReceivedBack
 pub mod Law
 pub mod AsSent
 pub mod Contents
-pub mod Told
+pub mod Reported
 pub mod EachPlaced
 pub mod PacketsAsSent
 pub mod PacketLines
@@ -39,3 +39,4 @@ pub mod JoinedRuns
 pub mod SoundLines
 pub mod OwnRows
 pub mod LinkLaw
+pub mod Exact

@@ -6,11 +6,11 @@ use Rattle.std.proofs.lemmas.Fmt.{length-decimal-le}
 use Rattle.hex.specs.Hex.{IsBytes, encode_lower, encode_with, lower_digits, decode_of}
 use Rattle.hex.proofs.HexLemmas.{decode_of-encode_lower, length-encode_with}
 use Rattle.island_pack.specs.Periods.{ControlRun}
-use Rattle.period_grammar.specs.Things.{Thing, run as run_thing, line as line_thing}
-use Rattle.listing.specs.Forms.{control_line, video_line, end_line, form_of, is_fault, control_form, video_form}
-use Rattle.listing.specs.Held.{is_feedless}
-use Rattle.listing.proofs.Feeds.{both}
-use Rattle.listing.specs.Texts.{words_of}
+use Rattle.period_grammar.specs.Events.{Event, run as run_event, line as line_event}
+use Rattle.listing_reader.specs.Forms.{control_line, video_line, end_line, form_of, is_fault, control_form, video_form}
+use Rattle.listing_reader.specs.Held.{is_feedless}
+use Rattle.listing_reader.proofs.Feeds.{both}
+use Rattle.listing_writer.specs.Texts.{line_words}
 use Rattle.listing_laws.proofs.Text.{line_of}
 use Rattle.listing_laws.proofs.Digits.{number_of-decimal, decimal_feedless, digit_feedless, encode_feedless}
 
@@ -20,14 +20,14 @@ not_long n short = grind arith
 -- ---- the line of a run
 
 -- a line as it stands before what follows it
-pub line_is : (t : Thing) (body rest : List ℕ) → words_of t ≡ body → line_of t ++ rest ≡ body ++ 10 ∷ rest
-line_is t body rest e = append_assoc (words_of t) (10 ∷ []) rest ∙ ap (λ (words : List ℕ). words ++ 10 ∷ rest) e
+pub line_is : (t : Event) (body rest : List ℕ) → line_words t ≡ body → line_of t ++ rest ≡ body ++ 10 ∷ rest
+line_is t body rest e = append_assoc (line_words t) (10 ∷ []) rest ∙ ap (λ (words : List ℕ). words ++ 10 ∷ rest) e
 
 abbrev pub run_body : ControlRun → List ℕ
 run_body r = 99 ∷ 32 ∷ slice_index lower_digits (r.value / 16) ∷ slice_index lower_digits (r.value % 16) ∷ 32 ∷ decimal r.count
 
-pub run_words : (r : ControlRun) → words_of (run_thing r.value r.count) ≡ run_body r
-unfolding words_of encode_with
+pub run_words : (r : ControlRun) → line_words (run_event r.value r.count) ≡ run_body r
+unfolding line_words encode_with
 run_words r = refl
 
 one_byte : (value : ℕ) → value < 64 → IsBytes (value ∷ [])
@@ -64,8 +64,8 @@ run_feedless r few =
 abbrev pub video_body : List ℕ → List ℕ
 video_body bytes = 118 ∷ 32 ∷ encode_lower bytes
 
-pub video_words : (bytes : List ℕ) → words_of (line_thing bytes) ≡ video_body bytes
-unfolding words_of
+pub video_words : (bytes : List ℕ) → line_words (line_event bytes) ≡ video_body bytes
+unfolding line_words
 video_words bytes = refl
 
 pub video_body_length : (bytes : List ℕ) → length (video_body bytes) ≡ 2 + 2 * length bytes

@@ -9,13 +9,13 @@ use Rattle.island_pack.specs.Periods.{DataIsland}
 use Rattle.island_pack.specs.Sparse.{column_at}
 use Rattle.island_pack.specs.declared.packet.Packet.{Packet}
 use Rattle.period_grammar.specs.Column.{value_of}
-use Rattle.frame_build.specs.Event.{vsync_of}
+use Rattle.frame_build.specs.FrameEvent.{vsync_of}
 use Rattle.source_end.specs.declared.mode.Mode.{Mode}
 use Rattle.source_end.specs.Raster.{Line, Part, column, packets, up_from, columns, level, sync_at, value_at, has_row, guard_at, is_within, sync, island_of, until}
 use Rattle.source_end.specs.Gathering.{size}
 use Rattle.listing_laws.proofs.Cells.{Cell, control, same, same_is, same_self}
 use Rattle.listing_laws.proofs.Ready.{Flat, flat_append, columns as cells_of}
-use Rattle.listing_laws.proofs.Parts.{came, gap_cells, part_cells, parts_cells, parts_append, parts_none}
+use Rattle.listing_laws.proofs.Parts.{reception, gap_cells, part_cells, parts_cells, parts_append, parts_none}
 
 -- VSYNC of a line's control columns.
 
@@ -69,13 +69,13 @@ even_append b xs ys h g m ss rs =
 same_by : (b v : Bool) → v ≡ b → same b v ≡ true
 same_by b v e = ap (same b) e ∙ same_self b
 
-came_flat : (b : Bool) (v m : ℕ) (rs : List Column) → vsync_of v ≡ b → Flat b (came m v rs)
-came_flat b v zero rs e = refl
-came_flat b v (suc m) rs e = ap (λ (x : Bool). x && true) (same_by b (vsync_of v) e)
+received_flat : (b : Bool) (v m : ℕ) (rs : List Column) → vsync_of v ≡ b → Flat b (reception m v rs)
+received_flat b v zero rs e = refl
+received_flat b v (suc m) rs e = ap (λ (x : Bool). x && true) (same_by b (vsync_of v) e)
 
 pub even_column : (b : Bool) (v : ℕ) (ps : List Part) → vsync_of v ≡ b → Even b ps → Even b (column v ∷ ps)
 unfolding parts_cells part_cells
-even_column b v ps e h m ss rs = flat_append b (came m v (take 1 rs)) (parts_cells (m - 1) ps (drop 1 ss) (drop 1 rs)) (came_flat b v m (take 1 rs) e) (h (m - 1) (drop 1 ss) (drop 1 rs))
+even_column b v ps e h m ss rs = flat_append b (reception m v (take 1 rs)) (parts_cells (m - 1) ps (drop 1 ss) (drop 1 rs)) (received_flat b v m (take 1 rs) e) (h (m - 1) (drop 1 ss) (drop 1 rs))
 
 pub even_none : (b : Bool) → Even b []
 unfolding parts_cells

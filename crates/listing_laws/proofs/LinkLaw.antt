@@ -10,17 +10,17 @@ use Rattle.island_pack.specs.Spelling.{SpellsPackets, freely, SpellsPacketsBy, S
 use Rattle.island_pack.specs.declared.packet.Packet.{Packet}
 use Rattle.period_grammar.specs.Exact.{IsFront}
 use Rattle.period_grammar.specs.Heard.{heard_so_far, heard}
-use Rattle.period_grammar.specs.Things.{Thing, line}
-use Rattle.link_sink.specs.Account.{period_row, account_from, account}
-use Rattle.link_sink.specs.PeriodLaws.{tells}
-use Rattle.link_sink.proofs.Conformed.{is_control_of, is_island_of, Conforms, conforming}
-use Rattle.link_sink.proofs.Joining.{account_period, follows_long}
-use Rattle.link_sink.proofs.PeriodLaws.{joining_law}
-use Rattle.link_sink.proofs.SpelledWords.{period_size}
-use Rattle.link_sink.proofs.exact.Arrivals.{front_is_clean}
-use Rattle.link_sink.proofs.exact.Faultless.{Fine}
-use Rattle.listing.specs.Reading.{reads_as}
-use Rattle.listing.specs.Texts.{link_text}
+use Rattle.period_grammar.specs.Events.{Event, line}
+use Rattle.link_laws.specs.Account.{period_row, account_from, account}
+use Rattle.link_laws.specs.PeriodLaws.{tells}
+use Rattle.link_laws.proofs.Conformed.{is_control_of, is_island_of, Conforms, conforming}
+use Rattle.link_laws.proofs.Joining.{account_period, follows_long}
+use Rattle.link_laws.proofs.PeriodLaws.{joining_law}
+use Rattle.link_laws.proofs.SpelledWords.{period_size}
+use Rattle.link_laws.proofs.exact.Arrivals.{front_is_clean}
+use Rattle.link_laws.proofs.exact.Faultless.{Fine}
+use Rattle.listing_reader.specs.Reading.{reads_as}
+use Rattle.listing_writer.specs.Texts.{link_text}
 use Rattle.listing_laws.specs.LinkLaws.{AccountReadsBack}
 use Rattle.listing_laws.proofs.Accounted.{at_start}
 use Rattle.listing_laws.proofs.JoinedRuns.{joined_periods, joined_conform, columns_same, spelled_joined, joined_spelled}
@@ -51,7 +51,7 @@ own_front ps cs good h = record { periods = ps; spelled = cs; conforming = good;
 account_fine : (ps : List Period) (cs : List Column) → IsConforming ps → Spells ps cs → Fine (account_from 0 (length cs) [] ps cs cs)
 unfolding heard heard_so_far
 account_fine ps cs good h =
-    subst (λ (ts : List Thing). Fine ts) (ap (tells 0) (sym (take_all (length cs) cs (omega arith))) ∙ joining_law ps cs cs (undamaged ps cs good h) 0 (length cs)) (front_is_clean cs (own_front ps cs good h))
+    subst (λ (ts : List Event). Fine ts) (ap (tells 0) (sym (take_all (length cs) cs (omega arith))) ∙ joining_law ps cs cs (undamaged ps cs good h) 0 (length cs)) (front_is_clean cs (own_front ps cs good h))
 
 -- ---- the text, period after period
 
@@ -82,43 +82,43 @@ first_text : (p : Period) (ps : List Period) (j m : ℕ) (before cs : List Colum
     → sound_lines (period_row j m before p h.0 h.0) ≡ text
     → text_from (j + period_columns p) (m - period_columns p) h.0 ps h.1 ≡ more
     → text_from j m before (p ∷ ps) cs ≡ text ++ more
-first_text p ps j m before cs text more h here behind =
+first_text p ps j m before cs text more h here after =
     let size = period_size p h.0 h.3 in
     let row = period_row j m before p h.0 h.0 in
     let rest = account_from (j + period_columns p) (m - period_columns p) h.0 ps h.1 h.1 in
     ap (text_from j m before (p ∷ ps)) h.2
-    ∙ ap (λ (ts : List Thing). sound_lines ts ++ codes "end\n") (account_period j m before p ps h.0 h.0 h.1 h.1 (record { sent = size; received = size }))
+    ∙ ap (λ (ts : List Event). sound_lines ts ++ codes "end\n") (account_period j m before p ps h.0 h.0 h.1 h.1 (record { sent = size; received = size }))
     ∙ ap (λ (t : List ℕ). t ++ codes "end\n") (sound_append row rest)
     ∙ append_assoc (sound_lines row) (sound_lines rest) (codes "end\n")
-    ∙ ap₂ (λ (t u : List ℕ). t ++ u) here behind
+    ∙ ap₂ (λ (t u : List ℕ). t ++ u) here after
 
 control_text : (runs : List ControlRun) (ps : List Period) (j m : ℕ) (before cs : List Column) (more : List ℕ) (h : Spells (control runs ∷ ps) cs) → is_control_period runs ≡ true → length cs ≤ m
     → text_from (j + period_columns (control runs)) (m - period_columns (control runs)) h.0 ps h.1 ≡ more
     → text_from j m before (control runs ∷ ps) cs ≡ run_lines (longest (values_of runs)) ++ more
-control_text runs ps j m before cs more h good le behind =
+control_text runs ps j m before cs more h good le after =
     let all = columns_first (control runs) ps cs h in
     let own = period_size (control runs) h.0 h.3 in
     first_text (control runs) ps j m before cs (run_lines (longest (values_of runs))) more h
-    (own_control j m before runs h.0 (is_control_of runs good).small h.3 (omega (arith, all, own, le))) behind
+    (own_control j m before runs h.0 (is_control_of runs good).small h.3 (omega (arith, all, own, le))) after
 
 -- columns come behind a video data period
 video_text : (bytes : List ℕ) (ps : List Period) (j m : ℕ) (before cs : List Column) (more : List ℕ) (h : Spells (video bytes ∷ ps) cs) → is_video_period bytes ≡ true → length cs ≤ m → 1 ≤ length h.1
     → text_from (j + period_columns (video bytes)) (m - period_columns (video bytes)) h.0 ps h.1 ≡ more
     → text_from j m before (video bytes ∷ ps) cs ≡ line_of (line bytes) ++ more
-video_text bytes ps j m before cs more h good le some behind =
+video_text bytes ps j m before cs more h good le some after =
     let all = columns_first (video bytes) ps cs h in
     let own = period_size (video bytes) h.0 h.3 in
     first_text (video bytes) ps j m before cs (line_of (line bytes)) more h
-    (own_video j m before bytes h.0 (video_is bytes good).whole h.3 (omega (arith, all, own, le, some))) behind
+    (own_video j m before bytes h.0 (video_is bytes good).whole h.3 (omega (arith, all, own, le, some))) after
 
 island_text : (x : DataIsland) (ps : List Period) (j m : ℕ) (before cs : List Column) (more : List ℕ) (h : Spells (island x ∷ ps) cs) → is_data_island x ≡ true → length cs ≤ m
     → text_from (j + period_columns (island x)) (m - period_columns (island x)) h.0 ps h.1 ≡ more
     → text_from j m before (island x ∷ ps) cs ≡ period_lines (island x) ++ more
 unfolding period_columns
-island_text x ps j m before cs more h good le behind =
+island_text x ps j m before cs more h good le after =
     let all = columns_first (island x) ps cs h in
     first_text (island x) ps j m before cs (period_lines (island x)) more h
-    (own_island j m before x h.0 (is_island_of x good) h.3 (omega (arith, all, le))) behind
+    (own_island j m before x h.0 (is_island_of x good) h.3 (omega (arith, all, le))) after
 
 text_is : (ps : List Period) (j m : ℕ) (before cs : List Column) → conforms ps ≡ true → Spells ps cs → length cs ≤ m → text_from j m before ps cs ≡ text_of (joined_periods ps)
 unfolding conforms account_from text_of period_lines
@@ -130,8 +130,8 @@ text_is (control runs ∷ (control more ∷ rest)) j m before cs good h le = abs
 text_is (control runs ∷ (video bytes ∷ rest)) j m before cs good h le =
     let n = period_columns (control runs) in
     let later = h.4 in
-    let behind = and-right (is_control_period runs) _ good in
-    let own = and-right (has_preamble VIDEO_PREAMBLE (values_of runs)) _ behind in
+    let after = and-right (is_control_period runs) _ good in
+    let own = and-right (has_preamble VIDEO_PREAMBLE (values_of runs)) _ after in
     let others = and-right (is_video_period bytes) _ own in
     let all = columns_first (control runs) (video bytes ∷ rest) cs h in
     let inner = columns_first (video bytes) rest h.1 later in
@@ -141,8 +141,8 @@ text_is (control runs ∷ (video bytes ∷ rest)) j m before cs good h le =
 text_is (control runs ∷ (island x ∷ rest)) j m before cs good h le =
     let n = period_columns (control runs) in
     let later = h.4 in
-    let behind = and-right (is_control_period runs) _ good in
-    let own = and-right (has_preamble ISLAND_PREAMBLE (values_of runs)) _ behind in
+    let after = and-right (is_control_period runs) _ good in
+    let own = and-right (has_preamble ISLAND_PREAMBLE (values_of runs)) _ after in
     let others = and-right (is_data_island x) _ own in
     let all = columns_first (control runs) (island x ∷ rest) cs h in
     let inner = columns_first (island x) rest h.1 later in
@@ -167,9 +167,9 @@ whole_account (control runs ∷ rest) cs good h =
 listing_is : (ps : List Period) (cs : List Column) → IsConforming ps → Spells ps cs → link_text (account ps cs cs 0 (length cs)) ≡ text_of (joined_periods ps)
 unfolding link_text
 listing_is ps cs good h =
-    let things = account_from 0 (length cs) [] ps cs cs in
+    let events = account_from 0 (length cs) [] ps cs cs in
     ap link_text (whole_account ps cs good h)
-    ∙ ap (λ (text : List ℕ). text ++ codes "end\n") (sym (all_sound things (account_fine ps cs good h)))
+    ∙ ap (λ (text : List ℕ). text ++ codes "end\n") (sym (all_sound events (account_fine ps cs good h)))
     ∙ text_is ps 0 (length cs) [] cs good h (omega arith)
 
 pub listing_reads_back : AccountReadsBack

@@ -1,20 +1,20 @@
--- The rows and frames of a list of told things, column by column: a run of columns is each of them by itself, so what is
+-- The rows and frames of a list of told events, column by column: a run of columns is each of them by itself, so what is
 -- listed follows the columns of lines and not the runs of control periods.
 use Rattle.std.proofs.Common.{◌≡◌, ℕ, zero, suc, ◌/◌, Bool, true, false, ◌&&◌, if◌then◌else◌, List, [], ◌∷◌, ◌++◌, length, replicate, Option, Some, None, refl, sym, ap, ◌∙◌, append_assoc, append-nil}
-use Rattle.period_grammar.specs.Things.{Thing, run, line, word, short, preamble, noise, empty, code, long_line, cut, open_island, packet, close_island, symbols, mended, lost, long_island, broken, guard}
-use Rattle.frame_build.specs.Event.{vsync_of, Mark, column, gap}
+use Rattle.period_grammar.specs.Events.{Event, run, line, word, short, preamble, noise, empty, code, long_line, cut, open_island, packet, close_island, symbols, mended, lost, long_island, broken, guard}
+use Rattle.frame_build.specs.FrameEvent.{vsync_of, Mark, column, gap}
 use Rattle.frame_build.specs.Change.{three_have, newer, differ}
-use Rattle.frame_build.specs.Group.{frame_of, is_unlike, told_count}
+use Rattle.frame_build.specs.Group.{frame_of, is_unlike, reported_count}
 use Rattle.frame_build.specs.declared.LineNote.{LineNote}
-use Rattle.listing.specs.Listed.{Listed, frame_lines, row_lines}
+use Rattle.listing_writer.specs.Listed.{Listed, listed_frames, listed_rows}
 
--- what frames see of a told thing: each column of a run, a line, or a gap
+-- what frames see of a told event: each column of a run, a line, or a gap
 pub data Tick : Type 0 where
   control : Bool → Tick
   pixels : List ℕ → Tick
   parted : Tick
 
-abbrev pub ticks_of : Thing → List Tick
+abbrev pub ticks_of : Event → List Tick
 ticks_of (run value count) = replicate count (control (vsync_of value))
 ticks_of (line bytes) = pixels bytes ∷ []
 ticks_of (word lane j) = []
@@ -35,11 +35,11 @@ ticks_of (long_island j) = parted ∷ []
 ticks_of (broken j) = parted ∷ []
 ticks_of (guard j) = parted ∷ []
 
-unfoldable pub ticks : List Thing → List Tick
+unfoldable pub ticks : List Event → List Tick
 ticks [] = []
-ticks (thing ∷ things) = ticks_of thing ++ ticks things
+ticks (event ∷ events) = ticks_of event ++ ticks events
 
-pub ticks_append : (xs ys : List Thing) → ticks (xs ++ ys) ≡ ticks xs ++ ticks ys
+pub ticks_append : (xs ys : List Event) → ticks (xs ++ ys) ≡ ticks xs ++ ticks ys
 unfolding ticks
 ticks_append [] ys = refl
 ticks_append (x ∷ xs) ys = ap (λ (ts : List Tick). ticks_of x ++ ts) (ticks_append xs ys) ∙ sym (append_assoc (ticks_of x) (ticks xs) (ticks ys))
@@ -73,14 +73,14 @@ run_state b (suc n) s = turned (differ (heard_after b (suc n) s) s.heard) (run_m
 
 -- the frame of a counting group, at a change
 abbrev pub ends : Bool → Bool → List ℕ → List Listed
-ends changed counting widths = frame_lines (if changed && counting then frame_of widths else None)
+ends changed counting widths = listed_frames (if changed && counting then frame_of widths else None)
 
 abbrev pub run_said : Bool → ℕ → State → List Listed
 run_said b zero s = []
 run_said b (suc n) s = ends (differ (heard_after b (suc n) s) s.heard) s.counting s.group
 
 abbrev pub note_of : State → ℕ → LineNote
-note_of s width = record { counts = s.counting; ragged = s.counting && is_unlike s.group width; row = told_count (length s.group) }
+note_of s width = record { counts = s.counting; ragged = s.counting && is_unlike s.group width; row = reported_count (length s.group) }
 
 abbrev pub step : Tick → State → State
 step (control b) s = run_state b 1 s
@@ -89,7 +89,7 @@ step parted s = record { marks = gap ∷ s.marks; heard = s.heard; counting = s.
 
 abbrev pub said : Tick → State → List Listed
 said (control b) s = run_said b 1 s
-said (pixels bytes) s = row_lines bytes (note_of s (length bytes / 3))
+said (pixels bytes) s = listed_rows bytes (note_of s (length bytes / 3))
 said parted s = []
 
 unfoldable pub after : List Tick → State → State

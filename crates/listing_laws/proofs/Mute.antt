@@ -4,11 +4,11 @@ use Rattle.std.specs.Prelude.{nat_lt}
 use Rattle.tmds_word.specs.Column.{Column}
 use Rattle.island_pack.specs.Periods.{Pixel, pixels_of}
 use Rattle.island_pack.specs.declared.packet.Packet.{Packet}
-use Rattle.link_sink.specs.Account.{pixel_bytes}
+use Rattle.link_laws.specs.Account.{pixel_bytes}
 use Rattle.source_end.specs.declared.mode.Mode.{Mode}
 use Rattle.source_end.specs.Raster.{Line, Part, pixels, columns, sync_at, guard_at, sync, back, active, total, until, whole}
 use Rattle.source_end.specs.Gathering.{size}
-use Rattle.listing.specs.Listed.{Listed, row}
+use Rattle.listing_writer.specs.Listed.{Listed, row}
 use Rattle.listing_laws.proofs.Cells.{Cell, pixels as pixels_cell, parted, State, note_of, after, says, after_append, says_append}
 use Rattle.listing_laws.proofs.Ready.{Flat, Ready, quiet}
 use Rattle.listing_laws.proofs.Parts.{row_cells, part_cells, parts_cells, parts_append}
@@ -56,17 +56,17 @@ cells_muted : (b t : Bool) (ps : List Pixel) (ss rs : List Column) (s : State) (
 cells_muted b true ps ss rs s g was = row_muted b s g (pixel_bytes ps ss rs) was
 cells_muted b false ps ss rs s g was = flat_muted b (parted ∷ []) s g refl was
 
-told_muted : (b : Bool) (m : ℕ) (ps : List Pixel) (ss rs : List Column) (s : State) (g : List ℕ) → Ready s b false g → IsMuted (row_cells m ps ss rs) s b
-told_muted b zero ps ss rs s g was = flat_muted b [] s g refl was
-told_muted b (suc zero) ps ss rs s g was = flat_muted b (parted ∷ []) s g refl was
-told_muted b (suc (suc i)) ps ss rs s g was = cells_muted b (nat_lt (length ps) i) ps (drop 2 ss) (drop 2 rs) s g was
+reported_muted : (b : Bool) (m : ℕ) (ps : List Pixel) (ss rs : List Column) (s : State) (g : List ℕ) → Ready s b false g → IsMuted (row_cells m ps ss rs) s b
+reported_muted b zero ps ss rs s g was = flat_muted b [] s g refl was
+reported_muted b (suc zero) ps ss rs s g was = flat_muted b (parted ∷ []) s g refl was
+reported_muted b (suc (suc i)) ps ss rs s g was = cells_muted b (nat_lt (length ps) i) ps (drop 2 ss) (drop 2 rs) s g was
 
 pub mute_pixels : (b : Bool) (bytes : List ℕ) (parts : List Part) → Mute b parts → Mute b (pixels bytes ∷ parts)
 unfolding parts_cells part_cells
 mute_pixels b bytes parts h m ss rs s g was =
     let n = 2 + length bytes / 3 in
     let first = row_cells m (pixels_of bytes) (take n ss) (take n rs) in
-    let p = told_muted b m (pixels_of bytes) (take n ss) (take n rs) s g was in
+    let p = reported_muted b m (pixels_of bytes) (take n ss) (take n rs) s g was in
     muted_append b first (parts_cells (m - n) parts (drop n ss) (drop n rs)) s p (h (m - n) (drop n ss) (drop n rs) (after first s) p.group p.ready)
 
 pub mute_whole : (mode : Mode) (line : Line) (ps : List Packet) (row : Option (List ℕ)) → Mute (level_of mode line) (whole mode line ps row)

@@ -6,11 +6,11 @@ use Rattle.std.proofs.lemmas.Bool.{le-leb}
 use Rattle.island_pack.specs.Periods.{video}
 use Rattle.island_pack.specs.declared.packet.Packet.{Packet}
 use Rattle.source_end.specs.Refusals.{last_period, is_control_last, is_long_enough, is_in_range, push_fault}
-use Rattle.listing.specs.Causes.{caused, line_cause, island_cause, packet_cause, close_cause, is_closed, has_packets, is_nineteenth, announces_island}
-use Rattle.listing.specs.declared.fault.ListCause.TheVariants.{Range, Order, Control, Preamble, Long}
-use Rattle.listing.specs.Drafts.{Draft, draft_columns}
-use Rattle.listing.specs.Forms.{control_line, video_line, island_line, packet_line, close_line, end_line}
-use Rattle.listing.proofs.Refused.{goes_past, run_fits, video_pushed, end_well, cause_control, cause_island, cause_packet, cause_close, cause_end}
+use Rattle.listing_reader.specs.Causes.{caused, line_cause, island_cause, packet_cause, close_cause, is_closed, has_packets, is_nineteenth, announces_island}
+use Rattle.listing_reader.specs.declared.fault.ListCause.TheVariants.{Range, Order, Control, Preamble, Long}
+use Rattle.listing_reader.specs.Drafts.{Draft, draft_columns}
+use Rattle.listing_reader.specs.Forms.{control_line, video_line, island_line, packet_line, close_line, end_line}
+use Rattle.listing_reader.proofs.Refused.{goes_past, run_fits, video_pushed, end_well, cause_control, cause_island, cause_packet, cause_close, cause_end}
 
 run_passes : (value count : ℕ) → value < 64 → 1 ≤ count → count ≤ 20000000 → (nat_lt value 64 && (nat_le 1 count && nat_le count 20000000)) ≡ true
 run_passes value count below some few = grind arith

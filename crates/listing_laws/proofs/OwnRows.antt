@@ -12,24 +12,24 @@ use Rattle.island_pack.specs.Nibbles.{nibble_of}
 use Rattle.island_pack.specs.Periods.{ControlRun, SyncPair, DataIsland, control, video, island, values_of, pixels_of, VIDEO_PREAMBLE, ISLAND_PREAMBLE}
 use Rattle.island_pack.specs.Packets.{CarriesFreely}
 use Rattle.island_pack.specs.Runs.{joined, join, longest}
-use Rattle.island_pack.specs.Spelling.{guard_column, guard_columns, words_of as words_in, SpellsPixels, SpellsPackets, SpellsPeriod}
+use Rattle.island_pack.specs.Spelling.{guard_column, guard_columns, column_words as words_in, SpellsPixels, SpellsPackets, SpellsPeriod}
 use Rattle.island_pack.specs.declared.packet.Packet.{Packet}
 use Rattle.period_grammar.specs.Column.{value_of, sync_digit}
 use Rattle.period_grammar.specs.Cut.{Run, columns, in_front, before_runs, runs as runs_of}
 use Rattle.period_grammar.specs.Heard.{words, has_preamble}
 use Rattle.period_grammar.specs.Island.{wrong_guards}
 use Rattle.island_pack.specs.Repaired.{verdicts_of}
-use Rattle.period_grammar.specs.Things.{run, line, cut, open_island, packet, close_island, thing_of}
-use Rattle.link_sink.specs.Account.{runs_row, control_row, wrong_preamble, open_video_row, open_island_row, close_island_row, byte, pixel_bytes, video_row, video_told, damage, sync_row, packet_row, packet_told, packets_told, island_told, period_row}
-use Rattle.link_sink.proofs.Conformed.{IsIsland}
-use Rattle.link_sink.proofs.IslandColumns.{packet_sent}
-use Rattle.link_sink.proofs.IslandTold.{frame}
-use Rattle.link_sink.proofs.Rows.{control_columns, Small}
-use Rattle.listing.specs.Texts.{words_of}
+use Rattle.period_grammar.specs.Events.{run, line, cut, open_island, packet, close_island, event_of}
+use Rattle.link_laws.specs.Account.{runs_row, control_row, wrong_preamble, open_video_row, open_island_row, close_island_row, byte, pixel_bytes, video_row, video_reported, damage, sync_row, packet_row, packet_reported, packets_reported, island_reported, period_row}
+use Rattle.link_laws.proofs.Conformed.{IsIsland}
+use Rattle.link_laws.proofs.IslandColumns.{packet_sent}
+use Rattle.link_laws.proofs.IslandReported.{frame}
+use Rattle.link_laws.proofs.Rows.{control_columns, Small}
+use Rattle.listing_writer.specs.Texts.{line_words}
 use Rattle.listing_laws.proofs.AsSent.{as_sent_row}
 use Rattle.listing_laws.proofs.Fine.{value_back}
 use Rattle.listing_laws.proofs.SoundLines.{sound_lines, sound_append, silent_both, silent_words, silent_preamble, silent_guards, silent_codes, silent_packet}
-use Rattle.listing_laws.proofs.Text.{line_of, told_packet, run_lines, packet_lines, period_lines}
+use Rattle.listing_laws.proofs.Text.{line_of, reported_packet, run_lines, packet_lines, period_lines}
 use Rattle.listing_laws.proofs.Undamaged.{none_unlike}
 
 -- ---- a control period
@@ -41,7 +41,7 @@ runs_lines : (j : ℕ) (rs : List Run) → sound_lines (runs_row j rs) ≡ run_l
 unfolding runs_row run_lines
 runs_lines j [] = refl
 runs_lines j (columns v cs ∷ rs) =
-    sound_append (map thing_of (words j cs)) (run v (length cs) ∷ runs_row (j + length cs) rs)
+    sound_append (map event_of (words j cs)) (run v (length cs) ∷ runs_row (j + length cs) rs)
     ∙ ap₂ (λ (a b : List ℕ). a ++ (line_of (run v (length cs)) ++ b)) (silent_words j cs) (runs_lines (j + length cs) rs)
 
 front_run : (same : Bool) (c : Column) (v : ℕ) (cs : List Column) (rs : List Run) → map run_in (in_front same c (columns v cs) rs) ≡ joined same (value_of c) (record { value = v; count = length cs }) (map run_in rs)
@@ -98,8 +98,8 @@ open_video b before g h rs =
     silent_both (wrong_preamble b VIDEO_PREAMBLE before) (wrong_guards is_video_guard b g h) (silent_preamble (has_preamble VIDEO_PREAMBLE before) b) (silent_guards is_video_guard b g h)
 
 video_lines : (b m : ℕ) (before : List Column) (bytes : List ℕ) (g h : Column) (cs : List Column) → length bytes % 3 ≡ 0 → length cs ≡ length (pixels_of bytes) → 2 + length cs < m
-    → sound_lines (video_told b m before (pixels_of bytes) (g ∷ (h ∷ cs)) (g ∷ (h ∷ cs))) ≡ line_of (line bytes)
-unfolding video_told
+    → sound_lines (video_reported b m before (pixels_of bytes) (g ∷ (h ∷ cs)) (g ∷ (h ∷ cs))) ≡ line_of (line bytes)
+unfolding video_reported
 video_lines b zero before bytes g h cs whole long lt = absurd (omega (arith, lt))
 video_lines b (suc zero) before bytes g h cs whole long lt = absurd (omega (arith, lt))
 video_lines b (suc (suc i)) before bytes g h cs whole long lt =
@@ -117,7 +117,7 @@ pub own_video : (j m : ℕ) (before : List Column) (bytes : List ℕ) (own : Lis
 unfolding period_row
 own_video j m before bytes own whole h more =
     let size = ap length h.1 in
-    ap (λ (cs : List Column). sound_lines (video_told j m before (pixels_of bytes) cs cs)) h.1
+    ap (λ (cs : List Column). sound_lines (video_reported j m before (pixels_of bytes) cs cs)) h.1
     ∙ video_lines j m before bytes _ _ h.0 whole (pixel_columns bytes h.0 h.2) (omega (arith, size, more))
 
 -- ---- a data island
@@ -171,48 +171,48 @@ own_packet p own carries =
     let sync = carries.whole.sync in
     as_sent_row p own own (omega (arith, none)) ∙ ap (λ (vs : List ℕ). record { header = p.header; bodies = p.bodies; sync = vs }) (own_sync p.sync own (omega (arith, count, sync)))
 
-one_packet : (s : ℕ) (p : Packet) (own : List Column) → CarriesFreely p (map words_in own) → sound_lines (packet_told s p own own) ≡ line_of (told_packet p)
-unfolding packet_told words_of
+one_packet : (s : ℕ) (p : Packet) (own : List Column) → CarriesFreely p (map words_in own) → sound_lines (packet_reported s p own own) ≡ line_of (reported_packet p)
+unfolding packet_reported line_words
 one_packet s p own carries =
     let v = verdicts_of own in
     ap₂ (λ (q : Packet) (text : List ℕ). line_of (packet q v s) ++ text) (own_packet p own carries) (silent_packet s v) ∙ append-nil (line_of (packet p v s))
 
 packets_lines : (first : Bool) (s i : ℕ) (ps : List Packet) (closing : SyncPair) (cs : List Column) → closing.first < 4 → closing.second < 4 → SpellsPackets first ps cs → 32 * length ps + 2 ≤ i
-    → sound_lines (packets_told cut s ps i (cs ++ guard_columns closing) (cs ++ guard_columns closing)) ≡ packet_lines ps ++ line_of (close_island closing.first closing.second)
-unfolding packets_told packet_lines
+    → sound_lines (packets_reported cut s ps i (cs ++ guard_columns closing) (cs ++ guard_columns closing)) ≡ packet_lines ps ++ line_of (close_island closing.first closing.second)
+unfolding packets_reported packet_lines
 packets_lines first s i [] closing cs a b h le =
-    let behind = guard_columns closing in
-    ap (λ (ds : List Column). sound_lines (packets_told cut s [] i (ds ++ behind) (ds ++ behind))) h
-    ∙ ap (λ (all : Bool). sound_lines (cond all (close_island_row s behind) (cut s ∷ []))) (le-leb 2 i (omega (arith, le)))
+    let after = guard_columns closing in
+    ap (λ (ds : List Column). sound_lines (packets_reported cut s [] i (ds ++ after) (ds ++ after))) h
+    ∙ ap (λ (all : Bool). sound_lines (cond all (close_island_row s after) (cut s ∷ []))) (le-leb 2 i (omega (arith, le)))
     ∙ close_lines s closing a b
 packets_lines first s i (p ∷ ps) closing cs a b h le =
-    let behind = guard_columns closing in
+    let after = guard_columns closing in
     let own = h.0 in
     let rest = h.1 in
     let n = packet_sent first p own h.3.free in
-    let all = cs ++ behind in
-    let e : all ≡ own ++ (rest ++ behind) = ap (λ (ds : List Column). ds ++ behind) h.2 ∙ append_assoc own rest behind in
-    let t : take 32 all ≡ own = ap (take 32) e ∙ take_at own (rest ++ behind) 32 n in
-    let d : drop 32 all ≡ rest ++ behind = ap (drop 32) e ∙ drop_at own (rest ++ behind) 32 n in
+    let all = cs ++ after in
+    let e : all ≡ own ++ (rest ++ after) = ap (λ (ds : List Column). ds ++ after) h.2 ∙ append_assoc own rest after in
+    let t : take 32 all ≡ own = ap (take 32) e ∙ take_at own (rest ++ after) 32 n in
+    let d : drop 32 all ≡ rest ++ after = ap (drop 32) e ∙ drop_at own (rest ++ after) 32 n in
     let close = line_of (close_island closing.first closing.second) in
-    ap (λ (less : Bool). sound_lines (cond less (cut s ∷ []) (packet_told s p (take 32 all) (take 32 all) ++ packets_told cut (s + 32) ps (i - 32) (drop 32 all) (drop 32 all)))) (le-ltb i 32 (omega (arith, le)))
-    ∙ ap₂ (λ (x y : List Column). sound_lines (packet_told s p x x ++ packets_told cut (s + 32) ps (i - 32) y y)) t d
-    ∙ sound_append (packet_told s p own own) (packets_told cut (s + 32) ps (i - 32) (rest ++ behind) (rest ++ behind))
+    ap (λ (less : Bool). sound_lines (cond less (cut s ∷ []) (packet_reported s p (take 32 all) (take 32 all) ++ packets_reported cut (s + 32) ps (i - 32) (drop 32 all) (drop 32 all)))) (le-ltb i 32 (omega (arith, le)))
+    ∙ ap₂ (λ (x y : List Column). sound_lines (packet_reported s p x x ++ packets_reported cut (s + 32) ps (i - 32) y y)) t d
+    ∙ sound_append (packet_reported s p own own) (packets_reported cut (s + 32) ps (i - 32) (rest ++ after) (rest ++ after))
     ∙ ap₂ (λ (x y : List ℕ). x ++ y) (one_packet s p own h.3.free) (packets_lines false (s + 32) (i - 32) ps closing rest a b h.4 (omega (arith, le)))
-    ∙ sym (append_assoc (line_of (told_packet p)) (packet_lines ps) close)
+    ∙ sym (append_assoc (line_of (reported_packet p)) (packet_lines ps) close)
 
 island_lines : (b m : ℕ) (before : List Column) (x : DataIsland) (cs : List Column) → IsIsland x → SpellsPackets true x.packets cs → 4 + 32 * length x.packets ≤ m
-    → sound_lines (island_told b m before x (frame x cs) (frame x cs)) ≡ period_lines (island x)
-unfolding island_told period_lines
+    → sound_lines (island_reported b m before x (frame x cs) (frame x cs)) ≡ period_lines (island x)
+unfolding island_reported period_lines
 island_lines b zero before x cs is h le = absurd (omega (arith, le))
 island_lines b (suc zero) before x cs is h le = absurd (omega (arith, le))
 island_lines b (suc (suc i)) before x cs is h le =
-    let behind = cs ++ guard_columns x.closing in
+    let after = cs ++ guard_columns x.closing in
     let opens = open_island_row b before (frame x cs) in
     let close = line_of (close_island x.closing.first x.closing.second) in
     let open_text = line_of (open_island x.opening.first x.opening.second) in
-    sound_append opens (packets_told cut (b + 2) x.packets i behind behind)
-    ∙ ap₂ (λ (t u : List ℕ). t ++ u) (open_lines b before x.opening behind is.open_first is.open_second)
+    sound_append opens (packets_reported cut (b + 2) x.packets i after after)
+    ∙ ap₂ (λ (t u : List ℕ). t ++ u) (open_lines b before x.opening after is.open_first is.open_second)
     (packets_lines true (b + 2) i x.packets x.closing cs is.close_first is.close_second h (omega (arith, le)))
     ∙ sym (append_assoc open_text (packet_lines x.packets) close)
 
@@ -220,4 +220,4 @@ pub own_island : (j m : ℕ) (before : List Column) (x : DataIsland) (own : List
     → sound_lines (period_row j m before (island x) own own) ≡ period_lines (island x)
 unfolding period_row
 own_island j m before x own is h le =
-    ap (λ (cs : List Column). sound_lines (island_told j m before x cs cs)) h.1 ∙ island_lines j m before x h.0 is h.2 le
+    ap (λ (cs : List Column). sound_lines (island_reported j m before x cs cs)) h.1 ∙ island_lines j m before x h.0 is h.2 le

@@ -6,7 +6,7 @@ use Rattle.tmds_word.specs.Column.{Column}
 use Rattle.bch_block.specs.declared.Verdict.{Verdict}
 use Rattle.bch_block.specs.declared.Verdict.TheVariants.{Clean, Mended, Lost}
 use Rattle.island_pack.specs.Packets.{body_of, CarriesFreely}
-use Rattle.island_pack.specs.Spelling.{words_of}
+use Rattle.island_pack.specs.Spelling.{column_words}
 use Rattle.island_pack.specs.Taken.{verdict_on, spotless}
 use Rattle.island_pack.specs.declared.packet.Packet.{Packet}
 use Rattle.island_pack.specs.declared.packet.PacketVerdicts.{PacketVerdicts}
@@ -18,10 +18,10 @@ use Rattle.audio_packets.specs.Samples.{has_many_channels, samples_from}
 use Rattle.audio_packets.specs.Faults.{first_lost, unless_lost}
 use Rattle.audio_packets.specs.Faults as audio
 use Rattle.audio_packets.specs.declared.fault.AudioFault.TheVariants.{Uneven, Layout}
-use Rattle.listing.specs.ContentText.{packet_lines, carried_lines, clock_lines, sample_lines, control_lines, info_lines, other_words}
-use Rattle.link_sink.specs.Account.{damage, packet_row}
-use Rattle.listing_laws.specs.PacketLaws.{Placed, came_packet}
-use Rattle.listing_laws.specs.ListingLaws.{LinesOfPayload, unlike_in, told_lines, PacketLinesAsSent, PacketLinesComeBack}
+use Rattle.listing_writer.specs.ContentText.{packet_lines, carried_lines, clock_lines, sample_lines, control_lines, info_lines, other_words}
+use Rattle.link_laws.specs.Account.{damage, packet_row}
+use Rattle.listing_laws.specs.PacketLaws.{Placed, received_packet}
+use Rattle.listing_laws.specs.ListingLaws.{LinesOfPayload, unlike_in, reported_lines, PacketLinesAsSent, PacketLinesComeBack}
 use Rattle.listing_laws.proofs.AsSent.{as_sent_freely}
 use Rattle.listing_laws.proofs.EachPlaced.{each_placed}
 
@@ -82,13 +82,13 @@ lines_of_payload p q v column header bodies =
     ∙ sym (lines_bare (first_lost_block v) (first_lost v) q column)
     ∙ sym (lines_are q v column)
 
-lines_freely : (p : Packet) (sent received : List Column) → CarriesFreely p (map words_of sent) → length received ≡ 32 → damage sent received ≤ 1 → (column : ℕ)
+lines_freely : (p : Packet) (sent received : List Column) → CarriesFreely p (map column_words sent) → length received ≡ 32 → damage sent received ≤ 1 → (column : ℕ)
     → packet_lines (packet_row p sent received) (verdicts_of received) column ≡ packet_lines p spotless column
 lines_freely p sent received carries long few column =
     let h = as_sent_freely p sent received carries long few in
-    let told = packet_row p sent received in
+    let reported = packet_row p sent received in
     let v = verdicts_of received in
-    lines_of_payload told p v column h.header h.bodies
+    lines_of_payload reported p v column h.header h.bodies
     ∙ lines_are p v column
     ∙ lines_bare (first_lost_block v) (first_lost v) p column
     ∙ ap₂ (λ (a b : Option ℕ). lines_by a b (bare p.header p.bodies) column) (none_lost v h.kept ∙ sym spotless_kept) (none_missing v h.kept ∙ sym spotless_whole)
@@ -99,14 +99,14 @@ pub packet_lines_as_sent : PacketLinesAsSent
 packet_lines_as_sent p first sent received carries long few column = lines_freely p sent received carries.free long few column
 
 abbrev IsListed : List Column → List Column → ℕ → Placed → Type 0
-IsListed sent received a k = unlike_in sent received k ≤ 1 → told_lines (came_packet sent received a k) ≡ packet_lines k.packet spotless (k.at - a)
+IsListed sent received a k = unlike_in sent received k ≤ 1 → reported_lines (received_packet sent received a k) ≡ packet_lines k.packet spotless (k.at - a)
 
-listed_here : (sent received : List Column) (a y : ℕ) (p : Packet) (own came : List Column) → CarriesFreely p (map words_of own) → length came ≡ 32 → take 32 (drop y sent) ≡ own → take 32 (drop y received) ≡ came
+listed_here : (sent received : List Column) (a y : ℕ) (p : Packet) (own reception : List Column) → CarriesFreely p (map column_words own) → length reception ≡ 32 → take 32 (drop y sent) ≡ own → take 32 (drop y received) ≡ reception
     → IsListed sent received a (record { packet = p; at = y })
-listed_here sent received a y p own came carries long e d few =
-    let n : damage own came ≤ 1 = subst (λ (cs : List Column). damage own cs ≤ 1) d (subst (λ (cs : List Column). damage cs (take 32 (drop y received)) ≤ 1) e few) in
-    ap₂ (λ (cs ds : List Column). packet_lines (packet_row p cs ds) (verdicts_of ds) (y - a)) e d ∙ lines_freely p own came carries long n (y - a)
+listed_here sent received a y p own reception carries long e d few =
+    let n : damage own reception ≤ 1 = subst (λ (cs : List Column). damage own cs ≤ 1) d (subst (λ (cs : List Column). damage cs (take 32 (drop y received)) ≤ 1) e few) in
+    ap₂ (λ (cs ds : List Column). packet_lines (packet_row p cs ds) (verdicts_of ds) (y - a)) e d ∙ lines_freely p own reception carries long n (y - a)
 
 pub packet_lines_come_back : PacketLinesComeBack
-packet_lines_come_back periods sent received came a =
-    each_placed (IsListed sent received a) sent received (λ y p own cs. listed_here sent received a y p own cs) periods came
+packet_lines_come_back periods sent received reception a =
+    each_placed (IsListed sent received a) sent received (λ y p own cs. listed_here sent received a y p own cs) periods reception

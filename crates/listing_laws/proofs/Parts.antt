@@ -6,16 +6,16 @@ use Rattle.tmds_word.specs.Column.{Column}
 use Rattle.island_pack.specs.Periods.{Pixel, pixels_of}
 use Rattle.island_pack.specs.Sparse.{column_at}
 use Rattle.period_grammar.specs.Column.{value_of}
-use Rattle.frame_build.specs.Event.{vsync_of}
-use Rattle.link_sink.specs.Account.{pixel_bytes}
+use Rattle.frame_build.specs.FrameEvent.{vsync_of}
+use Rattle.link_laws.specs.Account.{pixel_bytes}
 use Rattle.source_end.specs.Raster.{Part, column, pixels, packets}
 use Rattle.source_end.specs.Gathering.{part_size, size}
 use Rattle.listing_laws.proofs.Cells.{Cell, control, pixels as pixels_cell, parted}
 
 -- a control column that was sent with a value, where a column came
-abbrev pub came : ℕ → ℕ → List Column → List Cell
-came zero v rs = []
-came (suc m) v rs = control (vsync_of v) (vsync_of (value_of (column_at rs 0))) ∷ []
+abbrev pub reception : ℕ → ℕ → List Column → List Cell
+reception zero v rs = []
+reception (suc m) v rs = control (vsync_of v) (vsync_of (value_of (column_at rs 0))) ∷ []
 
 -- a row, of which m columns came; where it did not come whole, with the column after it, it is a gap
 abbrev pub row_cells : ℕ → List Pixel → List Column → List Column → List Cell
@@ -29,7 +29,7 @@ gap_cells zero = []
 gap_cells (suc m) = parted ∷ []
 
 unfoldable pub part_cells : ℕ → Part → List Column → List Column → List Cell
-part_cells m (column v) ss rs = came m v rs
+part_cells m (column v) ss rs = reception m v rs
 part_cells m (pixels bytes) ss rs = row_cells m (pixels_of bytes) ss rs
 part_cells m (packets x) ss rs = gap_cells m
 

@@ -8,9 +8,9 @@ use Rattle.std.proofs.lemmas.Grind.{flat_map-append}
 use Rattle.hex.specs.Hex.{encode_lower}
 use Rattle.island_pack.specs.declared.packet.Packet.{Packet}
 use Rattle.island_pack.specs.declared.packet.PacketVerdicts.{PacketVerdicts}
-use Rattle.period_grammar.specs.Things.{Thing, run, line, word, short, preamble, noise, empty, code, long_line, cut, open_island, packet, close_island, symbols, mended, lost, long_island, broken, guard}
+use Rattle.period_grammar.specs.Events.{Event, run, line, word, short, preamble, noise, empty, code, long_line, cut, open_island, packet, close_island, symbols, mended, lost, long_island, broken, guard}
 use Rattle.period_grammar.specs.Heard.{heard}
-use Rattle.frame_build.specs.Event.{Event, run as run_event}
+use Rattle.frame_build.specs.FrameEvent.{FrameEvent, run as run_frame_event}
 use Rattle.frame_build.specs.Group.{frame_at, line_at}
 use Rattle.frame_build.specs.declared.FrameNote.{FrameNote}
 use Rattle.frame_build.specs.declared.LineNote.{LineNote}
@@ -30,12 +30,12 @@ use Rattle.source_end.specs.declared.mode.Mode.{Mode}
 use Rattle.source_end.specs.Content.{Frame as Content}
 use Rattle.source_end.specs.Raster.{total}
 use Rattle.source_end.specs.Formats.{formats, mode_in}
-use Rattle.listing.specs.Texts.{words_of}
-use Rattle.listing.specs.Fields.{with_fields}
-use Rattle.listing.specs.ContentText.{row_lines, has_other_size, vic_lines, frame_lines, clock_lines, sample_words, parity_words, side_lines, note_lines, sample_lines, is_usual_depth, depth_in, depth_lines, control_words, control_lines, avi_words, audio_words, spd_words, raw_words, info_words, checksum_words, info_lines, other_words, carried_lines, packet_lines, event_of, events, last_vic, lines_at, lines_after, content_lines}
-use Rattle.listing.specs.Listed.{Listed, row, frame, listed_at, listed_from, listed}
-use Rattle.listing.specs.Listed as pictures
-use Rattle.listing_laws.specs.FrameLaws.{active_at, counts, frames_came, is_told, next_at, row_at, row_bytes, row_end, rows_came, whole_frame}
+use Rattle.listing_writer.specs.Texts.{line_words}
+use Rattle.listing_writer.specs.Fields.{with_fields}
+use Rattle.listing_writer.specs.ContentText.{row_lines, has_other_size, vic_lines, frame_lines, clock_lines, sample_words, parity_words, side_lines, note_lines, sample_lines, is_usual_depth, depth_in, depth_lines, control_words, control_lines, avi_words, audio_words, spd_words, raw_words, info_words, checksum_words, info_lines, other_words, carried_lines, packet_lines, frame_event_of, frame_events, last_vic, lines_at, lines_after, content_lines}
+use Rattle.listing_writer.specs.Listed.{Listed, row, frame, listed_at, listed_from, listed}
+use Rattle.listing_writer.specs.Listed as pictures
+use Rattle.listing_laws.specs.FrameLaws.{active_at, counts, frames_received, is_reported, next_at, row_at, row_bytes, row_end, rows_received, whole_frame}
 use Rattle.listing_laws.specs.ListingLaws.{tells_picture, line_of, FrameLinesComeBack}
 use Rattle.listing_laws.proofs.Law.{frames_heard}
 
@@ -137,11 +137,11 @@ no_vic None note = refl
 no_vic (Some vic) note = choice_none (has_other_size (mode_in formats vic) note) _ [] refl refl
 
 -- the lines of a row, or of a frame
-abbrev told_lines : Listed → List (List ℕ)
-told_lines (row pixels note) = line_of (row pixels note) ∷ (if note.ragged then with_fields (codes "! ragged") (note.row ∷ []) ∷ [] else [])
-told_lines (frame note) = line_of (frame note) ∷ []
+abbrev reported_lines : Listed → List (List ℕ)
+reported_lines (row pixels note) = line_of (row pixels note) ∷ (if note.ragged then with_fields (codes "! ragged") (note.row ∷ []) ∷ [] else [])
+reported_lines (frame note) = line_of (frame note) ∷ []
 
-frame_line : (vic : Option ℕ) (o : Option FrameNote) → filter tells_picture (frame_lines vic o) ≡ flat_map told_lines (pictures.frame_lines o)
+frame_line : (vic : Option ℕ) (o : Option FrameNote) → filter tells_picture (frame_lines vic o) ≡ flat_map reported_lines (pictures.listed_frames o)
 unfolding frame_lines
 frame_line vic None = refl
 frame_line vic (Some note) = ap (λ (xs : List (List ℕ)). line_of (frame note) ∷ xs) (no_vic vic note)
@@ -151,80 +151,80 @@ ragged_line : (t : Bool) (n : ℕ)
 ragged_line true n = refl
 ragged_line false n = refl
 
-row_line : (pixels : List ℕ) (note : LineNote) → filter tells_picture (row_lines pixels note) ≡ flat_map told_lines (pictures.row_lines pixels note)
+row_line : (pixels : List ℕ) (note : LineNote) → filter tells_picture (row_lines pixels note) ≡ flat_map reported_lines (pictures.listed_rows pixels note)
 unfolding row_lines
 row_line pixels note = by_test note.counts
   where
-    by_test : (t : Bool) → filter tells_picture (if t then (codes "row " ++ encode_lower pixels) ∷ (if note.ragged then with_fields (codes "! ragged") (note.row ∷ []) ∷ [] else []) else []) ≡ flat_map told_lines (cond t (row pixels note ∷ []) [])
+    by_test : (t : Bool) → filter tells_picture (if t then (codes "row " ++ encode_lower pixels) ∷ (if note.ragged then with_fields (codes "! ragged") (note.row ∷ []) ∷ [] else []) else []) ≡ flat_map reported_lines (cond t (row pixels note ∷ []) [])
     by_test true = ap (λ (xs : List (List ℕ)). line_of (row pixels note) ∷ xs) (ragged_line note.ragged note.row)
     by_test false = refl
 
--- what is listed at a thing
-thing_lines : (told : List Thing) (thing : Thing) → filter tells_picture (lines_at told thing) ≡ flat_map told_lines (listed_at (events told) thing)
-unfolding lines_at event_of words_of
-thing_lines told (run value count) = frame_line (last_vic told) (frame_at (events told) (run_event value count))
-thing_lines told (line pixels) = row_line pixels (line_at (events told) (length pixels / 3))
-thing_lines told (packet p verdicts column) = no_packet p verdicts column
-thing_lines told (open_island a b) = refl
-thing_lines told (close_island a b) = refl
-thing_lines told (word lane j) = refl
-thing_lines told (short j) = refl
-thing_lines told (preamble j) = refl
-thing_lines told (noise j) = refl
-thing_lines told (empty j) = refl
-thing_lines told (code lane j) = refl
-thing_lines told (long_line j) = refl
-thing_lines told (cut j) = refl
-thing_lines told (symbols j count) = refl
-thing_lines told (mended j block bit) = refl
-thing_lines told (lost j block) = refl
-thing_lines told (long_island j) = refl
-thing_lines told (broken j) = refl
-thing_lines told (guard j) = refl
+-- what is listed at an event
+event_lines : (reported : List Event) (event : Event) → filter tells_picture (lines_at reported event) ≡ flat_map reported_lines (listed_at (frame_events reported) event)
+unfolding lines_at frame_event_of line_words
+event_lines reported (run value count) = frame_line (last_vic reported) (frame_at (frame_events reported) (run_frame_event value count))
+event_lines reported (line pixels) = row_line pixels (line_at (frame_events reported) (length pixels / 3))
+event_lines reported (packet p verdicts column) = no_packet p verdicts column
+event_lines reported (open_island a b) = refl
+event_lines reported (close_island a b) = refl
+event_lines reported (word lane j) = refl
+event_lines reported (short j) = refl
+event_lines reported (preamble j) = refl
+event_lines reported (noise j) = refl
+event_lines reported (empty j) = refl
+event_lines reported (code lane j) = refl
+event_lines reported (long_line j) = refl
+event_lines reported (cut j) = refl
+event_lines reported (symbols j count) = refl
+event_lines reported (mended j block bit) = refl
+event_lines reported (lost j block) = refl
+event_lines reported (long_island j) = refl
+event_lines reported (broken j) = refl
+event_lines reported (guard j) = refl
 
-all_lines : (told things : List Thing) → filter tells_picture (lines_after told things) ≡ flat_map told_lines (listed_from (events told) things)
+all_lines : (reported events : List Event) → filter tells_picture (lines_after reported events) ≡ flat_map reported_lines (listed_from (frame_events reported) events)
 unfolding lines_after listed_from
-all_lines told [] = refl
-all_lines told (thing ∷ things) =
-    filter-append tells_picture (lines_at told thing) (lines_after (told ++ thing ∷ []) things)
-    ∙ ap₂ (λ (xs ys : List (List ℕ)). xs ++ ys) (thing_lines told thing)
-    (all_lines (told ++ thing ∷ []) things ∙ ap (λ (es : List Event). flat_map told_lines (listed_from es things)) (map-append event_of told (thing ∷ [])))
-    ∙ sym (flat_map-append told_lines (listed_at (events told) thing) (listed_from (events told ++ event_of thing ∷ []) things))
+all_lines reported [] = refl
+all_lines reported (event ∷ events) =
+    filter-append tells_picture (lines_at reported event) (lines_after (reported ++ event ∷ []) events)
+    ∙ ap₂ (λ (xs ys : List (List ℕ)). xs ++ ys) (event_lines reported event)
+    (all_lines (reported ++ event ∷ []) events ∙ ap (λ (es : List FrameEvent). flat_map reported_lines (listed_from es events)) (map-append frame_event_of reported (event ∷ [])))
+    ∙ sym (flat_map-append reported_lines (listed_at (frame_events reported) event) (listed_from (frame_events reported ++ frame_event_of event ∷ []) events))
 
 -- No row that came is ragged.
 
 abbrev IsEven : List Listed → Type 0
-IsEven told = flat_map told_lines told ≡ map line_of told
+IsEven reported = flat_map reported_lines reported ≡ map line_of reported
 
 even_both : (xs ys : List Listed) → IsEven xs → IsEven ys → IsEven (xs ++ ys)
-even_both xs ys h k = flat_map-append told_lines xs ys ∙ ap₂ (λ (a b : List (List ℕ)). a ++ b) h k ∙ sym (map-append line_of xs ys)
+even_both xs ys h k = flat_map-append reported_lines xs ys ∙ ap₂ (λ (a b : List (List ℕ)). a ++ b) h k ∙ sym (map-append line_of xs ys)
 
 even_where : (t : Bool) (xs : List Listed) → IsEven xs → IsEven (cond t xs [])
 even_where true xs h = h
 even_where false xs h = refl
 
-even_rows : (mode : Mode) (sent received : List Column) (e p y : ℕ) (rows : List (List ℕ)) → IsEven (rows_came mode sent received e p y rows)
-unfolding rows_came
+even_rows : (mode : Mode) (sent received : List Column) (e p y : ℕ) (rows : List (List ℕ)) → IsEven (rows_received mode sent received e p y rows)
+unfolding rows_received
 even_rows mode sent received e p y [] = refl
 even_rows mode sent received e p y (bytes ∷ rows) =
     even_both (cond (nat_lt (p + row_end mode) e) (row (row_bytes sent received (p + row_at mode) bytes) (record { counts = true; ragged = false; row = y }) ∷ []) [])
-    (rows_came mode sent received e (p + total mode.across) (suc y) rows)
+    (rows_received mode sent received e (p + total mode.across) (suc y) rows)
     (even_where (nat_lt (p + row_end mode) e) (row (row_bytes sent received (p + row_at mode) bytes) (record { counts = true; ragged = false; row = y }) ∷ []) refl)
     (even_rows mode sent received e (p + total mode.across) (suc y) rows)
 
-even_frames : (mode : Mode) (sent received : List Column) (a e p : ℕ) (frames : List Content) → IsEven (frames_came mode sent received a e p frames)
-unfolding frames_came
+even_frames : (mode : Mode) (sent received : List Column) (a e p : ℕ) (frames : List Content) → IsEven (frames_received mode sent received a e p frames)
+unfolding frames_received
 even_frames mode sent received a e p [] = refl
 even_frames mode sent received a e p (f ∷ frames) =
-    let rows = rows_came mode sent received e (active_at mode p) 0 f.rows in
-    let last = cond (is_told mode received a e p) (whole_frame mode ∷ []) [] in
-    even_both (cond (counts mode received a e p) (rows ++ last) []) (frames_came mode sent received a e (next_at mode p) frames)
+    let rows = rows_received mode sent received e (active_at mode p) 0 f.rows in
+    let last = cond (is_reported mode received a e p) (whole_frame mode ∷ []) [] in
+    even_both (cond (counts mode received a e p) (rows ++ last) []) (frames_received mode sent received a e (next_at mode p) frames)
     (even_where (counts mode received a e p) (rows ++ last)
-    (even_both rows last (even_rows mode sent received e (active_at mode p) 0 f.rows) (even_where (is_told mode received a e p) (whole_frame mode ∷ []) refl)))
+    (even_both rows last (even_rows mode sent received e (active_at mode p) 0 f.rows) (even_where (is_reported mode received a e p) (whole_frame mode ∷ []) refl)))
     (even_frames mode sent received a e (next_at mode p) frames)
 
 pub frame_lines_come_back : FrameLinesComeBack
 unfolding content_lines
-frame_lines_come_back mode frames fault sent received came a m end le =
-    all_lines [] (heard (take m (drop a received))) ∙ ap (flat_map told_lines) (frames_heard mode frames fault sent received came a m end le)
+frame_lines_come_back mode frames fault sent received reception a m end le =
+    all_lines [] (heard (take m (drop a received))) ∙ ap (flat_map reported_lines) (frames_heard mode frames fault sent received reception a m end le)
     ∙ even_frames mode sent received a (a + m) 0 frames

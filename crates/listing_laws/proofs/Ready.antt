@@ -5,9 +5,9 @@ use Rattle.std.proofs.lemmas.Bool.{leb-true}
 use Rattle.std.proofs.lemmas.List.Folds.{list_all-append}
 use Rattle.tmds_word.proofs.Below.{and-left, and-right}
 use Rattle.terc4.specs.Columns.{one_if}
-use Rattle.frame_build.specs.Event.{Mark, column, gap, has_vsync}
+use Rattle.frame_build.specs.FrameEvent.{Mark, column, gap, has_vsync}
 use Rattle.frame_build.specs.Change.{three_have, newer, differ}
-use Rattle.listing.specs.Listed.{Listed}
+use Rattle.listing_writer.specs.Listed.{Listed}
 use Rattle.listing_laws.proofs.Machine.{hears, ends}
 use Rattle.listing_laws.proofs.Cells.{Cell, control, pixels, parted, State, wrongs, few, same, same_is, same_self, taken, turned, turned_recent, heard_at, column_state, column_said, step, said, after, says, fresh}
 

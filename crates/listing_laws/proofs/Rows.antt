@@ -7,16 +7,16 @@ use Rattle.std.proofs.lemmas.List.{drop-drop, drop-take, length-take, length-dro
 use Rattle.tmds_word.specs.Column.{Column}
 use Rattle.island_pack.specs.Periods.{Pixel, pixels_of}
 use Rattle.island_pack.specs.declared.packet.Packet.{Packet}
-use Rattle.frame_build.specs.Group.{is_unlike, told_count}
+use Rattle.frame_build.specs.Group.{is_unlike, reported_count}
 use Rattle.frame_build.specs.declared.LineNote.{LineNote}
-use Rattle.link_sink.specs.Account.{pixel_bytes}
+use Rattle.link_laws.specs.Account.{pixel_bytes}
 use Rattle.source_end.specs.declared.mode.Mode.{Mode}
 use Rattle.source_end.specs.Raster.{Part, pixels, columns, sync_at, guard_at, room, sync, back, active, total, until, whole, row_line}
 use Rattle.source_end.specs.Gathering.{size}
 use Rattle.source_end.proofs.RasterModes.{IsMode}
 use Rattle.source_end.proofs.RasterSizes.{size_until, row_fits}
 use Rattle.listing_laws.specs.FrameLaws.{row_at, row_end}
-use Rattle.listing.specs.Listed.{Listed, row_lines}
+use Rattle.listing_writer.specs.Listed.{Listed, listed_rows}
 use Rattle.listing_laws.proofs.Cells.{Cell, pixels as pixels_cell, parted, State, note_of, step, after, says, after_append, says_append}
 use Rattle.listing_laws.proofs.Ready.{Flat, flat_append, Ready, quiet, clear_trail, gap_clear}
 use Rattle.listing_laws.proofs.Parts.{row_cells, part_cells, parts_cells, parts_append}
@@ -85,8 +85,8 @@ like_first false y n = refl
 
 noted : (s : State) (b c : Bool) (y n : ℕ) → Ready s b c (replicate y n) → y ≤ 4096 → note_of s n ≡ note c y
 noted s b c y n was few =
-    let e : told_count (length (replicate y n)) ≡ y = let l = length-replicate y n in omega (arith, l, few) in
-    ap₂ (λ (x : Bool) (g : List ℕ). record { counts = x; ragged = x && is_unlike g n; row = told_count (length g) }) was.counting was.group
+    let e : reported_count (length (replicate y n)) ≡ y = let l = length-replicate y n in omega (arith, l, few) in
+    ap₂ (λ (x : Bool) (g : List ℕ). record { counts = x; ragged = x && is_unlike g n; row = reported_count (length g) }) was.counting was.group
     ∙ ap₂ (λ (x : Bool) (k : ℕ). record { counts = c; ragged = x; row = k }) (like_first c y n) e
 
 replicate_snoc : (y n : ℕ) → replicate y n ++ n ∷ [] ≡ replicate (suc y) n
@@ -94,7 +94,7 @@ replicate_snoc zero n = refl
 replicate_snoc (suc y) n = ap (λ (xs : List ℕ). n ∷ xs) (replicate_snoc y n)
 
 pub record IsRow (ts : List Cell) (s : State) (b c : Bool) (bytes : List ℕ) (y n : ℕ) : Type 0 where
-  pub listed : says ts s ≡ row_lines bytes (note c y)
+  pub listed : says ts s ≡ listed_rows bytes (note c y)
   pub ready : Ready (after ts s) b c (replicate (suc y) n)
 
 pub row_ready : (s : State) (b c : Bool) (g : List ℕ) (bytes : List ℕ) → Ready s b c g → Ready (step (pixels_cell bytes) s) b c (g ++ (length bytes / 3) ∷ [])
@@ -105,13 +105,13 @@ unfolding says after
 pixels_row s b c y n bytes was few e =
     let k = row_ready s b c (replicate y n) bytes was in
     record {
-      listed = append-nil _ ∙ ap (row_lines bytes) (ap (note_of s) e ∙ noted s b c y n was few);
+      listed = append-nil _ ∙ ap (listed_rows bytes) (ap (note_of s) e ∙ noted s b c y n was few);
       ready = subst (λ (g : List ℕ). Ready (step (pixels_cell bytes) s) b c g) (ap (λ (i : ℕ). replicate y n ++ i ∷ []) e ∙ replicate_snoc y n) k;
     }
 
-pub row_told : (s : State) (b c : Bool) (y m : ℕ) (ps : List Pixel) (ss rs : List Column) → Ready s b c (replicate y (length ps)) → y ≤ 4096 → 2 + length ps < m
+pub row_reported : (s : State) (b c : Bool) (y m : ℕ) (ps : List Pixel) (ss rs : List Column) → Ready s b c (replicate y (length ps)) → y ≤ 4096 → 2 + length ps < m
     → length (drop 2 ss) ≡ length ps → length (drop 2 rs) ≡ length ps → IsRow (row_cells m ps ss rs) s b c (pixel_bytes ps (drop 2 ss) (drop 2 rs)) y (length ps)
-row_told s b c y m ps ss rs was few lt d e =
+row_reported s b c y m ps ss rs was few lt d e =
     let l = bytes_length ps (drop 2 ss) (drop 2 rs) d e in
     let w : length (pixel_bytes ps (drop 2 ss) (drop 2 rs)) / 3 ≡ length ps = omega (arith, l) in
     subst (λ (ts : List Cell). IsRow ts s b c (pixel_bytes ps (drop 2 ss) (drop 2 rs)) y (length ps)) (sym (whole_row ps ss rs m lt))
@@ -183,7 +183,7 @@ row_seen mode ok bytes long ps ss rs e p lt ends_sent ends_received s c y few wa
     ap length received ∙ (let x = length-take (length bytes / 3) (drop (p + row_at mode) rs) in let z = length-drop (p + row_at mode) rs in omega (arith, x, z, k, l, lt, ends_received)) in
     let q = quiet b c (replicate y w) (seen ss rs e p first) s (seen_even b ss rs e p first (even_until mode line qs (guard_at mode))) was in
     let here = after (seen ss rs e p first) s in
-    let r = row_told here b c y (e - at) (pixels_of bytes) (take (2 + length bytes / 3) (drop at ss)) (take (2 + length bytes / 3) (drop at rs))
+    let r = row_reported here b c y (e - at) (pixels_of bytes) (take (2 + length bytes / 3) (drop at ss)) (take (2 + length bytes / 3) (drop at rs))
     (subst (λ (i : ℕ). Ready here b c (replicate y i)) (sym k) q.ready) few m d g in
     let video = row_cells (e - at) (pixels_of bytes) (take (2 + length bytes / 3) (drop at ss)) (take (2 + length bytes / 3) (drop at rs)) in
     let t = parts_cells ((e - at) - (2 + length bytes / 3)) (tail_of mode bytes) (drop (2 + length bytes / 3) (drop at ss)) (drop (2 + length bytes / 3) (drop at rs)) in
@@ -195,6 +195,6 @@ row_seen mode ok bytes long ps ss rs e p lt ends_sent ends_received s c y few wa
     record {
       listed = ap (λ (ts : List Cell). says ts s) all ∙ says_append (seen ss rs e p first) (video ++ t) s
           ∙ ap₂ (λ (xs ys : List Listed). xs ++ ys) q.nothing (says_append video t here ∙ ap₂ (λ (xs ys : List Listed). xs ++ ys) r.listed u.nothing ∙ append-nil _)
-          ∙ ap₂ (λ (cs ds : List Column). row_lines (pixel_bytes (pixels_of bytes) cs ds) (note c y)) sent received;
+          ∙ ap₂ (λ (cs ds : List Column). listed_rows (pixel_bytes (pixels_of bytes) cs ds) (note c y)) sent received;
       ready = subst (λ (x : State). Ready x b c (replicate (suc y) w)) (sym (ap (λ (ts : List Cell). after ts s) all ∙ after_append (seen ss rs e p first) (video ++ t) s ∙ after_append video t here)) u.ready;
     }

@@ -1,4 +1,4 @@
--- The lines of things that are no faults: all lines where nothing is one, and none of things that are faults alone.
+-- The lines of events that are no faults: all lines where nothing is one, and none of events that are faults alone.
 use Rattle.std.proofs.Common.{◌≡◌, ℕ, ◌+◌, Bool, true, false, not, cond, ◌==◌, List, [], ◌∷◌, ◌++◌, map, refl, ap, ap₂, sym, ◌∙◌, append_assoc}
 use Rattle.std.specs.Prelude.{Option, Some, None}
 use Rattle.std.proofs.lemmas.List.{map-append}
@@ -7,40 +7,40 @@ use Rattle.tmds_word.proofs.Below.{and-left, and-right}
 use Rattle.terc4.specs.Tables.{is_control}
 use Rattle.bch_block.specs.declared.Verdict.{Verdict}
 use Rattle.bch_block.specs.declared.Verdict.TheVariants.{Clean, Mended, Lost}
-use Rattle.lane_deskew.proofs.Computed.{not_true}
+use Rattle.link_laws.proofs.Computed.{not_true}
 use Rattle.island_pack.specs.declared.packet.PacketVerdicts.{PacketVerdicts}
-use Rattle.period_grammar.specs.Things.{Thing, preamble, guard, symbols, all_at, thing_of}
+use Rattle.period_grammar.specs.Events.{Event, preamble, guard, symbols, all_at, event_of}
 use Rattle.period_grammar.specs.Coding.{first_uncoded}
-use Rattle.period_grammar.specs.Exact.{is_fault_thing}
+use Rattle.period_grammar.specs.Exact.{is_fault_event}
 use Rattle.period_grammar.specs.Island.{if_so, block_fault, block_faults, packet_faults, wrong_guards}
 use Rattle.period_grammar.specs.Heard.{other_word, other_words, words, if_not, code_fault, codes_of}
-use Rattle.link_sink.proofs.Cutting.{things_at}
-use Rattle.link_sink.proofs.exact.Faultless.{Fine}
-use Rattle.listing.specs.Texts.{lines_of}
+use Rattle.period_grammar.proofs.Hearings.{events_at}
+use Rattle.link_laws.proofs.exact.Faultless.{Fine}
+use Rattle.listing_writer.specs.Texts.{lines_of}
 use Rattle.listing_laws.proofs.Text.{line_of}
 
-abbrev pub sound_lines : List Thing → List ℕ
+abbrev pub sound_lines : List Event → List ℕ
 sound_lines [] = []
-sound_lines (t ∷ ts) = cond (is_fault_thing t) [] (line_of t) ++ sound_lines ts
+sound_lines (t ∷ ts) = cond (is_fault_event t) [] (line_of t) ++ sound_lines ts
 
-pub sound_append : (ts us : List Thing) → sound_lines (ts ++ us) ≡ sound_lines ts ++ sound_lines us
+pub sound_append : (ts us : List Event) → sound_lines (ts ++ us) ≡ sound_lines ts ++ sound_lines us
 sound_append [] us = refl
 sound_append (t ∷ ts) us =
-    ap (λ (text : List ℕ). cond (is_fault_thing t) [] (line_of t) ++ text) (sound_append ts us)
-    ∙ sym (append_assoc (cond (is_fault_thing t) [] (line_of t)) (sound_lines ts) (sound_lines us))
+    ap (λ (text : List ℕ). cond (is_fault_event t) [] (line_of t) ++ text) (sound_append ts us)
+    ∙ sym (append_assoc (cond (is_fault_event t) [] (line_of t)) (sound_lines ts) (sound_lines us))
 
-pub all_sound : (ts : List Thing) → Fine ts → sound_lines ts ≡ lines_of ts
+pub all_sound : (ts : List Event) → Fine ts → sound_lines ts ≡ lines_of ts
 unfolding lines_of
 all_sound [] h = refl
 all_sound (t ∷ ts) h =
-    ap₂ (λ (fault : Bool) (text : List ℕ). cond fault [] (line_of t) ++ text) (not_true (is_fault_thing t) (and-left _ _ h)) (all_sound ts (and-right (not (is_fault_thing t)) _ h))
+    ap₂ (λ (fault : Bool) (text : List ℕ). cond fault [] (line_of t) ++ text) (not_true (is_fault_event t) (and-left _ _ h)) (all_sound ts (and-right (not (is_fault_event t)) _ h))
 
 -- ---- faults alone
 
-abbrev pub IsSilent : List Thing → Type 0
+abbrev pub IsSilent : List Event → Type 0
 IsSilent ts = sound_lines ts ≡ []
 
-pub silent_both : (ts us : List Thing) → IsSilent ts → IsSilent us → IsSilent (ts ++ us)
+pub silent_both : (ts us : List Event) → IsSilent ts → IsSilent us → IsSilent (ts ++ us)
 silent_both ts us h g = sound_append ts us ∙ ap₂ (λ (a b : List ℕ). a ++ b) h g
 
 silent_word : (lane j : ℕ) (sure : Bool) → IsSilent (other_word lane j sure)
@@ -53,12 +53,12 @@ silent_column j c =
     silent_both (other_word 0 j (is_control c.blue)) _ (silent_word 0 j (is_control c.blue))
     (silent_both (other_word 1 j (is_control c.green)) _ (silent_word 1 j (is_control c.green)) (silent_word 2 j (is_control c.red)))
 
-pub silent_words : (j : ℕ) (cs : List Column) → IsSilent (map thing_of (words j cs))
+pub silent_words : (j : ℕ) (cs : List Column) → IsSilent (map event_of (words j cs))
 silent_words j [] = refl
 silent_words j (c ∷ cs) =
     let rest = words (j + 1) cs in
-    ap sound_lines (map-append thing_of (all_at j (other_words j c)) rest ∙ ap (λ (ts : List Thing). ts ++ map thing_of rest) (things_at j (other_words j c)))
-    ∙ silent_both (other_words j c) (map thing_of rest) (silent_column j c) (silent_words (j + 1) cs)
+    ap sound_lines (map-append event_of (all_at j (other_words j c)) rest ∙ ap (λ (ts : List Event). ts ++ map event_of rest) (events_at j (other_words j c)))
+    ∙ silent_both (other_words j c) (map event_of rest) (silent_column j c) (silent_words (j + 1) cs)
 
 pub silent_preamble : (sure : Bool) (b : ℕ) → IsSilent (if_not sure (preamble b))
 silent_preamble true b = refl

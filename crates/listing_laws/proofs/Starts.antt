@@ -7,8 +7,8 @@ use Rattle.island_pack.specs.Periods.{DataIsland, Period, control as control_per
 use Rattle.island_pack.specs.declared.packet.Packet.{Packet}
 use Rattle.island_pack.specs.Kinds.{Kind, control_column, second_guard, pixel_column, packet_column, guard_pair, kinds_in, kinds_of, kind_at, EndsAt}
 use Rattle.island_pack.proofs.Runs.{join_values}
-use Rattle.lane_deskew.specs.Alternating.{IsMiddle, built}
-use Rattle.lane_deskew.proofs.Shapes.{middle_video, middle_island, where_ends}
+use Rattle.link_laws.specs.Alternating.{IsMiddle, built}
+use Rattle.link_laws.proofs.Shapes.{middle_video, middle_island, where_ends}
 use Rattle.source_end.specs.declared.mode.Mode.{Mode}
 use Rattle.source_end.specs.Raster.{Line, Part, column, pixels, packets, up_from, columns, sync_at, value_at, guard_at, sync, back, active, total, island_of, until, before, gathered}
 use Rattle.source_end.specs.Gathering.{size}
@@ -100,10 +100,6 @@ size_nothing = refl
 -- the end is in column 12
 at_twelve : (b : Bool) (parts : List Part) (i : ℕ) → i + 1 ≡ 12 → Begins b parts → Mute b parts → Found b parts i
 at_twelve b parts i e begins mute = record { front = []; mid = parts; are = refl; place = let z = size_nothing in omega (arith, z, e); begins = begins; mute = mute }
-
--- an island, the columns after it, and the rest
-island_kinds : (n t : ℕ) (rest : List Kind) → List Kind
-island_kinds n t rest = built 12 (guard_pair ++ (replicate (32 * n) packet_column ++ guard_pair)) (replicate t control_column ++ rest)
 
 length_island : (n : ℕ) → length (guard_pair ++ (replicate (32 * n) packet_column ++ guard_pair)) ≡ 4 + 32 * n
 length_island n = let l = length-replicate (32 * n) packet_column in omega (arith, length-append (replicate (32 * n) packet_column) guard_pair, l)

@@ -7,10 +7,10 @@ use Rattle.terc4.specs.Columns.{is_control_column}
 use Rattle.island_pack.specs.Periods.{Pixel, pixels_of}
 use Rattle.island_pack.specs.Spelling.{control_column}
 use Rattle.period_grammar.specs.Column.{value_of}
-use Rattle.frame_build.specs.Event.{vsync_of, Mark, column, gap, has_vsync}
+use Rattle.frame_build.specs.FrameEvent.{vsync_of, Mark, column, gap, has_vsync}
 use Rattle.frame_build.specs.Change.{three_have}
-use Rattle.link_sink.specs.Account.{pixel_bytes}
-use Rattle.link_sink.proofs.Cutting.{NoneControl}
+use Rattle.link_laws.specs.Account.{pixel_bytes}
+use Rattle.link_laws.proofs.Cutting.{NoneControl}
 use Rattle.source_end.specs.declared.mode.Mode.{Mode}
 use Rattle.source_end.specs.Raster.{level, Part, column as column_part, pixels, packets}
 use Rattle.listing_laws.specs.FrameLaws.{is_sync, has_sync}
@@ -163,9 +163,6 @@ past_quiet b (c ∷ own) rest (suc k) ms h =
 
 -- Parts.
 
-none_met_in : (b : Bool) (ms : List Mark) (cs : List Column) → met_in b ms (take 0 cs) ≡ false
-none_met_in b ms cs = refl
-
 row_one : (bytes : List ℕ) (b : Bool) (ns : List Mark) (cs : List Cell) → met b ns (pixels_cell bytes ∷ cs) ≡ met b (gap ∷ ns) cs
 unfolding met
 row_one bytes b ns cs = refl
@@ -203,19 +200,19 @@ unfolding met
 column_met b u v ns cs = refl
 
 -- a part that is a gap, and the parts behind it
-other_met : (b : Bool) (n : ℕ) (own came ss rs sent received : List Column) (parts : List Part) (k : ℕ) (ms ns : List Mark) → 1 ≤ n → IsOther n own came → ss ≡ own ++ sent → rs ≡ came ++ received
+other_met : (b : Bool) (n : ℕ) (own reception ss rs sent received : List Column) (parts : List Part) (k : ℕ) (ms ns : List Mark) → 1 ≤ n → IsOther n own reception → ss ≡ own ++ sent → rs ≡ reception ++ received
     → (met_in b (gap ∷ []) (take (suc k - n) received) ≡ met b (gap ∷ ns) (parts_cells (suc k - n) parts sent received))
     → met_in b ms (take (suc k) rs) ≡ met b (gap ∷ ns) (parts_cells (suc k - n) parts (drop n ss) (drop n rs))
 other_met b n own [] ss rs sent received parts k ms ns some o e d h = absurd (let l = o.received in omega (arith, l, some))
-other_met b n own (c ∷ came) ss rs sent received parts k ms ns some o e d h =
+other_met b n own (c ∷ reception) ss rs sent received parts k ms ns some o e d h =
     let l = o.received in
-    let q : k - length came ≡ suc k - n = omega (arith, l) in
+    let q : k - length reception ≡ suc k - n = omega (arith, l) in
     let s = ap (drop n) e ∙ drop_front n own sent o.sent in
-    let r = ap (drop n) d ∙ drop_front n (c ∷ came) received o.received in
+    let r = ap (drop n) d ∙ drop_front n (c ∷ reception) received o.received in
     ap (λ (cs : List Column). met_in b ms (take (suc k) cs)) d
-    ∙ ap (λ (m : Mark). three_have b (m ∷ ms) || met_in b (m ∷ ms) (take k (came ++ received))) (quiet_mark c (and-left (not (is_control_column c)) _ o.quiet))
-    ∙ ap (λ (t : Bool). t || met_in b (gap ∷ ms) (take k (came ++ received))) (three_gap b ms)
-    ∙ past_quiet b came received k ms (and-right (not (is_control_column c)) _ o.quiet)
+    ∙ ap (λ (m : Mark). three_have b (m ∷ ms) || met_in b (m ∷ ms) (take k (reception ++ received))) (quiet_mark c (and-left (not (is_control_column c)) _ o.quiet))
+    ∙ ap (λ (t : Bool). t || met_in b (gap ∷ ms) (take k (reception ++ received))) (three_gap b ms)
+    ∙ past_quiet b reception received k ms (and-right (not (is_control_column c)) _ o.quiet)
     ∙ ap (λ (i : ℕ). met_in b (gap ∷ []) (take i received)) q
     ∙ h
     ∙ sym (ap₂ (λ (xs ys : List Column). met b (gap ∷ ns) (parts_cells (suc k - n) parts xs ys)) s r)

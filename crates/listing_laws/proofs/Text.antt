@@ -2,16 +2,16 @@
 use Rattle.std.specs.Prelude.{ℕ, List, [], ◌∷◌, ◌++◌, codes}
 use Rattle.island_pack.specs.Periods.{ControlRun, Period, control, video, island}
 use Rattle.island_pack.specs.declared.packet.Packet.{Packet}
-use Rattle.period_grammar.specs.Things.{Thing, run, line, open_island, packet, close_island}
-use Rattle.listing.specs.Texts.{words_of}
+use Rattle.period_grammar.specs.Events.{Event, run, line, open_island, packet, close_island}
+use Rattle.listing_writer.specs.Texts.{line_words}
 
--- the line of a thing
-abbrev pub line_of : Thing → List ℕ
-line_of t = words_of t ++ codes "\n"
+-- the line of an event
+abbrev pub line_of : Event → List ℕ
+line_of t = line_words t ++ codes "\n"
 
--- a packet as a thing: its line has neither its verdicts nor its column
-abbrev pub told_packet : Packet → Thing
-told_packet p = packet p (record { blocks = []; symbols = 0 }) 0
+-- a packet as an event: its line has neither its verdicts nor its column
+abbrev pub reported_packet : Packet → Event
+reported_packet p = packet p (record { blocks = []; symbols = 0 }) 0
 
 unfoldable pub run_lines : List ControlRun → List ℕ
 run_lines [] = []
@@ -19,7 +19,7 @@ run_lines (r ∷ rs) = line_of (run r.value r.count) ++ run_lines rs
 
 unfoldable pub packet_lines : List Packet → List ℕ
 packet_lines [] = []
-packet_lines (p ∷ ps) = line_of (told_packet p) ++ packet_lines ps
+packet_lines (p ∷ ps) = line_of (reported_packet p) ++ packet_lines ps
 
 -- a control period is a line for each run, a video data period is one line `v X`, and a data island is a line `i AB`, a line
 -- for each packet and a line `e AB`

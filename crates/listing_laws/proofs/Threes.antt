@@ -1,7 +1,7 @@
 -- Three neighbouring columns of one level among cells, and when their level is heard.
 use Rattle.std.proofs.Common.{◌≡◌, ◌+◌, ◌≤◌, Bool, true, false, not, ◌&&◌, ◌||◌, List, [], ◌∷◌, ◌++◌, length, Option, Some, refl, sym, ap, ap₂, subst, ◌∙◌, arith, inl, inr, ◌⊎◌}
 use Rattle.tmds_word.proofs.Below.{and-left, and-right}
-use Rattle.frame_build.specs.Event.{Mark, column, gap, has_vsync}
+use Rattle.frame_build.specs.FrameEvent.{Mark, column, gap, has_vsync}
 use Rattle.frame_build.specs.Change.{three_have, newer, differ}
 use Rattle.listing_laws.proofs.Machine.{hears}
 use Rattle.listing_laws.proofs.Cells.{Cell, control, pixels, parted, State, few, same, same_is, same_self, taken_is, heard_at, column_state, step, after, fine}
@@ -55,8 +55,8 @@ length_push (pixels bytes ∷ ts) xs = let e = length_push ts (gap ∷ xs) in om
 length_push (parted ∷ ts) xs = let e = length_push ts (gap ∷ xs) in omega (arith, e)
 
 -- behind two cells it is no matter what was before them
-pub met_behind : (b : Bool) (xs : List Cell) (ms : List Mark) (ys : List Cell) → 2 ≤ length xs → met b (push xs ms) ys ≡ met b (push xs []) ys
-met_behind b xs ms ys le =
+pub met_after : (b : Bool) (xs : List Cell) (ms : List Mark) (ys : List Cell) → 2 ≤ length xs → met b (push xs ms) ys ≡ met b (push xs []) ys
+met_after b xs ms ys le =
     ap (λ (ns : List Mark). met b ns ys) (push_more xs [] ms) ∙ by_marks (push xs []) (let e = length_push xs [] in omega (arith, e, le))
   where
     by_marks : (ns : List Mark) → 2 ≤ length ns → met b (ns ++ ms) ys ≡ met b ns ys

@@ -14,12 +14,12 @@ use Rattle.terc4.proofs.Members.{passes_all, passes_in}
 use Rattle.island_pack.specs.Periods.{Period, control, video, island, values_of, pixels_of}
 use Rattle.island_pack.specs.Conforming.{are_bytes, IsConforming}
 use Rattle.island_pack.specs.Packets.{Carries}
-use Rattle.island_pack.specs.Spelling.{control_column, SpellsPixels, guard_column, guard_columns, words_of, SpellsPackets, Spells}
+use Rattle.island_pack.specs.Spelling.{control_column, SpellsPixels, guard_column, guard_columns, column_words, SpellsPackets, Spells}
 use Rattle.island_pack.specs.Sparse.{unlike_words, AreFew, no_column, column_at, IsNarrow, IsSparse}
 use Rattle.island_pack.specs.declared.packet.Packet.{Packet}
-use Rattle.link_sink.specs.Laws.{CameOf}
-use Rattle.link_sink.proofs.Conformed.{conforming, HasValues, has_values}
-use Rattle.link_sink.proofs.SpelledWords.{small_blue, small_green, small_red}
+use Rattle.link_laws.specs.Laws.{ReceivedOf}
+use Rattle.link_laws.proofs.Conformed.{conforming, HasValues, has_values}
+use Rattle.link_laws.proofs.SpelledWords.{small_blue, small_green, small_red}
 
 -- Words of ten bits.
 
@@ -114,11 +114,11 @@ narrow_pixels bytes pp small h = narrow_from pp (λ j lt. record {
   red = pixel_small (λ c. c.red) (map (λ p. p.red) (pixels_of bytes)) pp (small_red bytes small) h.red j lt;
 })
 
-narrow_packet : (p : Packet) (first : Bool) (own : List Column) → Carries p first (map words_of own) → AreNarrow own
+narrow_packet : (p : Packet) (first : Bool) (own : List Column) → Carries p first (map column_words own) → AreNarrow own
 narrow_packet p first own h = narrow_from own (λ i lt.
-    let many = length-map own words_of in
-    let words : get_or (map words_of own) i [] ≡ words_of (column_at own i) = get_or-map words_of own i no_column [] lt in
-    let small : (lane : ℕ) → lane < 3 → get_or (words_of (column_at own i)) lane 0 < 1024 =
+    let many = length-map own column_words in
+    let words : get_or (map column_words own) i [] ≡ column_words (column_at own i) = get_or-map column_words own i no_column [] lt in
+    let small : (lane : ℕ) → lane < 3 → get_or (column_words (column_at own i)) lane 0 < 1024 =
     λ lane within. carried_small _ (subst (λ ws. is_terc (get_or ws lane 0) ≡ true) words (h.free.terc lane within i [] (omega arith))) in
     record { blue = small 0 (omega arith); green = small 1 (omega arith); red = small 2 (omega arith) })
 
@@ -156,14 +156,14 @@ spared : (ps : List Period) (cs : List Column) → AreNarrow cs → IsSparse ps 
 spared ps cs narrow = record {
   same_length = refl;
   characters = narrow_at cs narrow;
-  one_a_column = λ i. let e = none_unlike (words_of (column_at cs i)) in omega (arith, e);
-  one_a_pair = λ i guard. let e = none_unlike (words_of (column_at cs i)) in let f = none_unlike (words_of (column_at cs (i + 1))) in omega (arith, e, f);
+  one_a_column = λ i. let e = none_unlike (column_words (column_at cs i)) in omega (arith, e);
+  one_a_pair = λ i guard. let e = none_unlike (column_words (column_at cs i)) in let f = none_unlike (column_words (column_at cs (i + 1))) in omega (arith, e, f);
   few_blue = few_unlike (blues cs);
   few_green = few_unlike (greens cs);
   few_red = few_unlike (reds cs);
 }
 
-pub undamaged : (ps : List Period) (cs : List Column) → IsConforming ps → Spells ps cs → CameOf ps cs cs
+pub undamaged : (ps : List Period) (cs : List Column) → IsConforming ps → Spells ps cs → ReceivedOf ps cs cs
 undamaged ps cs good spelled = record {
   conforming = good;
   spelled = spelled;

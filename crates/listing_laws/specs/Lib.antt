@@ -3,3 +3,4 @@ pub mod PacketLaws
 pub mod ListingLaws
 pub mod LinkLaws
 pub mod Rasters
+pub mod Exact

@@ -4,10 +4,10 @@ use Rattle.tmds_word.specs.Column.{Column}
 use Rattle.island_pack.specs.Periods.{Period, columns_of}
 use Rattle.island_pack.specs.Conforming.{IsConforming}
 use Rattle.island_pack.specs.Spelling.{Spells}
-use Rattle.link_sink.specs.Account.{account}
-use Rattle.listing.specs.LineSteps.{accepts}
-use Rattle.listing.specs.Reading.{reads_as}
-use Rattle.listing.specs.Texts.{link_text}
+use Rattle.link_laws.specs.Account.{account}
+use Rattle.listing_reader.specs.LineSteps.{accepts}
+use Rattle.listing_reader.specs.Reading.{reads_as}
+use Rattle.listing_writer.specs.Texts.{link_text}
 
 -- the listing of a stream that came whole and undamaged reads back as a stream with the same columns
 unfoldable pub AccountReadsBack : Type 0

@@ -4,24 +4,24 @@ use Rattle.std.specs.List.{filter}
 use Rattle.hex.specs.Hex.{encode_lower}
 use Rattle.tmds_word.specs.Column.{Column}
 use Rattle.island_pack.specs.Periods.{Period}
-use Rattle.island_pack.specs.Spelling.{words_of}
+use Rattle.island_pack.specs.Spelling.{column_words}
 use Rattle.island_pack.specs.Packets.{Carries}
 use Rattle.island_pack.specs.Taken.{spotless}
 use Rattle.island_pack.specs.declared.packet.Packet.{Packet}
 use Rattle.island_pack.specs.declared.packet.PacketVerdicts.{PacketVerdicts}
 use Rattle.island_pack.specs.Repaired.{verdicts_of}
 use Rattle.period_grammar.specs.Heard.{heard}
-use Rattle.link_sink.specs.Account.{damage, packet_row}
-use Rattle.link_sink.specs.Laws.{CameOf, EndsControl}
+use Rattle.link_laws.specs.Account.{damage, packet_row}
+use Rattle.link_laws.specs.Laws.{ReceivedOf, EndsControl}
 use Rattle.source_end.specs.declared.mode.Mode.{Mode}
 use Rattle.source_end.specs.Content.{Frame}
 use Rattle.source_end.specs.Raster.{raster_of}
 use Rattle.source_end.specs.RasterRefusals.{raster_fault}
-use Rattle.listing.specs.Fields.{with_fields, begins_with}
-use Rattle.listing.specs.ContentText.{packet_lines, content_lines}
-use Rattle.listing.specs.Listed.{Listed, row, frame}
-use Rattle.listing_laws.specs.FrameLaws.{frames_came}
-use Rattle.listing_laws.specs.PacketLaws.{IsAsSent, Placed, placed, ToldPacket, came_packet}
+use Rattle.listing_writer.specs.Fields.{with_fields, begins_with}
+use Rattle.listing_writer.specs.ContentText.{packet_lines, content_lines}
+use Rattle.listing_writer.specs.Listed.{Listed, row, frame}
+use Rattle.listing_laws.specs.FrameLaws.{frames_received}
+use Rattle.listing_laws.specs.PacketLaws.{IsAsSent, Placed, placed, ReportedPacket, received_packet}
 
 -- a line `row ..`, `frame ..` or `! ragged ..`
 abbrev pub tells_picture : List ℕ → Bool
@@ -36,9 +36,9 @@ line_of (frame note) = with_fields (codes "frame") (note.width ∷ note.height �
 abbrev pub FrameLinesComeBack : Type 0
 FrameLinesComeBack =
     (mode : Mode) (frames : List Frame) → raster_fault mode frames ≡ None
-    → (sent received : List Column) → CameOf (raster_of mode frames) sent received
+    → (sent received : List Column) → ReceivedOf (raster_of mode frames) sent received
     → (a m : ℕ) → EndsControl (raster_of mode frames) (a + 11) → a + m ≤ length received
-    → filter tells_picture (content_lines (heard (take m (drop a received)))) ≡ map line_of (frames_came mode sent received a (a + m) 0 frames)
+    → filter tells_picture (content_lines (heard (take m (drop a received)))) ≡ map line_of (frames_received mode sent received a (a + m) 0 frames)
 
 -- the content lines of a packet are those of its header and its bodies
 abbrev pub LinesOfPayload : Type 0
@@ -48,7 +48,7 @@ LinesOfPayload =
 -- the content lines of a packet of which at most one word came unlike are those of the packet as it was sent
 abbrev pub PacketLinesAsSent : Type 0
 PacketLinesAsSent =
-    (p : Packet) (first : Bool) (sent received : List Column) → Carries p first (map words_of sent) → length received ≡ 32
+    (p : Packet) (first : Bool) (sent received : List Column) → Carries p first (map column_words sent) → length received ≡ 32
     → damage sent received ≤ 1 → (column : ℕ) → packet_lines (packet_row p sent received) (verdicts_of received) column ≡ packet_lines p spotless column
 
 -- each of these packets
@@ -61,17 +61,17 @@ abbrev pub unlike_in : List Column → List Column → Placed → ℕ
 unlike_in sent received k = damage (take 32 (drop k.at sent)) (take 32 (drop k.at received))
 
 -- the content lines of a told packet
-abbrev pub told_lines : ToldPacket → List (List ℕ)
-told_lines told = packet_lines told.packet told.verdicts told.column
+abbrev pub reported_lines : ReportedPacket → List (List ℕ)
+reported_lines reported = packet_lines reported.packet reported.verdicts reported.column
 
 -- so are those of each packet of periods, as it is told in columns from column a on
 abbrev pub PacketLinesComeBack : Type 0
 PacketLinesComeBack =
-    (periods : List Period) (sent received : List Column) → CameOf periods sent received → (a : ℕ)
-    → Each (λ k. unlike_in sent received k ≤ 1 → told_lines (came_packet sent received a k) ≡ packet_lines k.packet spotless (k.at - a)) (placed 0 periods)
+    (periods : List Period) (sent received : List Column) → ReceivedOf periods sent received → (a : ℕ)
+    → Each (λ k. unlike_in sent received k ≤ 1 → reported_lines (received_packet sent received a k) ≡ packet_lines k.packet spotless (k.at - a)) (placed 0 periods)
 
 -- each packet of periods of which at most one word came unlike is told with its header and bodies, and none of its blocks is lost
 abbrev pub PacketsAsSent : Type 0
 PacketsAsSent =
-    (periods : List Period) (sent received : List Column) → CameOf periods sent received → (a : ℕ)
-    → Each (λ k. unlike_in sent received k ≤ 1 → IsAsSent k.packet (came_packet sent received a k).packet (came_packet sent received a k).verdicts) (placed 0 periods)
+    (periods : List Period) (sent received : List Column) → ReceivedOf periods sent received → (a : ℕ)
+    → Each (λ k. unlike_in sent received k ≤ 1 → IsAsSent k.packet (received_packet sent received a k).packet (received_packet sent received a k).verdicts) (placed 0 periods)

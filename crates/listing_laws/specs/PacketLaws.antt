@@ -3,15 +3,15 @@ use Rattle.std.specs.Prelude.{◌≡◌, ℕ, ◌+◌, ◌-◌, ◌<◌, ◌≤�
 use Rattle.tmds_word.specs.Column.{Column}
 use Rattle.bch_block.specs.declared.Verdict.TheVariants.{Lost}
 use Rattle.island_pack.specs.Periods.{Period, control, video, island, period_columns}
-use Rattle.island_pack.specs.Spelling.{words_of}
+use Rattle.island_pack.specs.Spelling.{column_words}
 use Rattle.island_pack.specs.Packets.{Carries}
 use Rattle.island_pack.specs.Taken.{verdict_on}
 use Rattle.island_pack.specs.declared.packet.Packet.{Packet}
 use Rattle.island_pack.specs.declared.packet.PacketVerdicts.{PacketVerdicts}
-use Rattle.period_grammar.specs.Things.{Thing, packet}
+use Rattle.period_grammar.specs.Events.{Event, packet}
 use Rattle.island_pack.specs.Repaired.{verdicts_of}
-use Rattle.link_sink.specs.Account.{damage, packet_row, account}
-use Rattle.link_sink.specs.Laws.{CameOf, EndsControl}
+use Rattle.link_laws.specs.Account.{damage, packet_row, account}
+use Rattle.link_laws.specs.Laws.{ReceivedOf, EndsControl}
 use Rattle.source_end.specs.declared.mode.Mode.{Mode}
 use Rattle.source_end.specs.Content.{Frame}
 use Rattle.source_end.specs.Raster.{raster_of}
@@ -34,49 +34,49 @@ placed x (video bytes ∷ periods) = placed (x + period_columns (video bytes)) p
 placed x (island i ∷ periods) = each_at (x + 2) i.packets ++ placed (x + period_columns (island i)) periods
 
 -- a packet as it is told
-pub record ToldPacket : Type 0 where
+pub record ReportedPacket : Type 0 where
   pub packet : Packet
   pub verdicts : PacketVerdicts
   pub column : ℕ
 
-abbrev pub told_packet : Thing → List ToldPacket
-told_packet (packet p verdicts column) = record { packet = p; verdicts = verdicts; column = column } ∷ []
-told_packet _ = []
+abbrev pub reported_packet : Event → List ReportedPacket
+reported_packet (packet p verdicts column) = record { packet = p; verdicts = verdicts; column = column } ∷ []
+reported_packet _ = []
 
-unfoldable pub told_packets : List Thing → List ToldPacket
-told_packets [] = []
-told_packets (thing ∷ things) = told_packet thing ++ told_packets things
+unfoldable pub reported_packets : List Event → List ReportedPacket
+reported_packets [] = []
+reported_packets (event ∷ events) = reported_packet event ++ reported_packets events
 
-abbrev pub came_packet : List Column → List Column → ℕ → Placed → ToldPacket
-came_packet sent received a k = record {
+abbrev pub received_packet : List Column → List Column → ℕ → Placed → ReportedPacket
+received_packet sent received a k = record {
   packet = packet_row k.packet (take 32 (drop k.at sent)) (take 32 (drop k.at received));
   verdicts = verdicts_of (take 32 (drop k.at received));
   column = k.at - a;
 }
 
 -- of placed packets those that came whole, in columns a up to e
-unfoldable pub packets_came : List Column → List Column → ℕ → ℕ → List Placed → List ToldPacket
-packets_came sent received a e [] = []
-packets_came sent received a e (k ∷ ks) =
-    cond (nat_le a k.at && nat_le (k.at + 32) e) (came_packet sent received a k ∷ []) [] ++ packets_came sent received a e ks
+unfoldable pub packets_received : List Column → List Column → ℕ → ℕ → List Placed → List ReportedPacket
+packets_received sent received a e [] = []
+packets_received sent received a e (k ∷ ks) =
+    cond (nat_le a k.at && nat_le (k.at + 32) e) (received_packet sent received a k ∷ []) [] ++ packets_received sent received a e ks
 
 -- the packets that are told are those that came whole, in order
 abbrev pub PacketsComeBack : Type 0
 PacketsComeBack =
-    (periods : List Period) (sent received : List Column) → CameOf periods sent received
+    (periods : List Period) (sent received : List Column) → ReceivedOf periods sent received
     → (a m : ℕ) → EndsControl periods (a + 11) → a + m ≤ length received
-    → told_packets (account periods sent received a m) ≡ packets_came sent received a (a + m) (placed 0 periods)
+    → reported_packets (account periods sent received a m) ≡ packets_received sent received a (a + m) (placed 0 periods)
 
 -- a packet told as it was sent, but for its sync values: no block of it is lost, so its content lines are those of the packet
-pub record IsAsSent (p : Packet) (told : Packet) (verdicts : PacketVerdicts) : Type 0 where
-  pub header : told.header ≡ p.header
-  pub bodies : told.bodies ≡ p.bodies
+pub record IsAsSent (p : Packet) (reported : Packet) (verdicts : PacketVerdicts) : Type 0 where
+  pub header : reported.header ≡ p.header
+  pub bodies : reported.bodies ≡ p.bodies
   pub kept : (b : ℕ) → b < 5 → verdict_on verdicts b ≡ Lost → ⊥
 
 -- so is each of which at most one word came unlike
 abbrev pub OneWordAsSent : Type 0
 OneWordAsSent =
-    (p : Packet) (first : Bool) (sent received : List Column) → Carries p first (map words_of sent) → length received ≡ 32
+    (p : Packet) (first : Bool) (sent received : List Column) → Carries p first (map column_words sent) → length received ≡ 32
     → damage sent received ≤ 1 → IsAsSent p (packet_row p sent received) (verdicts_of received)
 
 -- header and bodies, which a raster does not change

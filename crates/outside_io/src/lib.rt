@@ -5,7 +5,7 @@
 //! count that rose.
 #![tactic(auto)]
 
-ghost use Rattle.std.specs.Prelude.{◌≡◌, ℕ, ◌^◌, ◌<◌, ◌≤◌, List, [], length, take, Option, Ok, IfOk, IfErr, OnOk};
+ghost use Rattle.std.specs.Prelude.{◌≡◌, ℕ, ◌^◌, ◌<◌, ◌≤◌, List, [], ◌++◌, length, take, drop, min, Option, Ok, IfOk, IfErr, OnOk};
 ghost use Rattle.std.specs.Io.KnownBytes.{Appends, Consumes, IsAtEnd, ReadConsumes, WriteAppends};
 ghost use Rattle.outside_io.specs.Causes.{HasCause};
 ghost use Rattle.outside_io.specs.Known.{EndsExactly};
@@ -49,7 +49,7 @@ pub struct Wrote {
 /// How many bytes came before a read failed.
 #[derive(Clone, Copy, Debug, PartialEq, Eq)]
 pub struct Got {
-    pub came: usize,
+    pub arrived: usize,
 }
 
 /// Gives bytes in order.
@@ -118,20 +118,30 @@ pub fn read_full<S: Source>(source: &mut S, into: &mut [u8]) -> Result<usize, Go
         Consumes (S.left source.old) (S.left source.new) (take n into.new)) }
     ensures end { IfOk result (λ n. n < length into.new → IsAtEnd (S.left source.new)) }
     ensures part { IfErr result (λ g.
-        Consumes (S.left source.old) (S.left source.new) (take g.came into.new)) }
-    ensures missing { IfErr result (λ g. g.came < length into.new) }
+        Consumes (S.left source.old) (S.left source.new) (take g.arrived into.new)) }
+    ensures missing { IfErr result (λ g. g.arrived < length into.new) }
     ensures taken { (taken : List ℕ) × Consumes (S.left source.old) (S.left source.new) taken }
     ensures cause { HasCause (S.faults source.old) (S.faults source.new) result }
 {
-    let mut came = 0;
-    while came < into.len() {
-        match source.read(&mut into[came..]) {
-            Ok(0) => return Ok(came),
-            Ok(count) => came += count,
-            Err(_) => return Err(Got { came }),
+    let mut arrived = 0;
+    while arrived < into.len() {
+        match source.read(&mut into[arrived..]) {
+            Ok(0) => return Ok(arrived),
+            Ok(count) => arrived += count,
+            Err(_) => return Err(Got { arrived }),
         }
     }
-    Ok(came)
+    Ok(arrived)
+}
+
+/// Copies as many bytes as both have to the front of `into`, and says how many.
+pub fn copy_front(from: &[u8], into: &mut [u8]) -> usize
+    ensures count { result ≡ min (length from.now) (length into.old) }
+    ensures copied { into.new ≡ take result from.now ++ drop result into.old }
+{
+    let count = from.len().min(into.len());
+    into[..count].copy_from_slice(&from[..count]);
+    count
 }
 
 #[cfg(test)]

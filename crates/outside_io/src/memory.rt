@@ -5,7 +5,7 @@ ghost use Rattle.outside_io.specs.Causes.{next, HasCause};
 ghost use Rattle.outside_io.specs.Known.{EndsExactly};
 ghost use Rattle.outside_io.specs.Memory.{Feed, Store};
 
-use crate::{Failed, NoMemory, Sink, Source};
+use crate::{Failed, NoMemory, Sink, Source, copy_front};
 use std::alloc::Global;
 use std::marker::Model;
 
@@ -38,16 +38,6 @@ impl Model for MemSource {
       gives : 1 ≤ s.piece;
       counted : s.faults < 2 ^ 64;
     } };
-}
-
-// Copies as many bytes as both have to the front of `into`, and says how many.
-pub(crate) fn copy_front(from: &[u8], into: &mut [u8]) -> usize
-    ensures count { result ≡ min (length from.now) (length into.old) }
-    ensures copied { into.new ≡ take result from.now ++ drop result into.old }
-{
-    let count = from.len().min(into.len());
-    into[..count].copy_from_slice(&from[..count]);
-    count
 }
 
 impl MemSource {

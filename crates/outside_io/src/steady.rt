@@ -4,8 +4,7 @@ ghost use Rattle.std.specs.Io.KnownBytes.{ReadConsumes, WriteAppends};
 ghost use Rattle.outside_io.specs.Causes.{HasCause};
 ghost use Rattle.outside_io.specs.Known.{EndsExactly};
 
-use crate::memory::copy_front;
-use crate::{Failed, Sink, Source};
+use crate::{Failed, Sink, Source, copy_front};
 use std::marker::Model;
 
 /// Gives its bytes, and never fails. It is seen as the bytes still to come.

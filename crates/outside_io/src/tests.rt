@@ -106,7 +106,10 @@ fn adapts_readers(rt: HostRuntime) {
     assert_eq!(rt; into, *b"oell");
     assert_eq!(rt; read_full(&mut source, &mut into), Ok(0));
     let mut unsteady = ReadSource::new(Unsteady { calls: 0 });
-    assert_eq!(rt; read_full(&mut unsteady, &mut into), Err(Got { came: 2 }));
+    assert_eq!(rt;
+        read_full(&mut unsteady, &mut into),
+        Err(Got { arrived: 2 })
+    );
     assert_eq!(rt; into, *b"\x01\x02ll");
     assert_eq!(rt; unsteady.read(&mut into), Ok(1));
     assert_eq!(rt; into, *b"\x04\x02ll");

@@ -6,7 +6,7 @@ use Rattle.tmds_word.specs.Column.{Column}
 use Rattle.terc4.specs.Tables.{control_words, is_control, is_in, value_in}
 use Rattle.period_grammar.specs.Column.{control_bits, value_of}
 use Rattle.period_grammar.specs.GoesOn.{is_whole, is_alike, goes_kept}
-use Rattle.period_grammar.specs.declared.control.Kept.{Kept}
+use Rattle.period_grammar.specs.declared.control.ControlState.{ControlState}
 use Rattle.period_grammar.proofs.Going.{IsWhole, both, whole_is}
 
 one_of : (a b : Bool) → (a || b) ≡ true → (a ≡ true) ⊎ (b ≡ true)
@@ -71,7 +71,7 @@ three true false c e f g = cc
 three false b c e f g = cc
 
 -- what has the words of a column that goes on with the last run goes on with it, and nothing else does
-pub alike_goes : (kept : Kept) (c : Column) → goes_kept kept c ≡ true → (d : Column) → is_alike c d ≡ goes_kept kept d
+pub alike_goes : (kept : ControlState) (c : Column) → goes_kept kept c ≡ true → (d : Column) → is_alike c d ≡ goes_kept kept d
 alike_goes kept c goes d =
     let whole = whole_is kept.value c (both (not (kept.run == 0)) (is_whole kept.value c) goes).1 in
     same_test (is_alike c d) (goes_kept kept d)

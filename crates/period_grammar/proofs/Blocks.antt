@@ -6,17 +6,17 @@ use Rattle.bch_block.specs.declared.Verdict.{Verdict}
 use Rattle.bch_block.specs.declared.Verdict.TheVariants.{Clean}
 use Rattle.island_pack.specs.declared.packet.Packet.{Packet as PacketOf}
 use Rattle.island_pack.specs.declared.packet.PacketVerdicts.{PacketVerdicts}
-use Rattle.island_pack.specs.Spelling.{words_of}
+use Rattle.island_pack.specs.Spelling.{column_words}
 use Rattle.island_pack.specs.Repaired.{packet_of, verdicts_of}
 use Rattle.tmds_word.specs.Column.{Column}
 use Rattle.period_grammar.specs.Column.{sync_digit}
 use Rattle.terc4.specs.Columns.{is_island_guard, closing_words, closes}
-use Rattle.period_grammar.specs.Noted.{things, Lent}
-use Rattle.period_grammar.specs.declared.notes.Note.{Note}
-use Rattle.period_grammar.specs.declared.notes.Note.TheVariants.{Close, Packet as PacketNote}
+use Rattle.period_grammar.specs.Noted.{events, Lent}
+use Rattle.period_grammar.specs.declared.event_queue.QueuedEvent.{QueuedEvent}
+use Rattle.period_grammar.specs.declared.event_queue.QueuedEvent.TheVariants.{Close, Packet as PacketNote}
 use Rattle.period_grammar.proofs.Noting.{pushed}
-use Rattle.period_grammar.specs.Things.{Thing, noise, packet, symbols, long_island, close_island, guard as guard_at, empty}
-use Rattle.period_grammar.specs.Island.{Payload, parts, payload, split, begins_close, holds_packet, packet_things, block_fault, block_faults, packet_faults, closing_things, left_at, when, if_so}
+use Rattle.period_grammar.specs.Events.{Event, noise, packet, symbols, long_island, close_island, guard as guard_at, empty}
+use Rattle.period_grammar.specs.Island.{Payload, parts, payload, split, begins_close, holds_packet, packet_events, block_fault, block_faults, packet_faults, closing_events, left_at, when, if_so}
 use Rattle.period_grammar.specs.After.{left_gain, island_gain, choose, settle_by, settle, after_payload}
 use Rattle.period_grammar.specs.IslandAfter.{IsLeftAfter, IsPartsAfter, IsIslandAfter}
 use Rattle.period_grammar.specs.declared.island.Left.{Left}
@@ -28,9 +28,9 @@ pub fresh : (kept : Island) → kept.left ≡ Packet → kept.packets ≡ 0 → 
 unfolding split
 fresh kept l p w = record { stands = rw (l, p, w) (refl, (refl, refl, refl, λ e. cc)) }
 
-block_push : (block next : List (List ℕ)) (t : List Column) (c : Column) (n : ℕ) → take n block ≡ map words_of t → take (n + 1) next ≡ take n block ++ words_of c ∷ []
-    → take (n + 1) next ≡ map words_of (t ++ c ∷ [])
-block_push block next t c n was e = e ∙ ap (λ ws. ws ++ words_of c ∷ []) was ∙ sym (map_push words_of t c)
+block_push : (block next : List (List ℕ)) (t : List Column) (c : Column) (n : ℕ) → take n block ≡ map column_words t → take (n + 1) next ≡ take n block ++ column_words c ∷ []
+    → take (n + 1) next ≡ map column_words (t ++ c ∷ [])
+block_push block next t c n was e = e ∙ ap (λ ws. ws ++ column_words c ∷ []) was ∙ sym (map_push column_words t c)
 
 -- the next state where the packet is not whole, and where it is
 not_whole : (left : Left) (packets within : ℕ) (block : List (List ℕ)) (ps : List (List Column)) (t : List Column) → holds_packet t ≡ false
@@ -39,16 +39,16 @@ not_whole left packets within block ps t e n h = subst (λ p. IsPartsAfter left 
 
 -- the first column of a packet or of the closing guard
 pub first_stands : (packets within words digit : ℕ) (guard : Bool) (block next : List (List ℕ)) (c : Column) (x : Payload) → IsPartsAfter Packet packets 0 block x
-    → words ≡ closing_words c → digit ≡ sync_digit c.blue → guard ≡ is_island_guard c → take 1 next ≡ words_of c ∷ [] → IsPartsAfter (First words digit guard) packets within next (after_payload c x)
+    → words ≡ closing_words c → digit ≡ sync_digit c.blue → guard ≡ is_island_guard c → take 1 next ≡ column_words c ∷ [] → IsPartsAfter (First words digit guard) packets within next (after_payload c x)
 first_stands packets within words digit guard block next c (parts ps []) was e f g h =
     not_whole (First words digit guard) packets within next ps (c ∷ []) (holds_not (c ∷ []) (omega arith)) was.0 (e, f, g, h)
 first_stands packets within words digit guard block next c (parts ps (d ∷ t)) was e f g h = absurd (omega (arith, was.1.1))
 
 -- nothing is told of it
-pub first_told : (packets start : ℕ) (block : List (List ℕ)) (c : Column) (x : Payload) → IsPartsAfter Packet packets 0 block x → [] ≡ island_gain start c x
-first_told packets start block c (parts ps []) was =
-    ap (λ p. choose p (packet_things (left_at start ps) (length ps) (c ∷ [])) []) (sym (holds_not (c ∷ []) (omega arith)))
-first_told packets start block c (parts ps (d ∷ t)) was = absurd (omega (arith, was.1.1))
+pub first_reported : (packets start : ℕ) (block : List (List ℕ)) (c : Column) (x : Payload) → IsPartsAfter Packet packets 0 block x → [] ≡ island_gain start c x
+first_reported packets start block c (parts ps []) was =
+    ap (λ p. choose p (packet_events (left_at start ps) (length ps) (c ∷ [])) []) (sym (holds_not (c ∷ []) (omega arith)))
+first_reported packets start block c (parts ps (d ∷ t)) was = absurd (omega (arith, was.1.1))
 
 left_gain_open : (b s k : ℕ) (c : Column) (t : List Column) → (length t ≡ 1 → ⊥) → begins_close t ≡ false → left_gain b s k c t ≡ []
 left_gain_open b s k c [] n e = refl
@@ -57,9 +57,9 @@ left_gain_open b s k c (x ∷ (y ∷ [])) n e = ap (λ p. when p (noise (s + 2) 
 left_gain_open b s k c (x ∷ (y ∷ (z ∷ r))) n e = refl
 
 -- within a packet
-pub within_told : (packets start within : ℕ) (block : List (List ℕ)) (c : Column) (x : Payload) → IsPartsAfter Packet packets within block x → within < 31 → [] ≡ island_gain start c x
-within_told packets start within block c (parts ps t) was lt =
-    sym (ap (λ p. choose p (packet_things (left_at start ps) (length ps) (t ++ c ∷ [])) (left_gain start (left_at start ps) (length ps) c t)) (holds_not (t ++ c ∷ []) (omega (arith, was.1.1, length_push t c)))
+pub within_reported : (packets start within : ℕ) (block : List (List ℕ)) (c : Column) (x : Payload) → IsPartsAfter Packet packets within block x → within < 31 → [] ≡ island_gain start c x
+within_reported packets start within block c (parts ps t) was lt =
+    sym (ap (λ p. choose p (packet_events (left_at start ps) (length ps) (t ++ c ∷ [])) (left_gain start (left_at start ps) (length ps) c t)) (holds_not (t ++ c ∷ []) (omega (arith, was.1.1, length_push t c)))
     ∙ left_gain_open start (left_at start ps) (length ps) c t (λ one. was.1.3 (was.1.1 ∙ one)) was.1.0)
 
 two_at_least : (n : ℕ) → 0 < n → (n ≡ 1 → ⊥) → 1 < n
@@ -75,7 +75,7 @@ begins_more (d ∷ []) c lt e = absurd (omega arith)
 begins_more (d ∷ (f ∷ t)) c lt e = e
 
 pub within_stands : (packets within : ℕ) (block next : List (List ℕ)) (c : Column) (x : Payload) → IsPartsAfter Packet packets within block x → 0 < within → within < 31
-    → take (within + 1) next ≡ take within block ++ words_of c ∷ [] → IsPartsAfter Packet packets (within + 1) next (after_payload c x)
+    → take (within + 1) next ≡ take within block ++ column_words c ∷ [] → IsPartsAfter Packet packets (within + 1) next (after_payload c x)
 within_stands packets within block next c (parts ps t) was pos lt e =
     not_whole Packet packets (within + 1) next ps (t ++ c ∷ []) (holds_not (t ++ c ∷ []) (omega (arith, was.1.1, length_push t c))) was.0 (
       begins_more t c (omega (arith, was.1.1, two_at_least within pos was.1.3)) was.1.0,
@@ -88,14 +88,14 @@ within_stands packets within block next c (parts ps t) was pos lt e =
 whole_now : (within : ℕ) (t : List Column) (c : Column) → within ≡ length t → within ≡ 31 → begins_close t ≡ false → holds_packet (t ++ c ∷ []) ≡ true
 whole_now within t c e f g = holds_is (t ++ c ∷ []) (begins_more t c (omega arith) g) (omega (arith, length_push t c))
 
-pub whole_told : (packets start within at : ℕ) (block next : List (List ℕ)) (c : Column) (ts : List Thing) (x : Payload) → IsPartsAfter Packet packets within block x → within ≡ 31
-    → take (within + 1) next ≡ take within block ++ words_of c ∷ [] → length next ≡ 32 → at ≡ (start + 2) + 32 * packets
-    → ((p : List Column) → next ≡ map words_of p → ts ≡ packet_things at packets p) → ts ≡ island_gain start c x
-whole_told packets start within at block next c ts (parts ps t) was e f n g told =
-    let words : next ≡ map words_of (t ++ c ∷ []) = sym (take_all (within + 1) next (omega (arith, n, e))) ∙ block_push block next t c within was.1.2 f in
+pub whole_reported : (packets start within at : ℕ) (block next : List (List ℕ)) (c : Column) (ts : List Event) (x : Payload) → IsPartsAfter Packet packets within block x → within ≡ 31
+    → take (within + 1) next ≡ take within block ++ column_words c ∷ [] → length next ≡ 32 → at ≡ (start + 2) + 32 * packets
+    → ((p : List Column) → next ≡ map column_words p → ts ≡ packet_events at packets p) → ts ≡ island_gain start c x
+whole_reported packets start within at block next c ts (parts ps t) was e f n g reported =
+    let words : next ≡ map column_words (t ++ c ∷ []) = sym (take_all (within + 1) next (omega (arith, n, e))) ∙ block_push block next t c within was.1.2 f in
     let place : at ≡ left_at start ps = omega (arith, was.0) in
-    told (t ++ c ∷ []) words ∙ ap₂ (λ s k. packet_things s k (t ++ c ∷ [])) place was.0
-    ∙ ap (λ p. choose p (packet_things (left_at start ps) (length ps) (t ++ c ∷ [])) (left_gain start (left_at start ps) (length ps) c t)) (sym (whole_now within t c was.1.1 e was.1.0))
+    reported (t ++ c ∷ []) words ∙ ap₂ (λ s k. packet_events s k (t ++ c ∷ [])) place was.0
+    ∙ ap (λ p. choose p (packet_events (left_at start ps) (length ps) (t ++ c ∷ [])) (left_gain start (left_at start ps) (length ps) c t)) (sym (whole_now within t c was.1.1 e was.1.0))
 
 pub whole_stands : (packets within : ℕ) (block next : List (List ℕ)) (c : Column) (x : Payload) → IsPartsAfter Packet packets within block x → within ≡ 31
     → IsPartsAfter Packet (packets + 1) 0 next (after_payload c x)
@@ -104,18 +104,18 @@ whole_stands packets within block next c (parts ps t) was e =
     (omega (arith, was.0, length_push ps (t ++ c ∷ [])), (refl, refl, refl, λ e. cc))
 
 -- the second column: of a closing guard
-pub closing_told : (packets start within at words digit : ℕ) (guard : Bool) (block : List (List ℕ)) (c : Column) (ts : List Thing) (x : Payload) → IsPartsAfter (First words digit guard) packets within block x
+pub closing_reported : (packets start within at words digit : ℕ) (guard : Bool) (block : List (List ℕ)) (c : Column) (ts : List Event) (x : Payload) → IsPartsAfter (First words digit guard) packets within block x
     → nat_le 3 (words + closing_words c) ≡ true → at ≡ (start + 2) + 32 * packets
-    → ((g : Column) → digit ≡ sync_digit g.blue → guard ≡ is_island_guard g → ts ≡ closing_things start at packets g c) → ts ≡ island_gain start c x
+    → ((g : Column) → digit ≡ sync_digit g.blue → guard ≡ is_island_guard g → ts ≡ closing_events start at packets g c) → ts ≡ island_gain start c x
 unfolding closes
-closing_told packets start within at words digit guard block c ts (parts ps []) was three e told = absurd was.1
-closing_told packets start within at words digit guard block c ts (parts ps (g ∷ [])) was three e told =
+closing_reported packets start within at words digit guard block c ts (parts ps []) was three e reported = absurd was.1
+closing_reported packets start within at words digit guard block c ts (parts ps (g ∷ [])) was three e reported =
     let place : at ≡ left_at start ps = omega (arith, was.0) in
     let shut : nat_le 3 (closing_words g + closing_words c) ≡ true = ap (λ n. nat_le 3 (n + closing_words c)) (sym was.1.0) ∙ three in
-    told g was.1.1 was.1.2 ∙ ap₂ (λ s k. closing_things start s k g c) place was.0
-    ∙ ap (λ p. when p (closing_things start (left_at start ps) (length ps) g c)) (sym shut)
-    ∙ ap (λ p. choose p (packet_things (left_at start ps) (length ps) (g ∷ (c ∷ []))) (left_gain start (left_at start ps) (length ps) c (g ∷ []))) (sym (holds_not (g ∷ (c ∷ [])) (omega arith)))
-closing_told packets start within at words digit guard block c ts (parts ps (g ∷ (h ∷ t))) was three e told = absurd was.1
+    reported g was.1.1 was.1.2 ∙ ap₂ (λ s k. closing_events start s k g c) place was.0
+    ∙ ap (λ p. when p (closing_events start (left_at start ps) (length ps) g c)) (sym shut)
+    ∙ ap (λ p. choose p (packet_events (left_at start ps) (length ps) (g ∷ (c ∷ []))) (left_gain start (left_at start ps) (length ps) c (g ∷ []))) (sym (holds_not (g ∷ (c ∷ [])) (omega arith)))
+closing_reported packets start within at words digit guard block c ts (parts ps (g ∷ (h ∷ t))) was three e reported = absurd was.1
 
 pub closing_stands : (packets within words digit : ℕ) (guard : Bool) (block next : List (List ℕ)) (c : Column) (x : Payload) → IsPartsAfter (First words digit guard) packets within block x
     → nat_le 3 (words + closing_words c) ≡ true → IsPartsAfter Closed packets within next (after_payload c x)
@@ -126,34 +126,34 @@ closing_stands packets within words digit guard block next c (parts ps (g ∷ []
 closing_stands packets within words digit guard block next c (parts ps (g ∷ (h ∷ t))) was three = absurd was.1
 
 -- or of a packet
-pub second_told : (packets start within words digit : ℕ) (guard : Bool) (block : List (List ℕ)) (c : Column) (x : Payload) → IsPartsAfter (First words digit guard) packets within block x
+pub second_reported : (packets start within words digit : ℕ) (guard : Bool) (block : List (List ℕ)) (c : Column) (x : Payload) → IsPartsAfter (First words digit guard) packets within block x
     → nat_le 3 (words + closing_words c) ≡ false → [] ≡ island_gain start c x
 unfolding closes
-second_told packets start within words digit guard block c (parts ps []) was few = absurd was.1
-second_told packets start within words digit guard block c (parts ps (g ∷ [])) was few =
-    ap (λ p. when p (closing_things start (left_at start ps) (length ps) g c)) (sym (ap (λ n. nat_le 3 (n + closing_words c)) (sym was.1.0) ∙ few))
-    ∙ ap (λ p. choose p (packet_things (left_at start ps) (length ps) (g ∷ (c ∷ []))) (left_gain start (left_at start ps) (length ps) c (g ∷ []))) (sym (holds_not (g ∷ (c ∷ [])) (omega arith)))
-second_told packets start within words digit guard block c (parts ps (g ∷ (h ∷ t))) was few = absurd was.1
+second_reported packets start within words digit guard block c (parts ps []) was few = absurd was.1
+second_reported packets start within words digit guard block c (parts ps (g ∷ [])) was few =
+    ap (λ p. when p (closing_events start (left_at start ps) (length ps) g c)) (sym (ap (λ n. nat_le 3 (n + closing_words c)) (sym was.1.0) ∙ few))
+    ∙ ap (λ p. choose p (packet_events (left_at start ps) (length ps) (g ∷ (c ∷ []))) (left_gain start (left_at start ps) (length ps) c (g ∷ []))) (sym (holds_not (g ∷ (c ∷ [])) (omega arith)))
+second_reported packets start within words digit guard block c (parts ps (g ∷ (h ∷ t))) was few = absurd was.1
 
 pub second_stands : (packets within words digit : ℕ) (guard : Bool) (block next : List (List ℕ)) (c : Column) (x : Payload) → IsPartsAfter (First words digit guard) packets within block x
-    → nat_le 3 (words + closing_words c) ≡ false → take 2 next ≡ take 1 block ++ words_of c ∷ [] → IsPartsAfter Packet packets 2 next (after_payload c x)
+    → nat_le 3 (words + closing_words c) ≡ false → take 2 next ≡ take 1 block ++ column_words c ∷ [] → IsPartsAfter Packet packets 2 next (after_payload c x)
 unfolding closes
 second_stands packets within words digit guard block next c (parts ps []) was few e = absurd was.1
 second_stands packets within words digit guard block next c (parts ps (g ∷ [])) was few e =
     not_whole Packet packets 2 next ps (g ∷ (c ∷ [])) (holds_not (g ∷ (c ∷ [])) (omega arith)) was.0
-    (ap (λ n. nat_le 3 (n + closing_words c)) (sym was.1.0) ∙ few, refl, e ∙ ap (λ ws. ws ++ words_of c ∷ []) was.1.3, λ two. cc)
+    (ap (λ n. nat_le 3 (n + closing_words c)) (sym was.1.0) ∙ few, refl, e ∙ ap (λ ws. ws ++ column_words c ∷ []) was.1.3, λ two. cc)
 second_stands packets within words digit guard block next c (parts ps (g ∷ (h ∷ t))) was few e = absurd was.1
 
-pub closed_told : (packets start within at : ℕ) (block : List (List ℕ)) (c : Column) (ts : List Thing) (x : Payload) → IsPartsAfter Closed packets within block x
+pub closed_reported : (packets start within at : ℕ) (block : List (List ℕ)) (c : Column) (ts : List Event) (x : Payload) → IsPartsAfter Closed packets within block x
     → at ≡ (start + 2) + 32 * packets → ts ≡ noise (at + 2) ∷ [] → ts ≡ island_gain start c x
-closed_told packets start within at block c ts (parts ps []) was e told = absurd was.1
-closed_told packets start within at block c ts (parts ps (g ∷ [])) was e told = absurd was.1
-closed_told packets start within at block c ts (parts ps (g ∷ (h ∷ []))) was e told =
+closed_reported packets start within at block c ts (parts ps []) was e reported = absurd was.1
+closed_reported packets start within at block c ts (parts ps (g ∷ [])) was e reported = absurd was.1
+closed_reported packets start within at block c ts (parts ps (g ∷ (h ∷ []))) was e reported =
     let place : at ≡ left_at start ps = omega (arith, was.0) in
-    told ∙ ap (λ s. noise (s + 2) ∷ []) place
+    reported ∙ ap (λ s. noise (s + 2) ∷ []) place
     ∙ ap (λ p. when p (noise (left_at start ps + 2) ∷ [])) (sym was.1)
-    ∙ ap (λ p. choose p (packet_things (left_at start ps) (length ps) (g ∷ (h ∷ (c ∷ [])))) (left_gain start (left_at start ps) (length ps) c (g ∷ (h ∷ [])))) (sym (holds_not (g ∷ (h ∷ (c ∷ []))) (omega arith)))
-closed_told packets start within at block c ts (parts ps (g ∷ (h ∷ (i ∷ t)))) was e told = absurd was.1
+    ∙ ap (λ p. choose p (packet_events (left_at start ps) (length ps) (g ∷ (h ∷ (c ∷ [])))) (left_gain start (left_at start ps) (length ps) c (g ∷ (h ∷ [])))) (sym (holds_not (g ∷ (h ∷ (c ∷ []))) (omega arith)))
+closed_reported packets start within at block c ts (parts ps (g ∷ (h ∷ (i ∷ t)))) was e reported = absurd was.1
 
 pub closed_stands : (packets within : ℕ) (block next : List (List ℕ)) (c : Column) (x : Payload) → IsPartsAfter Closed packets within block x → IsPartsAfter Over packets within next (after_payload c x)
 closed_stands packets within block next c (parts ps []) was = absurd was.1
@@ -162,12 +162,12 @@ closed_stands packets within block next c (parts ps (g ∷ (h ∷ []))) was =
     not_whole Over packets within next ps (g ∷ (h ∷ (c ∷ []))) (holds_not (g ∷ (h ∷ (c ∷ []))) (omega arith)) was.0 was.1
 closed_stands packets within block next c (parts ps (g ∷ (h ∷ (i ∷ t)))) was = absurd was.1
 
-pub over_told : (packets start within : ℕ) (block : List (List ℕ)) (c : Column) (x : Payload) → IsPartsAfter Over packets within block x → [] ≡ island_gain start c x
-over_told packets start within block c (parts ps []) was = absurd was.1
-over_told packets start within block c (parts ps (g ∷ [])) was = absurd was.1
-over_told packets start within block c (parts ps (g ∷ (h ∷ []))) was = absurd was.1
-over_told packets start within block c (parts ps (g ∷ (h ∷ (i ∷ t)))) was =
-    ap (λ p. choose p (packet_things (left_at start ps) (length ps) (g ∷ (h ∷ (i ∷ (t ++ c ∷ []))))) []) (sym (holds_never (g ∷ (h ∷ (i ∷ (t ++ c ∷ [])))) was.1))
+pub over_reported : (packets start within : ℕ) (block : List (List ℕ)) (c : Column) (x : Payload) → IsPartsAfter Over packets within block x → [] ≡ island_gain start c x
+over_reported packets start within block c (parts ps []) was = absurd was.1
+over_reported packets start within block c (parts ps (g ∷ [])) was = absurd was.1
+over_reported packets start within block c (parts ps (g ∷ (h ∷ []))) was = absurd was.1
+over_reported packets start within block c (parts ps (g ∷ (h ∷ (i ∷ t)))) was =
+    ap (λ p. choose p (packet_events (left_at start ps) (length ps) (g ∷ (h ∷ (i ∷ (t ++ c ∷ []))))) []) (sym (holds_never (g ∷ (h ∷ (i ∷ (t ++ c ∷ [])))) was.1))
 
 pub over_stands : (packets within : ℕ) (block next : List (List ℕ)) (c : Column) (x : Payload) → IsPartsAfter Over packets within block x → IsPartsAfter Over packets within next (after_payload c x)
 over_stands packets within block next c (parts ps []) was = absurd was.1
@@ -181,19 +181,19 @@ pub after_rest : (next : Island) (rest : List Column) (c : Column) → IsPartsAf
 after_rest next rest c h = record { stands = subst (λ (x : Payload). IsPartsAfter next.left next.packets next.within next.block x) (sym (payload_push rest c)) h }
 
 -- notes
-pub packet_noted : (l : Lent) (at k : ℕ) (p : List Column) (n0 n1 n2 n3 : List Note) → l.whole.packet ≡ packet_of p → l.whole.verdicts ≡ verdicts_of p → length n0 ≤ 0
-    → n1 ≡ n0 ++ PacketNote at ∷ [] → things l n2 ≡ things l n1 ++ packet_faults at l.whole.verdicts → things l n3 ≡ things l n2 ++ if_so (k == 18) (long_island at)
-    → things l n3 ≡ packet_things at k p
-unfolding packet_things
+pub packet_noted : (l : Lent) (at k : ℕ) (p : List Column) (n0 n1 n2 n3 : List QueuedEvent) → l.whole.packet ≡ packet_of p → l.whole.verdicts ≡ verdicts_of p → length n0 ≤ 0
+    → n1 ≡ n0 ++ PacketNote at ∷ [] → events l n2 ≡ events l n1 ++ packet_faults at l.whole.verdicts → events l n3 ≡ events l n2 ++ if_so (k == 18) (long_island at)
+    → events l n3 ≡ packet_events at k p
+unfolding packet_events
 packet_noted l at k p n0 n1 n2 n3 e v room f g h =
     h ∙ ap (λ ts. ts ++ if_so (k == 18) (long_island at)) (g ∙ ap (λ ts. ts ++ packet_faults at l.whole.verdicts) (pushed l (PacketNote at) n0 n1 room f))
     ∙ ap₂ (λ (q : PacketOf) (w : PacketVerdicts). packet q w at ∷ (packet_faults at w ++ if_so (k == 18) (long_island at))) e v
 
-pub verdicts_noted : (l : Lent) (at count : ℕ) (a b c d h : Verdict) (n0 n1 n2 n3 n4 n5 n6 : List Note)
-    → things l n1 ≡ things l n0 ++ if_so (not (count == 0)) (symbols at count)
-    → things l n2 ≡ things l n1 ++ block_fault at 0 a → things l n3 ≡ things l n2 ++ block_fault at 1 b → things l n4 ≡ things l n3 ++ block_fault at 2 c
-    → things l n5 ≡ things l n4 ++ block_fault at 3 d → things l n6 ≡ things l n5 ++ block_fault at 4 h
-    → things l n6 ≡ things l n0 ++ (if_so (not (count == 0)) (symbols at count) ++ block_faults at 0 (a ∷ (b ∷ (c ∷ (d ∷ (h ∷ []))))))
+pub verdicts_noted : (l : Lent) (at count : ℕ) (a b c d h : Verdict) (n0 n1 n2 n3 n4 n5 n6 : List QueuedEvent)
+    → events l n1 ≡ events l n0 ++ if_so (not (count == 0)) (symbols at count)
+    → events l n2 ≡ events l n1 ++ block_fault at 0 a → events l n3 ≡ events l n2 ++ block_fault at 1 b → events l n4 ≡ events l n3 ++ block_fault at 2 c
+    → events l n5 ≡ events l n4 ++ block_fault at 3 d → events l n6 ≡ events l n5 ++ block_fault at 4 h
+    → events l n6 ≡ events l n0 ++ (if_so (not (count == 0)) (symbols at count) ++ block_faults at 0 (a ∷ (b ∷ (c ∷ (d ∷ (h ∷ []))))))
 verdicts_noted l at count a b c d h n0 n1 n2 n3 n4 n5 n6 e0 e1 e2 e3 e4 e5 =
     let s = if_so (not (count == 0)) (symbols at count) in
     let x1 = block_fault at 0 a in
@@ -201,15 +201,15 @@ verdicts_noted l at count a b c d h n0 n1 n2 n3 n4 n5 n6 e0 e1 e2 e3 e4 e5 =
     let x3 = block_fault at 2 c in
     let x4 = block_fault at 3 d in
     let x5 = block_fault at 4 h in
-    let whole : things l n6 ≡ (((((things l n0 ++ s) ++ x1) ++ x2) ++ x3) ++ x4) ++ x5 =
+    let whole : events l n6 ≡ (((((events l n0 ++ s) ++ x1) ++ x2) ++ x3) ++ x4) ++ x5 =
     e5 ∙ ap (λ ts. ts ++ x5) (e4 ∙ ap (λ ts. ts ++ x4) (e3 ∙ ap (λ ts. ts ++ x3) (e2 ∙ ap (λ ts. ts ++ x2) (e1 ∙ ap (λ ts. ts ++ x1) e0)))) in
     whole
-    ∙ append_assoc ((((things l n0 ++ s) ++ x1) ++ x2) ++ x3) x4 x5
-    ∙ append_assoc (((things l n0 ++ s) ++ x1) ++ x2) x3 (x4 ++ x5)
-    ∙ append_assoc ((things l n0 ++ s) ++ x1) x2 (x3 ++ (x4 ++ x5))
-    ∙ append_assoc (things l n0 ++ s) x1 (x2 ++ (x3 ++ (x4 ++ x5)))
-    ∙ append_assoc (things l n0) s (x1 ++ (x2 ++ (x3 ++ (x4 ++ x5))))
-    ∙ ap (λ z. things l n0 ++ (s ++ (x1 ++ (x2 ++ (x3 ++ (x4 ++ z)))))) (sym (append-nil x5))
+    ∙ append_assoc ((((events l n0 ++ s) ++ x1) ++ x2) ++ x3) x4 x5
+    ∙ append_assoc (((events l n0 ++ s) ++ x1) ++ x2) x3 (x4 ++ x5)
+    ∙ append_assoc ((events l n0 ++ s) ++ x1) x2 (x3 ++ (x4 ++ x5))
+    ∙ append_assoc (events l n0 ++ s) x1 (x2 ++ (x3 ++ (x4 ++ x5)))
+    ∙ append_assoc (events l n0) s (x1 ++ (x2 ++ (x3 ++ (x4 ++ x5))))
+    ∙ ap (λ z. events l n0 ++ (s ++ (x1 ++ (x2 ++ (x3 ++ (x4 ++ z)))))) (sym (append-nil x5))
 
 pub five_blocks : (at : ℕ) (vs : List Verdict) → length vs ≡ 5
     → block_faults at 0 (get_or vs 0 Clean ∷ (get_or vs 1 Clean ∷ (get_or vs 2 Clean ∷ (get_or vs 3 Clean ∷ (get_or vs 4 Clean ∷ []))))) ≡ block_faults at 0 vs
@@ -221,11 +221,11 @@ five_blocks at (a ∷ (b ∷ (c ∷ (d ∷ [])))) e = absurd (omega arith)
 five_blocks at (a ∷ (b ∷ (c ∷ (d ∷ (h ∷ []))))) e = refl
 five_blocks at (a ∷ (b ∷ (c ∷ (d ∷ (h ∷ (v ∷ vs)))))) e = absurd (omega arith)
 
-pub close_noted : (l : Lent) (start at k d1 d2 : ℕ) (q1 q2 z : Bool) (c d : Column) (n0 n1 n2 n3 n4 : List Note) → length n0 ≤ 0 → n1 ≡ n0 ++ Close d1 d2 ∷ []
-    → things l n2 ≡ things l n1 ++ if_so (not q1) (guard_at at) → things l n3 ≡ things l n2 ++ if_so (not q2) (guard_at (at + 1)) → things l n4 ≡ things l n3 ++ if_so z (empty start)
+pub close_noted : (l : Lent) (start at k d1 d2 : ℕ) (q1 q2 z : Bool) (c d : Column) (n0 n1 n2 n3 n4 : List QueuedEvent) → length n0 ≤ 0 → n1 ≡ n0 ++ Close d1 d2 ∷ []
+    → events l n2 ≡ events l n1 ++ if_so (not q1) (guard_at at) → events l n3 ≡ events l n2 ++ if_so (not q2) (guard_at (at + 1)) → events l n4 ≡ events l n3 ++ if_so z (empty start)
     → d1 ≡ sync_digit c.blue → d2 ≡ sync_digit d.blue → q1 ≡ is_island_guard c → q2 ≡ is_island_guard d → z ≡ (k == 0)
-    → things l n4 ≡ closing_things start at k c d
-unfolding closing_things
+    → events l n4 ≡ closing_events start at k c d
+unfolding closing_events
 close_noted l start at k d1 d2 q1 q2 z c d n0 n1 n2 n3 n4 room a e f g p1 p2 p3 p4 p5 =
     g ∙ ap (λ ts. ts ++ if_so z (empty start)) (f ∙ ap (λ ts. ts ++ if_so (not q2) (guard_at (at + 1))) (e ∙ ap (λ ts. ts ++ if_so (not q1) (guard_at at)) (pushed l (Close d1 d2) n0 n1 room a)))
     ∙ rw (p1, p2, p3, p4, p5) (ap (λ ts. close_island (sync_digit c.blue) (sync_digit d.blue) ∷ ts) refl)

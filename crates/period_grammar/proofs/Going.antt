@@ -1,4 +1,4 @@
--- Columns that go on with what is open.
+-- One column that goes on with the run or the line that is open, and so tells nothing.
 use Rattle.std.proofs.Common.{◌≡◌, ℕ, Bool, true, false, not, ◌&&◌, ◌==◌, List, [], ◌∷◌, refl, ap, sym, ◌∙◌, eqb-true}
 use Rattle.tmds_word.specs.Column.{Column}
 use Rattle.terc4.specs.Columns.{is_control_column, one_if}
@@ -11,7 +11,7 @@ use Rattle.period_grammar.specs.LineSeen.{LineSeen}
 use Rattle.period_grammar.specs.ControlAfter.{IsControlAfter}
 use Rattle.period_grammar.specs.Stands.{IsStretchAfter, closed, going_on}
 use Rattle.period_grammar.specs.declared.island.Island.{Island}
-use Rattle.period_grammar.specs.declared.control.Kept.{Kept}
+use Rattle.period_grammar.specs.declared.control.ControlState.{ControlState}
 use Rattle.period_grammar.specs.declared.phase.Phase.TheVariants.{Control, First, Video, Island as InIsland, Noise}
 use Rattle.period_grammar.proofs.Leads.{no_change, goes_run}
 use Rattle.period_grammar.proofs.Phases.{close_control}
@@ -36,7 +36,7 @@ whole_is v c e =
     record { value = sym (eqb-true (value_of c) v r.1); blue = p.0; green = q.0; red = r.0 }
 
 -- a column that goes on with the run that is kept
-pub whole_going : (kept : Kept) (control : List Column) (c : Column) → IsControlAfter kept control → goes_on_run (runs control) c ≡ true → IsWhole kept.value c
+pub whole_going : (kept : ControlState) (control : List Column) (c : Column) → IsControlAfter kept control → goes_on_run (runs control) c ≡ true → IsWhole kept.value c
 whole_going kept control c was e =
     whole_is kept.value c (both (not (kept.run == 0)) (is_whole kept.value c) (goes_run (runs control) kept.value kept.run was.run c ∙ e)).1
 
@@ -48,36 +48,36 @@ pub tells_no_word : (v n : ℕ) (c : Column) → IsWhole v c → other_words n c
 unfolding other_words
 tells_no_word v n c whole = rw (whole.blue, whole.green, whole.red) refl
 
-pub still_control : (kept : Kept) (line : LineSeen) (isle : Island) (n : ℕ) (x : Stretch) → IsStretchAfter Control kept line isle n x → IsControlAfter kept (going_on x)
+pub still_control : (kept : ControlState) (line : LineSeen) (isle : Island) (n : ℕ) (x : Stretch) → IsStretchAfter Control kept line isle n x → IsControlAfter kept (going_on x)
 still_control kept line isle n (stretch control []) was = was.0
 still_control kept line isle n (stretch control (g ∷ [])) was = absurd was.1
 still_control kept line isle n (stretch control (g ∷ (h ∷ rest))) was = absurd was.1
 
-pub closes_nothing : (kept : Kept) (line : LineSeen) (isle : Island) (n b : ℕ) (c : Column) (x : Stretch) → IsWhole kept.value c → IsStretchAfter Control kept line isle n x → [] ≡ closed (value_of c) b x
+pub closes_nothing : (kept : ControlState) (line : LineSeen) (isle : Island) (n b : ℕ) (c : Column) (x : Stretch) → IsWhole kept.value c → IsStretchAfter Control kept line isle n x → [] ≡ closed (value_of c) b x
 closes_nothing kept line isle n b c x whole was = close_control kept line isle n [] (value_of c) (λ control h. no_change kept control (value_of c) h whole.value) x b was
 
 -- what goes on in a control period, and in a line
-pub control_goes : (kept : Kept) (line : LineSeen) (isle : Island) (n : ℕ) (c : Column) (x : Stretch) → IsStretchAfter Control kept line isle n x → goes_on_run (runs (going_on x)) c ≡ goes_on x c
+pub control_goes : (kept : ControlState) (line : LineSeen) (isle : Island) (n : ℕ) (c : Column) (x : Stretch) → IsStretchAfter Control kept line isle n x → goes_on_run (runs (going_on x)) c ≡ goes_on x c
 control_goes kept line isle n c (stretch control []) was = refl
 control_goes kept line isle n c (stretch control (g ∷ [])) was = absurd was.1
 control_goes kept line isle n c (stretch control (g ∷ (h ∷ rest))) was = absurd was.1
 
-pub line_goes : (kept : Kept) (line : LineSeen) (isle : Island) (n start : ℕ) (c : Column) (x : Stretch) → IsStretchAfter (Video start) kept line isle n x → not (is_control_column c) ≡ goes_on x c
+pub line_goes : (kept : ControlState) (line : LineSeen) (isle : Island) (n start : ℕ) (c : Column) (x : Stretch) → IsStretchAfter (Video start) kept line isle n x → not (is_control_column c) ≡ goes_on x c
 line_goes kept line isle n start c (stretch control []) was = absurd was.1
 line_goes kept line isle n start c (stretch control (g ∷ [])) was = absurd was.1
 line_goes kept line isle n start c (stretch control (g ∷ (h ∷ rest))) was = ap (λ k. goes_on_line k c) (sym was.1.0)
 
-pub first_stays : (kept : Kept) (line : LineSeen) (isle : Island) (n start p q digit : ℕ) (c : Column) (x : Stretch) → IsStretchAfter (First start p q digit) kept line isle n x → false ≡ goes_on x c
+pub first_stays : (kept : ControlState) (line : LineSeen) (isle : Island) (n start p q digit : ℕ) (c : Column) (x : Stretch) → IsStretchAfter (First start p q digit) kept line isle n x → false ≡ goes_on x c
 first_stays kept line isle n start p q digit c (stretch control []) was = absurd was.1
 first_stays kept line isle n start p q digit c (stretch control (g ∷ [])) was = refl
 first_stays kept line isle n start p q digit c (stretch control (g ∷ (h ∷ rest))) was = absurd was.1
 
-pub island_stays : (kept : Kept) (line : LineSeen) (isle : Island) (n start : ℕ) (c : Column) (x : Stretch) → IsStretchAfter (InIsland start) kept line isle n x → false ≡ goes_on x c
+pub island_stays : (kept : ControlState) (line : LineSeen) (isle : Island) (n start : ℕ) (c : Column) (x : Stretch) → IsStretchAfter (InIsland start) kept line isle n x → false ≡ goes_on x c
 island_stays kept line isle n start c (stretch control []) was = absurd was.1
 island_stays kept line isle n start c (stretch control (g ∷ [])) was = absurd was.1
 island_stays kept line isle n start c (stretch control (g ∷ (h ∷ rest))) was = ap (λ k. goes_on_line k c) (sym was.1.0)
 
-pub noise_stays : (kept : Kept) (line : LineSeen) (isle : Island) (n : ℕ) (c : Column) (x : Stretch) → IsStretchAfter Noise kept line isle n x → false ≡ goes_on x c
+pub noise_stays : (kept : ControlState) (line : LineSeen) (isle : Island) (n : ℕ) (c : Column) (x : Stretch) → IsStretchAfter Noise kept line isle n x → false ≡ goes_on x c
 noise_stays kept line isle n c (stretch control []) was = absurd was.1
 noise_stays kept line isle n c (stretch control (g ∷ [])) was = absurd was.1
 noise_stays kept line isle n c (stretch control (g ∷ (h ∷ rest))) was = ap (λ k. goes_on_line k c) (sym was.1)

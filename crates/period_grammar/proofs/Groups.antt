@@ -1,4 +1,4 @@
--- Lines that are heard group after group.
+-- Pixels of a line that are heard in groups: the bytes, the balances and the line after a group.
 use Rattle.std.proofs.Common.{◌≡◌, ℕ, ◌+◌, ◌*◌, ◌<◌, ◌≤◌, true, List, [], ◌∷◌, ◌++◌, length, take, drop, refl, ap, ap₂, is_some, sym, subst, ◌∙◌, arith, All, append_assoc, map}
 use Rattle.std.specs.Prelude.{Option, Some, None, IfSome, ℤ, nat_le, slice_get}
 use Rattle.std.specs.List.{prefix_len}

@@ -1,21 +1,21 @@
--- The hearing as a whole.
-use Rattle.std.proofs.Common.{append_assoc, ◌≡◌, ℕ, ◌+◌, ◌-◌, ◌≤◌, true, false, List, [], ◌∷◌, ◌++◌, length, map, refl, ap, sym, ◌∙◌, arith, subst}
-use Rattle.std.proofs.lemmas.List.{length_push, map-append}
+-- A hearing after one column more: it stands for the columns heard, and has told what they tell.
+use Rattle.std.proofs.Common.{◌≡◌, ℕ, ◌+◌, ◌-◌, ◌≤◌, true, false, List, [], ◌∷◌, ◌++◌, length, map, refl, ap, sym, ◌∙◌, arith, subst}
+use Rattle.std.proofs.lemmas.List.{length_push}
 use Rattle.tmds_word.specs.Column.{Column}
 use Rattle.terc4.specs.Columns.{is_control_column}
 use Rattle.period_grammar.specs.Column.{value_of}
-use Rattle.period_grammar.specs.Things.{Thing, all_at, thing_of}
+use Rattle.period_grammar.specs.Events.{Event, all_at, event_of}
 use Rattle.period_grammar.specs.Cut.{Stretch, stretch, stretches}
 use Rattle.period_grammar.specs.Heard.{other_words, heard_so_far, heard}
 use Rattle.period_grammar.specs.After.{last, gains, grown, gap_of, ends}
 use Rattle.period_grammar.specs.LineSeen.{LineSeen}
 use Rattle.period_grammar.specs.ControlAfter.{IsControlAfter}
-use Rattle.period_grammar.specs.declared.control.Kept.{Kept}
+use Rattle.period_grammar.specs.declared.control.ControlState.{ControlState}
 use Rattle.period_grammar.specs.declared.phase.Phase.{Phase}
 use Rattle.period_grammar.specs.declared.phase.Phase.TheVariants.{Control}
 use Rattle.period_grammar.specs.declared.island.Island.{Island}
 use Rattle.period_grammar.specs.Seen.{Seen}
-use Rattle.period_grammar.specs.Stands.{IsStretchAfter, StandsFor, closed, going_on}
+use Rattle.period_grammar.specs.Stands.{IsStretchAfter, HearingRepresents, closed, going_on}
 use Rattle.period_grammar.proofs.Step.{total, stretches_total, heard_push, heard_end, last_push_stretch}
 
 -- the place at which the last stretch's other columns begin
@@ -37,10 +37,10 @@ gains_true : (n b : ℕ) (c : Column) (x : Stretch) → closed (value_of c) b x 
 gains_true n b c (stretch control []) = refl
 gains_true n b c (stretch control (g ∷ gap)) = refl
 
-pub told_control : (cs : List Column) (c : Column) (n v : ℕ) (ts ws : List Thing) → n ≡ length cs → is_control_column c ≡ true → v ≡ value_of c
+pub reported_control : (cs : List Column) (c : Column) (n v : ℕ) (ts ws : List Event) → n ≡ length cs → is_control_column c ≡ true → v ≡ value_of c
     → ts ≡ closed v (start_of cs) (last (stretches cs)) → ws ≡ ts ++ other_words n c
     → heard_so_far (cs ++ c ∷ []) ≡ heard_so_far cs ++ all_at (length cs) ws
-told_control cs c n v ts ws e p val t w =
+reported_control cs c n v ts ws e p val t w =
     let b = start_of cs in
     let x = last (stretches cs) in
     heard_push cs c b (starts cs)
@@ -48,21 +48,21 @@ told_control cs c n v ts ws e p val t w =
     ∙ ap (λ us. heard_so_far cs ++ all_at (length cs) us)
     (sym (w ∙ ap (λ us. us ++ other_words n c) (t ∙ ap (λ u. closed u b x) val) ∙ ap (λ m. closed (value_of c) b x ++ other_words m c) e ∙ gains_true (length cs) b c x))
 
-pub told_other : (cs : List Column) (c : Column) (n : ℕ) (ts : List Thing) → n ≡ length cs → is_control_column c ≡ false
+pub reported_other : (cs : List Column) (c : Column) (n : ℕ) (ts : List Event) → n ≡ length cs → is_control_column c ≡ false
     → ts ≡ gains false (start_of cs) n c (last (stretches cs)) → heard_so_far (cs ++ c ∷ []) ≡ heard_so_far cs ++ all_at (length cs) ts
-told_other cs c n ts e p t =
+reported_other cs c n ts e p t =
     let b = start_of cs in
     let x = last (stretches cs) in
     heard_push cs c b (starts cs)
     ∙ ap (λ q. heard_so_far cs ++ all_at (length cs) (gains q b (length cs) c x)) p
     ∙ ap (λ us. heard_so_far cs ++ all_at (length cs) us) (sym (t ∙ ap (λ m. gains false b m c x) e))
 
-control_on : (kept : Kept) (line : LineSeen) (isle : Island) (n : ℕ) (c : Column) (x : Stretch) → IsControlAfter kept (going_on x ++ c ∷ []) → IsStretchAfter Control kept line isle n (grown true c x)
+control_on : (kept : ControlState) (line : LineSeen) (isle : Island) (n : ℕ) (c : Column) (x : Stretch) → IsControlAfter kept (going_on x ++ c ∷ []) → IsStretchAfter Control kept line isle n (grown true c x)
 control_on kept line isle n c (stretch control []) h = (h, tt)
 control_on kept line isle n c (stretch control (g ∷ gap)) h = (h, tt)
 
 pub stands_control : (now : Seen) (cs : List Column) (c : Column) (n : ℕ) → n ≡ length cs → is_control_column c ≡ true → now.columns ≡ n + 1 → now.phase ≡ Control
-    → IsControlAfter now.control (going_on (last (stretches cs)) ++ c ∷ []) → StandsFor now (cs ++ c ∷ [])
+    → IsControlAfter now.control (going_on (last (stretches cs)) ++ c ∷ []) → HearingRepresents now (cs ++ c ∷ [])
 stands_control now cs c n e p m ph h = record {
   columns = m ∙ ap (λ x. x + 1) e ∙ sym (length_push cs c);
   stretch =
@@ -72,7 +72,7 @@ stands_control now cs c n e p m ph h = record {
 }
 
 pub stands_other : (now : Seen) (cs : List Column) (c : Column) (n : ℕ) → n ≡ length cs → is_control_column c ≡ false → now.columns ≡ n + 1
-    → IsStretchAfter now.phase now.control now.line now.island (n + 1) (grown false c (last (stretches cs))) → StandsFor now (cs ++ c ∷ [])
+    → IsStretchAfter now.phase now.control now.line now.island (n + 1) (grown false c (last (stretches cs))) → HearingRepresents now (cs ++ c ∷ [])
 stands_other now cs c n e p m h = record {
   columns = m ∙ ap (λ x. x + 1) e ∙ sym (length_push cs c);
   stretch =
@@ -80,17 +80,10 @@ stands_other now cs c n e p m h = record {
       subst (λ (x : Stretch). IsStretchAfter now.phase now.control now.line now.island now.columns x) (sym (last_push_stretch cs c ∙ ap (λ q. grown q c (last (stretches cs))) p)) there;
 }
 
-pub told_end : (cs : List Column) (ts : List Thing) → ts ≡ ends (start_of cs) (last (stretches cs)) → heard cs ≡ map thing_of (heard_so_far cs) ++ ts
-told_end cs ts e = heard_end cs (start_of cs) (starts cs) ∙ ap (λ us. map thing_of (heard_so_far cs) ++ us) (sym e)
+pub reported_end : (cs : List Column) (ts : List Event) → ts ≡ ends (start_of cs) (last (stretches cs)) → heard cs ≡ map event_of (heard_so_far cs) ++ ts
+reported_end cs ts e = heard_end cs (start_of cs) (starts cs) ∙ ap (λ us. map event_of (heard_so_far cs) ++ us) (sym e)
 
--- what an ear heard, with the things of one call more
-things_at : (n : ℕ) (us : List Thing) → map thing_of (all_at n us) ≡ us
-things_at n [] = refl
-things_at n (u ∷ us) = ap (λ ts. u ∷ ts) (things_at n us)
-
-pub listen_more : (heard next ts us : List Thing) (cs ds : List Column) (n : ℕ) → heard ≡ ts ++ map thing_of (heard_so_far cs) → next ≡ heard ++ us
-    → heard_so_far ds ≡ heard_so_far cs ++ all_at n us → next ≡ ts ++ map thing_of (heard_so_far ds)
-listen_more heard next ts us cs ds n was now e =
-    now ∙ ap (λ ws. ws ++ us) was ∙ append_assoc ts (map thing_of (heard_so_far cs)) us
-    ∙ ap (λ ws. ts ++ ws)
-    (ap (λ ws. map thing_of (heard_so_far cs) ++ ws) (sym (things_at n us)) ∙ sym (map-append thing_of (heard_so_far cs) (all_at n us)) ∙ ap (map thing_of) (sym e))
+-- what an ear heard, with the events of one call more
+pub events_at : (n : ℕ) (us : List Event) → map event_of (all_at n us) ≡ us
+events_at n [] = refl
+events_at n (u ∷ us) = ap (λ ts. u ∷ ts) (events_at n us)

@@ -6,8 +6,8 @@ use Rattle.std.proofs.lemmas.List.{append-nil, length_push, length-drop, take_al
 use Rattle.std.proofs.lemmas.Bool.{leb-true, leb-false, le-leb, lt-leb}
 use Rattle.std.proofs.Math.Bool.{and-false}
 use Rattle.tmds_word.specs.Column.{Column}
-use Rattle.period_grammar.specs.Things.{Thing, Told, all_at, noise}
-use Rattle.period_grammar.specs.Island.{Payload, parts, begins_close, holds_packet, with_packet, split_by, split, payload, packet_things, closing_things, in_packets, in_closing, in_left, left_at, in_island, when}
+use Rattle.period_grammar.specs.Events.{Event, EventAt, all_at, noise}
+use Rattle.period_grammar.specs.Island.{Payload, parts, begins_close, holds_packet, with_packet, split_by, split, payload, packet_events, closing_events, in_packets, in_closing, in_left, left_at, in_island, when}
 use Rattle.period_grammar.specs.After.{left_gain, island_gain, payload_gain, choose, settle_by, settle, after_payload}
 use Rattle.period_grammar.specs.Heard.{Kind, video, island, neither, in_payload}
 
@@ -131,49 +131,49 @@ payload_sound cs = split_sound (length cs) cs (omega arith)
 
 -- What is told.
 
-when_at : (p : Bool) (n : ℕ) (ts : List Thing) → when p (all_at n ts) ≡ all_at n (when p ts)
+when_at : (p : Bool) (n : ℕ) (ts : List Event) → when p (all_at n ts) ≡ all_at n (when p ts)
 when_at true n ts = refl
 when_at false n ts = refl
 
-when_two : (p : Bool) (n : ℕ) (us : List Told) (ts : List Thing) → when p (us ++ all_at n ts) ≡ when p us ++ all_at n (when p ts)
+when_two : (p : Bool) (n : ℕ) (us : List EventAt) (ts : List Event) → when p (us ++ all_at n ts) ≡ when p us ++ all_at n (when p ts)
 when_two true n us ts = refl
 when_two false n us ts = refl
 
 in_left_push : (b s k : ℕ) (t : List Column) (c : Column) → in_left b s k (t ++ c ∷ []) ≡ in_left b s k t ++ all_at (s + length t) (left_gain b s k c t)
 in_left_push b s k [] c = refl
-in_left_push b s k (x ∷ []) c = when_at (closes x c) (s + 1) (closing_things b s k x c)
-in_left_push b s k (x ∷ (y ∷ [])) c = when_two (closes x y) (s + 2) (all_at (s + 1) (closing_things b s k x y)) (noise (s + 2) ∷ [])
+in_left_push b s k (x ∷ []) c = when_at (closes x c) (s + 1) (closing_events b s k x c)
+in_left_push b s k (x ∷ (y ∷ [])) c = when_two (closes x y) (s + 2) (all_at (s + 1) (closing_events b s k x y)) (noise (s + 2) ∷ [])
 in_left_push b s k (x ∷ (y ∷ (z ∷ r))) c = sym (append-nil (in_left b s k (x ∷ (y ∷ (z ∷ r)))))
 
 in_left_open : (b s k : ℕ) (t : List Column) → begins_close t ≡ false → in_left b s k t ≡ []
 in_left_open b s k t e = ap (λ p. when p (in_closing b s k t)) e
 
 in_packets_push : (s k u m : ℕ) (ps : List (List Column)) (p : List Column) → u ≡ s + 32 * length ps → m ≡ k + length ps
-    → in_packets s k (ps ++ p ∷ []) ≡ in_packets s k ps ++ all_at (u + 31) (packet_things u m p)
+    → in_packets s k (ps ++ p ∷ []) ≡ in_packets s k ps ++ all_at (u + 31) (packet_events u m p)
 in_packets_push s k u m [] p e f =
     let a : s ≡ u = omega arith in
     let b : k ≡ m = omega arith in
-    append-nil (all_at (s + 31) (packet_things s k p)) ∙ ap₂ (λ x y. all_at (x + 31) (packet_things x y p)) a b
+    append-nil (all_at (s + 31) (packet_events s k p)) ∙ ap₂ (λ x y. all_at (x + 31) (packet_events x y p)) a b
 in_packets_push s k u m (q ∷ ps) p e f =
     let a : u ≡ (s + 32) + 32 * length ps = omega arith in
     let b : m ≡ (k + 1) + length ps = omega arith in
-    ap (λ ts. all_at (s + 31) (packet_things s k q) ++ ts) (in_packets_push (s + 32) (k + 1) u m ps p a b)
-    ∙ sym (append_assoc (all_at (s + 31) (packet_things s k q)) (in_packets (s + 32) (k + 1) ps) (all_at (u + 31) (packet_things u m p)))
+    ap (λ ts. all_at (s + 31) (packet_events s k q) ++ ts) (in_packets_push (s + 32) (k + 1) u m ps p a b)
+    ∙ sym (append_assoc (all_at (s + 31) (packet_events s k q)) (in_packets (s + 32) (k + 1) ps) (all_at (u + 31) (packet_events u m p)))
 
 open_before : (t : List Column) (c : Column) → holds_packet (t ++ c ∷ []) ≡ true → begins_close t ≡ false
 open_before t c e = open_part t c (holds_open (t ++ c ∷ []) e)
 
 island_step : (p : Bool) (b n : ℕ) (c : Column) (ps : List (List Column)) (t : List Column) → holds_packet t ≡ false → n ≡ left_at b ps + length t → holds_packet (t ++ c ∷ []) ≡ p
-    → in_island b (settle_by p ps (t ++ c ∷ [])) ≡ in_island b (parts ps t) ++ all_at n (choose p (packet_things (left_at b ps) (length ps) (t ++ c ∷ [])) (left_gain b (left_at b ps) (length ps) c t))
+    → in_island b (settle_by p ps (t ++ c ∷ [])) ≡ in_island b (parts ps t) ++ all_at n (choose p (packet_events (left_at b ps) (length ps) (t ++ c ∷ [])) (left_gain b (left_at b ps) (length ps) c t))
 unfolding in_island
 island_step true b n c ps t h e f =
     let long = whole t c h f in
     let place : left_at b ps + 31 ≡ n = omega (arith, length_push t c) in
-    let things = packet_things (left_at b ps) (length ps) (t ++ c ∷ []) in
+    let events = packet_events (left_at b ps) (length ps) (t ++ c ∷ []) in
     append-nil (in_packets (b + 2) 0 (ps ++ (t ++ c ∷ []) ∷ []))
     ∙ in_packets_push (b + 2) 0 (left_at b ps) (length ps) ps (t ++ c ∷ []) (omega arith) (omega arith)
-    ∙ ap (λ m. in_packets (b + 2) 0 ps ++ all_at m things) place
-    ∙ ap (λ ts. ts ++ all_at n things) (sym (append-nil (in_packets (b + 2) 0 ps)) ∙ ap (λ ts. in_packets (b + 2) 0 ps ++ ts) (sym (in_left_open b (left_at b ps) (length ps) t (open_before t c f))))
+    ∙ ap (λ m. in_packets (b + 2) 0 ps ++ all_at m events) place
+    ∙ ap (λ ts. ts ++ all_at n events) (sym (append-nil (in_packets (b + 2) 0 ps)) ∙ ap (λ ts. in_packets (b + 2) 0 ps ++ ts) (sym (in_left_open b (left_at b ps) (length ps) t (open_before t c f))))
 island_step false b n c ps t h e f =
     ap (λ ts. in_packets (b + 2) 0 ps ++ ts) (in_left_push b (left_at b ps) (length ps) t c)
     ∙ sym (append_assoc (in_packets (b + 2) 0 ps) (in_left b (left_at b ps) (length ps) t) (all_at (left_at b ps + length t) (left_gain b (left_at b ps) (length ps) c t)))

@@ -1,16 +1,16 @@
--- Laws of the definition that later proofs stand on.
+-- Columns cut into stretches: joined they are the columns, and a control period with the columns behind it is one of them. What
+-- later crates cite of it.
 use Rattle.std.proofs.Common.{◌≡◌, ℕ, suc, ◌+◌, ◌<◌, ◌≤◌, Bool, true, false, List, [], ◌∷◌, ◌++◌, length, take, drop, refl, ap, ap₂, sym, ◌∙◌, subst, append_assoc, arith, lt-ltb, le-ltb}
 use Rattle.std.specs.Prelude.{nat_lt, nat_le, cond}
 use Rattle.std.proofs.lemmas.List.{append-nil, length_push, length-append, length-take-le, take-append-drop, take_all, take_at, drop_at}
 use Rattle.std.proofs.lemmas.Bool.{leb-true, leb-false}
 use Rattle.tmds_word.specs.Column.{Column}
 use Rattle.terc4.specs.Columns.{is_control_column}
-use Rattle.terc4.specs.Tables.{is_control}
-use Rattle.period_grammar.specs.Things.{Thing, Told, at, all_at, column_told, told_before}
+use Rattle.period_grammar.specs.Events.{Event, EventAt, at, all_at, column_reported, reported_before}
 use Rattle.period_grammar.specs.Cut.{Stretch, stretch, before, stretches}
 use Rattle.period_grammar.specs.Island.{begins_close, with_packet, split}
 use Rattle.std.proofs.lemmas.List.Elements.{filter-append}
-use Rattle.period_grammar.specs.Heard.{heard_so_far, other_words, words}
+use Rattle.period_grammar.specs.Heard.{heard_so_far}
 use Rattle.period_grammar.proofs.Step.{heard_push}
 use Rattle.period_grammar.proofs.Hearings.{start_of, starts}
 use Rattle.period_grammar.proofs.Islands.{holds_is, split_one}
@@ -77,29 +77,6 @@ unfolding stretches
 cut_stretches [] = tt
 cut_stretches (c ∷ cs) = cut_before (is_control_column c) c (stretches cs) refl (cut_stretches cs)
 
--- What begins a list of stretches: columns of one kind, and what follows.
-before_gap : (gap : List Column) (c : Column) (rest : List Stretch) → AllAre false gap → is_control_column c ≡ true → (control after : List Column) (xs : List Stretch) → rest ≡ stretch (c ∷ control) after ∷ xs
-    → (cs : List Column) → stretches cs ≡ rest → (g : Column) → is_control_column g ≡ false → stretches (g ∷ (gap ++ cs)) ≡ stretch [] (g ∷ gap) ∷ rest
-unfolding stretches
-before_gap [] c rest all e control after xs r cs s g f = ap₂ (λ p ys. before p g ys) f (s ∙ r) ∙ ap (λ ys. stretch [] (g ∷ []) ∷ ys) (sym r)
-before_gap (h ∷ gap) c rest all e control after xs r cs s g f =
-    ap₂ (λ p ys. before p g ys) f (before_gap gap c rest all.1 e control after xs r cs s h all.0)
-
-before_control : (control : List Column) → AllAre true control → (cs : List Column) (first : List Column) (gap : List Column) (xs : List Stretch) → stretches cs ≡ stretch first gap ∷ xs
-    → stretches (control ++ cs) ≡ stretch (control ++ first) gap ∷ xs
-unfolding stretches
-before_control [] all cs first gap xs e = e
-before_control (c ∷ control) all cs first gap xs e = ap₂ (λ p ys. before p c ys) all.0 (before_control control all.1 cs first gap xs e)
-
--- A control item and the item after it are one stretch.
-pub stretches_items : (control : List Column) (g : Column) (gap : List Column) (c : Column) (cs : List Column) → AllAre true control → is_control_column g ≡ false → AllAre false gap → is_control_column c ≡ true
-    → (first after : List Column) (xs : List Stretch) → stretches (c ∷ cs) ≡ stretch (c ∷ first) after ∷ xs
-    → stretches (control ++ (g ∷ (gap ++ (c ∷ cs)))) ≡ stretch control (g ∷ gap) ∷ stretches (c ∷ cs)
-stretches_items control g gap c cs all e none f first after xs s =
-    before_control control all (g ∷ (gap ++ (c ∷ cs))) [] (g ∷ gap) (stretches (c ∷ cs))
-    (before_gap gap c (stretches (c ∷ cs)) none f first after xs s (c ∷ cs) refl g e)
-    ∙ ap (λ ks. stretch ks (g ∷ gap) ∷ stretches (c ∷ cs)) (append-nil control)
-
 -- Packets of 32 columns before others.
 pub split_packet : (n : ℕ) (p rest : List Column) → length p ≡ 32 → begins_close p ≡ false → split (suc n) (p ++ rest) ≡ with_packet p (split n rest)
 split_packet n [] rest e f = absurd (omega arith)
@@ -109,112 +86,67 @@ split_packet n (c ∷ (d ∷ p)) rest e f =
     split_one n ((c ∷ (d ∷ p)) ++ rest) (holds_is ((c ∷ (d ∷ p)) ++ rest) f many)
     ∙ ap₂ (λ a b. with_packet a (split n b)) (take_at (c ∷ (d ∷ p)) rest 32 e) (drop_at (c ∷ (d ∷ p)) rest 32 e)
 
--- Where a control column comes first, the first stretch begins with it.
-abbrev pub StartsWith : Column → List Stretch → Type 0
-StartsWith c [] = ⊥
-StartsWith c (stretch [] gap ∷ xs) = ⊥
-StartsWith c (stretch (k ∷ control) gap ∷ xs) = k ≡ c
-
-before_starts : (p : Bool) (c : Column) (xs : List Stretch) → p ≡ true → StartsWith c (before p c xs)
-before_starts true c [] e = refl
-before_starts true c (stretch control gap ∷ xs) e = refl
-before_starts false c xs e = cc
-
-pub control_starts : (c : Column) (cs : List Column) → is_control_column c ≡ true → StartsWith c (stretches (c ∷ cs))
-unfolding stretches
-control_starts c cs e = before_starts (is_control_column c) c (stretches cs) e
-
-items_by : (control : List Column) (g : Column) (gap : List Column) (c : Column) (cs : List Column) → AllAre true control → is_control_column g ≡ false → AllAre false gap → is_control_column c ≡ true
-    → (ys : List Stretch) → stretches (c ∷ cs) ≡ ys → StartsWith c ys
-    → stretches (control ++ (g ∷ (gap ++ (c ∷ cs)))) ≡ stretch control (g ∷ gap) ∷ stretches (c ∷ cs)
-items_by control g gap c cs all e none f [] s h = absurd h
-items_by control g gap c cs all e none f (stretch [] after ∷ xs) s h = absurd h
-items_by control g gap c cs all e none f (stretch (k ∷ first) after ∷ xs) s h =
-    stretches_items control g gap c cs all e none f first after xs (s ∙ ap (λ k. stretch (k ∷ first) after ∷ xs) h)
-
--- A control item and the item after it are one stretch, and the columns from the next control item on are cut as if they stood alone.
-pub stretches_of_items : (control : List Column) (g : Column) (gap : List Column) (c : Column) (cs : List Column) → AllAre true control → is_control_column g ≡ false → AllAre false gap → is_control_column c ≡ true
-    → stretches (control ++ (g ∷ (gap ++ (c ∷ cs)))) ≡ stretch control (g ∷ gap) ∷ stretches (c ∷ cs)
-stretches_of_items control g gap c cs all e none f = items_by control g gap c cs all e none f (stretches (c ∷ cs)) refl (control_starts c cs f)
-
 -- What is told up to a column.
-abbrev pub AllBelow : ℕ → List Told → Type 0
+abbrev pub AllBelow : ℕ → List EventAt → Type 0
 AllBelow n [] = Unit {0}
-AllBelow n (t ∷ ts) = (column_told t < n) × AllBelow n ts
+AllBelow n (t ∷ ts) = (column_reported t < n) × AllBelow n ts
 
-below_append : (n : ℕ) (ts us : List Told) → AllBelow n ts → AllBelow n us → AllBelow n (ts ++ us)
+below_append : (n : ℕ) (ts us : List EventAt) → AllBelow n ts → AllBelow n us → AllBelow n (ts ++ us)
 below_append n [] us h k = k
 below_append n (t ∷ ts) us h k = (h.0, below_append n ts us h.1 k)
 
-below_more : (n m : ℕ) (ts : List Told) → n ≤ m → AllBelow n ts → AllBelow m ts
+below_more : (n m : ℕ) (ts : List EventAt) → n ≤ m → AllBelow n ts → AllBelow m ts
 below_more n m [] le h = tt
 below_more n m (t ∷ ts) le h = (omega (arith, h.0), below_more n m ts le h.1)
 
-below_at : (n m : ℕ) (ts : List Thing) → n < m → AllBelow m (all_at n ts)
+below_at : (n m : ℕ) (ts : List Event) → n < m → AllBelow m (all_at n ts)
 below_at n m [] lt = tt
 below_at n m (t ∷ ts) lt = (lt, below_at n m ts lt)
 
--- Each thing is told at a column that was heard.
+-- Each event is told at a column that was heard.
 below_push : (cs : List Column) (c : Column) → AllBelow (length cs) (heard_so_far cs) → AllBelow (length (cs ++ c ∷ [])) (heard_so_far (cs ++ c ∷ []))
 below_push cs c h =
     let more : length cs < length (cs ++ c ∷ []) = omega (arith, length_push cs c) in
     let le : length cs ≤ length (cs ++ c ∷ []) = omega arith in
-    subst (λ (ts : List Told). AllBelow (length (cs ++ c ∷ [])) ts) (sym (heard_push cs c (start_of cs) (starts cs)))
+    subst (λ (ts : List EventAt). AllBelow (length (cs ++ c ∷ [])) ts) (sym (heard_push cs c (start_of cs) (starts cs)))
     (below_append _ _ _ (below_more _ _ _ le h) (below_at _ _ _ more))
 
 below_from : (xs ys : List Column) → AllBelow (length xs) (heard_so_far xs) → AllBelow (length (xs ++ ys)) (heard_so_far (xs ++ ys))
 below_from xs [] h = subst (λ (cs : List Column). AllBelow (length cs) (heard_so_far cs)) (sym (append-nil xs)) h
 below_from xs (y ∷ ys) h = subst (λ (cs : List Column). AllBelow (length cs) (heard_so_far cs)) (append_assoc xs (y ∷ []) ys) (below_from (xs ++ y ∷ []) ys (below_push xs y h))
 
-pub told_below : (cs : List Column) → AllBelow (length cs) (heard_so_far cs)
+pub reported_below : (cs : List Column) → AllBelow (length cs) (heard_so_far cs)
 unfolding heard_so_far stretches
-told_below cs = below_from [] cs tt
+reported_below cs = below_from [] cs tt
 
-all_before : (n : ℕ) (ts : List Told) → AllBelow n ts → told_before n ts ≡ ts
+all_before : (n : ℕ) (ts : List EventAt) → AllBelow n ts → reported_before n ts ≡ ts
 all_before n [] h = refl
-all_before n (t ∷ ts) h = ap₂ (λ p us. cond p (t ∷ us) us) (lt-ltb (column_told t) n h.0) (all_before n ts h.1)
+all_before n (t ∷ ts) h = ap₂ (λ p us. cond p (t ∷ us) us) (lt-ltb (column_reported t) n h.0) (all_before n ts h.1)
 
-none_before : (n m : ℕ) (ts : List Thing) → n ≤ m → told_before n (all_at m ts) ≡ []
+none_before : (n m : ℕ) (ts : List Event) → n ≤ m → reported_before n (all_at m ts) ≡ []
 none_before n m [] le = refl
-none_before n m (t ∷ ts) le = ap (λ p. cond p (at m t ∷ told_before n (all_at m ts)) (told_before n (all_at m ts))) (le-ltb m n le) ∙ none_before n m ts le
+none_before n m (t ∷ ts) le = ap (λ p. cond p (at m t ∷ reported_before n (all_at m ts)) (reported_before n (all_at m ts))) (le-ltb m n le) ∙ none_before n m ts le
 
-before_more : (n : ℕ) (xs ys : List Column) → n ≤ length xs → told_before n (heard_so_far (xs ++ ys)) ≡ told_before n (heard_so_far xs)
-before_more n xs [] le = ap (λ cs. told_before n (heard_so_far cs)) (append-nil xs)
+before_more : (n : ℕ) (xs ys : List Column) → n ≤ length xs → reported_before n (heard_so_far (xs ++ ys)) ≡ reported_before n (heard_so_far xs)
+before_more n xs [] le = ap (λ cs. reported_before n (heard_so_far cs)) (append-nil xs)
 before_more n xs (y ∷ ys) le =
-    ap (λ cs. told_before n (heard_so_far cs)) (sym (append_assoc xs (y ∷ []) ys))
+    ap (λ cs. reported_before n (heard_so_far cs)) (sym (append_assoc xs (y ∷ []) ys))
     ∙ before_more n (xs ++ y ∷ []) ys (omega (arith, length_push xs y))
-    ∙ ap (told_before n) (heard_push xs y (start_of xs) (starts xs))
-    ∙ filter-append (λ t. nat_lt (column_told t) n) (heard_so_far xs) _
-    ∙ ap (λ us. told_before n (heard_so_far xs) ++ us) (none_before n (length xs) _ le)
-    ∙ append-nil (told_before n (heard_so_far xs))
+    ∙ ap (reported_before n) (heard_push xs y (start_of xs) (starts xs))
+    ∙ filter-append (λ t. nat_lt (column_reported t) n) (heard_so_far xs) _
+    ∙ ap (λ us. reported_before n (heard_so_far xs) ++ us) (none_before n (length xs) _ le)
+    ∙ append-nil (reported_before n (heard_so_far xs))
 
--- What is told of the first columns is what is told of all at those columns.
-pub heard_of_first : (xs ys : List Column) → heard_so_far xs ≡ told_before (length xs) (heard_so_far (xs ++ ys))
-heard_of_first xs ys = sym (before_more (length xs) xs ys (omega arith) ∙ all_before (length xs) (heard_so_far xs) (told_below xs))
-
-told_before_by : (p : Bool) (n : ℕ) (cs : List Column) → nat_le n (length cs) ≡ p → told_before n (heard_so_far cs) ≡ heard_so_far (take n cs)
-told_before_by true n cs e =
+reported_before_by : (p : Bool) (n : ℕ) (cs : List Column) → nat_le n (length cs) ≡ p → reported_before n (heard_so_far cs) ≡ heard_so_far (take n cs)
+reported_before_by true n cs e =
     let long : length (take n cs) ≡ n = length-take-le n cs (leb-true n (length cs) e) in
-    ap (λ ds. told_before n (heard_so_far ds)) (sym (take-append-drop n cs))
+    ap (λ ds. reported_before n (heard_so_far ds)) (sym (take-append-drop n cs))
     ∙ before_more n (take n cs) (drop n cs) (omega (arith, long))
-    ∙ all_before n (heard_so_far (take n cs)) (below_more _ n _ (omega (arith, long)) (told_below (take n cs)))
-told_before_by false n cs e =
+    ∙ all_before n (heard_so_far (take n cs)) (below_more _ n _ (omega (arith, long)) (reported_below (take n cs)))
+reported_before_by false n cs e =
     let few : length cs ≤ n = omega (arith, leb-false n (length cs) e) in
-    all_before n (heard_so_far cs) (below_more (length cs) n _ few (told_below cs)) ∙ ap heard_so_far (sym (take_all n cs few))
+    all_before n (heard_so_far cs) (below_more (length cs) n _ few (reported_below cs)) ∙ ap heard_so_far (sym (take_all n cs few))
 
 -- What a list tells at columns before n is what its first n columns tell so far.
-pub told_before_is : (n : ℕ) (cs : List Column) → told_before n (heard_so_far cs) ≡ heard_so_far (take n cs)
-told_before_is n cs = told_before_by (nat_le n (length cs)) n cs refl
-
--- Columns of control words alone tell no `Word`.
-abbrev pub AllWhole : List Column → Type 0
-AllWhole [] = Unit {0}
-AllWhole (c ∷ cs) = ((is_control c.blue ≡ true) × (is_control c.green ≡ true) × (is_control c.red ≡ true)) × AllWhole cs
-
-whole_column : (j : ℕ) (c : Column) → is_control c.blue ≡ true → is_control c.green ≡ true → is_control c.red ≡ true → other_words j c ≡ []
-unfolding other_words
-whole_column j c e f g = rw (e, f, g) refl
-
-pub words_none : (j : ℕ) (cs : List Column) → AllWhole cs → words j cs ≡ []
-words_none j [] all = refl
-words_none j (c ∷ cs) all = ap (λ ts. all_at j ts ++ words (j + 1) cs) (whole_column j c all.0.0 all.0.1 all.0.2) ∙ words_none (j + 1) cs all.1
+pub reported_before_is : (n : ℕ) (cs : List Column) → reported_before n (heard_so_far cs) ≡ heard_so_far (take n cs)
+reported_before_is n cs = reported_before_by (nat_le n (length cs)) n cs refl

@@ -10,15 +10,15 @@ use Rattle.std.proofs.Math.Dec.{leb-zero, leb-suc-zero, leb-suc-suc}
 use Rattle.tmds_word.specs.Column.{Column}
 use Rattle.island_pack.specs.Periods.{ctl, has_preamble as announces}
 use Rattle.period_grammar.specs.Column.{value_of}
-use Rattle.period_grammar.specs.Things.{run}
+use Rattle.period_grammar.specs.Events.{run}
 use Rattle.period_grammar.specs.Cut.{Run, columns, runs}
 use Rattle.period_grammar.specs.GoesOn.{is_whole, goes_on_run}
 use Rattle.period_grammar.specs.Heard.{last_run, if_not, has_preamble}
 use Rattle.period_grammar.specs.After.{change}
 use Rattle.period_grammar.specs.ControlAfter.{kept_run, has_ctl, IsLast, IsControlAfter}
-use Rattle.period_grammar.specs.Noted.{things, Lent}
-use Rattle.period_grammar.specs.declared.notes.Note.{Note}
-use Rattle.period_grammar.specs.declared.control.Kept.{Kept}
+use Rattle.period_grammar.specs.Noted.{events, Lent}
+use Rattle.period_grammar.specs.declared.event_queue.QueuedEvent.{QueuedEvent}
+use Rattle.period_grammar.specs.declared.control.ControlState.{ControlState}
 use Rattle.period_grammar.proofs.Push.{trail, after_runs, runs_push}
 use Rattle.period_grammar.proofs.Step.{is_some, after_runs_some}
 
@@ -63,7 +63,7 @@ lead_by : (p : Bool) (bits v : ℕ) (cs : List Column) → IsLast v cs → (ctl 
 lead_by true bits v cs was e = ap (λ b. nat_le 8 (prefix_len (has_ctl b) cs)) (sym (eqb-true (ctl v) bits e))
 lead_by false bits v cs was e = ap (nat_le 8) (none_lead bits v cs was e)
 
-pub preamble_is : (bits : ℕ) (kept : Kept) (control : List Column) → IsControlAfter kept control → has_preamble bits control ≡ ((ctl kept.value == bits) && nat_le 8 kept.ctl_run)
+pub preamble_is : (bits : ℕ) (kept : ControlState) (control : List Column) → IsControlAfter kept control → has_preamble bits control ≡ ((ctl kept.value == bits) && nat_le 8 kept.ctl_run)
 preamble_is bits kept control was =
     preamble_by bits control ∙ lead_by (ctl kept.value == bits) bits kept.value (reverse control) was.last refl
     ∙ ap (λ n. (ctl kept.value == bits) && nat_le 8 n) (sym was.ctl_run)
@@ -138,7 +138,7 @@ lead_grown p v c cs was e =
         one ∙ ap (λ b. 1 + prefix_len (has_ctl b) cs) (eqb-true (ctl v) (ctl (value_of c)) e)
     by false e = ap (λ n. 1 + n) (sym (none_lead (ctl (value_of c)) v cs was e))
 
-pub kept_push : (old new : Kept) (control : List Column) (c : Column) → IsControlAfter old control → new.columns ≡ old.columns + 1 → new.value ≡ value_of c
+pub kept_push : (old new : ControlState) (control : List Column) (c : Column) → IsControlAfter old control → new.columns ≡ old.columns + 1 → new.value ≡ value_of c
     → new.run ≡ grow (old.value == value_of c) old.run → new.ctl_run ≡ grow (ctl old.value == ctl (value_of c)) old.ctl_run → IsControlAfter new (control ++ c ∷ [])
 kept_push old new control c was n v r l =
     let turned : reverse (control ++ c ∷ []) ≡ c ∷ reverse control = reverse-append control (c ∷ []) in
@@ -153,23 +153,20 @@ kept_push old new control c was n v r l =
           ∙ ap₂ (λ u cs. prefix_len (has_ctl (ctl u)) cs) (sym v) (sym turned);
     }
 
-pub none_kept : (kept : Kept) (control : List Column) → IsControlAfter kept control → kept.run ≡ 0 → [] ≡ last_run (runs control)
+pub none_kept : (kept : ControlState) (control : List Column) → IsControlAfter kept control → kept.run ≡ 0 → [] ≡ last_run (runs control)
 none_kept kept control was none = sym (was.run ∙ ap (kept_run kept.value) none)
 
 some_run : (v n : ℕ) → n ≢ 0 → run v n ∷ [] ≡ kept_run v n
 some_run v zero some = absurd (some refl)
 some_run v (suc n) some = refl
 
-pub some_kept : (kept : Kept) (control : List Column) → IsControlAfter kept control → kept.run ≢ 0 → run kept.value kept.run ∷ [] ≡ last_run (runs control)
-some_kept kept control was some = some_run kept.value kept.run some ∙ sym was.run
-
-pub no_change : (kept : Kept) (control : List Column) (v : ℕ) → IsControlAfter kept control → kept.value ≡ v → [] ≡ change v (runs control)
+pub no_change : (kept : ControlState) (control : List Column) (v : ℕ) → IsControlAfter kept control → kept.value ≡ v → [] ≡ change v (runs control)
 no_change kept control v was same = sym (change_is v (runs control) kept.value kept.run was.run ∙ ap (λ p. cond p [] (kept_run kept.value kept.run)) (eq-eqb kept.value v same))
 
-pub some_change : (kept : Kept) (control : List Column) (v : ℕ) → IsControlAfter kept control → kept.value ≢ v → last_run (runs control) ≡ change v (runs control)
+pub some_change : (kept : ControlState) (control : List Column) (v : ℕ) → IsControlAfter kept control → kept.value ≢ v → last_run (runs control) ≡ change v (runs control)
 some_change kept control v was differ = was.run ∙ sym (change_is v (runs control) kept.value kept.run was.run ∙ ap (λ p. cond p [] (kept_run kept.value kept.run)) (ne_eqb kept.value v differ))
 
-pub no_notes : (bytes : Lent) (ns : List Note) → length ns ≤ 0 → things bytes ns ≡ []
+pub no_notes : (bytes : Lent) (ns : List QueuedEvent) → length ns ≤ 0 → events bytes ns ≡ []
 no_notes bytes [] le = refl
 no_notes bytes (n ∷ ns) le = absurd (omega arith)
 

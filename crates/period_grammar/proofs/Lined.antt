@@ -4,19 +4,19 @@ use Rattle.std.specs.Prelude.{nat_le}
 use Rattle.std.proofs.lemmas.List.{length_push, take_all, take-append-le, append-nil, map_push, map-append}
 use Rattle.std.proofs.lemmas.Bool.{lt-leb, le-leb}
 use Rattle.tmds_word.specs.Column.{Column}
-use Rattle.period_grammar.specs.Things.{Thing, line, long_line}
+use Rattle.period_grammar.specs.Events.{Event, line, long_line}
 use Rattle.period_grammar.specs.Heard.{line_bytes, pixel, line_of, line_at, codes_of, code_fault, if_not}
-use Rattle.period_grammar.specs.Noted.{things, noted, Lent, lent}
-use Rattle.period_grammar.specs.declared.notes.Note.{Note}
-use Rattle.period_grammar.specs.declared.island.Whole.{Whole}
-use Rattle.period_grammar.specs.declared.notes.Note.TheVariants.{Line, Fault as FaultNoted}
-use Rattle.period_grammar.specs.declared.told.Fault.TheVariants.{LongLine, Empty}
+use Rattle.period_grammar.specs.Noted.{events, noted, Lent, lent}
+use Rattle.period_grammar.specs.declared.event_queue.QueuedEvent.{QueuedEvent}
+use Rattle.period_grammar.specs.declared.island.WholePacket.{WholePacket}
+use Rattle.period_grammar.specs.declared.event_queue.QueuedEvent.TheVariants.{Line, Fault as FaultNoted}
+use Rattle.period_grammar.specs.declared.event.Fault.TheVariants.{LongLine, Empty}
 use Rattle.period_grammar.specs.Judged.{IsLaneAfter}
 use Rattle.period_grammar.specs.declared.lane.Lane.{Lane}
 use Rattle.period_grammar.specs.LineSeen.{LineSeen}
 use Rattle.period_grammar.specs.Lines.{IsLineAfter}
 
-abbrev pub lined : LineSeen → ℕ → ℕ → List Thing
+abbrev pub lined : LineSeen → ℕ → ℕ → List Event
 lined l start from =
     line l.bytes ∷ ((code_fault 0 from l.blue.first ++ (code_fault 1 from l.green.first ++ code_fault 2 from l.red.first)) ++ if_not (nat_le l.count 4096) (long_line start))
 
@@ -25,10 +25,10 @@ unfolding codes_of
 line_is l start from pixels was = rw (was.bytes, was.blue.first, was.green.first, was.red.first, was.count) refl
 
 -- behind two guard columns
-pub line_behind : (l : LineSeen) (start : ℕ) (pixels : List Column) → IsLineAfter l pixels → 0 < l.count → line_of start pixels ≡ line_at start (start + 2) pixels
+pub line_after : (l : LineSeen) (start : ℕ) (pixels : List Column) → IsLineAfter l pixels → 0 < l.count → line_of start pixels ≡ line_at start (start + 2) pixels
 unfolding line_of
-line_behind l start [] was pos = absurd (omega (arith, was.count))
-line_behind l start (c ∷ cs) was pos = refl
+line_after l start [] was pos = absurd (omega (arith, was.count))
+line_after l start (c ∷ cs) was pos = refl
 
 pub line_bytes_push : (cs : List Column) (c : Column) → line_bytes (cs ++ c ∷ []) ≡ line_bytes cs ++ pixel c
 unfolding line_bytes
@@ -102,44 +102,44 @@ line_append old new cs ds bs gs rs was le n e mb mg mr b g r =
     }
 
 -- what notes say of the line
-pub line_none : (l : LineSeen) (whole : Whole) (start : ℕ) (pixels : List Column) (was now : List Note) → IsLineAfter l pixels → l.count ≡ 0 → length was ≤ 0
-    → now ≡ was ++ FaultNoted (Empty start) ∷ [] → things (lent l.bytes whole) now ≡ line_of start pixels
+pub line_none : (l : LineSeen) (whole : WholePacket) (start : ℕ) (pixels : List Column) (was now : List QueuedEvent) → IsLineAfter l pixels → l.count ≡ 0 → length was ≤ 0
+    → now ≡ was ++ FaultNoted (Empty start) ∷ [] → events (lent l.bytes whole) now ≡ line_of start pixels
 unfolding line_of
-line_none l whole start [] [] now h none room e = ap (things (lent l.bytes whole)) e
+line_none l whole start [] [] now h none room e = ap (events (lent l.bytes whole)) e
 line_none l whole start [] (n ∷ was) now h none room e = absurd (omega arith)
 line_none l whole start (c ∷ cs) was now h none room e = absurd (omega (arith, h.count))
 
-pub noted_pixels : (l : LineSeen) (whole : Whole) (start from : ℕ) (pixels : List Column) (n0 n1 n2 n3 n4 n5 : List Note) → IsLineAfter l pixels
+pub noted_pixels : (l : LineSeen) (whole : WholePacket) (start from : ℕ) (pixels : List Column) (n0 n1 n2 n3 n4 n5 : List QueuedEvent) → IsLineAfter l pixels
     → n1 ≡ n0 ++ Line ∷ []
-    → ((bytes : Lent) → things bytes n2 ≡ things bytes n1 ++ code_fault 0 from l.blue.first)
-    → ((bytes : Lent) → things bytes n3 ≡ things bytes n2 ++ code_fault 1 from l.green.first)
-    → ((bytes : Lent) → things bytes n4 ≡ things bytes n3 ++ code_fault 2 from l.red.first)
-    → things (lent l.bytes whole) n5 ≡ things (lent l.bytes whole) n4 ++ if_not (nat_le l.count 4096) (long_line start)
-    → things (lent l.bytes whole) n5 ≡ things (lent l.bytes whole) n0 ++ line_at start from pixels
+    → ((bytes : Lent) → events bytes n2 ≡ events bytes n1 ++ code_fault 0 from l.blue.first)
+    → ((bytes : Lent) → events bytes n3 ≡ events bytes n2 ++ code_fault 1 from l.green.first)
+    → ((bytes : Lent) → events bytes n4 ≡ events bytes n3 ++ code_fault 2 from l.red.first)
+    → events (lent l.bytes whole) n5 ≡ events (lent l.bytes whole) n4 ++ if_not (nat_le l.count 4096) (long_line start)
+    → events (lent l.bytes whole) n5 ≡ events (lent l.bytes whole) n0 ++ line_at start from pixels
 noted_pixels l whole start from pixels n0 n1 n2 n3 n4 n5 was a b c d e =
     let m = lent l.bytes whole in
     let more = if_not (nat_le l.count 4096) (long_line start) in
-    let first : things m n1 ≡ things m n0 ++ line l.bytes ∷ [] = ap (things m) a ∙ map-append (noted m) n0 (Line ∷ []) in
-    let codes : things m n4 ≡ ((things m n0 ++ line l.bytes ∷ []) ++ code_fault 0 from l.blue.first) ++ (code_fault 1 from l.green.first ++ code_fault 2 from l.red.first) =
+    let first : events m n1 ≡ events m n0 ++ line l.bytes ∷ [] = ap (events m) a ∙ map-append (noted m) n0 (Line ∷ []) in
+    let codes : events m n4 ≡ ((events m n0 ++ line l.bytes ∷ []) ++ code_fault 0 from l.blue.first) ++ (code_fault 1 from l.green.first ++ code_fault 2 from l.red.first) =
     d m ∙ ap (λ ts. ts ++ code_fault 2 from l.red.first)
     (c m ∙ ap (λ ts. ts ++ code_fault 1 from l.green.first) (b m ∙ ap (λ ts. ts ++ code_fault 0 from l.blue.first) first))
-    ∙ append_assoc ((things m n0 ++ line l.bytes ∷ []) ++ code_fault 0 from l.blue.first) (code_fault 1 from l.green.first) (code_fault 2 from l.red.first) in
+    ∙ append_assoc ((events m n0 ++ line l.bytes ∷ []) ++ code_fault 0 from l.blue.first) (code_fault 1 from l.green.first) (code_fault 2 from l.red.first) in
     e ∙ ap (λ ts. ts ++ more) codes
-    ∙ joined (things m n0) (line l.bytes) (code_fault 0 from l.blue.first) (code_fault 1 from l.green.first ++ code_fault 2 from l.red.first) more
-    ∙ ap (λ ts. things m n0 ++ ts) (sym (line_is l start from pixels was))
+    ∙ joined (events m n0) (line l.bytes) (code_fault 0 from l.blue.first) (code_fault 1 from l.green.first ++ code_fault 2 from l.red.first) more
+    ∙ ap (λ ts. events m n0 ++ ts) (sym (line_is l start from pixels was))
   where
-    joined : (ts : List Thing) (t : Thing) (us vs ws : List Thing) → (((ts ++ t ∷ []) ++ us) ++ vs) ++ ws ≡ ts ++ (t ∷ ((us ++ vs) ++ ws))
+    joined : (ts : List Event) (t : Event) (us vs ws : List Event) → (((ts ++ t ∷ []) ++ us) ++ vs) ++ ws ≡ ts ++ (t ∷ ((us ++ vs) ++ ws))
     joined ts t us vs ws = simp append_assoc
 
-pub none_before : (m : Lent) (was : List Note) → length was ≤ 0 → things m was ≡ []
+pub none_before : (m : Lent) (was : List QueuedEvent) → length was ≤ 0 → events m was ≡ []
 none_before m [] room = refl
 none_before m (n ∷ was) room = absurd (omega arith)
 
-pub more_than : (bytes : Lent) (was now : List Note) (count start : ℕ) → 4096 < count → now ≡ was ++ FaultNoted (LongLine start) ∷ []
-    → things bytes now ≡ things bytes was ++ if_not (nat_le count 4096) (long_line start)
+pub more_than : (bytes : Lent) (was now : List QueuedEvent) (count start : ℕ) → 4096 < count → now ≡ was ++ FaultNoted (LongLine start) ∷ []
+    → events bytes now ≡ events bytes was ++ if_not (nat_le count 4096) (long_line start)
 more_than bytes was now count start lt e =
-    ap (things bytes) e ∙ map-append (noted bytes) was (FaultNoted (LongLine start) ∷ [])
-    ∙ ap (λ p. things bytes was ++ if_not p (long_line start)) (sym (lt-leb count 4096 lt))
+    ap (events bytes) e ∙ map-append (noted bytes) was (FaultNoted (LongLine start) ∷ [])
+    ∙ ap (λ p. events bytes was ++ if_not p (long_line start)) (sym (lt-leb count 4096 lt))
 
-pub no_more : (ts : List Thing) (count start : ℕ) → count ≤ 4096 → ts ≡ ts ++ if_not (nat_le count 4096) (long_line start)
+pub no_more : (ts : List Event) (count start : ℕ) → count ≤ 4096 → ts ≡ ts ++ if_not (nat_le count 4096) (long_line start)
 no_more ts count start le = sym (ap (λ p. ts ++ if_not p (long_line start)) (le-leb count 4096 le) ∙ append-nil ts)

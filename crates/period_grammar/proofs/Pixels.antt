@@ -1,5 +1,5 @@
 -- The first of some columns that pass a test.
-use Rattle.std.proofs.Common.{◌≡◌, ℕ, zero, suc, ◌+◌, ◌<◌, ◌≤◌, Bool, true, false, cond, ◌==◌, List, [], ◌∷◌, ◌++◌, length, take, drop, refl, ap, sym, subst, ◌∙◌, arith, append_assoc, All, Some, slice_get}
+use Rattle.std.proofs.Common.{◌≡◌, ℕ, zero, suc, ◌+◌, ◌<◌, ◌≤◌, Bool, true, false, cond, List, [], ◌∷◌, ◌++◌, length, take, drop, refl, ap, sym, subst, ◌∙◌, arith, append_assoc, All, Some, slice_get}
 use Rattle.std.specs.List.{prefix_len}
 use Rattle.std.proofs.lemmas.List.{take_all, take_more, length-take-le}
 use Rattle.std.proofs.lemmas.List.Elements.{All-nil, All-cons, All-head, All-tail}
@@ -62,7 +62,3 @@ take_next cols i d e = take_more cols i d (slice_get_within cols i d e) ∙ ap (
 
 pub next_take : (cs cols : List Column) (i : ℕ) (d : Column) → slice_get cols i ≡ Some d → (cs ++ take i cols) ++ d ∷ [] ≡ cs ++ take (i + 1) cols
 next_take cs cols i d e = append_assoc cs (take i cols) (d ∷ []) ∙ ap (λ xs. cs ++ xs) (sym (take_next cols i d e))
-
-pub some_long : (n : ℕ) → (n == 0) ≡ false → 0 < n
-some_long zero e = cc
-some_long (suc n) e = omega arith

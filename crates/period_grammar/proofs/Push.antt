@@ -1,4 +1,4 @@
--- The cutting of a list with one column more.
+-- Stretches and runs of a list of columns with one column more.
 use Rattle.std.proofs.Common.{◌≡◌, ℕ, Bool, true, false, ◌==◌, List, [], ◌∷◌, ◌++◌, refl, ap, sym, ◌∙◌}
 use Rattle.std.proofs.lemmas.Bool.{eqb-true}
 use Rattle.tmds_word.specs.Column.{Column}

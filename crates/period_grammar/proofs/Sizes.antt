@@ -18,51 +18,51 @@ use Rattle.terc4.proofs.Entries.{value_below}
 use Rattle.tmds_code.specs.Coding.{decoded_byte}
 use Rattle.period_grammar.specs.Coding.{first_uncoded}
 use Rattle.period_grammar.specs.Column.{control_bits, value_of, sync_digit}
-use Rattle.island_pack.specs.Spelling.{words_of}
+use Rattle.island_pack.specs.Spelling.{column_words}
 use Rattle.island_pack.specs.Repaired.{packet_in, packet_of, verdicts_of}
-use Rattle.period_grammar.specs.Things.{Thing, short, preamble, empty, long_line, cut, symbols, long_island, broken, guard, Told, all_at, thing_of}
+use Rattle.period_grammar.specs.Events.{Event, short, preamble, empty, long_line, cut, symbols, long_island, broken, guard, EventAt, all_at, event_of}
 use Rattle.period_grammar.specs.Cut.{Stretch, stretch, stretches, Run, columns, in_front, value, before_runs, runs}
-use Rattle.period_grammar.specs.Island.{Payload, parts, begins_close, holds_packet, with_packet, split_by, split, payload, when, if_so, block_fault, block_faults, packet_faults, packet_things, in_packets, wrong_guards, closing_things, in_left, left_at, in_island, breaks}
-use Rattle.period_grammar.specs.Heard.{other_word, other_words, words, ended, in_run, size, in_runs, last_run, has_preamble, if_not, Kind, video, island, neither, opened, lacks, opening, line_bytes, code_fault, codes_of, line_of, in_payload, in_gap, payload_closes, at_close, payload_ends, at_end, so_far, reach, closing, told_from, ending, end_from, heard_so_far, heard}
+use Rattle.period_grammar.specs.Island.{Payload, parts, begins_close, holds_packet, with_packet, split_by, split, payload, when, if_so, block_fault, block_faults, packet_faults, packet_events, in_packets, wrong_guards, closing_events, in_left, left_at, in_island, breaks}
+use Rattle.period_grammar.specs.Heard.{other_word, other_words, words, ended, in_run, size, in_runs, last_run, has_preamble, if_not, Kind, video, island, neither, opened, lacks, opening, line_bytes, code_fault, codes_of, line_of, in_payload, in_gap, payload_closes, at_close, payload_ends, at_end, so_far, reach, closing, reported_from, ending, end_from, heard_so_far, heard}
 use Rattle.period_grammar.specs.Sizes.{IsSized}
 use Rattle.island_pack.specs.Packets.{IsPacket}
 use Rattle.island_pack.proofs.RepairedBlocks.{repaired_is_taken}
 use Rattle.period_grammar.proofs.Bytes.{decoded_below}
 
--- Lists of things, one after another.
-abbrev pub Sized : List Thing → Type 0
+-- Lists of events, one after another.
+abbrev pub Sized : List Event → Type 0
 Sized [] = Unit {0}
 Sized (t ∷ ts) = IsSized t × Sized ts
 
-abbrev pub TellsSized : List Told → Type 0
+abbrev pub TellsSized : List EventAt → Type 0
 TellsSized [] = Unit {0}
-TellsSized (t ∷ ts) = IsSized (thing_of t) × TellsSized ts
+TellsSized (t ∷ ts) = IsSized (event_of t) × TellsSized ts
 
-pub all_sized : (ts : List Thing) → Sized ts → All IsSized ts
+pub all_sized : (ts : List Event) → Sized ts → All IsSized ts
 all_sized [] h = All-nil IsSized
 all_sized (t ∷ ts) h = All-cons IsSized t ts h.0 (all_sized ts h.1)
 
-pub sized_append : (ts us : List Thing) → Sized ts → Sized us → Sized (ts ++ us)
+pub sized_append : (ts us : List Event) → Sized ts → Sized us → Sized (ts ++ us)
 sized_append [] us h k = k
 sized_append (t ∷ ts) us h k = (h.0, sized_append ts us h.1 k)
 
-pub tells_append : (ts us : List Told) → TellsSized ts → TellsSized us → TellsSized (ts ++ us)
+pub tells_append : (ts us : List EventAt) → TellsSized ts → TellsSized us → TellsSized (ts ++ us)
 tells_append [] us h k = k
 tells_append (t ∷ ts) us h k = (h.0, tells_append ts us h.1 k)
 
-pub tells_at : (j : ℕ) (ts : List Thing) → Sized ts → TellsSized (all_at j ts)
+pub tells_at : (j : ℕ) (ts : List Event) → Sized ts → TellsSized (all_at j ts)
 tells_at j [] h = tt
 tells_at j (t ∷ ts) h = (h.0, tells_at j ts h.1)
 
-pub things_sized : (ts : List Told) → TellsSized ts → Sized (map thing_of ts)
-things_sized [] h = tt
-things_sized (t ∷ ts) h = (h.0, things_sized ts h.1)
+pub events_sized : (ts : List EventAt) → TellsSized ts → Sized (map event_of ts)
+events_sized [] h = tt
+events_sized (t ∷ ts) h = (h.0, events_sized ts h.1)
 
-pub if_not_sized : (p : Bool) (t : Thing) → IsSized t → Sized (if_not p t)
+pub if_not_sized : (p : Bool) (t : Event) → IsSized t → Sized (if_not p t)
 if_not_sized true t h = tt
 if_not_sized false t h = (h, tt)
 
-when_sized : (p : Bool) (ts : List Told) → TellsSized ts → TellsSized (when p ts)
+when_sized : (p : Bool) (ts : List EventAt) → TellsSized ts → TellsSized (when p ts)
 when_sized true ts h = h
 when_sized false ts h = tt
 
@@ -148,7 +148,7 @@ lacks_sized : (b : ℕ) (control : List Column) (bits : ℕ) → Sized (lacks b 
 lacks_sized b control bits =
     sized_append _ _ (if_not_sized (nat_le 12 (length control)) (short b) tt) (if_not_sized (has_preamble bits control) (preamble b) tt)
 
-if_so_sized : (p : Bool) (t : Thing) → IsSized t → Sized (if_so p t)
+if_so_sized : (p : Bool) (t : Event) → IsSized t → Sized (if_so p t)
 if_so_sized true t h = (h, tt)
 if_so_sized false t h = tt
 
@@ -220,7 +220,7 @@ packet_faults_sized s v =
 
 packet_sync_below : (p : List Column) → All (λ digit. digit < 4) (packet_of p).sync
 unfolding packet_in
-packet_sync_below p = sync_below (map words_of p)
+packet_sync_below p = sync_below (map column_words p)
 
 abbrev pub AreWhole : List (List Column) → Type 0
 AreWhole [] = Unit {0}
@@ -246,21 +246,21 @@ split_whole zero cs = tt
 split_whole (suc n) cs = split_by_whole (holds_packet cs) cs (split n (drop 32 cs)) (packet_held cs) (split_whole n (drop 32 cs))
 
 packet_whole : (p : List Column) → length p ≡ 32 → IsPacket (packet_of p)
-packet_whole p e = (repaired_is_taken (map words_of p) (length-map p words_of ∙ e)).whole
+packet_whole p e = (repaired_is_taken (map column_words p) (length-map p column_words ∙ e)).whole
 
-packet_things_sized : (s k : ℕ) (p : List Column) → length p ≡ 32 → Sized (packet_things s k p)
-unfolding packet_things
-packet_things_sized s k p e =
+packet_events_sized : (s k : ℕ) (p : List Column) → length p ≡ 32 → Sized (packet_events s k p)
+unfolding packet_events
+packet_events_sized s k p e =
     ((packet_whole p e, packet_sync_below p), sized_append _ _ (packet_faults_sized s (verdicts_of p)) (if_so_sized (k == 18) (long_island s) tt))
 
 in_packets_sized : (s k : ℕ) (ps : List (List Column)) → AreWhole ps → TellsSized (in_packets s k ps)
 in_packets_sized s k [] h = tt
 in_packets_sized s k (p ∷ ps) h =
-    tells_append _ _ (tells_at (s + 31) (packet_things s k p) (packet_things_sized s k p h.0)) (in_packets_sized (s + 32) (k + 1) ps h.1)
+    tells_append _ _ (tells_at (s + 31) (packet_events s k p) (packet_events_sized s k p h.0)) (in_packets_sized (s + 32) (k + 1) ps h.1)
 
-closing_things_sized : (b s k : ℕ) (c d : Column) → Sized (closing_things b s k c d)
-unfolding closing_things
-closing_things_sized b s k c d = (
+closing_events_sized : (b s k : ℕ) (c d : Column) → Sized (closing_events b s k c d)
+unfolding closing_events
+closing_events_sized b s k c d = (
   (digit_below c.blue, digit_below d.blue),
   sized_append _ _ (wrong_guards_sized is_island_guard s c d) (if_so_sized (k == 0) (empty b) tt),
 )
@@ -268,15 +268,15 @@ closing_things_sized b s k c d = (
 in_left_sized : (b s k : ℕ) (t : List Column) → TellsSized (in_left b s k t)
 in_left_sized b s k [] = tt
 in_left_sized b s k (c ∷ []) = tt
-in_left_sized b s k (c ∷ (d ∷ [])) = when_sized (closes c d) _ (tells_at (s + 1) _ (closing_things_sized b s k c d))
+in_left_sized b s k (c ∷ (d ∷ [])) = when_sized (closes c d) _ (tells_at (s + 1) _ (closing_events_sized b s k c d))
 in_left_sized b s k (c ∷ (d ∷ (e ∷ cs))) =
-    when_sized (closes c d) _ (tells_append _ _ (tells_at (s + 1) _ (closing_things_sized b s k c d)) (tt, tt))
+    when_sized (closes c d) _ (tells_append _ _ (tells_at (s + 1) _ (closing_events_sized b s k c d)) (tt, tt))
 
 in_island_sized : (b : ℕ) (x : Payload) → HasWhole x → TellsSized (in_island b x)
 unfolding in_island
 in_island_sized b (parts ps t) h = tells_append _ _ (in_packets_sized (b + 2) 0 ps h) (in_left_sized b (left_at b ps) (length ps) t)
 
-breaks_sized : (f : ℕ → Thing) (b : ℕ) (x : Payload) → ((n : ℕ) → IsSized (f n)) → Sized (breaks f b x)
+breaks_sized : (f : ℕ → Event) (b : ℕ) (x : Payload) → ((n : ℕ) → IsSized (f n)) → Sized (breaks f b x)
 breaks_sized f b (parts ps t) h = if_so_sized (not (begins_close t)) (f (left_at b ps)) (h (left_at b ps))
 
 -- Columns after control columns.
@@ -325,10 +325,10 @@ so_far_sized j (stretch control (g ∷ gap)) =
 closing_sized : (j : ℕ) (x : Stretch) → TellsSized (closing j x)
 closing_sized j (stretch control gap) = tells_at _ _ (at_close_sized (j + length control) gap)
 
-told_from_sized : (j : ℕ) (xs : List Stretch) → TellsSized (told_from j xs)
-told_from_sized j [] = tt
-told_from_sized j (x ∷ []) = so_far_sized j x
-told_from_sized j (x ∷ (y ∷ ys)) = tells_append _ _ (so_far_sized j x) (tells_append _ _ (closing_sized j x) (told_from_sized (j + reach x) (y ∷ ys)))
+reported_from_sized : (j : ℕ) (xs : List Stretch) → TellsSized (reported_from j xs)
+reported_from_sized j [] = tt
+reported_from_sized j (x ∷ []) = so_far_sized j x
+reported_from_sized j (x ∷ (y ∷ ys)) = tells_append _ _ (so_far_sized j x) (tells_append _ _ (closing_sized j x) (reported_from_sized (j + reach x) (y ∷ ys)))
 
 ending_sized : (j : ℕ) (x : Stretch) → Sized (ending j x)
 ending_sized j (stretch control []) = last_run_sized (runs control) (are_runs control)
@@ -341,7 +341,7 @@ end_from_sized j (x ∷ (y ∷ ys)) = end_from_sized (j + reach x) (y ∷ ys)
 
 heard_sized : (cs : List Column) → Sized (heard cs)
 unfolding heard heard_so_far
-heard_sized cs = sized_append _ _ (things_sized _ (told_from_sized 0 (stretches cs))) (end_from_sized 0 (stretches cs))
+heard_sized cs = sized_append _ _ (events_sized _ (reported_from_sized 0 (stretches cs))) (end_from_sized 0 (stretches cs))
 
 pub all_are_sized : (cs : List Column) → All IsSized (heard cs)
 all_are_sized cs = all_sized (heard cs) (heard_sized cs)

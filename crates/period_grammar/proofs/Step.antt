@@ -1,12 +1,12 @@
--- What one column more tells.
+-- What a list of columns tells with one column more, by its last stretch.
 use Rattle.std.proofs.Common.{◌≡◌, ℕ, suc, ◌+◌, Bool, true, false, ◌==◌, List, [], ◌∷◌, ◌++◌, length, map, refl, ap, ap₂, sym, ◌∙◌, append_assoc, arith, zero-add}
 use Rattle.std.proofs.lemmas.List.{append-nil, map-append}
 use Rattle.tmds_word.specs.Column.{Column}
 use Rattle.terc4.specs.Columns.{is_control_column}
 use Rattle.period_grammar.specs.Column.{value_of}
-use Rattle.period_grammar.specs.Things.{run, at, all_at, thing_of}
+use Rattle.period_grammar.specs.Events.{run, at, all_at, event_of}
 use Rattle.period_grammar.specs.Cut.{Stretch, stretch, before, stretches, Run, columns, in_front, before_runs, runs}
-use Rattle.period_grammar.specs.Heard.{other_words, words, ended, in_run, size, in_runs, last_run, if_not, opening, opened, in_gap, in_payload, at_close, so_far, reach, closing, told_from, end_from, at_end, heard_so_far, heard}
+use Rattle.period_grammar.specs.Heard.{other_words, words, ended, in_run, size, in_runs, last_run, if_not, opening, opened, in_gap, in_payload, at_close, so_far, reach, closing, reported_from, end_from, at_end, heard_so_far, heard}
 use Rattle.period_grammar.specs.After.{last, gap_of, change, gains, payload_gain, grown, ends}
 use Rattle.period_grammar.proofs.Islands.{in_payload_push, in_payload_none}
 use Rattle.period_grammar.proofs.Push.{after, stretches_push, trail, after_runs, runs_push}
@@ -98,9 +98,9 @@ in_runs_push j n c (r ∷ (s ∷ rs)) e =
 
 -- Periods.
 
-told_from_more : (j : ℕ) (x : Stretch) (xs : List Stretch) → is_some xs ≡ true → told_from j (x ∷ xs) ≡ so_far j x ++ (closing j x ++ told_from (j + reach x) xs)
-told_from_more j x [] e = cc
-told_from_more j x (y ∷ ys) e = refl
+reported_from_more : (j : ℕ) (x : Stretch) (xs : List Stretch) → is_some xs ≡ true → reported_from j (x ∷ xs) ≡ so_far j x ++ (closing j x ++ reported_from (j + reach x) xs)
+reported_from_more j x [] e = cc
+reported_from_more j x (y ∷ ys) e = refl
 
 pub after_some : (p : Bool) (c : Column) (xs : List Stretch) → is_some (after p c xs) ≡ true
 after_some true c [] = refl
@@ -113,7 +113,7 @@ after_some false c (x ∷ (y ∷ ys)) = refl
 
 -- a column after the last stretch
 one_push : (p : Bool) (j b n : ℕ) (c : Column) (x : Stretch) → n ≡ j + reach x → b + length (gap_of x) ≡ n
-    → told_from j (after p c (x ∷ [])) ≡ so_far j x ++ all_at n (gains p b n c x)
+    → reported_from j (after p c (x ∷ [])) ≡ so_far j x ++ all_at n (gains p b n c x)
 unfolding runs in_gap
 one_push true j b n c (stretch control []) e f =
     ap (in_runs j) (runs_push control c) ∙ in_runs_push j n c (runs control) (omega (arith, runs_total control))
@@ -130,9 +130,9 @@ one_push false j b n c (stretch control []) e f =
 one_push false j b n c (stretch control (g ∷ [])) e f =
     let start : j + length control ≡ b = omega arith in
     let next : (j + length control) + 1 ≡ n = omega arith in
-    let told = opening b control g c (opened g c) in
+    let reported = opening b control g c (opened g c) in
     ap (λ m. in_runs j (runs control) ++ (all_at (j + length control) (last_run (runs control)) ++ (all_at ((j + length control) + 1) (opening m control g c (opened g c)) ++ in_payload m (opened g c) []))) start
-    ∙ ap₂ (λ m ts. in_runs j (runs control) ++ (all_at (j + length control) (last_run (runs control)) ++ (all_at m told ++ ts))) next (in_payload_none b (opened g c))
+    ∙ ap₂ (λ m ts. in_runs j (runs control) ++ (all_at (j + length control) (last_run (runs control)) ++ (all_at m reported ++ ts))) next (in_payload_none b (opened g c))
     ∙ simp (append_assoc, append-nil)
 one_push false j b n c (stretch control (g ∷ (h ∷ rest))) e f =
     let start : j + length control ≡ b = omega arith in
@@ -143,23 +143,23 @@ one_push false j b n c (stretch control (g ∷ (h ∷ rest))) e f =
     ∙ ap (λ m. in_runs j (runs control) ++ (all_at a (last_run (runs control)) ++ (all_at (a + 1) (opening a control g h k) ++ (in_payload a k rest ++ all_at n (payload_gain m k c rest))))) start
     ∙ simp append_assoc
 
-told_push : (p : Bool) (j b n : ℕ) (c : Column) (xs : List Stretch) → n ≡ j + total xs → b + length (gap_of (last xs)) ≡ n
-    → told_from j (after p c xs) ≡ told_from j xs ++ all_at n (gains p b n c (last xs))
+reported_push : (p : Bool) (j b n : ℕ) (c : Column) (xs : List Stretch) → n ≡ j + total xs → b + length (gap_of (last xs)) ≡ n
+    → reported_from j (after p c xs) ≡ reported_from j xs ++ all_at n (gains p b n c (last xs))
 unfolding runs in_gap
-told_push true j b n c [] e f =
+reported_push true j b n c [] e f =
     let same : n ≡ j = omega arith in
     append-nil (all_at j (other_words j c)) ∙ ap (λ m. all_at m (other_words m c)) (sym same)
-told_push false j b n c [] e f = refl
-told_push p j b n c (x ∷ []) e f = one_push p j b n c x (omega arith) f
-told_push true j b n c (x ∷ (y ∷ ys)) e f =
+reported_push false j b n c [] e f = refl
+reported_push p j b n c (x ∷ []) e f = one_push p j b n c x (omega arith) f
+reported_push true j b n c (x ∷ (y ∷ ys)) e f =
     let same : n ≡ (j + reach x) + total (y ∷ ys) = omega arith in
-    told_from_more j x (after true c (y ∷ ys)) (after_some true c (y ∷ ys))
-    ∙ ap (λ ts. so_far j x ++ (closing j x ++ ts)) (told_push true (j + reach x) b n c (y ∷ ys) same f)
+    reported_from_more j x (after true c (y ∷ ys)) (after_some true c (y ∷ ys))
+    ∙ ap (λ ts. so_far j x ++ (closing j x ++ ts)) (reported_push true (j + reach x) b n c (y ∷ ys) same f)
     ∙ simp append_assoc
-told_push false j b n c (x ∷ (y ∷ ys)) e f =
+reported_push false j b n c (x ∷ (y ∷ ys)) e f =
     let same : n ≡ (j + reach x) + total (y ∷ ys) = omega arith in
-    told_from_more j x (after false c (y ∷ ys)) (after_some false c (y ∷ ys))
-    ∙ ap (λ ts. so_far j x ++ (closing j x ++ ts)) (told_push false (j + reach x) b n c (y ∷ ys) same f)
+    reported_from_more j x (after false c (y ∷ ys)) (after_some false c (y ∷ ys))
+    ∙ ap (λ ts. so_far j x ++ (closing j x ++ ts)) (reported_push false (j + reach x) b n c (y ∷ ys) same f)
     ∙ simp append_assoc
 
 -- what a column adds to what is told of the columns before it
@@ -167,8 +167,8 @@ pub heard_push : (cs : List Column) (c : Column) (b : ℕ) → b + length (gap_o
     → heard_so_far (cs ++ c ∷ []) ≡ heard_so_far cs ++ all_at (length cs) (gains (is_control_column c) b (length cs) c (last (stretches cs)))
 unfolding heard_so_far
 heard_push cs c b f =
-    ap (told_from 0) (stretches_push cs c)
-    ∙ told_push (is_control_column c) 0 b (length cs) c (stretches cs) (sym (stretches_total cs) ∙ sym (zero-add (total (stretches cs)))) f
+    ap (reported_from 0) (stretches_push cs c)
+    ∙ reported_push (is_control_column c) 0 b (length cs) c (stretches cs) (sym (stretches_total cs) ∙ sym (zero-add (total (stretches cs)))) f
 
 -- the last stretch with one column more
 last_more : (x : Stretch) (xs : List Stretch) → is_some xs ≡ true → last (x ∷ xs) ≡ last xs
@@ -196,6 +196,6 @@ end_is j b (stretch control (g ∷ gap) ∷ []) f = let same : j + length contro
 end_is j b (x ∷ (y ∷ ys)) f = end_is (j + reach x) b (y ∷ ys) (omega arith)
 
 pub heard_end : (cs : List Column) (b : ℕ) → b + length (gap_of (last (stretches cs))) ≡ length cs
-    → heard cs ≡ map thing_of (heard_so_far cs) ++ ends b (last (stretches cs))
+    → heard cs ≡ map event_of (heard_so_far cs) ++ ends b (last (stretches cs))
 unfolding heard
-heard_end cs b f = ap (λ ts. map thing_of (heard_so_far cs) ++ ts) (end_is 0 b (stretches cs) (f ∙ sym (stretches_total cs) ∙ sym (zero-add (total (stretches cs)))))
+heard_end cs b f = ap (λ ts. map event_of (heard_so_far cs) ++ ts) (end_is 0 b (stretches cs) (f ∙ sym (stretches_total cs) ∙ sym (zero-add (total (stretches cs)))))

@@ -2,9 +2,9 @@
 use Rattle.std.specs.Prelude.{ℕ, ◌+◌, Bool, true, false, ◌==◌, List, [], ◌∷◌, ◌++◌, length}
 use Rattle.tmds_word.specs.Column.{Column}
 use Rattle.period_grammar.specs.Column.{value_of}
-use Rattle.period_grammar.specs.Things.{Thing, run, noise}
+use Rattle.period_grammar.specs.Events.{Event, run, noise}
 use Rattle.period_grammar.specs.Cut.{Stretch, stretch, Run, columns, runs}
-use Rattle.period_grammar.specs.Island.{Payload, parts, payload, begins_close, holds_packet, packet_things, closing_things, left_at, when}
+use Rattle.period_grammar.specs.Island.{Payload, parts, payload, begins_close, holds_packet, packet_events, closing_events, left_at, when}
 use Rattle.period_grammar.specs.Heard.{other_words, last_run, if_not, opening, opened, Kind, video, island, neither, at_close, at_end}
 
 abbrev pub last : List Stretch → Stretch
@@ -20,7 +20,7 @@ abbrev pub gap_of : Stretch → List Column
 gap_of (stretch control gap) = gap
 
 -- the last run, where a column has another value
-abbrev pub change : ℕ → List Run → List Thing
+abbrev pub change : ℕ → List Run → List Event
 change v [] = []
 change v (columns w cs ∷ []) = if_not (w == v) (run w (length cs))
 change v (r ∷ (s ∷ rs)) = change v (s ∷ rs)
@@ -37,27 +37,27 @@ abbrev pub after_payload : Column → Payload → Payload
 after_payload c (parts ps t) = settle ps (t ++ c ∷ [])
 
 -- what a column tells in an island, after what is left of it
-abbrev pub left_gain : ℕ → ℕ → ℕ → Column → List Column → List Thing
+abbrev pub left_gain : ℕ → ℕ → ℕ → Column → List Column → List Event
 left_gain b s k c [] = []
-left_gain b s k c (x ∷ []) = when (begins_close (x ∷ (c ∷ []))) (closing_things b s k x c)
+left_gain b s k c (x ∷ []) = when (begins_close (x ∷ (c ∷ []))) (closing_events b s k x c)
 left_gain b s k c (x ∷ (y ∷ [])) = when (begins_close (x ∷ (y ∷ []))) (noise (s + 2) ∷ [])
 left_gain b s k c (x ∷ (y ∷ (z ∷ r))) = []
 
-abbrev pub choose : Bool → List Thing → List Thing → List Thing
+abbrev pub choose : Bool → List Event → List Event → List Event
 choose true xs ys = xs
 choose false xs ys = ys
 
-abbrev pub island_gain : ℕ → Column → Payload → List Thing
+abbrev pub island_gain : ℕ → Column → Payload → List Event
 island_gain b c (parts ps t) =
-    choose (holds_packet (t ++ c ∷ [])) (packet_things (left_at b ps) (length ps) (t ++ c ∷ [])) (left_gain b (left_at b ps) (length ps) c t)
+    choose (holds_packet (t ++ c ∷ [])) (packet_events (left_at b ps) (length ps) (t ++ c ∷ [])) (left_gain b (left_at b ps) (length ps) c t)
 
-abbrev pub payload_gain : ℕ → Kind → Column → List Column → List Thing
+abbrev pub payload_gain : ℕ → Kind → Column → List Column → List Event
 payload_gain b video c rest = []
 payload_gain b island c rest = island_gain b c (payload rest)
 payload_gain b neither c rest = []
 
 -- what column n tells, where the last stretch's other columns begin at b
-abbrev pub gains : Bool → ℕ → ℕ → Column → Stretch → List Thing
+abbrev pub gains : Bool → ℕ → ℕ → Column → Stretch → List Event
 gains true b n c (stretch control []) = change (value_of c) (runs control) ++ other_words n c
 gains true b n c (stretch control (g ∷ gap)) = at_close b (g ∷ gap) ++ other_words n c
 gains false b n c (stretch control []) = last_run (runs control)
@@ -71,6 +71,6 @@ grown true c (stretch control (g ∷ gap)) = stretch (c ∷ []) []
 grown false c (stretch control gap) = stretch control (gap ++ c ∷ [])
 
 -- what the end tells of the last stretch
-abbrev pub ends : ℕ → Stretch → List Thing
+abbrev pub ends : ℕ → Stretch → List Event
 ends b (stretch control []) = last_run (runs control)
 ends b (stretch control (g ∷ gap)) = at_end b (g ∷ gap)

@@ -4,12 +4,12 @@ use Rattle.std.specs.List.{prefix_len}
 use Rattle.tmds_word.specs.Column.{Column}
 use Rattle.island_pack.specs.Periods.{ctl}
 use Rattle.period_grammar.specs.Column.{value_of}
-use Rattle.period_grammar.specs.Things.{Thing, run}
+use Rattle.period_grammar.specs.Events.{Event, run}
 use Rattle.period_grammar.specs.Cut.{runs}
 use Rattle.period_grammar.specs.Heard.{last_run}
-use Rattle.period_grammar.specs.declared.control.Kept.{Kept}
+use Rattle.period_grammar.specs.declared.control.ControlState.{ControlState}
 
-abbrev pub kept_run : ℕ → ℕ → List Thing
+abbrev pub kept_run : ℕ → ℕ → List Event
 kept_run v zero = []
 kept_run v (suc n) = run v (suc n) ∷ []
 
@@ -21,12 +21,12 @@ abbrev pub IsLast : ℕ → List Column → Type 0
 IsLast v [] = Unit {0}
 IsLast v (c ∷ cs) = value_of c ≡ v
 
-pub record IsControlAfter (kept : Kept) (control : List Column) : Type 0 where
+pub record IsControlAfter (kept : ControlState) (control : List Column) : Type 0 where
   pub columns : kept.columns ≡ length control
   pub run : last_run (runs control) ≡ kept_run kept.value kept.run
   pub last : IsLast kept.value (reverse control)
   pub ctl_run : kept.ctl_run ≡ prefix_len (has_ctl (ctl kept.value)) (reverse control)
 
-pub record IsCounted (kept : Kept) : Type 0 where
+pub record IsCounted (kept : ControlState) : Type 0 where
   pub run : kept.run ≤ kept.columns
   pub ctl_run : kept.ctl_run ≤ kept.columns

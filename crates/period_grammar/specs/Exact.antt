@@ -8,33 +8,33 @@ use Rattle.tmds_word.specs.Column.{Column}
 use Rattle.island_pack.specs.Periods.{Period}
 use Rattle.island_pack.specs.Conforming.{IsConforming}
 use Rattle.island_pack.specs.Spelling.{SpellsBy, freely}
-use Rattle.period_grammar.specs.Things.{Thing, run, line, open_island, packet, close_island, cut}
+use Rattle.period_grammar.specs.Events.{Event, run, line, open_island, packet, close_island, cut}
 use Rattle.period_grammar.specs.Heard.{heard}
 
--- whether a thing is a fault; a cut is none, since columns may end anywhere
-abbrev pub is_fault_thing : Thing → Bool
-is_fault_thing (run value count) = false
-is_fault_thing (line bytes) = false
-is_fault_thing (open_island a b) = false
-is_fault_thing (packet p verdicts column) = false
-is_fault_thing (close_island a b) = false
-is_fault_thing (cut column) = false
-is_fault_thing _ = true
+-- whether an event is a fault; a cut is none, since columns may end anywhere
+abbrev pub is_fault_event : Event → Bool
+is_fault_event (run value count) = false
+is_fault_event (line bytes) = false
+is_fault_event (open_island a b) = false
+is_fault_event (packet p verdicts column) = false
+is_fault_event (close_island a b) = false
+is_fault_event (cut column) = false
+is_fault_event _ = true
 
-abbrev pub faultless : List Thing → Bool
-faultless things = list_all (λ t. not (is_fault_thing t)) things
+abbrev pub faultless : List Event → Bool
+faultless events = list_all (λ t. not (is_fault_event t)) events
 
 -- no fault is told of columns
 abbrev pub IsClean : List Column → Type 0
 IsClean cs = faultless (heard cs) ≡ true
 
--- the column of a thing that tells a cut, else a number
-abbrev pub cut_or : ℕ → Thing → ℕ
+-- the column of an event that tells a cut, else a number
+abbrev pub cut_or : ℕ → Event → ℕ
 cut_or n (cut c) = c
 cut_or n _ = n
 
 -- the first column that is told as cut, else a number
-abbrev pub cut_column : ℕ → List Thing → ℕ
+abbrev pub cut_column : ℕ → List Event → ℕ
 cut_column n [] = n
 cut_column n (t ∷ ts) = cut_or (cut_column n ts) t
 

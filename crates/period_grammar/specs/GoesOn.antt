@@ -8,7 +8,7 @@ use Rattle.period_grammar.specs.Column.{value_of}
 use Rattle.period_grammar.specs.Cut.{Stretch, stretch, stretches, Run, columns, runs}
 use Rattle.period_grammar.specs.Heard.{Kind, video, island, neither, opened}
 use Rattle.period_grammar.specs.After.{last}
-use Rattle.period_grammar.specs.declared.control.Kept.{Kept}
+use Rattle.period_grammar.specs.declared.control.ControlState.{ControlState}
 
 -- whether the words of a column are three control words, and its value is this one
 abbrev pub is_whole : ℕ → Column → Bool
@@ -25,7 +25,7 @@ goes_on_run (columns v cs ∷ []) c = is_whole v c
 goes_on_run (r ∷ (s ∷ rs)) c = goes_on_run (s ∷ rs) c
 
 -- whether a column goes on with the last run, by the numbers that are kept of it
-abbrev pub goes_kept : Kept → Column → Bool
+abbrev pub goes_kept : ControlState → Column → Bool
 goes_kept kept c = not (kept.run == 0) && is_whole kept.value c
 
 -- whether a column goes on with the pixels behind two columns that opened this

@@ -1,19 +1,19 @@
 -- What is kept of the columns of an island.
 use Rattle.std.specs.Prelude.{◌≡◌, ℕ, ◌<◌, true, false, List, [], ◌∷◌, length, map, take, Option, Some, None}
-use Rattle.period_grammar.specs.Things.{Thing}
+use Rattle.period_grammar.specs.Events.{Event}
 use Rattle.tmds_word.specs.Column.{Column}
 use Rattle.terc4.specs.Columns.{is_island_guard, closing_words}
 use Rattle.period_grammar.specs.Column.{sync_digit}
 use Rattle.period_grammar.specs.Island.{Payload, parts, payload, begins_close}
-use Rattle.island_pack.specs.Spelling.{words_of}
+use Rattle.island_pack.specs.Spelling.{column_words}
 use Rattle.period_grammar.specs.declared.island.Left.{Left}
 use Rattle.period_grammar.specs.declared.island.Left.TheVariants.{Packet, First, Closed, Over}
 use Rattle.period_grammar.specs.declared.island.Island.{Island}
 
 abbrev pub IsLeftAfter : Left → ℕ → List (List ℕ) → List Column → Type 0
-IsLeftAfter Packet within block t = (begins_close t ≡ false) × (within ≡ length t) × (take within block ≡ map words_of t) × (within ≡ 1 → ⊥)
+IsLeftAfter Packet within block t = (begins_close t ≡ false) × (within ≡ length t) × (take within block ≡ map column_words t) × (within ≡ 1 → ⊥)
 IsLeftAfter (First words digit guard) within block (c ∷ []) =
-    (words ≡ closing_words c) × (digit ≡ sync_digit c.blue) × (guard ≡ is_island_guard c) × (take 1 block ≡ words_of c ∷ [])
+    (words ≡ closing_words c) × (digit ≡ sync_digit c.blue) × (guard ≡ is_island_guard c) × (take 1 block ≡ column_words c ∷ [])
 IsLeftAfter Closed within block (c ∷ (d ∷ [])) = begins_close (c ∷ (d ∷ [])) ≡ true
 IsLeftAfter Over within block (c ∷ (d ∷ (e ∷ r))) = begins_close (c ∷ (d ∷ (e ∷ r))) ≡ true
 IsLeftAfter (First words digit guard) within block _ = ⊥
@@ -36,6 +36,6 @@ pub record IsBlocked (kept : Island) : Type 0 where
   pub within : kept.within < 32
   pub first : IsOne kept.left kept.within
 
-abbrev pub at_some : (ℕ → Thing) → Option ℕ → List Thing
+abbrev pub at_some : (ℕ → Event) → Option ℕ → List Event
 at_some f None = []
 at_some f (Some s) = f s ∷ []

@@ -5,12 +5,12 @@ use Rattle.terc4.specs.Columns.{video_words, island_words}
 use Rattle.period_grammar.specs.Column.{sync_digit}
 use Rattle.period_grammar.specs.Cut.{Stretch, stretch, stretches, runs}
 use Rattle.period_grammar.specs.Heard.{opened, video, island, neither, at_close}
-use Rattle.period_grammar.specs.Things.{Thing}
+use Rattle.period_grammar.specs.Events.{Event}
 use Rattle.period_grammar.specs.After.{last, change}
 use Rattle.period_grammar.specs.LineSeen.{LineSeen}
 use Rattle.period_grammar.specs.Lines.{IsLineAfter}
 use Rattle.period_grammar.specs.ControlAfter.{IsControlAfter}
-use Rattle.period_grammar.specs.declared.control.Kept.{Kept}
+use Rattle.period_grammar.specs.declared.control.ControlState.{ControlState}
 use Rattle.period_grammar.specs.declared.phase.Phase.{Phase}
 use Rattle.period_grammar.specs.declared.phase.Phase.TheVariants.{Control, First, Video, Island as InIsland, Noise}
 use Rattle.period_grammar.specs.IslandAfter.{IsIslandAfter}
@@ -27,16 +27,16 @@ IsPhaseAfter Noise line kept n (g ∷ (h ∷ rest)) = opened g h ≡ neither
 IsPhaseAfter _ line kept n _ = ⊥
 
 -- the last stretch
-abbrev pub IsStretchAfter : Phase → Kept → LineSeen → Island → ℕ → Stretch → Type 0
+abbrev pub IsStretchAfter : Phase → ControlState → LineSeen → Island → ℕ → Stretch → Type 0
 IsStretchAfter phase kept line isle n (stretch control gap) = IsControlAfter kept control × IsPhaseAfter phase line isle n gap
 
 -- a hearing stands for the columns that it has heard
-pub record StandsFor (hearing : Seen) (cs : List Column) : Type 0 where
+pub record HearingRepresents (hearing : Seen) (cs : List Column) : Type 0 where
   pub columns : hearing.columns ≡ length cs
   pub stretch : IsStretchAfter hearing.phase hearing.control hearing.line hearing.island hearing.columns (last (stretches cs))
 
 -- what is told at a control column before its own words, and the control columns that go on
-abbrev pub closed : ℕ → ℕ → Stretch → List Thing
+abbrev pub closed : ℕ → ℕ → Stretch → List Event
 closed v b (stretch control []) = change v (runs control)
 closed v b (stretch control (g ∷ gap)) = at_close b (g ∷ gap)
 

@@ -10,16 +10,17 @@ ghost use Rattle.period_grammar.specs.Heard.{last_run, lacks, has_preamble};
 ghost use Rattle.period_grammar.specs.After.{change};
 ghost use Rattle.period_grammar.specs.GoesOn.{goes_on_run, goes_kept, is_alike};
 ghost use Rattle.period_grammar.specs.ControlAfter.{IsControlAfter, IsCounted};
-ghost use Rattle.period_grammar.specs.Noted.{things, Lent};
+ghost use Rattle.period_grammar.specs.Noted.{events, Lent};
 
 use crate::column::{self, has_value};
-use crate::notes::{Note, Notes};
-use crate::told::Fault;
+use crate::event::Fault;
+use crate::event_queue::{EventQueue, QueuedEvent};
+use terc4::RUN;
 use tmds_word::{Columns, Word};
 
 /// The number of columns, their last run, and how many last columns have its control bits.
 #[derive(Clone, Copy)]
-pub struct Kept {
+pub struct ControlState {
     pub columns: u32,
     pub value: u8,
     pub run: u32,
@@ -32,14 +33,14 @@ fn ctl_bits(value: u8) -> u8
     value / 4 % 16
 }
 
-impl Kept {
+impl ControlState {
     #[tactic(auto, unfolding(crate::specs::Cut::runs))]
-    pub fn new() -> Kept
+    pub fn new() -> ControlState
         ensures counted { IsCounted result }
         ensures columns { result.columns ≡ 0 }
         ensures heard { IsControlAfter result [] }
     {
-        Kept {
+        ControlState {
             columns: 0,
             value: 0,
             run: 0,
@@ -114,13 +115,13 @@ impl Kept {
     }
 
     /// Tells the last run.
-    pub fn tell_run(&self, notes: &mut Notes)
+    pub fn tell_run(&self, notes: &mut EventQueue)
         requires room { length notes.old ≤ 0 }
         ensures room { length notes.new ≤ 1 }
-        ensures told { (control : List Column) (bytes : Lent) → IsControlAfter self.now control → things bytes notes.new ≡ last_run (runs control) }
+        ensures reported { (control : List Column) (bytes : Lent) → IsControlAfter self.now control → events bytes notes.new ≡ last_run (runs control) }
     {
         if self.run != 0 {
-            notes.push(Note::Run {
+            notes.push(QueuedEvent::Run {
                 value: self.value,
                 count: self.run,
             });
@@ -128,10 +129,10 @@ impl Kept {
     }
 
     /// Tells the last run where a column has another value.
-    pub fn tell_change(&self, value: u8, notes: &mut Notes)
+    pub fn tell_change(&self, value: u8, notes: &mut EventQueue)
         requires room { length notes.old ≤ 0 }
         ensures room { length notes.new ≤ 1 }
-        ensures told { (control : List Column) (bytes : Lent) → IsControlAfter self.now control → things bytes notes.new ≡ change value (runs control) }
+        ensures reported { (control : List Column) (bytes : Lent) → IsControlAfter self.now control → events bytes notes.new ≡ change value (runs control) }
     {
         if self.value != value {
             self.tell_run(notes);
@@ -145,24 +146,24 @@ impl Kept {
         (ctl_bits(self.value) == bits) & (self.ctl_run >= 8)
     }
 
-    fn tell_short(&self, start: u32, is_announced: bool, notes: &mut Notes)
+    fn tell_short(&self, start: u32, is_announced: bool, notes: &mut EventQueue)
         requires room { length notes.old ≤ 0 }
         ensures room { length notes.new ≤ 2 }
-        ensures told { (control : List Column) (bits : ℕ) (bytes : Lent) → IsControlAfter self.now control → is_announced ≡ has_preamble bits control → things bytes notes.new ≡ lacks start control bits }
+        ensures reported { (control : List Column) (bits : ℕ) (bytes : Lent) → IsControlAfter self.now control → is_announced ≡ has_preamble bits control → events bytes notes.new ≡ lacks start control bits }
     {
-        if self.columns < 12 {
-            notes.push(Note::Fault(Fault::Short { column: start }));
+        if self.columns < RUN {
+            notes.push(QueuedEvent::Fault(Fault::Short { column: start }));
         }
         if !is_announced {
-            notes.push(Note::Fault(Fault::Preamble { column: start }));
+            notes.push(QueuedEvent::Fault(Fault::Preamble { column: start }));
         }
     }
 
     /// Tells what is wrong with the columns before a period that is opened, whose preamble has these control bits.
-    pub fn tell_lacks(&self, start: u32, bits: u8, notes: &mut Notes)
+    pub fn tell_lacks(&self, start: u32, bits: u8, notes: &mut EventQueue)
         requires room { length notes.old ≤ 0 }
         ensures room { length notes.new ≤ 2 }
-        ensures told { (control : List Column) (bytes : Lent) → IsControlAfter self.now control → things bytes notes.new ≡ lacks start control bits }
+        ensures reported { (control : List Column) (bytes : Lent) → IsControlAfter self.now control → events bytes notes.new ≡ lacks start control bits }
     {
         self.tell_short(start, self.has_preamble(bits), notes);
     }

@@ -2,24 +2,24 @@
 ghost use Rattle.std.specs.Prelude.{◌≡◌, ◌<◌, ◌≤◌, ◌+◌, ◌++◌, ◌∷◌, [], ℕ, All, List, length, map, take, true, false, slice_get, Some};
 ghost use Rattle.std.specs.Bool.{OnTrue, OnFalse};
 ghost use Rattle.tmds_word.specs.Column.{Column, column_of};
-ghost use Rattle.period_grammar.specs.Things.{all_at, thing_of};
+ghost use Rattle.period_grammar.specs.Events.{all_at, event_of};
 ghost use Rattle.period_grammar.specs.Heard.{heard_so_far, heard};
 ghost use Rattle.period_grammar.specs.Noted.{noted, lent};
 ghost use Rattle.tmds_word.specs.Lent.{columns_in};
 ghost use Rattle.period_grammar.specs.Cut.{stretches};
 ghost use Rattle.period_grammar.specs.After.{last};
 ghost use Rattle.period_grammar.specs.GoesOn.{goes_on, count_going_on};
-ghost use Rattle.period_grammar.specs.Stands.{StandsFor};
-ghost use Rattle.period_grammar.specs.Lending.{lent_thing, last_told};
+ghost use Rattle.period_grammar.specs.Stands.{HearingRepresents};
+ghost use Rattle.period_grammar.specs.Lending.{lent_event, last_reported};
 ghost use Rattle.period_grammar.specs.declared.phase.Phase.TheVariants.{Control, Video};
 
 use crate::column;
-use crate::control::Kept;
-use crate::island::{Island, Whole};
+use crate::control::ControlState;
+use crate::event::EventRef;
+use crate::event_queue::{EventQueue, QueuedEvent};
+use crate::island::{Island, WholePacket};
 use crate::line::Line;
-use crate::notes::{Note, Notes};
 use crate::phase::{Phase, close, end, go_on, tell_words};
-use crate::told::Told;
 use island_pack::PacketRef;
 use std::marker::Model;
 use terc4::is_control_column;
@@ -31,10 +31,10 @@ use tmds_word::{Columns, Word};
 pub struct Hearing {
     columns: u32,
     phase: Phase,
-    control: Kept,
+    control: ControlState,
     line: Line,
     island: Island,
-    notes: Notes,
+    notes: EventQueue,
     finished: bool,
 }
 
@@ -52,28 +52,28 @@ impl Hearing {
     /// A hearing that has heard nothing. The room for a line of 4,096 pixels is within it: it takes no memory.
     pub fn open() -> Hearing
         ensures open { result.finished ≡ false }
-        ensures heard { StandsFor result [] }
-        ensures quiet { last_told result ≡ [] }
+        ensures heard { HearingRepresents result [] }
+        ensures quiet { last_reported result ≡ [] }
     {
         Hearing {
             columns: 0,
             phase: Phase::Control,
-            control: Kept::new(),
+            control: ControlState::new(),
             line: Line::new(),
             island: Island::new(),
-            notes: Notes::new(),
+            notes: EventQueue::new(),
             finished: false,
         }
     }
 
-    /// Hears one column, the words of lanes 0, 1 and 2; `tells` and `told` then say what it tells.
+    /// Hears one column, the words of lanes 0, 1 and 2; `tells` and `reported` then say what it tells.
     pub fn hear(&mut self, column: &[Word; 3])
         requires few { self.old.columns < 429496730 }
         requires open { self.old.finished ≡ false }
         ensures columns { self.new.columns ≡ self.old.columns + 1 }
         ensures open { self.new.finished ≡ false }
-        ensures heard { (cs : List Column) → StandsFor self.old cs → StandsFor self.new (cs ++ column_of column.now ∷ []) }
-        ensures told { (cs : List Column) → StandsFor self.old cs → heard_so_far (cs ++ column_of column.now ∷ []) ≡ heard_so_far cs ++ all_at (length cs) (last_told self.new) }
+        ensures heard { (cs : List Column) → HearingRepresents self.old cs → HearingRepresents self.new (cs ++ column_of column.now ∷ []) }
+        ensures reported { (cs : List Column) → HearingRepresents self.old cs → heard_so_far (cs ++ column_of column.now ∷ []) ≡ heard_so_far cs ++ all_at (length cs) (last_reported self.new) }
     {
         self.notes.clear();
         // Nearly every column goes on with a run or a line, and tells nothing.
@@ -88,12 +88,12 @@ impl Hearing {
         requires few { self.old.columns + length (columns_in columns) ≤ 429496730 }
         requires open { self.old.finished ≡ false }
         ensures within { result ≤ length (columns_in columns.entry) }
-        ensures count { (cs : List Column) → StandsFor self.old cs → result ≡ count_going_on cs (columns_in columns.entry) }
+        ensures count { (cs : List Column) → HearingRepresents self.old cs → result ≡ count_going_on cs (columns_in columns.entry) }
         ensures columns { self.new.columns ≡ self.old.columns + result }
         ensures open { self.new.finished ≡ false }
-        ensures heard { (cs : List Column) → StandsFor self.old cs → StandsFor self.new (cs ++ take result (columns_in columns.entry)) }
-        ensures told { (cs : List Column) → StandsFor self.old cs → heard_so_far (cs ++ take result (columns_in columns.entry)) ≡ heard_so_far cs }
-        ensures quiet { last_told self.new ≡ [] }
+        ensures heard { (cs : List Column) → HearingRepresents self.old cs → HearingRepresents self.new (cs ++ take result (columns_in columns.entry)) }
+        ensures reported { (cs : List Column) → HearingRepresents self.old cs → heard_so_far (cs ++ take result (columns_in columns.entry)) ≡ heard_so_far cs }
+        ensures quiet { last_reported self.new ≡ [] }
     {
         self.notes.clear();
         self.hear_front(columns)
@@ -102,12 +102,12 @@ impl Hearing {
     /// Forgets all that was heard and told: it is as a fresh one. It takes no memory.
     pub fn restart(&mut self)
         ensures open { self.new.finished ≡ false }
-        ensures heard { StandsFor self.new [] }
-        ensures quiet { last_told self.new ≡ [] }
+        ensures heard { HearingRepresents self.new [] }
+        ensures quiet { last_reported self.new ≡ [] }
     {
         self.columns = 0;
         self.phase = Phase::Control;
-        self.control = Kept::new();
+        self.control = ControlState::new();
         self.notes.clear();
         self.finished = false;
     }
@@ -116,12 +116,12 @@ impl Hearing {
     fn hear_front(&mut self, columns: Columns<'_>) -> usize
         requires few { self.old.columns + length (columns_in columns) ≤ 429496730 }
         ensures within { result ≤ length (columns_in columns.entry) }
-        ensures count { (cs : List Column) → StandsFor self.old cs → result ≡ count_going_on cs (columns_in columns.entry) }
+        ensures count { (cs : List Column) → HearingRepresents self.old cs → result ≡ count_going_on cs (columns_in columns.entry) }
         ensures columns { self.new.columns ≡ self.old.columns + result }
         ensures open { self.new.finished ≡ self.old.finished }
         ensures notes { self.new.notes ≡ self.old.notes }
-        ensures heard { (cs : List Column) → StandsFor self.old cs → StandsFor self.new (cs ++ take result (columns_in columns.entry)) }
-        ensures told { (cs : List Column) → StandsFor self.old cs → heard_so_far (cs ++ take result (columns_in columns.entry)) ≡ heard_so_far cs }
+        ensures heard { (cs : List Column) → HearingRepresents self.old cs → HearingRepresents self.new (cs ++ take result (columns_in columns.entry)) }
+        ensures reported { (cs : List Column) → HearingRepresents self.old cs → heard_so_far (cs ++ take result (columns_in columns.entry)) ≡ heard_so_far cs }
     {
         match self.phase {
             Phase::Control => self.hear_run(columns),
@@ -137,12 +137,12 @@ impl Hearing {
         requires phase { self.old.phase ≡ Control }
         requires few { self.old.columns + length (columns_in columns) ≤ 429496730 }
         ensures within { result ≤ length (columns_in columns.entry) }
-        ensures count { (cs : List Column) → StandsFor self.old cs → result ≡ count_going_on cs (columns_in columns.entry) }
+        ensures count { (cs : List Column) → HearingRepresents self.old cs → result ≡ count_going_on cs (columns_in columns.entry) }
         ensures columns { self.new.columns ≡ self.old.columns + result }
         ensures open { self.new.finished ≡ self.old.finished }
         ensures notes { self.new.notes ≡ self.old.notes }
-        ensures heard { (cs : List Column) → StandsFor self.old cs → StandsFor self.new (cs ++ take result (columns_in columns.entry)) }
-        ensures told { (cs : List Column) → StandsFor self.old cs → heard_so_far (cs ++ take result (columns_in columns.entry)) ≡ heard_so_far cs }
+        ensures heard { (cs : List Column) → HearingRepresents self.old cs → HearingRepresents self.new (cs ++ take result (columns_in columns.entry)) }
+        ensures reported { (cs : List Column) → HearingRepresents self.old cs → heard_so_far (cs ++ take result (columns_in columns.entry)) ≡ heard_so_far cs }
     {
         let count = self.control.count_going_on(columns);
         self.control.hear_run(count as u32);
@@ -155,12 +155,12 @@ impl Hearing {
         requires phase { (start : ℕ) × (self.old.phase ≡ Video start) }
         requires few { self.old.columns + length (columns_in columns) ≤ 429496730 }
         ensures within { result ≤ length (columns_in columns.entry) }
-        ensures count { (cs : List Column) → StandsFor self.old cs → result ≡ count_going_on cs (columns_in columns.entry) }
+        ensures count { (cs : List Column) → HearingRepresents self.old cs → result ≡ count_going_on cs (columns_in columns.entry) }
         ensures columns { self.new.columns ≡ self.old.columns + result }
         ensures open { self.new.finished ≡ self.old.finished }
         ensures notes { self.new.notes ≡ self.old.notes }
-        ensures heard { (cs : List Column) → StandsFor self.old cs → StandsFor self.new (cs ++ take result (columns_in columns.entry)) }
-        ensures told { (cs : List Column) → StandsFor self.old cs → heard_so_far (cs ++ take result (columns_in columns.entry)) ≡ heard_so_far cs }
+        ensures heard { (cs : List Column) → HearingRepresents self.old cs → HearingRepresents self.new (cs ++ take result (columns_in columns.entry)) }
+        ensures reported { (cs : List Column) → HearingRepresents self.old cs → heard_so_far (cs ++ take result (columns_in columns.entry)) ≡ heard_so_far cs }
     {
         let count = self.line.hear_while(columns);
         self.columns += count as u32;
@@ -171,12 +171,12 @@ impl Hearing {
     /// hears nothing.
     fn hear_on(&mut self, column: &[Word; 3]) -> bool
         requires { self.old.columns < 429496730 }
-        ensures count { (cs : List Column) → StandsFor self.old cs → result ≡ goes_on (last (stretches cs)) (column_of column.now) }
+        ensures count { (cs : List Column) → HearingRepresents self.old cs → result ≡ goes_on (last (stretches cs)) (column_of column.now) }
         ensures columns { OnTrue result (self.new.columns ≡ self.old.columns + 1) }
         ensures open { self.new.finished ≡ self.old.finished }
         ensures notes { self.new.notes ≡ self.old.notes }
-        ensures heard { (cs : List Column) → StandsFor self.old cs → OnTrue result (StandsFor self.new (cs ++ column_of column.now ∷ [])) }
-        ensures told { (cs : List Column) → StandsFor self.old cs → OnTrue result (heard_so_far (cs ++ column_of column.now ∷ []) ≡ heard_so_far cs) }
+        ensures heard { (cs : List Column) → HearingRepresents self.old cs → OnTrue result (HearingRepresents self.new (cs ++ column_of column.now ∷ [])) }
+        ensures reported { (cs : List Column) → HearingRepresents self.old cs → OnTrue result (heard_so_far (cs ++ column_of column.now ∷ []) ≡ heard_so_far cs) }
         ensures same { OnFalse result (self.new ≡ self.old) }
     {
         match self.phase {
@@ -208,8 +208,8 @@ impl Hearing {
         requires room { length self.old.notes ≤ 0 }
         ensures columns { self.new.columns ≡ self.old.columns + 1 }
         ensures open { self.new.finished ≡ false }
-        ensures heard { (cs : List Column) → StandsFor self.old cs → StandsFor self.new (cs ++ column_of column.now ∷ []) }
-        ensures told { (cs : List Column) → StandsFor self.old cs → heard_so_far (cs ++ column_of column.now ∷ []) ≡ heard_so_far cs ++ all_at (length cs) (last_told self.new) }
+        ensures heard { (cs : List Column) → HearingRepresents self.old cs → HearingRepresents self.new (cs ++ column_of column.now ∷ []) }
+        ensures reported { (cs : List Column) → HearingRepresents self.old cs → heard_so_far (cs ++ column_of column.now ∷ []) ≡ heard_so_far cs ++ all_at (length cs) (last_reported self.new) }
     {
         let n = self.columns;
         if is_control_column(column) {
@@ -242,11 +242,11 @@ impl Hearing {
         self.columns = n + 1;
     }
 
-    /// Ends the columns; `tells` and `told` then say what the end tells.
+    /// Ends the columns; `tells` and `reported` then say what the end tells.
     pub fn finish(&mut self)
         requires { self.old.finished ≡ false }
         ensures finished { self.new.finished ≡ true }
-        ensures told { (cs : List Column) → StandsFor self.old cs → heard cs ≡ map thing_of (heard_so_far cs) ++ last_told self.new }
+        ensures reported { (cs : List Column) → HearingRepresents self.old cs → heard cs ≡ map event_of (heard_so_far cs) ++ last_reported self.new }
     {
         self.notes.clear();
         end(
@@ -260,7 +260,7 @@ impl Hearing {
         self.finished = true;
     }
 
-    /// How many things the last call told.
+    /// How many events the last call told.
     pub fn tells(&self) -> u8
         ensures few { result ≤ 8 }
         ensures count { result ≡ length self.now.notes }
@@ -268,34 +268,34 @@ impl Hearing {
         self.notes.len()
     }
 
-    /// Lends thing `i` of those that the last call told.
-    pub fn told(&self, i: u8) -> Told<'_>
+    /// Lends event `i` of those that the last call told.
+    pub fn reported(&self, i: u8) -> EventRef<'_>
         requires { i < length self.now.notes }
-        ensures { slice_get (last_told self.now) i ≡ Some (lent_thing result) }
+        ensures { slice_get (last_reported self.now) i ≡ Some (lent_event result) }
     {
         let note = self.notes.get(i);
         lend(note, self.line.bytes(), self.island.whole())
     }
 }
 
-/// Lends the thing of a note, with the bytes of a line or with a packet.
-pub fn lend<'a>(note: Note, bytes: &'a [u8], whole: &'a Whole) -> Told<'a>
-    ensures { lent_thing result ≡ noted (lent bytes.entry.now whole.entry.now) note }
+/// Lends the event of a note, with the bytes of a line or with a packet.
+pub fn lend<'a>(note: QueuedEvent, bytes: &'a [u8], whole: &'a WholePacket) -> EventRef<'a>
+    ensures { lent_event result ≡ noted (lent bytes.entry.now whole.entry.now) note }
 {
     match note {
-        Note::Run { value, count } => Told::Run { value, count },
-        Note::Line => Told::Line { pixels: bytes },
-        Note::Open { first, second } => Told::Open {
+        QueuedEvent::Run { value, count } => EventRef::Run { value, count },
+        QueuedEvent::Line => EventRef::Line { pixels: bytes },
+        QueuedEvent::Open { first, second } => EventRef::Open {
             sync: [first, second],
         },
-        Note::Packet { column } => Told::Packet {
+        QueuedEvent::Packet { column } => EventRef::Packet {
             packet: PacketRef::new(&whole.packet, &whole.verdicts),
             column,
         },
-        Note::Close { first, second } => Told::Close {
+        QueuedEvent::Close { first, second } => EventRef::Close {
             sync: [first, second],
         },
-        Note::Fault(fault) => Told::Fault(fault),
-        Note::Cut { column } => Told::Cut { column },
+        QueuedEvent::Fault(fault) => EventRef::Fault(fault),
+        QueuedEvent::Cut { column } => EventRef::Cut { column },
     }
 }

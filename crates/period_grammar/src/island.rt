@@ -3,17 +3,17 @@ ghost use Rattle.std.specs.Prelude.{◌≡◌, ◌<◌, ◌≤◌, ◌+◌, ◌*
 ghost use Rattle.tmds_word.specs.Column.{Column, column_of};
 ghost use Rattle.period_grammar.specs.Column.{sync_digit};
 ghost use Rattle.terc4.specs.Columns.{is_island_guard};
-ghost use Rattle.period_grammar.specs.Things.{Thing, guard, empty, symbols, long_island};
-ghost use Rattle.island_pack.specs.Spelling.{words_of};
+ghost use Rattle.period_grammar.specs.Events.{Event, guard, empty, symbols, long_island};
+ghost use Rattle.island_pack.specs.Spelling.{column_words};
 ghost use Rattle.island_pack.specs.Repaired.{packet_of, verdicts_of, packet_in, verdicts_in};
-ghost use Rattle.period_grammar.specs.Island.{Payload, payload, packet_things, closing_things, breaks, if_so, block_fault, packet_faults};
+ghost use Rattle.period_grammar.specs.Island.{Payload, payload, packet_events, closing_events, breaks, if_so, block_fault, packet_faults};
 ghost use Rattle.period_grammar.specs.After.{island_gain, after_payload};
 ghost use Rattle.period_grammar.specs.IslandAfter.{IsIslandAfter, IsBlocked, IsPartsAfter, at_some};
-ghost use Rattle.period_grammar.specs.Noted.{things, Lent, lent};
+ghost use Rattle.period_grammar.specs.Noted.{events, Lent, lent};
 
 use crate::column;
-use crate::notes::{Note, Notes};
-use crate::told::Fault;
+use crate::event::Fault;
+use crate::event_queue::{EventQueue, QueuedEvent};
 use bch_block::Verdict;
 use island_pack::{Packet, PacketVerdicts, take};
 use terc4::{closing_guard_words, is_island_guard, terc};
@@ -31,7 +31,7 @@ pub enum Left {
 
 /// A packet that came whole, and the verdicts on its blocks.
 #[derive(Clone, Copy, Drop)]
-pub struct Whole {
+pub struct WholePacket {
     pub packet: Packet,
     pub verdicts: PacketVerdicts,
 }
@@ -43,53 +43,53 @@ pub struct Island {
     pub packets: u32,
     pub within: u32,
     pub left: Left,
-    pub whole: Whole,
+    pub whole: WholePacket,
 }
 
 /// Tells the verdict on a block, unless it is clean.
-fn tell_block(at: u32, block: u8, verdict: Verdict, notes: &mut Notes)
+fn tell_block(at: u32, block: u8, verdict: Verdict, notes: &mut EventQueue)
     requires room { length notes.old < 8 }
     ensures room { length notes.new ≤ length notes.old + 1 }
-    ensures told { (l : Lent) → things l notes.new ≡ things l notes.old ++ block_fault at block verdict }
+    ensures reported { (l : Lent) → events l notes.new ≡ events l notes.old ++ block_fault at block verdict }
 {
     match verdict {
         Verdict::Clean => {}
-        Verdict::Mended(bit) => notes.push(Note::Fault(Fault::Mended {
+        Verdict::Mended(bit) => notes.push(QueuedEvent::Fault(Fault::Mended {
             column: at,
             block,
             bit,
         })),
-        Verdict::Lost => notes.push(Note::Fault(Fault::Lost { column: at, block })),
+        Verdict::Lost => notes.push(QueuedEvent::Fault(Fault::Lost { column: at, block })),
     }
 }
 
 /// Tells how many words are no TERC4 words, if there are any.
-fn tell_symbols(at: u32, count: u8, notes: &mut Notes)
+fn tell_symbols(at: u32, count: u8, notes: &mut EventQueue)
     requires room { length notes.old < 8 }
     ensures room { length notes.new ≤ length notes.old + 1 }
-    ensures told { (l : Lent) → things l notes.new ≡ things l notes.old ++ if_so (not (count == 0)) (symbols at count) }
+    ensures reported { (l : Lent) → events l notes.new ≡ events l notes.old ++ if_so (not (count == 0)) (symbols at count) }
 {
     if count != 0 {
-        notes.push(Note::Fault(Fault::Symbols { column: at, count }));
+        notes.push(QueuedEvent::Fault(Fault::Symbols { column: at, count }));
     }
 }
 
 /// Tells that a packet is its island's nineteenth.
-fn tell_long(at: u32, packets: u32, notes: &mut Notes)
+fn tell_long(at: u32, packets: u32, notes: &mut EventQueue)
     requires room { length notes.old < 8 }
     ensures room { length notes.new ≤ length notes.old + 1 }
-    ensures told { (l : Lent) → things l notes.new ≡ things l notes.old ++ if_so (packets == 18) (long_island at) }
+    ensures reported { (l : Lent) → events l notes.new ≡ events l notes.old ++ if_so (packets == 18) (long_island at) }
 {
     if packets == 18 {
-        notes.push(Note::Fault(Fault::LongIsland { column: at }));
+        notes.push(QueuedEvent::Fault(Fault::LongIsland { column: at }));
     }
 }
 
 /// Tells the words that are no TERC4 words, and the verdicts on the five blocks.
-fn tell_verdicts(at: u32, verdicts: &PacketVerdicts, notes: &mut Notes)
+fn tell_verdicts(at: u32, verdicts: &PacketVerdicts, notes: &mut EventQueue)
     requires room { length notes.old ≤ 1 }
     ensures room { length notes.new ≤ 7 }
-    ensures told { (l : Lent) → things l notes.new ≡ things l notes.old ++ packet_faults at verdicts.now }
+    ensures reported { (l : Lent) → events l notes.new ≡ events l notes.old ++ packet_faults at verdicts.now }
 {
     let [a, b, c, d, header] = verdicts.blocks;
     tell_symbols(at, verdicts.symbols, notes);
@@ -101,43 +101,43 @@ fn tell_verdicts(at: u32, verdicts: &PacketVerdicts, notes: &mut Notes)
 }
 
 /// Tells a packet that came whole at a column, after some packets of its island.
-fn tell_packet(at: u32, packets: u32, whole: &Whole, notes: &mut Notes)
+fn tell_packet(at: u32, packets: u32, whole: &WholePacket, notes: &mut EventQueue)
     requires room { length notes.old ≤ 0 }
     ensures room { length notes.new ≤ 8 }
-    ensures told { (bytes : List ℕ) (p : List Column) → whole.now.packet ≡ packet_of p → whole.now.verdicts ≡ verdicts_of p
-        → things (lent bytes whole.now) notes.new ≡ packet_things at packets p }
+    ensures reported { (bytes : List ℕ) (p : List Column) → whole.now.packet ≡ packet_of p → whole.now.verdicts ≡ verdicts_of p
+        → events (lent bytes whole.now) notes.new ≡ packet_events at packets p }
 {
-    notes.push(Note::Packet { column: at });
+    notes.push(QueuedEvent::Packet { column: at });
     tell_verdicts(at, &whole.verdicts, notes);
     tell_long(at, packets, notes);
 }
 
 /// Takes the packet of 32 columns.
-fn taken(columns: &[[Word; 3]; 32]) -> Whole
+fn taken(columns: &[[Word; 3]; 32]) -> WholePacket
     ensures packet { result.packet ≡ packet_in columns.now }
     ensures verdicts { result.verdicts ≡ verdicts_in columns.now }
 {
     let (packet, verdicts) = take(columns);
-    Whole { packet, verdicts }
+    WholePacket { packet, verdicts }
 }
 
-pub fn tell_guard(is_guard: bool, at: u32, notes: &mut Notes)
+pub fn tell_guard(is_guard: bool, at: u32, notes: &mut EventQueue)
     requires room { length notes.old < 8 }
     ensures room { length notes.new ≤ length notes.old + 1 }
-    ensures told { (l : Lent) → things l notes.new ≡ things l notes.old ++ if_so (not is_guard) (guard at) }
+    ensures reported { (l : Lent) → events l notes.new ≡ events l notes.old ++ if_so (not is_guard) (guard at) }
 {
     if !is_guard {
-        notes.push(Note::Fault(Fault::Guard { column: at }));
+        notes.push(QueuedEvent::Fault(Fault::Guard { column: at }));
     }
 }
 
-fn tell_empty(none: bool, start: u32, notes: &mut Notes)
+fn tell_empty(none: bool, start: u32, notes: &mut EventQueue)
     requires room { length notes.old < 8 }
     ensures room { length notes.new ≤ length notes.old + 1 }
-    ensures told { (l : Lent) → things l notes.new ≡ things l notes.old ++ if_so none (empty start) }
+    ensures reported { (l : Lent) → events l notes.new ≡ events l notes.old ++ if_so none (empty start) }
 {
     if none {
-        notes.push(Note::Fault(Fault::Empty { column: start }));
+        notes.push(QueuedEvent::Fault(Fault::Empty { column: start }));
     }
 }
 
@@ -149,14 +149,14 @@ fn tell_close(
     digit: u8,
     guard: bool,
     column: &[Word; 3],
-    notes: &mut Notes,
+    notes: &mut EventQueue,
 )
     requires room { length notes.old ≤ 0 }
     requires fits { at + 1 < 2 ^ 32 }
     ensures room { length notes.new ≤ 4 }
-    ensures told { (l : Lent) (c : Column) → digit ≡ sync_digit c.blue → guard ≡ is_island_guard c → things l notes.new ≡ closing_things start at packets c (column_of column.now) }
+    ensures reported { (l : Lent) (c : Column) → digit ≡ sync_digit c.blue → guard ≡ is_island_guard c → events l notes.new ≡ closing_events start at packets c (column_of column.now) }
 {
-    notes.push(Note::Close {
+    notes.push(QueuedEvent::Close {
         first: digit,
         second: column::digit(column::blue(column)),
     });
@@ -169,14 +169,14 @@ fn tell_close(
 fn put_column(block: &mut [[Word; 3]; 32], at: u32, column: &[Word; 3])
     requires { at < 32 }
     ensures whole { length block.new ≡ 32 }
-    ensures put { take (at + 1) block.new ≡ take at block.old ++ words_of (column_of column.now) ∷ [] }
+    ensures put { take (at + 1) block.new ≡ take at block.old ++ column_words (column_of column.now) ∷ [] }
 {
     block[at as usize] = *column;
 }
 
-impl Whole {
+impl WholePacket {
     /// A packet of zeros, which no note names.
-    pub fn unused() -> Whole {
+    pub fn unused() -> WholePacket {
         let word = terc(0);
         taken(&[[word; 3]; 32])
     }
@@ -229,14 +229,14 @@ impl Island {
     }
 
     /// Hears a column, where the island began at column `start`.
-    pub fn hear(&mut self, start: u32, column: &[Word; 3], notes: &mut Notes)
+    pub fn hear(&mut self, start: u32, column: &[Word; 3], notes: &mut EventQueue)
         requires blocked { IsBlocked self.old }
         requires fits { (start + 2) + (32 * self.old.packets + 2) < 2 ^ 32 }
         requires room { length notes.old ≤ 0 }
         ensures blocked { IsBlocked self.new }
         ensures packets { 32 * self.new.packets + self.new.within ≤ 32 * self.old.packets + (self.old.within + 1) }
         ensures room { length notes.new ≤ 8 }
-        ensures told { (rest : List Column) (bytes : List ℕ) → IsIslandAfter self.old rest → things (lent bytes self.new.whole) notes.new ≡ island_gain start (column_of column.now) (payload rest) }
+        ensures reported { (rest : List Column) (bytes : List ℕ) → IsIslandAfter self.old rest → events (lent bytes self.new.whole) notes.new ≡ island_gain start (column_of column.now) (payload rest) }
         ensures heard { (rest : List Column) → IsIslandAfter self.old rest → IsIslandAfter self.new (rest ++ column_of column.now ∷ []) }
     {
         let at = start + 2 + 32 * self.packets;
@@ -271,7 +271,7 @@ impl Island {
                 self.left = Left::Packet;
             }
             Left::Closed => {
-                notes.push(Note::Fault(Fault::Noise { column: at + 2 }));
+                notes.push(QueuedEvent::Fault(Fault::Noise { column: at + 2 }));
                 self.left = Left::Over;
             }
             Left::Over => {}
@@ -281,7 +281,7 @@ impl Island {
     /// Where the packet or the closing guard begins that is not whole.
     pub fn broken_at(&self, start: u32) -> Option<u32>
         requires fits { (start + 2) + 32 * self.now.packets < 2 ^ 32 }
-        ensures { (rest : List Column) (f : ℕ → Thing) → IsIslandAfter self.now rest → breaks f start (payload rest) ≡ at_some f result }
+        ensures { (rest : List Column) (f : ℕ → Event) → IsIslandAfter self.now rest → breaks f start (payload rest) ≡ at_some f result }
     {
         match self.left {
             Left::Packet | Left::First { .. } => Some(start + 2 + 32 * self.packets),
@@ -290,7 +290,7 @@ impl Island {
     }
 
     /// Lends the last packet that came whole.
-    pub fn whole(&self) -> &Whole
+    pub fn whole(&self) -> &WholePacket
         ensures { result.now ≡ self.now.whole }
     {
         &self.whole

@@ -1,7 +1,7 @@
 //! What holds of everything that is told. The functions do nothing: what they ensure are the laws.
 ghost use Rattle.period_grammar.specs.Gains.{PushLaw, EndLaw, LinkIsOne};
 ghost use Rattle.period_grammar.specs.Sizes.{Sizes, ValueBelow};
-ghost use Rattle.period_grammar.specs.Before.{ToldBefore};
+ghost use Rattle.period_grammar.specs.Before.{ReportedBefore};
 
 /// All runs, lines, packets and sync digits that are told are of the sizes that a link can have.
 pub fn sizes()
@@ -29,6 +29,6 @@ pub fn link_is_one()
 {}
 
 /// What a list tells at columns before a column is what its columns before that one tell so far.
-pub fn told_before()
-    ensures { ToldBefore }
+pub fn reported_before()
+    ensures { ReportedBefore }
 {}

@@ -6,15 +6,15 @@ ghost use Rattle.tmds_word.specs.Lent.{columns_in};
 ghost use Rattle.period_grammar.specs.Balanced.{is_pixel};
 ghost use Rattle.period_grammar.specs.Heard.{line_of, line_at, code_fault};
 ghost use Rattle.period_grammar.specs.Lines.{IsLineAfter};
-ghost use Rattle.period_grammar.specs.Noted.{things, Lent, lent};
-ghost use Rattle.period_grammar.specs.declared.island.Whole.{Whole};
+ghost use Rattle.period_grammar.specs.Noted.{events, Lent, lent};
+ghost use Rattle.period_grammar.specs.declared.island.WholePacket.{WholePacket};
 
 use crate::column;
+use crate::event::Fault;
+use crate::event_queue::{EventQueue, QueuedEvent};
 use crate::followed::{Balances, GROUP};
 use crate::held::Bytes;
 use crate::lane::Lane;
-use crate::notes::{Note, Notes};
-use crate::told::Fault;
 use std::marker::Model;
 use terc4::is_control_column;
 use tmds_word::{Columns, Word};
@@ -149,32 +149,32 @@ impl Line {
     }
 
     /// Tells the line, whose first pixel is two columns after the start.
-    pub fn tell(&self, start: u32, notes: &mut Notes)
+    pub fn tell(&self, start: u32, notes: &mut EventQueue)
         requires room { length notes.old ≤ 0 }
         requires fits { start + self.now.count + 2 < 2 ^ 32 }
         ensures room { length notes.new ≤ 5 }
-        ensures told { (pixels : List Column) (whole : Whole) → IsLineAfter self.now pixels → things (lent self.now.bytes whole) notes.new ≡ line_of start pixels }
+        ensures reported { (pixels : List Column) (whole : WholePacket) → IsLineAfter self.now pixels → events (lent self.now.bytes whole) notes.new ≡ line_of start pixels }
     {
         if self.count == 0 {
-            notes.push(Note::Fault(Fault::Empty { column: start }));
+            notes.push(QueuedEvent::Fault(Fault::Empty { column: start }));
             return;
         }
         self.tell_pixels(start, start + 2, notes);
     }
 
     /// Tells the line of a period that begins at the start, and whose first pixel is at column `from`.
-    pub fn tell_pixels(&self, start: u32, from: u32, notes: &mut Notes)
+    pub fn tell_pixels(&self, start: u32, from: u32, notes: &mut EventQueue)
         requires room { length notes.old ≤ 1 }
         requires fits { from + self.now.count < 2 ^ 32 }
         ensures room { length notes.new ≤ length notes.old + 5 }
-        ensures told { (pixels : List Column) (whole : Whole) → IsLineAfter self.now pixels → things (lent self.now.bytes whole) notes.new ≡ things (lent self.now.bytes whole) notes.old ++ line_at start from pixels }
+        ensures reported { (pixels : List Column) (whole : WholePacket) → IsLineAfter self.now pixels → events (lent self.now.bytes whole) notes.new ≡ events (lent self.now.bytes whole) notes.old ++ line_at start from pixels }
     {
-        notes.push(Note::Line);
+        notes.push(QueuedEvent::Line);
         tell_code(0, from, self.blue.first, notes);
         tell_code(1, from, self.green.first, notes);
         tell_code(2, from, self.red.first, notes);
         if self.count > 4096 {
-            notes.push(Note::Fault(Fault::LongLine { column: start }));
+            notes.push(QueuedEvent::Fault(Fault::LongLine { column: start }));
         }
     }
 
@@ -191,14 +191,14 @@ impl Line {
     }
 }
 
-fn tell_code(lane: u8, from: u32, first: Option<u32>, notes: &mut Notes)
+fn tell_code(lane: u8, from: u32, first: Option<u32>, notes: &mut EventQueue)
     requires room { length notes.old < 8 }
     requires fits { (i : ℕ) → first ≡ Some i → from + i < 2 ^ 32 }
     ensures room { length notes.new ≤ length notes.old + 1 }
-    ensures told { (bytes : Lent) → things bytes notes.new ≡ things bytes notes.old ++ code_fault lane from first }
+    ensures reported { (bytes : Lent) → events bytes notes.new ≡ events bytes notes.old ++ code_fault lane from first }
 {
     if let Some(i) = first {
-        notes.push(Note::Fault(Fault::Code {
+        notes.push(QueuedEvent::Fault(Fault::Code {
             lane,
             column: from + i,
         }));

@@ -9,17 +9,17 @@ ghost use Rattle.period_grammar.specs.Heard.{other_words, other_word};
 ghost use Rattle.period_grammar.specs.After.{gains, grown, gap_of, ends};
 ghost use Rattle.period_grammar.specs.ControlAfter.{IsControlAfter, IsCounted};
 ghost use Rattle.period_grammar.specs.IslandAfter.{IsBlocked, at_some};
-ghost use Rattle.period_grammar.specs.Things.{broken, cut};
-ghost use Rattle.period_grammar.specs.Noted.{things, lent, Lent};
+ghost use Rattle.period_grammar.specs.Events.{broken, cut};
+ghost use Rattle.period_grammar.specs.Noted.{events, lent, Lent};
 ghost use Rattle.period_grammar.specs.Seen.{IsPlaced};
 ghost use Rattle.period_grammar.specs.Stands.{IsStretchAfter, closed, going_on};
 
 use crate::column;
-use crate::control::Kept;
+use crate::control::ControlState;
+use crate::event::Fault;
+use crate::event_queue::{EventQueue, QueuedEvent};
 use crate::island::{Island, tell_guard};
 use crate::line::Line;
-use crate::notes::{Note, Notes};
-use crate::told::Fault;
 use island_pack::{ISLAND_CTL, VIDEO_CTL};
 use terc4::{
     is_control_word, is_island_guard, is_video_guard, island_guard_words, video_guard_words,
@@ -50,11 +50,11 @@ pub fn close(
     phase: Phase,
     n: u32,
     value: u8,
-    kept: Kept,
+    kept: ControlState,
     line: &Line,
     island: &Island,
-    notes: &mut Notes,
-) -> Kept
+    notes: &mut EventQueue,
+) -> ControlState
     requires room { length notes.old ≤ 0 }
     requires counted { IsCounted kept }
     requires fits { n + 40 < 2 ^ 32 }
@@ -63,7 +63,7 @@ pub fn close(
     ensures room { length notes.new ≤ 5 }
     ensures counted { IsCounted result }
     ensures few { result.columns ≤ n }
-    ensures told { (x : Stretch) (b : ℕ) → IsStretchAfter phase kept line.now island.now n x → b + length (gap_of x) ≡ n → things (lent line.now.bytes island.now.whole) notes.new ≡ closed value b x }
+    ensures reported { (x : Stretch) (b : ℕ) → IsStretchAfter phase kept line.now island.now n x → b + length (gap_of x) ≡ n → events (lent line.now.bytes island.now.whole) notes.new ≡ closed value b x }
     ensures kept { (x : Stretch) → IsStretchAfter phase kept line.now island.now n x → IsControlAfter result (going_on x) }
 {
     match phase {
@@ -72,37 +72,37 @@ pub fn close(
             kept
         }
         Phase::First { start, .. } => {
-            notes.push(Note::Fault(Fault::Noise { column: start }));
-            Kept::new()
+            notes.push(QueuedEvent::Fault(Fault::Noise { column: start }));
+            ControlState::new()
         }
         Phase::Video { start } => {
             line.tell(start, notes);
-            Kept::new()
+            ControlState::new()
         }
         Phase::Island { start } => {
             tell_broken(island.broken_at(start), notes);
-            Kept::new()
+            ControlState::new()
         }
-        Phase::Noise => Kept::new(),
+        Phase::Noise => ControlState::new(),
     }
 }
 
-fn tell_word(lane: u8, n: u32, word: Word, notes: &mut Notes)
+fn tell_word(lane: u8, n: u32, word: Word, notes: &mut EventQueue)
     requires room { length notes.old + length (other_word lane n (is_control word)) ≤ 8 }
     ensures room { length notes.new ≡ length notes.old + length (other_word lane n (is_control word)) }
-    ensures told { (bytes : Lent) → things bytes notes.new ≡ things bytes notes.old ++ other_word lane n (is_control word) }
+    ensures reported { (bytes : Lent) → events bytes notes.new ≡ events bytes notes.old ++ other_word lane n (is_control word) }
 {
     if !is_control_word(word) {
-        notes.push(Note::Fault(Fault::Word { lane, column: n }));
+        notes.push(QueuedEvent::Fault(Fault::Word { lane, column: n }));
     }
 }
 
 /// Tells the word of a control column that is no control word: there is one at most.
-pub fn tell_words(n: u32, column: &[Word; 3], notes: &mut Notes)
+pub fn tell_words(n: u32, column: &[Word; 3], notes: &mut EventQueue)
     requires room { length notes.old ≤ 7 }
     requires control { is_control_column (column_of column.now) ≡ true }
     ensures room { length notes.new ≤ length notes.old + 1 }
-    ensures told { (bytes : Lent) → things bytes notes.new ≡ things bytes notes.old ++ other_words n (column_of column.now) }
+    ensures reported { (bytes : Lent) → events bytes notes.new ≡ events bytes notes.old ++ other_words n (column_of column.now) }
 {
     tell_word(0, n, column::blue(column), notes);
     tell_word(1, n, column::green(column), notes);
@@ -114,10 +114,10 @@ pub fn go_on(
     phase: Phase,
     n: u32,
     column: &[Word; 3],
-    kept: &Kept,
+    kept: &ControlState,
     line: &mut Line,
     island: &mut Island,
-    notes: &mut Notes,
+    notes: &mut EventQueue,
 ) -> Phase
     requires room { length notes.old ≤ 0 }
     requires placed { IsPlaced phase line.old.count island.old n }
@@ -126,7 +126,7 @@ pub fn go_on(
     ensures blocked { IsBlocked island.new }
     ensures room { length notes.new ≤ 8 }
     ensures placed { IsPlaced result line.new.count island.new (n + 1) }
-    ensures told { (x : Stretch) (b : ℕ) → IsStretchAfter phase kept.now line.old island.old n x → b + length (gap_of x) ≡ n → things (lent line.new.bytes island.new.whole) notes.new ≡ gains false b n (column_of column.now) x }
+    ensures reported { (x : Stretch) (b : ℕ) → IsStretchAfter phase kept.now line.old island.old n x → b + length (gap_of x) ≡ n → events (lent line.new.bytes island.new.whole) notes.new ≡ gains false b n (column_of column.now) x }
     ensures stands { (x : Stretch) → IsStretchAfter phase kept.now line.old island.old n x → IsStretchAfter result kept.now line.new island.new (n + 1) (grown false (column_of column.now) x) }
 {
     match phase {
@@ -154,7 +154,7 @@ pub fn go_on(
             }
             if column::at_least(5, opens, island_guard_words(column)) {
                 kept.tell_lacks(start, ISLAND_CTL, notes);
-                notes.push(Note::Open {
+                notes.push(QueuedEvent::Open {
                     first: digit,
                     second: column::digit(column::blue(column)),
                 });
@@ -163,7 +163,7 @@ pub fn go_on(
                 island.clear();
                 return Phase::Island { start };
             }
-            notes.push(Note::Fault(Fault::Noise { column: start }));
+            notes.push(QueuedEvent::Fault(Fault::Noise { column: start }));
             Phase::Noise
         }
         Phase::Island { start } => {
@@ -179,38 +179,45 @@ pub fn go_on(
 }
 
 /// Tells what the end tells.
-pub fn end(phase: Phase, n: u32, kept: &Kept, line: &Line, island: &Island, notes: &mut Notes)
+pub fn end(
+    phase: Phase,
+    n: u32,
+    kept: &ControlState,
+    line: &Line,
+    island: &Island,
+    notes: &mut EventQueue,
+)
     requires fits { n + 40 < 2 ^ 32 }
     requires room { length notes.old ≤ 0 }
     requires placed { IsPlaced phase line.now.count island.now n }
     ensures room { length notes.new ≤ 8 }
-    ensures told { (x : Stretch) (b : ℕ) → IsStretchAfter phase kept.now line.now island.now n x → b + length (gap_of x) ≡ n → things (lent line.now.bytes island.now.whole) notes.new ≡ ends b x }
+    ensures reported { (x : Stretch) (b : ℕ) → IsStretchAfter phase kept.now line.now island.now n x → b + length (gap_of x) ≡ n → events (lent line.now.bytes island.now.whole) notes.new ≡ ends b x }
 {
     match phase {
         Phase::Control => kept.tell_run(notes),
-        Phase::First { start, .. } => notes.push(Note::Cut { column: start }),
-        Phase::Video { start } => notes.push(Note::Cut { column: start + 2 }),
+        Phase::First { start, .. } => notes.push(QueuedEvent::Cut { column: start }),
+        Phase::Video { start } => notes.push(QueuedEvent::Cut { column: start + 2 }),
         Phase::Island { start } => tell_cut(island.broken_at(start), notes),
         Phase::Noise => {}
     }
 }
 
-fn tell_broken(at: Option<u32>, notes: &mut Notes)
+fn tell_broken(at: Option<u32>, notes: &mut EventQueue)
     requires room { length notes.old ≤ 0 }
     ensures room { length notes.new ≤ 1 }
-    ensures told { (bytes : Lent) → things bytes notes.new ≡ at_some broken at }
+    ensures reported { (bytes : Lent) → events bytes notes.new ≡ at_some broken at }
 {
     if let Some(column) = at {
-        notes.push(Note::Fault(Fault::Broken { column }));
+        notes.push(QueuedEvent::Fault(Fault::Broken { column }));
     }
 }
 
-fn tell_cut(at: Option<u32>, notes: &mut Notes)
+fn tell_cut(at: Option<u32>, notes: &mut EventQueue)
     requires room { length notes.old ≤ 0 }
     ensures room { length notes.new ≤ 1 }
-    ensures told { (bytes : Lent) → things bytes notes.new ≡ at_some cut at }
+    ensures reported { (bytes : Lent) → events bytes notes.new ≡ at_some cut at }
 {
     if let Some(column) = at {
-        notes.push(Note::Cut { column });
+        notes.push(QueuedEvent::Cut { column });
     }
 }

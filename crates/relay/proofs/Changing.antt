@@ -54,10 +54,10 @@ unfolding changed_from
 changed_all bits [] = refl
 changed_all bits (v ∷ vs) = ap (λ us. with_ctl bits v ∷ us) (changed_all bits vs)
 
-changed_behind : (bits : ℕ) (xs ys : List ℕ) → changed_from bits (length xs) (xs ++ ys) ≡ xs ++ map (with_ctl bits) ys
+changed_after : (bits : ℕ) (xs ys : List ℕ) → changed_from bits (length xs) (xs ++ ys) ≡ xs ++ map (with_ctl bits) ys
 unfolding changed_from
-changed_behind bits [] ys = changed_all bits ys
-changed_behind bits (x ∷ xs) ys = ap (λ us. x ∷ us) (changed_behind bits xs ys)
+changed_after bits [] ys = changed_all bits ys
+changed_after bits (x ∷ xs) ys = ap (λ us. x ∷ us) (changed_after bits xs ys)
 
 map-reverse : (f : ℕ → ℕ) (xs : List ℕ) → map f (reverse xs) ≡ reverse (map f xs)
 map-reverse f [] = refl
@@ -85,7 +85,7 @@ announced_from bits vs long =
     let d = length-drop k vs in
     let same = take-append-drop k vs in
     let m : length ys ≡ 8 = omega arith in
-    ap (announcing bits) (sym same) ∙ last_eight bits xs ys m ∙ sym (changed_behind bits xs ys)
+    ap (announcing bits) (sym same) ∙ last_eight bits xs ys m ∙ sym (changed_after bits xs ys)
     ∙ ap₂ (λ (i : ℕ) (us : List ℕ). changed_from bits i us) n same
 
 pub changed_none : ChangedNone

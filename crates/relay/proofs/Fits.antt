@@ -8,7 +8,7 @@ use Rattle.island_pack.specs.Conforming.{are_bytes, is_packet, is_video_period}
 use Rattle.island_pack.specs.Packets.{IsPacket}
 use Rattle.island_pack.specs.declared.packet.Packet.{Packet}
 use Rattle.period_grammar.specs.Sizes.{IsSized}
-use Rattle.period_grammar.specs.Things.{line}
+use Rattle.period_grammar.specs.Events.{line}
 
 pub all_bytes : (bytes : List ℕ) → All (λ byte. byte < 256) bytes → are_bytes bytes ≡ true
 all_bytes bytes h = list_all-from_AllPass (λ b. nat_lt b 256) bytes (λ k d lt. lt-ltb _ 256 (h k d lt))
@@ -16,15 +16,15 @@ all_bytes bytes h = list_all-from_AllPass (λ b. nat_lt b 256) bytes (λ k d lt.
 all_digits : (digits : List ℕ) → All (λ digit. digit < 4) digits → list_all (λ v. nat_lt v 4) digits ≡ true
 all_digits digits h = list_all-from_AllPass (λ v. nat_lt v 4) digits (λ k d lt. lt-ltb _ 4 (h k d lt))
 
-pub packet_told : (p : Packet) → IsPacket p → All (λ digit. digit < 4) p.sync → is_packet p ≡ true
+pub packet_reported : (p : Packet) → IsPacket p → All (λ digit. digit < 4) p.sync → is_packet p ≡ true
 unfolding is_packet
-packet_told p is digits =
+packet_reported p is digits =
     and_from _ _ (and_from _ _ (eq-eqb _ 3 is.header) (all_bytes p.header is.header_bytes))
     (and_from _ _ (and_from _ _ (eq-eqb _ 28 is.bodies) (all_bytes p.bodies is.body_bytes)) (and_from _ _ (eq-eqb _ 32 is.sync) (all_digits p.sync digits)))
 
-pub line_told : (bytes : List ℕ) → IsSized (line bytes) → is_video_period bytes ≡ true
+pub line_reported : (bytes : List ℕ) → IsSized (line bytes) → is_video_period bytes ≡ true
 unfolding is_video_period
-line_told bytes (whole, some, few, small) =
+line_reported bytes (whole, some, few, small) =
     and_from (are_bytes bytes) _ (all_bytes bytes small)
     (and_from (length bytes % 3 == 0) _ (eq-eqb (length bytes % 3) 0 whole)
     (and_from (nat_le 1 (length bytes / 3)) _ (le-leb 1 (length bytes / 3) (omega arith)) (le-leb (length bytes / 3) 4096 (omega arith))))

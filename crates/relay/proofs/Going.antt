@@ -14,10 +14,10 @@ use Rattle.source_end.specs.Gathering.{part_size, Has}
 use Rattle.source_end.specs.Gathering.{size as parts_size}
 use Rattle.source_end.specs.Raster.{Part, column, gathered}
 use Rattle.source_end.proofs.Gathered.{same_some}
-use Rattle.period_grammar.specs.Things.{Thing}
+use Rattle.period_grammar.specs.Events.{Event}
 use Rattle.relay.specs.declared.relaying.Relay.{Relay}
 use Rattle.relay.specs.declared.relaying.RelayFault.{RelayFault}
-use Rattle.relay.specs.Relayed.{Judged, Begun, Whole, data_of, some_island, where_so, closed, sure, with_nulls, nulled, joined, with_packet, Data, a_line, an_island, Turn, Turns, ended, on_turn, filled, lengthened, announcing, preamble_of, announced_turn, announced, on_values, period_of, settled, relayed}
+use Rattle.relay.specs.Relayed.{Judged, Begun, WholeIsland, data_of, some_island, where_so, closed, sure, with_nulls, nulled, joined, with_packet, Data, a_line, an_island, Turn, Alternation, ended, on_turn, filled, lengthened, announcing, preamble_of, announced_turn, announced, on_values, period_of, settled, relayed}
 use Rattle.relay.specs.Changed.{changed_from}
 use Rattle.relay.specs.Handed.{Took}
 use Rattle.relay.specs.Parts.{part_of, parts_in, AreSome}
@@ -80,7 +80,7 @@ length-changed bits k [] = refl
 length-changed bits zero (v ∷ vs) = ap suc (length-changed bits zero vs)
 length-changed bits (suc k) (v ∷ vs) = ap suc (length-changed bits k vs)
 
-pub settled_has : (old now : Gathering) (t : Turns) (bits k : ℕ) → Has old (settled_parts t.turns) → size_in t.turns + max 12 (length t.last) ≤ 20000000
+pub settled_has : (old now : Gathering) (t : Alternation) (bits k : ℕ) → Has old (settled_parts t.turns) → size_in t.turns + max 12 (length t.last) ≤ 20000000
     → Took old now (changed_from bits k (lengthened (filled t.last))) → Has now (settled_parts t.turns ++ map column (changed_from bits k (lengthened (filled t.last))))
 settled_has old now t bits k h few f =
     let vs = lengthened (filled t.last) in
@@ -97,7 +97,7 @@ last_announced bits last =
     sym (announced_from bits vs (omega arith))
 
 -- what stands behind a settled control period
-pub ended_has : (now : Gathering) (t : Turns) (d : Data) → Has now ((settled_parts t.turns ++ map column (changed_from (preamble_of d) (length (lengthened (filled t.last)) - 8) (lengthened (filled t.last)))) ++ part_of d ∷ []) → Has now (settled_parts (ended t d).turns)
+pub ended_has : (now : Gathering) (t : Alternation) (d : Data) → Has now ((settled_parts t.turns ++ map column (changed_from (preamble_of d) (length (lengthened (filled t.last)) - 8) (lengthened (filled t.last)))) ++ part_of d ∷ []) → Has now (settled_parts (ended t d).turns)
 ended_has now t d h =
     let vs = lengthened (filled t.last) in
     let parts = settled_parts t.turns in
@@ -107,11 +107,11 @@ ended_has now t d h =
     ∙ sym (settled_more t.turns (record { values = t.last; inner = d })))
     h
 
-pub ended_columns : (t : Turns) (d : Data) (n m : ℕ) → n ≡ size t → m ≡ n + period_columns (period_of d) → m ≡ size_in (ended t d).turns
+pub ended_columns : (t : Alternation) (d : Data) (n m : ℕ) → n ≡ size t → m ≡ n + period_columns (period_of d) → m ≡ size_in (ended t d).turns
 ended_columns t d n m a b = let s = size_both t.turns (record { values = t.last; inner = d } ∷ []) in omega arith
 
 -- behind a line or an island
-pub at_ended : (old mid now : Relay) (t : Turns) (d : Data) (good : Bool) (more : ℕ) → more ≡ period_columns (period_of d)
+pub at_ended : (old mid now : Relay) (t : Alternation) (d : Data) (good : Bool) (more : ℕ) → more ≡ period_columns (period_of d)
     → IsSettled old mid t (changed_from (preamble_of d) (length (lengthened (filled t.last)) - 8) (lengthened (filled t.last)))
     → old.faulty ≡ not good → old.island ≡ None → size (ended t d) ≤ 20000000
     → Has now.whole ((settled_parts t.turns ++ map column (changed_from (preamble_of d) (length (lengthened (filled t.last)) - 8) (lengthened (filled t.last)))) ++ part_of d ∷ [])
@@ -187,7 +187,7 @@ all_taken (suc n) (x ∷ xs) h =
     let both = and_parts (is_packet x.packet) (list_all is_packet (map (λ p. p.packet) xs)) h in
     and_from (is_packet x.packet) (list_all is_packet (map (λ p. p.packet) (take n xs))) both.0 (all_taken n xs both.1)
 
-abbrev whole_of : Begun → SyncPair → Whole
+abbrev whole_of : Begun → SyncPair → WholeIsland
 whole_of b pair = record { opening = b.opening; packets = take 18 b.packets; closing = pair }
 
 whole_fits : (b : Begun) (pair : SyncPair) → Fits (Some b) → is_sync_pair pair ≡ true → is_data_island (data_of (whole_of b pair)) ≡ is_island_in_range (length (take 18 b.packets))
@@ -205,14 +205,14 @@ map_map : (xs : List Judged) → map (λ p. p.packet) (map sure xs) ≡ map (λ 
 map_map [] = refl
 map_map (x ∷ xs) = ap (λ ps. (sure x).packet ∷ ps) (map_map xs)
 
-closes_some : (t : Turns) (b : Begun) (pair : SyncPair) → is_data_island (data_of (whole_of b pair)) ≡ true
+closes_some : (t : Alternation) (b : Begun) (pair : SyncPair) → is_data_island (data_of (whole_of b pair)) ≡ true
     → fold joined t (nulled (closed pair (Some b))) ≡ ended t (an_island (record { opening = b.opening; packets = map (λ p. (sure p).packet) (take 18 b.packets); closing = pair }))
 unfolding nulled
 closes_some t b pair e =
     ap (λ q. fold joined t (map with_nulls (where_so q (some_island (whole_of b pair))))) e
     ∙ ap (λ (ps : List Packet). ended t (an_island (record { opening = b.opening; packets = ps; closing = pair }))) (map_map (take 18 b.packets))
 
-closes_none : (t : Turns) (b : Begun) (pair : SyncPair) → is_data_island (data_of (whole_of b pair)) ≡ false → fold joined t (nulled (closed pair (Some b))) ≡ t
+closes_none : (t : Alternation) (b : Begun) (pair : SyncPair) → is_data_island (data_of (whole_of b pair)) ≡ false → fold joined t (nulled (closed pair (Some b))) ≡ t
 unfolding nulled
 closes_none t b pair e = ap (λ q. fold joined t (map with_nulls (where_so q (some_island (whole_of b pair))))) e
 
@@ -220,14 +220,14 @@ no_map : (xs : List Judged) → map (λ p. (sure p).packet) xs ≡ [] → xs ≡
 no_map [] e = refl
 no_map (x ∷ xs) e = absurd cc
 
-pub closed_empty : (t : Turns) (b : Option Begun) (x : DataIsland) (pair : SyncPair) → Some x ≡ held b → Fits b → is_sync_pair pair ≡ true → x.packets ≡ [] → fold joined t (nulled (closed pair b)) ≡ t
+pub closed_empty : (t : Alternation) (b : Option Begun) (x : DataIsland) (pair : SyncPair) → Some x ≡ held b → Fits b → is_sync_pair pair ≡ true → x.packets ≡ [] → fold joined t (nulled (closed pair b)) ≡ t
 closed_empty t None x pair e h p none = absurd cc
 closed_empty t (Some b) x pair e h p none =
     let same = same_some x (record { opening = b.opening; packets = map (λ p. (sure p).packet) (take 18 b.packets); closing = no_pair }) e in
     let z = no_map (take 18 b.packets) (ap (λ (y : DataIsland). y.packets) (sym same) ∙ none) in
     closes_none t b pair (whole_fits b pair h p ∙ ap (λ (xs : List Judged). is_island_in_range (length xs)) z)
 
-pub closed_some : (t : Turns) (b : Option Begun) (x : DataIsland) (pair : SyncPair) → Some x ≡ held b → Fits b → is_sync_pair pair ≡ true → (x.packets ≡ [] → ⊥)
+pub closed_some : (t : Alternation) (b : Option Begun) (x : DataIsland) (pair : SyncPair) → Some x ≡ held b → Fits b → is_sync_pair pair ≡ true → (x.packets ≡ [] → ⊥)
     → fold joined t (nulled (closed pair b)) ≡ ended t (an_island (record { opening = x.opening; packets = x.packets; closing = pair }))
 closed_some t None x pair e h p some = absurd cc
 closed_some t (Some b) x pair e h p some =
@@ -237,7 +237,7 @@ closed_some t (Some b) x pair e h p some =
     closes_some t b pair (whole_fits b pair h p ∙ in_range (take 18 b.packets) (few_taken 18 b.packets) z)
     ∙ sym (ap (λ (y : DataIsland). ended t (an_island (record { opening = y.opening; packets = y.packets; closing = pair }))) same)
 
-pub closed_none : (t : Turns) (b : Option Begun) (pair : SyncPair) → None ≡ held b → fold joined t (nulled (closed pair b)) ≡ t
+pub closed_none : (t : Alternation) (b : Option Begun) (pair : SyncPair) → None ≡ held b → fold joined t (nulled (closed pair b)) ≡ t
 unfolding nulled
 closed_none t None pair e = refl
 closed_none t (Some b) pair e = absurd cc
@@ -246,14 +246,14 @@ some_or_none : (ps : List Packet) → (ps ≡ []) ⊎ (ps ≡ [] → ⊥)
 some_or_none [] = inl refl
 some_or_none (p ∷ ps) = inr (λ e. absurd cc)
 
-pub closed_steps : {A : Type 0} (now : Relay) (r : Result A RelayFault) (t : Turns) (b : Option Begun) (good : Bool) (x : DataIsland) (pair : SyncPair) → Some x ≡ held b → Fits b → is_sync_pair pair ≡ true
+pub closed_steps : {A : Type 0} (now : Relay) (r : Result A RelayFault) (t : Alternation) (b : Option Begun) (good : Bool) (x : DataIsland) (pair : SyncPair) → Some x ≡ held b → Fits b → is_sync_pair pair ≡ true
     → (x.packets ≡ [] → Steps now r t None good)
     → ((x.packets ≡ [] → ⊥) → length x.packets ≤ 18 → Steps now r (ended t (an_island (record { opening = x.opening; packets = x.packets; closing = pair }))) None good)
     → Steps now r (fold joined t (nulled (closed pair b))) None good
 closed_steps now r t b good x pair e h p f g =
     elim (some_or_none x.packets) [
-      | inl none ↦ subst (λ (u : Turns). Steps now r u None good) (sym (closed_empty t b x pair e h p none)) (f none)
-      | inr some ↦ subst (λ (u : Turns). Steps now r u None good) (sym (closed_some t b x pair e h p some)) (g some (few_held b x e))
+      | inl none ↦ subst (λ (u : Alternation). Steps now r u None good) (sym (closed_empty t b x pair e h p none)) (f none)
+      | inr some ↦ subst (λ (u : Alternation). Steps now r u None good) (sym (closed_some t b x pair e h p some)) (g some (few_held b x e))
     ]
 
 -- The stream.
@@ -276,23 +276,23 @@ are_some (x ∷ xs) =
     let b = length-lengthened x.values in
     (some_values (announcing (preamble_of x.inner) vs) (omega arith), are_some xs)
 
-pub stream_parts : (told : List Thing) → gathered (settled_parts (turns_in told).turns ++ map column (lengthened (filled (turns_in told).last))) ≡ relayed told
+pub stream_parts : (reported : List Event) → gathered (settled_parts (turns_in reported).turns ++ map column (lengthened (filled (turns_in reported).last))) ≡ relayed reported
 unfolding settled
-stream_parts told =
-    let t = turns_in told in
+stream_parts reported =
+    let t = turns_in reported in
     let last = lengthened (filled t.last) in
     let n = length-lengthened t.last in
-    let u : Turns = announced (on_values lengthened (on_values filled t)) in
+    let u : Alternation = announced (on_values lengthened (on_values filled t)) in
     ap gathered (sym (parts_last (map announced_turn (map (on_turn lengthened) (map (on_turn filled) t.turns))) last))
     ∙ sym (parts_gather u (are_some t.turns) (some_values last (omega arith)))
-    ∙ sym (gained told []).relayed_is
+    ∙ sym (gained reported []).relayed_is
 
-pub stream_has : (now : Gathering) (told : List Thing) → Has now (settled_parts (turns_in told).turns ++ map column (changed_from 0 (length (lengthened (filled (turns_in told).last)) - 0) (lengthened (filled (turns_in told).last))))
-    → Has now (settled_parts (turns_in told).turns ++ map column (lengthened (filled (turns_in told).last)))
-stream_has now told h =
-    let ws = lengthened (filled (turns_in told).last) in
+pub stream_has : (now : Gathering) (reported : List Event) → Has now (settled_parts (turns_in reported).turns ++ map column (changed_from 0 (length (lengthened (filled (turns_in reported).last)) - 0) (lengthened (filled (turns_in reported).last))))
+    → Has now (settled_parts (turns_in reported).turns ++ map column (lengthened (filled (turns_in reported).last)))
+stream_has now reported h =
+    let ws = lengthened (filled (turns_in reported).last) in
     let n : length ws - 0 ≡ length ws = omega arith in
-    subst (λ vs. Has now (settled_parts (turns_in told).turns ++ map column vs)) (ap (λ k. changed_from 0 k ws) n ∙ changed_none 0 ws) h
+    subst (λ vs. Has now (settled_parts (turns_in reported).turns ++ map column vs)) (ap (λ k. changed_from 0 k ws) n ∙ changed_none 0 ws) h
 
-pub stream_columns : (told : List Thing) → size (turns_in told) ≡ columns_of (relayed told)
-stream_columns told = sym (ap columns_of (gained told []).relayed_is ∙ columns_settled (turns_in told))
+pub stream_columns : (reported : List Event) → size (turns_in reported) ≡ columns_of (relayed reported)
+stream_columns reported = sym (ap columns_of (gained reported []).relayed_is ∙ columns_settled (turns_in reported))

@@ -5,7 +5,7 @@ use Rattle.std.proofs.lemmas.List.{length-append}
 use Rattle.island_pack.specs.Periods.{control, period_columns, columns_of}
 use Rattle.island_pack.specs.Runs.{longest}
 use Rattle.island_pack.proofs.Runs.{values_longest}
-use Rattle.relay.specs.Relayed.{Kept, some_columns, some_line, some_island, data_of, without_faults, kept_from, nulled, Data, a_line, an_island, Turn, Turns, ended, joined, on_turn, filled, lengthened, announcing, preamble_of, announced_turn, period_of, periods_in, settled}
+use Rattle.relay.specs.Relayed.{RelayedPart, some_columns, some_line, some_island, data_of, without_faults, kept_from, nulled, Data, a_line, an_island, Turn, Alternation, ended, joined, on_turn, filled, lengthened, announcing, preamble_of, announced_turn, period_of, periods_in, settled}
 use Rattle.relay.specs.Laws.{turns_in, begun_in, ColumnsGrow}
 use Rattle.relay.specs.Sizes.{room, size_in, size}
 use Rattle.relay.proofs.Conforming.{length-lengthened, length-announcing}
@@ -28,7 +28,7 @@ columns_in (x ∷ xs) last =
     let ih = columns_in xs last in
     omega arith
 
-pub columns_settled : (t : Turns) → columns_of (settled t) ≡ size t
+pub columns_settled : (t : Alternation) → columns_of (settled t) ≡ size t
 unfolding settled
 columns_settled t = columns_in t.turns t.last
 
@@ -36,24 +36,24 @@ pub size_both : (xs ys : List Turn) → size_in (xs ++ ys) ≡ size_in xs + size
 size_both [] ys = omega arith
 size_both (x ∷ xs) ys = let ih = size_both xs ys in omega arith
 
-pub size_ended : (t : Turns) (d : Data) → size (ended t d) ≡ size t + (period_columns (period_of d) + 12)
+pub size_ended : (t : Alternation) (d : Data) → size (ended t d) ≡ size t + (period_columns (period_of d) + 12)
 size_ended t d = let a = size_both t.turns (record { values = t.last; inner = d } ∷ []) in omega arith
 
-size_grows : (t : Turns) (k : Kept) → size t ≤ size (joined t k)
+size_grows : (t : Alternation) (k : RelayedPart) → size t ≤ size (joined t k)
 size_grows t (some_columns r) = let a = length-append t.last (replicate r.count r.value) in omega arith
 size_grows t (some_line bytes) = let a = size_ended t (a_line bytes) in omega arith
 size_grows t (some_island x) = let a = size_ended t (an_island (data_of x)) in omega arith
 
-size_fold : (ks : List Kept) (t : Turns) → size t ≤ size (fold joined t ks)
+size_fold : (ks : List RelayedPart) (t : Alternation) → size t ≤ size (fold joined t ks)
 size_fold [] t = omega arith
 size_fold (k ∷ ks) t = let a = size_grows t k in let b = size_fold ks (joined t k) in omega arith
 
 pub columns_grow : ColumnsGrow
-columns_grow told more =
-    let g = gained told more in
-    let h = gained (told ++ more) [] in
-    let ks = nulled (kept_from (begun_in told) (without_faults more)) in
-    let a = ap columns_of g.relayed_is ∙ columns_settled (turns_in told) in
-    let b = ap columns_of h.relayed_is ∙ columns_settled (turns_in (told ++ more)) ∙ ap size g.turns in
-    let c = size_fold ks (turns_in told) in
+columns_grow reported more =
+    let g = gained reported more in
+    let h = gained (reported ++ more) [] in
+    let ks = nulled (kept_from (begun_in reported) (without_faults more)) in
+    let a = ap columns_of g.relayed_is ∙ columns_settled (turns_in reported) in
+    let b = ap columns_of h.relayed_is ∙ columns_settled (turns_in (reported ++ more)) ∙ ap size g.turns in
+    let c = size_fold ks (turns_in reported) in
     omega arith

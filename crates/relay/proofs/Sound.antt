@@ -6,32 +6,32 @@ use Rattle.std.proofs.lemmas.Bool.{and_parts, and_from}
 use Rattle.island_pack.specs.Conforming.{is_run, are_bytes, is_video_period, is_sync_pair, is_packet, is_data_island}
 use Rattle.island_pack.specs.Ranges.{is_island_in_range}
 use Rattle.island_pack.specs.declared.packet.Packet.{Packet}
-use Rattle.relay.specs.Relayed.{Said, columns, pixels, opens, carries, closes, ends, Judged, Begun, Whole, data_of, Kept, some_columns, some_line, some_island, where_so, closed, adds, goes_on, kept_from, has_lost, null_packet, sure, with_nulls, nulled, Data, a_line, an_island, Turn, Turns, ended, joined, none, gathered}
+use Rattle.relay.specs.Relayed.{Said, columns, pixels, opens, carries, closes, ends, Judged, Begun, WholeIsland, data_of, RelayedPart, some_columns, some_line, some_island, where_so, closed, adds, goes_on, kept_from, has_lost, null_packet, sure, with_nulls, nulled, Data, a_line, an_island, Turn, Alternation, ended, joined, none, gathered}
 use Rattle.relay.proofs.Lists.{all_both, all_same}
 
-abbrev pub IsSound : Kept → Type 0
+abbrev pub IsSound : RelayedPart → Type 0
 IsSound (some_columns r) = is_run r ≡ true
 IsSound (some_line bytes) = is_video_period bytes ≡ true
 IsSound (some_island x) = is_data_island (data_of x) ≡ true
 
-abbrev pub AreSound : List Kept → Type 0
+abbrev pub AreSound : List RelayedPart → Type 0
 AreSound [] = Unit {0}
 AreSound (k ∷ ks) = IsSound k × AreSound ks
 
-pub sound_both : (ks ls : List Kept) → AreSound ks → AreSound ls → AreSound (ks ++ ls)
+pub sound_both : (ks ls : List RelayedPart) → AreSound ks → AreSound ls → AreSound (ks ++ ls)
 sound_both [] ls h g = g
 sound_both (k ∷ ks) ls h g = (h.0, sound_both ks ls h.1 g)
 
 -- What is kept.
 
-sound_where : (p : Bool) (k : Kept) → (p ≡ true → IsSound k) → AreSound (where_so p k)
+sound_where : (p : Bool) (k : RelayedPart) → (p ≡ true → IsSound k) → AreSound (where_so p k)
 sound_where true k f = (f refl, tt)
 sound_where false k f = tt
 
 sound_closed : (pair : _) (b : Option Begun) → AreSound (closed pair b)
 sound_closed pair None = tt
 sound_closed pair (Some b) =
-    let x : Whole = record { opening = b.opening; packets = take 18 b.packets; closing = pair } in
+    let x : WholeIsland = record { opening = b.opening; packets = take 18 b.packets; closing = pair } in
     sound_where (is_data_island (data_of x)) (some_island x) (λ h. h)
 
 sound_adds : (b : Option Begun) (x : Said) → AreSound (adds b x)
@@ -73,7 +73,7 @@ as_many : (ps : List Judged) → length (packets_of (map sure ps)) ≡ length (p
 as_many [] = refl
 as_many (p ∷ ps) = ap (λ n. suc n) (as_many ps)
 
-sound_island : (x : Whole) → is_data_island (data_of x) ≡ true → IsSound (with_nulls (some_island x))
+sound_island : (x : WholeIsland) → is_data_island (data_of x) ≡ true → IsSound (with_nulls (some_island x))
 unfolding is_data_island
 sound_island x h =
     let guards = is_sync_pair x.opening && is_sync_pair x.closing in
@@ -82,12 +82,12 @@ sound_island x h =
     and_from guards _ both.0
     (and_from (list_all is_packet (packets_of (map sure x.packets))) _ (sound_packets x.packets rest.0) (subst (λ n. is_island_in_range n ≡ true) (sym (as_many x.packets)) rest.1))
 
-sound_with : (k : Kept) → IsSound k → IsSound (with_nulls k)
+sound_with : (k : RelayedPart) → IsSound k → IsSound (with_nulls k)
 sound_with (some_columns r) h = h
 sound_with (some_line bytes) h = h
 sound_with (some_island x) h = sound_island x h
 
-pub sound_nulled : (ks : List Kept) → AreSound ks → AreSound (nulled ks)
+pub sound_nulled : (ks : List RelayedPart) → AreSound ks → AreSound (nulled ks)
 unfolding nulled
 sound_nulled [] h = tt
 sound_nulled (k ∷ ks) h = (sound_with k h.0, sound_nulled ks h.1)
@@ -105,7 +105,7 @@ abbrev pub AreTurns : List Turn → Type 0
 AreTurns [] = Unit {0}
 AreTurns (x ∷ xs) = Small x.values × IsInner x.inner × AreTurns xs
 
-pub record AreGathered (t : Turns) : Type 0 where
+pub record AreGathered (t : Alternation) : Type 0 where
   pub turns : AreTurns t.turns
   pub last : Small t.last
 
@@ -113,20 +113,20 @@ turns_both : (xs ys : List Turn) → AreTurns xs → AreTurns ys → AreTurns (x
 turns_both [] ys h g = g
 turns_both (x ∷ xs) ys h g = (h.0, h.1, turns_both xs ys h.2 g)
 
-sound_ended : (t : Turns) (d : Data) → AreGathered t → IsInner d → AreGathered (ended t d)
+sound_ended : (t : Alternation) (d : Data) → AreGathered t → IsInner d → AreGathered (ended t d)
 sound_ended t d h i = record { turns = turns_both t.turns (record { values = t.last; inner = d } ∷ []) h.turns (h.last, i, tt); last = refl }
 
-pub sound_joined : (t : Turns) (k : Kept) → AreGathered t → IsSound k → AreGathered (joined t k)
+pub sound_joined : (t : Alternation) (k : RelayedPart) → AreGathered t → IsSound k → AreGathered (joined t k)
 sound_joined t (some_columns r) h s =
     let both = and_parts (nat_lt r.value 64) (nat_le 1 r.count) s in
     record { turns = h.turns; last = all_both (λ v. nat_lt v 64) t.last (replicate r.count r.value) h.last (all_same (λ v. nat_lt v 64) r.count r.value both.0) }
 sound_joined t (some_line bytes) h s = sound_ended t (a_line bytes) h s
 sound_joined t (some_island x) h s = sound_ended t (an_island (data_of x)) h s
 
-pub sound_fold : (ks : List Kept) (t : Turns) → AreGathered t → AreSound ks → AreGathered (fold joined t ks)
+pub sound_fold : (ks : List RelayedPart) (t : Alternation) → AreGathered t → AreSound ks → AreGathered (fold joined t ks)
 sound_fold [] t h s = h
 sound_fold (k ∷ ks) t h s = sound_fold ks (joined t k) (sound_joined t k h s.0) s.1
 
-pub sound_gathered : (ks : List Kept) → AreSound ks → AreGathered (gathered ks)
+pub sound_gathered : (ks : List RelayedPart) → AreSound ks → AreGathered (gathered ks)
 unfolding gathered
 sound_gathered ks s = sound_fold ks none (record { turns = tt; last = refl }) s

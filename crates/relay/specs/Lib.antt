@@ -1,11 +1,8 @@
 pub mod Relayed
 pub mod Laws
-pub mod Came
-pub mod Own
 pub mod Changed
 pub mod Parts
 pub mod Handed
 pub mod Sizes
 pub mod Standing
 pub mod Steps
-pub mod Spelled

@@ -1,7 +1,7 @@
 -- The parts that a relay hands on.
 use Rattle.std.specs.Prelude.{◌≡◌, ℕ, List, [], ◌∷◌, ◌++◌, map}
 use Rattle.source_end.specs.Raster.{Part, column, pixels, packets, gathered}
-use Rattle.relay.specs.Relayed.{Data, a_line, an_island, Turn, Turns, periods_of}
+use Rattle.relay.specs.Relayed.{Data, a_line, an_island, Turn, Alternation, periods_of}
 
 abbrev pub part_of : Data → Part
 part_of (a_line bytes) = pixels bytes
@@ -18,4 +18,4 @@ AreSome (x ∷ xs) = (x.values ≡ [] → ⊥) × AreSome xs
 
 -- periods of turns are what their parts make
 abbrev pub PartsGather : Type 0
-PartsGather = (t : Turns) → AreSome t.turns → (t.last ≡ [] → ⊥) → periods_of t ≡ gathered (parts_in t.turns t.last)
+PartsGather = (t : Alternation) → AreSome t.turns → (t.last ≡ [] → ⊥) → periods_of t ≡ gathered (parts_in t.turns t.last)

@@ -1,17 +1,17 @@
--- What a relay keeps of the things that it was told.
+-- What a relay keeps of the events that it was told.
 use Rattle.std.specs.Prelude.{◌≡◌, ◌≤◌, ◌<◌, ◌⊎◌, ◌+◌, Bool, true, not, List, [], ◌∷◌, ◌++◌, map, take, length, max, Option, Some, None}
 use Rattle.std.specs.List.{list_all}
 use Rattle.outside_io.specs.Causes.{next}
 use Rattle.island_pack.specs.Periods.{SyncPair, DataIsland, columns_of}
 use Rattle.island_pack.specs.Conforming.{is_sync_pair, is_packet}
 use Rattle.island_pack.specs.Runs.{longest}
-use Rattle.period_grammar.specs.Things.{Thing}
+use Rattle.period_grammar.specs.Events.{Event}
 use Rattle.period_grammar.specs.Exact.{faultless}
 use Rattle.source_end.specs.Gathering.{Has}
 use Rattle.source_end.specs.Raster.{Part}
 use Rattle.relay.specs.declared.relaying.Relay.{Relay}
 use Rattle.relay.specs.declared.relaying.RelayFault.TheVariants.{Long, NoMemory}
-use Rattle.relay.specs.Relayed.{Begun, sure, Turn, Turns, on_turn, filled, lengthened, announced_turn, relayed}
+use Rattle.relay.specs.Relayed.{Begun, sure, Turn, Alternation, on_turn, filled, lengthened, announced_turn, relayed}
 use Rattle.relay.specs.Laws.{begun_in, turns_in}
 use Rattle.relay.specs.Parts.{parts_in}
 use Rattle.relay.specs.Sizes.{size_in}
@@ -34,7 +34,7 @@ Fits None = Unit {0}
 Fits (Some b) = (is_sync_pair b.opening ≡ true) × (list_all is_packet (map (λ p. p.packet) b.packets) ≡ true)
 
 -- a relay keeps these turns and the island that goes on, and knows whether there was no fault
-pub record IsAt (relay : Relay) (t : Turns) (b : Option Begun) (good : Bool) : Type 0 where
+pub record IsAt (relay : Relay) (t : Alternation) (b : Option Begun) (good : Bool) : Type 0 where
   pub whole : Has relay.whole (settled_parts t.turns)
   pub period : relay.period ≡ longest t.last
   pub period_columns : relay.period_columns ≡ length t.last
@@ -45,20 +45,20 @@ pub record IsAt (relay : Relay) (t : Turns) (b : Option Begun) (good : Bool) : T
   pub faulty : relay.faulty ≡ not good
 
 -- a relay stands for a told list where it keeps what that list makes
-abbrev pub StandsFor : Relay → List Thing → Type 0
-StandsFor relay told = IsAt relay (turns_in told) (begun_in told) (faultless told)
+abbrev pub RelayRepresents : Relay → List Event → Type 0
+RelayRepresents relay reported = IsAt relay (turns_in reported) (begun_in reported) (faultless reported)
 
--- from the first state to the second it took these things
-abbrev pub Took : Relay → Relay → List Thing → Type 0
-Took x y things = ((told : List Thing) → StandsFor x told → StandsFor y (told ++ things)) × (y.trouble ≡ x.trouble)
+-- from the first state to the second it took these events
+abbrev pub Took : Relay → Relay → List Event → Type 0
+Took x y events = ((reported : List Event) → RelayRepresents x reported → RelayRepresents y (reported ++ events)) × (y.trouble ≡ x.trouble)
 
--- a thing that makes what is relayed too long
-abbrev pub IsTooLong : Relay → Thing → Type 0
-IsTooLong x thing = (told : List Thing) → StandsFor x told → 20000000 < columns_of (relayed (told ++ thing ∷ []))
+-- an event that makes what is relayed too long
+abbrev pub IsTooLong : Relay → Event → Type 0
+IsTooLong x event = (reported : List Event) → RelayRepresents x reported → 20000000 < columns_of (relayed (reported ++ event ∷ []))
 
--- from the first state, without trouble, to the second it failed at this thing: it would be too long, or memory was wanting
-abbrev pub Broke : Relay → Relay → Thing → Type 0
-Broke x y thing = x.trouble ≡ None → ((y.trouble ≡ Some Long) × IsTooLong x thing) ⊎ (y.trouble ≡ Some NoMemory)
+-- from the first state, without trouble, to the second it failed at this event: it would be too long, or memory was wanting
+abbrev pub Broke : Relay → Relay → Event → Type 0
+Broke x y event = x.trouble ≡ None → ((y.trouble ≡ Some Long) × IsTooLong x event) ⊎ (y.trouble ≡ Some NoMemory)
 
 -- only its count of failures is another
 abbrev pub counted_again : Relay → Relay
@@ -74,5 +74,5 @@ counted_again x = record {
 }
 
 -- what a relay stands for takes no more than 20,000,000 columns
-abbrev pub StandsForFew : Type 0
-StandsForFew = (relay : Relay) (told : List Thing) → StandsFor relay told → columns_of (relayed told) ≤ 20000000
+abbrev pub RepresentsFew : Type 0
+RepresentsFew = (relay : Relay) (reported : List Event) → RelayRepresents relay reported → columns_of (relayed reported) ≤ 20000000

@@ -5,16 +5,16 @@ ghost use Rattle.island_pack.specs.Periods.{DataIsland, columns_of};
 ghost use Rattle.island_pack.specs.Conforming.{is_sync_pair};
 ghost use Rattle.island_pack.specs.Packets.{IsPacket};
 ghost use Rattle.outside_io.specs.Causes.{HasCause};
-ghost use Rattle.period_grammar.specs.Things.{Thing, line};
-ghost use Rattle.period_grammar.specs.Lending.{lent_thing};
+ghost use Rattle.period_grammar.specs.Events.{Event, line};
+ghost use Rattle.period_grammar.specs.Lending.{lent_event};
 ghost use Rattle.period_grammar.specs.Sizes.{IsSized};
 ghost use Rattle.relay.specs.declared.relaying.RelayFault.{RelayFault};
 ghost use Rattle.relay.specs.declared.relaying.RelayFault.TheVariants.{Long};
 ghost use Rattle.source_end.specs.Pairs.{pair_of};
-ghost use Rattle.relay.specs.Relayed.{Begun, Judged, Turns, a_line, an_island, ended, joined, some_columns, filled, lengthened, with_packet, closed, nulled, relayed};
+ghost use Rattle.relay.specs.Relayed.{Begun, Judged, Alternation, a_line, an_island, ended, joined, some_columns, filled, lengthened, with_packet, closed, nulled, relayed};
 ghost use Rattle.relay.specs.Changed.{changed_from};
 ghost use Rattle.relay.specs.Sizes.{size};
-ghost use Rattle.relay.specs.Standing.{IsAt, StandsFor, Took, Broke, IsTooLong, counted_again};
+ghost use Rattle.relay.specs.Standing.{IsAt, RelayRepresents, Took, Broke, IsTooLong, counted_again};
 ghost use Rattle.relay.specs.Steps.{Steps, IsSettled};
 
 use crate::packets::sent_on;
@@ -22,10 +22,11 @@ use crate::settling::{at_least_twelve, settle};
 use island_pack::{ISLAND_CTL, Packet, PacketRef, VIDEO_CTL};
 use link_sink::Ear;
 use outside_io::{Failed, NoMemory};
-use period_grammar::Told;
+use period_grammar::EventRef;
 use source_end::{Gathering, Island, OpenRuns, Stream};
 use std::alloc::Global;
 use std::mem;
+use terc4::RUN;
 use thiserror::Error;
 
 /// Why a relay failed.
@@ -76,7 +77,7 @@ fn is_long(columns: u32, period: u64, more: u32) -> bool
     requires { period < 2 ^ 33 }
     ensures { result ≡ nat_lt 20000000 (columns + max 12 period + more) }
 {
-    u64::from(columns) + period.max(12) + u64::from(more) > 20_000_000
+    u64::from(columns) + period.max(u64::from(RUN)) + u64::from(more) > 20_000_000
 }
 
 /// How many columns a line takes, its guard columns included.
@@ -97,7 +98,7 @@ fn island_columns(island: &Island) -> u32
 impl Relay {
     /// Nothing was told. It keeps the allocator for its growth.
     pub fn open(alloc: Global) -> Relay
-        ensures stands { StandsFor result [] }
+        ensures stands { RelayRepresents result [] }
         ensures trouble { result.trouble ≡ None }
     {
         Relay {
@@ -128,7 +129,7 @@ impl Relay {
 
     /// Takes control columns of one value.
     fn run(&mut self, value: u8, count: u32) -> Result<(), RelayFault>
-        ensures steps { (t : Turns) (b : Option Begun) (good : Bool) → IsAt self.old t b good → Steps self.new result (joined t (some_columns (record { value = value; count = count }))) None good }
+        ensures steps { (t : Alternation) (b : Option Begun) (good : Bool) → IsAt self.old t b good → Steps self.new result (joined t (some_columns (record { value = value; count = count }))) None good }
         ensures same { (self.new.trouble ≡ self.old.trouble) × (self.new.faults ≡ self.old.faults) }
     {
         self.island = None;
@@ -146,7 +147,7 @@ impl Relay {
     fn settle(&mut self, changed: u32, ctl: u8) -> Result<(), NoMemory>
         requires changed { changed ≤ 12 }
         requires ctl { ctl < 16 }
-        ensures settled { (t : Turns) (b : Option Begun) (good : Bool) → IsAt self.old t b good → OnOk result (IsSettled self.old self.new t (changed_from ctl (length (lengthened (filled t.last)) - changed) (lengthened (filled t.last)))) }
+        ensures settled { (t : Alternation) (b : Option Begun) (good : Bool) → IsAt self.old t b good → OnOk result (IsSettled self.old self.new t (changed_from ctl (length (lengthened (filled t.last)) - changed) (lengthened (filled t.last)))) }
         ensures same { (self.new.trouble ≡ self.old.trouble) × (self.new.faults ≡ self.old.faults) }
     {
         let none = OpenRuns::new(self.whole.alloc());
@@ -162,12 +163,12 @@ impl Relay {
     /// Takes a line.
     fn line(&mut self, pixels: &[u8]) -> Result<(), RelayFault>
         requires { IsSized (line pixels.now) }
-        ensures steps { (t : Turns) (b : Option Begun) (good : Bool) → IsAt self.old t b good → Steps self.new result (ended t (a_line pixels.now)) None good }
+        ensures steps { (t : Alternation) (b : Option Begun) (good : Bool) → IsAt self.old t b good → Steps self.new result (ended t (a_line pixels.now)) None good }
         ensures same { (self.new.trouble ≡ self.old.trouble) × (self.new.faults ≡ self.old.faults) }
     {
         self.island = None;
         let columns = line_columns(pixels);
-        if is_long(self.columns, u64::from(self.period_columns), columns + 12) {
+        if is_long(self.columns, u64::from(self.period_columns), columns + RUN) {
             return Err(RelayFault::Long);
         }
         self.settle(8, VIDEO_CTL)?;
@@ -178,11 +179,11 @@ impl Relay {
 
     /// Takes a whole island. None goes on.
     fn send_island(&mut self, island: Island) -> Result<(), RelayFault>
-        ensures steps { length island.packets ≤ 18 → (t : Turns) (good : Bool) → IsAt self.old t None good → Steps self.new result (ended t (an_island island)) None good }
+        ensures steps { length island.packets ≤ 18 → (t : Alternation) (good : Bool) → IsAt self.old t None good → Steps self.new result (ended t (an_island island)) None good }
         ensures same { (self.new.trouble ≡ self.old.trouble) × (self.new.faults ≡ self.old.faults) }
     {
         let columns = island_columns(&island);
-        if is_long(self.columns, u64::from(self.period_columns), columns + 12) {
+        if is_long(self.columns, u64::from(self.period_columns), columns + RUN) {
             return Err(RelayFault::Long);
         }
         self.settle(8, ISLAND_CTL)?;
@@ -194,7 +195,7 @@ impl Relay {
     /// Begins an island. Another that goes on is left out.
     fn begin(&mut self, sync: [u8; 2])
         requires { IsTrue (is_sync_pair (pair_of sync)) }
-        ensures at { (t : Turns) (b : Option Begun) (good : Bool) → IsAt self.old t b good → IsAt self.new t (Some (record { opening = pair_of sync; packets = [] })) good }
+        ensures at { (t : Alternation) (b : Option Begun) (good : Bool) → IsAt self.old t b good → IsAt self.new t (Some (record { opening = pair_of sync; packets = [] })) good }
         ensures same { (self.new.trouble ≡ self.old.trouble) × (self.new.faults ≡ self.old.faults) }
     {
         let island = Island::new(self.whole.alloc(), sync, [0, 0]);
@@ -205,7 +206,7 @@ impl Relay {
     fn packet(&mut self, packet: PacketRef<'_>) -> Result<(), NoMemory>
         requires whole { IsPacket packet.packet.now }
         requires digits { All (λ digit. digit < 4) packet.packet.now.sync }
-        ensures at { (t : Turns) (b : Option Begun) (good : Bool) → IsAt self.old t b good → OnOk result (IsAt self.new t (with_packet (record { packet = packet.entry.packet.now; verdicts = packet.entry.verdicts.now }) b) good) }
+        ensures at { (t : Alternation) (b : Option Begun) (good : Bool) → IsAt self.old t b good → OnOk result (IsAt self.new t (with_packet (record { packet = packet.entry.packet.now; verdicts = packet.entry.verdicts.now }) b) good) }
         ensures same { (self.new.trouble ≡ self.old.trouble) × (self.new.faults ≡ self.old.faults) }
     {
         let sent = sent_on(packet);
@@ -218,7 +219,7 @@ impl Relay {
     /// Ends the island that goes on, if one does, and takes it if it has a packet.
     fn close(&mut self, sync: [u8; 2]) -> Result<(), RelayFault>
         requires { IsTrue (is_sync_pair (pair_of sync)) }
-        ensures steps { (t : Turns) (b : Option Begun) (good : Bool) → IsAt self.old t b good → Steps self.new result (fold joined t (nulled (closed (pair_of sync) b))) None good }
+        ensures steps { (t : Alternation) (b : Option Begun) (good : Bool) → IsAt self.old t b good → Steps self.new result (fold joined t (nulled (closed (pair_of sync) b))) None good }
         ensures same { (self.new.trouble ≡ self.old.trouble) × (self.new.faults ≡ self.old.faults) }
     {
         match self.island.take() {
@@ -229,8 +230,8 @@ impl Relay {
 
     /// Takes an island with its closing guard, if it has a packet.
     fn close_island(&mut self, island: Island, sync: [u8; 2]) -> Result<(), RelayFault>
-        ensures empty { island.packets ≡ [] → (t : Turns) (good : Bool) → IsAt self.old t None good → Steps self.new result t None good }
-        ensures some { (island.packets ≡ [] → ⊥) → length island.packets ≤ 18 → (t : Turns) (good : Bool) → IsAt self.old t None good → Steps self.new result (ended t (an_island (record { opening = island.opening; packets = island.packets; closing = pair_of sync }))) None good }
+        ensures empty { island.packets ≡ [] → (t : Alternation) (good : Bool) → IsAt self.old t None good → Steps self.new result t None good }
+        ensures some { (island.packets ≡ [] → ⊥) → length island.packets ≤ 18 → (t : Alternation) (good : Bool) → IsAt self.old t None good → Steps self.new result (ended t (an_island (record { opening = island.opening; packets = island.packets; closing = pair_of sync }))) None good }
         ensures same { (self.new.trouble ≡ self.old.trouble) × (self.new.faults ≡ self.old.faults) }
     {
         if island.is_empty() {
@@ -241,30 +242,30 @@ impl Relay {
         self.send_island(island)
     }
 
-    /// Takes a thing.
-    fn take_in(&mut self, told: Told<'_>) -> Result<(), RelayFault>
-        requires { IsSized (lent_thing told) }
-        ensures stands { (things : List Thing) → StandsFor self.old things → OnOk result (StandsFor self.new (things ++ lent_thing told.entry ∷ [])) }
-        ensures long { IfErr result (λ fault. fault ≡ Long → IsTooLong self.old (lent_thing told.entry)) }
+    /// Takes an event.
+    fn take_in(&mut self, event: EventRef<'_>) -> Result<(), RelayFault>
+        requires { IsSized (lent_event event) }
+        ensures stands { (events : List Event) → RelayRepresents self.old events → OnOk result (RelayRepresents self.new (events ++ lent_event event.entry ∷ [])) }
+        ensures long { IfErr result (λ fault. fault ≡ Long → IsTooLong self.old (lent_event event.entry)) }
         ensures same { (self.new.trouble ≡ self.old.trouble) × (self.new.faults ≡ self.old.faults) }
     {
-        match told {
-            Told::Run { value, count } => self.run(value, count),
-            Told::Line { pixels } => self.line(pixels),
-            Told::Open { sync } => {
+        match event {
+            EventRef::Run { value, count } => self.run(value, count),
+            EventRef::Line { pixels } => self.line(pixels),
+            EventRef::Open { sync } => {
                 self.begin(sync);
                 Ok(())
             }
-            Told::Packet { packet, column: _ } => {
+            EventRef::Packet { packet, column: _ } => {
                 self.packet(packet)?;
                 Ok(())
             }
-            Told::Close { sync } => self.close(sync),
-            Told::Fault(_) => {
+            EventRef::Close { sync } => self.close(sync),
+            EventRef::Fault(_) => {
                 self.faulty = true;
                 Ok(())
             }
-            Told::Cut { column: _ } => {
+            EventRef::Cut { column: _ } => {
                 self.island = None;
                 Ok(())
             }
@@ -273,8 +274,8 @@ impl Relay {
 
     /// The stream of all that was told. On a refusal it is dropped.
     pub fn take(self) -> Result<Stream, NoMemory>
-        requires { (told : List Thing) × StandsFor self told }
-        ensures { (told : List Thing) → StandsFor self told → IfOk result (λ stream. stream ≡ relayed told) }
+        requires { (reported : List Event) × RelayRepresents self reported }
+        ensures { (reported : List Event) → RelayRepresents self reported → IfOk result (λ stream. stream ≡ relayed reported) }
     {
         let mut relay = self;
         relay.settle(0, 0)?;
@@ -293,19 +294,19 @@ fn push(island: &mut Island, packet: Packet) -> Result<(), NoMemory>
     island.push(packet)
 }
 
-/// Leaves a thing out.
-fn pass_over(told: Told<'_>) {
-    match told {
-        Told::Run { value: _, count: _ }
-        | Told::Line { pixels: _ }
-        | Told::Open { sync: _ }
-        | Told::Packet {
+/// Leaves an event out.
+fn pass_over(event: EventRef<'_>) {
+    match event {
+        EventRef::Run { value: _, count: _ }
+        | EventRef::Line { pixels: _ }
+        | EventRef::Open { sync: _ }
+        | EventRef::Packet {
             packet: _,
             column: _,
         }
-        | Told::Close { sync: _ }
-        | Told::Fault(_)
-        | Told::Cut { column: _ } => {}
+        | EventRef::Close { sync: _ }
+        | EventRef::Fault(_)
+        | EventRef::Cut { column: _ } => {}
     }
 }
 
@@ -314,26 +315,26 @@ impl Ear for Relay {
 
     ghost faults = { λ r. r.faults };
 
-    // It stands for each list that it stood for, and these things behind it.
+    // It stands for each list that it stood for, and these events behind it.
     ghost took = { Took };
 
     // It has trouble: what is relayed would be too long, or memory was wanting.
     ghost broke = { Broke };
 
-    /// Takes a thing. After a failure it takes no more: each further call fails and changes nothing but the count.
-    fn hear(&mut self, told: Told<'_>) -> Result<(), Failed>
-        requires { IsSized (lent_thing told) }
-        ensures ok { OnOk result (Took self.old self.new (lent_thing told.entry ∷ [])) }
-        ensures err { OnErr result (Broke self.old self.new (lent_thing told.entry)) }
+    /// Takes an event. After a failure it takes no more: each further call fails and changes nothing but the count.
+    fn hear(&mut self, event: EventRef<'_>) -> Result<(), Failed>
+        requires { IsSized (lent_event event) }
+        ensures ok { OnOk result (Took self.old self.new (lent_event event.entry ∷ [])) }
+        ensures err { OnErr result (Broke self.old self.new (lent_event event.entry)) }
         ensures cause { HasCause self.old.faults self.new.faults result }
         ensures spent { (fault : RelayFault) → self.old.trouble ≡ Some fault → OnOk result ⊥ × (self.new ≡ counted_again self.old) }
     {
         if self.trouble.is_some() {
-            pass_over(told);
+            pass_over(event);
             self.faults = self.faults.saturating_add(1);
             return Err(Failed);
         }
-        match self.take_in(told) {
+        match self.take_in(event) {
             Ok(()) => Ok(()),
             Err(fault) => {
                 self.trouble = Some(fault);
@@ -343,7 +344,7 @@ impl Ear for Relay {
         }
     }
 
-    ghost took_none = { λ x. (λ told s. subst (StandsFor x) (sym (append-nil told)) s, refl) };
+    ghost took_none = { λ x. (λ event s. subst (RelayRepresents x) (sym (append-nil event)) s, refl) };
 
-    ghost took_both = { λ x y z h k f g. (λ told s. subst (StandsFor z) (append_assoc told h k) (g.0 (told ++ h) (f.0 told s)), g.1 ∙ f.1) };
+    ghost took_both = { λ x y z h k f g. (λ event s. subst (RelayRepresents z) (append_assoc event h k) (g.0 (event ++ h) (f.0 event s)), g.1 ∙ f.1) };
 }

@@ -8,6 +8,7 @@ ghost use Rattle.relay.specs.Handed.{Took};
 
 use outside_io::NoMemory;
 use source_end::{Gathering, OpenRuns, Run};
+use terc4::RUN;
 
 /// The value with other control bits.
 fn with_ctl(value: u8, ctl: u8) -> u8
@@ -28,7 +29,7 @@ fn least(a: u32, b: u32) -> u32
 pub(crate) fn at_least_twelve(columns: u32) -> u32
     ensures { result ≡ max 12 columns }
 {
-    columns.max(12)
+    columns.max(RUN)
 }
 
 /// Hands on columns of one value, of which the first `left` stay as they are, and says how many more do.

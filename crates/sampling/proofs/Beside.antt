@@ -7,8 +7,8 @@ use Rattle.island_pack.specs.declared.packet.Packet.{Packet}
 use Rattle.source_end.specs.Content.{Frame}
 use Rattle.source_end.specs.Raster.{up_from}
 use Rattle.source_end.specs.Generator.{row_byte, row_bytes, first_rows, frame_at, first_frames}
-use Rattle.sampling.specs.Counts.{unlike, unlike_row, unlike_frame, unlike_told}
-use Rattle.sampling.specs.CountLaws.{unlike_beside, unlike_picture, FitsPicture, ToldBesideContent}
+use Rattle.sampling.specs.Counts.{unlike, unlike_row, unlike_frame, unlike_reported}
+use Rattle.sampling.specs.CountLaws.{unlike_beside, unlike_picture, FitsPicture, ReportedBesideContent}
 
 -- bytes that one list alone has are not compared
 unlike_longer : (g : ℕ → ℕ) (bytes : List ℕ) (x n : ℕ) → length bytes ≤ n → unlike bytes (map g (up_from x (length bytes))) ≡ unlike bytes (map g (up_from x n))
@@ -39,24 +39,24 @@ picture_beside : (avi audio : Packet) (f : ℕ) (rows : List (List ℕ)) → Fit
 unfolding unlike_frame unlike_picture frame_at first_rows
 picture_beside avi audio f rows fits = rows_beside f 0 480 rows fits.few fits.short
 
-frames_beside : (avi audio : Packet) (f n : ℕ) (told : List (List (List ℕ))) → length told ≤ n → AllByRecursion FitsPicture told
-    → sum_by unlike_frame (enumerate_from f told) ≡ sum_by unlike_picture (zip told (map (frame_at avi audio) (up_from f n)))
+frames_beside : (avi audio : Packet) (f n : ℕ) (reported : List (List (List ℕ))) → length reported ≤ n → AllByRecursion FitsPicture reported
+    → sum_by unlike_frame (enumerate_from f reported) ≡ sum_by unlike_picture (zip reported (map (frame_at avi audio) (up_from f n)))
 frames_beside avi audio f n [] le fits = refl
-frames_beside avi audio f zero (rows ∷ told) le fits = absurd (omega (arith, le))
-frames_beside avi audio f (suc n) (rows ∷ told) le fits =
-    sum_by-cons unlike_frame (f, rows) (enumerate_from (f + 1) told)
-    ∙ ap₂ (λ (a b : ℕ). a + b) (picture_beside avi audio f rows fits.0) (frames_beside avi audio (f + 1) n told (omega (arith, le)) fits.1)
-    ∙ ap (λ (xs : List ℕ). unlike_picture (rows, frame_at avi audio f) + sum_by unlike_picture (zip told (map (frame_at avi audio) xs))) (sym (next f n))
-    ∙ sym (sum_by-cons unlike_picture (rows, frame_at avi audio f) (zip told (map (frame_at avi audio) (up_from (suc f) n))))
+frames_beside avi audio f zero (rows ∷ reported) le fits = absurd (omega (arith, le))
+frames_beside avi audio f (suc n) (rows ∷ reported) le fits =
+    sum_by-cons unlike_frame (f, rows) (enumerate_from (f + 1) reported)
+    ∙ ap₂ (λ (a b : ℕ). a + b) (picture_beside avi audio f rows fits.0) (frames_beside avi audio (f + 1) n reported (omega (arith, le)) fits.1)
+    ∙ ap (λ (xs : List ℕ). unlike_picture (rows, frame_at avi audio f) + sum_by unlike_picture (zip reported (map (frame_at avi audio) xs))) (sym (next f n))
+    ∙ sym (sum_by-cons unlike_picture (rows, frame_at avi audio f) (zip reported (map (frame_at avi audio) (up_from (suc f) n))))
 
-behind_first : (avi audio : Packet) (n : ℕ) (told : List (List (List ℕ))) → length told + 1 ≤ n → AllByRecursion FitsPicture told
-    → sum_by unlike_frame (enumerate_from 1 told) ≡ sum_by unlike_picture (zip told (drop 1 (first_frames avi audio n)))
+after_first : (avi audio : Packet) (n : ℕ) (reported : List (List (List ℕ))) → length reported + 1 ≤ n → AllByRecursion FitsPicture reported
+    → sum_by unlike_frame (enumerate_from 1 reported) ≡ sum_by unlike_picture (zip reported (drop 1 (first_frames avi audio n)))
 unfolding first_frames
-behind_first avi audio zero told le fits = absurd (omega (arith, le))
-behind_first avi audio (suc n) told le fits = frames_beside avi audio 1 n told (omega (arith, le)) fits
+after_first avi audio zero reported le fits = absurd (omega (arith, le))
+after_first avi audio (suc n) reported le fits = frames_beside avi audio 1 n reported (omega (arith, le)) fits
 
-pub told_beside_content : ToldBesideContent
-unfolding unlike_told
-told_beside_content n content g told le fits =
-    behind_first g.avi g.audio n told le fits
-    ∙ ap (λ (frames : List Frame). sum_by unlike_picture (zip told (drop 1 frames))) (sym g.content_is)
+pub reported_beside_content : ReportedBesideContent
+unfolding unlike_reported
+reported_beside_content n content g reported le fits =
+    after_first g.avi g.audio n reported le fits
+    ∙ ap (λ (frames : List Frame). sum_by unlike_picture (zip reported (drop 1 frames))) (sym g.content_is)

@@ -1,7 +1,7 @@
 -- The lines of counts that are put one behind another.
 use Rattle.std.proofs.Common.{◌≡◌, ◌∙◌, ℕ, List, [], ◌∷◌, ◌++◌, ap, sym, append-nil, append_assoc}
-use Rattle.listing.specs.ContentText.{text_of}
-use Rattle.listing.specs.GrowingContent.{text_append}
+use Rattle.listing_writer.specs.ContentText.{text_of}
+use Rattle.listing_writer.specs.GrowingContent.{text_append}
 
 -- a name, a space, digits and a line feed
 pub line_put : (old name digits named spaced counted done : List ℕ) (put : List ℕ) → named ≡ old ++ name → spaced ≡ named ++ 32 ∷ [] → counted ≡ spaced ++ put → put ≡ digits → done ≡ counted ++ 10 ∷ []

@@ -1,19 +1,19 @@
--- What is counted, once one thing more was told.
+-- What is counted, once one event more was told.
 use Rattle.std.proofs.Common.{◌≡◌, ◌∙◌, ℕ, ◌+◌, ◌-◌, ◌^◌, Bool, true, false, cond, List, [], ◌∷◌, ◌++◌, ◌⊎◌, inl, inr, Option, Some, None, min, refl, ap, sym, subst, append-nil, arith}
 use Rattle.std.specs.Prelude.{codes, is_some, slice_index}
 use Rattle.std.proofs.lemmas.List.{map-append}
-use Rattle.frame_build.specs.Event.{Event, other}
+use Rattle.frame_build.specs.FrameEvent.{FrameEvent, other}
 use Rattle.frame_build.specs.declared.FrameNote.{FrameNote}
 use Rattle.frame_build.specs.declared.LineNote.{LineNote}
 use Rattle.frame_build.specs.State.{State}
-use Rattle.frame_build.specs.StandsFor.{StandsFor}
-use Rattle.period_grammar.specs.Things.{Thing}
-use Rattle.period_grammar.specs.Lending.{lent_thing}
-use Rattle.period_grammar.specs.declared.told.Told.{Told}
-use Rattle.period_grammar.specs.declared.told.Told.TheVariants.{Open, Close, Cut}
-use Rattle.listing.specs.Texts.{counted}
-use Rattle.listing.specs.ContentText.{event_of, events}
-use Rattle.listing.specs.Listed.{Listed, row, row_lines, listed_at, listed}
+use Rattle.frame_build.specs.FramesRepresent.{FramesRepresent}
+use Rattle.period_grammar.specs.Events.{Event}
+use Rattle.period_grammar.specs.Lending.{lent_event}
+use Rattle.period_grammar.specs.declared.event.EventRef.{EventRef}
+use Rattle.period_grammar.specs.declared.event.EventRef.TheVariants.{Open, Close, Cut}
+use Rattle.listing_writer.specs.Texts.{counted}
+use Rattle.listing_writer.specs.ContentText.{frame_event_of, frame_events}
+use Rattle.listing_writer.specs.Listed.{Listed, row, listed_rows, listed_at, listed}
 use Rattle.sampling.specs.Counts.{kept}
 use Rattle.sampling.specs.Tallies.{Shows, Counted}
 use Rattle.sampling.specs.declared.pictures.Pictures.{Pictures}
@@ -42,26 +42,26 @@ still count n is = omega arith
 grows : (old new a b c x : ℕ) → old ≡ kept a → new ≡ after old x → c ≡ a + b → b ≡ x → new ≡ kept c
 grows old new a b c x was now sum is = omega arith
 
-pub counted_more : (old new : Counter) (told : List Thing) (thing : Thing) (x : Kinds) → Counted old told → kinds_at told thing ≡ x
-    → StandsFor new.heard (events told ++ event_of thing ∷ []) → Shows new.pictures (listed told ++ listed_at (events told) thing) → Gains old new x
-    → Counted new (told ++ thing ∷ [])
-counted_more old new told thing x was kinds heard pictures gains = record {
-  heard = subst (λ (all : List Event). StandsFor new.heard all) (sym (map-append event_of told (thing ∷ []))) heard;
-  pictures = subst (λ (ls : List Listed). Shows new.pictures ls) (sym (listed_more told thing)) pictures;
-  frames = grows old.frames new.frames _ _ _ x.frames was.frames gains.frames (with_more (codes "frame ") told thing) (ap (λ (y : Kinds). y.frames) kinds);
-  rows = grows old.rows new.rows _ _ _ x.rows was.rows gains.rows (with_more (codes "row ") told thing) (ap (λ (y : Kinds). y.rows) kinds);
-  packets = grows old.packets new.packets _ _ _ x.packets was.packets gains.packets (packets_more told thing) (ap (λ (y : Kinds). y.packets) kinds);
-  samples = grows old.samples new.samples _ _ _ x.samples was.samples gains.samples (with_more (codes "s ") told thing) (ap (λ (y : Kinds). y.samples) kinds);
-  symbols = grows old.symbols new.symbols _ _ _ x.symbols was.symbols gains.symbols (with_more (codes "! symbols ") told thing) (ap (λ (y : Kinds). y.symbols) kinds);
-  mended = grows old.mended new.mended _ _ _ x.mended was.mended gains.mended (with_more (codes "! mended ") told thing) (ap (λ (y : Kinds). y.mended) kinds);
-  code = grows old.code new.code _ _ _ x.code was.code gains.code (with_more (codes "! code ") told thing) (ap (λ (y : Kinds). y.code) kinds);
+pub counted_more : (old new : Counter) (reported : List Event) (event : Event) (x : Kinds) → Counted old reported → kinds_at reported event ≡ x
+    → FramesRepresent new.heard (frame_events reported ++ frame_event_of event ∷ []) → Shows new.pictures (listed reported ++ listed_at (frame_events reported) event) → Gains old new x
+    → Counted new (reported ++ event ∷ [])
+counted_more old new reported event x was kinds heard pictures gains = record {
+  heard = subst (λ (all : List FrameEvent). FramesRepresent new.heard all) (sym (map-append frame_event_of reported (event ∷ []))) heard;
+  pictures = subst (λ (ls : List Listed). Shows new.pictures ls) (sym (listed_more reported event)) pictures;
+  frames = grows old.frames new.frames _ _ _ x.frames was.frames gains.frames (with_more (codes "frame ") reported event) (ap (λ (y : Kinds). y.frames) kinds);
+  rows = grows old.rows new.rows _ _ _ x.rows was.rows gains.rows (with_more (codes "row ") reported event) (ap (λ (y : Kinds). y.rows) kinds);
+  packets = grows old.packets new.packets _ _ _ x.packets was.packets gains.packets (packets_more reported event) (ap (λ (y : Kinds). y.packets) kinds);
+  samples = grows old.samples new.samples _ _ _ x.samples was.samples gains.samples (with_more (codes "s ") reported event) (ap (λ (y : Kinds). y.samples) kinds);
+  symbols = grows old.symbols new.symbols _ _ _ x.symbols was.symbols gains.symbols (with_more (codes "! symbols ") reported event) (ap (λ (y : Kinds). y.symbols) kinds);
+  mended = grows old.mended new.mended _ _ _ x.mended was.mended gains.mended (with_more (codes "! mended ") reported event) (ap (λ (y : Kinds). y.mended) kinds);
+  code = grows old.code new.code _ _ _ x.code was.code gains.code (with_more (codes "! code ") reported event) (ap (λ (y : Kinds). y.code) kinds);
 }
 
--- no row and no frame is listed of the thing
-pub unlisted : (p : Pictures) (told : List Thing) (thing : Thing) → Shows p (listed told) → listed_at (events told) thing ≡ [] → Shows p (listed told ++ listed_at (events told) thing)
-unlisted p told thing was none = subst (λ (ls : List Listed). Shows p ls) (sym (ap (λ (ls : List Listed). listed told ++ ls) none ∙ append-nil (listed told))) was
+-- no row and no frame is listed of the event
+pub unlisted : (p : Pictures) (reported : List Event) (event : Event) → Shows p (listed reported) → listed_at (frame_events reported) event ≡ [] → Shows p (listed reported ++ listed_at (frame_events reported) event)
+unlisted p reported event was none = subst (λ (ls : List Listed). Shows p ls) (sym (ap (λ (ls : List Listed). listed reported ++ ls) none ∙ append-nil (listed reported))) was
 
--- the same counts, with what frames see of the thing
+-- the same counts, with what frames see of the event
 abbrev pub hearing : Counter → State → Counter
 hearing k heard = record {
   heard = heard;
@@ -75,11 +75,11 @@ hearing k heard = record {
   code = k.code;
 }
 
--- nothing is counted of the thing
-pub counted_none : (k : Counter) (heard : State) (told : List Thing) (thing : Thing) → Counted k told → kinds_at told thing ≡ none
-    → listed_at (events told) thing ≡ [] → StandsFor heard (events told ++ event_of thing ∷ []) → Counted (hearing k heard) (told ++ thing ∷ [])
-counted_none k heard told thing was kinds empty stands =
-    counted_more k (hearing k heard) told thing none was kinds stands (unlisted k.pictures told thing was.pictures empty)
+-- nothing is counted of the event
+pub counted_none : (k : Counter) (heard : State) (reported : List Event) (event : Event) → Counted k reported → kinds_at reported event ≡ none
+    → listed_at (frame_events reported) event ≡ [] → FramesRepresent heard (frame_events reported ++ frame_event_of event ∷ []) → Counted (hearing k heard) (reported ++ event ∷ [])
+counted_none k heard reported event was kinds empty stands =
+    counted_more k (hearing k heard) reported event none was kinds stands (unlisted k.pictures reported event was.pictures empty)
     (record {
       frames = still _ _ was.frames;
       rows = still _ _ was.rows;
@@ -90,9 +90,9 @@ counted_none k heard told thing was kinds empty stands =
       code = still _ _ was.code;
     })
 
-pub counted_quiet : (k : Counter) (heard : State) (told : List Thing) (thing : Thing) → Counted k told → IsQuiet thing → StandsFor heard (events told ++ other ∷ []) → Counted (hearing k heard) (told ++ thing ∷ [])
-counted_quiet k heard told thing was quiet stands =
-    counted_none k heard told thing was (quiet.kinds told) (quiet.unlisted (events told)) (subst (λ (e : Event). StandsFor heard (events told ++ e ∷ [])) quiet.event stands)
+pub counted_quiet : (k : Counter) (heard : State) (reported : List Event) (event : Event) → Counted k reported → IsQuiet event → FramesRepresent heard (frame_events reported ++ other ∷ []) → Counted (hearing k heard) (reported ++ event ∷ [])
+counted_quiet k heard reported event was quiet stands =
+    counted_none k heard reported event was (quiet.kinds reported) (quiet.unlisted (frame_events reported)) (subst (λ (e : FrameEvent). FramesRepresent heard (frame_events reported ++ e ∷ [])) quiet.frame_event stands)
 
 -- the lister's count of fault lines
 pub faults_kept : (old new a b c : ℕ) → old ≡ kept a → new ≡ counted old b → c ≡ a + b → new ≡ kept c
@@ -108,15 +108,15 @@ pub no_frame : (r : Option FrameNote) → is_some r ≡ false → r ≡ None
 no_frame (Some note) some = absurd cc
 no_frame None some = refl
 
-pub row_listed : (p : Pictures) (ls : List Listed) (pixels : List ℕ) (note : LineNote) → note.counts ≡ true → Shows p (ls ++ row pixels note ∷ []) → Shows p (ls ++ row_lines pixels note)
+pub row_listed : (p : Pictures) (ls : List Listed) (pixels : List ℕ) (note : LineNote) → note.counts ≡ true → Shows p (ls ++ row pixels note ∷ []) → Shows p (ls ++ listed_rows pixels note)
 row_listed p ls pixels note counts shown = subst (λ (t : Bool). Shows p (ls ++ cond t (row pixels note ∷ []) [])) (sym counts) shown
 
 -- ---- guards and the cut
 
-abbrev pub IsParting : Told → Type 0
-IsParting told = ((sync : List ℕ) × (told ≡ Open sync)) ⊎ (((sync : List ℕ) × (told ≡ Close sync)) ⊎ ((column : ℕ) × (told ≡ Cut column)))
+abbrev pub IsParting : EventRef → Type 0
+IsParting reported = ((sync : List ℕ) × (reported ≡ Open sync)) ⊎ (((sync : List ℕ) × (reported ≡ Close sync)) ⊎ ((column : ℕ) × (reported ≡ Cut column)))
 
-pub parting_quiet : (told : Told) → IsParting told → IsQuiet (lent_thing told)
-parting_quiet told (inl (sync, is)) = subst (λ (t : Told). IsQuiet (lent_thing t)) (sym is) (open_quiet (slice_index sync 0) (slice_index sync 1))
-parting_quiet told (inr (inl (sync, is))) = subst (λ (t : Told). IsQuiet (lent_thing t)) (sym is) (close_quiet (slice_index sync 0) (slice_index sync 1))
-parting_quiet told (inr (inr (column, is))) = subst (λ (t : Told). IsQuiet (lent_thing t)) (sym is) (cut_quiet column)
+pub parting_quiet : (reported : EventRef) → IsParting reported → IsQuiet (lent_event reported)
+parting_quiet reported (inl (sync, is)) = subst (λ (t : EventRef). IsQuiet (lent_event t)) (sym is) (open_quiet (slice_index sync 0) (slice_index sync 1))
+parting_quiet reported (inr (inl (sync, is))) = subst (λ (t : EventRef). IsQuiet (lent_event t)) (sym is) (close_quiet (slice_index sync 0) (slice_index sync 1))
+parting_quiet reported (inr (inr (column, is))) = subst (λ (t : EventRef). IsQuiet (lent_event t)) (sym is) (cut_quiet column)

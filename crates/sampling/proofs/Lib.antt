@@ -1,4 +1,4 @@
-pub mod Behind
+pub mod After
 pub mod Beside
 pub mod CountLines
 pub mod Counting

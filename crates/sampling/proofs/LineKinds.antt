@@ -1,4 +1,4 @@
--- How many lines of each kind a thing has.
+-- How many lines of each kind an event has.
 use Rattle.std.proofs.Common.{◌≡◌, ◌∙◌, ℕ, ◌+◌, Bool, true, false, if◌then◌else◌, List, [], ◌∷◌, ◌++◌, length, Option, Some, None, refl, ap, ap₂, sym, arith}
 use Rattle.std.specs.Prelude.{◌==◌, codes, count_by, is_some, slice_index, nat_le, Result, Ok, Err}
 use Rattle.std.specs.List.{flat_map, find}
@@ -20,18 +20,18 @@ use Rattle.audio_packets.specs.declared.clock.Acr.{Acr}
 use Rattle.audio_packets.specs.declared.sample.SampleNote.{SampleNote}
 use Rattle.audio_packets.specs.declared.fault.AudioFault.{AudioFault}
 use Rattle.audio_packets.specs.declared.fault.AudioFault.TheVariants.{Lost as LostAudio, Uneven, Layout}
-use Rattle.period_grammar.specs.Things.{Thing, packet, cut, open_island, close_island}
-use Rattle.period_grammar.specs.Lending.{fault_thing}
-use Rattle.period_grammar.specs.declared.told.Fault.{Fault}
-use Rattle.period_grammar.specs.declared.told.Fault.TheVariants.{Word, Short, Preamble, Noise, Empty, Code, LongLine, Symbols, Mended, Lost, LongIsland, Broken, Guard}
-use Rattle.frame_build.specs.Event.{Event, other}
+use Rattle.period_grammar.specs.Events.{Event, packet, cut, open_island, close_island}
+use Rattle.period_grammar.specs.Lending.{fault_event}
+use Rattle.period_grammar.specs.declared.event.Fault.{Fault}
+use Rattle.period_grammar.specs.declared.event.Fault.TheVariants.{Word, Short, Preamble, Noise, Empty, Code, LongLine, Symbols, Mended, Lost, LongIsland, Broken, Guard}
+use Rattle.frame_build.specs.FrameEvent.{FrameEvent, other}
 use Rattle.frame_build.specs.declared.FrameNote.{FrameNote}
 use Rattle.frame_build.specs.declared.LineNote.{LineNote}
 use Rattle.source_end.specs.Formats.{formats, mode_in}
-use Rattle.listing.specs.Fields.{with_fields}
-use Rattle.listing.specs.Texts.{words_of}
-use Rattle.listing.specs.ContentText.{row_lines, has_other_size, vic_lines, frame_lines, clock_lines, sample_words, parity_words, side_lines, note_lines, sample_lines, is_usual_depth, depth_in, depth_lines, control_words, control_lines, avi_words, audio_words, spd_words, raw_words, info_words, checksum_words, info_lines, other_words, carried_lines, packet_lines, event_of, lines_at}
-use Rattle.listing.specs.Listed.{listed_at}
+use Rattle.listing_writer.specs.Fields.{with_fields}
+use Rattle.listing_writer.specs.Texts.{line_words}
+use Rattle.listing_writer.specs.ContentText.{row_lines, has_other_size, vic_lines, frame_lines, clock_lines, sample_words, parity_words, side_lines, note_lines, sample_lines, is_usual_depth, depth_in, depth_lines, control_words, control_lines, avi_words, audio_words, spd_words, raw_words, info_words, checksum_words, info_lines, other_words, carried_lines, packet_lines, frame_event_of, lines_at}
+use Rattle.listing_writer.specs.Listed.{listed_at}
 use Rattle.sampling.specs.Counts.{lines_with, is_packet}
 use Rattle.sampling.proofs.Growing.{with_append}
 
@@ -56,9 +56,9 @@ kinds_of packets lines = record {
   code = lines_with (codes "! code ") lines;
 }
 
--- those of a thing
-abbrev pub kinds_at : List Thing → Thing → Kinds
-kinds_at told thing = kinds_of (count_by is_packet (thing ∷ [])) (lines_at told thing)
+-- those of an event
+abbrev pub kinds_at : List Event → Event → Kinds
+kinds_at reported event = kinds_of (count_by is_packet (event ∷ [])) (lines_at reported event)
 
 -- so many packets and samples
 abbrev pub sampled : ℕ → ℕ → Kinds
@@ -244,44 +244,44 @@ packet_samples p v column = ap (λ (x : Kinds). x.samples) (packet_tells p v col
 with_packet : (lines : List (List ℕ)) (n : ℕ) → Tell lines n → kinds_of 1 lines ≡ sampled 1 n
 with_packet lines n tell = ap (λ (x : Kinds). record { frames = x.frames; rows = x.rows; packets = 1; samples = x.samples; symbols = x.symbols; mended = x.mended; code = x.code }) tell
 
-pub packet_kinds : (told : List Thing) (p : Packet) (v : PacketVerdicts) (column : ℕ) → kinds_at told (packet p v column) ≡ sampled 1 (samples_in p v)
+pub packet_kinds : (reported : List Event) (p : Packet) (v : PacketVerdicts) (column : ℕ) → kinds_at reported (packet p v column) ≡ sampled 1 (samples_in p v)
 unfolding lines_at
-packet_kinds told p v column = with_packet (packet_lines p v column) (samples_in p v) (packet_tells p v column)
+packet_kinds reported p v column = with_packet (packet_lines p v column) (samples_in p v) (packet_tells p v column)
 
 -- ---- faults, the cut and guards
 
-pub symbols_kinds : (told : List Thing) (j n : ℕ) → kinds_at told (fault_thing (Symbols j n)) ≡ faulted 1 0 0
-unfolding lines_at words_of lines_with
-symbols_kinds told j n = refl
+pub symbols_kinds : (reported : List Event) (j n : ℕ) → kinds_at reported (fault_event (Symbols j n)) ≡ faulted 1 0 0
+unfolding lines_at line_words lines_with
+symbols_kinds reported j n = refl
 
-pub mended_kinds : (told : List Thing) (j block bit : ℕ) → kinds_at told (fault_thing (Mended j block bit)) ≡ faulted 0 1 0
-unfolding lines_at words_of lines_with
-mended_kinds told j block bit = refl
+pub mended_kinds : (reported : List Event) (j block bit : ℕ) → kinds_at reported (fault_event (Mended j block bit)) ≡ faulted 0 1 0
+unfolding lines_at line_words lines_with
+mended_kinds reported j block bit = refl
 
-pub code_kinds : (told : List Thing) (lane j : ℕ) → kinds_at told (fault_thing (Code lane j)) ≡ faulted 0 0 1
-unfolding lines_at words_of lines_with
-code_kinds told lane j = refl
+pub code_kinds : (reported : List Event) (lane j : ℕ) → kinds_at reported (fault_event (Code lane j)) ≡ faulted 0 0 1
+unfolding lines_at line_words lines_with
+code_kinds reported lane j = refl
 
 -- a fault of no kind that has a count of its own
-pub plain_kinds : (told : List Thing) (fault : Fault) → ((j n : ℕ) → fault ≡ Symbols j n → ⊥) → ((j block bit : ℕ) → fault ≡ Mended j block bit → ⊥) → ((lane j : ℕ) → fault ≡ Code lane j → ⊥)
-    → kinds_at told (fault_thing fault) ≡ none
-unfolding lines_at words_of lines_with
-plain_kinds told (Word a b) s m c = refl
-plain_kinds told (Short a) s m c = refl
-plain_kinds told (Preamble a) s m c = refl
-plain_kinds told (Noise a) s m c = refl
-plain_kinds told (Empty a) s m c = refl
-plain_kinds told (Code a b) s m c = absurd (c a b refl)
-plain_kinds told (LongLine a) s m c = refl
-plain_kinds told (Symbols a b) s m c = absurd (s a b refl)
-plain_kinds told (Mended a b d) s m c = absurd (m a b d refl)
-plain_kinds told (Lost a b) s m c = refl
-plain_kinds told (LongIsland a) s m c = refl
-plain_kinds told (Broken a) s m c = refl
-plain_kinds told (Guard a) s m c = refl
+pub plain_kinds : (reported : List Event) (fault : Fault) → ((j n : ℕ) → fault ≡ Symbols j n → ⊥) → ((j block bit : ℕ) → fault ≡ Mended j block bit → ⊥) → ((lane j : ℕ) → fault ≡ Code lane j → ⊥)
+    → kinds_at reported (fault_event fault) ≡ none
+unfolding lines_at line_words lines_with
+plain_kinds reported (Word a b) s m c = refl
+plain_kinds reported (Short a) s m c = refl
+plain_kinds reported (Preamble a) s m c = refl
+plain_kinds reported (Noise a) s m c = refl
+plain_kinds reported (Empty a) s m c = refl
+plain_kinds reported (Code a b) s m c = absurd (c a b refl)
+plain_kinds reported (LongLine a) s m c = refl
+plain_kinds reported (Symbols a b) s m c = absurd (s a b refl)
+plain_kinds reported (Mended a b d) s m c = absurd (m a b d refl)
+plain_kinds reported (Lost a b) s m c = refl
+plain_kinds reported (LongIsland a) s m c = refl
+plain_kinds reported (Broken a) s m c = refl
+plain_kinds reported (Guard a) s m c = refl
 
-pub fault_unlisted : (es : List Event) (fault : Fault) → listed_at es (fault_thing fault) ≡ []
-unfolding event_of
+pub fault_unlisted : (es : List FrameEvent) (fault : Fault) → listed_at es (fault_event fault) ≡ []
+unfolding frame_event_of
 fault_unlisted es (Word a b) = refl
 fault_unlisted es (Short a) = refl
 fault_unlisted es (Preamble a) = refl
@@ -296,23 +296,23 @@ fault_unlisted es (LongIsland a) = refl
 fault_unlisted es (Broken a) = refl
 fault_unlisted es (Guard a) = refl
 
--- a thing of which nothing is counted, but that parts lines of pixels
-pub record IsQuiet (thing : Thing) : Type 0 where
-  pub event : other ≡ event_of thing
-  pub kinds : (told : List Thing) → kinds_at told thing ≡ none
-  pub unlisted : (es : List Event) → listed_at es thing ≡ []
+-- an event of which nothing is counted, but that parts lines of pixels
+pub record IsQuiet (event : Event) : Type 0 where
+  pub frame_event : other ≡ frame_event_of event
+  pub kinds : (reported : List Event) → kinds_at reported event ≡ none
+  pub unlisted : (es : List FrameEvent) → listed_at es event ≡ []
 
 pub open_quiet : (a b : ℕ) → IsQuiet (open_island a b)
-unfolding event_of lines_at lines_with
-open_quiet a b = record { event = refl; kinds = λ told. refl; unlisted = λ es. refl }
+unfolding frame_event_of lines_at lines_with
+open_quiet a b = record { frame_event = refl; kinds = λ reported. refl; unlisted = λ es. refl }
 
 pub close_quiet : (a b : ℕ) → IsQuiet (close_island a b)
-unfolding event_of lines_at lines_with
-close_quiet a b = record { event = refl; kinds = λ told. refl; unlisted = λ es. refl }
+unfolding frame_event_of lines_at lines_with
+close_quiet a b = record { frame_event = refl; kinds = λ reported. refl; unlisted = λ es. refl }
 
 pub cut_quiet : (j : ℕ) → IsQuiet (cut j)
-unfolding event_of lines_at words_of lines_with
-cut_quiet j = record { event = refl; kinds = λ told. refl; unlisted = λ es. refl }
+unfolding frame_event_of lines_at line_words lines_with
+cut_quiet j = record { frame_event = refl; kinds = λ reported. refl; unlisted = λ es. refl }
 
 -- ---- samples of a packet, as they are read
 

@@ -9,8 +9,8 @@ use Rattle.frame_build.specs.declared.LineNote.{LineNote}
 use Rattle.source_end.specs.Raster.{up_from}
 use Rattle.source_end.specs.Generator.{row_byte, row_bytes}
 use Rattle.source_end.proofs.Generated.{byte_more}
-use Rattle.listing.specs.Listed.{Listed, row, frame}
-use Rattle.sampling.specs.Counts.{kept, told_frames, unlike, unlike_row, unlike_frame, unlike_told}
+use Rattle.listing_writer.specs.Listed.{Listed, row, frame}
+use Rattle.sampling.specs.Counts.{kept, reported_frames, unlike, unlike_row, unlike_frame, unlike_reported}
 use Rattle.sampling.specs.Tallies.{open_rows, next_frame, Shows}
 use Rattle.sampling.specs.declared.pictures.Pictures.{Pictures}
 
@@ -22,17 +22,17 @@ Rows = List (List ℕ)
 
 -- ---- rows and frames
 
-told_row : (rows : Rows) (xs : List Listed) (bytes : List ℕ) (note : LineNote) → told_frames rows (xs ++ row bytes note ∷ []) ≡ told_frames rows xs
-unfolding told_frames
-told_row rows [] bytes note = refl
-told_row rows (row b n ∷ xs) bytes note = told_row (rows ++ b ∷ []) xs bytes note
-told_row rows (frame n ∷ xs) bytes note = ap (λ (fs : Frames). rows ∷ fs) (told_row [] xs bytes note)
+reported_row : (rows : Rows) (xs : List Listed) (bytes : List ℕ) (note : LineNote) → reported_frames rows (xs ++ row bytes note ∷ []) ≡ reported_frames rows xs
+unfolding reported_frames
+reported_row rows [] bytes note = refl
+reported_row rows (row b n ∷ xs) bytes note = reported_row (rows ++ b ∷ []) xs bytes note
+reported_row rows (frame n ∷ xs) bytes note = ap (λ (fs : Frames). rows ∷ fs) (reported_row [] xs bytes note)
 
-told_frame : (rows : Rows) (xs : List Listed) (note : FrameNote) → told_frames rows (xs ++ frame note ∷ []) ≡ told_frames rows xs ++ open_rows rows xs ∷ []
-unfolding told_frames open_rows
-told_frame rows [] note = refl
-told_frame rows (row b n ∷ xs) note = told_frame (rows ++ b ∷ []) xs note
-told_frame rows (frame n ∷ xs) note = ap (λ (fs : Frames). rows ∷ fs) (told_frame [] xs note)
+reported_frame : (rows : Rows) (xs : List Listed) (note : FrameNote) → reported_frames rows (xs ++ frame note ∷ []) ≡ reported_frames rows xs ++ open_rows rows xs ∷ []
+unfolding reported_frames open_rows
+reported_frame rows [] note = refl
+reported_frame rows (row b n ∷ xs) note = reported_frame (rows ++ b ∷ []) xs note
+reported_frame rows (frame n ∷ xs) note = ap (λ (fs : Frames). rows ∷ fs) (reported_frame [] xs note)
 
 open_row : (rows : Rows) (xs : List Listed) (bytes : List ℕ) (note : LineNote) → open_rows rows (xs ++ row bytes note ∷ []) ≡ open_rows rows xs ++ bytes ∷ []
 unfolding open_rows
@@ -65,8 +65,8 @@ rows_more : (f : ℕ) (rows : Rows) (bytes : List ℕ) → unlike_frame (f, rows
 unfolding unlike_frame
 rows_more f rows bytes = sum_more (unlike_row f) 0 (length rows) rows bytes (omega arith)
 
-frames_more : (frames : Frames) (rows : Rows) → unlike_told (frames ++ rows ∷ []) ≡ unlike_told frames + unlike_frame (suc (length frames), rows)
-unfolding unlike_told
+frames_more : (frames : Frames) (rows : Rows) → unlike_reported (frames ++ rows ∷ []) ≡ unlike_reported frames + unlike_frame (suc (length frames), rows)
+unfolding unlike_reported
 frames_more frames rows = sum_more unlike_frame 1 (suc (length frames)) frames rows (omega arith)
 
 -- ---- the generator's bytes repeat
@@ -94,7 +94,7 @@ pub row_shown : (p n : Pictures) (listed : List Listed) (bytes : List ℕ) (note
     → u ≡ unlike bytes (row_bytes p.frame p.row (length bytes)) → n.differ ≡ p.differ → n.pending ≡ min (p.pending + u) (2 ^ 64 - 1) → n.frame ≡ p.frame → n.row ≡ (p.row + 1) % 256
     → Shows n (listed ++ row bytes note ∷ [])
 row_shown p n listed bytes note u was is d e f r =
-    let frames = told_row [] listed bytes note in
+    let frames = reported_row [] listed bytes note in
     let rows = open_row [] listed bytes note in
     let unlike_at : ℕ → ℕ → ℕ = λ g y. unlike bytes (row_bytes g y (length bytes)) in
     let more =
@@ -105,7 +105,7 @@ row_shown p n listed bytes note u was is d e f r =
     ∙ ap₂ unlike_at (sym was.frame) (sym was.row) ∙ sym is in
     let count = ap length rows ∙ length-append (open_rows [] listed) (bytes ∷ []) in
     record {
-      differ = d ∙ was.differ ∙ ap (λ (fs : Frames). kept (unlike_told fs)) (sym frames);
+      differ = d ∙ was.differ ∙ ap (λ (fs : Frames). kept (unlike_reported fs)) (sym frames);
       pending = grows p.pending n.pending _ _ _ u was.pending e more here;
       frame = f ∙ was.frame ∙ ap (λ (fs : Frames). suc (length fs) % 256) (sym frames);
       row = let at = was.row in omega (arith, r, at, count);
@@ -116,10 +116,10 @@ pub frame_shown : (p n : Pictures) (listed : List Listed) (note : FrameNote) →
     → Shows n (listed ++ frame note ∷ [])
 unfolding unlike_frame
 frame_shown p n listed note was d e f r =
-    let frames = told_frame [] listed note in
+    let frames = reported_frame [] listed note in
     let rows = open_frame [] listed note in
-    let more = ap unlike_told frames ∙ frames_more (told_frames [] listed) (open_rows [] listed) in
-    let count = ap length frames ∙ length-append (told_frames [] listed) (open_rows [] listed ∷ []) in
+    let more = ap unlike_reported frames ∙ frames_more (reported_frames [] listed) (open_rows [] listed) in
+    let count = ap length frames ∙ length-append (reported_frames [] listed) (open_rows [] listed ∷ []) in
     record {
       differ = adds p.differ p.pending n.differ _ _ _ was.differ was.pending d more;
       pending = e ∙ ap (λ (rs : Rows). kept (unlike_frame (next_frame (listed ++ frame note ∷ []), rs))) (sym rows);
@@ -128,7 +128,7 @@ frame_shown p n listed note was d e f r =
     }
 
 pub none_shown : (n : Pictures) → n.differ ≡ 0 → n.pending ≡ 0 → n.frame ≡ 1 → n.row ≡ 0 → Shows n []
-unfolding told_frames open_rows unlike_frame unlike_told
+unfolding reported_frames open_rows unlike_frame unlike_reported
 none_shown n d e f r = record { differ = d; pending = e; frame = f; row = r }
 
 -- ---- byte by byte

@@ -2,11 +2,11 @@
 -- of each kind, and the bytes of pictures that are not the generator's.
 use Rattle.std.specs.Prelude.{ℕ, ◌+◌, ◌-◌, ◌^◌, ◌==◌, Bool, true, false, cond, List, [], ◌∷◌, ◌++◌, length, min, sum_by, count_by, codes}
 use Rattle.std.specs.List.{enumerate_from}
-use Rattle.period_grammar.specs.Things.{Thing, packet}
+use Rattle.period_grammar.specs.Events.{Event, packet}
 use Rattle.source_end.specs.Generator.{row_bytes}
-use Rattle.listing.specs.Fields.{with_fields, begins_with}
-use Rattle.listing.specs.ContentText.{content_lines, fault_line_count, text_of}
-use Rattle.listing.specs.Listed.{Listed, row, frame, listed}
+use Rattle.listing_writer.specs.Fields.{with_fields, begins_with}
+use Rattle.listing_writer.specs.ContentText.{content_lines, fault_line_count, text_of}
+use Rattle.listing_writer.specs.Listed.{Listed, row, frame, listed}
 use Rattle.sampling.specs.declared.counts.Counts.{Counts}
 
 -- a count as it is kept: it stands still at the greatest u64
@@ -17,15 +17,15 @@ kept n = min n (2 ^ 64 - 1)
 unfoldable pub lines_with : List ℕ → List (List ℕ) → ℕ
 lines_with first lines = count_by (begins_with first) lines
 
-abbrev pub is_packet : Thing → Bool
+abbrev pub is_packet : Event → Bool
 is_packet (packet p verdicts column) = true
 is_packet _ = false
 
 -- the rows of each told frame; those behind the last frame are of none
-unfoldable pub told_frames : List (List ℕ) → List Listed → List (List (List ℕ))
-told_frames rows [] = []
-told_frames rows (row bytes note ∷ later) = told_frames (rows ++ bytes ∷ []) later
-told_frames rows (frame note ∷ later) = rows ∷ told_frames [] later
+unfoldable pub reported_frames : List (List ℕ) → List Listed → List (List (List ℕ))
+reported_frames rows [] = []
+reported_frames rows (row bytes note ∷ later) = reported_frames (rows ++ bytes ∷ []) later
+reported_frames rows (frame note ∷ later) = rows ∷ reported_frames [] later
 
 -- how many bytes of two lists differ, place by place
 abbrev pub unlike : List ℕ → List ℕ → ℕ
@@ -41,13 +41,13 @@ unfoldable pub unlike_frame : ℕ × List (List ℕ) → ℕ
 unlike_frame (f, rows) = sum_by (unlike_row f) (enumerate_from 0 rows)
 
 -- and of told frames. The capture begins in the generator's frame 0, so that they are its frames from frame 1 on, in order.
-unfoldable pub unlike_told : List (List (List ℕ)) → ℕ
-unlike_told frames = sum_by unlike_frame (enumerate_from 1 frames)
+unfoldable pub unlike_reported : List (List (List ℕ)) → ℕ
+unlike_reported frames = sum_by unlike_frame (enumerate_from 1 frames)
 
--- the ten counts of so many columns that tell these things
-abbrev pub counts_of : ℕ → List Thing → Counts
-counts_of columns things =
-    let lines = content_lines things in
+-- the ten counts of so many columns that tell these events
+abbrev pub counts_of : ℕ → List Event → Counts
+counts_of columns events =
+    let lines = content_lines events in
     let symbols = kept (lines_with (codes "! symbols ") lines) in
     let mended = kept (lines_with (codes "! mended ") lines) in
     let code = kept (lines_with (codes "! code ") lines) in
@@ -55,13 +55,13 @@ counts_of columns things =
       columns = columns;
       frames = kept (lines_with (codes "frame ") lines);
       rows = kept (lines_with (codes "row ") lines);
-      packets = kept (count_by is_packet things);
+      packets = kept (count_by is_packet events);
       samples = kept (lines_with (codes "s ") lines);
       symbols = symbols;
       mended = mended;
       code = code;
       other = kept (fault_line_count lines) - (symbols + mended + code);
-      differ = kept (unlike_told (told_frames [] (listed things)));
+      differ = kept (unlike_reported (reported_frames [] (listed events)));
     }
 
 -- the ten lines

@@ -2,8 +2,8 @@
 use Rattle.std.specs.Prelude.{◌≡◌, ℕ, List, [], ◌∷◌, Bool, false, None}
 use Rattle.tmds_word.specs.Column.{Column}
 use Rattle.island_pack.specs.Spelling.{Spells}
-use Rattle.period_grammar.specs.Things.{Thing}
-use Rattle.link_sink.specs.Alignment.{AreTold}
+use Rattle.period_grammar.specs.Events.{Event}
+use Rattle.link_sink.specs.Alignment.{AreReported}
 use Rattle.link_sink.specs.declared.hear.Outcome.{Outcome}
 use Rattle.source_end.specs.Content.{Frame}
 use Rattle.source_end.specs.Generator.{IsGenerated}
@@ -38,6 +38,6 @@ pub record IsSampled (frames : ℕ) (counts : Counts) : Type 0 where
   pub red : List Bool
   pub captured : IsCaptureOf blue green red damaged
   pub outcome : Outcome
-  pub things : List Thing
-  pub told : AreTold blue green red outcome things
-  pub counts_are : counts ≡ counts_of outcome.columns things
+  pub events : List Event
+  pub reported : AreReported blue green red outcome events
+  pub counts_are : counts ≡ counts_of outcome.columns events

@@ -1,11 +1,11 @@
 //! Counts the lines of each kind that what is told has, and the bytes that differ.
 ghost use Rattle.std.specs.Prelude.{◌≡◌, ℕ, ◌++◌, ◌∷◌, [], List, codes};
-ghost use Rattle.frame_build.specs.Event.{Event};
-ghost use Rattle.frame_build.specs.StandsFor.{StandsFor};
-ghost use Rattle.period_grammar.specs.Things.{Thing, run, line, packet as packet_thing};
-ghost use Rattle.period_grammar.specs.Lending.{lent_thing, fault_thing};
+ghost use Rattle.frame_build.specs.FrameEvent.{FrameEvent};
+ghost use Rattle.frame_build.specs.FramesRepresent.{FramesRepresent};
+ghost use Rattle.period_grammar.specs.Events.{Event, run, line, packet as packet_event};
+ghost use Rattle.period_grammar.specs.Lending.{lent_event, fault_event};
 ghost use Rattle.period_grammar.specs.Sizes.{IsSized};
-ghost use Rattle.listing.specs.ContentText.{event_of, packet_lines};
+ghost use Rattle.listing_writer.specs.ContentText.{frame_event_of, packet_lines};
 ghost use Rattle.sampling.specs.Counts.{lines_with};
 ghost use Rattle.sampling.specs.Tallies.{Counted};
 
@@ -14,7 +14,7 @@ use audio_packets::samples;
 use frame_build::Frames;
 use frame_build::laws::word_faults_change_nothing;
 use island_pack::PacketRef;
-use period_grammar::{Fault, Told};
+use period_grammar::{EventRef, Fault};
 
 /// All that is counted of what was told, but for the other fault lines. Each count stands still at the greatest u64.
 #[derive(Drop)]
@@ -55,24 +55,26 @@ impl Counter {
         self.pictures.differ()
     }
 
-    /// Hears a thing.
-    pub(crate) fn hear(&mut self, told: &Told<'_>)
-        requires { IsSized (lent_thing told.now) }
-        ensures { (before : List Thing) → Counted self.old before → Counted self.new (before ++ lent_thing told.now ∷ []) }
+    /// Hears an event.
+    pub(crate) fn hear(&mut self, event: &EventRef<'_>)
+        requires { IsSized (lent_event event.now) }
+        ensures { (before : List Event) → Counted self.old before → Counted self.new (before ++ lent_event event.now ∷ []) }
     {
-        match told {
-            Told::Run { value, count } => self.run(*value, *count),
-            Told::Line { pixels } => self.line(pixels),
-            Told::Packet { packet, column: _ } => self.packet(*packet),
-            Told::Fault(fault) => self.fault(*fault),
-            Told::Open { sync: _ } | Told::Close { sync: _ } | Told::Cut { column: _ } => {
+        match event {
+            EventRef::Run { value, count } => self.run(*value, *count),
+            EventRef::Line { pixels } => self.line(pixels),
+            EventRef::Packet { packet, column: _ } => self.packet(*packet),
+            EventRef::Fault(fault) => self.fault(*fault),
+            EventRef::Open { sync: _ }
+            | EventRef::Close { sync: _ }
+            | EventRef::Cut { column: _ } => {
                 self.heard.other();
             }
         }
     }
 
     fn run(&mut self, value: u8, count: u32)
-        ensures { (before : List Thing) → Counted self.old before → Counted self.new (before ++ run value count ∷ []) }
+        ensures { (before : List Event) → Counted self.old before → Counted self.new (before ++ run value count ∷ []) }
     {
         if self.heard.run(value, count).is_some() {
             self.pictures.frame();
@@ -82,7 +84,7 @@ impl Counter {
 
     fn line(&mut self, pixels: &[u8])
         requires { IsSized (line pixels.now) }
-        ensures { (before : List Thing) → Counted self.old before → Counted self.new (before ++ line pixels.now ∷ []) }
+        ensures { (before : List Event) → Counted self.old before → Counted self.new (before ++ line pixels.now ∷ []) }
     {
         let note = self.heard.line((pixels.len() / 3) as u32);
         if note.counts {
@@ -92,7 +94,7 @@ impl Counter {
     }
 
     fn packet(&mut self, packet: PacketRef<'_>)
-        ensures { (before : List Thing) (column : ℕ) → Counted self.old before → Counted self.new (before ++ packet_thing packet.entry.packet.now packet.entry.verdicts.now column ∷ []) }
+        ensures { (before : List Event) (column : ℕ) → Counted self.old before → Counted self.new (before ++ packet_event packet.entry.packet.now packet.entry.verdicts.now column ∷ []) }
     {
         self.heard.other();
         self.packets = self.packets.saturating_add(1);
@@ -100,7 +102,7 @@ impl Counter {
     }
 
     fn fault(&mut self, fault: Fault)
-        ensures { (before : List Thing) → Counted self.old before → Counted self.new (before ++ fault_thing fault ∷ []) }
+        ensures { (before : List Event) → Counted self.old before → Counted self.new (before ++ fault_event fault ∷ []) }
     {
         hear_fault(&mut self.heard, fault);
         match fault {
@@ -132,9 +134,9 @@ fn sample_count(packet: PacketRef<'_>) -> u64
     }
 }
 
-/// A fault of one word parts no lines of pixels; any other thing does.
+/// A fault of one word parts no lines of pixels; any other event does.
 fn hear_fault(heard: &mut Frames, fault: Fault)
-    ensures { (told : List Event) → StandsFor heard.old told → StandsFor heard.new (told ++ event_of (fault_thing fault) ∷ []) }
+    ensures { (reported : List FrameEvent) → FramesRepresent heard.old reported → FramesRepresent heard.new (reported ++ frame_event_of (fault_event fault) ∷ []) }
 {
     match fault {
         Fault::Word { lane: _, column: _ } => word_faults_change_nothing(),

@@ -3,8 +3,8 @@ ghost use Rattle.std.specs.Prelude.{◌≡◌, ℕ, ◌+◌, ◌≤◌, ◌<◌,
 ghost use Rattle.std.specs.Io.KnownBytes.{Appends};
 ghost use Rattle.arrayvec.specs.ArrayVec.{array_vec_len};
 ghost use Rattle.outside_io.specs.Causes.{HasCause};
-ghost use Rattle.listing.specs.Fields.{with_fields};
-ghost use Rattle.listing.specs.ContentText.{text_of};
+ghost use Rattle.listing_writer.specs.Fields.{with_fields};
+ghost use Rattle.listing_writer.specs.ContentText.{text_of};
 ghost use Rattle.sampling.specs.Counts.{counts_text};
 
 use arrayvec::ArrayVec;

@@ -103,9 +103,9 @@ fn hit_at(lane: u8, column: u32, value: Word, tap: &Tap, columns: u32) -> Option
     ensures { option_to_list result ≡ struck tap.now columns (record { lane = lane; column = column; value = value } ∷ []) }
 {
     let first = u64::from(tap.offset) + u64::from(tap.skews[usize::from(lane)]);
-    let behind = first + u64::from(bits_of(lane, tap, columns));
+    let after = first + u64::from(bits_of(lane, tap, columns));
     let bit = 10 * u64::from(column);
-    if first <= bit && bit + 10 <= behind {
+    if first <= bit && bit + 10 <= after {
         Some(Hit {
             lane,
             place: (bit - first) as u32,

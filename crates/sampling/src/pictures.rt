@@ -3,7 +3,7 @@ ghost use Rattle.std.specs.Prelude.{◌≡◌, ◌≤◌, ◌<◌, ◌++◌, ◌
 ghost use Rattle.source_end.specs.Generator.{row_byte, row_bytes};
 ghost use Rattle.frame_build.specs.declared.FrameNote.{FrameNote};
 ghost use Rattle.frame_build.specs.declared.LineNote.{LineNote};
-ghost use Rattle.listing.specs.Listed.{Listed, row, frame};
+ghost use Rattle.listing_writer.specs.Listed.{Listed, row, frame};
 ghost use Rattle.sampling.specs.Counts.{unlike};
 ghost use Rattle.sampling.specs.Tallies.{Shows};
 

@@ -1,15 +1,15 @@
 //! Counts what is told of the generator's content.
 ghost use Rattle.std.specs.Prelude.{◌≡◌, ◌+◌, ◌-◌, ◌++◌, [], List};
-ghost use Rattle.period_grammar.specs.Things.{Thing};
+ghost use Rattle.period_grammar.specs.Events.{Event};
 ghost use Rattle.sampling.specs.Counts.{counts_of};
 ghost use Rattle.sampling.specs.Tallies.{Stands};
 
 use crate::Counts;
 use crate::counter::Counter;
 use link_sink::Ear;
-use listing::ContentLister;
+use listing_writer::ContentLister;
 use outside_io::{Failed, SteadySink};
-use period_grammar::Told;
+use period_grammar::EventRef;
 
 /// Counts what it is told of the generator's content. It takes no memory.
 #[derive(Drop)]
@@ -32,7 +32,7 @@ impl<'a> Tally<'a> {
 
     /// The counts, for so many columns.
     pub fn counts(&self, columns: u32) -> Counts
-        ensures { (told : List Thing) → Stands self.now told → result ≡ counts_of columns told }
+        ensures { (reported : List Event) → Stands self.now reported → result ≡ counts_of columns reported }
     {
         let counter = &self.counter;
         Counts {
@@ -67,15 +67,15 @@ impl<'a> Ear for Tally<'a> {
 
     ghost faults = { λ _. 0 };
 
-    // What stood for all that was told before stands for the things told too.
-    ghost took = { λ x y things. (told : List Thing) → Stands x told → Stands y (told ++ things) };
+    // What stood for all that was told before stands for the events too.
+    ghost took = { λ x y events. (reported : List Event) → Stands x reported → Stands y (reported ++ events) };
 
     // A steady sink never fails.
-    ghost broke = { λ x y thing. ⊥ };
+    ghost broke = { λ x y event. ⊥ };
 
-    fn hear(&mut self, told: Told<'_>) -> Result<(), Failed> {
-        self.counter.hear(&told);
-        self.lister.hear(told)
+    fn hear(&mut self, event: EventRef<'_>) -> Result<(), Failed> {
+        self.counter.hear(&event);
+        self.lister.hear(event)
     }
 
     ghost took_none = { λ x. stands_none x };

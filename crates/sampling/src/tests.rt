@@ -1,4 +1,4 @@
-//! Things that are told, with counts that were worked out by hand, and the text of counts.
+//! Events that are told, with counts that were worked out by hand, and the text of counts.
 ghost use Rattle.std.specs.Prelude.{◌≡◌, ◌≤◌, ◌%◌, length};
 
 use crate::{Counts, Tally, write_counts};
@@ -6,11 +6,11 @@ use bch_block::Verdict;
 use island_pack::{Packet, PacketRef, PacketVerdicts, is_packet_in_range};
 use link_sink::Ear;
 use outside_io::{Failed, MemSink, SteadySink};
-use period_grammar::{Fault, Told};
+use period_grammar::{EventRef, Fault};
 use std::process::Abort;
 use std::test::Fail;
 
-/// A thing that is told.
+/// An event that is told.
 #[derive(Clone, Copy)]
 enum Step {
     /// Control columns of a value.
@@ -106,7 +106,7 @@ fn tell_packet<E: Ear>(
         symbols: 0,
     };
     let packet = PacketRef::new(&packet, &verdicts);
-    ear.hear(Told::Packet { packet, column: 14 })
+    ear.hear(EventRef::Packet { packet, column: 14 })
 }
 
 /// Tells an ear a line of whole pixels.
@@ -115,37 +115,37 @@ fn tell_line<E: Ear>(ear: &mut E, pixels: &[u8]) -> Result<(), Failed>
     requires some { 3 ≤ length pixels.now }
     requires few { length pixels.now ≤ 12288 }
 {
-    ear.hear(Told::Line { pixels })
+    ear.hear(EventRef::Line { pixels })
 }
 
 /// Tells an ear a fault.
 fn tell_fault<E: Ear>(ear: &mut E, fault: Fault) -> Result<(), Failed> {
-    ear.hear(Told::Fault(fault))
+    ear.hear(EventRef::Fault(fault))
 }
 
-/// Tells an ear one thing.
+/// Tells an ear one event.
 fn tell<E: Ear>(rt: &impl Abort, ear: &mut E, step: Step) {
     let answer = match step {
         Step::Run(value, count) => {
             assert!(rt; value < 64 && count >= 1);
-            ear.hear(Told::Run { value, count })
+            ear.hear(EventRef::Run { value, count })
         }
         Step::Pixels(pixels) => {
             let size = pixels.len();
             assert!(rt; size % 3 == 0 && size >= 3 && size <= 12_288);
             tell_line(ear, pixels)
         }
-        Step::Open => ear.hear(Told::Open { sync: [1, 2] }),
+        Step::Open => ear.hear(EventRef::Open { sync: [1, 2] }),
         Step::Packet(header, first, verdict) => tell_packet(ear, header, first, verdict),
-        Step::Close => ear.hear(Told::Close { sync: [0, 3] }),
+        Step::Close => ear.hear(EventRef::Close { sync: [0, 3] }),
         Step::Wrong(fault) => tell_fault(ear, fault),
-        Step::Cut(column) => ear.hear(Told::Cut { column }),
+        Step::Cut(column) => ear.hear(EventRef::Cut { column }),
     };
     assert_eq!(rt; answer, Ok(()));
 }
 
 #[test]
-fn counts_what_is_told(rt: HostRuntime) {
+fn counts_what_is_reported(rt: HostRuntime) {
     let mut sink = SteadySink::new();
     let mut tally = Tally::open(&mut sink);
     for step in THINGS {

@@ -12,8 +12,8 @@ use Rattle.source_end.specs.Kept.{is_dvi_sendable}
 use Rattle.source_end.specs.DviPeriods.{dvi_columns, dvi_columns_of, dvi_conforms, DviSpellsPeriod, DviSpells}
 use Rattle.source_end.proofs.Turns.{left, right, both}
 use Rattle.source_end.proofs.Streams.{video_length, control_sendable, video_sendable, passed_at}
-use Rattle.source_end.proofs.Fronts.{front_behind}
-use Rattle.source_end.proofs.ItemFronts.{parts_at, all_behind}
+use Rattle.source_end.proofs.Fronts.{front_after}
+use Rattle.source_end.proofs.ItemFronts.{parts_at, all_after}
 
 DviSpells-append : (periods others : List Period) (columns more : List Column) → DviSpells periods columns → DviSpells others more → DviSpells (periods ++ others) (columns ++ more)
 DviSpells-append [] others columns more h k = subst (λ (cs : List Column). DviSpells others (cs ++ more)) (sym h) k
@@ -81,9 +81,9 @@ periods_spelled (p ∷ ps) h =
 pub dvi_periods_front : (periods : List Period) (i : ℕ) (p : Period) (old mid new columns : List Column) → dvi_conforms periods ≡ true → i < length periods → get_or periods i p ≡ p
     → DviSpells (take i periods) columns → mid ≡ old ++ columns → TookFront mid new (DviSpellsPeriod p) → TookFront old new (DviSpells periods)
 dvi_periods_front periods i p old mid new columns h lt at spelled was front =
-    let rest = periods_spelled (drop (suc i) periods) (all_behind is_dvi_sendable periods (suc i) (dvi_sendable_all periods h)) in
+    let rest = periods_spelled (drop (suc i) periods) (all_after is_dvi_sendable periods (suc i) (dvi_sendable_all periods h)) in
     let parts : take i periods ++ (p ∷ drop (suc i) periods) ≡ periods = ap (λ (q : Period). take i periods ++ (q ∷ drop (suc i) periods)) (sym at) ∙ parts_at periods i p lt in
-    front_behind old mid new columns (DviSpellsPeriod p) (DviSpells periods) was front
+    front_after old mid new columns (DviSpellsPeriod p) (DviSpells periods) was front
     (λ cs own. (
       rest.0,
       subst (λ (ps : List Period). DviSpells ps (columns ++ (cs ++ rest.0))) parts

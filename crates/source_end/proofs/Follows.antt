@@ -1,5 +1,5 @@
 -- The last period, and what the tests of one item after others say of it.
-use Rattle.std.proofs.Common.{◌≡◌, ℕ, suc, ◌+◌, ◌-◌, ◌*◌, ◌<◌, ◌&&◌, List, [], ◌∷◌, length, map, refl, ap, sym, ◌∙◌, arith, Option, Some, None, ◌/◌, min, Result, Ok, Err}
+use Rattle.std.proofs.Common.{◌≡◌, ℕ, suc, ◌+◌, ◌-◌, ◌*◌, ◌<◌, ◌&&◌, List, [], ◌∷◌, length, map, refl, ap, sym, ◌∙◌, arith, Option, Some, ◌/◌, min, Result, Ok, Err}
 use Rattle.std.specs.Result.{OkIff, result_unwrap_or}
 use Rattle.source_end.specs.Kept.{capped, is_run_in_range}
 use Rattle.std.specs.Prelude.{nat_le}
@@ -31,9 +31,6 @@ last_of items found e =
 
 pub last_is : (items : List Item) (x y : Item) → Some x ≡ slice_get items (length items - 1) → x ≡ y → last_period (map period_of items) ≡ Some (period_of y)
 last_is items x y e same = last_of items (Some x) e ∙ ap (λ i. Some (period_of i)) same
-
-pub none_last : (items : List Item) → None ≡ slice_get items (length items - 1) → last_period (map period_of items) ≡ None
-none_last items e = last_of items None e
 
 -- Ranges and counts.
 pub pixels_in_range : (bytes : List ℕ) (n : ℕ) → n ≡ length bytes / 3 → (nat_le 1 n && nat_le n 4096) ≡ is_in_range (video bytes)

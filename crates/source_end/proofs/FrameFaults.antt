@@ -1,5 +1,5 @@
 -- The first fault of a content with one frame more.
-use Rattle.std.proofs.Common.{◌≡◌, ℕ, zero, suc, ◌+◌, ◌*◌, ◌<◌, ◌≤◌, Bool, true, false, cond, ◌==◌, List, [], ◌∷◌, ◌++◌, length, Option, Some, None, refl, ap, ap₂, sym, subst, ◌∙◌, zero-add, arith, length-append}
+use Rattle.std.proofs.Common.{◌≡◌, ℕ, zero, suc, ◌+◌, ◌*◌, Bool, true, false, cond, List, [], ◌∷◌, ◌++◌, length, Option, Some, None, refl, ap, ap₂, sym, subst, ◌∙◌, zero-add, arith, length-append}
 use Rattle.std.specs.Prelude.{nat_le}
 use Rattle.std.proofs.lemmas.Bool.{lt-leb, leb-false}
 use Rattle.tmds_word.proofs.Below.{and-left, and-right}
@@ -9,7 +9,7 @@ use Rattle.source_end.specs.declared.refusal.RasterFault.TheVariants.{BadMode, R
 use Rattle.source_end.specs.Content.{Frame}
 use Rattle.source_end.specs.Raster.{active, total, lines_of}
 use Rattle.source_end.specs.RasterRefusals.{or_else, is_in_range, numbers_of, bad_mode, bad_row, bad_rows, room_of, no_room, too_long, raster_fault}
-use Rattle.source_end.specs.FrameFaults.{frame_room, too_many, unless_full, next_fault}
+use Rattle.source_end.specs.FrameFaults.{too_many, unless_full, next_fault}
 use Rattle.source_end.proofs.RasterFaults.{at_mode, at_room, frame_room_is}
 use Rattle.source_end.proofs.RasterModes.{AreRows, IsFrame, AreFrames}
 
@@ -58,15 +58,15 @@ room_stays mode f (frame ∷ frames) fault count packets e = by_frame (nat_le (l
 abbrev alone : Mode → ℕ → Frame → Option RasterFault
 alone mode f x = cond (nat_le (length x.packets) (room_of mode (lines_of mode x))) None (Some (NoRoom f (room_of mode (lines_of mode x))))
 
-behind : (t : Bool) (a b c : Option RasterFault) (fault : RasterFault) → a ≡ or_else b c → cond t a (Some fault) ≡ or_else (cond t b (Some fault)) c
-behind true a b c fault e = e
-behind false a b c fault e = refl
+after : (t : Bool) (a b c : Option RasterFault) (fault : RasterFault) → a ≡ or_else b c → cond t a (Some fault) ≡ or_else (cond t b (Some fault)) c
+after true a b c fault e = e
+after false a b c fault e = refl
 
 room_more : (mode : Mode) (f : ℕ) (frames : List Frame) (x : Frame) → no_room mode f (frames ++ x ∷ []) ≡ or_else (no_room mode f frames) (alone mode (f + length frames) x)
 room_more mode f [] x = let here : f ≡ f + 0 = omega arith in ap (λ (n : ℕ). alone mode n x) here
 room_more mode f (frame ∷ frames) x =
     let place : suc f + length frames ≡ f + length (frame ∷ frames) = omega arith in
-    behind (nat_le (length frame.packets) (room_of mode (lines_of mode frame))) _ (no_room mode (suc f) frames) (alone mode (f + length (frame ∷ frames)) x) _
+    after (nat_le (length frame.packets) (room_of mode (lines_of mode frame))) _ (no_room mode (suc f) frames) (alone mode (f + length (frame ∷ frames)) x) _
     (room_more mode (suc f) frames x ∙ ap (λ (n : ℕ). or_else (no_room mode (suc f) frames) (alone mode n x)) place)
 
 or_later : (t : Bool) (fault : RasterFault) (later : Option RasterFault) → or_else (cond t None (Some fault)) later ≡ cond t later (Some fault)

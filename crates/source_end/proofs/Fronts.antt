@@ -24,9 +24,9 @@ ok_map (Ok x) f h = f h
 ok_map (Err e) f h = tt
 
 -- a front of columns of their own, behind columns that are whole
-pub front_behind : (old mid new done : List Column) (Own Whole : List Column → Type 0) → mid ≡ old ++ done → TookFront mid new Own
+pub front_after : (old mid new done : List Column) (Own Whole : List Column → Type 0) → mid ≡ old ++ done → TookFront mid new Own
     → ((own : List Column) → Own own → (more : List Column) × Whole (done ++ (own ++ more))) → TookFront old new Whole
-front_behind old mid new done Own Whole was front next =
+front_after old mid new done Own Whole was front next =
     let xs = front.0 in
     let ys = front.1 in
     let all = next (xs ++ ys) front.3 in
@@ -56,7 +56,7 @@ front_of_run old mid new count i n b g r x y z k ex ey ez was cut width begun =
     let own = front_of mid new (replicate n c) k (cut ∙ ap (λ (cs : List Column). mid ++ take k cs) block) in
     let left = count - (done + n) in
     let all : done + (n + left) ≡ count = omega (arith, width, begun) in
-    front_behind old mid new (replicate done c) (λ columns. columns ≡ replicate n c) (λ columns. columns ≡ replicate count c) was own
+    front_after old mid new (replicate done c) (λ columns. columns ≡ replicate n c) (λ columns. columns ≡ replicate count c) was own
     (λ cs e. (
       replicate left c,
       ap (λ (ds : List Column). replicate done c ++ (ds ++ replicate left c)) e

@@ -8,13 +8,13 @@ use Rattle.terc4.specs.Tables.{video_guard}
 use Rattle.island_pack.specs.Periods.{ControlRun, DataIsland, Period, control, video, island, values_of, Pixel, pixels_of, SyncPair}
 use Rattle.island_pack.specs.Conforming.{is_packet, is_data_island}
 use Rattle.island_pack.specs.Packets.{Carries}
-use Rattle.island_pack.specs.Spelling.{SpellsPixels, SpellsVideo, SpellsIsland, SpellsPackets, SpellsPeriod, Spells, control_column, guard_columns, words_of, guard_column}
+use Rattle.island_pack.specs.Spelling.{SpellsPixels, SpellsVideo, SpellsIsland, SpellsPackets, SpellsPeriod, Spells, control_column, guard_columns, column_words, guard_column}
 use Rattle.island_pack.specs.declared.packet.Packet.{Packet}
 use Rattle.island_pack.proofs.PixelColumns.{pixels_go_on}
 use Rattle.island_pack.proofs.Spelled.{packets_spelled, video_spelled}
 use Rattle.source_end.specs.Fronts.{TookFront}
 use Rattle.source_end.specs.Kept.{is_sendable}
-use Rattle.source_end.proofs.Fronts.{front_behind}
+use Rattle.source_end.proofs.Fronts.{front_after}
 use Rattle.source_end.proofs.Spellings.{map_replicate, joined}
 use Rattle.source_end.proofs.Packets.{SpellsPackets-append, packets_in_range}
 use Rattle.source_end.proofs.Streams.{Spells-append}
@@ -23,10 +23,10 @@ use Rattle.source_end.proofs.Streams.{Spells-append}
 pub parts_at : {A : Type 0} (xs : List A) (i : ℕ) (d : A) → i < length xs → take i xs ++ (get_or xs i d ∷ drop (suc i) xs) ≡ xs
 parts_at xs i d lt = ap (λ ys. take i xs ++ ys) (sym (drop-cons xs i d lt)) ∙ take-append-drop i xs
 
-pub all_behind : {A : Type 0} (p : A → Bool) (xs : List A) (i : ℕ) → list_all p xs ≡ true → list_all p (drop i xs) ≡ true
-all_behind p xs zero h = h
-all_behind p [] (suc i) h = refl
-all_behind p (x ∷ xs) (suc i) h = all_behind p xs i (and_parts (p x) (list_all p xs) h).1
+pub all_after : {A : Type 0} (p : A → Bool) (xs : List A) (i : ℕ) → list_all p xs ≡ true → list_all p (drop i xs) ≡ true
+all_after p xs zero h = h
+all_after p [] (suc i) h = refl
+all_after p (x ∷ xs) (suc i) h = all_after p xs i (and_parts (p x) (list_all p xs) h).1
 
 -- A control period.
 values_at : (runs : List ControlRun) (i : ℕ) (d : ControlRun) → i < length runs
@@ -47,7 +47,7 @@ control_front runs i d old mid new lt was front =
     let done = values_of (take i runs) in
     let own = replicate x.count x.value in
     let rest = values_of (drop (suc i) runs) in
-    front_behind old mid new (map control_column done) (λ columns. columns ≡ replicate x.count (control_column x.value)) (λ columns. columns ≡ map control_column (values_of runs)) was front
+    front_after old mid new (map control_column done) (λ columns. columns ≡ replicate x.count (control_column x.value)) (λ columns. columns ≡ map control_column (values_of runs)) was front
     (λ cs e. (
       map control_column rest,
       ap (λ (ds : List Column). map control_column done ++ (ds ++ map control_column rest)) (e ∙ sym (map_replicate control_column x.count x.value))
@@ -61,7 +61,7 @@ pub guards_front : (bytes : List ℕ) (guard : Column) (old new : List Column) �
     → TookFront old new (λ columns. columns ≡ replicate 2 guard) → TookFront old new (SpellsVideo bytes)
 guards_front bytes guard old new is front =
     let all = video_spelled bytes in
-    front_behind old old new [] (λ columns. columns ≡ replicate 2 guard) (SpellsVideo bytes) (sym (append-nil old)) front
+    front_after old old new [] (λ columns. columns ≡ replicate 2 guard) (SpellsVideo bytes) (sym (append-nil old)) front
     (λ cs e. (all.1.0, (all.1.0, ap (λ (ds : List Column). ds ++ all.1.0) e ∙ ap (λ (g : Column). g ∷ (g ∷ all.1.0)) is, all.1.2)))
 
 pub video_whole : (bytes : List ℕ) (guard : Column) (old mid new columns : List Column) → guard ≡ column_of video_guard → mid ≡ old ++ replicate 2 guard → new ≡ mid ++ columns
@@ -72,14 +72,14 @@ video_whole bytes guard old mid new columns is was more spelled =
 pub pixels_front : (bytes : List ℕ) (guard : Column) (old mid new : List Column) → guard ≡ column_of video_guard → mid ≡ old ++ replicate 2 guard
     → TookFront mid new (SpellsPixels (pixels_of bytes)) → TookFront old new (SpellsVideo bytes)
 pixels_front bytes guard old mid new is was front =
-    front_behind old mid new (replicate 2 guard) (SpellsPixels (pixels_of bytes)) (SpellsVideo bytes) was front
+    front_after old mid new (replicate 2 guard) (SpellsPixels (pixels_of bytes)) (SpellsVideo bytes) was front
     (λ cs own. ([], (cs, ap₂ (λ (g : Column) (ds : List Column). g ∷ (g ∷ ds)) is (append-nil cs), own)))
 
 -- some pixels are coded, and those behind them can be
 pub coded_front : (pixels : List Pixel) (upto : ℕ) (old mid new done : List Column) (Own : List Column → Type 0) → mid ≡ old ++ done → TookFront mid new Own
     → ((own : List Column) → Own own → SpellsPixels (take upto pixels) (done ++ own)) → TookFront old new (SpellsPixels pixels)
 coded_front pixels upto old mid new done Own was front coded =
-    front_behind old mid new done Own (SpellsPixels pixels) was front
+    front_after old mid new done Own (SpellsPixels pixels) was front
     (λ cs own.
     let all = pixels_go_on (take upto pixels) (done ++ cs) (drop upto pixels) (coded cs own) in (
       all.0,
@@ -89,11 +89,11 @@ coded_front pixels upto old mid new done Own was front coded =
 
 -- The packets of a data island.
 pub packets_front : (packets : List Packet) (i : ℕ) (d : Packet) (first : Bool) (old mid new columns own : List Column) → list_all is_packet packets ≡ true → i < length packets
-    → first ≡ (true && (length (take i packets) == 0)) → SpellsPackets true (take i packets) columns → Carries (get_or packets i d) first (map words_of own)
+    → first ≡ (true && (length (take i packets) == 0)) → SpellsPackets true (take i packets) columns → Carries (get_or packets i d) first (map column_words own)
     → mid ≡ old ++ columns → TookFront mid new (λ cs. cs ≡ own) → TookFront old new (SpellsPackets true packets)
 packets_front packets i d first old mid new columns own all lt is spelled carries was front =
-    let rest = packets_spelled false (drop (suc i) packets) (all_behind is_packet packets (suc i) all) in
-    front_behind old mid new columns (λ cs. cs ≡ own) (SpellsPackets true packets) was front
+    let rest = packets_spelled false (drop (suc i) packets) (all_after is_packet packets (suc i) all) in
+    front_after old mid new columns (λ cs. cs ≡ own) (SpellsPackets true packets) was front
     (λ cs e. (
       rest.0,
       subst (λ (ds : List Column). SpellsPackets true packets (columns ++ (ds ++ rest.0))) (sym e)
@@ -113,7 +113,7 @@ pub opening_front : (x : DataIsland) (old new own : List Column) → is_data_isl
 opening_front x old new own h is front =
     let packets = packets_spelled true x.packets (packets_in_range x h) in
     let closing = guard_columns x.closing in
-    front_behind old old new [] (λ columns. columns ≡ own) (SpellsIsland x) (sym (append-nil old)) front
+    front_after old old new [] (λ columns. columns ≡ own) (SpellsIsland x) (sym (append-nil old)) front
     (λ cs e. (
       packets.0 ++ closing,
       (packets.0, ap (λ (ds : List Column). ds ++ (packets.0 ++ closing)) (e ∙ is) ∙ sym (append_assoc (guard_columns x.opening) packets.0 closing), packets.1),
@@ -123,7 +123,7 @@ pub inner_front : (x : DataIsland) (packets : List Packet) (old mid new own : Li
     → TookFront mid new (SpellsPackets true packets) → TookFront old new (SpellsIsland x)
 inner_front x packets old mid new own is same was front =
     let closing = guard_columns x.closing in
-    front_behind old mid new own (SpellsPackets true packets) (SpellsIsland x) was front
+    front_after old mid new own (SpellsPackets true packets) (SpellsIsland x) was front
     (λ cs spelled. (
       closing,
       (cs, ap (λ (ds : List Column). ds ++ (cs ++ closing)) is ∙ sym (append_assoc (guard_columns x.opening) cs closing), subst (λ (ps : List Packet). SpellsPackets true ps cs) same spelled),
@@ -134,7 +134,7 @@ pub closing_front : (x : DataIsland) (packets : List Packet) (old mid late new o
     → TookFront late new (λ cs. cs ≡ end) → TookFront old new (SpellsIsland x)
 closing_front x packets old mid late new own columns end is same ends was more spelled front =
     let opening = guard_columns x.opening in
-    front_behind old late new (own ++ columns) (λ cs. cs ≡ end) (SpellsIsland x) (more ∙ ap (λ (ds : List Column). ds ++ columns) was ∙ append_assoc old own columns) front
+    front_after old late new (own ++ columns) (λ cs. cs ≡ end) (SpellsIsland x) (more ∙ ap (λ (ds : List Column). ds ++ columns) was ∙ append_assoc old own columns) front
     (λ cs e. (
       [],
       (columns, ap₂ (λ (ds es : List Column). (ds ++ columns) ++ es) is (append-nil cs ∙ e ∙ ends), subst (λ (ps : List Packet). SpellsPackets true ps columns) same spelled),
@@ -162,9 +162,9 @@ sendable_spelled (p ∷ ps) h =
 pub periods_front : (periods : List Period) (i : ℕ) (p : Period) (old mid new columns : List Column) → list_all is_sendable periods ≡ true → i < length periods → get_or periods i p ≡ p
     → Spells (take i periods) columns → mid ≡ old ++ columns → TookFront mid new (SpellsPeriod p) → TookFront old new (Spells periods)
 periods_front periods i p old mid new columns h lt at spelled was front =
-    let rest = sendable_spelled (drop (suc i) periods) (all_behind is_sendable periods (suc i) h) in
+    let rest = sendable_spelled (drop (suc i) periods) (all_after is_sendable periods (suc i) h) in
     let parts : take i periods ++ (p ∷ drop (suc i) periods) ≡ periods = ap (λ (q : Period). take i periods ++ (q ∷ drop (suc i) periods)) (sym at) ∙ parts_at periods i p lt in
-    front_behind old mid new columns (SpellsPeriod p) (Spells periods) was front
+    front_after old mid new columns (SpellsPeriod p) (Spells periods) was front
     (λ cs own. (
       rest.0,
       subst (λ (ps : List Period). Spells ps (columns ++ (cs ++ rest.0))) parts

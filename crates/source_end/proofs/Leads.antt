@@ -44,13 +44,13 @@ pub length-values_of-more : (runs : List ControlRun) (r : ControlRun) → length
 length-values_of-more runs r =
     ap length (values_of-more runs r) ∙ length-append (values_of runs) (replicate r.count r.value) ∙ ap (λ n. length (values_of runs) + n) (length_replicate r.count r.value)
 
-one_behind : (n v : ℕ) → replicate n v ++ v ∷ [] ≡ v ∷ replicate n v
-one_behind zero v = refl
-one_behind (suc n) v = ap (λ xs. v ∷ xs) (one_behind n v)
+one_after : (n v : ℕ) → replicate n v ++ v ∷ [] ≡ v ∷ replicate n v
+one_after zero v = refl
+one_after (suc n) v = ap (λ xs. v ∷ xs) (one_after n v)
 
 reverse_replicate : (n v : ℕ) → reverse (replicate n v) ≡ replicate n v
 reverse_replicate zero v = refl
-reverse_replicate (suc n) v = reverse-append (v ∷ []) (replicate n v) ∙ ap (λ xs. xs ++ v ∷ []) (reverse_replicate n v) ∙ one_behind n v
+reverse_replicate (suc n) v = reverse-append (v ∷ []) (replicate n v) ∙ ap (λ xs. xs ++ v ∷ []) (reverse_replicate n v) ∙ one_after n v
 
 reversed_more : (runs : List ControlRun) (r : ControlRun) → reverse (values_of (runs ++ r ∷ [])) ≡ replicate r.count r.value ++ reverse (values_of runs)
 reversed_more runs r =

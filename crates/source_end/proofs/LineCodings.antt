@@ -1,8 +1,7 @@
 -- Pixels coded block after block.
-use Rattle.std.proofs.Common.{◌≡◌, ℕ, suc, zero, ◌+◌, ◌-◌, ◌*◌, ◌/◌, ◌%◌, ◌≤◌, ◌<◌, List, [], ◌∷◌, ◌++◌, length, take, drop, set, map, replicate, min, refl, ap, ap₂, sym, subst, ◌∙◌, arith, append_assoc, append-nil, take_all, length-take-le, get_or, ℤ, inl, inr}
+use Rattle.std.proofs.Common.{◌≡◌, ℕ, suc, zero, ◌+◌, ◌-◌, ◌*◌, ◌/◌, ◌%◌, ◌≤◌, ◌<◌, List, [], ◌∷◌, ◌++◌, length, take, drop, set, map, replicate, min, refl, ap, ap₂, sym, subst, ◌∙◌, arith, append_assoc, append-nil, take_all, length-take-le, get_or, ℤ}
 use Rattle.std.specs.Prelude.{All}
 use Rattle.std.proofs.lemmas.List.{take_more_set, map-append, take-replicate}
-use Rattle.std.proofs.lemmas.Bool.{cases_lt}
 use Rattle.std.proofs.Math.Seq.{take-add}
 use Rattle.tmds_word.specs.Column.{Column, column_of}
 use Rattle.tmds_word.specs.Bits.{row_bits, bytes_bits}

@@ -9,13 +9,13 @@ use Rattle.source_end.proofs.Turns.{left, right}
 use Rattle.tmds_word.specs.Column.{Column}
 use Rattle.island_pack.specs.Packets.{Carries}
 use Rattle.island_pack.specs.Periods.{DataIsland}
-use Rattle.island_pack.specs.Spelling.{SpellsPackets, words_of}
+use Rattle.island_pack.specs.Spelling.{SpellsPackets, column_words}
 use Rattle.island_pack.specs.declared.packet.Packet.{Packet}
 
 pub packets_length : (first : Bool) (ps : List Packet) (columns : List Column) → SpellsPackets first ps columns → length columns ≡ 32 * length ps
 packets_length first [] columns h = ap length h
 packets_length first (p ∷ ps) columns h =
-    let own : length h.0 ≡ 32 = sym (length-map h.0 words_of) ∙ h.3.free.count in
+    let own : length h.0 ≡ 32 = sym (length-map h.0 column_words) ∙ h.3.free.count in
     let rest = packets_length false ps h.1 h.4 in
     ap length h.2 ∙ length-append h.0 h.1 ∙ omega (arith, own, rest)
 
@@ -33,7 +33,7 @@ SpellsPackets-append first now [] qs columns more e h k =
 SpellsPackets-append first now (q ∷ ps) qs columns more e h k =
     (h.0, h.1 ++ more, ap (λ (cs : List Column). cs ++ more) h.2 ∙ append_assoc h.0 h.1 more, h.3, SpellsPackets-append false now ps qs h.1 more (later_one first now (length ps) e) h.4 k)
 
-pub SpellsPackets-more : (first now : Bool) (ps : List Packet) (p : Packet) (columns own : List Column) → now ≡ (first && (length ps == 0)) → SpellsPackets first ps columns → Carries p now (map words_of own) → SpellsPackets first (ps ++ p ∷ []) (columns ++ own)
+pub SpellsPackets-more : (first now : Bool) (ps : List Packet) (p : Packet) (columns own : List Column) → now ≡ (first && (length ps == 0)) → SpellsPackets first ps columns → Carries p now (map column_words own) → SpellsPackets first (ps ++ p ∷ []) (columns ++ own)
 SpellsPackets-more first now ps p columns own e h k = SpellsPackets-append first now ps (p ∷ []) columns own e h (own, [], sym (append-nil own), k, refl)
 
 -- What a packet in its ranges has.

@@ -116,9 +116,6 @@ room_wanting mode frames d i n right is lt many =
     let f = get_or frames i d in
     room_tested mode frames d i n false lt (is f (frame_at mode frames i d (are_frames mode 0 frames right) lt).count) (lt-leb (length f.packets) n many)
 
-pub room_passed : (mode : Mode) (frames : List Frame) (i : ℕ) → i ≡ length frames → no_room mode i (drop i frames) ≡ None
-room_passed mode frames i e = ap (no_room mode i) (all_passed frames i e)
-
 -- All causes.
 
 pub at_mode : (mode : Mode) (frames : List Frame) (fault : RasterFault) → bad_mode 0 (numbers_of mode) ≡ Some fault → Some fault ≡ raster_fault mode frames

@@ -69,16 +69,16 @@ size_rest ps g parts h =
 
 -- The frames so far and the one that follows, of all of them.
 
-frame_behind : (mode : Mode) (done : List Frame) (f : Frame) (rest : List Frame) → AreFrames mode (done ++ (f ∷ rest)) → IsFrame mode f
-frame_behind mode [] f rest are = are.0
-frame_behind mode (d ∷ ds) f rest are = frame_behind mode ds f rest are.1
+frame_after : (mode : Mode) (done : List Frame) (f : Frame) (rest : List Frame) → AreFrames mode (done ++ (f ∷ rest)) → IsFrame mode f
+frame_after mode [] f rest are = are.0
+frame_after mode (d ∷ ds) f rest are = frame_after mode ds f rest are.1
 
 -- those that are left begin with it
 split : (frames done left : List Frame) (f : Frame) (rest : List Frame) → done ++ left ≡ frames → left ≡ f ∷ rest → done ++ (f ∷ rest) ≡ frames
 split frames done left f rest e first = ap (λ (fs : List Frame). done ++ fs) (sym first) ∙ e
 
 pub next_frame : (mode : Mode) (frames done left : List Frame) (f : Frame) (rest : List Frame) → done ++ left ≡ frames → left ≡ f ∷ rest → raster_fault mode frames ≡ None → IsFrame mode f
-next_frame mode frames done left f rest e first none = frame_behind mode done f rest (subst (AreFrames mode) (sym (split frames done left f rest e first)) (good_frames mode frames none))
+next_frame mode frames done left f rest e first none = frame_after mode done f rest (subst (AreFrames mode) (sym (split frames done left f rest e first)) (good_frames mode frames none))
 
 next_fits : (mode : Mode) (frames done : List Frame) (f : Frame) (rest : List Frame) → done ++ (f ∷ rest) ≡ frames → raster_fault mode frames ≡ None → size (bodies mode done) + total mode.across * total mode.down < 2 ^ 32
 next_fits mode frames done f rest e none =

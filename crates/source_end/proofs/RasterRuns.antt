@@ -128,10 +128,6 @@ pub end_some : (ps : List Packet) → 1 ≤ length ps → lead_end ps ≡ 16 + 3
 end_some [] some = absurd (omega arith)
 end_some (p ∷ ps) some = refl
 
-pub lead_none : (mode : Mode) (line : Line) (ps : List Packet) → length ps ≡ 0 → lead mode line ps ≡ []
-lead_none mode line [] e = refl
-lead_none mode line (p ∷ ps) e = absurd (omega (arith, e))
-
 pub end_none : (ps : List Packet) → length ps ≡ 0 → lead_end ps ≡ 0
 end_none [] e = refl
 end_none (p ∷ ps) e = absurd (omega (arith, e))
@@ -147,16 +143,16 @@ unfolding some
 until_led mode line [] e = refl
 until_led mode line (p ∷ ps) e = sym (append_assoc (columns (value_at mode line true) 0 12) (packets (island_of mode line (p ∷ ps)) ∷ []) (columns (value_at mode line true) (16 + 32 * length (p ∷ ps)) e))
 
-behind : (ps : List Packet) (x : ℕ) → lead_end ps ≤ x → (some ps && is_within x 4 12) ≡ false
+after : (ps : List Packet) (x : ℕ) → lead_end ps ≤ x → (some ps && is_within x 4 12) ≡ false
 unfolding some
-behind [] x le = refl
-behind (p ∷ ps) x le = past_within x 4 12 (omega (arith, le))
+after [] x le = refl
+after (p ∷ ps) x le = past_within x 4 12 (omega (arith, le))
 
 pub blank_parts : (mode : Mode) (v : Bool) (ps : List Packet) → lead_end ps ≤ total mode.across → lead mode (blank v) ps ++ columns (with_ctl mode (blank v) 0) (lead_end ps) (total mode.across) ≡ until mode (blank v) ps (total mode.across)
 blank_parts mode v ps le =
     sym (until_led mode (blank v) ps (total mode.across)
     ∙ ap (λ (qs : List Part). lead mode (blank v) ps ++ qs)
-    (columns_same (value_at mode (blank v) (some ps)) (with_ctl mode (blank v) 0) (lead_end ps) (total mode.across) le (λ i low high. calm mode (blank v) (some ps) i false refl (behind ps i low))))
+    (columns_same (value_at mode (blank v) (some ps)) (with_ctl mode (blank v) 0) (lead_end ps) (total mode.across) le (λ i low high. calm mode (blank v) (some ps) i false refl (after ps i low))))
 
 announced : (mode : Mode) (row : List ℕ) (has : Bool) (x : ℕ) → is_within x (guard_at mode - 8) (guard_at mode) ≡ true → value_at mode (row_line row) has x ≡ with_ctl mode (blank false) 4 x
 announced mode row has x e = ap (λ (b : Bool). sync_at mode (blank false) x + cond b 4 (cond (has && is_within x 4 12) 20 0)) e
@@ -174,7 +170,7 @@ row_until mode row ps le =
     ∙ ap₂ (λ (ls qs : List Part). ls ++ qs) (sym (same_lead mode row ps le))
     (columns_split value (lead_end ps) (g - 8) g le (omega arith)
     ∙ ap₂ (λ (qs rs : List Part). qs ++ rs)
-    (columns_same value (with_ctl mode (blank false) 0) (lead_end ps) (g - 8) le (λ i low high. calm mode (row_line row) (some ps) i false (before_within i (g - 8) g high) (behind ps i low)))
+    (columns_same value (with_ctl mode (blank false) 0) (lead_end ps) (g - 8) le (λ i low high. calm mode (row_line row) (some ps) i false (before_within i (g - 8) g high) (after ps i low)))
     (columns_same value (with_ctl mode (blank false) 4) (g - 8) g (omega arith) (λ i low high. announced mode row (some ps) i (within i (g - 8) g low high)))))
 
 pub row_parts : (mode : Mode) (row : List ℕ) (ps : List Packet) (a : ℕ) → lead_end ps ≤ guard_at mode - 8 → a ≡ sync mode.across + back mode.across + active mode.across

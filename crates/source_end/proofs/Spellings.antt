@@ -1,14 +1,8 @@
 -- The columns of an item, one after another.
-use Rattle.std.proofs.Common.{◌≡◌, ℕ, suc, zero, ◌+◌, ◌*◌, ◌/◌, ◌≤◌, ◌<◌, true, List, [], ◌∷◌, ◌++◌, length, take, get_or, map, replicate, refl, ap, sym, subst, ◌∙◌, arith, append_assoc, append-nil, length-append, take_all, ℤ}
+use Rattle.std.proofs.Common.{◌≡◌, ℕ, suc, zero, ◌+◌, ◌*◌, ◌/◌, ◌≤◌, ◌<◌, List, [], ◌∷◌, ◌++◌, length, take, get_or, map, replicate, refl, ap, sym, subst, ◌∙◌, arith, append_assoc, append-nil, length-append, take_all, ℤ}
 use Rattle.std.proofs.lemmas.List.{take_more, map-append, length-replicate}
-use Rattle.std.specs.Prelude.{nat_le, nat_lt}
-use Rattle.std.specs.List.{list_all}
-use Rattle.std.proofs.lemmas.Bool.{ltb-true}
 use Rattle.tmds_word.specs.Column.{Column}
-use Rattle.tmds_code.specs.Lanes.{IsLane}
 use Rattle.tmds_code.specs.Pasts.{IsCoderAfter}
-use Rattle.island_pack.specs.Conforming.{is_run}
-use Rattle.source_end.proofs.Turns.{left, right}
 use Rattle.island_pack.specs.Periods.{ControlRun, values_of, Pixel, pixels_of}
 use Rattle.source_end.proofs.Leads.{values_of-more}
 
@@ -33,12 +27,6 @@ room (x ∷ runs) (suc i) r lt =
 pub none_spelled : {A : Type 0} (f : ℕ → A) (xs : List A) → xs ≡ xs ++ map f (values_of [])
 unfolding values_of
 none_spelled f xs = sym (append-nil xs)
-
--- A run of a list of runs in their ranges.
-pub run_at : (runs : List ControlRun) (i : ℕ) (r : ControlRun) → list_all is_run runs ≡ true → i < length runs → (get_or runs i r).value < 64
-run_at [] i r h lt = absurd (omega arith)
-run_at (x ∷ runs) zero r h lt = ltb-true x.value 64 (left (nat_lt x.value 64) (nat_le 1 x.count) (left (is_run x) (list_all is_run runs) h))
-run_at (x ∷ runs) (suc i) r h lt = let lt' : i < length runs = omega arith in run_at runs i r (right (is_run x) (list_all is_run runs) h) lt'
 
 -- The pixels of bytes.
 abbrev pub pixel_at : List ℕ → ℕ → ℕ → ℕ → Pixel
@@ -86,6 +74,3 @@ pub after : (kept : ℤ) (bytes : List ℕ) (i : ℕ) (columns : List Column) (o
 after kept bytes i columns own f h lt was =
     subst (λ (ws : List ℕ). IsCoderAfter kept (map f (take (i + 1) (pixels_of bytes))) ws) (sym (map-append h columns (own ∷ [])))
     (subst (λ (bs : List ℕ). IsCoderAfter kept bs (map h columns ++ h own ∷ [])) (sym (lane_more bytes i f lt)) was)
-
-pub whole_lane : (bytes : List ℕ) (kept : ℤ) (done : List Pixel) (columns : List Column) (f : Pixel → ℕ) (h : Column → ℕ) → done ≡ pixels_of bytes → IsCoderAfter kept (map f done) (map h columns) → IsLane (map f (pixels_of bytes)) (map h columns)
-whole_lane bytes kept done columns f h e was = subst (λ (ps : List Pixel). IsLane (map f ps) (map h columns)) e was.lane

@@ -1,5 +1,5 @@
 //! What rasters show and carry: frames, each with its packets and its rows.
-ghost use Rattle.std.specs.Prelude.{◌≡◌, ℕ, ◌↔◌, ◌≤◌, ◌<◌, ◌++◌, ◌∷◌, [], List, IsTrue, OnOk, OnErr, length};
+ghost use Rattle.std.specs.Prelude.{◌≡◌, ◌↔◌, ◌≤◌, ◌<◌, ◌++◌, ◌∷◌, [], List, IsTrue, OnOk, OnErr, length};
 ghost use Rattle.island_pack.specs.Conforming.{are_bytes};
 ghost use Rattle.source_end.specs.Content.{empty_frame, with_packet, with_row, on_last, is_payload, are_content};
 

@@ -1,5 +1,5 @@
 //! Lists of items that can be the first ones of a conforming list without guard bands (DVI 1.0).
-ghost use Rattle.std.specs.Prelude.{◌≡◌, ℕ, ◌≤◌, ◌++◌, ◌∷◌, [], List, OnOk, OnErr, IfOk, false};
+ghost use Rattle.std.specs.Prelude.{◌≡◌, ◌≤◌, ◌++◌, ◌∷◌, [], List, OnOk, OnErr, IfOk, false};
 
 use crate::follow::{end_fault, first_fault};
 use crate::{DviStream, Item, ItemFault};

@@ -1,5 +1,5 @@
 //! Conforming lists of items without guard bands (DVI 1.0).
-ghost use Rattle.std.specs.Prelude.{◌≡◌, ℕ, ◌≤◌, ◌<◌, ◌+◌, ◌++◌, List, length, map, OnOk, OnErr};
+ghost use Rattle.std.specs.Prelude.{◌≡◌, ◌≤◌, ◌<◌, ◌+◌, ◌++◌, List, length, map, OnOk, OnErr};
 ghost use Rattle.outside_io.specs.Causes.{HasCause};
 ghost use Rattle.tmds_word.specs.Column.{Column};
 ghost use Rattle.source_end.specs.DviPeriods.{IsDviConforming, dvi_columns_of, DviSpells};

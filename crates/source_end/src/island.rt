@@ -1,5 +1,5 @@
 //! Data islands.
-ghost use Rattle.std.specs.Prelude.{◌≡◌, ℕ, ◌↔◌, ◌++◌, ◌∷◌, [], List, IsTrue, OnOk, OnErr, length, ◌&&◌, ◌<◌, nat_le, nat_lt, All};
+ghost use Rattle.std.specs.Prelude.{◌≡◌, ◌↔◌, ◌++◌, ◌∷◌, [], IsTrue, OnOk, OnErr, length, ◌&&◌, ◌<◌};
 ghost use Rattle.std.specs.List.{list_all};
 ghost use Rattle.island_pack.specs.Conforming.{is_sync_pair, is_packet, is_data_island};
 ghost use Rattle.island_pack.specs.Ranges.{is_island_in_range};

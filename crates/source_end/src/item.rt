@@ -1,5 +1,5 @@
 //! Items: a control period, a video data period or a data island.
-ghost use Rattle.std.specs.Prelude.{◌≡◌, ℕ, ◌≤◌, ◌+◌, ◌/◌, ◌%◌, ◌↔◌, ◌++◌, ◌∷◌, [], List, IsTrue, OnOk, OnErr, length};
+ghost use Rattle.std.specs.Prelude.{◌≡◌, ℕ, ◌+◌, ◌/◌, ◌%◌, ◌↔◌, ◌++◌, ◌∷◌, [], List, IsTrue, OnOk, OnErr, length};
 ghost use Rattle.island_pack.specs.Periods.{ControlRun, values_of, has_preamble, VIDEO_PREAMBLE, ISLAND_PREAMBLE};
 ghost use Rattle.source_end.specs.Kept.{capped, led_by, is_run_in_range, are_pixels};
 

@@ -1,5 +1,5 @@
 //! Lists of items that can be the first ones of a conforming list.
-ghost use Rattle.std.specs.Prelude.{◌≡◌, ℕ, ◌≤◌, ◌+◌, ◌++◌, ◌∷◌, [], List, OnOk, OnErr, IfOk, IsTrue, not, nat_le};
+ghost use Rattle.std.specs.Prelude.{◌≡◌, ◌≤◌, ◌+◌, ◌++◌, ◌∷◌, [], List, OnOk, OnErr, IfOk, IsTrue, not};
 
 use crate::follow::{end_fault, first_fault, is_announced};
 use crate::{Item, Stream};

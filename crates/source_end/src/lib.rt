@@ -32,6 +32,3 @@ pub use mode::Mode;
 pub use rasters::{count_columns, raster, spell_raster};
 pub use refusal::{RasterFault, mode_fault, next_fault};
 pub use stream::Stream;
-
-#[cfg(test)]
-mod tests;

@@ -1,10 +1,10 @@
 //! The lines of a raster, from left to right and from top to bottom. What each function writes is told as
 //! long as all columns so far fit 32 bits; a raster that is not refused has at most 20,000,000.
-ghost use Rattle.std.specs.Prelude.{◌≡◌, ℕ, ◌+◌, ◌-◌, ◌*◌, ◌^◌, ◌<◌, ◌≤◌, ◌++◌, ◌∷◌, [], List, length, map, replicate, OnOk, IfOk, Some, None};
+ghost use Rattle.std.specs.Prelude.{◌≡◌, ◌+◌, ◌-◌, ◌*◌, ◌^◌, ◌<◌, ◌≤◌, ◌++◌, List, length, map, replicate, OnOk, IfOk, Some, None};
 ghost use Rattle.island_pack.specs.declared.packet.Packet.{Packet};
 ghost use Rattle.source_end.specs.Gathering.{size, Has};
-ghost use Rattle.source_end.specs.Raster.{Part, packets, columns, blank, row_line, sync_at, up_from, island_of, until, whole, room, row_room, blank_room, laid, lines_of, guard_at, active, front, sync, back, total};
-ghost use Rattle.source_end.specs.RasterRefusals.{numbers_of, bad_mode, bad_row};
+ghost use Rattle.source_end.specs.Raster.{Part, packets, columns, blank, row_line, sync_at, up_from, island_of, whole, room, row_room, blank_room, laid, lines_of, guard_at, active, front, sync, back, total};
+ghost use Rattle.source_end.specs.RasterRefusals.{numbers_of, bad_mode};
 ghost use Rattle.source_end.specs.Lines.{lead, lead_end, left, AreWide};
 
 use crate::content::FrameContent;

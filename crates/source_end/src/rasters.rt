@@ -1,10 +1,9 @@
 //! The raster of a content in a mode.
-ghost use Rattle.std.specs.Prelude.{◌≡◌, ℕ, ◌+◌, ◌-◌, ◌*◌, ◌^◌, ◌<◌, ◌≤◌, ◌++◌, ◌∷◌, [], List, length, map, OnOk, IfOk, IfErr, None, Some, IsTrue};
+ghost use Rattle.std.specs.Prelude.{◌≡◌, ◌+◌, ◌-◌, ◌*◌, ◌^◌, ◌<◌, ◌≤◌, ◌++◌, List, length, map, OnOk, IfOk, IfErr, None, Some};
 ghost use Rattle.tmds_word.specs.Column.{Column};
 ghost use Rattle.island_pack.specs.Conforming.{IsConforming};
 ghost use Rattle.island_pack.specs.Periods.{Period, columns_of};
 ghost use Rattle.island_pack.specs.Spelling.{Spells};
-ghost use Rattle.source_end.specs.Content.{are_content};
 ghost use Rattle.source_end.specs.Gathering.{size, Parted};
 ghost use Rattle.source_end.specs.ItemPeriods.{period_of};
 ghost use Rattle.source_end.specs.Lines.{AreWide};

@@ -1,5 +1,5 @@
 //! Why there is no raster of a content in a mode.
-ghost use Rattle.std.specs.Prelude.{◌≡◌, ℕ, ◌+◌, ◌-◌, ◌*◌, ◌^◌, ◌<◌, ◌≤◌, min, List, length};
+ghost use Rattle.std.specs.Prelude.{◌≡◌, ◌+◌, ◌-◌, ◌*◌, ◌^◌, ◌<◌, min, length};
 ghost use Rattle.source_end.specs.Content.{Frame};
 ghost use Rattle.source_end.specs.Raster.{active, total, lines_of};
 ghost use Rattle.source_end.specs.FrameFaults.{frame_room, next_fault};

@@ -88,10 +88,6 @@ terc_places : passes_below 16 (has_its_place terc_words) ≡ true
 unfolding passes_below has_its_place value_in terc_words
 terc_places = refl
 
-pub value_of_control : (v : ℕ) → v < 4 → value_in control_words (slice_index control_words v) ≡ Some v
-unfolding has_its_place
-value_of_control v lt = same_option _ _ (passes_at 4 (has_its_place control_words) v control_places lt)
-
 pub value_of_terc : (v : ℕ) → v < 16 → value_in terc_words (slice_index terc_words v) ≡ Some v
 unfolding has_its_place
 value_of_terc v lt = same_option _ _ (passes_at 16 (has_its_place terc_words) v terc_places lt)

@@ -13,5 +13,9 @@ pub use columns::{
 };
 pub use values::{control, control_of, nibble, terc};
 
+/// How many control words stand in a row at least in each control period: locks and edges stand on as many (HDMI 1.4,
+/// section 5.4.2).
+pub const RUN: u32 = 12;
+
 #[cfg(test)]
 mod tests;

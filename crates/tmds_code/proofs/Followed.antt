@@ -7,11 +7,6 @@ use Rattle.tmds_code.specs.Coding.{coded_word, decoded_byte}
 use Rattle.tmds_code.specs.Lanes.{disparity_of}
 use Rattle.tmds_code.specs.Balances.{followed, followed_all}
 
--- a wrong character stays
-pub none_stays : (ws : List ℕ) → followed_all None ws ≡ None
-none_stays [] = refl
-none_stays (w ∷ ws) = none_stays ws
-
 pub followed_append : (before : Option ℤ) (ws vs : List ℕ) → followed_all before (ws ++ vs) ≡ followed_all (followed_all before ws) vs
 followed_append before [] vs = refl
 followed_append before (w ∷ ws) vs = followed_append (followed before w) ws vs

@@ -4,11 +4,11 @@ use Rattle.std.specs.Prelude.{All}
 use Rattle.std.proofs.Math.Nat.{mod-eq_of_lt}
 use Rattle.std.proofs.lemmas.List.{take-append-le, drop-append-le}
 use Rattle.std.proofs.lemmas.List.Elements.{All-tail}
-use Rattle.std.proofs.Math.Seq.{drop-append_seam, take-append_seam}
+use Rattle.std.proofs.Math.Seq.{take-append_seam}
 use Rattle.tmds_word.specs.Bits.{bits_of, word_bits, row_bits, bytes_bits, number}
 use Rattle.tmds_word.specs.Words.{words_of, all_words}
 use Rattle.tmds_word.proofs.Numbers.{bits_of-number, number-bits_of, number-take}
-use Rattle.tmds_word.proofs.Lists.{length-word_bits, length-row_bits, length-bytes_bits}
+use Rattle.tmds_word.proofs.Lists.{length-word_bits, length-bytes_bits}
 
 no_length : (xs : List Bool) → length xs ≡ 0 → xs ≡ []
 no_length [] h = refl
@@ -66,22 +66,6 @@ row_bits-first_words (suc n) row len =
 pub row_bits-words_of : (row : List Bool) → length row % 10 ≡ 0 → row_bits (all_words row) ≡ row
 unfolding all_words
 row_bits-words_of row whole = row_bits-first_words (length row / 10) row (omega arith)
-
-first_words-row_bits : (ws : List ℕ) → All (λ w. w < 1024) ws → words_of (length ws) (row_bits ws) ≡ ws
-unfolding words_of row_bits
-first_words-row_bits [] h = refl
-first_words-row_bits (w ∷ ws) h =
-    let more = row_bits ws in
-    ap (λ k. number (take k (word_bits w ++ more)) ∷ words_of (length ws) (drop k (word_bits w ++ more))) (sym (length-word_bits w))
-    ∙ ap₂ (λ xs ys. number xs ∷ words_of (length ws) ys) (take-append_seam (word_bits w) more) (drop-append_seam (word_bits w) more)
-    ∙ ap₂ (λ n ns. n ∷ ns) (number-word_bits w (h 0 0 (omega arith))) (first_words-row_bits ws (All-tail (λ n. n < 1024) w ws h))
-
--- the characters of characters' bits are the characters
-pub words_of-row_bits : (ws : List ℕ) → All (λ w. w < 1024) ws → all_words (row_bits ws) ≡ ws
-unfolding all_words
-words_of-row_bits ws h =
-    let n : length (row_bits ws) / 10 ≡ length ws = omega (arith, length-row_bits ws) in
-    ap (λ k. words_of k (row_bits ws)) n ∙ first_words-row_bits ws h
 
 length-first_words : (n : ℕ) (row : List Bool) → length (words_of n row) ≡ n
 unfolding words_of

@@ -42,8 +42,8 @@ four_of ws at a b c d x y z u room la lb lc ea eb ec ed =
     ∙ ap row_bits (sym (take_four ws at x y z u room))
 
 -- the shift loses no bit, and sets none of the tail's
-pub behind_is : (t h w a : ℕ) → t < 2 ^ h → w < 2 ^ 40 → h < 8 → a ≡ t → bit_or (w * 2 ^ h % 18446744073709551616) a ≡ t + 2 ^ h * w
-behind_is t h w a low high few e =
+pub after_is : (t h w a : ℕ) → t < 2 ^ h → w < 2 ^ 40 → h < 8 → a ≡ t → bit_or (w * 2 ^ h % 18446744073709551616) a ≡ t + 2 ^ h * w
+after_is t h w a low high few e =
     let below : t + 2 ^ h * w < 2 ^ (h + 40) = joined_below h 40 t w low high in
     let most : 2 ^ (h + 40) ≤ 2 ^ 64 = pow_mono {i = h + 40} {j = 64} (omega arith) in
     let fits : w * 2 ^ h < 18446744073709551616 = omega arith in

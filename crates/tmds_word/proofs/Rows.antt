@@ -24,17 +24,11 @@ joined_below h k t w low high =
     omega arith
 
 pub put_none : (bytes : List ℕ) (h t k w n : ℕ) → t < 2 ^ h → n ≡ t + 2 ^ h * w → bytes_bits bytes ++ bits_of (h + k) n ≡ (bytes_bits bytes ++ bits_of h t) ++ bits_of k w
-put_none bytes h t k w n lt e =
-    ap (λ m. bytes_bits bytes ++ bits_of (h + k) m) e
-    ∙ ap (λ xs. bytes_bits bytes ++ xs) (sym (bits_of-join h k t w lt))
-    ∙ sym (append_assoc (bytes_bits bytes) (bits_of h t) (bits_of k w))
+put_none bytes h t k w n lt e = rw (e, append_assoc, bits_of-join h k t w lt)
 
 -- one whole byte, and r bits after it
 pub byte_more : (bytes : List ℕ) (r n : ℕ) → bytes_bits (bytes ++ n % 256 ∷ []) ++ bits_of r (n / 256) ≡ bytes_bits bytes ++ bits_of (8 + r) n
-byte_more bytes r n =
-    ap (λ xs. xs ++ bits_of r (n / 256)) (bytes_bits-append bytes (n % 256 ∷ []) ∙ ap (λ xs. bytes_bits bytes ++ xs) (bytes_bits-one (n % 256)))
-    ∙ append_assoc (bytes_bits bytes) (bits_of 8 (n % 256)) (bits_of r (n / 256))
-    ∙ ap (λ xs. bytes_bits bytes ++ xs) (sym (bits_of-byte r n))
+byte_more bytes r n = rw (bytes_bits-append, bytes_bits-one, append_assoc, bits_of-byte r n)
 
 pub put_one : (bytes : List ℕ) (h t k w n r : ℕ) → t < 2 ^ h → n ≡ t + 2 ^ h * w → h + k ≡ 8 + r
     → bytes_bits (bytes ++ n % 256 ∷ []) ++ bits_of r (n / 256) ≡ (bytes_bits bytes ++ bits_of h t) ++ bits_of k w
@@ -96,11 +90,7 @@ number_from (suc j) (b ∷ bytes) h =
     let first : b < 256 = h 0 in
     let half : (b + 256 * n) / 2 ^ 8 ≡ n = omega arith in
     let more : 8 * suc j ≡ 8 + 8 * j = omega arith in
-    ap (λ m. m / 2 ^ (8 * suc j)) (number_of_bytes b bytes first)
-    ∙ ap (λ m. (b + 256 * n) / 2 ^ m) more
-    ∙ sym (shr-shr (b + 256 * n) 8 (8 * j))
-    ∙ ap (λ m. m / 2 ^ (8 * j)) half
-    ∙ number_from j bytes (rest_bytes b bytes h)
+    rw (number_of_bytes b bytes first, more, ← shr-shr (b + 256 * n) 8 (8 * j), half) (number_from j bytes (rest_bytes b bytes h))
 
 nothing : number (bytes_bits []) % 256 ≡ 0
 unfolding bytes_bits number
@@ -124,9 +114,7 @@ number_of_row bytes h t lt few =
     let low : t < 256 = fits_byte t h lt few in
     let short : number (bits_of h t) ≡ t = number-bits_of h t ∙ mod-eq_of_lt lt in
     let long : number (bits_of 8 t) ≡ t = number-bits_of 8 t ∙ mod-eq_of_lt low in
-    number-append (bytes_bits bytes) (bits_of h t)
-    ∙ ap (λ n. number (bytes_bits bytes) + 2 ^ length (bytes_bits bytes) * n) (short ∙ sym long)
-    ∙ sym (ap number (bytes_bits-append bytes (t ∷ []) ∙ ap (λ xs. bytes_bits bytes ++ xs) (bytes_bits-one t)) ∙ number-append (bytes_bits bytes) (bits_of 8 t))
+    simp (bytes_bits-append, bytes_bits-one, number-append, short, long)
 
 with_tail : (bytes : List ℕ) (t : ℕ) → AreBytes bytes → t < 256 → AreBytes (bytes ++ t ∷ [])
 with_tail [] t h lt zero = lt

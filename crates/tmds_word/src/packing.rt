@@ -18,7 +18,7 @@ pub(crate) fn pack(words: &[Word], held: u8, tail: u8, into: &mut [u8]) -> u8
 {
     let mut left = tail;
     for i in 0..words.len() / 4 {
-        let bits = behind(left, held, four(words, 4 * i));
+        let bits = after(left, held, four(words, 4 * i));
         put_five(into, 5 * i, bits);
         left = (bits >> 40) as u8;
     }
@@ -114,7 +114,7 @@ fn four(words: &[Word], at: usize) -> u64
 }
 
 /// The number whose lowest bits are a tail of `held` bits, with forty bits above it.
-fn behind(tail: u8, held: u8, bits: u64) -> u64
+fn after(tail: u8, held: u8, bits: u64) -> u64
     requires few { held < 8 }
     requires narrow_tail { tail < 2 ^ held }
     requires narrow { bits < 2 ^ 40 }

@@ -4,7 +4,7 @@ ghost use Rattle.tmds_word.specs.Bits.{bits_of, word_bits, row_bits, bytes_bits,
 
 use crate::Word;
 use crate::packing::{pack, shift};
-use outside_io::NoMemory;
+use outside_io::{NoMemory, copy_front};
 use std::alloc::Global;
 use std::marker::Model;
 
@@ -377,16 +377,6 @@ fn copy_whole(whole: &[u8], held: u8, tail: u8, from: u32, into: &mut [u8]) -> u
     } else {
         shift_front(bytes, from % 8, into)
     }
-}
-
-/// Copies as many bytes as both have to the front of `into`, and says how many.
-fn copy_front(from: &[u8], into: &mut [u8]) -> usize
-    ensures count { result ≡ min (length from.now) (length into.old) }
-    ensures copied { into.new ≡ take result from.now ++ drop result into.old }
-{
-    let count = from.len().min(into.len());
-    into[..count].copy_from_slice(&from[..count]);
-    count
 }
 
 /// Fills the front of `into` with the bits of bytes from bit `shift` on, as long as a byte with one after

@@ -127,7 +127,7 @@ fn windows(rt: HostRuntime) -> Result<(), Fail> {
 
 // Behind one to eight bits, so that each window begins at each place of a byte.
 #[test]
-fn windows_behind_bits(rt: HostRuntime) -> Result<(), Fail> {
+fn windows_after_bits(rt: HostRuntime) -> Result<(), Fail> {
     for before in 1..9 {
         let mut row = BitRow::new(rt.alloc());
         row.push_bits(&[0x55], before)?;

@@ -4,13 +4,13 @@ use Rattle.std.proofs.lemmas.Bool.{cases_lt}
 use Rattle.std.proofs.lemmas.List.{drop-drop, drop-append-le, take-append-le, take_all, map-append}
 use Rattle.terc4.specs.Columns.{one_if}
 use Rattle.lane_align.proofs.Controls.{run_within}
-use Rattle.period_grammar.specs.Things.{Thing}
-use Rattle.link_sink.specs.Sinks.{Fed, IsToldSoFar, IsGain, IsLast}
-use Rattle.link_sink.specs.Alignment.{AreTold}
+use Rattle.period_grammar.specs.Events.{Event}
+use Rattle.link_sink.specs.Sinks.{Fed, IsReportedSoFar, IsGain, IsLast}
+use Rattle.link_sink.specs.Alignment.{AreReported}
 use Rattle.link_sink.specs.Pieces.{no_bits}
-use Rattle.link_sink.proofs.Following.{told_at_first}
+use Rattle.link_sink.proofs.Following.{reported_at_first}
 use Rattle.link_sink.specs.declared.hear.Outcome.{Outcome}
-use Rattle.track_sink.specs.Events.{Event, thing, events_of, slip_if}
+use Rattle.track_sink.specs.TrackEvents.{TrackEvent, event, track_events_of, slip_if}
 use Rattle.track_sink.specs.Epochs.{lane_of, rest_of, front_of, IsEnd, HasNoEnd, IsTracked, IsTrack, last_epoch, more_epochs}
 use Rattle.track_sink.specs.Tracks.{Grows}
 use Rattle.track_sink.specs.Trackers.{most_of, Follows}
@@ -94,31 +94,31 @@ fronts_stay x y start handed grows reached =
     (lane_front_stays x y start handed 0 (omega arith) grows reached) (lane_front_stays x y start handed 1 (omega arith) grows reached) (lane_front_stays x y start handed 2 (omega arith) grows reached)
 
 -- more bits come
-pub follows_grown : (x y : Fed) (start handed : ℕ) (begun : Bool) (epochs aligned : ℕ) (told : List Event) → Grows x y → start + handed ≤ most_of x
-    → Follows x start handed begun epochs aligned told → Follows y start handed begun epochs aligned told
-follows_grown x y start handed begun epochs aligned told grows reached f = record {
+pub follows_grown : (x y : Fed) (start handed : ℕ) (begun : Bool) (epochs aligned : ℕ) (reported : List TrackEvent) → Grows x y → start + handed ≤ most_of x
+    → Follows x start handed begun epochs aligned reported → Follows y start handed begun epochs aligned reported
+follows_grown x y start handed begun epochs aligned reported grows reached f = record {
   closed = f.closed;
-  things = f.things;
+  events = f.events;
   goes_on = λ later more. f.goes_on later (grows_twice x y later grows more);
-  so_far = subst (λ (fed : Fed). IsToldSoFar fed f.things) (sym (fronts_stay x y start handed grows reached)) f.so_far;
-  told_are = f.told_are;
+  so_far = subst (λ (fed : Fed). IsReportedSoFar fed f.events) (sym (fronts_stay x y start handed grows reached)) f.so_far;
+  reported_are = f.reported_are;
 }
 
 -- Handing on.
 
-pub events_both : (us vs : List Thing) → events_of (us ++ vs) ≡ events_of us ++ events_of vs
-events_both us vs = map-append thing us vs
+pub track_events_both : (us vs : List Event) → track_events_of (us ++ vs) ≡ track_events_of us ++ track_events_of vs
+track_events_both us vs = map-append event us vs
 
 -- bits are handed on
-pub follows_handed : (fed : Fed) (start handed bits : ℕ) (begun : Bool) (epochs aligned : ℕ) (told : List Event) (more : List Thing)
+pub follows_handed : (fed : Fed) (start handed bits : ℕ) (begun : Bool) (epochs aligned : ℕ) (reported : List TrackEvent) (more : List Event)
     → IsGain (front_of handed (rest_of start fed)) (front_of (handed + bits) (rest_of start fed)) more
-    → Follows fed start handed begun epochs aligned told → Follows fed start (handed + bits) begun epochs aligned (told ++ events_of more)
-follows_handed fed start handed bits begun epochs aligned told more gain f = record {
+    → Follows fed start handed begun epochs aligned reported → Follows fed start (handed + bits) begun epochs aligned (reported ++ track_events_of more)
+follows_handed fed start handed bits begun epochs aligned reported more gain f = record {
   closed = f.closed;
-  things = f.things ++ more;
+  events = f.events ++ more;
   goes_on = f.goes_on;
-  so_far = gain f.things f.so_far;
-  told_are = ap (λ es. es ++ events_of more) f.told_are ∙ append_assoc f.closed (events_of f.things) (events_of more) ∙ ap (λ es. f.closed ++ es) (sym (events_both f.things more));
+  so_far = gain f.events f.so_far;
+  reported_are = ap (λ es. es ++ track_events_of more) f.reported_are ∙ append_assoc f.closed (track_events_of f.events) (track_events_of more) ∙ ap (λ es. f.closed ++ es) (sym (track_events_both f.events more));
 }
 
 -- The end of an epoch.
@@ -178,63 +178,63 @@ no_front : (fed : Fed) → no_bits ≡ front_of 0 fed
 no_front fed = refl
 
 -- an epoch is closed at its end, and the next begins there
-pub follows_closed : (fed : Fed) (start place lane : ℕ) (begun : Bool) (epochs aligned : ℕ) (told : List Event) (outcome : Outcome) (last : List Thing)
+pub follows_closed : (fed : Fed) (start place lane : ℕ) (begun : Bool) (epochs aligned : ℕ) (reported : List TrackEvent) (outcome : Outcome) (last : List Event)
     → start ≤ most_of fed → IsEnd (rest_of start fed) lane place → IsLast (front_of place (rest_of start fed)) outcome last
-    → Follows fed start place begun epochs aligned told
+    → Follows fed start place begun epochs aligned reported
     → Follows fed (start + place) 0 (begun || outcome.aligned) (epochs + 1) (aligned + one_if outcome.aligned)
-    (told ++ (events_of last ++ slip_if (begun || outcome.aligned) lane (start + place)))
-follows_closed fed start place lane begun epochs aligned told outcome last reached end is_last f =
+    (reported ++ (track_events_of last ++ slip_if (begun || outcome.aligned) lane (start + place)))
+follows_closed fed start place lane begun epochs aligned reported outcome last reached end is_last f =
     let slip = slip_if (begun || outcome.aligned) lane (start + place) in
-    let all = f.things ++ last in
-    let are = is_last f.things f.so_far in
+    let all = f.events ++ last in
+    let are = is_last f.events f.so_far in
     let long = end_within (rest_of start fed) lane place end in
     let room : start + place ≤ most_of fed =
     longest_is (rest_of start fed) (start + place ≤ most_of fed) (λ l lt e. let g = ap length (lane_of_rest start fed l) ∙ length-drop start (lane_of fed l) in let h = no_longer fed l in omega arith) in
-    let closed = f.closed ++ (events_of all ++ slip) in
-    let goes_on : (later : Fed) → Grows fed later → (n m : ℕ) (rest : List Event) → IsTracked (begun || outcome.aligned) (start + place) (rest_of (start + place) later) n m rest
+    let closed = f.closed ++ (track_events_of all ++ slip) in
+    let goes_on : (later : Fed) → Grows fed later → (n m : ℕ) (rest : List TrackEvent) → IsTracked (begun || outcome.aligned) (start + place) (rest_of (start + place) later) n m rest
     → IsTrack later (epochs + 1 + n) (aligned + one_if outcome.aligned + m) (closed ++ rest) =
     λ later grows n m rest tracked.
     let fronts = fronts_stay fed later start place grows room in
-    let here : AreTold (take place (drop start later.blue)) (take place (drop start later.green)) (take place (drop start later.red)) outcome all =
-    subst (λ (x : Fed). AreTold x.blue x.green x.red outcome all) (sym fronts) are in
+    let here : AreReported (take place (drop start later.blue)) (take place (drop start later.green)) (take place (drop start later.red)) outcome all =
+    subst (λ (x : Fed). AreReported x.blue x.green x.red outcome all) (sym fronts) are in
     let then : IsTracked (begun || outcome.aligned) (start + place) (rest_of place (rest_of start later)) n m rest =
     subst (λ (x : Fed). IsTracked (begun || outcome.aligned) (start + place) x n m rest) (sym (rest_of_rest place start later)) tracked in
-    let whole : IsTracked begun start (rest_of start later) (1 + n) (one_if outcome.aligned + m) (events_of all ++ (slip ++ rest)) =
+    let whole : IsTracked begun start (rest_of start later) (1 + n) (one_if outcome.aligned + m) (track_events_of all ++ (slip ++ rest)) =
     more_epochs begun start (rest_of start later) outcome all lane place n m rest (end_stays (rest_of start fed) (rest_of start later) lane place end (rest_grows fed later start grows reached)) here then in
-    let track = f.goes_on later grows (1 + n) (one_if outcome.aligned + m) (events_of all ++ (slip ++ rest)) whole in
+    let track = f.goes_on later grows (1 + n) (one_if outcome.aligned + m) (track_events_of all ++ (slip ++ rest)) whole in
     let en : epochs + (1 + n) ≡ epochs + 1 + n = omega arith in
     let am : aligned + (one_if outcome.aligned + m) ≡ aligned + one_if outcome.aligned + m = omega arith in
-    let es : f.closed ++ (events_of all ++ (slip ++ rest)) ≡ closed ++ rest =
-    ap (λ us. f.closed ++ us) (sym (append_assoc (events_of all) slip rest)) ∙ sym (append_assoc f.closed (events_of all ++ slip) rest) in
-    let P : ℕ → Type 0 = λ k. IsTrack later k (aligned + (one_if outcome.aligned + m)) (f.closed ++ (events_of all ++ (slip ++ rest))) in
-    let Q : ℕ → Type 0 = λ k. IsTrack later (epochs + 1 + n) k (f.closed ++ (events_of all ++ (slip ++ rest))) in
-    let R : List Event → Type 0 = λ us. IsTrack later (epochs + 1 + n) (aligned + one_if outcome.aligned + m) us in
+    let es : f.closed ++ (track_events_of all ++ (slip ++ rest)) ≡ closed ++ rest =
+    ap (λ us. f.closed ++ us) (sym (append_assoc (track_events_of all) slip rest)) ∙ sym (append_assoc f.closed (track_events_of all ++ slip) rest) in
+    let P : ℕ → Type 0 = λ k. IsTrack later k (aligned + (one_if outcome.aligned + m)) (f.closed ++ (track_events_of all ++ (slip ++ rest))) in
+    let Q : ℕ → Type 0 = λ k. IsTrack later (epochs + 1 + n) k (f.closed ++ (track_events_of all ++ (slip ++ rest))) in
+    let R : List TrackEvent → Type 0 = λ us. IsTrack later (epochs + 1 + n) (aligned + one_if outcome.aligned + m) us in
     subst R es (subst Q am (subst P en track)) in
     record {
       closed = closed;
-      things = [];
+      events = [];
       goes_on = goes_on;
-      so_far = subst (λ (x : Fed). IsToldSoFar x []) (no_front (rest_of (start + place) fed)) told_at_first;
-      told_are =
-          ap (λ es. es ++ (events_of last ++ slip)) f.told_are
-          ∙ append_assoc f.closed (events_of f.things) (events_of last ++ slip)
-          ∙ ap (λ es. f.closed ++ es) (sym (append_assoc (events_of f.things) (events_of last) slip) ∙ ap (λ es. es ++ slip) (sym (events_both f.things last)))
+      so_far = subst (λ (x : Fed). IsReportedSoFar x []) (no_front (rest_of (start + place) fed)) reported_at_first;
+      reported_are =
+          ap (λ es. es ++ (track_events_of last ++ slip)) f.reported_are
+          ∙ append_assoc f.closed (track_events_of f.events) (track_events_of last ++ slip)
+          ∙ ap (λ es. f.closed ++ es) (sym (append_assoc (track_events_of f.events) (track_events_of last) slip) ∙ ap (λ es. es ++ slip) (sym (track_events_both f.events last)))
           ∙ sym (append-nil closed);
     }
 
 -- the last epoch
-pub follows_last : (fed : Fed) (start handed : ℕ) (begun : Bool) (epochs aligned : ℕ) (told : List Event) (outcome : Outcome) (last : List Thing)
+pub follows_last : (fed : Fed) (start handed : ℕ) (begun : Bool) (epochs aligned : ℕ) (reported : List TrackEvent) (outcome : Outcome) (last : List Event)
     → most_of fed ≤ start + handed → HasNoEnd (rest_of start fed) → IsLast (front_of handed (rest_of start fed)) outcome last
-    → Follows fed start handed begun epochs aligned told
-    → IsTrack fed (epochs + 1) (aligned + one_if outcome.aligned) (told ++ events_of last)
-follows_last fed start handed begun epochs aligned told outcome last all none is_last f =
-    let things = f.things ++ last in
-    let are = is_last f.things f.so_far in
+    → Follows fed start handed begun epochs aligned reported
+    → IsTrack fed (epochs + 1) (aligned + one_if outcome.aligned) (reported ++ track_events_of last)
+follows_last fed start handed begun epochs aligned reported outcome last all none is_last f =
+    let events = f.events ++ last in
+    let are = is_last f.events f.so_far in
     let whole = whole_front fed start handed all in
-    let here : AreTold (rest_of start fed).blue (rest_of start fed).green (rest_of start fed).red outcome things =
-    subst (λ (x : Fed). AreTold x.blue x.green x.red outcome things) whole are in
-    let track = f.goes_on fed (same_grows fed) 1 (one_if outcome.aligned) (events_of things) (last_epoch begun start (rest_of start fed) outcome things none here) in
-    let es : f.closed ++ events_of things ≡ told ++ events_of last =
-    ap (λ us. f.closed ++ us) (events_both f.things last) ∙ sym (append_assoc f.closed (events_of f.things) (events_of last)) ∙ ap (λ us. us ++ events_of last) (sym f.told_are) in
-    let R : List Event → Type 0 = λ us. IsTrack fed (epochs + 1) (aligned + one_if outcome.aligned) us in
+    let here : AreReported (rest_of start fed).blue (rest_of start fed).green (rest_of start fed).red outcome events =
+    subst (λ (x : Fed). AreReported x.blue x.green x.red outcome events) whole are in
+    let track = f.goes_on fed (same_grows fed) 1 (one_if outcome.aligned) (track_events_of events) (last_epoch begun start (rest_of start fed) outcome events none here) in
+    let es : f.closed ++ track_events_of events ≡ reported ++ track_events_of last =
+    ap (λ us. f.closed ++ us) (track_events_both f.events last) ∙ sym (append_assoc f.closed (track_events_of f.events) (track_events_of last)) ∙ ap (λ us. us ++ track_events_of last) (sym f.reported_are) in
+    let R : List TrackEvent → Type 0 = λ us. IsTrack fed (epochs + 1) (aligned + one_if outcome.aligned) us in
     subst R es track

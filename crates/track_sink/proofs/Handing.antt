@@ -11,14 +11,14 @@ use Rattle.lane_track.specs.Scouts.{HasSought}
 use Rattle.lane_track.specs.declared.scout.Scout.{Scout}
 use Rattle.lane_track.proofs.Cutting.{run_was}
 use Rattle.lane_track.proofs.Strays.{lock_grows, stray_was}
-use Rattle.period_grammar.specs.Things.{Thing}
-use Rattle.link_sink.specs.Sinks.{Fed, grown, IsToldSoFar, IsGain}
+use Rattle.period_grammar.specs.Events.{Event}
+use Rattle.link_sink.specs.Sinks.{Fed, grown, IsReportedSoFar, IsGain}
 use Rattle.link_sink.specs.Pieces.{no_bits}
 use Rattle.link_sink.specs.Received.{CanFeed}
-use Rattle.link_sink.specs.Streams.{SinkSeen, StandsFor, bits_of, most_bits}
+use Rattle.link_sink.specs.Streams.{SinkSeen, SinkRepresents, bits_fed, most_bits}
 use Rattle.link_sink.proofs.Feeding.{length_grown}
-use Rattle.link_sink.proofs.Following.{told_at_first}
-use Rattle.track_sink.specs.Events.{Event}
+use Rattle.link_sink.proofs.Following.{reported_at_first}
+use Rattle.track_sink.specs.TrackEvents.{TrackEvent}
 use Rattle.track_sink.specs.Epochs.{lane_of, rest_of, front_of, IsEnd, IsTrack}
 use Rattle.track_sink.specs.Tracks.{Grows}
 use Rattle.track_sink.specs.Buffers.{HeldSeen}
@@ -70,33 +70,33 @@ handed_is t fed lanes a b c counts bits carries rx ry rz sx sy sz =
     (hand_lane t.lanes.third lanes.third c fed.red t.start t.handed bits (slice_index counts 2) carries.third.held rz sz)
 
 pub can_hand_first : (t : Tracker) (fed : Fed) (lanes : Lanes) (bytes : List ℕ) (x bits : ℕ) → Carries t fed → t.handed % 8 ≡ 0 → bits ≤ 32768 → IsReleased t.lanes.first lanes.first bits x
-    → length bytes ≡ (length lanes.first.held.released + 7) / 8 → CanFeed (bits_of t.link 0) (most_bits t.link) bytes x
+    → length bytes ≡ (length lanes.first.held.released + 7) / 8 → CanFeed (bits_fed t.link 0) (most_bits t.link) bytes x
 can_hand_first t fed lanes bytes x bits c whole few r size =
     let a = c.first.given in
     let b = c.second.given in
     let d = c.third.given in
     let small = c.small in
-    can_hand bytes (bits_of t.link 0) (most_bits t.link) x t.handed (length fed.blue) t.start bits a (r.many ∙ ap (λ n. min n bits) (ap length c.first.held ∙ length-drop (t.start + t.handed) fed.blue)) few whole
+    can_hand bytes (bits_fed t.link 0) (most_bits t.link) x t.handed (length fed.blue) t.start bits a (r.many ∙ ap (λ n. min n bits) (ap length c.first.held ∙ length-drop (t.start + t.handed) fed.blue)) few whole
     (size ∙ ap (λ n. (n + 7) / 8) (sym (length_released t.lanes.first lanes.first bits x r))) (omega arith) (omega arith) (omega arith)
 
 pub can_hand_second : (t : Tracker) (fed : Fed) (lanes : Lanes) (bytes : List ℕ) (x bits : ℕ) → Carries t fed → t.handed % 8 ≡ 0 → bits ≤ 32768 → IsReleased t.lanes.second lanes.second bits x
-    → length bytes ≡ (length lanes.second.held.released + 7) / 8 → CanFeed (bits_of t.link 1) (most_bits t.link) bytes x
+    → length bytes ≡ (length lanes.second.held.released + 7) / 8 → CanFeed (bits_fed t.link 1) (most_bits t.link) bytes x
 can_hand_second t fed lanes bytes x bits c whole few r size =
     let a = c.first.given in
     let b = c.second.given in
     let d = c.third.given in
     let small = c.small in
-    can_hand bytes (bits_of t.link 1) (most_bits t.link) x t.handed (length fed.green) t.start bits b (r.many ∙ ap (λ n. min n bits) (ap length c.second.held ∙ length-drop (t.start + t.handed) fed.green)) few whole
+    can_hand bytes (bits_fed t.link 1) (most_bits t.link) x t.handed (length fed.green) t.start bits b (r.many ∙ ap (λ n. min n bits) (ap length c.second.held ∙ length-drop (t.start + t.handed) fed.green)) few whole
     (size ∙ ap (λ n. (n + 7) / 8) (sym (length_released t.lanes.second lanes.second bits x r))) (omega arith) (omega arith) (omega arith)
 
 pub can_hand_third : (t : Tracker) (fed : Fed) (lanes : Lanes) (bytes : List ℕ) (x bits : ℕ) → Carries t fed → t.handed % 8 ≡ 0 → bits ≤ 32768 → IsReleased t.lanes.third lanes.third bits x
-    → length bytes ≡ (length lanes.third.held.released + 7) / 8 → CanFeed (bits_of t.link 2) (most_bits t.link) bytes x
+    → length bytes ≡ (length lanes.third.held.released + 7) / 8 → CanFeed (bits_fed t.link 2) (most_bits t.link) bytes x
 can_hand_third t fed lanes bytes x bits c whole few r size =
     let a = c.first.given in
     let b = c.second.given in
     let d = c.third.given in
     let small = c.small in
-    can_hand bytes (bits_of t.link 2) (most_bits t.link) x t.handed (length fed.red) t.start bits d (r.many ∙ ap (λ n. min n bits) (ap length c.third.held ∙ length-drop (t.start + t.handed) fed.red)) few whole
+    can_hand bytes (bits_fed t.link 2) (most_bits t.link) x t.handed (length fed.red) t.start bits d (r.many ∙ ap (λ n. min n bits) (ap length c.third.held ∙ length-drop (t.start + t.handed) fed.red)) few whole
     (size ∙ ap (λ n. (n + 7) / 8) (sym (length_released t.lanes.third lanes.third bits x r))) (omega arith) (omega arith) (omega arith)
 
 -- a lane without the bits that were handed on
@@ -114,15 +114,15 @@ rest_handed before now given later x start handed bits xs was r more =
 
 pub carries_handed : (t : Tracker) (fed : Fed) (link : SinkSeen) (lanes : Lanes) (counts : List ℕ) (bits : ℕ) → Carries t fed → t.start + t.handed + bits ≤ most_of fed
     → IsReleased t.lanes.first lanes.first bits (slice_index counts 0) → IsReleased t.lanes.second lanes.second bits (slice_index counts 1) → IsReleased t.lanes.third lanes.third bits (slice_index counts 2)
-    → link.is_open ≡ true → StandsFor link (front_of (t.handed + bits) (rest_of t.start fed))
-    → bits_of link 0 ≡ bits_of t.link 0 + slice_index counts 0 → bits_of link 1 ≡ bits_of t.link 1 + slice_index counts 1 → bits_of link 2 ≡ bits_of t.link 2 + slice_index counts 2
+    → link.is_open ≡ true → SinkRepresents link (front_of (t.handed + bits) (rest_of t.start fed))
+    → bits_fed link 0 ≡ bits_fed t.link 0 + slice_index counts 0 → bits_fed link 1 ≡ bits_fed t.link 1 + slice_index counts 1 → bits_fed link 2 ≡ bits_fed t.link 2 + slice_index counts 2
     → Carries (record t { link = link; lanes = lanes; handed = t.handed + bits }) fed
 carries_handed t fed link lanes counts bits c room rx ry rz opened stands gx gy gz = record {
   link_open = opened;
   link = stands;
-  first = rest_handed t.lanes.first lanes.first (bits_of t.link 0) (bits_of link 0) (slice_index counts 0) t.start t.handed bits fed.blue c.first rx gx;
-  second = rest_handed t.lanes.second lanes.second (bits_of t.link 1) (bits_of link 1) (slice_index counts 1) t.start t.handed bits fed.green c.second ry gy;
-  third = rest_handed t.lanes.third lanes.third (bits_of t.link 2) (bits_of link 2) (slice_index counts 2) t.start t.handed bits fed.red c.third rz gz;
+  first = rest_handed t.lanes.first lanes.first (bits_fed t.link 0) (bits_fed link 0) (slice_index counts 0) t.start t.handed bits fed.blue c.first rx gx;
+  second = rest_handed t.lanes.second lanes.second (bits_fed t.link 1) (bits_fed link 1) (slice_index counts 1) t.start t.handed bits fed.green c.second ry gy;
+  third = rest_handed t.lanes.third lanes.third (bits_fed t.link 2) (bits_fed link 2) (slice_index counts 2) t.start t.handed bits fed.red c.third rz gz;
   within = omega arith;
   small = c.small;
   few = c.few;
@@ -198,7 +198,7 @@ sought_taken xs more start seen most lock known within (inr none) was =
     let P : List Bool → Type 0 = λ us. HasSought us seen lock in subst P (ap (drop start) (sym (append-nil xs) ∙ ap (λ us. xs ++ us) (sym none))) was
 
 -- three lanes that take bits
-module _ (t : Tracker) (fed : Fed) (told : List Event) (a b c bits : List ℕ) (settled : IsSettled t fed told)
+module _ (t : Tracker) (fed : Fed) (reported : List TrackEvent) (a b c bits : List ℕ) (settled : IsSettled t fed reported)
     (first : CanFeed t.lanes.first.fed (most_fed t) a (slice_index bits 0)) (second : CanFeed t.lanes.second.fed (most_fed t) b (slice_index bits 1)) (third : CanFeed t.lanes.third.fed (most_fed t) c (slice_index bits 2)) where
   abbrev now : Fed
   now = grown fed a b c bits
@@ -246,10 +246,10 @@ module _ (t : Tracker) (fed : Fed) (told : List Event) (a b c bits : List ℕ) (
     carried : Carries next now
     carried = record {
       link_open = carries.link_open;
-      link = subst (StandsFor t.link) (sym (fronts_stay fed now t.start t.handed taken_grows carries.within)) carries.link;
-      first = rest_taken t.lanes.first lanes.first (bits_of t.link 0) t.start t.handed (most_of fed) fed.blue (take (slice_index bits 0) (bytes_bits a)) carries.within carries.first comes_first hx (fx ∙ ap (λ n. n + slice_index bits 0) carries.first.fed ∙ sym long_first);
-      second = rest_taken t.lanes.second lanes.second (bits_of t.link 1) t.start t.handed (most_of fed) fed.green (take (slice_index bits 1) (bytes_bits b)) carries.within carries.second comes_second hy (fy ∙ ap (λ n. n + slice_index bits 1) carries.second.fed ∙ sym long_second);
-      third = rest_taken t.lanes.third lanes.third (bits_of t.link 2) t.start t.handed (most_of fed) fed.red (take (slice_index bits 2) (bytes_bits c)) carries.within carries.third comes_third hz (fz ∙ ap (λ n. n + slice_index bits 2) carries.third.fed ∙ sym long_third);
+      link = subst (SinkRepresents t.link) (sym (fronts_stay fed now t.start t.handed taken_grows carries.within)) carries.link;
+      first = rest_taken t.lanes.first lanes.first (bits_fed t.link 0) t.start t.handed (most_of fed) fed.blue (take (slice_index bits 0) (bytes_bits a)) carries.within carries.first comes_first hx (fx ∙ ap (λ n. n + slice_index bits 0) carries.first.fed ∙ sym long_first);
+      second = rest_taken t.lanes.second lanes.second (bits_fed t.link 1) t.start t.handed (most_of fed) fed.green (take (slice_index bits 1) (bytes_bits b)) carries.within carries.second comes_second hy (fy ∙ ap (λ n. n + slice_index bits 1) carries.second.fed ∙ sym long_second);
+      third = rest_taken t.lanes.third lanes.third (bits_fed t.link 2) t.start t.handed (most_of fed) fed.red (take (slice_index bits 2) (bytes_bits c)) carries.within carries.third comes_third hz (fz ∙ ap (λ n. n + slice_index bits 2) carries.third.fed ∙ sym long_third);
       within = let h = carries.within in omega (arith, long_first, long_second, long_third);
       small = let h = first.total in let k = second.total in let l = third.total in omega (arith, long_first, long_second, long_third, carries.first.fed, carries.second.fed, carries.third.fed);
       few = carries.few;
@@ -271,28 +271,28 @@ module _ (t : Tracker) (fed : Fed) (told : List Event) (a b c bits : List ℕ) (
     scout_third : HasSought (drop t.start now.red) t.seen lanes.third.scout.lock
     scout_third = subst (λ (s : Scout). HasSought (drop t.start now.red) t.seen s.lock) (sym sz) (sought_taken fed.red (take (slice_index bits 2) (bytes_bits c)) t.start t.seen (most_of fed) t.lanes.third.scout.lock looked.decided reached comes_third looked.sought.third)
 
-    pub stands_taken : Stands next now told
+    pub stands_taken : Stands next now reported
     stands_taken = record {
       carries = carried;
       looked = record {
         sought = record { first = scout_first; second = scout_second; third = scout_third };
-        behind = looked.behind;
+        after = looked.after;
         decided = elim looked.decided [ inl none ↦ inl none | inr far ↦ inr (omega (arith, long_first, long_second, long_third)) ];
       };
-      follows = follows_grown fed now t.start t.handed t.begun t.epochs t.aligned told taken_grows carries.within settled.stands.follows;
+      follows = follows_grown fed now t.start t.handed t.begun t.epochs t.aligned reported taken_grows carries.within settled.stands.follows;
       whole = settled.stands.whole;
       room = let h = settled.all in let n = settled.near in let x = first.most in let y = second.most in let z = third.most in omega (arith, long_first, long_second, long_third);
     }
 
 -- Before any bit.
 
-zero_front : IsToldSoFar (front_of 0 (rest_of 0 no_bits)) []
-zero_front = told_at_first
+zero_front : IsReportedSoFar (front_of 0 (rest_of 0 no_bits)) []
+zero_front = reported_at_first
 
 begin_follows : Follows no_bits 0 0 false 0 0 []
 begin_follows = record {
   closed = [];
-  things = [];
+  events = [];
   goes_on = λ later grows n m rest tracked.
       let en : n ≡ 0 + n = omega arith in
       let em : m ≡ 0 + m = omega arith in
@@ -300,10 +300,10 @@ begin_follows = record {
       let Q : ℕ → Type 0 = λ k. IsTrack later n k rest in
       subst P en (subst Q em tracked);
   so_far = zero_front;
-  told_are = refl;
+  reported_are = refl;
 }
 
-pub settled_at_first : (link : SinkSeen) (lanes : Lanes) → link.is_open ≡ true → StandsFor link no_bits → most_bits link ≡ 0 → AreFresh lanes
+pub settled_at_first : (link : SinkSeen) (lanes : Lanes) → link.is_open ≡ true → SinkRepresents link no_bits → most_bits link ≡ 0 → AreFresh lanes
     → IsSettled (record { link = link; lanes = lanes; start = 0; handed = 0; seen = 0; begun = false; epochs = 0; aligned = 0 }) no_bits []
 settled_at_first link lanes opened stands none fresh = record {
   stands = record {
@@ -320,7 +320,7 @@ settled_at_first link lanes opened stands none fresh = record {
     };
     looked = record {
       sought = record { first = fresh.first.sought []; second = fresh.second.sought []; third = fresh.third.sought [] };
-      behind = omega arith;
+      after = omega arith;
       decided = inl refl;
     };
     follows = begin_follows;
@@ -333,10 +333,10 @@ settled_at_first link lanes opened stands none fresh = record {
 
 -- where no bit is handed on, nothing is told
 pub none_gained : (t : Tracker) (fed : Fed) (bits : ℕ) → bits ≡ 0 → IsGain (front_of t.handed (rest_of t.start fed)) (front_of (t.handed + bits) (rest_of t.start fed)) []
-none_gained t fed bits none = λ told h.
+none_gained t fed bits none = λ reported h.
     let e : t.handed ≡ t.handed + bits = omega arith in
-    let P : List Thing → Type 0 = λ ts. IsToldSoFar (front_of (t.handed + bits) (rest_of t.start fed)) ts in
-    subst P (sym (append-nil told)) (subst (λ n. IsToldSoFar (front_of n (rest_of t.start fed)) told) e h)
+    let P : List Event → Type 0 = λ ts. IsReportedSoFar (front_of (t.handed + bits) (rest_of t.start fed)) ts in
+    subst P (sym (append-nil reported)) (subst (λ n. IsReportedSoFar (front_of n (rest_of t.start fed)) reported) e h)
 
 -- Searching.
 
@@ -351,9 +351,9 @@ stays_rest before now bits later start handed from on xs held fed given s h was 
 
 pub carries_stays : (t u : Tracker) (fed : Fed) → Stays t u → Carries t fed → Carries u fed
 carries_stays t u fed s c =
-    let P : SinkSeen → Type 0 = λ link. StandsFor link (front_of t.handed (rest_of t.start fed)) in
-    let Q : ℕ → Type 0 = λ n. StandsFor u.link (front_of n (rest_of t.start fed)) in
-    let R : ℕ → Type 0 = λ n. StandsFor u.link (front_of u.handed (rest_of n fed)) in
+    let P : SinkSeen → Type 0 = λ link. SinkRepresents link (front_of t.handed (rest_of t.start fed)) in
+    let Q : ℕ → Type 0 = λ n. SinkRepresents u.link (front_of n (rest_of t.start fed)) in
+    let R : ℕ → Type 0 = λ n. SinkRepresents u.link (front_of u.handed (rest_of n fed)) in
     let es = s.start in
     let eh = s.handed in
     let ee = s.epochs in
@@ -364,9 +364,9 @@ carries_stays t u fed s c =
     record {
       link_open = ap (λ (l : SinkSeen). l.is_open) s.link ∙ c.link_open;
       link = subst R (sym es) (subst Q (sym eh) (subst P (sym s.link) c.link));
-      first = stays_rest t.lanes.first u.lanes.first (bits_of t.link 0) (bits_of u.link 0) t.start t.handed u.start u.handed fed.blue s.first s.first_fed (ap (λ (l : SinkSeen). bits_of l 0) s.link) es eh c.first;
-      second = stays_rest t.lanes.second u.lanes.second (bits_of t.link 1) (bits_of u.link 1) t.start t.handed u.start u.handed fed.green s.second s.second_fed (ap (λ (l : SinkSeen). bits_of l 1) s.link) es eh c.second;
-      third = stays_rest t.lanes.third u.lanes.third (bits_of t.link 2) (bits_of u.link 2) t.start t.handed u.start u.handed fed.red s.third s.third_fed (ap (λ (l : SinkSeen). bits_of l 2) s.link) es eh c.third;
+      first = stays_rest t.lanes.first u.lanes.first (bits_fed t.link 0) (bits_fed u.link 0) t.start t.handed u.start u.handed fed.blue s.first s.first_fed (ap (λ (l : SinkSeen). bits_fed l 0) s.link) es eh c.first;
+      second = stays_rest t.lanes.second u.lanes.second (bits_fed t.link 1) (bits_fed u.link 1) t.start t.handed u.start u.handed fed.green s.second s.second_fed (ap (λ (l : SinkSeen). bits_fed l 1) s.link) es eh c.second;
+      third = stays_rest t.lanes.third u.lanes.third (bits_fed t.link 2) (bits_fed u.link 2) t.start t.handed u.start u.handed fed.red s.third s.third_fed (ap (λ (l : SinkSeen). bits_fed l 2) s.link) es eh c.third;
       within = omega arith;
       small = c.small;
       few = omega arith;
@@ -374,9 +374,9 @@ carries_stays t u fed s c =
     }
 
 -- an end lies behind the places that were looked at
-pub end_behind : (fed : Fed) (lanes : Lanes) (seen lane place : ℕ) → AreSought lanes seen fed → IsEnd fed lane place → seen ≤ place
-end_behind fed lanes seen lane place sought end = elim (cases_lt place seen) [
-  | inr behind ↦ behind
+pub end_after : (fed : Fed) (lanes : Lanes) (seen lane place : ℕ) → AreSought lanes seen fed → IsEnd fed lane place → seen ≤ place
+end_after fed lanes seen lane place sought end = elim (cases_lt place seen) [
+  | inr after ↦ after
   | inl before ↦ absurd (on_lane lane before end.stray)
 ]
   where
@@ -387,8 +387,8 @@ end_behind fed lanes seen lane place sought end = elim (cases_lt place seen) [
 
 pub stray_found : (t u : Tracker) (fed : Fed) (stray : Stray) → Stays t u → HasLooked u fed → EndsAt (rest_of u.start fed) stray → EndsAt (rest_of t.start fed) stray × (t.handed ≤ stray.place)
 stray_found t u fed stray s looked end =
-    let behind = end_behind (rest_of u.start fed) u.lanes u.seen stray.lane stray.place looked.sought end in
-    let h = looked.behind in
+    let after = end_after (rest_of u.start fed) u.lanes u.seen stray.lane stray.place looked.sought end in
+    let h = looked.after in
     let e = s.handed in
     let P : ℕ → Type 0 = λ n. EndsAt (rest_of n fed) stray in
     (subst P s.start end, omega arith)
@@ -416,8 +416,8 @@ pub looked_more : (t u : Tracker) (fed : Fed) (lanes : Lanes) (more end longest 
 looked_more t u fed lanes more end longest s c looked sought most e lt step =
     let all = longest_held t fed c in
     let es = s.start in
-    let behind = looked.behind in
-    record { sought = sought; behind = omega arith; decided = inr (omega (arith, most, e, all)) }
+    let after = looked.after in
+    record { sought = sought; after = omega arith; decided = inr (omega (arith, most, e, all)) }
 
 pub looked_all : (t u : Tracker) (fed : Fed) (end longest : ℕ) → Stays t u → Carries t fed
     → longest ≡ max (length t.lanes.first.held.bits) (max (length t.lanes.second.held.bits) (length t.lanes.third.held.bits)) → end ≡ t.handed + longest - 119 → end ≤ u.seen → most_of fed ≤ u.start + u.seen + 119

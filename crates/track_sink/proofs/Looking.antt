@@ -43,7 +43,7 @@ holds_rest bits held xs base is same some =
 -- nothing is left to look at
 pub sought_none : (held xs : List Bool) (base from until last : ℕ) (lock : Option ℕ) → held ≡ drop base xs → base ≤ from → from ≤ until → last ≡ min (length held - 119) (until - base) → last ≤ from - base
     → HasSought xs from lock → HasSought xs until lock
-sought_none held xs base from until last lock is behind order e none was =
+sought_none held xs base from until last lock is after order e none was =
     let long : length held ≡ length xs - base = ap length is ∙ length-drop base xs in
     elim (cases_lt from until) [
       | inl more ↦ sought_past xs from until lock (omega arith) order was
@@ -53,7 +53,7 @@ sought_none held xs base from until last lock is behind order e none was =
 -- the places that were looked at are all that are decided
 pub sought_all : (held xs : List Bool) (base until last : ℕ) (lock : Option ℕ) → held ≡ drop base xs → base ≤ until → 0 < last → last ≡ min (length held - 119) (until - base)
     → HasSought xs (base + last) lock → HasSought xs until lock
-sought_all held xs base until last lock is behind some e was =
+sought_all held xs base until last lock is after some e was =
     let long : length held ≡ length xs - base = ap length is ∙ length-drop base xs in
     elim (cases_lt (base + last) until) [
       | inl more ↦ sought_past xs (base + last) until lock (omega arith) (omega arith) was
@@ -92,7 +92,7 @@ found_at xs from until end p was before first e = elim (cases_lt p from) [
 -- it is an end, where the lanes before have none up to it, and those behind none before it
 is_end : (fed : Fed) (lane place : ℕ) → lane < 3 → IsStray (lane_of fed lane) place → ((l : ℕ) → l < lane → NoneBefore (lane_of fed l) (place + 1))
     → ((l : ℕ) → lane ≤ l → l < 3 → NoneBefore (lane_of fed l) place) → IsEnd fed lane place
-is_end fed lane place few stray before behind = record {
+is_end fed lane place few stray before after = record {
   within = few;
   stray = stray;
   least = λ l p lt found. elim (cases_lt place p) [
@@ -100,7 +100,7 @@ is_end fed lane place few stray before behind = record {
     | inr not_later ↦ elim (cases_lt l lane) [
       | inl lesser ↦ absurd (before l lesser p (omega arith) found)
       | inr greater ↦ elim (cases_lt p place) [
-        | inl less ↦ absurd (behind l greater lt p less found)
+        | inl less ↦ absurd (after l greater lt p less found)
         | inr same ↦ inr (omega arith, greater)
       ]
     ]
@@ -123,7 +123,7 @@ module _ (fed : Fed) (lanes : Lanes) (from until one two : ℕ) (u v w : Option 
       → IsFound fed.green one lanes.second.scout.lock b → IfSome b (λ p. p < one) → IsEndOf from one b two
       → IsFound fed.red two lanes.third.scout.lock c → IfSome c (λ p. p < two)
       → MatchOption (last_stray a b c) (AreSought lanes until fed) (EndsAt fed)
-  first_end a b (Some p) fa wa ea fb wb eb fc wc = is_end fed 2 p (omega arith) fc.stray before behind
+  first_end a b (Some p) fa wa ea fb wb eb fc wc = is_end fed 2 p (omega arith) fc.stray before after
     where
       less : two ≤ one
       less = end_within from one two b (end_from from until one a order ea) wb eb
@@ -133,11 +133,11 @@ module _ (fed : Fed) (lanes : Lanes) (from until one two : ℕ) (u v w : Option 
       before (suc zero) lt q early = none_before fed.green from one two v lanes.second.scout.lock b was_second fb eb q (omega (arith, wc))
       before (suc (suc l)) lt q early = absurd (omega arith)
 
-      behind : (l : ℕ) → 2 ≤ l → l < 3 → NoneBefore (lane_of fed l) p
-      behind zero le lt q early = absurd (omega arith)
-      behind (suc zero) le lt q early = absurd (omega arith)
-      behind (suc (suc l)) le lt q early = fc.least q early
-  first_end a (Some p) None fa wa ea fb wb eb fc wc = is_end fed 1 p (omega arith) fb.stray before behind
+      after : (l : ℕ) → 2 ≤ l → l < 3 → NoneBefore (lane_of fed l) p
+      after zero le lt q early = absurd (omega arith)
+      after (suc zero) le lt q early = absurd (omega arith)
+      after (suc (suc l)) le lt q early = fc.least q early
+  first_end a (Some p) None fa wa ea fb wb eb fc wc = is_end fed 1 p (omega arith) fb.stray before after
     where
       here : two ≡ p
       here = found_at fed.green from one two p v was_second fb eb
@@ -146,11 +146,11 @@ module _ (fed : Fed) (lanes : Lanes) (from until one two : ℕ) (u v w : Option 
       before zero lt q early = none_before fed.blue from until one u lanes.first.scout.lock a was_first fa ea q (omega (arith, wb))
       before (suc l) lt q early = absurd (omega arith)
 
-      behind : (l : ℕ) → 1 ≤ l → l < 3 → NoneBefore (lane_of fed l) p
-      behind zero le lt q early = absurd (omega arith)
-      behind (suc zero) le lt q early = fb.least q early
-      behind (suc (suc l)) le lt q early = fc.none q (omega (arith, here))
-  first_end (Some p) None None fa wa ea fb wb eb fc wc = is_end fed 0 p (omega arith) fa.stray before behind
+      after : (l : ℕ) → 1 ≤ l → l < 3 → NoneBefore (lane_of fed l) p
+      after zero le lt q early = absurd (omega arith)
+      after (suc zero) le lt q early = fb.least q early
+      after (suc (suc l)) le lt q early = fc.none q (omega (arith, here))
+  first_end (Some p) None None fa wa ea fb wb eb fc wc = is_end fed 0 p (omega arith) fa.stray before after
     where
       here : one ≡ p
       here = found_at fed.blue from until one p u was_first fa ea
@@ -158,10 +158,10 @@ module _ (fed : Fed) (lanes : Lanes) (from until one two : ℕ) (u v w : Option 
       before : (l : ℕ) → l < 0 → NoneBefore (lane_of fed l) (p + 1)
       before l lt = absurd (omega arith)
 
-      behind : (l : ℕ) → 0 ≤ l → l < 3 → NoneBefore (lane_of fed l) p
-      behind zero le lt q early = fa.least q early
-      behind (suc zero) le lt q early = fb.none q (omega (arith, here))
-      behind (suc (suc l)) le lt q early = fc.none q (omega (arith, here, eb))
+      after : (l : ℕ) → 0 ≤ l → l < 3 → NoneBefore (lane_of fed l) p
+      after zero le lt q early = fa.least q early
+      after (suc zero) le lt q early = fb.none q (omega (arith, here))
+      after (suc (suc l)) le lt q early = fc.none q (omega (arith, here, eb))
   first_end None None None fa wa ea fb wb eb fc wc =
       let P : ℕ → Type 0 = λ n. HasSought fed.green n lanes.second.scout.lock in
       let Q : ℕ → Type 0 = λ n. HasSought fed.red n lanes.third.scout.lock in

@@ -196,10 +196,10 @@ all_moved start first now place count at is same words before few =
     let there : drop (8 * (at + n) + place % 8) (bytes_bits first) ≡ drop (8 * n) from =
     ap (λ m. drop m (bytes_bits first)) (let e : 8 * (at + n) + place % 8 ≡ 8 * n + place = omega arith in e) ∙ sym (drop-drop place (8 * n) (bytes_bits first))
     ∙ ap (drop place) rest ∙ drop-drop place (8 * n) bits ∙ ap (λ m. drop m bits) (let e : 8 * n + place ≡ place + 8 * n = omega arith in e) ∙ sym (drop-drop (8 * n) place bits) in
-    let behind : drop (8 * n + c) (bytes_bits first) ≡ drop count bits =
+    let after : drop (8 * n + c) (bytes_bits first) ≡ drop count bits =
     sym (drop-drop c (8 * n) (bytes_bits first)) ∙ ap (drop c) rest ∙ drop-drop c (8 * n) bits ∙ ap (λ m. drop m bits) all in
     sym (take-append-drop (8 * n) (bytes_bits now))
-    ∙ ap₂ (λ us vs. us ++ vs) (bytes_take n now ∙ ap bytes_bits before ∙ words ∙ ap (λ m. take (8 * n) (drop m bits)) p) (few ∙ ap₂ (λ us vs. take c us ++ vs) there behind)
+    ∙ ap₂ (λ us vs. us ++ vs) (bytes_take n now ∙ ap bytes_bits before ∙ words ∙ ap (λ m. take (8 * n) (drop m bits)) p) (few ∙ ap₂ (λ us vs. take c us ++ vs) there after)
     ∙ sym (append_assoc (take (8 * n) from) (take c (drop (8 * n) from)) (drop count bits))
     ∙ ap (λ us. us ++ drop count bits) (sym (take-add (8 * n) c from) ∙ ap (λ m. take m from) all)
 
@@ -224,16 +224,16 @@ settled_none was at skip count none =
 
 -- Bits that are put behind a few others.
 
-pub behind_less : (few w : ℕ) → 0 < few → few < 8 → w < 2 ^ 64 → w / 2 ^ (64 - few) < 2 ^ few
-behind_less few w some lt below = let all : few + (64 - few) ≡ 64 = omega arith in shr_lt few (64 - few) (subst (λ n. w < 2 ^ n) (sym all) below)
+pub after_less : (few w : ℕ) → 0 < few → few < 8 → w < 2 ^ 64 → w / 2 ^ (64 - few) < 2 ^ few
+after_less few w some lt below = let all : few + (64 - few) ≡ 64 = omega arith in shr_lt few (64 - few) (subst (λ n. w < 2 ^ n) (sym all) below)
 
-pub behind_byte : (few w : ℕ) → 0 < few → few < 8 → w < 2 ^ 64 → w / 2 ^ (64 - few) < 256
-behind_byte few w some lt below = let h = behind_less few w some lt below in let small : 2 ^ few ≤ 2 ^ 7 = pow_mono {i = few} {j = 7} (omega arith) in omega arith
+pub after_byte : (few w : ℕ) → 0 < few → few < 8 → w < 2 ^ 64 → w / 2 ^ (64 - few) < 256
+after_byte few w some lt below = let h = after_less few w some lt below in let small : 2 ^ few ≤ 2 ^ 7 = pow_mono {i = few} {j = 7} (omega arith) in omega arith
 
 -- a word behind a few bits: as many find no room
-pub behind_few : (few left w : ℕ) → 0 < few → few < 8 → left < 2 ^ few → w < 2 ^ 64
+pub after_few : (few left w : ℕ) → 0 < few → few < 8 → left < 2 ^ few → w < 2 ^ 64
     → bits_of 64 (bit_or (w * 2 ^ few % 18446744073709551616) left) ++ bits_of few (w / 2 ^ (64 - few)) ≡ bits_of few left ++ bits_of 64 w
-behind_few few left w some lt low below =
+after_few few left w some lt low below =
     let h = 64 - few in
     let all : few + h ≡ 64 = omega arith in
     let whole : h + few ≡ 64 = omega arith in
@@ -250,11 +250,11 @@ behind_few few left w some lt low below =
     ∙ ap (λ us. bits_of few left ++ us) (sym (bits_of-add h few w) ∙ ap (λ n. bits_of n w) whole)
 
 -- one word more behind them
-pub word_behind : (start : List Bool) (was now more : List ℕ) (few left i k w : ℕ) → 0 < few → few < 8 → left < 2 ^ few → 8 * i + 8 ≤ length was → 8 * i + 8 ≤ length more
+pub word_after : (start : List Bool) (was now more : List ℕ) (few left i k w : ℕ) → 0 < few → few < 8 → left < 2 ^ few → 8 * i + 8 ≤ length was → 8 * i + 8 ≤ length more
     → w ≡ number (bytes_bits more) / 2 ^ (8 * (8 * i)) % 2 ^ 64 → now ≡ put_mid (8 * i) k was (to_le_bytes w64 (bit_or (w * 2 ^ few % 18446744073709551616) left))
     → bytes_bits (take (8 * i) was) ++ bits_of few left ≡ start ++ bytes_bits (take (8 * i) more)
     → bytes_bits (take (8 * (i + 1)) now) ++ bits_of few (w / 2 ^ (64 - few)) ≡ start ++ bytes_bits (take (8 * (i + 1)) more)
-word_behind start was now more few left i k w some lt low room within is put held =
+word_after start was now more few left i k w some lt low room within is put held =
     let n = bit_or (w * 2 ^ few % 18446744073709551616) left in
     let next = bits_of few (w / 2 ^ (64 - few)) in
     let head = bytes_bits (take (8 * i) was) in
@@ -262,7 +262,7 @@ word_behind start was now more few left i k w some lt low room within is put hel
     let word : bits_of 64 w ≡ take 64 (drop (8 * (8 * i)) (bytes_bits more)) = word_bits (bytes_bits more) (8 * (8 * i)) w (omega (arith, length-bytes_bits more)) is in
     ap (λ us. us ++ next) (ap bytes_bits (ap₂ take e put ∙ take-put_mid (8 * i) k was (to_le_bytes w64 n) (8 * i + 8) refl (omega arith)) ∙ bytes_bits-append (take (8 * i) was) (to_le_bytes w64 n) ∙ ap (λ us. head ++ us) (le_bits n))
     ∙ append_assoc head (bits_of 64 n) next
-    ∙ ap (λ us. head ++ us) (behind_few few left w some lt low (omega (arith, is)))
+    ∙ ap (λ us. head ++ us) (after_few few left w some lt low (omega (arith, is)))
     ∙ sym (append_assoc head (bits_of few left) (bits_of 64 w))
     ∙ ap₂ (λ us vs. us ++ vs) held word
     ∙ append_assoc start (bytes_bits (take (8 * i) more)) (take 64 (drop (8 * (8 * i)) (bytes_bits more)))

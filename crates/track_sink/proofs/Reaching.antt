@@ -14,16 +14,16 @@ use Rattle.lane_deskew.specs.Aligned.{aligned_columns}
 use Rattle.lane_deskew.specs.Growing.{HasGrown}
 use Rattle.lane_deskew.proofs.Fed.{first_stays}
 use Rattle.lane_track.specs.Strays.{IsStray}
-use Rattle.period_grammar.specs.Things.{Thing}
+use Rattle.period_grammar.specs.Events.{Event}
 use Rattle.link_sink.specs.Grammar.{link_grammar}
 use Rattle.link_sink.specs.LinkHearing.{link_is_grammar}
-use Rattle.link_sink.specs.Sinks.{Fed, IsToldSoFar, IsGain}
-use Rattle.link_sink.specs.Alignment.{AreTold}
+use Rattle.link_sink.specs.Sinks.{Fed, IsReportedSoFar, IsGain}
+use Rattle.link_sink.specs.Alignment.{AreReported}
 use Rattle.link_sink.specs.declared.hear.Outcome.{Outcome}
-use Rattle.link_sink.proofs.Decided.{lock_of_run, first_decided, told_so_far}
-use Rattle.link_sink.proofs.Following.{told_one, gains}
+use Rattle.link_sink.proofs.Decided.{lock_of_run, first_decided, reported_so_far}
+use Rattle.link_sink.proofs.Following.{reported_one, gains}
 use Rattle.link_sink.proofs.Prefixes.{columns_grow}
-use Rattle.track_sink.specs.Events.{Event, events_of, slip_if}
+use Rattle.track_sink.specs.TrackEvents.{TrackEvent, track_events_of, slip_if}
 use Rattle.track_sink.specs.Epochs.{lane_of, rest_of, front_of, IsEnd, HasNoEnd, IsTracked, last_epoch, more_epochs}
 use Rattle.track_sink.specs.Tracks.{HasTracked}
 use Rattle.track_sink.specs.Trackers.{most_of, Follows, Passes}
@@ -140,7 +140,7 @@ front_grows : (xs : List Bool) (m n : ℕ) → m ≤ n → HasGrown (take m xs) 
 front_grows xs m n le = (take (n - m) (drop m xs), ap (λ k. take k xs) (let e : n ≡ m + (n - m) = omega arith in e) ∙ take-add m (n - m) xs)
 
 gain_at : (fed : Fed) (m n : ℕ) → m ≤ n → ((d e f : ℕ) × IsFirst (take m fed.blue) (take m fed.green) (take m fed.red) d e f) ⊎ ((d e f : ℕ) → IsTriple (take m fed.blue) (take m fed.green) (take m fed.red) d e f → ⊥)
-    → (us : List Thing) × IsGain (front_of m fed) (front_of n fed) us
+    → (us : List Event) × IsGain (front_of m fed) (front_of n fed) us
 gain_at fed m n le (inl a) =
     let b = front_grows fed.blue m n le in
     let g = front_grows fed.green m n le in
@@ -148,51 +148,51 @@ gain_at fed m n le (inl a) =
     let cs = aligned_columns (take m fed.blue) (take m fed.green) (take m fed.red) a.0 a.1 a.2 in
     let ds = aligned_columns (take n fed.blue) (take n fed.green) (take n fed.red) a.0 a.1 a.2 in
     let more = columns_grow (take m fed.blue) (take m fed.green) (take m fed.red) (take n fed.blue) (take n fed.green) (take n fed.red) a.0 a.1 a.2 b g r in
-    let told = link_is_grammar.more cs more.0 in
+    let reported = link_is_grammar.more cs more.0 in
     let first = first_stays (take m fed.blue) (take m fed.green) (take m fed.red) (take n fed.blue) (take n fed.green) (take n fed.red) a.0 a.1 a.2 b g r a.3 in (
-      told.0,
-      gains link_grammar (front_of m fed) (front_of n fed) cs ds told.0 (inl (a.0, a.1, a.2, a.3, refl)) (inl (a.0, a.1, a.2, first, refl)) (ap link_grammar.so_far more.1 ∙ told.1),
+      reported.0,
+      gains link_grammar (front_of m fed) (front_of n fed) cs ds reported.0 (inl (a.0, a.1, a.2, a.3, refl)) (inl (a.0, a.1, a.2, first, refl)) (ap link_grammar.so_far more.1 ∙ reported.1),
     )
 gain_at fed m n le (inr none) =
-    let now = told_so_far link_grammar (front_of n fed) in (
+    let now = reported_so_far link_grammar (front_of n fed) in (
       now.0,
-      λ told h.
-          let e : told ≡ [] = told_one link_grammar (front_of m fed) told [] h (inr (none, refl)) in
-          let P : List Thing → Type 0 = λ ts. IsToldSoFar (front_of n fed) (ts ++ now.0) in
+      λ reported h.
+          let e : reported ≡ [] = reported_one link_grammar (front_of m fed) reported [] h (inr (none, refl)) in
+          let P : List Event → Type 0 = λ ts. IsReportedSoFar (front_of n fed) (ts ++ now.0) in
           subst P (sym e) now.1,
     )
 
-pub some_gain : (fed : Fed) (m n : ℕ) → m ≤ n → (us : List Thing) × IsGain (front_of m fed) (front_of n fed) us
+pub some_gain : (fed : Fed) (m n : ℕ) → m ≤ n → (us : List Event) × IsGain (front_of m fed) (front_of n fed) us
 some_gain fed m n le = gain_at fed m n le (first_decided (take m fed.blue) (take m fed.green) (take m fed.red))
 
 -- The rest of what is told.
 
 -- an epoch that ends is closed, and the next begins
-closed_at : (fed : Fed) (start handed : ℕ) (begun : Bool) (epochs aligned : ℕ) (told : List Event) (lane place : ℕ) → start ≤ most_of fed → handed ≤ place → IsEnd (rest_of start fed) lane place
-    → Follows fed start handed begun epochs aligned told
-    → (after : Bool) × (n m : ℕ) × (more : List Event) × Follows fed (start + place) 0 after n m (told ++ more)
-closed_at fed start handed begun epochs aligned told lane place reached le end was =
+closed_at : (fed : Fed) (start handed : ℕ) (begun : Bool) (epochs aligned : ℕ) (reported : List TrackEvent) (lane place : ℕ) → start ≤ most_of fed → handed ≤ place → IsEnd (rest_of start fed) lane place
+    → Follows fed start handed begun epochs aligned reported
+    → (after : Bool) × (n m : ℕ) × (more : List TrackEvent) × Follows fed (start + place) 0 after n m (reported ++ more)
+closed_at fed start handed begun epochs aligned reported lane place reached le end was =
     let e : place ≡ handed + (place - handed) = omega arith in
     let us = some_gain (rest_of start fed) handed (handed + (place - handed)) (omega arith) in
-    let here = follows_handed fed start handed (place - handed) begun epochs aligned told us.0 us.1 was in
-    let last = some_last (front_of (handed + (place - handed)) (rest_of start fed)) here.things here.so_far in
+    let here = follows_handed fed start handed (place - handed) begun epochs aligned reported us.0 us.1 was in
+    let last = some_last (front_of (handed + (place - handed)) (rest_of start fed)) here.events here.so_far in
     let P : ℕ → Type 0 = λ n. IsEnd (rest_of start fed) lane n in
-    let closed = follows_closed fed start (handed + (place - handed)) lane begun epochs aligned (told ++ events_of us.0) last.0 last.1 reached (subst P e end) last.2 here in
-    let tail = events_of last.1 ++ slip_if (begun || last.0.aligned) lane (start + (handed + (place - handed))) in
-    let Q : ℕ → Type 0 = λ n. Follows fed (start + n) 0 (begun || last.0.aligned) (epochs + 1) (aligned + one_if last.0.aligned) ((told ++ events_of us.0) ++ tail) in
-    let R : List Event → Type 0 = λ es. Follows fed (start + place) 0 (begun || last.0.aligned) (epochs + 1) (aligned + one_if last.0.aligned) es in
-    (begun || last.0.aligned, epochs + 1, aligned + one_if last.0.aligned, events_of us.0 ++ tail, subst R (append_assoc told (events_of us.0) tail) (subst Q (sym e) closed))
+    let closed = follows_closed fed start (handed + (place - handed)) lane begun epochs aligned (reported ++ track_events_of us.0) last.0 last.1 reached (subst P e end) last.2 here in
+    let tail = track_events_of last.1 ++ slip_if (begun || last.0.aligned) lane (start + (handed + (place - handed))) in
+    let Q : ℕ → Type 0 = λ n. Follows fed (start + n) 0 (begun || last.0.aligned) (epochs + 1) (aligned + one_if last.0.aligned) ((reported ++ track_events_of us.0) ++ tail) in
+    let R : List TrackEvent → Type 0 = λ es. Follows fed (start + place) 0 (begun || last.0.aligned) (epochs + 1) (aligned + one_if last.0.aligned) es in
+    (begun || last.0.aligned, epochs + 1, aligned + one_if last.0.aligned, track_events_of us.0 ++ tail, subst R (append_assoc reported (track_events_of us.0) tail) (subst Q (sym e) closed))
 
 -- in an epoch that goes on all is told but what its last bits decide
-goes_on_at : (fed : Fed) (start handed : ℕ) (begun : Bool) (epochs aligned : ℕ) (told : List Event) → start + handed ≤ most_of fed → HasNoEnd (rest_of start fed) → handed % 8 ≡ 0
-    → (handed ≡ 0) ⊎ (start + handed + 119 ≤ most_of fed) → Follows fed start handed begun epochs aligned told → (rest : List Event) × HasTracked fed (told ++ rest)
-goes_on_at fed start handed begun epochs aligned told within none whole early was =
+goes_on_at : (fed : Fed) (start handed : ℕ) (begun : Bool) (epochs aligned : ℕ) (reported : List TrackEvent) → start + handed ≤ most_of fed → HasNoEnd (rest_of start fed) → handed % 8 ≡ 0
+    → (handed ≡ 0) ⊎ (start + handed + 119 ≤ most_of fed) → Follows fed start handed begun epochs aligned reported → (rest : List TrackEvent) × HasTracked fed (reported ++ rest)
+goes_on_at fed start handed begun epochs aligned reported within none whole early was =
     let upto = (most_of fed - start - 119) / 8 * 8 in
     let le : handed ≤ upto = elim early [ inl zero_is ↦ omega arith | inr far ↦ omega arith ] in
     let e : handed + (upto - handed) ≡ upto = omega arith in
     let us = some_gain (rest_of start fed) handed (handed + (upto - handed)) (omega arith) in
-    let here = follows_handed fed start handed (upto - handed) begun epochs aligned told us.0 us.1 was in (
-      events_of us.0,
+    let here = follows_handed fed start handed (upto - handed) begun epochs aligned reported us.0 us.1 was in (
+      track_events_of us.0,
       record {
         start = start;
         handed = handed + (upto - handed);
@@ -201,7 +201,7 @@ goes_on_at fed start handed begun epochs aligned told within none whole early wa
           epochs = epochs;
           aligned = aligned;
           closed = here.closed;
-          things = here.things;
+          events = here.events;
           goes_on = here.goes_on;
           none = λ l p lt long stray. none l lt p stray;
           whole = ap (λ n. n % 8) e ∙ omega arith;
@@ -212,66 +212,66 @@ goes_on_at fed start handed begun epochs aligned told within none whole early wa
                 inr (l, lt, let g = ap length (lane_of_rest start fed l) ∙ length-drop start (lane_of fed l) in omega arith))
           ];
           so_far = here.so_far;
-          told_are = here.told_are;
+          reported_are = here.reported_are;
         };
       },
     )
 
-reach : (n : ℕ) (fed : Fed) (start handed : ℕ) (begun : Bool) (epochs aligned : ℕ) (told : List Event) → most_of fed ≤ start + n → start + handed ≤ most_of fed
+reach : (n : ℕ) (fed : Fed) (start handed : ℕ) (begun : Bool) (epochs aligned : ℕ) (reported : List TrackEvent) → most_of fed ≤ start + n → start + handed ≤ most_of fed
     → ((l p : ℕ) → l < 3 → p < handed → IsStray (lane_of (rest_of start fed) l) p → ⊥) → (handed % 8 ≡ 0) ⊎ ((lane place : ℕ) × IsEnd (rest_of start fed) lane place)
-    → (handed ≡ 0) ⊎ (start + handed + 119 ≤ most_of fed) → Follows fed start handed begun epochs aligned told → (rest : List Event) × HasTracked fed (told ++ rest)
-reach zero fed start handed begun epochs aligned told all within none whole early was =
+    → (handed ≡ 0) ⊎ (start + handed + 119 ≤ most_of fed) → Follows fed start handed begun epochs aligned reported → (rest : List TrackEvent) × HasTracked fed (reported ++ rest)
+reach zero fed start handed begun epochs aligned reported all within none whole early was =
     let no_end : HasNoEnd (rest_of start fed) = elim (end_decided (rest_of start fed)) [
       | inl h ↦ absurd (let far = end_place fed start h.0 h.1 h.2 in omega arith)
       | inr never ↦ never
     ] in
-    goes_on_at fed start handed begun epochs aligned told within no_end (omega arith) early was
-reach (suc n) fed start handed begun epochs aligned told all within none whole early was = elim (end_decided (rest_of start fed)) [
+    goes_on_at fed start handed begun epochs aligned reported within no_end (omega arith) early was
+reach (suc n) fed start handed begun epochs aligned reported all within none whole early was = elim (end_decided (rest_of start fed)) [
   | inl h ↦
       let le : handed ≤ h.1 = elim (cases_lt h.1 handed) [ inr le ↦ le | inl before ↦ absurd (none h.0 h.1 h.2.within before h.2.stray) ] in
-      let next = closed_at fed start handed begun epochs aligned told h.0 h.1 (omega arith) le h.2 was in
+      let next = closed_at fed start handed begun epochs aligned reported h.0 h.1 (omega arith) le h.2 was in
       let place = end_place fed start h.0 h.1 h.2 in
       let far = end_is_far (rest_of start fed) h.0 h.1 h.2 in
-      let rest = reach n fed (start + h.1) 0 next.0 next.1 next.2 (told ++ next.3) (omega arith) (omega arith) (λ l p lt less stray. omega arith) (inl refl) (inl refl) next.4 in
-      let P : List Event → Type 0 = λ es. HasTracked fed es in
-      (next.3 ++ rest.0, subst P (append_assoc told next.3 rest.0) rest.1)
+      let rest = reach n fed (start + h.1) 0 next.0 next.1 next.2 (reported ++ next.3) (omega arith) (omega arith) (λ l p lt less stray. omega arith) (inl refl) (inl refl) next.4 in
+      let P : List TrackEvent → Type 0 = λ es. HasTracked fed es in
+      (next.3 ++ rest.0, subst P (append_assoc reported next.3 rest.0) rest.1)
   | inr never ↦
       let eight : handed % 8 ≡ 0 = elim whole [ inl w ↦ w | inr h ↦ absurd (never h.0 h.2.within h.1 h.2.stray) ] in
-      goes_on_at fed start handed begun epochs aligned told within never eight early was
+      goes_on_at fed start handed begun epochs aligned reported within never eight early was
 ]
 
-pub passes_on : (fed : Fed) (told : List Event) → Passes fed told → (rest : List Event) × HasTracked fed (told ++ rest)
-passes_on fed told p = reach (most_of fed) fed p.start p.handed p.begun p.epochs p.aligned told (omega arith) p.within p.none p.whole p.early p.follows
+pub passes_on : (fed : Fed) (reported : List TrackEvent) → Passes fed reported → (rest : List TrackEvent) × HasTracked fed (reported ++ rest)
+passes_on fed reported p = reach (most_of fed) fed p.start p.handed p.begun p.epochs p.aligned reported (omega arith) p.within p.none p.whole p.early p.follows
 
 -- Something is told of all bits.
 
 most_rest : (fed : Fed) (place n : ℕ) → most_of fed ≤ place + n → most_of (rest_of place fed) ≤ n
 most_rest fed place n all = omega (arith, length-drop place fed.blue, length-drop place fed.green, length-drop place fed.red)
 
-told_of : (fed : Fed) → (outcome : Outcome) × (things : List Thing) × AreTold fed.blue fed.green fed.red outcome things
-told_of fed =
-    let told = told_so_far link_grammar fed in
-    let last = some_last fed told.0 told.1 in
-    (last.0, told.0 ++ last.1, last.2 told.0 told.1)
+reported_of : (fed : Fed) → (outcome : Outcome) × (events : List Event) × AreReported fed.blue fed.green fed.red outcome events
+reported_of fed =
+    let reported = reported_so_far link_grammar fed in
+    let last = some_last fed reported.0 reported.1 in
+    (last.0, reported.0 ++ last.1, last.2 reported.0 reported.1)
 
-track_below : (n : ℕ) (begun : Bool) (z : ℕ) (fed : Fed) → most_of fed ≤ n → (epochs aligned : ℕ) × (events : List Event) × IsTracked begun z fed epochs aligned events
+track_below : (n : ℕ) (begun : Bool) (z : ℕ) (fed : Fed) → most_of fed ≤ n → (epochs aligned : ℕ) × (track_events : List TrackEvent) × IsTracked begun z fed epochs aligned track_events
 track_below zero begun z fed all =
-    let told = told_of fed in
+    let reported = reported_of fed in
     let no_end : HasNoEnd fed = elim (end_decided fed) [
       | inl h ↦ absurd (let far = end_within fed h.0 h.1 h.2 in omega arith)
       | inr never ↦ never
     ] in
-    (1, one_if told.0.aligned, events_of told.1, last_epoch begun z fed told.0 told.1 no_end told.2)
+    (1, one_if reported.0.aligned, track_events_of reported.1, last_epoch begun z fed reported.0 reported.1 no_end reported.2)
 track_below (suc n) begun z fed all = elim (end_decided fed) [
   | inl h ↦
-      let told = told_of (front_of h.1 fed) in
+      let reported = reported_of (front_of h.1 fed) in
       let far = end_is_far fed h.0 h.1 h.2 in
-      let rest = track_below n (begun || told.0.aligned) (z + h.1) (rest_of h.1 fed) (most_rest fed h.1 n (omega arith)) in
-      (1 + rest.0, one_if told.0.aligned + rest.1, events_of told.1 ++ (slip_if (begun || told.0.aligned) h.0 (z + h.1) ++ rest.2), more_epochs begun z fed told.0 told.1 h.0 h.1 rest.0 rest.1 rest.2 h.2 told.2 rest.3)
+      let rest = track_below n (begun || reported.0.aligned) (z + h.1) (rest_of h.1 fed) (most_rest fed h.1 n (omega arith)) in
+      (1 + rest.0, one_if reported.0.aligned + rest.1, track_events_of reported.1 ++ (slip_if (begun || reported.0.aligned) h.0 (z + h.1) ++ rest.2), more_epochs begun z fed reported.0 reported.1 h.0 h.1 rest.0 rest.1 rest.2 h.2 reported.2 rest.3)
   | inr never ↦
-      let told = told_of fed in
-      (1, one_if told.0.aligned, events_of told.1, last_epoch begun z fed told.0 told.1 never told.2)
+      let reported = reported_of fed in
+      (1, one_if reported.0.aligned, track_events_of reported.1, last_epoch begun z fed reported.0 reported.1 never reported.2)
 ]
 
-pub some_track : (begun : Bool) (z : ℕ) (fed : Fed) → (epochs aligned : ℕ) × (events : List Event) × IsTracked begun z fed epochs aligned events
+pub some_track : (begun : Bool) (z : ℕ) (fed : Fed) → (epochs aligned : ℕ) × (track_events : List TrackEvent) × IsTracked begun z fed epochs aligned track_events
 some_track begun z fed = track_below (most_of fed) begun z fed (omega arith)

@@ -5,19 +5,19 @@ use Rattle.lane_align.proofs.Controls.{run_within}
 use Rattle.lane_track.specs.Strays.{IsStray}
 use Rattle.lane_track.specs.declared.scout.Scout.{Scout}
 use Rattle.lane_track.specs.Scouts.{HasSought}
-use Rattle.period_grammar.specs.Things.{Thing}
+use Rattle.period_grammar.specs.Events.{Event}
 use Rattle.std.specs.Prelude.{slice_index}
 use Rattle.link_sink.proofs.Feeding.{length_grown}
 use Rattle.link_sink.specs.Sinks.{Fed, grown, IsGain, IsLast}
 use Rattle.link_sink.specs.declared.hear.Outcome.{Outcome}
-use Rattle.track_sink.specs.Events.{Event, events_of}
+use Rattle.track_sink.specs.TrackEvents.{TrackEvent, track_events_of}
 use Rattle.track_sink.specs.Epochs.{lane_of, rest_of, front_of, HasNoEnd, IsTrack}
 use Rattle.track_sink.specs.Tracks.{HasTracked}
 use Rattle.track_sink.specs.Lanes.{AreSought, EndsAt}
 use Rattle.track_sink.specs.Trackers.{most_of, most_fed, Follows, Carries, HasLooked, Stays, CanClose, Stands, IsSettled}
 use Rattle.track_sink.specs.declared.lanes.Stray.{Stray}
 use Rattle.track_sink.specs.declared.tracker.Tracker.{Tracker}
-use Rattle.track_sink.proofs.Following.{lane_of_rest, no_longer, longest_is, follows_last, events_both}
+use Rattle.track_sink.proofs.Following.{lane_of_rest, no_longer, longest_is, follows_last, track_events_both}
 use Rattle.track_sink.proofs.Handing.{carries_stays, longest_held}
 use Rattle.track_sink.proofs.Turning.{follows_at, follows_reached, end_is_far}
 
@@ -33,29 +33,29 @@ most_fed_is t fed c = ap₂ max c.first.fed (ap₂ max c.second.fed c.third.fed)
 
 -- Following.
 
-pub can_close : (t u : Tracker) (fed : Fed) (told : List Event) (stray : Stray) → Stands t fed told → Stays t u → EndsAt (rest_of t.start fed) stray × (t.handed ≤ stray.place) → CanClose u fed stray
-can_close t u fed told stray s stays found =
+pub can_close : (t u : Tracker) (fed : Fed) (reported : List TrackEvent) (stray : Stray) → Stands t fed reported → Stays t u → EndsAt (rest_of t.start fed) stray × (t.handed ≤ stray.place) → CanClose u fed stray
+can_close t u fed reported stray s stays found =
     let P : ℕ → Type 0 = λ n. EndsAt (rest_of n fed) stray in
     let es = stays.start in
     let eh = stays.handed in
     let room = s.room in
-    let behind = found.1 in
+    let after = found.1 in
     record {
       carries = carries_stays t u fed stays s.carries;
       whole = ap (λ n. n % 8) eh ∙ s.whole;
       room = omega arith;
       ends = subst P (sym es) found.0;
-      behind = omega arith;
+      after = omega arith;
     }
 
-pub follows_stays : (t u : Tracker) (fed : Fed) (told : List Event) → Stays t u → Follows fed t.start t.handed t.begun t.epochs t.aligned told → Follows fed u.start u.handed u.begun u.epochs u.aligned told
-follows_stays t u fed told s was = follows_at fed t.start u.start t.handed u.handed t.begun u.begun t.epochs u.epochs t.aligned u.aligned told s.start s.handed s.begun s.epochs s.aligned was
+pub follows_stays : (t u : Tracker) (fed : Fed) (reported : List TrackEvent) → Stays t u → Follows fed t.start t.handed t.begun t.epochs t.aligned reported → Follows fed u.start u.handed u.begun u.epochs u.aligned reported
+follows_stays t u fed reported s was = follows_at fed t.start u.start t.handed u.handed t.begun u.begun t.epochs u.epochs t.aligned u.aligned reported s.start s.handed s.begun s.epochs s.aligned was
 
-pub stands_closed : (u v : Tracker) (fed : Fed) (told : List Event) (stray : Stray) → CanClose u fed stray → Carries v fed × HasLooked v fed → v.start ≡ u.start + stray.place → v.handed ≡ 0
-    → Follows fed v.start v.handed v.begun v.epochs v.aligned told → Stands v fed told
-stands_closed u v fed told stray can now es eh follows =
+pub stands_closed : (u v : Tracker) (fed : Fed) (reported : List TrackEvent) (stray : Stray) → CanClose u fed stray → Carries v fed × HasLooked v fed → v.start ≡ u.start + stray.place → v.handed ≡ 0
+    → Follows fed v.start v.handed v.begun v.epochs v.aligned reported → Stands v fed reported
+stands_closed u v fed reported stray can now es eh follows =
     let room = can.room in
-    let behind = can.behind in
+    let after = can.after in
     record { carries = now.0; looked = now.1; follows = follows; whole = ap (λ n. n % 8) eh; room = omega arith }
 
 -- each epoch begins later than the one before
@@ -68,8 +68,8 @@ start_rises t u v fed stray ct s can cv e =
     let es = s.start in
     omega arith
 
-pub room_stays : (t u : Tracker) (fed : Fed) (told : List Event) → Stands t fed told → Stays t u → most_of fed ≤ u.start + u.handed + 32894
-room_stays t u fed told s stays =
+pub room_stays : (t u : Tracker) (fed : Fed) (reported : List TrackEvent) → Stands t fed reported → Stays t u → most_of fed ≤ u.start + u.handed + 32894
+room_stays t u fed reported s stays =
     let es = stays.start in
     let eh = stays.handed in
     let room = s.room in
@@ -79,18 +79,18 @@ room_stays t u fed told s stays =
 pub can_settle : (t : Tracker) (fed : Fed) → Carries t fed → HasLooked t fed → t.handed % 8 ≡ 0 → most_of fed ≤ t.start + t.handed + 32894
     → (t.handed ≤ t.seen / 8 * 8) × (t.start + t.handed + (t.seen / 8 * 8 - t.handed) ≤ most_of fed) × (t.seen / 8 * 8 - t.handed ≤ 32768)
 can_settle t fed c looked whole room =
-    let behind = looked.behind in
+    let after = looked.after in
     let within = c.within in
     elim looked.decided [
       | inl none ↦ (omega arith, omega arith, omega arith)
       | inr far ↦ (omega arith, omega arith, omega arith)
     ]
 
-pub settles : (u w : Tracker) (fed : Fed) (told : List Event) (us : List Thing) → HasLooked u fed × (most_of fed ≤ u.start + u.seen + 119) → u.handed % 8 ≡ 0 → most_of fed ≤ u.start + u.handed + 32894 → Carries u fed → Carries w fed
+pub settles : (u w : Tracker) (fed : Fed) (reported : List TrackEvent) (us : List Event) → HasLooked u fed × (most_of fed ≤ u.start + u.seen + 119) → u.handed % 8 ≡ 0 → most_of fed ≤ u.start + u.handed + 32894 → Carries u fed → Carries w fed
     → w.start ≡ u.start → w.handed ≡ u.handed + (u.seen / 8 * 8 - u.handed) → w.seen ≡ u.seen
     → w.lanes.first.scout ≡ u.lanes.first.scout → w.lanes.second.scout ≡ u.lanes.second.scout → w.lanes.third.scout ≡ u.lanes.third.scout
-    → Follows fed w.start w.handed w.begun w.epochs w.aligned told → IsSettled w fed told
-settles u w fed told us looked whole room cu cw es eh en sx sy sz follows =
+    → Follows fed w.start w.handed w.begun w.epochs w.aligned reported → IsSettled w fed reported
+settles u w fed reported us looked whole room cu cw es eh en sx sy sz follows =
     let can = can_settle u fed cu looked.0 whole room in
     let all = looked.1 in
     let sought = looked.0.sought in
@@ -107,7 +107,7 @@ settles u w fed told us looked whole room cu cw es eh en sx sy sz follows =
         carries = cw;
         looked = record {
           sought = subst Q (sym es) (subst P (sym en) here);
-          behind = omega arith;
+          after = omega arith;
           decided = elim looked.0.decided [ inl none ↦ inl (omega arith) | inr far ↦ inr (omega arith) ];
         };
         follows = follows;
@@ -126,39 +126,39 @@ all_sought t fed c looked all zero p long stray = looked.sought.first.none p (le
 all_sought t fed c looked all (suc zero) p long stray = looked.sought.second.none p (let h = rest_no_longer fed t.start 1 (started t fed c) in omega arith) stray
 all_sought t fed c looked all (suc (suc l)) p long stray = looked.sought.third.none p (let h = rest_no_longer fed t.start 2 (started t fed c) in omega arith) stray
 
-pub settled_no_end : (t : Tracker) (fed : Fed) (told : List Event) → IsSettled t fed told → HasNoEnd (rest_of t.start fed)
-settled_no_end t fed told s l lt p stray =
+pub settled_no_end : (t : Tracker) (fed : Fed) (reported : List TrackEvent) → IsSettled t fed reported → HasNoEnd (rest_of t.start fed)
+settled_no_end t fed reported s l lt p stray =
     all_sought t fed s.stands.carries s.stands.looked s.all l p (run_within (lane_of (rest_of t.start fed) l) p stray.run) stray
 
-pub tracks_all : (t u v : Tracker) (fed : Fed) (told : List Event) (outcome : Outcome) (us last : List Thing) (longest : ℕ) → IsSettled t fed told
+pub tracks_all : (t u v : Tracker) (fed : Fed) (reported : List TrackEvent) (outcome : Outcome) (us last : List Event) (longest : ℕ) → IsSettled t fed reported
     → longest ≡ max (length t.lanes.first.held.bits) (max (length t.lanes.second.held.bits) (length t.lanes.third.held.bits))
     → IsGain (front_of t.handed (rest_of t.start fed)) (front_of (t.handed + longest) (rest_of t.start fed)) us → IsLast (front_of u.handed (rest_of u.start fed)) outcome last
     → u.start ≡ t.start → u.handed ≡ t.handed + longest → u.begun ≡ t.begun → u.epochs ≡ t.epochs → u.aligned ≡ t.aligned
     → v.epochs ≡ u.epochs + 1 → v.aligned ≡ u.aligned + one_if outcome.aligned
-    → IsTrack fed v.epochs v.aligned (told ++ events_of (us ++ last))
-tracks_all t u v fed told outcome us last longest settled most gain is_last es eh eb ee ea en em =
+    → IsTrack fed v.epochs v.aligned (reported ++ track_events_of (us ++ last))
+tracks_all t u v fed reported outcome us last longest settled most gain is_last es eh eb ee ea en em =
     let all = longest_held t fed settled.stands.carries in
-    let follows = follows_reached t u fed longest told us gain es eh eb ee ea settled.stands.follows in
+    let follows = follows_reached t u fed longest reported us gain es eh eb ee ea settled.stands.follows in
     let P : ℕ → Type 0 = λ n. HasNoEnd (rest_of n fed) in
-    let track = follows_last fed u.start u.handed u.begun u.epochs u.aligned (told ++ events_of us) outcome last (omega arith) (subst P (sym es) (settled_no_end t fed told settled)) is_last follows in
-    let Q : ℕ → Type 0 = λ n. IsTrack fed n (u.aligned + one_if outcome.aligned) ((told ++ events_of us) ++ events_of last) in
-    let R : ℕ → Type 0 = λ n. IsTrack fed v.epochs n ((told ++ events_of us) ++ events_of last) in
-    let S : List Event → Type 0 = λ events. IsTrack fed v.epochs v.aligned events in
-    subst S (append_assoc told (events_of us) (events_of last) ∙ ap (λ events. told ++ events) (sym (events_both us last))) (subst R (sym em) (subst Q (sym en) track))
+    let track = follows_last fed u.start u.handed u.begun u.epochs u.aligned (reported ++ track_events_of us) outcome last (omega arith) (subst P (sym es) (settled_no_end t fed reported settled)) is_last follows in
+    let Q : ℕ → Type 0 = λ n. IsTrack fed n (u.aligned + one_if outcome.aligned) ((reported ++ track_events_of us) ++ track_events_of last) in
+    let R : ℕ → Type 0 = λ n. IsTrack fed v.epochs n ((reported ++ track_events_of us) ++ track_events_of last) in
+    let S : List TrackEvent → Type 0 = λ track_events. IsTrack fed v.epochs v.aligned track_events in
+    subst S (append_assoc reported (track_events_of us) (track_events_of last) ∙ ap (λ track_events. reported ++ track_events) (sym (track_events_both us last))) (subst R (sym em) (subst Q (sym en) track))
 
 -- What a settled tracker has told.
 
 early_of : (t : Tracker) (fed : Fed) → HasLooked t fed → (t.handed ≡ 0) ⊎ ((l : ℕ) × (l < 3) × (t.handed + 119 ≤ length (lane_of (rest_of t.start fed) l)))
 early_of t fed looked =
-    let behind = looked.behind in
+    let after = looked.after in
     elim looked.decided [
       | inl none ↦ inl (omega arith)
       | inr far ↦ longest_is fed ((t.handed ≡ 0) ⊎ ((l : ℕ) × (l < 3) × (t.handed + 119 ≤ length (lane_of (rest_of t.start fed) l)))) (λ l lt e.
           inr (l, lt, let g = ap length (lane_of_rest t.start fed l) ∙ length-drop t.start (lane_of fed l) in omega arith))
     ]
 
-pub settled_tracks : (t : Tracker) (fed : Fed) (told : List Event) → IsSettled t fed told → HasTracked fed told
-settled_tracks t fed told s =
+pub settled_tracks : (t : Tracker) (fed : Fed) (reported : List TrackEvent) → IsSettled t fed reported → HasTracked fed reported
+settled_tracks t fed reported s =
     let f = s.stands.follows in
     let c = s.stands.carries in
     let all = s.all in
@@ -171,22 +171,22 @@ settled_tracks t fed told s =
         epochs = t.epochs;
         aligned = t.aligned;
         closed = f.closed;
-        things = f.things;
+        events = f.events;
         goes_on = f.goes_on;
         none = λ l p lt long stray. all_sought t fed c s.stands.looked all l p long stray;
         whole = s.stands.whole;
         held = λ l lt. let h = rest_no_longer fed t.start l (started t fed c) in omega arith;
         early = early_of t fed s.stands.looked;
         so_far = f.so_far;
-        told_are = f.told_are;
+        reported_are = f.reported_are;
       };
     }
 
 -- how many bits were fed of each lane
-pub fed_more : (t u : Tracker) (fed : Fed) (told now : List Event) (a b c bits : List ℕ) → IsSettled t fed told → IsSettled u (grown fed a b c bits) now
+pub fed_more : (t u : Tracker) (fed : Fed) (reported now : List TrackEvent) (a b c bits : List ℕ) → IsSettled t fed reported → IsSettled u (grown fed a b c bits) now
     → length a ≡ (slice_index bits 0 + 7) / 8 → length b ≡ (slice_index bits 1 + 7) / 8 → length c ≡ (slice_index bits 2 + 7) / 8
     → (u.lanes.first.fed ≡ t.lanes.first.fed + slice_index bits 0) × (u.lanes.second.fed ≡ t.lanes.second.fed + slice_index bits 1) × (u.lanes.third.fed ≡ t.lanes.third.fed + slice_index bits 2)
-fed_more t u fed told now a b c bits before after ea eb ec =
+fed_more t u fed reported now a b c bits before after ea eb ec =
     let x = before.stands.carries in
     let y = after.stands.carries in (
       y.first.fed ∙ length_grown fed.blue (grown fed a b c bits).blue a (slice_index bits 0) ea refl ∙ ap (λ n. n + slice_index bits 0) (sym x.first.fed),

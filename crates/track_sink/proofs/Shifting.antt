@@ -58,16 +58,16 @@ first_few bytes few lt some =
     ap (λ n. take n (bytes_bits bytes)) (sym e) ∙ take_bytes bytes 0 few lt (omega arith) ∙ none_before (bits_of few (get_or bytes 0 0))
 
 -- before the first byte
-pub begin_behind : (bytes more : List ℕ) (few left : ℕ) → few < 8 → 1 ≤ length bytes → left ≡ get_or bytes 0 0 % 2 ^ few
+pub begin_after : (bytes more : List ℕ) (few left : ℕ) → few < 8 → 1 ≤ length bytes → left ≡ get_or bytes 0 0 % 2 ^ few
     → bytes_bits (take 0 bytes) ++ bits_of few left ≡ take few (bytes_bits bytes) ++ bytes_bits (take 0 more)
-begin_behind bytes more few left lt some e =
+begin_after bytes more few left lt some e =
     none_before (bits_of few left) ∙ ap (bits_of few) e ∙ bits_of-mod few (get_or bytes 0 0) ∙ sym (first_few bytes few lt some) ∙ no_more (take few (bytes_bits bytes)) more
 
 -- one byte more behind them
-pub more_behind : (start : List Bool) (was now more : List ℕ) (few left n i b : ℕ) → left < 2 ^ few → n ≡ left + 2 ^ few * b → b ≡ get_or more i 0 → i < length more
+pub more_after : (start : List Bool) (was now more : List ℕ) (few left n i b : ℕ) → left < 2 ^ few → n ≡ left + 2 ^ few * b → b ≡ get_or more i 0 → i < length more
     → i < length was → now ≡ set was i (n % 256) → bytes_bits (take i was) ++ bits_of few left ≡ start ++ bytes_bits (take i more)
     → bytes_bits (take (i + 1) now) ++ bits_of few (n / 256) ≡ start ++ bytes_bits (take (i + 1) more)
-more_behind start was now more few left n i b lt e same within inside is held =
+more_after start was now more few left n i b lt e same within inside is held =
     let e8 : few + 8 ≡ 8 + few = omega arith in
     ap (λ bs. bytes_bits bs ++ bits_of few (n / 256)) (ap (take (i + 1)) is ∙ take_more_set was i (n % 256) inside)
     ∙ put_one (take i was) few left 8 b n few lt e e8
@@ -78,10 +78,10 @@ pub narrow_rest : (left few b n : ℕ) → left < 2 ^ few → b < 256 → n ≡ 
 narrow_rest left few b n lt low e = let h = joined_below few 8 left b lt low in tail_past n few 8 few (omega (arith, h)) (omega arith)
 
 -- and the last few bits
-pub all_behind : (start : List Bool) (was now more : List ℕ) (few left : ℕ) → few < 8 → length was ≡ length more + 1 → now ≡ set was (length more) left
+pub all_after : (start : List Bool) (was now more : List ℕ) (few left : ℕ) → few < 8 → length was ≡ length more + 1 → now ≡ set was (length more) left
     → bytes_bits (take (length more) was) ++ bits_of few left ≡ start ++ bytes_bits (take (length more) more)
     → take (few + 8 * length more) (bytes_bits now) ≡ start ++ bytes_bits more
-all_behind start was now more few left lt room is held =
+all_after start was now more few left lt room is held =
     let n = length more in
     let e : few + 8 * n ≡ 8 * n + few = omega arith in
     let size : length now ≡ n + 1 = ap length is ∙ length-set was n left ∙ room in
@@ -94,9 +94,9 @@ all_behind start was now more few left lt room is held =
 -- Appending.
 
 -- whole bytes at the front
-pub copied_behind : (into more now : List ℕ) (few n : ℕ) → few ≡ 0 → now ≡ more → n ≡ length more
+pub copied_after : (into more now : List ℕ) (few n : ℕ) → few ≡ 0 → now ≡ more → n ≡ length more
     → take (few + 8 * n) (bytes_bits (now ++ drop n into)) ≡ take few (bytes_bits into) ++ bytes_bits more
-copied_behind into more now few n none e size =
+copied_after into more now few n none e size =
     let k : few + 8 * n ≡ length (bytes_bits more) = omega (arith, length-bytes_bits more) in
     ap₂ (λ m bs. take m (bytes_bits (bs ++ drop n into))) k e
     ∙ ap (take (length (bytes_bits more))) (bytes_bits-append more (drop n into))

@@ -2,7 +2,7 @@
 use Rattle.std.specs.Prelude.{◌≡◌, ℕ, Bool, true, List}
 use Rattle.std.proofs.Common.{suc, zero}
 use Rattle.link_sink.specs.Sinks.{Fed}
-use Rattle.track_sink.specs.Events.{Event}
+use Rattle.track_sink.specs.TrackEvents.{TrackEvent}
 use Rattle.track_sink.specs.Trackers.{most_fed, IsSettled}
 use Rattle.track_sink.specs.Tracks.{HasTracked}
 use Rattle.track_sink.specs.declared.tracker.Tracker.{Tracker}
@@ -14,19 +14,19 @@ pub record TrackSinkSeen : Type 0 where
 
 -- a sink stands for the bits that it was fed and the events that it told of them: it has told all but what the last bits of
 -- each lane decide. Callers take how it stands as a whole
-pub record StandsFor (sink : TrackSinkSeen) (fed : Fed) (told : List Event) : Type 0 where
-  pub tracked : HasTracked fed told
-  pub settled : IsSettled sink.tracker fed told
+pub record TrackSinkRepresents (sink : TrackSinkSeen) (fed : Fed) (reported : List TrackEvent) : Type 0 where
+  pub tracked : HasTracked fed reported
+  pub settled : IsSettled sink.tracker fed reported
 
 -- how many bits it was fed of a lane, and of the longest
-abbrev pub bits_of : TrackSinkSeen → ℕ → ℕ
-bits_of sink zero = sink.tracker.lanes.first.fed
-bits_of sink (suc zero) = sink.tracker.lanes.second.fed
-bits_of sink (suc (suc lane)) = sink.tracker.lanes.third.fed
+abbrev pub bits_fed : TrackSinkSeen → ℕ → ℕ
+bits_fed sink zero = sink.tracker.lanes.first.fed
+bits_fed sink (suc zero) = sink.tracker.lanes.second.fed
+bits_fed sink (suc (suc lane)) = sink.tracker.lanes.third.fed
 
 abbrev pub most_bits : TrackSinkSeen → ℕ
 most_bits sink = most_fed sink.tracker
 
 -- as long as it is open, there are bits and events that it stands for
 abbrev pub IsKept : Bool → Tracker → Type 0
-IsKept is_open tracker = is_open ≡ true → (fed : Fed) × (told : List Event) × IsSettled tracker fed told
+IsKept is_open tracker = is_open ≡ true → (fed : Fed) × (reported : List TrackEvent) × IsSettled tracker fed reported

@@ -1,10 +1,10 @@
 -- What a tracker stands for: the bits that it was fed, those of them that it handed on, and the events that it told.
 use Rattle.std.specs.Prelude.{◌≡◌, ◌⊎◌, ℕ, ◌+◌, ◌-◌, ◌*◌, ◌%◌, ◌^◌, ◌<◌, ◌≤◌, max, min, Bool, true, List, ◌∷◌, ◌++◌, length, drop}
-use Rattle.period_grammar.specs.Things.{Thing}
+use Rattle.period_grammar.specs.Events.{Event}
 use Rattle.lane_track.specs.Strays.{IsStray}
-use Rattle.link_sink.specs.Sinks.{Fed, IsToldSoFar}
-use Rattle.link_sink.specs.Streams.{StandsFor, bits_of}
-use Rattle.track_sink.specs.Events.{Event, events_of}
+use Rattle.link_sink.specs.Sinks.{Fed, IsReportedSoFar}
+use Rattle.link_sink.specs.Streams.{SinkRepresents, bits_fed}
+use Rattle.track_sink.specs.TrackEvents.{TrackEvent, track_events_of}
 use Rattle.track_sink.specs.Epochs.{lane_of, rest_of, front_of, IsEnd, IsTracked, IsTrack}
 use Rattle.track_sink.specs.Tracks.{Grows}
 use Rattle.track_sink.specs.Lanes.{AreSought, EndsAt}
@@ -18,15 +18,15 @@ most_of fed = max (length fed.blue) (max (length fed.green) (length fed.red))
 
 -- these events are told: so many epochs are closed, so many of them aligned, the next begins at a place, and of that one so
 -- many bits of each lane were handed on
-pub record Follows (fed : Fed) (start handed : ℕ) (begun : Bool) (epochs aligned : ℕ) (told : List Event) : Type 0 where
-  pub closed : List Event
-  pub things : List Thing
+pub record Follows (fed : Fed) (start handed : ℕ) (begun : Bool) (epochs aligned : ℕ) (reported : List TrackEvent) : Type 0 where
+  pub closed : List TrackEvent
+  pub events : List Event
   -- whatever comes, the epochs before are closed
   pub goes_on :
       (later : Fed) → Grows fed later
-      → (n m : ℕ) (rest : List Event) → IsTracked begun start (rest_of start later) n m rest → IsTrack later (epochs + n) (aligned + m) (closed ++ rest)
-  pub so_far : IsToldSoFar (front_of handed (rest_of start fed)) things
-  pub told_are : told ≡ closed ++ events_of things
+      → (n m : ℕ) (rest : List TrackEvent) → IsTracked begun start (rest_of start later) n m rest → IsTrack later (epochs + n) (aligned + m) (closed ++ rest)
+  pub so_far : IsReportedSoFar (front_of handed (rest_of start fed)) events
+  pub reported_are : reported ≡ closed ++ track_events_of events
 
 -- a lane holds the bits that are not handed on
 pub record HoldsRest (lane : Lane) (bits start handed : ℕ) (xs : List Bool) : Type 0 where
@@ -41,10 +41,10 @@ most_fed t = max t.lanes.first.fed (max t.lanes.second.fed t.lanes.third.fed)
 -- a tracker was fed these bits, and its sink has those of the epoch that are handed on
 pub record Carries (t : Tracker) (fed : Fed) : Type 0 where
   pub link_open : t.link.is_open ≡ true
-  pub link : StandsFor t.link (front_of t.handed (rest_of t.start fed))
-  pub first : HoldsRest t.lanes.first (bits_of t.link 0) t.start t.handed fed.blue
-  pub second : HoldsRest t.lanes.second (bits_of t.link 1) t.start t.handed fed.green
-  pub third : HoldsRest t.lanes.third (bits_of t.link 2) t.start t.handed fed.red
+  pub link : SinkRepresents t.link (front_of t.handed (rest_of t.start fed))
+  pub first : HoldsRest t.lanes.first (bits_fed t.link 0) t.start t.handed fed.blue
+  pub second : HoldsRest t.lanes.second (bits_fed t.link 1) t.start t.handed fed.green
+  pub third : HoldsRest t.lanes.third (bits_fed t.link 2) t.start t.handed fed.red
   pub within : t.start + t.handed ≤ most_of fed
   pub small : most_of fed < 2 ^ 32
   pub few : 2 * t.epochs ≤ t.start
@@ -68,7 +68,7 @@ pub record Stays (before now : Tracker) : Type 0 where
 -- it has looked at the places of the epoch before one
 pub record HasLooked (t : Tracker) (fed : Fed) : Type 0 where
   pub sought : AreSought t.lanes t.seen (rest_of t.start fed)
-  pub behind : t.handed ≤ t.seen
+  pub after : t.handed ≤ t.seen
   pub decided : (t.seen ≡ 0) ⊎ (t.start + t.seen + 119 ≤ most_of fed)
 
 -- its epoch ends at a stray
@@ -77,7 +77,7 @@ pub record CanClose (t : Tracker) (fed : Fed) (stray : Stray) : Type 0 where
   pub whole : t.handed % 8 ≡ 0
   pub room : most_of fed ≤ t.start + t.handed + 32894
   pub ends : EndsAt (rest_of t.start fed) stray
-  pub behind : t.handed ≤ stray.place
+  pub after : t.handed ≤ stray.place
 
 -- all bits of it before the stray are handed on
 pub record CanTurn (t : Tracker) (fed : Fed) (stray : Stray) : Type 0 where
@@ -86,40 +86,40 @@ pub record CanTurn (t : Tracker) (fed : Fed) (stray : Stray) : Type 0 where
   pub here : t.handed ≡ stray.place
 
 -- it has told these events, and goes on
-pub record Stands (t : Tracker) (fed : Fed) (told : List Event) : Type 0 where
+pub record Stands (t : Tracker) (fed : Fed) (reported : List TrackEvent) : Type 0 where
   pub carries : Carries t fed
   pub looked : HasLooked t fed
-  pub follows : Follows fed t.start t.handed t.begun t.epochs t.aligned told
+  pub follows : Follows fed t.start t.handed t.begun t.epochs t.aligned reported
   pub whole : t.handed % 8 ≡ 0
   pub room : most_of fed ≤ t.start + t.handed + 32894
 
 -- it has looked at all places that are decided, and handed on what it can
-pub record IsSettled (t : Tracker) (fed : Fed) (told : List Event) : Type 0 where
-  pub stands : Stands t fed told
+pub record IsSettled (t : Tracker) (fed : Fed) (reported : List TrackEvent) : Type 0 where
+  pub stands : Stands t fed reported
   pub all : most_of fed ≤ t.start + t.seen + 119
   pub near : t.seen ≤ t.handed + 7
 
 -- Where an ear fails.
 
 -- of these events the ear took those before one of them, and lost that one
-pub record Stops {A : Type 0} (tracked : A → A → List Event → Type 0) (lost : A → A → Event → Type 0) (before now : A) (events : List Event) : Type 0 where
-  pub taken : List Event
-  pub next : Event
-  pub rest : List Event
-  pub events_are : events ≡ taken ++ next ∷ rest
+pub record Stops {A : Type 0} (tracked : A → A → List TrackEvent → Type 0) (lost : A → A → TrackEvent → Type 0) (before now : A) (track_events : List TrackEvent) : Type 0 where
+  pub taken : List TrackEvent
+  pub next : TrackEvent
+  pub rest : List TrackEvent
+  pub track_events_are : track_events ≡ taken ++ next ∷ rest
   pub between : A
   pub took_some : tracked before between taken
   pub lost_then : lost between now next
 
 -- these events are the first that are told of bits: what is told of closed epochs, and of some of the bits that are decided
 -- of the next one, before the end that it may have
-pub record Passes (fed : Fed) (told : List Event) : Type 0 where
+pub record Passes (fed : Fed) (reported : List TrackEvent) : Type 0 where
   pub start : ℕ
   pub handed : ℕ
   pub begun : Bool
   pub epochs : ℕ
   pub aligned : ℕ
-  pub follows : Follows fed start handed begun epochs aligned told
+  pub follows : Follows fed start handed begun epochs aligned reported
   pub within : start + handed ≤ most_of fed
   pub none : (l p : ℕ) → l < 3 → p < handed → IsStray (lane_of (rest_of start fed) l) p → ⊥
   pub whole : (handed % 8 ≡ 0) ⊎ ((lane place : ℕ) × IsEnd (rest_of start fed) lane place)

@@ -132,11 +132,11 @@ fn put_at(into: &mut [u8], count: u32, bytes: &[u8], bits: u32)
 {
     let at = count as usize / 8;
     let end = at + bytes.len() + 1;
-    put_behind(&mut into[at..end], count % 8, bytes);
+    put_after(&mut into[at..end], count % 8, bytes);
 }
 
 /// Puts the bits of bytes behind the first few bits, which stay.
-fn put_behind(into: &mut [u8], few: u32, bytes: &[u8])
+fn put_after(into: &mut [u8], few: u32, bytes: &[u8])
     requires few { few < 8 }
     requires room { length into.old ≡ length bytes.now + 1 }
     ensures { take (few + 8 * length bytes.now) (bytes_bits into.new) ≡ take few (bytes_bits into.old) ++ bytes_bits bytes.now }
@@ -144,12 +144,12 @@ fn put_behind(into: &mut [u8], few: u32, bytes: &[u8])
     if few == 0 {
         into[..bytes.len()].copy_from_slice(bytes);
     } else {
-        shift_behind(into, few, bytes);
+        shift_after(into, few, bytes);
     }
 }
 
 /// Puts the bits of bytes behind the first few bits, which stay: whole words first, and then byte by byte.
-fn shift_behind(into: &mut [u8], few: u32, bytes: &[u8])
+fn shift_after(into: &mut [u8], few: u32, bytes: &[u8])
     requires some { 0 < few }
     requires few { few < 8 }
     requires room { length into.old ≡ length bytes.now + 1 }

@@ -5,12 +5,13 @@ ghost use Rattle.lane_track.specs.Strays.{IsFirstStray};
 ghost use Rattle.lane_track.specs.Scouts.{HasSought};
 
 use crate::held::Held;
+use lane_align::RUN_BITS;
 use lane_track::Scout;
 use outside_io::NoMemory;
 use std::alloc::Global;
 
 /// From the first bit of a run to its last.
-const SPAN: u32 = 119;
+const SPAN: u32 = RUN_BITS - 1;
 
 /// A lane of an epoch.
 #[derive(Drop)]
@@ -54,7 +55,7 @@ impl Lane {
     /// that is held, and answers the first stray; None where there is none before `until`. Of a lane that has ended no
     /// later place can be a run's.
     pub(crate) fn seek(&mut self, base: u32, from: u32, until: u32) -> Option<u32>
-        requires behind { base ≤ from }
+        requires after { base ≤ from }
         requires order { from ≤ until }
         ensures held { self.new.held ≡ self.old.held }
         ensures fed { self.new.fed ≡ self.old.fed }

@@ -50,7 +50,7 @@ impl Lanes {
     /// answers the least stray of any lane, of the least lane that has it. Where a lane has one, the next are looked
     /// through up to its place alone.
     pub(crate) fn seek(&mut self, base: u32, from: u32, until: u32) -> Option<Stray>
-        requires behind { base ≤ from }
+        requires after { base ≤ from }
         requires order { from ≤ until }
         ensures first { self.new.first.held ≡ self.old.first.held }
         ensures second { self.new.second.held ≡ self.old.second.held }

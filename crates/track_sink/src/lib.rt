@@ -5,7 +5,6 @@ mod ear;
 mod held;
 mod lane;
 mod lanes;
-pub mod laws;
 mod sink;
 mod tracker;
 

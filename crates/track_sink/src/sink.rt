@@ -4,11 +4,11 @@ ghost use Rattle.outside_io.specs.Causes.{HasCause};
 ghost use Rattle.link_sink.specs.Sinks.{Fed, grown};
 ghost use Rattle.link_sink.specs.Pieces.{no_bits};
 ghost use Rattle.link_sink.specs.Received.{CanFeed};
-ghost use Rattle.track_sink.specs.Events.{Event};
+ghost use Rattle.track_sink.specs.TrackEvents.{TrackEvent};
 ghost use Rattle.track_sink.specs.Epochs.{IsTrack};
 ghost use Rattle.track_sink.specs.Tracks.{HasTracked};
 ghost use Rattle.track_sink.specs.Trackers.{Stops};
-ghost use Rattle.track_sink.specs.TrackSinks.{StandsFor, bits_of, most_bits};
+ghost use Rattle.track_sink.specs.TrackSinks.{TrackSinkRepresents, bits_fed, most_bits};
 
 use crate::tracker::Tracker;
 use crate::{TrackEar, TrackOutcome};
@@ -41,7 +41,7 @@ impl TrackSink {
     /// A sink that was fed no bits, with all memory that it ever has.
     pub fn open(alloc: Global) -> Result<TrackSink, NoMemory>
         ensures open { IfOk result (λ s. s.is_open ≡ true) }
-        ensures fed { IfOk result (λ s. StandsFor s no_bits []) }
+        ensures fed { IfOk result (λ s. TrackSinkRepresents s no_bits []) }
         ensures bits { IfOk result (λ s. most_bits s ≡ 0) }
     {
         Ok(TrackSink {
@@ -74,17 +74,17 @@ impl TrackSink {
         ear: &mut E,
     ) -> Result<(), Failed>
         requires open { self.old.is_open ≡ true }
-        requires first { CanFeed (bits_of self.old 0) (most_bits self.old) a.now (slice_index bits 0) }
-        requires second { CanFeed (bits_of self.old 1) (most_bits self.old) b.now (slice_index bits 1) }
-        requires third { CanFeed (bits_of self.old 2) (most_bits self.old) c.now (slice_index bits 2) }
+        requires first { CanFeed (bits_fed self.old 0) (most_bits self.old) a.now (slice_index bits 0) }
+        requires second { CanFeed (bits_fed self.old 1) (most_bits self.old) b.now (slice_index bits 1) }
+        requires third { CanFeed (bits_fed self.old 2) (most_bits self.old) c.now (slice_index bits 2) }
         ensures open { OnOk result (self.new.is_open ≡ true) }
-        ensures first { OnOk result (bits_of self.new 0 ≡ bits_of self.old 0 + slice_index bits 0) }
-        ensures second { OnOk result (bits_of self.new 1 ≡ bits_of self.old 1 + slice_index bits 1) }
-        ensures third { OnOk result (bits_of self.new 2 ≡ bits_of self.old 2 + slice_index bits 2) }
-        ensures told { (fed : Fed) (told : List Event) → StandsFor self.old fed told
-            → OnOk result ((more : List Event) × E.tracked ear.old ear.new more × StandsFor self.new (grown fed a.now b.now c.now bits) (told ++ more)) }
-        ensures stopped { (fed : Fed) (told : List Event) → StandsFor self.old fed told
-            → OnErr result ((more : List Event) × Stops E.tracked E.lost ear.old ear.new more × HasTracked (grown fed a.now b.now c.now bits) (told ++ more)) }
+        ensures first { OnOk result (bits_fed self.new 0 ≡ bits_fed self.old 0 + slice_index bits 0) }
+        ensures second { OnOk result (bits_fed self.new 1 ≡ bits_fed self.old 1 + slice_index bits 1) }
+        ensures third { OnOk result (bits_fed self.new 2 ≡ bits_fed self.old 2 + slice_index bits 2) }
+        ensures reported { (fed : Fed) (reported : List TrackEvent) → TrackSinkRepresents self.old fed reported
+            → OnOk result ((more : List TrackEvent) × E.tracked ear.old ear.new more × TrackSinkRepresents self.new (grown fed a.now b.now c.now bits) (reported ++ more)) }
+        ensures stopped { (fed : Fed) (reported : List TrackEvent) → TrackSinkRepresents self.old fed reported
+            → OnErr result ((more : List TrackEvent) × Stops E.tracked E.lost ear.old ear.new more × HasTracked (grown fed a.now b.now c.now bits) (reported ++ more)) }
         ensures spent { OnErr result (self.new.is_open ≡ false) }
         ensures cause { HasCause (E.faults ear.old) (E.faults ear.new) result }
     {
@@ -111,10 +111,10 @@ impl TrackSink {
     ) -> Result<TrackOutcome, Failed>
         requires open { self.old.is_open ≡ true }
         ensures closed { self.new.is_open ≡ false }
-        ensures told { (fed : Fed) (told : List Event) → StandsFor self.old fed told
-            → IfOk result (λ outcome. (last : List Event) × E.tracked ear.old ear.new last × IsTrack fed outcome.epochs outcome.aligned (told ++ last)) }
-        ensures stopped { (fed : Fed) (told : List Event) → StandsFor self.old fed told
-            → OnErr result ((epochs aligned : ℕ) × (last : List Event) × Stops E.tracked E.lost ear.old ear.new last × IsTrack fed epochs aligned (told ++ last)) }
+        ensures reported { (fed : Fed) (reported : List TrackEvent) → TrackSinkRepresents self.old fed reported
+            → IfOk result (λ outcome. (last : List TrackEvent) × E.tracked ear.old ear.new last × IsTrack fed outcome.epochs outcome.aligned (reported ++ last)) }
+        ensures stopped { (fed : Fed) (reported : List TrackEvent) → TrackSinkRepresents self.old fed reported
+            → OnErr result ((epochs aligned : ℕ) × (last : List TrackEvent) × Stops E.tracked E.lost ear.old ear.new last × IsTrack fed epochs aligned (reported ++ last)) }
         ensures cause { HasCause (E.faults ear.old) (E.faults ear.new) result }
     {
         self.is_open = false;

@@ -1,18 +1,20 @@
 //! What a sink tells of lanes that lose bits, however they are cut into feeds.
 ghost use Rattle.std.specs.Prelude.{◌≡◌, ◌+◌, ◌≤◌, ◌%◌, true, min, OnOk, slice_index};
-ghost use Rattle.track_sink.specs.TrackSinks.{bits_of};
+ghost use Rattle.track_sink.specs.TrackSinks.{bits_fed};
 
+mod cases;
 mod notes;
-mod vectors;
+mod rows;
 
 use crate::{TrackOutcome, TrackSink};
+use cases::{Case, case_of};
 use notes::Notes;
 use outside_io::Failed;
+use rows::CASES;
 use std::alloc::Global;
 use std::process::Abort;
 use std::test::*;
 use std::thread::Threads;
-use vectors::{CASES, Case};
 
 /// How many bits of each lane come in a feed.
 static PIECES: [u32; 4] = [8, 40, 1000, 32768];
@@ -29,20 +31,20 @@ fn feed_next<R: Threads>(
     requires open { sink.old.is_open ≡ true }
     requires whole { from % 8 ≡ 0 }
     requires most { most ≤ 32768 }
-    requires first { bits_of sink.old 0 ≡ min from (slice_index case.now.bits 0) }
-    requires second { bits_of sink.old 1 ≡ min from (slice_index case.now.bits 1) }
-    requires third { bits_of sink.old 2 ≡ min from (slice_index case.now.bits 2) }
+    requires first { bits_fed sink.old 0 ≡ min from (slice_index case.now.bits 0) }
+    requires second { bits_fed sink.old 1 ≡ min from (slice_index case.now.bits 1) }
+    requires third { bits_fed sink.old 2 ≡ min from (slice_index case.now.bits 2) }
     ensures open { OnOk result (sink.new.is_open ≡ true) }
-    ensures first { OnOk result (bits_of sink.new 0 ≡ min (from + most) (slice_index case.now.bits 0)) }
-    ensures second { OnOk result (bits_of sink.new 1 ≡ min (from + most) (slice_index case.now.bits 1)) }
-    ensures third { OnOk result (bits_of sink.new 2 ≡ min (from + most) (slice_index case.now.bits 2)) }
+    ensures first { OnOk result (bits_fed sink.new 0 ≡ min (from + most) (slice_index case.now.bits 0)) }
+    ensures second { OnOk result (bits_fed sink.new 1 ≡ min (from + most) (slice_index case.now.bits 1)) }
+    ensures third { OnOk result (bits_fed sink.new 2 ≡ min (from + most) (slice_index case.now.bits 2)) }
 {
     let x = most.min(case.bits[0].saturating_sub(from));
     let y = most.min(case.bits[1].saturating_sub(from));
     let z = most.min(case.bits[2].saturating_sub(from));
-    let a = part(case.bytes[0], from, x);
-    let b = part(case.bytes[1], from, y);
-    let c = part(case.bytes[2], from, z);
+    let a = part(case.bytes[0].as_slice(), from, x);
+    let b = part(case.bytes[1].as_slice(), from, y);
+    let c = part(case.bytes[2].as_slice(), from, z);
     if a.len() != (x as usize + 7) / 8
         || b.len() != (y as usize + 7) / 8
         || c.len() != (z as usize + 7) / 8
@@ -70,9 +72,9 @@ fn feed_all<R: Threads>(
     notes: &mut Notes,
 ) -> Result<TrackOutcome, Failed>
     requires open { sink.old.is_open ≡ true }
-    requires first { bits_of sink.old 0 ≡ 0 }
-    requires second { bits_of sink.old 1 ≡ 0 }
-    requires third { bits_of sink.old 2 ≡ 0 }
+    requires first { bits_fed sink.old 0 ≡ 0 }
+    requires second { bits_fed sink.old 1 ≡ 0 }
+    requires third { bits_fed sink.old 2 ≡ 0 }
 {
     let all = case.bits[0].max(case.bits[1]).max(case.bits[2]);
     let mut from: u32 = 0;
@@ -102,7 +104,7 @@ fn expect<R: Threads + Abort>(rt: &R, alloc: Global, case: &Case) -> Result<(), 
         assert!(rt; !sink.is_open());
         assert_eq!(rt; notes.count, case.tells.len());
         assert!(rt; notes.count <= 40);
-        assert!(rt; &notes.rows[..notes.count] == case.tells);
+        assert!(rt; &notes.rows[..notes.count] == case.tells.as_slice());
     }
     Ok(())
 }
@@ -120,7 +122,7 @@ fn expect_failures<R: Threads + Abort>(rt: &R, alloc: Global, case: &Case) -> Re
             assert!(rt; !sink.is_open());
             assert_eq!(rt; notes.count, at);
             assert!(rt; at <= 40);
-            assert!(rt; notes.rows[..at] == case.tells[..at]);
+            assert!(rt; notes.rows[..at] == case.tells.as_slice()[..at]);
             assert_eq!(rt; notes.failed, 1);
         }
     }
@@ -129,14 +131,10 @@ fn expect_failures<R: Threads + Abort>(rt: &R, alloc: Global, case: &Case) -> Re
 
 #[test]
 fn epochs(rt: HostRuntime) -> Result<(), Fail> {
-    for case in &CASES {
-        expect(&rt, rt.alloc(), case)?;
+    for text in CASES.split("\n\n") {
+        let case = case_of(rt.alloc(), text)?;
+        expect(&rt, rt.alloc(), &case)?;
+        expect_failures(&rt, rt.alloc(), &case)?;
     }
     Ok(())
-}
-
-#[test]
-fn ears_that_fail(rt: HostRuntime) -> Result<(), Fail> {
-    expect_failures(&rt, rt.alloc(), &CASES[0])?;
-    expect_failures(&rt, rt.alloc(), &CASES[2])
 }

@@ -2,20 +2,21 @@
 ghost use Rattle.std.specs.Prelude.{ℕ, ◌≡◌, ◌<◌, ◌≤◌, ◌+◌, ◌/◌, ◌*◌, ◌%◌, ◌^◌, ◌||◌, ◌++◌, true, List, [], IfOk, OnOk, OnErr, MatchOption, slice_index};
 ghost use Rattle.outside_io.specs.Causes.{HasCause};
 ghost use Rattle.terc4.specs.Columns.{one_if};
-ghost use Rattle.period_grammar.specs.Things.{Thing};
+ghost use Rattle.period_grammar.specs.Events.{Event};
 ghost use Rattle.link_sink.specs.Ears.{StopsIn};
 ghost use Rattle.link_sink.specs.declared.hear.Outcome.{Outcome as Hearing};
 ghost use Rattle.link_sink.specs.Sinks.{Fed, grown, IsGain, IsLast};
 ghost use Rattle.link_sink.specs.Pieces.{no_bits};
 ghost use Rattle.link_sink.specs.Received.{CanFeed};
-ghost use Rattle.link_sink.specs.Streams.{StandsFor, most_bits};
-ghost use Rattle.track_sink.specs.Events.{Event};
+ghost use Rattle.link_sink.specs.Streams.{SinkRepresents, most_bits};
+ghost use Rattle.track_sink.specs.TrackEvents.{TrackEvent};
 ghost use Rattle.track_sink.specs.Epochs.{rest_of, front_of, IsTrack};
 ghost use Rattle.track_sink.specs.Lanes.{AreSought, EndsAt};
 ghost use Rattle.track_sink.specs.Trackers.{most_of, most_fed, Follows, Carries, HasLooked, Stays, CanClose, CanTurn, Stands, IsSettled, Stops, Passes};
 
 use crate::lanes::{Lanes, Stray};
 use crate::{TrackEar, TrackOutcome};
+use lane_align::{FEED_BITS, RUN_BITS};
 use link_sink::{LinkSink, Outcome};
 use outside_io::{Failed, NoMemory};
 use std::alloc::Global;
@@ -25,10 +26,7 @@ use std::thread::Threads;
 const STRETCH: u32 = 2560;
 
 /// From the first bit of a run to its last.
-const SPAN: u32 = 119;
-
-/// How many bits of a lane one feed takes at most.
-const MOST: u32 = 32768;
+const SPAN: u32 = RUN_BITS - 1;
 
 /// Where the machine stands: an epoch, and what was told before it.
 #[derive(Drop)]
@@ -69,11 +67,11 @@ impl Tracker {
 
     /// Appends bits of each lane.
     pub(crate) fn append(&mut self, a: &[u8], b: &[u8], c: &[u8], bits: [u32; 3])
-        requires settled { (fed : Fed) × (told : List Event) × IsSettled self.old fed told }
+        requires settled { (fed : Fed) × (reported : List TrackEvent) × IsSettled self.old fed reported }
         requires first { CanFeed self.old.lanes.first.fed (most_fed self.old) a.now (slice_index bits 0) }
         requires second { CanFeed self.old.lanes.second.fed (most_fed self.old) b.now (slice_index bits 1) }
         requires third { CanFeed self.old.lanes.third.fed (most_fed self.old) c.now (slice_index bits 2) }
-        ensures { (fed : Fed) (told : List Event) → IsSettled self.old fed told → Stands self.new (grown fed a.now b.now c.now bits) told }
+        ensures { (fed : Fed) (reported : List TrackEvent) → IsSettled self.old fed reported → Stands self.new (grown fed a.now b.now c.now bits) reported }
     {
         let [x, y, z] = bits;
         self.lanes.first.append(a, x);
@@ -87,11 +85,11 @@ impl Tracker {
         rt: &R,
         ear: &mut E,
     ) -> Result<(), Failed>
-        requires stands { (fed : Fed) × (told : List Event) × Stands self.old fed told }
-        ensures told { (fed : Fed) (told : List Event) → Stands self.old fed told
-            → OnOk result ((more : List Event) × E.tracked ear.old ear.new more × IsSettled self.new fed (told ++ more)) }
-        ensures stopped { (fed : Fed) (told : List Event) → Stands self.old fed told
-            → OnErr result ((more : List Event) × Stops E.tracked E.lost ear.old ear.new more × Passes fed (told ++ more)) }
+        requires stands { (fed : Fed) × (reported : List TrackEvent) × Stands self.old fed reported }
+        ensures reported { (fed : Fed) (reported : List TrackEvent) → Stands self.old fed reported
+            → OnOk result ((more : List TrackEvent) × E.tracked ear.old ear.new more × IsSettled self.new fed (reported ++ more)) }
+        ensures stopped { (fed : Fed) (reported : List TrackEvent) → Stands self.old fed reported
+            → OnErr result ((more : List TrackEvent) × Stops E.tracked E.lost ear.old ear.new more × Passes fed (reported ++ more)) }
         ensures cause { HasCause (E.faults ear.old) (E.faults ear.new) result }
     {
         while let Some(stray) = self.next_stray() {
@@ -128,14 +126,14 @@ impl Tracker {
     ) -> Result<(), Failed>
         requires carries { (fed : Fed) × Carries self.old fed × (self.old.start + self.old.handed + bits ≤ most_of fed) }
         requires whole { self.old.handed % 8 ≡ 0 }
-        requires most { bits ≤ 32768 }
+        requires most { bits ≤ FEED_BITS }
         ensures carries { (fed : Fed) → Carries self.old fed → self.old.start + self.old.handed + bits ≤ most_of fed → OnOk result (Carries self.new fed) }
-        ensures told { (fed : Fed) → Carries self.old fed → self.old.start + self.old.handed + bits ≤ most_of fed
-            → OnOk result ((things : List Thing) × IsGain (front_of self.old.handed (rest_of self.old.start fed)) (front_of (self.old.handed + bits) (rest_of self.old.start fed)) things
-            × E.took ear.old ear.new things) }
+        ensures reported { (fed : Fed) → Carries self.old fed → self.old.start + self.old.handed + bits ≤ most_of fed
+            → OnOk result ((events : List Event) × IsGain (front_of self.old.handed (rest_of self.old.start fed)) (front_of (self.old.handed + bits) (rest_of self.old.start fed)) events
+            × E.took ear.old ear.new events) }
         ensures stopped { (fed : Fed) → Carries self.old fed → self.old.start + self.old.handed + bits ≤ most_of fed
-            → OnErr result ((things : List Thing) × IsGain (front_of self.old.handed (rest_of self.old.start fed)) (front_of (self.old.handed + bits) (rest_of self.old.start fed)) things
-            × StopsIn E.took E.broke ear.old ear.new things) }
+            → OnErr result ((events : List Event) × IsGain (front_of self.old.handed (rest_of self.old.start fed)) (front_of (self.old.handed + bits) (rest_of self.old.start fed)) events
+            × StopsIn E.took E.broke ear.old ear.new events) }
         ensures handed { OnOk result (self.new.handed ≡ self.old.handed + bits) }
         ensures first { self.new.lanes.first.scout ≡ self.old.lanes.first.scout }
         ensures second { self.new.lanes.second.scout ≡ self.old.lanes.second.scout }
@@ -174,12 +172,12 @@ impl Tracker {
         requires whole { self.old.handed % 8 ≡ 0 }
         requires most { bits ≤ 32775 }
         ensures carries { (fed : Fed) → Carries self.old fed → self.old.start + self.old.handed + bits ≤ most_of fed → OnOk result (Carries self.new fed) }
-        ensures told { (fed : Fed) → Carries self.old fed → self.old.start + self.old.handed + bits ≤ most_of fed
-            → OnOk result ((things : List Thing) × IsGain (front_of self.old.handed (rest_of self.old.start fed)) (front_of (self.old.handed + bits) (rest_of self.old.start fed)) things
-            × E.took ear.old ear.new things) }
+        ensures reported { (fed : Fed) → Carries self.old fed → self.old.start + self.old.handed + bits ≤ most_of fed
+            → OnOk result ((events : List Event) × IsGain (front_of self.old.handed (rest_of self.old.start fed)) (front_of (self.old.handed + bits) (rest_of self.old.start fed)) events
+            × E.took ear.old ear.new events) }
         ensures stopped { (fed : Fed) → Carries self.old fed → self.old.start + self.old.handed + bits ≤ most_of fed
-            → OnErr result ((some : ℕ) × (some ≤ bits) × (things : List Thing) × IsGain (front_of self.old.handed (rest_of self.old.start fed)) (front_of (self.old.handed + some) (rest_of self.old.start fed)) things
-            × StopsIn E.took E.broke ear.old ear.new things) }
+            → OnErr result ((some : ℕ) × (some ≤ bits) × (events : List Event) × IsGain (front_of self.old.handed (rest_of self.old.start fed)) (front_of (self.old.handed + some) (rest_of self.old.start fed)) events
+            × StopsIn E.took E.broke ear.old ear.new events) }
         ensures handed { OnOk result (self.new.handed ≡ self.old.handed + bits) }
         ensures start { self.new.start ≡ self.old.start }
         ensures begun { self.new.begun ≡ self.old.begun }
@@ -187,7 +185,7 @@ impl Tracker {
         ensures aligned { self.new.aligned ≡ self.old.aligned }
         ensures cause { HasCause (E.faults ear.old) (E.faults ear.new) result }
     {
-        if bits <= MOST {
+        if bits <= FEED_BITS {
             return self.hand_on(rt, bits, ear);
         }
         self.hand_on(rt, bits / 8 * 8, ear)?;
@@ -204,10 +202,10 @@ impl Tracker {
     ) -> Result<(), Failed>
         requires close { (fed : Fed) × CanClose self.old fed stray }
         ensures carries { (fed : Fed) → CanClose self.old fed stray → OnOk result (Carries self.new fed × HasLooked self.new fed) }
-        ensures told { (fed : Fed) (told : List Event) → CanClose self.old fed stray → Follows fed self.old.start self.old.handed self.old.begun self.old.epochs self.old.aligned told
-            → OnOk result ((more : List Event) × E.tracked ear.old ear.new more × Follows fed self.new.start self.new.handed self.new.begun self.new.epochs self.new.aligned (told ++ more)) }
-        ensures stopped { (fed : Fed) (told : List Event) → CanClose self.old fed stray → Follows fed self.old.start self.old.handed self.old.begun self.old.epochs self.old.aligned told
-            → OnErr result ((more : List Event) × Stops E.tracked E.lost ear.old ear.new more × Passes fed (told ++ more)) }
+        ensures reported { (fed : Fed) (reported : List TrackEvent) → CanClose self.old fed stray → Follows fed self.old.start self.old.handed self.old.begun self.old.epochs self.old.aligned reported
+            → OnOk result ((more : List TrackEvent) × E.tracked ear.old ear.new more × Follows fed self.new.start self.new.handed self.new.begun self.new.epochs self.new.aligned (reported ++ more)) }
+        ensures stopped { (fed : Fed) (reported : List TrackEvent) → CanClose self.old fed stray → Follows fed self.old.start self.old.handed self.old.begun self.old.epochs self.old.aligned reported
+            → OnErr result ((more : List TrackEvent) × Stops E.tracked E.lost ear.old ear.new more × Passes fed (reported ++ more)) }
         ensures start { OnOk result (self.new.start ≡ self.old.start + stray.place) }
         ensures handed { OnOk result (self.new.handed ≡ 0) }
         ensures cause { HasCause (E.faults ear.old) (E.faults ear.new) result }
@@ -221,10 +219,10 @@ impl Tracker {
     fn turn<E: TrackEar>(&mut self, stray: Stray, ear: &mut E) -> Result<(), Failed>
         requires turn { (fed : Fed) × CanTurn self.old fed stray }
         ensures carries { (fed : Fed) → CanTurn self.old fed stray → OnOk result (Carries self.new fed × HasLooked self.new fed) }
-        ensures told { (fed : Fed) (told : List Event) → CanTurn self.old fed stray → Follows fed self.old.start self.old.handed self.old.begun self.old.epochs self.old.aligned told
-            → OnOk result ((more : List Event) × E.tracked ear.old ear.new more × Follows fed self.new.start self.new.handed self.new.begun self.new.epochs self.new.aligned (told ++ more)) }
-        ensures stopped { (fed : Fed) (told : List Event) → CanTurn self.old fed stray → Follows fed self.old.start self.old.handed self.old.begun self.old.epochs self.old.aligned told
-            → OnErr result ((more : List Event) × Stops E.tracked E.lost ear.old ear.new more × Passes fed (told ++ more)) }
+        ensures reported { (fed : Fed) (reported : List TrackEvent) → CanTurn self.old fed stray → Follows fed self.old.start self.old.handed self.old.begun self.old.epochs self.old.aligned reported
+            → OnOk result ((more : List TrackEvent) × E.tracked ear.old ear.new more × Follows fed self.new.start self.new.handed self.new.begun self.new.epochs self.new.aligned (reported ++ more)) }
+        ensures stopped { (fed : Fed) (reported : List TrackEvent) → CanTurn self.old fed stray → Follows fed self.old.start self.old.handed self.old.begun self.old.epochs self.old.aligned reported
+            → OnErr result ((more : List TrackEvent) × Stops E.tracked E.lost ear.old ear.new more × Passes fed (reported ++ more)) }
         ensures start { OnOk result (self.new.start ≡ self.old.start + stray.place) }
         ensures handed { OnOk result (self.new.handed ≡ 0) }
         ensures cause { HasCause (E.faults ear.old) (E.faults ear.new) result }
@@ -243,10 +241,10 @@ impl Tracker {
         requires open { self.old.link.is_open ≡ true }
         requires few { self.old.epochs + 1 < 2 ^ 32 }
         requires fewer { self.old.aligned ≤ self.old.epochs }
-        ensures told { (fed : Fed) → StandsFor self.old.link fed
-            → IfOk result (λ outcome. (things : List Thing) × IsLast fed outcome things × E.took ear.old ear.new things) }
-        ensures stopped { (fed : Fed) → StandsFor self.old.link fed
-            → OnErr result ((outcome : Hearing) × (things : List Thing) × IsLast fed outcome things × StopsIn E.took E.broke ear.old ear.new things) }
+        ensures reported { (fed : Fed) → SinkRepresents self.old.link fed
+            → IfOk result (λ outcome. (events : List Event) × IsLast fed outcome events × E.took ear.old ear.new events) }
+        ensures stopped { (fed : Fed) → SinkRepresents self.old.link fed
+            → OnErr result ((outcome : Hearing) × (events : List Event) × IsLast fed outcome events × StopsIn E.took E.broke ear.old ear.new events) }
         ensures begun { IfOk result (λ outcome. self.new.begun ≡ (self.old.begun || outcome.aligned)) }
         ensures epochs { OnOk result (self.new.epochs ≡ self.old.epochs + 1) }
         ensures aligned { IfOk result (λ outcome. self.new.aligned ≡ self.old.aligned + one_if outcome.aligned) }
@@ -266,7 +264,7 @@ impl Tracker {
     fn restart(&mut self)
         requires { self.old.start + self.old.handed < 2 ^ 32 }
         ensures open { self.new.link.is_open ≡ true }
-        ensures link { StandsFor self.new.link no_bits }
+        ensures link { SinkRepresents self.new.link no_bits }
         ensures bits { most_bits self.new.link ≡ 0 }
         ensures first { self.new.lanes.first.held ≡ self.old.lanes.first.held }
         ensures second { self.new.lanes.second.held ≡ self.old.lanes.second.held }
@@ -295,11 +293,11 @@ impl Tracker {
         rt: &R,
         ear: &mut E,
     ) -> Result<TrackOutcome, Failed>
-        requires settled { (fed : Fed) × (told : List Event) × IsSettled self.old fed told }
-        ensures told { (fed : Fed) (told : List Event) → IsSettled self.old fed told
-            → IfOk result (λ outcome. (last : List Event) × E.tracked ear.old ear.new last × IsTrack fed outcome.epochs outcome.aligned (told ++ last)) }
-        ensures stopped { (fed : Fed) (told : List Event) → IsSettled self.old fed told
-            → OnErr result ((epochs aligned : ℕ) × (last : List Event) × Stops E.tracked E.lost ear.old ear.new last × IsTrack fed epochs aligned (told ++ last)) }
+        requires settled { (fed : Fed) × (reported : List TrackEvent) × IsSettled self.old fed reported }
+        ensures reported { (fed : Fed) (reported : List TrackEvent) → IsSettled self.old fed reported
+            → IfOk result (λ outcome. (last : List TrackEvent) × E.tracked ear.old ear.new last × IsTrack fed outcome.epochs outcome.aligned (reported ++ last)) }
+        ensures stopped { (fed : Fed) (reported : List TrackEvent) → IsSettled self.old fed reported
+            → OnErr result ((epochs aligned : ℕ) × (last : List TrackEvent) × Stops E.tracked E.lost ear.old ear.new last × IsTrack fed epochs aligned (reported ++ last)) }
         ensures cause { HasCause (E.faults ear.old) (E.faults ear.new) result }
     {
         let left = self.lanes.longest();

@@ -11,8 +11,8 @@ returns-then-left-eq0 c = λ x long e. clean x (omega arith) (e ∙ ap kept c.if
 pub returns-in-Some : goal.returns-in-Some
 returns-in-Some c = λ x long e.
     let place = c.args.bits - 1 - c.in-Some.power in
-    let behind : c.in-Some.power ≡ length x - suc place = omega arith in
-    mended x place (omega arith) (omega arith) (omega arith) (e ∙ sym c.in-Some.ensures.some.1 ∙ ap power behind)
+    let after : c.in-Some.power ≡ length x - suc place = omega arith in
+    mended x place (omega arith) (omega arith) (omega arith) (e ∙ sym c.in-Some.ensures.some.1 ∙ ap power after)
 
 not_left : (left : ℕ) → left < 256 → (left ≡ 0 → ⊥) → (r : Remainder) → r ≡ kept left → r ≡ nothing → ⊥
 not_left left lt other r e none = other (kept_once left 0 lt (omega arith) (sym e ∙ none))

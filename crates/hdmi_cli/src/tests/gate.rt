@@ -4,7 +4,7 @@ ghost use Rattle.std.specs.Prelude.{◌<◌};
 use super::trial::{STEADY, answer_of, answer_through};
 use lane_team::Gate;
 use link_sink::LinkSink;
-use listing::LinkLister;
+use listing_writer::LinkLister;
 use outside_io::MemSink;
 use std::process::Abort;
 use std::sync::atomic::{AtomicU64, Ordering};

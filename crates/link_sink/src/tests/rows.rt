@@ -1,18 +1,18 @@
-//! Rows of three lanes, what is told of them, worked by hand from the columns that they carry, and an ear that
-//! notes what it is told.
+//! Rows of three lanes, what is told of them, and an ear that notes what it is told.
 ghost use Rattle.std.specs.Prelude.{⊤};
 
 use crate::Ear;
+use crate::tests::vectors::LANES;
 use outside_io::{Failed, NoMemory};
-use period_grammar::{Fault, Told};
+use period_grammar::{EventRef, Fault};
 use std::alloc::Global;
 use std::test::*;
 use tmds_word::{BitRow, Word};
 
-/// The kind of a thing and two of its numbers.
+/// The kind of an event and two of its numbers.
 pub type Row = [u32; 3];
 
-/// Notes the first things that it is told, but fails at one of them.
+/// Notes the first events that it is told, but fails at one of them.
 #[derive(Drop)]
 pub struct Notes {
     pub rows: [Row; 16],
@@ -54,15 +54,15 @@ fn fault_row(fault: Fault) -> Row {
     }
 }
 
-fn row_of(told: Told<'_>) -> Row {
-    match told {
-        Told::Run { value, count } => [0, u32::from(value), count],
-        Told::Line { pixels } => line_row(pixels),
-        Told::Open { sync } => [2, u32::from(sync[0]), u32::from(sync[1])],
-        Told::Packet { packet: _, column } => [3, column, 0],
-        Told::Close { sync } => [4, u32::from(sync[0]), u32::from(sync[1])],
-        Told::Fault(fault) => fault_row(fault),
-        Told::Cut { column } => [6, column, 0],
+fn row_of(event: EventRef<'_>) -> Row {
+    match event {
+        EventRef::Run { value, count } => [0, u32::from(value), count],
+        EventRef::Line { pixels } => line_row(pixels),
+        EventRef::Open { sync } => [2, u32::from(sync[0]), u32::from(sync[1])],
+        EventRef::Packet { packet: _, column } => [3, column, 0],
+        EventRef::Close { sync } => [4, u32::from(sync[0]), u32::from(sync[1])],
+        EventRef::Fault(fault) => fault_row(fault),
+        EventRef::Cut { column } => [6, column, 0],
     }
 }
 
@@ -73,8 +73,8 @@ impl Ear for Notes {
 
     ghost broke = { λ _ _ _. ⊤ };
 
-    fn hear(&mut self, told: Told<'_>) -> Result<(), Failed> {
-        let row = row_of(told);
+    fn hear(&mut self, event: EventRef<'_>) -> Result<(), Failed> {
+        let row = row_of(event);
         if self.count == self.fails_at {
             self.failed = self.failed.saturating_add(1);
             return Err(Failed);
@@ -91,26 +91,60 @@ impl Ear for Notes {
     ghost took_both = { λ _ _ _ _ _ _ _. tt };
 }
 
-/// Characters of a lane, one after another, and how often each comes.
-pub type Lane = &'static [(u16, u32)];
+/// The number of hexadecimal digits.
+fn number_of(digits: &str) -> u32 {
+    let mut number: u32 = 0;
+    for digit in digits.bytes() {
+        let value = if digit > b'9' {
+            digit.wrapping_sub(87)
+        } else {
+            digit.wrapping_sub(48)
+        };
+        number = number.wrapping_mul(16).wrapping_add(u32::from(value));
+    }
+    number
+}
 
-/// 24 control columns 00, 8 columns 04, the guard of a video period, the pixel 10 ff 00, 12 columns 00.
-pub static LANES: [Lane; 3] = [
-    &[(0x354, 32), (0x2cc, 2), (0x100, 1), (0x354, 12)],
-    &[(0x354, 24), (0x0ab, 8), (0x133, 2), (0x200, 1), (0x354, 12)],
-    &[(0x354, 32), (0x2cc, 2), (0x1f0, 1), (0x354, 12)],
-];
+/// The row of an event.
+fn tell_of(event: &str) -> Result<Row, Fail> {
+    let (name, numbers) = event.split_once(' ').ok_or("an event of no number")?;
+    let (first, second) = numbers.split_once(' ').unwrap_or((numbers, "0"));
+    let kind = match name {
+        "run" => 0,
+        "line" => return Ok([1, first.parse()?, number_of(second)]),
+        "open" => 2,
+        "packet" => 3,
+        "close" => 4,
+        "word" => 5,
+        "preamble" => 7,
+        "guard" => 8,
+        _ => return Err("an event of no kind")?,
+    };
+    Ok([kind, first.parse()?, second.parse()?])
+}
 
-/// What is told of them from twelve control columns before the guard on.
+/// The rows of events.
+pub fn tells_of(alloc: Global, events: &str) -> Result<Vec<Row>, Fail> {
+    let mut rows = Vec::new(alloc);
+    for event in events.split(", ") {
+        rows.push(tell_of(event)?)?;
+    }
+    Ok(rows)
+}
+
+/// What is told of the lanes from twelve control columns before the guard on.
 pub static TELLS: [Row; 4] = [[0, 0, 4], [0, 4, 8], [1, 3, 0x10ff00], [0, 0, 12]];
 
-/// No things.
+/// No events.
 pub static NOTHING: [Row; 0] = [];
 
 /// Adds a character as often as is asked for.
-fn push(row: &mut BitRow, number: u16, times: u32) -> Result<(), NoMemory> {
+fn push(row: &mut BitRow, number: u32, times: u32) -> Result<(), NoMemory> {
     for _ in 0..times {
-        let Some(word) = Word::new(number) else {
+        let Some(word) = u16::try_from(number)
+            .ok()
+            .and_then(|number| Word::new(number))
+        else {
             return Ok(());
         };
         if row.len() < 100000 {
@@ -121,25 +155,32 @@ fn push(row: &mut BitRow, number: u16, times: u32) -> Result<(), NoMemory> {
 }
 
 /// A lane that comes so many bits late, at most 80, and begins with so many control words.
-fn row_from(alloc: Global, skew: u32, lead: u32, lane: Lane) -> Result<BitRow, Fail> {
+fn row_from(alloc: Global, skew: u32, lead: u32, lane: &str) -> Result<BitRow, Fail> {
     let mut row = BitRow::new(alloc);
     let late = [0; 10];
     if skew <= 80 {
         row.push_bits(&late[..(skew as usize + 7) / 8], skew)?;
     }
     push(&mut row, 0x354, lead)?;
-    for (number, times) in lane {
-        push(&mut row, *number, *times)?;
+    for word in lane.split(' ') {
+        let (times, digits) = word.split_once('*').unwrap_or(("1", word));
+        push(&mut row, number_of(digits), times.parse()?)?;
     }
     Ok(row)
 }
 
-/// Three lanes as they are.
-pub fn rows_of(alloc: Global, lanes: &[Lane; 3]) -> Result<[BitRow; 3], Fail> {
+/// Three lanes, each so many bits late, with so many control columns before them.
+pub fn rows_of(
+    alloc: Global,
+    lanes: &str,
+    skews: [u32; 3],
+    lead: u32,
+) -> Result<[BitRow; 3], Fail> {
+    let mut lines = lanes.split('\n');
     Ok([
-        row_from(alloc, 0, 0, lanes[0])?,
-        row_from(alloc, 0, 0, lanes[1])?,
-        row_from(alloc, 0, 0, lanes[2])?,
+        row_from(alloc, skews[0], lead, lines.next().ok_or("no lane")?)?,
+        row_from(alloc, skews[1], lead, lines.next().ok_or("one lane")?)?,
+        row_from(alloc, skews[2], lead, lines.next().ok_or("two lanes")?)?,
     ])
 }
 
@@ -151,11 +192,7 @@ pub fn even_rows(
     lead: u32,
     bits: u32,
 ) -> Result<[BitRow; 3], Fail> {
-    let mut rows = [
-        row_from(alloc, skews[0], lead, LANES[0])?,
-        row_from(alloc, skews[1], lead, LANES[1])?,
-        row_from(alloc, skews[2], lead, LANES[2])?,
-    ];
+    let mut rows = rows_of(alloc, LANES, skews, lead)?;
     for row in rows.iter_mut() {
         push(row, 0x354, 20)?;
         if bits <= row.len() {

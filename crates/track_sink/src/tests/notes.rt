@@ -5,7 +5,7 @@ ghost use Rattle.outside_io.specs.Causes.{HasCause};
 use crate::TrackEar;
 use link_sink::Ear;
 use outside_io::Failed;
-use period_grammar::{Fault, Told};
+use period_grammar::{EventRef, Fault};
 
 /// The kind of an event and two of its numbers.
 pub type Row = [u32; 3];
@@ -56,16 +56,16 @@ fn line_row(pixels: &[u8]) -> Row {
     }
 }
 
-fn row_of(told: Told<'_>) -> Row {
-    match told {
-        Told::Run { value, count } => [0, u32::from(value), count],
-        Told::Line { pixels } => line_row(pixels),
-        Told::Open { sync } => [2, u32::from(sync[0]), u32::from(sync[1])],
-        Told::Packet { packet: _, column } => [3, column, 0],
-        Told::Close { sync } => [4, u32::from(sync[0]), u32::from(sync[1])],
-        Told::Fault(Fault::Word { lane, column }) => [5, u32::from(lane), column],
-        Told::Fault(_) => [9, 0, 0],
-        Told::Cut { column } => [6, column, 0],
+fn row_of(event: EventRef<'_>) -> Row {
+    match event {
+        EventRef::Run { value, count } => [0, u32::from(value), count],
+        EventRef::Line { pixels } => line_row(pixels),
+        EventRef::Open { sync } => [2, u32::from(sync[0]), u32::from(sync[1])],
+        EventRef::Packet { packet: _, column } => [3, column, 0],
+        EventRef::Close { sync } => [4, u32::from(sync[0]), u32::from(sync[1])],
+        EventRef::Fault(Fault::Word { lane, column }) => [5, u32::from(lane), column],
+        EventRef::Fault(_) => [9, 0, 0],
+        EventRef::Cut { column } => [6, column, 0],
     }
 }
 
@@ -76,8 +76,8 @@ impl Ear for Notes {
 
     ghost broke = { λ _ _ _. ⊤ };
 
-    fn hear(&mut self, told: Told<'_>) -> Result<(), Failed> {
-        self.note(row_of(told))
+    fn hear(&mut self, event: EventRef<'_>) -> Result<(), Failed> {
+        self.note(row_of(event))
     }
 
     ghost took_none = { λ _. tt };
@@ -98,7 +98,7 @@ impl TrackEar for Notes {
 
     ghost tracked_both = { λ _ _ _ _ _ _ _. tt };
 
-    ghost tracked_things = { λ _ _ _. (λ _. tt, λ _. tt) };
+    ghost tracked_events = { λ _ _ _. (λ _. tt, λ _. tt) };
 
-    ghost lost_thing = { λ _ _ _. (λ _. tt, λ _. tt) };
+    ghost lost_event = { λ _ _ _. (λ _. tt, λ _. tt) };
 }

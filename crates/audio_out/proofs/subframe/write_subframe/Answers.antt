@@ -1,6 +1,6 @@
 use Rattle.std.proofs.Common.{ap, sym, ◌∙◌}
 use Rattle.tmds_word.specs.Bits.{bits_of}
-use Rattle.audio_out.specs.Levels.{level_behind}
+use Rattle.audio_out.specs.Levels.{level_after}
 use Rattle.audio_out.specs.Subframes.{carries}
 use Rattle.audio_out.proofs.Joined.{seven, is_joined}
 use Rattle.audio_out.proofs.ReadBack.{both}
@@ -12,7 +12,7 @@ unfolding seven
 returns-clause-is c =
     is_joined c.args.sub.now _ _ _ _ _ _ _ _ c.requires c.preamble_byte-first.ensures
     (both _ _ c.cells-a.ensures (both _ _ c.cells-b.ensures (both _ _ c.cells-c.ensures (both _ _ c.cells-d.ensures
-    (both _ _ c.cells-e.ensures (both _ _ c.cells-f.ensures (ap (λ n. carries (level_behind c.cells-f.result) (bits_of 4 n) (bits_of 8 c.cells-g.result)) (sym c.side_bits.ensures.value) ∙ c.cells-g.ensures)))))))
+    (both _ _ c.cells-e.ensures (both _ _ c.cells-f.ensures (ap (λ n. carries (level_after c.cells-f.result) (bits_of 4 n) (bits_of 8 c.cells-g.result)) (sym c.side_bits.ensures.value) ∙ c.cells-g.ensures)))))))
 
 pub returns-clause-bytes : goal.returns-clause-bytes
 returns-clause-bytes c =

@@ -1,5 +1,5 @@
 use Rattle.std.proofs.Common.{rules, ◌≡◌, ◌∙◌, ◌+◌, arith}
-use Rattle.listing.specs.ContentText.{digit_of}
+use Rattle.listing_writer.specs.ContentText.{digit_of}
 use Rattle.biphase_listing.specs.Groups.{is_block}
 use Rattle.biphase_listing.proofs.LineDigits.{last_is}
 use Rattle.biphase_listing.proofs.frame_line.last_part.Goals as goal

@@ -1,4 +1,4 @@
-use Rattle.std.proofs.Common.{arith, ◌≡◌, ◌+◌, ◌++◌, [], ℕ, List, Bool, ◌∙◌, sym, ap, subst, append_assoc, append-nil}
+use Rattle.std.proofs.Common.{rules, arith, ◌≡◌, ◌+◌, ◌++◌, [], ℕ, List, Bool, ◌∙◌, sym, ap, subst, append_assoc, append-nil}
 use Rattle.std.specs.Prelude.{Err}
 use Rattle.std.proofs.KnownBytes.{Consumes-nil, Consumes-trans}
 use Rattle.capture_file.specs.Captures.{IsFault, IsCaptureOf, Stands, StopsIn, header_of, place_of}
@@ -51,56 +51,75 @@ loop-j-preserved g c =
       later = omega (arith, i.later, e.later);
     }
 
-pub returns-in-Err-clause-err : goal.returns-in-Err-clause-err
-returns-in-Err-clause-err g c bytes e =
-    let a = c.args.heading in
-    let head = header_of a.version a.bits in
-    let w = c.loop-j.invariant.went in
-    let s = consumed _ _ bytes w.0 e w.1 in
-    let all : (head ++ w.0) ++ s.0 ≡ head ++ bytes = append_assoc head w.0 s.0 ∙ ap (λ xs. head ++ xs) (sym s.1) in
-    faulty_as (λ fault. IsFault ((head ++ w.0) ++ s.0) fault × StopsIn a.bits c.loop-j.j (head ++ w.0) (place_of fault)) (λ fault. IsFault (head ++ bytes) fault) c.in-Err.error (λ fault h. subst (λ bs. IsFault bs fault) all h.0)
-    (c.in-Err.ensures.err s.0 (head ++ w.0) s.2 w.2)
+pub returns-in-Err : goal.returns-in-Err
+returns-in-Err g c = record {
+  blue = search rules;
+  green = search rules;
+  red = search rules;
+  ok = search rules;
+  ended = search rules;
+  err = λ bytes e.
+      let a = c.args.heading in
+      let head = header_of a.version a.bits in
+      let w = c.loop-j.invariant.went in
+      let s = consumed _ _ bytes w.0 e w.1 in
+      let all : (head ++ w.0) ++ s.0 ≡ head ++ bytes = append_assoc head w.0 s.0 ∙ ap (λ xs. head ++ xs) (sym s.1) in
+      faulty_as (λ fault. IsFault ((head ++ w.0) ++ s.0) fault × StopsIn a.bits c.loop-j.j (head ++ w.0) (place_of fault)) (λ fault. IsFault (head ++ bytes) fault) c.in-Err.error (λ fault h. subst (λ bs. IsFault bs fault) all h.0)
+      (c.in-Err.ensures.err s.0 (head ++ w.0) s.2 w.2);
+  part = λ lane place count is fits.
+      let a = c.args.heading in
+      let head = header_of a.version a.bits in
+      let w = c.loop-j.invariant.went in
+      let same : c.in-Err.error ≡ Read = cc in
+      let p = c.in-Err.ensures.part (ap Err same) in (
+        w.0 ++ p.0,
+        Consumes-trans _ _ _ w.0 p.0 w.1 p.2,
+        record {
+          version = a.version;
+          counts = a.bits;
+          block = c.loop-j.j;
+          taken = head ++ w.0;
+          more = p.0;
+          x = c.loop-j.rows.blue;
+          y = c.loop-j.rows.green;
+          z = c.loop-j.rows.red;
+          read_is = sym (append_assoc head w.0 p.0);
+          stands = w.2;
+          short = p.1;
+          fits = fits;
+        },
+      );
+  full = λ is.
+      let w = c.loop-j.invariant.went in
+      let same : c.in-Err.error ≡ WantsMemory = cc in
+      let p = c.in-Err.ensures.full (ap Err same) in
+      (w.0 ++ p.0, Consumes-trans _ _ _ w.0 p.0 w.1 p.1);
+  unplaced = search rules;
+  taken = takes_more _ _ _ (c.loop-j.invariant.went.0, c.loop-j.invariant.went.1) c.in-Err.ensures.taken;
+  unwritten = search rules;
+  caused = search rules;
+  later = search rules;
+}
 
-pub returns-in-Err-clause-part : goal.returns-in-Err-clause-part
-returns-in-Err-clause-part g c lane place count is fits =
-    let a = c.args.heading in
-    let head = header_of a.version a.bits in
-    let w = c.loop-j.invariant.went in
-    let same : c.in-Err.error ≡ Read = cc in
-    let p = c.in-Err.ensures.part (ap Err same) in (
-      w.0 ++ p.0,
-      Consumes-trans _ _ _ w.0 p.0 w.1 p.2,
-      record {
-        version = a.version;
-        counts = a.bits;
-        block = c.loop-j.j;
-        taken = head ++ w.0;
-        more = p.0;
-        x = c.loop-j.rows.blue;
-        y = c.loop-j.rows.green;
-        z = c.loop-j.rows.red;
-        read_is = sym (append_assoc head w.0 p.0);
-        stands = w.2;
-        short = p.1;
-        fits = fits;
-      },
-    )
-
-pub returns-in-Ok-false-clause-ok : goal.returns-in-Ok-false-clause-ok
-returns-in-Ok-false-clause-ok g c =
-    let a = c.args.heading in
-    let r = c.read_block.new.self in
-    let n = c.in-Ok-false.ensures.none c.in-Ok-false.field-0-test in
-    let w = c.loop-j.invariant.went in
-    let stands = subst (λ rows. Stands a.version a.bits c.loop-j.j (header_of a.version a.bits ++ w.0) rows.blue rows.green rows.red) (sym n.3) w.2 in
-    (w.0 ++ [], Consumes-trans _ _ _ w.0 [] w.1 n.1, subst (λ bs. IsCaptureOf r.blue r.green r.red (header_of a.version a.bits ++ bs)) (sym (append-nil w.0)) (ended a.bits c.loop-j.j _ _ r.blue r.green r.red stands n.0).holds)
-
-pub returns-in-Err-clause-full : goal.returns-in-Err-clause-full
-returns-in-Err-clause-full g c is =
-    let w = c.loop-j.invariant.went in
-    let same : c.in-Err.error ≡ WantsMemory = cc in
-    let p = c.in-Err.ensures.full (ap Err same) in
-    (w.0 ++ p.0, Consumes-trans _ _ _ w.0 p.0 w.1 p.1)
-
-pub returns-in-Err-clause-taken : goal.returns-in-Err-clause-taken
-returns-in-Err-clause-taken g c = takes_more _ _ _ (c.loop-j.invariant.went.0, c.loop-j.invariant.went.1) c.in-Err.ensures.taken
+pub returns-in-Ok-false : goal.returns-in-Ok-false
+returns-in-Ok-false g c = record {
+  blue = search rules;
+  green = search rules;
+  red = search rules;
+  ok =
+      let a = c.args.heading in
+      let r = c.read_block.new.self in
+      let n = c.in-Ok-false.ensures.none c.in-Ok-false.field-0-test in
+      let w = c.loop-j.invariant.went in
+      let stands = subst (λ rows. Stands a.version a.bits c.loop-j.j (header_of a.version a.bits ++ w.0) rows.blue rows.green rows.red) (sym n.3) w.2 in
+      (w.0 ++ [], Consumes-trans _ _ _ w.0 [] w.1 n.1, subst (λ bs. IsCaptureOf r.blue r.green r.red (header_of a.version a.bits ++ bs)) (sym (append-nil w.0)) (ended a.bits c.loop-j.j _ _ r.blue r.green r.red stands n.0).holds);
+  ended = search rules;
+  err = search rules;
+  part = search rules;
+  full = search rules;
+  unplaced = search rules;
+  taken = search rules;
+  unwritten = search rules;
+  caused = search rules;
+  later = search rules;
+}

@@ -40,38 +40,8 @@ known blue green red refusals x y z p q r now tap is whole short same_green same
           (l.red_is ∙ lane_same red (tap.offset + slice_index tap.skews 2) z r l.red_in short_red ez);
     }
 
-pub write_rows-requires-clause-blue : goal.write_rows-requires-clause-blue
-write_rows-requires-clause-blue g c =
-    let i = c.lanes.invariant in
-    let s = c.lanes.inside in
-    let t = c.args.tap.now in
-    let n = length c.args.lanes.now.columns in
-    (known s.blue s.green s.red s.refusals c.saturating_add.result c.saturating_add-2.result c.saturating_add-3.result c.length.result c.length-2.result c.length-3.result c.args.lanes.now t c.lanes.view_is i.whole i.short i.green i.red
-    (counted t n _ c.length.result 0 c.length.ensures c.lags-lags.ensures.blue) (counted t n _ c.length-2.result 1 c.length-2.ensures c.lags-lags.ensures.green) (counted t n _ c.length-3.result 2 c.length-3.ensures c.lags-lags.ensures.red)
-    c.saturating_add.ensures c.saturating_add-2.ensures c.saturating_add-3.ensures).has_blue
-
-pub write_rows-requires-clause-green : goal.write_rows-requires-clause-green
-write_rows-requires-clause-green g c =
-    let i = c.lanes.invariant in
-    let s = c.lanes.inside in
-    let t = c.args.tap.now in
-    let n = length c.args.lanes.now.columns in
-    (known s.blue s.green s.red s.refusals c.saturating_add.result c.saturating_add-2.result c.saturating_add-3.result c.length.result c.length-2.result c.length-3.result c.args.lanes.now t c.lanes.view_is i.whole i.short i.green i.red
-    (counted t n _ c.length.result 0 c.length.ensures c.lags-lags.ensures.blue) (counted t n _ c.length-2.result 1 c.length-2.ensures c.lags-lags.ensures.green) (counted t n _ c.length-3.result 2 c.length-3.ensures c.lags-lags.ensures.red)
-    c.saturating_add.ensures c.saturating_add-2.ensures c.saturating_add-3.ensures).has_green
-
-pub write_rows-requires-clause-red : goal.write_rows-requires-clause-red
-write_rows-requires-clause-red g c =
-    let i = c.lanes.invariant in
-    let s = c.lanes.inside in
-    let t = c.args.tap.now in
-    let n = length c.args.lanes.now.columns in
-    (known s.blue s.green s.red s.refusals c.saturating_add.result c.saturating_add-2.result c.saturating_add-3.result c.length.result c.length-2.result c.length-3.result c.args.lanes.now t c.lanes.view_is i.whole i.short i.green i.red
-    (counted t n _ c.length.result 0 c.length.ensures c.lags-lags.ensures.blue) (counted t n _ c.length-2.result 1 c.length-2.ensures c.lags-lags.ensures.green) (counted t n _ c.length-3.result 2 c.length-3.ensures c.lags-lags.ensures.red)
-    c.saturating_add.ensures c.saturating_add-2.ensures c.saturating_add-3.ensures).has_red
-
-pub returns-clause-whole : goal.returns-clause-whole
-returns-clause-whole g c =
+pub write_rows-requires : goal.write_rows-requires
+write_rows-requires g c =
     let i = c.lanes.invariant in
     let s = c.lanes.inside in
     let t = c.args.tap.now in
@@ -80,10 +50,10 @@ returns-clause-whole g c =
     known s.blue s.green s.red s.refusals c.saturating_add.result c.saturating_add-2.result c.saturating_add-3.result c.length.result c.length-2.result c.length-3.result c.args.lanes.now t c.lanes.view_is i.whole i.short i.green i.red
     (counted t n _ c.length.result 0 c.length.ensures c.lags-lags.ensures.blue) (counted t n _ c.length-2.result 1 c.length-2.ensures c.lags-lags.ensures.green) (counted t n _ c.length-3.result 2 c.length-3.ensures c.lags-lags.ensures.red)
     c.saturating_add.ensures c.saturating_add-2.ensures c.saturating_add-3.ensures in
-    rw k.same c.write_rows.ensures.whole
+    record { blue = k.has_blue; green = k.has_green; red = k.has_red }
 
-pub returns-clause-part : goal.returns-clause-part
-returns-clause-part g c =
+pub returns : goal.returns
+returns g c =
     let i = c.lanes.invariant in
     let s = c.lanes.inside in
     let t = c.args.tap.now in
@@ -92,16 +62,5 @@ returns-clause-part g c =
     known s.blue s.green s.red s.refusals c.saturating_add.result c.saturating_add-2.result c.saturating_add-3.result c.length.result c.length-2.result c.length-3.result c.args.lanes.now t c.lanes.view_is i.whole i.short i.green i.red
     (counted t n _ c.length.result 0 c.length.ensures c.lags-lags.ensures.blue) (counted t n _ c.length-2.result 1 c.length-2.ensures c.lags-lags.ensures.green) (counted t n _ c.length-3.result 2 c.length-3.ensures c.lags-lags.ensures.red)
     c.saturating_add.ensures c.saturating_add-2.ensures c.saturating_add-3.ensures in
-    rw k.same c.write_rows.ensures.part
-
-pub returns-clause-missing : goal.returns-clause-missing
-returns-clause-missing g c =
-    let i = c.lanes.invariant in
-    let s = c.lanes.inside in
-    let t = c.args.tap.now in
-    let n = length c.args.lanes.now.columns in
-    let k =
-    known s.blue s.green s.red s.refusals c.saturating_add.result c.saturating_add-2.result c.saturating_add-3.result c.length.result c.length-2.result c.length-3.result c.args.lanes.now t c.lanes.view_is i.whole i.short i.green i.red
-    (counted t n _ c.length.result 0 c.length.ensures c.lags-lags.ensures.blue) (counted t n _ c.length-2.result 1 c.length-2.ensures c.lags-lags.ensures.green) (counted t n _ c.length-3.result 2 c.length-3.ensures c.lags-lags.ensures.red)
-    c.saturating_add.ensures c.saturating_add-2.ensures c.saturating_add-3.ensures in
-    rw k.same c.write_rows.ensures.missing
+    let e = c.write_rows.ensures in
+    record { whole = rw k.same e.whole; part = rw k.same e.part; missing = rw k.same e.missing; cause = e.cause }

@@ -1,4 +1,4 @@
-use Rattle.std.proofs.Common.{arith, ◌≡◌, ℕ, ◌+◌, ◌/◌, ◌++◌, Bool, List, max, length, slice_index, ap, ◌∙◌, sym, length-append}
+use Rattle.std.proofs.Common.{arith, rules, ◌≡◌, ℕ, ◌+◌, ◌/◌, ◌++◌, Bool, List, max, length, slice_index, ap, ◌∙◌, sym, length-append}
 use Rattle.std.proofs.lemmas.Result.{err_from_is_err_and}
 use Rattle.capture_file.specs.Layout.{packed, block, blocks_below}
 use Rattle.capture_file.specs.Captures.{header_of}
@@ -15,24 +15,20 @@ parts version blue green red starts bits inner most b g r ei em =
     (length-lane blue (slice_index starts 0) (slice_index bits 0) b) (length-lane green (slice_index starts 1) (slice_index bits 1) g) (length-lane red (slice_index starts 2) (slice_index bits 2) r)
     (em ∙ ap (λ n. max (slice_index bits 0) n) ei)
 
-pub returns-in_err-gone-clause-part : goal.returns-in_err-gone-clause-part
-returns-in_err-gone-clause-part g c =
-    let a = c.args in
-    let r = c.requires in
-    let e = c.in_err-gone.ensures in
-    let p = err_from_is_err_and c.from_residual.result c.from_residual.ensures.1 in
-    let k = parts a.version a.blue.now a.green.now a.red.now a.starts a.bits c.max.result c.max-most.result r.blue r.green r.red c.max.ensures c.max-most.ensures in
-    rw (p.1, p.2) (Appends-first _ _ (header_of a.version a.bits) _ _ c.in_err-gone.field-0.0.gone k.is e.missing e.part)
-
-pub returns-in_err-gone-clause-missing : goal.returns-in_err-gone-clause-missing
-returns-in_err-gone-clause-missing g c =
+pub returns-in_err-gone : goal.returns-in_err-gone
+returns-in_err-gone g c =
     let a = c.args in
     let r = c.requires in
     let e = c.in_err-gone.ensures in
     let p = err_from_is_err_and c.from_residual.result c.from_residual.ensures.1 in
     let k = parts a.version a.blue.now a.green.now a.red.now a.starts a.bits c.max.result c.max-most.result r.blue r.green r.red c.max.ensures c.max-most.ensures in
     let rest = blocks_below (((c.max-most.result + 7) / 8 + 4095) / 4096) (packed (row_part a.blue.now a.starts a.bits 0)) (packed (row_part a.green.now a.starts a.bits 1)) (packed (row_part a.red.now a.starts a.bits 2)) in
-    rw (p.1, p.2) (omega (arith, e.missing, ap length k.is, length-append (header_of a.version a.bits) rest))
+    record {
+      whole = search rules;
+      part = rw (p.1, p.2) (Appends-first _ _ (header_of a.version a.bits) _ _ c.in_err-gone.field-0.0.gone k.is e.missing e.part);
+      missing = rw (p.1, p.2) (omega (arith, e.missing, ap length k.is, length-append (header_of a.version a.bits) rest));
+      cause = search rules;
+    }
 
 pub loop-j-init : goal.loop-j-init
 loop-j-init g c =
@@ -60,8 +56,8 @@ loop-j-preserved g c =
       later = omega (arith, i.later, c.write_block.ensures.cause.later);
     }
 
-pub returns-in-Err-clause-part : goal.returns-in-Err-clause-part
-returns-in-Err-clause-part g c =
+pub returns-in-Err : goal.returns-in-Err
+returns-in-Err g c =
     let a = c.args in
     let r = c.requires in
     let j = c.loop-j.j in
@@ -71,20 +67,13 @@ returns-in-Err-clause-part g c =
     let z = packed (row_part a.red.now a.starts a.bits 2) in
     let k = parts a.version a.blue.now a.green.now a.red.now a.starts a.bits c.max.result c.max-most.result r.blue r.green r.red c.max.ensures c.max-most.ensures in
     let more = k.after j (omega (arith, c.loop-j-test.true, c.blocks_for-j-end.ensures)) in
-    Appends-part _ _ _ (header_of a.version a.bits ++ blocks_below j x y z) (block j x y z) more.0 _ c.loop-j.gone c.in-Err.part.gone more.1 (sym i.gone) c.in-Err.ensures.missing i.grew c.in-Err.ensures.part
-
-pub returns-in-Err-clause-missing : goal.returns-in-Err-clause-missing
-returns-in-Err-clause-missing g c =
-    let a = c.args in
-    let r = c.requires in
-    let j = c.loop-j.j in
-    let x = packed (row_part a.blue.now a.starts a.bits 0) in
-    let y = packed (row_part a.green.now a.starts a.bits 1) in
-    let z = packed (row_part a.red.now a.starts a.bits 2) in
-    let k = parts a.version a.blue.now a.green.now a.red.now a.starts a.bits c.max.result c.max-most.result r.blue r.green r.red c.max.ensures c.max-most.ensures in
-    let more = k.after j (omega (arith, c.loop-j-test.true, c.blocks_for-j-end.ensures)) in
     let front = header_of a.version a.bits ++ blocks_below j x y z in
-    omega (arith, c.in-Err.ensures.missing, c.loop-j.invariant.gone, ap length more.1, length-append (front ++ block j x y z) more.0, length-append front (block j x y z))
+    record {
+      whole = search rules;
+      part = Appends-part _ _ _ front (block j x y z) more.0 _ c.loop-j.gone c.in-Err.part.gone more.1 (sym i.gone) c.in-Err.ensures.missing i.grew c.in-Err.ensures.part;
+      missing = omega (arith, c.in-Err.ensures.missing, i.gone, ap length more.1, length-append (front ++ block j x y z) more.0, length-append front (block j x y z));
+      cause = search rules;
+    }
 
 pub returns-clause-whole : goal.returns-clause-whole
 returns-clause-whole g c =

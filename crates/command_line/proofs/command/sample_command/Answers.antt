@@ -1,7 +1,7 @@
 use Rattle.std.proofs.Common.{rules, ◌≡◌, ◌∙◌, sym, arith, refl, None, Bor, [], get_or, ◌∷◌}
 use Rattle.std.proofs.lemmas.Option.{none-some, same_Some}
 use Rattle.command_line.specs.Grammar.{Text, texts}
-use Rattle.command_line.proofs.Triples.{number_told}
+use Rattle.command_line.proofs.Triples.{number_reported}
 use Rattle.command_line.proofs.Meanings.{one_text, no_sample}
 use Rattle.command_line.proofs.command.sample_command.Goals as goal
 
@@ -18,7 +18,7 @@ returns-in_err-frames c =
 pub returns-then-frames-ge-FEWEST_FRAMES : goal.returns-then-frames-ge-FEWEST_FRAMES
 returns-then-frames-ge-FEWEST_FRAMES c =
     let one : texts c.args.operands.now ≡ (get_or c.args.operands.now 0 nothing).now ∷ [] = one_text c.args.operands.now nothing (omega arith) (omega arith) in
-    (refl, ((get_or c.args.operands.now 0 nothing).now, one, number_told 20 (get_or c.args.operands.now 0 nothing).now c.in_ok-frames.frames (sym c.read_number.ensures ∙ c.in_ok-frames.was), omega arith), refl)
+    (refl, ((get_or c.args.operands.now 0 nothing).now, one, number_reported 20 (get_or c.args.operands.now 0 nothing).now c.in_ok-frames.frames (sym c.read_number.ensures ∙ c.in_ok-frames.was), omega arith), refl)
 
 pub returns-else-frames-ge-FEWEST_FRAMES : goal.returns-else-frames-ge-FEWEST_FRAMES
 returns-else-frames-ge-FEWEST_FRAMES c =

@@ -1,6 +1,6 @@
 use Rattle.std.proofs.Common.{rules, ◌≡◌, ◌∙◌, sym, arith, refl, None, Bor, [], get_or, ◌∷◌}
 use Rattle.command_line.specs.Grammar.{Text, texts}
-use Rattle.command_line.proofs.SlipTexts.{slip_told}
+use Rattle.command_line.proofs.SlipTexts.{slip_reported}
 use Rattle.command_line.proofs.Meanings.{one_text, no_slip}
 use Rattle.command_line.proofs.command.slip_command.Goals as goal
 
@@ -16,4 +16,4 @@ returns-in_err-slip c =
 pub returns : goal.returns
 returns c =
     let one : texts c.args.operands.now ≡ (get_or c.args.operands.now 0 nothing).now ∷ [] = one_text c.args.operands.now nothing (omega arith) (omega arith) in
-    (refl, ((get_or c.args.operands.now 0 nothing).now, one, slip_told (get_or c.args.operands.now 0 nothing).now c.in_ok-slip.slip (sym c.read_slip.ensures ∙ c.in_ok-slip.was)), refl)
+    (refl, ((get_or c.args.operands.now 0 nothing).now, one, slip_reported (get_or c.args.operands.now 0 nothing).now c.in_ok-slip.slip (sym c.read_slip.ensures ∙ c.in_ok-slip.was)), refl)

@@ -7,12 +7,12 @@ use Rattle.period_grammar.proofs.Leads.{no_notes}
 use Rattle.dvi_hearing.proofs.Phases.{on_control, on_pixels, control_stands, pixels_stand}
 use Rattle.dvi_hearing.proofs.phase.go_on.Goals as goal
 
-pub returns-in-Control-clause-told : goal.returns-in-Control-clause-told
-returns-in-Control-clause-told c x b whole was =
-    on_control c.args.kept.now c.args.line.now c.args.n _ (column_of c.args.column.now) (λ control h. c.tell_run.ensures.told control (lent c.hear.new.self.bytes whole) h) x b (subst (λ (p : Phase). IsStretchAfter p c.args.kept.now c.args.line.now c.args.n x) c.in-Control.is was)
+pub returns-in-Control-clause-reported : goal.returns-in-Control-clause-reported
+returns-in-Control-clause-reported c x b whole was =
+    on_control c.args.kept.now c.args.line.now c.args.n _ (column_of c.args.column.now) (λ control h. c.tell_run.ensures.reported control (lent c.hear.new.self.bytes whole) h) x b (subst (λ (p : Phase). IsStretchAfter p c.args.kept.now c.args.line.now c.args.n x) c.in-Control.is was)
 
-pub returns-in-Pixels-clause-told : goal.returns-in-Pixels-clause-told
-returns-in-Pixels-clause-told c x b whole was =
+pub returns-in-Pixels-clause-reported : goal.returns-in-Pixels-clause-reported
+returns-in-Pixels-clause-reported c x b whole was =
     on_pixels c.args.kept.now c.args.line.now c.args.n _ (column_of c.args.column.now) _ (no_notes _ _ c.requires.room) x b (subst (λ (p : Phase). IsStretchAfter p c.args.kept.now c.args.line.now c.args.n x) c.in-Pixels.is was)
 
 pub returns-in-Control-clause-stands : goal.returns-in-Control-clause-stands

@@ -70,7 +70,7 @@ returns-in-Ok-clause-heard g c =
     let ear = c.args.ear.now in
     let head = heard_head g.H.Hears.grammar g.H.Hears.goes_on g.E.Ear.took r.version r.bits r.block (left old) (left r.source.now) c.args.sink.now ear (g.met.E.Ear.took_none ear) c.requires.fresh c.in_default.ensures.ok in
     let h = heard_whole g.H.Hears.grammar g.H.Hears.goes_on g.E.Ear.took g.met.E.Ear.took_both (left old) (left new) c.hear_blocks.new.sink c.in-Ok.outcome ear c.hear_blocks.new.ear c.finish.new.ear
-    (c.in_ok-hear_blocks.ensures.whole (left old) ear head) c.in_ok-hear_blocks.ensures.ended c.in-Ok.ensures.told in
+    (c.in_ok-hear_blocks.ensures.whole (left old) ear head) c.in_ok-hear_blocks.ensures.ended c.in-Ok.ensures.reported in
     (h.0, h.1, h.2, h.3, λ bytes is. h.4 bytes (ap left c.new-reader.ensures.source ∙ is))
 
 pub returns-in-Err-finish-clause-broken : goal.returns-in-Err-finish-clause-broken

@@ -3,9 +3,9 @@ use Rattle.capture_file.specs.declared.writing.Tap.{Tap}
 use Rattle.hdmi_cli.specs.Endings.{Devices, IsAnswered, StreamEnds}
 use Rattle.command_line.specs.declared.command.Command.TheVariants.{MakeDvi}
 use Rattle.hdmi_cli.specs.declared.ending.Ending.TheVariants.{Listing}
-use Rattle.listing.specs.declared.fault.ListFault.{ListFault}
-use Rattle.listing.specs.LineSteps.{accepts}
-use Rattle.listing.specs.DviReading.{dvi_reads_as}
+use Rattle.listing_reader.specs.declared.fault.ListFault.{ListFault}
+use Rattle.listing_reader.specs.LineSteps.{accepts}
+use Rattle.listing_reader.specs.DviReading.{dvi_reads_as}
 use Rattle.source_end.specs.DviPeriods.{DviSpells}
 use Rattle.hdmi_cli.specs.Commands.{tap_asked}
 use Rattle.hdmi_cli.proofs.Answered.{bad_listing, dvi_refused, stream_ends, makes_dvi}
@@ -16,18 +16,18 @@ returns-in-Err-Bad-clause-ends g c =
     let before : Devices = record { left = g.S.Source.left c.args.input.now; input_faults = g.S.Source.faults c.args.input.now; held = g.K.Sink.held c.args.output.now; output_faults = g.K.Sink.faults c.args.output.now } in
     let after : Devices = record { left = g.S.Source.left c.read_dvi.new.source; input_faults = g.S.Source.faults c.read_dvi.new.source; held = g.K.Sink.held c.args.output.now; output_faults = g.K.Sink.faults c.args.output.now } in (
       search rules,
-      λ text told.
+      λ text reported.
           subst (λ (f : ListFault). IsAnswered (MakeDvi c.args.words.now) (Listing f) before after text) (sym c.in-Err-Bad.fault-is)
-          (dvi_refused c.args.words.now c.in-Err-Bad.fault before after text (bad_listing _ c.read_dvi.result c.in-Err-Bad.field-0 c.in-Err-Bad.fault (c.read_dvi.ensures.answers text told) c.in-Err-Bad.is c.in-Err-Bad.field-0-is) refl),
+          (dvi_refused c.args.words.now c.in-Err-Bad.fault before after text (bad_listing _ c.read_dvi.result c.in-Err-Bad.field-0 c.in-Err-Bad.fault (c.read_dvi.ensures.answers text reported) c.in-Err-Bad.is c.in-Err-Bad.field-0-is) refl),
     )
 
 pub returns-in-Ok-clause-ends : goal.returns-in-Ok-clause-ends
 returns-in-Ok-clause-ends g c =
     let before : Devices = record { left = g.S.Source.left c.args.input.now; input_faults = g.S.Source.faults c.args.input.now; held = g.K.Sink.held c.args.output.now; output_faults = g.K.Sink.faults c.args.output.now } in
     let after : Devices = record { left = g.S.Source.left c.read_dvi.new.source; input_faults = g.S.Source.faults c.read_dvi.new.source; held = g.K.Sink.held c.write_dvi.new.output; output_faults = g.K.Sink.faults c.write_dvi.new.output } in
-    let accepted : (text : List ℕ) → before.left ≡ Some text → dvi_reads_as text ≡ accepts c.in-Ok.stream = λ text told. search rules in
+    let accepted : (text : List ℕ) → before.left ≡ Some text → dvi_reads_as text ≡ accepts c.in-Ok.stream = λ text reported. search rules in
     stream_ends DviSpells (MakeDvi c.args.words.now) (tap_asked c.args.words.now) c.in-Ok.stream c.write_dvi.result before after
-    (λ text o told made. makes_dvi c.args.words.now c.in-Ok.stream text o (accepted text told) made) (λ parts. parts) (λ reads. reads) (search rules) (subst (λ (t : Tap). StreamEnds DviSpells t c.in-Ok.stream c.write_dvi.result (g.K.Sink.held c.args.output.now) (g.K.Sink.held c.write_dvi.new.output) (g.K.Sink.faults c.args.output.now) (g.K.Sink.faults c.write_dvi.new.output)) c.tap_of.ensures c.write_dvi.ensures.ends)
+    (λ text o reported made. makes_dvi c.args.words.now c.in-Ok.stream text o (accepted text reported) made) (λ parts. parts) (λ reads. reads) (search rules) (subst (λ (t : Tap). StreamEnds DviSpells t c.in-Ok.stream c.write_dvi.result (g.K.Sink.held c.args.output.now) (g.K.Sink.held c.write_dvi.new.output) (g.K.Sink.faults c.args.output.now) (g.K.Sink.faults c.write_dvi.new.output)) c.tap_of.ensures c.write_dvi.ensures.ends)
 
 pub returns-in-Ok-clause-taken : goal.returns-in-Ok-clause-taken
 returns-in-Ok-clause-taken g c = c.read_dvi.ensures.taken

@@ -10,7 +10,7 @@ returns-in-Ok-clause-ends g c = λ command lists.
     let l = g.L.Lister in
     let first = c.args.lister.now in
     let heard = c.in-Ok.ensures.heard in
-    let fresh = c.requires.told in
+    let fresh = c.requires.reported in
     let took = heard.3 in
     let grows = (m.writes first fresh).grows c.hear_capture.new.ear heard.1 took in
     subst (λ (e : Ending). Ends command e (seen (g.S.Source.left c.args.input.now) (g.S.Source.faults c.args.input.now) (l.held first) (g.L.Ear.faults first)) (seen (g.S.Source.left c.hear_capture.new.input) (g.S.Source.faults c.hear_capture.new.input) (l.held c.end.new.self) (g.L.Ear.faults c.end.new.self))) (sym c.judged.ensures)
@@ -29,7 +29,7 @@ returns-in-Ok-2-clause-ends g c = λ command lists.
     let heard = c.in-Ok-2.ensures.heard in
     let not : c.in-Ok-2.field-0.aligned ≡ false = search rules in
     nowhere_ends g.H.Hears.grammar (l.listing first) (l.after first) (l.last first) command heard.0 c.in-Ok-2.field-0 heard.1 _ _ lists (m.is_text first) heard.2 not heard.4 (search rules)
-    ((m.writes first c.requires.told).grows c.hear_capture.new.ear heard.1 heard.3)
+    ((m.writes first c.requires.reported).grows c.hear_capture.new.ear heard.1 heard.3)
 
 pub returns-in-Ok-2-clause-same : goal.returns-in-Ok-2-clause-same
 returns-in-Ok-2-clause-same g c = g.met.L.Lister.keeps c.args.lister.now c.hear_capture.new.ear c.in-Ok-2.ensures.heard.1 c.in-Ok-2.ensures.heard.3
@@ -43,7 +43,7 @@ returns-in-Err-clause-ends g c = λ command lists.
     first c.hear_capture.new.ear (g.L.Ear.faults first) (g.L.Ear.faults c.hear_capture.new.ear) c.in-Err.error =
     record { bad = c.in-Err.ensures.bad; read = c.in-Err.ensures.read; broken = c.in-Err.ensures.broken } in
     subst (λ (e : Ending). Ends command e (seen (g.S.Source.left c.args.input.now) (g.S.Source.faults c.args.input.now) (l.held first) (g.L.Ear.faults first)) (seen (g.S.Source.left c.hear_capture.new.input) (g.S.Source.faults c.hear_capture.new.input) (l.held c.hear_capture.new.ear) (g.L.Ear.faults c.hear_capture.new.ear))) (sym c.unheard.ensures)
-    (unheard_ends g.H.Hears.grammar (l.listing first) (l.after first) (l.last first) command _ _ l.held g.L.Ear.faults _ _ _ _ first c.hear_capture.new.ear c.in-Err.error lists (m.is_text first) (m.writes first c.requires.told) unheard)
+    (unheard_ends g.H.Hears.grammar (l.listing first) (l.after first) (l.last first) command _ _ l.held g.L.Ear.faults _ _ _ _ first c.hear_capture.new.ear c.in-Err.error lists (m.is_text first) (m.writes first c.requires.reported) unheard)
 
 pub returns-in-Err-clause-same : goal.returns-in-Err-clause-same
 returns-in-Err-clause-same g c =

@@ -33,7 +33,7 @@ returns-in-Err-Bad-clause-ends g c =
     let after = seen (g.S.Source.left c.hear_capture.new.input) (g.S.Source.faults c.hear_capture.new.input) (g.K.Sink.held c.args.output.now) (g.K.Sink.faults c.args.output.now) in
     subst (λ (f : CaptureFault). Ends Relay (Capture f) before after) (sym c.in-Err-Bad.fault-is)
     (refused_sent c.in-Err-Bad.fault c.open-relay.result c.hear_capture.new.ear before after c.open-relay.ensures.stands (keeps_itself (g.K.Sink.held c.args.output.now))
-    (λ bytes told. c.in-Err-Bad.ensures.bad bytes c.in-Err-Bad.fault told c.in-Err-Bad.field-0-is))
+    (λ bytes reported. c.in-Err-Bad.ensures.bad bytes c.in-Err-Bad.fault reported c.in-Err-Bad.field-0-is))
 
 pub returns-clause-ends : goal.returns-clause-ends
 returns-clause-ends g c =

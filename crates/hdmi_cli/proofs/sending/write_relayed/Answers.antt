@@ -7,11 +7,11 @@ use Rattle.hdmi_cli.proofs.Relaying.{marked_ends}
 use Rattle.hdmi_cli.proofs.sending.write_relayed.Goals as goal
 
 pub returns-clause-ends : goal.returns-clause-ends
-returns-clause-ends g c = λ things stands.
+returns-clause-ends g c = λ events stands.
     let old = g.K.Sink.held c.args.output.now in
     let new = g.K.Sink.held c.write_stream.new.output in
     let before = g.K.Sink.faults c.args.output.now in
     let after = g.K.Sink.faults c.write_stream.new.output in
-    subst (λ (e : Ending). RelayEnds things e old new before after) (sym c.marked.ensures)
-    (marked_ends c.is_faulty-faulty.result things c.in-Ok.stream c.write_stream.result old new before after (c.in-Ok.ensures things stands) (c.is_faulty-faulty.ensures ∙ stands.faulty)
+    subst (λ (e : Ending). RelayEnds events e old new before after) (sym c.marked.ensures)
+    (marked_ends c.is_faulty-faulty.result events c.in-Ok.stream c.write_stream.result old new before after (c.in-Ok.ensures events stands) (c.is_faulty-faulty.ensures ∙ stands.faulty)
     (subst (λ (t : Tap). StreamEnds Spells t c.in-Ok.stream c.write_stream.result old new before after) c.whole.ensures c.write_stream.ensures.ends))

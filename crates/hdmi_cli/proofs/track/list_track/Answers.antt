@@ -1,5 +1,5 @@
 use Rattle.std.proofs.Common.{rules, ◌≡◌, ◌∙◌, ◌≤◌, ℕ, sym, ap, subst, arith}
-use Rattle.listing.specs.Texts.{counted}
+use Rattle.listing_writer.specs.Texts.{counted}
 use Rattle.command_line.specs.declared.command.Command.TheVariants.{RecoverTrack}
 use Rattle.hdmi_cli.specs.Endings.{Ends, heard_ending, judged_ending, seen}
 use Rattle.hdmi_cli.specs.TrackText.{track_faults}
@@ -7,7 +7,7 @@ use Rattle.hdmi_cli.specs.declared.ending.Ending.{Ending}
 use Rattle.hdmi_cli.specs.declared.ending.Ending.TheVariants.{Unaligned}
 use Rattle.hdmi_cli.specs.declared.track_lister.TrackLister.{TrackLister}
 use Rattle.hdmi_cli.proofs.Listings.{between}
-use Rattle.hdmi_cli.proofs.Tracked.{WritesEvents, aligned_ends, kept_short, short_ends, unaligned_ends}
+use Rattle.hdmi_cli.proofs.Tracked.{WritesTrackEvents, aligned_ends, kept_short, short_ends, unaligned_ends}
 use Rattle.hdmi_cli.proofs.track.list_track.Goals as goal
 
 pub returns-in-Ok-clause-ends : goal.returns-in-Ok-clause-ends
@@ -36,7 +36,7 @@ returns-in-Err-clause-ends g c =
     let first : TrackLister g.row.K.Denot = record { lister = c.open.result } in
     let kept = kept_short _ _ (λ (l : TrackLister g.row.K.Denot). l.lister.sink.ghost_name) (λ x y h t. t.0) (λ x y e l. l.0) _ _ first c.follow_capture.new.ear c.in-Err.error c.in-Err.ensures.short in
     let same : c.in-Err.output-in-Err-1-own.given.0 ≡ c.follow_capture.new.ear.lister.sink.now = c.in-Err.output-in-Err-1-own.given.1 (sym (kept ∙ c.open.ensures.same)) in
-    let writes : WritesEvents _ _ (λ (l : TrackLister g.row.K.Denot). g.K.Sink.held l.lister.sink.now) = record { grows = λ x y h t. t.2; breaks = λ x y e l. l.2 } in
+    let writes : WritesTrackEvents _ _ (λ (l : TrackLister g.row.K.Denot). g.K.Sink.held l.lister.sink.now) = record { grows = λ x y h t. t.2; breaks = λ x y e l. l.2 } in
     subst (λ (e : Ending). Ends RecoverTrack e (seen (g.S.Source.left c.args.input.now) (g.S.Source.faults c.args.input.now) (g.K.Sink.held c.args.output.now) (g.K.Sink.faults c.args.output.now)) (seen (g.S.Source.left c.follow_capture.new.input) (g.S.Source.faults c.follow_capture.new.input) (g.K.Sink.held c.in-Err.output-in-Err-1-own.given.0) (g.K.Sink.faults c.in-Err.output-in-Err-1-own.given.0))) (sym c.unheard.ensures)
     (between (λ x y. Ends RecoverTrack (heard_ending c.in-Err.error) (seen (g.S.Source.left c.args.input.now) (g.S.Source.faults c.args.input.now) (g.K.Sink.held x) (g.K.Sink.faults x)) (seen (g.S.Source.left c.follow_capture.new.input) (g.S.Source.faults c.follow_capture.new.input) (g.K.Sink.held y) (g.K.Sink.faults y))) c.args.output.now _ _ _ c.open.ensures.sink same
     (short_ends _ _ (λ (l : TrackLister g.row.K.Denot). g.K.Sink.held l.lister.sink.now) (λ (l : TrackLister g.row.K.Denot). g.K.Sink.faults l.lister.sink.now) _ _ _ _ first c.follow_capture.new.ear c.in-Err.error writes c.in-Err.ensures.short c.in-Err.ensures.caused))

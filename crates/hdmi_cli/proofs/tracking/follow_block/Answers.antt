@@ -22,7 +22,7 @@ returns-in-Ok-clause-heard g c =
     let b = c.in-Ok-Some.block in
     let gone : Consumes (g.S.Source.left o.source.now) (g.S.Source.left v.source.now) ((b.a.now ++ b.b.now) ++ b.c.now) = search rules in
     λ from first h _.
-    followed_more g.E.TrackEar.tracked g.met.E.TrackEar.tracked_both o.version o.bits o.block from (g.S.Source.left o.source.now) (g.S.Source.left v.source.now) c.args.sink.now c.feed.new.self b.a.now b.b.now b.c.now b.bits first c.args.ear.now c.feed.new.ear h gone (λ taken x y z s. some_of _ _ _ (c.in-Ok-Some.ensures.stands taken x y z s) c.in-Ok-Some.field-0-is) c.in-Ok.ensures.told
+    followed_more g.E.TrackEar.tracked g.met.E.TrackEar.tracked_both o.version o.bits o.block from (g.S.Source.left o.source.now) (g.S.Source.left v.source.now) c.args.sink.now c.feed.new.self b.a.now b.b.now b.c.now b.bits first c.args.ear.now c.feed.new.ear h gone (λ taken x y z s. some_of _ _ _ (c.in-Ok-Some.ensures.stands taken x y z s) c.in-Ok-Some.field-0-is) c.in-Ok.ensures.reported
 
 pub returns-in-Err-feed-clause-short : goal.returns-in-Err-feed-clause-short
 returns-in-Err-feed-clause-short g c =

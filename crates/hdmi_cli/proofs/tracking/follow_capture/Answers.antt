@@ -17,7 +17,7 @@ returns-in-Ok-clause-heard g c =
     let ear = c.args.ear.now in
     let head = followed_head g.E.TrackEar.tracked r.version r.bits r.block (left old) (left r.source.now) c.args.sink.now ear (g.met.E.TrackEar.tracked_none ear) c.requires.fresh c.in_default.ensures.ok in
     let h = followed_whole g.E.TrackEar.tracked g.met.E.TrackEar.tracked_both (left old) (left new) c.follow_blocks.new.sink c.in-Ok.outcome.epochs c.in-Ok.outcome.aligned ear c.follow_blocks.new.ear c.finish.new.ear
-    (c.in_ok-follow_blocks.ensures.whole (left old) ear head) c.in_ok-follow_blocks.ensures.ended c.in-Ok.ensures.told in
+    (c.in_ok-follow_blocks.ensures.whole (left old) ear head) c.in_ok-follow_blocks.ensures.ended c.in-Ok.ensures.reported in
     (h.0, h.1, h.2, h.3, λ bytes is. h.4 bytes (ap left c.new-reader.ensures.source ∙ is))
 
 pub returns-in-Err-finish-clause-short : goal.returns-in-Err-finish-clause-short

@@ -1,6 +1,6 @@
 use Rattle.std.proofs.Common.{◌≡◌, ℕ, Bool, List, [], ◌∷◌, ◌++◌, length, take, drop, map, get_or, ap, ap₂, sym, subst, ◌∙◌, arith}
 use Rattle.std.proofs.lemmas.List.{drop_all}
-use Rattle.bch_block.specs.Bits.{bit, byte_bits, bits_of}
+use Rattle.bch_block.specs.Bits.{bit, byte_bits, bits_of_bytes}
 use Rattle.bch_block.specs.Repair.{IsVerdict}
 use Rattle.island_pack.specs.Taken.{after}
 use Rattle.island_pack.proofs.Parts.{four, map_part}
@@ -14,7 +14,7 @@ returns-clause-taken c =
     let f : ℕ → Bool = λ n. bit n 2 in
     let rest : map f (drop 24 blue) ≡ byte_bits c.header_byte-4.result ++ [] =
     map_part f blue 24 8 ∙ ap₂ (λ xs (ys : List ℕ). xs ++ map f ys) (sym c.header_byte-4.ensures) (drop_all 32 blue (omega (arith, c.told-blue))) in
-    let bits : map f blue ≡ bits_of (c.header_byte.result ∷ c.header_byte-2.result ∷ c.header_byte-3.result ∷ c.header_byte-4.result ∷ []) =
+    let bits : map f blue ≡ bits_of_bytes (c.header_byte.result ∷ c.header_byte-2.result ∷ c.header_byte-3.result ∷ c.header_byte-4.result ∷ []) =
     map_part f blue 0 8
     ∙ ap₂ (λ xs ys. xs ++ ys) (sym c.header_byte.ensures)
     (map_part f blue 8 8
@@ -25,8 +25,8 @@ returns-clause-taken c =
     taken (map f blue) c.header_in.result 3 c.repair32-verdict.result
     (subst (λ x. IsVerdict x c.repair32-verdict.result) (sym bits) c.repair32-verdict.ensures.verdict)
     (ap length first)
-    (ap bits_of first
-    ∙ sym (ap (λ (ys : List ℕ). take 24 (bits_of ys)) (four new c.repair32-verdict.array_long))
+    (ap bits_of_bytes first
+    ∙ sym (ap (λ (ys : List ℕ). take 24 (bits_of_bytes ys)) (four new c.repair32-verdict.array_long))
     ∙ ap (take 24) (repaired _ new c.repair32-verdict.result c.repair32-verdict.ensures.after)
     ∙ ap (λ x. take 24 (after x c.repair32-verdict.result)) (sym bits))
 

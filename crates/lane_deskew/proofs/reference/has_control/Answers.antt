@@ -5,8 +5,8 @@ use Rattle.lane_deskew.proofs.reference.has_control.Goals as goal
 
 pub returns-in-Some : goal.returns-in-Some
 returns-in-Some c =
-    let told = c.in-Some.ensures in
-    control_here c.args.row.now c.args.p c.in-Some.word c.is_control_word.result (λ short. let e = told.none.1 short in cc) told.some
+    let reported = c.in-Some.ensures in
+    control_here c.args.row.now c.args.p c.in-Some.word c.is_control_word.result (λ short. let e = reported.none.1 short in cc) reported.some
     (c.is_control_word.ensures ∙ ap is_control c.value.ensures.value)
 
 pub returns-in-None : goal.returns-in-None

@@ -15,7 +15,7 @@ returns-in_err-j-clause-stopped g c =
     on_err {P = (cs : List Column) → g.H.Hears.goes_on c.args.hearing.now cs → StoppedIn g.H.Hears.grammar g.E.Ear.took g.E.Ear.broke c.args.ear.now c.hear_part.new.ear cs all} _ (λ cs was.
     subst (λ (ds : List Column). StoppedIn g.H.Hears.grammar g.E.Ear.took g.E.Ear.broke c.args.ear.now c.hear_part.new.ear cs ds)
     (ap (λ ds. take j all ++ ds) c.from.ensures ∙ take-append-drop j all)
-    (stopped_parts g.H.Hears.grammar g.E.Ear.took g.E.Ear.broke g.met.E.Ear.took_both _ _ _ cs (take j all) _ (c.loop-j.invariant.told cs was)
+    (stopped_parts g.H.Hears.grammar g.E.Ear.took g.E.Ear.broke g.met.E.Ear.took_both _ _ _ cs (take j all) _ (c.loop-j.invariant.reported cs was)
     (c.in_err-j.ensures.stopped (cs ++ take j all) (c.loop-j.invariant.stands cs was))))
 
 pub loop-j-preserved : goal.loop-j-preserved
@@ -29,10 +29,10 @@ loop-j-preserved g c =
       stands = λ cs was.
           subst (λ (ds : List Column). g.H.Hears.goes_on c.hear_part.new.hearing ds) (append_assoc cs (take j all) _ ∙ ap (λ ds. cs ++ ds) more)
           (c.in_ok-j.ensures.heard (cs ++ take j all) (c.loop-j.invariant.stands cs was));
-      told = λ cs was.
+      reported = λ cs was.
           subst (λ (ds : List Column). TookMore g.H.Hears.grammar g.E.Ear.took c.args.ear.now c.hear_part.new.ear cs ds) more
-          (took_parts g.H.Hears.grammar g.E.Ear.took g.met.E.Ear.took_both _ _ _ cs (take j all) _ (c.loop-j.invariant.told cs was)
-          (c.in_ok-j.ensures.told (cs ++ take j all) (c.loop-j.invariant.stands cs was)));
+          (took_parts g.H.Hears.grammar g.E.Ear.took g.met.E.Ear.took_both _ _ _ cs (take j all) _ (c.loop-j.invariant.reported cs was)
+          (c.in_ok-j.ensures.reported (cs ++ take j all) (c.loop-j.invariant.stands cs was)));
       later = omega (arith, c.loop-j.invariant.later, c.hear_part.ensures.cause.later);
     }
 
@@ -41,10 +41,10 @@ returns-clause-heard g c = λ cs was.
     subst (λ (ds : List Column). g.H.Hears.goes_on c.loop-j.hearing (cs ++ ds)) (take_all c.loop-j.j (columns_in c.args.columns) (omega (arith, c.loop-j-test.false)))
     (c.loop-j.invariant.stands cs was)
 
-pub returns-clause-told : goal.returns-clause-told
-returns-clause-told g c = λ cs was.
+pub returns-clause-reported : goal.returns-clause-reported
+returns-clause-reported g c = λ cs was.
     subst (λ (ds : List Column). TookMore g.H.Hears.grammar g.E.Ear.took c.args.ear.now c.loop-j.ear cs ds) (take_all c.loop-j.j (columns_in c.args.columns) (omega (arith, c.loop-j-test.false)))
-    (c.loop-j.invariant.told cs was)
+    (c.loop-j.invariant.reported cs was)
 
 pub hear_part-requires-clause-few : goal.hear_part-requires-clause-few
 hear_part-requires-clause-few g c =

@@ -9,15 +9,15 @@ use Rattle.link_sink.proofs.Growing.{call_sized, took_next, stopped_next}
 use Rattle.link_sink.proofs.Parts.{length-take-most, took_quiet}
 use Rattle.link_sink.proofs.columns.hear_part.Goals as goal
 
-pub returns-then-went-len-clause-told : goal.returns-then-went-len-clause-told
-returns-then-went-len-clause-told g c = λ cs was. took_quiet g.H.Hears.grammar g.E.Ear.took _ cs _ (g.met.E.Ear.took_none _) (c.hear_while-went.ensures.told cs was)
+pub returns-then-went-len-clause-reported : goal.returns-then-went-len-clause-reported
+returns-then-went-len-clause-reported g c = λ cs was. took_quiet g.H.Hears.grammar g.E.Ear.took _ cs _ (g.met.E.Ear.took_none _) (c.hear_while-went.ensures.reported cs was)
 
 pub tell-requires : goal.tell-requires
 tell-requires g c =
     let all = columns_in c.args.columns in
     let cs = c.requires.heard.0 ++ take c.hear_while-went.result all in
     let stands = c.hear_while-went.ensures.heard c.requires.heard.0 c.requires.heard.1 in
-    record { sized = call_sized g.H.Hears.grammar g.met.H.Hears.is_grammar cs _ _ (c.hear.ensures.told cs stands) }
+    record { sized = call_sized g.H.Hears.grammar g.met.H.Hears.is_grammar cs _ _ (c.hear.ensures.reported cs stands) }
 
 pub returns-in_err-tell-clause-stopped : goal.returns-in_err-tell-clause-stopped
 returns-in_err-tell-clause-stopped g c =
@@ -28,8 +28,8 @@ returns-in_err-tell-clause-stopped g c =
     on_err {P = (cs : List Column) → g.H.Hears.goes_on c.args.hearing.now cs → StoppedIn g.H.Hears.grammar g.E.Ear.took g.E.Ear.broke c.args.ear.now c.tell.new.ear cs all} _ (λ cs was.
     subst (λ (ds : List Column). StoppedIn g.H.Hears.grammar g.E.Ear.took g.E.Ear.broke c.args.ear.now c.tell.new.ear cs ds) (take-append-drop (went + 1) all)
     (stopped_next g.H.Hears.grammar g.met.H.Hears.is_grammar g.E.Ear.took g.E.Ear.broke g.met.E.Ear.took_both _ _ _ cs part (take (went + 1) all) (drop (went + 1) all) _ _ more
-    (c.hear.ensures.told (cs ++ part) (c.hear_while-went.ensures.heard cs was))
-    (took_quiet g.H.Hears.grammar g.E.Ear.took _ cs part (g.met.E.Ear.took_none _) (c.hear_while-went.ensures.told cs was)) c.in_err-tell.ensures.err))
+    (c.hear.ensures.reported (cs ++ part) (c.hear_while-went.ensures.heard cs was))
+    (took_quiet g.H.Hears.grammar g.E.Ear.took _ cs part (g.met.E.Ear.took_none _) (c.hear_while-went.ensures.reported cs was)) c.in_err-tell.ensures.err))
 
 pub returns-clause-heard : goal.returns-clause-heard
 returns-clause-heard g c = λ cs was.
@@ -40,15 +40,15 @@ returns-clause-heard g c = λ cs was.
     subst (λ (ds : List Column). g.H.Hears.goes_on c.hear.new.self ds) (append_assoc cs part _ ∙ ap (λ ds. cs ++ ds) (sym more))
     (c.hear.ensures.heard (cs ++ part) (c.hear_while-went.ensures.heard cs was))
 
-pub returns-clause-told : goal.returns-clause-told
-returns-clause-told g c = λ cs was.
+pub returns-clause-reported : goal.returns-clause-reported
+returns-clause-reported g c = λ cs was.
     let all = columns_in c.args.columns in
     let went = c.hear_while-went.result in
     let part = take went all in
     let more = take_next all went _ c.get.ensures in
     took_next g.H.Hears.grammar g.E.Ear.took g.met.E.Ear.took_both _ _ _ cs part (take (went + 1) all) _ _ more
-    (c.hear.ensures.told (cs ++ part) (c.hear_while-went.ensures.heard cs was))
-    (took_quiet g.H.Hears.grammar g.E.Ear.took _ cs part (g.met.E.Ear.took_none _) (c.hear_while-went.ensures.told cs was)) c.in_ok-tell.ensures.ok
+    (c.hear.ensures.reported (cs ++ part) (c.hear_while-went.ensures.heard cs was))
+    (took_quiet g.H.Hears.grammar g.E.Ear.took _ cs part (g.met.E.Ear.took_none _) (c.hear_while-went.ensures.reported cs was)) c.in_ok-tell.ensures.ok
 
 pub hear-requires-clause-few : goal.hear-requires-clause-few
 hear-requires-clause-few g c =

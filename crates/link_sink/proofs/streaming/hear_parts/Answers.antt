@@ -1,16 +1,16 @@
 use Rattle.std.proofs.Common.{List, refl, arith}
 use Rattle.tmds_word.specs.Lent.{columns_in}
-use Rattle.period_grammar.specs.Things.{Thing}
+use Rattle.period_grammar.specs.Events.{Event}
 use Rattle.link_sink.specs.Ears.{StopsIn}
 use Rattle.link_sink.specs.Sinks.{IsGainBy}
 use Rattle.link_sink.proofs.Stops.{on_err}
-use Rattle.link_sink.proofs.Behind.{few_lent, lent_gain, now_heard}
+use Rattle.link_sink.proofs.After.{few_lent, lent_gain, now_heard}
 use Rattle.link_sink.proofs.streaming.hear_parts.Goals as goal
 
 pub hear_columns-requires-clause-few : goal.hear_columns-requires-clause-few
 hear_columns-requires-clause-few g c =
-    let behind = c.requires.2 in
-    (few_lent g.H.Hears.goes_on g.H.Hears.counted g.met.H.Hears.counts (record { receiver = c.args.receiver.now; hearing = c.args.hearing.now; outcome = c.args.outcome.now }) _ _ _ behind c.columns-columns.ensures.columns).0
+    let after = c.requires.2 in
+    (few_lent g.H.Hears.goes_on g.H.Hears.counted g.met.H.Hears.counts (record { receiver = c.args.receiver.now; hearing = c.args.hearing.now; outcome = c.args.outcome.now }) _ _ _ after c.columns-columns.ensures.columns).0
 
 pub overflow_cast-outcome : goal.overflow_cast-outcome
 overflow_cast-outcome g c =
@@ -26,8 +26,8 @@ pub returns-in_err-hear_columns-clause-stopped : goal.returns-in_err-hear_column
 returns-in_err-hear_columns-clause-stopped g c = λ before now h.
     let lent = columns_in c.columns-columns.result in
     let t = c.in_err-hear_columns.ensures.stopped _ h.heard in
-    on_err {P = (things : List Thing) × IsGainBy g.H.Hears.grammar before now things × StopsIn g.E.Ear.took g.E.Ear.broke c.args.ear.now c.hear_columns.new.ear things} _
-    (t.things, lent_gain g.H.Hears.goes_on g.H.Hears.grammar g.met.H.Hears.is_grammar (record { receiver = c.args.receiver.now; hearing = c.args.hearing.now; outcome = c.args.outcome.now }) before now lent t.things h c.columns-columns.ensures.columns t.things_are, t.stops)
+    on_err {P = (events : List Event) × IsGainBy g.H.Hears.grammar before now events × StopsIn g.E.Ear.took g.E.Ear.broke c.args.ear.now c.hear_columns.new.ear events} _
+    (t.events, lent_gain g.H.Hears.goes_on g.H.Hears.grammar g.met.H.Hears.is_grammar (record { receiver = c.args.receiver.now; hearing = c.args.hearing.now; outcome = c.args.outcome.now }) before now lent t.events h c.columns-columns.ensures.columns t.events_are, t.stops)
 
 pub returns-clause-heard : goal.returns-clause-heard
 returns-clause-heard g c = λ before now h.
@@ -35,8 +35,8 @@ returns-clause-heard g c = λ before now h.
     c.columns-columns.ensures.count c.columns-columns.ensures.columns _ c.len-count.ensures c.consume.ensures.ready c.consume.ensures.received c.consume.ensures.found
     c.in_ok-hear_columns.ensures.heard refl refl
 
-pub returns-clause-told : goal.returns-clause-told
-returns-clause-told g c = λ before now h.
+pub returns-clause-reported : goal.returns-clause-reported
+returns-clause-reported g c = λ before now h.
     let lent = columns_in c.columns-columns.result in
-    let t = c.in_ok-hear_columns.ensures.told _ h.heard in
-    (t.things, lent_gain g.H.Hears.goes_on g.H.Hears.grammar g.met.H.Hears.is_grammar (record { receiver = c.args.receiver.now; hearing = c.args.hearing.now; outcome = c.args.outcome.now }) before now lent t.things h c.columns-columns.ensures.columns t.things_are, t.took_things)
+    let t = c.in_ok-hear_columns.ensures.reported _ h.heard in
+    (t.events, lent_gain g.H.Hears.goes_on g.H.Hears.grammar g.met.H.Hears.is_grammar (record { receiver = c.args.receiver.now; hearing = c.args.hearing.now; outcome = c.args.outcome.now }) before now lent t.events h c.columns-columns.ensures.columns t.events_are, t.took_events)

@@ -7,18 +7,18 @@ use Rattle.period_grammar.proofs.Noting.{pushed}
 use Rattle.period_grammar.proofs.Phases.{end_control, end_first, end_video, end_payload, end_noise}
 use Rattle.period_grammar.proofs.phase.end.Goals as goal
 
-pub returns-in-Control-clause-told : goal.returns-in-Control-clause-told
-returns-in-Control-clause-told c x b was e = end_control c.args.kept.now c.args.line.now c.args.island.now c.args.n _ (λ control h. c.tell_run.ensures.told control (lent c.args.line.now.bytes c.args.island.now.whole) h) x b (subst (λ (p : Phase). IsStretchAfter p c.args.kept.now c.args.line.now c.args.island.now c.args.n x) c.in-Control.is was)
+pub returns-in-Control-clause-reported : goal.returns-in-Control-clause-reported
+returns-in-Control-clause-reported c x b was e = end_control c.args.kept.now c.args.line.now c.args.island.now c.args.n _ (λ control h. c.tell_run.ensures.reported control (lent c.args.line.now.bytes c.args.island.now.whole) h) x b (subst (λ (p : Phase). IsStretchAfter p c.args.kept.now c.args.line.now c.args.island.now c.args.n x) c.in-Control.is was)
 
-pub returns-in-First-clause-told : goal.returns-in-First-clause-told
-returns-in-First-clause-told c x b was e = end_first c.args.kept.now c.args.line.now c.args.island.now c.args.n _ _ _ _ _ (pushed (lent c.args.line.now.bytes c.args.island.now.whole) _ _ _ c.requires.room c.push.ensures) x b (subst (λ (p : Phase). IsStretchAfter p c.args.kept.now c.args.line.now c.args.island.now c.args.n x) c.in-First.is was) e
+pub returns-in-First-clause-reported : goal.returns-in-First-clause-reported
+returns-in-First-clause-reported c x b was e = end_first c.args.kept.now c.args.line.now c.args.island.now c.args.n _ _ _ _ _ (pushed (lent c.args.line.now.bytes c.args.island.now.whole) _ _ _ c.requires.room c.push.ensures) x b (subst (λ (p : Phase). IsStretchAfter p c.args.kept.now c.args.line.now c.args.island.now c.args.n x) c.in-First.is was) e
 
-pub returns-in-Video-clause-told : goal.returns-in-Video-clause-told
-returns-in-Video-clause-told c x b was e = end_video c.args.kept.now c.args.line.now c.args.island.now c.args.n _ _ (pushed (lent c.args.line.now.bytes c.args.island.now.whole) _ _ _ c.requires.room c.push-in-Video.ensures) x b (subst (λ (p : Phase). IsStretchAfter p c.args.kept.now c.args.line.now c.args.island.now c.args.n x) c.in-Video.is was) e
+pub returns-in-Video-clause-reported : goal.returns-in-Video-clause-reported
+returns-in-Video-clause-reported c x b was e = end_video c.args.kept.now c.args.line.now c.args.island.now c.args.n _ _ (pushed (lent c.args.line.now.bytes c.args.island.now.whole) _ _ _ c.requires.room c.push-in-Video.ensures) x b (subst (λ (p : Phase). IsStretchAfter p c.args.kept.now c.args.line.now c.args.island.now c.args.n x) c.in-Video.is was) e
 
-pub returns-in-Island-clause-told : goal.returns-in-Island-clause-told
-returns-in-Island-clause-told c x b was e =
-    end_payload c.args.kept.now c.args.line.now c.args.island.now c.args.n _ _ _ (c.tell_cut.ensures.told (lent c.args.line.now.bytes c.args.island.now.whole)) c.broken_at.ensures x b (subst (λ (p : Phase). IsStretchAfter p c.args.kept.now c.args.line.now c.args.island.now c.args.n x) c.in-Island.is was) e
+pub returns-in-Island-clause-reported : goal.returns-in-Island-clause-reported
+returns-in-Island-clause-reported c x b was e =
+    end_payload c.args.kept.now c.args.line.now c.args.island.now c.args.n _ _ _ (c.tell_cut.ensures.reported (lent c.args.line.now.bytes c.args.island.now.whole)) c.broken_at.ensures x b (subst (λ (p : Phase). IsStretchAfter p c.args.kept.now c.args.line.now c.args.island.now c.args.n x) c.in-Island.is was) e
 
-pub returns-in-Noise-clause-told : goal.returns-in-Noise-clause-told
-returns-in-Noise-clause-told c x b was e = end_noise c.args.kept.now c.args.line.now c.args.island.now c.args.n _ (no_notes (lent c.args.line.now.bytes c.args.island.now.whole) _ c.requires.room) x b (subst (λ (p : Phase). IsStretchAfter p c.args.kept.now c.args.line.now c.args.island.now c.args.n x) c.in-Noise.is was)
+pub returns-in-Noise-clause-reported : goal.returns-in-Noise-clause-reported
+returns-in-Noise-clause-reported c x b was e = end_noise c.args.kept.now c.args.line.now c.args.island.now c.args.n _ (no_notes (lent c.args.line.now.bytes c.args.island.now.whole) _ c.requires.room) x b (subst (λ (p : Phase). IsStretchAfter p c.args.kept.now c.args.line.now c.args.island.now c.args.n x) c.in-Noise.is was)

@@ -1,5 +1,5 @@
 use Rattle.std.proofs.Common.{ap, ◌∙◌, ◌++◌, refl, arith}
-use Rattle.period_grammar.specs.Noted.{things}
+use Rattle.period_grammar.specs.Noted.{events}
 use Rattle.period_grammar.specs.Heard.{other_words, other_word}
 use Rattle.terc4.specs.Tables.{is_control}
 use Rattle.tmds_word.specs.Column.{column_of}
@@ -7,12 +7,12 @@ use Rattle.period_grammar.proofs.FewWords.{few_words}
 use Rattle.period_grammar.proofs.Phases.{three_words}
 use Rattle.period_grammar.proofs.phase.tell_words.Goals as goal
 
-pub returns-clause-told : goal.returns-clause-told
+pub returns-clause-reported : goal.returns-clause-reported
 unfolding other_words
-returns-clause-told c bytes =
-    c.tell_word-3.ensures.told bytes
-    ∙ ap (λ ts. ts ++ other_word 2 c.args.n (is_control c.red.result)) (c.tell_word-2.ensures.told bytes ∙ ap (λ ts. ts ++ other_word 1 c.args.n (is_control c.green.result)) (c.tell_word.ensures.told bytes))
-    ∙ three_words (things bytes c.args.notes.now) c.args.n _ _ _ (column_of c.args.column.now) c.blue.ensures c.green.ensures c.red.ensures
+returns-clause-reported c bytes =
+    c.tell_word-3.ensures.reported bytes
+    ∙ ap (λ ts. ts ++ other_word 2 c.args.n (is_control c.red.result)) (c.tell_word-2.ensures.reported bytes ∙ ap (λ ts. ts ++ other_word 1 c.args.n (is_control c.green.result)) (c.tell_word.ensures.reported bytes))
+    ∙ three_words (events bytes c.args.notes.now) c.args.n _ _ _ (column_of c.args.column.now) c.blue.ensures c.green.ensures c.red.ensures
 
 pub tell_word-requires-2 : goal.tell_word-requires-2
 tell_word-requires-2 c =

@@ -30,8 +30,8 @@ returns c values e n =
     let size : k ≡ length whole - c.args.changed = ap (λ i. i - c.args.changed) (c.at_least_twelve.ensures ∙ ap (λ i. max 12 i) n ∙ sym long) in
     let first = subst (λ xs. Took old mid xs) (sym (some_again ctl k v m)) c.in_ok-left.ensures.taken in
     let left : c.in_ok-left.left ≡ k - length us = c.in_ok-left.ensures.left ∙ ap (λ i. k - i) (sym few) in
-    let came : values_of c.as_slice-2.result.now ≡ values = ap values_of (c.as_slice-2.ensures ∙ is) ∙ values_longest values in
-    let all = ap₂ (λ (i : ℕ) (xs : List ℕ). changed_from ctl k us ++ changed_from ctl i xs) left came ∙ sym (changed_both ctl k us values) ∙ ap₂ (λ (i : ℕ) (xs : List ℕ). changed_from ctl i xs) size (sym w) in
+    let reception : values_of c.as_slice-2.result.now ≡ values = ap values_of (c.as_slice-2.ensures ∙ is) ∙ values_longest values in
+    let all = ap₂ (λ (i : ℕ) (xs : List ℕ). changed_from ctl k us ++ changed_from ctl i xs) left reception ∙ sym (changed_both ctl k us values) ∙ ap₂ (λ (i : ℕ) (xs : List ℕ). changed_from ctl i xs) size (sym w) in
     on_ok c.hand_on_all.result _ _
     (λ (second : Took mid now (changed_from ctl c.in_ok-left.left (values_of c.as_slice-2.result.now))).
     subst (λ xs. Took old now xs) all (took_both old mid now (changed_from ctl k us) (changed_from ctl c.in_ok-left.left (values_of c.as_slice-2.result.now)) first second))

@@ -1,7 +1,7 @@
 use Rattle.std.proofs.Common.{◌∙◌, ℕ, List, inl, refl, ap, sym, arith}
 use Rattle.std.specs.Prelude.{slice_index}
 use Rattle.std.proofs.lemmas.Iterator.Consumers.{YieldsList-from_first, count_from_yields_List}
-use Rattle.listing.proofs.ContentNotes.{samples_short}
+use Rattle.listing_writer.proofs.ContentNotes.{samples_short}
 use Rattle.sampling.proofs.LineKinds.{samples_read, packet_samples, no_samples, all_samples}
 use Rattle.sampling.proofs.counter.sample_count.Goals as goal
 

@@ -1,4 +1,4 @@
-use Rattle.sampling.proofs.Behind.{generated_in_order}
+use Rattle.sampling.proofs.After.{generated_in_order}
 use Rattle.sampling.proofs.laws.generated_in_order.Goals as goal
 
 pub returns : goal.returns

@@ -1,4 +1,4 @@
-use Rattle.listing.proofs.ToldSizes.{fault_sized}
+use Rattle.listing_writer.proofs.ReportedSizes.{fault_sized}
 use Rattle.sampling.proofs.tests.tell_fault.Goals as goal
 
 pub hear-requires : goal.hear-requires

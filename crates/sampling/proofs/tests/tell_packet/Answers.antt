@@ -1,6 +1,6 @@
 use Rattle.std.proofs.Common.{sym, ap, ◌∙◌}
 use Rattle.island_pack.specs.Conforming.{is_packet}
-use Rattle.listing.proofs.ToldSizes.{packet_sized}
+use Rattle.listing_writer.proofs.ReportedSizes.{packet_sized}
 use Rattle.sampling.proofs.tests.tell_packet.Goals as goal
 
 pub hear-requires : goal.hear-requires

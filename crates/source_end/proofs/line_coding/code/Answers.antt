@@ -1,7 +1,7 @@
-use Rattle.std.proofs.Common.{arith, rules, ◌≡◌, ◌<◌, ◌≤◌, ◌+◌, ◌*◌, ◌/◌, List, ℕ, [], ◌∙◌, sym, subst, refl, length, map, take, get_or}
+use Rattle.std.proofs.Common.{arith, ◌<◌, ◌≤◌, ◌+◌, ◌*◌, List, ℕ, [], ◌∙◌, sym, subst, refl, length, map, take, get_or}
 use Rattle.tmds_word.specs.Bits.{bytes_bits}
 use Rattle.tmds_word.specs.Words.{all_words}
-use Rattle.island_pack.specs.Periods.{Pixel, pixels_of}
+use Rattle.island_pack.specs.Periods.{pixels_of}
 use Rattle.source_end.specs.LineCoding.{GoesOn, byte_of}
 use Rattle.source_end.proofs.LineCodings.{goes_nowhere, goes_four, packed_four, none_packed, character_below, all_packed}
 use Rattle.source_end.proofs.line_coding.code.Goals as goal

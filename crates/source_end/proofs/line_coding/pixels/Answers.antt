@@ -1,6 +1,5 @@
-use Rattle.std.proofs.Common.{◌≡◌, ◌≤◌, ◌<◌, ◌+◌, ◌-◌, ◌*◌, ◌/◌, ◌++◌, ℕ, List, [], length, map, take, drop, min, ap, subst, refl, sym, ◌∙◌, arith, length-append, append-nil, take_all, length-take, length-drop}
+use Rattle.std.proofs.Common.{◌≡◌, ◌≤◌, ◌<◌, ◌+◌, ◌-◌, ◌*◌, ◌/◌, ◌++◌, List, [], length, map, take, drop, min, subst, refl, sym, ◌∙◌, arith, length-append, append-nil, take_all, length-take, length-drop}
 use Rattle.tmds_word.specs.Column.{Column}
-use Rattle.tmds_code.specs.Pasts.{IsCoderAfter}
 use Rattle.tmds_code.specs.Lanes.{IsLane}
 use Rattle.island_pack.specs.Periods.{Pixel, pixels_of}
 use Rattle.source_end.proofs.Spellings.{joined, length-pixels_of}

@@ -16,11 +16,8 @@ use Rattle.source_end.proofs.rasters.items_of.Goals as goal
 pub loop-frame-init : goal.loop-frame-init
 loop-frame-init c = subst (λ (ps : List Part). Has c.new-out.result ps) (sym (none_bodies c.args.mode.now)) c.new-out.ensures
 
-pub frame-requires-clause-mode : goal.frame-requires-clause-mode
-frame-requires-clause-mode c = no_bad_mode c.args.mode.now c.args.content.now c.requires
-
-pub frame-requires-clause-rows : goal.frame-requires-clause-rows
-frame-requires-clause-rows c =
+pub frame-requires : goal.frame-requires
+frame-requires c =
     let mode = c.args.mode.now in
     let frames = c.args.content.now in
     let d = c.frame-item.result in
@@ -29,19 +26,11 @@ frame-requires-clause-rows c =
     let lt : i < length frames = omega (arith, ap length same, c.loop-frame-test.true) in
     let is : d ≡ get_or frames i d = c.frame-item.is ∙ ap (λ (fs : List Frame). get_or fs i d) same in
     let right : IsFrame mode (get_or frames i d) = frame_at mode frames i d (good_frames mode frames c.requires) lt in
-    subst (λ (f : Frame). AreWide (active mode.across) f.rows) (sym is) right.rows
-
-pub frame-requires-clause-height : goal.frame-requires-clause-height
-frame-requires-clause-height c =
-    let mode = c.args.mode.now in
-    let frames = c.args.content.now in
-    let d = c.frame-item.result in
-    let i = c.loop-frame.frame-index in
-    let same = c.frames-frame-items.ensures.value in
-    let lt : i < length frames = omega (arith, ap length same, c.loop-frame-test.true) in
-    let is : d ≡ get_or frames i d = c.frame-item.is ∙ ap (λ (fs : List Frame). get_or fs i d) same in
-    let right : IsFrame mode (get_or frames i d) = frame_at mode frames i d (good_frames mode frames c.requires) lt in
-    ap (λ (f : Frame). length f.rows) is ∙ right.count
+    record {
+      mode = no_bad_mode mode frames c.requires;
+      rows = subst (λ (f : Frame). AreWide (active mode.across) f.rows) (sym is) right.rows;
+      height = ap (λ (f : Frame). length f.rows) is ∙ right.count;
+    }
 
 pub loop-frame-preserved : goal.loop-frame-preserved
 loop-frame-preserved c =

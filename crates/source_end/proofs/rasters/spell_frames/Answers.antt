@@ -28,17 +28,13 @@ loop-frame-init g c = record {
   spelled = refl;
 }
 
-pub ended_by-requires-clause-mode : goal.ended_by-requires-clause-mode
-ended_by-requires-clause-mode g c = no_bad_mode c.args.mode.now c.args.content c.requires.fault
+pub ended_by-requires : goal.ended_by-requires
+ended_by-requires g c =
+    let right = next_frame c.args.mode.now c.args.content c.loop-frame.yielded _ c.in-Some.frame _ c.loop-frame.invariant.frames c.in-Some.ensures.steps.0 c.requires.fault in
+    record { mode = no_bad_mode c.args.mode.now c.args.content c.requires.fault; rows = right.rows; height = right.count }
 
-pub ended_by-requires-clause-rows : goal.ended_by-requires-clause-rows
-ended_by-requires-clause-rows g c = (next_frame c.args.mode.now c.args.content c.loop-frame.yielded _ c.in-Some.frame _ c.loop-frame.invariant.frames c.in-Some.ensures.steps.0 c.requires.fault).rows
-
-pub ended_by-requires-clause-height : goal.ended_by-requires-clause-height
-ended_by-requires-clause-height g c = (next_frame c.args.mode.now c.args.content c.loop-frame.yielded _ c.in-Some.frame _ c.loop-frame.invariant.frames c.in-Some.ensures.steps.0 c.requires.fault).count
-
-pub items-requires-clause-sendable : goal.items-requires-clause-sendable
-items-requires-clause-sendable g c =
+pub items-requires : goal.items-requires
+items-requires g c =
     let mode = c.args.mode.now in
     let frames = c.args.content in
     let at = c.loop-frame in
@@ -47,22 +43,15 @@ items-requires-clause-sendable g c =
     let first = c.in-Some.ensures.steps.0 in
     let more = map period_of c.in_ok-items.items.items in
     let parted = next_parted mode frames at.yielded _ f _ was.periods more at.gathering c.ended_by.new.gathering was.frames first c.requires.fault was.parted c.in_ok-items.ensures in
-    ap (λ xs. list_all is_sendable (map period_of xs)) c.as_slice.ensures.value
-    ∙ more_sendable mode frames was.periods more c.requires.fault c.into_frames-frame-items.ensures.content (next_begins mode frames at.yielded _ f _ (was.periods ++ more) c.ended_by.new.gathering was.frames first parted)
-
-pub items-requires-clause-room : goal.items-requires-clause-room
-items-requires-clause-room g c =
-    let mode = c.args.mode.now in
-    let frames = c.args.content in
-    let at = c.loop-frame in
-    let was = at.invariant in
-    let f = c.in-Some.frame in
-    let first = c.in-Some.ensures.steps.0 in
-    let more = map period_of c.in_ok-items.items.items in
-    let parted = next_parted mode frames at.yielded _ f _ was.periods more at.gathering c.ended_by.new.gathering was.frames first c.requires.fault was.parted c.in_ok-items.ensures in
-    let fits = more_fits mode frames was.periods more was.columns c.requires.fault (next_begins mode frames at.yielded _ f _ (was.periods ++ more) c.ended_by.new.gathering was.frames first parted) was.spelled in
+    let begins = next_begins mode frames at.yielded _ f _ (was.periods ++ more) c.ended_by.new.gathering was.frames first parted in
+    let fits = more_fits mode frames was.periods more was.columns c.requires.fault begins was.spelled in
     let long = ap length was.taken ∙ length-append (g.C.ColumnSink.taken c.args.out.now) was.columns in
-    omega (arith, fits, long, ap (λ xs. columns_of (map period_of xs)) c.as_slice.ensures.value, c.requires.room)
+    record {
+      sendable =
+          ap (λ xs. list_all is_sendable (map period_of xs)) c.as_slice.ensures.value
+          ∙ more_sendable mode frames was.periods more c.requires.fault c.into_frames-frame-items.ensures.content begins;
+      room = omega (arith, fits, long, ap (λ xs. columns_of (map period_of xs)) c.as_slice.ensures.value, c.requires.room);
+    }
 
 pub loop-frame-preserved : goal.loop-frame-preserved
 loop-frame-preserved g c =
@@ -83,8 +72,8 @@ loop-frame-preserved g c =
       spelled = Spells-append was.periods more was.columns own.0 was.spelled (subst (λ xs. Spells (map period_of xs) own.0) c.as_slice.ensures.value own.2);
     }
 
-pub items-requires-2-clause-sendable : goal.items-requires-2-clause-sendable
-items-requires-2-clause-sendable g c =
+pub items-requires-2 : goal.items-requires-2
+items-requires-2 g c =
     let mode = c.args.mode.now in
     let frames = c.args.content in
     let at = c.loop-frame in
@@ -93,22 +82,15 @@ items-requires-2-clause-sendable g c =
     let value : v ≡ 3 * one_if mode.positive = omega (arith, c.sync_value.ensures.value) in
     let more = map period_of c.in_ok-items-3.items.items in
     let all = whole mode frames at.yielded _ was.periods more at.gathering c.columns.new.self v was.frames (sym was.count ∙ c.in-None.ensures.steps.0) c.requires.fault was.parted value c.in_ok-columns.ensures c.in_ok-items-3.ensures in
-    ap (λ xs. list_all is_sendable (map period_of xs)) c.as_slice-2.ensures.value
-    ∙ more_sendable mode frames was.periods more c.requires.fault c.into_frames-frame-items.ensures.content (all_begin mode frames (was.periods ++ more) all)
-
-pub items-requires-2-clause-room : goal.items-requires-2-clause-room
-items-requires-2-clause-room g c =
-    let mode = c.args.mode.now in
-    let frames = c.args.content in
-    let at = c.loop-frame in
-    let was = at.invariant in
-    let v = c.sync_value.result in
-    let value : v ≡ 3 * one_if mode.positive = omega (arith, c.sync_value.ensures.value) in
-    let more = map period_of c.in_ok-items-3.items.items in
-    let all = whole mode frames at.yielded _ was.periods more at.gathering c.columns.new.self v was.frames (sym was.count ∙ c.in-None.ensures.steps.0) c.requires.fault was.parted value c.in_ok-columns.ensures c.in_ok-items-3.ensures in
-    let fits = more_fits mode frames was.periods more was.columns c.requires.fault (all_begin mode frames (was.periods ++ more) all) was.spelled in
+    let begin = all_begin mode frames (was.periods ++ more) all in
+    let fits = more_fits mode frames was.periods more was.columns c.requires.fault begin was.spelled in
     let long = ap length was.taken ∙ length-append (g.C.ColumnSink.taken c.args.out.now) was.columns in
-    omega (arith, fits, long, ap (λ xs. columns_of (map period_of xs)) c.as_slice-2.ensures.value, c.requires.room)
+    record {
+      sendable =
+          ap (λ xs. list_all is_sendable (map period_of xs)) c.as_slice-2.ensures.value
+          ∙ more_sendable mode frames was.periods more c.requires.fault c.into_frames-frame-items.ensures.content begin;
+      room = omega (arith, fits, long, ap (λ xs. columns_of (map period_of xs)) c.as_slice-2.ensures.value, c.requires.room);
+    }
 
 pub returns : goal.returns
 returns g c =

@@ -1,4 +1,4 @@
-use Rattle.std.proofs.Common.{rules, ◌≡◌, ◌≤◌, ◌-◌, List, ◌∷◌, length, get_or, take, drop, ap, sym, ◌∙◌, arith}
+use Rattle.std.proofs.Common.{◌-◌, length, get_or, take, drop, ap, sym, ◌∙◌, arith}
 use Rattle.source_end.proofs.RowEnds.{row_between, ends_rise}
 use Rattle.source_end.proofs.rows.row_at.Goals as goal
 

@@ -10,26 +10,20 @@ use Rattle.source_end.proofs.Fronts.{on_err}
 use Rattle.source_end.proofs.ItemFronts.{periods_front}
 use Rattle.source_end.proofs.spell.items.Goals as goal
 
-pub item-requires-clause-sendable : goal.item-requires-clause-sendable
-item-requires-clause-sendable g c =
-    let xs = c.args.list.now in
-    let ps = map period_of xs in
-    let x = c.each-item.result in
-    let i = c.loop-each.each-index in
-    let lt : i < length ps = item_within xs ps i refl c.loop-each-test.true in
-    subst (λ (p : Period). is_sendable p ≡ true) (item_at xs ps i x refl c.loop-each-test.true c.each-item.is) (passed_at is_sendable ps i (period_of x) c.requires.sendable lt)
-
-pub item-requires-clause-room : goal.item-requires-clause-room
-item-requires-clause-room g c =
+pub item-requires : goal.item-requires
+item-requires g c =
     let xs = c.args.list.now in
     let ps = map period_of xs in
     let x = c.each-item.result in
     let i = c.loop-each.each-index in
     let was = c.loop-each.invariant in
     let lt : i < length ps = item_within xs ps i refl c.loop-each-test.true in
-    let at = ap period_columns (item_at xs ps i x refl c.loop-each-test.true c.each-item.is) in
+    let is = item_at xs ps i x refl c.loop-each-test.true c.each-item.is in
     let long = ap length was.taken ∙ length-append (g.C.ColumnSink.taken c.args.out.now) was.columns in
-    omega (arith, at, long, Spells-length (take i ps) was.columns was.spelled, periods_room ps i (period_of x) lt, c.requires.room)
+    record {
+      sendable = subst (λ (p : Period). is_sendable p ≡ true) is (passed_at is_sendable ps i (period_of x) c.requires.sendable lt);
+      room = omega (arith, ap period_columns is, long, Spells-length (take i ps) was.columns was.spelled, periods_room ps i (period_of x) lt, c.requires.room);
+    }
 
 pub loop-each-preserved : goal.loop-each-preserved
 loop-each-preserved g c =

@@ -10,9 +10,9 @@ pub loop-i-preserved : goal.loop-i-preserved
 loop-i-preserved c =
     let was = c.loop-i.invariant in
     record {
-      narrow = left_over c.behind-bits.result c.args.held c.behind-bits.ensures.below;
+      narrow = left_over c.after-bits.result c.args.held c.after-bits.ensures.below;
       size = c.put_five.ensures.size ∙ was.size;
       bits =
-          packed_more (bits_of c.args.held c.args.tail) c.args.words.now c.loop-i.into c.put_five.new.into c.loop-i.i c.args.held c.loop-i.left c.behind-bits.result c.four.result was.narrow c.behind-bits.ensures.sum
+          packed_more (bits_of c.args.held c.args.tail) c.args.words.now c.loop-i.into c.put_five.new.into c.loop-i.i c.args.held c.loop-i.left c.after-bits.result c.four.result was.narrow c.after-bits.ensures.sum
           c.four.ensures.bits c.put_five.ensures.written was.bits;
     }

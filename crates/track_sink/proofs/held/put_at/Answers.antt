@@ -11,5 +11,5 @@ returns c =
     let size : at + n + 1 - at ≡ n + 1 = omega arith in
     let room = c.requires.room in
     let fits : at + n + 1 - at ≤ length (drop at into) = omega (arith, c.requires.into, c.requires.bytes, room, length-drop at into) in
-    put_into into c.put_behind.new.into c.args.bytes.now c.args.count c.args.bits (at + n + 1 - at) c.requires.into room c.requires.bytes size
-    (c.put_behind.auto.into ∙ length-take-le (at + n + 1 - at) (drop at into) fits) c.put_behind.ensures
+    put_into into c.put_after.new.into c.args.bytes.now c.args.count c.args.bits (at + n + 1 - at) c.requires.into room c.requires.bytes size
+    (c.put_after.auto.into ∙ length-take-le (at + n + 1 - at) (drop at into) fits) c.put_after.ensures

@@ -1,15 +1,15 @@
 use Rattle.std.proofs.Common.{◌≡◌, ◌-◌, ◌%◌, min, true}
 use Rattle.std.specs.Prelude.{slice_index}
-use Rattle.track_sink.specs.TrackSinks.{bits_of}
+use Rattle.track_sink.specs.TrackSinks.{bits_fed}
 use Rattle.track_sink.proofs.tests.feed_all.Given as goal
 
 abbrev pub invariant-loop-from : goal.invariant-loop-from
 invariant-loop-from g l = record {
   open_still : l.sink.is_open ≡ true;
   whole : l.from % 8 ≡ 0;
-  first : bits_of l.sink 0 ≡ min l.from (slice_index l.case.bits 0);
-  second : bits_of l.sink 1 ≡ min l.from (slice_index l.case.bits 1);
-  third : bits_of l.sink 2 ≡ min l.from (slice_index l.case.bits 2);
+  first : bits_fed l.sink 0 ≡ min l.from (slice_index l.case.bits 0);
+  second : bits_fed l.sink 1 ≡ min l.from (slice_index l.case.bits 1);
+  third : bits_fed l.sink 2 ≡ min l.from (slice_index l.case.bits 2);
 }
 
 abbrev pub decreases-loop-from : goal.decreases-loop-from

@@ -1,7 +1,7 @@
 use Rattle.std.proofs.Common.{false, ◌≡◌, ◌∙◌, [], ◌∷◌, ◌++◌, List, ℕ, ap, sym, append-nil}
 use Rattle.std.specs.Prelude.{codes}
 use Rattle.audio_packets.specs.declared.sample.Sample.{Sample}
-use Rattle.listing.specs.ContentText.{sample_words}
+use Rattle.listing_writer.specs.ContentText.{sample_words}
 use Rattle.audio_out.specs.Blocks.{IsBlocksAfter, block_of}
 use Rattle.biphase_listing.specs.FrameText.{status_text}
 use Rattle.biphase_listing.specs.Groups.{sample_of}

@@ -2,7 +2,7 @@ use Rattle.std.proofs.Common.{◌∙◌, ◌++◌, ◌<◌, List, ℕ, Ok, Err, 
 use Rattle.std.specs.Io.KnownBytes.{Appends}
 use Rattle.audio_packets.specs.Samples.{IsSample, packet_with, sample_at}
 use Rattle.audio_out.specs.Frames.{biphase}
-use Rattle.biphase_listing.specs.StreamText.{told_samples}
+use Rattle.biphase_listing.specs.StreamText.{reported_samples}
 use Rattle.biphase_listing.proofs.Streaming.{breaks_one, lists_one, lists_quiet, lost_faults, lost_samples, none_counted, pair_again, pair_few, pair_fits, sound_faults, sound_samples}
 use Rattle.biphase_listing.proofs.lister.BiphaseLister.sound.Goals as goal
 
@@ -15,36 +15,36 @@ frames_of-frames-requires-clause-fit g c = pair_fits c.args.packet.packet.now c.
     (subst (λ (header : List ℕ). (place : ℕ) → place < 4 → IsSample (sample_at (packet_with header c.bodies.result.now) place)) c.header.ensures c.bytes_fit.ensures)) c.in-Ok.ensures
 
 pub returns-in-Ok-write_all-clause-ok : goal.returns-in-Ok-write_all-clause-ok
-returns-in-Ok-write_all-clause-ok g c = λ told recalls.
+returns-in-Ok-write_all-clause-ok g c = λ reported recalls.
     let p = c.args.packet.packet.now in
     let v = c.args.packet.verdicts.now in
     let k = c.args.self.now.pair in
     let is = pair_again p v c.get.result k (Ok c.in-Ok.notes) c.in-Ok.ensures c.get.ensures.value in
-    lists_one k told _ _ _ _ _ _ _ c.frames_of-frames.result.items
+    lists_one k reported _ _ _ _ _ _ _ c.frames_of-frames.result.items
     (sound_samples p v c.args.column k c.in-Ok.notes c.requires is)
     (none_counted c.args.self.now.faults _ (sound_faults p v c.args.column k c.in-Ok.notes c.requires is))
-    (c.frames_of-frames.ensures.stands (told_samples k told) recalls)
-    (c.frames_of-frames.ensures.written (told_samples k told) recalls)
+    (c.frames_of-frames.ensures.stands (reported_samples k reported) recalls)
+    (c.frames_of-frames.ensures.written (reported_samples k reported) recalls)
     (subst (λ (bytes : List ℕ). Appends (g.K.Sink.held c.args.self.now.sink.now) (g.K.Sink.held c.write_all.new.sink) bytes) c.as_slice.ensures.value c.in-Ok-write_all.ensures.whole)
 
 pub returns-in-Err-write_all-clause-err : goal.returns-in-Err-write_all-clause-err
-returns-in-Err-write_all-clause-err g c = λ told recalls.
+returns-in-Err-write_all-clause-err g c = λ reported recalls.
     let p = c.args.packet.packet.now in
     let v = c.args.packet.verdicts.now in
     let k = c.args.self.now.pair in
     let is = pair_again p v c.get.result k (Ok c.in-Ok.notes) c.in-Ok.ensures c.get.ensures.value in
-    breaks_one k told _ _ _ _ c.as_slice.result.now c.in-Err-write_all.field-0.gone
+    breaks_one k reported _ _ _ _ c.as_slice.result.now c.in-Err-write_all.field-0.gone
     (sound_samples p v c.args.column k c.in-Ok.notes c.requires is)
-    (c.frames_of-frames.ensures.written (told_samples k told) recalls ∙ ap (λ (bytes : List ℕ). biphase (told_samples k told) ++ bytes) (sym c.as_slice.ensures.value))
+    (c.frames_of-frames.ensures.written (reported_samples k reported) recalls ∙ ap (λ (bytes : List ℕ). biphase (reported_samples k reported) ++ bytes) (sym c.as_slice.ensures.value))
     c.in-Err-write_all.ensures.missing c.in-Err-write_all.ensures.part
 
 pub returns-in-Err-clause-ok : goal.returns-in-Err-clause-ok
-returns-in-Err-clause-ok g c = λ told recalls.
+returns-in-Err-clause-ok g c = λ reported recalls.
     let p = c.args.packet.packet.now in
     let v = c.args.packet.verdicts.now in
     let k = c.args.self.now.pair in
     let is = pair_again p v c.get.result k (Err c.in-Err.field-0) c.in-Err.ensures c.get.ensures.value in
     let one = lost_faults p v c.args.column k c.in-Err.field-0 c.requires is in
-    lists_quiet k told _ _ _ _ _
+    lists_quiet k reported _ _ _ _ _
     (lost_samples p v c.args.column k c.in-Err.field-0 c.requires is)
     (omega (arith, one, c.saturating_add-self.ensures)) recalls

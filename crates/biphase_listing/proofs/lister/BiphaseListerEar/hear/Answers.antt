@@ -4,7 +4,7 @@ use Rattle.biphase_listing.proofs.lister.BiphaseListerEar.hear.Goals as goal
 
 pub returns-in-Run : goal.returns-in-Run
 returns-in-Run g c = record {
-  ok = (refl, refl, λ told recalls. nothing_heard _ told c.args.told _ _ _ c.in-Run.is recalls);
+  ok = (refl, refl, λ reported recalls. nothing_heard _ reported c.args.event _ _ _ c.in-Run.is recalls);
   err = tt;
   cause = record { later = omega arith; failed = tt };
 }

@@ -14,8 +14,8 @@ use Rattle.capture_file.proofs.Rooms.{first_here, second_here, third_here}
 use Rattle.capture_file.proofs.chunk.Chunks.read.Goals as goal
 
 -- a fault behind a part is one of all the bytes
-behind : (taken part rest bytes : List ℕ) (e : CaptureError) → bytes ≡ part ++ rest → SaysOf (λ fault. IsFault ((taken ++ part) ++ rest) fault) e → SaysOf (λ fault. IsFault (taken ++ bytes) fault) e
-behind taken part rest bytes e is h =
+after : (taken part rest bytes : List ℕ) (e : CaptureError) → bytes ≡ part ++ rest → SaysOf (λ fault. IsFault ((taken ++ part) ++ rest) fault) e → SaysOf (λ fault. IsFault (taken ++ bytes) fault) e
+after taken part rest bytes e is h =
     says_of (λ fault. IsFault ((taken ++ part) ++ rest) fault) (λ fault. IsFault (taken ++ bytes) fault) e
     (λ fault f. subst (λ bs. IsFault bs fault) (append_assoc taken part rest ∙ ap (λ xs. taken ++ xs) (sym is)) f) h
 
@@ -26,22 +26,22 @@ returns-in_err-read-clause-err g c bytes taken x y z e r =
     rw (p.1, p.2) (c.in_err-read.ensures.err bytes taken e h.awaited h.place_is)
 
 -- a part behind bytes that were read
-part_behind : (old mid new : Option (List ℕ)) (a : List ℕ) (k size : ℕ) (e : CaptureError) → Consumes old mid a → length a + k ≤ size
+part_after : (old mid new : Option (List ℕ)) (a : List ℕ) (k size : ℕ) (e : CaptureError) → Consumes old mid a → length a + k ≤ size
     → SaysRead ((part : List ℕ) × (length part < k) × Consumes mid new part) e → SaysRead ((part : List ℕ) × (length part < size) × Consumes old new part) e
-part_behind old mid new a k size e first room h =
+part_after old mid new a k size e first room h =
     let after : (part : List ℕ) × (length part < k) × Consumes mid new part → (part : List ℕ) × (length part < size) × Consumes old new part =
     λ p. (a ++ p.0, omega (arith, room, p.1, length-append a p.0), Consumes-trans old mid new a p.0 first p.2) in
     says_read ((part : List ℕ) × (length part < k) × Consumes mid new part) ((part : List ℕ) × (length part < size) × Consumes old new part) e after h
 
-err_behind : {T : Type 0} → (r : Result T CaptureError) (taken part rest bytes : List ℕ) → bytes ≡ part ++ rest → IfErr r (λ e. SaysOf (λ fault. IsFault ((taken ++ part) ++ rest) fault) e)
+err_after : {T : Type 0} → (r : Result T CaptureError) (taken part rest bytes : List ℕ) → bytes ≡ part ++ rest → IfErr r (λ e. SaysOf (λ fault. IsFault ((taken ++ part) ++ rest) fault) e)
     → IfErr r (λ e. SaysOf (λ fault. IsFault (taken ++ bytes) fault) e)
-err_behind (Ok x) taken part rest bytes is h = h
-err_behind (Err e) taken part rest bytes is h = behind taken part rest bytes e is h
+err_after (Ok x) taken part rest bytes is h = h
+err_after (Err e) taken part rest bytes is h = after taken part rest bytes e is h
 
 err_part : {T : Type 0} → (r : Result T CaptureError) (old mid new : Option (List ℕ)) (a : List ℕ) (k size : ℕ) → Consumes old mid a → length a + k ≤ size
     → IfErr r (λ e. SaysRead ((part : List ℕ) × (length part < k) × Consumes mid new part) e) → IfErr r (λ e. SaysRead ((part : List ℕ) × (length part < size) × Consumes old new part) e)
 err_part (Ok x) old mid new a k size first room h = h
-err_part (Err e) old mid new a k size first room h = part_behind old mid new a k size e first room h
+err_part (Err e) old mid new a k size first room h = part_after old mid new a k size e first room h
 
 pub returns-in_err-read-2-clause-err : goal.returns-in_err-read-2-clause-err
 returns-in_err-read-2-clause-err g c bytes taken x y z e r =
@@ -51,13 +51,13 @@ returns-in_err-read-2-clause-err g c bytes taken x y z e r =
     let at = c.args.place + c.from.result in
     let at_is : at ≡ c.args.place + (c.chunk_len.result + 7) / 8 = omega (arith, c.from.ensures, c.div_ceil.ensures) in
     let h = second_here c.args.bits c.args.j c.args.place at c.chunk_len-2.result c.chunk_len.result taken x y z a r c.chunk_len.ensures c.in_ok-read.ensures.count at_is c.chunk_len-2.ensures in
-    rw (p.1, p.2) (behind taken (packed a) s.0 bytes _ s.1 (c.in_err-read-2.ensures.err s.0 (taken ++ packed a) s.2 h.awaited h.place_is))
+    rw (p.1, p.2) (after taken (packed a) s.0 bytes _ s.1 (c.in_err-read-2.ensures.err s.0 (taken ++ packed a) s.2 h.awaited h.place_is))
 
 pub returns-in_err-read-2-clause-part : goal.returns-in_err-read-2-clause-part
 returns-in_err-read-2-clause-part g c =
     let p = err_from_is_err_and c.from_residual-in_err-read-2.result c.from_residual-in_err-read-2.ensures.1 in
     let a = c.read.new.self in
-    rw (p.1, p.2) (part_behind _ _ _ (packed a) _ _ _ c.in_ok-read.ensures.ok (omega (arith, length-packed a, c.in_ok-read.ensures.count, c.chunk_len.ensures, c.chunk_len-2.ensures)) c.in_err-read-2.ensures.part)
+    rw (p.1, p.2) (part_after _ _ _ (packed a) _ _ _ c.in_ok-read.ensures.ok (omega (arith, length-packed a, c.in_ok-read.ensures.count, c.chunk_len.ensures, c.chunk_len-2.ensures)) c.in_err-read-2.ensures.part)
 
 pub returns-clause-err : goal.returns-clause-err
 returns-clause-err g c bytes taken x y z e r =
@@ -70,8 +70,8 @@ returns-clause-err g c bytes taken x y z e r =
     let h =
     third_here c.args.bits c.args.j c.args.place at c.chunk_len-3.result c.chunk_len.result c.chunk_len-2.result taken x y z a b r c.chunk_len.ensures c.in_ok-read.ensures.count
     c.chunk_len-2.ensures c.in_ok-read-2.ensures.count at_is c.chunk_len-3.ensures in
-    err_behind c.read-3.result taken (packed a) s.0 bytes s.1
-    (err_behind c.read-3.result (taken ++ packed a) (packed b) t.0 s.0 t.1 (c.read-3.ensures.err t.0 ((taken ++ packed a) ++ packed b) t.2 h.awaited h.place_is))
+    err_after c.read-3.result taken (packed a) s.0 bytes s.1
+    (err_after c.read-3.result (taken ++ packed a) (packed b) t.0 s.0 t.1 (c.read-3.ensures.err t.0 ((taken ++ packed a) ++ packed b) t.2 h.awaited h.place_is))
 
 pub returns-clause-part : goal.returns-clause-part
 returns-clause-part g c =

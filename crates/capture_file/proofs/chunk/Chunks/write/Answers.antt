@@ -1,27 +1,38 @@
-use Rattle.std.proofs.Common.{arith, ◌≡◌, ◌+◌, ◌++◌, [], length, ap, ap₂, ◌∙◌, sym, refl, length-append, append-nil}
+use Rattle.std.proofs.Common.{rules, arith, ◌≡◌, ◌+◌, ◌++◌, [], length, ap, ap₂, ◌∙◌, sym, refl, length-append, append-nil}
+use Rattle.std.proofs.lemmas.Grind.{common_steps}
 use Rattle.capture_file.specs.Layout.{packed}
 use Rattle.capture_file.proofs.Parts.{Appends-part, Appends-two}
 use Rattle.capture_file.proofs.chunk.Chunks.write.Goals as goal
 
-pub returns-in-Err-clause-part : goal.returns-in-Err-clause-part
-returns-in-Err-clause-part g c =
-    let s = c.args.self.now in
-    let a = c.as_bytes.result.now in
-    let b = c.as_bytes-2.result.now in
-    let is : (packed s.blue ++ packed s.green) ++ packed s.red ≡ (a ++ b) ++ packed s.red = sym (ap₂ (λ xs ys. (xs ++ ys) ++ packed s.red) c.as_bytes.ensures.bytes c.as_bytes-2.ensures.bytes) in
-    Appends-part _ _ _ a b (packed s.red) _ c.in_ok-first.first c.in-Err.part.gone is (sym c.in_ok-first.ensures.size) c.in-Err.ensures.missing c.in_ok-first.ensures.whole c.in-Err.ensures.part
+pub returns-in-Err : goal.returns-in-Err
+returns-in-Err g c = record {
+  whole = search rules;
+  part =
+      let s = c.args.self.now in
+      let a = c.as_bytes.result.now in
+      let b = c.as_bytes-2.result.now in
+      let is : (packed s.blue ++ packed s.green) ++ packed s.red ≡ (a ++ b) ++ packed s.red = sym (ap₂ (λ xs ys. (xs ++ ys) ++ packed s.red) c.as_bytes.ensures.bytes c.as_bytes-2.ensures.bytes) in
+      Appends-part _ _ _ a b (packed s.red) _ c.in_ok-first.first c.in-Err.part.gone is (sym c.in_ok-first.ensures.size) c.in-Err.ensures.missing c.in_ok-first.ensures.whole c.in-Err.ensures.part;
+  missing = grind (arith, common_steps);
+  cause = search rules;
+}
 
 pub overflow_add-result-in-Err-write_piece : goal.overflow_add-result-in-Err-write_piece
 overflow_add-result-in-Err-write_piece g c = omega (arith, c.in_ok-first.ensures.size, c.in-Ok.ensures.size, c.in-Err-write_piece.ensures.missing, c.as_bytes.ensures.few, c.as_bytes-2.ensures.few, c.as_bytes-3.ensures.few)
 
-pub returns-in-Err-write_piece-clause-part : goal.returns-in-Err-write_piece-clause-part
-returns-in-Err-write_piece-clause-part g c =
-    let s = c.args.self.now in
-    let a = c.as_bytes.result.now in
-    let b = c.as_bytes-2.result.now in
-    let d = c.as_bytes-3.result.now in
-    let is : (packed s.blue ++ packed s.green) ++ packed s.red ≡ ((a ++ b) ++ d) ++ [] =
-    sym (append-nil ((a ++ b) ++ d) ∙ ap₂ (λ xs ys. (xs ++ ys) ++ d) c.as_bytes.ensures.bytes c.as_bytes-2.ensures.bytes ∙ ap (λ zs. (packed s.blue ++ packed s.green) ++ zs) c.as_bytes-3.ensures.bytes) in
-    let two : length (a ++ b) ≡ c.in_ok-first.first + c.in-Ok.count = omega (arith, length-append a b, c.in_ok-first.ensures.size, c.in-Ok.ensures.size) in
-    Appends-part _ _ _ (a ++ b) d [] _ (c.in_ok-first.first + c.in-Ok.count) c.in-Err-write_piece.part.gone is two c.in-Err-write_piece.ensures.missing
-    (Appends-two _ _ _ a b (a ++ b) refl c.in_ok-first.ensures.whole c.in-Ok.ensures.whole) c.in-Err-write_piece.ensures.part
+pub returns-in-Err-write_piece : goal.returns-in-Err-write_piece
+returns-in-Err-write_piece g c = record {
+  whole = search rules;
+  part =
+      let s = c.args.self.now in
+      let a = c.as_bytes.result.now in
+      let b = c.as_bytes-2.result.now in
+      let d = c.as_bytes-3.result.now in
+      let is : (packed s.blue ++ packed s.green) ++ packed s.red ≡ ((a ++ b) ++ d) ++ [] =
+      sym (append-nil ((a ++ b) ++ d) ∙ ap₂ (λ xs ys. (xs ++ ys) ++ d) c.as_bytes.ensures.bytes c.as_bytes-2.ensures.bytes ∙ ap (λ zs. (packed s.blue ++ packed s.green) ++ zs) c.as_bytes-3.ensures.bytes) in
+      let two : length (a ++ b) ≡ c.in_ok-first.first + c.in-Ok.count = omega (arith, length-append a b, c.in_ok-first.ensures.size, c.in-Ok.ensures.size) in
+      Appends-part _ _ _ (a ++ b) d [] _ (c.in_ok-first.first + c.in-Ok.count) c.in-Err-write_piece.part.gone is two c.in-Err-write_piece.ensures.missing
+      (Appends-two _ _ _ a b (a ++ b) refl c.in_ok-first.ensures.whole c.in-Ok.ensures.whole) c.in-Err-write_piece.ensures.part;
+  missing = grind (arith, common_steps);
+  cause = search rules;
+}

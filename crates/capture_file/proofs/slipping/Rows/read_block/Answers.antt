@@ -1,4 +1,5 @@
-use Rattle.std.proofs.Common.{◌≡◌, ◌+◌, ◌++◌, List, Bool, ℕ, sym, subst}
+use Rattle.std.proofs.Common.{arith, rules, ◌≡◌, ◌+◌, ◌++◌, List, Bool, ℕ, sym, subst}
+use Rattle.std.proofs.lemmas.Grind.{common_steps}
 use Rattle.capture_file.specs.Layout.{packed}
 use Rattle.capture_file.specs.Captures.{Stands, StopsIn, IsFault, place_of}
 use Rattle.capture_file.specs.Slips.{SaysFaulty}
@@ -7,12 +8,27 @@ use Rattle.capture_file.proofs.Standing.{stands_more}
 use Rattle.capture_file.proofs.SlippedLanes.{faulty_of}
 use Rattle.capture_file.proofs.slipping.Rows.read_block.Goals as goal
 
-pub returns-in-Err-clause-err : goal.returns-in-Err-clause-err
-returns-in-Err-clause-err g c bytes taken e s =
-    let a = c.args.heading in
-    let o = c.args.self.now in
-    let p = λ (fault : CaptureFault). IsFault (taken ++ bytes) fault × StopsIn a.bits c.args.j taken (place_of fault) in
-    subst (λ r. SaysFaulty p r) (sym c.from.ensures) (faulty_of p c.in-Err.error (c.in-Err.ensures.err bytes taken o.blue o.green o.red e s))
+pub returns-in-Err : goal.returns-in-Err
+returns-in-Err g c = record {
+  below = search rules;
+  blue = search rules;
+  green = search rules;
+  red = search rules;
+  ok = search rules;
+  none = search rules;
+  err = λ bytes taken e s.
+      let a = c.args.heading in
+      let o = c.args.self.now in
+      let p = λ (fault : CaptureFault). IsFault (taken ++ bytes) fault × StopsIn a.bits c.args.j taken (place_of fault) in
+      subst (λ r. SaysFaulty p r) (sym c.from.ensures) (faulty_of p c.in-Err.error (c.in-Err.ensures.err bytes taken o.blue o.green o.red e s));
+  part = search rules;
+  full = search rules;
+  taken = search rules;
+  unplaced = search rules;
+  unwritten = search rules;
+  caused = search rules;
+  later = search rules;
+}
 
 -- a block behind the blocks before it
 more : (version : ℕ) (counts : List ℕ) (j : ℕ) (taken : List ℕ) (x y z a b d u v w : List Bool) → u ≡ x ++ a → v ≡ y ++ b → w ≡ z ++ d
@@ -21,16 +37,32 @@ more version counts j taken x y z a b d u v w eu ev ew s =
     let all = taken ++ ((packed a ++ packed b) ++ packed d) in
     subst (λ r. Stands version counts (j + 1) all u v r) (sym ew) (subst (λ r. Stands version counts (j + 1) all u r (z ++ d)) (sym ev) (subst (λ r. Stands version counts (j + 1) all r (y ++ b) (z ++ d)) (sym eu) s))
 
-pub returns-in-Ok-clause-ok : goal.returns-in-Ok-clause-ok
-returns-in-Ok-clause-ok g c taken s = λ _.
-    let a = c.args.heading in
-    let o = c.args.self.now in
-    let n = c.push.new.self in
-    let k = c.read_next.new.self in
-    let e = c.in-Ok-true.ensures in
-    let t = c.in-Ok-true.field-0-test in (
-      (packed k.blue ++ packed k.green) ++ packed k.red,
-      e.ok t,
-      more a.version a.bits c.args.j taken o.blue o.green o.red k.blue k.green k.red n.blue n.green n.red c.in-Ok.ensures.blue c.in-Ok.ensures.green c.in-Ok.ensures.red
-          (stands_more a.version a.bits c.args.j taken o.blue o.green o.red k.blue k.green k.red s (e.blue t) (e.green t) (e.red t)),
-    )
+pub returns-in-Ok : goal.returns-in-Ok
+returns-in-Ok g c = record {
+  below = search rules;
+  blue = grind (arith, common_steps);
+  green = grind (arith, common_steps);
+  red = grind (arith, common_steps);
+  ok = λ taken s.
+      λ _.
+      let a = c.args.heading in
+      let o = c.args.self.now in
+      let n = c.push.new.self in
+      let k = c.read_next.new.self in
+      let e = c.in-Ok-true.ensures in
+      let t = c.in-Ok-true.field-0-test in (
+        (packed k.blue ++ packed k.green) ++ packed k.red,
+        e.ok t,
+        more a.version a.bits c.args.j taken o.blue o.green o.red k.blue k.green k.red n.blue n.green n.red c.in-Ok.ensures.blue c.in-Ok.ensures.green c.in-Ok.ensures.red
+            (stands_more a.version a.bits c.args.j taken o.blue o.green o.red k.blue k.green k.red s (e.blue t) (e.green t) (e.red t)),
+      );
+  none = search rules;
+  err = search rules;
+  part = search rules;
+  full = search rules;
+  taken = search rules;
+  unplaced = search rules;
+  unwritten = search rules;
+  caused = search rules;
+  later = search rules;
+}

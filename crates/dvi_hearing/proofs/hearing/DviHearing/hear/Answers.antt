@@ -5,32 +5,32 @@ use Rattle.period_grammar.specs.Cut.{stretches}
 use Rattle.period_grammar.specs.Stands.{going_on}
 use Rattle.period_grammar.proofs.Hearings.{start_of, starts_at}
 use Rattle.dvi_hearing.specs.DviSeen.{DviSeen}
-use Rattle.dvi_hearing.specs.DviStands.{StandsFor}
-use Rattle.dvi_hearing.proofs.Hearings.{told_control, told_other, stands_control, stands_other}
+use Rattle.dvi_hearing.specs.DviStands.{DviHearingRepresents}
+use Rattle.dvi_hearing.proofs.Hearings.{reported_control, reported_other, stands_control, stands_other}
 use Rattle.dvi_hearing.proofs.hearing.DviHearing.hear.Goals as goal
 
 pub returns-then-is_control_column-clause-heard : goal.returns-then-is_control_column-clause-heard
 returns-then-is_control_column-clause-heard c cs was =
-    let w = subst (λ (s : DviSeen). StandsFor s cs) (sym c.self.view_is) was in
+    let w = subst (λ (s : DviSeen). DviHearingRepresents s cs) (sym c.self.view_is) was in
     let x = last (stretches cs) in
     stands_control _ cs (column_of c.args.column.now) _ w.columns (sym c.is_control_column.ensures ∙ c.if-is_control_column.true) refl refl
     (c.hear.ensures.heard (going_on x) (column_of c.args.column.now) c.column_value-value.ensures (c.close-kept.ensures.kept x w.stretch))
 
-pub returns-then-is_control_column-clause-told : goal.returns-then-is_control_column-clause-told
-returns-then-is_control_column-clause-told c cs was =
-    let w = subst (λ (s : DviSeen). StandsFor s cs) (sym c.self.view_is) was in
+pub returns-then-is_control_column-clause-reported : goal.returns-then-is_control_column-clause-reported
+returns-then-is_control_column-clause-reported c cs was =
+    let w = subst (λ (s : DviSeen). DviHearingRepresents s cs) (sym c.self.view_is) was in
     let x = last (stretches cs) in
-    told_control cs (column_of c.args.column.now) c.self.inside.columns c.column_value-value.result _ _ w.columns (sym c.is_control_column.ensures ∙ c.if-is_control_column.true) c.column_value-value.ensures
-    (c.close-kept.ensures.told x (start_of cs) c.self.inside.unused w.stretch (starts_at cs _ w.columns)) (c.tell_words.ensures.told _)
+    reported_control cs (column_of c.args.column.now) c.self.inside.columns c.column_value-value.result _ _ w.columns (sym c.is_control_column.ensures ∙ c.if-is_control_column.true) c.column_value-value.ensures
+    (c.close-kept.ensures.reported x (start_of cs) c.self.inside.unused w.stretch (starts_at cs _ w.columns)) (c.tell_words.ensures.reported _)
 
 pub returns-clause-heard : goal.returns-clause-heard
 returns-clause-heard c cs was =
-    let w = subst (λ (s : DviSeen). StandsFor s cs) (sym c.self.view_is) was in
+    let w = subst (λ (s : DviSeen). DviHearingRepresents s cs) (sym c.self.view_is) was in
     stands_other _ cs (column_of c.args.column.now) _ w.columns (sym c.is_control_column.ensures ∙ c.if-is_control_column.false) refl
     (c.go_on-self-inside.ensures.stands (last (stretches cs)) w.stretch)
 
-pub returns-clause-told : goal.returns-clause-told
-returns-clause-told c cs was =
-    let w = subst (λ (s : DviSeen). StandsFor s cs) (sym c.self.view_is) was in
-    told_other cs (column_of c.args.column.now) c.self.inside.columns _ w.columns (sym c.is_control_column.ensures ∙ c.if-is_control_column.false)
-    (c.go_on-self-inside.ensures.told (last (stretches cs)) (start_of cs) c.self.inside.unused w.stretch)
+pub returns-clause-reported : goal.returns-clause-reported
+returns-clause-reported c cs was =
+    let w = subst (λ (s : DviSeen). DviHearingRepresents s cs) (sym c.self.view_is) was in
+    reported_other cs (column_of c.args.column.now) c.self.inside.columns _ w.columns (sym c.is_control_column.ensures ∙ c.if-is_control_column.false)
+    (c.go_on-self-inside.ensures.reported (last (stretches cs)) (start_of cs) c.self.inside.unused w.stretch)

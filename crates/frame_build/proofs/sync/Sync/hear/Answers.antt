@@ -1,10 +1,10 @@
 use Rattle.std.proofs.Common.{◌+◌, ◌<◌, min, Bool, Option, Some, not, ◌∙◌, ap, sym, arith}
 use Rattle.std.specs.Option.{option_eq}
 use mathlib.Core.Bool.{beq}
-use Rattle.frame_build.specs.Event.{vsync_of, marks}
+use Rattle.frame_build.specs.FrameEvent.{vsync_of, marks}
 use Rattle.frame_build.specs.Change.{last_heard, newer, differ}
 use Rattle.frame_build.specs.State.{Sync}
-use Rattle.frame_build.specs.StandsFor.{streak_of}
+use Rattle.frame_build.specs.FramesRepresent.{streak_of}
 use Rattle.frame_build.proofs.Streaks.{heard_at-three, heard_at-fewer, differ-other, sync-run}
 use Rattle.frame_build.proofs.sync.Sync.hear.Goals as goal
 

@@ -1,7 +1,7 @@
 use Rattle.std.proofs.Common.{◌≡◌, ◌≢◌, ℕ, ◌+◌, ◌%◌, List, take, drop, get_or, ap, ap₂, sym, ◌∙◌, arith}
 use Rattle.std.specs.Prelude.{None, Ok, sum}
 use Rattle.infoframe.specs.Frames.{first_lost, frame_in, length_in, sum_of, kind_of, has_length}
-use Rattle.infoframe.proofs.Lists.{behind_first}
+use Rattle.infoframe.proofs.Lists.{after_first}
 use Rattle.infoframe.proofs.Refusals.{kind_in, length_below, refused_lost, refused_length, refused_sum, taken_as}
 use Rattle.infoframe.proofs.lent.InfoRef.read.Goals as goal
 use Rattle.infoframe.proofs.lent.InfoRef.read.Goals.{After-has_length, After-sum_of-2}
@@ -55,7 +55,7 @@ returns c =
     let e = (goal.at.returns c).After-sum_of-2 in
     let header = c.header-header.ensures in
     let n = c.from.ensures ∙ ap (λ (h : List ℕ). get_or h 2 0 % 32) header in
-    let payload = behind_first c.bodies-bodies.result.now c.from.result ∙ ap₂ (λ m (b : List ℕ). take m (drop 1 b)) n c.bodies-bodies.ensures in
+    let payload = after_first c.bodies-bodies.result.now c.from.result ∙ ap₂ (λ m (b : List ℕ). take m (drop 1 b)) n c.bodies-bodies.ensures in
     let frame : _ ≡ frame_in c.args.packet.packet.now = λ i. record { type_code = get_or (header i) 0 0; version = get_or (header i) 1 0; payload = payload i } in
     ap Ok frame
     ∙ sym (taken_as c.args.packet.packet.now c.args.packet.verdicts.now (none_lost d) (same_fit d ∙ c.if-not-has_length.false) (same_sum e ∙ c.if-sum-ne0.false))

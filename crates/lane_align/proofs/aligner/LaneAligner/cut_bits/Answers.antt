@@ -2,7 +2,7 @@ use Rattle.std.proofs.Common.{◌≡◌, ℕ, ◌+◌, ◌*◌, ◌/◌, ◌%◌
 use Rattle.tmds_word.specs.Bits.{bits_of, bytes_bits}
 use Rattle.tmds_word.proofs.Rows.{take_bytes}
 use Rattle.lane_align.specs.Words.{lane_words}
-use Rattle.lane_align.specs.Aligners.{StandsFor}
+use Rattle.lane_align.specs.Aligners.{AlignerRepresents}
 use Rattle.lane_align.proofs.aligner.LaneAligner.cut_bits.Goals as goal
 
 -- whole bytes and then the lowest bits of one
@@ -19,7 +19,7 @@ pub returns-clause-stands : goal.returns-clause-stands
 returns-clause-stands c xs stands =
     let bytes = c.args.bytes.now in
     let mid = c.cut_bytes-next.ensures.stands xs stands in
-    subst (StandsFor c.part.new.self) (parts xs bytes c.args.bits c.requires.bytes) (c.part.ensures.stands _ mid)
+    subst (AlignerRepresents c.part.new.self) (parts xs bytes c.args.bits c.requires.bytes) (c.part.ensures.stands _ mid)
 
 pub returns-clause-words : goal.returns-clause-words
 returns-clause-words c xs ws stands all =

@@ -2,7 +2,7 @@ use Rattle.std.proofs.Common.{◌≡◌, ◌∙◌, ◌++◌, ap, arith, subst, 
 use Rattle.std.proofs.lemmas.List.{take_all}
 use Rattle.tmds_word.specs.Bits.{bytes_bits}
 use Rattle.lane_align.specs.Words.{lane_words}
-use Rattle.lane_align.specs.Aligners.{StandsFor}
+use Rattle.lane_align.specs.Aligners.{AlignerRepresents}
 use Rattle.lane_align.proofs.Fives.{taken_byte}
 use Rattle.lane_align.proofs.aligner.LaneAligner.cut_bytes.Goals as goal
 
@@ -28,7 +28,7 @@ all_taken : (c : goal.After-loop-i) → take c.loop-i.i c.args.bytes.now ≡ c.a
 all_taken c = take_all c.loop-i.i c.args.bytes.now c.loop-i-test.false
 
 pub returns-clause-stands : goal.returns-clause-stands
-returns-clause-stands c xs stands = subst (λ bs. StandsFor c.loop-i.self (xs ++ bytes_bits bs)) (all_taken c) (c.loop-i.invariant.taken.stands xs stands)
+returns-clause-stands c xs stands = subst (λ bs. AlignerRepresents c.loop-i.self (xs ++ bytes_bits bs)) (all_taken c) (c.loop-i.invariant.taken.stands xs stands)
 
 pub returns-clause-words : goal.returns-clause-words
 returns-clause-words c xs ws stands all = c.loop-i.invariant.taken.words xs ws stands all ∙ ap (λ bs. lane_words c.loop-i.self.lock (xs ++ bytes_bits bs)) (all_taken c)

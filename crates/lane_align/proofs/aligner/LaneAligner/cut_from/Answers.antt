@@ -2,7 +2,7 @@ use Rattle.std.proofs.Common.{◌≡◌, ◌+◌, ◌-◌, ◌/◌, ◌%◌, ◌
 use Rattle.std.proofs.lemmas.List.{take_rest}
 use Rattle.tmds_word.specs.Bits.{bytes_bits}
 use Rattle.lane_align.specs.Words.{lane_words}
-use Rattle.lane_align.specs.Aligners.{StandsFor}
+use Rattle.lane_align.specs.Aligners.{AlignerRepresents}
 use Rattle.lane_align.proofs.Begun.{part_more, rest_more}
 use Rattle.lane_align.proofs.aligner.LaneAligner.cut_from.Goals as goal
 
@@ -10,7 +10,7 @@ pub returns-then-next-bits-clause-stands : goal.returns-then-next-bits-clause-st
 returns-then-next-bits-clause-stands c xs stands =
     let more = part_more xs c.args.bytes.now c.args.used c.min-count.result (omega (arith, c.min-count.ensures)) (omega (arith, c.min-count.ensures, c.requires.bytes)) (omega (arith, c.requires.bytes)) in
     let end : c.args.used + c.min-count.result ≡ c.args.bits = omega arith in
-    subst (λ n. StandsFor c.part-at.new.self (xs ++ take n (bytes_bits c.args.bytes.now))) end (subst (StandsFor c.part-at.new.self) more (c.part-at.ensures.stands _ stands))
+    subst (λ n. AlignerRepresents c.part-at.new.self (xs ++ take n (bytes_bits c.args.bytes.now))) end (subst (AlignerRepresents c.part-at.new.self) more (c.part-at.ensures.stands _ stands))
 
 pub returns-then-next-bits-clause-words : goal.returns-then-next-bits-clause-words
 returns-then-next-bits-clause-words c xs ws stands all =
@@ -25,8 +25,8 @@ returns-clause-stands c xs stands =
     let more = part_more xs bytes c.args.used c.min-count.result (omega (arith, c.min-count.ensures)) (omega (arith, c.min-count.ensures, c.requires.bytes)) (omega (arith, c.requires.bytes)) in
     let aligned : next % 8 ≡ 0 = omega (arith, c.min-count.ensures) in
     let rest = rest_more xs bytes next c.args.bits (omega (arith, c.min-count.ensures)) aligned in
-    subst (StandsFor c.cut_bits.new.self) (ap (λ bs. (xs ++ take next (bytes_bits bytes)) ++ take (c.args.bits - next) (bytes_bits bs)) (take_rest bytes (next / 8)) ∙ rest)
-    (c.cut_bits.ensures.stands _ (subst (StandsFor c.part-at.new.self) more (c.part-at.ensures.stands _ stands)))
+    subst (AlignerRepresents c.cut_bits.new.self) (ap (λ bs. (xs ++ take next (bytes_bits bytes)) ++ take (c.args.bits - next) (bytes_bits bs)) (take_rest bytes (next / 8)) ∙ rest)
+    (c.cut_bits.ensures.stands _ (subst (AlignerRepresents c.part-at.new.self) more (c.part-at.ensures.stands _ stands)))
 
 pub returns-clause-words : goal.returns-clause-words
 returns-clause-words c xs ws stands all =
@@ -35,6 +35,6 @@ returns-clause-words c xs ws stands all =
     let more = part_more xs bytes c.args.used c.min-count.result (omega (arith, c.min-count.ensures)) (omega (arith, c.min-count.ensures, c.requires.bytes)) (omega (arith, c.requires.bytes)) in
     let aligned : next % 8 ≡ 0 = omega (arith, c.min-count.ensures) in
     let rest = rest_more xs bytes next c.args.bits (omega (arith, c.min-count.ensures)) aligned in
-    let mid = subst (StandsFor c.part-at.new.self) more (c.part-at.ensures.stands _ stands) in
+    let mid = subst (AlignerRepresents c.part-at.new.self) more (c.part-at.ensures.stands _ stands) in
     c.cut_bits.ensures.words _ ws mid (c.part-at.ensures.words _ ws stands all ∙ ap (lane_words c.part-at.new.self.lock) more)
     ∙ ap (lane_words c.cut_bits.new.self.lock) (ap (λ bs. (xs ++ take next (bytes_bits bytes)) ++ take (c.args.bits - next) (bytes_bits bs)) (take_rest bytes (next / 8)) ∙ rest)

@@ -1,7 +1,7 @@
 use Rattle.std.proofs.Common.{◌≡◌, ◌+◌, ap, sym, subst, refl, ◌∙◌}
 use Rattle.tmds_word.specs.Lent.{columns_in}
 use Rattle.period_grammar.specs.Seen.{Seen}
-use Rattle.period_grammar.specs.Stands.{StandsFor}
+use Rattle.period_grammar.specs.Stands.{HearingRepresents}
 use Rattle.period_grammar.specs.declared.phase.Phase.TheVariants.{Video}
 use Rattle.period_grammar.proofs.Many.{line_went}
 use Rattle.period_grammar.proofs.hearing.Hearing.hear_line.Goals as goal
@@ -13,7 +13,7 @@ returns-clause-count c cs was =
     let was_seen : Seen = record { columns = h.columns; phase = h.phase; control = h.control; line = h.line; island = h.island; notes = h.notes; finished = h.finished } in
     let now_seen : Seen = record { columns = h.columns + n; phase = h.phase; control = h.control; line = c.hear_while-count.new.self; island = h.island; notes = h.notes; finished = h.finished } in
     let phase : c.self.inside.phase ≡ Video c.requires.phase.0 = ap (λ (s : Seen). s.phase) c.self.view_is ∙ c.requires.phase.1 in
-    let w = subst (λ (s : Seen). StandsFor s cs) (sym c.self.view_is) was in
+    let w = subst (λ (s : Seen). HearingRepresents s cs) (sym c.self.view_is) was in
     (line_went was_seen now_seen cs (columns_in c.args.columns) c.hear_while-count.result _ phase phase refl refl c.hear_while-count.ensures.pixels c.hear_while-count.ensures.heard w).count
 
 pub returns-clause-heard : goal.returns-clause-heard
@@ -23,15 +23,15 @@ returns-clause-heard c cs was =
     let was_seen : Seen = record { columns = h.columns; phase = h.phase; control = h.control; line = h.line; island = h.island; notes = h.notes; finished = h.finished } in
     let now_seen : Seen = record { columns = h.columns + n; phase = h.phase; control = h.control; line = c.hear_while-count.new.self; island = h.island; notes = h.notes; finished = h.finished } in
     let phase : c.self.inside.phase ≡ Video c.requires.phase.0 = ap (λ (s : Seen). s.phase) c.self.view_is ∙ c.requires.phase.1 in
-    let w = subst (λ (s : Seen). StandsFor s cs) (sym c.self.view_is) was in
+    let w = subst (λ (s : Seen). HearingRepresents s cs) (sym c.self.view_is) was in
     (line_went was_seen now_seen cs (columns_in c.args.columns) c.hear_while-count.result _ phase phase refl refl c.hear_while-count.ensures.pixels c.hear_while-count.ensures.heard w).stands
 
-pub returns-clause-told : goal.returns-clause-told
-returns-clause-told c cs was =
+pub returns-clause-reported : goal.returns-clause-reported
+returns-clause-reported c cs was =
     let h = c.self.inside in
     let n = c.hear_while-count.result in
     let was_seen : Seen = record { columns = h.columns; phase = h.phase; control = h.control; line = h.line; island = h.island; notes = h.notes; finished = h.finished } in
     let now_seen : Seen = record { columns = h.columns + n; phase = h.phase; control = h.control; line = c.hear_while-count.new.self; island = h.island; notes = h.notes; finished = h.finished } in
     let phase : c.self.inside.phase ≡ Video c.requires.phase.0 = ap (λ (s : Seen). s.phase) c.self.view_is ∙ c.requires.phase.1 in
-    let w = subst (λ (s : Seen). StandsFor s cs) (sym c.self.view_is) was in
-    (line_went was_seen now_seen cs (columns_in c.args.columns) c.hear_while-count.result _ phase phase refl refl c.hear_while-count.ensures.pixels c.hear_while-count.ensures.heard w).told
+    let w = subst (λ (s : Seen). HearingRepresents s cs) (sym c.self.view_is) was in
+    (line_went was_seen now_seen cs (columns_in c.args.columns) c.hear_while-count.result _ phase phase refl refl c.hear_while-count.ensures.pixels c.hear_while-count.ensures.heard w).reported

@@ -2,7 +2,7 @@ use Rattle.std.proofs.Common.{◌+◌, false, [], refl, sym, subst, ◌∙◌, a
 use Rattle.tmds_word.specs.Column.{column_of}
 use Rattle.period_grammar.specs.Column.{value_of}
 use Rattle.period_grammar.specs.Seen.{Seen}
-use Rattle.period_grammar.specs.Stands.{StandsFor, IsStretchAfter, going_on}
+use Rattle.period_grammar.specs.Stands.{HearingRepresents, IsStretchAfter, going_on}
 use Rattle.period_grammar.specs.After.{last, grown}
 use Rattle.period_grammar.specs.Cut.{stretches, runs}
 use Rattle.period_grammar.proofs.Leads.{goes_run}
@@ -10,12 +10,12 @@ use Rattle.period_grammar.specs.Heard.{heard_so_far}
 use Rattle.period_grammar.specs.declared.phase.Phase.{Phase}
 use Rattle.period_grammar.proofs.Phases.{on_video, video_stands}
 use Rattle.period_grammar.proofs.Going.{whole_going, is_column, tells_no_word, still_control, closes_nothing, control_goes}
-use Rattle.period_grammar.proofs.Hearings.{start_of, told_control, told_other, stands_control, stands_other}
+use Rattle.period_grammar.proofs.Hearings.{start_of, reported_control, reported_other, stands_control, stands_other}
 use Rattle.period_grammar.proofs.hearing.Hearing.hear_on.Goals as goal
 
 pub returns-else-not-goes_on-clause-heard : goal.returns-else-not-goes_on-clause-heard
 returns-else-not-goes_on-clause-heard c cs was =
-    let w = subst (λ (s : Seen). StandsFor s cs) (sym c.self.view_is) was in
+    let w = subst (λ (s : Seen). HearingRepresents s cs) (sym c.self.view_is) was in
     let x = last (stretches cs) in
     let d = column_of c.args.column.now in
     let h = c.self.inside in
@@ -24,21 +24,21 @@ returns-else-not-goes_on-clause-heard c cs was =
     let whole = whole_going h.control (going_on x) d control (sym (c.goes_on.ensures ∙ goes_run (runs (going_on x)) h.control.value h.control.run control.run d) ∙ c.if-not-goes_on.false) in
     stands_control _ cs d _ w.columns (is_column _ d whole) refl c.in-Control.is (c.hear_again.ensures.heard (going_on x) d whole.value control)
 
-pub returns-else-not-goes_on-clause-told : goal.returns-else-not-goes_on-clause-told
-returns-else-not-goes_on-clause-told c cs was =
-    let w = subst (λ (s : Seen). StandsFor s cs) (sym c.self.view_is) was in
+pub returns-else-not-goes_on-clause-reported : goal.returns-else-not-goes_on-clause-reported
+returns-else-not-goes_on-clause-reported c cs was =
+    let w = subst (λ (s : Seen). HearingRepresents s cs) (sym c.self.view_is) was in
     let x = last (stretches cs) in
     let d = column_of c.args.column.now in
     let h = c.self.inside in
     let at = subst (λ (p : Phase). IsStretchAfter p h.control h.line h.island h.columns x) c.in-Control.is w.stretch in
     let control = still_control _ h.line h.island h.columns x at in
     let whole = whole_going h.control (going_on x) d control (sym (c.goes_on.ensures ∙ goes_run (runs (going_on x)) h.control.value h.control.run control.run d) ∙ c.if-not-goes_on.false) in
-    told_control cs d h.columns (value_of d) [] [] w.columns (is_column _ d whole) refl (closes_nothing h.control h.line h.island h.columns (start_of cs) d x whole at) (sym (tells_no_word _ h.columns d whole))
+    reported_control cs d h.columns (value_of d) [] [] w.columns (is_column _ d whole) refl (closes_nothing h.control h.line h.island h.columns (start_of cs) d x whole at) (sym (tells_no_word _ h.columns d whole))
     ∙ append-nil (heard_so_far cs)
 
 pub returns-else-is_control_column-clause-heard : goal.returns-else-is_control_column-clause-heard
 returns-else-is_control_column-clause-heard c cs was =
-    let w = subst (λ (s : Seen). StandsFor s cs) (sym c.self.view_is) was in
+    let w = subst (λ (s : Seen). HearingRepresents s cs) (sym c.self.view_is) was in
     let x = last (stretches cs) in
     let d = column_of c.args.column.now in
     let h = c.self.inside in
@@ -46,19 +46,19 @@ returns-else-is_control_column-clause-heard c cs was =
     (subst (λ (p : Phase). IsStretchAfter p h.control c.hear.new.self h.island (h.columns + 1) (grown false d x)) (sym c.in-Video.is)
     (video_stands h.control h.line h.island h.columns d _ _ c.hear.ensures.heard x (subst (λ (p : Phase). IsStretchAfter p h.control h.line h.island h.columns x) c.in-Video.is w.stretch)))
 
-pub returns-else-is_control_column-clause-told : goal.returns-else-is_control_column-clause-told
-returns-else-is_control_column-clause-told c cs was =
-    let w = subst (λ (s : Seen). StandsFor s cs) (sym c.self.view_is) was in
+pub returns-else-is_control_column-clause-reported : goal.returns-else-is_control_column-clause-reported
+returns-else-is_control_column-clause-reported c cs was =
+    let w = subst (λ (s : Seen). HearingRepresents s cs) (sym c.self.view_is) was in
     let x = last (stretches cs) in
     let d = column_of c.args.column.now in
     let h = c.self.inside in
-    told_other cs d h.columns [] w.columns (sym c.is_control_column.ensures ∙ c.if-is_control_column.false)
+    reported_other cs d h.columns [] w.columns (sym c.is_control_column.ensures ∙ c.if-is_control_column.false)
     (on_video h.control h.line h.island h.columns [] d _ refl x (start_of cs) (subst (λ (p : Phase). IsStretchAfter p h.control h.line h.island h.columns x) c.in-Video.is w.stretch))
     ∙ append-nil (heard_so_far cs)
 
 pub returns-then-not-goes_on-clause-count : goal.returns-then-not-goes_on-clause-count
 returns-then-not-goes_on-clause-count c cs was =
-    let w = subst (λ (s : Seen). StandsFor s cs) (sym c.self.view_is) was in
+    let w = subst (λ (s : Seen). HearingRepresents s cs) (sym c.self.view_is) was in
     let x = last (stretches cs) in
     let d = column_of c.args.column.now in
     let h = c.self.inside in
@@ -68,7 +68,7 @@ returns-then-not-goes_on-clause-count c cs was =
 
 pub returns-else-not-goes_on-clause-count : goal.returns-else-not-goes_on-clause-count
 returns-else-not-goes_on-clause-count c cs was =
-    let w = subst (λ (s : Seen). StandsFor s cs) (sym c.self.view_is) was in
+    let w = subst (λ (s : Seen). HearingRepresents s cs) (sym c.self.view_is) was in
     let x = last (stretches cs) in
     let d = column_of c.args.column.now in
     let h = c.self.inside in

@@ -1,4 +1,5 @@
-use Rattle.std.proofs.Common.{◌++◌, ◌≤◌, List, length, take, not, ap, sym, subst, ◌∙◌, arith}
+use Rattle.std.proofs.Common.{rules, ◌++◌, ◌≤◌, List, length, take, not, ap, sym, subst, ◌∙◌, arith}
+use Rattle.std.proofs.lemmas.Grind.{common_steps}
 use Rattle.tmds_word.specs.Column.{Column}
 use Rattle.tmds_word.specs.Lent.{columns_in}
 use Rattle.period_grammar.specs.Balanced.{is_pixel}
@@ -18,12 +19,21 @@ loop-i-preserved c =
       heard = λ pixels was. subst (λ (cs : List Column). IsLineAfter c.hear.new.self cs) (next_take pixels cols i _ c.get-column.ensures) (c.hear.ensures.heard (pixels ++ take i cols) (inv.heard pixels was));
     }
 
-pub returns-then-is_control_column-clause-pixels : goal.returns-then-is_control_column-clause-pixels
+pub returns-then-is_control_column : goal.returns-then-is_control_column
 unfolding is_pixel
-returns-then-is_control_column-clause-pixels c =
-    step_no is_pixel (columns_in c.args.columns) c.loop-i.i _ _ c.get-column.ensures (ap not (sym c.is_control_column.ensures ∙ c.if-is_control_column.true)) c.loop-i.invariant.pixels
+returns-then-is_control_column c = record {
+  within = omega arith;
+  pixels = step_no is_pixel (columns_in c.args.columns) c.loop-i.i _ _ c.get-column.ensures (ap not (sym c.is_control_column.ensures ∙ c.if-is_control_column.true)) c.loop-i.invariant.pixels;
+  count = omega (arith, c.loop-i.invariant.counted);
+  heard = search rules;
+}
 
-pub returns-clause-pixels : goal.returns-clause-pixels
-returns-clause-pixels c =
+pub returns : goal.returns
+returns c =
     let most : length (columns_in c.args.columns) ≤ c.loop-i.i = omega arith in
-    omega (arith, step_end is_pixel (columns_in c.args.columns) c.loop-i.i _ most c.loop-i.invariant.pixels, most)
+    record {
+      within = search rules;
+      pixels = omega (arith, step_end is_pixel (columns_in c.args.columns) c.loop-i.i _ most c.loop-i.invariant.pixels, most);
+      count = grind (arith, common_steps);
+      heard = grind (arith, common_steps);
+    }

@@ -1,5 +1,6 @@
 use Rattle.std.proofs.Common.{◌≡◌, ℕ, ◌+◌, ◌≤◌, ◌++◌, min, true, All, List, length, take, ap, sym, subst, ◌∙◌, arith, length-append}
 use Rattle.std.proofs.lemmas.List.{take-take, length-take-le, length-map}
+use Rattle.std.proofs.lemmas.Grind.{common_steps}
 use Rattle.tmds_word.specs.Column.{Column, blues, greens, reds}
 use Rattle.tmds_word.specs.Lent.{columns_in}
 use Rattle.tmds_code.specs.Balances.{disparity_at}
@@ -70,17 +71,8 @@ invariant_of-self c =
       red = subst (λ (m : ℕ). IsSized c.hear_followed-3.new.self m) (ap (λ (m : ℕ). c.self.inside.count + m) red ∙ sum) c.hear_followed-3.ensures.sized;
     }
 
-pub returns-clause-pixels : goal.returns-clause-pixels
-returns-clause-pixels c =
-    let cols = columns_in c.args.columns in
-    let n = c.push_groups-n.result.0 in
-    let front = c.first.ensures in
-    let le : n ≤ c.min-fits.result = omega (arith, c.push_groups-n.ensures.within, ap (λ (cs : List Column). length cs) front, length-take-le c.min-fits.result cols (omega (arith, c.min-fits.ensures))) in
-    let same : take n (columns_in c.first.result) ≡ take n cols = ap (take n) front ∙ take-take n c.min-fits.result cols le in
-    subst (λ (cs : List Column). All (λ d. is_pixel d ≡ true) cs) same c.push_groups-n.ensures.pixels
-
-pub returns-clause-heard : goal.returns-clause-heard
-returns-clause-heard c pixels was =
+pub returns : goal.returns
+returns c =
     let cols = columns_in c.args.columns in
     let n = c.push_groups-n.result.0 in
     let front = c.first.ensures in
@@ -92,7 +84,13 @@ returns-clause-heard c pixels was =
     let h = c.self.inside in
     let old : LineSeen = record { bytes = h.bytes; count = h.count; blue = h.blue; green = h.green; red = h.red } in
     let now : LineSeen = record { bytes = c.push_groups-n.new.self; count = h.count + n; blue = c.hear_followed.new.self; green = c.hear_followed-2.new.self; red = c.hear_followed-3.new.self } in
-    subst (λ (cs : List Column). IsLineAfter now (pixels ++ cs)) c.first-heard.ensures
-    (line_append old now pixels heard _ _ _ (subst (λ (l : LineSeen). IsLineAfter l pixels) (sym c.self.view_is) was)
-    (omega (arith, long, le, c.min-fits.ensures, c.if-pixel-ge4096.false)) (omega (arith, long)) put (sym c.blue.ensures.lane) (sym c.green.ensures.lane) (sym c.red.ensures.lane)
-    c.hear_followed.ensures.heard c.hear_followed-2.ensures.heard c.hear_followed-3.ensures.heard)
+    record {
+      within = omega (arith, le, c.min-fits.ensures);
+      pixels = subst (λ (cs : List Column). All (λ d. is_pixel d ≡ true) cs) same c.push_groups-n.ensures.pixels;
+      count = grind (arith, common_steps);
+      heard = λ pixels was.
+          subst (λ (cs : List Column). IsLineAfter now (pixels ++ cs)) c.first-heard.ensures
+          (line_append old now pixels heard _ _ _ (subst (λ (l : LineSeen). IsLineAfter l pixels) (sym c.self.view_is) was)
+          (omega (arith, long, le, c.min-fits.ensures, c.if-pixel-ge4096.false)) (omega (arith, long)) put (sym c.blue.ensures.lane) (sym c.green.ensures.lane) (sym c.red.ensures.lane)
+          c.hear_followed.ensures.heard c.hear_followed-2.ensures.heard c.hear_followed-3.ensures.heard);
+    }

@@ -1,28 +1,28 @@
 use Rattle.std.proofs.Common.{◌≡◌, ◌++◌, sym, subst}
 use Rattle.std.specs.Prelude.{nat_le}
 use Rattle.period_grammar.specs.Heard.{line_at, if_not}
-use Rattle.period_grammar.specs.Things.{long_line}
-use Rattle.period_grammar.specs.Noted.{things, lent}
+use Rattle.period_grammar.specs.Events.{long_line}
+use Rattle.period_grammar.specs.Noted.{events, lent}
 use Rattle.period_grammar.specs.Lines.{IsLineAfter}
 use Rattle.period_grammar.specs.LineSeen.{LineSeen}
 use Rattle.period_grammar.proofs.Lined.{noted_pixels, more_than, no_more}
 use Rattle.period_grammar.proofs.line.Line.tell_pixels.Goals as goal
 
-pub returns-then-self-gt4096-clause-told : goal.returns-then-self-gt4096-clause-told
-returns-then-self-gt4096-clause-told c pixels whole was =
+pub returns-then-self-gt4096-clause-reported : goal.returns-then-self-gt4096-clause-reported
+returns-then-self-gt4096-clause-reported c pixels whole was =
     let l : LineSeen = record { bytes = c.self.inside.bytes; count = c.self.inside.count; blue = c.self.inside.blue; green = c.self.inside.green; red = c.self.inside.red } in
     let e : l ≡ c.args.self.now = c.self.view_is in
-    let last : things (lent l.bytes whole) c.push-then-self-gt4096.new.self ≡ things (lent l.bytes whole) c.tell_code-3.new.notes ++ if_not (nat_le l.count 4096) (long_line c.args.start) =
+    let last : events (lent l.bytes whole) c.push-then-self-gt4096.new.self ≡ events (lent l.bytes whole) c.tell_code-3.new.notes ++ if_not (nat_le l.count 4096) (long_line c.args.start) =
     more_than (lent l.bytes whole) c.tell_code-3.new.notes c.push-then-self-gt4096.new.self l.count c.args.start c.if-self-gt4096.true c.push-then-self-gt4096.ensures in
-    subst (λ (s : LineSeen). things (lent s.bytes whole) c.push-then-self-gt4096.new.self ≡ things (lent s.bytes whole) c.args.notes.now ++ line_at c.args.start c.args.from pixels) e
+    subst (λ (s : LineSeen). events (lent s.bytes whole) c.push-then-self-gt4096.new.self ≡ events (lent s.bytes whole) c.args.notes.now ++ line_at c.args.start c.args.from pixels) e
     (noted_pixels l whole c.args.start c.args.from pixels c.args.notes.now c.push.new.self c.tell_code.new.notes c.tell_code-2.new.notes c.tell_code-3.new.notes c.push-then-self-gt4096.new.self
-    (subst (λ (s : LineSeen). IsLineAfter s pixels) (sym e) was) c.push.ensures c.tell_code.ensures.told c.tell_code-2.ensures.told c.tell_code-3.ensures.told last)
+    (subst (λ (s : LineSeen). IsLineAfter s pixels) (sym e) was) c.push.ensures c.tell_code.ensures.reported c.tell_code-2.ensures.reported c.tell_code-3.ensures.reported last)
 
-pub returns-else-self-gt4096-clause-told : goal.returns-else-self-gt4096-clause-told
-returns-else-self-gt4096-clause-told c pixels whole was =
+pub returns-else-self-gt4096-clause-reported : goal.returns-else-self-gt4096-clause-reported
+returns-else-self-gt4096-clause-reported c pixels whole was =
     let l : LineSeen = record { bytes = c.self.inside.bytes; count = c.self.inside.count; blue = c.self.inside.blue; green = c.self.inside.green; red = c.self.inside.red } in
     let e : l ≡ c.args.self.now = c.self.view_is in
-    let last = no_more (things (lent l.bytes whole) c.tell_code-3.new.notes) l.count c.args.start c.if-self-gt4096.false in
-    subst (λ (s : LineSeen). things (lent s.bytes whole) c.tell_code-3.new.notes ≡ things (lent s.bytes whole) c.args.notes.now ++ line_at c.args.start c.args.from pixels) e
+    let last = no_more (events (lent l.bytes whole) c.tell_code-3.new.notes) l.count c.args.start c.if-self-gt4096.false in
+    subst (λ (s : LineSeen). events (lent s.bytes whole) c.tell_code-3.new.notes ≡ events (lent s.bytes whole) c.args.notes.now ++ line_at c.args.start c.args.from pixels) e
     (noted_pixels l whole c.args.start c.args.from pixels c.args.notes.now c.push.new.self c.tell_code.new.notes c.tell_code-2.new.notes c.tell_code-3.new.notes c.tell_code-3.new.notes
-    (subst (λ (s : LineSeen). IsLineAfter s pixels) (sym e) was) c.push.ensures c.tell_code.ensures.told c.tell_code-2.ensures.told c.tell_code-3.ensures.told last)
+    (subst (λ (s : LineSeen). IsLineAfter s pixels) (sym e) was) c.push.ensures c.tell_code.ensures.reported c.tell_code-2.ensures.reported c.tell_code-3.ensures.reported last)

@@ -1,7 +1,7 @@
 use Rattle.std.proofs.Common.{◌≡◌, refl, sym, ◌∙◌, Some}
 use Rattle.source_end.proofs.Gathered.{on_ok}
 use Rattle.relay.specs.Relayed.{Judged}
-use Rattle.relay.proofs.Fits.{packet_told}
+use Rattle.relay.proofs.Fits.{packet_reported}
 use Rattle.relay.proofs.Going.{few_held, held_packet, fits_packet}
 use Rattle.relay.proofs.relaying.Relay.packet.Goals as goal
 
@@ -18,7 +18,7 @@ returns-in-Some-clause-at c t b good h =
       columns = h.columns;
       few = h.few;
       island = held_packet b x c.push.new.island j c.sent_on-sent.result e (c.sent_on-sent.ensures j refl) n;
-      fits = fits_packet b j h.fits (packet_told j.packet c.requires.whole c.requires.digits);
+      fits = fits_packet b j h.fits (packet_reported j.packet c.requires.whole c.requires.digits);
       faulty = h.faulty;
     })
     (c.push.ensures (few_held b x e))

@@ -1,6 +1,6 @@
 use Rattle.std.proofs.Common.{refl}
-use Rattle.listing.specs.ContentText.{content_lines, lines_after}
-use Rattle.listing.specs.Listed.{listed_from}
+use Rattle.listing_writer.specs.ContentText.{content_lines, lines_after}
+use Rattle.listing_writer.specs.Listed.{listed_from}
 use Rattle.sampling.specs.Counts.{lines_with}
 use Rattle.sampling.proofs.counter.Counter.new.Goals as goal
 

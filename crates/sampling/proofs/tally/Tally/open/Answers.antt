@@ -1,4 +1,4 @@
-use Rattle.listing.specs.ContentText.{content_lines, lines_after, fault_line_count}
+use Rattle.listing_writer.specs.ContentText.{content_lines, lines_after, fault_line_count}
 use Rattle.sampling.proofs.tally.Tally.open.Goals as goal
 
 pub returns : goal.returns

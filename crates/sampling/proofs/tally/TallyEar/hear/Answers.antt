@@ -1,6 +1,6 @@
 use Rattle.std.proofs.Common.{[], ◌∷◌}
 use Rattle.std.specs.Prelude.{Result, Ok, Err, OnOk}
-use Rattle.period_grammar.specs.Lending.{lent_thing}
+use Rattle.period_grammar.specs.Lending.{lent_event}
 use Rattle.sampling.proofs.Growing.{faults_more}
 use Rattle.sampling.proofs.Counting.{faults_kept}
 use Rattle.sampling.proofs.tally.TallyEar.hear.Goals as goal
@@ -12,11 +12,11 @@ ok_then (Err e) then held = tt
 pub returns-clause-ok : goal.returns-clause-ok
 returns-clause-ok c =
     ok_then c.hear-2.result
-    (λ heard told stands.
-    let lists = heard.1 told stands.recalls in
+    (λ heard reported stands.
+    let lists = heard.1 reported stands.recalls in
     record {
       recalls = lists.recalls;
-      faults = faults_kept _ _ _ _ _ stands.faults lists.faults (faults_more told (lent_thing c.args.told ∷ []));
-      counted = c.hear.ensures told stands.counted;
+      faults = faults_kept _ _ _ _ _ stands.faults lists.faults (faults_more reported (lent_event c.args.event ∷ []));
+      counted = c.hear.ensures reported stands.counted;
     })
     c.hear-2.ensures.ok

@@ -10,28 +10,22 @@ use Rattle.source_end.proofs.DviStreams.{DviSpells-more, DviSpells-length, dvi_s
 use Rattle.source_end.proofs.Fronts.{on_err}
 use Rattle.source_end.proofs.dvi_stream.DviStream.spell.Goals as goal
 
-pub dvi_item-requires-clause-sendable : goal.dvi_item-requires-clause-sendable
-dvi_item-requires-clause-sendable g c =
-    let ps = c.args.self.now in
-    let x = c.item-item.result in
-    let i = c.loop-item.item-index in
-    let same : map period_of c.deref-item-items.result.now ≡ ps = ap (map period_of) c.deref-item-items.ensures.value ∙ c.self.view_is in
-    let conforming : dvi_conforms ps ≡ true = ap dvi_conforms (sym c.self.view_is) ∙ c.self.invariant.0 in
-    let lt : i < length ps = item_within c.deref-item-items.result.now ps i same c.loop-item-test.true in
-    subst (λ (p : Period). is_dvi_sendable p ≡ true) (item_at c.deref-item-items.result.now ps i x same c.loop-item-test.true c.item-item.is) (dvi_sendable_at ps i (period_of x) conforming lt)
-
-pub dvi_item-requires-clause-room : goal.dvi_item-requires-clause-room
-dvi_item-requires-clause-room g c =
+pub dvi_item-requires : goal.dvi_item-requires
+dvi_item-requires g c =
     let ps = c.args.self.now in
     let x = c.item-item.result in
     let i = c.loop-item.item-index in
     let was = c.loop-item.invariant in
     let same : map period_of c.deref-item-items.result.now ≡ ps = ap (map period_of) c.deref-item-items.ensures.value ∙ c.self.view_is in
+    let conforming : dvi_conforms ps ≡ true = ap dvi_conforms (sym c.self.view_is) ∙ c.self.invariant.0 in
     let lt : i < length ps = item_within c.deref-item-items.result.now ps i same c.loop-item-test.true in
-    let at = ap dvi_columns (item_at c.deref-item-items.result.now ps i x same c.loop-item-test.true c.item-item.is) in
+    let is = item_at c.deref-item-items.result.now ps i x same c.loop-item-test.true c.item-item.is in
     let all = c.self.invariant.1 ∙ ap dvi_columns_of c.self.view_is in
     let long = ap length was.taken ∙ length-append (g.C.ColumnSink.taken c.args.out.now) was.columns in
-    omega (arith, at, all, long, DviSpells-length (take i ps) was.columns was.spelled, dvi_periods_room ps i (period_of x) lt, c.self.invariant.2, c.requires)
+    record {
+      sendable = subst (λ (p : Period). is_dvi_sendable p ≡ true) is (dvi_sendable_at ps i (period_of x) conforming lt);
+      room = omega (arith, ap dvi_columns is, all, long, DviSpells-length (take i ps) was.columns was.spelled, dvi_periods_room ps i (period_of x) lt, c.self.invariant.2, c.requires);
+    }
 
 pub loop-item-preserved : goal.loop-item-preserved
 loop-item-preserved g c =

@@ -1,4 +1,4 @@
-use Rattle.std.proofs.Common.{◌≡◌, ℕ, ◌<◌, List, length, get_or, ap, ap₂, sym, subst, ◌∙◌, arith}
+use Rattle.std.proofs.Common.{ℕ, List, length, get_or, ap, ap₂, sym, subst, ◌∙◌, arith}
 use Rattle.source_end.specs.Rows.{rows_between, AreEnds}
 use Rattle.source_end.proofs.RowEnds.{length-rows}
 use Rattle.source_end.proofs.rows.Rows.get.Goals as goal

@@ -1,4 +1,4 @@
-use Rattle.std.proofs.Common.{length, ap, sym, ◌∙◌, arith}
+use Rattle.std.proofs.Common.{length, ap, arith}
 use Rattle.source_end.proofs.RowEnds.{length-rows}
 use Rattle.source_end.proofs.rows.Rows.len.Goals as goal
 

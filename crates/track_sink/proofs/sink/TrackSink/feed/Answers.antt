@@ -2,8 +2,8 @@ use Rattle.std.proofs.Common.{List, append_assoc, ◌+◌, ◌++◌, ◌∙◌, 
 use Rattle.std.specs.Prelude.{slice_index}
 use Rattle.link_sink.specs.Sinks.{grown}
 use Rattle.track_sink.specs.Trackers.{IsSettled}
-use Rattle.track_sink.specs.TrackSinks.{TrackSinkSeen, bits_of}
-use Rattle.track_sink.specs.Events.{Event}
+use Rattle.track_sink.specs.TrackSinks.{TrackSinkSeen, bits_fed}
+use Rattle.track_sink.specs.TrackEvents.{TrackEvent}
 use Rattle.track_sink.specs.Tracks.{HasTracked}
 use Rattle.track_sink.proofs.Failing.{stops_before}
 use Rattle.track_sink.proofs.Reaching.{passes_on}
@@ -19,45 +19,45 @@ pub invariant_of-self : goal.invariant_of-self
 invariant_of-self g c = λ is_open.
     let kept = c.self.invariant is_open in
     let fed = grown kept.0 c.args.a.now c.args.b.now c.args.c.now c.args.bits in
-    let now = c.in-Ok.ensures.told fed kept.1 (c.append.ensures kept.0 kept.1 kept.2) in
+    let now = c.in-Ok.ensures.reported fed kept.1 (c.append.ensures kept.0 kept.1 kept.2) in
     (fed, kept.1 ++ now.0, now.2)
 
 pub returns-in-Ok-clause-first : goal.returns-in-Ok-clause-first
 returns-in-Ok-clause-first g c =
     let kept = c.self.invariant (ap (λ (s : TrackSinkSeen). s.is_open) c.self.view_is ∙ c.requires.open) in
-    let now = c.in-Ok.ensures.told (grown kept.0 c.args.a.now c.args.b.now c.args.c.now c.args.bits) kept.1 (c.append.ensures kept.0 kept.1 kept.2) in
+    let now = c.in-Ok.ensures.reported (grown kept.0 c.args.a.now c.args.b.now c.args.c.now c.args.bits) kept.1 (c.append.ensures kept.0 kept.1 kept.2) in
     (fed_more c.self.inside.tracker c.follow.new.self kept.0 kept.1 (kept.1 ++ now.0) c.args.a.now c.args.b.now c.args.c.now c.args.bits kept.2 now.2 c.requires.first.bytes_given c.requires.second.bytes_given c.requires.third.bytes_given).0
-    ∙ ap (λ (s : TrackSinkSeen). bits_of s 0 + slice_index c.args.bits 0) c.self.view_is
+    ∙ ap (λ (s : TrackSinkSeen). bits_fed s 0 + slice_index c.args.bits 0) c.self.view_is
 
 pub returns-in-Ok-clause-second : goal.returns-in-Ok-clause-second
 returns-in-Ok-clause-second g c =
     let kept = c.self.invariant (ap (λ (s : TrackSinkSeen). s.is_open) c.self.view_is ∙ c.requires.open) in
-    let now = c.in-Ok.ensures.told (grown kept.0 c.args.a.now c.args.b.now c.args.c.now c.args.bits) kept.1 (c.append.ensures kept.0 kept.1 kept.2) in
+    let now = c.in-Ok.ensures.reported (grown kept.0 c.args.a.now c.args.b.now c.args.c.now c.args.bits) kept.1 (c.append.ensures kept.0 kept.1 kept.2) in
     (fed_more c.self.inside.tracker c.follow.new.self kept.0 kept.1 (kept.1 ++ now.0) c.args.a.now c.args.b.now c.args.c.now c.args.bits kept.2 now.2 c.requires.first.bytes_given c.requires.second.bytes_given c.requires.third.bytes_given).1
-    ∙ ap (λ (s : TrackSinkSeen). bits_of s 1 + slice_index c.args.bits 1) c.self.view_is
+    ∙ ap (λ (s : TrackSinkSeen). bits_fed s 1 + slice_index c.args.bits 1) c.self.view_is
 
 pub returns-in-Ok-clause-third : goal.returns-in-Ok-clause-third
 returns-in-Ok-clause-third g c =
     let kept = c.self.invariant (ap (λ (s : TrackSinkSeen). s.is_open) c.self.view_is ∙ c.requires.open) in
-    let now = c.in-Ok.ensures.told (grown kept.0 c.args.a.now c.args.b.now c.args.c.now c.args.bits) kept.1 (c.append.ensures kept.0 kept.1 kept.2) in
+    let now = c.in-Ok.ensures.reported (grown kept.0 c.args.a.now c.args.b.now c.args.c.now c.args.bits) kept.1 (c.append.ensures kept.0 kept.1 kept.2) in
     (fed_more c.self.inside.tracker c.follow.new.self kept.0 kept.1 (kept.1 ++ now.0) c.args.a.now c.args.b.now c.args.c.now c.args.bits kept.2 now.2 c.requires.first.bytes_given c.requires.second.bytes_given c.requires.third.bytes_given).2
-    ∙ ap (λ (s : TrackSinkSeen). bits_of s 2 + slice_index c.args.bits 2) c.self.view_is
+    ∙ ap (λ (s : TrackSinkSeen). bits_fed s 2 + slice_index c.args.bits 2) c.self.view_is
 
-pub returns-in-Ok-clause-told : goal.returns-in-Ok-clause-told
-returns-in-Ok-clause-told g c = λ fed told stands.
-    let was : IsSettled c.self.inside.tracker fed told = subst (λ (s : TrackSinkSeen). IsSettled s.tracker fed told) (sym c.self.view_is) stands.settled in
+pub returns-in-Ok-clause-reported : goal.returns-in-Ok-clause-reported
+returns-in-Ok-clause-reported g c = λ fed reported stands.
+    let was : IsSettled c.self.inside.tracker fed reported = subst (λ (s : TrackSinkSeen). IsSettled s.tracker fed reported) (sym c.self.view_is) stands.settled in
     let all = grown fed c.args.a.now c.args.b.now c.args.c.now c.args.bits in
-    let now = c.in-Ok.ensures.told all told (c.append.ensures fed told was) in
-    (now.0, now.1, record { tracked = settled_tracks c.follow.new.self all (told ++ now.0) now.2; settled = now.2 })
+    let now = c.in-Ok.ensures.reported all reported (c.append.ensures fed reported was) in
+    (now.0, now.1, record { tracked = settled_tracks c.follow.new.self all (reported ++ now.0) now.2; settled = now.2 })
 
 pub returns-in-Err-clause-stopped : goal.returns-in-Err-clause-stopped
-returns-in-Err-clause-stopped g c = λ fed told stands.
-    let was : IsSettled c.self.inside.tracker fed told = subst (λ (s : TrackSinkSeen). IsSettled s.tracker fed told) (sym c.self.view_is) stands.settled in
+returns-in-Err-clause-stopped g c = λ fed reported stands.
+    let was : IsSettled c.self.inside.tracker fed reported = subst (λ (s : TrackSinkSeen). IsSettled s.tracker fed reported) (sym c.self.view_is) stands.settled in
     let all = grown fed c.args.a.now c.args.b.now c.args.c.now c.args.bits in
-    let now = c.in-Err.ensures.stopped all told (c.append.ensures fed told was) in
-    let rest = passes_on all (told ++ now.0) now.2 in
-    let P : List Event → Type 0 = λ es. HasTracked all es in (
+    let now = c.in-Err.ensures.stopped all reported (c.append.ensures fed reported was) in
+    let rest = passes_on all (reported ++ now.0) now.2 in
+    let P : List TrackEvent → Type 0 = λ es. HasTracked all es in (
       now.0 ++ rest.0,
-      stops_before g.E.Ear.took g.E.Ear.broke g.E.TrackEar.tracked g.E.TrackEar.lost g.met.E.TrackEar.tracked_things g.met.E.TrackEar.lost_thing g.met.E.TrackEar.tracked_both c.args.ear.now c.follow.new.ear now.0 rest.0 now.1,
-      subst P (append_assoc told now.0 rest.0) rest.1,
+      stops_before g.E.Ear.took g.E.Ear.broke g.E.TrackEar.tracked g.E.TrackEar.lost g.met.E.TrackEar.tracked_events g.met.E.TrackEar.lost_event g.met.E.TrackEar.tracked_both c.args.ear.now c.follow.new.ear now.0 rest.0 now.1,
+      subst P (append_assoc reported now.0 rest.0) rest.1,
     )

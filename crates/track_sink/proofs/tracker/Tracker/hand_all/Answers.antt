@@ -17,20 +17,20 @@ returns-in_err-hand_on-2-clause-cause g c =
     let then = c.in_err-hand_on-2.ensures.cause in
     record { later = let h = then.later in omega arith; failed = on_err _ (rose_after _ _ _ first then.failed) }
 
-pub returns-then-bits-le-MOST-clause-stopped : goal.returns-then-bits-le-MOST-clause-stopped
-returns-then-bits-le-MOST-clause-stopped g c = λ fed carries room.
+pub returns-then-bits-le-FEED_BITS-clause-stopped : goal.returns-then-bits-le-FEED_BITS-clause-stopped
+returns-then-bits-le-FEED_BITS-clause-stopped g c = λ fed carries room.
     lost_some g.E.Ear.took g.E.Ear.broke c.args.ear.now c.hand_on.new.ear (rest_of c.args.self.now.start fed) c.args.self.now.handed c.args.bits _ (c.hand_on.ensures.stopped fed carries room)
 
 pub returns-clause-carries : goal.returns-clause-carries
 returns-clause-carries g c = λ fed carries room.
     c.in_ok-hand_on-2.ensures.carries fed (c.in_ok-hand_on.ensures.carries fed carries (omega arith)) (omega (arith, room, c.in_ok-hand_on.ensures.handed, c.hand_on-2.ensures.start))
 
-pub returns-clause-told : goal.returns-clause-told
-returns-clause-told g c = λ fed carries room.
+pub returns-clause-reported : goal.returns-clause-reported
+returns-clause-reported g c = λ fed carries room.
     let t = c.args.self.now in
     let bits = c.args.bits in
-    let first = c.in_ok-hand_on.ensures.told fed carries (omega arith) in
-    let second = c.in_ok-hand_on-2.ensures.told fed (c.in_ok-hand_on.ensures.carries fed carries (omega arith)) (omega (arith, room, c.in_ok-hand_on.ensures.handed, c.hand_on-2.ensures.start)) in (
+    let first = c.in_ok-hand_on.ensures.reported fed carries (omega arith) in
+    let second = c.in_ok-hand_on-2.ensures.reported fed (c.in_ok-hand_on.ensures.carries fed carries (omega arith)) (omega (arith, room, c.in_ok-hand_on.ensures.handed, c.hand_on-2.ensures.start)) in (
       first.0 ++ second.0,
       gains_two fed t.start c.hand_on-2.new.self.start t.handed c.hand_on-2.new.self.handed (bits / 8 * 8) (bits % 8) bits first.0 second.0 c.hand_on-2.ensures.start c.in_ok-hand_on.ensures.handed (omega arith) first.1 second.1,
       g.met.E.Ear.took_both c.args.ear.now c.hand_on-2.new.ear c.hand_on-3.new.ear first.0 second.0 first.2 second.2,
@@ -45,7 +45,7 @@ pub returns-in_err-hand_on-2-clause-stopped : goal.returns-in_err-hand_on-2-clau
 returns-in_err-hand_on-2-clause-stopped g c = λ fed carries room.
     let t = c.args.self.now in
     let bits = c.args.bits in
-    let first = c.in_ok-hand_on.ensures.told fed carries (omega arith) in
+    let first = c.in_ok-hand_on.ensures.reported fed carries (omega arith) in
     let second = c.in_err-hand_on-2.ensures.stopped fed (c.in_ok-hand_on.ensures.carries fed carries (omega arith)) (omega (arith, room, c.in_ok-hand_on.ensures.handed, c.hand_on-2.ensures.start)) in
     on_err {P = LostSome g.E.Ear.took g.E.Ear.broke c.args.ear.now c.hand_on-3.new.ear (rest_of t.start fed) t.handed bits} _ (
       bits,

@@ -1,15 +1,15 @@
 use Rattle.std.proofs.Common.{◌+◌, [], subst}
 use Rattle.std.specs.Prelude.{slice_index}
 use Rattle.link_sink.specs.Sinks.{Fed, IsGain}
-use Rattle.link_sink.specs.Streams.{StandsFor}
+use Rattle.link_sink.specs.Streams.{SinkRepresents}
 use Rattle.track_sink.specs.Epochs.{rest_of, front_of}
 use Rattle.track_sink.proofs.Handing.{can_hand_first, can_hand_second, can_hand_third, handed_is, carries_handed, none_gained}
 use Rattle.link_sink.proofs.Stops.{on_err}
 use Rattle.track_sink.proofs.Failing.{LostGain}
 use Rattle.track_sink.proofs.tracker.Tracker.hand_on.Goals as goal
 
-pub returns-then-bits-eq0-clause-told : goal.returns-then-bits-eq0-clause-told
-returns-then-bits-eq0-clause-told g c = λ fed carries room.
+pub returns-then-bits-eq0-clause-reported : goal.returns-then-bits-eq0-clause-reported
+returns-then-bits-eq0-clause-reported g c = λ fed carries room.
     ([], none_gained c.args.self.now fed c.args.bits c.if-bits-eq0.true, g.met.E.Ear.took_none c.args.ear.now)
 
 pub feed_ungated-requires-clause-first : goal.feed_ungated-requires-clause-first
@@ -31,23 +31,23 @@ returns-clause-carries g c = λ fed carries room.
     c.release-counts.ensures.first c.release-counts.ensures.second c.release-counts.ensures.third c.released.ensures.bits c.released-2.ensures.bits c.released-3.ensures.bits in
     carries_handed t fed c.feed_ungated.new.self c.release-counts.new.self c.release-counts.result c.args.bits carries room
     c.release-counts.ensures.first c.release-counts.ensures.second c.release-counts.ensures.third c.in_ok-feed_ungated.ensures.open
-    (subst (StandsFor c.feed_ungated.new.self) is (c.in_ok-feed_ungated.ensures.fed (front_of t.handed (rest_of t.start fed)) carries.link))
+    (subst (SinkRepresents c.feed_ungated.new.self) is (c.in_ok-feed_ungated.ensures.fed (front_of t.handed (rest_of t.start fed)) carries.link))
     c.in_ok-feed_ungated.ensures.first c.in_ok-feed_ungated.ensures.second c.in_ok-feed_ungated.ensures.third
 
-pub returns-clause-told : goal.returns-clause-told
-returns-clause-told g c = λ fed carries room.
+pub returns-clause-reported : goal.returns-clause-reported
+returns-clause-reported g c = λ fed carries room.
     let t = c.args.self.now in
     let is = handed_is t fed c.release-counts.new.self c.released.result.now c.released-2.result.now c.released-3.result.now c.release-counts.result c.args.bits carries
     c.release-counts.ensures.first c.release-counts.ensures.second c.release-counts.ensures.third c.released.ensures.bits c.released-2.ensures.bits c.released-3.ensures.bits in
-    let told = c.in_ok-feed_ungated.ensures.told (front_of t.handed (rest_of t.start fed)) carries.link in
-    let P : Fed → Type 0 = λ now. IsGain (front_of t.handed (rest_of t.start fed)) now told.0 in
-    (told.0, subst P is told.1, told.2)
+    let reported = c.in_ok-feed_ungated.ensures.reported (front_of t.handed (rest_of t.start fed)) carries.link in
+    let P : Fed → Type 0 = λ now. IsGain (front_of t.handed (rest_of t.start fed)) now reported.0 in
+    (reported.0, subst P is reported.1, reported.2)
 
 pub returns-in_err-feed_ungated-clause-stopped : goal.returns-in_err-feed_ungated-clause-stopped
 returns-in_err-feed_ungated-clause-stopped g c = λ fed carries room.
     let t = c.args.self.now in
     let is = handed_is t fed c.release-counts.new.self c.released.result.now c.released-2.result.now c.released-3.result.now c.release-counts.result c.args.bits carries
     c.release-counts.ensures.first c.release-counts.ensures.second c.release-counts.ensures.third c.released.ensures.bits c.released-2.ensures.bits c.released-3.ensures.bits in
-    let told = c.in_err-feed_ungated.ensures.stopped (front_of t.handed (rest_of t.start fed)) carries.link in
-    let P : Fed → Type 0 = λ now. IsGain (front_of t.handed (rest_of t.start fed)) now told.0 in
-    on_err {P = LostGain g.E.Ear.took g.E.Ear.broke c.args.ear.now c.feed_ungated.new.ear (rest_of t.start fed) t.handed (t.handed + c.args.bits)} _ (told.0, subst P is told.1, told.2)
+    let reported = c.in_err-feed_ungated.ensures.stopped (front_of t.handed (rest_of t.start fed)) carries.link in
+    let P : Fed → Type 0 = λ now. IsGain (front_of t.handed (rest_of t.start fed)) now reported.0 in
+    on_err {P = LostGain g.E.Ear.took g.E.Ear.broke c.args.ear.now c.feed_ungated.new.ear (rest_of t.start fed) t.handed (t.handed + c.args.bits)} _ (reported.0, subst P is reported.1, reported.2)

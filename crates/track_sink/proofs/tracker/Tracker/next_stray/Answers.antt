@@ -19,7 +19,7 @@ loop-self-preserved c =
     let was = c.loop-self.invariant in
     record {
       stays = stays_more t u c.seek.new.self _ was.stays c.seek.ensures.first c.seek.ensures.second c.seek.ensures.third c.seek.ensures.first_fed c.seek.ensures.second_fed c.seek.ensures.third_fed;
-      behind = let h = was.behind in omega arith;
+      after = let h = was.after in omega arith;
       looked = λ fed carries looked.
           let here = was.looked fed carries looked in
           looked_more t u fed c.seek.new.self c.min.result c.saturating_sub-end.result c.longest.result was.stays carries here

@@ -6,7 +6,7 @@ use Rattle.track_sink.proofs.tracker.Tracker.next_stray.Given as goal
 abbrev pub invariant-loop-self : goal.invariant-loop-self
 invariant-loop-self l = record {
   stays : Stays l.initial.self l.self;
-  behind : l.self.handed ≤ l.self.seen;
+  after : l.self.handed ≤ l.self.seen;
   looked : (fed : Fed) → Carries l.initial.self fed → HasLooked l.initial.self fed → HasLooked l.self fed;
 }
 

@@ -1,10 +1,10 @@
 use Rattle.std.proofs.Common.{◌+◌, ◌||◌, ◌++◌, ◌∙◌, ap, ap₂, sym}
 use Rattle.link_sink.proofs.Stops.{on_err}
-use Rattle.track_sink.specs.Events.{events_of, slip_if}
+use Rattle.track_sink.specs.TrackEvents.{track_events_of, slip_if}
 use Rattle.track_sink.specs.Epochs.{rest_of, front_of}
 use Rattle.track_sink.specs.declared.lanes.Lanes.{Lanes}
 use Rattle.track_sink.proofs.Turning.{carries_turned, follows_turned, took_alone, took_slip}
-use Rattle.track_sink.proofs.Failing.{LostMore, stops_things, stops_before, stops_slip, passes_turn}
+use Rattle.track_sink.proofs.Failing.{LostMore, stops_events, stops_before, stops_slip, passes_turn}
 use Rattle.track_sink.proofs.tracker.Tracker.turn.Goals as goal
 
 pub end-requires-clause-open : goal.end-requires-clause-open
@@ -23,15 +23,15 @@ returns-then-not-self-clause-carries g c = λ fed can.
     (c.restart.ensures.start ∙ ap₂ (λ m n. m + n) c.end.ensures.start c.end.ensures.handed) c.restart.ensures.handed c.restart.ensures.seen
     (c.restart.ensures.epochs ∙ e.epochs) (c.restart.ensures.aligned ∙ e.aligned) c.restart.ensures.sought
 
-pub returns-then-not-self-clause-told : goal.returns-then-not-self-clause-told
-returns-then-not-self-clause-told g c = λ fed told can was.
+pub returns-then-not-self-clause-reported : goal.returns-then-not-self-clause-reported
+returns-then-not-self-clause-reported g c = λ fed reported can was.
     let t = c.args.self.now in
     let u = c.restart.new.self in
     let e = c.in_ok-end.ensures in
-    let last = e.told (front_of t.handed (rest_of t.start fed)) can.carries.link in (
-      events_of last.0 ++ slip_if u.begun c.args.stray.lane u.start,
-      took_alone g.E.Ear.took g.E.TrackEar.tracked g.met.E.TrackEar.tracked_things g.met.E.TrackEar.tracked_both c.args.ear.now c.end.new.ear last.0 u.begun c.args.stray.lane u.start c.if-not-self.true last.2,
-      follows_turned t u fed c.args.stray told c.in_ok-end.field-0 last.0 can last.1
+    let last = e.reported (front_of t.handed (rest_of t.start fed)) can.carries.link in (
+      track_events_of last.0 ++ slip_if u.begun c.args.stray.lane u.start,
+      took_alone g.E.Ear.took g.E.TrackEar.tracked g.met.E.TrackEar.tracked_events g.met.E.TrackEar.tracked_both c.args.ear.now c.end.new.ear last.0 u.begun c.args.stray.lane u.start c.if-not-self.true last.2,
+      follows_turned t u fed c.args.stray reported c.in_ok-end.field-0 last.0 can last.1
           (c.restart.ensures.start ∙ ap₂ (λ m n. m + n) c.end.ensures.start c.end.ensures.handed) c.restart.ensures.handed (c.restart.ensures.begun ∙ e.begun) (c.restart.ensures.epochs ∙ e.epochs) (c.restart.ensures.aligned ∙ e.aligned) was,
     )
 
@@ -48,39 +48,39 @@ returns-clause-carries g c = λ fed can.
     (c.restart.ensures.start ∙ ap₂ (λ m n. m + n) c.end.ensures.start c.end.ensures.handed) c.restart.ensures.handed c.restart.ensures.seen
     (c.restart.ensures.epochs ∙ e.epochs) (c.restart.ensures.aligned ∙ e.aligned) c.restart.ensures.sought
 
-pub returns-clause-told : goal.returns-clause-told
-returns-clause-told g c = λ fed told can was.
+pub returns-clause-reported : goal.returns-clause-reported
+returns-clause-reported g c = λ fed reported can was.
     let t = c.args.self.now in
     let u = c.restart.new.self in
     let e = c.in_ok-end.ensures in
-    let last = e.told (front_of t.handed (rest_of t.start fed)) can.carries.link in (
-      events_of last.0 ++ slip_if u.begun c.args.stray.lane u.start,
-      took_slip g.E.Ear.took g.E.TrackEar.tracked g.met.E.TrackEar.tracked_things g.met.E.TrackEar.tracked_both c.args.ear.now c.end.new.ear c.slip.new.self last.0 u.begun c.args.stray.lane c.from.result u.start c.if-not-self.false c.from.ensures last.2
+    let last = e.reported (front_of t.handed (rest_of t.start fed)) can.carries.link in (
+      track_events_of last.0 ++ slip_if u.begun c.args.stray.lane u.start,
+      took_slip g.E.Ear.took g.E.TrackEar.tracked g.met.E.TrackEar.tracked_events g.met.E.TrackEar.tracked_both c.args.ear.now c.end.new.ear c.slip.new.self last.0 u.begun c.args.stray.lane c.from.result u.start c.if-not-self.false c.from.ensures last.2
           c.in_ok-slip.ensures.ok,
-      follows_turned t u fed c.args.stray told c.in_ok-end.field-0 last.0 can last.1
+      follows_turned t u fed c.args.stray reported c.in_ok-end.field-0 last.0 can last.1
           (c.restart.ensures.start ∙ ap₂ (λ m n. m + n) c.end.ensures.start c.end.ensures.handed) c.restart.ensures.handed (c.restart.ensures.begun ∙ e.begun) (c.restart.ensures.epochs ∙ e.epochs) (c.restart.ensures.aligned ∙ e.aligned) was,
     )
 
 pub returns-in_err-end-clause-stopped : goal.returns-in_err-end-clause-stopped
-returns-in_err-end-clause-stopped g c = λ fed told can was.
+returns-in_err-end-clause-stopped g c = λ fed reported can was.
     let t = c.args.self.now in
     let last = c.in_err-end.ensures.stopped (front_of t.handed (rest_of t.start fed)) can.carries.link in
-    on_err {P = LostMore g.E.TrackEar.tracked g.E.TrackEar.lost c.args.ear.now c.end.new.ear fed told} _ (
-      events_of last.1 ++ slip_if (t.begun || last.0.aligned) c.args.stray.lane (t.start + t.handed),
-      stops_before g.E.Ear.took g.E.Ear.broke g.E.TrackEar.tracked g.E.TrackEar.lost g.met.E.TrackEar.tracked_things g.met.E.TrackEar.lost_thing g.met.E.TrackEar.tracked_both c.args.ear.now c.end.new.ear (events_of last.1) (slip_if (t.begun || last.0.aligned) c.args.stray.lane (t.start + t.handed))
-          (stops_things g.E.Ear.took g.E.Ear.broke g.E.TrackEar.tracked g.E.TrackEar.lost g.met.E.TrackEar.tracked_things g.met.E.TrackEar.lost_thing g.met.E.TrackEar.tracked_both c.args.ear.now c.end.new.ear last.1 last.3),
-      passes_turn t fed c.args.stray told last.0 last.1 can last.2 was,
+    on_err {P = LostMore g.E.TrackEar.tracked g.E.TrackEar.lost c.args.ear.now c.end.new.ear fed reported} _ (
+      track_events_of last.1 ++ slip_if (t.begun || last.0.aligned) c.args.stray.lane (t.start + t.handed),
+      stops_before g.E.Ear.took g.E.Ear.broke g.E.TrackEar.tracked g.E.TrackEar.lost g.met.E.TrackEar.tracked_events g.met.E.TrackEar.lost_event g.met.E.TrackEar.tracked_both c.args.ear.now c.end.new.ear (track_events_of last.1) (slip_if (t.begun || last.0.aligned) c.args.stray.lane (t.start + t.handed))
+          (stops_events g.E.Ear.took g.E.Ear.broke g.E.TrackEar.tracked g.E.TrackEar.lost g.met.E.TrackEar.tracked_events g.met.E.TrackEar.lost_event g.met.E.TrackEar.tracked_both c.args.ear.now c.end.new.ear last.1 last.3),
+      passes_turn t fed c.args.stray reported last.0 last.1 can last.2 was,
     )
 
 pub returns-in_err-slip-clause-stopped : goal.returns-in_err-slip-clause-stopped
-returns-in_err-slip-clause-stopped g c = λ fed told can was.
+returns-in_err-slip-clause-stopped g c = λ fed reported can was.
     let t = c.args.self.now in
     let u = c.restart.new.self in
     let outcome = c.in_ok-end.field-0 in
-    let last = c.in_ok-end.ensures.told (front_of t.handed (rest_of t.start fed)) can.carries.link in
-    on_err {P = LostMore g.E.TrackEar.tracked g.E.TrackEar.lost c.args.ear.now c.slip.new.self fed told} _ (
-      events_of last.0 ++ slip_if (t.begun || outcome.aligned) c.args.stray.lane (t.start + t.handed),
-      stops_slip g.E.Ear.took g.E.Ear.broke g.E.TrackEar.tracked g.E.TrackEar.lost g.met.E.TrackEar.tracked_things g.met.E.TrackEar.lost_thing g.met.E.TrackEar.tracked_both c.args.ear.now c.end.new.ear c.slip.new.self last.0 (t.begun || outcome.aligned) c.args.stray.lane c.from.result (t.start + t.handed)
+    let last = c.in_ok-end.ensures.reported (front_of t.handed (rest_of t.start fed)) can.carries.link in
+    on_err {P = LostMore g.E.TrackEar.tracked g.E.TrackEar.lost c.args.ear.now c.slip.new.self fed reported} _ (
+      track_events_of last.0 ++ slip_if (t.begun || outcome.aligned) c.args.stray.lane (t.start + t.handed),
+      stops_slip g.E.Ear.took g.E.Ear.broke g.E.TrackEar.tracked g.E.TrackEar.lost g.met.E.TrackEar.tracked_events g.met.E.TrackEar.lost_event g.met.E.TrackEar.tracked_both c.args.ear.now c.end.new.ear c.slip.new.self last.0 (t.begun || outcome.aligned) c.args.stray.lane c.from.result (t.start + t.handed)
           (sym (c.restart.ensures.begun ∙ c.in_ok-end.ensures.begun) ∙ c.if-not-self.false) (c.from.ensures ∙ c.restart.ensures.start ∙ ap₂ (λ m n. m + n) c.end.ensures.start c.end.ensures.handed) last.2 c.in_err-slip.ensures.err,
-      passes_turn t fed c.args.stray told outcome last.0 can last.1 was,
+      passes_turn t fed c.args.stray reported outcome last.0 can last.1 was,
     )

@@ -1,0 +1,9 @@
+pub mod Walk
+pub mod Lines
+pub mod Joined
+pub mod Coming
+pub mod Shape
+pub mod Starting
+pub mod Lanes
+pub mod Tapped
+pub mod Example

@@ -1,0 +1,2 @@
+pub mod DviAccount
+pub mod DviLaws

@@ -1,0 +1,35 @@
+//! What holds of streams without guard columns. The functions do nothing: what they ensure is the law.
+#![tactic(auto)]
+
+ghost use Rattle.dvi_laws.specs.DviLaws.{DviLinkLaw, DviEdgesEnd, DviEndsApart, DviFirstEnds, DviTapAccounted, HasDviExample};
+
+/// What is told of the columns that came, from twelve before the end of a control period on, is the account.
+pub fn dvi_link_law()
+    ensures { DviLinkLaw }
+{}
+
+/// Each edge in a part of a lane's bits is the end of a control period.
+pub fn dvi_edges_end()
+    ensures { DviEdgesEnd }
+{}
+
+/// Ends of two control periods are at least 150 bits apart, where each line has three pixels.
+pub fn dvi_ends_apart()
+    ensures { DviEndsApart }
+{}
+
+/// The first full alignment is the end of one control period on all lanes.
+pub fn dvi_first_ends()
+    ensures { DviFirstEnds }
+{}
+
+/// From the bits of three lanes, tapped anywhere with skews of at most 70 bits, to the account.
+pub fn dvi_tap_accounted()
+    ensures { DviTapAccounted }
+{}
+
+/// There are columns with a damaged first pixel and another one, and a tap of them with a skew of 70 bits, that meet the
+/// premises and have a first full alignment.
+pub fn dvi_example()
+    ensures { HasDviExample }
+{}

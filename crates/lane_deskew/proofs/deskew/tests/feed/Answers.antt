@@ -1,9 +1,0 @@
-use Rattle.std.proofs.Common.{arith, inl, inr}
-use Rattle.std.proofs.lemmas.Bool.{cases_lt}
-use Rattle.lane_deskew.proofs.deskew.tests.feed.Goals as goal
-
-pub feed-many-requires-clause-whole : goal.feed-many-requires-clause-whole
-feed-many-requires-clause-whole g c = elim (cases_lt c.args.from c.args.bits) [
-  | inl some ↦ inr (omega arith)
-  | inr over ↦ inl (omega arith)
-]

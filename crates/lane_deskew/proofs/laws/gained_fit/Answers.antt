@@ -1,5 +1,0 @@
-use Rattle.lane_deskew.proofs.Gained.{gained_fit}
-use Rattle.lane_deskew.proofs.laws.gained_fit.Goals as goal
-
-pub returns : goal.returns
-returns c = gained_fit

@@ -1,5 +1,0 @@
-use Rattle.lane_deskew.proofs.Gained.{room_left}
-use Rattle.lane_deskew.proofs.laws.room_left.Goals as goal
-
-pub returns : goal.returns
-returns c = room_left

@@ -1,0 +1,47 @@
+-- What lanes tell begins what they tell when each has any bits more.
+use Rattle.std.proofs.Common.{◌≡◌, ℕ, List, ◌++◌, refl, ap, sym, ◌∙◌, inl, inr, append_assoc}
+use Rattle.tmds_word.specs.Column.{Column}
+use Rattle.lane_deskew.specs.Aligned.{aligned_columns}
+use Rattle.lane_deskew.specs.Triples.{IsFirst}
+use Rattle.lane_deskew.proofs.Fed.{first_stays}
+use Rattle.lane_deskew.proofs.First.{one_first}
+use Rattle.link_sink.specs.Grammar.{Grammar}
+use Rattle.link_laws.specs.Growth.{AreGrown, Begins, ReportedGrows, WholeGrows}
+use Rattle.link_sink.specs.Hearings.{IsGrammar}
+use Rattle.link_sink.specs.Sinks.{Fed}
+use Rattle.link_sink.proofs.Prefixes.{columns_grow}
+
+abbrev columns_at : Fed → ℕ → ℕ → ℕ → List Column
+columns_at fed d e f = aligned_columns fed.blue fed.green fed.red d e f
+
+-- the columns of lanes with a first full alignment lie in front of those of the grown lanes, wherever their first one is
+more_columns : (before now : Fed) (d e f p q r : ℕ) → AreGrown before now → IsFirst before.blue before.green before.red d e f → IsFirst now.blue now.green now.red p q r
+    → (more : List Column) × (columns_at now p q r ≡ columns_at before d e f ++ more)
+more_columns before now d e f p q r h first found =
+    let same = one_first _ _ _ _ _ _ _ _ _ found (first_stays _ _ _ _ _ _ _ _ _ h.blue h.green h.red first) in
+    let more = columns_grow _ _ _ _ _ _ d e f h.blue h.green h.red in
+    (more.0, (λ i. columns_at now (same.0 i) (same.1 i) (same.2 i)) ∙ more.1)
+
+-- so do the events that they tell
+more_events : (g : Grammar) → IsGrammar g → (before now : Fed) (d e f p q r : ℕ) → AreGrown before now → IsFirst before.blue before.green before.red d e f → IsFirst now.blue now.green now.red p q r
+    → Begins (g.so_far (columns_at before d e f)) (g.so_far (columns_at now p q r))
+more_events g is before now d e f p q r h first found =
+    let columns = more_columns before now d e f p q r h first found in
+    let events = is.more (columns_at before d e f) columns.0 in
+    (events.0, ap g.so_far columns.1 ∙ events.1)
+
+pub reported_grows : ReportedGrows
+reported_grows g is before now us vs h (inl (d, e, f, first, reported)) (inl (p, q, r, found, more)) =
+    let events = more_events g is before now d e f p q r h first found in
+    (events.0, more ∙ events.1 ∙ ap (λ ts. ts ++ events.0) (sym reported))
+reported_grows g is before now us vs h (inl (d, e, f, first, reported)) (inr (nowhere, more)) =
+    absurd (nowhere d e f (first_stays _ _ _ _ _ _ _ _ _ h.blue h.green h.red first).triple)
+reported_grows g is before now us vs h (inr (nowhere, reported)) now_reported = (vs, ap (λ ts. ts ++ vs) (sym reported))
+
+pub whole_grows : WholeGrows
+whole_grows g is before now columns us vs h was all =
+    let so_far = reported_grows g is before now us (g.so_far (columns_at now all.d all.e all.f)) h was (inl (all.d, all.e, all.f, all.first, refl)) in
+    let end = is.ended (columns_at now all.d all.e all.f) in (
+      so_far.0 ++ end.0,
+      all.reported ∙ end.1 ∙ ap (λ ts. ts ++ end.0) so_far.1 ∙ append_assoc us so_far.0 end.0,
+    )

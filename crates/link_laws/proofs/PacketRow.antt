@@ -1,0 +1,167 @@
+-- A packet of which at most one word came unlike is taken as it was sent.
+use Rattle.std.proofs.Common.{◌≡◌, ℕ, suc, zero, ◌*◌, ◌%◌, ◌<◌, ◌≤◌, Bool, true, false, cond, ◌==◌, List, [], ◌∷◌, map, length, take, nat_le, refl, ap, ap₂, sym, ◌∙◌, subst, arith, inl, inr, length-drop, length-take-le}
+use Rattle.std.specs.Prelude.{drop}
+use Rattle.std.proofs.lemmas.Bool.{eqb-true, leb-true}
+use Rattle.std.proofs.lemmas.List.{length-map}
+use Rattle.tmds_word.specs.Column.{Column}
+use Rattle.bch_block.specs.declared.Verdict.{Verdict}
+use Rattle.bch_block.specs.declared.Verdict.TheVariants.{Clean, Mended}
+use Rattle.bch_block.proofs.Distances.{flipped-flipped}
+use Rattle.bch_block.proofs.Verdicts.{one_wrong}
+use Rattle.island_pack.specs.Nibbles.{nibble_of, nibbles_of, by_turns, sync_values, header_bits, body_bits, foreign_words}
+use Rattle.island_pack.specs.Packets.{IsPacket, BeginsWith, body_of, CarriesFreely}
+use Rattle.island_pack.specs.Spelling.{column_words}
+use Rattle.island_pack.specs.Taken.{IsTaken, verdict_on}
+use Rattle.island_pack.specs.declared.packet.Packet.{Packet}
+use Rattle.island_pack.specs.declared.packet.PacketVerdicts.{PacketVerdicts}
+use Rattle.period_grammar.specs.Column.{sync_digit}
+use Rattle.island_pack.specs.Repaired.{packet_of, packet_in}
+use Rattle.island_pack.proofs.Repaired.{packet_is}
+use Rattle.link_laws.specs.Account.{damage, sync_row, packet_row}
+use Rattle.link_laws.specs.Laws.{wrong_bits}
+use Rattle.link_laws.proofs.WrongBits.{header_wrong, body_wrong, IsFlipped, same_or_flipped}
+
+-- Blocks.
+
+-- the verdict under which the bits are taken as the bytes
+record IsMended (x : List Bool) (bytes : List ℕ) : Type 0 where
+  verdict : Verdict
+  taken : IsTaken x bytes verdict
+
+sent_block : (s x : List Bool) (bytes : List ℕ) → x ≡ s → BeginsWith s bytes → IsMended x bytes
+sent_block s x bytes e b = subst (λ y. IsMended y bytes) (sym e) (record { verdict = Clean; taken = record { found = b.block; begins = sym b.begins } })
+
+flipped_block : (s x : List Bool) (bytes : List ℕ) → length bytes ≤ 7 → IsFlipped s x → BeginsWith s bytes → IsMended x bytes
+flipped_block s x bytes few f b =
+    subst (λ y. IsMended y bytes) (sym f.is)
+    (record {
+      verdict = Mended f.place;
+      taken = record {
+        found = one_wrong s f.place (omega (arith, b.bits)) b.block f.within;
+        begins = sym b.begins ∙ ap (take (8 * length bytes)) (sym (flipped-flipped s f.place));
+      };
+    })
+
+-- a block with at most one wrong bit is taken as sent
+mended_block : (s x : List Bool) (bytes : List ℕ) → length bytes ≤ 7 → length x ≡ length s → wrong_bits s x ≤ 1 → BeginsWith s bytes → IsMended x bytes
+mended_block s x bytes few same wrong b = elim (same_or_flipped s x same wrong) [
+  | inl e ↦ sent_block s x bytes e b
+  | inr f ↦ flipped_block s x bytes few f b
+]
+
+-- Of one length.
+
+length-header : (ss rs : List Column) → length rs ≡ length ss → length (header_bits (map column_words rs)) ≡ length (header_bits (map column_words ss))
+unfolding header_bits nibbles_of
+length-header [] [] e = refl
+length-header [] (r ∷ rs) e = absurd (omega arith)
+length-header (s ∷ ss) [] e = absurd (omega arith)
+length-header (s ∷ ss) (r ∷ rs) e = ap suc (length-header ss rs (omega arith))
+
+length-body : (b : ℕ) (ss rs : List Column) → length rs ≡ length ss → length (body_bits (map column_words rs) b) ≡ length (body_bits (map column_words ss) b)
+unfolding body_bits nibbles_of by_turns
+length-body b [] [] e = refl
+length-body b [] (r ∷ rs) e = absurd (omega arith)
+length-body b (s ∷ ss) [] e = absurd (omega arith)
+length-body b (s ∷ ss) (r ∷ rs) e = ap (λ n. suc (suc n)) (length-body b ss rs (omega arith))
+
+length-body_of : (p : Packet) (b : ℕ) → length p.bodies ≡ 28 → b < 4 → length (body_of p b) ≡ 7
+length-body_of p b long lt = length-take-le 7 (drop (7 * b) p.bodies) (omega (arith, long, lt, length-drop (7 * b) p.bodies))
+
+-- Sync values.
+
+sync_of : (s r : ℕ) (same : Bool) → (s == r) ≡ same → cond same (nibble_of s % 4) (sync_digit r) ≡ nibble_of r % 4
+unfolding sync_digit
+sync_of s r true e = ap (λ w. nibble_of w % 4) (eqb-true s r e)
+sync_of s r false e = refl
+
+sync_of_sent : (ss rs : List Column) → length rs ≡ length ss → sync_row (sync_values (map column_words ss)) ss rs ≡ sync_values (map column_words rs)
+unfolding sync_row sync_values nibbles_of
+sync_of_sent [] [] e = refl
+sync_of_sent [] (r ∷ rs) e = absurd (omega arith)
+sync_of_sent (s ∷ ss) [] e = absurd (omega arith)
+sync_of_sent (s ∷ ss) (r ∷ rs) e =
+    ap₂ (λ v (vs : List ℕ). v ∷ vs) (sync_of s.blue r.blue (s.blue == r.blue) refl) (sync_of_sent ss rs (omega arith))
+
+sync_taken : (p : Packet) (first : Bool) (ss rs : List Column) → CarriesFreely p (map column_words ss) → length rs ≡ length ss → sync_row p.sync ss rs ≡ sync_values (map column_words rs)
+sync_taken p first ss rs carries same = ap (λ vs. sync_row vs ss rs) (sym carries.sync) ∙ sync_of_sent ss rs same
+
+-- Packets.
+
+length-sync : (ws : List (List ℕ)) → length (sync_values ws) ≡ length ws
+unfolding sync_values nibbles_of
+length-sync [] = refl
+length-sync (w ∷ ws) = ap suc (length-sync ws)
+
+-- the verdicts on four bodies and a header
+abbrev verdicts_by : List (List ℕ) → Verdict → Verdict → Verdict → Verdict → Verdict → PacketVerdicts
+verdicts_by ws v0 v1 v2 v3 header = record { blocks = v0 ∷ (v1 ∷ (v2 ∷ (v3 ∷ (header ∷ [])))); symbols = foreign_words ws }
+
+-- each body under its verdict
+bodies_taken : (ws : List (List ℕ)) (p : Packet) (v0 v1 v2 v3 header : Verdict)
+    → IsTaken (body_bits ws 0) (body_of p 0) v0 → IsTaken (body_bits ws 1) (body_of p 1) v1
+    → IsTaken (body_bits ws 2) (body_of p 2) v2 → IsTaken (body_bits ws 3) (body_of p 3) v3
+    → (b : ℕ) → b < 4 → IsTaken (body_bits ws b) (body_of p b) (verdict_on (verdicts_by ws v0 v1 v2 v3 header) b)
+bodies_taken ws p v0 v1 v2 v3 header t0 t1 t2 t3 zero lt = t0
+bodies_taken ws p v0 v1 v2 v3 header t0 t1 t2 t3 (suc zero) lt = t1
+bodies_taken ws p v0 v1 v2 v3 header t0 t1 t2 t3 (suc (suc zero)) lt = t2
+bodies_taken ws p v0 v1 v2 v3 header t0 t1 t2 t3 (suc (suc (suc zero))) lt = t3
+bodies_taken ws p v0 v1 v2 v3 header t0 t1 t2 t3 (suc (suc (suc (suc b)))) lt = absurd (omega arith)
+
+-- a packet whose blocks are taken as its bytes is the one that is computed
+by_blocks : (p : Packet) (ws : List (List ℕ)) → IsPacket p → length ws ≡ 32
+    → IsMended (body_bits ws 0) (body_of p 0) → IsMended (body_bits ws 1) (body_of p 1)
+    → IsMended (body_bits ws 2) (body_of p 2) → IsMended (body_bits ws 3) (body_of p 3)
+    → IsMended (header_bits ws) p.header
+    → record { header = p.header; bodies = p.bodies; sync = sync_values ws } ≡ packet_in ws
+by_blocks p ws whole long m0 m1 m2 m3 header =
+    packet_is ws
+    (record { header = p.header; bodies = p.bodies; sync = sync_values ws })
+    (verdicts_by ws m0.verdict m1.verdict m2.verdict m3.verdict header.verdict)
+    long
+    (record {
+      whole = record {
+        header = whole.header;
+        header_bytes = whole.header_bytes;
+        bodies = whole.bodies;
+        body_bytes = whole.body_bytes;
+        sync = length-sync ws ∙ long;
+      };
+      sync = refl;
+      bodies = bodies_taken ws p m0.verdict m1.verdict m2.verdict m3.verdict header.verdict m0.taken m1.taken m2.taken m3.taken;
+      header = header.taken;
+      blocks = refl;
+      symbols = refl;
+    })
+
+-- where at most one word is unlike
+as_sent : (p : Packet) (first : Bool) (ss rs : List Column) → CarriesFreely p (map column_words ss) → length rs ≡ 32 → length rs ≡ length ss → damage ss rs ≤ 1
+    → record { header = p.header; bodies = p.bodies; sync = sync_values (map column_words rs) } ≡ packet_of rs
+as_sent p first ss rs carries long same few =
+    let ws = map column_words rs in
+    let header : IsMended (header_bits ws) p.header =
+    mended_block (header_bits (map column_words ss)) (header_bits ws) p.header (omega (arith, carries.whole.header)) (length-header ss rs same)
+    (omega (arith, header_wrong ss rs, few)) carries.header in
+    let body : (b : ℕ) → b < 4 → IsMended (body_bits ws b) (body_of p b) =
+    λ b lt. mended_block (body_bits (map column_words ss) b) (body_bits ws b) (body_of p b) (omega (arith, length-body_of p b carries.whole.bodies lt)) (length-body b ss rs same)
+    (omega (arith, body_wrong b ss rs, few)) (carries.bodies b lt) in
+    by_blocks p ws carries.whole (length-map rs column_words ∙ long) (body 0 (omega arith)) (body 1 (omega arith)) (body 2 (omega arith)) (body 3 (omega arith)) header
+
+-- the packet as it is taken, whether few words are unlike or more
+by_damage : (p : Packet) (first : Bool) (ss rs : List Column) → CarriesFreely p (map column_words ss) → length rs ≡ 32 → length rs ≡ length ss
+    → (few : Bool) → nat_le (damage ss rs) 1 ≡ few
+    → packet_of rs ≡ cond few
+    (record { header = p.header; bodies = p.bodies; sync = sync_row p.sync ss rs })
+    (record { header = (packet_of rs).header; bodies = (packet_of rs).bodies; sync = sync_row p.sync ss rs })
+unfolding packet_in
+by_damage p first ss rs carries long same true e =
+    sym (as_sent p first ss rs carries long same (leb-true (damage ss rs) 1 e))
+    ∙ ap (λ vs. record { header = p.header; bodies = p.bodies; sync = vs }) (sym (sync_taken p first ss rs carries same))
+by_damage p first ss rs carries long same false e =
+    ap (λ vs. record { header = (packet_of rs).header; bodies = (packet_of rs).bodies; sync = vs }) (sym (sync_taken p first ss rs carries same))
+
+-- what is taken of the columns that came of a packet is the packet of the account
+pub packet_row_taken : (p : Packet) (first : Bool) (ss rs : List Column) → CarriesFreely p (map column_words ss) → length rs ≡ 32 → packet_of rs ≡ packet_row p ss rs
+unfolding packet_row
+packet_row_taken p first ss rs carries long =
+    by_damage p first ss rs carries long (long ∙ sym carries.count ∙ length-map ss column_words) (nat_le (damage ss rs) 1) refl

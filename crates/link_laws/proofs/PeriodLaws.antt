@@ -1,0 +1,115 @@
+-- What is told of the columns that came of one period, and of periods one after another.
+use Rattle.std.proofs.Common.{◌≡◌, ℕ, suc, ◌+◌, ◌-◌, ◌*◌, ◌/◌, ◌≤◌, List, [], ◌∷◌, ◌++◌, length, take, replicate, refl, ap, ap₂, sym, ◌∙◌, subst, arith, length-append}
+use Rattle.std.proofs.lemmas.List.{append-nil, length-replicate}
+use Rattle.tmds_word.specs.Column.{Column}
+use Rattle.island_pack.specs.Periods.{ControlRun, Period, control, video, island, values_of, period_columns}
+use Rattle.island_pack.specs.Kinds.{control_column, pixel_column, packet_column, guard_pair, kinds_in, kinds_of}
+use Rattle.island_pack.specs.Sparse.{unlike_at}
+use Rattle.period_grammar.specs.Events.{Event}
+use Rattle.link_laws.specs.Account.{control_row, period_row, account_from}
+use Rattle.link_laws.specs.Freely.{PeriodReceivedFreely, ControlLawFreely, VideoLawFreely, IslandLawFreely, JoiningLawFreely}
+use Rattle.link_laws.specs.PeriodLaws.{tells, AreControl, ControlLaw, TellRow, VideoLaw, IslandLaw, JoiningLaw}
+use Rattle.link_laws.proofs.Freely.{free_received, free_period_received}
+use Rattle.link_laws.proofs.Cutting.{hear_control}
+use Rattle.link_laws.proofs.Conformed.{is_control_of, is_video_of, is_island_of, Conforms, conforming, HasValues}
+use Rattle.link_laws.proofs.ControlReported.{control_row_reported}
+use Rattle.link_laws.proofs.Between.{period_law}
+use Rattle.link_laws.proofs.Joining.{ArrivesPeriod, controls, Arrives, nothing, more, IsBetween, inner_gap, is_tail, follows_long, sized, taken_row, control_period, joined}
+use Rattle.link_laws.proofs.SpelledWords.{period_size_freely}
+use Rattle.link_laws.proofs.Arrival.{fits, arriving}
+use Rattle.link_laws.proofs.Framing.{arrived_freely}
+
+-- One period.
+
+kinds_long : (p : Period) → length (kinds_in p) ≡ period_columns p
+unfolding kinds_in period_columns
+kinds_long (control runs) = length-replicate (length (values_of runs)) control_column
+kinds_long (video bytes) = let l = length-replicate (length bytes / 3) pixel_column in omega arith
+kinds_long (island x) =
+    let l = length-replicate (32 * length x.packets) packet_column in
+    let a = length-append (replicate (32 * length x.packets) packet_column) guard_pair in
+    omega arith
+
+kinds_one : (p : Period) → length (kinds_of (p ∷ [])) ≡ period_columns p
+unfolding kinds_of
+kinds_one p = ap length (append-nil (kinds_in p)) ∙ kinds_long p
+
+one_of : (p : Period) (sent received : List Column) → Arrives (p ∷ []) sent received → ArrivesPeriod p sent received
+one_of p _ _ (more _ _ own reception _ _ a nothing) =
+    subst (λ ss. ArrivesPeriod p ss (reception ++ [])) (sym (append-nil own)) (subst (λ rs. ArrivesPeriod p own rs) (sym (append-nil reception)) a)
+
+-- the columns of one period
+received_one : (p : Period) (sent received : List Column) → HasValues (p ∷ []) → PeriodReceivedFreely p sent received → ArrivesPeriod p sent received
+received_one p sent received values h =
+    let s = h.sparse in
+    one_of p sent received
+    (arriving (p ∷ []) sent received values (sent, [], sym (append-nil sent), h.spelled, refl)
+    (fits (kinds_of (p ∷ [])) sent received (kinds_one p ∙ sym (period_size_freely p sent h.spelled))
+    (record { same_length = s.same_length; one = s.one_a_column; pair = λ i is. next sent received i (s.one_a_pair i is) })))
+  where
+    next : (sent received : List Column) (i : ℕ) → unlike_at sent received i + unlike_at sent received (i + 1) ≤ 1 → unlike_at sent received i + unlike_at sent received (suc i) ≤ 1
+    next sent received i h = let e : i + 1 ≡ suc i = omega arith in subst (λ n. unlike_at sent received i + unlike_at sent received n ≤ 1) e h
+
+-- a control period
+
+control_of : (runs : List ControlRun) (sent received : List Column) → ArrivesPeriod (control runs) sent received → 12 ≤ length (values_of runs)
+    → AreControl received × ((j m : ℕ) → tells j (take m received) ≡ period_row j m [] (control runs) sent received)
+unfolding period_row
+control_of runs _ _ (controls _ cs n all) long = (record { long = omega arith; all = all }, λ j m. taken_row j m cs all)
+
+pub control_law_freely : ControlLawFreely
+unfolding HasValues
+control_law_freely runs sent received is h =
+    let c = is_control_of runs is in
+    control_of runs sent received (received_one (control runs) sent received (c.small, tt) h) c.long
+
+pub control_law : ControlLaw
+control_law runs sent received is h = control_law_freely runs sent received is (free_period_received (control runs) sent received h)
+
+-- a period between control periods
+
+reported_before : (j : ℕ) (before : List Column) → AreControl before → tells j before ≡ control_row j before
+reported_before j before h = hear_control j before h.all ∙ control_row_reported j before
+
+tell_row : (p : Period) (sent received : List Column) → IsBetween p → ArrivesPeriod p sent received → TellRow p sent received
+tell_row p sent received between a before next rest j m h at =
+    let g = inner_gap before p sent received h.long between a in
+    let size = g.long in
+    let row = period_row (j + length before) m before p sent received in
+    period_law before p sent received (record { long = h.long; all = h.all }) g j m (next ∷ rest) at
+    ∙ ap₂ (λ (ts : List Event) (n : ℕ). ts ++ (row ++ tells (j + length before + n) (take (m - n) (next ∷ rest)))) (sym (reported_before j before h)) (sym size)
+
+pub video_law_freely : VideoLawFreely
+unfolding HasValues IsBetween
+video_law_freely bytes sent received is h =
+    let v = is_video_of bytes is in
+    tell_row (video bytes) sent received v (received_one (video bytes) sent received (v.small, tt) h)
+
+pub video_law : VideoLaw
+video_law bytes sent received is h = video_law_freely bytes sent received is (free_period_received (video bytes) sent received h)
+
+pub island_law_freely : IslandLawFreely
+unfolding HasValues IsBetween
+island_law_freely x sent received is h = tell_row (island x) sent received (is_island_of x is) (received_one (island x) sent received tt h)
+
+pub island_law : IslandLaw
+island_law x sent received is h = island_law_freely x sent received is (free_period_received (island x) sent received h)
+
+-- Periods one after another.
+
+joining_of : (ps : List Period) (sent received : List Column) → Conforms ps → Arrives ps sent received → (j m : ℕ) → tells j (take m received) ≡ account_from j m [] ps sent received
+unfolding Conforms
+joining_of [] sent received c a j m = absurd c
+joining_of (video bytes ∷ rest) sent received c a j m = absurd c
+joining_of (island x ∷ rest) sent received c a j m = absurd c
+joining_of (control runs ∷ rest) _ _ c (more _ _ own reception ss rs first a) j m =
+    let long = follows_long (values_of runs) rest c in
+    let h = control_of runs own reception first long in
+    joined rest (is_tail (values_of runs) rest c) reception ss rs (record { long = h.0.long; all = h.0.all }) a j m
+    ∙ sym (control_period j m [] runs rest own reception ss rs (sized (control runs) own reception first))
+
+pub joining_law_freely : JoiningLawFreely
+joining_law_freely ps sent received reception = joining_of ps sent received (conforming ps reception.conforming) (arrived_freely ps sent received reception)
+
+pub joining_law : JoiningLaw
+joining_law ps sent received reception = joining_law_freely ps sent received (free_received ps sent received reception)

@@ -1,0 +1,100 @@
+-- How many bits of a packet's blocks are wrong where few of its words came unlike.
+use Rattle.std.proofs.Common.{◌≡◌, ℕ, suc, ◌+◌, ◌<◌, ◌≤◌, Bool, true, false, not, ◌==◌, List, [], ◌∷◌, map, length, refl, ap, sym, ◌∙◌, arith, inl, inr, ◌⊎◌}
+use Rattle.std.proofs.lemmas.Bool.{eqb-true}
+use Rattle.tmds_word.specs.Column.{Column}
+use Rattle.terc4.specs.Columns.{one_if}
+use Rattle.bch_block.specs.Bits.{bit, flipped}
+use Rattle.island_pack.specs.Nibbles.{nibble_of, nibbles_of, by_turns, header_bits, body_bits}
+use Rattle.island_pack.specs.Spelling.{column_words}
+use Rattle.island_pack.specs.Sparse.{unlike_words}
+use Rattle.link_laws.specs.Account.{damage}
+use Rattle.link_laws.specs.Laws.{wrong_bits, OneWrongBit}
+
+-- one bit more
+one_bit_more : (x y : Bool) (xs ys : List Bool) → wrong_bits (x ∷ xs) (y ∷ ys) ≤ 1 + wrong_bits xs ys
+unfolding wrong_bits one_if
+one_bit_more true true xs ys = omega arith
+one_bit_more true false xs ys = omega arith
+one_bit_more false true xs ys = omega arith
+one_bit_more false false xs ys = omega arith
+
+like_bit_more : (x : Bool) (xs ys : List Bool) → wrong_bits (x ∷ xs) (x ∷ ys) ≡ wrong_bits xs ys
+unfolding wrong_bits one_if
+like_bit_more true xs ys = omega arith
+like_bit_more false xs ys = omega arith
+
+none_wrong : (xs : List Bool) → wrong_bits xs [] ≡ 0
+unfolding wrong_bits
+none_wrong [] = refl
+none_wrong (true ∷ xs) = refl
+none_wrong (false ∷ xs) = refl
+
+-- a bit of a word is wrong only where the word is unlike
+bit_of_word : (f : ℕ → Bool) (s r : ℕ) (xs ys : List Bool) (same : Bool) → (s == r) ≡ same → wrong_bits (f s ∷ xs) (f r ∷ ys) ≤ one_if (not same) + wrong_bits xs ys
+unfolding one_if
+bit_of_word f s r xs ys true e =
+    let q : wrong_bits (f s ∷ xs) (f r ∷ ys) ≡ wrong_bits xs ys =
+    ap (λ w. wrong_bits (f s ∷ xs) (f w ∷ ys)) (sym (eqb-true s r e)) ∙ like_bit_more (f s) xs ys in
+    omega arith
+bit_of_word f s r xs ys false e = one_bit_more (f s) (f r) xs ys
+
+pub header_wrong : (ss rs : List Column) → wrong_bits (header_bits (map column_words ss)) (header_bits (map column_words rs)) ≤ damage ss rs
+unfolding damage unlike_words header_bits nibbles_of wrong_bits
+header_wrong [] rs = omega arith
+header_wrong (s ∷ ss) [] = omega (arith, none_wrong (header_bits (map column_words (s ∷ ss))))
+header_wrong (s ∷ ss) (r ∷ rs) =
+    let rest = header_wrong ss rs in
+    let first = bit_of_word (λ w. bit (nibble_of w) 2) s.blue r.blue (header_bits (map column_words ss)) (header_bits (map column_words rs)) (s.blue == r.blue) refl in
+    omega arith
+
+pub body_wrong : (b : ℕ) (ss rs : List Column) → wrong_bits (body_bits (map column_words ss) b) (body_bits (map column_words rs) b) ≤ damage ss rs
+unfolding damage unlike_words body_bits nibbles_of by_turns wrong_bits
+body_wrong b [] rs = omega arith
+body_wrong b (s ∷ ss) [] = omega (arith, none_wrong (body_bits (map column_words (s ∷ ss)) b))
+body_wrong b (s ∷ ss) (r ∷ rs) =
+    let rest = body_wrong b ss rs in
+    let xs = body_bits (map column_words ss) b in
+    let ys = body_bits (map column_words rs) b in
+    let second = bit_of_word (λ w. bit (nibble_of w) b) s.red r.red xs ys (s.red == r.red) refl in
+    let first =
+    bit_of_word (λ w. bit (nibble_of w) b) s.green r.green (bit (nibble_of s.red) b ∷ xs) (bit (nibble_of r.red) b ∷ ys) (s.green == r.green) refl in
+    omega arith
+
+pub one_wrong_bit : OneWrongBit
+one_wrong_bit p first ss rs carries long few = (
+  let wrong = header_wrong ss rs in omega arith,
+  λ b lt. let wrong = body_wrong b ss rs in omega arith,
+)
+
+-- Bits of which none is wrong, or one.
+same_bits : (s x : List Bool) → length x ≡ length s → wrong_bits s x ≡ 0 → x ≡ s
+unfolding wrong_bits one_if
+same_bits [] [] l w = refl
+same_bits [] (x ∷ xs) l w = absurd (omega arith)
+same_bits (s ∷ ss) [] l w = absurd (omega arith)
+same_bits (true ∷ ss) (true ∷ xs) l w = ap (λ ys. true ∷ ys) (same_bits ss xs (omega arith) (omega arith))
+same_bits (true ∷ ss) (false ∷ xs) l w = absurd (omega arith)
+same_bits (false ∷ ss) (true ∷ xs) l w = absurd (omega arith)
+same_bits (false ∷ ss) (false ∷ xs) l w = ap (λ ys. false ∷ ys) (same_bits ss xs (omega arith) (omega arith))
+
+-- bits in which one is turned over
+pub record IsFlipped (s x : List Bool) : Type 0 where
+  pub place : ℕ
+  pub within : place < length s
+  pub is : x ≡ flipped s place
+
+later : (b : Bool) (s x : List Bool) → (x ≡ s) ⊎ IsFlipped s x → ((b ∷ x) ≡ (b ∷ s)) ⊎ IsFlipped (b ∷ s) (b ∷ x)
+later b s x (inl e) = inl (ap (λ ys. b ∷ ys) e)
+later b s x (inr f) = inr (record { place = suc f.place; within = omega (arith, f.within); is = ap (λ ys. b ∷ ys) f.is })
+
+pub same_or_flipped : (s x : List Bool) → length x ≡ length s → wrong_bits s x ≤ 1 → (x ≡ s) ⊎ IsFlipped s x
+unfolding wrong_bits one_if
+same_or_flipped [] [] l w = inl refl
+same_or_flipped [] (x ∷ xs) l w = absurd (omega arith)
+same_or_flipped (s ∷ ss) [] l w = absurd (omega arith)
+same_or_flipped (true ∷ ss) (true ∷ xs) l w = later true ss xs (same_or_flipped ss xs (omega arith) (omega arith))
+same_or_flipped (false ∷ ss) (false ∷ xs) l w = later false ss xs (same_or_flipped ss xs (omega arith) (omega arith))
+same_or_flipped (true ∷ ss) (false ∷ xs) l w =
+    inr (record { place = 0; within = omega arith; is = ap (λ ys. false ∷ ys) (same_bits ss xs (omega arith) (omega arith)) })
+same_or_flipped (false ∷ ss) (true ∷ xs) l w =
+    inr (record { place = 0; within = omega arith; is = ap (λ ys. true ∷ ys) (same_bits ss xs (omega arith) (omega arith)) })

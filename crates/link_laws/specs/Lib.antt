@@ -1,0 +1,13 @@
+pub mod LaneLaws
+pub mod Alternating
+pub mod LaneEnds
+pub mod Account
+pub mod Laws
+pub mod Calm
+pub mod PeriodLaws
+pub mod Literal
+pub mod Exact
+pub mod Whole
+pub mod Bytes
+pub mod Growth
+pub mod Freely

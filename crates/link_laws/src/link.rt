@@ -1,0 +1,190 @@
+//! What holds of columns that came with sparse damage, of columns of which no fault is told, and of what is told of bits.
+//! The functions do nothing: what they ensure are the laws.
+ghost use Rattle.link_laws.specs.Laws.{FramingStands, PeriodsStand, LinkLaw, EdgesEnd, FirstEnds, FirstUntil, TapAccounted, PayloadAccounted, OneWrongBit, HasExample, HasPayloadExample};
+ghost use Rattle.link_laws.specs.PeriodLaws.{ControlLaw, VideoLaw, IslandLaw, JoiningLaw};
+ghost use Rattle.link_laws.specs.Literal.{AccountLiteral};
+ghost use Rattle.link_laws.specs.Whole.{CleanIsWhole, WholeHeard};
+ghost use Rattle.link_laws.specs.Bytes.{DecodedIsByte};
+ghost use Rattle.link_laws.specs.Calm.{LanesAreCalm};
+ghost use Rattle.link_laws.specs.Exact.{CleanIsFront, FrontIsClean, CheckIsExact};
+ghost use Rattle.link_sink.specs.Sinks.{SomeReported, OneReported};
+ghost use Rattle.link_laws.specs.Freely.{FramingStandsFreely, PeriodsStandFreely, LinkLawFreely, ControlLawFreely, VideoLawFreely, IslandLawFreely, JoiningLawFreely, AccountLiteralFreely, EdgesEndFreely, FirstEndsFreely, FirstUntilFreely, TapAccountedFreely, PayloadAccountedFreely, CleanReceived};
+ghost use Rattle.link_laws.specs.Growth.{ReportedGrows, WholeGrows, LinkIsGrammar};
+
+/// The control columns that came are those of the control periods, wherever damage lies.
+pub fn framing_stands()
+    ensures { FramingStands }
+{}
+
+/// The columns that came are cut where the periods are, wherever damage lies.
+pub fn periods_stand()
+    ensures { PeriodsStand }
+{}
+
+/// What is told of the columns from twelve before the end of a control period on is the account, wherever damage lies.
+pub fn link_law()
+    ensures { LinkLaw }
+{}
+
+/// Of a control period control columns come, and they tell the runs of their values and their words that are no control
+/// words.
+pub fn control_law()
+    ensures { ControlLaw }
+{}
+
+/// What is told of the columns that came of a video data period, after control columns and before one, is its row.
+pub fn video_law()
+    ensures { VideoLaw }
+{}
+
+/// What is told of the columns that came of a data island, after control columns and before one, is its row.
+pub fn island_law()
+    ensures { IslandLaw }
+{}
+
+/// What is told of conforming periods is, period after period, the row of each.
+pub fn joining_law()
+    ensures { JoiningLaw }
+{}
+
+/// The account is what its rows tell before column `m`, and then what the end tells of the first `m` columns.
+pub fn account_literal()
+    ensures { AccountLiteral }
+{}
+
+/// Where damage lies in pixels and packets alone, each edge in a part of a lane's bits is the end of a control period.
+pub fn edges_end()
+    ensures { EdgesEnd }
+{}
+
+/// Where damage lies in pixels and packets alone, the first full alignment of a tap with skews of at most 70 bits is the
+/// end of one control period on all three lanes.
+pub fn first_ends()
+    ensures { FirstEnds }
+{}
+
+/// Where damage spares control and guard words until a column that is the first after a control period, and each lane of
+/// the tap has that column and the twelve before it, there is a first full alignment, and it is the end of one control
+/// period on all three lanes, at or before that column.
+pub fn first_until()
+    ensures { FirstUntil }
+{}
+
+/// Under the same premises what is told of the aligned columns of the tap is the account from the end of a control
+/// period on.
+pub fn tap_accounted()
+    ensures { TapAccounted }
+{}
+
+/// The same where damage lies in pixels and packets alone and there is a first full alignment.
+pub fn payload_accounted()
+    ensures { PayloadAccounted }
+{}
+
+/// Each block of a packet of which at most one word came unlike has at most one wrong bit.
+pub fn one_wrong_bit()
+    ensures { OneWrongBit }
+{}
+
+/// There are columns with damaged words of pixels and packets alone, and a tap of them that has a first full alignment.
+pub fn has_payload_example()
+    ensures { HasPayloadExample }
+{}
+
+/// There are columns with damaged words in each kind of column, and a tap of them that is aligned before.
+pub fn has_example()
+    ensures { HasExample }
+{}
+
+/// Where no fault is told, some conforming periods are spelled by columns that begin with the ones before the cut: some
+/// conforming sender could have sent them.
+pub fn clean_is_front()
+    ensures { CleanIsFront }
+{}
+
+/// Of columns with which those begin that spell some conforming periods no fault is told, wherever they end.
+pub fn front_is_clean()
+    ensures { FrontIsClean }
+{}
+
+/// No fault is told exactly where some conforming sender could have sent the columns before the cut, but for bit 3 of
+/// lane 0 in packet columns, which is not judged.
+pub fn check_is_exact()
+    ensures { CheckIsExact }
+{}
+
+/// Of any bits of three lanes something is told so far.
+pub fn some_reported()
+    ensures { SomeReported }
+{}
+
+/// Nothing else is: so neither the cutting of the bits into feeds nor a gate matters.
+pub fn one_reported()
+    ensures { OneReported }
+{}
+
+/// What is told so far of three lanes begins what is told so far when each has any bits more.
+pub fn reported_grows()
+    ensures { ReportedGrows }
+{}
+
+/// And it begins all that those lanes tell to their end.
+pub fn whole_grows()
+    ensures { WholeGrows }
+{}
+
+/// What the columns of a link tell is told whatever comes after them, and what their end tells comes last.
+pub fn link_is_grammar()
+    ensures { LinkIsGrammar }
+{}
+
+/// Clean columns that end in a control period of twelve columns or more are spelled whole.
+pub fn clean_is_whole()
+    ensures { CleanIsWhole }
+{}
+
+/// What is heard of columns that are spelled whole is their account.
+pub fn whole_heard()
+    ensures { WholeHeard }
+{}
+
+/// Every word decodes to a byte.
+pub fn decoded_is_byte()
+    ensures { DecodedIsByte }
+{}
+
+/// Lanes of columns that came with sparse damage, wherever it lies, are calm: of any eleven of their characters at most two
+/// came damaged, and each other one is a control character or has few transitions.
+pub fn lanes_are_calm()
+    ensures { LanesAreCalm }
+{}
+
+/// The laws on the framing hold where bit 3 of lane 0 in packet columns is free in the columns that were sent.
+pub fn framed_freely()
+    ensures framing { FramingStandsFreely }
+    ensures periods { PeriodsStandFreely }
+{}
+
+/// So do those on what is told.
+pub fn reported_freely()
+    ensures link { LinkLawFreely }
+    ensures control { ControlLawFreely }
+    ensures video { VideoLawFreely }
+    ensures island { IslandLawFreely }
+    ensures joining { JoiningLawFreely }
+    ensures literal { AccountLiteralFreely }
+{}
+
+/// And those on edges, first full alignments, and taps.
+pub fn aligned_freely()
+    ensures edges { EdgesEndFreely }
+    ensures first { FirstEndsFreely }
+    ensures until { FirstUntilFreely }
+    ensures tap { TapAccountedFreely }
+    ensures payload { PayloadAccountedFreely }
+{}
+
+/// Clean columns that end in a control period of twelve columns or more meet these with what came for what was sent.
+pub fn clean_received()
+    ensures { CleanReceived }
+{}

@@ -1,5 +1,0 @@
-use Rattle.link_sink.proofs.exact.Wholes.{clean_is_whole}
-use Rattle.link_sink.proofs.laws.clean_is_whole.Goals as goal
-
-pub returns : goal.returns
-returns c = clean_is_whole

@@ -1,5 +1,0 @@
-use Rattle.link_sink.proofs.exact.Arrivals.{front_is_clean}
-use Rattle.link_sink.proofs.laws.front_is_clean.Goals as goal
-
-pub returns : goal.returns
-returns c = front_is_clean

@@ -1,5 +1,0 @@
-use Rattle.link_sink.specs.LinkHearing.{link_is_grammar}
-use Rattle.link_sink.proofs.laws.link_is_grammar.Goals as goal
-
-pub returns : goal.returns
-returns c = link_is_grammar

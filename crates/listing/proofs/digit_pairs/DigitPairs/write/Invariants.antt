@@ -1,9 +1,0 @@
-use Rattle.std.proofs.Common.{◌≡◌, ◌*◌, ◌-◌, ◌≤◌, take, length}
-use Rattle.hex.specs.Hex.{encode_lower}
-use Rattle.listing.proofs.digit_pairs.DigitPairs.write.Given as goal
-
-abbrev pub invariant-loop-at : goal.invariant-loop-at
-invariant-loop-at l = record { within : l.at ≤ length l.bytes; put : take (2 * l.at) l.into ≡ encode_lower (take l.at l.bytes) }
-
-abbrev pub decreases-loop-at : goal.decreases-loop-at
-decreases-loop-at l = length l.bytes - l.at

@@ -1,7 +1,0 @@
--- What contracts see of the lines of one thing.
-use Rattle.std.specs.Prelude.{ℕ, List}
-
--- the lines, each with its line feed, and how many of them are fault lines
-pub record Seen : Type 0 where
-  pub text : List ℕ
-  pub faults : ℕ

@@ -1,0 +1,134 @@
+-- Frames of a content, the last of which may still be told.
+use Rattle.std.proofs.Common.{◌≡◌, ℕ, ◌+◌, ◌≤◌, Bool, true, false, ◌&&◌, List, [], ◌∷◌, ◌++◌, length, refl, ap, sym, subst, ◌∙◌, arith, length-append, eqb-true}
+use Rattle.std.specs.Prelude.{Option, Some, None, Result, is_some, nat_lt}
+use Rattle.std.proofs.lemmas.Bool.{ltb-true}
+use Rattle.audio_packets.specs.declared.sample.Sample.{Sample}
+use Rattle.source_end.specs.Content.{Frame, empty_frame, on_last}
+use Rattle.source_end.specs.declared.refusal.RasterFault.{RasterFault}
+use Rattle.listing_reader.specs.declared.fault.ListCause.{ListCause}
+use Rattle.listing_reader.specs.declared.fault.ListCause.TheVariants.{Order}
+use Rattle.listing_reader.specs.declared.teller.Refusal.{Refusal}
+use Rattle.listing_reader.specs.Causes.{unless}
+use Rattle.listing_reader.specs.Reported.{AnswersCause}
+use Rattle.listing_reader.specs.ContentForms.{ContentLine, end_line}
+use Rattle.listing_reader.specs.ContentDrafts.{with_samples}
+use Rattle.listing_reader.specs.ContentKept.{AreKept, ContentKept, is_kept_settled, is_reported, kept_cause}
+use Rattle.listing_reader.specs.ContentReported.{first_frames, last_frame, whole_frames, open_frame, pending, IsOpened}
+use Rattle.listing_reader.proofs.Feeds.{and-left, and-right}
+
+pub first_on_last : (change : Frame → Frame) (frames : List Frame) → first_frames (on_last change frames) ≡ first_frames frames
+unfolding first_frames
+first_on_last change [] = refl
+first_on_last change (f ∷ []) = refl
+first_on_last change (f ∷ (g ∷ [])) = refl
+first_on_last change (f ∷ (g ∷ (h ∷ frames))) = ap (λ (fs : List Frame). f ∷ fs) (first_on_last change (g ∷ (h ∷ frames)))
+
+pub last_on_last : (change : Frame → Frame) (frames : List Frame) → 1 ≤ length frames → last_frame (on_last change frames) ≡ change (last_frame frames)
+unfolding last_frame
+last_on_last change [] some = absurd (omega arith)
+last_on_last change (f ∷ []) some = refl
+last_on_last change (f ∷ (g ∷ [])) some = refl
+last_on_last change (f ∷ (g ∷ (h ∷ frames))) some = last_on_last change (g ∷ (h ∷ frames)) (omega arith)
+
+pub first_append : (frames : List Frame) (f : Frame) → first_frames (frames ++ f ∷ []) ≡ frames
+unfolding first_frames
+first_append [] f = refl
+first_append (g ∷ []) f = refl
+first_append (g ∷ (h ∷ frames)) f = ap (λ (fs : List Frame). g ∷ fs) (first_append (h ∷ frames) f)
+
+pub last_append : (frames : List Frame) (f : Frame) → last_frame (frames ++ f ∷ []) ≡ f
+unfolding last_frame
+last_append [] f = refl
+last_append (g ∷ []) f = refl
+last_append (g ∷ (h ∷ frames)) f = last_append (h ∷ frames) f
+
+pub first_and_last : (frames : List Frame) → 1 ≤ length frames → frames ≡ first_frames frames ++ last_frame frames ∷ []
+unfolding first_frames last_frame
+first_and_last [] some = absurd (omega arith)
+first_and_last (f ∷ []) some = refl
+first_and_last (f ∷ (g ∷ frames)) some = ap (λ (fs : List Frame). f ∷ fs) (first_and_last (g ∷ frames) (omega arith))
+
+pub length_first : (frames : List Frame) → length frames ≤ length (first_frames frames) + 1
+unfolding first_frames
+length_first [] = omega arith
+length_first (f ∷ []) = omega arith
+length_first (f ∷ (g ∷ frames)) = let h = length_first (g ∷ frames) in omega (arith, h)
+
+pub length_on_last : (change : Frame → Frame) (frames : List Frame) → length (on_last change frames) ≡ length frames
+length_on_last change [] = refl
+length_on_last change (f ∷ []) = refl
+length_on_last change (f ∷ (g ∷ frames)) = let h = length_on_last change (g ∷ frames) in omega (arith, h)
+
+-- the frame that is told is changed
+pub whole_kept : (change : Frame → Frame) (old new : List Frame) → new ≡ on_last change old → first_frames new ≡ first_frames old
+whole_kept change old new is = ap first_frames is ∙ first_on_last change old
+
+pub open_changed : (change : Frame → Frame) (old new : List Frame) → 1 ≤ length old → new ≡ on_last change old → last_frame new ≡ change (last_frame old)
+open_changed change old new some is = ap last_frame is ∙ last_on_last change old some
+
+pub some_changed : (change : Frame → Frame) (old new : List Frame) → 1 ≤ length old → new ≡ on_last change old → 1 ≤ length new
+some_changed change old new some is = omega (arith, some, ap length is, length_on_last change old)
+
+-- a new frame is changed
+pub whole_begun : (change : Frame → Frame) (old begun new : List Frame) → begun ≡ old ++ empty_frame ∷ [] → new ≡ on_last change begun → first_frames new ≡ old
+whole_begun change old begun new b n = whole_kept change begun new n ∙ ap first_frames b ∙ first_append old empty_frame
+
+pub open_begun : (change : Frame → Frame) (old begun new : List Frame) → begun ≡ old ++ empty_frame ∷ [] → new ≡ on_last change begun → last_frame new ≡ change empty_frame
+open_begun change old begun new b n =
+    open_changed change begun new (omega (arith, ap length b, length-append old (empty_frame ∷ []))) n ∙ ap (λ (fs : List Frame). change (last_frame fs)) b ∙ ap change (last_append old empty_frame)
+
+pub some_begun : (change : Frame → Frame) (old begun new : List Frame) → begun ≡ old ++ empty_frame ∷ [] → new ≡ on_last change begun → 1 ≤ length new
+some_begun change old begun new b n = some_changed change begun new (omega (arith, ap length b, length-append old (empty_frame ∷ []))) n
+
+-- ---- a content whose last frame ends, or has ended
+
+pub with_samples_rows : (samples : List Sample) (f : Frame) → (with_samples samples f).rows ≡ f.rows
+with_samples_rows [] f = refl
+with_samples_rows (s ∷ samples) f = refl
+
+-- a row was told, so the last frame is the one that is told
+pub frame_ends : (is_open : Bool) (frames : List Frame) (rows packets : ℕ) → IsOpened is_open frames rows packets → 1 ≤ length (open_frame is_open frames).rows
+    → frames ≡ whole_frames is_open frames ++ open_frame is_open frames ∷ []
+frame_ends true frames rows packets begun some = first_and_last frames begun.0
+frame_ends false frames rows packets begun some = absurd (omega (arith, some))
+
+-- nothing is told of a frame
+pub content_closed : (is_open : Bool) (frames : List Frame) (rows packets : ℕ) → IsOpened is_open frames rows packets → rows ≡ 0 → packets ≡ 0 → frames ≡ whole_frames is_open frames
+content_closed true frames rows packets begun none empty = absurd (omega (arith, begun.1, none, empty))
+content_closed false frames rows packets begun none empty = refl
+
+pub no_fault : (fault : Option RasterFault) → is_some fault ≡ false → fault ≡ None
+no_fault None h = refl
+no_fault (Some fault) h = cc h
+
+-- a row was told of frames that are kept
+pub frame_kept : (fault : Option RasterFault) (count rows packets : ℕ) (is_open : Bool) (frames : List Frame) → AreKept fault count rows is_open frames → IsOpened is_open frames rows packets → fault ≡ None → 1 ≤ rows
+    → (count ≡ length (whole_frames is_open frames)) × (frames ≡ whole_frames is_open frames ++ open_frame is_open frames ∷ [])
+frame_kept None count rows packets is_open frames kept begun none some = (kept.0, frame_ends is_open frames rows packets begun (omega (arith, kept.1, some)))
+frame_kept (Some fault) count rows packets is_open frames kept begun none some = absurd (cc none)
+
+unless_true : (b : Bool) → unless b Order None ≡ None → b ≡ true
+unless_true true h = refl
+unless_true false h = cc h
+
+-- what holds where the line `end` has no cause
+end_none : (k : ContentKept) → kept_cause k end_line ≡ None → (is_reported k.mode && (nat_lt 0 k.count && is_kept_settled k)) ≡ true
+unfolding kept_cause
+end_none k h = unless_true _ h
+
+pub end_reported : (k : ContentKept) → kept_cause k end_line ≡ None → is_reported k.mode ≡ true
+end_reported k h = and-left _ _ (end_none k h)
+
+-- nothing of a frame is told there
+pub end_settled : (k : ContentKept) → kept_cause k end_line ≡ None → (k.rows ≡ 0) × (k.packets ≡ 0)
+end_settled k h =
+    let settled = and-right _ _ (and-right _ _ (end_none k h)) in
+    (eqb-true _ 0 (and-left _ _ settled), eqb-true _ 0 (and-left _ _ (and-right _ _ settled)))
+
+pub pending_one : (samples : List Sample) (s : Sample) → pending (samples ++ s ∷ []) ≡ 1
+pending_one [] s = refl
+pending_one (r ∷ samples) s = refl
+
+pub answers_reported : {T : Type 0} (draft : ContentKept) (reported form : ContentLine) (result : Result T Refusal) → reported ≡ form → AnswersCause {T = T} (kept_cause draft form) result
+    → AnswersCause {T = T} (kept_cause draft reported) result
+answers_reported draft reported form result is answers = subst (λ (t : ContentLine). AnswersCause (kept_cause draft t) result) (sym is) answers

@@ -1,0 +1,68 @@
+-- What the reader of a listing keeps of the lines that it has taken.
+use Rattle.std.specs.Prelude.{◌≡◌, ◌≤◌, Bool, true, false, List, [], ◌∷◌, ◌++◌, length, nat_le, Option, Some, None, Result, Ok, Err}
+use Rattle.std.specs.List.{list_all}
+use Rattle.island_pack.specs.Periods.{ControlRun, DataIsland, Period, control, values_of, has_preamble, ISLAND_PREAMBLE}
+use Rattle.island_pack.specs.Conforming.{is_sync_pair, is_packet}
+use Rattle.source_end.specs.declared.items.ItemFault.{ItemFault}
+use Rattle.source_end.specs.declared.items.ItemFault.TheVariants.{Range as range_fault, Order as order_fault, Control as control_fault, Preamble as preamble_fault, Long as long_fault, NoMemory as no_memory}
+use Rattle.listing_reader.specs.declared.fault.ListCause.{ListCause}
+use Rattle.listing_reader.specs.declared.fault.ListCause.TheVariants.{Range, Order, Control, Preamble, Long}
+use Rattle.listing_reader.specs.declared.teller.Refusal.{Refusal}
+use Rattle.listing_reader.specs.declared.teller.Refusal.TheVariants.{Cause, NoMemory}
+use Rattle.listing_reader.specs.Forms.{LineForm, control_line, video_line, island_line, packet_line, close_line, end_line, fault_line, no_line}
+use Rattle.listing_reader.specs.Drafts.{OpenIsland, Draft}
+
+-- periods and the control period that is still being told
+abbrev pub with_open : List Period → List ControlRun → List Period
+with_open periods [] = periods
+with_open periods (r ∷ runs) = periods ++ control (r ∷ runs) ∷ []
+
+-- an island whose closing guard is still to come
+abbrev pub unclosed : Option DataIsland → Option OpenIsland
+unclosed None = None
+unclosed (Some x) = Some (record { opening = x.opening; packets = x.packets })
+
+-- periods, the control period behind them and the island behind that
+abbrev pub drafted : List Period → List ControlRun → Option DataIsland → Draft
+drafted periods runs island = record { periods = with_open periods runs; opened = unclosed island }
+
+-- an island that stands behind the control period that announces it
+pub record IsBegun (runs : List ControlRun) (x : DataIsland) : Type 0 where
+  pub long : nat_le 12 (length (values_of runs)) ≡ true
+  pub announced : has_preamble ISLAND_PREAMBLE (values_of runs) ≡ true
+  pub opening : is_sync_pair x.opening ≡ true
+  pub packets : list_all is_packet x.packets ≡ true
+  pub few : length x.packets ≤ 18
+
+-- no island, or such a one
+abbrev pub MayStand : List ControlRun → Option DataIsland → Type 0
+MayStand runs None = Unit {0}
+MayStand runs (Some x) = IsBegun runs x
+
+abbrev pub is_end : LineForm → Bool
+is_end end_line = true
+is_end (control_line value count) = false
+is_end (video_line bytes) = false
+is_end (island_line a b) = false
+is_end (packet_line p) = false
+is_end (close_line a b) = false
+is_end fault_line = false
+is_end no_line = false
+
+-- a cause comes exactly where there is one, but for want of memory
+abbrev pub AnswersCause : {T : Type 0} → Option ListCause → Result T Refusal → Type 0
+AnswersCause (Some cause) (Ok done) = ⊥
+AnswersCause (Some cause) (Err (Cause found)) = found ≡ cause
+AnswersCause (Some cause) (Err NoMemory) = Unit {0}
+AnswersCause None (Ok done) = Unit {0}
+AnswersCause None (Err (Cause found)) = ⊥
+AnswersCause None (Err NoMemory) = Unit {0}
+
+-- what a fault of an item is in a listing
+abbrev pub RefusesAs : ItemFault → Refusal → Type 0
+RefusesAs no_memory refusal = refusal ≡ NoMemory
+RefusesAs range_fault refusal = refusal ≡ Cause Range
+RefusesAs order_fault refusal = refusal ≡ Cause Order
+RefusesAs control_fault refusal = refusal ≡ Cause Control
+RefusesAs preamble_fault refusal = refusal ≡ Cause Preamble
+RefusesAs long_fault refusal = refusal ≡ Cause Long

@@ -1,0 +1,5 @@
+//! The tests of `listing_reader`.
+#![tactic(auto)]
+
+#[cfg(test)]
+mod tests;

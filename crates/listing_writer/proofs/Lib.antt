@@ -1,0 +1,11 @@
+pub mod CheckedLine
+pub mod ContentAdding
+pub mod ContentCases
+pub mod ContentHearing
+pub mod ContentKinds
+pub mod ContentNotes
+pub mod ContentWritten
+pub mod OneLine
+pub mod ShortLines
+pub mod ReportedSizes
+pub mod DigitPairs

@@ -1,0 +1,11 @@
+pub mod Texts
+pub mod Fields
+pub mod Growing
+pub mod Checks
+pub mod GrowingChecks
+pub mod ContentText
+pub mod ContentSeen
+pub mod ContentAdded
+pub mod ContentTaken
+pub mod GrowingContent
+pub mod Listed

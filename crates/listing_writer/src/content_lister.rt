@@ -1,0 +1,94 @@
+//! Writes what is told as pictures and sound.
+ghost use Rattle.std.specs.Prelude.{◌≡◌, ℕ, ◌<◌, List, [], take, codes, OnOk, OnErr};
+ghost use Rattle.std.specs.Io.KnownBytes.{Appends};
+ghost use Rattle.outside_io.specs.Causes.{HasCause};
+ghost use Rattle.period_grammar.specs.Events.{Event};
+ghost use Rattle.listing_writer.specs.ContentAdded.{Recalls};
+ghost use Rattle.listing_writer.specs.ContentTaken.{Lists, Breaks};
+
+use crate::content_lines::Lines;
+use crate::content_state::ContentState;
+use crate::lister::write_line;
+use link_sink::Ear;
+use outside_io::{Failed, Sink};
+use period_grammar::EventRef;
+
+/// Writes the rows, the frames and what packets carry, and what is wrong. It takes no memory: its line buffer is within it.
+#[derive(Drop)]
+pub struct ContentLister<'a, K: Sink> {
+    sink: &'a mut K,
+    faults: u64,
+    past: ContentState,
+    lines: Lines,
+}
+
+impl<'a, K: Sink> ContentLister<'a, K> {
+    /// A lister that has written nothing, and was told nothing.
+    pub fn open(sink: &'a mut K) -> ContentLister<'a, K>
+        ensures same { result.sink.ghost_name ≡ sink.entry.ghost_name }
+        ensures sink { result.sink.now ≡ sink.old }
+        ensures faults { result.faults ≡ 0 }
+        ensures fresh { Recalls result.past [] }
+    {
+        ContentLister {
+            sink,
+            faults: 0,
+            past: ContentState::new(),
+            lines: Lines::new(),
+        }
+    }
+
+    /// How many fault lines there were of events of which every line was written. An event's fault lines are counted once all
+    /// its lines are written: where the sink failed within them none of them counts, also one that was written whole. The
+    /// count stands still at the greatest u64.
+    pub fn faults(&self) -> u64
+        ensures { result ≡ self.now.faults }
+    {
+        self.faults
+    }
+
+    /// Writes the last line.
+    pub fn end(&mut self) -> Result<(), Failed>
+        ensures same { self.new.sink.ghost_name ≡ self.old.sink.ghost_name }
+        ensures faults { self.new.faults ≡ self.old.faults }
+        ensures past { self.new.past ≡ self.old.past }
+        ensures whole { OnOk result (Appends (K.held self.old.sink.now) (K.held self.new.sink.now) (codes "end\n")) }
+        ensures part { OnErr result ((n : ℕ) × (n < 4) × Appends (K.held self.old.sink.now) (K.held self.new.sink.now) (take n (codes "end\n"))) }
+        ensures cause { HasCause (K.faults self.old.sink.now) (K.faults self.new.sink.now) result }
+    {
+        write_line(self.sink, b"end\n")
+    }
+}
+
+impl<'a, K: Sink> Ear for ContentLister<'a, K> {
+    ghost use Rattle.std.proofs.Common.{refl, ◌∙◌};
+    ghost use Rattle.listing_writer.specs.GrowingContent.{lists_none, lists_both};
+
+    ghost faults = { λ l. K.faults l.sink.now };
+
+    // For all that was told before: the sink grew by the lines of the events, and the count by the fault lines.
+    ghost took = { λ x y events.
+        (y.sink.ghost_name ≡ x.sink.ghost_name)
+        × ((reported : List Event) → Recalls x.past reported → Lists reported events y.past x.faults y.faults (K.held x.sink.now) (K.held y.sink.now)) };
+
+    // The sink grew by a part of the event's lines, not by all, and nothing was counted.
+    ghost broke = { λ x y event.
+        (y.sink.ghost_name ≡ x.sink.ghost_name)
+        × (y.faults ≡ x.faults)
+        × ((reported : List Event) → Recalls x.past reported → Breaks reported event (K.held x.sink.now) (K.held y.sink.now)) };
+
+    fn hear(&mut self, event: EventRef<'_>) -> Result<(), Failed> {
+        self.lines.clear();
+        self.past.hear(event, &mut self.lines);
+        write_line(self.sink, self.lines.text())?;
+        self.faults = self.faults().saturating_add(self.lines.faults());
+        Ok(())
+    }
+
+    ghost took_none = { λ x. (refl, lists_none x.past x.faults (K.held x.sink.now)) };
+
+    ghost took_both = { λ x y z h k first then. (
+      then.0 ∙ first.0,
+      lists_both x.past y.past z.past x.faults y.faults z.faults (K.held x.sink.now) (K.held y.sink.now) (K.held z.sink.now) h k first.1 then.1,
+    ) };
+}

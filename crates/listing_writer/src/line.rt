@@ -1,0 +1,181 @@
+//! The short lines of a listing: all but those of pixels.
+ghost use Rattle.std.specs.Prelude.{◌≡◌, ◌+◌, ◌*◌, ◌<◌, ◌≤◌, ◌++◌, [], ◌∷◌, length, codes, All};
+ghost use Rattle.arrayvec.specs.ArrayVec.{array_vec_len};
+ghost use Rattle.hex.specs.Hex.{encode_lower};
+ghost use Rattle.period_grammar.specs.Lending.{fault_event};
+ghost use Rattle.period_grammar.specs.Events.{run as run_event, packet as packet_event};
+ghost use Rattle.listing_writer.specs.Texts.{line_words, field, slip_text, sync_digits};
+ghost use Rattle.listing_writer.specs.Fields.{with_fields};
+
+use arrayvec::ArrayVec;
+use island_pack::PacketRef;
+use period_grammar::Fault;
+
+/// A short line, with room for the longest, an AVI InfoFrame's with its seventeen numbers.
+pub type Line = ArrayVec<u8, 192>;
+
+/// The line of a run of control columns.
+pub(crate) fn run_line(value: u8, count: u32) -> Line
+    ensures { result.items ≡ line_words (run_event value count) ++ codes "\n" }
+{
+    let mut line = Line::new();
+    put(&mut line, b"c ");
+    put_hex(&mut line, &[value]);
+    put_field(&mut line, count);
+    put(&mut line, b"\n");
+    line
+}
+
+/// The line of an island's guard.
+pub(crate) fn guard_line(name: &[u8], first: u8, second: u8) -> Line
+    requires named { length name.now ≤ 2 }
+    requires first { first < 4 }
+    requires second { second < 4 }
+    ensures { result.items ≡ name.now ++ sync_digits (first ∷ second ∷ []) ++ codes "\n" }
+{
+    let mut line = Line::new();
+    put(&mut line, name);
+    put_sync(&mut line, &[first, second]);
+    put(&mut line, b"\n");
+    line
+}
+
+/// The line of a packet.
+pub(crate) fn packet_line(packet: PacketRef<'_>) -> Line
+    requires { All (λ digit. digit < 4) packet.packet.now.sync }
+    ensures { result.items ≡ line_words (packet_event packet.entry.packet.now packet.entry.verdicts.now 0) ++ codes "\n" }
+{
+    let mut line = Line::new();
+    put(&mut line, b"p ");
+    put_bytes(&mut line, packet.header());
+    put_bytes(&mut line, packet.body(0));
+    put_bytes(&mut line, packet.body(1));
+    put_bytes(&mut line, packet.body(2));
+    put_bytes(&mut line, packet.body(3));
+    put_sync(&mut line, packet.sync());
+    put(&mut line, b"\n");
+    line
+}
+
+/// The line of a fault.
+#[tactic(auto, unfolding(crate::specs::Texts::line_words))]
+pub(crate) fn fault_line(fault: Fault) -> Line
+    ensures { result.items ≡ line_words (fault_event fault) ++ codes "\n" }
+{
+    match fault {
+        Fault::Word { lane, column } => fields_line(b"! word", &[u32::from(lane), column]),
+        Fault::Short { column } => fields_line(b"! short", &[column]),
+        Fault::Preamble { column } => fields_line(b"! preamble", &[column]),
+        Fault::Noise { column } => fields_line(b"! noise", &[column]),
+        Fault::Empty { column } => fields_line(b"! empty", &[column]),
+        Fault::Code { lane, column } => fields_line(b"! code", &[u32::from(lane), column]),
+        Fault::LongLine { column } => fields_line(b"! longline", &[column]),
+        Fault::Symbols { column, count } => fields_line(b"! symbols", &[column, u32::from(count)]),
+        Fault::Mended { column, block, bit } => {
+            fields_line(b"! mended", &[column, u32::from(block), u32::from(bit)])
+        }
+        Fault::Lost { column, block } => fields_line(b"! lost", &[column, u32::from(block)]),
+        Fault::LongIsland { column } => fields_line(b"! longisland", &[column]),
+        Fault::Broken { column } => fields_line(b"! broken", &[column]),
+        Fault::Guard { column } => fields_line(b"! guard", &[column]),
+    }
+}
+
+/// The line of a slip.
+#[tactic(auto, unfolding(crate::specs::Texts::slip_text))]
+pub(crate) fn slip_line(lane: u8, place: u64) -> Line
+    ensures { result.items ≡ slip_text lane place }
+{
+    let mut line = Line::new();
+    put(&mut line, b"! slip");
+    put_field(&mut line, u32::from(lane));
+    put_long_field(&mut line, place);
+    put(&mut line, b"\n");
+    line
+}
+
+/// A line of a name and numbers.
+pub(crate) fn fields_line(name: &[u8], numbers: &[u32]) -> Line
+    requires { length name.now + 11 * length numbers.now < 192 }
+    ensures { result.items ≡ with_fields name.now numbers.now ++ codes "\n" }
+{
+    let mut line = Line::new();
+    put(&mut line, name);
+    for number in numbers {
+        put_field(&mut line, *number);
+    }
+    put(&mut line, b"\n");
+    line
+}
+
+/// Puts a space and a number's decimal digits.
+pub(crate) fn put_field(line: &mut Line, number: u32)
+    requires { array_vec_len line.old + 11 ≤ 192 }
+    ensures items { line.new.items ≡ line.old.items ++ field number }
+    ensures len { array_vec_len line.new ≤ array_vec_len line.old + 11 }
+{
+    let mut digits = itoa::Buffer::new();
+    put(line, b" ");
+    put(line, digits.format(number).as_bytes());
+}
+
+/// Puts a space and a great number's decimal digits.
+fn put_long_field(line: &mut Line, number: u64)
+    requires { array_vec_len line.old + 21 ≤ 192 }
+    ensures items { line.new.items ≡ line.old.items ++ field number }
+    ensures len { array_vec_len line.new ≤ array_vec_len line.old + 21 }
+{
+    let mut digits = itoa::Buffer::new();
+    put(line, b" ");
+    put(line, digits.format(number).as_bytes());
+}
+
+/// Puts the hexadecimal digits of at most 27 bytes.
+pub(crate) fn put_hex(line: &mut Line, bytes: &[u8])
+    requires few { length bytes.now ≤ 27 }
+    requires room { array_vec_len line.old + 2 * length bytes.now ≤ 192 }
+    ensures items { line.new.items ≡ line.old.items ++ encode_lower bytes.now }
+    ensures len { array_vec_len line.new ≡ array_vec_len line.old + 2 * length bytes.now }
+{
+    let mut room = [0; 54];
+    let digits = &mut room[..2 * bytes.len()];
+    match hex::encode_to_slice(bytes, digits) {
+        Ok(()) => put(line, digits),
+        Err(_) => unreachable!(),
+    }
+}
+
+/// Puts the hexadecimal digits of at most seven bytes, and a space.
+pub(crate) fn put_bytes(line: &mut Line, bytes: &[u8])
+    requires few { length bytes.now ≤ 7 }
+    requires room { array_vec_len line.old + 15 ≤ 192 }
+    ensures items { line.new.items ≡ line.old.items ++ (encode_lower bytes.now ++ codes " ") }
+    ensures len { array_vec_len line.new ≤ array_vec_len line.old + 15 }
+{
+    put_hex(line, bytes);
+    put(line, b" ");
+}
+
+/// Puts a digit for each sync value.
+fn put_sync(line: &mut Line, values: &[u8])
+    requires digits { All (λ digit. digit < 4) values.now }
+    requires room { array_vec_len line.old + length values.now ≤ 192 }
+    ensures items { line.new.items ≡ line.old.items ++ sync_digits values.now }
+    ensures len { array_vec_len line.new ≡ array_vec_len line.old + length values.now }
+{
+    for value in values {
+        line.push(b'0' + *value);
+    }
+}
+
+/// Puts a text.
+pub(crate) fn put(line: &mut Line, text: &[u8])
+    requires { array_vec_len line.old + length text.now ≤ 192 }
+    ensures items { line.new.items ≡ line.old.items ++ text.now }
+    ensures len { array_vec_len line.new ≡ array_vec_len line.old + length text.now }
+{
+    match line.try_extend_from_slice(text) {
+        Ok(()) => {}
+        Err(_) => unreachable!(),
+    }
+}

@@ -1,0 +1,5 @@
+//! The tests of `listing_writer`.
+#![tactic(auto)]
+
+#[cfg(test)]
+mod tests;

@@ -1,8 +1,0 @@
-use Rattle.relay.proofs.Below.{Facts}
-use Rattle.relay.proofs.Own.{own_relayed}
-use Rattle.relay.proofs.laws.own_relayed.Goals as goal
-
-pub returns : goal.returns
-returns c =
-    let f : Facts = record { value = c.value_below.ensures; decoded = c.decoded_is_byte.ensures; taken = c.repaired_is_taken.ensures; clean = c.carried_is_taken.ensures } in
-    own_relayed f

@@ -1,0 +1,226 @@
+//! Rasters and refusals of small contents and of two formats, compared with values that were computed
+//! apart from `source_end`.
+use super::rows::{RASTERS, TWO_FRAMES};
+use super::{Columns, have, no_columns};
+use island_pack::Packet;
+use source_end::{Content, Mode, RasterFault, Stream, generate, raster, spell_raster};
+use std::alloc::Global;
+use std::process::Abort;
+use std::test::*;
+
+/// Four numbers with a space between them.
+fn four(numbers: &str) -> Result<[u16; 4], Fail> {
+    let mut words = numbers.split(' ');
+    let mut four = [0; 4];
+    for number in &mut four {
+        *number = words.next().ok_or("four numbers")?.parse::<u16>()?;
+    }
+    Ok(four)
+}
+
+/// A content of frames, each of which is how many packets it has, and behind a colon how many bytes each of its rows has: packet i
+/// is type i, and the bytes of a row count up from a number of the frame and the row.
+fn content_of(alloc: Global, frames: &str) -> Result<Content, Fail> {
+    let mut content = Content::new(alloc);
+    for (f, frame) in frames.split_whitespace().enumerate() {
+        let (packets, rows) = frame.split_once(':').ok_or("a frame of no rows")?;
+        add_frame(&mut content)?;
+        for number in 0..packets.parse::<u8>()? {
+            add_packet(&mut content, number)?;
+        }
+        add_rows(alloc, &mut content, (f % 256) as u8, rows)?;
+    }
+    Ok(content)
+}
+
+fn add_rows(alloc: Global, content: &mut Content, f: u8, rows: &str) -> Result<(), Fail> {
+    let lengths = rows.split(',').filter(|length| !length.is_empty());
+    for (y, length) in lengths.enumerate() {
+        add_row(alloc, content, f, (y % 256) as u8, length.parse()?)?;
+    }
+    Ok(())
+}
+
+fn add_frame(content: &mut Content) -> Result<(), Fail> {
+    if content.len() < 1000 {
+        content.frame()?;
+    }
+    Ok(())
+}
+
+fn add_packet(content: &mut Content, number: u8) -> Result<(), Fail> {
+    let mut bodies = [0; 28];
+    for i in 0..28u8 {
+        bodies[i as usize] = number.wrapping_add(i);
+    }
+    if !content.is_empty() {
+        content.packet(Packet {
+            header: [number, 1, 2],
+            bodies,
+            sync: [9; 32],
+        })?;
+    }
+    Ok(())
+}
+
+fn add_row(alloc: Global, content: &mut Content, f: u8, y: u8, length: usize) -> Result<(), Fail> {
+    let first = f.wrapping_mul(31).wrapping_add(y.wrapping_mul(7));
+    let mut bytes = Vec::with_capacity(alloc, length)?;
+    for i in 0..length {
+        bytes.push(first.wrapping_add((i % 256) as u8))?;
+    }
+    if !content.is_empty() {
+        content.row(bytes.as_slice())?;
+    }
+    Ok(())
+}
+
+/// The words of a stream's columns.
+fn columns_of(alloc: Global, stream: &Stream) -> Result<Columns, Fail> {
+    let mut columns = no_columns(alloc);
+    stream.spell(&mut columns)?;
+    Ok(columns)
+}
+
+/// A sum over the words of columns, which hangs on their order.
+fn sum(columns: &Columns) -> u32 {
+    let mut sum: u32 = 0x811c_9dc5;
+    for words in &columns.words {
+        for word in words {
+            sum = sum.wrapping_mul(16_777_619) ^ u32::from(word.value());
+        }
+    }
+    sum
+}
+
+/// How many columns a raster is given with, frame by frame, and a sum over their words; or the refusal.
+fn by_frames(alloc: Global, mode: &Mode, content: Content) -> Result<(u32, u32), RasterFault> {
+    let mut columns = no_columns(alloc);
+    spell_raster(alloc, mode, content, &mut columns)?;
+    let count = u32::try_from(columns.words.len()).unwrap_or(u32::MAX);
+    Ok((count, sum(&columns)))
+}
+
+#[test]
+fn rows(rt: HostRuntime) -> Result<(), Fail> {
+    let alloc = rt.alloc();
+    for row in RASTERS.split('\n') {
+        let fields: Vec<&str> = row.split('|').collect(alloc)?;
+        let [wanted, across, down, sync, frames] = *fields.as_slice() else {
+            return Err("five fields")?;
+        };
+        let mode = Mode {
+            across: four(across)?,
+            down: four(down)?,
+            positive: sync == "positive",
+        };
+        let content = content_of(alloc, frames)?;
+        let found = match raster(alloc, &mode, &content) {
+            Ok(stream) => Ok((stream.columns(), sum(&columns_of(alloc, &stream)?))),
+            Err(fault) => Err(fault),
+        };
+        let text = format!(in alloc; "{found:?}")?;
+        assert_eq!(rt; text.as_str(), wanted, "{row}");
+        let found = by_frames(alloc, &mode, content);
+        let text = format!(in alloc; "{found:?}")?;
+        assert_eq!(rt; text.as_str(), wanted, "{row}, frame by frame");
+    }
+    Ok(())
+}
+
+#[test]
+fn two_frames(rt: HostRuntime) -> Result<(), Fail> {
+    let mode = Mode {
+        across: [2, 1, 2, 14],
+        down: [2, 1, 1, 1],
+        positive: false,
+    };
+    let mut content = Content::new(rt.alloc());
+    for _ in 0..2 {
+        add_frame(&mut content)?;
+        if !content.is_empty() {
+            content.row(&[0x11, 0x22, 0x33, 0x44, 0x55, 0x66])?;
+        }
+        if !content.is_empty() {
+            content.row(&[0, 0, 0, 0xff, 0xff, 0xff])?;
+        }
+    }
+    let stream = raster(rt.alloc(), &mode, &content)?;
+    assert_eq!(rt; stream.columns(), 222);
+    assert!(rt; have(&columns_of(rt.alloc(), &stream)?, TWO_FRAMES)?);
+    Ok(())
+}
+
+/// A frame of a format, with so many packets: how many columns it makes, and a sum over their words.
+fn format_sums(rt: &impl Abort, alloc: Global, code: u8, packets: u8) -> Result<(u32, u32), Fail> {
+    let mode = Mode::vic(code).ok_or("no format")?;
+    let mut content = Content::new(alloc);
+    add_frame(&mut content)?;
+    for number in 0..packets {
+        add_packet(&mut content, number)?;
+    }
+    for y in 0..mode.down[0] {
+        add_row(
+            alloc,
+            &mut content,
+            0,
+            (y % 256) as u8,
+            3 * usize::from(mode.across[0]),
+        )?;
+    }
+    assert_eq!(rt; content.len(), 1);
+    let stream = raster(alloc, &mode, &content)?;
+    Ok((stream.columns(), sum(&columns_of(alloc, &stream)?)))
+}
+
+#[test]
+fn formats(rt: HostRuntime) -> Result<(), Fail> {
+    assert_eq!(rt;
+        format_sums(&rt, rt.alloc(), 1, 203)?,
+        (420_032, 0x1e5e_a2ad)
+    );
+    assert_eq!(rt;
+        format_sums(&rt, rt.alloc(), 4, 40)?,
+        (1_237_532, 0x900a_5e42)
+    );
+    assert_eq!(rt; Mode::vic(5), None);
+    Ok(())
+}
+
+#[test]
+fn generated(rt: HostRuntime) -> Result<(), Fail> {
+    let mode = Mode::vic(1).ok_or("no format")?;
+    let content = generate(rt.alloc(), 2)?;
+    assert_eq!(rt; content.len(), 2);
+    let stream = raster(rt.alloc(), &mode, &content)?;
+    assert_eq!(rt; stream.columns(), 840_032);
+    assert_eq!(rt; sum(&columns_of(rt.alloc(), &stream)?), 0x0b88_b297);
+    Ok(())
+}
+
+#[test]
+fn too_long(rt: HostRuntime) -> Result<(), Fail> {
+    let mode = Mode {
+        across: [4096; 4],
+        down: [1; 4],
+        positive: true,
+    };
+    let mut content = Content::new(rt.alloc());
+    for _ in 0..305 {
+        add_frame(&mut content)?;
+        add_row(rt.alloc(), &mut content, 0, 0, 12_288)?;
+    }
+    let columns = match raster(rt.alloc(), &mode, &content) {
+        Ok(stream) => Ok(stream.columns()),
+        Err(fault) => Err(fault),
+    };
+    assert_eq!(rt; columns, Ok(19_988_512));
+    add_frame(&mut content)?;
+    add_row(rt.alloc(), &mut content, 0, 0, 12_288)?;
+    let columns = match raster(rt.alloc(), &mode, &content) {
+        Ok(stream) => Ok(stream.columns()),
+        Err(fault) => Err(fault),
+    };
+    assert_eq!(rt; columns, Err(RasterFault::Long));
+    Ok(())
+}

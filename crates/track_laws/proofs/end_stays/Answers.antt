@@ -1,0 +1,5 @@
+use Rattle.track_sink.proofs.Staying.{end_stays}
+use Rattle.track_laws.proofs.end_stays.Goals as goal
+
+pub returns : goal.returns
+returns c = end_stays

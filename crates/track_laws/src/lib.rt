@@ -1,0 +1,80 @@
+//! What follows from the laws on taps.
+#![tactic(auto)]
+
+ghost use Rattle.track_laws.specs.Laws.{SecondReported, EndStays, AtMostTwo, CalmHasNoEnd, OneTrack, FirstReported, PayloadHasNoEnd, OneEpoch, SomeTrack, ReportedStarts, FirstEpoch, SecondEpoch, SlipNoticed, SlipPasses, HasSlipExample};
+
+/// What the second epoch tells is the account.
+pub fn second_reported()
+    ensures { SecondReported }
+{}
+
+/// An end that is found stays.
+pub fn end_stays()
+    ensures { EndStays }
+{}
+
+/// Where a lane slips once there are at most two epochs, and the second begins on that lane, behind the slip.
+pub fn at_most_two()
+    ensures { AtMostTwo }
+{}
+
+/// Where none slips there is one.
+pub fn calm_has_no_end()
+    ensures { CalmHasNoEnd }
+{}
+
+/// Of all bits something is told.
+pub fn some_track()
+    ensures { SomeTrack }
+{}
+
+/// Of all bits one event is told.
+pub fn one_track()
+    ensures { OneTrack }
+{}
+
+/// What a tracker told is the beginning of what is told of all.
+pub fn reported_starts()
+    ensures { ReportedStarts }
+{}
+
+/// What the first epoch tells before the slip is the account.
+pub fn first_reported()
+    ensures { FirstReported }
+{}
+
+/// The lanes of a tap whose damage lies in pixels and packets alone have one epoch.
+pub fn payload_has_no_end()
+    ensures { PayloadHasNoEnd }
+{}
+
+/// So have the lanes of a tap whose damage is sparse, wherever it lies.
+pub fn one_epoch()
+    ensures { OneEpoch }
+{}
+
+/// What the first epoch tells of columns that end before a slip within a line is the account.
+pub fn first_epoch()
+    ensures { FirstEpoch }
+{}
+
+/// There are at most two epochs then, and the second begins where the next control period does, on the lane that slipped;
+/// what it tells from its first full alignment on is the account.
+pub fn second_epoch()
+    ensures { SecondEpoch }
+{}
+
+/// There are two where the lane has a lock before the slip and the first twelve characters of that control period.
+pub fn slip_noticed()
+    ensures { SlipNoticed }
+{}
+
+/// There is one where it has no lock before the slip.
+pub fn slip_passes()
+    ensures { SlipPasses }
+{}
+
+/// The premises can be met: a stream, a tap and a slip where both epochs have a full alignment.
+pub fn slip_example()
+    ensures { HasSlipExample }
+{}

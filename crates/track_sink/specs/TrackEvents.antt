@@ -1,0 +1,16 @@
+-- What a tracker tells: events, and slips between them.
+use Rattle.std.specs.Prelude.{ℕ, Bool, true, false, List, [], ◌∷◌, map}
+use Rattle.period_grammar.specs.Events.{Event}
+
+pub data TrackEvent : Type 0 where
+  event : Event → TrackEvent
+  -- a lane lost its characters' places: the lane, and the place of the capture at which the search begins anew
+  slip : ℕ → ℕ → TrackEvent
+
+abbrev pub track_events_of : List Event → List TrackEvent
+track_events_of events = map event events
+
+-- a slip is told only once there was an alignment
+abbrev pub slip_if : Bool → ℕ → ℕ → List TrackEvent
+slip_if true lane place = slip lane place ∷ []
+slip_if false lane place = []
