@@ -1,5 +1,5 @@
 -- Half cells that carry bits: lists that are joined, and the one list of half cells that carries bits.
-use Rattle.std.proofs.Common.{◌≡◌, ℕ, ◌*◌, Bool, true, false, ◌&&◌, List, [], ◌∷◌, ◌++◌, length, refl, ap, ◌∙◌, arith}
+use Rattle.std.proofs.Common.{◌≡◌, ℕ, ◌*◌, Bool, true, ◌&&◌, List, [], ◌∷◌, ◌++◌, length, refl, ap, ◌∙◌, arith}
 use Rattle.std.specs.Prelude.{not}
 use Rattle.bch_block.specs.Bits.{xor}
 use Rattle.tmds_word.specs.Bits.{bits_of}
@@ -7,9 +7,7 @@ use Rattle.audio_out.specs.Levels.{last_of, level_after}
 use Rattle.audio_out.specs.Subframes.{carries, cells_of}
 
 and_moved : (a b c d : Bool) → (a && (b && (c && d))) ≡ ((a && (b && c)) && d)
-and_moved true true c d = refl
-and_moved true false c d = refl
-and_moved false b c d = refl
+and_moved a b c d = grind arith
 
 pub carries-append : (before : Bool) (xs ys us vs : List Bool) → length us ≡ 2 * length xs
     → carries before (xs ++ ys) (us ++ vs) ≡ (carries before xs us && carries (last_of before us) ys vs)
@@ -18,9 +16,7 @@ carries-append before [] ys [] vs len = refl
 carries-append before [] ys (u ∷ us) vs len = absurd (omega arith)
 carries-append before (x ∷ xs) ys [] vs len = absurd (omega arith)
 carries-append before (x ∷ xs) ys (u ∷ []) vs len = absurd (omega arith)
-carries-append before (x ∷ xs) ys (u ∷ (w ∷ us)) vs len =
-    ap (λ r. xor before u && (not (xor (xor u w) x) && r)) (carries-append w xs ys us vs (omega arith))
-    ∙ and_moved (xor before u) (not (xor (xor u w) x)) (carries w xs us) (carries (last_of w us) ys vs)
+carries-append before (x ∷ xs) ys (u ∷ (w ∷ us)) vs len = grind (arith, and_moved, carries-append w xs ys us vs)
 
 -- four bits and eight half cells, and those behind them
 pub carries-four : (before : Bool) (n byte : ℕ) (ys vs : List Bool)
@@ -34,14 +30,10 @@ length-cells_of before [] = refl
 length-cells_of before (x ∷ bits) = omega (arith, length-cells_of (xor (not before) x) bits)
 
 first_unlike : (before : Bool) → xor before (not before) ≡ true
-first_unlike true = refl
-first_unlike false = refl
+first_unlike before = grind arith
 
 second_says : (first bit : Bool) → not (xor (xor first (xor first bit)) bit) ≡ true
-second_says true true = refl
-second_says true false = refl
-second_says false true = refl
-second_says false false = refl
+second_says first bit = grind arith
 
 -- those half cells carry the bits
 pub cells_carry : (before : Bool) (bits : List Bool) → carries before bits (cells_of before bits) ≡ true

@@ -1,5 +1,5 @@
 -- The table of four bits holds what the code has: each level, four bits and byte of half cells is computed.
-use Rattle.std.proofs.Common.{◌≡◌, ℕ, ◌+◌, ◌*◌, ◌/◌, ◌^◌, ◌<◌, Bool, true, false, refl, ◌==◌, slice_index, eqb-true}
+use Rattle.std.proofs.Common.{arith, ◌≡◌, ℕ, ◌+◌, ◌*◌, ◌/◌, ◌^◌, ◌<◌, Bool, true, false, refl, ◌==◌, slice_index, eqb-true}
 use Rattle.tmds_word.specs.Bits.{bits_of}
 use Rattle.tmds_word.proofs.Below.{passes_below, passes_at}
 use Rattle.audio_packets.proofs.Pairs.{same, same_is}
@@ -14,28 +14,21 @@ digit false = 0
 unfoldable level_holds : ℕ → Bool
 level_holds byte = byte / 2 ^ 7 == digit (level_after byte)
 
-levels : passes_below 256 level_holds ≡ true
-unfolding passes_below level_holds level_after last_of bits_of
-levels = refl
-
 pub level_is : (byte : ℕ) → byte < 256 → byte / 2 ^ 7 ≡ digit (level_after byte)
-unfolding level_holds
-level_is byte lt = eqb-true _ _ (passes_at 256 level_holds byte levels lt)
+unfolding level_holds passes_below level_after last_of bits_of
+level_is byte lt = grind (arith, eqb-true, passes_at)
 
 unfoldable cells_hold : Bool → ℕ → ℕ → Bool
 cells_hold level n byte = same (carries level (bits_of 4 n) (bits_of 8 byte)) (slice_index CELLS (16 * digit level + n) == byte)
-
-all_low : passes_below 16 (λ n. passes_below 256 (cells_hold false n)) ≡ true
-unfolding passes_below cells_hold carries bits_of same
-all_low = refl
 
 all_high : passes_below 16 (λ n. passes_below 256 (cells_hold true n)) ≡ true
 unfolding passes_below cells_hold carries bits_of same
 all_high = refl
 
 all_cells : (level : Bool) → passes_below 16 (λ n. passes_below 256 (cells_hold level n)) ≡ true
+unfolding passes_below cells_hold carries bits_of same
 all_cells true = all_high
-all_cells false = all_low
+all_cells false = grind arith
 
 -- four bits have one byte of half cells
 pub cells_are : (level : Bool) (n byte : ℕ) → n < 16 → byte < 256

@@ -63,19 +63,11 @@ gathered n = joined (fours n) 4 EIGHTS
 
 joined_low : (x w m i : ℕ) → bit_at m i ≡ 1 → bit_at x (w + i) ≡ 0 → bit_at (joined x w m) i ≡ bit_at x i
 unfolding joined
-joined_low x w m i one none =
-    let b = bit_at_and (bit_or x (x / 2 ^ w)) m i in
-    let o = bit_at_or x (x / 2 ^ w) i in
-    let s : bit_at (x / 2 ^ w) i ≡ bit_at x (w + i) = ap (λ k. k % 2) (shr-shr x w i) in
-    omega (arith, b, o, s, none, one, bit_at-lt x i)
+joined_low x w m i one none = grind (arith, bit_at_and, bit_at_or, shr-shr, bit_at-lt)
 
 joined_high : (x w m i : ℕ) → bit_at m i ≡ 1 → bit_at x i ≡ 0 → bit_at (joined x w m) i ≡ bit_at x (w + i)
 unfolding joined
-joined_high x w m i one none =
-    let b = bit_at_and (bit_or x (x / 2 ^ w)) m i in
-    let o = bit_at_or x (x / 2 ^ w) i in
-    let s : bit_at (x / 2 ^ w) i ≡ bit_at x (w + i) = ap (λ k. k % 2) (shr-shr x w i) in
-    omega (arith, b, o, s, none, one, bit_at-lt x (w + i))
+joined_high x w m i one none = grind (arith, bit_at_and, bit_at_or, shr-shr, bit_at-lt)
 
 joined_none : (x w m i : ℕ) → bit_at m i ≡ 0 → bit_at (joined x w m) i ≡ 0
 unfolding joined
@@ -113,9 +105,7 @@ two_at n a zero la ld =
 two_at n a (suc zero) la ld =
     let i = 4 * a + 1 in
     let m = masks_of TWOS 2 all_twos i (omega arith) in
-    let e : 1 + i ≡ 4 * a + 2 = omega arith in
-    joined_high (ones n) 1 TWOS i (omega (arith, m)) (no_one n i (omega arith) (omega arith))
-    ∙ ap (bit_at (ones n)) e ∙ one_at n (4 * a + 2) (omega arith) (omega arith)
+    grind (arith, joined_high, no_one, one_at)
 two_at n a (suc (suc d)) la ld = absurd (omega arith)
 
 four_at : (n a d e : ℕ) → a < 8 → d < 2 → e < 2 → bit_at (fours n) (8 * a + 2 * d + e) ≡ bit_at (twos n) (8 * a + 4 * d + e)
@@ -173,9 +163,7 @@ four_bits n q r lq lr =
     let e = r % 2 in
     let i0 : 8 * q + r ≡ 8 * q + 2 * d + e = omega arith in
     let i1 : 8 * q + 4 * d + e ≡ 4 * (2 * q + d) + e = omega arith in
-    let i2 : 4 * (2 * q + d) + 2 * e ≡ 8 * q + 2 * r = omega arith in
-    ap (bit_at (fours n)) i0 ∙ four_at n q d e lq (omega arith) (omega arith) ∙ ap (bit_at (twos n)) i1
-    ∙ two_at n (2 * q + d) e (omega arith) (omega arith) ∙ ap (bit_at n) i2
+    grind (arith, four_at, two_at)
 
 pub fours_are : (n q : ℕ) → q < 8 → fours n / 2 ^ (8 * q) % 256 ≡ bit_at n (8 * q) + 2 * bit_at n (8 * q + 2) + 4 * bit_at n (8 * q + 4) + 8 * bit_at n (8 * q + 6)
 fours_are n q lt =
@@ -206,7 +194,4 @@ gathered_is n q lt =
     let m = x / 2 ^ p in
     let none : p + 0 ≡ p = omega arith in
     let at : (r : ℕ) → r < 8 → m / 2 ^ r % 2 ≡ bit_at n (p + 2 * r) = λ r lr. ap (λ k. k % 2) (shr-shr x p r) ∙ gathered_at n q r lt lr in
-    let one : m ≡ m / 2 ^ 0 = omega arith in
-    let first : m % 2 ≡ bit_at n p = ap (λ k. k % 2) one ∙ at 0 (omega arith) ∙ ap (bit_at n) none in
-    eight_bits m
-    ∙ rw first (rw (at 1 (omega arith)) (rw (at 2 (omega arith)) (rw (at 3 (omega arith)) (rw (at 4 (omega arith)) (rw (at 5 (omega arith)) (rw (at 6 (omega arith)) (rw (at 7 (omega arith)) refl)))))))
+    grind (arith, eight_bits)

@@ -39,8 +39,7 @@ unfolding field_holds
 field_carries m n a b = same_is _ _ (passes_at 16 (field_holds m) n (passes_at 512 (λ m. passes_below 16 (field_holds m)) m all_fields a) b)
 
 level_back : (level : Bool) → (digit level == 1) ≡ level
-level_back true = refl
-level_back false = refl
+level_back level = grind arith
 
 -- the four bits that a byte carries behind another
 pub field_read : (before cells m : ℕ) → before < 256 → cells < 256 → m ≡ before / 128 + 2 * cells → IsRead before cells (found_in m)
@@ -86,18 +85,11 @@ BORDERS = 0x2aaaaaaaaaaaaa80
 
 -- a mask that a number has
 pub has_bit : (t mask i : ℕ) → bit_and t mask ≡ mask → bit_at mask i ≡ 1 → bit_at t i ≡ 1
-has_bit t mask i e one =
-    let b = bit_at_and t mask i in
-    let same = ap (λ n. bit_at n i) e in
-    let lt = bit_at-lt t i in
-    omega (arith, b, same, one, lt)
-
-one_is : (n : ℕ) → n ≡ 1 → (n == 1) ≡ true
-one_is n e = eq-eqb n 1 e
+has_bit t mask i e one = grind (arith, bit_at_and, same, bit_at-lt)
 
 pub bordered_is : (m : ℕ) → turn_in m 0 ≡ 1 → turn_in m 2 ≡ 1 → turn_in m 4 ≡ 1 → turn_in m 6 ≡ 1 → is_bordered m ≡ true
 unfolding is_bordered
-bordered_is m a b c d = rw (one_is _ a) (rw (one_is _ b) (rw (one_is _ c) (rw (one_is _ d) refl)))
+bordered_is m a b c d = grind (arith, eq-eqb)
 
 -- the borders of a field of a number that has all borders
 pub field_bordered : (n s m : ℕ) → m ≡ n / 2 ^ s % 512 → bit_and (turns_of n) BORDERS ≡ BORDERS

@@ -1,5 +1,5 @@
 -- A frame's two subframes joined, and the stream of one sample more.
-use Rattle.std.proofs.Common.{◌≡◌, ℕ, Bool, true, false, ◌||◌, cond, List, [], ◌∷◌, ◌++◌, length, refl, ap, ap₂, ◌∙◌, sym, append-nil}
+use Rattle.std.proofs.Common.{arith, ◌≡◌, ℕ, Bool, ◌||◌, List, [], ◌∷◌, ◌++◌, length, refl, ap₂, ◌∙◌, sym, append-nil}
 use Rattle.std.specs.Prelude.{Option, if◌then◌else◌}
 use Rattle.std.specs.List.{list_any, flat_map}
 use borrow.Rule.Slice.PartMut.{put_mid}
@@ -27,22 +27,14 @@ starts s = s.start
 start_more : (past : List Sample) (s : Sample) → from_start (past ++ s ∷ []) ≡ from_start past ++ (if list_any starts past || s.start then s ∷ [] else [])
 unfolding from_start
 start_more [] s = refl
-start_more (p ∷ past) s =
-    elim p.start as (λ b. cond b (p ∷ (past ++ s ∷ [])) (from_start (past ++ s ∷ []))
-    ≡ cond b (p ∷ past) (from_start past) ++ cond ((b || list_any starts past) || s.start) (s ∷ []) [])
-    [ true ↦ refl | false ↦ start_more past s ]
+start_more (p ∷ past) s = grind (arith, start_more past s)
 
 one_frame : (b : Bool) (s : Sample) → flat_map frame_bytes (if b then s ∷ [] else []) ≡ (if b then frame_bytes s else [])
-one_frame true s = append-nil (frame_bytes s)
-one_frame false s = refl
+one_frame b s = grind (arith, append-nil)
 
 -- the stream of one sample more
 pub stream_more : (past : List Sample) (s : Sample) (now : Bool) (result : Option (List ℕ))
     → now ≡ list_any starts past || s.start → bytes_in result ≡ (if now then frame_bytes s else [])
     → biphase (past ++ s ∷ []) ≡ biphase past ++ bytes_in result
 unfolding biphase
-stream_more past s now result e h =
-    ap (flat_map frame_bytes) (start_more past s)
-    ∙ flat_map-append frame_bytes (from_start past) _
-    ∙ ap (λ b. flat_map frame_bytes (from_start past) ++ flat_map frame_bytes (if b then s ∷ [] else [])) (sym e)
-    ∙ ap (λ bytes. flat_map frame_bytes (from_start past) ++ bytes) (one_frame now s ∙ sym h)
+stream_more past s now result e h = grind (arith, start_more, flat_map-append, one_frame)

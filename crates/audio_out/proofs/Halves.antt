@@ -31,9 +31,6 @@ pub record AreBytes (p a b c d e f g : ℕ) : Type 0 where
 field_1 : (n p a b c d e f g : ℕ) → AreBytes p a b c d e f g → IsJoined n p a b c d e f g → field n 7 ≡ p / 128 + 2 * a
 field_1 n p a b c d e f g l is = omega (arith, is, l.of_p, l.of_a, l.of_b, l.of_c, l.of_d, l.of_e, l.of_f, l.of_g)
 
-field_2 : (n p a b c d e f g : ℕ) → AreBytes p a b c d e f g → IsJoined n p a b c d e f g → field n 15 ≡ a / 128 + 2 * b
-field_2 n p a b c d e f g l is = omega (arith, is, l.of_p, l.of_a, l.of_b, l.of_c, l.of_d, l.of_e, l.of_f, l.of_g)
-
 field_3 : (n p a b c d e f g : ℕ) → AreBytes p a b c d e f g → IsJoined n p a b c d e f g → field n 23 ≡ b / 128 + 2 * c
 field_3 n p a b c d e f g l is = omega (arith, is, l.of_p, l.of_a, l.of_b, l.of_c, l.of_d, l.of_e, l.of_f, l.of_g)
 
@@ -58,28 +55,12 @@ joined_below n p a b c d e f g l is = omega (arith, is, l.of_p, l.of_a, l.of_b, 
 -- what the bytes carry
 pub halves_read : (n p a b c d e f g : ℕ) → AreBytes p a b c d e f g → IsJoined n p a b c d e f g
     → AreRead p a b c d e f g (found_in (field n 7)) (found_in (field n 15)) (found_in (field n 23)) (found_in (field n 31)) (found_in (field n 39)) (found_in (field n 47)) (found_in (field n 55))
-halves_read n p a b c d e f g l is = record {
-  r0 = field_read p a (field n 7) l.of_p l.of_a (field_1 n p a b c d e f g l is);
-  r1 = field_read a b (field n 15) l.of_a l.of_b (field_2 n p a b c d e f g l is);
-  r2 = field_read b c (field n 23) l.of_b l.of_c (field_3 n p a b c d e f g l is);
-  r3 = field_read c d (field n 31) l.of_c l.of_d (field_4 n p a b c d e f g l is);
-  r4 = field_read d e (field n 39) l.of_d l.of_e (field_5 n p a b c d e f g l is);
-  r5 = field_read e f (field n 47) l.of_e l.of_f (field_6 n p a b c d e f g l is);
-  r6 = field_read f g (field n 55) l.of_f l.of_g (field_7 n p a b c d e f g l is);
-}
+halves_read n p a b c d e f g l is = grind (arith, field_read, field_1, field_3, field_4, field_5, field_6, field_7)
 
 -- the borders of a field
 bordered_turn : (m c : ℕ) → is_bordered m ≡ true → c < 8 → c % 2 ≡ 0 → turn_in m c ≡ 1
 unfolding is_bordered
-bordered_turn m zero h lt e = eqb-true _ _ (and-left (turn_in m 0 == 1) _ h)
-bordered_turn m (suc (suc zero)) h lt e = eqb-true _ _ (and-left (turn_in m 2 == 1) _ (and-right (turn_in m 0 == 1) _ h))
-bordered_turn m (suc (suc (suc (suc zero)))) h lt e = eqb-true _ _ (and-left (turn_in m 4 == 1) _ (and-right (turn_in m 2 == 1) _ (and-right (turn_in m 0 == 1) _ h)))
-bordered_turn m (suc (suc (suc (suc (suc (suc zero)))))) h lt e = eqb-true _ _ (and-right (turn_in m 4 == 1) _ (and-right (turn_in m 2 == 1) _ (and-right (turn_in m 0 == 1) _ h)))
-bordered_turn m (suc zero) h lt e = absurd (omega arith)
-bordered_turn m (suc (suc (suc zero))) h lt e = absurd (omega arith)
-bordered_turn m (suc (suc (suc (suc (suc zero))))) h lt e = absurd (omega arith)
-bordered_turn m (suc (suc (suc (suc (suc (suc (suc zero))))))) h lt e = absurd (omega arith)
-bordered_turn m (suc (suc (suc (suc (suc (suc (suc (suc c)))))))) h lt e = absurd (omega arith)
+bordered_turn m c h k l = grind (arith, eqb-true, and-left, turn_in, and-right)
 
 -- where a border is
 unfoldable border_test : ℕ → Bool
@@ -149,9 +130,7 @@ two_fours n q = omega (arith, lower_four n q, upper_four n q)
 -- behind the last half cell there is none
 none_after : (m : ℕ) → m < 2 → four_in m ≡ 0
 unfolding four_in turn_in
-none_after zero lt = refl
-none_after (suc zero) lt = refl
-none_after (suc (suc m)) lt = absurd (omega arith)
+none_after m h = grind arith
 
 four_below : (m : ℕ) → four_in m < 16
 unfolding four_in turn_in

@@ -6,7 +6,6 @@ use Rattle.audio_packets.specs.Samples.{side_bits}
 use Rattle.audio_out.specs.Levels.{last_of, level_after}
 use Rattle.audio_out.specs.Subframes.{IsSound, IsSubframe, preamble, slots, carries}
 use Rattle.audio_out.specs.declared.subframe.Mark.{Mark}
-use Rattle.audio_out.specs.declared.subframe.Mark.TheVariants.{B, M, W}
 use Rattle.audio_out.specs.declared.subframe.Subframe.{Subframe}
 use Rattle.audio_out.proofs.Cells.{carries-four}
 
@@ -35,22 +34,11 @@ value_bits v =
     let at1 = four_first 16 (v / 16) ∙ ap (λ xs. bits_of 4 (v / 16 % 16) ++ xs) (ap (bits_of 16) b ∙ at2) in
     four_first 20 v ∙ ap (λ xs. bits_of 4 (v % 16) ++ xs) at1
 
-six_joined : (p q r s t u v : List Bool) → (p ++ (q ++ (r ++ (s ++ (t ++ u))))) ++ v ≡ p ++ (q ++ (r ++ (s ++ (t ++ (u ++ v)))))
-six_joined p q r s t u v =
-    append_assoc p (q ++ (r ++ (s ++ (t ++ u)))) v
-    ∙ ap (λ xs. p ++ xs) (append_assoc q (r ++ (s ++ (t ++ u))) v
-    ∙ ap (λ xs. q ++ xs) (append_assoc r (s ++ (t ++ u)) v
-    ∙ ap (λ xs. r ++ xs) (append_assoc s (t ++ u) v
-    ∙ ap (λ xs. s ++ xs) (append_assoc t u v))))
-
 slots_are : (sub : Subframe) → let v = sub.value in slots sub
     ≡ bits_of 4 (v % 16) ++ (bits_of 4 (v / 16 % 16) ++ (bits_of 4 (v / 256 % 16) ++ (bits_of 4 (v / 4096 % 16) ++ (bits_of 4 (v / 65536 % 16)
     ++ (bits_of 4 (v / 1048576 % 16) ++ bits_of 4 (side_bits v sub.flags))))))
 unfolding slots
-slots_are sub =
-    let v = sub.value in
-    ap (λ xs. xs ++ bits_of 4 (side_bits v sub.flags)) (value_bits v)
-    ∙ six_joined (bits_of 4 (v % 16)) (bits_of 4 (v / 16 % 16)) (bits_of 4 (v / 256 % 16)) (bits_of 4 (v / 4096 % 16)) (bits_of 4 (v / 65536 % 16)) (bits_of 4 (v / 1048576 % 16)) (bits_of 4 (side_bits v sub.flags))
+slots_are sub = grind (arith, value_bits, append_assoc)
 
 -- seven bytes of half cells, each of which carries four bits
 unfoldable pub seven : (level : Bool) (n0 n1 n2 n3 n4 n5 n6 a b c d e f g : ℕ) → Bool
@@ -62,20 +50,6 @@ seven level n0 n1 n2 n3 n4 n5 n6 a b c d e f g =
     && (carries (level_after d) (bits_of 4 n4) (bits_of 8 e)
     && (carries (level_after e) (bits_of 4 n5) (bits_of 8 f)
     && carries (level_after f) (bits_of 4 n6) (bits_of 8 g))))))
-
-seven_carry : (level : Bool) (n0 n1 n2 n3 n4 n5 n6 a b c d e f g : ℕ)
-    → carries level (bits_of 4 n0 ++ (bits_of 4 n1 ++ (bits_of 4 n2 ++ (bits_of 4 n3 ++ (bits_of 4 n4 ++ (bits_of 4 n5 ++ bits_of 4 n6))))))
-    (bits_of 8 a ++ (bits_of 8 b ++ (bits_of 8 c ++ (bits_of 8 d ++ (bits_of 8 e ++ (bits_of 8 f ++ (bits_of 8 g ++ [])))))))
-    ≡ seven level n0 n1 n2 n3 n4 n5 n6 a b c d e f g
-unfolding seven
-seven_carry level n0 n1 n2 n3 n4 n5 n6 a b c d e f g =
-    let at6 = ap (carries (level_after f) (bits_of 4 n6)) (append-nil (bits_of 8 g)) in
-    let at5 = carries-four (level_after e) n5 f _ _ ∙ ap (λ r. carries (level_after e) (bits_of 4 n5) (bits_of 8 f) && r) at6 in
-    let at4 = carries-four (level_after d) n4 e _ _ ∙ ap (λ r. carries (level_after d) (bits_of 4 n4) (bits_of 8 e) && r) at5 in
-    let at3 = carries-four (level_after c) n3 d _ _ ∙ ap (λ r. carries (level_after c) (bits_of 4 n3) (bits_of 8 d) && r) at4 in
-    let at2 = carries-four (level_after b) n2 c _ _ ∙ ap (λ r. carries (level_after b) (bits_of 4 n2) (bits_of 8 c) && r) at3 in
-    let at1 = carries-four (level_after a) n1 b _ _ ∙ ap (λ r. carries (level_after a) (bits_of 4 n1) (bits_of 8 b) && r) at2 in
-    carries-four level n0 a _ _ ∙ ap (λ r. carries level (bits_of 4 n0) (bits_of 8 a) && r) at1
 
 -- the seven bytes of a subframe, behind a level
 abbrev pub sub_seven : Bool → Subframe → (a b c d e f g : ℕ) → Bool
@@ -94,14 +68,12 @@ first_eight p bytes = refl
 
 carried_seven : (sub : Subframe) (p a b c d e f g : ℕ)
     → carries false (slots sub) (drop 8 (bytes_bits (p ∷ a ∷ b ∷ c ∷ d ∷ e ∷ f ∷ g ∷ []))) ≡ sub_seven false sub a b c d e f g
-carried_seven sub p a b c d e f g =
-    ap₂ (carries false) (slots_are sub) (after_first p a b c d e f g) ∙ seven_carry false _ _ _ _ _ _ _ a b c d e f g
+unfolding seven
+carried_seven sub p a b c d e f g = grind (arith, slots_are, after_first, append-nil, carries-four)
 
 preamble_level : (mark : Mark) → last_of false (preamble mark) ≡ false
 unfolding last_of preamble
-preamble_level B = refl
-preamble_level M = refl
-preamble_level W = refl
+preamble_level mark = grind arith
 
 -- a preamble ends with level 0
 pub level_marked : (p : ℕ) (mark : Mark) → bits_of 8 p ≡ preamble mark → level_after p ≡ false

@@ -138,10 +138,7 @@ ends_are n lt =
     omega (arith, all, below, one, none, last, here, after)
 
 pub ends_apart : (n : ℕ) → n < 2 ^ 64 → bit_and (turns_of n) ENDS ≡ BORDERS → (bit_and (turns_of n) BORDERS ≡ BORDERS) × (n / 2 ^ 63 ≡ 0)
-ends_apart n lt is =
-    let e = ends_are n lt in
-    let few = and_le_r (turns_of n) BORDERS in
-    (omega (arith, e, few, is), omega (arith, e, few, is))
+ends_apart n lt is = grind (arith, ends_are, and_le_r, turns_of, BORDERS)
 
 pub ends_both : (n : ℕ) → n < 2 ^ 64 → bit_and (turns_of n) BORDERS ≡ BORDERS → n / 2 ^ 63 ≡ 0 → bit_and (turns_of n) ENDS ≡ BORDERS
 ends_both n lt all last = omega (arith, ends_are n lt, all, last)

@@ -1,5 +1,5 @@
 -- The bytes of preambles.
-use Rattle.std.proofs.Common.{◌≡◌, ℕ, ◌%◌, ◌^◌, ◌<◌, refl, ap, ◌∙◌, sym, arith}
+use Rattle.std.proofs.Common.{◌≡◌, ℕ, ◌%◌, ◌^◌, ◌<◌, ap, ◌∙◌, sym, arith}
 use Rattle.tmds_word.specs.Bits.{bits_of, number}
 use Rattle.tmds_word.proofs.Numbers.{number-bits_of}
 use Rattle.audio_out.specs.Subframes.{preamble}
@@ -13,9 +13,7 @@ mark_byte W = 39
 
 number_preamble : (mark : Mark) → number (preamble mark) ≡ mark_byte mark
 unfolding number preamble
-number_preamble B = refl
-number_preamble M = refl
-number_preamble W = refl
+number_preamble mark = grind arith
 
 pub marked_byte : (byte : ℕ) (mark : Mark) → byte < 256 → bits_of 8 byte ≡ preamble mark → byte ≡ mark_byte mark
 marked_byte byte mark lt h =
@@ -24,20 +22,10 @@ marked_byte byte mark lt h =
 
 pub mark_bits : (mark : Mark) → bits_of 8 (mark_byte mark) ≡ preamble mark
 unfolding bits_of preamble
-mark_bits B = refl
-mark_bits M = refl
-mark_bits W = refl
+mark_bits mark = grind arith
 
 same_mark : (a b : Mark) → mark_byte a ≡ mark_byte b → a ≡ b
-same_mark B B h = refl
-same_mark M M h = refl
-same_mark W W h = refl
-same_mark B M h = absurd (omega arith)
-same_mark B W h = absurd (omega arith)
-same_mark M B h = absurd (omega arith)
-same_mark M W h = absurd (omega arith)
-same_mark W B h = absurd (omega arith)
-same_mark W M h = absurd (omega arith)
+same_mark a b h = grind arith
 
 -- two preambles are unlike
 pub one_mark : (a b : Mark) → preamble a ≡ preamble b → a ≡ b

@@ -1,5 +1,5 @@
 -- Bits packed into bytes, eight at a time.
-use Rattle.std.proofs.Common.{◌≡◌, ℕ, ◌+◌, ◌*◌, ◌/◌, ◌%◌, ◌^◌, ◌<◌, ◌≤◌, Bool, true, false, List, [], ◌∷◌, length, take, drop, get_or, refl, ap, ◌∙◌, sym, arith, length-drop}
+use Rattle.std.proofs.Common.{◌≡◌, ℕ, ◌+◌, ◌*◌, ◌/◌, ◌%◌, ◌^◌, ◌<◌, ◌≤◌, Bool, false, List, [], ◌∷◌, length, take, drop, get_or, ap, ◌∙◌, sym, arith, length-drop}
 use mir.Val.{bool_byte}
 use Rattle.std.proofs.lemmas.List.{get_or-drop}
 use Rattle.tmds_word.specs.Bits.{number, bytes_of}
@@ -8,29 +8,13 @@ use Rattle.tmds_word.proofs.Bytes.{bytes_of-places}
 
 number_first : (b : Bool) (xs : List Bool) → number (b ∷ xs) ≡ bool_byte b + 2 * number xs
 unfolding number
-number_first true xs = refl
-number_first false xs = omega arith
-
-none_left : number [] ≡ 0
-unfolding number
-none_left = refl
+number_first b xs = grind arith
 
 front_eight : (xs : List Bool) → 8 ≤ length xs → number (take 8 xs)
     ≡ bool_byte (get_or xs 0 false) + 2 * bool_byte (get_or xs 1 false) + 4 * bool_byte (get_or xs 2 false) + 8 * bool_byte (get_or xs 3 false)
     + 16 * bool_byte (get_or xs 4 false) + 32 * bool_byte (get_or xs 5 false) + 64 * bool_byte (get_or xs 6 false) + 128 * bool_byte (get_or xs 7 false)
-front_eight (a ∷ (b ∷ (c ∷ (d ∷ (e ∷ (f ∷ (g ∷ (h ∷ xs)))))))) le =
-    omega (
-      arith,
-      number_first a (b ∷ c ∷ d ∷ e ∷ f ∷ g ∷ h ∷ []),
-      number_first b (c ∷ d ∷ e ∷ f ∷ g ∷ h ∷ []),
-      number_first c (d ∷ e ∷ f ∷ g ∷ h ∷ []),
-      number_first d (e ∷ f ∷ g ∷ h ∷ []),
-      number_first e (f ∷ g ∷ h ∷ []),
-      number_first f (g ∷ h ∷ []),
-      number_first g (h ∷ []),
-      number_first h [],
-      none_left,
-    )
+unfolding number
+front_eight (a ∷ (b ∷ (c ∷ (d ∷ (e ∷ (f ∷ (g ∷ (h ∷ xs)))))))) le = grind (arith, number_first)
 front_eight [] le = absurd (omega arith)
 front_eight (a ∷ []) le = absurd (omega arith)
 front_eight (a ∷ (b ∷ [])) le = absurd (omega arith)

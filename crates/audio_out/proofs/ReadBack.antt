@@ -82,13 +82,7 @@ read_is sub p a b c d e f g n0 n1 n2 n3 n4 n5 n6 r sound marked bits =
 -- the value and the flags that the bits have
 pub value_back : (sub : Subframe) (n0 n1 n2 n3 n4 n5 n6 : ℕ) → IsSound sub → AreBits sub n0 n1 n2 n3 n4 n5 n6
     → n0 + 16 * n1 + (n2 + 16 * n3) * 256 + (n4 + 16 * n5) * 65536 ≡ sub.value
-value_back sub n0 n1 n2 n3 n4 n5 n6 sound b =
-    let v = sub.value in
-    let lt : v < 16777216 = sound.value in
-    let s5 : 16 * (v / 1048576 % 16) + v / 65536 % 16 ≡ v / 65536 = omega arith in
-    let s3 : 16 * (v / 4096 % 16) + v / 256 % 16 + 256 * (v / 65536) ≡ v / 256 = omega arith in
-    let s1 : v % 16 + 16 * (v / 16 % 16) + 256 * (v / 256) ≡ v = omega arith in
-    omega (arith, s5, s3, s1, b.b0, b.b1, b.b2, b.b3, b.b4, b.b5)
+value_back sub n0 n1 n2 n3 n4 n5 n6 sound b = grind arith
 
 pub flags_back : (sub : Subframe) (side : ℕ) → IsSound sub → side ≡ side_bits sub.value sub.flags → side % 8 ≡ sub.flags
 flags_back sub side sound e = let lt = sound.flags in omega arith
@@ -97,12 +91,4 @@ flags_back sub side sound e = let lt = sound.flags in omega arith
 pub bits_of_value : (mark : Mark) (value flags n0 n1 n2 n3 n4 n5 n6 : ℕ) → n0 < 16 → n1 < 16 → n2 < 16 → n3 < 16 → n4 < 16 → n5 < 16
     → value ≡ n0 + 16 * n1 + (n2 + 16 * n3) * 256 + (n4 + 16 * n5) * 65536 → n6 ≡ side_bits value flags
     → AreBits (record { mark = mark; value = value; flags = flags }) n0 n1 n2 n3 n4 n5 n6
-bits_of_value mark value flags n0 n1 n2 n3 n4 n5 n6 l0 l1 l2 l3 l4 l5 e side = record {
-  b0 = omega arith;
-  b1 = omega arith;
-  b2 = omega arith;
-  b3 = omega arith;
-  b4 = omega arith;
-  b5 = omega arith;
-  b6 = side;
-}
+bits_of_value mark value flags n0 n1 n2 n3 n4 n5 n6 l0 l1 l2 l3 l4 l5 e side = grind arith

@@ -12,7 +12,6 @@ use Rattle.tmds_word.proofs.Numbers.{bits_of-number, number-bits_of}
 use Rattle.tmds_word.proofs.Below.{and-left, and-right}
 use Rattle.audio_out.specs.Subframes.{IsSound, IsSubframe, preamble, slots, carries, cells_of, subframe_bytes}
 use Rattle.audio_out.specs.declared.subframe.Mark.{Mark}
-use Rattle.audio_out.specs.declared.subframe.Mark.TheVariants.{B, M, W}
 use Rattle.audio_out.specs.declared.subframe.Subframe.{Subframe}
 use Rattle.audio_out.specs.Laws.{OneSpelling, OneReading}
 use Rattle.audio_out.proofs.Marked.{one_mark}
@@ -22,19 +21,13 @@ use Rattle.audio_out.proofs.Cells.{cells_carry, length-cells_of}
 abbrev pub Cells : Subframe → List Bool
 Cells sub = preamble sub.mark ++ cells_of false (slots sub)
 
-length-slots : (sub : Subframe) → length (slots sub) ≡ 28
-unfolding slots
-length-slots sub = omega (arith, length-append (bits_of 24 sub.value) (bits_of 4 (side_bits sub.value sub.flags)), length-bits_of 24 sub.value, length-bits_of 4 (side_bits sub.value sub.flags))
-
 length-preamble : (mark : Mark) → length (preamble mark) ≡ 8
 unfolding preamble
-length-preamble B = refl
-length-preamble M = refl
-length-preamble W = refl
+length-preamble mark = grind arith
 
 length-cells : (sub : Subframe) → length (Cells sub) ≡ 64
-length-cells sub =
-    omega (arith, length-append (preamble sub.mark) (cells_of false (slots sub)), length-preamble sub.mark, length-cells_of false (slots sub), length-slots sub)
+unfolding slots
+length-cells sub = grind (arith, length-append, length-preamble, length-cells_of, length-bits_of)
 
 -- the half cells of those bytes
 pub spelled_cells : (sub : Subframe) → bytes_bits (subframe_bytes sub) ≡ Cells sub
@@ -45,41 +38,20 @@ spelled_cells sub =
 
 marked_front : (mark : Mark) (xs : List Bool) → take 8 (preamble mark ++ xs) ≡ preamble mark
 unfolding preamble
-marked_front B xs = refl
-marked_front M xs = refl
-marked_front W xs = refl
+marked_front mark xs = grind arith
 
 after_mark : (mark : Mark) (xs : List Bool) → drop 8 (preamble mark ++ xs) ≡ xs
 unfolding preamble
-after_mark B xs = refl
-after_mark M xs = refl
-after_mark W xs = refl
+after_mark mark xs = grind arith
 
 pub spelled_is : (sub : Subframe) → IsSound sub → IsSubframe sub (subframe_bytes sub)
-spelled_is sub sound = record {
-  sound = sound;
-  marked = ap (take 8) (spelled_cells sub) ∙ marked_front sub.mark _;
-  carried =
-      ap (λ cells. carries false (slots sub) (drop 8 cells)) (spelled_cells sub)
-      ∙ ap (carries false (slots sub)) (after_mark sub.mark (cells_of false (slots sub)))
-      ∙ cells_carry false (slots sub);
-}
+spelled_is sub sound = grind (arith, spelled_cells, marked_front, after_mark, cells_carry)
 
 unlike_is : (a b : Bool) → xor a b ≡ true → b ≡ not a
-unlike_is true true h = cc
-unlike_is true false h = refl
-unlike_is false true h = refl
-unlike_is false false h = cc
+unlike_is a b h = grind arith
 
 second_is : (u w x : Bool) → not (xor (xor u w) x) ≡ true → w ≡ xor u x
-second_is true true true h = cc
-second_is true true false h = refl
-second_is true false true h = refl
-second_is true false false h = cc
-second_is false true true h = refl
-second_is false true false h = cc
-second_is false false true h = cc
-second_is false false false h = refl
+second_is u w x h = grind arith
 
 -- one list of half cells carries bits
 pub carries_one : (before : Bool) (bits halves : List Bool) → carries before bits halves ≡ true → halves ≡ cells_of before bits
@@ -88,12 +60,7 @@ carries_one before [] [] h = refl
 carries_one before [] (u ∷ halves) h = absurd (cc)
 carries_one before (x ∷ bits) [] h = absurd (cc)
 carries_one before (x ∷ bits) (u ∷ []) h = absurd (cc)
-carries_one before (x ∷ bits) (u ∷ (w ∷ halves)) h =
-    let first = unlike_is before u (and-left _ _ h) in
-    let rest = and-right (xor before u) _ h in
-    let second = second_is u w x (and-left _ _ rest) ∙ ap (λ b. xor b x) first in
-    let later = carries_one w bits halves (and-right (not (xor (xor u w) x)) _ rest) ∙ ap (λ b. cells_of b bits) second in
-    λ i. first i ∷ (second i ∷ later i)
+carries_one before (x ∷ bits) (u ∷ (w ∷ halves)) h = grind (arith, unlike_is, and-left, and-right, second_is, carries_one w bits halves)
 
 pub cells_are : (sub : Subframe) (bytes : List ℕ) → IsSubframe sub bytes → bytes_bits bytes ≡ Cells sub
 cells_are sub bytes h =
@@ -129,11 +96,7 @@ spelled_fit sub = bytes_of_fit 8 (number (Cells sub))
 
 pub eight_fit : (p a b c d e f g : ℕ) → p < 256 → a < 256 → b < 256 → c < 256 → d < 256 → e < 256 → f < 256 → g < 256
     → All (λ b. b < 256) (p ∷ a ∷ b ∷ c ∷ d ∷ e ∷ f ∷ g ∷ [])
-eight_fit p a b c d e f g l0 l1 l2 l3 l4 l5 l6 l7 =
-    let P : ℕ → Type 0 = λ b. b < 256 in
-    All-cons P p (a ∷ b ∷ c ∷ d ∷ e ∷ f ∷ g ∷ []) l0 (All-cons P a (b ∷ c ∷ d ∷ e ∷ f ∷ g ∷ []) l1
-    (All-cons P b (c ∷ d ∷ e ∷ f ∷ g ∷ []) l2 (All-cons P c (d ∷ e ∷ f ∷ g ∷ []) l3 (All-cons P d (e ∷ f ∷ g ∷ []) l4
-    (All-cons P e (f ∷ g ∷ []) l5 (All-cons P f (g ∷ []) l6 (All-cons P g [] l7 (All-nil P))))))))
+eight_fit p a b c d e f g l0 l1 l2 l3 l4 l5 l6 l7 = grind (arith, All-cons, All-nil)
 
 pub one_spelling : OneSpelling
 one_spelling = λ sub bytes sound fit. (
@@ -142,14 +105,7 @@ one_spelling = λ sub bytes sound fit. (
 )
 
 same_bit : (u x y : Bool) → xor u x ≡ xor u y → x ≡ y
-same_bit true true true h = refl
-same_bit true true false h = cc
-same_bit true false true h = cc
-same_bit true false false h = refl
-same_bit false true true h = refl
-same_bit false true false h = cc
-same_bit false false true h = cc
-same_bit false false false h = refl
+same_bit u x y h = grind arith
 
 -- half cells carry one list of bits
 cells_back : (before : Bool) (x y : List Bool) → cells_of before x ≡ cells_of before y → x ≡ y
@@ -179,11 +135,7 @@ same_slots a b p q h =
     let value : a.value % 2 ^ 24 ≡ b.value % 2 ^ 24 = sym (number-bits_of 24 a.value) ∙ ap number front ∙ number-bits_of 24 b.value in
     let after = sym (last_bits a.value _) ∙ ap (drop 24) h ∙ last_bits b.value _ in
     let side : side_bits a.value a.flags % 2 ^ 4 ≡ side_bits b.value b.flags % 2 ^ 4 = sym (number-bits_of 4 _) ∙ ap number after ∙ number-bits_of 4 _ in
-    let low : a.value < 16777216 = p.value in
-    let few : b.value < 16777216 = q.value in
-    let small = p.flags in
-    let little = q.flags in
-    (omega (arith, value), omega (arith, side))
+    grind arith
 
 pub one_reading : OneReading
 one_reading = λ a b bytes p q.

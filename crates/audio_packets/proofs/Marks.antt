@@ -7,8 +7,7 @@ use Rattle.tmds_word.proofs.Numbers.{number-append}
 
 number_one : (mark : Bool) → number (mark ∷ []) ≡ bool_byte mark
 unfolding number
-number_one true = refl
-number_one false = refl
+number_one mark = grind arith
 
 -- a mark moved to its bit
 shifted : (mark : Bool) (i : ℕ) → i < 4 → bool_byte mark * 2 ^ i % 256 ≡ 2 ^ i * bool_byte mark

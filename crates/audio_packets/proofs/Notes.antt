@@ -1,5 +1,5 @@
 -- The sample of a body, read from the bytes of all four bodies.
-use Rattle.std.proofs.Common.{◌≡◌, ℕ, ◌+◌, ◌*◌, ◌/◌, ◌^◌, ◌<◌, Bool, List, [], ◌∷◌, drop, get_or, bit_and, ◌∙◌, arith, All, length, inl, inr}
+use Rattle.std.proofs.Common.{◌≡◌, ℕ, ◌+◌, ◌*◌, ◌/◌, ◌^◌, ◌<◌, Bool, List, [], ◌∷◌, drop, get_or, bit_and, ◌∙◌, arith, All}
 use Rattle.std.proofs.lemmas.Nat.{and_mask}
 use Rattle.std.proofs.lemmas.Bool.{cases_lt}
 use Rattle.std.proofs.lemmas.List.{get_or_past}
@@ -30,11 +30,7 @@ parity_high byte lt = omega arith
 
 pub value_at-body_of : (packet : Packet) (place i : ℕ) → i + 2 < 7
     → value_at (body_of packet place) i ≡ get_or packet.bodies (7 * place + i) 0 + 256 * get_or packet.bodies (7 * place + (i + 1)) 0 + 65536 * get_or packet.bodies (7 * place + (i + 2)) 0
-value_at-body_of packet place i lt =
-    let a = get_or-body_of packet place i (omega arith) in
-    let b = get_or-body_of packet place (i + 1) (omega arith) in
-    let c = get_or-body_of packet place (i + 2) lt in
-    λ k. a k + 256 * b k + 65536 * c k
+value_at-body_of packet place i lt = grind (arith, get_or-body_of)
 
 -- ---- a sample as it is read
 
@@ -50,24 +46,14 @@ pub note_is : (packet : Packet) (place left right left_flags right_flags left_pa
       left_even = left_even;
       right_even = right_even;
     } ≡ note_at packet place
-note_is packet place left right left_flags right_flags left_parity right_parity start flat left_even right_even l r lf rf lp rp s f le re =
-    let even_left = le ∙ (λ i. is_even (l i) (lf i) (lp i)) in
-    let even_right = re ∙ (λ i. is_even (r i) (rf i) (rp i)) in
-    λ i. record {
-      place = place;
-      sample = record { left = l i; right = r i; left_flags = lf i; right_flags = rf i; start = s i; flat = f i };
-      left_even = even_left i;
-      right_even = even_right i;
-    }
+note_is packet place left right left_flags right_flags left_parity right_parity start flat left_even right_even l r lf rf lp rp s f le re = grind arith
 
 -- ---- what is read of bytes fits
 
 value_below : (packet : Packet) (place i : ℕ) → ((k : ℕ) → get_or packet.bodies k 0 < 256) → i + 2 < 7 → value_at (body_of packet place) i < 2 ^ 24
 value_below packet place i bytes lt =
     let a = bytes (7 * place + i) in
-    let b = bytes (7 * place + (i + 1)) in
-    let c = bytes (7 * place + (i + 2)) in
-    omega (arith, value_at-body_of packet place i lt)
+    grind (arith, value_at-body_of)
 
 flags_below : (byte i : ℕ) → flags_at byte i < 8
 flags_below byte i = omega arith
@@ -86,11 +72,7 @@ samples_fit packet place bytes =
     (λ k d lt. sample_fits packet _ bytes)
 
 bytes_below : (xs : List ℕ) → All (λ byte. byte < 256) xs → (k : ℕ) → get_or xs k 0 < 256
-bytes_below xs all k =
-    elim (cases_lt k (length xs)) [
-      | inl within ↦ All-get_or (λ byte. byte < 256) xs k 0 within all
-      | inr past ↦ let none : get_or xs k 0 ≡ 0 = get_or_past xs k 0 past in omega (arith, none)
-    ]
+bytes_below xs all k = grind (arith, cases_lt, All-get_or, get_or_past)
 
 pub read_samples_fit : ReadSamplesFit
 read_samples_fit packet place whole = samples_fit packet place (bytes_below packet.bodies whole.body_bytes)

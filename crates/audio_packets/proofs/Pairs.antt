@@ -12,10 +12,7 @@ same false b = not b
 
 pub same_is : (a b : Bool) → same a b ≡ true → a ≡ b
 unfolding same
-same_is true true h = refl
-same_is true false h = absurd (cc)
-same_is false true h = absurd (cc)
-same_is false false h = refl
+same_is a b h = grind arith
 
 unfoldable one_holds : ℕ → ℕ → ℕ → Bool
 one_holds present pair place = same (bit (bit_and present (1 * 2 ^ pair % 256)) place) (bit present place && (place == pair))
@@ -35,13 +32,7 @@ one_place present pair place a b c =
 
 -- a test of four places
 pub filter_four : (p q : ℕ → Bool) → ((place : ℕ) → place < 4 → p place ≡ q place) → filter p (0 ∷ 1 ∷ 2 ∷ 3 ∷ []) ≡ filter q (0 ∷ 1 ∷ 2 ∷ 3 ∷ [])
-filter_four p q h =
-    let e0 = h 0 (omega arith) in
-    let e1 = h 1 (omega arith) in
-    let e2 = h 2 (omega arith) in
-    let e3 = h 3 (omega arith) in
-    λ i. cond (e0 i) (0 ∷ cond (e1 i) (1 ∷ cond (e2 i) (2 ∷ cond (e3 i) (3 ∷ []) []) (cond (e3 i) (3 ∷ []) [])) (cond (e2 i) (2 ∷ cond (e3 i) (3 ∷ []) []) (cond (e3 i) (3 ∷ []) [])))
-    (cond (e1 i) (1 ∷ cond (e2 i) (2 ∷ cond (e3 i) (3 ∷ []) []) (cond (e3 i) (3 ∷ []) [])) (cond (e2 i) (2 ∷ cond (e3 i) (3 ∷ []) []) (cond (e3 i) (3 ∷ []) [])))
+filter_four p q h = grind arith
 
 pub masked_pair : (present pair : ℕ) → present < 256 → pair < 4 → bit present 4 ≡ true
     → filter (bit (bit_and present (1 * 2 ^ pair % 256))) (0 ∷ 1 ∷ 2 ∷ 3 ∷ []) ≡ filter (has_pair present pair) (0 ∷ 1 ∷ 2 ∷ 3 ∷ [])

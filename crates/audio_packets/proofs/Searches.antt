@@ -4,8 +4,7 @@ use Rattle.std.specs.Option.{option_map}
 use Rattle.std.specs.List.{range_with_len, find, filter}
 
 pub option_map-same : {T : Type 0} (o : Option T) → option_map (λ x. x) o ≡ o
-option_map-same None = refl
-option_map-same (Some x) = refl
+option_map-same o = grind arith
 
 -- the bodies from one on
 pub drop-places : (place : ℕ) → place ≤ 4 → drop place (0 ∷ 1 ∷ 2 ∷ 3 ∷ []) ≡ range_with_len place (4 - place)
@@ -19,10 +18,7 @@ drop-places (suc (suc (suc (suc (suc n))))) le = absurd (omega arith)
 -- where none passes
 pub filter-none : (p : ℕ → Bool) (xs : List ℕ) → find p xs ≡ None → filter p xs ≡ []
 filter-none p [] e = refl
-filter-none p (x ∷ xs) e =
-    elim (p x) as (λ v. cond v (Some x) (find p xs) ≡ None → cond v (x ∷ filter p xs) (filter p xs) ≡ [])
-    [ true ↦ λ h. absurd (cc) | false ↦ λ h. filter-none p xs h ]
-    e
+filter-none p (x ∷ xs) e = grind (arith, filter-none p xs)
 
 range_from : (p : ℕ → Bool) (a b m n : ℕ) → a ≡ b → m ≡ n → a ∷ filter p (range_with_len (a + 1) m) ≡ b ∷ filter p (range_with_len (b + 1) n)
 range_from p a b m n e f = λ i. e i ∷ filter p (range_with_len (e i + 1) (f i))

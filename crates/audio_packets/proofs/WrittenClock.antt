@@ -1,12 +1,10 @@
 -- Clock numbers that were written are read.
-use Rattle.std.proofs.Common.{◌≡◌, ℕ, ◌/◌, ◌%◌, ◌<◌, ◌^◌, true, List, ◌&&◌, Ok, Err, refl, ap, ◌∙◌, arith, if◌then◌else◌}
+use Rattle.std.proofs.Common.{◌≡◌, ℕ, ◌/◌, ◌%◌, ◌<◌, ◌^◌, true, List, ◌&&◌, refl, arith, if◌then◌else◌}
 use Rattle.std.specs.Str.{bytes_eq}
 use Rattle.std.proofs.lemmas.Slice.Eq.{bytes_eq-Decides}
-use Rattle.audio_packets.specs.Faults.{unless_lost}
 use Rattle.audio_packets.specs.Clock.{IsAcr, twenty_bits, clock_in, are_alike, clock_body, acr_packet}
 use Rattle.audio_packets.specs.Laws.{WrittenAcrIsRead}
 use Rattle.audio_packets.specs.declared.clock.Acr.{Acr}
-use Rattle.audio_packets.specs.declared.fault.AudioFault.TheVariants.{Uneven}
 
 alike : (acr : Acr) (sync : List ℕ) → are_alike (acr_packet acr sync) ≡ true
 alike acr sync =
@@ -20,7 +18,4 @@ clock_again : (acr : Acr) → IsAcr acr → clock_in (clock_body acr) ≡ acr
 clock_again acr fits = λ i. record { n = number_again acr.n fits.n i; cts = number_again acr.cts fits.cts i }
 
 pub written_acr_is_read : WrittenAcrIsRead
-written_acr_is_read acr sync verdicts fits none =
-    ap (λ lost. unless_lost lost (if are_alike (acr_packet acr sync) then Ok (clock_in (clock_body acr)) else Err Uneven)) none
-    ∙ ap (λ same. if same then Ok (clock_in (clock_body acr)) else Err Uneven) (alike acr sync)
-    ∙ ap (λ a. Ok a) (clock_again acr fits)
+written_acr_is_read acr sync verdicts fits none = grind (arith, alike, clock_again)

@@ -1,5 +1,5 @@
 -- Samples that were written are read.
-use Rattle.std.proofs.Common.{◌≡◌, ℕ, zero, suc, ◌+◌, ◌*◌, ◌/◌, ◌%◌, ◌<◌, ◌≤◌, ◌^◌, Bool, true, false, List, [], ◌∷◌, length, map, get_or, count_ones, ◌==◌, if◌then◌else◌, None, Ok, Err, refl, ap, ◌∙◌, sym, subst, arith, All}
+use Rattle.std.proofs.Common.{◌≡◌, ℕ, zero, suc, ◌+◌, ◌*◌, ◌/◌, ◌%◌, ◌<◌, ◌≤◌, ◌^◌, Bool, true, false, List, [], ◌∷◌, length, map, get_or, count_ones, ◌==◌, if◌then◌else◌, None, Ok, refl, ap, ◌∙◌, sym, arith, All}
 use Rattle.std.proofs.Math.Nat.{pow-suc}
 use Rattle.std.proofs.lemmas.List.{length-map}
 use Rattle.std.proofs.lemmas.List.Elements.{All-get_or}
@@ -9,12 +9,11 @@ use Rattle.bch_block.specs.Bits.{bit}
 use Rattle.island_pack.specs.Packets.{body_of}
 use Rattle.island_pack.specs.declared.packet.Packet.{Packet}
 use Rattle.island_pack.specs.declared.packet.PacketVerdicts.{PacketVerdicts}
-use Rattle.audio_packets.specs.Faults.{first_lost, unless_lost}
-use Rattle.audio_packets.specs.Samples.{IsSample, value_at, flags_at, parity_at, is_even, has_many_channels, note_at, sample_body, samples_packet, samples_from, samples_of, even_note}
+use Rattle.audio_packets.specs.Faults.{first_lost}
+use Rattle.audio_packets.specs.Samples.{IsSample, flags_at, parity_at, is_even, has_many_channels, note_at, sample_body, samples_packet, samples_from, samples_of, even_note}
 use Rattle.audio_packets.specs.Laws.{WrittenSamplesAreRead}
 use Rattle.audio_packets.specs.declared.sample.Sample.{Sample}
 use Rattle.audio_packets.specs.declared.sample.SampleNote.{SampleNote}
-use Rattle.audio_packets.specs.declared.fault.AudioFault.TheVariants.{Layout}
 use Rattle.audio_packets.proofs.Marks.{four_bits}
 
 -- ---- a body
@@ -51,29 +50,7 @@ note_again : (packet : Packet) (place : ℕ) (s : Sample) → IsSample s → bod
     → bit (get_or packet.header 2 0) (4 + place) ≡ s.start → bit (get_or packet.header 2 0) place ≡ s.flat
     → note_at packet place ≡ even_note (place, s)
 unfolding both_sides
-note_again packet place s fits body start flat =
-    let p = (count_ones s.left + count_ones s.left_flags) % 2 in
-    let q = (count_ones s.right + count_ones s.right_flags) % 2 in
-    let pt : p < 2 = omega arith in
-    let qt : q < 2 = omega arith in
-    let left : value_at (body_of packet place) 0 ≡ s.left = ap (λ bytes. value_at bytes 0) body ∙ value_again s.left in
-    let right : value_at (body_of packet place) 3 ≡ s.right = ap (λ bytes. value_at bytes 3) body ∙ value_again s.right in
-    let left_flags : flags_at (get_or (body_of packet place) 6 0) 0 ≡ s.left_flags =
-    ap (λ bytes. flags_at (get_or bytes 6 0) 0) body ∙ left_flags_again s.left_flags p s.right_flags q fits.left_flags pt in
-    let right_flags : flags_at (get_or (body_of packet place) 6 0) 4 ≡ s.right_flags =
-    ap (λ bytes. flags_at (get_or bytes 6 0) 4) body ∙ right_flags_again s.left_flags p s.right_flags q fits.left_flags pt fits.right_flags qt in
-    let left_parity : parity_at (get_or (body_of packet place) 6 0) 0 ≡ p =
-    ap (λ bytes. parity_at (get_or bytes 6 0) 0) body ∙ left_parity_again s.left_flags p s.right_flags q fits.left_flags pt in
-    let right_parity : parity_at (get_or (body_of packet place) 6 0) 4 ≡ q =
-    ap (λ bytes. parity_at (get_or bytes 6 0) 4) body ∙ right_parity_again s.left_flags p s.right_flags q fits.left_flags pt fits.right_flags qt in
-    let left_even = (λ i. is_even (left i) (left_flags i) (left_parity i)) ∙ even s.left s.left_flags in
-    let right_even = (λ i. is_even (right i) (right_flags i) (right_parity i)) ∙ even s.right s.right_flags in
-    λ i. record {
-      place = place;
-      sample = record { left = left i; right = right i; left_flags = left_flags i; right_flags = right_flags i; start = start i; flat = flat i };
-      left_even = left_even i;
-      right_even = right_even i;
-    }
+note_again packet place s fits body start flat = grind (arith, value_again, left_flags_again, right_flags_again, left_parity_again, right_parity_again, even)
 
 -- ---- the marks of header byte 2
 
@@ -110,26 +87,14 @@ start_again flats starts k lt few same =
 -- what is read where no block is lost and the packet has the layout of two channels
 unlost : (packet : Packet) (verdicts : PacketVerdicts) (notes : List SampleNote) → first_lost verdicts ≡ None → has_many_channels packet ≡ false → samples_from packet 0 ≡ notes
     → samples_of packet verdicts ≡ Ok notes
-unlost packet verdicts notes none two e =
-    ap (λ lost. unless_lost lost (if has_many_channels packet then Err Layout else Ok (samples_from packet 0))) none
-    ∙ ap (λ many. if many then Err Layout else Ok (samples_from packet 0)) two
-    ∙ ap (λ list. Ok list) e
+unlost packet verdicts notes none two e = grind arith
 
 -- sample k of a packet is read as it was written
 nth_again : (samples : List Sample) (sync : List ℕ) (k : ℕ) (s : Sample) → length samples ≤ 4 → All IsSample samples → k < length samples
     → get_or samples k s ≡ s → body_of (samples_packet samples sync) k ≡ sample_body s
     → get_or (map (λ x. x.start) samples) k false ≡ s.start → get_or (map (λ x. x.flat) samples) k false ≡ s.flat
     → note_at (samples_packet samples sync) k ≡ even_note (k, s)
-nth_again samples sync k s few fits lt here body start flat =
-    let starts = map (λ (x : Sample). x.start) samples in
-    let flats = map (λ (x : Sample). x.flat) samples in
-    let start_many : length starts ≡ length samples = length-map samples (λ x. x.start) in
-    let flat_many : length flats ≡ length samples = length-map samples (λ x. x.flat) in
-    note_again (samples_packet samples sync) k s
-    (subst IsSample here (All-get_or IsSample samples k s lt fits))
-    body
-    (start_again flats starts k (omega arith) (omega arith) (omega arith) ∙ start)
-    (flat_again flats starts k (omega arith) (omega arith) ∙ flat)
+nth_again samples sync k s few fits lt here body start flat = grind (arith, length-map, note_again, All-get_or, start_again, flat_again)
 
 pub written_samples_are_read : WrittenSamplesAreRead
 unfolding number

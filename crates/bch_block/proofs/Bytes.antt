@@ -13,13 +13,7 @@ use Rattle.bch_block.proofs.Sums.{plus, nothing-plus, remainder_from-plus, equal
 use Rattle.bch_block.proofs.Powers.{kept_once}
 
 sum_of_bits : (m n : ℕ) → m < 2 → n < 2 → ((m + n) % 2 == 1) ≡ xor (m == 1) (n == 1)
-sum_of_bits zero zero lm ln = refl
-sum_of_bits zero (suc zero) lm ln = refl
-sum_of_bits (suc zero) zero lm ln = refl
-sum_of_bits (suc zero) (suc zero) lm ln = refl
-sum_of_bits zero (suc (suc n)) lm ln = absurd (omega arith)
-sum_of_bits (suc zero) (suc (suc n)) lm ln = absurd (omega arith)
-sum_of_bits (suc (suc m)) n lm ln = absurd (omega arith)
+sum_of_bits m n h k = grind arith
 
 bit-xor : (a b i : ℕ) → bit (bit_xor a b) i ≡ xor (bit a i) (bit b i)
 bit-xor a b i = ap (λ n. n == 1) (bit_at_xor a b i) ∙ sum_of_bits (bit_at a i) (bit_at b i) (bit_at-lt a i) (bit_at-lt b i)
@@ -60,22 +54,11 @@ pub leaves_none : Leaves [] 0
 leaves_none p = refl
 
 pub leaves_more : (bytes : List ℕ) (left b next : ℕ) → Leaves bytes left → kept next ≡ times_power (kept (bit_xor left b)) 8 → Leaves (bytes ++ b ∷ []) next
-leaves_more bytes left b next was is p =
-    ap remainder (bits_of-append (bytes ++ b ∷ []) (p ∷ []))
-    ∙ remainder_from-append (bits_of_bytes (bytes ++ b ∷ [])) (byte_bits p) nothing
-    ∙ ap (λ (r : Remainder). remainder_from r (byte_bits p)) (was b)
-    ∙ remainder_from-byte (kept (bit_xor left b)) p
-    ∙ ap (λ (r : Remainder). plus (kept p) r) (sym is)
-    ∙ sym (kept-xor p next)
-    ∙ ap kept (xor_comm p next)
+leaves_more bytes left b next was is p = grind (arith, bits_of-append, remainder_from-append, remainder_from-byte, plus, kept-xor, xor_comm)
 
 -- what a whole block leaves, by its last byte
 pub remainder-bits_of : (block : List ℕ) (left : ℕ) → 0 < length block → Leaves (take (length block - 1) block) left → remainder (bits_of_bytes block) ≡ kept (bit_xor left (slice_index block (length block - 1)))
-remainder-bits_of block left some leaves =
-    let last = length block - 1 in
-    let parts : take last block ++ slice_index block last ∷ [] ≡ block =
-    sym (take_more block last 0 (omega arith)) ∙ take_all (last + 1) block (omega arith) in
-    ap (λ (bytes : List ℕ). remainder (bits_of_bytes bytes)) (sym parts) ∙ leaves (slice_index block last)
+remainder-bits_of block left some leaves = grind (arith, take_more, take_all)
 
 -- it is the one byte that makes a block
 kept-self : (a : ℕ) → kept (bit_xor a a) ≡ nothing
@@ -108,9 +91,7 @@ flipped-byte b (suc (suc (suc (suc (suc (suc (suc (suc j)))))))) x lt = absurd (
 flipped_from : (xs : List ℕ) (k j : ℕ) → k < length xs → j < 8 → bits_of_bytes (slice_set xs k (bit_xor (slice_index xs k) (2 ^ j))) ≡ flipped (bits_of_bytes xs) (8 * k + j)
 flipped_from [] k j lk lj = absurd (omega arith)
 flipped_from (b ∷ xs) zero j lk lj = let e : 8 * 0 + j ≡ j = omega arith in flipped-byte b j (bits_of_bytes xs) lj ∙ ap (λ n. flipped (bits_of_bytes (b ∷ xs)) n) (sym e)
-flipped_from (b ∷ xs) (suc k) j lk lj =
-    let e : 8 * suc k + j ≡ suc (suc (suc (suc (suc (suc (suc (suc (8 * k + j)))))))) = omega arith in
-    ap (λ z. byte_bits b ++ z) (flipped_from xs k j (omega arith) lj) ∙ ap (λ n. flipped (bits_of_bytes (b ∷ xs)) n) (sym e)
+flipped_from (b ∷ xs) (suc k) j lk lj = grind (arith, flipped_from xs k j)
 
 -- place p is bit p % 8 of byte p / 8
 pub flipped-bits_of : (xs : List ℕ) (p : ℕ) → p < 8 * length xs → bits_of_bytes (slice_set xs (p / 8) (bit_xor (slice_index xs (p / 8)) (2 ^ (p % 8)))) ≡ flipped (bits_of_bytes xs) p

@@ -1,5 +1,5 @@
 -- The tables, and the powers of x below 64: each is odd, and no two are the same.
-use Rattle.std.proofs.Common.{◌≡◌, ℕ, ◌+◌, ◌<◌, Bool, true, false, cond, Option, Some, None, ◌&&◌, refl, ap, ◌∙◌, sym, eqb-true, nat_lt, ltb-true, ◌==◌, slice_index, slice_index_or, IfSome}
+use Rattle.std.proofs.Common.{arith, ◌≡◌, ℕ, ◌+◌, ◌<◌, Bool, true, false, cond, Option, Some, None, ◌&&◌, refl, ap, ◌∙◌, sym, eqb-true, nat_lt, ltb-true, ◌==◌, slice_index, slice_index_or, IfSome}
 use Rattle.bch_block.specs.Bits.{xor}
 use Rattle.bch_block.specs.Division.{Remainder, nothing, kept, power, times_power}
 use Rattle.bch_block.specs.declared.tables.TheConstants.{TIMES_X8, POWERS}
@@ -69,8 +69,7 @@ found_all = refl
 
 exact_some : (k : ℕ) (o : Option ℕ) → is_exactly k o ≡ true → o ≡ Some k
 unfolding is_exactly
-exact_some k None h = cc
-exact_some k (Some j) h = ap (λ m. Some m) (eqb-true j k h)
+exact_some k o h = grind (arith, eqb-true)
 
 entry-power : (k : ℕ) → k < 64 → entry (byte_of (power k)) ≡ Some k
 entry-power k lt = exact_some k _ (below 64 (λ m. is_exactly m (entry (byte_of (power m)))) k found_all lt)
@@ -103,9 +102,4 @@ pub three_powers : (k l m : ℕ) → k < 64 → l < 64 → m < 64 → plus (plus
 three_powers k l m lk ll lm e =
     let sums : odd (plus (plus (power k) (power l)) (power m)) ≡ xor (xor (odd (power k)) (odd (power l))) (odd (power m)) =
     odd-plus (plus (power k) (power l)) (power m) ∙ ap (λ v. xor v (odd (power m))) (odd-plus (power k) (power l)) in
-    let ones : xor (xor (odd (power k)) (odd (power l))) (odd (power m)) ≡ true =
-    ap (λ v. xor (xor v (odd (power l))) (odd (power m))) (odd-power k lk)
-    ∙ ap (λ v. xor (xor true v) (odd (power m))) (odd-power l ll)
-    ∙ ap (λ v. xor (xor true true) v) (odd-power m lm) in
-    let t = sym ones ∙ sym sums ∙ ap odd e in
-    cc
+    grind (arith, odd, odd-power)

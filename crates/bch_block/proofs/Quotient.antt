@@ -1,14 +1,11 @@
 -- A list is a block exactly where the division leaves nothing.
-use Rattle.std.proofs.Common.{◌≡◌, ℕ, suc, zero, ◌<◌, ◌≤◌, Bool, true, false, List, [], ◌∷◌, length, refl, ap, ◌∙◌, sym, arith}
+use Rattle.std.proofs.Common.{◌≡◌, ℕ, suc, zero, ◌<◌, ◌≤◌, Bool, false, List, [], ◌∷◌, length, refl, ap, ◌∙◌, sym, arith}
 use Rattle.bch_block.specs.Bits.{xor}
 use Rattle.bch_block.specs.Block.{at, back, IsMultiple, IsBlock}
 use Rattle.bch_block.specs.Division.{Remainder, nothing, step, remainder_from, remainder}
 
 pub xor_twice : (a b : Bool) → xor (xor a b) b ≡ a
-xor_twice true true = refl
-xor_twice true false = refl
-xor_twice false true = refl
-xor_twice false false = refl
+xor_twice a b = grind arith
 
 -- a remainder's bits, and then the rest
 abbrev pub listed : Remainder → List Bool → List Bool
@@ -38,23 +35,10 @@ unfolding product
 length-product [] = refl
 length-product (b ∷ q) = omega (arith, length-product q)
 
--- a step of the division undoes it
-step-before : (b : Bool) (p : Product) → step (before b p).front (xor p.front.x0 b) ≡ p.front
-step-before b p = λ i. record {
-  x7 = xor_twice p.front.x7 b i;
-  x6 = xor_twice p.front.x6 b i;
-  x5 = p.front.x5;
-  x4 = p.front.x4;
-  x3 = p.front.x3;
-  x2 = p.front.x2;
-  x1 = p.front.x1;
-  x0 = xor_twice p.front.x0 b i;
-}
-
 product_leaves_nothing : (q : List Bool) → remainder_from (product q).front (product q).rest ≡ nothing
 unfolding product
 product_leaves_nothing [] = refl
-product_leaves_nothing (b ∷ q) = ap (λ (r : Remainder). remainder_from r (product q).rest) (step-before b (product q)) ∙ product_leaves_nothing q
+product_leaves_nothing (b ∷ q) = grind (arith, product, xor_twice, product_leaves_nothing q)
 
 -- the bits that the division drops
 quotient : Remainder → List Bool → List Bool
@@ -67,10 +51,7 @@ length-quotient r [] = refl
 length-quotient r (x ∷ xs) = omega (arith, length-quotient (step r x) xs)
 
 before-step : (r : Remainder) (x : Bool) (xs : List Bool) → before r.x7 (record { front = step r x; rest = xs }) ≡ record { front = r; rest = x ∷ xs }
-before-step r x xs = λ i. record {
-  front = record { x7 = r.x7; x6 = xor_twice r.x6 r.x7 i; x5 = xor_twice r.x5 r.x7 i; x4 = r.x4; x3 = r.x3; x2 = r.x2; x1 = r.x1; x0 = r.x0 };
-  rest = xor_twice x r.x7 i ∷ xs;
-}
+before-step r x xs = grind (arith, xor_twice)
 
 product-quotient : (r : Remainder) (xs : List Bool) → remainder_from r xs ≡ nothing → product (quotient r xs) ≡ record { front = r; rest = xs }
 unfolding product quotient
@@ -80,32 +61,10 @@ product-quotient r (x ∷ xs) h = ap (λ (p : Product). before r.x7 p) (product-
 -- the product's bits by their places
 
 at_third : (s x y b : Bool) → s ≡ xor x y → xor s b ≡ xor x (xor y b)
-at_third s true true true h = ap (λ v. xor v true) h
-at_third s true true false h = ap (λ v. xor v false) h
-at_third s true false true h = ap (λ v. xor v true) h
-at_third s true false false h = ap (λ v. xor v false) h
-at_third s false true true h = ap (λ v. xor v true) h
-at_third s false true false h = ap (λ v. xor v false) h
-at_third s false false true h = ap (λ v. xor v true) h
-at_third s false false false h = ap (λ v. xor v false) h
+at_third s x y b h = grind arith
 
 at_ninth : (s x y z b : Bool) → s ≡ xor x (xor y z) → xor s b ≡ xor x (xor y (xor z b))
-at_ninth s true true true true h = ap (λ v. xor v true) h
-at_ninth s true true true false h = ap (λ v. xor v false) h
-at_ninth s true true false true h = ap (λ v. xor v true) h
-at_ninth s true true false false h = ap (λ v. xor v false) h
-at_ninth s true false true true h = ap (λ v. xor v true) h
-at_ninth s true false true false h = ap (λ v. xor v false) h
-at_ninth s true false false true h = ap (λ v. xor v true) h
-at_ninth s true false false false h = ap (λ v. xor v false) h
-at_ninth s false true true true h = ap (λ v. xor v true) h
-at_ninth s false true true false h = ap (λ v. xor v false) h
-at_ninth s false true false true h = ap (λ v. xor v true) h
-at_ninth s false true false false h = ap (λ v. xor v false) h
-at_ninth s false false true true h = ap (λ v. xor v true) h
-at_ninth s false false true false h = ap (λ v. xor v false) h
-at_ninth s false false false true h = ap (λ v. xor v true) h
-at_ninth s false false false false h = ap (λ v. xor v false) h
+at_ninth s x y z b h = grind arith
 
 none_back : (k i : ℕ) → back [] k i ≡ false
 none_back zero i = refl
@@ -113,26 +72,15 @@ none_back (suc k) zero = refl
 none_back (suc k) (suc i) = none_back k i
 
 falses : (i : ℕ) → at (listed nothing []) i ≡ false
-falses zero = refl
-falses (suc zero) = refl
-falses (suc (suc zero)) = refl
-falses (suc (suc (suc zero))) = refl
-falses (suc (suc (suc (suc zero)))) = refl
-falses (suc (suc (suc (suc (suc zero))))) = refl
-falses (suc (suc (suc (suc (suc (suc zero)))))) = refl
-falses (suc (suc (suc (suc (suc (suc (suc zero))))))) = refl
-falses (suc (suc (suc (suc (suc (suc (suc (suc i)))))))) = refl
+falses i = grind arith
 
 -- a place of the product, by the quotient's places
 abbrev sum_at : List Bool → ℕ → Bool
 sum_at q i = xor (at q i) (xor (back q 1 i) (xor (back q 2 i) (back q 8 i)))
 
-none_at : (i : ℕ) → sum_at [] i ≡ false
-none_at i = ap (λ v. xor false (xor v (xor (back [] 2 i) (back [] 8 i)))) (none_back 1 i) ∙ ap (λ v. xor false (xor false (xor v (back [] 8 i)))) (none_back 2 i) ∙ ap (λ v. xor false (xor false (xor false v))) (none_back 8 i)
-
 at-product : (q : List Bool) (i : ℕ) → at (listed (product q).front (product q).rest) i ≡ sum_at q i
 unfolding product
-at-product [] i = falses i ∙ sym (none_at i)
+at-product [] i = grind (arith, falses, none_back)
 at-product (b ∷ q) zero = refl
 at-product (b ∷ q) (suc zero) = ap (λ v. xor v b) (at-product q 0)
 at-product (b ∷ q) (suc (suc zero)) = at_third _ (at q 1) (at q 0) b (at-product q 1)

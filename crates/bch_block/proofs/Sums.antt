@@ -1,5 +1,5 @@
 -- Remainders add, and a bit turned over adds a power of x.
-use Rattle.std.proofs.Common.{◌≡◌, ℕ, suc, zero, ◌+◌, Bool, true, false, List, [], ◌∷◌, length, refl, ap, ◌∙◌, sym, arith}
+use Rattle.std.proofs.Common.{◌≡◌, ℕ, suc, zero, ◌+◌, Bool, true, false, List, [], ◌∷◌, length, refl, ap, ◌∙◌, arith}
 use Rattle.bch_block.specs.Bits.{xor, flipped}
 use Rattle.bch_block.specs.Division.{Remainder, nothing, one, step, remainder_from, times_power, power}
 
@@ -8,36 +8,16 @@ plus r s = record { x7 = xor r.x7 s.x7; x6 = xor r.x6 s.x6; x5 = xor r.x5 s.x5; 
 
 -- a sum of four bits in another order
 xor_swap : (a b c d : Bool) → xor (xor a b) (xor c d) ≡ xor (xor a c) (xor b d)
-xor_swap true true true true = refl
-xor_swap true true true false = refl
-xor_swap true true false true = refl
-xor_swap true true false false = refl
-xor_swap true false true true = refl
-xor_swap true false true false = refl
-xor_swap true false false true = refl
-xor_swap true false false false = refl
-xor_swap false true true true = refl
-xor_swap false true true false = refl
-xor_swap false true false true = refl
-xor_swap false true false false = refl
-xor_swap false false true true = refl
-xor_swap false false true false = refl
-xor_swap false false false true = refl
-xor_swap false false false false = refl
+xor_swap a b c d = grind arith
 
 xor-false : (a : Bool) → xor false a ≡ a
-xor-false true = refl
-xor-false false = refl
+xor-false a = grind arith
 
 xor-self : (a : Bool) → xor a a ≡ false
-xor-self true = refl
-xor-self false = refl
+xor-self a = grind arith
 
 pub equal_bits : (a b : Bool) → xor a b ≡ false → a ≡ b
-equal_bits true true h = refl
-equal_bits true false h = h
-equal_bits false true h = sym h
-equal_bits false false h = refl
+equal_bits a b h = grind arith
 
 pub nothing-plus : (r : Remainder) → plus nothing r ≡ r
 nothing-plus r = λ i. record { x7 = xor-false r.x7 i; x6 = xor-false r.x6 i; x5 = xor-false r.x5 i; x4 = xor-false r.x4 i; x3 = xor-false r.x3 i; x2 = xor-false r.x2 i; x1 = xor-false r.x1 i; x0 = xor-false r.x0 i }
@@ -48,43 +28,15 @@ plus-self r = λ i. record { x7 = xor-self r.x7 i; x6 = xor-self r.x6 i; x5 = xo
 pub equal_remainders : (r s : Remainder) → plus r s ≡ nothing → r ≡ s
 equal_remainders r s h =
     let ex7 = equal_bits r.x7 s.x7 (ap (λ (t : Remainder). t.x7) h) in
-    let ex6 = equal_bits r.x6 s.x6 (ap (λ (t : Remainder). t.x6) h) in
-    let ex5 = equal_bits r.x5 s.x5 (ap (λ (t : Remainder). t.x5) h) in
-    let ex4 = equal_bits r.x4 s.x4 (ap (λ (t : Remainder). t.x4) h) in
-    let ex3 = equal_bits r.x3 s.x3 (ap (λ (t : Remainder). t.x3) h) in
-    let ex2 = equal_bits r.x2 s.x2 (ap (λ (t : Remainder). t.x2) h) in
-    let ex1 = equal_bits r.x1 s.x1 (ap (λ (t : Remainder). t.x1) h) in
-    let ex0 = equal_bits r.x0 s.x0 (ap (λ (t : Remainder). t.x0) h) in
-    λ i. record { x7 = ex7 i; x6 = ex6 i; x5 = ex5 i; x4 = ex4 i; x3 = ex3 i; x2 = ex2 i; x1 = ex1 i; x0 = ex0 i }
-
-step-plus : (r s : Remainder) (b : Bool) → step (plus r s) b ≡ plus (step r b) (step s false)
-step-plus r s b = λ i. record {
-  x7 = xor_swap r.x6 s.x6 r.x7 s.x7 i;
-  x6 = xor_swap r.x5 s.x5 r.x7 s.x7 i;
-  x5 = xor r.x4 s.x4;
-  x4 = xor r.x3 s.x3;
-  x3 = xor r.x2 s.x2;
-  x2 = xor r.x1 s.x1;
-  x1 = xor r.x0 s.x0;
-  x0 = xor_swap b false r.x7 s.x7 i;
-}
+    grind (arith, equal_bits)
 
 -- what is added before a list comes out multiplied by as many powers of x
 pub remainder_from-plus : (x : List Bool) (r s : Remainder) → remainder_from (plus r s) x ≡ plus (remainder_from r x) (times_power s (length x))
 remainder_from-plus [] r s = refl
-remainder_from-plus (b ∷ x) r s = ap (λ (t : Remainder). remainder_from t x) (step-plus r s b) ∙ remainder_from-plus x (step r b) (step s false)
+remainder_from-plus (b ∷ x) r s = grind (arith, xor_swap, remainder_from-plus x)
 
 step-flipped : (r : Remainder) (b : Bool) → step r (xor b true) ≡ plus (step r b) one
-step-flipped r b = λ i. record {
-  x7 = xor r.x6 r.x7;
-  x6 = xor r.x5 r.x7;
-  x5 = r.x4;
-  x4 = r.x3;
-  x3 = r.x2;
-  x2 = r.x1;
-  x1 = r.x0;
-  x0 = xor_swap b true r.x7 false i;
-}
+step-flipped r b = grind (arith, xor_swap)
 
 -- k bits stand behind bit i
 pub remainder_from-flipped : (x : List Bool) (r : Remainder) (i k : ℕ) → i + suc k ≡ length x → remainder_from r (flipped x i) ≡ plus (remainder_from r x) (power k)
@@ -101,12 +53,4 @@ abbrev pub odd : Remainder → Bool
 odd r = xor r.x7 (xor r.x6 (xor r.x5 (xor r.x4 (xor r.x3 (xor r.x2 (xor r.x1 r.x0))))))
 
 pub odd-plus : (r s : Remainder) → odd (plus r s) ≡ xor (odd r) (odd s)
-odd-plus r s =
-    let e1 = xor_swap r.x1 s.x1 r.x0 s.x0 in
-    let e2 = ap (λ v. xor (xor r.x2 s.x2) v) e1 ∙ xor_swap r.x2 s.x2 (xor r.x1 (r.x0)) (xor s.x1 (s.x0)) in
-    let e3 = ap (λ v. xor (xor r.x3 s.x3) v) e2 ∙ xor_swap r.x3 s.x3 (xor r.x2 (xor r.x1 (r.x0))) (xor s.x2 (xor s.x1 (s.x0))) in
-    let e4 = ap (λ v. xor (xor r.x4 s.x4) v) e3 ∙ xor_swap r.x4 s.x4 (xor r.x3 (xor r.x2 (xor r.x1 (r.x0)))) (xor s.x3 (xor s.x2 (xor s.x1 (s.x0)))) in
-    let e5 = ap (λ v. xor (xor r.x5 s.x5) v) e4 ∙ xor_swap r.x5 s.x5 (xor r.x4 (xor r.x3 (xor r.x2 (xor r.x1 (r.x0))))) (xor s.x4 (xor s.x3 (xor s.x2 (xor s.x1 (s.x0))))) in
-    let e6 = ap (λ v. xor (xor r.x6 s.x6) v) e5 ∙ xor_swap r.x6 s.x6 (xor r.x5 (xor r.x4 (xor r.x3 (xor r.x2 (xor r.x1 (r.x0)))))) (xor s.x5 (xor s.x4 (xor s.x3 (xor s.x2 (xor s.x1 (s.x0)))))) in
-    let e7 = ap (λ v. xor (xor r.x7 s.x7) v) e6 ∙ xor_swap r.x7 s.x7 (xor r.x6 (xor r.x5 (xor r.x4 (xor r.x3 (xor r.x2 (xor r.x1 (r.x0))))))) (xor s.x6 (xor s.x5 (xor s.x4 (xor s.x3 (xor s.x2 (xor s.x1 (s.x0))))))) in
-    e7
+odd-plus r s = grind (arith, xor_swap)

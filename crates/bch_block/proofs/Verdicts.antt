@@ -27,12 +27,7 @@ pub clean : (x : List Bool) → 8 ≤ length x → remainder x ≡ nothing → I
 clean x long e = is_block x long e
 
 pub mended : (x : List Bool) (i : ℕ) → 8 ≤ length x → length x ≤ 64 → i < length x → remainder x ≡ power (after x i) → IsVerdict x (Mended i)
-mended x i long short lt e = (
-  λ b. one_power (after x i) (omega arith) (sym e ∙ remainder_of_block x b),
-  lt,
-  is_block (flipped x i) (omega (arith, length-flipped x i))
-      (remainder-flipped x i lt ∙ ap (λ (r : Remainder). plus r (power (after x i))) e ∙ plus-self (power (after x i))),
-)
+mended x i long short lt e = grind (arith, one_power, remainder_of_block, is_block, length-flipped, remainder-flipped, plus, plus-self)
 
 lost_at : (x y : List Bool) (n : ℕ) → differences x y ≡ n → remainder x ≢ nothing → ((k : ℕ) → k < length x → remainder x ≢ power k) → IsBlock y → length y ≡ length x → 2 ≤ n
 lost_at x y zero e none other b same =
@@ -76,10 +71,7 @@ one_verdict x Lost Lost short hv hw = refl
 
 -- one bit of a block turned over leaves its power of x, two leave the sum
 one_leaves : (x : List Bool) (i : ℕ) → IsBlock x → i < length x → remainder (flipped x i) ≡ power (after x i)
-one_leaves x i b lt =
-    remainder-flipped x i lt
-    ∙ ap (λ (r : Remainder). plus r (power (after x i))) (remainder_of_block x b)
-    ∙ nothing-plus (power (after x i))
+one_leaves x i b lt = grind (arith, remainder-flipped, plus, remainder_of_block, nothing-plus)
 
 two_leave : (x : List Bool) (i j : ℕ) → IsBlock x → i < length x → j < length x → remainder (flipped (flipped x i) j) ≡ plus (power (after x i)) (power (after x j))
 two_leave x i j b li lj =
@@ -179,6 +171,4 @@ four_apart x y short same bx by unlike = far_apart x y (differences x y) refl sh
 
 -- what a repair leaves
 pub repairs_alone : (bytes : List ℕ) (v : Verdict) → ((i : ℕ) → v ≢ Mended i) → Repairs bytes bytes v
-repairs_alone bytes Clean other = refl
-repairs_alone bytes (Mended i) other = absurd (other i refl)
-repairs_alone bytes Lost other = refl
+repairs_alone bytes v h = grind arith

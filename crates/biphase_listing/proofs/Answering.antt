@@ -1,5 +1,5 @@
 -- What is answered behind the frames that were listed: more, the end, or why there is none.
-use Rattle.std.proofs.Common.{◌≡◌, ◌∙◌, inl, inr, ℕ, ◌+◌, ◌*◌, ◌<◌, ◌≤◌, List, [], ◌++◌, length, take, All, Option, Some, None, ap, sym, subst, append_assoc, length-append, take_at, arith}
+use Rattle.std.proofs.Common.{◌≡◌, ◌∙◌, inl, inr, ℕ, ◌+◌, ◌*◌, ◌<◌, ◌≤◌, List, [], ◌++◌, length, take, All, Option, Some, ap, sym, subst, append_assoc, length-append, take_at, arith}
 use Rattle.std.specs.Prelude.{flat_map}
 use Rattle.std.specs.Io.KnownBytes.{Appends, Consumes}
 use Rattle.std.proofs.KnownBytes.{Appends-trans, Consumes-trans}
@@ -47,11 +47,7 @@ ahead from left now held holds old new piece samples rest has read adds = record
   all = has.samples ++ samples;
   carried = All-append IsCarried has.samples samples has.carried adds.carried;
   counted = let n = length-append has.samples samples in omega (arith, adds.count, has.counted, n);
-  consumed =
-      subst (λ (bytes : List ℕ). Consumes from now bytes)
-      (ap (λ (xs : List ℕ). flat_map frame_bytes has.samples ++ xs) adds.bytes_are ∙ sym (append_assoc (flat_map frame_bytes has.samples) (flat_map frame_bytes samples) rest)
-      ∙ ap (λ (xs : List ℕ). xs ++ rest) (sym (flat_map-append frame_bytes has.samples samples)))
-      (Consumes-trans from left now (flat_map frame_bytes has.samples) piece has.consumed read);
+  consumed = grind (arith, append_assoc, flat_map-append, Consumes-trans);
   before = has.written;
   text = text_append [] has.samples samples ∙ ap (λ (xs : List ℕ). frames_text has.samples ++ xs) (sym (adds.text has.samples has.stands));
   stands = adds.blocks has.samples has.stands;
@@ -83,8 +79,7 @@ unwritten from left held holds now new rest n a few lt then =
 
 -- bytes that are known
 known : (bytes : List ℕ) (left : Option (List ℕ)) (front : List ℕ) → Consumes (Some bytes) left front → (later : List ℕ) × (bytes ≡ front ++ later)
-known bytes None front read = absurd read
-known bytes (Some later) front read = (later, read)
+known bytes left front h = grind arith
 
 refused : (bytes : List ℕ) (all : List Sample) (tail : List ℕ) (fault : BiphaseFault) → All IsCarried all → bytes ≡ flat_map frame_bytes all ++ tail → length all ≡ frames_before fault
     → IsFault bytes fault → IsRefused bytes fault all

@@ -1,5 +1,5 @@
 -- How the reading of a piece ends, by what is answered for its frames.
-use Rattle.std.proofs.Common.{◌≡◌, ◌∙◌, inl, inr, ℕ, ◌+◌, ◌-◌, ◌*◌, ◌%◌, ◌<◌, ◌≤◌, ◌==◌, min, Bool, true, false, List, [], ◌++◌, length, take, Option, Some, None, Result, Ok, Err, refl, ap, sym, subst, append-nil, length-take-le, arith}
+use Rattle.std.proofs.Common.{◌≡◌, ◌∙◌, inl, inr, ℕ, ◌+◌, ◌-◌, ◌*◌, ◌%◌, ◌<◌, ◌≤◌, ◌==◌, min, Bool, true, false, List, [], ◌++◌, length, take, Option, Some, Result, Ok, Err, ap, sym, subst, append-nil, length-take-le, arith}
 use Rattle.std.specs.Prelude.{codes, flat_map, OnOk, IfOk, IfErr}
 use Rattle.std.specs.Io.KnownBytes.{Appends, Consumes, IsAtEnd}
 use Rattle.std.proofs.lemmas.Bool.{cases_lt, eqb-true, eq-eqb}
@@ -92,9 +92,7 @@ pub record Through (from now held out : Option (List ℕ)) (new : FrameLines) (o
   pub few : new.count ≤ most_frames
 
 is_end : (stop : Stop) (count : ℕ) (rest : List ℕ) → Ok tt ≡ stopped stop count → StopsAt stop rest → StopsAt End rest
-is_end End count rest is stops = stops
-is_end Left count rest is stops = absurd (cc is)
-is_end Right count rest is stops = absurd (cc is)
+is_end stop count rest h k = grind arith
 
 pub piece_through : (from left now held holds out : Option (List ℕ)) (old new : FrameLines) (piece : List ℕ) (done : Unit {0})
     → Begun from left now held holds old piece → ListsPiece piece old new holds out (Ok done) → Through from now held out new old.count (length piece)
@@ -140,16 +138,13 @@ all_listed from now held out new old size t none = record {
   samples = t.ahead.all;
   carried = t.ahead.carried;
   counted = t.ahead.counted;
-  consumed =
-      subst (λ (xs : List ℕ). Consumes from now xs) (ap (λ (xs : List ℕ). flat_map frame_bytes t.ahead.all ++ xs) (nil_from_length t.rest none) ∙ append-nil (flat_map frame_bytes t.ahead.all))
-      t.ahead.consumed;
+  consumed = grind (arith, nil_from_length, append-nil);
   written = written from now held t.holds out new t.rest t.ahead t.then;
   stands = t.ahead.stands;
 }
 
 ended_known : (left : Option (List ℕ)) (bytes front : List ℕ) → Consumes (Some bytes) left front → IsAtEnd left → bytes ≡ front
-ended_known None bytes front read ended = absurd read
-ended_known (Some later) bytes front read ended = read ∙ ap (λ (xs : List ℕ). front ++ xs) ended ∙ append-nil front
+ended_known left bytes front h k = grind (arith, append-nil)
 
 pub at_end : (from left : Option (List ℕ)) (bytes front : List ℕ) → from ≡ Some bytes → Consumes from left front → IsAtEnd left → bytes ≡ front
 at_end from left bytes front is read ended = ended_known left bytes front (subst (λ (f : Option (List ℕ)). Consumes f left front) is read) ended
@@ -198,8 +193,7 @@ full_none new old size rest full sized less few = omega (arith, full.is, full.fe
 
 nothing_left : (new old size rest : ℕ) (full more : Bool) → (full ≡ true → IsFull old size) → 16 * new + rest ≡ 16 * old + size → rest < 16 → 16 * new + rest ≤ 16 * most_frames
     → more ≡ full → (more ≡ false → rest ≡ 0) → rest ≡ 0
-nothing_left new old size rest full true is sized less few same none = full_none new old size rest (is (sym same)) sized less few
-nothing_left new old size rest full false is sized less few same none = none refl
+nothing_left new old size rest full more h k l m p q = grind (arith, full_none)
 
 pub judged_more : (from now held out : Option (List ℕ)) (new : FrameLines) (old size : ℕ) (t : Through from now held out new old size) (full : Bool) (result : Result Bool BiphaseError)
     → (full ≡ true → IsFull old size) → Judges new.count (length t.rest) full result → OnOk result (HasListed from now held out new.blocks new.count)
@@ -217,29 +211,16 @@ pub record Fills (old : FrameLines) (into : List ℕ) (count : ℕ) : Type 0 whe
 
 pub begun_of : (from left now held holds : Option (List ℕ)) (old : FrameLines) (into : List ℕ) (count : ℕ) → Fills old into count → Consumes left now (take count into)
     → HasListed from left held holds old.blocks old.count → Begun from left now held holds old (take count into)
-begun_of from left now held holds old into count fills read has = record {
-  has = has;
-  read = read;
-  few = let l = length-take-le count into fills.bound in omega (arith, l, fills.bound, fills.size, fills.few);
-}
+begun_of from left now held holds old into count fills read has = grind (arith, length-take-le)
 
 rest_is : (new old count size rest : ℕ) → 16 * new + rest ≡ 16 * old + size → size ≡ count → rest < 16 → count % 16 ≡ rest
 rest_is new old count size rest sized same less = omega (arith, sized, same, less)
 
 pub full_of : (old : FrameLines) (into : List ℕ) (count : ℕ) → Fills old into count → (count == length into) ≡ true → IsFull old.count (length (take count into))
-full_of old into count fills same = record {
-  is = let l = length-take-le count into fills.bound in let e = eqb-true count (length into) same in omega (arith, l, e, fills.size);
-  few = fills.few;
-}
+full_of old into count fills same = grind (arith, length-take-le, eqb-true)
 
 pub less_of : (count size : ℕ) → count ≤ size → (count == size) ≡ false → count < size
-less_of count size within other =
-    elim (cases_lt count size) [
-      | inl less ↦ less
-      | inr more ↦ let e : count ≡ size = omega (arith, within, more) in
-          let no : true ≡ false = sym (eq-eqb count size e) ∙ other in
-          absurd (cc no)
-    ]
+less_of count size within other = grind (arith, cases_lt, eq-eqb)
 
 pub judges_rest : (from now held out : Option (List ℕ)) (old new : FrameLines) (into : List ℕ) (count : ℕ) (full : Bool) (result : Result Bool BiphaseError) → Fills old into count
     → (t : Through from now held out new old.count (length (take count into))) → Judges new.count (count % 16) full result → Judges new.count (length t.rest) full result
@@ -254,11 +235,7 @@ piece_few old new into count holds out result fills l =
     adds_few (take count into) old new l.samples l.rest l.adds (omega (arith, n, fills.bound, fills.size, fills.few))
 
 end_of : (old new : FrameLines) (piece : List ℕ) (holds out : Option (List ℕ)) (done : Unit {0}) (l : ListsPiece piece old new holds out (Ok done)) → length l.rest < 16
-end_of old new piece holds out done l =
-    elim l.writes [
-      | inl (is, then) ↦ (is_end l.stop new.count l.rest is l.stops).0
-      | inr (is, part) ↦ absurd (cc is)
-    ]
+end_of old new piece holds out done l = grind (arith, is_end)
 
 more_of : (old new : FrameLines) (into : List ℕ) (count : ℕ) (holds out : Option (List ℕ)) (done : Unit {0}) (judged : Result Bool BiphaseError) → Fills old into count
     → ListsPiece (take count into) old new holds out (Ok done) → Judges new.count (count % 16) (count == length into) judged → IfOk judged (λ more. more ≡ true → new.count ≡ old.count + 256)
@@ -279,14 +256,7 @@ piece_more old new into count holds out result done judged is fills l judges =
 
 pub none_listed : (from held : Option (List ℕ)) (blocks : OpenBlock) → IsBlocksAfter blocks [] → HasListed from from held held blocks 0
 unfolding text_after
-none_listed from held blocks stands = record {
-  samples = [];
-  carried = λ k d lt. absurd (omega (arith, lt));
-  counted = refl;
-  consumed = Consumes-nil from;
-  written = Appends-nil held;
-  stands = stands;
-}
+none_listed from held blocks stands = grind (arith, Consumes-nil, written, Appends-nil)
 
 pub whole_listed : (from left held holds out : Option (List ℕ)) (blocks : OpenBlock) (count : ℕ) → HasListed from left held holds blocks count → count ≤ most_frames → IsAtEnd left
     → Appends holds out (codes "end\n") → (bytes : List ℕ) → from ≡ Some bytes → IsListed bytes held out
@@ -301,13 +271,4 @@ whole_listed from left held holds out blocks count has few ended then bytes is =
 
 pub last_unwritten : (from left held holds out : Option (List ℕ)) (blocks : OpenBlock) (count n : ℕ) → HasListed from left held holds blocks count → count ≤ most_frames → IsAtEnd left
     → n < 4 → Appends holds out (take n (codes "end\n")) → IsUnwritten from left held out
-last_unwritten from left held holds out blocks count n has few ended less then = record {
-  samples = has.samples;
-  rest = [];
-  read = record {
-    carried = has.carried;
-    few = omega (arith, has.counted, few);
-    consumed = subst (λ (xs : List ℕ). Consumes from left xs) (sym (append-nil (flat_map frame_bytes has.samples))) has.consumed;
-  };
-  part = inr (refl, ended, (n, less, Appends-trans held holds out (frames_text has.samples) (take n (codes "end\n")) has.written then));
-}
+last_unwritten from left held holds out blocks count n has few ended less then = grind (arith, append-nil, Appends-trans)

@@ -1,6 +1,6 @@
 -- Lists of frames joined: their bytes, their lines, and one frame more made of two subframes.
 use Rattle.std.proofs.Common.{◌≡◌, ◌∙◌, ℕ, ◌+◌, ◌*◌, ◌<◌, true, false, List, [], ◌∷◌, ◌++◌, length, take, drop, All, refl, ap, ap₂, sym, if◌then◌else◌, append_assoc, append-nil, length-append, take-add, drop-drop, arith}
-use Rattle.std.specs.Prelude.{Option, None, Some, codes, flat_map, is_some}
+use Rattle.std.specs.Prelude.{Option, codes, flat_map, is_some}
 use Rattle.std.proofs.lemmas.Grind.{flat_map-append}
 use Rattle.audio_packets.specs.declared.sample.Sample.{Sample}
 use Rattle.audio_out.specs.Blocks.{block_of}
@@ -37,24 +37,17 @@ length-frame s = length-append (subframe_bytes (left_side s)) (subframe_bytes (r
 
 pub length-frames : (samples : List Sample) → length (flat_map frame_bytes samples) ≡ 16 * length samples
 length-frames [] = refl
-length-frames (s ∷ later) =
-    let one = length-frame s in
-    let rest = length-frames later in
-    length-append (frame_bytes s) (flat_map frame_bytes later) ∙ omega arith
+length-frames (s ∷ later) = grind (arith, length-frame, length-append, length-frames later)
 
 one_more : (samples : List Sample) (s : Sample) → flat_map frame_bytes (samples ++ s ∷ []) ≡ flat_map frame_bytes samples ++ frame_bytes s
 one_more samples s = flat_map-append frame_bytes samples (s ∷ []) ∙ ap (λ (bytes : List ℕ). flat_map frame_bytes samples ++ bytes) (append-nil (frame_bytes s))
 
 -- the sides of the sample of two sides
 mark_back : (mark : Mark) → is_right mark ≡ false → (if is_block mark then B else M) ≡ mark
-mark_back B is = refl
-mark_back M is = refl
-mark_back W is = absurd (cc is)
+mark_back mark h = grind arith
 
 w_back : (mark : Mark) → is_right mark ≡ true → W ≡ mark
-w_back B is = absurd (cc is)
-w_back M is = absurd (cc is)
-w_back W is = refl
+w_back mark h = grind arith
 
 left_back : (left right : Subframe) → is_right left.mark ≡ false → left_side (sample_of left right) ≡ left
 left_back left right is = λ i. record { mark = mark_back left.mark is i; value = left.value; flags = left.flags }
@@ -71,10 +64,7 @@ frame_of left right x y xs ys p q lm rm =
     ∙ ap₂ (λ a b. a ++ b) (sym ((one_spelling left x p.sound xs).0 p)) (sym ((one_spelling right y q.sound ys).0 q))
 
 pub carried_of : (left right : Subframe) (x y : List ℕ) → IsSubframe left x → IsSubframe right y → IsCarried (sample_of left right)
-carried_of left right x y p q = record {
-  sound = record { left = p.sound.value; right = q.sound.value; left_flags = p.sound.flags; right_flags = q.sound.flags };
-  flat = refl;
-}
+carried_of left right x y p q = grind arith
 
 pub more_bytes : (bytes : List ℕ) (place : ℕ) (samples : List Sample) (s : Sample) → take place bytes ≡ flat_map frame_bytes samples
     → frame_bytes s ≡ take 8 (drop place bytes) ++ take 8 (drop (place + 8) bytes) → take (place + 16) bytes ≡ flat_map frame_bytes (samples ++ s ∷ [])
@@ -87,13 +77,9 @@ more_bytes bytes place samples s are is =
 pub frame_lines_more : (past : List Sample) (s t : Sample) (old put now : List ℕ)
     → s ≡ t → put ≡ old ++ (sample_words s ++ codes "\n") → now ≡ put ++ status_text (block_of (past ++ s ∷ [])) → now ≡ old ++ frame_text past t
 unfolding frame_text
-frame_lines_more past s t old put now same line is =
-    is ∙ ap (λ (a : List ℕ). a ++ status_text (block_of (past ++ s ∷ []))) line
-    ∙ append_assoc old (sample_words s ++ codes "\n") (status_text (block_of (past ++ s ∷ [])))
-    ∙ ap (λ (u : Sample). old ++ ((sample_words u ++ codes "\n") ++ status_text (block_of (past ++ u ∷ [])))) same
+frame_lines_more past s t old put now same line is = grind (arith, append_assoc)
 
 -- where no block ends there is no status
 pub no_status : (status : Option BlockStatus) → is_some status ≡ false → status_text status ≡ []
 unfolding status_text
-no_status None is = refl
-no_status (Some status) is = absurd (cc is)
+no_status status h = grind arith

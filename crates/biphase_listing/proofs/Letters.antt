@@ -1,5 +1,5 @@
 -- The digits of six bytes below 16, worked out at once: those of 10 and more are letters.
-use Rattle.std.proofs.Common.{◌≡◌, ◌∙◌, ℕ, ◌+◌, ◌*◌, ◌/◌, ◌%◌, ◌^◌, ◌<◌, ◌==◌, Bool, true, slice_index, refl, ap, ap₂, eqb-true, arith, bit_and}
+use Rattle.std.proofs.Common.{◌≡◌, ◌∙◌, ℕ, ◌+◌, ◌*◌, ◌/◌, ◌%◌, ◌^◌, ◌<◌, ◌==◌, Bool, true, slice_index, refl, ap₂, eqb-true, arith, bit_and}
 use Rattle.std.proofs.lemmas.Nat.{and_block, and_mask}
 use Rattle.hex.specs.Hex.{lower_digits}
 use Rattle.tmds_word.proofs.Below.{passes_below, passes_at}
@@ -26,11 +26,7 @@ byte_mask y r =
 
 -- the letters of bytes, from those of the bytes above the lowest
 one_more : (x r u m s n t : ℕ) → n < 16 → u ≡ 6 * r → m ≡ 256 * r + 1 → s ≡ 6 * m → bit_and ((x + u) / 16) r ≡ t → bit_and ((256 * x + n + s) / 16) m ≡ 256 * t + (n + 6) / 16
-one_more x r u m s n t lt eu em es h =
-    let y = (256 * x + n + s) / 16 in
-    let q : y / 256 ≡ (x + u) / 16 = omega arith in
-    let low : y % 2 ≡ (n + 6) / 16 = omega arith in
-    ap (bit_and y) em ∙ omega (arith, byte_mask y r, low, ap (λ k. bit_and k r) q, h)
+one_more x r u m s n t lt eu em es h = grind (arith, byte_mask)
 
 unfoldable six_of : ℕ → ℕ → ℕ → ℕ → ℕ → ℕ → ℕ
 six_of a b c d e f = 256 * (256 * (256 * (256 * (256 * f + e) + d) + c) + b) + a
@@ -65,11 +61,4 @@ digits_are v fours letters is found =
     let e = v / 65536 % 16 in
     let f = v / 1048576 % 16 in
     let bytes : fours ≡ six_of a b c d e f = omega (arith, is) in
-    let h = found ∙ ap (λ n. bit_and ((n + 0x060606060606) / 16) 0x010101010101) bytes ∙ letters_of a b c d e f (omega arith) (omega arith) (omega arith) (omega arith) (omega arith) (omega arith) in
-    let ca = code_is a (omega arith) in
-    let cb = code_is b (omega arith) in
-    let cc = code_is c (omega arith) in
-    let cd = code_is d (omega arith) in
-    let ce = code_is e (omega arith) in
-    let cf = code_is f (omega arith) in
-    omega (arith, is, h, ca, cb, cc, cd, ce, cf)
+    grind (arith, letters_of, code_is)

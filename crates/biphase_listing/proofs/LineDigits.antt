@@ -19,8 +19,7 @@ one_digit : (n : ℕ) → n < 8 → field n ≡ 32 ∷ (48 + n) ∷ []
 one_digit n lt = ap (λ (text : List ℕ). 32 ∷ text) (decimal_digit n (omega arith))
 
 digit_below : (b : Bool) → digit_of b < 8
-digit_below true = omega arith
-digit_below false = omega arith
+digit_below b = grind arith
 
 -- the six digits of a value
 abbrev pub two : ℕ → List ℕ
@@ -71,15 +70,7 @@ abbrev codes_of : ℕ → List ℕ
 codes_of v = code (v / 1048576) ∷ code (v / 65536) ∷ code (v / 4096) ∷ code (v / 256) ∷ code (v / 16) ∷ code v ∷ []
 
 codes_are : (v : ℕ) → codes_of v ≡ value_digits v
-codes_are v =
-    let at = slice_index lower_digits in
-    let p5 : v / 1048576 % 16 ≡ v / 65536 % 256 / 16 = omega arith in
-    let p4 : v / 65536 % 16 ≡ v / 65536 % 256 % 16 = omega arith in
-    let p3 : v / 4096 % 16 ≡ v / 256 % 256 / 16 = omega arith in
-    let p2 : v / 256 % 16 ≡ v / 256 % 256 % 16 = omega arith in
-    let p1 : v / 16 % 16 ≡ v % 256 / 16 = omega arith in
-    let p0 : v % 16 ≡ v % 256 % 16 = omega arith in
-    (λ i. at (p5 i) ∷ at (p4 i) ∷ at (p3 i) ∷ at (p2 i) ∷ at (p1 i) ∷ at (p0 i) ∷ []) ∙ sym (six_digits v)
+codes_are v = grind (arith, six_digits)
 
 digit_fits : (n : ℕ) → code n < 256
 digit_fits n = code_below (n % 16) (omega arith)
@@ -117,18 +108,7 @@ first_is v x is =
     fit (suc (suc (suc (suc (suc (suc (suc (suc i)))))))) = omega arith
 
 pub last_is : (l r x : ℕ) (start : Bool) → l < 8 → r < 8 → x ≡ 0x0a30200020302030 + l + 65536 * r + 4294967296 * (48 + digit_of start) → to_le_bytes w64 x ≡ last_words l r start
-last_is l r x start ll lr is = le_bytes_8 (last_words l r start) x refl fit (omega (arith, is))
-  where
-    fit : (i : ℕ) → get_or (last_words l r start) i 0 < 256
-    fit zero = omega (arith, ll)
-    fit (suc zero) = omega arith
-    fit (suc (suc zero)) = omega (arith, lr)
-    fit (suc (suc (suc zero))) = omega arith
-    fit (suc (suc (suc (suc zero)))) = omega (arith, digit_below start)
-    fit (suc (suc (suc (suc (suc zero))))) = omega arith
-    fit (suc (suc (suc (suc (suc (suc zero)))))) = omega arith
-    fit (suc (suc (suc (suc (suc (suc (suc zero))))))) = omega arith
-    fit (suc (suc (suc (suc (suc (suc (suc (suc i)))))))) = omega arith
+last_is l r x start ll lr is = grind (arith, le_bytes_8, digit_below)
 
 pub length-first : (v : ℕ) → length (codes "s " ++ value_digits v) ≡ 8
 length-first v = ap (λ (ds : List ℕ). length (codes "s " ++ ds)) (sym (codes_are v))
@@ -153,8 +133,4 @@ three_put x y z p q r =
 -- the line of a sample of two sides, of its three parts
 pub line_is : (s : Sample) → s.left_flags < 8 → s.right_flags < 8 → s.flat ≡ false
     → (codes "s " ++ value_digits s.left) ++ ((codes " " ++ value_digits s.right ++ codes " ") ++ last_words s.left_flags s.right_flags s.start) ≡ sample_words s ++ codes "\n"
-line_is s l r flat =
-    let none : 48 ≡ 48 + digit_of s.flat = ap (λ b. 48 + digit_of b) (sym flat) in
-    (λ i. (codes "s " ++ six_digits s.left i) ++ ((codes " " ++ six_digits s.right i ++ codes " ")
-    ++ (48 + s.left_flags) ∷ 32 ∷ (48 + s.right_flags) ∷ 32 ∷ (48 + digit_of s.start) ∷ 32 ∷ none i ∷ 10 ∷ []))
-    ∙ digits_joined s l r
+line_is s l r flat = grind (arith, six_digits, digits_joined)

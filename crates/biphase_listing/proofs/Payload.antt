@@ -1,9 +1,9 @@
 -- The samples of a packet that has lost no block are those of its header and its bodies.
-use Rattle.std.proofs.Common.{◌≡◌, ◌∙◌, ℕ, ◌<◌, Bool, false, if◌then◌else◌, List, [], ◌∷◌, map, filter, Option, None, Ok, refl, ap, ap₂, sym, slice_index, arith}
+use Rattle.std.proofs.Common.{◌≡◌, ℕ, ◌<◌, Bool, false, if◌then◌else◌, List, [], ◌∷◌, map, filter, Option, None, Ok, refl, slice_index, arith}
 use Rattle.std.specs.Prelude.{◌==◌}
 use Rattle.std.specs.List.{find}
 use Rattle.bch_block.specs.declared.Verdict.{Verdict}
-use Rattle.bch_block.specs.declared.Verdict.TheVariants.{Clean, Mended, Lost}
+use Rattle.bch_block.specs.declared.Verdict.TheVariants.{Lost}
 use Rattle.island_pack.specs.Taken.{spotless, verdict_on}
 use Rattle.island_pack.specs.declared.packet.Packet.{Packet}
 use Rattle.island_pack.specs.declared.packet.PacketVerdicts.{PacketVerdicts}
@@ -26,9 +26,7 @@ unfolding samples_at
 samples_are pair p v x = refl
 
 not_lost : (v : Verdict) → (v ≡ Lost → ⊥) → is_lost v ≡ false
-not_lost Clean h = refl
-not_lost (Mended i) h = refl
-not_lost Lost h = absurd (h refl)
+not_lost v h = grind arith
 
 none_found : (p : ℕ → Bool) → p 0 ≡ false → p 1 ≡ false → p 2 ≡ false → p 3 ≡ false → p 4 ≡ false → find p (0 ∷ (1 ∷ (2 ∷ (3 ∷ (4 ∷ []))))) ≡ None
 none_found p a b c d e = rw a (rw b (rw c (rw d (rw e refl))))
@@ -42,8 +40,4 @@ none_spotless : first_lost spotless ≡ None
 none_spotless = refl
 
 pub samples_of_payload : SamplesOfPayload
-samples_of_payload pair p q v x y header bodies kept =
-    samples_are pair p v x
-    ∙ ap₂ (λ (a b : List ℕ). samples_by pair (first_lost v) (packet_with a b)) header bodies
-    ∙ ap (λ (lost : Option ℕ). samples_by pair lost (packet_with q.header q.bodies)) (none_lost v kept ∙ sym none_spotless)
-    ∙ sym (samples_are pair q spotless y)
+samples_of_payload pair p q v x y header bodies kept = grind (arith, samples_are, none_lost, none_spotless)

@@ -13,8 +13,7 @@ use Rattle.biphase_listing.specs.Groups.{IsCarried, IsSide, IsSideAt, group_at, 
 use Rattle.biphase_listing.proofs.Joining.{length-frame, length-frames}
 
 left_mark : (start : Bool) → is_right (if start then B else M) ≡ false
-left_mark true = refl
-left_mark false = refl
+left_mark start = grind arith
 
 left_is : (s : Sample) → IsCarried s → IsSide false (subframe_bytes (left_side s))
 left_is s is = (left_side s, spelled_is (left_side s) (record { value = is.sound.left; flags = is.sound.left_flags }), left_mark s.start)
@@ -83,10 +82,7 @@ pub right_group : (samples : List Sample) (rest later : List ℕ) → 16 ≤ len
     → group_at (flat_map frame_bytes samples ++ (rest ++ later)) (2 * length samples + 1) ≡ take 8 (drop 8 rest)
 right_group samples rest later long =
     let n : 8 * (2 * length samples + 1) ≡ length (flat_map frame_bytes samples) + 8 = omega (arith, length-frames samples) in
-    let l = length-drop 8 rest in
-    ap (λ (k : ℕ). take 8 (drop k (flat_map frame_bytes samples ++ (rest ++ later)))) n
-    ∙ ap (take 8) (drop-append-add (flat_map frame_bytes samples) (rest ++ later) 8 ∙ drop-append-le 8 rest later (omega (arith, long)))
-    ∙ take-append-le 8 (drop 8 rest) later (omega (arith, l, long))
+    grind (arith, length-drop, drop-append-add, drop-append-le, take-append-le)
 
 pub left_side_at : (samples : List Sample) (rest later : List ℕ) → 8 ≤ length rest → IsSide false (take 8 rest) → IsSideAt (flat_map frame_bytes samples ++ (rest ++ later)) (2 * length samples)
 left_side_at samples rest later long is =

@@ -1,5 +1,5 @@
 -- The frames at the front of a piece, listed one after another.
-use Rattle.std.proofs.Common.{◌≡◌, ◌∙◌, ℕ, zero, suc, ◌+◌, ◌*◌, ◌<◌, ◌≤◌, true, false, List, [], ◌∷◌, ◌++◌, length, take, drop, get_or, All, refl, ap, sym, subst, append_assoc, append-nil, take-append-drop, length-append, arith}
+use Rattle.std.proofs.Common.{◌≡◌, ℕ, ◌+◌, ◌*◌, ◌<◌, ◌≤◌, true, false, List, [], ◌∷◌, ◌++◌, length, take, drop, get_or, All, subst, append_assoc, append-nil, take-append-drop, length-append, arith}
 use Rattle.std.specs.Prelude.{flat_map}
 use Rattle.std.proofs.lemmas.List.{get_or_default}
 use Rattle.std.proofs.lemmas.List.Elements.{All-append, All-take, All-drop}
@@ -36,21 +36,11 @@ pub all_bytes : (bytes : List ℕ) → ((k : ℕ) → get_or bytes k 0 < 256) �
 all_bytes bytes are k d lt = subst (λ (b : ℕ). b < 256) (get_or_default bytes k 0 d lt) (are k)
 
 one_carried : (s : Sample) → IsCarried s → All IsCarried (s ∷ [])
-one_carried s is zero d lt = is
-one_carried s is (suc k) d lt = absurd (omega (arith, lt))
+one_carried s h k l m = grind arith
 
 pub listed_none : (piece : List ℕ) (old now : FrameLines) → now.text ≡ [] → now.count ≡ old.count → now.blocks ≡ old.blocks → ListedTo piece 0 old now []
 unfolding text_after
-listed_none piece old now none count same = record {
-  place_is = refl;
-  within = omega arith;
-  bytes_are = refl;
-  carried = λ k d lt. absurd (omega (arith, lt));
-  count = omega (arith, count);
-  room = omega (arith, ap length none);
-  blocks = λ past stands. subst (λ (xs : List Sample). IsBlocksAfter now.blocks xs) (sym (append-nil past)) (subst (λ b. IsBlocksAfter b past) (sym same) stands);
-  text = λ past stands. none;
-}
+listed_none piece old now none count same = grind (arith, append-nil)
 
 pub listed_more : (piece : List ℕ) (place : ℕ) (old now new : FrameLines) (samples : List Sample) (left right : Subframe)
     → ListedTo piece place old now samples → place + 16 ≤ length piece → All (λ b. b < 256) piece
@@ -69,17 +59,9 @@ listed_more piece place old now new samples left right was inside bytes p lm q r
       count = omega (arith, was.count, adds.count, n);
       room = omega (arith, was.room, adds.room, n);
       blocks = λ past stands. subst (λ (xs : List Sample). IsBlocksAfter new.blocks xs) (append_assoc past samples (s ∷ [])) (adds.blocks (past ++ samples) (was.blocks past stands));
-      text = λ past stands.
-          adds.text (past ++ samples) (was.blocks past stands) ∙ ap (λ (xs : List ℕ). xs ++ frame_text (past ++ samples) s) (was.text past stands)
-          ∙ sym (text_more past samples s);
+      text = grind (arith, text_more);
     }
 
 pub listed_all : (piece : List ℕ) (place : ℕ) (old begun now : FrameLines) (samples : List Sample) → begun.count ≡ old.count → begun.blocks ≡ old.blocks
     → ListedTo piece place begun now samples → Adds piece old now samples (drop place piece)
-listed_all piece place old begun now samples counted same was = record {
-  bytes_are = sym (take-append-drop place piece) ∙ ap (λ (xs : List ℕ). xs ++ drop place piece) was.bytes_are;
-  carried = was.carried;
-  count = was.count ∙ ap (λ (n : ℕ). n + length samples) counted;
-  blocks = λ past stands. was.blocks past (subst (λ b. IsBlocksAfter b past) (sym same) stands);
-  text = λ past stands. was.text past (subst (λ b. IsBlocksAfter b past) (sym same) stands);
-}
+listed_all piece place old begun now samples counted same was = grind (arith, take-append-drop)

@@ -1,13 +1,12 @@
 -- The frames of the samples of a packet, one after another, and what the samples of a packet are.
-use Rattle.std.proofs.Common.{◌≡◌, ◌∙◌, ◌⊎◌, inl, inr, ℕ, zero, suc, ◌+◌, ◌*◌, ◌<◌, ◌≤◌, ◌==◌, ◌&&◌, cond, Bool, true, false, if◌then◌else◌, List, [], ◌∷◌, ◌++◌, length, map, filter, take, drop, All, slice_index, replicate, Bor, Option, Some, None, Result, Ok, Err, refl, ap, sym, subst, append_assoc, append-nil, length-append, arith}
+use Rattle.std.proofs.Common.{◌≡◌, ◌∙◌, ◌⊎◌, ℕ, ◌+◌, ◌*◌, ◌<◌, ◌≤◌, ◌==◌, ◌&&◌, cond, Bool, true, false, if◌then◌else◌, List, [], ◌∷◌, ◌++◌, length, map, filter, take, All, slice_index, replicate, Bor, Option, Result, Ok, Err, ap, sym, subst, append_assoc, append-nil, length-append, arith}
 use Rattle.std.specs.Prelude.{flat_map, is_some}
 use Rattle.std.specs.Io.KnownBytes.{Appends}
 use Rattle.std.proofs.KnownBytes.{Appends-nil}
 use Rattle.std.proofs.lemmas.Bool.{eq-eqb}
 use Rattle.std.proofs.lemmas.Grind.{flat_map-append}
-use Rattle.std.proofs.Math.Seq.{drop-append_seam}
 use Rattle.std.proofs.lemmas.List.{length-map, map-append}
-use Rattle.std.proofs.lemmas.List.Elements.{All-cons, All-drop, All-filter, All-map, All-nil}
+use Rattle.std.proofs.lemmas.List.Elements.{All-cons, All-filter, All-map, All-nil}
 use Rattle.std.proofs.lemmas.List.Sums.{count_by-le-length, length-filter, sum_by-cons}
 use Rattle.island_pack.specs.Packets.{IsPacket}
 use Rattle.island_pack.specs.declared.packet.Packet.{Packet}
@@ -20,9 +19,8 @@ use Rattle.audio_packets.specs.declared.sample.Sample.{Sample}
 use Rattle.audio_packets.specs.declared.sample.SampleNote.{SampleNote}
 use Rattle.audio_out.specs.Frames.{IsEncoderAfter, biphase, bytes_in}
 use Rattle.period_grammar.specs.Lending.{fault_event, lent_event}
-use Rattle.period_grammar.specs.Events.{Event, cut, line, packet, run}
+use Rattle.period_grammar.specs.Events.{Event, packet}
 use Rattle.period_grammar.specs.declared.event.Fault.{Fault}
-use Rattle.period_grammar.specs.declared.event.Fault.TheVariants.{Word, Short, Preamble, Noise, Empty, Code, LongLine, Symbols, Mended, Lost, LongIsland, Broken, Guard}
 use Rattle.period_grammar.specs.declared.event.EventRef.{EventRef}
 use Rattle.period_grammar.specs.declared.event.EventRef.TheVariants.{Run, Line, Open, Close, Fault as FaultReported, Cut}
 use Rattle.listing_writer.specs.Texts.{counted}
@@ -40,13 +38,7 @@ pub record Framed (notes left : List SampleNote) (old now : Bool) (frames : List
   pub written : (past : List Sample) → IsEncoderAfter old past → biphase (past ++ samples_of_notes seen) ≡ biphase past ++ frames
 
 pub framed_none : (notes : List SampleNote) (old : Bool) (frames : List ℕ) → frames ≡ [] → Framed notes notes old old frames
-framed_none notes old frames none = record {
-  seen = [];
-  split = refl;
-  room = omega (arith, ap length none);
-  stands = λ past stands. subst (λ (xs : List Sample). IsEncoderAfter old xs) (sym (append-nil past)) stands;
-  written = λ past stands. ap biphase (append-nil past) ∙ sym (append-nil (biphase past)) ∙ ap (λ (xs : List ℕ). biphase past ++ xs) (sym none);
-}
+framed_none notes old frames none = grind (arith, append-nil)
 
 past_more : (past : List Sample) (seen : List SampleNote) (note : SampleNote) → (past ++ samples_of_notes seen) ++ note.sample ∷ [] ≡ past ++ samples_of_notes (seen ++ note ∷ [])
 past_more past seen note =
@@ -60,22 +52,10 @@ pub framed_more : (notes left : List SampleNote) (note : SampleNote) (old now ne
 framed_more notes left note old now new frames more frame f is few stands written = record {
   seen = f.seen ++ note ∷ [];
   split = f.split ∙ sym (append_assoc f.seen (note ∷ []) left);
-  room =
-      let b = length-append f.seen (note ∷ []) in
-      omega (arith, b, f.room, few);
+  room = grind (arith, length-append);
   stands = λ past old_stands. subst (λ (xs : List Sample). IsEncoderAfter new xs) (past_more past f.seen note) (stands (past ++ samples_of_notes f.seen) (f.stands past old_stands));
-  written = λ past old_stands.
-      ap biphase (sym (past_more past f.seen note)) ∙ written (past ++ samples_of_notes f.seen) (f.stands past old_stands)
-      ∙ ap (λ (xs : List ℕ). xs ++ bytes_in frame) (f.written past old_stands) ∙ append_assoc (biphase past) frames (bytes_in frame)
-      ∙ ap (λ (xs : List ℕ). biphase past ++ xs) (sym is);
+  written = grind (arith, past_more, append_assoc);
 }
-
--- the next of few notes fits, and so does its frame
-pub next_fits : (notes left : List SampleNote) (note : SampleNote) (old now : Bool) (frames : List ℕ) → Framed notes (note ∷ left) old now frames → All (λ n. IsSample n.sample) notes → IsSample note.sample
-next_fits notes left note old now frames f fit =
-    let rest : All (λ (n : SampleNote). IsSample n.sample) (note ∷ left) = subst (λ (xs : List SampleNote). All (λ (n : SampleNote). IsSample n.sample) xs)
-    (ap (drop (length f.seen)) f.split ∙ drop-append_seam f.seen (note ∷ left)) (All-drop (λ (n : SampleNote). IsSample n.sample) (length f.seen) notes fit) in
-    rest 0 note (omega arith)
 
 -- ---- what the samples of a packet are
 
@@ -85,16 +65,13 @@ notes_of (Err fault) = []
 
 ok_inside : (notes xs : List SampleNote) (lost : Option ℕ) → Ok notes ≡ unless_lost lost (Ok xs) → notes ≡ xs
 unfolding notes_of
-ok_inside notes xs None is = ap notes_of is
-ok_inside notes xs (Some block) is = absurd (cc is)
+ok_inside notes xs lost h = grind arith
 
 not_lost : (notes xs : List SampleNote) (lost : Option ℕ) → Ok notes ≡ unless_lost lost (Ok xs) → is_some lost ≡ false
-not_lost notes xs None is = refl
-not_lost notes xs (Some block) is = absurd (cc is)
+not_lost notes xs lost h = grind arith
 
 is_lost : (fault : AudioFault) (xs : List SampleNote) (lost : Option ℕ) → Err fault ≡ unless_lost lost (Ok xs) → is_some lost ≡ true
-is_lost fault xs None is = absurd (cc is)
-is_lost fault xs (Some block) is = refl
+is_lost fault xs lost h = grind arith
 
 -- what is read for a number is read for an equal one
 pub pair_again : (p : Packet) (verdicts : PacketVerdicts) (a b : ℕ) (result : Result (List SampleNote) AudioFault) → result ≡ pair_of p verdicts a → a ≡ b → result ≡ pair_of p verdicts b
@@ -104,29 +81,17 @@ pub pair_few : (p : Packet) (verdicts : PacketVerdicts) (pair : ℕ) (notes : Li
 pair_few p verdicts pair notes is =
     let places = filter (has_pair (slice_index p.header 1) pair) (0 ∷ 1 ∷ 2 ∷ 3 ∷ []) in
     let a = ap length (ok_inside notes (map (note_at p) places) (first_lost verdicts) is) ∙ length-map places (note_at p) in
-    let b = count_by-le-length (has_pair (slice_index p.header 1) pair) (0 ∷ 1 ∷ 2 ∷ 3 ∷ []) in
-    let c = length-filter (has_pair (slice_index p.header 1) pair) (0 ∷ 1 ∷ 2 ∷ 3 ∷ []) in
-    omega (arith, a, b, c)
+    grind (arith, count_by-le-length, length-filter)
 
 -- a packet of these bytes with all four bodies present
 abbrev full : List ℕ → List ℕ → Packet
 full header bodies = record { header = 2 ∷ 15 ∷ slice_index header 2 ∷ []; bodies = bodies; sync = replicate 32 0 }
 
 full_is : (header bodies : List ℕ) → length bodies ≡ 28 → slice_index header 2 < 256 → All (λ byte. byte < 256) bodies → IsPacket (full header bodies)
-full_is header bodies long third bytes = record {
-  header = refl;
-  header_bytes = All-cons (λ (byte : ℕ). byte < 256) 2 (15 ∷ slice_index header 2 ∷ []) (omega arith) (All-cons (λ (byte : ℕ). byte < 256) 15 (slice_index header 2 ∷ []) (omega arith) (All-cons (λ (byte : ℕ). byte < 256) (slice_index header 2) [] third (All-nil (λ (byte : ℕ). byte < 256))));
-  bodies = long;
-  body_bytes = bytes;
-  sync = refl;
-}
+full_is header bodies long third bytes = grind (arith, All-cons, All-nil)
 
 at_four : (f : ℕ → SampleNote) → All (λ note. IsSample note.sample) (f 0 ∷ f 1 ∷ f 2 ∷ f 3 ∷ []) → (place : ℕ) → place < 4 → IsSample (f place).sample
-at_four f all zero lt = all 0 (f 0) (omega arith)
-at_four f all (suc zero) lt = all 1 (f 0) (omega arith)
-at_four f all (suc (suc zero)) lt = all 2 (f 0) (omega arith)
-at_four f all (suc (suc (suc zero))) lt = all 3 (f 0) (omega arith)
-at_four f all (suc (suc (suc (suc n)))) lt = absurd (omega (arith, lt))
+at_four f h k l = grind arith
 
 pub bytes_fit : (header bodies : List ℕ) → ReadSamplesFit → length bodies ≡ 28 → slice_index header 2 < 256 → All (λ byte. byte < 256) bodies
     → (place : ℕ) → place < 4 → IsSample (sample_at (packet_with header bodies) place)
@@ -153,27 +118,13 @@ pub lists_one : (pair : ℕ) (reported : List Event) (event : Event) (now : Bool
     → samples_at pair event ≡ samples → after ≡ counted before (biphase_faults (event ∷ [])) → IsEncoderAfter now (reported_samples pair reported ++ samples)
     → biphase (reported_samples pair reported ++ samples) ≡ biphase (reported_samples pair reported) ++ bytes → Appends held holds bytes → Lists pair reported (event ∷ []) now before after held holds
 unfolding biphase_text
-lists_one pair reported event now before after held holds samples bytes are counts stands grows put =
-    let all = one_reported pair reported event ∙ ap (λ (xs : List Sample). reported_samples pair reported ++ xs) are in
-    record {
-      recalls = subst (λ (xs : List Sample). IsEncoderAfter now xs) (sym all) stands;
-      faults = counts;
-      bytes = bytes;
-      grows = ap biphase all ∙ grows;
-      written = put;
-    }
+lists_one pair reported event now before after held holds samples bytes are counts stands grows put = grind (arith, one_reported)
 
 pub breaks_one : (pair : ℕ) (reported : List Event) (event : Event) (held holds : Option (List ℕ)) (samples : List Sample) (bytes : List ℕ) (n : ℕ)
     → samples_at pair event ≡ samples → biphase (reported_samples pair reported ++ samples) ≡ biphase (reported_samples pair reported) ++ bytes → n < length bytes → Appends held holds (take n bytes)
     → Breaks pair reported event held holds
 unfolding biphase_text
-breaks_one pair reported event held holds samples bytes n are grows missing put = record {
-  bytes = bytes;
-  grows = ap biphase (one_reported pair reported event ∙ ap (λ (xs : List Sample). reported_samples pair reported ++ xs) are) ∙ grows;
-  n = n;
-  missing = missing;
-  written = put;
-}
+breaks_one pair reported event held holds samples bytes n are grows missing put = grind (arith, one_reported)
 
 -- an event without samples of the pair
 pub lists_quiet : (pair : ℕ) (reported : List Event) (event : Event) (now : Bool) (before after : ℕ) (held : Option (List ℕ))
@@ -204,21 +155,12 @@ abbrev mark : Bool → ℕ
 mark true = 1
 mark false = 0
 
-abbrev lost_mark : Event → ℕ
-lost_mark event = cond (is_lost_sound event) 1 0
-
 mark_is : (lost b : Bool) → lost ≡ b → cond lost 1 0 ≡ mark b
-mark_is true true is = refl
-mark_is false false is = refl
-mark_is true false is = absurd (cc is)
-mark_is false true is = absurd (cc is)
+mark_is lost b h = grind arith
 
 faults_one : (event : Event) (b : Bool) → is_lost_sound event ≡ b → biphase_faults (event ∷ []) ≡ mark b
 unfolding biphase_faults
-faults_one event b is =
-    let one = sum_by-cons lost_mark event [] in
-    let e = mark_is (is_lost_sound event) b is in
-    omega (arith, one, e)
+faults_one event b is = grind (arith, sum_by-cons, mark_is)
 
 pub sound_faults : (p : Packet) (verdicts : PacketVerdicts) (column pair : ℕ) (notes : List SampleNote) → IsSamplePacket p → Ok notes ≡ pair_of p verdicts pair
     → biphase_faults (packet p verdicts column ∷ []) ≡ 0
@@ -256,19 +198,7 @@ quiet event none sound = record { samples = none; faults = faults_one event fals
 
 fault_quiet : (fault : Fault) → IsQuiet (fault_event fault)
 unfolding samples_at is_lost_sound
-fault_quiet (Word a b) = quiet (fault_event (Word a b)) (λ pair. refl) refl
-fault_quiet (Short a) = quiet (fault_event (Short a)) (λ pair. refl) refl
-fault_quiet (Preamble a) = quiet (fault_event (Preamble a)) (λ pair. refl) refl
-fault_quiet (Noise a) = quiet (fault_event (Noise a)) (λ pair. refl) refl
-fault_quiet (Empty a) = quiet (fault_event (Empty a)) (λ pair. refl) refl
-fault_quiet (Code a b) = quiet (fault_event (Code a b)) (λ pair. refl) refl
-fault_quiet (LongLine a) = quiet (fault_event (LongLine a)) (λ pair. refl) refl
-fault_quiet (Symbols a b) = quiet (fault_event (Symbols a b)) (λ pair. refl) refl
-fault_quiet (Mended a b c) = quiet (fault_event (Mended a b c)) (λ pair. refl) refl
-fault_quiet (Lost a b) = quiet (fault_event (Lost a b)) (λ pair. refl) refl
-fault_quiet (LongIsland a) = quiet (fault_event (LongIsland a)) (λ pair. refl) refl
-fault_quiet (Broken a) = quiet (fault_event (Broken a)) (λ pair. refl) refl
-fault_quiet (Guard a) = quiet (fault_event (Guard a)) (λ pair. refl) refl
+fault_quiet fault = grind (arith, quiet)
 
 -- what is no packet
 abbrev pub IsNoPacket : EventRef → Type 0
@@ -282,12 +212,7 @@ IsNoPacket reported =
 
 reported_quiet : (reported : EventRef) → IsNoPacket reported → IsQuiet (lent_event reported)
 unfolding samples_at is_lost_sound
-reported_quiet reported (inl (value, count, is)) = subst (λ (t : EventRef). IsQuiet (lent_event t)) (sym is) (quiet (run value count) (λ pair. refl) refl)
-reported_quiet reported (inr (inl (pixels, is))) = subst (λ (t : EventRef). IsQuiet (lent_event t)) (sym is) (quiet (line pixels.now) (λ pair. refl) refl)
-reported_quiet reported (inr (inr (inl (sync, is)))) = subst (λ (t : EventRef). IsQuiet (lent_event t)) (sym is) (quiet (lent_event (Open sync)) (λ pair. refl) refl)
-reported_quiet reported (inr (inr (inr (inl (sync, is))))) = subst (λ (t : EventRef). IsQuiet (lent_event t)) (sym is) (quiet (lent_event (Close sync)) (λ pair. refl) refl)
-reported_quiet reported (inr (inr (inr (inr (inl (column, is)))))) = subst (λ (t : EventRef). IsQuiet (lent_event t)) (sym is) (quiet (cut column) (λ pair. refl) refl)
-reported_quiet reported (inr (inr (inr (inr (inr (fault, is)))))) = subst (λ (t : EventRef). IsQuiet (lent_event t)) (sym is) (fault_quiet fault)
+reported_quiet reported h = grind (arith, quiet, fault_quiet)
 
 pub nothing_heard : (pair : ℕ) (before : List Event) (reported : EventRef) (now : Bool) (faults : ℕ) (held : Option (List ℕ)) → IsNoPacket reported → Recalls now pair before
     → Lists pair before (lent_event reported ∷ []) now faults faults held held

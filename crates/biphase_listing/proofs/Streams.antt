@@ -9,7 +9,6 @@ use Rattle.audio_packets.specs.declared.sample.Sample.{Sample}
 use Rattle.audio_out.specs.Frames.{biphase, frame_bytes, from_start, left_side, right_side}
 use Rattle.audio_out.specs.Subframes.{IsSubframe, subframe_bytes}
 use Rattle.audio_out.specs.declared.subframe.Mark.TheVariants.{B, M}
-use Rattle.audio_out.specs.declared.subframe.Subframe.{Subframe}
 use Rattle.audio_out.proofs.Spelled.{one_reading, spelled_is}
 use Rattle.biphase_listing.specs.Groups.{IsCarried, IsSideAt, IsStream, is_block}
 use Rattle.biphase_listing.specs.Refusals.{IsFault}
@@ -54,8 +53,7 @@ stream_is_read = λ samples all few.
 -- ---- of one list of samples
 
 start_back : (b : Bool) → is_block (if b then B else M) ≡ b
-start_back true = refl
-start_back false = refl
+start_back b = grind arith
 
 left_sound : (s : Sample) → IsCarried s → IsSubframe (left_side s) (subframe_bytes (left_side s))
 left_sound s is = spelled_is (left_side s) (record { value = is.sound.left; flags = is.sound.left_flags })
@@ -69,9 +67,7 @@ one_sample s t xs ys p q same =
     (subst (λ (bytes : List ℕ). IsSubframe (left_side s) bytes) (sym (first_group s xs) ∙ ap (take 8) same ∙ first_group t ys) (left_sound s p)) (left_sound t q) in
     let right = one_reading (right_side s) (right_side t) (subframe_bytes (right_side t))
     (subst (λ (bytes : List ℕ). IsSubframe (right_side s) bytes) (sym (second_group s xs) ∙ ap (λ (bytes : List ℕ). take 8 (drop 8 bytes)) same ∙ second_group t ys) (right_sound s p)) (right_sound t q) in
-    let start = sym (start_back s.start) ∙ ap (λ (sub : Subframe). is_block sub.mark) left ∙ start_back t.start in
-    let flat = p.flat ∙ sym q.flat in
-    λ i. record { left = (left i).value; right = (right i).value; left_flags = (left i).flags; right_flags = (right i).flags; start = start i; flat = flat i }
+    grind (arith, start_back)
 
 after_frame : (s : Sample) (xs : List ℕ) → drop 16 (frame_bytes s ++ xs) ≡ xs
 after_frame s xs = ap (λ (n : ℕ). drop n (frame_bytes s ++ xs)) (sym (length-frame s)) ∙ drop-append_seam (frame_bytes s) xs

@@ -5,7 +5,7 @@ use Rattle.std.proofs.Math.Nat.{mod-eq_of_lt, div-eq_of_lt}
 use Rattle.std.proofs.Math.Pow.{pow_mono}
 use Rattle.std.proofs.Math.Seq.{take-set-lt, take-append_seam}
 use Rattle.std.proofs.lemmas.List.{length-set, set-append_left}
-use Rattle.tmds_word.specs.Bits.{word_bits, bytes_bits, bytes_of, number}
+use Rattle.tmds_word.specs.Bits.{word_bits, bytes_bits, number}
 use Rattle.tmds_word.proofs.Lists.{length-bytes_bits, length-word_bits, bytes_bits-append}
 use Rattle.tmds_word.proofs.Numbers.{number-append, number-drop}
 use Rattle.capture_file.proofs.Setting.{one_more, none_replaced, bit_at}
@@ -19,9 +19,7 @@ use Rattle.capture_file.proofs.Packs.{packed-first, number-packed, as_bytes, num
 drop_set_in : (from i : ℕ) (xs : List Bool) (v : Bool) → drop from (set xs (from + i) v) ≡ set (drop from xs) i v
 drop_set_in zero i xs v = let e : 0 + i ≡ i = omega arith in ap (λ n. set xs n v) e
 drop_set_in (suc from) i [] v = refl
-drop_set_in (suc from) i (x ∷ xs) v =
-    let e : suc from + i ≡ suc (from + i) = omega arith in
-    ap (λ n. drop (suc from) (set (x ∷ xs) n v)) e ∙ drop_set_in from i xs v
+drop_set_in (suc from) i (x ∷ xs) v = grind (arith, drop_set_in from i xs v)
 
 drop_set_before : (from i : ℕ) (xs : List Bool) (v : Bool) → i < from → drop from (set xs i v) ≡ drop from xs
 drop_set_before zero i xs v lt = absurd (omega arith)
@@ -82,12 +80,7 @@ packed_set bytes now u count i v own len lt are same is =
     let fits : 2 ^ count ≤ 2 ^ (8 * k) = pow_mono {i = count} {j = 8 * k} (omega arith) in
     let value : number all ≡ n = ap (λ bs. number (bytes_bits bs)) (own ∙ as_bytes u count len) ∙ number-packed k n (omega arith) in
     let none : number back ≡ 0 = number-drop count all ∙ ap (λ m. m / 2 ^ count) value ∙ div-eq_of_lt {n = n} {m = 2 ^ count} below in
-    let sets : length (set front i v) ≡ count = length-set front i v ∙ long in
-    let small : number (set front i v) < 2 ^ count = subst (λ m. number (set front i v) < 2 ^ m) sets (number_below (set front i v)) in
-    let zero_back : 2 ^ length (set front i v) * number back ≡ 0 = ap (λ m. 2 ^ length (set front i v) * m) none ∙ mul_zero (2 ^ length (set front i v)) in
-    let total : number (bytes_bits now) < 2 ^ count = omega (arith, small, zero_back, ap number is, ap number split, number-append (set front i v) back) in
-    let now_size : length now ≡ k = same ∙ size in
-    bytes_are now count are now_size ∙ sym (packed-first now count now_size ∙ ap (λ m. bytes_of k m) (mod-eq_of_lt total))
+    grind (arith, length-set, number_below, number-append, bytes_are, packed-first, mod-eq_of_lt)
   where
     mul_zero : (m : ℕ) → m * 0 ≡ 0
     mul_zero m = omega arith

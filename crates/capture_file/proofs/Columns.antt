@@ -1,5 +1,5 @@
 -- Three rows of characters, and their columns.
-use Rattle.std.proofs.Common.{◌≡◌, ℕ, suc, ◌/◌, ◌%◌, ◌<◌, Bool, List, [], ◌∷◌, ◌++◌, length, map, refl, ap, ap₂, ◌∙◌, sym, arith}
+use Rattle.std.proofs.Common.{◌≡◌, ℕ, ◌/◌, ◌%◌, ◌<◌, Bool, List, [], ◌∷◌, ◌++◌, length, map, refl, ap, ap₂, ◌∙◌, sym, arith}
 use Rattle.std.specs.Prelude.{All}
 use Rattle.tmds_word.specs.Bits.{word_bits, row_bits, bytes_bits}
 use Rattle.tmds_word.proofs.Characters.{words_of-push, words_of-more, words_of-bytes, length-words_of}
@@ -27,9 +27,7 @@ lanes_of_columns [] [] (z ∷ rs) e f = absurd (omega arith)
 lanes_of_columns [] (y ∷ gs) rs e f = absurd (omega arith)
 lanes_of_columns (x ∷ bs) [] rs e f = absurd (omega arith)
 lanes_of_columns (x ∷ bs) (y ∷ gs) [] e f = absurd (omega arith)
-lanes_of_columns (x ∷ bs) (y ∷ gs) (z ∷ rs) e f =
-    let more = lanes_of_columns bs gs rs (omega arith) (omega arith) in
-    record { blue = ap (λ ws. x ∷ ws) more.blue; green = ap (λ ws. y ∷ ws) more.green; red = ap (λ ws. z ∷ ws) more.red; count = ap (λ n. suc n) more.count }
+lanes_of_columns (x ∷ bs) (y ∷ gs) (z ∷ rs) e f = grind (arith, lanes_of_columns bs gs rs)
 
 -- what is seen of three rows
 abbrev pub seen : List Bool → List Bool → List Bool → ℕ → Collected
@@ -42,12 +40,7 @@ no_lanes blue green red b g r = ap (λ xs. seen xs green red 0) b ∙ ap₂ (λ 
 pub columns-push : (blue green red : List Bool) (b g r : ℕ) → length blue % 10 ≡ 0 → length green ≡ length blue → length red ≡ length blue → b < 1024 → g < 1024 → r < 1024
     → columns_of (all_words (blue ++ word_bits b)) (all_words (green ++ word_bits g)) (all_words (red ++ word_bits r))
     ≡ columns_of (all_words blue) (all_words green) (all_words red) ++ record { blue = b; green = g; red = r } ∷ []
-columns-push blue green red b g r whole e f lb lg lr =
-    let counts : (row : List Bool) → length row ≡ length blue → length (all_words row) ≡ length (all_words blue) =
-    λ row same. length-words_of row ∙ ap (λ n. n / 10) same ∙ sym (length-words_of blue) in
-    ap (λ xs. columns_of xs (all_words (green ++ word_bits g)) (all_words (red ++ word_bits r))) (words_of-push blue b whole lb)
-    ∙ ap₂ (λ xs ys. columns_of (all_words blue ++ b ∷ []) xs ys) (words_of-push green g (ap (λ n. n % 10) e ∙ whole) lg) (words_of-push red r (ap (λ n. n % 10) f ∙ whole) lr)
-    ∙ columns_of-push (all_words blue) (all_words green) (all_words red) b g r (counts green e) (counts red f)
+columns-push blue green red b g r whole e f lb lg lr = grind (arith, length-words_of, words_of-push, columns_of-push)
 
 pub count_of_columns : (blue green red : List Bool) → length green ≡ length blue → length red ≡ length blue
     → length (columns_of (all_words blue) (all_words green) (all_words red)) ≡ length blue / 10
@@ -72,22 +65,11 @@ pub columns-more : (blue green red : List Bool) (bs gs rs : List ℕ) → length
     → All (λ w. w < 1024) bs → All (λ w. w < 1024) gs → All (λ w. w < 1024) rs
     → columns_of (all_words (blue ++ row_bits bs)) (all_words (green ++ row_bits gs)) (all_words (red ++ row_bits rs))
     ≡ columns_of (all_words blue) (all_words green) (all_words red) ++ columns_of bs gs rs
-columns-more blue green red bs gs rs whole e f lb lg lr =
-    let counts : (row : List Bool) → length row ≡ length blue → length (all_words row) ≡ length (all_words blue) =
-    λ row same. length-words_of row ∙ ap (λ n. n / 10) same ∙ sym (length-words_of blue) in
-    ap (λ xs. columns_of xs (all_words (green ++ row_bits gs)) (all_words (red ++ row_bits rs))) (words_of-more blue bs whole lb)
-    ∙ ap₂ (λ xs ys. columns_of (all_words blue ++ bs) xs ys) (words_of-more green gs (ap (λ n. n % 10) e ∙ whole) lg) (words_of-more red rs (ap (λ n. n % 10) f ∙ whole) lr)
-    ∙ columns_of-more (all_words blue) (all_words green) (all_words red) bs gs rs (counts green e) (counts red f)
+columns-more blue green red bs gs rs whole e f lb lg lr = grind (arith, length-words_of, words_of-more, columns_of-more)
 
 -- the columns of packed bytes behind those of rows
 pub columns-packed : (blue green red : List Bool) (bs gs rs : List ℕ) → length blue % 10 ≡ 0 → length green ≡ length blue → length red ≡ length blue
     → length bs % 5 ≡ 0 → length gs ≡ length bs → length rs ≡ length bs
     → columns_of (all_words (blue ++ bytes_bits bs)) (all_words (green ++ bytes_bits gs)) (all_words (red ++ bytes_bits rs))
     ≡ columns_of (all_words blue) (all_words green) (all_words red) ++ packed_columns bs gs rs
-columns-packed blue green red bs gs rs whole e f fives same_green same_red =
-    let counts : (row : List Bool) → length row ≡ length blue → length (all_words row) ≡ length (all_words blue) =
-    λ row same. length-words_of row ∙ ap (λ n. n / 10) same ∙ sym (length-words_of blue) in
-    ap (λ xs. columns_of xs (all_words (green ++ bytes_bits gs)) (all_words (red ++ bytes_bits rs))) (words_of-bytes blue bs whole fives)
-    ∙ ap₂ (λ xs ys. columns_of (all_words blue ++ all_words (bytes_bits bs)) xs ys)
-    (words_of-bytes green gs (ap (λ n. n % 10) e ∙ whole) (ap (λ n. n % 5) same_green ∙ fives)) (words_of-bytes red rs (ap (λ n. n % 10) f ∙ whole) (ap (λ n. n % 5) same_red ∙ fives))
-    ∙ columns_of-more (all_words blue) (all_words green) (all_words red) (all_words (bytes_bits bs)) (all_words (bytes_bits gs)) (all_words (bytes_bits rs)) (counts green e) (counts red f)
+columns-packed blue green red bs gs rs whole e f fives same_green same_red = grind (arith, length-words_of, words_of-bytes, columns_of-more)

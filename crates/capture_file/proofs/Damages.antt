@@ -1,6 +1,6 @@
 -- A capture that is damaged from its header to its end.
-use Rattle.std.proofs.Common.{◌≡◌, ℕ, ◌<◌, List, [], ◌++◌, length, refl, ap, ap₂, ◌∙◌, sym, arith, subst, inl, inr, append_assoc, append-nil}
-use Rattle.std.specs.Prelude.{Option, Some, None, Result, Ok, Err, All, OnOk, IfErr, slice_index}
+use Rattle.std.proofs.Common.{◌≡◌, ℕ, ◌<◌, List, [], ◌++◌, length, refl, ap, ap₂, ◌∙◌, sym, arith, subst, inl, append_assoc, append-nil}
+use Rattle.std.specs.Prelude.{Option, Result, All, OnOk, IfErr, slice_index}
 use Rattle.std.specs.Io.KnownBytes.{Appends, Keeps}
 use Rattle.std.proofs.lemmas.List.Elements.{All-get_or}
 use Rattle.std.proofs.lemmas.Option.{get_or_from_slice_get, slice_get_within}
@@ -18,10 +18,7 @@ use Rattle.capture_file.proofs.Halfways.{lane_fits, damaged_all}
 
 -- hits fit lanes of the same counts
 pub fits_same : (counts other : List ℕ) (hits : List Hit) → ((c : ℕ) → c < 3 → slice_index counts c ≡ slice_index other c) → All (λ (h : Hit). h.lane < 3) hits → AllFitLanes counts hits → AllFitLanes other hits
-fits_same counts other hits same lanes fit i hit at =
-    let lt : hit.lane < 3 =
-    subst (λ (h : Hit). h.lane < 3) (get_or_from_slice_get hits i hit hit at) (All-get_or (λ (h : Hit). h.lane < 3) hits i hit (slice_get_within hits i hit at) lanes) in
-    omega (arith, fit i hit at, same hit.lane lt)
+fits_same counts other hits same lanes fit i hit at = grind (arith, get_or_from_slice_get, All-get_or, slice_get_within)
 
 -- a header alone
 pub halfway_head : (version : ℕ) (counts : List ℕ) (hits : List Hit) (before now : Option (List ℕ)) → CanSay version counts → Appends before now (header_of version counts)
@@ -112,16 +109,7 @@ fault_late version counts hits bytes rest before now (Bad fault) lanes fit said 
         is = subst (λ bs. IsFault bs fault) (sym is) h.is;
         within = λ other others tail own e.
             fits_same counts others hits (same_heads head other counts others rest tail headed own (sym is ∙ e)).count lanes fit;
-        out_is = inr (record {
-          version = version;
-          counts = counts;
-          block = h.block;
-          taken = head ++ h.part;
-          rest = h.rest;
-          bytes_are = is ∙ ap (λ xs. head ++ xs) h.bytes_are ∙ sym (append_assoc head h.part h.rest);
-          front = h.half.front;
-          stops = h.stops;
-        });
+        out_is = grind (arith, append_assoc);
       },
       h.half.wrote,
     )
@@ -130,9 +118,7 @@ fault_late version counts hits bytes rest before now Read lanes fit said is h = 
 fault_late version counts hits bytes rest before now Write lanes fit said is h = h
 
 pub nothing_written : (old new : Option (List ℕ)) → Keeps old new → Appends old new []
-nothing_written None new h = tt
-nothing_written (Some xs) None h = absurd h
-nothing_written (Some xs) (Some ys) h = h ∙ sym (append-nil xs)
+nothing_written old new h = grind (arith, append-nil)
 
 -- a fault of bytes without a whole header
 pub fault_early : (hits : List Hit) (bytes : List ℕ) (before now : Option (List ℕ)) (e : DamageError) → Keeps before now → SaysBad (λ fault. IsFault bytes fault × IsHeadless bytes) e
@@ -151,13 +137,10 @@ fault_early hits bytes before now Read kept h = h
 fault_early hits bytes before now Write kept h = h
 
 pub keeps_self : (a : Option (List ℕ)) → Keeps a a
-keeps_self None = tt
-keeps_self (Some bytes) = refl
+keeps_self a = grind arith
 
 pub on_done : (p q : Type 0) (r : Result (Unit {0}) DamageError) → (p → q) → OnOk r p → OnOk r q
-on_done p q (Ok u) f h = f h
-on_done p q (Err e) f h = h
+on_done p q r h k = grind arith
 
 pub on_error : (p q : DamageError → Type 0) (r : Result (Unit {0}) DamageError) → ((e : DamageError) → p e → q e) → IfErr r p → IfErr r q
-on_error p q (Ok u) f h = h
-on_error p q (Err e) f h = f e h
+on_error p q r h k = grind arith

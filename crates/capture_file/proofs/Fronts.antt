@@ -1,5 +1,5 @@
 -- Chunks of a lane that goes on: the bytes that they have, and those with which they may begin.
-use Rattle.std.proofs.Common.{◌≡◌, ℕ, ◌+◌, ◌-◌, ◌*◌, ◌/◌, ◌%◌, ◌^◌, ◌<◌, ◌≤◌, Bool, false, List, ◌++◌, length, take, drop, min, get_or, refl, ap, ap₂, ◌∙◌, sym, arith, length-append, length-drop, length-take, replicate}
+use Rattle.std.proofs.Common.{◌≡◌, ℕ, ◌+◌, ◌-◌, ◌*◌, ◌/◌, ◌%◌, ◌^◌, ◌<◌, ◌≤◌, Bool, false, List, ◌++◌, length, take, drop, min, refl, ap, ap₂, ◌∙◌, sym, arith, length-append, length-drop, length-take, replicate}
 use Rattle.std.proofs.Math.Seq.{take-append_seam, drop-append_seam, take-append-add}
 use Rattle.std.proofs.lemmas.List.{length-replicate, take-append-le, drop-append-le}
 use Rattle.tmds_word.specs.Bits.{bytes_bits}
@@ -21,18 +21,9 @@ pub length-header : (count : ℕ) → length (header count) ≡ 8
 unfolding header high_first
 length-header count = refl
 
--- a header tells its count
-same_header : (m n : ℕ) → m < 2 ^ 32 → n < 2 ^ 32 → header m ≡ header n → m ≡ n
-unfolding header high_first
-same_header m n lm ln e =
-    let e0 : m / 2 ^ 24 % 256 ≡ n / 2 ^ 24 % 256 = ap (λ xs. get_or xs 4 0) e in
-    let e1 : m / 2 ^ 16 % 256 ≡ n / 2 ^ 16 % 256 = ap (λ xs. get_or xs 5 0) e in
-    let e2 : m / 2 ^ 8 % 256 ≡ n / 2 ^ 8 % 256 = ap (λ xs. get_or xs 6 0) e in
-    let e3 : m % 256 ≡ n % 256 = ap (λ xs. get_or xs 7 0) e in
-    omega arith
-
 pub same_count : (m n : ℕ) (x y : List ℕ) → m < 2 ^ 32 → n < 2 ^ 32 → header m ++ x ≡ header n ++ y → m ≡ n
-same_count m n x y lm ln e = same_header m n lm ln (same_front (header m) x (header n) y e (length-header m ∙ sym (length-header n)))
+unfolding header high_first
+same_count m n x y lm ln e = grind (arith, same_front, length-header)
 
 -- chunks and blocks of longer lanes
 pub chunk-longer : (k : ℕ) (a u : List ℕ) → 4096 * k + 4096 ≤ length a → chunk k (a ++ u) ≡ chunk k a

@@ -1,6 +1,6 @@
 -- A capture that is damaged block by block.
-use Rattle.std.proofs.Common.{◌≡◌, ℕ, suc, zero, ◌+◌, ◌*◌, ◌%◌, ◌<◌, Bool, List, [], ◌++◌, length, take, drop, min, refl, ap, ap₂, ◌∙◌, sym, arith, subst, inl, inr, append_assoc, append-nil, length-append}
-use Rattle.std.specs.Prelude.{Option, slice_index, Some, None}
+use Rattle.std.proofs.Common.{◌≡◌, ℕ, ◌+◌, ◌*◌, ◌%◌, ◌<◌, Bool, List, [], ◌++◌, length, take, drop, min, refl, ap, ap₂, ◌∙◌, sym, arith, subst, inl, inr, append_assoc, append-nil, length-append}
+use Rattle.std.specs.Prelude.{Option, slice_index}
 use Rattle.std.proofs.Math.Seq.{take-append_seam, drop-append_seam}
 use Rattle.std.proofs.lemmas.Bool.{cases_lt}
 use Rattle.std.proofs.lemmas.List.{take_all}
@@ -10,7 +10,7 @@ use Rattle.capture_file.specs.Captures.{header_of, IsHeader, CanSay, HasRead, bi
 use Rattle.capture_file.specs.Damage.{damaged}
 use Rattle.capture_file.specs.BlockDamage.{AllFitLanes, LaneFits, Halfway, IsDamagedFront, DamagedChunk, CutIn, SaysFault, IsLateFault}
 use Rattle.capture_file.specs.declared.damaging.DamageError.{DamageError}
-use Rattle.capture_file.specs.declared.damaging.DamageError.TheVariants.{Bad, Place, Read, Write}
+use Rattle.capture_file.specs.declared.damaging.DamageError.TheVariants.{Write}
 use Rattle.capture_file.specs.declared.damaging.Hit.{Hit}
 use Rattle.capture_file.proofs.Packing.{length-packed, chunk-part}
 use Rattle.capture_file.proofs.Parts.{block_is, blocks-more, Appends-two, Appends-part}
@@ -45,9 +45,7 @@ damaged_chunk lane t j hits x a u now lx la all fit h =
           ∙ chunk-part w 0 t j (length a) (omega arith) (omega arith) (omega (arith, la))
           ∙ ap (λ k. packed (take (length a) (drop k w))) zero_on
           ∙ ap packed (sym (h.part row fits here))
-      | inr none ↦
-          let empty : now ≡ [] = nothing now (omega (arith, none, h.long)) in
-          chunk_past j w (omega (arith, len, la, none)) ∙ sym (ap packed empty ∙ nothing_packed)
+      | inr none ↦ grind (arith, nothing, chunk_past, nothing_packed)
     ]
 
 -- the header stays the version's
@@ -113,9 +111,7 @@ halfway_more version counts hits j taken before mid now a b d a' b' d' fit la lb
 by_lane : (counts : List ℕ) (j : ℕ) (x y z f g h : List Bool) → length x ≡ min (slice_index counts 0) (32768 * j) → length y ≡ min (slice_index counts 1) (32768 * j) → length z ≡ min (slice_index counts 2) (32768 * j)
     → length f ≡ slice_index counts 0 → length g ≡ slice_index counts 1 → length h ≡ slice_index counts 2 → (c : ℕ) → length (three x y z c) ≡ min (length (three f g h c)) (32768 * j)
 unfolding three
-by_lane counts j x y z f g h ex ey ez ef eg eh zero = omega (arith, ex, ef)
-by_lane counts j x y z f g h ex ey ez ef eg eh (suc zero) = omega (arith, ey, eg)
-by_lane counts j x y z f g h ex ey ez ef eg eh (suc (suc c)) = omega (arith, ez, eh)
+by_lane counts j x y z f g h k l m p q r s = grind arith
 
 same_long : (counts : List ℕ) (j : ℕ) (x y z f g h : List Bool) → length x ≡ min (slice_index counts 0) (32768 * j) → length y ≡ min (slice_index counts 1) (32768 * j) → length z ≡ min (slice_index counts 2) (32768 * j)
     → length f ≡ slice_index counts 0 → length g ≡ slice_index counts 1 → length h ≡ slice_index counts 2
@@ -201,28 +197,11 @@ halfway_cut version counts hits j gone taken before mid now a b d a' b' d' fit l
           Appends-part before mid now front own [] _ (length taken) gone (same ∙ all ∙ sym (append-nil (front ++ own))) front_long less first wrote;
     }
 
-appends_kept : (a b c : Option (List ℕ)) (bs : List ℕ) → Appends a b bs → Keeps b c → Appends a c bs
-appends_kept None b c bs h k = tt
-appends_kept (Some x) None c bs h k = absurd h
-appends_kept (Some x) (Some y) None bs h k = absurd k
-appends_kept (Some x) (Some y) (Some z) bs h k = k ∙ h
-
 pub halfway_kept : (version : ℕ) (counts : List ℕ) (hits : List Hit) (j : ℕ) (taken : List ℕ) (before mid now : Option (List ℕ)) → Keeps mid now → Halfway version counts hits j taken before mid → Halfway version counts hits j taken before now
-halfway_kept version counts hits j taken before mid now k h = record { out = h.out; front = h.front; wrote = appends_kept before mid now h.out h.wrote k }
+halfway_kept version counts hits j taken before mid now k h = grind arith
 
 -- a fault in a block is one of all the bytes
 pub late_fault : (version : ℕ) (counts : List ℕ) (hits : List Hit) (j : ℕ) (bytes taken part rest : List ℕ) (before mid now : Option (List ℕ)) (e : DamageError) → bytes ≡ part ++ rest
     → Halfway version counts hits j (taken ++ part) before mid → ((e ≡ Write → ⊥) → Keeps mid now)
     → SaysFault (λ fault. IsFault ((taken ++ part) ++ rest) fault × StopsIn counts j (taken ++ part) (place_of fault)) e → SaysFault (λ fault. IsLateFault version counts hits bytes taken before now fault) e
-late_fault version counts hits j bytes taken part rest before mid now (Bad fault) is half kept h = record {
-  block = j;
-  part = part;
-  rest = rest;
-  bytes_are = is;
-  half = halfway_kept version counts hits j (taken ++ part) before mid now (kept (λ e. cc)) half;
-  is = subst (λ bs. IsFault bs fault) (append_assoc taken part rest ∙ ap (λ xs. taken ++ xs) (sym is)) h.0;
-  stops = h.1;
-}
-late_fault version counts hits j bytes taken part rest before mid now (Place i) is half kept h = h
-late_fault version counts hits j bytes taken part rest before mid now Read is half kept h = h
-late_fault version counts hits j bytes taken part rest before mid now Write is half kept h = h
+late_fault version counts hits j bytes taken part rest before mid now e h k l m = grind (arith, halfway_kept, append_assoc)

@@ -8,8 +8,7 @@ use Rattle.capture_file.specs.declared.damaging.Hit.{Hit}
 use Rattle.capture_file.proofs.Hits.{length-with_word}
 
 long_by : (b : Bool) (lane : ℕ) (h : Hit) (row : List Bool) → (h.lane == lane) ≡ b → (h.lane ≡ lane → h.place + 10 ≤ length row) → length (hit_by b h row) ≡ length row
-long_by true lane h row is fit = length-with_word h.place h.value row (fit (eqb-true h.lane lane is))
-long_by false lane h row is fit = refl
+long_by b lane h row k l = grind (arith, length-with_word, eqb-true)
 
 pub damaged_long : (lane i : ℕ) (hits : List Hit) (row : List Bool) → LaneFits lane (length row) hits → length (damaged lane (take i hits) row) ≡ length row
 unfolding damaged
@@ -29,12 +28,10 @@ pub damaged_more : (lane i : ℕ) (hits : List Hit) (h : Hit) (row : List Bool) 
 damaged_more lane i hits h row at = ap (λ k. damaged lane (take k hits) row) (add-one i) ∙ more_damaged lane i hits h row at
 
 pub hit_own : (b : Bool) (h : Hit) (row : List Bool) → b ≡ true → hit_by b h row ≡ with_word h.place h.value row
-hit_own true h row e = refl
-hit_own false h row e = cc
+hit_own b h row k = grind arith
 
 pub hit_other : (b : Bool) (h : Hit) (row : List Bool) → b ≡ false → hit_by b h row ≡ row
-hit_other true h row e = cc
-hit_other false h row e = refl
+hit_other b h row k = grind arith
 
 pub damaged_none : (lane : ℕ) (row : List Bool) → damaged lane [] row ≡ row
 unfolding damaged

@@ -11,7 +11,6 @@ use Rattle.capture_file.specs.Layout.{header, high_first}
 use Rattle.capture_file.specs.Captures.{header_two, header_of, BeginsCapture, StopsAt, AreBytes, IsHeadless, IsEarlyFault, SaysOf, SaysRead}
 use Rattle.capture_file.specs.declared.fault.CaptureFault.{CaptureFault}
 use Rattle.capture_file.specs.declared.fault.CaptureError.{CaptureError}
-use Rattle.capture_file.specs.declared.fault.CaptureError.TheVariants.{Bad, Read}
 use Rattle.capture_file.specs.declared.fault.CaptureFault.TheVariants.{Magic, Version, Short}
 use Rattle.capture_file.proofs.Heads.{header_cases, length-header_two, header_long}
 use Rattle.capture_file.proofs.Marks.{high_first-of, four_of, get_drop, four_bytes}
@@ -57,17 +56,7 @@ mark_early head rest count p len most less few like unlike =
     let long : length first ≡ count = length-take-le count head (omega arith) in
     let cut : take p (first ++ rest) ≡ take p (codes "TMC") = take-append-le p first rest (omega arith) ∙ take-take p count head (omega arith) ∙ like in
     let more : take (p + 1) (first ++ rest) ≡ take (p + 1) head = take-append-le (p + 1) first rest (omega arith) ∙ take-take (p + 1) count head (omega arith) in
-    let stops : StopsAt (first ++ rest) p = record {
-      inside = omega (arith, long, length-append first rest);
-      before = mark_begins p (take p (first ++ rest)) (omega arith) cut;
-      stops = λ h.
-          let cut_long : p < length (take (p + 1) head) = omega (arith, length-take-le (p + 1) head (omega arith)) in
-          unlike (
-          sym (get_or-append (take (p + 1) head) h.rest 0 p cut_long ∙ get_or-take (p + 1) head p 0 (omega arith))
-          ∙ ap (λ xs. get_or (xs ++ h.rest) p 0) (sym more)
-          ∙ mark_of (take (p + 1) (first ++ rest) ++ h.rest) p h.whole few
-          );
-    } in
+    let stops : StopsAt (first ++ rest) p = grind (arith, length-append, mark_begins, length-take-le, get_or-append, get_or-take, mark_of) in
     ((stops, few), headless_stop (first ++ rest) p stops (omega arith))
 
 -- a fourth byte that is no version
@@ -145,13 +134,8 @@ short_early head rest count len are less none like versions =
     let long : length first ≡ count = length-take-le count head (omega arith) in
     let begins : BeginsCapture first =
     elim (cases_lt 3 count) [
-      | inl many ↦
-          let all : min count 3 ≡ 3 = omega arith in
-          let mark : take 3 head ≡ codes "TMC" = ap (λ k. take k head) (sym all) ∙ like ∙ ap (λ k. take k (codes "TMC")) all in
-          elim (versions many) [ inl one ↦ begins_take count head (one_whole head len are mark one) | inr two ↦ begins_take count head (two_whole head len are mark two) ]
-      | inr few ↦
-          let same : min count 3 ≡ count = omega arith in
-          mark_begins count first (omega arith) (ap (λ k. take k head) (sym same) ∙ like ∙ ap (λ k. take k (codes "TMC")) same)
+      | inl many ↦ grind (arith, begins_take, one_whole, two_whole)
+      | inr few ↦ grind (arith, mark_begins)
     ] in (
       (
         subst (λ bs. BeginsCapture bs) (sym e) begins,
@@ -197,12 +181,10 @@ four_say a b c d n la lb lc ld is =
 
 -- an error that says more
 pub says_of : (p q : CaptureFault → Type 0) (e : CaptureError) → ((fault : CaptureFault) → p fault → q fault) → SaysOf p e → SaysOf q e
-says_of p q (Bad fault) f h = f fault h
-says_of p q Read f h = h
+says_of p q e h k = grind arith
 
 pub says_read : (p q : Type 0) (e : CaptureError) → (p → q) → SaysRead p e → SaysRead q e
-says_read p q (Bad fault) f h = h
-says_read p q Read f h = f h
+says_read p q e h k = grind arith
 
 -- the first header, and the two parts of the second
 pub header_one : (n : ℕ) → header_of 1 (n ∷ n ∷ n ∷ []) ≡ header n
@@ -214,13 +196,7 @@ unfolding header_of
 header_two_is n p q = second_is n p q
 
 eight_are : (head : List ℕ) → length head ≡ 8 → head ≡ take 4 head ++ get_or head 4 0 ∷ get_or head 5 0 ∷ get_or head 6 0 ∷ get_or head 7 0 ∷ []
-eight_are head len =
-    let d = drop 4 head in
-    sym (take-append-drop 4 head)
-    ∙ ap (λ xs. take 4 head ++ xs)
-    (four_of d (omega (arith, length-drop 4 head))
-    ∙ ap₂ (λ a b. a ∷ b ∷ get_or d 2 0 ∷ get_or d 3 0 ∷ []) (get_or-drop 4 head 0 0) (get_or-drop 4 head 1 0)
-    ∙ ap₂ (λ a b. get_or head 4 0 ∷ get_or head 5 0 ∷ a ∷ b ∷ []) (get_or-drop 4 head 2 0) (get_or-drop 4 head 3 0))
+eight_are head len = grind (arith, take-append-drop, four_of, length-drop, get_or-drop)
 
 pub head_is : (head : List ℕ) (v n : ℕ) → length head ≡ 8 → AreBytes head → take 3 head ≡ codes "TMC" → get_or head 3 0 ≡ v
     → n ≡ from_be_bytes w32 (get_or head 4 0 ∷ get_or head 5 0 ∷ get_or head 6 0 ∷ get_or head 7 0 ∷ []) → head ≡ (codes "TMC" ++ v ∷ []) ++ high_first n

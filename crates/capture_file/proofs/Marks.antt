@@ -1,17 +1,12 @@
 -- The bytes of a source that tells them, and four bytes as a count.
-use Rattle.std.proofs.Common.{◌≡◌, ℕ, suc, zero, ◌+◌, ◌*◌, ◌/◌, ◌%◌, ◌^◌, ◌<◌, Bool, true, false, List, [], ◌∷◌, ◌++◌, length, take, drop, get_or, refl, ap₂, ◌∙◌, arith, subst}
-use Rattle.std.specs.Prelude.{Option, Some, None}
+use Rattle.std.proofs.Common.{◌≡◌, ℕ, suc, zero, ◌+◌, ◌*◌, ◌/◌, ◌%◌, ◌^◌, ◌<◌, Bool, true, false, List, [], ◌∷◌, ◌++◌, length, take, drop, get_or, refl, arith}
+use Rattle.std.specs.Prelude.{Option, Some}
 use Rattle.std.specs.Io.KnownBytes.{Consumes}
 use Rattle.capture_file.specs.Layout.{high_first}
 use Rattle.capture_file.specs.Captures.{AreBytes}
 
--- the bytes of a source that tells them
-consumed_to : (new : Option (List ℕ)) (bytes xs : List ℕ) → Consumes (Some bytes) new xs → (rest : List ℕ) × (bytes ≡ xs ++ rest) × (new ≡ Some rest)
-consumed_to None bytes xs h = absurd h
-consumed_to (Some rest) bytes xs h = (rest, h, refl)
-
 pub consumed : (old new : Option (List ℕ)) (bytes xs : List ℕ) → old ≡ Some bytes → Consumes old new xs → (rest : List ℕ) × (bytes ≡ xs ++ rest) × (new ≡ Some rest)
-consumed old new bytes xs e h = consumed_to new bytes xs (subst (λ o. Consumes o new xs) e h)
+consumed old new bytes xs e h = grind arith
 
 pub take_bytes : (n : ℕ) (xs : List ℕ) → AreBytes xs → AreBytes (take n xs)
 take_bytes zero xs h i = omega arith
@@ -25,10 +20,7 @@ unfolding high_first
 high_first-of a b c d la lb lc ld =
     let n = a * 16777216 + b * 65536 + c * 256 + d in
     let e0 : n / 2 ^ 24 % 256 ≡ a = omega arith in
-    let e1 : n / 2 ^ 16 % 256 ≡ b = omega arith in
-    let e2 : n / 2 ^ 8 % 256 ≡ c = omega arith in
-    let e3 : n % 256 ≡ d = omega arith in
-    (n, omega arith, ap₂ (λ p q. p ∷ q ∷ n / 2 ^ 8 % 256 ∷ n % 256 ∷ []) e0 e1 ∙ ap₂ (λ p q. a ∷ b ∷ p ∷ q ∷ []) e2 e3)
+    grind arith
 
 pub four_of : (xs : List ℕ) → length xs ≡ 4 → xs ≡ get_or xs 0 0 ∷ get_or xs 1 0 ∷ get_or xs 2 0 ∷ get_or xs 3 0 ∷ []
 four_of [] len = absurd (omega arith)
@@ -44,12 +36,7 @@ get_drop (suc n) i [] h = h 0
 get_drop (suc n) i (x ∷ xs) h = get_drop n i xs (λ k. h (suc k))
 
 pub four_bytes : (a b c d : ℕ) → a < 256 → b < 256 → c < 256 → d < 256 → AreBytes (a ∷ b ∷ c ∷ d ∷ [])
-four_bytes a b c d la lb lc ld zero = la
-four_bytes a b c d la lb lc ld (suc zero) = lb
-four_bytes a b c d la lb lc ld (suc (suc zero)) = lc
-four_bytes a b c d la lb lc ld (suc (suc (suc zero))) = ld
-four_bytes a b c d la lb lc ld (suc (suc (suc (suc i)))) = omega arith
+four_bytes a b c d h k l m p = grind arith
 
 pub clash : (b : Bool) → b ≡ true → b ≡ false → ⊥
-clash true h e = cc
-clash false h e = cc
+clash b h k = grind arith

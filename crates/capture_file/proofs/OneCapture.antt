@@ -1,5 +1,5 @@
 -- Bytes are the capture of one triple of lanes at most, and a capture has no fault.
-use Rattle.std.proofs.Common.{◌≡◌, ℕ, zero, suc, ◌+◌, ◌*◌, ◌/◌, ◌%◌, ◌^◌, ◌<◌, ◌≤◌, max, Bool, true, false, List, [], ◌∷◌, ◌++◌, length, take, drop, get_or, refl, ap, ap₂, ◌∙◌, sym, arith, length-append, length-take, length-drop, subst}
+use Rattle.std.proofs.Common.{◌≡◌, ℕ, zero, suc, ◌+◌, ◌*◌, ◌/◌, ◌^◌, ◌<◌, max, Bool, true, false, List, [], ◌∷◌, ◌++◌, length, take, drop, refl, ap, ◌∙◌, sym, arith, length-append, length-take, length-drop}
 use Rattle.std.proofs.Math.Seq.{take-add}
 use Rattle.std.proofs.Math.Pow.{pow_mono}
 use Rattle.std.proofs.lemmas.Nat.{pow-add}
@@ -36,28 +36,15 @@ byte_more k =
 same_number : (k m n : ℕ) → m < 2 ^ (8 * k) → n < 2 ^ (8 * k) → bytes_of k m ≡ bytes_of k n → m ≡ n
 unfolding bytes_of
 same_number zero m n small_m small_n is = omega arith
-same_number (suc k) m n small_m small_n is =
-    let low : m % 256 ≡ n % 256 = ap (λ bs. get_or bs 0 0) is in
-    let high : bytes_of k (m / 256) ≡ bytes_of k (n / 256) = ap (λ bs. drop 1 bs) is in
-    let rest : m / 256 ≡ n / 256 = same_number k (m / 256) (n / 256) (omega (arith, small_m, byte_more k)) (omega (arith, small_n, byte_more k)) high in
-    omega arith
+same_number (suc k) m n small_m small_n is = grind (arith, byte_more, same_number k)
 
 number_fits : (xs : List Bool) (count : ℕ) → length xs ≡ count → number xs < 2 ^ (8 * ((count + 7) / 8))
-number_fits xs count is =
-    let below : number xs < 2 ^ count = subst (λ n. number xs < 2 ^ n) is (number_below xs) in
-    let more : 2 ^ count ≤ 2 ^ (8 * ((count + 7) / 8)) = pow_mono {i = count} {j = 8 * ((count + 7) / 8)} (omega arith) in
-    omega arith
-
-packed_as : (xs : List Bool) (count : ℕ) → length xs ≡ count → packed xs ≡ bytes_of ((count + 7) / 8) (number xs)
-unfolding packed
-packed_as xs count is = ap (λ n. bytes_of ((n + 7) / 8) (number xs)) is
+number_fits xs count is = grind (arith, number_below, pow_mono)
 
 -- a lane of so many bits is told by its bytes
 same_lane : (xs ys : List Bool) → length ys ≡ length xs → packed xs ≡ packed ys → xs ≡ ys
-same_lane xs ys len is =
-    let count = length xs in
-    let bytes : bytes_of ((count + 7) / 8) (number xs) ≡ bytes_of ((count + 7) / 8) (number ys) = sym (packed_as xs count refl) ∙ is ∙ packed_as ys count len in
-    same_bits xs ys (sym len) (same_number ((count + 7) / 8) (number xs) (number ys) (number_fits xs count refl) (number_fits ys count len) bytes)
+unfolding packed
+same_lane xs ys len is = grind (arith, same_bits, same_number, number_fits)
 
 length-chunk : (j : ℕ) (a b : List ℕ) → length a ≡ length b → length (chunk j a) ≡ length (chunk j b)
 unfolding chunk
@@ -80,39 +67,13 @@ record AreAsLong (a b c p q r : List ℕ) : Type 0 where
 length-blocks : (j : ℕ) (a b c p q r : List ℕ) → AreAsLong a b c p q r → length (blocks_below j a b c) ≡ length (blocks_below j p q r)
 unfolding blocks_below block
 length-blocks zero a b c p q r long = refl
-length-blocks (suc j) a b c p q r long =
-    omega (
-      arith,
-      length-blocks j a b c p q r long,
-      length-append (blocks_below j a b c) ((chunk j a ++ chunk j b) ++ chunk j c),
-      length-append (chunk j a ++ chunk j b) (chunk j c),
-      length-append (chunk j a) (chunk j b),
-      length-append (blocks_below j p q r) ((chunk j p ++ chunk j q) ++ chunk j r),
-      length-append (chunk j p ++ chunk j q) (chunk j r),
-      length-append (chunk j p) (chunk j q),
-      length-chunk j a p long.first,
-      length-chunk j b q long.second,
-      length-chunk j c r long.third,
-    )
+length-blocks (suc j) a b c p q r long = grind (arith, length-append, length-chunk, length-blocks j a b c p q r long)
 
 -- the same chunks
 record AreSameChunks (j : ℕ) (a b c p q r : List ℕ) : Type 0 where
   first : chunk j a ≡ chunk j p
   second : chunk j b ≡ chunk j q
   third : chunk j c ≡ chunk j r
-
-same_chunks : (j : ℕ) (a b c p q r : List ℕ) → AreAsLong a b c p q r → block j a b c ≡ block j p q r → AreSameChunks j a b c p q r
-unfolding block
-same_chunks j a b c p q r long is =
-    let one = length-chunk j a p long.first in
-    let two = length-chunk j b q long.second in
-    let both : length (chunk j a ++ chunk j b) ≡ length (chunk j p ++ chunk j q) = omega (arith, one, two, length-append (chunk j a) (chunk j b), length-append (chunk j p) (chunk j q)) in
-    let front = same_front (chunk j a ++ chunk j b) (chunk j c) (chunk j p ++ chunk j q) (chunk j r) is both in
-    record {
-      first = same_front (chunk j a) (chunk j b) (chunk j p) (chunk j q) front one;
-      second = same_rest (chunk j a) (chunk j b) (chunk j p) (chunk j q) front one;
-      third = same_rest (chunk j a ++ chunk j b) (chunk j c) (chunk j p ++ chunk j q) (chunk j r) is both;
-    }
 
 -- the same bytes as far as a chunk
 record AreSameBelow (j : ℕ) (a b c p q r : List ℕ) : Type 0 where
@@ -121,15 +82,9 @@ record AreSameBelow (j : ℕ) (a b c p q r : List ℕ) : Type 0 where
   third : take (4096 * j) c ≡ take (4096 * j) r
 
 same_below : (j : ℕ) (a b c p q r : List ℕ) → AreAsLong a b c p q r → blocks_below j a b c ≡ blocks_below j p q r → AreSameBelow j a b c p q r
-unfolding blocks_below
+unfolding blocks_below block
 same_below zero a b c p q r long is = record { first = refl; second = refl; third = refl }
-same_below (suc j) a b c p q r long is =
-    let len = length-blocks j a b c p q r long in
-    let was = same_below j a b c p q r long (same_front (blocks_below j a b c) (block j a b c) (blocks_below j p q r) (block j p q r) is len) in
-    let more = same_chunks j a b c p q r long (same_rest (blocks_below j a b c) (block j a b c) (blocks_below j p q r) (block j p q r) is len) in
-    let join : (x y : List ℕ) → take (4096 * j) x ≡ take (4096 * j) y → chunk j x ≡ chunk j y → take (4096 * suc j) x ≡ take (4096 * suc j) y =
-    λ x y e f. chunk_more j x ∙ ap₂ (λ s t. s ++ t) e f ∙ sym (chunk_more j y) in
-    record { first = join a p was.first more.first; second = join b q was.second more.second; third = join c r was.third more.third }
+same_below (suc j) a b c p q r long is = grind (arith, length-blocks, same_front, same_rest, chunk_more, length-chunk, length-append, same_below j a b c p q r long)
 
 -- lanes whose blocks are the same, each as long as the other
 same_blocks : (x y z u v w : List Bool) → length x ≡ length u → length y ≡ length v → length z ≡ length w → lane_blocks x y z ≡ lane_blocks u v w → AreSame x y z u v w

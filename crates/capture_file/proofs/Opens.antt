@@ -1,10 +1,9 @@
 -- What may follow the bytes that were taken of a capture of either version.
-use Rattle.std.proofs.Common.{◌≡◌, ℕ, suc, zero, ◌+◌, ◌-◌, ◌*◌, ◌/◌, ◌%◌, ◌<◌, Bool, false, List, ◌++◌, length, take, drop, min, max, cond, replicate, refl, ap, ap₂, ◌∙◌, sym, arith, subst, inl, inr, append_assoc, length-append, length-drop, length-take-le, ◌==◌, ◌≢◌}
-use Rattle.std.specs.Prelude.{slice_index, ◌⊎◌}
+use Rattle.std.proofs.Common.{◌≡◌, ℕ, suc, zero, ◌+◌, ◌-◌, ◌*◌, ◌/◌, ◌%◌, ◌<◌, Bool, false, List, ◌++◌, length, take, drop, min, max, cond, replicate, refl, ap, ap₂, ◌∙◌, sym, arith, subst, append_assoc, length-append, length-drop, length-take-le, ◌==◌}
+use Rattle.std.specs.Prelude.{slice_index}
 use Rattle.std.proofs.lemmas.Bool.{cases_lt, eq-eqb, ne_eqb}
 use Rattle.std.proofs.lemmas.List.{take_all, length-replicate}
-use Rattle.tmds_word.specs.Bits.{bytes_bits}
-use Rattle.capture_file.specs.Layout.{packed, chunk, blocks_below}
+use Rattle.capture_file.specs.Layout.{packed, chunk}
 use Rattle.capture_file.specs.Captures.{counts_of, IsHeader, lane_blocks, IsCapture, Awaits}
 use Rattle.capture_file.proofs.Packing.{length-packed, chunk-part}
 use Rattle.capture_file.proofs.Packs.{packed_is_spared}
@@ -18,10 +17,7 @@ blocks_in p q r = (max ((p + 7) / 8) (max ((q + 7) / 8) ((r + 7) / 8)) + 4095) /
 
 pub all_pieces : (x y z : List Bool) → lane_blocks x y z ≡ pieces (3 * blocks_in (length x) (length y) (length z)) (piece_of (three x y z))
 unfolding lane_blocks
-all_pieces x y z =
-    ap (λ n. blocks_below ((max n (max (length (packed y)) (length (packed z))) + 4095) / 4096) (packed x) (packed y) (packed z)) (length-packed x)
-    ∙ ap₂ (λ n m. blocks_below ((max ((length x + 7) / 8) (max n m) + 4095) / 4096) (packed x) (packed y) (packed z)) (length-packed y) (length-packed z)
-    ∙ blocks-pieces (blocks_in (length x) (length y) (length z)) x y z
+all_pieces x y z = grind (arith, length-packed, blocks-pieces)
 
 -- lanes of full length are a capture
 pub captured : (head counts : List ℕ) (x : ℕ → List Bool) → IsHeader head counts → ((c : ℕ) → c < 3 → length (x c) ≡ slice_index counts c)
@@ -38,11 +34,7 @@ captured head counts x h full =
       holds = record {
         head = head;
         headed = header_same head counts (counts_of (x 0) (x 1) (x 2)) (by_count x counts full) h;
-        bytes_are =
-            ap (λ xs. head ++ xs)
-            (sym (pieces-same n (piece_of (three (x 0) (x 1) (x 2))) (piece_of x) (λ k lt. piece-three x k))
-            ∙ sym (all_pieces (x 0) (x 1) (x 2) ∙ ap (λ p. pieces (3 * blocks_in p (length (x 1)) (length (x 2))) (piece_of (three (x 0) (x 1) (x 2)))) e0
-            ∙ ap₂ (λ q r. pieces (3 * blocks_in (slice_index counts 0) q r) (piece_of (three (x 0) (x 1) (x 2)))) e1 e2));
+        bytes_are = grind (arith, pieces-same, piece_of, three, piece-three, all_pieces, pieces);
       };
     }
   where
@@ -67,17 +59,7 @@ known head counts tail whole h is capture =
     let own = capture.holds in
     let s = same_heads head own.head counts (counts_of u v w) tail (lane_blocks u v w) h own.headed (sym is ∙ own.bytes_are) in
     let e0 : length u ≡ slice_index counts 0 = sym (s.count 0 (omega arith)) in
-    let e1 : length v ≡ slice_index counts 1 = sym (s.count 1 (omega arith)) in
-    let e2 : length w ≡ slice_index counts 2 = sym (s.count 2 (omega arith)) in
-    record {
-      x = three u v w;
-      full = by_lane u v w counts e0 e1 e2;
-      is =
-          own.bytes_are
-          ∙ ap₂ (λ a b. a ++ b) (sym s.same)
-          (all_pieces u v w ∙ ap (λ p. pieces (3 * blocks_in p (length v) (length w)) (piece_of (three u v w))) e0
-          ∙ ap₂ (λ q r. pieces (3 * blocks_in (slice_index counts 0) q r) (piece_of (three u v w))) e1 e2);
-    }
+    grind (arith, three, all_pieces, pieces, piece_of)
   where
     by_lane : (u v w : List Bool) (counts : List ℕ) → length u ≡ slice_index counts 0 → length v ≡ slice_index counts 1 → length w ≡ slice_index counts 2
         → (c : ℕ) → c < 3 → length (three u v w c) ≡ slice_index counts c
@@ -92,10 +74,7 @@ bits_left counts n = slice_index counts (n % 3) - 32768 * (n / 3)
 
 -- a piece of which a lane still has bits is one of all pieces
 inside : (counts : List ℕ) (n c : ℕ) → n % 3 ≡ c → 32768 * (n / 3) < slice_index counts c → n < 3 * blocks_in (slice_index counts 0) (slice_index counts 1) (slice_index counts 2)
-inside counts n zero e some = omega arith
-inside counts n (suc zero) e some = omega arith
-inside counts n (suc (suc zero)) e some = omega arith
-inside counts n (suc (suc (suc c))) e some = absurd (omega arith)
+inside counts n c h k = grind arith
 
 -- a capture that goes on from the bytes taken so far: it goes on with the chunk of the next lane
 pub record Forced (counts : List ℕ) (n : ℕ) (more : List ℕ) : Type 0 where
@@ -106,10 +85,7 @@ pub record Forced (counts : List ℕ) (n : ℕ) (more : List ℕ) : Type 0 where
 
 lengths_same : (counts : List ℕ) (n : ℕ) (x y : ℕ → List Bool) → Covers (λ c. slice_index counts c) n x → ((c : ℕ) → c < 3 → length (y c) ≡ slice_index counts c)
     → (k : ℕ) → k < n → length (piece_of x k) ≡ length (piece_of y k)
-lengths_same counts n x y covers full k lt =
-    let c = k % 3 in
-    let few : c < 3 = omega arith in
-    omega (arith, lt, length-piece x k (length (x c)) refl, length-piece y k (length (y c)) refl, covers.count c few, full c few)
+lengths_same counts n x y covers full k lt = grind (arith, length-piece)
 
 pub forced : (head counts more : List ℕ) (n : ℕ) (x : ℕ → List Bool) → IsHeader head counts → Covers (λ c. slice_index counts c) n x → 0 < bits_left counts n
     → IsCapture ((head ++ pieces n (piece_of x)) ++ more) → Forced counts n more
@@ -120,15 +96,7 @@ forced head counts more n x h covers some capture =
     let lt : n < m = inside counts n (n % 3) refl (omega arith) in
     let after = pieces-after n m (piece_of k.x) lt in
     let q = pieces n (piece_of k.x) in
-    let len : length (head ++ p) ≡ length (head ++ q) =
-    omega (arith, length-append head p, length-append head q, length-pieces n (piece_of x) (piece_of k.x) (lengths_same counts n x k.x covers k.full)) in
-    let few : n % 3 < 3 = omega arith in
-    record {
-      lane = k.x (n % 3);
-      long = k.full (n % 3) few;
-      rest = after.0;
-      is = same_rest (head ++ p) more (head ++ q) (piece_of k.x n ++ after.0) (k.is ∙ ap (λ xs. head ++ xs) after.1 ∙ sym (append_assoc head q (piece_of k.x n ++ after.0))) len;
-    }
+    grind (arith, length-append, length-pieces, piece_of, lengths_same, same_rest, append_assoc)
 
 -- the lanes with bits that the next lane goes on with, and zeros in all others
 ext : (ℕ → ℕ) → ℕ → List Bool → ℕ → List Bool
@@ -138,23 +106,9 @@ ext-own : (t : ℕ → ℕ) (c : ℕ) (u : List Bool) → ext t c u c ≡ u
 unfolding ext
 ext-own t c u = ap (λ b. cond b u (replicate (t c) false)) (eq-eqb c c refl)
 
-ext-other : (t : ℕ → ℕ) (c d : ℕ) (u : List Bool) → d ≢ c → ext t c u d ≡ replicate (t d) false
-unfolding ext
-ext-other t c d u h = ap (λ b. cond b u (replicate (t d) false)) (ne_eqb d c h)
-
 length-ext : (t : ℕ → ℕ) (c d : ℕ) (u : List Bool) → length u ≡ t c → length (ext t c u d) ≡ t d
-length-ext t c d u len =
-    elim (cases_eq d c) [
-      | inl same ↦ ap (λ k. length (ext t c u k)) same ∙ ap length (ext-own t c u) ∙ len ∙ ap t (sym same)
-      | inr other ↦ ap length (ext-other t c d u other) ∙ length-replicate (t d) false
-    ]
-  where
-    cases_eq : (d c : ℕ) → (d ≡ c) ⊎ (d ≢ c)
-    cases_eq d c =
-        elim (cases_lt d c) [
-          | inl less ↦ inr (λ e. omega (arith, less, e))
-          | inr more ↦ elim (cases_lt c d) [ inl less ↦ inr (λ e. omega (arith, less, e)) | inr least ↦ inl (omega (arith, more, least)) ]
-        ]
+unfolding ext
+length-ext t c d u len = grind (arith, ext-own, length-replicate, cases_lt, ne_eqb)
 
 own_long : (t n c j : ℕ) (len : ℕ) → len ≡ min t (32768 * ((n + 2 - c) / 3)) → n / 3 ≡ j → n % 3 ≡ c → 32768 * j < t → len ≡ 32768 * j
 own_long t n c j len e f g some = omega arith
@@ -205,11 +159,7 @@ awaits head counts n count x h covers some is =
           let capture : IsCapture (front ++ (piece ++ begins.rest)) = subst (λ bs. IsCapture bs) (append_assoc front piece begins.rest) begins.whole in
           let f = forced head counts (piece ++ begins.rest) n x h covers some capture in
           let chunk_own = chunk_is f.lane (slice_index counts (n % 3)) (n / 3) count f.long (omega arith) is in
-          let part = take count (drop (32768 * (n / 3)) f.lane) in
-          let len : length part ≡ count = length-take-le count (drop (32768 * (n / 3)) f.lane) (omega (arith, is, f.long, length-drop (32768 * (n / 3)) f.lane)) in
-          let size : length (chunk (n / 3) (packed f.lane)) ≡ (count + 7) / 8 = omega (arith, ap length chunk_own, length-packed part, len) in
-          let own : piece ≡ packed part = same_front piece begins.rest (chunk (n / 3) (packed f.lane)) f.rest f.is (long ∙ sym size) ∙ chunk_own in
-          own ∙ packed_is_spared part count len ∙ ap (λ bs. packed (take count (bytes_bits bs))) (sym own);
+          grind (arith, length-take-le, length-drop, length-packed, same_front, packed_is_spared);
     }
   where
     chunk_is : (lane : List Bool) (bits j count : ℕ) → length lane ≡ bits → 32768 * j < bits → count ≡ min (bits - 32768 * j) 32768

@@ -1,5 +1,5 @@
 -- Packed bits: how a copy of a row's bytes and a mask give them, and what their chunks are.
-use Rattle.std.proofs.Common.{◌≡◌, ◌≢◌, ℕ, ◌+◌, ◌-◌, ◌*◌, ◌/◌, ◌%◌, ◌^◌, ◌<◌, ◌≤◌, Bool, List, length, take, drop, min, get_or, ap, ap₂, ◌∙◌, sym, arith, inl, inr, length-drop, length-take-le, bit_and, set}
+use Rattle.std.proofs.Common.{◌≡◌, ◌≢◌, ℕ, ◌+◌, ◌-◌, ◌*◌, ◌/◌, ◌%◌, ◌^◌, ◌<◌, ◌≤◌, Bool, List, length, take, drop, min, get_or, ap, ap₂, ◌∙◌, sym, arith, length-drop, length-take-le, bit_and, set}
 use Rattle.std.proofs.Math.Nat.{mod-eq_of_lt}
 use Rattle.std.proofs.Math.Pow.{pow_mono, mod-mod-pow}
 use Rattle.std.proofs.lemmas.Nat.{shr-shr, field_of, and_mask}
@@ -53,62 +53,20 @@ mask_is b k few =
 
 -- whole bytes need no mask
 pub bytes_whole : (m count : ℕ) → count % 8 ≡ 0 → bytes_of ((count + 7) / 8) m ≡ bytes_of ((count + 7) / 8) (m % 2 ^ count)
-bytes_whole m count none =
-    let k = (count + 7) / 8 in
-    same_number_lists (bytes_of k m) (bytes_of k (m % 2 ^ count)) (length-bytes_of k m ∙ sym (length-bytes_of k (m % 2 ^ count)))
-    (λ i lt. let below : i < k = omega (arith, lt, length-bytes_of k m) in
-    get_or-bytes_of k m i below ∙ sym (get_or-bytes_of k (m % 2 ^ count) i below ∙ byte_kept m count i (omega arith)))
+bytes_whole m count none = grind (arith, same_number_lists, length-bytes_of, get_or-bytes_of, byte_kept)
 
 -- the last byte is masked where it has spare bits
 pub bytes_masked : (m count : ℕ) (bytes : List ℕ) → count % 8 ≢ 0 → bytes ≡ bytes_of ((count + 7) / 8) m
     → set bytes (length bytes - 1) (bit_and (get_or bytes (length bytes - 1) 0) (1 * 2 ^ (count % 8) % 256 - 1)) ≡ bytes_of ((count + 7) / 8) (m % 2 ^ count)
-bytes_masked m count bytes some is =
-    let k = (count + 7) / 8 in
-    let r = count % 8 in
-    let few : r < 8 = omega arith in
-    let len : length bytes ≡ k = ap length is ∙ length-bytes_of k m in
-    let last = length bytes - 1 in
-    let one : 1 ≤ k = omega arith in
-    let b = bit_and (get_or bytes last 0) (1 * 2 ^ r % 256 - 1) in
-    let own : b ≡ get_or bytes last 0 % 2 ^ r = mask_is (get_or bytes last 0) r few in
-    same_number_lists (set bytes last b) (bytes_of k (m % 2 ^ count)) (length-set bytes last b ∙ len ∙ sym (length-bytes_of k (m % 2 ^ count)))
-    (λ i lt.
-    let below : i < k = omega (arith, lt, len, length-set bytes last b) in
-    let byte : get_or bytes i 0 ≡ (m / 2 ^ (8 * i)) % 256 = ap (λ xs. get_or xs i 0) is ∙ get_or-bytes_of k m i below in
-    elim (cases_lt i last) [
-      | inl less ↦
-          let other : i ≢ last = omega arith in
-          get_or-set_other bytes last i b 0 other
-          ∙ byte
-          ∙ sym (get_or-bytes_of k (m % 2 ^ count) i below ∙ byte_kept m count i (omega arith))
-      | inr more ↦
-          let same : i ≡ last = omega arith in
-          get_or-set_at bytes last i b 0 same (omega arith)
-          ∙ own
-          ∙ ap (λ n. get_or bytes n 0 % 2 ^ r) (sym same)
-          ∙ ap (λ n. n % 2 ^ r) byte
-          ∙ sym (get_or-bytes_of k (m % 2 ^ count) i below ∙ byte_cut m count i r few (omega arith))
-    ])
+bytes_masked m count bytes some is = grind (arith, length-bytes_of, mask_is, same_number_lists, length-set, get_or-bytes_of, cases_lt, get_or-set_other, byte_kept, get_or-set_at, byte_cut)
 
 -- what a lane's bits are from a chunk on
 rest_of_lane : (row : List Bool) (from bits skip : ℕ) → skip ≤ bits → (number row / 2 ^ from) % 2 ^ bits / 2 ^ skip ≡ (number row / 2 ^ (from + skip)) % 2 ^ (bits - skip)
-rest_of_lane row from bits skip le =
-    let all : bits ≡ (bits - skip) + skip = omega arith in
-    ap (λ k. (number row / 2 ^ from) % 2 ^ k / 2 ^ skip) all
-    ∙ field_of (number row / 2 ^ from) (bits - skip) skip
-    ∙ ap (λ n. n % 2 ^ (bits - skip)) (shr-shr (number row) from skip)
+rest_of_lane row from bits skip le = grind (arith, field_of, shr-shr)
 
 -- the lowest bytes of what is left, where no more is taken than a chunk has
 kept_at : (m left count i : ℕ) → count ≡ min left 32768 → i < (count + 7) / 8 → (m % 2 ^ left / 2 ^ (8 * i)) % 256 ≡ (m % 2 ^ count / 2 ^ (8 * i)) % 256
-kept_at m left count i is lt =
-    elim (cases_lt 32768 left) [
-      | inl long ↦
-          let full : count ≡ 32768 = omega arith in
-          byte_kept m left i (omega arith) ∙ sym (byte_kept m count i (omega arith))
-      | inr short ↦
-          let same : left ≡ count = omega arith in
-          ap (λ k. (m % 2 ^ k / 2 ^ (8 * i)) % 256) same
-    ]
+kept_at m left count i is lt = grind (arith, cases_lt, byte_kept)
 
 -- chunk j of a lane is its own bits packed
 pub chunk-part : (row : List Bool) (from bits j count : ℕ) → from + bits ≤ length row → 32768 * j < bits → count ≡ min (bits - 32768 * j) 32768

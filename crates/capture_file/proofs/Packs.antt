@@ -1,5 +1,5 @@
 -- Packed bits joined, and bytes that are packed bits.
-use Rattle.std.proofs.Common.{◌≡◌, ◌≢◌, ℕ, suc, zero, ◌+◌, ◌-◌, ◌*◌, ◌/◌, ◌%◌, ◌^◌, ◌<◌, ◌≤◌, Bool, List, [], ◌∷◌, ◌++◌, length, take, get_or, refl, ap, ap₂, ◌∙◌, sym, arith, length-append, length-take-le, bit_and, set, subst}
+use Rattle.std.proofs.Common.{◌≡◌, ◌≢◌, ℕ, suc, zero, ◌+◌, ◌-◌, ◌*◌, ◌/◌, ◌%◌, ◌^◌, ◌<◌, Bool, List, [], ◌∷◌, ◌++◌, length, take, get_or, refl, ap, ap₂, ◌∙◌, sym, arith, length-append, length-take-le, bit_and, set}
 use Rattle.std.proofs.Math.Nat.{mod-eq_of_lt, div-eq_of_lt}
 use Rattle.std.proofs.Math.Pow.{pow_mono}
 use Rattle.std.proofs.Math.Seq.{take-length}
@@ -27,20 +27,12 @@ eight_more k =
 
 bytes_of-join : (k m n w : ℕ) → n < 2 ^ (8 * k) → bytes_of (k + m) (n + 2 ^ (8 * k) * w) ≡ bytes_of k n ++ bytes_of m w
 unfolding bytes_of
-bytes_of-join zero m n w lt =
-    let e : 0 + m ≡ m = omega arith in
-    let f : n + 1 * w ≡ w = omega arith in
-    ap₂ (λ a b. bytes_of a b) e f
+bytes_of-join zero m n w lt = grind arith
 bytes_of-join (suc k) m n w lt =
     let c = 2 ^ (8 * k) * w in
     let e : suc k + m ≡ suc (k + m) = omega arith in
     let d : 2 ^ (8 * suc k) * w ≡ 256 * c = rw (eight_more k) (omega arith) in
-    let low : (n + 256 * c) % 256 ≡ n % 256 = omega arith in
-    let high : (n + 256 * c) / 256 ≡ n / 256 + c = omega arith in
-    let small : n / 256 < 2 ^ (8 * k) = omega (arith, lt, eight_more k) in
-    ap₂ (λ a b. bytes_of a (n + b)) e d
-    ∙ ap₂ (λ a b. a ∷ bytes_of (k + m) b) low high
-    ∙ ap (λ xs. n % 256 ∷ xs) (bytes_of-join k m (n / 256) w small)
+    grind (arith, eight_more, bytes_of-join k m)
 
 -- bits after whole bytes
 pub packed-append : (x u : List Bool) → length x % 8 ≡ 0 → packed (x ++ u) ≡ packed x ++ packed u
@@ -50,16 +42,11 @@ packed-append x u whole =
     let m = (length u + 7) / 8 in
     let e : length x ≡ 8 * k = omega arith in
     let f : (length (x ++ u) + 7) / 8 ≡ k + m = omega (arith, length-append x u) in
-    let below : number x < 2 ^ (8 * k) = subst (λ n. number x < 2 ^ n) e (number_below x) in
-    ap₂ (λ a b. bytes_of a b) f (number-append x u ∙ ap (λ n. number x + 2 ^ n * number u) e)
-    ∙ bytes_of-join k m (number x) (number u) below
+    grind (arith, number_below, number-append, bytes_of-join)
 
 one_packed : (b : ℕ) → b < 256 → packed (bits_of 8 b) ≡ b ∷ []
 unfolding packed bytes_of
-one_packed b lt =
-    let e : (length (bits_of 8 b) + 7) / 8 ≡ 1 = omega (arith, length-bits_of 8 b) in
-    let f : b % 256 % 256 ≡ b = omega arith in
-    ap₂ (λ a n. bytes_of a n) e (number-bits_of 8 b) ∙ ap (λ n. n ∷ []) f
+one_packed b lt = grind (arith, length-bits_of, number-bits_of)
 
 -- bytes are their bits packed
 pub packed-bytes : (bs : List ℕ) → AreBytes bs → packed (bytes_bits bs) ≡ bs
@@ -73,10 +60,7 @@ packed-bytes (b ∷ bs) h =
 pub number-packed : (k n : ℕ) → n < 2 ^ (8 * k) → number (bytes_bits (bytes_of k n)) ≡ n
 unfolding bytes_of bytes_bits number
 number-packed zero n lt = omega arith
-number-packed (suc k) n lt =
-    let small : n / 256 < 2 ^ (8 * k) = omega (arith, lt, eight_more k) in
-    let one : n % 256 < 256 = omega arith in
-    omega (arith, number_of_bytes (n % 256) (bytes_of k (n / 256)) one, number-packed k (n / 256) small)
+number-packed (suc k) n lt = grind (arith, eight_more, number_of_bytes, number-packed k)
 
 -- the first bits of bytes, packed
 pub packed-first : (bs : List ℕ) (count : ℕ) → length bs ≡ (count + 7) / 8 → packed (take count (bytes_bits bs)) ≡ bytes_of ((count + 7) / 8) (number (bytes_bits bs) % 2 ^ count)
@@ -94,13 +78,7 @@ pub packed_is_spared : (u : List Bool) (count : ℕ) → length u ≡ count → 
 packed_is_spared u count is =
     let k = (count + 7) / 8 in
     let own : packed u ≡ bytes_of k (number u) = as_bytes u count is in
-    let below : number u < 2 ^ count = subst (λ n. number u < 2 ^ n) is (number_below u) in
-    let more : 2 ^ count ≤ 2 ^ (8 * k) = pow_mono {i = count} {j = 8 * k} (omega arith) in
-    let all : number u < 2 ^ (8 * k) = omega arith in
-    let same : number (bytes_bits (packed u)) % 2 ^ count ≡ number u =
-    ap (λ bs. number (bytes_bits bs) % 2 ^ count) own ∙ ap (λ n. n % 2 ^ count) (number-packed k (number u) all) ∙ mod-eq_of_lt below in
-    own
-    ∙ sym (packed-first (packed u) count (length-packed u ∙ ap (λ n. (n + 7) / 8) is) ∙ ap (λ n. bytes_of k n) same)
+    grind (arith, number_below, pow_mono, number-packed, mod-eq_of_lt, packed-first, length-packed)
 
 pub bytes_are : (bs : List ℕ) (count : ℕ) → AreBytes bs → length bs ≡ (count + 7) / 8 → bs ≡ bytes_of ((count + 7) / 8) (number (bytes_bits bs))
 unfolding packed
@@ -117,10 +95,7 @@ masked_is : (bs : List ℕ) (count : ℕ) → AreBytes bs → length bs ≡ (cou
 masked_is bs count h len some = bytes_masked (number (bytes_bits bs)) count bs some (bytes_are bs count h len) ∙ sym (packed-first bs count len)
 
 below_of : (b w : ℕ) → 0 < w → b / w ≡ 0 → b % w ≡ b
-below_of b w some none =
-    let d : w * (b / w) + b % w ≡ b = omega arith in
-    let e : w * 0 + b % w ≡ b = subst (λ q. w * q + b % w ≡ b) none d in
-    omega arith
+below_of b w some none = grind arith
 
 none_of : (b w : ℕ) → 0 < w → b ≡ b % w → b / w ≡ 0
 none_of b w some e =

@@ -1,19 +1,18 @@
 -- Bytes that are written part after part, and the bits that a tap takes of rows.
-use Rattle.std.proofs.Common.{◌≡◌, ℕ, suc, zero, ◌+◌, ◌-◌, ◌*◌, ◌/◌, ◌%◌, ◌^◌, ◌<◌, ◌≤◌, Bool, List, [], ◌++◌, length, take, drop, map, min, slice_index, refl, ap, ap₂, ◌∙◌, sym, arith, subst, append_assoc, append-nil, add-one, inl, inr}
-use Rattle.std.specs.Prelude.{Option, Some, None, if◌then◌else◌, true, false, ◌==◌}
+use Rattle.std.proofs.Common.{◌≡◌, ℕ, suc, zero, ◌+◌, ◌-◌, ◌*◌, ◌/◌, ◌%◌, ◌^◌, ◌<◌, ◌≤◌, Bool, List, [], ◌++◌, length, take, drop, min, slice_index, refl, ap, ◌∙◌, sym, arith, subst, append_assoc, append-nil, add-one, inl, inr}
+use Rattle.std.specs.Prelude.{Option, if◌then◌else◌}
 use Rattle.std.proofs.Math.Seq.{take-append-add}
 use Rattle.std.proofs.lemmas.Bool.{cases_lt}
 use Rattle.std.proofs.lemmas.List.{take-append-le}
 use Rattle.std.proofs.KnownBytes.{Appends-trans}
 use Rattle.std.specs.Io.KnownBytes.{Appends}
-use Rattle.tmds_word.specs.Bits.{row_bits}
 use Rattle.tmds_word.specs.Column.{Column}
 use Rattle.tmds_word.specs.Taps.{part_of}
 use Rattle.capture_file.specs.declared.writing.Tap.{Tap}
 use Rattle.capture_file.specs.Lanes.{Collected}
 use Rattle.tmds_word.specs.Words.{all_words, columns_of}
 use Rattle.capture_file.specs.Layout.{chunk, block, blocks_below}
-use Rattle.capture_file.specs.Taps.{limited, tap_count, tap_lag, tap_of, greatest, HasBits}
+use Rattle.capture_file.specs.Taps.{limited, tap_count, tap_of, HasBits}
 use Rattle.tmds_word.proofs.Characters.{row_bits-words_of, length-words_of}
 use Rattle.capture_file.proofs.Columns.{seen, lanes_of_columns, count_of_columns}
 use Rattle.capture_file.proofs.Packing.{length-part}
@@ -30,12 +29,7 @@ Appends-first a b x rest whole n is some h =
 -- the first part, and some of the second
 pub Appends-part : (a b c : Option (List ℕ)) (x y rest whole : List ℕ) (size n : ℕ) → whole ≡ (x ++ y) ++ rest → length x ≡ size → n < length y
     → Appends a b x → Appends b c (take n y) → Appends a c (take (size + n) whole)
-Appends-part a b c x y rest whole size n is len some first second =
-    let cut : take (size + n) whole ≡ x ++ take n y =
-    ap₂ (λ m xs. take (m + n) xs) (sym len) (is ∙ append_assoc x y rest)
-    ∙ take-append-add x (y ++ rest) n
-    ∙ ap (λ xs. x ++ xs) (take-append-le n y rest (omega arith)) in
-    subst (λ xs. Appends a c xs) (sym cut) (Appends-trans a b c x (take n y) first second)
+Appends-part a b c x y rest whole size n is len some first second = grind (arith, append_assoc, take-append-add, take-append-le, Appends-trans)
 
 -- the bits that a tap takes of three rows, and that the rows have them
 pub record LaneParts (blue green red : List Bool) (p q r : ℕ) (columns : List Column) (tap : Tap) : Type 0 where
@@ -48,18 +42,13 @@ pub record LaneParts (blue green red : List Bool) (p q r : ℕ) (columns : List 
 
 -- a lane begins no later than its lag says
 pub if_least : (b : Bool) (s m : ℕ) → s ≤ m → s ≤ (if b then s else m)
-if_least true s m le = omega arith
-if_least false s m le = le
+if_least b s m h = grind arith
 
 pub limited_le : (most : Option ℕ) (n : ℕ) → limited most n ≤ n
-limited_le None n = omega arith
-limited_le (Some most) n = omega arith
+limited_le most n = grind arith
 
 lane_is : (row : List Bool) (words : List ℕ) (from count bits : ℕ) → words ≡ all_words row → length row % 10 ≡ 0 → bits ≡ count → part_of words from count ≡ take bits (drop from row)
-lane_is row words from count bits is whole same =
-    ap (λ ws. take count (drop from (row_bits ws))) is
-    ∙ ap (λ xs. take count (drop from xs)) (row_bits-words_of row whole)
-    ∙ ap (λ k. take k (drop from row)) (sym same)
+lane_is row words from count bits is whole same = grind (arith, row_bits-words_of)
 
 lane_in : (n offset most skew bits len : ℕ) → bits ≤ 10 * n - offset - most → skew ≤ most → n ≡ len / 10 → 0 < bits → offset + skew + bits ≤ len
 lane_in n offset most skew bits len le small count some = omega arith
@@ -75,24 +64,13 @@ lane_parts blue green red refusals p q r now tap is whole same_green same_red ep
     λ row same. length-words_of row ∙ ap (λ m. m / 10) same ∙ sym (length-words_of blue) in
     let lanes = lanes_of_columns (all_words blue) (all_words green) (all_words red) (counts green same_green) (counts red same_red) in
     let number_of : n ≡ length blue / 10 = sym (ap length from_seen) ∙ count_of_columns blue green red same_green same_red in
-    let least : (c : ℕ) → slice_index tap.skews c ≤ greatest tap.skews → slice_index tap.skews c ≤ tap_lag tap c = λ c le. if_least (tap.version == 2) (slice_index tap.skews c) (greatest tap.skews) le in
-    let most : (c k : ℕ) → k ≡ tap_count tap n c → k ≤ 10 * n - tap.offset - tap_lag tap c =
-    λ c k e. omega (arith, e, limited_le tap.bits (10 * n - tap.offset - tap_lag tap c)) in
-    record {
-      blue_is = lane_is blue (map (λ c. c.blue) now.columns) (tap.offset + slice_index tap.skews 0) (tap_count tap n 0) p (ap (λ cs. map (λ c. c.blue) cs) (sym from_seen) ∙ lanes.blue) whole ep;
-      green_is = lane_is green (map (λ c. c.green) now.columns) (tap.offset + slice_index tap.skews 1) (tap_count tap n 1) q (ap (λ cs. map (λ c. c.green) cs) (sym from_seen) ∙ lanes.green) (ap (λ m. m % 10) same_green ∙ whole) eq;
-      red_is = lane_is red (map (λ c. c.red) now.columns) (tap.offset + slice_index tap.skews 2) (tap_count tap n 2) r (ap (λ cs. map (λ c. c.red) cs) (sym from_seen) ∙ lanes.red) (ap (λ m. m % 10) same_red ∙ whole) er;
-      blue_in = λ some. lane_in n tap.offset (tap_lag tap 0) (slice_index tap.skews 0) p (length blue) (most 0 p ep) (least 0 (omega arith)) number_of some;
-      green_in = λ some. lane_in n tap.offset (tap_lag tap 1) (slice_index tap.skews 1) q (length green) (most 1 q eq) (least 1 (omega arith)) (number_of ∙ ap (λ m. m / 10) (sym same_green)) some;
-      red_in = λ some. lane_in n tap.offset (tap_lag tap 2) (slice_index tap.skews 2) r (length red) (most 2 r er) (least 2 (omega arith)) (number_of ∙ ap (λ m. m / 10) (sym same_red)) some;
-    }
+    grind (arith, if_least, limited_le, lane_is, lane_in)
 
 -- chunks, blocks and the capture
 
 -- a part of a row has the length asked for
 pub length-lane : (row : List Bool) (from bits : ℕ) → HasBits row from bits → length (take bits (drop from row)) ≡ bits
-length-lane row from zero has = refl
-length-lane row from (suc bits) has = length-part row from (suc bits) (has (omega arith)).0
+length-lane row from bits h = grind (arith, length-part)
 
 -- a block is its three chunks
 pub block_is : (j : ℕ) (a b c : List ℕ) → block j a b c ≡ (chunk j a ++ chunk j b) ++ chunk j c
@@ -113,9 +91,7 @@ blocks_after j (suc k) a b c lt =
       | inl less ↦
           let more = blocks_after j k a b c less in
           (more.0 ++ block k a b c, ap (λ xs. xs ++ block k a b c) more.1 ∙ append_assoc (blocks_below j a b c ++ block j a b c) more.0 (block k a b c))
-      | inr last ↦
-          let same : k ≡ j = omega arith in
-          ([], ap (λ i. blocks_below i a b c ++ block i a b c) same ∙ sym (append-nil (blocks_below j a b c ++ block j a b c)))
+      | inr last ↦ grind (arith, append-nil)
     ]
 
 pub no_blocks : (front a b c : List ℕ) → front ++ blocks_below 0 a b c ≡ front
@@ -124,15 +100,8 @@ no_blocks front a b c = append-nil front
 
 -- a place that is kept below 2^32: it is the place itself wherever bits are asked for
 pub lane_start : (row : List Bool) (place start bits : ℕ) → (0 < bits → place + bits ≤ length row) → length row < 2 ^ 32 → start ≡ min place 4294967295 → HasBits row start bits
-lane_start row place start bits inside short is = λ some.
-    let le : place + bits ≤ length row = inside some in
-    let same : start ≡ place = omega arith in
-    (omega arith, omega arith)
+lane_start row place start bits inside short is = grind arith
 
 pub lane_same : (row : List Bool) (place start bits : ℕ) → (0 < bits → place + bits ≤ length row) → length row < 2 ^ 32 → start ≡ min place 4294967295
     → take bits (drop place row) ≡ take bits (drop start row)
-lane_same row place start zero inside short is = refl
-lane_same row place start (suc bits) inside short is =
-    let le : place + suc bits ≤ length row = inside (omega arith) in
-    let same : place ≡ start = omega arith in
-    ap (λ n. take (suc bits) (drop n row)) same
+lane_same row place start bits h k l = grind arith

@@ -1,5 +1,5 @@
 -- The blocks of a capture as one list of pieces: piece n is chunk n / 3 of lane n % 3.
-use Rattle.std.proofs.Common.{◌≡◌, ℕ, suc, zero, ◌+◌, ◌-◌, ◌*◌, ◌/◌, ◌%◌, ◌<◌, ◌≤◌, Bool, List, [], ◌∷◌, ◌++◌, length, min, refl, ap, ap₂, ◌∙◌, sym, arith, inl, inr, append_assoc, append-nil, length-append}
+use Rattle.std.proofs.Common.{◌≡◌, ℕ, suc, zero, ◌+◌, ◌-◌, ◌*◌, ◌/◌, ◌%◌, ◌<◌, Bool, List, [], ◌∷◌, ◌++◌, length, min, refl, ap, ap₂, ◌∙◌, arith, inl, inr, append_assoc, append-nil, length-append}
 use Rattle.std.proofs.lemmas.Bool.{cases_lt}
 use Rattle.capture_file.specs.Layout.{packed, chunk, block, blocks_below}
 use Rattle.capture_file.proofs.Packing.{length-packed}
@@ -39,19 +39,12 @@ pieces-after n (suc m) f lt =
       | inl less ↦
           let more = pieces-after n m f less in
           (more.0 ++ f m, ap (λ xs. xs ++ f m) more.1 ∙ append_assoc (pieces n f) (f n ++ more.0) (f m) ∙ ap (λ xs. pieces n f ++ xs) (append_assoc (f n) more.0 (f m)))
-      | inr last ↦
-          let same : m ≡ n = omega arith in
-          ([], ap (λ k. pieces k f ++ f k) same ∙ ap (λ xs. pieces n f ++ xs) (sym (append-nil (f n))))
+      | inr last ↦ grind (arith, append-nil)
     ]
 
 block-pieces : (j : ℕ) (x y z : List Bool) → block j (packed x) (packed y) (packed z) ≡ (piece_of (three x y z) (3 * j) ++ piece_of (three x y z) (suc (3 * j))) ++ piece_of (three x y z) (suc (suc (3 * j)))
 unfolding block three
-block-pieces j x y z =
-    let at : (n r : ℕ) → n / 3 ≡ j → n % 3 ≡ r → chunk j (packed (three x y z r)) ≡ piece_of (three x y z) n =
-    λ n r e f. ap₂ (λ k i. chunk k (packed (three x y z i))) (sym e) (sym f) in
-    ap₂ (λ a b. a ++ b)
-    (ap₂ (λ a b. a ++ b) (at (3 * j) 0 (omega arith) (omega arith)) (at (suc (3 * j)) 1 (omega arith) (omega arith)))
-    (at (suc (suc (3 * j))) 2 (omega arith) (omega arith))
+block-pieces j x y z = grind arith
 
 pub blocks-pieces : (j : ℕ) (x y z : List Bool) → blocks_below j (packed x) (packed y) (packed z) ≡ pieces (3 * j) (piece_of (three x y z))
 unfolding blocks_below pieces
@@ -59,14 +52,7 @@ blocks-pieces zero x y z = refl
 blocks-pieces (suc j) x y z =
     let f = piece_of (three x y z) in
     let e : 3 * suc j ≡ suc (suc (suc (3 * j))) = omega arith in
-    let p = pieces (3 * j) f in
-    let a = f (3 * j) in
-    let b = f (suc (3 * j)) in
-    let c = f (suc (suc (3 * j))) in
-    ap₂ (λ u v. u ++ v) (blocks-pieces j x y z) (block-pieces j x y z)
-    ∙ sym (append_assoc p (a ++ b) c)
-    ∙ ap (λ u. u ++ c) (sym (append_assoc p a b))
-    ∙ sym (ap (λ n. pieces n f) e)
+    grind (arith, block-pieces, append_assoc, blocks-pieces j x y z)
 
 pub length-piece : (x : ℕ → List Bool) (n t : ℕ) → length (x (n % 3)) ≡ t → length (piece_of x n) ≡ (min (t - 32768 * (n / 3)) 32768 + 7) / 8
 length-piece x n t len = omega (arith, len, length-chunk_of (n / 3) (packed (x (n % 3))), length-packed (x (n % 3)))
@@ -79,28 +65,10 @@ none_of : (xs : List Bool) → length xs ≡ 0 → xs ≡ []
 none_of [] h = refl
 none_of (x ∷ xs) h = absurd (omega arith)
 
-lane_whole : (len t m more : ℕ) → len ≡ min t m → len + more ≡ t → 0 < more → len ≡ m
-lane_whole len t m more e f some = omega arith
-
 -- a piece of lanes that go on is the piece of what is known of them
 pub piece-extended : (t : ℕ → ℕ) (n k : ℕ) (x v : ℕ → List Bool) → Covers t n x → ((c : ℕ) → c < 3 → length (x c ++ v c) ≡ t c) → k < n
     → piece_of (λ c. x c ++ v c) k ≡ piece_of x k
-piece-extended t n k x v covers full lt =
-    let c = k % 3 in
-    let j = k / 3 in
-    let m = (n + 2 - c) / 3 in
-    let few : c < 3 = omega arith in
-    let below : j + 1 ≤ m = omega arith in
-    elim (cases_lt 0 (length (v c))) [
-      | inl some ↦
-          let whole : length (x c) ≡ 32768 * m =
-          lane_whole (length (x c)) (t c) (32768 * m) (length (v c)) (covers.count c few) (sym (length-append (x c) (v c)) ∙ full c few) some in
-          ap (λ bs. chunk j bs) (packed-append (x c) (v c) (omega arith))
-          ∙ chunk-longer j (packed (x c)) (packed (v c)) (omega (arith, whole, below, length-packed (x c)))
-      | inr none ↦
-          let nil : v c ≡ [] = none_of (v c) (omega arith) in
-          ap (λ vs. chunk j (packed (x c ++ vs))) nil ∙ ap (λ us. chunk j (packed us)) (append-nil (x c))
-    ]
+piece-extended t n k x v covers full lt = grind (arith, cases_lt, length-append, packed-append, chunk-longer, length-packed, none_of, append-nil)
 
 pub pieces-extended : (t : ℕ → ℕ) (n : ℕ) (x v : ℕ → List Bool) → Covers t n x → ((c : ℕ) → c < 3 → length (x c ++ v c) ≡ t c)
     → pieces n (piece_of (λ c. x c ++ v c)) ≡ pieces n (piece_of x)
@@ -108,18 +76,12 @@ pieces-extended t n x v covers full = pieces-same n (piece_of (λ c. x c ++ v c)
 
 -- the next piece is the beginning of what its lane goes on with
 pub piece-next : (n : ℕ) (x v : ℕ → List Bool) → length (x (n % 3)) ≡ 32768 * (n / 3) → piece_of (λ c. x c ++ v c) n ≡ part_of (v (n % 3))
-piece-next n x v len =
-    let c = n % 3 in
-    let j = n / 3 in
-    ap (λ bs. chunk j bs) (packed-append (x c) (v c) (omega arith)) ∙ chunk-next j (packed (x c)) (packed (v c)) (omega (arith, len, length-packed (x c)))
+piece-next n x v len = grind (arith, packed-append, chunk-next, length-packed)
 
 -- pieces of lanes by their numbers
 pub lane-three : (x : ℕ → List Bool) (c : ℕ) → c < 3 → three (x 0) (x 1) (x 2) c ≡ x c
 unfolding three
-lane-three x zero lt = refl
-lane-three x (suc zero) lt = refl
-lane-three x (suc (suc zero)) lt = refl
-lane-three x (suc (suc (suc c))) lt = absurd (omega arith)
+lane-three x c h = grind arith
 
 pub piece-three : (x : ℕ → List Bool) (n : ℕ) → piece_of (three (x 0) (x 1) (x 2)) n ≡ piece_of x n
 piece-three x n = ap (λ u. chunk (n / 3) (packed u)) (lane-three x (n % 3) (omega arith))

@@ -64,11 +64,7 @@ byte_set bytes i b value lt is =
     at_place : (bytes : List ℕ) (j r b : ℕ) (value : Bool) → j < length bytes → r < 8 → bits_of 8 b ≡ set (bits_of 8 (get_or bytes j 0)) r value
         → bytes_bits (set bytes j b) ≡ set (bytes_bits bytes) (8 * j + r) value
     at_place [] j r b value lt few is = absurd (omega arith)
-    at_place (x ∷ bytes) zero r b value lt few is =
-        let e : 8 * 0 + r ≡ r = omega arith in
-        ap (λ xs. xs ++ bytes_bits bytes) is
-        ∙ sym (set-append_left (bits_of 8 x) (bytes_bits bytes) r value (omega (arith, few, length-bits_of 8 x)))
-        ∙ ap (λ n. set (bits_of 8 x ++ bytes_bits bytes) n value) (sym e)
+    at_place (x ∷ bytes) zero r b value lt few is = grind (arith, set-append_left, length-bits_of)
     at_place (x ∷ bytes) (suc j) r b value lt few is =
         let e : 8 * suc j + r - 8 ≡ 8 * j + r = omega arith in
         ap (λ xs. bits_of 8 x ++ xs) (at_place bytes j r b value (omega arith) few is)
@@ -111,7 +107,4 @@ bit_at (suc n) (suc k) w lt =
 
 -- all ten
 pub word_done : (row now : List Bool) (place k w : ℕ) → k ≡ 10 → now ≡ take place row ++ take k (word_bits w) ++ drop (place + k) row → now ≡ take place row ++ word_bits w ++ drop (place + 10) row
-word_done row now place k w is was =
-    was
-    ∙ ap (λ n. take place row ++ take n (word_bits w) ++ drop (place + n) row) is
-    ∙ ap (λ xs. take place row ++ xs ++ drop (place + 10) row) (take_all 10 (word_bits w) (omega (arith, length-word_bits w)))
+word_done row now place k w is was = grind (arith, take_all, length-word_bits)

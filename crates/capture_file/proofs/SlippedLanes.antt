@@ -1,6 +1,6 @@
 -- Lanes that are read whole, and of which one is then without some of its bits.
 use Rattle.std.proofs.Common.{◌≡◌, ℕ, ◌+◌, ◌/◌, ◌<◌, ◌≤◌, Bool, List, ◌++◌, length, take, drop, refl, ap, ap₂, ◌∙◌, sym, arith, append_assoc}
-use Rattle.std.specs.Prelude.{Result, Ok, Err, OnOk, slice_index}
+use Rattle.std.specs.Prelude.{Result, OnOk, slice_index}
 use Rattle.std.proofs.lemmas.List.{take-append-drop, drop-drop, take_rest, length-drop}
 use Rattle.std.proofs.Math.Seq.{take-append_seam}
 use Rattle.outside_io.specs.declared.NoMemory.{NoMemory as Refusal}
@@ -9,7 +9,6 @@ use Rattle.capture_file.specs.Layout.{packed}
 use Rattle.capture_file.specs.Captures.{header_of, CanSay, IsHeader, IsHeadless, SaysOf}
 use Rattle.capture_file.specs.Slips.{IsWithinLane, SaysFaulty, unread, without}
 use Rattle.capture_file.specs.declared.slipping.SlipError.{SlipError}
-use Rattle.capture_file.specs.declared.slipping.SlipError.TheVariants.{Bad, Place, Read, Write, NoMemory}
 use Rattle.capture_file.specs.declared.fault.CaptureFault.{CaptureFault}
 use Rattle.capture_file.specs.declared.fault.CaptureError.{CaptureError}
 use Rattle.capture_file.specs.declared.fault.CaptureError.TheVariants as errors
@@ -20,12 +19,10 @@ use Rattle.capture_file.proofs.Standing.{unpacked}
 -- ---- rows
 
 pub on_ok : (p : Type 0) (r : Result (Unit {0}) Refusal) → p → OnOk r p
-on_ok p (Ok u) h = h
-on_ok p (Err e) h = tt
+on_ok p r h = grind arith
 
 pub on_both : (p q : Type 0) (r : Result (Unit {0}) Refusal) → (p → q) → OnOk r p → OnOk r q
-on_both p q (Ok u) f h = f h
-on_both p q (Err e) f h = h
+on_both p q r h k = grind arith
 
 -- packed bits that are appended are these bits
 pub pushed : (old new u : List Bool) (bytes : List ℕ) (count : ℕ) → bytes ≡ packed u → count ≡ length u → new ≡ old ++ take count (bytes_bits bytes) → new ≡ old ++ u
@@ -64,15 +61,10 @@ moved_up row first second third place count few more byte bytes all front byte_i
 -- ---- refusals
 
 pub faulty_of : (p : CaptureFault → Type 0) (e : CaptureError) → SaysOf p e → SaysFaulty p (unread e)
-faulty_of p (errors.Bad fault) h = h
-faulty_of p errors.Read h = h
+faulty_of p e h = grind arith
 
 pub faulty_as : (p q : CaptureFault → Type 0) (e : SlipError) → ((fault : CaptureFault) → p fault → q fault) → SaysFaulty p e → SaysFaulty q e
-faulty_as p q (Bad fault) f h = f fault h
-faulty_as p q Place f h = h
-faulty_as p q Read f h = h
-faulty_as p q Write f h = h
-faulty_as p q NoMemory f h = h
+faulty_as p q e h k = grind arith
 
 -- where no header is whole, no place is judged
 pub headless_within : (bytes : List ℕ) (lane place count : ℕ) → IsHeadless bytes → IsWithinLane bytes lane place count

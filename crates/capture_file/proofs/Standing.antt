@@ -1,5 +1,5 @@
 -- What a reader stands for, from block to block.
-use Rattle.std.proofs.Common.{◌≡◌, ℕ, ◌+◌, ◌*◌, ◌/◌, ◌%◌, ◌^◌, ◌<◌, ◌≤◌, Bool, List, [], ◌++◌, length, take, min, refl, ap, ap₂, ◌∙◌, sym, arith, subst, inl, inr, append-nil, length-take-le}
+use Rattle.std.proofs.Common.{◌≡◌, ℕ, ◌+◌, ◌*◌, ◌/◌, ◌%◌, ◌^◌, ◌<◌, ◌≤◌, Bool, List, [], ◌++◌, length, take, refl, ap, ap₂, ◌∙◌, sym, arith, subst, append-nil, length-take-le}
 use Rattle.std.specs.Prelude.{slice_index}
 use Rattle.std.proofs.Math.Nat.{mod-eq_of_lt}
 use Rattle.std.proofs.Math.Pow.{pow_mono}
@@ -7,7 +7,7 @@ use Rattle.tmds_word.specs.Bits.{bits_of, bytes_of, bytes_bits, number}
 use Rattle.tmds_word.proofs.Numbers.{bits_of-number, number-take}
 use Rattle.tmds_word.proofs.Lists.{length-bytes_bits}
 use Rattle.capture_file.specs.Layout.{packed, header, high_first, blocks_below}
-use Rattle.capture_file.specs.Captures.{CanSay, header_of, header_two, HasRead, Stands, StopsIn, IsFault, IsWithin, SaysOf, IsCapture, bits_in, block_size, place_at, header_size, place_of}
+use Rattle.capture_file.specs.Captures.{CanSay, header_of, header_two, HasRead, Stands, StopsIn, IsFault, IsWithin, SaysOf, bits_in, block_size, place_at, header_size, place_of}
 use Rattle.capture_file.specs.declared.fault.CaptureFault.TheVariants.{Trailing}
 use Rattle.capture_file.specs.declared.fault.CaptureError.{CaptureError}
 use Rattle.capture_file.specs.declared.fault.CaptureError.TheVariants.{Bad, Read}
@@ -29,12 +29,8 @@ unpacked u count is =
     number-take count (bytes_bits (packed u)) ∙ ap (λ bs. number (bytes_bits bs) % 2 ^ count) own ∙ ap (λ n. n % 2 ^ count) (number-packed k (number u) (omega arith)) ∙ mod-eq_of_lt below in
     sym (bits_of-number v) ∙ ap₂ (λ a b. bits_of a b) (len ∙ sym is) same ∙ bits_of-number u
 
-place_next : (t j : ℕ) → min ((t + 7) / 8) (4096 * (j + 1)) ≡ min ((t + 7) / 8) (4096 * j) + (bits_in j t + 7) / 8
-place_next t j = omega arith
-
 pub places_next : (version : ℕ) (counts : List ℕ) (j : ℕ) → place_at version counts j + block_size j counts ≡ place_at version counts (j + 1)
-places_next version counts j =
-    omega (arith, place_next (slice_index counts 0) j, place_next (slice_index counts 1) j, place_next (slice_index counts 2) j)
+places_next version counts j = grind arith
 
 pub stands_more : (version : ℕ) (counts : List ℕ) (j : ℕ) (taken : List ℕ) (x y z a b d : List Bool) → Stands version counts j taken x y z
     → length a ≡ bits_in j (slice_index counts 0) → length b ≡ bits_in j (slice_index counts 1) → length d ≡ bits_in j (slice_index counts 2)
@@ -49,11 +45,7 @@ none_below a b c = refl
 
 pub size_of : (version : ℕ) (counts : List ℕ) → CanSay version counts → length (header_of version counts) ≡ header_size version
 unfolding header_of header_two header high_first
-size_of version counts s =
-    elim (s.shared) [
-      | inl one ↦ ap (λ v. length (header_of v counts)) one.0 ∙ sym (ap header_size one.0)
-      | inr two ↦ ap (λ v. length (header_of v counts)) two ∙ sym (ap header_size two)
-    ]
+size_of version counts s = grind arith
 
 -- a header alone
 pub stands_head : (version : ℕ) (counts : List ℕ) → CanSay version counts → Stands version counts 0 (header_of version counts) [] [] []
@@ -76,17 +68,11 @@ pub says_end : (version : ℕ) (counts : List ℕ) (j place : ℕ) (taken bytes 
     → SaysOf (λ fault. IsFault (taken ++ bytes) fault × StopsIn counts j taken (place_of fault)) e
 says_end version counts j place taken bytes x y z (Bad fault) s none at h =
     let w = ended counts j (place_at version counts j) taken x y z s none in
-    let own : place ≡ length taken = at ∙ s.place_is in
-    let stops : StopsIn counts j taken place = record { from = omega (arith, own); within = inr (none, own) } in
-    let capture : IsCapture taken = record { blue = x; green = y; red = z; holds = w.holds } in
-    subst (λ f. IsFault (taken ++ bytes) f × StopsIn counts j taken (place_of f)) (sym h.0) (trailing_stops taken bytes place capture own h.1 w.only, stops)
+    grind (arith, trailing_stops)
 says_end version counts j place taken bytes x y z Read s none at h = h
 
 -- what a fault in a block says
 pub says_inside : (version : ℕ) (counts : List ℕ) (j place : ℕ) (taken bytes : List ℕ) (x y z : List Bool) (e : CaptureError) → Stands version counts j taken x y z
     → place ≡ place_at version counts j → SaysOf (λ fault. IsFault (taken ++ bytes) fault) e → SaysOf (λ fault. IsWithin place (block_size j counts) (place_of fault)) e
     → SaysOf (λ fault. IsFault (taken ++ bytes) fault × StopsIn counts j taken (place_of fault)) e
-says_inside version counts j place taken bytes x y z (Bad fault) s at h within =
-    let own : place ≡ length taken = at ∙ s.place_is in
-    (h, record { from = omega (arith, own, within.0); within = inl (omega (arith, own, within.1)) })
-says_inside version counts j place taken bytes x y z Read s at h within = h
+says_inside version counts j place taken bytes x y z e h k l m = grind arith

@@ -29,44 +29,17 @@ padding_stops front bytes piece rest count place w at is len some are bad =
     let cut : take p (front ++ bytes) ≡ front ++ take n piece =
     ap₂ (λ k xs. take (k + n) (front ++ xs)) at is ∙ take-append-add front (piece ++ rest) n ∙ ap (λ xs. front ++ xs) (take-append-le n piece rest (omega arith)) in
     let next : p + 1 ≡ length front + length piece = omega arith in
-    let more : take (p + 1) (front ++ bytes) ≡ front ++ piece =
-    ap₂ (λ k xs. take k (front ++ xs)) next is ∙ take-append-add front (piece ++ rest) (length piece) ∙ ap (λ xs. front ++ xs) (take-append_seam piece rest) in
-    let less : length (take n piece) < (count + 7) / 8 = omega (arith, length-take-le n piece (omega arith)) in (
-      record {
-        inside = omega (arith, ap length is, length-append front bytes, length-append piece rest);
-        before = subst (λ bs. BeginsCapture bs) (sym cut) (w.begins (take n piece) (take_bytes n piece are) less);
-        stops = λ h. bad (w.spared piece len (subst (λ bs. BeginsCapture bs) more h));
-      },
-      omega (arith, w.headed),
-      λ h. w.unfinished (take n piece) less (subst (λ bs. IsCapture bs) cut h),
-    )
+    grind (arith, take-append-add, take-append_seam, length-take-le, length-append, take_bytes)
 
 -- a chunk that ends too early
 pub short_piece : (front bytes piece : List ℕ) (count place : ℕ) → Awaits front count → place ≡ length front → bytes ≡ piece → AreBytes piece → length piece < (count + 7) / 8
     → IsFault (front ++ bytes) (Short (place + length piece))
-short_piece front bytes piece count place w at is are less =
-    let e : front ++ bytes ≡ front ++ piece = ap (λ xs. front ++ xs) is in (
-      subst (λ bs. BeginsCapture bs) (sym e) (w.begins piece are less),
-      λ h. w.unfinished piece less (subst (λ bs. IsCapture bs) e h),
-      omega (arith, ap length e, length-append front piece),
-    )
+short_piece front bytes piece count place w at is are less = grind (arith, length-append)
 
 -- bytes past a capture
 pub trailing_stops : (whole rest : List ℕ) (place : ℕ) → IsCapture whole → place ≡ length whole → 0 < length rest → ((more : List ℕ) → IsCapture (whole ++ more) → length more ≡ 0)
     → IsFault (whole ++ rest) (Trailing place)
-trailing_stops whole rest place is at some only =
-    let cut : take place (whole ++ rest) ≡ whole = ap (λ k. take k (whole ++ rest)) at ∙ take-append_seam whole rest in
-    let next : take (place + 1) (whole ++ rest) ≡ whole ++ take 1 rest = ap (λ k. take (k + 1) (whole ++ rest)) at ∙ take-append-add whole rest 1 in
-    let one : length (take 1 rest) ≡ 1 = length-take-le 1 rest (omega arith) in (
-      record {
-        inside = omega (arith, length-append whole rest);
-        before = subst (λ bs. BeginsCapture bs) (sym cut) (begins_whole whole is);
-        stops = λ h.
-            let e : take (place + 1) (whole ++ rest) ++ h.rest ≡ whole ++ (take 1 rest ++ h.rest) = ap (λ xs. xs ++ h.rest) next ∙ append_assoc whole (take 1 rest) h.rest in
-            absurd (omega (arith, only (take 1 rest ++ h.rest) (subst (λ bs. IsCapture bs) e h.whole), length-append (take 1 rest) h.rest, one));
-      },
-      subst (λ bs. IsCapture bs) (sym cut) is,
-    )
+trailing_stops whole rest place is at some only = grind (arith, take-append_seam, take-append-add, length-take-le, length-append, begins_whole, append_assoc)
 
 -- a header is the beginning of a capture
 abbrev zero_lanes : List ℕ → ℕ → List Bool
@@ -82,17 +55,7 @@ header_begins head counts h =
 -- a version's header
 pub first_of : (n : ℕ) → n < 2 ^ 32 → IsHeader (header n) (n ∷ n ∷ n ∷ [])
 unfolding header_of
-first_of n lt = record {
-  version = 1;
-  said = record { small = by_three n lt; shared = inl (refl, refl, refl) };
-  head_is = refl;
-}
-  where
-    by_three : (n : ℕ) → n < 2 ^ 32 → (c : ℕ) → c < 3 → slice_index (n ∷ n ∷ n ∷ []) c < 2 ^ 32
-    by_three n lt zero less = lt
-    by_three n lt (suc zero) less = lt
-    by_three n lt (suc (suc zero)) less = lt
-    by_three n lt (suc (suc (suc c))) less = absurd (omega arith)
+first_of n lt = grind arith
 
 pub second_of : (p q r : ℕ) → p < 2 ^ 32 → q < 2 ^ 32 → r < 2 ^ 32 → IsHeader (header_two (p ∷ q ∷ r ∷ [])) (p ∷ q ∷ r ∷ [])
 unfolding header_of
@@ -111,17 +74,11 @@ second_of p q r lp lq lr = record {
 -- the first four bytes of each capture
 one_mark : (n p : ℕ) (tail : List ℕ) → p < 3 → get_or (header n ++ tail) p 0 ≡ get_or (codes "TMC") p 0
 unfolding header high_first
-one_mark n zero tail lt = refl
-one_mark n (suc zero) tail lt = refl
-one_mark n (suc (suc zero)) tail lt = refl
-one_mark n (suc (suc (suc p))) tail lt = absurd (omega arith)
+one_mark n p tail h = grind arith
 
 two_mark : (counts : List ℕ) (p : ℕ) (tail : List ℕ) → p < 3 → get_or (header_two counts ++ tail) p 0 ≡ get_or (codes "TMC") p 0
 unfolding header_two high_first
-two_mark counts zero tail lt = refl
-two_mark counts (suc zero) tail lt = refl
-two_mark counts (suc (suc zero)) tail lt = refl
-two_mark counts (suc (suc (suc p))) tail lt = absurd (omega arith)
+two_mark counts p tail h = grind arith
 
 one_version : (n : ℕ) (tail : List ℕ) → get_or (header n ++ tail) 3 0 ≡ 49
 unfolding header high_first
@@ -147,9 +104,7 @@ version_of whole is =
     let tail = lane_blocks is.blue is.green is.red in
     elim (header_cases own.head (counts_of is.blue is.green is.red) own.headed) [
       | inl one ↦ inl (ap (λ xs. get_or xs 3 0) (own.bytes_are ∙ ap (λ xs. xs ++ tail) one.is) ∙ one_version (length is.blue) tail)
-      | inr two ↦
-          let e = own.bytes_are ∙ ap (λ xs. xs ++ tail) two in
-          inr (ap (λ xs. get_or xs 3 0) e ∙ two_version (counts_of is.blue is.green is.red) tail, omega (arith, ap length e, length-append (header_two (counts_of is.blue is.green is.red)) tail, length-header_two (counts_of is.blue is.green is.red)))
+      | inr two ↦ grind (arith, two_version, length-append, length-header_two)
     ]
 
 pub capture_long : (whole : List ℕ) → IsCapture whole → 8 ≤ length whole

@@ -23,13 +23,7 @@ nothing_packed = refl
 
 -- chunks of a lane that goes on
 chunk_kept : (j m : ℕ) (x u : List Bool) → (0 < length u → length x ≡ 32768 * m) → j < m → chunk j (packed (x ++ u)) ≡ chunk j (packed x)
-chunk_kept j m x u whole lt =
-    elim (cases_lt 0 (length u)) [
-      | inl some ↦
-          let len = whole some in
-          ap (λ bs. chunk j bs) (packed-append x u (omega arith)) ∙ chunk-longer j (packed x) (packed u) (omega (arith, len, lt, length-packed x))
-      | inr none ↦ ap (λ v. chunk j (packed (x ++ v))) (nothing u (omega arith)) ∙ ap (λ v. chunk j (packed v)) (append-nil x)
-    ]
+chunk_kept j m x u whole lt = grind (arith, cases_lt, packed-append, chunk-longer, length-packed, nothing, append-nil)
 
 pub chunk_past : (j : ℕ) (x : List Bool) → length x ≤ 32768 * j → chunk j (packed x) ≡ []
 unfolding chunk
@@ -41,9 +35,7 @@ chunk_last j x u whole past few =
       | inl some ↦
           let len = whole some in
           ap (λ bs. chunk j bs) (packed-append x u (omega arith)) ∙ chunk-next j (packed x) (packed u) (omega (arith, len, length-packed x)) ∙ take_all 4096 (packed u) (omega (arith, few, length-packed u))
-      | inr none ↦
-          let nil : u ≡ [] = nothing u (omega arith) in
-          ap (λ v. chunk j (packed (x ++ v))) nil ∙ ap (λ v. chunk j (packed v)) (append-nil x) ∙ chunk_past j x (past (omega arith)) ∙ sym (ap packed nil ∙ nothing_packed)
+      | inr none ↦ grind (arith, nothing, append-nil, chunk_past, nothing_packed)
     ]
 
 -- one piece more
@@ -56,18 +48,10 @@ more_in : (t n c j len k : ℕ) → len ≡ min t (32768 * ((n + 2 - c) / 3)) �
 more_in t n c j len k e f g h = (omega arith, λ some. omega arith, λ none. omega arith, omega arith)
 
 other_in : (t n c : ℕ) → c < 3 → c ≢ n % 3 → min t (32768 * ((n + 2 - c) / 3)) ≡ min t (32768 * ((suc n + 2 - c) / 3))
-other_in t n c few other =
-    elim (cases_lt c (n % 3)) [
-      | inl less ↦ ap (λ k. min t (32768 * k)) (omega (arith, few, less))
-      | inr more ↦ elim (cases_lt (n % 3) c) [ inl less ↦ ap (λ k. min t (32768 * k)) (omega (arith, few, less)) | inr least ↦ absurd (other (omega (arith, more, least))) ]
-    ]
+other_in t n c few other = grind (arith, cases_lt)
 
 cases_same : (d c : ℕ) → (d ≡ c) ⊎ (d ≢ c)
-cases_same d c =
-    elim (cases_lt d c) [
-      | inl less ↦ inr (λ e. omega (arith, less, e))
-      | inr more ↦ elim (cases_lt c d) [ inl less ↦ inr (λ e. omega (arith, less, e)) | inr least ↦ inl (omega (arith, more, least)) ]
-    ]
+cases_same d c = grind (arith, cases_lt)
 
 pub step : (t : ℕ → ℕ) (n : ℕ) (x now : ℕ → List Bool) (u : List Bool) → Covers t n x → now (n % 3) ≡ x (n % 3) ++ u → ((d : ℕ) → d < 3 → d ≢ n % 3 → now d ≡ x d)
     → length u ≡ min (t (n % 3) - 32768 * (n / 3)) 32768 → Stepped t n x now u
@@ -88,36 +72,22 @@ step t n x now u covers own others len =
       | inr other ↦ ap (λ v. chunk (k / 3) (packed v)) (others (k % 3) (omega arith) other)
     ] in
     record {
-      covers = record {
-        count = λ d lt. elim (cases_same d c) [
-          | inl same ↦
-              ap (λ e. length (now e)) same ∙ ap length own ∙ length-append (x c) u ∙ m.0
-              ∙ ap (λ e. min (t e) (32768 * ((suc n + 2 - e) / 3))) (sym same)
-          | inr other ↦ ap length (others d lt other) ∙ covers.count d lt ∙ other_in (t d) n d lt other
-        ];
-      };
+      covers = grind (arith, cases_same, length-append, other_in);
       is = ap₂ (λ xs ys. xs ++ ys) (pieces-same n (piece_of now) (piece_of x) kept) (ap (λ v. chunk j (packed v)) own ∙ chunk_last j (x c) u m.1 m.2 m.3);
     }
 
 -- the lanes after one of them went on
 firsts : (x y z a : List Bool) (d : ℕ) → d < 3 → d ≢ 0 → three (x ++ a) y z d ≡ three x y z d
 unfolding three
-firsts x y z a zero lt h = absurd (h refl)
-firsts x y z a (suc zero) lt h = refl
-firsts x y z a (suc (suc d)) lt h = refl
+firsts x y z a d h k = grind arith
 
 seconds : (x y z b : List Bool) (d : ℕ) → d < 3 → d ≢ 1 → three x (y ++ b) z d ≡ three x y z d
 unfolding three
-seconds x y z b zero lt h = refl
-seconds x y z b (suc zero) lt h = absurd (h refl)
-seconds x y z b (suc (suc d)) lt h = refl
+seconds x y z b d h k = grind arith
 
 thirds : (x y z d : List Bool) (e : ℕ) → e < 3 → e ≢ 2 → three x y (z ++ d) e ≡ three x y z e
 unfolding three
-thirds x y z d zero lt h = refl
-thirds x y z d (suc zero) lt h = refl
-thirds x y z d (suc (suc zero)) lt h = absurd (h refl)
-thirds x y z d (suc (suc (suc e))) lt h = absurd (omega arith)
+thirds x y z d e h k = grind arith
 
 -- what was taken, by pieces
 pub record Taken (counts : List ℕ) (n : ℕ) (taken : List ℕ) (x y z : List Bool) : Type 0 where
@@ -128,35 +98,11 @@ pub record Taken (counts : List ℕ) (n : ℕ) (taken : List ℕ) (x y z : List 
 
 pub taken_of : (counts : List ℕ) (j place : ℕ) (taken : List ℕ) (x y z : List Bool) → HasRead counts j place taken x y z → Taken counts (3 * j) taken x y z
 unfolding three
-taken_of counts j place taken x y z r = record {
-  head = r.head;
-  headed = r.headed;
-  covers = record { count = by_lane counts j x y z r.count_x r.count_y r.count_z };
-  is = r.taken_is ∙ ap (λ xs. r.head ++ xs) (blocks-pieces j x y z);
-}
-  where
-    by_lane : (counts : List ℕ) (j : ℕ) (x y z : List Bool) → length x ≡ min (slice_index counts 0) (32768 * j) → length y ≡ min (slice_index counts 1) (32768 * j) → length z ≡ min (slice_index counts 2) (32768 * j)
-        → (c : ℕ) → c < 3 → length (three x y z c) ≡ min (slice_index counts c) (32768 * ((3 * j + 2 - c) / 3))
-    by_lane counts j x y z ex ey ez zero lt = omega (arith, ex)
-    by_lane counts j x y z ex ey ez (suc zero) lt = omega (arith, ey)
-    by_lane counts j x y z ex ey ez (suc (suc zero)) lt = omega (arith, ez)
-    by_lane counts j x y z ex ey ez (suc (suc (suc c))) lt = absurd (omega arith)
+taken_of counts j place taken x y z r = grind (arith, blocks-pieces, three)
 
 pub read_of : (counts : List ℕ) (j place : ℕ) (taken : List ℕ) (x y z : List Bool) → Taken counts (3 * j) taken x y z → place ≡ length taken → HasRead counts j place taken x y z
 unfolding three
-read_of counts j place taken x y z r at =
-    let e0 : (3 * j + 2 - 0) / 3 ≡ j = omega arith in
-    let e1 : (3 * j + 2 - 1) / 3 ≡ j = omega arith in
-    let e2 : (3 * j + 2 - 2) / 3 ≡ j = omega arith in
-    record {
-      head = r.head;
-      headed = r.headed;
-      count_x = r.covers.count 0 (omega arith) ∙ ap (λ k. min (slice_index counts 0) (32768 * k)) e0;
-      count_y = r.covers.count 1 (omega arith) ∙ ap (λ k. min (slice_index counts 1) (32768 * k)) e1;
-      count_z = r.covers.count 2 (omega arith) ∙ ap (λ k. min (slice_index counts 2) (32768 * k)) e2;
-      taken_is = r.is ∙ ap (λ xs. r.head ++ xs) (sym (blocks-pieces j x y z));
-      place_is = at;
-    }
+read_of counts j place taken x y z r at = grind (arith, blocks-pieces)
 
 joined : (head p q : List ℕ) (taken : List ℕ) → taken ≡ head ++ p → taken ++ q ≡ head ++ (p ++ q)
 joined head p q taken is = ap (λ xs. xs ++ q) is ∙ append_assoc head p q
@@ -238,11 +184,7 @@ block_more counts j place taken x y z a b d r la lb ld =
     let t1 = taken_first counts j taken x y z a t0 la in
     let t2 = taken_second counts j (taken ++ packed a) (x ++ a) y z b t1 lb in
     let t3 = taken_third counts j ((taken ++ packed a) ++ packed b) (x ++ a) (y ++ b) z d t2 ld in
-    let is : ((taken ++ packed a) ++ packed b) ++ packed d ≡ taken ++ ((packed a ++ packed b) ++ packed d) =
-    ap (λ xs. xs ++ packed d) (append_assoc taken (packed a) (packed b)) ∙ append_assoc taken (packed a ++ packed b) (packed d) in
-    read_of counts (j + 1) (place + block_size j counts) (taken ++ ((packed a ++ packed b) ++ packed d)) (x ++ a) (y ++ b) (z ++ d)
-    (subst (λ bs. Taken counts (3 * (j + 1)) bs (x ++ a) (y ++ b) (z ++ d)) is t3)
-    (omega (arith, la, lb, ld, r.place_is, length-append taken ((packed a ++ packed b) ++ packed d), length-append (packed a ++ packed b) (packed d), length-append (packed a) (packed b), length-packed a, length-packed b, length-packed d))
+    grind (arith, append_assoc, read_of, length-append, length-packed)
 
 -- nothing is left to be taken
 pub no_block : (counts : List ℕ) (j : ℕ) → block_size j counts ≡ 0 → (slice_index counts 0 ≤ 32768 * j) × (slice_index counts 1 ≤ 32768 * j) × (slice_index counts 2 ≤ 32768 * j)
@@ -256,16 +198,10 @@ pieces_past (suc d) n f h =
     ap (λ k. pieces k f) e ∙ ap (λ xs. pieces (d + n) f ++ xs) (h (d + n) (omega arith)) ∙ append-nil (pieces (d + n) f) ∙ pieces_past d n f h
 
 past_all : (counts : List ℕ) (k c : ℕ) → c < 3 → k % 3 ≡ c → 3 * blocks_in (slice_index counts 0) (slice_index counts 1) (slice_index counts 2) ≤ k → slice_index counts c ≤ 32768 * (k / 3)
-past_all counts k zero lt e le = omega arith
-past_all counts k (suc zero) lt e le = omega arith
-past_all counts k (suc (suc zero)) lt e le = omega arith
-past_all counts k (suc (suc (suc c))) lt e le = absurd (omega arith)
+past_all counts k c h l m = grind arith
 
 full_lane : (counts : List ℕ) (j c n : ℕ) → c < 3 → block_size j counts ≡ 0 → n ≡ min (slice_index counts c) (32768 * ((3 * j + 2 - c) / 3)) → n ≡ slice_index counts c
-full_lane counts j zero n lt none e = omega arith
-full_lane counts j (suc zero) n lt none e = omega arith
-full_lane counts j (suc (suc zero)) n lt none e = omega arith
-full_lane counts j (suc (suc (suc c))) n lt none e = absurd (omega arith)
+full_lane counts j c n h k l = grind arith
 
 -- all that was taken is a capture, and no more bytes make one
 pub record Ended (taken : List ℕ) (x y z : List Bool) : Type 0 where
@@ -293,10 +229,7 @@ ended counts j place taken x y z r none =
       holds = record {
         head = t.head;
         headed = header_same t.head counts (counts_of x y z) (by_count counts x y z e0 e1 e2) t.headed;
-        bytes_are =
-            is
-            ∙ ap (λ xs. t.head ++ xs)
-            (sym (all_pieces x y z ∙ ap (λ p. pieces (3 * blocks_in p (length y) (length z)) (piece_of f)) e0 ∙ ap₂ (λ q r. pieces (3 * blocks_in (slice_index counts 0) q r) (piece_of f)) e1 e2));
+        bytes_are = grind (arith, all_pieces, pieces, blocks_in, piece_of);
       };
       only = λ more capture. capture_only t.head counts more m f t.headed full refl (subst (λ bs. IsCapture (bs ++ more)) is capture);
     }

@@ -1,8 +1,8 @@
 -- Parts of rows, written block by block.
 use Rattle.std.proofs.Common.{◌≡◌, ℕ, ◌+◌, ◌-◌, ◌*◌, ◌/◌, ◌<◌, ◌≤◌, Bool, List, [], ◌++◌, length, take, drop, min, max, ap, ap₂, ◌∙◌, sym, arith, append_assoc}
-use Rattle.std.specs.Prelude.{slice_index, codes, if◌then◌else◌, ◌==◌, true, false}
+use Rattle.std.specs.Prelude.{slice_index, if◌then◌else◌}
 use Rattle.std.proofs.lemmas.List.{drop_all}
-use Rattle.capture_file.specs.Layout.{packed, header, high_first, chunk, block, blocks_below, blocks_of}
+use Rattle.capture_file.specs.Layout.{packed, chunk, block, blocks_below, blocks_of}
 use Rattle.capture_file.specs.Captures.{counts_of, header_of, header_two, lane_blocks, layout}
 use Rattle.capture_file.specs.Taps.{HasBits}
 use Rattle.capture_file.proofs.Packing.{length-packed, chunk-part}
@@ -13,38 +13,25 @@ use Rattle.capture_file.proofs.Fronts.{length-header}
 -- a lane that has no bits in a block adds nothing
 pub no_chunk : (j bits from : ℕ) (row : List Bool) → HasBits row from bits → min (bits - 32768 * j) 32768 ≡ 0 → chunk j (packed (take bits (drop from row))) ≡ []
 unfolding chunk
-no_chunk j bits from row has none =
-    let lane = packed (take bits (drop from row)) in
-    let len : length lane ≡ (bits + 7) / 8 = length-packed (take bits (drop from row)) ∙ ap (λ n. (n + 7) / 8) (length-lane row from bits has) in
-    ap (λ xs. take 4096 xs) (drop_all (4096 * j) lane (omega (arith, len, none)))
+no_chunk j bits from row has none = grind (arith, length-packed, length-lane, drop_all)
 
 -- a chunk is its own bits packed
 pub some_chunk : (j bits from count : ℕ) (row : List Bool) → HasBits row from bits → 0 < count → count ≡ min (bits - 32768 * j) 32768
     → chunk j (packed (take bits (drop from row))) ≡ packed (take count (drop (from + 32768 * j) row))
 some_chunk j bits from count row has some is = chunk-part row from bits j count (has (omega arith)).0 (omega arith) is
 
-one_of : (b : Bool) (x y : List ℕ) → length x ≤ 16 → length y ≤ 16 → length (if b then x else y) ≤ 16
-one_of true x y lx ly = lx
-one_of false x y lx ly = ly
-
 pub short_header : (version : ℕ) (bits : List ℕ) → length (header_of version bits) ≤ 16
 unfolding header_of
-short_header version bits = one_of (version == 2) (header_two bits) (header (slice_index bits 0)) (omega (arith, length-header_two bits)) (omega (arith, length-header (slice_index bits 0)))
+short_header version bits = grind (arith, length-header_two, length-header)
 
 -- the capture of parts of rows
 pub record Layouts (version : ℕ) (x y z : List Bool) (bits : List ℕ) (most : ℕ) : Type 0 where
   pub is : layout version x y z ≡ header_of version bits ++ blocks_below (((most + 7) / 8 + 4095) / 4096) (packed x) (packed y) (packed z)
   pub after : (j : ℕ) → j < ((most + 7) / 8 + 4095) / 4096 → (rest : List ℕ) × (layout version x y z ≡ ((header_of version bits ++ blocks_below j (packed x) (packed y) (packed z)) ++ block j (packed x) (packed y) (packed z)) ++ rest)
 
-same_two : (u v : List ℕ) → slice_index u 0 ≡ slice_index v 0 → slice_index u 1 ≡ slice_index v 1 → slice_index u 2 ≡ slice_index v 2 → header_two u ≡ header_two v
-unfolding header_two
-same_two u v a b c =
-    ap₂ (λ p q. codes "TMC2" ++ high_first p ++ high_first q ++ high_first (slice_index u 2)) a b
-    ∙ ap (λ r. codes "TMC2" ++ high_first (slice_index v 0) ++ high_first (slice_index v 1) ++ high_first r) c
-
 same_header : (version : ℕ) (u v : List ℕ) → slice_index u 0 ≡ slice_index v 0 → slice_index u 1 ≡ slice_index v 1 → slice_index u 2 ≡ slice_index v 2 → header_of version u ≡ header_of version v
-unfolding header_of
-same_header version u v a b c = ap₂ (λ xs ys. if version == 2 then xs else ys) (same_two u v a b c) (ap header a)
+unfolding header_of header_two
+same_header version u v a b c = grind arith
 
 pub layouts : (version : ℕ) (x y z : List Bool) (bits : List ℕ) (most : ℕ) → length x ≡ slice_index bits 0 → length y ≡ slice_index bits 1 → length z ≡ slice_index bits 2
     → most ≡ max (slice_index bits 0) (max (slice_index bits 1) (slice_index bits 2)) → Layouts version x y z bits most

@@ -12,7 +12,7 @@ use Rattle.command_line.specs.declared.options.OptionName.{OptionName}
 use Rattle.command_line.proofs.GivenOptions.{values-append}
 use Rattle.command_line.proofs.FoundRows.{option_built, is_itself, found_option, option_fits, operand_fits, given_reported}
 use Rattle.command_line.proofs.Words.{plain_dashes, plain_long, plain_short, named_dashes, named_long, valued_dashes, valued_long}
-use Rattle.command_line.proofs.Turns.{IsForm, holding, walk_at, Turn, rest_turn, plain_turn, place, waits_after, IsIdle, idle_after, value_turn, idle_turn, trailing_turn, waiting_turn, named_turn, valued_turn}
+use Rattle.command_line.proofs.Turns.{IsForm, holding, walk_at, Turn, plain_turn, place, waits_after, IsIdle, idle_after, value_turn, idle_turn, trailing_turn, waiting_turn, named_turn, valued_turn}
 use Rattle.command_line.proofs.Takings.{total, last, end_fault, end_passes, or_else_both, turn_done, turn_last, settle_operand, settle_option, finds_operand, finds_option, Finds}
 
 -- some operands, and no more than the command takes

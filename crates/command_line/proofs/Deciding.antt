@@ -10,16 +10,14 @@ use Rattle.std.proofs.lemmas.Bool.{and_parts}
 use Rattle.clap.specs.Walk.{Row, idle, nothing_held, walk_from, walked, rows_after, arg_by_long}
 use Rattle.clap.specs.Faults.{fault_of, level_fault}
 use Rattle.clap.specs.Simple.{subcommand_of}
-use Rattle.command_line.specs.Numbers.{number_of, is_digit, IsNumber, AreThree, digit_text}
-use Rattle.command_line.specs.Damages.{IsDamage, AreDamages}
-use Rattle.command_line.specs.Slips.{IsSlip}
+use Rattle.command_line.specs.Numbers.{number_of, is_digit, IsNumber, digit_text}
+use Rattle.command_line.specs.Damages.{AreDamages}
 use Rattle.command_line.specs.Grammar.{Text, Piece, apart, joined, operand, piece_words, ArePlain, option_of, operand_of, rest_words, is_same, values_of, listed, AreArranged}
 use Rattle.command_line.specs.Commands.{IsOffset, AreSkews, IsLimit, IsVersion, IsTap, Means, IsCommand}
 use Rattle.command_line.specs.Forms.{option_id, vabgrot, AreFound, Judges}
 use Rattle.command_line.specs.declared.options.OptionName.{OptionName}
 use Rattle.command_line.specs.declared.options.OptionName.TheVariants.{Offset, Skew, Bits, Version}
 use Rattle.command_line.specs.declared.damage.DamageWord.{DamageWord}
-use Rattle.command_line.specs.declared.slip.SlipWord.{SlipWord}
 use Rattle.command_line.specs.declared.tap.TapWords.{TapWords}
 use Rattle.command_line.specs.declared.command.Command.{Command}
 use Rattle.command_line.specs.declared.command.Command.TheVariants.{MakeLink, MakeContent, MakeDvi, RecoverLink, RecoverContent, RecoverTrack, RecoverBiphase, RecoverDvi, Check, Damage, Slip, ReadBiphase, Relay, Sample}
@@ -119,10 +117,7 @@ form_found : (s : Sub) (after : List Text) (options : List (OptionName × Text))
     → ((has ≡ true) × ((n : OptionName) → arg_by_long (sub_rules s) (option_id n) ≡ Some (option_built n))) ⊎ (options ≡ []) → Once options → AreFew many operands
     → Accepts (sub_name s) (sub_rules s) (walk_from nothing_held) after options operands → IsTaken s after options operands
 unfolding IsTaken Accepts last
-form_found s after options operands many has f a offers once few accepts = (
-  sub_fault s after ∙ level_total (sub_name s) (sub_rules s) after ∙ accepts.0,
-  subst (λ (rows : List Row). AreFound rows options operands) (sym (finished_rows (sub_rules s) many has f (last (sub_rules s) (walk_from nothing_held) after).held)) accepts.1,
-)
+form_found s after options operands many has f a offers once few accepts = grind (arith, sub_fault, level_total, sub_name, sub_rules, finished_rows, last)
 
 accepts_by : (s : Sub) (after : List Text) (options : List (OptionName × Text)) (operands : List Text) (many has : Bool) → IsForm (sub_rules s) many has → AreArranged after options operands
     → ((has ≡ true) × ((n : OptionName) → arg_by_long (sub_rules s) (option_id n) ≡ Some (option_built n))) ⊎ (options ≡ []) → Once options → AreFew many operands
@@ -212,15 +207,7 @@ pub record Reads (words : List Text) (name : Text) (options : List (OptionName �
 reads : (s : Sub) (words : List Text) (name : Text) (after : List Text) (options : List (OptionName × Text)) (operands : List Text) → words ≡ name ∷ after → name ≡ sub_name s → IsTaken s after options operands
     → (name ≡ codes "make") ⊎ (options ≡ []) → Reads words name options operands
 unfolding IsTaken
-reads s words name after options operands words_are is t allowed =
-    let same : words ≡ sub_name s ∷ after = words_are ∙ ap (λ (n : Text). n ∷ after) is in
-    record {
-      rows = rows_after (sub_rules s) [] after;
-      passes = ap (fault_of vabgrot) same ∙ t.0;
-      rows_are = ap (subcommand_of vabgrot) same ∙ sub_rows s after ∙ ap (λ (n : Text). Some (n, rows_after (sub_rules s) [] after)) (sym is);
-      found = t.1;
-      allowed = allowed;
-    }
+reads s words name after options operands words_are is t allowed = grind (arith, sub_name, sub_rules, sub_rows)
 
 reads_by : (words : List Text) (name : Text) (after : List Text) (options : List (OptionName × Text)) (operands : List Text) (c : Command) → words ≡ name ∷ after → AreArranged after options operands
     → Means c name options operands → Reads words name options operands
@@ -277,24 +264,15 @@ number_plain : (most : ℕ) (t : Text) (n : ℕ) → IsNumber most t n → start
 number_plain most [] n is = refl
 number_plain most (x ∷ xs) n is = digit_plain x (and_parts (is_digit x) (list_all is_digit xs) (digits_are (x ∷ xs) n is.digits)).0
 
-three_plain : (most : ℕ) (t : Text) (a b c : ℕ) → AreThree most t a b c → starts_with_minus t ≡ false
-three_plain most t a b c is = ap starts_with_minus is.text_is ∙ digits_plain is.first is.second is.third a is.first_is.digits
-
 digit_first_plain : (n : ℕ) (rest : Text) → starts_with_minus ((48 + n) ∷ rest) ≡ false
 digit_first_plain n rest = grind (arith, common_steps)
-
-damage_plain : (t : Text) (damage : DamageWord) → IsDamage t damage → starts_with_minus t ≡ false
-damage_plain t damage is = ap starts_with_minus is.text_is ∙ digit_first_plain damage.lane (codes ":" ++ is.place_text ++ codes ":" ++ is.digits)
-
-slip_plain : (t : Text) (slip : SlipWord) → IsSlip t slip → starts_with_minus t ≡ false
-slip_plain t slip is = ap starts_with_minus is.text_is ∙ digit_first_plain slip.lane (codes ":" ++ is.place_text ++ codes ":" ++ digit_text slip.bits)
 
 damages_plain : (ts : List Text) (damages : List DamageWord) → AreDamages ts damages → TextsPlain ts
 unfolding TextsPlain
 damages_plain [] [] are = tt
 damages_plain [] (d ∷ ds) are = tt
 damages_plain (t ∷ ts) [] are = absurd are
-damages_plain (t ∷ ts) (d ∷ ds) are = (damage_plain t d are.0, damages_plain ts ds are.1)
+damages_plain (t ∷ ts) (d ∷ ds) are = grind (arith, digit_first_plain, damages_plain ts ds)
 
 offset_plain : (o : Option Text) (n : ℕ) → IsOffset o n → TextsPlain (listed o)
 unfolding TextsPlain
@@ -303,8 +281,7 @@ offset_plain (Some t) n is = (number_plain 4294967295 t n is, tt)
 
 skews_plain : (o : Option Text) (n : List ℕ) → AreSkews o n → TextsPlain (listed o)
 unfolding TextsPlain
-skews_plain None n is = tt
-skews_plain (Some t) n is = (three_plain 4095 t is.0 is.1 is.2 is.3, tt)
+skews_plain o n h = grind (arith, digits_plain)
 
 limit_plain : (o : Option Text) (n : Option ℕ) → IsLimit o n → TextsPlain (listed o)
 unfolding TextsPlain
@@ -357,7 +334,7 @@ means_plain (RecoverBiphase k) name options operands m = (no_values_plain option
 means_plain RecoverDvi name options operands m = (no_values_plain options m.2, one_text_plain operands (codes "dvi") m.1 refl)
 means_plain Check name options operands m = (no_values_plain options m.2, subst TextsPlain (sym m.1) tt)
 means_plain (Damage damages) name options operands m = (no_values_plain options m.2, damages_plain operands damages m.1.0)
-means_plain (Slip slip) name options operands m = (no_values_plain options m.2, one_text_plain operands m.1.0 m.1.1 (slip_plain m.1.0 slip m.1.2))
+means_plain (Slip slip) name options operands m = grind (arith, no_values_plain, one_text_plain, digit_first_plain)
 means_plain ReadBiphase name options operands m = (no_values_plain options m.2, one_text_plain operands (codes "biphase") m.1 refl)
 means_plain Relay name options operands m = (no_values_plain options m.2, subst TextsPlain (sym m.1) tt)
 means_plain (Sample n) name options operands m = (no_values_plain options m.2, one_text_plain operands m.1.0 m.1.1 (number_plain 20 m.1.0 n m.1.2))
@@ -380,31 +357,10 @@ pub judged : (words : List Text) (a : Accepted words) (r : Option Command) → J
     → MatchOption r ((c : Command) → IsCommand words c → ⊥) (λ c. IsCommand words c)
 judged words a (Some c) j =
     let m = j (filter_map option_of a.pieces) (filter_map operand_of a.pieces ++ unwrap_or a.rest []) a.found a.allowed in
-    let plain = means_plain c a.name (filter_map option_of a.pieces) (filter_map operand_of a.pieces ++ unwrap_or a.rest []) m in
-    record {
-      name = a.name;
-      after = a.after;
-      options = filter_map option_of a.pieces;
-      operands = filter_map operand_of a.pieces ++ unwrap_or a.rest [];
-      words_are = a.words_are;
-      arranged = record {
-        pieces = a.pieces;
-        rest = a.rest;
-        words_are = a.after_are;
-        plain = pieces_plain a.pieces plain.0 (texts_front (filter_map operand_of a.pieces) (unwrap_or a.rest []) plain.1);
-        options_are = refl;
-        operands_are = refl;
-      };
-      means = m;
-    }
+    grind (arith, means_plain, pieces_plain, texts_front)
 judged words a None j = λ c k.
     let r = command_reads words c k in
-    let same : (a.name, a.rows) ≡ (k.name, r.rows) = same_Some (a.name, a.rows) (k.name, r.rows) (sym a.rows_are ∙ r.rows_are) in
-    let names_are : k.name ≡ a.name = sym (ap (λ (p : Text × List Row). p.0) same) in
-    let rows_are : r.rows ≡ a.rows = sym (ap (λ (p : Text × List Row). p.1) same) in
-    j k.options k.operands (subst (λ (rs : List Row). AreFound rs k.options k.operands) rows_are r.found)
-    (subst (λ (n : Text). (n ≡ codes "make") ⊎ (k.options ≡ [])) names_are r.allowed) c
-    (subst (λ (n : Text). Means c n k.options k.operands) names_are k.means)
+    grind (arith, same_Some)
 
 -- words that are refused are no command
 pub refused : (words : List Text) (c : Command) → IsCommand words c → (fault_of vabgrot words ≡ [] → ⊥) → ⊥

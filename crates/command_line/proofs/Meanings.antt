@@ -4,7 +4,6 @@ use Rattle.std.specs.Prelude.{codes}
 use Rattle.std.specs.Str.{bytes_eq}
 use Rattle.std.proofs.lemmas.Slice.Eq.{bytes_eq-Decides}
 use Rattle.std.proofs.lemmas.Option.{none-some}
-use Rattle.command_line.specs.Numbers.{digit_text}
 use Rattle.command_line.specs.Parsing.{within, digit_within, slip_of}
 use Rattle.command_line.specs.Slips.{IsSlip}
 use Rattle.command_line.specs.Grammar.{Text, texts}
@@ -46,14 +45,7 @@ name_of (Sample n) = codes "sample"
 -- the words of a command begin with its name
 pub named : (c : Command) (name : Text) (options : List (OptionName × Text)) (operands : List Text) → Means c name options operands → name ≡ name_of c
 unfolding name_of
-named (MakeLink tap) name options operands m = m.0
-named (MakeContent tap) name options operands m = m.0
-named (MakeDvi tap) name options operands m = m.0
-named (Damage damages) name options operands m = m.0
-named (Slip slip) name options operands m = m.0
-named (Sample n) name options operands m = m.0
-named (RecoverBiphase k) name options operands m = m.0
-named c name options operands m = m.0
+named c name options operands h = grind arith
 
 -- a command of another name
 abbrev other_name : (c : Command) (name : Text) (options : List (OptionName × Text)) (operands : List Text) → bytes_eq name (name_of c) ≡ false → Means c name options operands → ⊥
@@ -88,10 +80,7 @@ same_second a b c d us vs e = ap second_of e
 pub no_sample : (operands : List Text) (t : Text) → operands ≡ t ∷ [] → ((n : ℕ) → within 20 t ≡ Some n → 2 ≤ n → ⊥)
     → (c : Command) → Means c (codes "sample") [] operands → ⊥
 unfolding name_of
-no_sample operands t is none (Sample n) m =
-    let same : m.1.0 ≡ t = same_head m.1.0 t [] [] (sym m.1.1 ∙ is) in
-    none n (subst (λ (u : Text). within 20 u ≡ Some n) same (number_found 20 m.1.0 n m.1.2)) m.1.3
-no_sample operands t is none c m = other_name c (codes "sample") [] operands refl m
+no_sample operands t h k l m = grind (arith, same_head, number_found)
 
 -- no word of a slip, no `slip`
 pub no_slip : (operands : List Text) (t : Text) → operands ≡ t ∷ [] → slip_of t ≡ None → (c : Command) → Means c (codes "slip") [] operands → ⊥
@@ -104,11 +93,4 @@ no_slip operands t is none c m = other_name c (codes "slip") [] operands refl m
 -- no digit of a pair, no `recover` of two operands
 pub no_pair : (kind t : Text) → digit_within 0 3 t ≡ None → (c : Command) → Means c (codes "recover") [] (kind ∷ t ∷ []) → ⊥
 unfolding name_of
-no_pair kind t none (RecoverBiphase k) m =
-    let same : t ≡ digit_text k = same_second kind (codes "biphase") t (digit_text k) [] [] m.1.0 in
-    none-some k (sym none ∙ ap (digit_within 0 3) same ∙ digit_found 0 3 k (omega arith) m.1.1)
-no_pair kind t none RecoverLink m = absurd (cc m.1)
-no_pair kind t none RecoverContent m = absurd (cc m.1)
-no_pair kind t none RecoverTrack m = absurd (cc m.1)
-no_pair kind t none RecoverDvi m = absurd (cc m.1)
-no_pair kind t none c m = other_name c (codes "recover") [] (kind ∷ t ∷ []) refl m
+no_pair kind t h k l = grind (arith, same_second, none-some, digit_found)

@@ -1,13 +1,12 @@
 -- Words that `clap` takes begin with the name of a command.
-use Rattle.std.proofs.Common.{◌≡◌, ◌∙◌, sym, ap, refl, subst, Bool, true, false, ◌||◌, ℕ, List, [], ◌∷◌, length, codes, Option, Some, None, bytes_eq, slice_get}
+use Rattle.std.proofs.Common.{arith, ◌≡◌, sym, ap, refl, subst, Bool, true, false, ◌||◌, List, [], ◌∷◌, codes, Option, Some, None, bytes_eq}
 use Rattle.std.specs.Prelude.{if◌then◌else◌, option_map}
 use Rattle.std.specs.Option.{option_map_or}
-use Rattle.std.specs.Str.{chars}
 use Rattle.std.proofs.lemmas.Slice.Eq.{bytes_eq-Decides}
-use Rattle.clap.specs.Lexer.{long_of, short_of}
+use Rattle.clap.specs.Lexer.{short_of}
 use Rattle.clap.specs.Kinds.{Kinds, or_else}
-use Rattle.clap.specs.Walk.{Held, Step, idle, trailing, plain, walked, nothing_held, subcommand_met, subcommand_or_other, long_or_other, short_or_plain, after_flag, bundle_step, bundle_met}
-use Rattle.clap.specs.Faults.{fault_of, walk_fault, turn_fault, step_fault, other_fault, flag_word_fault, bundle_fault, flags_fault, bundle_step_fault, defaults_fault}
+use Rattle.clap.specs.Walk.{Held, Step, idle, trailing, walked, nothing_held, subcommand_met, long_or_other, short_or_plain, bundle_met}
+use Rattle.clap.specs.Faults.{fault_of, walk_fault, step_fault, flag_word_fault, bundle_fault, flags_fault, defaults_fault}
 use Rattle.clap.specs.declared.error.kind.ErrorKind.{ErrorKind}
 use Rattle.clap.specs.declared.error.kind.ErrorKind.TheVariants as kind
 use Rattle.command_line.specs.Grammar.{Text}
@@ -20,11 +19,6 @@ no_kind k ks h = cc h
 
 -- the fault of a first word, by what it looks like
 
-abbrev met_fault : Text → Option Text → Kinds
-met_fault word met =
-    let step = subcommand_or_other [] met idle 1 word nothing_held in
-    or_else (other_fault whole.top met word nothing_held) (step_fault whole.top 1 step.0 step.1)
-
 abbrev look_fault : Text → Bool → Option (Text × Option Text) → Kinds
 look_fault word dashes long =
     let step : Held × Step = if dashes then (nothing_held, trailing 1) else long_or_other [] idle word long nothing_held in
@@ -35,21 +29,11 @@ flag_fault word short =
     let step = short_or_plain [] idle word short nothing_held in
     or_else (option_map_or (λ fl. bundle_fault [] false fl nothing_held) short []) (step_fault whole.top 1 step.0 step.1)
 
-abbrev bundle_fault_by : Text → Text → Text → Option ℕ → Kinds
-bundle_fault_by word flags fs o =
-    let met = bundle_step [] o flags 0 plain nothing_held (bundle_met [] (length fs)) in
-    let step = after_flag [] idle word met.0 met.1 in
-    or_else (bundle_step_fault [] false o flags 0 nothing_held (flags_fault [] false (length fs))) (step_fault whole.top 1 step.0 step.1)
-
-bundle_fails : (word flags fs : Text) (o : Option ℕ) → bundle_fault_by word flags fs o ≡ [] → ⊥
-bundle_fails word flags fs None h = cc h
-bundle_fails word flags fs (Some x) h = cc h
-
 flags_fail : (word : Text) (short : Option Text) → flag_fault word short ≡ [] → ⊥
 unfolding flags_fault bundle_met
 flags_fail word None h = cc h
 flags_fail word (Some []) h = cc h
-flags_fail word (Some (f ∷ fs)) h = bundle_fails word (f ∷ fs) fs (slice_get (chars (f ∷ fs)) 0) h
+flags_fail word (Some (f ∷ fs)) h = grind arith
 
 look_fails : (word : Text) (long : Option (Text × Option Text)) → look_fault word false long ≡ [] → ⊥
 look_fails word (Some p) h = cc h
@@ -65,11 +49,7 @@ dashes_fail (x ∷ xs) h = no_kind kind.UnknownArgument (kind.InvalidSubcommand 
 no_name_fails : (word : Text) (words : List Text) (dashes : Bool) → bytes_eq word (codes "--") ≡ dashes → subcommand_met names idle word ≡ None → fault_of vabgrot (word ∷ words) ≡ [] → ⊥
 unfolding walk_fault
 no_name_fails word words true d met h = dashes_fail words (subst (λ (w : Text). fault_of vabgrot (w ∷ words) ≡ []) ((bytes_eq-Decides word (codes "--")).0 d) h)
-no_name_fails word words false d met h =
-    let walks : walk_fault whole.top names start (word ∷ words) ≡ [] = or_else_first (walk_fault whole.top names start (word ∷ words)) _ h in
-    let turn : turn_fault whole.top names start word ≡ [] = or_else_first (turn_fault whole.top names start word) _ walks in
-    let looks : met_fault word None ≡ [] = ap (met_fault word) (sym met) ∙ turn in
-    look_fails word (long_of word) (ap (λ (b : Bool). look_fault word b (long_of word)) (sym d) ∙ looks)
+no_name_fails word words false d met h = grind (arith, whole, names, start, or_else_first, look_fails)
 
 abbrev met_by : Bool → Bool → Bool → Bool → Bool → Bool → Bool → Bool → Option (Text × List Text)
 met_by a b c d e f g h =

@@ -1,17 +1,15 @@
 -- Words name one command at most.
-use Rattle.std.proofs.Common.{◌≡◌, ◌⊎◌, inl, inr, Bool, true, false, bytes_eq, ◌∙◌, sym, ap, ap₂, refl, subst, arith, ℕ, ◌≤◌, List, [], ◌∷◌, Option, Some, None}
+use Rattle.std.proofs.Common.{◌≡◌, ◌⊎◌, false, bytes_eq, ◌∙◌, sym, ap, ap₂, refl, subst, arith, ℕ, List, [], ◌∷◌, Option, Some, None}
 use Rattle.std.specs.Prelude.{codes, if◌then◌else◌}
 use Rattle.std.proofs.lemmas.Option.{none-some, same_Some}
-use Rattle.command_line.specs.Numbers.{IsNumber, digit_text}
-use Rattle.command_line.specs.Parsing.{digit_within}
+use Rattle.command_line.specs.Numbers.{IsNumber}
 use Rattle.command_line.specs.Slips.{IsSlip}
 use Rattle.command_line.specs.Damages.{IsDamage, AreDamages}
 use Rattle.command_line.specs.Grammar.{Text, values_of, listed}
-use Rattle.command_line.specs.Forms.{AreFound, one_value, all_values}
+use Rattle.command_line.specs.Forms.{AreFound, one_value}
 use Rattle.clap.specs.Walk.{Row}
-use Rattle.command_line.specs.Commands.{IsOffset, AreSkews, IsLimit, IsVersion, IsTap, Means, IsCommand}
+use Rattle.command_line.specs.Commands.{AreSkews, IsLimit, IsVersion, IsTap, Means, IsCommand}
 use Rattle.command_line.specs.declared.options.OptionName.{OptionName}
-use Rattle.command_line.specs.declared.options.OptionName.TheVariants.{Offset, Skew, Bits, Version}
 use Rattle.command_line.specs.declared.tap.TapWords.{TapWords}
 use Rattle.command_line.specs.declared.damage.DamageWord.{DamageWord}
 use Rattle.command_line.specs.declared.slip.SlipWord.{SlipWord}
@@ -28,38 +26,20 @@ use Rattle.command_line.proofs.Deciding.{command_reads}
 pub number_once : (most : ℕ) (text : Text) (m n : ℕ) → IsNumber most text m → IsNumber most text n → m ≡ n
 number_once most text m n a b = same_Some m n (sym (number_found most text m a) ∙ number_found most text n b)
 
-offset_once : (text : Option Text) (m n : ℕ) → IsOffset text m → IsOffset text n → m ≡ n
-offset_once (Some text) m n a b = number_once 4294967295 text m n a b
-offset_once None m n a b = a ∙ sym b
-
 skews_once : (text : Option Text) (m n : List ℕ) → AreSkews text m → AreSkews text n → m ≡ n
 skews_once (Some text) m n a b =
     a.4 ∙ same_Some (a.0 ∷ a.1 ∷ a.2 ∷ []) (b.0 ∷ b.1 ∷ b.2 ∷ []) (sym (three_found 4095 text a.0 a.1 a.2 a.3) ∙ three_found 4095 text b.0 b.1 b.2 b.3) ∙ sym b.4
 skews_once None m n a b = a ∙ sym b
 
 limit_once : (text : Option Text) (m n : Option ℕ) → IsLimit text m → IsLimit text n → m ≡ n
-limit_once (Some text) m n a b = a.2 ∙ ap Some (number_once 4294967295 text a.0 b.0 a.1 b.1) ∙ sym b.2
-limit_once None m n a b = a ∙ sym b
+limit_once text m n h k = grind (arith, number_once)
 
 version_once : (text : Option Text) (m n : ℕ) → IsVersion text m → IsVersion text n → m ≡ n
-version_once (Some text) m n a b = number_once 2 text m n a.0 b.0
-version_once None m n a b = a ∙ sym b
-
-same_tap : (t u : TapWords) → t.version ≡ u.version → t.offset ≡ u.offset → t.skews ≡ u.skews → t.bits ≡ u.bits → t ≡ u
-same_tap t u v o s b = λ i. record { version = v i; offset = o i; skews = s i; bits = b i }
+version_once text m n h k = grind (arith, number_once)
 
 -- options ask for one tap at most
 pub tap_once : (options : List (OptionName × Text)) (t u : TapWords) → IsTap options t → IsTap options u → t ≡ u
-tap_once options t u a b =
-    let offset : b.offset_text ≡ a.offset_text = same_text Offset options b.offset_text a.offset_text b.offset_given a.offset_given in
-    let skew : b.skew_text ≡ a.skew_text = same_text Skew options b.skew_text a.skew_text b.skew_given a.skew_given in
-    let bits : b.bits_text ≡ a.bits_text = same_text Bits options b.bits_text a.bits_text b.bits_given a.bits_given in
-    let version : b.version_text ≡ a.version_text = same_text Version options b.version_text a.version_text b.version_given a.version_given in
-    same_tap t u
-    (version_once a.version_text t.version u.version a.version (subst (λ (x : Option Text). IsVersion x u.version) version b.version))
-    (offset_once a.offset_text t.offset u.offset a.offset (subst (λ (x : Option Text). IsOffset x u.offset) offset b.offset))
-    (skews_once a.skew_text t.skews u.skews a.skews (subst (λ (x : Option Text). AreSkews x u.skews) skew b.skews))
-    (limit_once a.bits_text t.bits u.bits a.bits (subst (λ (x : Option Text). IsLimit x u.bits) bits b.bits))
+tap_once options t u a b = grind (arith, same_text, version_once, skews_once, limit_once, number_once)
 
 damage_once : (text : Text) (m n : DamageWord) → IsDamage text m → IsDamage text n → m ≡ n
 damage_once text m n a b = same_Some m n (sym (damage_found text m a) ∙ damage_found text n b)
@@ -75,9 +55,6 @@ damages_once (w ∷ ws) (x ∷ xs) (y ∷ ys) a b = ap₂ (λ (z : DamageWord) (
 
 slip_once : (text : Text) (m n : SlipWord) → IsSlip text m → IsSlip text n → m ≡ n
 slip_once text m n a b = same_Some m n (sym (slip_found text m a) ∙ slip_found text n b)
-
-pair_once : (m n : ℕ) → m ≤ 3 → n ≤ 3 → digit_text m ≡ digit_text n → m ≡ n
-pair_once m n a b e = same_Some m n (sym (digit_found 0 3 m (omega arith) a) ∙ ap (digit_within 0 3) e ∙ digit_found 0 3 n (omega arith) b)
 
 -- the place of a command among the forms
 form : Command → ℕ
@@ -125,23 +102,6 @@ by_name name other operands n is e = ap (λ (t : Text). form_of t operands) is �
 by_kind : (name other : Text) (operands others : List Text) (n : ℕ) → name ≡ other → operands ≡ others → form_of other others ≡ n → form_of name operands ≡ n
 by_kind name other operands others n is are e = ap₂ form_of is are ∙ e
 
-means_form : (c : Command) (name : Text) (options : List (OptionName × Text)) (operands : List Text) → Means c name options operands → form_of name operands ≡ form c
-unfolding form head_of
-means_form (MakeLink tap) name options operands m = by_kind name (codes "make") operands (codes "link" ∷ []) 0 m.0 m.1 refl
-means_form (MakeContent tap) name options operands m = by_kind name (codes "make") operands (codes "content" ∷ []) 1 m.0 m.1 refl
-means_form (MakeDvi tap) name options operands m = by_kind name (codes "make") operands (codes "dvi" ∷ []) 2 m.0 m.1 refl
-means_form RecoverLink name options operands m = by_kind name (codes "recover") operands (codes "link" ∷ []) 3 m.0 m.1 refl
-means_form RecoverContent name options operands m = by_kind name (codes "recover") operands (codes "content" ∷ []) 4 m.0 m.1 refl
-means_form RecoverTrack name options operands m = by_kind name (codes "recover") operands (codes "track" ∷ []) 5 m.0 m.1 refl
-means_form (RecoverBiphase k) name options operands m = by_kind name (codes "recover") operands (codes "biphase" ∷ digit_text k ∷ []) 6 m.0 m.1.0 refl
-means_form RecoverDvi name options operands m = by_kind name (codes "recover") operands (codes "dvi" ∷ []) 7 m.0 m.1 refl
-means_form Check name options operands m = by_name name (codes "check") operands 8 m.0 refl
-means_form (Damage damages) name options operands m = by_name name (codes "damage") operands 9 m.0 refl
-means_form (Slip slip) name options operands m = by_name name (codes "slip") operands 10 m.0 refl
-means_form ReadBiphase name options operands m = by_name name (codes "read") operands 11 m.0 refl
-means_form Relay name options operands m = by_name name (codes "relay") operands 12 m.0 refl
-means_form (Sample n) name options operands m = by_name name (codes "sample") operands 13 m.0 refl
-
 -- a name, options and operands ask for one command of a form at most
 form_once : (name : Text) (options : List (OptionName × Text)) (operands : List Text) (c d : Command) → form c ≡ form d → Means c name options operands → Means d name options operands → c ≡ d
 unfolding form
@@ -151,8 +111,7 @@ form_once name options operands (MakeDvi t) (MakeDvi u) e a b = ap MakeDvi (tap_
 form_once name options operands RecoverLink RecoverLink e a b = refl
 form_once name options operands RecoverContent RecoverContent e a b = refl
 form_once name options operands RecoverTrack RecoverTrack e a b = refl
-form_once name options operands (RecoverBiphase k) (RecoverBiphase l) e a b =
-    ap RecoverBiphase (pair_once k l a.1.1 b.1.1 (same_second (codes "biphase") (codes "biphase") (digit_text k) (digit_text l) [] [] (sym a.1.0 ∙ b.1.0)))
+form_once name options operands (RecoverBiphase k) (RecoverBiphase l) e a b = grind (arith, same_second, same_Some, digit_found)
 form_once name options operands RecoverDvi RecoverDvi e a b = refl
 form_once name options operands Check Check e a b = refl
 form_once name options operands (Damage ds) (Damage es) e a b = ap Damage (damages_once operands ds es a.1.0 b.1.0)
@@ -166,22 +125,13 @@ form_once name options operands c d e a b = absurd (omega (arith, e))
 
 -- a name, options and operands ask for one command at most
 pub means_once : (name : Text) (options : List (OptionName × Text)) (operands : List Text) (c d : Command) → Means c name options operands → Means d name options operands → c ≡ d
-means_once name options operands c d a b =
-    form_once name options operands c d (sym (means_form c name options operands a) ∙ means_form d name options operands b) a b
+unfolding form head_of
+means_once name options operands c d a b = grind (arith, form_once, by_kind, by_name)
 
 -- ---- words name one command at most
 
-same_values : (a b : List Text) → all_values a ≡ all_values b → a ≡ b
-same_values [] [] e = refl
-same_values [] (y ∷ ys) e = absurd (none-some (y ∷ ys, true) e)
-same_values (x ∷ xs) [] e = absurd (none-some (x ∷ xs, true) (sym e))
-same_values (x ∷ xs) (y ∷ ys) e = ap (λ (p : List Text × Bool). p.0) (same_Some (x ∷ xs, true) (y ∷ ys, true) e)
-
 same_value : (a b : Option Text) → one_value a ≡ one_value b → listed a ≡ listed b
-same_value None None e = refl
-same_value None (Some y) e = absurd (none-some (y ∷ [], true) e)
-same_value (Some x) None e = absurd (none-some (x ∷ [], true) (sym e))
-same_value (Some x) (Some y) e = ap (λ (p : List Text × Bool). p.0) (same_Some (x ∷ [], true) (y ∷ [], true) e)
+same_value a b h = grind (arith, none-some, same_Some)
 
 -- options that give each name the same values ask for the same
 AreSame : List (OptionName × Text) → List (OptionName × Text) → Type 0
@@ -189,47 +139,14 @@ AreSame o u = (name : OptionName) → values_of name o ≡ values_of name u
 
 found_same : (rows : List Row) (o u : List (OptionName × Text)) (p q : List Text) → AreFound rows o p → AreFound rows u q → AreSame o u × (p ≡ q)
 unfolding AreSame
-found_same rows o u p q f g = (
-  λ name. f.given name ∙ same_value (f.value name) (g.value name) (sym (f.options_are name) ∙ g.options_are name) ∙ sym (g.given name),
-  same_values p q (sym f.operands_are ∙ g.operands_are),
-)
-
-tap_as : (o u : List (OptionName × Text)) (tap : TapWords) → AreSame o u → IsTap o tap → IsTap u tap
-unfolding AreSame
-tap_as o u tap same is = record {
-  offset_text = is.offset_text;
-  skew_text = is.skew_text;
-  bits_text = is.bits_text;
-  version_text = is.version_text;
-  offset_given = sym (same Offset) ∙ is.offset_given;
-  skew_given = sym (same Skew) ∙ is.skew_given;
-  bits_given = sym (same Bits) ∙ is.bits_given;
-  version_given = sym (same Version) ∙ is.version_given;
-  offset = is.offset;
-  skews = is.skews;
-  bits = is.bits;
-  version = is.version;
-}
+found_same rows o u p q f g = grind (arith, same_value, none-some, same_Some)
 
 no_options : (name other : Text) (u : List (OptionName × Text)) → bytes_eq (codes "make") other ≡ false → name ≡ other → (name ≡ codes "make") ⊎ (u ≡ []) → u ≡ []
-no_options name other u differ is (inl e) = absurd (apart (codes "make") other differ (sym e ∙ is))
-no_options name other u differ is (inr e) = e
+no_options name other u h k l = grind (arith, apart)
 
 means_as : (c : Command) (name : Text) (o u : List (OptionName × Text)) (operands : List Text) → AreSame o u → (name ≡ codes "make") ⊎ (u ≡ []) → Means c name o operands → Means c name u operands
-means_as (MakeLink tap) name o u operands same allowed m = (m.0, m.1, tap_as o u tap same m.2)
-means_as (MakeContent tap) name o u operands same allowed m = (m.0, m.1, tap_as o u tap same m.2)
-means_as (MakeDvi tap) name o u operands same allowed m = (m.0, m.1, tap_as o u tap same m.2)
-means_as RecoverLink name o u operands same allowed m = (m.0, m.1, no_options name (codes "recover") u refl m.0 allowed)
-means_as RecoverContent name o u operands same allowed m = (m.0, m.1, no_options name (codes "recover") u refl m.0 allowed)
-means_as RecoverTrack name o u operands same allowed m = (m.0, m.1, no_options name (codes "recover") u refl m.0 allowed)
-means_as (RecoverBiphase k) name o u operands same allowed m = (m.0, m.1, no_options name (codes "recover") u refl m.0 allowed)
-means_as RecoverDvi name o u operands same allowed m = (m.0, m.1, no_options name (codes "recover") u refl m.0 allowed)
-means_as Check name o u operands same allowed m = (m.0, m.1, no_options name (codes "check") u refl m.0 allowed)
-means_as (Damage damages) name o u operands same allowed m = (m.0, m.1, no_options name (codes "damage") u refl m.0 allowed)
-means_as (Slip slip) name o u operands same allowed m = (m.0, m.1, no_options name (codes "slip") u refl m.0 allowed)
-means_as ReadBiphase name o u operands same allowed m = (m.0, m.1, no_options name (codes "read") u refl m.0 allowed)
-means_as Relay name o u operands same allowed m = (m.0, m.1, no_options name (codes "relay") u refl m.0 allowed)
-means_as (Sample n) name o u operands same allowed m = (m.0, m.1, no_options name (codes "sample") u refl m.0 allowed)
+unfolding AreSame
+means_as c name o u operands h k l = grind (arith, no_options)
 
 pub command_once : (words : List Text) (c d : Command) → IsCommand words c → IsCommand words d → c ≡ d
 command_once words c d a b =

@@ -1,10 +1,10 @@
 -- The commands of the program, as `clap` has them when they are built, and how it comes to one.
-use Rattle.std.proofs.Common.{◌≡◌, ◌∙◌, sym, ap, ap₂, refl, Bool, true, false, ◌||◌, not, List, [], ◌∷◌, ◌++◌, codes, Some, None, bytes_eq, true≢false, append_assoc, append-nil, fold, is_some}
+use Rattle.std.proofs.Common.{arith, ◌≡◌, ◌∙◌, sym, ap, ap₂, refl, Bool, true, false, ◌||◌, not, List, [], ◌∷◌, ◌++◌, codes, Some, None, bytes_eq, true≢false, append_assoc, append-nil, fold, is_some}
 use Rattle.std.specs.Prelude.{if◌then◌else◌, option_map}
 use Rattle.clap.specs.Kinds.{Kinds, or_else}
 use Rattle.clap.specs.Walk.{Rule, Walk, Names, settled, walked, finished, nothing_held, walk_from, walk, rows_after, arg_by_long, arg_by_id}
 use Rattle.clap.specs.Takes.{is_given}
-use Rattle.clap.specs.Faults.{fault_of, level_fault, entered_fault, walk_fault, turn_fault, settle_fault, defaults_fault, check_fault}
+use Rattle.clap.specs.Faults.{fault_of, level_fault, entered_fault, walk_fault, settle_fault, defaults_fault, check_fault}
 use Rattle.clap.specs.Simple.{App, built, entered, names_of, subcommand_of}
 use Rattle.clap.proofs.FaultLemmas.{stopped_fault}
 use Rattle.command_line.specs.Grammar.{Text}
@@ -26,23 +26,15 @@ abbrev pub several_rules : List Rule
 several_rules = operand_built true ∷ []
 
 or_false : (b : Bool) → (b || false) ≡ b
-or_false true = refl
-or_false false = refl
+or_false b = grind arith
 
 long_by : (a b c d : Bool)
     → (if a || false then Some (option_built Offset) else (if b || false then Some (option_built Skew) else (if c || false then Some (option_built Bits) else (if d || false then Some (option_built Version) else None))))
     ≡ option_map option_built (if a then Some Offset else if b then Some Skew else if c then Some Bits else if d then Some Version else None)
-long_by true b c d = refl
-long_by false true c d = refl
-long_by false false true d = refl
-long_by false false false true = refl
-long_by false false false false = refl
+long_by a b c d = grind arith
 
 make_by_id : (name : OptionName) → arg_by_id make_rules (option_id name) ≡ Some (option_built name)
-make_by_id Offset = refl
-make_by_id Skew = refl
-make_by_id Bits = refl
-make_by_id Version = refl
+make_by_id name = grind arith
 
 pub make_form : IsForm make_rules false true
 make_form = record {
@@ -81,10 +73,7 @@ several_form = record {
 }
 
 pub make_long : (name : OptionName) → arg_by_long make_rules (option_id name) ≡ Some (option_built name)
-make_long Offset = refl
-make_long Skew = refl
-make_long Bits = refl
-make_long Version = refl
+make_long name = grind arith
 
 -- ---- the commands
 
@@ -140,34 +129,14 @@ at_stop name words = record start { stopped = Some (name, words) }
 
 first_word : (s : Sub) → walked [] names start (sub_name s) ≡ at_stop (sub_name s) []
 unfolding walked
-first_word to_make = refl
-first_word to_recover = refl
-first_word to_check = refl
-first_word to_damage = refl
-first_word to_slip = refl
-first_word to_read = refl
-first_word to_relay = refl
-first_word to_sample = refl
+first_word s = grind arith
 
 walk_is : (s : Sub) (after : List Text) → walk whole.top.rules names nothing_held (sub_name s ∷ after) ≡ at_stop (sub_name s) after
 walk_is s after = ap (λ (w : Walk). fold (walked [] names) w after) (first_word s) ∙ stop_grows [] names start (sub_name s) [] after
 
-first_fault : (s : Sub) → turn_fault whole.top names start (sub_name s) ≡ []
-first_fault to_make = refl
-first_fault to_recover = refl
-first_fault to_check = refl
-first_fault to_damage = refl
-first_fault to_slip = refl
-first_fault to_read = refl
-first_fault to_relay = refl
-first_fault to_sample = refl
-
 walk_passes : (s : Sub) (after : List Text) → walk_fault whole.top names start (sub_name s ∷ after) ≡ []
 unfolding walk_fault
-walk_passes s after =
-    ap (λ (k : Kinds). or_else k (walk_fault whole.top names (walked [] names start (sub_name s)) after)) (first_fault s)
-    ∙ ap (λ (w : Walk). walk_fault whole.top names w after) (first_word s)
-    ∙ stopped_fault whole.top names start (sub_name s, []) after
+walk_passes s after = grind (arith, first_word, stopped_fault)
 
 abbrev fault_by : Walk → Kinds → Kinds
 fault_by w k =
@@ -176,29 +145,12 @@ fault_by w k =
 
 fault_is : (s : Sub) (after : List Text) → fault_by (at_stop (sub_name s) after) [] ≡ level_fault (leaf (sub_name s) (sub_rules s)) [] nothing_held after false []
 unfolding defaults_fault
-fault_is to_make after = or_else_nil (level_fault (leaf (codes "make") make_rules) [] nothing_held after false [])
-fault_is to_recover after = or_else_nil (level_fault (leaf (codes "recover") several_rules) [] nothing_held after false [])
-fault_is to_check after = or_else_nil (level_fault (leaf (codes "check") []) [] nothing_held after false [])
-fault_is to_damage after = or_else_nil (level_fault (leaf (codes "damage") several_rules) [] nothing_held after false [])
-fault_is to_slip after = or_else_nil (level_fault (leaf (codes "slip") single_rules) [] nothing_held after false [])
-fault_is to_read after = or_else_nil (level_fault (leaf (codes "read") single_rules) [] nothing_held after false [])
-fault_is to_relay after = or_else_nil (level_fault (leaf (codes "relay") []) [] nothing_held after false [])
-fault_is to_sample after = or_else_nil (level_fault (leaf (codes "sample") single_rules) [] nothing_held after false [])
+fault_is s after = grind (arith, or_else_nil, leaf)
 
 -- the faults of a command are those of its own words
 pub sub_fault : (s : Sub) (after : List Text) → fault_of vabgrot (sub_name s ∷ after) ≡ level_fault (leaf (sub_name s) (sub_rules s)) [] nothing_held after false []
 sub_fault s after = ap₂ fault_by (walk_is s after) (walk_passes s after) ∙ fault_is s after
 
-rows_are : (s : Sub) (after : List Text) → entered whole (Some (sub_name s, after)) ≡ Some (sub_name s, rows_after (sub_rules s) [] after)
-rows_are to_make after = refl
-rows_are to_recover after = refl
-rows_are to_check after = refl
-rows_are to_damage after = refl
-rows_are to_slip after = refl
-rows_are to_read after = refl
-rows_are to_relay after = refl
-rows_are to_sample after = refl
-
 -- and so its matches
 pub sub_rows : (s : Sub) (after : List Text) → subcommand_of vabgrot (sub_name s ∷ after) ≡ Some (sub_name s, rows_after (sub_rules s) [] after)
-sub_rows s after = ap (λ (w : Walk). entered whole w.stopped) (walk_is s after) ∙ rows_are s after
+sub_rows s after = grind (arith, walk_is)

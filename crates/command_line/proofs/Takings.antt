@@ -1,11 +1,11 @@
 -- The words that `clap` takes behind a command's name are options and operands, and options and operands are taken.
-use Rattle.std.proofs.Common.{◌≡◌, ◌∙◌, ◌⊎◌, inl, inr, sym, ap, refl, subst, Bool, true, false, ◌||◌, not, List, [], ◌∷◌, ◌++◌, codes, Option, Some, None, bytes_eq, true≢false, append_assoc, append-nil, fold}
+use Rattle.std.proofs.Common.{arith, ◌≡◌, ◌∙◌, ◌⊎◌, inl, inr, sym, ap, refl, subst, Bool, true, false, not, List, [], ◌∷◌, ◌++◌, codes, Option, Some, None, bytes_eq, true≢false, append_assoc, append-nil, fold}
 use Rattle.std.specs.Prelude.{if◌then◌else◌, option_map, unwrap_or}
 use Rattle.std.specs.List.{flat_map, filter_map, list_all}
 use Rattle.clap.specs.Kinds.{Kinds, or_else}
-use Rattle.clap.specs.Walk.{Row, Rule, Held, Walk, Waiting, idle, option, settled, settled_rows, walked, finished, with_default, nothing_held, walk_from, is_empty, has_row, default_rows, reading_by, used, used_by_id, arg_by_long}
+use Rattle.clap.specs.Walk.{Row, Rule, Held, Walk, Waiting, idle, option, settled, settled_rows, walked, finished, with_default, nothing_held, walk_from, is_empty, used, used_by_id, arg_by_long}
 use Rattle.clap.specs.Takes.{is_given}
-use Rattle.clap.specs.Faults.{use_fault, settle_fault, turn_fault, walk_fault, defaults_fault, check_fault, level_fault, default_fault, given_default_fault}
+use Rattle.clap.specs.Faults.{use_fault, settle_fault, turn_fault, walk_fault, defaults_fault, check_fault, level_fault}
 use Rattle.clap.specs.Lexer.{long_of}
 use Rattle.clap.specs.declared.error.kind.ErrorKind.TheVariants as kind
 use Rattle.clap.proofs.SimpleLemmas.{is_nil}
@@ -34,16 +34,13 @@ unfoldable pub last : List Rule → Walk → List Text → Walk
 last c w words = fold (walked c []) w words
 
 or_else_assoc : (a b d : Kinds) → or_else (or_else a b) d ≡ or_else a (or_else b d)
-or_else_assoc [] b d = refl
-or_else_assoc (k ∷ ks) b d = refl
+or_else_assoc a b d = grind arith
 
 pub or_else_first : (a b : Kinds) → or_else a b ≡ [] → a ≡ []
-or_else_first [] b h = refl
-or_else_first (k ∷ ks) b h = h
+or_else_first a b h = grind arith
 
 pub or_else_second : (a b : Kinds) → or_else a b ≡ [] → b ≡ []
-or_else_second [] b h = h
-or_else_second (k ∷ ks) b h = cc h
+or_else_second a b h = grind arith
 
 pub or_else_both : (a b : Kinds) → a ≡ [] → b ≡ [] → or_else a b ≡ []
 or_else_both a b none h = ap (λ (x : Kinds). or_else x b) none ∙ h
@@ -65,10 +62,7 @@ level_total name c words = walk_total name c (walk_from nothing_held) words
 pub turn_reported : (name : Text) (c : List Rule) (w : Walk) (word : Text) (words : List Text) (fault : Kinds) (after : Walk) → Turn name c w word fault after
     → total name c w (word ∷ words) ≡ [] → (fault ≡ []) × (total name c after words ≡ [])
 unfolding total
-turn_reported name c w word words fault after t h = (
-  sym t.fault_is ∙ or_else_first (turn_fault (leaf name c) [] w word) (total name c (walked c [] w word) words) h,
-  ap (λ (x : Walk). total name c x words) (sym t.after_is) ∙ or_else_second (turn_fault (leaf name c) [] w word) (total name c (walked c [] w word) words) h,
-)
+turn_reported name c w word words fault after t h = grind (arith, or_else_first, leaf, or_else_second)
 
 pub turn_done : (name : Text) (c : List Rule) (w : Walk) (word : Text) (words : List Text) (fault : Kinds) (after : Walk) → Turn name c w word fault after
     → fault ≡ [] → total name c after words ≡ [] → total name c w (word ∷ words) ≡ []
@@ -83,31 +77,14 @@ turn_last name c w word words fault after t = ap (λ (x : Walk). fold (walked c 
 
 -- ---- the end of the words
 
-or_true : (b : Bool) → (b || true) ≡ true
-or_true true = refl
-or_true false = refl
-
 no_default_faults : (c : List Rule) (rows : List Row) → list_all (λ a. is_empty a.defaults) c ≡ true → defaults_fault rows c ≡ []
 unfolding defaults_fault
 no_default_faults [] rows all = refl
-no_default_faults (a ∷ c) rows all =
-    let parts = and_parts (is_empty a.defaults) (list_all (λ (x : Rule). is_empty x.defaults) c) all in
-    or_else_both (default_fault rows a) (defaults_fault (with_default rows a) c)
-    (ap (λ (b : Bool). if has_row a.id rows || b then [] else given_default_fault a a.defaults) parts.0
-    ∙ ap (λ (b : Bool). if b then [] else given_default_fault a a.defaults) (or_true (has_row a.id rows)))
-    (no_default_faults c (with_default rows a) parts.1)
-
-same_either : (b : Bool) (rows : List Row) → (if b then rows else rows) ≡ rows
-same_either true rows = refl
-same_either false rows = refl
+no_default_faults (a ∷ c) rows all = grind (arith, and_parts, or_else_both, no_default_faults c)
 
 no_defaults_join : (c : List Rule) (rows : List Row) → list_all (λ a. is_empty a.defaults) c ≡ true → fold with_default rows c ≡ rows
 no_defaults_join [] rows all = refl
-no_defaults_join (a ∷ c) rows all =
-    let parts = and_parts (is_empty a.defaults) (list_all (λ (x : Rule). is_empty x.defaults) c) all in
-    no_defaults_join c (with_default rows a) parts.1
-    ∙ ap (λ (vs : List Text). if has_row a.id rows then rows else default_rows a.id (reading_by a) vs rows) (is_nil a.defaults parts.0)
-    ∙ same_either (has_row a.id rows) rows
+no_defaults_join (a ∷ c) rows all = grind (arith, and_parts, is_nil, no_defaults_join c)
 
 -- the rows at the end are those of the walk
 pub finished_rows : (c : List Rule) (many has : Bool) → IsForm c many has → (h : Held) → finished c h ≡ (settled c h).rows
@@ -195,9 +172,7 @@ finds_option c many has f offers name rows options operands word found settles =
 
 rest_reported : (name : Text) (c : List Rule) (many has : Bool) → IsForm c many has → (words : List Text) → RestTells name c many words
 unfolding RestTells Finds total end_fault last
-rest_reported name c many has f [] rows pending waiting options operands finds h =
-    let settles = or_else_first (settle_fault c false (holding rows pending)) _ h in
-    (settles, subst (λ (os : List Text). AreFound (settled_rows c pending rows) options os) (sym (append-nil operands)) (finds settles))
+rest_reported name c many has f [] rows pending waiting options operands finds h = grind (arith, or_else_first, holding, append-nil)
 rest_reported name c many has f (word ∷ words) rows pending waiting options operands finds h =
     let t = trailing_turn name c rows pending waiting (place many operands) word in
     let first = turn_reported name c _ word words _ _ t h in
@@ -286,16 +261,10 @@ long_known c many true f l = go (option_named l) refl
         inr (name, same, refl, ap (arg_by_long c) (sym same) ∙ f.by_long l ∙ ap (option_map option_built) e)
 
 text_named : (name : OptionName) → long_text (option_id name) None ≡ name_word name
-text_named Offset = refl
-text_named Skew = refl
-text_named Bits = refl
-text_named Version = refl
+text_named name = grind arith
 
 text_valued : (name : OptionName) (v : Text) → long_text (option_id name) (Some v) ≡ name_word name ++ codes "=" ++ v
-text_valued Offset v = refl
-text_valued Skew v = refl
-text_valued Bits v = refl
-text_valued Version v = refl
+text_valued name v = grind arith
 
 -- a word of a long name
 open_long : (name : Text) (c : List Rule) (many has : Bool) → IsForm c many has → (rows : List Row) (pending : Option (Text × List Text)) (waiting : Waiting) (options : List (OptionName × Text)) (operands : List Text)
@@ -388,12 +357,8 @@ wait_by name c many has f option_name rows options operands word words offers fo
     wait_long : (l : Text) (v : Option Text) → long_of word ≡ Some (l, v) → (arg_by_long c l ≡ None) ⊎ Known c has l
         → turn_fault (leaf name c) [] (walk_at rows (Some (option_id option_name, [])) (option (option_id option_name)) (place many operands) false) word ≡ [] → ⊥
     wait_long l v is (inl unknown) passes = unknown_turn name c rows (Some (option_id option_name, [])) (option (option_id option_name)) (place many operands) word l v d is unknown passes
-    wait_long l None is (inr k) passes =
-        let t = named_turn name c k.0 rows (Some (option_id option_name, [])) (option (option_id option_name)) (place many operands) word d (is ∙ ap (λ (x : Text). Some (x, None)) k.1) k.3 in
-        settle_waits c many has f offers option_name rows (sym t.fault_is ∙ passes)
-    wait_long l (Some v) is (inr k) passes =
-        let t = valued_turn name c k.0 rows (Some (option_id option_name, [])) (option (option_id option_name)) (place many operands) word v d (is ∙ ap (λ (x : Text). Some (x, Some v)) k.1) k.3 in
-        settle_waits c many has f offers option_name rows (or_else_first (settle_fault c false (holding rows (Some (option_id option_name, [])))) _ (sym t.fault_is ∙ passes))
+    wait_long l None is (inr k) passes = grind (arith, named_turn, place, settle_waits)
+    wait_long l (Some v) is (inr k) passes = grind (arith, valued_turn, place, settle_waits, or_else_first, holding)
 wait_by name c many has f option_name rows options operands word words offers found h opens false d None e =
     let passes = or_else_first (turn_fault (leaf name c) [] (walk_at rows (Some (option_id option_name, [])) (option (option_id option_name)) (place many operands) false) word) _ h in
     let t = waiting_turn name c option_name rows (place many operands) word (f.by_id offers option_name)
@@ -421,13 +386,7 @@ all_tell name c many has f [] = (
       },
   λ option_name rows options operands offers found h. absurd (settle_waits c many has f offers option_name rows (or_else_first (settle_fault c false (holding rows (Some (option_id option_name, [])))) _ h)),
 )
-all_tell name c many has f (word ∷ words) =
-    let after = all_tell name c many has f words in (
-      λ rows pending waiting options operands is finds h.
-          open_by name c many has f rows pending waiting options operands word words is finds h after.0 after.1 (bytes_eq word (codes "--")) refl (long_of word) refl,
-      λ option_name rows options operands offers found h.
-          (word, words, refl, wait_by name c many has f option_name rows options operands word words offers found h after.0 (bytes_eq word (codes "--")) refl (long_of word) refl),
-    )
+all_tell name c many has f (word ∷ words) = grind (arith, open_by, wait_by, all_tell name c many has f words)
 
 -- what a command takes are options and operands, and these are found
 pub taken : (name : Text) (c : List Rule) (many has : Bool) → IsForm c many has → (words : List Text) → total name c (walk_from nothing_held) words ≡ []

@@ -1,5 +1,5 @@
 -- What the values of options say.
-use Rattle.std.proofs.Common.{◌≡◌, ◌∙◌, sym, subst, arith, ℕ, ◌≤◌, List, [], ◌∷◌, Option, Some, None}
+use Rattle.std.proofs.Common.{◌≡◌, ◌∙◌, sym, subst, arith, ℕ, List, [], ◌∷◌, Option, Some, None}
 use Rattle.std.specs.Prelude.{MatchOption}
 use Rattle.std.proofs.lemmas.Option.{none-some, same_Some}
 use Rattle.command_line.specs.Numbers.{IsNumber}
@@ -30,11 +30,7 @@ skews_judged t None e = λ skews are. none-some (are.0 ∷ are.1 ∷ are.2 ∷ [
 skews_judged t (Some skews) e = three_reported 4095 t skews (sym e)
 
 pub other_version : (t : Text) (m : ℕ) → within 2 t ≡ Some m → (m ≡ 1 → ⊥) → (m ≡ 2 → ⊥) → (n : ℕ) → IsVersion (Some t) n → ⊥
-other_version t m e one two = λ n are.
-    let few : n ≤ 2 = are.0.few in
-    let some : 1 ≤ n = are.1 in
-    let same : m ≡ n = same_number 2 t m n e are.0 in
-    absurd (omega (arith, one, two))
+other_version t m e one two = grind (arith, same_number)
 
 -- an option whose value is of another form asks for no tap
 

@@ -1,5 +1,5 @@
 -- What the words of options look like to `clap`.
-use Rattle.std.proofs.Common.{◌≡◌, ◌∙◌, sym, ap, ap₂, refl, arith, Bool, true, false, ◌==◌, ◌||◌, ℕ, ◌<◌, [], ◌∷◌, ◌++◌, length, get_or, codes, Option, Some, None, bytes_eq, true≢false, append_assoc}
+use Rattle.std.proofs.Common.{◌≡◌, ◌∙◌, sym, ap, refl, arith, Bool, true, false, ◌==◌, ℕ, ◌<◌, [], ◌∷◌, ◌++◌, length, get_or, codes, Option, Some, None, bytes_eq, true≢false, append_assoc}
 use Rattle.std.specs.Prelude.{if◌then◌else◌, option_and_then}
 use Rattle.std.specs.List.{list_any, before_first, after_first, position_or_len}
 use Rattle.std.specs.Str.Parse.{starts_with_minus}
@@ -13,51 +13,34 @@ use Rattle.clap.proofs.CutLemmas.{Lacks, before_first-Lacks}
 use Rattle.command_line.specs.Grammar.{Text, name_word}
 use Rattle.command_line.specs.Forms.{option_id}
 use Rattle.command_line.specs.declared.options.OptionName.{OptionName}
-use Rattle.command_line.specs.declared.options.OptionName.TheVariants.{Offset, Skew, Bits, Version}
 
 -- ---- a word that begins with no `-`
 
 pub plain_dashes : (word : Text) → starts_with_minus word ≡ false → bytes_eq word (codes "--") ≡ false
-plain_dashes [] plain = refl
-plain_dashes (x ∷ xs) plain = grind (arith, common_steps)
+plain_dashes word h = grind (arith, common_steps)
 
 pub plain_long : (word : Text) → starts_with_minus word ≡ false → long_of word ≡ None
-plain_long [] plain = refl
-plain_long (x ∷ xs) plain = rw plain refl
+plain_long word h = grind arith
 
 pub plain_short : (word : Text) → starts_with_minus word ≡ false → short_of word ≡ None
-plain_short [] plain = refl
-plain_short (x ∷ xs) plain = rw plain refl
+plain_short word h = grind arith
 
 -- ---- `--name` and `--name=VALUE`
 
 pub named_dashes : (name : OptionName) → bytes_eq (name_word name) (codes "--") ≡ false
-named_dashes Offset = refl
-named_dashes Skew = refl
-named_dashes Bits = refl
-named_dashes Version = refl
+named_dashes name = grind arith
 
 pub named_long : (name : OptionName) → long_of (name_word name) ≡ Some (option_id name, None)
-named_long Offset = refl
-named_long Skew = refl
-named_long Bits = refl
-named_long Version = refl
+named_long name = grind arith
 
 pub valued_dashes : (name : OptionName) (value : Text) → bytes_eq (name_word name ++ codes "=" ++ value) (codes "--") ≡ false
-valued_dashes Offset value = refl
-valued_dashes Skew value = refl
-valued_dashes Bits value = refl
-valued_dashes Version value = refl
+valued_dashes name value = grind arith
 
 lacks_by : (xs : Text) → list_any (λ x. x == 61) xs ≡ false → Lacks 61 xs
-lacks_by [] none i lt = absurd (omega arith)
-lacks_by (x ∷ xs) none i lt = grind (arith, common_steps)
+lacks_by xs h k l = grind (arith, common_steps)
 
 pub valued_long : (name : OptionName) (value : Text) → long_of (name_word name ++ codes "=" ++ value) ≡ Some (option_id name, Some value)
-valued_long Offset value = ap Some (name_and_value-at (codes "offset") value (lacks_by (codes "offset") refl))
-valued_long Skew value = ap Some (name_and_value-at (codes "skew") value (lacks_by (codes "skew") refl))
-valued_long Bits value = ap Some (name_and_value-at (codes "bits") value (lacks_by (codes "bits") refl))
-valued_long Version value = ap Some (name_and_value-at (codes "version") value (lacks_by (codes "version") refl))
+valued_long name value = grind (arith, name_and_value-at, lacks_by)
 
 -- ---- and back
 
@@ -68,11 +51,7 @@ long_text name (Some value) = codes "--" ++ (name ++ codes "=" ++ value)
 
 any_within : (p : ℕ → Bool) (t : Text) → list_any p t ≡ true → position_or_len p t < length t
 any_within p [] h = absurd (true≢false (sym h))
-any_within p (x ∷ xs) h = go (p x) refl h (any_within p xs)
-  where
-    go : (b : Bool) → p x ≡ b → (b || list_any p xs) ≡ true → (list_any p xs ≡ true → position_or_len p xs < length xs) → position_or_len p (x ∷ xs) < length (x ∷ xs)
-    go true e h ih = rw e (omega arith)
-    go false e h ih = let after = ih h in rw e (omega arith)
+any_within p (x ∷ xs) h = grind (arith, any_within p xs)
 
 none_before : (t : Text) → list_any (λ x. x == 61) t ≡ false → before_first (λ x. x == 61) t ≡ t
 none_before t none = before_first-Lacks 61 t (lacks_by t none)
@@ -99,12 +78,7 @@ rest_reported [] long v h = absurd (none-some (long, v) h)
 rest_reported (x ∷ xs) long v h = name_reported (x ∷ xs) ∙ ap name_text (same_Some (name_and_value (x ∷ xs)) (long, v) h)
 
 stripped : (word rest : Text) → strip_byte 45 word ≡ Some rest → word ≡ 45 ∷ rest
-stripped [] rest h = absurd (none-some rest h)
-stripped (x ∷ xs) rest h = go (x == 45) refl h
-  where
-    go : (b : Bool) → (x == 45) ≡ b → (if b then Some xs else None) ≡ Some rest → x ∷ xs ≡ 45 ∷ rest
-    go true e h = let same : x ≡ 45 = grind (arith, nat_tests) in ap₂ (λ (n : ℕ) (ns : Text). n ∷ ns) same (same_Some xs rest h)
-    go false e h = absurd (none-some rest h)
+stripped word rest h = grind (arith, none-some, nat_tests, same_Some)
 
 long_by : (word long : Text) (v : Option Text) (a b : Option Text) → strip_byte 45 word ≡ a → option_and_then (strip_byte 45) a ≡ b → option_and_then long_of_rest b ≡ Some (long, v)
     → word ≡ long_text long v

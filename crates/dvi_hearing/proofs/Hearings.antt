@@ -1,5 +1,5 @@
 -- A hearing without guard columns after one column more: it stands for the columns heard, and has told what they tell.
-use Rattle.std.proofs.Common.{◌≡◌, ℕ, ◌+◌, true, false, List, [], ◌∷◌, ◌++◌, length, map, refl, ap, sym, ◌∙◌, subst}
+use Rattle.std.proofs.Common.{arith, ◌≡◌, ℕ, ◌+◌, true, false, List, [], ◌∷◌, ◌++◌, length, map, refl, ap, sym, ◌∙◌}
 use Rattle.std.proofs.lemmas.List.{length_push}
 use Rattle.tmds_word.specs.Column.{Column}
 use Rattle.terc4.specs.Columns.{is_control_column}
@@ -20,7 +20,6 @@ use Rattle.dvi_hearing.specs.DviGains.{no_gain}
 use Rattle.dvi_hearing.specs.DviGrammar.{pushed, ended_by}
 use Rattle.dvi_hearing.specs.DviSeen.{DviSeen}
 use Rattle.dvi_hearing.specs.DviStands.{IsStretchAfter, DviHearingRepresents, closed}
-use Rattle.dvi_hearing.specs.declared.phase.Phase.{Phase}
 use Rattle.dvi_hearing.specs.declared.phase.Phase.TheVariants.{Control}
 
 gains_true : (n b : ℕ) (c : Column) (x : Stretch) → closed (value_of c) b x ++ other_words n c ≡ gains_by dvi_gaps no_gain true b n c x
@@ -53,22 +52,11 @@ control_on kept line n c (stretch control (g ∷ gap)) h = (h, tt)
 
 pub stands_control : (now : DviSeen) (cs : List Column) (c : Column) (n : ℕ) → n ≡ length cs → is_control_column c ≡ true → now.columns ≡ n + 1 → now.phase ≡ Control
     → IsControlAfter now.control (going_on (last (stretches cs)) ++ c ∷ []) → DviHearingRepresents now (cs ++ c ∷ [])
-stands_control now cs c n e p m ph h = record {
-  columns = m ∙ ap (λ x. x + 1) e ∙ sym (length_push cs c);
-  stretch =
-      let here = control_on now.control now.line now.columns c (last (stretches cs)) h in
-      let there = subst (λ (f : Phase). IsStretchAfter f now.control now.line now.columns (grown true c (last (stretches cs)))) (sym ph) here in
-      subst (λ (x : Stretch). IsStretchAfter now.phase now.control now.line now.columns x) (sym (last_push_stretch cs c ∙ ap (λ q. grown q c (last (stretches cs))) p)) there;
-}
+stands_control now cs c n e p m ph h = grind (arith, length_push, control_on, last_push_stretch)
 
 pub stands_other : (now : DviSeen) (cs : List Column) (c : Column) (n : ℕ) → n ≡ length cs → is_control_column c ≡ false → now.columns ≡ n + 1
     → IsStretchAfter now.phase now.control now.line (n + 1) (grown false c (last (stretches cs))) → DviHearingRepresents now (cs ++ c ∷ [])
-stands_other now cs c n e p m h = record {
-  columns = m ∙ ap (λ x. x + 1) e ∙ sym (length_push cs c);
-  stretch =
-      let there = subst (λ (k : ℕ). IsStretchAfter now.phase now.control now.line k (grown false c (last (stretches cs)))) (sym m) h in
-      subst (λ (x : Stretch). IsStretchAfter now.phase now.control now.line now.columns x) (sym (last_push_stretch cs c ∙ ap (λ q. grown q c (last (stretches cs))) p)) there;
-}
+stands_other now cs c n e p m h = grind (arith, length_push, last_push_stretch)
 
 pub reported_end : (cs : List Column) (ts : List Event) → ts ≡ ends_by dvi_gaps (start_of cs) (last (stretches cs)) → dvi_heard cs ≡ map event_of (dvi_so_far cs) ++ ts
 reported_end cs ts e = ended_by cs ∙ ap (λ us. map event_of (dvi_so_far cs) ++ us) (sym e)

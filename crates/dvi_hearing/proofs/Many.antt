@@ -21,7 +21,7 @@ use Rattle.dvi_hearing.specs.DviHeard.{dvi_so_far, dvi_gaps}
 use Rattle.dvi_hearing.specs.DviGains.{no_gain}
 use Rattle.period_grammar.specs.Gains.{gains_by}
 use Rattle.dvi_hearing.specs.DviSeen.{DviSeen}
-use Rattle.dvi_hearing.specs.DviStands.{IsStretchAfter, DviHearingRepresents, closed}
+use Rattle.dvi_hearing.specs.DviStands.{IsStretchAfter, DviHearingRepresents}
 use Rattle.dvi_hearing.specs.declared.phase.Phase.{Phase}
 use Rattle.dvi_hearing.specs.declared.phase.Phase.TheVariants.{Control, Pixels}
 use Rattle.dvi_hearing.proofs.Hearings.{reported_control, reported_other}
@@ -35,18 +35,12 @@ none_goes : (cs : List Column) (x : Stretch) → last (stretches cs) ≡ x → G
 none_goes cs x at = record { last = ap (λ xs. last (stretches xs)) (append-nil cs) ∙ at; reported = ap dvi_so_far (append-nil cs) }
 
 more_goes : (cs : List Column) (c : Column) (ds : List Column) (x : Stretch) → dvi_so_far (cs ++ c ∷ []) ≡ dvi_so_far cs → Goes (cs ++ c ∷ []) ds x → Goes cs (c ∷ ds) x
-more_goes cs c ds x one rest = record {
-  last = ap (λ xs. last (stretches xs)) (sym (append_assoc cs (c ∷ []) ds)) ∙ rest.last;
-  reported = ap dvi_so_far (sym (append_assoc cs (c ∷ []) ds)) ∙ rest.reported ∙ one;
-}
+more_goes cs c ds x one rest = grind (arith, append_assoc)
 
 -- A run.
 
 run_reported : (kept : ControlState) (control cs : List Column) (c : Column) → last (stretches cs) ≡ stretch control [] → IsControlAfter kept control → IsWhole kept.value c → dvi_so_far (cs ++ c ∷ []) ≡ dvi_so_far cs
-run_reported kept control cs c at was whole =
-    reported_control cs c (length cs) (value_of c) [] [] refl (is_column kept.value c whole) refl
-    (no_change kept control (value_of c) was whole.value ∙ ap (closed (value_of c) (start_of cs)) (sym at)) (sym (tells_no_word kept.value (length cs) c whole))
-    ∙ append-nil (dvi_so_far cs)
+run_reported kept control cs c at was whole = grind (arith, reported_control, is_column, no_change, start_of, tells_no_word, append-nil)
 
 run_goes : (kept : ControlState) (control cs ds : List Column) → last (stretches cs) ≡ stretch control [] → IsControlAfter kept control → All (λ c. IsWhole kept.value c) ds → Goes cs ds (stretch (control ++ ds) [])
 run_goes kept control cs [] at was all = none_goes cs (stretch (control ++ []) []) (at ∙ ap (λ xs. stretch xs []) (sym (append-nil control)))
@@ -91,16 +85,7 @@ run_went old new cs cols n phase next more first heard was =
         let long = first_long (goes_kept old.control) cols n first in
         let whole = All-then (λ c. goes_kept old.control c ≡ true) (λ c. IsWhole old.control.value c) (whole_of old.control) (take n cols) (first_all (goes_kept old.control) cols n first) in
         let all = run_goes old.control control cs (take n cols) at kept.0 whole in
-        let now : IsControlAfter new.control (control ++ take n cols) = heard control (take n cols) long (All-then (λ c. IsWhole old.control.value c) (λ c. old.control.value ≡ value_of c) (λ c w. w.value) (take n cols) whole) kept.0 in
-        record {
-          reported = all.reported;
-          stands = record {
-            columns = omega (arith, more, was.columns, long, length-append cs (take n cols));
-            stretch =
-                subst (λ (x : Stretch). IsStretchAfter new.phase new.control new.line new.columns x) (sym all.last)
-                (subst (λ (p : Phase). IsStretchAfter p new.control new.line new.columns (stretch (control ++ take n cols) [])) (sym next) (now, tt));
-          };
-        }
+        grind (arith, All-then, IsWhole, length-append)
     by (stretch control (g ∷ gap)) at kept = absurd kept.1
 
 pub line_went : (old new : DviSeen) (cs cols : List Column) (n start : ℕ) → old.phase ≡ Pixels start → new.phase ≡ Pixels start → new.control ≡ old.control → new.columns ≡ old.columns + n → n ≡ prefix_len is_pixel cols

@@ -1,5 +1,5 @@
 -- Columns that came of columns that spell periods.
-use Rattle.std.proofs.Common.{◌≡◌, ℕ, suc, ◌≤◌, true, List, [], ◌∷◌, ◌++◌, length, map, refl, ap, sym, ◌∙◌, subst, arith}
+use Rattle.std.proofs.Common.{◌≡◌, ℕ, suc, ◌≤◌, true, List, [], ◌∷◌, ◌++◌, length, map, refl, ap, ◌∙◌, subst, arith}
 use Rattle.std.proofs.lemmas.List.{length-map}
 use Rattle.tmds_word.specs.Column.{Column, blues, greens, reds}
 use Rattle.tmds_word.proofs.Below.{and-left, and-right}
@@ -13,7 +13,7 @@ use Rattle.link_laws.proofs.Conformed.{IsControl, is_control_of, is_video_of}
 use Rattle.link_laws.proofs.Arrival.{whole_of}
 use Rattle.link_laws.proofs.Guards.{unlike, stays_control}
 use Rattle.link_laws.proofs.SpelledWords.{AreWords, lane_words, small_blue, small_green, small_red}
-use Rattle.link_laws.proofs.VideoReported.{PixelAt, ArePixels, no_pixels, pixel_count}
+use Rattle.link_laws.proofs.VideoReported.{PixelAt, ArePixels, no_pixels}
 use Rattle.link_laws.proofs.VideoReported as seen
 use Rattle.source_end.specs.DviPeriods.{dvi_conforms, DviSpells}
 use Rattle.dvi_laws.proofs.Joined.{ReceivedPair, Received, ends, goes_on}
@@ -105,23 +105,7 @@ tail_received runs (video bytes ∷ (control next ∷ rest)) ss rs c spells near
     let near_two = subst (λ (xs : List Column). AreNearly xs p.back) (more.2 ∙ ap (λ xs. xs ++ two) more.3) p.rest in
     let control_first = front next rest d in
     let q = control_received (values_of next) two p.back control_first.small near_two in
-    let ih = tail_received next rest two q.back d later q.rest in
-    let long = control_first.long in
-    let n = q.count in
-    let pair : ReceivedPair bytes next pp p.qq (control_columns (values_of next)) q.cs = record {
-      some = line.some;
-      few = line.few;
-      are = p.are;
-      long = omega arith;
-      sent = length-map (values_of next) control_column;
-      received = q.count;
-      all = q.all;
-    } in
-    let sent_is : ss ≡ pp ++ (control_columns (values_of next) ++ two) = spells.2 ∙ ap (λ xs. pp ++ xs) (more.2 ∙ ap (λ xs. xs ++ two) more.3) in
-    let received_is : rs ≡ p.qq ++ (q.cs ++ q.back) = p.is ∙ ap (λ xs. p.qq ++ xs) q.is in
-    subst (λ (xs : List Column). Received (video bytes ∷ (control next ∷ rest)) ss xs) (sym received_is)
-    (subst (λ (xs : List Column). Received (video bytes ∷ (control next ∷ rest)) xs (p.qq ++ (q.cs ++ q.back))) (sym sent_is)
-    (goes_on bytes next rest pp p.qq (control_columns (values_of next)) q.cs two q.back pair ih))
+    grind (arith, ReceivedPair, control_columns, length-map, Received, goes_on, tail_received next rest)
   where
     front : (runs : List ControlRun) (tail : List Period) → dvi_conforms (control runs ∷ tail) ≡ true → IsControl (values_of runs)
     front runs [] h = is_control_of runs h

@@ -1,6 +1,6 @@
 -- A short stream without guard bands that came with two damaged pixels, and a tap of it: the premises of the laws can be
 -- met.
-use Rattle.std.proofs.Common.{◌≡◌, ℕ, suc, zero, ◌+◌, ◌<◌, ◌≤◌, Bool, true, false, not, ◌&&◌, ◌||◌, ◌==◌, List, [], ◌∷◌, ◌++◌, map, length, take, drop, get_or, replicate, refl, ap, ap₂, sym, ◌∙◌, arith, inl, inr, nat_le, nat_lt, Some}
+use Rattle.std.proofs.Common.{◌≡◌, ℕ, ◌+◌, ◌<◌, ◌≤◌, Bool, true, false, not, ◌&&◌, ◌||◌, ◌==◌, List, [], ◌∷◌, ◌++◌, map, length, take, drop, get_or, replicate, refl, ap, sym, ◌∙◌, arith, inl, inr, nat_le, nat_lt, Some}
 use Rattle.std.proofs.lemmas.Bool.{cases_lt, eqb-true, eq-eqb, leb-true, ltb-true}
 use Rattle.std.proofs.lemmas.List.{length-map, get_or_past}
 use Rattle.tmds_word.specs.Bits.{bits_of, word_bits, row_bits, number, window, ones, zeros, balance}
@@ -17,7 +17,7 @@ use Rattle.link_laws.proofs.Computed.{or_second, not_true, clash, has, runs_at, 
 use Rattle.island_pack.specs.Periods.{ControlRun, Period, control, video, values_of, pixels_of}
 use Rattle.island_pack.specs.Conforming.{is_control_period, is_video_period}
 use Rattle.island_pack.specs.Spelling.{control_column, SpellsPixels, column_words}
-use Rattle.island_pack.specs.Kinds.{Kind, control_column as control_kind, first_guard, second_guard, pixel_column, packet_column, kind_at, EndsAt}
+use Rattle.island_pack.specs.Kinds.{Kind, control_column as control_kind, first_guard, pixel_column, kind_at, EndsAt}
 use Rattle.island_pack.specs.Sparse.{unlike_words, AreFew, no_column, column_at, IsNarrow, unlike_at}
 use Rattle.source_end.specs.DviPeriods.{dvi_conforms, IsDviConforming, DviSpells, dvi_kinds, dvi_kinds_in, HasNoControl, IsDviSparse, HasThree}
 use Rattle.dvi_laws.specs.DviLaws.{HasDviExample}
@@ -84,10 +84,7 @@ coded_test = refl
 -- each pixel's word has as many ones as zeros
 level : (j : ℕ) → j < 3 → Coded (disparity_of (take j (replicate 3 0x1f0))) (get_or (replicate 3 16) j 0) (get_or (replicate 3 0x1f0) j 0)
 unfolding disparity_of word_bits balance bits_of zeros ones
-level zero lt = sym coded_test
-level (suc zero) lt = sym coded_test
-level (suc (suc zero)) lt = sym coded_test
-level (suc (suc (suc j))) lt = absurd (omega arith)
+level j h = grind (arith, coded_test)
 
 lane : IsLane (replicate 3 16) (replicate 3 0x1f0)
 lane = record { same_length = refl; coded = level }
@@ -131,10 +128,8 @@ unfolding unlike_words one_if
 none_unlike = refl
 
 unlike_past : (i : ℕ) → 39 ≤ i → unlike_at sent received i ≡ 0
-unlike_past i le =
-    let s = long_sent in
-    let r = long_received in
-    ap₂ (λ (a b : Column). unlike_words (column_words a) (column_words b)) (no_more sent s i le) (no_more received r i le) ∙ none_unlike
+unfolding unlike_words one_if
+unlike_past i le = grind (arith, long_sent, long_received, no_more)
 
 abbrev is_narrow : Column → Bool
 is_narrow c = nat_lt c.blue 1024 && (nat_lt c.green 1024 && nat_lt c.red 1024)
@@ -179,18 +174,10 @@ abbrev is_same : Column → Column → Bool
 is_same c d = (c.blue == d.blue) && ((c.green == d.green) && (c.red == d.red))
 
 same_columns : (c d : Column) → is_same c d ≡ true → c ≡ d
-same_columns c d h =
-    let r = and-right (c.blue == d.blue) _ h in
-    let b = eqb-true _ _ (and-left _ _ h) in
-    let g = eqb-true _ _ (and-left _ _ r) in
-    let e = eqb-true _ _ (and-right (c.green == d.green) _ r) in
-    λ i. record { blue = b i; green = g i; red = e i }
+same_columns c d h = grind (arith, and-right, eqb-true, and-left)
 
 unlike_column : (i : ℕ) → is_same (column_at received i) (column_at sent i) ≡ false → column_at received i ≡ column_at sent i → ⊥
-unlike_column i test e = clash _ (ap (λ c. is_same c (column_at sent i)) e ∙ same_as (column_at sent i)) test
-  where
-    same_as : (c : Column) → is_same c c ≡ true
-    same_as c = ap₂ (λ (x y : Bool). x && y) (eq-eqb c.blue c.blue refl) (ap₂ (λ (x y : Bool). x && y) (eq-eqb c.green c.green refl) (eq-eqb c.red c.red refl))
+unlike_column i test e = grind (arith, clash, eq-eqb)
 
 -- a test where a kind stands, and what it says there
 abbrev where_kind : Kind → (ℕ → Bool) → ℕ → Bool
@@ -347,11 +334,7 @@ abbrev is_control_kind : Kind → Bool
 is_control_kind k = is_kind control_kind k
 
 control_of : (k : Kind) → is_control_kind k ≡ true → k ≡ control_kind
-control_of control_kind h = refl
-control_of first_guard h = cc h
-control_of second_guard h = cc h
-control_of pixel_column h = cc h
-control_of packet_column h = cc h
+control_of k h = grind arith
 
 going_on : passes_below 23 (λ i. is_control_kind (kind_at (dvi_kinds stream) (i + 1))) ≡ true
 unfolding passes_below stream dvi_kinds dvi_kinds_in values_of
@@ -367,9 +350,7 @@ edge_late : (e : ℕ) → IsEdge blue e → 233 ≤ e
 unfolding blue
 edge_late e h =
     let end = (edges_end stream sent received conforming three spelled sparse).0.edges 7 383 e h in
-    let late = ends_late end.0 end.1 in
-    let at = end.2 in
-    omega arith
+    grind (arith, ends_late)
 
 first : IsFirst blue green red 233 163 198
 first = record {

@@ -37,9 +37,7 @@ pub data Received : List Period → List Column → List Column → Type 0 where
 
 row_zero : (j : ℕ) (x : Period) (ss rs : List Column) → dvi_row j 0 x ss rs ≡ []
 unfolding dvi_row dvi_video_reported
-row_zero j (control runs) ss rs = no_row j
-row_zero j (video bytes) ss rs = refl
-row_zero j (Rattle.island_pack.specs.Periods.island x) ss rs = refl
+row_zero j x ss rs = grind (arith, no_row)
 
 account_zero : (j : ℕ) (xs : List Period) (ss rs : List Column) → dvi_account_from j 0 xs ss rs ≡ []
 unfolding dvi_account_from
@@ -53,10 +51,7 @@ account_zero j (x ∷ xs) ss rs =
 pub account_period : (j m : ℕ) (x : Period) (xs : List Period) (own reception ss rs : List Column) → length own ≡ dvi_columns x → length reception ≡ dvi_columns x
     → dvi_account_from j m (x ∷ xs) (own ++ ss) (reception ++ rs) ≡ dvi_row j m x own reception ++ dvi_account_from (j + dvi_columns x) (m - dvi_columns x) xs ss rs
 unfolding dvi_account_from
-account_period j m x xs own reception ss rs a b =
-    let n = dvi_columns x in
-    ap₂ (λ (u v : List Column). dvi_row j m x (take n (own ++ ss)) (take n (reception ++ rs)) ++ dvi_account_from (j + n) (m - n) xs u v) (drop_seam own ss n a) (drop_seam reception rs n b)
-    ∙ ap₂ (λ (u v : List Column). dvi_row j m x u v ++ dvi_account_from (j + n) (m - n) xs ss rs) (take_seam own ss n a) (take_seam reception rs n b)
+account_period j m x xs own reception ss rs a b = grind (arith, drop_seam, take_seam)
 
 pub control_columns_are : (runs : List ControlRun) → dvi_columns (control runs) ≡ length (values_of runs)
 unfolding dvi_columns
@@ -78,28 +73,18 @@ video_row_is : (j m : ℕ) (bytes : List ℕ) (pp qq : List Column) → dvi_row 
 unfolding dvi_row
 video_row_is j m bytes pp qq = refl
 
-no_account : (j m : ℕ) → dvi_account_from j m [] [] [] ≡ []
-unfolding dvi_account_from
-no_account j m = refl
-
 taken_row : (j m : ℕ) (cs : List Column) → AllControl cs → walk dvi_gaps j (stretches (take m cs)) ≡ control_row j (take m cs)
 taken_row j m cs all = walk_control dvi_gaps j (take m cs) (take_control m cs all)
 
 within : (j m : ℕ) (cs : List Column) (tail : List Period) (ss rs later : List Column) → AllControl cs → m ≤ length cs
     → walk dvi_gaps j (stretches (take m (cs ++ later))) ≡ control_row j (take m cs) ++ dvi_account_from (j + length cs) (m - length cs) tail ss rs
-within j m cs tail ss rs later all le =
-    let e : m - length cs ≡ 0 = omega arith in
-    ap (λ ds. walk dvi_gaps j (stretches ds)) (take-append-le m cs later le)
-    ∙ taken_row j m cs all
-    ∙ sym (append-nil (control_row j (take m cs)))
-    ∙ ap (λ ts. control_row j (take m cs) ++ ts) (sym (ap (λ k. dvi_account_from (j + length cs) k tail ss rs) e ∙ account_zero (j + length cs) tail ss rs))
+within j m cs tail ss rs later all le = grind (arith, walk, take-append-le, taken_row, append-nil, account_zero)
 
 -- the law of joining
 pub joined : (tail : List Period) (before ss rs : List Column) → 12 ≤ length before → AllControl before → Received tail ss rs → (j m : ℕ)
     → walk dvi_gaps j (stretches (take m (before ++ rs))) ≡ control_row j (take m before) ++ dvi_account_from (j + length before) (m - length before) tail ss rs
-joined _ before _ _ long all ends j m =
-    ap (λ cs. walk dvi_gaps j (stretches (take m cs))) (append-nil before) ∙ taken_row j m before all ∙ sym (append-nil (control_row j (take m before)))
-    ∙ ap (λ ts. control_row j (take m before) ++ ts) (sym (no_account (j + length before) (m - length before)))
+unfolding dvi_account_from
+joined _ before _ _ long all ends j m = grind (arith, walk, append-nil, taken_row)
 joined _ before _ _ long all (goes_on bytes runs rest pp qq own cs ss rs p f) j m = elim (cases_lt (length before) m) [
   | inl on ↦
       let k = m - length before in

@@ -1,6 +1,6 @@
 -- The lanes of a stream without guard bands that came with sparse damage: each is one in which an edge is the end of a
 -- control period, by the laws of a link's lanes as they stand.
-use Rattle.std.proofs.Common.{◌≡◌, ℕ, suc, zero, ◌+◌, ◌-◌, ◌*◌, ◌/◌, ◌%◌, ◌<◌, ◌≤◌, Bool, true, false, List, [], ◌∷◌, ◌++◌, length, map, get_or, replicate, refl, ap, sym, ◌∙◌, subst, arith, ◌⊎◌, inl, inr, nat_lt, take}
+use Rattle.std.proofs.Common.{◌≡◌, ℕ, suc, zero, ◌+◌, ◌-◌, ◌*◌, ◌/◌, ◌<◌, ◌≤◌, Bool, true, false, List, [], ◌∷◌, ◌++◌, length, map, get_or, replicate, sym, ◌∙◌, subst, arith, ◌⊎◌, nat_lt, take}
 use Rattle.std.proofs.lemmas.Bool.{ltb-true}
 use Rattle.std.proofs.lemmas.List.{length-map, get_or-map}
 use Rattle.tmds_word.specs.Bits.{word_bits, turns}
@@ -15,14 +15,14 @@ use Rattle.terc4.proofs.Words.{few_turns}
 use Rattle.island_pack.specs.Periods.{Period, control, video, island, values_of, Pixel, pixels_of}
 use Rattle.island_pack.specs.Conforming.{are_bytes, is_control_period, is_video_period}
 use Rattle.island_pack.specs.Spelling.{control_column, SpellsPixels}
-use Rattle.island_pack.specs.Kinds.{Kind, control_column as control_kind, first_guard, second_guard, pixel_column, packet_column, IsPayload, kind_at, EndsAt}
+use Rattle.island_pack.specs.Kinds.{Kind, control_column as control_kind, first_guard, second_guard, pixel_column, IsPayload, kind_at, EndsAt}
 use Rattle.island_pack.specs.Sparse.{AreFew, no_column, column_at}
 use Rattle.lane_deskew.specs.Triples.{IsFirst}
 use Rattle.link_laws.specs.LaneEnds.{IsGuard, IsReceived, IsSent, damaged}
 use Rattle.link_laws.proofs.LaneEnds.{same_word, length_damaged, kind_cases, edge_ends, first_ends}
 use Rattle.link_laws.proofs.Conformed.{is_video_of}
 use Rattle.link_laws.proofs.VideoReported.{pixel_count}
-use Rattle.link_laws.proofs.Spelled.{FitsWord, FitsColumn, Fitting, no_columns, column, HasFewTurns, ArePayload, IsSmall, length-spelled}
+use Rattle.link_laws.proofs.Spelled.{FitsColumn, Fitting, no_columns, column, HasFewTurns, ArePayload, IsSmall, length-spelled}
 use Rattle.link_laws.proofs.Spelled as spelled
 use Rattle.link_laws.proofs.Lanes.{fitting_length, fitting_at, lane_sent, few_marked}
 use Rattle.source_end.specs.DviPeriods.{dvi_conforms, IsDviConforming, DviSpells, dvi_kinds_in, dvi_kinds, IsDviSparse, HasThree}
@@ -31,33 +31,16 @@ use Rattle.dvi_laws.proofs.Shape.{alternating}
 
 -- Sent columns (as in link_sink.proofs.Spelled, where these are not public).
 
-fits_other : (k : Kind) → (k ≡ control_kind → ⊥) → (w : ℕ) → turns (word_bits w) ≤ 5 → FitsWord k w
-fits_other k apart w h = record { controls = λ e. absurd (apart e); others = λ n. h }
-
 fit_other : (k : Kind) (c : Column) → (k ≡ control_kind → ⊥) → HasFewTurns c → FitsColumn k c
-fit_other k c apart h = record { blue = fits_other k apart c.blue h.blue; green = fits_other k apart c.green h.green; red = fits_other k apart c.red h.red }
+fit_other k c apart h = grind arith
 
 control_word : (v : ℕ) → v < 4 → is_control (get_or control_words v 0) ≡ true
 unfolding is_control is_in control_words
-control_word zero lt = refl
-control_word (suc zero) lt = refl
-control_word (suc (suc zero)) lt = refl
-control_word (suc (suc (suc zero))) lt = refl
-control_word (suc (suc (suc (suc v)))) lt = absurd (omega arith)
-
-fits_control : (v : ℕ) → v < 4 → FitsWord control_kind (get_or control_words v 0)
-fits_control v lt = record { controls = λ e. control_word v lt; others = λ n. absurd (n refl) }
+control_word v h = grind arith
 
 fit_control : (vs : List ℕ) (ks : List Kind) (cs : List Column) → Fitting ks cs → Fitting (replicate (length vs) control_kind ++ ks) (map control_column vs ++ cs)
 fit_control [] ks cs h = h
-fit_control (v ∷ vs) ks cs h =
-    column control_kind (control_column v) _ _
-    (record {
-      blue = fits_control (v % 4) (omega arith);
-      green = fits_control (v / 4 % 4) (omega arith);
-      red = fits_control (v / 16 % 4) (omega arith);
-    })
-    (fit_control vs ks cs h)
+fit_control (v ∷ vs) ks cs h = grind (arith, column, control_word, fit_control vs ks cs h)
 
 abbrev no_pixel : Pixel
 no_pixel = record { red = 0; green = 0; blue = 0 }
@@ -67,9 +50,7 @@ unfolding pixels_of
 small_pixels [] j h = record { red = omega arith; green = omega arith; blue = omega arith }
 small_pixels (r ∷ []) j h = record { red = omega arith; green = omega arith; blue = omega arith }
 small_pixels (r ∷ (g ∷ [])) j h = record { red = omega arith; green = omega arith; blue = omega arith }
-small_pixels (r ∷ (g ∷ (b ∷ rest))) zero h =
-    let more = and-right (nat_lt r 256) _ h in
-    record { red = ltb-true _ _ (and-left _ _ h); green = ltb-true _ _ (and-left _ _ more); blue = ltb-true _ _ (and-left _ _ (and-right (nat_lt g 256) _ more)) }
+small_pixels (r ∷ (g ∷ (b ∷ rest))) zero h = grind (arith, and-right, ltb-true, and-left)
 small_pixels (r ∷ (g ∷ (b ∷ rest))) (suc j) h =
     small_pixels rest j (and-right (nat_lt b 256) _ (and-right (nat_lt g 256) _ (and-right (nat_lt r 256) _ h)))
 
@@ -84,9 +65,7 @@ pixel_quiet f g pixels pp lane j lt small =
     let a = length-map pixels f in
     let b = length-map pp g in
     let byte : get_or (map f pixels) j 0 ≡ f (get_or pixels j no_pixel) = get_or-map f pixels j no_pixel 0 (omega arith) in
-    let word : get_or (map g pp) j 0 ≡ g (column_at pp j) = get_or-map g pp j no_column 0 lt in
-    subst (λ w. turns (word_bits w) ≤ 5) word
-    (lane_quiet (map f pixels) (map g pp) lane j (omega arith) (subst (λ n. n < 256) (sym byte) small))
+    grind (arith, get_or-map, lane_quiet)
 
 payload_from : (cs : List Column) → ((i : ℕ) → i < length cs → HasFewTurns (column_at cs i)) → ArePayload cs
 payload_from [] each = spelled.none
@@ -107,18 +86,14 @@ fit_pixels (suc n) _ ks cs e (spelled.more c pp here rest) h = column pixel_colu
 
 fit_video : (n : ℕ) (pp : List Column) (ks : List Kind) (cs : List Column) → length pp ≡ n → 1 ≤ n → ArePayload pp → Fitting ks cs
     → Fitting ((first_guard ∷ replicate (n - 1) pixel_column) ++ ks) (pp ++ cs)
-fit_video n _ ks cs e one spelled.none h = absurd (omega arith)
-fit_video n _ ks cs e one (spelled.more c pp here rest) h =
-    column first_guard c _ _ (fit_other first_guard c (λ f. cc) here) (fit_pixels (n - 1) pp ks cs (omega arith) rest h)
+fit_video n pp ks cs h k l m = grind (arith, column, fit_other, fit_pixels)
 
 pub fitting : (ps : List Period) (sent : List Column) → IsDviConforming ps → DviSpells ps sent → Fitting (dvi_kinds ps) sent
 unfolding dvi_conforms dvi_kinds dvi_kinds_in
 fitting [] sent h s = cc
 fitting (video bytes ∷ rest) sent h s = cc
 fitting (island x ∷ rest) sent h s = cc
-fitting (control runs ∷ []) sent h s =
-    let is : sent ≡ map control_column (values_of runs) ++ [] = s.2 ∙ (λ i. s.3 i ++ s.4 i) in
-    subst (λ (xs : List Column). Fitting (replicate (length (values_of runs)) control_kind ++ []) xs) (sym is) (fit_control (values_of runs) [] [] no_columns)
+fitting (control runs ∷ []) sent h s = grind (arith, Fitting, fit_control, no_columns)
 fitting (control runs ∷ (control next ∷ rest)) sent h s = cc
 fitting (control runs ∷ (island x ∷ rest)) sent h s = cc
 fitting (control runs ∷ (video bytes ∷ rest)) sent h s =
@@ -128,22 +103,15 @@ fitting (control runs ∷ (video bytes ∷ rest)) sent h s =
     let pp = more.0 in
     let is : sent ≡ map control_column (values_of runs) ++ (pp ++ two) = s.2 ∙ (λ i. s.3 i ++ more.2 i) in
     let count = pixel_count bytes in
-    let l = length-spelled (pixels_of bytes) pp more.3 in
-    let ih = fitting rest two (and-right (is_video_period bytes) _ (and-right (is_control_period runs) _ h)) more.4 in
-    subst (λ (xs : List Column). Fitting (replicate (length (values_of runs)) control_kind ++ ((first_guard ∷ replicate (length bytes / 3 - 1) pixel_column) ++ dvi_kinds rest)) xs) (sym is)
-    (fit_control (values_of runs) _ _ (fit_video (length bytes / 3) pp _ two (omega arith) v.some (pixels_payload bytes pp v.small more.3) ih))
+    grind (arith, length-spelled, and-right, Fitting, fit_control, fit_video, pixels_payload, fitting rest)
 
 -- No column is of the kind of a second guard column.
 
 abbrev NoSecond : List Kind → Type 0
 NoSecond ks = (i : ℕ) → i < length ks → kind_at ks i ≡ second_guard → ⊥
 
-none_second : NoSecond []
-none_second i lt h = absurd (omega arith)
-
 one_second : (k : Kind) (ks : List Kind) → (k ≡ second_guard → ⊥) → NoSecond ks → NoSecond (k ∷ ks)
-one_second k ks apart h zero lt e = apart e
-one_second k ks apart h (suc i) lt e = h i (omega arith) e
+one_second k ks h l m p q = grind arith
 
 many_second : (n : ℕ) (k : Kind) (ks : List Kind) → (k ≡ second_guard → ⊥) → NoSecond ks → NoSecond (replicate n k ++ ks)
 many_second zero k ks apart h = h
@@ -151,7 +119,7 @@ many_second (suc n) k ks apart h = one_second k (replicate n k ++ ks) apart (man
 
 pub no_second : (ps : List Period) → NoSecond (dvi_kinds ps)
 unfolding dvi_kinds dvi_kinds_in
-no_second [] = none_second
+no_second [] = grind arith
 no_second (control runs ∷ ps) = many_second (length (values_of runs)) control_kind (dvi_kinds ps) (λ e. cc) (no_second ps)
 no_second (video bytes ∷ ps) =
     one_second first_guard (replicate (length bytes / 3 - 1) pixel_column ++ dvi_kinds ps) (λ e. cc) (many_second (length bytes / 3 - 1) pixel_column (dvi_kinds ps) (λ e. cc) (no_second ps))
@@ -160,11 +128,7 @@ no_second (island x ∷ ps) = no_second ps
 -- Received lanes.
 
 guard_cases : (k : Kind) → IsGuard k → (k ≡ first_guard) ⊎ (k ≡ second_guard)
-guard_cases control_kind g = absurd g
-guard_cases first_guard g = inl refl
-guard_cases second_guard g = inr refl
-guard_cases pixel_column g = absurd g
-guard_cases packet_column g = absurd g
+guard_cases k h = grind arith
 
 no_payload : (k : Kind) → k ≡ control_kind → IsPayload k → ⊥
 no_payload k e p = subst IsPayload e p
@@ -183,27 +147,7 @@ lane_received f ks ss rs s long narrow spares first second few =
     let size = length_damaged (map f ss) (map f rs) same_size in
     let word : (i : ℕ) → i < length (map f rs) → get_or (map f rs) i 0 ≡ f (column_at rs i) = λ i lt. get_or-map f rs i no_column 0 (omega arith) in
     let sent : (i : ℕ) → i < length (map f rs) → get_or (map f ss) i 0 ≡ f (column_at ss i) = λ i lt. get_or-map f ss i no_column 0 (omega arith) in
-    let as_sent : (i : ℕ) → i < length (map f rs) → get_or marks i false ≡ false → get_or (map f rs) i 0 ≡ get_or (map f ss) i 0 = λ i lt u. same_word (map f ss) (map f rs) i same_size (omega arith) u in
-    let quiet : (i : ℕ) → i < length (map f rs) → (kind_at ks i ≡ control_kind → ⊥) → get_or marks i false ≡ false → turns (word_bits (get_or (map f rs) i 0)) ≤ 5 =
-    λ i lt k u. subst (λ w. turns (word_bits w) ≤ 5) (sym (as_sent i lt u)) (s.others i (omega arith) k) in
-    let controls : (i : ℕ) → i < length (map f rs) → kind_at ks i ≡ control_kind → is_control (get_or (map f rs) i 0) ≡ true =
-    λ i lt k. ap is_control (word i lt ∙ ap f (spares i k) ∙ sym (sent i lt)) ∙ s.controls i (omega arith) k in
-    record {
-      calm = record {
-        same_length = omega arith;
-        plain = λ i lt u no_control. kind_cases (turns (word_bits (get_or (map f rs) i 0)) ≤ 5) (kind_at ks i)
-            (λ c. let is = controls i lt c in absurd (clash _ no_control is))
-            (λ other. quiet i lt other u);
-        few = λ i within. few_marked (map f ss) (map f rs) few i (omega arith);
-      };
-      below = λ i lt. subst (λ w. w < 1024) (sym (word i lt)) (narrow i (omega arith));
-      controls = controls;
-      guards = λ i lt g. elim (guard_cases (kind_at ks i) g) [
-        | inl one ↦ ap is_control (word i lt) ∙ first i (omega arith) one
-        | inr two ↦ absurd (second i (omega arith) two)
-      ];
-      payloads = λ i lt k u. few_turns _ (quiet i lt (λ c. no_payload (kind_at ks i) c k) u);
-    }
+    grind (arith, same_word, kind_cases, few_marked, guard_cases, few_turns, no_payload)
   where
     clash : (x : Bool) → x ≡ false → x ≡ true → ⊥
     clash x h g = cc

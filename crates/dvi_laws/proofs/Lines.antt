@@ -1,5 +1,5 @@
 -- A video period's columns as they came.
-use Rattle.std.proofs.Common.{◌≡◌, ℕ, suc, zero, ◌<◌, ◌≤◌, cond, List, [], ◌∷◌, ◌++◌, length, take, refl, ap, ap₂, sym, ◌∙◌, arith}
+use Rattle.std.proofs.Common.{◌≡◌, ℕ, ◌<◌, ◌≤◌, List, [], ◌∷◌, ◌++◌, length, take, ap, ap₂, ◌∙◌, arith}
 use Rattle.std.specs.Prelude.{nat_le}
 use Rattle.std.proofs.lemmas.List.{append-nil, take_all}
 use Rattle.std.proofs.lemmas.Bool.{le-leb, le-ltb, lt-ltb}
@@ -23,28 +23,17 @@ closes b n ps ss rs long few h =
 
 closing_is : (b : ℕ) (before rs : List Column) → 1 ≤ length rs → dvi_closing b before rs ≡ dvi_line b (length before) rs
 unfolding dvi_closing
-closing_is b before [] one = absurd (omega arith)
-closing_is b before (c ∷ cs) one = refl
+closing_is b before rs h = grind arith
 
 reported_part : (b k : ℕ) (ps : List Pixel) (ss rs : List Column) → 1 ≤ k → k ≤ length ps → cut b ∷ [] ≡ dvi_video_reported b k ps ss rs
 unfolding dvi_video_reported
-reported_part b zero ps ss rs one le = absurd (omega arith)
-reported_part b (suc i) ps ss rs one le = ap (λ p. cond p (dvi_video_row b ps ss rs) (cut b ∷ [])) (sym (le-ltb (length ps) (suc i) le))
+reported_part b k ps ss rs h l = grind (arith, le-ltb)
 
 reported_whole : (b k : ℕ) (ps : List Pixel) (ss rs : List Column) → length ps < k → dvi_video_row b ps ss rs ≡ dvi_video_reported b k ps ss rs
 unfolding dvi_video_reported
-reported_whole b zero ps ss rs lt = absurd (omega arith)
-reported_whole b (suc i) ps ss rs lt = ap (λ p. cond p (dvi_video_row b ps ss rs) (cut b ∷ [])) (sym (lt-ltb (length ps) (suc i) lt))
+reported_whole b k ps ss rs h = grind (arith, lt-ltb)
 
 pub dvi_gap : (before : List Column) (ps : List Pixel) (ss rs : List Column) → 12 ≤ length before → 1 ≤ length ps → length ps ≤ 4096 → ArePixels ps ss rs
     → IsGapBy dvi_gaps before rs (λ b k. dvi_video_reported b k ps ss rs)
 unfolding dvi_video_reported
-dvi_gap before ps ss rs long some few are =
-    let n = length_received ps ss rs are in
-    record {
-      quiet = pixels_quiet ps ss rs are;
-      one = omega arith;
-      nothing = λ b. refl;
-      part = λ b k one le. reported_part b k ps ss rs one (omega arith);
-      whole = λ b k lt. closing_is b before rs (omega arith) ∙ closes b (length before) ps ss rs long few are ∙ reported_whole b k ps ss rs (omega arith);
-    }
+dvi_gap before ps ss rs long some few are = grind (arith, length_received, pixels_quiet, reported_part, closing_is, closes, reported_whole)

@@ -1,6 +1,6 @@
 -- The kinds of the columns of a stream without guard bands alternate as those of a link do: the laws of lanes that ask
 -- for no more than that hold as they stand.
-use Rattle.std.proofs.Common.{◌≡◌, ℕ, suc, zero, ◌+◌, ◌-◌, ◌/◌, ◌≤◌, List, [], ◌∷◌, length, get_or, replicate, refl, arith}
+use Rattle.std.proofs.Common.{◌≡◌, ℕ, suc, zero, ◌+◌, ◌-◌, ◌/◌, ◌≤◌, List, [], ◌∷◌, length, get_or, replicate, arith}
 use Rattle.std.proofs.lemmas.List.{length-replicate}
 use Rattle.tmds_word.proofs.Below.{and-left, and-right}
 use Rattle.island_pack.specs.Periods.{Period, control, video, island, values_of}
@@ -17,8 +17,7 @@ no_control (suc n) zero h = cc
 no_control (suc n) (suc i) h = no_control n i h
 
 first_then : (n i : ℕ) → get_or (first_guard ∷ replicate n pixel_column) i second_guard ≡ control_column → ⊥
-first_then n zero h = cc
-first_then n (suc i) h = no_control n i h
+first_then n i h = grind (arith, no_control)
 
 pub video_size : (bytes : List ℕ) → 1 ≤ length bytes / 3 → length (dvi_kinds_in (video bytes)) ≡ length bytes / 3
 unfolding dvi_kinds_in
@@ -26,11 +25,7 @@ video_size bytes one = let l = length-replicate (length bytes / 3 - 1) pixel_col
 
 pub video_middle : (bytes : List ℕ) → 3 ≤ length bytes / 3 → IsMiddle (dvi_kinds_in (video bytes))
 unfolding dvi_kinds_in
-video_middle bytes three = record {
-  first = refl;
-  none = first_then (length bytes / 3 - 1);
-  long = let l = length-replicate (length bytes / 3 - 1) pixel_column in omega arith;
-}
+video_middle bytes three = grind (arith, first_then, length-replicate)
 
 pub alternating : (ps : List Period) → IsDviConforming ps → HasThree ps → IsAlternating (dvi_kinds ps)
 unfolding dvi_conforms dvi_kinds dvi_kinds_in HasThree

@@ -1,15 +1,13 @@
 -- The account from twelve columns before the end of a control period on.
-use Rattle.std.proofs.Common.{◌≡◌, ℕ, ◌+◌, ◌-◌, ◌/◌, ◌<◌, ◌≤◌, cond, true, List, [], ◌∷◌, ◌++◌, length, take, drop, replicate, refl, ap, ap₂, sym, ◌∙◌, subst, arith, inl, inr, length-drop}
+use Rattle.std.proofs.Common.{◌≡◌, ℕ, ◌+◌, ◌-◌, ◌/◌, ◌<◌, ◌≤◌, true, List, [], ◌∷◌, ◌++◌, length, take, drop, replicate, refl, ap, sym, ◌∙◌, subst, arith, inl, inr, length-drop}
 use Rattle.std.proofs.lemmas.List.{drop-append-le, length-map}
 use Rattle.std.proofs.lemmas.Bool.{le-ltb, lt-ltb}
 use Rattle.tmds_word.specs.Column.{Column}
 use Rattle.island_pack.specs.Periods.{ControlRun, Period, control, video, island, values_of}
 use Rattle.island_pack.specs.Kinds.{control_column as control_kind, EndsAt}
-use Rattle.island_pack.specs.Spelling.{control_column}
 use Rattle.island_pack.specs.Sparse.{unlike_at}
 use Rattle.link_laws.specs.Alternating.{IsAlternating, last, more}
 use Rattle.link_laws.proofs.Shapes.{where_ends, ends_alone, ends_late}
-use Rattle.period_grammar.specs.Cut.{stretches}
 use Rattle.link_laws.specs.Account.{control_row}
 use Rattle.link_laws.proofs.Cutting.{AllControl}
 use Rattle.link_laws.proofs.Rows.{control_columns}
@@ -17,7 +15,7 @@ use Rattle.link_laws.proofs.Between.{take_seam, drop_seam}
 use Rattle.link_laws.proofs.Start.{drop_control, drop_over}
 use Rattle.link_laws.proofs.VideoReported.{pixel_count, length_received, length_sent}
 use Rattle.period_grammar.specs.Gaps.{so_far_by, heard_by}
-use Rattle.dvi_hearing.specs.DviHeard.{dvi_gaps, dvi_heard}
+use Rattle.dvi_hearing.specs.DviHeard.{dvi_heard}
 use Rattle.source_end.specs.DviPeriods.{dvi_conforms, IsDviConforming, dvi_columns, DviSpells, dvi_kinds_in, dvi_kinds, HasThree}
 use Rattle.dvi_laws.specs.DviAccount.{dvi_account_from, dvi_account_at, dvi_account}
 use Rattle.dvi_laws.proofs.Walk.{walk}
@@ -28,21 +26,12 @@ use Rattle.dvi_laws.proofs.Shape.{video_middle, video_size}
 account_here : (x : Period) (xs : List Period) (own reception ss rs : List Column) (a m : ℕ) → length own ≡ dvi_columns x → length reception ≡ dvi_columns x → a < dvi_columns x
     → dvi_account (x ∷ xs) (own ++ ss) (reception ++ rs) a m ≡ control_row 0 (take m (drop a reception)) ++ dvi_account_from (dvi_columns x - a) (m - (dvi_columns x - a)) xs ss rs
 unfolding dvi_account dvi_account_at
-account_here x xs own reception ss rs a m so re lt =
-    let n = dvi_columns x in
-    ap (λ p. cond p (dvi_account_at x a m xs (own ++ ss) (reception ++ rs)) (dvi_account xs (drop n (own ++ ss)) (drop n (reception ++ rs)) (a - n) m)) (lt-ltb a n lt)
-    ∙ ap (λ cs. control_row 0 (take m (drop a cs)) ++ dvi_account_from (n - a) (m - (n - a)) xs (drop n (own ++ ss)) (drop n (reception ++ rs))) (take_seam reception rs n re)
-    ∙ ap₂ (λ (u v : List Column). control_row 0 (take m (drop a reception)) ++ dvi_account_from (n - a) (m - (n - a)) xs u v) (drop_seam own ss n so) (drop_seam reception rs n re)
+account_here x xs own reception ss rs a m so re lt = grind (arith, lt-ltb, take_seam, drop_seam)
 
 account_past : (x : Period) (xs : List Period) (own reception ss rs : List Column) (a m : ℕ) → length own ≡ dvi_columns x → length reception ≡ dvi_columns x → dvi_columns x ≤ a
     → dvi_account (x ∷ xs) (own ++ ss) (reception ++ rs) a m ≡ dvi_account xs ss rs (a - dvi_columns x) m
 unfolding dvi_account
-account_past x xs own reception ss rs a m so re le =
-    let n = dvi_columns x in
-    let s = own ++ ss in
-    let r = reception ++ rs in
-    ap (λ p. cond p (dvi_account_at x a m xs s r) (dvi_account xs (drop n s) (drop n r) (a - n) m)) (le-ltb a n le)
-    ∙ ap₂ (λ (u v : List Column). dvi_account xs u v (a - n) m) (drop_seam own ss n so) (drop_seam reception rs n re)
+account_past x xs own reception ss rs a m so re le = grind (arith, le-ltb, drop_seam)
 
 here : (runs : List ControlRun) (tail : List Period) (own cs ss rs : List Column) → length own ≡ dvi_columns (control runs) → length cs ≡ dvi_columns (control runs) → AllControl cs → Received tail ss rs
     → (a m : ℕ) → a + 12 ≡ length cs
@@ -51,15 +40,7 @@ unfolding dvi_heard heard_by so_far_by
 here runs tail own cs ss rs so re all reception a m e =
     let d = length-drop a cs in
     let n : 0 + length (drop a cs) ≡ dvi_columns (control runs) - a = omega arith in
-    let k : length (drop a cs) ≡ dvi_columns (control runs) - a = omega arith in
-    ap (λ (ds : List Column). walk dvi_gaps 0 (stretches (take m ds))) (drop-append-le a cs rs (omega arith))
-    ∙ joined tail (drop a cs) ss rs (omega arith) (drop_control a cs all) reception 0 m
-    ∙ ap₂ (λ (j i : ℕ). control_row 0 (take m (drop a cs)) ++ dvi_account_from j (m - i) tail ss rs) n k
-    ∙ sym (account_here (control runs) tail own cs ss rs a m so re (omega arith))
-
-kinds_last : (runs : List ControlRun) → dvi_kinds (control runs ∷ []) ≡ replicate (length (values_of runs)) control_kind ++ []
-unfolding dvi_kinds dvi_kinds_in
-kinds_last runs = refl
+    grind (arith, walk, drop-append-le, joined, drop_control, account_here)
 
 kinds_more : (runs : List ControlRun) (bytes : List ℕ) (rest : List Period)
     → dvi_kinds (control runs ∷ (video bytes ∷ rest)) ≡ replicate (length (values_of runs)) control_kind ++ (dvi_kinds_in (video bytes) ++ dvi_kinds rest)
@@ -83,10 +64,8 @@ late runs _ _ _ long (goes_on bytes next rest pp qq own cs ss rs p f) t =
 pub from_end : (runs : List ControlRun) (tail : List Period) (own cs ss rs : List Column) → length own ≡ length (values_of runs) → length cs ≡ length (values_of runs) → AllControl cs → Received tail ss rs → HasThree tail
     → (a m : ℕ) → EndsAt (dvi_kinds (control runs ∷ tail)) (a + 11)
     → dvi_heard (take m (drop a (cs ++ rs))) ≡ dvi_account (control runs ∷ tail) (own ++ ss) (cs ++ rs) a m
-from_end runs _ own cs _ _ so re all ends t a m e =
-    let c = control_columns_are runs in
-    let n = ends_alone (length (values_of runs)) (a + 11) (subst (λ ks. EndsAt ks (a + 11)) (kinds_last runs) e) in
-    here runs [] own cs [] [] (omega arith) (omega arith) all ends a m (omega arith)
+unfolding dvi_kinds dvi_kinds_in
+from_end runs _ own cs _ _ so re all ends t a m e = grind (arith, control_columns_are, ends_alone, here, ends)
 from_end runs _ own cs _ _ so re all (goes_on bytes next rest pp qq mine ds ss rs p f) t a m e =
     let c = control_columns_are runs in
     let d = video_columns_are bytes in
@@ -119,17 +98,14 @@ three_tail : (runs : List ControlRun) (tail : List Period) → HasThree (control
 unfolding HasThree
 three_tail runs tail h = h
 
-no_periods : dvi_conforms [] ≡ true → ⊥
-unfolding dvi_conforms
-no_periods h = cc
-
 no_video : (bytes : List ℕ) (rest : List Period) → dvi_conforms (video bytes ∷ rest) ≡ true → ⊥
 unfolding dvi_conforms
 no_video bytes rest h = cc
 
 pub link_law : (ps : List Period) (sent received : List Column) → IsDviConforming ps → HasThree ps → DviSpells ps sent → length received ≡ length sent → ((i : ℕ) → unlike_at sent received i ≤ 1)
     → (a m : ℕ) → EndsAt (dvi_kinds ps) (a + 11) → dvi_heard (take m (drop a received)) ≡ dvi_account ps sent received a m
-link_law [] sent received c t spells len one a m e = absurd (no_periods c)
+unfolding dvi_conforms
+link_law [] sent received c t spells len one a m e = grind arith
 link_law (video bytes ∷ rest) sent received c t spells len one a m e = absurd (no_video bytes rest c)
 link_law (island x ∷ rest) sent received c t spells len one a m e = absurd spells.3
 link_law (control runs ∷ tail) sent received c t spells len one a m e =
@@ -137,7 +113,4 @@ link_law (control runs ∷ tail) sent received c t spells len one a m e =
     let is = spells.2 ∙ ap (λ xs. xs ++ two) spells.3 in
     let near = subst (λ (xs : List Column). AreNearly xs received) is (nearly sent received len one) in
     let q = control_received (values_of runs) two received (first_control_period runs tail c).small near in
-    let reception = tail_received runs tail two q.back c spells.4 q.rest in
-    ap (λ (xs : List Column). dvi_heard (take m (drop a xs))) q.is
-    ∙ from_end runs tail (control_columns (values_of runs)) q.cs two q.back (length-map (values_of runs) control_column) q.count q.all reception (three_tail runs tail t) a m e
-    ∙ ap₂ (λ (xs ys : List Column). dvi_account (control runs ∷ tail) xs ys a m) (sym is) (sym q.is)
+    grind (arith, tail_received, from_end, control_columns, length-map, three_tail)

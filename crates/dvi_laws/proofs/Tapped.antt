@@ -55,17 +55,7 @@ tap_accounted ps sent received c t spells h offset skews counts x y z tapped sma
     let w1 = edge_within x d triple.first in
     let w2 = edge_within y e triple.second in
     let w3 = edge_within z f triple.third in
-    let at : BeginAt received (offset + k1) (offset + k2) (offset + k3) (slice_index counts 0) (slice_index counts 1) (slice_index counts 2) a x y z d e f = record {
-      blue = tapped.blue_part.bits_are;
-      green = tapped.green_part.bits_are;
-      red = tapped.red_part.bits_are;
-      first = begins d (offset + k1) i (omega arith) far end.2;
-      second = begins e (offset + k2) i (omega arith) far end.3;
-      third = begins f (offset + k3) i (omega arith) far end.4;
-      first_within = omega arith;
-      second_within = omega arith;
-      third_within = omega arith;
-    } in
+    let at : BeginAt received (offset + k1) (offset + k2) (offset + k3) (slice_index counts 0) (slice_index counts 1) (slice_index counts 2) a x y z d e f = grind (arith, begins) in
     let columns : cs ≡ take (length cs) (drop a received) =
     columns_taken received (offset + k1) (offset + k2) (offset + k3) (slice_index counts 0) (slice_index counts 1) (slice_index counts 2) a x y z d e f at
     (characters (λ c. c.blue) received (λ i lt. (h.characters i lt).blue)) (characters (λ c. c.green) received (λ i lt. (h.characters i lt).green)) (characters (λ c. c.red) received (λ i lt. (h.characters i lt).red)) in

@@ -1,5 +1,5 @@
 -- What is told of control columns, a gap, and what comes after them, under every rule (the law of joining, once).
-use Rattle.std.proofs.Common.{◌≡◌, ℕ, suc, zero, ◌+◌, ◌-◌, ◌<◌, ◌≤◌, true, List, [], ◌∷◌, ◌++◌, length, map, take, refl, ap, ap₂, sym, ◌∙◌, append_assoc, arith, inl, inr}
+use Rattle.std.proofs.Common.{◌≡◌, ℕ, suc, zero, ◌+◌, ◌-◌, ◌<◌, ◌≤◌, true, List, [], ◌∷◌, ◌++◌, length, map, take, refl, ap, sym, ◌∙◌, append_assoc, arith, inl, inr}
 use Rattle.std.proofs.lemmas.List.{append-nil, map-append, take-append-le, length-take}
 use Rattle.std.proofs.Math.Seq.{take-append-add}
 use Rattle.std.proofs.lemmas.Bool.{cases_lt}
@@ -7,13 +7,13 @@ use Rattle.tmds_word.specs.Column.{Column}
 use Rattle.tmds_word.proofs.Below.{and-left, and-right}
 use Rattle.period_grammar.specs.Events.{Event, all_at, event_of}
 use Rattle.period_grammar.specs.Cut.{runs, Stretch as Cut, stretch, stretches}
-use Rattle.period_grammar.specs.Heard.{in_runs, last_run, reach}
+use Rattle.period_grammar.specs.Heard.{in_runs, last_run}
 use Rattle.link_laws.specs.Account.{control_row}
 use Rattle.link_laws.proofs.Cutting.{AllControl, NoneControl, begins, with_control, cut_control, cut_both, control_reported}
 use Rattle.link_laws.proofs.Between.{heads, some, some_cut, begins_heads}
 use Rattle.link_laws.proofs.ControlReported.{control_row_reported}
 use Rattle.link_laws.proofs.Rows.{and_both}
-use Rattle.period_grammar.specs.Gaps.{Gaps, going_by, closing_by, reported_by, end_by}
+use Rattle.period_grammar.specs.Gaps.{Gaps, going_by, reported_by, end_by}
 use Rattle.period_grammar.proofs.Hearings.{events_at}
 
 -- what is told of stretches from column j on, with what the end tells
@@ -64,21 +64,10 @@ walk_last g j control x gap =
     ap (λ ts. ts ++ g.ending (j + length control) control (x ∷ gap)) (going_events g j control x gap)
     ∙ append_assoc (control_row j control) (gap_events g (j + length control) control (x ∷ gap)) (g.ending (j + length control) control (x ∷ gap))
 
-regroup : (a b c d e : List Event) → ((a ++ b) ++ (c ++ d)) ++ e ≡ a ++ (b ++ (c ++ (d ++ e)))
-regroup a b c d e = simp append_assoc
-
 walk_on : (g : Gaps) (j : ℕ) (control : List Column) (x : Column) (gap : List Column) (xs : List Cut) → some xs ≡ true
     → walk g j (stretch control (x ∷ gap) ∷ xs)
     ≡ control_row j control ++ (gap_events g (j + length control) control (x ∷ gap) ++ (g.closing (j + length control) control (x ∷ gap) ++ walk g (j + (length control + length (x ∷ gap))) xs))
-walk_on g j control x gap [] h = cc
-walk_on g j control x gap (y ∷ ys) h =
-    let s = stretch control (x ∷ gap) in
-    let rest = reported_by g (j + reach s) (y ∷ ys) in
-    let close = g.closing (j + length control) control (x ∷ gap) in
-    ap (λ ts. ts ++ end_by g (j + reach s) (y ∷ ys))
-    (map-append event_of (going_by g j s) (closing_by g j s ++ rest)
-    ∙ ap₂ (λ (a b : List Event). a ++ b) (going_events g j control x gap) (map-append event_of (closing_by g j s) rest ∙ ap (λ ts. ts ++ map event_of rest) (events_at (j + reach s) close)))
-    ∙ regroup (control_row j control) (gap_events g (j + length control) control (x ∷ gap)) close (map event_of rest) (end_by g (j + reach s) (y ∷ ys))
+walk_on g j control x gap xs h = grind (arith, map-append, going_events, events_at, append_assoc)
 
 -- control columns and a gap, to the end
 gap_cut : (g : Gaps) (j : ℕ) (control gap : List Column) → 1 ≤ length control → AllControl control → 1 ≤ length gap → NoneControl gap
@@ -113,9 +102,7 @@ take_quiet (suc k) [] h = refl
 take_quiet (suc k) (c ∷ cs) h = and_both _ _ (and-left _ _ h) (take_quiet k cs (and-right _ _ h))
 
 heads_take : (k : ℕ) (cs : List Column) → 1 ≤ k → heads cs ≡ true → heads (take k cs) ≡ true
-heads_take zero cs one h = absurd (omega arith)
-heads_take (suc k) [] one h = cc
-heads_take (suc k) (c ∷ cs) one h = h
+heads_take k cs h l = grind arith
 
 -- what is told of control columns, of the first k columns behind them, and of what comes after them
 pub gap_law : (g : Gaps) (cs rs : List Column) (row : ℕ → ℕ → List Event) → 1 ≤ length cs → AllControl cs → IsGapBy g cs rs row
@@ -132,24 +119,11 @@ gap_law g cs rs row long all h j k next at = elim (cases_lt (length rs) k) [
   where
     nothing_received : k ≡ 0 → walk g j (stretches (cs ++ take k (rs ++ next)))
         ≡ control_row j cs ++ (row (j + length cs) k ++ walk g (j + length cs + length rs) (stretches (take (k - length rs) next)))
-    nothing_received zero_k =
-        let e : k - length rs ≡ 0 = omega arith in
-        ap (λ (m : ℕ). walk g j (stretches (cs ++ take m (rs ++ next)))) zero_k
-        ∙ ap (λ (ds : List Column). walk g j (stretches ds)) (append-nil cs)
-        ∙ walk_control g j cs all ∙ sym (append-nil (control_row j cs))
-        ∙ ap₂ (λ (a b : List Event). control_row j cs ++ (a ++ b))
-        (sym (ap (λ m. row (j + length cs) m) zero_k ∙ h.nothing (j + length cs)))
-        (sym (ap (λ (m : ℕ). walk g (j + length cs + length rs) (stretches (take m next))) e ∙ walk_none g (j + length cs + length rs)))
+    nothing_received zero_k = grind (arith, append-nil, walk_control, walk_none)
 
     part_received : 1 ≤ k → k ≤ length rs → walk g j (stretches (cs ++ take k (rs ++ next)))
         ≡ control_row j cs ++ (row (j + length cs) k ++ walk g (j + length cs + length rs) (stretches (take (k - length rs) next)))
-    part_received one le =
-        let e : k - length rs ≡ 0 = omega arith in
-        let t = length-take k rs in
-        ap (λ (ds : List Column). walk g j (stretches (cs ++ ds))) (take-append-le k rs next le)
-        ∙ gap_cut g j cs (take k rs) long all (omega arith) (take_quiet k rs h.quiet)
-        ∙ ap (λ ts. control_row j cs ++ ts) (h.part (j + length cs) k one le ∙ sym (append-nil (row (j + length cs) k)))
-        ∙ ap (λ ts. control_row j cs ++ (row (j + length cs) k ++ ts)) (sym (ap (λ (m : ℕ). walk g (j + length cs + length rs) (stretches (take m next))) e ∙ walk_none g (j + length cs + length rs)))
+    part_received one le = grind (arith, length-take, take-append-le, gap_cut, take_quiet, append-nil, walk_none)
 
     all_received : length rs < k → walk g j (stretches (cs ++ take k (rs ++ next)))
         ≡ control_row j cs ++ (row (j + length cs) k ++ walk g (j + length cs + length rs) (stretches (take (k - length rs) next)))
@@ -157,11 +131,4 @@ gap_law g cs rs row long all h j k next at = elim (cases_lt (length rs) k) [
         let i = k - length rs in
         let b = j + length cs in
         let e : k ≡ length rs + i = omega arith in
-        let f : j + (length cs + length rs) ≡ b + length rs = omega arith in
-        let rest = stretches (take i next) in
-        ap (λ (m : ℕ). walk g j (stretches (cs ++ take m (rs ++ next)))) e
-        ∙ ap (λ (ds : List Column). walk g j (stretches (cs ++ ds))) (take-append-add rs next i)
-        ∙ gap_on g j cs rs (take i next) long all h.one h.quiet (heads_take i next (omega arith) at)
-        ∙ ap (λ (m : ℕ). control_row j cs ++ (gap_events g b cs rs ++ (g.closing b cs rs ++ walk g m rest))) f
-        ∙ ap (λ ts. control_row j cs ++ ts) (sym (append_assoc (gap_events g b cs rs) (g.closing b cs rs) (walk g (b + length rs) rest)))
-        ∙ ap (λ ts. control_row j cs ++ (ts ++ walk g (b + length rs) rest)) (h.whole b k lt)
+        grind (arith, take-append-add, gap_on, heads_take, append_assoc)

@@ -1,5 +1,5 @@
 -- What is told between two changes.
-use Rattle.std.proofs.Common.{◌≡◌, List, [], ◌∷◌, ◌++◌, Bool, true, false, ◌||◌, if◌then◌else◌, refl, sym, ap, subst, ◌∙◌, reverse}
+use Rattle.std.proofs.Common.{arith, ◌≡◌, List, [], ◌∷◌, ◌++◌, Bool, true, false, ◌||◌, if◌then◌else◌, refl, sym, ap, subst, ◌∙◌, reverse}
 use Rattle.std.proofs.lemmas.Bool.{or_right}
 use Rattle.std.proofs.lemmas.List.{reverse-append, append_assoc, reverse-reverse}
 use Rattle.frame_build.specs.FrameEvent.{FrameEvent}
@@ -18,9 +18,7 @@ IsQuiet (event ∷ later) past = (is_change event (later ++ past) ≡ false) × 
 
 pub since_change-quiet : (later past : List FrameEvent) (first : FrameEvent) → is_change first past ≡ true → IsQuiet later (first ∷ past) → since_change (later ++ first ∷ past) ≡ later
 since_change-quiet [] past first opens quiet = ap (λ (b : Bool). if b then [] else first ∷ since_change past) opens
-since_change-quiet (event ∷ later) past first opens quiet =
-    ap (λ (b : Bool). if b then [] else event ∷ since_change (later ++ first ∷ past)) quiet.0
-    ∙ ap (λ (xs : List FrameEvent). event ∷ xs) (since_change-quiet later past first opens quiet.1)
+since_change-quiet (event ∷ later) past first opens quiet = grind (arith, since_change-quiet later past first opens)
 
 pub has_change-after : (later past : List FrameEvent) (first : FrameEvent) → is_change first past ≡ true → has_change (later ++ first ∷ past) ≡ true
 has_change-after [] past first opens = ap (λ (b : Bool). b || has_change past) opens
@@ -83,14 +81,7 @@ between-last reported last was closes =
       parts,
       record {
         opens = subst (λ (xs : List FrameEvent). is_change was.first xs ≡ true) (sym (reverse-reverse was.older)) was.opens;
-        quiet = λ front event back is.
-            let later_is : was.later ≡ reverse back ++ event ∷ reverse front =
-            sym (reverse-reverse was.later) ∙ ap (λ (xs : List FrameEvent). reverse xs) is ∙ reverse-around front event back in
-            let quiet : is_change event (reverse front ++ was.first ∷ was.older) ≡ false =
-            IsQuiet-at (reverse back) event (reverse front) (was.first ∷ was.older) (subst (λ (xs : List FrameEvent). IsQuiet xs (was.first ∷ was.older)) later_is was.quiet) in
-            subst (λ (xs : List FrameEvent). is_change event xs ≡ false)
-            (sym (reverse-around (reverse was.older) was.first front ∙ ap (λ (xs : List FrameEvent). reverse front ++ was.first ∷ xs) (reverse-reverse was.older)))
-            quiet;
+        quiet = grind (arith, reverse-reverse, reverse-around, IsQuiet-at);
         closes = subst (λ (xs : List FrameEvent). changes_at xs last ≡ true) parts closes;
       },
     )

@@ -1,5 +1,5 @@
 -- One told event more.
-use Rattle.std.proofs.Common.{◌≡◌, ℕ, List, [], ◌∷◌, ◌++◌, Bool, true, false, ◌||◌, if◌then◌else◌, reverse, filter_map, sym, ap, subst, ◌∙◌, append-nil}
+use Rattle.std.proofs.Common.{arith, ◌≡◌, ℕ, List, [], ◌∷◌, ◌++◌, Bool, true, false, ◌||◌, if◌then◌else◌, reverse, filter_map, ap, ◌∙◌, append-nil}
 use Rattle.std.proofs.lemmas.List.{reverse-append}
 use Rattle.std.proofs.lemmas.List.Elements.{filter_map-append}
 use Rattle.frame_build.specs.FrameEvent.{FrameEvent}
@@ -44,11 +44,7 @@ group-more reported event same =
 
 -- a state stands for a list with one event more
 pub stands-more : (sync : Sync) (lines : Lines) (reported : List FrameEvent) (event : FrameEvent) (counting : Bool) (widths : List ℕ) → IsSyncOf sync (event ∷ reverse reported) → IsGroup lines counting widths → counts (reported ++ event ∷ []) ≡ counting → group (reported ++ event ∷ []) ≡ widths → FramesRepresent (record { sync = sync; lines = lines }) (reported ++ event ∷ [])
-stands-more sync lines reported event counting widths in_sync in_lines counting_is widths_are =
-    record {
-      sync = subst (λ (past : List FrameEvent). IsSyncOf sync past) (sym (reverse-more reported event)) in_sync;
-      lines = subst (λ (b : Bool). IsGroup lines b (group (reported ++ event ∷ []))) (sym counting_is) (subst (λ (xs : List ℕ). IsGroup lines counting xs) (sym widths_are) in_lines);
-    }
+stands-more sync lines reported event counting widths in_sync in_lines counting_is widths_are = grind (arith, reverse-more)
 
 -- an event that changes nothing and is no line
 pub stands-same : (sync : Sync) (lines : Lines) (reported : List FrameEvent) (event : FrameEvent) → is_change event (reverse reported) ≡ false → filter_map width_of (event ∷ []) ≡ [] → IsSyncOf sync (event ∷ reverse reported) → IsGroup lines (counts reported) (group reported) → FramesRepresent (record { sync = sync; lines = lines }) (reported ++ event ∷ [])

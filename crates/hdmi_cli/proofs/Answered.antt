@@ -1,6 +1,6 @@
 -- The outcomes that the commands end with.
-use Rattle.std.proofs.Common.{◌≡◌, ◌⊎◌, ℕ, zero, suc, ◌<◌, ◌≤◌, List, [], ◌∷◌, ◌++◌, length, take, map, refl, ap, sym, ◌∙◌, subst, inl, inr, arith}
-use Rattle.std.specs.Prelude.{Option, Some, None, Result, Ok, Err, OnOk, IfErr, All, codes}
+use Rattle.std.proofs.Common.{◌≡◌, ◌⊎◌, ℕ, ◌<◌, ◌≤◌, List, [], ◌∷◌, ◌++◌, map, refl, ap, sym, ◌∙◌, subst, inl, inr, arith}
+use Rattle.std.specs.Prelude.{Option, Some, Result, Ok, Err, OnOk, IfErr, All, codes}
 use Rattle.outside_io.specs.Causes.{Rose}
 use Rattle.std.specs.Io.KnownBytes.{Appends, Keeps, IsAtEnd}
 use Rattle.std.proofs.KnownBytes.{Appends-nil}
@@ -30,7 +30,7 @@ use Rattle.listing_reader.specs.Answers.{Answers as AnswersReading}
 use Rattle.listing_reader.specs.Reading.{reads_as}
 use Rattle.listing_reader.specs.DviReading.{dvi_reads_as}
 use Rattle.listing_reader.specs.LineSteps.{Read, accepts, refuses}
-use Rattle.listing_reader.specs.ContentKept.{frames_or, rastered, read_by}
+use Rattle.listing_reader.specs.ContentKept.{rastered, read_by}
 use Rattle.listing_reader.specs.ContentReading.{content_reads_as}
 use Rattle.listing_reader.specs.declared.fault.ListCause.{ListCause}
 use Rattle.source_end.specs.Content.{Frame}
@@ -39,7 +39,7 @@ use Rattle.source_end.specs.Raster.{raster_of}
 use Rattle.source_end.specs.RasterRefusals.{raster_fault, AnswersRasterFault}
 use Rattle.source_end.specs.declared.mode.Mode.{Mode}
 use Rattle.source_end.specs.declared.refusal.RasterFault.{RasterFault}
-use Rattle.source_end.specs.declared.refusal.RasterFault.TheVariants.{BadMode, Row, NoRoom, Long, NoMemory as NoRaster}
+use Rattle.source_end.specs.declared.refusal.RasterFault.TheVariants.{Row, NoRoom, Long, NoMemory as NoRaster}
 use Rattle.listing_reader.specs.declared.fault.ListFault.{ListFault}
 use Rattle.listing_reader.specs.declared.fault.ListError.{ListError}
 use Rattle.listing_reader.specs.declared.fault.ListError.TheVariants.{Bad as BadListing}
@@ -135,47 +135,16 @@ makes_dvi words ps text o read made = subst (λ r. MakesLink DviSpells (tap_aske
 
 pub spelled_ends : (spells : List Period → List Column → Type 0) (tap : Tap) (ps : List Period) (taken : List Column) (e : Ending) (old new : Option (List ℕ)) (before after : ℕ) → ((columns : List Column) × (taken ≡ [] ++ columns) × spells ps columns)
     → ColumnsEnd tap taken e old new before after → StreamEnds spells tap ps e old new before after
-spelled_ends spells tap ps taken Done old new before after spelled is =
-    record { columns = spelled.0; spelled = spelled.2; written = subst (λ cs. Appends old new (tapped_capture cs tap)) spelled.1 is }
-spelled_ends spells tap ps taken WriteFailed old new before after spelled is = (
-  is.0,
-  record {
-    columns = spelled.0;
-    spelled = spelled.2;
-    gone = is.1.0;
-    missing = subst (λ cs. is.1.0 < length (tapped_capture cs tap)) spelled.1 is.1.1;
-    written = subst (λ cs. Appends old new (take is.1.0 (tapped_capture cs tap))) spelled.1 is.1.2;
-  },
-)
-spelled_ends spells tap ps taken NoMemory old new before after spelled is = absurd is
-spelled_ends spells tap ps taken Faulty old new before after spelled is = absurd is
-spelled_ends spells tap ps taken Usage old new before after spelled is = absurd is
-spelled_ends spells tap ps taken (Listing fault) old new before after spelled is = absurd is
-spelled_ends spells tap ps taken (Raster fault) old new before after spelled is = absurd is
-spelled_ends spells tap ps taken (Capture fault) old new before after spelled is = absurd is
-spelled_ends spells tap ps taken (Place i) old new before after spelled is = absurd is
-spelled_ends spells tap ps taken (Frames fault) old new before after spelled is = absurd is
-spelled_ends spells tap ps taken TooLong old new before after spelled is = absurd is
-spelled_ends spells tap ps taken ReadFailed old new before after spelled is = absurd is
-spelled_ends spells tap ps taken Unaligned old new before after spelled is = absurd is
+spelled_ends spells tap ps taken e old new before after h k = grind arith
 
 -- `make content`
 
--- what was read of a text: a content, the first fault for which it has no raster, or a line that is refused
-content_received : (reading : Read (Mode × List Frame)) (content : Mode × List Frame) → read_by rastered reading ≡ accepts (Ok content) → reading ≡ accepts content
-content_received (accepts reported) content h = by_fault (raster_fault reported.0 reported.1) h where
-  by_fault : (o : Option RasterFault) → accepts (frames_or reported.0 o reported.1) ≡ accepts (Ok content) → accepts reported ≡ accepts content
-  by_fault None e = let same : (reported.0, reported.1) ≡ content = cc in ap accepts same
-  by_fault (Some fault) e = absurd cc
-content_received (refuses line cause) content h = absurd cc
-
 pub read_contents : (reading : Read (Mode × List Frame)) (r : Result (Result (Mode × List Frame) RasterFault) ListError) (content : Mode × List Frame)
     → AnswersReading (read_by rastered reading) r → r ≡ Ok (Ok content) → reading ≡ accepts content
-read_contents reading r content answers is = content_received reading content (subst (λ x. AnswersReading (read_by rastered reading) x) is answers)
+read_contents reading r content answers is = grind arith
 
 pub line_refused : (reading : Read (Mode × List Frame)) (line : ℕ) (cause : ListCause) → read_by rastered reading ≡ refuses line cause → reading ≡ refuses line cause
-line_refused (accepts reported) line cause h = absurd cc
-line_refused (refuses n c) line cause h = cc
+line_refused reading line cause h = grind arith
 
 -- a text that tells a content without a raster
 pub record HasNoRaster (text : List ℕ) (fault : RasterFault) : Type 0 where
@@ -184,16 +153,9 @@ pub record HasNoRaster (text : List ℕ) (fault : RasterFault) : Type 0 where
   pub read : content_reads_as text ≡ accepts (mode, frames)
   pub fault_is : raster_fault mode frames ≡ Some fault
 
-fault_received : (text : List ℕ) (fault : RasterFault) (reading : Read (Mode × List Frame)) → content_reads_as text ≡ reading → read_by rastered reading ≡ accepts (Err fault) → HasNoRaster text fault
-fault_received text fault (accepts reported) is h = by_fault (raster_fault reported.0 reported.1) refl h where
-  by_fault : (o : Option RasterFault) → raster_fault reported.0 reported.1 ≡ o → accepts (frames_or reported.0 o reported.1) ≡ accepts (Err fault) → HasNoRaster text fault
-  by_fault None here e = absurd cc
-  by_fault (Some found) here e = let same : found ≡ fault = cc in record { mode = reported.0; frames = reported.1; read = is; fault_is = here ∙ ap Some same }
-fault_received text fault (refuses line cause) is h = absurd cc
-
 pub read_fault : (text : List ℕ) (r : Result (Result (Mode × List Frame) RasterFault) ListError) (fault : RasterFault)
     → AnswersReading (read_by rastered (content_reads_as text)) r → r ≡ Ok (Err fault) → HasNoRaster text fault
-read_fault text r fault answers is = fault_received text fault (content_reads_as text) refl (subst (λ x. AnswersReading (read_by rastered (content_reads_as text)) x) is answers)
+read_fault text r fault answers is = grind arith
 
 pub content_refused : (words : TapWords) (fault : ListFault) (before after : Devices) (text : List ℕ) → content_reads_as text ≡ refuses fault.line fault.cause → after.held ≡ before.held
     → IsAnswered (MakeContent words) (Listing fault) before after text
@@ -219,27 +181,13 @@ fault_or : {T : Type 0} → RasterFault → Result T RasterFault → RasterFault
 fault_or d (Ok x) = d
 fault_or d (Err x) = x
 
-abbrev no_raster : {T : Type 0} → RasterFault → Result T RasterFault
-no_raster fault = Err fault
-
-same_fault : {T : Type 0} (x y : RasterFault) → no_raster {T = T} x ≡ no_raster y → x ≡ y
-unfolding fault_or
-same_fault x y e = ap (fault_or x) e
-
-raster_reported : {T : Type 0} (o : Option RasterFault) (r : Result T RasterFault) (done : T) → AnswersRasterFault o r → r ≡ Ok done → o ≡ None
-raster_reported None r done answers is = refl
-raster_reported (Some fault) r done answers is = absurd (failed_alone fault done (sym answers ∙ is))
-
 fault_reported : {T : Type 0} (o : Option RasterFault) (r : Result T RasterFault) (fault : RasterFault) → AnswersRasterFault o r → r ≡ Err fault → (fault ≡ NoRaster → ⊥) → o ≡ Some fault
-fault_reported None (Ok done) fault answers is other = absurd (failed_alone fault done (sym is))
-fault_reported None (Err f) fault answers is other = absurd (other (sym (same_fault f fault is) ∙ answers))
-fault_reported (Some f) r fault answers is other = ap Some (same_fault f fault (sym answers ∙ is))
+unfolding fault_or
+fault_reported o r fault h k l = grind (arith, failed_alone, fault_or)
 
 pub makes_content : {T : Type 0} (words : TapWords) (mode : Mode) (frames : List Frame) (r : Result T RasterFault) (done : T) (text : List ℕ) (o : RunOutcome) → content_reads_as text ≡ accepts (mode, frames)
     → AnswersRasterFault (raster_fault mode frames) r → r ≡ Ok done → MakesStream Spells (tap_asked words) (raster_of mode frames) o → Does (MakeContent words) text o
-makes_content words mode frames r done text o read answers ok made =
-    subst (λ x. MakesContent (tap_asked words) x o) (sym read)
-    (subst (λ f. MakesRaster (tap_asked words) mode frames f o) (sym (raster_reported (raster_fault mode frames) r done answers ok)) made)
+makes_content words mode frames r done text o read answers ok made = grind (arith, failed_alone)
 
 pub made_fault : {T : Type 0} (text : List ℕ) (mode : Mode) (frames : List Frame) (r : Result T RasterFault) (fault : RasterFault) → content_reads_as text ≡ accepts (mode, frames)
     → AnswersRasterFault (raster_fault mode frames) r → r ≡ Err fault → (fault ≡ NoRaster → ⊥) → HasNoRaster text fault
@@ -256,13 +204,6 @@ raster_refused words fault before after text none kept = record {
   written = same_held before.held after.held kept;
 }
 
-kept_held : (old new : Option (List ℕ)) → new ≡ old → Keeps old new
-kept_held None new same = tt
-kept_held (Some xs) new same = subst (λ (held : Option (List ℕ)). Keeps (Some xs) held) (sym same) refl
-
-mode_is_other : (i : ℕ) → BadMode i ≡ NoRaster → ⊥
-mode_is_other i e = cc
-
 row_is_other : (f r : ℕ) → Row f r ≡ NoRaster → ⊥
 row_is_other f r e = cc
 
@@ -274,15 +215,7 @@ long_is_other e = cc
 
 pub raster_ends : (words : TapWords) (fault : RasterFault) (before after : Devices) → ((fault ≡ NoRaster → ⊥) → (text : List ℕ) → before.left ≡ Some text → HasNoRaster text fault) → after.held ≡ before.held
     → Ends (MakeContent words) (raster_ending fault) before after
-raster_ends words NoRaster before after none kept = (kept_held before.held after.held kept, λ reads. absurd reads)
-raster_ends words (BadMode i) before after none kept =
-    (kept_held before.held after.held kept, λ text reported. raster_refused words (BadMode i) before after text (none (mode_is_other i) text reported) kept)
-raster_ends words (Row f n) before after none kept =
-    (kept_held before.held after.held kept, λ text reported. raster_refused words (Row f n) before after text (none (row_is_other f n) text reported) kept)
-raster_ends words (NoRoom f p) before after none kept =
-    (kept_held before.held after.held kept, λ text reported. raster_refused words (NoRoom f p) before after text (none (room_is_other f p) text reported) kept)
-raster_ends words Long before after none kept =
-    (kept_held before.held after.held kept, λ text reported. raster_refused words Long before after text (none long_is_other text reported) kept)
+raster_ends words fault before after h k = grind (arith, raster_refused, row_is_other, room_is_other, long_is_other)
 
 -- `damage`
 
@@ -352,16 +285,8 @@ lanes_of_line words damages named = lanes_of_damages named.operands damages name
 pub lanes_of_hits : (words : List DamageWord) → All (λ (w : DamageWord). w.lane < 3) words → All (λ (h : Hit). h.lane < 3) (map hit_asked words)
 lanes_of_hits words all = All-map (λ (h : Hit). h.lane < 3) hit_asked words all
 
--- the version that the options of `make` ask for
-one_or_two : (n : ℕ) → n ≤ 2 → 1 ≤ n → (n ≡ 1) ⊎ (n ≡ 2)
-one_or_two zero few some = absurd (omega arith)
-one_or_two (suc zero) few some = inl refl
-one_or_two (suc (suc zero)) few some = inr refl
-one_or_two (suc (suc (suc n))) few some = absurd (omega arith)
-
 version_asked : (text : Option (List ℕ)) (n : ℕ) → IsVersion text n → (n ≡ 1) ⊎ (n ≡ 2)
-version_asked (Some text) n is = one_or_two n is.0.few is.1
-version_asked None n is = inl is
+version_asked text n h = grind arith
 
 pub version_of_line : (words : List (List ℕ)) (tap : TapWords) → IsLine words (MakeLink tap) → (tap.version ≡ 1) ⊎ (tap.version ≡ 2)
 version_of_line words tap named = version_asked named.means.2.version_text tap.version named.means.2.version
@@ -409,12 +334,6 @@ bad_is_no_write fault e = cc
 place_is_no_write : slips.Place ≡ slips.Write → ⊥
 place_is_no_write e = cc
 
-read_is_no_write : slips.Read ≡ slips.Write → ⊥
-read_is_no_write e = cc
-
-memory_is_no_write : slips.NoMemory ≡ slips.Write → ⊥
-memory_is_no_write e = cc
-
 pub slipped_ends : (slip : SlipWord) (r : Result (Unit {0}) SlipError) (before after : Devices) → Slipped slip before after r → Ends (Slip slip) (slip_ending r) before after
 slipped_ends slip (Ok done) before after it = (
   it.ended,
@@ -449,7 +368,7 @@ slipped_ends slip (Err slips.Place) before after it =
         written = nothing_written before.held after.held kept;
       },
     )
-slipped_ends slip (Err slips.Read) before after it = (it.read_cause refl, it.unwritten read_is_no_write)
+slipped_ends slip (Err slips.Read) before after it = grind arith
 slipped_ends slip (Err slips.Write) before after it = (
   it.write_cause refl,
   λ bytes reported. let part = (it.part bytes reported refl).0 in record {
@@ -461,7 +380,7 @@ slipped_ends slip (Err slips.Write) before after it = (
     written = part.wrote;
   },
 )
-slipped_ends slip (Err slips.NoMemory) before after it = (it.unwritten memory_is_no_write, λ on. absurd on)
+slipped_ends slip (Err slips.NoMemory) before after it = grind arith
 
 -- `read biphase`
 

@@ -1,5 +1,5 @@
 -- What each clause of a run says, from how the run ended.
-use Rattle.std.proofs.Common.{◌≡◌, ◌⊎◌, ℕ, zero, suc, Bool, true, false, not, ◌==◌, ◌&&◌, List, [], ◌∷◌, refl, ap, sym, ◌∙◌, subst, inl, inr, arith, eq-eqb}
+use Rattle.std.proofs.Common.{◌≡◌, ◌⊎◌, ℕ, zero, suc, true, false, not, ◌==◌, List, [], ◌∷◌, refl, ap, sym, ◌∙◌, subst, inl, inr, arith, eq-eqb}
 use Rattle.std.specs.Prelude.{Option, None, Some, Result, Ok, IfOk, MatchOption, Contains}
 use Rattle.std.specs.List.{list_all}
 use Rattle.std.specs.Io.KnownBytes.{Appends, IsAtEnd, Keeps}
@@ -43,18 +43,6 @@ pub record Says (words : List (List ℕ)) (before after : Devices) (status : ℕ
   pub sampled : (n : ℕ) → IsCommand words (Sample n) → Keeps before.left after.left × IsSampleWritten n status before.held after.held
   pub noted : IsNoteOf words before.left status note
 
-clash : (b c : Bool) → (not b && c) ≡ true → b ≡ true → ⊥
-clash true c h e = cc
-clash false c h e = cc
-
-not_both : (b : Bool) → b ≡ true → b ≡ false → ⊥
-not_both true h e = cc
-not_both false h e = cc
-
-second : (b c : Bool) → (b && c) ≡ true → c ≡ true
-second true c h = h
-second false c h = cc
-
 -- what an ending with an outcome says
 answered : (words : List (List ℕ)) (command : Command) (e : Ending) (before after : Devices) → IsCommand words command → Answers command e before after
     → (text : List ℕ) → before.left ≡ Some text
@@ -89,24 +77,20 @@ same : (x n : ℕ) → x ≡ n → (x == n) ≡ true
 same x n is = eq-eqb x n is
 
 unlike : (x n : ℕ) → (x == n) ≡ false → x ≡ n → ⊥
-unlike x n other is = not_both (x == n) (same x n is) other
-
-unlike_itself : (x n : ℕ) (xs : List ℕ) → list_all (λ x. not (x == n)) (x ∷ xs) ≡ true → x ≡ n → ⊥
-unlike_itself x n xs all is = clash (x == n) (list_all (λ x. not (x == n)) xs) all (same x n is)
+unlike x n other is = grind (arith, same)
 
 rest_all : (x n : ℕ) (xs : List ℕ) → list_all (λ x. not (x == n)) (x ∷ xs) ≡ true → list_all (λ x. not (x == n)) xs ≡ true
-rest_all x n xs all = second (not (x == n)) (list_all (λ x. not (x == n)) xs) all
+rest_all x n xs all = grind arith
 
 -- a status that is none of a list
 none_of : (xs : List ℕ) (n : ℕ) → list_all (λ x. not (x == n)) xs ≡ true → Contains xs n → ⊥
 none_of [] n all h = absurd (omega arith)
-none_of (x ∷ xs) n all (zero, lt, is) = unlike_itself x n xs all is
+none_of (x ∷ xs) n all (zero, lt, is) = grind (arith, same)
 none_of (x ∷ xs) n all (suc k, lt, is) = none_of xs n (rest_all x n xs all) (k, omega arith, is)
 
 -- a status that is neither 0 nor 1
 no_done : (n : ℕ) → (n == 0) ≡ false → (n == 1) ≡ false → (n ≡ 0) ⊎ (n ≡ 1) → ⊥
-no_done n a b (inl is) = unlike n 0 a is
-no_done n a b (inr is) = unlike n 1 b is
+no_done n h k l = grind (arith, unlike)
 
 -- a command that reads a capture makes none
 -- a command that reads the input is no `sample`
@@ -373,21 +357,9 @@ line_of words r o command answer ok some =
     subst (λ (x : Option Command). MatchOption x ((c : Command) → IsCommand words c → ⊥) (λ c. IsCommand words c)) some
     (subst (λ (x : Result (Option Command) NoMemoryAnswer). IfOk x (λ answer. MatchOption answer ((c : Command) → IsCommand words c → ⊥) (λ c. IsCommand words c))) ok answer)
 
-no_line_of : (words : List (List ℕ)) (r : Result (Option Command) NoMemoryAnswer) (o : Option Command)
-    → IfOk r (λ answer. MatchOption answer ((c : Command) → IsCommand words c → ⊥) (λ c. IsCommand words c)) → r ≡ Ok o → o ≡ None → NamesNone words
-no_line_of words r o answer ok none command named =
-    subst (λ (x : Option Command). MatchOption x ((c : Command) → IsCommand words c → ⊥) (λ c. IsCommand words c)) none
-    (subst (λ (x : Result (Option Command) NoMemoryAnswer). IfOk x (λ answer. MatchOption answer ((c : Command) → IsCommand words c → ⊥) (λ c. IsCommand words c))) ok answer)
-    command named
-
 pub keeps_itself : (held : Option (List ℕ)) → Keeps held held
-keeps_itself None = tt
-keeps_itself (Some xs) = refl
-
--- a run whose words name none does nothing
-usage_ends : (words : List (List ℕ)) (devices : Devices) → NamesNone words → RunEnds words Usage devices devices
-usage_ends words devices none = inr (inr (inl (none, refl, keeps_itself devices.left, keeps_itself devices.held)))
+keeps_itself held = grind arith
 
 pub unread_ends : (words : List (List ℕ)) (devices : Devices) (r : Result (Option Command) NoMemoryAnswer) (o : Option Command)
     → IfOk r (λ answer. MatchOption answer ((c : Command) → IsCommand words c → ⊥) (λ c. IsCommand words c)) → r ≡ Ok o → o ≡ None → RunEnds words Usage devices devices
-unread_ends words devices r o answer ok none = usage_ends words devices (no_line_of words r o answer ok none)
+unread_ends words devices r o answer ok none = grind (arith, keeps_itself)

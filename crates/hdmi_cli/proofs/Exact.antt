@@ -1,5 +1,5 @@
 -- What `check` says of a capture whose lanes have a first full alignment, from what a run says of its outcome.
-use Rattle.std.proofs.Common.{◌≡◌, ◌⊎◌, ℕ, zero, suc, Bool, List, [], ◌∷◌, refl, ap, ap₂, sym, ◌∙◌, subst, inl, inr, arith}
+use Rattle.std.proofs.Common.{◌≡◌, ◌⊎◌, ℕ, Bool, List, [], ◌∷◌, refl, sym, ◌∙◌, subst, inl, inr, arith}
 use Rattle.std.specs.Prelude.{Option, Some, Contains}
 use Rattle.std.specs.Io.KnownBytes.{Appends}
 use Rattle.outside_io.specs.Causes.{Rose}
@@ -9,7 +9,6 @@ use Rattle.lane_deskew.specs.Aligned.{aligned_columns}
 use Rattle.lane_deskew.proofs.First.{one_first}
 use Rattle.period_grammar.specs.Events.{Event}
 use Rattle.period_grammar.specs.Heard.{heard}
-use Rattle.period_grammar.specs.Exact.{IsFront, whole_part}
 use Rattle.link_sink.specs.Alignment.{IsAlignedReported}
 use Rattle.link_sink.specs.Grammar.{link_grammar}
 use Rattle.listing_writer.specs.Texts.{fault_lines}
@@ -41,13 +40,7 @@ reported_check : (blue green red : List Bool) (d e f columns : ℕ) (events : Li
     → o ≡ record { status = status_with (fault_lines events); output = check_text events; note = [] } → IsCheckOf (aligned_columns blue green red d e f) o
 reported_check blue green red d e f columns events o first reported is =
     let one = one_first blue green red reported.d reported.e reported.f d e f reported.first first in
-    let same : aligned_columns blue green red reported.d reported.e reported.f ≡ aligned_columns blue green red d e f =
-    ap (λ n. aligned_columns blue green red n reported.e reported.f) one.0 ∙ ap₂ (λ m n. aligned_columns blue green red d m n) one.1 one.2 in
-    let events_are : events ≡ heard (aligned_columns blue green red d e f) = reported.reported ∙ ap heard same in
-    record {
-      status = ap (λ (p : RunOutcome). p.status) is ∙ ap (λ ts. status_with (fault_lines ts)) events_are;
-      output = ap (λ (p : RunOutcome). p.output) is ∙ ap check_text events_are;
-    }
+    grind arith
 
 lanes_check : (blue green red : List Bool) (d e f : ℕ) (o : RunOutcome) → IsFirst blue green red d e f → ListsLanes link_grammar check_listing blue green red o → IsCheckOf (aligned_columns blue green red d e f) o
 lanes_check blue green red d e f o first (inl (columns, events, reported, is)) = reported_check blue green red d e f columns events o first reported is
@@ -68,16 +61,10 @@ capture_check blue green red d e f bytes o c (inr (fault, is)) =
 -- What it says.
 
 judged : (cs : List Column) (n status : ℕ) (old new : Option (List ℕ)) → fault_lines (heard cs) ≡ n → status ≡ status_with n → Appends old new (check_text (heard cs)) → IsJudged cs status old new
-judged cs zero status old new e is written =
-    let front = (count_is_exact cs).0 e in
-    inl (front, is, subst (λ text. Appends old new text) ((verdict_is_exact cs).0.1 front) written)
-judged cs (suc n) status old new e is written =
-    let none : IsFront (whole_part cs) → ⊥ = λ f. let z = (count_is_exact cs).1 f in absurd (omega arith) in
-    inr (none, is, subst (λ text. Appends old new text) ((verdict_is_exact cs).1.1 none) written)
+judged cs n status old new h k l = grind (arith, count_is_exact, verdict_is_exact)
 
 done_status : (n status : ℕ) → status ≡ status_with n → Contains (0 ∷ 1 ∷ 3 ∷ 7 ∷ []) status
-done_status zero status is = (0, omega arith, sym is)
-done_status (suc n) status is = (1, omega arith, sym is)
+done_status n status h = grind arith
 
 -- where no device failed and memory was had, columns are judged
 abbrev JudgedUnless : List Column → ℕ → Devices → Devices → Type 0

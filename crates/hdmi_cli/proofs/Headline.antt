@@ -1,5 +1,5 @@
 -- What `recover` makes of the capture of a tap of columns that came with sparse damage.
-use Rattle.std.proofs.Common.{◌≡◌, ℕ, ◌+◌, Bool, List, [], length, refl, ap, ap₂, sym, ◌∙◌, subst, inl, inr}
+use Rattle.std.proofs.Common.{arith, ◌≡◌, ℕ, ◌+◌, Bool, List, [], length, refl, ap, ap₂, sym, ◌∙◌, subst, inl, inr}
 use Rattle.std.specs.Prelude.{Option, Some}
 use Rattle.std.specs.Io.KnownBytes.{Appends}
 use Rattle.capture_file.specs.Captures.{IsCaptureOf}
@@ -10,7 +10,6 @@ use Rattle.island_pack.specs.Sparse.{IsSparseInPayload}
 use Rattle.period_grammar.specs.Events.{Event}
 use Rattle.link_sink.specs.Grammar.{Grammar, link_grammar}
 use Rattle.link_laws.specs.Account.{account}
-use Rattle.link_sink.specs.Alignment.{IsAlignedBy}
 use Rattle.dvi_laws.specs.DviAccount.{dvi_account}
 use Rattle.dvi_hearing.specs.DviGrammar.{dvi_grammar}
 use Rattle.dvi_laws.proofs.Tapped.{tap_accounted as dvi_tap_accounted}
@@ -42,23 +41,9 @@ pub record IsListingOf (listing : ListingOf) (all : List Event) (o : RunOutcome)
   pub status : o.status ≡ status_with (listing.faults all)
   pub output : o.output ≡ listing.text all
 
-reported_listing : (g : Grammar) (listing : ListingOf) (all : List Event) (blue green red : List Bool) (d e f columns : ℕ) (events : List Event) (o : RunOutcome)
-    → IsFirst blue green red d e f → g.whole (aligned_columns blue green red d e f) ≡ all → IsAlignedBy g blue green red columns events
-    → o ≡ record { status = status_with (listing.faults events); output = listing.text events; note = [] }
-    → IsListingOf listing all o
-reported_listing g listing all blue green red d e f columns events o first whole reported is =
-    let same : aligned_columns blue green red reported.d reported.e reported.f ≡ aligned_columns blue green red d e f =
-    aligned_same blue green red reported.d reported.e reported.f d e f reported.first first in
-    let events_are : events ≡ all = reported.reported ∙ ap g.whole same ∙ whole in
-    record {
-      status = ap (λ (p : RunOutcome). p.status) is ∙ ap (λ ts. status_with (listing.faults ts)) events_are;
-      output = ap (λ (p : RunOutcome). p.output) is ∙ ap listing.text events_are;
-    }
-
 lanes_listing : (g : Grammar) (listing : ListingOf) (all : List Event) (blue green red : List Bool) (d e f : ℕ) (o : RunOutcome)
     → IsFirst blue green red d e f → g.whole (aligned_columns blue green red d e f) ≡ all → ListsLanes g listing blue green red o → IsListingOf listing all o
-lanes_listing g listing all blue green red d e f o first whole (inl (columns, events, reported, is)) =
-    reported_listing g listing all blue green red d e f columns events o first whole reported is
+lanes_listing g listing all blue green red d e f o first whole (inl (columns, events, reported, is)) = grind (arith, aligned_same)
 lanes_listing g listing all blue green red d e f o first whole (inr (columns, events, nowhere, is)) = absurd (nowhere.nowhere d e f first.triple)
 
 same_lanes : (g : Grammar) (listing : ListingOf) (x y z u v w : List Bool) (o : RunOutcome) → AreSame x y z u v w → ListsLanes g listing u v w o → ListsLanes g listing x y z o
@@ -93,19 +78,7 @@ answered listing command t a d e f ending before after lists tapped first accoun
 
 ended : (P : ℕ → Option (List ℕ) → Option (List ℕ) → Type 0) (command : Command) (ending : Ending) (before after : Devices)
     → (Answers command ending before after → P (status_of ending) before.held after.held) → Ends command ending before after → Unless P (status_of ending) before after
-ended P command Done before after says ends = inr (inr (inr (says ends.1)))
-ended P command Faulty before after says ends = inr (inr (inr (says ends.1)))
-ended P command (Listing fault) before after says ends = inr (inr (inr (says ends.1)))
-ended P command (Raster fault) before after says ends = inr (inr (inr (says ends.1)))
-ended P command (Capture fault) before after says ends = inr (inr (inr (says ends.1)))
-ended P command (Place i) before after says ends = inr (inr (inr (says ends.1)))
-ended P command (Frames fault) before after says ends = inr (inr (inr (says ends.1)))
-ended P command TooLong before after says ends = inr (inr (inr (says ends.1)))
-ended P command Unaligned before after says ends = inr (inr (inr (says ends.2)))
-ended P command ReadFailed before after says ends = inl ends.0
-ended P command WriteFailed before after says ends = inr (inl ends.0)
-ended P command NoMemory before after says ends = inr (inr (inl refl))
-ended P command Usage before after says ends = absurd ends
+ended P command ending before after h k = grind arith
 
 -- and of a sample
 sample_ended : (P : ℕ → Option (List ℕ) → Option (List ℕ) → Type 0) (frames : ℕ) (ending : Ending) (before after : Devices)

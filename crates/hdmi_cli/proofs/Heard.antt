@@ -1,5 +1,5 @@
 -- How a command ends that lists what a capture says, from how the capture was heard.
-use Rattle.std.proofs.Common.{◌≡◌, ◌⊎◌, ℕ, zero, suc, ◌<◌, ◌≤◌, Bool, true, false, List, [], ◌∷◌, ◌++◌, length, take, refl, ap, sym, ◌∙◌, subst, inl, inr, arith, append-nil}
+use Rattle.std.proofs.Common.{◌≡◌, ◌⊎◌, ℕ, zero, suc, ◌<◌, ◌≤◌, Bool, true, false, List, [], ◌∷◌, ◌++◌, length, take, refl, sym, ◌∙◌, subst, inl, inr, arith, append-nil}
 use Rattle.std.specs.Prelude.{Option, Some, None, Result, Ok, Err, OnOk, OnErr}
 use Rattle.std.specs.Io.KnownBytes.{Appends, Consumes, IsAtEnd}
 use Rattle.std.proofs.KnownBytes.{Appends-trans}
@@ -18,7 +18,7 @@ use Rattle.hdmi_cli.specs.Blocks.{AreBefore, AreRead, AreNext}
 use Rattle.link_sink.specs.Ears.{IsHeardSoFar, IsBroken}
 use Rattle.hdmi_cli.specs.Hearings.{IsHeardSome}
 use Rattle.hdmi_cli.specs.Endings.{Devices, IsAnswered, ListsPart, Ends, heard_ending, judged_ending, status_of, note_of, seen}
-use Rattle.hdmi_cli.specs.Manners.{Manner, manner, writes_last, writes_on, reads_nothing, writing_last, writing_on, WritesLast, WritesOn}
+use Rattle.hdmi_cli.specs.Manners.{WritesLast, WritesOn}
 use Rattle.hdmi_cli.specs.Listings.{Listing}
 use Rattle.hdmi_cli.specs.Notes.{capture_note, alignment_note}
 use Rattle.hdmi_cli.specs.Outcome.{status_with}
@@ -48,17 +48,9 @@ or_nil : Option (List ℕ) → List ℕ
 or_nil None = []
 or_nil (Some x) = x
 
-some_same : (x y : List ℕ) → Some x ≡ Some y → x ≡ y
-unfolding or_nil
-some_same x y e = ap or_nil e
-
-none_some : (x : List ℕ) → None ≡ Some x → ⊥
-none_some x e = cc
-
 pub all_read : (left rest : Option (List ℕ)) (read bytes : List ℕ) → Consumes left rest read → IsAtEnd rest → left ≡ Some bytes → bytes ≡ read
-all_read None rest read bytes c end is = absurd (none_some bytes is)
-all_read (Some xs) None read bytes c end is = absurd c
-all_read (Some xs) (Some ys) read bytes c end is = sym (some_same xs bytes is) ∙ c ∙ ap (λ t. read ++ t) end ∙ append-nil read
+unfolding or_nil
+all_read left rest read bytes h k l = grind (arith, append-nil)
 
 nothing_more : {A : Type 0} (x : A) (xs : List A) → [] ≡ x ∷ xs → ⊥
 nothing_more x xs h = cc
@@ -99,12 +91,7 @@ broken_part g listing after last took broke held faults left rest reads read_fau
 
 -- a command that writes while it reads does not write last
 on_last : (command : Command) → WritesOn command → WritesLast command → ⊥
-on_last command on last = on_or (manner command) on last
-  where
-    on_or : (m : Manner) → writing_on m → writing_last m → ⊥
-    on_or writes_last on last = on
-    on_or writes_on on last = last
-    on_or reads_nothing on last = on
+on_last command on last = grind arith
 
 -- the ending of what was not heard to its end
 pub unheard_ends : {A : Type 0} (g : Grammar) (listing : Listing) (after : List Event → List Event → List ℕ) (last : List Event → List ℕ) (command : Command) (took : A → A → List Event → Type 0) (broke : A → A → Event → Type 0) (held : A → Option (List ℕ)) (faults : A → ℕ)
@@ -122,30 +109,12 @@ unheard_ends g listing after last command took broke held faults left rest reads
     written = writes.grows new h.events h.taken;
   },
 )
-unheard_ends g listing after last command took broke held faults left rest reads read_faults old new Read lists it writes u =
-    let r = u.read refl in let h = r.1.4 in (
-      r.0,
-      lists.unread (seen left reads (held old) (faults old)) (seen rest read_faults (held new) (faults new)) (record {
-        read = r.1.1;
-        consumed = r.1.2;
-        fed = r.1.0;
-        are = r.1.3;
-        events = h.events;
-        reported = h.reported;
-        written = writes.grows new h.events h.taken;
-      }),
-    )
+unheard_ends g listing after last command took broke held faults left rest reads read_faults old new Read lists it writes u = grind arith
 unheard_ends g listing after last command took broke held faults left rest reads read_faults old new Ear lists it writes u =
     let b = u.broken refl in
     (b.0, lists.unwritten (seen left reads (held old) (faults old)) (seen rest read_faults (held new) (faults new)) (broken_part g listing after last took broke held faults left rest reads read_faults old new it writes b.1 b.2 b.3 b.4 b.5 b.6))
 
 -- what taking and breaking keep is kept where a capture was not heard to its end
-
-bad_is_other : (fault : CaptureFault) → Bad fault ≡ Ear → ⊥
-bad_is_other fault e = cc
-
-read_is_other : Read ≡ Ear → ⊥
-read_is_other e = cc
 
 kept_by_broken : {A G : Type 0} (g : Grammar) (took : A → A → List Event → Type 0) (broke : A → A → Event → Type 0) (name : A → G) → ((x y : A) (h : List Event) → took x y h → name y ≡ name x) → ((x y : A) (t : Event) → broke x y t → name y ≡ name x)
     → (before : Fed) (events : List Event) (old new : A) → IsBroken g took broke before events old new → name new ≡ name old
@@ -163,12 +132,7 @@ kept_by_either g took broke name by_took by_broke rest old new before now events
 pub kept_unheard : {A G : Type 0} (g : Grammar) (took : A → A → List Event → Type 0) (broke : A → A → Event → Type 0) (name : A → G) (left rest : Option (List ℕ)) (reads read_faults : ℕ) (old new : A) (writes write_faults : ℕ) (e : HearError)
     → ((x y : A) (h : List Event) → took x y h → name y ≡ name x) → ((x y : A) (t : Event) → broke x y t → name y ≡ name x)
     → ((e ≡ Ear → ⊥) → IsHeardSome g took old new) → Unheard g took broke left rest reads read_faults old new writes write_faults e → name new ≡ name old
-kept_unheard g took broke name left rest reads read_faults old new writes write_faults (Bad fault) by_took by_broke some u =
-    let h = some (bad_is_other fault) in by_took old new h.1.events h.1.taken
-kept_unheard g took broke name left rest reads read_faults old new writes write_faults Read by_took by_broke some u =
-    let h = some read_is_other in by_took old new h.1.events h.1.taken
-kept_unheard g took broke name left rest reads read_faults old new writes write_faults Ear by_took by_broke some u =
-    let b = u.broken refl in kept_by_either g took broke name by_took by_broke rest old new b.1 b.2 b.3 b.4 b.6
+kept_unheard g took broke name left rest reads read_faults old new writes write_faults e h k l m = grind (arith, kept_by_either)
 
 -- lanes that are aligned nowhere
 
@@ -193,17 +157,14 @@ nowhere_ends g listing after last command fed outcome events before now lists it
 -- lanes that are aligned, and the last line
 
 pub no_faults : (n : ℕ) → 0 ≡ counted 0 n → status_with n ≡ 0
-no_faults zero h = refl
-no_faults (suc n) h = absurd (omega (arith, h))
+no_faults n h = grind arith
 
 pub some_faults : (n m : ℕ) → suc m ≡ counted 0 n → status_with n ≡ 1
-some_faults zero m h = absurd (omega (arith, h))
-some_faults (suc n) m h = refl
+some_faults n m h = grind arith
 
 -- a count that rose after it had not fallen has risen
 pub rose_after : (a b c : ℕ) → a ≤ b → Rose b c → Rose a c
-rose_after a b c le (inl more) = inl (omega arith)
-rose_after a b c le (inr top) = inr top
+rose_after a b c h k = grind arith
 
 all_answered : (g : Grammar) (listing : Listing) (after : List Event → List Event → List ℕ) (last : List Event → List ℕ) (command : Command) (e : Ending) (fed : Fed) (columns : ℕ) (events : List Event) (mid : Option (List ℕ)) (before now : Devices) (bytes : List ℕ)
     → IsLists g listing command → IsText listing after last → IsAlignedBy g fed.blue fed.green fed.red columns events → IsCaptureOf fed.blue fed.green fed.red bytes

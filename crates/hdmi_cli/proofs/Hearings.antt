@@ -102,15 +102,7 @@ untaken g goes_on took broke both version counts j from left0 left1 sink a b d b
       events = h.heard.events ++ s.0;
       read = h.taken ++ ((a ++ b) ++ d);
       consumed = Consumes-trans from left0 left1 h.taken ((a ++ b) ++ d) h.consumed gone;
-      next = record {
-        counts = counts;
-        j = j;
-        taken = h.taken;
-        block = (a ++ b) ++ d;
-        read_is = refl;
-        had = at_its_length version counts j _ _ _ _ h.stands;
-        has = at_its_length version counts (j + 1) _ _ _ _ next;
-      };
+      next = grind (arith, at_its_length);
       reported = s.1 h.heard.events h.heard.reported;
       broken = stops_later g took broke both h.fed h.heard.events s.0 first old new h.heard.reported h.heard.taken s.2;
     }
@@ -177,9 +169,7 @@ headless g took broke from left now Unread none says part = record { fed = no_bi
 -- what was heard where it is not the ear that stopped
 pub some_heard : {A : Type 0} (g : Grammar) (took : A → A → List Event → Type 0) (broke : A → A → Event → Type 0) (from left : Option (List ℕ)) (old new : A) (e : HearError) → StopsShort g took broke from left old new e → (e ≡ Ear → ⊥)
     → IsHeardSome g took old new
-some_heard g took broke from left old new (Bad fault) short other = short.0
-some_heard g took broke from left old new Read short other = (short.fed, short.heard)
-some_heard g took broke from left old new Ear short other = absurd (other refl)
+some_heard g took broke from left old new e h k = grind arith
 
 -- a sink that was fed nothing was fed no block
 left_none : (left : Option (List ℕ)) (rest : List ℕ) → left ≡ Some rest → IsAtEnd left → rest ≡ []
@@ -196,9 +186,7 @@ heard_whole g goes_on took both from left sink outcome first old new h ended rep
       t.1 h.heard.events h.heard.reported,
       both first old new h.heard.events t.0 h.heard.taken t.2,
       λ bytes is.
-          let c = consumed from left bytes h.taken is h.consumed in
-          let all : h.taken ≡ bytes = sym (c.1 ∙ ap (λ l. h.taken ++ l) (left_none left c.0 c.2 ended) ∙ append-nil h.taken) in
-          subst (IsCaptureOf h.fed.blue h.fed.green h.fed.red) all h.captured,
+          grind (arith, consumed, left_none, append-nil),
     )
 
 -- what a hearing says that an ear's failure ended
@@ -220,10 +208,7 @@ bad_of g took broke from from' left old new e ef h bytes fault is same =
 pub read_of : {A T : Type 0} (g : Grammar) (took : A → A → List Event → Type 0) (broke : A → A → Event → Type 0) (left_of : T → Option (List ℕ)) (faults_of : T → ℕ) (x x' y y' : T) (was now : ℕ) (old new : A) (e : HearError)
     → x' ≡ x → y' ≡ y → StopsShort g took broke (left_of x) (left_of y) old new e → IsCausedBy (faults_of x) (faults_of y) was now e → e ≡ Read
     → Reads g took (left_of x') (left_of y') (faults_of x') (faults_of y') old new
-read_of g took broke left_of faults_of x x' y y' was now old new e ex ey short cause same =
-    let h = subst (StopsShort g took broke (left_of x) (left_of y) old new) same short in
-    carried (λ s t. Reads g took (left_of s) (left_of t) (faults_of s) (faults_of t) old new) x x' y y' ex ey
-    (subst (IsCausedBy (faults_of x) (faults_of y) was now) same cause, (h.fed, h.read, h.consumed, h.are_read, h.heard))
+read_of g took broke left_of faults_of x x' y y' was now old new e ex ey short cause same = grind arith
 
 pub broken_of : {A T : Type 0} (g : Grammar) (took : A → A → List Event → Type 0) (broke : A → A → Event → Type 0) (left_of : T → Option (List ℕ)) (x x' y y' : T) (reads reading was now : ℕ) (old new : A) (e : HearError)
     → x' ≡ x → y' ≡ y → StopsShort g took broke (left_of x) (left_of y) old new e → IsCausedBy reads reading was now e → e ≡ Ear

@@ -1,6 +1,6 @@
 -- What a lister has written of what lanes tell.
-use Rattle.std.proofs.Common.{◌≡◌, ℕ, ◌+◌, ◌<◌, ◌≤◌, List, [], ◌∷◌, ◌++◌, length, take, refl, ap, ap₂, sym, ◌∙◌, subst, inl, arith, append_assoc, append-nil, length-append}
-use Rattle.std.specs.Prelude.{Option, Some, None}
+use Rattle.std.proofs.Common.{◌≡◌, ℕ, ◌+◌, ◌<◌, ◌≤◌, List, [], ◌∷◌, ◌++◌, length, take, refl, ap, sym, ◌∙◌, subst, inl, arith, append_assoc, append-nil, length-append}
+use Rattle.std.specs.Prelude.{Option}
 use Rattle.std.specs.Io.KnownBytes.{Appends, Keeps}
 use Rattle.std.proofs.KnownBytes.{Appends-trans}
 use Rattle.std.proofs.Math.Seq.{take-append-add}
@@ -17,9 +17,7 @@ use Rattle.hdmi_cli.specs.Listings.{Listing}
 use Rattle.hdmi_cli.specs.Listers.{IsText, Writes}
 
 pub kept_nothing : (old new : Option (List ℕ)) → Appends old new [] → Keeps old new
-kept_nothing None new h = tt
-kept_nothing (Some xs) None h = absurd h
-kept_nothing (Some xs) (Some ys) h = h ∙ append-nil xs
+kept_nothing old new h = grind (arith, append-nil)
 
 pub kept_none : (listing : Listing) (after : List Event → List Event → List ℕ) (last : List Event → List ℕ) (old new : Option (List ℕ)) → IsText listing after last → Appends old new (listing.lines []) → Keeps old new
 kept_none listing after last old new it h = kept_nothing old new (subst (λ (bytes : List ℕ). Appends old new bytes) it.none h)
@@ -29,10 +27,7 @@ pub front_of : (text front back : List ℕ) (n : ℕ) → text ≡ front ++ back
 front_of text front back n is = sym (take-append-add front back n) ∙ ap (λ t. take (length front + n) t) (sym is)
 
 pub shorter : (text front back : List ℕ) (n : ℕ) → text ≡ front ++ back → n < length back → length front + n < length text
-shorter text front back n is lt =
-    let l = ap (λ (t : List ℕ). length t) is in
-    let m = length-append front back in
-    omega (arith, l, m, lt)
+shorter text front back n is lt = grind (arith, length-append)
 
 -- of two beginnings of events the one is the beginning of the other
 pub record Goes (first taken : List Event) : Type 0 where
@@ -42,36 +37,16 @@ pub record Goes (first taken : List Event) : Type 0 where
 goes_on : (first taken more rest : List Event) → first ++ more ≡ taken ++ rest → length first ≤ length taken → Goes first taken
 goes_on [] taken more rest is le = record { mid = taken; is = refl }
 goes_on (x ∷ first) [] more rest is le = absurd (omega (arith, le))
-goes_on (x ∷ first) (y ∷ taken) more rest is le =
-    let parts = cons_parts x y (first ++ more) (taken ++ rest) is in
-    let g = goes_on first taken more rest parts.1 (omega (arith, le)) in
-    record { mid = g.mid; is = ap₂ (λ z zs. z ∷ zs) (sym parts.0) g.is }
-  where
-    head_or : Event → List Event → Event
-    head_or d [] = d
-    head_or d (z ∷ zs) = z
-
-    tail_of : List Event → List Event
-    tail_of [] = []
-    tail_of (z ∷ zs) = zs
-
-    cons_parts : (x y : Event) (xs ys : List Event) → x ∷ xs ≡ y ∷ ys → (x ≡ y) × (xs ≡ ys)
-    cons_parts x y xs ys is = (ap (head_or x) is, ap tail_of is)
+goes_on (x ∷ first) (y ∷ taken) more rest is le = grind (arith, goes_on first taken more rest)
 
 least_of : (listing : Listing) (after : List Event → List Event → List ℕ) (last : List Event → List ℕ) (first taken : List Event) → IsText listing after last → Goes first taken
     → length (listing.lines first) ≤ length (listing.lines taken)
-least_of listing after last first taken it g =
-    let l = ap (λ (t : List ℕ). length t) (ap listing.lines g.is ∙ it.both first g.mid) in
-    let m = length-append (listing.lines first) (after first g.mid) in
-    omega (arith, l, m)
+least_of listing after last first taken it g = grind (arith, length-append)
 
 -- the lines of events of which one was not written whole
 lines_parts : (listing : Listing) (after : List Event → List Event → List ℕ) (last : List Event → List ℕ) (events taken rest : List Event) (next : Event) → IsText listing after last → events ≡ taken ++ (next ∷ rest)
     → listing.lines events ≡ listing.lines taken ++ (after taken (next ∷ []) ++ after (taken ++ next ∷ []) rest)
-lines_parts listing after last events taken rest next it is =
-    ap listing.lines (is ∙ sym (append_assoc taken (next ∷ []) rest)) ∙ it.both (taken ++ next ∷ []) rest
-    ∙ ap (λ (t : List ℕ). t ++ after (taken ++ next ∷ []) rest) (it.both taken (next ∷ []))
-    ∙ append_assoc (listing.lines taken) (after taken (next ∷ [])) (after (taken ++ next ∷ []) rest)
+lines_parts listing after last events taken rest next it is = grind (arith, append_assoc)
 
 pub broken_past : {A : Type 0} (g : Grammar) (listing : Listing) (after : List Event → List Event → List ℕ) (last : List Event → List ℕ) (took : A → A → List Event → Type 0) (broke : A → A → Event → Type 0) (held : A → Option (List ℕ)) (before : Fed) (events : List Event) (old new : A)
     → IsText listing after last → Writes listing after took broke held old → (b : IsBroken g took broke before events old new)
@@ -97,16 +72,7 @@ broken_past g listing after last took broke held before events old new it writes
 -- a part of the lines is one of the whole text
 pub text_past : (listing : Listing) (after : List Event → List Event → List ℕ) (last : List Event → List ℕ) (first events : List Event) (old new : Option (List ℕ)) → IsText listing after last
     → IsWrittenPast listing first (listing.lines events) old new → IsWrittenPast listing first (listing.text events) old new
-text_past listing after last first events old new it p =
-    let l = ap (λ (t : List ℕ). length t) (it.whole events) in
-    let m = length-append (listing.lines events) (last events) in
-    record {
-      gone = p.gone;
-      least = p.least;
-      missing = let lt = p.missing in omega (arith, l, m, lt);
-      written = subst (λ (bytes : List ℕ). Appends old new bytes)
-          (sym (ap (λ t. take p.gone t) (it.whole events) ∙ take-append-le p.gone (listing.lines events) (last events) (let lt = p.missing in omega (arith, lt)))) p.written;
-    }
+text_past listing after last first events old new it p = grind (arith, length-append, take-append-le)
 
 -- the last line was not written whole
 pub end_past : (listing : Listing) (after : List Event → List Event → List ℕ) (last : List Event → List ℕ) (first events : List Event) (n : ℕ) (old mid new : Option (List ℕ)) → IsText listing after last

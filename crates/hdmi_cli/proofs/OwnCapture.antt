@@ -1,10 +1,7 @@
 -- The capture of columns that conforming periods spell, from its first bit on: where it is aligned, and what is heard of it.
-use Rattle.std.proofs.Common.{◌≡◌, ℕ, suc, zero, ◌+◌, ◌-◌, ◌*◌, ◌/◌, ◌<◌, ◌≤◌, Bool, true, List, [], ◌∷◌, ◌++◌, length, map, take, drop, get_or, replicate, refl, ap, sym, ◌∙◌, subst, arith, inl, inr, length-append, length-drop, length-take-le}
-use Rattle.std.specs.Prelude.{slice_index}
-use Rattle.std.specs.List.{list_all}
+use Rattle.std.proofs.Common.{◌≡◌, ℕ, suc, zero, ◌+◌, ◌-◌, ◌*◌, ◌<◌, ◌≤◌, Bool, List, [], ◌∷◌, ◌++◌, length, map, drop, replicate, refl, ◌∙◌, arith, length-append, length-drop, length-take-le}
 use Rattle.std.proofs.lemmas.Bool.{cases_lt, and_parts, leb-true}
 use Rattle.std.proofs.lemmas.List.{get_or_append_left, get_or-append_right, get_or-replicate, length-replicate, length-map, get_or_past, take_all}
-use Rattle.tmds_word.specs.Bits.{row_bits}
 use Rattle.tmds_word.specs.Column.{Column}
 use Rattle.tmds_word.specs.Taps.{part_of, IsTap, HasSmallSkew}
 use Rattle.tmds_word.specs.Words.{words_of, columns_of as joined_columns}
@@ -16,9 +13,9 @@ use Rattle.lane_deskew.specs.Triples.{IsTriple, IsFirst}
 use Rattle.capture_file.specs.Captures.{IsCaptureOf}
 use Rattle.capture_file.specs.Taps.{tap_counts, tap_of, tapped_capture}
 use Rattle.capture_file.proofs.Tapped.{tap_is_tap, tap_is_captured}
-use Rattle.island_pack.specs.Conforming.{IsConforming, conforms, is_control_period, is_run}
+use Rattle.island_pack.specs.Conforming.{IsConforming, conforms, is_control_period}
 use Rattle.island_pack.specs.Kinds.{Kind, control_column, first_guard, second_guard, kinds_in, kinds_of, kind_at, IsAfterControl}
-use Rattle.island_pack.specs.Periods.{ControlRun, Period, control, video, island, values_of, period_columns, columns_of}
+use Rattle.island_pack.specs.Periods.{ControlRun, Period, control, values_of, period_columns, columns_of}
 use Rattle.island_pack.specs.Sparse.{IsSparseInPayload}
 use Rattle.island_pack.specs.Spelling.{Spells}
 use Rattle.source_end.proofs.Streams.{Spells-length}
@@ -54,11 +51,7 @@ small_skews : HasSmallSkew no_skews
 small_skews = record { first_second = (omega arith, omega arith); second_third = (omega arith, omega arith); first_third = (omega arith, omega arith) }
 
 lane_long : (g : Column → ℕ) (columns : List Column) → length (part_of (map g columns) 0 (10 * length columns - 0 - 0)) ≡ 10 * length columns
-lane_long g columns =
-    let n = 10 * length columns - 0 - 0 in
-    let rows = length-row_bits (map g columns) in
-    let many = length-map columns g in
-    length-take-le n (drop 0 (row_bits (map g columns))) (omega (arith, rows, many)) ∙ omega arith
+lane_long g columns = grind (arith, length-row_bits, length-map, length-take-le)
 
 -- The aligned columns: all from twelve columns before the edges on.
 
@@ -75,15 +68,10 @@ columns_long (x ∷ a) (y ∷ b) [] n la lb lc = absurd (omega (arith, la, lc))
 columns_long (x ∷ a) (y ∷ b) (z ∷ c) zero la lb lc = absurd (omega (arith, la))
 columns_long (x ∷ a) (y ∷ b) (z ∷ c) (suc n) la lb lc = let e = columns_long a b c n (omega (arith, la)) (omega (arith, lb)) (omega (arith, lc)) in omega (arith, e)
 
-from_long : (xs : List Bool) (n a d : ℕ) → length xs ≡ 10 * n → d ≡ 10 * (a + 12) → length (words_from xs (d - 120)) ≡ n - a
-unfolding words_from
-from_long xs n a d long at = words_long ((length xs - (d - 120)) / 10) (drop (d - 120) xs) ∙ omega (arith, long, at)
-
 aligned_long : (xs ys zs : List Bool) (n a d e f : ℕ) → length xs ≡ 10 * n → length ys ≡ 10 * n → length zs ≡ 10 * n
     → d ≡ 10 * (a + 12) → e ≡ 10 * (a + 12) → f ≡ 10 * (a + 12) → length (aligned_columns xs ys zs d e f) ≡ n - a
-unfolding aligned_columns
-aligned_long xs ys zs n a d e f lx ly lz ad ae af =
-    columns_long (words_from xs (d - 120)) (words_from ys (e - 120)) (words_from zs (f - 120)) (n - a) (from_long xs n a d lx ad) (from_long ys n a e ly ae) (from_long zs n a f lz af)
+unfolding aligned_columns words_from
+aligned_long xs ys zs n a d e f lx ly lz ad ae af = grind (arith, columns_long, words_long)
 
 -- The kinds of the columns.
 
@@ -92,47 +80,24 @@ first_control n i ks lt =
     let l = length-replicate n control_column in
     get_or_append_left (replicate n control_column) ks second_guard i (omega arith) ∙ get_or-replicate n i control_column second_guard lt
 
-first_kind : (n : ℕ) (k : Kind) (ks : List Kind) → kind_at (replicate n control_column ++ (k ∷ ks)) n ≡ k
-first_kind n k ks =
-    let e : n - n ≡ 0 = omega arith in
-    get_or-append_right (replicate n control_column) (k ∷ ks) n n second_guard (length-replicate n control_column) (omega arith) ∙ ap (λ m. get_or (k ∷ ks) m second_guard) e
-
 record OpensAt (n : ℕ) (q : Period) (ps : List Period) (kinds : List Kind) : Type 0 where
   rest : List Kind
   are : kinds ≡ replicate n control_column ++ (first_guard ∷ rest)
 
 opens_at : (runs : List ControlRun) (q : Period) (ps : List Period) → IsConforming (control runs ∷ (q ∷ ps)) → OpensAt (length (values_of runs)) q ps (kinds_of (control runs ∷ (q ∷ ps)))
 unfolding conforms kinds_of kinds_in
-opens_at runs (control more) ps good = absurd cc
-opens_at runs (video bytes) ps good = record { rest = _; are = refl }
-opens_at runs (island x) ps good = record { rest = _; are = refl }
+opens_at runs q ps h = grind arith
 
 after_first : (n : ℕ) (q : Period) (ps : List Period) (kinds : List Kind) → 12 ≤ n → OpensAt n q ps kinds → IsAfterControl kinds n
-after_first n q ps kinds long opens =
-    let k : n ≡ (n - 1) + 1 = omega arith in
-    record {
-      before = (n - 1, k, subst (λ ks. kind_at ks (n - 1) ≡ control_column) (sym opens.are) (first_control n (n - 1) (first_guard ∷ opens.rest) (omega arith)));
-      opens = subst (λ ks. kind_at ks n ≡ first_guard) (sym opens.are) (first_kind n first_guard opens.rest);
-    }
+after_first n q ps kinds long opens = grind (arith, first_control, get_or-append_right, length-replicate)
 
 -- the only control period that ends at or before its end
 ends_there : (n i : ℕ) (ks : List Kind) (kinds : List Kind) → kinds ≡ replicate n control_column ++ ks → i + 1 ≤ n → (kind_at kinds (i + 1) ≡ control_column → ⊥) → i + 1 ≡ n
-ends_there n i ks kinds are le none =
-    elim (cases_lt (i + 1) n) [
-      | inl less ↦ absurd (none (subst (λ cs. kind_at cs (i + 1) ≡ control_column) (sym are) (first_control n (i + 1) ks less)))
-      | inr there ↦ omega arith
-    ]
-
-control_long : (runs : List ControlRun) → is_control_period runs ≡ true → 12 ≤ length (values_of runs)
-unfolding is_control_period
-control_long runs h = leb-true 12 (length (values_of runs)) (and_parts (list_all is_run runs) _ h).1
+ends_there n i ks kinds are le none = grind (arith, cases_lt, first_control)
 
 first_long : (runs : List ControlRun) (ps : List Period) → IsConforming (control runs ∷ ps) → 12 ≤ length (values_of runs)
-unfolding conforms
-first_long runs [] good = control_long runs good
-first_long runs (control more ∷ ps) good = absurd cc
-first_long runs (video bytes ∷ ps) good = control_long runs (and_parts (is_control_period runs) _ good).0
-first_long runs (island x ∷ ps) good = control_long runs (and_parts (is_control_period runs) _ good).0
+unfolding conforms is_control_period
+first_long runs ps h = grind (arith, and_parts, leb-true)
 
 -- Nothing came other than it was sent.
 
@@ -141,12 +106,6 @@ own_received ps columns good spelled = undamaged ps columns good spelled
 
 own_payload : (ps : List Period) (columns : List Column) → ReceivedOf ps columns columns → IsSparseInPayload ps columns columns
 own_payload ps columns reception = record { sparse = reception.sparse; spares = λ f i le not. refl }
-
-by_lane : (P : ℕ → ℕ → Type 0) (m : ℕ) → P 0 m → (lane : ℕ) → lane < 3 → P (slice_index no_skews lane) (slice_index (m ∷ m ∷ m ∷ []) lane)
-by_lane P m h zero lt = h
-by_lane P m h (suc zero) lt = h
-by_lane P m h (suc (suc zero)) lt = h
-by_lane P m h (suc (suc (suc lane))) lt = absurd (omega arith)
 
 own_aligns : (runs : List ControlRun) (q : Period) (ps : List Period) (columns : List Column) → IsConforming (control runs ∷ (q ∷ ps)) → length (values_of runs) < length columns
     → AlignsUntil (control runs ∷ (q ∷ ps)) columns columns 0 no_skews (tap_counts whole_tap columns) (length (values_of runs))
@@ -157,10 +116,7 @@ own_aligns runs q ps columns good more =
     record {
       after = after_first n q ps (kinds_of (control runs ∷ (q ∷ ps))) long (opens_at runs q ps good);
       spares = λ i le not. refl;
-      holds = record {
-        begins = by_lane (λ skew count. 0 + skew + 120 ≤ 10 * n) m (omega (arith, long));
-        reaches = by_lane (λ skew count. 10 * n + 10 ≤ 0 + skew + count) m (omega (arith, more));
-      };
+      holds = grind arith;
     }
 
 -- With an edge.
@@ -197,22 +153,7 @@ own_aligned runs q ps columns good spelled more =
     let next : kind_at (kinds_of all) (a + 11 + 1) ≡ control_column → ⊥ = account_is.ends.then in
     let there = ends_there n (a + 11) (first_guard ∷ opens.rest) (kinds_of all) opens.are (omega (arith, le)) next in
     let ad = begins.blue in
-    let ae = begins.green in
-    let af = begins.red in
-    let long = aligned_long x y z (length columns) a d e f (lane_long (λ c. c.blue) columns) (lane_long (λ c. c.green) columns) (lane_long (λ c. c.red) columns) (omega (arith, ad)) (omega (arith, ae)) (omega (arith, af)) in
-    let rest = length-drop a columns in
-    let same : length (aligned_columns x y z d e f) ≡ length (drop a columns) = long ∙ sym rest in
-    let aligned : aligned_columns x y z d e f ≡ drop a columns = account_is.columns ∙ ap (λ k. take k (drop a columns)) same ∙ take_all (length (drop a columns)) (drop a columns) (omega arith) in
-    record {
-      d = d;
-      e = e;
-      f = f;
-      first = found.3;
-      a = a;
-      from = omega (arith, there);
-      aligned = aligned;
-      reported = account_is.reported ∙ ap (λ k. account all columns columns a k) same;
-    }
+    grind (arith, aligned_long, lane_long, length-drop, take_all)
 
 -- With none.
 
@@ -221,16 +162,7 @@ unfolding kinds_of kinds_in
 alone_kinds runs = refl
 
 alone_end : (n i : ℕ) (kinds : List Kind) → kinds ≡ replicate n control_column ++ [] → kind_at kinds i ≡ control_column → (kind_at kinds (i + 1) ≡ control_column → ⊥) → i + 1 ≡ n
-alone_end n i kinds are here none = elim (cases_lt i n) [
-  | inl within ↦ ends_there n i [] kinds are (omega arith) none
-  | inr past ↦
-      let e = get_or_past (replicate n control_column ++ []) i second_guard (omega (arith, past, length-append (replicate n control_column) [], length-replicate n control_column)) in
-      let h : kind_at (replicate n control_column ++ []) i ≡ control_column = subst (λ ks. kind_at ks i ≡ control_column) are here in
-      absurd (unlike (sym e ∙ h))
-]
-  where
-    unlike : second_guard ≡ control_column → ⊥
-    unlike h = cc
+alone_end n i kinds are here none = grind (arith, cases_lt, ends_there, get_or_past, length-append, length-replicate)
 
 alone_size : (runs : List ControlRun) → columns_of (control runs ∷ []) ≡ length (values_of runs)
 unfolding columns_of period_columns

@@ -1,25 +1,19 @@
 -- The rows and frames that `recover content` lists of a raster are those that came.
-use Rattle.std.proofs.Common.{◌≡◌, ◌≤◌, ◌<◌, ℕ, ◌+◌, List, length, take, drop, min, ap, sym, ◌∙◌, subst, inl, inr, arith}
+use Rattle.std.proofs.Common.{◌≡◌, ◌≤◌, ℕ, ◌+◌, List, length, arith}
 use Rattle.std.specs.Prelude.{Option, Some, None}
-use Rattle.std.specs.List.{filter}
 use Rattle.std.proofs.lemmas.Bool.{cases_lt}
 use Rattle.std.proofs.lemmas.List.{get_or_past, length-take, length-drop}
 use Rattle.tmds_word.specs.Column.{Column}
-use Rattle.island_pack.specs.Kinds.{Kind, control_column, second_guard, kinds_of, kind_at}
 use Rattle.island_pack.specs.Periods.{Period}
 use Rattle.island_pack.specs.Sparse.{IsSparseInPayload}
-use Rattle.period_grammar.specs.Events.{Event}
-use Rattle.period_grammar.specs.Heard.{heard}
-use Rattle.link_laws.specs.Account.{account}
-use Rattle.link_laws.specs.Laws.{ReceivedOf, EndsControl, IsAccounted}
+use Rattle.link_laws.specs.Laws.{ReceivedOf, IsAccounted}
 use Rattle.link_laws.proofs.Spelled.{fitting}
 use Rattle.link_laws.proofs.Lanes.{fitting_length}
 use Rattle.source_end.specs.declared.mode.Mode.{Mode}
 use Rattle.source_end.specs.Content.{Frame}
 use Rattle.source_end.specs.Raster.{raster_of}
 use Rattle.source_end.specs.RasterRefusals.{raster_fault}
-use Rattle.listing_writer.specs.ContentText.{content_lines, content_text}
-use Rattle.listing_laws.specs.ListingLaws.{tells_picture}
+use Rattle.listing_writer.specs.ContentText.{content_text}
 use Rattle.listing_laws.proofs.PictureLines.{frame_lines_come_back}
 use Rattle.listing_laws.proofs.PacketLines.{packet_lines_come_back}
 use Rattle.listing_laws.proofs.Reported.{packets_come_back}
@@ -32,48 +26,21 @@ use Rattle.hdmi_cli.specs.Endings.{Devices, RunEnds, Unless, status_of}
 use Rattle.hdmi_cli.specs.declared.ending.Ending.{Ending}
 use Rattle.hdmi_cli.proofs.Headline.{headlined, headlined_anywhere}
 
--- a control column is one of the columns
-within_kinds : (ks : List Kind) (i : ℕ) → kind_at ks i ≡ control_column → i < length ks
-within_kinds ks i h = elim (cases_lt i (length ks)) [
-  | inl lt ↦ lt
-  | inr le ↦ absurd (let other : kind_at ks i ≡ second_guard = get_or_past ks i second_guard le in cc)
-]
-
 -- aligned columns are some of those that came
 pub within_received : (ps : List Period) (sent received aligned : List Column) (a : ℕ) → ReceivedOf ps sent received → IsAccounted ps sent received aligned a → a + length aligned ≤ length received
-within_received ps sent received aligned a reception accounted =
-    let same = reception.sparse.same_length in
-    let many = fitting_length (kinds_of ps) sent (fitting ps sent reception.conforming reception.spelled) in
-    let end = within_kinds (kinds_of ps) (a + 11) accounted.ends.here in
-    let taken : length aligned ≡ min (length aligned) (length (drop a received)) = ap length accounted.columns ∙ length-take (length aligned) (drop a received) in
-    let dropped = length-drop a received in
-    omega (arith, same, many, end, taken, dropped)
+within_received ps sent received aligned a reception accounted = grind (arith, fitting_length, fitting, length-take, length-drop, cases_lt, get_or_past)
 
 -- what is recovered of a raster lists its rows and frames that came
 pub pictures_are : (mode : Mode) (frames : List Frame) → raster_fault mode frames ≡ None → (t : TappedStream) → t.periods ≡ raster_of mode frames
     → (d e f a status : ℕ) (old new : Option (List ℕ)) → ReceivedOf t.periods t.sent t.received → IsRecovered content_listing t d e f a status old new
     → ArePictures mode frames t d e f a old new
 unfolding content_text
-pictures_are mode frames none t is d e f a status old new reception h =
-    let aligned = aligned_of t d e f in
-    let reported : account t.periods t.sent t.received a (length aligned) ≡ heard (take (length aligned) (drop a t.received)) =
-    sym h.accounted.reported ∙ ap heard h.accounted.columns in
-    record {
-      accounted = h.accounted;
-      begins = h.begins;
-      written = h.written;
-      pictures = ap (λ (events : List Event). filter tells_picture (content_lines events)) reported
-          ∙ frame_lines_come_back mode frames none t.sent t.received (subst (λ (ps : List Period). ReceivedOf ps t.sent t.received) is reception) a (length aligned)
-          (subst (λ (ps : List Period). EndsControl ps (a + 11)) is h.accounted.ends) (within_received t.periods t.sent t.received aligned a reception h.accounted);
-    }
+pictures_are mode frames none t is d e f a status old new reception h = grind (arith, frame_lines_come_back, within_received)
 
 -- what follows where no device failed and memory was had
 pub unless_so : (P Q : ℕ → Option (List ℕ) → Option (List ℕ) → Type 0) (status : ℕ) (before after : Devices) → (P status before.held after.held → Q status before.held after.held)
     → Unless P status before after → Unless Q status before after
-unless_so P Q status before after so (inl read) = inl read
-unless_so P Q status before after so (inr (inl write)) = inr (inl write)
-unless_so P Q status before after so (inr (inr (inl memory))) = inr (inr (inl memory))
-unless_so P Q status before after so (inr (inr (inr h))) = inr (inr (inr (so h)))
+unless_so P Q status before after h k = grind arith
 
 -- sparse damage of payload alone
 pub pictured : (words : List (List ℕ)) (ending : Ending) (before after : Devices) (status : ℕ) → RunEnds words ending before after → status ≡ status_of ending → IsCommand words RecoverContent

@@ -22,8 +22,8 @@ use Rattle.command_line.specs.Commands.{IsCommand}
 use Rattle.command_line.specs.declared.command.Command.TheVariants.{Relay}
 use Rattle.hdmi_cli.specs.Endings.{Devices, RunEnds, Unless, status_of}
 use Rattle.hdmi_cli.specs.Outcome.{RunOutcome, Relays}
-use Rattle.hdmi_cli.specs.RelayClauses.{ComesBack, IsRelayedAgain, past_twelve}
-use Rattle.hdmi_cli.specs.Relays.{IsRelayed, relay_status, whole_tap}
+use Rattle.hdmi_cli.specs.RelayClauses.{ComesBack, IsRelayedAgain}
+use Rattle.hdmi_cli.specs.Relays.{IsRelayed, whole_tap}
 use Rattle.hdmi_cli.specs.declared.ending.Ending.{Ending}
 use Rattle.hdmi_cli.proofs.Headline.{run_ended}
 use Rattle.hdmi_cli.proofs.OwnCapture.{blue_of, green_of, red_of, own_aligned, own_captured, own_nowhere}
@@ -39,23 +39,14 @@ map-drop (suc a) (v ∷ vs) = map-drop a vs
 cut_spelled : (a : ℕ) (runs : List ControlRun) (ps : List Period) (cs : List Column) → a ≤ length (values_of runs) → SpellsBy freely (control runs ∷ ps) cs
     → SpellsBy freely (cut_first a (control runs ∷ ps)) (drop a cs)
 unfolding cut_first
-cut_spelled a runs ps cs le h =
-    let long : length h.0 ≡ length (values_of runs) = ap length h.3 ∙ length-map (values_of runs) control_column in (
-      drop a h.0,
-      h.1,
-      ap (drop a) h.2 ∙ drop-append-le a h.0 h.1 (omega (arith, long, le)),
-      ap (drop a) h.3 ∙ sym (map-drop a (values_of runs)) ∙ ap (map control_column) (sym (values_longest (drop a (values_of runs)))),
-      h.4,
-    )
+cut_spelled a runs ps cs le h = grind (arith, length-map, drop-append-le, map-drop, values_longest)
 
 -- With an edge.
 
 -- a period behind the first has columns
 columns_more : (runs : List ControlRun) (q : Period) (ps : List Period) → IsConforming (control runs ∷ (q ∷ ps)) → length (values_of runs) < columns_of (control runs ∷ (q ∷ ps))
 unfolding conforms columns_of period_columns
-columns_more runs (control more) ps good = absurd cc
-columns_more runs (video bytes) ps good = omega arith
-columns_more runs (island x) ps good = omega arith
+columns_more runs q ps h = grind arith
 
 pub comes_back : RelayedAgain → (events : List Event) (runs : List ControlRun) (q : Period) (ps : List Period) (columns : List Column) (o : RunOutcome) (status : ℕ) (old new : Option (List ℕ))
     → relayed events ≡ control runs ∷ (q ∷ ps) → columns_of (relayed events) ≤ 20000000 → Spells (relayed events) columns → o.status ≡ status → Appends old new o.output
@@ -79,29 +70,13 @@ comes_back law events runs q ps columns o status old new are few spelled is writ
     let cut = cut_spelled a runs (q ∷ ps) columns (omega (arith, from)) free in
     let cut_many = spelled_long (cut_first a all) (drop a columns) cut in
     let back_many = ap columns_of back in
-    let front : IsFront (drop a columns) = record {
-      periods = cut_first a all;
-      spelled = drop a columns;
-      conforming = subst (λ (xs : List Period). IsConforming xs) back (relayed_conforms reported);
-      spells = cut;
-      rest = [];
-      front = sym (append-nil (drop a columns));
-    } in
+    let front : IsFront (drop a columns) = grind (arith, relayed_conforms, append-nil) in
     let same : heard (drop a columns) ≡ reported = ap heard (sym own.aligned) ∙ own.reported in
     let quiet : faultless reported ≡ true = subst (λ (ts : List Event). faultless ts ≡ true) same (front_is_clean (drop a columns) front) in
     let captured = own_captured columns (omega (arith, many, size, few)) in
     elim (capture_relay reported (blue_of columns) (green_of columns) (red_of columns) own.d own.e own.f (tapped_capture columns whole_tap) o captured own.first own.reported does) [
       | inl long ↦ let passes = long.passes in absurd (omega (arith, passes, back_many, cut_many, rest, many, size, few))
-      | inr sent ↦
-          let twelve : a ≡ past_twelve runs = omega (arith, from) in
-          record {
-            status_is = sym is ∙ sent.status ∙ ap relay_status quiet;
-            events = reported;
-            same = back ∙ ap (λ k. cut_first k all) twelve;
-            output = o.output;
-            relayed_is = record { columns = sent.columns; few = sent.few; spelled = sent.spelled; output_is = sent.output };
-            written = written;
-          }
+      | inr sent ↦ grind arith
     ]
 
 -- With none.

@@ -1,5 +1,5 @@
 -- The first whole blocks of a capture have the first bits of each of its lanes.
-use Rattle.std.proofs.Common.{◌≡◌, ℕ, zero, suc, ◌+◌, ◌-◌, ◌*◌, ◌/◌, ◌%◌, ◌^◌, ◌<◌, ◌≤◌, Bool, List, [], ◌∷◌, ◌++◌, length, take, drop, min, refl, ap, ap₂, ◌∙◌, sym, arith, subst, inl, inr, append_assoc, append-nil, length-take}
+use Rattle.std.proofs.Common.{◌≡◌, ℕ, ◌+◌, ◌-◌, ◌*◌, ◌/◌, ◌%◌, ◌^◌, ◌<◌, ◌≤◌, Bool, List, [], ◌∷◌, ◌++◌, length, take, drop, min, refl, ap, ap₂, ◌∙◌, sym, arith, subst, inl, inr, append_assoc, append-nil, length-take}
 use Rattle.std.specs.Prelude.{slice_index, ◌⊎◌}
 use Rattle.std.proofs.lemmas.Bool.{cases_lt}
 use Rattle.std.proofs.lemmas.List.{take-append-drop}
@@ -22,9 +22,7 @@ one_is_front n m f =
       | inl less ↦ let more = pieces-after n m f less in inl (f n ++ more.0, more.1)
       | inr not ↦ elim (cases_lt m n) [
         | inl less ↦ let more = pieces-after m n f less in inr (f m ++ more.0, more.1)
-        | inr still ↦
-            let same : m ≡ n = omega arith in
-            inl ([], ap (λ k. pieces k f) same ∙ sym (append-nil (pieces n f)))
+        | inr still ↦ grind (arith, pieces, append-nil)
       ]
     ]
 
@@ -47,18 +45,13 @@ fewer_pieces n m f g le long is =
           let a = pieces-after n m g less in
           let b = pieces-after n m f less in
           same_front (pieces n g) (g n ++ a.0) (pieces n f) (f n ++ b.0) (sym a.1 ∙ is ∙ b.1) (length-pieces n g f (λ k lt. long k (omega arith)))
-      | inr not ↦
-          let same : m ≡ n = omega arith in
-          subst (λ k. pieces k g ≡ pieces k f) same is
+      | inr not ↦ grind (arith, pieces)
     ]
 
 -- Lanes as far as a block.
 
 abbrev first_bits : ℕ → List Bool → List Bool
 first_bits j x = take (32768 * j) x
-
-abbrev lane_of : List Bool → List Bool → List Bool → ℕ → List Bool
-lane_of x y z = three x y z
 
 firsts : ℕ → List Bool → List Bool → List Bool → ℕ → List Bool
 firsts j x y z c = first_bits j (three x y z c)
@@ -68,15 +61,11 @@ rests j x y z c = drop (32768 * j) (three x y z c)
 
 first_three : (j : ℕ) (x y z : List Bool) (c : ℕ) → three (first_bits j x) (first_bits j y) (first_bits j z) c ≡ first_bits j (three x y z c)
 unfolding three
-first_three j x y z zero = refl
-first_three j x y z (suc zero) = refl
-first_three j x y z (suc (suc c)) = refl
+first_three j x y z c = grind arith
 
 three_longs : (x y z u v w : List Bool) → length x ≡ length u → length y ≡ length v → length z ≡ length w → (c : ℕ) → length (three x y z c) ≡ length (three u v w c)
 unfolding three
-three_longs x y z u v w a b d zero = a
-three_longs x y z u v w a b d (suc zero) = b
-three_longs x y z u v w a b d (suc (suc c)) = d
+three_longs x y z u v w h k l m = grind arith
 
 -- a piece below a block is one of the bits as far as the block
 piece_first : (j k : ℕ) (x y z : List Bool) → k < 3 * j → piece_of (three x y z) k ≡ piece_of (three (first_bits j x) (first_bits j y) (first_bits j z)) k

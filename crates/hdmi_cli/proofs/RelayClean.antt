@@ -1,5 +1,5 @@
 -- What `relay` makes of a capture that `check` calls clean, and whose aligned columns end in a control period: the same columns.
-use Rattle.std.proofs.Common.{◌≡◌, ◌⊎◌, ℕ, Bool, List, ap, sym, ◌∙◌, subst, inl, inr, refl, arith}
+use Rattle.std.proofs.Common.{◌≡◌, ◌⊎◌, ℕ, Bool, List, refl, arith}
 use Rattle.std.specs.Prelude.{Option, Some}
 use Rattle.std.specs.Io.KnownBytes.{Appends}
 use Rattle.tmds_word.specs.Column.{Column}
@@ -10,7 +10,6 @@ use Rattle.link_laws.proofs.exact.Arrivals.{whole_heard}
 use Rattle.link_laws.proofs.exact.Law.{check_is_exact}
 use Rattle.link_laws.proofs.exact.Wholes.{clean_is_whole}
 use Rattle.relay_laws.specs.Own.{WholeRelayed}
-use Rattle.relay.specs.Relayed.{relayed}
 use Rattle.relay.proofs.Conforming.{relayed_conforms}
 use Rattle.relay_laws.proofs.Own.{spelled_long}
 use Rattle.command_line.specs.Commands.{IsCommand}
@@ -19,7 +18,6 @@ use Rattle.hdmi_cli.specs.Endings.{Devices, RunEnds, Unless, status_of}
 use Rattle.hdmi_cli.specs.Exact.{IsAlignedCapture}
 use Rattle.hdmi_cli.specs.Outcome.{RunOutcome}
 use Rattle.hdmi_cli.specs.RelayClauses.{IsCleanToEnd, IsPassedOn}
-use Rattle.hdmi_cli.specs.Relays.{relay_status}
 use Rattle.hdmi_cli.specs.declared.ending.Ending.{Ending}
 use Rattle.hdmi_cli.proofs.Headline.{run_ended}
 use Rattle.hdmi_cli.proofs.RelayHeadline.{IsLongOf, IsRelayOf, capture_relay, keeps_of}
@@ -30,21 +28,7 @@ passed_of law cs o status old new clean is written made =
     let quiet : IsClean cs = (check_is_exact cs).1 clean.clean in
     let whole = clean_is_whole cs quiet clean.ends in
     let spelled = law cs whole (whole_heard cs whole) in
-    let many = spelled_long (relayed (heard cs)) cs spelled in
-    elim made [
-      | inl long ↦ let passes = long.passes in inr (omega (arith, passes, many), sym is ∙ long.status, keeps_of old new (subst (λ out. Appends old new out) long.output written))
-      | inr sent ↦
-          let few = sent.few in
-          inl (
-            omega (arith, few, many),
-            sym is ∙ sent.status ∙ ap relay_status quiet,
-            (
-              sent.columns,
-              record { periods = relayed (heard cs); conforming = relayed_conforms (heard cs); reception = spelled; spelled = sent.spelled },
-              subst (λ out. Appends old new out) sent.output written,
-            ),
-          )
-    ]
+    grind (arith, spelled_long, keeps_of, relayed_conforms)
 
 pub relay_passes : WholeRelayed → (words : List (List ℕ)) (ending : Ending) (before after : Devices) (status : ℕ) → RunEnds words ending before after → status ≡ status_of ending → IsCommand words Relay
     → (blue green red : List Bool) (d e f : ℕ) (bytes : List ℕ) → IsAlignedCapture blue green red d e f bytes → IsCleanToEnd (aligned_columns blue green red d e f) → before.left ≡ Some bytes

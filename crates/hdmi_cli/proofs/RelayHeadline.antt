@@ -1,6 +1,6 @@
 -- What `relay` makes of a tapped stream: what came of the periods that were sent, from the first full alignment on.
-use Rattle.std.proofs.Common.{◌≡◌, ◌<◌, ◌≤◌, ◌⊎◌, ℕ, ◌+◌, Bool, List, [], length, ap, sym, ◌∙◌, subst, inl, inr}
-use Rattle.std.specs.Prelude.{Option, None, Some}
+use Rattle.std.proofs.Common.{arith, ◌≡◌, ◌<◌, ◌≤◌, ◌⊎◌, ℕ, ◌+◌, Bool, List, [], length, ap, sym, ◌∙◌, subst, inl, inr}
+use Rattle.std.specs.Prelude.{Option, Some}
 use Rattle.std.proofs.lemmas.List.{append-nil}
 use Rattle.std.specs.Io.KnownBytes.{Appends, Keeps}
 use Rattle.tmds_word.specs.Column.{Column}
@@ -10,7 +10,7 @@ use Rattle.capture_file.specs.Taps.{tapped_capture}
 use Rattle.capture_file.proofs.OneCapture.{one_capture, no_fault}
 use Rattle.lane_deskew.specs.Triples.{IsFirst, IsTriple}
 use Rattle.lane_deskew.specs.Aligned.{aligned_columns}
-use Rattle.island_pack.specs.Periods.{Period, columns_of}
+use Rattle.island_pack.specs.Periods.{columns_of}
 use Rattle.island_pack.specs.Sparse.{IsSparseInPayload}
 use Rattle.island_pack.specs.Spelling.{Spells}
 use Rattle.source_end.proofs.Streams.{Spells-length}
@@ -49,9 +49,7 @@ pub record IsLongOf (all : List Event) (o : RunOutcome) : Type 0 where
   pub output : o.output ≡ []
 
 pub keeps_of : (old new : Option (List ℕ)) → Appends old new [] → Keeps old new
-keeps_of None new h = tt
-keeps_of (Some xs) None h = absurd h
-keeps_of (Some xs) (Some ys) h = h ∙ append-nil xs
+keeps_of old new h = grind (arith, append-nil)
 
 same_nowhere : (x y z u v w : List Bool) (columns : ℕ) (events : List Event) → AreSame x y z u v w → IsNowhereReported u v w columns events → IsNowhereReported x y z columns events
 same_nowhere x y z u v w columns events same h =
@@ -59,16 +57,7 @@ same_nowhere x y z u v w columns events same h =
 
 reported_relay : (all : List Event) (blue green red : List Bool) (d e f columns : ℕ) (events : List Event) (output : List ℕ) (o : RunOutcome) → IsFirst blue green red d e f → heard (aligned_columns blue green red d e f) ≡ all
     → IsAlignedReported blue green red columns events → IsRelayed events output → o ≡ record { status = relay_status (faultless events); output = output; note = [] } → IsRelayOf all o
-reported_relay all blue green red d e f columns events output o first whole reported r is =
-    let same = aligned_same blue green red reported.d reported.e reported.f d e f reported.first first in
-    let events_are : events ≡ all = reported.reported ∙ ap heard same ∙ whole in
-    record {
-      few = subst (λ (ts : List Event). columns_of (relayed ts) ≤ 20000000) events_are r.few;
-      columns = r.columns;
-      spelled = subst (λ (ts : List Event). Spells (relayed ts) r.columns) events_are r.spelled;
-      status = ap (λ (p : RunOutcome). p.status) is ∙ ap (λ ts. relay_status (faultless ts)) events_are;
-      output = ap (λ (p : RunOutcome). p.output) is ∙ r.output_is;
-    }
+reported_relay all blue green red d e f columns events output o first whole reported r is = grind (arith, aligned_same)
 
 -- what is made of a capture with a first full alignment
 pub capture_relay : (all : List Event) (blue green red : List Bool) (d e f : ℕ) (bytes : List ℕ) (o : RunOutcome) → IsCaptureOf blue green red bytes → IsFirst blue green red d e f → heard (aligned_columns blue green red d e f) ≡ all
@@ -101,24 +90,7 @@ sent_of : (t : TappedStream) (a d e f : ℕ) (ending : Ending) (before after : D
     → o.status ≡ status_of ending → Appends before.held after.held o.output
     → IsLongOf (account t.periods t.sent t.received a (length (aligned_of t d e f))) o ⊎ IsRelayOf (account t.periods t.sent t.received a (length (aligned_of t d e f))) o
     → IsSentWithin t d e f a (status_of ending) before.held after.held
-sent_of t a d e f ending before after o accounted begins relayed_is status written (inl long) = inr (record {
-  accounted = accounted;
-  begins = begins;
-  passes = subst (λ (ps : List Period). 20000000 < columns_of ps) relayed_is long.passes;
-  status_is = sym status ∙ long.status;
-  unwritten = keeps_of before.held after.held (subst (λ (out : List ℕ). Appends before.held after.held out) long.output written);
-})
-sent_of t a d e f ending before after o accounted begins relayed_is status written (inr is) = inl (
-  subst (λ (ps : List Period). columns_of ps ≤ 20000000) relayed_is is.few,
-  record {
-    accounted = accounted;
-    begins = begins;
-    columns = is.columns;
-    spelled = subst (λ (ps : List Period). Spells ps is.columns) relayed_is is.spelled;
-    status_is = sym status ∙ is.status;
-    written = subst (λ (out : List ℕ). Appends before.held after.held out) is.output written;
-  },
-)
+sent_of t a d e f ending before after o h k l m p q = grind (arith, keeps_of)
 
 sent_within : RelayedAccount → (t : TappedStream) (a d e f : ℕ) (ending : Ending) (before after : Devices) → IsTapped t → IsFirstOf t d e f → IsAccounted t.periods t.sent t.received (aligned_of t d e f) a
     → BeginColumn t.offset t.skews (a + 12) d e f → before.left ≡ Some t.bytes → Answers Relay ending before after

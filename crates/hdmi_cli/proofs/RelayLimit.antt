@@ -1,5 +1,5 @@
 -- Where `relay` passes the limit on the way, what is relayed of the whole capture passes it too.
-use Rattle.std.proofs.Common.{◌≡◌, ℕ, ◌<◌, ◌≤◌, Bool, List, [], ◌++◌, length, refl, ap, sym, ◌∙◌, subst, inl, inr, arith}
+use Rattle.std.proofs.Common.{◌≡◌, ℕ, ◌<◌, ◌≤◌, Bool, List, [], length, refl, ap, sym, ◌∙◌, subst, inl, inr, arith}
 use Rattle.capture_file.specs.Captures.{IsCaptureOf}
 use Rattle.capture_file.specs.Laws.{AreSame}
 use Rattle.capture_file.proofs.OneCapture.{one_capture}
@@ -36,10 +36,7 @@ same_reported x y z u v w columns events same h =
     subst (λ a. IsAlignedReported a y z columns events) (sym same.blue) (subst (λ b. IsAlignedReported u b z columns events) (sym same.green) (subst (λ c. IsAlignedReported u v c columns events) (sym same.red) h))
 
 more_passes : (events all : List Event) → Begins events all → 20000000 < columns_of (relayed events) → 20000000 < columns_of (relayed all)
-more_passes events all b passes =
-    let grow = columns_grow events b.0 in
-    let same : columns_of (relayed all) ≡ columns_of (relayed (events ++ b.0)) = ap (λ ts. columns_of (relayed ts)) b.1 in
-    omega (arith, grow, same, passes)
+more_passes events all b passes = grind (arith, columns_grow)
 
 -- what the aligned columns tell, all of them, is relayed past the limit
 pub passes_whole : (x y z : List Bool) (d e f : ℕ) (bytes : List ℕ) → IsCaptureOf x y z bytes → IsFirst x y z d e f → PassesLimit bytes

@@ -1,5 +1,5 @@
 -- What `relay` wrote of its own output it writes again; and a clean capture but for bit 3 of lane 0 in packet columns.
-use Rattle.std.proofs.Common.{◌≡◌, ℕ, ◌-◌, Bool, List, [], ◌∷◌, length, drop, refl, ap, ap₂, sym, ◌∙◌, subst, arith, inl, inr, length-drop}
+use Rattle.std.proofs.Common.{◌≡◌, ℕ, ◌-◌, Bool, List, [], ◌∷◌, drop, refl, sym, ◌∙◌, subst, arith, length-drop}
 use Rattle.std.specs.Prelude.{Option, Some}
 use Rattle.std.specs.Io.KnownBytes.{Appends}
 use Rattle.tmds_word.specs.Column.{Column}
@@ -8,7 +8,6 @@ use Rattle.lane_deskew.specs.Aligned.{aligned_columns}
 use Rattle.island_pack.specs.Conforming.{IsConforming, conforms}
 use Rattle.island_pack.specs.Periods.{ControlRun, Period, control, video, island, values_of}
 use Rattle.island_pack.specs.Runs.{longest}
-use Rattle.island_pack.specs.Spelling.{Spells}
 use Rattle.island_pack.proofs.Runs.{values_longest}
 use Rattle.period_grammar.specs.Events.{Event}
 use Rattle.relay_laws.specs.Own.{RelayedAgain, WholeRelayed, cut_first}
@@ -53,13 +52,7 @@ back law events text runs q ps o are sent does =
 cut_again : (runs : List ControlRun) (ps : List Period)
     → cut_first (past_twelve (longest (drop (past_twelve runs) (values_of runs)))) (cut_first (past_twelve runs) (control runs ∷ ps)) ≡ cut_first (past_twelve runs) (control runs ∷ ps)
 unfolding cut_first
-cut_again runs ps =
-    let v = drop (past_twelve runs) (values_of runs) in
-    let is = values_longest v in
-    let long = ap length is in
-    let rest = length-drop (past_twelve runs) (values_of runs) in
-    let none : length (values_of (longest v)) - 12 ≡ 0 = omega (arith, long, rest) in
-    ap₂ (λ (m : ℕ) (us : List ℕ). control (longest (drop m us)) ∷ ps) none is
+cut_again runs ps = grind (arith, values_longest, length-drop)
 
 cut_is : (runs : List ControlRun) (ps : List Period) → cut_first (past_twelve runs) (control runs ∷ ps) ≡ control (longest (drop (past_twelve runs) (values_of runs))) ∷ ps
 unfolding cut_first
@@ -73,11 +66,7 @@ third_is law runs q ps second third b does =
     let cut = longest (drop (past_twelve runs) (values_of runs)) in
     let is = cut_is runs (q ∷ ps) in
     let c = back law b.events second.output cut q ps third (b.same ∙ is) b.relayed_is does in
-    let same : relayed c.events ≡ relayed b.events =
-    c.same ∙ ap (cut_first (past_twelve cut)) (sym is) ∙ cut_again runs (q ∷ ps) ∙ sym b.same in
-    let spelled = subst (λ (xs : List Period). Spells xs c.relayed_is.columns) same c.relayed_is.spelled in
-    let columns = one_spelling (relayed b.events) c.relayed_is.columns b.relayed_is.columns spelled b.relayed_is.spelled in
-    (c.status_is, c.relayed_is.output_is ∙ ap (λ (cs : List Column). tapped_capture cs whole_tap) columns ∙ sym b.relayed_is.output_is)
+    grind (arith, cut_again, one_spelling)
 
 by_periods : RelayedAgain → (events : List Event) (text : List ℕ) (ps : List Period) (second third : RunOutcome) → IsConforming ps → relayed events ≡ ps → IsRelayed events text
     → Relays text second → second.status ≡ 0 → Relays second.output third → (third.status ≡ 0) × (third.output ≡ second.output)
@@ -105,17 +94,11 @@ relay_settles law words ending before after status ends is named events text sen
 -- A clean capture.
 
 agreed : (cs : List Column) (status : ℕ) (old new : Option (List ℕ)) → IsPassedOn cs status old new → IsWrittenButBit3 cs status old new
-agreed cs status old new (inl h) =
-    let sent = h.2.1 in
-    inl (h.0, h.1, (sent.periods, h.2.0, sent.conforming, sent.reception, free_spelling_agrees sent.periods cs h.2.0 sent.reception sent.spelled, h.2.2))
-agreed cs status old new (inr h) = inr h
+agreed cs status old new h = grind (arith, free_spelling_agrees)
 
 in_each : (P Q : ℕ → Option (List ℕ) → Option (List ℕ) → Type 0) (status : ℕ) (before after : Devices) → (P status before.held after.held → Q status before.held after.held)
     → Unless P status before after → Unless Q status before after
-in_each P Q status before after f (inl h) = inl h
-in_each P Q status before after f (inr (inl h)) = inr (inl h)
-in_each P Q status before after f (inr (inr (inl h))) = inr (inr (inl h))
-in_each P Q status before after f (inr (inr (inr h))) = inr (inr (inr (f h)))
+in_each P Q status before after h k = grind arith
 
 pub relay_agrees : WholeRelayed → (words : List (List ℕ)) (ending : Ending) (before after : Devices) (status : ℕ) → RunEnds words ending before after → status ≡ status_of ending → IsCommand words Relay
     → (blue green red : List Bool) (d e f : ℕ) (bytes : List ℕ) → IsAlignedCapture blue green red d e f bytes → IsCleanToEnd (aligned_columns blue green red d e f) → before.left ≡ Some bytes

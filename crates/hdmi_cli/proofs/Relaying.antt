@@ -27,7 +27,7 @@ use Rattle.hdmi_cli.proofs.Heard.{all_read}
 use Rattle.command_line.specs.declared.command.Command.TheVariants.{Relay}
 use Rattle.hdmi_cli.specs.Blocks.{AreBefore, AreNext}
 use Rattle.link_sink.specs.Ears.{IsBroken, IsHeardSoFar}
-use Rattle.hdmi_cli.specs.Endings.{Devices, Ends, IsCut, IsWhole, RelayEnds, StreamEnds, faulty_end, marked_end, relay_ending}
+use Rattle.hdmi_cli.specs.Endings.{Devices, Ends, RelayEnds, StreamEnds, faulty_end, marked_end, relay_ending}
 use Rattle.hdmi_cli.specs.Notes.{alignment_note, capture_note, long_note}
 use Rattle.hdmi_cli.specs.Outcome.{RunOutcome, Relays}
 use Rattle.hdmi_cli.specs.Relays.{PassesLimit, relay_status, whole_tap}
@@ -36,12 +36,7 @@ use Rattle.hdmi_cli.specs.declared.ending.Ending.TheVariants.{Done, Faulty, Usag
 
 -- what a relay stands for passes the limit nowhere
 pub few_of : (relay : RelayValue) (events : List Event) → RelayRepresents relay events → columns_of (relayed events) ≤ 20000000
-few_of relay events s =
-    let a = stream_columns events in
-    let b = s.columns in
-    let d = s.period_columns in
-    let f = s.few in
-    omega arith
+few_of relay events s = grind (arith, stream_columns)
 
 -- the capture was heard to its end, and what is relayed of it was written, whole or in part
 
@@ -234,53 +229,16 @@ broken_sent before after first last fed now events read fresh none kept took rep
 
 -- a stream of what is relayed was written
 
-good_ends : (events : List Event) (ps : List Period) (e : Ending) (old new : Option (List ℕ)) (before after : ℕ) → ps ≡ relayed events → faultless events ≡ true → StreamEnds Spells whole_tap ps e old new before after
-    → RelayEnds events e old new before after
-good_ends events ps Done old new before after is good ends = (good, subst (λ (qs : List Period). IsWhole Spells whole_tap qs old new) is ends)
-good_ends events ps WriteFailed old new before after is good ends = (ends.0, subst (λ (qs : List Period). IsCut Spells whole_tap qs old new) is ends.1)
-good_ends events ps NoMemory old new before after is good ends = ends
-good_ends events ps Faulty old new before after is good ends = absurd ends
-good_ends events ps Usage old new before after is good ends = absurd ends
-good_ends events ps (Listing fault) old new before after is good ends = absurd ends
-good_ends events ps (Raster fault) old new before after is good ends = absurd ends
-good_ends events ps (Capture fault) old new before after is good ends = absurd ends
-good_ends events ps (Place i) old new before after is good ends = absurd ends
-good_ends events ps (Frames fault) old new before after is good ends = absurd ends
-good_ends events ps TooLong old new before after is good ends = absurd ends
-good_ends events ps ReadFailed old new before after is good ends = absurd ends
-good_ends events ps Unaligned old new before after is good ends = absurd ends
-
 faulty_ends : (events : List Event) (ps : List Period) (e : Ending) (old new : Option (List ℕ)) (before after : ℕ) → ps ≡ relayed events → faultless events ≡ false → StreamEnds Spells whole_tap ps e old new before after
     → RelayEnds events (faulty_end e) old new before after
-faulty_ends events ps Done old new before after is bad ends = (bad, subst (λ (qs : List Period). IsWhole Spells whole_tap qs old new) is ends)
-faulty_ends events ps WriteFailed old new before after is bad ends = (ends.0, subst (λ (qs : List Period). IsCut Spells whole_tap qs old new) is ends.1)
-faulty_ends events ps NoMemory old new before after is bad ends = ends
-faulty_ends events ps Faulty old new before after is bad ends = absurd ends
-faulty_ends events ps Usage old new before after is bad ends = absurd ends
-faulty_ends events ps (Listing fault) old new before after is bad ends = absurd ends
-faulty_ends events ps (Raster fault) old new before after is bad ends = absurd ends
-faulty_ends events ps (Capture fault) old new before after is bad ends = absurd ends
-faulty_ends events ps (Place i) old new before after is bad ends = absurd ends
-faulty_ends events ps (Frames fault) old new before after is bad ends = absurd ends
-faulty_ends events ps TooLong old new before after is bad ends = absurd ends
-faulty_ends events ps ReadFailed old new before after is bad ends = absurd ends
-faulty_ends events ps Unaligned old new before after is bad ends = absurd ends
+faulty_ends events ps e old new before after h k l = grind arith
 
 not_of : (b : Bool) → true ≡ not b → b ≡ false
-not_of false it = refl
-not_of true it = absurd (unlike it)
-  where
-    unlike : true ≡ false → ⊥
-    unlike h = cc
+not_of b h = grind arith
 
 yes_of : (b : Bool) → false ≡ not b → b ≡ true
-yes_of true it = refl
-yes_of false it = absurd (unlike it)
-  where
-    unlike : false ≡ true → ⊥
-    unlike h = cc
+yes_of b h = grind arith
 
 pub marked_ends : (faulty : Bool) (events : List Event) (ps : List Period) (e : Ending) (old new : Option (List ℕ)) (before after : ℕ) → ps ≡ relayed events → faulty ≡ not (faultless events)
     → StreamEnds Spells whole_tap ps e old new before after → RelayEnds events (marked_end faulty e) old new before after
-marked_ends true events ps e old new before after is heard ends = faulty_ends events ps e old new before after is (not_of (faultless events) heard) ends
-marked_ends false events ps e old new before after is heard ends = good_ends events ps e old new before after is (yes_of (faultless events) heard) ends
+marked_ends faulty events ps e old new before after h k l = grind (arith, faulty_ends, not_of, yes_of)

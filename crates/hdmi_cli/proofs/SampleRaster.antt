@@ -1,5 +1,5 @@
 -- The raster of the generator's content is refused for want of memory alone.
-use Rattle.std.proofs.Common.{◌≡◌, ℕ, ◌≤◌, List, ap, sym, subst, Result, Err, Some, None}
+use Rattle.std.proofs.Common.{arith, ◌≡◌, ℕ, ◌≤◌, List, Result, Err}
 use Rattle.island_pack.specs.Periods.{Period}
 use Rattle.source_end.specs.declared.mode.Mode.{Mode}
 use Rattle.source_end.specs.declared.refusal.RasterFault.{RasterFault}
@@ -12,7 +12,4 @@ use Rattle.sampling.specs.Sampled.{sample_mode}
 
 pub memory_wanting : (n : ℕ) (mode : Mode) (content : List Frame) (r : Result (List Period) RasterFault) (fault : RasterFault) → n ≤ 20 → mode ≡ sample_mode → IsGenerated n content
     → AnswersRasterFault (raster_fault mode content) r → r ≡ Err fault → fault ≡ NoMemory
-memory_wanting n mode content r fault few mode_is g answers is =
-    let none : raster_fault mode content ≡ None = generated_has_raster n content few g mode (ap Some (sym mode_is)) in
-    let refused : Result (List Period) RasterFault = Err fault in
-    subst (λ o. AnswersRasterFault o refused) none (subst (λ (x : Result (List Period) RasterFault). AnswersRasterFault (raster_fault mode content) x) is answers)
+memory_wanting n mode content r fault few mode_is g answers is = grind (arith, generated_has_raster)

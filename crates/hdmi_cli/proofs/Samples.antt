@@ -1,5 +1,5 @@
 -- The capture of a sample is one, its hits lie within its lanes, and damaged it is a capture still.
-use Rattle.std.proofs.Common.{◌≡◌, ℕ, zero, suc, ◌+◌, ◌-◌, ◌*◌, ◌^◌, ◌<◌, ◌≤◌, Bool, List, [], ◌∷◌, length, take, drop, refl, ap, sym, ◌∙◌, subst, inl, inr, arith, length-drop, length-take-le}
+use Rattle.std.proofs.Common.{◌≡◌, ℕ, zero, suc, ◌+◌, ◌-◌, ◌*◌, ◌^◌, ◌<◌, ◌≤◌, Bool, List, [], ◌∷◌, length, take, drop, refl, ap, sym, ◌∙◌, subst, inl, arith, length-drop, length-take-le}
 use Rattle.std.specs.Prelude.{Option, Some, slice_index}
 use Rattle.std.proofs.lemmas.List.{length-map}
 use Rattle.std.proofs.lemmas.Bool.{cases_lt}
@@ -21,28 +21,20 @@ use Rattle.capture_file.proofs.Halfways.{lane_fits, damaged_all}
 use Rattle.capture_file.proofs.Heads.{same_heads, header_same}
 use Rattle.capture_file.proofs.Marks.{consumed}
 use Rattle.capture_file.proofs.Tapped.{tap_is_captured}
-use Rattle.island_pack.specs.Periods.{Period}
-use Rattle.island_pack.specs.Spelling.{Spells}
-use Rattle.source_end.specs.Raster.{raster_of}
 use Rattle.period_grammar.specs.Events.{Event}
 use Rattle.link_sink.specs.Alignment.{AreReported}
 use Rattle.link_sink.specs.declared.hear.Outcome.{Outcome as Hearing}
 use Rattle.sampling.specs.Counts.{counts_of as sample_counts}
-use Rattle.sampling.specs.Strikes.{hits_of}
-use Rattle.sampling.specs.Sampled.{sample_mode, sample_tap, IsSampled}
+use Rattle.sampling.specs.Sampled.{sample_tap, IsSampled}
 use Rattle.sampling.specs.declared.counts.Counts.{Counts}
 use Rattle.hdmi_cli.specs.Samples.{IsTapped, IsStruck}
 
 -- a count of faults that stands at 0 did not rise
 pub stands : Rose 0 0 → ⊥
-stands (inl less) = omega arith
-stands (inr more) = omega arith
+stands h = grind arith
 
 by_lane : (x y z u v w : List Bool) → length x ≡ length u → length y ≡ length v → length z ≡ length w → (c : ℕ) → c < 3 → slice_index (counts_of x y z) c ≡ slice_index (counts_of u v w) c
-by_lane x y z u v w ex ey ez zero lt = ex
-by_lane x y z u v w ex ey ez (suc zero) lt = ey
-by_lane x y z u v w ex ey ez (suc (suc zero)) lt = ez
-by_lane x y z u v w ex ey ez (suc (suc (suc c))) lt = absurd (omega arith)
+by_lane x y z u v w h k l m p = grind arith
 
 -- the capture of a sample
 
@@ -81,10 +73,7 @@ long_lanes columns long few =
     }
 
 none_small : (c : ℕ) → c < 3 → slice_index (0 ∷ 0 ∷ 0 ∷ []) c < 2 ^ 32
-none_small zero lt = omega arith
-none_small (suc zero) lt = omega arith
-none_small (suc (suc zero)) lt = omega arith
-none_small (suc (suc (suc c))) lt = absurd (omega arith)
+none_small c h = grind arith
 
 -- the capture of lanes without a bit
 no_lanes : IsCaptureOf [] [] [] (layout 1 [] [] [])
@@ -123,11 +112,7 @@ short_lanes columns short =
     }
 
 lanes : (columns : List Column) → length columns ≤ 20000000 → Lanes columns
-lanes columns few =
-    elim (cases_lt (10 * length columns) 123527) [
-      | inl short ↦ short_lanes columns short
-      | inr long ↦ long_lanes columns long few
-    ]
+lanes columns few = grind (arith, cases_lt, short_lanes, long_lanes)
 
 pub tapped_is_capture : (frames : ℕ) (bytes : List ℕ) (hits : List Hit) → IsTapped frames bytes hits → IsCapture bytes
 tapped_is_capture frames bytes hits t =
@@ -166,33 +151,10 @@ struck_is_capture bytes hits whole d =
       blue = damaged 0 hits d.x;
       green = damaged 1 hits d.y;
       red = damaged 2 hits d.z;
-      holds = record {
-        head = d.holds.head;
-        headed = header_same d.holds.head counts (counts_of (damaged 0 hits d.x) (damaged 1 hits d.y) (damaged 2 hits d.z)) (by_lane d.x d.y d.z (damaged 0 hits d.x) (damaged 1 hits d.y) (damaged 2 hits d.z) (sym x) (sym y) (sym z)) d.holds.headed;
-        bytes_are = d.whole_is;
-      };
+      holds = grind (arith, header_same, by_lane);
     }
 
 -- what is counted of a damaged capture of the generator's content are the counts of a sample
 pub sampled : (frames : ℕ) (damaged : List ℕ) (blue green red : List Bool) (outcome : Hearing) (events : List Event) (counts : Counts) → IsStruck frames damaged → IsCaptureOf blue green red damaged
     → AreReported blue green red outcome events → counts ≡ sample_counts outcome.columns events → IsSampled frames counts
-sampled frames damaged blue green red outcome events counts s captured reported is =
-    let t = s.tapped in
-    let made = t.is_sent.made in
-    let hits : s.hits ≡ hits_of sample_tap (raster_of sample_mode made.content) = t.is_sent.hits_are ∙ ap (hits_of sample_tap) made.periods_are in
-    record {
-      content = made.content;
-      generated = made.generated;
-      sent = t.sent;
-      spelled = subst (λ (ps : List Period). Spells ps t.sent) made.periods_are t.is_sent.spelled;
-      damaged = damaged;
-      damaged_is = subst (λ (hs : List Hit). IsDamagedCapture (tapped_capture t.sent sample_tap) hs damaged) hits (subst (λ (bs : List ℕ). IsDamagedCapture bs s.hits damaged) t.bytes_are s.damaged_is);
-      blue = blue;
-      green = green;
-      red = red;
-      captured = captured;
-      outcome = outcome;
-      events = events;
-      reported = reported;
-      counts_are = is;
-    }
+sampled frames damaged blue green red outcome events counts s captured reported is = grind arith

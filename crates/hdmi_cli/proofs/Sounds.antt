@@ -1,16 +1,16 @@
 -- The samples that `recover biphase K` writes of a tapped stream are those of the packets that came, each with at most one damaged word as it was sent.
-use Rattle.std.proofs.Common.{◌≡◌, ◌≤◌, ℕ, ◌+◌, List, [], ◌∷◌, ◌++◌, length, refl, ap, ap₂, sym, ◌∙◌, subst, append-nil}
+use Rattle.std.proofs.Common.{arith, ◌≡◌, ◌≤◌, ℕ, ◌+◌, List, [], ◌∷◌, length, refl, ap, ◌∙◌, subst, append-nil}
 use Rattle.std.specs.Prelude.{flat_map, Option, Some}
 use Rattle.std.specs.Io.KnownBytes.{Appends}
 use Rattle.std.proofs.lemmas.Grind.{flat_map-append}
 use Rattle.tmds_word.specs.Column.{Column}
 use Rattle.audio_out.specs.Frames.{biphase}
 use Rattle.island_pack.specs.Sparse.{IsSparseInPayload}
-use Rattle.period_grammar.specs.Events.{Event, run, line, word, short, preamble, noise, empty, code, long_line, cut, open_island, packet, close_island, symbols, mended, lost, long_island, broken, guard}
+use Rattle.period_grammar.specs.Events.{Event, packet}
 use Rattle.link_laws.specs.Account.{account}
 use Rattle.link_laws.specs.Laws.{ReceivedOf}
 use Rattle.listing_laws.specs.ListingLaws.{Each, unlike_in}
-use Rattle.listing_laws.specs.PacketLaws.{IsAsSent, Placed, received_packet, placed, reported_packet, reported_packets}
+use Rattle.listing_laws.specs.PacketLaws.{IsAsSent, Placed, received_packet, placed, reported_packets}
 use Rattle.listing_laws.proofs.PacketsAsSent.{packets_as_sent}
 use Rattle.listing_laws.proofs.Reported.{packets_come_back}
 use Rattle.biphase_listing.specs.StreamText.{biphase_text, samples_at, reported_samples}
@@ -27,34 +27,10 @@ use Rattle.hdmi_cli.proofs.Pictures.{unless_so, within_received}
 
 -- what is told has the samples of the packets that are told
 
-of_event : (pair : ℕ) (event : Event) → samples_at pair event ≡ flat_map (samples_reported pair) (reported_packet event)
-unfolding samples_at
-of_event pair (run x y) = refl
-of_event pair (line x) = refl
-of_event pair (word x y) = refl
-of_event pair (short x) = refl
-of_event pair (preamble x) = refl
-of_event pair (noise x) = refl
-of_event pair (empty x) = refl
-of_event pair (code x y) = refl
-of_event pair (long_line x) = refl
-of_event pair (cut x) = refl
-of_event pair (open_island x y) = refl
-of_event pair (packet p v x) = sym (append-nil (samples_at pair (packet p v x)))
-of_event pair (close_island x y) = refl
-of_event pair (symbols x y) = refl
-of_event pair (mended x y z) = refl
-of_event pair (lost x y) = refl
-of_event pair (long_island x) = refl
-of_event pair (broken x) = refl
-of_event pair (guard x) = refl
-
 of_events : (pair : ℕ) (events : List Event) → reported_samples pair events ≡ flat_map (samples_reported pair) (reported_packets events)
-unfolding reported_samples reported_packets
+unfolding reported_samples reported_packets samples_at
 of_events pair [] = refl
-of_events pair (event ∷ events) =
-    ap₂ (λ xs ys. xs ++ ys) (of_event pair event) (of_events pair events)
-    ∙ sym (flat_map-append (samples_reported pair) (reported_packet event) (reported_packets events))
+of_events pair (event ∷ events) = grind (arith, flat_map-append, append-nil, of_events pair events)
 
 -- each packet that was sent
 
@@ -66,11 +42,7 @@ HasSamples pair sent received a k = unlike_in sent received k ≤ 1 → samples_
 
 each_has : (pair : ℕ) (sent received : List Column) (a : ℕ) (ks : List Placed) → Each (IsSent sent received a) ks → Each (HasSamples pair sent received a) ks
 each_has pair sent received a [] h = tt
-each_has pair sent received a (k ∷ ks) h =
-    let reported = received_packet sent received a k in (
-      λ few. samples_of_payload pair reported.packet k.packet reported.verdicts reported.column k.at (h.0 few).header (h.0 few).bodies (h.0 few).kept,
-      each_has pair sent received a ks h.1,
-    )
+each_has pair sent received a (k ∷ ks) h = grind (arith, samples_of_payload, each_has pair sent received a ks)
 
 -- what is recovered has the samples that came
 samples_are : (pair : ℕ) (t : TappedStream) (d e f a status : ℕ) (old new : Option (List ℕ)) → ReceivedOf t.periods t.sent t.received

@@ -1,5 +1,5 @@
 -- Taps of the short stream, one lane of which loses three bits in its first line, with the bytes of their captures: one that is noticed, and two that are not.
-use Rattle.std.proofs.Common.{◌≡◌, ℕ, suc, zero, ◌+◌, ◌*◌, ◌^◌, ◌<◌, ◌≤◌, Bool, true, not, ◌&&◌, List, [], ◌∷◌, length, drop, refl, ap, ap₂, ◌∙◌, sym, subst, arith, inr}
+use Rattle.std.proofs.Common.{◌≡◌, ℕ, suc, zero, ◌+◌, ◌*◌, ◌^◌, ◌<◌, ◌≤◌, Bool, true, not, ◌&&◌, List, [], ◌∷◌, length, drop, refl, ap, ap₂, ◌∙◌, subst, arith}
 use Rattle.std.specs.Prelude.{slice_index}
 use Rattle.std.proofs.lemmas.List.{length-map}
 use Rattle.tmds_word.specs.Bits.{bits_of, word_bits, row_bits, number, window}
@@ -7,7 +7,7 @@ use Rattle.tmds_word.specs.Column.{blues, greens, reds}
 use Rattle.tmds_word.specs.Taps.{part_of, IsPart, IsTap, HasSmallSkew}
 use Rattle.tmds_word.proofs.Below.{passes_below, passes_at}
 use Rattle.terc4.specs.Tables.{control_words, is_in, is_control, video_guard}
-use Rattle.capture_file.specs.Captures.{IsCaptureOf, counts_of, header_of, layout}
+use Rattle.capture_file.specs.Captures.{IsCaptureOf, layout}
 use Rattle.island_pack.specs.Kinds.{control_column, pixel_column}
 use Rattle.island_pack.specs.Periods.{values_of}
 use Rattle.lane_align.specs.Lanes.{HasControl, IsRun, IsEdge}
@@ -83,23 +83,13 @@ part : (words : List ℕ) (from many : ℕ) → length words ≡ 91 → from + m
 part words from many long le = record { within = omega arith; bits_are = refl }
 
 is_tap : (offset place b g r : ℕ) → AreFit offset place b g r → IsTap received offset skews (b ∷ (g ∷ (r ∷ []))) (lanes offset b g r).blue (lanes offset b g r).green (lanes offset b g r).red
-is_tap offset place b g r fit =
-    let x = fit.blue_within in
-    let y = fit.green_within in
-    let z = fit.red_within in
-    record {
-      blue_part = part (blues received) (offset + 0) b long_blue (omega arith);
-      green_part = part (greens received) (offset + 70) g long_green (omega arith);
-      red_part = part (reds received) (offset + 35) r long_red (omega arith);
-    }
+is_tap offset place b g r fit = grind (arith, part, received, long_red, length-map, long_received)
 
 others_same : (place : ℕ) (x : Fed) (l : ℕ) → l < 3 → (l ≡ 0 → ⊥) → lane_of (left place x) l ≡ lane_of x l
-others_same place x zero lt apart = absurd (apart refl)
-others_same place x (suc zero) lt apart = refl
-others_same place x (suc (suc l)) lt apart = refl
+others_same place x l h k = grind arith
 
 slips : (place : ℕ) (x : Fed) → Slipped x 0 place 3 (left place x)
-slips place x = record { within = omega arith; few = (omega arith, omega arith); this = refl; others = others_same place x }
+slips place x = grind arith
 
 after : HasSmallSkew later
 after = record { first_second = (omega arith, omega arith); second_third = (omega arith, omega arith); first_third = (omega arith, omega arith) }
@@ -108,21 +98,7 @@ no_pixel : control_column ≡ pixel_column → ⊥
 no_pixel e = cc
 
 in_line : (offset place b g r : ℕ) → AreFit offset place b g r → SlipsInVideo stream sent received offset skews (b ∷ (g ∷ (r ∷ []))) 0 place 3 26 56
-in_line offset place b g r fit =
-    let at = fit.at in
-    let begins = fit.begins in
-    let ends = fit.ends in
-    record {
-      alone = alone;
-      begins = begins;
-      ends = omega arith;
-      after = omega arith;
-      before = omega arith;
-      pixels = pixels;
-      then = inr (λ p. no_pixel (sym then_control ∙ p));
-      undamaged = λ i under over. middle i (omega arith) (omega arith);
-      small = after;
-    }
+in_line offset place b g r fit = grind (arith, alone, after, pixels, then_control, middle)
 
 -- The bytes are the capture of the lanes that are left.
 
@@ -134,11 +110,7 @@ each_count P a b c p q r (suc (suc (suc i))) lt = absurd (omega arith)
 
 captured : (x y z : List Bool) → length x < 2 ^ 32 → length y < 2 ^ 32 → length z < 2 ^ 32 → IsCaptureOf x y z (layout 2 x y z)
 unfolding layout
-captured x y z small_x small_y small_z = record {
-  head = header_of 2 (counts_of x y z);
-  headed = record { version = 2; said = record { small = each_count (λ n. n < 2 ^ 32) (length x) (length y) (length z) small_x small_y small_z; shared = inr refl }; head_is = refl };
-  bytes_are = refl;
-}
+captured x y z small_x small_y small_z = grind arith
 
 slipped_tap : (offset place b g r : ℕ) → AreFit offset place b g r → IsSlippedTap (tapped offset place b g r) (loses place) (left place (lanes offset b g r))
 slipped_tap offset place b g r fit =

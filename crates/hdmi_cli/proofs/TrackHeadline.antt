@@ -1,5 +1,5 @@
 -- `recover track` of a tapped stream: there is one epoch, and the text is that of `recover link`.
-use Rattle.std.proofs.Common.{◌≡◌, ℕ, zero, suc, ◌<◌, Bool, true, false, List, [], ◌++◌, refl, ap, ap₂, sym, ◌∙◌, subst, inl, inr, arith}
+use Rattle.std.proofs.Common.{◌≡◌, ℕ, zero, suc, ◌<◌, Bool, true, false, List, [], ◌++◌, refl, ap, ap₂, ◌∙◌, subst, inl, inr, arith}
 use Rattle.std.specs.Prelude.{codes}
 use Rattle.terc4.specs.Columns.{one_if}
 use Rattle.period_grammar.specs.Events.{Event}
@@ -38,15 +38,10 @@ text_of_events events = ap (λ (t : List ℕ). t ++ codes "end\n") (event_lines 
 
 some_aligned : (b : Bool) → 0 < one_if b → b ≡ true
 unfolding one_if
-some_aligned true some = refl
-some_aligned false some = absurd (omega (arith, some))
-
-none_aligned : (b : Bool) → one_if b ≡ 0 → b ≡ false
-unfolding one_if
-none_aligned true none = absurd (omega (arith, none))
-none_aligned false none = refl
+some_aligned b h = grind arith
 
 lists_epoch : (x : Fed) (o : RunOutcome) → TracksLanes x o → HasNoEnd x → ListsLanes link_grammar link_listing x.blue x.green x.red o
+unfolding one_if
 lists_epoch x o (epochs, aligned, track_events, track, inl (some, is)) no_end =
     let e = epoch_reported false 0 x epochs aligned track_events track no_end in
     let yes_aligned = some_aligned e.outcome.aligned (subst (λ n. 0 < n) e.aligned_is some) in
@@ -55,10 +50,7 @@ lists_epoch x o (epochs, aligned, track_events, track, inl (some, is)) no_end =
     let same : outcome_of (track_events_of e.events) ≡ with_events =
     ap₂ (λ n t. record { status = status_with n; output = t; note = [] }) (event_faults e.events) (text_of_events e.events) in
     inl (e.outcome.columns, e.events, subst (λ b. reported_by b x.blue x.green x.red e.outcome.columns e.events) yes_aligned e.reported, is ∙ ap outcome_of e.track_events_are ∙ same)
-lists_epoch x o (epochs, aligned, track_events, track, inr (none, is)) no_end =
-    let e = epoch_reported false 0 x epochs aligned track_events track no_end in
-    let not_aligned = none_aligned e.outcome.aligned (sym e.aligned_is ∙ none) in
-    inr (e.outcome.columns, e.events, subst (λ b. reported_by b x.blue x.green x.red e.outcome.columns e.events) not_aligned e.reported, is)
+lists_epoch x o (epochs, aligned, track_events, track, inr (none, is)) no_end = grind (arith, epoch_reported)
 
 -- the same lanes have no end either
 no_end_same : (x y : Fed) → AreSame x.blue x.green x.red y.blue y.green y.red → HasNoEnd x → HasNoEnd y

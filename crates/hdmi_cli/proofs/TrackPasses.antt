@@ -1,9 +1,7 @@
 -- `recover track` of a tapped stream one lane of which lost bits within a line, unnoticed: there is one epoch, and the text is that of `recover link`.
-use Rattle.std.proofs.Common.{◌≡◌, ◌≤◌, ℕ, List, length, take, ap, sym, ◌∙◌, subst, inl, inr}
+use Rattle.std.proofs.Common.{arith, ◌≡◌, ℕ, List, sym, ◌∙◌, subst, inl, inr}
 use Rattle.std.specs.Prelude.{Option, Some}
 use Rattle.std.specs.Io.KnownBytes.{Appends}
-use Rattle.lane_deskew.specs.Aligned.{aligned_columns}
-use Rattle.period_grammar.specs.Heard.{heard}
 use Rattle.link_laws.specs.Account.{account}
 use Rattle.link_sink.specs.Grammar.{link_grammar}
 use Rattle.link_sink.specs.Sinks.{Fed}
@@ -35,16 +33,7 @@ passes t s y tapped (inr short) =
 -- columns of the first bits of lanes that have no more
 front_is : (t : TappedStream) (s : LineSlip) (y : Fed) (d e f start : ℕ) → front_of start y ≡ y → FirstAccounted t.periods t.sent t.received t.offset t.skews y s.lane s.place start d e f
     → IsAccountedBefore t s y d e f
-front_is t s y d e f start whole reported =
-    let columns : aligned_columns (take start y.blue) (take start y.green) (take start y.red) d e f ≡ aligned_columns y.blue y.green y.red d e f =
-    ap (λ (z : Fed). aligned_columns z.blue z.green z.red d e f) whole in
-    record {
-      a = reported.a;
-      ends = reported.ends;
-      begins = reported.begins;
-      reported = λ m early within.
-          sym (ap (λ cs. heard (take m cs)) columns) ∙ reported.reported m early (subst (λ cs. m ≤ length cs) (sym columns) within);
-    }
+front_is t s y d e f start whole reported = grind arith
 
 as_one : (t : TappedStream) (s : LineSlip) (y : Fed) → IsSlippedTap t s y → IsUnnoticed t s → (o : RunOutcome) (status : ℕ) (old new : Option (List ℕ))
     → TracksCapture t.bytes o → o.status ≡ status → Appends old new o.output → IsTrackedAsOne t s y status old new

@@ -21,9 +21,8 @@ use Rattle.track_laws.proofs.Noticed.{second_epoch, slip_noticed}
 use Rattle.track_laws.proofs.Before.{first_epoch}
 use Rattle.hdmi_cli.specs.Endings.{Devices, RunEnds, Unless, status_of}
 use Rattle.hdmi_cli.specs.Headline.{TappedStream}
-use Rattle.hdmi_cli.specs.Outcome.{RunOutcome, TracksLanes, TracksCapture, status_with}
+use Rattle.hdmi_cli.specs.Outcome.{RunOutcome, TracksLanes, TracksCapture}
 use Rattle.hdmi_cli.specs.TrackSlip.{LineSlip, lanes_of, IsSlippedTap, IsNoticed, track_events_across, IsTrackedAcross}
-use Rattle.hdmi_cli.specs.TrackText.{track_faults, track_text}
 use Rattle.hdmi_cli.specs.declared.ending.Ending.{Ending}
 use Rattle.hdmi_cli.proofs.Headline.{aligned_same, run_ended}
 use Rattle.hdmi_cli.proofs.TrackHeadline.{epoch_reported}
@@ -45,17 +44,7 @@ reported_twice begun z y n m track_events (last_epoch _ _ _ o events none report
 reported_twice begun z y n m track_events (more_epochs _ _ _ o events l p n1 m1 rest found reported track) lane start end no_end =
     let e = one_end y l lane p start found end in
     let moved : IsTracked (begun || o.aligned) (z + start) (rest_of start y) n1 m1 rest = subst (λ q. IsTracked (begun || o.aligned) (z + q) (rest_of q y) n1 m1 rest) e.1 track in
-    let second = epoch_reported (begun || o.aligned) (z + start) (rest_of start y) n1 m1 rest moved no_end in
-    record {
-      one = o;
-      two = second.outcome;
-      first = events;
-      second = second.events;
-      first_reported = subst (λ q. AreReported (take q y.blue) (take q y.green) (take q y.red) o events) e.1 reported;
-      second_reported = second.reported;
-      aligned_is = ap (λ k. one_if o.aligned + k) second.aligned_is;
-      track_events_are = λ i. track_events_of events ++ (slip_if (begun || o.aligned) (e.0 i) (z + (e.1 i)) ++ (second.track_events_are i));
-    }
+    grind (arith, epoch_reported)
 
 -- of a whole capture
 twice_whole : (y : Fed) (lane start aligned : ℕ) (track_events : List TrackEvent) (h : IsTwice false 0 y lane start aligned track_events) → track_events ≡ track_events_across h.one.aligned h.first lane start h.second
@@ -71,15 +60,11 @@ reported_at false xs ys zs columns events d e f reported first = absurd (reporte
 
 both_or : (a b : Bool) → (a || b) ≡ true → one_if a + one_if b ≡ 0 → ⊥
 unfolding one_if
-both_or true b h e = omega (arith, e)
-both_or false true h e = omega (arith, e)
-both_or false false h e = cc
+both_or a b h k = grind arith
 
 neither : (a b : Bool) → (a || b) ≡ false → 0 < one_if a + one_if b → ⊥
 unfolding one_if
-neither true b h lt = cc
-neither false true h lt = cc
-neither false false h lt = omega (arith, lt)
+neither a b h k = grind arith
 
 across : (t : TappedStream) (s : LineSlip) (y : Fed) → IsSlippedTap t s y → IsNoticed t s → (o : RunOutcome) (status : ℕ) (old new : Option (List ℕ))
     → TracksLanes y o → o.status ≡ status → Appends old new o.output → IsTrackedAcross t s y status old new
@@ -106,20 +91,8 @@ across t s y tapped noticed o status old new (epochs, aligned, track_events, tra
       second_is = λ d e f first.
           let is = law.4 d e f first in
           (is.0, is.1.ends, is.2, reported_at h.two.aligned (drop start y.blue) (drop start y.green) (drop start y.red) h.two.columns h.second d e f h.second_reported first ∙ is.1.reported);
-      aligned = λ some. elim outcome [
-        | inl listed ↦ (
-          sym status_is ∙ ap (λ (p : RunOutcome). p.status) listed.1 ∙ ap (λ es. status_with (track_faults es)) same,
-          subst (λ out. Appends old new out) (ap (λ (p : RunOutcome). p.output) listed.1 ∙ ap track_text same) written,
-        )
-        | inr none ↦ absurd (both_or h.one.aligned h.two.aligned some (sym few ∙ none.0))
-      ];
-      unaligned = λ none. elim outcome [
-        | inl listed ↦ absurd (neither h.one.aligned h.two.aligned none (subst (λ k. 0 < k) few listed.0))
-        | inr other ↦ (
-          sym status_is ∙ ap (λ (p : RunOutcome). p.status) other.1,
-          subst (λ out. Appends old new out) (ap (λ (p : RunOutcome). p.output) other.1) written,
-        )
-      ];
+      aligned = grind (arith, both_or);
+      unaligned = grind (arith, neither);
     }
 
 of_capture : (t : TappedStream) (s : LineSlip) (y : Fed) → IsSlippedTap t s y → IsNoticed t s → (o : RunOutcome) (status : ℕ) (old new : Option (List ℕ))

@@ -1,5 +1,5 @@
 -- How `recover track` ends, from how the capture was followed.
-use Rattle.std.proofs.Common.{◌≡◌, ◌⊎◌, ℕ, zero, suc, ◌+◌, ◌<◌, ◌≤◌, Bool, true, false, ◌||◌, List, [], ◌∷◌, ◌++◌, length, take, refl, ap, sym, ◌∙◌, subst, inl, inr, arith, append_assoc, length-append}
+use Rattle.std.proofs.Common.{◌≡◌, ◌⊎◌, ℕ, zero, suc, ◌+◌, ◌<◌, ◌≤◌, Bool, false, ◌||◌, List, [], ◌∷◌, ◌++◌, length, take, refl, ap, sym, ◌∙◌, subst, inl, inr, arith, append_assoc, length-append}
 use Rattle.std.specs.Prelude.{Option, Some, Result, Ok, Err, OnOk, OnErr, codes}
 use Rattle.std.specs.Io.KnownBytes.{Appends, Consumes, IsAtEnd}
 use Rattle.std.proofs.KnownBytes.{Appends-trans}
@@ -34,8 +34,7 @@ use Rattle.hdmi_cli.proofs.Listings.{kept_nothing, shorter, front_of}
 
 one_of : (b : Bool) → one_if b ≡ 0 → b ≡ false
 unfolding one_if
-one_of true is = absurd (omega (arith, is))
-one_of false is = refl
+one_of b h = grind arith
 
 first_zero : (n m : ℕ) → n + m ≡ 0 → (n ≡ 0) × (m ≡ 0)
 first_zero n m is = (omega (arith, is), omega (arith, is))
@@ -192,25 +191,11 @@ short_ends tracked lost held faults left rest reads read_faults old new (Bad fau
     written = writes.grows old new h.track_events h.heard;
   },
 )
-short_ends tracked lost held faults left rest reads read_faults old new Read writes short cause = (
-  cause,
-  record {
-    read = short.read;
-    consumed = short.consumed;
-    fed = short.fed;
-    are = short.are_read;
-    track_events = short.heard.track_events;
-    reported = short.heard.reported;
-    written = writes.grows old new short.heard.track_events short.heard.heard;
-  },
-)
+short_ends tracked lost held faults left rest reads read_faults old new Read writes short cause = grind arith
 short_ends tracked lost held faults left rest reads read_faults old new Ear writes short cause =
     (cause, untaken_part tracked lost held faults left rest reads read_faults old new writes short)
 
 -- what taking and losing keep is kept there
 pub kept_short : {A G : Type 0} (tracked : A → A → List TrackEvent → Type 0) (lost : A → A → TrackEvent → Type 0) (name : A → G) → ((x y : A) (h : List TrackEvent) → tracked x y h → name y ≡ name x) → ((x y : A) (e : TrackEvent) → lost x y e → name y ≡ name x)
     → (left rest : Option (List ℕ)) (old new : A) (e : HearError) → StopsOn tracked lost left rest old new e → name new ≡ name old
-kept_short tracked lost name by_tracked by_lost left rest old new (Bad fault) short = by_tracked old new short.0.1.track_events short.0.1.heard
-kept_short tracked lost name by_tracked by_lost left rest old new Read short = by_tracked old new short.heard.track_events short.heard.heard
-kept_short tracked lost name by_tracked by_lost left rest old new Ear short =
-    let s = short.stops in by_lost s.between new s.next s.lost_then ∙ by_tracked old s.between s.taken s.took_some
+kept_short tracked lost name h k l m p q r s = grind arith

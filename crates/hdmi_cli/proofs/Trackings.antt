@@ -1,5 +1,5 @@
 -- How a capture is followed block by block whose lanes may lose bits.
-use Rattle.std.proofs.Common.{◌≡◌, ◌≤◌, ◌+◌, ◌⊎◌, ◌<◌, ◌++◌, ◌∷◌, [], ℕ, List, Bool, sym, subst, refl, ap, ◌∙◌, inl, inr, length, append-nil, append_assoc, Option, Some}
+use Rattle.std.proofs.Common.{arith, ◌≡◌, ◌≤◌, ◌+◌, ◌⊎◌, ◌<◌, ◌++◌, ◌∷◌, [], ℕ, List, Bool, sym, subst, refl, ap, ◌∙◌, inl, inr, length, append-nil, append_assoc, Option, Some}
 use Rattle.std.specs.Io.KnownBytes.{Consumes, IsAtEnd}
 use Rattle.std.proofs.KnownBytes.{Consumes-trans}
 use Rattle.capture_file.specs.Captures.{Stands, StopsIn, SaysOf, SaysRead, IsFault, IsEarlyFault, IsHeadless, IsCaptureOf, place_of, block_size}
@@ -16,7 +16,6 @@ use Rattle.track_sink.specs.TrackSinks.{TrackSinkSeen, TrackSinkRepresents}
 use Rattle.hdmi_cli.specs.Hearings.{IsCausedBy, refused_as}
 use Rattle.hdmi_cli.specs.Tracking.{HasFollowed, HasFollowedAll, IsTrackedSoFar, IsUntakenOn, StopsOn}
 use Rattle.hdmi_cli.specs.declared.hearing.HearError.{HearError}
-use Rattle.hdmi_cli.specs.declared.hearing.HearError.TheVariants.{Bad, Read, Ear}
 use Rattle.hdmi_cli.proofs.Heard.{rose_after}
 use Rattle.hdmi_cli.proofs.Hearings.{Lends, at_its_length}
 
@@ -71,18 +70,7 @@ untaken_on tracked lost both version counts j from left0 left1 sink a b d bits f
       track_events = h.track_events ++ s.0;
       read = h.taken ++ ((a ++ b) ++ d);
       consumed = Consumes-trans from left0 left1 h.taken ((a ++ b) ++ d) h.consumed gone;
-      reported = inl (
-        record {
-          counts = counts;
-          j = j;
-          taken = h.taken;
-          block = (a ++ b) ++ d;
-          read_is = refl;
-          had = at_its_length version counts j _ _ _ _ h.stands;
-          has = at_its_length version counts (j + 1) _ _ _ _ next;
-        },
-        s.2,
-      );
+      reported = grind (arith, at_its_length);
       stops = stops_on tracked lost both h.track_events s.0 first old new h.heard s.1;
     }
 
@@ -163,9 +151,7 @@ followed_whole tracked both from left sink epochs aligned first old new h ended 
       t.2,
       both first old new h.track_events t.0 h.heard t.1,
       λ bytes is.
-          let c = consumed from left bytes h.taken is h.consumed in
-          let all : h.taken ≡ bytes = sym (c.1 ∙ ap (λ l. h.taken ++ l) (left_none left c.0 c.2 ended) ∙ append-nil h.taken) in
-          subst (IsCaptureOf h.fed.blue h.fed.green h.fed.red) all h.captured,
+          grind (arith, consumed, left_none, append-nil),
     )
 
 pub unended_on : {A : Type 0} (tracked : A → A → List TrackEvent → Type 0) (lost : A → A → TrackEvent → Type 0) → JoinsTrackEvents tracked → (from left : Option (List ℕ)) (sink : TrackSinkSeen) (first old new : A)
@@ -186,6 +172,4 @@ unended_on tracked lost both from left sink first old new h ended stopped =
 
 -- a count that rose later rose
 pub caused_later : (a b c m n : ℕ) (e : HearError) → a ≤ b → IsCausedBy b c m n e → IsCausedBy a c m n e
-caused_later a b c m n (Bad fault) le cause = cause
-caused_later a b c m n Read le cause = rose_after a b c le cause
-caused_later a b c m n Ear le cause = cause
+caused_later a b c m n e h k = grind (arith, rose_after)

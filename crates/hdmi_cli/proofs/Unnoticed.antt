@@ -313,9 +313,7 @@ short_edges words marks from many place dropped s lock is_lock before none e =
     )
 
 lane_front : (n : ℕ) (y : Fed) (l : ℕ) → front_of n y ≡ y → take n (lane_of y l) ≡ lane_of y l
-lane_front n y zero whole = ap (λ (z : Fed). z.blue) whole
-lane_front n y (suc zero) whole = ap (λ (z : Fed). z.green) whole
-lane_front n y (suc (suc l)) whole = ap (λ (z : Fed). z.red) whole
+lane_front n y l h = grind arith
 
 -- the first bits of three lanes are all of them where there are no more
 front_whole : (n : ℕ) (y : Fed) → length y.blue ≤ n → length y.green ≤ n → length y.red ≤ n → front_of n y ≡ y

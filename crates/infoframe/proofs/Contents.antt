@@ -49,85 +49,35 @@ bars_after (p ∷ (q ∷ (r ∷ (s ∷ [])))) b1 b2 b3 b4 b5 long below =
 -- what is written has the fields
 pub avi_of_bytes : (x : Avi) → AviBounds x → length x.bars ≡ 4 → ((k : ℕ) → get_or x.bars k 0 < 65536) → avi_of (avi_bytes x 0 0 0) ≡ x
 unfolding avi_of avi_table avi_bytes
-avi_of_bytes x h long below =
-    let xs = avi_bytes x 0 0 0 in
-    let e_s : field xs 1 0 1 ≡ x.s = field_in_byte xs 1 0 1 (omega arith) (omega arith) (omega arith) ∙ (omega arith) in
-    let e_b : field xs 1 2 3 ≡ x.b = field_in_byte xs 1 2 3 (omega arith) (omega arith) (omega arith) ∙ (omega arith) in
-    let e_a : field xs 1 4 4 ≡ x.a = field_in_byte xs 1 4 4 (omega arith) (omega arith) (omega arith) ∙ (omega arith) in
-    let e_y : field xs 1 5 6 ≡ x.y = field_in_byte xs 1 5 6 (omega arith) (omega arith) (omega arith) ∙ (omega arith) in
-    let e_r : field xs 2 0 3 ≡ x.r = field_in_byte xs 2 0 3 (omega arith) (omega arith) (omega arith) ∙ (omega arith) in
-    let e_m : field xs 2 4 5 ≡ x.m = field_in_byte xs 2 4 5 (omega arith) (omega arith) (omega arith) ∙ (omega arith) in
-    let e_c : field xs 2 6 7 ≡ x.c = field_in_byte xs 2 6 7 (omega arith) (omega arith) (omega arith) ∙ (omega arith) in
-    let e_sc : field xs 3 0 1 ≡ x.sc = field_in_byte xs 3 0 1 (omega arith) (omega arith) (omega arith) ∙ (omega arith) in
-    let e_q : field xs 3 2 3 ≡ x.q = field_in_byte xs 3 2 3 (omega arith) (omega arith) (omega arith) ∙ (omega arith) in
-    let e_ec : field xs 3 4 6 ≡ x.ec = field_in_byte xs 3 4 6 (omega arith) (omega arith) (omega arith) ∙ (omega arith) in
-    let e_itc : field xs 3 7 7 ≡ x.itc = field_in_byte xs 3 7 7 (omega arith) (omega arith) (omega arith) ∙ (omega arith) in
-    let e_vic : field xs 4 0 6 ≡ x.vic = field_in_byte xs 4 0 6 (omega arith) (omega arith) (omega arith) ∙ (omega arith) in
-    let e_pr : field xs 5 0 3 ≡ x.pr = field_in_byte xs 5 0 3 (omega arith) (omega arith) (omega arith) ∙ (omega arith) in
-    let e_bars = bars_after x.bars (x.s + 4 * x.b + 16 * x.a + 32 * x.y + 128 * 0) (x.r + 16 * x.m + 64 * x.c) (x.sc + 4 * x.q + 16 * x.ec + 128 * x.itc) (x.vic + 128 * 0) (x.pr + 16 * 0) long below in
-    λ i. record { s = e_s i; b = e_b i; a = e_a i; y = e_y i; r = e_r i; m = e_m i; c = e_c i; sc = e_sc i; q = e_q i; ec = e_ec i; itc = e_itc i; vic = e_vic i; pr = e_pr i; bars = e_bars i }
+avi_of_bytes x h long below = grind (arith, field_in_byte, bars_after)
 
 -- and no other bits
 pub avi_free : (x : Avi) → AviBounds x → avi_reserved (field (avi_bytes x 0 0 0)) ≡ 0 ∷ 0 ∷ 0 ∷ []
 unfolding avi_reserved avi_bytes
-avi_free x h =
-    let xs = avi_bytes x 0 0 0 in
-    let e1 : field xs 1 7 7 ≡ 0 = field_in_byte xs 1 7 7 (omega arith) (omega arith) (omega arith) ∙ (omega arith) in
-    let e4 : field xs 4 7 7 ≡ 0 = field_in_byte xs 4 7 7 (omega arith) (omega arith) (omega arith) ∙ (omega arith) in
-    let e5 : field xs 5 4 7 ≡ 0 = field_in_byte xs 5 4 7 (omega arith) (omega arith) (omega arith) ∙ (omega arith) in
-    λ i. e1 i ∷ e4 i ∷ e5 i ∷ []
+avi_free x h = grind (arith, field_in_byte)
 
 abbrev pub five_zeros : List ℕ
 five_zeros = 0 ∷ 0 ∷ 0 ∷ 0 ∷ 0 ∷ []
 
 pub audio_of_bytes : (x : AudioInfo) → AudioBounds x → x.ca < 256 → audio_of (audio_bytes x 0 0 0 0 five_zeros) ≡ x
 unfolding audio_of audio_table audio_bytes
-audio_of_bytes x h below =
-    let xs = audio_bytes x 0 0 0 0 five_zeros in
-    let e_cc : field xs 1 0 2 ≡ x.cc = field_in_byte xs 1 0 2 (omega arith) (omega arith) (omega arith) ∙ (omega arith) in
-    let e_ct : field xs 1 4 7 ≡ x.ct = field_in_byte xs 1 4 7 (omega arith) (omega arith) (omega arith) ∙ (omega arith) in
-    let e_ss : field xs 2 0 1 ≡ x.ss = field_in_byte xs 2 0 1 (omega arith) (omega arith) (omega arith) ∙ (omega arith) in
-    let e_sf : field xs 2 2 4 ≡ x.sf = field_in_byte xs 2 2 4 (omega arith) (omega arith) (omega arith) ∙ (omega arith) in
-    let e_ca : field xs 4 0 7 ≡ x.ca = field_whole xs 4 (omega arith) below in
-    let e_lsv : field xs 5 3 6 ≡ x.lsv = field_in_byte xs 5 3 6 (omega arith) (omega arith) (omega arith) ∙ (omega arith) in
-    let e_dm : field xs 5 7 7 ≡ x.dm = field_in_byte xs 5 7 7 (omega arith) (omega arith) (omega arith) ∙ (omega arith) in
-    λ i. record { cc = e_cc i; ct = e_ct i; ss = e_ss i; sf = e_sf i; ca = e_ca i; lsv = e_lsv i; dm = e_dm i }
+audio_of_bytes x h below = grind (arith, field_in_byte, field_whole)
 
 pub audio_free : (x : AudioInfo) → AudioBounds x → audio_reserved (field (audio_bytes x 0 0 0 0 five_zeros)) ≡ 0 ∷ 0 ∷ 0 ∷ 0 ∷ 0 ∷ 0 ∷ 0 ∷ 0 ∷ 0 ∷ []
 unfolding audio_reserved audio_bytes
-audio_free x h =
-    let xs = audio_bytes x 0 0 0 0 five_zeros in
-    let e0 : field xs 1 3 3 ≡ 0 = field_in_byte xs 1 3 3 (omega arith) (omega arith) (omega arith) ∙ (omega arith) in
-    let e1 : field xs 2 5 7 ≡ 0 = field_in_byte xs 2 5 7 (omega arith) (omega arith) (omega arith) ∙ (omega arith) in
-    let e2 : field xs 3 0 7 ≡ 0 = field_whole xs 3 (omega arith) (omega arith) in
-    let e3 : field xs 5 0 2 ≡ 0 = field_in_byte xs 5 0 2 (omega arith) (omega arith) (omega arith) ∙ (omega arith) in
-    let e4 : field xs 6 0 7 ≡ 0 = field_whole xs 6 (omega arith) (omega arith) in
-    let e5 : field xs 7 0 7 ≡ 0 = field_whole xs 7 (omega arith) (omega arith) in
-    let e6 : field xs 8 0 7 ≡ 0 = field_whole xs 8 (omega arith) (omega arith) in
-    let e7 : field xs 9 0 7 ≡ 0 = field_whole xs 9 (omega arith) (omega arith) in
-    let e8 : field xs 10 0 7 ≡ 0 = field_whole xs 10 (omega arith) (omega arith) in
-    λ i. e0 i ∷ e1 i ∷ e2 i ∷ e3 i ∷ e4 i ∷ e5 i ∷ e6 i ∷ e7 i ∷ e8 i ∷ []
-
-more : (n m : ℕ) → n ≡ n + m * 0
-more n m = omega arith
+audio_free x h = grind (arith, field_in_byte, field_whole)
 
 -- the bytes with no reserved bit set
 pub avi_plain : (x : Avi) (bars : List ℕ) → bars ≡ bar_bytes x.bars
     → (x.s + 4 * x.b + 16 * x.a + 32 * x.y) ∷ (x.r + 16 * x.m + 64 * x.c) ∷ (x.sc + 4 * x.q + 16 * x.ec + 128 * x.itc) ∷ x.vic ∷ x.pr ∷ bars
     ≡ avi_bytes x 0 0 0
 unfolding avi_bytes
-avi_plain x bars e = λ i.
-    more (x.s + 4 * x.b + 16 * x.a + 32 * x.y) 128 i ∷ (x.r + 16 * x.m + 64 * x.c) ∷ (x.sc + 4 * x.q + 16 * x.ec + 128 * x.itc)
-    ∷ more x.vic 128 i ∷ more x.pr 16 i ∷ e i
+avi_plain x bars e = grind arith
 
 pub audio_plain : (x : AudioInfo)
     → (x.cc + 16 * x.ct) ∷ (x.ss + 4 * x.sf) ∷ 0 ∷ x.ca ∷ (8 * x.lsv + 128 * x.dm) ∷ five_zeros ≡ audio_bytes x 0 0 0 0 five_zeros
 unfolding audio_bytes
-audio_plain x =
-    let first : x.cc + 16 * x.ct ≡ x.cc + 8 * 0 + 16 * x.ct = omega arith in
-    let second : x.ss + 4 * x.sf ≡ x.ss + 4 * x.sf + 32 * 0 = omega arith in
-    let fifth : 8 * x.lsv + 128 * x.dm ≡ 0 + 8 * x.lsv + 128 * x.dm = omega arith in
-    λ i. first i ∷ second i ∷ 0 ∷ x.ca ∷ fifth i ∷ five_zeros
+audio_plain x = grind arith
 
 -- bytes from their parts
 avi_byte_1 : (x : ℕ) → x < 256 → x ≡ x / 2 ^ 0 % 2 ^ 2 + 4 * (x / 2 ^ 2 % 2 ^ 2) + 16 * (x / 2 ^ 4 % 2 ^ 1) + 32 * (x / 2 ^ 5 % 2 ^ 2) + 128 * (x / 2 ^ 7 % 2 ^ 1)

@@ -30,16 +30,7 @@ abbrev pub five : List ℕ
 five = 0 ∷ 1 ∷ 2 ∷ 3 ∷ 4 ∷ []
 
 pub first_of_five : (f : ℕ → Bool) (b : ℕ) → b < 5 → ((k : ℕ) → k < b → f k ≡ false) → f b ≡ true → find f five ≡ Some b
-first_of_five f zero lt none here = found f 0 (1 ∷ 2 ∷ 3 ∷ 4 ∷ []) here
-first_of_five f (suc zero) lt none here = passed_over f 0 (1 ∷ 2 ∷ 3 ∷ 4 ∷ []) (none 0 (omega arith)) ∙ found f 1 (2 ∷ 3 ∷ 4 ∷ []) here
-first_of_five f (suc (suc zero)) lt none here =
-    passed_over f 0 (1 ∷ 2 ∷ 3 ∷ 4 ∷ []) (none 0 (omega arith)) ∙ passed_over f 1 (2 ∷ 3 ∷ 4 ∷ []) (none 1 (omega arith)) ∙ found f 2 (3 ∷ 4 ∷ []) here
-first_of_five f (suc (suc (suc zero))) lt none here =
-    passed_over f 0 (1 ∷ 2 ∷ 3 ∷ 4 ∷ []) (none 0 (omega arith)) ∙ passed_over f 1 (2 ∷ 3 ∷ 4 ∷ []) (none 1 (omega arith)) ∙ passed_over f 2 (3 ∷ 4 ∷ []) (none 2 (omega arith)) ∙ found f 3 (4 ∷ []) here
-first_of_five f (suc (suc (suc (suc zero)))) lt none here =
-    passed_over f 0 (1 ∷ 2 ∷ 3 ∷ 4 ∷ []) (none 0 (omega arith)) ∙ passed_over f 1 (2 ∷ 3 ∷ 4 ∷ []) (none 1 (omega arith)) ∙ passed_over f 2 (3 ∷ 4 ∷ []) (none 2 (omega arith))
-    ∙ passed_over f 3 (4 ∷ []) (none 3 (omega arith)) ∙ found f 4 [] here
-first_of_five f (suc (suc (suc (suc (suc b))))) lt none here = absurd (omega arith)
+first_of_five f b h k l = grind (arith, found, passed_over)
 
 pub none_of_five : (f : ℕ → Bool) → ((k : ℕ) → k < 5 → f k ≡ false) → find f five ≡ None
 none_of_five f none =
@@ -51,8 +42,7 @@ pub all_from_places : (xs : List ℕ) (P : ℕ → Type 0) → ((k : ℕ) → k 
 all_from_places xs P h = λ k d lt. subst P (sym (get_or_default_zero xs k d lt)) (h k lt)
 
 take_none : (n : ℕ) → take {A = ℕ} n [] ≡ []
-take_none zero = refl
-take_none (suc n) = refl
+take_none n = grind arith
 
 -- a part, without its first item
 pub after_first : (xs : List ℕ) (n : ℕ) → take (length (take (n + 1) xs) - 1) (drop 1 (take (n + 1) xs)) ≡ take n (drop 1 xs)

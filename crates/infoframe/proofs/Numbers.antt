@@ -30,25 +30,15 @@ field_in_byte xs byte first last inside order below =
     ap (λ m. m / 2 ^ first % 2 ^ (last + 1 - first)) (number_from xs (byte - 1) inside)
     ∙ low_byte (get_or xs (byte - 1) 0) (number_of (drop (suc (byte - 1)) xs)) first (last + 1 - first) (omega arith)
 
-two_bytes : (b c r : ℕ) → b < 256 → c < 256 → (b + 256 * (c + 256 * r)) / 2 ^ 0 % 2 ^ 16 ≡ b + 256 * c
-two_bytes b c r lb lc = omega arith
-
 -- a field of two bytes
 pub field_of_two : (xs : List ℕ) (byte : ℕ) → suc (byte - 1) < length xs → get_or xs (byte - 1) 0 < 256 → get_or xs (suc (byte - 1)) 0 < 256
     → field xs byte 0 15 ≡ get_or xs (byte - 1) 0 + 256 * get_or xs (suc (byte - 1)) 0
 unfolding field
-field_of_two xs byte inside lb lc =
-    ap (λ m. m / 2 ^ 0 % 2 ^ 16)
-    (number_from xs (byte - 1) (omega arith) ∙ ap (λ m. get_or xs (byte - 1) 0 + 256 * m) (number_from xs (suc (byte - 1)) inside))
-    ∙ two_bytes _ _ _ lb lc
+field_of_two xs byte inside lb lc = grind (arith, number_from)
 
 -- a field that is one byte
 pub field_whole : (xs : List ℕ) (byte : ℕ) → byte - 1 < length xs → get_or xs (byte - 1) 0 < 256 → field xs byte 0 7 ≡ get_or xs (byte - 1) 0
-field_whole xs byte inside lt =
-    field_in_byte xs byte 0 7 inside (omega arith) (omega arith) ∙ one (get_or xs (byte - 1) 0) lt
-  where
-    one : (b : ℕ) → b < 256 → b / 2 ^ 0 % 2 ^ 8 ≡ b
-    one b lb = omega arith
+field_whole xs byte inside lt = grind (arith, field_in_byte)
 
 -- the mask of so many bits
 pub mask_of : (k : ℕ) → k < 8 → 255 / 2 ^ k ≡ 2 ^ (8 - k) - 1

@@ -1,12 +1,12 @@
 -- Which packets are refused, and what the length of a payload is.
-use Rattle.std.proofs.Common.{◌≡◌, ℕ, suc, zero, ◌<◌, ◌≤◌, Bool, true, false, refl, ap, ap₂, ◌∙◌, subst, arith, eqb-true}
+use Rattle.std.proofs.Common.{◌≡◌, ℕ, ◌<◌, ◌≤◌, Bool, true, false, ap, ap₂, ◌∙◌, subst, arith, eqb-true}
 use Rattle.std.specs.Prelude.{Option, Some, None, Ok, Err, slice_index}
 use Rattle.std.proofs.lemmas.Bool.{leb-true}
 use Rattle.island_pack.specs.declared.packet.Packet.{Packet}
 use Rattle.island_pack.specs.declared.packet.PacketVerdicts.{PacketVerdicts}
 use Rattle.infoframe.specs.Frames.{Frame, frame_in, length_in, sum_of, kind_of, has_length, first_lost, answer, frame_of}
 use Rattle.infoframe.specs.declared.content.InfoKind.{InfoKind}
-use Rattle.infoframe.specs.declared.content.InfoKind.TheVariants.{Avi, Audio, Spd, Raw}
+use Rattle.infoframe.specs.declared.content.InfoKind.TheVariants.{Avi, Audio, Spd}
 use Rattle.infoframe.specs.declared.content.InfoFault.TheVariants.{Lost, Length, Checksum}
 
 pub avi_length : (k : InfoKind) (n : ℕ) → k ≡ Avi → has_length k n ≡ true → n ≡ 13
@@ -23,10 +23,7 @@ spd_length k n e h = eqb-true n 25 (subst (λ j. has_length j n ≡ true) e h)
 
 pub length_below : (k : InfoKind) (n : ℕ) → has_length k n ≡ true → n ≤ 27
 unfolding has_length
-length_below Avi n h = let e : n ≡ 13 = eqb-true n 13 h in omega arith
-length_below Audio n h = let e : n ≡ 10 = eqb-true n 10 h in omega arith
-length_below Spd n h = let e : n ≡ 25 = eqb-true n 25 h in omega arith
-length_below Raw n h = leb-true n 27 h
+length_below k n h = grind (arith, eqb-true, leb-true)
 
 -- the layout that the header of a packet names
 abbrev pub kind_in : Packet → InfoKind
@@ -44,8 +41,7 @@ refused_length p verdicts none e = ap₂ (λ o t. answer o t (sum_of p) (frame_i
 
 refused : (n : ℕ) (f : Frame) → 0 < n → answer None true n f ≡ Err (Checksum n)
 unfolding answer
-refused zero f lt = absurd (omega arith)
-refused (suc n) f lt = refl
+refused n f h = grind arith
 
 pub refused_sum : (p : Packet) (verdicts : PacketVerdicts) (n : ℕ) → first_lost verdicts ≡ None → has_length (kind_in p) (length_in p) ≡ true
     → sum_of p ≡ n → 0 < n → frame_of p verdicts ≡ Err (Checksum n)
@@ -66,10 +62,7 @@ pub record IsRead (p : Packet) (f : Frame) : Type 0 where
 
 read_of : (o : Option ℕ) (t : Bool) (n : ℕ) (f g : Frame) → answer o t n f ≡ Ok g → (t ≡ true) × (n ≡ 0) × (f ≡ g)
 unfolding answer
-read_of (Some b) t n f g e = cc
-read_of None false n f g e = cc
-read_of None true zero f g e = (refl, refl, cc)
-read_of None true (suc n) f g e = cc
+read_of o t n f g h = grind arith
 
 pub is_read : (p : Packet) (verdicts : PacketVerdicts) (f : Frame) → frame_of p verdicts ≡ Ok f → IsRead p f
 unfolding frame_of frame_in

@@ -1,5 +1,5 @@
 -- What is written, from its header, its payload and the bytes behind it.
-use Rattle.std.proofs.Common.{◌≡◌, ℕ, suc, ◌+◌, ◌-◌, ◌/◌, ◌%◌, ◌≤◌, true, ◌==◌, List, [], ◌∷◌, ◌++◌, length, take, drop, replicate, refl, ap, ap₂, ◌∙◌, sym, subst, arith, add-one, All}
+use Rattle.std.proofs.Common.{◌≡◌, ℕ, ◌+◌, ◌-◌, ◌%◌, ◌≤◌, true, ◌==◌, List, [], ◌∷◌, ◌++◌, length, take, drop, replicate, refl, ap, ap₂, ◌∙◌, sym, subst, arith, add-one, All}
 use Rattle.std.specs.Prelude.{slice_index, sum}
 use Rattle.std.specs.List.{list_all}
 use Rattle.std.proofs.Math.Seq.{take-append_seam, drop-append_seam}
@@ -24,9 +24,7 @@ pub frame_from : (p : Packet) (type_code version : ℕ) (payload : List ℕ) →
 unfolding frame_in length_in
 frame_from p type_code version payload header bodies few =
     let long : slice_index p.header 2 % 32 ≡ length payload = ap (λ h. slice_index h 2 % 32) header ∙ omega arith in
-    let bytes : take (slice_index p.header 2 % 32) (drop 1 p.bodies) ≡ payload =
-    ap₂ take long bodies ∙ take-append_seam payload _ in
-    λ i. record { type_code = slice_index (header i) 0; version = slice_index (header i) 1; payload = bytes i }
+    grind (arith, take-append_seam)
 
 pub length_from : (p : Packet) (type_code version n : ℕ) → p.header ≡ type_code ∷ version ∷ n ∷ [] → n ≤ 27 → length_in p ≡ n
 unfolding length_in
@@ -42,22 +40,7 @@ pub written_from : (info : Info) (p : Packet) (payload : List ℕ) (zeros : ℕ)
     → reserved_of (kind_of (type_of info) (version_of info)) payload ≡ replicate zeros 0
     → IsWritten info p
 unfolding info_of reserved_in
-written_from info p payload zeros whole header long few bodies checksum says reserved =
-    let e = frame_from p (type_of info) (version_of info) payload header bodies few in
-    let n : length_in p ≡ length payload = length_from p (type_of info) (version_of info) (length payload) header few in
-    let clear : slice_index p.header 2 / 32 ≡ 0 = ap (λ h. slice_index h 2 / 32) header ∙ omega arith in
-    let rest : reserved_of (kind_of (frame_in p).type_code (frame_in p).version) (frame_in p).payload ≡ replicate zeros 0 =
-    ap (λ (f : Frame). reserved_of (kind_of f.type_code f.version) f.payload) e ∙ reserved in
-    record {
-      whole = whole;
-      header = header ∙ ap (λ m. type_of info ∷ version_of info ∷ m ∷ []) long;
-      checksum = checksum;
-      says = ap (λ (f : Frame). info_as (kind_of f.type_code f.version) f) e ∙ says;
-      reserved = all_zero _ (suc zeros) (λ i. clear i ∷ rest i);
-      after =
-          ap (λ m. drop (m + 1) p.bodies) n ∙ drop_after_first p.bodies (length payload)
-          ∙ ap (drop (length payload)) bodies ∙ drop-append_seam payload _ ∙ ap (λ m. replicate (27 - m) 0) (sym n);
-    }
+written_from info p payload zeros whole header long few bodies checksum says reserved = grind (arith, frame_from, length_from, all_zero, drop_after_first, drop-append_seam)
 
 -- the sum of a packet
 pub sum_from : (p : Packet) (type_code version sum_byte : ℕ) (payload : List ℕ) → p.header ≡ type_code ∷ version ∷ length payload ∷ []

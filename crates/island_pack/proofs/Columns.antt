@@ -1,5 +1,5 @@
 -- The nibbles of lanes, and how many words have none.
-use Rattle.std.proofs.Common.{◌≡◌, ℕ, ◌+◌, ◌<◌, Bool, true, false, not, List, [], length, take, get_or, refl, sym, subst, arith, slice_index, Option, Some, None, All}
+use Rattle.std.proofs.Common.{◌≡◌, ℕ, ◌+◌, ◌<◌, Bool, not, List, [], length, take, get_or, sym, subst, arith, slice_index, Option, All}
 use Rattle.std.specs.Prelude.{count_by, unwrap_or, IfSome}
 use Rattle.std.proofs.lemmas.List.{get_or-map, length-map}
 use Rattle.std.proofs.lemmas.List.Sums.{count_by_more_yes, count_by_more_no}
@@ -9,17 +9,14 @@ use Rattle.terc4.proofs.Entries.{value_below}
 use Rattle.island_pack.specs.Nibbles.{nibble_of, nibbles_of}
 
 pub not-not : (b : Bool) → not (not b) ≡ b
-not-not true = refl
-not-not false = refl
+not-not b = grind arith
 
 pub count_more : (p : List ℕ → Bool) (xs : List (List ℕ)) (i : ℕ) (d : List ℕ) (b : Bool) → i < length xs → p (get_or xs i d) ≡ b
     → count_by p (take (i + 1) xs) ≡ count_by p (take i xs) + bool_byte b
-count_more p xs i d true lt e = count_by_more_yes p xs i d lt e
-count_more p xs i d false lt e = let none = count_by_more_no p xs i d lt e in omega (arith, none)
+count_more p xs i d b h k = grind (arith, count_by_more_yes, count_by_more_no)
 
 zero_or_value : (o : Option ℕ) → IfSome o (λ v. v < 16) → unwrap_or o 0 < 16
-zero_or_value None h = omega arith
-zero_or_value (Some v) h = h
+zero_or_value o h = grind arith
 
 value_below_16 : (w : ℕ) → IfSome (value_in terc_words w) (λ v. v < 16)
 unfolding terc_words

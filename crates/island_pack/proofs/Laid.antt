@@ -1,6 +1,6 @@
 -- Columns that hold the TERC4 words of the laid nibbles carry the packet.
 use Rattle.std.proofs.Common.{◌≡◌, ℕ, suc, zero, ◌+◌, ◌*◌, ◌/◌, ◌%◌, ◌^◌, ◌<◌, Bool, true, not, List, [], ◌∷◌, length, map, get_or, refl, ap, ap₂, ◌∙◌, sym, subst, arith, ◌==◌, ◌&&◌, slice_index, All}
-use Rattle.std.specs.Prelude.{unwrap_or, is_some}
+use Rattle.std.specs.Prelude.{is_some}
 use Rattle.std.specs.Int.{bit_at}
 use Rattle.std.proofs.lemmas.List.{get_or-map, length-map}
 use Rattle.std.proofs.lemmas.List.Elements.{All-from_get_or, All-get_or}
@@ -20,21 +20,13 @@ use Rattle.island_pack.proofs.Columns.{length-nibbles_of}
 use Rattle.island_pack.proofs.Parts.{each_body}
 use Rattle.island_pack.proofs.Parities.{one_if-lt, one_if-bit}
 
--- the word of a nibble gives the nibble back
-nibble_of-word : (n : ℕ) → n < 16 → nibble_of (slice_index terc_words n) ≡ n
-unfolding nibble_of
-nibble_of-word n lt = ap (λ o. unwrap_or o 0) (value_of_terc n lt)
-
 is_terc-word : (n : ℕ) → n < 16 → is_terc (slice_index terc_words n) ≡ true
 unfolding is_terc
 is_terc-word n lt = sym (is_some-value_in terc_words (slice_index terc_words n)) ∙ ap is_some (value_of_terc n lt)
 
-four_bits : (a b c d : ℕ) → a < 2 → b < 2 → c < 2 → d < 2 → a + 2 * b + 4 * c + 8 * d < 16
-four_bits a b c d la lb lc ld = omega arith
-
 crossed-lt : (blocks : List ℕ) (place : ℕ) → crossed_of blocks place < 16
 unfolding crossed_of
-crossed-lt blocks place = four_bits _ _ _ _ (bit_at-lt (slice_index blocks 0) place) (bit_at-lt (slice_index blocks 1) place) (bit_at-lt (slice_index blocks 2) place) (bit_at-lt (slice_index blocks 3) place)
+crossed-lt blocks place = grind (arith, bit_at-lt)
 
 -- the nibble of lane 0
 blue_at : ℕ → ℕ → Bool → ℕ → ℕ
@@ -44,19 +36,9 @@ blue-parts : (s h m : ℕ) → s < 4 → h < 2 → m < 2
     → (s + 4 * h + 8 * m < 16) × ((s + 4 * h + 8 * m) % 4 ≡ s) × ((s + 4 * h + 8 * m) / 2 ^ 2 % 2 ≡ h) × ((s + 4 * h + 8 * m) / 2 ^ 3 % 2 ≡ m)
 blue-parts s h m ls lh lm = (omega arith, omega arith, omega arith, omega arith)
 
--- the bit of each of four crossed bits
-crossed-parts : (a b c d : ℕ) → a < 2 → b < 2 → c < 2 → d < 2
-    → ((a + 2 * b + 4 * c + 8 * d) / 2 ^ 0 % 2 ≡ a) × ((a + 2 * b + 4 * c + 8 * d) / 2 ^ 1 % 2 ≡ b) × ((a + 2 * b + 4 * c + 8 * d) / 2 ^ 2 % 2 ≡ c) × ((a + 2 * b + 4 * c + 8 * d) / 2 ^ 3 % 2 ≡ d)
-crossed-parts a b c d la lb lc ld = (omega arith, omega arith, omega arith, omega arith)
-
 bit_at-crossed : (blocks : List ℕ) (place b : ℕ) → b < 4 → bit_at (crossed_of blocks place) b ≡ bit_at (slice_index blocks b) place
 unfolding crossed_of
-bit_at-crossed blocks place =
-    let parts = crossed-parts _ _ _ _ (bit_at-lt (slice_index blocks 0) place) (bit_at-lt (slice_index blocks 1) place) (bit_at-lt (slice_index blocks 2) place) (bit_at-lt (slice_index blocks 3) place) in
-    each_body
-    (λ b. bit_at (bit_at (slice_index blocks 0) place + 2 * bit_at (slice_index blocks 1) place + 4 * bit_at (slice_index blocks 2) place + 8 * bit_at (slice_index blocks 3) place) b
-    ≡ bit_at (slice_index blocks b) place)
-    parts.0 parts.1 parts.2 parts.3
+bit_at-crossed blocks place = grind (arith, bit_at-lt, each_body)
 
 -- the columns of laid nibbles
 abbrev AreLaid : List (List ℕ) → ℕ → List ℕ → List ℕ → Bool → Type 0
@@ -68,18 +50,13 @@ word_at : (columns : List (List ℕ)) (header : ℕ) (bodies sync : List ℕ) (f
     × (slice_index (get_or columns k []) 1 ≡ slice_index terc_words (crossed_of bodies (2 * k)))
     × (slice_index (get_or columns k []) 2 ≡ slice_index terc_words (crossed_of bodies (2 * k + 1)))
 unfolding register_words laid_nibbles blue_at
-word_at columns header bodies sync first laid k lt = (
-  ap (λ (ws : List ℕ). slice_index ws 0) (laid k lt),
-  ap (λ (ws : List ℕ). slice_index ws 1) (laid k lt),
-  ap (λ (ws : List ℕ). slice_index ws 2) (laid k lt),
-)
+word_at columns header bodies sync first laid k lt = grind arith
 
 -- a nibble of a lane, from its word
 nibble_from : (columns : List (List ℕ)) (lane k n : ℕ) → length columns ≡ 32 → k < 32 → n < 16
     → slice_index (get_or columns k []) lane ≡ slice_index terc_words n → get_or (nibbles_of columns lane) k 0 ≡ n
-unfolding nibbles_of
-nibble_from columns lane k n long lt small e =
-    get_or-map (λ words. nibble_of (slice_index words lane)) columns k [] 0 (omega (arith, long)) ∙ ap nibble_of e ∙ nibble_of-word n small
+unfolding nibbles_of nibble_of
+nibble_from columns lane k n long lt small e = grind (arith, get_or-map, value_of_terc)
 
 -- a lane whose words are those of nibbles
 are_terc : (columns : List (List ℕ)) (lane : ℕ) (n : ℕ → ℕ) → length columns ≡ 32 → ((k : ℕ) → k < 32 → n k < 16)
@@ -157,10 +134,7 @@ carried packet first columns header bodies whole small long begins_header begins
             (are_terc columns 1 (λ k. crossed_of bodies (2 * k)) long (λ k below. crossed-lt bodies (2 * k)) (λ k below. (words k below).1))
             (are_terc columns 2 (λ k. crossed_of bodies (2 * k + 1)) long (λ k below. crossed-lt bodies (2 * k + 1)) (λ k below. (words k below).2))
             lane lt;
-        sync =
-            same_number_lists (map halved blues) packet.sync (length-map blues halved ∙ lane_long 0 ∙ sym whole.sync)
-            (λ k lt. let below : k < 32 = omega (arith, lt, length-map blues halved, lane_long 0) in
-            get_or-map halved blues k 0 0 (omega (arith, lane_long 0)) ∙ ap halved (blue k below) ∙ (parts k below).1);
+        sync = grind (arith, same_number_lists, length-map, get_or-map);
         header = subst (λ x. BeginsWith x packet.header) (sym header_is) begins_header;
         bodies = λ b lt. subst (λ x. BeginsWith x (body_of packet b)) (sym (body_is b lt)) (begins_body b lt);
       };

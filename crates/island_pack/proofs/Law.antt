@@ -87,16 +87,9 @@ none_foreign lane (c ∷ cs) h =
     sum_by-append (λ x. cond (is_foreign lane x) 1 0) (c ∷ []) cs
     ∙ ap₂ (λ b n. (0 + cond (not b) 1 0) + n) (h 0 (omega arith)) (none_foreign lane cs (λ k lt. h (suc k) (omega arith)))
 
-none_of_lane : (lane : ℕ) (columns : List (List ℕ)) → AreTerc columns lane → foreign_on columns lane ≡ 0
-none_of_lane lane columns terc =
-    none_foreign lane columns (λ k lt. All-get_or (λ words. is_terc (slice_index words lane) ≡ true) columns k [] lt terc)
-
 none_of_columns : (columns : List (List ℕ)) → ((lane : ℕ) → lane < 3 → AreTerc columns lane) → foreign_words columns ≡ 0
 unfolding foreign_words
-none_of_columns columns terc =
-    ap₂ (λ a b. a + b)
-    (ap₂ (λ a b. a + b) (none_of_lane 0 columns (terc 0 (omega arith))) (none_of_lane 1 columns (terc 1 (omega arith))))
-    (none_of_lane 2 columns (terc 2 (omega arith)))
+none_of_columns columns terc = grind (arith, none_foreign, All-get_or)
 
 pub carried_is_taken : CarriedIsTaken
 carried_is_taken packet taken verdicts columns f t =
@@ -113,8 +106,4 @@ carried_is_taken packet taken verdicts columns f t =
     (same_bodies packet taken f.whole.bodies t.whole.bodies
     (λ b lt. bits_taken (body_bits columns b) (body_of packet b) (body_of taken b) 7 _ (length-body_of packet f.whole.bodies b lt) (length-body_of taken t.whole.bodies b lt) (f.bodies b lt) (t.bodies b lt) (body_clean b lt))) in
     let same_sync : taken.sync ≡ packet.sync = t.sync ∙ f.sync in
-    let same_blocks = five verdicts.blocks t.blocks (body_clean 0 (omega arith)) (body_clean 1 (omega arith)) (body_clean 2 (omega arith)) (body_clean 3 (omega arith)) header_clean in
-    let none : verdicts.symbols ≡ 0 = t.symbols ∙ none_of_columns columns f.terc in (
-      λ i. record { header = same_header i; bodies = same_body i; sync = same_sync i },
-      λ i. record { blocks = same_blocks i; symbols = none i },
-    )
+    grind (arith, five, none_of_columns)

@@ -1,24 +1,22 @@
 -- Behind any bytes stands a byte that makes a block, and so there is a number whose bits are the block.
-use Rattle.std.proofs.Common.{◌≡◌, ℕ, ◌+◌, ◌*◌, ◌<◌, Bool, true, false, ◌==◌, List, [], ◌∷◌, ◌++◌, length, get_or, bit_xor, refl, ap, ◌∙◌, sym, subst, arith, append_assoc, append-nil, length-append, All, inl, inr}
+use Rattle.std.proofs.Common.{◌≡◌, ℕ, ◌+◌, ◌*◌, ◌<◌, Bool, ◌==◌, List, [], ◌∷◌, ◌++◌, length, get_or, bit_xor, sym, subst, arith, append_assoc, append-nil, length-append, All, inl, inr}
 use Rattle.std.proofs.lemmas.Bool.{cases_lt}
 use Rattle.std.proofs.lemmas.List.{get_or_past}
 use Rattle.std.proofs.lemmas.List.Elements.{All-get_or, All-append, All-cons, All-nil}
 use Rattle.tmds_word.specs.Bits.{bits_of as number_bits}
 use Rattle.terc4.specs.Columns.{one_if}
-use Rattle.bch_block.specs.Division.{Remainder, nothing, kept, times_power}
+use Rattle.bch_block.specs.Division.{Remainder, kept, times_power}
 use Rattle.bch_block.proofs.Bytes.{Leaves, leaves_none, leaves_more, makes_block}
 use Rattle.island_pack.specs.Packets.{BeginsWith}
 use Rattle.island_pack.proofs.Registers.{bits_of_sum, number_of, bits_of_number, begins}
 
 pub one_if-lt : (b : Bool) → one_if b < 2
 unfolding one_if
-one_if-lt true = omega arith
-one_if-lt false = omega arith
+one_if-lt b = grind arith
 
 pub one_if-bit : (b : Bool) → (one_if b == 1) ≡ b
 unfolding one_if
-one_if-bit true = refl
-one_if-bit false = refl
+one_if-bit b = grind arith
 
 -- the byte that keeps a remainder
 byte_of : Remainder → ℕ
@@ -30,18 +28,9 @@ unfolding byte_of
 byte_of-lt r =
     omega (arith, one_if-lt r.x7, one_if-lt r.x6, one_if-lt r.x5, one_if-lt r.x4, one_if-lt r.x3, one_if-lt r.x2, one_if-lt r.x1, one_if-lt r.x0)
 
--- the remainder of eight bits
-abbrev remainder_in : List Bool → Remainder
-remainder_in (a ∷ b ∷ c ∷ d ∷ e ∷ f ∷ g ∷ h ∷ []) = record { x7 = a; x6 = b; x5 = c; x4 = d; x3 = e; x2 = f; x1 = g; x0 = h }
-remainder_in _ = nothing
-
 kept-byte_of : (r : Remainder) → kept (byte_of r) ≡ r
 unfolding byte_of
-kept-byte_of r =
-    ap remainder_in
-    (bits_of_sum (one_if r.x7) (one_if r.x6) (one_if r.x5) (one_if r.x4) (one_if r.x3) (one_if r.x2) (one_if r.x1) (one_if r.x0)
-    (one_if-lt r.x7) (one_if-lt r.x6) (one_if-lt r.x5) (one_if-lt r.x4) (one_if-lt r.x3) (one_if-lt r.x2) (one_if-lt r.x1) (one_if-lt r.x0))
-    ∙ (λ i. record { x7 = one_if-bit r.x7 i; x6 = one_if-bit r.x6 i; x5 = one_if-bit r.x5 i; x4 = one_if-bit r.x4 i; x3 = one_if-bit r.x3 i; x2 = one_if-bit r.x2 i; x1 = one_if-bit r.x1 i; x0 = one_if-bit r.x0 i })
+kept-byte_of r = grind (arith, bits_of_sum, one_if-lt, one_if-bit)
 
 -- what more bytes leave
 left_after : (past bytes : List ℕ) (left : ℕ) → left < 256 → Leaves past left → (p : ℕ) × (p < 256) × Leaves (past ++ bytes) p

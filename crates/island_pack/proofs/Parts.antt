@@ -82,15 +82,7 @@ map_part f xs n k = ap (map f) (next_part xs n k) ∙ map-append f (take k (drop
 turns_four : (b : ℕ) (gs rs : List ℕ) → 4 ≤ length gs → 4 ≤ length rs
     → by_turns b gs rs ≡ by_turns b (take 4 gs) (take 4 rs) ++ by_turns b (drop 4 gs) (drop 4 rs)
 unfolding by_turns
-turns_four b [] rs lg lr = absurd (omega arith)
-turns_four b (g ∷ []) rs lg lr = absurd (omega arith)
-turns_four b (g ∷ (h ∷ [])) rs lg lr = absurd (omega arith)
-turns_four b (g ∷ (h ∷ (i ∷ []))) rs lg lr = absurd (omega arith)
-turns_four b (g ∷ (h ∷ (i ∷ (j ∷ gs)))) [] lg lr = absurd (omega arith)
-turns_four b (g ∷ (h ∷ (i ∷ (j ∷ gs)))) (r ∷ []) lg lr = absurd (omega arith)
-turns_four b (g ∷ (h ∷ (i ∷ (j ∷ gs)))) (r ∷ (s ∷ [])) lg lr = absurd (omega arith)
-turns_four b (g ∷ (h ∷ (i ∷ (j ∷ gs)))) (r ∷ (s ∷ (t ∷ []))) lg lr = absurd (omega arith)
-turns_four b (g ∷ (h ∷ (i ∷ (j ∷ gs)))) (r ∷ (s ∷ (t ∷ (u ∷ rs)))) lg lr = refl
+turns_four b gs rs h k = grind arith
 
 -- the next four columns, and the rest
 pub turns_part : (b : ℕ) (gs rs : List ℕ) (n : ℕ) → n + 4 ≤ length gs → n + 4 ≤ length rs

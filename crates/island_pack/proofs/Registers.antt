@@ -1,5 +1,5 @@
 -- Bytes and wider numbers as lists of bits.
-use Rattle.std.proofs.Common.{◌≡◌, ℕ, suc, zero, ◌+◌, ◌*◌, ◌/◌, ◌%◌, ◌^◌, ◌<◌, Bool, List, [], ◌∷◌, ◌++◌, length, take, get_or, refl, ap, ap₂, ◌∙◌, sym, subst, arith, ◌==◌, length-append}
+use Rattle.std.proofs.Common.{◌≡◌, ℕ, suc, zero, ◌+◌, ◌*◌, ◌/◌, ◌%◌, ◌^◌, ◌<◌, Bool, List, [], ◌∷◌, ◌++◌, length, take, get_or, refl, ap, ap₂, ◌∙◌, sym, arith, ◌==◌, length-append}
 use Rattle.std.proofs.Math.Seq.{take-append_seam}
 use Rattle.tmds_word.specs.Bits.{bits_of as number_bits}
 use Rattle.tmds_word.proofs.Lists.{bits_of-byte}
@@ -69,13 +69,7 @@ number_of_four a b c d n e = omega arith
 
 -- bytes with one byte more that makes a block
 pub begins : (x : List Bool) (bytes : List ℕ) (p : ℕ) → x ≡ bits_of_bytes (bytes ++ p ∷ []) → IsBlock (bits_of_bytes (bytes ++ p ∷ [])) → BeginsWith x bytes
-begins x bytes p e block = record {
-  bits = ap length e ∙ length-bits_of (bytes ++ p ∷ []) ∙ ap (λ n. 8 * n) (length-append bytes (p ∷ [])) ∙ omega arith;
-  begins =
-      ap₂ take (sym (length-bits_of bytes)) (e ∙ bits_of-append bytes (p ∷ []))
-      ∙ take-append_seam (bits_of_bytes bytes) (bits_of_bytes (p ∷ []));
-  block = subst IsBlock (sym e) block;
-}
+begins x bytes p e block = grind (arith, length-bits_of, length-append, bits_of-append, take-append_seam)
 
 -- what is repaired
 pub repaired : (old new : List ℕ) (v : Verdict) → Repairs old new v → bits_of_bytes new ≡ after (bits_of_bytes old) v
@@ -101,11 +95,7 @@ pub taken : (x : List Bool) (bytes : List ℕ) (n : ℕ) (v : Verdict) → IsVer
 taken x bytes n v is long e = record { found = is; begins = e ∙ ap (λ m. take (8 * m) (after x v)) (sym long) }
 
 pub fits_four : (a b c d : ℕ) → a < 256 → b < 256 → c < 256 → d < 256 → (i : ℕ) → get_or (a ∷ b ∷ c ∷ d ∷ []) i 0 < 256
-fits_four a b c d la lb lc ld zero = la
-fits_four a b c d la lb lc ld (suc zero) = lb
-fits_four a b c d la lb lc ld (suc (suc zero)) = lc
-fits_four a b c d la lb lc ld (suc (suc (suc zero))) = ld
-fits_four a b c d la lb lc ld (suc (suc (suc (suc i)))) = omega arith
+fits_four a b c d h k l m p = grind arith
 
 pub fits_eight : (a b c d e f g h : ℕ) → a < 256 → b < 256 → c < 256 → d < 256 → e < 256 → f < 256 → g < 256 → h < 256
     → (i : ℕ) → get_or (a ∷ b ∷ c ∷ d ∷ e ∷ f ∷ g ∷ h ∷ []) i 0 < 256

@@ -1,11 +1,12 @@
 -- What is repaired of 32 columns is what is taken of them, and nothing else is.
-use Rattle.std.proofs.Common.{◌≡◌, ◌≢◌, ℕ, suc, zero, ◌+◌, ◌*◌, ◌-◌, ◌/◌, ◌%◌, ◌^◌, ◌==◌, ◌<◌, ◌≤◌, Bool, true, false, not, ◌||◌, List, [], ◌∷◌, ◌++◌, length, take, drop, get_or, refl, ap, ap₂, ◌∙◌, sym, subst, arith, All, inl, inr, length-drop, length-take-le}
+use Rattle.std.proofs.Common.{◌≡◌, ◌≢◌, ℕ, suc, zero, ◌+◌, ◌*◌, ◌-◌, ◌%◌, ◌^◌, ◌<◌, ◌≤◌, Bool, true, false, not, ◌||◌, List, [], ◌∷◌, ◌++◌, length, take, drop, get_or, refl, ap, ap₂, ◌∙◌, sym, subst, arith, All, inl, inr, length-drop, length-take-le}
 use Rattle.std.specs.Prelude.{slice_index_or}
 use Rattle.std.proofs.lemmas.Bool.{cases_lt, true≢false}
 use Rattle.std.proofs.lemmas.List.Elements.{All-get_or, All-take, All-drop}
 use Rattle.std.proofs.lemmas.List.{take-append-drop, drop-drop, take_all, length-map}
-use Rattle.tmds_word.specs.Bits.{number, bits_of as number_bits}
+use Rattle.tmds_word.specs.Bits.{number}
 use Rattle.tmds_word.proofs.Numbers.{number-bits_of}
+use Rattle.island_pack.proofs.Registers.{eight_bits}
 use Rattle.bch_block.specs.Bits.{byte_bits, bits_of_bytes, flipped}
 use Rattle.bch_block.specs.Block.{IsBlock}
 use Rattle.bch_block.specs.Division.{Remainder, nothing, remainder, power}
@@ -17,43 +18,23 @@ use Rattle.bch_block.proofs.Distances.{length-flipped}
 use Rattle.bch_block.proofs.Verdicts.{mended, lost, one_verdict}
 use Rattle.island_pack.specs.Nibbles.{nibbles_of, by_turns, body_bits, header_bits}
 use Rattle.island_pack.specs.Packets.{body_of}
-use Rattle.island_pack.specs.Taken.{after, IsTaken, verdict_on, Taken}
+use Rattle.island_pack.specs.Taken.{after, IsTaken, Taken}
 use Rattle.island_pack.specs.declared.packet.Packet.{Packet}
 use Rattle.island_pack.specs.declared.packet.PacketVerdicts.{PacketVerdicts}
 use Rattle.island_pack.specs.Repaired.{is_nothing, divides, choice, mend_from, verdict_of, bytes_in, repaired, packet_in, verdicts_in}
 
 -- whether division leaves nothing
 or_left : (a b : Bool) → not (a || b) ≡ true → a ≡ false
-or_left true b e = absurd (true≢false (sym e))
-or_left false b e = refl
+or_left a b h = grind arith
 
 or_right : (a b : Bool) → not (a || b) ≡ true → not b ≡ true
-or_right true b e = absurd (true≢false (sym e))
-or_right false b e = e
+or_right a b h = grind arith
 
 not_false : (a : Bool) → not a ≡ true → a ≡ false
-not_false true e = absurd (true≢false (sym e))
-not_false false e = refl
+not_false a h = grind arith
 
 pub nothing_is : (r : Remainder) → is_nothing r ≡ true → r ≡ nothing
-nothing_is r e0 =
-    let e1 = or_right r.x7 _ e0 in
-    let e2 = or_right r.x6 _ e1 in
-    let e3 = or_right r.x5 _ e2 in
-    let e4 = or_right r.x4 _ e3 in
-    let e5 = or_right r.x3 _ e4 in
-    let e6 = or_right r.x2 _ e5 in
-    let e7 = or_right r.x1 _ e6 in
-    λ i. record {
-      x7 = or_left r.x7 (r.x6 || (r.x5 || (r.x4 || (r.x3 || (r.x2 || (r.x1 || r.x0)))))) e0 i;
-      x6 = or_left r.x6 (r.x5 || (r.x4 || (r.x3 || (r.x2 || (r.x1 || r.x0))))) e1 i;
-      x5 = or_left r.x5 (r.x4 || (r.x3 || (r.x2 || (r.x1 || r.x0)))) e2 i;
-      x4 = or_left r.x4 (r.x3 || (r.x2 || (r.x1 || r.x0))) e3 i;
-      x3 = or_left r.x3 (r.x2 || (r.x1 || r.x0)) e4 i;
-      x2 = or_left r.x2 (r.x1 || r.x0) e5 i;
-      x1 = or_left r.x1 r.x0 e6 i;
-      x0 = not_false r.x0 e7 i;
-    }
+nothing_is r e0 = grind (arith, or_right, or_left, not_false)
 
 block_divides : (x : List Bool) → IsBlock x → divides x ≡ true
 unfolding divides
@@ -62,10 +43,6 @@ block_divides x b = ap is_nothing (remainder_of_block x b)
 divides_leaves : (x : List Bool) → divides x ≡ true → remainder x ≡ nothing
 unfolding divides
 divides_leaves x e = nothing_is (remainder x) e
-
-nothing_divides : (x : List Bool) → remainder x ≡ nothing → divides x ≡ true
-unfolding divides
-nothing_divides x e = ap is_nothing e
 
 clash : (p : Bool) → p ≡ true → p ≡ false → ⊥
 clash p e f = true≢false (sym e ∙ f)
@@ -82,18 +59,12 @@ no_power x long short none k lt e =
 
 found_by : (x : List Bool) (i n : ℕ) (p : Bool) (v : Verdict) → 8 ≤ length x → divides x ≡ false → i < length x → divides (flipped x i) ≡ p
     → (p ≡ false → IsVerdict x v) → IsVerdict x (choice p (Mended i) v)
-found_by x i n true v long other lt e rest = (
-  λ b. clash (divides x) (block_divides x b) other,
-  lt,
-  is_block (flipped x i) (omega (arith, length-flipped x i)) (divides_leaves (flipped x i) e),
-)
-found_by x i n false v long other lt e rest = rest refl
+found_by x i n p v h k l m q = grind (arith, clash, block_divides, is_block, length-flipped, divides_leaves)
 
 found : (x : List Bool) (i n : ℕ) → 8 ≤ length x → length x ≤ 64 → divides x ≡ false → i + n ≡ length x
     → ((j : ℕ) → j < i → divides (flipped x j) ≡ false) → IsVerdict x (mend_from x i n)
-unfolding mend_from
-found x i zero long short other e none =
-    lost x (λ z. clash (divides x) (nothing_divides x z) other) (no_power x long short (λ j lt. none j (omega (arith, e, lt))))
+unfolding mend_from divides
+found x i zero long short other e none = grind (arith, lost, clash, no_power)
 found x i (suc n) long short other e none =
     found_by x i n (divides (flipped x i)) (mend_from x (i + 1) n) long other (omega (arith, e)) refl
     (λ f. found x (i + 1) n long short other (omega (arith, e)) (λ j lt. elim (cases_lt j i) [
@@ -102,26 +73,11 @@ found x i (suc n) long short other e none =
     ]))
 
 pub verdict_by : (x : List Bool) (p : Bool) → 8 ≤ length x → length x ≤ 64 → divides x ≡ p → IsVerdict x (choice p Clean (mend_from x 0 (length x)))
-verdict_by x true long short e = is_block x long (divides_leaves x e)
-verdict_by x false long short e = found x 0 (length x) long short e (omega arith) (λ j lt. absurd (omega arith))
+verdict_by x p h k l = grind (arith, is_block, divides_leaves, found)
 
 pub verdict_is : (x : List Bool) (v : Verdict) → 8 ≤ length x → length x ≤ 64 → IsVerdict x v → v ≡ verdict_of x
 unfolding verdict_of
 verdict_is x v long short h = one_verdict x v (verdict_of x) short h (verdict_by x (divides x) long short refl)
-
--- the bytes of bits
-pub eight_bits : (n : ℕ) → number_bits 8 n ≡ byte_bits n
-unfolding number_bits
-eight_bits n =
-    let e0 : n % 2 ≡ n / 2 ^ 0 % 2 = omega arith in
-    let e1 : n / 2 % 2 ≡ n / 2 ^ 1 % 2 = omega arith in
-    let e2 : n / 2 / 2 % 2 ≡ n / 2 ^ 2 % 2 = omega arith in
-    let e3 : n / 2 / 2 / 2 % 2 ≡ n / 2 ^ 3 % 2 = omega arith in
-    let e4 : n / 2 / 2 / 2 / 2 % 2 ≡ n / 2 ^ 4 % 2 = omega arith in
-    let e5 : n / 2 / 2 / 2 / 2 / 2 % 2 ≡ n / 2 ^ 5 % 2 = omega arith in
-    let e6 : n / 2 / 2 / 2 / 2 / 2 / 2 % 2 ≡ n / 2 ^ 6 % 2 = omega arith in
-    let e7 : n / 2 / 2 / 2 / 2 / 2 / 2 / 2 % 2 ≡ n / 2 ^ 7 % 2 = omega arith in
-    λ i. (e0 i == 1) ∷ (e1 i == 1) ∷ (e2 i == 1) ∷ (e3 i == 1) ∷ (e4 i == 1) ∷ (e5 i == 1) ∷ (e6 i == 1) ∷ (e7 i == 1) ∷ []
 
 first_byte : (b : ℕ) (rest : List Bool) → b < 256 → number (take 8 (byte_bits b ++ rest)) ≡ b
 first_byte b rest lt =
@@ -158,10 +114,7 @@ nibbles ws lane = length-map ws _
 
 pub body_long : (ws : List (List ℕ)) (b : ℕ) → length ws ≡ 32 → length (body_bits ws b) ≡ 64
 unfolding body_bits
-body_long ws b long =
-    let same = nibbles ws 1 ∙ sym (nibbles ws 2) in
-    let whole = length-turns b (nibbles_of ws 1) (nibbles_of ws 2) same in
-    omega (arith, whole, nibbles ws 1, long)
+body_long ws b long = grind (arith, nibbles, length-turns)
 
 pub header_long : (ws : List (List ℕ)) → length ws ≡ 32 → length (header_bits ws) ≡ 32
 unfolding header_bits
@@ -202,19 +155,8 @@ packet_is ws p v long t =
     let body : (b : ℕ) → b < 4 → body_of p b ≡ repaired 7 (body_bits ws b) =
     λ b lt. bytes_taken (body_bits ws b) (body_of p b) 7 _ (length-body p b t.whole.bodies lt) (byte_of_body p b t.whole.bodies t.whole.body_bytes lt)
     (omega (arith, body_long ws b long)) (omega (arith, body_long ws b long)) (t.bodies b lt) in
-    let header : p.header ≡ repaired 3 (header_bits ws) =
-    bytes_taken (header_bits ws) p.header 3 _ t.whole.header (λ k lt. All-get_or (λ v. v < 256) p.header k 0 lt t.whole.header_bytes)
-    (omega (arith, header_long ws long)) (omega (arith, header_long ws long)) t.header in
-    let bodies : p.bodies ≡ repaired 7 (body_bits ws 0) ++ (repaired 7 (body_bits ws 1) ++ (repaired 7 (body_bits ws 2) ++ repaired 7 (body_bits ws 3))) =
-    four_parts p.bodies t.whole.bodies
-    ∙ ap₂ (λ (x y : List ℕ). x ++ y) (body 0 (omega arith)) (ap₂ (λ (x y : List ℕ). x ++ y) (body 1 (omega arith)) (ap₂ (λ (x y : List ℕ). x ++ y) (body 2 (omega arith)) (body 3 (omega arith)))) in
-    λ i. record { header = header i; bodies = bodies i; sync = t.sync i }
+    grind (arith, bytes_taken, All-get_or, header_long, four_parts)
 
 pub verdicts_are : (ws : List (List ℕ)) (p : Packet) (v : PacketVerdicts) → length ws ≡ 32 → Taken ws p v → v ≡ verdicts_in ws
 unfolding verdicts_in
-verdicts_are ws p v long t =
-    let body : (b : ℕ) → b < 4 → verdict_on v b ≡ verdict_of (body_bits ws b) =
-    λ b lt. verdict_is (body_bits ws b) (verdict_on v b) (omega (arith, body_long ws b long)) (omega (arith, body_long ws b long)) (t.bodies b lt).found in
-    let header = verdict_is (header_bits ws) (verdict_on v 4) (omega (arith, header_long ws long)) (omega (arith, header_long ws long)) t.header.found in
-    let blocks = five v.blocks _ _ _ _ _ t.blocks (body 0 (omega arith)) (body 1 (omega arith)) (body 2 (omega arith)) (body 3 (omega arith)) header in
-    λ i. record { blocks = blocks i; symbols = t.symbols i }
+verdicts_are ws p v long t = grind (arith, verdict_is, body_long, header_long, five)

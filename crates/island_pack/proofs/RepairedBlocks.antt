@@ -5,15 +5,15 @@ use Rattle.std.proofs.lemmas.List.Elements.{All-nil, All-cons}
 use Rattle.std.proofs.Math.Seq.{take-add}
 use Rattle.tmds_word.specs.Bits.{number, bits_of as number_bits}
 use Rattle.tmds_word.proofs.Numbers.{number-take, bits_of-number}
+use Rattle.island_pack.proofs.Registers.{eight_bits}
 use Rattle.bch_block.specs.Bits.{byte_bits, bits_of_bytes}
 use Rattle.bch_block.specs.declared.Verdict.{Verdict}
-use Rattle.bch_block.specs.declared.Verdict.TheVariants.{Clean, Mended, Lost}
 use Rattle.bch_block.proofs.Distances.{length-flipped}
 use Rattle.island_pack.specs.Nibbles.{nibbles_of, sync_values, header_bits, body_bits}
 use Rattle.island_pack.specs.Taken.{after, IsTaken, Taken}
-use Rattle.island_pack.specs.Repaired.{divides, verdict_of, bytes_in, repaired, packet_in, verdicts_in}
+use Rattle.island_pack.specs.Repaired.{verdict_of, bytes_in, repaired, packet_in, verdicts_in}
 use Rattle.island_pack.proofs.Parts.{body_0, body_1, body_2, body_3, each_body, All-four, length-four}
-use Rattle.island_pack.proofs.Repaired.{verdict_by, eight_bits, body_long, header_long}
+use Rattle.island_pack.proofs.Repaired.{verdict_by, body_long, header_long}
 
 -- the bytes of bits have these bits
 byte_back : (y : List Bool) → 8 ≤ length y → byte_bits (number (take 8 y)) ≡ take 8 y
@@ -42,19 +42,12 @@ bytes_below (suc n) y =
     All-cons (λ b. b < 256) (number (take 8 y)) (bytes_in n (drop 8 y)) (omega arith) (bytes_below n (drop 8 y))
 
 length-after : (x : List Bool) (v : Verdict) → length (after x v) ≡ length x
-length-after x Clean = refl
-length-after x (Mended i) = length-flipped x i
-length-after x Lost = refl
+length-after x v = grind (arith, length-flipped)
 
 -- a block
 block_taken : (n : ℕ) (x : List Bool) → 8 * n ≤ length x → 8 ≤ length x → length x ≤ 64 → IsTaken x (repaired n x) (verdict_of x)
 unfolding repaired verdict_of
-block_taken n x room least most =
-    let y = after x (verdict_of x) in
-    record {
-      found = verdict_by x (divides x) least most refl;
-      begins = bytes_back n y (omega (arith, length-after x (verdict_of x))) ∙ ap (λ k. take (8 * k) y) (sym (length-bytes_in n y));
-    }
+block_taken n x room least most = grind (arith, verdict_by, bytes_back, length-after, length-bytes_in)
 
 length-repaired : (n : ℕ) (x : List Bool) → length (repaired n x) ≡ n
 unfolding repaired

@@ -8,13 +8,11 @@ use Rattle.island_pack.specs.Runs.{joined, join, longest}
 
 joined_values : (p : Bool) (v : ℕ) (r : ControlRun) (rs : List ControlRun) → (v == r.value) ≡ p → values_of (joined p v r rs) ≡ v ∷ values_of (r ∷ rs)
 unfolding values_of
-joined_values true v r rs e = ap (λ (x : ℕ). x ∷ (replicate r.count r.value ++ values_of rs)) (sym (eqb-true v r.value e))
-joined_values false v r rs e = refl
+joined_values p v r rs h = grind (arith, eqb-true)
 
 pub join_values : (v : ℕ) (rs : List ControlRun) → values_of (join v rs) ≡ v ∷ values_of rs
 unfolding values_of
-join_values v [] = refl
-join_values v (r ∷ rs) = joined_values (v == r.value) v r rs refl
+join_values v rs = grind (arith, joined_values)
 
 pub values_longest : (vs : List ℕ) → values_of (longest vs) ≡ vs
 unfolding longest values_of
@@ -41,25 +39,16 @@ more v (r ∷ (q ∷ rs)) = r ∷ more v (q ∷ rs)
 -- a value before and a value behind do not see one another, but where they are alone
 
 two : (p q : Bool) (u v : ℕ) → (u == v) ≡ p → (v == u) ≡ q → joined p u (one v) [] ≡ after q v (one u)
-two true true u v e d = ap (λ (x : ℕ). record { value = x; count = 2 } ∷ []) (sym (eqb-true u v e))
-two true false u v e d = let k = eq-eqb v u (sym (eqb-true u v e)) in absurd cc
-two false true u v e d = let k = eq-eqb u v (sym (eqb-true v u d)) in absurd cc
-two false false u v e d = refl
+two p q u v h k = grind (arith, eqb-true, eq-eqb)
 
 beside_one : (p q : Bool) (u v : ℕ) (r : ControlRun) → (u == r.value) ≡ p → (v == r.value) ≡ q → join u (after q v r) ≡ more v (joined p u r [])
-beside_one true true u v r e d = ap (λ (b : Bool). joined b u (longer r) []) e ∙ sym (ap (λ (b : Bool). after b v (longer r)) d)
-beside_one true false u v r e d = ap (λ (b : Bool). joined b u r (one v ∷ [])) e ∙ sym (ap (λ (b : Bool). after b v (longer r)) d)
-beside_one false true u v r e d = ap (λ (b : Bool). joined b u (longer r) []) e ∙ sym (ap (λ (b : Bool). one u ∷ after b v r) d)
-beside_one false false u v r e d = ap (λ (b : Bool). joined b u r (one v ∷ [])) e ∙ sym (ap (λ (b : Bool). one u ∷ after b v r) d)
+beside_one p q u v r h k = grind arith
 
 beside_two : (p : Bool) (u v : ℕ) (r q : ControlRun) (rs : List ControlRun) → joined p u r (more v (q ∷ rs)) ≡ more v (joined p u r (q ∷ rs))
-beside_two true u v r q rs = refl
-beside_two false u v r q rs = refl
+beside_two p u v r q rs = grind arith
 
 both_ends : (u v : ℕ) (rs : List ControlRun) → join u (more v rs) ≡ more v (join u rs)
-both_ends u v [] = two (u == v) (v == u) u v refl refl
-both_ends u v (r ∷ []) = beside_one (u == r.value) (v == r.value) u v r refl refl
-both_ends u v (r ∷ (q ∷ rs)) = beside_two (u == r.value) u v r q rs
+both_ends u v rs = grind (arith, two, beside_one, beside_two)
 
 longest_after : (vs : List ℕ) (v : ℕ) → longest (vs ++ v ∷ []) ≡ more v (longest vs)
 unfolding longest
@@ -75,9 +64,7 @@ more_at_end v (q ∷ (s ∷ rs)) r = ap (λ (xs : List ControlRun). q ∷ xs) (m
 
 -- the last run has that value
 pub longest_grows : (n v : ℕ) (rs : List ControlRun) (r : ControlRun) (vs : List ℕ) → longest vs ≡ rs ++ r ∷ [] → v ≡ r.value → longest (vs ++ replicate n v) ≡ rs ++ record { value = r.value; count = r.count + n } ∷ []
-longest_grows zero v rs r vs e same =
-    let d : r.count ≡ r.count + 0 = omega arith in
-    ap longest (append-nil vs) ∙ e ∙ ap (λ (k : ℕ). rs ++ record { value = r.value; count = k } ∷ []) d
+longest_grows zero v rs r vs e same = grind (arith, append-nil)
 longest_grows (suc n) v rs r vs e same =
     let d : suc r.count + n ≡ r.count + suc n = omega arith in
     ap longest (sym (append_assoc vs (v ∷ []) (replicate n v)))

@@ -1,6 +1,5 @@
 -- Every conforming list of periods can be spelled.
-use Rattle.std.proofs.Common.{◌≡◌, ℕ, suc, zero, ◌*◌, ◌<◌, Bool, true, false, ◌==◌, ◌&&◌, List, [], ◌∷◌, ◌++◌, length, map, drop, get_or, refl, ap, arith, slice_index, All}
-use Rattle.std.specs.Prelude.{nat_lt}
+use Rattle.std.proofs.Common.{◌≡◌, ℕ, suc, zero, ◌*◌, ◌<◌, Bool, true, false, ◌&&◌, List, [], ◌∷◌, ◌++◌, length, map, drop, get_or, refl, ap, arith, slice_index, All}
 use Rattle.std.specs.List.{list_all}
 use Rattle.std.proofs.lemmas.Bool.{eqb-true, ltb-true, and_parts, and_from}
 use Rattle.std.proofs.lemmas.List.Elements.{All-take, All-drop}
@@ -8,8 +7,8 @@ use Rattle.std.proofs.lemmas.List.Sums.{AllPass-from_list_all}
 use Rattle.tmds_word.specs.Column.{Column, column_of}
 use Rattle.tmds_word.specs.Bits.{bits_of as number_bits}
 use Rattle.terc4.specs.Tables.{video_guard}
-use Rattle.island_pack.specs.Periods.{DataIsland, Period, control, video, island, values_of, has_preamble, VIDEO_PREAMBLE, ISLAND_PREAMBLE, pixels_of}
-use Rattle.island_pack.specs.Conforming.{are_bytes, is_control_period, is_video_period, is_sync_pair, is_packet, is_data_island, conforms}
+use Rattle.island_pack.specs.Periods.{DataIsland, Period, control, video, island, values_of, pixels_of}
+use Rattle.island_pack.specs.Conforming.{is_sync_pair, is_packet, is_data_island, conforms}
 use Rattle.island_pack.specs.Packets.{IsPacket, BeginsWith, body_of, Carries}
 use Rattle.island_pack.specs.Registers.{laid_nibbles, register_words as words_of_nibbles}
 use Rattle.island_pack.specs.Spelling.{control_column, guard_columns, column_words, SpellsVideo, SpellsPackets, SpellsIsland, SpellsPeriod, Spells}
@@ -22,31 +21,13 @@ use Rattle.island_pack.proofs.Law.{length-body_of}
 use Rattle.island_pack.proofs.WordColumns.{carries_columns}
 use Rattle.island_pack.proofs.PixelColumns.{no_pixels, pixels_go_on}
 
--- What a packet in its ranges has.
-bytes_below : (bytes : List ℕ) → are_bytes bytes ≡ true → All (λ byte. byte < 256) bytes
-bytes_below bytes h = λ k d lt. ltb-true _ 256 (AllPass-from_list_all (λ b. nat_lt b 256) bytes h k d lt)
-
 pub whole_packet : (p : Packet) → is_packet p ≡ true → IsPacket p
 unfolding is_packet
-whole_packet p h =
-    let parts = and_parts ((length p.header == 3) && are_bytes p.header) _ h in
-    let header = and_parts (length p.header == 3) (are_bytes p.header) parts.0 in
-    let others = and_parts ((length p.bodies == 28) && are_bytes p.bodies) _ parts.1 in
-    let bodies = and_parts (length p.bodies == 28) (are_bytes p.bodies) others.0 in
-    record {
-      header = eqb-true _ _ header.0;
-      header_bytes = bytes_below p.header header.1;
-      bodies = eqb-true _ _ bodies.0;
-      body_bytes = bytes_below p.bodies bodies.1;
-      sync = eqb-true _ _ (and_parts (length p.sync == 32) _ others.1).0;
-    }
+whole_packet p h = grind (arith, and_parts, eqb-true, ltb-true, AllPass-from_list_all)
 
 pub sync_small : (p : Packet) → is_packet p ≡ true → All (λ v. v < 4) p.sync
 unfolding is_packet
-sync_small p h =
-    let parts = and_parts ((length p.header == 3) && are_bytes p.header) _ h in
-    let others = and_parts ((length p.bodies == 28) && are_bytes p.bodies) _ parts.1 in
-    λ k d lt. ltb-true _ 4 (AllPass-from_list_all (λ v. nat_lt v 4) p.sync (and_parts (length p.sync == 32) _ others.1).1 k d lt)
+sync_small p h = grind (arith, and_parts, ltb-true, AllPass-from_list_all)
 
 -- A function's first values.
 table : (ℕ → List ℕ) → ℕ → List (List ℕ)
@@ -131,14 +112,8 @@ conforming_ranges (video bytes ∷ ps) h = absurd cc
 conforming_ranges (island x ∷ ps) h = absurd cc
 conforming_ranges (control runs ∷ []) h = refl
 conforming_ranges (control runs ∷ (control more ∷ ps)) h = absurd cc
-conforming_ranges (control runs ∷ (video bytes ∷ ps)) h =
-    let others = (and_parts (is_control_period runs) _ h).1 in
-    let parts = and_parts (is_video_period bytes) (conforms ps) (and_parts (has_preamble VIDEO_PREAMBLE (values_of runs)) _ others).1 in
-    conforming_ranges ps parts.1
-conforming_ranges (control runs ∷ (island x ∷ ps)) h =
-    let others = (and_parts (is_control_period runs) _ h).1 in
-    let parts = and_parts (is_data_island x) (conforms ps) (and_parts (has_preamble ISLAND_PREAMBLE (values_of runs)) _ others).1 in
-    and_from (is_data_island x) (list_all has_range ps) parts.0 (conforming_ranges ps parts.1)
+conforming_ranges (control runs ∷ (video bytes ∷ ps)) h = grind (arith, and_parts, conforming_ranges ps)
+conforming_ranges (control runs ∷ (island x ∷ ps)) h = grind (arith, and_parts, and_from, conforming_ranges ps)
 
 pub conforming_is_spelled : ConformingIsSpelled
 conforming_is_spelled periods h = periods_spelled periods (conforming_ranges periods h)

@@ -1,20 +1,16 @@
 -- Columns that are given word by word carry what their words carry.
-use Rattle.std.proofs.Common.{◌≡◌, ℕ, suc, zero, ◌%◌, ◌<◌, Bool, List, [], ◌∷◌, map, refl, ap, ap₂, sym, subst, ◌∙◌, arith}
+use Rattle.std.proofs.Common.{◌≡◌, ℕ, suc, zero, ◌<◌, Bool, List, [], ◌∷◌, map, refl, ap, ap₂, ◌∙◌, arith}
 use Rattle.std.specs.Prelude.{slice_index}
 use Rattle.std.proofs.lemmas.List.{length-map}
 use Rattle.tmds_word.specs.Column.{column_of}
 use Rattle.terc4.specs.Tables.{is_terc}
-use Rattle.bch_block.specs.Bits.{bit}
-use Rattle.island_pack.specs.Nibbles.{nibble_of, nibbles_of, sync_values, header_bits, body_bits, by_turns}
-use Rattle.island_pack.specs.Packets.{Carries, BeginsWith, AreTerc, body_of}
+use Rattle.island_pack.specs.Nibbles.{nibble_of, nibbles_of, sync_values, header_bits, body_bits}
+use Rattle.island_pack.specs.Packets.{Carries, AreTerc}
 use Rattle.island_pack.specs.Spelling.{column_words}
 use Rattle.island_pack.specs.declared.packet.Packet.{Packet}
 
 word_at : (words : List ℕ) (lane : ℕ) → lane < 3 → slice_index (column_words (column_of words)) lane ≡ slice_index words lane
-word_at words zero lt = refl
-word_at words (suc zero) lt = refl
-word_at words (suc (suc zero)) lt = refl
-word_at words (suc (suc (suc lane))) lt = absurd (omega arith)
+word_at words lane h = grind arith
 
 nibbles_same : (block : List (List ℕ)) (lane : ℕ) → lane < 3 → nibbles_of (map column_words (map column_of block)) lane ≡ nibbles_of block lane
 unfolding nibbles_of
@@ -28,18 +24,4 @@ terc_same (words ∷ block) lane lt h (suc k) d within = terc_same block lane lt
 
 pub carries_columns : (p : Packet) (first : Bool) (block : List (List ℕ)) → Carries p first block → Carries p first (map column_words (map column_of block))
 unfolding sync_values header_bits body_bits
-carries_columns p first block h =
-    let blue = nibbles_same block 0 (omega arith) in
-    let green = nibbles_same block 1 (omega arith) in
-    let red = nibbles_same block 2 (omega arith) in
-    record {
-      free = record {
-        whole = h.free.whole;
-        count = length-map (map column_of block) column_words ∙ length-map block column_of ∙ h.free.count;
-        terc = λ lane lt. terc_same block lane lt (h.free.terc lane lt);
-        sync = ap (map (λ n. n % 4)) blue ∙ h.free.sync;
-        header = subst (λ bits. BeginsWith bits p.header) (sym (ap (map (λ n. bit n 2)) blue)) h.free.header;
-        bodies = λ b lt. subst (λ bits. BeginsWith bits (body_of p b)) (sym (ap₂ (by_turns b) green red)) (h.free.bodies b lt);
-      };
-      mark = λ i lt. ap (λ ns. bit (slice_index ns i) 3) blue ∙ h.mark i lt;
-    }
+carries_columns p first block h = grind (arith, nibbles_same, length-map, terc_same)

@@ -6,7 +6,7 @@ use Rattle.std.proofs.Math.Pow.{mod-mod-pow}
 use Rattle.std.proofs.Math.Seq.{take-add}
 use Rattle.tmds_word.specs.Bits.{bits_of, bytes_bits, number}
 use Rattle.tmds_word.specs.Words.{words_of}
-use Rattle.tmds_word.proofs.Rows.{AreBytes, four_bytes_are, byte_after, number_of_bytes}
+use Rattle.tmds_word.proofs.Rows.{byte_after, number_of_bytes}
 use Rattle.tmds_word.proofs.Lists.{length-bytes_bits, bytes_bits-append}
 use Rattle.tmds_word.proofs.Numbers.{number-append, number-drop}
 use Rattle.lane_align.specs.Words.{AreWords, words_in, lane_words}
@@ -14,25 +14,6 @@ use Rattle.lane_align.specs.Aligners.{Seeks, Cuts, AlignerRepresents}
 use Rattle.lane_align.specs.declared.aligner.LaneAligner.{LaneAligner}
 use Rattle.lane_align.proofs.Cutting.{four_words}
 use Rattle.lane_align.proofs.Feeding.{HasCut, cut_stands, cut_words, words_number, words_same, bytes_drop, none_bytes}
-
--- the eight bytes from a place on as a number
-pub eight_bytes_are : (bytes : List ℕ) (j n : ℕ) → AreBytes bytes → j + 8 ≤ length bytes
-    → n ≡ get_or bytes j 0 + get_or bytes (j + 1) 0 * 256 + get_or bytes (j + 2) 0 * 65536 + get_or bytes (j + 3) 0 * 16777216
-    + get_or bytes (j + 4) 0 * 4294967296 + get_or bytes (j + 5) 0 * 1099511627776 + get_or bytes (j + 6) 0 * 281474976710656 + get_or bytes (j + 7) 0 * 72057594037927936
-    → n ≡ (number (bytes_bits bytes) / 2 ^ (8 * j)) % 18446744073709551616
-eight_bytes_are bytes j n are room sum =
-    let all = number (bytes_bits bytes) in
-    let a = get_or bytes j 0 + get_or bytes (j + 1) 0 * 256 + get_or bytes (j + 2) 0 * 65536 + get_or bytes (j + 3) 0 * 16777216 in
-    let b = get_or bytes (j + 4) 0 + get_or bytes (j + 5) 0 * 256 + get_or bytes (j + 6) 0 * 65536 + get_or bytes (j + 7) 0 * 16777216 in
-    let low : a ≡ (all / 2 ^ (8 * j)) % 4294967296 = four_bytes_are bytes j a are (omega arith) refl in
-    let five : j + 5 ≡ j + 4 + 1 = omega arith in
-    let six : j + 6 ≡ j + 4 + 2 = omega arith in
-    let seven : j + 7 ≡ j + 4 + 3 = omega arith in
-    let high : b ≡ (all / 2 ^ (8 * (j + 4))) % 4294967296 =
-    four_bytes_are bytes (j + 4) b are (omega arith) (λ i. get_or bytes (j + 4) 0 + get_or bytes (five i) 0 * 256 + get_or bytes (six i) 0 * 65536 + get_or bytes (seven i) 0 * 16777216) in
-    let place : 8 * j + 32 ≡ 8 * (j + 4) = omega arith in
-    let past : all / 2 ^ (8 * j) / 4294967296 ≡ all / 2 ^ (8 * (j + 4)) = shr-shr all (8 * j) 32 ∙ ap (λ k. all / 2 ^ k) place in
-    omega (arith, sum, low, high, past)
 
 -- four characters of a number are those of its lowest forty bits
 words_low : (v w : ℕ) → v % 1099511627776 ≡ w % 1099511627776 → words_in 4 v ≡ words_in 4 w

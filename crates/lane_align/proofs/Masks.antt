@@ -1,5 +1,5 @@
 -- The quick test: at which places of a number control words begin.
-use Rattle.std.proofs.Common.{◌≡◌, ℕ, ◌+◌, ◌-◌, ◌/◌, ◌%◌, ◌^◌, ◌<◌, min, Bool, true, false, cond, refl, ap, ap₂, ◌∙◌, sym, arith, ◌==◌, bit_and, bit_xor, eqb-true}
+use Rattle.std.proofs.Common.{◌≡◌, ℕ, ◌+◌, ◌-◌, ◌/◌, ◌%◌, ◌^◌, ◌<◌, min, Bool, true, cond, refl, ap, ap₂, ◌∙◌, sym, arith, ◌==◌, bit_and, bit_xor, eqb-true}
 use Rattle.std.specs.Int.{bit_at}
 use Rattle.std.proofs.lemmas.Nat.{field_of, shr-shr}
 use Rattle.std.proofs.lemmas.Nat.Bits.{bit_at_and, bit_at_xor}
@@ -97,8 +97,7 @@ bit_within n k i lt =
     sym (shifted n k i) ∙ sym (ap (λ e. m % 2 ^ e / 2 ^ i % 2) (sym sum) ∙ ap (λ x. x % 2) a ∙ b)
 
 one_is : (b : Bool) → (cond b 1 0 == 1) ≡ b
-one_is true = refl
-one_is false = refl
+one_is b = grind arith
 
 pub places_are : (n k : ℕ) → bit (places n) k ≡ control_at n k
 places_are n k =

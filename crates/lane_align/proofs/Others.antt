@@ -1,5 +1,5 @@
 -- The masks of the ten lowest bits but one.
-use Rattle.std.proofs.Common.{◌≡◌, ℕ, ◌<◌, ◌≤◌, Bool, true, false, slice_index, refl, arith, ◌==◌, ◌||◌, eqb-true}
+use Rattle.std.proofs.Common.{◌≡◌, ℕ, ◌<◌, ◌≤◌, Bool, true, slice_index, refl, arith, ◌==◌, ◌||◌, eqb-true}
 use Rattle.tmds_word.specs.Bits.{bit}
 use Rattle.tmds_word.proofs.Below.{passes_below, passes_at}
 use Rattle.lane_align.specs.declared.search.TheConstants.{OTHERS}
@@ -15,8 +15,7 @@ unfolding passes_below has_bits has_bit
 all_bits = refl
 
 or_right : (a b : Bool) → (a ≡ true → ⊥) → (a || b) ≡ true → b ≡ true
-or_right true b never h = absurd (never refl)
-or_right false b never h = h
+or_right a b h k = grind arith
 
 pub others_bit : (phase k : ℕ) → phase ≤ 10 → k < 10 → (k ≡ phase → ⊥) → bit (slice_index OTHERS phase) k ≡ true
 unfolding has_bits has_bit

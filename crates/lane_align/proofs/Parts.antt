@@ -2,7 +2,7 @@
 use Rattle.std.proofs.Common.{◌≡◌, ℕ, ◌+◌, ◌-◌, ◌*◌, ◌<◌, ◌≤◌, Bool, List, ◌++◌, length, take, drop, ap, ◌∙◌, sym, subst, arith, inl, inr, length-take, length-drop, take-take}
 use Rattle.std.proofs.lemmas.Bool.{cases_lt}
 use Rattle.std.proofs.lemmas.List.{drop-drop, drop-take, drop_at, take-append-drop, length-take-le}
-use Rattle.tmds_word.specs.Bits.{bytes_bits, number}
+use Rattle.tmds_word.specs.Bits.{bytes_bits}
 use Rattle.tmds_word.specs.Words.{words_of}
 use Rattle.lane_align.specs.Lanes.{HasControl, IsRun}
 use Rattle.lane_align.specs.Search.{IsOther, IsFirstOther, Holds}
@@ -12,12 +12,7 @@ use Rattle.lane_align.proofs.Feeding.{words_same}
 
 -- ten bits that are the same are the same window
 pub same_control : (xs ys : List Bool) (p q : ℕ) → take 10 (drop p xs) ≡ take 10 (drop q ys) → q + 10 ≤ length ys → HasControl xs p → HasControl ys q
-same_control xs ys p q same within has =
-    record {
-      word = has.word;
-      here = window_here ys q has.word (λ short. omega arith) (sym (window_is xs p has.word has.here).1 ∙ ap number same);
-      control = has.control;
-    }
+same_control xs ys p q same within has = grind (arith, window_here, window_is)
 
 pub take_piece : (n q m : ℕ) (xs : List Bool) → q + m ≤ n → take m (drop q (take n xs)) ≡ take m (drop q xs)
 take_piece n q m xs le =

@@ -1,5 +1,5 @@
 -- What the quick test says of the places of its stretch.
-use Rattle.std.proofs.Common.{◌≡◌, ℕ, ◌+◌, ◌-◌, ◌*◌, ◌/◌, ◌%◌, ◌^◌, ◌<◌, ◌≤◌, suc, zero, min, Bool, true, List, length, take, drop, refl, ap, ap₂, ◌∙◌, sym, subst, arith, bit_and, ◌==◌, eqb-true}
+use Rattle.std.proofs.Common.{◌≡◌, ℕ, ◌+◌, ◌-◌, ◌*◌, ◌/◌, ◌%◌, ◌^◌, ◌<◌, ◌≤◌, min, Bool, true, List, length, take, drop, refl, ap, ap₂, ◌∙◌, sym, subst, arith, bit_and, ◌==◌, eqb-true}
 use Rattle.std.specs.Int.{bit_at}
 use Rattle.std.proofs.lemmas.Nat.{field_of, shr-shr}
 use Rattle.std.proofs.lemmas.Nat.Bits.{bit_at_and}
@@ -70,10 +70,7 @@ all_left c m k one ten twenty mask =
     ∙ ap₂ min (bit_at_and (bit_and c (c / 2 ^ 10)) (c / 2 ^ 20) k ∙ ap₂ min (bit_at_and c (c / 2 ^ 10) k ∙ ap₂ min (is_one c k one) a) b) (is_one m k mask))
 
 pub none_marked : (k : ℕ) → bit 0 k ≡ true → ⊥
-none_marked k h =
-    let z : bit_at 0 k ≡ 0 = ap (λ x. x % 2) (zero_over k) in
-    let w : 1 ≡ 0 = sym (is_one 0 k h) ∙ z in
-    omega (arith, w)
+none_marked k h = grind (arith, zero_over, is_one)
 
 -- Four words in a row, at each of sixteen places.
 
@@ -105,15 +102,7 @@ four_at c i =
     after k = let e : 10 * k + i ≡ i + 10 * k = omega arith in bit_over c (10 * k) i ∙ ap (bit_at c) e
 
 pub four_ones : (c i : ℕ) → bit (four c) i ≡ true → (k : ℕ) → k < 4 → bit c (i + 10 * k) ≡ true
-four_ones c i set k lt =
-    one_bit c (i + 10 * k) (each k lt (sym (four_at c i) ∙ is_one (four c) i set))
-  where
-    each : (k : ℕ) → k < 4 → min (min (min (bit_at c (i + 10 * 0)) (bit_at c (i + 10 * 1))) (bit_at c (i + 10 * 2))) (bit_at c (i + 10 * 3)) ≡ 1 → bit_at c (i + 10 * k) ≡ 1
-    each zero h all = omega (arith, all)
-    each (suc zero) h all = omega (arith, all)
-    each (suc (suc zero)) h all = omega (arith, all)
-    each (suc (suc (suc zero))) h all = omega (arith, all)
-    each (suc (suc (suc (suc k)))) h all = absurd (omega (arith, h))
+four_ones c i set k lt = grind (arith, one_bit, four_at, is_one)
 
 pub ones_four : (c i : ℕ) → ((k : ℕ) → k < 4 → bit c (i + 10 * k) ≡ true) → bit (four c) i ≡ true
 ones_four c i all =

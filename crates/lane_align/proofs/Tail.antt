@@ -25,10 +25,7 @@ below_bytes (b ∷ bytes) are =
     (omega (arith, number_of_bytes b bytes first))
 
 few_below : (bytes : List ℕ) (n : ℕ) → AreBytes bytes → length bytes ≤ n → number (bytes_bits bytes) < 2 ^ (8 * n)
-few_below bytes n are few =
-    let below = below_bytes bytes are in
-    let up : 2 ^ (8 * length bytes) ≤ 2 ^ (8 * n) = pow_mono (omega arith) in
-    omega arith
+few_below bytes n are few = grind (arith, below_bytes, pow_mono)
 
 pub none_read : (bytes : List ℕ) (i : ℕ) → length bytes ≤ i → 0 ≡ number (bytes_bits (drop i bytes))
 none_read bytes i all = sym (ap (λ bs. number (bytes_bits bs)) (drop_all i bytes all) ∙ none_bytes)
@@ -53,9 +50,7 @@ pub all_read : (bytes : List ℕ) (at value : ℕ) → AreBytes bytes → length
 all_read bytes at value are few read =
     let rest = drop at bytes in
     let below : number (bytes_bits rest) < 2 ^ 64 = few_below rest 8 (drop_bytes at bytes are) (omega (arith, length-drop at bytes)) in
-    let from = number_from at bytes are in
-    let low : number (bytes_bits rest) ≡ number (bytes_bits rest) % 18446744073709551616 = omega arith in
-    read ∙ low ∙ ap (λ n. n % 18446744073709551616) (sym from)
+    grind (arith, number_from)
 
 -- fewer than eight, but not none, in the last eight
 pub last_read : (bytes : List ℕ) (at n : ℕ) → AreBytes bytes → 8 ≤ length bytes → at < length bytes → length bytes < at + 8

@@ -1,5 +1,5 @@
 -- The characters of a lane, place by place, and its edges among them.
-use Rattle.std.proofs.Common.{◌≡◌, ◌↔◌, ℕ, suc, zero, ◌+◌, ◌-◌, ◌*◌, ◌/◌, ◌%◌, ◌<◌, ◌≤◌, Bool, true, false, List, length, take, drop, get_or, refl, ap, ◌∙◌, sym, subst, arith, inl, inr, Some, None, slice_get, if◌then◌else◌, nat_le}
+use Rattle.std.proofs.Common.{◌≡◌, ◌↔◌, ℕ, suc, zero, ◌+◌, ◌-◌, ◌*◌, ◌/◌, ◌%◌, ◌<◌, ◌≤◌, Bool, true, false, List, length, take, drop, get_or, refl, ap, ◌∙◌, sym, subst, arith, Some, None, slice_get, if◌then◌else◌, nat_le}
 use Rattle.std.proofs.lemmas.Bool.{cases_lt, lt-leb}
 use Rattle.std.proofs.lemmas.List.{drop-drop}
 use Rattle.std.proofs.lemmas.Option.{slice_get-get_or, slice_get_within, get_or_from_slice_get}
@@ -11,8 +11,7 @@ use Rattle.tmds_word.specs.Words.{words_of}
 use Rattle.lane_align.proofs.Controls.{window_here, one_lock}
 
 none_if : (b : Bool) (v : ℕ) → b ≡ false → (if b then Some v else None) ≡ None
-none_if true v h = cc
-none_if false v h = refl
+none_if b v h = grind arith
 
 -- there is no window where fewer than ten bits are
 pub no_window : (xs : List Bool) (p : ℕ) → length xs < p + 10 → window xs p ≡ None
@@ -24,9 +23,7 @@ word_of : (n j : ℕ) (xs : List Bool) → j < n → slice_get (words_of n xs) j
 unfolding words_of
 word_of zero j xs lt = absurd (omega arith)
 word_of (suc n) zero xs lt = refl
-word_of (suc n) (suc j) xs lt =
-    let e : 10 + 10 * j ≡ 10 * suc j = omega arith in
-    word_of n j (drop 10 xs) (omega arith) ∙ ap (λ ys. Some (number (take 10 ys))) (drop-drop (10 * j) 10 xs ∙ ap (λ m. drop m xs) e)
+word_of (suc n) (suc j) xs lt = grind (arith, drop-drop (10 * j) 10 xs, word_of n j)
 
 no_word_of : (n j : ℕ) (xs : List Bool) → n ≤ j → slice_get (words_of n xs) j ≡ None
 unfolding words_of
@@ -37,15 +34,7 @@ no_word_of (suc n) (suc j) xs le = no_word_of n j (drop 10 xs) (omega arith)
 -- the characters from a place on are the windows ten apart
 pub word_from : (xs : List Bool) (p j : ℕ) → slice_get (words_from xs p) j ≡ window xs (p + 10 * j)
 unfolding words_from
-word_from xs p j =
-    let n = (length xs - p) / 10 in
-    elim (cases_lt j n) [
-      | inl less ↦
-          word_of n j (drop p xs) less
-          ∙ ap (λ ys. Some (number (take 10 ys))) (drop-drop (10 * j) p xs)
-          ∙ sym (window_here xs (p + 10 * j) _ (λ short. omega arith) refl)
-      | inr more ↦ no_word_of n j (drop p xs) more ∙ sym (no_window xs (p + 10 * j) (omega arith))
-    ]
+word_from xs p j = grind (arith, cases_lt, word_of, drop-drop, window_here, no_word_of, no_window)
 
 -- a control window is a character that is a control word
 control_word : (xs : List Bool) (p j : ℕ) → HasControl xs (p + 10 * j) → is_control (get_or (words_from xs p) j 0) ≡ true
@@ -105,25 +94,14 @@ drop_words : (n i : ℕ) (xs : List Bool) → drop i (words_of n xs) ≡ words_o
 unfolding words_of
 drop_words n zero xs = let e : n ≡ n - 0 = omega arith in ap (λ m. words_of m xs) e
 drop_words zero (suc i) xs = let e : 0 ≡ 0 - suc i = omega arith in ap (λ m. words_of m (drop (10 * suc i) xs)) e
-drop_words (suc n) (suc i) xs =
-    let e : 10 + 10 * i ≡ 10 * suc i = omega arith in
-    let f : n - i ≡ suc n - suc i = omega arith in
-    drop_words n i (drop 10 xs) ∙ ap (λ ys. words_of (n - i) ys) (drop-drop (10 * i) 10 xs ∙ ap (λ m. drop m xs) e) ∙ ap (λ m. words_of m (drop (10 * suc i) xs)) f
+drop_words (suc n) (suc i) xs = grind (arith, drop-drop (10 * i) 10 xs, drop_words n i)
 
 pub words_later : (xs : List Bool) (p i : ℕ) → drop i (words_from xs p) ≡ words_from xs (p + 10 * i)
 unfolding words_from
-words_later xs p i =
-    let n : (length xs - p) / 10 - i ≡ (length xs - (p + 10 * i)) / 10 = omega arith in
-    drop_words ((length xs - p) / 10) i (drop p xs) ∙ ap (λ m. words_of m (drop (10 * i) (drop p xs))) n
-    ∙ ap (words_of ((length xs - (p + 10 * i)) / 10)) (drop-drop (10 * i) p xs)
+words_later xs p i = grind (arith, drop_words, drop-drop)
 
 pub edge_words : (xs : List Bool) (p e : ℕ) → IsLock xs p → IsEdge xs e → drop ((e - 120 - p) / 10) (words_from xs p) ≡ words_from xs (e - 120)
-edge_words xs p e locked edge =
-    let same = one_lock xs edge.lock p edge.is_lock locked in
-    let past = edge.past in
-    let aligned : e % 10 ≡ p % 10 = edge.aligned ∙ ap (λ n. n % 10) same in
-    let at : p + 10 * ((e - 120 - p) / 10) ≡ e - 120 = omega arith in
-    words_later xs p ((e - 120 - p) / 10) ∙ ap (words_from xs) at
+edge_words xs p e locked edge = grind (arith, one_lock, words_later)
 
 length-words_of : (n : ℕ) (xs : List Bool) → length (words_of n xs) ≡ n
 unfolding words_of

@@ -1,5 +1,5 @@
 -- Lanes that push what their aligners write: that they may, and how little is kept once all columns are consumed.
-use Rattle.std.proofs.Common.{◌≡◌, ℕ, suc, zero, ◌+◌, ◌-◌, ◌/◌, ◌^◌, ◌<◌, ◌≤◌, ◌⊎◌, min, cond, Bool, true, false, List, [], ◌∷◌, ◌++◌, length, refl, ap, ◌∙◌, sym, subst, arith, inl, inr, length-append, length-drop, Option, Some, None, MatchOption, is_some, slice_index}
+use Rattle.std.proofs.Common.{◌≡◌, ℕ, suc, zero, ◌+◌, ◌-◌, ◌/◌, ◌^◌, ◌<◌, ◌≤◌, ◌⊎◌, min, cond, Bool, true, List, [], ◌∷◌, ◌++◌, length, refl, ap, ◌∙◌, sym, subst, arith, length-append, length-drop, Option, Some, None, MatchOption, is_some, slice_index}
 use Rattle.std.proofs.lemmas.Bool.{cases_lt}
 use Rattle.lane_align.specs.Lanes.{IsRun, IsLock, IsLockOf}
 use Rattle.lane_align.specs.Words.{lane_words}
@@ -21,20 +21,13 @@ use Rattle.lane_deskew.proofs.Aligning.{row_length}
 -- a lane's characters are those at any lock of its bits
 words_by : (xs : List Bool) (lane : Pushed) (o u : Option ℕ) → MatchOption o ((p : ℕ) → IsRun xs p → ⊥) (λ p. IsLock xs p × (lane.lock ≡ p)) → lane.words ≡ lane_words o xs
     → IsLockOf xs u → lane.words ≡ lane_words u xs
-words_by xs lane None None none words is = words
-words_by xs lane None (Some p) none words is = absurd (none p is.run)
-words_by xs lane (Some p) None locked words none = absurd (none p locked.0.run)
-words_by xs lane (Some p) (Some q) locked words is = words ∙ ap (λ n. lane_words (Some n) xs) (one_lock xs p q locked.0 is)
+words_by xs lane o u h k l = grind (arith, one_lock)
 
 words_at : (xs : List Bool) (lane : Pushed) (u : Option ℕ) → IsCutFrom xs lane → IsLockOf xs u → lane.words ≡ lane_words u xs
 words_at xs lane u cut is = words_by xs lane cut.found u cut.lock cut.words is
 
 pub gained_pushed : (xs us : List Bool) (lane : Pushed) (lock : ℕ) (words : List ℕ) → AreGained xs us lock words → IsCutFrom xs lane → IsCutFrom us (more lock words lane)
-gained_pushed xs us lane lock words gained cut = record {
-  found = Some lock;
-  lock = (gained.is_lock, refl);
-  words = ap (λ vs. vs ++ words) (words_at xs lane gained.before cut gained.was) ∙ gained.all;
-}
+gained_pushed xs us lane lock words gained cut = grind (arith, words_at)
 
 -- no characters without a lock
 no_lock : (xs us : List Bool) → lane_words None xs ≡ lane_words None us
@@ -82,9 +75,7 @@ nothing_more xs lock words (Some p) is_p is all =
     empty (w ∷ ws) h = absurd (omega arith)
 
 known_at : (d : Deskew) (p : History) (lane : ℕ) → DeskewRepresents d p → Knows (lane_at d lane) (past_at p lane)
-known_at d p zero stands = stands.known.first
-known_at d p (suc zero) stands = stands.known.second
-known_at d p (suc (suc n)) stands = stands.known.third
+known_at d p lane h = grind arith
 
 pub gained_fit : (d : Deskew) (p : History) (lane lock : ℕ) (words : List ℕ) (xs us : List Bool) → DeskewRepresents d p → IsCutFrom xs (past_at p lane) → AreGained xs us lock words
     → length us < 2 ^ 63 → ((past_at p lane).ended ≡ true → us ≡ xs) → length (kept_of d lane) + length words ≤ 4160 → CanPush d lane lock words
@@ -99,9 +90,7 @@ gained_fit d p lane lock words xs us stands cut gained small over room =
       same = λ some. lock_by xs us past lock cut.found gained.grown cut.lock cut.words gained.is_lock (omega arith) ∙ sym knows.lock;
       room = room;
       total = omega (arith, length-append (lane_words gained.before xs) words, count_at us lock);
-      going = λ ended.
-          let same = over (sym knows.ended ∙ ended) in
-          nothing_more xs lock words gained.before gained.was (subst (λ (vs : List Bool). IsLock vs lock) same gained.is_lock) (gained.all ∙ ap (λ (vs : List Bool). lane_words (Some lock) vs) same);
+      going = grind (arith, nothing_more);
     }
 
 -- a lane in numbers: how many of its characters a column can reach, how many are not consumed and how many are in
@@ -114,35 +103,17 @@ pub record IsShort (r n taken : ℕ) (ended : Bool) (many bits edge kept : ℕ) 
   pub reached : ended ≡ true → r ≤ many
 
 at_most : (n bits : ℕ) (ended : Bool) → (bits ≡ n) ⊎ ((ended ≡ true) × (bits ≤ n)) → bits ≤ n
-at_most n bits ended (inl all) = omega arith
-at_most n bits ended (inr over) = over.1
+at_most n bits ended h = grind arith
 
 -- an empty row of one lane: the row of a lane whose edge is near is short
 few_near : (r n taken : ℕ) (b c : Bool) (u x e k v y f m : ℕ) → IsShort r n taken b u x e k → IsShort r n taken c v y f m → e ≤ f + 70 → k ≡ 0 → m ≤ 7
-few_near r n taken b c u x e k v y f m one two near none =
-    let i = one.in_row in
-    let j = two.in_row in
-    let s = one.size in
-    let t = two.size in
-    let p = one.past in
-    let q = two.past in
-    let few = at_most n y c two.fed in
-    elim (cases_lt 0 u) [
-      | inl some ↦ omega arith
-      | inr empty ↦ elim one.fed [
-        | inl all ↦ omega arith
-        | inr over ↦ let le = one.reached over.0 in omega arith
-      ]
-    ]
+few_near r n taken b c u x e k v y f m one two near none = grind (arith, at_most, cases_lt)
 
 one_empty : (k l m : ℕ) → min k (min l m) ≡ 0 → (k ≡ 0) ⊎ ((l ≡ 0) ⊎ (m ≡ 0))
-one_empty zero l m h = inl refl
-one_empty (suc k) zero m h = inr (inl refl)
-one_empty (suc k) (suc l) m h = inr (inr (omega arith))
+one_empty k l m h = grind arith
 
 limit_ended : (b : Bool) (n r : ℕ) → r ≤ limit b n → b ≡ true → r ≤ n
-limit_ended true n r h e = h
-limit_ended false n r h e = cc
+limit_ended b n r h k = grind arith
 
 -- a lane that is aligned is such a lane
 lane_short : (lane : Held) (past : Pushed) (taken e r n : ℕ) (xs : List Bool) → Lends lane past taken e r → edge_of past e → IsCutFrom xs past → IsFedTo n xs past
@@ -180,25 +151,7 @@ room_left d p at n xs ys zs stands found cut a b c none lane =
     let near1 = t.first_second in
     let near2 = t.second_third in
     let near3 = t.first_third in
-    let short : (k ≤ 7) × (l ≤ 7) × (m ≤ 7) = elim (one_empty k l m least) [
-      | inl empty ↦ (
-        omega arith,
-        few_near r n p.taken _ _ _ _ _ _ _ _ _ _ one two (omega (arith, near1)) empty,
-        few_near r n p.taken _ _ _ _ _ _ _ _ _ _ one three (omega (arith, near3)) empty,
-      )
-      | inr others ↦ elim others [
-        | inl empty ↦ (
-          few_near r n p.taken _ _ _ _ _ _ _ _ _ _ two one (omega (arith, near1)) empty,
-          omega arith,
-          few_near r n p.taken _ _ _ _ _ _ _ _ _ _ two three (omega (arith, near2)) empty,
-        )
-        | inr empty ↦ (
-          few_near r n p.taken _ _ _ _ _ _ _ _ _ _ three one (omega (arith, near3)) empty,
-          few_near r n p.taken _ _ _ _ _ _ _ _ _ _ three two (omega (arith, near2)) empty,
-          omega arith,
-        )
-      ]
-    ] in
+    let short : (k ≤ 7) × (l ≤ 7) × (m ≤ 7) = grind (arith, one_empty, few_near) in
     by_lane al short lane
   where
     by_lane : IsAligned d p at.edges → (length d.first.kept.row ≤ 7) × (length d.second.kept.row ≤ 7) × (length d.third.kept.row ≤ 7) → (i : ℕ) → length (kept_of d i) ≤ 7

@@ -1,18 +1,14 @@
 -- The list of the columns of three lanes, place by place.
-use Rattle.std.proofs.Common.{◌≡◌, ℕ, suc, zero, ◌-◌, Bool, List, [], ◌∷◌, refl, ◌∙◌, sym, Option, Some, None, slice_get}
-use Rattle.lane_align.specs.Words.{words_from}
+use Rattle.std.proofs.Common.{arith, ◌≡◌, ℕ, suc, zero, Bool, List, [], ◌∷◌, refl, sym, Option, None, slice_get}
 use Rattle.lane_align.proofs.Words.{word_from}
 use Rattle.lane_deskew.specs.Aligned.{column_from, aligned_column, aligned_columns}
 use Rattle.tmds_word.specs.Words.{columns_of}
 
 none_here : (b r : Option ℕ) → column_from b None r ≡ None
-none_here None r = refl
-none_here (Some x) r = refl
+none_here b r = grind arith
 
 none_there : (b g : Option ℕ) → column_from b g None ≡ None
-none_there None g = refl
-none_there (Some x) None = refl
-none_there (Some x) (Some y) = refl
+none_there b g = grind arith
 
 -- the column at a place is that of the characters at it
 column_of_words : (bs gs rs : List ℕ) (j : ℕ) → slice_get (columns_of bs gs rs) j ≡ column_from (slice_get bs j) (slice_get gs j) (slice_get rs j)
@@ -27,11 +23,4 @@ column_of_words (b ∷ bs) (g ∷ gs) (r ∷ rs) (suc j) = column_of_words bs gs
 
 pub columns_listed : (xs ys zs : List Bool) (d e f j : ℕ) → slice_get (aligned_columns xs ys zs d e f) j ≡ aligned_column xs ys zs d e f j
 unfolding aligned_columns aligned_column
-columns_listed xs ys zs d e f j =
-    let bs = words_from xs (d - 120) in
-    let gs = words_from ys (e - 120) in
-    let rs = words_from zs (f - 120) in
-    let eb = word_from xs (d - 120) j in
-    let eg = word_from ys (e - 120) j in
-    let er = word_from zs (f - 120) j in
-    column_of_words bs gs rs j ∙ (λ i. column_from (eb i) (eg i) (er i))
+columns_listed xs ys zs d e f j = grind (arith, word_from, column_of_words)

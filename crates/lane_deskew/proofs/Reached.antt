@@ -1,5 +1,5 @@
 -- Edges that a search has come to, and the triple whose largest edge is least.
-use Rattle.std.proofs.Common.{◌≡◌, ℕ, ◌+◌, ◌≤◌, arith, inl, inr}
+use Rattle.std.proofs.Common.{◌≡◌, ℕ, ◌+◌, ◌≤◌, arith}
 use Rattle.std.proofs.lemmas.Bool.{cases_lt}
 use Rattle.lane_deskew.specs.Triples.{AreTriple, AreFirst}
 use Rattle.tmds_word.specs.Taps.{AreNear}
@@ -7,90 +7,37 @@ use Rattle.lane_deskew.specs.Candidates.{AreAllNear, HaveReached}
 
 -- near edges that are reached are first
 pub near_first : (A B C : ℕ → Type 0) (d e f : ℕ) → HaveReached A B C d e f → AreAllNear d e f → AreFirst A B C d e f
-near_first A B C d e f reached near = record {
-  triple = record {
-    first = reached.first;
-    second = reached.second;
-    third = reached.third;
-    first_second = near.0;
-    second_third = near.1;
-    first_third = near.2;
-  };
-  least = λ p q r t. let b = reached.before p q r t in omega (arith, b.0, b.1, b.2);
-}
+near_first A B C d e f reached near = grind arith
 
 -- edges around one that is the least are near where all are near it
 all_near : (d e f p q r : ℕ) → d ≤ e → d ≤ f → p ≡ d → e ≤ q → f ≤ r → AreNear p q → AreNear p r → AreAllNear d e f
-all_near d e f p q r le_e le_f same le_q le_r near_q near_r =
-    let a = near_q.1 in
-    let b = near_r.1 in
-    ((omega arith, omega arith), (omega arith, omega arith), (omega arith, omega arith))
+all_near d e f p q r le_e le_f same le_q le_r near_q near_r = grind arith
 
 -- the least of three edges that are not near is in no triple
 past_first : (A B C : ℕ → Type 0) (d e f p q r : ℕ) → HaveReached A B C d e f → (AreAllNear d e f → ⊥) → d ≤ e → d ≤ f → AreTriple A B C p q r → d + 1 ≤ p
-past_first A B C d e f p q r reached far le_e le_f t =
-    let b = reached.before p q r t in
-    elim (cases_lt d p) [
-      | inl less ↦ omega arith
-      | inr equal ↦ absurd (far (all_near d e f p q r le_e le_f (omega (arith, b.0)) b.1 b.2 t.first_second t.first_third))
-    ]
+past_first A B C d e f p q r reached far le_e le_f t = grind (arith, cases_lt, all_near)
 
 swap : (d e : ℕ) → AreNear d e → AreNear e d
 swap d e near = (near.1, near.0)
 
 past_second : (A B C : ℕ → Type 0) (d e f p q r : ℕ) → HaveReached A B C d e f → (AreAllNear d e f → ⊥) → e ≤ d → e ≤ f → AreTriple A B C p q r → e + 1 ≤ q
-past_second A B C d e f p q r reached far le_d le_f t =
-    let b = reached.before p q r t in
-    elim (cases_lt e q) [
-      | inl less ↦ omega arith
-      | inr equal ↦
-          let near = all_near e d f q p r le_d le_f (omega (arith, b.1)) b.0 b.2 (swap p q t.first_second) t.second_third in
-          absurd (far (swap e d near.0, near.2, near.1))
-    ]
+past_second A B C d e f p q r reached far le_d le_f t = grind (arith, cases_lt, all_near, swap)
 
 past_third : (A B C : ℕ → Type 0) (d e f p q r : ℕ) → HaveReached A B C d e f → (AreAllNear d e f → ⊥) → f ≤ d → f ≤ e → AreTriple A B C p q r → f + 1 ≤ r
-past_third A B C d e f p q r reached far le_d le_e t =
-    let b = reached.before p q r t in
-    elim (cases_lt f r) [
-      | inl less ↦ omega arith
-      | inr equal ↦
-          let near = all_near f d e r p q le_d le_e (omega (arith, b.2)) b.0 b.1 (swap p r t.first_third) (swap q r t.second_third) in
-          absurd (far (near.1, swap f e near.2, swap f d near.0))
-    ]
+past_third A B C d e f p q r reached far le_d le_e t = grind (arith, cases_lt, all_near, swap)
 
 -- the least of far edges goes on to its lane's next
 pub on_first : (A B C : ℕ → Type 0) (d e f n : ℕ) → HaveReached A B C d e f → (AreAllNear d e f → ⊥) → d ≤ e → d ≤ f
     → A n → ((p : ℕ) → d + 1 ≤ p → A p → n ≤ p) → HaveReached A B C n e f
-on_first A B C d e f n reached far le_e le_f here least = record {
-  first = here;
-  second = reached.second;
-  third = reached.third;
-  before = λ p q r t.
-      let was = reached.before p q r t in
-      (least p (past_first A B C d e f p q r reached far le_e le_f t) t.first, was.1, was.2);
-}
+on_first A B C d e f n reached far le_e le_f here least = grind (arith, past_first)
 
 pub on_second : (A B C : ℕ → Type 0) (d e f n : ℕ) → HaveReached A B C d e f → (AreAllNear d e f → ⊥) → e ≤ d → e ≤ f
     → B n → ((q : ℕ) → e + 1 ≤ q → B q → n ≤ q) → HaveReached A B C d n f
-on_second A B C d e f n reached far le_d le_f here least = record {
-  first = reached.first;
-  second = here;
-  third = reached.third;
-  before = λ p q r t.
-      let was = reached.before p q r t in
-      (was.0, least q (past_second A B C d e f p q r reached far le_d le_f t) t.second, was.2);
-}
+on_second A B C d e f n reached far le_d le_f here least = grind (arith, past_second)
 
 pub on_third : (A B C : ℕ → Type 0) (d e f n : ℕ) → HaveReached A B C d e f → (AreAllNear d e f → ⊥) → f ≤ d → f ≤ e
     → C n → ((r : ℕ) → f + 1 ≤ r → C r → n ≤ r) → HaveReached A B C d e n
-on_third A B C d e f n reached far le_d le_e here least = record {
-  first = reached.first;
-  second = reached.second;
-  third = here;
-  before = λ p q r t.
-      let was = reached.before p q r t in
-      (was.0, was.1, least r (past_third A B C d e f p q r reached far le_d le_e t) t.third);
-}
+on_third A B C d e f n reached far le_d le_e here least = grind (arith, past_third)
 
 -- where its lane has no next, there is no triple
 pub no_first : (A B C : ℕ → Type 0) (d e f : ℕ) → HaveReached A B C d e f → (AreAllNear d e f → ⊥) → d ≤ e → d ≤ f

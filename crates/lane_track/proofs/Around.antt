@@ -1,5 +1,5 @@
 -- A calm lane that loses bits once: no run lies across the slip, since across it there are too few turns.
-use Rattle.std.proofs.Common.{◌≡◌, ◌⊎◌, ◌↔◌, ℕ, ◌+◌, ◌-◌, ◌*◌, ◌%◌, ◌<◌, ◌≤◌, Bool, List, ◌++◌, length, take, drop, ap, ap₂, ◌∙◌, sym, arith, inl, inr, length-take, length-drop}
+use Rattle.std.proofs.Common.{◌≡◌, ◌⊎◌, ◌↔◌, ℕ, ◌+◌, ◌-◌, ◌*◌, ◌%◌, ◌<◌, ◌≤◌, Bool, List, ◌++◌, length, take, drop, ap, ◌∙◌, sym, arith, inl, inr, length-take, length-drop}
 use Rattle.std.proofs.lemmas.Bool.{cases_lt}
 use Rattle.std.proofs.lemmas.List.{drop-drop, drop-take, drop-append-le, length-take-le, drop_all}
 use Rattle.tmds_word.specs.Bits.{turns, row_bits}
@@ -21,11 +21,7 @@ length-part words from many within =
 -- n bits of a part of a lane
 part_cost : (words : List ℕ) (from many i n low high : ℕ) → from + many ≤ 10 * length words → 0 < n → i + n ≤ many
     → AreQuiet words low high → low ≤ from + i → from + i + n ≤ high → 5 * turns (take n (drop i (part_of words from many))) + 5 ≤ 3 * n + 24
-part_cost words from many i n low high within some inside quiet above below =
-    let same : turns (take n (drop i (part_of words from many))) ≡ turns (take n (drop (from + i) (row_bits words))) =
-    ap turns (take_piece many i n (drop from (row_bits words)) inside ∙ ap (take n) (drop-drop i from (row_bits words))) in
-    let h = piece_cost words (from + i) n some (omega arith) (λ k lt under over. quiet k lt (omega arith) (omega arith)) in
-    omega arith
+part_cost words from many i n low high within some inside quiet above below = grind (arith, take_piece, drop-drop, piece_cost)
 
 -- 120 bits across the slip: some before it and some behind
 across_cut : (xs : List Bool) (place dropped p a b : ℕ) → place + dropped ≤ length xs → p + a ≡ place → a + b ≡ 120
@@ -52,11 +48,7 @@ too_few words marks from many place dropped s p run before after =
     let b = 120 - a in
     let cut = across_cut xs place dropped p a b (omega arith) (omega arith) (omega arith) in
     let join = turns_join (take a (drop p xs)) (take b (drop (place + dropped) xs)) in
-    let same : turns (take 120 (drop p (slipped xs place dropped))) ≡ turns (take a (drop p xs) ++ take b (drop (place + dropped) xs)) = ap turns cut in
-    let one = part_cost words from many p a (from + place - 120) (from + place + dropped + 120) s.within (omega arith) (omega arith) s.quiet (omega arith) (omega arith) in
-    let two = part_cost words from many (place + dropped) b (from + place - 120) (from + place + dropped + 120) s.within (omega arith) (omega arith) s.quiet (omega arith) (omega arith) in
-    let many_turns = run_has_turns (slipped xs place dropped) p run in
-    omega arith
+    grind (arith, part_cost, run_has_turns)
 
 pub no_run_across : (words : List ℕ) (marks : List Bool) (from many place dropped : ℕ) → Slips words marks from many place dropped
     → (p : ℕ) → IsRun (slipped_part words from many place dropped) p → (p + 120 ≤ place) ⊎ (place ≤ p)
@@ -156,17 +148,9 @@ drop_part words from many z =
       | inr within ↦
           let e : z + (many - z) ≡ many = omega arith in
           ap (λ m. drop z (take m rest)) (sym e) ∙ drop-take z (many - z) rest ∙ ap (take (many - z)) (drop-drop z from (row_bits words))
-      | inl past ↦
-          let e : many - z ≡ 0 = omega arith in
-          drop_all z (take many rest) (omega (arith, length-take many rest)) ∙ sym (ap (λ m. take m (drop (from + z) (row_bits words))) e)
+      | inl past ↦ grind (arith, drop_all, length-take)
     ]
 
 pub rest_is_part : (words : List ℕ) (from many place dropped z : ℕ) → place ≤ z → place + dropped ≤ many → from + many ≤ 10 * length words
     → drop z (slipped_part words from many place dropped) ≡ part_of words (from + dropped + z) (many - dropped - z)
-rest_is_part words from many place dropped z after long within =
-    let len : length (part_of words from many) ≡ many = length-part words from many within in
-    let e : from + (z + dropped) ≡ from + dropped + z = omega arith in
-    let f : many - (z + dropped) ≡ many - dropped - z = omega arith in
-    drop_slipped (part_of words from many) place dropped z (omega arith) after
-    ∙ drop_part words from many (z + dropped)
-    ∙ ap₂ (part_of words) e f
+rest_is_part words from many place dropped z after long within = grind (arith, length-part, drop_slipped, drop_part)

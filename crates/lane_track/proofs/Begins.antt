@@ -68,25 +68,12 @@ no_three words marks calm i long plain a b c =
     let mark : (k : ℕ) → i ≤ k → k < i + 3 → is_control (get_or words k 0) ≡ true → get_or marks k false ≡ true =
     λ k lo hi h. true_from_ne_false (get_or marks k false) (λ f. let g = plain k lo hi f in cc) in
     let e : i + 0 ≡ i = omega arith in
-    let first : get_or (drop i marks) 0 false ≡ true = get_or-drop i marks 0 false ∙ ap (λ m. get_or marks m false) e ∙ mark i (omega arith) (omega arith) a in
-    let second : get_or (drop i marks) 1 false ≡ true = get_or-drop i marks 1 false ∙ mark (i + 1) (omega arith) (omega arith) b in
-    let third : get_or (drop i marks) 2 false ≡ true = get_or-drop i marks 2 false ∙ mark (i + 2) (omega arith) (omega arith) c in
-    let three = three_marked (drop i marks) first second third in
-    omega arith
+    grind (arith, get_or-drop, three_marked)
 
 -- the control period begins at least 120 bits behind the bits that were lost
 starts_far : (words : List ℕ) (marks : List Bool) (from many place dropped start : ℕ) → Slips words marks from many place dropped
     → BeginsControl words marks (from + place + dropped) start → from + place + dropped + 120 ≤ 10 * start
-starts_far words marks from many place dropped start s b = elim (cases_lt (10 * start) (from + place + dropped + 120)) [
-  | inr far ↦ far
-  | inl near ↦
-      let within = b.within in
-      let after = b.after in
-      let few = s.quiet start (omega arith) (omega arith) (omega arith) in
-      let e : start + 0 ≡ start = omega arith in
-      let many_turns = control_turns (get_or words start 0) (subst (λ m. is_control (get_or words m 0) ≡ true) e (b.control 0 (omega arith))) in
-      absurd (omega arith)
-]
+starts_far words marks from many place dropped start s b = grind (arith, cases_lt, control_turns)
 
 -- no run lies between the slip and the control period but those that begin with its last characters
 none_before : (words : List ℕ) (marks : List Bool) (from many place dropped start early : ℕ) → Slips words marks from many place dropped
@@ -165,16 +152,9 @@ early_of words marks from many place dropped start s b =
       | inr plain ↦ let none : (k : ℕ) → k < 0 → is_control (get_or words (start - 1 - k) 0) ≡ true = λ k lt. absurd (omega arith) in
           (0, omega arith, none, plain)
       | inl one ↦ elim (cases_Bool (is_control (get_or words (start - 1 - 1) 0))) [
-        | inr plain ↦ let some : (k : ℕ) → k < 1 → is_control (get_or words (start - 1 - k) 0) ≡ true =
-            λ k lt. let e : 0 ≡ k = omega arith in subst (λ n. is_control (get_or words (start - 1 - n) 0) ≡ true) e one in
-            (1, omega arith, some, plain)
+        | inr plain ↦ grind arith
         | inl two ↦ elim (cases_Bool (is_control (get_or words (start - 1 - 2) 0))) [
-          | inr plain ↦ let some : (k : ℕ) → k < 2 → is_control (get_or words (start - 1 - k) 0) ≡ true =
-              λ k lt. elim (cases_lt k 1) [
-                | inl less ↦ let e : 0 ≡ k = omega arith in subst (λ n. is_control (get_or words (start - 1 - n) 0) ≡ true) e one
-                | inr more ↦ let e : 1 ≡ k = omega arith in subst (λ n. is_control (get_or words (start - 1 - n) 0) ≡ true) e two
-              ] in
-              (2, omega arith, some, plain)
+          | inr plain ↦ grind (arith, cases_lt)
           | inl three ↦
               let i = start - 1 - 2 in
               let e1 : start - 1 - 1 ≡ i + 1 = omega arith in

@@ -1,5 +1,5 @@
 -- Runs of lists that grow, and of lists that slipped.
-use Rattle.std.proofs.Common.{refl, ◌≡◌, ℕ, ◌+◌, ◌-◌, ◌*◌, ◌≤◌, Bool, List, ◌++◌, length, take, drop, ap, ◌∙◌, sym, arith, length-take, length-drop, length-append}
+use Rattle.std.proofs.Common.{refl, ◌≡◌, ℕ, ◌+◌, ◌-◌, ◌*◌, ◌≤◌, Bool, List, ◌++◌, length, take, drop, ap, ◌∙◌, arith, length-take, length-drop, length-append}
 use Rattle.std.proofs.lemmas.List.{drop-drop, take-append-le, drop-append-le, length-take-le}
 use Rattle.lane_align.specs.Lanes.{IsRun}
 use Rattle.lane_align.proofs.Controls.{control_within}
@@ -22,14 +22,7 @@ run_was xs ys p long run = run_shorter xs (xs ++ ys) ys refl p long run
 -- A list that slipped.
 
 pub drop_slipped : (xs : List Bool) (place dropped q : ℕ) → place + dropped ≤ length xs → place ≤ q → drop q (slipped xs place dropped) ≡ drop (q + dropped) xs
-drop_slipped xs place dropped q long le =
-    let len : length (take place xs) ≡ place = length-take-le place xs (omega arith) in
-    let e : q - length (take place xs) ≡ q - place = omega arith in
-    let f : place + dropped + (q - place) ≡ q + dropped = omega arith in
-    drop_both q (take place xs) (drop (place + dropped) xs) (omega arith)
-    ∙ ap (λ m. drop m (drop (place + dropped) xs)) e
-    ∙ drop-drop (q - place) (place + dropped) xs
-    ∙ ap (λ m. drop m xs) f
+drop_slipped xs place dropped q long le = grind (arith, length-take-le, drop_both, drop-drop)
 
 pub length_slipped : (xs : List Bool) (place dropped : ℕ) → place + dropped ≤ length xs → length (slipped xs place dropped) + dropped ≡ length xs
 length_slipped xs place dropped long =
@@ -57,8 +50,4 @@ run_after xs place dropped p long after run k lt =
     same_control ys xs (p + 10 * k) (p + dropped + 10 * k) (after_piece xs place dropped p k long after) (omega arith) (run k lt)
 
 pub run_stays_after : (xs : List Bool) (place dropped p : ℕ) → place + dropped ≤ length xs → place ≤ p → IsRun xs (p + dropped) → IsRun (slipped xs place dropped) p
-run_stays_after xs place dropped p long after run k lt =
-    let ys = slipped xs place dropped in
-    let within = control_within xs (p + dropped + 10 * k) (run k lt) in
-    let len = length_slipped xs place dropped long in
-    same_control xs ys (p + dropped + 10 * k) (p + 10 * k) (sym (after_piece xs place dropped p k long after)) (omega arith) (run k lt)
+run_stays_after xs place dropped p long after run k lt = grind (arith, control_within, length_slipped, same_control, after_piece)

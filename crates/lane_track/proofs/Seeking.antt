@@ -22,10 +22,7 @@ held_run bits xs base count p holds long run =
 -- behind the first bits there is no run
 pub none_past : (bits : List Bool) (skip from until phase other : ℕ) → ((k : ℕ) → (skip + k) % 10 ≡ other ↔ k % 10 ≡ phase)
     → ((p : ℕ) → IsOther bits (skip + from) (skip + until) other p → ⊥) → (p : ℕ) → IsOther (drop skip bits) from until phase p → ⊥
-none_past bits skip from until phase other same none p is =
-    let after = is.after in
-    let before = is.before in
-    none (skip + p) (record { after = omega arith; before = omega arith; apart = λ h. is.apart ((same p).0 h); run = run_of_rest skip bits p is.run })
+none_past bits skip from until phase other same none p is = grind (arith, run_of_rest)
 
 -- or the least one
 pub first_past : (bits : List Bool) (skip from until phase other p : ℕ) → ((k : ℕ) → (skip + k) % 10 ≡ other ↔ k % 10 ≡ phase)
@@ -35,12 +32,7 @@ first_past bits skip from until phase other p same first =
     let before = first.other.before in
     let e : skip + (p - skip) ≡ p = omega arith in
     record {
-      other = record {
-        after = omega arith;
-        before = omega arith;
-        apart = λ h. first.other.apart (subst (λ n. n % 10 ≡ other) e ((same (p - skip)).1 h));
-        run = run_in_rest skip bits (p - skip) (subst (IsRun bits) (sym e) first.other.run);
-      };
+      other = grind (arith, run_in_rest);
       least = λ q less is.
           let from = is.after in
           let to = is.before in
@@ -94,13 +86,7 @@ other_of : (bits : List Bool) (xs : List Bool) (base count from until phase lock
     → IsLock xs lock → base + from ≤ p → p < base + until → IsStray xs p → IsOther bits from until phase (p - base)
 other_of bits xs base count from until phase lock p holds long same few is_lock after before stray =
     let e : base + (p - base) ≡ p = omega arith in
-    let l : stray.lock ≡ lock = one_lock xs stray.lock lock stray.is_lock is_lock in
-    record {
-      after = omega arith;
-      before = omega arith;
-      apart = λ h. stray.apart (omega arith);
-      run = held_run bits xs base count (p - base) holds (omega arith) (subst (IsRun xs) (sym e) stray.run);
-    }
+    grind (arith, one_lock, held_run)
 
 -- with a lock: no other run in the stretch
 pub none_more : (bits : List Bool) (xs : List Bool) (base count from until phase lock : ℕ) → HoldsBits bits xs base count → until + 119 ≤ count → (phase + base) % 10 ≡ lock % 10 → phase < 10
@@ -123,13 +109,7 @@ stray_here bits xs base count from until phase lock p holds long same few was fi
     let after = first.other.after in
     let before = first.other.before in
     record {
-      stray = record {
-        lock = lock;
-        is_lock = was.lock.0;
-        past = omega arith;
-        apart = λ h. first.other.apart (omega arith);
-        run = run_held bits xs base count p holds (omega arith) first.other.run;
-      };
+      stray = grind (arith, run_held);
       least = λ q less stray. elim (cases_lt q (base + from)) [
         | inl early ↦ was.none q early stray
         | inr here ↦ first.least (q - base) (omega arith) (other_of bits xs base count from until phase lock q holds long same few was.lock.0 here (omega arith) stray)

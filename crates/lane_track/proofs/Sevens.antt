@@ -107,10 +107,7 @@ control_turns n k is =
     ∙ word_turns w (omega arith) is
 
 zero_from : (n : ℕ) → not (nat_eq n 0) ≡ false → n ≡ 0
-zero_from n h = elim (cases_Bool (nat_eq n 0)) [
-  | inl same ↦ eqb-true n 0 same
-  | inr other ↦ let g : not (nat_eq n 0) ≡ true = ap not other in let f : true ≡ false = sym g ∙ h in cc
-]
+zero_from n h = grind (arith, cases_Bool, eqb-true)
 
 -- the test sees two control words, one behind the other, at a place of the mask
 pub none_seen : (n m k : ℕ) → not (nat_eq (bit_and (bit_and (sevens n) (sevens n / 2 ^ 10)) m) 0) ≡ false → bit m (k + 1) ≡ true
@@ -122,9 +119,7 @@ none_seen n m k nothing mask one ten =
     let h : bit_at (bit_and (bit_and s (s / 2 ^ 10)) m) (k + 1) ≡ 1 =
     bit_at_and (bit_and s (s / 2 ^ 10)) m (k + 1)
     ∙ ap₂ min (bit_at_and s (s / 2 ^ 10) (k + 1) ∙ ap₂ min (control_turns n k one) a) (eqb-true _ _ mask) in
-    let z : bit_at 0 (k + 1) ≡ 0 = ap (λ x. x % 2) (zero_over (k + 1)) in
-    let w : 1 ≡ 0 = sym h ∙ ap (λ x. bit_at x (k + 1)) (zero_from _ nothing) ∙ z in
-    omega (arith, w)
+    grind (arith, zero_over, zero_from)
 
 -- The masks.
 

@@ -57,11 +57,7 @@ from_word (suc a) (w ∷ ws) =
 
 -- the bits of a lane from word a on
 lane_from : (words : List ℕ) (from many p a : ℕ) → p + from ≡ 10 * a → p ≤ many → drop p (part_of words from many) ≡ take (many - p) (row_bits (drop a words))
-lane_from words from many p a e le =
-    let f : p + (many - p) ≡ many = omega arith in
-    let g : from + p ≡ 10 * a = omega arith in
-    ap (λ n. drop p (take n (drop from (row_bits words)))) (sym f) ∙ drop-take p (many - p) (drop from (row_bits words))
-    ∙ ap (take (many - p)) (drop-drop p from (row_bits words) ∙ ap (λ n. drop n (row_bits words)) g ∙ from_word a words)
+lane_from words from many p a e le = grind (arith, drop-take p (many - p) (drop from (row_bits words)), drop-drop p from (row_bits words), from_word a words)
 
 abbrev whole_words : List Bool → ℕ → ℕ
 whole_words xs p = (length xs - p) / 10
@@ -97,12 +93,7 @@ lanes_taken (suc k) (suc m) (suc n) (c ∷ cs) = ap (λ ds. c ∷ ds) (lanes_tak
 -- the columns from places of three lanes that are those of column a
 columns_from : (cs : List Column) (n1 n2 n3 a : ℕ) (x y z : List ℕ) → x ≡ take n1 (drop a (blues cs)) → y ≡ take n2 (drop a (greens cs)) → z ≡ take n3 (drop a (reds cs))
     → columns_of x y z ≡ take (length (columns_of x y z)) (drop a cs)
-columns_from cs n1 n2 n3 a x y z ex ey ez =
-    let fx = ex ∙ ap (take n1) (drop-map (λ c. c.blue) a cs) in
-    let fy = ey ∙ ap (take n2) (drop-map (λ c. c.green) a cs) in
-    let fz = ez ∙ ap (take n3) (drop-map (λ c. c.red) a cs) in
-    let same : columns_of x y z ≡ lanes_of n1 n2 n3 (drop a cs) = λ i. columns_of (fx i) (fy i) (fz i) in
-    same ∙ lanes_taken n1 n2 n3 (drop a cs) ∙ ap (λ ds. take (length ds) (drop a cs)) (sym same)
+columns_from cs n1 n2 n3 a x y z ex ey ez = grind (arith, drop-map, lanes_taken)
 
 -- each word of a lane is a character
 abbrev pub AreCharacters : List ℕ → Type 0

@@ -1,11 +1,9 @@
 -- There is a first full alignment at or before column f, and it is the end of one control period.
-use Rattle.std.proofs.Common.{◌≡◌, ℕ, ◌+◌, ◌-◌, ◌*◌, ◌<◌, ◌≤◌, max, Bool, true, false, List, length, map, take, drop, get_or, slice_index, ap, ◌∙◌, sym, subst, arith, inl, inr, ◌⊎◌}
+use Rattle.std.proofs.Common.{◌≡◌, ℕ, ◌+◌, ◌-◌, ◌*◌, ◌<◌, ◌≤◌, max, Bool, false, List, length, map, take, drop, get_or, slice_index, ap, ◌∙◌, sym, subst, arith, inl, inr, ◌⊎◌}
 use Rattle.std.proofs.Math.Nat.{le-max_left, le-max_right, max-le}
 use Rattle.std.proofs.lemmas.Bool.{cases_lt}
 use Rattle.std.proofs.lemmas.List.{length-map, get_or-map}
-use Rattle.tmds_word.specs.Bits.{turns, word_bits}
 use Rattle.tmds_word.specs.Column.{Column, blues, greens, reds}
-use Rattle.terc4.specs.Tables.{is_control}
 use Rattle.terc4.proofs.Words.{few_turns}
 use Rattle.lane_align.specs.Laws.{marked}
 use Rattle.tmds_word.specs.Taps.{part_of, AreNear, IsPart, HasSmallSkew}
@@ -21,38 +19,18 @@ use Rattle.link_laws.proofs.Ends.{near_from, flat}
 use Rattle.link_sink.proofs.Decided.{first_decided}
 use Rattle.link_laws.proofs.Lanes.{fitting_length, fitting_at, lane_sent, not_damaged, few_marked}
 use Rattle.link_laws.proofs.Spelled.{fitting_freely}
-use Rattle.island_pack.specs.Kinds.{Kind, control_column, first_guard, IsPayload, kinds_of, kind_at, EndsAt, IsAfterControl}
+use Rattle.island_pack.specs.Kinds.{Kind, IsPayload, kinds_of, kind_at, EndsAt, IsAfterControl}
 use Rattle.link_laws.specs.Freely.{ReceivedFreely, FirstUntilFreely}
 use Rattle.link_laws.specs.Laws.{EndsControl, BeginColumn, HoldsEnd, FirstUntil}
 use Rattle.link_laws.proofs.Until.{IsReceivedUntil, Holds, edge_until, end_edge}
 
 -- One lane.
 
-clash : (b : Bool) → b ≡ true → b ≡ false → ⊥
-clash b h g = cc
-
 received_until : (ks : List Kind) (f : ℕ) (sent received : List ℕ) → IsSent ks sent → length received ≡ length sent → ((i : ℕ) → i < length received → get_or received i 0 < 1024)
     → ((i : ℕ) → i + 11 ≤ length sent → marked (take 11 (drop i (damaged sent received))) ≤ 2)
     → ((i : ℕ) → i < length sent → i ≤ f → (IsPayload (kind_at ks i) → ⊥) → get_or (damaged sent received) i false ≡ false)
     → IsReceivedUntil ks f received (damaged sent received)
-received_until ks f sent received s len below few spares =
-    let long = length_damaged sent received len in
-    let as_sent : (i : ℕ) → i < length received → get_or (damaged sent received) i false ≡ false → get_or received i 0 ≡ get_or sent i 0 = λ i lt u. same_word sent received i len (omega arith) u in
-    let quiet : (i : ℕ) → i < length received → (kind_at ks i ≡ control_column → ⊥) → get_or (damaged sent received) i false ≡ false → turns (word_bits (get_or received i 0)) ≤ 5 =
-    λ i lt k u. subst (λ w. turns (word_bits w) ≤ 5) (sym (as_sent i lt u)) (s.others i (omega arith) k) in
-    let whole : (i : ℕ) → i < length received → kind_at ks i ≡ control_column → get_or (damaged sent received) i false ≡ false → is_control (get_or received i 0) ≡ true =
-    λ i lt k u. ap is_control (as_sent i lt u) ∙ s.controls i (omega arith) k in
-    record {
-      calm = record {
-        same_length = omega arith;
-        plain = λ i lt u none. kind_cases (turns (word_bits (get_or received i 0)) ≤ 5) (kind_at ks i) (λ c. absurd (clash _ (whole i lt c u) none)) (λ other. quiet i lt other u);
-        few = λ i within. few i (omega arith);
-      };
-      below = below;
-      controls = λ i lt le k. whole i lt k (spares i (omega arith) le (λ p. subst IsPayload k p));
-      guards = λ i lt le k. few_turns _ (quiet i lt (λ c. subst IsGuard c k) (spares i (omega arith) le (no_guard_payload (kind_at ks i) k)));
-      payloads = λ i lt le k u. few_turns _ (quiet i lt (λ c. subst IsPayload c k) u);
-    }
+received_until ks f sent received s len below few spares = grind (arith, length_damaged, same_word, kind_cases, few_turns, no_guard_payload)
 
 -- the lane of a stream that a projection takes
 lane_until : (g : Column → ℕ) (ps : List Period) (sent received : List Column) (f : ℕ) → ReceivedFreely ps sent received → SparesUntil ps sent received f
@@ -96,16 +74,7 @@ IsEnd kinds f from e = (i : ℕ) × (EndsAt kinds i) × (i + 1 ≤ f) × (e + fr
 
 -- two ends that lie near each other are one
 one_end : (kinds : List Kind) (f k l d e : ℕ) → IsAlternating kinds → AreNear k l → AreNear d e → (a : IsEnd kinds f k d) → (b : IsEnd kinds f l e) → a.0 ≡ b.0
-one_end kinds f k l d e alternates skew near a b =
-    let pa = a.3 in
-    let pb = b.3 in
-    elim (cases_lt a.0 b.0) [
-      | inl less ↦ let far = ends_apart kinds alternates a.0 b.0 a.1 b.1 less in absurd (omega arith)
-      | inr more ↦ elim (cases_lt b.0 a.0) [
-        | inl less ↦ let far = ends_apart kinds alternates b.0 a.0 b.1 a.1 less in absurd (omega arith)
-        | inr equal ↦ omega arith
-      ]
-    ]
+one_end kinds f k l d e alternates skew near a b = grind (arith, cases_lt, ends_apart)
 
 -- the same place on two lanes
 near_place : (n k l : ℕ) → k ≤ n → l ≤ n → AreNear k l → AreNear (n - k) (n - l)
@@ -113,30 +82,13 @@ near_place n k l a b near = let c = near.0 in let d = near.1 in (omega arith, om
 
 -- an edge of the first triple is not far past column f
 bounded : (n k l m p q r : ℕ) → k ≤ n → AreNear k l → AreNear k m → max p (max q r) ≤ max (n - k) (max (n - l) (n - m)) → p + k ≤ n + 70
-bounded n k l m p q r le a b least =
-    let c = a.0 in
-    let d = b.0 in
-    let u = le-max_left p (max q r) in
-    let v : max (n - k) (max (n - l) (n - m)) ≤ n + 70 - k = max-le (omega arith) (max-le (omega arith) (omega arith)) in
-    omega arith
+bounded n k l m p q r le a b least = grind (arith, le-max_left, max-le)
 
 bounded_second : (n k l m p q r : ℕ) → l ≤ n → AreNear k l → AreNear l m → max p (max q r) ≤ max (n - k) (max (n - l) (n - m)) → q + l ≤ n + 70
-bounded_second n k l m p q r le a b least =
-    let c = a.1 in
-    let d = b.0 in
-    let u = le-max_left q r in
-    let w = le-max_right p (max q r) in
-    let v : max (n - k) (max (n - l) (n - m)) ≤ n + 70 - l = max-le (omega arith) (max-le (omega arith) (omega arith)) in
-    omega arith
+bounded_second n k l m p q r le a b least = grind (arith, le-max_left, le-max_right, max-le)
 
 bounded_third : (n k l m p q r : ℕ) → m ≤ n → AreNear k m → AreNear l m → max p (max q r) ≤ max (n - k) (max (n - l) (n - m)) → r + m ≤ n + 70
-bounded_third n k l m p q r le a b least =
-    let c = a.1 in
-    let d = b.1 in
-    let u = le-max_right q r in
-    let w = le-max_right p (max q r) in
-    let v : max (n - k) (max (n - l) (n - m)) ≤ n + 70 - m = max-le (omega arith) (max-le (omega arith) (omega arith)) in
-    omega arith
+bounded_third n k l m p q r le a b least = grind (arith, le-max_right, max-le)
 
 -- what the law says of three lists of bits
 abbrev Found : List Period → ℕ → List ℕ → ℕ → List Bool → List Bool → List Bool → Type 0
@@ -156,25 +108,7 @@ record HoldsEach (received : List Column) (k1 k2 k3 n1 n2 n3 f : ℕ) : Type 0 w
 here : (ps : List Period) (sent received : List Column) (f : ℕ) → ReceivedFreely ps sent received → SparesUntil ps sent received f → IsAfterControl (kinds_of ps) f
     → (k1 k2 k3 n1 n2 n3 : ℕ) → HoldsEach received k1 k2 k3 n1 n2 n3 f → AreNear k1 k2 → AreNear k2 k3 → AreNear k1 k3
     → IsTriple (part_of (blues received) k1 n1) (part_of (greens received) k2 n2) (part_of (reds received) k3 n3) (10 * f - k1) (10 * f - k2) (10 * f - k3)
-here ps sent received f reception spares after k1 k2 k3 n1 n2 n3 h n12 n23 n13 =
-    let kinds = kinds_of ps in
-    let alternates = alternating ps reception.conforming in
-    let lanes = lanes_until ps sent received f reception spares in
-    let i = after.before.0 in
-    let next = after.before.1 in
-    let at_f : IsGuard (kind_at kinds f) = subst IsGuard (sym after.opens) tt in
-    let end : EndsAt kinds i = record { here = after.before.2; then = λ e. let o : kind_at kinds (i + 1) ≡ first_guard = ap (kind_at kinds) (sym next) ∙ after.opens in cc } in
-    let b1 = h.blue.begins in
-    let b2 = h.green.begins in
-    let b3 = h.red.begins in
-    record {
-      first = end_edge kinds f i (blues received) _ alternates lanes.blue at_f end next k1 n1 h.blue;
-      second = end_edge kinds f i (greens received) _ alternates lanes.green at_f end next k2 n2 h.green;
-      third = end_edge kinds f i (reds received) _ alternates lanes.red at_f end next k3 n3 h.red;
-      first_second = near_place (10 * f) k1 k2 (omega arith) (omega arith) n12;
-      second_third = near_place (10 * f) k2 k3 (omega arith) (omega arith) n23;
-      first_third = near_place (10 * f) k1 k3 (omega arith) (omega arith) n13;
-    }
+here ps sent received f reception spares after k1 k2 k3 n1 n2 n3 h n12 n23 n13 = grind (arith, alternating ps reception.conforming, lanes_until ps sent received f reception spares, end_edge, near_place)
 
 -- a first full alignment, whose largest edge is at most that of the triple there, is the end of one control period
 first_end : (ps : List Period) (sent received : List Column) (f : ℕ) → ReceivedFreely ps sent received → SparesUntil ps sent received f → IsAfterControl (kinds_of ps) f

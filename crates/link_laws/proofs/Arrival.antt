@@ -1,5 +1,5 @@
 -- Columns that came with sparse damage of columns that spell periods, period after period.
-use Rattle.std.proofs.Common.{◌≡◌, ℕ, suc, ◌+◌, ◌*◌, ◌/◌, ◌≤◌, Bool, true, false, List, [], ◌∷◌, ◌++◌, length, map, replicate, refl, ap, sym, ◌∙◌, subst, append_assoc, arith, slice_index}
+use Rattle.std.proofs.Common.{◌≡◌, ℕ, suc, ◌+◌, ◌*◌, ◌≤◌, Bool, true, false, List, [], ◌∷◌, ◌++◌, length, map, replicate, refl, ap, sym, ◌∙◌, subst, append_assoc, arith, slice_index}
 use Rattle.std.proofs.lemmas.List.{replicate-append-replicate}
 use Rattle.std.proofs.lemmas.List.Elements.{All-tail}
 use Rattle.tmds_word.specs.Column.{Column, blues, greens, reds}
@@ -16,7 +16,7 @@ use Rattle.link_laws.proofs.Conformed.{Conforms, HasValues, has_values}
 use Rattle.link_laws.proofs.VideoReported.{PixelAt, ArePixels, no_pixels, pixel_count, AreGuards}
 use Rattle.link_laws.proofs.IslandColumns.{PartAt, AreParts, no_parts, part, ArePackets, no_packets, one_more, packet_sent}
 use Rattle.link_laws.proofs.SpelledWords.{AreWords, lane_words, small_blue, small_green, small_red}
-use Rattle.island_pack.specs.Kinds.{Kind, control_column, first_guard, second_guard, pixel_column, packet_column, guard_pair, kinds_in, kinds_of, kind_at}
+use Rattle.island_pack.specs.Kinds.{Kind, control_column, first_guard, second_guard, pixel_column, packet_column, kinds_in, kinds_of, kind_at}
 use Rattle.island_pack.specs.Sparse.{unlike_at, IsSparse}
 use Rattle.link_laws.proofs.Guards.{unlike, line_guard, IsWhole, stays_control}
 use Rattle.link_laws.proofs.IslandReported.{framed, frame}
@@ -147,11 +147,7 @@ record PacketFront (first : Bool) (ps : List Packet) (pp : List Column) (ks : Li
 -- the kinds of packets, one after another
 packet_kinds : (n : ℕ) (own : List Column) (ks : List Kind) → length own ≡ 32
     → replicate (32 * suc n) packet_column ++ ks ≡ replicate (length own) packet_column ++ (replicate (32 * n) packet_column ++ ks)
-packet_kinds n own ks e =
-    let k : 32 * suc n ≡ length own + 32 * n = omega arith in
-    ap (λ m. replicate m packet_column ++ ks) k
-    ∙ ap (λ xs. xs ++ ks) (sym (replicate-append-replicate (length own) (32 * n) packet_column))
-    ∙ append_assoc (replicate (length own) packet_column) (replicate (32 * n) packet_column) ks
+packet_kinds n own ks e = grind (arith, replicate-append-replicate (length own) (32 * n) packet_column, append_assoc (replicate (length own) packet_column) (replicate (32 * n) packet_column) ks)
 
 -- a packet, and the packets after it
 packet_front : (first : Bool) (p : Packet) (ps : List Packet) (pp own later : List Column) (ks : List Kind) (ss rs : List Column) → pp ≡ own ++ later → CarriesFreely p (map column_words own)
@@ -166,9 +162,7 @@ packet_front first p ps pp own later ks ss rs e c one rest = record {
 
 front_packets : (first : Bool) (ps : List Packet) (pp : List Column) (ks : List Kind) (ss rs : List Column) → SpellsPacketsBy freely first ps pp
     → Fits (replicate (32 * length ps) packet_column ++ ks) (pp ++ ss) rs → PacketFront first ps pp ks ss rs
-front_packets first [] pp ks ss rs h f =
-    let none = subst (λ cs. Fits ks (cs ++ ss) rs) h f in
-    record { qq = []; back = rs; is = refl; are = subst (λ cs. ArePackets first [] cs []) (sym h) (no_packets first); fits_back = none }
+front_packets first [] pp ks ss rs h f = grind (arith, ArePackets, no_packets)
 front_packets first (p ∷ ps) pp ks ss rs h f =
     let own = h.0 in
     let later = h.1 in
@@ -189,11 +183,7 @@ none _ no_columns = nothing
 arriving_control : (runs : List ControlRun) (xs : List Period) (back : List Column) → Small (values_of runs)
     → ((rs : List Column) → Fits (kinds_of xs) back rs → Arrives xs back rs)
     → (rs : List Column) → Fits (replicate (length (values_of runs)) control_column ++ kinds_of xs) (control_columns (values_of runs) ++ back) rs → Arrives (control runs ∷ xs) (control_columns (values_of runs) ++ back) rs
-arriving_control runs xs back small ih rs f =
-    let vs = values_of runs in
-    let c = front_control vs (kinds_of xs) back rs small f in
-    subst (λ rs. Arrives (control runs ∷ xs) (control_columns vs ++ back) rs) (sym c.is)
-    (more (control runs) xs (control_columns vs) c.cs back c.back (controls runs c.cs c.count c.all) (ih c.back c.fits_back))
+arriving_control runs xs back small ih rs f = grind (arith, front_control, Arrives, control_columns, more, controls)
 
 arriving_video : (bytes : List ℕ) (xs : List Period) (v back : List Column) → are_bytes bytes ≡ true → SpellsPixels (pixels_of bytes) v
     → ((rs : List Column) → Fits (kinds_of xs) back rs → Arrives xs back rs)
@@ -225,32 +215,9 @@ arriving_island x xs v back h ih rs f =
 pub arriving : (xs : List Period) (sent received : List Column) → HasValues xs → SpellsBy freely xs sent → Fits (kinds_of xs) sent received → Arrives xs sent received
 unfolding HasValues kinds_of kinds_in
 arriving [] sent received small h f = subst (λ ss. Arrives [] ss received) (sym h) (none received (subst (λ ss. Fits [] ss received) h f))
-arriving (control runs ∷ xs) sent received small h f =
-    let vs = values_of runs in
-    let back = h.1 in
-    let e : sent ≡ control_columns vs ++ back = h.2 ∙ ap (λ ys. ys ++ back) h.3 in
-    subst (λ ss. Arrives (control runs ∷ xs) ss received) (sym e)
-    (arriving_control runs xs back small.0 (λ rs g. arriving xs back rs small.1 h.4 g) received (subst (λ ss. Fits (replicate (length vs) control_column ++ kinds_of xs) ss received) e f))
-arriving (video bytes ∷ xs) sent received small h f =
-    let pp = h.3.0 in
-    let back = h.1 in
-    let e : sent ≡ line_guard ∷ (line_guard ∷ (pp ++ back)) = h.2 ∙ ap (λ ys. ys ++ back) h.3.1 in
-    let g = subst (λ n. Fits (first_guard ∷ (second_guard ∷ (replicate n pixel_column ++ kinds_of xs))) (line_guard ∷ (line_guard ∷ (pp ++ back))) received) (sym (pixel_count bytes))
-    (subst (λ ss. Fits (first_guard ∷ (second_guard ∷ (replicate (length bytes / 3) pixel_column ++ kinds_of xs))) ss received) e f) in
-    subst (λ ss. Arrives (video bytes ∷ xs) ss received) (sym e)
-    (arriving_video bytes xs pp back small.0 h.3.2 (λ rs g. arriving xs back rs small.1 h.4 g) received g)
-arriving (island x ∷ xs) sent received small h f =
-    let pp = h.3.0 in
-    let back = h.1 in
-    let close = guard_columns x.closing in
-    let e : sent ≡ frame x pp ++ back = h.2 ∙ ap (λ ys. ys ++ back) h.3.1 in
-    let d : frame x pp ++ back ≡ guard_columns x.opening ++ (pp ++ (close ++ back)) = ap (λ ys. guard_columns x.opening ++ ys) (append_assoc pp close back) in
-    let k : kinds_in (island x) ++ kinds_of xs ≡ first_guard ∷ (second_guard ∷ (replicate (32 * length x.packets) packet_column ++ (first_guard ∷ (second_guard ∷ kinds_of xs)))) =
-    ap (λ ys. first_guard ∷ (second_guard ∷ ys)) (append_assoc (replicate (32 * length x.packets) packet_column) guard_pair (kinds_of xs)) in
-    let g = subst (λ ss. Fits (kinds_in (island x) ++ kinds_of xs) ss received) (e ∙ d) f in
-    let g2 = subst (λ ks. Fits ks (guard_columns x.opening ++ (pp ++ (close ++ back))) received) k g in
-    subst (λ ss. Arrives (island x ∷ xs) ss received) (sym e)
-    (arriving_island x xs pp back h.3.2 (λ rs g. arriving xs back rs small h.4 g) received g2)
+arriving (control runs ∷ xs) sent received small h f = grind (arith, control_columns, Arrives, arriving_control, arriving xs)
+arriving (video bytes ∷ xs) sent received small h f = grind (arith, line_guard, pixel_count, Arrives, arriving_video, arriving xs)
+arriving (island x ∷ xs) sent received small h f = grind (arith, frame, append_assoc, Arrives, arriving_island, arriving xs)
 
 pub arrive : (ps : List Period) (sent received : List Column) → Conforms ps → length (kinds_of ps) ≡ length sent → SpellsBy freely ps sent → IsSparse ps sent received → Arrives ps sent received
 arrive ps sent received c many h s =

@@ -1,5 +1,5 @@
 -- A period between control periods: what is told of its columns, whole or in part, and of what comes after them.
-use Rattle.std.proofs.Common.{◌≡◌, ℕ, suc, zero, ◌+◌, ◌-◌, ◌<◌, ◌≤◌, Bool, true, false, List, [], ◌∷◌, ◌++◌, length, take, drop, refl, ap, ap₂, sym, ◌∙◌, append_assoc, arith, inl, inr}
+use Rattle.std.proofs.Common.{◌≡◌, ℕ, suc, zero, ◌+◌, ◌-◌, ◌<◌, ◌≤◌, Bool, true, false, List, [], ◌∷◌, ◌++◌, length, take, drop, refl, ap, sym, ◌∙◌, append_assoc, arith}
 use Rattle.std.proofs.lemmas.List.{append-nil, take-append-le, length-take}
 use Rattle.std.proofs.Math.Seq.{take-append-add, take-append_seam, drop-append_seam}
 use Rattle.std.proofs.lemmas.Bool.{cases_lt, le-leb}
@@ -7,8 +7,8 @@ use Rattle.tmds_word.specs.Column.{Column}
 use Rattle.tmds_word.proofs.Below.{and-left, and-right}
 use Rattle.terc4.specs.Columns.{is_control_column}
 use Rattle.island_pack.specs.Periods.{Period, period_columns}
-use Rattle.period_grammar.specs.Events.{Event, short as short_before}
-use Rattle.period_grammar.specs.Cut.{before as before_period, Stretch as Cut, stretch, stretches}
+use Rattle.period_grammar.specs.Events.{short as short_before}
+use Rattle.period_grammar.specs.Cut.{Stretch as Cut, stretch, stretches}
 use Rattle.period_grammar.specs.Heard.{lacks, at_close, at_end, if_not}
 use Rattle.link_laws.proofs.Cutting.{AllControl, NoneControl, begins, begins_control, cut_both, hear, gap_events, control_reported, hear_control, hear_last, hear_on}
 use Rattle.link_laws.proofs.Rows.{and_both}
@@ -51,24 +51,17 @@ abbrev pub some : List Cut → Bool
 some [] = false
 some (x ∷ xs) = true
 
-some_first : (c : Column) (xs : List Cut) → some (before_period true c xs) ≡ true
-some_first c [] = refl
-some_first c (stretch control gap ∷ xs) = refl
-
 pub some_cut : (next : List Column) → heads next ≡ true → some (stretches next) ≡ true
 unfolding stretches
-some_cut [] h = cc
-some_cut (d ∷ rest) h = ap (λ p. some (before_period p d (stretches rest))) h ∙ some_first d (stretches rest)
+some_cut next h = grind arith
 
 pub begins_heads : (next : List Column) → heads next ≡ true → begins (stretches next) ≡ true
-begins_heads [] h = cc
-begins_heads (d ∷ rest) h = begins_control d rest h
+begins_heads next h = grind (arith, begins_control)
 
 hear_some : (j : ℕ) (control : List Column) (g : Column) (gap : List Column) (xs : List Cut) → some xs ≡ true
     → hear j (stretch control (g ∷ gap) ∷ xs)
     ≡ control_reported j control ++ (gap_events (j + length control) control (g ∷ gap) ++ (at_close (j + length control) (g ∷ gap) ++ hear (j + (length control + length (g ∷ gap))) xs))
-hear_some j control g gap [] h = cc
-hear_some j control g gap (y ∷ ys) h = hear_on j control g gap y ys
+hear_some j control g gap xs h = grind (arith, hear_on)
 
 -- control columns and a gap, before a control column
 gap_on : (j : ℕ) (control gap next : List Column) → 1 ≤ length control → AllControl control → 1 ≤ length gap → NoneControl gap → heads next ≡ true
@@ -94,9 +87,7 @@ take_quiet (suc k) [] h = refl
 take_quiet (suc k) (c ∷ cs) h = and_both _ _ (and-left _ _ h) (take_quiet k cs (and-right _ _ h))
 
 heads_take : (k : ℕ) (cs : List Column) → 1 ≤ k → heads cs ≡ true → heads (take k cs) ≡ true
-heads_take zero cs one h = absurd (omega arith)
-heads_take (suc k) [] one h = cc
-heads_take (suc k) (c ∷ cs) one h = h
+heads_take k cs h l = grind arith
 
 -- received control columns: whatever their words, each has two control words at least
 pub record IsControlPeriod (cs : List Column) : Type 0 where
@@ -109,31 +100,10 @@ PeriodLaw cs x ss rs = (j k : ℕ) (next : List Column) → heads next ≡ true
     → hear j (stretches (cs ++ take k (rs ++ next)))
     ≡ control_row j cs ++ (period_row (j + length cs) k cs x ss rs ++ hear (j + length cs + period_columns x) (stretches (take (k - period_columns x) next)))
 
-nothing_received : (cs : List Column) (x : Period) (ss rs : List Column) → IsControlPeriod cs → IsGap cs x ss rs → (j k : ℕ) (next : List Column) → k ≡ 0
-    → hear j (stretches (cs ++ take k (rs ++ next)))
-    ≡ control_row j cs ++ (period_row (j + length cs) k cs x ss rs ++ hear (j + length cs + period_columns x) (stretches (take (k - period_columns x) next)))
-nothing_received cs x ss rs h g j k next zero_k =
-    let e : k - period_columns x ≡ 0 = omega arith in
-    ap (λ (m : ℕ). hear j (stretches (cs ++ take m (rs ++ next)))) zero_k
-    ∙ ap (λ (ds : List Column). hear j (stretches ds)) (append-nil cs)
-    ∙ hear_control j cs h.all ∙ control_row_reported j cs ∙ sym (append-nil (control_row j cs))
-    ∙ ap₂ (λ (a b : List Event). control_row j cs ++ (a ++ b))
-    (sym (ap (λ m. period_row (j + length cs) m cs x ss rs) zero_k ∙ g.nothing (j + length cs)))
-    (sym (ap (λ (m : ℕ). hear (j + length cs + period_columns x) (stretches (take m next))) e ∙ hear_none (j + length cs + period_columns x)))
-
 part_received : (cs : List Column) (x : Period) (ss rs : List Column) → IsControlPeriod cs → IsGap cs x ss rs → (j k : ℕ) (next : List Column) → 1 ≤ k → k ≤ period_columns x
     → hear j (stretches (cs ++ take k (rs ++ next)))
     ≡ control_row j cs ++ (period_row (j + length cs) k cs x ss rs ++ hear (j + length cs + period_columns x) (stretches (take (k - period_columns x) next)))
-part_received cs x ss rs h g j k next one le =
-    let e : k - period_columns x ≡ 0 = omega arith in
-    let l = h.long in
-    let r = g.long in
-    let t = length-take k rs in
-    ap (λ (ds : List Column). hear j (stretches (cs ++ ds))) (take-append-le k rs next (omega arith))
-    ∙ gap_cut j cs (take k rs) (omega arith) h.all (omega arith) (take_quiet k rs g.quiet)
-    ∙ ap (λ (ts : List Event). ts ++ (gap_events (j + length cs) cs (take k rs) ++ at_end (j + length cs) (take k rs))) (control_row_reported j cs)
-    ∙ ap (λ ts. control_row j cs ++ ts) (g.part (j + length cs) k one le ∙ sym (append-nil (period_row (j + length cs) k cs x ss rs)))
-    ∙ ap (λ ts. control_row j cs ++ (period_row (j + length cs) k cs x ss rs ++ ts)) (sym (ap (λ (m : ℕ). hear (j + length cs + period_columns x) (stretches (take m next))) e ∙ hear_none (j + length cs + period_columns x)))
+part_received cs x ss rs h g j k next one le = grind (arith, length-take, hear, take-append-le, gap_cut, take_quiet, gap_events, control_row_reported, append-nil, hear_none)
 
 all_received : (cs : List Column) (x : Period) (ss rs : List Column) → IsControlPeriod cs → IsGap cs x ss rs → (j k : ℕ) (next : List Column) → heads next ≡ true → period_columns x < k
     → hear j (stretches (cs ++ take k (rs ++ next)))
@@ -145,23 +115,10 @@ all_received cs x ss rs h g j k next at lt =
     let i = k - period_columns x in
     let b = j + length cs in
     let e : k ≡ length rs + i = omega arith in
-    let f : j + (length cs + length rs) ≡ b + period_columns x = omega arith in
-    let rest = stretches (take i next) in
-    ap (λ (m : ℕ). hear j (stretches (cs ++ take m (rs ++ next)))) e
-    ∙ ap (λ (ds : List Column). hear j (stretches (cs ++ ds))) (take-append-add rs next i)
-    ∙ gap_on j cs rs (take i next) (omega arith) h.all (omega arith) g.quiet (heads_take i next (omega arith) at)
-    ∙ ap₂ (λ (ts : List Event) (m : ℕ). ts ++ (gap_events b cs rs ++ (at_close b rs ++ hear m rest))) (control_row_reported j cs) f
-    ∙ ap (λ ts. control_row j cs ++ ts) (sym (append_assoc (gap_events b cs rs) (at_close b rs) (hear (b + period_columns x) rest)))
-    ∙ ap (λ ts. control_row j cs ++ (ts ++ hear (b + period_columns x) rest)) (g.whole b k lt)
+    grind (arith, hear, take-append-add, gap_on, heads_take, gap_events, control_row_reported, append_assoc)
 
 pub period_law : (cs : List Column) (x : Period) (ss rs : List Column) → IsControlPeriod cs → IsGap cs x ss rs → PeriodLaw cs x ss rs
-period_law cs x ss rs h g j k next at = elim (cases_lt (period_columns x) k) [
-  | inl lt ↦ all_received cs x ss rs h g j k next at lt
-  | inr le ↦ elim (cases_lt 0 k) [
-    | inl one ↦ part_received cs x ss rs h g j k next (omega arith) le
-    | inr none ↦ nothing_received cs x ss rs h g j k next (omega arith)
-  ]
-]
+period_law cs x ss rs h g j k next at = grind (arith, cases_lt, all_received, part_received, hear, append-nil, hear_control, control_row_reported, hear_none)
 
 -- no control period is too short, so of what is wrong before an opening only the preamble is left
 pub lacks_preamble : (b bits : ℕ) (cs : List Column) → 12 ≤ length cs → lacks b cs bits ≡ wrong_preamble b bits cs

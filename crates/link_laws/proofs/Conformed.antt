@@ -1,12 +1,12 @@
 -- Conforming periods as data: what may follow control columns of given values.
-use Rattle.std.proofs.Common.{◌≡◌, ℕ, suc, zero, ◌/◌, ◌%◌, ◌<◌, ◌≤◌, true, ◌==◌, List, [], ◌∷◌, length, replicate, refl, ◌∙◌}
+use Rattle.std.proofs.Common.{arith, ◌≡◌, ℕ, suc, zero, ◌/◌, ◌%◌, ◌<◌, ◌≤◌, true, ◌==◌, List, [], ◌∷◌, length, replicate, refl}
 use Rattle.std.specs.Prelude.{nat_lt}
 use Rattle.std.specs.List.{list_all}
 use Rattle.std.proofs.lemmas.List.Folds.{list_all-append}
 use Rattle.std.proofs.lemmas.Bool.{leb-true, ltb-true}
 use Rattle.tmds_word.proofs.Below.{and-left, and-right}
 use Rattle.island_pack.specs.Periods.{ControlRun, DataIsland, Period, control, video, island, values_of, has_preamble}
-use Rattle.island_pack.specs.Conforming.{is_run, is_control_period, are_bytes, is_video_period, is_packet, is_data_island, conforms, IsConforming}
+use Rattle.island_pack.specs.Conforming.{is_run, is_control_period, are_bytes, is_video_period, is_data_island, conforms, IsConforming}
 use Rattle.link_laws.proofs.Rows.{and_both, Small}
 
 pub record IsControl (vs : List ℕ) : Type 0 where
@@ -50,9 +50,7 @@ small_replicate (suc n) v h = and_both _ _ h (small_replicate n v h)
 values_small : (runs : List ControlRun) → list_all is_run runs ≡ true → Small (values_of runs)
 unfolding values_of
 values_small [] h = refl
-values_small (r ∷ rs) h =
-    list_all-append (λ v. nat_lt v 64) (replicate r.count r.value) (values_of rs)
-    ∙ and_both _ _ (small_replicate r.count r.value (and-left _ _ (and-left _ _ h))) (values_small rs (and-right _ _ h))
+values_small (r ∷ rs) h = grind (arith, list_all-append, and_both, small_replicate, and-left, and-right, values_small rs)
 
 pub is_control_of : (runs : List ControlRun) → is_control_period runs ≡ true → IsControl (values_of runs)
 unfolding is_control_period
@@ -66,19 +64,7 @@ is_video_of bytes h =
 
 pub is_island_of : (x : DataIsland) → is_data_island x ≡ true → IsIsland x
 unfolding is_data_island
-is_island_of x h =
-    let pairs = and-left _ _ h in
-    let opening = and-left _ _ pairs in
-    let closing = and-right _ _ pairs in
-    let sizes = and-right (list_all is_packet x.packets) _ (and-right _ _ h) in
-    record {
-      open_first = ltb-true _ _ (and-left _ _ opening);
-      open_second = ltb-true _ _ (and-right _ _ opening);
-      close_first = ltb-true _ _ (and-left _ _ closing);
-      close_second = ltb-true _ _ (and-right _ _ closing);
-      some = leb-true _ _ (and-left _ _ sizes);
-      few = leb-true _ _ (and-right _ _ sizes);
-    }
+is_island_of x h = grind (arith, and-left, and-right, ltb-true, leb-true)
 
 -- what one control period and the period after it say
 inner_follows : (runs : List ControlRun) (x : Period) (rest : List Period) → IsControl (values_of runs) → IsInner (values_of runs) x → Conforms rest → Follows (values_of runs) (x ∷ rest)
@@ -95,16 +81,8 @@ conforming (video bytes ∷ rest) h = cc
 conforming (island x ∷ rest) h = cc
 conforming (control runs ∷ []) h = ends (values_of runs) (is_control_of runs h)
 conforming (control runs ∷ (control next ∷ rest)) h = cc
-conforming (control runs ∷ (video bytes ∷ rest)) h =
-    let c = is_control_of runs (and-left _ _ h) in
-    let g = and-right (is_control_period runs) _ h in
-    let v = and-right (has_preamble 1 (values_of runs)) _ g in
-    inner_follows runs (video bytes) rest c (and-left _ _ g, is_video_of bytes (and-left _ _ v)) (conforming rest (and-right (is_video_period bytes) _ v))
-conforming (control runs ∷ (island x ∷ rest)) h =
-    let c = is_control_of runs (and-left _ _ h) in
-    let g = and-right (is_control_period runs) _ h in
-    let v = and-right (has_preamble 5 (values_of runs)) _ g in
-    inner_follows runs (island x) rest c (and-left _ _ g, is_island_of x (and-left _ _ v)) (conforming rest (and-right (is_data_island x) _ v))
+conforming (control runs ∷ (video bytes ∷ rest)) h = grind (arith, is_control_of, and-left, and-right, inner_follows, is_video_of, conforming rest)
+conforming (control runs ∷ (island x ∷ rest)) h = grind (arith, is_control_of, and-left, and-right, inner_follows, is_island_of, conforming rest)
 
 -- the values of control periods are below 64, the bytes of pixels below 256
 unfoldable pub HasValues : List Period → Type 0
@@ -115,9 +93,7 @@ HasValues (island x ∷ xs) = HasValues xs
 
 inner_values : (vs : List ℕ) (x : Period) (xs : List Period) → IsInner vs x → HasValues xs → HasValues (x ∷ xs)
 unfolding HasValues IsInner
-inner_values vs (control runs) xs i h = absurd i
-inner_values vs (video bytes) xs i h = (i.1.small, h)
-inner_values vs (island x) xs i h = h
+inner_values vs x xs h k = grind arith
 
 follows_values : (vs : List ℕ) (tail : List Period) → Follows vs tail → Small vs × HasValues tail
 unfolding HasValues
@@ -126,7 +102,4 @@ follows_values _ _ (goes_on vs x runs rest h i f) = (h.small, inner_values vs x 
 
 pub has_values : (ps : List Period) → Conforms ps → HasValues ps
 unfolding HasValues Conforms
-has_values [] h = absurd h
-has_values (control runs ∷ rest) h = follows_values (values_of runs) rest h
-has_values (video bytes ∷ rest) h = absurd h
-has_values (island x ∷ rest) h = absurd h
+has_values ps h = grind (arith, follows_values)

@@ -2,7 +2,7 @@
 use Rattle.std.proofs.Common.{◌≡◌, ◌≤◌, true, List, [], ◌∷◌, ◌++◌, length, take, drop, ap, ap₂, sym, ◌∙◌, arith}
 use Rattle.std.proofs.lemmas.List.{append-nil}
 use Rattle.tmds_word.specs.Column.{Column}
-use Rattle.island_pack.specs.Periods.{Period, control, video, island, values_of, period_columns}
+use Rattle.island_pack.specs.Periods.{Period, control, video, island, period_columns}
 use Rattle.period_grammar.specs.Cut.{stretch, stretches}
 use Rattle.link_laws.specs.Freely.{PeriodsStandFreely}
 use Rattle.link_laws.specs.Laws.{cut_as, PeriodsStand}
@@ -50,9 +50,7 @@ unfolding Conforms period_columns
 cut_of [] sent received c a = absurd c
 cut_of (video bytes ∷ rest) sent received c a = absurd c
 cut_of (island x ∷ rest) sent received c a = absurd c
-cut_of (control runs ∷ rest) _ _ c (more _ _ _ _ ss rs (controls _ cs n all) a) =
-    let long = follows_long (values_of runs) rest c in
-    cut_from (control runs) rest (is_tail (values_of runs) rest c) cs ss rs (record { long = omega arith; all = all }) n a
+cut_of (control runs ∷ rest) _ _ c (more _ _ _ _ ss rs (controls _ cs n all) a) = grind (arith, follows_long, cut_from, is_tail)
 
 pub periods_stand_freely : PeriodsStandFreely
 periods_stand_freely ps sent received reception = cut_of ps sent received (conforming ps reception.conforming) (arrived_freely ps sent received reception)

@@ -1,14 +1,14 @@
 -- How control columns, columns that are none, and the rest are cut; and what is told of them.
-use Rattle.std.proofs.Common.{◌≡◌, ℕ, ◌+◌, Bool, true, false, not, List, [], ◌∷◌, ◌++◌, length, map, refl, ap, ap₂, sym, ◌∙◌, append_assoc}
+use Rattle.std.proofs.Common.{arith, ◌≡◌, ℕ, ◌+◌, Bool, true, false, not, List, [], ◌∷◌, ◌++◌, length, map, refl, ap, sym, ◌∙◌, append_assoc}
 use Rattle.std.specs.List.{list_all}
 use Rattle.std.proofs.lemmas.List.{append-nil, map-append}
 use Rattle.tmds_word.specs.Column.{Column}
 use Rattle.tmds_word.proofs.Below.{and-left, and-right}
 use Rattle.terc4.specs.Columns.{is_control_column}
 use Rattle.link_laws.proofs.Computed.{not_true}
-use Rattle.period_grammar.specs.Events.{Event, all_at, event_of}
+use Rattle.period_grammar.specs.Events.{Event, event_of}
 use Rattle.period_grammar.specs.Cut.{before, runs, Stretch as Cut, stretch, stretches}
-use Rattle.period_grammar.specs.Heard.{in_runs, last_run, in_gap, at_close, at_end, so_far, reach, closing, reported_from, end_from}
+use Rattle.period_grammar.specs.Heard.{in_runs, last_run, in_gap, at_close, at_end, so_far, reported_from, end_from}
 use Rattle.period_grammar.proofs.Hearings.{events_at}
 
 -- columns that are all control columns, and columns none of which is
@@ -33,40 +33,26 @@ with_control [] xs = xs
 with_control (c ∷ cs) [] = stretch (c ∷ cs) [] ∷ []
 with_control (c ∷ cs) (stretch control gap ∷ xs) = stretch (c ∷ (cs ++ control)) gap ∷ xs
 
-first_other : (g : Column) (xs : List Cut) → begins xs ≡ true → before false g xs ≡ stretch [] (g ∷ []) ∷ xs
-first_other g [] h = refl
-first_other g (stretch [] gap ∷ xs) h = cc
-first_other g (stretch (k ∷ control) gap ∷ xs) h = refl
-
 pub cut_gap : (gap rest : List Column) → NoneControl gap → begins (stretches rest) ≡ true → stretches (gap ++ rest) ≡ with_gap gap (stretches rest)
 unfolding stretches
 cut_gap [] rest none h = refl
-cut_gap (g ∷ []) rest none h = ap (λ p. before p g (stretches rest)) (not_true _ (and-left _ _ none)) ∙ first_other g (stretches rest) h
+cut_gap (g ∷ []) rest none h = grind (arith, not_true, and-left)
 cut_gap (g ∷ (i ∷ gap)) rest none h =
     ap (λ p. before p g (stretches (i ∷ (gap ++ rest)))) (not_true _ (and-left _ _ none)) ∙ ap (before false g) (cut_gap (i ∷ gap) rest (and-right _ _ none) h)
 
-control_first : (c : Column) (xs : List Cut) → before true c xs ≡ with_control (c ∷ []) xs
-control_first c [] = refl
-control_first c (stretch control gap ∷ xs) = refl
-
 two_controls : (c d : Column) (cs : List Column) (xs : List Cut) → before true c (with_control (d ∷ cs) xs) ≡ with_control (c ∷ (d ∷ cs)) xs
-two_controls c d cs [] = refl
-two_controls c d cs (stretch control gap ∷ xs) = refl
+two_controls c d cs xs = grind arith
 
 pub cut_control : (control rest : List Column) → AllControl control → stretches (control ++ rest) ≡ with_control control (stretches rest)
 unfolding stretches
 cut_control [] rest all = refl
-cut_control (c ∷ []) rest all = ap (λ p. before p c (stretches rest)) (and-left _ _ all) ∙ control_first c (stretches rest)
+cut_control (c ∷ []) rest all = grind (arith, and-left)
 cut_control (c ∷ (d ∷ cs)) rest all =
     ap (λ p. before p c (stretches (d ∷ (cs ++ rest)))) (and-left _ _ all) ∙ ap (before true c) (cut_control (d ∷ cs) rest (and-right _ _ all)) ∙ two_controls c d cs (stretches rest)
 
-begins_with : (c : Column) (xs : List Cut) → begins (before true c xs) ≡ true
-begins_with c [] = refl
-begins_with c (stretch control gap ∷ xs) = refl
-
 pub begins_control : (c : Column) (cs : List Column) → is_control_column c ≡ true → begins (stretches (c ∷ cs)) ≡ true
 unfolding stretches
-begins_control c cs h = ap (λ p. begins (before p c (stretches cs))) h ∙ begins_with c (stretches cs)
+begins_control c cs h = grind arith
 
 joined : (c : Column) (cs : List Column) (g : Column) (gap : List Column) (xs : List Cut) → with_control (c ∷ cs) (stretch [] (g ∷ gap) ∷ xs) ≡ stretch (c ∷ cs) (g ∷ gap) ∷ xs
 joined c cs g gap xs = ap (λ ds. stretch (c ∷ ds) (g ∷ gap) ∷ xs) (append-nil cs)
@@ -101,14 +87,7 @@ hear_control j control all =
 
 so_far_events : (j : ℕ) (control : List Column) (g : Column) (gap : List Column)
     → map event_of (so_far j (stretch control (g ∷ gap))) ≡ control_reported j control ++ gap_events (j + length control) control (g ∷ gap)
-so_far_events j control g gap =
-    let b = j + length control in
-    let before = in_runs j (runs control) in
-    let last = all_at b (last_run (runs control)) in
-    let second = in_gap b control (g ∷ gap) in
-    map-append event_of before (last ++ second)
-    ∙ ap (λ ts. map event_of before ++ ts) (map-append event_of last second ∙ ap (λ (x : List Event). x ++ map event_of second) (events_at b (last_run (runs control))))
-    ∙ sym (append_assoc (map event_of before) (last_run (runs control)) (map event_of second))
+so_far_events j control g gap = grind (arith, map-append, events_at, append_assoc)
 
 -- a period that goes on to the end
 pub hear_last : (j : ℕ) (control : List Column) (g : Column) (gap : List Column)
@@ -117,18 +96,8 @@ hear_last j control g gap =
     ap (λ ts. ts ++ at_end (j + length control) (g ∷ gap)) (so_far_events j control g gap)
     ∙ append_assoc (control_reported j control) (gap_events (j + length control) control (g ∷ gap)) (at_end (j + length control) (g ∷ gap))
 
-regroup : (a b c d e : List Event) → ((a ++ b) ++ (c ++ d)) ++ e ≡ a ++ (b ++ (c ++ (d ++ e)))
-regroup a b c d e = simp append_assoc
-
 -- a period with others after it
 pub hear_on : (j : ℕ) (control : List Column) (g : Column) (gap : List Column) (y : Cut) (ys : List Cut)
     → hear j (stretch control (g ∷ gap) ∷ (y ∷ ys))
     ≡ control_reported j control ++ (gap_events (j + length control) control (g ∷ gap) ++ (at_close (j + length control) (g ∷ gap) ++ hear (j + (length control + length (g ∷ gap))) (y ∷ ys)))
-hear_on j control g gap y ys =
-    let x = stretch control (g ∷ gap) in
-    let rest = reported_from (j + reach x) (y ∷ ys) in
-    let close = at_close (j + length control) (g ∷ gap) in
-    ap (λ ts. ts ++ end_from (j + reach x) (y ∷ ys))
-    (map-append event_of (so_far j x) (closing j x ++ rest)
-    ∙ ap₂ (λ (a b : List Event). a ++ b) (so_far_events j control g gap) (map-append event_of (closing j x) rest ∙ ap (λ ts. ts ++ map event_of rest) (events_at (j + reach x) close)))
-    ∙ regroup (control_reported j control) (gap_events (j + length control) control (g ∷ gap)) close (map event_of rest) (end_from (j + reach x) (y ∷ ys))
+hear_on j control g gap y ys = grind (arith, map-append, so_far_events, events_at, append_assoc)

@@ -1,10 +1,10 @@
 -- Where the control periods of spelled columns end.
-use Rattle.std.proofs.Common.{◌≡◌, ℕ, ◌+◌, ◌*◌, ◌/◌, ◌≤◌, List, [], ◌∷◌, ◌++◌, length, replicate, refl, arith, ◌⊎◌, length-append}
+use Rattle.std.proofs.Common.{◌≡◌, ℕ, ◌+◌, ◌≤◌, List, [], ◌∷◌, ◌++◌, length, replicate, refl, arith, ◌⊎◌, length-append}
 use Rattle.std.proofs.lemmas.List.{length-replicate}
 use Rattle.link_laws.specs.Alternating.{IsMiddle, IsAlternating, last, more}
 use Rattle.link_laws.proofs.Shapes.{middle_video, middle_island, EndsLater, where_ends, ends_alone, ends_late as alternating_late}
 use Rattle.island_pack.specs.Periods.{ControlRun, Period, control, video, island, values_of, period_columns}
-use Rattle.island_pack.specs.Kinds.{Kind, control_column, pixel_column, packet_column, guard_pair, kinds_in, kinds_of, EndsAt}
+use Rattle.island_pack.specs.Kinds.{Kind, control_column, kinds_in, kinds_of, EndsAt}
 use Rattle.link_laws.proofs.Conformed.{IsInner, Follows, ends, goes_on}
 
 inner_middle : (vs : List ℕ) (x : Period) → IsInner vs x → IsMiddle (kinds_in x)
@@ -42,9 +42,4 @@ ends_late vs tail f i e = alternating_late (kinds_from vs tail) (follows_alterna
 
 pub kinds_size : (x : Period) → length (kinds_in x) ≡ period_columns x
 unfolding kinds_in period_columns
-kinds_size (control runs) = length-replicate (length (values_of runs)) control_column
-kinds_size (video bytes) = let l = length-replicate (length bytes / 3) pixel_column in omega arith
-kinds_size (island x) =
-    let l = length-replicate (32 * length x.packets) packet_column in
-    let a = length-append (replicate (32 * length x.packets) packet_column) guard_pair in
-    omega arith
+kinds_size x = grind (arith, length-replicate, length-append)

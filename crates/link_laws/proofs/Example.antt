@@ -1,5 +1,5 @@
 -- Taps of the stream, each with its first full alignment.
-use Rattle.std.proofs.Common.{◌≡◌, ℕ, ◌+◌, ◌*◌, ◌<◌, ◌≤◌, List, [], ◌∷◌, length, refl, ◌∙◌, arith, zero, suc}
+use Rattle.std.proofs.Common.{◌≡◌, ℕ, ◌+◌, ◌*◌, ◌<◌, ◌≤◌, List, [], ◌∷◌, length, refl, arith, zero, suc}
 use Rattle.std.specs.Prelude.{slice_index}
 use Rattle.std.proofs.lemmas.List.{length-map}
 use Rattle.tmds_word.specs.Column.{Column, blues, greens, reds}
@@ -20,11 +20,7 @@ part : (words : List ℕ) (from many : ℕ) → length words ≡ 87 → from + m
 part words from many long le = record { within = omega arith; bits_are = refl }
 
 tapped : (cs : List Column) → length cs ≡ 87 → IsTap cs 7 skews counts (part_of (blues cs) 7 863) (part_of (greens cs) 77 793) (part_of (reds cs) 42 828)
-tapped cs long = record {
-  blue_part = part (blues cs) 7 863 (length-map cs (λ c. c.blue) ∙ long) (omega arith);
-  green_part = part (greens cs) 77 793 (length-map cs (λ c. c.green) ∙ long) (omega arith);
-  red_part = part (reds cs) 42 828 (length-map cs (λ c. c.red) ∙ long) (omega arith);
-}
+tapped cs long = grind (arith, length-map)
 
 small : HasSmallSkew skews
 small = record { first_second = (omega arith, omega arith); second_third = (omega arith, omega arith); first_third = (omega arith, omega arith) }
@@ -42,7 +38,7 @@ holds = record {
 }
 
 aligns : (cs : List Column) → SparesUntil stream sent cs 24 → AlignsUntil stream sent cs 7 skews counts 24
-aligns cs spared = record { after = after_first; spares = spared; holds = holds }
+aligns cs spared = grind (arith, after_first)
 
 pub payload_aligned : HasPayloadExample
 payload_aligned =

@@ -1,5 +1,5 @@
 -- The control columns that came are those of the control periods, and the account of columns that came.
-use Rattle.std.proofs.Common.{◌≡◌, ◌↔◌, ℕ, ◌+◌, ◌≤◌, Bool, true, false, List, [], ◌∷◌, length, take, drop, refl, subst, arith}
+use Rattle.std.proofs.Common.{◌≡◌, ◌↔◌, ℕ, ◌+◌, ◌≤◌, true, List, [], ◌∷◌, take, drop, refl, subst, arith}
 use Rattle.tmds_word.specs.Column.{Column}
 use Rattle.terc4.specs.Columns.{is_control_column}
 use Rattle.terc4.proofs.Words.{few_turns}
@@ -23,12 +23,6 @@ use Rattle.link_laws.proofs.LaneEnds.{kind_cases}
 
 -- The framing.
 
-clash : (b : Bool) → b ≡ true → b ≡ false → ⊥
-clash b h g = cc
-
-other : (k : Kind) (r : Column) → (k ≡ control_column → ⊥) → is_control_column r ≡ false → (k ≡ control_column) ↔ (is_control_column r ≡ true)
-other k r apart quiet = (λ e. absurd (apart e), λ e. absurd (clash _ e quiet))
-
 quiet : (k : Kind) (s : Column) → (k ≡ control_column → ⊥) → FitsColumn k s → IsQuiet s
 quiet k s apart f = record { blue = few_turns s.blue (f.blue.others apart); green = few_turns s.green (f.green.others apart); red = few_turns s.red (f.red.others apart) }
 
@@ -36,9 +30,7 @@ whole : (k : Kind) (s : Column) → k ≡ control_column → FitsColumn k s → 
 whole k s is f = record { blue = f.blue.controls is; green = f.green.controls is; red = f.red.controls is }
 
 by_kind : (k : Kind) (s r : Column) → FitsColumn k s → unlike s r ≤ 1 → (k ≡ control_column) ↔ (is_control_column r ≡ true)
-by_kind k s r f one =
-    kind_cases ((k ≡ control_column) ↔ (is_control_column r ≡ true)) k (λ is. (λ e. stays_control s r (whole k s is f) one, λ e. is))
-    (λ apart. other k r apart (stays_quiet s r (quiet k s apart f) one))
+by_kind k s r f one = grind (arith, kind_cases, stays_control, whole, stays_quiet, quiet)
 
 pub framing_stands_freely : FramingStandsFreely
 framing_stands_freely ps sent received reception i lt =
@@ -60,12 +52,8 @@ link_of (island x ∷ rest) sent received c arrives a m e = absurd c
 link_of (control runs ∷ rest) _ _ c (more _ _ _ _ ss rs (controls _ cs n all) arrives) a m e =
     from_end (values_of runs) rest c runs refl cs ss rs n all arrives a m (subst (λ ks. EndsAt ks (a + 11)) (control_kinds runs rest) e)
 
-kinds_many : (ps : List Period) (sent received : List Column) → ReceivedFreely ps sent received → length (kinds_of ps) ≡ length sent
-kinds_many ps sent received reception = fitting_length (kinds_of ps) sent (fitting_freely ps sent reception.conforming reception.spelled)
-
 pub arrived_freely : (ps : List Period) (sent received : List Column) → ReceivedFreely ps sent received → Arrives ps sent received
-arrived_freely ps sent received reception =
-    arrive ps sent received (conforming ps reception.conforming) (kinds_many ps sent received reception) reception.spelled reception.sparse
+arrived_freely ps sent received reception = grind (arith, arrive, conforming, fitting_length, fitting_freely)
 
 pub arrived : (ps : List Period) (sent received : List Column) → ReceivedOf ps sent received → Arrives ps sent received
 arrived ps sent received reception = arrived_freely ps sent received (free_received ps sent received reception)

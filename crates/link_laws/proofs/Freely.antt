@@ -1,12 +1,12 @@
 -- Columns that a source spells are spelled whatever bit 3 of lane 0 is, and clean columns came so of themselves.
-use Rattle.std.proofs.Common.{◌≡◌, ℕ, ◌+◌, ◌<◌, Bool, true, false, List, [], ◌∷◌, length, take, drop, refl, ap₂, arith, not}
+use Rattle.std.proofs.Common.{◌≡◌, ℕ, ◌+◌, ◌<◌, Bool, false, List, [], ◌∷◌, length, refl, ap₂, arith, not}
 use Rattle.std.proofs.lemmas.Bool.{eq-eqb}
-use Rattle.tmds_word.specs.Column.{Column, blues, greens, reds}
+use Rattle.tmds_word.specs.Column.{Column}
 use Rattle.terc4.specs.Columns.{one_if}
 use Rattle.island_pack.specs.Packets.{Carries}
-use Rattle.island_pack.specs.Periods.{Period, control, video, island}
-use Rattle.island_pack.specs.Sparse.{unlike_words, AreFew, IsNarrow, column_at, IsSparse}
-use Rattle.island_pack.specs.Spelling.{column_words, SpellsPacketsBy, SpellsPeriodBy, SpellsBy, Spells, freely}
+use Rattle.island_pack.specs.Periods.{Period}
+use Rattle.island_pack.specs.Sparse.{unlike_words, IsNarrow, column_at, IsSparse}
+use Rattle.island_pack.specs.Spelling.{SpellsPacketsBy, SpellsPeriodBy, SpellsBy, Spells, freely}
 use Rattle.island_pack.specs.declared.packet.Packet.{Packet}
 use Rattle.link_laws.specs.Freely.{ReceivedFreely, PeriodReceivedFreely}
 use Rattle.link_laws.specs.Laws.{ReceivedOf}
@@ -17,9 +17,7 @@ free_packets first [] cs h = h
 free_packets first (p ∷ ps) cs h = (h.0, h.1, h.2, h.3.free, free_packets false ps h.1 h.4)
 
 pub free_period : (p : Period) (own : List Column) → SpellsPeriodBy Carries p own → SpellsPeriodBy freely p own
-free_period (control runs) own h = h
-free_period (video bytes) own h = h
-free_period (island x) own h = (h.0, h.1, free_packets true x.packets h.0 h.2)
+free_period p own h = grind (arith, free_packets)
 
 pub free_spelled : (ps : List Period) (cs : List Column) → Spells ps cs → SpellsBy freely ps cs
 free_spelled [] cs h = h
@@ -38,16 +36,5 @@ unfolding unlike_words one_if
 none_unlike [] = refl
 none_unlike (w ∷ ws) = ap₂ (λ (b : Bool) (n : ℕ). one_if (not b) + n) (eq-eqb w w refl) (none_unlike ws)
 
-few_unlike : (ws : List ℕ) → AreFew ws ws
-few_unlike ws i within = let e = none_unlike (take 11 (drop i ws)) in omega (arith, e)
-
 pub spared : (ps : List Period) (cs : List Column) → ((i : ℕ) → i < length cs → IsNarrow (column_at cs i)) → IsSparse ps cs cs
-spared ps cs narrow = record {
-  same_length = refl;
-  characters = narrow;
-  one_a_column = λ i. let e = none_unlike (column_words (column_at cs i)) in omega (arith, e);
-  one_a_pair = λ i guard. let e = none_unlike (column_words (column_at cs i)) in let f = none_unlike (column_words (column_at cs (i + 1))) in omega (arith, e, f);
-  few_blue = few_unlike (blues cs);
-  few_green = few_unlike (greens cs);
-  few_red = few_unlike (reds cs);
-}
+spared ps cs narrow = grind (arith, none_unlike)

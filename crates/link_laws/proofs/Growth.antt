@@ -1,5 +1,5 @@
 -- What lanes tell begins what they tell when each has any bits more.
-use Rattle.std.proofs.Common.{◌≡◌, ℕ, List, ◌++◌, refl, ap, sym, ◌∙◌, inl, inr, append_assoc}
+use Rattle.std.proofs.Common.{arith, ◌≡◌, ℕ, List, ◌++◌, refl, ap, sym, ◌∙◌, inl, inr, append_assoc}
 use Rattle.tmds_word.specs.Column.{Column}
 use Rattle.lane_deskew.specs.Aligned.{aligned_columns}
 use Rattle.lane_deskew.specs.Triples.{IsFirst}
@@ -31,9 +31,7 @@ more_events g is before now d e f p q r h first found =
     (events.0, ap g.so_far columns.1 ∙ events.1)
 
 pub reported_grows : ReportedGrows
-reported_grows g is before now us vs h (inl (d, e, f, first, reported)) (inl (p, q, r, found, more)) =
-    let events = more_events g is before now d e f p q r h first found in
-    (events.0, more ∙ events.1 ∙ ap (λ ts. ts ++ events.0) (sym reported))
+reported_grows g is before now us vs h (inl (d, e, f, first, reported)) (inl (p, q, r, found, more)) = grind (arith, more_events g is before now d e f p q r h first found)
 reported_grows g is before now us vs h (inl (d, e, f, first, reported)) (inr (nowhere, more)) =
     absurd (nowhere d e f (first_stays _ _ _ _ _ _ _ _ _ h.blue h.green h.red first).triple)
 reported_grows g is before now us vs h (inr (nowhere, reported)) now_reported = (vs, ap (λ ts. ts ++ vs) (sym reported))

@@ -1,6 +1,5 @@
 -- Guard columns as they came, of which one word of a pair may be unlike the one that was sent.
-use Rattle.std.proofs.Common.{◌≡◌, ℕ, ◌+◌, ◌<◌, ◌≤◌, Bool, true, false, not, ◌&&◌, ◌==◌, slice_index, refl, ap, ap₂, sym, ◌∙◌, arith}
-use Rattle.std.specs.Prelude.{nat_le}
+use Rattle.std.proofs.Common.{◌≡◌, ℕ, ◌+◌, ◌<◌, ◌≤◌, Bool, true, false, not, ◌&&◌, ◌==◌, slice_index, refl, ap, ap₂, arith}
 use Rattle.std.proofs.lemmas.Bool.{eqb-true, le-leb, lt-leb}
 use Rattle.tmds_word.specs.Column.{Column, column_of}
 use Rattle.tmds_word.proofs.Below.{and-left, and-right, passes_below, passes_at}
@@ -13,19 +12,16 @@ use Rattle.period_grammar.specs.Heard.{video, island, kind_by, opened}
 
 pub one_at_most : (q : Bool) → one_if q ≤ 1
 unfolding one_if
-one_at_most true = omega arith
-one_at_most false = omega arith
+one_at_most q = grind arith
 
 -- what a word was found to be, it is found to be still, but for a word that came unlike
 pub lost : (p : ℕ → Bool) (s r : ℕ) → p s ≡ true → (same : Bool) → (s == r) ≡ same → 1 ≤ one_if (p r) + one_if (not same)
 unfolding one_if
-lost p s r h true e = let q : one_if (p r) ≡ 1 = ap (λ w. one_if (p w)) (sym (eqb-true s r e)) ∙ ap one_if h in omega arith
-lost p s r h false e = omega arith
+lost p s r h k l = grind (arith, eqb-true)
 
 pub gained : (p : ℕ → Bool) (s r : ℕ) → p s ≡ false → (same : Bool) → (s == r) ≡ same → one_if (p r) ≤ one_if (not same)
 unfolding one_if
-gained p s r h true e = let q : one_if (p r) ≡ 0 = ap (λ w. one_if (p w)) (sym (eqb-true s r e)) ∙ ap one_if h in omega arith
-gained p s r h false e = one_at_most (p r)
+gained p s r h k l = grind (arith, eqb-true, one_at_most)
 
 abbrev pub unlike : Column → Column → ℕ
 unlike s r = unlike_words (column_words s) (column_words r)
@@ -38,11 +34,7 @@ pub record IsQuiet (s : Column) : Type 0 where
 
 pub stays_quiet : (s r : Column) → IsQuiet s → unlike s r ≤ 1 → is_control_column r ≡ false
 unfolding is_control_column unlike_words
-stays_quiet s r h one =
-    let b = gained is_control s.blue r.blue h.blue (s.blue == r.blue) refl in
-    let g = gained is_control s.green r.green h.green (s.green == r.green) refl in
-    let d = gained is_control s.red r.red h.red (s.red == r.red) refl in
-    lt-leb 2 _ (omega arith)
+stays_quiet s r h one = grind (arith, gained, lt-leb)
 
 pub record IsWhole (s : Column) : Type 0 where
   pub blue : is_control s.blue ≡ true
@@ -51,11 +43,7 @@ pub record IsWhole (s : Column) : Type 0 where
 
 pub stays_control : (s r : Column) → IsWhole s → unlike s r ≤ 1 → is_control_column r ≡ true
 unfolding is_control_column unlike_words
-stays_control s r h one =
-    let b = lost is_control s.blue r.blue h.blue (s.blue == r.blue) refl in
-    let g = lost is_control s.green r.green h.green (s.green == r.green) refl in
-    let d = lost is_control s.red r.red h.red (s.red == r.red) refl in
-    le-leb 2 _ (omega arith)
+stays_control s r h one = grind (arith, lost, le-leb)
 
 -- Video guards.
 
@@ -70,15 +58,10 @@ video_kept : (r : Column) → 3 ≤ video_words r + unlike line_guard r
 unfolding video_words unlike_words video_guard
 video_kept r =
     let b = lost (λ w. w == 0x2cc) 0x2cc r.blue refl (0x2cc == r.blue) refl in
-    let g = lost (λ w. w == 0x133) 0x133 r.green refl (0x133 == r.green) refl in
-    let d = lost (λ w. w == 0x2cc) 0x2cc r.red refl (0x2cc == r.red) refl in
-    omega arith
+    grind (arith, lost)
 
 pub opens_video : (g h : Column) → unlike line_guard g + unlike line_guard h ≤ 1 → opened g h ≡ video
-opens_video g h one =
-    let a = video_kept g in
-    let b = video_kept h in
-    ap (λ p. kind_by p (nat_le 5 (island_words g + island_words h))) (le-leb 5 (video_words g + video_words h) (omega arith))
+opens_video g h one = grind (arith, video_kept, le-leb)
 
 -- Island guards.
 
@@ -100,12 +83,9 @@ is_blue d lt =
     let u = and-right (not (is_control (guard_column d).blue)) _ t in
     record { quiet = not_true _ (and-left _ _ t); twelve = and-left _ _ u; other = not_true _ (and-right (is_twelve_or_more (value_in terc_words (guard_column d).blue)) _ u) }
 
-island_guard_test : not (is_control island_guard) ≡ true
-unfolding is_control is_in control_words island_guard
-island_guard_test = refl
-
 pub guard_quiet : (d : ℕ) → d < 4 → IsQuiet (guard_column d)
-guard_quiet d lt = record { blue = (is_blue d lt).quiet; green = not_true _ island_guard_test; red = not_true _ island_guard_test }
+unfolding is_control is_in control_words island_guard
+guard_quiet d lt = grind (arith, is_blue, not_true)
 
 closing_kept : (s r : Column) → s.green ≡ island_guard → s.red ≡ island_guard → 2 ≤ closing_words r + unlike s r
 unfolding closing_words unlike_words island_guard
@@ -118,9 +98,7 @@ island_kept : (s r : Column) → IsBlue s.blue → s.green ≡ island_guard → 
 unfolding island_words closing_words unlike_words island_guard
 island_kept s r blue e f =
     let b = lost (λ w. is_twelve_or_more (value_in terc_words w)) s.blue r.blue blue.twelve (s.blue == r.blue) refl in
-    let g = lost (λ w. w == 0x133) s.green r.green (ap (λ w. w == 0x133) e) (s.green == r.green) refl in
-    let d = lost (λ w. w == 0x133) s.red r.red (ap (λ w. w == 0x133) f) (s.red == r.red) refl in
-    omega arith
+    grind (arith, lost)
 
 -- an island guard has one word of a video guard, its green one
 video_few : (s r : Column) → IsBlue s.blue → s.red ≡ island_guard → video_words r ≤ 1 + unlike s r
@@ -141,7 +119,4 @@ opens_island u v g h lu lv one =
 
 pub guards_close : (u v : ℕ) (c d : Column) → unlike (guard_column u) c + unlike (guard_column v) d ≤ 1 → closes c d ≡ true
 unfolding closes
-guards_close u v c d one =
-    let a = closing_kept (guard_column u) c refl refl in
-    let b = closing_kept (guard_column v) d refl refl in
-    le-leb 3 (closing_words c + closing_words d) (omega arith)
+guards_close u v c d one = grind (arith, closing_kept (guard_column u) c refl refl, closing_kept (guard_column v) d refl refl)

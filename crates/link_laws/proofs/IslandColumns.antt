@@ -74,10 +74,7 @@ parts_open i _ _ rest no_parts many = absurd (omega arith)
 parts_open i _ _ rest (part s r ss rs h no_parts) many = absurd (omega arith)
 parts_open zero _ _ rest (part s r ss rs h (part t q tt qs g are)) many = refl
 parts_open (suc zero) _ _ rest (part s r ss rs h (part t q tt qs g are)) many = refl
-parts_open (suc (suc i)) _ _ rest (part s r ss rs h (part t q tt qs g are)) many =
-    let a = part_closing s r h in
-    let b = part_closing t q g in
-    lt-leb 3 (closing_words r + closing_words q) (omega arith)
+parts_open (suc (suc i)) _ _ rest (part s r ss rs h (part t q tt qs g are)) many = grind (arith, part_closing, lt-leb)
 
 pub packets_quiet : (first : Bool) (ps : List Packet) (ss rs : List Column) → ArePackets first ps ss rs → NoneControl rs
 packets_quiet _ _ _ _ (no_packets first) = refl

@@ -1,20 +1,19 @@
 -- What is told of a data island's columns as they came.
-use Rattle.std.proofs.Common.{◌≡◌, ℕ, suc, zero, ◌+◌, ◌*◌, ◌-◌, ◌<◌, ◌≤◌, Bool, true, false, cond, not, ◌==◌, List, [], ◌∷◌, ◌++◌, length, map, take, drop, refl, ap, ap₂, sym, ◌∙◌, subst, append_assoc, arith, inl, inr, length-append, length-take, zero-add}
+use Rattle.std.proofs.Common.{◌≡◌, ℕ, suc, zero, ◌+◌, ◌*◌, ◌-◌, ◌<◌, ◌≤◌, Bool, true, false, cond, not, List, [], ◌∷◌, ◌++◌, length, map, take, drop, refl, ap, ap₂, sym, ◌∙◌, subst, append_assoc, arith, length-append, length-take, zero-add}
 use Rattle.std.proofs.lemmas.List.{append-nil, take_all, map-append}
 use Rattle.std.proofs.lemmas.List.Folds.{list_all-append}
 use Rattle.std.proofs.lemmas.Bool.{cases_lt, ne_eqb, le-leb, le-ltb, lt-ltb}
 use Rattle.std.proofs.Math.Seq.{take-append-add}
 use Rattle.tmds_word.specs.Column.{Column}
-use Rattle.terc4.specs.Columns.{is_control_column, is_island_guard, closes}
+use Rattle.terc4.specs.Columns.{closes}
 use Rattle.island_pack.specs.Packets.{CarriesFreely}
 use Rattle.island_pack.specs.Periods.{DataIsland, period_columns}
 use Rattle.island_pack.specs.Spelling.{guard_column, guard_columns, column_words}
 use Rattle.island_pack.specs.declared.packet.Packet.{Packet}
-use Rattle.period_grammar.specs.Column.{sync_digit}
 use Rattle.island_pack.specs.Repaired.{verdicts_of}
-use Rattle.period_grammar.specs.Events.{Event, cut, broken, empty, long_island, packet, open_island as opens_event, close_island as closes_event, event_of, all_at}
-use Rattle.period_grammar.specs.Island.{Payload, parts, with_packet, when, if_so, packet_faults, packet_events, in_packets, left_at, begins_close, holds_packet, split, payload, wrong_guards, closing_events, in_closing, in_left, in_island, breaks}
-use Rattle.period_grammar.specs.Heard.{island, lacks, opened, opening, in_payload, payload_closes, payload_ends, in_gap, at_close, at_end}
+use Rattle.period_grammar.specs.Events.{Event, cut, broken, long_island, packet, event_of}
+use Rattle.period_grammar.specs.Island.{Payload, parts, with_packet, when, if_so, packet_faults, packet_events, in_packets, left_at, begins_close, holds_packet, split, payload, closing_events, in_closing, in_left, in_island, breaks}
+use Rattle.period_grammar.specs.Heard.{island, opened, opening, payload_closes, in_gap, at_close, at_end}
 use Rattle.link_laws.specs.Account.{packet_row, packet_reported, open_island_row, close_island_row, packets_reported, island_reported, period_row}
 use Rattle.link_laws.proofs.Cutting.{NoneControl, gap_events}
 use Rattle.link_laws.proofs.Rows.{and_both}
@@ -39,17 +38,7 @@ reported_island f b (parts ps t) =
     ap (λ k. map event_of (in_packets (b + 2) 0 ps ++ in_left b (left_at b ps) k t) ++ if_so (not (begins_close t)) (f (left_at b ps))) (sym (zero-add (length ps)))
 
 reported_packet : (f : ℕ → Event) (b s k : ℕ) (p : List Column) (rest : Payload) → reported f b s k (with_packet p rest) ≡ packet_events s k p ++ reported f b (s + 32) (k + 1) rest
-reported_packet f b s k p (parts ps t) =
-    let e : s + 32 * suc (length ps) ≡ s + 32 + 32 * length ps = omega arith in
-    let g : k + suc (length ps) ≡ k + 1 + length ps = omega arith in
-    let first = all_at (s + 31) (packet_events s k p) in
-    let more = in_packets (s + 32) (k + 1) ps in
-    let end = if_so (not (begins_close t)) (f (s + 32 + 32 * length ps)) in
-    ap₂ (λ (u v : ℕ). map event_of ((first ++ more) ++ in_left b u v t) ++ if_so (not (begins_close t)) (f u)) e g
-    ∙ ap (λ ts. map event_of ts ++ end) (append_assoc first more (in_left b (s + 32 + 32 * length ps) (k + 1 + length ps) t))
-    ∙ ap (λ ts. ts ++ end) (map-append event_of first (more ++ in_left b (s + 32 + 32 * length ps) (k + 1 + length ps) t))
-    ∙ append_assoc (map event_of first) (map event_of (more ++ in_left b (s + 32 + 32 * length ps) (k + 1 + length ps) t)) end
-    ∙ ap (λ ts. ts ++ reported f b (s + 32) (k + 1) (parts ps t)) (events_at (s + 31) (packet_events s k p))
+reported_packet f b s k p (parts ps t) = grind (arith, append_assoc, map-append, events_at)
 
 -- what is left begins with no closing guard
 reported_broken : (f : ℕ → Event) (b s k : ℕ) (cs : List Column) → begins_close cs ≡ false → reported f b s k (parts [] cs) ≡ f s ∷ []
@@ -57,44 +46,15 @@ reported_broken f b s k cs h =
     let e : s + 32 * 0 ≡ s = omega arith in
     ap (λ p. map event_of (when p (in_closing b (s + 32 * 0) (k + 0) cs)) ++ if_so (not p) (f (s + 32 * 0))) h ∙ ap (λ u. f u ∷ []) e
 
--- the closing guard, whichever of its words came unlike
-reported_close : (f : ℕ → Event) (b s k : ℕ) (c d : Column) → closes c d ≡ true → 1 ≤ k → reported f b s k (parts [] (c ∷ (d ∷ []))) ≡ close_island_row s (c ∷ (d ∷ []))
-unfolding closing_events close_island_row
-reported_close f b s k c d h some =
-    let none : (k + 0 == 0) ≡ false = ne_eqb (k + 0) 0 (λ e. omega arith) in
-    let e : s + 32 * 0 ≡ s = omega arith in
-    let u = s + 32 * 0 in
-    let first = closes_event (sync_digit c.blue) (sync_digit d.blue) in
-    ap (λ p. map event_of (when p (all_at (u + 1) (closing_events b u (k + 0) c d))) ++ if_so (not p) (f u)) h
-    ∙ append-nil _
-    ∙ events_at (u + 1) (closing_events b u (k + 0) c d)
-    ∙ ap₂ (λ (v : ℕ) (p : Bool). first ∷ (wrong_guards is_island_guard v c d ++ if_so p (empty b))) e none
-    ∙ ap (λ ts. first ∷ ts) (append-nil (wrong_guards is_island_guard s c d))
-
 take_none : (i : ℕ) → take {A = Column} i [] ≡ []
-take_none zero = refl
-take_none (suc i) = refl
+take_none i = grind arith
 
 closing_reported : (f : ℕ → Event) (c d : Column) (n b s k i : ℕ) (ss : List Column) → closes c d ≡ true → 1 ≤ k → reported f b s k (split n (take i (c ∷ (d ∷ [])))) ≡ packets_reported f s [] i ss (c ∷ (d ∷ []))
-unfolding packets_reported
+unfolding packets_reported closing_events close_island_row
 closing_reported f c d n b s k zero ss h some = ap (reported f b s k) (split_none n [] (holds_not [] (omega arith))) ∙ reported_broken f b s k [] refl
 closing_reported f c d n b s k (suc zero) ss h some =
     ap (reported f b s k) (split_none n (c ∷ []) (holds_not (c ∷ []) (omega arith))) ∙ reported_broken f b s k (c ∷ []) refl
-closing_reported f c d n b s k (suc (suc i)) ss h some =
-    ap (λ (cs : List Column). reported f b s k (split n (c ∷ (d ∷ cs)))) (take_none i)
-    ∙ ap (reported f b s k) (split_none n (c ∷ (d ∷ [])) (holds_not (c ∷ (d ∷ [])) (omega arith)))
-    ∙ reported_close f b s k c d h some
-    ∙ ap (λ p. cond p (close_island_row s (c ∷ (d ∷ []))) (f s ∷ [])) (sym (le-leb 2 (suc (suc i)) (omega arith)))
-
--- a packet that is not whole
-not_whole : (m : ℕ) (f : ℕ → Event) (p : Packet) (ps : List Packet) (ss cs : List Column) (b s k i : ℕ) → begins_close (take i cs) ≡ false → i < 32
-    → reported f b s k (split m (take i cs)) ≡ packets_reported f s (p ∷ ps) i ss cs
-unfolding packets_reported
-not_whole m f p ps ss cs b s k i shut short =
-    let t = length-take i cs in
-    ap (reported f b s k) (split_none m (take i cs) (holds_not (take i cs) (omega arith)))
-    ∙ reported_broken f b s k (take i cs) shut
-    ∙ ap (λ q. cond q (f s ∷ []) (packet_reported s p (take 32 ss) (take 32 cs) ++ packets_reported f (s + 32) ps (i - 32) (drop 32 ss) (drop 32 cs))) (sym (lt-ltb i 32 short))
+closing_reported f c d n b s k (suc (suc i)) ss h some = grind (arith, take_none, split_none, holds_not, le-leb, ne_eqb, append-nil, events_at)
 
 pub split_some : (m : ℕ) (cs : List Column) → holds_packet cs ≡ true → 32 ≤ length cs → length cs ≤ m → split m cs ≡ with_packet (take 32 cs) (split (m - 1) (drop 32 cs))
 split_some zero cs h long le = absurd (omega arith)
@@ -135,12 +95,8 @@ packet_first : (m : ℕ) (f : ℕ → Event) (first : Bool) (p : Packet) (ps : L
     → CarriesFreely p (map column_words own) → AreParts own reception → k < 18 → length (take i (reception ++ rest)) ≤ m
     → ((l : ℕ) → length (take (i - 32) rest) ≤ l → reported f b (s + 32) (k + 1) (split l (take (i - 32) rest)) ≡ packets_reported f (s + 32) ps (i - 32) more rest)
     → reported f b s k (split m (take i (reception ++ rest))) ≡ packets_reported f s (p ∷ ps) i (own ++ more) (reception ++ rest)
-packet_first m f first p ps own reception more rest b s k i c are few fuel ih = elim (cases_lt i 32) [
-  | inl short ↦
-      let long = packet_received first p own reception c are in
-      not_whole m f p ps (own ++ more) (reception ++ rest) b s k i (parts_open i own reception rest are (omega arith)) short
-  | inr whole ↦ one_whole m f first p ps own reception more rest b s k i c are few fuel whole ih
-]
+unfolding packets_reported
+packet_first m f first p ps own reception more rest b s k i c are few fuel ih = grind (arith, cases_lt, packet_received, parts_open, one_whole, length-take, split_none, holds_not, reported_broken, lt-ltb)
 
 -- the law of packets, k of which came before
 split_reported : (first : Bool) (ps : List Packet) (pp qq : List Column) → ArePackets first ps pp qq → (m : ℕ) (f : ℕ → Event) (close : List Column) (c d : Column) (b s k i : ℕ) → closes c d ≡ true → 1 ≤ k + length ps → k + length ps ≤ 18
@@ -158,16 +114,8 @@ split_reported _ _ _ _ (one_more first p ps own reception ss rs carries are hs) 
 -- where all came, what is told of a part that is not whole does not matter
 whole_same : (ps : List Packet) (f g : ℕ → Event) (s i : ℕ) (ss rs : List Column) → 32 * length ps + 2 ≤ i → packets_reported f s ps i ss rs ≡ packets_reported g s ps i ss rs
 unfolding packets_reported
-whole_same [] f g s i ss rs le =
-    let two = le-leb 2 i (omega arith) in
-    ap (λ p. cond p (close_island_row s rs) (f s ∷ [])) two ∙ sym (ap (λ p. cond p (close_island_row s rs) (g s ∷ [])) two)
-whole_same (p ∷ ps) f g s i ss rs le =
-    let more = le-ltb i 32 (omega arith) in
-    let here = packet_reported s p (take 32 ss) (take 32 rs) in
-    let ih = whole_same ps f g (s + 32) (i - 32) (drop 32 ss) (drop 32 rs) (omega arith) in
-    ap (λ q. cond q (f s ∷ []) (here ++ packets_reported f (s + 32) ps (i - 32) (drop 32 ss) (drop 32 rs))) more
-    ∙ ap (λ ts. here ++ ts) ih
-    ∙ sym (ap (λ q. cond q (g s ∷ []) (here ++ packets_reported g (s + 32) ps (i - 32) (drop 32 ss) (drop 32 rs))) more)
+whole_same [] f g s i ss rs le = grind (arith, le-leb)
+whole_same (p ∷ ps) f g s i ss rs le = grind (arith, le-ltb, whole_same ps f g)
 
 -- The whole island.
 
@@ -181,23 +129,11 @@ frame x pp = guard_columns x.opening ++ (pp ++ guard_columns x.closing)
 going_on : (b : ℕ) (control : List Column) (g h : Column) (rest : List Column) → 12 ≤ length control → opened g h ≡ island
     → gap_events b control (g ∷ (h ∷ rest)) ≡ open_island_row b control (g ∷ (h ∷ rest)) ++ map event_of (in_island b (payload rest))
 unfolding in_gap open_island_row
-going_on b control g h rest long opens =
-    let more = opens_event (sync_digit g.blue) (sync_digit h.blue) ∷ wrong_guards is_island_guard b g h in
-    ap (λ k. map event_of (all_at (b + 1) (opening b control g h k) ++ in_payload b k rest)) opens
-    ∙ map-append event_of (all_at (b + 1) (lacks b control 5 ++ more)) (in_island b (payload rest))
-    ∙ ap (λ ts. ts ++ map event_of (in_island b (payload rest))) (events_at (b + 1) (lacks b control 5 ++ more) ∙ ap (λ ts. ts ++ more) (lacks_preamble b 5 control long))
+going_on b control g h rest long opens = grind (arith, map-append, events_at, lacks_preamble)
 
 pub closes_on : (b : ℕ) (g h : Column) (rest : List Column) → opened g h ≡ island → at_close b (g ∷ (h ∷ rest)) ≡ breaks broken b (payload rest)
 unfolding at_close
 closes_on b g h rest opens = ap (λ k. payload_closes b k rest) opens
-
-cuts : (b : ℕ) (g h : Column) (rest : List Column) → opened g h ≡ island → at_end b (g ∷ (h ∷ rest)) ≡ breaks cut b (payload rest)
-unfolding at_end
-cuts b g h rest opens = ap (λ k. payload_ends b k rest) opens
-
-first_cut : (b : ℕ) (control : List Column) (g : Column) → gap_events b control (g ∷ []) ++ at_end b (g ∷ []) ≡ cut b ∷ []
-unfolding in_gap at_end
-first_cut b control g = refl
 
 open_row_part : (b : ℕ) (control : List Column) (g h : Column) (xs ys : List Column) → open_island_row b control (g ∷ (h ∷ xs)) ≡ open_island_row b control (g ∷ (h ∷ ys))
 unfolding open_island_row
@@ -206,24 +142,12 @@ open_row_part b control g h xs ys = refl
 packets_all : (f : ℕ → Event) (x : DataIsland) (pp qq : List Column) (c d : Column) (b i : ℕ) → IsIsland x → closes c d ≡ true → ArePackets true x.packets pp qq
     → map event_of (in_island b (payload (take i (qq ++ (c ∷ (d ∷ [])))))) ++ breaks f b (payload (take i (qq ++ (c ∷ (d ∷ [])))))
     ≡ packets_reported f (b + 2) x.packets i (pp ++ guard_columns x.closing) (qq ++ (c ∷ (d ∷ [])))
-packets_all f x pp qq c d b i h shut are =
-    let some = h.some in
-    let few = h.few in
-    let cs = take i (qq ++ (c ∷ (d ∷ []))) in
-    reported_island f b (payload cs)
-    ∙ split_reported true x.packets pp qq are (length cs) f (guard_columns x.closing) c d b (b + 2) 0 i shut (omega arith) (omega arith) (omega arith)
+packets_all f x pp qq c d b i h shut are = grind (arith, reported_island, split_reported)
 
 part : (x : DataIsland) (g h c d : Column) (pp qq control : List Column) (b k : ℕ) → IsIsland x → opened g h ≡ island → closes c d ≡ true → ArePackets true x.packets pp qq → 12 ≤ length control → 1 ≤ k
     → gap_events b control (take k (framed g h qq c d)) ++ at_end b (take k (framed g h qq c d)) ≡ island_reported b k control x (frame x pp) (framed g h qq c d)
-unfolding island_reported
-part x g h c d pp qq control b zero i opens shut are long one = absurd (omega arith)
-part x g h c d pp qq control b (suc zero) i opens shut are long one = first_cut b control g
-part x g h c d pp qq control b (suc (suc k)) i opens shut are long one =
-    let all = qq ++ (c ∷ (d ∷ [])) in
-    let rest = take k all in
-    ap₂ (λ (a e : List Event). a ++ e) (going_on b control g h rest long opens) (cuts b g h rest opens)
-    ∙ append_assoc (open_island_row b control (g ∷ (h ∷ rest))) (map event_of (in_island b (payload rest))) (breaks cut b (payload rest))
-    ∙ ap₂ (λ (a e : List Event). a ++ e) (open_row_part b control g h rest all) (packets_all cut x pp qq c d b k i shut are)
+unfolding island_reported at_end in_gap
+part x g h c d pp qq control b k l m p q r s = grind (arith, going_on, append_assoc, open_row_part, packets_all)
 
 whole : (x : DataIsland) (g h c d : Column) (pp qq control : List Column) (b k : ℕ) → IsIsland x → opened g h ≡ island → closes c d ≡ true → ArePackets true x.packets pp qq → 12 ≤ length control → 4 + 32 * length x.packets < k
     → gap_events b control (framed g h qq c d) ++ at_close b (framed g h qq c d) ≡ island_reported b k control x (frame x pp) (framed g h qq c d)
@@ -252,24 +176,10 @@ pub record AreIslandGuards (x : DataIsland) (g h c d : Column) : Type 0 where
   pub closing : AreGuards (guard_column x.closing.first) (guard_column x.closing.second) c d
 
 framed_quiet : (x : DataIsland) (g h c d : Column) (qq : List Column) → IsIsland x → AreIslandGuards x g h c d → NoneControl qq → NoneControl (framed g h qq c d)
-framed_quiet x g h c d qq i are none =
-    quiet_pair x.opening.first x.opening.second g h _ i.open_first i.open_second are.opening
-    (list_all-append (λ c. not (is_control_column c)) qq (c ∷ (d ∷ []))
-    ∙ and_both _ _ none (quiet_pair x.closing.first x.closing.second c d [] i.close_first i.close_second are.closing refl))
+framed_quiet x g h c d qq i are none = grind (arith, quiet_pair, list_all-append, and_both)
 
 -- the law of a data island
 pub island_gap : (before : List Column) (x : DataIsland) (g h c d : Column) (pp qq : List Column) → 12 ≤ length before → IsIsland x → AreIslandGuards x g h c d → ArePackets true x.packets pp qq
     → IsGap before (sends.island x) (frame x pp) (framed g h qq c d)
 unfolding period_columns period_row island_reported
-island_gap before x g h c d pp qq long i guards are =
-    let n = packets_received true x.packets pp qq are in
-    let opens = opens_island x.opening.first x.opening.second g h i.open_first i.open_second guards.opening.one in
-    let shut = guards_close x.closing.first x.closing.second c d guards.closing.one in
-    record {
-      quiet = framed_quiet x g h c d qq i guards (packets_quiet true x.packets pp qq are);
-      long = let a = length-append qq (c ∷ (d ∷ [])) in omega arith;
-      some = omega arith;
-      nothing = λ b. refl;
-      part = λ b k one le. part x g h c d pp qq before b k i opens shut are long one;
-      whole = λ b k lt. whole x g h c d pp qq before b k i opens shut are long lt;
-    }
+island_gap before x g h c d pp qq long i guards are = grind (arith, packets_received, opens_island, guards_close, framed_quiet, packets_quiet, length-append, part, whole)

@@ -6,7 +6,6 @@ use Rattle.std.proofs.lemmas.Bool.{cases_lt}
 use Rattle.tmds_word.specs.Column.{Column}
 use Rattle.tmds_word.proofs.Below.{and-left, and-right}
 use Rattle.island_pack.specs.Periods.{ControlRun, DataIsland, Period, control, video, island, values_of, pixels_of, period_columns}
-use Rattle.island_pack.specs.Spelling.{control_column, guard_columns}
 use Rattle.period_grammar.specs.Events.{Event}
 use Rattle.period_grammar.specs.Cut.{runs as runs_of, stretches}
 use Rattle.link_laws.proofs.Cutting.{AllControl, hear, hear_control}
@@ -41,18 +40,7 @@ pub record IsSized (x : Period) (own reception : List Column) : Type 0 where
 
 pub sized : (x : Period) (own reception : List Column) → ArrivesPeriod x own reception → IsSized x own reception
 unfolding period_columns
-sized _ _ _ (controls runs cs n all) = let m = length-map (values_of runs) control_column in record { sent = m; received = n }
-sized _ _ _ (pixels bytes g h pp qq guards are) =
-    let n = pixel_count bytes in
-    let a = length_sent (pixels_of bytes) pp qq are in
-    let b = length_received (pixels_of bytes) pp qq are in
-    record { sent = omega arith; received = omega arith }
-sized _ _ _ (packets x g h c d pp qq guards are) =
-    let m = packets_sent true x.packets pp qq are in
-    let n = packets_received true x.packets pp qq are in
-    let a = length-append pp (guard_columns x.closing) in
-    let b = length-append qq (c ∷ (d ∷ [])) in
-    record { sent = omega arith; received = omega arith }
+sized x own reception h = grind (arith, length-map, pixel_count, length_sent, length_received, packets_sent, packets_received, length-append)
 
 -- what stands between control periods; of a control period its length is all that the joining needs
 unfoldable pub IsBetween : Period → Type 0
@@ -66,13 +54,10 @@ pub data IsTail : List Period → Type 0 where
 
 between : (vs : List ℕ) (x : Period) → IsInner vs x → IsBetween x
 unfolding IsInner IsBetween
-between vs (control runs) h = h
-between vs (video bytes) h = h.1
-between vs (island x) h = h.1
+between vs x h = grind arith
 
 pub follows_long : (vs : List ℕ) (tail : List Period) → Follows vs tail → 12 ≤ length vs
-follows_long _ _ (follows_ends vs h) = h.long
-follows_long _ _ (follows_on vs x runs rest h i f) = h.long
+follows_long vs tail h = grind (arith, follows_ends, follows_on)
 
 pub is_tail : (vs : List ℕ) (tail : List Period) → Follows vs tail → IsTail tail
 is_tail _ _ (follows_ends vs h) = ends
@@ -93,9 +78,7 @@ no_row j = refl
 
 row_zero : (j : ℕ) (before : List Column) (x : Period) (ss rs : List Column) → period_row j 0 before x ss rs ≡ []
 unfolding period_row video_reported island_reported
-row_zero j before (control runs) ss rs = no_row j
-row_zero j before (video bytes) ss rs = refl
-row_zero j before (island x) ss rs = refl
+row_zero j before x ss rs = grind (arith, no_row)
 
 pub account_zero : (j : ℕ) (before : List Column) (xs : List Period) (ss rs : List Column) → account_from j 0 before xs ss rs ≡ []
 unfolding account_from
@@ -109,10 +92,7 @@ account_zero j before (x ∷ xs) ss rs =
 pub account_period : (j m : ℕ) (before : List Column) (x : Period) (xs : List Period) (own reception ss rs : List Column) → IsSized x own reception
     → account_from j m before (x ∷ xs) (own ++ ss) (reception ++ rs) ≡ period_row j m before x own reception ++ account_from (j + period_columns x) (m - period_columns x) reception xs ss rs
 unfolding account_from
-account_period j m before x xs own reception ss rs h =
-    let n = period_columns x in
-    ap₂ (λ (a b : List Column). period_row j m before x (take n (own ++ ss)) (take n (reception ++ rs)) ++ account_from (j + n) (m - n) (take n (reception ++ rs)) xs a b) (drop_seam own ss n h.sent) (drop_seam reception rs n h.received)
-    ∙ ap₂ (λ (a b : List Column). period_row j m before x a b ++ account_from (j + n) (m - n) b xs ss rs) (take_seam own ss n h.sent) (take_seam reception rs n h.received)
+account_period j m before x xs own reception ss rs h = grind (arith, drop_seam, take_seam)
 
 -- The columns.
 
@@ -127,12 +107,7 @@ taken_row j m cs all = hear_control j (take m cs) (take_control m cs all) ∙ co
 -- within the first control columns
 within : (j m : ℕ) (cs : List Column) (tail : List Period) (ss rs later : List Column) → AllControl cs → m ≤ length cs
     → hear j (stretches (take m (cs ++ later))) ≡ control_row j (take m cs) ++ account_from (j + length cs) (m - length cs) cs tail ss rs
-within j m cs tail ss rs later all le =
-    let e : m - length cs ≡ 0 = omega arith in
-    ap (λ ds. hear j (stretches ds)) (take-append-le m cs later le)
-    ∙ taken_row j m cs all
-    ∙ sym (append-nil (control_row j (take m cs)))
-    ∙ ap (λ ts. control_row j (take m cs) ++ ts) (sym (ap (λ k. account_from (j + length cs) k cs tail ss rs) e ∙ account_zero (j + length cs) cs tail ss rs))
+within j m cs tail ss rs later all le = grind (arith, hear, take-append-le, taken_row, append-nil, account_zero)
 
 pub first_control : (cs rs : List Column) → AllControl cs → 1 ≤ length cs → heads (cs ++ rs) ≡ true
 first_control [] rs all some = absurd (omega arith)
@@ -146,16 +121,11 @@ control_period j m before runs rest own cs ss rs h =
     account_period j m before (control runs) rest own cs ss rs h
     ∙ ap (λ n. control_row j (take m cs) ++ account_from (j + n) (m - n) cs rest ss rs) (sym h.received)
 
-no_account : (j m : ℕ) (before : List Column) → account_from j m before [] [] [] ≡ []
-unfolding account_from
-no_account j m before = refl
-
 -- the law of joining
 pub joined : (tail : List Period) → IsTail tail → (before ss rs : List Column) → IsControlPeriod before → Arrives tail ss rs → (j m : ℕ)
     → hear j (stretches (take m (before ++ rs))) ≡ control_row j (take m before) ++ account_from (j + length before) (m - length before) before tail ss rs
-joined _ ends before _ _ h nothing j m =
-    ap (λ cs. hear j (stretches (take m cs))) (append-nil before) ∙ taken_row j m before h.all ∙ sym (append-nil (control_row j (take m before)))
-    ∙ ap (λ ts. control_row j (take m before) ++ ts) (sym (no_account (j + length before) (m - length before) before))
+unfolding account_from
+joined _ ends before _ _ h nothing j m = grind (arith, hear, append-nil, taken_row)
 joined _ (goes_on x runs rest i long f) before _ _ h (more _ _ own reception _ _ a (more _ _ _ _ ss rs (controls _ cs n all) b)) j m = elim (cases_lt (length before) m) [
   | inl on ↦
       let k = m - length before in

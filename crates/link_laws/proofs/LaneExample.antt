@@ -83,19 +83,11 @@ fits_control k w h e = subst (λ j. fits j w ≡ true) e h
 
 fits_guard : (k : Kind) (w : ℕ) → fits k w ≡ true → IsGuard k → is_control w ≡ false
 unfolding fits
-fits_guard control_column w h g = absurd g
-fits_guard first_guard w h g = not_true _ h
-fits_guard second_guard w h g = not_true _ h
-fits_guard pixel_column w h g = absurd g
-fits_guard packet_column w h g = absurd g
+fits_guard k w h l = grind (arith, not_true)
 
 fits_payload : (k : Kind) (w : ℕ) → fits k w ≡ true → IsPayload k → is_control w ≡ false
 unfolding fits
-fits_payload control_column w h p = absurd p
-fits_payload first_guard w h p = absurd p
-fits_payload second_guard w h p = absurd p
-fits_payload pixel_column w h p = not_true _ h
-fits_payload packet_column w h p = not_true _ h
+fits_payload k w h l = grind (arith, not_true)
 
 calm : IsCalm words marks
 calm =

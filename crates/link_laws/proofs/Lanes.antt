@@ -3,9 +3,7 @@
 use Rattle.std.proofs.Common.{◌≡◌, ℕ, suc, zero, ◌+◌, ◌<◌, ◌≤◌, false, not, ◌==◌, List, [], ◌∷◌, map, length, take, drop, get_or, refl, ap, sym, ◌∙◌, subst, arith}
 use Rattle.std.proofs.lemmas.Bool.{eq-eqb}
 use Rattle.std.proofs.lemmas.List.{length-map, get_or-map}
-use Rattle.tmds_word.specs.Bits.{word_bits, turns}
 use Rattle.tmds_word.specs.Column.{Column, blues, greens, reds}
-use Rattle.terc4.specs.Tables.{is_control}
 use Rattle.terc4.specs.Columns.{one_if}
 use Rattle.lane_align.specs.Laws.{marked}
 use Rattle.island_pack.specs.Kinds.{Kind, IsPayload, kinds_of, kind_at}
@@ -32,14 +30,7 @@ fitting_at _ _ (column k c ks cs h hs) (suc i) lt = fitting_at ks cs hs i (omega
 -- one lane of columns, by its word of a column
 pub lane_sent : (f : Column → ℕ) (ks : List Kind) (cs : List Column) → length ks ≡ length cs
     → ((i : ℕ) → i < length cs → FitsWord (kind_at ks i) (f (column_at cs i))) → IsSent ks (map f cs)
-lane_sent f ks cs long fit =
-    let many = length-map cs f in
-    let word : (i : ℕ) → i < length (map f cs) → get_or (map f cs) i 0 ≡ f (column_at cs i) = λ i lt. get_or-map f cs i no_column 0 (omega arith) in
-    record {
-      same_length = omega arith;
-      controls = λ i lt e. ap is_control (word i lt) ∙ (fit i (omega arith)).controls e;
-      others = λ i lt n. subst (λ w. turns (word_bits w) ≤ 5) (sym (word i lt)) ((fit i (omega arith)).others n);
-    }
+lane_sent f ks cs long fit = grind (arith, length-map, get_or-map)
 
 -- Received words.
 

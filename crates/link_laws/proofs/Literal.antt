@@ -1,15 +1,14 @@
 -- The account, said with the columns at which events are told.
-use Rattle.std.proofs.Common.{◌≡◌, ℕ, ◌+◌, ◌-◌, ◌<◌, ◌≤◌, true, cond, List, [], ◌∷◌, ◌++◌, length, map, take, drop, refl, ap, ap₂, sym, ◌∙◌, subst, arith, inl, inr, append_assoc, length-append, length-drop}
-use Rattle.std.proofs.lemmas.List.{append-nil, drop-append-le, take-append-drop, length-take-le}
+use Rattle.std.proofs.Common.{◌≡◌, ℕ, ◌+◌, ◌-◌, ◌<◌, ◌≤◌, true, cond, List, [], ◌∷◌, ◌++◌, length, drop, refl, ap, sym, ◌∙◌, subst, arith, inl, inr, append_assoc, length-append, length-drop}
+use Rattle.std.proofs.lemmas.List.{append-nil, drop-append-le}
 use Rattle.std.proofs.lemmas.List.Elements.{filter-append}
 use Rattle.std.proofs.lemmas.Bool.{le-ltb, lt-ltb}
-use Rattle.std.specs.Prelude.{nat_lt}
 use Rattle.tmds_word.specs.Column.{Column}
 use Rattle.island_pack.specs.Kinds.{kinds_of, EndsAt}
 use Rattle.island_pack.specs.Periods.{ControlRun, Period, control, video, island, values_of, period_columns}
 use Rattle.period_grammar.specs.Cut.{runs, Stretch as Cut, stretch, stretches}
-use Rattle.period_grammar.specs.Events.{Event, EventAt, at, all_at, event_of, column_reported, reported_before}
-use Rattle.period_grammar.specs.Heard.{in_runs, last_run, in_gap, at_close, reported_from, end_from, heard_so_far, heard}
+use Rattle.period_grammar.specs.Events.{Event, EventAt, at, all_at, reported_before}
+use Rattle.period_grammar.specs.Heard.{in_gap, at_close, reported_from, end_from, heard_so_far, heard}
 use Rattle.period_grammar.proofs.Joined.{reported_before_is}
 use Rattle.link_laws.specs.Freely.{AccountLiteralFreely}
 use Rattle.link_laws.specs.Literal.{runs_placed, period_placed, periods_placed, placed_from, account_placed, AccountLiteral}
@@ -31,71 +30,35 @@ whole j cs = reported_from j (stretches cs) ++ all_at (j + length cs) (end_from 
 
 -- Control columns alone.
 
-alone_placed : (j : ℕ) (cs : List Column) → 1 ≤ length cs → AllControl cs → whole j cs ≡ runs_placed j (runs cs)
-alone_placed j cs some all =
-    let n = append-nil cs in
-    let one : stretches cs ≡ stretch cs [] ∷ [] = ap stretches (sym n) ∙ alone cs some all ∙ ap (λ ds. stretch ds [] ∷ []) n in
-    ap (λ xs. reported_from j xs ++ all_at (j + length cs) (end_from j xs)) one ∙ control_placed j cs
-
 -- A stretch with others behind it.
 
 regroup : (r l g c t e : List EventAt) → ((r ++ (l ++ g)) ++ (c ++ t)) ++ e ≡ (r ++ l) ++ ((g ++ c) ++ (t ++ e))
 regroup r l g c t e = simp append_assoc
 
-reported_on : (j : ℕ) (cs gap : List Column) (xs : List Cut) → 1 ≤ length gap → some xs ≡ true
-    → reported_from j (stretch cs gap ∷ xs)
-    ≡ (in_runs j (runs cs) ++ (all_at (j + length cs) (last_run (runs cs)) ++ in_gap (j + length cs) cs gap))
-    ++ (all_at (j + (length cs + length gap)) (at_close (j + length cs) gap) ++ reported_from (j + (length cs + length gap)) xs)
-reported_on j cs [] xs one h = absurd (omega arith)
-reported_on j cs (g ∷ gap) [] one h = cc
-reported_on j cs (g ∷ gap) (y ∷ ys) one h = refl
-
 end_on : (j : ℕ) (cs gap : List Column) (xs : List Cut) → some xs ≡ true → end_from j (stretch cs gap ∷ xs) ≡ end_from (j + (length cs + length gap)) xs
-end_on j cs gap [] h = cc
-end_on j cs gap (y ∷ ys) h = refl
+end_on j cs gap xs h = grind arith
 
 period_whole : (j : ℕ) (before reception next : List Column) → 1 ≤ length before → AllControl before → 1 ≤ length reception → NoneControl reception → heads next ≡ true
     → whole j (before ++ (reception ++ next))
     ≡ runs_placed j (runs before) ++ ((in_gap (j + length before) before reception ++ all_at (j + length before + length reception) (at_close (j + length before) reception)) ++ whole (j + length before + length reception) next)
-period_whole j before reception next one all two quiet at_next =
-    let b = j + length before in
-    let xs = stretches next in
-    let has = some_cut next at_next in
-    let cut = both before reception next one two all quiet (begins_heads next at_next) in
-    let e : j + (length before + length reception) ≡ b + length reception = omega arith in
-    let l : j + length (before ++ (reception ++ next)) ≡ b + length reception + length next = omega (arith, length-append before (reception ++ next), length-append reception next) in
-    ap₂ (λ (ys : List Cut) (n : ℕ). reported_from j ys ++ all_at n (end_from j ys)) cut l
-    ∙ ap₂ (λ (ts : List EventAt) (us : List Event). ts ++ all_at (b + length reception + length next) us) (reported_on j before reception xs two has) (end_on j before reception xs has)
-    ∙ ap (λ n. ((in_runs j (runs before) ++ (all_at b (last_run (runs before)) ++ in_gap b before reception)) ++ (all_at n (at_close b reception) ++ reported_from n xs)) ++ all_at (b + length reception + length next) (end_from n xs)) e
-    ∙ regroup (in_runs j (runs before)) (all_at b (last_run (runs before))) (in_gap b before reception) (all_at (b + length reception) (at_close b reception)) (reported_from (b + length reception) xs) (all_at (b + length reception + length next) (end_from (b + length reception) xs))
-    ∙ ap (λ ts. ts ++ ((in_gap b before reception ++ all_at (b + length reception) (at_close b reception)) ++ whole (b + length reception) next)) (control_placed j before)
+period_whole j before reception next one all two quiet at_next = grind (arith, some_cut, both, begins_heads, length-append, end_on, regroup, control_placed)
 
 -- All stretches.
 
 placed_more : (j : ℕ) (before : List Column) (x : Period) (xs : List Period) (own reception ss rs : List Column) → IsSized x own reception
     → periods_placed j before (x ∷ xs) (own ++ ss) (reception ++ rs) ≡ period_placed j before x own reception ++ periods_placed (j + length reception) reception xs ss rs
 unfolding periods_placed
-placed_more j before x xs own reception ss rs h =
-    let n = period_columns x in
-    ap₂ (λ (a b : List Column). period_placed j before x (take n (own ++ ss)) (take n (reception ++ rs)) ++ periods_placed (j + n) (take n (reception ++ rs)) xs a b) (drop_seam own ss n h.sent) (drop_seam reception rs n h.received)
-    ∙ ap₂ (λ (a b : List Column). period_placed j before x a b ++ periods_placed (j + n) b xs ss rs) (take_seam own ss n h.sent) (take_seam reception rs n h.received)
-    ∙ ap (λ k. period_placed j before x own reception ++ periods_placed (j + k) reception xs ss rs) (sym h.received)
+placed_more j before x xs own reception ss rs h = grind (arith, drop_seam, take_seam)
 
 control_more : (j : ℕ) (before : List Column) (runs_sent : List ControlRun) (rest : List Period) (own cs ss rs : List Column) → IsSized (control runs_sent) own cs
     → periods_placed j before (control runs_sent ∷ rest) (own ++ ss) (cs ++ rs) ≡ runs_placed j (runs cs) ++ periods_placed (j + length cs) cs rest ss rs
 unfolding period_placed
 control_more j before runs_sent rest own cs ss rs h = placed_more j before (control runs_sent) rest own cs ss rs h
 
-no_periods : (j : ℕ) (before : List Column) → periods_placed j before [] [] [] ≡ []
-unfolding periods_placed
-no_periods j before = refl
-
 all_placed : (tail : List Period) → IsTail tail → (before ss rs : List Column) → IsControlPeriod before → Arrives tail ss rs → (j : ℕ)
     → whole j (before ++ rs) ≡ runs_placed j (runs before) ++ periods_placed (j + length before) before tail ss rs
-all_placed _ ends before _ _ h nothing j =
-    let long = h.long in
-    ap (whole j) (append-nil before) ∙ alone_placed j before (omega arith) h.all
-    ∙ sym (append-nil (runs_placed j (runs before))) ∙ ap (λ ts. runs_placed j (runs before) ++ ts) (sym (no_periods (j + length before) before))
+unfolding periods_placed
+all_placed _ ends before _ _ h nothing j = grind (arith, append-nil, some, alone, control_placed)
 all_placed _ (goes_on x runs_sent rest i long f) before _ _ h (more _ _ own reception _ _ a (more _ _ _ _ ss rs (controls _ cs n all) b)) j =
     let lb = h.long in
     let g = inner_gap before x own reception lb i a in
@@ -115,19 +78,12 @@ all_placed _ (goes_on x runs_sent rest i long f) before _ _ h (more _ _ own rece
 placed_here : (x : Period) (xs : List Period) (own reception ss rs : List Column) (a : ℕ) → IsSized x own reception → a < period_columns x
     → account_placed (x ∷ xs) (own ++ ss) (reception ++ rs) a ≡ runs_placed 0 (runs (drop a reception)) ++ periods_placed (period_columns x - a) (drop a reception) xs ss rs
 unfolding account_placed placed_from
-placed_here x xs own reception ss rs a h lt =
-    let n = period_columns x in
-    ap (λ p. cond p (placed_from x a xs (own ++ ss) (reception ++ rs)) (account_placed xs (drop n (own ++ ss)) (drop n (reception ++ rs)) (a - n))) (lt-ltb a n lt)
-    ∙ ap (λ cs. runs_placed 0 (runs (drop a cs)) ++ periods_placed (n - a) (drop a cs) xs (drop n (own ++ ss)) (drop n (reception ++ rs))) (take_seam reception rs n h.received)
-    ∙ ap₂ (λ (u v : List Column). runs_placed 0 (runs (drop a reception)) ++ periods_placed (n - a) (drop a reception) xs u v) (drop_seam own ss n h.sent) (drop_seam reception rs n h.received)
+placed_here x xs own reception ss rs a h lt = grind (arith, lt-ltb, take_seam, drop_seam)
 
 placed_past : (x : Period) (xs : List Period) (own reception ss rs : List Column) (a : ℕ) → IsSized x own reception → period_columns x ≤ a
     → account_placed (x ∷ xs) (own ++ ss) (reception ++ rs) a ≡ account_placed xs ss rs (a - period_columns x)
 unfolding account_placed
-placed_past x xs own reception ss rs a h le =
-    let n = period_columns x in
-    ap (λ p. cond p (placed_from x a xs (own ++ ss) (reception ++ rs)) (account_placed xs (drop n (own ++ ss)) (drop n (reception ++ rs)) (a - n))) (le-ltb a n le)
-    ∙ ap₂ (λ (u v : List Column). account_placed xs u v (a - n)) (drop_seam own ss n h.sent) (drop_seam reception rs n h.received)
+placed_past x xs own reception ss rs a h le = grind (arith, le-ltb, drop_seam)
 
 here : (sent_runs : List ControlRun) (tail : List Period) → IsTail tail → (own cs ss rs : List Column) → IsSized (control sent_runs) own cs → AllControl cs → Arrives tail ss rs → (a : ℕ) → a + 12 ≡ length cs
     → whole 0 (drop a (cs ++ rs)) ≡ account_placed (control sent_runs ∷ tail) (own ++ ss) (cs ++ rs) a
@@ -188,24 +144,9 @@ none_before : (m n : ℕ) (ts : List Event) → m ≤ n → reported_before m (a
 none_before m n [] le = refl
 none_before m n (t ∷ ts) le = ap (λ p. cond p (at n t ∷ reported_before m (all_at n ts)) (reported_before m (all_at n ts))) (le-ltb n m le) ∙ none_before m n ts le
 
--- what is told of the first columns is what is told before the column behind them
-first_reported : (m : ℕ) (cs : List Column) → m ≤ length cs → heard_so_far (take m cs) ≡ reported_before m (whole 0 cs)
-unfolding heard_so_far
-first_reported m cs le =
-    let end = end_from 0 (stretches cs) in
-    sym (reported_before_is m cs)
-    ∙ sym (append-nil (reported_before m (heard_so_far cs)))
-    ∙ ap (λ ts. reported_before m (heard_so_far cs) ++ ts) (sym (none_before m (0 + length cs) end (omega arith)))
-    ∙ sym (filter-append (λ t. nat_lt (column_reported t) m) (heard_so_far cs) (all_at (0 + length cs) end))
-
 pub account_literal_freely : AccountLiteralFreely
-unfolding heard
-account_literal_freely ps sent received reception a m e within =
-    let rest = drop a received in
-    let d = length-drop a received in
-    let placed = placed_of ps sent received (conforming ps reception.conforming) (arrived_freely ps sent received reception) a e in
-    sym (link_law_freely ps sent received reception a m e)
-    ∙ ap (λ ts. map event_of ts ++ end_from 0 (stretches (take m rest))) (first_reported m rest (omega arith) ∙ ap (reported_before m) placed)
+unfolding heard heard_so_far
+account_literal_freely ps sent received reception a m e within = grind (arith, length-drop, placed_of, conforming, arrived_freely, link_law_freely, reported_before_is, append-nil, none_before, filter-append)
 
 pub account_literal : AccountLiteral
 account_literal ps sent received reception = account_literal_freely ps sent received (free_received ps sent received reception)

@@ -1,5 +1,5 @@
 -- A packet of which at most one word came unlike is taken as it was sent.
-use Rattle.std.proofs.Common.{◌≡◌, ℕ, suc, zero, ◌*◌, ◌%◌, ◌<◌, ◌≤◌, Bool, true, false, cond, ◌==◌, List, [], ◌∷◌, map, length, take, nat_le, refl, ap, ap₂, sym, ◌∙◌, subst, arith, inl, inr, length-drop, length-take-le}
+use Rattle.std.proofs.Common.{◌≡◌, ℕ, suc, zero, ◌*◌, ◌<◌, ◌≤◌, Bool, List, [], ◌∷◌, map, length, refl, ap, sym, ◌∙◌, subst, arith, inl, inr, length-drop, length-take-le}
 use Rattle.std.specs.Prelude.{drop}
 use Rattle.std.proofs.lemmas.Bool.{eqb-true, leb-true}
 use Rattle.std.proofs.lemmas.List.{length-map}
@@ -8,7 +8,7 @@ use Rattle.bch_block.specs.declared.Verdict.{Verdict}
 use Rattle.bch_block.specs.declared.Verdict.TheVariants.{Clean, Mended}
 use Rattle.bch_block.proofs.Distances.{flipped-flipped}
 use Rattle.bch_block.proofs.Verdicts.{one_wrong}
-use Rattle.island_pack.specs.Nibbles.{nibble_of, nibbles_of, by_turns, sync_values, header_bits, body_bits, foreign_words}
+use Rattle.island_pack.specs.Nibbles.{nibbles_of, by_turns, sync_values, header_bits, body_bits, foreign_words}
 use Rattle.island_pack.specs.Packets.{IsPacket, BeginsWith, body_of, CarriesFreely}
 use Rattle.island_pack.specs.Spelling.{column_words}
 use Rattle.island_pack.specs.Taken.{IsTaken, verdict_on}
@@ -36,10 +36,7 @@ flipped_block s x bytes few f b =
     subst (λ y. IsMended y bytes) (sym f.is)
     (record {
       verdict = Mended f.place;
-      taken = record {
-        found = one_wrong s f.place (omega (arith, b.bits)) b.block f.within;
-        begins = sym b.begins ∙ ap (take (8 * length bytes)) (sym (flipped-flipped s f.place));
-      };
+      taken = grind (arith, one_wrong, flipped-flipped);
     })
 
 -- a block with at most one wrong bit is taken as sent
@@ -70,18 +67,12 @@ length-body_of p b long lt = length-take-le 7 (drop (7 * b) p.bodies) (omega (ar
 
 -- Sync values.
 
-sync_of : (s r : ℕ) (same : Bool) → (s == r) ≡ same → cond same (nibble_of s % 4) (sync_digit r) ≡ nibble_of r % 4
-unfolding sync_digit
-sync_of s r true e = ap (λ w. nibble_of w % 4) (eqb-true s r e)
-sync_of s r false e = refl
-
 sync_of_sent : (ss rs : List Column) → length rs ≡ length ss → sync_row (sync_values (map column_words ss)) ss rs ≡ sync_values (map column_words rs)
-unfolding sync_row sync_values nibbles_of
+unfolding sync_row sync_values nibbles_of sync_digit
 sync_of_sent [] [] e = refl
 sync_of_sent [] (r ∷ rs) e = absurd (omega arith)
 sync_of_sent (s ∷ ss) [] e = absurd (omega arith)
-sync_of_sent (s ∷ ss) (r ∷ rs) e =
-    ap₂ (λ v (vs : List ℕ). v ∷ vs) (sync_of s.blue r.blue (s.blue == r.blue) refl) (sync_of_sent ss rs (omega arith))
+sync_of_sent (s ∷ ss) (r ∷ rs) e = grind (arith, eqb-true, sync_of_sent ss rs)
 
 sync_taken : (p : Packet) (first : Bool) (ss rs : List Column) → CarriesFreely p (map column_words ss) → length rs ≡ length ss → sync_row p.sync ss rs ≡ sync_values (map column_words rs)
 sync_taken p first ss rs carries same = ap (λ vs. sync_row vs ss rs) (sym carries.sync) ∙ sync_of_sent ss rs same
@@ -120,13 +111,7 @@ by_blocks p ws whole long m0 m1 m2 m3 header =
     (verdicts_by ws m0.verdict m1.verdict m2.verdict m3.verdict header.verdict)
     long
     (record {
-      whole = record {
-        header = whole.header;
-        header_bytes = whole.header_bytes;
-        bodies = whole.bodies;
-        body_bytes = whole.body_bytes;
-        sync = length-sync ws ∙ long;
-      };
+      whole = grind (arith, length-sync);
       sync = refl;
       bodies = bodies_taken ws p m0.verdict m1.verdict m2.verdict m3.verdict header.verdict m0.taken m1.taken m2.taken m3.taken;
       header = header.taken;
@@ -147,21 +132,7 @@ as_sent p first ss rs carries long same few =
     (omega (arith, body_wrong b ss rs, few)) (carries.bodies b lt) in
     by_blocks p ws carries.whole (length-map rs column_words ∙ long) (body 0 (omega arith)) (body 1 (omega arith)) (body 2 (omega arith)) (body 3 (omega arith)) header
 
--- the packet as it is taken, whether few words are unlike or more
-by_damage : (p : Packet) (first : Bool) (ss rs : List Column) → CarriesFreely p (map column_words ss) → length rs ≡ 32 → length rs ≡ length ss
-    → (few : Bool) → nat_le (damage ss rs) 1 ≡ few
-    → packet_of rs ≡ cond few
-    (record { header = p.header; bodies = p.bodies; sync = sync_row p.sync ss rs })
-    (record { header = (packet_of rs).header; bodies = (packet_of rs).bodies; sync = sync_row p.sync ss rs })
-unfolding packet_in
-by_damage p first ss rs carries long same true e =
-    sym (as_sent p first ss rs carries long same (leb-true (damage ss rs) 1 e))
-    ∙ ap (λ vs. record { header = p.header; bodies = p.bodies; sync = vs }) (sym (sync_taken p first ss rs carries same))
-by_damage p first ss rs carries long same false e =
-    ap (λ vs. record { header = (packet_of rs).header; bodies = (packet_of rs).bodies; sync = vs }) (sym (sync_taken p first ss rs carries same))
-
 -- what is taken of the columns that came of a packet is the packet of the account
 pub packet_row_taken : (p : Packet) (first : Bool) (ss rs : List Column) → CarriesFreely p (map column_words ss) → length rs ≡ 32 → packet_of rs ≡ packet_row p ss rs
-unfolding packet_row
-packet_row_taken p first ss rs carries long =
-    by_damage p first ss rs carries long (long ∙ sym carries.count ∙ length-map ss column_words) (nat_le (damage ss rs) 1) refl
+unfolding packet_row packet_in
+packet_row_taken p first ss rs carries long = grind (arith, length-map, as_sent, leb-true, sync_taken)

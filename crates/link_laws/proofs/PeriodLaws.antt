@@ -1,11 +1,10 @@
 -- What is told of the columns that came of one period, and of periods one after another.
-use Rattle.std.proofs.Common.{◌≡◌, ℕ, suc, ◌+◌, ◌-◌, ◌*◌, ◌/◌, ◌≤◌, List, [], ◌∷◌, ◌++◌, length, take, replicate, refl, ap, ap₂, sym, ◌∙◌, subst, arith, length-append}
+use Rattle.std.proofs.Common.{◌≡◌, ℕ, suc, ◌+◌, ◌-◌, ◌≤◌, List, [], ◌∷◌, ◌++◌, length, take, refl, sym, ◌∙◌, subst, arith, length-append}
 use Rattle.std.proofs.lemmas.List.{append-nil, length-replicate}
 use Rattle.tmds_word.specs.Column.{Column}
 use Rattle.island_pack.specs.Periods.{ControlRun, Period, control, video, island, values_of, period_columns}
-use Rattle.island_pack.specs.Kinds.{control_column, pixel_column, packet_column, guard_pair, kinds_in, kinds_of}
+use Rattle.island_pack.specs.Kinds.{kinds_in, kinds_of}
 use Rattle.island_pack.specs.Sparse.{unlike_at}
-use Rattle.period_grammar.specs.Events.{Event}
 use Rattle.link_laws.specs.Account.{control_row, period_row, account_from}
 use Rattle.link_laws.specs.Freely.{PeriodReceivedFreely, ControlLawFreely, VideoLawFreely, IslandLawFreely, JoiningLawFreely}
 use Rattle.link_laws.specs.PeriodLaws.{tells, AreControl, ControlLaw, TellRow, VideoLaw, IslandLaw, JoiningLaw}
@@ -21,18 +20,9 @@ use Rattle.link_laws.proofs.Framing.{arrived_freely}
 
 -- One period.
 
-kinds_long : (p : Period) → length (kinds_in p) ≡ period_columns p
-unfolding kinds_in period_columns
-kinds_long (control runs) = length-replicate (length (values_of runs)) control_column
-kinds_long (video bytes) = let l = length-replicate (length bytes / 3) pixel_column in omega arith
-kinds_long (island x) =
-    let l = length-replicate (32 * length x.packets) packet_column in
-    let a = length-append (replicate (32 * length x.packets) packet_column) guard_pair in
-    omega arith
-
 kinds_one : (p : Period) → length (kinds_of (p ∷ [])) ≡ period_columns p
-unfolding kinds_of
-kinds_one p = ap length (append-nil (kinds_in p)) ∙ kinds_long p
+unfolding kinds_of kinds_in period_columns
+kinds_one p = grind (arith, append-nil, length-replicate, length-append)
 
 one_of : (p : Period) (sent received : List Column) → Arrives (p ∷ []) sent received → ArrivesPeriod p sent received
 one_of p _ _ (more _ _ own reception _ _ a nothing) =
@@ -74,10 +64,7 @@ reported_before j before h = hear_control j before h.all ∙ control_row_reporte
 tell_row : (p : Period) (sent received : List Column) → IsBetween p → ArrivesPeriod p sent received → TellRow p sent received
 tell_row p sent received between a before next rest j m h at =
     let g = inner_gap before p sent received h.long between a in
-    let size = g.long in
-    let row = period_row (j + length before) m before p sent received in
-    period_law before p sent received (record { long = h.long; all = h.all }) g j m (next ∷ rest) at
-    ∙ ap₂ (λ (ts : List Event) (n : ℕ). ts ++ (row ++ tells (j + length before + n) (take (m - n) (next ∷ rest)))) (sym (reported_before j before h)) (sym size)
+    grind (arith, period_law, reported_before)
 
 pub video_law_freely : VideoLawFreely
 unfolding HasValues IsBetween
@@ -99,14 +86,7 @@ island_law x sent received is h = island_law_freely x sent received is (free_per
 
 joining_of : (ps : List Period) (sent received : List Column) → Conforms ps → Arrives ps sent received → (j m : ℕ) → tells j (take m received) ≡ account_from j m [] ps sent received
 unfolding Conforms
-joining_of [] sent received c a j m = absurd c
-joining_of (video bytes ∷ rest) sent received c a j m = absurd c
-joining_of (island x ∷ rest) sent received c a j m = absurd c
-joining_of (control runs ∷ rest) _ _ c (more _ _ own reception ss rs first a) j m =
-    let long = follows_long (values_of runs) rest c in
-    let h = control_of runs own reception first long in
-    joined rest (is_tail (values_of runs) rest c) reception ss rs (record { long = h.0.long; all = h.0.all }) a j m
-    ∙ sym (control_period j m [] runs rest own reception ss rs (sized (control runs) own reception first))
+joining_of ps sent received h k l m = grind (arith, more, follows_long, control_of, joined, is_tail, control_period, sized)
 
 pub joining_law_freely : JoiningLawFreely
 joining_law_freely ps sent received reception = joining_of ps sent received (conforming ps reception.conforming) (arrived_freely ps sent received reception)

@@ -1,24 +1,23 @@
 -- What is told of one period's columns, and at which column each event.
-use Rattle.std.proofs.Common.{◌≡◌, ℕ, suc, ◌+◌, ◌*◌, ◌-◌, ◌≤◌, Bool, true, false, not, ◌==◌, List, [], ◌∷◌, ◌++◌, length, map, drop, refl, ap, ap₂, sym, ◌∙◌, append_assoc, arith, length-append, zero-add}
+use Rattle.std.proofs.Common.{◌≡◌, ℕ, ◌+◌, ◌*◌, ◌-◌, ◌≤◌, Bool, true, false, not, List, [], ◌∷◌, ◌++◌, length, map, drop, refl, ap, ap₂, sym, ◌∙◌, append_assoc, arith, length-append, zero-add}
 use Rattle.std.proofs.lemmas.List.{append-nil, take_all}
 use Rattle.std.proofs.lemmas.Bool.{ne_eqb}
 use Rattle.tmds_word.specs.Column.{Column}
-use Rattle.terc4.specs.Columns.{is_video_guard, is_island_guard, closes}
+use Rattle.terc4.specs.Columns.{closes}
 use Rattle.island_pack.specs.Packets.{CarriesFreely}
-use Rattle.island_pack.specs.Periods.{Pixel, DataIsland, Period, pixels_of}
-use Rattle.island_pack.specs.Spelling.{guard_columns, column_words}
+use Rattle.island_pack.specs.Periods.{DataIsland, Period}
+use Rattle.island_pack.specs.Spelling.{column_words}
 use Rattle.island_pack.specs.declared.packet.Packet.{Packet}
-use Rattle.period_grammar.specs.Column.{sync_digit, value_of}
-use Rattle.period_grammar.specs.Cut.{Run, columns, value, before_runs, runs, in_front}
-use Rattle.period_grammar.specs.Events.{Event, run, broken, empty, close_island, open_island, EventAt, at, all_at}
-use Rattle.period_grammar.specs.Island.{Payload, parts, begins_close, with_packet, split, payload, when, if_so, packet_events, in_packets, wrong_guards, closing_events, in_left, left_at, in_island, breaks}
-use Rattle.period_grammar.specs.Heard.{video as opens_a_line, island as opens_an_island, words, in_runs, last_run, opened, opening, in_payload, in_gap, at_close}
+use Rattle.period_grammar.specs.Cut.{Run, columns, before_runs, runs}
+use Rattle.period_grammar.specs.Events.{Event, run, EventAt, at, all_at}
+use Rattle.period_grammar.specs.Island.{Payload, parts, begins_close, with_packet, split, if_so, packet_events, in_packets, closing_events, in_left, left_at, in_island, breaks}
+use Rattle.period_grammar.specs.Heard.{island as opens_an_island, words, in_runs, last_run, opened, in_gap, at_close}
 use Rattle.period_grammar.proofs.Islands.{holds_is, holds_not, split_none}
 use Rattle.link_laws.specs.Account.{open_video_row, open_island_row, packet_reported, close_island_row}
 use Rattle.link_laws.specs.Literal.{runs_placed, video_placed, packets_placed, island_placed, period_placed}
 use Rattle.link_laws.proofs.Between.{take_seam, drop_seam, lacks_preamble}
-use Rattle.link_laws.proofs.Guards.{line_guard, opens_video, opens_island, guards_close}
-use Rattle.link_laws.proofs.VideoReported.{ArePixels, length_received, pixel_count, close_line, line_closes}
+use Rattle.link_laws.proofs.Guards.{opens_video, opens_island, guards_close}
+use Rattle.link_laws.proofs.VideoReported.{length_received, pixel_count, close_line, line_closes}
 use Rattle.link_laws.proofs.IslandColumns.{AreParts, parts_open, ArePackets, no_packets, one_more, packet_sent, packet_received}
 use Rattle.link_laws.proofs.IslandReported.{frame, framed, split_some, packet_events_are, closes_on}
 use Rattle.link_laws.proofs.Joining.{ArrivesPeriod, controls, pixels, packets, IsBetween}
@@ -29,13 +28,8 @@ abbrev total : List Run → ℕ
 total [] = 0
 total (columns v cs ∷ rs) = length cs + total rs
 
-lead_total : (p : Bool) (c : Column) (r : Run) (rs : List Run) → total (in_front p c r rs) ≡ 1 + total (r ∷ rs)
-lead_total true c (columns v cs) rs = omega arith
-lead_total false c (columns v cs) rs = refl
-
 first_total : (c : Column) (rs : List Run) → total (before_runs c rs) ≡ 1 + total rs
-first_total c [] = refl
-first_total c (r ∷ rs) = lead_total (value_of c == value r) c r rs
+first_total c rs = grind arith
 
 runs_total : (cs : List Column) → total (runs cs) ≡ length cs
 unfolding runs
@@ -60,22 +54,6 @@ control_placed j cs = runs_end j (length cs) (runs cs) (sym (runs_total cs))
 
 -- Video data periods.
 
-line_open : (b : ℕ) (control : List Column) (g h : Column) (rs : List Column) → 12 ≤ length control → opened g h ≡ opens_a_line → in_gap b control (g ∷ (h ∷ rs)) ≡ all_at (b + 1) (open_video_row b control (g ∷ (h ∷ rs)))
-unfolding in_gap open_video_row
-line_open b control g h rs long opens =
-    ap (λ k. all_at (b + 1) (opening b control g h k) ++ in_payload b k rs) opens
-    ∙ append-nil _
-    ∙ ap (λ ts. all_at (b + 1) (ts ++ wrong_guards is_video_guard b g h)) (lacks_preamble b 1 control long)
-
-line_placed : (b : ℕ) (control : List Column) (ps : List Pixel) (g h : Column) (pp qq : List Column) → 12 ≤ length control → opened g h ≡ opens_a_line → 1 ≤ length ps → length ps ≤ 4096 → ArePixels ps pp qq
-    → in_gap b control (g ∷ (h ∷ qq)) ++ all_at (b + length (g ∷ (h ∷ qq))) (at_close b (g ∷ (h ∷ qq))) ≡ video_placed b control ps (line_guard ∷ (line_guard ∷ pp)) (g ∷ (h ∷ qq))
-unfolding video_placed
-line_placed b control ps g h pp qq long opens some few are =
-    let n = length_received ps pp qq are in
-    let e : b + length (g ∷ (h ∷ qq)) ≡ b + 2 + length ps = omega arith in
-    ap₂ (λ (ts : List EventAt) (k : ℕ). ts ++ all_at k (at_close b (g ∷ (h ∷ qq)))) (line_open b control g h qq long opens) e
-    ∙ ap (λ us. all_at (b + 1) (open_video_row b control (g ∷ (h ∷ qq))) ++ all_at (b + 2 + length ps) us) (line_closes b g h qq opens ∙ close_line b ps pp qq some few are)
-
 -- Data islands.
 
 abbrev placed : ℕ → ℕ → ℕ → Payload → List EventAt
@@ -86,24 +64,7 @@ unfolding in_island
 placed_island b (parts ps t) = ap (λ k. in_packets (b + 2) 0 ps ++ in_left b (left_at b ps) k t) (sym (zero-add (length ps)))
 
 placed_packet : (b s k : ℕ) (p : List Column) (rest : Payload) → placed b s k (with_packet p rest) ≡ all_at (s + 31) (packet_events s k p) ++ placed b (s + 32) (k + 1) rest
-placed_packet b s k p (parts ps t) =
-    let e : s + 32 * suc (length ps) ≡ s + 32 + 32 * length ps = omega arith in
-    let g : k + suc (length ps) ≡ k + 1 + length ps = omega arith in
-    let first = all_at (s + 31) (packet_events s k p) in
-    let more = in_packets (s + 32) (k + 1) ps in
-    ap₂ (λ (u v : ℕ). (first ++ more) ++ in_left b u v t) e g
-    ∙ append_assoc first more (in_left b (s + 32 + 32 * length ps) (k + 1 + length ps) t)
-
-placed_close : (b s k : ℕ) (c d : Column) → closes c d ≡ true → 1 ≤ k → placed b s k (parts [] (c ∷ (d ∷ []))) ≡ all_at (s + 1) (close_island_row s (c ∷ (d ∷ [])))
-unfolding closing_events close_island_row
-placed_close b s k c d h some =
-    let none : (k + 0 == 0) ≡ false = ne_eqb (k + 0) 0 (λ e. omega arith) in
-    let e : s + 32 * 0 ≡ s = omega arith in
-    let u = s + 32 * 0 in
-    let first = close_island (sync_digit c.blue) (sync_digit d.blue) in
-    ap (λ p. when p (all_at (u + 1) (closing_events b u (k + 0) c d))) h
-    ∙ ap₂ (λ (v : ℕ) (p : Bool). all_at (v + 1) (first ∷ (wrong_guards is_island_guard v c d ++ if_so p (empty b)))) e none
-    ∙ ap (λ ts. all_at (s + 1) (first ∷ ts)) (append-nil (wrong_guards is_island_guard s c d))
+placed_packet b s k p (parts ps t) = grind (arith, append_assoc)
 
 -- the first packet of columns
 split_first : (m : ℕ) (first : Bool) (p : Packet) (own reception rest : List Column) → CarriesFreely p (map column_words own) → AreParts own reception → length (reception ++ rest) ≤ m
@@ -119,9 +80,8 @@ split_first m first p own reception rest c are fuel =
 
 split_placed : (first : Bool) (ps : List Packet) (pp qq : List Column) → ArePackets first ps pp qq → (m : ℕ) (close : List Column) (c d : Column) (b s k : ℕ) → closes c d ≡ true → 1 ≤ k + length ps → k + length ps ≤ 18
     → length (qq ++ (c ∷ (d ∷ []))) ≤ m → placed b s k (split m (qq ++ (c ∷ (d ∷ [])))) ≡ packets_placed s ps (pp ++ close) (qq ++ (c ∷ (d ∷ [])))
-unfolding packets_placed
-split_placed _ _ _ _ (no_packets first) m close c d b s k shut some few fuel =
-    ap (placed b s k) (split_none m (c ∷ (d ∷ [])) (holds_not (c ∷ (d ∷ [])) (omega arith))) ∙ placed_close b s k c d shut (omega arith)
+unfolding packets_placed closing_events close_island_row
+split_placed _ _ _ _ (no_packets first) m close c d b s k shut some few fuel = grind (arith, split_none, holds_not, ne_eqb, append-nil)
 split_placed _ _ _ _ (one_more first p ps own reception ss rs carries are hs) m close c d b s k shut some few fuel =
     let end = c ∷ (d ∷ []) in
     let e = append_assoc own ss close in
@@ -164,41 +124,17 @@ split_shut _ _ _ _ (one_more first p ps own reception ss rs carries are hs) m c 
 breaks_none : (f : ℕ → Event) (b : ℕ) (p : Payload) → is_shut p ≡ true → breaks f b p ≡ []
 breaks_none f b (parts ps t) h = ap (λ q. if_so (not q) (f (left_at b ps))) h
 
-island_open : (b : ℕ) (control : List Column) (g h : Column) (rest : List Column) → 12 ≤ length control → opened g h ≡ opens_an_island
-    → in_gap b control (g ∷ (h ∷ rest)) ≡ all_at (b + 1) (open_island_row b control (g ∷ (h ∷ rest))) ++ in_island b (payload rest)
-unfolding in_gap open_island_row
-island_open b control g h rest long opens =
-    let more = open_island (sync_digit g.blue) (sync_digit h.blue) ∷ wrong_guards is_island_guard b g h in
-    ap (λ k. all_at (b + 1) (opening b control g h k) ++ in_payload b k rest) opens
-    ∙ ap (λ ts. all_at (b + 1) (ts ++ more) ++ in_island b (payload rest)) (lacks_preamble b 5 control long)
-
 whole_placed : (b : ℕ) (control : List Column) (x : DataIsland) (g h c d : Column) (pp qq : List Column) → 12 ≤ length control → opened g h ≡ opens_an_island → closes c d ≡ true
     → 1 ≤ length x.packets → length x.packets ≤ 18 → ArePackets true x.packets pp qq
     → in_gap b control (framed g h qq c d) ++ all_at (b + length (framed g h qq c d)) (at_close b (framed g h qq c d)) ≡ island_placed b control x (frame x pp) (framed g h qq c d)
-unfolding island_placed
-whole_placed b control x g h c d pp qq long opens shut some few are =
-    let rest = qq ++ (c ∷ (d ∷ [])) in
-    let n = b + length (framed g h qq c d) in
-    let row = all_at (b + 1) (open_island_row b control (g ∷ (h ∷ rest))) in
-    let none : at_close b (framed g h qq c d) ≡ [] =
-    closes_on b g h rest opens ∙ breaks_none broken b (payload rest) (split_shut true x.packets pp qq are (length rest) c d shut (omega arith)) in
-    ap₂ (λ (ts : List EventAt) (us : List Event). ts ++ all_at n us) (island_open b control g h rest long opens) none
-    ∙ append-nil (row ++ in_island b (payload rest))
-    ∙ ap (λ ts. row ++ ts)
-    (placed_island b (payload rest) ∙ split_placed true x.packets pp qq are (length rest) (guard_columns x.closing) c d b (b + 2) 0 shut (omega arith) (omega arith) (omega arith))
+unfolding island_placed in_gap open_island_row
+whole_placed b control x g h c d pp qq long opens shut some few are = grind (arith, framed, closes_on, breaks_none, split_shut, append-nil, placed_island, split_placed, lacks_preamble)
 
 -- Periods between control periods.
 
 pub period_places : (before : List Column) (x : Period) (own reception : List Column) → 12 ≤ length before → IsBetween x → ArrivesPeriod x own reception
     → (b : ℕ) → in_gap b before reception ++ all_at (b + length reception) (at_close b reception) ≡ period_placed b before x own reception
-unfolding IsBetween period_placed
+unfolding IsBetween period_placed video_placed in_gap open_video_row
 period_places before _ _ _ long i (controls runs_sent cs n all) b = absurd i
-period_places before _ _ _ long i (pixels bytes g h pp qq guards are) b =
-    let count = pixel_count bytes in
-    let some = i.some in
-    let few = i.few in
-    line_placed b before (pixels_of bytes) g h pp qq long (opens_video g h guards.one) (omega arith) (omega arith) are
-period_places before _ _ _ long i (packets x g h c d pp qq guards are) b =
-    whole_placed b before x g h c d pp qq long
-    (opens_island x.opening.first x.opening.second g h i.open_first i.open_second guards.opening.one)
-    (guards_close x.closing.first x.closing.second c d guards.closing.one) i.some i.few are
+period_places before _ _ _ long i (pixels bytes g h pp qq guards are) b = grind (arith, pixel_count, opens_video, length_received, line_closes, close_line, append-nil, lacks_preamble)
+period_places before _ _ _ long i (packets x g h c d pp qq guards are) b = grind (arith, whole_placed, opens_island, guards_close)

@@ -1,53 +1,32 @@
 -- Where the control periods of a stream end.
-use Rattle.std.proofs.Common.{◌≡◌, ℕ, suc, zero, ◌+◌, ◌-◌, ◌*◌, ◌/◌, ◌%◌, ◌<◌, ◌≤◌, true, ◌==◌, List, [], ◌∷◌, ◌++◌, length, get_or, replicate, refl, ap, ◌∙◌, sym, subst, arith, inl, inr, ◌⊎◌, length-append}
+use Rattle.std.proofs.Common.{◌≡◌, ℕ, ◌+◌, ◌-◌, ◌/◌, ◌%◌, ◌<◌, ◌≤◌, true, ◌==◌, List, [], ◌∷◌, ◌++◌, length, get_or, replicate, ap, ◌∙◌, sym, subst, arith, inl, inr, ◌⊎◌, length-append}
 use Rattle.std.specs.List.{list_all}
 use Rattle.std.proofs.lemmas.Bool.{cases_lt, leb-true}
 use Rattle.std.proofs.lemmas.List.{get_or_append_left, get_or-append_right, get_or-replicate, length-replicate, get_or_past}
 use Rattle.tmds_word.proofs.Below.{and-left, and-right}
 use Rattle.island_pack.specs.Periods.{ControlRun, DataIsland, Period, control, video, island, values_of, has_preamble}
 use Rattle.island_pack.specs.Conforming.{is_run, is_control_period, are_bytes, is_video_period, is_packet, is_data_island, conforms, IsConforming}
-use Rattle.island_pack.specs.Kinds.{Kind, control_column, second_guard, pixel_column, packet_column, IsPayload, guard_pair, kinds_in, kinds_of, kind_at, EndsAt}
+use Rattle.island_pack.specs.Kinds.{Kind, control_column, second_guard, IsPayload, guard_pair, kinds_in, kinds_of, kind_at, EndsAt}
 use Rattle.link_laws.specs.Alternating.{IsMiddle, built, IsAlternating, last, more}
 
 no_control_of : (k : Kind) → (k ≡ control_column → ⊥) → (n i : ℕ) → get_or (replicate n k) i second_guard ≡ control_column → ⊥
-no_control_of k apart n i h = elim (cases_lt i n) [
-  | inl within ↦ apart (sym (get_or-replicate n i k second_guard within) ∙ h)
-  | inr past ↦ let l = length-replicate n k in let e = get_or_past (replicate n k) i second_guard (omega arith) in cc
-]
+no_control_of k apart n i h = grind (arith, cases_lt, get_or-replicate, length-replicate, get_or_past)
 
 no_guard_control : (i : ℕ) → get_or guard_pair i second_guard ≡ control_column → ⊥
-no_guard_control zero h = cc
-no_guard_control (suc zero) h = cc
-no_guard_control (suc (suc i)) h = cc
+no_guard_control i h = grind arith
 
 no_control_both : (xs ys : List Kind) → ((i : ℕ) → get_or xs i second_guard ≡ control_column → ⊥) → ((i : ℕ) → get_or ys i second_guard ≡ control_column → ⊥) → (i : ℕ) → get_or (xs ++ ys) i second_guard ≡ control_column → ⊥
-no_control_both xs ys f g i h = elim (cases_lt i (length xs)) [
-  | inl within ↦ f i (sym (get_or_append_left xs ys second_guard i within) ∙ h)
-  | inr past ↦ g (i - length xs) (sym (get_or-append_right xs ys (length xs) i second_guard refl past) ∙ h)
-]
+no_control_both xs ys f g i h = grind (arith, cases_lt, get_or_append_left, get_or-append_right)
 
 -- a video data period of some pixels
 pub middle_video : (bytes : List ℕ) → 1 ≤ length bytes / 3 → IsMiddle (kinds_in (video bytes))
 unfolding kinds_in
-middle_video bytes h =
-    let n = length bytes / 3 in
-    record {
-      first = refl;
-      none = no_control_both guard_pair (replicate n pixel_column) no_guard_control (no_control_of pixel_column (λ e. cc) n);
-      long = let l = length-replicate n pixel_column in omega arith;
-    }
+middle_video bytes h = grind (arith, no_control_both, no_guard_control, no_control_of, length-replicate)
 
 -- a data island of some packets
 pub middle_island : (x : DataIsland) → 1 ≤ length x.packets → IsMiddle (kinds_in (island x))
 unfolding kinds_in
-middle_island x h =
-    let n = 32 * length x.packets in
-    record {
-      first = refl;
-      none = no_control_both guard_pair (replicate n packet_column ++ guard_pair) no_guard_control
-          (no_control_both (replicate n packet_column) guard_pair (no_control_of packet_column (λ e. cc) n) no_guard_control);
-      long = let l = length-replicate n packet_column in omega (arith, length-append (replicate n packet_column) guard_pair);
-    }
+middle_island x h = grind (arith, no_control_both, no_guard_control, no_control_of, length-replicate, length-append)
 
 long_control : (runs : List ControlRun) → is_control_period runs ≡ true → 12 ≤ length (values_of runs)
 unfolding is_control_period
@@ -95,13 +74,7 @@ at_middle n mid rest i from to =
     ∙ get_or_append_left mid rest second_guard (i - n) (omega arith)
 
 pub in_rest : (n : ℕ) (mid rest : List Kind) (k : ℕ) → kind_at (built n mid rest) (n + length mid + k) ≡ kind_at rest k
-in_rest n mid rest k =
-    let e : n + length mid + k - n ≡ length mid + k = omega arith in
-    let f : length mid + k - length mid ≡ k = omega arith in
-    get_or-append_right (replicate n control_column) (mid ++ rest) n (n + length mid + k) second_guard (length-replicate n control_column) (omega arith)
-    ∙ ap (λ m. get_or (mid ++ rest) m second_guard) e
-    ∙ get_or-append_right mid rest (length mid) (length mid + k) second_guard refl (omega arith)
-    ∙ ap (λ m. get_or rest m second_guard) f
+in_rest n mid rest k = grind (arith, get_or-append_right, length-replicate)
 
 where_control : (n : ℕ) (mid rest : List Kind) (i : ℕ) → IsMiddle mid → kind_at (built n mid rest) i ≡ control_column → (i < n) ⊎ Later mid rest n i
 where_control n mid rest i m h = elim (cases_lt i n) [
@@ -122,30 +95,13 @@ pub record EndsLater (mid rest : List Kind) (n i : ℕ) : Type 0 where
 
 pub where_ends : (n : ℕ) (mid rest : List Kind) (i : ℕ) → IsMiddle mid → EndsAt (built n mid rest) i → (i + 1 ≡ n) ⊎ EndsLater mid rest n i
 where_ends n mid rest i m h = elim (where_control n mid rest i m h.here) [
-  | inl first ↦ elim (cases_lt (i + 1) n) [
-    | inl less ↦ absurd (h.then (in_first n mid rest (i + 1) less))
-    | inr least ↦ inl (omega arith)
-  ]
-  | inr later ↦
-      let e : i + 1 ≡ n + length mid + (later.at + 1) = omega (arith, later.place) in
-      inr (record {
-        at = later.at;
-        place = later.place;
-        ends = record { here = later.kind; then = λ c. h.then (ap (λ j. kind_at (built n mid rest) j) e ∙ in_rest n mid rest (later.at + 1) ∙ c) };
-      })
+  | inl first ↦ grind (arith, cases_lt, in_first)
+  | inr later ↦ grind (arith, in_rest)
 ]
 
 -- the last control period
 pub ends_alone : (n i : ℕ) → EndsAt (replicate n control_column ++ []) i → i + 1 ≡ n
-ends_alone n i h =
-    let l = length-replicate n control_column in
-    elim (cases_lt i n) [
-      | inl first ↦ elim (cases_lt (i + 1) n) [
-        | inl less ↦ absurd (h.then (get_or_append_left (replicate n control_column) [] second_guard (i + 1) (omega arith) ∙ get_or-replicate n (i + 1) control_column second_guard less))
-        | inr least ↦ omega arith
-      ]
-      | inr past ↦ let e = get_or_past (replicate n control_column ++ []) i second_guard (omega (arith, length-append (replicate n control_column) [])) in let f = h.here in cc
-    ]
+ends_alone n i h = grind (arith, length-replicate, cases_lt, get_or_append_left, get_or-replicate, get_or_past, length-append)
 
 pub ends_late : (kinds : List Kind) → IsAlternating kinds → (i : ℕ) → EndsAt kinds i → 11 ≤ i
 ends_late _ (last n long) i h = let e = ends_alone n i h in omega arith
@@ -163,27 +119,16 @@ ends_apart _ (more n mid rest long m alternates) i j a b lt =
         | inl j_here ↦ omega arith
         | inr j_later ↦ let late = ends_late rest alternates j_later.at j_later.ends in omega (arith, j_later.place)
       ]
-      | inr i_later ↦ elim (where_ends n mid rest j m b) [
-        | inl j_here ↦ omega (arith, i_later.place)
-        | inr j_later ↦ let far = ends_apart rest alternates i_later.at j_later.at i_later.ends j_later.ends (omega (arith, i_later.place, j_later.place)) in omega (arith, i_later.place, j_later.place)
-      ]
+      | inr i_later ↦ grind (arith, where_ends n mid rest j m b, ends_apart rest alternates)
     ]
 
 -- no payload follows a control word
 pub parted : (kinds : List Kind) → IsAlternating kinds → (i : ℕ) → kind_at kinds i ≡ control_column → IsPayload (kind_at kinds (i + 1)) → ⊥
-parted _ (last n long) i a b =
-    let ends : EndsAt (replicate n control_column ++ []) i = record { here = a; then = λ c. subst IsPayload c b } in
-    let e = ends_alone n i ends in
-    let l = length-replicate n control_column in
-    subst IsPayload (get_or_past (replicate n control_column ++ []) (i + 1) second_guard (omega (arith, length-append (replicate n control_column) []))) b
+parted _ (last n long) i a b = grind (arith, ends_alone, length-replicate, get_or_past, length-append)
 parted _ (more n mid rest long m alternates) i a b =
     let three = m.long in
     let ends : EndsAt (built n mid rest) i = record { here = a; then = λ c. subst IsPayload c b } in
     elim (where_ends n mid rest i m ends) [
-      | inl here ↦
-          let e : i + 1 - n ≡ 0 = omega arith in
-          subst IsPayload (at_middle n mid rest (i + 1) (omega arith) (omega arith) ∙ ap (λ k. kind_at mid k) e ∙ m.first) b
-      | inr later ↦
-          let e : i + 1 ≡ n + length mid + (later.at + 1) = omega (arith, later.place) in
-          parted rest alternates later.at later.ends.here (subst IsPayload (ap (λ j. kind_at (built n mid rest) j) e ∙ in_rest n mid rest (later.at + 1)) b)
+      | inl here ↦ grind (arith, at_middle)
+      | inr later ↦ grind (arith, in_rest, parted rest alternates)
     ]

@@ -1,6 +1,6 @@
 -- The words of the columns that spell periods: control words in control columns, and in all others words of at most
 -- five turns.
-use Rattle.std.proofs.Common.{◌≡◌, ℕ, suc, zero, ◌+◌, ◌*◌, ◌/◌, ◌%◌, ◌<◌, ◌≤◌, Bool, true, false, List, [], ◌∷◌, ◌++◌, map, length, get_or, replicate, refl, sym, ◌∙◌, subst, append_assoc, arith, nat_le, nat_lt, take}
+use Rattle.std.proofs.Common.{◌≡◌, ℕ, suc, zero, ◌+◌, ◌/◌, ◌%◌, ◌<◌, ◌≤◌, Bool, true, false, List, [], ◌∷◌, ◌++◌, map, length, get_or, replicate, refl, sym, ◌∙◌, subst, append_assoc, arith, nat_le, nat_lt, take}
 use Rattle.std.specs.List.{list_all}
 use Rattle.std.proofs.lemmas.Bool.{ltb-true, leb-true}
 use Rattle.std.proofs.lemmas.List.{length-map, get_or-map}
@@ -12,13 +12,13 @@ use Rattle.tmds_code.specs.Lanes.{IsLane, disparity_of}
 use Rattle.tmds_code.proofs.TableWords.{coded_turns}
 use Rattle.terc4.specs.Tables.{control_words, terc_words, video_guard, island_guard, is_in, is_control, is_terc}
 use Rattle.terc4.proofs.Words.{terc_turns}
-use Rattle.island_pack.specs.Periods.{ControlRun, DataIsland, Period, control, video, island, values_of, Pixel, pixels_of}
+use Rattle.island_pack.specs.Periods.{Period, control, video, island, Pixel, pixels_of}
 use Rattle.island_pack.specs.Conforming.{IsConforming, conforms, are_bytes}
 use Rattle.island_pack.specs.Packets.{CarriesFreely}
-use Rattle.island_pack.specs.Spelling.{control_column, SpellsPixels, guard_column, guard_columns, column_words, SpellsPacketsBy, SpellsPeriodBy, SpellsBy, Spells, freely}
+use Rattle.island_pack.specs.Spelling.{control_column, SpellsPixels, guard_column, column_words, SpellsPacketsBy, SpellsPeriodBy, SpellsBy, Spells, freely}
 use Rattle.island_pack.specs.declared.packet.Packet.{Packet}
 use Rattle.island_pack.specs.Sparse.{no_column, column_at}
-use Rattle.island_pack.specs.Kinds.{Kind, control_column as control_kind, first_guard, second_guard, pixel_column, packet_column, guard_pair, kinds_in, kinds_of}
+use Rattle.island_pack.specs.Kinds.{Kind, control_column as control_kind, first_guard, second_guard, guard_pair, kinds_in, kinds_of}
 use Rattle.link_laws.proofs.Freely.{free_spelled}
 use Rattle.link_laws.proofs.Conformed.{conforming, HasValues, has_values}
 use Rattle.link_laws.proofs.VideoReported.{pixel_count}
@@ -45,24 +45,14 @@ pub record HasFewTurns (c : Column) : Type 0 where
   pub green : turns (word_bits c.green) ≤ 5
   pub red : turns (word_bits c.red) ≤ 5
 
-fits_other : (k : Kind) → (k ≡ control_kind → ⊥) → (w : ℕ) → turns (word_bits w) ≤ 5 → FitsWord k w
-fits_other k apart w h = record { controls = λ e. absurd (apart e); others = λ n. h }
-
 fit_other : (k : Kind) (c : Column) → (k ≡ control_kind → ⊥) → HasFewTurns c → FitsColumn k c
-fit_other k c apart h = record { blue = fits_other k apart c.blue h.blue; green = fits_other k apart c.green h.green; red = fits_other k apart c.red h.red }
+fit_other k c apart h = grind arith
 
 -- Control columns.
 
-control_word : (v : ℕ) → v < 4 → is_control (get_or control_words v 0) ≡ true
-unfolding is_control is_in control_words
-control_word zero lt = refl
-control_word (suc zero) lt = refl
-control_word (suc (suc zero)) lt = refl
-control_word (suc (suc (suc zero))) lt = refl
-control_word (suc (suc (suc (suc v)))) lt = absurd (omega arith)
-
 fits_control : (v : ℕ) → v < 4 → FitsWord control_kind (get_or control_words v 0)
-fits_control v lt = record { controls = λ e. control_word v lt; others = λ n. absurd (n refl) }
+unfolding is_control is_in control_words
+fits_control v lt = grind arith
 
 fit_control : (vs : List ℕ) (ks : List Kind) (cs : List Column) → Fitting ks cs → Fitting (replicate (length vs) control_kind ++ ks) (map control_column vs ++ cs)
 fit_control [] ks cs h = h
@@ -93,23 +83,13 @@ video_test : list_all is_quiet video_guard ≡ true
 unfolding video_guard turns word_bits bits_of unlike
 video_test = refl
 
-island_test : is_quiet island_guard ≡ true
-unfolding island_guard turns word_bits bits_of unlike
-island_test = refl
-
-none_test : is_quiet 0 ≡ true
-unfolding turns word_bits bits_of unlike
-none_test = refl
-
 quiet_at : (ws : List ℕ) (i : ℕ) → list_all is_quiet ws ≡ true → turns (word_bits (get_or ws i 0)) ≤ 5
-quiet_at ws i h = leb-true _ _ (passes_at_all is_quiet ws i none_test h)
+unfolding turns word_bits bits_of unlike
+quiet_at ws i h = grind (arith, leb-true, passes_at_all)
 
 fit_guard : (sync : ℕ) → HasFewTurns (guard_column sync)
-fit_guard sync = record {
-  blue = quiet_at terc_words (12 + sync) terc_test;
-  green = leb-true _ _ island_test;
-  red = leb-true _ _ island_test;
-}
+unfolding island_guard turns word_bits bits_of unlike
+fit_guard sync = grind (arith, quiet_at, terc_test, leb-true)
 
 fit_video_guard : HasFewTurns (column_of video_guard)
 fit_video_guard = record {
@@ -159,9 +139,7 @@ unfolding pixels_of
 small_pixels [] j h = none_small
 small_pixels (r ∷ []) j h = none_small
 small_pixels (r ∷ (g ∷ [])) j h = none_small
-small_pixels (r ∷ (g ∷ (b ∷ rest))) zero h =
-    let more = and-right (nat_lt r 256) _ h in
-    record { red = ltb-true _ _ (and-left _ _ h); green = ltb-true _ _ (and-left _ _ more); blue = ltb-true _ _ (and-left _ _ (and-right (nat_lt g 256) _ more)) }
+small_pixels (r ∷ (g ∷ (b ∷ rest))) zero h = grind (arith, and-right, ltb-true, and-left)
 small_pixels (r ∷ (g ∷ (b ∷ rest))) (suc j) h =
     small_pixels rest j (and-right (nat_lt b 256) _ (and-right (nat_lt g 256) _ (and-right (nat_lt r 256) _ h)))
 
@@ -177,9 +155,7 @@ pixel_quiet f g pixels pp lane j lt small =
     let a = length-map pixels f in
     let b = length-map pp g in
     let byte : get_or (map f pixels) j 0 ≡ f (get_or pixels j no_pixel) = get_or-map f pixels j no_pixel 0 (omega arith) in
-    let word : get_or (map g pp) j 0 ≡ g (column_at pp j) = get_or-map g pp j no_column 0 lt in
-    subst (λ w. turns (word_bits w) ≤ 5) word
-    (lane_quiet (map f pixels) (map g pp) lane j (omega arith) (subst (λ n. n < 256) (sym byte) small))
+    grind (arith, get_or-map, lane_quiet)
 
 pixels_payload : (bytes : List ℕ) (pp : List Column) → are_bytes bytes ≡ true → SpellsPixels (pixels_of bytes) pp → ArePayload pp
 pixels_payload bytes pp small h = payload_from pp (λ j lt. record {
@@ -189,11 +165,7 @@ pixels_payload bytes pp small h = payload_from pp (λ j lt. record {
 })
 
 pub length-spelled : (pixels : List Pixel) (pp : List Column) → SpellsPixels pixels pp → length pp ≡ length pixels
-length-spelled pixels pp h =
-    let same = h.blue.same_length in
-    let a = length-map pixels (λ p. p.blue) in
-    let b = length-map pp (λ c. c.blue) in
-    omega arith
+length-spelled pixels pp h = grind (arith, length-map)
 
 -- Packets.
 
@@ -212,45 +184,21 @@ packets_payload first (p ∷ ps) cs h =
 
 -- Periods.
 
-fit_control_period : (runs : List ControlRun) (own : List Column) (ks : List Kind) (cs : List Column) → SpellsPeriodBy freely (control runs) own → Fitting ks cs
-    → Fitting (kinds_in (control runs) ++ ks) (own ++ cs)
-unfolding kinds_in
-fit_control_period runs own ks cs h fit =
-    subst (λ own. Fitting (replicate (length (values_of runs)) control_kind ++ ks) (own ++ cs)) (sym h) (fit_control (values_of runs) ks cs fit)
-
 fit_video : (bytes : List ℕ) (own : List Column) (ks : List Kind) (cs : List Column) → are_bytes bytes ≡ true → SpellsPeriodBy freely (video bytes) own → Fitting ks cs
     → Fitting (kinds_in (video bytes) ++ ks) (own ++ cs)
 unfolding kinds_in
 fit_video bytes own ks cs small h fit =
     let pp = h.0 in
     let n : length pp ≡ length bytes / 3 = length-spelled (pixels_of bytes) pp h.2 ∙ pixel_count bytes in
-    let inner = subst (λ n. Fitting (replicate n pixel_column ++ ks) (pp ++ cs)) n (fit_payload pixel_column (λ e. cc) pp ks cs (pixels_payload bytes pp small h.2) fit) in
-    subst (λ own. Fitting (guard_pair ++ (replicate (length bytes / 3) pixel_column ++ ks)) (own ++ cs)) (sym h.1)
-    (fit_pair _ _ _ _ fit_video_guard fit_video_guard inner)
-
-fit_island : (x : DataIsland) (own : List Column) (ks : List Kind) (cs : List Column) → SpellsPeriodBy freely (island x) own → Fitting ks cs
-    → Fitting (kinds_in (island x) ++ ks) (own ++ cs)
-unfolding kinds_in
-fit_island x own ks cs h fit =
-    let pp = h.0 in
-    let closing = guard_columns x.closing in
-    let last = fit_pair _ _ ks cs (fit_guard x.closing.first) (fit_guard x.closing.second) fit in
-    let inner =
-    subst (λ n. Fitting (replicate n packet_column ++ (guard_pair ++ ks)) (pp ++ (closing ++ cs))) (packets_size true x.packets pp h.2)
-    (fit_payload packet_column (λ e. cc) pp (guard_pair ++ ks) (closing ++ cs) (packets_payload true x.packets pp h.2) last) in
-    let columns = subst (λ cs. Fitting (replicate (32 * length x.packets) packet_column ++ (guard_pair ++ ks)) cs) (sym (append_assoc pp closing cs)) inner in
-    let whole = subst (λ ks. Fitting ks ((pp ++ closing) ++ cs)) (sym (append_assoc (replicate (32 * length x.packets) packet_column) guard_pair ks)) columns in
-    subst (λ own. Fitting (kinds_in (island x) ++ ks) (own ++ cs)) (sym h.1) (fit_pair _ _ _ _ (fit_guard x.opening.first) (fit_guard x.opening.second) whole)
+    grind (arith, fit_payload, pixels_payload, fit_pair, fit_video_guard)
 
 fit_periods : (ps : List Period) (sent : List Column) → HasValues ps → SpellsBy freely ps sent → Fitting (kinds_of ps) sent
-unfolding HasValues kinds_of
+unfolding HasValues kinds_of kinds_in
 fit_periods [] sent small h = subst (λ cs. Fitting [] cs) (sym h) no_columns
-fit_periods (control runs ∷ ps) sent small h =
-    subst (λ cs. Fitting (kinds_of (control runs ∷ ps)) cs) (sym h.2) (fit_control_period runs h.0 (kinds_of ps) h.1 h.3 (fit_periods ps h.1 small.1 h.4))
+fit_periods (control runs ∷ ps) sent small h = grind (arith, fit_control, fit_periods ps)
 fit_periods (video bytes ∷ ps) sent small h =
     subst (λ cs. Fitting (kinds_of (video bytes ∷ ps)) cs) (sym h.2) (fit_video bytes h.0 (kinds_of ps) h.1 small.0 h.3 (fit_periods ps h.1 small.1 h.4))
-fit_periods (island x ∷ ps) sent small h =
-    subst (λ cs. Fitting (kinds_of (island x ∷ ps)) cs) (sym h.2) (fit_island x h.0 (kinds_of ps) h.1 h.3 (fit_periods ps h.1 small h.4))
+fit_periods (island x ∷ ps) sent small h = grind (arith, fit_pair, fit_guard, packets_size, fit_payload, packets_payload, append_assoc, fit_periods ps)
 
 -- the columns that spell conforming periods fit their kinds
 pub fitting_freely : (ps : List Period) (sent : List Column) → IsConforming ps → SpellsBy freely ps sent → Fitting (kinds_of ps) sent

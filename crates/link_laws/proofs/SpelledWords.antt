@@ -1,18 +1,17 @@
 -- The words and the sizes of columns that spell periods.
-use Rattle.std.proofs.Common.{◌≡◌, ℕ, suc, ◌*◌, ◌<◌, true, false, Bool, List, [], ◌∷◌, length, map, get_or, refl, ap, ◌∙◌, arith, length-append}
+use Rattle.std.proofs.Common.{◌≡◌, ℕ, suc, ◌*◌, ◌<◌, true, false, Bool, List, [], ◌∷◌, length, map, get_or, refl, ap, arith, length-append}
 use Rattle.std.specs.Prelude.{nat_lt, ℤ}
 use Rattle.std.proofs.lemmas.Bool.{ltb-true}
 use Rattle.std.proofs.lemmas.List.{length-map}
-use Rattle.tmds_word.specs.Bits.{word_bits, turns}
 use Rattle.tmds_word.specs.Column.{Column}
 use Rattle.tmds_word.proofs.Below.{and-left, and-right}
-use Rattle.tmds_code.specs.Coding.{Coded, sign_of, decoded_byte}
+use Rattle.tmds_code.specs.Coding.{Coded}
 use Rattle.tmds_code.specs.Lanes.{IsLane}
 use Rattle.tmds_code.proofs.TableWords.{decoded_coded, coded_turns}
 use Rattle.terc4.proofs.Words.{few_turns}
-use Rattle.island_pack.specs.Periods.{Pixel, Period, control, video, island, values_of, pixels_of, period_columns}
+use Rattle.island_pack.specs.Periods.{Pixel, Period, pixels_of, period_columns}
 use Rattle.island_pack.specs.Conforming.{are_bytes}
-use Rattle.island_pack.specs.Spelling.{control_column, guard_columns, SpellsPacketsBy, SpellsPeriod, SpellsPeriodBy, freely}
+use Rattle.island_pack.specs.Spelling.{SpellsPacketsBy, SpellsPeriod, SpellsPeriodBy, freely}
 use Rattle.island_pack.specs.declared.packet.Packet.{Packet}
 use Rattle.link_laws.proofs.Freely.{free_period}
 use Rattle.link_laws.proofs.Rows.{and_both}
@@ -22,10 +21,7 @@ use Rattle.link_laws.proofs.IslandColumns.{packet_sent}
 -- Words.
 
 is_word : (d : ℤ) (b w : ℕ) → b < 256 → Coded d b w → IsWord b w
-is_word d b w lt e = record {
-  byte_is = ap decoded_byte e ∙ decoded_coded (sign_of d) b lt;
-  quiet = let few = coded_turns (sign_of d) b lt in let same = ap (λ v. turns (word_bits v)) e in few_turns w (omega arith);
-}
+is_word d b w lt e = grind (arith, decoded_coded, coded_turns, few_turns)
 
 -- each word is one that codes its byte
 unfoldable pub AreWords : List ℕ → List ℕ → Type 0
@@ -56,10 +52,7 @@ unfolding pixels_of
 small_lane f pick [] h = refl
 small_lane f pick (r ∷ []) h = refl
 small_lane f pick (r ∷ (g ∷ [])) h = refl
-small_lane f pick (r ∷ (g ∷ (b ∷ rest))) h =
-    let h1 = and-right (nat_lt r 256) _ h in
-    let h2 = and-right (nat_lt g 256) _ h1 in
-    and_both _ _ (pick (record { red = r; green = g; blue = b }) (and-left _ _ h) (and-left _ _ h1) (and-left _ _ h2)) (small_lane f pick rest (and-right _ _ h2))
+small_lane f pick (r ∷ (g ∷ (b ∷ rest))) h = grind (arith, and-right, and_both, and-left, small_lane f pick rest)
 
 pub small_blue : (bytes : List ℕ) → are_bytes bytes ≡ true → are_bytes (map (λ p. p.blue) (pixels_of bytes)) ≡ true
 small_blue = small_lane (λ p. p.blue) (λ p r g b. b)
@@ -77,26 +70,12 @@ packets_size first [] pp h = ap length h
 packets_size first (p ∷ ps) pp h =
     let own = packet_sent first p h.0 h.3 in
     let rest = packets_size false ps h.1 h.4 in
-    let all = ap length h.2 in
-    let both = length-append h.0 h.1 in
-    omega arith
+    grind (arith, length-append)
 
 -- as many columns as the period has
 pub period_size_freely : (x : Period) (own : List Column) → SpellsPeriodBy freely x own → length own ≡ period_columns x
 unfolding period_columns
-period_size_freely (control runs) own h = ap length h ∙ length-map (values_of runs) control_column
-period_size_freely (video bytes) own h =
-    let all = ap length h.1 in
-    let lane = h.2.blue.same_length in
-    let ws = length-map h.0 (λ c. c.blue) in
-    let bs = length-map (pixels_of bytes) (λ p. p.blue) in
-    let n = pixel_count bytes in
-    omega arith
-period_size_freely (island x) own h =
-    let all = ap length h.1 in
-    let n = packets_size true x.packets h.0 h.2 in
-    let both = length-append h.0 (guard_columns x.closing) in
-    omega arith
+period_size_freely x own h = grind (arith, length-map, pixel_count, packets_size, length-append)
 
 pub period_size : (x : Period) (own : List Column) → SpellsPeriod x own → length own ≡ period_columns x
 period_size x own h = period_size_freely x own (free_period x own h)

@@ -1,12 +1,11 @@
 -- The account from twelve columns before the end of a control period on.
-use Rattle.std.proofs.Common.{◌≡◌, ℕ, suc, zero, ◌+◌, ◌-◌, ◌<◌, ◌≤◌, cond, List, [], ◌∷◌, ◌++◌, length, take, drop, refl, ap, ap₂, sym, ◌∙◌, subst, arith, inl, inr, length-drop}
+use Rattle.std.proofs.Common.{◌≡◌, ℕ, suc, zero, ◌+◌, ◌-◌, ◌<◌, ◌≤◌, List, [], ◌∷◌, ◌++◌, length, take, drop, refl, ap, sym, ◌∙◌, subst, arith, inl, inr, length-drop}
 use Rattle.std.proofs.lemmas.List.{drop-append-le, drop-drop}
 use Rattle.std.proofs.lemmas.Bool.{le-ltb, lt-ltb}
 use Rattle.tmds_word.specs.Column.{Column}
 use Rattle.tmds_word.proofs.Below.{and-right}
 use Rattle.island_pack.specs.Kinds.{EndsAt}
 use Rattle.island_pack.specs.Periods.{ControlRun, Period, control, values_of, period_columns}
-use Rattle.period_grammar.specs.Cut.{stretches}
 use Rattle.link_laws.proofs.Cutting.{AllControl, hear}
 use Rattle.link_laws.proofs.Rows.{control_columns}
 use Rattle.link_laws.proofs.Conformed.{IsInner, Follows, ends, goes_on}
@@ -14,7 +13,7 @@ use Rattle.link_laws.proofs.Between.{take_seam, drop_seam}
 use Rattle.link_laws.proofs.EndPlaces.{kinds_from, ends_first, ends_only, control_kinds, ends_late, kinds_size}
 use Rattle.period_grammar.specs.Heard.{heard, heard_so_far}
 use Rattle.link_laws.specs.Account.{control_row, account_from, account_at, account}
-use Rattle.link_laws.proofs.Joining.{ArrivesPeriod, controls, Arrives, nothing, more, IsSized, sized, IsTail, is_tail, joined}
+use Rattle.link_laws.proofs.Joining.{controls, Arrives, nothing, more, IsSized, sized, IsTail, is_tail, joined}
 
 pub drop_control : (k : ℕ) (cs : List Column) → AllControl cs → AllControl (drop k cs)
 drop_control zero cs h = h
@@ -25,21 +24,12 @@ account_here : (x : Period) (xs : List Period) (own reception ss rs : List Colum
     → account (x ∷ xs) (own ++ ss) (reception ++ rs) a m
     ≡ control_row 0 (take m (drop a reception)) ++ account_from (period_columns x - a) (m - (period_columns x - a)) (drop a reception) xs ss rs
 unfolding account account_at
-account_here x xs own reception ss rs a m h lt =
-    let n = period_columns x in
-    ap (λ p. cond p (account_at x a m xs (own ++ ss) (reception ++ rs)) (account xs (drop n (own ++ ss)) (drop n (reception ++ rs)) (a - n) m)) (lt-ltb a n lt)
-    ∙ ap (λ cs. control_row 0 (take m (drop a cs)) ++ account_from (n - a) (m - (n - a)) (drop a cs) xs (drop n (own ++ ss)) (drop n (reception ++ rs))) (take_seam reception rs n h.received)
-    ∙ ap₂ (λ (u v : List Column). control_row 0 (take m (drop a reception)) ++ account_from (n - a) (m - (n - a)) (drop a reception) xs u v) (drop_seam own ss n h.sent) (drop_seam reception rs n h.received)
+account_here x xs own reception ss rs a m h lt = grind (arith, lt-ltb, take_seam, drop_seam)
 
 account_past : (x : Period) (xs : List Period) (own reception ss rs : List Column) (a m : ℕ) → IsSized x own reception → period_columns x ≤ a
     → account (x ∷ xs) (own ++ ss) (reception ++ rs) a m ≡ account xs ss rs (a - period_columns x) m
 unfolding account
-account_past x xs own reception ss rs a m h le =
-    let n = period_columns x in
-    let s = own ++ ss in
-    let r = reception ++ rs in
-    ap (λ p. cond p (account_at x a m xs s r) (account xs (drop n s) (drop n r) (a - n) m)) (le-ltb a n le)
-    ∙ ap₂ (λ (x y : List Column). account xs x y (a - n) m) (drop_seam own ss n h.sent) (drop_seam reception rs n h.received)
+account_past x xs own reception ss rs a m h le = grind (arith, le-ltb, drop_seam)
 
 pub drop_over : (xs ys : List Column) (n k : ℕ) → length xs ≡ n → drop (n + k) (xs ++ ys) ≡ drop k ys
 drop_over xs ys n k e = sym (drop-drop k n (xs ++ ys)) ∙ ap (drop k) (drop_seam xs ys n e)
@@ -52,11 +42,7 @@ here runs tail f own cs ss rs size all arrives a m e =
     let d = length-drop a cs in
     let q = size.received in
     let n : 0 + length (drop a cs) ≡ period_columns (control runs) - a = omega arith in
-    let k : length (drop a cs) ≡ period_columns (control runs) - a = omega arith in
-    ap (λ (ds : List Column). hear 0 (stretches (take m ds))) (drop-append-le a cs rs (omega arith))
-    ∙ joined tail f (drop a cs) ss rs (record { long = omega arith; all = drop_control a cs all }) arrives 0 m
-    ∙ ap₂ (λ (j i : ℕ). control_row 0 (take m (drop a cs)) ++ account_from j (m - i) (drop a cs) tail ss rs) n k
-    ∙ sym (account_here (control runs) tail own cs ss rs a m size (omega arith))
+    grind (arith, hear, drop-append-le, joined, drop_control, account_here)
 
 pub control_size : (runs : List ControlRun) → period_columns (control runs) ≡ length (values_of runs)
 unfolding period_columns

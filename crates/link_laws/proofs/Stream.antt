@@ -1,6 +1,6 @@
 -- A short stream with a video data period and a data island, as it was sent, as it came with one damaged word in each,
 -- and as it came with damaged words in a control period and in guard columns too.
-use Rattle.std.proofs.Common.{◌≡◌, ℕ, suc, zero, ◌+◌, ◌*◌, ◌<◌, ◌≤◌, Bool, true, false, not, ◌&&◌, ◌||◌, ◌==◌, List, [], ◌∷◌, ◌++◌, map, length, take, drop, get_or, replicate, refl, ap, ap₂, sym, subst, ◌∙◌, ◌-◌, arith, inl, inr, nat_le, nat_lt}
+use Rattle.std.proofs.Common.{◌≡◌, ℕ, suc, zero, ◌+◌, ◌*◌, ◌<◌, ◌≤◌, Bool, true, false, not, ◌&&◌, ◌||◌, ◌==◌, List, [], ◌∷◌, ◌++◌, map, length, take, drop, get_or, replicate, refl, ap, sym, subst, ◌∙◌, ◌-◌, arith, inl, inr, nat_le, nat_lt}
 use Rattle.std.specs.List.{All}
 use Rattle.std.proofs.lemmas.Bool.{cases_lt, eqb-true, eq-eqb, leb-true, ltb-true}
 use Rattle.std.proofs.lemmas.List.{length-map, length-replicate, get_or_past}
@@ -301,14 +301,9 @@ each P within past i = elim (cases_lt i 87) [
 no_more : (cs : List Column) → length cs ≡ 87 → (i : ℕ) → 87 ≤ i → column_at cs i ≡ no_column
 no_more cs long i le = get_or_past cs i no_column (omega arith)
 
-none_unlike : unlike_words (column_words no_column) (column_words no_column) ≡ 0
-unfolding unlike_words one_if
-none_unlike = refl
-
 unlike_past : (cs : List Column) → length cs ≡ 87 → (i : ℕ) → 87 ≤ i → unlike_at sent cs i ≡ 0
-unlike_past cs long i le =
-    let s = long_sent in
-    ap₂ (λ (a b : Column). unlike_words (column_words a) (column_words b)) (no_more sent s i le) (no_more cs long i le) ∙ none_unlike
+unfolding unlike_words one_if
+unlike_past cs long i le = grind (arith, long_sent, no_more)
 
 abbrev is_narrow : Column → Bool
 is_narrow c = nat_lt c.blue 1024 && (nat_lt c.green 1024 && nat_lt c.red 1024)
@@ -350,30 +345,21 @@ sparse cs long narrow two blue green red =
 
 -- where damage is spared
 
-abbrev pays : Kind → Bool
+abbrev pub pays : Kind → Bool
 pays control_kind = false
 pays first_guard = false
 pays second_guard = false
 pays pixel_column = true
 pays packet_column = true
 
-pays_not : (k : Kind) → (IsPayload k → ⊥) → pays k ≡ false
-pays_not control_kind h = refl
-pays_not first_guard h = refl
-pays_not second_guard h = refl
-pays_not pixel_column h = absurd (h tt)
-pays_not packet_column h = absurd (h tt)
+pub pays_not : (k : Kind) → (IsPayload k → ⊥) → pays k ≡ false
+pays_not k h = grind arith
 
-abbrev is_same : Column → Column → Bool
+abbrev pub is_same : Column → Column → Bool
 is_same c d = (c.blue == d.blue) && ((c.green == d.green) && (c.red == d.red))
 
-same_columns : (c d : Column) → is_same c d ≡ true → c ≡ d
-same_columns c d h =
-    let r = and-right (c.blue == d.blue) _ h in
-    let b = eqb-true _ _ (and-left _ _ h) in
-    let g = eqb-true _ _ (and-left _ _ r) in
-    let e = eqb-true _ _ (and-right (c.green == d.green) _ r) in
-    λ i. record { blue = b i; green = g i; red = e i }
+pub same_columns : (c d : Column) → is_same c d ≡ true → c ≡ d
+same_columns c d h = grind (arith, and-right, eqb-true, and-left)
 
 abbrev pays_or_same : List Column → ℕ → Bool
 pays_or_same cs i = pays (kind_at (kinds_of stream) i) || is_same (column_at cs i) (column_at sent i)
@@ -465,10 +451,7 @@ after_first = record { before = (23, refl, refl); opens = refl }
 -- The damaged columns.
 
 unlike_column : (cs : List Column) (i : ℕ) → is_same (column_at cs i) (column_at sent i) ≡ false → column_at cs i ≡ column_at sent i → ⊥
-unlike_column cs i test e = clash _ (ap (λ c. is_same c (column_at sent i)) e ∙ same_as (column_at sent i)) test
-  where
-    same_as : (c : Column) → is_same c c ≡ true
-    same_as c = ap₂ (λ (x y : Bool). x && y) (eq-eqb c.blue c.blue refl) (ap₂ (λ (x y : Bool). x && y) (eq-eqb c.green c.green refl) (eq-eqb c.red c.red refl))
+unlike_column cs i test e = grind (arith, clash, eq-eqb)
 
 pixel_kind : kind_at (kinds_of stream) 26 ≡ pixel_column
 unfolding stream kinds_of kinds_in values_of

@@ -1,23 +1,23 @@
 -- A lane whose damage spares control and guard words until a column, which is the first after a control period: its
 -- edges up to there, and a little past it, are ends of control periods, and that place is an edge.
-use Rattle.std.proofs.Common.{◌≡◌, ℕ, suc, zero, ◌+◌, ◌-◌, ◌*◌, ◌/◌, ◌<◌, ◌≤◌, Bool, true, false, List, [], ◌∷◌, ◌++◌, length, take, drop, get_or, replicate, refl, ap, ◌∙◌, sym, subst, arith, inl, inr, ◌⊎◌, Some, length-take, length-drop}
+use Rattle.std.proofs.Common.{◌≡◌, ℕ, suc, zero, ◌+◌, ◌-◌, ◌*◌, ◌/◌, ◌<◌, ◌≤◌, Bool, true, false, List, [], ◌∷◌, ◌++◌, length, take, drop, get_or, refl, ap, ◌∙◌, sym, subst, arith, inl, inr, ◌⊎◌, Some, length-take, length-drop}
 use Rattle.std.proofs.lemmas.Bool.{cases_lt}
 use Rattle.std.proofs.lemmas.List.{drop-take, take-take, take_all, take-append-drop, get_or-take, get_or-replicate, get_or_append_left, length-replicate}
 use Rattle.std.proofs.Math.Seq.{take-append-add}
-use Rattle.tmds_word.specs.Bits.{turns, word_bits, row_bits, number, window}
+use Rattle.tmds_word.specs.Bits.{word_bits, row_bits, number, window}
 use Rattle.tmds_word.proofs.Lists.{length-row_bits, length-word_bits}
 use Rattle.terc4.specs.Tables.{is_control}
 use Rattle.lane_align.specs.Lanes.{IsRun, IsLock, IsEdge}
 use Rattle.lane_align.specs.Laws.{marked, IsCalm}
 use Rattle.tmds_word.specs.Taps.{part_of}
 use Rattle.lane_align.proofs.Controls.{window_here}
-use Rattle.lane_align.proofs.Calm.{tap_lock}
-use Rattle.island_pack.specs.Kinds.{Kind, control_column, second_guard, IsPayload, kind_at, EndsAt}
+use Rattle.lane_align.proofs.Calm.{tap_lock, tapped}
+use Rattle.island_pack.specs.Kinds.{Kind, control_column, IsPayload, kind_at, EndsAt}
 use Rattle.link_laws.specs.LaneEnds.{IsGuard, IsReceived}
 use Rattle.lane_deskew.specs.Growing.{HasGrown}
 use Rattle.lane_deskew.proofs.Growth.{edge_before}
-use Rattle.link_laws.proofs.LaneEnds.{tapped, word_is, tap_run, edge_ends}
-use Rattle.link_laws.specs.Alternating.{built, IsAlternating, last, more}
+use Rattle.link_laws.proofs.LaneEnds.{word_is, tap_run, edge_ends}
+use Rattle.link_laws.specs.Alternating.{IsAlternating, last, more}
 use Rattle.link_laws.proofs.Shapes.{where_ends, ends_alone, ends_late, in_first, in_rest}
 use Rattle.link_sink.proofs.Decided.{lock_of_run}
 
@@ -42,29 +42,10 @@ few_cut n marks few i within =
 
 -- the lane cut behind column f is one that the standing laws know
 pub cut_received : (kinds : List Kind) (f : ℕ) (words : List ℕ) (marks : List Bool) → IsReceivedUntil kinds f words marks → IsReceived kinds (take (f + 1) words) (take (f + 1) marks)
-cut_received kinds f words marks r =
-    let n = f + 1 in
-    let l = length-take n words in
-    let k = length-take n marks in
-    let c = r.calm in
-    let s = c.same_length in
-    let word : (i : ℕ) → i < length (take n words) → get_or (take n words) i 0 ≡ get_or words i 0 = λ i lt. get_or-take n words i 0 (omega arith) in
-    let mark : (i : ℕ) → i < length (take n words) → get_or (take n marks) i false ≡ get_or marks i false = λ i lt. get_or-take n marks i false (omega arith) in
-    record {
-      calm = record {
-        same_length = omega arith;
-        plain = λ i lt u q. subst (λ w. turns (word_bits w) ≤ 5) (sym (word i lt)) (c.plain i (omega arith) (sym (mark i lt) ∙ u) (ap is_control (sym (word i lt)) ∙ q));
-        few = few_cut n marks c.few;
-      };
-      below = λ i lt. subst (λ w. w < 1024) (sym (word i lt)) (r.below i (omega arith));
-      controls = λ i lt e. ap is_control (word i lt) ∙ r.controls i (omega arith) (omega arith) e;
-      guards = λ i lt e. ap is_control (word i lt) ∙ r.guards i (omega arith) (omega arith) e;
-      payloads = λ i lt e u. ap is_control (word i lt) ∙ r.payloads i (omega arith) (omega arith) e (sym (mark i lt) ∙ u);
-    }
+cut_received kinds f words marks r = grind (arith, length-take, get_or-take, few_cut)
 
 take_nothing : (n : ℕ) → take {A = Bool} n [] ≡ []
-take_nothing zero = refl
-take_nothing (suc n) = refl
+take_nothing n = grind arith
 
 row_take : (n : ℕ) (ws : List ℕ) → row_bits (take n ws) ≡ take (10 * n) (row_bits ws)
 unfolding row_bits
@@ -76,11 +57,7 @@ row_take (suc n) (w ∷ ws) =
     ∙ sym (ap (λ m. take m (word_bits w ++ row_bits ws)) e ∙ take-append-add (word_bits w) (row_bits ws) (10 * n))
 
 take_swap : (a b : ℕ) (xs : List Bool) → take a (take b xs) ≡ take b (take a xs)
-take_swap a b xs = by (cases_lt a b)
-  where
-    by : (a < b) ⊎ (b ≤ a) → take a (take b xs) ≡ take b (take a xs)
-    by (inl lt) = take-take a b xs (omega (arith, lt)) ∙ sym (take_all b (take a xs) (omega (arith, lt, length-take a xs)))
-    by (inr le) = take_all a (take b xs) (omega (arith, le, length-take b xs)) ∙ sym (take-take b a xs le)
+take_swap a b xs = grind (arith, cases_lt, take-take, take_all, length-take)
 
 -- what is tapped of it is the beginning of what is tapped of the lane
 cut_tap : (words : List ℕ) (n from many : ℕ) → from ≤ 10 * n → part_of (take n words) from many ≡ take (10 * n - from) (part_of words from many)
@@ -153,26 +130,16 @@ edge_until kinds f words marks alternates r at from many e h edge near = by (cas
 
 -- the twelve columns up to the end of a control period are of it
 ends_long : (kinds : List Kind) → IsAlternating kinds → (i k : ℕ) → EndsAt kinds i → k < 12 → kind_at kinds (i - k) ≡ control_column
-ends_long _ (last n long) i k h lt =
-    let e = ends_alone n i h in
-    let l = length-replicate n control_column in
-    get_or_append_left (replicate n control_column) [] second_guard (i - k) (omega arith) ∙ get_or-replicate n (i - k) control_column second_guard (omega arith)
+ends_long _ (last n long) i k h lt = grind (arith, ends_alone, length-replicate, get_or_append_left, get_or-replicate)
 ends_long _ (more n mid rest long m alternates) i k h lt = elim (where_ends n mid rest i m h) [
   | inl here ↦ in_first n mid rest (i - k) (omega arith)
-  | inr later ↦
-      let late = ends_late rest alternates later.at later.ends in
-      let e : n + length mid + (later.at - k) ≡ i - k = omega (arith, later.place) in
-      ap (λ j. kind_at (built n mid rest) j) (sym e) ∙ in_rest n mid rest (later.at - k) ∙ ends_long rest alternates later.at k later.ends lt
+  | inr later ↦ grind (arith, ends_late rest alternates later.at later.ends, in_rest n mid rest (later.at - k), ends_long rest alternates)
 ]
 
 -- a word of the lane in what is tapped
 window_at : (words : List ℕ) (from many i p : ℕ) → i < length words → get_or words i 0 < 1024 → p + from ≡ 10 * i → 10 * i + 10 ≤ from + many → from + many ≤ 10 * length words
     → window (part_of words from many) p ≡ Some (get_or words i 0)
-window_at words from many i p lt small e reaches within =
-    let l = tap_length words from many within in
-    let t = tapped words from many p (omega arith) in
-    window_here (part_of words from many) p (get_or words i 0) (λ short. omega (arith, short))
-    (sym (ap number t.1 ∙ ap (λ m. number (take 10 (drop m (row_bits words)))) e ∙ word_is words i lt small))
+window_at words from many i p lt small e reaches within = grind (arith, tap_length, tapped, window_here, word_is)
 
 -- the end of a control period before column f is an edge
 pub end_edge : (kinds : List Kind) (f i : ℕ) (words : List ℕ) (marks : List Bool) → IsAlternating kinds → IsReceivedUntil kinds f words marks → IsGuard (kind_at kinds f) → EndsAt kinds i → f ≡ i + 1

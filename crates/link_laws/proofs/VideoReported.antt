@@ -1,5 +1,5 @@
 -- A video data period's columns as they came: two guard columns, and pixels.
-use Rattle.std.proofs.Common.{◌≡◌, ℕ, suc, zero, ◌+◌, ◌/◌, ◌<◌, ◌≤◌, Bool, true, false, cond, not, ◌==◌, List, [], ◌∷◌, ◌++◌, length, map, take, drop, refl, ap, ap₂, sym, ◌∙◌, arith}
+use Rattle.std.proofs.Common.{◌≡◌, ℕ, suc, zero, ◌+◌, ◌/◌, ◌<◌, ◌≤◌, false, not, List, [], ◌∷◌, ◌++◌, length, take, refl, ap, ap₂, ◌∙◌, arith}
 use Rattle.std.specs.Prelude.{nat_le}
 use Rattle.std.proofs.lemmas.List.{append-nil, take_all}
 use Rattle.std.proofs.lemmas.Bool.{eqb-true, le-leb, le-ltb, lt-ltb}
@@ -8,15 +8,14 @@ use Rattle.tmds_code.specs.Coding.{decoded_byte}
 use Rattle.terc4.specs.Tables.{is_control}
 use Rattle.island_pack.specs.Spelling.{column_words}
 use Rattle.island_pack.specs.Sparse.{unlike_words}
-use Rattle.terc4.specs.Columns.{is_control_column, is_video_guard}
+use Rattle.terc4.specs.Columns.{is_control_column}
 use Rattle.island_pack.specs.Periods.{Pixel, pixels_of, period_columns}
-use Rattle.period_grammar.specs.Events.{Event, line, cut, long_line, event_of, all_at}
-use Rattle.period_grammar.specs.Heard.{video, lacks, line_bytes, codes_of, line_of, opened, opening, in_payload, payload_closes, payload_ends, in_gap, at_close, at_end, if_not}
+use Rattle.period_grammar.specs.Events.{Event, line, long_line}
+use Rattle.period_grammar.specs.Heard.{video, line_bytes, codes_of, line_of, opened, payload_closes, in_gap, at_close, at_end, if_not}
 use Rattle.link_laws.specs.Account.{pixel_bytes, video_row, open_video_row, video_reported, period_row}
 use Rattle.link_laws.proofs.Cutting.{NoneControl, gap_events}
 use Rattle.link_laws.proofs.Rows.{and_both}
 use Rattle.link_laws.proofs.Conformed.{IsVideo}
-use Rattle.period_grammar.specs.Island.{wrong_guards}
 use Rattle.period_grammar.proofs.Hearings.{events_at}
 use Rattle.link_laws.proofs.Between.{IsGap, lacks_preamble}
 use Rattle.link_laws.proofs.Guards.{unlike, line_guard, line_guard_quiet, stays_quiet, opens_video}
@@ -48,10 +47,6 @@ pub data ArePixels : List Pixel → List Column → List Column → Type 0 where
 pub pixel_quiet : (p : Pixel) (s r : Column) → PixelAt p s r → is_control_column r ≡ false
 pixel_quiet p s r h = stays_quiet s r (record { blue = h.blue.quiet; green = h.green.quiet; red = h.red.quiet }) h.one
 
-word_byte : (b s r : ℕ) → IsWord b s → (same : Bool) → (s == r) ≡ same → decoded_byte r ≡ cond same b (decoded_byte r)
-word_byte b s r h true e = ap decoded_byte (sym (eqb-true s r e)) ∙ h.byte_is
-word_byte b s r h false e = refl
-
 pub pixels_quiet : (ps : List Pixel) (ss rs : List Column) → ArePixels ps ss rs → NoneControl rs
 pixels_quiet _ _ _ no_pixels = refl
 pixels_quiet _ _ _ (more p s r ps ss rs h hs) = and_both _ _ (ap not (pixel_quiet p s r h)) (pixels_quiet ps ss rs hs)
@@ -67,10 +62,7 @@ length_sent _ _ _ (more p s r ps ss rs h hs) = ap suc (length_sent ps ss rs hs)
 pub bytes_are : (ps : List Pixel) (ss rs : List Column) → ArePixels ps ss rs → line_bytes rs ≡ pixel_bytes ps ss rs
 unfolding line_bytes pixel_bytes
 bytes_are _ _ _ no_pixels = refl
-bytes_are _ _ _ (more p s r ps ss rs h hs) =
-    ap₂ (λ (x : ℕ) (xs : List ℕ). x ∷ xs) (word_byte p.red s.red r.red h.red (s.red == r.red) refl)
-    (ap₂ (λ (x : ℕ) (xs : List ℕ). x ∷ xs) (word_byte p.green s.green r.green h.green (s.green == r.green) refl)
-    (ap₂ (λ (x : ℕ) (xs : List ℕ). x ∷ xs) (word_byte p.blue s.blue r.blue h.blue (s.blue == r.blue) refl) (bytes_are ps ss rs hs)))
+bytes_are _ _ _ (more p s r ps ss rs h hs) = grind (arith, eqb-true, bytes_are ps ss rs hs)
 
 -- two guard columns as they came
 pub record AreGuards (s t g h : Column) : Type 0 where
@@ -93,23 +85,11 @@ close_line b ps ss (r ∷ rs) some few h =
 
 going_on : (b : ℕ) (control : List Column) (g h : Column) (rs : List Column) → 12 ≤ length control → opened g h ≡ video → gap_events b control (g ∷ (h ∷ rs)) ≡ open_video_row b control (g ∷ (h ∷ rs))
 unfolding in_gap open_video_row
-going_on b control g h rs long opens =
-    ap (λ k. map event_of (all_at (b + 1) (opening b control g h k) ++ in_payload b k rs)) opens
-    ∙ ap (map event_of) (append-nil _)
-    ∙ events_at (b + 1) (lacks b control 1 ++ wrong_guards is_video_guard b g h)
-    ∙ ap (λ ts. ts ++ wrong_guards is_video_guard b g h) (lacks_preamble b 1 control long)
+going_on b control g h rs long opens = grind (arith, append-nil, events_at, lacks_preamble)
 
 pub line_closes : (b : ℕ) (g h : Column) (rs : List Column) → opened g h ≡ video → at_close b (g ∷ (h ∷ rs)) ≡ line_of b rs
 unfolding at_close
 line_closes b g h rs opens = ap (λ k. payload_closes b k rs) opens
-
-cuts : (b : ℕ) (g h : Column) (rs : List Column) → opened g h ≡ video → at_end b (g ∷ (h ∷ rs)) ≡ cut (b + 2) ∷ []
-unfolding at_end
-cuts b g h rs opens = ap (λ k. payload_ends b k rs) opens
-
-first_cut : (b : ℕ) (control : List Column) (g : Column) → gap_events b control (g ∷ []) ++ at_end b (g ∷ []) ≡ cut b ∷ []
-unfolding in_gap at_end
-first_cut b control g = refl
 
 open_row_part : (b : ℕ) (control : List Column) (g h : Column) (xs ys : List Column) → open_video_row b control (g ∷ (h ∷ xs)) ≡ open_video_row b control (g ∷ (h ∷ ys))
 unfolding open_video_row
@@ -117,37 +97,18 @@ open_row_part b control g h xs ys = refl
 
 part : (ps : List Pixel) (g h : Column) (own qq : List Column) (control : List Column) (b k : ℕ) → 12 ≤ length control → opened g h ≡ video → 1 ≤ k → k ≤ length ps + 2
     → gap_events b control (take k (g ∷ (h ∷ qq))) ++ at_end b (take k (g ∷ (h ∷ qq))) ≡ video_reported b k control ps own (g ∷ (h ∷ qq))
-unfolding video_reported
-part ps g h own qq control b zero long opens one le = absurd (omega arith)
-part ps g h own qq control b (suc zero) long opens one le = first_cut b control g
-part ps g h own qq control b (suc (suc i)) long opens one le =
-    ap₂ (λ (x y : List Event). x ++ y) (going_on b control g h (take i qq) long opens ∙ open_row_part b control g h (take i qq) qq) (cuts b g h (take i qq) opens)
-    ∙ ap (λ p. open_video_row b control (g ∷ (h ∷ qq)) ++ cond p (video_row b ps (drop 2 own) qq) (cut (b + 2) ∷ [])) (sym (le-ltb (length ps) i (omega arith)))
+unfolding video_reported at_end in_gap
+part ps g h own qq control b k l m p q = grind (arith, going_on, open_row_part, le-ltb)
 
 whole : (ps : List Pixel) (g h s t : Column) (pp qq : List Column) (control : List Column) (b k : ℕ) → 12 ≤ length control → opened g h ≡ video → 1 ≤ length ps → length ps ≤ 4096 → ArePixels ps pp qq → length ps + 2 < k
     → gap_events b control (g ∷ (h ∷ qq)) ++ at_close b (g ∷ (h ∷ qq)) ≡ video_reported b k control ps (s ∷ (t ∷ pp)) (g ∷ (h ∷ qq))
 unfolding video_reported
 whole ps g h s t pp qq control b zero long opens some few are lt = absurd (omega arith)
 whole ps g h s t pp qq control b (suc zero) long opens some few are lt = absurd (omega arith)
-whole ps g h s t pp qq control b (suc (suc i)) long opens some few are lt =
-    ap₂ (λ (x y : List Event). x ++ y) (going_on b control g h qq long opens) (line_closes b g h qq opens ∙ close_line b ps pp qq some few are)
-    ∙ ap (λ p. open_video_row b control (g ∷ (h ∷ qq)) ++ cond p (video_row b ps pp qq) (cut (b + 2) ∷ [])) (sym (lt-ltb (length ps) i (omega arith)))
+whole ps g h s t pp qq control b (suc (suc i)) long opens some few are lt = grind (arith, going_on, line_closes, close_line, lt-ltb)
 
 -- the law of a video data period
 pub video_gap : (before : List Column) (bytes : List ℕ) (g h : Column) (pp qq : List Column) → 12 ≤ length before → IsVideo bytes → AreGuards line_guard line_guard g h → ArePixels (pixels_of bytes) pp qq
     → IsGap before (sends.video bytes) (line_guard ∷ (line_guard ∷ pp)) (g ∷ (h ∷ qq))
 unfolding period_columns period_row video_reported
-video_gap before bytes g h pp qq long v guards are =
-    let ps = pixels_of bytes in
-    let count = pixel_count bytes in
-    let some = v.some in
-    let few = v.few in
-    let opens = opens_video g h guards.one in
-    record {
-      quiet = guarded_quiet g h qq guards (pixels_quiet ps pp qq are);
-      long = let n = length_received ps pp qq are in omega arith;
-      some = omega arith;
-      nothing = λ b. refl;
-      part = λ b k one le. part ps g h (line_guard ∷ (line_guard ∷ pp)) qq before b k long opens one (omega arith);
-      whole = λ b k lt. whole ps g h line_guard line_guard pp qq before b k long opens (omega arith) (omega arith) are (omega arith);
-    }
+video_gap before bytes g h pp qq long v guards are = grind (arith, pixel_count, opens_video, guarded_quiet, pixels_quiet, length_received, part, line_guard, whole)

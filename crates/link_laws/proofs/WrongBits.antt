@@ -1,5 +1,5 @@
 -- How many bits of a packet's blocks are wrong where few of its words came unlike.
-use Rattle.std.proofs.Common.{◌≡◌, ℕ, suc, ◌+◌, ◌<◌, ◌≤◌, Bool, true, false, not, ◌==◌, List, [], ◌∷◌, map, length, refl, ap, sym, ◌∙◌, arith, inl, inr, ◌⊎◌}
+use Rattle.std.proofs.Common.{◌≡◌, ℕ, suc, ◌+◌, ◌<◌, ◌≤◌, Bool, true, false, not, ◌==◌, List, [], ◌∷◌, map, length, refl, ap, arith, inl, inr, ◌⊎◌}
 use Rattle.std.proofs.lemmas.Bool.{eqb-true}
 use Rattle.tmds_word.specs.Column.{Column}
 use Rattle.terc4.specs.Columns.{one_if}
@@ -10,18 +10,9 @@ use Rattle.island_pack.specs.Sparse.{unlike_words}
 use Rattle.link_laws.specs.Account.{damage}
 use Rattle.link_laws.specs.Laws.{wrong_bits, OneWrongBit}
 
--- one bit more
-one_bit_more : (x y : Bool) (xs ys : List Bool) → wrong_bits (x ∷ xs) (y ∷ ys) ≤ 1 + wrong_bits xs ys
-unfolding wrong_bits one_if
-one_bit_more true true xs ys = omega arith
-one_bit_more true false xs ys = omega arith
-one_bit_more false true xs ys = omega arith
-one_bit_more false false xs ys = omega arith
-
 like_bit_more : (x : Bool) (xs ys : List Bool) → wrong_bits (x ∷ xs) (x ∷ ys) ≡ wrong_bits xs ys
 unfolding wrong_bits one_if
-like_bit_more true xs ys = omega arith
-like_bit_more false xs ys = omega arith
+like_bit_more x xs ys = grind arith
 
 none_wrong : (xs : List Bool) → wrong_bits xs [] ≡ 0
 unfolding wrong_bits
@@ -31,12 +22,8 @@ none_wrong (false ∷ xs) = refl
 
 -- a bit of a word is wrong only where the word is unlike
 bit_of_word : (f : ℕ → Bool) (s r : ℕ) (xs ys : List Bool) (same : Bool) → (s == r) ≡ same → wrong_bits (f s ∷ xs) (f r ∷ ys) ≤ one_if (not same) + wrong_bits xs ys
-unfolding one_if
-bit_of_word f s r xs ys true e =
-    let q : wrong_bits (f s ∷ xs) (f r ∷ ys) ≡ wrong_bits xs ys =
-    ap (λ w. wrong_bits (f s ∷ xs) (f w ∷ ys)) (sym (eqb-true s r e)) ∙ like_bit_more (f s) xs ys in
-    omega arith
-bit_of_word f s r xs ys false e = one_bit_more (f s) (f r) xs ys
+unfolding one_if wrong_bits
+bit_of_word f s r xs ys same h = grind (arith, eqb-true, like_bit_more)
 
 pub header_wrong : (ss rs : List Column) → wrong_bits (header_bits (map column_words ss)) (header_bits (map column_words rs)) ≤ damage ss rs
 unfolding damage unlike_words header_bits nibbles_of wrong_bits
@@ -61,10 +48,7 @@ body_wrong b (s ∷ ss) (r ∷ rs) =
     omega arith
 
 pub one_wrong_bit : OneWrongBit
-one_wrong_bit p first ss rs carries long few = (
-  let wrong = header_wrong ss rs in omega arith,
-  λ b lt. let wrong = body_wrong b ss rs in omega arith,
-)
+one_wrong_bit p first ss rs carries long few = grind (arith, header_wrong, body_wrong)
 
 -- Bits of which none is wrong, or one.
 same_bits : (s x : List Bool) → length x ≡ length s → wrong_bits s x ≡ 0 → x ≡ s

@@ -1,5 +1,5 @@
 -- A stream whose lanes have more bits than were heard, and what it tells of them.
-use Rattle.std.proofs.Common.{◌≡◌, ℕ, ◌+◌, ◌-◌, ◌^◌, ◌<◌, ◌≤◌, Bool, true, false, List, [], ◌++◌, length, drop, refl, ap, sym, ◌∙◌, subst, arith, inl, inr, Option, Some, None, is_some, slice_index, length-append}
+use Rattle.std.proofs.Common.{◌≡◌, ℕ, ◌+◌, ◌-◌, ◌^◌, ◌<◌, ◌≤◌, Bool, true, false, List, [], ◌++◌, length, drop, refl, ap, sym, ◌∙◌, subst, arith, inr, Option, Some, None, is_some, slice_index, length-append}
 use Rattle.std.proofs.lemmas.List.{append-nil}
 use Rattle.tmds_word.specs.Column.{Column}
 use Rattle.lane_align.specs.Aligners.{fed_of}
@@ -27,8 +27,7 @@ use Rattle.link_sink.proofs.Prefixes.{columns_grow, front_and_rest}
 
 -- what lanes tell is what is told of their columns
 pub reported_at : (g : Grammar) → IsGrammar g → (fed : Fed) (at : Option Aligned) → IsFoundAt fed at → IsReportedBy g fed (g.so_far (columns_from fed at))
-reported_at g is fed (Some at) h = inl (_, _, _, h, refl)
-reported_at g is fed None h = inr (h, is.none)
+reported_at g h k l m = grind arith
 
 -- the columns of lanes lie in front of those of the grown lanes
 more_columns : (before now : Fed) (was is : Option Aligned) → IsFoundAt before was → IsFoundAt now is → HasGrown before.blue now.blue → HasGrown before.green now.green → HasGrown before.red now.red
@@ -50,8 +49,7 @@ lent_rest stands s before now lent h is =
     ∙ front_and_rest cs (columns_from now s.receiver.deskew.found) (more_columns before now h.was s.receiver.deskew.found h.found_was h.received.found h.blue h.green h.red)
 
 few_now : (fed : Fed) (o : Option Aligned) → length fed.blue < 2 ^ 32 → length (columns_from fed o) ≤ 429496730
-few_now fed None short = omega arith
-few_now fed (Some at) short = few_columns fed.blue fed.green fed.red _ _ _ short
+few_now fed o h = grind (arith, few_columns)
 
 -- how many there are
 pub count_lent : {H : Type 0} (stands : H → List Column → Type 0) (s : HearingStream H) (before now : Fed) (lent : List Column) → (h : IsAfter stands s before now)
@@ -68,10 +66,7 @@ pub few_lent : {H : Type 0} (stands : H → List Column → Type 0) (counted : H
     → (counted s.hearing + length lent ≤ 429496730) × (s.outcome.columns + length lent ≤ 429496730)
 few_lent stands counted counts s before now lent h is =
     let all = count_lent stands s before now lent h is in
-    let few = few_now now s.receiver.deskew.found h.short in
-    let heard_columns = counts s.hearing _ h.heard in
-    let reported = h.columns in
-    (omega (arith, all, few, heard_columns), omega (arith, all, few, reported))
+    grind (arith, few_now)
 
 -- what they tell is told more
 pub lent_gain : {H : Type 0} (stands : H → List Column → Type 0) (g : Grammar) → IsGrammar g → (s : HearingStream H) (before now : Fed) (lent : List Column) (events : List Event) → (h : IsAfter stands s before now)
@@ -144,22 +139,7 @@ ends_unheard stands g s fed h aligned = λ reported so_far.
 pub fed_after : {H : Type 0} (stands : H → List Column → Type 0) (s : HearingStream H) (fed : Fed) (a b c : List ℕ) (bits : List ℕ) (r : Receiver) (aligned : Bool) → (h : IsHeard stands s fed) → CanFeed (fed_of s.receiver.team.first.aligner) (longest s.receiver.team) a (slice_index bits 0)
     → ((f : Fed) (taken : ℕ) → ReceiverRepresents s.receiver f taken → ReceiverRepresents r (grown f a b c bits) taken) → aligned ≡ is_some r.deskew.found
     → IsAfter stands (record { receiver = r; hearing = s.hearing; outcome = record { aligned = aligned; columns = s.outcome.columns } }) fed (grown fed a b c bits)
-fed_after stands s fed a b c bits r aligned h can received is = record {
-  was = s.receiver.deskew.found;
-  found_was = h.received.found;
-  received = received fed (length (columns_from fed s.receiver.deskew.found)) h.received;
-  blue = (_, refl);
-  green = (_, refl);
-  red = (_, refl);
-  short =
-      let long = length_grown fed.blue (grown fed a b c bits).blue a (slice_index bits 0) can.bytes_given refl in
-      let was = h.received.first.aligner.fed in
-      let total = can.total in
-      omega (arith, long, was, total);
-  heard = h.heard;
-  aligned = is;
-  columns = h.columns;
-}
+fed_after stands s fed a b c bits r aligned h can received is = grind (arith, length_grown)
 
 -- The same of a stream as contracts see it, whose hearing lies in memory of its own.
 
@@ -167,10 +147,7 @@ pub fed_after_at : {H : Type 0} (stands : H → List Column → Type 0) (s t : H
     → CanFeed (fed_of t.receiver.team.first.aligner) (longest t.receiver.team) a (slice_index bits 0)
     → ((f : Fed) (taken : ℕ) → ReceiverRepresents s.receiver f taken → ReceiverRepresents r (grown f a b c bits) taken) → aligned ≡ is_some r.deskew.found
     → IsAfter stands (record { receiver = r; hearing = k; outcome = record { aligned = aligned; columns = s.outcome.columns } }) fed (grown fed a b c bits)
-fed_after_at {H = H} stands s t e k same fed a b c bits r aligned h can received is =
-    subst (λ (x : H). IsAfter stands (record { receiver = r; hearing = x; outcome = record { aligned = aligned; columns = s.outcome.columns } }) fed (grown fed a b c bits)) (sym same)
-    (fed_after stands s fed a b c bits r aligned (subst (λ (x : HearingStream H). IsHeard stands x fed) (sym e) h)
-    (subst (λ (x : HearingStream H). CanFeed (fed_of x.receiver.team.first.aligner) (longest x.receiver.team) a (slice_index bits 0)) (sym e) can) received is)
+fed_after_at {H = H} stands s t e k same fed a b c bits r aligned h can received is = grind (arith, fed_after)
 
 pub ends_heard_at : {H : Type 0} (stands : H → List Column → Type 0) (g : Grammar) → IsGrammar g → (s t : HearingStream H) → s ≡ t → (k : H) → k ≡ s.hearing → (fed : Fed) (events : List Event) → IsHeard stands t fed → s.outcome.aligned ≡ true
     → ((cs : List Column) → stands k cs → g.whole cs ≡ g.so_far cs ++ events) → IsLastBy g fed s.outcome events

@@ -18,19 +18,15 @@ use Rattle.link_sink.specs.Grammar.{Grammar}
 use Rattle.link_sink.specs.Sinks.{Fed, IsReportedBy}
 
 -- the least number below a bound
-record IsLeast (P : ℕ → Type 0) (n p : ℕ) : Type 0 where
-  below : p < n
-  here : P p
-  least : (q : ℕ) → q < p → P q → ⊥
+pub record IsLeast (P : ℕ → Type 0) (n p : ℕ) : Type 0 where
+  pub below : p < n
+  pub here : P p
+  pub least : (q : ℕ) → q < p → P q → ⊥
 
 none_more : (P : ℕ → Type 0) (n : ℕ) → ((k : ℕ) → k < n → P k → ⊥) → (P n → ⊥) → (k : ℕ) → k < suc n → P k → ⊥
-none_more P n below none k lt h = by (cases_lt k n)
-  where
-    by : (k < n) ⊎ (n ≤ k) → ⊥
-    by (inl less) = below k less h
-    by (inr le) = let e : k ≡ n = omega (arith, le, lt) in none (subst P e h)
+none_more P n below none k lt h = grind (arith, cases_lt)
 
-least_or_none : (P : ℕ → Type 0) (n : ℕ) → ((k : ℕ) → Dec (P k)) → ((p : ℕ) × IsLeast P n p) ⊎ ((k : ℕ) → k < n → P k → ⊥)
+pub least_or_none : (P : ℕ → Type 0) (n : ℕ) → ((k : ℕ) → Dec (P k)) → ((p : ℕ) × IsLeast P n p) ⊎ ((k : ℕ) → k < n → P k → ⊥)
 least_or_none P zero decided = inr (λ k lt h. omega (arith, lt))
 least_or_none P (suc n) decided = by (least_or_none P n decided) (decided n)
   where
@@ -48,7 +44,7 @@ some_below P n decided = by (least_or_none P n decided)
     by (inr below) = no (λ h. below h.0 h.1 h.2)
 
 -- each below a bound, or not each
-each_below : (P : ℕ → Type 0) (n : ℕ) → ((k : ℕ) → Dec (P k)) → Dec ((k : ℕ) → k < n → P k)
+pub each_below : (P : ℕ → Type 0) (n : ℕ) → ((k : ℕ) → Dec (P k)) → Dec ((k : ℕ) → k < n → P k)
 each_below P n decided = by (some_below (λ k. P k → ⊥) n (λ k. other (decided k)))
   where
     other : {Q : Type 0} → Dec Q → Dec (Q → ⊥)
@@ -141,19 +137,7 @@ near_decided : (d e : ℕ) → Dec (AreNear d e)
 near_decided d e = both (dec_le d (e + 70)) (dec_le e (d + 70))
 
 triple_decided : (xs ys zs : List Bool) (d e f : ℕ) → Dec (IsTriple xs ys zs d e f)
-triple_decided xs ys zs d e f =
-    map_dec
-    (λ h. record {
-      first = h.0;
-      second = h.1.0;
-      third = h.1.1.0;
-      first_second = h.1.1.1.0;
-      second_third = h.1.1.1.1.0;
-      first_third = h.1.1.1.1.1;
-    })
-    (λ h. (h.first, (h.second, (h.third, (h.first_second, (h.second_third, h.first_third))))))
-    (both (edge_decided xs d) (both (edge_decided ys e) (both (edge_decided zs f)
-    (both (near_decided d e) (both (near_decided e f) (near_decided d f))))))
+triple_decided xs ys zs d e f = grind (arith, edge_decided, near_decided)
 
 -- a triple with no edge past a place
 record HasTriple (xs ys zs : List Bool) (m : ℕ) : Type 0 where
@@ -185,12 +169,7 @@ has_decided xs ys zs m =
 
 -- a triple is one with no edge past its largest
 up_to_largest : (xs ys zs : List Bool) (p q r : ℕ) → IsTriple xs ys zs p q r → HasTriple xs ys zs (max p (max q r))
-up_to_largest xs ys zs p q r t =
-    let a = le-max_left p (max q r) in
-    let b = le-max_right p (max q r) in
-    let c = le-max_left q r in
-    let d = le-max_right q r in
-    record { d = p; e = q; f = r; first = a; second = omega (arith, b, c); third = omega (arith, b, d); triple = t }
+up_to_largest xs ys zs p q r t = grind (arith, le-max_left, le-max_right)
 
 all_bits : (xs ys zs : List Bool) → ℕ
 all_bits xs ys zs = length xs + length ys + length zs + 1
@@ -200,10 +179,7 @@ unfolding all_bits
 largest_within xs ys zs p q r t =
     let a = edge_within xs p t.first in
     let b = edge_within ys q t.second in
-    let c = edge_within zs r t.third in
-    let n = length xs + length ys + length zs in
-    let le : max p (max q r) ≤ n = max-le (omega (arith, a)) (max-le (omega (arith, b)) (omega (arith, c))) in
-    omega (arith, le)
+    grind (arith, edge_within, max-le)
 
 -- three lanes have a first full alignment, or no triple
 pub first_decided : (xs ys zs : List Bool) → ((d e f : ℕ) × IsFirst xs ys zs d e f) ⊎ ((d e f : ℕ) → IsTriple xs ys zs d e f → ⊥)

@@ -1,5 +1,5 @@
 -- Three lanes that are fed: each may push what it gained, they are pushed evenly, and they stand for more bits.
-use Rattle.std.proofs.Common.{◌≡◌, ◌⊎◌, ℕ, ◌+◌, ◌≤◌, max, Bool, true, false, nat_lt, ltb-true, List, length, refl, ap, sym, ◌∙◌, subst, arith, inl, inr, Option, Some, None, MatchOption}
+use Rattle.std.proofs.Common.{◌≡◌, ◌⊎◌, ℕ, ◌+◌, ◌≤◌, max, Bool, nat_lt, ltb-true, List, length, refl, ap, sym, ◌∙◌, subst, arith, inl, inr, Option, Some, None, MatchOption}
 use Rattle.std.proofs.lemmas.Bool.{lt-ltb, cases_lt}
 use Rattle.lane_align.specs.Aligners.{fed_of}
 use Rattle.lane_team.specs.Sides.{Side, Sides, HasTaken}
@@ -89,16 +89,13 @@ fed_lane n m bits old new bytes xs before now is can took pushed most = record {
 }
 
 at_most : (n : ℕ) (xs : List Bool) (lane : Pushed) → GoesOn n xs lane → length xs ≤ n
-at_most n xs lane (inl on) = omega (arith, on.1)
-at_most n xs lane (inr over) = omega (arith, over.1)
+at_most n xs lane h = grind arith
 
 ended_cut : (b : Bool) (us : List Bool) (lane : Pushed) → IsCutFrom us lane → IsCutFrom us (end_if b lane)
-ended_cut true us lane cut = record { found = cut.found; lock = cut.lock; words = cut.words }
-ended_cut false us lane cut = cut
+ended_cut b us lane h = grind arith
 
 ended_settled : (b : Bool) (lane : Pushed) → (end_if b lane).settled ≡ lane.settled
-ended_settled true lane = refl
-ended_settled false lane = refl
+ended_settled b lane = grind arith
 
 -- it was pushed evenly
 lane_even : (n m bits : ℕ) (short : Bool) (old new : Side) (xs us : List Bool) (before now : Pushed) → IsFedLane n m bits short old new xs us before now → IsEven n (end_if short now)
@@ -108,39 +105,14 @@ lane_even n m bits short old new xs us before now f =
 
 goes_after : (n m bits : ℕ) (short : Bool) (xs us : List Bool) (before now : Pushed) → GoesOn n xs before → length us ≡ length xs + bits → (bits ≡ 0) ⊎ (length xs ≡ n) → bits ≤ m
     → short ≡ nat_lt bits m → IsSame before now → GoesOn (n + m) us (end_if short now)
-goes_after n m bits true xs us before now was long going most ends same =
-    let lt = ltb-true bits m (sym ends) in
-    let le = at_most n xs before was in
-    inr (refl, omega (arith, lt, le, long))
-goes_after n m bits false xs us before now was long going most ends same =
-    let full : m ≤ bits = elim (cases_lt bits m) [ inl lt ↦ let e = ends ∙ lt-ltb bits m lt in absurd cc | inr le ↦ le ] in
-    elim was [
-      | inl on ↦ elim same [
-        | inl as_before ↦ inl (ap (λ (l : Pushed). l.ended) as_before ∙ on.0, let l = on.1 in omega (arith, l, long, most, full))
-        | inr going_on ↦ inl (going_on.1, let l = on.1 in omega (arith, l, long, most, full))
-      ]
-      | inr over ↦ elim going [
-        | inl none ↦ elim same [
-          | inl as_before ↦ inr (ap (λ (l : Pushed). l.ended) as_before ∙ over.0, let l = over.1 in omega (arith, l, long, most, full, none))
-          | inr going_on ↦ let e = sym over.0 ∙ going_on.0 in absurd cc
-        ]
-        | inr all ↦ let l = over.1 in absurd (omega (arith, l, all))
-      ]
-    ]
+goes_after n m bits short xs us before now h k l p q r = grind (arith, ltb-true, at_most, cases_lt, lt-ltb)
 
 lane_goes : (n m bits : ℕ) (short : Bool) (old new : Side) (xs us : List Bool) (before now : Pushed) → IsFedLane n m bits short old new xs us before now → GoesOn (n + m) us (end_if short now)
 lane_goes n m bits short old new xs us before now f = goes_after n m bits short xs us before now f.was.going f.long f.going f.most f.ends f.pushed.ended
 
 -- and once it is looked through
 lane_after : (n m bits : ℕ) (short : Bool) (old new : Side) (xs us : List Bool) (before now : Pushed) → IsFedLane n m bits short old new xs us before now → IsLane new us (n + m) (rested (end_if short now))
-lane_after n m bits short old new xs us before now f =
-    let cut = ended_cut short us now f.pushed.cut in
-    record {
-      aligner = f.gained.aligner;
-      cut = record { found = cut.found; lock = cut.lock; words = cut.words };
-      settled = refl;
-      going = lane_goes n m bits short old new xs us before now f;
-    }
+lane_after n m bits short old new xs us before now f = grind (arith, ended_cut, lane_goes)
 
 -- Three of them.
 
@@ -169,14 +141,7 @@ found_by fed p (Some at) cut first = (past_alignments fed.blue fed.green fed.red
 
 -- the longest lane got the most bits
 longest_more : (a b c x y z n : ℕ) → n ≡ max a (max b c) → (x ≡ 0) ⊎ (a ≡ n) → (y ≡ 0) ⊎ (b ≡ n) → (z ≡ 0) ⊎ (c ≡ n) → max (a + x) (max (b + y) (c + z)) ≡ n + max (max x y) z
-longest_more a b c x y z n e (inl i) (inl j) (inl k) = omega (arith, e, i, j, k)
-longest_more a b c x y z n e (inl i) (inl j) (inr k) = omega (arith, e, i, j, k)
-longest_more a b c x y z n e (inl i) (inr j) (inl k) = omega (arith, e, i, j, k)
-longest_more a b c x y z n e (inl i) (inr j) (inr k) = omega (arith, e, i, j, k)
-longest_more a b c x y z n e (inr i) (inl j) (inl k) = omega (arith, e, i, j, k)
-longest_more a b c x y z n e (inr i) (inl j) (inr k) = omega (arith, e, i, j, k)
-longest_more a b c x y z n e (inr i) (inr j) (inl k) = omega (arith, e, i, j, k)
-longest_more a b c x y z n e (inr i) (inr j) (inr k) = omega (arith, e, i, j, k)
+longest_more a b c x y z n h k l m = grind arith
 
 pub longest_fed : (old team : Sides) (x y z m : ℕ) → m ≡ max (max x y) z → fed_of team.first.aligner ≡ fed_of old.first.aligner + x → fed_of team.second.aligner ≡ fed_of old.second.aligner + y
     → fed_of team.third.aligner ≡ fed_of old.third.aligner + z → (x ≡ 0) ⊎ (fed_of old.first.aligner ≡ longest old) → (y ≡ 0) ⊎ (fed_of old.second.aligner ≡ longest old)
@@ -199,10 +164,6 @@ now_received r fed now p taken team d m x y z s0 s1 s2 n0 n1 n2 all took long st
       second = subst (λ n. IsLane team.second now.green n (rested (end_if s1 n1))) more (lane_after _ m y s1 _ _ _ _ _ n1 all.second);
       third = subst (λ n. IsLane team.third now.red n (rested (end_if s2 n2))) more (lane_after _ m z s2 _ _ _ _ _ n2 all.third);
       found =
-          let cut : AreCutFrom now.blue now.green now.red (fed_past p s0 s1 s2 n0 n1 n2) = record {
-            first = ended_cut s0 _ n0 all.first.pushed.cut;
-            second = ended_cut s1 _ n1 all.second.pushed.cut;
-            third = ended_cut s2 _ n2 all.third.pushed.cut;
-          } in
+          let cut : AreCutFrom now.blue now.green now.red (fed_past p s0 s1 s2 n0 n1 n2) = grind (arith, ended_cut) in
           subst (IsFoundAt now) (sym found) (found_by now (fed_past p s0 s1 s2 n0 n1 n2) o cut answer);
     }

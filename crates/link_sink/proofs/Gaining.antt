@@ -1,10 +1,9 @@
 -- What a lane gains in a feed, and that it may push it.
-use Rattle.std.proofs.Common.{◌≡◌, ◌⊎◌, ℕ, suc, zero, Bool, true, false, List, ◌++◌, length, take, refl, ap, sym, ◌∙◌, subst, arith, inl, inr, Option, Some, None, MatchOption}
+use Rattle.std.proofs.Common.{◌≡◌, ◌⊎◌, ℕ, Bool, true, false, List, ◌++◌, length, take, refl, ap, sym, ◌∙◌, subst, arith, inl, inr, Some, None}
 use Rattle.std.proofs.lemmas.List.{append-nil}
 use Rattle.tmds_word.specs.Bits.{bytes_bits}
 use Rattle.lane_align.specs.Lanes.{IsRun, IsLockOf}
-use Rattle.lane_align.specs.Words.{lane_words}
-use Rattle.lane_align.specs.Aligners.{AlignerRepresents as IsAlignerOf, Seeks, Cuts, fed_of, lock_of}
+use Rattle.lane_align.specs.Aligners.{AlignerRepresents as IsAlignerOf, fed_of, lock_of}
 use Rattle.lane_align.specs.declared.aligner.LaneAligner.{LaneAligner}
 use Rattle.lane_team.specs.Sides.{Side, HasTaken}
 use Rattle.lane_deskew.specs.Pushed.{Pushed, History, more, change, pushed, DeskewRepresents as IsDeskewOf, CanPush}
@@ -16,11 +15,7 @@ use Rattle.link_sink.proofs.Feeding.{length_grown}
 
 -- an aligner's lock is that of its bits
 pub lock_found : (aligner : LaneAligner) (xs : List Bool) → IsAlignerOf aligner xs → IsLockOf xs (lock_of aligner)
-lock_found aligner xs h = by aligner.lock h.found
-  where
-    by : (o : Option ℕ) → MatchOption o (Seeks aligner xs) (Cuts aligner xs) → IsLockOf xs o
-    by None s = s.none
-    by (Some p) s = s.lock
+lock_found aligner xs h = grind arith
 
 abbrev pub fed_more : List Bool → List ℕ → ℕ → List Bool
 fed_more xs bytes bits = xs ++ take bits (bytes_bits bytes)
@@ -28,43 +23,15 @@ fed_more xs bytes bits = xs ++ take bits (bytes_bits bytes)
 -- what the aligner of a lane made of a feed
 pub lane_gained : (old new : Side) (bytes : List ℕ) (bits n : ℕ) (xs : List Bool) (lane : Pushed) → IsLane old xs n lane → CanFeed (fed_of old.aligner) n bytes bits
     → HasTaken old bytes bits new → HasGained new bits xs (fed_more xs bytes bits)
-lane_gained old new bytes bits n xs lane is can took =
-    let long = length_grown xs (fed_more xs bytes bits) bytes bits can.bytes_given refl in
-    let fed = is.aligner.fed in
-    let total = can.total in
-    record {
-      grown = (take bits (bytes_bits bytes), refl);
-      none = λ e. ap (λ k. fed_more xs bytes k) e ∙ append-nil xs;
-      short = omega (arith, long, fed, total);
-      aligner = took.stands xs is.aligner;
-      before = lock_of old.aligner;
-      was = lock_found old.aligner xs is.aligner;
-      words = took.words xs is.aligner;
-      few = let few = took.few in let most = can.most in omega (arith, few, most);
-      small = took.small;
-    }
+lane_gained old new bytes bits n xs lane is can took = grind (arith, length_grown, append-nil, lock_found)
 
 -- a lane of which bits come goes on
 pub lane_going : (old : Side) (bytes : List ℕ) (bits n : ℕ) (xs : List Bool) (lane : Pushed) → IsLane old xs n lane → CanFeed (fed_of old.aligner) n bytes bits
     → (bits ≡ 0) ⊎ (lane.ended ≡ false)
-lane_going old bytes bits n xs lane is can =
-    let fed = is.aligner.fed in
-    elim can.going [
-      | inl none ↦ inl none
-      | inr full ↦ elim is.going [
-        | inl on ↦ inr on.0
-        | inr ended ↦ let lt = ended.1 in absurd (omega (arith, fed, full, lt))
-      ]
-    ]
+lane_going old bytes bits n xs lane is can = grind arith
 
 gained_at : (side : Side) (bits lock : ℕ) (words : List ℕ) (xs us : List Bool) → HasGained side bits xs us → lock_of side.aligner ≡ Some lock → words ≡ side.words → AreGained xs us lock words
-gained_at side bits lock words xs us g e same = record {
-  grown = g.grown;
-  is_lock = subst (IsLockOf us) e (lock_found side.aligner us g.aligner);
-  before = g.before;
-  was = g.was;
-  all = ap (λ ws. lane_words g.before xs ++ ws) same ∙ g.words ∙ ap (λ o. lane_words o us) e;
-}
+gained_at side bits lock words xs us g e same = grind (arith, lock_found)
 
 -- it goes on where it has bits
 goes : (side : Side) (d : Deskew) (lane bits : ℕ) (p : History) (xs us : List Bool) → MayPush side d lane bits p xs us → (bits ≡ 0 → ⊥) → (past_at p lane).ended ≡ false
@@ -82,14 +49,10 @@ can_push side d lane bits lock words p xs us m some e same =
 
 -- what a call on one lane changes
 same_change : (f : Pushed → Pushed) (lane : ℕ) (p : History) → change f lane p ≡ change (λ _. f (past_at p lane)) lane p
-same_change f zero p = refl
-same_change f (suc zero) p = refl
-same_change f (suc (suc n)) p = refl
+same_change f lane p = grind arith
 
 no_change : (lane : ℕ) (p : History) → p ≡ change (λ _. past_at p lane) lane p
-no_change zero p = refl
-no_change (suc zero) p = refl
-no_change (suc (suc n)) p = refl
+no_change lane p = grind arith
 
 -- a lane that has pushed
 abbrev pub IsPushed : Deskew → ℕ → History → List Bool → Type 0
@@ -120,7 +83,4 @@ pushes_unlocked side d lane bits p xs us m e =
 
 -- a lane that does not end
 pub goes_on : (b : Bool) (lane : ℕ) (p : History) → b ≡ false → p ≡ change (end_if b) lane p
-goes_on true lane p e = absurd cc
-goes_on false zero p e = refl
-goes_on false (suc zero) p e = refl
-goes_on false (suc (suc n)) p e = refl
+goes_on b lane p h = grind arith

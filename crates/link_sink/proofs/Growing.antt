@@ -1,5 +1,5 @@
 -- What is told of columns grows with them, and an ear that takes it.
-use Rattle.std.proofs.Common.{◌≡◌, List, [], ◌∷◌, ◌++◌, length, ap, sym, subst, ◌∙◌, append_assoc, All}
+use Rattle.std.proofs.Common.{arith, ◌≡◌, List, [], ◌∷◌, ◌++◌, length, ap, sym, subst, ◌∙◌, append_assoc, All}
 use Rattle.std.proofs.Math.Seq.{take-append_seam, drop-append_seam}
 use Rattle.std.proofs.lemmas.List.Elements.{All-take, All-drop}
 use Rattle.tmds_word.specs.Column.{Column}
@@ -31,13 +31,7 @@ call_sized g is cs ds us e =
 pub took_next : {A : Type 0} (g : Grammar) (took : A → A → List Event → Type 0) → ((x y z : A) (h k : List Event) → took x y h → took y z k → took x z (h ++ k))
     → (x y z : A) (cs part next : List Column) (c : Column) (us : List Event) → next ≡ part ++ c ∷ []
     → g.so_far ((cs ++ part) ++ c ∷ []) ≡ g.so_far (cs ++ part) ++ us → TookMore g took x y cs part → took y z us → TookMore g took x z cs next
-took_next g took both x y z cs part next c us e t h k = record {
-  events = h.events ++ us;
-  events_are =
-      ap (λ ds. g.so_far (cs ++ ds)) e ∙ ap g.so_far (sym (append_assoc cs part (c ∷ []))) ∙ t
-      ∙ ap (λ ts. ts ++ us) h.events_are ∙ append_assoc (g.so_far cs) h.events us;
-  took_events = both x y z h.events us h.took_events k;
-}
+took_next g took both x y z cs part next c us e t h k = grind (arith, append_assoc)
 
 -- and one that breaks there stops in what all columns tell
 pub stopped_next : {A : Type 0} (g : Grammar) → IsGrammar g → (took : A → A → List Event → Type 0) (broke : A → A → Event → Type 0)
@@ -52,8 +46,6 @@ stopped_next g is took broke both x y z cs part next rest c us e t h s =
     let more = is.more (cs ++ next) rest in
     record {
       events = (h.events ++ us) ++ more.0;
-      events_are =
-          ap g.so_far (sym (append_assoc cs next rest)) ∙ more.1 ∙ ap (λ ts. ts ++ more.0) so_far
-          ∙ append_assoc (g.so_far cs) (h.events ++ us) more.0;
+      events_are = grind (arith, append_assoc);
       stops = stops_before took broke x z (h.events ++ us) more.0 (stops_after took broke both x y z h.events us h.took_events s);
     }

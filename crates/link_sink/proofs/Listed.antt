@@ -1,5 +1,5 @@
 -- The columns of three lanes, as far as they were heard, and how many there are.
-use Rattle.std.proofs.Common.{◌≡◌, ℕ, zero, suc, ◌+◌, ◌-◌, ◌/◌, ◌^◌, ◌<◌, ◌≤◌, Bool, List, [], ◌∷◌, ◌++◌, length, take, drop, refl, ap, ◌∙◌, arith, Some}
+use Rattle.std.proofs.Common.{◌≡◌, ℕ, zero, suc, ◌+◌, ◌-◌, ◌^◌, ◌<◌, ◌≤◌, Bool, List, [], ◌∷◌, ◌++◌, length, take, drop, refl, ap, ◌∙◌, arith, Some}
 use Rattle.std.specs.Prelude.{slice_get}
 use Rattle.std.proofs.lemmas.List.{take_more}
 use Rattle.std.proofs.lemmas.Option.{slice_get_within, get_or_from_slice_get}
@@ -27,7 +27,4 @@ columns_within (b ∷ bs) (g ∷ gs) (r ∷ rs) = let le = columns_within bs gs 
 -- no lane has more columns than a hearing can count
 pub few_columns : (xs ys zs : List Bool) (d e f : ℕ) → length xs < 2 ^ 32 → length (aligned_columns xs ys zs d e f) ≤ 429496730
 unfolding aligned_columns words_from
-few_columns xs ys zs d e f short =
-    let le = columns_within (words_of ((length xs - (d - 120)) / 10) (drop (d - 120) xs)) (words_of ((length ys - (e - 120)) / 10) (drop (e - 120) ys)) (words_of ((length zs - (f - 120)) / 10) (drop (f - 120) zs)) in
-    let n = length-words_of ((length xs - (d - 120)) / 10) (drop (d - 120) xs) in
-    omega (arith, le, n, short)
+few_columns xs ys zs d e f short = grind (arith, columns_within, length-words_of)

@@ -1,10 +1,9 @@
 -- A receiver that was fed nothing, and the columns that one lends.
-use Rattle.std.proofs.Common.{◌≡◌, ℕ, max, List, [], drop, refl, ap, sym, ◌∙◌, subst, inl, Option, Some, None}
+use Rattle.std.proofs.Common.{arith, ◌≡◌, ℕ, max, List, [], drop, refl, ap, sym, ◌∙◌, subst, Option, Some, None}
 use Rattle.std.proofs.Math.Seq.{drop-nil}
 use Rattle.tmds_word.specs.Column.{Column}
 use Rattle.lane_team.specs.Sides.{Sides, AreFresh}
 use Rattle.lane_deskew.specs.Pushed.{History, no_history, past_columns, DeskewRepresents as IsDeskewOf}
-use Rattle.lane_deskew.specs.Fed.{AreCutFrom}
 use Rattle.lane_deskew.specs.declared.deskew.Deskew.{Deskew}
 use Rattle.lane_deskew.specs.declared.Aligned.{Aligned}
 use Rattle.lane_deskew.proofs.Fed.{past_columns_are}
@@ -13,33 +12,19 @@ use Rattle.lane_deskew.proofs.Growth.{none_of_nothing}
 use Rattle.link_sink.specs.Sinks.{Fed}
 use Rattle.link_sink.specs.Pieces.{no_bits}
 use Rattle.link_sink.specs.Progress.{columns_from}
-use Rattle.link_sink.specs.Received.{IsFoundAt, ReceiverRepresents, longest}
+use Rattle.link_sink.specs.Received.{ReceiverRepresents, longest}
 use Rattle.link_sink.specs.Seen.{Receiver}
 
 none_fed : (team : Sides) → AreFresh team → longest team ≡ 0
 none_fed team fresh = λ i. max (fresh.first.fed i) (max (fresh.second.fed i) (fresh.third.fed i))
 
 pub fresh_received : (team : Sides) (deskew : Deskew) → AreFresh team → IsDeskewOf deskew no_history → deskew.found ≡ None → ReceiverRepresents (record { team = team; deskew = deskew }) no_bits 0
-fresh_received team deskew fresh stands found =
-    let none = sym (none_fed team fresh) in
-    record {
-      past = no_history;
-      stands = stands;
-      taken_are = refl;
-      first = record { aligner = fresh.first.stands; cut = nothing_cut.first; settled = refl; going = inl (refl, none) };
-      second = record { aligner = fresh.second.stands; cut = nothing_cut.second; settled = refl; going = inl (refl, none) };
-      third = record { aligner = fresh.third.stands; cut = nothing_cut.third; settled = refl; going = inl (refl, none) };
-      found = subst (IsFoundAt no_bits) (sym found) none_of_nothing;
-    }
+fresh_received team deskew fresh stands found = grind (arith, none_fed, nothing_cut, none_of_nothing)
 
 columns_by : (r : Receiver) (fed : Fed) (taken : ℕ) (lent : List Column) (o : Option Aligned) → (h : ReceiverRepresents r fed taken) → r.deskew.found ≡ o → (r.deskew.found ≡ None → lent ≡ [])
     → ((p : History) (at : Aligned) → IsDeskewOf r.deskew p → r.deskew.found ≡ Some at → lent ≡ drop p.taken (past_columns p at.edges))
     → lent ≡ drop taken (columns_from fed o)
-columns_by r fed taken lent None h e before is = before e ∙ sym (drop-nil taken)
-columns_by r fed taken lent (Some at) h e before is =
-    let cut : AreCutFrom fed.blue fed.green fed.red h.past = record { first = h.first.cut; second = h.second.cut; third = h.third.cut } in
-    is h.past at h.stands e ∙ ap (λ n. drop n (past_columns h.past at.edges)) h.taken_are
-    ∙ ap (drop taken) (past_columns_are fed.blue fed.green fed.red h.past at.edges cut (subst (IsFoundAt fed) e h.found))
+columns_by r fed taken lent o h k l m = grind (arith, drop-nil, past_columns_are)
 
 -- the columns that are lent are those of a receiver as contracts see it, whose deskew lies in memory of its own
 pub columns_are_at : (r t : Receiver) → r ≡ t → (k : Deskew) → k ≡ r.deskew → (fed : Fed) (taken : ℕ) (lent : List Column) → ReceiverRepresents t fed taken → (k.found ≡ None → lent ≡ [])

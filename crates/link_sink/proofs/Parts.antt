@@ -42,10 +42,4 @@ length-take-most n xs = let e = length-take n xs in omega (arith, e)
 pub few_more : {H : Type 0} (goes_on : H → List Column → Type 0) (counted : H → ℕ) → ((h : H) (cs : List Column) → goes_on h cs → counted h ≡ length cs)
     → (was is : H) (cs all rest : List Column) (j : ℕ) → goes_on was cs → goes_on is (cs ++ take j all) → rest ≡ drop j all → counted was + length all ≤ 429496730
     → counted is + length rest ≤ 429496730
-few_more goes_on counted counts was is cs all rest j h k e few =
-    let a = counts was cs h in
-    let b = counts is _ k in
-    let long : length rest ≡ length (drop j all) = ap length e in
-    let after = length-drop j all in
-    let front = length-take j all in
-    omega (arith, a, b, few, long, after, front, length-append cs (take j all))
+few_more goes_on counted counts was is cs all rest j h k e few = grind (arith, length-drop, length-take, length-append)

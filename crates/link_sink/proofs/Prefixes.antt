@@ -1,10 +1,10 @@
 -- The aligned columns of lanes that grow: those of the shorter lanes come first.
-use Rattle.std.proofs.Common.{◌≡◌, ℕ, suc, Bool, List, [], ◌∷◌, ◌++◌, length, drop, refl, ap, sym, ◌∙◌, Option, Some, None}
+use Rattle.std.proofs.Common.{arith, ◌≡◌, ℕ, suc, Bool, List, [], ◌∷◌, ◌++◌, length, drop, refl, ap, sym, ◌∙◌, Option, Some}
 use Rattle.std.specs.Prelude.{slice_get}
 use Rattle.std.proofs.Math.Seq.{drop-append_seam}
 use Rattle.tmds_word.specs.Column.{Column}
 use Rattle.lane_align.proofs.Growing.{window_stays}
-use Rattle.lane_deskew.specs.Aligned.{column_from, aligned_column, aligned_columns, place}
+use Rattle.lane_deskew.specs.Aligned.{column_from, aligned_column, aligned_columns}
 use Rattle.lane_deskew.specs.Growing.{HasGrown}
 use Rattle.lane_deskew.proofs.Listed.{columns_listed}
 
@@ -20,24 +20,13 @@ front_of (x ∷ xs) (y ∷ ys) h =
 
 stays_whole : (a b r u v w : Option ℕ) (c : Column) → ((n : ℕ) → a ≡ Some n → u ≡ Some n) → ((n : ℕ) → b ≡ Some n → v ≡ Some n) → ((n : ℕ) → r ≡ Some n → w ≡ Some n)
     → column_from a b r ≡ Some c → column_from u v w ≡ Some c
-stays_whole (Some x) (Some y) (Some z) u v w c fa fb fr e =
-    let ea = fa x refl in
-    let eb = fb y refl in
-    let er = fr z refl in
-    (λ i. column_from (ea i) (eb i) (er i)) ∙ e
-stays_whole (Some x) (Some y) None u v w c fa fb fr e = absurd cc
-stays_whole (Some x) None r u v w c fa fb fr e = absurd cc
-stays_whole None b r u v w c fa fb fr e = absurd cc
+stays_whole a b r u v w c h k l m = grind arith
 
 -- a column of three lanes is one of the grown lanes
 column_stays : (xs ys zs us vs ws : List Bool) (d e f j : ℕ) (c : Column) → HasGrown xs us → HasGrown ys vs → HasGrown zs ws
     → aligned_column xs ys zs d e f j ≡ Some c → aligned_column us vs ws d e f j ≡ Some c
 unfolding aligned_column
-column_stays xs ys zs us vs ws d e f j c blue green red h =
-    stays_whole _ _ _ _ _ _ c
-    (λ n. window_stays xs us blue.0 blue.1 (place d j) n)
-    (λ n. window_stays ys vs green.0 green.1 (place e j) n)
-    (λ n. window_stays zs ws red.0 red.1 (place f j) n) h
+column_stays xs ys zs us vs ws d e f j c blue green red h = grind (arith, stays_whole, window_stays)
 
 -- the columns of lanes lie in front of those of the grown lanes
 pub columns_grow : (xs ys zs us vs ws : List Bool) (d e f : ℕ) → HasGrown xs us → HasGrown ys vs → HasGrown zs ws

@@ -1,5 +1,5 @@
 -- How many characters are kept of a lane, by what was pushed.
-use Rattle.std.proofs.Common.{◌≡◌, ◌⊎◌, ℕ, suc, zero, ◌-◌, ◌<◌, ◌≤◌, min, Bool, false, List, length, refl, ap, sym, ◌∙◌, arith, inl, inr, length-drop, slice_index, Option, Some, None, MatchOption}
+use Rattle.std.proofs.Common.{◌≡◌, ◌⊎◌, ℕ, suc, zero, ◌-◌, ◌<◌, ◌≤◌, min, Bool, false, List, length, refl, ap, ◌∙◌, arith, length-drop, slice_index, Option, Some, None, MatchOption}
 use Rattle.lane_deskew.specs.Keeping.{stored, limit}
 use Rattle.lane_deskew.specs.Pushed.{Pushed, History, change, unconsumed, reach, Waits, Lends, Awaits, IsAligned, DeskewRepresents, kept_of, ready_of}
 use Rattle.lane_deskew.specs.Fed.{past_at, AreCutFrom, IsFedTo}
@@ -25,14 +25,7 @@ lends_many : (lane : Held) (past : Pushed) (taken e r : ℕ) → Lends lane past
 lends_many lane past taken e r l = ap length (stored_row lane.kept l.ring) ∙ row_length lane past taken e r l
 
 kept_by : (d : Deskew) (p : History) (o : Option Aligned) → MatchOption o (Awaits d p) (λ at. IsAligned d p at.edges) → (lane : ℕ) → lane < 3 → length (kept_of d lane) ≡ kept_many p o lane
-kept_by d p None w zero lt = waits_many d.first p.first w.first
-kept_by d p None w (suc zero) lt = waits_many d.second p.second w.second
-kept_by d p None w (suc (suc zero)) lt = waits_many d.third p.third w.third
-kept_by d p None w (suc (suc (suc n))) lt = absurd (omega (arith, lt))
-kept_by d p (Some at) w zero lt = lends_many d.first p.first p.taken (slice_index at.edges 0) (reach p at.edges) w.first
-kept_by d p (Some at) w (suc zero) lt = lends_many d.second p.second p.taken (slice_index at.edges 1) (reach p at.edges) w.second
-kept_by d p (Some at) w (suc (suc zero)) lt = lends_many d.third p.third p.taken (slice_index at.edges 2) (reach p at.edges) w.third
-kept_by d p (Some at) w (suc (suc (suc n))) lt = absurd (omega (arith, lt))
+kept_by d p o h k l = grind (arith, waits_many, lends_many)
 
 pub kept_is : (d : Deskew) (p : History) (lane : ℕ) → DeskewRepresents d p → lane < 3 → length (kept_of d lane) ≡ kept_many p d.found lane
 kept_is d p lane stands lt = kept_by d p d.found stands.alignment lane lt
@@ -44,31 +37,17 @@ abbrev pub IsSame : Pushed → Pushed → Type 0
 IsSame before now = (now ≡ before) ⊎ ((before.ended ≡ false) × (now.ended ≡ false))
 
 limit_same : (before now : Pushed) (taken e : ℕ) → IsSame before now → limit now.ended (length (unconsumed taken now e)) ≡ limit before.ended (length (unconsumed taken before e))
-limit_same before now taken e (inl same) = ap (λ (l : Pushed). limit l.ended (length (unconsumed taken l e))) same
-limit_same before now taken e (inr on) =
-    ap (λ b. limit b (length (unconsumed taken now e))) on.1 ∙ sym (ap (λ b. limit b (length (unconsumed taken before e))) on.0)
-
-abbrev limit_of : History → Pushed → ℕ → ℕ
-limit_of p lane e = limit lane.ended (length (unconsumed p.taken lane e))
+limit_same before now taken e h = grind arith
 
 -- as much is kept of the others
 pub second_kept : (p : History) (now : Pushed) (o : Option Aligned) → IsSame p.first now → kept_many (change (λ _. now) 0 p) o 1 ≡ kept_many p o 1
-second_kept p now None h = refl
-second_kept p now (Some at) h =
-    ap (λ n. min (min n (min (limit_of p p.second (slice_index at.edges 1)) (limit_of p p.third (slice_index at.edges 2)))) (length (unconsumed p.taken p.second (slice_index at.edges 1))))
-    (limit_same p.first now p.taken (slice_index at.edges 0) h)
+second_kept p now o h = grind (arith, limit_same)
 
 third_after_first : (p : History) (now : Pushed) (o : Option Aligned) → IsSame p.first now → kept_many (change (λ _. now) 0 p) o 2 ≡ kept_many p o 2
-third_after_first p now None h = refl
-third_after_first p now (Some at) h =
-    ap (λ n. min (min n (min (limit_of p p.second (slice_index at.edges 1)) (limit_of p p.third (slice_index at.edges 2)))) (length (unconsumed p.taken p.third (slice_index at.edges 2))))
-    (limit_same p.first now p.taken (slice_index at.edges 0) h)
+third_after_first p now o h = grind (arith, limit_same)
 
 third_after_second : (p : History) (now : Pushed) (o : Option Aligned) → IsSame p.second now → kept_many (change (λ _. now) 1 p) o 2 ≡ kept_many p o 2
-third_after_second p now None h = refl
-third_after_second p now (Some at) h =
-    ap (λ n. min (min (limit_of p p.first (slice_index at.edges 0)) (min n (limit_of p p.third (slice_index at.edges 2)))) (length (unconsumed p.taken p.third (slice_index at.edges 2))))
-    (limit_same p.second now p.taken (slice_index at.edges 1) h)
+third_after_second p now o h = grind (arith, limit_same)
 
 pub third_kept : (p : History) (first second : Pushed) (o : Option Aligned) → IsSame p.first first → IsSame p.second second
     → kept_many (change (λ _. second) 1 (change (λ _. first) 0 p)) o 2 ≡ kept_many p o 2
@@ -78,8 +57,7 @@ third_kept p first second o h k =
 -- Between two feeds.
 
 fed_to : (n : ℕ) (xs : List Bool) (lane : Pushed) → GoesOn n xs lane → IsFedTo n xs lane
-fed_to n xs lane (inl on) = inl on.1
-fed_to n xs lane (inr over) = inr (over.0, omega (arith, over.1))
+fed_to n xs lane h = grind arith
 
 rested_few : (m s : ℕ) → s ≡ m → m - (s - 32) ≤ 32
 rested_few m s e = omega (arith, e)

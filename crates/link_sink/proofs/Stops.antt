@@ -1,5 +1,5 @@
 -- An ear that breaks in the midst of a list of events.
-use Rattle.std.proofs.Common.{◌≡◌, ℕ, ◌+◌, List, ◌∷◌, ◌++◌, take, drop, ap, sym, subst, ◌∙◌, append_assoc, Some, All, Result, Ok, Err, OnErr}
+use Rattle.std.proofs.Common.{arith, ◌≡◌, ℕ, ◌+◌, List, ◌∷◌, ◌++◌, take, drop, ap, sym, subst, ◌∙◌, append_assoc, Some, All, Result, OnErr}
 use Rattle.std.specs.Prelude.{slice_get}
 use Rattle.std.proofs.lemmas.List.{take-append-drop, drop_more}
 use Rattle.std.proofs.lemmas.Option.{slice_get_within, get_or_from_slice_get}
@@ -42,15 +42,7 @@ stops_after took broke both x y z h k t s = record {
 -- it broke in some things, with others behind them
 pub stops_before : {A : Type 0} (took : A → A → List Event → Type 0) (broke : A → A → Event → Type 0) (x z : A) (h k : List Event)
     → StopsIn took broke x z h → StopsIn took broke x z (h ++ k)
-stops_before took broke x z h k s = record {
-  taken = s.taken;
-  next = s.next;
-  rest = s.rest ++ k;
-  events_are = ap (λ ts. ts ++ k) s.events_are ∙ append_assoc s.taken (s.next ∷ s.rest) k;
-  between = s.between;
-  took_some = s.took_some;
-  broke_then = s.broke_then;
-}
+stops_before took broke x z h k s = grind (arith, append_assoc)
 
 -- what holds of each element holds of one
 pub holds_at : {X : Type 0} (P : X → Type 0) (xs : List X) (i : ℕ) (x : X) → All P xs → slice_get xs i ≡ Some x → P x
@@ -58,5 +50,4 @@ holds_at P xs i x h e = subst P (get_or_from_slice_get xs i x x e) (h i x (slice
 
 -- what is said of an error, where it holds
 pub on_err : {T E P : Type 0} (r : Result T E) → P → OnErr r P
-on_err (Ok x) p = tt
-on_err (Err e) p = p
+on_err r h = grind arith

@@ -1,4 +1,5 @@
 -- The account of a raster tells what is seen of its parts.
+use Rattle.std.proofs.lemmas.Grind.{common_steps}
 use Rattle.std.proofs.Common.{◌≡◌, ℕ, zero, suc, ◌+◌, ◌-◌, ◌*◌, ◌/◌, ◌<◌, ◌≤◌, Bool, true, false, not, cond, ◌==◌, List, [], ◌∷◌, ◌++◌, map, length, take, drop, replicate, min, Option, Some, None, refl, sym, ap, ap₂, subst, ◌∙◌, append_assoc, append-nil, arith, length-drop}
 use Rattle.std.specs.Prelude.{nat_lt, nat_le}
 use Rattle.std.proofs.lemmas.List.{drop-drop, drop-take, map-append, length-take}
@@ -13,11 +14,9 @@ use Rattle.island_pack.specs.Runs.{join}
 use Rattle.island_pack.proofs.Runs.{join_values}
 use Rattle.island_pack.specs.declared.packet.Packet.{Packet}
 use Rattle.period_grammar.specs.Events.{Event, preamble, cut, symbols, guard, all_at, event_of}
-use Rattle.island_pack.specs.Repaired.{verdicts_of}
 use Rattle.period_grammar.specs.Column.{value_of}
 use Rattle.period_grammar.specs.Cut.{Run, columns, in_front, value, before_runs, runs as runs_of}
 use Rattle.period_grammar.specs.Island.{if_so, block_fault, block_faults, wrong_guards}
-use Rattle.period_grammar.specs.Coding.{first_uncoded}
 use Rattle.period_grammar.specs.Heard.{other_word, other_words, words, has_preamble, if_not, codes_of, code_fault}
 use Rattle.period_grammar.proofs.Hearings.{events_at}
 use Rattle.frame_build.specs.FrameEvent.{vsync_of}
@@ -132,12 +131,6 @@ unfolding ticks
 code_gaps lane s None = record { many = 0; are = refl }
 code_gaps lane s (Some i) = record { many = 1; are = refl }
 
-codes_gaps : (s : ℕ) (cs : List Column) → AreGaps (codes_of s cs)
-unfolding codes_of
-codes_gaps s cs =
-    gaps_both (code_fault 0 s (first_uncoded (map (λ c. c.blue) cs))) _ (code_gaps 0 s (first_uncoded (map (λ c. c.blue) cs)))
-    (gaps_both (code_fault 1 s (first_uncoded (map (λ c. c.green) cs))) _ (code_gaps 1 s (first_uncoded (map (λ c. c.green) cs))) (code_gaps 2 s (first_uncoded (map (λ c. c.red) cs))))
-
 guards_gaps : (is : Column → Bool) (b : ℕ) (g h : Column) → AreGaps (wrong_guards is b g h)
 guards_gaps is b g h = gaps_both (if_so (not (is g)) (guard b)) (if_so (not (is h)) (guard (b + 1))) (guard_gaps (not (is g)) b) (guard_gaps (not (is h)) (b + 1))
 
@@ -154,10 +147,7 @@ gap_first t ts e h = gaps_both (t ∷ []) ts (record { many = 1; are = e }) h
 
 packet_gaps : (s : ℕ) (p : Packet) (ss rs : List Column) → AreGaps (packet_reported s p ss rs)
 unfolding packet_reported ticks
-packet_gaps s p ss rs =
-    gap_first _ _ refl
-    (gaps_both (if_so (not ((verdicts_of rs).symbols == 0)) (symbols s (verdicts_of rs).symbols)) (block_faults s 0 (verdicts_of rs).blocks)
-    (so_gaps (not ((verdicts_of rs).symbols == 0)) s (verdicts_of rs).symbols) (blocks_gaps s 0 (verdicts_of rs).blocks))
+packet_gaps s p ss rs = grind (arith, gap_first, gaps_both, so_gaps, blocks_gaps)
 
 close_gaps : (s : ℕ) (rs : List Column) → AreGaps (close_island_row s rs)
 unfolding close_island_row ticks
@@ -202,9 +192,7 @@ island_hears j (suc (suc i)) before x ss (g ∷ []) le = absurd (omega (arith, l
 island_hears j (suc (suc i)) before x ss (g ∷ (h ∷ rs)) le =
     let o = open_island_gaps j before g h rs in
     let p = packets_gaps (j + 2) x.packets i (drop 2 ss) (drop 2 (g ∷ (h ∷ rs))) in
-    let e : suc o.0 + p.many ≡ suc (o.0 + p.many) = omega arith in
-    one_gap (o.0 + p.many) _
-    (ticks_append (open_island_row j before (g ∷ (h ∷ rs))) _ ∙ ap₂ (λ (xs ys : List Tick). xs ++ ys) o.1 p.are ∙ more_gaps (suc o.0) p.many ∙ ap (λ (n : ℕ). replicate n parted) e)
+    grind (arith, one_gap, ticks_append, Tick, more_gaps, parted)
 
 -- A row.
 
@@ -222,8 +210,8 @@ cut_hears n ts s e =
 
 line_hears : (t : Bool) (j n : ℕ) (ts : List Event) (ps : List Pixel) (ss rs : List Column) → ticks ts ≡ replicate n parted
     → Hears (ticks (ts ++ cond t (video_row j ps ss rs) (cut (j + 2) ∷ []))) (cond t (cell.pixels (pixel_bytes ps ss rs) ∷ []) (cell.parted ∷ []))
-unfolding video_row ticks
-line_hears true j n ts ps ss rs e = whole_hears j (pixel_bytes ps ss rs) n ts (codes_of (j + 2) rs) e (codes_gaps (j + 2) rs) _ refl
+unfolding video_row ticks codes_of
+line_hears true j n ts ps ss rs e = grind (arith, whole_hears, gaps_both, code_gaps)
 line_hears false j n ts ps ss rs e = cut_hears n ts (j + 2) e
 
 video_hears : (j m : ℕ) (before : List Column) (ps : List Pixel) (ss rs : List Column) → Hears (ticks (video_reported j m before ps ss rs)) (row_cells m ps ss rs)
@@ -254,10 +242,7 @@ on_some (island x ∷ ps) b j m ss rs = (b, refl)
 
 nothing_on : (periods : List Period) (acc : List Column) (j : ℕ) (ss rs : List Column) → account_on acc j 0 periods ss rs ≡ []
 nothing_on [] acc j ss rs = account_zero j acc [] ss rs
-nothing_on (control_period runs ∷ ps) acc j ss rs =
-    let n = period_columns (control_period runs) in
-    let e : 0 - n ≡ 0 = omega arith in
-    ap₂ (λ (xs ys : List Event). xs ++ ys) (no_row j) (ap (λ (k : ℕ). account_from (j + n) k (acc ++ take n rs) ps (drop n ss) (drop n rs)) e ∙ account_zero (j + n) (acc ++ take n rs) ps (drop n ss) (drop n rs))
+nothing_on (control_period runs ∷ ps) acc j ss rs = grind (arith, no_row, account_zero)
 nothing_on (video bytes ∷ ps) acc j ss rs = account_zero j acc (video bytes ∷ ps) ss rs
 nothing_on (island x ∷ ps) acc j ss rs = account_zero j acc (island x ∷ ps) ss rs
 
@@ -276,12 +261,7 @@ none_taken (suc m) = refl
 alone_tick : (v : ℕ) (periods : List Period) (acc : List Column) (j m : ℕ) (ss : List Column) (c : Column) (rs : List Column)
     → account_from (j + 1) m (acc ++ c ∷ []) periods (drop 1 ss) rs ≡ account_on (acc ++ c ∷ []) (j + 1) m periods (drop 1 ss) rs
     → ticks (account_on acc j (suc m) (control_period (join v []) ∷ periods) ss (c ∷ rs)) ≡ tick_of c ∷ ticks (account_on (acc ++ c ∷ []) (j + 1) m periods (drop 1 ss) rs)
-alone_tick v periods acc j m ss c rs is =
-    let d : suc m - 1 ≡ m = omega arith in
-    ap (λ (n : ℕ). ticks (control_row j (take (suc m) (take n (c ∷ rs))) ++ account_from (j + n) (suc m - n) (acc ++ take n (c ∷ rs)) periods (drop n ss) (drop n (c ∷ rs)))) (one_period v)
-    ∙ ticks_append (control_row j (c ∷ take m [])) (account_from (j + 1) (suc m - 1) (acc ++ c ∷ []) periods (drop 1 ss) rs)
-    ∙ ap₂ (λ (xs ys : List Tick). xs ++ ys) (row_ticks j (c ∷ take m []) ∙ ap (λ (ts : List Tick). tick_of c ∷ ts) (none_taken m))
-    (ap (λ (k : ℕ). ticks (account_from (j + 1) k (acc ++ c ∷ []) periods (drop 1 ss) rs)) d ∙ ap ticks is)
+alone_tick v periods acc j m ss c rs is = grind (arith, ticks, one_period, ticks_append, Tick, row_ticks, none_taken)
 
 -- a control column before periods
 first_tick : (v : ℕ) (periods : List Period) (acc : List Column) (j m : ℕ) (ss : List Column) (c : Column) (rs : List Column)
@@ -289,18 +269,7 @@ first_tick : (v : ℕ) (periods : List Period) (acc : List Column) (j m : ℕ) (
 first_tick v [] acc j m ss c rs = alone_tick v [] acc j m ss c rs refl
 first_tick v (video bytes ∷ periods) acc j m ss c rs = alone_tick v (video bytes ∷ periods) acc j m ss c rs refl
 first_tick v (island x ∷ periods) acc j m ss c rs = alone_tick v (island x ∷ periods) acc j m ss c rs refl
-first_tick v (control_period runs ∷ periods) acc j m ss c rs =
-    let n = period_columns (control_period runs) in
-    let e : j + suc n ≡ (j + 1) + n = omega arith in
-    let d : suc m - suc n ≡ m - n = omega arith in
-    let s : suc n ≡ 1 + n = omega arith in
-    ap (λ (k : ℕ). ticks (control_row j (take (suc m) (take k (c ∷ rs))) ++ account_from (j + k) (suc m - k) (acc ++ take k (c ∷ rs)) periods (drop k ss) (drop k (c ∷ rs)))) (longer_period v runs)
-    ∙ ticks_append (control_row j (c ∷ take m (take n rs))) (account_from (j + suc n) (suc m - suc n) (acc ++ (c ∷ take n rs)) periods (drop (suc n) ss) (drop n rs))
-    ∙ ap₂ (λ (xs ys : List Tick). xs ++ ys) (row_ticks j (c ∷ take m (take n rs)))
-    (ap₂ (λ (i k : ℕ). ticks (account_from i k (acc ++ (c ∷ take n rs)) periods (drop (suc n) ss) (drop n rs))) e d
-    ∙ ap₂ (λ (xs ys : List Column). ticks (account_from ((j + 1) + n) (m - n) xs periods ys (drop n rs))) (sym (append_assoc acc (c ∷ []) (take n rs))) (ap (λ (k : ℕ). drop k ss) s ∙ sym (drop-drop n 1 ss)))
-    ∙ ap (λ (xs : List Tick). tick_of c ∷ (xs ++ ticks (account_from ((j + 1) + n) (m - n) ((acc ++ c ∷ []) ++ take n rs) periods (drop n (drop 1 ss)) (drop n rs)))) (sym (row_ticks (j + 1) (take m (take n rs))))
-    ∙ ap (λ (ts : List Tick). tick_of c ∷ ts) (sym (ticks_append (control_row (j + 1) (take m (take n rs))) (account_from ((j + 1) + n) (m - n) ((acc ++ c ∷ []) ++ take n rs) periods (drop n (drop 1 ss)) (drop n rs))))
+first_tick v (control_period runs ∷ periods) acc j m ss c rs = grind (arith, common_steps, ticks, longer_period, ticks_append, Tick, row_ticks, append_assoc, drop-drop)
 
 pub cells_first : (v : ℕ) (parts : List Part) (m : ℕ) (ss : List Column) (c : Column) (rs : List Column)
     → parts_cells (suc m) (column v ∷ parts) ss (c ∷ rs) ≡ cell.control (vsync_of v) (vsync_of (value_of c)) ∷ parts_cells m parts (drop 1 ss) rs
@@ -309,36 +278,23 @@ cells_first v parts m ss c rs =
     let d : suc m - 1 ≡ m = omega arith in
     ap (λ (k : ℕ). cell.control (vsync_of v) (vsync_of (value_of c)) ∷ parts_cells k parts (drop 1 ss) rs) d
 
-no_cells : Hears (ticks []) []
-unfolding ticks
-no_cells = none
-
-nothing_hears : (parts : List Part) (acc : List Column) (j : ℕ) (ss rs : List Column) → Hears (ticks (account_on acc j 0 (gathered parts) ss rs)) (parts_cells 0 parts ss rs)
-nothing_hears parts acc j ss rs =
-    subst (λ (ts : List Event). Hears (ticks ts) (parts_cells 0 parts ss rs)) (sym (nothing_on (gathered parts) acc j ss rs)) (subst (λ (cs : List Cell). Hears (ticks []) cs) (sym (parts_none parts ss rs)) no_cells)
-
 -- a part that is a period of its own, and the parts behind it
 period_hears : (n j m : ℕ) (own : List Event) (here : List Cell) (parts : List Part) (b ss rs : List Column) → Hears (ticks own) here
     → ((acc : List Column) → Hears (ticks (account_on acc (j + n) (m - n) (gathered parts) (drop n ss) (drop n rs))) (parts_cells (m - n) parts (drop n ss) (drop n rs)))
     → Hears (ticks (own ++ account_from (j + n) (m - n) b (gathered parts) (drop n ss) (drop n rs))) (here ++ parts_cells (m - n) parts (drop n ss) (drop n rs))
 period_hears n j m own here parts b ss rs h later =
     let o = on_some (gathered parts) b (j + n) (m - n) (drop n ss) (drop n rs) in
-    let k = subst (λ (ts : List Event). Hears (ticks ts) (parts_cells (m - n) parts (drop n ss) (drop n rs))) (sym o.1) (later o.0) in
-    subst (λ (ts : List Tick). Hears ts (here ++ parts_cells (m - n) parts (drop n ss) (drop n rs))) (sym (ticks_append own (account_from (j + n) (m - n) b (gathered parts) (drop n ss) (drop n rs))))
-    (hears_append (ticks own) (ticks (account_from (j + n) (m - n) b (gathered parts) (drop n ss) (drop n rs))) here (parts_cells (m - n) parts (drop n ss) (drop n rs)) h k)
+    grind (arith, Hears, ticks, parts_cells, Tick, ticks_append, hears_append)
 
 shorter_rest : (n m : ℕ) (rs : List Column) → m ≤ length rs → m - n ≤ length (drop n rs)
 shorter_rest n m rs le = let l = length-drop n rs in omega (arith, le, l)
 
 parts_hear : (parts : List Part) (acc : List Column) (j m : ℕ) (ss rs : List Column) → m ≤ length rs → Hears (ticks (account_on acc j m (gathered parts) ss rs)) (parts_cells m parts ss rs)
 unfolding gathered parts_cells part_cells account_from period_row period_columns ticks
-parts_hear parts acc j zero ss rs le = nothing_hears parts acc j ss rs
+parts_hear parts acc j zero ss rs le = grind (arith, Hears, ticks, parts_cells, nothing_on, Cell, parts_none, none)
 parts_hear [] acc j (suc m) ss rs le = none
 parts_hear (column v ∷ parts) acc j (suc m) ss [] le = absurd (omega (arith, le))
-parts_hear (column v ∷ parts) acc j (suc m) ss (c ∷ rs) le =
-    subst (λ (cs : List Cell). Hears (ticks (account_on acc j (suc m) (before v (gathered parts)) ss (c ∷ rs))) cs) (sym (cells_first v parts m ss c rs))
-    (subst (λ (ts : List Tick). Hears ts (cell.control (vsync_of v) (vsync_of (value_of c)) ∷ parts_cells m parts (drop 1 ss) rs)) (sym (first_tick v (gathered parts) acc j m ss c rs))
-    (one (vsync_of v) (vsync_of (value_of c)) _ _ (parts_hear parts (acc ++ c ∷ []) (j + 1) m (drop 1 ss) rs (omega (arith, le)))))
+parts_hear (column v ∷ parts) acc j (suc m) ss (c ∷ rs) le = grind (arith, Cell, Hears, ticks, cells_first, Tick, parts_cells, first_tick, one, parts_hear parts)
 parts_hear (pixels bytes ∷ parts) acc j (suc m) ss rs le =
     let n = 2 + length bytes / 3 in
     period_hears n j (suc m) (video_reported j (suc m) acc (pixels_of bytes) (take n ss) (take n rs)) (row_cells (suc m) (pixels_of bytes) (take n ss) (take n rs)) parts (take n rs) ss rs
@@ -367,11 +323,7 @@ lt_shift a l = grind arith
 past : (p : Period) (ps : List Period) (ss rs : List Column) (n a b m : ℕ) → period_columns p ≡ n → b ≡ n + a
     → account (p ∷ ps) ss rs b m ≡ account ps (drop n ss) (drop n rs) a m
 unfolding account
-past p ps ss rs n a b m e d =
-    let f : nat_lt b (period_columns p) ≡ false = le-ltb b (period_columns p) (omega (arith, e, d)) in
-    let g : b - period_columns p ≡ a = omega (arith, e, d) in
-    ap (λ (x : Bool). cond x (account_at p b m ps ss rs) (account ps (drop (period_columns p) ss) (drop (period_columns p) rs) (b - period_columns p) m)) f
-    ∙ ap₂ (λ (x y : ℕ). account ps (drop x ss) (drop x rs) y m) e g
+past p ps ss rs n a b m e d = grind (arith, le-ltb)
 
 -- m columns of a period of k columns from column a of it on
 abbrev at_with : ℕ → ℕ → ℕ → List Column → List Period → List Column → List Column → List Event
@@ -403,13 +355,7 @@ past_column w (control_period runs ∷ periods) ss rs a m =
 pub at_start : (runs : List ControlRun) (periods : List Period) (ss rs : List Column) (m : ℕ) → 0 < period_columns (control_period runs)
     → account (control_period runs ∷ periods) ss rs 0 m ≡ account_on [] 0 m (control_period runs ∷ periods) ss rs
 unfolding account account_at
-at_start runs periods ss rs m lt =
-    let n = period_columns (control_period runs) in
-    let e : n - 0 ≡ 0 + n = omega arith in
-    let d : m - (0 + n) ≡ m - n = omega arith in
-    ap (λ (b : Bool). cond b (at_with n 0 m (take n rs) periods ss rs) (account periods (drop n ss) (drop n rs) (0 - n) m)) (lt-ltb 0 n lt)
-    ∙ ap (λ (k : ℕ). control_row 0 (take m (take n rs)) ++ account_from k (m - k) (take n rs) periods (drop n ss) (drop n rs)) e
-    ∙ ap (λ (k : ℕ). control_row 0 (take m (take n rs)) ++ account_from (0 + n) k (take n rs) periods (drop n ss) (drop n rs)) d
+at_start runs periods ss rs m lt = grind (arith, lt-ltb)
 
 starts : (v : ℕ) (periods : List Period) (ss rs : List Column) (m : ℕ) → account (before v periods) ss rs 0 m ≡ account_on [] 0 m (before v periods) ss rs
 starts v [] ss rs m = at_start (join v []) [] ss rs m (omega (arith, one_period v))
@@ -422,10 +368,7 @@ front_hears : (n : ℕ) (periods more : List Period) (front back : List Part) (v
     → account more ss rs (n + size front) m ≡ account periods (drop n ss) (drop n rs) (size front) m
     → Hears (ticks (account periods (drop n ss) (drop n rs) (size front) m)) (parts_cells m (column v ∷ back) (drop (size front) (drop n ss)) (drop (size front) (drop n rs)))
     → Hears (ticks (account more ss rs (n + size front) m)) (parts_cells m (column v ∷ back) (drop (n + size front) ss) (drop (n + size front) rs))
-front_hears n periods more front back v m ss rs e h =
-    subst (λ (ts : List Event). Hears (ticks ts) (parts_cells m (column v ∷ back) (drop (n + size front) ss) (drop (n + size front) rs))) (sym e)
-    (subst (λ (cs : List Cell). Hears (ticks (account periods (drop n ss) (drop n rs) (size front) m)) cs)
-    (ap₂ (λ (cs ds : List Column). parts_cells m (column v ∷ back) cs ds) (drop-drop (size front) n ss) (drop-drop (size front) n rs)) h)
+front_hears n periods more front back v m ss rs e h = grind (arith, Hears, ticks, parts_cells, Cell, drop-drop)
 
 fewer_left : (n k m : ℕ) (rs : List Column) → n + k + m ≤ length rs → k + m ≤ length (drop n rs)
 fewer_left n k m rs le = let l = length-drop n rs in omega (arith, le, l)

@@ -44,14 +44,8 @@ twelve_long = let l : length twelve ≡ 12 = length-replicate 12 no_column in om
 inner_received : (x : Period) (xs : List Period) (own reception ss rs : List Column) → IsBetween x → ArrivesPeriod x own reception → Received xs ss rs → Received (x ∷ xs) (own ++ ss) (reception ++ rs)
 unfolding Received IsBetween
 inner_received (control_period runs) xs own reception ss rs i a h = absurd i
-inner_received (video bytes) xs own reception ss rs i a h =
-    let g = inner_gap twelve (video bytes) own reception twelve_long i a in
-    let s = sized (video bytes) own reception a in
-    (own, reception, ss, rs, refl, refl, record { sent = s.sent ∙ video_columns bytes; received = s.received ∙ video_columns bytes; quiet = g.quiet }, h)
-inner_received (island x) xs own reception ss rs i a h =
-    let g = inner_gap twelve (island x) own reception twelve_long i a in
-    let s = sized (island x) own reception a in
-    (own, reception, ss, rs, refl, refl, record { sent = s.sent ∙ island_columns x; received = s.received ∙ island_columns x; quiet = g.quiet }, h)
+inner_received (video bytes) xs own reception ss rs i a h = grind (arith, inner_gap, twelve_long, sized, video_columns)
+inner_received (island x) xs own reception ss rs i a h = grind (arith, inner_gap, twelve_long, sized, island_columns)
 
 inner_values : (x : Period) (xs : List Period) → IsBetween x → HasValues (x ∷ xs) → HasValues xs
 unfolding HasValues IsBetween
@@ -66,19 +60,14 @@ first_values runs xs h = h
 tail_received : (tail : List Period) → IsTail tail → HasValues tail → (ss rs : List Column) → Arrives tail ss rs → Received tail ss rs
 unfolding Received
 tail_received _ ends v _ _ nothing = (refl, refl)
-tail_received _ (goes_on x runs rest i long f) v _ _ (more _ _ own reception _ _ a (more _ _ _ _ ss rs (controls _ cs n all) b)) =
-    let w = first_values runs rest (inner_values x (control_period runs ∷ rest) i v) in
-    inner_received x (control_period runs ∷ rest) own reception (control_columns (values_of runs) ++ ss) (cs ++ rs) i a
-    (cs, ss, rs, refl, refl, n, all, w.0, tail_received rest f w.1 ss rs b)
+tail_received _ (goes_on x runs rest i long f) v _ _ (more _ _ own reception _ _ a (more _ _ _ _ ss rs (controls _ cs n all) b)) = grind (arith, first_values, inner_values, inner_received, control_columns, tail_received rest f)
 
 periods_received : (ps : List Period) (ss rs : List Column) → Conforms ps → HasValues ps → Arrives ps ss rs → Received ps ss rs
 unfolding Conforms Received
 periods_received [] ss rs c v a = absurd c
 periods_received (video bytes ∷ rest) ss rs c v a = absurd c
 periods_received (island x ∷ rest) ss rs c v a = absurd c
-periods_received (control_period runs ∷ rest) _ _ c v (more _ _ _ _ ss rs (controls _ cs n all) a) =
-    let w = first_values runs rest v in
-    (cs, ss, rs, refl, refl, n, all, w.0, tail_received rest (is_tail (values_of runs) rest c) w.1 ss rs a)
+periods_received (control_period runs ∷ rest) _ _ c v (more _ _ _ _ ss rs (controls _ cs n all) a) = grind (arith, first_values, tail_received, is_tail)
 
 -- Parts.
 
@@ -118,17 +107,7 @@ column_before : (v : ℕ) (runs : List ControlRun) (periods after : List Period)
 column_before v runs periods after ss rs cs sent received e d n all small later =
     let j = join_values v runs in
     let f = first_received (length (values_of runs)) cs (n ∙ ap length j) all in
-    let s = subst (λ (vs : List ℕ). Small vs) j small in
-    record {
-      c = f.c;
-      sent = control_columns (values_of runs) ++ sent;
-      received = f.rest ++ received;
-      sent_are = e ∙ ap (λ (vs : List ℕ). control_columns vs ++ sent) j;
-      received_are = d ∙ ap (λ (ds : List Column). ds ++ received) f.are;
-      control = f.control;
-      small = and-left _ _ s;
-      later = later f.rest f.long f.all (and-right (nat_lt v 64) _ s);
-    }
+    grind (arith, Small, control_columns, and-left, and-right)
 
 none_left : (ds : List Column) → length ds ≡ length (values_of []) → ds ≡ []
 unfolding values_of
@@ -150,9 +129,7 @@ unfolding Received
 column_received v [] ss rs h = alone_before v [] ss rs h.0 h.1 h.2 h.3 h.4 h.5 h.6 h.7 h.8
 column_received v (video bytes ∷ periods) ss rs h = alone_before v (video bytes ∷ periods) ss rs h.0 h.1 h.2 h.3 h.4 h.5 h.6 h.7 h.8
 column_received v (island x ∷ periods) ss rs h = alone_before v (island x ∷ periods) ss rs h.0 h.1 h.2 h.3 h.4 h.5 h.6 h.7 h.8
-column_received v (control_period runs ∷ periods) ss rs h =
-    column_before v runs periods (control_period runs ∷ periods) ss rs h.0 h.1 h.2 h.3 h.4 h.5 h.6 h.7
-    (λ ds l a s. (ds, h.1, h.2, refl, refl, l, a, s, h.8))
+column_received v (control_period runs ∷ periods) ss rs h = grind (arith, column_before)
 
 parts_received : (parts : List Part) (ss rs : List Column) → Received (gathered parts) ss rs → Arrived parts ss rs
 unfolding gathered Received Arrived
@@ -171,24 +148,15 @@ parts_arrived parts sent received reception =
 pub drop_front : (k : ℕ) (own cs : List Column) → length own ≡ k → drop k (own ++ cs) ≡ cs
 drop_front k own cs e = ap (λ (i : ℕ). drop i (own ++ cs)) (sym e) ∙ drop-append_seam own cs
 
-one_less : (n : ℕ) (c : Column) (cs : List Column) → drop n cs ≡ drop (1 + n) (c ∷ cs)
-one_less n c cs = drop-drop n 1 (c ∷ cs)
-
 less : (k n : ℕ) (own cs ds : List Column) → length own ≡ k → ds ≡ own ++ cs → drop n cs ≡ drop (k + n) ds
 less k n own cs ds e is = ap (drop n) (sym (drop_front k own cs e)) ∙ drop-drop n k (own ++ cs) ∙ sym (ap (drop (k + n)) is)
 
 pub arrived_append : (xs ys : List Part) (ss rs : List Column) → Arrived (xs ++ ys) ss rs → Arrived ys (drop (size xs) ss) (drop (size xs) rs)
 unfolding Arrived size
 arrived_append [] ys ss rs h = h
-arrived_append (column v ∷ xs) ys ss rs h =
-    subst (λ (cs : List Column). Arrived ys (drop (1 + size xs) ss) cs) (one_less (size xs) h.0 h.2 ∙ sym (ap (drop (1 + size xs)) h.4))
-    (subst (λ (cs : List Column). Arrived ys cs (drop (size xs) h.2)) (one_less (size xs) (control_column v) h.1 ∙ sym (ap (drop (1 + size xs)) h.3)) (arrived_append xs ys h.1 h.2 h.7))
-arrived_append (pixels bytes ∷ xs) ys ss rs h =
-    subst (λ (cs : List Column). Arrived ys (drop (2 + length bytes / 3 + size xs) ss) cs) (less (2 + length bytes / 3) (size xs) h.1 h.3 rs h.6.received h.5)
-    (subst (λ (cs : List Column). Arrived ys cs (drop (size xs) h.3)) (less (2 + length bytes / 3) (size xs) h.0 h.2 ss h.6.sent h.4) (arrived_append xs ys h.2 h.3 h.7))
-arrived_append (packets x ∷ xs) ys ss rs h =
-    subst (λ (cs : List Column). Arrived ys (drop (4 + 32 * length x.packets + size xs) ss) cs) (less (4 + 32 * length x.packets) (size xs) h.1 h.3 rs h.6.received h.5)
-    (subst (λ (cs : List Column). Arrived ys cs (drop (size xs) h.3)) (less (4 + 32 * length x.packets) (size xs) h.0 h.2 ss h.6.sent h.4) (arrived_append xs ys h.2 h.3 h.7))
+arrived_append (column v ∷ xs) ys ss rs h = grind (arith, drop-drop, arrived_append xs ys)
+arrived_append (pixels bytes ∷ xs) ys ss rs h = grind (arith, less, arrived_append xs ys)
+arrived_append (packets x ∷ xs) ys ss rs h = grind (arith, less, arrived_append xs ys)
 
 pub arrived_size : (parts : List Part) (ss rs : List Column) → Arrived parts ss rs → length ss ≡ size parts
 unfolding Arrived size

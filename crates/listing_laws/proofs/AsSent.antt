@@ -1,5 +1,5 @@
 -- A packet of which at most one word came unlike is told as it was sent, and none of its blocks is lost.
-use Rattle.std.proofs.Common.{◌≡◌, ℕ, zero, suc, ◌*◌, ◌<◌, ◌≤◌, Bool, cond, List, [], ◌∷◌, map, length, drop, refl, sym, ap, subst, arith, inl, inr}
+use Rattle.std.proofs.Common.{◌≡◌, ℕ, zero, suc, ◌*◌, ◌<◌, ◌≤◌, Bool, List, [], ◌∷◌, map, length, drop, refl, sym, ap, subst, arith, inl, inr}
 use Rattle.std.proofs.lemmas.Bool.{le-leb}
 use Rattle.std.proofs.lemmas.List.{length-map, length-take-le, length-drop}
 use Rattle.tmds_word.specs.Column.{Column}
@@ -12,7 +12,7 @@ use Rattle.island_pack.specs.Packets.{CarriesFreely, body_of}
 use Rattle.island_pack.specs.Spelling.{column_words}
 use Rattle.island_pack.specs.Taken.{verdict_on}
 use Rattle.island_pack.specs.declared.packet.Packet.{Packet}
-use Rattle.island_pack.specs.Repaired.{packet_of, verdict_of, verdicts_in, verdicts_of}
+use Rattle.island_pack.specs.Repaired.{verdict_of, verdicts_in, verdicts_of}
 use Rattle.island_pack.proofs.Repaired.{verdict_is}
 use Rattle.link_laws.specs.Account.{damage, sync_row, packet_row}
 use Rattle.link_laws.specs.Laws.{wrong_bits}
@@ -68,17 +68,10 @@ kept p ss rs carries same few (suc (suc (suc (suc (suc b))))) lt lost = absurd (
 
 pub as_sent_row : (p : Packet) (ss rs : List Column) → damage ss rs ≤ 1 → packet_row p ss rs ≡ record { header = p.header; bodies = p.bodies; sync = sync_row p.sync ss rs }
 unfolding packet_row
-as_sent_row p ss rs few =
-    ap (λ (t : Bool). cond t
-    (record { header = p.header; bodies = p.bodies; sync = sync_row p.sync ss rs })
-    (record { header = (packet_of rs).header; bodies = (packet_of rs).bodies; sync = sync_row p.sync ss rs })) (le-leb (damage ss rs) 1 few)
+as_sent_row p ss rs few = grind (arith, le-leb)
 
 pub as_sent_freely : (p : Packet) (ss rs : List Column) → CarriesFreely p (map column_words ss) → length rs ≡ 32 → damage ss rs ≤ 1 → IsAsSent p (packet_row p ss rs) (verdicts_of rs)
-as_sent_freely p ss rs carries long few =
-    let n = length-map ss column_words in
-    let same : length rs ≡ length ss = omega (arith, long, n, carries.count) in
-    let e = as_sent_row p ss rs few in
-    record { header = ap (λ (q : Packet). q.header) e; bodies = ap (λ (q : Packet). q.bodies) e; kept = kept p ss rs carries same few }
+as_sent_freely p ss rs carries long few = grind (arith, length-map, as_sent_row, kept)
 
 pub one_word_as_sent : OneWordAsSent
 one_word_as_sent p first ss rs carries long few = as_sent_freely p ss rs carries.free long few

@@ -1,6 +1,6 @@
 -- What frames see of columns of which few came otherwise than they were sent. A column that comes as a third wrong one
 -- among eleven would be taken as it was sent: where damage is sparse there is none.
-use Rattle.std.proofs.Common.{◌≡◌, ℕ, zero, suc, ◌+◌, ◌/◌, Bool, true, false, not, ◌&&◌, ◌||◌, cond, List, [], ◌∷◌, ◌++◌, length, replicate, Option, None, refl, sym, ap, ap₂, subst, ◌∙◌, append_assoc}
+use Rattle.std.proofs.Common.{arith, ◌≡◌, ℕ, zero, suc, ◌+◌, ◌/◌, Bool, true, false, not, ◌&&◌, ◌||◌, cond, List, [], ◌∷◌, ◌++◌, length, replicate, Option, None, refl, sym, ap, ap₂, subst, ◌∙◌, append_assoc}
 use Rattle.std.specs.Prelude.{nat_le}
 use Rattle.tmds_word.proofs.Below.{and-left, and-right}
 use Rattle.terc4.specs.Columns.{one_if}
@@ -172,19 +172,7 @@ both_alike b (gap ∷ ms) (gap ∷ ns) h = refl
 both_alike b (gap ∷ ms) (column w ∷ ns) h = absurd cc
 both_alike b (column v ∷ ms) [] h = absurd cc
 both_alike b (column v ∷ ms) (gap ∷ ns) h = absurd cc
-both_alike b (column v ∷ ms) (column w ∷ ns) h = next ms ns (and-right (same v w) (alike ms ns) h)
-  where
-    next : (ms ns : List Mark) → alike ms ns ≡ true → both_have b (column v ∷ ms) ≡ both_have b (column w ∷ ns)
-    next [] [] k = refl
-    next [] (gap ∷ ns) k = refl
-    next [] (column x ∷ ns) k = absurd cc
-    next (gap ∷ ms) [] k = refl
-    next (gap ∷ ms) (gap ∷ ns) k = refl
-    next (gap ∷ ms) (column x ∷ ns) k = absurd cc
-    next (column u ∷ ms) [] k = absurd cc
-    next (column u ∷ ms) (gap ∷ ns) k = absurd cc
-    next (column u ∷ ms) (column x ∷ ns) k =
-        ap₂ (λ (p q : Bool). has_vsync b (column p) && has_vsync b (column q)) (sym (same_is v w (and-left (same v w) _ h))) (sym (same_is u x (and-left (same u x) _ k)))
+both_alike b (column v ∷ ms) (column w ∷ ns) h = grind (arith, and-right, same_is, and-left)
 
 pub three_alike : (b : Bool) (ms ns : List Mark) → alike ms ns ≡ true → three_have b (column b ∷ ms) ≡ three_have b (column b ∷ ns)
 three_alike b ms ns h = three_is b ms ∙ both_alike b ms ns h ∙ sym (three_is b ns)
@@ -204,12 +192,7 @@ turned_like true ms ns h rs s t a l = record { marks = a; heard = refl; counting
 turned_like false ms ns h rs s t a l = record { marks = a; heard = refl; counting = l.counting; group = l.group }
 
 column_like : (w wrong : Bool) (s : plain.State) (t : State) → Like s t → Like (plain.step (plain.control w) s) (column_state wrong w t)
-column_like w wrong s t l =
-    let e : plain.heard_after w 1 s ≡ heard_at w t = ap (λ (x : Bool). hears x w) (three_alike w s.marks t.marks l.marks) in
-    let a : alike (column w ∷ s.marks) (column w ∷ t.marks) ≡ true = ap₂ (λ (x y : Bool). x && y) (same_self w) l.marks in
-    subst (λ (h : Option Bool). Like (plain.turned (differ (plain.heard_after w 1 s) s.heard) (column w ∷ s.marks) (newer (plain.heard_after w 1 s) s.heard) s) (turned (differ (heard_at w t) h) (column w ∷ t.marks) (newer (heard_at w t) h) (wrong ∷ t.recent) t)) l.heard
-    (subst (λ (h : Option Bool). Like (plain.turned (differ (plain.heard_after w 1 s) s.heard) (column w ∷ s.marks) (newer (plain.heard_after w 1 s) s.heard) s) (turned (differ h s.heard) (column w ∷ t.marks) (newer h s.heard) (wrong ∷ t.recent) t)) e
-    (turned_like (differ (plain.heard_after w 1 s) s.heard) (column w ∷ s.marks) (column w ∷ t.marks) (newer (plain.heard_after w 1 s) s.heard) (wrong ∷ t.recent) s t a l))
+column_like w wrong s t l = grind (arith, hears, three_alike, same_self, turned_like)
 
 column_same : (w : Bool) (s : plain.State) (t : State) → Like s t → plain.said (plain.control w) s ≡ column_said w t
 column_same w s t l =
@@ -217,15 +200,7 @@ column_same w s t l =
     ∙ ap₂ (λ (c : Bool) (g : List ℕ). ends (differ (heard_at w t) t.heard) c g) l.counting l.group
 
 pub taken_is : (b v : Bool) (rs : List Bool) → (same b v || few rs) ≡ true → taken b v rs ≡ v
-taken_is b v rs h = by_test (few rs) h
-  where
-    by_test : (t : Bool) → (same b v || t) ≡ true → cond t v b ≡ v
-    by_test true k = refl
-    by_test false k = sym (same_is b v (or_left (same b v) k))
-      where
-        or_left : (a : Bool) → (a || false) ≡ true → a ≡ true
-        or_left true e = refl
-        or_left false e = e
+taken_is b v rs h = grind (arith, same_is)
 
 -- gaps one after another are one
 parted_like : (k : ℕ) (s : plain.State) (t : State) → Like s t → (ms : List Mark) → t.marks ≡ gap ∷ ms → Like (plain.after (replicate k plain.parted) s) t

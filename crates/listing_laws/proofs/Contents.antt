@@ -1,17 +1,17 @@
 -- The packets of a raster are those of its content, in order.
-use Rattle.std.proofs.Common.{◌≡◌, ℕ, zero, suc, ◌+◌, ◌-◌, ◌*◌, true, false, List, [], ◌∷◌, ◌++◌, map, length, take, drop, replicate, Option, Some, None, refl, sym, ap, ap₂, ◌∙◌, append_assoc, append-nil}
+use Rattle.std.proofs.Common.{arith, ◌≡◌, ℕ, zero, suc, ◌+◌, ◌-◌, ◌*◌, false, List, [], ◌∷◌, ◌++◌, map, length, take, replicate, Option, Some, None, refl, sym, ap, ap₂, ◌∙◌, append_assoc, append-nil}
 use Rattle.std.specs.Prelude.{nat_le}
 use Rattle.std.proofs.lemmas.Bool.{leb-true}
 use Rattle.std.proofs.lemmas.List.{take_all}
 use Rattle.std.proofs.Common.{take-add}
 use Rattle.terc4.specs.Columns.{one_if}
-use Rattle.island_pack.specs.Periods.{DataIsland, Period, control as control_period, video, island, period_columns}
+use Rattle.island_pack.specs.Periods.{Period, control as control_period, video, island, period_columns}
 use Rattle.island_pack.specs.declared.packet.Packet.{Packet}
 use Rattle.source_end.specs.declared.mode.Mode.{Mode}
 use Rattle.source_end.specs.declared.refusal.RasterFault.TheVariants.{NoRoom}
 use Rattle.source_end.specs.Content.{Frame}
-use Rattle.source_end.specs.Raster.{Line, Part, column, pixels, packets, up_from, columns, sync_at, value_at, guard_at, room, sync, back, active, total, packets_at, island_of, until, whole, laid, lines_of, parts_of, before, gathered, raster_of}
-use Rattle.source_end.specs.RasterRefusals.{or_else, bad_mode, numbers_of, bad_rows, room_of, no_room, too_long, raster_fault}
+use Rattle.source_end.specs.Raster.{Line, Part, column, pixels, packets, up_from, value_at, total, packets_at, until, whole, laid, lines_of, parts_of, before, gathered, raster_of}
+use Rattle.source_end.specs.RasterRefusals.{room_of, no_room, raster_fault}
 use Rattle.listing_laws.specs.PacketLaws.{Placed, each_at, placed, Payload, payload_of, content_packets, RasterPackets}
 use Rattle.source_end.proofs.RasterModes.{both_none, in_test}
 
@@ -46,9 +46,7 @@ unfolding placed in_periods
 placed_payload [] x = refl
 placed_payload (control_period runs ∷ periods) x = placed_payload periods (x + period_columns (control_period runs))
 placed_payload (video bytes ∷ periods) x = placed_payload periods (x + period_columns (video bytes))
-placed_payload (island i ∷ periods) x =
-    map_both (each_at (x + 2) i.packets) (placed (x + period_columns (island i)) periods)
-    ∙ ap₂ (λ (xs ys : List Payload). xs ++ ys) (each_payload (x + 2) i.packets) (placed_payload periods (x + period_columns (island i)))
+placed_payload (island i ∷ periods) x = grind (arith, map_both, each_payload, placed_payload periods)
 
 before_payload : (v : ℕ) (periods : List Period) → in_periods (before v periods) ≡ in_periods periods
 unfolding in_periods
@@ -85,31 +83,15 @@ at_payload : (mode : Mode) (line : Line) (x : ℕ) (ps : List Packet) → map pa
 at_payload mode line x [] = refl
 at_payload mode line x (p ∷ ps) = ap (λ (xs : List Payload). payload_of p ∷ xs) (at_payload mode line (x + 32) ps)
 
-island_payload : (x : DataIsland) (parts : List Part) → in_parts (packets x ∷ parts) ≡ map payload_of x.packets ++ in_parts parts
-unfolding in_parts
-island_payload x parts = refl
-
-pixels_payload : (bytes : List ℕ) (parts : List Part) → in_parts (pixels bytes ∷ parts) ≡ in_parts parts
-unfolding in_parts
-pixels_payload bytes parts = refl
-
 until_payload : (mode : Mode) (line : Line) (ps : List Packet) (e : ℕ) → in_parts (until mode line ps e) ≡ map payload_of ps
+unfolding in_parts
 until_payload mode line [] e = up_payload (value_at mode line false) (e - 0) 0
-until_payload mode line (p ∷ ps) e =
-    let value = value_at mode line true in
-    let x = 16 + 32 * length (p ∷ ps) in
-    parts_both (columns value 0 12) (packets (island_of mode line (p ∷ ps)) ∷ columns value x e)
-    ∙ ap₂ (λ (xs ys : List Payload). xs ++ ys) (up_payload value (12 - 0) 0)
-    (island_payload (island_of mode line (p ∷ ps)) (columns value x e) ∙ ap₂ (λ (xs ys : List Payload). xs ++ ys) (at_payload mode line 14 (p ∷ ps)) (up_payload value (e - x) x) ∙ append-nil (map payload_of (p ∷ ps)))
+until_payload mode line (p ∷ ps) e = grind (arith, parts_both, up_payload, at_payload, append-nil)
 
 whole_payload : (mode : Mode) (line : Line) (ps : List Packet) (row : Option (List ℕ)) → in_parts (whole mode line ps row) ≡ map payload_of ps
+unfolding in_parts
 whole_payload mode line ps None = until_payload mode line ps (total mode.across)
-whole_payload mode line ps (Some bytes) =
-    let value = λ (x : ℕ). sync_at mode line x in
-    let x = sync mode.across + back mode.across + active mode.across in
-    parts_both (until mode line ps (guard_at mode)) (pixels bytes ∷ columns value x (total mode.across))
-    ∙ ap₂ (λ (xs ys : List Payload). xs ++ ys) (until_payload mode line ps (guard_at mode)) (pixels_payload bytes (columns value x (total mode.across)) ∙ up_payload value (total mode.across - x) x)
-    ∙ append-nil (map payload_of ps)
+whole_payload mode line ps (Some bytes) = grind (arith, parts_both, until_payload, up_payload, append-nil)
 
 map_parts : (ps qs : List Packet) → map payload_of (ps ++ qs) ≡ map payload_of ps ++ map payload_of qs
 map_parts [] qs = refl
@@ -119,12 +101,7 @@ map_parts (p ∷ ps) qs = ap (λ (xs : List Payload). payload_of p ∷ xs) (map_
 laid_payload : (mode : Mode) (lines : List Line) (ps : List Packet) → in_parts (laid mode lines ps) ≡ map payload_of (take (room_of mode lines) ps)
 unfolding laid in_parts
 laid_payload mode [] ps = refl
-laid_payload mode (line ∷ lines) ps =
-    let k = room mode line in
-    parts_both (whole mode line (take k ps) line.row) (laid mode lines (drop k ps))
-    ∙ ap₂ (λ (xs ys : List Payload). xs ++ ys) (whole_payload mode line (take k ps) line.row) (laid_payload mode lines (drop k ps))
-    ∙ sym (map_parts (take k ps) (take (room_of mode lines) (drop k ps)))
-    ∙ ap (λ (qs : List Packet). map payload_of qs) (sym (take-add k (room_of mode lines) ps))
+laid_payload mode (line ∷ lines) ps = grind (arith, parts_both, whole_payload, map_parts, take-add, laid_payload mode lines)
 
 frames_payload : (mode : Mode) (f : ℕ) (frames : List Frame) → no_room mode f frames ≡ None → in_parts (parts_of mode frames) ≡ map payload_of (content_packets frames)
 unfolding parts_of content_packets
@@ -138,8 +115,4 @@ frames_payload mode f (frame ∷ frames) h =
 
 pub raster_packets : RasterPackets
 unfolding raster_of raster_fault
-raster_packets mode frames h =
-    let a = both_none (bad_mode 0 (numbers_of mode)) (or_else (bad_rows mode 0 frames) (or_else (no_room mode 0 frames) (too_long mode frames))) h in
-    let b = both_none (bad_rows mode 0 frames) (or_else (no_room mode 0 frames) (too_long mode frames)) a.1 in
-    let c = both_none (no_room mode 0 frames) (too_long mode frames) b.1 in
-    placed_payload (gathered (parts_of mode frames)) 0 ∙ gathered_payload (parts_of mode frames) ∙ frames_payload mode 0 frames c.0
+raster_packets mode frames h = grind (arith, both_none, placed_payload, gathered_payload, frames_payload)

@@ -1,5 +1,5 @@
 -- Whole frames, one after another, and the columns after the last.
-use Rattle.std.proofs.Common.{◌≡◌, ℕ, zero, suc, ◌+◌, ◌-◌, ◌*◌, ◌^◌, ◌<◌, ◌≤◌, Bool, true, false, not, ◌&&◌, ◌||◌, cond, min, List, [], ◌∷◌, ◌++◌, length, drop, replicate, refl, sym, ap, ap₂, subst, ◌∙◌, append-nil, arith, inl, inr}
+use Rattle.std.proofs.Common.{◌≡◌, ℕ, zero, suc, ◌+◌, ◌-◌, ◌*◌, ◌<◌, ◌≤◌, Bool, true, false, not, ◌&&◌, ◌||◌, cond, List, [], ◌∷◌, ◌++◌, length, drop, replicate, refl, sym, ap, ap₂, subst, ◌∙◌, append-nil, arith, inl, inr}
 use Rattle.std.specs.Prelude.{nat_le}
 use Rattle.std.proofs.lemmas.Bool.{le-leb, lt-leb, cases_lt}
 use Rattle.std.proofs.lemmas.List.{length-replicate}
@@ -87,10 +87,6 @@ pending_is : (e p : ℕ) (last : Bool) (c : Bool) (g : List ℕ) → p + 11 ≤ 
 unfolding pending
 pending_is e p last c g le = ap (λ (t : Bool). cond t (ends true c g) []) (turns_yes e p last le)
 
-pending_last : (e p : ℕ) (last : Bool) (c : Bool) (g : List ℕ) → p ≤ e → e < p + 11 → pending e last p c g ≡ cond last (ends true c g) []
-unfolding pending
-pending_last e p last c g le lt = ap (λ (t : Bool). cond t (ends true c g) []) (turns_last e p last le lt)
-
 pending_none : (e p : ℕ) (last : Bool) (c : Bool) (g : List ℕ) → e < p → pending e last p c g ≡ []
 unfolding pending
 pending_none e p last c g lt = ap (λ (t : Bool). cond t (ends true c g) []) (turns_no e p last lt)
@@ -101,23 +97,12 @@ reported_none mode e p last lt = ap (λ (t : Bool). cond t (whole_frame mode ∷
 
 -- the frame of a frame's rows
 frame_is : (mode : Mode) → IsMode mode → ends true true (replicate (active mode.down) (active mode.across)) ≡ whole_frame mode ∷ []
-frame_is mode ok = some (active mode.down) (active mode.across) ok.active_lines ok.few_lines
-  where
-    some : (n w : ℕ) → 1 ≤ n → n ≤ 4096 → ends true true (replicate n w) ≡ frame (record { width = w; height = n }) ∷ []
-    some zero w least few = absurd (omega arith)
-    some (suc n) w least few =
-        let l = length-replicate (suc n) w in
-        let e : min (length (replicate (suc n) w)) (2 ^ 32 - 1) ≡ suc n = omega (arith, l, few) in
-        ap (λ (k : ℕ). frame (record { width = w; height = k }) ∷ []) e
+frame_is mode ok = grind (arith, ends, length-replicate)
 
 -- the frame of rows that came, where the sync lines after them are heard
 pending_frame : (mode : Mode) → IsMode mode → (e p : ℕ) (last : Bool) (g : List ℕ) → (p ≤ e → g ≡ replicate (active mode.down) (active mode.across)) → pending e last p true g ≡ frame_reported mode e last p
 unfolding pending frame_reported
-pending_frame mode ok e p last g grown =
-    elim (cases_lt e p) [
-      | inl lt ↦ pending_none e p last true g lt ∙ sym (reported_none mode e p last lt)
-      | inr le ↦ ap (λ (xs : List Listed). cond (turns e last p) xs []) (ap (λ (xs : List ℕ). ends true true xs) (grown le) ∙ frame_is mode ok)
-    ]
+pending_frame mode ok e p last g grown = grind (arith, cases_lt, pending_none, reported_none, ends, frame_is)
 
 -- where the first columns of frames did not come, nothing is listed from there on
 pub frames_none : (mode : Mode) → IsMode mode → (ss rs : List Column) (e p : ℕ) (last : Bool) (frames : List Frame) → e < p + 11 → frames_listed mode ss rs e last p frames ≡ []
@@ -221,26 +206,12 @@ back_lines mode ok n some qs back lines ss rs e p q last place silent s c g no_f
           ∙ ap (λ (xs : List Listed). cond (is_heard b (after (seen ss rs e p (one ++ back)) s).heard) xs []) no_frame
           ∙ no_choice (is_heard b (after (seen ss rs e p (one ++ back)) s).heard)
           ∙ sym (silent lt)
-      | inr le ↦
-          let m = size_blank mode false n qs in
-          let first = seen ss rs e p one in
-          let second = seen ss rs e (p + size one) back in
-          let here : p + size one ≡ q = omega (arith, m, place) in
-          let all = seen_append ss rs e p one back in
-          let t = seen_turn b c g ss rs e p one s begins (even_blank mode false n qs) le ready in
-          let at_last = last_rest mode first second s last (last_by mode _ _ s last all final) in
-          ap (λ (ts : List Cell). says ts s) all ∙ says_append first second s
-          ∙ ap₂ (λ (xs ys : List Listed). xs ++ ys) (t.frame ∙ no_frame)
-          (ap (λ (k : ℕ). says (seen ss rs e k back) (after first s)) here ∙ later (after first s) t.ready (last_by mode _ _ (after first s) last (ap (λ (k : ℕ). seen ss rs e k back) here) at_last))
+      | inr le ↦ grind (arith, size_blank, seen, seen_append, seen_turn, even_blank, last_rest, last_by, Cell, says, says_append)
     ]
 
 pub silent_frame : (mode : Mode) → IsMode mode → (f : Frame) (frames : List Frame) (ss rs : List Column) (e p : ℕ) (last : Bool) → e < p + sync_area mode + 11
     → rows_listed mode true ss rs e (p + sync_area mode + back_area mode) 0 f.rows ++ (frame_reported mode e last (p + frame_area mode) ++ frames_listed mode ss rs e last (p + frame_area mode) frames) ≡ []
-silent_frame mode ok f frames ss rs e p last lt =
-    let w = wide_back mode ok in
-    ap₂ (λ (xs ys : List Listed). xs ++ ys)
-    (none_listed mode true ss rs e (p + sync_area mode + back_area mode) 0 f.rows (omega (arith, ok.back_columns, lt)))
-    (ap₂ (λ (xs ys : List Listed). xs ++ ys) (reported_none mode e (p + frame_area mode) last (omega (arith, lt, w))) (frames_none mode ok ss rs e (p + frame_area mode) last frames (omega (arith, lt, w))))
+silent_frame mode ok f frames ss rs e p last lt = grind (arith, wide_back, none_listed, reported_none, frames_none)
 
 -- what is said of a frame's columns after its sync lines
 pub after_sync_lines : (mode : Mode) → IsMode mode → (f : Frame) → IsFrame mode f → (frames : List Frame) (ss rs : List Column) (e p : ℕ) (last : Bool) → e ≤ length ss → e ≤ length rs
@@ -271,11 +242,8 @@ nothing_said s = refl
 -- fewer than eleven columns of sync lines came
 few_say : (mode : Mode) (parts : List Part) (ss rs : List Column) (e p : ℕ) (last : Bool) → Begins mode.positive parts → e < p + 11 → (s : State) (c : Bool) (g : List ℕ) → Ready s (not mode.positive) c g
     → IsLast mode (seen ss rs e p parts) s last → says (seen ss rs e p parts) s ≡ pending e last p c g
-few_say mode parts ss rs e p last begins lt s c g was final =
-    elim (cases_lt e p) [
-      | inl less ↦ ap (λ (ts : List Cell). says ts s) (nothing_seen ss rs e p parts less) ∙ nothing_said s ∙ sym (pending_none e p last c g less)
-      | inr le ↦ seen_few mode.positive c g ss rs e p parts s begins lt was ∙ ap (λ (t : Bool). cond t (ends true c g) []) final ∙ sym (pending_last e p last c g le lt)
-    ]
+unfolding pending
+few_say mode parts ss rs e p last begins lt s c g was final = grind (arith, cases_lt, Cell, says, nothing_seen, nothing_said, pending_none, seen_few, ends, turns_last)
 
 final_say : (mode : Mode) (ss rs : List Column) (e p : ℕ) (last : Bool) (s : State) (c : Bool) (g : List ℕ) → Ready s (not mode.positive) c g → IsLast mode (seen ss rs e p (final_columns mode)) s last
     → says (seen ss rs e p (final_columns mode)) s ≡ pending e last p c g ++ []

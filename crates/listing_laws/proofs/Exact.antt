@@ -1,5 +1,6 @@
 -- A check is clean where it counts no fault, and faulty where it counts one.
-use Rattle.std.proofs.Common.{◌≡◌, ℕ, suc, zero, Bool, true, false, cond, not, List, [], ◌∷◌, ◌++◌, refl, ap, arith}
+use Rattle.std.proofs.lemmas.Grind.{common_steps}
+use Rattle.std.proofs.Common.{◌≡◌, ℕ, suc, zero, Bool, true, false, not, List, [], ◌∷◌, ◌++◌, refl, ap, arith}
 use Rattle.std.specs.Prelude.{count_by, codes}
 use Rattle.std.proofs.lemmas.List.Sums.{sum_by-cons}
 use Rattle.tmds_word.specs.Column.{Column}
@@ -11,18 +12,13 @@ use Rattle.link_laws.proofs.Rows.{and_both}
 use Rattle.link_laws.proofs.exact.Law.{check_is_exact}
 use Rattle.listing_writer.specs.Texts.{fault_lines}
 use Rattle.listing_writer.specs.Checks.{check_lines, verdict_line, check_text}
-use Rattle.listing_laws.specs.Exact.{EndsClean, EndsFaulty, CountIsExact, VerdictIsExact}
+use Rattle.listing_laws.specs.Exact.{EndsFaulty, CountIsExact, VerdictIsExact}
 
 -- The count.
 
 none_by : (q : Bool) (t : Event) (ts : List Event) → is_fault_event t ≡ q → count_by is_fault_event (t ∷ ts) ≡ 0 → (count_by is_fault_event ts ≡ 0 → faultless ts ≡ true) → faultless (t ∷ ts) ≡ true
-none_by true t ts e h ih =
-    let c = sum_by-cons (λ y. cond (is_fault_event y) 1 0) t ts in
-    let one : ◌≡◌ {A = ℕ} (cond (is_fault_event t) 1 0) 1 = ap (λ q. cond q 1 0) e in
-    absurd (omega arith)
-none_by false t ts e h ih =
-    let c = sum_by-cons (λ y. cond (is_fault_event y) 1 0) t ts in
-    and_both _ _ (ap not e) (ih (omega arith))
+none_by true t ts e h ih = grind (arith, common_steps, sum_by-cons)
+none_by false t ts e h ih = grind (arith, sum_by-cons, and_both)
 
 none_counted : (ts : List Event) → count_by is_fault_event ts ≡ 0 → faultless ts ≡ true
 none_counted [] h = refl
@@ -34,11 +30,7 @@ not_true false h = refl
 
 counts_none : (ts : List Event) → faultless ts ≡ true → count_by is_fault_event ts ≡ 0
 counts_none [] h = refl
-counts_none (t ∷ ts) h =
-    let c = sum_by-cons (λ y. cond (is_fault_event y) 1 0) t ts in
-    let none : ◌≡◌ {A = ℕ} (cond (is_fault_event t) 1 0) 0 = ap (λ q. cond q 1 0) (not_true (is_fault_event t) (and-left _ _ h)) in
-    let ih = counts_none ts (and-right (not (is_fault_event t)) _ h) in
-    omega arith
+counts_none (t ∷ ts) h = grind (arith, sum_by-cons, not_true, and-left, and-right, counts_none ts)
 
 pub count_is_exact : CountIsExact
 unfolding fault_lines
@@ -62,14 +54,6 @@ line_faulty : (n : ℕ) → (n ≡ 0 → ⊥) → verdict_line n ≡ codes "faul
 line_faulty zero h = absurd (h refl)
 line_faulty (suc n) h = refl
 
-ends_clean : (cs : List Column) → EndsClean cs → fault_lines (heard cs) ≡ 0
-unfolding check_text
-ends_clean cs h = clean_line (fault_lines (heard cs)) (after_same (check_lines (heard cs)) _ _ h)
-
-clean_ends : (cs : List Column) → fault_lines (heard cs) ≡ 0 → EndsClean cs
-unfolding check_text
-clean_ends cs h = ap (λ n. check_lines (heard cs) ++ verdict_line n) h
-
 ends_faulty : (cs : List Column) → EndsFaulty cs → fault_lines (heard cs) ≡ 0 → ⊥
 unfolding check_text
 ends_faulty cs h = faulty_line (fault_lines (heard cs)) (after_same (check_lines (heard cs)) _ _ h)
@@ -79,8 +63,5 @@ unfolding check_text
 faulty_ends cs h = ap (λ line. check_lines (heard cs) ++ line) (line_faulty (fault_lines (heard cs)) h)
 
 pub verdict_is_exact : VerdictIsExact
-verdict_is_exact cs =
-    let count = count_is_exact cs in (
-      (λ h. count.0 (ends_clean cs h), λ f. clean_ends cs (count.1 f)),
-      (λ h f. ends_faulty cs h (count.1 f), λ none. faulty_ends cs (λ h. none (count.0 h))),
-    )
+unfolding check_text
+verdict_is_exact cs = grind (arith, count_is_exact, ends_faulty, faulty_ends, clean_line, after_same)

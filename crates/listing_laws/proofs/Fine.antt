@@ -1,5 +1,5 @@
 -- Where damage is sparse no column is a third wrong one among eleven.
-use Rattle.std.proofs.Common.{◌≡◌, ℕ, zero, suc, ◌+◌, ◌-◌, ◌*◌, ◌/◌, ◌%◌, ◌≤◌, Bool, true, false, not, ◌&&◌, ◌||◌, cond, ◌==◌, List, [], ◌∷◌, ◌++◌, length, take, drop, refl, sym, ap, ap₂, subst, ◌∙◌, arith}
+use Rattle.std.proofs.Common.{◌≡◌, ℕ, zero, suc, ◌+◌, ◌-◌, ◌*◌, ◌/◌, ◌≤◌, Bool, true, false, not, ◌&&◌, ◌||◌, ◌==◌, List, [], ◌∷◌, ◌++◌, length, take, drop, refl, sym, ap, ap₂, subst, ◌∙◌, arith}
 use Rattle.std.specs.Prelude.{nat_lt}
 use Rattle.std.proofs.lemmas.Bool.{le-leb, leb-true, eqb-true}
 use Rattle.std.proofs.lemmas.List.{drop-drop}
@@ -9,7 +9,6 @@ use Rattle.terc4.specs.Tables.{control_words, value_in}
 use Rattle.terc4.specs.Columns.{one_if}
 use Rattle.island_pack.specs.Periods.{DataIsland, Pixel, pixels_of}
 use Rattle.island_pack.specs.Spelling.{control_column}
-use Rattle.link_laws.specs.Account.{pixel_bytes}
 use Rattle.island_pack.specs.Sparse.{unlike_words, AreFew}
 use Rattle.period_grammar.specs.Column.{control_bits, value_of}
 use Rattle.frame_build.specs.FrameEvent.{vsync_of}
@@ -61,20 +60,11 @@ window : (hs ys : List Bool) (j k : ℕ) → count (take j ys) + wrongs k hs ≤
 window hs ys j zero =
     let e : j ≡ j + 0 = omega arith in
     let d : length hs ≡ length hs - 0 = omega arith in
-    let s : count (take j ys) ≡ count (take (j + 0) (drop (length hs - 0) (onto hs ys))) =
-    ap (λ (zs : List Bool). count (take j zs)) (sym (drop_onto hs ys)) ∙ ap₂ (λ (n m : ℕ). count (take n (drop m (onto hs ys)))) e d in
-    omega (arith, s)
-window [] ys j (suc k) =
-    let d : 0 ≡ 0 - suc k = omega arith in
-    let h = more_counted j (suc k) ys in
-    subst (λ (n : ℕ). count (take j ys) + 0 ≤ count (take (j + suc k) (drop n ys))) d (omega (arith, h))
+    grind (arith, drop_onto)
+window [] ys j (suc k) = grind (arith, more_counted)
 window (h ∷ hs) ys j (suc k) =
     let i = window hs (h ∷ ys) (suc j) k in
-    let e : suc j + k ≡ j + suc k = omega arith in
-    let d : length hs - k ≡ length (h ∷ hs) - suc k = omega arith in
-    let q = subst (λ (n : ℕ). count (take (suc j) (h ∷ ys)) + wrongs k hs ≤ count (take n (drop (length (h ∷ hs) - suc k) (onto hs (h ∷ ys))))) e
-    (subst (λ (m : ℕ). count (take (suc j) (h ∷ ys)) + wrongs k hs ≤ count (take (suc j + k) (drop m (onto hs (h ∷ ys))))) d i) in
-    omega (arith, q)
+    grind (arith, wrongs)
 
 abbrev Windows : List Bool → Type 0
 Windows fs = (i : ℕ) → i + 11 ≤ length fs → count (take 11 (drop i fs)) ≤ 2
@@ -185,13 +175,6 @@ few_within rs hs h f =
     let l = leb-true (wrongs 10 hs) 1 f in
     le-leb (wrongs 10 rs) 1 (omega (arith, k, l))
 
--- VSYNC is that of the word of lane 0
-vsync_blue : (c : Column) → vsync_of (value_of c) ≡ vsync_of (control_bits c.blue)
-unfolding value_of
-vsync_blue c =
-    let e : ((control_bits c.blue + 4 * control_bits c.green) + 16 * control_bits c.red) / 2 % 2 ≡ control_bits c.blue / 2 % 2 = omega arith in
-    ap (λ (n : ℕ). n == 1) e
-
 pub value_test : passes_below 64 (λ v. value_of (control_column v) == v) ≡ true
 unfolding passes_below control_words value_in value_of control_bits
 value_test = refl
@@ -200,8 +183,8 @@ pub value_back : (v : ℕ) → nat_lt v 64 ≡ true → value_of (control_column
 value_back v h = eqb-true (value_of (control_column v)) v (passes_at 64 (λ v. value_of (control_column v) == v) v value_test (ltb-true v 64 h))
 
 same_level : (v : ℕ) (c : Column) → nat_lt v 64 ≡ true → (control_column v).blue ≡ c.blue → vsync_of (value_of c) ≡ vsync_of v
-same_level v c small e =
-    vsync_blue c ∙ ap (λ (w : ℕ). vsync_of (control_bits w)) (sym e) ∙ sym (vsync_blue (control_column v)) ∙ ap vsync_of (value_back v small)
+unfolding value_of
+same_level v c small e = grind (arith, value_back)
 
 record IsColumn (b l f : Bool) (rs hs : List Bool) : Type 0 where
   head : (same b l || few rs) ≡ true
@@ -209,23 +192,12 @@ record IsColumn (b l f : Bool) (rs hs : List Bool) : Type 0 where
 
 column_fine : (v : ℕ) (c : Column) (rs hs : List Bool) (t : Bool) → ((control_column v).blue == c.blue) ≡ t → nat_lt v 64 ≡ true → within rs hs ≡ true → (not (not t) || few hs) ≡ true
     → IsColumn (vsync_of v) (vsync_of (value_of c)) (not t) rs hs
-column_fine v c rs hs true e small h f =
-    let s : same (vsync_of v) (vsync_of (value_of c)) ≡ true = ap (same (vsync_of v)) (same_level v c small (eqb-true (control_column v).blue c.blue e)) ∙ same_self (vsync_of v) in
-    record { head = ap (λ (x : Bool). x || few rs) s; rest = ap₂ (λ (x y : Bool). (not (not x) || false) && y) s h }
-column_fine v c rs hs false e small h f =
-    record { head = or_right (same (vsync_of v) (vsync_of (value_of c))) (few rs) (few_within rs hs h f); rest = ap₂ (λ (x y : Bool). x && y) (or_right (not (not (same (vsync_of v) (vsync_of (value_of c))))) true refl) h }
-  where
-    or_right : (a b : Bool) → b ≡ true → (a || b) ≡ true
-    or_right true b k = refl
-    or_right false b k = k
+column_fine v c rs hs true e small h f = grind (arith, same, same_level, eqb-true, same_self, few)
+column_fine v c rs hs false e small h f = grind (arith, same, few, few_within)
 
 gap_first : (recent : List Bool) (cs : List Cell) → fine [] cs ≡ true → fine recent (parted ∷ cs) ≡ true
 unfolding fine
 gap_first recent cs h = h
-
-row_first : (bytes : List ℕ) (recent : List Bool) (cs : List Cell) → fine [] cs ≡ true → fine recent (pixels_cell bytes ∷ cs) ≡ true
-unfolding fine
-row_first bytes recent cs h = h
 
 pub row_first_cells : (bytes : List ℕ) (parts : List Part) (m : ℕ) (ss rs : List Column) → parts_cells m (pixels bytes ∷ parts) ss rs
     ≡ row_cells m (pixels_of bytes) (take (2 + length bytes / 3) ss) (take (2 + length bytes / 3) rs) ++ parts_cells (m - (2 + length bytes / 3)) parts (drop (2 + length bytes / 3) ss) (drop (2 + length bytes / 3) rs)
@@ -237,16 +209,8 @@ pub island_first_cells : (x : DataIsland) (parts : List Part) (m : ℕ) (ss rs :
 unfolding parts_cells part_cells
 island_first_cells x parts m ss rs = refl
 
-nothing_fine : (m : ℕ) (ss rs : List Column) (recent : List Bool) → fine recent (parts_cells m [] ss rs) ≡ true
-unfolding parts_cells fine
-nothing_fine m ss rs recent = refl
-
 abbrev IsFine : List Bool → List Part → ℕ → List Column → List Column → Type 0
 IsFine rs parts m sent received = fine rs (parts_cells m parts sent received) ≡ true
-
-none_fine : (rs : List Bool) (parts : List Part) (sent received : List Column) → IsFine rs parts 0 sent received
-unfolding fine
-none_fine rs parts sent received = ap (fine rs) (parts_none parts sent received)
 
 first_fine : (v : ℕ) (parts : List Part) (m : ℕ) (c : Column) (sent received : List Column) (rs hs : List Bool) → nat_lt v 64 ≡ true → within rs hs ≡ true
     → sparse hs (flags (control_column v ∷ sent) (c ∷ received)) ≡ true
@@ -262,24 +226,16 @@ first_fine v parts m c sent received rs hs small w h later =
 row_fine : (m : ℕ) (ps : List Pixel) (ss rs : List Column) (recent : List Bool) (cs : List Cell) → fine [] cs ≡ true → fine recent (row_cells (suc m) ps ss rs ++ cs) ≡ true
 unfolding fine
 row_fine zero ps ss rs recent cs h = h
-row_fine (suc i) ps ss rs recent cs h = by_test (nat_lt (length ps) i)
-  where
-    by_test : (t : Bool) → fine recent (cond t (pixels_cell (pixel_bytes ps (drop 2 ss) (drop 2 rs)) ∷ []) (parted ∷ []) ++ cs) ≡ true
-    by_test true = row_first (pixel_bytes ps (drop 2 ss) (drop 2 rs)) recent cs h
-    by_test false = gap_first recent cs h
+row_fine (suc i) ps ss rs recent cs h = grind (arith, fine, pixels_cell, parted, gap_first)
 
 island_fine : (m : ℕ) (recent : List Bool) (cs : List Cell) → fine [] cs ≡ true → fine recent (gap_cells (suc m) ++ cs) ≡ true
 island_fine m recent cs h = gap_first recent cs h
 
 cells_fine : (parts : List Part) (m : ℕ) (ss rs : List Column) → Arrived parts ss rs → (recent hs : List Bool) → within recent hs ≡ true → sparse hs (flags ss rs) ≡ true → IsFine recent parts m ss rs
-unfolding Arrived
-cells_fine parts zero ss rs a recent hs w h = none_fine recent parts ss rs
-cells_fine [] (suc m) ss rs a recent hs w h = nothing_fine (suc m) ss rs recent
-cells_fine (column v ∷ parts) (suc m) ss rs a recent hs w h =
-    subst (λ (xs : List Column). IsFine recent (column v ∷ parts) (suc m) ss xs) (sym a.4)
-    (subst (λ (xs : List Column). IsFine recent (column v ∷ parts) (suc m) xs (a.0 ∷ a.2)) (sym a.3)
-    (first_fine v parts m a.0 a.1 a.2 recent hs a.6 w (subst (λ (xs : List Column). sparse hs (flags xs (a.0 ∷ a.2)) ≡ true) a.3 (subst (λ (xs : List Column). sparse hs (flags ss xs) ≡ true) a.4 h))
-    (λ ts gs w2 h2. cells_fine parts m a.1 a.2 a.7 ts gs w2 h2)))
+unfolding Arrived parts_cells fine
+cells_fine parts zero ss rs a recent hs w h = grind (arith, fine, parts_none)
+cells_fine [] (suc m) ss rs a recent hs w h = grind arith
+cells_fine (column v ∷ parts) (suc m) ss rs a recent hs w h = grind (arith, first_fine, cells_fine parts m)
 cells_fine (pixels bytes ∷ parts) (suc m) ss rs a recent hs w h =
     let n = 2 + length bytes / 3 in
     let s = sparse_on n ss rs (record { before = hs; sparse_after = h }) in

@@ -111,14 +111,10 @@ pub where_both : (b : Bool) (xs ys : List Part) (rest : List Kind) (i : ℕ) →
 where_both b xs ys rest i mute (inl h) later = inl (found_front b xs ys i h mute)
 where_both b xs ys rest i mute (inr h) later = after b xs ys rest i h.at h.place (later h.at h.ends)
 
-none_size : (i : ℕ) → i ≡ size [] + i
-unfolding size
-none_size i = omega arith
-
 pub lines_ends : (mode : Mode) → IsMode mode → (v : Bool) (lines : List Line) → AreLines v lines → (ps : List Packet) (rest : List Kind) (i : ℕ) → kind_at rest 0 ≡ control_column
     → EndsAt (kinds (laid mode lines ps) ++ rest) i → Where (level mode.positive v) (laid mode lines ps) rest i
-unfolding laid kinds
-lines_ends mode ok v [] are ps rest i starts h = inr (record { at = i; place = none_size i; ends = h })
+unfolding laid kinds size
+lines_ends mode ok v [] are ps rest i starts h = grind arith
 lines_ends mode ok v (line ∷ lines) are ps rest i starts h =
     let b = level mode.positive v in
     let more = laid mode lines (drop (room mode line) ps) in

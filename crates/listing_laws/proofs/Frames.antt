@@ -35,9 +35,7 @@ wide mode ok = omega (arith, ok.back_columns)
 pub begins_blank : (mode : Mode) → IsMode mode → (v : Bool) (n : ℕ) (ps : List Packet) → 1 ≤ n → Begins (level mode.positive v) (laid mode (replicate n (blank v)) ps)
 unfolding laid
 begins_blank mode ok v zero ps some = absurd (omega arith)
-begins_blank mode ok v (suc n) ps some =
-    begins_more (level mode.positive v) (until mode (blank v) (take (room mode (blank v)) ps) (total mode.across)) (laid mode (replicate n (blank v)) (drop (room mode (blank v)) ps))
-    (begins_until mode (blank v) (take (room mode (blank v)) ps) (total mode.across) (wide mode ok))
+begins_blank mode ok v (suc n) ps some = grind (arith, begins_more, begins_until, wide)
 
 -- Parts of one level after the other.
 
@@ -99,11 +97,7 @@ none_listed mode c ss rs e p y (row ∷ rows) le =
 seen_laid : (mode : Mode) (line : Line) (lines : List Line) (ps : List Packet) (ss rs : List Column) (e p q : ℕ) → p + size (whole mode line (take (room mode line) ps) line.row) ≡ q
     → seen ss rs e p (laid mode (line ∷ lines) ps)
     ≡ seen ss rs e p (whole mode line (take (room mode line) ps) line.row) ++ seen ss rs e q (laid mode lines (drop (room mode line) ps))
-seen_laid mode line lines ps ss rs e p q place =
-    let first = whole mode line (take (room mode line) ps) line.row in
-    ap (λ (parts : List Part). seen ss rs e p parts) (laid_more mode line lines ps)
-    ∙ seen_append ss rs e p first (laid mode lines (drop (room mode line) ps))
-    ∙ ap (λ (k : ℕ). seen ss rs e p first ++ seen ss rs e k (laid mode lines (drop (room mode line) ps))) place
+seen_laid mode line lines ps ss rs e p q place = grind (arith, seen, laid_more, seen_append)
 
 seen_none : (mode : Mode) (ps : List Packet) (ss rs : List Column) (e p : ℕ) → seen ss rs e p (laid mode [] ps) ≡ []
 unfolding seen laid parts_cells
@@ -126,14 +120,6 @@ pub record IsRows (ts : List Cell) (s : State) (b c : Bool) (lines : List Listed
   pub group_after : List ℕ
   pub ready : Ready (after ts s) b c group_after
   pub grown : whole → group_after ≡ g
-
-says_none : (s : State) → says [] s ≡ []
-unfolding says
-says_none s = refl
-
-after_none : (s : State) → after [] s ≡ s
-unfolding after
-after_none s = refl
 
 listed_none : (mode : Mode) (c : Bool) (ss rs : List Column) (e p y : ℕ) → rows_listed mode c ss rs e p y [] ≡ []
 unfolding rows_listed
@@ -160,15 +146,7 @@ row_more mode ok row rows long ps ss rs e p ends_sent ends_received s c y few wa
     let first = seen ss rs e p here in
     let r = row_seen mode ok row long ps ss rs e p lt ends_sent ends_received s c y few was in
     let k = later (after first s) r.ready in
-    let back = seen ss rs e (p + total mode.across) (laid mode (row_lines_of rows) (drop (room mode (row_line row)) ps)) in
-    let sum : suc y + length rows ≡ y + length (row ∷ rows) = omega arith in
-    let t = more_times (length rows) (total mode.across) in
-    record {
-      listed = ap (λ (ts : List Cell). says ts s) split ∙ says_append first back s ∙ ap₂ (λ (xs ys : List Listed). xs ++ ys) r.listed k.listed ∙ sym (listed_row mode c ss rs e p y row rows lt);
-      group_after = k.group_after;
-      ready = subst (λ (x : State). Ready x b c k.group_after) (sym (ap (λ (ts : List Cell). after ts s) split ∙ after_append first back s)) k.ready;
-      grown = λ h. k.grown (omega (arith, h, t)) ∙ ap (λ (i : ℕ). replicate i (active mode.across)) sum;
-    }
+    grind (arith, seen, more_times, Cell, says, says_append, listed_row, State, Ready, after, after_append)
 
 -- the next row did not come, and so none after it
 row_none : (mode : Mode) → IsMode mode → (row : List ℕ) (rows : List (List ℕ)) → AreRows (active mode.across) (row ∷ rows) → (ps : List Packet) (ss rs : List Column) (e p : ℕ)
@@ -176,26 +154,13 @@ row_none : (mode : Mode) → IsMode mode → (row : List ℕ) (rows : List (List
     → IsRows (seen ss rs e p (laid mode (row_lines_of (row ∷ rows)) ps)) s (not mode.positive) c (rows_listed mode c ss rs e p y (row ∷ rows)) (replicate (y + length (row ∷ rows)) (active mode.across)) (p + length (row ∷ rows) * total mode.across ≤ e)
 row_none mode ok row rows are ps ss rs e p s c y was le =
     let k = quiet (not mode.positive) c (replicate y (active mode.across)) (seen ss rs e p (laid mode (row_lines_of (row ∷ rows)) ps)) s (rows_flat mode ok (row ∷ rows) are ps ss rs e p le) was in
-    let t = more_times (length rows) (total mode.across) in
-    record {
-      listed = k.nothing ∙ sym (none_listed mode c ss rs e p y (row ∷ rows) le);
-      group_after = replicate y (active mode.across);
-      ready = k.ready;
-      grown = λ h. absurd (omega (arith, h, t, le, ok.front_columns));
-    }
+    grind (arith, more_times, none_listed)
 
 pub rows_say : (mode : Mode) → IsMode mode → (rows : List (List ℕ)) → AreRows (active mode.across) rows → (ps : List Packet) (ss rs : List Column) (e p : ℕ)
     → e ≤ length ss → e ≤ length rs → (s : State) (c : Bool) (y : ℕ) → y + length rows ≤ 4096 → Ready s (not mode.positive) c (replicate y (active mode.across))
     → IsRows (seen ss rs e p (laid mode (row_lines_of rows) ps)) s (not mode.positive) c (rows_listed mode c ss rs e p y rows) (replicate (y + length rows) (active mode.across)) (p + length rows * total mode.across ≤ e)
-rows_say mode ok [] are ps ss rs e p ends_sent ends_received s c y few was =
-    let none = seen_none mode ps ss rs e p in
-    let n : y ≡ y + 0 = omega arith in
-    record {
-      listed = ap (λ (ts : List Cell). says ts s) none ∙ says_none s ∙ sym (listed_none mode c ss rs e p y);
-      group_after = replicate y (active mode.across);
-      ready = subst (λ (x : State). Ready x (not mode.positive) c (replicate y (active mode.across))) (sym (ap (λ (ts : List Cell). after ts s) none ∙ after_none s)) was;
-      grown = λ h. ap (λ (k : ℕ). replicate k (active mode.across)) n;
-    }
+unfolding says after
+rows_say mode ok [] are ps ss rs e p ends_sent ends_received s c y few was = grind (arith, seen_none, Cell, says, listed_none, State, Ready, after)
 rows_say mode ok (row ∷ rows) are ps ss rs e p ends_sent ends_received s c y few was =
     elim (cases_lt (p + row_end mode) e) [
       | inl lt ↦ row_more mode ok row rows (long_row (active mode.across) row rows are) ps ss rs e p ends_sent ends_received s c y (omega (arith, few)) was lt

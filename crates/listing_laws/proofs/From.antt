@@ -1,5 +1,5 @@
 -- What is listed of a raster from twelve columns before the end of any of its control periods on.
-use Rattle.std.proofs.Common.{◌≡◌, ℕ, zero, suc, ◌+◌, ◌-◌, ◌*◌, ◌<◌, ◌≤◌, Bool, true, false, not, cond, ◌==◌, List, [], ◌∷◌, ◌++◌, map, length, drop, replicate, refl, sym, ap, ap₂, subst, ◌∙◌, append_assoc, append-nil, arith, inl, inr}
+use Rattle.std.proofs.Common.{◌≡◌, ℕ, zero, suc, ◌+◌, ◌-◌, ◌*◌, ◌<◌, ◌≤◌, Bool, true, false, not, cond, List, [], ◌∷◌, ◌++◌, map, length, drop, replicate, refl, sym, ap, ap₂, subst, ◌∙◌, append_assoc, append-nil, arith, inl, inr}
 use Rattle.std.specs.Prelude.{nat_lt}
 use Rattle.std.proofs.lemmas.Bool.{lt-ltb, le-ltb, cases_lt}
 use Rattle.tmds_word.proofs.Below.{and-right}
@@ -10,9 +10,8 @@ use Rattle.link_laws.proofs.Shapes.{ends_alone}
 use Rattle.link_laws.specs.Account.{account}
 use Rattle.source_end.specs.declared.mode.Mode.{Mode}
 use Rattle.source_end.specs.Content.{Frame}
-use Rattle.source_end.specs.Raster.{Line, Part, column, sync, back, active, front, total, laid, blank, parts_of, gathered, raster_of}
+use Rattle.source_end.specs.Raster.{Line, Part, column, sync, back, active, front, laid, blank, parts_of, gathered, raster_of}
 use Rattle.source_end.specs.Gathering.{size}
-use Rattle.source_end.specs.Lines.{left}
 use Rattle.source_end.proofs.Gathered.{size_append, size_same}
 use Rattle.source_end.proofs.RasterModes.{IsMode, AreRows, IsFrame, AreFrames}
 use Rattle.source_end.proofs.RasterSizes.{laid_append, size_blank, size_rows, long_row, sync_part, after_sync, back_part, after_back, rows_part, front_part, parts_none, parts_more}
@@ -118,11 +117,7 @@ no_frames mode ss rs a e p last = refl
 
 no_pending : (e p : ℕ) (last : Bool) (g : List ℕ) → pending e last p false g ≡ []
 unfolding pending
-no_pending e p last g = by_test (turns e last p) g
-  where
-    by_test : (t : Bool) (g : List ℕ) → cond t (ends true false g) [] ≡ []
-    by_test true g = refl
-    by_test false g = refl
+no_pending e p last g = grind (arith, turns, ends)
 
 -- Where it begins.
 
@@ -156,9 +151,7 @@ low_is mode f =
 
 rows_are_lines : (mode : Mode) → IsMode mode → (rows : List (List ℕ)) → AreRows (active mode.across) rows → AreLines false (row_lines_of rows)
 rows_are_lines mode ok [] are = tt
-rows_are_lines mode ok (row ∷ rows) are =
-    let l = long_row (active mode.across) row rows are in
-    (inr (row, refl, omega (arith, l, ok.active_columns)), rows_are_lines mode ok rows (and-right (length row == 3 * active mode.across) _ are))
+rows_are_lines mode ok (row ∷ rows) are = grind (arith, long_row, and-right, rows_are_lines mode ok rows)
 
 low_are : (mode : Mode) → IsMode mode → (f : Frame) → IsFrame mode f → AreLines false (low_lines mode f)
 low_are mode ok f good =
@@ -168,26 +161,13 @@ low_are mode ok f good =
 size_low : (mode : Mode) → IsMode mode → (f : Frame) → IsFrame mode f → size (low_part mode f) ≡ back_area mode + active_area mode + front_area mode
 size_low mode ok f good =
     let a = size_append (back_part mode f) (rows_part mode f ++ front_part mode f) in
-    let c = size_append (rows_part mode f) (front_part mode f) in
-    let d = size_blank mode false (back mode.down) (after_sync mode f) in
-    let g = size_rows mode ok f.rows good.rows (after_back mode f) in
-    let h = size_blank mode false (front mode.down) (left mode (row_lines_of f.rows) (after_back mode f)) in
-    let area : length f.rows * total mode.across ≡ active_area mode = ap (λ (n : ℕ). n * total mode.across) good.count in
-    ap size (low_is mode f) ∙ omega (arith, a, c, d, g, h, area)
+    grind (arith, size_append, rows_part, front_part, size_blank, after_sync, size_rows, after_back, row_lines_of, active_area, low_is)
 
 frame_parts : (mode : Mode) (f : Frame) (frames : List Frame) → parts_of mode (f ∷ frames) ≡ sync_part mode f ++ (low_part mode f ++ parts_of mode frames)
-frame_parts mode f frames =
-    parts_more mode f frames
-    ∙ ap (λ (ps : List Part). sync_part mode f ++ ps)
-    (ap (λ (ps : List Part). back_part mode f ++ ps) (sym (append_assoc (rows_part mode f) (front_part mode f) (parts_of mode frames)))
-    ∙ sym (append_assoc (back_part mode f) (rows_part mode f ++ front_part mode f) (parts_of mode frames))
-    ∙ ap (λ (ps : List Part). ps ++ parts_of mode frames) (sym (low_is mode f)))
+frame_parts mode f frames = grind (arith, parts_more, sync_part, back_part, append_assoc, rows_part, front_part, low_is)
 
 low_more : (mode : Mode) (f : Frame) (frames : List Frame) → low_part mode f ++ parts_of mode frames ≡ back_part mode f ++ (rows_part mode f ++ (front_part mode f ++ parts_of mode frames))
-low_more mode f frames =
-    ap (λ (ps : List Part). ps ++ parts_of mode frames) (low_is mode f)
-    ∙ append_assoc (back_part mode f) (rows_part mode f ++ front_part mode f) (parts_of mode frames)
-    ∙ ap (λ (ps : List Part). back_part mode f ++ ps) (append_assoc (rows_part mode f) (front_part mode f) (parts_of mode frames))
+low_more mode f frames = grind (arith, low_is, append_assoc, back_part, rows_part, front_part)
 
 pub size_mid : (b : Bool) (parts : List Part) → Begins b parts → 11 ≤ size parts
 size_mid b parts h = let e = ap size h.are in let s = size_append (map column h.values) h.rest in let v = size_values h.values in omega (arith, e, s, v, h.long)
@@ -235,10 +215,7 @@ in_low mode ok f good frames are i at place h =
     record {
       front = sync_part mode f ++ h.front;
       mid = h.mid ++ more;
-      are = frame_parts mode f frames
-          ∙ ap (λ (ps : List Part). sync_part mode f ++ (ps ++ more)) h.are
-          ∙ ap (λ (ps : List Part). sync_part mode f ++ ps) (append_assoc h.front h.mid more)
-          ∙ sym (append_assoc (sync_part mode f) h.front (h.mid ++ more));
+      are = grind (arith, frame_parts, sync_part, append_assoc);
       place = omega (arith, r, place, h.place);
       b = not mode.positive;
       begins = begins_more (not mode.positive) h.mid more h.begins;
@@ -270,16 +247,8 @@ in_later mode ok f good frames i at place h =
       place = omega (arith, r, s, place, h.place);
       b = h.b;
       begins = h.begins;
-      sync_start =
-          let d : size (before ++ h.front) - frame_area mode ≡ size h.front = omega (arith, r, s, n, m) in
-          ((λ lt. absurd (omega (arith, r, s, n, m, lt))), λ le. subst (λ (k : ℕ). StartsSync mode frames k h.mid) (sym d) h.sync_start);
-      says_all = λ ss rs e p last sent received final.
-          let start = p + size (before ++ h.front) in
-          let e1 : start ≡ (p + frame_area mode) + size h.front = omega (arith, r, s, n, m) in
-          let le : p + sync_area mode ≤ start = omega (arith, r, s, n) in
-          ap (λ (k : ℕ). says (seen ss rs e k h.mid) fresh) e1 ∙ h.says_all ss rs e (p + frame_area mode) last sent received (last_by mode _ _ fresh last (ap (λ (k : ℕ). seen ss rs e k h.mid) e1) final)
-          ∙ ap (λ (k : ℕ). frames_from mode ss rs k e last (p + frame_area mode) frames) (sym e1)
-          ∙ sym (uncounted mode f frames ss rs start e p last le);
+      sync_start = grind (arith, frame_area);
+      says_all = grind (arith, frame_area, sync_area, says, seen, fresh, last_by, uncounted);
     }
 
 -- in the columns after the last frame
@@ -343,23 +312,10 @@ starts_at mode ok (f ∷ frames) are i h =
       ]
     ]
 
-seen_start : (ss rs : List Column) (a m : ℕ) (parts : List Part) → seen ss rs (a + m) a parts ≡ parts_cells m parts (drop a ss) (drop a rs)
-unfolding seen
-seen_start ss rs a m parts =
-    let e : (a + m) - a ≡ m = omega arith in
-    ap (λ (k : ℕ). parts_cells k parts (drop a ss) (drop a rs)) e
-
 account_says : (front mid : List Part) (v : ℕ) (back : List Part) → mid ≡ column v ∷ back → (ss rs : List Column) (a m : ℕ) → size front ≡ a → a + m ≤ length rs → fine [] (seen ss rs (a + m) a mid) ≡ true
     → listed_from [] (account (gathered (front ++ mid)) ss rs a m) ≡ says (seen ss rs (a + m) a mid) fresh
-account_says front mid v back is ss rs a m place le ok =
-    let n : size front + m ≤ length rs = omega (arith, place, le) in
-    let cells : seen ss rs (a + m) a mid ≡ parts_cells m (column v ∷ back) (drop (size front) ss) (drop (size front) rs) =
-    ap (λ (ps : List Part). seen ss rs (a + m) a ps) is ∙ seen_start ss rs a m (column v ∷ back) ∙ ap (λ (k : ℕ). parts_cells m (column v ∷ back) (drop k ss) (drop k rs)) (sym place) in
-    ap₂ (λ (ps : List Part) (k : ℕ). listed_from [] (account (gathered (front ++ ps)) ss rs k m)) is (sym place)
-    ∙ listed_ticks (account (gathered (front ++ (column v ∷ back))) ss rs (size front) m)
-    ∙ all_say (ticks (account (gathered (front ++ (column v ∷ back))) ss rs (size front) m)) (parts_cells m (column v ∷ back) (drop (size front) ss) (drop (size front) rs))
-    (account_hears front back v m ss rs n) (subst (λ (cs : List Cell). fine [] cs ≡ true) cells ok)
-    ∙ ap (λ (ts : List Cell). says ts fresh) (sym cells)
+unfolding seen
+account_says front mid v back is ss rs a m place le ok = grind (arith, seen, parts_cells, listed_ticks, all_say, ticks, account_hears, Cell, fine, says)
 
 -- what is listed of the account of a raster
 pub frames_listed_from : (mode : Mode) (frames : List Frame) (i : ℕ) (h : StartsAt mode frames i) (sent received : List Column) (a m : ℕ) → size h.front ≡ a → a + m ≤ length sent → a + m ≤ length received

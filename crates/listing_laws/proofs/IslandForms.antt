@@ -1,5 +1,6 @@
 -- The lines of a data island: they have no line feed, and the reader sees their forms.
-use Rattle.std.proofs.Common.{◌≡◌, ℕ, zero, suc, ◌+◌, ◌-◌, ◌*◌, ◌<◌, Bool, true, false, not, ◌&&◌, ◌==◌, List, [], ◌∷◌, ◌++◌, map, length, take, drop, refl, ap, ap₂, sym, ◌∙◌, arith, append_assoc, take_at, take_all, length-append}
+use Rattle.std.proofs.lemmas.Grind.{common_steps}
+use Rattle.std.proofs.Common.{◌≡◌, ℕ, zero, suc, ◌+◌, ◌-◌, ◌*◌, ◌<◌, Bool, true, false, not, ◌==◌, List, [], ◌∷◌, ◌++◌, map, length, take, drop, refl, ap, ap₂, sym, ◌∙◌, arith, append_assoc, take_at, take_all, length-append}
 use Rattle.std.specs.Prelude.{slice_index, nat_lt}
 use Rattle.std.specs.List.{list_all}
 use Rattle.std.proofs.lemmas.Bool.{eqb-true}
@@ -70,12 +71,8 @@ after : (xs rest : List ℕ) (n m : ℕ) → length xs ≡ n → m ≡ n + 1 →
 after xs rest n m size e =
     ap (λ (k : ℕ). drop k (xs ++ 32 ∷ rest)) e ∙ sym (drop-drop 1 n (xs ++ 32 ∷ rest)) ∙ ap (drop 1) (drop_at xs (32 ∷ rest) n size)
 
-space_at : (xs rest : List ℕ) (n : ℕ) → length xs ≡ n → (slice_index (xs ++ 32 ∷ rest) n == 32) ≡ true
-space_at xs rest n size = ap (λ (c : ℕ). c == 32) (get_or_at xs 32 rest 0 n size)
-
 space_after : (t rest xs : List ℕ) (k n m : ℕ) → drop k t ≡ xs ++ 32 ∷ rest → length xs ≡ n → m ≡ k + n → (slice_index t m == 32) ≡ true
-space_after t rest xs k n m e size sum =
-    ap (λ (j : ℕ). slice_index t j == 32) sum ∙ ap (λ (c : ℕ). c == 32) (sym (get_or-drop k t n 0)) ∙ ap (λ (u : List ℕ). slice_index u n == 32) e ∙ space_at xs rest n size
+space_after t rest xs k n m e size sum = grind (arith, get_or-drop, get_or_at)
 
 record Parts (t h a b c d y : List ℕ) : Type 0 where
   pub size : length t ≡ 99
@@ -134,24 +131,7 @@ record IsSound (p : Packet) : Type 0 where
 
 sound : (p : Packet) → is_packet p ≡ true → IsSound p
 unfolding is_packet
-sound p h =
-    let a = list_all (λ b. nat_lt b 256) p.header in
-    let b = list_all (λ b. nat_lt b 256) p.bodies in
-    let c = list_all (λ v. nat_lt v 4) p.sync in
-    let x : Bool = (length p.header == 3) && a in
-    let y : Bool = (length p.bodies == 28) && b in
-    let z : Bool = (length p.sync == 32) && c in
-    let hx : x ≡ true = and-left x (y && z) h in
-    let hy : y ≡ true = and-left y z (and-right x (y && z) h) in
-    let hz : z ≡ true = and-right y z (and-right x (y && z) h) in
-    record {
-      header = eqb-true (length p.header) 3 (and-left (length p.header == 3) a hx);
-      header_bytes = bytes_from p.header (and-right (length p.header == 3) a hx);
-      bodies = eqb-true (length p.bodies) 28 (and-left (length p.bodies == 28) b hy);
-      body_bytes = bytes_from p.bodies (and-right (length p.bodies == 28) b hy);
-      sync = eqb-true (length p.sync) 32 (and-left (length p.sync == 32) c hz);
-      values = and-right (length p.sync == 32) c hz;
-    }
+sound p h = grind (arith, and-left, and-right, eqb-true, bytes_from)
 
 bytes_drop : (k : ℕ) (xs : List ℕ) → IsBytes xs → IsBytes (drop k xs)
 bytes_drop k xs h i = let e = get_or-drop k xs i 0 in let below = h (k + i) in omega arith
@@ -166,10 +146,7 @@ body_bytes : (p : Packet) (b : ℕ) → IsBytes p.bodies → IsBytes (body_of p 
 body_bytes p b h = bytes_take 7 (drop (7 * b) p.bodies) (bytes_drop (7 * b) p.bodies h)
 
 body_digits : (p : Packet) (b : ℕ) → length p.bodies ≡ 28 → b < 4 → length (encode_lower (body_of p b)) ≡ 14
-body_digits p b size less =
-    let digits = length-encode_with lower_digits (body_of p b) in
-    let seven = body_room p.bodies b 7 size less refl in
-    omega arith
+body_digits p b size less = grind (arith, common_steps, length-encode_with, body_room)
 
 values_digits : (vs : List ℕ) → list_all (λ v. nat_lt v 4) vs ≡ true → list_all is_digit (map (λ v. 48 + v) vs) ≡ true
 values_digits [] h = refl
@@ -233,17 +210,9 @@ packet_seen p h =
     let e : nat_lt 32768 (length (packet_body p)) ≡ false = ap (nat_lt 32768) (packet_length p h) in
     rw e (packet_read p (sound p h))
 
-joined_feedless : (xs ys : List ℕ) → is_feedless xs ≡ true → is_feedless ys ≡ true → is_feedless (xs ++ 32 ∷ ys) ≡ true
-joined_feedless xs ys h k = list_all-append (λ c. not (c == 10)) xs (32 ∷ ys) ∙ both _ _ h k
-
 nested_feedless : (h a b c d y : List ℕ) → is_feedless h ≡ true → is_feedless a ≡ true → is_feedless b ≡ true → is_feedless c ≡ true → is_feedless d ≡ true → is_feedless y ≡ true
     → is_feedless (h ++ (32 ∷ (a ++ (32 ∷ (b ++ (32 ∷ (c ++ (32 ∷ (d ++ (32 ∷ y)))))))))) ≡ true
-nested_feedless h a b c d y fh fa fb fc fd fy =
-    let n4 : List ℕ = d ++ (32 ∷ y) in
-    let n3 : List ℕ = c ++ (32 ∷ n4) in
-    let n2 : List ℕ = b ++ (32 ∷ n3) in
-    let n1 : List ℕ = a ++ (32 ∷ n2) in
-    joined_feedless h n1 fh (joined_feedless a n2 fa (joined_feedless b n3 fb (joined_feedless c n4 fc (joined_feedless d y fd fy))))
+nested_feedless h a b c d y fh fa fb fc fd fy = grind (arith, list_all-append, both)
 
 pub packet_feedless : (p : Packet) → is_packet p ≡ true → is_feedless (packet_body p) ≡ true
 unfolding sync_digits

@@ -1,5 +1,5 @@
 -- The text of a data island, read from a line on.
-use Rattle.std.proofs.Common.{◌≡◌, ℕ, ◌+◌, ◌*◌, ◌<◌, ◌≤◌, true, not, ◌&&◌, List, [], ◌∷◌, ◌++◌, length, refl, ap, sym, subst, ◌∙◌, arith, append_assoc, append-nil, length-append}
+use Rattle.std.proofs.Common.{◌≡◌, ℕ, ◌+◌, ◌*◌, ◌<◌, ◌≤◌, true, not, ◌&&◌, List, [], ◌∷◌, ◌++◌, length, refl, ap, ◌∙◌, arith, append_assoc, append-nil, length-append}
 use Rattle.std.specs.Prelude.{Some, None, nat_le, nat_lt}
 use Rattle.std.specs.List.{list_all}
 use Rattle.island_pack.specs.Periods.{SyncPair, DataIsland, Period, island, columns_of}
@@ -37,17 +37,7 @@ record IsIsland (x : DataIsland) : Type 0 where
 
 island_is : (x : DataIsland) → is_data_island x ≡ true → IsIsland x
 unfolding is_data_island
-island_is x h =
-    let a = is_sync_pair x.opening in
-    let b = is_sync_pair x.closing in
-    let c = list_all is_packet x.packets in
-    let d = nat_le 1 (length x.packets) && nat_le (length x.packets) 18 in
-    record {
-      opening = and-left a b (and-left (a && b) (c && d) h);
-      closing = and-right a b (and-left (a && b) (c && d) h);
-      packets = and-left c d (and-right (a && b) (c && d) h);
-      count = and-right c d (and-right (a && b) (c && d) h);
-    }
+island_is x h = grind (arith, and-left, and-right)
 
 first_below : (pair : SyncPair) → is_sync_pair pair ≡ true → pair.first < 4
 first_below pair h = below-from pair.first 4 (and-left (nat_lt pair.first 4) (nat_lt pair.second 4) h)
@@ -105,10 +95,7 @@ read_packets : (ps : List Period) (opening : SyncPair) (done packets all : List 
     → ((m to : ℕ) → to ≤ 14 * (columns_of ps + (2 + 32 * length all)) → read_lines link_step m to (within ps opening all) (pieces_of rest) ≡ goal)
     → read_lines link_step n at (within ps opening done) (pieces_of (packet_lines packets ++ rest)) ≡ goal
 unfolding packet_lines
-read_packets ps opening done [] all n at rest goal every is room few before after =
-    let same : done ≡ all = sym (append-nil done) ∙ is in
-    let to : at ≤ 14 * (columns_of ps + (2 + 32 * length all)) = subst (λ (qs : List Packet). at ≤ 14 * (columns_of ps + (2 + 32 * length qs))) same before in
-    ap (λ (qs : List Packet). read_lines link_step n at (within ps opening qs) (pieces_of rest)) same ∙ after n at to
+read_packets ps opening done [] all n at rest goal every is room few before after = grind (arith, append-nil)
 read_packets ps opening done (p ∷ packets) all n at rest goal every is room few before after =
     let packet : is_packet p ≡ true = and-left (is_packet p) (list_all is_packet packets) every in
     let later : list_all is_packet packets ≡ true = and-right (is_packet p) (list_all is_packet packets) every in

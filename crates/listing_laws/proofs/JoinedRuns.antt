@@ -1,12 +1,12 @@
 -- Periods whose neighbouring runs of one value are joined: they conform, and the same columns spell them.
-use Rattle.std.proofs.Common.{◌≡◌, ℕ, suc, ◌+◌, true, false, Bool, List, [], ◌∷◌, length, map, refl, ap, ap₂, sym, ◌∙◌, arith}
-use Rattle.std.specs.Prelude.{nat_lt, nat_le}
+use Rattle.std.proofs.Common.{◌≡◌, ℕ, ◌+◌, true, false, Bool, List, [], ◌∷◌, length, map, refl, ap, ap₂, sym, ◌∙◌, arith}
+use Rattle.std.specs.Prelude.{nat_lt}
 use Rattle.std.specs.List.{list_all}
 use Rattle.std.proofs.lemmas.Bool.{le-leb}
 use Rattle.tmds_word.specs.Column.{Column}
 use Rattle.tmds_word.proofs.Below.{and-left, and-right}
-use Rattle.island_pack.specs.Periods.{ControlRun, Period, control, video, island, values_of, has_preamble, VIDEO_PREAMBLE, ISLAND_PREAMBLE, period_columns, columns_of}
-use Rattle.island_pack.specs.Conforming.{is_run, is_control_period, is_video_period, is_data_island, conforms}
+use Rattle.island_pack.specs.Periods.{ControlRun, Period, control, video, island, values_of, has_preamble, period_columns, columns_of}
+use Rattle.island_pack.specs.Conforming.{is_run, is_control_period, conforms}
 use Rattle.island_pack.specs.Spelling.{control_column, SpellsPeriod, Spells}
 use Rattle.island_pack.specs.Runs.{joined, join, longest}
 use Rattle.island_pack.proofs.Runs.{values_longest}
@@ -24,11 +24,8 @@ joined_periods periods = map joined_period periods
 
 -- ---- they conform
 
-longer_run : (r : ControlRun) → is_run r ≡ true → is_run (record { value = r.value; count = suc r.count }) ≡ true
-longer_run r h = and_both _ _ (and-left (nat_lt r.value 64) _ h) (le-leb 1 (suc r.count) (omega arith))
-
 joined_runs : (same : Bool) (v : ℕ) (r : ControlRun) (rs : List ControlRun) → nat_lt v 64 ≡ true → list_all is_run (r ∷ rs) ≡ true → list_all is_run (joined same v r rs) ≡ true
-joined_runs true v r rs small h = and_both _ _ (longer_run r (and-left (is_run r) _ h)) (and-right (is_run r) _ h)
+joined_runs true v r rs small h = grind (arith, and_both, and-left, and-right, le-leb)
 joined_runs false v r rs small h = and_both _ _ (and_both _ _ small refl) h
 
 join_runs : (v : ℕ) (rs : List ControlRun) → nat_lt v 64 ≡ true → list_all is_run rs ≡ true → list_all is_run (join v rs) ≡ true
@@ -42,10 +39,7 @@ longest_runs (v ∷ vs) small = join_runs v (longest vs) (and-left (nat_lt v 64)
 
 joined_control : (runs : List ControlRun) → is_control_period runs ≡ true → is_control_period (longest (values_of runs)) ≡ true
 unfolding is_control_period
-joined_control runs h =
-    let vs = values_of runs in
-    let is = is_control_of runs h in
-    and_both _ _ (longest_runs vs is.small) (ap (λ (us : List ℕ). nat_le 12 (length us)) (values_longest vs) ∙ le-leb 12 (length vs) is.long)
+joined_control runs h = grind (arith, is_control_of, and_both, longest_runs, values_longest, le-leb)
 
 joined_preamble : (bits : ℕ) (runs : List ControlRun) → has_preamble bits (values_of runs) ≡ true → has_preamble bits (values_of (longest (values_of runs))) ≡ true
 joined_preamble bits runs h = ap (has_preamble bits) (values_longest (values_of runs)) ∙ h
@@ -57,20 +51,8 @@ joined_conform (video bytes ∷ rest) h = h
 joined_conform (island x ∷ rest) h = h
 joined_conform (control runs ∷ []) h = joined_control runs h
 joined_conform (control runs ∷ (control more ∷ rest)) h = h
-joined_conform (control runs ∷ (video bytes ∷ rest)) h =
-    let led = has_preamble VIDEO_PREAMBLE (values_of runs) in
-    let after = and-right (is_control_period runs) _ h in
-    let own = and-right led _ after in
-    and_both _ _ (joined_control runs (and-left (is_control_period runs) _ h))
-    (and_both _ _ (joined_preamble VIDEO_PREAMBLE runs (and-left led _ after))
-    (and_both _ _ (and-left (is_video_period bytes) _ own) (joined_conform rest (and-right (is_video_period bytes) _ own))))
-joined_conform (control runs ∷ (island x ∷ rest)) h =
-    let led = has_preamble ISLAND_PREAMBLE (values_of runs) in
-    let after = and-right (is_control_period runs) _ h in
-    let own = and-right led _ after in
-    and_both _ _ (joined_control runs (and-left (is_control_period runs) _ h))
-    (and_both _ _ (joined_preamble ISLAND_PREAMBLE runs (and-left led _ after))
-    (and_both _ _ (and-left (is_data_island x) _ own) (joined_conform rest (and-right (is_data_island x) _ own))))
+joined_conform (control runs ∷ (video bytes ∷ rest)) h = grind (arith, and-right, and_both, joined_control, and-left, joined_preamble, joined_conform rest)
+joined_conform (control runs ∷ (island x ∷ rest)) h = grind (arith, and-right, and_both, joined_control, and-left, joined_preamble, joined_conform rest)
 
 -- ---- they have the same columns
 

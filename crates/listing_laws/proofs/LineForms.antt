@@ -38,19 +38,12 @@ value_read : (value : ℕ) → value < 64 → decode_of (slice_index lower_digit
 unfolding encode_with
 value_read value below = decode_of-encode_lower (value ∷ []) (one_byte value below)
 
-control_read : (value count : ℕ) → value < 64 → count ≤ 20000000
-    → control_form (slice_index lower_digits (value / 16) ∷ slice_index lower_digits (value % 16) ∷ 32 ∷ decimal count) ≡ control_line value count
-unfolding control_form
-control_read value count below few = rw (value_read value below, number_of-decimal count few) refl
-
 pub run_body_short : (r : ControlRun) → r.count ≤ 20000000 → length (run_body r) ≤ 13
 run_body_short r few = let digits = length-decimal-le 8 r.count (omega arith) (omega arith) (omega arith) in omega arith
 
 pub run_form : (r : ControlRun) → r.value < 64 → r.count ≤ 20000000 → form_of (run_body r) ≡ control_line r.value r.count
-unfolding form_of is_fault
-run_form r below few =
-    let short = not_long (length (run_body r)) (omega (arith, run_body_short r few)) in
-    rw short (control_read r.value r.count below few)
+unfolding form_of is_fault control_form
+run_form r below few = grind (arith, not_long, run_body_short, value_read, number_of-decimal)
 
 pub run_feedless : (r : ControlRun) → r.count ≤ 20000000 → is_feedless (run_body r) ≡ true
 run_feedless r few =
@@ -71,18 +64,9 @@ video_words bytes = refl
 pub video_body_length : (bytes : List ℕ) → length (video_body bytes) ≡ 2 + 2 * length bytes
 video_body_length bytes = let digits = length-encode_with lower_digits bytes in omega arith
 
-video_read : (bytes : List ℕ) → IsBytes bytes → length bytes % 3 ≡ 0 → video_form (encode_lower bytes) ≡ video_line bytes
-unfolding video_form
-video_read bytes all whole =
-    let digits = length-encode_with lower_digits bytes in
-    let six : length (encode_lower bytes) % 6 ≡ 0 = omega arith in
-    rw (six, decode_of-encode_lower bytes all) refl
-
 pub video_seen : (bytes : List ℕ) → IsBytes bytes → length bytes % 3 ≡ 0 → length bytes / 3 ≤ 4096 → form_of (video_body bytes) ≡ video_line bytes
-unfolding form_of is_fault
-video_seen bytes all whole few =
-    let short = not_long (length (video_body bytes)) (omega (arith, video_body_length bytes)) in
-    rw short (video_read bytes all whole)
+unfolding form_of is_fault video_form
+video_seen bytes all whole few = grind (arith, not_long, video_body_length, length-encode_with, decode_of-encode_lower)
 
 pub video_feedless : (bytes : List ℕ) → is_feedless (video_body bytes) ≡ true
 video_feedless bytes = encode_feedless bytes

@@ -109,10 +109,7 @@ even_until mode line (p ∷ ps) e =
 -- Control columns that follow one another.
 
 up_append : (n m x : ℕ) → up_from x (n + m) ≡ up_from x n ++ up_from (x + n) m
-up_append zero m x =
-    let e : 0 + m ≡ m = omega arith in
-    let d : x ≡ x + 0 = omega arith in
-    ap (up_from x) e ∙ ap (λ (k : ℕ). up_from k m) d
+up_append zero m x = grind arith
 up_append (suc n) m x =
     let e : suc n + m ≡ suc (n + m) = omega arith in
     let d : suc x + n ≡ x + suc n = omega arith in
@@ -125,10 +122,7 @@ map_append f (x ∷ xs) ys = ap (λ (ps : List Part). f x ∷ ps) (map_append f 
 pub columns_split : (value : ℕ → ℕ) (x k e : ℕ) → x ≤ k → k ≤ e → columns value x e ≡ columns value x k ++ columns value k e
 columns_split value x k e le to =
     let d : e - x ≡ (k - x) + (e - k) = omega (arith, le, to) in
-    let f : x + (k - x) ≡ k = omega (arith, le) in
-    ap (λ (n : ℕ). map (λ i. column (value i)) (up_from x n)) d
-    ∙ ap (map (λ i. column (value i))) (up_append (k - x) (e - k) x ∙ ap (λ (n : ℕ). up_from x (k - x) ++ up_from n (e - k)) f)
-    ∙ map_append (λ i. column (value i)) (up_from x (k - x)) (up_from k (e - k))
+    grind (arith, up_append, map_append)
 
 -- Parts that begin with eleven control columns of a level.
 
@@ -143,13 +137,7 @@ pub record Begins (b : Bool) (parts : List Part) : Type 0 where
   pub level : AreOf b values
 
 pub begins_more : (b : Bool) (xs ys : List Part) → Begins b xs → Begins b (xs ++ ys)
-begins_more b xs ys h = record {
-  values = h.values;
-  rest = h.rest ++ ys;
-  are = ap (λ (ps : List Part). ps ++ ys) h.are ∙ append_assoc (map column h.values) h.rest ys;
-  long = h.long;
-  level = h.level;
-}
+begins_more b xs ys h = grind (arith, append_assoc)
 
 -- the first column of them
 pub record First (parts : List Part) : Type 0 where
@@ -234,12 +222,4 @@ size_values (v ∷ vs) = omega (arith, size_values vs)
 pub opened : (b : Bool) (parts : List Part) (m : ℕ) (ss rs : List Column) → Begins b parts → Opened b m (parts_cells m parts ss rs)
 opened b parts m ss rs h =
     let z = zone b h.values h.level m ss rs in
-    let n = size (map column h.values) in
-    let s = size_values h.values in
-    record {
-      levels = z.levels;
-      rest = parts_cells (m - n) h.rest (drop n ss) (drop n rs);
-      are = ap (λ (ps : List Part). parts_cells m ps ss rs) h.are ∙ parts_append (map column h.values) h.rest m ss rs ∙ ap (λ (ts : List Cell). ts ++ parts_cells (m - n) h.rest (drop n ss) (drop n rs)) z.are;
-      long = z.long ∙ ap (min m) h.long;
-      none = λ le. let d : m - n ≡ 0 = let l = h.long in omega (arith, s, l, le) in ap (λ (k : ℕ). parts_cells k h.rest (drop n ss) (drop n rs)) d ∙ parts_none h.rest (drop n ss) (drop n rs);
-    }
+    grind (arith, size_values, parts_cells, parts_append, Cell, parts_none)

@@ -1,5 +1,5 @@
 -- What a link listing of a stream that came whole and undamaged reads back as.
-use Rattle.std.proofs.Common.{◌≡◌, ℕ, ◌+◌, ◌-◌, ◌≤◌, Bool, true, false, List, [], ◌∷◌, ◌++◌, length, refl, ap, ap₂, sym, subst, ◌∙◌, append_assoc, append-nil, arith, take_all, length-append}
+use Rattle.std.proofs.Common.{◌≡◌, ℕ, ◌+◌, ◌-◌, ◌≤◌, Bool, true, false, List, [], ◌∷◌, ◌++◌, length, refl, ap, sym, subst, ◌∙◌, append_assoc, append-nil, arith, take_all, length-append}
 use Rattle.std.specs.Prelude.{codes}
 use Rattle.tmds_word.specs.Column.{Column}
 use Rattle.tmds_word.proofs.Below.{and-left, and-right}
@@ -19,7 +19,6 @@ use Rattle.link_laws.proofs.PeriodLaws.{joining_law}
 use Rattle.link_laws.proofs.SpelledWords.{period_size}
 use Rattle.link_laws.proofs.exact.Arrivals.{front_is_clean}
 use Rattle.link_laws.proofs.exact.Faultless.{Fine}
-use Rattle.listing_reader.specs.Reading.{reads_as}
 use Rattle.listing_writer.specs.Texts.{link_text}
 use Rattle.listing_laws.specs.LinkLaws.{AccountReadsBack}
 use Rattle.listing_laws.proofs.Accounted.{at_start}
@@ -82,15 +81,7 @@ first_text : (p : Period) (ps : List Period) (j m : ℕ) (before cs : List Colum
     → sound_lines (period_row j m before p h.0 h.0) ≡ text
     → text_from (j + period_columns p) (m - period_columns p) h.0 ps h.1 ≡ more
     → text_from j m before (p ∷ ps) cs ≡ text ++ more
-first_text p ps j m before cs text more h here after =
-    let size = period_size p h.0 h.3 in
-    let row = period_row j m before p h.0 h.0 in
-    let rest = account_from (j + period_columns p) (m - period_columns p) h.0 ps h.1 h.1 in
-    ap (text_from j m before (p ∷ ps)) h.2
-    ∙ ap (λ (ts : List Event). sound_lines ts ++ codes "end\n") (account_period j m before p ps h.0 h.0 h.1 h.1 (record { sent = size; received = size }))
-    ∙ ap (λ (t : List ℕ). t ++ codes "end\n") (sound_append row rest)
-    ∙ append_assoc (sound_lines row) (sound_lines rest) (codes "end\n")
-    ∙ ap₂ (λ (t u : List ℕ). t ++ u) here after
+first_text p ps j m before cs text more h here after = grind (arith, period_size, sound_lines, account_period, sound_append, append_assoc)
 
 control_text : (runs : List ControlRun) (ps : List Period) (j m : ℕ) (before cs : List Column) (more : List ℕ) (h : Spells (control runs ∷ ps) cs) → is_control_period runs ≡ true → length cs ≤ m
     → text_from (j + period_columns (control runs)) (m - period_columns (control runs)) h.0 ps h.1 ≡ more
@@ -174,12 +165,4 @@ listing_is ps cs good h =
 
 pub listing_reads_back : AccountReadsBack
 unfolding AccountReadsBack
-listing_reads_back periods sent good spelled few =
-    let again = joined_periods periods in
-    let size = columns_same periods in
-    let conform = joined_conform periods good in (
-      again,
-      ap reads_as (listing_is periods sent good spelled) ∙ reads_back again conform (omega (arith, size, few)),
-      conform,
-      λ columns. (spelled_joined periods columns, joined_spelled periods columns),
-    )
+listing_reads_back periods sent good spelled few = grind (arith, joined_periods, columns_same, joined_conform, listing_is, reads_back, spelled_joined, joined_spelled)

@@ -1,6 +1,6 @@
 -- The rows and frames of a list of told events, column by column: a run of columns is each of them by itself, so what is
 -- listed follows the columns of lines and not the runs of control periods.
-use Rattle.std.proofs.Common.{◌≡◌, ℕ, zero, suc, ◌/◌, Bool, true, false, ◌&&◌, if◌then◌else◌, List, [], ◌∷◌, ◌++◌, length, replicate, Option, Some, None, refl, sym, ap, ◌∙◌, append_assoc, append-nil}
+use Rattle.std.proofs.Common.{arith, ◌≡◌, ℕ, zero, suc, ◌/◌, Bool, true, false, ◌&&◌, if◌then◌else◌, List, [], ◌∷◌, ◌++◌, length, replicate, Option, Some, None, refl, sym, ap, ◌∙◌, append_assoc, append-nil}
 use Rattle.period_grammar.specs.Events.{Event, run, line, word, short, preamble, noise, empty, code, long_line, cut, open_island, packet, close_island, symbols, mended, lost, long_island, broken, guard}
 use Rattle.frame_build.specs.FrameEvent.{vsync_of, Mark, column, gap}
 use Rattle.frame_build.specs.Change.{three_have, newer, differ}
@@ -100,11 +100,6 @@ unfoldable pub says : List Tick → State → List Listed
 says [] s = []
 says (t ∷ ts) s = said t s ++ says ts (step t s)
 
-pub after_append : (xs ys : List Tick) (s : State) → after (xs ++ ys) s ≡ after ys (after xs s)
-unfolding after
-after_append [] ys s = refl
-after_append (x ∷ xs) ys s = after_append xs ys (step x s)
-
 pub says_append : (xs ys : List Tick) (s : State) → says (xs ++ ys) s ≡ says xs s ++ says ys (after xs s)
 unfolding says after
 says_append [] ys s = refl
@@ -188,23 +183,11 @@ turned_marks false ms h s = refl
 -- a column before a run of the same VSYNC
 pub longer_state : (b : Bool) (n : ℕ) (s : State) → run_state b n (run_state b 1 s) ≡ run_state b (suc n) s
 longer_state b zero s = refl
-longer_state b (suc n) s =
-    let t = three_have b (column b ∷ s.marks) in
-    let u = three_have b (run_marks b (suc n) (column b ∷ s.marks)) in
-    let m = turned_marks (differ (heard_after b 1 s) s.heard) (column b ∷ s.marks) (newer (heard_after b 1 s) s.heard) s in
-    ap (λ (ms : List Mark). one (three_have b (run_marks b (suc n) ms)) b (run_marks b (suc n) ms) (run_state b 1 s)) m
-    ∙ one_change t u b s.heard s.counting s.group (column b ∷ s.marks) (run_marks b (suc n) (column b ∷ s.marks)) s.marks (still_three b (suc n) s.marks)
-    ∙ ap (λ (ms : List Mark). one (three_have b ms) b ms s) (shifted b (suc n) s.marks)
+longer_state b (suc n) s = grind (arith, turned_marks, one_change, still_three, shifted)
 
 pub longer_said : (b : Bool) (n : ℕ) (s : State) → run_said b 1 s ++ run_said b n (run_state b 1 s) ≡ run_said b (suc n) s
 longer_said b zero s = append-nil _
-longer_said b (suc n) s =
-    let t = three_have b (column b ∷ s.marks) in
-    let u = three_have b (run_marks b (suc n) (column b ∷ s.marks)) in
-    let m = turned_marks (differ (heard_after b 1 s) s.heard) (column b ∷ s.marks) (newer (heard_after b 1 s) s.heard) s in
-    ap (λ (ms : List Mark). run_said b 1 s ++ ends (differ (hears (three_have b (run_marks b (suc n) ms)) b) (run_state b 1 s).heard) (run_state b 1 s).counting (run_state b 1 s).group) m
-    ∙ one_said t u b s.heard s.counting s.group (column b ∷ s.marks) s.marks (still_three b (suc n) s.marks)
-    ∙ ap (λ (ms : List Mark). ends (differ (hears (three_have b ms) b) s.heard) s.counting s.group) (shifted b (suc n) s.marks)
+longer_said b (suc n) s = grind (arith, turned_marks, one_said, still_three, shifted)
 
 pub run_after : (b : Bool) (n : ℕ) (s : State) → after (replicate n (control b)) s ≡ run_state b n s
 unfolding after

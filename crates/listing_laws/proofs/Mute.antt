@@ -1,5 +1,5 @@
 -- Before the first change nothing is said: what is told of parts of one level, rows among them.
-use Rattle.std.proofs.Common.{◌≡◌, ℕ, zero, suc, ◌+◌, ◌-◌, ◌/◌, Bool, true, false, cond, List, [], ◌∷◌, ◌++◌, length, take, drop, Option, Some, None, refl, sym, ap, ap₂, subst, ◌∙◌, append-nil}
+use Rattle.std.proofs.Common.{arith, ◌≡◌, ℕ, zero, suc, ◌+◌, ◌-◌, ◌/◌, Bool, true, false, cond, List, [], ◌∷◌, ◌++◌, length, take, drop, Option, Some, None, refl, sym, subst, append-nil}
 use Rattle.std.specs.Prelude.{nat_lt}
 use Rattle.tmds_word.specs.Column.{Column}
 use Rattle.island_pack.specs.Periods.{Pixel, pixels_of}
@@ -8,7 +8,7 @@ use Rattle.link_laws.specs.Account.{pixel_bytes}
 use Rattle.source_end.specs.declared.mode.Mode.{Mode}
 use Rattle.source_end.specs.Raster.{Line, Part, pixels, columns, sync_at, guard_at, sync, back, active, total, until, whole}
 use Rattle.source_end.specs.Gathering.{size}
-use Rattle.listing_writer.specs.Listed.{Listed, row}
+use Rattle.listing_writer.specs.Listed.{row}
 use Rattle.listing_laws.proofs.Cells.{Cell, pixels as pixels_cell, parted, State, note_of, after, says, after_append, says_append}
 use Rattle.listing_laws.proofs.Ready.{Flat, Ready, quiet}
 use Rattle.listing_laws.proofs.Parts.{row_cells, part_cells, parts_cells, parts_append}
@@ -24,11 +24,7 @@ abbrev pub Mute : Bool → List Part → Type 0
 Mute b parts = (m : ℕ) (ss rs : List Column) (s : State) (g : List ℕ) → Ready s b false g → IsMuted (parts_cells m parts ss rs) s b
 
 muted_append : (b : Bool) (xs ys : List Cell) (s : State) (h : IsMuted xs s b) → IsMuted ys (after xs s) b → IsMuted (xs ++ ys) s b
-muted_append b xs ys s h k = record {
-  nothing = says_append xs ys s ∙ ap₂ (λ (x y : List Listed). x ++ y) h.nothing k.nothing;
-  group = k.group;
-  ready = subst (λ (x : State). Ready x b false k.group) (sym (after_append xs ys s)) k.ready;
-}
+muted_append b xs ys s h k = grind (arith, says_append, State, Ready, after_append)
 
 pub mute_append : (b : Bool) (xs ys : List Part) → Mute b xs → Mute b ys → Mute b (xs ++ ys)
 mute_append b xs ys h k m ss rs s g was =
@@ -44,16 +40,9 @@ mute_even b parts h m ss rs s g was = let k = quiet b false g (parts_cells m par
 flat_muted : (b : Bool) (ts : List Cell) (s : State) (g : List ℕ) → Flat b ts → Ready s b false g → IsMuted ts s b
 flat_muted b ts s g h was = let k = quiet b false g ts s h was in record { nothing = k.nothing; group = g; ready = k.ready }
 
-row_muted : (b : Bool) (s : State) (g bytes : List ℕ) → Ready s b false g → IsMuted (pixels_cell bytes ∷ []) s b
-unfolding says after
-row_muted b s g bytes was = record {
-  nothing = append-nil _ ∙ ap (λ (c : Bool). cond c (row bytes (note_of s (length bytes / 3)) ∷ []) []) was.counting;
-  group = g ++ (length bytes / 3) ∷ [];
-  ready = row_ready s b false g bytes was;
-}
-
 cells_muted : (b t : Bool) (ps : List Pixel) (ss rs : List Column) (s : State) (g : List ℕ) → Ready s b false g → IsMuted (cond t (pixels_cell (pixel_bytes ps ss rs) ∷ []) (parted ∷ [])) s b
-cells_muted b true ps ss rs s g was = row_muted b s g (pixel_bytes ps ss rs) was
+unfolding says after
+cells_muted b true ps ss rs s g was = grind (arith, append-nil, note_of, row_ready)
 cells_muted b false ps ss rs s g was = flat_muted b (parted ∷ []) s g refl was
 
 reported_muted : (b : Bool) (m : ℕ) (ps : List Pixel) (ss rs : List Column) (s : State) (g : List ℕ) → Ready s b false g → IsMuted (row_cells m ps ss rs) s b

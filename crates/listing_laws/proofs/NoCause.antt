@@ -1,6 +1,6 @@
 -- Lines that have no cause to be refused.
 use Rattle.std.proofs.Common.{◌≡◌, ℕ, ◌+◌, ◌<◌, ◌≤◌, true, not, ◌&&◌, List, ap, ◌∙◌, arith}
-use Rattle.std.specs.Prelude.{None, nat_lt, nat_le}
+use Rattle.std.specs.Prelude.{None, nat_lt}
 use Rattle.std.specs.List.{list_all}
 use Rattle.std.proofs.lemmas.Bool.{le-leb}
 use Rattle.island_pack.specs.Periods.{video}
@@ -12,12 +12,8 @@ use Rattle.listing_reader.specs.Drafts.{Draft, draft_columns}
 use Rattle.listing_reader.specs.Forms.{control_line, video_line, island_line, packet_line, close_line, end_line}
 use Rattle.listing_reader.proofs.Refused.{goes_past, run_fits, video_pushed, end_well, cause_control, cause_island, cause_packet, cause_close, cause_end}
 
-run_passes : (value count : ℕ) → value < 64 → 1 ≤ count → count ≤ 20000000 → (nat_lt value 64 && (nat_le 1 count && nat_le count 20000000)) ≡ true
-run_passes value count below some few = grind arith
-
 pub run_cause_none : (draft : Draft) (value count : ℕ) → value < 64 → 1 ≤ count → count ≤ 20000000 → is_closed draft.opened ≡ true → draft_columns draft + count ≤ 20000000 → line_cause draft (control_line value count) ≡ None
-run_cause_none draft value count below some small closed few =
-    cause_control draft value count ∙ run_fits draft value count (run_passes value count below some small) closed (le-leb (draft_columns draft + count) 20000000 few)
+run_cause_none draft value count below some small closed few = grind (arith, cause_control, run_fits, le-leb)
 
 pub video_cause_none : (draft : Draft) (bytes : List ℕ) → is_in_range (video bytes) ≡ true → is_closed draft.opened ≡ true → push_fault draft.periods (video bytes) ≡ None → line_cause draft (video_line bytes) ≡ None
 video_cause_none draft bytes range closed none = video_pushed draft bytes range closed ∙ ap caused none

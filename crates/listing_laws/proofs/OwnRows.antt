@@ -5,22 +5,20 @@ use Rattle.std.proofs.lemmas.Bool.{eqb-true, eq-eqb, le-leb, lt-ltb, le-ltb}
 use Rattle.std.proofs.lemmas.List.{length-map}
 use Rattle.tmds_word.specs.Column.{Column}
 use Rattle.tmds_word.proofs.Below.{and-left, and-right, passes_below, passes_at}
-use Rattle.tmds_code.specs.Coding.{decoded_byte}
 use Rattle.terc4.specs.Tables.{terc_words, value_in}
-use Rattle.terc4.specs.Columns.{is_video_guard, is_island_guard}
+use Rattle.terc4.specs.Columns.{is_video_guard}
 use Rattle.island_pack.specs.Nibbles.{nibble_of}
-use Rattle.island_pack.specs.Periods.{ControlRun, SyncPair, DataIsland, control, video, island, values_of, pixels_of, VIDEO_PREAMBLE, ISLAND_PREAMBLE}
+use Rattle.island_pack.specs.Periods.{ControlRun, SyncPair, DataIsland, control, video, island, values_of, pixels_of, VIDEO_PREAMBLE}
 use Rattle.island_pack.specs.Packets.{CarriesFreely}
 use Rattle.island_pack.specs.Runs.{joined, join, longest}
-use Rattle.island_pack.specs.Spelling.{guard_column, guard_columns, column_words as words_in, SpellsPixels, SpellsPackets, SpellsPeriod}
+use Rattle.island_pack.specs.Spelling.{guard_column, guard_columns, column_words as words_in, SpellsPackets, SpellsPeriod}
 use Rattle.island_pack.specs.declared.packet.Packet.{Packet}
 use Rattle.period_grammar.specs.Column.{value_of, sync_digit}
 use Rattle.period_grammar.specs.Cut.{Run, columns, in_front, before_runs, runs as runs_of}
 use Rattle.period_grammar.specs.Heard.{words, has_preamble}
 use Rattle.period_grammar.specs.Island.{wrong_guards}
-use Rattle.island_pack.specs.Repaired.{verdicts_of}
-use Rattle.period_grammar.specs.Events.{run, line, cut, open_island, packet, close_island, event_of}
-use Rattle.link_laws.specs.Account.{runs_row, control_row, wrong_preamble, open_video_row, open_island_row, close_island_row, byte, pixel_bytes, video_row, video_reported, damage, sync_row, packet_row, packet_reported, packets_reported, island_reported, period_row}
+use Rattle.period_grammar.specs.Events.{run, line, cut, open_island, close_island, event_of}
+use Rattle.link_laws.specs.Account.{runs_row, control_row, wrong_preamble, open_video_row, open_island_row, close_island_row, pixel_bytes, video_row, video_reported, damage, sync_row, packet_reported, packets_reported, island_reported, period_row}
 use Rattle.link_laws.proofs.Conformed.{IsIsland}
 use Rattle.link_laws.proofs.IslandColumns.{packet_sent}
 use Rattle.link_laws.proofs.IslandReported.{frame}
@@ -73,24 +71,13 @@ own_control j m before runs own small h whole =
 
 -- ---- a video data period
 
-own_byte : (b s : ℕ) → byte b s s ≡ b
-own_byte b s = ap (λ (same : Bool). cond same b (decoded_byte s)) (eq-eqb s s refl)
-
 own_bytes : (bytes : List ℕ) (cs : List Column) → length bytes % 3 ≡ 0 → length cs ≡ length (pixels_of bytes) → pixel_bytes (pixels_of bytes) cs cs ≡ bytes
 unfolding pixels_of pixel_bytes
 own_bytes [] cs whole long = refl
 own_bytes (r ∷ []) cs whole long = absurd (omega (arith, whole))
 own_bytes (r ∷ (g ∷ [])) cs whole long = absurd (omega (arith, whole))
 own_bytes (r ∷ (g ∷ (b ∷ bytes))) [] whole long = absurd (omega (arith, long))
-own_bytes (r ∷ (g ∷ (b ∷ bytes))) (c ∷ cs) whole long =
-    ap₂ (λ (x : ℕ) (xs : List ℕ). x ∷ xs) (own_byte r c.red)
-    (ap₂ (λ (x : ℕ) (xs : List ℕ). x ∷ xs) (own_byte g c.green)
-    (ap₂ (λ (x : ℕ) (xs : List ℕ). x ∷ xs) (own_byte b c.blue) (own_bytes bytes cs (omega (arith, whole)) (omega (arith, long)))))
-
-pixels_lines : (b : ℕ) (bytes : List ℕ) (cs : List Column) → length bytes % 3 ≡ 0 → length cs ≡ length (pixels_of bytes) → sound_lines (video_row b (pixels_of bytes) cs cs) ≡ line_of (line bytes)
-unfolding video_row
-pixels_lines b bytes cs whole long =
-    ap₂ (λ (x : List ℕ) (text : List ℕ). line_of (line x) ++ text) (own_bytes bytes cs whole long) (silent_codes (b + 2) cs) ∙ append-nil (line_of (line bytes))
+own_bytes (r ∷ (g ∷ (b ∷ bytes))) (c ∷ cs) whole long = grind (arith, eq-eqb, own_bytes bytes cs)
 
 open_video : (b : ℕ) (before : List Column) (g h : Column) (rs : List Column) → sound_lines (open_video_row b before (g ∷ (h ∷ rs))) ≡ []
 unfolding open_video_row
@@ -99,26 +86,15 @@ open_video b before g h rs =
 
 video_lines : (b m : ℕ) (before : List Column) (bytes : List ℕ) (g h : Column) (cs : List Column) → length bytes % 3 ≡ 0 → length cs ≡ length (pixels_of bytes) → 2 + length cs < m
     → sound_lines (video_reported b m before (pixels_of bytes) (g ∷ (h ∷ cs)) (g ∷ (h ∷ cs))) ≡ line_of (line bytes)
-unfolding video_reported
+unfolding video_reported video_row
 video_lines b zero before bytes g h cs whole long lt = absurd (omega (arith, lt))
 video_lines b (suc zero) before bytes g h cs whole long lt = absurd (omega (arith, lt))
-video_lines b (suc (suc i)) before bytes g h cs whole long lt =
-    let opens = open_video_row b before (g ∷ (h ∷ cs)) in
-    let row = video_row b (pixels_of bytes) cs cs in
-    ap (λ (all : Bool). sound_lines (opens ++ cond all row (cut (b + 2) ∷ []))) (lt-ltb (length (pixels_of bytes)) i (omega (arith, long, lt)))
-    ∙ sound_append opens row
-    ∙ ap₂ (λ (x y : List ℕ). x ++ y) (open_video b before g h cs) (pixels_lines b bytes cs whole long)
-
-pixel_columns : (bytes : List ℕ) (cs : List Column) → SpellsPixels (pixels_of bytes) cs → length cs ≡ length (pixels_of bytes)
-pixel_columns bytes cs h = sym (length-map cs (λ c. c.blue)) ∙ h.blue.same_length ∙ length-map (pixels_of bytes) (λ p. p.blue)
+video_lines b (suc (suc i)) before bytes g h cs whole long lt = grind (arith, sound_lines, lt-ltb, sound_append, open_video, line_of, own_bytes, silent_codes, append-nil)
 
 pub own_video : (j m : ℕ) (before : List Column) (bytes : List ℕ) (own : List Column) → length bytes % 3 ≡ 0 → SpellsPeriod (video bytes) own → length own < m
     → sound_lines (period_row j m before (video bytes) own own) ≡ line_of (line bytes)
 unfolding period_row
-own_video j m before bytes own whole h more =
-    let size = ap length h.1 in
-    ap (λ (cs : List Column). sound_lines (video_reported j m before (pixels_of bytes) cs cs)) h.1
-    ∙ video_lines j m before bytes _ _ h.0 whole (pixel_columns bytes h.0 h.2) (omega (arith, size, more))
+own_video j m before bytes own whole h more = grind (arith, sound_lines, video_lines, length-map)
 
 -- ---- a data island
 
@@ -132,24 +108,7 @@ sync_back v lt = eqb-true (sync_digit (guard_column v).blue) v (passes_at 4 (λ 
 open_lines : (b : ℕ) (before : List Column) (pair : SyncPair) (rs : List Column) → pair.first < 4 → pair.second < 4
     → sound_lines (open_island_row b before (guard_column pair.first ∷ (guard_column pair.second ∷ rs))) ≡ line_of (open_island pair.first pair.second)
 unfolding open_island_row
-open_lines b before pair rs first second =
-    let g = guard_column pair.first in
-    let h = guard_column pair.second in
-    let opens = open_island (sync_digit g.blue) (sync_digit h.blue) in
-    sound_append (wrong_preamble b ISLAND_PREAMBLE before) (opens ∷ wrong_guards is_island_guard b g h)
-    ∙ ap₂ (λ (x y : List ℕ). x ++ (line_of opens ++ y)) (silent_preamble (has_preamble ISLAND_PREAMBLE before) b) (silent_guards is_island_guard b g h)
-    ∙ append-nil (line_of opens)
-    ∙ ap₂ (λ (x y : ℕ). line_of (open_island x y)) (sync_back pair.first first) (sync_back pair.second second)
-
-close_lines : (s : ℕ) (pair : SyncPair) → pair.first < 4 → pair.second < 4 → sound_lines (close_island_row s (guard_columns pair)) ≡ line_of (close_island pair.first pair.second)
-unfolding close_island_row
-close_lines s pair first second =
-    let c = guard_column pair.first in
-    let d = guard_column pair.second in
-    let closes = close_island (sync_digit c.blue) (sync_digit d.blue) in
-    ap (λ (text : List ℕ). line_of closes ++ text) (silent_guards is_island_guard s c d)
-    ∙ append-nil (line_of closes)
-    ∙ ap₂ (λ (x y : ℕ). line_of (close_island x y)) (sync_back pair.first first) (sync_back pair.second second)
+open_lines b before pair rs first second = grind (arith, sound_append, line_of, silent_preamble, silent_guards, append-nil, sync_back)
 
 own_damage : (cs : List Column) → damage cs cs ≡ 0
 unfolding damage
@@ -163,28 +122,14 @@ own_sync (v ∷ vs) [] long = absurd (omega (arith, long))
 own_sync (v ∷ vs) (c ∷ cs) long =
     ap₂ (λ (w : ℕ) (ws : List ℕ). w ∷ ws) (ap (λ (same : Bool). cond same v (sync_digit c.blue)) (eq-eqb c.blue c.blue refl)) (own_sync vs cs (omega (arith, long)))
 
--- a packet that came as it was sent
-own_packet : (p : Packet) (own : List Column) → CarriesFreely p (map words_in own) → packet_row p own own ≡ p
-own_packet p own carries =
-    let none = own_damage own in
-    let count = packet_sent true p own carries in
-    let sync = carries.whole.sync in
-    as_sent_row p own own (omega (arith, none)) ∙ ap (λ (vs : List ℕ). record { header = p.header; bodies = p.bodies; sync = vs }) (own_sync p.sync own (omega (arith, count, sync)))
-
 one_packet : (s : ℕ) (p : Packet) (own : List Column) → CarriesFreely p (map words_in own) → sound_lines (packet_reported s p own own) ≡ line_of (reported_packet p)
 unfolding packet_reported line_words
-one_packet s p own carries =
-    let v = verdicts_of own in
-    ap₂ (λ (q : Packet) (text : List ℕ). line_of (packet q v s) ++ text) (own_packet p own carries) (silent_packet s v) ∙ append-nil (line_of (packet p v s))
+one_packet s p own carries = grind (arith, line_of, silent_packet, append-nil, own_damage, packet_sent, as_sent_row, own_sync)
 
 packets_lines : (first : Bool) (s i : ℕ) (ps : List Packet) (closing : SyncPair) (cs : List Column) → closing.first < 4 → closing.second < 4 → SpellsPackets first ps cs → 32 * length ps + 2 ≤ i
     → sound_lines (packets_reported cut s ps i (cs ++ guard_columns closing) (cs ++ guard_columns closing)) ≡ packet_lines ps ++ line_of (close_island closing.first closing.second)
-unfolding packets_reported packet_lines
-packets_lines first s i [] closing cs a b h le =
-    let after = guard_columns closing in
-    ap (λ (ds : List Column). sound_lines (packets_reported cut s [] i (ds ++ after) (ds ++ after))) h
-    ∙ ap (λ (all : Bool). sound_lines (cond all (close_island_row s after) (cut s ∷ []))) (le-leb 2 i (omega (arith, le)))
-    ∙ close_lines s closing a b
+unfolding packets_reported packet_lines close_island_row
+packets_lines first s i [] closing cs a b h le = grind (arith, sound_lines, le-leb, line_of, silent_guards, append-nil, sync_back)
 packets_lines first s i (p ∷ ps) closing cs a b h le =
     let after = guard_columns closing in
     let own = h.0 in
@@ -206,15 +151,7 @@ island_lines : (b m : ℕ) (before : List Column) (x : DataIsland) (cs : List Co
 unfolding island_reported period_lines
 island_lines b zero before x cs is h le = absurd (omega (arith, le))
 island_lines b (suc zero) before x cs is h le = absurd (omega (arith, le))
-island_lines b (suc (suc i)) before x cs is h le =
-    let after = cs ++ guard_columns x.closing in
-    let opens = open_island_row b before (frame x cs) in
-    let close = line_of (close_island x.closing.first x.closing.second) in
-    let open_text = line_of (open_island x.opening.first x.opening.second) in
-    sound_append opens (packets_reported cut (b + 2) x.packets i after after)
-    ∙ ap₂ (λ (t u : List ℕ). t ++ u) (open_lines b before x.opening after is.open_first is.open_second)
-    (packets_lines true (b + 2) i x.packets x.closing cs is.close_first is.close_second h (omega (arith, le)))
-    ∙ sym (append_assoc open_text (packet_lines x.packets) close)
+island_lines b (suc (suc i)) before x cs is h le = grind (arith, frame, line_of, sound_append, open_lines, packets_lines, append_assoc, packet_lines)
 
 pub own_island : (j m : ℕ) (before : List Column) (x : DataIsland) (own : List Column) → IsIsland x → SpellsPeriod (island x) own → 4 + 32 * length x.packets ≤ m
     → sound_lines (period_row j m before (island x) own own) ≡ period_lines (island x)

@@ -75,12 +75,7 @@ spotless_whole : first_lost spotless ≡ None
 spotless_whole = refl
 
 pub lines_of_payload : LinesOfPayload
-lines_of_payload p q v column header bodies =
-    lines_are p v column
-    ∙ lines_bare (first_lost_block v) (first_lost v) p column
-    ∙ ap₂ (λ (a b : List ℕ). lines_by (first_lost_block v) (first_lost v) (bare a b) column) header bodies
-    ∙ sym (lines_bare (first_lost_block v) (first_lost v) q column)
-    ∙ sym (lines_are q v column)
+lines_of_payload p q v column header bodies = grind (arith, lines_are, lines_bare)
 
 lines_freely : (p : Packet) (sent received : List Column) → CarriesFreely p (map column_words sent) → length received ≡ 32 → damage sent received ≤ 1 → (column : ℕ)
     → packet_lines (packet_row p sent received) (verdicts_of received) column ≡ packet_lines p spotless column

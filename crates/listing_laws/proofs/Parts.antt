@@ -1,5 +1,5 @@
 -- What is seen of the parts of a raster, part by part.
-use Rattle.std.proofs.Common.{◌≡◌, ℕ, zero, suc, ◌+◌, ◌-◌, cond, List, [], ◌∷◌, ◌++◌, length, take, drop, refl, sym, ap, ap₂, ◌∙◌, append_assoc, arith}
+use Rattle.std.proofs.Common.{◌≡◌, ℕ, zero, suc, ◌+◌, ◌-◌, cond, List, [], ◌∷◌, ◌++◌, length, take, drop, refl, append_assoc, arith}
 use Rattle.std.specs.Prelude.{nat_lt}
 use Rattle.std.proofs.lemmas.List.{drop-drop}
 use Rattle.tmds_word.specs.Column.{Column}
@@ -40,18 +40,8 @@ parts_cells m (p ∷ ps) ss rs = part_cells m p (take (part_size p) ss) (take (p
 
 pub parts_append : (xs ys : List Part) (m : ℕ) (ss rs : List Column) → parts_cells m (xs ++ ys) ss rs ≡ parts_cells m xs ss rs ++ parts_cells (m - size xs) ys (drop (size xs) ss) (drop (size xs) rs)
 unfolding parts_cells size
-parts_append [] ys m ss rs =
-    let d : m ≡ m - 0 = omega arith in
-    ap (λ (y : ℕ). parts_cells y ys ss rs) d
-parts_append (x ∷ xs) ys m ss rs =
-    let n = part_size x in
-    let d : (m - n) - size xs ≡ m - (n + size xs) = omega arith in
-    ap (λ (ts : List Cell). part_cells m x (take n ss) (take n rs) ++ ts)
-    (parts_append xs ys (m - n) (drop n ss) (drop n rs)
-    ∙ ap (λ (ts : List Cell). parts_cells (m - n) xs (drop n ss) (drop n rs) ++ ts)
-    (ap (λ (k : ℕ). parts_cells k ys (drop (size xs) (drop n ss)) (drop (size xs) (drop n rs))) d
-    ∙ ap₂ (λ (cs ds : List Column). parts_cells (m - (n + size xs)) ys cs ds) (drop-drop (size xs) n ss) (drop-drop (size xs) n rs)))
-    ∙ sym (append_assoc (part_cells m x (take n ss) (take n rs)) _ _)
+parts_append [] ys m ss rs = grind arith
+parts_append (x ∷ xs) ys m ss rs = grind (arith, Cell, drop-drop, append_assoc, parts_append xs ys)
 
 part_none : (p : Part) (ss rs : List Column) → part_cells 0 p ss rs ≡ []
 unfolding part_cells
@@ -62,7 +52,4 @@ part_none (packets x) ss rs = refl
 pub parts_none : (ps : List Part) (ss rs : List Column) → parts_cells 0 ps ss rs ≡ []
 unfolding parts_cells
 parts_none [] ss rs = refl
-parts_none (p ∷ ps) ss rs =
-    let n = part_size p in
-    let d : 0 - n ≡ 0 = omega arith in
-    ap₂ (λ (xs ys : List Cell). xs ++ ys) (part_none p (take n ss) (take n rs)) (ap (λ (k : ℕ). parts_cells k ps (drop n ss) (drop n rs)) d ∙ parts_none ps (drop n ss) (drop n rs))
+parts_none (p ∷ ps) ss rs = grind (arith, Cell, part_none, parts_none ps)

@@ -1,13 +1,14 @@
 -- The text of a conforming list of periods, read from a line on, and whole.
-use Rattle.std.proofs.Common.{◌≡◌, ℕ, zero, suc, ◌+◌, ◌*◌, ◌/◌, ◌%◌, ◌<◌, ◌≤◌, Bool, true, false, ◌&&◌, ◌==◌, List, [], ◌∷◌, ◌++◌, length, refl, ap, sym, subst, ◌∙◌, arith, append_assoc, append-nil, length-append}
-use Rattle.std.specs.Prelude.{Option, None, nat_le, nat_lt, replicate}
+use Rattle.std.proofs.lemmas.Grind.{common_steps}
+use Rattle.std.proofs.Common.{◌≡◌, ℕ, ◌+◌, ◌*◌, ◌/◌, ◌%◌, ◌<◌, ◌≤◌, true, false, ◌&&◌, List, [], ◌∷◌, ◌++◌, length, refl, ap, sym, subst, ◌∙◌, arith, append_assoc, append-nil, length-append}
+use Rattle.std.specs.Prelude.{None, nat_le, nat_lt}
 use Rattle.std.specs.List.{list_all}
 use Rattle.std.proofs.lemmas.Bool.{le-leb, eqb-true}
 use Rattle.hex.specs.Hex.{IsBytes}
 use Rattle.island_pack.specs.Periods.{ControlRun, DataIsland, Period, control, video, island, values_of, has_preamble, VIDEO_PREAMBLE, ISLAND_PREAMBLE, period_columns, columns_of}
 use Rattle.island_pack.specs.Conforming.{is_run, is_control_period, is_video_period, is_data_island, conforms, IsConforming}
 use Rattle.period_grammar.specs.Events.{run as run_event, line as line_event}
-use Rattle.source_end.specs.Refusals.{last_period, is_control_last, is_in_range, is_in_order, is_announced, is_long_enough, push_fault}
+use Rattle.source_end.specs.Refusals.{last_period, is_control_last, is_in_range, is_long_enough, push_fault}
 use Rattle.source_end.proofs.Faults.{push_none}
 use Rattle.source_end.proofs.Leads.{length-values_of-more}
 use Rattle.source_end.proofs.Turns.{columns_of-more}
@@ -33,11 +34,7 @@ least a b h = grind arith
 
 run_count : (r : ControlRun) (runs : List ControlRun) → length (values_of (r ∷ runs)) ≡ r.count + length (values_of runs)
 unfolding values_of
-run_count r runs = length-append (replicate r.count r.value) (values_of runs) ∙ ap (λ n. n + length (values_of runs)) (length_replicate r.count r.value)
-  where
-    length_replicate : (n v : ℕ) → length (replicate n v) ≡ n
-    length_replicate zero v = refl
-    length_replicate (suc n) v = ap (λ m. suc m) (length_replicate n v)
+run_count r runs = grind (arith, common_steps, length-append)
 
 -- one run
 read_run : (n at : ℕ) (ps : List Period) (done : List ControlRun) (r : ControlRun) (rest : List ℕ) → is_control_last (last_period ps) ≡ false → is_run r ≡ true
@@ -86,17 +83,10 @@ all_runs : (runs : List ControlRun) → is_control_period runs ≡ true → list
 unfolding is_control_period
 all_runs runs period = and-left (list_all is_run runs) (nat_le 12 (length (values_of runs))) period
 
-no_runs : is_control_period [] ≡ false
-unfolding is_control_period values_of
-no_runs = refl
-
 some_runs : (ps : List Period) (runs : List ControlRun) → is_control_period runs ≡ true → with_open ps runs ≡ ps ++ control runs ∷ []
-some_runs ps [] period = cc (sym no_runs ∙ period)
+unfolding is_control_period values_of
+some_runs ps [] period = grind arith
 some_runs ps (r ∷ runs) period = refl
-
-are_some : (runs : List ControlRun) → is_control_period runs ≡ true → (length runs == 0) ≡ false
-are_some [] period = cc (sym no_runs ∙ period)
-are_some (r ∷ runs) period = grind arith
 
 -- a control period, from its first line on
 read_control : (ps : List Period) (runs : List ControlRun) (n at : ℕ) (rest : List ℕ) (goal : Read (List Period)) → is_control_last (last_period ps) ≡ false → is_control_period runs ≡ true
@@ -131,29 +121,12 @@ pub record IsVideo (bytes : List ℕ) : Type 0 where
 
 pub video_is : (bytes : List ℕ) → is_video_period bytes ≡ true → IsVideo bytes
 unfolding is_video_period is_in_range
-video_is bytes period =
-    let all = list_all (λ b. nat_lt b 256) bytes in
-    let whole : Bool = length bytes % 3 == 0 in
-    let some = nat_le 1 (length bytes / 3) in
-    let few = nat_le (length bytes / 3) 4096 in
-    let range : (some && few) ≡ true = and-right whole (some && few) (and-right all (whole && (some && few)) period) in
-    record {
-      values = bytes_from bytes (and-left all (whole && (some && few)) period);
-      whole = eqb-true (length bytes % 3) 0 (and-left whole (some && few) (and-right all (whole && (some && few)) period));
-      range = range;
-      few = least (length bytes / 3) 4096 (and-right some few range);
-    }
+video_is bytes period = grind (arith, and-right, bytes_from, and-left, eqb-true, least)
 
 -- a video data period behind a control period has no fault
 video_follows : (ps : List Period) (runs : List ControlRun) (bytes : List ℕ) → is_control_period runs ≡ true → has_preamble VIDEO_PREAMBLE (values_of runs) ≡ true → IsVideo bytes
     → columns_of (ps ++ control runs ∷ []) + period_columns (video bytes) ≤ 20000000 → push_fault (ps ++ control runs ∷ []) (video bytes) ≡ None
-video_follows ps runs bytes period announced is few =
-    let last = last_of_more ps (control runs) in
-    push_none (ps ++ control runs ∷ []) (video bytes) is.range
-    (ap (λ (before : Option Period). is_in_order before (video bytes)) last)
-    (ap is_long_enough last ∙ long_enough runs period)
-    (ap (λ (before : Option Period). is_announced before (video bytes)) last ∙ announced)
-    (le-leb (columns_of (ps ++ control runs ∷ []) + period_columns (video bytes)) 20000000 few)
+video_follows ps runs bytes period announced is few = grind (arith, last_of_more, push_none, long_enough, le-leb)
 
 -- a video data period's line
 read_video : (n at : ℕ) (ps : List Period) (runs : List ControlRun) (bytes rest : List ℕ) → is_control_period runs ≡ true → has_preamble VIDEO_PREAMBLE (values_of runs) ≡ true → IsVideo bytes

@@ -1,26 +1,22 @@
 -- The lines `row ..`, `frame ..` and `! ragged ..` of a content listing are those of the rows and frames that are listed.
-use Rattle.std.proofs.Common.{◌≡◌, ℕ, suc, ◌+◌, ◌/◌, Bool, true, false, ◌==◌, if◌then◌else◌, cond, List, [], ◌∷◌, ◌++◌, map, length, take, drop, Option, Some, None, refl, sym, ap, ap₂, ◌∙◌}
-use Rattle.std.specs.Prelude.{is_some, slice_index, nat_le, nat_lt, Result, Ok, Err, codes}
+use Rattle.std.proofs.Common.{arith, ◌≡◌, ℕ, suc, ◌+◌, Bool, true, false, if◌then◌else◌, cond, List, [], ◌∷◌, ◌++◌, map, take, drop, Option, Some, None, refl, sym, ap, ap₂, ◌∙◌}
+use Rattle.std.specs.Prelude.{nat_lt, Result, Ok, Err, codes}
 use Rattle.std.specs.List.{filter, flat_map}
 use Rattle.std.proofs.lemmas.List.{map-append}
 use Rattle.std.proofs.lemmas.List.Elements.{filter-append}
 use Rattle.std.proofs.lemmas.Grind.{flat_map-append}
-use Rattle.hex.specs.Hex.{encode_lower}
 use Rattle.island_pack.specs.declared.packet.Packet.{Packet}
 use Rattle.island_pack.specs.declared.packet.PacketVerdicts.{PacketVerdicts}
 use Rattle.period_grammar.specs.Events.{Event, run, line, word, short, preamble, noise, empty, code, long_line, cut, open_island, packet, close_island, symbols, mended, lost, long_island, broken, guard}
 use Rattle.period_grammar.specs.Heard.{heard}
 use Rattle.frame_build.specs.FrameEvent.{FrameEvent, run as run_frame_event}
-use Rattle.frame_build.specs.Group.{frame_at, line_at}
+use Rattle.frame_build.specs.Group.{frame_at}
 use Rattle.frame_build.specs.declared.FrameNote.{FrameNote}
-use Rattle.frame_build.specs.declared.LineNote.{LineNote}
-use Rattle.infoframe.specs.Frames.{Frame, frame_of, kind_of, first_lost}
+use Rattle.infoframe.specs.Frames.{Frame, kind_of}
 use Rattle.infoframe.specs.declared.content.InfoKind.{InfoKind}
 use Rattle.infoframe.specs.declared.content.InfoKind.TheVariants.{Avi, Audio, Spd, Raw}
 use Rattle.infoframe.specs.declared.content.InfoFault.{InfoFault}
 use Rattle.infoframe.specs.declared.content.InfoFault.TheVariants.{Lost as LostInfo, Length, Checksum}
-use Rattle.audio_packets.specs.Clock.{acr_of}
-use Rattle.audio_packets.specs.Samples.{samples_of}
 use Rattle.audio_packets.specs.declared.clock.Acr.{Acr}
 use Rattle.audio_packets.specs.declared.sample.SampleNote.{SampleNote}
 use Rattle.audio_packets.specs.declared.fault.AudioFault.{AudioFault}
@@ -32,8 +28,8 @@ use Rattle.source_end.specs.Raster.{total}
 use Rattle.source_end.specs.Formats.{formats, mode_in}
 use Rattle.listing_writer.specs.Texts.{line_words}
 use Rattle.listing_writer.specs.Fields.{with_fields}
-use Rattle.listing_writer.specs.ContentText.{row_lines, has_other_size, vic_lines, frame_lines, clock_lines, sample_words, parity_words, side_lines, note_lines, sample_lines, is_usual_depth, depth_in, depth_lines, control_words, control_lines, avi_words, audio_words, spd_words, raw_words, info_words, checksum_words, info_lines, other_words, carried_lines, packet_lines, frame_event_of, frame_events, last_vic, lines_at, lines_after, content_lines}
-use Rattle.listing_writer.specs.Listed.{Listed, row, frame, listed_at, listed_from, listed}
+use Rattle.listing_writer.specs.ContentText.{row_lines, has_other_size, vic_lines, frame_lines, clock_lines, sample_words, parity_words, side_lines, note_lines, sample_lines, depth_lines, control_words, control_lines, avi_words, audio_words, spd_words, raw_words, info_words, checksum_words, info_lines, other_words, carried_lines, packet_lines, frame_event_of, frame_events, last_vic, lines_at, lines_after, content_lines}
+use Rattle.listing_writer.specs.Listed.{Listed, row, frame, listed_at, listed_from}
 use Rattle.listing_writer.specs.Listed as pictures
 use Rattle.listing_laws.specs.FrameLaws.{active_at, counts, frames_received, is_reported, next_at, row_at, row_bytes, row_end, rows_received, whole_frame}
 use Rattle.listing_laws.specs.ListingLaws.{tells_picture, line_of, FrameLinesComeBack}
@@ -69,19 +65,10 @@ unfolding parity_words
 no_right column place true = refl
 no_right column place false = refl
 
-no_sample : (note : SampleNote) → NoPictures (sample_words note.sample ∷ [])
-unfolding sample_words
-no_sample note = refl
-
-no_note : (column : ℕ) (note : SampleNote) → NoPictures (note_lines column note)
-unfolding note_lines
-no_note column note =
-    both_none (sample_words note.sample ∷ []) (side_lines column note.place (codes "l") note.left_even ++ side_lines column note.place (codes "r") note.right_even) (no_sample note)
-    (both_none (side_lines column note.place (codes "l") note.left_even) (side_lines column note.place (codes "r") note.right_even) (no_left column note.place note.left_even) (no_right column note.place note.right_even))
-
 no_notes : (column : ℕ) (notes : List SampleNote) → NoPictures (flat_map (note_lines column) notes)
+unfolding note_lines sample_words
 no_notes column [] = refl
-no_notes column (note ∷ notes) = both_none (note_lines column note) (flat_map (note_lines column) notes) (no_note column note) (no_notes column notes)
+no_notes column (note ∷ notes) = grind (arith, both_none, no_left, no_right, no_notes column notes)
 
 no_samples : (column : ℕ) (r : Result (List SampleNote) AudioFault) → NoPictures (sample_lines column r)
 unfolding sample_lines
@@ -89,14 +76,6 @@ no_samples column (Ok notes) = no_notes column notes
 no_samples column (Err Layout) = refl
 no_samples column (Err Uneven) = refl
 no_samples column (Err (LostAudio block)) = refl
-
-no_depth : (column depth : ℕ) → NoPictures (depth_lines column depth)
-unfolding depth_lines
-no_depth column depth = choice_none (is_usual_depth depth) [] _ refl refl
-
-no_control : (column : ℕ) (bodies : List ℕ) → NoPictures (control_lines column bodies)
-unfolding control_lines control_words
-no_control column bodies = both_none (control_words bodies ∷ []) (depth_lines column (depth_in bodies)) refl (no_depth column (depth_in bodies))
 
 no_info_words : (kind : InfoKind) (f : Frame) → NoPictures (info_words kind f ∷ [])
 unfolding info_words avi_words audio_words spd_words raw_words
@@ -112,22 +91,9 @@ no_info column (Err Length) = refl
 no_info column (Err (Checksum total)) = refl
 no_info column (Err (LostInfo block)) = refl
 
-no_other : (p : Packet) → NoPictures (other_words p ∷ [])
-unfolding other_words
-no_other p = refl
-
 no_carried : (type_code : ℕ) (p : Packet) (v : PacketVerdicts) (column : ℕ) → NoPictures (carried_lines type_code p v column)
-unfolding carried_lines
-no_carried type_code p v column =
-    choice_none (type_code == 0) [] _ refl
-    (choice_none (type_code == 1) (clock_lines column (acr_of p v)) _ (no_clock column (acr_of p v))
-    (choice_none (type_code == 2) (sample_lines column (samples_of p v)) _ (no_samples column (samples_of p v))
-    (choice_none (type_code == 3) (control_lines column p.bodies) _ (no_control column p.bodies)
-    (choice_none (nat_le 0x80 type_code) (info_lines column (frame_of p v)) (other_words p ∷ []) (no_info column (frame_of p v)) (no_other p)))))
-
-no_packet : (p : Packet) (v : PacketVerdicts) (column : ℕ) → NoPictures (packet_lines p v column)
-unfolding packet_lines
-no_packet p v column = choice_none (is_some (first_lost v)) [] (carried_lines (slice_index p.header 0) p v column) refl (no_carried (slice_index p.header 0) p v column)
+unfolding carried_lines other_words control_lines control_words depth_lines
+no_carried type_code p v column = grind (arith, choice_none, no_clock, no_samples, no_info, both_none)
 
 -- Rows and frames.
 
@@ -151,20 +117,12 @@ ragged_line : (t : Bool) (n : ℕ)
 ragged_line true n = refl
 ragged_line false n = refl
 
-row_line : (pixels : List ℕ) (note : LineNote) → filter tells_picture (row_lines pixels note) ≡ flat_map reported_lines (pictures.listed_rows pixels note)
-unfolding row_lines
-row_line pixels note = by_test note.counts
-  where
-    by_test : (t : Bool) → filter tells_picture (if t then (codes "row " ++ encode_lower pixels) ∷ (if note.ragged then with_fields (codes "! ragged") (note.row ∷ []) ∷ [] else []) else []) ≡ flat_map reported_lines (cond t (row pixels note ∷ []) [])
-    by_test true = ap (λ (xs : List (List ℕ)). line_of (row pixels note) ∷ xs) (ragged_line note.ragged note.row)
-    by_test false = refl
-
 -- what is listed at an event
 event_lines : (reported : List Event) (event : Event) → filter tells_picture (lines_at reported event) ≡ flat_map reported_lines (listed_at (frame_events reported) event)
-unfolding lines_at frame_event_of line_words
+unfolding lines_at frame_event_of line_words packet_lines row_lines
 event_lines reported (run value count) = frame_line (last_vic reported) (frame_at (frame_events reported) (run_frame_event value count))
-event_lines reported (line pixels) = row_line pixels (line_at (frame_events reported) (length pixels / 3))
-event_lines reported (packet p verdicts column) = no_packet p verdicts column
+event_lines reported (line pixels) = grind (arith, ragged_line)
+event_lines reported (packet p verdicts column) = grind (arith, choice_none, no_carried)
 event_lines reported (open_island a b) = refl
 event_lines reported (close_island a b) = refl
 event_lines reported (word lane j) = refl

@@ -64,25 +64,11 @@ gap_clear false ms = refl
 one_none : (b : Bool) (ms : List Mark) → clear b ms ≡ true → three_have b (column b ∷ ms) ≡ false
 one_none b [] h = refl
 one_none b (x ∷ []) h = refl
-one_none b (x ∷ (y ∷ ms)) h = middle (has_vsync b (column b)) (has_vsync b x) (has_vsync b y) h
-  where
-    middle : (a b c : Bool) → not b ≡ true → (a && b && c) ≡ false
-    middle true true c h = absurd cc
-    middle true false c h = refl
-    middle false b c h = refl
+one_none b (x ∷ (y ∷ ms)) h = grind arith
 
 two_none : (b : Bool) (ms : List Mark) → clear b ms ≡ true → three_have b (column b ∷ (column b ∷ ms)) ≡ false
 two_none b [] h = refl
-two_none b (x ∷ ms) h = last (has_vsync b (column b)) (has_vsync b (column b)) (has_vsync b x) h
-  where
-    last : (a b c : Bool) → not c ≡ true → (a && b && c) ≡ false
-    last a b true h = absurd cc
-    last true true false h = refl
-    last true false false h = refl
-    last false b false h = refl
-
-one_more : (r : Bool) (n : ℕ) (rs : List Bool) → wrongs (suc n) (r ∷ rs) ≡ one_if r + wrongs n rs
-one_more r n rs = refl
+two_none b (x ∷ ms) h = grind arith
 
 -- one more of the wrong level is no third
 pub record MayGrow (b : Bool) (ms : List Mark) (rs : List Bool) : Type 0 where
@@ -114,17 +100,7 @@ pub record IsWrong (b w : Bool) (rs : List Bool) : Type 0 where
   pub allowed : few rs ≡ true
 
 pub taken_cases : (b v : Bool) (rs : List Bool) → (taken b v rs ≡ b) ⊎ IsWrong b (taken b v rs) rs
-taken_cases b v rs = elim (by_test (few rs) refl b v) [
-  | inl e ↦ inl e
-  | inr h ↦ inr (record { other = h.0; allowed = h.1 })
-]
-  where
-    by_test : (t : Bool) → few rs ≡ t → (b v : Bool) → (cond t v b ≡ b) ⊎ ((cond t v b ≡ not b) × (few rs ≡ true))
-    by_test false e b v = inl refl
-    by_test true e true true = inl refl
-    by_test true e true false = inr (refl, e)
-    by_test true e false true = inr (refl, e)
-    by_test true e false false = inl refl
+taken_cases b v rs = grind (arith, few)
 
 flag_right : (b : Bool) → not (same b b) ≡ false
 flag_right true = refl
@@ -166,10 +142,7 @@ differ_other false = refl
 
 -- a column of the level that was heard
 column_again : (f b : Bool) (s : State) → s.heard ≡ Some b → column_state f b s ≡ turned false (column b ∷ s.marks) (Some b) (f ∷ s.recent) s
-column_again f b s e =
-    let t = three_have b (column b ∷ s.marks) in
-    ap (λ (h : Option Bool). turned (differ (hears t b) h) (column b ∷ s.marks) (newer (hears t b) h) (f ∷ s.recent) s) e
-    ∙ ap₂ (λ (d : Bool) (h : Option Bool). turned d (column b ∷ s.marks) h (f ∷ s.recent) s) (differ_same t b) (newer_same t b)
+column_again f b s e = grind (arith, turned, hears, differ_same, newer_same)
 
 again_said : (b : Bool) (s : State) → s.heard ≡ Some b → column_said b s ≡ []
 again_said b s e =
@@ -192,11 +165,7 @@ pub record IsStill (s : State) (b v c : Bool) (g : List ℕ) : Type 0 where
 
 pub still : (b v c : Bool) (g : List ℕ) (s : State) → Ready s b c g → IsStill s b v c g
 still b v c g s was = elim (taken_cases b v s.recent) [
-  | inl e ↦ record {
-    nothing = ap (λ (w : Bool). column_said w s) e ∙ again_said b s was.heard;
-    ready = subst (λ (x : State). Ready x b c g) (sym (step_right b v s e ∙ column_again false b s was.heard))
-        (record { heard = refl; trail = clear_trail b (column b ∷ s.marks) (false ∷ s.recent) (column_clear b s.marks); counting = was.counting; group = was.group });
-  }
+  | inl e ↦ grind (arith, column_said, again_said, State, step_right, column_again, clear_trail, column_clear)
   | inr wrong ↦
       let g2 = grows b s.marks s.recent wrong.allowed was.trail in
       record {
@@ -223,9 +192,7 @@ quiet b c g (control u v ∷ ts) s h was =
     let k = quiet b c g ts (step (control u v) s) (and-right _ _ h) first.1 in
     record { nothing = ap₂ (λ (xs ys : List Listed). xs ++ ys) first.0 k.nothing; ready = k.ready }
 quiet b c g (pixels bytes ∷ ts) s h was = absurd cc
-quiet b c g (parted ∷ ts) s h was =
-    let k = quiet b c g ts (step parted s) h (gap_ready b c g s was) in
-    record { nothing = k.nothing; ready = k.ready }
+quiet b c g (parted ∷ ts) s h was = grind (arith, step, parted, gap_ready, quiet b c g ts)
 
 -- Columns that were sent at one level.
 
@@ -279,15 +246,7 @@ wait_wrong : (s t : State) (b : Bool) (k x r : ℕ) → Waiting s b k x r → fe
 unfolding one_if
 wait_wrong s t b k x r w allowed rs =
     let q = w.seen 10 (omega (arith, w.count, w.few_wrong, w.short)) in
-    let l = leb-true (wrongs 10 s.recent) 1 allowed in
-    record {
-      seen = λ j m. subst (λ (xs : List Bool). suc x ≤ wrongs j xs) (sym rs) (let q = seen_more true k x s.recent w.seen j m in omega (arith, q));
-      earlier = t.marks;
-      marks = refl;
-      count = omega (arith, w.count, w.short);
-      few_wrong = omega (arith, q, l);
-      short = omega arith;
-    }
+    grind (arith, leb-true, wrongs, seen_more)
 
 pub record IsTurned (ts : List Cell) (s : State) (b c : Bool) (g : List ℕ) : Type 0 where
   pub frame : says ts s ≡ ends true c g
@@ -415,10 +374,7 @@ first_column b v s h = elim (taken_cases b v s.recent) [
 ]
   where
     by_three : taken b v s.recent ≡ b → (t : Bool) → three_have b (column b ∷ s.marks) ≡ t → First s b v
-    by_three e true is =
-        hearing (first_said (taken b v s.recent) s h.heard)
-        (subst (λ (x : State). Ready x b false []) (sym (step_right b v s e ∙ first_heard b s h.heard is))
-        (record { heard = refl; trail = clear_trail b (column b ∷ s.marks) (false ∷ s.recent) (column_clear b s.marks); counting = h.counting; group = h.group }))
+    by_three e true is = grind (arith, first_said, taken, State, step_right, first_heard, clear_trail, column_clear)
     by_three e false is =
         let now = step_right b v s e ∙ column_alone false b s is in
         going_on (first_said (taken b v s.recent) s h.heard)
@@ -478,18 +434,10 @@ pub record SameMarks (s t : State) : Type 0 where
   pub marks : s.marks ≡ t.marks
   pub recent : s.recent ≡ t.recent
 
-step_same : (b v : Bool) (s t : State) → SameMarks s t → SameMarks (step (control b v) s) (step (control b v) t)
-step_same b v s t h =
-    let w = ap (λ (rs : List Bool). taken b v rs) h.recent in
-    record {
-      marks = state_marks (not (same b (taken b v s.recent))) (taken b v s.recent) s ∙ ap₂ (λ (x : Bool) (ms : List Mark). column x ∷ ms) w h.marks ∙ sym (state_marks (not (same b (taken b v t.recent))) (taken b v t.recent) t);
-      recent = state_recent (not (same b (taken b v s.recent))) (taken b v s.recent) s ∙ ap₂ (λ (x : Bool) (rs : List Bool). not (same b x) ∷ rs) w h.recent ∙ sym (state_recent (not (same b (taken b v t.recent))) (taken b v t.recent) t);
-    }
-
 columns_same : (b : Bool) (us : List Bool) (s t : State) → SameMarks s t → SameMarks (after (columns b us) s) (after (columns b us) t)
 unfolding after
 columns_same b [] s t h = h
-columns_same b (v ∷ us) s t h = columns_same b us (step (control b v) s) (step (control b v) t) (step_same b v s t h)
+columns_same b (v ∷ us) s t h = grind (arith, step, control, taken, state_marks, same, state_recent, columns_same b us)
 
 -- a state in which a level was heard, without a change
 abbrev pub heard_once : Bool → State

@@ -1,12 +1,12 @@
 -- What is listed by places is what is listed by the columns that came.
-use Rattle.std.proofs.Common.{◌≡◌, ℕ, suc, ◌+◌, ◌-◌, ◌*◌, ◌<◌, ◌≤◌, Bool, true, false, not, ◌||◌, cond, min, max, List, [], ◌∷◌, ◌++◌, length, take, drop, refl, sym, ap, ap₂, subst, ◌∙◌, append_assoc, append-nil, arith, inl, inr}
+use Rattle.std.proofs.Common.{◌≡◌, ℕ, suc, ◌+◌, ◌-◌, ◌<◌, ◌≤◌, Bool, true, false, not, ◌||◌, cond, min, max, List, [], ◌∷◌, ◌++◌, length, take, drop, refl, sym, ap, ap₂, subst, ◌∙◌, append_assoc, append-nil, arith, inl, inr}
 use Rattle.std.specs.Prelude.{nat_lt}
 use Rattle.std.proofs.lemmas.Bool.{cases_lt}
 use Rattle.tmds_word.specs.Column.{Column}
 use Rattle.frame_build.specs.FrameEvent.{Mark}
 use Rattle.source_end.specs.declared.mode.Mode.{Mode}
 use Rattle.source_end.specs.Content.{Frame}
-use Rattle.source_end.specs.Raster.{Part, column, pixels, packets, sync, back, active, front, total, laid, lines_of, parts_of}
+use Rattle.source_end.specs.Raster.{Part, column, pixels, packets, front, total, parts_of}
 use Rattle.source_end.specs.Gathering.{part_size, size}
 use Rattle.source_end.specs.Lines.{left}
 use Rattle.source_end.proofs.Gathered.{size_append}
@@ -40,20 +40,11 @@ record IsCut (xs ys us vs : List Part) : Type 0 where
   pub are : ys ≡ between ++ vs
   pub place : size xs + size between ≡ size us
 
-same_head : (x u : Part) (xs us : List Part) → x ∷ xs ≡ u ∷ us → x ≡ u
-same_head x u xs us e = cc
-
-same_tail : (x u : Part) (xs us : List Part) → x ∷ xs ≡ u ∷ us → xs ≡ us
-same_tail x u xs us e = cc
-
 cut_parts : (xs ys us vs : List Part) → xs ++ ys ≡ us ++ vs → size xs ≤ size us → IsCut xs ys us vs
 unfolding size
 cut_parts [] ys us vs e le = record { between = us; are = e; place = omega arith }
 cut_parts (x ∷ xs) ys [] vs e le = absurd (omega (arith, some_columns x, le))
-cut_parts (x ∷ xs) ys (u ∷ us) vs e le =
-    let h = ap part_size (same_head x u (xs ++ ys) (us ++ vs) e) in
-    let k = cut_parts xs ys us vs (same_tail x u (xs ++ ys) (us ++ vs) e) (omega (arith, h, le)) in
-    record { between = k.between; are = k.are; place = omega (arith, h, k.place) }
+cut_parts (x ∷ xs) ys (u ∷ us) vs e le = grind (arith, cut_parts xs ys us vs)
 
 -- Eleven columns of a level have three neighbouring ones.
 
@@ -89,11 +80,7 @@ later b parts k ss rs begins even le s =
     let o = opened (not b) parts k ss rs begins in
     let l : length o.levels ≡ 11 = let m = o.long in omega (arith, m, le) in
     let h = settle (not b) o.levels o.rest s (omega (arith, l)) (rest_flat (not b) (cells_of (not b) o.levels) o.rest (parts_cells k parts ss rs) o.are (even k ss rs)) in
-    let here : is_heard b (after (cells_of (not b) o.levels ++ o.rest) s).heard ≡ false = ap (is_heard b) h.ready.heard ∙ other_heard b in
-    record {
-      unheard = ap (λ (ts : List Cell). is_heard b (after ts s).heard) o.are ∙ here;
-      long = let e = ap length o.are in let m = longer (cells_of (not b) o.levels) o.rest in let n = length_cells (not b) o.levels in omega (arith, e, m, n, l);
-    }
+    grind (arith, is_heard, after, cells_of, other_heard, Cell, longer, length_cells)
 
 -- behind lines of the other level three neighbouring columns came where the level is heard
 zone_met : (b : Bool) (fs : List Cell) (us : List Bool) (s : State) → fine s.recent (fs ++ cells_of b us) ≡ true → IsAfter b fs s → met b (push fs []) (cells_of b us) ≡ is_heard b (after (fs ++ cells_of b us) s).heard
@@ -237,30 +224,15 @@ unfolding rows_listed rows_received
 rows_same mode ss rs e p y [] = refl
 rows_same mode ss rs e p y (bytes ∷ rows) = ap (λ (xs : List Listed). cond (nat_lt (p + row_end mode) e) (row (row_bytes ss rs (p + row_at mode) bytes) (record { counts = true; ragged = false; row = y }) ∷ []) [] ++ xs) (rows_same mode ss rs e (p + total mode.across) (suc y) rows)
 
-frame_size : (mode : Mode) → IsMode mode → (f : Frame) → IsFrame mode f → size (laid mode (lines_of mode f) f.packets) ≡ frame_area mode
-frame_size mode ok f good =
-    let e = size_frame mode ok f good ∙ sym (four_areas (sync mode.down) (back mode.down) (active mode.down) (front mode.down) (total mode.across)) in
-    omega (arith, e)
-
 -- the parts before a frame's front lines
 abbrev high_part : Mode → Frame → List Part
 high_part mode f = sync_part mode f ++ (back_part mode f ++ rows_part mode f)
 
 high_size : (mode : Mode) → IsMode mode → (f : Frame) → IsFrame mode f → size (high_part mode f) ≡ sync_area mode + back_area mode + active_area mode
-high_size mode ok f good =
-    let a = size_append (sync_part mode f) (back_part mode f ++ rows_part mode f) in
-    let c = size_append (back_part mode f) (rows_part mode f) in
-    let n = size_blank mode true (sync mode.down) f.packets in
-    let m = size_blank mode false (back mode.down) (after_sync mode f) in
-    let r = size_rows mode ok f.rows good.rows (after_back mode f) in
-    let area : length f.rows * total mode.across ≡ active_area mode = ap (λ (n : ℕ). n * total mode.across) good.count in
-    omega (arith, a, c, n, m, r, area)
+high_size mode ok f good = grind (arith, size_append, sync_part, back_part, rows_part, size_blank, after_sync, size_rows, after_back, active_area)
 
 high_and_front : (mode : Mode) (f : Frame) (frames : List Frame) → parts_of mode (f ∷ frames) ≡ high_part mode f ++ (front_part mode f ++ parts_of mode frames)
-high_and_front mode f frames =
-    parts_more mode f frames
-    ∙ ap (λ (ps : List Part). sync_part mode f ++ ps) (sym (append_assoc (back_part mode f) (rows_part mode f) (front_part mode f ++ parts_of mode frames)))
-    ∙ sym (append_assoc (sync_part mode f) (back_part mode f ++ rows_part mode f) (front_part mode f ++ parts_of mode frames))
+high_and_front mode f frames = grind (arith, parts_more, sync_part, append_assoc, back_part, rows_part, front_part)
 
 at_front : (mode : Mode) → IsMode mode → (all : List Frame) (f : Frame) → IsFrame mode f → (frames : List Frame) (p : ℕ) → IsAt mode all (parts_of mode (f ∷ frames)) p → IsAt mode all (front_part mode f ++ parts_of mode frames) (front_at mode p)
 at_front mode ok all f good frames p h =
@@ -268,9 +240,7 @@ at_front mode ok all f good frames p h =
     at_next mode all (high_part mode f) (front_part mode f ++ parts_of mode frames) p (front_at mode p) (subst (λ (ps : List Part). IsAt mode all ps p) (high_and_front mode f frames) h) (omega (arith, s))
 
 at_later : (mode : Mode) → IsMode mode → (all : List Frame) (f : Frame) → IsFrame mode f → (frames : List Frame) (p : ℕ) → IsAt mode all (parts_of mode (f ∷ frames)) p → IsAt mode all (parts_of mode frames) (next_at mode p)
-at_later mode ok all f good frames p h =
-    let s = frame_size mode ok f good in
-    at_next mode all (laid mode (lines_of mode f) f.packets) (parts_of mode frames) p (next_at mode p) (subst (λ (ps : List Part). IsAt mode all ps p) (parts_first mode f frames) h) (omega (arith, s))
+at_later mode ok all f good frames p h = grind (arith, at_next, parts_first, size_frame, four_areas)
 
 front_low : (mode : Mode) → IsMode mode → (all : List Frame) (f : Frame) → IsFrame mode f → (frames : List Frame) (p : ℕ) → IsAt mode all (parts_of mode (f ∷ frames)) p
     → LowAndSync mode all (front_part mode f) (parts_of mode frames) (front_at mode p) (next_at mode p)
@@ -312,11 +282,7 @@ by_columns mode ss rs a e p f =
 
 frame_same : (mode : Mode) (ss rs : List Column) (a e : ℕ) (last : Bool) (p : ℕ) (f : Frame) → counts mode rs a e p ≡ true → is_reported mode rs a e p ≡ turns e last (next_at mode p) → by_place mode ss rs e last p f ≡ by_columns mode ss rs a e p f
 unfolding frame_reported
-frame_same mode ss rs a e last p f counting reported =
-    let d : p + frame_area mode ≡ next_at mode p = omega arith in
-    ap₂ (λ (xs : List Listed) (t : Bool). xs ++ cond t (whole_frame mode ∷ []) []) (rows_same mode ss rs e (p + sync_area mode + back_area mode) 0 f.rows)
-    (ap (λ (q : ℕ). turns e last q) d ∙ sym reported)
-    ∙ sym (ap (λ (t : Bool). cond t (rows_received mode ss rs e (active_at mode p) 0 f.rows ++ cond (is_reported mode rs a e p) (whole_frame mode ∷ []) []) []) counting)
+frame_same mode ss rs a e last p f counting reported = grind (arith, frame_area, rows_same, sync_area, back_area, turns)
 
 no_sync : (mode : Mode) (cs : List Column) → has_sync mode (take 0 cs) ≡ false
 unfolding has_sync
@@ -387,9 +353,6 @@ start_same mode all ss rs a e last scene (f ∷ frames) are p le h starts = elim
       (ap (λ (q : ℕ). frames_from mode ss rs a e last q frames) (next_place mode p)
       ∙ elim (cases_lt a (next_at mode p)) [
         | inl less ↦ after_same mode all ss rs a e last scene frames are.1 (next_at mode p) (omega (arith, less)) (at_later mode scene.ok all f are.0 frames p h)
-        | inr least ↦
-            let d : (a - p) - frame_area mode ≡ a - next_at mode p = omega arith in
-            start_same mode all ss rs a e last scene frames are.1 (next_at mode p) least (at_later mode scene.ok all f are.0 frames p h)
-            (subst (λ (n : ℕ). StartsSync mode frames n scene.mid) d (starts.1 (omega (arith, least))))
+        | inr least ↦ grind (arith, frame_area, at_later, StartsSync, start_same mode all ss rs a e last scene frames)
       ])
 ]

@@ -1,5 +1,5 @@
 -- The packets that are told are those that came whole, in order.
-use Rattle.std.proofs.Common.{◌≡◌, ℕ, zero, suc, ◌+◌, ◌-◌, ◌*◌, ◌<◌, ◌≤◌, Bool, true, false, not, ◌&&◌, cond, ◌==◌, List, [], ◌∷◌, ◌++◌, map, length, take, drop, Option, Some, None, refl, sym, ap, ap₂, subst, ◌∙◌, append_assoc, arith, inl, inr, ◌⊎◌}
+use Rattle.std.proofs.Common.{◌≡◌, ℕ, zero, suc, ◌+◌, ◌-◌, ◌*◌, ◌<◌, ◌≤◌, Bool, true, false, not, ◌&&◌, cond, List, [], ◌∷◌, ◌++◌, map, length, take, drop, Option, Some, None, refl, sym, ap, ap₂, subst, ◌∙◌, append_assoc, arith, inl, inr, ◌⊎◌}
 use Rattle.std.specs.Prelude.{nat_le, nat_lt}
 use Rattle.std.proofs.lemmas.Bool.{le-leb, lt-leb, lt-ltb, le-ltb, cases_lt}
 use Rattle.std.proofs.lemmas.List.{drop-drop, drop-take, take-take, map-append}
@@ -15,7 +15,6 @@ use Rattle.period_grammar.specs.Events.{Event, preamble, cut, symbols, guard, al
 use Rattle.island_pack.specs.Repaired.{verdicts_of}
 use Rattle.period_grammar.specs.Cut.{Run, columns, runs as runs_of}
 use Rattle.period_grammar.specs.Island.{if_so, block_fault, block_faults, wrong_guards}
-use Rattle.period_grammar.specs.Coding.{first_uncoded}
 use Rattle.period_grammar.specs.Heard.{other_word, other_words, words, has_preamble, if_not, codes_of, code_fault}
 use Rattle.period_grammar.proofs.Hearings.{events_at}
 use Rattle.link_laws.specs.Account.{runs_row, control_row, wrong_preamble, open_video_row, open_island_row, close_island_row, video_row, video_reported, packet_row, packet_reported, packets_reported, island_reported, period_row, account_from, account_at, account}
@@ -33,9 +32,7 @@ reported_both (x ∷ xs) ys = ap (λ (ks : List ReportedPacket). reported_packet
 received_both : (ss rs : List Column) (a e : ℕ) (ks ls : List Placed) → packets_received ss rs a e (ks ++ ls) ≡ packets_received ss rs a e ks ++ packets_received ss rs a e ls
 unfolding packets_received
 received_both ss rs a e [] ls = refl
-received_both ss rs a e (k ∷ ks) ls =
-    ap (λ (xs : List ReportedPacket). cond (nat_le a k.at && nat_le (k.at + 32) e) (received_packet ss rs a k ∷ []) [] ++ xs) (received_both ss rs a e ks ls)
-    ∙ sym (append_assoc (cond (nat_le a k.at && nat_le (k.at + 32) e) (received_packet ss rs a k ∷ []) []) (packets_received ss rs a e ks) (packets_received ss rs a e ls))
+received_both ss rs a e (k ∷ ks) ls = grind (arith, append_assoc, received_both ss rs a e ks ls)
 
 -- Events that are no packets.
 
@@ -73,15 +70,9 @@ unfolding reported_packets
 no_code lane s None = refl
 no_code lane s (Some i) = refl
 
-no_codes : (s : ℕ) (cs : List Column) → reported_packets (codes_of s cs) ≡ []
-unfolding codes_of
-no_codes s cs =
-    no_both (code_fault 0 s (first_uncoded (map (λ c. c.blue) cs))) _ (no_code 0 s (first_uncoded (map (λ c. c.blue) cs)))
-    (no_both (code_fault 1 s (first_uncoded (map (λ c. c.green) cs))) _ (no_code 1 s (first_uncoded (map (λ c. c.green) cs))) (no_code 2 s (first_uncoded (map (λ c. c.red) cs))))
-
 no_line : (t : Bool) (j : ℕ) (ps : List Pixel) (ss rs : List Column) → reported_packets (cond t (video_row j ps ss rs) (cut (j + 2) ∷ [])) ≡ []
-unfolding reported_packets video_row
-no_line true j ps ss rs = no_codes (j + 2) rs
+unfolding reported_packets video_row codes_of
+no_line true j ps ss rs = grind (arith, no_both, no_code)
 no_line false j ps ss rs = refl
 
 no_lack : (t : Bool) (b : ℕ) → reported_packets (if_not t (preamble b)) ≡ []
@@ -140,10 +131,7 @@ no_blocks s b (v ∷ vs) = no_both (block_fault s b v) (block_faults s (b + 1) v
 
 one_packet : (s : ℕ) (p : Packet) (ss rs : List Column) → reported_packets (packet_reported s p ss rs) ≡ record { packet = packet_row p ss rs; verdicts = verdicts_of rs; column = s } ∷ []
 unfolding reported_packets packet_reported
-one_packet s p ss rs =
-    ap (λ (ks : List ReportedPacket). record { packet = packet_row p ss rs; verdicts = verdicts_of rs; column = s } ∷ ks)
-    (no_both (if_so (not ((verdicts_of rs).symbols == 0)) (symbols s (verdicts_of rs).symbols)) (block_faults s 0 (verdicts_of rs).blocks)
-    (no_symbols (not ((verdicts_of rs).symbols == 0)) s (verdicts_of rs).symbols) (no_blocks s 0 (verdicts_of rs).blocks))
+one_packet s p ss rs = grind (arith, no_both, no_symbols, no_blocks)
 
 -- Packets one after another.
 
@@ -205,38 +193,15 @@ unfolding packets_reported
 cut_packet s i p ps ss rs lt =
     ap (λ (t : Bool). cond t (cut s ∷ []) (packet_reported s p (take 32 ss) (take 32 rs) ++ packets_reported cut (s + 32) ps (i - 32) (drop 32 ss) (drop 32 rs))) (lt-ltb i 32 lt)
 
-last_packets : (s i : ℕ) (ss rs : List Column) → reported_packets (packets_reported cut s [] i ss rs) ≡ []
-unfolding packets_reported
-last_packets s i ss rs = no_closing (nat_le 2 i) s rs
-
-no_cut : (s : ℕ) → reported_packets (cut s ∷ []) ≡ []
-unfolding reported_packets
-no_cut s = refl
-
 nothing_received : (ss rs : List Column) (a e y : ℕ) → packets_received ss rs a e (each_at y []) ≡ []
 unfolding each_at packets_received
 nothing_received ss rs a e y = refl
 
 packets_are : (ps : List Packet) (ss rs : List Column) (a e y : ℕ) → a ≤ y
     → reported_packets (packets_reported cut (y - a) ps (e - y) (window (length ps) y ss) (window (length ps) y rs)) ≡ packets_received ss rs a e (each_at y ps)
-packets_are [] ss rs a e y le = last_packets (y - a) (e - y) (window 0 y ss) (window 0 y rs) ∙ sym (nothing_received ss rs a e y)
-packets_are (p ∷ ps) ss rs a e y le =
-    let n = length ps in
-    elim (cases_lt e (y + 32)) [
-      | inl lt ↦ ap reported_packets (cut_packet (y - a) (e - y) p ps (window (suc n) y ss) (window (suc n) y rs) (omega (arith, lt))) ∙ no_cut (y - a) ∙ sym (none_received ss rs a e y (p ∷ ps) lt)
-      | inr to ↦
-          let d : y - a + 32 ≡ (y + 32) - a = omega (arith, le) in
-          let f : e - y - 32 ≡ e - (y + 32) = omega arith in
-          ap reported_packets (whole_packet (y - a) (e - y) p ps (window (suc n) y ss) (window (suc n) y rs) (omega (arith, to)))
-          ∙ reported_both (packet_reported (y - a) p (take 32 (window (suc n) y ss)) (take 32 (window (suc n) y rs))) (packets_reported cut (y - a + 32) ps (e - y - 32) (drop 32 (window (suc n) y ss)) (drop 32 (window (suc n) y rs)))
-          ∙ ap₂ (λ (xs ys : List ReportedPacket). xs ++ ys)
-          (one_packet (y - a) p (take 32 (window (suc n) y ss)) (take 32 (window (suc n) y rs))
-          ∙ ap₂ (λ (cs ds : List Column). record { packet = packet_row p cs ds; verdicts = verdicts_of ds; column = y - a } ∷ []) (first_window n y ss) (first_window n y rs))
-          (ap₂ (λ (i k : ℕ). reported_packets (packets_reported cut i ps k (drop 32 (window (suc n) y ss)) (drop 32 (window (suc n) y rs)))) d f
-          ∙ ap₂ (λ (cs ds : List Column). reported_packets (packets_reported cut ((y + 32) - a) ps (e - (y + 32)) cs ds)) (rest_window n y ss) (rest_window n y rs)
-          ∙ packets_are ps ss rs a e (y + 32) (omega (arith, le)))
-          ∙ sym (one_received ss rs a e y p ps le to)
-    ]
+unfolding packets_reported reported_packets
+packets_are [] ss rs a e y le = grind (arith, nothing_received, no_closing)
+packets_are (p ∷ ps) ss rs a e y le = grind (arith, cases_lt, cut_packet, none_received, whole_packet, reported_both, one_packet, first_window, rest_window, one_received, packets_are ps ss rs a e)
 
 -- An island.
 
@@ -270,23 +235,15 @@ island_are before i ss rs a e x (suc (suc k)) le is =
     ∙ ap₂ (λ (s l : ℕ). reported_packets (packets_reported cut s i.packets l (window n (x + 2) ss) (window n (x + 2) rs))) d f
     ∙ packets_are i.packets ss rs a e (x + 2) (omega (arith, le))
 
-none_reported : (ss rs : List Column) (a e : ℕ) → reported_packets [] ≡ packets_received ss rs a e []
-unfolding reported_packets packets_received
-none_reported ss rs a e = refl
-
 -- Periods from column x on.
 
 onward : (before : List Column) (periods : List Period) (ss rs : List Column) (a e x n : ℕ) → a ≤ x
     → reported_packets (account_from (x - a + n) (e - x - n) before periods (drop n (drop x ss)) (drop n (drop x rs))) ≡ reported_packets (account_from ((x + n) - a) (e - (x + n)) before periods (drop (x + n) ss) (drop (x + n) rs))
-onward before periods ss rs a e x n le =
-    let d : x - a + n ≡ (x + n) - a = omega (arith, le) in
-    let f : e - x - n ≡ e - (x + n) = omega arith in
-    ap₂ (λ (i k : ℕ). reported_packets (account_from i k before periods (drop n (drop x ss)) (drop n (drop x rs)))) d f
-    ∙ ap₂ (λ (cs ds : List Column). reported_packets (account_from ((x + n) - a) (e - (x + n)) before periods cs ds)) (drop-drop n x ss) (drop-drop n x rs)
+onward before periods ss rs a e x n le = grind (arith, drop-drop)
 
 from_reported : (before : List Column) (periods : List Period) (ss rs : List Column) (a e x : ℕ) → a ≤ x → reported_packets (account_from (x - a) (e - x) before periods (drop x ss) (drop x rs)) ≡ packets_received ss rs a e (placed x periods)
-unfolding account_from period_row placed
-from_reported before [] ss rs a e x le = none_reported ss rs a e
+unfolding account_from period_row placed reported_packets packets_received
+from_reported before [] ss rs a e x le = grind arith
 from_reported before (control runs ∷ periods) ss rs a e x le =
     let n = period_columns (control runs) in
     reported_both (control_row (x - a) (take (e - x) (take n (drop x rs)))) _
@@ -312,11 +269,6 @@ InControl (control runs ∷ periods) n = (n < period_columns (control runs)) ⊎
 InControl (video bytes ∷ periods) n = (period_columns (video bytes) ≤ n) × InControl periods (n - period_columns (video bytes))
 InControl (island x ∷ periods) n = (period_columns (island x) ≤ n) × InControl periods (n - period_columns (island x))
 
-past_period : (p : Period) (periods : List Period) (ss rs : List Column) (n m : ℕ) → period_columns p ≤ n → account (p ∷ periods) ss rs n m ≡ account periods (drop (period_columns p) ss) (drop (period_columns p) rs) (n - period_columns p) m
-unfolding account
-past_period p periods ss rs n m le =
-    ap (λ (t : Bool). cond t (account_at p n m periods ss rs) (account periods (drop (period_columns p) ss) (drop (period_columns p) rs) (n - period_columns p) m)) (le-ltb n (period_columns p) le)
-
 in_period : (runs : List ControlRun) (periods : List Period) (ss rs : List Column) (n m : ℕ) → n < period_columns (control runs)
     → account (control runs ∷ periods) ss rs n m
     ≡ control_row 0 (take m (drop n (take (period_columns (control runs)) rs)))
@@ -329,11 +281,8 @@ in_period runs periods ss rs n m lt =
 beyond : (p : Period) (periods : List Period) (ss rs : List Column) (a m x n : ℕ) → x + n ≡ a → period_columns p ≤ n
     → ((k : ℕ) → (x + period_columns p) + k ≡ a → k ≡ n - period_columns p → reported_packets (account periods (drop (x + period_columns p) ss) (drop (x + period_columns p) rs) k m) ≡ packets_received ss rs a (a + m) (placed (x + period_columns p) periods))
     → reported_packets (account (p ∷ periods) (drop x ss) (drop x rs) n m) ≡ packets_received ss rs a (a + m) (placed (x + period_columns p) periods)
-beyond p periods ss rs a m x n place le later =
-    let w = period_columns p in
-    ap reported_packets (past_period p periods (drop x ss) (drop x rs) n m le)
-    ∙ ap₂ (λ (cs ds : List Column). reported_packets (account periods cs ds (n - w) m)) (drop-drop w x ss) (drop-drop w x rs)
-    ∙ later (n - w) (omega (arith, place, le)) refl
+unfolding account
+beyond p periods ss rs a m x n place le later = grind (arith, drop-drop, le-ltb)
 
 account_reported : (periods : List Period) (ss rs : List Column) (a m x n : ℕ) → x + n ≡ a → InControl periods n → reported_packets (account periods (drop x ss) (drop x rs) n m) ≡ packets_received ss rs a (a + m) (placed x periods)
 unfolding InControl placed
@@ -353,12 +302,7 @@ account_reported (control runs ∷ periods) ss rs a m x n place (inr h) =
     beyond (control runs) periods ss rs a m x n place h.0 (λ k e is. account_reported periods ss rs a m (x + period_columns (control runs)) k e (subst (λ (i : ℕ). InControl periods i) (sym is) h.1))
 account_reported (video bytes ∷ periods) ss rs a m x n place h =
     beyond (video bytes) periods ss rs a m x n place h.0 (λ k e is. account_reported periods ss rs a m (x + period_columns (video bytes)) k e (subst (λ (i : ℕ). InControl periods i) (sym is) h.1))
-account_reported (island i ∷ periods) ss rs a m x n place h =
-    let w = period_columns (island i) in
-    let s = island_size i in
-    beyond (island i) periods ss rs a m x n place h.0 (λ k e is. account_reported periods ss rs a m (x + w) k e (subst (λ (i : ℕ). InControl periods i) (sym is) h.1))
-    ∙ sym (received_both ss rs a (a + m) (each_at (x + 2) i.packets) (placed (x + w) periods)
-    ∙ ap (λ (xs : List ReportedPacket). xs ++ packets_received ss rs a (a + m) (placed (x + w) periods)) (past_none ss rs a (a + m) (x + 2) i.packets (omega (arith, place, h.0, s))))
+account_reported (island i ∷ periods) ss rs a m x n place h = grind (arith, island_size, beyond, received_both, past_none, account_reported periods ss rs a m)
 
 -- what stands between control periods is past
 past_inner : (vs : List ℕ) (x : Period) (rest : List Period) (n : ℕ) → IsInner vs x → period_columns x ≤ n → InControl rest (n - period_columns x) → InControl (x ∷ rest) n
@@ -377,10 +321,7 @@ later_period runs rest n le h = let s = control_size runs in inr (omega (arith, 
 
 -- twelve columns before the end of a control period lies in it
 in_control : (vs : List ℕ) (tail : List Period) → Follows vs tail → (runs : List ControlRun) → vs ≡ values_of runs → (a : ℕ) → EndsAt (kinds_from vs tail) (a + 11) → InControl (control runs ∷ tail) a
-in_control _ _ (ends vs h) runs same a e =
-    let last = ends_only vs (a + 11) e in
-    let l : length vs ≡ length (values_of runs) = ap length same in
-    first_period runs [] a (omega (arith, last, l))
+in_control _ _ (ends vs h) runs same a e = grind (arith, ends_only, first_period)
 in_control _ _ (goes_on vs x next rest h v f) runs same a e =
     let l : length vs ≡ length (values_of runs) = ap length same in
     elim (ends_first vs x (control next ∷ rest) (a + 11) v e) [

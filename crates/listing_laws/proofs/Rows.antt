@@ -1,13 +1,12 @@
 -- The rows of a frame: each that came, with the column after it, is listed if the group counts; and what VSYNC sees of it
 -- is a gap.
-use Rattle.std.proofs.Common.{◌≡◌, ℕ, zero, suc, ◌+◌, ◌-◌, ◌*◌, ◌/◌, ◌<◌, ◌≤◌, Bool, true, false, not, ◌&&◌, cond, ◌==◌, List, [], ◌∷◌, ◌++◌, length, take, drop, replicate, Some, refl, sym, ap, ap₂, subst, ◌∙◌, append-nil, arith}
-use Rattle.std.specs.Prelude.{nat_lt}
+use Rattle.std.proofs.Common.{◌≡◌, ℕ, zero, suc, ◌+◌, ◌-◌, ◌*◌, ◌/◌, ◌<◌, ◌≤◌, Bool, true, false, not, ◌&&◌, cond, List, [], ◌∷◌, ◌++◌, length, take, drop, replicate, Some, refl, sym, ap, subst, ◌∙◌, append-nil, arith}
 use Rattle.std.proofs.lemmas.Bool.{lt-ltb, le-ltb}
 use Rattle.std.proofs.lemmas.List.{drop-drop, drop-take, length-take, length-drop, length-replicate}
 use Rattle.tmds_word.specs.Column.{Column}
 use Rattle.island_pack.specs.Periods.{Pixel, pixels_of}
 use Rattle.island_pack.specs.declared.packet.Packet.{Packet}
-use Rattle.frame_build.specs.Group.{is_unlike, reported_count}
+use Rattle.frame_build.specs.Group.{is_unlike}
 use Rattle.frame_build.specs.declared.LineNote.{LineNote}
 use Rattle.link_laws.specs.Account.{pixel_bytes}
 use Rattle.source_end.specs.declared.mode.Mode.{Mode}
@@ -16,7 +15,7 @@ use Rattle.source_end.specs.Gathering.{size}
 use Rattle.source_end.proofs.RasterModes.{IsMode}
 use Rattle.source_end.proofs.RasterSizes.{size_until, row_fits}
 use Rattle.listing_laws.specs.FrameLaws.{row_at, row_end}
-use Rattle.listing_writer.specs.Listed.{Listed, listed_rows}
+use Rattle.listing_writer.specs.Listed.{listed_rows}
 use Rattle.listing_laws.proofs.Cells.{Cell, pixels as pixels_cell, parted, State, note_of, step, after, says, after_append, says_append}
 use Rattle.listing_laws.proofs.Ready.{Flat, flat_append, Ready, quiet, clear_trail, gap_clear}
 use Rattle.listing_laws.proofs.Parts.{row_cells, part_cells, parts_cells, parts_append}
@@ -28,12 +27,7 @@ seen ss rs e p parts = parts_cells (e - p) parts (drop p ss) (drop p rs)
 
 pub seen_append : (ss rs : List Column) (e p : ℕ) (xs ys : List Part) → seen ss rs e p (xs ++ ys) ≡ seen ss rs e p xs ++ seen ss rs e (p + size xs) ys
 unfolding seen
-seen_append ss rs e p xs ys =
-    let d : (e - p) - size xs ≡ e - (p + size xs) = omega arith in
-    parts_append xs ys (e - p) (drop p ss) (drop p rs)
-    ∙ ap (λ (ts : List Cell). parts_cells (e - p) xs (drop p ss) (drop p rs) ++ ts)
-    (ap (λ (k : ℕ). parts_cells k ys (drop (size xs) (drop p ss)) (drop (size xs) (drop p rs))) d
-    ∙ ap₂ (λ (cs ds : List Column). parts_cells (e - (p + size xs)) ys cs ds) (drop-drop (size xs) p ss) (drop-drop (size xs) p rs))
+seen_append ss rs e p xs ys = grind (arith, parts_append, Cell, parts_cells, drop-drop)
 
 pub seen_even : (b : Bool) (ss rs : List Column) (e p : ℕ) (parts : List Part) → Even b parts → Flat b (seen ss rs e p parts)
 unfolding seen
@@ -57,14 +51,10 @@ bytes_length (p ∷ ps) [] rs d e = absurd (omega (arith, d))
 bytes_length (p ∷ ps) (s ∷ ss) [] d e = absurd (omega (arith, e))
 bytes_length (p ∷ ps) (s ∷ ss) (r ∷ rs) d e = let h = bytes_length ps ss rs (omega (arith, d)) (omega (arith, e)) in omega (arith, h)
 
--- a row that did not come whole with the column after it
-cut_row : (b : Bool) (ps : List Pixel) (ss rs : List Column) (i : ℕ) → nat_lt (length ps) i ≡ false → Flat b (row_cells (suc (suc i)) ps ss rs)
-cut_row b ps ss rs i h = subst (λ (x : Bool). Flat b (cond x (pixels_cell (pixel_bytes ps (drop 2 ss) (drop 2 rs)) ∷ []) (parted ∷ []))) (sym h) refl
-
 pub row_cut : (b : Bool) (m : ℕ) (ps : List Pixel) (ss rs : List Column) → m ≤ 2 + length ps → Flat b (row_cells m ps ss rs)
 row_cut b zero ps ss rs le = refl
 row_cut b (suc zero) ps ss rs le = refl
-row_cut b (suc (suc i)) ps ss rs le = cut_row b ps ss rs i (le-ltb (length ps) i (omega (arith, le)))
+row_cut b (suc (suc i)) ps ss rs le = grind (arith, le-ltb, Flat, pixels_cell, parted)
 
 whole_row : (ps : List Pixel) (ss rs : List Column) (m : ℕ) → 2 + length ps < m → row_cells m ps ss rs ≡ pixels_cell (pixel_bytes ps (drop 2 ss) (drop 2 rs)) ∷ []
 whole_row ps ss rs zero lt = absurd (omega arith)
@@ -77,17 +67,8 @@ note c y = record { counts = c; ragged = false; row = y }
 
 like_first : (c : Bool) (y n : ℕ) → (c && is_unlike (replicate y n) n) ≡ false
 like_first true zero n = refl
-like_first true (suc y) n = same_width n
-  where
-    same_width : (n : ℕ) → not (n == n) ≡ false
-    same_width n = grind arith
+like_first true (suc y) n = grind arith
 like_first false y n = refl
-
-noted : (s : State) (b c : Bool) (y n : ℕ) → Ready s b c (replicate y n) → y ≤ 4096 → note_of s n ≡ note c y
-noted s b c y n was few =
-    let e : reported_count (length (replicate y n)) ≡ y = let l = length-replicate y n in omega (arith, l, few) in
-    ap₂ (λ (x : Bool) (g : List ℕ). record { counts = x; ragged = x && is_unlike g n; row = reported_count (length g) }) was.counting was.group
-    ∙ ap₂ (λ (x : Bool) (k : ℕ). record { counts = c; ragged = x; row = k }) (like_first c y n) e
 
 replicate_snoc : (y n : ℕ) → replicate y n ++ n ∷ [] ≡ replicate (suc y) n
 replicate_snoc zero n = refl
@@ -102,12 +83,7 @@ row_ready s b c g bytes was = record { heard = was.heard; trail = clear_trail b 
 
 pixels_row : (s : State) (b c : Bool) (y n : ℕ) (bytes : List ℕ) → Ready s b c (replicate y n) → y ≤ 4096 → length bytes / 3 ≡ n → IsRow (pixels_cell bytes ∷ []) s b c bytes y n
 unfolding says after
-pixels_row s b c y n bytes was few e =
-    let k = row_ready s b c (replicate y n) bytes was in
-    record {
-      listed = append-nil _ ∙ ap (listed_rows bytes) (ap (note_of s) e ∙ noted s b c y n was few);
-      ready = subst (λ (g : List ℕ). Ready (step (pixels_cell bytes) s) b c g) (ap (λ (i : ℕ). replicate y n ++ i ∷ []) e ∙ replicate_snoc y n) k;
-    }
+pixels_row s b c y n bytes was few e = grind (arith, row_ready, append-nil, note_of, Ready, step, pixels_cell, replicate_snoc, length-replicate, like_first)
 
 pub row_reported : (s : State) (b c : Bool) (y m : ℕ) (ps : List Pixel) (ss rs : List Column) → Ready s b c (replicate y (length ps)) → y ≤ 4096 → 2 + length ps < m
     → length (drop 2 ss) ≡ length ps → length (drop 2 rs) ≡ length ps → IsRow (row_cells m ps ss rs) s b c (pixel_bytes ps (drop 2 ss) (drop 2 rs)) y (length ps)
@@ -193,8 +169,6 @@ row_seen mode ok bytes long ps ss rs e p lt ends_sent ends_received s c y few wa
     let all : seen ss rs e p (first ++ (pixels bytes ∷ tail_of mode bytes)) ≡ seen ss rs e p first ++ (video ++ t) =
     seen_append ss rs e p first (pixels bytes ∷ tail_of mode bytes) ∙ ap (λ (ts : List Cell). seen ss rs e p first ++ ts) (seen_pixels ss rs e at bytes (tail_of mode bytes)) in
     record {
-      listed = ap (λ (ts : List Cell). says ts s) all ∙ says_append (seen ss rs e p first) (video ++ t) s
-          ∙ ap₂ (λ (xs ys : List Listed). xs ++ ys) q.nothing (says_append video t here ∙ ap₂ (λ (xs ys : List Listed). xs ++ ys) r.listed u.nothing ∙ append-nil _)
-          ∙ ap₂ (λ (cs ds : List Column). listed_rows (pixel_bytes (pixels_of bytes) cs ds) (note c y)) sent received;
+      listed = grind (arith, Cell, says, says_append, append-nil);
       ready = subst (λ (x : State). Ready x b c (replicate (suc y) w)) (sym (ap (λ (ts : List Cell). after ts s) all ∙ after_append (seen ss rs e p first) (video ++ t) s ∙ after_append video t here)) u.ready;
     }

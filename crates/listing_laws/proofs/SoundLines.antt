@@ -1,5 +1,5 @@
 -- The lines of events that are no faults: all lines where nothing is one, and none of events that are faults alone.
-use Rattle.std.proofs.Common.{◌≡◌, ℕ, ◌+◌, Bool, true, false, not, cond, ◌==◌, List, [], ◌∷◌, ◌++◌, map, refl, ap, ap₂, sym, ◌∙◌, append_assoc}
+use Rattle.std.proofs.Common.{arith, ◌≡◌, ℕ, ◌+◌, Bool, true, false, not, cond, ◌==◌, List, [], ◌∷◌, ◌++◌, map, refl, ap, ap₂, ◌∙◌, append_assoc}
 use Rattle.std.specs.Prelude.{Option, Some, None}
 use Rattle.std.proofs.lemmas.List.{map-append}
 use Rattle.tmds_word.specs.Column.{Column}
@@ -10,7 +10,6 @@ use Rattle.bch_block.specs.declared.Verdict.TheVariants.{Clean, Mended, Lost}
 use Rattle.link_laws.proofs.Computed.{not_true}
 use Rattle.island_pack.specs.declared.packet.PacketVerdicts.{PacketVerdicts}
 use Rattle.period_grammar.specs.Events.{Event, preamble, guard, symbols, all_at, event_of}
-use Rattle.period_grammar.specs.Coding.{first_uncoded}
 use Rattle.period_grammar.specs.Exact.{is_fault_event}
 use Rattle.period_grammar.specs.Island.{if_so, block_fault, block_faults, packet_faults, wrong_guards}
 use Rattle.period_grammar.specs.Heard.{other_word, other_words, words, if_not, code_fault, codes_of}
@@ -25,9 +24,7 @@ sound_lines (t ∷ ts) = cond (is_fault_event t) [] (line_of t) ++ sound_lines t
 
 pub sound_append : (ts us : List Event) → sound_lines (ts ++ us) ≡ sound_lines ts ++ sound_lines us
 sound_append [] us = refl
-sound_append (t ∷ ts) us =
-    ap (λ (text : List ℕ). cond (is_fault_event t) [] (line_of t) ++ text) (sound_append ts us)
-    ∙ sym (append_assoc (cond (is_fault_event t) [] (line_of t)) (sound_lines ts) (sound_lines us))
+sound_append (t ∷ ts) us = grind (arith, line_of, append_assoc, sound_append ts us)
 
 pub all_sound : (ts : List Event) → Fine ts → sound_lines ts ≡ lines_of ts
 unfolding lines_of
@@ -77,10 +74,7 @@ silent_code lane s (Some i) = refl
 
 pub silent_codes : (s : ℕ) (cs : List Column) → IsSilent (codes_of s cs)
 unfolding codes_of
-silent_codes s cs =
-    silent_both (code_fault 0 s (first_uncoded (map (λ c. c.blue) cs))) _ (silent_code 0 s (first_uncoded (map (λ c. c.blue) cs)))
-    (silent_both (code_fault 1 s (first_uncoded (map (λ c. c.green) cs))) _ (silent_code 1 s (first_uncoded (map (λ c. c.green) cs)))
-    (silent_code 2 s (first_uncoded (map (λ c. c.red) cs))))
+silent_codes s cs = grind (arith, silent_both, silent_code)
 
 silent_symbols : (some : Bool) (s n : ℕ) → IsSilent (if_so some (symbols s n))
 silent_symbols true s n = refl

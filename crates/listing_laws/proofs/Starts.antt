@@ -1,11 +1,11 @@
 -- Where a control period of a raster ends: before a data island, in column 12 of a line, before a row, or at the very end.
 -- So the twelve columns before an end are of one line, and have its VSYNC level.
-use Rattle.std.proofs.Common.{◌≡◌, ℕ, zero, suc, ◌+◌, ◌-◌, ◌*◌, ◌/◌, ◌<◌, ◌≤◌, Bool, true, false, List, [], ◌∷◌, ◌++◌, map, length, replicate, get_or, refl, sym, ap, ap₂, subst, ◌∙◌, append_assoc, arith, inl, inr, ◌⊎◌, length-append}
+use Rattle.std.proofs.Common.{◌≡◌, ℕ, zero, suc, ◌+◌, ◌-◌, ◌*◌, ◌/◌, ◌≤◌, Bool, true, false, List, [], ◌∷◌, ◌++◌, map, length, replicate, refl, sym, ap, ap₂, subst, ◌∙◌, append_assoc, arith, inl, inr, ◌⊎◌, length-append}
 use Rattle.std.proofs.lemmas.Bool.{cases_lt}
 use Rattle.std.proofs.lemmas.List.{get_or_append_left, get_or-append_right, get_or-replicate, length-replicate}
 use Rattle.island_pack.specs.Periods.{DataIsland, Period, control as control_period, video, island, values_of}
 use Rattle.island_pack.specs.declared.packet.Packet.{Packet}
-use Rattle.island_pack.specs.Kinds.{Kind, control_column, second_guard, pixel_column, packet_column, guard_pair, kinds_in, kinds_of, kind_at, EndsAt}
+use Rattle.island_pack.specs.Kinds.{Kind, control_column, pixel_column, packet_column, guard_pair, kinds_in, kinds_of, kind_at, EndsAt}
 use Rattle.island_pack.proofs.Runs.{join_values}
 use Rattle.link_laws.specs.Alternating.{IsMiddle, built}
 use Rattle.link_laws.proofs.Shapes.{middle_video, middle_island, where_ends}
@@ -59,26 +59,7 @@ pub record EndsPast (rest : List Kind) (n i : ℕ) : Type 0 where
   pub ends : EndsAt rest at
 
 past_columns : (n : ℕ) (rest : List Kind) (i : ℕ) → kind_at rest 0 ≡ control_column → EndsAt (replicate n control_column ++ rest) i → EndsPast rest n i
-past_columns n rest i starts h = elim (cases_lt i n) [
-  | inl lt ↦ absurd (h.then (next (cases_lt (i + 1) n) lt))
-  | inr le ↦
-      let l = length-replicate n control_column in
-      let e : (i + 1) - n ≡ (i - n) + 1 = omega (arith, le) in
-      record {
-        at = i - n;
-        place = omega (arith, le);
-        ends = record {
-          here = sym (get_or-append_right (replicate n control_column) rest n i second_guard l le) ∙ h.here;
-          then = λ c. h.then (get_or-append_right (replicate n control_column) rest n (i + 1) second_guard l (omega (arith, le)) ∙ ap (λ k. get_or rest k second_guard) e ∙ c);
-        };
-      }
-]
-  where
-    next : ((i + 1 < n) ⊎ (n ≤ i + 1)) → i < n → kind_at (replicate n control_column ++ rest) (i + 1) ≡ control_column
-    next (inl less) lt = get_or_append_left (replicate n control_column) rest second_guard (i + 1) (let l = length-replicate n control_column in omega (arith, l, less)) ∙ get_or-replicate n (i + 1) control_column second_guard less
-    next (inr least) lt =
-        let e : (i + 1) - n ≡ 0 = omega (arith, lt, least) in
-        get_or-append_right (replicate n control_column) rest n (i + 1) second_guard (length-replicate n control_column) least ∙ ap (λ k. get_or rest k second_guard) e ∙ starts
+past_columns n rest i starts h = grind (arith, cases_lt, length-replicate, get_or-append_right, get_or_append_left, get_or-replicate)
 
 -- The parts of a line from twelve columns before an end on.
 
@@ -93,13 +74,10 @@ pub record Found (b : Bool) (parts : List Part) (i : ℕ) : Type 0 where
 abbrev pub Where : Bool → List Part → List Kind → ℕ → Type 0
 Where b parts rest i = Found b parts i ⊎ EndsPast rest (size parts) i
 
-size_nothing : size [] ≡ 0
-unfolding size
-size_nothing = refl
-
 -- the end is in column 12
 at_twelve : (b : Bool) (parts : List Part) (i : ℕ) → i + 1 ≡ 12 → Begins b parts → Mute b parts → Found b parts i
-at_twelve b parts i e begins mute = record { front = []; mid = parts; are = refl; place = let z = size_nothing in omega (arith, z, e); begins = begins; mute = mute }
+unfolding size
+at_twelve b parts i e begins mute = grind arith
 
 length_island : (n : ℕ) → length (guard_pair ++ (replicate (32 * n) packet_column ++ guard_pair)) ≡ 4 + 32 * n
 length_island n = let l = length-replicate (32 * n) packet_column in omega (arith, length-append (replicate (32 * n) packet_column) guard_pair, l)
@@ -112,22 +90,11 @@ row_middle : (bytes : List ℕ) → 1 ≤ length bytes / 3 → IsMiddle (guard_p
 unfolding kinds_in
 row_middle bytes some = middle_video bytes some
 
-island_first : (x : DataIsland) (parts : List Part) → kinds (packets x ∷ parts) ≡ (guard_pair ++ (replicate (32 * length x.packets) packet_column ++ guard_pair)) ++ kinds parts
-unfolding kinds
-island_first x parts = refl
-
-pixels_first : (bytes : List ℕ) (parts : List Part) → kinds (pixels bytes ∷ parts) ≡ (guard_pair ++ replicate (length bytes / 3) pixel_column) ++ kinds parts
-unfolding kinds
-pixels_first bytes parts = refl
-
 -- the kinds of a line with packets, up to column e
 until_kinds : (mode : Mode) (line : Line) (p : Packet) (ps : List Packet) (e : ℕ)
     → kinds (until mode line (p ∷ ps) e) ≡ replicate 12 control_column ++ ((guard_pair ++ (replicate (32 * length (p ∷ ps)) packet_column ++ guard_pair)) ++ replicate (e - (16 + 32 * length (p ∷ ps))) control_column)
-until_kinds mode line p ps e =
-    kinds_append (columns (value_at mode line true) 0 12) (packets (island_of mode line (p ∷ ps)) ∷ columns (value_at mode line true) (16 + 32 * length (p ∷ ps)) e)
-    ∙ ap₂ (λ (xs ys : List Kind). xs ++ ys) (columns_kinds (value_at mode line true) 0 12)
-    (island_first (island_of mode line (p ∷ ps)) (columns (value_at mode line true) (16 + 32 * length (p ∷ ps)) e)
-    ∙ ap₂ (λ (n : ℕ) (ks : List Kind). (guard_pair ++ (replicate (32 * n) packet_column ++ guard_pair)) ++ ks) (length_packets mode line 14 (p ∷ ps)) (columns_kinds (value_at mode line true) (16 + 32 * length (p ∷ ps)) e))
+unfolding kinds
+until_kinds mode line p ps e = grind (arith, kinds_append, columns_kinds, length_packets)
 
 begins_packets : (mode : Mode) (line : Line) (p : Packet) (ps : List Packet) (e : ℕ) → Begins (level_of mode line) (until mode line (p ∷ ps) e)
 begins_packets mode line p ps e =
@@ -184,17 +151,11 @@ last_twelve mode line has bytes front g i le s e parts are =
 
 tail_kinds : (mode : Mode) (line : Line) (bytes : List ℕ) (rest : List Kind) → kinds (row_tail mode line bytes) ++ rest
     ≡ (guard_pair ++ replicate (length bytes / 3) pixel_column) ++ (replicate (total mode.across - (sync mode.across + back mode.across + active mode.across)) control_column ++ rest)
-tail_kinds mode line bytes rest =
-    ap (λ (ks : List Kind). ks ++ rest) (pixels_first bytes (columns (λ x. sync_at mode line x) (sync mode.across + back mode.across + active mode.across) (total mode.across)))
-    ∙ append_assoc (guard_pair ++ replicate (length bytes / 3) pixel_column) (kinds (columns (λ x. sync_at mode line x) (sync mode.across + back mode.across + active mode.across) (total mode.across))) rest
-    ∙ ap (λ (ks : List Kind). (guard_pair ++ replicate (length bytes / 3) pixel_column) ++ (ks ++ rest)) (columns_kinds (λ x. sync_at mode line x) (sync mode.across + back mode.across + active mode.across) (total mode.across))
+unfolding kinds
+tail_kinds mode line bytes rest = grind (arith, append_assoc, columns_kinds)
 
 length_row : (n : ℕ) → length (guard_pair ++ replicate n pixel_column) ≡ 2 + n
 length_row n = let l = length-replicate n pixel_column in omega (arith, l)
-
-size_pixels : (bytes : List ℕ) (parts : List Part) → size (pixels bytes ∷ parts) ≡ 2 + length bytes / 3 + size parts
-unfolding size
-size_pixels bytes parts = refl
 
 size_island : (x : DataIsland) (parts : List Part) → size (packets x ∷ parts) ≡ 4 + 32 * length x.packets + size parts
 unfolding size
@@ -204,20 +165,13 @@ size_island x parts = refl
 abbrev pub Leaves : Mode → ℕ → Type 0
 Leaves mode n = 1 ≤ n → 28 + 32 * n ≤ guard_at mode
 
-leaves_fits : (mode : Mode) (n : ℕ) → Leaves mode n → Fits n (guard_at mode)
-leaves_fits mode n h some = let k = h some in omega (arith, k)
-
 abbrev pub IsWide : Mode → Type 0
 IsWide mode = 14 ≤ back mode.across
 
 row_size : (mode : Mode) (line : Line) (ps : List Packet) (bytes : List ℕ) → Leaves mode (length ps)
     → size (until mode line ps (guard_at mode) ++ row_tail mode line bytes) ≡ guard_at mode + (2 + length bytes / 3 + (total mode.across - (sync mode.across + back mode.across + active mode.across)))
-row_size mode line ps bytes leaves =
-    let a = size_append (until mode line ps (guard_at mode)) (row_tail mode line bytes) in
-    let c = size_until mode line ps (guard_at mode) (leaves_fits mode (length ps) leaves) in
-    let d = size_pixels bytes (columns (λ x. sync_at mode line x) (sync mode.across + back mode.across + active mode.across) (total mode.across)) in
-    let f = size_columns (λ x. sync_at mode line x) (sync mode.across + back mode.across + active mode.across) (total mode.across) in
-    omega (arith, a, c, d, f)
+unfolding size
+row_size mode line ps bytes leaves = grind (arith, size_append, size_until, size_columns)
 
 pub row_ends : (mode : Mode) → IsWide mode → (line : Line) (ps : List Packet) → Leaves mode (length ps) → (bytes : List ℕ) → 1 ≤ length bytes / 3 → (rest : List Kind) (i : ℕ) → kind_at rest 0 ≡ control_column
     → EndsAt (kinds (until mode line ps (guard_at mode) ++ row_tail mode line bytes) ++ rest) i → Where (level_of mode line) (until mode line ps (guard_at mode) ++ row_tail mode line bytes) rest i

@@ -1,15 +1,12 @@
 -- Three neighbouring control columns with VSYNC active: where they came is what the cells say.
-use Rattle.std.proofs.Common.{◌≡◌, ℕ, zero, suc, ◌+◌, ◌-◌, ◌*◌, ◌/◌, ◌≤◌, Bool, true, false, not, ◌&&◌, ◌||◌, cond, List, [], ◌∷◌, ◌++◌, length, take, drop, refl, sym, ap, ap₂, ◌∙◌, arith}
-use Rattle.std.specs.Prelude.{nat_lt}
+use Rattle.std.proofs.Common.{◌≡◌, ℕ, zero, suc, ◌+◌, ◌-◌, ◌≤◌, Bool, true, false, not, ◌&&◌, ◌||◌, List, [], ◌∷◌, ◌++◌, length, take, drop, refl, sym, ap, ap₂, ◌∙◌, arith}
 use Rattle.tmds_word.proofs.Below.{and-left, and-right}
 use Rattle.tmds_word.specs.Column.{Column}
 use Rattle.terc4.specs.Columns.{is_control_column}
-use Rattle.island_pack.specs.Periods.{Pixel, pixels_of}
-use Rattle.island_pack.specs.Spelling.{control_column}
+use Rattle.island_pack.specs.Periods.{Pixel}
 use Rattle.period_grammar.specs.Column.{value_of}
 use Rattle.frame_build.specs.FrameEvent.{vsync_of, Mark, column, gap, has_vsync}
 use Rattle.frame_build.specs.Change.{three_have}
-use Rattle.link_laws.specs.Account.{pixel_bytes}
 use Rattle.link_laws.proofs.Cutting.{NoneControl}
 use Rattle.source_end.specs.declared.mode.Mode.{Mode}
 use Rattle.source_end.specs.Raster.{level, Part, column as column_part, pixels, packets}
@@ -55,11 +52,7 @@ sync_level false true = refl
 sync_level false false = refl
 
 sync_mark : (mode : Mode) (c : Column) → is_sync mode c ≡ has_vsync mode.positive (mark c)
-sync_mark mode c = by_test (is_control_column c)
-  where
-    by_test : (t : Bool) → (t && level (vsync_of (value_of c)) mode.positive) ≡ has_vsync mode.positive (mark_by t (value_of c))
-    by_test true = sync_level mode.positive (vsync_of (value_of c))
-    by_test false = sym (no_gap mode.positive)
+sync_mark mode c = grind (arith, sync_level, no_gap)
 
 and_none : (a b : Bool) → (a && (b && false)) ≡ false
 and_none true true = refl
@@ -105,11 +98,7 @@ first_looks false false x = refl
 all_look : (mode : Mode) (cs : List Column) → has_sync mode cs ≡ look mode false false cs
 unfolding has_sync
 all_look mode [] = refl
-all_look mode (c ∷ []) = sym (one (is_sync mode c))
-  where
-    one : (a : Bool) → ((a && (false && false)) || false) ≡ false
-    one true = refl
-    one false = refl
+all_look mode (c ∷ []) = grind arith
 all_look mode (c ∷ (d ∷ cs)) = has_look mode c d cs ∙ sym (first_looks (is_sync mode c) (is_sync mode d) (look mode (is_sync mode c) (is_sync mode d) cs))
 
 has_met : (mode : Mode) (cs : List Column) → has_sync mode cs ≡ met_in mode.positive [] cs
@@ -129,11 +118,7 @@ three_any false true ms ns h = three_wrong false ms ∙ sym (three_wrong false n
 three_any false false ms ns h = three_alike false ms ns h
 
 quiet_mark : (c : Column) → not (is_control_column c) ≡ true → mark c ≡ gap
-quiet_mark c h = by_test (is_control_column c) h
-  where
-    by_test : (t : Bool) → not t ≡ true → mark_by t (value_of c) ≡ gap
-    by_test true e = absurd cc
-    by_test false e = refl
+quiet_mark c h = grind arith
 
 mark_like : (b : Bool) (m : Mark) (ms ns : List Mark) → alike ms ns ≡ true → three_have b (m ∷ ms) ≡ three_have b (m ∷ ns)
 mark_like b (column v) ms ns h = three_any b v ms ns h
@@ -147,25 +132,13 @@ met_alike : (b : Bool) (cs : List Column) (ms ns : List Mark) → alike ms ns �
 met_alike b [] ms ns h = refl
 met_alike b (c ∷ cs) ms ns h = ap₂ (λ (x y : Bool). x || y) (mark_like b (mark c) ms ns h) (met_alike b cs (mark c ∷ ms) (mark c ∷ ns) (mark_alike (mark c) ms ns h))
 
-gap_met : (b : Bool) (cs : List Column) (ms : List Mark) → met_in b (gap ∷ ms) cs ≡ met_in b (gap ∷ []) cs
-gap_met b cs ms = met_alike b cs (gap ∷ ms) (gap ∷ []) refl
-
 -- columns that are no control columns, and those behind them
 past_quiet : (b : Bool) (own rest : List Column) (k : ℕ) (ms : List Mark) → NoneControl own → met_in b (gap ∷ ms) (take k (own ++ rest)) ≡ met_in b (gap ∷ []) (take (k - length own) rest)
-past_quiet b [] rest k ms h = let e : k ≡ k - 0 = omega arith in gap_met b (take k rest) ms ∙ ap (λ (n : ℕ). met_in b (gap ∷ []) (take n rest)) e
+past_quiet b [] rest k ms h = grind (arith, met_alike)
 past_quiet b (c ∷ own) rest zero ms h = let e : 0 ≡ 0 - length (c ∷ own) = omega arith in ap (λ (n : ℕ). met_in b (gap ∷ []) (take n rest)) e
-past_quiet b (c ∷ own) rest (suc k) ms h =
-    let e : k - length own ≡ suc k - length (c ∷ own) = omega arith in
-    ap (λ (m : Mark). three_have b (m ∷ (gap ∷ ms)) || met_in b (m ∷ (gap ∷ ms)) (take k (own ++ rest))) (quiet_mark c (and-left (not (is_control_column c)) _ h))
-    ∙ ap (λ (t : Bool). t || met_in b (gap ∷ (gap ∷ ms)) (take k (own ++ rest))) (three_gap b (gap ∷ ms))
-    ∙ past_quiet b own rest k (gap ∷ ms) (and-right (not (is_control_column c)) _ h)
-    ∙ ap (λ (n : ℕ). met_in b (gap ∷ []) (take n rest)) e
+past_quiet b (c ∷ own) rest (suc k) ms h = grind (arith, quiet_mark, and-left, three_gap, and-right, past_quiet b own rest k)
 
 -- Parts.
-
-row_one : (bytes : List ℕ) (b : Bool) (ns : List Mark) (cs : List Cell) → met b ns (pixels_cell bytes ∷ cs) ≡ met b (gap ∷ ns) cs
-unfolding met
-row_one bytes b ns cs = refl
 
 gap_one : (b : Bool) (ns : List Mark) (cs : List Cell) → met b ns (parted ∷ cs) ≡ met b (gap ∷ ns) cs
 unfolding met
@@ -174,22 +147,7 @@ gap_one b ns cs = refl
 row_met : (b : Bool) (m : ℕ) (ps : List Pixel) (ss rs : List Column) (ns : List Mark) (cs : List Cell) → met b ns (row_cells (suc m) ps ss rs ++ cs) ≡ met b (gap ∷ ns) cs
 unfolding met
 row_met b zero ps ss rs ns cs = refl
-row_met b (suc i) ps ss rs ns cs = by_test (nat_lt (length ps) i)
-  where
-    by_test : (t : Bool) → met b ns (cond t (pixels_cell (pixel_bytes ps (drop 2 ss) (drop 2 rs)) ∷ []) (parted ∷ []) ++ cs) ≡ met b (gap ∷ ns) cs
-    by_test true = row_one (pixel_bytes ps (drop 2 ss) (drop 2 rs)) b ns cs
-    by_test false = gap_one b ns cs
-
-no_cells : (b : Bool) (ns : List Mark) → met b ns [] ≡ false
-unfolding met
-no_cells b ns = refl
-
-nothing_met : (b : Bool) (ns : List Mark) (parts : List Part) (ss rs : List Column) → met b ns (parts_cells 0 parts ss rs) ≡ false
-nothing_met b ns parts ss rs = ap (met b ns) (parts_none parts ss rs) ∙ no_cells b ns
-
-empty_met : (b : Bool) (ns : List Mark) (k : ℕ) (ss rs : List Column) → met b ns (parts_cells k [] ss rs) ≡ false
-unfolding parts_cells met
-empty_met b ns k ss rs = refl
+row_met b (suc i) ps ss rs ns cs = grind (arith, met, pixels_cell, parted, gap_one)
 
 take_nothing : (k : ℕ) (b : Bool) (ms : List Mark) → met_in b ms (take k []) ≡ false
 take_nothing zero b ms = refl
@@ -204,40 +162,15 @@ other_met : (b : Bool) (n : ℕ) (own reception ss rs sent received : List Colum
     → (met_in b (gap ∷ []) (take (suc k - n) received) ≡ met b (gap ∷ ns) (parts_cells (suc k - n) parts sent received))
     → met_in b ms (take (suc k) rs) ≡ met b (gap ∷ ns) (parts_cells (suc k - n) parts (drop n ss) (drop n rs))
 other_met b n own [] ss rs sent received parts k ms ns some o e d h = absurd (let l = o.received in omega (arith, l, some))
-other_met b n own (c ∷ reception) ss rs sent received parts k ms ns some o e d h =
-    let l = o.received in
-    let q : k - length reception ≡ suc k - n = omega (arith, l) in
-    let s = ap (drop n) e ∙ drop_front n own sent o.sent in
-    let r = ap (drop n) d ∙ drop_front n (c ∷ reception) received o.received in
-    ap (λ (cs : List Column). met_in b ms (take (suc k) cs)) d
-    ∙ ap (λ (m : Mark). three_have b (m ∷ ms) || met_in b (m ∷ ms) (take k (reception ++ received))) (quiet_mark c (and-left (not (is_control_column c)) _ o.quiet))
-    ∙ ap (λ (t : Bool). t || met_in b (gap ∷ ms) (take k (reception ++ received))) (three_gap b ms)
-    ∙ past_quiet b reception received k ms (and-right (not (is_control_column c)) _ o.quiet)
-    ∙ ap (λ (i : ℕ). met_in b (gap ∷ []) (take i received)) q
-    ∙ h
-    ∙ sym (ap₂ (λ (xs ys : List Column). met b (gap ∷ ns) (parts_cells (suc k - n) parts xs ys)) s r)
+other_met b n own (c ∷ reception) ss rs sent received parts k ms ns some o e d h = grind (arith, drop_front, quiet_mark, and-left, three_gap, past_quiet, and-right, met, parts_cells)
 
 parts_met : (b : Bool) (parts : List Part) (ss rs : List Column) → Arrived parts ss rs → (k : ℕ) (ms ns : List Mark) → alike ms ns ≡ true → met_in b ms (take k rs) ≡ met b ns (parts_cells k parts ss rs)
-unfolding Arrived
-parts_met b parts ss rs a zero ms ns h = sym (nothing_met b ns parts ss rs)
-parts_met b [] ss rs a (suc k) ms ns h = ap (λ (cs : List Column). met_in b ms (take (suc k) cs)) a.1 ∙ take_nothing (suc k) b ms ∙ sym (empty_met b ns (suc k) ss rs)
-parts_met b (column_part v ∷ parts) ss rs a (suc k) ms ns h =
-    let c = a.0 in
-    let l = vsync_of (value_of c) in
-    ap (λ (cs : List Column). met_in b ms (take (suc k) cs)) a.4
-    ∙ ap (λ (t : Bool). three_have b (mark_by t (value_of c) ∷ ms) || met_in b (mark_by t (value_of c) ∷ ms) (take k a.2)) a.5
-    ∙ ap₂ (λ (x y : Bool). x || y) (three_any b l ms ns h) (parts_met b parts a.1 a.2 a.7 k (column l ∷ ms) (column l ∷ ns) (mark_alike (column l) ms ns h))
-    ∙ sym (ap₂ (λ (xs ys : List Column). met b ns (parts_cells (suc k) (column_part v ∷ parts) xs ys)) a.3 a.4
-    ∙ ap (met b ns) (cells_first v parts k (control_column v ∷ a.1) c a.2)
-    ∙ column_met b (vsync_of v) l ns (parts_cells k parts a.1 a.2))
-parts_met b (pixels bytes ∷ parts) ss rs a (suc k) ms ns h =
-    let n = 2 + length bytes / 3 in
-    other_met b n a.0 a.1 ss rs a.2 a.3 parts k ms ns (omega arith) a.6 a.4 a.5 (parts_met b parts a.2 a.3 a.7 (suc k - n) (gap ∷ []) (gap ∷ ns) refl)
-    ∙ sym (ap (met b ns) (row_first_cells bytes parts (suc k) ss rs) ∙ row_met b k (pixels_of bytes) (take n ss) (take n rs) ns (parts_cells (suc k - n) parts (drop n ss) (drop n rs)))
-parts_met b (packets x ∷ parts) ss rs a (suc k) ms ns h =
-    let n = 4 + 32 * length x.packets in
-    other_met b n a.0 a.1 ss rs a.2 a.3 parts k ms ns (omega arith) a.6 a.4 a.5 (parts_met b parts a.2 a.3 a.7 (suc k - n) (gap ∷ []) (gap ∷ ns) refl)
-    ∙ sym (ap (met b ns) (island_first_cells x parts (suc k) ss rs) ∙ gap_one b ns (parts_cells (suc k - n) parts (drop n ss) (drop n rs)))
+unfolding Arrived parts_cells met
+parts_met b parts ss rs a zero ms ns h = grind (arith, met, parts_none)
+parts_met b [] ss rs a (suc k) ms ns h = grind (arith, take_nothing)
+parts_met b (column_part v ∷ parts) ss rs a (suc k) ms ns h = grind (arith, three_any, mark_alike, met, parts_cells, cells_first, column_met, parts_met b parts)
+parts_met b (pixels bytes ∷ parts) ss rs a (suc k) ms ns h = grind (arith, other_met, met, row_first_cells, row_met, parts_cells, parts_met b parts)
+parts_met b (packets x ∷ parts) ss rs a (suc k) ms ns h = grind (arith, other_met, met, island_first_cells, gap_one, parts_cells, parts_met b parts)
 
 -- three neighbouring columns with VSYNC active came of parts where their cells have them
 pub sync_cells : (mode : Mode) (parts : List Part) (ss rs : List Column) → Arrived parts ss rs → (k : ℕ) → has_sync mode (take k rs) ≡ met mode.positive [] (parts_cells k parts ss rs)

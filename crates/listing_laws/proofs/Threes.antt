@@ -79,21 +79,14 @@ step_taken u v s h = ap (λ (w : Bool). column_state (not (same u w)) w s) (take
 pub fine_rest : (xs ys : List Cell) (s : State) → fine s.recent (xs ++ ys) ≡ true → fine (after xs s).recent ys ≡ true
 unfolding fine after
 fine_rest [] ys s h = h
-fine_rest (control u v ∷ xs) ys s h =
-    let now = step_taken u v s (and-left (same u v || few s.recent) _ h) in
-    let e : (step (control u v) s).recent ≡ not (same u v) ∷ s.recent = ap (λ (t : State). t.recent) now ∙ state_recent (not (same u v)) v s in
-    fine_rest xs ys (step (control u v) s) (subst (λ (rs : List Bool). fine rs (xs ++ ys) ≡ true) (sym e) (and-right (same u v || few s.recent) _ h))
+fine_rest (control u v ∷ xs) ys s h = grind (arith, step_taken, and-left, same, few, step, control, State, state_recent, fine, and-right, fine_rest xs ys)
 fine_rest (pixels bytes ∷ xs) ys s h = fine_rest xs ys (step (pixels bytes) s) h
 fine_rest (parted ∷ xs) ys s h = fine_rest xs ys (step parted s) h
 
 pub marks_after : (xs : List Cell) (s : State) → fine s.recent xs ≡ true → (after xs s).marks ≡ push xs s.marks
 unfolding fine after push
 marks_after [] s h = refl
-marks_after (control u v ∷ xs) s h =
-    let now = step_taken u v s (and-left (same u v || few s.recent) _ h) in
-    let e : (step (control u v) s).recent ≡ not (same u v) ∷ s.recent = ap (λ (t : State). t.recent) now ∙ state_recent (not (same u v)) v s in
-    let d : (step (control u v) s).marks ≡ column v ∷ s.marks = ap (λ (t : State). t.marks) now ∙ state_marks (not (same u v)) v s in
-    marks_after xs (step (control u v) s) (subst (λ (rs : List Bool). fine rs xs ≡ true) (sym e) (and-right (same u v || few s.recent) _ h)) ∙ ap (push xs) d
+marks_after (control u v ∷ xs) s h = grind (arith, step_taken, and-left, same, few, step, control, State, state_recent, state_marks, fine, marks_after xs)
 marks_after (pixels bytes ∷ xs) s h = marks_after xs (step (pixels bytes) s) h
 marks_after (parted ∷ xs) s h = marks_after xs (step parted s) h
 
@@ -140,11 +133,7 @@ unheard_newer false b h e = e
 pub three_wrong : (b : Bool) (ms : List Mark) → three_have b (column (not b) ∷ ms) ≡ false
 three_wrong b [] = refl
 three_wrong b (m ∷ []) = refl
-three_wrong b (m ∷ (n ∷ ms)) = ap (λ (t : Bool). t && has_vsync b m && has_vsync b n) (not_wrong b)
-  where
-    not_wrong : (b : Bool) → has_vsync b (column (not b)) ≡ false
-    not_wrong true = refl
-    not_wrong false = refl
+three_wrong b (m ∷ (n ∷ ms)) = grind arith
 
 pub heard_met : (b : Bool) (vs : List Bool) (s : State) → fine s.recent (columns b vs) ≡ true → is_heard b s.heard ≡ false → is_heard b (after (columns b vs) s).heard ≡ met b s.marks (columns b vs)
 unfolding met fine after
@@ -154,17 +143,7 @@ heard_met b (v ∷ vs) s h un =
     let rest = and-right (same b v || few s.recent) (fine (not (same b v) ∷ s.recent) (columns b vs)) h in
     elim (level_cases b v) [
       | inl right ↦ by_three (λ x f un2. heard_met b vs x f un2) (now ∙ ap₂ (λ (x y : Bool). column_state (not x) y s) right.0 right.1) (subst (λ (x : Bool). fine (not x ∷ s.recent) (columns b vs) ≡ true) right.0 rest) right.1 (three_have b (column b ∷ s.marks)) refl
-      | inr wrong ↦
-          let st = column_state true (not b) s in
-          let is : step (control b v) s ≡ st = now ∙ ap₂ (λ (x y : Bool). column_state (not x) y s) wrong.0 wrong.1 in
-          let un2 : is_heard b st.heard ≡ false =
-          ap (is_heard b) (turned_heard (differ (heard_at (not b) s) s.heard) (column (not b) ∷ s.marks) (newer (heard_at (not b) s) s.heard) (true ∷ s.recent) s) ∙ unheard_newer (three_have (not b) (column (not b) ∷ s.marks)) b s.heard un in
-          let f = subst (λ (rs : List Bool). fine rs (columns b vs) ≡ true) (sym (state_recent true (not b) s)) (subst (λ (x : Bool). fine (not x ∷ s.recent) (columns b vs) ≡ true) wrong.0 rest) in
-          ap (λ (t : State). is_heard b (after (columns b vs) t).heard) is
-          ∙ heard_met b vs st f un2
-          ∙ ap (λ (ms : List Mark). met b ms (columns b vs)) (state_marks true (not b) s)
-          ∙ sym (ap (λ (x : Bool). three_have b (column x ∷ s.marks) || met b (column x ∷ s.marks) (columns b vs)) wrong.1
-          ∙ ap (λ (t : Bool). t || met b (column (not b) ∷ s.marks) (columns b vs)) (three_wrong b s.marks))
+      | inr wrong ↦ grind (arith, column_state, step, control, is_heard, turned_heard, heard_at, unheard_newer, fine, columns, state_recent, heard_met b vs)
     ]
   where
     by_three : ((x : State) → fine x.recent (columns b vs) ≡ true → is_heard b x.heard ≡ false → is_heard b (after (columns b vs) x).heard ≡ met b x.marks (columns b vs)) → step (control b v) s ≡ column_state false b s → fine (false ∷ s.recent) (columns b vs) ≡ true → v ≡ b → (t : Bool) → three_have b (column b ∷ s.marks) ≡ t
@@ -177,11 +156,4 @@ heard_met b (v ∷ vs) s h un =
         let q = quiet b st.counting st.group (columns b vs) st (flat_columns b vs) ready in
         ap (λ (t : State). is_heard b (after (columns b vs) t).heard) is ∙ ap (is_heard b) q.ready.heard ∙ same_self b
         ∙ sym (ap (λ (x : Bool). three_have b (column x ∷ s.marks) || met b (column x ∷ s.marks) (columns b vs)) e ∙ ap (λ (t : Bool). t || met b (column b ∷ s.marks) (columns b vs)) three)
-    by_three ih is f e false three =
-        let st = column_state false b s in
-        let un2 : is_heard b st.heard ≡ false =
-        ap (is_heard b) (turned_heard (differ (heard_at b s) s.heard) (column b ∷ s.marks) (newer (heard_at b s) s.heard) (false ∷ s.recent) s ∙ ap (λ (t : Bool). newer (hears t b) s.heard) three) ∙ un in
-        ap (λ (t : State). is_heard b (after (columns b vs) t).heard) is
-        ∙ ih st (subst (λ (rs : List Bool). fine rs (columns b vs) ≡ true) (sym (state_recent false b s)) f) un2
-        ∙ ap (λ (ms : List Mark). met b ms (columns b vs)) (state_marks false b s)
-        ∙ sym (ap (λ (x : Bool). three_have b (column x ∷ s.marks) || met b (column x ∷ s.marks) (columns b vs)) e ∙ ap (λ (t : Bool). t || met b (column b ∷ s.marks) (columns b vs)) three)
+    by_three ih is f e false three = grind (arith, column_state, is_heard, turned_heard, heard_at, hears, State, after, columns, fine, state_recent)

@@ -1,9 +1,10 @@
 -- Columns that spell conforming periods came of them with no damage.
-use Rattle.std.proofs.Common.{◌≡◌, ℕ, suc, zero, ◌+◌, ◌%◌, ◌/◌, ◌<◌, Bool, true, false, not, List, [], ◌∷◌, ◌++◌, map, length, get_or, take, drop, refl, ap₂, sym, subst, arith, nat_lt}
+use Rattle.std.proofs.lemmas.Grind.{common_steps}
+use Rattle.std.proofs.Common.{◌≡◌, ℕ, suc, zero, ◌+◌, ◌%◌, ◌/◌, ◌<◌, Bool, true, false, not, List, [], ◌∷◌, ◌++◌, map, length, get_or, take, refl, ap₂, sym, subst, arith, nat_lt}
 use Rattle.std.specs.List.{list_all}
 use Rattle.std.proofs.lemmas.Bool.{eq-eqb, ltb-true}
 use Rattle.std.proofs.lemmas.List.{length-map, get_or-map}
-use Rattle.tmds_word.specs.Column.{Column, column_of, blues, greens, reds}
+use Rattle.tmds_word.specs.Column.{Column, column_of}
 use Rattle.tmds_word.proofs.Below.{and-left, and-right}
 use Rattle.tmds_code.specs.Coding.{sign_of}
 use Rattle.tmds_code.specs.Lanes.{IsLane, disparity_of}
@@ -14,8 +15,8 @@ use Rattle.terc4.proofs.Members.{passes_all, passes_in}
 use Rattle.island_pack.specs.Periods.{Period, control, video, island, values_of, pixels_of}
 use Rattle.island_pack.specs.Conforming.{are_bytes, IsConforming}
 use Rattle.island_pack.specs.Packets.{Carries}
-use Rattle.island_pack.specs.Spelling.{control_column, SpellsPixels, guard_column, guard_columns, column_words, SpellsPackets, Spells}
-use Rattle.island_pack.specs.Sparse.{unlike_words, AreFew, no_column, column_at, IsNarrow, IsSparse}
+use Rattle.island_pack.specs.Spelling.{control_column, SpellsPixels, guard_column, column_words, SpellsPackets, Spells}
+use Rattle.island_pack.specs.Sparse.{unlike_words, no_column, column_at, IsNarrow}
 use Rattle.island_pack.specs.declared.packet.Packet.{Packet}
 use Rattle.link_laws.specs.Laws.{ReceivedOf}
 use Rattle.link_laws.proofs.Conformed.{conforming, HasValues, has_values}
@@ -53,17 +54,9 @@ small_control : list_all is_small control_words ≡ true
 unfolding control_words
 small_control = refl
 
-small_terc : list_all is_small terc_words ≡ true
-unfolding terc_words
-small_terc = refl
-
 small_video : list_all is_small video_guard ≡ true
 unfolding video_guard
 small_video = refl
-
-small_island : is_small island_guard ≡ true
-unfolding island_guard
-small_island = refl
 
 small_carried : passes_all is_small terc_words ≡ true
 unfolding passes_all terc_words
@@ -84,11 +77,8 @@ narrow_controls (v ∷ vs) = more (control_column v) (map control_column vs)
     (narrow_controls vs)
 
 narrow_guard : (sync : ℕ) → IsNarrow (guard_column sync)
-narrow_guard sync = record {
-  blue = small_at 1024 terc_words (12 + sync) (omega arith) small_terc;
-  green = ltb-true _ _ small_island;
-  red = ltb-true _ _ small_island;
-}
+unfolding terc_words island_guard
+narrow_guard sync = grind (arith, small_at, ltb-true)
 
 narrow_video : IsNarrow (column_of video_guard)
 narrow_video = record {
@@ -137,10 +127,7 @@ narrow_spelled (control runs ∷ ps) sent small h =
     subst AreNarrow (sym h.2) (narrow_both h.0 h.1 (subst AreNarrow (sym h.3) (narrow_controls (values_of runs))) (narrow_spelled ps h.1 small.1 h.4))
 narrow_spelled (video bytes ∷ ps) sent small h =
     subst AreNarrow (sym h.2) (narrow_both h.0 h.1 (subst AreNarrow (sym h.3.1) (narrow_pair _ _ h.3.0 narrow_video narrow_video (narrow_pixels bytes h.3.0 small.0 h.3.2))) (narrow_spelled ps h.1 small.1 h.4))
-narrow_spelled (island x ∷ ps) sent small h =
-    let closing = narrow_pair _ _ [] (narrow_guard x.closing.first) (narrow_guard x.closing.second) none in
-    let inner = narrow_both h.3.0 (guard_columns x.closing) (narrow_packets true x.packets h.3.0 h.3.2) closing in
-    subst AreNarrow (sym h.2) (narrow_both h.0 h.1 (subst AreNarrow (sym h.3.1) (narrow_pair _ _ (h.3.0 ++ guard_columns x.closing) (narrow_guard x.opening.first) (narrow_guard x.opening.second) inner)) (narrow_spelled ps h.1 small h.4))
+narrow_spelled (island x ∷ ps) sent small h = grind (arith, common_steps, narrow_pair, narrow_guard, narrow_both, narrow_packets, narrow_spelled ps)
 
 -- No damage.
 
@@ -149,23 +136,5 @@ unfolding unlike_words one_if
 none_unlike [] = refl
 none_unlike (w ∷ ws) = ap₂ (λ (b : Bool) (n : ℕ). one_if (not b) + n) (eq-eqb w w refl) (none_unlike ws)
 
-few_unlike : (ws : List ℕ) → AreFew ws ws
-few_unlike ws i within = let e = none_unlike (take 11 (drop i ws)) in omega (arith, e)
-
-spared : (ps : List Period) (cs : List Column) → AreNarrow cs → IsSparse ps cs cs
-spared ps cs narrow = record {
-  same_length = refl;
-  characters = narrow_at cs narrow;
-  one_a_column = λ i. let e = none_unlike (column_words (column_at cs i)) in omega (arith, e);
-  one_a_pair = λ i guard. let e = none_unlike (column_words (column_at cs i)) in let f = none_unlike (column_words (column_at cs (i + 1))) in omega (arith, e, f);
-  few_blue = few_unlike (blues cs);
-  few_green = few_unlike (greens cs);
-  few_red = few_unlike (reds cs);
-}
-
 pub undamaged : (ps : List Period) (cs : List Column) → IsConforming ps → Spells ps cs → ReceivedOf ps cs cs
-undamaged ps cs good spelled = record {
-  conforming = good;
-  spelled = spelled;
-  sparse = spared ps cs (narrow_spelled ps cs (has_values ps (conforming ps good)) spelled);
-}
+undamaged ps cs good spelled = grind (arith, conforming, narrow_spelled, has_values, narrow_at, none_unlike)

@@ -1,9 +1,8 @@
 -- What is listed of told events is what their columns, lines and gaps say.
-use Rattle.std.proofs.Common.{◌≡◌, ℕ, zero, suc, ◌/◌, Bool, true, false, ◌&&◌, ◌||◌, if◌then◌else◌, List, [], ◌∷◌, ◌++◌, length, reverse, filter_map, Option, Some, None, refl, sym, ap, ap₂, subst, ◌∙◌, append-nil, arith}
-use Rattle.std.specs.Prelude.{nat_lt}
+use Rattle.std.proofs.Common.{◌≡◌, ℕ, zero, suc, ◌/◌, Bool, true, false, ◌&&◌, if◌then◌else◌, List, [], ◌∷◌, ◌++◌, length, reverse, filter_map, Option, Some, None, refl, sym, ap, ap₂, subst, ◌∙◌, append-nil, arith}
 use Rattle.period_grammar.specs.Events.{Event, run, line, word, short, preamble, noise, empty, code, long_line, cut, open_island, packet, close_island, symbols, mended, lost, long_island, broken, guard}
-use Rattle.frame_build.specs.FrameEvent.{FrameEvent, run as run_frame_event, line as line_frame_event, word_fault, other, vsync_of, Mark, marks, marks_of}
-use Rattle.frame_build.specs.Change.{three_have, heard_at, last_heard, newer, differ, is_change}
+use Rattle.frame_build.specs.FrameEvent.{FrameEvent, run as run_frame_event, line as line_frame_event, word_fault, other, vsync_of, marks, marks_of}
+use Rattle.frame_build.specs.Change.{heard_at, last_heard, newer, differ, is_change}
 use Rattle.frame_build.specs.Group.{width_of, group, counts, is_unlike, reported_count}
 use Rattle.frame_build.specs.declared.LineNote.{LineNote}
 use Rattle.frame_build.proofs.Groups.{reverse-more, counts-more, group-more, group-changed}
@@ -24,27 +23,11 @@ at_first = record { marks = refl; heard = refl; counting = refl; group = refl }
 -- one more event that is no change
 still : (reported : List FrameEvent) (e : FrameEvent) (s t : State) → Stands s reported → is_change e (reverse reported) ≡ false → t.marks ≡ marks_of e ++ s.marks
     → t.heard ≡ newer (heard_at e (reverse reported)) s.heard → t.counting ≡ s.counting → t.group ≡ s.group ++ filter_map width_of (e ∷ []) → Stands t (reported ++ e ∷ [])
-still reported e s t was same ms h c g = record {
-  marks = ms ∙ ap (λ (xs : List Mark). marks_of e ++ xs) was.marks ∙ sym (ap marks (reverse-more reported e));
-  heard = h ∙ ap (newer (heard_at e (reverse reported))) was.heard ∙ sym (ap last_heard (reverse-more reported e));
-  counting = c ∙ was.counting ∙ sym (counts-more reported e ∙ ap (λ (b : Bool). b || counts reported) same);
-  group = g ∙ ap (λ (xs : List ℕ). xs ++ filter_map width_of (e ∷ [])) was.group ∙ sym (group-more reported e same);
-}
-
--- one more that is
-turns : (reported : List FrameEvent) (e : FrameEvent) (s t : State) → Stands s reported → is_change e (reverse reported) ≡ true → t.marks ≡ marks_of e ++ s.marks
-    → t.heard ≡ newer (heard_at e (reverse reported)) s.heard → t.counting ≡ true → t.group ≡ [] → Stands t (reported ++ e ∷ [])
-turns reported e s t was same ms h c g = record {
-  marks = ms ∙ ap (λ (xs : List Mark). marks_of e ++ xs) was.marks ∙ sym (ap marks (reverse-more reported e));
-  heard = h ∙ ap (newer (heard_at e (reverse reported))) was.heard ∙ sym (ap last_heard (reverse-more reported e));
-  counting = c ∙ sym (counts-more reported e ∙ ap (λ (b : Bool). b || counts reported) same);
-  group = g ∙ sym (group-changed reported e same);
-}
+still reported e s t was same ms h c g = grind (arith, reverse-more, counts-more, group-more)
 
 by_change : (reported : List FrameEvent) (value n : ℕ) (s : State) (h : Option Bool) (c : Bool) → Stands s reported → heard_at (run_frame_event value n) (reverse reported) ≡ h
     → is_change (run_frame_event value n) (reverse reported) ≡ c → Stands (turned c (run_marks (vsync_of value) n s.marks) (newer h s.heard) s) (reported ++ run_frame_event value n ∷ [])
-by_change reported value n s h true was is e =
-    turns reported (run_frame_event value n) s (turned true (run_marks (vsync_of value) n s.marks) (newer h s.heard) s) was e refl (ap (λ (x : Option Bool). newer x s.heard) (sym is)) refl refl
+by_change reported value n s h true was is e = grind (arith, turned, run_marks, reverse-more, counts-more, group-changed)
 by_change reported value n s h false was is e =
     still reported (run_frame_event value n) s (turned false (run_marks (vsync_of value) n s.marks) (newer h s.heard) s) was e refl (ap (λ (x : Option Bool). newer x s.heard) (sym is)) refl (sym (append-nil s.group))
 
@@ -52,15 +35,8 @@ if_hears : (t b : Bool) → (if true && t then Some b else None) ≡ hears t b
 if_hears true b = refl
 if_hears false b = refl
 
-heard_run : (value n : ℕ) (past : List FrameEvent) → heard_at (run_frame_event value (suc n)) past ≡ hears (three_have (vsync_of value) (run_marks (vsync_of value) (suc n) (marks past))) (vsync_of value)
-heard_run value n past =
-    let b = vsync_of value in
-    let e : nat_lt 0 (suc n) ≡ true = grind arith in
-    ap (λ (x : Bool). if x && three_have b (run_marks b (suc n) (marks past)) then Some b else None) e ∙ if_hears (three_have b (run_marks b (suc n) (marks past))) b
-
 heard_here : (reported : List FrameEvent) (value n : ℕ) (s : State) → Stands s reported → heard_at (run_frame_event value (suc n)) (reverse reported) ≡ heard_after (vsync_of value) (suc n) s
-heard_here reported value n s was =
-    heard_run value n (reverse reported) ∙ ap (λ (ms : List Mark). hears (three_have (vsync_of value) (run_marks (vsync_of value) (suc n) ms)) (vsync_of value)) (sym was.marks)
+heard_here reported value n s was = grind (arith, hears, run_marks, if_hears)
 
 changed_here : (reported : List FrameEvent) (value n : ℕ) (s : State) → Stands s reported → is_change (run_frame_event value (suc n)) (reverse reported) ≡ differ (heard_after (vsync_of value) (suc n) s) s.heard
 changed_here reported value n s was = ap₂ differ (heard_here reported value n s was) (sym was.heard)
@@ -73,9 +49,7 @@ run_stands reported value (suc n) s was =
 run_listed : (reported : List FrameEvent) (value n : ℕ) (s : State) → Stands s reported → listed_at reported (run value n) ≡ run_said (vsync_of value) n s
 unfolding frame_event_of
 run_listed reported value zero s was = refl
-run_listed reported value (suc n) s was =
-    ap (λ (b : Bool). ends b (counts reported) (group reported)) (changed_here reported value n s was)
-    ∙ ap₂ (λ (c : Bool) (g : List ℕ). ends (differ (heard_after (vsync_of value) (suc n) s) s.heard) c g) (sym was.counting) (sym was.group)
+run_listed reported value (suc n) s was = grind (arith, ends, changed_here, heard_after)
 
 abbrev note_with : Bool → List ℕ → ℕ → LineNote
 note_with c g width = record { counts = c; ragged = c && is_unlike g width; row = reported_count (length g) }

@@ -1,14 +1,10 @@
 -- Frames of a content, the last of which may still be told.
-use Rattle.std.proofs.Common.{◌≡◌, ℕ, ◌+◌, ◌≤◌, Bool, true, false, ◌&&◌, List, [], ◌∷◌, ◌++◌, length, refl, ap, sym, subst, ◌∙◌, arith, length-append, eqb-true}
-use Rattle.std.specs.Prelude.{Option, Some, None, Result, is_some, nat_lt}
-use Rattle.std.proofs.lemmas.Bool.{ltb-true}
+use Rattle.std.proofs.Common.{◌≡◌, ℕ, ◌+◌, ◌≤◌, Bool, true, false, ◌&&◌, List, [], ◌∷◌, ◌++◌, length, refl, ap, sym, subst, ◌∙◌, arith, eqb-true}
+use Rattle.std.specs.Prelude.{Option, None, Result, is_some, nat_lt}
 use Rattle.audio_packets.specs.declared.sample.Sample.{Sample}
-use Rattle.source_end.specs.Content.{Frame, empty_frame, on_last}
+use Rattle.source_end.specs.Content.{Frame, on_last}
 use Rattle.source_end.specs.declared.refusal.RasterFault.{RasterFault}
-use Rattle.listing_reader.specs.declared.fault.ListCause.{ListCause}
-use Rattle.listing_reader.specs.declared.fault.ListCause.TheVariants.{Order}
 use Rattle.listing_reader.specs.declared.teller.Refusal.{Refusal}
-use Rattle.listing_reader.specs.Causes.{unless}
 use Rattle.listing_reader.specs.Reported.{AnswersCause}
 use Rattle.listing_reader.specs.ContentForms.{ContentLine, end_line}
 use Rattle.listing_reader.specs.ContentDrafts.{with_samples}
@@ -48,12 +44,6 @@ first_and_last [] some = absurd (omega arith)
 first_and_last (f ∷ []) some = refl
 first_and_last (f ∷ (g ∷ frames)) some = ap (λ (fs : List Frame). f ∷ fs) (first_and_last (g ∷ frames) (omega arith))
 
-pub length_first : (frames : List Frame) → length frames ≤ length (first_frames frames) + 1
-unfolding first_frames
-length_first [] = omega arith
-length_first (f ∷ []) = omega arith
-length_first (f ∷ (g ∷ frames)) = let h = length_first (g ∷ frames) in omega (arith, h)
-
 pub length_on_last : (change : Frame → Frame) (frames : List Frame) → length (on_last change frames) ≡ length frames
 length_on_last change [] = refl
 length_on_last change (f ∷ []) = refl
@@ -69,52 +59,32 @@ open_changed change old new some is = ap last_frame is ∙ last_on_last change o
 pub some_changed : (change : Frame → Frame) (old new : List Frame) → 1 ≤ length old → new ≡ on_last change old → 1 ≤ length new
 some_changed change old new some is = omega (arith, some, ap length is, length_on_last change old)
 
--- a new frame is changed
-pub whole_begun : (change : Frame → Frame) (old begun new : List Frame) → begun ≡ old ++ empty_frame ∷ [] → new ≡ on_last change begun → first_frames new ≡ old
-whole_begun change old begun new b n = whole_kept change begun new n ∙ ap first_frames b ∙ first_append old empty_frame
-
-pub open_begun : (change : Frame → Frame) (old begun new : List Frame) → begun ≡ old ++ empty_frame ∷ [] → new ≡ on_last change begun → last_frame new ≡ change empty_frame
-open_begun change old begun new b n =
-    open_changed change begun new (omega (arith, ap length b, length-append old (empty_frame ∷ []))) n ∙ ap (λ (fs : List Frame). change (last_frame fs)) b ∙ ap change (last_append old empty_frame)
-
-pub some_begun : (change : Frame → Frame) (old begun new : List Frame) → begun ≡ old ++ empty_frame ∷ [] → new ≡ on_last change begun → 1 ≤ length new
-some_begun change old begun new b n = some_changed change begun new (omega (arith, ap length b, length-append old (empty_frame ∷ []))) n
-
 -- ---- a content whose last frame ends, or has ended
 
 pub with_samples_rows : (samples : List Sample) (f : Frame) → (with_samples samples f).rows ≡ f.rows
-with_samples_rows [] f = refl
-with_samples_rows (s ∷ samples) f = refl
+with_samples_rows samples f = grind arith
 
 -- a row was told, so the last frame is the one that is told
 pub frame_ends : (is_open : Bool) (frames : List Frame) (rows packets : ℕ) → IsOpened is_open frames rows packets → 1 ≤ length (open_frame is_open frames).rows
     → frames ≡ whole_frames is_open frames ++ open_frame is_open frames ∷ []
-frame_ends true frames rows packets begun some = first_and_last frames begun.0
-frame_ends false frames rows packets begun some = absurd (omega (arith, some))
+frame_ends is_open frames rows packets h k = grind (arith, first_and_last)
 
 -- nothing is told of a frame
 pub content_closed : (is_open : Bool) (frames : List Frame) (rows packets : ℕ) → IsOpened is_open frames rows packets → rows ≡ 0 → packets ≡ 0 → frames ≡ whole_frames is_open frames
-content_closed true frames rows packets begun none empty = absurd (omega (arith, begun.1, none, empty))
-content_closed false frames rows packets begun none empty = refl
+content_closed is_open frames rows packets h k l = grind arith
 
 pub no_fault : (fault : Option RasterFault) → is_some fault ≡ false → fault ≡ None
-no_fault None h = refl
-no_fault (Some fault) h = cc h
+no_fault fault h = grind arith
 
 -- a row was told of frames that are kept
 pub frame_kept : (fault : Option RasterFault) (count rows packets : ℕ) (is_open : Bool) (frames : List Frame) → AreKept fault count rows is_open frames → IsOpened is_open frames rows packets → fault ≡ None → 1 ≤ rows
     → (count ≡ length (whole_frames is_open frames)) × (frames ≡ whole_frames is_open frames ++ open_frame is_open frames ∷ [])
-frame_kept None count rows packets is_open frames kept begun none some = (kept.0, frame_ends is_open frames rows packets begun (omega (arith, kept.1, some)))
-frame_kept (Some fault) count rows packets is_open frames kept begun none some = absurd (cc none)
-
-unless_true : (b : Bool) → unless b Order None ≡ None → b ≡ true
-unless_true true h = refl
-unless_true false h = cc h
+frame_kept fault count rows packets is_open frames h k l m = grind (arith, frame_ends)
 
 -- what holds where the line `end` has no cause
 end_none : (k : ContentKept) → kept_cause k end_line ≡ None → (is_reported k.mode && (nat_lt 0 k.count && is_kept_settled k)) ≡ true
 unfolding kept_cause
-end_none k h = unless_true _ h
+end_none k h = grind arith
 
 pub end_reported : (k : ContentKept) → kept_cause k end_line ≡ None → is_reported k.mode ≡ true
 end_reported k h = and-left _ _ (end_none k h)

@@ -2,19 +2,18 @@
 -- description.
 use Rattle.std.proofs.Common.{◌≡◌, ℕ, zero, suc, ◌+◌, ◌-◌, ◌*◌, ◌%◌, ◌<◌, Bool, true, false, ◌==◌, ◌&&◌, List, [], ◌∷◌, ◌++◌, length, take, drop, replicate, refl, ap, ap₂, sym, ◌∙◌, arith, append_assoc, append-nil, length-append}
 use Rattle.std.specs.Prelude.{Option, Some, None, Result, Ok, Err, IsErr, is_ok, MatchOption, MatchResult, is_some, not, slice_index, nat_le}
-use Rattle.std.proofs.Math.Seq.{take-append_seam, drop-append_seam}
+use Rattle.std.proofs.Math.Seq.{drop-append_seam}
 use Rattle.std.proofs.lemmas.List.{drop-replicate}
 use Rattle.std.proofs.lemmas.Bool.{eqb-true, eq-eqb}
 use Rattle.hex.specs.Hex.{decode_of, decode_sized}
 use Rattle.hex.specs.declared.error.FromHexError.{FromHexError}
-use Rattle.hex.specs.declared.error.FromHexError.TheVariants.{OddLength}
 use Rattle.hex.proofs.HexLemmas.{decode_sized-twice}
 use Rattle.island_pack.specs.declared.packet.Packet.{Packet}
 use Rattle.listing_reader.specs.Lines.{before_pieces}
 use Rattle.listing_reader.specs.Forms.{number_of, part}
 use Rattle.listing_reader.specs.FormSeen.{HasBodies}
-use Rattle.listing_reader.specs.ContentForms.{ContentLine, no_line, row_form, row_by, fields_of, numbers_of, then_number, numbers_form, decoded_by, hex_field, is_space, packet_form, packet_reported, packet_line, spd_form, spd_reported, sample_form, sample_reported, are_bytes, are_words, info_reported, avi_from, avi_reported}
-use Rattle.listing_reader.specs.ContentFormSeen.{IsRow, IsNumbers, IsHexField, IsHexPart}
+use Rattle.listing_reader.specs.ContentForms.{ContentLine, no_line, row_form, fields_of, numbers_of, then_number, numbers_form, hex_field, is_space, packet_form, packet_reported, packet_line, spd_form, spd_reported, sample_form, sample_reported, are_bytes, are_words, info_reported, avi_from, avi_reported}
+use Rattle.listing_reader.specs.ContentFormSeen.{IsRow, IsNumbers, IsHexField}
 use Rattle.listing_reader.proofs.PacketForms.{joined}
 
 -- ---- a row
@@ -22,25 +21,17 @@ use Rattle.listing_reader.proofs.PacketForms.{joined}
 -- six bytes a pixel are what a row's line tells, if they are digits
 pub row_seen : (digits : List ℕ) → length digits % 6 ≡ 0 → IsRow digits (row_form digits)
 unfolding row_form
-row_seen digits six = record {
-  pixels = six;
-  reported = rw six refl;
-}
-
-not_six : (read : Result (List ℕ) FromHexError) → row_by false read ≡ no_line
-not_six (Ok bytes) = refl
-not_six (Err e) = refl
+row_seen digits six = grind arith
 
 -- bytes that make no whole pixels
 pub row_odd : (digits : List ℕ) → (length digits % 6 == 0) ≡ false → row_form digits ≡ no_line
 unfolding row_form
-row_odd digits odd = rw odd (not_six (decode_of digits))
+row_odd digits odd = grind arith
 
 -- ---- fields
 
 other : (b : Bool) → ¬ (b ≡ true) → b ≡ false
-other true h = absurd (h refl)
-other false h = refl
+other b h = grind arith
 
 -- the first space ends the first field
 pub field_before : (text : List ℕ) (k : ℕ) → k < length text → (slice_index text k == 32) ≡ true → ((j : ℕ) → j < k → ¬ ((slice_index text j == 32) ≡ true))
@@ -52,9 +43,7 @@ field_before (c ∷ text) (suc k) less here none =
     let later : fields_of text ≡ take k text ∷ fields_of (drop (k + 1) text) =
     field_before text k (omega arith) here (λ j before. none (suc j) (omega arith)) in
     let first : (c == 32) ≡ false = other (c == 32) (none 0 (omega arith)) in
-    let e : suc (k + 1) ≡ suc k + 1 = omega arith in
-    ap (λ (b : Bool). before_pieces b c (fields_of text)) first ∙ ap (before_pieces false c) later
-    ∙ ap (λ (n : ℕ). (c ∷ take k text) ∷ fields_of (drop n (c ∷ text))) e
+    grind arith
 
 -- a text without a space is one field
 pub field_last : (text : List ℕ) → ((j : ℕ) → j < length text → ¬ ((slice_index text j == 32) ≡ true)) → fields_of text ≡ text ∷ []
@@ -82,36 +71,22 @@ abbrev pub after_numbers : List ℕ → Option (List ℕ) → Option (List ℕ)
 after_numbers ns None = None
 after_numbers ns (Some ms) = Some (ns ++ ms)
 
-pub numbers_first : (ms : Option (List ℕ)) → ms ≡ after_numbers [] ms
-numbers_first None = refl
-numbers_first (Some ms) = refl
-
-numbers_one : (ns : List ℕ) (n : ℕ) (ms : Option (List ℕ)) → after_numbers ns (then_number (Some n) ms) ≡ after_numbers (ns ++ n ∷ []) ms
-numbers_one ns n None = refl
-numbers_one ns n (Some ms) = ap Some (sym (append_assoc ns (n ∷ []) ms))
-
 numbers_cons : (field : List ℕ) (fields : List (List ℕ)) → numbers_of (field ∷ fields) ≡ then_number (number_of field) (numbers_of fields)
 unfolding numbers_of
 numbers_cons field fields = refl
 
-numbers_nil : numbers_of [] ≡ Some []
-unfolding numbers_of
-numbers_nil = refl
-
 -- one field more is a number
 pub numbers_more : (all : Option (List ℕ)) (ns field : List ℕ) (n : ℕ) (fields : List (List ℕ)) → all ≡ after_numbers ns (numbers_of (field ∷ fields)) → number_of field ≡ Some n
     → all ≡ after_numbers (ns ++ n ∷ []) (numbers_of fields)
-numbers_more all ns field n fields was is =
-    was ∙ ap (after_numbers ns) (numbers_cons field fields ∙ ap (λ (k : Option ℕ). then_number k (numbers_of fields)) is) ∙ numbers_one ns n (numbers_of fields)
+numbers_more all ns field n fields was is = grind (arith, numbers_cons, append_assoc)
 
 -- and it is the last
 pub numbers_last : (all : Option (List ℕ)) (ns field : List ℕ) (n : ℕ) → all ≡ after_numbers ns (numbers_of (field ∷ [])) → number_of field ≡ Some n → all ≡ Some (ns ++ n ∷ [])
-numbers_last all ns field n was is =
-    numbers_more all ns field n [] was is ∙ ap (after_numbers (ns ++ n ∷ [])) numbers_nil ∙ ap Some (append-nil (ns ++ n ∷ []))
+unfolding numbers_of
+numbers_last all ns field n was is = grind (arith, numbers_more, append-nil)
 
 no_number : (ms : Option (List ℕ)) → then_number None ms ≡ None
-no_number None = refl
-no_number (Some ms) = refl
+no_number ms = grind arith
 
 -- a field is no number
 pub numbers_bad : (all : Option (List ℕ)) (ns field : List ℕ) (fields : List (List ℕ)) → all ≡ after_numbers ns (numbers_of (field ∷ fields)) → number_of field ≡ None → all ≡ None
@@ -136,19 +111,9 @@ numbers_few text ns ms count is less = λ form.
     let wrong : (length ms == count) ≡ false = other (length ms == count) (λ same. omega (arith, eqb-true (length ms) count same)) in
     rw (is, wrong) refl
 
-numbers_much : (text ns ms : List ℕ) (count : ℕ) → numbers_of (fields_of text) ≡ Some ms → count < length ms → IsNumbers text count ns false
-unfolding numbers_form
-numbers_much text ns ms count is more = λ form.
-    let wrong : (length ms == count) ≡ false = other (length ms == count) (λ same. omega (arith, eqb-true (length ms) count same)) in
-    rw (is, wrong) refl
-
-still_many : (text ns : List ℕ) (count n : ℕ) (ms : Option (List ℕ)) → numbers_of (fields_of text) ≡ after_numbers ns (then_number (Some n) ms) → length ns ≡ count → IsNumbers text count ns false
-still_many text ns count n None is size = numbers_none text ns count is
-still_many text ns count n (Some ms) is size = numbers_much text ns (ns ++ n ∷ ms) count is (omega (arith, length-append ns (n ∷ ms)))
-
 still_by : (text ns : List ℕ) (count : ℕ) (n : Option ℕ) (ms : Option (List ℕ)) → numbers_of (fields_of text) ≡ after_numbers ns (then_number n ms) → length ns ≡ count → IsNumbers text count ns false
-still_by text ns count None ms is size = numbers_none text ns count (is ∙ ap (after_numbers ns) (no_number ms))
-still_by text ns count (Some n) ms is size = still_many text ns count n ms is size
+unfolding numbers_form
+still_by text ns count n ms h k = grind (arith, numbers_none, no_number, length-append, other, eqb-true)
 
 -- fields are left
 pub numbers_over : (text ns left : List ℕ) (count : ℕ) → numbers_of (fields_of text) ≡ after_numbers ns (numbers_of (fields_of left)) → length ns ≡ count → IsNumbers text count ns false
@@ -164,48 +129,23 @@ by_fields all ns text fields was split = was ∙ ap (λ (fs : List (List ℕ)). 
 pub numbers_step : {A : Type 0} (now : A → List ℕ) (left : Option A) (all : Option (List ℕ)) (ns field text : List ℕ) (n : ℕ)
     → MatchOption left (fields_of text ≡ field ∷ []) (λ r. fields_of text ≡ field ∷ fields_of (now r)) → all ≡ after_numbers ns (numbers_of (fields_of text)) → number_of field ≡ Some n
     → MatchOption left (all ≡ Some (ns ++ n ∷ [])) (λ r. all ≡ after_numbers (ns ++ n ∷ []) (numbers_of (fields_of (now r))))
-numbers_step now None all ns field text n split was is = numbers_last all ns field n (by_fields all ns text _ was split) is
-numbers_step now (Some r) all ns field text n split was is = numbers_more all ns field n (fields_of (now r)) (by_fields all ns text _ was split) is
+numbers_step now left all ns field text n h k l = grind (arith, numbers_last, by_fields, numbers_more)
 
 -- or none
 pub numbers_wrong : {A : Type 0} (now : A → List ℕ) (left : Option A) (all : Option (List ℕ)) (ns field text : List ℕ)
     → MatchOption left (fields_of text ≡ field ∷ []) (λ r. fields_of text ≡ field ∷ fields_of (now r)) → all ≡ after_numbers ns (numbers_of (fields_of text)) → number_of field ≡ None → all ≡ None
-numbers_wrong now None all ns field text split was is = numbers_bad all ns field [] (by_fields all ns text _ was split) is
-numbers_wrong now (Some r) all ns field text split was is = numbers_bad all ns field (fields_of (now r)) (by_fields all ns text _ was split) is
+numbers_wrong now left all ns field text h k l = grind (arith, numbers_bad, by_fields)
 
 -- there is room for no more
 pub numbers_done : {A : Type 0} (now : A → List ℕ) (left : Option A) (text ns : List ℕ) (count : ℕ) (none : Bool)
     → MatchOption left (numbers_of (fields_of text) ≡ Some ns) (λ r. numbers_of (fields_of text) ≡ after_numbers ns (numbers_of (fields_of (now r)))) → length ns ≡ count → is_some left ≡ not none → IsNumbers text count ns none
-numbers_done now None text ns count true reported size is = numbers_reported text ns count reported size
-numbers_done now None text ns count false reported size is = absurd cc
-numbers_done now (Some r) text ns count true reported size is = absurd cc
-numbers_done now (Some r) text ns count false reported size is = numbers_over text ns (now r) count reported size
+numbers_done now left text ns count none h k l = grind (arith, numbers_reported, numbers_over)
 
 -- ---- hexadecimal digits
 
-decoded_bad : (form : List ℕ → ContentLine) (d : Result (List ℕ) FromHexError) → IsErr d → decoded_by form d ≡ no_line
-decoded_bad form (Ok bytes) bad = absurd cc
-decoded_bad form (Err e) bad = refl
-
-hex_by : (digits out : List ℕ) (d : Result (List ℕ) FromHexError) (r : Result Unit FromHexError) (ok : Bool) → decode_of digits ≡ d → MatchResult d (λ bytes. (r ≡ Ok tt) × (out ≡ bytes)) (λ e. r ≡ Err e) → is_ok r ≡ ok → IsHexField digits out ok
-hex_by digits out (Ok bytes) r true is h well = λ form. ap (decoded_by form) is ∙ ap form (sym h.1)
-hex_by digits out (Ok bytes) r false is h well = absurd (cc (h.0, well))
-hex_by digits out (Err e) r true is h well = absurd (cc (h, well))
-hex_by digits out (Err e) r false is h well = λ form. ap (decoded_by form) is
-
 pub hex_seen : (digits out : List ℕ) (n : ℕ) (r : Result Unit FromHexError) (ok : Bool) → length digits ≡ 2 * n
     → MatchResult (decode_sized digits n) (λ bytes. (r ≡ Ok tt) × (out ≡ bytes)) (λ e. r ≡ Err e) → is_ok r ≡ ok → IsHexField digits out ok
-hex_seen digits out n r ok size h well = hex_by digits out (decode_sized digits n) r ok (sym (decode_sized-twice digits n size)) h well
-
-pub hex_odd : (digits bytes : List ℕ) → length digits % 2 ≡ 1 → IsHexPart digits bytes None
-hex_odd digits bytes odd = λ form.
-    let e : (length digits % 2 == 1) ≡ true = rw odd refl in
-    let d : decode_of digits ≡ Err OddLength = rw e refl in
-    ap (decoded_by form) d
-
--- the front of an array was written
-pub hex_front : (digits ys rest : List ℕ) (n : ℕ) → length ys ≡ n → IsHexField digits ys true → IsHexPart digits (ys ++ rest) (Some n)
-hex_front digits ys rest n size is = λ form. is form ∙ ap form (sym (ap (λ (k : ℕ). take k (ys ++ rest)) (sym size) ∙ take-append_seam ys rest))
+hex_seen digits out n r ok size h well = grind (arith, decode_sized-twice)
 
 pub zeros_after : (ys xs : List ℕ) (n m : ℕ) → length ys ≡ m → m ≡ n → xs ≡ replicate 27 0 → drop n (ys ++ drop n xs) ≡ replicate (27 - n) 0
 zeros_after ys xs n m size room is =
@@ -213,22 +153,12 @@ zeros_after ys xs n m size room is =
 
 -- ---- a packet
 
-abbrev Read : Type 0
-Read = Result (List ℕ) FromHexError
-
 pub hex_bad : (digits : List ℕ) (form : List ℕ → ContentLine) → IsErr (decode_of digits) → hex_field digits form ≡ no_line
-hex_bad digits form bad = decoded_bad form (decode_of digits) bad
-
-decoded_never : (d : Read) → decoded_by (λ bytes. no_line) d ≡ no_line
-decoded_never (Ok bytes) = refl
-decoded_never (Err e) = refl
+hex_bad digits form bad = grind arith
 
 -- a field behind which nothing is told
 pub hex_never : (digits : List ℕ) (form : List ℕ → ContentLine) → ((bytes : List ℕ) → form bytes ≡ no_line) → hex_field digits form ≡ no_line
-hex_never digits form never = by (decode_of digits) form never where
-  by : (d : Read) (form : List ℕ → ContentLine) → ((bytes : List ℕ) → form bytes ≡ no_line) → decoded_by form d ≡ no_line
-  by (Ok bytes) form never = never bytes
-  by (Err e) form never = refl
+hex_never digits form never = grind arith
 
 bodies_form : List ℕ → List ℕ → ContentLine
 bodies_form rest header =

@@ -1,9 +1,8 @@
 -- The causes for which a line of a listing without guard bands is refused.
-use Rattle.std.proofs.Common.{◌≡◌, ℕ, ◌+◌, true, false, ◌&&◌, List, ap, sym, subst, ◌∙◌, Option, Some, None, Result, Ok, Err, ◌⊎◌}
+use Rattle.std.proofs.Common.{arith, ◌≡◌, ℕ, ◌+◌, true, false, ◌&&◌, List, ap, sym, subst, ◌∙◌, Option, Some, None, Result, Ok, Err, ◌⊎◌}
 use Rattle.std.specs.Prelude.{nat_le, nat_lt, IsErr}
 use Rattle.std.specs.Result.{IsErrAnd}
 use Rattle.hex.specs.Hex.{decode_of}
-use Rattle.hex.specs.declared.error.FromHexError.{FromHexError}
 use Rattle.island_pack.specs.Periods.{Period, video}
 use Rattle.source_end.specs.declared.items.ItemFault.{ItemFault}
 use Rattle.source_end.specs.DviPeriods.{dvi_columns_of}
@@ -37,21 +36,13 @@ dvi_run_fits periods value count range room = goes_past _ Range _ range ∙ goes
 
 -- Pixels.
 
-no_pixels : (periods : List Period) (digits : List ℕ) → IsErr (decode_of digits) → dvi_line_cause periods (video_by true (decode_of digits)) ≡ Some Form
-no_pixels periods digits h = ap (dvi_line_cause periods) (no_digits (decode_of digits) h) ∙ cause_none_reported periods
-
 pub dvi_unread : (T : Type 0) (periods : List Period) (digits : List ℕ) (result : Result T Refusal) (refusal : Refusal) → (refusal ≡ NoMemory) ⊎ ((refusal ≡ Cause Form) × IsErr (decode_of digits))
     → IsErrAnd result (λ r. r ≡ refusal) → AnswersCause (dvi_line_cause periods (video_by true (decode_of digits))) result
-dvi_unread T periods digits result refusal why h =
-    answers_undecoded T (dvi_line_cause periods (video_by true (decode_of digits))) digits result refusal (no_pixels periods digits) why h
-
-pixels_read : (periods : List Period) (read : Result (List ℕ) FromHexError) (bytes : List ℕ) → read ≡ Ok bytes → caused (dvi_push_fault periods (video bytes)) ≡ dvi_line_cause periods (video_by true read)
-unfolding dvi_line_cause
-pixels_read periods read bytes e = sym (ap (λ (r : Result (List ℕ) FromHexError). dvi_line_cause periods (video_by true r)) e)
+dvi_unread T periods digits result refusal why h = grind (arith, answers_undecoded, no_digits, cause_none_reported)
 
 pixels_pushed : (periods all : List Period) (digits bytes : List ℕ) → decode_of digits ≡ Ok bytes → all ≡ periods → caused (dvi_push_fault all (video bytes)) ≡ dvi_line_cause periods (video_by true (decode_of digits))
-pixels_pushed periods all digits bytes e same =
-    ap (λ (qs : List Period). caused (dvi_push_fault qs (video bytes))) same ∙ pixels_read periods (decode_of digits) bytes e
+unfolding dvi_line_cause
+pixels_pushed periods all digits bytes e same = grind arith
 
 pub dvi_pixels_taken : (S : Type 0) {T : Type 0} (done : S) (v : T) (periods all : List Period) (digits bytes : List ℕ) → decode_of digits ≡ Ok bytes → all ≡ periods
     → AnswersFault {T = S} (dvi_push_fault all (video bytes)) (Ok done) → AnswersCause (dvi_line_cause periods (video_by true (decode_of digits))) (Ok v)

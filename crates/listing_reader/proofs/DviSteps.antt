@@ -9,7 +9,6 @@ use Rattle.source_end.specs.Refusals.{close_fault}
 use Rattle.listing_reader.specs.declared.fault.ListCause.{ListCause}
 use Rattle.listing_reader.specs.declared.fault.ListCause.TheVariants.{Fault, Form}
 use Rattle.listing_reader.specs.declared.teller.Refusal.{Refusal}
-use Rattle.listing_reader.specs.declared.teller.Refusal.TheVariants.{Cause, NoMemory}
 use Rattle.listing_reader.specs.declared.teller.Taken.{Taken}
 use Rattle.listing_reader.specs.LineSteps.{tells, closes, wrong}
 use Rattle.listing_reader.specs.Forms.{LineForm, control_line, video_by, island_line, packet_line, close_line, end_line, fault_line, no_line, form_of, is_fault}
@@ -34,14 +33,10 @@ step_is periods line form cause e h = ap (λ (f : LineForm). dvi_step_by (dvi_li
 pub step_wrong : (periods : List Period) (line : List ℕ) (form : LineForm) (cause : ListCause) → form_of line ≡ form → dvi_line_cause periods form ≡ Some cause → dvi_step periods line ≡ wrong cause
 step_wrong periods line form cause e h = step_is periods line form (Some cause) e h
 
-stops : (T : Type 0) (periods : List Period) (line : List ℕ) (form : LineForm) (refusal : Refusal) → form_of line ≡ form → AnswersCause {T = T} (dvi_line_cause periods form) (Err refusal) → Takes (dvi_step periods line) (Err refusal)
-stops T periods line form (Cause found) e answers = step_wrong periods line form found e (cause_found T (dvi_line_cause periods form) found answers)
-stops T periods line form NoMemory e answers = tt
-
 pub takes_refused : (T : Type 0) (periods : List Period) (line : List ℕ) (form : LineForm) (result : Result (Taken (List Period) (List Period)) Refusal) (refusal : Refusal) → form_of line ≡ form
     → AnswersCause {T = T} (dvi_line_cause periods form) (Err refusal) → IsErrAnd result (λ r. r ≡ refusal) → Takes (dvi_step periods line) result
 takes_refused T periods line form (Ok taken) refusal e answers is = absurd is
-takes_refused T periods line form (Err found) refusal e answers is = subst (λ (r : Refusal). Takes (dvi_step periods line) (Err r)) (sym is) (stops T periods line form refusal e answers)
+takes_refused T periods line form (Err found) refusal e answers is = grind (arith, step_wrong, cause_found)
 
 -- ---- the cause of a line, by its form
 
@@ -78,17 +73,10 @@ pub tells_run : (T : Type 0) (periods now : List Period) (line : List ℕ) (valu
 tells_run T periods now line value count done e answers same =
     step_is periods line (control_line value count) None e (cause_run periods value count ∙ cause_none {T = T} (dvi_run_cause periods value count) done answers) ∙ ap tells (sym same)
 
-tells_pixels : (periods : List Period) (read : Result (List ℕ) FromHexError) → dvi_line_cause periods (video_by true read) ≡ None
-    → dvi_step_by None (video_by true read) periods ≡ tells (with_dvi_line (video_by true read) periods)
-unfolding dvi_line_cause
-tells_pixels periods (Ok bytes) none = refl
-tells_pixels periods (Err error) none = cc none
-
 pub tells_video : (T : Type 0) (periods now : List Period) (line : List ℕ) (read : Result (List ℕ) FromHexError) (done : T) → form_of line ≡ video_by true read
     → AnswersCause (dvi_line_cause periods (video_by true read)) (Ok done) → now ≡ with_dvi_line (video_by true read) periods → dvi_step periods line ≡ tells now
-tells_video T periods now line read done e answers same =
-    let none = cause_none {T = T} (dvi_line_cause periods (video_by true read)) done answers in
-    step_is periods line (video_by true read) None e none ∙ tells_pixels periods read none ∙ ap tells (sym same)
+unfolding dvi_line_cause
+tells_video T periods now line read done e answers same = grind (arith, cause_none, step_is)
 
 pub closes_all : (T : Type 0) (periods stream : List Period) (line : List ℕ) (done : T) → form_of line ≡ end_line → AnswersCause (caused (close_fault periods)) (Ok done) → stream ≡ periods
     → dvi_step periods line ≡ closes stream

@@ -7,24 +7,19 @@ use Rattle.memchr.specs.Find.{IsFirstByte, Nowhere, Passes, is_byte}
 use Rattle.listing_reader.specs.Held.{is_feedless, IsFeedAt}
 
 pub and-left : (a b : Bool) → (a && b) ≡ true → a ≡ true
-and-left true b h = refl
-and-left false b h = h
+and-left a b h = grind arith
 
 pub and-right : (a b : Bool) → (a && b) ≡ true → b ≡ true
-and-right true b h = h
-and-right false b h = cc h
+and-right a b h = grind arith
 
 pub both : (a b : Bool) → a ≡ true → b ≡ true → (a && b) ≡ true
-both true b h k = k
-both false b h k = cc h
+both a b h k = grind arith
 
 pub not-is : (b : Bool) → not b ≡ true → b ≡ false
-not-is true h = cc h
-not-is false h = refl
+not-is b h = grind arith
 
 not-of : (b : Bool) → ¬ (b ≡ true) → not b ≡ true
-not-of true h = absurd (h refl)
-not-of false h = refl
+not-of b h = grind arith
 
 pub feedless_here : (xs : List ℕ) (n : ℕ) → ((i : ℕ) → i < n → i < length xs → ¬ ((slice_index xs i == 10) ≡ true)) → is_feedless (take n xs) ≡ true
 feedless_here [] zero h = refl
@@ -61,8 +56,4 @@ found_none xs s within h none =
     rw all at (feedless_on xs s (length (drop s xs)) h none)
 
 pub found_at : (xs : List ℕ) (s k : ℕ) → s ≤ length xs → is_feedless (take s xs) ≡ true → IsFirstByte (is_byte 10) (drop s xs) (Some k) → IsFeedAt xs (s + k)
-found_at xs s k within h first = record {
-  within = omega (arith, first.0.high, length-drop s xs);
-  here = sym (slice_index-drop xs s k) ∙ eqb-true _ _ first.1;
-  before = feedless_on xs s k h first.0.before;
-}
+found_at xs s k within h first = grind (arith, length-drop, slice_index-drop, eqb-true, feedless_on)

@@ -1,5 +1,5 @@
 -- What a step of the reader gives of the bytes ahead.
-use Rattle.std.proofs.Common.{◌≡◌, ℕ, ◌+◌, IsTrue, List, ◌++◌, length, take, drop, sym, ap, ◌∙◌, inl, inr, arith, subst, take_all, length-take-le, take-append-drop}
+use Rattle.std.proofs.Common.{◌≡◌, ℕ, ◌+◌, IsTrue, List, ◌++◌, length, take, drop, sym, ap, ◌∙◌, inl, inr, arith, take_all, length-take-le, take-append-drop}
 use Rattle.std.specs.Prelude.{Option}
 use Rattle.std.proofs.lemmas.Bool.{cases_lt}
 use Rattle.std.specs.Io.KnownBytes.{Consumes, Keeps}
@@ -22,12 +22,4 @@ take_same m n xs long =
     ]
 
 pub too_long : (left rest : Option (List ℕ)) (before now after : Held) (m n : ℕ) → Keeps (ahead before left) (ahead now rest) → length (take m now.pending) ≡ n → n ≡ 32769 → IsTrue (is_feedless (take m now.pending)) → after.line ≡ take n now.pending → after.pending ≡ drop (n + 0) now.pending → IsTooLong left rest before after
-too_long left rest before now after m n kept long size feedless line pending =
-    let same : take n now.pending ≡ take m now.pending = take_same m n now.pending long in
-    let none : n + 0 ≡ n = omega arith in
-    let parts : now.pending ≡ after.line ++ after.pending = rw (line, pending, none) (sym (take-append-drop n now.pending)) in
-    record {
-      given = given_front left rest before now after after.line kept parts;
-      feedless = subst (λ (xs : List ℕ). IsTrue (is_feedless xs)) (sym (line ∙ same)) feedless;
-      long = ap length (line ∙ same) ∙ long ∙ size;
-    }
+too_long left rest before now after m n kept long size feedless line pending = grind (arith, take_same, take-append-drop, given_front)

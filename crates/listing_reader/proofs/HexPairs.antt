@@ -1,6 +1,6 @@
 -- The bytes of hexadecimal digits, from the digits' values.
-use Rattle.std.proofs.Common.{◌≡◌, ℕ, suc, ◌+◌, ◌*◌, ◌<◌, true, false, List, [], ◌∷◌, length, get_or, set, refl, ap, ap₂, ◌∙◌, sym, arith, ◌&&◌, inl, inr}
-use Rattle.std.specs.Prelude.{Option, Some, None, is_some, Result, Ok, Err, IsErr}
+use Rattle.std.proofs.Common.{◌≡◌, ℕ, suc, ◌+◌, ◌*◌, ◌<◌, true, false, List, [], ◌∷◌, length, get_or, set, refl, ap, ap₂, ◌∙◌, sym, arith, ◌&&◌}
+use Rattle.std.specs.Prelude.{Option, Some, None, Result, Ok, Err, IsErr}
 use Rattle.std.specs.List.{list_all}
 use Rattle.tmds_word.proofs.Below.{and-left, and-right}
 use Rattle.hex.specs.Hex.{hex_digit_value, is_hex_digit, decode_pairs, decode_of, pair_value, ◌>>=◌}
@@ -19,21 +19,13 @@ value_or None = 0
 pub value_of : ℕ → ℕ
 value_of c = value_or (hex_digit_value c)
 
-some_of : (o : Option ℕ) → is_some o ≡ true → o ≡ Some (value_or o)
-unfolding value_or
-some_of (Some v) h = refl
-some_of None h = cc h
-
-value_some : (c : ℕ) → is_hex_digit c ≡ true → hex_digit_value c ≡ Some (value_of c)
-unfolding value_of
-value_some c h = some_of (hex_digit_value c) h
-
 pub value_is : (c v : ℕ) → hex_digit_value c ≡ Some v → v ≡ value_of c
 unfolding value_of value_or
 value_is c v h = sym (ap value_or h)
 
 pair_is : (a b i : ℕ) → is_hex_digit a ≡ true → is_hex_digit b ≡ true → pair_value a b i ≡ Ok (value_of a * 16 + value_of b)
-pair_is a b i ha hb = rw (value_some a ha, value_some b hb) refl
+unfolding value_of value_or
+pair_is a b i ha hb = grind arith
 
 pairs_ok : (i : ℕ) (s bytes : List ℕ) → length s ≡ 2 * length bytes → list_all is_hex_digit s ≡ true
     → ((k : ℕ) → k < length bytes → get_or bytes k 0 ≡ 16 * value_of (get_or s (2 * k) 0) + value_of (get_or s (2 * k + 1) 0)) → decode_pairs i s ≡ Ok bytes
@@ -63,11 +55,7 @@ bytes_ok s bytes len all h = decode_of-even s (omega (arith, len)) ∙ pairs_ok 
 -- a list that has the right number at each place below i + 1, with the one at i written
 pub set_more : (into : List ℕ) (i b : ℕ) (f : ℕ → ℕ) → ((k : ℕ) → k < i → get_or into k 0 ≡ f k) → i < length into → b ≡ f i
     → (k : ℕ) → k < i + 1 → get_or (set into i b) k 0 ≡ f k
-set_more into i b f was room e k lt =
-    elim (cases_lt k i) [
-      | inl less ↦ get_or-set_other into i k b 0 (λ same. absurd (omega arith)) ∙ was k less
-      | inr more ↦ let last : k ≡ i = omega arith in get_or-set_at into i k b 0 last room ∙ e ∙ ap f (sym last)
-    ]
+set_more into i b f was room e k lt = grind (arith, cases_lt, get_or-set_other, get_or-set_at)
 
 -- what does not pass is not read
 pub not_read : (s : List ℕ) → list_all is_hex_digit s ≡ false → IsErr (decode_of s)

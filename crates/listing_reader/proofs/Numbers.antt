@@ -1,11 +1,8 @@
 -- Decimal and hexadecimal digits.
 use Rattle.std.proofs.Common.{◌≡◌, ℕ, ◌+◌, ◌-◌, ◌*◌, ◌%◌, ◌^◌, ◌<◌, false, ◌==◌, List, [], ◌∷◌, ◌++◌, length, take, get_or, refl, ap, ◌∙◌, arith, add-one}
-use Rattle.std.specs.Prelude.{Result, Ok, Err}
 use Rattle.std.proofs.Math.Nat.{pow-suc}
 use Rattle.std.proofs.lemmas.List.{take_more}
-use Rattle.hex.specs.Hex.{decode_of}
-use Rattle.hex.specs.declared.error.FromHexError.{FromHexError}
-use Rattle.listing_reader.specs.Forms.{digits_after, no_line, video_form, video_by}
+use Rattle.listing_reader.specs.Forms.{digits_after, no_line, video_form}
 use Rattle.listing_reader.specs.FormSeen.{IsVideo}
 
 digits_after-snoc : (n : ℕ) (xs : List ℕ) (d : ℕ) → digits_after n (xs ++ d ∷ []) ≡ 10 * digits_after n xs + (d - 48)
@@ -23,16 +20,9 @@ more_below value digit i below small = rw (add-one, pow-suc) (omega arith)
 -- six bytes a pixel are what a video line tells, if they are digits
 pub video_seen : (digits : List ℕ) → length digits % 6 ≡ 0 → IsVideo digits (video_form digits)
 unfolding video_form
-video_seen digits six = record {
-  pixels = six;
-  reported = rw six refl;
-}
-
-not_six : (read : Result (List ℕ) FromHexError) → video_by false read ≡ no_line
-not_six (Ok bytes) = refl
-not_six (Err e) = refl
+video_seen digits six = grind arith
 
 -- bytes that make no whole pixels
 pub video_odd : (digits : List ℕ) → (length digits % 6 == 0) ≡ false → video_form digits ≡ no_line
 unfolding video_form
-video_odd digits odd = rw odd (not_six (decode_of digits))
+video_odd digits odd = grind arith

@@ -1,5 +1,5 @@
 -- Periods of which the last one, a control period, is still being told.
-use Rattle.std.proofs.Common.{◌≡◌, ℕ, ◌+◌, ◌/◌, ◌≤◌, ◌==◌, Bool, true, false, not, ◌&&◌, List, [], ◌∷◌, ◌++◌, length, refl, ap, sym, ◌∙◌, arith, Option, Some, None}
+use Rattle.std.proofs.Common.{◌≡◌, ℕ, ◌+◌, ◌/◌, ◌≤◌, ◌==◌, Bool, true, false, not, ◌&&◌, List, [], ◌∷◌, ◌++◌, length, refl, ap, ◌∙◌, arith, Option, Some, None}
 use Rattle.std.specs.Prelude.{nat_le, nat_lt}
 use Rattle.std.specs.List.{list_all}
 use Rattle.island_pack.specs.Periods.{ControlRun, Period, control, video, island, values_of, has_preamble, ISLAND_PREAMBLE, period_columns, columns_of}
@@ -39,26 +39,18 @@ next_run (video bytes ∷ (q ∷ ps)) rs r = ap (λ (xs : List Period). video by
 next_run (island x ∷ (q ∷ ps)) rs r = ap (λ (xs : List Period). island x ∷ xs) (next_run (q ∷ ps) rs r)
 
 pub run_more : (ps : List Period) (rs : List ControlRun) (r : ControlRun) → is_control_last (last_period ps) ≡ false → with_run (with_open ps rs) r ≡ with_open ps (rs ++ r ∷ [])
-run_more ps [] r turn = first_run ps r turn
-run_more ps (q ∷ rs) r turn = next_run ps (q ∷ rs) r
+run_more ps rs r h = grind (arith, first_run, next_run)
 
 pub columns_open : (ps : List Period) (rs : List ControlRun) → columns_of (with_open ps rs) ≡ columns_of ps + length (values_of rs)
 unfolding values_of period_columns
-columns_open ps [] = omega arith
-columns_open ps (r ∷ rs) = columns_of-more ps (control (r ∷ rs))
+columns_open ps rs = grind (arith, columns_of-more)
 
 pub columns_run : (ps : List Period) (rs : List ControlRun) (r : ControlRun) → columns_of (with_open ps (rs ++ r ∷ [])) ≡ columns_of (with_open ps rs) + r.count
-columns_run ps rs r =
-    let before = columns_open ps rs in
-    let after = columns_open ps (rs ++ r ∷ []) in
-    let more = length-values_of-more rs r in
-    omega arith
+columns_run ps rs r = grind (arith, columns_open, length-values_of-more)
 
 pub none_open : (ps : List Period) (rs : List ControlRun) → ps ≡ [] → rs ≡ [] → 0 ≡ columns_of (with_open ps rs)
 unfolding columns_of
-none_open [] [] e i = refl
-none_open [] (r ∷ rs) e i = absurd cc
-none_open (p ∷ ps) rs e i = absurd cc
+none_open ps rs h k = grind arith
 
 -- Ranges.
 
@@ -72,69 +64,37 @@ in_range_more rs r h range = passes_more (λ q. nat_lt q.value 64 && (nat_le 1 q
 
 pub none_in_range : (rs : List ControlRun) → rs ≡ [] → is_in_range (control rs) ≡ true
 unfolding is_in_range
-none_in_range [] e = refl
-none_in_range (r ∷ rs) e = absurd cc
+none_in_range rs h = grind arith
 
 -- The end.
 
 not_long : (before : Option Period) → is_control_last before ≡ false → is_long_enough before ≡ false
-not_long None turn = refl
-not_long (Some (control runs)) turn = absurd cc
-not_long (Some (video bytes)) turn = refl
-not_long (Some (island x)) turn = refl
-
-not_announced : (before : Option Period) → is_control_last before ≡ false → announces_island before ≡ false
-not_announced None turn = refl
-not_announced (Some (control runs)) turn = absurd cc
-not_announced (Some (video bytes)) turn = refl
-not_announced (Some (island x)) turn = refl
-
-some_run : (r : ControlRun) (rs : List ControlRun) → not (length (r ∷ rs) == 0) ≡ true
-some_run r rs = grind arith
+not_long before h = grind arith
 
 pub control_last : (ps : List Period) (rs : List ControlRun) → is_control_last (last_period ps) ≡ false → not (length rs == 0) ≡ is_control_last (last_period (with_open ps rs))
-control_last ps [] turn = sym turn
-control_last ps (r ∷ rs) turn = some_run r rs ∙ sym (ap is_control_last (last_of_more ps (control (r ∷ rs))))
-
-capped_enough : (n m : ℕ) → m ≡ capped n → nat_le 12 m ≡ nat_le 12 n
-capped_enough n m e = grind arith
-
-none_enough : (m : ℕ) → m ≡ capped 0 → nat_le 12 m ≡ false
-none_enough m e = grind arith
+control_last ps rs h = grind (arith, last_of_more)
 
 pub long_enough : (ps : List Period) (rs : List ControlRun) (m : ℕ) → is_control_last (last_period ps) ≡ false → m ≡ capped (length (values_of rs)) → nat_le 12 m ≡ is_long_enough (last_period (with_open ps rs))
 unfolding values_of
-long_enough ps [] m turn e = none_enough m e ∙ sym (not_long (last_period ps) turn)
-long_enough ps (r ∷ rs) m turn e =
-    capped_enough (length (values_of (r ∷ rs))) m e ∙ sym (ap is_long_enough (last_of_more ps (control (r ∷ rs))))
+long_enough ps rs m h k = grind (arith, not_long, last_of_more)
 
 -- a control period that is long enough is the last one
 pub stands_long : (ps : List Period) (rs : List ControlRun) → is_control_last (last_period ps) ≡ false → is_long_enough (last_period (with_open ps rs)) ≡ true → nat_le 12 (length (values_of rs)) ≡ true
-stands_long ps [] turn long = cc (sym (not_long (last_period ps) turn) ∙ long)
-stands_long ps (r ∷ rs) turn long = sym (ap is_long_enough (last_of_more ps (control (r ∷ rs)))) ∙ long
+stands_long ps rs h k = grind (arith, not_long, last_of_more)
 
 pub announces : (ps : List Period) (rs : List ControlRun) → is_control_last (last_period ps) ≡ false → has_preamble ISLAND_PREAMBLE (values_of rs) ≡ announces_island (last_period (with_open ps rs))
 unfolding values_of has_preamble
-announces ps [] turn = sym (not_announced (last_period ps) turn)
-announces ps (r ∷ rs) turn = sym (ap announces_island (last_of_more ps (control (r ∷ rs))))
+announces ps rs h = grind (arith, last_of_more)
 
 -- A video data period more.
 
 pub video_columns : (items all now : List Period) (runs rest : List ControlRun) (bytes : List ℕ) (columns count : ℕ) → columns ≡ columns_of (with_open items runs) → all ≡ with_open items runs → now ≡ all ++ video bytes ∷ [] → count ≡ length bytes / 3 → rest ≡ [] → columns + (count + 2) ≡ columns_of (with_open now rest)
 unfolding period_columns
-video_columns items all now runs [] bytes columns count e same more size none =
-    let sum = columns_of-more all (video bytes) in
-    let after : columns_of now ≡ columns_of all + (2 + length bytes / 3) = ap columns_of more ∙ sum in
-    let before : columns ≡ columns_of all = e ∙ ap columns_of (sym same) in
-    omega arith
-video_columns items all now runs (r ∷ rest) bytes columns count e same more size none = absurd cc
+video_columns items all now runs rest bytes columns count h k l m p = grind (arith, columns_of-more)
 
 pub video_few : (items all : List Period) (runs : List ControlRun) (bytes : List ℕ) (columns count : ℕ) → columns ≡ columns_of (with_open items runs) → all ≡ with_open items runs → count ≡ length bytes / 3 → columns_of all + period_columns (video bytes) ≤ 20000000 → columns + (count + 2) ≤ 20000000
 unfolding period_columns
-video_few items all runs bytes columns count e same size few =
-    let before : columns ≡ columns_of all = e ∙ ap columns_of (sym same) in
-    let sum : columns_of all + (2 + length bytes / 3) ≤ 20000000 = few in
-    omega arith
+video_few items all runs bytes columns count e same size few = grind arith
 
 pub video_last : (all now : List Period) (bytes : List ℕ) → now ≡ all ++ video bytes ∷ [] → is_control_last (last_period now) ≡ false
 video_last all now bytes more = ap (λ (ps : List Period). is_control_last (last_period ps)) more ∙ ap is_control_last (last_of_more all (video bytes))
@@ -142,10 +102,7 @@ video_last all now bytes more = ap (λ (ps : List Period). is_control_last (last
 -- The control period that is closed.
 
 pub in_turn : (before : Option Period) (runs : List ControlRun) → is_control_last before ≡ false → is_in_order before (control runs) ≡ true
-in_turn None runs turn = refl
-in_turn (Some (control rs)) runs turn = absurd cc
-in_turn (Some (video bytes)) runs turn = refl
-in_turn (Some (island x)) runs turn = refl
+in_turn before runs h = grind arith
 
 pub le_test : (a b : ℕ) → a ≤ b → nat_le a b ≡ true
 le_test a b h = grind arith

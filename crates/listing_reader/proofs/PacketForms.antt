@@ -1,5 +1,5 @@
 -- What tells a packet's line, and what tells that a line is none.
-use Rattle.std.proofs.Common.{◌≡◌, ℕ, zero, suc, ◌+◌, ◌-◌, ◌*◌, ◌<◌, ◌≤◌, Bool, true, false, ◌==◌, ◌&&◌, List, ◌++◌, map, length, take, drop, refl, ap, sym, subst, ◌∙◌, inl, inr, arith, take_all, length-take-le, length-drop, take-append-drop, append_assoc}
+use Rattle.std.proofs.Common.{◌≡◌, ℕ, zero, suc, ◌+◌, ◌-◌, ◌*◌, ◌<◌, ◌≤◌, Bool, true, false, ◌==◌, ◌&&◌, List, ◌++◌, map, length, take, drop, ap, sym, subst, ◌∙◌, arith, take_all, length-take-le, length-drop, take-append-drop, append_assoc}
 use Rattle.std.specs.Prelude.{Result, Ok, Err, IsErr, is_err, MatchResult}
 use Rattle.std.specs.List.{list_all}
 use Rattle.std.proofs.lemmas.Bool.{cases_lt}
@@ -17,53 +17,20 @@ Read = Result (List ℕ) FromHexError
 
 -- ---- no packet
 
-pub form_laid : (rest : List ℕ) → ((length rest == 99) && (has_spaces rest && list_all is_digit (part 67 32 rest))) ≡ false → packet_form rest ≡ no_line
-unfolding packet_form
-form_laid rest e = rw e refl
-
-no_header : (laid : Bool) (h a b c d : Read) (sync : List ℕ) → IsErr h → packet_by laid h a b c d sync ≡ no_line
-no_header false h a b c d sync is = refl
-no_header true (Ok x) a b c d sync is = absurd cc
-no_header true (Err e) a b c d sync is = refl
-
-no_first : (laid : Bool) (h a b c d : Read) (sync : List ℕ) → IsErr a → packet_by laid h a b c d sync ≡ no_line
-no_first false h a b c d sync is = refl
-no_first true (Err e) a b c d sync is = refl
-no_first true (Ok x) (Ok y) b c d sync is = absurd cc
-no_first true (Ok x) (Err e) b c d sync is = refl
-
-no_second : (laid : Bool) (h a b c d : Read) (sync : List ℕ) → IsErr b → packet_by laid h a b c d sync ≡ no_line
-no_second false h a b c d sync is = refl
-no_second true (Err e) a b c d sync is = refl
-no_second true (Ok x) (Err e) b c d sync is = refl
-no_second true (Ok x) (Ok y) (Ok z) c d sync is = absurd cc
-no_second true (Ok x) (Ok y) (Err e) c d sync is = refl
-
 no_third : (laid : Bool) (h a b c d : Read) (sync : List ℕ) → IsErr c → packet_by laid h a b c d sync ≡ no_line
-no_third false h a b c d sync is = refl
-no_third true (Err e) a b c d sync is = refl
-no_third true (Ok x) (Err e) b c d sync is = refl
-no_third true (Ok x) (Ok y) (Err e) c d sync is = refl
-no_third true (Ok x) (Ok y) (Ok z) (Ok u) d sync is = absurd cc
-no_third true (Ok x) (Ok y) (Ok z) (Err e) d sync is = refl
+no_third laid h a b c d sync k = grind arith
 
 no_fourth : (laid : Bool) (h a b c d : Read) (sync : List ℕ) → IsErr d → packet_by laid h a b c d sync ≡ no_line
-no_fourth false h a b c d sync is = refl
-no_fourth true (Err e) a b c d sync is = refl
-no_fourth true (Ok x) (Err e) b c d sync is = refl
-no_fourth true (Ok x) (Ok y) (Err e) c d sync is = refl
-no_fourth true (Ok x) (Ok y) (Ok z) (Err e) d sync is = refl
-no_fourth true (Ok x) (Ok y) (Ok z) (Ok u) (Ok v) sync is = absurd cc
-no_fourth true (Ok x) (Ok y) (Ok z) (Ok u) (Err e) sync is = refl
+no_fourth laid h a b c d sync k = grind arith
 
 pub form_header : (rest : List ℕ) → IsErr (decode_of (part 0 6 rest)) → packet_form rest ≡ no_line
 unfolding packet_form
-form_header rest is = no_header _ _ _ _ _ _ _ is
+form_header rest is = grind arith
 
 form_body : (rest : List ℕ) (b : ℕ) → b < 4 → IsErr (decode_of (part (7 + 15 * b) 14 rest)) → packet_form rest ≡ no_line
 unfolding packet_form
-form_body rest zero below is = no_first _ _ _ _ _ _ _ is
-form_body rest (suc zero) below is = no_second _ _ _ _ _ _ _ is
+form_body rest zero below is = grind arith
+form_body rest (suc zero) below is = grind arith
 form_body rest (suc (suc zero)) below is = no_third _ _ _ _ _ _ _ is
 form_body rest (suc (suc (suc zero))) below is = no_fourth _ _ _ _ _ _ _ is
 form_body rest (suc (suc (suc (suc b)))) below is = absurd (omega arith)
@@ -99,12 +66,10 @@ form_packet rest header bodies sync laid read size has values =
 -- ---- the bodies, one after another
 
 pub read_well : (d : Read) (r : Result Unit FromHexError) (out : List ℕ) → MatchResult d (λ bytes. (r ≡ Ok tt) × (out ≡ bytes)) (λ e. r ≡ Err e) → is_err r ≡ false → d ≡ Ok out
-read_well (Ok bytes) r out h well = ap Ok (sym h.1)
-read_well (Err e) r out h well = absurd cc
+read_well d r out h k = grind arith
 
 pub read_badly : (d : Read) (r : Result Unit FromHexError) (out : List ℕ) → MatchResult d (λ bytes. (r ≡ Ok tt) × (out ≡ bytes)) (λ e. r ≡ Err e) → is_err r ≡ true → IsErr d
-read_badly (Ok bytes) r out h bad = absurd cc
-read_badly (Err e) r out h bad = cc
+read_badly d r out h k = grind arith
 
 -- a part before the one that was written
 before : (xs ys : List ℕ) (i b k : ℕ) → b < i → 7 * i ≤ length xs → take 7 (drop (7 * b) (put_mid (7 * i) k xs ys)) ≡ take 7 (drop (7 * b) xs)
@@ -120,41 +85,12 @@ written xs ys i k within seven size =
     ap (λ (n : ℕ). take n (drop (7 * i) (put_mid (7 * i) k xs ys))) (sym e)
     ∙ between-put_mid (7 * i) k xs ys (7 * i + 7) within (size ∙ sym e)
 
-bodies_more : (rest xs ys : List ℕ) (i k : ℕ) → 7 * i ≤ length xs → k ≡ 7 → decode_of (part (7 + 15 * i) 14 rest) ≡ Ok ys → length ys ≡ 7
-    → ((b : ℕ) → b < i → decode_of (part (7 + 15 * b) 14 rest) ≡ Ok (take 7 (drop (7 * b) xs)))
-    → (b : ℕ) → b < i + 1 → decode_of (part (7 + 15 * b) 14 rest) ≡ Ok (take 7 (drop (7 * b) (put_mid (7 * i) k xs ys)))
-bodies_more rest xs ys i k within seven read size was b less =
-    elim (cases_lt b i) [
-      | inl below ↦ was b below ∙ ap Ok (sym (before xs ys i b k below within))
-      | inr above ↦
-          let e : b ≡ i = omega arith in
-          subst (λ (j : ℕ). decode_of (part (7 + 15 * j) 14 rest) ≡ Ok (take 7 (drop (7 * j) (put_mid (7 * i) k xs ys)))) (sym e)
-          (read ∙ ap Ok (sym (written xs ys i k within seven size)))
-    ]
-
-part_length : (rest : List ℕ) (i : ℕ) → 66 ≤ length rest → i < 4 → length (part (7 + 15 * i) 14 rest) ≡ 14
-part_length rest i size less = length-take-le 14 (drop (7 + 15 * i) rest) (omega (arith, length-drop (7 + 15 * i) rest))
-
-sized : (rest : List ℕ) (i n m : ℕ) → 66 ≤ length rest → i < 4 → n ≡ 14 → m ≡ 7 → decode_sized (take n (drop (7 + 15 * i) rest)) m ≡ decode_of (part (7 + 15 * i) 14 rest)
-sized rest i n m size less fourteen seven =
-    rw (fourteen, seven) (decode_sized-twice (part (7 + 15 * i) 14 rest) 7 (part_length rest i size less))
-
 -- one body more was decoded
 pub decoded_more : (rest xs ys : List ℕ) (i k n m : ℕ) (r : Result Unit FromHexError) → 66 ≤ length rest → length xs ≡ 28 → i < 4 → k ≡ 7 → n ≡ 14 → m ≡ 7
     → MatchResult (decode_sized (take n (drop (7 + 15 * i) rest)) m) (λ bytes. (r ≡ Ok tt) × (ys ≡ bytes)) (λ e. r ≡ Err e) → is_err r ≡ false
     → ((b : ℕ) → b < i → decode_of (part (7 + 15 * b) 14 rest) ≡ Ok (take 7 (drop (7 * b) xs)))
     → (b : ℕ) → b < i + 1 → decode_of (part (7 + 15 * b) 14 rest) ≡ Ok (take 7 (drop (7 * b) (put_mid (7 * i) k xs ys)))
-decoded_more rest xs ys i k n m r size long less seven fourteen room value well was =
-    let read : decode_of (part (7 + 15 * i) 14 rest) ≡ Ok ys = sym (sized rest i n m size less fourteen room) ∙ read_well _ r ys value well in
-    let twice = (decode_of-ok (part (7 + 15 * i) 14 rest) ys read).2 in
-    bodies_more rest xs ys i k (omega arith) seven read (omega (arith, part_length rest i size less)) was
-
--- a body was not decoded
-pub decoded_none : (rest ys : List ℕ) (i n m : ℕ) (r : Result Unit FromHexError) → 66 ≤ length rest → i < 4 → n ≡ 14 → m ≡ 7
-    → MatchResult (decode_sized (take n (drop (7 + 15 * i) rest)) m) (λ bytes. (r ≡ Ok tt) × (ys ≡ bytes)) (λ e. r ≡ Err e) → is_err r ≡ true
-    → IsErr (decode_of (part (7 + 15 * i) 14 rest))
-decoded_none rest ys i n m r size less fourteen room value bad =
-    subst (λ (d : Read). IsErr d) (sized rest i n m size less fourteen room) (read_badly _ r ys value bad)
+decoded_more rest xs ys i k n m r size long less seven fourteen room value well was = grind (arith, read_well, decode_of-ok, cases_lt, before, put_mid, written, decode_sized-twice, length-take-le, length-drop)
 
 header_sized : (rest : List ℕ) (m : ℕ) → length rest ≡ 99 → m ≡ 3 → decode_sized (part 0 6 rest) m ≡ decode_of (part 0 6 rest)
 header_sized rest m size three = rw three (decode_sized-twice (part 0 6 rest) 3 (length-take-le 6 (drop 0 rest) (omega arith)))

@@ -1,7 +1,7 @@
 -- Parts of a buffer, and what a read put into it.
 use Rattle.std.proofs.Common.{◌≡◌, ℕ, ◌+◌, ◌-◌, ◌≤◌, List, ◌++◌, length, take, drop, slice_range, sym, ap, ◌∙◌, arith, length-take-le}
 use Rattle.std.proofs.lemmas.List.{drop-take, drop-drop}
-use Rattle.std.specs.Prelude.{Result, Ok, Err, IfOk, Option}
+use Rattle.std.specs.Prelude.{Result, IfOk, Option}
 use Rattle.std.specs.Io.KnownBytes.{Consumes, ReadConsumes}
 use borrow.Rule.Slice.PartMut.{put_mid}
 use Rattle.outside_io.proofs.Reading.{take_put}
@@ -16,5 +16,4 @@ drop_part xs start end count inside =
 -- what a read gave stands behind the bytes that were held
 pub read_more : {E : Type 0} (left now : Option (List ℕ)) (result : Result ℕ E) (held k : ℕ) (xs ys : List ℕ) → held ≤ length xs → IfOk result (λ n. n ≤ length ys) → ReadConsumes left now result ys
     → IfOk result (λ n. (more : List ℕ) × (length more ≡ n) × (take (held + n) (put_mid held k xs ys) ≡ take held xs ++ more) × Consumes left now more)
-read_more left now (Ok n) held k xs ys within bound bytes = (take n ys, length-take-le n ys bound, take_put held k n xs ys within bound, bytes.0)
-read_more left now (Err e) held k xs ys within bound bytes = tt
+read_more left now result held k xs ys h l m = grind (arith, length-take-le, take_put)

@@ -1,5 +1,5 @@
 -- The pieces of a text whose first bytes are known, and what the reader of lines says of them.
-use Rattle.std.proofs.Common.{◌≡◌, ℕ, Bool, true, false, not, ◌==◌, List, [], ◌∷◌, ◌++◌, refl, ap, sym, ◌∙◌, append_assoc, append-nil}
+use Rattle.std.proofs.Common.{arith, ◌≡◌, ℕ, Bool, true, false, ◌==◌, List, [], ◌∷◌, ◌++◌, refl, ap, sym, ◌∙◌, append_assoc, append-nil}
 use Rattle.std.specs.Prelude.{Some}
 use Rattle.listing_reader.specs.Lines.{pieces_of, before_pieces}
 use Rattle.listing_reader.specs.Held.{Held, is_feedless, IsEnded, IsRest, IsTooLong}
@@ -9,10 +9,7 @@ use Rattle.listing_reader.proofs.Feeds.{and-left, and-right, not-is}
 pub pieces_before : (line rest first : List ℕ) (more : List (List ℕ)) → is_feedless line ≡ true → pieces_of rest ≡ first ∷ more → pieces_of (line ++ rest) ≡ (line ++ first) ∷ more
 unfolding pieces_of
 pieces_before [] rest first more feedless pieces = pieces
-pieces_before (c ∷ line) rest first more feedless pieces =
-    let other : (c == 10) ≡ false = not-is (c == 10) (and-left _ _ feedless) in
-    let later : pieces_of (line ++ rest) ≡ (line ++ first) ∷ more = pieces_before line rest first more (and-right (not (c == 10)) _ feedless) pieces in
-    ap (λ (b : Bool). before_pieces b c (pieces_of (line ++ rest))) other ∙ ap (before_pieces false c) later
+pieces_before (c ∷ line) rest first more feedless pieces = grind (arith, not-is, and-left, and-right, pieces_before line rest first more)
 
 pieces_none : pieces_of [] ≡ [] ∷ []
 unfolding pieces_of

@@ -1,5 +1,5 @@
 -- The causes for which a line is refused, and what the answer then is.
-use Rattle.std.proofs.Common.{◌≡◌, ℕ, ◌+◌, ◌≤◌, Bool, true, false, ◌&&◌, List, refl, ap, sym, subst, ◌∙◌, arith, Option, Some, None, Result, Ok, Err, ◌⊎◌, inl, inr}
+use Rattle.std.proofs.Common.{◌≡◌, ℕ, ◌+◌, ◌≤◌, Bool, true, false, ◌&&◌, List, refl, ap, sym, subst, ◌∙◌, arith, Option, Some, None, Result, Ok, Err, ◌⊎◌}
 use Rattle.std.specs.Prelude.{nat_le, nat_lt, IsErr}
 use Rattle.std.specs.Result.{IsErrAnd}
 use Rattle.hex.specs.Hex.{decode_of}
@@ -7,14 +7,13 @@ use Rattle.hex.specs.declared.error.FromHexError.{FromHexError}
 use Rattle.island_pack.specs.Periods.{Period, video, period_columns, columns_of}
 use Rattle.island_pack.specs.declared.packet.Packet.{Packet}
 use Rattle.source_end.specs.declared.items.ItemFault.{ItemFault}
-use Rattle.source_end.specs.declared.items.ItemFault.TheVariants.{Range as range_fault, Order as order_fault, Control as control_fault, Preamble as preamble_fault, Long as long_fault, NoMemory as no_memory}
-use Rattle.source_end.specs.Refusals.{last_period, is_control_last, is_long_enough, is_in_range, is_in_order, has_control, is_announced, push_fault, close_fault, AnswersFault}
-use Rattle.source_end.proofs.Faults.{first, last_first, push_fault_is}
+use Rattle.source_end.specs.Refusals.{last_period, is_control_last, is_long_enough, is_in_range, push_fault, close_fault, AnswersFault}
+use Rattle.source_end.proofs.Faults.{last_first, push_fault_is}
 use Rattle.listing_reader.specs.declared.fault.ListCause.{ListCause}
-use Rattle.listing_reader.specs.declared.fault.ListCause.TheVariants.{Form, Range, Order, Control, Preamble, Long}
+use Rattle.listing_reader.specs.declared.fault.ListCause.TheVariants.{Form, Range, Order, Control, Long}
 use Rattle.listing_reader.specs.declared.teller.Refusal.{Refusal}
 use Rattle.listing_reader.specs.declared.teller.Refusal.TheVariants.{Cause, NoMemory}
-use Rattle.listing_reader.specs.Causes.{run_cause, video_cause, island_cause, packet_cause, close_cause, end_cause, line_cause, caused, cause_of, unless, is_closed, has_room}
+use Rattle.listing_reader.specs.Causes.{run_cause, island_cause, packet_cause, close_cause, end_cause, line_cause, caused, unless, is_closed, has_room}
 use Rattle.listing_reader.specs.Drafts.{Draft}
 use Rattle.listing_reader.specs.Forms.{LineForm, control_line, video_line, video_by, island_line, packet_line, close_line, end_line, no_line}
 use Rattle.listing_reader.specs.Reported.{AnswersCause, RefusesAs}
@@ -22,20 +21,16 @@ use Rattle.listing_reader.specs.Reported.{AnswersCause, RefusesAs}
 -- Tests before causes.
 
 pub stops_here : (test : Bool) (cause : ListCause) (rest : Option ListCause) → test ≡ false → unless test cause rest ≡ Some cause
-stops_here true cause rest e = absurd cc
-stops_here false cause rest e = refl
+stops_here test cause rest h = grind arith
 
 pub goes_past : (test : Bool) (cause : ListCause) (rest : Option ListCause) → test ≡ true → unless test cause rest ≡ rest
-goes_past true cause rest e = refl
-goes_past false cause rest e = absurd cc
+goes_past test cause rest h = grind arith
 
 pub test_held : (test : Bool) (cause : ListCause) (rest : Option ListCause) → unless test cause rest ≡ None → test ≡ true
-test_held true cause rest h = refl
-test_held false cause rest h = absurd cc
+test_held test cause rest h = grind arith
 
 pub rest_held : (test : Bool) (cause : ListCause) (rest : Option ListCause) → unless test cause rest ≡ None → rest ≡ None
-rest_held true cause rest h = h
-rest_held false cause rest h = absurd cc
+rest_held test cause rest h = grind arith
 
 -- Runs.
 
@@ -64,18 +59,11 @@ end_is : (draft : Draft) → end_cause draft ≡ end_chosen (is_closed draft.ope
 unfolding end_cause close_fault
 end_is draft = refl
 
-chosen_order : (closed last long : Bool) → (closed && last) ≡ false → end_chosen closed last long ≡ Some Order
-chosen_order false last long h = refl
-chosen_order true false long h = refl
-chosen_order true true long h = absurd cc
-
 chosen_long : (closed last : Bool) (cause : Option ListCause) (long : Bool) → (closed && last) ≡ true → end_chosen true true long ≡ cause → end_chosen closed last long ≡ cause
-chosen_long false last cause long h e = absurd cc
-chosen_long true false cause long h e = absurd cc
-chosen_long true true cause long h e = e
+chosen_long closed last cause long h k = grind arith
 
 pub end_order : (draft : Draft) → (is_closed draft.opened && is_control_last (last_period draft.periods)) ≡ false → end_cause draft ≡ Some Order
-end_order draft turn = end_is draft ∙ chosen_order _ _ (is_long_enough (last_period draft.periods)) turn
+end_order draft turn = grind (arith, end_is)
 
 pub end_short : (draft : Draft) → (is_closed draft.opened && is_control_last (last_period draft.periods)) ≡ true → is_long_enough (last_period draft.periods) ≡ false → end_cause draft ≡ Some Control
 end_short draft turn short = end_is draft ∙ chosen_long _ _ (Some Control) _ turn (ap (end_chosen true true) short)
@@ -86,12 +74,10 @@ end_well draft turn long = end_is draft ∙ chosen_long _ _ None _ turn (ap (end
 -- What the answer is.
 
 pub cause_found : (T : Type 0) (cause : Option ListCause) (found : ListCause) → AnswersCause {T = T} cause (Err (Cause found)) → cause ≡ Some found
-cause_found T None found h = absurd h
-cause_found T (Some cause) found h = ap Some (sym h)
+cause_found T cause found h = grind arith
 
 pub cause_none : {T : Type 0} (cause : Option ListCause) (done : T) → AnswersCause {T = T} cause (Ok done) → cause ≡ None
-cause_none None done h = refl
-cause_none (Some cause) done h = absurd h
+cause_none cause done h = grind arith
 
 pub answers_cause : (T : Type 0) (seen : Option ListCause) (cause : ListCause) → seen ≡ Some cause → AnswersCause {T = T} seen (Err (Cause cause))
 answers_cause T seen cause e = subst (λ (s : Option ListCause). AnswersCause {T = T} s (Err (Cause cause))) (sym e) refl
@@ -100,15 +86,10 @@ pub answers_ok : {T : Type 0} (v : T) (seen : Option ListCause) → seen ≡ Non
 answers_ok {T} v seen e = subst (λ (s : Option ListCause). AnswersCause {T = T} s (Ok v)) (sym e) tt
 
 pub answers_memory : (T : Type 0) (seen : Option ListCause) → AnswersCause {T = T} seen (Err NoMemory)
-answers_memory T None = tt
-answers_memory T (Some cause) = tt
+answers_memory T seen = grind arith
 
 pub answers_same : (T : Type 0) (seen : Option ListCause) (refusal : Refusal) → refusal ≡ NoMemory → AnswersCause {T = T} seen (Err refusal)
 answers_same T seen refusal e = subst (λ (r : Refusal). AnswersCause {T = T} seen (Err r)) (sym e) (answers_memory T seen)
-
-pub answers_residual : (T : Type 0) (seen : Option ListCause) (result : Result T Refusal) → IsErrAnd result (λ r. r ≡ NoMemory) → AnswersCause seen result
-answers_residual T seen (Ok v) h = absurd h
-answers_residual T seen (Err refusal) h = answers_same T seen refusal h
 
 pub answers_line : {T : Type 0} (draft : Draft) (reported line : LineForm) (result : Result T Refusal) → reported ≡ line → AnswersCause (line_cause draft line) result → AnswersCause (line_cause draft reported) result
 answers_line {T} draft reported line result e h = subst (λ (l : LineForm). AnswersCause (line_cause draft l) result) (sym e) h
@@ -117,10 +98,6 @@ answers_line {T} draft reported line result e h = subst (λ (l : LineForm). Answ
 pub cause_control : (draft : Draft) (value count : ℕ) → line_cause draft (control_line value count) ≡ run_cause draft value count
 unfolding line_cause
 cause_control draft value count = refl
-
-pub cause_video : (draft : Draft) (bytes : List ℕ) → line_cause draft (video_line bytes) ≡ video_cause draft bytes
-unfolding line_cause
-cause_video draft bytes = refl
 
 pub cause_island : (draft : Draft) (a b : ℕ) → line_cause draft (island_line a b) ≡ island_cause draft a b
 unfolding line_cause
@@ -141,41 +118,13 @@ cause_end draft = refl
 -- Faults of items.
 
 pub none_of : (T : Type 0) (v : T) (seen : Option ItemFault) → AnswersFault {T = T} seen (Ok v) → seen ≡ None
-none_of T v None h = refl
-none_of T v (Some fault) h = absurd cc
-
-refused_as : (T : Type 0) (fault : ItemFault) (refusal : Refusal) → RefusesAs fault refusal → AnswersCause {T = T} (Some (cause_of fault)) (Err refusal)
-refused_as T range_fault refusal e = subst (λ (r : Refusal). AnswersCause {T = T} (Some Range) (Err r)) (sym e) refl
-refused_as T order_fault refusal e = subst (λ (r : Refusal). AnswersCause {T = T} (Some Order) (Err r)) (sym e) refl
-refused_as T control_fault refusal e = subst (λ (r : Refusal). AnswersCause {T = T} (Some Control) (Err r)) (sym e) refl
-refused_as T preamble_fault refusal e = subst (λ (r : Refusal). AnswersCause {T = T} (Some Preamble) (Err r)) (sym e) refl
-refused_as T long_fault refusal e = subst (λ (r : Refusal). AnswersCause {T = T} (Some Long) (Err r)) (sym e) refl
-refused_as T no_memory refusal e = subst (λ (r : Refusal). AnswersCause {T = T} (Some Long) (Err r)) (sym e) tt
-
-same_fault : (S : Type 0) (a b : ItemFault) → ◌≡◌ {A = Result S ItemFault} (Err a) (Err b) → a ≡ b
-same_fault S a b e = cc
+none_of T v seen h = grind arith
 
 pub answers_fault : (S T : Type 0) (fault : ItemFault) (seen : Option ItemFault) (refusal : Refusal) → AnswersFault {T = S} seen (Err fault) → RefusesAs fault refusal → AnswersCause {T = T} (caused seen) (Err refusal)
-answers_fault S T fault None refusal h seen_as = answers_same T None refusal (subst (λ (f : ItemFault). RefusesAs f refusal) h seen_as)
-answers_fault S T fault (Some found) refusal h seen_as = refused_as T found refusal (subst (λ (f : ItemFault). RefusesAs f refusal) (same_fault S fault found h) seen_as)
-
--- an item that has no fault fits
-sum_fits : (a b c d e : Bool) → first a b c d e ≡ None → e ≡ true
-sum_fits true true true true true h = refl
-sum_fits true true true true false h = absurd cc
-sum_fits true true true false e h = absurd cc
-sum_fits true true false d e h = absurd cc
-sum_fits true false c d e h = absurd cc
-sum_fits false b c d e h = absurd cc
-
-le_true : (a b : ℕ) → nat_le a b ≡ true → a ≤ b
-le_true a b e = grind arith
+answers_fault S T fault seen refusal h k = grind (arith, answers_same)
 
 pub pushed_fits : (ps : List Period) (p : Period) → push_fault ps p ≡ None → columns_of ps + period_columns p ≤ 20000000
-pushed_fits ps p e =
-    le_true (columns_of ps + period_columns p) 20000000 (
-    sum_fits (is_in_range p) (is_in_order (last_period ps) p) (has_control (last_period ps) p) (is_announced (last_period ps) p) (nat_le (columns_of ps + period_columns p) 20000000)
-    (sym (push_fault_is ps p) ∙ e))
+pushed_fits ps p e = grind (arith, push_fault_is)
 
 -- a video data period in its range, outside an island
 pub video_pushed : (draft : Draft) (bytes : List ℕ) → is_in_range (video bytes) ≡ true → is_closed draft.opened ≡ true → line_cause draft (video_line bytes) ≡ caused (push_fault draft.periods (video bytes))
@@ -192,17 +141,11 @@ video_order draft bytes range unclosed = goes_past _ Range _ range ∙ stops_her
 
 pub answers_video : (S T : Type 0) (draft : Draft) (all : List Period) (bytes : List ℕ) (fault : ItemFault) (refusal : Refusal) → all ≡ draft.periods → is_in_range (video bytes) ≡ true → is_closed draft.opened ≡ true
     → AnswersFault {T = S} (push_fault all (video bytes)) (Err fault) → RefusesAs fault refusal → AnswersCause {T = T} (line_cause draft (video_line bytes)) (Err refusal)
-answers_video S T draft all bytes fault refusal same range closed h reported =
-    let e : caused (push_fault all (video bytes)) ≡ line_cause draft (video_line bytes) =
-    ap (λ (qs : List Period). caused (push_fault qs (video bytes))) same ∙ sym (video_pushed draft bytes range closed) in
-    subst (λ (s : Option ListCause). AnswersCause {T = T} s (Err refusal)) e (answers_fault S T fault (push_fault all (video bytes)) refusal h reported)
+answers_video S T draft all bytes fault refusal same range closed h reported = grind (arith, video_pushed, answers_fault)
 
 pub answers_taken : (S : Type 0) {T : Type 0} (done : S) (v : T) (draft : Draft) (all : List Period) (bytes : List ℕ) → all ≡ draft.periods → is_in_range (video bytes) ≡ true → is_closed draft.opened ≡ true
     → AnswersFault {T = S} (push_fault all (video bytes)) (Ok done) → AnswersCause (line_cause draft (video_line bytes)) (Ok v)
-answers_taken S {T} done v draft all bytes same range closed h =
-    let e : caused (push_fault all (video bytes)) ≡ line_cause draft (video_line bytes) =
-    ap (λ (qs : List Period). caused (push_fault qs (video bytes))) same ∙ sym (video_pushed draft bytes range closed) in
-    answers_ok {T = T} v (line_cause draft (video_line bytes)) (sym e ∙ ap caused (none_of S done (push_fault all (video bytes)) h))
+answers_taken S {T} done v draft all bytes same range closed h = grind (arith, video_pushed, answers_ok, none_of)
 
 -- The digits of a video line.
 
@@ -211,29 +154,14 @@ pub answers_read : {T : Type 0} (draft : Draft) (digits bytes : List ℕ) (resul
 answers_read {T} draft digits bytes result read h = answers_line {T = T} draft (video_by true (decode_of digits)) (video_line bytes) result (ap (video_by true) read) h
 
 pub no_digits : (read : Result (List ℕ) FromHexError) → IsErr read → video_by true read ≡ no_line
-no_digits (Ok bytes) h = absurd cc
-no_digits (Err e) h = refl
-
-cause_none_reported : (draft : Draft) → line_cause draft no_line ≡ Some Form
-unfolding line_cause
-cause_none_reported draft = refl
-
-cause_no_digits : (draft : Draft) (read : Result (List ℕ) FromHexError) → IsErr read → line_cause draft (video_by true read) ≡ Some Form
-cause_no_digits draft read h = ap (line_cause draft) (no_digits read h) ∙ cause_none_reported draft
-
-refused_digits : (T : Type 0) (seen : Option ListCause) (digits : List ℕ) (refusal : Refusal) → (IsErr (decode_of digits) → seen ≡ Some Form)
-    → (refusal ≡ NoMemory) ⊎ ((refusal ≡ Cause Form) × IsErr (decode_of digits)) → AnswersCause {T = T} seen (Err refusal)
-refused_digits T seen digits refusal form (inl e) = answers_same T seen refusal e
-refused_digits T seen digits refusal form (inr h) = subst (λ (r : Refusal). AnswersCause {T = T} seen (Err r)) (sym h.0) (answers_cause T seen Form (form h.1))
+no_digits read h = grind arith
 
 pub answers_undecoded : (T : Type 0) (seen : Option ListCause) (digits : List ℕ) (result : Result T Refusal) (refusal : Refusal) → (IsErr (decode_of digits) → seen ≡ Some Form)
     → (refusal ≡ NoMemory) ⊎ ((refusal ≡ Cause Form) × IsErr (decode_of digits)) → IsErrAnd result (λ r. r ≡ refusal) → AnswersCause seen result
-answers_undecoded T seen digits (Ok v) refusal form why h = absurd h
-answers_undecoded T seen digits (Err found) refusal form why h =
-    subst (λ (r : Refusal). AnswersCause {T = T} seen (Err r)) (sym h) (refused_digits T seen digits refusal form why)
+answers_undecoded T seen digits result refusal h k l = grind (arith, answers_same, answers_cause)
 
 -- bytes that are no digits, or want of memory
 pub answers_unread : (T : Type 0) (draft : Draft) (digits : List ℕ) (result : Result T Refusal) (refusal : Refusal) → (refusal ≡ NoMemory) ⊎ ((refusal ≡ Cause Form) × IsErr (decode_of digits))
     → IsErrAnd result (λ r. r ≡ refusal) → AnswersCause (line_cause draft (video_by true (decode_of digits))) result
-answers_unread T draft digits result refusal why h =
-    answers_undecoded T (line_cause draft (video_by true (decode_of digits))) digits result refusal (λ none. cause_no_digits draft (decode_of digits) none) why h
+unfolding line_cause
+answers_unread T draft digits result refusal why h = grind (arith, answers_undecoded, no_digits)

@@ -1,5 +1,5 @@
 -- What a lister of checks has taken, or broken at, that writes the line of one event or nothing.
-use Rattle.std.proofs.Common.{◌≡◌, ◌∙◌, ℕ, ◌<◌, Bool, true, false, List, [], ◌∷◌, length, take, Option, ◌⊎◌, inl, inr, Bor, refl, ap, sym, subst}
+use Rattle.std.proofs.Common.{arith, ◌≡◌, ◌∙◌, ℕ, ◌<◌, Bool, true, false, List, [], ◌∷◌, length, take, Option, ◌⊎◌, inl, inr, Bor, refl, ap, sym, subst}
 use Rattle.std.specs.Prelude.{◌||◌, Result, Ok, Err, OnOk, OnErr}
 use Rattle.std.specs.Io.KnownBytes.{Appends}
 use Rattle.std.proofs.KnownBytes.{Appends-nil}
@@ -58,8 +58,7 @@ check_took_ok P Q (Err e) a b t s is listed took = tt
 pub check_broke : {T E : Type 0} (P Q : Type 0) (r : Result T E) (a b : Option (List ℕ)) (t s : Event) → t ≡ s → is_checked s ≡ true
     → OnErr r (P × Q × ((n : ℕ) × (n < length (lines_of (t ∷ []))) × Appends a b (take n (lines_of (t ∷ [])))))
     → OnErr r (P × Q × ((n : ℕ) × (n < length (lines_of (t ∷ []))) × (is_checked t ≡ true) × Appends a b (take n (lines_of (t ∷ [])))))
-check_broke P Q (Ok v) a b t s is listed broke = tt
-check_broke P Q (Err e) a b t s is listed broke = (broke.0, broke.1, (broke.2.0, broke.2.1, ap is_checked is ∙ listed, broke.2.2))
+check_broke P Q r a b t s h k l = grind arith
 
 -- a check lists a fault
 pub fault_checked : (fault : Fault) → is_checked (fault_event fault) ≡ true

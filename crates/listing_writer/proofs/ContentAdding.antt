@@ -37,17 +37,11 @@ adds_as lines a b r s is adds = subst (λ x. Adds a b (lines x)) is adds
 -- a line that was put
 pub adds_line : (a b : Seen) (put line words : List ℕ) → b.text ≡ a.text ++ put → put ≡ line → line ≡ words ++ codes "\n"
     → b.faults ≡ a.faults → is_fault_line words ≡ false → Adds a b (words ∷ [])
-adds_line a b put line words text same is faults plain = record {
-  text = text ∙ ap (λ (l : List ℕ). a.text ++ l) (same ∙ is ∙ sym (one_text words));
-  faults = faults ∙ (let none : a.faults ≡ counted a.faults 0 = omega arith in none) ∙ ap (λ (n : ℕ). counted a.faults n) (sym (one_count words false plain));
-}
+adds_line a b put line words text same is faults plain = grind (arith, one_text, one_count)
 
 pub adds_fault : (a b : Seen) (put line words : List ℕ) → b.text ≡ a.text ++ put → put ≡ line → line ≡ words ++ codes "\n"
     → b.faults ≡ counted a.faults 1 → is_fault_line words ≡ true → Adds a b (words ∷ [])
-adds_fault a b put line words text same is faults kind = record {
-  text = text ∙ ap (λ (l : List ℕ). a.text ++ l) (same ∙ is ∙ sym (one_text words));
-  faults = faults ∙ ap (λ (n : ℕ). counted a.faults n) (sym (one_count words true kind));
-}
+adds_fault a b put line words text same is faults kind = grind (arith, one_text, one_count)
 
 -- the first line
 pub adds_first : (a b : Seen) (words : List ℕ) → a.text ≡ [] → b.text ≡ words ++ codes "\n" → b.faults ≡ a.faults → is_fault_line words ≡ false → Adds a b (words ∷ [])

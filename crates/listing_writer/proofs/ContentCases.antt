@@ -1,16 +1,15 @@
 -- Cases of what packets are read as.
-use Rattle.std.proofs.Common.{◌≡◌, ℕ, zero, suc, ◌<◌, Bool, true, false, ◌&&◌, List, Option, refl, ◌∙◌, ap, sym, subst, arith}
-use Rattle.std.specs.Prelude.{Some, None, Ok, Err, Result, option_map, slice_index, ◌==◌, if◌then◌else◌}
+use Rattle.std.proofs.Common.{◌≡◌, ℕ, ◌<◌, Bool, false, List, Option, ◌∙◌, ap, sym, subst, arith}
+use Rattle.std.specs.Prelude.{Some, None, Ok, Err, Result, option_map, slice_index, if◌then◌else◌}
 use Rattle.std.proofs.lemmas.Bool.{ne_eqb}
 use Rattle.period_grammar.specs.Lending.{fault_event}
 use Rattle.period_grammar.specs.declared.event.Fault.{Fault}
-use Rattle.period_grammar.specs.declared.event.Fault.TheVariants.{Word, Short, Preamble, Noise, Empty, Code, LongLine, Symbols, Mended, Lost as LostBlock, LongIsland, Broken, Guard}
+use Rattle.period_grammar.specs.declared.event.Fault.TheVariants.{Word}
 use Rattle.frame_build.specs.FrameEvent.{other}
 use Rattle.island_pack.specs.declared.packet.Packet.{Packet}
 use Rattle.island_pack.specs.declared.packet.PacketVerdicts.{PacketVerdicts}
 use Rattle.infoframe.specs.Frames.{Frame, frame_in, frame_of, answer, kind_of, avi_in, audio_in, spd_in}
 use Rattle.infoframe.specs.declared.content.InfoKind.{InfoKind}
-use Rattle.infoframe.specs.declared.content.InfoKind.TheVariants.{Avi as AviKind, Audio as AudioKind, Spd as SpdKind, Raw as RawKind}
 use Rattle.infoframe.specs.declared.content.InfoFault.{InfoFault}
 use Rattle.infoframe.specs.declared.content.Avi.{Avi}
 use Rattle.infoframe.specs.declared.content.AudioInfo.{AudioInfo}
@@ -18,43 +17,21 @@ use Rattle.infoframe.specs.declared.content.Spd.{Spd}
 use Rattle.listing_writer.specs.ContentText.{is_fault_line, frame_event_of, avi_read, avi_words, audio_words, spd_words, raw_words, info_words}
 
 pub option_map-same : {A : Type 0} (x : Option A) → option_map (λ (a : A). a) x ≡ x
-option_map-same (Some a) = refl
-option_map-same None = refl
+option_map-same x = grind arith
 
 -- a fault of no word is an event like any other
 pub parts_lines : (fault : Fault) → ((lane column : ℕ) → fault ≡ Word lane column → ⊥) → frame_event_of (fault_event fault) ≡ other
 unfolding frame_event_of
-parts_lines (Word a b) not = absurd (not a b refl)
-parts_lines (Short a) not = refl
-parts_lines (Preamble a) not = refl
-parts_lines (Noise a) not = refl
-parts_lines (Empty a) not = refl
-parts_lines (Code a b) not = refl
-parts_lines (LongLine a) not = refl
-parts_lines (Symbols a b) not = refl
-parts_lines (Mended a b c) not = refl
-parts_lines (LostBlock a b) not = refl
-parts_lines (LongIsland a) not = refl
-parts_lines (Broken a) not = refl
-parts_lines (Guard a) not = refl
+parts_lines fault h = grind arith
 
 -- what a packet of no InfoFrame's type is read as names no code
 kind_low : (t v : ℕ) (payload : List ℕ) → t < 128 → avi_in (kind_of t v) payload ≡ None
 unfolding kind_of avi_in
-kind_low t v payload low =
-    let e2 : (t == 0x82) ≡ false = ne_eqb t 0x82 (λ e. omega (arith, e, low)) in
-    let e4 : (t == 0x84) ≡ false = ne_eqb t 0x84 (λ e. omega (arith, e, low)) in
-    let e3 : (t == 0x83) ≡ false = ne_eqb t 0x83 (λ e. omega (arith, e, low)) in
-    ap (λ (b : Bool). avi_in (if b && (v == 2) then AviKind else (if (t == 0x84) && (v == 1) then AudioKind else (if (t == 0x83) && (v == 1) then SpdKind else RawKind))) payload) e2
-    ∙ ap (λ (b : Bool). avi_in (if b && (v == 1) then AudioKind else (if (t == 0x83) && (v == 1) then SpdKind else RawKind)) payload) e4
-    ∙ ap (λ (b : Bool). avi_in (if b && (v == 1) then SpdKind else RawKind) payload) e3
+kind_low t v payload low = grind (arith, ne_eqb)
 
 answer_low : (lost : Option ℕ) (fits : Bool) (total : ℕ) (frame : Frame) → avi_in (kind_of frame.type_code frame.version) frame.payload ≡ None → avi_read (answer lost fits total frame) ≡ None
 unfolding answer avi_read
-answer_low (Some block) fits total frame none = refl
-answer_low None false total frame none = refl
-answer_low None true zero frame none = none
-answer_low None true (suc n) frame none = refl
+answer_low lost fits total frame h = grind arith
 
 pub avi_low : (p : Packet) (v : PacketVerdicts) → slice_index p.header 0 < 128 → avi_read (frame_of p v) ≡ None
 unfolding frame_of frame_in
@@ -67,10 +44,7 @@ HasType t (Err e) = Unit {0}
 
 answer_type : (lost : Option ℕ) (fits : Bool) (total : ℕ) (frame : Frame) → HasType frame.type_code (answer lost fits total frame)
 unfolding answer
-answer_type (Some block) fits total frame = tt
-answer_type None false total frame = tt
-answer_type None true zero frame = refl
-answer_type None true (suc n) frame = tt
+answer_type lost fits total frame = grind arith
 
 pub type_read : (p : Packet) (v : PacketVerdicts) (f : Frame) → Ok f ≡ frame_of p v → f.type_code ≡ slice_index p.header 0
 unfolding frame_of frame_in
@@ -83,10 +57,7 @@ IsAviLine k frame None = Unit {0}
 
 avi_line_of : (k : InfoKind) (frame : Frame) → IsAviLine k frame (avi_in k frame.payload)
 unfolding info_words avi_in
-avi_line_of AviKind frame = refl
-avi_line_of AudioKind frame = tt
-avi_line_of SpdKind frame = tt
-avi_line_of RawKind frame = tt
+avi_line_of k frame = grind arith
 
 pub as_avi : (k : InfoKind) (frame : Frame) (avi : Avi) → Some avi ≡ avi_in k frame.payload → avi_words avi ≡ info_words k frame
 as_avi k frame avi is = subst (IsAviLine k frame) (sym is) (avi_line_of k frame)
@@ -97,10 +68,7 @@ IsAudioLine k frame None = Unit {0}
 
 audio_line_of : (k : InfoKind) (frame : Frame) → IsAudioLine k frame (audio_in k frame.payload)
 unfolding info_words audio_in
-audio_line_of AviKind frame = tt
-audio_line_of AudioKind frame = refl
-audio_line_of SpdKind frame = tt
-audio_line_of RawKind frame = tt
+audio_line_of k frame = grind arith
 
 pub as_audio : (k : InfoKind) (frame : Frame) (audio : AudioInfo) → Some audio ≡ audio_in k frame.payload → audio_words audio ≡ info_words k frame
 as_audio k frame audio is = subst (IsAudioLine k frame) (sym is) (audio_line_of k frame)
@@ -111,10 +79,7 @@ IsSpdLine k frame None = Unit {0}
 
 spd_line_of : (k : InfoKind) (frame : Frame) → IsSpdLine k frame (spd_in k frame.payload)
 unfolding info_words spd_in
-spd_line_of AviKind frame = tt
-spd_line_of AudioKind frame = tt
-spd_line_of SpdKind frame = refl
-spd_line_of RawKind frame = tt
+spd_line_of k frame = grind arith
 
 pub as_spd : (k : InfoKind) (frame : Frame) (spd : Spd) → Some spd ≡ spd_in k frame.payload → spd_words spd ≡ info_words k frame
 as_spd k frame spd is = subst (IsSpdLine k frame) (sym is) (spd_line_of k frame)
@@ -127,14 +92,10 @@ IsRawLine k frame None None None = raw_words frame.type_code frame.version frame
 
 raw_line_of : (k : InfoKind) (frame : Frame) → IsRawLine k frame (avi_in k frame.payload) (audio_in k frame.payload) (spd_in k frame.payload)
 unfolding info_words avi_in audio_in spd_in
-raw_line_of AviKind frame = tt
-raw_line_of AudioKind frame = tt
-raw_line_of SpdKind frame = tt
-raw_line_of RawKind frame = refl
+raw_line_of k frame = grind arith
 
 pub no_some : {A : Type 0} (x : Option A) → ((a : A) → x ≡ Some a → ⊥) → x ≡ None
-no_some (Some a) never = absurd (never a refl)
-no_some None never = refl
+no_some x h = grind arith
 
 pub as_raw : (k : InfoKind) (frame : Frame) → avi_in k frame.payload ≡ None → audio_in k frame.payload ≡ None → spd_in k frame.payload ≡ None
     → raw_words frame.type_code frame.version frame.payload ≡ info_words k frame
@@ -146,10 +107,7 @@ as_raw k frame avi audio spd =
 -- it is no fault line
 pub info_is_plain : (k : InfoKind) (frame : Frame) → is_fault_line (info_words k frame) ≡ false
 unfolding info_words avi_words audio_words spd_words raw_words
-info_is_plain AviKind frame = refl
-info_is_plain AudioKind frame = refl
-info_is_plain SpdKind frame = refl
-info_is_plain RawKind frame = refl
+info_is_plain k frame = grind arith
 
 pub raw_same : (t u v w : ℕ) (p q : List ℕ) → t ≡ u → v ≡ w → p ≡ q → raw_words t v p ≡ raw_words u w q
 raw_same t u v w p q a b c = ap (λ (x : ℕ). raw_words x v p) a ∙ ap (λ (x : ℕ). raw_words u x p) b ∙ ap (λ (x : List ℕ). raw_words u w x) c

@@ -1,15 +1,14 @@
 -- What is kept of all that was told, once more was told.
-use Rattle.std.proofs.Common.{◌≡◌, ◌∙◌, ℕ, List, [], ◌∷◌, ◌++◌, Option, Some, None, reverse, true, ◌⊎◌, inl, inr, refl, ap, sym, subst}
+use Rattle.std.proofs.Common.{arith, ◌≡◌, ◌∙◌, ℕ, List, [], ◌∷◌, ◌++◌, Option, Some, None, reverse, true, ◌⊎◌, inl, inr, refl, sym, subst}
 use Rattle.std.specs.Prelude.{option_map, filter_map, slice_index}
 use Rattle.std.proofs.lemmas.List.{map-append, reverse-append}
 use Rattle.std.proofs.lemmas.List.Elements.{filter_map-append}
 use Rattle.infoframe.specs.declared.content.Avi.{Avi}
-use Rattle.frame_build.specs.FrameEvent.{FrameEvent, other}
+use Rattle.frame_build.specs.FrameEvent.{other}
 use Rattle.frame_build.specs.FramesRepresent.{FramesRepresent}
 use Rattle.period_grammar.specs.Events.{Event, open_island, close_island}
 use Rattle.period_grammar.specs.Lending.{fault_event}
 use Rattle.period_grammar.specs.declared.event.Fault.{Fault}
-use Rattle.period_grammar.specs.declared.event.Fault.TheVariants.{Word, Short, Preamble, Noise, Empty, Code, LongLine, Symbols, Mended, Lost, LongIsland, Broken, Guard}
 use Rattle.period_grammar.specs.Lending.{lent_event}
 use Rattle.period_grammar.specs.declared.event.EventRef.{EventRef}
 use Rattle.period_grammar.specs.declared.event.EventRef.TheVariants.{Open, Close}
@@ -23,23 +22,16 @@ newer (Some avi) before = Some avi
 newer None before = before
 
 front : (x : Option Avi) (ys : List Avi) → first_of (reverse (filter_map (λ (y : Option Avi). y) (x ∷ [])) ++ ys) ≡ newer x (first_of ys)
-front (Some avi) ys = refl
-front None ys = refl
+front x ys = grind arith
 
 last_more : (reported : List Event) (event : Event) → last_avi (reported ++ event ∷ []) ≡ newer (avi_at event) (last_avi reported)
 unfolding last_avi
-last_more reported event =
-    ap (λ (xs : List Avi). first_of (reverse xs)) (filter_map-append avi_at reported (event ∷ []))
-    ∙ ap first_of (reverse-append (filter_map avi_at reported) (filter_map avi_at (event ∷ [])))
-    ∙ front (avi_at event) (reverse (filter_map avi_at reported))
+last_more reported event = grind (arith, filter_map-append, reverse-append, front)
 
 recalls_newer : (before now : ContentState) (reported : List Event) (event : Event) (read : Option Avi) → avi_at event ≡ read → now.vic ≡ option_map (λ avi. avi.vic) (newer read (last_avi reported))
     → FramesRepresent now.frames (frame_events reported ++ frame_event_of event ∷ []) → Recalls now (reported ++ event ∷ [])
 unfolding last_vic
-recalls_newer before now reported event read is vic stands = record {
-  frames = subst (λ (all : List FrameEvent). FramesRepresent now.frames all) (sym (map-append frame_event_of reported (event ∷ []))) stands;
-  vic = vic ∙ ap (option_map (λ avi. avi.vic)) (ap (λ (x : Option Avi). newer x (last_avi reported)) (sym is) ∙ sym (last_more reported event));
-}
+recalls_newer before now reported event read is vic stands = grind (arith, map-append, last_more)
 
 -- an event that is read as no AVI InfoFrame
 pub recalls_plain : (before now : ContentState) (reported : List Event) (event : Event) → avi_at event ≡ None → now.vic ≡ before.vic → FramesRepresent now.frames (frame_events reported ++ frame_event_of event ∷ [])
@@ -55,53 +47,17 @@ recalls_avi before now reported event avi is vic stands = recalls_newer before n
 -- a fault is no InfoFrame
 pub no_avi : (fault : Fault) → avi_at (fault_event fault) ≡ None
 unfolding avi_at
-no_avi (Word a b) = refl
-no_avi (Short a) = refl
-no_avi (Preamble a) = refl
-no_avi (Noise a) = refl
-no_avi (Empty a) = refl
-no_avi (Code a b) = refl
-no_avi (LongLine a) = refl
-no_avi (Symbols a b) = refl
-no_avi (Mended a b c) = refl
-no_avi (Lost a b) = refl
-no_avi (LongIsland a) = refl
-no_avi (Broken a) = refl
-no_avi (Guard a) = refl
+no_avi fault = grind arith
 
 -- it has its line
 pub fault_listed : (before : List Event) (fault : Fault) → line_words (fault_event fault) ∷ [] ≡ lines_at before (fault_event fault)
 unfolding lines_at
-fault_listed before (Word a b) = refl
-fault_listed before (Short a) = refl
-fault_listed before (Preamble a) = refl
-fault_listed before (Noise a) = refl
-fault_listed before (Empty a) = refl
-fault_listed before (Code a b) = refl
-fault_listed before (LongLine a) = refl
-fault_listed before (Symbols a b) = refl
-fault_listed before (Mended a b c) = refl
-fault_listed before (Lost a b) = refl
-fault_listed before (LongIsland a) = refl
-fault_listed before (Broken a) = refl
-fault_listed before (Guard a) = refl
+fault_listed before fault = grind arith
 
 -- a fault line
 pub fault_marked : (fault : Fault) → is_fault_line (line_words (fault_event fault)) ≡ true
 unfolding line_words
-fault_marked (Word a b) = refl
-fault_marked (Short a) = refl
-fault_marked (Preamble a) = refl
-fault_marked (Noise a) = refl
-fault_marked (Empty a) = refl
-fault_marked (Code a b) = refl
-fault_marked (LongLine a) = refl
-fault_marked (Symbols a b) = refl
-fault_marked (Mended a b c) = refl
-fault_marked (Lost a b) = refl
-fault_marked (LongIsland a) = refl
-fault_marked (Broken a) = refl
-fault_marked (Guard a) = refl
+fault_marked fault = grind arith
 
 -- the guards of an island
 abbrev pub IsGuard : EventRef → Type 0

@@ -33,13 +33,7 @@ by_kind t p v column b0 b1 b2 b3 info e0 e1 e2 e3 e4 = λ i.
     else (if e3 i then control_lines column p.bodies else (if e4 i then info_lines column (frame_of p v) else other_words p ∷ []))))
 
 pub carried_info : (t : ℕ) (p : Packet) (v : PacketVerdicts) (column : ℕ) → 128 ≤ t → info_lines column (frame_of p v) ≡ carried_lines t p v column
-carried_info t p v column high =
-    sym (by_kind t p v column false false false false true
-    (ne_eqb t 0 (λ e. omega (arith, e, high))) (ne_eqb t 1 (λ e. omega (arith, e, high))) (ne_eqb t 2 (λ e. omega (arith, e, high))) (ne_eqb t 3 (λ e. omega (arith, e, high)))
-    (le-leb 0x80 t high))
+carried_info t p v column high = grind (arith, by_kind, ne_eqb, le-leb)
 
 pub carried_other : (t : ℕ) (p : Packet) (v : PacketVerdicts) (column : ℕ) → 3 < t → t < 128 → other_words p ∷ [] ≡ carried_lines t p v column
-carried_other t p v column low high =
-    sym (by_kind t p v column false false false false false
-    (ne_eqb t 0 (λ e. omega (arith, e, low))) (ne_eqb t 1 (λ e. omega (arith, e, low))) (ne_eqb t 2 (λ e. omega (arith, e, low))) (ne_eqb t 3 (λ e. omega (arith, e, low)))
-    (lt-leb 0x80 t high))
+carried_other t p v column low high = grind (arith, by_kind, ne_eqb, lt-leb)

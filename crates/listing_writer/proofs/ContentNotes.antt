@@ -1,6 +1,6 @@
 -- The samples of a packet whose lines are added one after another.
-use Rattle.std.proofs.Common.{◌≡◌, ◌∙◌, ℕ, suc, ◌+◌, ◌*◌, ◌≤◌, Bool, true, false, cond, List, [], ◌∷◌, ◌++◌, length, filter, ap, sym, subst, append_assoc, append-nil, arith}
-use Rattle.std.specs.Prelude.{Result, Ok, Err, flat_map, if◌then◌else◌, Option, Some, None}
+use Rattle.std.proofs.Common.{◌≡◌, ◌∙◌, ℕ, suc, ◌+◌, ◌*◌, ◌≤◌, Bool, cond, List, [], ◌∷◌, ◌++◌, length, filter, ap, sym, subst, append_assoc, append-nil, arith}
+use Rattle.std.specs.Prelude.{Result, Ok, Err, flat_map, if◌then◌else◌, Option}
 use Rattle.std.proofs.lemmas.List.{length-map}
 use Rattle.std.proofs.lemmas.Grind.{flat_map-append}
 use Rattle.island_pack.specs.declared.packet.Packet.{Packet}
@@ -24,8 +24,7 @@ pub record Added (read : Result (List SampleNote) AudioFault) (column : ℕ) (ol
 
 -- a packet has four bodies
 short_step : (b : Bool) (x : ℕ) (xs ys : List ℕ) → length xs ≤ length ys → length (cond b (x ∷ xs) xs) ≤ suc (length ys)
-short_step true x xs ys short = omega (arith, short)
-short_step false x xs ys short = omega (arith, short)
+short_step b x xs ys h = grind arith
 
 short_filter : (p : ℕ → Bool) (xs : List ℕ) → length (filter p xs) ≤ length xs
 short_filter p [] = omega arith
@@ -39,9 +38,7 @@ short_from : (p : Packet) → length (samples_from p 0) ≤ 4
 short_from p = omega (arith, length-map (filter (is_present p) (0 ∷ 1 ∷ 2 ∷ 3 ∷ [])) (note_at p), short_filter (is_present p) (0 ∷ 1 ∷ 2 ∷ 3 ∷ []))
 
 short_read : (p : Packet) (lost : Option ℕ) (many : Bool) → IsShort (unless_lost lost (if many then Err Layout else Ok (samples_from p 0)))
-short_read p (Some block) many = tt
-short_read p None true = tt
-short_read p None false = short_from p
+short_read p lost many = grind (arith, short_from)
 
 pub samples_short : (p : Packet) (v : PacketVerdicts) (notes : List SampleNote) → Ok notes ≡ samples_of p v → length notes ≤ 4
 samples_short p v notes is = subst IsShort (sym is) (short_read p (first_lost v) (has_many_channels p))

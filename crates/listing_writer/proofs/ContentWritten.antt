@@ -1,9 +1,9 @@
 -- The lines of one event, written.
-use Rattle.std.proofs.Common.{◌≡◌, ◌∙◌, ℕ, List, [], ◌∷◌, ◌++◌, Option, ap, sym, subst, append-nil, arith}
+use Rattle.std.proofs.Common.{◌≡◌, ℕ, List, [], ◌∷◌, Option, append-nil, arith}
 use Rattle.std.specs.Io.KnownBytes.{Appends}
 use Rattle.period_grammar.specs.Events.{Event}
 use Rattle.listing_writer.specs.Texts.{counted}
-use Rattle.listing_writer.specs.ContentText.{text_of, fault_line_count, lines_at, lines_after}
+use Rattle.listing_writer.specs.ContentText.{lines_at, lines_after}
 use Rattle.listing_writer.specs.ContentSeen.{Seen}
 use Rattle.listing_writer.specs.ContentAdded.{Hears}
 use Rattle.listing_writer.specs.ContentTaken.{Lists}
@@ -19,12 +19,4 @@ from_none before lines n is = omega (arith, is)
 pub lists_one : (reported : List Event) (event : Event) (now : ContentState) (empty lines : Seen) (before after : ℕ) (held holds : Option (List ℕ)) (text : List ℕ)
     → Hears reported event now empty lines → empty.text ≡ [] → empty.faults ≡ 0 → text ≡ lines.text → after ≡ counted before lines.faults → Appends held holds text
     → Lists reported (event ∷ []) now before after held holds
-lists_one reported event now empty lines before after held holds text hears none zero is faults written = record {
-  recalls = hears.recalls;
-  faults =
-      faults ∙ from_none before lines.faults (fault_line_count (lines_at reported event)) (hears.added.faults ∙ ap (λ (n : ℕ). counted n (fault_line_count (lines_at reported event))) zero)
-      ∙ ap (λ (xs : List (List ℕ)). counted before (fault_line_count xs)) (sym (one_after reported event));
-  written =
-      subst (λ (bytes : List ℕ). Appends held holds bytes)
-      (is ∙ hears.added.text ∙ ap (λ (bytes : List ℕ). bytes ++ text_of (lines_at reported event)) none ∙ ap text_of (sym (one_after reported event))) written;
-}
+lists_one reported event now empty lines before after held holds text hears none zero is faults written = grind (arith, from_none, one_after)

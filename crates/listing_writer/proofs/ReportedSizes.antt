@@ -1,5 +1,5 @@
 -- The sizes of what is told.
-use Rattle.std.proofs.Common.{◌≡◌, ◌<◌, true, All}
+use Rattle.std.proofs.Common.{arith, ◌≡◌, ◌<◌, true, All}
 use Rattle.island_pack.specs.Conforming.{is_packet}
 use Rattle.island_pack.specs.Packets.{IsPacket}
 use Rattle.island_pack.specs.declared.packet.Packet.{Packet}
@@ -7,23 +7,10 @@ use Rattle.island_pack.proofs.Spelled.{whole_packet, sync_small}
 use Rattle.period_grammar.specs.Lending.{fault_event}
 use Rattle.period_grammar.specs.Sizes.{IsSized}
 use Rattle.period_grammar.specs.declared.event.Fault.{Fault}
-use Rattle.period_grammar.specs.declared.event.Fault.TheVariants.{Word, Short, Preamble, Noise, Empty, Code, LongLine, Symbols, Mended, Lost, LongIsland, Broken, Guard}
 
 -- a fault is of any size
 pub fault_sized : (fault : Fault) → IsSized (fault_event fault)
-fault_sized (Word a b) = tt
-fault_sized (Short a) = tt
-fault_sized (Preamble a) = tt
-fault_sized (Noise a) = tt
-fault_sized (Empty a) = tt
-fault_sized (Code a b) = tt
-fault_sized (LongLine a) = tt
-fault_sized (Symbols a b) = tt
-fault_sized (Mended a b c) = tt
-fault_sized (Lost a b) = tt
-fault_sized (LongIsland a) = tt
-fault_sized (Broken a) = tt
-fault_sized (Guard a) = tt
+fault_sized fault = grind arith
 
 -- a packet, by looking at each byte and at each sync digit
 pub packet_sized : (p : Packet) → is_packet p ≡ true → IsPacket p × All (λ digit. digit < 4) p.sync

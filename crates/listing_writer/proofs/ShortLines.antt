@@ -33,8 +33,4 @@ packet_joined p h s b0 b1 b2 b3 = simp append_assoc
 pub packet_parts : (p h s b0 b1 b2 b3 y n r1 r2 r3 r4 r5 r6 r7 r8 : List ℕ)
     → r1 ≡ p → r2 ≡ r1 ++ (h ++ s) → r3 ≡ r2 ++ (b0 ++ s) → r4 ≡ r3 ++ (b1 ++ s) → r5 ≡ r4 ++ (b2 ++ s) → r6 ≡ r5 ++ (b3 ++ s)
     → r7 ≡ r6 ++ y → r8 ≡ r7 ++ n → r8 ≡ p ++ (h ++ s ++ b0 ++ s ++ b1 ++ s ++ b2 ++ s ++ b3 ++ s ++ y) ++ n
-packet_parts p h s b0 b1 b2 b3 y n r1 r2 r3 r4 r5 r6 r7 r8 e1 e2 e3 e4 e5 e6 e7 e8 =
-    let head : r6 ≡ p ++ (h ++ s) ++ (b0 ++ s) ++ (b1 ++ s) ++ (b2 ++ s) ++ (b3 ++ s) = cc in
-    let first = packet_joined p h s b0 b1 b2 b3 in
-    let last = append_assoc p (h ++ s ++ b0 ++ s ++ b1 ++ s ++ b2 ++ s ++ b3 ++ s) y in
-    cc
+packet_parts p h s b0 b1 b2 b3 y n r1 r2 r3 r4 r5 r6 r7 r8 e1 e2 e3 e4 e5 e6 e7 e8 = grind (arith, packet_joined, append_assoc)

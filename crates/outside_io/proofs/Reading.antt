@@ -17,11 +17,7 @@ read_known left now into rest n within ends copied moved =
 
 -- a part of a slice that a call wrote, as far as it wrote it
 pub take_put : (a k n : ℕ) (xs ys : List ℕ) → a ≤ length xs → n ≤ length ys → take (a + n) (put_mid a k xs ys) ≡ take a xs ++ take n ys
-take_put a k n xs ys within some =
-    let e : length (take a xs) ≡ a = length-take-le a xs within in
-    ap (λ m. take (m + n) (take a xs ++ (ys ++ post_of a k xs))) (sym e)
-    ∙ take-append-add (take a xs) (ys ++ post_of a k xs) n
-    ∙ ap (λ z. take a xs ++ z) (take-append-le n ys (post_of a k xs) some)
+take_put a k n xs ys within some = grind (arith, length-take-le, post_of, take-append-add, take-append-le)
 
 pub Consumes-more : (s t u : Option (List ℕ)) (a k n : ℕ) (xs ys : List ℕ) → a ≤ length xs → n ≤ length ys → Consumes s t (take a xs) → Consumes t u (take n ys) → Consumes s u (take (a + n) (put_mid a k xs ys))
 Consumes-more s t u a k n xs ys within some h j = rw (take_put a k n xs ys within some) (Consumes-trans s t u _ _ h j)

@@ -1,26 +1,21 @@
 -- Columns that have the words of a column of the last run.
-use Rattle.std.proofs.Common.{◌≡◌, ℕ, ◌+◌, ◌*◌, ◌<◌, Bool, true, false, not, ◌==◌, ◌&&◌, ◌||◌, ◌⊎◌, inl, inr, refl, ap, sym, subst, ◌∙◌, arith, eqb-true, slice_index}
+use Rattle.std.proofs.Common.{◌≡◌, ℕ, ◌+◌, ◌*◌, ◌<◌, Bool, true, ◌==◌, ◌&&◌, ◌||◌, ◌⊎◌, refl, ap, sym, ◌∙◌, arith, eqb-true, slice_index}
 use Rattle.std.proofs.lemmas.Bool.{eq-eqb}
 use borrow.Author.Tests.{ltb-true}
 use Rattle.tmds_word.specs.Column.{Column}
 use Rattle.terc4.specs.Tables.{control_words, is_control, is_in, value_in}
 use Rattle.period_grammar.specs.Column.{control_bits, value_of}
-use Rattle.period_grammar.specs.GoesOn.{is_whole, is_alike, goes_kept}
+use Rattle.period_grammar.specs.GoesOn.{is_alike, goes_kept}
 use Rattle.period_grammar.specs.declared.control.ControlState.{ControlState}
 use Rattle.period_grammar.proofs.Going.{IsWhole, both, whole_is}
 
 one_of : (a b : Bool) → (a || b) ≡ true → (a ≡ true) ⊎ (b ≡ true)
-one_of true b e = inl refl
-one_of false b e = inr e
+one_of a b h = grind arith
 
 -- a control word is that of its bits
 record IsKnown (w : ℕ) : Type 0 where
   pub word : slice_index control_words (control_bits w) ≡ w
   pub below : control_bits w < 4
-
-known_0 : IsKnown 0x354
-unfolding control_words control_bits value_in
-known_0 = record { word = refl; below = ltb-true (control_bits 0x354) 4 refl }
 
 known_1 : IsKnown 0x0ab
 unfolding control_words control_bits value_in
@@ -35,15 +30,11 @@ unfolding control_words control_bits value_in
 known_3 = record { word = refl; below = ltb-true (control_bits 0x2ab) 4 refl }
 
 among : (w x : ℕ) (p : Bool) → IsKnown x → (p ≡ true → IsKnown w) → ((x == w) || p) ≡ true → IsKnown w
-among w x p known rest h =
-    elim (one_of (x == w) p h) [
-      | inl same ↦ subst (λ n. IsKnown n) (eqb-true x w same) known
-      | inr other ↦ rest other
-    ]
+among w x p known rest h = grind (arith, one_of, eqb-true)
 
 known : (w : ℕ) → is_control w ≡ true → IsKnown w
-unfolding is_control control_words is_in
-known w h = among w 0x354 _ known_0 (among w 0x0ab _ known_1 (among w 0x154 _ known_2 (among w 0x2ab _ known_3 (λ e. cc)))) h
+unfolding is_control control_words is_in control_bits value_in
+known w h = grind (arith, among, known_1, known_2, known_3, ltb-true)
 
 same_word : (u w : ℕ) → is_control u ≡ true → is_control w ≡ true → control_bits u ≡ control_bits w → u ≡ w
 same_word u w a b e = sym (known u a).word ∙ ap (slice_index control_words) e ∙ (known w b).word
@@ -60,29 +51,11 @@ same_column v c d p q =
     (same_word d.blue c.blue q.blue p.blue bits.0, same_word d.green c.green q.green p.green bits.1, same_word d.red c.red q.red p.red bits.2)
 
 same_test : (p q : Bool) → (p ≡ true → q ≡ true) → (q ≡ true → p ≡ true) → p ≡ q
-same_test true q f g = sym (f refl)
-same_test false true f g = g refl
-same_test false false f g = refl
+same_test p q h k = grind arith
 
 three : (a b c : Bool) → a ≡ true → b ≡ true → c ≡ true → (a && (b && c)) ≡ true
-three true true true e f g = refl
-three true true false e f g = cc
-three true false c e f g = cc
-three false b c e f g = cc
+three a b c h k l = grind arith
 
 -- what has the words of a column that goes on with the last run goes on with it, and nothing else does
 pub alike_goes : (kept : ControlState) (c : Column) → goes_kept kept c ≡ true → (d : Column) → is_alike c d ≡ goes_kept kept d
-alike_goes kept c goes d =
-    let whole = whole_is kept.value c (both (not (kept.run == 0)) (is_whole kept.value c) goes).1 in
-    same_test (is_alike c d) (goes_kept kept d)
-    (λ e.
-    let p = both (d.blue == c.blue) _ e in
-    let q = both (d.green == c.green) _ p.1 in
-    let fb : c.blue ≡ d.blue = sym (eqb-true d.blue c.blue p.0) in
-    let fg : c.green ≡ d.green = sym (eqb-true d.green c.green q.0) in
-    let fr : c.red ≡ d.red = sym (eqb-true d.red c.red q.1) in
-    subst (λ (k : Column). goes_kept kept k ≡ true) (λ i. record { blue = fb i; green = fg i; red = fr i }) goes)
-    (λ e.
-    let own = whole_is kept.value d (both (not (kept.run == 0)) (is_whole kept.value d) e).1 in
-    let same = same_column kept.value c d whole own in
-    three (d.blue == c.blue) (d.green == c.green) (d.red == c.red) (eq-eqb d.blue c.blue same.0) (eq-eqb d.green c.green same.1) (eq-eqb d.red c.red same.2))
+alike_goes kept c goes d = grind (arith, whole_is, both, same_test, eqb-true, same_column, three, eq-eqb)

@@ -1,13 +1,13 @@
 -- Lanes that were followed from word to word.
-use Rattle.std.proofs.Common.{◌≡◌, ℕ, ◌+◌, Bool, true, false, not, cond, ◌==◌, ◌||◌, nat_le, ◌⊎◌, inl, inr, List, [], ◌∷◌, ◌++◌, refl, ap, is_some, sym, subst, ◌∙◌, All, eqb-true}
-use Rattle.std.specs.Prelude.{Option, Some, None, ℤ, pos, ◌+ℤ◌}
+use Rattle.std.proofs.Common.{arith, ◌≡◌, ℕ, ◌+◌, Bool, true, false, not, cond, ◌==◌, ◌||◌, nat_le, ◌⊎◌, List, [], ◌∷◌, ◌++◌, refl, ap, is_some, sym, subst, ◌∙◌, All, eqb-true}
+use Rattle.std.specs.Prelude.{Option, Some, None, ℤ, ◌+ℤ◌}
 use Rattle.std.proofs.Math.IntN.{+ℤ_assoc, +ℤ_idl, +ℤ_idr}
 use Rattle.std.proofs.lemmas.List.Elements.{All-nil, All-cons}
 use Rattle.tmds_word.specs.Bits.{bits_of, word_bits, balance, number, ones, zeros}
 use Rattle.tmds_word.specs.Column.{Column, blues, greens, reds}
 use Rattle.terc4.specs.Tables.{control_words, is_control, is_in}
 use Rattle.terc4.specs.Columns.{is_control_column, one_if}
-use Rattle.tmds_code.specs.Coding.{Sign, negative, null, positive, sign_of, coded_at, coded_word, coded_bits, balanced, minimised, takes_xnor, decoded_byte, decoded_bits}
+use Rattle.tmds_code.specs.Coding.{Sign, sign_of, coded_at, coded_word, coded_bits, balanced, minimised, takes_xnor, decoded_byte, decoded_bits}
 use Rattle.tmds_code.specs.Lanes.{disparity_of}
 use Rattle.tmds_code.specs.Balances.{followed, followed_all}
 use Rattle.tmds_code.specs.Pasts.{IsJudgeAfter}
@@ -22,8 +22,7 @@ none_some [] e h = cc
 none_some (w ∷ ws) e h = none_some ws e h
 
 by_test : (p : Bool) (x : ℤ) (n : ℕ) (o : Option ℕ) (e : ℤ) (ws : List ℕ) → (followed_all (Some x) ws ≡ Some e → o ≡ None) → followed_all (cond p (Some x) None) ws ≡ Some e → cond p o (Some n) ≡ None
-by_test true x n o e ws f h = f h
-by_test false x n o e ws f h = absurd (none_some ws e h)
+by_test p x n o e ws h k = grind (arith, none_some)
 
 -- no word is wrong where all were followed to a balance
 none_wrong : (d e : ℤ) (n : ℕ) (ws : List ℕ) → followed_all (Some d) ws ≡ Some e → first_from d n ws ≡ None
@@ -42,10 +41,7 @@ still_first d t e n (w ∷ ws) vs s h =
 
 pub lane_followed : (old new : Lane) (e : ℤ) (ws vs : List ℕ) → IsLaneAfter old ws → followed_all (Some old.judge.disparity) vs ≡ Some e → IsJudgeAfter new.judge (ws ++ vs) → new.first ≡ old.first
     → IsLaneAfter new (ws ++ vs)
-lane_followed old new e ws vs was h judge first = record {
-  judge = judge;
-  first = first ∙ was.first ∙ sym (still_first (pos 0) old.judge.disparity e 0 ws vs (was.judge.disparity ∙ sym (+ℤ_idl (disparity_of ws))) h);
-}
+lane_followed old new e ws vs was h judge first = grind (arith, still_first)
 
 -- A control word codes no byte.
 
@@ -54,20 +50,13 @@ wrong_at s w = not (w == coded_at s (decoded_byte w))
 
 all_wrong : (s : Sign) → (wrong_at s 0x354 ≡ true) × (wrong_at s 0x0ab ≡ true) × (wrong_at s 0x154 ≡ true) × (wrong_at s 0x2ab ≡ true)
 unfolding wrong_at coded_at coded_bits balanced minimised takes_xnor decoded_byte decoded_bits bits_of word_bits number ones zeros balance
-all_wrong negative = (refl, refl, refl, refl)
-all_wrong null = (refl, refl, refl, refl)
-all_wrong positive = (refl, refl, refl, refl)
+all_wrong s = grind arith
 
 one_of : (a b : Bool) → (a || b) ≡ true → (a ≡ true) ⊎ (b ≡ true)
-one_of true b e = inl refl
-one_of false b e = inr e
+one_of a b h = grind arith
 
 among : (s : Sign) (w : ℕ) (x : ℕ) (p : Bool) → wrong_at s x ≡ true → (p ≡ true → wrong_at s w ≡ true) → ((x == w) || p) ≡ true → wrong_at s w ≡ true
-among s w x p e rest h =
-    elim (one_of (x == w) p h) [
-      | inl same ↦ subst (λ n. wrong_at s n ≡ true) (eqb-true x w same) e
-      | inr other ↦ rest other
-    ]
+among s w x p e rest h = grind (arith, one_of, eqb-true)
 
 control_wrong : (s : Sign) (w : ℕ) → is_control w ≡ true → wrong_at s w ≡ true
 unfolding is_control control_words is_in
@@ -76,9 +65,7 @@ control_wrong s w h =
     among s w 0x354 _ all.0 (among s w 0x0ab _ all.1 (among s w 0x154 _ all.2 (among s w 0x2ab _ all.3 (λ e. cc)))) h
 
 not_both : (p q : Bool) → p ≡ true → (q ≡ true → not p ≡ true) → q ≡ false
-not_both true true e f = sym (f refl)
-not_both true false e f = refl
-not_both false q e f = cc
+not_both p q h k = grind arith
 
 right_word : (before : Option ℤ) (w : ℕ) → is_some (followed before w) ≡ true → is_control w ≡ false
 unfolding wrong_at
@@ -95,40 +82,24 @@ none_after [] = refl
 none_after (w ∷ ws) = none_after ws
 
 first_right : (before : Option ℤ) (ws : List ℕ) → is_some (followed_all before ws) ≡ true → is_some before ≡ true
-first_right (Some d) ws e = refl
-first_right None ws e = sym (none_after ws) ∙ e
+first_right before ws h = grind (arith, none_after)
 
 two_no : (a b c : Bool) → a ≡ false → b ≡ false → not (nat_le 2 ((one_if a + one_if b) + one_if c)) ≡ true
 unfolding one_if
-two_no false false true e f = refl
-two_no false false false e f = refl
-two_no true b c e f = cc
-two_no false true c e f = cc
+two_no a b c h k = grind arith
 
 outer_no : (a b c : Bool) → a ≡ false → c ≡ false → not (nat_le 2 ((one_if a + one_if b) + one_if c)) ≡ true
 unfolding one_if
-outer_no false true false e f = refl
-outer_no false false false e f = refl
-outer_no true b c e f = cc
-outer_no false b true e f = cc
+outer_no a b c h k = grind arith
 
 last_no : (a b c : Bool) → b ≡ false → c ≡ false → not (nat_le 2 ((one_if a + one_if b) + one_if c)) ≡ true
 unfolding one_if
-last_no true false false e f = refl
-last_no false false false e f = refl
-last_no a true c e f = cc
-last_no a false true e f = cc
+last_no a b c h k = grind arith
 
 pixel_by : (p q r a b c : Bool) → (p ≡ true → a ≡ false) → (q ≡ true → b ≡ false) → (r ≡ true → c ≡ false)
     → nat_le 2 ((one_if p + one_if q) + one_if r) ≡ true → not (nat_le 2 ((one_if a + one_if b) + one_if c)) ≡ true
 unfolding one_if
-pixel_by true true r a b c f g h e = two_no a b c (f refl) (g refl)
-pixel_by true false true a b c f g h e = outer_no a b c (f refl) (h refl)
-pixel_by false true true a b c f g h e = last_no a b c (g refl) (h refl)
-pixel_by true false false a b c f g h e = cc
-pixel_by false true false a b c f g h e = cc
-pixel_by false false true a b c f g h e = cc
-pixel_by false false false a b c f g h e = cc
+pixel_by p q r a b c h k l m = grind (arith, two_no, outer_no, last_no)
 
 -- where two lanes are still right, no column is a control column
 pub all_pixels : (x y z : Option ℤ) (cs : List Column)
@@ -143,5 +114,4 @@ all_pixels x y z (c ∷ cs) e =
     (all_pixels (followed x c.blue) (followed y c.green) (followed z c.red) cs e)
 
 pub some_of : (o : Option ℤ) → is_some o ≡ true → (e : ℤ) × (o ≡ Some e)
-some_of None h = cc
-some_of (Some e) h = (e, refl)
+some_of o h = grind arith

@@ -1,5 +1,5 @@
 -- What is kept of an island, with one column more.
-use Rattle.std.proofs.Common.{◌≡◌, ℕ, ◌+◌, ◌*◌, ◌<◌, ◌≤◌, Bool, true, false, not, ◌==◌, nat_le, ◌⊎◌, inl, inr, List, [], ◌∷◌, ◌++◌, length, map, take, get_or, refl, ap, ap₂, sym, ◌∙◌, subst, append_assoc, arith}
+use Rattle.std.proofs.Common.{◌≡◌, ℕ, ◌+◌, ◌*◌, ◌<◌, ◌≤◌, Bool, true, false, not, ◌==◌, nat_le, List, [], ◌∷◌, ◌++◌, length, map, take, get_or, refl, ap, ap₂, sym, ◌∙◌, subst, append_assoc, arith}
 use Rattle.std.proofs.lemmas.Bool.{cases_lt}
 use Rattle.std.proofs.lemmas.List.{length_push, map_push, take_all, append-nil}
 use Rattle.bch_block.specs.declared.Verdict.{Verdict}
@@ -16,7 +16,7 @@ use Rattle.period_grammar.specs.declared.event_queue.QueuedEvent.{QueuedEvent}
 use Rattle.period_grammar.specs.declared.event_queue.QueuedEvent.TheVariants.{Close, Packet as PacketNote}
 use Rattle.period_grammar.proofs.Noting.{pushed}
 use Rattle.period_grammar.specs.Events.{Event, noise, packet, symbols, long_island, close_island, guard as guard_at, empty}
-use Rattle.period_grammar.specs.Island.{Payload, parts, payload, split, begins_close, holds_packet, packet_events, block_fault, block_faults, packet_faults, closing_events, left_at, when, if_so}
+use Rattle.period_grammar.specs.Island.{Payload, parts, payload, split, begins_close, holds_packet, packet_events, block_fault, block_faults, packet_faults, closing_events, left_at, if_so}
 use Rattle.period_grammar.specs.After.{left_gain, island_gain, choose, settle_by, settle, after_payload}
 use Rattle.period_grammar.specs.IslandAfter.{IsLeftAfter, IsPartsAfter, IsIslandAfter}
 use Rattle.period_grammar.specs.declared.island.Left.{Left}
@@ -40,21 +40,14 @@ not_whole left packets within block ps t e n h = subst (λ p. IsPartsAfter left 
 -- the first column of a packet or of the closing guard
 pub first_stands : (packets within words digit : ℕ) (guard : Bool) (block next : List (List ℕ)) (c : Column) (x : Payload) → IsPartsAfter Packet packets 0 block x
     → words ≡ closing_words c → digit ≡ sync_digit c.blue → guard ≡ is_island_guard c → take 1 next ≡ column_words c ∷ [] → IsPartsAfter (First words digit guard) packets within next (after_payload c x)
-first_stands packets within words digit guard block next c (parts ps []) was e f g h =
-    not_whole (First words digit guard) packets within next ps (c ∷ []) (holds_not (c ∷ []) (omega arith)) was.0 (e, f, g, h)
-first_stands packets within words digit guard block next c (parts ps (d ∷ t)) was e f g h = absurd (omega (arith, was.1.1))
+first_stands packets within words digit guard block next c x h k l m p = grind (arith, not_whole, holds_not)
 
 -- nothing is told of it
 pub first_reported : (packets start : ℕ) (block : List (List ℕ)) (c : Column) (x : Payload) → IsPartsAfter Packet packets 0 block x → [] ≡ island_gain start c x
-first_reported packets start block c (parts ps []) was =
-    ap (λ p. choose p (packet_events (left_at start ps) (length ps) (c ∷ [])) []) (sym (holds_not (c ∷ []) (omega arith)))
-first_reported packets start block c (parts ps (d ∷ t)) was = absurd (omega (arith, was.1.1))
+first_reported packets start block c x h = grind (arith, holds_not)
 
 left_gain_open : (b s k : ℕ) (c : Column) (t : List Column) → (length t ≡ 1 → ⊥) → begins_close t ≡ false → left_gain b s k c t ≡ []
-left_gain_open b s k c [] n e = refl
-left_gain_open b s k c (x ∷ []) n e = absurd (n refl)
-left_gain_open b s k c (x ∷ (y ∷ [])) n e = ap (λ p. when p (noise (s + 2) ∷ [])) e
-left_gain_open b s k c (x ∷ (y ∷ (z ∷ r))) n e = refl
+left_gain_open b s k c t h l = grind arith
 
 -- within a packet
 pub within_reported : (packets start within : ℕ) (block : List (List ℕ)) (c : Column) (x : Payload) → IsPartsAfter Packet packets within block x → within < 31 → [] ≡ island_gain start c x
@@ -62,27 +55,12 @@ within_reported packets start within block c (parts ps t) was lt =
     sym (ap (λ p. choose p (packet_events (left_at start ps) (length ps) (t ++ c ∷ [])) (left_gain start (left_at start ps) (length ps) c t)) (holds_not (t ++ c ∷ []) (omega (arith, was.1.1, length_push t c)))
     ∙ left_gain_open start (left_at start ps) (length ps) c t (λ one. was.1.3 (was.1.1 ∙ one)) was.1.0)
 
-two_at_least : (n : ℕ) → 0 < n → (n ≡ 1 → ⊥) → 1 < n
-two_at_least n pos none = by (cases_lt 1 n)
-  where
-    by : (1 < n) ⊎ (n ≤ 1) → 1 < n
-    by (inl more) = more
-    by (inr le) = absurd (none (omega (arith, pos, le)))
-
 begins_more : (t : List Column) (c : Column) → 1 < length t → begins_close t ≡ false → begins_close (t ++ c ∷ []) ≡ false
-begins_more [] c lt e = absurd (omega arith)
-begins_more (d ∷ []) c lt e = absurd (omega arith)
-begins_more (d ∷ (f ∷ t)) c lt e = e
+begins_more t c h k = grind arith
 
 pub within_stands : (packets within : ℕ) (block next : List (List ℕ)) (c : Column) (x : Payload) → IsPartsAfter Packet packets within block x → 0 < within → within < 31
     → take (within + 1) next ≡ take within block ++ column_words c ∷ [] → IsPartsAfter Packet packets (within + 1) next (after_payload c x)
-within_stands packets within block next c (parts ps t) was pos lt e =
-    not_whole Packet packets (within + 1) next ps (t ++ c ∷ []) (holds_not (t ++ c ∷ []) (omega (arith, was.1.1, length_push t c))) was.0 (
-      begins_more t c (omega (arith, was.1.1, two_at_least within pos was.1.3)) was.1.0,
-      omega (arith, was.1.1, length_push t c),
-      block_push block next t c within was.1.2 e,
-      λ one. omega (arith, pos, one),
-    )
+within_stands packets within block next c (parts ps t) was pos lt e = grind (arith, not_whole, holds_not, length_push, begins_more, block_push, cases_lt)
 
 -- the last column of a packet
 whole_now : (within : ℕ) (t : List Column) (c : Column) → within ≡ length t → within ≡ 31 → begins_close t ≡ false → holds_packet (t ++ c ∷ []) ≡ true
@@ -91,11 +69,7 @@ whole_now within t c e f g = holds_is (t ++ c ∷ []) (begins_more t c (omega ar
 pub whole_reported : (packets start within at : ℕ) (block next : List (List ℕ)) (c : Column) (ts : List Event) (x : Payload) → IsPartsAfter Packet packets within block x → within ≡ 31
     → take (within + 1) next ≡ take within block ++ column_words c ∷ [] → length next ≡ 32 → at ≡ (start + 2) + 32 * packets
     → ((p : List Column) → next ≡ map column_words p → ts ≡ packet_events at packets p) → ts ≡ island_gain start c x
-whole_reported packets start within at block next c ts (parts ps t) was e f n g reported =
-    let words : next ≡ map column_words (t ++ c ∷ []) = sym (take_all (within + 1) next (omega (arith, n, e))) ∙ block_push block next t c within was.1.2 f in
-    let place : at ≡ left_at start ps = omega (arith, was.0) in
-    reported (t ++ c ∷ []) words ∙ ap₂ (λ s k. packet_events s k (t ++ c ∷ [])) place was.0
-    ∙ ap (λ p. choose p (packet_events (left_at start ps) (length ps) (t ++ c ∷ [])) (left_gain start (left_at start ps) (length ps) c t)) (sym (whole_now within t c was.1.1 e was.1.0))
+whole_reported packets start within at block next c ts (parts ps t) was e f n g reported = grind (arith, take_all, block_push, whole_now)
 
 pub whole_stands : (packets within : ℕ) (block next : List (List ℕ)) (c : Column) (x : Payload) → IsPartsAfter Packet packets within block x → within ≡ 31
     → IsPartsAfter Packet (packets + 1) 0 next (after_payload c x)
@@ -108,73 +82,36 @@ pub closing_reported : (packets start within at words digit : ℕ) (guard : Bool
     → nat_le 3 (words + closing_words c) ≡ true → at ≡ (start + 2) + 32 * packets
     → ((g : Column) → digit ≡ sync_digit g.blue → guard ≡ is_island_guard g → ts ≡ closing_events start at packets g c) → ts ≡ island_gain start c x
 unfolding closes
-closing_reported packets start within at words digit guard block c ts (parts ps []) was three e reported = absurd was.1
-closing_reported packets start within at words digit guard block c ts (parts ps (g ∷ [])) was three e reported =
-    let place : at ≡ left_at start ps = omega (arith, was.0) in
-    let shut : nat_le 3 (closing_words g + closing_words c) ≡ true = ap (λ n. nat_le 3 (n + closing_words c)) (sym was.1.0) ∙ three in
-    reported g was.1.1 was.1.2 ∙ ap₂ (λ s k. closing_events start s k g c) place was.0
-    ∙ ap (λ p. when p (closing_events start (left_at start ps) (length ps) g c)) (sym shut)
-    ∙ ap (λ p. choose p (packet_events (left_at start ps) (length ps) (g ∷ (c ∷ []))) (left_gain start (left_at start ps) (length ps) c (g ∷ []))) (sym (holds_not (g ∷ (c ∷ [])) (omega arith)))
-closing_reported packets start within at words digit guard block c ts (parts ps (g ∷ (h ∷ t))) was three e reported = absurd was.1
+closing_reported packets start within at words digit guard block c ts x h k l m = grind (arith, holds_not)
 
 pub closing_stands : (packets within words digit : ℕ) (guard : Bool) (block next : List (List ℕ)) (c : Column) (x : Payload) → IsPartsAfter (First words digit guard) packets within block x
     → nat_le 3 (words + closing_words c) ≡ true → IsPartsAfter Closed packets within next (after_payload c x)
 unfolding closes
-closing_stands packets within words digit guard block next c (parts ps []) was three = absurd was.1
-closing_stands packets within words digit guard block next c (parts ps (g ∷ [])) was three =
-    not_whole Closed packets within next ps (g ∷ (c ∷ [])) (holds_not (g ∷ (c ∷ [])) (omega arith)) was.0 (ap (λ n. nat_le 3 (n + closing_words c)) (sym was.1.0) ∙ three)
-closing_stands packets within words digit guard block next c (parts ps (g ∷ (h ∷ t))) was three = absurd was.1
+closing_stands packets within words digit guard block next c x h k = grind (arith, not_whole, holds_not)
 
 -- or of a packet
 pub second_reported : (packets start within words digit : ℕ) (guard : Bool) (block : List (List ℕ)) (c : Column) (x : Payload) → IsPartsAfter (First words digit guard) packets within block x
     → nat_le 3 (words + closing_words c) ≡ false → [] ≡ island_gain start c x
 unfolding closes
-second_reported packets start within words digit guard block c (parts ps []) was few = absurd was.1
-second_reported packets start within words digit guard block c (parts ps (g ∷ [])) was few =
-    ap (λ p. when p (closing_events start (left_at start ps) (length ps) g c)) (sym (ap (λ n. nat_le 3 (n + closing_words c)) (sym was.1.0) ∙ few))
-    ∙ ap (λ p. choose p (packet_events (left_at start ps) (length ps) (g ∷ (c ∷ []))) (left_gain start (left_at start ps) (length ps) c (g ∷ []))) (sym (holds_not (g ∷ (c ∷ [])) (omega arith)))
-second_reported packets start within words digit guard block c (parts ps (g ∷ (h ∷ t))) was few = absurd was.1
+second_reported packets start within words digit guard block c x h k = grind (arith, holds_not)
 
 pub second_stands : (packets within words digit : ℕ) (guard : Bool) (block next : List (List ℕ)) (c : Column) (x : Payload) → IsPartsAfter (First words digit guard) packets within block x
     → nat_le 3 (words + closing_words c) ≡ false → take 2 next ≡ take 1 block ++ column_words c ∷ [] → IsPartsAfter Packet packets 2 next (after_payload c x)
 unfolding closes
-second_stands packets within words digit guard block next c (parts ps []) was few e = absurd was.1
-second_stands packets within words digit guard block next c (parts ps (g ∷ [])) was few e =
-    not_whole Packet packets 2 next ps (g ∷ (c ∷ [])) (holds_not (g ∷ (c ∷ [])) (omega arith)) was.0
-    (ap (λ n. nat_le 3 (n + closing_words c)) (sym was.1.0) ∙ few, refl, e ∙ ap (λ ws. ws ++ column_words c ∷ []) was.1.3, λ two. cc)
-second_stands packets within words digit guard block next c (parts ps (g ∷ (h ∷ t))) was few e = absurd was.1
+second_stands packets within words digit guard block next c x h k l = grind (arith, not_whole, holds_not)
 
 pub closed_reported : (packets start within at : ℕ) (block : List (List ℕ)) (c : Column) (ts : List Event) (x : Payload) → IsPartsAfter Closed packets within block x
     → at ≡ (start + 2) + 32 * packets → ts ≡ noise (at + 2) ∷ [] → ts ≡ island_gain start c x
-closed_reported packets start within at block c ts (parts ps []) was e reported = absurd was.1
-closed_reported packets start within at block c ts (parts ps (g ∷ [])) was e reported = absurd was.1
-closed_reported packets start within at block c ts (parts ps (g ∷ (h ∷ []))) was e reported =
-    let place : at ≡ left_at start ps = omega (arith, was.0) in
-    reported ∙ ap (λ s. noise (s + 2) ∷ []) place
-    ∙ ap (λ p. when p (noise (left_at start ps + 2) ∷ [])) (sym was.1)
-    ∙ ap (λ p. choose p (packet_events (left_at start ps) (length ps) (g ∷ (h ∷ (c ∷ [])))) (left_gain start (left_at start ps) (length ps) c (g ∷ (h ∷ [])))) (sym (holds_not (g ∷ (h ∷ (c ∷ []))) (omega arith)))
-closed_reported packets start within at block c ts (parts ps (g ∷ (h ∷ (i ∷ t)))) was e reported = absurd was.1
+closed_reported packets start within at block c ts x h k l = grind (arith, holds_not)
 
 pub closed_stands : (packets within : ℕ) (block next : List (List ℕ)) (c : Column) (x : Payload) → IsPartsAfter Closed packets within block x → IsPartsAfter Over packets within next (after_payload c x)
-closed_stands packets within block next c (parts ps []) was = absurd was.1
-closed_stands packets within block next c (parts ps (g ∷ [])) was = absurd was.1
-closed_stands packets within block next c (parts ps (g ∷ (h ∷ []))) was =
-    not_whole Over packets within next ps (g ∷ (h ∷ (c ∷ []))) (holds_not (g ∷ (h ∷ (c ∷ []))) (omega arith)) was.0 was.1
-closed_stands packets within block next c (parts ps (g ∷ (h ∷ (i ∷ t)))) was = absurd was.1
+closed_stands packets within block next c x h = grind (arith, not_whole, holds_not)
 
 pub over_reported : (packets start within : ℕ) (block : List (List ℕ)) (c : Column) (x : Payload) → IsPartsAfter Over packets within block x → [] ≡ island_gain start c x
-over_reported packets start within block c (parts ps []) was = absurd was.1
-over_reported packets start within block c (parts ps (g ∷ [])) was = absurd was.1
-over_reported packets start within block c (parts ps (g ∷ (h ∷ []))) was = absurd was.1
-over_reported packets start within block c (parts ps (g ∷ (h ∷ (i ∷ t)))) was =
-    ap (λ p. choose p (packet_events (left_at start ps) (length ps) (g ∷ (h ∷ (i ∷ (t ++ c ∷ []))))) []) (sym (holds_never (g ∷ (h ∷ (i ∷ (t ++ c ∷ [])))) was.1))
+over_reported packets start within block c x h = grind (arith, holds_never)
 
 pub over_stands : (packets within : ℕ) (block next : List (List ℕ)) (c : Column) (x : Payload) → IsPartsAfter Over packets within block x → IsPartsAfter Over packets within next (after_payload c x)
-over_stands packets within block next c (parts ps []) was = absurd was.1
-over_stands packets within block next c (parts ps (g ∷ [])) was = absurd was.1
-over_stands packets within block next c (parts ps (g ∷ (h ∷ []))) was = absurd was.1
-over_stands packets within block next c (parts ps (g ∷ (h ∷ (i ∷ t)))) was =
-    not_whole Over packets within next ps (g ∷ (h ∷ (i ∷ (t ++ c ∷ [])))) (holds_never (g ∷ (h ∷ (i ∷ (t ++ c ∷ [])))) was.1) was.0 was.1
+over_stands packets within block next c x h = grind (arith, not_whole, holds_never)
 
 -- the next state, of the columns
 pub after_rest : (next : Island) (rest : List Column) (c : Column) → IsPartsAfter next.left next.packets next.within next.block (after_payload c (payload rest)) → IsIslandAfter next (rest ++ c ∷ [])
@@ -194,22 +131,7 @@ pub verdicts_noted : (l : Lent) (at count : ℕ) (a b c d h : Verdict) (n0 n1 n2
     → events l n2 ≡ events l n1 ++ block_fault at 0 a → events l n3 ≡ events l n2 ++ block_fault at 1 b → events l n4 ≡ events l n3 ++ block_fault at 2 c
     → events l n5 ≡ events l n4 ++ block_fault at 3 d → events l n6 ≡ events l n5 ++ block_fault at 4 h
     → events l n6 ≡ events l n0 ++ (if_so (not (count == 0)) (symbols at count) ++ block_faults at 0 (a ∷ (b ∷ (c ∷ (d ∷ (h ∷ []))))))
-verdicts_noted l at count a b c d h n0 n1 n2 n3 n4 n5 n6 e0 e1 e2 e3 e4 e5 =
-    let s = if_so (not (count == 0)) (symbols at count) in
-    let x1 = block_fault at 0 a in
-    let x2 = block_fault at 1 b in
-    let x3 = block_fault at 2 c in
-    let x4 = block_fault at 3 d in
-    let x5 = block_fault at 4 h in
-    let whole : events l n6 ≡ (((((events l n0 ++ s) ++ x1) ++ x2) ++ x3) ++ x4) ++ x5 =
-    e5 ∙ ap (λ ts. ts ++ x5) (e4 ∙ ap (λ ts. ts ++ x4) (e3 ∙ ap (λ ts. ts ++ x3) (e2 ∙ ap (λ ts. ts ++ x2) (e1 ∙ ap (λ ts. ts ++ x1) e0)))) in
-    whole
-    ∙ append_assoc ((((events l n0 ++ s) ++ x1) ++ x2) ++ x3) x4 x5
-    ∙ append_assoc (((events l n0 ++ s) ++ x1) ++ x2) x3 (x4 ++ x5)
-    ∙ append_assoc ((events l n0 ++ s) ++ x1) x2 (x3 ++ (x4 ++ x5))
-    ∙ append_assoc (events l n0 ++ s) x1 (x2 ++ (x3 ++ (x4 ++ x5)))
-    ∙ append_assoc (events l n0) s (x1 ++ (x2 ++ (x3 ++ (x4 ++ x5))))
-    ∙ ap (λ z. events l n0 ++ (s ++ (x1 ++ (x2 ++ (x3 ++ (x4 ++ z)))))) (sym (append-nil x5))
+verdicts_noted l at count a b c d h n0 n1 n2 n3 n4 n5 n6 e0 e1 e2 e3 e4 e5 = grind (arith, append_assoc, append-nil)
 
 pub five_blocks : (at : ℕ) (vs : List Verdict) → length vs ≡ 5
     → block_faults at 0 (get_or vs 0 Clean ∷ (get_or vs 1 Clean ∷ (get_or vs 2 Clean ∷ (get_or vs 3 Clean ∷ (get_or vs 4 Clean ∷ []))))) ≡ block_faults at 0 vs

@@ -1,5 +1,5 @@
 -- A control column has at most one word that is no control word.
-use Rattle.std.proofs.Common.{◌≡◌, ℕ, ◌+◌, ◌≤◌, Bool, true, false, length, arith}
+use Rattle.std.proofs.Common.{◌≡◌, ℕ, ◌+◌, ◌≤◌, Bool, true, length, arith}
 use Rattle.std.specs.Prelude.{nat_le}
 use Rattle.tmds_word.specs.Column.{Column}
 use Rattle.terc4.specs.Tables.{is_control}
@@ -8,14 +8,7 @@ use Rattle.period_grammar.specs.Heard.{other_word}
 
 few : (n : ℕ) (a b c : Bool) → nat_le 2 (one_if a + one_if b + one_if c) ≡ true → length (other_word 0 n a) + (length (other_word 1 n b) + length (other_word 2 n c)) ≤ 1
 unfolding one_if
-few n true true true h = omega arith
-few n true true false h = omega arith
-few n true false true h = omega arith
-few n false true true h = omega arith
-few n true false false h = cc
-few n false true false h = cc
-few n false false true h = cc
-few n false false false h = cc
+few n a b c h = grind arith
 
 pub few_words : (n u v w : ℕ) (c : Column) → u ≡ c.blue → v ≡ c.green → w ≡ c.red → is_control_column c ≡ true
     → length (other_word 0 n (is_control u)) + (length (other_word 1 n (is_control v)) + length (other_word 2 n (is_control w))) ≤ 1

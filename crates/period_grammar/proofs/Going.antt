@@ -1,18 +1,18 @@
 -- One column that goes on with the run or the line that is open, and so tells nothing.
-use Rattle.std.proofs.Common.{◌≡◌, ℕ, Bool, true, false, not, ◌&&◌, ◌==◌, List, [], ◌∷◌, refl, ap, sym, ◌∙◌, eqb-true}
+use Rattle.std.proofs.Common.{arith, ◌≡◌, ℕ, Bool, true, false, not, ◌&&◌, ◌==◌, List, [], refl, ◌∙◌, eqb-true}
 use Rattle.tmds_word.specs.Column.{Column}
 use Rattle.terc4.specs.Columns.{is_control_column, one_if}
-use Rattle.period_grammar.specs.Cut.{Stretch, stretch, runs}
+use Rattle.period_grammar.specs.Cut.{Stretch, runs}
 use Rattle.terc4.specs.Tables.{is_control}
 use Rattle.period_grammar.specs.Column.{value_of}
-use Rattle.period_grammar.specs.GoesOn.{is_whole, goes_on, goes_on_run, goes_on_line}
+use Rattle.period_grammar.specs.GoesOn.{is_whole, goes_on, goes_on_run}
 use Rattle.period_grammar.specs.Heard.{other_words}
 use Rattle.period_grammar.specs.LineSeen.{LineSeen}
 use Rattle.period_grammar.specs.ControlAfter.{IsControlAfter}
 use Rattle.period_grammar.specs.Stands.{IsStretchAfter, closed, going_on}
 use Rattle.period_grammar.specs.declared.island.Island.{Island}
 use Rattle.period_grammar.specs.declared.control.ControlState.{ControlState}
-use Rattle.period_grammar.specs.declared.phase.Phase.TheVariants.{Control, First, Video, Island as InIsland, Noise}
+use Rattle.period_grammar.specs.declared.phase.Phase.TheVariants.{Control, First, Island as InIsland, Noise}
 use Rattle.period_grammar.proofs.Leads.{no_change, goes_run}
 use Rattle.period_grammar.proofs.Phases.{close_control}
 
@@ -24,16 +24,10 @@ pub record IsWhole (v : ℕ) (c : Column) : Type 0 where
   pub red : is_control c.red ≡ true
 
 pub both : (a b : Bool) → (a && b) ≡ true → (a ≡ true) × (b ≡ true)
-both true true e = (refl, refl)
-both true false e = cc
-both false b e = cc
+both a b h = grind arith
 
 pub whole_is : (v : ℕ) (c : Column) → is_whole v c ≡ true → IsWhole v c
-whole_is v c e =
-    let p = both (is_control c.blue) _ e in
-    let q = both (is_control c.green) _ p.1 in
-    let r = both (is_control c.red) _ q.1 in
-    record { value = sym (eqb-true (value_of c) v r.1); blue = p.0; green = q.0; red = r.0 }
+whole_is v c e = grind (arith, both, eqb-true)
 
 -- a column that goes on with the run that is kept
 pub whole_going : (kept : ControlState) (control : List Column) (c : Column) → IsControlAfter kept control → goes_on_run (runs control) c ≡ true → IsWhole kept.value c
@@ -49,35 +43,20 @@ unfolding other_words
 tells_no_word v n c whole = rw (whole.blue, whole.green, whole.red) refl
 
 pub still_control : (kept : ControlState) (line : LineSeen) (isle : Island) (n : ℕ) (x : Stretch) → IsStretchAfter Control kept line isle n x → IsControlAfter kept (going_on x)
-still_control kept line isle n (stretch control []) was = was.0
-still_control kept line isle n (stretch control (g ∷ [])) was = absurd was.1
-still_control kept line isle n (stretch control (g ∷ (h ∷ rest))) was = absurd was.1
+still_control kept line isle n x h = grind arith
 
 pub closes_nothing : (kept : ControlState) (line : LineSeen) (isle : Island) (n b : ℕ) (c : Column) (x : Stretch) → IsWhole kept.value c → IsStretchAfter Control kept line isle n x → [] ≡ closed (value_of c) b x
 closes_nothing kept line isle n b c x whole was = close_control kept line isle n [] (value_of c) (λ control h. no_change kept control (value_of c) h whole.value) x b was
 
 -- what goes on in a control period, and in a line
 pub control_goes : (kept : ControlState) (line : LineSeen) (isle : Island) (n : ℕ) (c : Column) (x : Stretch) → IsStretchAfter Control kept line isle n x → goes_on_run (runs (going_on x)) c ≡ goes_on x c
-control_goes kept line isle n c (stretch control []) was = refl
-control_goes kept line isle n c (stretch control (g ∷ [])) was = absurd was.1
-control_goes kept line isle n c (stretch control (g ∷ (h ∷ rest))) was = absurd was.1
-
-pub line_goes : (kept : ControlState) (line : LineSeen) (isle : Island) (n start : ℕ) (c : Column) (x : Stretch) → IsStretchAfter (Video start) kept line isle n x → not (is_control_column c) ≡ goes_on x c
-line_goes kept line isle n start c (stretch control []) was = absurd was.1
-line_goes kept line isle n start c (stretch control (g ∷ [])) was = absurd was.1
-line_goes kept line isle n start c (stretch control (g ∷ (h ∷ rest))) was = ap (λ k. goes_on_line k c) (sym was.1.0)
+control_goes kept line isle n c x h = grind arith
 
 pub first_stays : (kept : ControlState) (line : LineSeen) (isle : Island) (n start p q digit : ℕ) (c : Column) (x : Stretch) → IsStretchAfter (First start p q digit) kept line isle n x → false ≡ goes_on x c
-first_stays kept line isle n start p q digit c (stretch control []) was = absurd was.1
-first_stays kept line isle n start p q digit c (stretch control (g ∷ [])) was = refl
-first_stays kept line isle n start p q digit c (stretch control (g ∷ (h ∷ rest))) was = absurd was.1
+first_stays kept line isle n start p q digit c x h = grind arith
 
 pub island_stays : (kept : ControlState) (line : LineSeen) (isle : Island) (n start : ℕ) (c : Column) (x : Stretch) → IsStretchAfter (InIsland start) kept line isle n x → false ≡ goes_on x c
-island_stays kept line isle n start c (stretch control []) was = absurd was.1
-island_stays kept line isle n start c (stretch control (g ∷ [])) was = absurd was.1
-island_stays kept line isle n start c (stretch control (g ∷ (h ∷ rest))) was = ap (λ k. goes_on_line k c) (sym was.1.0)
+island_stays kept line isle n start c x h = grind arith
 
 pub noise_stays : (kept : ControlState) (line : LineSeen) (isle : Island) (n : ℕ) (c : Column) (x : Stretch) → IsStretchAfter Noise kept line isle n x → false ≡ goes_on x c
-noise_stays kept line isle n c (stretch control []) was = absurd was.1
-noise_stays kept line isle n c (stretch control (g ∷ [])) was = absurd was.1
-noise_stays kept line isle n c (stretch control (g ∷ (h ∷ rest))) was = ap (λ k. goes_on_line k c) (sym was.1)
+noise_stays kept line isle n c x h = grind arith

@@ -1,6 +1,6 @@
 -- Pixels of a line that are heard in groups: the bytes, the balances and the line after a group.
 use Rattle.std.proofs.Common.{◌≡◌, ℕ, ◌+◌, ◌*◌, ◌<◌, ◌≤◌, true, List, [], ◌∷◌, ◌++◌, length, take, drop, refl, ap, ap₂, is_some, sym, subst, ◌∙◌, arith, All, append_assoc, map}
-use Rattle.std.specs.Prelude.{Option, Some, None, IfSome, ℤ, nat_le, slice_get}
+use Rattle.std.specs.Prelude.{Option, Some, IfSome, ℤ, nat_le, slice_get}
 use Rattle.std.specs.List.{prefix_len}
 use Rattle.std.proofs.Math.Seq.{take-add}
 use Rattle.std.proofs.lemmas.List.{take-take, take_at, take_all, drop-drop, append-nil, length-take-le, map-append}
@@ -75,8 +75,7 @@ whole_group room before cols place i n e le was =
 
 -- what a lane's words give from its own disparity on
 pub from_balance : (b out : Option ℤ) (z d : ℤ) (ws vs : List ℕ) → IfSome b (λ x. x ≡ z) → out ≡ followed_all b ws → ws ≡ vs → out ≡ Some d → followed_all (Some z) vs ≡ Some d
-from_balance None out z d ws vs h e w f = absurd (none_some ws d (sym e ∙ f))
-from_balance (Some x) out z d ws vs h e w f = ap₂ (λ y us. followed_all (Some y) us) (sym h) (sym w) ∙ sym e ∙ f
+from_balance b out z d ws vs h k l m = grind (arith, none_some)
 
 pub length_bytes : (cs : List Column) → length (line_bytes cs) ≡ 3 * length cs
 unfolding line_bytes
@@ -98,10 +97,7 @@ pixels_on cols part n at m e le all was =
     omega arith
 
 pub pixels_stop : (cols part : List Column) (n at w k : ℕ) → part ≡ take w (drop at cols) → w ≤ length (drop at cols) → k ≡ prefix_len is_pixel part → k < w → n ≡ at + prefix_len is_pixel (drop at cols) → at + k ≡ n
-pixels_stop cols part n at w k e le first lt was =
-    let here : k ≡ prefix_len is_pixel (take w (drop at cols)) = first ∙ ap (prefix_len is_pixel) e in
-    let same = prefix_take is_pixel w (drop at cols) le (omega (arith, here, lt)) in
-    omega arith
+pixels_stop cols part n at w k e le first lt was = grind (arith, prefix_take)
 
 pub pixels_whole : (cols part : List Column) (n at w k : ℕ) → part ≡ take w (drop at cols) → w ≤ length (drop at cols) → k ≡ prefix_len is_pixel part → k ≡ w → n ≡ at + prefix_len is_pixel (drop at cols)
     → n ≡ (at + w) + prefix_len is_pixel (drop (at + w) cols)

@@ -1,5 +1,5 @@
 -- A hearing after one column more: it stands for the columns heard, and has told what they tell.
-use Rattle.std.proofs.Common.{◌≡◌, ℕ, ◌+◌, ◌-◌, ◌≤◌, true, false, List, [], ◌∷◌, ◌++◌, length, map, refl, ap, sym, ◌∙◌, arith, subst}
+use Rattle.std.proofs.Common.{◌≡◌, ℕ, ◌+◌, ◌-◌, ◌≤◌, true, false, List, [], ◌∷◌, ◌++◌, length, map, refl, ap, sym, ◌∙◌, arith}
 use Rattle.std.proofs.lemmas.List.{length_push}
 use Rattle.tmds_word.specs.Column.{Column}
 use Rattle.terc4.specs.Columns.{is_control_column}
@@ -11,7 +11,6 @@ use Rattle.period_grammar.specs.After.{last, gains, grown, gap_of, ends}
 use Rattle.period_grammar.specs.LineSeen.{LineSeen}
 use Rattle.period_grammar.specs.ControlAfter.{IsControlAfter}
 use Rattle.period_grammar.specs.declared.control.ControlState.{ControlState}
-use Rattle.period_grammar.specs.declared.phase.Phase.{Phase}
 use Rattle.period_grammar.specs.declared.phase.Phase.TheVariants.{Control}
 use Rattle.period_grammar.specs.declared.island.Island.{Island}
 use Rattle.period_grammar.specs.Seen.{Seen}
@@ -34,8 +33,7 @@ pub starts_at : (cs : List Column) (n : ℕ) → n ≡ length cs → start_of cs
 starts_at cs n e = starts cs ∙ sym e
 
 gains_true : (n b : ℕ) (c : Column) (x : Stretch) → closed (value_of c) b x ++ other_words n c ≡ gains true b n c x
-gains_true n b c (stretch control []) = refl
-gains_true n b c (stretch control (g ∷ gap)) = refl
+gains_true n b c x = grind arith
 
 pub reported_control : (cs : List Column) (c : Column) (n v : ℕ) (ts ws : List Event) → n ≡ length cs → is_control_column c ≡ true → v ≡ value_of c
     → ts ≡ closed v (start_of cs) (last (stretches cs)) → ws ≡ ts ++ other_words n c
@@ -58,27 +56,15 @@ reported_other cs c n ts e p t =
     ∙ ap (λ us. heard_so_far cs ++ all_at (length cs) us) (sym (t ∙ ap (λ m. gains false b m c x) e))
 
 control_on : (kept : ControlState) (line : LineSeen) (isle : Island) (n : ℕ) (c : Column) (x : Stretch) → IsControlAfter kept (going_on x ++ c ∷ []) → IsStretchAfter Control kept line isle n (grown true c x)
-control_on kept line isle n c (stretch control []) h = (h, tt)
-control_on kept line isle n c (stretch control (g ∷ gap)) h = (h, tt)
+control_on kept line isle n c x h = grind arith
 
 pub stands_control : (now : Seen) (cs : List Column) (c : Column) (n : ℕ) → n ≡ length cs → is_control_column c ≡ true → now.columns ≡ n + 1 → now.phase ≡ Control
     → IsControlAfter now.control (going_on (last (stretches cs)) ++ c ∷ []) → HearingRepresents now (cs ++ c ∷ [])
-stands_control now cs c n e p m ph h = record {
-  columns = m ∙ ap (λ x. x + 1) e ∙ sym (length_push cs c);
-  stretch =
-      let here = control_on now.control now.line now.island now.columns c (last (stretches cs)) h in
-      let there = subst (λ (f : Phase). IsStretchAfter f now.control now.line now.island now.columns (grown true c (last (stretches cs)))) (sym ph) here in
-      subst (λ (x : Stretch). IsStretchAfter now.phase now.control now.line now.island now.columns x) (sym (last_push_stretch cs c ∙ ap (λ q. grown q c (last (stretches cs))) p)) there;
-}
+stands_control now cs c n e p m ph h = grind (arith, length_push, control_on, last_push_stretch)
 
 pub stands_other : (now : Seen) (cs : List Column) (c : Column) (n : ℕ) → n ≡ length cs → is_control_column c ≡ false → now.columns ≡ n + 1
     → IsStretchAfter now.phase now.control now.line now.island (n + 1) (grown false c (last (stretches cs))) → HearingRepresents now (cs ++ c ∷ [])
-stands_other now cs c n e p m h = record {
-  columns = m ∙ ap (λ x. x + 1) e ∙ sym (length_push cs c);
-  stretch =
-      let there = subst (λ (k : ℕ). IsStretchAfter now.phase now.control now.line now.island k (grown false c (last (stretches cs)))) (sym m) h in
-      subst (λ (x : Stretch). IsStretchAfter now.phase now.control now.line now.island now.columns x) (sym (last_push_stretch cs c ∙ ap (λ q. grown q c (last (stretches cs))) p)) there;
-}
+stands_other now cs c n e p m h = grind (arith, length_push, last_push_stretch)
 
 pub reported_end : (cs : List Column) (ts : List Event) → ts ≡ ends (start_of cs) (last (stretches cs)) → heard cs ≡ map event_of (heard_so_far cs) ++ ts
 reported_end cs ts e = heard_end cs (start_of cs) (starts cs) ∙ ap (λ us. map event_of (heard_so_far cs) ++ us) (sym e)

@@ -1,4 +1,3 @@
-use Rattle.terc4.specs.Columns.{closes}
 -- The columns of an island with one column more.
 use Rattle.std.proofs.Common.{◌≡◌, ℕ, suc, zero, ◌+◌, ◌*◌, ◌<◌, ◌≤◌, Bool, true, false, not, ◌&&◌, List, [], ◌∷◌, ◌++◌, length, take, drop, refl, ap, ap₂, sym, ◌∙◌, append_assoc, arith}
 use Rattle.std.specs.Prelude.{nat_le}
@@ -6,26 +5,18 @@ use Rattle.std.proofs.lemmas.List.{append-nil, length_push, length-drop, take_al
 use Rattle.std.proofs.lemmas.Bool.{leb-true, leb-false, le-leb, lt-leb}
 use Rattle.std.proofs.Math.Bool.{and-false}
 use Rattle.tmds_word.specs.Column.{Column}
-use Rattle.period_grammar.specs.Events.{Event, EventAt, all_at, noise}
-use Rattle.period_grammar.specs.Island.{Payload, parts, begins_close, holds_packet, with_packet, split_by, split, payload, packet_events, closing_events, in_packets, in_closing, in_left, left_at, in_island, when}
-use Rattle.period_grammar.specs.After.{left_gain, island_gain, payload_gain, choose, settle_by, settle, after_payload}
-use Rattle.period_grammar.specs.Heard.{Kind, video, island, neither, in_payload}
+use Rattle.period_grammar.specs.Events.{Event, EventAt, all_at}
+use Rattle.period_grammar.specs.Island.{Payload, parts, begins_close, holds_packet, with_packet, split_by, split, payload, packet_events, in_packets, in_closing, in_left, left_at, in_island, when}
+use Rattle.period_grammar.specs.After.{left_gain, payload_gain, choose, settle_by, settle, after_payload}
+use Rattle.period_grammar.specs.Heard.{Kind, in_payload}
 
 pub holds_long : (cs : List Column) → holds_packet cs ≡ true → 32 ≤ length cs
 unfolding holds_packet
-holds_long cs e = by (begins_close cs) e
-  where
-    by : (p : Bool) → (not p && nat_le 32 (length cs)) ≡ true → 32 ≤ length cs
-    by true h = cc
-    by false h = leb-true 32 (length cs) h
+holds_long cs e = grind (arith, leb-true)
 
 pub holds_open : (cs : List Column) → holds_packet cs ≡ true → begins_close cs ≡ false
 unfolding holds_packet
-holds_open cs e = by (begins_close cs) e
-  where
-    by : (p : Bool) → (not p && nat_le 32 (length cs)) ≡ true → p ≡ false
-    by true h = cc
-    by false h = refl
+holds_open cs e = grind arith
 
 -- columns that hold no packet and do not begin with a closing column are few
 pub few_left : (cs : List Column) → holds_packet cs ≡ false → begins_close cs ≡ false → length cs < 32
@@ -47,27 +38,21 @@ unfolding holds_packet
 holds_never cs e = ap (λ p. not p && nat_le 32 (length cs)) e
 
 begins_push : (cs : List Column) (c : Column) → 1 < length cs → begins_close (cs ++ c ∷ []) ≡ begins_close cs
-begins_push [] c lt = absurd (omega arith)
-begins_push (d ∷ []) c lt = absurd (omega arith)
-begins_push (d ∷ (e ∷ cs)) c lt = refl
+begins_push cs c h = grind arith
 
 open_part : (cs : List Column) (c : Column) → begins_close (cs ++ c ∷ []) ≡ false → begins_close cs ≡ false
-open_part [] c e = refl
-open_part (d ∷ []) c e = refl
-open_part (d ∷ (f ∷ cs)) c e = e
+open_part cs c h = grind arith
 
 pub split_none : (n : ℕ) (cs : List Column) → holds_packet cs ≡ false → split n cs ≡ parts [] cs
 unfolding split
-split_none zero cs e = refl
-split_none (suc n) cs e = ap (λ p. split_by p cs (split n (drop 32 cs))) e
+split_none n cs h = grind arith
 
 pub split_one : (n : ℕ) (cs : List Column) → holds_packet cs ≡ true → split (suc n) cs ≡ with_packet (take 32 cs) (split n (drop 32 cs))
 unfolding split
 split_one n cs e = ap (λ p. split_by p cs (split n (drop 32 cs))) e
 
 commute : (p : Bool) (q : List Column) (ps : List (List Column)) (t : List Column) → with_packet q (settle_by p ps t) ≡ settle_by p (q ∷ ps) t
-commute true q ps t = refl
-commute false q ps t = refl
+commute p q ps t = grind arith
 
 with_after : (c : Column) (q : List Column) (x : Payload) → with_packet q (after_payload c x) ≡ after_payload c (with_packet q x)
 with_after c q (parts ps t) = commute (holds_packet (t ++ c ∷ [])) q ps (t ++ c ∷ [])
@@ -101,9 +86,7 @@ split_step true n m cs c e more =
 
 pub split_push : (n m : ℕ) (cs : List Column) (c : Column) → length cs ≤ n → n < m → split m (cs ++ c ∷ []) ≡ after_payload c (split n cs)
 split_push n zero cs c le lt = absurd (omega arith)
-split_push zero (suc m) cs c le lt =
-    let none : holds_packet cs ≡ false = holds_not cs (omega arith) in
-    last_step (holds_packet (cs ++ c ∷ [])) m cs c none refl ∙ ap (after_payload c) (sym (split_none zero cs none))
+split_push zero (suc m) cs c le lt = grind (arith, holds_not, last_step, split_none)
 split_push (suc n) (suc m) cs c le lt =
     split_step (holds_packet cs) n m cs c refl (λ long. split_push n m (drop 32 cs) c (omega (arith, length-drop 32 cs)) (omega arith))
 
@@ -132,28 +115,20 @@ payload_sound cs = split_sound (length cs) cs (omega arith)
 -- What is told.
 
 when_at : (p : Bool) (n : ℕ) (ts : List Event) → when p (all_at n ts) ≡ all_at n (when p ts)
-when_at true n ts = refl
-when_at false n ts = refl
+when_at p n ts = grind arith
 
 when_two : (p : Bool) (n : ℕ) (us : List EventAt) (ts : List Event) → when p (us ++ all_at n ts) ≡ when p us ++ all_at n (when p ts)
-when_two true n us ts = refl
-when_two false n us ts = refl
+when_two p n us ts = grind arith
 
 in_left_push : (b s k : ℕ) (t : List Column) (c : Column) → in_left b s k (t ++ c ∷ []) ≡ in_left b s k t ++ all_at (s + length t) (left_gain b s k c t)
-in_left_push b s k [] c = refl
-in_left_push b s k (x ∷ []) c = when_at (closes x c) (s + 1) (closing_events b s k x c)
-in_left_push b s k (x ∷ (y ∷ [])) c = when_two (closes x y) (s + 2) (all_at (s + 1) (closing_events b s k x y)) (noise (s + 2) ∷ [])
-in_left_push b s k (x ∷ (y ∷ (z ∷ r))) c = sym (append-nil (in_left b s k (x ∷ (y ∷ (z ∷ r)))))
+in_left_push b s k t c = grind (arith, when_at, when_two, append-nil)
 
 in_left_open : (b s k : ℕ) (t : List Column) → begins_close t ≡ false → in_left b s k t ≡ []
 in_left_open b s k t e = ap (λ p. when p (in_closing b s k t)) e
 
 in_packets_push : (s k u m : ℕ) (ps : List (List Column)) (p : List Column) → u ≡ s + 32 * length ps → m ≡ k + length ps
     → in_packets s k (ps ++ p ∷ []) ≡ in_packets s k ps ++ all_at (u + 31) (packet_events u m p)
-in_packets_push s k u m [] p e f =
-    let a : s ≡ u = omega arith in
-    let b : k ≡ m = omega arith in
-    append-nil (all_at (s + 31) (packet_events s k p)) ∙ ap₂ (λ x y. all_at (x + 31) (packet_events x y p)) a b
+in_packets_push s k u m [] p e f = grind (arith, append-nil)
 in_packets_push s k u m (q ∷ ps) p e f =
     let a : u ≡ (s + 32) + 32 * length ps = omega arith in
     let b : m ≡ (k + 1) + length ps = omega arith in
@@ -169,28 +144,13 @@ unfolding in_island
 island_step true b n c ps t h e f =
     let long = whole t c h f in
     let place : left_at b ps + 31 ≡ n = omega (arith, length_push t c) in
-    let events = packet_events (left_at b ps) (length ps) (t ++ c ∷ []) in
-    append-nil (in_packets (b + 2) 0 (ps ++ (t ++ c ∷ []) ∷ []))
-    ∙ in_packets_push (b + 2) 0 (left_at b ps) (length ps) ps (t ++ c ∷ []) (omega arith) (omega arith)
-    ∙ ap (λ m. in_packets (b + 2) 0 ps ++ all_at m events) place
-    ∙ ap (λ ts. ts ++ all_at n events) (sym (append-nil (in_packets (b + 2) 0 ps)) ∙ ap (λ ts. in_packets (b + 2) 0 ps ++ ts) (sym (in_left_open b (left_at b ps) (length ps) t (open_before t c f))))
-island_step false b n c ps t h e f =
-    ap (λ ts. in_packets (b + 2) 0 ps ++ ts) (in_left_push b (left_at b ps) (length ps) t c)
-    ∙ sym (append_assoc (in_packets (b + 2) 0 ps) (in_left b (left_at b ps) (length ps) t) (all_at (left_at b ps + length t) (left_gain b (left_at b ps) (length ps) c t)))
-    ∙ ap (λ m. (in_packets (b + 2) 0 ps ++ in_left b (left_at b ps) (length ps) t) ++ all_at m (left_gain b (left_at b ps) (length ps) c t)) (sym e)
-
-island_push : (b n : ℕ) (c : Column) (cs : List Column) (x : Payload) → Sound cs x → n ≡ (b + 2) + length cs
-    → in_island b (after_payload c x) ≡ in_island b x ++ all_at n (island_gain b c x)
-island_push b n c cs (parts ps t) h e = island_step (holds_packet (t ++ c ∷ [])) b n c ps t h.0 (omega (arith, h.1)) refl
+    grind (arith, append-nil, in_packets_push, in_left_open, open_before)
+island_step false b n c ps t h e f = grind (arith, in_left_push, append_assoc)
 
 pub in_payload_push : (b n : ℕ) (k : Kind) (c : Column) (rest : List Column) → n ≡ (b + 2) + length rest
     → in_payload b k (rest ++ c ∷ []) ≡ in_payload b k rest ++ all_at n (payload_gain b k c rest)
-in_payload_push b n video c rest e = refl
-in_payload_push b n island c rest e = ap (in_island b) (payload_push rest c) ∙ island_push b n c rest (payload rest) (payload_sound rest) e
-in_payload_push b n neither c rest e = refl
+in_payload_push b n k c rest h = grind (arith, payload_push, payload_sound, island_step)
 
 pub in_payload_none : (b : ℕ) (k : Kind) → in_payload b k [] ≡ []
 unfolding split in_island
-in_payload_none b video = refl
-in_payload_none b island = refl
-in_payload_none b neither = refl
+in_payload_none b k = grind arith

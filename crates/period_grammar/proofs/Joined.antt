@@ -26,11 +26,7 @@ joined [] = []
 joined (stretch control gap ∷ xs) = control ++ (gap ++ joined xs)
 
 joined_before : (p : Bool) (c : Column) (xs : List Stretch) → joined (before p c xs) ≡ c ∷ joined xs
-joined_before true c [] = refl
-joined_before true c (stretch control gap ∷ xs) = refl
-joined_before false c [] = refl
-joined_before false c (stretch [] gap ∷ xs) = refl
-joined_before false c (stretch (k ∷ control) gap ∷ xs) = refl
+joined_before p c xs = grind arith
 
 pub joined_stretches : (cs : List Column) → joined (stretches cs) ≡ cs
 unfolding stretches
@@ -55,22 +51,7 @@ IsCut [] = Unit {0}
 IsCut (x ∷ xs) = IsFull x × Meets x xs × IsCut xs
 
 cut_before : (p : Bool) (c : Column) (xs : List Stretch) → is_control_column c ≡ p → IsCut xs → IsCut (before p c xs)
-cut_before true c [] e h = (((e, tt), tt), tt, tt)
-cut_before true c (stretch [] [] ∷ xs) e h = absurd h.1
-cut_before true c (stretch [] (g ∷ gap) ∷ []) e h = (((e, tt), h.0.1), tt, tt)
-cut_before true c (stretch [] (g ∷ gap) ∷ (stretch [] after ∷ xs)) e h = absurd h.1
-cut_before true c (stretch [] (g ∷ gap) ∷ (stretch (k ∷ first) after ∷ xs)) e h = (((e, tt), h.0.1), tt, h.2)
-cut_before true c (stretch (k ∷ control) [] ∷ []) e h = (((e, h.0.0), tt), tt, tt)
-cut_before true c (stretch (k ∷ control) [] ∷ (x ∷ xs)) e h = absurd h.1
-cut_before true c (stretch (k ∷ control) (g ∷ gap) ∷ []) e h = (((e, h.0.0), h.0.1), tt, tt)
-cut_before true c (stretch (k ∷ control) (g ∷ gap) ∷ (stretch [] after ∷ xs)) e h = absurd h.1
-cut_before true c (stretch (k ∷ control) (g ∷ gap) ∷ (stretch (l ∷ first) after ∷ xs)) e h = (((e, h.0.0), h.0.1), tt, h.2)
-cut_before false c [] e h = ((tt, (e, tt)), tt, tt)
-cut_before false c (stretch [] [] ∷ xs) e h = absurd h.1
-cut_before false c (stretch [] (g ∷ gap) ∷ []) e h = ((tt, (e, h.0.1)), tt, tt)
-cut_before false c (stretch [] (g ∷ gap) ∷ (stretch [] after ∷ xs)) e h = absurd h.1
-cut_before false c (stretch [] (g ∷ gap) ∷ (stretch (k ∷ first) after ∷ xs)) e h = ((tt, (e, h.0.1)), tt, h.2)
-cut_before false c (stretch (k ∷ control) gap ∷ xs) e h = ((tt, (e, tt)), tt, h)
+cut_before p c xs h k = grind arith
 
 pub cut_stretches : (cs : List Column) → IsCut (stretches cs)
 unfolding stretches
@@ -143,9 +124,7 @@ reported_before_by true n cs e =
     ap (λ ds. reported_before n (heard_so_far ds)) (sym (take-append-drop n cs))
     ∙ before_more n (take n cs) (drop n cs) (omega (arith, long))
     ∙ all_before n (heard_so_far (take n cs)) (below_more _ n _ (omega (arith, long)) (reported_below (take n cs)))
-reported_before_by false n cs e =
-    let few : length cs ≤ n = omega (arith, leb-false n (length cs) e) in
-    all_before n (heard_so_far cs) (below_more (length cs) n _ few (reported_below cs)) ∙ ap heard_so_far (sym (take_all n cs few))
+reported_before_by false n cs e = grind (arith, leb-false, all_before, below_more, reported_below, take_all)
 
 -- What a list tells at columns before n is what its first n columns tell so far.
 pub reported_before_is : (n : ℕ) (cs : List Column) → reported_before n (heard_so_far cs) ≡ heard_so_far (take n cs)

@@ -1,6 +1,6 @@
 -- A word after words that were judged.
-use Rattle.std.proofs.Common.{◌≡◌, ℕ, ◌+◌, Bool, true, false, cond, List, [], ◌∷◌, ◌++◌, length, refl, ap₂, is_some, sym, ◌∙◌, arith}
-use Rattle.std.specs.Prelude.{Option, Some, None, ℤ, pos, ◌+ℤ◌, ◌↔◌, IsTrue}
+use Rattle.std.proofs.Common.{◌≡◌, ℕ, ◌+◌, Bool, true, false, cond, List, [], ◌∷◌, ◌++◌, length, is_some, sym, ◌∙◌, arith}
+use Rattle.std.specs.Prelude.{Option, Some, None, ℤ, ◌+ℤ◌, ◌↔◌, IsTrue}
 use Rattle.std.proofs.Math.IntN.{+ℤ_assoc, +ℤ_idl, +ℤ_idr}
 use Rattle.std.proofs.lemmas.Bool.{eqb-true, eq-eqb}
 use Rattle.tmds_word.specs.Bits.{word_bits, balance}
@@ -12,20 +12,15 @@ use Rattle.period_grammar.specs.Judged.{first_next, IsLaneAfter}
 use Rattle.period_grammar.specs.declared.lane.Lane.{Lane}
 
 at_first : (p : Bool) (n : ℕ) → cond p None (Some n) ≡ first_next None p n
-at_first true n = refl
-at_first false n = refl
+at_first p n = grind arith
 
 later : (p : Bool) (n : ℕ) (a b : Option ℕ) (q : Bool) (m : ℕ) → a ≡ first_next b q m → cond p a (Some n) ≡ first_next (cond p b (Some n)) q m
-later true n a b q m e = e
-later false n a b q m e = refl
+later p n a b q m h = grind arith
 
 first_push : (total : ℤ) (n : ℕ) (ws : List ℕ) (w : ℕ) (t : ℤ) (m : ℕ) → t ≡ total +ℤ disparity_of ws → m ≡ n + length ws
     → first_from total n (ws ++ w ∷ []) ≡ first_next (first_from total n ws) (is_coded t w) m
 unfolding disparity_of
-first_push total n [] w t m e f =
-    let a : total ≡ t = sym (e ∙ +ℤ_idr total) in
-    let b : n ≡ m = omega arith in
-    ap₂ (λ x y. cond (is_coded x w) None (Some y)) a b ∙ at_first (is_coded t w) m
+first_push total n [] w t m e f = grind (arith, at_first)
 first_push total n (v ∷ ws) w t m e f =
     let a : t ≡ (total +ℤ balance (word_bits v)) +ℤ disparity_of ws = e ∙ sym (+ℤ_assoc total (balance (word_bits v)) (disparity_of ws)) in
     let b : m ≡ (n + 1) + length ws = omega arith in
@@ -33,9 +28,7 @@ first_push total n (v ∷ ws) w t m e f =
     (first_push (total +ℤ balance (word_bits v)) (n + 1) ws w t m a b)
 
 same_test : (p q : Bool) → (p ≡ true → q ≡ true) → (q ≡ true → p ≡ true) → p ≡ q
-same_test true q f g = sym (f refl)
-same_test false true f g = g refl
-same_test false false f g = refl
+same_test p q h k = grind arith
 
 -- a test that says whether a word is rightly coded
 pub coded_test : (p : Bool) (disparity : ℤ) (w : ℕ) → (IsTrue p ↔ Coded disparity (decoded_byte w) w) → p ≡ is_coded disparity w
@@ -44,23 +37,14 @@ coded_test p disparity w h = same_test p _ (λ e. eq-eqb w _ (h.0 e)) (λ e. h.1
 
 pub lane_push : (old new : Lane) (w n : ℕ) (ws : List ℕ) (right : Bool) → old.judge.count ≡ n → IsLaneAfter old ws → IsJudgeAfter new.judge (ws ++ w ∷ [])
     → right ≡ is_coded old.judge.disparity w → new.first ≡ first_next old.first right n → IsLaneAfter new (ws ++ w ∷ [])
-lane_push old new w n ws right same was judge e f = record {
-  judge = judge;
-  first = f ∙ ap₂ (λ o p. first_next o p n) was.first e
-      ∙ sym (first_push (pos 0) 0 ws w old.judge.disparity n (was.judge.disparity ∙ sym (+ℤ_idl (disparity_of ws))) (omega (arith, same, was.judge.count)));
-}
+lane_push old new w n ws right same was judge e f = grind (arith, first_push)
 
 -- the first wrong word, after a word of which a test said whether it is rightly coded
 pub first_anew : (first : Option ℕ) (right : Bool) (n : ℕ) → right ≡ false → is_some first ≡ false → Some n ≡ first_next first right n
-first_anew None false n e f = refl
-first_anew None true n e f = cc
-first_anew (Some i) right n e f = cc
+first_anew first right n h k = grind arith
 
 pub first_right : (first : Option ℕ) (right : Bool) (n : ℕ) → right ≡ true → first ≡ first_next first right n
-first_right (Some i) right n e = refl
-first_right None true n e = refl
-first_right None false n e = cc
+first_right first right n h = grind arith
 
 pub first_stays : (first : Option ℕ) (right : Bool) (n : ℕ) → is_some first ≡ true → first ≡ first_next first right n
-first_stays (Some i) right n e = refl
-first_stays None right n e = cc
+first_stays first right n h = grind arith

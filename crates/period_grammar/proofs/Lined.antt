@@ -27,8 +27,7 @@ line_is l start from pixels was = rw (was.bytes, was.blue.first, was.green.first
 -- behind two guard columns
 pub line_after : (l : LineSeen) (start : ℕ) (pixels : List Column) → IsLineAfter l pixels → 0 < l.count → line_of start pixels ≡ line_at start (start + 2) pixels
 unfolding line_of
-line_after l start [] was pos = absurd (omega (arith, was.count))
-line_after l start (c ∷ cs) was pos = refl
+line_after l start pixels h k = grind arith
 
 pub line_bytes_push : (cs : List Column) (c : Column) → line_bytes (cs ++ c ∷ []) ≡ line_bytes cs ++ pixel c
 unfolding line_bytes

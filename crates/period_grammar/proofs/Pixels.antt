@@ -11,15 +11,10 @@ use Rattle.tmds_word.specs.Column.{Column}
 pub prefix_pass : (p : Column → Bool) (n : ℕ) (cs : List Column) → n ≤ length cs → All (λ c. p c ≡ true) (take n cs) → prefix_len p cs ≡ n + prefix_len p (drop n cs)
 prefix_pass p zero cs le all = omega arith
 prefix_pass p (suc n) [] le all = absurd (omega arith)
-prefix_pass p (suc n) (c ∷ cs) le all =
-    let rest = prefix_pass p n cs (omega arith) (All-tail (λ c. p c ≡ true) c (take n cs) all) in
-    ap (λ q. cond q (1 + prefix_len p cs) 0) (All-head (λ c. p c ≡ true) c (take n cs) all) ∙ omega (arith, rest)
+prefix_pass p (suc n) (c ∷ cs) le all = grind (arith, All-tail (λ c. p c ≡ true) c (take n cs) all, All-head (λ c. p c ≡ true) c (take n cs) all, prefix_pass p n cs)
 
 front_all : (p : Column → Bool) (c : Column) (cs : List Column) (q : Bool) → p c ≡ q → All (λ d. p d ≡ true) (take (prefix_len p cs) cs) → All (λ d. p d ≡ true) (take (cond q (1 + prefix_len p cs) 0) (c ∷ cs))
-front_all p c cs false e all = All-nil (λ d. p d ≡ true)
-front_all p c cs true e all =
-    let one : suc (prefix_len p cs) ≡ 1 + prefix_len p cs = omega arith in
-    subst (λ n. All (λ d. p d ≡ true) (take n (c ∷ cs))) one (All-cons (λ d. p d ≡ true) c (take (prefix_len p cs) cs) e all)
+front_all p c cs q h k = grind (arith, All-nil, All-cons)
 
 -- those before the first that does not pass
 pub prefix_all : (p : Column → Bool) (cs : List Column) → All (λ c. p c ≡ true) (take (prefix_len p cs) cs)
@@ -27,8 +22,7 @@ prefix_all p [] = All-nil (λ c. p c ≡ true)
 prefix_all p (c ∷ cs) = front_all p c cs (p c) refl (prefix_all p cs)
 
 front_take : (q : Bool) (m k n : ℕ) → (k < n → m ≡ k) → cond q (1 + k) 0 < suc n → cond q (1 + m) 0 ≡ cond q (1 + k) 0
-front_take true m k n f lt = ap (λ x. 1 + x) (f (omega arith))
-front_take false m k n f lt = refl
+front_take q m k n h l = grind arith
 
 -- the first that pass, among the first n
 pub prefix_take : (p : Column → Bool) (n : ℕ) (cs : List Column) → n ≤ length cs → prefix_len p (take n cs) < n → prefix_len p cs ≡ prefix_len p (take n cs)

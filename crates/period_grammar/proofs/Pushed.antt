@@ -3,9 +3,9 @@ use Rattle.std.proofs.Common.{◌≡◌, ℕ, ◌+◌, Bool, true, false, List, 
 use Rattle.std.proofs.lemmas.List.{append-nil, map-append}
 use Rattle.tmds_word.specs.Column.{Column}
 use Rattle.terc4.specs.Columns.{is_control_column}
-use Rattle.period_grammar.specs.Events.{at, all_at, event_of}
+use Rattle.period_grammar.specs.Events.{all_at, event_of}
 use Rattle.period_grammar.specs.Cut.{Stretch, stretch, stretches, runs}
-use Rattle.period_grammar.specs.Heard.{other_words, in_runs, last_run, reach}
+use Rattle.period_grammar.specs.Heard.{in_runs, reach}
 use Rattle.period_grammar.specs.After.{last, gap_of}
 use Rattle.period_grammar.proofs.Push.{after, stretches_push, runs_push}
 use Rattle.period_grammar.proofs.Step.{in_runs_push, runs_total, total, stretches_total, is_some, after_some}
@@ -13,8 +13,7 @@ use Rattle.period_grammar.specs.Gaps.{Gaps, going_by, closing_by, reported_by, e
 use Rattle.period_grammar.specs.Gains.{Gain, GrowsBy, gains_by, ends_by}
 
 reported_more : (g : Gaps) (j : ℕ) (x : Stretch) (xs : List Stretch) → is_some xs ≡ true → reported_by g j (x ∷ xs) ≡ going_by g j x ++ (closing_by g j x ++ reported_by g (j + reach x) xs)
-reported_more g j x [] e = cc
-reported_more g j x (y ∷ ys) e = refl
+reported_more g j x xs h = grind arith
 
 -- a column after the last stretch
 one_push : (g : Gaps) (gain : Gain) → GrowsBy g gain → (p : Bool) (j b n : ℕ) (c : Column) (x : Stretch) → n ≡ j + reach x → b + length (gap_of x) ≡ n
@@ -22,32 +21,14 @@ one_push : (g : Gaps) (gain : Gain) → GrowsBy g gain → (p : Bool) (j b n : �
 unfolding runs
 one_push g gain grows true j b n c (stretch control []) e f =
     ap (in_runs j) (runs_push control c) ∙ in_runs_push j n c (runs control) (omega (arith, runs_total control))
-one_push g gain grows true j b n c (stretch control (x ∷ gap)) e f =
-    let start : j + length control ≡ b = omega arith in
-    let before = going_by g j (stretch control (x ∷ gap)) in
-    ap (λ m. before ++ (all_at m (g.closing (j + length control) control (x ∷ gap)) ++ (all_at m (other_words m c) ++ []))) (sym e)
-    ∙ ap (λ m. before ++ (all_at n (g.closing m control (x ∷ gap)) ++ (all_at n (other_words n c) ++ []))) start
-    ∙ ap (λ ts. before ++ (all_at n (g.closing b control (x ∷ gap)) ++ ts)) (append-nil (all_at n (other_words n c)))
-    ∙ ap (λ ts. before ++ ts) (sym (map-append (at n) (g.closing b control (x ∷ gap)) (other_words n c)))
-one_push g gain grows false j b n c (stretch control []) e f =
-    let start : j + length control ≡ n = omega arith in
-    ap (λ ts. in_runs j (runs control) ++ (all_at (j + length control) (last_run (runs control)) ++ ts)) (grows.one (j + length control) control c)
-    ∙ ap (λ ts. in_runs j (runs control) ++ ts) (append-nil (all_at (j + length control) (last_run (runs control)))
-    ∙ ap (λ m. all_at m (last_run (runs control))) start)
-one_push g gain grows false j b n c (stretch control (x ∷ gap)) e f =
-    let start : j + length control ≡ b = omega arith in
-    let place : n ≡ (j + length control) + length (x ∷ gap) = omega arith in
-    let a = j + length control in
-    ap (λ ts. in_runs j (runs control) ++ (all_at a (last_run (runs control)) ++ ts)) (grows.more a n control x gap c place)
-    ∙ ap (λ m. in_runs j (runs control) ++ (all_at a (last_run (runs control)) ++ (g.going a control (x ∷ gap) ++ all_at n (gain m n c control (x ∷ gap))))) start
-    ∙ simp append_assoc
+one_push g gain grows true j b n c (stretch control (x ∷ gap)) e f = grind (arith, append-nil, map-append)
+one_push g gain grows false j b n c (stretch control []) e f = grind (arith, append-nil)
+one_push g gain grows false j b n c (stretch control (x ∷ gap)) e f = grind (arith, append_assoc)
 
 reported_push : (g : Gaps) (gain : Gain) → GrowsBy g gain → (p : Bool) (j b n : ℕ) (c : Column) (xs : List Stretch) → n ≡ j + total xs → b + length (gap_of (last xs)) ≡ n
     → reported_by g j (after p c xs) ≡ reported_by g j xs ++ all_at n (gains_by g gain p b n c (last xs))
 unfolding runs
-reported_push g gain grows true j b n c [] e f =
-    let same : n ≡ j = omega arith in
-    append-nil (all_at j (other_words j c)) ∙ ap (λ m. all_at m (other_words m c)) (sym same)
+reported_push g gain grows true j b n c [] e f = grind (arith, append-nil)
 reported_push g gain grows false j b n c [] e f = grows.one (j + 0) [] c
 reported_push g gain grows p j b n c (x ∷ []) e f = one_push g gain grows p j b n c x (omega arith) f
 reported_push g gain grows true j b n c (x ∷ (y ∷ ys)) e f =

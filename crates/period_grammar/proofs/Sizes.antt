@@ -1,5 +1,5 @@
 -- Everything that is told is of the sizes that a link can have.
-use Rattle.std.proofs.Common.{◌≡◌, ℕ, zero, suc, ◌+◌, ◌*◌, ◌%◌, ◌==◌, ◌<◌, ◌≤◌, Bool, true, false, not, List, [], ◌∷◌, ◌++◌, length, map, take, drop, refl, ap, ◌∙◌, arith, Option, Some, None, All}
+use Rattle.std.proofs.Common.{◌≡◌, ℕ, zero, suc, ◌+◌, ◌*◌, ◌%◌, ◌==◌, ◌<◌, ◌≤◌, Bool, true, not, List, [], ◌∷◌, ◌++◌, length, map, take, drop, refl, ap, ◌∙◌, arith, Option, All}
 use Rattle.std.specs.Prelude.{nat_le, unwrap_or, IfSome}
 use Rattle.std.proofs.Math.Nat.{mul-mod_left}
 use Rattle.std.proofs.lemmas.Nat.{mod_below}
@@ -7,23 +7,20 @@ use Rattle.std.proofs.lemmas.Bool.{leb-true}
 use Rattle.std.proofs.lemmas.List.{length-map, length-take-le}
 use Rattle.std.proofs.lemmas.List.Elements.{All-nil, All-cons, All-map}
 use Rattle.bch_block.specs.declared.Verdict.{Verdict}
-use Rattle.bch_block.specs.declared.Verdict.TheVariants.{Clean, Mended, Lost}
 use Rattle.island_pack.specs.Nibbles.{nibble_of, nibbles_of, sync_values}
 use Rattle.island_pack.specs.declared.packet.PacketVerdicts.{PacketVerdicts}
 use Rattle.tmds_word.specs.Column.{Column}
 use Rattle.tmds_word.proofs.Below.{and-right}
 use Rattle.terc4.specs.Tables.{control_words, value_in, is_control}
-use Rattle.terc4.specs.Columns.{is_video_guard, is_island_guard, closes}
 use Rattle.terc4.proofs.Entries.{value_below}
-use Rattle.tmds_code.specs.Coding.{decoded_byte}
 use Rattle.period_grammar.specs.Coding.{first_uncoded}
 use Rattle.period_grammar.specs.Column.{control_bits, value_of, sync_digit}
 use Rattle.island_pack.specs.Spelling.{column_words}
 use Rattle.island_pack.specs.Repaired.{packet_in, packet_of, verdicts_of}
-use Rattle.period_grammar.specs.Events.{Event, short, preamble, empty, long_line, cut, symbols, long_island, broken, guard, EventAt, all_at, event_of}
-use Rattle.period_grammar.specs.Cut.{Stretch, stretch, stretches, Run, columns, in_front, value, before_runs, runs}
-use Rattle.period_grammar.specs.Island.{Payload, parts, begins_close, holds_packet, with_packet, split_by, split, payload, when, if_so, block_fault, block_faults, packet_faults, packet_events, in_packets, wrong_guards, closing_events, in_left, left_at, in_island, breaks}
-use Rattle.period_grammar.specs.Heard.{other_word, other_words, words, ended, in_run, size, in_runs, last_run, has_preamble, if_not, Kind, video, island, neither, opened, lacks, opening, line_bytes, code_fault, codes_of, line_of, in_payload, in_gap, payload_closes, at_close, payload_ends, at_end, so_far, reach, closing, reported_from, ending, end_from, heard_so_far, heard}
+use Rattle.period_grammar.specs.Events.{Event, short, preamble, symbols, long_island, guard, EventAt, all_at, event_of}
+use Rattle.period_grammar.specs.Cut.{Stretch, stretch, Run, columns, in_front, before_runs, runs}
+use Rattle.period_grammar.specs.Island.{Payload, parts, begins_close, holds_packet, split_by, split, when, if_so, block_fault, block_faults, packet_faults, packet_events, in_packets, wrong_guards, closing_events, in_left, left_at, in_island, breaks}
+use Rattle.period_grammar.specs.Heard.{other_word, other_words, words, ended, in_run, size, in_runs, last_run, has_preamble, if_not, Kind, lacks, opening, line_bytes, code_fault, codes_of, line_of, in_payload, in_gap, payload_closes, at_close, payload_ends, at_end, so_far, reach, closing, reported_from, ending, end_from, heard_so_far, heard}
 use Rattle.period_grammar.specs.Sizes.{IsSized}
 use Rattle.island_pack.specs.Packets.{IsPacket}
 use Rattle.island_pack.proofs.RepairedBlocks.{repaired_is_taken}
@@ -59,17 +56,14 @@ events_sized [] h = tt
 events_sized (t ∷ ts) h = (h.0, events_sized ts h.1)
 
 pub if_not_sized : (p : Bool) (t : Event) → IsSized t → Sized (if_not p t)
-if_not_sized true t h = tt
-if_not_sized false t h = (h, tt)
+if_not_sized p t h = grind arith
 
 when_sized : (p : Bool) (ts : List EventAt) → TellsSized ts → TellsSized (when p ts)
-when_sized true ts h = h
-when_sized false ts h = tt
+when_sized p ts h = grind arith
 
 -- Values and digits.
 pub zero_or_below : (o : Option ℕ) → IfSome o (λ v. v < 4) → unwrap_or o 0 < 4
-zero_or_below None h = omega arith
-zero_or_below (Some v) h = h
+zero_or_below o h = grind arith
 
 pub control_value_below : (w : ℕ) → IfSome (value_in control_words w) (λ v. v < 4)
 unfolding control_words
@@ -93,8 +87,7 @@ sync_below ws = All-map (λ digit. digit < 4) (λ n. n % 4) (nibbles_of ws 0) (�
 
 -- Control columns.
 pub other_word_sized : (lane j : ℕ) (p : Bool) → Sized (other_word lane j p)
-other_word_sized lane j true = tt
-other_word_sized lane j false = (tt, tt)
+other_word_sized lane j p = grind arith
 
 pub other_words_sized : (j : ℕ) (c : Column) → Sized (other_words j c)
 unfolding other_words
@@ -114,12 +107,10 @@ AreRuns [] = Unit {0}
 AreRuns (r ∷ rs) = IsRun r × AreRuns rs
 
 pub in_front_runs : (p : Bool) (c : Column) (r : Run) (rs : List Run) → IsRun r → AreRuns rs → AreRuns (in_front p c r rs)
-in_front_runs true c (columns v cs) rs h k = ((h.0, omega arith), k)
-in_front_runs false c r rs h k = ((value_of_below c, omega arith), (h, k))
+in_front_runs p c r rs h k = grind (arith, value_of_below)
 
 pub more_runs : (c : Column) (rs : List Run) → AreRuns rs → AreRuns (before_runs c rs)
-more_runs c [] h = ((value_of_below c, omega arith), tt)
-more_runs c (r ∷ rs) h = in_front_runs (value_of c == value r) c r rs h.0 h.1
+more_runs c rs h = grind (arith, value_of_below, in_front_runs)
 
 pub are_runs : (cs : List Column) → AreRuns (runs cs)
 unfolding runs
@@ -149,27 +140,19 @@ lacks_sized b control bits =
     sized_append _ _ (if_not_sized (nat_le 12 (length control)) (short b) tt) (if_not_sized (has_preamble bits control) (preamble b) tt)
 
 if_so_sized : (p : Bool) (t : Event) → IsSized t → Sized (if_so p t)
-if_so_sized true t h = (h, tt)
-if_so_sized false t h = tt
+if_so_sized p t h = grind arith
 
 wrong_guards_sized : (is : Column → Bool) (s : ℕ) (c d : Column) → Sized (wrong_guards is s c d)
 wrong_guards_sized is s c d = sized_append _ _ (if_so_sized (not (is c)) (guard s) tt) (if_so_sized (not (is d)) (guard (s + 1)) tt)
 
 opening_sized : (b : ℕ) (control : List Column) (g h : Column) (k : Kind) → Sized (opening b control g h k)
-opening_sized b control g h video = sized_append _ _ (lacks_sized b control 1) (wrong_guards_sized is_video_guard b g h)
-opening_sized b control g h island = sized_append _ _ (lacks_sized b control 5) ((digit_below g.blue, digit_below h.blue), wrong_guards_sized is_island_guard b g h)
-opening_sized b control g h neither = (tt, tt)
+opening_sized b control g h k = grind (arith, sized_append, lacks_sized, wrong_guards_sized, digit_below)
 
 -- A line.
 pub bytes_below : (cs : List Column) → All (λ byte. byte < 256) (line_bytes cs)
 unfolding line_bytes
 bytes_below [] = All-nil (λ byte. byte < 256)
-bytes_below (c ∷ cs) =
-    let blue = decoded_byte c.blue ∷ line_bytes cs in
-    let green = decoded_byte c.green ∷ blue in
-    All-cons (λ byte. byte < 256) (decoded_byte c.red) green (decoded_below c.red)
-    (All-cons (λ byte. byte < 256) (decoded_byte c.green) blue (decoded_below c.green)
-    (All-cons (λ byte. byte < 256) (decoded_byte c.blue) (line_bytes cs) (decoded_below c.blue) (bytes_below cs)))
+bytes_below (c ∷ cs) = grind (arith, All-cons, decoded_below, bytes_below cs)
 
 pub length-line_bytes : (cs : List Column) → length (line_bytes cs) ≡ length cs * 3
 unfolding line_bytes
@@ -177,8 +160,7 @@ length-line_bytes [] = refl
 length-line_bytes (c ∷ cs) = let e = length-line_bytes cs in omega (arith, e)
 
 pub code_fault_sized : (lane s : ℕ) (o : Option ℕ) → Sized (code_fault lane s o)
-code_fault_sized lane s None = tt
-code_fault_sized lane s (Some i) = (tt, tt)
+code_fault_sized lane s o = grind arith
 
 pub codes_of_sized : (s : ℕ) (pixels : List Column) → Sized (codes_of s pixels)
 unfolding codes_of
@@ -197,18 +179,11 @@ take_at_most (suc n) (c ∷ cs) = let le = take_at_most n cs in omega (arith, le
 line_of_sized : (b : ℕ) (cs : List Column) → Sized (line_of b cs)
 unfolding line_of
 line_of_sized b [] = (tt, tt)
-line_of_sized b (c ∷ cs) =
-    let most = take_at_most 4095 cs in
-    let long = length-line_bytes (take 4096 (c ∷ cs)) in (
-      (whole_pixels (take 4096 (c ∷ cs)), omega (arith, long), omega (arith, long, most), bytes_below (take 4096 (c ∷ cs))),
-      sized_append _ _ (codes_of_sized (b + 2) (take 4096 (c ∷ cs))) (if_not_sized (nat_le (length (c ∷ cs)) 4096) (long_line b) tt),
-    )
+line_of_sized b (c ∷ cs) = grind (arith, take_at_most 4095 cs, length-line_bytes, whole_pixels, bytes_below, sized_append, codes_of_sized, if_not_sized)
 
 -- An island.
 block_fault_sized : (s b : ℕ) (v : Verdict) → Sized (block_fault s b v)
-block_fault_sized s b Clean = tt
-block_fault_sized s b (Mended i) = (tt, tt)
-block_fault_sized s b Lost = (tt, tt)
+block_fault_sized s b v = grind arith
 
 block_faults_sized : (s b : ℕ) (vs : List Verdict) → Sized (block_faults s b vs)
 block_faults_sized s b [] = tt
@@ -229,12 +204,8 @@ AreWhole (p ∷ ps) = (length p ≡ 32) × AreWhole ps
 abbrev pub HasWhole : Payload → Type 0
 HasWhole (parts ps t) = AreWhole ps
 
-with_packet_whole : (p : List Column) (x : Payload) → length p ≡ 32 → HasWhole x → HasWhole (with_packet p x)
-with_packet_whole p (parts ps t) e h = (e, h)
-
 split_by_whole : (b : Bool) (cs : List Column) (x : Payload) → (b ≡ true → length (take 32 cs) ≡ 32) → HasWhole x → HasWhole (split_by b cs x)
-split_by_whole true cs x e h = with_packet_whole (take 32 cs) x (e refl) h
-split_by_whole false cs x e h = tt
+split_by_whole b cs x h k = grind arith
 
 packet_held : (cs : List Column) → holds_packet cs ≡ true → length (take 32 cs) ≡ 32
 unfolding holds_packet
@@ -260,67 +231,40 @@ in_packets_sized s k (p ∷ ps) h =
 
 closing_events_sized : (b s k : ℕ) (c d : Column) → Sized (closing_events b s k c d)
 unfolding closing_events
-closing_events_sized b s k c d = (
-  (digit_below c.blue, digit_below d.blue),
-  sized_append _ _ (wrong_guards_sized is_island_guard s c d) (if_so_sized (k == 0) (empty b) tt),
-)
+closing_events_sized b s k c d = grind (arith, digit_below, sized_append, wrong_guards_sized, if_so_sized)
 
 in_left_sized : (b s k : ℕ) (t : List Column) → TellsSized (in_left b s k t)
-in_left_sized b s k [] = tt
-in_left_sized b s k (c ∷ []) = tt
-in_left_sized b s k (c ∷ (d ∷ [])) = when_sized (closes c d) _ (tells_at (s + 1) _ (closing_events_sized b s k c d))
-in_left_sized b s k (c ∷ (d ∷ (e ∷ cs))) =
-    when_sized (closes c d) _ (tells_append _ _ (tells_at (s + 1) _ (closing_events_sized b s k c d)) (tt, tt))
-
-in_island_sized : (b : ℕ) (x : Payload) → HasWhole x → TellsSized (in_island b x)
-unfolding in_island
-in_island_sized b (parts ps t) h = tells_append _ _ (in_packets_sized (b + 2) 0 ps h) (in_left_sized b (left_at b ps) (length ps) t)
+in_left_sized b s k t = grind (arith, when_sized, tells_at, closing_events_sized, tells_append)
 
 breaks_sized : (f : ℕ → Event) (b : ℕ) (x : Payload) → ((n : ℕ) → IsSized (f n)) → Sized (breaks f b x)
 breaks_sized f b (parts ps t) h = if_so_sized (not (begins_close t)) (f (left_at b ps)) (h (left_at b ps))
 
 -- Columns after control columns.
 in_payload_sized : (b : ℕ) (k : Kind) (rest : List Column) → TellsSized (in_payload b k rest)
-in_payload_sized b video rest = tt
-in_payload_sized b island rest = in_island_sized b (payload rest) (split_whole (length rest) rest)
-in_payload_sized b neither rest = tt
+unfolding in_island
+in_payload_sized b k rest = grind (arith, split_whole, tells_append, in_packets_sized, in_left_sized)
 
 in_gap_sized : (b : ℕ) (control gap : List Column) → TellsSized (in_gap b control gap)
 unfolding in_gap
-in_gap_sized b control [] = tt
-in_gap_sized b control (g ∷ []) = tt
-in_gap_sized b control (g ∷ (h ∷ rest)) =
-    tells_append _ _ (tells_at (b + 1) _ (opening_sized b control g h (opened g h))) (in_payload_sized b (opened g h) rest)
+in_gap_sized b control gap = grind (arith, tells_append, tells_at, opening_sized, in_payload_sized)
 
 payload_closes_sized : (b : ℕ) (k : Kind) (rest : List Column) → Sized (payload_closes b k rest)
-payload_closes_sized b video rest = line_of_sized b rest
-payload_closes_sized b island rest = breaks_sized broken b (payload rest) (λ n. tt)
-payload_closes_sized b neither rest = tt
+payload_closes_sized b k rest = grind (arith, line_of_sized, breaks_sized)
 
 at_close_sized : (b : ℕ) (gap : List Column) → Sized (at_close b gap)
 unfolding at_close
-at_close_sized b [] = tt
-at_close_sized b (g ∷ []) = (tt, tt)
-at_close_sized b (g ∷ (h ∷ rest)) = payload_closes_sized b (opened g h) rest
+at_close_sized b gap = grind (arith, payload_closes_sized)
 
 payload_ends_sized : (b : ℕ) (k : Kind) (rest : List Column) → Sized (payload_ends b k rest)
-payload_ends_sized b video rest = (tt, tt)
-payload_ends_sized b island rest = breaks_sized cut b (payload rest) (λ n. tt)
-payload_ends_sized b neither rest = tt
+payload_ends_sized b k rest = grind (arith, breaks_sized)
 
 at_end_sized : (b : ℕ) (gap : List Column) → Sized (at_end b gap)
 unfolding at_end
-at_end_sized b [] = tt
-at_end_sized b (g ∷ []) = (tt, tt)
-at_end_sized b (g ∷ (h ∷ rest)) = payload_ends_sized b (opened g h) rest
+at_end_sized b gap = grind (arith, payload_ends_sized)
 
 -- The whole.
 so_far_sized : (j : ℕ) (x : Stretch) → TellsSized (so_far j x)
-so_far_sized j (stretch control []) = in_runs_sized j (runs control) (are_runs control)
-so_far_sized j (stretch control (g ∷ gap)) =
-    tells_append _ _ (in_runs_sized j (runs control) (are_runs control))
-    (tells_append _ _ (tells_at (j + length control) (last_run (runs control)) (last_run_sized (runs control) (are_runs control)))
-    (in_gap_sized (j + length control) control (g ∷ gap)))
+so_far_sized j x = grind (arith, in_runs_sized, are_runs, tells_append, tells_at, last_run_sized, in_gap_sized)
 
 closing_sized : (j : ℕ) (x : Stretch) → TellsSized (closing j x)
 closing_sized j (stretch control gap) = tells_at _ _ (at_close_sized (j + length control) gap)
@@ -331,17 +275,13 @@ reported_from_sized j (x ∷ []) = so_far_sized j x
 reported_from_sized j (x ∷ (y ∷ ys)) = tells_append _ _ (so_far_sized j x) (tells_append _ _ (closing_sized j x) (reported_from_sized (j + reach x) (y ∷ ys)))
 
 ending_sized : (j : ℕ) (x : Stretch) → Sized (ending j x)
-ending_sized j (stretch control []) = last_run_sized (runs control) (are_runs control)
-ending_sized j (stretch control (g ∷ gap)) = at_end_sized (j + length control) (g ∷ gap)
+ending_sized j x = grind (arith, last_run_sized, are_runs, at_end_sized)
 
 end_from_sized : (j : ℕ) (xs : List Stretch) → Sized (end_from j xs)
 end_from_sized j [] = tt
 end_from_sized j (x ∷ []) = ending_sized j x
 end_from_sized j (x ∷ (y ∷ ys)) = end_from_sized (j + reach x) (y ∷ ys)
 
-heard_sized : (cs : List Column) → Sized (heard cs)
-unfolding heard heard_so_far
-heard_sized cs = sized_append _ _ (events_sized _ (reported_from_sized 0 (stretches cs))) (end_from_sized 0 (stretches cs))
-
 pub all_are_sized : (cs : List Column) → All IsSized (heard cs)
-all_are_sized cs = all_sized (heard cs) (heard_sized cs)
+unfolding heard heard_so_far
+all_are_sized cs = grind (arith, all_sized, sized_append, events_sized, reported_from_sized, end_from_sized)

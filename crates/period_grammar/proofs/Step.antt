@@ -1,13 +1,13 @@
 -- What a list of columns tells with one column more, by its last stretch.
-use Rattle.std.proofs.Common.{◌≡◌, ℕ, suc, ◌+◌, Bool, true, false, ◌==◌, List, [], ◌∷◌, ◌++◌, length, map, refl, ap, ap₂, sym, ◌∙◌, append_assoc, arith, zero-add}
+use Rattle.std.proofs.Common.{◌≡◌, ℕ, suc, ◌+◌, Bool, true, false, ◌==◌, List, [], ◌∷◌, ◌++◌, length, map, refl, ap, sym, ◌∙◌, append_assoc, arith, zero-add}
 use Rattle.std.proofs.lemmas.List.{append-nil, map-append}
 use Rattle.tmds_word.specs.Column.{Column}
 use Rattle.terc4.specs.Columns.{is_control_column}
 use Rattle.period_grammar.specs.Column.{value_of}
-use Rattle.period_grammar.specs.Events.{run, at, all_at, event_of}
+use Rattle.period_grammar.specs.Events.{run, all_at, event_of}
 use Rattle.period_grammar.specs.Cut.{Stretch, stretch, before, stretches, Run, columns, in_front, before_runs, runs}
-use Rattle.period_grammar.specs.Heard.{other_words, words, ended, in_run, size, in_runs, last_run, if_not, opening, opened, in_gap, in_payload, at_close, so_far, reach, closing, reported_from, end_from, at_end, heard_so_far, heard}
-use Rattle.period_grammar.specs.After.{last, gap_of, change, gains, payload_gain, grown, ends}
+use Rattle.period_grammar.specs.Heard.{other_words, words, ended, in_run, size, in_runs, if_not, in_gap, so_far, reach, closing, reported_from, end_from, at_end, heard_so_far, heard}
+use Rattle.period_grammar.specs.After.{last, gap_of, change, gains, grown, ends}
 use Rattle.period_grammar.proofs.Islands.{in_payload_push, in_payload_none}
 use Rattle.period_grammar.proofs.Push.{after, stretches_push, trail, after_runs, runs_push}
 
@@ -17,12 +17,10 @@ total_runs [] = 0
 total_runs (r ∷ rs) = size r + total_runs rs
 
 in_front_total : (p : Bool) (c : Column) (v : ℕ) (cs : List Column) (rs : List Run) → total_runs (in_front p c (columns v cs) rs) ≡ suc (length cs + total_runs rs)
-in_front_total true c v cs rs = omega arith
-in_front_total false c v cs rs = omega arith
+in_front_total p c v cs rs = grind arith
 
 before_runs_total : (c : Column) (rs : List Run) → total_runs (before_runs c rs) ≡ suc (total_runs rs)
-before_runs_total c [] = omega arith
-before_runs_total c (columns v cs ∷ rs) = in_front_total (value_of c == v) c v cs rs
+before_runs_total c rs = grind (arith, in_front_total)
 
 pub runs_total : (cs : List Column) → total_runs (runs cs) ≡ length cs
 unfolding runs
@@ -34,11 +32,7 @@ total [] = 0
 total (x ∷ xs) = reach x + total xs
 
 before_total : (p : Bool) (c : Column) (xs : List Stretch) → total (before p c xs) ≡ suc (total xs)
-before_total true c [] = omega arith
-before_total true c (stretch control gap ∷ xs) = omega arith
-before_total false c [] = omega arith
-before_total false c (stretch [] gap ∷ xs) = omega arith
-before_total false c (stretch (k ∷ control) gap ∷ xs) = omega arith
+before_total p c xs = grind arith
 
 pub stretches_total : (cs : List Column) → total (stretches cs) ≡ length cs
 unfolding stretches
@@ -48,9 +42,7 @@ stretches_total (c ∷ cs) = before_total (is_control_column c) c (stretches cs)
 -- The words of columns.
 
 pub words_push : (j n : ℕ) (cs : List Column) (c : Column) → n ≡ j + length cs → words j (cs ++ c ∷ []) ≡ words j cs ++ all_at n (other_words n c)
-words_push j n [] c e =
-    let same : n ≡ j = omega arith in
-    append-nil (all_at j (other_words j c)) ∙ ap (λ m. all_at m (other_words m c)) (sym same)
+words_push j n [] c e = grind (arith, append-nil)
 words_push j n (d ∷ cs) c e =
     let same : n ≡ (j + 1) + length cs = omega arith in
     ap (λ ts. all_at j (other_words j d) ++ ts) (words_push (j + 1) n cs c same)
@@ -63,12 +55,10 @@ is_some [] = false
 is_some (x ∷ xs) = true
 
 in_runs_more : (j : ℕ) (r : Run) (rs : List Run) → is_some rs ≡ true → in_runs j (r ∷ rs) ≡ in_run j r ++ (ended j r ++ in_runs (j + size r) rs)
-in_runs_more j r [] e = cc
-in_runs_more j r (s ∷ rs) e = refl
+in_runs_more j r rs h = grind arith
 
 trail_some : (p : Bool) (c : Column) (v : ℕ) (cs : List Column) → is_some (trail p c v cs) ≡ true
-trail_some true c v cs = refl
-trail_some false c v cs = refl
+trail_some p c v cs = grind arith
 
 pub after_runs_some : (c : Column) (rs : List Run) → is_some (after_runs c rs) ≡ true
 after_runs_some c [] = refl
@@ -78,16 +68,11 @@ after_runs_some c (r ∷ (s ∷ rs)) = refl
 -- a column after the last run, where it has the run's value or not
 last_push : (p : Bool) (j n v : ℕ) (cs : List Column) (c : Column) → n ≡ j + length cs
     → in_runs j (trail p c v cs) ≡ words j cs ++ all_at n (if_not p (run v (length cs)) ++ other_words n c)
-last_push true j n v cs c e = words_push j n cs c e
-last_push false j n v cs c e =
-    ap (λ m. words j cs ++ (at m (run v (length cs)) ∷ words m (c ∷ []))) (sym e)
-    ∙ ap (λ ts. words j cs ++ (at n (run v (length cs)) ∷ ts)) (append-nil (all_at n (other_words n c)))
+last_push p j n v cs c h = grind (arith, words_push, append-nil)
 
 pub in_runs_push : (j n : ℕ) (c : Column) (rs : List Run) → n ≡ j + total_runs rs
     → in_runs j (after_runs c rs) ≡ in_runs j rs ++ all_at n (change (value_of c) rs ++ other_words n c)
-in_runs_push j n c [] e =
-    let same : n ≡ j = omega arith in
-    append-nil (all_at j (other_words j c)) ∙ ap (λ m. all_at m (other_words m c)) (sym same)
+in_runs_push j n c [] e = grind (arith, append-nil)
 in_runs_push j n c (columns v cs ∷ []) e = last_push (v == value_of c) j n v cs c (omega arith)
 in_runs_push j n c (r ∷ (s ∷ rs)) e =
     let same : n ≡ (j + size r) + total_runs (s ∷ rs) = omega arith in
@@ -99,17 +84,10 @@ in_runs_push j n c (r ∷ (s ∷ rs)) e =
 -- Periods.
 
 reported_from_more : (j : ℕ) (x : Stretch) (xs : List Stretch) → is_some xs ≡ true → reported_from j (x ∷ xs) ≡ so_far j x ++ (closing j x ++ reported_from (j + reach x) xs)
-reported_from_more j x [] e = cc
-reported_from_more j x (y ∷ ys) e = refl
+reported_from_more j x xs h = grind arith
 
 pub after_some : (p : Bool) (c : Column) (xs : List Stretch) → is_some (after p c xs) ≡ true
-after_some true c [] = refl
-after_some false c [] = refl
-after_some true c (stretch control [] ∷ []) = refl
-after_some true c (stretch control (g ∷ gap) ∷ []) = refl
-after_some false c (stretch control gap ∷ []) = refl
-after_some true c (x ∷ (y ∷ ys)) = refl
-after_some false c (x ∷ (y ∷ ys)) = refl
+after_some p c xs = grind arith
 
 -- a column after the last stretch
 one_push : (p : Bool) (j b n : ℕ) (c : Column) (x : Stretch) → n ≡ j + reach x → b + length (gap_of x) ≡ n
@@ -117,38 +95,17 @@ one_push : (p : Bool) (j b n : ℕ) (c : Column) (x : Stretch) → n ≡ j + rea
 unfolding runs in_gap
 one_push true j b n c (stretch control []) e f =
     ap (in_runs j) (runs_push control c) ∙ in_runs_push j n c (runs control) (omega (arith, runs_total control))
-one_push true j b n c (stretch control (g ∷ gap)) e f =
-    let start : j + length control ≡ b = omega arith in
-    ap (λ m. so_far j (stretch control (g ∷ gap)) ++ (all_at m (at_close (j + length control) (g ∷ gap)) ++ (all_at m (other_words m c) ++ []))) (sym e)
-    ∙ ap (λ m. so_far j (stretch control (g ∷ gap)) ++ (all_at n (at_close m (g ∷ gap)) ++ (all_at n (other_words n c) ++ []))) start
-    ∙ ap (λ ts. so_far j (stretch control (g ∷ gap)) ++ (all_at n (at_close b (g ∷ gap)) ++ ts)) (append-nil (all_at n (other_words n c)))
-    ∙ ap (λ ts. so_far j (stretch control (g ∷ gap)) ++ ts) (sym (map-append (at n) (at_close b (g ∷ gap)) (other_words n c)))
-one_push false j b n c (stretch control []) e f =
-    let start : j + length control ≡ n = omega arith in
-    ap (λ ts. in_runs j (runs control) ++ ts) (append-nil (all_at (j + length control) (last_run (runs control)))
-    ∙ ap (λ m. all_at m (last_run (runs control))) start)
-one_push false j b n c (stretch control (g ∷ [])) e f =
-    let start : j + length control ≡ b = omega arith in
-    let next : (j + length control) + 1 ≡ n = omega arith in
-    let reported = opening b control g c (opened g c) in
-    ap (λ m. in_runs j (runs control) ++ (all_at (j + length control) (last_run (runs control)) ++ (all_at ((j + length control) + 1) (opening m control g c (opened g c)) ++ in_payload m (opened g c) []))) start
-    ∙ ap₂ (λ m ts. in_runs j (runs control) ++ (all_at (j + length control) (last_run (runs control)) ++ (all_at m reported ++ ts))) next (in_payload_none b (opened g c))
-    ∙ simp (append_assoc, append-nil)
+one_push true j b n c (stretch control (g ∷ gap)) e f = grind (arith, append-nil, map-append)
+one_push false j b n c (stretch control []) e f = grind (arith, append-nil)
+one_push false j b n c (stretch control (g ∷ [])) e f = grind (arith, in_payload_none, append_assoc, append-nil)
 one_push false j b n c (stretch control (g ∷ (h ∷ rest))) e f =
     let start : j + length control ≡ b = omega arith in
-    let place : n ≡ ((j + length control) + 2) + length rest = omega arith in
-    let k = opened g h in
-    let a = j + length control in
-    ap (λ ts. in_runs j (runs control) ++ (all_at a (last_run (runs control)) ++ (all_at (a + 1) (opening a control g h k) ++ ts))) (in_payload_push a n k c rest place)
-    ∙ ap (λ m. in_runs j (runs control) ++ (all_at a (last_run (runs control)) ++ (all_at (a + 1) (opening a control g h k) ++ (in_payload a k rest ++ all_at n (payload_gain m k c rest))))) start
-    ∙ simp append_assoc
+    grind (arith, in_payload_push, append_assoc)
 
 reported_push : (p : Bool) (j b n : ℕ) (c : Column) (xs : List Stretch) → n ≡ j + total xs → b + length (gap_of (last xs)) ≡ n
     → reported_from j (after p c xs) ≡ reported_from j xs ++ all_at n (gains p b n c (last xs))
 unfolding runs in_gap
-reported_push true j b n c [] e f =
-    let same : n ≡ j = omega arith in
-    append-nil (all_at j (other_words j c)) ∙ ap (λ m. all_at m (other_words m c)) (sym same)
+reported_push true j b n c [] e f = grind (arith, append-nil)
 reported_push false j b n c [] e f = refl
 reported_push p j b n c (x ∷ []) e f = one_push p j b n c x (omega arith) f
 reported_push true j b n c (x ∷ (y ∷ ys)) e f =
@@ -172,8 +129,7 @@ heard_push cs c b f =
 
 -- the last stretch with one column more
 last_more : (x : Stretch) (xs : List Stretch) → is_some xs ≡ true → last (x ∷ xs) ≡ last xs
-last_more x [] e = cc
-last_more x (y ∷ ys) e = refl
+last_more x xs h = grind arith
 
 last_after : (p : Bool) (c : Column) (xs : List Stretch) → last (after p c xs) ≡ grown p c (last xs)
 last_after true c [] = refl

@@ -15,37 +15,23 @@ zero_less m = omega arith
 pub some_again : (bits k v n : ℕ) → changed_from bits k (replicate n v) ≡ some_changed bits k v n
 unfolding changed_from
 some_again bits k v zero = let e : min 0 k ≡ 0 = omega arith in ap (λ m. replicate m v ++ replicate (0 - m) (with_ctl bits v)) (sym e)
-some_again bits zero v (suc n) =
-    let a : min (suc n) 0 ≡ 0 = omega arith in
-    let b : min n 0 ≡ 0 = omega arith in
-    ap (λ vs. with_ctl bits v ∷ vs) (some_again bits zero v n ∙ ap (λ m. replicate m v ++ replicate (n - m) (with_ctl bits v)) b ∙ ap (λ m. replicate m (with_ctl bits v)) (zero_less n))
-    ∙ sym (ap (λ m. replicate m v ++ replicate (suc n - m) (with_ctl bits v)) a ∙ ap (λ m. replicate m (with_ctl bits v)) (zero_less (suc n)))
+some_again bits zero v (suc n) = grind (arith, zero_less, some_again bits zero v n)
 some_again bits (suc k) v (suc n) =
     let a : min (suc n) (suc k) ≡ suc (min n k) = omega arith in
-    let b : suc n - suc (min n k) ≡ n - min n k = omega arith in
-    ap (λ vs. v ∷ vs) (some_again bits k v n)
-    ∙ sym (ap (λ m. replicate m v ++ replicate (suc n - m) (with_ctl bits v)) a ∙ ap (λ m. v ∷ (replicate (min n k) v ++ replicate m (with_ctl bits v))) b)
+    grind (arith, some_again bits k v n)
 
 -- columns of one value more
 pub changed_more : (bits k : ℕ) (us : List ℕ) (v n : ℕ) → changed_from bits k (us ++ replicate n v) ≡ changed_from bits k us ++ some_changed bits (k - length us) v n
 unfolding changed_from
 changed_more bits k [] v n = let e : k ≡ k - 0 = omega arith in some_again bits k v n ∙ ap (λ m. some_changed bits m v n) e
-changed_more bits zero (u ∷ us) v n =
-    let e : 0 - length us ≡ 0 - length (u ∷ us) = omega arith in
-    ap (λ vs. with_ctl bits u ∷ vs) (changed_more bits zero us v n ∙ ap (λ m. changed_from bits zero us ++ some_changed bits m v n) e)
-changed_more bits (suc k) (u ∷ us) v n =
-    let e : k - length us ≡ suc k - length (u ∷ us) = omega arith in
-    ap (λ vs. u ∷ vs) (changed_more bits k us v n ∙ ap (λ m. changed_from bits k us ++ some_changed bits m v n) e)
+changed_more bits zero (u ∷ us) v n = grind (arith, changed_more bits zero us v n)
+changed_more bits (suc k) (u ∷ us) v n = grind (arith, changed_more bits k us v n)
 
 pub changed_both : (bits k : ℕ) (us ws : List ℕ) → changed_from bits k (us ++ ws) ≡ changed_from bits k us ++ changed_from bits (k - length us) ws
 unfolding changed_from
 changed_both bits k [] ws = ap (λ n. changed_from bits n ws) (sym (zero_less k))
-changed_both bits zero (u ∷ us) ws =
-    let e : 0 - length us ≡ 0 - length (u ∷ us) = omega arith in
-    ap (λ vs. with_ctl bits u ∷ vs) (changed_both bits zero us ws ∙ ap (λ m. changed_from bits zero us ++ changed_from bits m ws) e)
-changed_both bits (suc k) (u ∷ us) ws =
-    let e : k - length us ≡ suc k - length (u ∷ us) = omega arith in
-    ap (λ vs. u ∷ vs) (changed_both bits k us ws ∙ ap (λ m. changed_from bits k us ++ changed_from bits m ws) e)
+changed_both bits zero (u ∷ us) ws = grind (arith, changed_both bits zero us ws)
+changed_both bits (suc k) (u ∷ us) ws = grind (arith, changed_both bits k us ws)
 
 -- Preambles.
 
@@ -109,14 +95,6 @@ values_more rs r = values-append rs (r ∷ []) ∙ ap (λ us. values_of rs ++ us
 
 same_some : (x y : ControlRun) → Some x ≡ Some y → x ≡ y
 same_some x y e = cc
-
--- one run more is handed on
-pub run_more : (bits k left : ℕ) (before us taken more : List ℕ) (r : ControlRun) → taken ≡ before ++ changed_from bits k us → left ≡ k - length us → more ≡ taken ++ some_changed bits left r.value r.count
-    → more ≡ before ++ changed_from bits k (us ++ replicate r.count r.value)
-run_more bits k left before us taken more r e l m =
-    m ∙ ap₂ (λ (xs : List ℕ) (n : ℕ). xs ++ some_changed bits n r.value r.count) e l
-    ∙ append_assoc before (changed_from bits k us) (some_changed bits (k - length us) r.value r.count)
-    ∙ ap (λ xs. before ++ xs) (sym (changed_more bits k us r.value r.count))
 
 pub left_more : (k left now : ℕ) (us : List ℕ) (v n : ℕ) → left ≡ k - length us → now ≡ left - n → now ≡ k - length (us ++ replicate n v)
 left_more k left now us v n e d = let a = length-append us (replicate n v) in let b = length-replicate n v in omega arith

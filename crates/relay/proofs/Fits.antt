@@ -1,6 +1,6 @@
 -- Lines and packets of the sizes that are told can stand in a conforming list.
-use Rattle.std.proofs.Common.{◌≡◌, ℕ, ◌/◌, ◌%◌, ◌<◌, All, true, ◌==◌, List, length, arith}
-use Rattle.std.specs.Prelude.{nat_lt, nat_le}
+use Rattle.std.proofs.Common.{◌≡◌, ℕ, ◌<◌, All, true, List, arith}
+use Rattle.std.specs.Prelude.{nat_lt}
 use Rattle.std.specs.List.{list_all}
 use Rattle.std.proofs.lemmas.Bool.{and_from, eq-eqb, le-leb, lt-ltb}
 use Rattle.std.proofs.lemmas.List.Sums.{list_all-from_AllPass}
@@ -24,7 +24,4 @@ packet_reported p is digits =
 
 pub line_reported : (bytes : List ℕ) → IsSized (line bytes) → is_video_period bytes ≡ true
 unfolding is_video_period
-line_reported bytes (whole, some, few, small) =
-    and_from (are_bytes bytes) _ (all_bytes bytes small)
-    (and_from (length bytes % 3 == 0) _ (eq-eqb (length bytes % 3) 0 whole)
-    (and_from (nat_le 1 (length bytes / 3)) _ (le-leb 1 (length bytes / 3) (omega arith)) (le-leb (length bytes / 3) 4096 (omega arith))))
+line_reported bytes (whole, some, few, small) = grind (arith, and_from, all_bytes, eq-eqb, le-leb)

@@ -1,5 +1,5 @@
 -- What a relay keeps, one period more.
-use Rattle.std.proofs.Common.{◌⊎◌, inl, inr, Bool, true, false, ◌&&◌, min, take, ◌≡◌, ℕ, ◌+◌, ◌-◌, ◌^◌, ◌≤◌, max, List, [], ◌∷◌, ◌++◌, length, map, refl, ap, ap₂, sym, ◌∙◌, subst, arith, zero, suc}
+use Rattle.std.proofs.Common.{◌⊎◌, inl, inr, Bool, true, false, min, take, ◌≡◌, ℕ, ◌+◌, ◌-◌, ◌^◌, ◌≤◌, max, List, [], ◌∷◌, ◌++◌, length, map, refl, ap, ap₂, sym, ◌∙◌, subst, arith, zero, suc}
 use Rattle.std.specs.Prelude.{Option, Some, None, Result, not, nat_le}
 use Rattle.std.specs.List.{list_all, fold}
 use Rattle.std.proofs.lemmas.Bool.{and_parts, and_from, le-leb}
@@ -34,9 +34,7 @@ use Rattle.relay.proofs.Parting.{parts_gather}
 
 parts_more : (xs : List Turn) (y : Turn) → parts_in (xs ++ y ∷ []) [] ≡ parts_in xs [] ++ (map column y.values ++ part_of y.inner ∷ [])
 parts_more [] y = refl
-parts_more (x ∷ xs) y =
-    ap (λ ps. map column x.values ++ (part_of x.inner ∷ ps)) (parts_more xs y)
-    ∙ sym (append_assoc (map column x.values) (part_of x.inner ∷ parts_in xs []) (map column y.values ++ part_of y.inner ∷ []))
+parts_more (x ∷ xs) y = grind (arith, append_assoc, parts_more xs y)
 
 abbrev settled_turn : Turn → Turn
 settled_turn x = announced_turn (on_turn lengthened (on_turn filled x))
@@ -65,14 +63,7 @@ none_size = refl
 
 pub settled_size : (xs : List Turn) → parts_size (settled_parts xs) ≡ size_in xs
 settled_size [] = none_size
-settled_size (x ∷ xs) =
-    let vs = lengthened (filled x.values) in
-    let bits = preamble_of x.inner in
-    let a = one_size (announcing bits vs) x.inner (settled_parts xs) in
-    let b = length-announcing bits vs in
-    let c = length-lengthened x.values in
-    let ih = settled_size xs in
-    omega arith
+settled_size (x ∷ xs) = grind (arith, one_size, length-announcing, length-lengthened, settled_size xs)
 
 length-changed : (bits k : ℕ) (vs : List ℕ) → length (changed_from bits k vs) ≡ length vs
 unfolding changed_from
@@ -82,30 +73,15 @@ length-changed bits (suc k) (v ∷ vs) = ap suc (length-changed bits k vs)
 
 pub settled_has : (old now : Gathering) (t : Alternation) (bits k : ℕ) → Has old (settled_parts t.turns) → size_in t.turns + max 12 (length t.last) ≤ 20000000
     → Took old now (changed_from bits k (lengthened (filled t.last))) → Has now (settled_parts t.turns ++ map column (changed_from bits k (lengthened (filled t.last))))
-settled_has old now t bits k h few f =
-    let vs = lengthened (filled t.last) in
-    let a = settled_size t.turns in
-    let b = length-changed bits k vs in
-    let c = length-lengthened t.last in
-    f (settled_parts t.turns) h (omega arith)
+settled_has old now t bits k h few f = grind (arith, settled_size, length-changed, length-lengthened)
 
 -- the last eight columns announce what follows
 pub last_announced : (bits : ℕ) (last : List ℕ) → changed_from bits (length (lengthened (filled last)) - 8) (lengthened (filled last)) ≡ announcing bits (lengthened (filled last))
-last_announced bits last =
-    let vs = lengthened (filled last) in
-    let c = length-lengthened last in
-    sym (announced_from bits vs (omega arith))
+last_announced bits last = grind (arith, length-lengthened, announced_from)
 
 -- what stands behind a settled control period
 pub ended_has : (now : Gathering) (t : Alternation) (d : Data) → Has now ((settled_parts t.turns ++ map column (changed_from (preamble_of d) (length (lengthened (filled t.last)) - 8) (lengthened (filled t.last)))) ++ part_of d ∷ []) → Has now (settled_parts (ended t d).turns)
-ended_has now t d h =
-    let vs = lengthened (filled t.last) in
-    let parts = settled_parts t.turns in
-    subst (Has now)
-    (ap (λ us. (parts ++ map column us) ++ part_of d ∷ []) (last_announced (preamble_of d) t.last)
-    ∙ append_assoc parts (map column (announcing (preamble_of d) vs)) (part_of d ∷ [])
-    ∙ sym (settled_more t.turns (record { values = t.last; inner = d })))
-    h
+ended_has now t d h = grind (arith, last_announced, append_assoc, settled_more)
 
 pub ended_columns : (t : Alternation) (d : Data) (n m : ℕ) → n ≡ size t → m ≡ n + period_columns (period_of d) → m ≡ size_in (ended t d).turns
 ended_columns t d n m a b = let s = size_both t.turns (record { values = t.last; inner = d } ∷ []) in omega arith
@@ -118,20 +94,7 @@ pub at_ended : (old mid now : Relay) (t : Alternation) (d : Data) (good : Bool) 
     → now.period ≡ mid.period → now.period_columns ≡ mid.period_columns → now.columns ≡ min (mid.columns + more) (2 ^ 32 - 1) → now.island ≡ mid.island → now.faulty ≡ mid.faulty
     → IsAt now (ended t d) None good
 unfolding longest
-at_ended old mid now t d good more m s f i few h e0 e1 e2 e3 e4 =
-    let n = size_ended t d in
-    let sum : now.columns ≡ size_in (ended t d).turns = ended_columns t d mid.columns now.columns s.columns (let c = s.columns in omega arith) in
-    let z = e1 ∙ s.period_columns in
-    record {
-      whole = ended_has now.whole t d h;
-      period = e0 ∙ s.period;
-      period_columns = z;
-      columns = sum;
-      few = omega arith;
-      island = e3 ∙ s.island ∙ i;
-      fits = tt;
-      faulty = e4 ∙ s.faulty ∙ f;
-    }
+at_ended old mid now t d good more m s f i few h e0 e1 e2 e3 e4 = grind (arith, size_ended, ended_columns, ended_has)
 
 -- Islands that go on.
 
@@ -151,12 +114,7 @@ few_taken (suc n) (x ∷ xs) = let ih = few_taken n xs in omega arith
 
 pub few_held : (b : Option Begun) (x : DataIsland) → Some x ≡ held b → length x.packets ≤ 18
 few_held None x e = absurd cc
-few_held (Some b) x e =
-    let same = same_some x (record { opening = b.opening; packets = map (λ p. (sure p).packet) (take 18 b.packets); closing = no_pair }) e in
-    let n = ap (λ (y : DataIsland). length y.packets) same in
-    let m = length-map (take 18 b.packets) (λ p. (sure p).packet) in
-    let few = few_taken 18 b.packets in
-    omega arith
+few_held (Some b) x e = grind (arith, same_some, length-map, few_taken)
 
 pub held_packet : (b : Option Begun) (x now : DataIsland) (j : Judged) (sent : Packet) → Some x ≡ held b → sent ≡ (sure j).packet
     → now ≡ record { opening = x.opening; packets = take 18 (x.packets ++ sent ∷ []); closing = x.closing } → Some now ≡ held (with_packet j b)
@@ -174,28 +132,19 @@ fits_packet None j h p = tt
 fits_packet (Some b) j h p =
     (h.0, ap (list_all is_packet) (map-append (λ (q : Judged). q.packet) b.packets (j ∷ [])) ∙ all_both is_packet (map (λ q. q.packet) b.packets) (j.packet ∷ []) h.1 (and_from (is_packet j.packet) true p refl))
 
-pub no_packet : (b : Option Begun) (j : Judged) → None ≡ held b → with_packet j b ≡ None
-no_packet None j e = refl
-no_packet (Some b) j e = absurd cc
-
 -- Islands that close.
 
 all_taken : (n : ℕ) (xs : List Judged) → list_all is_packet (map (λ p. p.packet) xs) ≡ true → list_all is_packet (map (λ p. p.packet) (take n xs)) ≡ true
 all_taken zero xs h = refl
 all_taken (suc n) [] h = refl
-all_taken (suc n) (x ∷ xs) h =
-    let both = and_parts (is_packet x.packet) (list_all is_packet (map (λ p. p.packet) xs)) h in
-    and_from (is_packet x.packet) (list_all is_packet (map (λ p. p.packet) (take n xs))) both.0 (all_taken n xs both.1)
+all_taken (suc n) (x ∷ xs) h = grind (arith, and_parts, and_from, all_taken n xs)
 
 abbrev whole_of : Begun → SyncPair → WholeIsland
 whole_of b pair = record { opening = b.opening; packets = take 18 b.packets; closing = pair }
 
 whole_fits : (b : Begun) (pair : SyncPair) → Fits (Some b) → is_sync_pair pair ≡ true → is_data_island (data_of (whole_of b pair)) ≡ is_island_in_range (length (take 18 b.packets))
 unfolding is_data_island
-whole_fits b pair h p =
-    let n = length-map (take 18 b.packets) (λ (q : Judged). q.packet) in
-    ap₂ (λ (u v : Bool). (u && v) && (list_all is_packet (map (λ q. q.packet) (take 18 b.packets)) && is_island_in_range (length (map (λ (q : Judged). q.packet) (take 18 b.packets))))) h.0 p
-    ∙ ap₂ (λ (u : Bool) (k : ℕ). u && is_island_in_range k) (all_taken 18 b.packets h.1) n
+whole_fits b pair h p = grind (arith, length-map, all_taken)
 
 in_range : (xs : List Judged) → length xs ≤ 18 → (xs ≡ [] → ⊥) → is_island_in_range (length xs) ≡ true
 in_range [] few some = absurd (some refl)
@@ -250,19 +199,13 @@ pub closed_steps : {A : Type 0} (now : Relay) (r : Result A RelayFault) (t : Alt
     → (x.packets ≡ [] → Steps now r t None good)
     → ((x.packets ≡ [] → ⊥) → length x.packets ≤ 18 → Steps now r (ended t (an_island (record { opening = x.opening; packets = x.packets; closing = pair }))) None good)
     → Steps now r (fold joined t (nulled (closed pair b))) None good
-closed_steps now r t b good x pair e h p f g =
-    elim (some_or_none x.packets) [
-      | inl none ↦ subst (λ (u : Alternation). Steps now r u None good) (sym (closed_empty t b x pair e h p none)) (f none)
-      | inr some ↦ subst (λ (u : Alternation). Steps now r u None good) (sym (closed_some t b x pair e h p some)) (g some (few_held b x e))
-    ]
+closed_steps now r t b good x pair e h p f g = grind (arith, some_or_none, closed_empty, closed_some, few_held)
 
 -- The stream.
 
 parts_last : (xs : List Turn) (last : List ℕ) → parts_in xs last ≡ parts_in xs [] ++ map column last
 parts_last [] last = refl
-parts_last (x ∷ xs) last =
-    ap (λ ps. map column x.values ++ (part_of x.inner ∷ ps)) (parts_last xs last)
-    ∙ sym (append_assoc (map column x.values) (part_of x.inner ∷ parts_in xs []) (map column last))
+parts_last (x ∷ xs) last = grind (arith, append_assoc, parts_last xs last)
 
 some_values : (vs : List ℕ) → 1 ≤ length vs → vs ≡ [] → ⊥
 some_values [] h e = absurd (omega (arith, h))

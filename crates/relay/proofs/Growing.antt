@@ -1,12 +1,12 @@
 -- How many columns what is relayed takes.
-use Rattle.std.proofs.Common.{◌≡◌, ℕ, ◌+◌, ◌≤◌, List, [], ◌∷◌, ◌++◌, length, map, replicate, ap, ◌∙◌, arith}
+use Rattle.std.proofs.Common.{◌≡◌, ℕ, ◌+◌, ◌≤◌, List, [], ◌∷◌, ◌++◌, length, map, replicate, ap, arith}
 use Rattle.std.specs.List.{fold}
 use Rattle.std.proofs.lemmas.List.{length-append}
 use Rattle.island_pack.specs.Periods.{control, period_columns, columns_of}
 use Rattle.island_pack.specs.Runs.{longest}
 use Rattle.island_pack.proofs.Runs.{values_longest}
-use Rattle.relay.specs.Relayed.{RelayedPart, some_columns, some_line, some_island, data_of, without_faults, kept_from, nulled, Data, a_line, an_island, Turn, Alternation, ended, joined, on_turn, filled, lengthened, announcing, preamble_of, announced_turn, period_of, periods_in, settled}
-use Rattle.relay.specs.Laws.{turns_in, begun_in, ColumnsGrow}
+use Rattle.relay.specs.Relayed.{RelayedPart, some_columns, some_line, some_island, data_of, Data, a_line, an_island, Turn, Alternation, ended, joined, on_turn, filled, lengthened, announced_turn, period_of, periods_in, settled}
+use Rattle.relay.specs.Laws.{ColumnsGrow}
 use Rattle.relay.specs.Sizes.{room, size_in, size}
 use Rattle.relay.proofs.Conforming.{length-lengthened, length-announcing}
 use Rattle.relay.proofs.Gaining.{gained}
@@ -19,14 +19,7 @@ columns_in : (xs : List Turn) (last : List ℕ)
     → columns_of (periods_in (map announced_turn (map (on_turn lengthened) (map (on_turn filled) xs))) (lengthened (filled last))) ≡ size_in xs + room last
 unfolding columns_of
 columns_in [] last = let a = control_columns (lengthened (filled last)) in let b = length-lengthened last in omega arith
-columns_in (x ∷ xs) last =
-    let vs = lengthened (filled x.values) in
-    let bits = preamble_of x.inner in
-    let a = control_columns (announcing bits vs) in
-    let b = length-announcing bits vs in
-    let c = length-lengthened x.values in
-    let ih = columns_in xs last in
-    omega arith
+columns_in (x ∷ xs) last = grind (arith, control_columns, length-announcing, length-lengthened, columns_in xs last)
 
 pub columns_settled : (t : Alternation) → columns_of (settled t) ≡ size t
 unfolding settled
@@ -52,8 +45,4 @@ pub columns_grow : ColumnsGrow
 columns_grow reported more =
     let g = gained reported more in
     let h = gained (reported ++ more) [] in
-    let ks = nulled (kept_from (begun_in reported) (without_faults more)) in
-    let a = ap columns_of g.relayed_is ∙ columns_settled (turns_in reported) in
-    let b = ap columns_of h.relayed_is ∙ columns_settled (turns_in (reported ++ more)) ∙ ap size g.turns in
-    let c = size_fold ks (turns_in reported) in
-    omega arith
+    grind (arith, columns_settled, size_fold)

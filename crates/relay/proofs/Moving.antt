@@ -43,11 +43,7 @@ faultless_more : (reported : List Event) (x : Event) → faultless (reported ++ 
 faultless_more reported x = list_all-append (λ t. not (is_fault_event t)) reported (x ∷ []) ∙ and_true (faultless reported) (not (is_fault_event x))
 
 pub stands_after : (relay : Relay) (reported : List Event) (x : Event) → IsAt relay (turns_after (turns_in reported) (begun_in reported) x) (island_after (begun_in reported) x) (good_after (faultless reported) x) → RelayRepresents relay (reported ++ x ∷ [])
-stands_after relay reported x h =
-    let g = gained reported (x ∷ []) in
-    subst (λ (good : Bool). IsAt relay (turns_in (reported ++ x ∷ [])) (begun_in (reported ++ x ∷ [])) good) (sym (faultless_more reported x))
-    (subst (λ (b : Option Begun). IsAt relay (turns_in (reported ++ x ∷ [])) b (good_after (faultless reported) x)) (sym g.island)
-    (subst (λ (t : Alternation). IsAt relay t (island_after (begun_in reported) x) (good_after (faultless reported) x)) (sym g.turns) h))
+stands_after relay reported x h = grind (arith, gained, faultless_more)
 
 pub long_after : (reported : List Event) (x : Event) → 20000000 < size (turns_after (turns_in reported) (begun_in reported) x) → 20000000 < columns_of (relayed (reported ++ x ∷ []))
 long_after reported x h =

@@ -1,5 +1,5 @@
 -- Periods of turns, as gathered parts.
-use Rattle.std.proofs.Common.{◌≡◌, ℕ, List, [], ◌∷◌, ◌++◌, map, refl, ap, sym, ◌∙◌}
+use Rattle.std.proofs.Common.{arith, ◌≡◌, ℕ, List, [], ◌∷◌, ◌++◌, map, refl, ap, sym, ◌∙◌}
 use Rattle.std.proofs.lemmas.List.{append-nil}
 use Rattle.island_pack.specs.Periods.{Period, control, video, island}
 use Rattle.island_pack.specs.Runs.{longest}
@@ -53,10 +53,7 @@ none_gather = refl
 turns_gather : (xs : List Turn) (last : List ℕ) → AreSome xs → (last ≡ [] → ⊥) → periods_in xs last ≡ gathered (parts_in xs last)
 turns_gather [] last h some =
     ap (λ ps. control (longest last) ∷ ps) (sym none_gather) ∙ sym (some_gather last [] some none_apart) ∙ ap gathered (append-nil (map column last))
-turns_gather (x ∷ xs) last h some =
-    ap (λ ps. control (longest x.values) ∷ (period_of x.inner ∷ ps)) (turns_gather xs last h.1 some)
-    ∙ ap (λ ps. control (longest x.values) ∷ ps) (sym (part_gathers x.inner (parts_in xs last)))
-    ∙ sym (some_gather x.values (part_of x.inner ∷ parts_in xs last) h.0 (part_apart x.inner (parts_in xs last)))
+turns_gather (x ∷ xs) last h some = grind (arith, part_gathers, some_gather, part_apart, turns_gather xs last)
 
 pub parts_gather : PartsGather
 parts_gather t h some = turns_gather t.turns t.last h some

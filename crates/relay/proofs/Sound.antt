@@ -1,12 +1,11 @@
 -- What is kept is sound: it can stand in a conforming list.
-use Rattle.std.proofs.Common.{◌≡◌, ℕ, suc, Bool, true, false, cond, ◌&&◌, ◌==◌, List, [], ◌∷◌, ◌++◌, length, map, take, replicate, refl, ap, sym, subst}
-use Rattle.std.specs.Prelude.{Option, Some, None, nat_lt, nat_le}
+use Rattle.std.proofs.Common.{arith, ◌≡◌, ℕ, suc, Bool, true, false, cond, List, [], ◌∷◌, ◌++◌, length, map, refl, ap}
+use Rattle.std.specs.Prelude.{Option, Some, None, nat_lt}
 use Rattle.std.specs.List.{list_all, fold}
 use Rattle.std.proofs.lemmas.Bool.{and_parts, and_from}
-use Rattle.island_pack.specs.Conforming.{is_run, are_bytes, is_video_period, is_sync_pair, is_packet, is_data_island}
-use Rattle.island_pack.specs.Ranges.{is_island_in_range}
+use Rattle.island_pack.specs.Conforming.{is_run, is_video_period, is_packet, is_data_island}
 use Rattle.island_pack.specs.declared.packet.Packet.{Packet}
-use Rattle.relay.specs.Relayed.{Said, columns, pixels, opens, carries, closes, ends, Judged, Begun, WholeIsland, data_of, RelayedPart, some_columns, some_line, some_island, where_so, closed, adds, goes_on, kept_from, has_lost, null_packet, sure, with_nulls, nulled, Data, a_line, an_island, Turn, Alternation, ended, joined, none, gathered}
+use Rattle.relay.specs.Relayed.{Said, columns, pixels, opens, carries, closes, ends, Judged, Begun, WholeIsland, data_of, RelayedPart, some_columns, some_line, some_island, where_so, closed, adds, goes_on, kept_from, null_packet, sure, with_nulls, nulled, Data, a_line, an_island, Turn, Alternation, ended, joined, none, gathered}
 use Rattle.relay.proofs.Lists.{all_both, all_same}
 
 abbrev pub IsSound : RelayedPart → Type 0
@@ -30,9 +29,7 @@ sound_where false k f = tt
 
 sound_closed : (pair : _) (b : Option Begun) → AreSound (closed pair b)
 sound_closed pair None = tt
-sound_closed pair (Some b) =
-    let x : WholeIsland = record { opening = b.opening; packets = take 18 b.packets; closing = pair } in
-    sound_where (is_data_island (data_of x)) (some_island x) (λ h. h)
+sound_closed pair (Some b) = grind (arith, sound_where)
 
 sound_adds : (b : Option Begun) (x : Said) → AreSound (adds b x)
 sound_adds b (columns r) = sound_where (is_run r) (some_columns r) (λ h. h)
@@ -51,10 +48,7 @@ sound_kept b (x ∷ xs) = sound_both (adds b x) (kept_from (goes_on x b) xs) (so
 
 sound_null : (p : Packet) → is_packet p ≡ true → is_packet (null_packet p.sync) ≡ true
 unfolding is_packet
-sound_null p h =
-    let parts = and_parts ((length p.header == 3) && are_bytes p.header) _ h in
-    let rest = and_parts ((length p.bodies == 28) && are_bytes p.bodies) _ parts.1 in
-    rest.1
+sound_null p h = grind (arith, and_parts)
 
 sound_sure : (q : Bool) (p : Packet) → is_packet p ≡ true → is_packet (cond q (null_packet p.sync) p) ≡ true
 sound_sure true p h = sound_null p h
@@ -65,9 +59,7 @@ packets_of ps = map (λ p. p.packet) ps
 
 sound_packets : (ps : List Judged) → list_all is_packet (packets_of ps) ≡ true → list_all is_packet (packets_of (map sure ps)) ≡ true
 sound_packets [] h = refl
-sound_packets (p ∷ ps) h =
-    let both = and_parts (is_packet p.packet) (list_all is_packet (packets_of ps)) h in
-    and_from _ (list_all is_packet (packets_of (map sure ps))) (sound_sure (has_lost p.verdicts) p.packet both.0) (sound_packets ps both.1)
+sound_packets (p ∷ ps) h = grind (arith, and_parts, and_from, sound_sure, sound_packets ps)
 
 as_many : (ps : List Judged) → length (packets_of (map sure ps)) ≡ length (packets_of ps)
 as_many [] = refl
@@ -75,12 +67,7 @@ as_many (p ∷ ps) = ap (λ n. suc n) (as_many ps)
 
 sound_island : (x : WholeIsland) → is_data_island (data_of x) ≡ true → IsSound (with_nulls (some_island x))
 unfolding is_data_island
-sound_island x h =
-    let guards = is_sync_pair x.opening && is_sync_pair x.closing in
-    let both = and_parts guards _ h in
-    let rest = and_parts (list_all is_packet (packets_of x.packets)) (is_island_in_range (length (packets_of x.packets))) both.1 in
-    and_from guards _ both.0
-    (and_from (list_all is_packet (packets_of (map sure x.packets))) _ (sound_packets x.packets rest.0) (subst (λ n. is_island_in_range n ≡ true) (sym (as_many x.packets)) rest.1))
+sound_island x h = grind (arith, and_parts, and_from, sound_packets, as_many)
 
 sound_with : (k : RelayedPart) → IsSound k → IsSound (with_nulls k)
 sound_with (some_columns r) h = h
@@ -117,9 +104,7 @@ sound_ended : (t : Alternation) (d : Data) → AreGathered t → IsInner d → A
 sound_ended t d h i = record { turns = turns_both t.turns (record { values = t.last; inner = d } ∷ []) h.turns (h.last, i, tt); last = refl }
 
 pub sound_joined : (t : Alternation) (k : RelayedPart) → AreGathered t → IsSound k → AreGathered (joined t k)
-sound_joined t (some_columns r) h s =
-    let both = and_parts (nat_lt r.value 64) (nat_le 1 r.count) s in
-    record { turns = h.turns; last = all_both (λ v. nat_lt v 64) t.last (replicate r.count r.value) h.last (all_same (λ v. nat_lt v 64) r.count r.value both.0) }
+sound_joined t (some_columns r) h s = grind (arith, and_parts, all_both, all_same)
 sound_joined t (some_line bytes) h s = sound_ended t (a_line bytes) h s
 sound_joined t (some_island x) h s = sound_ended t (an_island (data_of x)) h s
 

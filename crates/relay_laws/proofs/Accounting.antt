@@ -1,23 +1,21 @@
 -- What is relayed of an account.
-use Rattle.std.proofs.Common.{◌≡◌, ◌⊎◌, inl, inr, ℕ, zero, suc, ◌+◌, ◌-◌, ◌*◌, ◌/◌, ◌<◌, ◌≤◌, Bool, true, false, cond, ◌==◌, List, [], ◌∷◌, ◌++◌, length, map, take, drop, refl, ap, ap₂, sym, ◌∙◌, arith}
+use Rattle.std.proofs.Common.{◌≡◌, ◌⊎◌, inl, inr, ℕ, zero, suc, ◌+◌, ◌-◌, ◌*◌, ◌/◌, ◌<◌, ◌≤◌, Bool, true, false, cond, List, [], ◌∷◌, ◌++◌, length, map, take, drop, refl, ap, ap₂, sym, ◌∙◌, arith}
 use Rattle.std.specs.Prelude.{Option, Some, None, nat_lt, nat_le}
 use Rattle.std.specs.List.{list_all}
 use Rattle.std.proofs.lemmas.Bool.{cases_lt, and_parts, and_from, lt-ltb, le-ltb, le-leb, lt-leb, leb-true}
 use Rattle.std.proofs.lemmas.List.{append_assoc, append-nil, length-take-le, length-drop, drop-drop, take_all}
 use Rattle.tmds_word.specs.Column.{Column}
-use Rattle.terc4.specs.Columns.{is_video_guard, is_island_guard}
-use Rattle.island_pack.specs.Periods.{ControlRun, SyncPair, DataIsland, Period, control, video, island, values_of, pixels_of, period_columns, columns_of, has_preamble as announces}
-use Rattle.island_pack.specs.Conforming.{is_run, is_control_period, is_video_period, is_data_island, conforms}
+use Rattle.island_pack.specs.Periods.{ControlRun, SyncPair, DataIsland, Period, control, video, island, pixels_of, period_columns, columns_of}
+use Rattle.island_pack.specs.Conforming.{is_run, is_video_period, is_data_island, conforms}
 use Rattle.island_pack.specs.Repaired.{verdicts_of}
 use Rattle.island_pack.specs.declared.packet.Packet.{Packet}
-use Rattle.period_grammar.specs.Column.{value_of, sync_digit}
-use Rattle.period_grammar.specs.Events.{Event, run, line, cut, open_island, event_of}
+use Rattle.period_grammar.specs.Events.{Event, run, line, cut, event_of}
 use Rattle.period_grammar.specs.Cut.{Run, columns as same_columns, value, in_front, before_runs, runs}
-use Rattle.period_grammar.specs.Island.{wrong_guards, packet_faults}
-use Rattle.period_grammar.specs.Heard.{words, has_preamble, codes_of}
-use Rattle.link_laws.specs.Account.{runs_row, control_row, wrong_preamble, open_video_row, open_island_row, close_island_row, pixel_bytes, video_row, video_reported, packet_row, packet_reported, packets_reported, island_reported, period_row, account_from, account_at, account}
+use Rattle.period_grammar.specs.Island.{packet_faults}
+use Rattle.period_grammar.specs.Heard.{words, codes_of}
+use Rattle.link_laws.specs.Account.{runs_row, control_row, open_video_row, open_island_row, close_island_row, pixel_bytes, video_row, video_reported, packet_row, packet_reported, packets_reported, island_reported, period_row, account_from, account_at, account}
 use Rattle.relay_laws.proofs.Below.{Facts}
-use Rattle.relay.specs.Relayed.{Said, columns, pixels, opens, carries, closes, ends, without_faults, Judged, Begun, WholeIsland, data_of, RelayedPart, some_columns, some_line, some_island, where_so, closed, kept_from, kept, conformed, relayed}
+use Rattle.relay.specs.Relayed.{Said, columns, pixels, opens, carries, closes, ends, without_faults, Judged, Begun, RelayedPart, some_columns, some_line, some_island, where_so, closed, kept_from, kept, conformed, relayed}
 use Rattle.relay.specs.Laws.{begun_after}
 use Rattle.relay_laws.specs.Received.{runs_kept, packets_received, digits_of, island_received, period_received, received_from, received_at, reception, RelayedAccount}
 use Rattle.relay.proofs.Gaining.{faults_both, kept_both}
@@ -44,12 +42,10 @@ one_run : (v n : ℕ) → v < 64 → 1 ≤ n → is_run (record { value = v; cou
 one_run v n h k = and_from (nat_lt v 64) _ (lt-ltb v 64 h) (le-leb 1 n k)
 
 front_runs : (q : Bool) (c : Column) (r : Run) (rs : List Run) → Facts → AreRuns (r ∷ rs) → AreRuns (in_front q c r rs)
-front_runs true c (same_columns v cs) rs f h = (and_from (nat_lt v 64) _ (and_parts (nat_lt v 64) _ h.0).0 (le-leb 1 (length (c ∷ cs)) (omega arith)), h.1)
-front_runs false c r rs f h = (one_run (value_of c) 1 (f.value c) (omega arith), h)
+front_runs q c r rs h k = grind (arith, and_from, and_parts, le-leb, one_run)
 
 before_sound : (c : Column) (rs : List Run) → Facts → AreRuns rs → AreRuns (before_runs c rs)
-before_sound c [] f h = (one_run (value_of c) 1 (f.value c) (omega arith), tt)
-before_sound c (r ∷ rs) f h = front_runs (value_of c == value r) c r rs f h
+before_sound c rs h k = grind (arith, one_run, front_runs)
 
 are_runs : Facts → (cs : List Column) → AreRuns (runs cs)
 unfolding runs
@@ -89,9 +85,7 @@ control_ends j cs = ap (begun_after None) (runs_said j (runs cs)) ∙ runs_end (
 
 quiet_video : (b : ℕ) (before rs : List Column) → Quiet (open_video_row b before rs)
 unfolding open_video_row without_faults
-quiet_video b before [] = refl
-quiet_video b before (g ∷ []) = refl
-quiet_video b before (g ∷ (h ∷ rs)) = quiet_both (wrong_preamble b 1 before) (wrong_guards is_video_guard b g h) (quiet_preamble (has_preamble 1 before) b) (quiet_guards is_video_guard b g h)
+quiet_video b before rs = grind (arith, quiet_both, quiet_preamble, quiet_guards)
 
 -- what is said of a line that came whole or not
 abbrev line_said : Bool → List ℕ → List Said
@@ -100,23 +94,17 @@ line_said false bytes = ends ∷ []
 
 reported_line : (q : Bool) (b s : ℕ) (bytes : List ℕ) (rs : List Column) → without_faults (cond q (line bytes ∷ codes_of s rs) (cut b ∷ [])) ≡ line_said q bytes
 unfolding without_faults
-reported_line true b s bytes rs = ap (λ xs. pixels bytes ∷ xs) (quiet_codes s rs)
-reported_line false b s bytes rs = refl
+reported_line q b s bytes rs = grind (arith, quiet_codes)
 
 line_keeps : (q : Bool) (bytes : List ℕ) → is_video_period bytes ≡ true → kept_from None (line_said q bytes) ≡ cond q (some_line bytes ∷ []) []
 unfolding kept_from
-line_keeps true bytes h = ap (λ p. where_so p (some_line bytes) ++ []) h
-line_keeps false bytes h = refl
+line_keeps q bytes h = grind arith
 
 line_ends : (q : Bool) (bytes : List ℕ) → begun_after None (line_said q bytes) ≡ None
-line_ends true bytes = refl
-line_ends false bytes = refl
+line_ends q bytes = grind arith
 
 same_lt : (a b i : ℕ) → a ≡ b → nat_lt a i ≡ nat_lt (2 + b) (suc (suc i))
-same_lt a b i e = elim (cases_lt a i) [
-  | inl lt ↦ lt-ltb a i lt ∙ sym (lt-ltb (2 + b) (suc (suc i)) (omega arith))
-  | inr le ↦ le-ltb a i le ∙ sym (le-ltb (2 + b) (suc (suc i)) (omega arith))
-]
+same_lt a b i e = grind (arith, cases_lt, lt-ltb, le-ltb)
 
 pub pixel_count : (bytes : List ℕ) → length (pixels_of bytes) ≡ length bytes / 3
 unfolding pixels_of
@@ -128,12 +116,7 @@ pixel_count (r ∷ (g ∷ (b ∷ rest))) = let n = pixel_count rest in omega ari
 video_said : (b i : ℕ) (before : List Column) (bytes : List ℕ) (ss rs : List Column)
     → without_faults (video_reported b (suc (suc i)) before (pixels_of bytes) ss rs) ≡ line_said (nat_lt (2 + length bytes / 3) (suc (suc i))) (pixel_bytes (pixels_of bytes) (drop 2 ss) (drop 2 rs))
 unfolding video_reported video_row
-video_said b i before bytes ss rs =
-    let px = pixels_of bytes in
-    let received_bytes = pixel_bytes px (drop 2 ss) (drop 2 rs) in
-    quiet_before (open_video_row b before rs) (cond (nat_lt (length px) i) (line received_bytes ∷ codes_of (b + 2) (drop 2 rs)) (cut (b + 2) ∷ [])) (quiet_video b before rs)
-    ∙ reported_line (nat_lt (length px) i) (b + 2) (b + 2) received_bytes (drop 2 rs)
-    ∙ ap (λ q. line_said q received_bytes) (same_lt (length px) (length bytes / 3) i (pixel_count bytes))
+video_said b i before bytes ss rs = grind (arith, quiet_before, quiet_video, reported_line, same_lt, pixel_count)
 
 -- What is kept of a period's row, and that no island goes on behind it or nothing came of the next period.
 
@@ -151,33 +134,17 @@ video_is_row : Facts → (j m : ℕ) (before : List Column) (bytes : List ℕ) (
 unfolding period_row video_reported without_faults kept_from period_columns
 video_is_row f j zero before bytes ss rs h a b = record { keeps_it = video_whole zero bytes ss rs false (le-ltb _ 0 (omega arith)); over = inl refl }
 video_is_row f j (suc zero) before bytes ss rs h a b = record { keeps_it = video_whole 1 bytes ss rs false (le-ltb _ 1 (omega arith)); over = inl refl }
-video_is_row f j (suc (suc i)) before bytes ss rs h a b =
-    let q = nat_lt (2 + length bytes / 3) (suc (suc i)) in
-    let received_bytes = pixel_bytes (pixels_of bytes) (drop 2 ss) (drop 2 rs) in
-    let ds = length-drop 2 ss in
-    let dr = length-drop 2 rs in
-    let fits = line_fits f bytes (drop 2 ss) (drop 2 rs) h (omega arith) (omega arith) in
-    let s = video_said j i before bytes ss rs in
-    record {
-      keeps_it = ap (kept_from None) s ∙ line_keeps q received_bytes fits ∙ video_whole (suc (suc i)) bytes ss rs q refl;
-      over = inl (ap (begun_after None) s ∙ line_ends q received_bytes);
-    }
+video_is_row f j (suc (suc i)) before bytes ss rs h a b = grind (arith, length-drop, line_fits, video_said, line_keeps, video_whole, line_ends)
 
 -- Islands.
 
 open_said : (b : ℕ) (before rs : List Column) → 2 ≤ length rs → without_faults (open_island_row b before rs) ≡ opens (digits_of rs) ∷ []
 unfolding open_island_row without_faults digits_of
-open_said b before [] long = absurd (omega (arith, long))
-open_said b before (g ∷ []) long = absurd (omega (arith, long))
-open_said b before (g ∷ (h ∷ rs)) long =
-    quiet_before (wrong_preamble b 5 before) (open_island (sync_digit g.blue) (sync_digit h.blue) ∷ wrong_guards is_island_guard b g h) (quiet_preamble (has_preamble 5 before) b)
-    ∙ ap (λ xs. opens (record { first = sync_digit g.blue; second = sync_digit h.blue }) ∷ xs) (quiet_guards is_island_guard b g h)
+open_said b before rs h = grind (arith, quiet_before, quiet_preamble, quiet_guards)
 
 close_said : (s : ℕ) (rs : List Column) → 2 ≤ length rs → without_faults (close_island_row s rs) ≡ closes (digits_of rs) ∷ []
 unfolding close_island_row without_faults digits_of
-close_said s [] long = absurd (omega (arith, long))
-close_said s (c ∷ []) long = absurd (omega (arith, long))
-close_said s (c ∷ (d ∷ rs)) long = ap (λ xs. closes (record { first = sync_digit c.blue; second = sync_digit d.blue }) ∷ xs) (quiet_guards is_island_guard s c d)
+close_said s rs h = grind (arith, quiet_guards)
 
 abbrev judged : Packet → List Column → List Column → Judged
 judged p ss rs = record { packet = packet_row p (take 32 ss) (take 32 rs); verdicts = verdicts_of (take 32 rs) }
@@ -195,9 +162,6 @@ with_all b js = record { opening = b.opening; packets = b.packets ++ js }
 nothing_more : (b : Begun) → b ≡ with_all b []
 nothing_more b = ap (λ (js : List Judged). record { opening = b.opening; packets = js }) (sym (append-nil b.packets))
 
-abbrev at_close : ℕ → List Packet → List Column → SyncPair
-at_close n ps rs = digits_of (drop (32 * length ps) rs)
-
 closing_keeps : (b : Begun) (pair : SyncPair) → kept_from (Some b) (closes pair ∷ []) ≡ closed pair (Some b)
 unfolding kept_from
 closing_keeps b pair = append-nil (closed pair (Some b))
@@ -211,12 +175,7 @@ packets_whole : (s : ℕ) (ps : List Packet) (i : ℕ) (ss rs : List Column) (b 
     → (keeps (Some b) (packets_reported cut s ps i ss rs) ≡ closed (digits_of (drop (32 * length ps) rs)) (Some (with_all b (packets_received ps ss rs))))
     × (after (Some b) (packets_reported cut s ps i ss rs) ≡ None)
 unfolding packets_reported packets_received
-packets_whole s [] i ss rs b long all =
-    let e : without_faults (cond (nat_le 2 i) (close_island_row s rs) (cut s ∷ [])) ≡ closes (digits_of rs) ∷ [] =
-    ap (λ q. without_faults (cond q (close_island_row s rs) (cut s ∷ []))) (le-leb 2 i (omega arith)) ∙ close_said s rs (omega arith) in (
-      ap (kept_from (Some b)) e ∙ closing_keeps b (digits_of rs) ∙ ap (λ c. closed (digits_of rs) (Some c)) (nothing_more b),
-      ap (begun_after (Some b)) e,
-    )
+packets_whole s [] i ss rs b long all = grind (arith, le-leb, close_said, closing_keeps, nothing_more)
 packets_whole s (p ∷ ps) i ss rs b long all =
     let rest = packets_reported cut (s + 32) ps (i - 32) (drop 32 ss) (drop 32 rs) in
     let j = judged p ss rs in
@@ -254,9 +213,7 @@ closed_whole f x ss rs h a b =
     let js = packets_received x.packets (drop 2 ss) (drop 2 rs) in
     let n = as_many_packets x.packets (drop 2 ss) (drop 2 rs) in
     let few = leb-true (length x.packets) 18 (few_packets x h) in
-    let whole : List Judged → WholeIsland = λ ks. record { opening = digits_of rs; packets = ks; closing = digits_of (drop (32 * length x.packets) (drop 2 rs)) } in
-    ap (λ ks. where_so (is_data_island (data_of (whole ks))) (some_island (whole ks))) (first_packets js (omega arith))
-    ∙ ap (λ q. where_so q (some_island (whole js))) (island_fits f x ss rs h a b)
+    grind (arith, first_packets, island_fits)
 
 -- the row of an island of which two columns came, or more
 island_opens : (j i : ℕ) (before : List Column) (x : DataIsland) (ss rs : List Column) → 2 ≤ length rs
@@ -284,18 +241,11 @@ island_row_by f j i before x ss rs h a b =
     let d = length-drop 2 rs in
     let start : Begun = record { opening = digits_of rs; packets = [] } in
     elim (cases_lt i (n + 2)) [
-      | inl part ↦ record {
-        keeps_it =
-            ap (kept_from None) e ∙ opening_keeps (digits_of rs) rest ∙ packets_part (j + 2) x.packets i (drop 2 ss) (drop 2 rs) start part
-            ∙ sym (island_by (suc (suc i)) x ss rs false (lt-leb (4 + n) (suc (suc i)) (omega arith)));
-        over = inr (omega arith);
-      }
+      | inl part ↦ grind (arith, opening_keeps, packets_part, island_by, lt-leb)
       | inr all ↦
           let w = packets_whole (j + 2) x.packets i (drop 2 ss) (drop 2 rs) start (omega arith) all in
           record {
-            keeps_it =
-                ap (kept_from None) e ∙ opening_keeps (digits_of rs) rest ∙ w.0 ∙ closed_whole f x ss rs h a b
-                ∙ sym (island_by (suc (suc i)) x ss rs true (le-leb (4 + n) (suc (suc i)) (omega arith)));
+            keeps_it = grind (arith, opening_keeps, closed_whole, island_by, le-leb);
             over = inl (ap (begun_after None) e ∙ w.1);
           }
     ]
@@ -323,33 +273,21 @@ is_row f j m before (island x) ss rs h a b = island_is_row f j m before x ss rs 
 
 no_row : (j : ℕ) (before : List Column) (p : Period) (ss rs : List Column) → period_row j 0 before p ss rs ≡ []
 unfolding period_row runs_row runs video_reported island_reported
-no_row j before (control sent) ss rs = refl
-no_row j before (video bytes) ss rs = refl
-no_row j before (island x) ss rs = refl
+no_row j before p ss rs = grind arith
 
 none_reported : (ps : List Period) (j m : ℕ) (before ss rs : List Column) → m ≡ 0 → account_from j m before ps ss rs ≡ []
 unfolding account_from
 none_reported [] j m before ss rs e = refl
-none_reported (p ∷ ps) j m before ss rs e =
-    let n = period_columns p in
-    ap (λ k. period_row j k before p (take n ss) (take n rs) ++ account_from (j + n) (m - n) (take n rs) ps (drop n ss) (drop n rs)) e
-    ∙ ap (λ ts. ts ++ account_from (j + n) (m - n) (take n rs) ps (drop n ss) (drop n rs)) (no_row j before p (take n ss) (take n rs))
-    ∙ none_reported ps (j + n) (m - n) (take n rs) (drop n ss) (drop n rs) (omega arith)
+none_reported (p ∷ ps) j m before ss rs e = grind (arith, no_row, none_reported ps)
 
 no_received : (p : Period) (ss rs : List Column) → period_received 0 p ss rs ≡ []
 unfolding period_received runs_kept runs period_columns
-no_received (control sent) ss rs = refl
-no_received (video bytes) ss rs = ap (λ q. cond q (some_line (pixel_bytes (pixels_of bytes) (drop 2 ss) (drop 2 rs)) ∷ []) []) (le-ltb _ 0 (omega arith))
-no_received (island x) ss rs = ap (λ q. cond q (some_island (island_received x ss rs) ∷ []) []) (lt-leb _ 0 (omega arith))
+no_received p ss rs = grind (arith, le-ltb, lt-leb)
 
 none_received : (ps : List Period) (m : ℕ) (ss rs : List Column) → m ≡ 0 → received_from m ps ss rs ≡ []
 unfolding received_from
 none_received [] m ss rs e = refl
-none_received (p ∷ ps) m ss rs e =
-    let n = period_columns p in
-    ap (λ k. period_received k p (take n ss) (take n rs) ++ received_from (m - n) ps (drop n ss) (drop n rs)) e
-    ∙ ap (λ ks. ks ++ received_from (m - n) ps (drop n ss) (drop n rs)) (no_received p (take n ss) (take n rs))
-    ∙ none_received ps (m - n) (drop n ss) (drop n rs) (omega arith)
+none_received (p ∷ ps) m ss rs e = grind (arith, no_received, none_received ps)
 
 keeps_none : (b : Option Begun) → keeps b [] ≡ []
 unfolding without_faults kept_from
@@ -359,20 +297,7 @@ account_keeps : Facts → (ps : List Period) (j m : ℕ) (before ss rs : List Co
     → keeps None (account_from j m before ps ss rs) ≡ received_from m ps ss rs
 unfolding account_from received_from columns_of
 account_keeps f [] j m before ss rs h a b = keeps_none None
-account_keeps f (p ∷ ps) j m before ss rs h a b =
-    let n = period_columns p in
-    let c = and_parts (fits p) (list_all fits ps) h in
-    let ds = length-drop n ss in
-    let dr = length-drop n rs in
-    let row = period_row j m before p (take n ss) (take n rs) in
-    let rest = account_from (j + n) (m - n) (take n rs) ps (drop n ss) (drop n rs) in
-    let r = is_row f j m before p (take n ss) (take n rs) c.0 (length-take-le n ss (omega arith)) (length-take-le n rs (omega arith)) in
-    keeps_both None row rest ∙ ap₂ (λ (ks ls : List RelayedPart). ks ++ ls) r.keeps_it (elim r.over [
-      | inl e ↦ ap (λ o. keeps o rest) e ∙ account_keeps f ps (j + n) (m - n) (take n rs) (drop n ss) (drop n rs) c.1 (omega arith) (omega arith)
-      | inr le ↦
-          ap (keeps (after None row)) (none_reported ps (j + n) (m - n) (take n rs) (drop n ss) (drop n rs) (omega arith)) ∙ keeps_none (after None row)
-          ∙ sym (none_received ps (m - n) (drop n ss) (drop n rs) (omega arith))
-    ])
+account_keeps f (p ∷ ps) j m before ss rs h a b = grind (arith, and_parts, length-drop, is_row, length-take-le, keeps_both, none_reported, keeps_none, none_received, account_keeps f ps)
 
 conforming_fits : (ps : List Period) → conforms ps ≡ true → list_all fits ps ≡ true
 unfolding conforms
@@ -381,44 +306,22 @@ conforming_fits (video bytes ∷ ps) h = absurd cc
 conforming_fits (island x ∷ ps) h = absurd cc
 conforming_fits (control runs ∷ []) h = refl
 conforming_fits (control runs ∷ (control more ∷ ps)) h = absurd cc
-conforming_fits (control runs ∷ (video bytes ∷ ps)) h =
-    let others = (and_parts (is_control_period runs) _ h).1 in
-    let parts = and_parts (is_video_period bytes) (conforms ps) (and_parts (announces 1 (values_of runs)) _ others).1 in
-    and_from (is_video_period bytes) (list_all fits ps) parts.0 (conforming_fits ps parts.1)
-conforming_fits (control runs ∷ (island x ∷ ps)) h =
-    let others = (and_parts (is_control_period runs) _ h).1 in
-    let parts = and_parts (is_data_island x) (conforms ps) (and_parts (announces 5 (values_of runs)) _ others).1 in
-    and_from (is_data_island x) (list_all fits ps) parts.0 (conforming_fits ps parts.1)
+conforming_fits (control runs ∷ (video bytes ∷ ps)) h = grind (arith, and_parts, and_from, conforming_fits ps)
+conforming_fits (control runs ∷ (island x ∷ ps)) h = grind (arith, and_parts, and_from, conforming_fits ps)
 
 at_keeps : Facts → (p : Period) (a m : ℕ) (ps : List Period) (ss rs : List Column) → list_all fits ps ≡ true → length ss ≡ columns_of (p ∷ ps) → length rs ≡ columns_of (p ∷ ps)
     → keeps None (account_at p a m ps ss rs) ≡ received_at p a m ps ss rs
 unfolding account_at received_at columns_of
-at_keeps f p a m ps ss rs h e d =
-    let n = period_columns p in
-    let first = drop a (take n rs) in
-    let row = control_row 0 (take m first) in
-    let rest = account_from (n - a) (m - (n - a)) first ps (drop n ss) (drop n rs) in
-    let ds = length-drop n ss in
-    let dr = length-drop n rs in
-    keeps_both None row rest
-    ∙ ap₂ (λ (ks ls : List RelayedPart). ks ++ ls) (control_keeps f 0 (take m first))
-    (ap (λ o. keeps o rest) (control_ends 0 (take m first)) ∙ account_keeps f ps (n - a) (m - (n - a)) first (drop n ss) (drop n rs) h (omega arith) (omega arith))
+at_keeps f p a m ps ss rs h e d = grind (arith, length-drop, keeps_both, control_keeps, control_ends, account_keeps)
 
 cond_same : {A B : Type 0} (g : A → B) (q : Bool) (x y : A) (u v : B) → g x ≡ u → g y ≡ v → g (cond q x y) ≡ cond q u v
-cond_same g true x y u v e d = e
-cond_same g false x y u v e d = d
+cond_same g q x y u v h k = grind arith
 
 all_keeps : Facts → (ps : List Period) (ss rs : List Column) (a m : ℕ) → list_all fits ps ≡ true → length ss ≡ columns_of ps → length rs ≡ columns_of ps
     → keeps None (account ps ss rs a m) ≡ reception ps ss rs a m
 unfolding account reception columns_of
 all_keeps f [] ss rs a m h e d = keeps_none None
-all_keeps f (p ∷ ps) ss rs a m h e d =
-    let n = period_columns p in
-    let c = and_parts (fits p) (list_all fits ps) h in
-    let ds = length-drop n ss in
-    let dr = length-drop n rs in
-    cond_same (keeps None) (nat_lt a n) (account_at p a m ps ss rs) (account ps (drop n ss) (drop n rs) (a - n) m) (received_at p a m ps ss rs) (reception ps (drop n ss) (drop n rs) (a - n) m)
-    (at_keeps f p a m ps ss rs c.1 e d) (all_keeps f ps (drop n ss) (drop n rs) (a - n) m c.1 (omega arith) (omega arith))
+all_keeps f (p ∷ ps) ss rs a m h e d = grind (arith, and_parts, length-drop, cond_same, at_keeps, all_keeps f ps)
 
 pub relayed_account : Facts → RelayedAccount
 unfolding relayed kept

@@ -10,7 +10,7 @@ use Rattle.terc4.proofs.Members.{passes_all, passes_in}
 use Rattle.bch_block.specs.Bits.{bit}
 use Rattle.island_pack.specs.Kinds.{packet_column}
 use Rattle.island_pack.specs.Nibbles.{nibble_of, nibbles_of, sync_values, header_bits, body_bits, by_turns}
-use Rattle.island_pack.specs.Packets.{AreTerc, body_of, CarriesFreely, Carries}
+use Rattle.island_pack.specs.Packets.{AreTerc, CarriesFreely, Carries}
 use Rattle.island_pack.specs.Spelling.{column_words}
 use Rattle.island_pack.specs.declared.packet.Packet.{Packet}
 use Rattle.island_pack.proofs.Columns.{nibble_below}
@@ -137,11 +137,7 @@ unfolding nibbles_of
 mark_first c d cs ds h = h 0 (omega arith)
 
 same_column : (c d : Column) → AgreeButBit3 c d → bit (nibble_of c.blue) 3 ≡ bit (nibble_of d.blue) 3 → c ≡ d
-same_column c d h e =
-    let blue = same_word c.blue d.blue h.digit h.other_digit (same_high (nibble_of c.blue) (nibble_of d.blue) (nibble_below c.blue) (nibble_below d.blue) h.low e) in
-    let green = h.green in
-    let red = h.red in
-    λ i. record { blue = blue i; green = green i; red = red i }
+same_column c d h e = grind (arith, same_word, same_high, nibble_below)
 
 agree_same : (cs ds : List Column) → Agree (replicate (length cs) packet_column) cs ds → SameMarks cs ds → cs ≡ ds
 agree_same [] [] h m = refl
@@ -156,11 +152,7 @@ pub packet_count : (p : Packet) (cs : List Column) → CarriesFreely p (map colu
 packet_count p cs h = sym (length-map cs column_words) ∙ h.count
 
 carried_bits : (p : Packet) (cs ds : List Column) → CarriesFreely p (map column_words cs) → CarriesFreely p (map column_words ds) → SameBits cs ds
-carried_bits p cs ds h k = record {
-  low = h.sync ∙ sym k.sync;
-  second = one_block (header_bits (map column_words cs)) (header_bits (map column_words ds)) p.header h.header k.header;
-  others = λ b lt. one_block (body_bits (map column_words cs) b) (body_bits (map column_words ds) b) (body_of p b) (h.bodies b lt) (k.bodies b lt);
-}
+carried_bits p cs ds h k = grind (arith, one_block)
 
 pub packet_agrees : (p : Packet) (cs ds : List Column) → CarriesFreely p (map column_words cs) → CarriesFreely p (map column_words ds) → Agree (replicate (length cs) packet_column) cs ds
 packet_agrees p cs ds h k = bits_agree cs ds (packet_count p cs h ∙ sym (packet_count p ds k)) h.terc k.terc (carried_bits p cs ds h k)

@@ -1,14 +1,14 @@
 -- Periods are spelled by one list of columns at most, and freely by lists that agree but for bit 3 of lane 0 in packet columns.
-use Rattle.std.proofs.Common.{◌≡◌, ℕ, suc, zero, ◌+◌, ◌*◌, ◌/◌, ◌<◌, ◌≤◌, Bool, true, false, List, [], ◌∷◌, ◌++◌, length, map, take, drop, get_or, refl, ap, ap₂, sym, ◌∙◌, subst, arith, slice_index}
+use Rattle.std.proofs.Common.{◌≡◌, ℕ, suc, zero, ◌+◌, ◌*◌, ◌<◌, ◌≤◌, Bool, true, false, List, [], ◌∷◌, ◌++◌, length, map, take, get_or, refl, ap, ap₂, sym, ◌∙◌, subst, arith, slice_index}
 use Rattle.std.specs.Prelude.{replicate}
 use Rattle.std.proofs.lemmas.List.{length-map, take_all, take_more_same, replicate-append-replicate}
 use Rattle.tmds_word.specs.Column.{Column, column_of}
 use Rattle.terc4.specs.Tables.{video_guard}
 use Rattle.tmds_code.specs.Coding.{coded_word}
 use Rattle.tmds_code.specs.Lanes.{IsLane, disparity_of}
-use Rattle.island_pack.specs.Kinds.{Kind, control_column as control_kind, pixel_column, packet_column, guard_pair, kinds_in, kinds_of}
-use Rattle.island_pack.specs.Periods.{ControlRun, SyncPair, DataIsland, Period, control, video, island, Pixel, pixels_of, values_of}
-use Rattle.island_pack.specs.Spelling.{control_column, guard_columns, SpellsPixels, SpellsVideo, SpellsPacketsBy, SpellsPackets, SpellsIslandBy, SpellsIsland, SpellsPeriodBy, SpellsPeriod, freely}
+use Rattle.island_pack.specs.Kinds.{Kind, packet_column, guard_pair, kinds_in, kinds_of}
+use Rattle.island_pack.specs.Periods.{ControlRun, SyncPair, DataIsland, Period, control, video, island, Pixel, pixels_of}
+use Rattle.island_pack.specs.Spelling.{guard_columns, SpellsPixels, SpellsVideo, SpellsPacketsBy, SpellsPackets, SpellsIslandBy, SpellsIsland, SpellsPeriodBy, SpellsPeriod, freely}
 use Rattle.island_pack.specs.declared.packet.Packet.{Packet}
 use Rattle.relay_laws.specs.Spelled.{OneSpelling, AgreeAs, Agree, FreeSpellingsAgree, FreeSpellingAgrees}
 use Rattle.relay_laws.proofs.Accounting.{pixel_count}
@@ -36,13 +36,7 @@ same_lanes : (cs ds : List Column) → map (λ (c : Column). c.blue) cs ≡ map 
 same_lanes [] [] b g r = refl
 same_lanes [] (d ∷ ds) b g r = absurd cc
 same_lanes (c ∷ cs) [] b g r = absurd cc
-same_lanes (c ∷ cs) (d ∷ ds) b g r =
-    let first : List ℕ → ℕ = λ l. get_or l 0 0 in
-    let blue : c.blue ≡ d.blue = ap first b in
-    let green : c.green ≡ d.green = ap first g in
-    let red : c.red ≡ d.red = ap first r in
-    let rest = same_lanes cs ds (ap (drop 1) b) (ap (drop 1) g) (ap (drop 1) r) in
-    λ i. record { blue = blue i; green = green i; red = red i } ∷ rest i
+same_lanes (c ∷ cs) (d ∷ ds) b g r = grind (arith, same_lanes cs ds)
 
 one_line : (pixels : List Pixel) (cs ds : List Column) → SpellsPixels pixels cs → SpellsPixels pixels ds → cs ≡ ds
 one_line pixels cs ds h k =
@@ -108,43 +102,23 @@ row_agrees first (p ∷ ps) cs ds h k =
 
 video_agrees : (bytes : List ℕ) (cs ds : List Column) → SpellsVideo bytes cs → SpellsVideo bytes ds → Agree (kinds_in (video bytes)) cs ds
 unfolding kinds_in
-video_agrees bytes cs ds h k =
-    let same = one_line (pixels_of bytes) h.0 k.0 h.2 k.2 in
-    let count : length h.0 ≡ length bytes / 3 =
-    sym (length-map h.0 (λ (c : Column). c.blue)) ∙ h.2.blue.same_length ∙ length-map (pixels_of bytes) (λ (p : Pixel). p.blue) ∙ pixel_count bytes in
-    let pixels : Agree (replicate (length bytes / 3) pixel_column) h.0 h.0 = subst (λ n. Agree (replicate n pixel_column) h.0 h.0) count (agree_self pixel_column (λ c. refl) h.0) in
-    let opened : List Column → List Column = λ xs. column_of video_guard ∷ (column_of video_guard ∷ xs) in
-    let all : Agree (guard_pair ++ replicate (length bytes / 3) pixel_column) (opened h.0) (opened h.0) = (refl, (refl, pixels)) in
-    over (guard_pair ++ replicate (length bytes / 3) pixel_column) (opened h.0) (opened h.0) cs ds (sym h.1) (ap opened same ∙ sym k.1) all
+video_agrees bytes cs ds h k = grind (arith, one_line, length-map, pixel_count, agree_self, over)
 
 island_agrees : (x : DataIsland) (cs ds : List Column) → SpellsIslandBy freely x cs → SpellsIslandBy freely x ds → Agree (kinds_in (island x)) cs ds
 unfolding kinds_in
-island_agrees x cs ds h k =
-    let row = row_agrees true x.packets h.0 k.0 h.2 k.2 in
-    let rest = agree_both (replicate (32 * length x.packets) packet_column) guard_pair h.0 k.0 (guard_columns x.closing) (guard_columns x.closing) row (guards_agree x.closing) in
-    let opened : List Column → List Column = λ xs. guard_columns x.opening ++ (xs ++ guard_columns x.closing) in
-    let ks = guard_pair ++ (replicate (32 * length x.packets) packet_column ++ guard_pair) in
-    let all : Agree ks (opened h.0) (opened k.0) = (refl, (refl, rest)) in
-    over ks (opened h.0) (opened k.0) cs ds (sym h.1) (sym k.1) all
+island_agrees x cs ds h k = grind (arith, row_agrees, agree_both, guards_agree, over)
 
 control_agrees : (runs : List ControlRun) (cs ds : List Column) → SpellsPeriodBy freely (control runs) cs → SpellsPeriodBy freely (control runs) ds → Agree (kinds_in (control runs)) cs ds
 unfolding kinds_in
-control_agrees runs cs ds h k =
-    let count : length cs ≡ length (values_of runs) = ap length h ∙ length-map (values_of runs) control_column in
-    let all : Agree (replicate (length (values_of runs)) control_kind) cs cs = subst (λ n. Agree (replicate n control_kind) cs cs) count (agree_self control_kind (λ c. refl) cs) in
-    over (replicate (length (values_of runs)) control_kind) cs cs cs ds refl (h ∙ sym k) all
+control_agrees runs cs ds h k = grind (arith, length-map, agree_self, over)
 
 period_agrees : (p : Period) (cs ds : List Column) → SpellsPeriodBy freely p cs → SpellsPeriodBy freely p ds → Agree (kinds_in p) cs ds
-period_agrees (control runs) cs ds h k = control_agrees runs cs ds h k
-period_agrees (video bytes) cs ds h k = video_agrees bytes cs ds h k
-period_agrees (island x) cs ds h k = island_agrees x cs ds h k
+period_agrees p cs ds h k = grind (arith, control_agrees, video_agrees, island_agrees)
 
 pub free_spellings_agree : FreeSpellingsAgree
 unfolding kinds_of
 free_spellings_agree [] cs ds h k = let none : Agree [] [] [] = tt in over [] [] [] cs ds (sym h) (sym k) none
-free_spellings_agree (p ∷ ps) cs ds h k =
-    over (kinds_in p ++ kinds_of ps) (h.0 ++ h.1) (k.0 ++ k.1) cs ds (sym h.2) (sym k.2)
-    (agree_both (kinds_in p) (kinds_of ps) h.0 k.0 h.1 k.1 (period_agrees p h.0 k.0 h.3 k.3) (free_spellings_agree ps h.1 k.1 h.4 k.4))
+free_spellings_agree (p ∷ ps) cs ds h k = grind (arith, over, agree_both, period_agrees, free_spellings_agree ps)
 
 pub free_spelling_agrees : FreeSpellingAgrees
 free_spelling_agrees ps cs ds h k = free_spellings_agree ps cs ds h (freely_spelled ps ds k)

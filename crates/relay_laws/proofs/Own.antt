@@ -1,5 +1,5 @@
 -- What is relayed of columns that conforming periods spell.
-use Rattle.std.proofs.Common.{◌≡◌, ℕ, zero, suc, ◌+◌, ◌-◌, ◌*◌, ◌/◌, ◌%◌, ◌<◌, ◌≤◌, Bool, true, false, not, cond, ◌&&◌, ◌==◌, List, [], ◌∷◌, ◌++◌, length, map, take, drop, replicate, refl, ap, ap₂, sym, ◌∙◌, subst, arith, eq-eqb}
+use Rattle.std.proofs.Common.{◌≡◌, ℕ, zero, suc, ◌+◌, ◌-◌, ◌*◌, ◌/◌, ◌%◌, ◌<◌, ◌≤◌, Bool, true, false, not, cond, ◌==◌, List, [], ◌∷◌, ◌++◌, length, map, take, drop, replicate, refl, ap, ap₂, sym, ◌∙◌, subst, arith, eq-eqb}
 use Rattle.std.specs.Prelude.{nat_lt, nat_le, reverse}
 use Rattle.std.specs.List.{list_all, fold}
 use Rattle.std.proofs.lemmas.Bool.{and_parts, and_from, lt-ltb, le-leb, leb-true, eqb-true, ltb-true}
@@ -15,17 +15,17 @@ use Rattle.island_pack.specs.Conforming.{is_run, is_control_period, is_video_per
 use Rattle.island_pack.specs.Ranges.{is_line_in_range}
 use Rattle.island_pack.specs.Packets.{CarriesFreely, Carries}
 use Rattle.island_pack.specs.Taken.{spotless}
-use Rattle.island_pack.specs.Repaired.{packet_in, packet_of, verdicts_in, verdicts_of}
+use Rattle.island_pack.specs.Repaired.{packet_in, verdicts_in, verdicts_of}
 use Rattle.island_pack.specs.Runs.{longest}
 use Rattle.island_pack.specs.Sparse.{unlike_words}
-use Rattle.island_pack.specs.Spelling.{control_column, guard_column, guard_columns, column_words, SpellsPixels, SpellsVideo, SpellsPacketsBy, SpellsIslandBy, SpellsPeriodBy, SpellsBy, freely, Spells}
+use Rattle.island_pack.specs.Spelling.{control_column, guard_column, column_words, SpellsPixels, SpellsVideo, SpellsPacketsBy, SpellsIslandBy, SpellsPeriodBy, SpellsBy, freely, Spells}
 use Rattle.island_pack.specs.declared.packet.Packet.{Packet}
 use Rattle.island_pack.specs.declared.packet.PacketVerdicts.{PacketVerdicts}
 use Rattle.island_pack.proofs.Runs.{values_longest}
 use Rattle.period_grammar.specs.Column.{control_bits, value_of, sync_digit}
 use Rattle.period_grammar.specs.Cut.{Run, columns as same_columns, value, in_front, before_runs, runs as runs_in}
 use Rattle.period_grammar.specs.Events.{Event}
-use Rattle.link_laws.specs.Account.{byte, pixel_bytes, damage, sync_row, packet_row, account}
+use Rattle.link_laws.specs.Account.{byte, pixel_bytes, damage, sync_row, packet_row}
 use Rattle.relay_laws.proofs.Below.{Facts}
 use Rattle.relay.specs.Relayed.{Judged, WholeIsland, RelayedPart, some_line, some_island, sure, with_nulls, nulled, Data, a_line, an_island, Turn, Alternation, ended, joined, none, gathered, on_turn, filled, lengthened, with_ctl, announcing, preamble_of, announced_turn, period_of, periods_in, settled, conformed, kept, relayed}
 use Rattle.relay_laws.specs.Received.{runs_kept, packets_received, digits_of, island_received, period_received, received_from, received_at, reception}
@@ -60,12 +60,10 @@ runs_fold t (same_columns v cs ∷ rs) =
     ∙ ap (λ (vs : List ℕ). record { turns = t.turns; last = vs }) (append_assoc t.last (replicate (length cs) v) (values_kept rs))
 
 front_values : (q : Bool) (c : Column) (r : Run) (rs : List Run) → (value_of c == value r) ≡ q → values_kept (in_front q c r rs) ≡ value_of c ∷ values_kept (r ∷ rs)
-front_values true c (same_columns v cs) rs e = ap (λ (x : ℕ). x ∷ (replicate (length cs) v ++ values_kept rs)) (sym (eqb-true (value_of c) v e))
-front_values false c r rs e = refl
+front_values q c r rs h = grind (arith, eqb-true)
 
 before_values : (c : Column) (rs : List Run) → values_kept (before_runs c rs) ≡ value_of c ∷ values_kept rs
-before_values c [] = refl
-before_values c (r ∷ rs) = front_values (value_of c == value r) c r rs refl
+before_values c rs = grind (arith, front_values)
 
 runs_values : (cs : List Column) → values_kept (runs_in cs) ≡ map value_of cs
 unfolding runs_in
@@ -88,10 +86,7 @@ values_back (v ∷ vs) h =
 small_runs : (rs : List ControlRun) → list_all is_run rs ≡ true → Small (values_of rs)
 unfolding values_of
 small_runs [] h = refl
-small_runs (r ∷ rs) h =
-    let p = and_parts (is_run r) (list_all is_run rs) h in
-    let q = and_parts (nat_lt r.value 64) (nat_le 1 r.count) p.0 in
-    all_both (λ v. nat_lt v 64) (replicate r.count r.value) (values_of rs) (all_same (λ v. nat_lt v 64) r.count r.value q.0) (small_runs rs p.1)
+small_runs (r ∷ rs) h = grind (arith, and_parts, all_both, all_same, small_runs rs)
 
 -- A line.
 
@@ -104,10 +99,7 @@ own_bytes [] cs whole long = refl
 own_bytes (r ∷ []) cs whole long = absurd (omega (arith, whole))
 own_bytes (r ∷ (g ∷ [])) cs whole long = absurd (omega (arith, whole))
 own_bytes (r ∷ (g ∷ (b ∷ bytes))) [] whole long = absurd (omega (arith, long))
-own_bytes (r ∷ (g ∷ (b ∷ bytes))) (c ∷ cs) whole long =
-    ap₂ (λ (x : ℕ) (xs : List ℕ). x ∷ xs) (own_byte r c.red)
-    (ap₂ (λ (x : ℕ) (xs : List ℕ). x ∷ xs) (own_byte g c.green)
-    (ap₂ (λ (x : ℕ) (xs : List ℕ). x ∷ xs) (own_byte b c.blue) (own_bytes bytes cs (omega (arith, whole)) (omega (arith, long)))))
+own_bytes (r ∷ (g ∷ (b ∷ bytes))) (c ∷ cs) whole long = grind (arith, own_byte, own_bytes bytes cs)
 
 three : (bytes : List ℕ) → is_video_period bytes ≡ true → length bytes % 3 ≡ 0
 unfolding is_video_period
@@ -123,10 +115,7 @@ video_long bytes own h = let a = ap length h.1 in let b = pixels_long bytes h.0 
 
 pub own_video : (bytes : List ℕ) (own : List Column) (m : ℕ) → is_video_period bytes ≡ true → SpellsVideo bytes own → 2 + length bytes / 3 < m → period_received m (video bytes) own own ≡ some_line bytes ∷ []
 unfolding period_received period_columns
-own_video bytes own m v h lt =
-    ap (λ q. cond q (some_line (pixel_bytes (pixels_of bytes) (drop 2 own) (drop 2 own)) ∷ []) []) (lt-ltb (2 + length bytes / 3) m lt)
-    ∙ ap (λ (cs : List Column). some_line (pixel_bytes (pixels_of bytes) (drop 2 cs) (drop 2 cs)) ∷ []) h.1
-    ∙ ap (λ bs. some_line bs ∷ []) (own_bytes bytes h.0 (three bytes v) (pixels_long bytes h.0 h.2))
+own_video bytes own m v h lt = grind (arith, lt-ltb, own_bytes, three, pixels_long)
 
 -- An island.
 
@@ -165,12 +154,7 @@ packet_long p own c = sym (length-map own column_words) ∙ c.count
 
 own_packet : (p : Packet) (own : List Column) → CarriesFreely p (map column_words own) → packet_row p own own ≡ p
 unfolding packet_row
-own_packet p own c =
-    let none = own_damage own in
-    let n = packet_long p own c in
-    let s = c.whole.sync in
-    ap (λ q. cond q (record { header = p.header; bodies = p.bodies; sync = sync_row p.sync own own }) (record { header = (packet_of own).header; bodies = (packet_of own).bodies; sync = sync_row p.sync own own })) (le-leb (damage own own) 1 (omega arith))
-    ∙ ap (λ (vs : List ℕ). record { header = p.header; bodies = p.bodies; sync = vs }) (own_sync p.sync own (omega arith))
+own_packet p own c = grind (arith, own_damage, packet_long, le-leb, own_sync)
 
 own_verdicts : Facts → (p : Packet) (own : List Column) → CarriesFreely p (map column_words own) → verdicts_of own ≡ spotless
 own_verdicts f p own c = (f.clean p (packet_in (map column_words own)) (verdicts_in (map column_words own)) (map column_words own) c (f.taken (map column_words own) c.count)).1
@@ -218,25 +202,11 @@ unfolding nulled
 line_fold t bytes = refl
 
 island_long : (x : DataIsland) (own : List Column) → SpellsIslandBy freely x own → length own ≡ 4 + 32 * length x.packets
-island_long x own h =
-    let a = ap length h.1 in
-    let b = length-append h.0 (guard_columns x.closing) in
-    let c = packets_long true x.packets h.0 h.2 in
-    omega arith
+island_long x own h = grind (arith, length-append, packets_long)
 
 own_island : Facts → (x : DataIsland) (own : List Column) (m : ℕ) → is_data_island x ≡ true → SpellsIslandBy freely x own → 4 + 32 * length x.packets ≤ m → period_received m (island x) own own ≡ some_island (clean_island x) ∷ []
 unfolding period_received period_columns island_received is_data_island
-own_island f x own m v h le =
-    let pairs = and_parts (is_sync_pair x.opening) (is_sync_pair x.closing) (and_parts (is_sync_pair x.opening && is_sync_pair x.closing) _ v).0 in
-    let close = guard_columns x.closing in
-    let pp = h.0 in
-    let n = packets_long true x.packets pp h.2 in
-    let w : List Column → WholeIsland = λ cs. record { opening = digits_of cs; packets = packets_received x.packets (drop 2 cs) (drop 2 cs); closing = digits_of (drop (32 * length x.packets) (drop 2 cs)) } in
-    ap (λ q. cond q (some_island (w own) ∷ []) []) (le-leb (4 + 32 * length x.packets) m le)
-    ∙ ap (λ cs. some_island (w cs) ∷ []) h.1
-    ∙ ap (λ (pair : SyncPair). some_island (record { opening = pair; packets = packets_received x.packets (pp ++ close) (pp ++ close); closing = digits_of (drop (32 * length x.packets) (pp ++ close)) }) ∷ []) (guards_back x.opening (pp ++ close) pairs.0)
-    ∙ ap₂ (λ (js : List Judged) (pair : SyncPair). some_island (record { opening = x.opening; packets = js; closing = pair }) ∷ []) (packets_own f true x.packets pp close h.2)
-    (ap digits_of (drop_at pp close (32 * length x.packets) n) ∙ guards_back x.closing [] pairs.1)
+own_island f x own m v h le = grind (arith, and_parts, packets_long, le-leb, guards_back, packets_own, drop_at)
 
 -- All periods.
 
@@ -271,10 +241,7 @@ runs_of_period runs h =
 
 first_control : (runs : List ControlRun) (ps : List Period) → conforms (control runs ∷ ps) ≡ true → is_control_period runs ≡ true
 unfolding conforms
-first_control runs [] h = h
-first_control runs (control more ∷ ps) h = absurd cc
-first_control runs (video bytes ∷ ps) h = (and_parts (is_control_period runs) _ h).0
-first_control runs (island x ∷ ps) h = (and_parts (is_control_period runs) _ h).0
+first_control runs ps h = grind (arith, and_parts)
 
 -- what follows a control period
 record IsVideo (runs : List ControlRun) (bytes : List ℕ) (ps : List Period) : Type 0 where
@@ -289,19 +256,11 @@ record IsIsland (runs : List ControlRun) (x : DataIsland) (ps : List Period) : T
 
 then_video : (runs : List ControlRun) (bytes : List ℕ) (ps : List Period) → conforms (control runs ∷ (video bytes ∷ ps)) ≡ true → IsVideo runs bytes ps
 unfolding conforms
-then_video runs bytes ps h =
-    let a = (and_parts (is_control_period runs) _ h).1 in
-    let b = and_parts (has_preamble 1 (values_of runs)) _ a in
-    let c = and_parts (is_video_period bytes) (conforms ps) b.1 in
-    record { lead = b.0; own = c.0; rest = c.1 }
+then_video runs bytes ps h = grind (arith, and_parts)
 
 then_island : (runs : List ControlRun) (x : DataIsland) (ps : List Period) → conforms (control runs ∷ (island x ∷ ps)) ≡ true → IsIsland runs x ps
 unfolding conforms
-then_island runs x ps h =
-    let a = (and_parts (is_control_period runs) _ h).1 in
-    let b = and_parts (has_preamble 5 (values_of runs)) _ a in
-    let c = and_parts (is_data_island x) (conforms ps) b.1 in
-    record { lead = b.0; own = c.0; rest = c.1 }
+then_island runs x ps h = grind (arith, and_parts)
 
 no_periods : conforms [] ≡ false
 unfolding conforms
@@ -327,17 +286,7 @@ and_on : Facts → (runs : List ControlRun) (ps : List Period) → conforms (con
     → ((k : ℕ) (ds : List Column) → SpellsBy freely ps ds → length ds ≤ k → (u : Alternation) → folded u (received_from k ps ds ds) ≡ sent_turns u ps)
     → folded t (received_from m (control runs ∷ ps) cs cs) ≡ sent_turns (longer t (values_of runs)) ps
 unfolding period_columns
-and_on f runs ps good m cs h le t later =
-    let next = h.0 in
-    let others = h.1 in
-    let parts = runs_of_period runs (first_control runs ps good) in
-    let n = control_long runs next h.3 in
-    let all = ap length h.2 ∙ length-append next others in
-    ap (λ (ds : List Column). folded t (received_from m (control runs ∷ ps) ds ds)) h.2
-    ∙ ap (folded t) (received_step m (control runs) ps next others n)
-    ∙ folded_both t (period_received m (control runs) next next) (received_from (m - length (values_of runs)) ps others others)
-    ∙ ap (λ u. folded u (received_from (m - length (values_of runs)) ps others others)) (control_step t m runs next parts.0 h.3 (omega arith))
-    ∙ later (m - length (values_of runs)) others h.4 (omega arith) (longer t (values_of runs))
+and_on f runs ps good m cs h le t later = grind (arith, runs_of_period, first_control, control_long, length-append, received_step, folded_both, control_step)
 
 nothing_received : (m : ℕ) (cs : List Column) (t : Alternation) → folded t (received_from m [] cs cs) ≡ t
 unfolding received_from nulled
@@ -359,31 +308,11 @@ own_tail f before (video bytes ∷ (control runs ∷ ps)) good m cs h le t =
     let all = ap length h.2 ∙ length-append own rest in
     let many = runs_of_period runs (first_control runs ps v.rest) in
     let more = ap length h.4.2 ∙ length-append h.4.0 h.4.1 in
-    let next = control_long runs h.4.0 h.4.3 in
-    let long = many.1 in
-    let k = m - (2 + length bytes / 3) in
-    ap (λ (ds : List Column). folded t (received_from m (video bytes ∷ (control runs ∷ ps)) ds ds)) h.2
-    ∙ ap (folded t) (received_step m (video bytes) (control runs ∷ ps) own rest n)
-    ∙ ap (λ ks. folded t (ks ++ received_from k (control runs ∷ ps) rest rest)) (own_video bytes own m v.own h.3 (omega arith))
-    ∙ folded_both t (some_line bytes ∷ []) (received_from k (control runs ∷ ps) rest rest)
-    ∙ ap (λ u. folded u (received_from k (control runs ∷ ps) rest rest)) (line_fold t bytes)
-    ∙ and_on f runs ps v.rest k rest h.4 (omega arith) (ended t (a_line bytes)) (λ i ds s l u. own_tail f runs ps v.rest i ds s l u)
+    grind (arith, control_long, received_step, own_video, folded_both, line_fold, and_on, own_tail f runs ps)
 own_tail f before (island x ∷ []) good m cs h le t = clash _ no_periods (then_island before x [] good).rest
 own_tail f before (island x ∷ (video more ∷ ps)) good m cs h le t = clash _ (no_video more ps) (then_island before x (video more ∷ ps) good).rest
 own_tail f before (island x ∷ (island y ∷ ps)) good m cs h le t = clash _ (no_island y ps) (then_island before x (island y ∷ ps) good).rest
-own_tail f before (island x ∷ (control runs ∷ ps)) good m cs h le t =
-    let own = h.0 in
-    let rest = h.1 in
-    let v = then_island before x (control runs ∷ ps) good in
-    let n = island_long x own h.3 in
-    let all = ap length h.2 ∙ length-append own rest in
-    let k = m - (4 + 32 * length x.packets) in
-    ap (λ (ds : List Column). folded t (received_from m (island x ∷ (control runs ∷ ps)) ds ds)) h.2
-    ∙ ap (folded t) (received_step m (island x) (control runs ∷ ps) own rest n)
-    ∙ ap (λ ks. folded t (ks ++ received_from k (control runs ∷ ps) rest rest)) (own_island f x own m v.own h.3 (omega arith))
-    ∙ folded_both t (some_island (clean_island x) ∷ []) (received_from k (control runs ∷ ps) rest rest)
-    ∙ ap (λ u. folded u (received_from k (control runs ∷ ps) rest rest)) (island_fold t x)
-    ∙ and_on f runs ps v.rest k rest h.4 (omega arith) (ended t (an_island x)) (λ i ds s l u. own_tail f runs ps v.rest i ds s l u)
+own_tail f before (island x ∷ (control runs ∷ ps)) good m cs h le t = grind (arith, then_island, island_long, length-append, received_step, own_island, folded_both, island_fold, and_on, own_tail f runs ps)
 
 -- Rules 4 to 6 change nothing.
 
@@ -391,18 +320,11 @@ abbrev settled_values : List ℕ → List ℕ
 settled_values vs = lengthened (filled vs)
 
 long_same : (vs : List ℕ) → 12 ≤ length vs → settled_values vs ≡ vs
-long_same [] h = absurd (omega (arith, h))
-long_same (v ∷ vs) h = let e : 12 - length (v ∷ vs) ≡ 0 = omega arith in ap (λ n. replicate n v ++ (v ∷ vs)) e
+long_same vs h = grind arith
 
 ctl_same : (bits : ℕ) (us : List ℕ) → Small us → list_all (λ v. ctl v == bits) us ≡ true → map (with_ctl bits) us ≡ us
 ctl_same bits [] s h = refl
-ctl_same bits (u ∷ us) s h =
-    let p = and_parts (nat_lt u 64) (list_all (λ v. nat_lt v 64) us) s in
-    let q = and_parts (ctl u == bits) (list_all (λ v. ctl v == bits) us) h in
-    let lt = ltb-true u 64 p.0 in
-    let e = eqb-true (ctl u) bits q.0 in
-    let d : with_ctl bits u ≡ u = omega arith in
-    ap₂ (λ (w : ℕ) (ws : List ℕ). w ∷ ws) d (ctl_same bits us p.1 q.1)
+ctl_same bits (u ∷ us) s h = grind (arith, and_parts, ltb-true, eqb-true, ctl_same bits us)
 
 announced_same : (bits : ℕ) (vs : List ℕ) → Small vs → has_preamble bits vs ≡ true → announcing bits vs ≡ vs
 unfolding announcing has_preamble
@@ -487,24 +409,14 @@ cut_values : (a : ℕ) (runs : List ControlRun) → values_of (cut_runs a runs) 
 cut_values a runs = values_longest (drop a (values_of runs))
 
 cut_control : (a : ℕ) (runs : List ControlRun) → is_control_period runs ≡ true → a + 12 ≤ length (values_of runs) → is_control_period (cut_runs a runs) ≡ true
-cut_control a runs c long =
-    let p = runs_of_period runs c in
-    let n = length-drop a (values_of runs) in
-    control_sound (drop a (values_of runs)) (all_drop (λ v. nat_lt v 64) a (values_of runs) (small_runs runs p.0)) (omega arith)
+cut_control a runs c long = grind (arith, runs_of_period, length-drop, control_sound, all_drop, small_runs)
 
 cut_lead : (bits a : ℕ) (runs : List ControlRun) → a + 12 ≤ length (values_of runs) → has_preamble bits (values_of runs) ≡ true → has_preamble bits (values_of (cut_runs a runs)) ≡ true
 cut_lead bits a runs long h = subst (λ vs. has_preamble bits vs ≡ true) (sym (cut_values a runs)) (preamble_drop bits a (values_of runs) long h)
 
 cut_conforms : (a : ℕ) (runs : List ControlRun) (ps : List Period) → conforms (control runs ∷ ps) ≡ true → a + 12 ≤ length (values_of runs) → conforms (control (cut_runs a runs) ∷ ps) ≡ true
 unfolding conforms
-cut_conforms a runs [] good long = cut_control a runs good long
-cut_conforms a runs (control more ∷ ps) good long = absurd cc
-cut_conforms a runs (video bytes ∷ ps) good long =
-    let v = then_video runs bytes ps good in
-    and_from _ _ (cut_control a runs (and_parts (is_control_period runs) _ good).0 long) (and_from _ _ (cut_lead 1 a runs long v.lead) (and_from _ (conforms ps) v.own v.rest))
-cut_conforms a runs (island x ∷ ps) good long =
-    let v = then_island runs x ps good in
-    and_from _ _ (cut_control a runs (and_parts (is_control_period runs) _ good).0 long) (and_from _ _ (cut_lead 5 a runs long v.lead) (and_from _ (conforms ps) v.own v.rest))
+cut_conforms a runs ps h k = grind (arith, cut_control, then_video, and_from, and_parts, cut_lead, then_island)
 
 map-drop : (a : ℕ) (cs : List Column) → map value_of (drop a cs) ≡ drop a (map value_of cs)
 map-drop zero cs = refl
@@ -557,9 +469,7 @@ freely_packets first [] pp h = h
 freely_packets first (p ∷ ps) pp h = (h.0, h.1, h.2, h.3.free, freely_packets false ps h.1 h.4)
 
 freely_period : (p : Period) (own : List Column) → SpellsPeriodBy Carries p own → SpellsPeriodBy freely p own
-freely_period (control runs) own h = h
-freely_period (video bytes) own h = h
-freely_period (island x) own h = (h.0, h.1, freely_packets true x.packets h.0 h.2)
+freely_period p own h = grind (arith, freely_packets)
 
 pub freely_spelled : (ps : List Period) (cs : List Column) → Spells ps cs → SpellsBy freely ps cs
 freely_spelled [] cs h = h
@@ -567,23 +477,16 @@ freely_spelled (p ∷ ps) cs h = (h.0, h.1, h.2, freely_period p h.0 h.3, freely
 
 period_long : (p : Period) (own : List Column) → SpellsPeriodBy freely p own → length own ≡ period_columns p
 unfolding period_columns
-period_long (control runs) own h = control_long runs own h
-period_long (video bytes) own h = video_long bytes own h
-period_long (island x) own h = island_long x own h
+period_long p own h = grind (arith, control_long, video_long, island_long)
 
 pub spelled_long : (ps : List Period) (cs : List Column) → SpellsBy freely ps cs → length cs ≡ columns_of ps
 unfolding columns_of
 spelled_long [] cs h = ap length h
-spelled_long (p ∷ ps) cs h =
-    let a = ap length h.2 ∙ length-append h.0 h.1 in
-    let b = period_long p h.0 h.3 in
-    let c = spelled_long ps h.1 h.4 in
-    omega arith
+spelled_long (p ∷ ps) cs h = grind (arith, length-append, period_long, spelled_long ps)
 
 normal_inner : (d : Data) (ps : List Period) → normal (period_of d ∷ ps) ≡ period_of d ∷ normal ps
 unfolding normal
-normal_inner (a_line bytes) ps = refl
-normal_inner (an_island x) ps = refl
+normal_inner d ps = grind arith
 
 normal_turn : (x : Turn) (ps : List Period) → normal ps ≡ ps → normal (control (longest (whole_turn x).values) ∷ (period_of x.inner ∷ ps)) ≡ control (longest (whole_turn x).values) ∷ (period_of x.inner ∷ ps)
 unfolding normal
@@ -604,16 +507,7 @@ unfolding normal cut_first
 normal_first a runs ps e = ap₂ (λ (us : List ControlRun) (qs : List Period). control us ∷ qs) (ap longest (values_longest (drop a (values_of runs)))) (ap tail e)
 
 pub relayed_again : Facts → RelayedAgain
-relayed_again f reported runs ps is cs h a m long le =
-    let good = subst (λ qs. conforms qs ≡ true) is (relayed_conforms reported) in
-    let free = freely_spelled (control runs ∷ ps) cs (subst (λ qs. Spells qs cs) is h) in
-    let n = spelled_long (control runs ∷ ps) cs free in
-    let same = subst (λ qs. normal qs ≡ qs) is (normal_relayed reported) in
-    ap (λ qs. relayed (account qs cs cs a m)) is
-    ∙ relayed_account f (control runs ∷ ps) cs cs good n n a m
-    ∙ own_relayed f runs ps cs good free a m (omega arith) le
-    ∙ normal_first a runs ps same
-    ∙ ap (cut_first a) (sym is)
+relayed_again f reported runs ps is cs h a m long le = grind (arith, relayed_conforms, freely_spelled, spelled_long, normal_relayed, relayed_account, own_relayed, normal_first)
 
 -- Columns that are spelled whole.
 
@@ -633,6 +527,4 @@ whole_relayed f cs w reported =
     let ps = control w.runs ∷ w.periods in
     let n = spelled_long ps cs w.spells in
     let parts = runs_of_period w.runs (first_control w.runs w.periods w.conforming) in
-    let long = parts.1 in
-    let e = ap relayed reported ∙ relayed_account f ps cs cs w.conforming n n 0 (length cs) ∙ own_relayed f w.runs w.periods cs w.conforming w.spells 0 (length cs) (omega arith) (omega arith) in
-    subst (λ qs. SpellsBy freely qs cs) (sym e) (freely_normal (cut_first 0 ps) cs (freely_cut w.runs w.periods cs w.spells))
+    grind (arith, relayed_account, own_relayed, freely_normal, freely_cut)

@@ -1,14 +1,11 @@
 -- Events that are faults alone.
-use Rattle.std.proofs.Common.{◌≡◌, ℕ, ◌+◌, Bool, true, false, not, ◌==◌, List, [], ◌∷◌, ◌++◌, map, refl, ap, ap₂, ◌∙◌}
-use Rattle.std.specs.Prelude.{Option, Some, None}
+use Rattle.std.proofs.Common.{arith, ◌≡◌, ℕ, ◌+◌, Bool, not, ◌==◌, List, [], ◌∷◌, ◌++◌, map, refl, ap, ap₂, ◌∙◌}
+use Rattle.std.specs.Prelude.{Option}
 use Rattle.std.proofs.lemmas.List.{map-append}
 use Rattle.tmds_word.specs.Column.{Column}
-use Rattle.terc4.specs.Tables.{is_control}
 use Rattle.bch_block.specs.declared.Verdict.{Verdict}
-use Rattle.bch_block.specs.declared.Verdict.TheVariants.{Clean, Mended, Lost}
 use Rattle.island_pack.specs.declared.packet.PacketVerdicts.{PacketVerdicts}
 use Rattle.period_grammar.specs.Events.{Event, preamble, guard, symbols, all_at, event_of}
-use Rattle.period_grammar.specs.Coding.{first_uncoded}
 use Rattle.period_grammar.specs.Island.{if_so, block_fault, block_faults, packet_faults, wrong_guards}
 use Rattle.period_grammar.specs.Heard.{if_not, other_word, other_words, words, code_fault, codes_of}
 use Rattle.period_grammar.proofs.Hearings.{events_at}
@@ -26,27 +23,22 @@ quiet_before ts us h = faults_both ts us ∙ ap (λ (xs : List Said). xs ++ with
 
 pub quiet_preamble : (p : Bool) (b : ℕ) → Quiet (if_not p (preamble b))
 unfolding without_faults
-quiet_preamble true b = refl
-quiet_preamble false b = refl
+quiet_preamble p b = grind arith
 
 quiet_guard : (p : Bool) (j : ℕ) → Quiet (if_so p (guard j))
 unfolding without_faults
-quiet_guard true j = refl
-quiet_guard false j = refl
+quiet_guard p j = grind arith
 
 pub quiet_guards : (is : Column → Bool) (b : ℕ) (g h : Column) → Quiet (wrong_guards is b g h)
 quiet_guards is b g h = quiet_both (if_so (not (is g)) (guard b)) (if_so (not (is h)) (guard (b + 1))) (quiet_guard (not (is g)) b) (quiet_guard (not (is h)) (b + 1))
 
 quiet_symbols : (p : Bool) (s n : ℕ) → Quiet (if_so p (symbols s n))
 unfolding without_faults
-quiet_symbols true s n = refl
-quiet_symbols false s n = refl
+quiet_symbols p s n = grind arith
 
 quiet_block : (s b : ℕ) (v : Verdict) → Quiet (block_fault s b v)
 unfolding without_faults
-quiet_block s b Clean = refl
-quiet_block s b (Mended i) = refl
-quiet_block s b Lost = refl
+quiet_block s b v = grind arith
 
 nothing_quiet : Quiet []
 unfolding without_faults
@@ -61,29 +53,19 @@ quiet_packet s v = quiet_both (if_so (not (v.symbols == 0)) (symbols s v.symbols
 
 quiet_code : (lane s : ℕ) (o : Option ℕ) → Quiet (code_fault lane s o)
 unfolding without_faults
-quiet_code lane s None = refl
-quiet_code lane s (Some i) = refl
+quiet_code lane s o = grind arith
 
 pub quiet_codes : (s : ℕ) (cs : List Column) → Quiet (codes_of s cs)
 unfolding codes_of
-quiet_codes s cs =
-    let blue = first_uncoded (map (λ c. c.blue) cs) in
-    let green = first_uncoded (map (λ c. c.green) cs) in
-    let red = first_uncoded (map (λ c. c.red) cs) in
-    quiet_both (code_fault 0 s blue) (code_fault 1 s green ++ code_fault 2 s red) (quiet_code 0 s blue) (quiet_both (code_fault 1 s green) (code_fault 2 s red) (quiet_code 1 s green) (quiet_code 2 s red))
+quiet_codes s cs = grind (arith, quiet_both, quiet_code)
 
 quiet_word : (lane j : ℕ) (p : Bool) → Quiet (other_word lane j p)
 unfolding without_faults
-quiet_word lane j true = refl
-quiet_word lane j false = refl
+quiet_word lane j p = grind arith
 
 quiet_column : (j : ℕ) (c : Column) → Quiet (other_words j c)
 unfolding other_words
-quiet_column j c =
-    let blue = is_control c.blue in
-    let green = is_control c.green in
-    let red = is_control c.red in
-    quiet_both (other_word 0 j blue) (other_word 1 j green ++ other_word 2 j red) (quiet_word 0 j blue) (quiet_both (other_word 1 j green) (other_word 2 j red) (quiet_word 1 j green) (quiet_word 2 j red))
+quiet_column j c = grind (arith, quiet_both, quiet_word)
 
 pub quiet_words : (j : ℕ) (cs : List Column) → Quiet (map event_of (words j cs))
 quiet_words j [] = nothing_quiet

@@ -1,5 +1,5 @@
 -- The frames that are told of a raster are those behind its first frame, in order.
-use Rattle.std.proofs.Common.{◌≡◌, ◌∙◌, ℕ, suc, ◌+◌, ◌-◌, ◌*◌, ◌≤◌, ◌<◌, Bool, true, false, cond, List, [], ◌∷◌, ◌++◌, length, take, drop, min, refl, ap, ap₂, sym, inl, inr, append_assoc, append-nil, arith}
+use Rattle.std.proofs.Common.{◌≡◌, ◌∙◌, ℕ, suc, ◌+◌, ◌-◌, ◌*◌, ◌≤◌, ◌<◌, Bool, true, false, cond, List, [], ◌∷◌, ◌++◌, length, take, drop, min, refl, ap, ap₂, sym, append_assoc, append-nil, arith}
 use Rattle.std.specs.Prelude.{max, None}
 use Rattle.std.proofs.Math.Nat.{suc-mul}
 use Rattle.std.proofs.lemmas.Bool.{lt-ltb, cases_lt}
@@ -33,11 +33,7 @@ first_past mode received a e past = none_received mode received a e 0 (back_at m
 
 -- where a frame is told, columns came behind its rows
 rows_before : (mode : Mode) (received : List Column) (a e p : ℕ) → is_reported mode received a e p ≡ true → front_at mode p ≤ e
-rows_before mode received a e p reported =
-    elim (cases_lt e (front_at mode p)) [
-      | inl lt ↦ absurd (let other : true ≡ false = sym reported ∙ none_received mode received a e (front_at mode p) e (omega (arith, lt)) in cc)
-      | inr le ↦ le
-    ]
+rows_before mode received a e p reported = grind (arith, cases_lt, none_received)
 
 -- rows that came, and the frame behind them
 rows_reported : (mode : Mode) → IsMode mode → (sent received : List Column) (e p y : ℕ) (rows before : List (List ℕ)) (later : List Listed) → p + length rows * total mode.across ≤ e

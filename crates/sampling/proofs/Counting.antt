@@ -1,6 +1,6 @@
 -- What is counted, once one event more was told.
-use Rattle.std.proofs.Common.{◌≡◌, ◌∙◌, ℕ, ◌+◌, ◌-◌, ◌^◌, Bool, true, false, cond, List, [], ◌∷◌, ◌++◌, ◌⊎◌, inl, inr, Option, Some, None, min, refl, ap, sym, subst, append-nil, arith}
-use Rattle.std.specs.Prelude.{codes, is_some, slice_index}
+use Rattle.std.proofs.Common.{◌≡◌, ◌∙◌, ℕ, ◌+◌, ◌-◌, ◌^◌, Bool, true, false, cond, List, [], ◌∷◌, ◌++◌, ◌⊎◌, inl, inr, Option, Some, None, min, ap, sym, subst, append-nil, arith}
+use Rattle.std.specs.Prelude.{is_some, slice_index}
 use Rattle.std.proofs.lemmas.List.{map-append}
 use Rattle.frame_build.specs.FrameEvent.{FrameEvent, other}
 use Rattle.frame_build.specs.declared.FrameNote.{FrameNote}
@@ -39,23 +39,10 @@ pub record Gains (old new : Counter) (x : Kinds) : Type 0 where
 pub still : (count n : ℕ) → count ≡ kept n → count ≡ after count 0
 still count n is = omega arith
 
-grows : (old new a b c x : ℕ) → old ≡ kept a → new ≡ after old x → c ≡ a + b → b ≡ x → new ≡ kept c
-grows old new a b c x was now sum is = omega arith
-
 pub counted_more : (old new : Counter) (reported : List Event) (event : Event) (x : Kinds) → Counted old reported → kinds_at reported event ≡ x
     → FramesRepresent new.heard (frame_events reported ++ frame_event_of event ∷ []) → Shows new.pictures (listed reported ++ listed_at (frame_events reported) event) → Gains old new x
     → Counted new (reported ++ event ∷ [])
-counted_more old new reported event x was kinds heard pictures gains = record {
-  heard = subst (λ (all : List FrameEvent). FramesRepresent new.heard all) (sym (map-append frame_event_of reported (event ∷ []))) heard;
-  pictures = subst (λ (ls : List Listed). Shows new.pictures ls) (sym (listed_more reported event)) pictures;
-  frames = grows old.frames new.frames _ _ _ x.frames was.frames gains.frames (with_more (codes "frame ") reported event) (ap (λ (y : Kinds). y.frames) kinds);
-  rows = grows old.rows new.rows _ _ _ x.rows was.rows gains.rows (with_more (codes "row ") reported event) (ap (λ (y : Kinds). y.rows) kinds);
-  packets = grows old.packets new.packets _ _ _ x.packets was.packets gains.packets (packets_more reported event) (ap (λ (y : Kinds). y.packets) kinds);
-  samples = grows old.samples new.samples _ _ _ x.samples was.samples gains.samples (with_more (codes "s ") reported event) (ap (λ (y : Kinds). y.samples) kinds);
-  symbols = grows old.symbols new.symbols _ _ _ x.symbols was.symbols gains.symbols (with_more (codes "! symbols ") reported event) (ap (λ (y : Kinds). y.symbols) kinds);
-  mended = grows old.mended new.mended _ _ _ x.mended was.mended gains.mended (with_more (codes "! mended ") reported event) (ap (λ (y : Kinds). y.mended) kinds);
-  code = grows old.code new.code _ _ _ x.code was.code gains.code (with_more (codes "! code ") reported event) (ap (λ (y : Kinds). y.code) kinds);
-}
+counted_more old new reported event x was kinds heard pictures gains = grind (arith, map-append, listed_more, with_more, Kinds, packets_more)
 
 -- no row and no frame is listed of the event
 pub unlisted : (p : Pictures) (reported : List Event) (event : Event) → Shows p (listed reported) → listed_at (frame_events reported) event ≡ [] → Shows p (listed reported ++ listed_at (frame_events reported) event)
@@ -101,12 +88,10 @@ faults_kept old new a b c was now sum = omega arith
 -- ---- frames and rows
 
 pub is_frame : (r : Option FrameNote) → is_some r ≡ true → (note : FrameNote) × (r ≡ Some note)
-is_frame (Some note) some = (note, refl)
-is_frame None some = absurd cc
+is_frame r h = grind arith
 
 pub no_frame : (r : Option FrameNote) → is_some r ≡ false → r ≡ None
-no_frame (Some note) some = absurd cc
-no_frame None some = refl
+no_frame r h = grind arith
 
 pub row_listed : (p : Pictures) (ls : List Listed) (pixels : List ℕ) (note : LineNote) → note.counts ≡ true → Shows p (ls ++ row pixels note ∷ []) → Shows p (ls ++ listed_rows pixels note)
 row_listed p ls pixels note counts shown = subst (λ (t : Bool). Shows p (ls ++ cond t (row pixels note ∷ []) [])) (sym counts) shown

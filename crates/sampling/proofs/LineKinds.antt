@@ -6,31 +6,24 @@ use Rattle.std.proofs.lemmas.Bool.{ne_eqb}
 use Rattle.island_pack.specs.declared.packet.Packet.{Packet}
 use Rattle.island_pack.specs.declared.packet.PacketVerdicts.{PacketVerdicts}
 use Rattle.bch_block.specs.declared.Verdict.{Verdict}
-use Rattle.bch_block.specs.declared.Verdict.TheVariants.{Clean as CleanBlock, Mended as MendedBlock, Lost as LostBlock}
-use Rattle.island_pack.specs.Taken.{verdict_on}
-use Rattle.infoframe.specs.Frames.{Frame, frame_of, kind_of, first_lost, is_lost}
+use Rattle.infoframe.specs.Frames.{Frame, first_lost, is_lost}
 use Rattle.audio_packets.specs.Faults as audio
 use Rattle.infoframe.specs.declared.content.InfoKind.{InfoKind}
-use Rattle.infoframe.specs.declared.content.InfoKind.TheVariants.{Avi, Audio, Spd, Raw}
 use Rattle.infoframe.specs.declared.content.InfoFault.{InfoFault}
-use Rattle.infoframe.specs.declared.content.InfoFault.TheVariants.{Lost as LostInfo, Length, Checksum}
-use Rattle.audio_packets.specs.Clock.{acr_of}
 use Rattle.audio_packets.specs.Samples.{samples_of}
 use Rattle.audio_packets.specs.declared.clock.Acr.{Acr}
 use Rattle.audio_packets.specs.declared.sample.SampleNote.{SampleNote}
 use Rattle.audio_packets.specs.declared.fault.AudioFault.{AudioFault}
-use Rattle.audio_packets.specs.declared.fault.AudioFault.TheVariants.{Lost as LostAudio, Uneven, Layout}
 use Rattle.period_grammar.specs.Events.{Event, packet, cut, open_island, close_island}
 use Rattle.period_grammar.specs.Lending.{fault_event}
 use Rattle.period_grammar.specs.declared.event.Fault.{Fault}
-use Rattle.period_grammar.specs.declared.event.Fault.TheVariants.{Word, Short, Preamble, Noise, Empty, Code, LongLine, Symbols, Mended, Lost, LongIsland, Broken, Guard}
+use Rattle.period_grammar.specs.declared.event.Fault.TheVariants.{Code, Symbols, Mended}
 use Rattle.frame_build.specs.FrameEvent.{FrameEvent, other}
 use Rattle.frame_build.specs.declared.FrameNote.{FrameNote}
 use Rattle.frame_build.specs.declared.LineNote.{LineNote}
-use Rattle.source_end.specs.Formats.{formats, mode_in}
 use Rattle.listing_writer.specs.Fields.{with_fields}
 use Rattle.listing_writer.specs.Texts.{line_words}
-use Rattle.listing_writer.specs.ContentText.{row_lines, has_other_size, vic_lines, frame_lines, clock_lines, sample_words, parity_words, side_lines, note_lines, sample_lines, is_usual_depth, depth_in, depth_lines, control_words, control_lines, avi_words, audio_words, spd_words, raw_words, info_words, checksum_words, info_lines, other_words, carried_lines, packet_lines, frame_event_of, lines_at}
+use Rattle.listing_writer.specs.ContentText.{row_lines, vic_lines, frame_lines, clock_lines, sample_words, parity_words, side_lines, note_lines, sample_lines, is_usual_depth, depth_in, depth_lines, control_words, control_lines, avi_words, audio_words, spd_words, raw_words, info_words, checksum_words, info_lines, other_words, carried_lines, packet_lines, frame_event_of, lines_at}
 use Rattle.listing_writer.specs.Listed.{listed_at}
 use Rattle.sampling.specs.Counts.{lines_with, is_packet}
 use Rattle.sampling.proofs.Growing.{with_append}
@@ -80,13 +73,11 @@ faulted symbols mended code = record { frames = 0; rows = 0; packets = 0; sample
 other_size : (t : Bool) (note : FrameNote) (vic : ℕ)
     → kinds_of 0 (with_fields (codes "frame") (note.width ∷ note.height ∷ []) ∷ (if t then with_fields (codes "! vic") (vic ∷ []) ∷ [] else [])) ≡ pictured 1 0
 unfolding lines_with
-other_size true note vic = refl
-other_size false note vic = refl
+other_size t note vic = grind arith
 
 pub one_frame : (vic : Option ℕ) (note : FrameNote) → kinds_of 0 (frame_lines vic (Some note)) ≡ pictured 1 0
 unfolding frame_lines vic_lines lines_with
-one_frame None note = refl
-one_frame (Some vic) note = other_size (has_other_size (mode_in formats vic) note) note vic
+one_frame vic note = grind (arith, other_size)
 
 pub no_frame : (vic : Option ℕ) → kinds_of 0 (frame_lines vic None) ≡ none
 unfolding frame_lines lines_with
@@ -97,14 +88,11 @@ row_with counts ragged digits n = if counts then (codes "row " ++ digits) ∷ (i
 
 counted_row : (counts ragged : Bool) (digits : List ℕ) (n : ℕ) → counts ≡ true → kinds_of 0 (row_with counts ragged digits n) ≡ pictured 0 1
 unfolding lines_with
-counted_row true true digits n is = refl
-counted_row true false digits n is = refl
-counted_row false ragged digits n is = absurd cc
+counted_row counts ragged digits n h = grind arith
 
 uncounted_row : (counts ragged : Bool) (digits : List ℕ) (n : ℕ) → counts ≡ false → kinds_of 0 (row_with counts ragged digits n) ≡ none
 unfolding lines_with
-uncounted_row true ragged digits n is = absurd cc
-uncounted_row false ragged digits n is = refl
+uncounted_row counts ragged digits n h = grind arith
 
 pub one_row : (pixels : List ℕ) (note : LineNote) → note.counts ≡ true → kinds_of 0 (row_lines pixels note) ≡ pictured 0 1
 unfolding row_lines
@@ -121,19 +109,10 @@ abbrev Tell : List (List ℕ) → ℕ → Type 0
 Tell lines samples = kinds_of 0 lines ≡ sampled 0 samples
 
 both : (xs ys : List (List ℕ)) (m n : ℕ) → Tell xs m → Tell ys n → Tell (xs ++ ys) (m + n)
-both xs ys m n h k = λ i. record {
-  frames = (with_append (codes "frame ") xs ys ∙ ap₂ (λ (a b : ℕ). a + b) (ap (λ (x : Kinds). x.frames) h) (ap (λ (x : Kinds). x.frames) k)) i;
-  rows = (with_append (codes "row ") xs ys ∙ ap₂ (λ (a b : ℕ). a + b) (ap (λ (x : Kinds). x.rows) h) (ap (λ (x : Kinds). x.rows) k)) i;
-  packets = 0;
-  samples = (with_append (codes "s ") xs ys ∙ ap₂ (λ (a b : ℕ). a + b) (ap (λ (x : Kinds). x.samples) h) (ap (λ (x : Kinds). x.samples) k)) i;
-  symbols = (with_append (codes "! symbols ") xs ys ∙ ap₂ (λ (a b : ℕ). a + b) (ap (λ (x : Kinds). x.symbols) h) (ap (λ (x : Kinds). x.symbols) k)) i;
-  mended = (with_append (codes "! mended ") xs ys ∙ ap₂ (λ (a b : ℕ). a + b) (ap (λ (x : Kinds). x.mended) h) (ap (λ (x : Kinds). x.mended) k)) i;
-  code = (with_append (codes "! code ") xs ys ∙ ap₂ (λ (a b : ℕ). a + b) (ap (λ (x : Kinds). x.code) h) (ap (λ (x : Kinds). x.code) k)) i;
-}
+both xs ys m n h k = grind (arith, with_append)
 
 choice : (t : Bool) (xs ys : List (List ℕ)) (m n : ℕ) → Tell xs m → Tell ys n → Tell (if t then xs else ys) (if t then m else n)
-choice true xs ys m n h k = h
-choice false xs ys m n h k = k
+choice t xs ys m n h k = grind arith
 
 nothing : Tell [] 0
 unfolding lines_with
@@ -141,20 +120,15 @@ nothing = refl
 
 clock : (column : ℕ) (r : Result Acr AudioFault) → Tell (clock_lines column r) 0
 unfolding clock_lines lines_with
-clock column (Ok acr) = refl
-clock column (Err Uneven) = refl
-clock column (Err Layout) = refl
-clock column (Err (LostAudio block)) = refl
+clock column r = grind arith
 
 left_side : (column place : ℕ) (even : Bool) → Tell (side_lines column place (codes "l") even) 0
 unfolding parity_words lines_with
-left_side column place true = refl
-left_side column place false = refl
+left_side column place even = grind arith
 
 right_side : (column place : ℕ) (even : Bool) → Tell (side_lines column place (codes "r") even) 0
 unfolding parity_words lines_with
-right_side column place true = refl
-right_side column place false = refl
+right_side column place even = grind arith
 
 one_sample : (note : SampleNote) → Tell (sample_words note.sample ∷ []) 1
 unfolding sample_words lines_with
@@ -179,15 +153,11 @@ samples_read (Err fault) = 0
 
 samples_tell : (column : ℕ) (r : Result (List SampleNote) AudioFault) → Tell (sample_lines column r) (samples_read r)
 unfolding sample_lines lines_with
-samples_tell column (Ok notes) = notes_tell column notes
-samples_tell column (Err Layout) = refl
-samples_tell column (Err Uneven) = refl
-samples_tell column (Err (LostAudio block)) = refl
+samples_tell column r = grind (arith, notes_tell)
 
 deep : (t : Bool) (column depth : ℕ) → Tell (if t then [] else with_fields (codes "! depth") (column ∷ depth ∷ []) ∷ []) 0
 unfolding lines_with
-deep true column depth = refl
-deep false column depth = refl
+deep t column depth = grind arith
 
 control_tells : (column : ℕ) (bodies : List ℕ) → Tell (control_lines column bodies) 0
 unfolding control_lines control_words depth_lines lines_with
@@ -195,17 +165,11 @@ control_tells column bodies = both (control_words bodies ∷ []) (depth_lines co
 
 info_tells : (kind : InfoKind) (f : Frame) → Tell (info_words kind f ∷ []) 0
 unfolding info_words avi_words audio_words spd_words raw_words lines_with
-info_tells Avi f = refl
-info_tells Audio f = refl
-info_tells Spd f = refl
-info_tells Raw f = refl
+info_tells kind f = grind arith
 
 infos_tell : (column : ℕ) (r : Result Frame InfoFault) → Tell (info_lines column r) 0
 unfolding info_lines checksum_words lines_with
-infos_tell column (Ok f) = info_tells (kind_of f.type_code f.version) f
-infos_tell column (Err Length) = refl
-infos_tell column (Err (Checksum total)) = refl
-infos_tell column (Err (LostInfo block)) = refl
+infos_tell column r = grind (arith, info_tells)
 
 other_tells : (p : Packet) → Tell (other_words p ∷ []) 0
 unfolding other_words lines_with
@@ -223,30 +187,17 @@ samples_carried type_code p v =
 abbrev pub samples_in : Packet → PacketVerdicts → ℕ
 samples_in p v = if is_some (first_lost v) then 0 else samples_carried (slice_index p.header 0) p v
 
-carried : (type_code : ℕ) (p : Packet) (v : PacketVerdicts) (column : ℕ) → Tell (carried_lines type_code p v column) (samples_carried type_code p v)
-unfolding carried_lines
-carried type_code p v column =
-    choice (type_code == 0) [] _ 0 _ nothing
-    (choice (type_code == 1) (clock_lines column (acr_of p v)) _ 0 _ (clock column (acr_of p v))
-    (choice (type_code == 2) (sample_lines column (samples_of p v)) _ (samples_read (samples_of p v)) _ (samples_tell column (samples_of p v))
-    (choice (type_code == 3) (control_lines column p.bodies) _ 0 _ (control_tells column p.bodies)
-    (choice (nat_le 0x80 type_code) (info_lines column (frame_of p v)) (other_words p ∷ []) 0 0 (infos_tell column (frame_of p v)) (other_tells p)))))
-
 packet_tells : (p : Packet) (v : PacketVerdicts) (column : ℕ) → Tell (packet_lines p v column) (samples_in p v)
-unfolding packet_lines
-packet_tells p v column =
-    choice (is_some (first_lost v)) [] (carried_lines (slice_index p.header 0) p v column) 0 (samples_carried (slice_index p.header 0) p v) nothing (carried (slice_index p.header 0) p v column)
+unfolding packet_lines carried_lines
+packet_tells p v column = grind (arith, choice, nothing, clock, samples_tell, control_tells, infos_tell, other_tells)
 
 -- the lines of samples among those of a packet
 pub packet_samples : (p : Packet) (v : PacketVerdicts) (column : ℕ) → lines_with (codes "s ") (packet_lines p v column) ≡ samples_in p v
 packet_samples p v column = ap (λ (x : Kinds). x.samples) (packet_tells p v column)
 
-with_packet : (lines : List (List ℕ)) (n : ℕ) → Tell lines n → kinds_of 1 lines ≡ sampled 1 n
-with_packet lines n tell = ap (λ (x : Kinds). record { frames = x.frames; rows = x.rows; packets = 1; samples = x.samples; symbols = x.symbols; mended = x.mended; code = x.code }) tell
-
 pub packet_kinds : (reported : List Event) (p : Packet) (v : PacketVerdicts) (column : ℕ) → kinds_at reported (packet p v column) ≡ sampled 1 (samples_in p v)
 unfolding lines_at
-packet_kinds reported p v column = with_packet (packet_lines p v column) (samples_in p v) (packet_tells p v column)
+packet_kinds reported p v column = grind (arith, packet_tells)
 
 -- ---- faults, the cut and guards
 
@@ -266,35 +217,11 @@ code_kinds reported lane j = refl
 pub plain_kinds : (reported : List Event) (fault : Fault) → ((j n : ℕ) → fault ≡ Symbols j n → ⊥) → ((j block bit : ℕ) → fault ≡ Mended j block bit → ⊥) → ((lane j : ℕ) → fault ≡ Code lane j → ⊥)
     → kinds_at reported (fault_event fault) ≡ none
 unfolding lines_at line_words lines_with
-plain_kinds reported (Word a b) s m c = refl
-plain_kinds reported (Short a) s m c = refl
-plain_kinds reported (Preamble a) s m c = refl
-plain_kinds reported (Noise a) s m c = refl
-plain_kinds reported (Empty a) s m c = refl
-plain_kinds reported (Code a b) s m c = absurd (c a b refl)
-plain_kinds reported (LongLine a) s m c = refl
-plain_kinds reported (Symbols a b) s m c = absurd (s a b refl)
-plain_kinds reported (Mended a b d) s m c = absurd (m a b d refl)
-plain_kinds reported (Lost a b) s m c = refl
-plain_kinds reported (LongIsland a) s m c = refl
-plain_kinds reported (Broken a) s m c = refl
-plain_kinds reported (Guard a) s m c = refl
+plain_kinds reported fault h k l = grind arith
 
 pub fault_unlisted : (es : List FrameEvent) (fault : Fault) → listed_at es (fault_event fault) ≡ []
 unfolding frame_event_of
-fault_unlisted es (Word a b) = refl
-fault_unlisted es (Short a) = refl
-fault_unlisted es (Preamble a) = refl
-fault_unlisted es (Noise a) = refl
-fault_unlisted es (Empty a) = refl
-fault_unlisted es (Code a b) = refl
-fault_unlisted es (LongLine a) = refl
-fault_unlisted es (Symbols a b) = refl
-fault_unlisted es (Mended a b c) = refl
-fault_unlisted es (Lost a b) = refl
-fault_unlisted es (LongIsland a) = refl
-fault_unlisted es (Broken a) = refl
-fault_unlisted es (Guard a) = refl
+fault_unlisted es fault = grind arith
 
 -- an event of which nothing is counted, but that parts lines of pixels
 pub record IsQuiet (event : Event) : Type 0 where
@@ -317,12 +244,10 @@ cut_quiet j = record { frame_event = refl; kinds = λ reported. refl; unlisted =
 -- ---- samples of a packet, as they are read
 
 passed : (t : Bool) (n : ℕ) → n ≡ 0 → (if t then 0 else n) ≡ 0
-passed true n zeros = refl
-passed false n zeros = zeros
+passed t n h = grind arith
 
 passed_other : (t : Bool) (m n : ℕ) → t ≡ false → n ≡ 0 → (if t then m else n) ≡ 0
-passed_other true m n is zeros = absurd cc
-passed_other false m n is zeros = zeros
+passed_other t m n h k = grind arith
 
 -- no other packet tells samples
 pub no_samples : (p : Packet) (v : PacketVerdicts) → (slice_index p.header 0 ≡ 2 → ⊥) → 0 ≡ samples_in p v
@@ -331,25 +256,16 @@ no_samples p v unlike =
     sym (passed (is_some (first_lost v)) _ (passed (t == 0) _ (passed (t == 1) _ (passed_other (t == 2) _ _ (ne_eqb t 2 unlike) (passed (t == 3) _ (passed (nat_le 0x80 t) 0 refl))))))
 
 is_lost_same : (x : Verdict) → audio.is_lost x ≡ is_lost x
-is_lost_same CleanBlock = refl
-is_lost_same (MendedBlock bit) = refl
-is_lost_same LostBlock = refl
+is_lost_same x = grind arith
 
 find_same : (f g : ℕ → Bool) (xs : List ℕ) → ((x : ℕ) → f x ≡ g x) → find f xs ≡ find g xs
 find_same f g [] same = refl
 find_same f g (x ∷ xs) same = ap₂ (λ (b : Bool) (r : Option ℕ). if b then Some x else r) (same x) (find_same f g xs same)
 
-lost_same : (v : PacketVerdicts) → audio.first_lost v ≡ first_lost v
-unfolding first_lost
-lost_same v = find_same _ _ (0 ∷ 1 ∷ 2 ∷ 3 ∷ 4 ∷ []) (λ block. is_lost_same (verdict_on v block))
-
 lost_by : (lost : Option ℕ) (r : Result (List SampleNote) AudioFault) → (if is_some lost then 0 else samples_read (audio.unless_lost lost r)) ≡ samples_read (audio.unless_lost lost r)
-lost_by (Some block) r = refl
-lost_by None r = refl
+lost_by lost r = grind arith
 
 -- a packet of samples tells those that are read
 pub all_samples : (p : Packet) (v : PacketVerdicts) → slice_index p.header 0 ≡ 2 → samples_read (samples_of p v) ≡ samples_in p v
-all_samples p v is =
-    sym (ap (λ (t : ℕ). if is_some (first_lost v) then 0 else samples_carried t p v) is
-    ∙ ap (λ (lost : Option ℕ). if is_some lost then 0 else samples_read (samples_of p v)) (sym (lost_same v))
-    ∙ lost_by (audio.first_lost v) _)
+unfolding first_lost
+all_samples p v is = grind (arith, lost_by, find_same, is_lost_same)

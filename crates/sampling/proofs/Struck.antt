@@ -1,5 +1,5 @@
 -- Strikes on periods, one after another, and the hits that they are.
-use Rattle.std.proofs.Common.{◌≡◌, ℕ, zero, suc, ◌+◌, ◌*◌, ◌≤◌, ◌<◌, Bool, true, false, cond, ◌&&◌, List, [], ◌∷◌, ◌++◌, length, map, take, get_or, refl, ap, ap₂, sym, ◌∙◌, subst, arith, append_assoc, append-nil, length-append, le-leb, leb-true}
+use Rattle.std.proofs.Common.{◌≡◌, ℕ, zero, suc, ◌+◌, ◌*◌, ◌≤◌, ◌<◌, Bool, true, cond, ◌&&◌, List, [], ◌∷◌, ◌++◌, length, map, take, get_or, refl, ap, ap₂, sym, ◌∙◌, subst, arith, append_assoc, append-nil, length-append, le-leb, leb-true}
 use Rattle.std.specs.Prelude.{nat_le, not, filter, All, slice_index}
 use Rattle.std.proofs.lemmas.List.{map-append, length-map, take_more, take_all}
 use Rattle.std.proofs.lemmas.List.Elements.{All-nil, All-cons, All-head, All-tail, All-append, All-map, All-filter, filter-append}
@@ -39,8 +39,7 @@ struck_one tap columns s low high =
     ap (λ (b : Bool). map (hit_of tap) (cond b (s ∷ []) [])) e
 
 kept_or_not : (tap : Tap) (s : Strike) (b : Bool) → (b ≡ true → ⊥) → map (hit_of tap) (cond b (s ∷ []) []) ≡ []
-kept_or_not tap s true not = absurd (not refl)
-kept_or_not tap s false not = refl
+kept_or_not tap s b h = grind arith
 
 pub struck_early : (tap : Tap) (columns : ℕ) (s : Strike) → 10 * s.column < first_bit tap s.lane → struck tap columns (s ∷ []) ≡ []
 unfolding struck
@@ -56,9 +55,7 @@ struck_late tap columns s late =
 
 pub strikes_more : (at : ℕ) (ps : List Period) (p : Period) → strikes at (ps ++ p ∷ []) ≡ strikes at ps ++ period_strikes (at + columns_of ps) p
 unfolding strikes columns_of
-strikes_more at [] p =
-    let e : at ≡ at + 0 = omega arith in
-    append-nil (period_strikes at p) ∙ ap (λ (k : ℕ). period_strikes k p) e
+strikes_more at [] p = grind (arith, append-nil)
 strikes_more at (q ∷ ps) p =
     let e : at + period_columns q + columns_of ps ≡ at + (period_columns q + columns_of ps) = omega arith in
     ap (λ (xs : List Strike). period_strikes at q ++ xs) (strikes_more (at + period_columns q) ps p)
@@ -67,10 +64,7 @@ strikes_more at (q ∷ ps) p =
 
 pub packets_more : (at i : ℕ) → packet_strikes at (i + 1) ≡ packet_strikes at i ++ packet_strike at i ∷ []
 unfolding packet_strikes
-packets_more at i =
-    let e : 0 + i ≡ i = omega arith in
-    ap (map (packet_strike at)) (up_next 0 i) ∙ map-append (packet_strike at) (up_from 0 i) ((0 + i) ∷ [])
-    ∙ ap (λ (k : ℕ). map (packet_strike at) (up_from 0 i) ++ packet_strike at k ∷ []) e
+packets_more at i = grind (arith, up_next, map-append)
 
 pub no_packets : (at : ℕ) → packet_strikes at 0 ≡ []
 unfolding packet_strikes
@@ -93,12 +87,7 @@ taken_more items ps i x same lt is =
 
 pub struck_more : (tap : Tap) (columns at : ℕ) (ps : List Period) (p : Period) (old new : List Hit) → at ≡ columns_of ps → old ≡ struck tap columns (strikes 0 ps) → new ≡ old ++ struck tap columns (period_strikes at p)
     → new ≡ struck tap columns (strikes 0 (ps ++ p ∷ []))
-struck_more tap columns at ps p old new e was is =
-    let z : 0 + columns_of ps ≡ at = omega (arith, e) in
-    is ∙ ap (λ (hs : List Hit). hs ++ struck tap columns (period_strikes at p)) was
-    ∙ ap (λ (k : ℕ). struck tap columns (strikes 0 ps) ++ struck tap columns (period_strikes k p)) (sym z)
-    ∙ sym (struck_append tap columns (strikes 0 ps) (period_strikes (0 + columns_of ps) p))
-    ∙ ap (struck tap columns) (sym (strikes_more 0 ps p))
+struck_more tap columns at ps p old new e was is = grind (arith, struck_append, strikes_more)
 
 pub columns_more : (ps : List Period) (p : Period) → columns_of (ps ++ p ∷ []) ≡ columns_of ps + period_columns p
 unfolding columns_of
@@ -140,9 +129,7 @@ length_up (suc n) x = ap (λ (k : ℕ). suc k) (length_up n (suc x))
 
 period_few : (at : ℕ) (p : Period) → length (period_strikes at p) ≤ period_columns p
 unfolding period_columns
-period_few at (control runs) = omega arith
-period_few at (video bytes) = omega arith
-period_few at (island x) = omega (arith, length-map (up_from 0 (length x.packets)) (packet_strike at), length_up (length x.packets) 0)
+period_few at p = grind (arith, length-map, length_up)
 
 strikes_few : (at : ℕ) (ps : List Period) → length (strikes at ps) ≤ columns_of ps
 unfolding strikes columns_of
@@ -164,33 +151,17 @@ hits_few tap ps =
 -- each lies within what a tap takes of its lane
 
 lane_count : (tap : Tap) (columns : List Column) (lane : ℕ) → lane < 3 → slice_index (tap_counts tap columns) lane ≡ tap_count tap (length columns) lane
-lane_count tap columns zero lt = refl
-lane_count tap columns (suc zero) lt = refl
-lane_count tap columns (suc (suc zero)) lt = refl
-lane_count tap columns (suc (suc (suc n))) lt = absurd (omega arith)
-
-fits_one : (tap : Tap) (columns : List Column) (s : Strike) → s.lane < 3 → is_within tap (length columns) s ≡ true → FitsLane (tap_counts tap columns) (hit_of tap s)
-fits_one tap columns s lt h =
-    let one = nat_le (first_bit tap s.lane) (10 * s.column) in
-    let two = nat_le (10 * s.column + 10) (first_bit tap s.lane + tap_count tap (length columns) s.lane) in
-    let low = leb-true (first_bit tap s.lane) (10 * s.column) (and-left one two h) in
-    let high = leb-true (10 * s.column + 10) (first_bit tap s.lane + tap_count tap (length columns) s.lane) (and-right one two h) in
-    omega (arith, low, high, lane_count tap columns s.lane lt)
-
-fits_none : (counts : List ℕ) → AllFitLanes counts []
-fits_none counts i hit at = cc
+lane_count tap columns lane h = grind arith
 
 fits_more : (counts : List ℕ) (h : Hit) (hs : List Hit) → FitsLane counts h → AllFitLanes counts hs → AllFitLanes counts (h ∷ hs)
-fits_more counts h hs one rest zero hit at = let e : h ≡ hit = cc in subst (FitsLane counts) e one
-fits_more counts h hs one rest (suc i) hit at = rest i hit at
+fits_more counts h hs k l m p q = grind arith
 
 fits_by : (b : Bool) (tap : Tap) (columns : List Column) (s : Strike) (xs : List Strike) → s.lane < 3 → is_within tap (length columns) s ≡ b → AllFitLanes (tap_counts tap columns) (map (hit_of tap) xs)
     → AllFitLanes (tap_counts tap columns) (map (hit_of tap) (cond b (s ∷ xs) xs))
-fits_by true tap columns s xs lt h rest = fits_more (tap_counts tap columns) (hit_of tap s) (map (hit_of tap) xs) (fits_one tap columns s lt h) rest
-fits_by false tap columns s xs lt h rest = rest
+fits_by b tap columns s xs h k l = grind (arith, fits_more, leb-true, and-left, and-right, lane_count)
 
 fits_all : (tap : Tap) (columns : List Column) (xs : List Strike) → All (λ (s : Strike). s.lane < 3) xs → AllFitLanes (tap_counts tap columns) (map (hit_of tap) (filter (is_within tap (length columns)) xs))
-fits_all tap columns [] lanes = fits_none (tap_counts tap columns)
+fits_all tap columns [] lanes = grind arith
 fits_all tap columns (s ∷ xs) lanes =
     fits_by (is_within tap (length columns) s) tap columns s (filter (is_within tap (length columns)) xs) (All-head (λ (s : Strike). s.lane < 3) s xs lanes) refl
     (fits_all tap columns xs (All-tail (λ (s : Strike). s.lane < 3) s xs lanes))

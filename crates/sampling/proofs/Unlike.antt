@@ -1,5 +1,5 @@
 -- How many bytes differ, once a row or a frame more is listed.
-use Rattle.std.proofs.Common.{◌≡◌, ◌∙◌, ℕ, zero, suc, ◌+◌, ◌-◌, ◌*◌, ◌/◌, ◌%◌, ◌^◌, ◌<◌, ◌==◌, cond, List, [], ◌∷◌, ◌++◌, map, length, take, get_or, min, refl, ap, ap₂, sym, length-append, arith}
+use Rattle.std.proofs.Common.{◌≡◌, ◌∙◌, ℕ, zero, suc, ◌+◌, ◌-◌, ◌%◌, ◌^◌, ◌<◌, ◌==◌, cond, List, [], ◌∷◌, ◌++◌, map, length, take, get_or, min, refl, ap, ap₂, sym, length-append, arith}
 use Rattle.std.specs.Prelude.{sum_by}
 use Rattle.std.specs.List.{enumerate_from}
 use Rattle.std.proofs.lemmas.List.{length-map, length-take, take_more, take_all}
@@ -10,7 +10,7 @@ use Rattle.source_end.specs.Raster.{up_from}
 use Rattle.source_end.specs.Generator.{row_byte, row_bytes}
 use Rattle.source_end.proofs.Generated.{byte_more}
 use Rattle.listing_writer.specs.Listed.{Listed, row, frame}
-use Rattle.sampling.specs.Counts.{kept, reported_frames, unlike, unlike_row, unlike_frame, unlike_reported}
+use Rattle.sampling.specs.Counts.{kept, reported_frames, unlike, unlike_frame, unlike_reported}
 use Rattle.sampling.specs.Tallies.{open_rows, next_frame, Shows}
 use Rattle.sampling.specs.declared.pictures.Pictures.{Pictures}
 
@@ -56,14 +56,7 @@ one_more {X} n (y ∷ xs) x =
 
 -- what is summed of numbered elements grows by one
 sum_more : {X : Type 0} (f : ℕ × X → ℕ) (n at : ℕ) (xs : List X) (x : X) → n + length xs ≡ at → sum_by f (enumerate_from n (xs ++ x ∷ [])) ≡ sum_by f (enumerate_from n xs) + f (at, x)
-sum_more {X} f n at xs x place =
-    let alone : 0 + f (n + length xs, x) ≡ f (n + length xs, x) = omega arith in
-    ap (λ (ps : List (ℕ × X)). sum_by f ps) (one_more n xs x) ∙ sum_by-append f (enumerate_from n xs) ((n + length xs, x) ∷ [])
-    ∙ ap (λ (k : ℕ). sum_by f (enumerate_from n xs) + k) (alone ∙ ap (λ (k : ℕ). f (k, x)) place)
-
-rows_more : (f : ℕ) (rows : Rows) (bytes : List ℕ) → unlike_frame (f, rows ++ bytes ∷ []) ≡ unlike_frame (f, rows) + unlike bytes (row_bytes f (length rows) (length bytes))
-unfolding unlike_frame
-rows_more f rows bytes = sum_more (unlike_row f) 0 (length rows) rows bytes (omega arith)
+sum_more {X} f n at xs x place = grind (arith, one_more, sum_by-append)
 
 frames_more : (frames : Frames) (rows : Rows) → unlike_reported (frames ++ rows ∷ []) ≡ unlike_reported frames + unlike_frame (suc (length frames), rows)
 unfolding unlike_reported
@@ -71,16 +64,13 @@ frames_more frames rows = sum_more unlike_frame 1 (suc (length frames)) frames r
 
 -- ---- the generator's bytes repeat
 
-repeats : (f y c d : ℕ) → (31 * f + 7 * y + c + d) % 256 ≡ (31 * (f % 256) + 7 * (y % 256) + c + d) % 256
-repeats f y c d = omega arith
-
 map_same : (g h : ℕ → ℕ) (xs : List ℕ) → ((x : ℕ) → g x ≡ h x) → map g xs ≡ map h xs
 map_same g h [] same = refl
 map_same g h (x ∷ xs) same = ap₂ (λ (y : ℕ) (ys : List ℕ). y ∷ ys) (same x) (map_same g h xs same)
 
 row_repeats : (f y n : ℕ) → row_bytes f y n ≡ row_bytes (f % 256) (y % 256) n
 unfolding row_bytes
-row_repeats f y n = map_same (row_byte f y) (row_byte (f % 256) (y % 256)) (up_from 0 n) (λ k. repeats f y (3 * (k / 3)) (85 * (2 - k % 3)))
+row_repeats f y n = grind (arith, map_same)
 
 -- ---- one more is listed
 
@@ -93,23 +83,8 @@ adds k l n a b c was has now sum = omega arith
 pub row_shown : (p n : Pictures) (listed : List Listed) (bytes : List ℕ) (note : LineNote) (u : ℕ) → Shows p listed
     → u ≡ unlike bytes (row_bytes p.frame p.row (length bytes)) → n.differ ≡ p.differ → n.pending ≡ min (p.pending + u) (2 ^ 64 - 1) → n.frame ≡ p.frame → n.row ≡ (p.row + 1) % 256
     → Shows n (listed ++ row bytes note ∷ [])
-row_shown p n listed bytes note u was is d e f r =
-    let frames = reported_row [] listed bytes note in
-    let rows = open_row [] listed bytes note in
-    let unlike_at : ℕ → ℕ → ℕ = λ g y. unlike bytes (row_bytes g y (length bytes)) in
-    let more =
-    ap₂ (λ (fs : Frames) (rs : Rows). unlike_frame (suc (length fs), rs)) frames rows
-    ∙ rows_more (next_frame listed) (open_rows [] listed) bytes in
-    let here =
-    ap (unlike bytes) (row_repeats (next_frame listed) (length (open_rows [] listed)) (length bytes))
-    ∙ ap₂ unlike_at (sym was.frame) (sym was.row) ∙ sym is in
-    let count = ap length rows ∙ length-append (open_rows [] listed) (bytes ∷ []) in
-    record {
-      differ = d ∙ was.differ ∙ ap (λ (fs : Frames). kept (unlike_reported fs)) (sym frames);
-      pending = grows p.pending n.pending _ _ _ u was.pending e more here;
-      frame = f ∙ was.frame ∙ ap (λ (fs : Frames). suc (length fs) % 256) (sym frames);
-      row = let at = was.row in omega (arith, r, at, count);
-    }
+unfolding unlike_frame
+row_shown p n listed bytes note u was is d e f r = grind (arith, reported_row, open_row, row_repeats, length-append, grows, sum_more)
 
 pub frame_shown : (p n : Pictures) (listed : List Listed) (note : FrameNote) → Shows p listed
     → n.differ ≡ min (p.differ + p.pending) (2 ^ 64 - 1) → n.pending ≡ 0 → n.frame ≡ (p.frame + 1) % 256 → n.row ≡ 0
@@ -137,11 +112,7 @@ one_differs : (xs ys : List ℕ) (x y : ℕ) → length xs ≡ length ys → unl
 one_differs [] [] x y same = let e : cond (x == y) 0 1 + 0 ≡ 0 + cond (x == y) 0 1 = omega arith in e
 one_differs [] (c ∷ cs) x y same = absurd cc
 one_differs (b ∷ bs) [] x y same = absurd cc
-one_differs (b ∷ bs) (c ∷ cs) x y same =
-    let rest : length bs ≡ length cs = omega (arith, same) in
-    let step : ℕ → ℕ = λ n. cond (b == c) 0 1 + n in
-    let later = one_differs bs cs x y rest in
-    ap step later ∙ (let e : cond (b == c) 0 1 + (unlike bs cs + cond (x == y) 0 1) ≡ (cond (b == c) 0 1 + unlike bs cs) + cond (x == y) 0 1 = omega arith in e)
+one_differs (b ∷ bs) (c ∷ cs) x y same = grind (arith, one_differs bs cs x y)
 
 length_up : (n x : ℕ) → length (up_from x n) ≡ n
 length_up zero x = refl

@@ -1,5 +1,5 @@
 -- Contents that grow.
-use Rattle.std.proofs.Common.{◌≡◌, ℕ, suc, ◌-◌, ◌<◌, Bool, true, ◌==◌, ◌&&◌, List, [], ◌∷◌, ◌++◌, length, get_or, Result, Ok, Err, refl, ap, ap₂, ◌∙◌, arith, lt-ltb, eq-eqb}
+use Rattle.std.proofs.Common.{◌≡◌, ℕ, suc, ◌-◌, ◌<◌, Bool, true, ◌==◌, ◌&&◌, List, [], ◌∷◌, ◌++◌, length, get_or, Result, refl, ap, ap₂, ◌∙◌, arith, lt-ltb, eq-eqb}
 use Rattle.std.specs.Prelude.{OnOk, OnErr, slice_set, nat_lt}
 use Rattle.std.specs.List.{list_all}
 use Rattle.std.proofs.lemmas.List.Folds.{list_all-append}
@@ -58,5 +58,4 @@ row_content bytes f g good is h =
 
 -- a change that was made or not
 pub kept_or : {E : Type 0} (r : Result (Unit {0}) E) (f g h : Frame) → OnOk r (g ≡ h) → OnErr r (g ≡ f) → (g ≡ h → is_content f ≡ true → is_content g ≡ true) → is_content f ≡ true → is_content g ≡ true
-kept_or (Ok v) f g h made none good was = good made was
-kept_or (Err e) f g h made none good was = ap is_content none ∙ was
+kept_or r f g h k l m p = grind arith

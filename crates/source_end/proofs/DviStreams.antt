@@ -4,7 +4,6 @@ use Rattle.std.specs.List.{list_all}
 use Rattle.std.proofs.lemmas.List.{length-map}
 use Rattle.tmds_word.specs.Column.{Column}
 use Rattle.island_pack.specs.Periods.{Period, control, video, island, values_of}
-use Rattle.island_pack.specs.Conforming.{is_control_period, is_video_period}
 use Rattle.island_pack.specs.Spelling.{control_column}
 use Rattle.island_pack.proofs.Spelled.{video_spelled}
 use Rattle.source_end.specs.Fronts.{TookFront}
@@ -23,19 +22,10 @@ DviSpells-append (q ∷ ps) others columns more h k =
 pub DviSpells-more : (periods : List Period) (p : Period) (columns own : List Column) → DviSpells periods columns → DviSpellsPeriod p own → DviSpells (periods ++ p ∷ []) (columns ++ own)
 DviSpells-more periods p columns own h k = DviSpells-append periods (p ∷ []) columns own h (own, [], sym (append-nil own), k, refl)
 
-period_length : (p : Period) (columns : List Column) → DviSpellsPeriod p columns → length columns ≡ dvi_columns p
-unfolding dvi_columns
-period_length (control runs) columns h = ap length h ∙ length-map (values_of runs) control_column
-period_length (video bytes) columns h = video_length bytes columns h
-period_length (island x) columns h = absurd h
-
 pub DviSpells-length : (periods : List Period) (columns : List Column) → DviSpells periods columns → length columns ≡ dvi_columns_of periods
-unfolding dvi_columns_of
+unfolding dvi_columns_of dvi_columns
 DviSpells-length [] columns h = ap length h
-DviSpells-length (p ∷ ps) columns h =
-    let own = period_length p h.0 h.3 in
-    let rest = DviSpells-length ps h.1 h.4 in
-    ap length h.2 ∙ length-append h.0 h.1 ∙ omega (arith, own, rest)
+DviSpells-length (p ∷ ps) columns h = grind (arith, length-append, length-map, video_length, DviSpells-length ps)
 
 -- The periods of a conforming list can be sent.
 pub dvi_sendable_all : (periods : List Period) → dvi_conforms periods ≡ true → list_all is_dvi_sendable periods ≡ true
@@ -46,11 +36,7 @@ dvi_sendable_all (island x ∷ ps) h = absurd cc
 dvi_sendable_all (control runs ∷ []) h = both (is_dvi_sendable (control runs)) true (control_sendable runs h) refl
 dvi_sendable_all (control runs ∷ (control more ∷ ps)) h = absurd cc
 dvi_sendable_all (control runs ∷ (island x ∷ ps)) h = absurd cc
-dvi_sendable_all (control runs ∷ (video bytes ∷ ps)) h =
-    let rest = right (is_control_period runs) _ h in
-    both (is_dvi_sendable (control runs)) _ (control_sendable runs (left (is_control_period runs) _ h))
-    (both (is_dvi_sendable (video bytes)) _ (video_sendable bytes (left (is_video_period bytes) (dvi_conforms ps) rest))
-    (dvi_sendable_all ps (right (is_video_period bytes) (dvi_conforms ps) rest)))
+dvi_sendable_all (control runs ∷ (video bytes ∷ ps)) h = grind (arith, right, both, control_sendable, left, video_sendable, dvi_sendable_all ps)
 
 pub dvi_sendable_at : (periods : List Period) (i : ℕ) (d : Period) → dvi_conforms periods ≡ true → i < length periods → is_dvi_sendable (get_or periods i d) ≡ true
 dvi_sendable_at periods i d h lt = passed_at is_dvi_sendable periods i d (dvi_sendable_all periods h) lt
@@ -60,9 +46,7 @@ pub dvi_periods_room : (periods : List Period) (i : ℕ) (d : Period) → i < le
 unfolding dvi_columns_of
 dvi_periods_room [] i d lt = absurd (omega arith)
 dvi_periods_room (p ∷ ps) zero d lt = omega arith
-dvi_periods_room (p ∷ ps) (suc i) d lt =
-    let lt' : i < length ps = omega arith in
-    omega (arith, dvi_periods_room ps i d lt')
+dvi_periods_room (p ∷ ps) (suc i) d lt = grind (arith, dvi_periods_room ps i d)
 
 -- Each of them has columns that spell it.
 period_spelled : (p : Period) → is_dvi_sendable p ≡ true → (columns : List Column) × DviSpellsPeriod p columns

@@ -66,5 +66,4 @@ dvi_columns_of-more (q ∷ ps) p = ap (λ n. dvi_columns q + n) (dvi_columns_of-
 
 pub dvi_none_yet : (periods : List Period) → periods ≡ [] → (dvi_conforms_so_far periods ≡ true) × (0 ≡ dvi_columns_of periods) × (0 ≤ 20000000)
 unfolding dvi_conforms_so_far dvi_columns_of
-dvi_none_yet [] e = (refl, refl, omega arith)
-dvi_none_yet (p ∷ ps) e = absurd cc
+dvi_none_yet periods h = grind arith

@@ -1,5 +1,5 @@
 -- The first fault decides.
-use Rattle.std.proofs.Common.{◌≡◌, ℕ, Bool, true, false, List, refl, Option, Some, None, ◌+◌, ap, ap₂, sym, subst, ◌∙◌, Result, Ok, Err}
+use Rattle.std.proofs.Common.{arith, ◌≡◌, ℕ, Bool, true, false, List, refl, Option, Some, None, ◌+◌, ap, ap₂, sym, subst, ◌∙◌, Result, Ok, Err}
 use Rattle.std.specs.Prelude.{nat_le}
 use Rattle.island_pack.specs.Periods.{Period, period_columns, columns_of}
 use Rattle.source_end.specs.declared.items.ItemFault.{ItemFault}
@@ -17,12 +17,7 @@ unfolding push_fault
 push_fault_is periods p = refl
 
 pub at_none : (a b c d e : Bool) → a ≡ true → b ≡ true → c ≡ true → d ≡ true → e ≡ true → first a b c d e ≡ None
-at_none false b c d e h i j k l = absurd cc
-at_none true false c d e h i j k l = absurd cc
-at_none true true false d e h i j k l = absurd cc
-at_none true true true false e h i j k l = absurd cc
-at_none true true true true false h i j k l = absurd cc
-at_none true true true true true h i j k l = refl
+at_none a b c d e h k l m p = grind arith
 
 abbrev pub last_first : Bool → Bool → Option ItemFault
 last_first a b = unless a Order (unless b Control None)
@@ -32,26 +27,16 @@ unfolding close_fault
 close_fault_is periods = refl
 
 pub close_order : (a b : Bool) → a ≡ false → last_first a b ≡ Some Order
-close_order true b h = absurd cc
-close_order false b h = refl
+close_order a b h = grind arith
 
 pub close_control : (a b : Bool) → a ≡ true → b ≡ false → last_first a b ≡ Some Control
-close_control false b h i = absurd cc
-close_control true true h i = absurd cc
-close_control true false h i = refl
-
-last_holds : (a b : Bool) → last_first a b ≡ None → b ≡ true
-last_holds false b h = absurd cc
-last_holds true false h = absurd cc
-last_holds true true h = refl
+close_control a b h k = grind arith
 
 pub ends_long : (periods : List Period) → close_fault periods ≡ None → is_long_enough (last_period periods) ≡ true
-ends_long periods h = last_holds (is_control_last (last_period periods)) (is_long_enough (last_period periods)) (sym (close_fault_is periods) ∙ h)
+ends_long periods h = grind (arith, close_fault_is)
 
 pub close_none : (a b : Bool) → a ≡ true → b ≡ true → last_first a b ≡ None
-close_none false b h i = absurd cc
-close_none true false h i = absurd cc
-close_none true true h i = refl
+close_none a b h k = grind arith
 
 -- the five tests of an item that has no fault
 pub record AllHold (a b c d e : Bool) : Type 0 where
@@ -62,12 +47,7 @@ pub record AllHold (a b c d e : Bool) : Type 0 where
   pub room : e ≡ true
 
 pub none_holds : (a b c d e : Bool) → first a b c d e ≡ None → AllHold a b c d e
-none_holds false b c d e h = absurd cc
-none_holds true false c d e h = absurd cc
-none_holds true true false d e h = absurd cc
-none_holds true true true false e h = absurd cc
-none_holds true true true true false h = absurd cc
-none_holds true true true true true h = record { range = refl; order = refl; control = refl; preamble = refl; room = refl }
+none_holds a b c d e h = grind arith
 
 -- the same of a push
 

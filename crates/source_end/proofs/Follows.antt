@@ -1,5 +1,5 @@
 -- The last period, and what the tests of one item after others say of it.
-use Rattle.std.proofs.Common.{◌≡◌, ℕ, suc, ◌+◌, ◌-◌, ◌*◌, ◌<◌, ◌&&◌, List, [], ◌∷◌, length, map, refl, ap, sym, ◌∙◌, arith, Option, Some, ◌/◌, min, Result, Ok, Err}
+use Rattle.std.proofs.Common.{◌≡◌, ℕ, suc, ◌+◌, ◌-◌, ◌*◌, ◌<◌, ◌&&◌, List, [], ◌∷◌, length, map, refl, ap, sym, ◌∙◌, arith, Option, Some, ◌/◌, min, Result}
 use Rattle.std.specs.Result.{OkIff, result_unwrap_or}
 use Rattle.source_end.specs.Kept.{capped, is_run_in_range}
 use Rattle.std.specs.Prelude.{nat_le}
@@ -37,30 +37,16 @@ pub pixels_in_range : (bytes : List ℕ) (n : ℕ) → n ≡ length bytes / 3 �
 unfolding is_in_range
 pixels_in_range bytes n e = ap (λ k. nat_le 1 k && nat_le k 4096) e
 
-over : (n : ℕ) → min (min n 4294967295 + 2) 4294967295 ≡ capped (2 + n)
-over n = omega arith
-
-in_place : (n v : ℕ) → n < 4294967296 → v ≡ n → v ≡ min n 4294967295
-in_place n v lt e = omega arith
-
-out_of_place : (n : ℕ) → (n < 4294967296 → ⊥) → 4294967295 ≡ min n 4294967295
-out_of_place n h = omega arith
-
 pub clamped : {E : Type 0} (r : Result ℕ E) (n : ℕ) → OkIff r (n < 4294967296) n → result_unwrap_or r 4294967295 ≡ min n 4294967295
-clamped (Ok v) n h = in_place n v h.0 h.1
-clamped (Err e) n h = out_of_place n h
+clamped r n h = grind arith
 
 pub video_columns : (bytes : List ℕ) (n m : ℕ) → n ≡ length bytes / 3 → m ≡ min n 4294967295 → min (m + 2) 4294967295 ≡ capped (period_columns (video bytes))
 unfolding period_columns
-video_columns bytes n m e is = ap (λ k. min (k + 2) 4294967295) is ∙ over n ∙ ap (λ k. capped (2 + k)) e
-
-over_packets : (n : ℕ) → min (min (min n 4294967295 * 32) 4294967295 + 4) 4294967295 ≡ capped (4 + 32 * n)
-over_packets n = omega arith
+video_columns bytes n m e is = grind arith
 
 pub island_columns : (x : DataIsland) (n m k : ℕ) → n ≡ length x.packets → m ≡ min n 4294967295 → k ≡ min (m * 32) 4294967295 → min (k + 4) 4294967295 ≡ capped (period_columns (island x))
 unfolding period_columns
-island_columns x n m k e is times =
-    ap (λ j. min (j + 4) 4294967295) (times ∙ ap (λ j. min (j * 32) 4294967295) is) ∙ over_packets n ∙ ap (λ j. capped (4 + 32 * j)) e
+island_columns x n m k e is times = grind arith
 
 pub control_columns : (runs : List ControlRun) → length (values_of runs) ≡ period_columns (control runs)
 unfolding period_columns

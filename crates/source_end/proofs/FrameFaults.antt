@@ -59,8 +59,7 @@ abbrev alone : Mode → ℕ → Frame → Option RasterFault
 alone mode f x = cond (nat_le (length x.packets) (room_of mode (lines_of mode x))) None (Some (NoRoom f (room_of mode (lines_of mode x))))
 
 after : (t : Bool) (a b c : Option RasterFault) (fault : RasterFault) → a ≡ or_else b c → cond t a (Some fault) ≡ or_else (cond t b (Some fault)) c
-after true a b c fault e = e
-after false a b c fault e = refl
+after t a b c fault h = grind arith
 
 room_more : (mode : Mode) (f : ℕ) (frames : List Frame) (x : Frame) → no_room mode f (frames ++ x ∷ []) ≡ or_else (no_room mode f frames) (alone mode (f + length frames) x)
 room_more mode f [] x = let here : f ≡ f + 0 = omega arith in ap (λ (n : ℕ). alone mode n x) here
@@ -69,39 +68,14 @@ room_more mode f (frame ∷ frames) x =
     after (nat_le (length frame.packets) (room_of mode (lines_of mode frame))) _ (no_room mode (suc f) frames) (alone mode (f + length (frame ∷ frames)) x) _
     (room_more mode (suc f) frames x ∙ ap (λ (n : ℕ). or_else (no_room mode (suc f) frames) (alone mode n x)) place)
 
-or_later : (t : Bool) (fault : RasterFault) (later : Option RasterFault) → or_else (cond t None (Some fault)) later ≡ cond t later (Some fault)
-or_later true fault later = refl
-or_later false fault later = refl
-
--- where the frames before have room
-alone_full : (mode : Mode) (n : ℕ) (x : Frame) (later : Option RasterFault) → IsFrame mode x → or_else (alone mode (0 + n) x) later ≡ unless_full mode n (length x.packets) later
-alone_full mode n x later is =
-    let room = room_of mode (lines_of mode x) in
-    or_later (nat_le (length x.packets) room) (NoRoom (0 + n) room) later
-    ∙ ap₂ (λ (k r : ℕ). cond (nat_le (length x.packets) r) later (Some (NoRoom k r))) (zero-add n) (sym (frame_room_is mode x is.count))
-
-too_many_more : (mode : Mode) (n : ℕ) → nat_le (n * (total mode.across * total mode.down) + 32) 20000000 ≡ false → too_many mode (n + 1) ≡ Some Long
-too_many_more mode n h =
-    let area = total mode.across * total mode.down in
-    ap (λ (t : Bool). cond t None (Some Long)) (lt-leb ((n + 1) * area + 32) 20000000 (omega (arith, leb-false (n * area + 32) 20000000 h, one_more n area)))
-  where
-    one_more : (n area : ℕ) → (n + 1) * area ≡ n * area + area
-    one_more n area = grind arith
-
 by_columns : (mode : Mode) (n packets : ℕ) (t : Bool) → nat_le (n * (total mode.across * total mode.down) + 32) 20000000 ≡ t
     → unless_full mode n packets (too_many mode (n + 1)) ≡ next_fault mode (cond t None (Some Long)) n packets
 unfolding next_fault
-by_columns mode n packets true e = refl
-by_columns mode n packets false e = ap (unless_full mode n packets) (too_many_more mode n e)
+by_columns mode n packets t h = grind (arith, lt-leb, leb-false)
 
 by_room : (mode : Mode) (frames : List Frame) (x : Frame) (found : Option RasterFault) → no_room mode 0 frames ≡ found → IsFrame mode x
     → or_else (or_else found (alone mode (0 + length frames) x)) (too_long mode (frames ++ x ∷ [])) ≡ next_fault mode (or_else found (too_long mode frames)) (length frames) (length x.packets)
-by_room mode frames x (Some fault) e is = sym (room_stays mode 0 frames fault (length frames) (length x.packets) e)
-by_room mode frames x None e is =
-    let n = length frames in
-    ap (λ (k : ℕ). or_else (alone mode (0 + n) x) (too_many mode k)) (length-append frames (x ∷ []))
-    ∙ alone_full mode n x (too_many mode (n + 1)) is
-    ∙ by_columns mode n (length x.packets) (nat_le (n * (total mode.across * total mode.down) + 32) 20000000) refl
+by_room mode frames x found h k = grind (arith, room_stays, length-append, by_columns, zero-add, frame_room_is)
 
 pub raster_more : (mode : Mode) (frames : List Frame) (x : Frame) → (bad_mode 0 (numbers_of mode) ≡ None → AreFrames mode frames × IsFrame mode x)
     → raster_fault mode (frames ++ x ∷ []) ≡ next_fault mode (raster_fault mode frames) (length frames) (length x.packets)
@@ -117,17 +91,6 @@ raster_more mode frames x right = by_mode (bad_mode 0 (numbers_of mode)) refl wh
       ∙ by_room mode frames x (no_room mode 0 frames) refl are.1
       ∙ ap (λ (o : Option RasterFault). next_fault mode o (length frames) (length x.packets)) (at_room mode frames (no_room mode 0 frames) e (frames_right mode 0 frames are.0) refl)
 
--- a content of no frame has its mode's fault alone
-not_long : (mode : Mode) → too_long mode [] ≡ None
-not_long mode =
-    let area = total mode.across * total mode.down in
-    let none : 0 * area + 32 ≡ 32 = grind arith in
-    ap (λ (n : ℕ). cond (nat_le n 20000000) None (Some Long)) none
-
-or_none : (fault : Option RasterFault) → or_else fault None ≡ fault
-or_none None = refl
-or_none (Some fault) = refl
-
 pub raster_none : (mode : Mode) → raster_fault mode [] ≡ bad_mode 0 (numbers_of mode)
 unfolding raster_fault
-raster_none mode = ap (or_else (bad_mode 0 (numbers_of mode))) (not_long mode) ∙ or_none (bad_mode 0 (numbers_of mode))
+raster_none mode = grind arith

@@ -1,7 +1,7 @@
 -- The first columns of some that are as they were to be.
 use Rattle.std.proofs.Common.{◌≡◌, ℕ, ℤ, ◌+◌, ◌-◌, ◌*◌, ◌<◌, List, [], ◌∷◌, ◌++◌, take, drop, map, replicate, min, ap, sym, subst, ◌∙◌, arith, append_assoc}
 use Rattle.std.proofs.lemmas.List.{take-append-drop, map-append}
-use Rattle.std.specs.Prelude.{Result, Ok, Err, OnOk, OnErr}
+use Rattle.std.specs.Prelude.{Result, OnOk, OnErr}
 use Rattle.tmds_word.specs.Column.{Column, column_of}
 use Rattle.tmds_word.specs.Words.{columns_of}
 use Rattle.island_pack.specs.Periods.{Pixel}
@@ -12,27 +12,18 @@ use Rattle.source_end.proofs.LineCodings.{equal_block, replicate-add}
 
 -- What holds after a refusal, and after none.
 pub on_err : {T E P : Type 0} (r : Result T E) → P → OnErr r P
-on_err (Ok x) h = tt
-on_err (Err e) h = h
+on_err r h = grind arith
 
 pub err_map : {T E P Q : Type 0} (r : Result T E) → (P → Q) → OnErr r P → OnErr r Q
-err_map (Ok x) f h = tt
-err_map (Err e) f h = f h
+err_map r h k = grind arith
 
 pub ok_map : {T E P Q : Type 0} (r : Result T E) → (P → Q) → OnOk r P → OnOk r Q
-ok_map (Ok x) f h = f h
-ok_map (Err e) f h = tt
+ok_map r h k = grind arith
 
 -- a front of columns of their own, behind columns that are whole
 pub front_after : (old mid new done : List Column) (Own Whole : List Column → Type 0) → mid ≡ old ++ done → TookFront mid new Own
     → ((own : List Column) → Own own → (more : List Column) × Whole (done ++ (own ++ more))) → TookFront old new Whole
-front_after old mid new done Own Whole was front next =
-    let xs = front.0 in
-    let ys = front.1 in
-    let all = next (xs ++ ys) front.3 in
-    let same : done ++ ((xs ++ ys) ++ all.0) ≡ (done ++ xs) ++ (ys ++ all.0) =
-    ap (λ (cs : List Column). done ++ cs) (append_assoc xs ys all.0) ∙ sym (append_assoc done xs (ys ++ all.0)) in
-    (done ++ xs, ys ++ all.0, joined old mid new done xs was front.2, subst Whole same all.1)
+front_after old mid new done Own Whole was front next = grind (arith, append_assoc, joined)
 
 -- the first of columns that are known
 pub front_of : (mid new whole : List Column) (k : ℕ) → new ≡ mid ++ take k whole → TookFront mid new (λ columns. columns ≡ whole)

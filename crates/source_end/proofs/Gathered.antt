@@ -1,10 +1,10 @@
 -- Parts that are gathered one after another.
-use Rattle.std.proofs.Common.{◌≡◌, ℕ, zero, suc, ◌+◌, ◌-◌, ◌^◌, ◌≤◌, ◌<◌, min, Bool, true, false, ◌==◌, List, [], ◌∷◌, ◌++◌, length, map, replicate, Option, Some, None, Result, Ok, Err, refl, sym, ap, ap₂, ◌∙◌, append_assoc, append-nil, arith}
+use Rattle.std.proofs.Common.{◌≡◌, ℕ, zero, suc, ◌+◌, ◌-◌, ◌^◌, ◌≤◌, ◌<◌, min, true, List, [], ◌∷◌, ◌++◌, length, map, replicate, Option, Some, None, Result, refl, sym, ap, ap₂, ◌∙◌, append_assoc, append-nil, arith}
 use Rattle.std.specs.Prelude.{OnOk}
 use Rattle.std.proofs.lemmas.Bool.{ne_eqb}
 use Rattle.std.proofs.lemmas.List.{map-append}
 use Rattle.island_pack.specs.Periods.{ControlRun, DataIsland, Period, control, video, island, values_of}
-use Rattle.island_pack.specs.Runs.{joined, join, longest}
+use Rattle.island_pack.specs.Runs.{join, longest}
 use Rattle.island_pack.proofs.Runs.{values_longest, longest_grows, longest_turns, longest_begins, longest_none}
 use Rattle.source_end.specs.declared.item.Item.{Item}
 use Rattle.source_end.specs.ItemPeriods.{period_of}
@@ -14,8 +14,7 @@ use Rattle.source_end.specs.Gathering.{size, Holds}
 use Rattle.source_end.proofs.Leads.{length-values_of-more}
 
 pub on_ok : {T E : Type 0} (r : Result T E) (P Q : Type 0) → (P → Q) → OnOk r P → OnOk r Q
-on_ok (Ok v) P Q f h = f h
-on_ok (Err e) P Q f h = tt
+on_ok r P Q h k = grind arith
 
 pub same_some : {A : Type 0} (x y : A) → Some x ≡ Some y → x ≡ y
 same_some x y e = cc
@@ -26,11 +25,7 @@ abbrev pub run_of : ℕ → ℕ → ControlRun
 run_of v n = record { value = v; count = n }
 
 pub push_first : (runs : List ControlRun) (last : Option ControlRun) (v n : ℕ) (vs : List ℕ) → is_begun runs last ≡ true → last ≡ None → (n ≡ 0 → ⊥) → runs ++ last_run last ≡ longest vs → runs ++ run_of v n ∷ [] ≡ longest (vs ++ replicate n v)
-push_first (r ∷ runs) None v n vs begun is some e = absurd cc
-push_first (r ∷ runs) (Some last) v n vs begun is some e = absurd cc
-push_first [] (Some last) v n vs begun is some e = absurd cc
-push_first [] None v zero vs begun is some e = absurd (some refl)
-push_first [] None v (suc n) vs begun is some e = sym (ap (λ (us : List ℕ). longest (us ++ replicate (suc n) v)) (longest_none vs (sym e)) ∙ longest_begins n v)
+push_first runs last v n vs h k l m = grind (arith, longest_none, longest_begins)
 
 ends_in : (runs : List ControlRun) (last : Option ControlRun) (r : ControlRun) (vs : List ℕ) → last ≡ Some r → runs ++ last_run last ≡ longest vs → longest vs ≡ runs ++ r ∷ []
 ends_in runs last r vs is e = sym e ∙ ap (λ (l : Option ControlRun). runs ++ last_run l) is
@@ -49,8 +44,7 @@ push_grows runs last r v n m vs is same e few sum =
 
 pub push_turns : (runs : List ControlRun) (last : Option ControlRun) (r : ControlRun) (v n : ℕ) (vs : List ℕ) → last ≡ Some r → (r.value ≡ v → ⊥) → (n ≡ 0 → ⊥) → runs ++ last_run last ≡ longest vs
     → (runs ++ r ∷ []) ++ run_of v n ∷ [] ≡ longest (vs ++ replicate n v)
-push_turns runs last r v zero vs is other some e = absurd (some refl)
-push_turns runs last r v (suc n) vs is other some e = sym (longest_turns n v runs r vs (ends_in runs last r vs is e) (ne_eqb v r.value (λ k. other (sym k))))
+push_turns runs last r v n vs h k l m = grind (arith, longest_turns, ends_in, ne_eqb)
 
 -- Sizes.
 
@@ -88,16 +82,7 @@ map_same zero v = refl
 map_same (suc n) v = ap (λ (ps : List Part). column v ∷ ps) (map_same n v)
 
 pub holds_columns : (periods : List Period) (runs now : List ControlRun) (parts : List Part) (v n : ℕ) → (h : Holds periods runs parts) → now ≡ longest (h.values ++ replicate n v) → Holds periods now (parts ++ replicate n (column v))
-holds_columns periods runs now parts v n h e = record {
-  earlier = h.earlier;
-  values = h.values ++ replicate n v;
-  parts_are = ap (λ (ps : List Part). ps ++ replicate n (column v)) h.parts_are
-      ∙ append_assoc h.earlier (map column h.values) (replicate n (column v))
-      ∙ ap (λ (ps : List Part). h.earlier ++ ps) (sym (map-append column h.values (replicate n v) ∙ ap (λ (ps : List Part). map column h.values ++ ps) (map_same n v)));
-  periods_are = h.periods_are;
-  runs_are = e;
-  apart = h.apart;
-}
+holds_columns periods runs now parts v n h e = grind (arith, append_assoc, map-append, map_same)
 
 -- periods that begin with no control period
 abbrev pub Apart : List Period → Type 0
@@ -112,22 +97,13 @@ unfolding prepend longest
 prepend_apart v [] periods apart = apart v
 prepend_apart v (w ∷ vs) periods apart = ap (before v) (prepend_apart w vs periods apart)
 
-open_joined : (p : Bool) (v : ℕ) (r : ControlRun) (rs : List ControlRun) → open_period (joined p v r rs) ≡ control (joined p v r rs) ∷ []
-open_joined true v r rs = refl
-open_joined false v r rs = refl
-
 open_join : (v : ℕ) (rs : List ControlRun) → open_period (join v rs) ≡ control (join v rs) ∷ []
-open_join v [] = refl
-open_join v (r ∷ rs) = open_joined (v == r.value) v r rs
-
-open_some : (v : ℕ) (vs : List ℕ) → open_period (longest (v ∷ vs)) ≡ control (longest (v ∷ vs)) ∷ []
-unfolding longest
-open_some v vs = open_join v (longest vs)
+open_join v rs = grind arith
 
 prepend_open : (vs : List ℕ) (periods : List Period) → Apart periods → prepend vs periods ≡ open_period (longest vs) ++ periods
 unfolding prepend longest
 prepend_open [] periods apart = refl
-prepend_open (v ∷ vs) periods apart = prepend_apart v vs periods apart ∙ ap (λ (ps : List Period). ps ++ periods) (sym (open_some v vs))
+prepend_open (v ∷ vs) periods apart = grind (arith, prepend_apart, open_join)
 
 pub gathered_columns : (vs : List ℕ) (parts : List Part) → gathered (map column vs ++ parts) ≡ prepend vs (gathered parts)
 unfolding gathered prepend
@@ -144,12 +120,7 @@ unfolding gathered
 row_stands bytes = record { first = λ later. refl; apart = λ later v. refl }
 
 held_first : (periods : List Period) (runs : List ControlRun) (parts : List Part) → (h : Holds periods runs parts) → (part : Part) (q : Period) → Stands part q → (later : List Part) → gathered (parts ++ (part ∷ later)) ≡ periods ++ (open_period runs ++ (q ∷ gathered later))
-held_first periods runs parts h part q stands later =
-    ap (λ (ps : List Part). gathered (ps ++ (part ∷ later))) h.parts_are
-    ∙ ap gathered (append_assoc h.earlier (map column h.values) (part ∷ later))
-    ∙ h.apart (map column h.values ++ (part ∷ later))
-    ∙ ap₂ (λ (ps qs : List Period). ps ++ qs) (sym h.periods_are)
-    (gathered_columns h.values (part ∷ later) ∙ ap (prepend h.values) (stands.first later) ∙ prepend_open h.values (q ∷ gathered later) (stands.apart (gathered later)) ∙ ap (λ (rs : List ControlRun). open_period rs ++ (q ∷ gathered later)) (sym h.runs_are))
+held_first periods runs parts h part q stands later = grind (arith, append_assoc, gathered_columns, prepend_open)
 
 none_gathered : gathered [] ≡ []
 unfolding gathered
@@ -166,12 +137,7 @@ part_held periods whole runs now parts h part q stands e d =
       parts_are = sym (append-nil (parts ++ part ∷ []));
       periods_are = e ∙ append_assoc periods (open_period runs) (q ∷ []) ∙ sym here;
       runs_are = d;
-      apart = λ later.
-          ap gathered (append_assoc parts (part ∷ []) later)
-          ∙ first later
-          ∙ sym (ap (λ (ps : List Period). ps ++ gathered later) here
-          ∙ append_assoc periods (open_period runs ++ (q ∷ [])) (gathered later)
-          ∙ ap (λ (ps : List Period). periods ++ ps) (append_assoc (open_period runs) (q ∷ []) (gathered later)));
+      apart = grind (arith, append_assoc);
     }
 
 island_stands : (x : DataIsland) → Stands (packets x) (island x)

@@ -60,31 +60,16 @@ pub adds_none : (old : List Frame) → Adds old old [] []
 adds_none old = record { added = λ earlier f e. e ∙ ap₂ (λ (ps : List Packet) (rs : List (List ℕ)). earlier ++ record { packets = ps; rows = rs } ∷ []) (sym (append-nil f.packets)) (sym (append-nil f.rows)) }
 
 pub adds_packet : (old mid new : List Frame) (ps : List Packet) (p : Packet) → Adds old mid ps [] → new ≡ on_last (with_packet p) mid → Adds old new (ps ++ p ∷ []) []
-adds_packet old mid new ps p h e = record {
-  added = λ earlier f d.
-      let g : Frame = record { packets = f.packets ++ ps; rows = f.rows ++ [] } in
-      e ∙ ap (on_last (with_packet p)) (h.added earlier f d) ∙ last_changed (with_packet p) earlier g
-      ∙ ap (λ (qs : List Packet). earlier ++ record { packets = qs; rows = f.rows ++ [] } ∷ []) (append_assoc f.packets ps (p ∷ []));
-}
+adds_packet old mid new ps p h e = grind (arith, last_changed, append_assoc)
 
 pub adds_row : (old mid new : List Frame) (rows : List (List ℕ)) (row : List ℕ) → Adds old mid [] rows → new ≡ on_last (with_row row) mid → Adds old new [] (rows ++ row ∷ [])
-adds_row old mid new rows row h e = record {
-  added = λ earlier f d.
-      let g : Frame = record { packets = f.packets ++ []; rows = f.rows ++ rows } in
-      e ∙ ap (on_last (with_row row)) (h.added earlier f d) ∙ last_changed (with_row row) earlier g
-      ∙ ap (λ (rs : List (List ℕ)). earlier ++ record { packets = f.packets ++ []; rows = rs } ∷ []) (append_assoc f.rows rows (row ∷ []));
-}
+adds_row old mid new rows row h e = grind (arith, last_changed, append_assoc)
 
 -- a frame that gets its packets and then its rows
 pub frame_made : (avi audio : Packet) (i : ℕ) (old begun led done : List Frame) → old ≡ first_frames avi audio i → begun ≡ old ++ empty_frame ∷ []
     → Adds begun led (avi ∷ (clock_packet ∷ (audio ∷ first_sounds i 200))) [] → Adds led done [] (first_rows i 480) → done ≡ first_frames avi audio (i + 1)
 unfolding frame_at
-frame_made avi audio i old begun led done e b p r =
-    let ps = avi ∷ (clock_packet ∷ (audio ∷ first_sounds i 200)) in
-    let second : Frame = record { packets = ps; rows = [] } in
-    r.added old second (p.added old empty_frame b)
-    ∙ ap₂ (λ (fs : List Frame) (qs : List Packet). fs ++ record { packets = qs; rows = first_rows i 480 } ∷ []) e (append-nil ps)
-    ∙ sym (frame_more avi audio i)
+frame_made avi audio i old begun led done e b p r = grind (arith, append-nil, frame_more)
 
 pub length_up : (n x : ℕ) → length (up_from x n) ≡ n
 length_up zero x = refl

@@ -1,16 +1,16 @@
 -- The generator's content is not refused in video format 1: its rows are as wide and as many as they are to be, there is room
 -- for its packets, and it is short enough.
-use Rattle.std.proofs.Common.{◌≡◌, ℕ, zero, suc, ◌+◌, ◌*◌, ◌≤◌, Bool, false, cond, List, [], ◌∷◌, map, length, refl, ap, ap₂, sym, ◌∙◌, arith, eq-eqb, Option, Some, None}
+use Rattle.std.proofs.Common.{◌≡◌, ℕ, zero, suc, ◌*◌, ◌≤◌, Bool, false, cond, List, [], ◌∷◌, map, length, refl, ap, ap₂, ◌∙◌, arith, eq-eqb, Option, Some, None}
 use Rattle.std.proofs.lemmas.Bool.{le-leb}
 use Rattle.std.proofs.lemmas.List.{length-map}
 use Rattle.island_pack.specs.declared.packet.Packet.{Packet}
 use Rattle.source_end.specs.declared.mode.Mode.{Mode}
-use Rattle.source_end.specs.declared.refusal.RasterFault.TheVariants.{Row, NoRoom, Long}
+use Rattle.source_end.specs.declared.refusal.RasterFault.TheVariants.{Row, NoRoom}
 use Rattle.source_end.specs.Content.{Frame}
 use Rattle.source_end.specs.Raster.{up_from, lines_of}
 use Rattle.source_end.specs.Formats.{formats, mode_in}
 use Rattle.source_end.specs.Generator.{row_byte, row_bytes, first_rows, first_sounds, sound_packet, frame_at, first_frames, IsGenerated}
-use Rattle.source_end.specs.RasterRefusals.{or_else, numbers_of, bad_mode, bad_row, bad_rows, room_of, no_room, too_long, raster_fault}
+use Rattle.source_end.specs.RasterRefusals.{or_else, numbers_of, bad_mode, bad_row, bad_rows, room_of, no_room, raster_fault}
 use Rattle.source_end.proofs.RasterFaults.{frame_room_is}
 use Rattle.source_end.proofs.Generated.{length_up, length_frames}
 
@@ -44,13 +44,9 @@ packet_count : (avi audio : Packet) (f : ℕ) → length (frame_at avi audio f).
 unfolding frame_at first_sounds
 packet_count avi audio f = ap (λ (n : ℕ). suc (suc (suc n))) (length-map (up_from (200 * f) 200) sound_packet ∙ length_up 200 (200 * f))
 
-row_count : (avi audio : Packet) (f : ℕ) → length (frame_at avi audio f).rows ≡ 480
-unfolding frame_at first_rows
-row_count avi audio f = length-map (up_from 0 480) (λ (y : ℕ). row_bytes f y 1920) ∙ length_up 480 0
-
 room_is : (avi audio : Packet) (f : ℕ) → room_of one (lines_of one (frame_at avi audio f)) ≡ 2250
-unfolding one
-room_is avi audio f = sym (frame_room_is one (frame_at avi audio f) (row_count avi audio f))
+unfolding one frame_at first_rows
+room_is avi audio f = grind (arith, frame_room_is, one, length-map, length_up)
 
 packets_fit : (avi audio : Packet) (f g n : ℕ) → no_room one g (map (frame_at avi audio) (up_from f n)) ≡ None
 packets_fit avi audio f g zero = refl
@@ -61,18 +57,9 @@ packets_fit avi audio f g (suc n) =
     ap (λ (t : Bool). cond t (no_room one (suc g) (map (frame_at avi audio) (up_from (suc f) n))) (Some (NoRoom g room))) (le-leb (length (frame_at avi audio f).packets) room (omega (arith, count, is)))
     ∙ packets_fit avi audio (suc f) (suc g) n
 
-short_enough : (frames : List Frame) → length frames ≤ 20 → too_long one frames ≡ None
-unfolding one
-short_enough frames few = ap (λ (t : Bool). cond t None (Some Long)) (le-leb (length frames * 420000 + 32) 20000000 (omega arith))
-
 mode_fits : bad_mode 0 (numbers_of one) ≡ None
 unfolding one
 mode_fits = refl
-
-has_raster : (avi audio : Packet) (n : ℕ) → n ≤ 20 → raster_fault one (first_frames avi audio n) ≡ None
-unfolding raster_fault first_frames
-has_raster avi audio n few =
-    ap₂ or_else mode_fits (ap₂ or_else (all_rows_fit avi audio 0 0 n) (ap₂ or_else (packets_fit avi audio 0 0 n) (short_enough (first_frames avi audio n) (omega (arith, length_frames avi audio n, few)))))
 
 -- a mode that is there
 the_mode : Option Mode → Mode
@@ -80,6 +67,5 @@ the_mode None = one
 the_mode (Some mode) = mode
 
 pub generated_has_raster : (n : ℕ) (content : List Frame) → n ≤ 20 → IsGenerated n content → (mode : Mode) → mode_in formats 1 ≡ Some mode → raster_fault mode content ≡ None
-unfolding one the_mode
-generated_has_raster n content few is mode e =
-    ap₂ raster_fault (sym (ap the_mode e)) is.content_is ∙ has_raster is.avi is.audio n few
+unfolding one the_mode raster_fault first_frames
+generated_has_raster n content few is mode e = grind (arith, the_mode, mode_fits, all_rows_fit, packets_fit, length_frames, le-leb)

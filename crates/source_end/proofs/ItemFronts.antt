@@ -34,10 +34,7 @@ values_at : (runs : List ControlRun) (i : ℕ) (d : ControlRun) → i < length r
 unfolding values_of
 values_at [] i d lt = absurd (omega arith)
 values_at (r ∷ runs) zero d lt = refl
-values_at (r ∷ runs) (suc i) d lt =
-    let lt' : i < length runs = omega arith in
-    append_assoc (replicate r.count r.value) (values_of (take i runs)) (replicate (get_or runs i d).count (get_or runs i d).value ++ values_of (drop (suc i) runs))
-    ∙ ap (λ vs. replicate r.count r.value ++ vs) (values_at runs i d lt')
+values_at (r ∷ runs) (suc i) d lt = grind (arith, append_assoc, values_at runs i d)
 
 pub control_front : (runs : List ControlRun) (i : ℕ) (d : ControlRun) (old mid new : List Column) → i < length runs → mid ≡ old ++ map control_column (values_of (take i runs))
     → TookFront mid new (λ columns. columns ≡ replicate (get_or runs i d).count (control_column (get_or runs i d).value))
@@ -132,13 +129,7 @@ inner_front x packets old mid new own is same was front =
 pub closing_front : (x : DataIsland) (packets : List Packet) (old mid late new own columns end : List Column) → own ≡ guard_columns x.opening → packets ≡ x.packets → end ≡ guard_columns x.closing
     → mid ≡ old ++ own → late ≡ mid ++ columns → SpellsPackets true packets columns
     → TookFront late new (λ cs. cs ≡ end) → TookFront old new (SpellsIsland x)
-closing_front x packets old mid late new own columns end is same ends was more spelled front =
-    let opening = guard_columns x.opening in
-    front_after old late new (own ++ columns) (λ cs. cs ≡ end) (SpellsIsland x) (more ∙ ap (λ (ds : List Column). ds ++ columns) was ∙ append_assoc old own columns) front
-    (λ cs e. (
-      [],
-      (columns, ap₂ (λ (ds es : List Column). (ds ++ columns) ++ es) is (append-nil cs ∙ e ∙ ends), subst (λ (ps : List Packet). SpellsPackets true ps columns) same spelled),
-    ))
+closing_front x packets old mid late new own columns end is same ends was more spelled front = grind (arith, front_after, append_assoc, append-nil)
 
 -- A list of periods, each of which has columns that spell it.
 island_spelled : (x : DataIsland) → is_data_island x ≡ true → (columns : List Column) × SpellsIsland x columns

@@ -9,20 +9,10 @@ use Rattle.std.proofs.Math.Dec.{leb-zero, leb-suc-zero, leb-suc-suc}
 use Rattle.island_pack.specs.Periods.{ControlRun, values_of, ctl, has_preamble, VIDEO_PREAMBLE, ISLAND_PREAMBLE}
 use Rattle.source_end.specs.Kept.{capped, led_by}
 
--- The first k pass: what the number of leading ones says.
-step_true : (k n m : ℕ) (b : Bool) → (nat_le k n && b) ≡ nat_le k m → (nat_le (suc k) (suc n) && b) ≡ nat_le (suc k) (1 + m)
-step_true k n m b e =
-    let one : 1 + m ≡ suc m = omega arith in
-    ap (λ p. p && b) (leb-suc-suc k n) ∙ e ∙ sym (leb-suc-suc k m) ∙ ap (nat_le (suc k)) (sym one)
-
-by_first : (q : Bool) (k n m : ℕ) (b : Bool) → (nat_le k n && b) ≡ nat_le k m → (nat_le (suc k) (suc n) && (q && b)) ≡ nat_le (suc k) (cond q (1 + m) 0)
-by_first true k n m b e = step_true k n m b e
-by_first false k n m b e = and-false (nat_le (suc k) (suc n)) ∙ sym (leb-suc-zero k)
-
 first_pass : (k : ℕ) (p : ℕ → Bool) (xs : List ℕ) → (nat_le k (length xs) && list_all p (take k xs)) ≡ nat_le k (prefix_len p xs)
 first_pass zero p xs = ap (λ q. q && true) (leb-zero (length xs)) ∙ sym (leb-zero (prefix_len p xs))
 first_pass (suc k) p [] = ap (λ q. q && true) (leb-suc-zero k) ∙ sym (leb-suc-zero k)
-first_pass (suc k) p (x ∷ xs) = by_first (p x) k (length xs) (prefix_len p xs) (list_all p (take k xs)) (first_pass k p xs)
+first_pass (suc k) p (x ∷ xs) = grind (arith, leb-suc-suc, and-false, leb-suc-zero, first_pass k p xs)
 
 pub preamble_is_led : (bits : ℕ) (runs : List ControlRun) → has_preamble bits (values_of runs) ≡ nat_le 8 (led_by bits runs)
 unfolding has_preamble led_by
@@ -61,8 +51,7 @@ passing p zero v ys e = omega arith
 passing p (suc n) v ys e = ap (λ b. cond b (1 + prefix_len p (replicate n v ++ ys)) 0) e ∙ ap (λ m. 1 + m) (passing p n v ys e) ∙ omega arith
 
 stopping : (p : ℕ → Bool) (n v : ℕ) (ys : List ℕ) → p v ≡ false → 0 < n → prefix_len p (replicate n v ++ ys) ≡ 0
-stopping p zero v ys e some = absurd (omega arith)
-stopping p (suc n) v ys e some = ap (λ b. cond b (1 + prefix_len p (replicate n v ++ ys)) 0) e
+stopping p n v ys h k = grind arith
 
 pub led_on : (bits : ℕ) (runs : List ControlRun) (r : ControlRun) → ctl r.value ≡ bits → led_by bits (runs ++ r ∷ []) ≡ r.count + led_by bits runs
 unfolding led_by
@@ -95,8 +84,7 @@ capped_twelve n m e = grind (arith, e)
 -- What the fields keep.
 pub none_kept : (xs : List ControlRun) → xs ≡ [] → (0 ≡ capped (length (values_of xs))) × (0 ≡ capped (led_by VIDEO_PREAMBLE xs)) × (0 ≡ capped (led_by ISLAND_PREAMBLE xs))
 unfolding values_of led_by
-none_kept [] e = (refl, refl, refl)
-none_kept (x ∷ xs) e = absurd cc
+none_kept xs h = grind arith
 
 pub columns_kept : (old new : List ControlRun) (r : ControlRun) (columns count : ℕ) → columns ≡ capped (length (values_of old)) → count ≡ r.count → new ≡ old ++ r ∷ [] → min (columns + count) (2 ^ 32 - 1) ≡ capped (length (values_of new))
 columns_kept old new r columns count e same more =

@@ -1,6 +1,5 @@
 -- Pixels coded block after block.
 use Rattle.std.proofs.Common.{◌≡◌, ℕ, suc, zero, ◌+◌, ◌-◌, ◌*◌, ◌/◌, ◌%◌, ◌≤◌, ◌<◌, List, [], ◌∷◌, ◌++◌, length, take, drop, set, map, replicate, min, refl, ap, ap₂, sym, subst, ◌∙◌, arith, append_assoc, append-nil, take_all, length-take-le, get_or, ℤ}
-use Rattle.std.specs.Prelude.{All}
 use Rattle.std.proofs.lemmas.List.{take_more_set, map-append, take-replicate}
 use Rattle.std.proofs.Math.Seq.{take-add}
 use Rattle.tmds_word.specs.Column.{Column, column_of}
@@ -48,9 +47,7 @@ lanes_of [] [] (z ∷ rs) e f = absurd (omega arith)
 lanes_of [] (y ∷ gs) rs e f = absurd (omega arith)
 lanes_of (x ∷ bs) [] rs e f = absurd (omega arith)
 lanes_of (x ∷ bs) (y ∷ gs) [] e f = absurd (omega arith)
-lanes_of (x ∷ bs) (y ∷ gs) (z ∷ rs) e f =
-    let more = lanes_of bs gs rs (omega arith) (omega arith) in
-    record { blue = ap (λ ws. x ∷ ws) more.blue; green = ap (λ ws. y ∷ ws) more.green; red = ap (λ ws. z ∷ ws) more.red; count = ap (λ n. suc n) more.count }
+lanes_of (x ∷ bs) (y ∷ gs) (z ∷ rs) e f = grind (arith, lanes_of bs gs rs)
 
 -- Equal columns.
 
@@ -82,12 +79,7 @@ pub goes_more : (before mid after : ℤ) (bytes words : List ℕ) (i b w : ℕ) 
 goes_more before mid after bytes words i b w f lt room was next e = λ past sent h.
     let done = map f (take i (pixels_of bytes)) in
     let one = next (past ++ done) (sent ++ take i words) (was past sent h) in
-    let taken : (past ++ done) ++ b ∷ [] ≡ past ++ map f (take (i + 1) (pixels_of bytes)) =
-    append_assoc past done (b ∷ []) ∙ ap (λ x. past ++ (done ++ x ∷ [])) e ∙ ap (λ xs. past ++ xs) (sym (lane_more bytes i f lt)) in
-    let given : (sent ++ take i words) ++ w ∷ [] ≡ sent ++ take (i + 1) (set words i w) =
-    append_assoc sent (take i words) (w ∷ []) ∙ ap (λ xs. sent ++ xs) (sym (take_more_set words i w room)) in
-    subst (λ (ws : List ℕ). IsCoderAfter after (past ++ map f (take (i + 1) (pixels_of bytes))) ws) given
-    (subst (λ (bs : List ℕ). IsCoderAfter after bs ((sent ++ take i words) ++ w ∷ [])) taken one)
+    grind (arith, append_assoc, lane_more, take_more_set)
 
 -- all of them
 pub goes_through : (before after : ℤ) (bytes words : List ℕ) (i : ℕ) (f : Pixel → ℕ) → length bytes / 3 ≤ i → length words ≤ i
@@ -155,23 +147,14 @@ goes_one : (before mid after : ℤ) (bytes words : List ℕ) (j b w : ℕ) (f : 
 goes_one before mid after bytes words j b w f lt was next e = λ past sent h.
     let done = map f (take j (pixels_of bytes)) in
     let one = next (past ++ done) (sent ++ words) (was past sent h) in
-    let taken : (past ++ done) ++ b ∷ [] ≡ past ++ map f (take (j + 1) (pixels_of bytes)) =
-    append_assoc past done (b ∷ []) ∙ ap (λ x. past ++ (done ++ x ∷ [])) e ∙ ap (λ xs. past ++ xs) (sym (lane_more bytes j f lt)) in
-    subst (λ (ws : List ℕ). IsCoderAfter after (past ++ map f (take (j + 1) (pixels_of bytes))) ws) (append_assoc sent words (w ∷ []))
-    (subst (λ (bs : List ℕ). IsCoderAfter after bs ((sent ++ words) ++ w ∷ [])) taken one)
+    grind (arith, append_assoc, lane_more)
 
 -- a byte of a pixel, by its place in the row
 byte_at : (bytes : List ℕ) (part j at : ℕ) → part < 3 → at ≡ 3 * j + part → get_or bytes at 0 ≡ byte_of part (pixel_at bytes (3 * j) (3 * j + 1) (3 * j + 2))
-byte_at bytes zero j at few e = let z : at ≡ 3 * j = omega arith in ap (λ k. get_or bytes k 0) z
-byte_at bytes (suc zero) j at few e = ap (λ k. get_or bytes k 0) e
-byte_at bytes (suc (suc zero)) j at few e = ap (λ k. get_or bytes k 0) e
-byte_at bytes (suc (suc (suc part))) j at few e = absurd (omega arith)
+byte_at bytes part j at h k = grind arith
 
 joined_four : (ws : List ℕ) (a b c d : ℕ) → (((ws ++ a ∷ []) ++ b ∷ []) ++ c ∷ []) ++ d ∷ [] ≡ ws ++ a ∷ b ∷ c ∷ d ∷ []
-joined_four ws a b c d =
-    append_assoc ((ws ++ a ∷ []) ++ b ∷ []) (c ∷ []) (d ∷ [])
-    ∙ append_assoc (ws ++ a ∷ []) (b ∷ []) (c ∷ d ∷ [])
-    ∙ append_assoc ws (a ∷ []) (b ∷ c ∷ d ∷ [])
+joined_four ws a b c d = grind (arith, append_assoc)
 
 -- a group of four characters more
 pub goes_four : (before k0 k1 k2 k3 k4 : ℤ) (bytes words : List ℕ) (i part at a b c d : ℕ) → part < 3 → i < length bytes / 12 → at ≡ 12 * i + part
@@ -198,18 +181,7 @@ goes_four before k0 k1 k2 k3 k4 bytes words i part at a b c d few lt place was f
 pub packed_four : (into now : List ℕ) (i a b c d : ℕ) → 5 * i + 5 ≤ length into → a < 1024 → b < 1024 → c < 1024 → d < 1024
     → bytes_bits (take (5 * i + 5) now) ≡ bytes_bits (take (5 * i) into) ++ row_bits (a ∷ b ∷ c ∷ d ∷ [])
     → all_words (bytes_bits (take (5 * (i + 1)) now)) ≡ all_words (bytes_bits (take (5 * i) into)) ++ a ∷ b ∷ c ∷ d ∷ []
-packed_four into now i a b c d room la lb lc ld e =
-    let next : 5 * (i + 1) ≡ 5 * i + 5 = omega arith in
-    let row = bytes_bits (take (5 * i) into) in
-    let whole : length row % 10 ≡ 0 = omega (arith, length-bytes_bits (take (5 * i) into), length-take-le (5 * i) into (omega arith)) in
-    ap (λ k. all_words (bytes_bits (take k now))) next ∙ ap all_words e ∙ words_of-more row (a ∷ b ∷ c ∷ d ∷ []) whole (below_four a b c d la lb lc ld)
-  where
-    below_four : (a b c d : ℕ) → a < 1024 → b < 1024 → c < 1024 → d < 1024 → All (λ w. w < 1024) (a ∷ b ∷ c ∷ d ∷ [])
-    below_four a b c d la lb lc ld zero z lt = la
-    below_four a b c d la lb lc ld (suc zero) z lt = lb
-    below_four a b c d la lb lc ld (suc (suc zero)) z lt = lc
-    below_four a b c d la lb lc ld (suc (suc (suc zero))) z lt = ld
-    below_four a b c d la lb lc ld (suc (suc (suc (suc i)))) z lt = absurd (omega arith)
+packed_four into now i a b c d room la lb lc ld e = grind (arith, length-bytes_bits, length-take-le, words_of-more)
 
 pub none_packed : (into : List ℕ) → all_words (bytes_bits (take (5 * 0) into)) ≡ []
 unfolding all_words words_of bytes_bits

@@ -1,5 +1,5 @@
 -- The columns of a data island's packets, one packet after another.
-use Rattle.std.proofs.Common.{◌≡◌, ℕ, suc, zero, ◌*◌, ◌<◌, Bool, true, false, ◌==◌, ◌&&◌, List, [], ◌∷◌, ◌++◌, length, get_or, map, refl, ap, sym, subst, ◌∙◌, arith, append_assoc, append-nil, length-append}
+use Rattle.std.proofs.Common.{◌≡◌, ℕ, suc, zero, ◌*◌, ◌<◌, Bool, true, false, ◌==◌, ◌&&◌, List, [], ◌∷◌, ◌++◌, length, get_or, map, refl, ap, sym, ◌∙◌, arith, append_assoc, append-nil, length-append}
 use Rattle.std.proofs.lemmas.List.{length-map}
 use Rattle.std.proofs.lemmas.Bool.{ne_eqb, ltb-true}
 use Rattle.std.specs.Prelude.{nat_lt}
@@ -20,16 +20,10 @@ packets_length first (p ∷ ps) columns h =
     ap length h.2 ∙ length-append h.0 h.1 ∙ omega (arith, own, rest)
 
 later_one : (first now : Bool) (n : ℕ) → now ≡ (first && (suc n == 0)) → now ≡ (false && (n == 0))
-later_one true now n e = e ∙ ne_eqb (suc n) 0 (λ k. absurd (omega arith))
-later_one false now n e = e
-
-first_one : (first now : Bool) → now ≡ (first && (0 == 0)) → now ≡ first
-first_one true now e = e
-first_one false now e = e
+later_one first now n h = grind (arith, ne_eqb)
 
 pub SpellsPackets-append : (first now : Bool) (ps qs : List Packet) (columns more : List Column) → now ≡ (first && (length ps == 0)) → SpellsPackets first ps columns → SpellsPackets now qs more → SpellsPackets first (ps ++ qs) (columns ++ more)
-SpellsPackets-append first now [] qs columns more e h k =
-    subst (λ (cs : List Column). SpellsPackets first qs (cs ++ more)) (sym h) (subst (λ b. SpellsPackets b qs more) (first_one first now e) k)
+SpellsPackets-append first now [] qs columns more e h k = grind arith
 SpellsPackets-append first now (q ∷ ps) qs columns more e h k =
     (h.0, h.1 ++ more, ap (λ (cs : List Column). cs ++ more) h.2 ∙ append_assoc h.0 h.1 more, h.3, SpellsPackets-append false now ps qs h.1 more (later_one first now (length ps) e) h.4 k)
 

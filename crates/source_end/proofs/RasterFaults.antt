@@ -23,10 +23,7 @@ one_on i = omega arith
 -- Numbers.
 
 pub number_right : (ns : List ℕ) (i : ℕ) → i < length ns → is_in_range i (get_or ns i 0) ≡ true → bad_mode i (drop i ns) ≡ bad_mode (i + 1) (drop (i + 1) ns)
-number_right ns i lt h =
-    ap (bad_mode i) (next i ns 0 lt)
-    ∙ ap (λ (b : Bool). cond b (bad_mode (suc i) (drop (i + 1) ns)) (Some (BadMode i))) h
-    ∙ ap (λ (k : ℕ). bad_mode k (drop (i + 1) ns)) (one_on i)
+number_right ns i lt h = grind (arith, next, one_on)
 
 pub number_wrong : (ns : List ℕ) (i : ℕ) → i < length ns → is_in_range i (get_or ns i 0) ≡ false → bad_mode i (drop i ns) ≡ Some (BadMode i)
 number_wrong ns i lt h = ap (bad_mode i) (next i ns 0 lt) ∙ ap (λ (b : Bool). cond b (bad_mode (suc i) (drop (i + 1) ns)) (Some (BadMode i))) h
@@ -34,10 +31,7 @@ number_wrong ns i lt h = ap (bad_mode i) (next i ns 0 lt) ∙ ap (λ (b : Bool).
 -- Rows.
 
 row_tested : (w f h : ℕ) (rows : List (List ℕ)) (d : List ℕ) (y : ℕ) (b : Bool) → y < length rows → y < h → (length (get_or rows y d) == 3 * w) ≡ b → bad_row w f y (h - y) (drop y rows) ≡ cond b (bad_row w f (y + 1) (h - (y + 1)) (drop (y + 1) rows)) (Some (Row f y))
-row_tested w f h rows d y b lt less e =
-    let k : h - y ≡ suc (h - (y + 1)) = omega arith in
-    ap₂ (λ (left : ℕ) (rs : List (List ℕ)). bad_row w f y left rs) k (next y rows d lt)
-    ∙ ap₂ (λ (t : Bool) (m : ℕ). cond t (bad_row w f m (h - (y + 1)) (drop (y + 1) rows)) (Some (Row f y))) e (one_on y)
+row_tested w f h rows d y b lt less e = grind (arith, next, one_on)
 
 pub row_right : (w f h : ℕ) (rows : List (List ℕ)) (d : List ℕ) (y : ℕ) → y < length rows → y < h → length (get_or rows y d) ≡ 3 * w → bad_row w f y (h - y) (drop y rows) ≡ bad_row w f (y + 1) (h - (y + 1)) (drop (y + 1) rows)
 row_right w f h rows d y lt less e = row_tested w f h rows d y true lt less (eq-eqb (length (get_or rows y d)) (3 * w) e)
@@ -50,18 +44,8 @@ row_surplus w f h rows d y lt e =
     let k : h - y ≡ 0 = omega arith in
     ap₂ (λ (left : ℕ) (rs : List (List ℕ)). bad_row w f y left rs) k (next y rows d lt)
 
-all_passed : {A : Type 0} (xs : List A) (i : ℕ) → i ≡ length xs → drop i xs ≡ []
-all_passed xs i e = drop_all i xs (omega (arith, e))
-
 pub row_missing : (w f h : ℕ) (rows : List (List ℕ)) (y : ℕ) → y ≡ length rows → y < h → bad_row w f y (h - y) (drop y rows) ≡ Some (Row f y)
-row_missing w f h rows y e less =
-    let d : h - y ≡ suc (h - (y + 1)) = omega arith in
-    ap₂ (λ (left : ℕ) (rs : List (List ℕ)). bad_row w f y left rs) d (all_passed rows y e)
-
-pub rows_right : (w f h : ℕ) (rows : List (List ℕ)) (y : ℕ) → y ≡ length rows → y ≡ h → bad_row w f y (h - y) (drop y rows) ≡ None
-rows_right w f h rows y e d =
-    let k : h - y ≡ 0 = omega arith in
-    ap₂ (λ (left : ℕ) (rs : List (List ℕ)). bad_row w f y left rs) k (all_passed rows y e)
+row_missing w f h rows y e less = grind (arith, drop_all)
 
 -- Room.
 
@@ -80,16 +64,9 @@ room_rows : (mode : Mode) (rows : List (List ℕ)) → room_of mode (map row_lin
 room_rows mode [] = omega arith
 room_rows mode (row ∷ rows) = ap (λ (k : ℕ). row_room mode + k) (room_rows mode rows) ∙ room_more (length rows) (row_room mode)
 
-sum_up : (s b f a p q : ℕ) → (s + b + f) * p + a * q ≡ s * p + (b * p + (a * q + f * p))
-sum_up s b f a p q = grind arith
-
 pub frame_room_is : (mode : Mode) (frame : Frame) → length frame.rows ≡ active mode.down → (sync mode.down + back mode.down + front mode.down) * blank_room mode + active mode.down * row_room mode ≡ room_of mode (lines_of mode frame)
 unfolding lines_of
-frame_room_is mode frame e =
-    sum_up (sync mode.down) (back mode.down) (front mode.down) (active mode.down) (blank_room mode) (row_room mode)
-    ∙ sym (room_append mode (replicate (sync mode.down) (blank true)) _ ∙ ap₂ (λ (x y : ℕ). x + y) (room_blank mode true (sync mode.down))
-    (room_append mode (replicate (back mode.down) (blank false)) _ ∙ ap₂ (λ (x y : ℕ). x + y) (room_blank mode false (back mode.down))
-    (room_append mode (map row_line frame.rows) (replicate (front mode.down) (blank false)) ∙ ap₂ (λ (x y : ℕ). x + y) (room_rows mode frame.rows ∙ ap (λ (n : ℕ). n * row_room mode) e) (room_blank mode false (front mode.down)))))
+frame_room_is mode frame e = grind (arith, room_append, room_blank, room_rows)
 
 pub frame_at : (mode : Mode) (frames : List Frame) (i : ℕ) (d : Frame) → AreFrames mode frames → i < length frames → IsFrame mode (get_or frames i d)
 frame_at mode [] i d are lt = absurd (omega arith)
@@ -98,11 +75,7 @@ frame_at mode (f ∷ frames) (suc i) d are lt = let less : i < length frames = o
 
 room_tested : (mode : Mode) (frames : List Frame) (d : Frame) (i n : ℕ) (b : Bool) → i < length frames → n ≡ room_of mode (lines_of mode (get_or frames i d)) → nat_le (length (get_or frames i d).packets) n ≡ b
     → no_room mode i (drop i frames) ≡ cond b (no_room mode (i + 1) (drop (i + 1) frames)) (Some (NoRoom i n))
-room_tested mode frames d i n b lt e is =
-    let f = get_or frames i d in
-    ap (no_room mode i) (next i frames d lt)
-    ∙ ap₂ (λ (r k : ℕ). cond (nat_le (length f.packets) r) (no_room mode k (drop (i + 1) frames)) (Some (NoRoom i r))) (sym e) (one_on i)
-    ∙ ap (λ (t : Bool). cond t (no_room mode (i + 1) (drop (i + 1) frames)) (Some (NoRoom i n))) is
+room_tested mode frames d i n b lt e is = grind (arith, next, one_on)
 
 pub room_enough : (mode : Mode) (frames : List Frame) (d : Frame) (i n : ℕ) → bad_rows mode 0 frames ≡ None → ((frame : Frame) → length frame.rows ≡ active mode.down → n ≡ room_of mode (lines_of mode frame)) → i < length frames → length (get_or frames i d).packets ≤ n
     → no_room mode i (drop i frames) ≡ no_room mode (i + 1) (drop (i + 1) frames)

@@ -103,10 +103,7 @@ Begins mode frames ps = (others : List Period) × (raster_of mode frames ≡ ps 
 parts_split : (mode : Mode) (xs ys : List Frame) → parts_of mode (xs ++ ys) ≡ bodies mode xs ++ parts_of mode ys
 unfolding bodies
 parts_split mode [] ys = refl
-parts_split mode (f ∷ xs) ys =
-    parts_first mode f (xs ++ ys)
-    ∙ ap (λ (qs : List Part). laid mode (lines_of mode f) f.packets ++ qs) (parts_split mode xs ys)
-    ∙ sym (append_assoc (laid mode (lines_of mode f) f.packets) (bodies mode xs) (parts_of mode ys))
+parts_split mode (f ∷ xs) ys = grind (arith, parts_first, append_assoc, bodies, parts_split mode xs ys)
 
 pub parted_begins : (mode : Mode) (ps : List Period) (g : Gathering) (done rest : List Frame) → Parted ps g (bodies mode done) → Begins mode (done ++ rest) ps
 unfolding raster_of
@@ -152,15 +149,10 @@ pub more_sendable : (mode : Mode) (frames : List Frame) (ps more : List Period) 
 unfolding RasterConforms
 more_sendable mode frames ps more none content begins =
     let all = sendable_all (raster_of mode frames) (raster_conforms mode frames none content) in
-    let first = sym (list_all-append is_sendable (ps ++ more) begins.0) ∙ ap (list_all is_sendable) (sym begins.1) ∙ all in
-    let both = sym (list_all-append is_sendable ps more) ∙ left (list_all is_sendable (ps ++ more)) (list_all is_sendable begins.0) first in
-    right (list_all is_sendable ps) (list_all is_sendable more) both
+    grind (arith, list_all-append, left, right)
 
 pub more_fits : (mode : Mode) (frames : List Frame) (ps more : List Period) (columns : List Column) → raster_fault mode frames ≡ None → Begins mode frames (ps ++ more) → Spells ps columns → length columns + columns_of more ≤ 20000000
 unfolding RasterColumns
 more_fits mode frames ps more columns none begins spelled =
     let all = raster_columns mode frames none in
-    let few = few_columns mode frames none in
-    let first = ap columns_of begins.1 ∙ columns_of-append (ps ++ more) begins.0 in
-    let both = columns_of-append ps more in
-    omega (arith, all, few, first, both, Spells-length ps columns spelled)
+    grind (arith, few_columns, columns_of-append, Spells-length)

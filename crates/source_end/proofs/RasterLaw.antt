@@ -1,7 +1,6 @@
 -- What is not refused conforms, and has the columns of all its lines.
 use Rattle.std.proofs.Common.{◌≡◌, ℕ, ◌+◌, ◌*◌, ◌/◌, List, [], ◌∷◌, length, refl, ap, ◌∙◌, arith}
-use Rattle.island_pack.specs.Periods.{ControlRun, Period, control, video, island, values_of, period_columns, columns_of}
-use Rattle.island_pack.specs.Runs.{join}
+use Rattle.island_pack.specs.Periods.{Period, values_of, period_columns, columns_of}
 use Rattle.island_pack.proofs.Runs.{join_values}
 use Rattle.source_end.specs.Raster.{Part, column, pixels, packets, before, gathered, parts_of, raster_of}
 use Rattle.source_end.specs.RasterLaws.{RasterConforms, RasterColumns}
@@ -14,20 +13,9 @@ pub raster_conforms : RasterConforms
 unfolding RasterConforms
 raster_conforms mode frames fault content = conforms_by mode (good_mode mode frames fault) frames (good_frames mode frames fault) content
 
-one_more : (v : ℕ) (runs : List ControlRun) → period_columns (control (join v runs)) ≡ 1 + period_columns (control runs)
-unfolding period_columns
-one_more v runs = ap length (join_values v runs) ∙ omega arith
-
-alone : (v : ℕ) (periods : List Period) → columns_of (control (join v []) ∷ periods) ≡ 1 + columns_of periods
-unfolding columns_of period_columns values_of
-alone v periods = refl
-
 column_first : (v : ℕ) (periods : List Period) → columns_of (before v periods) ≡ 1 + columns_of periods
-unfolding columns_of
-column_first v [] = alone v []
-column_first v (video bytes ∷ periods) = alone v (video bytes ∷ periods)
-column_first v (island x ∷ periods) = alone v (island x ∷ periods)
-column_first v (control runs ∷ periods) = omega (arith, one_more v runs)
+unfolding columns_of period_columns values_of
+column_first v periods = grind (arith, join_values)
 
 pub gathered_size : (parts : List Part) → columns_of (gathered parts) ≡ size parts
 unfolding columns_of gathered size period_columns

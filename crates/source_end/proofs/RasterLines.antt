@@ -1,5 +1,5 @@
 -- The lines of a raster conform.
-use Rattle.std.proofs.Common.{◌≡◌, ℕ, zero, suc, ◌+◌, ◌-◌, ◌*◌, ◌/◌, ◌%◌, ◌<◌, ◌≤◌, Bool, true, false, ◌&&◌, cond, ◌==◌, List, [], ◌∷◌, ◌++◌, map, length, take, drop, reverse, replicate, Some, refl, sym, ap, ap₂, subst, ◌∙◌, append_assoc, append-nil, arith, length-append}
+use Rattle.std.proofs.Common.{◌≡◌, ℕ, zero, suc, ◌+◌, ◌-◌, ◌*◌, ◌/◌, ◌%◌, ◌<◌, ◌≤◌, Bool, true, false, ◌&&◌, cond, ◌==◌, List, [], ◌∷◌, ◌++◌, map, length, take, drop, replicate, Some, refl, sym, ap, ap₂, ◌∙◌, append_assoc, append-nil, arith, length-append}
 use Rattle.std.specs.Prelude.{nat_lt, nat_le}
 use Rattle.std.specs.List.{list_all}
 use Rattle.std.proofs.lemmas.List.{reverse-append, length-take}
@@ -8,12 +8,12 @@ use Rattle.std.proofs.lemmas.Bool.{le-leb, lt-ltb, lt-leb}
 use Rattle.tmds_word.proofs.Below.{and-left, and-right}
 use Rattle.terc4.specs.Columns.{one_if}
 use Rattle.island_pack.specs.Periods.{ctl, has_preamble}
-use Rattle.island_pack.specs.Conforming.{are_bytes, is_sync_pair, is_packet, is_video_period, is_data_island, IsConforming}
+use Rattle.island_pack.specs.Conforming.{are_bytes, is_packet, is_video_period, is_data_island, IsConforming}
 use Rattle.island_pack.specs.declared.packet.Packet.{Packet}
 use Rattle.source_end.specs.declared.mode.Mode.{Mode}
-use Rattle.source_end.specs.Content.{Frame, is_payload, is_content, are_content}
+use Rattle.source_end.specs.Content.{Frame, is_payload, are_content}
 use Rattle.source_end.specs.Lines.{left}
-use Rattle.source_end.specs.Raster.{blank, row_line, row_room, blank_room, level, Line, Part, column, pixels, packets, up_from, columns, sync_at, value_at, has_row, guard_at, is_within, room, sync, back, active, front, total, packets_at, island_of, until, whole, laid, parts_of, raster_of}
+use Rattle.source_end.specs.Raster.{blank, row_line, row_room, level, Line, Part, column, pixels, packets, up_from, columns, sync_at, value_at, has_row, guard_at, is_within, room, sync, back, active, total, packets_at, island_of, until, whole, laid, parts_of, raster_of}
 use Rattle.source_end.proofs.RasterPeriods.{Small, enough, conforming, gathered_conforms}
 use Rattle.source_end.proofs.RasterModes.{IsMode, AreRows, AreFrames}
 use Rattle.source_end.proofs.RasterSizes.{long_row, parts_more, parts_none, after_sync, after_back}
@@ -25,51 +25,22 @@ both a b h g = ap₂ (λ (x y : Bool). x && y) h g
 
 sum_small : (h v t u : Bool) → nat_lt (one_if h + 2 * one_if v + cond t 4 (cond u 20 0)) 64 ≡ true
 unfolding one_if
-sum_small true true true u = refl
-sum_small true true false true = refl
-sum_small true true false false = refl
-sum_small true false true u = refl
-sum_small true false false true = refl
-sum_small true false false false = refl
-sum_small false true true u = refl
-sum_small false true false true = refl
-sum_small false true false false = refl
-sum_small false false true u = refl
-sum_small false false false true = refl
-sum_small false false false false = refl
-
-sum_ctl : (h v t u : Bool) → ctl (one_if h + 2 * one_if v + cond t 4 (cond u 20 0)) ≡ cond t 1 (cond u 5 0)
-unfolding one_if
-sum_ctl true true true u = refl
-sum_ctl true true false true = refl
-sum_ctl true true false false = refl
-sum_ctl true false true u = refl
-sum_ctl true false false true = refl
-sum_ctl true false false false = refl
-sum_ctl false true true u = refl
-sum_ctl false true false true = refl
-sum_ctl false true false false = refl
-sum_ctl false false true u = refl
-sum_ctl false false false true = refl
-sum_ctl false false false false = refl
+sum_small h v t u = grind arith
 
 pair_small : (h v : Bool) → (nat_lt (one_if h + 2 * one_if v) 4 ≡ true) × (nat_lt (one_if h + 2 * one_if v) 64 ≡ true)
 unfolding one_if
-pair_small true true = (refl, refl)
-pair_small true false = (refl, refl)
-pair_small false true = (refl, refl)
-pair_small false false = (refl, refl)
+pair_small h v = grind arith
 
 final_small : (v : Bool) → nat_lt (3 * one_if v) 64 ≡ true
 unfolding one_if
-final_small true = refl
-final_small false = refl
+final_small v = grind arith
 
 value_small : (mode : Mode) (line : Line) (has : Bool) (x : ℕ) → nat_lt (value_at mode line has x) 64 ≡ true
 value_small mode line has x = sum_small (level mode.positive (nat_lt x (sync mode.across))) (level mode.positive line.vsync) (has_row line && is_within x (guard_at mode - 8) (guard_at mode)) (has && is_within x 4 12)
 
 value_ctl : (mode : Mode) (line : Line) (has : Bool) (x : ℕ) → ctl (value_at mode line has x) ≡ cond (has_row line && is_within x (guard_at mode - 8) (guard_at mode)) 1 (cond (has && is_within x 4 12) 5 0)
-value_ctl mode line has x = sum_ctl (level mode.positive (nat_lt x (sync mode.across))) (level mode.positive line.vsync) (has_row line && is_within x (guard_at mode - 8) (guard_at mode)) (has && is_within x 4 12)
+unfolding one_if
+value_ctl mode line has x = grind arith
 
 sync_small : (mode : Mode) (line : Line) (x : ℕ) → nat_lt (sync_at mode line x) 4 ≡ true
 sync_small mode line x = (pair_small (level mode.positive (nat_lt x (sync mode.across))) (level mode.positive line.vsync)).0
@@ -92,10 +63,7 @@ length_values value zero x = refl
 length_values value (suc n) x = ap (λ k. suc k) (length_values value n (suc x))
 
 up_values : (value : ℕ → ℕ) (n m x : ℕ) → values value x (n + m) ≡ values value x n ++ values value (x + n) m
-up_values value zero m x =
-    let e : 0 + m ≡ m = omega arith in
-    let d : x ≡ x + 0 = omega arith in
-    ap (values value x) e ∙ ap (λ (k : ℕ). values value k m) d
+up_values value zero m x = grind arith
 up_values value (suc n) m x =
     let e : suc n + m ≡ suc (n + m) = omega arith in
     let d : suc x + n ≡ x + suc n = omega arith in
@@ -115,31 +83,17 @@ eq_true a b e = grind (arith, e)
 eight : (bits : ℕ) (us : List ℕ) (a b c d e f g h : ℕ) → ctl a ≡ bits → ctl b ≡ bits → ctl c ≡ bits → ctl d ≡ bits → ctl e ≡ bits → ctl f ≡ bits → ctl g ≡ bits → ctl h ≡ bits
     → has_preamble bits (us ++ (a ∷ (b ∷ (c ∷ (d ∷ (e ∷ (f ∷ (g ∷ (h ∷ []))))))))) ≡ true
 unfolding has_preamble
-eight bits us a b c d e f g h ea eb ec ed ee ef eg eh =
-    let xs = a ∷ (b ∷ (c ∷ (d ∷ (e ∷ (f ∷ (g ∷ (h ∷ []))))))) in
-    let l = length-append us xs in
-    let t = λ (v : ℕ). ctl v == bits in
-    both (nat_le 8 (length (us ++ xs))) (list_all (λ v. ctl v == bits) (take 8 (reverse (us ++ xs)))) (le-leb 8 (length (us ++ xs)) (omega (arith, l)))
-    (ap (λ (ys : List ℕ). list_all (λ v. ctl v == bits) (take 8 ys)) (reverse-append us xs)
-    ∙ both (ctl h == bits) _ (eq_true (ctl h) bits eh) (both (ctl g == bits) _ (eq_true (ctl g) bits eg) (both (ctl f == bits) _ (eq_true (ctl f) bits ef) (both (ctl e == bits) _ (eq_true (ctl e) bits ee)
-    (both (ctl d == bits) _ (eq_true (ctl d) bits ed) (both (ctl c == bits) _ (eq_true (ctl c) bits ec) (both (ctl b == bits) _ (eq_true (ctl b) bits eb) (both (ctl a == bits) _ (eq_true (ctl a) bits ea) refl))))))))
+eight bits us a b c d e f g h ea eb ec ed ee ef eg eh = grind (arith, length-append, both, le-leb, reverse-append, eq_true)
 
 -- eight columns with these control bits at the end
 eight_values : (bits : ℕ) (value : ℕ → ℕ) (us : List ℕ) (x : ℕ) → ((i : ℕ) → x ≤ i → i < x + 8 → ctl (value i) ≡ bits) → has_preamble bits (us ++ values value x 8) ≡ true
-eight_values bits value us x h =
-    eight bits us (value x) (value (suc x)) (value (suc (suc x))) (value (suc (suc (suc x)))) (value (suc (suc (suc (suc x))))) (value (suc (suc (suc (suc (suc x)))))) (value (suc (suc (suc (suc (suc (suc x))))))) (value (suc (suc (suc (suc (suc (suc (suc x))))))))
-    (h x (omega arith) (omega arith)) (h (suc x) (omega arith) (omega arith)) (h (suc (suc x)) (omega arith) (omega arith)) (h (suc (suc (suc x))) (omega arith) (omega arith))
-    (h (suc (suc (suc (suc x)))) (omega arith) (omega arith)) (h (suc (suc (suc (suc (suc x))))) (omega arith) (omega arith)) (h (suc (suc (suc (suc (suc (suc x)))))) (omega arith) (omega arith)) (h (suc (suc (suc (suc (suc (suc (suc x))))))) (omega arith) (omega arith))
+eight_values bits value us x h = grind (arith, eight)
 
 within : (x from to : ℕ) → from ≤ x → x < to → is_within x from to ≡ true
 within x from to le lt = both (nat_le from x) (nat_lt x to) (le-leb from x le) (lt-ltb x to lt)
 
 before_within : (x from to : ℕ) → x < from → is_within x from to ≡ false
 before_within x from to lt = ap (λ (b : Bool). b && nat_lt x to) (lt-leb from x lt)
-
-and_false : (a : Bool) → (a && false) ≡ false
-and_false true = refl
-and_false false = refl
 
 -- Islands.
 
@@ -163,14 +117,7 @@ length_at mode line x (p ∷ ps) = ap (λ n. suc n) (length_at mode line (x + 32
 
 island_good : (mode : Mode) (line : Line) (ps : List Packet) → list_all is_payload ps ≡ true → 1 ≤ length ps → length ps ≤ 18 → is_data_island (island_of mode line ps) ≡ true
 unfolding is_data_island
-island_good mode line ps h least most =
-    let l = length_at mode line 14 ps in
-    let n = length (packets_at mode line 14 ps) in
-    both (is_sync_pair (island_of mode line ps).opening && is_sync_pair (island_of mode line ps).closing) _
-    (both (is_sync_pair (island_of mode line ps).opening) (is_sync_pair (island_of mode line ps).closing)
-    (both (nat_lt (sync_at mode line 12) 4) (nat_lt (sync_at mode line (12 + 1)) 4) (sync_small mode line 12) (sync_small mode line (12 + 1)))
-    (both (nat_lt (sync_at mode line (14 + 32 * length ps)) 4) (nat_lt (sync_at mode line (14 + 32 * length ps + 1)) 4) (sync_small mode line (14 + 32 * length ps)) (sync_small mode line (14 + 32 * length ps + 1))))
-    (both (list_all is_packet (packets_at mode line 14 ps)) _ (packets_good mode line ps 14 h) (both (nat_le 1 n) (nat_le n 18) (le-leb 1 n (omega (arith, l, least))) (le-leb n 18 (omega (arith, l, most)))))
+island_good mode line ps h least most = grind (arith, length_at, both, sync_small, packets_good, le-leb)
 
 payload_take : (n : ℕ) (ps : List Packet) → list_all is_payload ps ≡ true → list_all is_payload (take n ps) ≡ true
 payload_take zero ps h = refl
@@ -258,9 +205,6 @@ video_good width bytes long least most h =
 few_row : (mode : Mode) (ps : List Packet) → length (take (row_room mode) ps) ≤ 18
 few_row mode ps = omega (arith, length-take (row_room mode) ps)
 
-few_blank : (mode : Mode) (ps : List Packet) → length (take (blank_room mode) ps) ≤ 18
-few_blank mode ps = omega (arith, length-take (blank_room mode) ps)
-
 leaves_row : (mode : Mode) (ps : List Packet) → 1 ≤ length (take (row_room mode) ps) → 28 + 32 * length (take (row_room mode) ps) ≤ guard_at mode
 leaves_row mode ps least = omega (arith, length-take (row_room mode) ps, least)
 
@@ -285,21 +229,14 @@ Goes rest = (ws : List ℕ) → Small ws ≡ true → conforming ws rest ≡ tru
 blanks_conform : (mode : Mode) (v : Bool) (n : ℕ) (ps : List Packet) (rest : List Part) → list_all is_payload ps ≡ true → Goes rest → Goes (laid mode (replicate n (blank v)) ps ++ rest)
 unfolding laid Goes
 blanks_conform mode v zero ps rest good later = later
-blanks_conform mode v (suc n) ps rest good later = λ ws small.
-    let qs = take (room mode (blank v)) ps in
-    ap (conforming ws) (append_assoc (until mode (blank v) qs (total mode.across)) (laid mode (replicate n (blank v)) (drop (room mode (blank v)) ps)) rest)
-    ∙ blank_conforms mode v qs (total mode.across) ws (laid mode (replicate n (blank v)) (drop (room mode (blank v)) ps) ++ rest) small (payload_take (room mode (blank v)) ps good) (few_blank mode ps)
-    (blanks_conform mode v n (drop (room mode (blank v)) ps) rest (payload_drop (room mode (blank v)) ps good) later)
+blanks_conform mode v (suc n) ps rest good later = grind (arith, conforming, append_assoc, blank_conforms, payload_take, payload_drop, length-take, blanks_conform mode v n)
 
 rows_conform : (mode : Mode) → IsMode mode → (rows : List (List ℕ)) → AreRows (active mode.across) rows → list_all are_bytes rows ≡ true → (ps : List Packet) (rest : List Part) → list_all is_payload ps ≡ true → Goes rest → Goes (laid mode (map row_line rows) ps ++ rest)
 unfolding laid Goes
 rows_conform mode ok [] are bytes ps rest good later = later
 rows_conform mode ok (row ∷ rows) are bytes ps rest good later = λ ws small.
     let line = row_line row in
-    let here = whole mode line (take (room mode line) ps) (Some row) in
-    ap (conforming ws) (append_assoc here (laid mode (map row_line rows) (drop (room mode line) ps)) rest)
-    ∙ row_conforms mode ok row (long_row (active mode.across) row rows are) (and-left (are_bytes row) _ bytes) ps ws (laid mode (map row_line rows) (drop (room mode line) ps) ++ rest) small good
-    (rows_conform mode ok rows (and-right (length row == 3 * active mode.across) _ are) (and-right (are_bytes row) _ bytes) (drop (room mode line) ps) rest (payload_drop (room mode line) ps good) later)
+    grind (arith, conforming, append_assoc, row_conforms, long_row, and-left, and-right, payload_drop, rows_conform mode ok rows)
 
 payload_left : (mode : Mode) (lines : List Line) (ps : List Packet) → list_all is_payload ps ≡ true → list_all is_payload (left mode lines ps) ≡ true
 unfolding left
@@ -325,18 +262,7 @@ final_conforms mode = λ ws small.
 
 parts_conform : (mode : Mode) → IsMode mode → (frames : List Frame) → AreFrames mode frames → are_content frames ≡ true → Goes (parts_of mode frames)
 parts_conform mode ok [] are content = final_conforms mode
-parts_conform mode ok (f ∷ frames) are content =
-    let here = and-left (is_content f) (are_content frames) content in
-    let rows = and-left (list_all are_bytes f.rows) (list_all is_payload f.packets) here in
-    let good = and-right (list_all are_bytes f.rows) (list_all is_payload f.packets) here in
-    let one = payload_left mode (replicate (sync mode.down) (blank true)) f.packets good in
-    let two = payload_left mode (replicate (back mode.down) (blank false)) (after_sync mode f) one in
-    let three = payload_left mode (map row_line f.rows) (after_back mode f) two in
-    subst (λ (ps : List Part). Goes ps) (sym (parts_more mode f frames))
-    (blanks_conform mode true (sync mode.down) f.packets _ good
-    (blanks_conform mode false (back mode.down) (after_sync mode f) _ one
-    (rows_conform mode ok f.rows are.0.rows rows (after_back mode f) _ two
-    (blanks_conform mode false (front mode.down) (left mode (map row_line f.rows) (after_back mode f)) (parts_of mode frames) three (parts_conform mode ok frames are.1 (and-right (is_content f) (are_content frames) content))))))
+parts_conform mode ok (f ∷ frames) are content = grind (arith, and-left, and-right, payload_left, after_sync, after_back, parts_more, blanks_conform, rows_conform, parts_conform mode ok frames)
 
 goes : (parts : List Part) → Goes parts → conforming [] parts ≡ true
 unfolding Goes

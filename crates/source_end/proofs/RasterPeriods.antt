@@ -1,12 +1,12 @@
 -- A raster conforms.
-use Rattle.std.proofs.Common.{◌≡◌, ℕ, suc, ◌≤◌, Bool, true, false, ◌&&◌, ◌==◌, List, [], ◌∷◌, ◌++◌, map, length, refl, sym, ap, ap₂, ◌∙◌, arith}
+use Rattle.std.proofs.Common.{◌≡◌, ℕ, ◌≤◌, Bool, true, ◌&&◌, List, [], ◌∷◌, ◌++◌, map, length, refl, ap, ap₂, ◌∙◌, arith}
 use Rattle.std.specs.Prelude.{nat_lt, nat_le}
 use Rattle.std.specs.List.{list_all}
 use Rattle.std.proofs.lemmas.Bool.{le-leb, leb-true, eqb-true}
 use Rattle.tmds_word.proofs.Below.{and-left, and-right}
-use Rattle.island_pack.specs.Periods.{ControlRun, DataIsland, Period, control as control_period, video, island, values_of, has_preamble}
+use Rattle.island_pack.specs.Periods.{ControlRun, DataIsland, Period, control as control_period, island, values_of, has_preamble}
 use Rattle.island_pack.specs.Conforming.{is_run, is_control_period, is_video_period, is_data_island, conforms}
-use Rattle.island_pack.specs.Runs.{joined, join, longest}
+use Rattle.island_pack.specs.Runs.{join, longest}
 use Rattle.island_pack.proofs.Runs.{values_longest}
 use Rattle.source_end.specs.Raster.{Part, column, pixels, packets, gathered}
 use Rattle.source_end.proofs.Gathered.{Apart, prepend, prepend_apart, gathered_columns}
@@ -25,15 +25,8 @@ conforming vs (column v ∷ parts) = conforming (vs ++ v ∷ []) parts
 conforming vs (pixels bytes ∷ parts) = enough vs && (has_preamble 1 vs && (is_video_period bytes && conforming [] parts))
 conforming vs (packets x ∷ parts) = enough vs && (has_preamble 5 vs && (is_data_island x && conforming [] parts))
 
-joined_runs : (p : Bool) (v : ℕ) (r : ControlRun) (rs : List ControlRun) → (v == r.value) ≡ p → nat_lt v 64 ≡ true → list_all is_run (r ∷ rs) ≡ true → list_all is_run (joined p v r rs) ≡ true
-joined_runs true v r rs e h g =
-    let one : nat_le 1 (suc r.count) ≡ true = le-leb 1 (suc r.count) (omega arith) in
-    ap₂ (λ (a b : Bool). a && b) (ap₂ (λ (a b : Bool). a && b) (ap (λ (x : ℕ). nat_lt x 64) (sym (eqb-true v r.value e)) ∙ h) one) (and-right (is_run r) (list_all is_run rs) g)
-joined_runs false v r rs e h g = ap₂ (λ (a b : Bool). (a && true) && b) h g
-
 join_runs : (v : ℕ) (rs : List ControlRun) → nat_lt v 64 ≡ true → list_all is_run rs ≡ true → list_all is_run (join v rs) ≡ true
-join_runs v [] h g = ap (λ (a : Bool). (a && true) && true) h
-join_runs v (r ∷ rs) h g = joined_runs (v == r.value) v r rs refl h g
+join_runs v rs h k = grind (arith, le-leb, eqb-true, and-right)
 
 runs_of : (vs : List ℕ) → Small vs ≡ true → list_all is_run (longest vs) ≡ true
 unfolding longest
@@ -62,15 +55,6 @@ columns_more (w ∷ vs) v parts = ap (λ (ps : List Part). column w ∷ ps) (col
 preamble_longest : (bits : ℕ) (vs : List ℕ) → has_preamble bits (values_of (longest vs)) ≡ has_preamble bits vs
 preamble_longest bits vs = ap (has_preamble bits) (values_longest vs)
 
-ends_period : (vs : List ℕ) → enough vs ≡ true → conforms (control_period (longest vs) ∷ []) ≡ true
-unfolding conforms
-ends_period vs h = period_enough vs h
-
-video_period : (vs : List ℕ) (bytes : List ℕ) (rest : List Period) → enough vs ≡ true → has_preamble 1 vs ≡ true → is_video_period bytes ≡ true → conforms rest ≡ true → conforms (control_period (longest vs) ∷ (video bytes ∷ rest)) ≡ true
-unfolding conforms
-video_period vs bytes rest h p v c =
-    ap₂ (λ (a b : Bool). a && (b && (is_video_period bytes && conforms rest))) (period_enough vs h) (preamble_longest 1 vs ∙ p) ∙ ap₂ (λ (a b : Bool). a && b) v c
-
 island_period : (vs : List ℕ) (x : DataIsland) (rest : List Period) → enough vs ≡ true → has_preamble 5 vs ≡ true → is_data_island x ≡ true → conforms rest ≡ true → conforms (control_period (longest vs) ∷ (island x ∷ rest)) ≡ true
 unfolding conforms
 island_period vs x rest h p v c =
@@ -78,19 +62,8 @@ island_period vs x rest h p v c =
 
 -- parts that conform make periods that do
 pub gathered_conforms : (parts : List Part) (vs : List ℕ) → conforming vs parts ≡ true → conforms (gathered (columns_of vs ++ parts)) ≡ true
-unfolding conforming gathered
-gathered_conforms [] vs h =
-    ap conforms (gathered_columns vs [] ∙ period_first vs [] (λ v. refl) (some vs h)) ∙ ends_period vs h
+unfolding conforming gathered conforms
+gathered_conforms [] vs h = grind (arith, gathered_columns, period_first, some, period_enough)
 gathered_conforms (column v ∷ parts) vs h = ap (λ (ps : List Part). conforms (gathered ps)) (columns_more vs v parts) ∙ gathered_conforms parts (vs ++ v ∷ []) h
-gathered_conforms (pixels bytes ∷ parts) vs h =
-    let g = and-right (enough vs) _ h in
-    let k = and-right (has_preamble 1 vs) _ g in
-    let e = and-left (enough vs) _ h in
-    ap conforms (gathered_columns vs (pixels bytes ∷ parts) ∙ period_first vs (video bytes ∷ gathered parts) (λ v. refl) (some vs e))
-    ∙ video_period vs bytes (gathered parts) e (and-left (has_preamble 1 vs) _ g) (and-left (is_video_period bytes) _ k) (gathered_conforms parts [] (and-right (is_video_period bytes) _ k))
-gathered_conforms (packets x ∷ parts) vs h =
-    let g = and-right (enough vs) _ h in
-    let k = and-right (has_preamble 5 vs) _ g in
-    let e = and-left (enough vs) _ h in
-    ap conforms (gathered_columns vs (packets x ∷ parts) ∙ period_first vs (island x ∷ gathered parts) (λ v. refl) (some vs e))
-    ∙ island_period vs x (gathered parts) e (and-left (has_preamble 5 vs) _ g) (and-left (is_data_island x) _ k) (gathered_conforms parts [] (and-right (is_data_island x) _ k))
+gathered_conforms (pixels bytes ∷ parts) vs h = grind (arith, and-right, and-left, gathered_columns, period_first, some, period_enough, preamble_longest, gathered_conforms parts)
+gathered_conforms (packets x ∷ parts) vs h = grind (arith, and-right, and-left, gathered_columns, period_first, some, island_period, gathered_conforms parts)

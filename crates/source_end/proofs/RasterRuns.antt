@@ -1,6 +1,6 @@
 -- The columns of a line as runs.
 use Rattle.std.proofs.Common.{◌≡◌, ℕ, zero, suc, ◌+◌, ◌-◌, ◌*◌, ◌<◌, ◌≤◌, Bool, true, false, ◌&&◌, ◌==◌, cond, min, max, List, [], ◌∷◌, ◌++◌, map, length, take, replicate, Some, refl, sym, ap, ap₂, ◌∙◌, append_assoc, arith}
-use Rattle.std.specs.Prelude.{nat_lt, nat_le}
+use Rattle.std.specs.Prelude.{nat_lt}
 use Rattle.std.proofs.lemmas.Bool.{lt-ltb, le-ltb, le-leb, lt-leb}
 use Rattle.std.proofs.lemmas.List.{map-append, take_all}
 use Rattle.terc4.specs.Columns.{one_if}
@@ -14,10 +14,7 @@ use Rattle.source_end.proofs.RasterModes.{IsMode}
 -- Columns in two parts, and columns of one value.
 
 up_more : (n m x : ℕ) → up_from x (n + m) ≡ up_from x n ++ up_from (x + n) m
-up_more zero m x =
-    let e : 0 + m ≡ m = omega arith in
-    let d : x ≡ x + 0 = omega arith in
-    ap (up_from x) e ∙ ap (λ (k : ℕ). up_from k m) d
+up_more zero m x = grind arith
 up_more (suc n) m x =
     let e : suc n + m ≡ suc (n + m) = omega arith in
     let d : suc x + n ≡ x + suc n = omega arith in
@@ -29,10 +26,7 @@ up_next x n = up_more n 1 x
 pub columns_split : (value : ℕ → ℕ) (x y e : ℕ) → x ≤ y → y ≤ e → columns value x e ≡ columns value x y ++ columns value y e
 columns_split value x y e le more =
     let n : e - x ≡ (y - x) + (e - y) = omega (arith, le, more) in
-    let at : x + (y - x) ≡ y = omega (arith, le) in
-    ap (λ (k : ℕ). map (λ i. column (value i)) (up_from x k)) n
-    ∙ ap (map (λ i. column (value i))) (up_more (y - x) (e - y) x ∙ ap (λ (k : ℕ). up_from x (y - x) ++ up_from k (e - y)) at)
-    ∙ map-append (λ i. column (value i)) (up_from x (y - x)) (up_from y (e - y))
+    grind (arith, up_more, map-append)
 
 same_up : (f g : ℕ → ℕ) (n x : ℕ) → ((i : ℕ) → x ≤ i → i < x + n → f i ≡ g i) → map (λ i. column (f i)) (up_from x n) ≡ map (λ i. column (g i)) (up_from x n)
 same_up f g zero x h = refl
@@ -73,9 +67,7 @@ abbrev pub placed : Mode → Line → ℕ → Packet → Packet
 placed mode line x p = record { header = p.header; bodies = p.bodies; sync = map (sync_at mode line) (up_from x 32) }
 
 pub packets_more : (mode : Mode) (line : Line) (x : ℕ) (ps : List Packet) (p : Packet) → packets_at mode line x (ps ++ p ∷ []) ≡ packets_at mode line x ps ++ placed mode line (x + 32 * length ps) p ∷ []
-packets_more mode line x [] p =
-    let d : x ≡ x + 32 * 0 = omega arith in
-    ap (λ (k : ℕ). placed mode line k p ∷ []) d
+packets_more mode line x [] p = grind arith
 packets_more mode line x (q ∷ ps) p =
     let d : x + 32 + 32 * length ps ≡ x + 32 * length (q ∷ ps) = omega arith in
     ap (λ (qs : List Packet). placed mode line x q ∷ qs) (packets_more mode line (x + 32) ps p ∙ ap (λ (k : ℕ). packets_at mode line (x + 32) ps ++ placed mode line k p ∷ []) d)
@@ -88,49 +80,25 @@ within x from to le lt = ap₂ (λ (a b : Bool). a && b) (le-leb from x le) (lt-
 before_within : (x from to : ℕ) → x < from → is_within x from to ≡ false
 before_within x from to lt = ap (λ (b : Bool). b && nat_lt x to) (lt-leb from x lt)
 
-and_false : (a b : Bool) → b ≡ false → (a && b) ≡ false
-and_false true b e = e
-and_false false b e = refl
-
-past_within : (x from to : ℕ) → to ≤ x → is_within x from to ≡ false
-past_within x from to le = and_false (nat_le from x) (nat_lt x to) (le-ltb x to le)
-
 -- the control bits of a column in which no row is announced
 calm : (mode : Mode) (line : Line) (has : Bool) (x : ℕ) (b : Bool) → (has_row line && is_within x (guard_at mode - 8) (guard_at mode)) ≡ false → (has && is_within x 4 12) ≡ b → value_at mode line has x ≡ with_ctl mode line (cond b 20 0) x
 calm mode line has x b e d = ap₂ (λ (s t : Bool). sync_at mode line x + cond s 4 (cond t 20 0)) e d
 
 pub lead_columns : (mode : Mode) (v : Bool) → columns (with_ctl mode (blank v) 0) 0 4 ++ columns (with_ctl mode (blank v) 20) 4 12 ≡ columns (value_at mode (blank v) true) 0 12
-lead_columns mode v =
-    let line = blank v in
-    let value = value_at mode line true in
-    sym (columns_split value 0 4 12 (omega arith) (omega arith)
-    ∙ ap₂ (λ (ps qs : List Part). ps ++ qs)
-    (columns_same value (with_ctl mode line 0) 0 4 (omega arith) (λ i low high. calm mode line true i false refl (before_within i 4 12 high)))
-    (columns_same value (with_ctl mode line 20) 4 12 (omega arith) (λ i low high. calm mode line true i true refl (within i 4 12 low high))))
+lead_columns mode v = grind (arith, columns_split, columns_same, calm, before_within, within)
 
 -- a line that takes packets is led as one with no row
 pub lead_row : (mode : Mode) (row : List ℕ) (ps : List Packet) → 20 ≤ guard_at mode → lead mode (blank false) ps ≡ lead mode (row_line row) ps
-lead_row mode row [] le = refl
-lead_row mode row (p ∷ ps) le =
-    ap (λ (qs : List Part). qs ++ packets (island_of mode (blank false) (p ∷ ps)) ∷ [])
-    (columns_same (value_at mode (blank false) true) (value_at mode (row_line row) true) 0 12 (omega arith)
-    (λ i low high. sym (calm mode (row_line row) true i (is_within i 4 12) (before_within i (guard_at mode - 8) (guard_at mode) (omega (arith, high, le))) refl)))
+lead_row mode row ps h = grind (arith, columns_same, calm, before_within)
 
 pub lead_some : (mode : Mode) (v : Bool) (ps : List Packet) (x : DataIsland) → 1 ≤ length ps → x ≡ island_of mode (blank v) ps → (columns (with_ctl mode (blank v) 0) 0 4 ++ columns (with_ctl mode (blank v) 20) 4 12) ++ packets x ∷ [] ≡ lead mode (blank v) ps
-lead_some mode v [] x some e = absurd (omega arith)
-lead_some mode v (p ∷ ps) x some e = ap₂ (λ (qs : List Part) (y : DataIsland). qs ++ packets y ∷ []) (lead_columns mode v) e
+lead_some mode v ps x h k = grind (arith, lead_columns)
 
 pub some_there : (b : Bool) (ps : List Packet) → b ≡ (length ps == 0) → b ≡ false → 1 ≤ length ps
-some_there b [] e h = absurd cc
-some_there b (p ∷ ps) e h = omega arith
+some_there b ps h k = grind arith
 
 pub end_some : (ps : List Packet) → 1 ≤ length ps → lead_end ps ≡ 16 + 32 * length ps
-end_some [] some = absurd (omega arith)
-end_some (p ∷ ps) some = refl
-
-pub end_none : (ps : List Packet) → length ps ≡ 0 → lead_end ps ≡ 0
-end_none [] e = refl
-end_none (p ∷ ps) e = absurd (omega (arith, e))
+end_some ps h = grind arith
 
 -- Behind it.
 
@@ -140,26 +108,20 @@ some (p ∷ ps) = true
 
 until_led : (mode : Mode) (line : Line) (ps : List Packet) (e : ℕ) → until mode line ps e ≡ lead mode line ps ++ columns (value_at mode line (some ps)) (lead_end ps) e
 unfolding some
-until_led mode line [] e = refl
-until_led mode line (p ∷ ps) e = sym (append_assoc (columns (value_at mode line true) 0 12) (packets (island_of mode line (p ∷ ps)) ∷ []) (columns (value_at mode line true) (16 + 32 * length (p ∷ ps)) e))
+until_led mode line ps e = grind (arith, append_assoc)
 
 after : (ps : List Packet) (x : ℕ) → lead_end ps ≤ x → (some ps && is_within x 4 12) ≡ false
 unfolding some
-after [] x le = refl
-after (p ∷ ps) x le = past_within x 4 12 (omega (arith, le))
+after ps x h = grind (arith, le-ltb)
 
 pub blank_parts : (mode : Mode) (v : Bool) (ps : List Packet) → lead_end ps ≤ total mode.across → lead mode (blank v) ps ++ columns (with_ctl mode (blank v) 0) (lead_end ps) (total mode.across) ≡ until mode (blank v) ps (total mode.across)
-blank_parts mode v ps le =
-    sym (until_led mode (blank v) ps (total mode.across)
-    ∙ ap (λ (qs : List Part). lead mode (blank v) ps ++ qs)
-    (columns_same (value_at mode (blank v) (some ps)) (with_ctl mode (blank v) 0) (lead_end ps) (total mode.across) le (λ i low high. calm mode (blank v) (some ps) i false refl (after ps i low))))
+blank_parts mode v ps le = grind (arith, until_led, columns_same, calm, after)
 
 announced : (mode : Mode) (row : List ℕ) (has : Bool) (x : ℕ) → is_within x (guard_at mode - 8) (guard_at mode) ≡ true → value_at mode (row_line row) has x ≡ with_ctl mode (blank false) 4 x
 announced mode row has x e = ap (λ (b : Bool). sync_at mode (blank false) x + cond b 4 (cond (has && is_within x 4 12) 20 0)) e
 
 same_lead : (mode : Mode) (row : List ℕ) (ps : List Packet) → lead_end ps ≤ guard_at mode - 8 → lead mode (blank false) ps ≡ lead mode (row_line row) ps
-same_lead mode row [] le = refl
-same_lead mode row (p ∷ ps) le = lead_row mode row (p ∷ ps) (omega (arith, le))
+same_lead mode row ps h = grind (arith, lead_row)
 
 row_until : (mode : Mode) (row : List ℕ) (ps : List Packet) → lead_end ps ≤ guard_at mode - 8
     → lead mode (blank false) ps ++ (columns (with_ctl mode (blank false) 0) (lead_end ps) (guard_at mode - 8) ++ columns (with_ctl mode (blank false) 4) (guard_at mode - 8) (guard_at mode)) ≡ until mode (row_line row) ps (guard_at mode)
@@ -176,26 +138,15 @@ row_until mode row ps le =
 pub row_parts : (mode : Mode) (row : List ℕ) (ps : List Packet) (a : ℕ) → lead_end ps ≤ guard_at mode - 8 → a ≡ sync mode.across + back mode.across + active mode.across
     → lead mode (blank false) ps ++ (columns (with_ctl mode (blank false) 0) (lead_end ps) (guard_at mode - 8) ++ (columns (with_ctl mode (blank false) 4) (guard_at mode - 8) (guard_at mode) ++ (pixels row ∷ columns (with_ctl mode (blank false) 0) a (total mode.across))))
     ≡ whole mode (row_line row) ps (Some row)
-row_parts mode row ps a le e =
-    let first = lead mode (blank false) ps in
-    let second = columns (with_ctl mode (blank false) 0) (lead_end ps) (guard_at mode - 8) in
-    let third = columns (with_ctl mode (blank false) 4) (guard_at mode - 8) (guard_at mode) in
-    let last = columns (with_ctl mode (blank false) 0) a (total mode.across) in
-    ap (λ (qs : List Part). first ++ qs) (sym (append_assoc second third (pixels row ∷ last)))
-    ∙ sym (append_assoc first (second ++ third) (pixels row ∷ last))
-    ∙ ap₂ (λ (qs rs : List Part). qs ++ (pixels row ∷ rs)) (row_until mode row ps le)
-    (ap (λ (k : ℕ). columns (with_ctl mode (blank false) 0) k (total mode.across)) e
-    ∙ columns_same (with_ctl mode (blank false) 0) (λ x. sync_at mode (row_line row) x) (sync mode.across + back mode.across + active mode.across) (total mode.across) (omega arith) (λ i low high. omega arith))
+row_parts mode row ps a le e = grind (arith, append_assoc, row_until, columns_same)
 
 -- The packets of a line leave room.
 
 pub blank_end : (mode : Mode) (ps : List Packet) → length ps ≤ blank_room mode → lead_end ps ≤ total mode.across
-blank_end mode [] few = omega arith
-blank_end mode (p ∷ ps) few = omega (arith, few)
+blank_end mode ps h = grind arith
 
 pub row_end : (mode : Mode) → IsMode mode → (ps : List Packet) → length ps ≤ row_room mode → lead_end ps ≤ guard_at mode - 8
-row_end mode ok [] few = omega arith
-row_end mode ok (p ∷ ps) few = omega (arith, few)
+row_end mode h k l = grind arith
 
 -- Loops over columns and packets.
 

@@ -1,12 +1,12 @@
 -- Lines that are written one after another.
-use Rattle.std.proofs.Common.{◌≡◌, ℕ, zero, suc, ◌+◌, ◌*◌, ◌/◌, ◌^◌, ◌<◌, ◌≤◌, Bool, true, false, ◌&&◌, ◌==◌, get_or, min, List, [], ◌∷◌, ◌++◌, map, length, take, drop, replicate, refl, sym, ap, ap₂, ◌∙◌, append_assoc, append-nil, arith, inl, inr, mul-le-mul_right}
+use Rattle.std.proofs.Common.{◌≡◌, ℕ, zero, suc, ◌+◌, ◌*◌, ◌/◌, ◌^◌, ◌<◌, ◌≤◌, Bool, true, false, ◌&&◌, ◌==◌, get_or, min, List, [], ◌∷◌, ◌++◌, map, length, take, drop, replicate, refl, sym, ap, ap₂, ◌∙◌, append_assoc, append-nil, arith, mul-le-mul_right}
 use Rattle.std.proofs.lemmas.List.{map-append, drop_all, take_min, length-take, replicate-append-replicate}
 use Rattle.std.proofs.lemmas.Bool.{cases_lt, eqb-true}
 use Rattle.tmds_word.proofs.Below.{and-left, and-right}
 use Rattle.island_pack.specs.declared.packet.Packet.{Packet}
 use Rattle.source_end.specs.declared.mode.Mode.{Mode}
 use Rattle.source_end.specs.Content.{Frame}
-use Rattle.source_end.specs.Raster.{Line, Part, columns, pixels, packets, value_at, island_of, blank, row_line, room, sync, back, front, total, whole, laid, lines_of, parts_of, final_columns}
+use Rattle.source_end.specs.Raster.{Line, Part, pixels, packets, blank, row_line, room, sync, back, front, total, whole, laid, lines_of, parts_of, final_columns}
 use Rattle.source_end.specs.Lines.{lead, lead_end, left}
 use Rattle.source_end.specs.Gathering.{size}
 use Rattle.source_end.proofs.Gathered.{size_append}
@@ -21,25 +21,15 @@ take_taken n m ps e =
     ap (λ (k : ℕ). take k ps) d ∙ take_min n ps
 
 pub drop_taken : (n m : ℕ) (ps : List Packet) → m ≡ min (length ps) n → drop m ps ≡ drop n ps
-drop_taken n m ps e =
-    elim (cases_lt n (length ps)) [
-      | inl lt ↦ (let d : m ≡ n = omega (arith, e, lt) in ap (λ (k : ℕ). drop k ps) d)
-      | inr le ↦ drop_all m ps (omega (arith, e, le)) ∙ sym (drop_all n ps le)
-    ]
-
-size_all : (mode : Mode) (line : Line) (ps : List Packet) → size (packets (island_of mode line ps) ∷ []) ≡ 4 + 32 * length ps
-unfolding size
-size_all mode line ps = omega (arith, length_packets mode line 14 ps)
+drop_taken n m ps e = grind (arith, cases_lt, drop_all)
 
 size_none : size [] ≡ 0
 unfolding size
 size_none = refl
 
 pub size_lead : (mode : Mode) (line : Line) (ps : List Packet) → size (lead mode line ps) ≡ lead_end ps
-size_lead mode line [] = size_none
-size_lead mode line (p ∷ ps) =
-    size_append (columns (value_at mode line true) 0 12) (packets (island_of mode line (p ∷ ps)) ∷ [])
-    ∙ ap₂ (λ (a b : ℕ). a + b) (size_columns (value_at mode line true) 0 12) (size_all mode line (p ∷ ps)) ∙ omega arith
+unfolding size
+size_lead mode line ps = grind (arith, size_none, size_append, size_columns, length_packets)
 
 pub size_pixels : (row : List ℕ) → size (pixels row ∷ []) ≡ 2 + length row / 3
 unfolding size
@@ -52,19 +42,13 @@ unfolding left
 left_append mode [] ys ps = refl
 left_append mode (x ∷ xs) ys ps = left_append mode xs ys (drop (room mode x) ps)
 
-left_one : (mode : Mode) (line : Line) (ps : List Packet) → left mode (line ∷ []) ps ≡ drop (room mode line) ps
-unfolding left
-left_one mode line ps = refl
-
-laid_one : (mode : Mode) (line : Line) (ps : List Packet) → laid mode (line ∷ []) ps ≡ whole mode line (take (room mode line) ps) line.row
-unfolding laid
-laid_one mode line ps = append-nil (whole mode line (take (room mode line) ps) line.row)
-
 pub laid_more : (mode : Mode) (lines : List Line) (line : Line) (ps : List Packet) → laid mode (lines ++ line ∷ []) ps ≡ laid mode lines ps ++ whole mode line (take (room mode line) (left mode lines ps)) line.row
-laid_more mode lines line ps = laid_append mode lines (line ∷ []) ps ∙ ap (λ (qs : List Part). laid mode lines ps ++ qs) (laid_one mode line (left mode lines ps))
+unfolding laid
+laid_more mode lines line ps = grind (arith, laid_append, append-nil)
 
 pub left_more : (mode : Mode) (lines : List Line) (line : Line) (ps : List Packet) → left mode (lines ++ line ∷ []) ps ≡ drop (room mode line) (left mode lines ps)
-left_more mode lines line ps = left_append mode lines (line ∷ []) ps ∙ left_one mode line (left mode lines ps)
+unfolding left
+left_more mode lines line ps = grind (arith, left_append)
 
 pub none_laid : (mode : Mode) (ps : List Packet) → laid mode [] ps ≡ []
 unfolding laid
@@ -86,16 +70,10 @@ pub record Step (mode : Mode) (lines : List Line) (line : Line) (ps front back :
   pub parts : laid mode lines ps ++ whole mode line front line.row ≡ laid mode (lines ++ line ∷ []) ps
 
 pub step : (mode : Mode) (lines : List Line) (line : Line) (ps rest front back : List Packet) (m : ℕ) → rest ≡ left mode lines ps → m ≡ min (length rest) (room mode line) → front ≡ take m rest → back ≡ drop m rest → Step mode lines line ps front back
-step mode lines line ps rest front back m e n f b = record {
-  rest = b ∙ drop_taken (room mode line) m rest n ∙ ap (drop (room mode line)) e ∙ sym (left_more mode lines line ps);
-  parts = ap (λ (qs : List Packet). laid mode lines ps ++ whole mode line qs line.row) (f ∙ take_taken (room mode line) m rest n ∙ ap (take (room mode line)) e) ∙ sym (laid_more mode lines line ps);
-}
+step mode lines line ps rest front back m e n f b = grind (arith, drop_taken, left_more, parts, take_taken, laid_more)
 
 pub one_time : (n t : ℕ) → (n + 1) * t ≡ n * t + t
 one_time n t = grind arith
-
-pub few_front : (n m : ℕ) (rest front : List Packet) → front ≡ take m rest → m ≡ min (length rest) n → length front ≤ n
-few_front n m rest front e d = omega (arith, ap length e, length-take m rest, d)
 
 -- Rows.
 
@@ -128,10 +106,7 @@ bodies_more mode (g ∷ frames) f =
 pub parts_bodies : (mode : Mode) (frames : List Frame) → bodies mode frames ++ final_columns mode ≡ parts_of mode frames
 unfolding bodies
 parts_bodies mode [] = sym (parts_none mode)
-parts_bodies mode (f ∷ frames) =
-    append_assoc (laid mode (lines_of mode f) f.packets) (bodies mode frames) (final_columns mode)
-    ∙ ap (λ (ps : List Part). laid mode (lines_of mode f) f.packets ++ ps) (parts_bodies mode frames)
-    ∙ sym (parts_first mode f frames)
+parts_bodies mode (f ∷ frames) = grind (arith, append_assoc, parts_first, parts_bodies mode frames)
 
 pub frames_take : (mode : Mode) (i : ℕ) (frames : List Frame) → AreFrames mode frames → AreFrames mode (take i frames)
 frames_take mode zero frames h = tt
@@ -141,10 +116,7 @@ frames_take mode (suc i) (f ∷ frames) h = (h.0, frames_take mode i frames h.1)
 pub size_bodies : (mode : Mode) → IsMode mode → (frames : List Frame) → AreFrames mode frames → size (bodies mode frames) ≡ length frames * (total mode.across * total mode.down)
 unfolding bodies
 size_bodies mode ok [] are = size_none ∙ omega arith
-size_bodies mode ok (f ∷ frames) are =
-    size_append (laid mode (lines_of mode f) f.packets) (bodies mode frames)
-    ∙ ap₂ (λ (x y : ℕ). x + y) (size_frame mode ok f are.0) (size_bodies mode ok frames are.1)
-    ∙ more_times (length frames) (total mode.across * total mode.down)
+size_bodies mode ok (f ∷ frames) are = grind (arith, size_append, size_frame, more_times, size_bodies mode ok frames)
 
 -- the frames so far, and one more, are no more columns than all
 pub few_so_far : (mode : Mode) → IsMode mode → (frames : List Frame) → AreFrames mode frames → (i : ℕ) → i < length frames → length frames * (total mode.across * total mode.down) + 32 ≤ 20000000 → size (bodies mode (take i frames)) + total mode.across * total mode.down < 2 ^ 32

@@ -33,12 +33,7 @@ last_row from bytes row m e is =
     let k : m - from ≡ length row = omega (arith, e, is) in
     ap₂ (λ n xs. take n xs) k (ap (λ n. drop n (bytes ++ row)) e ∙ drop-append_seam bytes row) ∙ take-length row
 
-same_row : (from e : ℕ) (bytes row : List ℕ) → from ≤ e → e ≤ length bytes → take (e - from) (drop from (bytes ++ row)) ≡ take (e - from) (drop from bytes)
-same_row from e bytes row le within =
-    let short : e - from ≤ length (drop from bytes) = omega (arith, length-drop from bytes, within) in
-    ap (take (e - from)) (drop-append-le from bytes row (omega (arith, le, within))) ∙ take-append-le (e - from) (drop from bytes) row short
-
 pub rows_more : (from : ℕ) (bytes ends row : List ℕ) (m : ℕ) → AreEnds from ends (length bytes) → m ≡ length bytes + length row
     → rows_between from (bytes ++ row) (ends ++ m ∷ []) ≡ rows_between from bytes ends ++ row ∷ []
 rows_more from bytes [] row m h is = ap (λ (r : List ℕ). r ∷ []) (last_row from bytes row m h is)
-rows_more from bytes (e ∷ ends) row m h is = ap₂ (λ (r : List ℕ) (rs : List (List ℕ)). r ∷ rs) (same_row from e bytes row h.0 (last_end e ends (length bytes) h.1)) (rows_more e bytes ends row m h.1 is)
+rows_more from bytes (e ∷ ends) row m h is = grind (arith, last_end, length-drop, drop-append-le, take-append-le, rows_more e bytes ends row m)

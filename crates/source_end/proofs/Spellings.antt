@@ -1,5 +1,5 @@
 -- The columns of an item, one after another.
-use Rattle.std.proofs.Common.{◌≡◌, ℕ, suc, zero, ◌+◌, ◌*◌, ◌/◌, ◌≤◌, ◌<◌, List, [], ◌∷◌, ◌++◌, length, take, get_or, map, replicate, refl, ap, sym, subst, ◌∙◌, arith, append_assoc, append-nil, length-append, take_all, ℤ}
+use Rattle.std.proofs.Common.{◌≡◌, ℕ, suc, zero, ◌+◌, ◌*◌, ◌/◌, ◌≤◌, ◌<◌, List, [], ◌∷◌, ◌++◌, length, take, get_or, map, replicate, refl, ap, sym, subst, ◌∙◌, arith, append_assoc, append-nil, length-append, ℤ}
 use Rattle.std.proofs.lemmas.List.{take_more, map-append, length-replicate}
 use Rattle.tmds_word.specs.Column.{Column}
 use Rattle.tmds_code.specs.Pasts.{IsCoderAfter}
@@ -20,9 +20,7 @@ pub room : (runs : List ControlRun) (i : ℕ) (r : ControlRun) → i < length ru
 unfolding values_of
 room [] i r lt = absurd (omega arith)
 room (x ∷ runs) zero r lt = omega (arith, length-append (replicate x.count x.value) (values_of runs), length-replicate x.count x.value)
-room (x ∷ runs) (suc i) r lt =
-    let lt' : i < length runs = omega arith in
-    omega (arith, length-append (replicate x.count x.value) (values_of runs), length-append (replicate x.count x.value) (values_of (take i runs)), room runs i r lt')
+room (x ∷ runs) (suc i) r lt = grind (arith, length-append, room runs i r)
 
 pub none_spelled : {A : Type 0} (f : ℕ → A) (xs : List A) → xs ≡ xs ++ map f (values_of [])
 unfolding values_of
@@ -38,16 +36,7 @@ pixels_of-more [] i lt = absurd (omega arith)
 pixels_of-more (r ∷ []) i lt = absurd (omega arith)
 pixels_of-more (r ∷ (g ∷ [])) i lt = absurd (omega arith)
 pixels_of-more (r ∷ (g ∷ (b ∷ rest))) zero lt = refl
-pixels_of-more (r ∷ (g ∷ (b ∷ rest))) (suc i) lt =
-    let lt' : i < length rest / 3 = omega arith in
-    let bytes = r ∷ (g ∷ (b ∷ rest)) in
-    let e : suc (suc (suc (3 * i))) ≡ 3 * suc i = omega arith in
-    let f : suc (suc (suc (3 * i + 1))) ≡ 3 * suc i + 1 = omega arith in
-    let h : suc (suc (suc (3 * i + 2))) ≡ 3 * suc i + 2 = omega arith in
-    let first : Pixel = record { red = r; green = g; blue = b } in
-    let same : pixel_at rest (3 * i) (3 * i + 1) (3 * i + 2) ≡ pixel_at bytes (3 * suc i) (3 * suc i + 1) (3 * suc i + 2) =
-    λ k. record { red = get_or bytes (e k) 0; green = get_or bytes (f k) 0; blue = get_or bytes (h k) 0 } in
-    ap (λ (ps : List Pixel). first ∷ ps) (pixels_of-more rest i lt') ∙ ap (λ (p : Pixel). first ∷ (take i (pixels_of rest) ++ p ∷ [])) same
+pixels_of-more (r ∷ (g ∷ (b ∷ rest))) (suc i) lt = grind (arith, pixels_of-more rest i)
 
 pub length-pixels_of : (bytes : List ℕ) → length (pixels_of bytes) ≡ length bytes / 3
 unfolding pixels_of
@@ -61,9 +50,6 @@ pub lane_more : (bytes : List ℕ) (i : ℕ) (f : Pixel → ℕ) → i < length 
 lane_more bytes i f lt =
     let n : i + 1 ≡ suc i = omega arith in
     ap (λ k. map f (take k (pixels_of bytes))) n ∙ ap (map f) (pixels_of-more bytes i lt) ∙ map-append f (take i (pixels_of bytes)) (pixel_at bytes (3 * i) (3 * i + 1) (3 * i + 2) ∷ [])
-
-pub all_pixels : (bytes : List ℕ) (i : ℕ) → i ≡ length bytes / 3 → take i (pixels_of bytes) ≡ pixels_of bytes
-all_pixels bytes i e = ap (λ n. take n (pixels_of bytes)) (e ∙ sym (length-pixels_of bytes)) ∙ take_all (length (pixels_of bytes)) (pixels_of bytes) (omega arith)
 
 -- What is taken in two parts.
 pub joined : {A : Type 0} (old mid new xs ys : List A) → mid ≡ old ++ xs → new ≡ mid ++ ys → new ≡ old ++ (xs ++ ys)

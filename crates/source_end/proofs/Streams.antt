@@ -1,16 +1,16 @@
 -- Columns that spell periods, one period after another.
-use Rattle.std.proofs.Common.{◌≡◌, ℕ, suc, zero, ◌+◌, ◌*◌, ◌/◌, ◌%◌, ◌≤◌, ◌<◌, Bool, true, ◌==◌, ◌&&◌, List, [], ◌∷◌, ◌++◌, length, take, get_or, map, refl, ap, sym, subst, ◌∙◌, arith, append_assoc, append-nil, length-append}
+use Rattle.std.proofs.Common.{◌≡◌, ℕ, suc, zero, ◌+◌, ◌/◌, ◌%◌, ◌≤◌, ◌<◌, Bool, true, ◌==◌, ◌&&◌, List, [], ◌∷◌, ◌++◌, length, take, get_or, map, refl, ap, sym, subst, ◌∙◌, arith, append_assoc, append-nil, length-append}
 use Rattle.std.specs.Prelude.{nat_le, nat_lt}
 use Rattle.std.specs.List.{list_all}
 use Rattle.std.proofs.Math.ListN.{get_or-map}
 use Rattle.std.proofs.lemmas.List.{length-map}
 use Rattle.tmds_word.specs.Column.{Column}
-use Rattle.island_pack.specs.Periods.{ControlRun, DataIsland, Period, control, video, island, values_of, has_preamble, VIDEO_PREAMBLE, ISLAND_PREAMBLE, Pixel, pixels_of, period_columns, columns_of}
-use Rattle.island_pack.specs.Conforming.{is_run, is_control_period, is_video_period, is_data_island, conforms}
+use Rattle.island_pack.specs.Periods.{ControlRun, Period, control, video, island, values_of, Pixel, pixels_of, period_columns, columns_of}
+use Rattle.island_pack.specs.Conforming.{is_run, is_control_period, is_video_period, conforms}
 use Rattle.source_end.specs.declared.item.Item.{Item}
 use Rattle.source_end.specs.ItemPeriods.{period_of}
 use Rattle.source_end.specs.Kept.{is_sendable}
-use Rattle.island_pack.specs.Spelling.{SpellsPixels, SpellsIsland, SpellsPeriod, Spells, control_column, guard_columns}
+use Rattle.island_pack.specs.Spelling.{SpellsPixels, SpellsPeriod, Spells}
 use Rattle.source_end.proofs.Turns.{left, right, both}
 use Rattle.source_end.proofs.Spellings.{length-pixels_of}
 use Rattle.source_end.proofs.Packets.{packets_length}
@@ -27,25 +27,10 @@ pub video_length : (bytes : List ℕ) (columns : List Column) → SpellsPixels (
 video_length bytes columns h =
     sym (length-map columns (λ (c : Column). c.blue)) ∙ h.blue.same_length ∙ length-map (pixels_of bytes) (λ (p : Pixel). p.blue) ∙ length-pixels_of bytes
 
-island_length : (x : DataIsland) (columns : List Column) → SpellsIsland x columns → length columns ≡ 4 + 32 * length x.packets
-island_length x columns h =
-    let n = packets_length true x.packets h.0 h.2 in
-    let m = length-append h.0 (guard_columns x.closing) in
-    ap length h.1 ∙ omega (arith, n, m)
-
-period_length : (p : Period) (columns : List Column) → SpellsPeriod p columns → length columns ≡ period_columns p
-unfolding period_columns
-period_length (control runs) columns h = ap length h ∙ length-map (values_of runs) control_column
-period_length (video bytes) columns h = let n = video_length bytes h.0 h.2 in ap length h.1 ∙ omega (arith, n)
-period_length (island x) columns h = island_length x columns h
-
 pub Spells-length : (periods : List Period) (columns : List Column) → Spells periods columns → length columns ≡ columns_of periods
-unfolding columns_of
+unfolding columns_of period_columns
 Spells-length [] columns h = ap length h
-Spells-length (p ∷ ps) columns h =
-    let own = period_length p h.0 h.3 in
-    let rest = Spells-length ps h.1 h.4 in
-    ap length h.2 ∙ length-append h.0 h.1 ∙ omega (arith, own, rest)
+Spells-length (p ∷ ps) columns h = grind (arith, length-append, length-map, video_length, packets_length, Spells-length ps)
 
 -- The periods of a conforming list can be sent.
 pub control_sendable : (runs : List ControlRun) → is_control_period runs ≡ true → list_all is_run runs ≡ true
@@ -63,14 +48,8 @@ sendable_all (video bytes ∷ ps) h = absurd cc
 sendable_all (island x ∷ ps) h = absurd cc
 sendable_all (control runs ∷ []) h = both (is_sendable (control runs)) true (control_sendable runs h) refl
 sendable_all (control runs ∷ (control more ∷ ps)) h = absurd cc
-sendable_all (control runs ∷ (video bytes ∷ ps)) h =
-    let rest = right (has_preamble VIDEO_PREAMBLE (values_of runs)) _ (right (is_control_period runs) _ h) in
-    both (is_sendable (control runs)) _ (control_sendable runs (left (is_control_period runs) _ h))
-    (both (is_sendable (video bytes)) _ (video_sendable bytes (left (is_video_period bytes) (conforms ps) rest)) (sendable_all ps (right (is_video_period bytes) (conforms ps) rest)))
-sendable_all (control runs ∷ (island x ∷ ps)) h =
-    let rest = right (has_preamble ISLAND_PREAMBLE (values_of runs)) _ (right (is_control_period runs) _ h) in
-    both (is_sendable (control runs)) _ (control_sendable runs (left (is_control_period runs) _ h))
-    (both (is_sendable (island x)) _ (left (is_data_island x) (conforms ps) rest) (sendable_all ps (right (is_data_island x) (conforms ps) rest)))
+sendable_all (control runs ∷ (video bytes ∷ ps)) h = grind (arith, right, both, control_sendable, left, video_sendable, sendable_all ps)
+sendable_all (control runs ∷ (island x ∷ ps)) h = grind (arith, right, both, control_sendable, left, sendable_all ps)
 
 -- what each of a list passes
 pub passed_at : {A : Type 0} (p : A → Bool) (xs : List A) (i : ℕ) (d : A) → list_all p xs ≡ true → i < length xs → p (get_or xs i d) ≡ true
@@ -83,9 +62,7 @@ pub periods_room : (periods : List Period) (i : ℕ) (d : Period) → i < length
 unfolding columns_of
 periods_room [] i d lt = absurd (omega arith)
 periods_room (p ∷ ps) zero d lt = omega arith
-periods_room (p ∷ ps) (suc i) d lt =
-    let lt' : i < length ps = omega arith in
-    omega (arith, periods_room ps i d lt')
+periods_room (p ∷ ps) (suc i) d lt = grind (arith, periods_room ps i d)
 
 pub item_at : (items : List Item) (periods : List Period) (i : ℕ) (x : Item) → map period_of items ≡ periods → i < length items → x ≡ get_or items i x → get_or periods i (period_of x) ≡ period_of x
 item_at items periods i x e lt is =

@@ -1,9 +1,9 @@
 -- Lists of periods that grow by one, and that end.
-use Rattle.std.proofs.Common.{◌≡◌, ℕ, ◌+◌, ◌-◌, ◌≤◌, Bool, true, false, ◌&&◌, List, [], ◌∷◌, ◌++◌, length, refl, ap, sym, ◌∙◌, arith, ◌%◌, ◌==◌}
-use Rattle.std.specs.Prelude.{nat_le, nat_lt}
+use Rattle.std.proofs.Common.{◌≡◌, ℕ, ◌+◌, ◌-◌, ◌≤◌, Bool, true, false, ◌&&◌, List, [], ◌∷◌, ◌++◌, length, refl, ap, sym, ◌∙◌, arith}
+use Rattle.std.specs.Prelude.{nat_le}
 use Rattle.std.specs.List.{list_all}
 use Rattle.std.proofs.lemmas.Bool.{leb-true}
-use Rattle.island_pack.specs.Periods.{ControlRun, DataIsland, Period, control, video, island, values_of, has_preamble, VIDEO_PREAMBLE, ISLAND_PREAMBLE, period_columns, columns_of}
+use Rattle.island_pack.specs.Periods.{ControlRun, Period, control, video, island, values_of, has_preamble, VIDEO_PREAMBLE, ISLAND_PREAMBLE, period_columns, columns_of}
 use Rattle.island_pack.specs.Conforming.{is_run, is_control_period, is_video_period, is_data_island, conforms}
 use Rattle.source_end.specs.Kept.{capped, is_run_in_range, are_pixels, has_pixels, conforms_so_far}
 use Rattle.source_end.specs.Refusals.{last_period, is_in_range, is_in_order, has_control, is_announced, is_long_enough}
@@ -13,23 +13,15 @@ left true b h = refl
 left false b h = absurd cc
 
 pub right : (a b : Bool) → (a && b) ≡ true → b ≡ true
-right true b h = h
-right false b h = absurd cc
+right a b h = grind arith
 
 pub both : (a b : Bool) → a ≡ true → b ≡ true → (a && b) ≡ true
-both true b h k = k
-both false b h k = absurd cc
-
-without_most : (a b c : Bool) → (a && (b && c)) ≡ true → (a && b) ≡ true
-without_most a b c h = both a b (left a (b && c) h) (left b c (right a (b && c) h))
+both a b h k = grind arith
 
 runs_in_range : (runs : List ControlRun) → list_all is_run_in_range runs ≡ true → list_all is_run runs ≡ true
 unfolding is_run_in_range
 runs_in_range [] h = refl
-runs_in_range (r ∷ runs) h =
-    both (is_run r) (list_all is_run runs)
-    (without_most (nat_lt r.value 64) (nat_le 1 r.count) (nat_le r.count 20000000) (left (is_run_in_range r) (list_all is_run_in_range runs) h))
-    (runs_in_range runs (right (is_run_in_range r) (list_all is_run_in_range runs) h))
+runs_in_range (r ∷ runs) h = grind (arith, both, left, right, runs_in_range runs)
 
 pub control_in_range : (runs : List ControlRun) → is_in_range (control runs) ≡ true → list_all is_run runs ≡ true
 unfolding is_in_range is_run_in_range
@@ -37,14 +29,7 @@ control_in_range runs h = runs_in_range runs h
 
 pub video_in_range : (bytes : List ℕ) → is_in_range (video bytes) ≡ true → are_pixels bytes ≡ true → is_video_period bytes ≡ true
 unfolding is_in_range is_video_period
-video_in_range bytes h k =
-    let all = list_all (λ b. nat_lt b 256) bytes in
-    let whole : Bool = length bytes % 3 == 0 in
-    both all _ (left all whole k) (both whole _ (right all whole k) h)
-
-island_in_range : (x : DataIsland) → is_in_range (island x) ≡ true → is_data_island x ≡ true
-unfolding is_in_range
-island_in_range x h = h
+video_in_range bytes h k = grind (arith, both, left, right)
 
 pub period_is : (runs : List ControlRun) → list_all is_run runs ≡ true → nat_le 12 (length (values_of runs)) ≡ true → is_control_period runs ≡ true
 unfolding is_control_period
@@ -52,16 +37,10 @@ period_is runs h k = both (list_all is_run runs) (nat_le 12 (length (values_of r
 
 -- three tests, and a fourth in place of another
 fourth : (a b c d e : Bool) → (a && (b && (c && d))) ≡ true → e ≡ true → (a && (b && (c && e))) ≡ true
-fourth true true true d e h k = k
-fourth false b c d e h k = absurd cc
-fourth true false c d e h k = absurd cc
-fourth true true false d e h k = absurd cc
+fourth a b c d e h k = grind arith
 
 the_fourth : (a b c d : Bool) → (a && (b && (c && d))) ≡ true → d ≡ true
-the_fourth true true true d h = h
-the_fourth false b c d h = absurd cc
-the_fourth true false c d h = absurd cc
-the_fourth true true false d h = absurd cc
+the_fourth a b c d h = grind arith
 
 all_four : (a b c d : Bool) → a ≡ true → b ≡ true → c ≡ true → d ≡ true → (a && (b && (c && d))) ≡ true
 all_four a b c d h i j k = both a _ h (both b _ i (both c d j k))
@@ -74,7 +53,7 @@ pub record Follows (periods : List Period) (p : Period) : Type 0 where
   pub whole : has_pixels p ≡ true
 
 pub so_far-more : (periods : List Period) (p : Period) → conforms_so_far periods ≡ true → Follows periods p → conforms_so_far (periods ++ p ∷ []) ≡ true
-unfolding conforms_so_far
+unfolding conforms_so_far is_in_range
 so_far-more [] (control runs) h f = control_in_range runs f.range
 so_far-more [] (video bytes) h f = let no = f.order in absurd cc
 so_far-more [] (island x) h f = let no = f.order in absurd cc
@@ -83,8 +62,7 @@ so_far-more (island x ∷ ps) p h f = absurd cc
 so_far-more (control runs ∷ []) (control more) h f = let no = f.order in absurd cc
 so_far-more (control runs ∷ []) (video bytes) h f =
     all_four (is_control_period runs) (has_preamble VIDEO_PREAMBLE (values_of runs)) (is_video_period bytes) true (period_is runs h f.control) f.preamble (video_in_range bytes f.range f.whole) refl
-so_far-more (control runs ∷ []) (island x) h f =
-    all_four (is_control_period runs) (has_preamble ISLAND_PREAMBLE (values_of runs)) (is_data_island x) true (period_is runs h f.control) f.preamble (island_in_range x f.range) refl
+so_far-more (control runs ∷ []) (island x) h f = grind (arith, all_four, period_is)
 so_far-more (control runs ∷ (control more ∷ ps)) p h f = absurd cc
 so_far-more (control runs ∷ (video bytes ∷ [])) (video more) h f = let no = f.order in absurd cc
 so_far-more (control runs ∷ (video bytes ∷ [])) (island more) h f = let no = f.order in absurd cc
@@ -138,8 +116,7 @@ columns_of-more periods p = columns_of-append periods (p ∷ []) ∙ omega arith
 
 pub none_yet : (periods : List Period) → periods ≡ [] → (conforms_so_far periods ≡ true) × (0 ≡ columns_of periods) × (0 ≤ 20000000)
 unfolding conforms_so_far columns_of
-none_yet [] e = (refl, refl, omega arith)
-none_yet (p ∷ ps) e = absurd cc
+none_yet periods h = grind arith
 
 pub capped_room : (sum n m : ℕ) → n ≡ capped m → nat_le (sum + n) 20000000 ≡ nat_le (sum + m) 20000000
 capped_room sum n m e = grind arith

@@ -1,5 +1,5 @@
 -- How the tests of a column's words decide its kind.
-use Rattle.std.proofs.Common.{◌≡◌, Bool, true, false, refl}
+use Rattle.std.proofs.Common.{arith, ◌≡◌, Bool, true, false, refl}
 use Rattle.std.specs.Int.{from_bool}
 use Rattle.tmds_word.specs.Column.{Column}
 use Rattle.terc4.specs.declared.columns.ColumnKind.TheVariants.{Control, VideoGuard, IslandGuard, Other}
@@ -8,8 +8,7 @@ use Rattle.terc4.specs.Kinds.{kind_of}
 
 pub from_bool-one_if : (b : Bool) → from_bool b ≡ one_if b
 unfolding one_if
-from_bool-one_if true = refl
-from_bool-one_if false = refl
+from_bool-one_if b = grind arith
 
 pub control_kind : (c : Column) → is_control_column c ≡ true → Control ≡ kind_of c
 unfolding kind_of

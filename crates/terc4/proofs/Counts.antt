@@ -1,29 +1,15 @@
 -- Guard columns, by how many of their words are right.
-use Rattle.std.proofs.Common.{◌≡◌, ℕ, ◌+◌, Bool, true, false, ◌&&◌, ◌==◌, refl, ap, ◌∙◌}
+use Rattle.std.proofs.Common.{arith, ◌≡◌, ℕ, ◌+◌, Bool, ◌&&◌, ◌==◌, ap, ◌∙◌}
 use Rattle.tmds_word.specs.Column.{Column}
 use Rattle.terc4.specs.Columns.{one_if, is_video_guard, is_island_guard, video_words, closing_words, island_words}
 
 three : (a b c : Bool) → (one_if a + one_if b + one_if c == 3) ≡ (a && (b && c))
 unfolding one_if
-three true true true = refl
-three true true false = refl
-three true false true = refl
-three true false false = refl
-three false true true = refl
-three false true false = refl
-three false false true = refl
-three false false false = refl
+three a b c = grind arith
 
 one_and_two : (a b c : Bool) → (one_if a + (one_if b + one_if c) == 3) ≡ (a && (b && c))
 unfolding one_if
-one_and_two true true true = refl
-one_and_two true true false = refl
-one_and_two true false true = refl
-one_and_two true false false = refl
-one_and_two false true true = refl
-one_and_two false true false = refl
-one_and_two false false true = refl
-one_and_two false false false = refl
+one_and_two a b c = grind arith
 
 pub video_guard_words : (c : Column) → (video_words c == 3) ≡ is_video_guard c
 unfolding video_words is_video_guard

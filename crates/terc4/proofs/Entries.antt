@@ -1,5 +1,5 @@
 -- The tables of the code hold the words and values of the definitions: each place is computed.
-use Rattle.std.proofs.Common.{◌≡◌, ℕ, ◌<◌, ◌≤◌, Bool, true, cond, List, length, refl, ap, ◌∙◌, ◌==◌, eqb-true, nat_eq, nat_lt, slice_index, Option, Some, None}
+use Rattle.std.proofs.Common.{arith, ◌≡◌, ℕ, ◌<◌, ◌≤◌, Bool, true, cond, List, length, refl, ap, ◌∙◌, ◌==◌, eqb-true, nat_eq, nat_lt, slice_index, Option, Some, None}
 use Rattle.std.specs.Prelude.{IfSome}
 use Rattle.std.specs.Option.{option_eq}
 use Rattle.std.proofs.lemmas.Bool.{cond_below, cond_above}
@@ -9,10 +9,7 @@ use Rattle.terc4.specs.Tables.{control_words, terc_words, value_in}
 use Rattle.terc4.specs.declared.tables.TheConstants.{CONTROL_WORDS, TERC_WORDS, CONTROL_CODES, TERC_CODES}
 
 same_option : (a b : Option ℕ) → option_eq nat_eq a b ≡ true → a ≡ b
-same_option None None h = refl
-same_option None (Some y) h = cc
-same_option (Some x) None h = cc
-same_option (Some x) (Some y) h = ap Some (eqb-true x y h)
+same_option a b h = grind (arith, eqb-true)
 
 -- the value that a code below a bound stands for; the bound and above stand for none
 value_of : ℕ → ℕ → Option ℕ
@@ -60,8 +57,7 @@ no_terc = none_entry TERC_CODES terc_words terc_agrees
 
 -- a value is the place of one of the table's words
 below_length : (o : Option ℕ) (n : ℕ) → ((v : ℕ) → o ≡ Some v → v < n) → IfSome o (λ v. v < n)
-below_length None n h = tt
-below_length (Some v) n h = h v refl
+below_length o n h = grind arith
 
 pub value_below : (words : List ℕ) (w : ℕ) → IfSome (value_in words w) (λ v. v < length words)
 unfolding value_in
@@ -79,10 +75,6 @@ terc_word_is v = refl
 -- each word of a table has its place as its value
 has_its_place : List ℕ → ℕ → Bool
 has_its_place words v = option_eq nat_eq (value_in words (slice_index words v)) (Some v)
-
-control_places : passes_below 4 (has_its_place control_words) ≡ true
-unfolding passes_below has_its_place value_in control_words
-control_places = refl
 
 terc_places : passes_below 16 (has_its_place terc_words) ≡ true
 unfolding passes_below has_its_place value_in terc_words

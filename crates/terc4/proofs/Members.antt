@@ -17,11 +17,7 @@ either P false b f g h = g h
 pub passes_in : (p : ℕ → Bool) (words : List ℕ) (w : ℕ) → passes_all p words ≡ true → is_in words w ≡ true → p w ≡ true
 unfolding passes_all is_in
 passes_in p [] w all h = cc
-passes_in p (x ∷ xs) w all h =
-    either (p w ≡ true) (x == w) (is_in xs w)
-    (λ e. subst (λ v. p v ≡ true) (eqb-true x w e) (and-left _ _ all))
-    (λ e. passes_in p xs w (and-right _ _ all) e)
-    h
+passes_in p (x ∷ xs) w all h = grind (arith, eqb-true, and-left, and-right, passes_in p xs w)
 
 -- what holds of the four control words holds of each control word
 pub by_control : (P : ℕ → Type 0) → P 852 → P 171 → P 340 → P 683 → (w : ℕ) → is_control w ≡ true → P w
@@ -38,8 +34,7 @@ by_control P pa pb pc pd w =
     (λ e. cc))))
 
 first_or_later : (b : Bool) (n m : ℕ) → nat_lt (cond (not b) (1 + n) 0) (suc m) ≡ (b || nat_lt n m)
-first_or_later true n m = grind arith
-first_or_later false n m = grind arith
+first_or_later b n m = grind arith
 
 place_below : (words : List ℕ) (w : ℕ) → nat_lt (position_or_len (λ x. x == w) words) (length words) ≡ is_in words w
 unfolding is_in
@@ -48,8 +43,7 @@ place_below (x ∷ xs) w =
     first_or_later (x == w) (position_or_len (λ y. y == w) xs) (length xs) ∙ ap (λ b. (x == w) || b) (place_below xs w)
 
 some_if : (b : Bool) (n : ℕ) → is_some (cond b (Some n) None) ≡ b
-some_if true n = refl
-some_if false n = refl
+some_if b n = grind arith
 
 -- a word has a value in a table exactly where it stands in the table
 pub is_some-value_in : (words : List ℕ) (w : ℕ) → is_some (value_in words w) ≡ is_in words w

@@ -33,12 +33,10 @@ unfolding is_guard is_calm
 guard_turns w h = leb-true _ _ (passes_in is_calm (island_guard ∷ video_guard) w guard_calm h)
 
 false_from : (b : Bool) → (b ≡ true → ⊥) → b ≡ false
-false_from true h = absurd (h refl)
-false_from false h = refl
+false_from b h = grind arith
 
 many_turns : (n : ℕ) → (n ≡ 7) ⊎ (n ≡ 8) → 6 ≤ n
-many_turns n (inl h) = omega arith
-many_turns n (inr h) = omega arith
+many_turns n h = grind arith
 
 pub few_turns : (w : ℕ) → turns (word_bits w) ≤ 5 → is_control w ≡ false
 few_turns w few = false_from (is_control w) (λ h. let many = many_turns _ (control_turns w h) in omega arith)
@@ -108,9 +106,7 @@ all_join_rarely =
     (by_control (λ w. passes_below 11 (joins_rarely 683 w) ≡ true) refl refl refl refl)
 
 few_or_all : (k : ℕ) (same few all : Bool) → same ≡ true → (few ≡ true → k ≤ 2) → (all ≡ true → k ≡ 10) → (not same || (few || all)) ≡ true → (k ≤ 2) ⊎ (k ≡ 10)
-few_or_all k true true all s f a h = inl (f refl)
-few_or_all k true false all s f a h = inr (a h)
-few_or_all k false few all s f a h = cc
+few_or_all k same few all h l m p = grind arith
 
 pub control_overlap :
     (v w k : ℕ) → is_control v ≡ true → is_control w ≡ true → k ≤ 10

@@ -1,5 +1,5 @@
 -- One character more in a lane.
-use Rattle.std.proofs.Common.{◌≡◌, ℕ, ◌+◌, ◌<◌, ◌≤◌, List, [], ◌∷◌, ◌++◌, length, take, get_or, ap, ap₂, ◌∙◌, sym, arith, inl, inr, length-append}
+use Rattle.std.proofs.Common.{◌≡◌, ℕ, ◌+◌, List, [], ◌∷◌, ◌++◌, length, take, get_or, ap, ap₂, ◌∙◌, sym, arith, inl, inr, length-append}
 use Rattle.std.specs.Prelude.{◌+ℤ◌}
 use Rattle.std.proofs.Math.IntN.{+ℤ_assoc, +ℤ_idl, +ℤ_idr}
 use Rattle.std.proofs.Math.ListN.{get_or-append}
@@ -20,13 +20,7 @@ pub lane_more : (bytes words : List ℕ) (b w : ℕ) → IsLane bytes words → 
 lane_more bytes words b w lane coded = record {
   same_length = length-append words (w ∷ []) ∙ ap (λ n. n + 1) lane.same_length ∙ sym (length-append bytes (b ∷ []));
   coded = λ j lt. elim (cases_lt j (length words)) [
-    | inl within ↦
-        let short : j ≤ length words = omega arith in
-        let here : j < length bytes = omega (arith, lane.same_length) in
-        let old : Coded (disparity_of (take j words)) (get_or bytes j 0) (get_or words j 0) = lane.coded j within in
-        get_or-append words (w ∷ []) 0 j within
-        ∙ old
-        ∙ sym (ap₂ (λ vs c. coded_word (disparity_of vs) c) (take-append-le j words (w ∷ []) short) (get_or-append bytes (b ∷ []) 0 j here))
+    | inl within ↦ grind (arith, get_or-append, take-append-le)
     | inr past ↦
         let last : length words ≡ j = omega (arith, length-append words (w ∷ [])) in
         let seat : length bytes ≡ j = sym lane.same_length ∙ last in

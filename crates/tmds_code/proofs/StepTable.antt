@@ -30,9 +30,7 @@ matched_at : (k w n : ℕ) (vs : List ℕ) (j : ℕ) → matched k w n vs ≡ tr
 unfolding matched
 matched_at k w zero vs j h lt = absurd (omega arith)
 matched_at k w (suc n) [] j h lt = cc
-matched_at k w (suc n) (v ∷ vs) zero h lt =
-    let same : w ≡ w + 0 = omega arith in
-    subst (λ u. entry_holds (right_at k u) k u v ≡ true) same (and-left _ _ h)
+matched_at k w (suc n) (v ∷ vs) zero h lt = grind (arith, and-left)
 matched_at k w (suc n) (v ∷ vs) (suc j) h lt =
     let same : (w + 1) + j ≡ w + suc j = omega arith in
     subst (λ u. entry_holds (right_at k u) k u (get_or vs j 0) ≡ true) same (matched_at k (w + 1) n vs j (and-right _ _ h) (omega arith))
@@ -88,9 +86,7 @@ all_rows (suc (suc (suc (suc (suc (suc (suc (suc (suc k))))))))) le = absurd (om
 holds_at : (k w : ℕ) → k ≤ 8 → w < 1024 → entry_holds (right_at k w) k w (slice_index FOLLOWED (1024 * k + w)) ≡ true
 holds_at k w le lt =
     let h = matched_at k 0 1024 (drop (1024 * k) FOLLOWED) w (all_rows k le) lt in
-    let zero_w : 0 + w ≡ w = omega arith in
-    subst (λ u. entry_holds (right_at k u) k u (slice_index FOLLOWED (1024 * k + w)) ≡ true) zero_w
-    (subst (λ v. entry_holds (right_at k (0 + w)) k (0 + w) v ≡ true) (get_or-drop (1024 * k) FOLLOWED w 0) h)
+    grind (arith, get_or-drop)
 
 -- behind a wrong word
 all_nine : ℕ → List ℕ → Bool
@@ -140,22 +136,12 @@ at_past k w e lt =
 
 -- the step behind a word, at each step
 pub table_step : (k w : ℕ) → k ≤ 9 → w < 1024 → disparity_at (slice_index FOLLOWED (1024 * k + w) / 1024) ≡ followed (disparity_at k) w
-table_step k w le lt =
-    elim (cases_lt k 9) [
-      | inl less ↦ at_step k w (omega arith) lt
-      | inr more ↦ at_past k w (omega arith) lt
-    ]
+table_step k w le lt = grind (arith, cases_lt, at_step, at_past)
 
 -- an entry is the beginning of a row
 entry_row : (p : Bool) (k w v : ℕ) → entry_holds p k w v ≡ true → (v ≤ 9216) × (v % 1024 ≡ 0)
 unfolding entry_holds
-entry_row true k w v e =
-    let step = v / 1024 in
-    let whole = eqb-true (v % 1024) 0 (and-left (v % 1024 == 0) ((step + 5 == k + ones (word_bits w)) && nat_le step 8) e) in
-    let right = and-right (v % 1024 == 0) ((step + 5 == k + ones (word_bits w)) && nat_le step 8) e in
-    let le : step ≤ 8 = leb-true step 8 (and-right (step + 5 == k + ones (word_bits w)) (nat_le step 8) right) in
-    (omega (arith, whole, le), whole)
-entry_row false k w v e = let is = eqb-true v 9216 e in (omega (arith, is), omega (arith, is))
+entry_row p k w v h = grind (arith, eqb-true, and-left, and-right, leb-true)
 
 pub table_row : (k w : ℕ) → k ≤ 9 → w < 1024 → (slice_index FOLLOWED (1024 * k + w) ≤ 9216) × (slice_index FOLLOWED (1024 * k + w) % 1024 ≡ 0)
 table_row k w le lt =

@@ -1,5 +1,5 @@
 -- The tables hold the characters of the coding and their bytes: each place is computed.
-use Rattle.std.proofs.Common.{◌≡◌, ℕ, ◌+◌, ◌*◌, ◌^◌, ◌<◌, ◌≤◌, Bool, true, refl, nat_lt, nat_le, ◌==◌, ◌&&◌, bit_and, slice_index, eqb-true}
+use Rattle.std.proofs.Common.{arith, ◌≡◌, ℕ, ◌+◌, ◌*◌, ◌^◌, ◌<◌, ◌≤◌, Bool, true, refl, nat_lt, nat_le, ◌==◌, ◌&&◌, bit_and, slice_index, eqb-true}
 use Rattle.std.specs.Prelude.{if◌then◌else◌}
 use borrow.Author.Tests.{leb-true, ltb-true}
 use Rattle.tmds_word.specs.Bits.{bits_of, word_bits, number, ones, zeros, balance, turns, unlike}
@@ -27,9 +27,7 @@ unfolding passes_below word_holds coded_at coded_bits balanced minimised takes_x
 positive_words = refl
 
 all_words : (s : Sign) → passes_below 256 (word_holds s) ≡ true
-all_words negative = negative_words
-all_words null = null_words
-all_words positive = positive_words
+all_words s = grind (arith, negative_words, null_words, positive_words)
 
 holds_at : (s : Sign) (b : ℕ) → b < 256 → word_holds s b ≡ true
 holds_at s b lt = passes_at 256 (word_holds s) b (all_words s) lt
@@ -79,9 +77,7 @@ unfolding passes_below mark_holds coded_at coded_bits balanced minimised takes_x
 positive_marks = refl
 
 all_marks : (s : Sign) → passes_below 1024 (mark_holds s) ≡ true
-all_marks negative = negative_marks
-all_marks null = null_marks
-all_marks positive = positive_marks
+all_marks s = grind (arith, negative_marks, null_marks, positive_marks)
 
 pub table_mark : (s : Sign) (w : ℕ) → w < 1024 → bit_and (slice_index SIGNS w) (2 ^ place_of s) ≡ (if w == coded_at s (decoded_byte w) then 2 ^ place_of s else 0)
 unfolding mark_holds

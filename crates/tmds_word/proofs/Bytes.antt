@@ -34,10 +34,7 @@ bytes_of-bits (suc k) n =
 -- a list that has the right byte at each place
 pub bytes_of-places : (bytes : List ℕ) (k n from : ℕ) → length bytes ≡ k
     → ((i : ℕ) → i < k → get_or bytes i 0 ≡ (n / 2 ^ (from + 8 * i)) % 256) → bytes ≡ bytes_of k (n / 2 ^ from)
-bytes_of-places bytes k n from len h =
-    same_number_lists bytes (bytes_of k (n / 2 ^ from)) (len ∙ sym (length-bytes_of k (n / 2 ^ from)))
-    (λ i lt. let below : i < k = omega (arith, lt, len) in
-    h i below ∙ sym (get_or-bytes_of k (n / 2 ^ from) i below ∙ ap (λ m. m % 256) (shr-shr n from (8 * i))))
+bytes_of-places bytes k n from len h = grind (arith, same_number_lists, length-bytes_of, get_or-bytes_of, shr-shr)
 
 byte_shifted : (r n : ℕ) → r < 8 → ((n % 256 + (n / 256 % 256) * 256) / 2 ^ r) % 256 ≡ (n / 2 ^ r) % 256
 byte_shifted zero n h = omega arith
@@ -69,15 +66,7 @@ byte_of_two n p i low high e f =
 pub byte_of_piece : (whole : List ℕ) (h t from at k : ℕ) (piece : List ℕ) → AreBytes whole → t < 2 ^ h → h < 8
     → at ≡ min (from / 8) (length whole) → piece ≡ drop at whole → k < length piece
     → get_or piece k 0 ≡ (number (bytes_bits whole ++ bits_of h t) / 2 ^ (8 * (from / 8 + k))) % 256
-byte_of_piece whole h t from at k piece are lt few place is below =
-    let left : length piece ≡ length whole - at = ap length is ∙ length-drop at whole in
-    let inside : at + k < length whole = omega arith in
-    let own : at ≡ from / 8 = omega arith in
-    ap (λ xs. get_or xs k 0) is
-    ∙ get_or-drop at whole k 0
-    ∙ sym (byte_within whole t (at + k) inside)
-    ∙ sym (byte_of_row whole h t (at + k) are lt few)
-    ∙ ap (λ j. (number (bytes_bits whole ++ bits_of h t) / 2 ^ (8 * (j + k))) % 256) own
+byte_of_piece whole h t from at k piece are lt few place is below = grind (arith, length-drop, get_or-drop, byte_within, byte_of_row)
 
 -- what a copy of the whole bytes from a byte's edge on has
 pub whole_byte : (whole : List ℕ) (h t from at count k : ℕ) (piece rest : List ℕ) → AreBytes whole → t < 2 ^ h → h < 8 → from % 8 ≡ 0
@@ -85,11 +74,7 @@ pub whole_byte : (whole : List ℕ) (h t from at count k : ℕ) (piece rest : Li
     → get_or (take count piece ++ rest) k 0 ≡ (number (bytes_bits whole ++ bits_of h t) / 2 ^ (from + 8 * k)) % 256
 whole_byte whole h t from at count k piece rest are lt few edge place is room below =
     let bits : 8 * (from / 8 + k) ≡ from + 8 * k = omega arith in
-    let cut : k < length (take count piece) = omega (arith, length-take-le count piece room) in
-    get_or-append (take count piece) rest 0 k cut
-    ∙ get_or-take count piece k 0 below
-    ∙ byte_of_piece whole h t from at k piece are lt few place is (omega arith)
-    ∙ ap (λ j. (number (bytes_bits whole ++ bits_of h t) / 2 ^ j) % 256) bits
+    grind (arith, length-take-le, get_or-append, get_or-take, byte_of_piece)
 
 -- and what a copy from another place on has
 pub shifted_byte : (whole : List ℕ) (h t from at k : ℕ) (piece : List ℕ) → AreBytes whole → t < 2 ^ h → h < 8

@@ -1,5 +1,5 @@
 -- The characters of a row of bits, and a row that has characters behind it.
-use Rattle.std.proofs.Common.{◌≡◌, ℕ, suc, zero, ◌*◌, ◌/◌, ◌%◌, ◌<◌, ◌≤◌, Bool, List, [], ◌∷◌, ◌++◌, length, take, drop, refl, ap, ap₂, ◌∙◌, sym, arith, append_assoc, append-nil, length-append, length-drop, length-take-le, take-append-drop}
+use Rattle.std.proofs.Common.{◌≡◌, ℕ, suc, zero, ◌*◌, ◌/◌, ◌%◌, ◌<◌, Bool, List, [], ◌∷◌, ◌++◌, length, take, drop, refl, ap, ◌∙◌, sym, arith, append_assoc, append-nil, length-append, length-drop, length-take-le, take-append-drop}
 use Rattle.std.specs.Prelude.{All}
 use Rattle.std.proofs.Math.Nat.{mod-eq_of_lt}
 use Rattle.std.proofs.lemmas.List.{take-append-le, drop-append-le}
@@ -38,11 +38,7 @@ first_words-push zero w row len below =
     ap (λ xs. words_of 1 (xs ++ word_bits w)) none
     ∙ ap (λ xs. words_of 1 xs) (sym (append-nil (word_bits w)))
     ∙ first_words-one w [] below
-first_words-push (suc n) w row len below =
-    let room : 10 ≤ length row = omega arith in
-    let rest : length (drop 10 row) ≡ 10 * n = omega (arith, length-drop 10 row) in
-    ap₂ (λ xs ys. number xs ∷ words_of (suc n) ys) (take-append-le 10 row (word_bits w) room) (drop-append-le 10 row (word_bits w) room)
-    ∙ ap (λ ws. number (take 10 row) ∷ ws) (first_words-push n w (drop 10 row) rest below)
+first_words-push (suc n) w row len below = grind (arith, length-drop, take-append-le, drop-append-le, first_words-push n w)
 
 pub words_of-push : (row : List Bool) (w : ℕ) → length row % 10 ≡ 0 → w < 1024 → all_words (row ++ word_bits w) ≡ all_words row ++ w ∷ []
 unfolding all_words
@@ -57,10 +53,7 @@ words_of-push row w whole below =
 row_bits-first_words : (n : ℕ) (row : List Bool) → length row ≡ 10 * n → row_bits (words_of n row) ≡ row
 unfolding words_of row_bits
 row_bits-first_words zero row len = sym (no_length row (omega arith))
-row_bits-first_words (suc n) row len =
-    let ten : length (take 10 row) ≡ 10 = length-take-le 10 row (omega arith) in
-    let rest : length (drop 10 row) ≡ 10 * n = omega (arith, length-drop 10 row) in
-    ap₂ (λ xs ys. xs ++ ys) (word_of_ten (take 10 row) ten) (row_bits-first_words n (drop 10 row) rest) ∙ take-append-drop 10 row
+row_bits-first_words (suc n) row len = grind (arith, length-take-le, length-drop, word_of_ten, take-append-drop, row_bits-first_words n)
 
 -- the bits of a row's characters are the row
 pub row_bits-words_of : (row : List Bool) → length row % 10 ≡ 0 → row_bits (all_words row) ≡ row

@@ -1,5 +1,5 @@
 -- Groups of eight bytes behind a tail of bits, and the characters of bytes that have four in each five.
-use Rattle.std.proofs.Common.{◌≡◌, ℕ, suc, zero, ◌+◌, ◌*◌, ◌/◌, ◌%◌, ◌^◌, ◌<◌, ◌≤◌, Bool, List, [], ◌∷◌, ◌++◌, length, take, drop, get_or, refl, ap, ap₂, ◌∙◌, sym, arith, append_assoc, append-nil, drop-cons, drop-drop, length-append, length-take-le, length-drop, bit_or, bit_and}
+use Rattle.std.proofs.Common.{◌≡◌, ℕ, suc, zero, ◌+◌, ◌*◌, ◌/◌, ◌%◌, ◌^◌, ◌<◌, ◌≤◌, Bool, List, [], ◌++◌, length, take, drop, get_or, refl, ap, ap₂, ◌∙◌, sym, arith, append_assoc, append-nil, drop-cons, drop-drop, length-append, length-take-le, length-drop, bit_or, bit_and}
 use Rattle.std.specs.Int.{to_le_bytes}
 use mir.Syntax.{w128}
 use Rattle.std.proofs.Math.Nat.{mod-eq_of_lt}
@@ -15,7 +15,7 @@ use Rattle.tmds_word.proofs.Bytes.{bytes_of-bits}
 use Rattle.tmds_word.proofs.Characters.{length-words_of}
 
 -- the eight bytes from a place on as a number
-eight_bytes_are : (bytes : List ℕ) (j n : ℕ) → AreBytes bytes → j + 8 ≤ length bytes
+pub eight_bytes_are : (bytes : List ℕ) (j n : ℕ) → AreBytes bytes → j + 8 ≤ length bytes
     → n ≡ get_or bytes j 0 + get_or bytes (j + 1) 0 * 256 + get_or bytes (j + 2) 0 * 65536 + get_or bytes (j + 3) 0 * 16777216
     + get_or bytes (j + 4) 0 * 4294967296 + get_or bytes (j + 5) 0 * 1099511627776 + get_or bytes (j + 6) 0 * 281474976710656 + get_or bytes (j + 7) 0 * 72057594037927936
     → n ≡ (number (bytes_bits bytes) / 2 ^ (8 * j)) % 18446744073709551616
@@ -62,23 +62,11 @@ above_is t h w a b low high few e f =
 
 pub eight_bytes : (n : ℕ) → take 8 (to_le_bytes w128 n) ≡ bytes_of 8 n
 unfolding bytes_of
-eight_bytes n =
-    let c : n / 65536 % 256 ≡ n / 256 / 256 % 256 = omega arith in
-    let d : n / 16777216 % 256 ≡ n / 256 / 256 / 256 % 256 = omega arith in
-    let e : n / 4294967296 % 256 ≡ n / 256 / 256 / 256 / 256 % 256 = omega arith in
-    let f : n / 1099511627776 % 256 ≡ n / 256 / 256 / 256 / 256 / 256 % 256 = omega arith in
-    let g : n / 281474976710656 % 256 ≡ n / 256 / 256 / 256 / 256 / 256 / 256 % 256 = omega arith in
-    let h : n / 72057594037927936 % 256 ≡ n / 256 / 256 / 256 / 256 / 256 / 256 / 256 % 256 = omega arith in
-    λ i. n % 256 ∷ n / 256 % 256 ∷ c i ∷ d i ∷ e i ∷ f i ∷ g i ∷ h i ∷ []
+eight_bytes n = grind arith
 
 -- eight bytes more
 eight_more : (done : List ℕ) (h t n w : ℕ) → t < 2 ^ h → n ≡ t + 2 ^ h * w → bytes_bits (done ++ bytes_of 8 n) ++ bits_of h (n / 2 ^ 64) ≡ (bytes_bits done ++ bits_of h t) ++ bits_of 64 w
-eight_more done h t n w lt e =
-    let swap : 64 + h ≡ h + 64 = omega arith in
-    ap (λ xs. xs ++ bits_of h (n / 2 ^ 64)) (bytes_bits-append done (bytes_of 8 n) ∙ ap (λ xs. bytes_bits done ++ xs) (bytes_of-bits 8 n))
-    ∙ append_assoc (bytes_bits done) (bits_of 64 n) (bits_of h (n / 2 ^ 64))
-    ∙ ap (λ xs. bytes_bits done ++ xs) (sym (bits_of-add 64 h n) ∙ ap (λ k. bits_of k n) swap ∙ ap (λ m. bits_of (h + 64) m) e ∙ sym (bits_of-join h 64 t w lt))
-    ∙ sym (append_assoc (bytes_bits done) (bits_of h t) (bits_of 64 w))
+eight_more done h t n w lt e = grind (arith, bytes_bits-append, bytes_of-bits, append_assoc, bits_of-add, bits_of-join)
 
 pub nothing_shifted : (h t : ℕ) → bytes_bits [] ++ bits_of h t ≡ bits_of h t ++ bytes_bits []
 unfolding bytes_bits
@@ -93,10 +81,7 @@ left_above n h lt =
 -- as many bytes more as are taken next
 pub bytes_more : (start xs : List Bool) (bytes : List ℕ) (from n : ℕ) → xs ≡ start ++ bytes_bits (take from bytes)
     → xs ++ bytes_bits (take n (drop from bytes)) ≡ start ++ bytes_bits (take (from + n) bytes)
-bytes_more start xs bytes from n was =
-    ap (λ ys. ys ++ bytes_bits (take n (drop from bytes))) was
-    ∙ append_assoc start (bytes_bits (take from bytes)) (bytes_bits (take n (drop from bytes)))
-    ∙ ap (λ ys. start ++ ys) (sym (bytes_bits-append (take from bytes) (take n (drop from bytes))) ∙ ap bytes_bits (sym (take-add from n bytes)))
+bytes_more start xs bytes from n was = grind (arith, append_assoc, bytes_bits-append, take-add)
 
 -- how long a row is with bytes behind it
 pub length-bytes_more : (start xs : List Bool) (bytes : List ℕ) (n : ℕ) → xs ≡ start ++ bytes_bits (take n bytes) → n ≤ length bytes → length xs ≡ length start + 8 * n
@@ -120,12 +105,7 @@ shifted_more start bytes into now i h t n w lt e own eight was =
 -- shifted bytes behind a row's own
 pub row_shifted : (whole shifted bytes : List ℕ) (h t left : ℕ) (view : List Bool) → bytes_bits shifted ++ bits_of h left ≡ bits_of h t ++ bytes_bits bytes
     → bytes_bits whole ++ bits_of h t ≡ view → bytes_bits (whole ++ shifted) ++ bits_of h left ≡ view ++ bytes_bits bytes
-row_shifted whole shifted bytes h t left view e f =
-    ap (λ xs. xs ++ bits_of h left) (bytes_bits-append whole shifted)
-    ∙ append_assoc (bytes_bits whole) (bytes_bits shifted) (bits_of h left)
-    ∙ ap (λ xs. bytes_bits whole ++ xs) e
-    ∙ sym (append_assoc (bytes_bits whole) (bits_of h t) (bytes_bits bytes))
-    ∙ ap (λ xs. xs ++ bytes_bits bytes) f
+row_shifted whole shifted bytes h t left view e f = grind (arith, bytes_bits-append, append_assoc)
 
 -- Characters of bytes.
 

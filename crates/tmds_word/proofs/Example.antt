@@ -1,5 +1,5 @@
 -- Two parts and a character that meet the premises of the laws of turns.
-use Rattle.std.proofs.Common.{◌≡◌, ℕ, suc, zero, ◌<◌, Bool, true, false, List, [], ◌∷◌, length, refl, arith, slice_index_or}
+use Rattle.std.proofs.Common.{◌≡◌, ℕ, ◌<◌, Bool, true, false, List, [], ◌∷◌, length, refl, arith, slice_index_or}
 use Rattle.tmds_word.specs.Bits.{turns, unlike, word_bits, bits_of}
 use Rattle.tmds_word.specs.Cuts.{IsCalmPart, HasExample}
 
@@ -15,10 +15,8 @@ unfolding turns
 second = record { some = omega arith; few = omega arith }
 
 calm : (k : ℕ) → k < 2 → IsCalmPart (slice_index_or parts k [])
-unfolding parts
-calm zero lt = first
-calm (suc zero) lt = second
-calm (suc (suc k)) lt = absurd (omega arith)
+unfolding parts turns unlike
+calm k h = grind (arith, second)
 
 five : turns (word_bits 1002) ≡ 5
 unfolding turns unlike word_bits bits_of

@@ -1,5 +1,5 @@
 -- Groups of four characters, packed into five bytes each.
-use Rattle.std.proofs.Common.{◌≡◌, ℕ, suc, ◌+◌, ◌*◌, ◌/◌, ◌%◌, ◌^◌, ◌<◌, ◌≤◌, Bool, List, [], ◌∷◌, ◌++◌, length, take, drop, get_or, ap, ap₂, ◌∙◌, sym, arith, append_assoc, append-nil, drop-cons, length-append, length-take-le, bit_or}
+use Rattle.std.proofs.Common.{◌≡◌, ℕ, ◌+◌, ◌*◌, ◌/◌, ◌%◌, ◌^◌, ◌<◌, ◌≤◌, Bool, List, [], ◌∷◌, ◌++◌, length, take, drop, get_or, ap, ◌∙◌, sym, arith, append_assoc, append-nil, drop-cons, length-append, length-take-le, bit_or}
 use Rattle.std.specs.Int.{to_le_bytes}
 use mir.Syntax.{w64}
 use Rattle.std.proofs.Math.Nat.{mod-eq_of_lt}
@@ -11,35 +11,14 @@ use Rattle.tmds_word.proofs.Lists.{bits_of-join, bits_of-add, bytes_bits-append,
 use Rattle.tmds_word.proofs.Rows.{joined_below}
 use Rattle.tmds_word.proofs.Bytes.{bytes_of-bits}
 
--- four characters as a number, the first lowest
-four_bits : (a b c d : ℕ) → a < 1024 → b < 1024 → c < 1024 → bits_of 40 (a + 1024 * (b + 1024 * (c + 1024 * d))) ≡ row_bits (a ∷ b ∷ c ∷ d ∷ [])
-unfolding row_bits word_bits
-four_bits a b c d la lb lc =
-    sym (ap (λ xs. bits_of 10 a ++ (bits_of 10 b ++ (bits_of 10 c ++ xs))) (append-nil (bits_of 10 d))
-    ∙ ap (λ xs. bits_of 10 a ++ (bits_of 10 b ++ xs)) (bits_of-join 10 10 c d lc)
-    ∙ ap (λ xs. bits_of 10 a ++ xs) (bits_of-join 10 20 b (c + 1024 * d) lb)
-    ∙ bits_of-join 10 30 a (b + 1024 * (c + 1024 * d)) la)
-
 take_four : (ws : List ℕ) (at x y z u : ℕ) → at + 4 ≤ length ws → take 4 (drop at ws) ≡ get_or ws at x ∷ get_or ws (at + 1) y ∷ get_or ws (at + 2) z ∷ get_or ws (at + 3) u ∷ []
-take_four ws at x y z u room =
-    ap (take 4) (step at (at + 1) x (omega arith) (omega arith))
-    ∙ ap (λ xs. get_or ws at x ∷ take 3 xs) (step (at + 1) (at + 2) y (omega arith) (omega arith))
-    ∙ ap (λ xs. get_or ws at x ∷ get_or ws (at + 1) y ∷ take 2 xs) (step (at + 2) (at + 3) z (omega arith) (omega arith))
-    ∙ ap (λ xs. get_or ws at x ∷ get_or ws (at + 1) y ∷ get_or ws (at + 2) z ∷ take 1 xs) (step (at + 3) (at + 4) u (omega arith) (omega arith))
-  where
-    step : (i k d : ℕ) → suc i ≡ k → i < length ws → drop i ws ≡ get_or ws i d ∷ drop k ws
-    step i k d next lt = drop-cons ws i d lt ∙ ap (λ m. get_or ws i d ∷ drop m ws) next
+take_four ws at x y z u room = grind (arith, drop-cons)
 
 pub four_of : (ws : List ℕ) (at a b c d x y z u : ℕ) → at + 4 ≤ length ws → a < 1024 → b < 1024 → c < 1024
     → a ≡ get_or ws at x → b ≡ get_or ws (at + 1) y → c ≡ get_or ws (at + 2) z → d ≡ get_or ws (at + 3) u
     → bits_of 40 (a + 1024 * (b + 1024 * (c + 1024 * d))) ≡ row_bits (take 4 (drop at ws))
-four_of ws at a b c d x y z u room la lb lc ea eb ec ed =
-    four_bits a b c d la lb lc
-    ∙ ap (λ n. row_bits (n ∷ b ∷ c ∷ d ∷ [])) ea
-    ∙ ap (λ n. row_bits (get_or ws at x ∷ n ∷ c ∷ d ∷ [])) eb
-    ∙ ap (λ n. row_bits (get_or ws at x ∷ get_or ws (at + 1) y ∷ n ∷ d ∷ [])) ec
-    ∙ ap (λ n. row_bits (get_or ws at x ∷ get_or ws (at + 1) y ∷ get_or ws (at + 2) z ∷ n ∷ [])) ed
-    ∙ ap row_bits (sym (take_four ws at x y z u room))
+unfolding row_bits word_bits
+four_of ws at a b c d x y z u room la lb lc ea eb ec ed = grind (arith, take_four, append-nil, bits_of-join)
 
 -- the shift loses no bit, and sets none of the tail's
 pub after_is : (t h w a : ℕ) → t < 2 ^ h → w < 2 ^ 40 → h < 8 → a ≡ t → bit_or (w * 2 ^ h % 18446744073709551616) a ≡ t + 2 ^ h * w
@@ -51,21 +30,11 @@ after_is t h w a low high few e =
 
 pub five_bytes : (n : ℕ) → take 5 (to_le_bytes w64 n) ≡ bytes_of 5 n
 unfolding bytes_of
-five_bytes n =
-    let third : n / 65536 % 256 ≡ n / 256 / 256 % 256 = omega arith in
-    let fourth : n / 16777216 % 256 ≡ n / 256 / 256 / 256 % 256 = omega arith in
-    let fifth : n / 4294967296 % 256 ≡ n / 256 / 256 / 256 / 256 % 256 = omega arith in
-    ap (λ x. n % 256 ∷ n / 256 % 256 ∷ x ∷ n / 16777216 % 256 ∷ n / 4294967296 % 256 ∷ []) third
-    ∙ ap₂ (λ x y. n % 256 ∷ n / 256 % 256 ∷ n / 256 / 256 % 256 ∷ x ∷ y ∷ []) fourth fifth
+five_bytes n = grind arith
 
 -- five bytes more
 five_more : (done : List ℕ) (h t n w : ℕ) → t < 2 ^ h → n ≡ t + 2 ^ h * w → bytes_bits (done ++ bytes_of 5 n) ++ bits_of h (n / 2 ^ 40) ≡ (bytes_bits done ++ bits_of h t) ++ bits_of 40 w
-five_more done h t n w lt e =
-    let swap : 40 + h ≡ h + 40 = omega arith in
-    ap (λ xs. xs ++ bits_of h (n / 2 ^ 40)) (bytes_bits-append done (bytes_of 5 n) ∙ ap (λ xs. bytes_bits done ++ xs) (bytes_of-bits 5 n))
-    ∙ append_assoc (bytes_bits done) (bits_of 40 n) (bits_of h (n / 2 ^ 40))
-    ∙ ap (λ xs. bytes_bits done ++ xs) (sym (bits_of-add 40 h n) ∙ ap (λ k. bits_of k n) swap ∙ ap (λ m. bits_of (h + 40) m) e ∙ sym (bits_of-join h 40 t w lt))
-    ∙ sym (append_assoc (bytes_bits done) (bits_of h t) (bits_of 40 w))
+five_more done h t n w lt e = grind (arith, bytes_bits-append, bytes_of-bits, append_assoc, bits_of-add, bits_of-join)
 
 pub nothing_packed : (h t : ℕ) → bytes_bits [] ++ bits_of h t ≡ bits_of h t ++ row_bits []
 unfolding bytes_bits row_bits
@@ -80,10 +49,7 @@ left_over n h lt =
 -- as many characters more as are taken next
 pub row_more : (start xs : List Bool) (words : List ℕ) (from n : ℕ) → xs ≡ start ++ row_bits (take from words)
     → xs ++ row_bits (take n (drop from words)) ≡ start ++ row_bits (take (from + n) words)
-row_more start xs words from n was =
-    ap (λ ys. ys ++ row_bits (take n (drop from words))) was
-    ∙ append_assoc start (row_bits (take from words)) (row_bits (take n (drop from words)))
-    ∙ ap (λ ys. start ++ ys) (sym (row_bits-append (take from words) (take n (drop from words))) ∙ ap row_bits (sym (take-add from n words)))
+row_more start xs words from n was = grind (arith, append_assoc, row_bits-append, take-add)
 
 -- one group more
 pub packed_more : (start : List Bool) (words into now : List ℕ) (i h t n w : ℕ) → t < 2 ^ h → n ≡ t + 2 ^ h * w
@@ -103,12 +69,7 @@ packed_more start words into now i h t n w lt e four five was =
 -- packed bytes behind a row's own
 pub row_packed : (whole packed words : List ℕ) (h t left : ℕ) (view : List Bool) → bytes_bits packed ++ bits_of h left ≡ bits_of h t ++ row_bits words
     → bytes_bits whole ++ bits_of h t ≡ view → bytes_bits (whole ++ packed) ++ bits_of h left ≡ view ++ row_bits words
-row_packed whole packed words h t left view e f =
-    ap (λ xs. xs ++ bits_of h left) (bytes_bits-append whole packed)
-    ∙ append_assoc (bytes_bits whole) (bytes_bits packed) (bits_of h left)
-    ∙ ap (λ xs. bytes_bits whole ++ xs) e
-    ∙ sym (append_assoc (bytes_bits whole) (bits_of h t) (row_bits words))
-    ∙ ap (λ xs. xs ++ row_bits words) f
+row_packed whole packed words h t left view e f = grind (arith, bytes_bits-append, append_assoc)
 
 pub no_more_words : (xs : List Bool) → xs ≡ xs ++ row_bits []
 unfolding row_bits

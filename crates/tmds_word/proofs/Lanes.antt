@@ -1,5 +1,5 @@
 -- Columns of three lanes' characters, one column more and all of them.
-use Rattle.std.proofs.Common.{◌≡◌, ℕ, suc, zero, ◌+◌, ◌<◌, List, [], ◌∷◌, ◌++◌, length, take, get_or, refl, ap, ap₂, ◌∙◌, sym, append_assoc, arith}
+use Rattle.std.proofs.Common.{◌≡◌, ℕ, suc, zero, ◌+◌, ◌<◌, List, [], ◌∷◌, ◌++◌, length, take, get_or, refl, ap, append_assoc, arith}
 use Rattle.tmds_word.specs.Column.{Column, column_of}
 use Rattle.tmds_word.specs.Words.{columns_of}
 
@@ -22,12 +22,4 @@ columns_all (b ∷ bs) (g ∷ gs) (r ∷ rs) = ap (λ cs. record { blue = b; gre
 pub column_after : (bs gs rs : List ℕ) (old was now : List Column) (i b g r x y z : ℕ) → length gs ≡ length bs → length rs ≡ length bs → i < length bs
     → was ≡ old ++ take i (columns_of bs gs rs) → now ≡ was ++ column_of (b ∷ g ∷ r ∷ []) ∷ [] → b ≡ get_or bs i x → g ≡ get_or gs i y → r ≡ get_or rs i z
     → now ≡ old ++ take (i + 1) (columns_of bs gs rs)
-column_after bs gs rs old was now i b g r x y z e f lt before after eb eg er =
-    let next : suc i ≡ i + 1 = omega arith in
-    after
-    ∙ ap (λ c. was ++ column_of (c ∷ g ∷ r ∷ []) ∷ []) eb
-    ∙ ap₂ (λ c d. was ++ column_of (get_or bs i x ∷ c ∷ d ∷ []) ∷ []) eg er
-    ∙ ap (λ cs. cs ++ column_of (get_or bs i x ∷ get_or gs i y ∷ get_or rs i z ∷ []) ∷ []) before
-    ∙ append_assoc old (take i (columns_of bs gs rs)) (column_of (get_or bs i x ∷ get_or gs i y ∷ get_or rs i z ∷ []) ∷ [])
-    ∙ ap (λ cs. old ++ cs) (sym (columns_more bs gs rs i x y z e f lt))
-    ∙ ap (λ n. old ++ take n (columns_of bs gs rs)) next
+column_after bs gs rs old was now i b g r x y z e f lt before after eb eg er = grind (arith, append_assoc, columns_more)

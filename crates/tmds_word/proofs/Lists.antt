@@ -40,10 +40,7 @@ bytes_bits-one b = append-nil (bits_of 8 b)
 -- the lowest a + b bits: the lowest a, and b of the rest
 pub bits_of-add : (a b n : ℕ) → bits_of (a + b) n ≡ bits_of a n ++ bits_of b (n / 2 ^ a)
 unfolding bits_of
-bits_of-add zero b n =
-    let e : 0 + b ≡ b = omega arith in
-    let f : n / 2 ^ 0 ≡ n = omega arith in
-    ap (λ k. bits_of k n) e ∙ ap (λ m. bits_of b m) (sym f)
+bits_of-add zero b n = grind arith
 bits_of-add (suc a) b n =
     let e : suc a + b ≡ suc (a + b) = omega arith in
     let f : n / 2 ^ 1 ≡ n / 2 = omega arith in
@@ -64,11 +61,7 @@ bits_of-low (suc k) t w =
 
 -- two numbers' bits, one after the other
 pub bits_of-join : (h k t w : ℕ) → t < 2 ^ h → bits_of h t ++ bits_of k w ≡ bits_of (h + k) (t + 2 ^ h * w)
-bits_of-join h k t w lt =
-    let c = 2 ^ h in
-    let turn : t + c * w ≡ w * c + t = omega arith in
-    let above : (t + c * w) / c ≡ w = ap (λ n. n / c) turn ∙ div-mul-add w c t lt in
-    sym (bits_of-add h k (t + c * w) ∙ ap₂ (λ xs n. xs ++ bits_of k n) (bits_of-low h t w) above)
+bits_of-join h k t w lt = grind (arith, div-mul-add, bits_of-add, bits_of-low)
 
 -- a byte's bits and then the rest of a number's
 pub bits_of-byte : (k n : ℕ) → bits_of (8 + k) n ≡ bits_of 8 (n % 256) ++ bits_of k (n / 256)

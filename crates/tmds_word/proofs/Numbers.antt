@@ -1,5 +1,5 @@
 -- The number of a list of bits, its first bit lowest, when the list is joined, cut and read.
-use Rattle.std.proofs.Common.{◌≡◌, ℕ, suc, zero, ◌+◌, ◌*◌, ◌/◌, ◌%◌, ◌^◌, ◌<◌, Bool, true, false, List, [], ◌∷◌, ◌++◌, length, take, drop, get_or, refl, ap, ap₂, ◌∙◌, sym, arith, zero-add, ◌==◌, drop-cons}
+use Rattle.std.proofs.Common.{◌≡◌, ℕ, suc, zero, ◌+◌, ◌*◌, ◌/◌, ◌%◌, ◌^◌, ◌<◌, Bool, true, false, List, [], ◌∷◌, ◌++◌, length, take, drop, get_or, refl, ap, ◌∙◌, sym, arith, zero-add, ◌==◌, drop-cons}
 use Rattle.std.specs.Prelude.{slice_get, Some}
 use Rattle.std.proofs.Math.Nat.{pow-suc}
 use Rattle.std.proofs.lemmas.Nat.{shr-shr, mod-mul-add}
@@ -55,8 +55,7 @@ number-window p k xs = number-take k (drop p xs) ∙ ap (λ n. n % 2 ^ k) (numbe
 
 first_of_number : (x : Bool) (xs : List Bool) → (number (x ∷ xs) % 2 == 1) ≡ x
 unfolding number
-first_of_number true xs = let e : (1 + 2 * number xs) % 2 ≡ 1 = omega arith in rw e
-first_of_number false xs = let e : (2 * number xs) % 2 ≡ 0 = omega arith in rw e
+first_of_number x xs = grind arith
 
 -- a bit of a list, from the list's number
 pub bit_of_number : (xs : List Bool) (i : ℕ) → i < length xs → get_or xs i false ≡ ((number xs / 2 ^ i) % 2 == 1)
@@ -68,9 +67,7 @@ slice_get-number xs i lt = slice_get-get_or xs i false lt ∙ ap Some (bit_of_nu
 
 odd_number : (n : ℕ) (xs : List Bool) → n < 2 → number ((n == 1) ∷ xs) ≡ n + 2 * number xs
 unfolding number
-odd_number zero xs lt = omega arith
-odd_number (suc zero) xs lt = refl
-odd_number (suc (suc n)) xs lt = absurd (omega arith)
+odd_number n xs h = grind arith
 
 -- the lowest bits of a number are its remainder
 pub number-bits_of : (k n : ℕ) → number (bits_of k n) ≡ n % 2 ^ k
@@ -88,11 +85,5 @@ number-bits_of (suc k) n =
 pub bits_of-number : (xs : List Bool) → bits_of (length xs) (number xs) ≡ xs
 unfolding bits_of number
 bits_of-number [] = refl
-bits_of-number (true ∷ xs) =
-    let odd : (1 + 2 * number xs) % 2 ≡ 1 = omega arith in
-    let half : (1 + 2 * number xs) / 2 ≡ number xs = omega arith in
-    ap₂ (λ r n. (r == 1) ∷ bits_of (length xs) n) odd half ∙ ap (λ ys. true ∷ ys) (bits_of-number xs)
-bits_of-number (false ∷ xs) =
-    let even : (2 * number xs) % 2 ≡ 0 = omega arith in
-    let half : (2 * number xs) / 2 ≡ number xs = omega arith in
-    ap₂ (λ r n. (r == 1) ∷ bits_of (length xs) n) even half ∙ ap (λ ys. false ∷ ys) (bits_of-number xs)
+bits_of-number (true ∷ xs) = grind (arith, bits_of-number xs)
+bits_of-number (false ∷ xs) = grind (arith, bits_of-number xs)

@@ -1,5 +1,5 @@
 -- A packed row: the bits of whole bytes, and then a tail of fewer than eight bits.
-use Rattle.std.proofs.Common.{◌≡◌, ℕ, suc, zero, ◌+◌, ◌-◌, ◌*◌, ◌/◌, ◌%◌, ◌^◌, ◌<◌, ◌≤◌, Bool, List, [], ◌∷◌, ◌++◌, length, take, drop, get_or, refl, ap, ap₂, ◌∙◌, sym, arith, ◌==◌, append_assoc, append-nil, length-append, length-drop, drop-cons, subst, inl, inr, bit_and}
+use Rattle.std.proofs.Common.{◌≡◌, ℕ, suc, zero, ◌+◌, ◌-◌, ◌*◌, ◌/◌, ◌%◌, ◌^◌, ◌<◌, ◌≤◌, Bool, List, [], ◌∷◌, ◌++◌, length, take, drop, get_or, refl, ap, ap₂, ◌∙◌, sym, arith, ◌==◌, append_assoc, append-nil, length-append, length-drop, drop-cons, bit_and}
 use Rattle.std.proofs.Math.Nat.{mod-eq_of_lt, mul-le-mul_left}
 use Rattle.std.proofs.Math.Pow.{pow_mono}
 use Rattle.std.proofs.Math.Seq.{get_or-append_right, take-append-add}
@@ -18,10 +18,7 @@ length-row bytes h t = omega (arith, length-append (bytes_bits bytes) (bits_of h
 
 -- a tail with more bits above it
 pub joined_below : (h k t w : ℕ) → t < 2 ^ h → w < 2 ^ k → t + 2 ^ h * w < 2 ^ (h + k)
-joined_below h k t w low high =
-    let whole : 2 ^ (h + k) ≡ 2 ^ h * 2 ^ k = pow-add 2 h k in
-    let most : 2 ^ h * (w + 1) ≤ 2 ^ h * 2 ^ k = mul-le-mul_left (2 ^ h) (omega arith) in
-    omega arith
+joined_below h k t w low high = grind (arith, pow-add, mul-le-mul_left)
 
 pub put_none : (bytes : List ℕ) (h t k w n : ℕ) → t < 2 ^ h → n ≡ t + 2 ^ h * w → bytes_bits bytes ++ bits_of (h + k) n ≡ (bytes_bits bytes ++ bits_of h t) ++ bits_of k w
 put_none bytes h t k w n lt e = rw (e, append_assoc, bits_of-join h k t w lt)
@@ -40,23 +37,14 @@ put_two bytes h t k w n r lt e many =
     let one = bytes ++ n % 256 ∷ [] in
     let both : one ++ n / 256 % 256 ∷ [] ≡ bytes ++ n % 256 ∷ n / 256 % 256 ∷ [] = append_assoc bytes (n % 256 ∷ []) (n / 256 % 256 ∷ []) in
     let high : n / 256 / 256 ≡ n / 65536 = omega arith in
-    let rest : h + k ≡ 8 + (8 + r) = omega arith in
-    ap₂ (λ bs m. bytes_bits bs ++ bits_of r m) (sym both) (sym high)
-    ∙ byte_more one r (n / 256)
-    ∙ put_one bytes h t k w n (8 + r) lt e rest
+    grind (arith, byte_more, put_one)
 
 -- a tail of r bits, past one byte and past two
 pub tail_past : (n h k r : ℕ) → n < 2 ^ (h + k) → h + k ≡ 8 + r → n / 256 < 2 ^ r
-tail_past n h k r lt many =
-    let p : 2 ^ (8 + r) ≡ 2 ^ 8 * 2 ^ r = pow-add 2 8 r in
-    let below : n < 2 ^ (8 + r) = subst (λ j. n < 2 ^ j) many lt in
-    omega arith
+tail_past n h k r lt many = grind (arith, pow-add)
 
 pub tail_past_two : (n h k r : ℕ) → n < 2 ^ (h + k) → h + k ≡ 16 + r → n / 65536 < 2 ^ r
-tail_past_two n h k r lt many =
-    let p : 2 ^ (16 + r) ≡ 2 ^ 16 * 2 ^ r = pow-add 2 16 r in
-    let below : n < 2 ^ (16 + r) = subst (λ j. n < 2 ^ j) many lt in
-    omega arith
+tail_past_two n h k r lt many = grind (arith, pow-add)
 
 -- a number of fewer than eight bits is a byte
 pub fits_byte : (t h : ℕ) → t < 2 ^ h → h < 8 → t < 256
@@ -77,14 +65,11 @@ number_of_bytes b bytes lt =
     let own : number (bits_of 8 b) ≡ b = number-bits_of 8 b ∙ mod-eq_of_lt lt in
     omega (arith, number-append (bits_of 8 b) (bytes_bits bytes), own, length-bits_of 8 b, ap (λ k. 2 ^ k * number (bytes_bits bytes)) (length-bits_of 8 b))
 
-none_from : (k : ℕ) → number (bytes_bits []) / 2 ^ k ≡ number (bytes_bits [])
-unfolding bytes_bits number
-none_from k = zero_over k
-
 -- the bytes from a place on
 pub number_from : (j : ℕ) (bytes : List ℕ) → AreBytes bytes → number (bytes_bits bytes) / 2 ^ (8 * j) ≡ number (bytes_bits (drop j bytes))
+unfolding bytes_bits number
 number_from zero bytes h = omega arith
-number_from (suc j) [] h = none_from (8 * suc j)
+number_from (suc j) [] h = grind (arith, zero_over)
 number_from (suc j) (b ∷ bytes) h =
     let n = number (bytes_bits bytes) in
     let first : b < 256 = h 0 in
@@ -92,29 +77,15 @@ number_from (suc j) (b ∷ bytes) h =
     let more : 8 * suc j ≡ 8 + 8 * j = omega arith in
     rw (number_of_bytes b bytes first, more, ← shr-shr (b + 256 * n) 8 (8 * j), half) (number_from j bytes (rest_bytes b bytes h))
 
-nothing : number (bytes_bits []) % 256 ≡ 0
-unfolding bytes_bits number
-nothing = refl
-
 byte_here : (bytes : List ℕ) (j : ℕ) → AreBytes bytes → number (bytes_bits (drop j bytes)) % 256 ≡ get_or bytes j 0
-byte_here bytes j h =
-    elim (cases_lt j (length bytes)) [
-      | inl within ↦
-          let n = number (bytes_bits (drop (suc j) bytes)) in
-          let b = get_or bytes j 0 in
-          let low : b < 256 = h j in
-          let split : number (bytes_bits (drop j bytes)) ≡ b + 256 * n = ap (λ bs. number (bytes_bits bs)) (drop-cons bytes j 0 within) ∙ number_of_bytes b (drop (suc j) bytes) low in
-          omega arith
-      | inr past ↦ ap (λ bs. number (bytes_bits bs) % 256) (drop_all j bytes past) ∙ nothing ∙ sym (get_or_past bytes j 0 past)
-    ]
+unfolding bytes_bits number
+byte_here bytes j h = grind (arith, cases_lt, drop-cons, number_of_bytes, drop_all, get_or_past)
 
 -- a row's number is that of its bytes, its tail taken as one of them
 number_of_row : (bytes : List ℕ) (h t : ℕ) → t < 2 ^ h → h < 8 → number (bytes_bits bytes ++ bits_of h t) ≡ number (bytes_bits (bytes ++ t ∷ []))
 number_of_row bytes h t lt few =
     let low : t < 256 = fits_byte t h lt few in
-    let short : number (bits_of h t) ≡ t = number-bits_of h t ∙ mod-eq_of_lt lt in
-    let long : number (bits_of 8 t) ≡ t = number-bits_of 8 t ∙ mod-eq_of_lt low in
-    simp (bytes_bits-append, bytes_bits-one, number-append, short, long)
+    grind (arith, number-bits_of, mod-eq_of_lt, bytes_bits-append, bytes_bits-one, number-append)
 
 with_tail : (bytes : List ℕ) (t : ℕ) → AreBytes bytes → t < 256 → AreBytes (bytes ++ t ∷ [])
 with_tail [] t h lt zero = lt
@@ -134,10 +105,7 @@ pub byte_within : (bytes : List ℕ) (t j : ℕ) → j < length bytes → get_or
 byte_within bytes t j lt = get_or-append bytes (t ∷ []) 0 j lt
 
 pub byte_tail : (bytes : List ℕ) (t j : ℕ) → j ≡ length bytes → get_or (bytes ++ t ∷ []) j 0 ≡ t
-byte_tail bytes t j e =
-    let from : length bytes ≤ j = omega arith in
-    let first : j - length bytes ≡ 0 = omega arith in
-    get_or-append_right bytes (t ∷ []) j 0 from ∙ ap (λ i. get_or (t ∷ []) i 0) first
+byte_tail bytes t j e = grind (arith, get_or-append_right)
 
 pub byte_past : (bytes : List ℕ) (t j : ℕ) → length bytes < j → get_or (bytes ++ t ∷ []) j 0 ≡ 0
 byte_past bytes t j lt = get_or_past (bytes ++ t ∷ []) j 0 (omega (arith, length-append bytes (t ∷ [])))
@@ -155,11 +123,7 @@ low_bit (suc (suc (suc (suc (suc (suc (suc (suc r)))))))) n h = absurd (omega ar
 
 -- bit i of a number, from its byte i / 8
 pub bit_in_byte : (n i : ℕ) → ((n / 2 ^ (8 * (i / 8))) % 256 / 2 ^ (i % 8)) % 2 ≡ (n / 2 ^ i) % 2
-bit_in_byte n i =
-    let few : i % 8 < 8 = omega arith in
-    let whole : 8 * (i / 8) + i % 8 ≡ i = omega arith in
-    low_bit (i % 8) (n / 2 ^ (8 * (i / 8))) few
-    ∙ ap (λ m. m % 2) (shr-shr n (8 * (i / 8)) (i % 8) ∙ ap (λ k. n / 2 ^ k) whole)
+bit_in_byte n i = grind (arith, low_bit, shr-shr)
 
 low_word : (r n : ℕ) → r < 8 → ((n % 16777216) / 2 ^ r) % 1024 ≡ (n / 2 ^ r) % 1024
 low_word zero n h = omega arith
@@ -209,10 +173,7 @@ four_bytes_are bytes j n are room sum =
     omega (arith, sum, number_from j bytes are, are j, are (j + 1), are (j + 2), are (j + 3), first, second, third, fourth)
   where
     step : (i k : ℕ) → suc i ≡ k → i < length bytes → number (bytes_bits (drop i bytes)) ≡ get_or bytes i 0 + 256 * number (bytes_bits (drop k bytes))
-    step i k next lt =
-        ap (λ bs. number (bytes_bits bs)) (drop-cons bytes i 0 lt)
-        ∙ number_of_bytes (get_or bytes i 0) (drop (suc i) bytes) (are i)
-        ∙ ap (λ m. get_or bytes i 0 + 256 * number (bytes_bits (drop m bytes))) next
+    step i k next lt = grind (arith, drop-cons, number_of_bytes)
 
 -- the ten bits from p on, where the four bytes from p / 8 on are whole
 pub word_in_whole : (xs more : List Bool) (bytes : List ℕ) (p n : ℕ) → bytes_bits bytes ++ more ≡ xs → p / 8 + 4 ≤ length bytes
@@ -258,18 +219,9 @@ more_bytes b bytes = refl
 -- the first bits of a row: whole bytes, and some bits of the byte after them
 pub take_row : (bytes : List ℕ) (h t j k : ℕ) → h < 8 → k < 8 → 8 * j + k ≤ 8 * length bytes + h
     → take (8 * j + k) (bytes_bits bytes ++ bits_of h t) ≡ bytes_bits (take j bytes) ++ bits_of k (get_or (bytes ++ t ∷ []) j 0)
-take_row [] h t zero k few less room =
-    let e : 8 * 0 + k ≡ k = omega arith in
-    let le : k ≤ h = omega arith in
-    ap₂ (λ m xs. take m (xs ++ bits_of h t)) e no_bytes ∙ take_low k h t le ∙ ap (λ xs. xs ++ bits_of k t) (sym no_bytes)
+take_row [] h t zero k few less room = grind (arith, no_bytes, take_low)
 take_row [] h t (suc j) k few less room = absurd (omega arith)
-take_row (b ∷ bytes) h t zero k few less room =
-    let e : 8 * 0 + k ≡ k = omega arith in
-    let short : k ≤ length (bits_of 8 b) = omega (arith, length-bits_of 8 b) in
-    ap₂ (λ m xs. take m xs) e (ap (λ xs. xs ++ bits_of h t) (more_bytes b bytes) ∙ append_assoc (bits_of 8 b) (bytes_bits bytes) (bits_of h t))
-    ∙ take-append-le k (bits_of 8 b) (bytes_bits bytes ++ bits_of h t) short
-    ∙ take_low k 8 b (omega arith)
-    ∙ ap (λ xs. xs ++ bits_of k b) (sym no_bytes)
+take_row (b ∷ bytes) h t zero k few less room = grind (arith, length-bits_of, more_bytes, append_assoc, take-append-le, take_low, no_bytes)
 take_row (b ∷ bytes) h t (suc j) k few less room =
     let rest = bytes_bits bytes ++ bits_of h t in
     let e : 8 * suc j + k ≡ length (bits_of 8 b) + (8 * j + k) = omega (arith, length-bits_of 8 b) in
@@ -287,12 +239,7 @@ no_bits t = refl
 
 -- where no bit stands past the whole bytes
 pub row_aligned : (bytes more : List ℕ) (h t : ℕ) → h ≡ 0 → bytes_bits (bytes ++ more) ++ bits_of h t ≡ (bytes_bits bytes ++ bits_of h t) ++ bytes_bits more
-row_aligned bytes more h t e =
-    let none : bits_of h t ≡ [] = ap (λ k. bits_of k t) e ∙ no_bits t in
-    ap (λ xs. bytes_bits (bytes ++ more) ++ xs) none
-    ∙ append-nil (bytes_bits (bytes ++ more))
-    ∙ bytes_bits-append bytes more
-    ∙ ap (λ xs. xs ++ bytes_bits more) (sym (append-nil (bytes_bits bytes)) ∙ ap (λ xs. bytes_bits bytes ++ xs) (sym none))
+row_aligned bytes more h t e = grind (arith, no_bits, append-nil, bytes_bits-append)
 
 pub no_more : (xs : List Bool) (bytes : List ℕ) → xs ≡ xs ++ bytes_bits (take 0 bytes)
 no_more xs bytes = sym (ap (λ ys. xs ++ ys) no_bytes ∙ append-nil xs)
@@ -329,20 +276,9 @@ mask_is b k few =
 
 -- the first bits of bytes, where they end at a byte's edge
 pub take_whole : (bytes : List ℕ) (bits : ℕ) → bits % 8 ≡ 0 → length bytes ≡ (bits + 7) / 8 → take bits (bytes_bits bytes) ≡ bytes_bits (take (bits / 8) bytes)
-take_whole bytes bits e len =
-    let whole : 8 * (bits / 8) + 0 ≡ bits = omega arith in
-    ap (λ n. take n (bytes_bits bytes)) (sym whole)
-    ∙ take_bytes bytes (bits / 8) 0 (omega arith) (omega arith)
-    ∙ ap (λ xs. bytes_bits (take (bits / 8) bytes) ++ xs) (no_bits (get_or bytes (bits / 8) 0))
-    ∙ append-nil (bytes_bits (take (bits / 8) bytes))
+take_whole bytes bits e len = grind (arith, take_bytes, no_bits, append-nil)
 
 -- and where they end within a byte
 pub take_part : (bytes : List ℕ) (bits last : ℕ) → length bytes ≡ (bits + 7) / 8 → last ≡ bit_and (get_or bytes (bits / 8) 0) (1 * 2 ^ (bits % 8) % 256 - 1)
     → take bits (bytes_bits bytes) ≡ bytes_bits (take (bits / 8) bytes) ++ bits_of (bits % 8) last
-take_part bytes bits last len e =
-    let few : bits % 8 < 8 = omega arith in
-    let whole : 8 * (bits / 8) + bits % 8 ≡ bits = omega arith in
-    let b = get_or bytes (bits / 8) 0 in
-    ap (λ n. take n (bytes_bits bytes)) (sym whole)
-    ∙ take_bytes bytes (bits / 8) (bits % 8) few (omega arith)
-    ∙ ap (λ xs. bytes_bits (take (bits / 8) bytes) ++ xs) (sym (bits_of-mod (bits % 8) b) ∙ ap (bits_of (bits % 8)) (sym (e ∙ mask_is b (bits % 8) few)))
+take_part bytes bits last len e = grind (arith, take_bytes, bits_of-mod, mask_is)

@@ -1,15 +1,12 @@
 -- How many turns a list of bits has, and the lists it is made of.
-use Rattle.std.proofs.Common.{◌≡◌, ℕ, suc, zero, ◌+◌, ◌-◌, ◌<◌, ◌≤◌, min, Bool, true, false, List, [], ◌∷◌, ◌++◌, length, take, drop, ap, arith, length-take, get_or}
+use Rattle.std.proofs.Common.{◌≡◌, ℕ, suc, zero, ◌+◌, ◌-◌, ◌<◌, ◌≤◌, min, Bool, List, [], ◌∷◌, ◌++◌, length, take, drop, ap, arith, length-take, get_or}
 use Rattle.std.proofs.lemmas.List.{take-append-drop, append-nil}
 use Rattle.tmds_word.specs.Bits.{turns, unlike, word_bits}
 use Rattle.tmds_word.specs.Cuts.{joined, inner_turns, part_costs, IsCalmPart}
 
 one_at_most : (x y : Bool) → unlike x y ≤ 1
 unfolding unlike
-one_at_most true true = omega arith
-one_at_most true false = omega arith
-one_at_most false true = omega arith
-one_at_most false false = omega arith
+one_at_most x y = grind arith
 
 -- a border between two lists adds one turn or none
 pub turns_both : (xs ys : List Bool) → turns xs + turns ys ≤ turns (xs ++ ys)
@@ -68,10 +65,7 @@ parts_at_most (x ∷ xs) h = let g = more_than_parts x xs in omega arith
 
 -- a part of n bits has fewer than n turns, and no more than the list that it lies in
 pub turns_part : (xs : List Bool) (i n most : ℕ) → turns xs ≤ most → turns (take n (drop i xs)) ≤ min most (n - 1)
-turns_part xs i n most few =
-    let a = turns_piece xs i n in
-    let b = turns_length (take n (drop i xs)) in
-    omega (arith, length-take n (drop i xs))
+turns_part xs i n most few = grind (arith, turns_piece, turns_length, length-take)
 
 pub part_of_word : (w i n : ℕ) → turns (word_bits w) ≤ 5 → 0 < n → i + n ≤ 10 → turns (take n (drop i (word_bits w))) ≤ min 5 (n - 1)
 part_of_word w i n few some within = turns_part (word_bits w) i n 5 few
@@ -90,7 +84,4 @@ parts_cost (x ∷ xs) each =
     omega arith
 
 pub calm_cut : (parts : List (List Bool)) → 0 < length parts → ((k : ℕ) → k < length parts → IsCalmPart (get_or parts k [])) → turns (joined parts) + 1 ≤ part_costs parts
-calm_cut parts some each =
-    let a = parts_at_most parts some in
-    let b = parts_cost parts each in
-    omega arith
+calm_cut parts some each = grind (arith, parts_at_most, parts_cost)

@@ -39,32 +39,12 @@ before_slip : (skews : List ℕ) (lane dropped : ℕ) → lane < 3 → dropped <
     → (slice_index skews 0 ≤ slice_index skews 1 + 79) × (slice_index skews 1 ≤ slice_index skews 0 + 79)
     × (slice_index skews 1 ≤ slice_index skews 2 + 79) × (slice_index skews 2 ≤ slice_index skews 1 + 79)
     × (slice_index skews 0 ≤ slice_index skews 2 + 79) × (slice_index skews 2 ≤ slice_index skews 0 + 79)
-before_slip skews zero dropped lt few small =
-    let a = small.first_second in let b = small.second_third in let c = small.first_third in
-    let a0 = a.0 in let a1 = a.1 in let b0 = b.0 in let b1 = b.1 in let c0 = c.0 in let c1 = c.1 in
-    (omega arith, omega arith, omega arith, omega arith, omega arith, omega arith)
-before_slip skews (suc zero) dropped lt few small =
-    let a = small.first_second in let b = small.second_third in let c = small.first_third in
-    let a0 = a.0 in let a1 = a.1 in let b0 = b.0 in let b1 = b.1 in let c0 = c.0 in let c1 = c.1 in
-    (omega arith, omega arith, omega arith, omega arith, omega arith, omega arith)
-before_slip skews (suc (suc l)) dropped lt few small =
-    let a = small.first_second in let b = small.second_third in let c = small.first_third in
-    let a0 = a.0 in let a1 = a.1 in let b0 = b.0 in let b1 = b.1 in let c0 = c.0 in let c1 = c.1 in
-    (omega arith, omega arith, omega arith, omega arith, omega arith, omega arith)
+before_slip skews lane dropped h k l = grind arith
 
 -- two near edges that end control periods, of lanes that are no farther apart: they end the same one, so the lanes are near
 near_lanes : (kinds : List Kind) → IsAlternating kinds → (i j d e offset k l : ℕ) → EndsAt kinds i → EndsAt kinds j → d + (offset + k) ≡ 10 * (i + 1) → e + (offset + l) ≡ 10 * (j + 1)
     → AreNear d e → k ≤ l + 79 → l ≤ k + 79 → AreNear k l
-near_lanes kinds alternates i j d e offset k l ends_i ends_j at_i at_j near hi lo =
-    let a = near.0 in
-    let b = near.1 in
-    elim (cases_lt i j) [
-      | inl less ↦ let far = ends_apart kinds alternates i j ends_i ends_j less in absurd (omega arith)
-      | inr more ↦ elim (cases_lt j i) [
-        | inl less ↦ let far = ends_apart kinds alternates j i ends_j ends_i less in absurd (omega arith)
-        | inr same ↦ let equal : i ≡ j = omega arith in (omega arith, omega arith)
-      ]
-    ]
+near_lanes kinds alternates i j d e offset k l ends_i ends_j at_i at_j near hi lo = grind (arith, cases_lt, ends_apart)
 
 -- The lanes of the first epoch.
 

@@ -1,5 +1,5 @@
 -- Where epochs of calm lanes end.
-use Rattle.std.proofs.Common.{◌≡◌, ◌⊎◌, ℕ, suc, zero, ◌+◌, ◌-◌, ◌<◌, ◌≤◌, Bool, List, drop, refl, ap, ◌∙◌, subst, arith, inl, inr}
+use Rattle.std.proofs.Common.{◌≡◌, ◌⊎◌, ℕ, suc, zero, ◌+◌, ◌-◌, ◌<◌, ◌≤◌, Bool, List, drop, ap, ◌∙◌, subst, arith, inl, inr}
 use Rattle.std.proofs.lemmas.Bool.{cases_lt}
 use Rattle.tmds_word.specs.Taps.{part_of}
 use Rattle.lane_track.specs.Strays.{IsStray, HasNoStray}
@@ -15,9 +15,7 @@ use Rattle.link_laws.proofs.Lanes.{lanes_received}
 use Rattle.track_laws.specs.Laws.{Slipped, CalmLanes, Received}
 
 lane_of_rest : (z : ℕ) (fed : Fed) (l : ℕ) → lane_of (rest_of z fed) l ≡ drop z (lane_of fed l)
-lane_of_rest z fed zero = refl
-lane_of_rest z fed (suc zero) = refl
-lane_of_rest z fed (suc (suc l)) = refl
+lane_of_rest z fed l = grind arith
 
 pub none_of : (xs ys : List Bool) → xs ≡ ys → HasNoStray ys → HasNoStray xs
 none_of xs ys e none p stray = none p (subst (λ us. IsStray us p) e stray)
@@ -50,13 +48,7 @@ pub other_lane : (x y : Fed) (words : ℕ → List ℕ) (marks : ℕ → List Bo
 other_lane x y words marks from many lane place dropped lanes slip l lt apart = slip.others l lt apart ∙ lanes.parts l lt
 
 pub same_lane : (l lane : ℕ) → (l ≡ lane) ⊎ (l ≡ lane → ⊥)
-same_lane l lane = elim (cases_lt l lane) [
-  | inl less ↦ inr (λ e. omega arith)
-  | inr more ↦ elim (cases_lt lane l) [
-    | inl less ↦ inr (λ e. omega arith)
-    | inr same ↦ inl (omega arith)
-  ]
-]
+same_lane l lane = grind (arith, cases_lt)
 
 pub at_most_two : (x y : Fed) (words : ℕ → List ℕ) (marks : ℕ → List Bool) (from many : ℕ → ℕ) (lane place dropped : ℕ)
     → CalmLanes x words marks from many → Slips (words lane) (marks lane) (from lane) (many lane) place dropped → Slipped x lane place dropped y

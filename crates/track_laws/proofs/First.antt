@@ -27,19 +27,7 @@ front_part words from many n xs part =
 
 -- the first triple of the same edges
 pub first_same : (A B C D E F : ℕ → Type 0) → ((e : ℕ) → A e ↔ D e) → ((e : ℕ) → B e ↔ E e) → ((e : ℕ) → C e ↔ F e) → (d e f : ℕ) → AreFirst A B C d e f → AreFirst D E F d e f
-first_same A B C D E F a b c d e f first =
-    let t = first.triple in
-    record {
-      triple = record { first = (a d).0 t.first; second = (b e).0 t.second; third = (c f).0 t.third; first_second = t.first_second; second_third = t.second_third; first_third = t.first_third };
-      least = λ p q r other. first.least p q r (record {
-        first = (a p).1 other.first;
-        second = (b q).1 other.second;
-        third = (c r).1 other.third;
-        first_second = other.first_second;
-        second_third = other.second_third;
-        first_third = other.first_third;
-      });
-    }
+first_same A B C D E F a b c d e f first = grind arith
 
 kept : (start : ℕ) (xs ys : List Bool) → ys ≡ xs → (e : ℕ) → IsEdge (take start ys) e ↔ IsEdge (take start xs) e
 kept start xs ys same e = (λ h. subst (λ us. IsEdge (take start us) e) same h, λ h. subst (λ us. IsEdge (take start us) e) (sym same) h)

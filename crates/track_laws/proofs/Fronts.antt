@@ -61,7 +61,4 @@ same_columns xs ys zs us vs ws d e f m blue green red long =
 -- a lane that slipped and was cut behind the slip, and the lane cut before it
 pub slipped_words : (xs ys : List Bool) (place dropped start p m : ℕ) → ys ≡ slipped xs place dropped → place + dropped ≤ length xs → place ≤ start → place ≤ length ys → p + 10 * m ≤ place
     → take m (words_from (take start ys) p) ≡ take m (words_from (take place xs) p)
-slipped_words xs ys place dropped start p m are long after long_y early =
-    let front : length (take place xs) ≡ place = length-take-le place xs (omega arith) in
-    same_words (take start ys) (take place xs) p m (omega (arith, length-take start ys)) (omega arith)
-    (take_piece start p (10 * m) ys (omega arith) ∙ ap (λ us. take (10 * m) (drop p us)) are ∙ front_piece p (10 * m) (take place xs) (drop (place + dropped) xs) (omega arith))
+slipped_words xs ys place dropped start p m are long after long_y early = grind (arith, length-take-le, same_words, length-take, take_piece, front_piece)

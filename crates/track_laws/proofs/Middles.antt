@@ -1,12 +1,12 @@
 -- Behind the last pixel of a line a control period begins, which has twelve columns at least.
-use Rattle.std.proofs.Common.{◌≡◌, ◌⊎◌, ℕ, suc, zero, ◌+◌, ◌-◌, ◌*◌, ◌/◌, ◌<◌, ◌≤◌, List, [], ◌∷◌, ◌++◌, length, get_or, replicate, ap, ◌∙◌, sym, subst, arith, inl, inr, length-append}
+use Rattle.std.proofs.Common.{◌≡◌, ◌⊎◌, ℕ, ◌+◌, ◌-◌, ◌*◌, ◌/◌, ◌<◌, ◌≤◌, List, [], ◌∷◌, ◌++◌, length, get_or, replicate, ap, ◌∙◌, sym, subst, arith, inl, inr, length-append}
 use Rattle.std.proofs.lemmas.Bool.{cases_lt}
 use Rattle.std.proofs.lemmas.List.{get_or_append_left, get_or-append_right, get_or-replicate, length-replicate, get_or_past}
 use Rattle.tmds_word.proofs.Below.{and-right}
 use Rattle.island_pack.specs.Periods.{Period, control, video, island, values_of, has_preamble}
 use Rattle.island_pack.specs.Conforming.{is_control_period, is_video_period, is_data_island, conforms, IsConforming}
 use Rattle.island_pack.specs.Kinds.{Kind, control_column, second_guard, pixel_column, packet_column, guard_pair, kinds_in, kinds_of, kind_at}
-use Rattle.link_laws.specs.Alternating.{built, IsAlternating, last, more}
+use Rattle.link_laws.specs.Alternating.{built, IsAlternating}
 use Rattle.link_laws.proofs.Shapes.{alternating, in_first, in_rest}
 
 -- twelve control columns from a place on
@@ -15,21 +15,7 @@ pub record Twelve (kinds : List Kind) (i : ℕ) : Type 0 where
   pub control : (k : ℕ) → k < 12 → kind_at kinds (i + k) ≡ control_column
 
 begins : (kinds : List Kind) → IsAlternating kinds → Twelve kinds 0
-begins _ (last n long) =
-    let l = length-replicate n control_column in
-    record {
-      within = omega (arith, length-append (replicate n control_column) []);
-      control = λ k lt.
-          let e : 0 + k ≡ k = omega arith in
-          ap (kind_at (replicate n control_column ++ [])) e
-          ∙ get_or_append_left (replicate n control_column) [] second_guard k (omega arith) ∙ get_or-replicate n k control_column second_guard (omega arith);
-    }
-begins _ (more n mid rest long m alternates) =
-    let l = length-replicate n control_column in
-    record {
-      within = omega (arith, length-append (replicate n control_column) (mid ++ rest));
-      control = λ k lt. let e : 0 + k ≡ k = omega arith in ap (kind_at (built n mid rest)) e ∙ in_first n mid rest k (omega arith);
-    }
+begins kinds h = grind (arith, length-replicate, length-append, get_or_append_left, get_or-replicate, in_first)
 
 -- between two control periods a pixel is followed by a pixel, or is the last column
 abbrev Middle : List Kind → Type 0
@@ -88,15 +74,7 @@ one_more n mid rest m twelve later i pixel then = elim (cases_lt i n) [
 -- a video period, and a data island
 
 middle_video : (m : ℕ) → Middle (guard_pair ++ replicate m pixel_column)
-middle_video m zero lt e = cc
-middle_video m (suc zero) lt e = cc
-middle_video m (suc (suc j)) lt e =
-    let l = length-replicate m pixel_column in
-    let next : suc (suc j) + 1 ≡ suc (suc (j + 1)) = omega arith in
-    elim (cases_lt (j + 1) m) [
-      | inl inside ↦ inl (ap (λ k. get_or (guard_pair ++ replicate m pixel_column) k second_guard) next ∙ get_or-replicate m (j + 1) pixel_column second_guard inside)
-      | inr past ↦ inr (omega arith)
-    ]
+middle_video m h k l = grind (arith, length-replicate, cases_lt, get_or-replicate)
 
 not_packet : packet_column ≡ pixel_column → ⊥
 not_packet e = cc
@@ -105,30 +83,16 @@ not_guard : second_guard ≡ pixel_column → ⊥
 not_guard e = cc
 
 guards_none : (j : ℕ) → get_or guard_pair j second_guard ≡ pixel_column → ⊥
-guards_none zero e = cc
-guards_none (suc zero) e = cc
-guards_none (suc (suc j)) e = cc
+guards_none j h = grind arith
 
 island_none : (m j : ℕ) → get_or (guard_pair ++ (replicate m packet_column ++ guard_pair)) j second_guard ≡ pixel_column → ⊥
-island_none m zero e = cc
-island_none m (suc zero) e = cc
-island_none m (suc (suc j)) e =
-    let l = length-replicate m packet_column in
-    elim (cases_lt j m) [
-      | inl inside ↦ not_packet (sym (get_or_append_left (replicate m packet_column) guard_pair second_guard j (omega arith) ∙ get_or-replicate m j packet_column second_guard inside) ∙ e)
-      | inr past ↦ guards_none (j - m) (sym (get_or-append_right (replicate m packet_column) guard_pair m j second_guard l past) ∙ e)
-    ]
+island_none m j h = grind (arith, length-replicate, cases_lt, not_packet, get_or_append_left, get_or-replicate, guards_none, get_or-append_right)
 
 middle_island : (m : ℕ) → Middle (guard_pair ++ (replicate m packet_column ++ guard_pair))
 middle_island m j lt e = absurd (island_none m j e)
 
 control_alone : (n : ℕ) → Follows (replicate n control_column ++ [])
-control_alone n i pixel then =
-    let l = length-replicate n control_column in
-    elim (cases_lt i n) [
-      | inl inside ↦ absurd (no_pixel (sym (get_or_append_left (replicate n control_column) [] second_guard i (omega arith) ∙ get_or-replicate n i control_column second_guard inside) ∙ pixel))
-      | inr past ↦ absurd (not_guard (sym (get_or_past (replicate n control_column ++ []) i second_guard (omega (arith, length-append (replicate n control_column) []))) ∙ pixel))
-    ]
+control_alone n i pixel then = grind (arith, length-replicate, cases_lt, no_pixel, get_or_append_left, get_or-replicate, not_guard, get_or_past, length-append)
 
 pub line_ends : (ps : List Period) → IsConforming ps → Follows (kinds_of ps)
 unfolding conforms kinds_of kinds_in

@@ -34,9 +34,7 @@ one_end fed l m p q a b =
 
 pub one_track : (begun : Bool) (z : ℕ) (fed : Fed) (n m k j : ℕ) (us vs : List TrackEvent) → IsTracked begun z fed n m us → IsTracked begun z fed k j vs
     → (n ≡ k) × (m ≡ j) × (us ≡ vs)
-one_track begun z fed n m k j us vs (last_epoch _ _ _ o events none reported) (last_epoch _ _ _ o2 things2 none2 told2) =
-    let e = one_reported fed.blue fed.green fed.red o.aligned o2.aligned o.columns o2.columns events things2 reported told2 in
-    (refl, ap one_if e.0, ap track_events_of e.1)
+one_track begun z fed n m k j us vs (last_epoch _ _ _ o events none reported) (last_epoch _ _ _ o2 things2 none2 told2) = grind (arith, one_reported)
 one_track begun z fed n m k j us vs (last_epoch _ _ _ o events none reported) (more_epochs _ _ _ o2 things2 lane2 place2 n2 m2 rest2 end2 told2 track2) =
     absurd (none lane2 end2.within place2 end2.stray)
 one_track begun z fed n m k j us vs (more_epochs _ _ _ o events lane place n1 m1 rest end reported track) (last_epoch _ _ _ o2 things2 none2 told2) =

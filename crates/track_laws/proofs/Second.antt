@@ -1,8 +1,8 @@
 -- The lanes of the second epoch are a tap of the same columns.
-use Rattle.std.proofs.Common.{◌≡◌, ℕ, suc, zero, ◌+◌, ◌-◌, ◌≤◌, Bool, List, [], ◌∷◌, length, take, drop, ap, ◌∙◌, sym, subst, arith, inl, inr, length-drop, length-take, length-append, slice_index}
+use Rattle.std.proofs.Common.{◌≡◌, ℕ, suc, zero, ◌+◌, ◌-◌, ◌≤◌, Bool, List, [], ◌∷◌, length, drop, sym, subst, arith, length-drop, length-take, length-append, slice_index}
 use Rattle.std.proofs.lemmas.Bool.{cases_lt}
 use Rattle.tmds_word.specs.Column.{Column, blues, greens, reds}
-use Rattle.tmds_word.specs.Taps.{part_of, IsPart, HasSmallSkew}
+use Rattle.tmds_word.specs.Taps.{IsPart, HasSmallSkew}
 use Rattle.lane_align.specs.Lanes.{IsEdge}
 use Rattle.lane_align.proofs.Controls.{window_is}
 use Rattle.lane_deskew.specs.Triples.{IsFirst}
@@ -22,28 +22,11 @@ edge_long xs e edge = let within = (window_is xs e edge.word edge.here).0 in ome
 
 rest_part : (words : List ℕ) (from many z : ℕ) (xs : List Bool) → IsPart words from many xs → 10 ≤ length (drop z xs)
     → (count : ℕ) × IsPart words (from + z) count (drop z xs)
-rest_part words from many z xs part long =
-    let within = part.within in
-    let is : drop z xs ≡ part_of words (from + z) (many - z) = ap (drop z) part.bits_are ∙ drop_part words from many z in
-    let len : length xs ≡ many = ap length part.bits_are ∙ length-part words from many within in
-    let size = length-drop z xs in
-    (many - z, record { within = omega arith; bits_are = is })
+rest_part words from many z xs part long = grind (arith, drop_part, length-part, length-drop)
 
 slipped_rest : (words : List ℕ) (from many place dropped z : ℕ) (xs ys : List Bool) → IsPart words from many xs → ys ≡ slipped xs place dropped → place ≤ z → 10 ≤ length (drop z ys)
     → (count : ℕ) × IsPart words (from + dropped + z) count (drop z ys)
-slipped_rest words from many place dropped z xs ys part are after long =
-    let within = part.within in
-    let len : length xs ≡ many = ap length part.bits_are ∙ length-part words from many within in
-    let size = length-drop z ys in
-    let ys_are : length ys ≡ length (slipped xs place dropped) = ap length are in
-    elim (cases_lt many (place + dropped)) [
-      | inl short ↦ absurd (omega (arith, length-append (take place xs) (drop (place + dropped) xs), length-take place xs, length-drop (place + dropped) xs))
-      | inr room ↦
-          let slip_len = length_slipped xs place dropped (omega arith) in
-          let is : drop z ys ≡ part_of words (from + dropped + z) (many - dropped - z) =
-          ap (drop z) (are ∙ ap (λ us. slipped us place dropped) part.bits_are) ∙ rest_is_part words from many place dropped z after room within in
-          (many - dropped - z, record { within = omega arith; bits_are = is })
-    ]
+slipped_rest words from many place dropped z xs ys part are after long = grind (arith, length-part, length-drop, cases_lt, length-append, length-take, length_slipped, rest_is_part)
 
 from_is : (words : List ℕ) (a b count : ℕ) (xs : List Bool) → a ≡ b → IsPart words a count xs → IsPart words b count xs
 from_is words a b count xs e part = subst (λ n. IsPart words n count xs) e part

@@ -1,6 +1,5 @@
 -- A tap of the short stream, one lane of which loses three bits in its first line: both epochs have a full alignment.
-use Rattle.std.proofs.Common.{◌≡◌, ℕ, suc, zero, ◌+◌, ◌-◌, ◌*◌, ◌<◌, ◌≤◌, Bool, true, List, [], ◌∷◌, length, take, drop, refl, ap, ◌∙◌, sym, arith, inr}
-use Rattle.std.specs.Prelude.{slice_index}
+use Rattle.std.proofs.Common.{◌≡◌, ℕ, suc, zero, ◌+◌, ◌-◌, ◌<◌, ◌≤◌, Bool, true, List, [], ◌∷◌, length, take, drop, refl, ap, ◌∙◌, sym, arith, inr}
 use Rattle.std.proofs.lemmas.List.{length-map, take-take}
 use Rattle.tmds_word.specs.Bits.{bits_of, word_bits, row_bits, number, window}
 use Rattle.tmds_word.specs.Column.{blues, greens, reds}
@@ -68,9 +67,7 @@ no_pixel : control_column ≡ pixel_column → ⊥
 no_pixel e = cc
 
 others_same : (l : ℕ) → l < 3 → (l ≡ 0 → ⊥) → lane_of y l ≡ lane_of x l
-others_same zero lt apart = absurd (apart refl)
-others_same (suc zero) lt apart = refl
-others_same (suc (suc l)) lt apart = refl
+others_same l h k = grind arith
 
 slips : Slipped x 0 400 3 y
 slips = record { within = omega arith; few = (omega arith, omega arith); this = refl; others = others_same }
@@ -134,10 +131,7 @@ first_alignment start end far near =
       green_part = front (greens received) 77 833 start long_green (omega arith) (omega arith);
       red_part = front (reds received) 42 868 start long_red (omega arith) (omega arith);
     } in
-    let holds : HoldsEnd 7 skews ns 24 = record {
-      begins = each_lane (λ l. 7 + slice_index skews l + 120 ≤ 10 * 24) (omega arith) (omega arith) (omega arith);
-      reaches = each_lane (λ l. 10 * 24 + 10 ≤ 7 + slice_index skews l + slice_index ns l) (omega arith) (omega arith) (omega arith);
-    } in
+    let holds : HoldsEnd 7 skews ns 24 = grind arith in
     let h = first_until stream sent received reception 7 skews ns _ _ _ tap before 24 (record { after = after_first; spares = alone.spares 24; holds = holds }) in
     let blue_edges = edges_at stream sent received 7 skews counts x y 0 400 3 26 56 start tapped slips in_line end in (
       h.0,
@@ -161,10 +155,7 @@ second_alignment start far near =
       green_part = moved (greens received) (77 + start) (7 + start + 70) (833 - start) (drop start y.green) long_green (omega arith) (omega arith) (drop_part (greens received) 77 833 start);
       red_part = moved (reds received) (42 + start) (7 + start + 35) (868 - start) (drop start y.red) long_red (omega arith) (omega arith) (drop_part (reds received) 42 868 start);
     } in
-    let holds : HoldsEnd (7 + start) later ns 76 = record {
-      begins = each_lane (λ l. 7 + start + slice_index later l + 120 ≤ 10 * 76) (omega arith) (omega arith) (omega arith);
-      reaches = each_lane (λ l. 10 * 76 + 10 ≤ 7 + start + slice_index later l + slice_index ns l) (omega arith) (omega arith) (omega arith);
-    } in
+    let holds : HoldsEnd (7 + start) later ns 76 = grind arith in
     let h = first_until stream sent received reception (7 + start) later ns _ _ _ tap after 76 (record { after = after_second; spares = alone.spares 76; holds = holds }) in
     (h.0, h.1, h.2, h.3)
 

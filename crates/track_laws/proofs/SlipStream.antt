@@ -1,13 +1,14 @@
 -- A short stream of two lines that came with two damaged pixels of the first: the first of them, and the last of them as a
 -- control word.
-use Rattle.std.proofs.Common.{◌≡◌, ℕ, suc, zero, ◌+◌, ◌<◌, ◌≤◌, Bool, true, false, ◌&&◌, ◌||◌, ◌==◌, List, [], ◌∷◌, ◌++◌, map, length, take, drop, get_or, replicate, refl, ap, ap₂, sym, ◌∙◌, arith, inl, inr, nat_le, nat_lt}
+use Rattle.std.proofs.Common.{◌≡◌, ℕ, suc, zero, ◌+◌, ◌<◌, ◌≤◌, Bool, true, false, ◌&&◌, ◌||◌, ◌==◌, List, [], ◌∷◌, ◌++◌, map, length, take, drop, get_or, replicate, refl, ap₂, sym, ◌∙◌, arith, inl, inr, nat_le, nat_lt}
 use Rattle.std.specs.Prelude.{ℤ, pos, ◌+ℤ◌}
 use Rattle.std.proofs.lemmas.Bool.{cases_lt, cases_Bool, eqb-true, eq-eqb, leb-true, ltb-true}
 use Rattle.std.proofs.lemmas.List.{length-map, length-replicate, get_or_past, get_or-replicate}
 use Rattle.tmds_word.specs.Bits.{bits_of, word_bits, number, ones, zeros, balance}
 use Rattle.tmds_word.specs.Column.{Column, column_of, blues, greens, reds}
 use Rattle.tmds_word.proofs.Below.{and-left, and-right, passes_below, passes_at}
-use Rattle.tmds_code.specs.Coding.{null, sign_of, takes_xnor, minimised, balanced, coded_bits, coded_at}
+use Rattle.link_laws.proofs.Stream.{pays, pays_not, is_same, same_columns}
+use Rattle.tmds_code.specs.Coding.{null, takes_xnor, minimised, balanced, coded_bits, coded_at}
 use Rattle.tmds_code.specs.Lanes.{IsLane, disparity_of}
 use Rattle.terc4.specs.Tables.{control_words, video_guard}
 use Rattle.terc4.specs.Columns.{one_if}
@@ -116,14 +117,7 @@ level zero (suc j) = refl
 level (suc n) (suc j) = ap₂ (λ (x y : ℤ). x +ℤ y) level_test (level n j)
 
 lane : (n : ℕ) → IsLane (replicate n 16) (replicate n 0x1f0)
-lane n =
-    let a : length (replicate {A = ℕ} n 0x1f0) ≡ n = length-replicate n 0x1f0 in
-    let b : length (replicate {A = ℕ} n 16) ≡ n = length-replicate n 16 in
-    record {
-      same_length = omega arith;
-      coded = λ j lt. get_or-replicate n j 0x1f0 0 (omega arith) ∙ sym coded_test
-          ∙ sym (ap₂ (λ (d : ℤ) (byte : ℕ). coded_at (sign_of d) byte) (level n j) (get_or-replicate n j 16 0 (omega arith)));
-    }
+lane n = grind (arith, length-replicate, get_or-replicate, coded_test, level)
 
 spells_long : SpellsPixels (pixels_of long_line) (replicate 30 grey)
 unfolding pixels_of
@@ -170,10 +164,7 @@ unfolding unlike_words one_if
 none_unlike = refl
 
 unlike_past : (i : ℕ) → 91 ≤ i → unlike_at sent received i ≡ 0
-unlike_past i le =
-    let s = long_sent in
-    let r = long_received in
-    ap₂ (λ (a b : Column). unlike_words (column_words a) (column_words b)) (no_more sent s i le) (no_more received r i le) ∙ none_unlike
+unlike_past i le = grind (arith, long_sent, long_received, no_more, none_unlike)
 
 abbrev is_narrow : Column → Bool
 is_narrow c = nat_lt c.blue 1024 && (nat_lt c.green 1024 && nat_lt c.red 1024)
@@ -232,31 +223,6 @@ reception = record { conforming = conforming; spelled = spelled; sparse = sparse
 
 -- where damage is spared
 
-abbrev pays : Kind → Bool
-pays control_kind = false
-pays first_guard = false
-pays second_guard = false
-pays pixel_column = true
-pays packet_column = true
-
-pays_not : (k : Kind) → (IsPayload k → ⊥) → pays k ≡ false
-pays_not control_kind h = refl
-pays_not first_guard h = refl
-pays_not second_guard h = refl
-pays_not pixel_column h = absurd (h tt)
-pays_not packet_column h = absurd (h tt)
-
-abbrev is_same : Column → Column → Bool
-is_same c d = (c.blue == d.blue) && ((c.green == d.green) && (c.red == d.red))
-
-same_columns : (c d : Column) → is_same c d ≡ true → c ≡ d
-same_columns c d h =
-    let r = and-right (c.blue == d.blue) _ h in
-    let b = eqb-true _ _ (and-left _ _ h) in
-    let g = eqb-true _ _ (and-left _ _ r) in
-    let e = eqb-true _ _ (and-right (c.green == d.green) _ r) in
-    λ i. record { blue = b i; green = g i; red = e i }
-
 abbrev pays_or_same : ℕ → Bool
 pays_or_same i = pays (kind_at (kinds_of stream) i) || is_same (column_at received i) (column_at sent i)
 
@@ -290,21 +256,14 @@ is_pixel second_guard = false
 is_pixel packet_column = false
 
 pixel_of : (k : Kind) → is_pixel k ≡ true → k ≡ pixel_column
-pixel_of pixel_column h = refl
-pixel_of control_kind h = cc h
-pixel_of first_guard h = cc h
-pixel_of second_guard h = cc h
-pixel_of packet_column h = cc h
+pixel_of k h = grind arith
 
 pixels_test : passes_below 56 (λ i. nat_lt i 26 || is_pixel (kind_at (kinds_of stream) i)) ≡ true
 unfolding passes_below stream kinds_of kinds_in values_of
 pixels_test = refl
 
 not_less : (i n : ℕ) → n ≤ i → nat_lt i n ≡ false
-not_less i n le = elim (cases_Bool (nat_lt i n)) [
-  | inl less ↦ let lt = ltb-true i n less in absurd (omega arith)
-  | inr more ↦ more
-]
+not_less i n le = grind (arith, cases_Bool, ltb-true)
 
 pub pixels : (i : ℕ) → 26 ≤ i → i < 56 → kind_at (kinds_of stream) i ≡ pixel_column
 pixels i from to = pixel_of _ (or_second _ _ (passes_at 56 (λ i. nat_lt i 26 || is_pixel (kind_at (kinds_of stream) i)) i pixels_test to) (not_less i 26 from))
@@ -322,10 +281,7 @@ pub middle : (i : ℕ) → 27 ≤ i → i < 55 → get_or (blues received) i 0 �
 middle i from to = eqb-true _ _ (or_second _ _ (passes_at 55 (λ i. nat_lt i 27 || (get_or (blues received) i 0 == get_or (blues sent) i 0)) i middle_test to) (not_less i 27 from))
 
 unlike_column : (i : ℕ) → is_same (column_at received i) (column_at sent i) ≡ false → column_at received i ≡ column_at sent i → ⊥
-unlike_column i test e = clash _ (ap (λ c. is_same c (column_at sent i)) e ∙ same_as (column_at sent i)) test
-  where
-    same_as : (c : Column) → is_same c c ≡ true
-    same_as c = ap₂ (λ (x y : Bool). x && y) (eq-eqb c.blue c.blue refl) (ap₂ (λ (x y : Bool). x && y) (eq-eqb c.green c.green refl) (eq-eqb c.red c.red refl))
+unlike_column i test e = grind (arith, clash, eq-eqb)
 
 first_damaged : is_same (column_at received 26) (column_at sent 26) ≡ false
 unfolding received sent values_of control_words video_guard

@@ -1,14 +1,13 @@
 -- A lane that slips within the pixels of a line is calm, its characters are quiet where it slips, and a control period
 -- begins behind the line.
-use Rattle.std.proofs.Common.{◌≡◌, ℕ, suc, zero, ◌+◌, ◌-◌, ◌<◌, ◌≤◌, Bool, List, length, ap, ◌∙◌, sym, subst, arith, inl, inr}
+use Rattle.std.proofs.Common.{◌≡◌, ℕ, suc, zero, ◌+◌, ◌-◌, ◌<◌, Bool, List, length, ap, ◌∙◌, sym, subst, arith}
 use Rattle.std.specs.Prelude.{slice_index}
 use Rattle.std.proofs.lemmas.List.{length-map}
-use Rattle.tmds_word.specs.Bits.{turns, word_bits}
 use Rattle.tmds_word.specs.Column.{Column}
 use Rattle.tmds_word.specs.Taps.{IsPart}
 use Rattle.link_laws.specs.LaneEnds.{IsReceived, IsSent, damaged}
 use Rattle.island_pack.specs.Periods.{Period}
-use Rattle.island_pack.specs.Kinds.{Kind, control_column, pixel_column, IsPayload, kinds_of, kind_at}
+use Rattle.island_pack.specs.Kinds.{Kind, control_column, pixel_column, kinds_of, kind_at}
 use Rattle.island_pack.specs.Sparse.{IsSparseInPayload}
 use Rattle.link_laws.specs.Laws.{ReceivedOf}
 use Rattle.link_sink.specs.Sinks.{Fed}
@@ -44,16 +43,11 @@ sent_at ps sent received reception (suc (suc l)) =
     lane_sent (λ c. c.red) (kinds_of ps) sent (fitting_length (kinds_of ps) sent fit) (λ i lt. (at i lt).red)
 
 length_at : (cs : List Column) (l : ℕ) → length (words_at cs l) ≡ length cs
-length_at cs zero = length-map cs (λ c. c.blue)
-length_at cs (suc zero) = length-map cs (λ c. c.green)
-length_at cs (suc (suc l)) = length-map cs (λ c. c.red)
+length_at cs l = grind (arith, length-map)
 
 pub part_at : (ps : List Period) (sent received : List Column) (offset : ℕ) (skews counts : List ℕ) (x : Fed) → Received ps sent received offset skews counts x → (l : ℕ) → l < 3
     → IsPart (words_at received l) (offset + slice_index skews l) (slice_index counts l) (lane_of x l)
-part_at ps sent received offset skews counts x reception zero lt = reception.tapped.blue_part
-part_at ps sent received offset skews counts x reception (suc zero) lt = reception.tapped.green_part
-part_at ps sent received offset skews counts x reception (suc (suc zero)) lt = reception.tapped.red_part
-part_at ps sent received offset skews counts x reception (suc (suc (suc l))) lt = absurd (omega arith)
+part_at ps sent received offset skews counts x h k l = grind arith
 
 -- the three lanes
 pub calm_lanes : (ps : List Period) (sent received : List Column) (offset : ℕ) (skews counts : List ℕ) (x : Fed) → Received ps sent received offset skews counts x → IsSparseInPayload ps sent received
@@ -76,23 +70,7 @@ slips_at ps sent received offset skews counts x y lane place dropped first next 
     let part = part_at ps sent received offset skews counts x reception lane slip.within in
     let r = received_at ps sent received reception.reception s.alone lane in
     let sent_is = sent_at ps sent received reception.reception lane in
-    let same = reception.reception.sparse.same_length in
-    let a = length_at sent lane in
-    let b = length_at received lane in
-    let after = s.after in
-    let before = s.before in
-    let begins = s.begins in
-    record {
-      calm = r.calm;
-      within = part.within;
-      some = slip.few.0;
-      few = slip.few.1;
-      begins = begins;
-      ends = s.ends;
-      quiet = λ k lt under over.
-          subst (λ w. turns (word_bits w) ≤ 5) (sym (s.undamaged k under over))
-          (sent_is.others k (omega arith) (pixel_apart _ (s.pixels k (omega arith) (omega arith))));
-    }
+    grind (arith, length_at, pixel_apart)
 
 -- behind the line
 pub after_line : (ps : List Period) (sent received : List Column) (offset : ℕ) (skews counts : List ℕ) (lane place dropped first next : ℕ)
@@ -102,10 +80,7 @@ after_line ps sent received offset skews counts lane place dropped first next re
     let before = s.before in
     let begins = s.begins in
     let e : next - 1 + 1 ≡ next = omega arith in
-    let then : kind_at (kinds_of ps) next ≡ pixel_column → ⊥ = elim s.then [
-      | inl end ↦ λ p. pixel_apart _ p end.here
-      | inr other ↦ other
-    ] in
+    let then : kind_at (kinds_of ps) next ≡ pixel_column → ⊥ = grind (arith, pixel_apart) in
     subst (Twelve (kinds_of ps)) e
     (line_ends ps reception.conforming (next - 1) (s.pixels (next - 1) (omega arith) (omega arith)) (λ p. then (ap (kind_at (kinds_of ps)) (sym e) ∙ p)))
 
@@ -116,18 +91,4 @@ begins_control ps sent received offset skews counts lane place dropped first nex
     let t = after_line ps sent received offset skews counts lane place dropped first next reception s in
     let r = received_at ps sent received reception s.alone lane in
     let sent_is = sent_at ps sent received reception lane in
-    let kinds = sent_is.same_length in
-    let same = reception.sparse.same_length in
-    let a = length_at sent lane in
-    let b = length_at received lane in
-    let within = t.within in
-    let after = s.after in
-    let before = s.before in
-    let begins = s.begins in
-    record {
-      small = r.below;
-      within = omega arith;
-      after = omega arith;
-      control = λ k lt. r.controls (next + k) (omega arith) (t.control k lt);
-      before = λ k over under plain. r.payloads k (omega arith) (subst IsPayload (sym (s.pixels k (omega arith) under)) tt) plain;
-    }
+    grind (arith, length_at)

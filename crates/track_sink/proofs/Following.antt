@@ -21,11 +21,6 @@ lane_of_rest z fed zero = refl
 lane_of_rest z fed (suc zero) = refl
 lane_of_rest z fed (suc (suc l)) = refl
 
-lane_of_front : (z : ℕ) (fed : Fed) (l : ℕ) → lane_of (front_of z fed) l ≡ take z (lane_of fed l)
-lane_of_front z fed zero = refl
-lane_of_front z fed (suc zero) = refl
-lane_of_front z fed (suc (suc l)) = refl
-
 -- lanes that are the same, each by itself
 pub same_fed : (x y : Fed) → x.blue ≡ y.blue → x.green ≡ y.green → x.red ≡ y.red → x ≡ y
 same_fed x y b g r = λ i. record { blue = b i; green = g i; red = r i }
@@ -79,19 +74,8 @@ front_stays xs more start handed (inl reached) =
     ap (take handed) (drop-append-le start xs more (omega arith)) ∙ take-append-le handed (drop start xs) more (omega (arith, length-drop start xs))
 front_stays xs more start handed (inr none) = ap (λ us. take handed (drop start us)) (ap (λ us. xs ++ us) none ∙ append-nil xs)
 
-lane_front_stays : (x y : Fed) (start handed l : ℕ) → l < 3 → Grows x y → start + handed ≤ most_of x → take handed (drop start (lane_of y l)) ≡ take handed (drop start (lane_of x l))
-lane_front_stays x y start handed l lt grows reached =
-    let a = grows l lt in
-    ap (λ us. take handed (drop start us)) a.1
-    ∙ front_stays (lane_of x l) a.0 start handed (elim a.2 [
-      | inl longest ↦ inl (longest_is x (start + handed ≤ length (lane_of x l)) (λ m few e. let h = longest m few in omega arith))
-      | inr none ↦ inr none
-    ])
-
 pub fronts_stay : (x y : Fed) (start handed : ℕ) → Grows x y → start + handed ≤ most_of x → front_of handed (rest_of start y) ≡ front_of handed (rest_of start x)
-fronts_stay x y start handed grows reached =
-    same_fed (front_of handed (rest_of start y)) (front_of handed (rest_of start x))
-    (lane_front_stays x y start handed 0 (omega arith) grows reached) (lane_front_stays x y start handed 1 (omega arith) grows reached) (lane_front_stays x y start handed 2 (omega arith) grows reached)
+fronts_stay x y start handed grows reached = grind (arith, same_fed, front_stays)
 
 -- more bits come
 pub follows_grown : (x y : Fed) (start handed : ℕ) (begun : Bool) (epochs aligned : ℕ) (reported : List TrackEvent) → Grows x y → start + handed ≤ most_of x
@@ -160,14 +144,8 @@ rest_grows x y start grows reached l lt =
       ],
     )
 
--- bits that are all handed on
-all_front : (xs : List Bool) (start handed : ℕ) → length xs ≤ start + handed → take handed (drop start xs) ≡ drop start xs
-all_front xs start handed long = take_all handed (drop start xs) (omega (arith, length-drop start xs))
-
 pub whole_front : (fed : Fed) (start handed : ℕ) → most_of fed ≤ start + handed → front_of handed (rest_of start fed) ≡ rest_of start fed
-whole_front fed start handed all =
-    same_fed (front_of handed (rest_of start fed)) (rest_of start fed)
-    (all_front fed.blue start handed (omega arith)) (all_front fed.green start handed (omega arith)) (all_front fed.red start handed (omega arith))
+whole_front fed start handed all = grind (arith, same_fed, take_all, length-drop)
 
 -- lanes to which nothing comes
 pub same_grows : (fed : Fed) → Grows fed fed

@@ -1,5 +1,5 @@
 -- Eight bytes at a time: the 64 bits from a bit of a byte on, bits that move to where a byte begins, and bits that are put behind a few others.
-use Rattle.std.proofs.Common.{◌≡◌, ℕ, ◌+◌, ◌-◌, ◌*◌, ◌/◌, ◌%◌, ◌^◌, ◌<◌, ◌≤◌, Bool, List, [], ◌∷◌, ◌++◌, length, take, drop, take-take, get_or, refl, ap, ap₂, ◌∙◌, sym, subst, arith, append_assoc, append-nil, length-take, bit_and, bit_or}
+use Rattle.std.proofs.Common.{◌≡◌, ℕ, ◌+◌, ◌-◌, ◌*◌, ◌/◌, ◌%◌, ◌^◌, ◌<◌, ◌≤◌, Bool, List, [], ◌++◌, length, take, drop, take-take, get_or, refl, ap, ap₂, ◌∙◌, sym, subst, arith, append_assoc, append-nil, length-take, bit_and, bit_or}
 use Rattle.std.specs.Int.{w64, to_le_bytes}
 use Rattle.std.proofs.Math.Nat.{mod-eq_of_lt, mul-div_cancel, mul-mod_left}
 use Rattle.std.proofs.Math.Pow.{mod-mod-pow, pow_mono, shr_lt}
@@ -19,13 +19,7 @@ use Rattle.lane_align.proofs.Feeding.{bytes_drop}
 
 -- a byte of a list of bits
 byte_is : (bytes : List ℕ) (j : ℕ) → AreBytes bytes → j < length bytes → number (bytes_bits bytes) / 2 ^ (8 * j) % 256 ≡ get_or bytes j 0
-byte_is bytes j are within =
-    let n = number (bytes_bits (drop (j + 1) bytes)) in
-    let b = get_or bytes j 0 in
-    let few : b < 256 = are j in
-    let e : number (bytes_bits bytes) / 2 ^ (8 * j) ≡ b + 256 * n =
-    number_from j bytes are ∙ ap (λ bs. number (bytes_bits bs)) (drop_more bytes j 0 within) ∙ number_of_bytes b (drop (j + 1) bytes) few in
-    ap (λ m. m % 256) e ∙ omega arith
+byte_is bytes j are within = grind (arith, number_from, drop_more, number_of_bytes)
 
 -- the lowest 64 bits behind a few others, of 72
 shifted_low : (m bit : ℕ) → bit < 8 → m % 2 ^ 72 / 2 ^ bit % 2 ^ 64 ≡ m / 2 ^ bit % 2 ^ 64
@@ -56,15 +50,7 @@ word_is bytes at bit low high are few room l h =
 -- the eight bytes of a number
 low_first : (n : ℕ) → to_le_bytes w64 n ≡ bytes_of 8 n
 unfolding bytes_of
-low_first n =
-    let b : n / 256 % 256 ≡ n / 256 % 256 = refl in
-    let c : n / 65536 % 256 ≡ n / 256 / 256 % 256 = omega arith in
-    let d : n / 16777216 % 256 ≡ n / 256 / 256 / 256 % 256 = omega arith in
-    let e : n / 4294967296 % 256 ≡ n / 256 / 256 / 256 / 256 % 256 = omega arith in
-    let f : n / 1099511627776 % 256 ≡ n / 256 / 256 / 256 / 256 / 256 % 256 = omega arith in
-    let g : n / 281474976710656 % 256 ≡ n / 256 / 256 / 256 / 256 / 256 / 256 % 256 = omega arith in
-    let h : n / 72057594037927936 % 256 ≡ n / 256 / 256 / 256 / 256 / 256 / 256 / 256 % 256 = omega arith in
-    λ i. (n % 256) ∷ (b i ∷ (c i ∷ (d i ∷ (e i ∷ (f i ∷ (g i ∷ (h i ∷ [])))))))
+low_first n = grind arith
 
 -- the bits of a number that was read from a place of bits on
 pub word_bits : (bits : List Bool) (p w : ℕ) → p + 64 ≤ length bits → w ≡ number bits / 2 ^ p % 2 ^ 64 → bits_of 64 w ≡ take 64 (drop p bits)
@@ -77,12 +63,9 @@ word_bits bits p w room is =
 pub le_bits : (w : ℕ) → bytes_bits (to_le_bytes w64 w) ≡ bits_of 64 w
 le_bits w = ap bytes_bits (low_first w) ∙ bytes_of-bits 8 w
 
-none_moved : (bs : List ℕ) → bytes_bits (take 0 bs) ≡ []
-unfolding bytes_bits
-none_moved bs = refl
-
 pub words_begin : (bytes : List ℕ) (bits : List Bool) → bytes_bits (take (8 * 0) bytes) ≡ take (8 * (8 * 0)) bits
-words_begin bytes bits = none_moved bytes
+unfolding bytes_bits
+words_begin bytes bits = grind arith
 
 -- one word more has moved
 pub word_moved : (start was now : List ℕ) (at bit i k w : ℕ) → drop (8 * i) was ≡ drop (8 * i) start → length was ≡ length start → bit < 8 → at + 8 * i + 9 ≤ length start
@@ -211,9 +194,7 @@ settled_bits was now part new at k skip count within all is put moved =
     let here : drop at now ≡ new =
     ap (drop at) put ∙ drop_at (take at was) (new ++ drop k (drop at was)) at (length-take-le at was within)
     ∙ ap (λ us. new ++ us) (drop_all k (drop at was) (omega (arith, length-drop at was, all))) ∙ append-nil new in
-    let own : bytes_bits part ≡ drop (8 * at) (bytes_bits was) = ap bytes_bits is ∙ sym (bytes_drop at was) in
-    bytes_drop at now ∙ ap bytes_bits here ∙ moved
-    ∙ ap₂ (λ us vs. take count us ++ vs) (ap (drop skip) own ∙ drop-drop skip (8 * at) (bytes_bits was)) (ap (drop count) own ∙ drop-drop count (8 * at) (bytes_bits was))
+    grind (arith, bytes_drop, drop-drop)
 
 -- they may lie there
 pub settled_none : (was : List ℕ) (at skip count : ℕ) → skip ≡ 0 → drop (8 * at) (bytes_bits was) ≡ take count (drop (8 * at + skip) (bytes_bits was)) ++ drop (8 * at + count) (bytes_bits was)

@@ -20,7 +20,7 @@ use Rattle.link_sink.specs.LinkHearing.{link_is_grammar}
 use Rattle.link_sink.specs.Sinks.{Fed, IsReportedSoFar, IsGain}
 use Rattle.link_sink.specs.Alignment.{AreReported}
 use Rattle.link_sink.specs.declared.hear.Outcome.{Outcome}
-use Rattle.link_sink.proofs.Decided.{lock_of_run, first_decided, reported_so_far}
+use Rattle.link_sink.proofs.Decided.{lock_of_run, first_decided, reported_so_far, IsLeast, least_or_none, each_below}
 use Rattle.link_sink.proofs.Following.{reported_one, gains}
 use Rattle.link_sink.proofs.Prefixes.{columns_grow}
 use Rattle.track_sink.specs.TrackEvents.{TrackEvent, track_events_of, slip_if}
@@ -33,43 +33,6 @@ use Rattle.track_sink.proofs.Settling.{rest_no_longer}
 use Rattle.track_sink.proofs.Failing.{some_last}
 
 -- Whether an epoch ends.
-
--- the least number below a bound
-record IsLeast (P : ℕ → Type 0) (n p : ℕ) : Type 0 where
-  below : p < n
-  here : P p
-  least : (q : ℕ) → q < p → P q → ⊥
-
-none_more : (P : ℕ → Type 0) (n : ℕ) → ((k : ℕ) → k < n → P k → ⊥) → (P n → ⊥) → (k : ℕ) → k < suc n → P k → ⊥
-none_more P n below none k lt h = by (cases_lt k n)
-  where
-    by : (k < n) ⊎ (n ≤ k) → ⊥
-    by (inl less) = below k less h
-    by (inr le) = let e : k ≡ n = omega (arith, le, lt) in none (subst P e h)
-
-least_or_none : (P : ℕ → Type 0) (n : ℕ) → ((k : ℕ) → Dec (P k)) → ((p : ℕ) × IsLeast P n p) ⊎ ((k : ℕ) → k < n → P k → ⊥)
-least_or_none P zero decided = inr (λ k lt h. omega (arith, lt))
-least_or_none P (suc n) decided = by (least_or_none P n decided) (decided n)
-  where
-    by : ((p : ℕ) × IsLeast P n p) ⊎ ((k : ℕ) → k < n → P k → ⊥) → Dec (P n) → ((p : ℕ) × IsLeast P (suc n) p) ⊎ ((k : ℕ) → k < suc n → P k → ⊥)
-    by (inl l) here = inl (l.0, record { below = let lt = l.1.below in omega (arith, lt); here = l.1.here; least = l.1.least })
-    by (inr below) (yes here) = inl (n, record { below = omega arith; here = here; least = below })
-    by (inr below) (no none) = inr (none_more P n below none)
-
-each_below : (P : ℕ → Type 0) (n : ℕ) → ((k : ℕ) → Dec (P k)) → Dec ((k : ℕ) → k < n → P k)
-each_below P n decided = by (least_or_none (λ k. P k → ⊥) n (λ k. other (decided k)))
-  where
-    other : {Q : Type 0} → Dec Q → Dec (Q → ⊥)
-    other (yes q) = no (λ none. none q)
-    other (no none) = yes none
-
-    here : {Q : Type 0} → Dec Q → ((Q → ⊥) → ⊥) → Q
-    here (yes q) some = q
-    here (no none) some = absurd (some none)
-
-    by : ((p : ℕ) × IsLeast (λ k. P k → ⊥) n p) ⊎ ((k : ℕ) → k < n → (P k → ⊥) → ⊥) → Dec ((k : ℕ) → k < n → P k)
-    by (inl l) = no (λ all. l.1.here (all l.0 l.1.below))
-    by (inr all) = yes (λ k lt. here (decided k) (all k lt))
 
 control_decided : (xs : List Bool) (p : ℕ) → Dec (HasControl xs p)
 control_decided xs p = by (window xs p) refl
@@ -119,15 +82,7 @@ end_decided fed = by (least_or_none (LaneAt fed) (most_of fed) lane_decided)
     least : (place : ℕ) (here : IsLeast (LaneAt fed) (most_of fed) place) (l p : ℕ) → l < 3 → IsStray (lane_of fed l) p → (place < p) ⊎ ((place ≡ p) × (here.here.0 ≤ l))
     least place here l p lt stray = elim (cases_lt p place) [
       | inl before ↦ absurd (here.least p before (lane_at l p lt stray))
-      | inr le ↦ elim (cases_lt place p) [
-        | inl less ↦ inl less
-        | inr ge ↦
-            let same : place ≡ p = omega arith in
-            elim (cases_lt l here.here.0) [
-              | inl lower ↦ absurd (here.here.1.least l lower (subst (λ n. IsStray (lane_of fed l) n) (sym same) stray))
-              | inr higher ↦ inr (same, higher)
-            ]
-      ]
+      | inr le ↦ grind (arith, cases_lt)
     ]
 
     by : ((p : ℕ) × IsLeast (LaneAt fed) (most_of fed) p) ⊎ ((p : ℕ) → p < most_of fed → LaneAt fed p → ⊥) → ((lane place : ℕ) × IsEnd fed lane place) ⊎ HasNoEnd fed
@@ -178,10 +133,7 @@ closed_at fed start handed begun epochs aligned reported lane place reached le e
     let last = some_last (front_of (handed + (place - handed)) (rest_of start fed)) here.events here.so_far in
     let P : ℕ → Type 0 = λ n. IsEnd (rest_of start fed) lane n in
     let closed = follows_closed fed start (handed + (place - handed)) lane begun epochs aligned (reported ++ track_events_of us.0) last.0 last.1 reached (subst P e end) last.2 here in
-    let tail = track_events_of last.1 ++ slip_if (begun || last.0.aligned) lane (start + (handed + (place - handed))) in
-    let Q : ℕ → Type 0 = λ n. Follows fed (start + n) 0 (begun || last.0.aligned) (epochs + 1) (aligned + one_if last.0.aligned) ((reported ++ track_events_of us.0) ++ tail) in
-    let R : List TrackEvent → Type 0 = λ es. Follows fed (start + place) 0 (begun || last.0.aligned) (epochs + 1) (aligned + one_if last.0.aligned) es in
-    (begun || last.0.aligned, epochs + 1, aligned + one_if last.0.aligned, track_events_of us.0 ++ tail, subst R (append_assoc reported (track_events_of us.0) tail) (subst Q (sym e) closed))
+    grind (arith, append_assoc)
 
 -- in an epoch that goes on all is told but what its last bits decide
 goes_on_at : (fed : Fed) (start handed : ℕ) (begun : Bool) (epochs aligned : ℕ) (reported : List TrackEvent) → start + handed ≤ most_of fed → HasNoEnd (rest_of start fed) → handed % 8 ≡ 0

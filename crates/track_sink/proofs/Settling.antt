@@ -3,8 +3,6 @@ use Rattle.std.proofs.Common.{◌≡◌, ◌⊎◌, ℕ, suc, zero, ◌+◌, ◌
 use Rattle.terc4.specs.Columns.{one_if}
 use Rattle.lane_align.proofs.Controls.{run_within}
 use Rattle.lane_track.specs.Strays.{IsStray}
-use Rattle.lane_track.specs.declared.scout.Scout.{Scout}
-use Rattle.lane_track.specs.Scouts.{HasSought}
 use Rattle.period_grammar.specs.Events.{Event}
 use Rattle.std.specs.Prelude.{slice_index}
 use Rattle.link_sink.proofs.Feeding.{length_grown}
@@ -13,7 +11,7 @@ use Rattle.link_sink.specs.declared.hear.Outcome.{Outcome}
 use Rattle.track_sink.specs.TrackEvents.{TrackEvent, track_events_of}
 use Rattle.track_sink.specs.Epochs.{lane_of, rest_of, front_of, HasNoEnd, IsTrack}
 use Rattle.track_sink.specs.Tracks.{HasTracked}
-use Rattle.track_sink.specs.Lanes.{AreSought, EndsAt}
+use Rattle.track_sink.specs.Lanes.{EndsAt}
 use Rattle.track_sink.specs.Trackers.{most_of, most_fed, Follows, Carries, HasLooked, Stays, CanClose, Stands, IsSettled}
 use Rattle.track_sink.specs.declared.lanes.Stray.{Stray}
 use Rattle.track_sink.specs.declared.tracker.Tracker.{Tracker}
@@ -34,89 +32,32 @@ most_fed_is t fed c = ap₂ max c.first.fed (ap₂ max c.second.fed c.third.fed)
 -- Following.
 
 pub can_close : (t u : Tracker) (fed : Fed) (reported : List TrackEvent) (stray : Stray) → Stands t fed reported → Stays t u → EndsAt (rest_of t.start fed) stray × (t.handed ≤ stray.place) → CanClose u fed stray
-can_close t u fed reported stray s stays found =
-    let P : ℕ → Type 0 = λ n. EndsAt (rest_of n fed) stray in
-    let es = stays.start in
-    let eh = stays.handed in
-    let room = s.room in
-    let after = found.1 in
-    record {
-      carries = carries_stays t u fed stays s.carries;
-      whole = ap (λ n. n % 8) eh ∙ s.whole;
-      room = omega arith;
-      ends = subst P (sym es) found.0;
-      after = omega arith;
-    }
+can_close t u fed reported stray s stays found = grind (arith, carries_stays)
 
 pub follows_stays : (t u : Tracker) (fed : Fed) (reported : List TrackEvent) → Stays t u → Follows fed t.start t.handed t.begun t.epochs t.aligned reported → Follows fed u.start u.handed u.begun u.epochs u.aligned reported
 follows_stays t u fed reported s was = follows_at fed t.start u.start t.handed u.handed t.begun u.begun t.epochs u.epochs t.aligned u.aligned reported s.start s.handed s.begun s.epochs s.aligned was
 
 pub stands_closed : (u v : Tracker) (fed : Fed) (reported : List TrackEvent) (stray : Stray) → CanClose u fed stray → Carries v fed × HasLooked v fed → v.start ≡ u.start + stray.place → v.handed ≡ 0
     → Follows fed v.start v.handed v.begun v.epochs v.aligned reported → Stands v fed reported
-stands_closed u v fed reported stray can now es eh follows =
-    let room = can.room in
-    let after = can.after in
-    record { carries = now.0; looked = now.1; follows = follows; whole = ap (λ n. n % 8) eh; room = omega arith }
+stands_closed u v fed reported stray can now es eh follows = grind arith
 
 -- each epoch begins later than the one before
 pub start_rises : (t u v : Tracker) (fed : Fed) (stray : Stray) → Carries t fed → Stays t u → CanClose u fed stray → Carries v fed → v.start ≡ u.start + stray.place → most_fed v - v.start < most_fed t - t.start
-start_rises t u v fed stray ct s can cv e =
-    let far = end_is_far (rest_of u.start fed) stray.lane stray.place can.ends in
-    let a = most_fed_is t fed ct in
-    let b = most_fed_is v fed cv in
-    let within = cv.within in
-    let es = s.start in
-    omega arith
+start_rises t u v fed stray ct s can cv e = grind (arith, end_is_far, most_fed_is)
 
 pub room_stays : (t u : Tracker) (fed : Fed) (reported : List TrackEvent) → Stands t fed reported → Stays t u → most_of fed ≤ u.start + u.handed + 32894
-room_stays t u fed reported s stays =
-    let es = stays.start in
-    let eh = stays.handed in
-    let room = s.room in
-    omega arith
+room_stays t u fed reported s stays = grind arith
 
 -- what may be handed on once all places that are decided were looked at
 pub can_settle : (t : Tracker) (fed : Fed) → Carries t fed → HasLooked t fed → t.handed % 8 ≡ 0 → most_of fed ≤ t.start + t.handed + 32894
     → (t.handed ≤ t.seen / 8 * 8) × (t.start + t.handed + (t.seen / 8 * 8 - t.handed) ≤ most_of fed) × (t.seen / 8 * 8 - t.handed ≤ 32768)
-can_settle t fed c looked whole room =
-    let after = looked.after in
-    let within = c.within in
-    elim looked.decided [
-      | inl none ↦ (omega arith, omega arith, omega arith)
-      | inr far ↦ (omega arith, omega arith, omega arith)
-    ]
+can_settle t fed c looked whole room = grind arith
 
 pub settles : (u w : Tracker) (fed : Fed) (reported : List TrackEvent) (us : List Event) → HasLooked u fed × (most_of fed ≤ u.start + u.seen + 119) → u.handed % 8 ≡ 0 → most_of fed ≤ u.start + u.handed + 32894 → Carries u fed → Carries w fed
     → w.start ≡ u.start → w.handed ≡ u.handed + (u.seen / 8 * 8 - u.handed) → w.seen ≡ u.seen
     → w.lanes.first.scout ≡ u.lanes.first.scout → w.lanes.second.scout ≡ u.lanes.second.scout → w.lanes.third.scout ≡ u.lanes.third.scout
     → Follows fed w.start w.handed w.begun w.epochs w.aligned reported → IsSettled w fed reported
-settles u w fed reported us looked whole room cu cw es eh en sx sy sz follows =
-    let can = can_settle u fed cu looked.0 whole room in
-    let all = looked.1 in
-    let sought = looked.0.sought in
-    let P : ℕ → Type 0 = λ n. AreSought w.lanes n (rest_of u.start fed) in
-    let Q : ℕ → Type 0 = λ n. AreSought w.lanes w.seen (rest_of n fed) in
-    let here : AreSought w.lanes u.seen (rest_of u.start fed) = record {
-      first = subst (λ (s : Scout). HasSought (rest_of u.start fed).blue u.seen s.lock) (sym sx) sought.first;
-      second = subst (λ (s : Scout). HasSought (rest_of u.start fed).green u.seen s.lock) (sym sy) sought.second;
-      third = subst (λ (s : Scout). HasSought (rest_of u.start fed).red u.seen s.lock) (sym sz) sought.third;
-    } in
-    let e : w.handed ≡ u.seen / 8 * 8 = let h = can.0 in omega arith in
-    record {
-      stands = record {
-        carries = cw;
-        looked = record {
-          sought = subst Q (sym es) (subst P (sym en) here);
-          after = omega arith;
-          decided = elim looked.0.decided [ inl none ↦ inl (omega arith) | inr far ↦ inr (omega arith) ];
-        };
-        follows = follows;
-        whole = ap (λ n. n % 8) e ∙ omega arith;
-        room = omega arith;
-      };
-      all = omega arith;
-      near = omega arith;
-    }
+settles u w fed reported us looked whole room cu cw es eh en sx sy sz follows = grind (arith, can_settle)
 
 -- The end.
 
@@ -141,10 +82,7 @@ tracks_all t u v fed reported outcome us last longest settled most gain is_last 
     let follows = follows_reached t u fed longest reported us gain es eh eb ee ea settled.stands.follows in
     let P : ℕ → Type 0 = λ n. HasNoEnd (rest_of n fed) in
     let track = follows_last fed u.start u.handed u.begun u.epochs u.aligned (reported ++ track_events_of us) outcome last (omega arith) (subst P (sym es) (settled_no_end t fed reported settled)) is_last follows in
-    let Q : ℕ → Type 0 = λ n. IsTrack fed n (u.aligned + one_if outcome.aligned) ((reported ++ track_events_of us) ++ track_events_of last) in
-    let R : ℕ → Type 0 = λ n. IsTrack fed v.epochs n ((reported ++ track_events_of us) ++ track_events_of last) in
-    let S : List TrackEvent → Type 0 = λ track_events. IsTrack fed v.epochs v.aligned track_events in
-    subst S (append_assoc reported (track_events_of us) (track_events_of last) ∙ ap (λ track_events. reported ++ track_events) (sym (track_events_both us last))) (subst R (sym em) (subst Q (sym en) track))
+    grind (arith, append_assoc, track_events_both)
 
 -- What a settled tracker has told.
 

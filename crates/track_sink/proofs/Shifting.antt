@@ -84,12 +84,7 @@ pub all_after : (start : List Bool) (was now more : List ℕ) (few left : ℕ) �
 all_after start was now more few left lt room is held =
     let n = length more in
     let e : few + 8 * n ≡ 8 * n + few = omega arith in
-    let size : length now ≡ n + 1 = ap length is ∙ length-set was n left ∙ room in
-    ap (λ k. take k (bytes_bits now)) e
-    ∙ take_bytes now n few lt (omega arith)
-    ∙ ap₂ (λ bs b. bytes_bits bs ++ bits_of few b) (ap (take n) is ∙ take-set was n left) (ap (λ bs. get_or bs n 0) is ∙ get_or-set_same was n left 0 (omega arith))
-    ∙ held
-    ∙ ap (λ bs. start ++ bytes_bits bs) (take_all n more (omega arith))
+    grind (arith, length-set, take_bytes, take-set, get_or-set_same, take_all)
 
 -- Appending.
 
@@ -151,10 +146,7 @@ moved_first was now start count within moved =
 pub settled_first : (was now : List ℕ) (at skip start count : ℕ) → 8 * at + skip ≡ start → start + count ≤ 8 * length was
     → drop (8 * at) (bytes_bits now) ≡ take count (drop (8 * at + skip) (bytes_bits was)) ++ drop (8 * at + count) (bytes_bits was)
     → take count (drop (8 * at) (bytes_bits now)) ≡ take count (drop start (bytes_bits was))
-settled_first was now at skip start count e within settled =
-    ap (take count) settled
-    ∙ first_all (take count (drop (8 * at + skip) (bytes_bits was))) (drop (8 * at + count) (bytes_bits was)) count (length_held was (8 * at + skip) count (omega arith))
-    ∙ ap (λ n. take count (drop n (bytes_bits was))) e
+settled_first was now at skip start count e within settled = grind (arith, first_all, length_held)
 
 -- and what is held behind it
 pub settled_rest : (was now : List ℕ) (at skip start count : ℕ) → 8 * at + skip ≡ start → start + count ≤ 8 * length was

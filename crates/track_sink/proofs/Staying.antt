@@ -1,5 +1,5 @@
 -- An end that is found stays.
-use Rattle.std.proofs.Common.{◌≡◌, ◌⊎◌, ℕ, ◌+◌, ◌≤◌, Bool, List, [], ◌++◌, length, ap, ◌∙◌, sym, subst, arith, inl, inr, append-nil}
+use Rattle.std.proofs.Common.{◌≡◌, ◌⊎◌, ℕ, ◌+◌, ◌≤◌, Bool, List, [], ◌++◌, length, sym, subst, arith, inl, inr, append-nil}
 use Rattle.std.proofs.lemmas.Bool.{cases_lt}
 use Rattle.lane_align.proofs.Controls.{run_within}
 use Rattle.lane_track.specs.Strays.{IsStray}
@@ -10,10 +10,7 @@ use Rattle.track_sink.specs.Tracks.{Grows}
 
 -- a stray of a lane that has more bits, where its bits up to the end of the run had come or none came
 pub was_stray : (xs ys more : List Bool) (p : ℕ) → ys ≡ xs ++ more → (p + 120 ≤ length xs) ⊎ (more ≡ []) → IsStray ys p → IsStray xs p
-was_stray xs ys more p e known stray = elim known [
-  | inl long ↦ stray_was xs more p long (subst (λ us. IsStray us p) e stray)
-  | inr none ↦ subst (λ us. IsStray us p) (e ∙ ap (λ us. xs ++ us) none ∙ append-nil xs) stray
-]
+was_stray xs ys more p e known stray = grind (arith, stray_was, append-nil)
 
 pub end_stays : (before now : Fed) (lane place : ℕ) → IsEnd before lane place → Grows before now → IsEnd now lane place
 end_stays before now lane place end grows =

@@ -16,9 +16,4 @@ returns-in-Mended-clause-verdict c =
     c.in-Mended.ensures (bits_of_bytes block) (length-bits_of block) (remainder-bits_of block c.parity.result c.requires.least c.parity.ensures)
 
 pub returns-in_default : goal.returns-in_default
-returns-in_default c =
-    let block = c.args.block.now in
-    record {
-      verdict = c.verdict_of-verdict.ensures (bits_of_bytes block) (length-bits_of block) (remainder-bits_of block c.parity.result c.requires.least c.parity.ensures);
-      after = repairs_alone block c.verdict_of-verdict.result c.in_default.not-Mended;
-    }
+returns-in_default c = grind (arith, length-bits_of, remainder-bits_of, repairs_alone)

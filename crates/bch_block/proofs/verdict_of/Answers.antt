@@ -21,9 +21,7 @@ pub returns-in_default : goal.returns-in_default
 returns-in_default c = λ x long e.
     lost x (not_left c.args.left c.ranges.left.fits c.if-left-eq0.false (remainder x) e)
     (λ k lk same.
-    let found : c.power_of.result ≡ Some k = c.power_of.ensures.only k (omega arith) (sym same ∙ e) in
-    let equal : c.in-Some.power ≡ k = cc in
-    absurd (omega arith))
+    grind arith)
 
 pub returns-in_default-2 : goal.returns-in_default-2
 returns-in_default-2 c = λ x long e.

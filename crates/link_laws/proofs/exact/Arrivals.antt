@@ -1,7 +1,7 @@
 -- Columns that spell periods, whatever bit 3 of lane 0 is, arrive as themselves; and of what is told of them nothing is
 -- a fault.
-use Rattle.std.proofs.Common.{◌≡◌, ℕ, suc, zero, ◌+◌, ◌-◌, ◌<◌, ◌≤◌, ◌==◌, Bool, true, false, cond, not, List, [], ◌∷◌, ◌++◌, length, map, take, drop, get_or, slice_index, refl, ap, ap₂, sym, ◌∙◌, subst, arith, append_assoc}
-use Rattle.std.specs.Prelude.{nat_lt, nat_le, Option, Some, None, ℤ, pos, ◌+ℤ◌, count_by}
+use Rattle.std.proofs.Common.{◌≡◌, ℕ, suc, ◌+◌, ◌-◌, ◌<◌, ◌≤◌, Bool, true, false, cond, not, List, [], ◌∷◌, ◌++◌, length, map, take, drop, get_or, slice_index, refl, ap, ap₂, sym, ◌∙◌, subst, arith, append_assoc}
+use Rattle.std.specs.Prelude.{nat_lt, Option, Some, None, ℤ, pos, ◌+ℤ◌, count_by}
 use Rattle.std.specs.List.{list_all}
 use Rattle.std.proofs.Math.IntN.{+ℤ_assoc, +ℤ_idl, +ℤ_idr}
 use Rattle.std.proofs.lemmas.Bool.{eq-eqb, ltb-true, lt-ltb}
@@ -21,20 +21,19 @@ use Rattle.bch_block.specs.declared.Verdict.TheVariants.{Clean}
 use Rattle.island_pack.specs.Nibbles.{body_bits, is_foreign, foreign_on, foreign_words}
 use Rattle.island_pack.specs.Packets.{AreTerc, BeginsWith, body_of, CarriesFreely}
 use Rattle.island_pack.specs.Taken.{IsTaken, verdict_on, Taken, spotless}
-use Rattle.island_pack.specs.Periods.{ControlRun, Pixel, DataIsland, Period, control, video, island, values_of, pixels_of, period_columns, has_preamble as announces, VIDEO_PREAMBLE, ISLAND_PREAMBLE}
+use Rattle.island_pack.specs.Periods.{ControlRun, Pixel, DataIsland, Period, control, video, island, values_of, pixels_of, period_columns, has_preamble as announces, ISLAND_PREAMBLE}
 use Rattle.island_pack.specs.Conforming.{are_bytes}
 use Rattle.island_pack.specs.Spelling.{control_column, guard_column, guard_columns, column_words, SpellsPixels, freely, SpellsPacketsBy, SpellsPeriodBy, SpellsBy}
 use Rattle.island_pack.specs.Sparse.{unlike_words}
 use Rattle.island_pack.specs.declared.packet.Packet.{Packet}
-use Rattle.period_grammar.specs.Column.{sync_digit}
 use Rattle.period_grammar.specs.Coding.{is_coded, first_from, first_uncoded}
 use Rattle.island_pack.specs.Repaired.{verdicts_of}
-use Rattle.period_grammar.specs.Events.{Event, cut, open_island}
+use Rattle.period_grammar.specs.Events.{Event, cut}
 use Rattle.period_grammar.specs.Cut.{runs, stretches}
 use Rattle.period_grammar.specs.Island.{packet_faults, wrong_guards}
 use Rattle.period_grammar.specs.Heard.{code_fault, codes_of, heard, heard_so_far}
 use Rattle.island_pack.proofs.Repaired.{verdicts_are}
-use Rattle.link_laws.specs.Account.{control_row, wrong_preamble, open_video_row, open_island_row, close_island_row, video_row, video_reported, packet_reported, packets_reported, island_reported, period_row, account_from, account_at, account}
+use Rattle.link_laws.specs.Account.{control_row, open_video_row, open_island_row, close_island_row, video_row, video_reported, packet_reported, packets_reported, island_reported, period_row, account_from, account_at, account}
 use Rattle.link_laws.specs.Exact.{FrontIsClean}
 use Rattle.link_laws.specs.Whole.{WholeHeard}
 use Rattle.link_laws.proofs.Cutting.{AllControl, hear}
@@ -56,12 +55,7 @@ use Rattle.link_laws.proofs.exact.Faultless.{Fine, fine_both, guards_fine}
 
 same_column : (c : Column) → unlike c c ≡ 0
 unfolding unlike_words one_if
-same_column c =
-    let b = eq-eqb c.blue c.blue refl in
-    let g = eq-eqb c.green c.green refl in
-    let r = eq-eqb c.red c.red refl in
-    ap (λ p. one_if (not p) + (one_if (not (c.green == c.green)) + (one_if (not (c.red == c.red)) + 0))) b
-    ∙ ap₂ (λ (p q : Bool). 0 + (one_if (not p) + (one_if (not q) + 0))) g r
+same_column c = grind (arith, eq-eqb)
 
 same_words : (c : Column) → unlike c c ≤ 1
 same_words c = let e = same_column c in omega arith
@@ -97,10 +91,7 @@ packets_arrive first (p ∷ ps) pp h =
 
 period_arrives : (x : Period) (own : List Column) → HasValues (x ∷ []) → SpellsPeriodBy freely x own → ArrivesPeriod x own own
 unfolding HasValues
-period_arrives (control runs) own small h =
-    let vs = values_of runs in
-    subst (λ cs. ArrivesPeriod (control runs) cs cs) (sym h)
-    (controls runs (control_columns vs) (length-map vs control_column) (control_arrives (control_columns vs) (all_clean vs small.0)))
+period_arrives (control runs) own small h = grind (arith, ArrivesPeriod, controls, control_columns, length-map, control_arrives, all_clean)
 period_arrives (video bytes) own small h =
     subst (λ cs. ArrivesPeriod (video bytes) cs cs) (sym h.1) (pixels bytes line_guard line_guard h.0 h.0 (same_guards line_guard line_guard) (pixels_arrive (pixels_of bytes) h.0
     (lane_words _ _ (small_blue bytes small.0) h.2.blue) (lane_words _ _ (small_green bytes small.0) h.2.green) (lane_words _ _ (small_red bytes small.0) h.2.red)))
@@ -114,15 +105,11 @@ period_arrives (island x) own small h =
 
 first_values : (x : Period) (xs : List Period) → HasValues (x ∷ xs) → HasValues (x ∷ []) × HasValues xs
 unfolding HasValues
-first_values (control runs) xs h = ((h.0, tt), h.1)
-first_values (video bytes) xs h = ((h.0, tt), h.1)
-first_values (island x) xs h = (tt, h)
+first_values x xs h = grind arith
 
 arrive : (xs : List Period) (cs : List Column) → HasValues xs → SpellsBy freely xs cs → Arrives xs cs cs
 arrive [] cs small h = subst (λ cs. Arrives [] cs cs) (sym h) nothing
-arrive (x ∷ xs) cs small h =
-    let b = first_values x xs small in
-    subst (λ cs. Arrives (x ∷ xs) cs cs) (sym h.2) (more x xs h.0 h.0 h.1 h.1 (period_arrives x h.0 b.0 h.3) (arrive xs h.1 b.1 h.4))
+arrive (x ∷ xs) cs small h = grind (arith, first_values, Arrives, more, period_arrives, arrive xs)
 
 -- Lanes that are coded as they should be.
 
@@ -148,8 +135,7 @@ lane_none bs ws small lane =
     none_from (pos 0) 0 bs ws small lane.same_length (λ j lt. subst (λ d. Coded d (get_or bs j 0) (get_or ws j 0)) (sym (+ℤ_idl (disparity_of (take j ws)))) (lane.coded j lt))
 
 none_fine : (lane s : ℕ) (o : Option ℕ) → o ≡ None → Fine (code_fault lane s o)
-none_fine lane s None h = refl
-none_fine lane s (Some i) h = absurd cc
+none_fine lane s o h = grind arith
 
 codes_fine : (s : ℕ) (bytes : List ℕ) (pp : List Column) → are_bytes bytes ≡ true → SpellsPixels (pixels_of bytes) pp → Fine (codes_of s pp)
 unfolding codes_of
@@ -171,22 +157,13 @@ none_counted lane (w ∷ ws) h =
 
 none_foreign : (ws : List (List ℕ)) → ((lane : ℕ) → lane < 3 → AreTerc ws lane) → foreign_words ws ≡ 0
 unfolding foreign_words foreign_on
-none_foreign ws h =
-    let b = none_counted 0 ws (h 0 (omega arith)) in
-    let g = none_counted 1 ws (h 1 (omega arith)) in
-    let r = none_counted 2 ws (h 2 (omega arith)) in
-    omega arith
+none_foreign ws h = grind (arith, none_counted)
 
 clean_taken : (x : List Bool) (bytes : List ℕ) → BeginsWith x bytes → IsTaken x bytes Clean
 clean_taken x bytes b = record { found = b.block; begins = sym b.begins }
 
 clean_on : (b : ℕ) → b < 5 → verdict_on spotless b ≡ Clean
-clean_on zero lt = refl
-clean_on (suc zero) lt = refl
-clean_on (suc (suc zero)) lt = refl
-clean_on (suc (suc (suc zero))) lt = refl
-clean_on (suc (suc (suc (suc zero)))) lt = refl
-clean_on (suc (suc (suc (suc (suc b))))) lt = absurd (omega arith)
+clean_on b h = grind arith
 
 taken_spotless : (p : Packet) (ws : List (List ℕ)) → CarriesFreely p ws → Taken ws p spotless
 taken_spotless p ws c = record {
@@ -202,10 +179,6 @@ faults_none : (s : ℕ) (p : Packet) (own : List Column) → CarriesFreely p (ma
 faults_none s p own c = subst (λ v. Fine (packet_faults s v)) (verdicts_are (map column_words own) p spotless c.count (taken_spotless p (map column_words own) c)) refl
 
 -- Guard columns.
-
-sure_line : is_video_guard line_guard ≡ true
-unfolding is_video_guard video_guard
-sure_line = refl
 
 island_test : passes_below 4 (λ d. is_island_guard (guard_column d)) ≡ true
 unfolding passes_below is_island_guard is_twelve_or_more value_in terc_words island_guard
@@ -223,35 +196,17 @@ small_values runs h = h.0
 -- The account.
 
 cond_fine : (p : Bool) (ts us : List Event) → Fine ts → Fine us → Fine (cond p ts us)
-cond_fine true ts us h g = h
-cond_fine false ts us h g = g
+cond_fine p ts us h k = grind arith
 
 -- control columns of values that announce a period
 record Announced (bits : ℕ) (vs : List ℕ) : Type 0 where
   small : Small vs
   carry : announces bits vs ≡ true
 
-video_fine : (j m : ℕ) (vs bytes : List ℕ) (pp : List Column) → Announced VIDEO_PREAMBLE vs → are_bytes bytes ≡ true → SpellsPixels (pixels_of bytes) pp
-    → Fine (video_reported j m (control_columns vs) (pixels_of bytes) (line_guard ∷ (line_guard ∷ pp)) (line_guard ∷ (line_guard ∷ pp)))
-unfolding video_reported video_row open_video_row
-video_fine j zero vs bytes pp a small h = refl
-video_fine j (suc zero) vs bytes pp a small h = refl
-video_fine j (suc (suc i)) vs bytes pp a small h =
-    let led = wrong_preamble j VIDEO_PREAMBLE (control_columns vs) in
-    let guards = wrong_guards is_video_guard j line_guard line_guard in
-    let row = video_row j (pixels_of bytes) pp pp in
-    let end = cut (j + 2) ∷ [] in
-    fine_both (led ++ guards) (cond (nat_lt (length (pixels_of bytes)) i) row end)
-    (fine_both led guards (preamble_fine j VIDEO_PREAMBLE vs a.small a.carry) (guards_fine is_video_guard j line_guard line_guard sure_line sure_line))
-    (cond_fine (nat_lt (length (pixels_of bytes)) i) row end (codes_fine (j + 2) bytes pp small h) refl)
-
 packets_fine : (first : Bool) (x : DataIsland) → IsIsland x → (s : ℕ) (ps : List Packet) (i : ℕ) (pp : List Column) → SpellsPacketsBy freely first ps pp
     → Fine (packets_reported cut s ps i (pp ++ guard_columns x.closing) (pp ++ guard_columns x.closing))
 unfolding packets_reported packet_reported close_island_row
-packets_fine first x is s [] i pp h =
-    let after = guard_columns x.closing in
-    subst (λ (cs : List Column). Fine (packets_reported cut s [] i (cs ++ after) (cs ++ after))) (sym h)
-    (cond_fine (nat_le 2 i) (close_island_row s after) (cut s ∷ []) (pair_fine s x.closing.first x.closing.second is.close_first is.close_second) refl)
+packets_fine first x is s [] i pp h = grind (arith, Fine, cond_fine, pair_fine)
 packets_fine first x is s (p ∷ ps) i pp h =
     let after = guard_columns x.closing in
     let own = h.0 in
@@ -269,33 +224,16 @@ packets_fine first x is s (p ∷ ps) i pp h =
 island_fine : (j m : ℕ) (vs : List ℕ) (x : DataIsland) (pp : List Column) → Announced ISLAND_PREAMBLE vs → IsIsland x → SpellsPacketsBy freely true x.packets pp
     → Fine (island_reported j m (control_columns vs) x (frame x pp) (frame x pp))
 unfolding island_reported open_island_row
-island_fine j zero vs x pp a is h = refl
-island_fine j (suc zero) vs x pp a is h = refl
-island_fine j (suc (suc i)) vs x pp a is h =
-    let g = guard_column x.opening.first in
-    let e = guard_column x.opening.second in
-    let led = wrong_preamble j ISLAND_PREAMBLE (control_columns vs) in
-    let opens = open_island (sync_digit g.blue) (sync_digit e.blue) ∷ wrong_guards is_island_guard j g e in
-    let all = pp ++ guard_columns x.closing in
-    fine_both (led ++ opens) (packets_reported cut (j + 2) x.packets i all all)
-    (fine_both led opens (preamble_fine j ISLAND_PREAMBLE vs a.small a.carry) (pair_fine j x.opening.first x.opening.second is.open_first is.open_second))
-    (packets_fine true x is (j + 2) x.packets i pp h)
+island_fine j m vs x pp h k l = grind (arith, control_columns, fine_both, preamble_fine, pair_fine, packets_fine)
 
 inner_fine : (j m : ℕ) (vs : List ℕ) (x : Period) (own : List Column) → Small vs → IsInner vs x → SpellsPeriodBy freely x own → Fine (period_row j m (control_columns vs) x own own)
-unfolding period_row IsInner
-inner_fine j m vs (control runs) own small i h = absurd i
-inner_fine j m vs (video bytes) own small i h =
-    subst (λ cs. Fine (video_reported j m (control_columns vs) (pixels_of bytes) cs cs)) (sym h.1) (video_fine j m vs bytes h.0 (record { small = small; carry = i.0 }) i.1.small h.2)
-inner_fine j m vs (island x) own small i h =
-    subst (λ cs. Fine (island_reported j m (control_columns vs) x cs cs)) (sym h.1) (island_fine j m vs x h.0 (record { small = small; carry = i.0 }) i.1 h.2)
-
-nothing_fine : (j m : ℕ) (before : List Column) (cs : List Column) → cs ≡ [] → Fine (account_from j m before [] cs cs)
-unfolding account_from
-nothing_fine j m before cs e = refl
+unfolding period_row IsInner video_reported video_row open_video_row is_video_guard video_guard
+inner_fine j m vs x own h k l = grind (arith, Fine, control_columns, island_fine, line_guard, fine_both, preamble_fine, guards_fine, cond_fine, codes_fine)
 
 -- what follows control columns
 account_fine : (vs : List ℕ) (tail : List Period) → Follows vs tail → (j m : ℕ) (cs : List Column) → HasValues tail → SpellsBy freely tail cs → Fine (account_from j m (control_columns vs) tail cs cs)
-account_fine _ _ (ends vs c) j m cs small h = nothing_fine j m (control_columns vs) cs h
+unfolding account_from
+account_fine _ _ (ends vs c) j m cs small h = grind (arith, control_columns)
 account_fine _ _ (goes_on vs x runs rest c i f) j m cs small h =
     let own = h.0 in
     let later = h.1 in

@@ -8,8 +8,8 @@ use Rattle.tmds_word.specs.Column.{Column, column_of}
 use Rattle.tmds_word.proofs.Below.{and-left, and-right}
 use Rattle.terc4.specs.Tables.{video_guard}
 use Rattle.terc4.specs.Columns.{is_video_guard, is_island_guard}
-use Rattle.period_grammar.specs.Heard.{Kind, video, island, neither, lacks, line_bytes, opened, opening, in_payload, payload_closes, in_gap, at_close, at_end, heard, heard_so_far}
-use Rattle.island_pack.specs.Periods.{ControlRun, SyncPair, DataIsland, Period, values_of, has_preamble, VIDEO_PREAMBLE, ISLAND_PREAMBLE}
+use Rattle.period_grammar.specs.Heard.{Kind, video, island, neither, lacks, line_bytes, opened, opening, in_payload, payload_closes, in_gap, at_close, heard, heard_so_far}
+use Rattle.island_pack.specs.Periods.{ControlRun, Period, values_of, has_preamble, VIDEO_PREAMBLE, ISLAND_PREAMBLE}
 use Rattle.island_pack.specs.Periods as sends
 use Rattle.island_pack.specs.Conforming.{is_control_period, is_video_period, is_data_island, conforms}
 use Rattle.island_pack.specs.Spelling.{control_column, guard_column, freely, SpellsPeriodBy}
@@ -59,9 +59,7 @@ inner vs (sends.island x) = has_preamble ISLAND_PREAMBLE vs && is_data_island x
 pub conforms_more : (runs : List ControlRun) (x : Period) (rest : List Period) → is_control_period runs ≡ true → inner (values_of runs) x ≡ true → conforms rest ≡ true
     → conforms (sends.control runs ∷ (x ∷ rest)) ≡ true
 unfolding conforms
-conforms_more runs (sends.control r) rest c i h = absurd cc
-conforms_more runs (sends.video bytes) rest c i h = and_both _ _ c (and_both _ _ (and-left _ _ i) (and_both _ _ (and-right (has_preamble VIDEO_PREAMBLE (values_of runs)) _ i) h))
-conforms_more runs (sends.island x) rest c i h = and_both _ _ c (and_both _ _ (and-left _ _ i) (and_both _ _ (and-right (has_preamble ISLAND_PREAMBLE (values_of runs)) _ i) h))
+conforms_more runs x rest h k l = grind (arith, and_both, and-left, and-right)
 
 -- control columns and those of a period before a front
 more_front : (control own later : List Column) (x : Period) → list_all clean control ≡ true → 12 ≤ length control → inner (map value_of control) x ≡ true → SpellsPeriodBy freely x own → IsFront later
@@ -162,12 +160,7 @@ open_island_front g h [] before are = record {
   rest = flat (null_packet ∷ []) ++ closing;
   begins = refl;
 }
-open_island_front g h (p ∷ ps) before are = record {
-  own = g ∷ (h ∷ (flat (p ∷ ps) ++ closing));
-  is = island_of g h before (p ∷ ps) are (omega arith) (guard_column 0) (guard_column 0) zero_pair;
-  rest = closing;
-  begins = refl;
-}
+open_island_front g h (p ∷ ps) before are = grind (arith, flat (p ∷ ps), island_of g h before (p ∷ ps) are (omega arith) (guard_column 0) (guard_column 0) zero_pair)
 
 -- What is told of it.
 
@@ -184,11 +177,7 @@ going b control g h k rest = map event_of (all_at (b + 1) (opening b control g h
 
 going_fine : (b : ℕ) (control : List Column) (g h : Column) (k : Kind) (rest : List Column) → Fine (going b control g h k rest)
     → Fine (opening b control g h k) × Fine (map event_of (in_payload b k rest))
-going_fine b control g h k rest f =
-    let here = all_at (b + 1) (opening b control g h k) in
-    let more = in_payload b k rest in
-    let e = subst (λ (ts : List Event). Fine ts) (map-append event_of here more) f in
-    (subst (λ (ts : List Event). Fine ts) (events_at (b + 1) (opening b control g h k)) (fine_left (map event_of here) (map event_of more) e), fine_right (map event_of here) (map event_of more) e)
+going_fine b control g h k rest f = grind (arith, Fine, map-append, events_at, fine_left, fine_right)
 
 -- a gap that a control column closes
 pub record IsWhole (control gap : List Column) : Type 0 where
@@ -203,11 +192,7 @@ island_by f b control g h (parts ps t) bad before l long reported shut =
     record { long = lacks_long b control ISLAND_PREAMBLE l; of = island_spelled b control _ l (closed_island g h ps t before both.0 c) }
 
 whole_by : (b : ℕ) (control : List Column) (g h : Column) (k : Kind) (rest : List Column) → opened g h ≡ k → Fine (going b control g h k rest) → Fine (payload_closes b k rest) → IsWhole control (g ∷ (h ∷ rest))
-whole_by b control g h video rest e f c =
-    let reported = (going_fine b control g h video rest f).0 in
-    let l = fine_left (lacks b control VIDEO_PREAMBLE) (wrong_guards is_video_guard b g h) reported in
-    let sure = both_sure is_video_guard b g h (fine_right (lacks b control VIDEO_PREAMBLE) (wrong_guards is_video_guard b g h) reported) in
-    record { long = lacks_long b control VIDEO_PREAMBLE l; of = video_spelled b control g h rest sure.0 sure.1 l (line_fine b rest c) }
+whole_by b control g h video rest e f c = grind (arith, going_fine, fine_left, both_sure, fine_right, lacks_long, video_spelled, line_fine)
 whole_by b control g h island rest e f c =
     let both = going_fine b control g h island rest f in
     let led = lacks b control ISLAND_PREAMBLE in
@@ -220,8 +205,7 @@ whole_by b control g h neither rest e f c = let both = going_fine b control g h 
 
 pub gap_whole : (b : ℕ) (control : List Column) (g : Column) (gap : List Column) → Fine (gap_events b control (g ∷ gap)) → Fine (at_close b (g ∷ gap)) → IsWhole control (g ∷ gap)
 unfolding in_gap at_close
-gap_whole b control g [] f c = absurd cc
-gap_whole b control g (h ∷ rest) f c = whole_by b control g h (opened g h) rest refl f c
+gap_whole b control g gap h k = grind (arith, whole_by)
 
 -- a gap that the end cuts
 record IsLast (control gap : List Column) : Type 0 where
@@ -254,11 +238,7 @@ last_by b control g h video rest e f =
     }
 last_by b control g h island rest e f =
     let both = going_fine b control g h island rest f in
-    let led = lacks b control ISLAND_PREAMBLE in
-    let opens = open_island (sync_digit g.blue) (sync_digit h.blue) ∷ wrong_guards is_island_guard b g h in
-    let l = fine_left led opens both.0 in
-    let sure = both_sure is_island_guard b g h (fine_right led opens both.0) in
-    record { long = lacks_long b control ISLAND_PREAMBLE l; of = last_payload b control g h (payload rest) (both_guards g h sure.0 sure.1) l (split_long (length rest) rest) both.1 }
+    grind (arith, led, fine_left, both_sure, fine_right, lacks_long, last_payload, both_guards, split_long)
 last_by b control g h neither rest e f = let both = going_fine b control g h neither rest f in let n = both.0 in absurd cc
 
 -- All periods.
@@ -277,13 +257,7 @@ last_front b control g (h ∷ rest) c f =
 pub build : (j : ℕ) (xs : List Cut) → IsCut xs → Fine (hear j xs) → IsFront (front xs)
 build j [] were h = alone_front [] refl
 build j (stretch control [] ∷ []) were h = subst IsFront (sym (append-nil control)) (alone_front control (control_clean j control h))
-build j (stretch control (g ∷ gap) ∷ []) were h =
-    let b = j + length control in
-    let f = subst (λ (ts : List Event). Fine ts) (hear_last j control g gap) h in
-    let reported = control_reported j control in
-    let events = gap_events b control (g ∷ gap) in
-    let end = at_end b (g ∷ gap) in
-    last_front b control g gap (control_clean j control (fine_left reported (events ++ end) f)) (fine_left events end (fine_right reported (events ++ end) f))
+build j (stretch control (g ∷ gap) ∷ []) were h = grind (arith, Fine, hear_last, control_reported, gap_events, last_front, control_clean, fine_left, fine_right)
 build j (stretch [] [] ∷ (y ∷ ys)) were h = absurd were.1
 build j (stretch (k ∷ control) [] ∷ (y ∷ ys)) were h = absurd were.1
 build j (stretch control (g ∷ gap) ∷ (y ∷ ys)) were h =

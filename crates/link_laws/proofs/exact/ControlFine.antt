@@ -1,18 +1,18 @@
 -- Columns of control words tell their runs alone, and no fault.
-use Rattle.std.proofs.Common.{◌≡◌, ℕ, suc, zero, ◌+◌, ◌==◌, Bool, true, false, List, [], ◌∷◌, ◌++◌, length, map, take, refl, ap, ap₂, sym, ◌∙◌, subst}
+use Rattle.std.proofs.Common.{arith, ◌≡◌, ℕ, suc, zero, ◌+◌, ◌==◌, true, List, [], ◌∷◌, length, map, take, refl, ap, ap₂, sym, ◌∙◌, subst}
 use Rattle.std.specs.Prelude.{nat_lt}
 use Rattle.std.specs.List.{list_all}
 use Rattle.std.proofs.lemmas.Bool.{eqb-true, ltb-true}
 use Rattle.std.proofs.lemmas.List.{map-append}
 use Rattle.tmds_word.specs.Column.{Column}
 use Rattle.tmds_word.proofs.Below.{and-left, and-right, passes_below, passes_at}
-use Rattle.terc4.specs.Tables.{control_words, value_in, is_control}
+use Rattle.terc4.specs.Tables.{control_words, value_in}
 use Rattle.island_pack.specs.Periods.{has_preamble as announces}
 use Rattle.island_pack.specs.Spelling.{control_column}
 use Rattle.period_grammar.specs.Column.{control_bits, value_of}
 use Rattle.period_grammar.specs.Events.{Event, run, preamble, all_at, event_of}
-use Rattle.period_grammar.specs.Cut.{Run, columns, in_front, before_runs, runs}
-use Rattle.period_grammar.specs.Heard.{other_word, other_words, words, has_preamble, if_not}
+use Rattle.period_grammar.specs.Cut.{Run, columns, before_runs, runs}
+use Rattle.period_grammar.specs.Heard.{other_words, words, has_preamble, if_not}
 use Rattle.period_grammar.specs.Exact.{faultless}
 use Rattle.period_grammar.proofs.Hearings.{events_at}
 use Rattle.link_laws.specs.Account.{runs_row, control_row, wrong_preamble}
@@ -22,26 +22,12 @@ use Rattle.link_laws.proofs.exact.Controls.{clean_runs}
 
 -- Words and runs.
 
-word_none : (lane j : ℕ) (p : Bool) → p ≡ true → Fine (other_word lane j p)
-word_none lane j true h = refl
-word_none lane j false h = cc
-
 clean_column_fine : (j : ℕ) (c : Column) → clean c ≡ true → Fine (other_words j c)
 unfolding other_words
-clean_column_fine j c h =
-    let gr = and-right (is_control c.blue) _ h in
-    let g = other_word 1 j (is_control c.green) in
-    let r = other_word 2 j (is_control c.red) in
-    fine_both (other_word 0 j (is_control c.blue)) (g ++ r) (word_none 0 j _ (and-left _ _ h))
-    (fine_both g r (word_none 1 j _ (and-left _ _ gr)) (word_none 2 j _ (and-right (is_control c.green) _ gr)))
-
-clean_in_front : (p : Bool) (c : Column) (r : Run) (rs : List Run) → clean c ≡ true → clean_runs (r ∷ rs) ≡ true → clean_runs (in_front p c r rs) ≡ true
-clean_in_front true c (columns v cs) rs e h = and_both _ _ (and_both _ _ e (and-left _ _ h)) (and-right (list_all clean cs) _ h)
-clean_in_front false c r rs e h = and_both _ _ (and_both _ _ e refl) h
+clean_column_fine j c h = grind (arith, and-right, fine_both, and-left)
 
 clean_before : (c : Column) (rs : List Run) → clean c ≡ true → clean_runs rs ≡ true → clean_runs (before_runs c rs) ≡ true
-clean_before c [] e h = and_both _ _ (and_both _ _ e refl) refl
-clean_before c (r ∷ rs) e h = clean_in_front _ c r rs e h
+clean_before c rs h k = grind (arith, and_both, and-left, and-right, clean)
 
 runs_clean : (cs : List Column) → list_all clean cs ≡ true → clean_runs (runs cs) ≡ true
 unfolding runs

@@ -1,5 +1,5 @@
 -- Control columns of which no fault is told are those of their values.
-use Rattle.std.proofs.Common.{◌≡◌, ℕ, ◌+◌, ◌*◌, ◌/◌, ◌%◌, ◌<◌, ◌≤◌, Bool, true, false, ◌&&◌, List, [], ◌∷◌, ◌++◌, length, map, slice_index, refl, ap, ap₂, sym, ◌∙◌, subst, arith}
+use Rattle.std.proofs.Common.{◌≡◌, ℕ, ◌+◌, ◌<◌, ◌≤◌, Bool, true, ◌&&◌, List, [], ◌∷◌, ◌++◌, length, map, slice_index, refl, ap, ap₂, ◌∙◌, subst, arith}
 use Rattle.std.specs.Prelude.{nat_lt, nat_le}
 use Rattle.std.specs.List.{list_all}
 use Rattle.std.proofs.lemmas.Bool.{lt-ltb, le-leb, leb-true}
@@ -13,8 +13,8 @@ use Rattle.island_pack.specs.Conforming.{is_run, is_control_period}
 use Rattle.island_pack.specs.Spelling.{control_column}
 use Rattle.period_grammar.specs.Column.{control_bits, value_of}
 use Rattle.period_grammar.specs.Events.{Event, short, preamble, all_at, event_of}
-use Rattle.period_grammar.specs.Cut.{Run, columns, in_front, before_runs, runs}
-use Rattle.period_grammar.specs.Heard.{other_word, other_words, words, in_runs, last_run, ended, has_preamble, if_not, lacks}
+use Rattle.period_grammar.specs.Cut.{Run, columns, before_runs, runs}
+use Rattle.period_grammar.specs.Heard.{other_words, words, in_runs, last_run, ended, has_preamble, if_not, lacks}
 use Rattle.period_grammar.proofs.Hearings.{events_at}
 use Rattle.link_laws.proofs.Cutting.{control_reported}
 use Rattle.link_laws.proofs.Rows.{and_both, clean, control_columns, Small}
@@ -22,19 +22,9 @@ use Rattle.link_laws.proofs.exact.Faultless.{Fine, fine_left, fine_right, if_not
 
 -- Each word is a control word.
 
-word_fine : (lane j : ℕ) (p : Bool) → Fine (other_word lane j p) → p ≡ true
-word_fine lane j true h = refl
-word_fine lane j false h = cc
-
 column_clean : (j : ℕ) (c : Column) → Fine (other_words j c) → clean c ≡ true
 unfolding other_words
-column_clean j c h =
-    let b = other_word 0 j (is_control c.blue) in
-    let g = other_word 1 j (is_control c.green) in
-    let r = other_word 2 j (is_control c.red) in
-    let gr = fine_right b (g ++ r) h in
-    and_both _ _ (word_fine 0 j _ (fine_left b (g ++ r) h))
-    (and_both _ _ (word_fine 1 j _ (fine_left g r gr)) (word_fine 2 j _ (fine_right g r gr)))
+column_clean j c h = grind (arith, fine_right, and_both, fine_left)
 
 words_clean : (j : ℕ) (cs : List Column) → Fine (map event_of (words j cs)) → list_all clean cs ≡ true
 words_clean j [] h = refl
@@ -59,22 +49,13 @@ runs_fine j (columns v cs ∷ (s ∷ rs)) h =
     and_both _ _ (words_clean j cs (fine_left (map event_of (words j cs)) (map event_of rest) g))
     (runs_fine (j + length cs) (s ∷ rs) (fine_right (map event_of (words j cs)) (map event_of rest) g))
 
-lead_clean : (p : Bool) (c : Column) (r : Run) (rs : List Run) → clean_runs (in_front p c r rs) ≡ true → (clean c && clean_runs (r ∷ rs)) ≡ true
-lead_clean true c (columns v cs) rs h =
-    let one = and-left (list_all clean (c ∷ cs)) (clean_runs rs) h in
-    and_both _ _ (and-left _ _ one) (and_both _ _ (and-right (clean c) _ one) (and-right (list_all clean (c ∷ cs)) _ h))
-lead_clean false c r rs h = and_both _ _ (and-left _ _ (and-left _ _ h)) (and-right (list_all clean (c ∷ [])) _ h)
-
 first_clean : (c : Column) (rs : List Run) → clean_runs (before_runs c rs) ≡ true → (clean c && clean_runs rs) ≡ true
-first_clean c [] h = and_both _ _ (and-left _ _ (and-left _ _ h)) refl
-first_clean c (r ∷ rs) h = lead_clean _ c r rs h
+first_clean c rs h = grind (arith, and_both, and-left, clean, and-right)
 
 all_clean : (cs : List Column) → clean_runs (runs cs) ≡ true → list_all clean cs ≡ true
 unfolding runs
 all_clean [] h = refl
-all_clean (c ∷ cs) h =
-    let g = first_clean c (runs cs) h in
-    and_both _ _ (and-left _ _ g) (all_clean cs (and-right (clean c) _ g))
+all_clean (c ∷ cs) h = grind (arith, first_clean, and_both, and-left, and-right, clean, all_clean cs)
 
 pub control_clean : (j : ℕ) (cs : List Column) → Fine (control_reported j cs) → list_all clean cs ≡ true
 control_clean j cs h = all_clean cs (runs_fine j (runs cs) (fine_left (map event_of (in_runs j (runs cs))) (last_run (runs cs)) h))
@@ -93,22 +74,7 @@ bits_of_word = by_control IsBits
 
 clean_column : (c : Column) → clean c ≡ true → (value_of c < 64) × (c ≡ control_column (value_of c))
 unfolding value_of
-clean_column c h =
-    let gr = and-right (is_control c.blue) _ h in
-    let b = bits_of_word c.blue (and-left _ _ h) in
-    let g = bits_of_word c.green (and-left _ _ gr) in
-    let r = bits_of_word c.red (and-right (is_control c.green) _ gr) in
-    let bb = b.below in
-    let gb = g.below in
-    let rb = r.below in
-    let v = control_bits c.blue + 4 * control_bits c.green + 16 * control_bits c.red in
-    let eb : control_bits c.blue ≡ v % 4 = omega arith in
-    let eg : control_bits c.green ≡ v / 4 % 4 = omega arith in
-    let er : control_bits c.red ≡ v / 16 % 4 = omega arith in
-    let sb : c.blue ≡ slice_index control_words (v % 4) = sym b.word_is ∙ ap (slice_index control_words) eb in
-    let sg : c.green ≡ slice_index control_words (v / 4 % 4) = sym g.word_is ∙ ap (slice_index control_words) eg in
-    let sr : c.red ≡ slice_index control_words (v / 16 % 4) = sym r.word_is ∙ ap (slice_index control_words) er in
-    (omega arith, λ i. record { blue = sb i; green = sg i; red = sr i })
+clean_column c h = grind (arith, and-right, bits_of_word, and-left)
 
 pub columns_are : (cs : List Column) → list_all clean cs ≡ true → cs ≡ control_columns (map value_of cs)
 columns_are [] h = refl

@@ -1,6 +1,6 @@
 -- Lists of events with no fault among them.
-use Rattle.std.proofs.Common.{◌≡◌, ℕ, ◌+◌, Bool, true, false, not, List, ◌++◌, refl, ap₂, sym, ◌∙◌}
-use Rattle.std.specs.Prelude.{Option, Some, None}
+use Rattle.std.proofs.Common.{arith, ◌≡◌, ℕ, ◌+◌, Bool, true, false, not, List, ◌++◌, ap₂, sym, ◌∙◌}
+use Rattle.std.specs.Prelude.{Option, None}
 use Rattle.std.proofs.lemmas.List.Folds.{list_all-append}
 use Rattle.tmds_word.proofs.Below.{and-left, and-right}
 use Rattle.tmds_word.specs.Column.{Column}
@@ -23,29 +23,20 @@ pub fine_both : (ts us : List Event) → Fine ts → Fine us → Fine (ts ++ us)
 fine_both ts us h g = list_all-append (λ t. not (is_fault_event t)) ts us ∙ and_both _ _ h g
 
 pub if_not_fine : (p : Bool) (t : Event) → is_fault_event t ≡ true → Fine (if_not p t) → p ≡ true
-if_not_fine true t f h = refl
-if_not_fine false t f h = cc
+if_not_fine p t h k = grind arith
 
 pub if_so_fine : (p : Bool) (t : Event) → is_fault_event t ≡ true → Fine (if_so p t) → p ≡ false
-if_so_fine true t f h = cc
-if_so_fine false t f h = refl
+if_so_fine p t h k = grind arith
 
 pub code_fine : (lane s : ℕ) (o : Option ℕ) → Fine (code_fault lane s o) → o ≡ None
-code_fine lane s None h = refl
-code_fine lane s (Some i) h = cc
+code_fine lane s o h = grind arith
 
 pub not_false : (p : Bool) → not p ≡ false → p ≡ true
-not_false true h = refl
-not_false false h = cc
+not_false p h = grind arith
 
 -- two columns neither of which is told as no guard column
 pub both_sure : (is : Column → Bool) (b : ℕ) (g h : Column) → Fine (wrong_guards is b g h) → (is g ≡ true) × (is h ≡ true)
-both_sure is b g h f =
-    let first = if_so (not (is g)) (guard b) in
-    let second = if_so (not (is h)) (guard (b + 1)) in (
-      not_false _ (if_so_fine (not (is g)) (guard b) refl (fine_left first second f)),
-      not_false _ (if_so_fine (not (is h)) (guard (b + 1)) refl (fine_right first second f)),
-    )
+both_sure is b g h f = grind (arith, not_false, if_so_fine, fine_left, fine_right)
 
 pub guards_fine : (is : Column → Bool) (b : ℕ) (g h : Column) → is g ≡ true → is h ≡ true → Fine (wrong_guards is b g h)
 guards_fine is b g h e f = ap₂ (λ (p q : Bool). faultless (if_so (not p) (guard b) ++ if_so (not q) (guard (b + 1)))) e f

@@ -1,27 +1,20 @@
 -- The columns before the cut column are the front that is built: a cut is told by the end alone.
-use Rattle.std.proofs.Common.{◌≡◌, ℕ, ◌+◌, ◌*◌, ◌==◌, Bool, true, false, not, List, [], ◌∷◌, ◌++◌, length, map, take, refl, ap, sym, ◌∙◌, subst, arith, append_assoc, length-append, zero-add}
-use Rattle.std.specs.Prelude.{nat_le, Option, Some, None}
+use Rattle.std.proofs.Common.{◌≡◌, ℕ, ◌+◌, ◌*◌, Bool, true, false, not, List, [], ◌∷◌, ◌++◌, length, map, take, refl, ap, sym, ◌∙◌, subst, arith, append_assoc, length-append, zero-add}
 use Rattle.std.specs.List.{list_all}
 use Rattle.std.proofs.lemmas.List.{append-nil, map-append}
 use Rattle.std.proofs.lemmas.List.Folds.{list_all-append}
 use Rattle.std.proofs.Math.Seq.{take-append_seam}
 use Rattle.tmds_word.specs.Column.{Column}
 use Rattle.tmds_word.proofs.Below.{and-left, and-right}
-use Rattle.terc4.specs.Tables.{is_control}
-use Rattle.terc4.specs.Columns.{is_island_guard, is_video_guard}
 use Rattle.bch_block.specs.declared.Verdict.{Verdict}
-use Rattle.bch_block.specs.declared.Verdict.TheVariants.{Clean, Mended, Lost}
-use Rattle.period_grammar.specs.Column.{sync_digit}
-use Rattle.period_grammar.specs.Coding.{first_uncoded}
-use Rattle.island_pack.specs.Repaired.{verdicts_of}
-use Rattle.period_grammar.specs.Events.{Event, run, line, word, short, preamble, noise, empty, code, long_line, cut, open_island, packet, close_island, symbols, mended, lost, long_island, broken, guard, EventAt, all_at, event_of}
+use Rattle.period_grammar.specs.Events.{Event, cut, guard, EventAt, all_at, event_of}
 use Rattle.period_grammar.specs.Cut.{Stretch as Cut, stretch, stretches, Run, columns, runs}
-use Rattle.period_grammar.specs.Island.{Payload, parts, when, if_so, block_fault, block_faults, packet_faults, packet_events, in_packets, closing_events, left_at, payload, in_left, in_island, breaks, wrong_guards, begins_close, in_closing}
-use Rattle.period_grammar.specs.Heard.{other_word, other_words, words, ended, in_runs, last_run, if_not, Kind, video, island, neither, lacks, has_preamble, code_fault, codes_of, line_of, opened, opening, in_payload, in_gap, payload_closes, at_close, payload_ends, at_end, heard_so_far, heard}
+use Rattle.period_grammar.specs.Island.{Payload, parts, when, if_so, block_fault, block_faults, packet_events, in_packets, closing_events, payload, in_left, in_island, breaks, wrong_guards, in_closing}
+use Rattle.period_grammar.specs.Heard.{other_words, words, ended, in_runs, last_run, if_not, Kind, video, island, neither, codes_of, line_of, opened, opening, in_gap, payload_closes, at_close, payload_ends, at_end, heard_so_far, heard}
 use Rattle.period_grammar.proofs.Joined.{IsCut, joined, joined_stretches, cut_stretches}
 use Rattle.link_laws.proofs.Cutting.{control_reported, hear, gap_events, hear_last, hear_on}
 use Rattle.link_laws.proofs.Rows.{and_both}
-use Rattle.period_grammar.specs.Exact.{cut_or, cut_column, whole_part}
+use Rattle.period_grammar.specs.Exact.{cut_column, whole_part}
 use Rattle.period_grammar.proofs.Hearings.{events_at}
 use Rattle.link_laws.proofs.exact.Islands.{is_broken, flat, flat_of, AreLong, LongOf, split_flat, split_long}
 use Rattle.link_laws.proofs.exact.Building.{island_front, payload_front, gap_front, front}
@@ -39,12 +32,10 @@ both : (ts us : List Event) → Uncut ts → Uncut us → Uncut (ts ++ us)
 both ts us h g = list_all-append uncut ts us ∙ and_both _ _ h g
 
 uncut_if_not : (p : Bool) (t : Event) → uncut t ≡ true → Uncut (if_not p t)
-uncut_if_not true t h = refl
-uncut_if_not false t h = and_both _ _ h refl
+uncut_if_not p t h = grind (arith, and_both)
 
 uncut_if : (p : Bool) (t : Event) → uncut t ≡ true → Uncut (if_so p t)
-uncut_if true t h = and_both _ _ h refl
-uncut_if false t h = refl
+uncut_if p t h = grind (arith, and_both)
 
 uncut_at : (j : ℕ) (ts : List Event) → Uncut ts → Uncut (map event_of (all_at j ts))
 uncut_at j ts h = subst (λ (us : List Event). Uncut us) (sym (events_at j ts)) h
@@ -52,15 +43,9 @@ uncut_at j ts h = subst (λ (us : List Event). Uncut us) (sym (events_at j ts)) 
 reported_both : (ts us : List EventAt) → Uncut (map event_of ts) → Uncut (map event_of us) → Uncut (map event_of (ts ++ us))
 reported_both ts us h g = subst (λ (vs : List Event). Uncut vs) (sym (map-append event_of ts us)) (both (map event_of ts) (map event_of us) h g)
 
-uncut_word : (lane j : ℕ) (p : Bool) → Uncut (other_word lane j p)
-uncut_word lane j true = refl
-uncut_word lane j false = refl
-
 uncut_column : (j : ℕ) (c : Column) → Uncut (other_words j c)
 unfolding other_words
-uncut_column j c =
-    both (other_word 0 j (is_control c.blue)) _ (uncut_word 0 j (is_control c.blue))
-    (both (other_word 1 j (is_control c.green)) _ (uncut_word 1 j (is_control c.green)) (uncut_word 2 j (is_control c.red)))
+uncut_column j c = grind (arith, both)
 
 uncut_words : (j : ℕ) (cs : List Column) → Uncut (map event_of (words j cs))
 uncut_words j [] = refl
@@ -80,22 +65,14 @@ uncut_last (r ∷ (s ∷ rs)) = uncut_last (s ∷ rs)
 uncut_control : (j : ℕ) (control : List Column) → Uncut (control_reported j control)
 uncut_control j control = both (map event_of (in_runs j (runs control))) (last_run (runs control)) (uncut_runs j (runs control)) (uncut_last (runs control))
 
-uncut_lacks : (b : ℕ) (control : List Column) (bits : ℕ) → Uncut (lacks b control bits)
-uncut_lacks b control bits = both (if_not (nat_le 12 (length control)) (short b)) _ (uncut_if_not _ (short b) refl) (uncut_if_not (has_preamble bits control) (preamble b) refl)
-
 uncut_guards : (is : Column → Bool) (s : ℕ) (c d : Column) → Uncut (wrong_guards is s c d)
 uncut_guards is s c d = both (if_so (not (is c)) (guard s)) _ (uncut_if (not (is c)) (guard s) refl) (uncut_if (not (is d)) (guard (s + 1)) refl)
 
 uncut_opening : (b : ℕ) (control : List Column) (g h : Column) (k : Kind) → Uncut (opening b control g h k)
-uncut_opening b control g h video = both (lacks b control 1) _ (uncut_lacks b control 1) (uncut_guards is_video_guard b g h)
-uncut_opening b control g h island =
-    both (lacks b control 5) (open_island (sync_digit g.blue) (sync_digit h.blue) ∷ wrong_guards is_island_guard b g h) (uncut_lacks b control 5) (uncut_guards is_island_guard b g h)
-uncut_opening b control g h neither = refl
+uncut_opening b control g h k = grind (arith, both, uncut_guards, uncut_if_not)
 
 uncut_block : (s b : ℕ) (v : Verdict) → Uncut (block_fault s b v)
-uncut_block s b Clean = refl
-uncut_block s b (Mended i) = refl
-uncut_block s b Lost = refl
+uncut_block s b v = grind arith
 
 uncut_blocks : (s b : ℕ) (vs : List Verdict) → Uncut (block_faults s b vs)
 uncut_blocks s b [] = refl
@@ -103,105 +80,40 @@ uncut_blocks s b (v ∷ vs) = both (block_fault s b v) (block_faults s (b + 1) v
 
 uncut_packet : (s k : ℕ) (p : List Column) → Uncut (packet_events s k p)
 unfolding packet_events
-uncut_packet s k p =
-    let v = verdicts_of p in
-    both (packet_faults s v) (if_so (k == 18) (long_island s))
-    (both (if_so (not (v.symbols == 0)) (symbols s v.symbols)) (block_faults s 0 v.blocks) (uncut_if _ (symbols s v.symbols) refl) (uncut_blocks s 0 v.blocks)) (uncut_if (k == 18) (long_island s) refl)
+uncut_packet s k p = grind (arith, both, uncut_if, uncut_blocks)
 
 uncut_packets : (s k : ℕ) (ps : List (List Column)) → Uncut (map event_of (in_packets s k ps))
 uncut_packets s k [] = refl
 uncut_packets s k (p ∷ ps) = reported_both (all_at (s + 31) (packet_events s k p)) (in_packets (s + 32) (k + 1) ps) (uncut_at (s + 31) (packet_events s k p) (uncut_packet s k p)) (uncut_packets (s + 32) (k + 1) ps)
 
-uncut_closing : (b s k : ℕ) (c d : Column) → Uncut (closing_events b s k c d)
-unfolding closing_events
-uncut_closing b s k c d = both (wrong_guards is_island_guard s c d) _ (uncut_guards is_island_guard s c d) (uncut_if (k == 0) (empty b) refl)
-
-uncut_when : (p : Bool) (ts : List EventAt) → Uncut (map event_of ts) → Uncut (map event_of (when p ts))
-uncut_when true ts h = h
-uncut_when false ts h = refl
-
 uncut_in_closing : (b s k : ℕ) (t : List Column) → Uncut (map event_of (in_closing b s k t))
-uncut_in_closing b s k [] = refl
-uncut_in_closing b s k (c ∷ []) = refl
-uncut_in_closing b s k (c ∷ (d ∷ [])) = uncut_at (s + 1) (closing_events b s k c d) (uncut_closing b s k c d)
-uncut_in_closing b s k (c ∷ (d ∷ (e ∷ cs))) =
-    reported_both (all_at (s + 1) (closing_events b s k c d)) (all_at (s + 2) (noise (s + 2) ∷ [])) (uncut_at (s + 1) (closing_events b s k c d) (uncut_closing b s k c d)) refl
+unfolding closing_events
+uncut_in_closing b s k t = grind (arith, uncut_at, reported_both, both, uncut_guards, uncut_if)
 
 uncut_left : (b s k : ℕ) (t : List Column) → Uncut (map event_of (in_left b s k t))
-uncut_left b s k t = uncut_when (begins_close t) (in_closing b s k t) (uncut_in_closing b s k t)
-
-uncut_island : (b : ℕ) (p : Payload) → Uncut (map event_of (in_island b p))
-unfolding in_island
-uncut_island b (parts ps t) = reported_both (in_packets (b + 2) 0 ps) (in_left b (left_at b ps) (length ps) t) (uncut_packets (b + 2) 0 ps) (uncut_left b (left_at b ps) (length ps) t)
-
-uncut_payload : (b : ℕ) (k : Kind) (rest : List Column) → Uncut (map event_of (in_payload b k rest))
-uncut_payload b video rest = refl
-uncut_payload b island rest = uncut_island b (payload rest)
-uncut_payload b neither rest = refl
+uncut_left b s k t = grind (arith, uncut_in_closing)
 
 uncut_gap : (b : ℕ) (control gap : List Column) → Uncut (gap_events b control gap)
-unfolding in_gap
-uncut_gap b control [] = refl
-uncut_gap b control (g ∷ []) = refl
-uncut_gap b control (g ∷ (h ∷ rest)) =
-    let events = opening b control g h (opened g h) in
-    reported_both (all_at (b + 1) events) (in_payload b (opened g h) rest) (uncut_at (b + 1) events (uncut_opening b control g h (opened g h))) (uncut_payload b (opened g h) rest)
-
-uncut_code : (lane s : ℕ) (o : Option ℕ) → Uncut (code_fault lane s o)
-uncut_code lane s None = refl
-uncut_code lane s (Some i) = refl
+unfolding in_gap in_island
+uncut_gap b control gap = grind (arith, reported_both, uncut_at, uncut_opening, uncut_packets, uncut_left)
 
 uncut_codes : (s : ℕ) (cs : List Column) → Uncut (codes_of s cs)
 unfolding codes_of
-uncut_codes s cs =
-    both (code_fault 0 s (first_uncoded (map (λ c. c.blue) cs))) _ (uncut_code 0 s (first_uncoded (map (λ c. c.blue) cs)))
-    (both (code_fault 1 s (first_uncoded (map (λ c. c.green) cs))) _ (uncut_code 1 s (first_uncoded (map (λ c. c.green) cs))) (uncut_code 2 s (first_uncoded (map (λ c. c.red) cs))))
-
-uncut_line : (b : ℕ) (cs : List Column) → Uncut (line_of b cs)
-unfolding line_of
-uncut_line b [] = refl
-uncut_line b (c ∷ cs) = both (codes_of (b + 2) (take 4096 (c ∷ cs))) _ (uncut_codes (b + 2) (take 4096 (c ∷ cs))) (uncut_if_not (nat_le (length (c ∷ cs)) 4096) (long_line b) refl)
-
-uncut_breaks : (b : ℕ) (p : Payload) → Uncut (breaks broken b p)
-uncut_breaks b (parts ps t) = uncut_if (is_broken t) (broken (left_at b ps)) refl
+uncut_codes s cs = grind (arith, both)
 
 uncut_closes : (b : ℕ) (k : Kind) (rest : List Column) → Uncut (payload_closes b k rest)
-uncut_closes b video rest = uncut_line b rest
-uncut_closes b island rest = uncut_breaks b (payload rest)
-uncut_closes b neither rest = refl
+unfolding line_of
+uncut_closes b k rest = grind (arith, uncut_if, is_broken, both, uncut_codes, uncut_if_not)
 
 uncut_close : (b : ℕ) (gap : List Column) → Uncut (at_close b gap)
 unfolding at_close
-uncut_close b [] = refl
-uncut_close b (g ∷ []) = refl
-uncut_close b (g ∷ (h ∷ rest)) = uncut_closes b (opened g h) rest
+uncut_close b gap = grind (arith, uncut_closes)
 
 -- The cut column.
 
-same_or : (n : ℕ) (t : Event) → uncut t ≡ true → cut_or n t ≡ n
-same_or n (cut c) h = absurd cc
-same_or n (run v k) h = refl
-same_or n (line bytes) h = refl
-same_or n (word a b) h = refl
-same_or n (short a) h = refl
-same_or n (preamble a) h = refl
-same_or n (noise a) h = refl
-same_or n (empty a) h = refl
-same_or n (code a b) h = refl
-same_or n (long_line a) h = refl
-same_or n (open_island a b) h = refl
-same_or n (packet p v s) h = refl
-same_or n (close_island a b) h = refl
-same_or n (symbols a b) h = refl
-same_or n (mended a b c) h = refl
-same_or n (lost a b) h = refl
-same_or n (long_island a) h = refl
-same_or n (broken a) h = refl
-same_or n (guard a) h = refl
-
 cut_after : (n : ℕ) (ts us : List Event) → Uncut ts → cut_column n (ts ++ us) ≡ cut_column n us
 cut_after n [] us h = refl
-cut_after n (t ∷ ts) us h = same_or (cut_column n (ts ++ us)) t (and-left _ _ h) ∙ cut_after n ts us (and-right (uncut t) _ h)
+cut_after n (t ∷ ts) us h = grind (arith, and-left, and-right, cut_after n ts us)
 
 uncut_column_is : (n : ℕ) (ts : List Event) → Uncut ts → cut_column n ts ≡ n
 uncut_column_is n ts h = ap (cut_column n) (sym (append-nil ts)) ∙ cut_after n ts [] h
@@ -210,44 +122,17 @@ length-flat : (ps : List (List Column)) → AreLong ps → length (flat ps) ≡ 
 length-flat [] h = refl
 length-flat (p ∷ ps) h = let ih = length-flat ps h.1 in let n = length-append p (flat ps) in let e = h.0 in omega arith
 
-island_cut : (q : Bool) (n b : ℕ) (ps : List (List Column)) (t : List Column) → is_broken t ≡ q → AreLong ps → n ≡ b + (2 + length (flat ps ++ t))
-    → cut_column n (if_so q (cut (left_at b ps))) ≡ b + (2 + length (flat ps ++ when (not q) t))
-island_cut true n b ps t e long h = let l = length-flat ps long in let a = length-append (flat ps) [] in omega arith
-island_cut false n b ps t e long h = h
-
 payload_cut : (n b : ℕ) (p : Payload) → LongOf p → n ≡ b + (2 + length (flat_of p)) → cut_column n (breaks cut b p) ≡ b + (2 + length (island_front p))
-payload_cut n b (parts ps t) long h = island_cut (is_broken t) n b ps t refl long h
+payload_cut n b (parts ps t) long h = grind (arith, is_broken, length-flat, length-append, flat)
 
 kind_cut : (n b : ℕ) (k : Kind) (rest : List Column) → n ≡ b + (2 + length rest) → cut_column n (payload_ends b k rest) ≡ b + (2 + length (payload_front k rest))
-kind_cut n b video rest h = omega arith
-kind_cut n b island rest h =
-    payload_cut n b (payload rest) (split_long (length rest) rest) (h ∙ ap (λ (xs : List Column). b + (2 + length xs)) (sym (split_flat (length rest) rest)))
-kind_cut n b neither rest h = h
-
-gap_cut : (n b : ℕ) (g : Column) (gap : List Column) → n ≡ b + length (g ∷ gap) → cut_column n (at_end b (g ∷ gap)) ≡ b + length (gap_front (g ∷ gap))
-unfolding at_end
-gap_cut n b g [] h = omega arith
-gap_cut n b g (h ∷ rest) e =
-    let k = kind_cut n b (opened g h) rest (omega arith) in
-    omega arith
+kind_cut n b k rest h = grind (arith, payload_cut, split_long, split_flat)
 
 front_cut : (j : ℕ) (xs : List Cut) → IsCut xs → cut_column (j + length (joined xs)) (hear j xs) ≡ j + length (front xs)
+unfolding at_end
 front_cut j [] were = refl
 front_cut j (stretch control [] ∷ []) were = uncut_column_is (j + length (control ++ [])) (control_reported j control) (uncut_control j control)
-front_cut j (stretch control (g ∷ gap) ∷ []) were =
-    let b = j + length control in
-    let n = j + length (control ++ ((g ∷ gap) ++ [])) in
-    let reported = control_reported j control in
-    let events = gap_events b control (g ∷ gap) in
-    let end = at_end b (g ∷ gap) in
-    let a = length-append control ((g ∷ gap) ++ []) in
-    let c = length-append (g ∷ gap) [] in
-    let d = length-append control (gap_front (g ∷ gap)) in
-    let e = gap_cut n b g gap (omega arith) in
-    ap (cut_column n) (hear_last j control g gap)
-    ∙ cut_after n reported (events ++ end) (uncut_control j control)
-    ∙ cut_after n events end (uncut_gap b control (g ∷ gap))
-    ∙ omega arith
+front_cut j (stretch control (g ∷ gap) ∷ []) were = grind (arith, control_reported, gap_events, length-append, gap_front, hear_last, cut_after, uncut_control, uncut_gap, kind_cut)
 front_cut j (stretch [] [] ∷ (y ∷ ys)) were = absurd were.1
 front_cut j (stretch (k ∷ control) [] ∷ (y ∷ ys)) were = absurd were.1
 front_cut j (stretch control (g ∷ gap) ∷ (y ∷ ys)) were =

@@ -1,12 +1,12 @@
 -- A data island of which no fault is told: its columns spell its packets.
-use Rattle.std.proofs.Common.{◌≡◌, ℕ, suc, zero, ◌+◌, ◌<◌, ◌≤◌, ◌==◌, Bool, true, false, not, ◌&&◌, ◌||◌, List, [], ◌∷◌, ◌++◌, length, map, take, drop, slice_index, refl, ap, ap₂, sym, ◌∙◌, subst, arith, inl, inr, append_assoc, length-take-le, is_some}
-use Rattle.std.specs.Prelude.{nat_lt, Option, Some, None}
+use Rattle.std.proofs.Common.{◌≡◌, ℕ, suc, zero, ◌+◌, ◌<◌, ◌≤◌, ◌==◌, Bool, true, false, not, ◌&&◌, ◌||◌, List, [], ◌∷◌, ◌++◌, length, map, take, drop, slice_index, refl, ap, ap₂, sym, ◌∙◌, subst, arith, append_assoc, length-take-le, is_some}
+use Rattle.std.specs.Prelude.{nat_lt, Option}
 use Rattle.std.specs.List.{list_all}
 use Rattle.std.proofs.lemmas.Bool.{cases_lt, eqb-true, eq-eqb, lt-ltb, le-leb, ltb-true, true≢false}
 use Rattle.std.proofs.lemmas.List.{map-append, length-map, take-append-drop}
 use Rattle.tmds_word.specs.Column.{Column}
 use Rattle.tmds_word.proofs.Below.{and-left, and-right}
-use Rattle.terc4.specs.Tables.{terc_words, island_guard, value_in}
+use Rattle.terc4.specs.Tables.{terc_words, value_in}
 use Rattle.terc4.specs.Columns.{is_twelve_or_more, is_island_guard}
 use Rattle.terc4.proofs.Members.{passes_all, passes_in, is_some-value_in}
 use Rattle.island_pack.specs.Nibbles.{nibble_of}
@@ -16,8 +16,8 @@ use Rattle.island_pack.specs.Spelling.{guard_column, guard_columns, freely, Spel
 use Rattle.period_grammar.specs.Column.{sync_digit}
 use Rattle.island_pack.specs.Spelling.{column_words}
 use Rattle.island_pack.specs.Repaired.{packet_of, verdicts_of}
-use Rattle.period_grammar.specs.Events.{Event, long_island, empty, noise, event_of, all_at}
-use Rattle.period_grammar.specs.Island.{Payload, parts, with_packet, split_by, when, if_so, packet_faults, packet_events, in_packets, closing_events, left_at, holds_packet, split, in_left, in_island, begins_close, wrong_guards}
+use Rattle.period_grammar.specs.Events.{Event, long_island, event_of, all_at}
+use Rattle.period_grammar.specs.Island.{Payload, parts, with_packet, split_by, if_so, packet_faults, packet_events, in_packets, closing_events, left_at, holds_packet, split, in_left, in_island, begins_close}
 use Rattle.period_grammar.proofs.Islands.{holds_long}
 use Rattle.period_grammar.proofs.Hearings.{events_at}
 use Rattle.link_laws.proofs.Rows.{and_both}
@@ -72,10 +72,7 @@ pub record ArePackets (first : Bool) (k : ℕ) (ps : List (List Column)) : Type 
   pub few : k + length ps ≤ 18
 
 fewer : (k : ℕ) → k ≤ 18 → (k == 18) ≡ false → k < 18
-fewer k le h = elim (cases_lt k 18) [
-  | inl lt ↦ lt
-  | inr ge ↦ let e : k ≡ 18 = omega arith in absurd (true≢false (sym (eq-eqb k 18 e) ∙ h))
-]
+fewer k le h = grind (arith, cases_lt, eq-eqb)
 
 pub packets_fine : (first : Bool) (s k : ℕ) (ps : List (List Column)) → AreLong ps → k ≤ 18 → Fine (map event_of (in_packets s k ps)) → ArePackets first k ps
 unfolding packet_events
@@ -107,12 +104,10 @@ guard_test = refl
 
 twelve_some : (o : Option ℕ) → is_twelve_or_more o ≡ true → is_some o ≡ true
 unfolding is_twelve_or_more
-twelve_some None h = absurd cc
-twelve_some (Some v) h = refl
+twelve_some o h = grind arith
 
 or_right : (p q : Bool) → p ≡ true → (not p || q) ≡ true → q ≡ true
-or_right true q e h = h
-or_right false q e h = cc
+or_right p q h k = grind arith
 
 guard_is_word : (w : ℕ) → is_twelve_or_more (value_in terc_words w) ≡ true → ((slice_index terc_words (12 + sync_digit w) == w) && nat_lt (sync_digit w) 4) ≡ true
 unfolding guard_word
@@ -122,11 +117,7 @@ pub guard_is : (c : Column) → is_island_guard c ≡ true → (c ≡ guard_colu
 unfolding is_island_guard
 guard_is c h =
     let both = guard_is_word c.blue (and-left _ _ h) in
-    let gr = and-right (is_twelve_or_more (value_in terc_words c.blue)) _ h in
-    let b = sym (eqb-true _ c.blue (and-left _ _ both)) in
-    let g = eqb-true c.green island_guard (and-left _ _ gr) in
-    let r = eqb-true c.red island_guard (and-right (c.green == island_guard) _ gr) in
-    (λ i. record { blue = b i; green = g i; red = r i }, ltb-true _ 4 (and-right (slice_index terc_words (12 + sync_digit c.blue) == c.blue) _ both))
+    grind (arith, and-right, eqb-true, and-left, ltb-true)
 
 -- two guard columns, and their sync digits
 pub record AreGuards (g h : Column) : Type 0 where
@@ -155,41 +146,13 @@ pub record IsClosed (k : ℕ) (t : List Column) : Type 0 where
   pub columns : t ≡ first ∷ (second ∷ [])
   pub some : 1 ≤ k
 
-some_packets : (k : ℕ) → (k == 0) ≡ false → 1 ≤ k
-some_packets zero h = absurd cc
-some_packets (suc k) h = omega arith
-
-closing_fine : (b s k : ℕ) (c d : Column) → Fine (closing_events b s k c d) → IsClosed k (c ∷ (d ∷ []))
-unfolding closing_events
-closing_fine b s k c d h =
-    let wrong = wrong_guards is_island_guard s c d in
-    let none = if_so (k == 0) (empty b) in
-    let sure = both_sure is_island_guard s c d (fine_left wrong none h) in
-    record {
-      first = c;
-      second = d;
-      guards = both_guards c d sure.0 sure.1;
-      columns = refl;
-      some = some_packets k (if_so_fine (k == 0) (empty b) refl (fine_right wrong none h));
-    }
-
 -- whether what is left begins with no closing guard
 abbrev pub is_broken : List Column → Bool
 is_broken t = not (begins_close t)
 
 pub closed_fine : (b s k : ℕ) (t : List Column) → is_broken t ≡ false → Fine (map event_of (in_left b s k t)) → IsClosed k t
-closed_fine b s k [] e h = absurd cc
-closed_fine b s k (c ∷ []) e h = absurd cc
-closed_fine b s k (c ∷ (d ∷ [])) e h =
-    let f = subst (λ p. Fine (map event_of (when p (all_at (s + 1) (closing_events b s k c d))))) (not_false _ e) h in
-    closing_fine b s k c d (subst (λ (ts : List Event). Fine ts) (events_at (s + 1) (closing_events b s k c d)) f)
-closed_fine b s k (c ∷ (d ∷ (x ∷ cs))) e h =
-    let here = all_at (s + 1) (closing_events b s k c d) in
-    let more = all_at (s + 2) (noise (s + 2) ∷ []) in
-    let f = subst (λ p. Fine (map event_of (when p (here ++ more)))) (not_false _ e) h in
-    let g = subst (λ (ts : List Event). Fine ts) (map-append event_of here more) f in
-    let last = fine_right (map event_of here) (map event_of more) g in
-    absurd cc
+unfolding closing_events
+closed_fine b s k t h l = grind (arith, Fine, not_false, events_at, both_sure, fine_left, both_guards, if_so_fine, fine_right, map-append)
 
 -- The whole island.
 
@@ -205,9 +168,7 @@ island_of g h before ps are some c d close =
     let few = are.few in
     record {
       x = record { opening = before.pair; packets = map packet_of ps; closing = close.pair };
-      conforms =
-          and_both _ _ (and_both _ _ (and_both _ _ before.first before.second) (and_both _ _ close.first close.second))
-          (and_both _ _ are.conforms (and_both _ _ (le-leb 1 (length (map packet_of ps)) (omega arith)) (le-leb (length (map packet_of ps)) 18 (omega arith))));
+      conforms = grind (arith, and_both, le-leb);
       spelled = (flat ps, ap₂ (λ (xs ys : List Column). xs ++ (flat ps ++ ys)) before.columns close.columns, are.spelled);
     }
 

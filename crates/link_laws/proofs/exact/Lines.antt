@@ -1,13 +1,13 @@
 -- A line of which no fault is told: its columns spell its bytes.
-use Rattle.std.proofs.Common.{◌≡◌, ℕ, suc, zero, ◌+◌, ◌*◌, ◌/◌, ◌%◌, ◌<◌, ◌≤◌, ◌==◌, Bool, true, false, cond, not, List, [], ◌∷◌, ◌++◌, length, map, take, get_or, refl, ap, ap₂, sym, ◌∙◌, subst, arith, ◌^◌}
-use Rattle.std.specs.Prelude.{nat_lt, nat_le, Option, Some, None, ℤ, pos, ◌+ℤ◌}
+use Rattle.std.proofs.Common.{◌≡◌, ℕ, suc, zero, ◌+◌, ◌*◌, ◌<◌, ◌≤◌, Bool, true, cond, List, [], ◌∷◌, length, map, take, get_or, refl, ap, ap₂, sym, subst, arith}
+use Rattle.std.specs.Prelude.{nat_le, Option, Some, None, ℤ, pos, ◌+ℤ◌}
 use Rattle.std.proofs.Math.IntN.{+ℤ_assoc, +ℤ_idl, +ℤ_idr}
 use Rattle.std.proofs.lemmas.Bool.{eqb-true, eq-eqb, lt-ltb, le-leb, leb-true}
 use Rattle.std.proofs.lemmas.List.{take_all, length-map, get_or-map}
-use Rattle.tmds_word.specs.Bits.{bits_of, word_bits, number, balance}
+use Rattle.tmds_word.specs.Bits.{word_bits, balance}
 use Rattle.tmds_word.specs.Column.{Column, column_of}
 use Rattle.tmds_word.proofs.Below.{and-left, and-right}
-use Rattle.tmds_code.specs.Coding.{Coded, inverted, unchained, restored, decoded_bits, decoded_byte}
+use Rattle.tmds_code.specs.Coding.{Coded, decoded_byte}
 use Rattle.tmds_code.specs.Lanes.{disparity_of, IsLane}
 use Rattle.terc4.specs.Tables.{video_guard}
 use Rattle.terc4.specs.Columns.{is_video_guard}
@@ -16,7 +16,7 @@ use Rattle.island_pack.specs.Conforming.{are_bytes, is_video_period}
 use Rattle.island_pack.specs.Spelling.{SpellsPixels}
 use Rattle.period_grammar.specs.Coding.{is_coded, first_from, first_uncoded}
 use Rattle.period_grammar.specs.Events.{long_line}
-use Rattle.period_grammar.specs.Heard.{if_not, line_bytes, code_fault, codes_of, line_of}
+use Rattle.period_grammar.specs.Heard.{if_not, line_bytes, codes_of, line_of}
 use Rattle.link_laws.proofs.Rows.{and_both}
 use Rattle.link_laws.proofs.exact.Faultless.{Fine, fine_left, fine_right, if_not_fine, code_fine}
 use Rattle.period_grammar.proofs.Bytes.{decoded_below}
@@ -24,8 +24,7 @@ use Rattle.period_grammar.proofs.Bytes.{decoded_below}
 -- One lane.
 
 cond_none : (p : Bool) (o : Option ℕ) (n : ℕ) → cond p o (Some n) ≡ None → (p ≡ true) × (o ≡ None)
-cond_none true o n h = (refl, h)
-cond_none false o n h = absurd cc
+cond_none p o n h = grind arith
 
 coded_from : (d : ℤ) (n : ℕ) (ws : List ℕ) → first_from d n ws ≡ None → (j : ℕ) → j < length ws → Coded (d +ℤ disparity_of (take j ws)) (decoded_byte (get_or ws j 0)) (get_or ws j 0)
 unfolding disparity_of is_coded
@@ -46,13 +45,10 @@ lane_of ws h = record {
 
 -- Bytes.
 
-byte_small : (w : ℕ) → nat_lt (decoded_byte w) 256 ≡ true
-byte_small w = lt-ltb _ 256 (decoded_below w)
-
 line_small : (cs : List Column) → are_bytes (line_bytes cs) ≡ true
 unfolding line_bytes
 line_small [] = refl
-line_small (c ∷ cs) = and_both _ _ (byte_small c.red) (and_both _ _ (byte_small c.green) (and_both _ _ (byte_small c.blue) (line_small cs)))
+line_small (c ∷ cs) = grind (arith, and_both, lt-ltb, decoded_below, line_small cs)
 
 line_long : (cs : List Column) → length (line_bytes cs) ≡ 3 * length cs
 unfolding line_bytes
@@ -61,10 +57,7 @@ line_long (c ∷ cs) = let ih = line_long cs in omega arith
 
 pub line_period : (cs : List Column) → 1 ≤ length cs → length cs ≤ 4096 → is_video_period (line_bytes cs) ≡ true
 unfolding is_video_period
-line_period cs some few =
-    let n = line_long cs in
-    and_both _ _ (line_small cs)
-    (and_both _ _ (eq-eqb (length (line_bytes cs) % 3) 0 (omega arith)) (and_both _ _ (le-leb 1 (length (line_bytes cs) / 3) (omega arith)) (le-leb (length (line_bytes cs) / 3) 4096 (omega arith))))
+line_period cs some few = grind (arith, line_long, and_both, line_small, eq-eqb, le-leb)
 
 -- Pixels.
 
@@ -80,23 +73,9 @@ lane_seen : (f : Pixel → ℕ) (g : Column → ℕ) → ((c : Column) → f (se
 lane_seen f g e [] = refl
 lane_seen f g e (c ∷ cs) = ap₂ (λ (x : ℕ) (xs : List ℕ). x ∷ xs) (e c) (lane_seen f g e cs)
 
-lane_spelled : (f : Pixel → ℕ) (g : Column → ℕ) → ((c : Column) → f (seen c) ≡ decoded_byte (g c)) → (cs : List Column) → first_uncoded (map g cs) ≡ None
-    → IsLane (map f (pixels_of (line_bytes cs))) (map g cs)
-lane_spelled f g e cs h =
-    subst (λ bs. IsLane bs (map g cs)) (sym (ap (map f) (pixels_seen cs) ∙ lane_seen f g e cs)) (lane_of (map g cs) h)
-
 pub line_spelled : (s : ℕ) (cs : List Column) → Fine (codes_of s cs) → SpellsPixels (pixels_of (line_bytes cs)) cs
 unfolding codes_of
-line_spelled s cs h =
-    let b = first_uncoded (map (λ c. c.blue) cs) in
-    let g = first_uncoded (map (λ c. c.green) cs) in
-    let r = first_uncoded (map (λ c. c.red) cs) in
-    let gr = fine_right (code_fault 0 s b) (code_fault 1 s g ++ code_fault 2 s r) h in
-    record {
-      blue = lane_spelled (λ p. p.blue) (λ c. c.blue) (λ c. refl) cs (code_fine 0 s b (fine_left (code_fault 0 s b) (code_fault 1 s g ++ code_fault 2 s r) h));
-      green = lane_spelled (λ p. p.green) (λ c. c.green) (λ c. refl) cs (code_fine 1 s g (fine_left (code_fault 1 s g) (code_fault 2 s r) gr));
-      red = lane_spelled (λ p. p.red) (λ c. c.red) (λ c. refl) cs (code_fine 2 s r (fine_right (code_fault 1 s g) (code_fault 2 s r) gr));
-    }
+line_spelled s cs h = grind (arith, fine_right, code_fine, fine_left, pixels_seen, lane_seen, lane_of)
 
 -- a line that closes without a fault
 pub record IsLine (cs : List Column) : Type 0 where
@@ -120,9 +99,4 @@ line_fine b (c ∷ cs) h =
 
 pub guard_is : (c : Column) → is_video_guard c ≡ true → c ≡ column_of video_guard
 unfolding is_video_guard
-guard_is c h =
-    let gr = and-right (c.blue == _) _ h in
-    let b = eqb-true c.blue _ (and-left _ _ h) in
-    let g = eqb-true c.green _ (and-left _ _ gr) in
-    let r = eqb-true c.red _ (and-right (c.green == _) _ gr) in
-    λ i. record { blue = b i; green = g i; red = r i }
+guard_is c h = grind (arith, and-right, eqb-true, and-left)

@@ -1,6 +1,6 @@
 -- A packet of which no fault is told: its columns carry it, whatever bit 3 of lane 0 is.
-use Rattle.std.proofs.Common.{◌≡◌, ℕ, suc, zero, ◌+◌, ◌*◌, ◌^◌, ◌%◌, ◌<◌, ◌≤◌, ◌==◌, Bool, true, false, cond, not, List, [], ◌∷◌, ◌++◌, length, map, take, drop, get_or, refl, ap, ap₂, sym, ◌∙◌, subst, arith, All, append_assoc, length-take-le, length-drop, length-append}
-use Rattle.std.specs.Prelude.{nat_lt, count_by, slice_index}
+use Rattle.std.proofs.Common.{◌≡◌, ℕ, suc, zero, ◌+◌, ◌*◌, ◌%◌, ◌<◌, ◌≤◌, Bool, true, false, cond, not, List, [], ◌∷◌, ◌++◌, length, map, take, drop, refl, ap, ap₂, sym, ◌∙◌, subst, arith, All, append_assoc, length-take-le, length-drop, length-append}
+use Rattle.std.specs.Prelude.{nat_lt, count_by}
 use Rattle.std.specs.List.{list_all}
 use Rattle.std.proofs.lemmas.Bool.{eqb-true, eq-eqb, lt-ltb}
 use Rattle.std.proofs.lemmas.List.{length-map, take_at, drop_at, take_all}
@@ -10,21 +10,17 @@ use Rattle.std.proofs.Math.Seq.{take-add}
 use Rattle.tmds_word.specs.Bits.{number, bits_of as number_bits}
 use Rattle.tmds_word.proofs.Numbers.{bits_of-number}
 use Rattle.tmds_word.proofs.Below.{and-left, and-right}
-use Rattle.terc4.specs.Tables.{is_terc}
 use Rattle.bch_block.specs.Bits.{byte_bits, bits_of_bytes, flipped}
-use Rattle.bch_block.specs.Block.{IsBlock}
 use Rattle.bch_block.specs.declared.Verdict.{Verdict}
-use Rattle.bch_block.specs.declared.Verdict.TheVariants.{Clean, Mended, Lost}
+use Rattle.bch_block.specs.declared.Verdict.TheVariants.{Clean, Mended}
 use Rattle.bch_block.proofs.Quotient.{is_block}
 use Rattle.island_pack.specs.Nibbles.{nibbles_of, by_turns, sync_values, header_bits, body_bits, is_foreign, foreign_on, foreign_words}
 use Rattle.island_pack.specs.Packets.{BeginsWith, AreTerc, CarriesFreely}
 use Rattle.island_pack.specs.Conforming.{are_bytes, is_packet}
-use Rattle.island_pack.specs.Taken.{after}
 use Rattle.island_pack.proofs.Registers.{eight_bits}
 use Rattle.island_pack.proofs.Parts.{length-four, All-four}
 use Rattle.island_pack.specs.Repaired.{choice, divides, mend_from, verdict_of, bytes_in, repaired, packet_in, verdicts_in}
-use Rattle.period_grammar.specs.Events.{symbols}
-use Rattle.period_grammar.specs.Island.{if_so, block_fault, block_faults, packet_faults}
+use Rattle.period_grammar.specs.Island.{packet_faults}
 use Rattle.island_pack.proofs.Repaired.{nothing_is}
 use Rattle.link_laws.proofs.Rows.{and_both}
 use Rattle.period_grammar.proofs.Bytes.{number_below}
@@ -32,22 +28,13 @@ use Rattle.link_laws.proofs.exact.Faultless.{Fine, fine_left, fine_right, if_so_
 
 -- A block of which the verdict is clean.
 
-clean_divides : (p : Bool) (v : Verdict) → (v ≡ Clean → ⊥) → choice p Clean v ≡ Clean → p ≡ true
-clean_divides true v never h = refl
-clean_divides false v never h = absurd (never h)
-
 never_clean : (p : Bool) (i : ℕ) (v : Verdict) → (v ≡ Clean → ⊥) → choice p (Mended i) v ≡ Clean → ⊥
-never_clean true i v never h = cc
-never_clean false i v never h = never h
+never_clean p i v h k = grind arith
 
 mend_never : (x : List Bool) (i n : ℕ) → mend_from x i n ≡ Clean → ⊥
 unfolding mend_from
 mend_never x i zero h = cc
 mend_never x i (suc n) h = never_clean (divides (flipped x i)) i (mend_from x (i + 1) n) (mend_never x (i + 1) n) h
-
-clean_block : (x : List Bool) → 8 ≤ length x → verdict_of x ≡ Clean → IsBlock x
-unfolding verdict_of divides
-clean_block x long h = is_block x long (nothing_is _ (clean_divides (divides x) (mend_from x 0 (length x)) (mend_never x 0 (length x)) h))
 
 -- The bytes with which it begins.
 
@@ -71,31 +58,17 @@ bytes_begin (suc n) x long =
     ∙ sym (ap (λ k. take k x) e ∙ take-add 8 (8 * n) x)
 
 byte_below : (x : List Bool) → 8 ≤ length x → number (take 8 x) < 256
-byte_below x long =
-    let n : length (take 8 x) ≡ 8 = length-take-le 8 x long in
-    let b : number (take 8 x) < 2 ^ 8 = subst (λ k. number (take 8 x) < 2 ^ k) n (number_below (take 8 x)) in
-    omega arith
+byte_below x long = grind (arith, length-take-le, number_below)
 
 bytes_small : (n : ℕ) (x : List Bool) → 8 * n ≤ length x → are_bytes (bytes_in n x) ≡ true
 unfolding bytes_in
 bytes_small zero x long = refl
-bytes_small (suc n) x long =
-    let d = length-drop 8 x in
-    and_both _ _ (lt-ltb _ 256 (byte_below x (omega arith))) (bytes_small n (drop 8 x) (omega arith))
-
-All_more : (b : ℕ) (bs : List ℕ) → b < 256 → All (λ b. b < 256) bs → All (λ b. b < 256) (b ∷ bs)
-All_more b bs h all = by
-  where
-    by : (i d : ℕ) → i < suc (length bs) → get_or (b ∷ bs) i d < 256
-    by zero d lt = h
-    by (suc i) d lt = all i d (omega arith)
+bytes_small (suc n) x long = grind (arith, length-drop, and_both, lt-ltb, byte_below, bytes_small n)
 
 bytes_below : (n : ℕ) (x : List Bool) → 8 * n ≤ length x → All (λ b. b < 256) (bytes_in n x)
 unfolding bytes_in
 bytes_below zero x long = λ i d lt. absurd (omega arith)
-bytes_below (suc n) x long =
-    let d = length-drop 8 x in
-    All_more (number (take 8 x)) (bytes_in n (drop 8 x)) (byte_below x (omega arith)) (bytes_below n (drop 8 x) (omega arith))
+bytes_below (suc n) x long = grind (arith, length-drop, byte_below, bytes_below n)
 
 -- a clean block of n bytes and eight bits more
 record BeginsClean (n : ℕ) (x : List Bool) (bytes : List ℕ) : Type 0 where
@@ -105,16 +78,8 @@ record BeginsClean (n : ℕ) (x : List Bool) (bytes : List ℕ) : Type 0 where
   below : All (λ b. b < 256) bytes
 
 block_of : (n : ℕ) (x : List Bool) → length x ≡ 8 * n + 8 → verdict_of x ≡ Clean → BeginsClean n x (repaired n x)
-unfolding repaired
-block_of n x long h =
-    let same : bytes_in n x ≡ bytes_in n (after x (verdict_of x)) = ap (λ v. bytes_in n (after x v)) (sym h) in
-    let count = length-bytes_in n x in
-    subst (λ bs. BeginsClean n x bs) same (record {
-      begins = record { bits = omega arith; begins = ap (λ k. take (8 * k) x) count ∙ sym (bytes_begin n x (omega arith)); block = clean_block x (omega arith) h };
-      long = count;
-      small = bytes_small n x (omega arith);
-      below = bytes_below n x (omega arith);
-    })
+unfolding repaired verdict_of divides
+block_of n x long h = grind (arith, length-bytes_in, bytes_begin, bytes_small, bytes_below, is_block, nothing_is, mend_never)
 
 -- How many bits there are.
 
@@ -134,10 +99,7 @@ length-turns b (g ∷ gs) (r ∷ rs) e = let ih = length-turns b gs rs (omega ar
 
 length-body : (ws : List (List ℕ)) (b : ℕ) → length (body_bits ws b) ≡ 2 * length ws
 unfolding body_bits
-length-body ws b =
-    let g = length-nibbles ws 1 in
-    let t = length-turns b (nibbles_of ws 1) (nibbles_of ws 2) (g ∙ sym (length-nibbles ws 2)) in
-    omega arith
+length-body ws b = grind (arith, length-nibbles, length-turns)
 
 small_sync : (ns : List ℕ) → list_all (λ v. nat_lt v 4) (map (λ n. n % 4) ns) ≡ true
 small_sync [] = refl
@@ -151,29 +113,16 @@ foreign_by p w ws true e h ih =
     let c = sum_by-cons (λ y. cond (p y) 1 0) w ws in
     let one : ◌≡◌ {A = ℕ} (cond (p w) 1 0) 1 = ap (λ q. cond q 1 0) e in
     absurd (omega arith)
-foreign_by p w ws false e h ih =
-    let c = sum_by-cons (λ y. cond (p y) 1 0) w ws in
-    and_both _ _ (ap not e) (ih (omega arith))
+foreign_by p w ws false e h ih = grind (arith, sum_by-cons, and_both)
 
 none_foreign : (p : List ℕ → Bool) (ws : List (List ℕ)) → count_by p ws ≡ 0 → list_all (λ w. not (p w)) ws ≡ true
 none_foreign p [] h = refl
 none_foreign p (w ∷ ws) h = foreign_by p w ws (p w) refl h (λ e. none_foreign p ws e)
 
-not_not : (p : Bool) → not (not p) ≡ true → p ≡ true
-not_not true h = refl
-not_not false h = cc
-
-terc_more : (lane : ℕ) (w : List ℕ) (ws : List (List ℕ)) → is_terc (slice_index w lane) ≡ true → AreTerc ws lane → AreTerc (w ∷ ws) lane
-terc_more lane w ws h all = by
-  where
-    by : (i : ℕ) (d : List ℕ) → i < suc (length ws) → is_terc (slice_index (get_or (w ∷ ws) i d) lane) ≡ true
-    by zero d lt = h
-    by (suc i) d lt = all i d (omega arith)
-
 terc_all : (lane : ℕ) (ws : List (List ℕ)) → list_all (λ w. not (is_foreign lane w)) ws ≡ true → AreTerc ws lane
 unfolding is_foreign
 terc_all lane [] h = λ i d lt. absurd (omega arith)
-terc_all lane (w ∷ ws) h = terc_more lane w ws (not_not _ (and-left _ _ h)) (terc_all lane ws (and-right (not (not (is_terc (slice_index w lane)))) _ h))
+terc_all lane (w ∷ ws) h = grind (arith, and-left, and-right, terc_all lane ws)
 
 are_terc : (ws : List (List ℕ)) → foreign_words ws ≡ 0 → (lane : ℕ) → lane < 3 → AreTerc ws lane
 unfolding foreign_words foreign_on
@@ -183,11 +132,6 @@ are_terc ws h (suc (suc zero)) lt = terc_all 2 ws (none_foreign (is_foreign 2) w
 are_terc ws h (suc (suc (suc lane))) lt = absurd (omega arith)
 
 -- No fault is told.
-
-block_clean : (s b : ℕ) (v : Verdict) → Fine (block_fault s b v) → v ≡ Clean
-block_clean s b Clean h = refl
-block_clean s b (Mended i) h = cc
-block_clean s b Lost h = cc
 
 record AreClean (ws : List (List ℕ)) : Type 0 where
   terc : foreign_words ws ≡ 0
@@ -199,32 +143,7 @@ record AreClean (ws : List (List ℕ)) : Type 0 where
 
 faults_fine : (s : ℕ) (ws : List (List ℕ)) → Fine (packet_faults s (verdicts_in ws)) → AreClean ws
 unfolding verdicts_in
-faults_fine s ws h =
-    let n = foreign_words ws in
-    let v0 = verdict_of (body_bits ws 0) in
-    let v1 = verdict_of (body_bits ws 1) in
-    let v2 = verdict_of (body_bits ws 2) in
-    let v3 = verdict_of (body_bits ws 3) in
-    let v4 = verdict_of (header_bits ws) in
-    let r0 = block_faults s 0 (v0 ∷ (v1 ∷ (v2 ∷ (v3 ∷ (v4 ∷ []))))) in
-    let r1 = block_faults s 1 (v1 ∷ (v2 ∷ (v3 ∷ (v4 ∷ [])))) in
-    let r2 = block_faults s 2 (v2 ∷ (v3 ∷ (v4 ∷ []))) in
-    let r3 = block_faults s 3 (v3 ∷ (v4 ∷ [])) in
-    let r4 = block_faults s 4 (v4 ∷ []) in
-    let some = if_so (not (n == 0)) (symbols s n) in
-    let h0 = fine_right some r0 h in
-    let h1 = fine_right (block_fault s 0 v0) r1 h0 in
-    let h2 = fine_right (block_fault s 1 v1) r2 h1 in
-    let h3 = fine_right (block_fault s 2 v2) r3 h2 in
-    let h4 = fine_right (block_fault s 3 v3) r4 h3 in
-    record {
-      terc = eqb-true n 0 (not_false _ (if_so_fine _ (symbols s n) refl (fine_left some r0 h)));
-      body_0 = block_clean s 0 v0 (fine_left (block_fault s 0 v0) r1 h0);
-      body_1 = block_clean s 1 v1 (fine_left (block_fault s 1 v1) r2 h1);
-      body_2 = block_clean s 2 v2 (fine_left (block_fault s 2 v2) r3 h2);
-      body_3 = block_clean s 3 v3 (fine_left (block_fault s 3 v3) r4 h3);
-      header = block_clean s 4 v4 (fine_left (block_fault s 4 v4) [] h4);
-    }
+faults_fine s ws h = grind (arith, fine_right, eqb-true, not_false, if_so_fine, fine_left)
 
 -- a packet that the columns carry
 pub record IsCarried (ws : List (List ℕ)) : Type 0 where
@@ -279,8 +198,5 @@ carried s ws long h =
         header = hb.begins;
         bodies = body_at r0 r1 r2 r3 b0.long b1.long b2.long b3.long (λ k bs. BeginsWith (body_bits ws k) bs) b0.begins b1.begins b2.begins b3.begins;
       };
-      conforms =
-          and_both _ _ (and_both _ _ (eq-eqb _ 3 hb.long) hb.small)
-          (and_both _ _ (and_both _ _ (eq-eqb _ 28 many) (four_small r0 r1 r2 r3 b0.small b1.small b2.small b3.small))
-          (and_both _ _ (eq-eqb _ 32 ns) (small_sync (nibbles_of ws 0))));
+      conforms = grind (arith, and_both, eq-eqb, four_small, small_sync);
     }

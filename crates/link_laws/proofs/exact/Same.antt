@@ -1,14 +1,14 @@
 -- The columns from the cut column on tell no fault: where none is told of the columns before it, none is told of all.
-use Rattle.std.proofs.Common.{◌≡◌, ℕ, suc, zero, ◌+◌, ◌≤◌, Bool, true, false, not, List, [], ◌∷◌, ◌++◌, length, map, take, drop, refl, ap, sym, ◌∙◌, subst, arith, length-append, length-take-le}
+use Rattle.std.proofs.Common.{◌≡◌, ℕ, suc, zero, ◌+◌, ◌≤◌, Bool, true, false, not, List, [], ◌∷◌, ◌++◌, length, take, drop, refl, ap, sym, ◌∙◌, subst, arith, length-append, length-take-le}
 use Rattle.std.proofs.lemmas.List.{append-nil}
 use Rattle.std.proofs.lemmas.List.Folds.{list_all-append}
 use Rattle.tmds_word.specs.Column.{Column}
 use Rattle.tmds_word.proofs.Below.{and-left, and-right}
 use Rattle.terc4.specs.Columns.{is_control_column}
-use Rattle.period_grammar.specs.Events.{Event, cut, EventAt, event_of, all_at}
-use Rattle.period_grammar.specs.Cut.{Stretch as Cut, stretch, before, stretches}
-use Rattle.period_grammar.specs.Island.{Payload, parts, with_packet, split_by, when, if_so, in_packets, left_at, begins_close, holds_packet, split, payload, in_left, in_island, breaks, in_closing}
-use Rattle.period_grammar.specs.Heard.{Kind, video, island, neither, opened, opening, in_payload, in_gap, at_close, payload_ends, at_end, heard, heard_so_far}
+use Rattle.period_grammar.specs.Events.{Event}
+use Rattle.period_grammar.specs.Cut.{Stretch as Cut, stretch, stretches}
+use Rattle.period_grammar.specs.Island.{Payload, parts, with_packet, split_by, begins_close, holds_packet, split, payload, in_left, in_island}
+use Rattle.period_grammar.specs.Heard.{Kind, opened, in_gap, at_close, payload_ends, at_end, heard, heard_so_far}
 use Rattle.period_grammar.proofs.Islands.{holds_not, holds_long, holds_open, split_none}
 use Rattle.period_grammar.proofs.Joined.{AllAre, IsCut, cut_stretches, split_packet}
 use Rattle.link_laws.proofs.Cutting.{AllControl, NoneControl, begins, cut_gap, cut_both, control_reported, hear, gap_events, hear_control, hear_last, hear_on}
@@ -39,9 +39,7 @@ abbrev PacketsOf : Payload → Type 0
 PacketsOf (parts ps t) = ArePackets ps
 
 first_open : (cs : List Column) → begins_close cs ≡ false → begins_close (take 32 cs) ≡ false
-first_open [] h = refl
-first_open (c ∷ []) h = refl
-first_open (c ∷ (d ∷ cs)) h = h
+first_open cs h = grind arith
 
 packets_with : (p : List Column) (x : Payload) → length p ≡ 32 → begins_close p ≡ false → PacketsOf x → PacketsOf (with_packet p x)
 packets_with p (parts ps t) e f h = (e, f, h)
@@ -58,64 +56,29 @@ split_packets (suc n) cs = packets_by (holds_packet cs) cs (split n (drop 32 cs)
 split_again : (n : ℕ) (ps : List (List Column)) → ArePackets ps → length (flat ps) ≤ n → split n (flat ps) ≡ parts ps []
 split_again n [] h le = split_none n [] (holds_not [] (omega arith))
 split_again zero (p ∷ ps) h le = let a = length-append p (flat ps) in let e = h.0 in absurd (omega arith)
-split_again (suc n) (p ∷ ps) h le =
-    let a = length-append p (flat ps) in
-    let e = h.0 in
-    split_packet n p (flat ps) h.0 h.1 ∙ ap (with_packet p) (split_again n ps h.2 (omega arith))
+split_again (suc n) (p ∷ ps) h le = grind (arith, length-append, flat, split_packet, split_again n ps)
 
 -- What is told of a gap while it goes on.
 
-shut : (p : Bool) → not p ≡ true → (ts : List EventAt) → when p ts ≡ []
-shut true h ts = cc
-shut false h ts = refl
-
 broken_left : (b s k : ℕ) (t : List Column) → is_broken t ≡ true → in_left b s k t ≡ []
-broken_left b s k t h = shut (begins_close t) h (in_closing b s k t)
-
-broken_same : (b : ℕ) (ps : List (List Column)) (t : List Column) → is_broken t ≡ true → in_island b (parts ps []) ≡ in_island b (parts ps t)
-unfolding in_island
-broken_same b ps t h = ap (λ ts. in_packets (b + 2) 0 ps ++ ts) (sym (broken_left b (left_at b ps) (length ps) t h))
-
-same_by : (q : Bool) (b : ℕ) (rest : List Column) (ps : List (List Column)) (t : List Column) → is_broken t ≡ q → payload rest ≡ parts ps t → ArePackets ps → flat ps ++ t ≡ rest
-    → in_island b (payload (flat ps ++ when (not q) t)) ≡ in_island b (payload rest)
-same_by true b rest ps t e x h f =
-    ap (λ (cs : List Column). in_island b (payload cs)) (append-nil (flat ps))
-    ∙ ap (in_island b) (split_again (length (flat ps)) ps h (omega arith))
-    ∙ broken_same b ps t e
-    ∙ sym (ap (in_island b) x)
-same_by false b rest ps t e x h f = ap (λ (cs : List Column). in_island b (payload cs)) f
+broken_left b s k t h = grind arith
 
 same_payload : (b : ℕ) (rest : List Column) (x : Payload) → payload rest ≡ x → PacketsOf x → flat_of x ≡ rest → in_island b (payload (island_front x)) ≡ in_island b (payload rest)
-same_payload b rest (parts ps t) e h f = same_by (is_broken t) b rest ps t refl e h f
-
-same_kind : (b : ℕ) (k : Kind) (rest : List Column) → in_payload b k (payload_front k rest) ≡ in_payload b k rest
-same_kind b video rest = refl
-same_kind b island rest = same_payload b rest (payload rest) refl (split_packets (length rest) rest) (split_flat (length rest) rest)
-same_kind b neither rest = refl
+unfolding in_island
+same_payload b rest (parts ps t) e h f = grind (arith, is_broken, append-nil, flat, split_again, broken_left)
 
 same_gap : (b : ℕ) (control : List Column) (g h : Column) (rest : List Column) → gap_events b control (gap_front (g ∷ (h ∷ rest))) ≡ gap_events b control (g ∷ (h ∷ rest))
 unfolding in_gap
-same_gap b control g h rest = ap (λ ts. map event_of (all_at (b + 1) (opening b control g h (opened g h)) ++ ts)) (same_kind b (opened g h) rest)
+same_gap b control g h rest = grind (arith, same_payload, split_packets, split_flat)
 
 -- What the end tells is no fault.
 
-if_fine : (p : Bool) (c : ℕ) → Fine (if_so p (cut c))
-if_fine true c = refl
-if_fine false c = refl
-
-breaks_fine : (b : ℕ) (x : Payload) → Fine (breaks cut b x)
-breaks_fine b (parts ps t) = if_fine (is_broken t) (left_at b ps)
-
 ends_fine : (b : ℕ) (k : Kind) (rest : List Column) → Fine (payload_ends b k rest)
-ends_fine b video rest = refl
-ends_fine b island rest = breaks_fine b (payload rest)
-ends_fine b neither rest = refl
+ends_fine b k rest = grind (arith, is_broken)
 
 end_fine : (b : ℕ) (gap : List Column) → Fine (at_end b gap)
 unfolding at_end
-end_fine b [] = refl
-end_fine b (g ∷ []) = refl
-end_fine b (g ∷ (h ∷ rest)) = ends_fine b (opened g h) rest
+end_fine b gap = grind (arith, ends_fine)
 
 -- How control columns, others and the rest are cut, where there may be no control column.
 
@@ -136,62 +99,34 @@ cut_last control g gap all none =
 
 -- The gap's front has no control column.
 
-none_front : (gap more : List Column) → NoneControl (gap ++ more) → NoneControl gap
-none_front gap more h = and-left _ _ (sym (list_all-append (λ c. not (is_control_column c)) gap more) ∙ h)
-
 -- periods that are some
 abbrev some : List Cut → Bool
 some [] = false
 some (x ∷ xs) = true
 
-some_before : (p : Bool) (c : Column) (xs : List Cut) → some (before p c xs) ≡ true
-some_before true c [] = refl
-some_before true c (stretch control gap ∷ xs) = refl
-some_before false c [] = refl
-some_before false c (stretch [] gap ∷ xs) = refl
-some_before false c (stretch (k ∷ control) gap ∷ xs) = refl
-
 some_heads : (cs : List Column) → heads cs ≡ true → some (stretches cs) ≡ true
 unfolding stretches
-some_heads [] h = absurd cc
-some_heads (c ∷ cs) h = some_before (is_control_column c) c (stretches cs)
+some_heads cs h = grind arith
 
 abbrev all_parts : ℕ → List Column → Column → List Column → List Cut → List Event
 all_parts j control g gap xs =
     control_reported j control ++ (gap_events (j + length control) control (g ∷ gap) ++ (at_close (j + length control) (g ∷ gap) ++ hear (j + (length control + length (g ∷ gap))) xs))
 
 hear_some : (j : ℕ) (control : List Column) (g : Column) (gap : List Column) (xs : List Cut) → some xs ≡ true → hear j (stretch control (g ∷ gap) ∷ xs) ≡ all_parts j control g gap xs
-hear_some j control g gap [] h = absurd cc
-hear_some j control g gap (y ∷ ys) h = hear_on j control g gap y ys
+hear_some j control g gap xs h = grind (arith, hear_on)
 
 more_fine : (a b c d e : List Event) → Fine (a ++ (b ++ (c ++ d))) → (Fine d → Fine e) → Fine (a ++ (b ++ (c ++ e)))
-more_fine a b c d e h f =
-    let h1 = fine_right a (b ++ (c ++ d)) h in
-    let h2 = fine_right b (c ++ d) h1 in
-    fine_both a (b ++ (c ++ e)) (fine_left a (b ++ (c ++ d)) h) (fine_both b (c ++ e) (fine_left b (c ++ d) h1) (fine_both c e (fine_left c d h2) (f (fine_right c d h2))))
+more_fine a b c d e h f = grind (arith, fine_right, fine_both, fine_left)
 
 -- a front of periods that begin with a control column begins with it
 front_heads : (k : Column) (control gap : List Column) (xs : List Cut) → is_control_column k ≡ true → heads (front (stretch (k ∷ control) gap ∷ xs)) ≡ true
-front_heads k control gap [] h = h
-front_heads k control gap (y ∷ ys) h = h
-
--- the front of the last gap has no control column either
-island_none : (q : Bool) (ps : List (List Column)) (t : List Column) → NoneControl (flat ps ++ t) → NoneControl (flat ps ++ when (not q) t)
-island_none true ps t n = subst NoneControl (sym (append-nil (flat ps))) (none_front (flat ps) t n)
-island_none false ps t n = n
+front_heads k control gap xs h = grind arith
 
 payload_none : (x : Payload) → NoneControl (flat_of x) → NoneControl (island_front x)
-payload_none (parts ps t) n = island_none (is_broken t) ps t n
-
-kind_none : (k : Kind) (rest : List Column) → NoneControl rest → NoneControl (payload_front k rest)
-kind_none video rest n = refl
-kind_none island rest n = payload_none (payload rest) (subst NoneControl (sym (split_flat (length rest) rest)) n)
-kind_none neither rest n = n
+payload_none (parts ps t) n = grind (arith, is_broken, NoneControl, append-nil, flat, and-left, list_all-append)
 
 gap_none : (g h : Column) (rest : List Column) → NoneControl (g ∷ (h ∷ rest)) → NoneControl (gap_front (g ∷ (h ∷ rest)))
-gap_none g h rest none =
-    let two = and-right (not (is_control_column g)) _ none in
-    and_both _ _ (and-left _ _ none) (and_both _ _ (and-left _ _ two) (kind_none (opened g h) rest (and-right (not (is_control_column h)) _ two)))
+gap_none g h rest none = grind (arith, and-right, and_both, and-left, payload_none, NoneControl, split_flat)
 
 last_same : (j : ℕ) (control : List Column) (g : Column) (gap : List Column) → AllControl control → NoneControl (g ∷ gap) → Fine (hear j (stretches (control ++ gap_front (g ∷ gap))))
     → Fine (hear j (stretch control (g ∷ gap) ∷ []))

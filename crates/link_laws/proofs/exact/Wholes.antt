@@ -1,20 +1,20 @@
 -- Clean columns that end in a control period of twelve columns or more are spelled whole.
-use Rattle.std.proofs.Common.{◌≡◌, ℕ, ◌+◌, ◌≤◌, Bool, true, false, List, [], ◌∷◌, ◌++◌, length, map, refl, ap, sym, ◌∙◌, subst, arith}
+use Rattle.std.proofs.Common.{◌≡◌, ℕ, ◌+◌, ◌≤◌, true, List, [], ◌∷◌, ◌++◌, length, map, refl, ap, sym, ◌∙◌, subst, arith}
 use Rattle.std.specs.List.{list_all}
 use Rattle.std.proofs.lemmas.Bool.{leb-true}
 use Rattle.std.proofs.lemmas.List.{append-nil, length-map}
 use Rattle.tmds_word.specs.Column.{Column}
-use Rattle.island_pack.specs.Periods.{ControlRun, Period, values_of}
+use Rattle.island_pack.specs.Periods.{Period}
 use Rattle.island_pack.specs.Periods as sends
 use Rattle.island_pack.specs.Conforming.{conforms}
-use Rattle.island_pack.specs.Spelling.{control_column, freely, SpellsPeriodBy, SpellsBy}
+use Rattle.island_pack.specs.Spelling.{control_column, freely, SpellsPeriodBy}
 use Rattle.period_grammar.specs.Column.{value_of}
 use Rattle.period_grammar.specs.Cut.{Stretch as Cut, stretch, stretches}
 use Rattle.period_grammar.specs.Heard.{at_close, heard, heard_so_far}
 use Rattle.period_grammar.specs.Events.{Event}
 use Rattle.period_grammar.proofs.Joined.{IsCut, joined, joined_stretches, cut_stretches}
 use Rattle.link_laws.specs.Whole.{IsSpelledWhole, ends_long, CleanIsWhole}
-use Rattle.link_laws.proofs.Cutting.{control_reported, hear, gap_events, hear_last, hear_on}
+use Rattle.link_laws.proofs.Cutting.{control_reported, hear, gap_events, hear_on}
 use Rattle.link_laws.proofs.Rows.{clean}
 use Rattle.link_laws.proofs.exact.Faultless.{Fine, fine_left, fine_right}
 use Rattle.link_laws.proofs.exact.Controls.{control_clean, columns_are, values_small, ones, values_of_ones, ones_period}

@@ -3,9 +3,4 @@ use Rattle.relay.proofs.Going.{stream_columns}
 use Rattle.relay_laws.proofs.stands_for_few.Goals as goal
 
 pub returns : goal.returns
-returns c relay reported s =
-    let a = stream_columns reported in
-    let b = s.columns in
-    let d = s.period_columns in
-    let f = s.few in
-    omega arith
+returns c relay reported s = grind (arith, stream_columns)

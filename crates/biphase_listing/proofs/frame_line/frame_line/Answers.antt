@@ -1,17 +1,11 @@
-use Rattle.std.proofs.Common.{◌∙◌, ◌≤◌, ◌++◌, length, refl, ap, arith}
+use Rattle.std.proofs.Common.{◌∙◌, ◌++◌, length, refl, ap, arith}
 use borrow.Rule.Slice.PartMut.{put_mid}
 use Rattle.biphase_listing.specs.Groups.{sample_of}
 use Rattle.biphase_listing.proofs.LineDigits.{length-first, length-second, length-two, line_is, three_put, zeros}
 use Rattle.biphase_listing.proofs.frame_line.frame_line.Goals as goal
 
 pub slice_bounds-line-end-3 : goal.slice_bounds-line-end-3
-slice_bounds-line-end-3 c =
-    let first = c.copy_from_slice.ensures.after ∙ c.first_part.ensures in
-    let second = c.copy_from_slice-2.ensures.after ∙ c.second_part.ensures in
-    let x = c.copy_from_slice.new.self in
-    let y = c.copy_from_slice-2.new.self in
-    let within : 24 ≤ length (put_mid 8 8 (x ++ zeros) y) = omega (arith, length-two x y (ap length first ∙ length-first _) (ap length second ∙ length-second _)) in
-    within
+slice_bounds-line-end-3 c = grind (arith, put_mid, zeros, length-two, length-first, length-second)
 
 pub returns : goal.returns
 returns c =

@@ -5,13 +5,7 @@ use Rattle.biphase_listing.proofs.Streaming.{Framed, framed_none, framed_more}
 use Rattle.biphase_listing.proofs.lister.frames_of.Goals as goal
 
 pub loop-note-init : goal.loop-note-init
-loop-note-init c = record {
-  next = tt;
-  finite = tt;
-  framed =
-      subst (λ (left : List SampleNote). Framed c.args.notes left c.args.encoder.now c.args.encoder.now c.new-frames.result.items) (sym c.into_iter-note-iterator.ensures.into_iter_gives)
-      (framed_none c.args.notes c.args.encoder.now c.new-frames.result.items c.new-frames.ensures);
-}
+loop-note-init c = grind (arith, Framed, framed_none)
 
 pub loop-note-preserved-in-Some-push : goal.loop-note-preserved-in-Some-push
 loop-note-preserved-in-Some-push c =

@@ -1,21 +1,11 @@
-use Rattle.std.proofs.Common.{rules, ℕ, sym, subst}
+use Rattle.std.proofs.Common.{arith, rules}
 use Rattle.std.proofs.lemmas.Result.{err_from_is_err_and}
-use Rattle.biphase_listing.specs.Reading.{HasListed}
 use Rattle.outside_io.proofs.Consumed.{takes_none, takes_more}
 use Rattle.biphase_listing.proofs.Ends.{last_unwritten, none_listed, whole_listed}
 use Rattle.biphase_listing.proofs.reading.list_biphase.Goals as goal
 
 pub loop-init : goal.loop-init
-loop-init g c = record {
-  few = search rules;
-  listed =
-      subst (λ (n : ℕ). HasListed (g.S.Source.left c.args.input.now) (g.S.Source.left c.args.input.now) (g.K.Sink.held c.args.output.now) (g.K.Sink.held c.args.output.now) c.new-frames.result.blocks n)
-      (sym c.new-frames.ensures.count)
-      (none_listed (g.S.Source.left c.args.input.now) (g.K.Sink.held c.args.output.now) c.new-frames.result.blocks c.new-frames.ensures.blocks);
-  taken = takes_none _;
-  input_later = search rules;
-  output_later = search rules;
-}
+loop-init g c = grind (arith, none_listed, takes_none)
 
 pub returns-in_err-list_next-clause-stopped : goal.returns-in_err-list_next-clause-stopped
 returns-in_err-list_next-clause-stopped g c =

@@ -1,4 +1,4 @@
-use Rattle.std.proofs.Common.{◌≡◌, ◌++◌, ℕ, List, sym, subst, inl, inr, append_assoc}
+use Rattle.std.proofs.Common.{arith, ◌≡◌, ◌++◌, ℕ, List, sym, subst, inl, inr, append_assoc}
 use Rattle.std.specs.Io.KnownBytes.{Appends}
 use Rattle.std.proofs.KnownBytes.{Consumes-trans}
 use Rattle.capture_file.specs.Captures.{header_of, block_size}
@@ -82,13 +82,7 @@ returns-in-Ok-write_header-clause-part g c is =
     record {
       read = head ++ p.1;
       took = Consumes-trans _ _ _ head p.1 n.ok p.2;
-      wrote = inr (record {
-        version = a.version;
-        counts = a.bits;
-        block = p.0;
-        fits = n.fits;
-        cut = p.3;
-      });
+      wrote = grind arith;
     }
 
 unread_of : (said : Type 0) (e : DamageError) → e ≡ Read → SaysUnread said e → said

@@ -1,6 +1,5 @@
-use Rattle.std.proofs.Common.{arith, ◌≡◌, ◌+◌, ◌++◌, [], ◌∙◌, sym, ap, subst, refl, append_assoc, append-nil}
+use Rattle.std.proofs.Common.{arith, ◌≡◌, ◌+◌, ◌++◌, [], sym, ap, subst, append_assoc, append-nil}
 use Rattle.std.specs.Prelude.{Result, Err}
-use Rattle.std.specs.Io.KnownBytes.{IsAtEnd}
 use Rattle.std.proofs.KnownBytes.{Consumes-nil, Consumes-trans}
 use Rattle.capture_file.specs.BlockDamage.{Halfway, CutIn}
 use Rattle.capture_file.specs.declared.damaging.DamageError.{DamageError}
@@ -42,14 +41,7 @@ loop-j-preserved g c =
     }
 
 pub returns-in-Ok-false-clause-done : goal.returns-in-Ok-false-clause-done
-returns-in-Ok-false-clause-done g c bytes taken before e h =
-    let a = c.args.heading in
-    let n = c.in-Ok-false.ensures.none c.in-Ok-false.field-0-test in
-    let w = c.loop-j.invariant.went taken before h in
-    let s = consumed _ _ bytes (w.0 ++ []) e (Consumes-trans _ _ _ w.0 [] w.1 n.1) in
-    let all : bytes ≡ w.0 = s.1 ∙ ap (λ xs. (w.0 ++ []) ++ xs) (subst (λ o. IsAtEnd o) s.2 n.2) ∙ append-nil (w.0 ++ []) ∙ append-nil w.0 in
-    let half = subst (λ o. Halfway a.version a.bits c.args.hits.now c.loop-j.j (taken ++ w.0) before o) (sym n.3) w.2 in
-    (c.loop-j.j, n.0, subst (λ bs. Halfway a.version a.bits c.args.hits.now c.loop-j.j (taken ++ bs) before (g.K.Sink.held c.damage_block.new.out)) (sym all) half)
+returns-in-Ok-false-clause-done g c bytes taken before e h = grind (arith, consumed, Consumes-trans, append-nil)
 
 pub returns-in-Err-clause-err : goal.returns-in-Err-clause-err
 returns-in-Err-clause-err g c bytes taken before e h =
@@ -63,11 +55,7 @@ pub returns-in-Err-clause-part : goal.returns-in-Err-clause-part
 returns-in-Err-clause-part g c taken before h is =
     let a = c.args.heading in
     let w = c.loop-j.invariant.went taken before h in
-    let n = c.in-Err.ensures in
-    let same : c.in-Err.error ≡ Read = cc in
-    let p = n.part (ap Err same) in
-    let half = halfway_kept a.version a.bits c.args.hits.now c.loop-j.j (taken ++ w.0) before (g.K.Sink.held c.loop-j.out) (g.K.Sink.held c.damage_block.new.out) (n.unwritten (not_write c.in-Err.error (Err c.in-Err.error) refl is)) w.2 in
-    (c.loop-j.j, w.0, p.0, half, p.1, Consumes-trans _ _ _ w.0 p.0 w.1 p.2)
+    grind (arith, halfway_kept, not_write, Consumes-trans)
 
 pub returns-in-Err-clause-cut : goal.returns-in-Err-clause-cut
 returns-in-Err-clause-cut g c taken before h is =

@@ -1,7 +1,5 @@
-use Rattle.std.proofs.Common.{arith, ◌≡◌, ◌∙◌, ◌+◌, ◌/◌, ◌++◌, [], ap, take, subst, length, append-nil, length-take-le}
+use Rattle.std.proofs.Common.{arith, ◌≡◌, ◌∙◌, ◌+◌, ◌++◌, [], ap, take, subst, append-nil, length-take-le}
 use Rattle.std.specs.Io.KnownBytes.{IsAtEnd}
-use Rattle.capture_file.specs.Captures.{IsFault}
-use Rattle.capture_file.specs.declared.fault.CaptureFault.TheVariants.{Short}
 use Rattle.capture_file.proofs.Rooms.{none_packed}
 use Rattle.std.proofs.lemmas.List.{take_all}
 use Rattle.capture_file.proofs.Marks.{consumed, clash, take_bytes}
@@ -24,8 +22,4 @@ returns-then-read-size-clause-err g c bytes front e w at =
     let read = take c.in-Ok.read part in
     let s = consumed _ _ bytes read e c.in-Ok.ensures.bytes in
     let none : s.0 ≡ [] = subst (λ o. IsAtEnd o) s.2 (c.in-Ok.ensures.end c.if-read-size.true) in
-    let len : length read ≡ c.in-Ok.read = length-take-le c.in-Ok.read part c.in-Ok.ensures.bound in
-    let size : length part ≡ (c.args.count + 7) / 8 = c.read_full.auto.into ∙ c.requires.size in
-    let w = w (omega (arith, c.if-count-eq0.false)) in
-    subst (λ n. IsFault (front ++ bytes) (Short (c.args.place + n))) len
-    (short_piece front bytes read c.args.count c.args.place w at (s.1 ∙ ap (λ xs. read ++ xs) none ∙ append-nil read) (take_bytes c.in-Ok.read part (λ i. (c.type_inv.part i).fits)) (omega (arith, len, size, c.if-read-size.true)))
+    grind (arith, length-take-le, short_piece, append-nil, take_bytes)

@@ -1,9 +1,8 @@
-use Rattle.std.proofs.Common.{arith, ◌≡◌, ◌++◌, ◌∙◌, sym, subst, ap, get_or, inl, inr, ℕ}
+use Rattle.std.proofs.Common.{arith, ◌≡◌, ◌++◌, ◌∙◌, sym, subst, ap, inl, inr, ℕ}
 use Rattle.std.specs.Prelude.{◌⊎◌}
 use Rattle.std.proofs.lemmas.Result.{err_from_is_err_and}
 use Rattle.std.specs.Io.KnownBytes.{Consumes}
 use Rattle.std.proofs.KnownBytes.{Consumes-trans}
-use Rattle.capture_file.specs.Layout.{high_first}
 use Rattle.capture_file.specs.Captures.{IsEarlyFault}
 use Rattle.capture_file.proofs.Marks.{consumed}
 use Rattle.outside_io.proofs.Consumed.{takes_more}
@@ -46,11 +45,7 @@ returns-in_err-green-clause-part g c =
 pub returns-clause-ok : goal.returns-clause-ok
 returns-clause-ok g c =
     let h = c.in_ok-head.ensures in
-    let n = c.from_be_bytes-bits.result in
-    let is = head_is _ 50 n h.size h.bytes h.mark (two_of _ h.version (λ one. omega (arith, one, c.if-head-eq49.false))) c.from_be_bytes-bits.ensures in
-    subst (λ bs. Consumes (g.S.Source.left c.args.source.now) (g.S.Source.left c.read_second.new.source) bs)
-    (ap (λ xs. xs ++ (high_first (get_or c.in_ok-green.field-0 0 0) ++ high_first (get_or c.in_ok-green.field-0 1 0))) is ∙ sym (header_two_is n (get_or c.in_ok-green.field-0 0 0) (get_or c.in_ok-green.field-0 1 0)))
-    (Consumes-trans _ _ _ _ _ h.ok c.in_ok-green.ensures.ok)
+    grind (arith, head_is, two_of, header_two_is, Consumes-trans)
 
 pub returns-in_err-green-clause-taken : goal.returns-in_err-green-clause-taken
 returns-in_err-green-clause-taken g c = takes_more _ _ _ (_, c.in_ok-head.ensures.ok) c.in_err-green.ensures.taken

@@ -42,11 +42,7 @@ loop-j-preserved g c =
       blue = e.blue t;
       green = e.green t;
       red = e.red t;
-      went = (
-        i.went.0 ++ b.0,
-        Consumes-trans _ _ _ i.went.0 b.0 i.went.1 b.1,
-        subst (λ bs. Stands a.version a.bits (c.loop-j.j + 1) bs n.blue n.green n.red) (append_assoc head i.went.0 b.0) b.2,
-      );
+      went = grind (arith, Consumes-trans, append_assoc);
       few = omega (arith, e.below t);
       later = omega (arith, i.later, e.later);
     }

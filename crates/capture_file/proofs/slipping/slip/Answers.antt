@@ -1,4 +1,4 @@
-use Rattle.std.proofs.Common.{◌≡◌, ℕ, ◌+◌, ◌≤◌, ◌++◌, List, ap, refl, sym, subst, inr}
+use Rattle.std.proofs.Common.{arith, ◌≡◌, ℕ, ◌+◌, ◌≤◌, ◌++◌, List, ap, sym, subst, inr}
 use Rattle.std.specs.Prelude.{Option, Err, slice_index}
 use Rattle.std.specs.Io.KnownBytes.{Consumes}
 use Rattle.capture_file.specs.declared.slipping.SlipError.TheVariants.{Read, NoMemory as WantsMemory}
@@ -40,21 +40,10 @@ returns-in-Err-read_rows-clause-read g c is =
 -- a header whose lane has the bits was read, and more
 kept : (version lane place count : ℕ) (counts more : List ℕ) (left mid rest : Option (List ℕ)) → CanSay version counts → place + count ≤ slice_index counts lane
     → Consumes left mid (header_of version counts) → Consumes mid rest more → StopsKeeping left rest lane place count
-kept version lane place count counts more left mid rest said fits first then = record {
-  head = header_of version counts;
-  counts = counts;
-  more = more;
-  headed = record { version = version; said = said; head_is = refl };
-  took = Consumes-trans _ _ _ (header_of version counts) more first then;
-  fits = fits;
-}
+kept version lane place count counts more left mid rest said fits first then = grind (arith, Consumes-trans)
 
 pub returns-then-is_err-clause-memory : goal.returns-then-is_err-clause-memory
-returns-then-is_err-clause-memory g c is =
-    let h = c.in-Ok.heading in
-    let n = c.in-Ok.ensures in
-    let p = c.in-Ok-read_rows.ensures.ok in
-    kept h.version c.args.lane c.args.place c.args.drop h.bits p.0 _ _ _ n.said n.fits n.ok p.1
+returns-then-is_err-clause-memory g c is = grind (arith, kept)
 
 pub returns-in-Err-read_rows-clause-memory : goal.returns-in-Err-read_rows-clause-memory
 returns-in-Err-read_rows-clause-memory g c is =

@@ -1,4 +1,4 @@
-use Rattle.std.proofs.Common.{arith, rules, ◌≡◌, ℕ, ◌+◌, ◌++◌, [], Bool, List, length, ◌∙◌, sym, refl, ap, length-append, append-nil, append_assoc}
+use Rattle.std.proofs.Common.{arith, rules, ◌≡◌, ℕ, ◌+◌, ◌++◌, [], Bool, List, length, ◌∙◌, sym, refl, length-append, append-nil, append_assoc}
 use Rattle.std.proofs.lemmas.Result.{err_from_is_err_and}
 use Rattle.capture_file.specs.Layout.{packed, chunk}
 use Rattle.capture_file.specs.Taps.{row_part, part_block}
@@ -14,49 +14,13 @@ three j blue green red starts bits = block_is j (packed (row_part blue starts bi
 
 long : (j : ℕ) (blue green red : List Bool) (starts bits : List ℕ)
     → length (part_block j blue green red starts bits) ≡ length (chunk_of j blue starts bits 0) + length (chunk_of j green starts bits 1) + length (chunk_of j red starts bits 2)
-long j blue green red starts bits =
-    let x = chunk_of j blue starts bits 0 in
-    let y = chunk_of j green starts bits 1 in
-    let z = chunk_of j red starts bits 2 in
-    omega (arith, ap length (three j blue green red starts bits), length-append (x ++ y) z, length-append x y)
+long j blue green red starts bits = grind (arith, three, length-append)
 
 pub returns-in_err-first : goal.returns-in_err-first
-returns-in_err-first g c =
-    let a = c.args in
-    let x = chunk_of a.j a.blue.now a.starts a.bits 0 in
-    let y = chunk_of a.j a.green.now a.starts a.bits 1 in
-    let z = chunk_of a.j a.red.now a.starts a.bits 2 in
-    let is = three a.j a.blue.now a.green.now a.red.now a.starts a.bits in
-    let size = long a.j a.blue.now a.green.now a.red.now a.starts a.bits in
-    let e = c.in_err-first.ensures in
-    let p = err_from_is_err_and c.from_residual.result c.from_residual.ensures.1 in
-    record {
-      size = search rules;
-      whole = search rules;
-      part = rw (p.1, p.2) (Appends-first _ _ x (y ++ z) _ c.in_err-first.field-0.0.gone (is ∙ append_assoc x y z) e.missing e.part);
-      missing = rw (p.1, p.2) (omega (arith, e.missing, size));
-      small = rw (p.1, p.2) (omega (arith, e.few));
-      cause = search rules;
-    }
+returns-in_err-first g c = grind (arith, three, long, err_from_is_err_and, Appends-first, append_assoc)
 
 pub returns-in-Err : goal.returns-in-Err
-returns-in-Err g c =
-    let a = c.args in
-    let x = chunk_of a.j a.blue.now a.starts a.bits 0 in
-    let y = chunk_of a.j a.green.now a.starts a.bits 1 in
-    let z = chunk_of a.j a.red.now a.starts a.bits 2 in
-    let is = three a.j a.blue.now a.green.now a.red.now a.starts a.bits in
-    let size = long a.j a.blue.now a.green.now a.red.now a.starts a.bits in
-    let e = c.in-Err.ensures in
-    let first = c.in_ok-first.ensures in
-    record {
-      size = search rules;
-      whole = search rules;
-      part = Appends-part _ _ _ x y z _ c.in_ok-first.first c.in-Err.part.gone is (sym first.size) e.missing first.whole e.part;
-      missing = omega (arith, e.missing, first.size, size);
-      small = omega (arith, e.few, first.small);
-      cause = search rules;
-    }
+returns-in-Err g c = grind (arith, three, long, Appends-part)
 
 pub returns-in-Ok-write_chunk : goal.returns-in-Ok-write_chunk
 returns-in-Ok-write_chunk g c =

@@ -9,7 +9,4 @@ returns-then-count-eq0 g c =
     record { size = sym (ap length is); small = search rules; whole = rw is (Appends-nil _); part = tt; missing = tt; few = tt; cause = search rules }
 
 pub returns : goal.returns
-returns g c =
-    let is = some_chunk c.args.j c.args.bits c.args.from c.chunk_len-count.result c.args.row.now c.requires.has (omega (arith, c.if-count-eq0.false)) c.chunk_len-count.ensures ∙ sym c.copy_packed.ensures in
-    let e = c.write_piece.ensures in
-    record { size = rw is e.size; small = search rules; whole = rw is e.whole; part = rw is e.part; missing = rw is e.missing; few = search rules; cause = e.cause }
+returns g c = grind (arith, some_chunk)

@@ -1,8 +1,8 @@
-use Rattle.std.proofs.Common.{arith, rules, ◌≡◌, ℕ, ◌+◌, ◌/◌, ◌++◌, Bool, List, max, length, slice_index, ap, ◌∙◌, sym, length-append}
+use Rattle.std.proofs.Common.{arith, rules, ◌≡◌, ℕ, ◌+◌, ◌++◌, Bool, List, max, length, slice_index, ap, ◌∙◌, sym, length-append}
 use Rattle.std.proofs.lemmas.Result.{err_from_is_err_and}
 use Rattle.capture_file.specs.Layout.{packed, block, blocks_below}
 use Rattle.capture_file.specs.Captures.{header_of}
-use Rattle.capture_file.specs.Taps.{HasBits, row_part, part_capture}
+use Rattle.capture_file.specs.Taps.{HasBits, row_part}
 use Rattle.capture_file.proofs.Parts.{length-lane, Appends-first, Appends-part, Appends-two, blocks-more, no_blocks}
 use Rattle.capture_file.proofs.Writes.{Layouts, layouts, short_header}
 use Rattle.capture_file.proofs.writing.write_rows.Goals as goal
@@ -16,45 +16,13 @@ parts version blue green red starts bits inner most b g r ei em =
     (em ∙ ap (λ n. max (slice_index bits 0) n) ei)
 
 pub returns-in_err-gone : goal.returns-in_err-gone
-returns-in_err-gone g c =
-    let a = c.args in
-    let r = c.requires in
-    let e = c.in_err-gone.ensures in
-    let p = err_from_is_err_and c.from_residual.result c.from_residual.ensures.1 in
-    let k = parts a.version a.blue.now a.green.now a.red.now a.starts a.bits c.max.result c.max-most.result r.blue r.green r.red c.max.ensures c.max-most.ensures in
-    let rest = blocks_below (((c.max-most.result + 7) / 8 + 4095) / 4096) (packed (row_part a.blue.now a.starts a.bits 0)) (packed (row_part a.green.now a.starts a.bits 1)) (packed (row_part a.red.now a.starts a.bits 2)) in
-    record {
-      whole = search rules;
-      part = rw (p.1, p.2) (Appends-first _ _ (header_of a.version a.bits) _ _ c.in_err-gone.field-0.0.gone k.is e.missing e.part);
-      missing = rw (p.1, p.2) (omega (arith, e.missing, ap length k.is, length-append (header_of a.version a.bits) rest));
-      cause = search rules;
-    }
+returns-in_err-gone g c = grind (arith, err_from_is_err_and, parts, Appends-first, length-append)
 
 pub loop-j-init : goal.loop-j-init
-loop-j-init g c =
-    let a = c.args in
-    let e = c.in_ok-gone.ensures in
-    let h = header_of a.version a.bits in
-    let is = no_blocks h (packed (row_part a.blue.now a.starts a.bits 0)) (packed (row_part a.green.now a.starts a.bits 1)) (packed (row_part a.red.now a.starts a.bits 2)) in
-    record { gone = e.size ∙ sym (ap length is); few = omega (arith, e.size, short_header a.version a.bits); grew = rw is e.whole; later = c.write_header.ensures.cause.later }
+loop-j-init g c = grind (arith, no_blocks, short_header)
 
 pub loop-j-preserved : goal.loop-j-preserved
-loop-j-preserved g c =
-    let a = c.args in
-    let j = c.loop-j.j in
-    let i = c.loop-j.invariant in
-    let e = c.in-Ok.ensures in
-    let x = packed (row_part a.blue.now a.starts a.bits 0) in
-    let y = packed (row_part a.green.now a.starts a.bits 1) in
-    let z = packed (row_part a.red.now a.starts a.bits 2) in
-    let h = header_of a.version a.bits in
-    let more = blocks-more h x y z j in
-    record {
-      gone = omega (arith, i.gone, e.size.0, ap length more, length-append (h ++ blocks_below j x y z) (block j x y z));
-      few = omega (arith, i.few, e.size.1);
-      grew = Appends-two _ _ _ (h ++ blocks_below j x y z) (block j x y z) _ more i.grew e.whole;
-      later = omega (arith, i.later, c.write_block.ensures.cause.later);
-    }
+loop-j-preserved g c = grind (arith, blocks-more, length-append, Appends-two)
 
 pub returns-in-Err : goal.returns-in-Err
 returns-in-Err g c =
@@ -76,13 +44,4 @@ returns-in-Err g c =
     }
 
 pub returns-clause-whole : goal.returns-clause-whole
-returns-clause-whole g c =
-    let a = c.args in
-    let r = c.requires in
-    let x = packed (row_part a.blue.now a.starts a.bits 0) in
-    let y = packed (row_part a.green.now a.starts a.bits 1) in
-    let z = packed (row_part a.red.now a.starts a.bits 2) in
-    let k = parts a.version a.blue.now a.green.now a.red.now a.starts a.bits c.max.result c.max-most.result r.blue r.green r.red c.max.ensures c.max-most.ensures in
-    let last : c.loop-j.j ≡ ((c.max-most.result + 7) / 8 + 4095) / 4096 = omega (arith, c.loop-j-test.false, c.loop-j.auto.j-end, c.blocks_for-j-end.ensures) in
-    let is : header_of a.version a.bits ++ blocks_below c.loop-j.j x y z ≡ part_capture a.version a.blue.now a.green.now a.red.now a.starts a.bits = ap (λ i. header_of a.version a.bits ++ blocks_below i x y z) last ∙ sym k.is in
-    rw is at c.loop-j.invariant.grew
+returns-clause-whole g c = grind (arith, parts)

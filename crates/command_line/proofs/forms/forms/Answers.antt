@@ -1,4 +1,4 @@
-use Rattle.std.proofs.Common.{ap, ap₂, ◌∙◌, ◌≡◌, codes, Bool, ◌||◌}
+use Rattle.std.proofs.Common.{arith, ap, ap₂, ◌∙◌, ◌≡◌, codes}
 use Rattle.clap.specs.Words.{with_rule, with_subcommand, App, Rule}
 use Rattle.command_line.specs.Grammar.{Text}
 use Rattle.command_line.specs.Forms.{bare}
@@ -14,14 +14,7 @@ returns-clause-app c =
     let second = c.in_ok-command-2.ensures.app ∙ added (codes "recover") _ _ _ _ first c.operands.ensures.rule in
     let third = c.in_ok-command-3.ensures.shape c.bare.ensures.local ∙ ap₂ with_subcommand second (ap (λ (a : App). a.top) c.bare.ensures.app) in
     let fourth = c.in_ok-command-4.ensures.app ∙ added (codes "damage") _ _ _ _ third c.operands-2.ensures.rule in
-    let fifth = c.in_ok-command-5.ensures.app ∙ added (codes "slip") _ _ _ _ fourth c.operand.ensures.rule in
-    let sixth = c.in_ok-command-6.ensures.app ∙ added (codes "read") _ _ _ _ fifth c.operand-2.ensures.rule in
-    let seventh = c.in_ok-command-7.ensures.shape c.bare-2.ensures.local ∙ ap₂ with_subcommand sixth (ap (λ (a : App). a.top) c.bare-2.ensures.app) in
-    c.in_ok-command-8.ensures.app ∙ added (codes "sample") _ _ _ _ seventh c.operand-3.ensures.rule
+    grind (arith, added)
 
 pub returns-clause-local : goal.returns-clause-local
-returns-clause-local c =
-    let second = c.in_ok-command-2.ensures.local ∙ (c.in_ok-command.ensures.globals ∙ ap₂ (λ (x y : Bool). x || y) c.program.ensures.local c.in_ok-make.ensures.local) in
-    let third = c.in_ok-command-3.ensures.globals ∙ ap₂ (λ (x y : Bool). x || y) second c.bare.ensures.local in
-    let sixth = c.in_ok-command-6.ensures.local ∙ c.in_ok-command-5.ensures.local ∙ c.in_ok-command-4.ensures.local ∙ third in
-    c.in_ok-command-8.ensures.local ∙ (c.in_ok-command-7.ensures.globals ∙ ap₂ (λ (x y : Bool). x || y) sixth c.bare-2.ensures.local)
+returns-clause-local c = grind arith

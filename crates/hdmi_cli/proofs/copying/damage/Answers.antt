@@ -1,4 +1,4 @@
-use Rattle.std.proofs.Common.{sym, subst, ◌∙◌, ◌<◌, List}
+use Rattle.std.proofs.Common.{arith, sym, subst, ◌∙◌, ◌<◌, List}
 use Rattle.std.specs.List.{All}
 use Rattle.capture_file.specs.declared.damaging.Hit.{Hit}
 use Rattle.hdmi_cli.specs.Endings.{Devices, Ends}
@@ -15,16 +15,7 @@ pub returns-in-Ok-clause-ends : goal.returns-in-Ok-clause-ends
 returns-in-Ok-clause-ends g c =
     let before : Devices = record { left = g.S.Source.left c.args.input.now; input_faults = g.S.Source.faults c.args.input.now; held = g.K.Sink.held c.args.output.now; output_faults = g.K.Sink.faults c.args.output.now } in
     let after : Devices = record { left = g.S.Source.left c.damage.new.source; input_faults = g.S.Source.faults c.damage.new.source; held = g.K.Sink.held c.damage.new.out; output_faults = g.K.Sink.faults c.damage.new.out } in
-    let reported : Damaged c.as_slice.result.now before after c.damage.result = record {
-      done = c.damage.ensures.done;
-      bad = c.damage.ensures.bad;
-      place = c.damage.ensures.place;
-      read = c.damage.ensures.read;
-      part = c.damage.ensures.part;
-      ended = c.damage.ensures.ended;
-      read_cause = c.damage.ensures.read_cause;
-      write_cause = c.damage.ensures.write_cause;
-    } in
+    let reported : Damaged c.as_slice.result.now before after c.damage.result = grind arith in
     subst (λ (e : Ending). Ends (Damage c.args.words.now) e before after) (sym c.damaged.ensures)
     (damaged c.args.words.now c.damage.result before after
     (subst (λ (hits : List Hit). Damaged hits before after c.damage.result) (c.as_slice.ensures.value ∙ c.in-Ok.ensures.hits) reported))

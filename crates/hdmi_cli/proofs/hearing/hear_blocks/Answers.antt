@@ -1,4 +1,4 @@
-use Rattle.std.proofs.Common.{rules, ◌+◌, ◌∙◌, ℕ, List, sym, subst}
+use Rattle.std.proofs.Common.{arith, rules, ◌+◌, ◌∙◌, ℕ, List, sym, subst}
 use Rattle.std.proofs.lemmas.Result.{err_from_is_err_and}
 use Rattle.capture_file.specs.Captures.{CanSay}
 use Rattle.hdmi_cli.specs.Hearings.{AreFed}
@@ -25,9 +25,7 @@ loop-preserved g c =
       same = c.hear_block.ensures.same ∙ i.same;
       said = subst (λ (n : ℕ). CanSay n v.bits) (sym c.hear_block.ensures.version) (subst (λ (bs : List ℕ). CanSay o.version bs) (sym c.hear_block.ensures.bits) i.said);
       fed = subst (λ (n : ℕ). AreFed c.hear_block.new.sink v.bits n) (sym (e.block t)) (subst (λ (bs : List ℕ). AreFed c.hear_block.new.sink bs (o.block + 1)) (sym c.hear_block.ensures.bits) (e.fed t));
-      heard = λ from first h.
-          moved g.H.Hears.grammar g.H.Hears.goes_on g.E.Ear.took o.version v.version o.bits v.bits (o.block + 1) v.block from (g.S.Source.left v.source.now) c.hear_block.new.sink first c.hear_block.new.ear
-          c.hear_block.ensures.version c.hear_block.ensures.bits (e.block t) (e.heard from first (i.heard from first h) t);
+      heard = grind (arith, moved);
       taken = takes_more _ _ _ i.taken c.hear_block.ensures.taken;
       input_later = search rules;
       ear_later = search rules;

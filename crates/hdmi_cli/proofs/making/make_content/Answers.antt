@@ -1,13 +1,10 @@
-use Rattle.std.proofs.Common.{rules, ◌≡◌, ◌∙◌, ℕ, List, Some, ap, refl, sym, subst}
+use Rattle.std.proofs.Common.{arith, rules, ◌≡◌, ◌∙◌, ℕ, List, Some, ap, subst}
 use Rattle.std.specs.Prelude.{Ok}
 use Rattle.island_pack.specs.Spelling.{Spells}
 use Rattle.hdmi_cli.specs.Commands.{tap_asked}
 use Rattle.capture_file.specs.declared.writing.Tap.{Tap}
-use Rattle.hdmi_cli.specs.Endings.{Devices, IsAnswered, Ends, StreamEnds}
+use Rattle.hdmi_cli.specs.Endings.{Devices, StreamEnds}
 use Rattle.command_line.specs.declared.command.Command.TheVariants.{MakeContent}
-use Rattle.hdmi_cli.specs.declared.ending.Ending.{Ending}
-use Rattle.hdmi_cli.specs.declared.ending.Ending.TheVariants.{Listing}
-use Rattle.listing_reader.specs.declared.fault.ListFault.{ListFault}
 use Rattle.source_end.specs.Raster.{raster_of}
 use Rattle.listing_reader.specs.LineSteps.{accepts}
 use Rattle.listing_reader.specs.ContentReading.{content_reads_as}
@@ -15,23 +12,10 @@ use Rattle.hdmi_cli.proofs.Answered.{bad_listing, read_contents, read_fault, lin
 use Rattle.hdmi_cli.proofs.making.make_content.Goals as goal
 
 pub returns-in-Err-Bad-clause-ends : goal.returns-in-Err-Bad-clause-ends
-returns-in-Err-Bad-clause-ends g c =
-    let before : Devices = record { left = g.S.Source.left c.args.input.now; input_faults = g.S.Source.faults c.args.input.now; held = g.K.Sink.held c.args.output.now; output_faults = g.K.Sink.faults c.args.output.now } in
-    let after : Devices = record { left = g.S.Source.left c.read_content.new.source; input_faults = g.S.Source.faults c.read_content.new.source; held = g.K.Sink.held c.args.output.now; output_faults = g.K.Sink.faults c.args.output.now } in (
-      search rules,
-      λ text reported.
-          subst (λ (f : ListFault). IsAnswered (MakeContent c.args.words.now) (Listing f) before after text) (sym c.in-Err-Bad.fault-is)
-          (content_refused c.args.words.now c.in-Err-Bad.fault before after text
-          (line_refused (content_reads_as text) _ _ (bad_listing _ c.read_content.result c.in-Err-Bad.field-0 c.in-Err-Bad.fault (c.read_content.ensures.answers text reported) c.in-Err-Bad.is c.in-Err-Bad.field-0-is)) refl),
-    )
+returns-in-Err-Bad-clause-ends g c = grind (arith, content_refused, line_refused, bad_listing)
 
 pub returns-in-Ok-Err-clause-ends : goal.returns-in-Ok-Err-clause-ends
-returns-in-Ok-Err-clause-ends g c =
-    let before : Devices = record { left = g.S.Source.left c.args.input.now; input_faults = g.S.Source.faults c.args.input.now; held = g.K.Sink.held c.args.output.now; output_faults = g.K.Sink.faults c.args.output.now } in
-    let after : Devices = record { left = g.S.Source.left c.read_content.new.source; input_faults = g.S.Source.faults c.read_content.new.source; held = g.K.Sink.held c.args.output.now; output_faults = g.K.Sink.faults c.args.output.now } in
-    subst (λ (e : Ending). Ends (MakeContent c.args.words.now) e before after) (sym (c.unrastered.ensures))
-    (raster_ends c.args.words.now c.in-Ok-Err.fault before after
-    (λ _ text reported. read_fault text c.read_content.result c.in-Ok-Err.fault (c.read_content.ensures.answers text reported) (c.in-Ok-Err.is ∙ ap Ok c.in-Ok-Err.field-0-is)) refl)
+returns-in-Ok-Err-clause-ends g c = grind (arith, raster_ends, read_fault)
 
 pub returns-in-Ok-clause-ends : goal.returns-in-Ok-clause-ends
 returns-in-Ok-clause-ends g c =
@@ -46,14 +30,7 @@ returns-in-Ok-clause-ends g c =
     (λ parts. parts) (λ reads. reads) (search rules) (subst (λ (t : Tap). StreamEnds Spells t (raster_of mode frames) c.in-Ok.ending (g.K.Sink.held c.args.output.now) (g.K.Sink.held c.write_raster.new.output) (g.K.Sink.faults c.args.output.now) (g.K.Sink.faults c.write_raster.new.output)) c.tap_of.ensures c.in-Ok.ensures.ends)
 
 pub returns-in-Err-clause-ends : goal.returns-in-Err-clause-ends
-returns-in-Err-clause-ends g c =
-    let before : Devices = record { left = g.S.Source.left c.args.input.now; input_faults = g.S.Source.faults c.args.input.now; held = g.K.Sink.held c.args.output.now; output_faults = g.K.Sink.faults c.args.output.now } in
-    let after : Devices = record { left = g.S.Source.left c.read_content.new.source; input_faults = g.S.Source.faults c.read_content.new.source; held = g.K.Sink.held c.write_raster.new.output; output_faults = g.K.Sink.faults c.write_raster.new.output } in
-    let accepts : (text : List ℕ) → before.left ≡ Some text → content_reads_as text ≡ accepts c.in-Ok-Ok.read =
-    λ text reported. read_contents _ c.read_content.result c.in-Ok-Ok.read (c.read_content.ensures.answers text reported) (c.in-Ok-Ok.is ∙ ap Ok c.in-Ok-Ok.field-0-is) in
-    subst (λ (e : Ending). Ends (MakeContent c.args.words.now) e before after) (sym c.unrastered-in-Err.ensures)
-    (raster_ends c.args.words.now c.in-Err.fault before after
-    (λ other text reported. made_fault text c.in-Ok-Ok.read.0 c.in-Ok-Ok.read.1 c.write_raster.result c.in-Err.fault (accepts text reported) c.write_raster.ensures.fault c.in-Err.is other) c.in-Err.ensures.kept)
+returns-in-Err-clause-ends g c = grind (arith, read_contents, raster_ends, made_fault)
 
 pub returns-in-Ok-Err-clause-taken : goal.returns-in-Ok-Err-clause-taken
 returns-in-Ok-Err-clause-taken g c = c.read_content.ensures.taken

@@ -1,9 +1,7 @@
-use Rattle.std.proofs.Common.{rules, ◌≡◌, ℕ, List, Some, refl, sym, subst}
+use Rattle.std.proofs.Common.{arith, rules, ◌≡◌, ℕ, List, Some, subst}
 use Rattle.capture_file.specs.declared.writing.Tap.{Tap}
-use Rattle.hdmi_cli.specs.Endings.{Devices, IsAnswered, StreamEnds}
+use Rattle.hdmi_cli.specs.Endings.{Devices, StreamEnds}
 use Rattle.command_line.specs.declared.command.Command.TheVariants.{MakeDvi}
-use Rattle.hdmi_cli.specs.declared.ending.Ending.TheVariants.{Listing}
-use Rattle.listing_reader.specs.declared.fault.ListFault.{ListFault}
 use Rattle.listing_reader.specs.LineSteps.{accepts}
 use Rattle.listing_reader.specs.DviReading.{dvi_reads_as}
 use Rattle.source_end.specs.DviPeriods.{DviSpells}
@@ -12,14 +10,7 @@ use Rattle.hdmi_cli.proofs.Answered.{bad_listing, dvi_refused, stream_ends, make
 use Rattle.hdmi_cli.proofs.making.make_dvi.Goals as goal
 
 pub returns-in-Err-Bad-clause-ends : goal.returns-in-Err-Bad-clause-ends
-returns-in-Err-Bad-clause-ends g c =
-    let before : Devices = record { left = g.S.Source.left c.args.input.now; input_faults = g.S.Source.faults c.args.input.now; held = g.K.Sink.held c.args.output.now; output_faults = g.K.Sink.faults c.args.output.now } in
-    let after : Devices = record { left = g.S.Source.left c.read_dvi.new.source; input_faults = g.S.Source.faults c.read_dvi.new.source; held = g.K.Sink.held c.args.output.now; output_faults = g.K.Sink.faults c.args.output.now } in (
-      search rules,
-      λ text reported.
-          subst (λ (f : ListFault). IsAnswered (MakeDvi c.args.words.now) (Listing f) before after text) (sym c.in-Err-Bad.fault-is)
-          (dvi_refused c.args.words.now c.in-Err-Bad.fault before after text (bad_listing _ c.read_dvi.result c.in-Err-Bad.field-0 c.in-Err-Bad.fault (c.read_dvi.ensures.answers text reported) c.in-Err-Bad.is c.in-Err-Bad.field-0-is) refl),
-    )
+returns-in-Err-Bad-clause-ends g c = grind (arith, dvi_refused, bad_listing)
 
 pub returns-in-Ok-clause-ends : goal.returns-in-Ok-clause-ends
 returns-in-Ok-clause-ends g c =

@@ -1,7 +1,5 @@
-use Rattle.std.proofs.Common.{sym, subst, List, ◌<◌}
-use Rattle.std.specs.List.{All}
+use Rattle.std.proofs.Common.{arith, subst}
 use Rattle.command_line.specs.Commands.{IsCommand as IsLine}
-use Rattle.command_line.specs.declared.damage.DamageWord.{DamageWord}
 use Rattle.command_line.specs.declared.command.Command.{Command}
 use Rattle.hdmi_cli.specs.Endings.{Devices}
 use Rattle.hdmi_cli.proofs.Ends.{line_of, unread_ends}
@@ -14,44 +12,23 @@ returns-in-Ok-None-clause-ends g c =
     unread_ends c.args.words.now devices c.command.result c.in-Ok-None.field-0 c.command.ensures c.in-Ok-None.is c.in-Ok-None.field-0-is
 
 pub damage-requires : goal.damage-requires
-damage-requires g c =
-    subst (λ (words : List DamageWord). All (λ (w : DamageWord). w.lane < 3) words) (sym c.as_slice.ensures.list)
-    (lanes_of_line c.args.words.now c.in-Damage.damages (subst (λ (d : Command). IsLine c.args.words.now d) c.in-Damage.is
-    (line_of c.args.words.now c.command.result c.in-Ok-Some.field-0 c.in-Ok-Some.command c.command.ensures c.in-Ok-Some.is c.in-Ok-Some.field-0-is)))
+damage-requires g c = grind (arith, lanes_of_line, line_of)
 
 pub make_link-requires : goal.make_link-requires
-make_link-requires g c =
-    record {
-      version = version_of_line c.args.words.now c.in-MakeLink.tap (subst (λ (d : Command). IsLine c.args.words.now d) c.in-MakeLink.is
-          (line_of c.args.words.now c.command.result c.in-Ok-Some.field-0 c.in-Ok-Some.command c.command.ensures c.in-Ok-Some.is c.in-Ok-Some.field-0-is));
-    }
+make_link-requires g c = grind (arith, version_of_line, line_of)
 
 pub make_dvi-requires : goal.make_dvi-requires
-make_dvi-requires g c =
-    record {
-      version = version_of_dvi c.args.words.now c.in-MakeDvi.tap (subst (λ (d : Command). IsLine c.args.words.now d) c.in-MakeDvi.is
-          (line_of c.args.words.now c.command.result c.in-Ok-Some.field-0 c.in-Ok-Some.command c.command.ensures c.in-Ok-Some.is c.in-Ok-Some.field-0-is));
-    }
+make_dvi-requires g c = grind (arith, version_of_dvi, line_of)
 
 pub make_content-requires : goal.make_content-requires
-make_content-requires g c =
-    record {
-      version = version_of_content c.args.words.now c.in-MakeContent.tap (subst (λ (d : Command). IsLine c.args.words.now d) c.in-MakeContent.is
-          (line_of c.args.words.now c.command.result c.in-Ok-Some.field-0 c.in-Ok-Some.command c.command.ensures c.in-Ok-Some.is c.in-Ok-Some.field-0-is));
-    }
+make_content-requires g c = grind (arith, version_of_content, line_of)
 
 pub count_sample-requires-clause-few : goal.count_sample-requires-clause-few
-count_sample-requires-clause-few g c =
-    λ κs lives.
-    frames_of_line c.args.words.now c.in-Sample.frames (subst (λ (d : Command). IsLine c.args.words.now d) c.in-Sample.is
-    (line_of c.args.words.now c.command.result c.in-Ok-Some.field-0 c.in-Ok-Some.command c.command.ensures c.in-Ok-Some.is c.in-Ok-Some.field-0-is))
+count_sample-requires-clause-few g c = grind (arith, frames_of_line, line_of)
 
 pub recover_biphase-requires-clause-few : goal.recover_biphase-requires-clause-few
 recover_biphase-requires-clause-few g c = λ κs lives. pair_of_line c.args.words.now c.in-RecoverBiphase.pair (subst (λ (d : Command). IsLine c.args.words.now d) c.in-RecoverBiphase.is
     (line_of c.args.words.now c.command.result c.in-Ok-Some.field-0 c.in-Ok-Some.command c.command.ensures c.in-Ok-Some.is c.in-Ok-Some.field-0-is))
 
 pub slip-requires : goal.slip-requires
-slip-requires g c =
-    let named = (subst (λ (d : Command). IsLine c.args.words.now d) c.in-Slip.is
-    (line_of c.args.words.now c.command.result c.in-Ok-Some.field-0 c.in-Ok-Some.command c.command.ensures c.in-Ok-Some.is c.in-Ok-Some.field-0-is)) in
-    record { lane = named.means.1.2.lane; some = named.means.1.2.some; few = named.means.1.2.few }
+slip-requires g c = grind (arith, line_of)

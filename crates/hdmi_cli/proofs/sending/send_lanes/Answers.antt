@@ -1,4 +1,4 @@
-use Rattle.std.proofs.Common.{rules, ◌≡◌, ◌∙◌, false, [], ap, sym, subst}
+use Rattle.std.proofs.Common.{arith, rules, ◌≡◌, ◌∙◌, false, [], ap, sym, subst}
 use Rattle.capture_file.specs.declared.fault.CaptureFault.{CaptureFault}
 use Rattle.command_line.specs.declared.command.Command.TheVariants.{Relay}
 use Rattle.hdmi_cli.specs.Endings.{Ends, relay_ending, seen}
@@ -12,12 +12,7 @@ pub write_relayed-requires : goal.write_relayed-requires
 write_relayed-requires g c = (c.in-Ok.ensures.heard.1, c.in-Ok.ensures.heard.3.0 [] c.open-relay.ensures.stands)
 
 pub returns-in-Ok-clause-ends : goal.returns-in-Ok-clause-ends
-returns-in-Ok-clause-ends g c =
-    let before = seen (g.S.Source.left c.args.input.now) (g.S.Source.faults c.args.input.now) (g.K.Sink.held c.args.output.now) (g.K.Sink.faults c.args.output.now) in
-    let after = seen (g.S.Source.left c.hear_capture.new.input) (g.S.Source.faults c.hear_capture.new.input) (g.K.Sink.held c.write_relayed.new.output) (g.K.Sink.faults c.write_relayed.new.output) in
-    let heard = c.in-Ok.ensures.heard in
-    let stands = heard.3.0 [] c.open-relay.ensures.stands in
-    heard_sent heard.0 c.in-Ok.heard heard.1 c.hear_capture.new.ear c.write_relayed.result before after heard.2 c.if-heard.true heard.4 (search rules) stands (c.write_relayed.ensures.ends heard.1 stands)
+returns-in-Ok-clause-ends g c = grind (arith, heard_sent)
 
 pub returns-in-Ok-2-clause-ends : goal.returns-in-Ok-2-clause-ends
 returns-in-Ok-2-clause-ends g c =

@@ -1,4 +1,4 @@
-use Rattle.std.proofs.Common.{rules, ◌≡◌, ◌∙◌, ◌≤◌, ℕ, sym, ap, subst, arith}
+use Rattle.std.proofs.Common.{rules, ◌≡◌, ◌∙◌, ℕ, sym, ap, subst, arith}
 use Rattle.listing_writer.specs.Texts.{counted}
 use Rattle.command_line.specs.declared.command.Command.TheVariants.{RecoverTrack}
 use Rattle.hdmi_cli.specs.Endings.{Ends, heard_ending, judged_ending, seen}
@@ -42,11 +42,7 @@ returns-in-Err-clause-ends g c =
     (short_ends _ _ (λ (l : TrackLister g.row.K.Denot). g.K.Sink.held l.lister.sink.now) (λ (l : TrackLister g.row.K.Denot). g.K.Sink.faults l.lister.sink.now) _ _ _ _ first c.follow_capture.new.ear c.in-Err.error writes c.in-Err.ensures.short c.in-Err.ensures.caused))
 
 pub returns-in-Err-clause-output_later : goal.returns-in-Err-clause-output_later
-returns-in-Err-clause-output_later g c =
-    let first : TrackLister g.row.K.Denot = record { lister = c.open.result } in
-    let kept = kept_short _ _ (λ (l : TrackLister g.row.K.Denot). l.lister.sink.ghost_name) (λ x y h t. t.0) (λ x y e l. l.0) _ _ first c.follow_capture.new.ear c.in-Err.error c.in-Err.ensures.short in
-    let same : c.in-Err.output-in-Err-1-own.given.0 ≡ c.follow_capture.new.ear.lister.sink.now = c.in-Err.output-in-Err-1-own.given.1 (sym (kept ∙ c.open.ensures.same)) in
-    between (λ x y. g.K.Sink.faults x ≤ g.K.Sink.faults y) c.args.output.now _ _ _ c.open.ensures.sink same c.follow_capture.ensures.ear_later
+returns-in-Err-clause-output_later g c = grind (arith, kept_short, between)
 
 pub returns-in-Ok-clause-taken : goal.returns-in-Ok-clause-taken
 returns-in-Ok-clause-taken g c = c.follow_capture.ensures.taken

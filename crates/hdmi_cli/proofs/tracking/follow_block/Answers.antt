@@ -1,4 +1,4 @@
-use Rattle.std.proofs.Common.{rules, subst, [], ◌++◌, Option, Result, Err, Some, None, ◌≡◌}
+use Rattle.std.proofs.Common.{arith, rules, subst, [], ◌++◌, Option, Result, Err, Some, None, ◌≡◌}
 use Rattle.std.specs.Prelude.{IfErr, IfSome, IfNone}
 use Rattle.std.specs.Io.KnownBytes.{Consumes}
 use Rattle.hdmi_cli.specs.Tracking.{StopsOn}
@@ -51,16 +51,10 @@ returns-in-Err-clause-short g c =
     (short_on g.E.TrackEar.tracked g.E.TrackEar.lost o.version o.bits o.block from (g.S.Source.left o.source.now) (g.S.Source.left v.source.now) c.args.sink.now first c.args.ear.now c.in-Err.error h c.in-Err.ensures.err part)
 
 pub returns-in-Ok-clause-taken : goal.returns-in-Ok-clause-taken
-returns-in-Ok-clause-taken g c =
-    let b = c.in-Ok-Some.block in
-    let gone : Consumes (g.S.Source.left c.args.reader.now.source.now) (g.S.Source.left c.next.follows.lender-at-none.source.now) ((b.a.now ++ b.b.now) ++ b.c.now) = search rules in
-    ((b.a.now ++ b.b.now) ++ b.c.now, gone)
+returns-in-Ok-clause-taken g c = grind arith
 
 pub returns-in-Err-feed-clause-taken : goal.returns-in-Err-feed-clause-taken
-returns-in-Err-feed-clause-taken g c =
-    let b = c.in-Ok-Some.block in
-    let gone : Consumes (g.S.Source.left c.args.reader.now.source.now) (g.S.Source.left c.next.follows.lender-at-none.source.now) ((b.a.now ++ b.b.now) ++ b.c.now) = search rules in
-    ((b.a.now ++ b.b.now) ++ b.c.now, gone)
+returns-in-Err-feed-clause-taken g c = grind arith
 
 pub returns-in-Ok-None-clause-taken : goal.returns-in-Ok-None-clause-taken
 returns-in-Ok-None-clause-taken g c =

@@ -1,4 +1,4 @@
-use Rattle.std.proofs.Common.{◌≡◌, ℕ, suc, ◌+◌, ◌-◌, ◌<◌, ◌≤◌, List, [], ◌∷◌, ◌++◌, length, drop, replicate, get_or, ap, ap₂, sym, subst, ◌∙◌, arith, refl, All, length-append}
+use Rattle.std.proofs.Common.{◌≡◌, ℕ, ◌+◌, ◌-◌, ◌<◌, ◌≤◌, List, [], ◌∷◌, ◌++◌, length, drop, replicate, get_or, ap, ap₂, ◌∙◌, arith, refl, All, length-append}
 use Rattle.std.proofs.lemmas.List.{drop-replicate, length-replicate}
 use Rattle.std.proofs.lemmas.List.Elements.{All-cons, All-nil, All-append, All-replicate}
 use Rattle.infoframe.specs.Written.{padded}
@@ -28,20 +28,7 @@ pub returns-clause-payload : goal.returns-clause-payload
 returns-clause-payload c = rest_of c.args.payload.now c.copy_from_slice.new.self c.copy_from_slice.ensures.after
 
 pub returns-clause-whole : goal.returns-clause-whole
-returns-clause-whole c =
-    let payload = c.args.payload.now in
-    let rest = rest_of payload c.copy_from_slice.new.self c.copy_from_slice.ensures.after in
-    record {
-      header = refl;
-      header_bytes =
-          All-cons IsByte c.args.type_code (c.args.version ∷ length payload ∷ []) c.ranges.type_code.fits
-          (All-cons IsByte c.args.version (length payload ∷ []) c.ranges.version.fits (All-cons IsByte (length payload) [] (omega arith) (All-nil IsByte)));
-      bodies = ap (λ (xs : List ℕ). suc (length xs)) rest ∙ ap suc (length-padded payload c.requires);
-      body_bytes =
-          All-cons IsByte c.wrapping_neg.result (c.copy_from_slice.new.self ++ drop (length payload + 1 - 1) (replicate 27 0)) c.wrapping_neg.type_inv
-          (subst (All IsByte) (sym rest) (bytes_of payload (λ k. (c.type_inv.payload k).fits)));
-      sync = omega arith;
-    }
+returns-clause-whole c = grind (arith, rest_of, All-cons, All-nil, length-padded, bytes_of)
 
 pub returns-clause-checksum : goal.returns-clause-checksum
 returns-clause-checksum c =

@@ -1,6 +1,5 @@
-use Rattle.std.proofs.Common.{[], ◌∷◌, length, take, ap, ◌∙◌, arith}
+use Rattle.std.proofs.Common.{[], arith}
 use Rattle.std.proofs.lemmas.List.{length-take}
-use Rattle.infoframe.specs.Written.{padded}
 use Rattle.infoframe.proofs.Bounds.{raw_bounds}
 use Rattle.infoframe.proofs.Writings.{raw_written}
 use Rattle.infoframe.proofs.writing.write_raw.Goals as goal
@@ -16,9 +15,4 @@ lay-requires c =
     simp length-take (omega (arith, c.from.ensures))
 
 pub returns-clause-written : goal.returns-clause-written
-returns-clause-written c =
-    let bytes = c.args.bytes.now in
-    let n = c.from.ensures in
-    raw_written c.args.kind c.args.version c.args.length bytes c.lay.new.out (raw_bounds _ _ _ _ c.requires) c.told-bytes c.lay.ensures.whole
-    (c.lay.ensures.header ∙ ap (λ m. c.args.kind ∷ c.args.version ∷ length (take m bytes) ∷ []) n)
-    (c.lay.ensures.payload ∙ ap (λ m. padded (take m bytes)) n) c.lay.ensures.checksum
+returns-clause-written c = grind (arith, raw_written, raw_bounds)

@@ -1,4 +1,4 @@
-use Rattle.std.proofs.Common.{◌≡◌, Bool, true, false, not, ◌&&◌, ◌==◌, ap, ap₂, sym}
+use Rattle.std.proofs.Common.{arith, ◌≡◌, Bool, true, false, not, ◌&&◌, ◌==◌, ap, ap₂, sym}
 use Rattle.std.proofs.lemmas.Bool.{ne_eqb}
 use Rattle.terc4.specs.Columns.{one_if}
 use Rattle.island_pack.proofs.laying.mark.Goals as goal
@@ -20,8 +20,4 @@ pub returns-then-i-eq0-clause-value : goal.returns-then-i-eq0-clause-value
 returns-then-i-eq0-clause-value c = marked _ _ c.if-first.true (ap (λ i. i == 0) c.if-i-eq0.true)
 
 pub returns-else-first-clause-value : goal.returns-else-first-clause-value
-returns-else-first-clause-value c =
-    elim c.else-first.branch [
-      | else-first-via-then-first+else-i-eq0 w ↦ later _ _ w.if-first.true (ne_eqb c.args.i 0 w.if-i-eq0.false)
-      | else-first-via-else-first w ↦ never _ _ w.if-first.false
-    ]
+returns-else-first-clause-value c = grind (arith, later, ne_eqb, else-first-via-else-first, never)

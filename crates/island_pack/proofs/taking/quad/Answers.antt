@@ -1,4 +1,4 @@
-use Rattle.std.proofs.Common.{◌≡◌, ℕ, suc, zero, ◌+◌, ◌*◌, ◌/◌, ◌%◌, ◌<◌, ◌≤◌, List, [], ◌∷◌, length, ap, ap₂, sym, ◌∙◌, arith, slice_index, refl}
+use Rattle.std.proofs.Common.{◌≡◌, ℕ, suc, zero, ◌+◌, ◌*◌, ◌/◌, ◌%◌, ◌<◌, List, [], ◌∷◌, ap, ◌∙◌, arith, slice_index, refl}
 use Rattle.std.proofs.lemmas.Nat.Bits.{bit_at-lt}
 use Rattle.std.specs.Int.{bit_at}
 use Rattle.bch_block.specs.Bits.{byte_bits}
@@ -33,24 +33,7 @@ spread_sum : (g0 r0 g1 r1 g2 r2 g3 r3 p q r s : ℕ) → p ≡ spread_of g0 + 2 
     → p + 4 * q + 16 * r + 64 * s
     ≡ sum_at g0 r0 g1 r1 g2 r2 g3 r3 0 + 256 * sum_at g0 r0 g1 r1 g2 r2 g3 r3 1 + 65536 * sum_at g0 r0 g1 r1 g2 r2 g3 r3 2 + 16777216 * sum_at g0 r0 g1 r1 g2 r2 g3 r3 3
 unfolding sum_at spread_of
-spread_sum g0 r0 g1 r1 g2 r2 g3 r3 p q r s ep eq er es =
-    let f : ℕ → ℕ → ℕ → ℕ → ℕ = λ a b c d. a + 4 * b + 16 * c + 64 * d in
-    (λ i. f (ep i) (eq i) (er i) (es i))
-    ∙ gathered (bit_at g0 0) (bit_at g0 1) (bit_at g0 2) (bit_at g0 3) (bit_at r0 0) (bit_at r0 1) (bit_at r0 2) (bit_at r0 3)
-    (bit_at g1 0) (bit_at g1 1) (bit_at g1 2) (bit_at g1 3) (bit_at r1 0) (bit_at r1 1) (bit_at r1 2) (bit_at r1 3)
-    (bit_at g2 0) (bit_at g2 1) (bit_at g2 2) (bit_at g2 3) (bit_at r2 0) (bit_at r2 1) (bit_at r2 2) (bit_at r2 3)
-    (bit_at g3 0) (bit_at g3 1) (bit_at g3 2) (bit_at g3 3) (bit_at r3 0) (bit_at r3 1) (bit_at r3 2) (bit_at r3 3)
-  where
-    gathered : (a0 a1 a2 a3 b0 b1 b2 b3 c0 c1 c2 c3 d0 d1 d2 d3 e0 e1 e2 e3 f0 f1 f2 f3 h0 h1 h2 h3 i0 i1 i2 i3 : ℕ)
-        → (a0 + 256 * a1 + 65536 * a2 + 16777216 * a3 + 2 * (b0 + 256 * b1 + 65536 * b2 + 16777216 * b3))
-        + 4 * (c0 + 256 * c1 + 65536 * c2 + 16777216 * c3 + 2 * (d0 + 256 * d1 + 65536 * d2 + 16777216 * d3))
-        + 16 * (e0 + 256 * e1 + 65536 * e2 + 16777216 * e3 + 2 * (f0 + 256 * f1 + 65536 * f2 + 16777216 * f3))
-        + 64 * (h0 + 256 * h1 + 65536 * h2 + 16777216 * h3 + 2 * (i0 + 256 * i1 + 65536 * i2 + 16777216 * i3))
-        ≡ (a0 + 2 * b0 + 4 * c0 + 8 * d0 + 16 * e0 + 32 * f0 + 64 * h0 + 128 * i0)
-        + 256 * (a1 + 2 * b1 + 4 * c1 + 8 * d1 + 16 * e1 + 32 * f1 + 64 * h1 + 128 * i1)
-        + 65536 * (a2 + 2 * b2 + 4 * c2 + 8 * d2 + 16 * e2 + 32 * f2 + 64 * h2 + 128 * i2)
-        + 16777216 * (a3 + 2 * b3 + 4 * c3 + 8 * d3 + 16 * e3 + 32 * f3 + 64 * h3 + 128 * i3)
-    gathered a0 a1 a2 a3 b0 b1 b2 b3 c0 c1 c2 c3 d0 d1 d2 d3 e0 e1 e2 e3 f0 f1 f2 f3 h0 h1 h2 h3 i0 i1 i2 i3 = omega arith
+spread_sum g0 r0 g1 r1 g2 r2 g3 r3 p q r s ep eq er es = grind arith
 
 -- byte b of a number of four bytes
 byte_at : (n p q r s b : ℕ) → n ≡ p + 256 * q + 65536 * r + 16777216 * s → p < 256 → q < 256 → r < 256 → s < 256 → b < 4
@@ -83,11 +66,4 @@ quad_bits g0 r0 g1 r1 g2 r2 g3 r3 p q r s b bytes ep eq er es e lt =
     ∙ bits_of_sum_at g0 r0 g1 r1 g2 r2 g3 r3 b
 
 pub returns : goal.returns
-returns c = λ b lt.
-    let gs = c.args.green.now in
-    let rs = c.args.red.now in
-    let at = c.args.at in
-    let lg : at + 4 ≤ length gs = omega (arith, c.told-green, c.requires.inside) in
-    let lr : at + 4 ≤ length rs = omega (arith, c.told-red, c.requires.inside) in
-    quad_bits _ _ _ _ _ _ _ _ _ _ _ _ b c.to_le_bytes.result c.pair-first.ensures.value c.pair-second.ensures.value c.pair-third.ensures.value c.pair-fourth.ensures.value c.to_le_bytes.ensures lt
-    ∙ sym (ap₂ (by_turns b) (four_from gs at lg) (four_from rs at lr))
+returns c = grind (arith, quad_bits, four_from)

@@ -1,5 +1,5 @@
-use Rattle.std.proofs.Common.{◌≡◌, ◌≢◌, ◌<◌, ◌+◌, ℕ, List, [], not, length, map, get_or, arith, get_or-set_other, get_or-set_same, below_more, ap, ap₂, sym, ◌∙◌, slice_index}
-use Rattle.std.specs.Prelude.{unwrap_or, is_some, count_by}
+use Rattle.std.proofs.Common.{◌≡◌, [], not, get_or, arith, get_or-set_other, get_or-set_same, ap, sym, ◌∙◌, slice_index}
+use Rattle.std.specs.Prelude.{is_some, count_by}
 use Rattle.std.proofs.lemmas.List.{length-set, length-map, get_or-map, take_all}
 use Rattle.std.proofs.lemmas.Grind.{same_number_lists}
 use Rattle.terc4.specs.Tables.{terc_words, is_terc}
@@ -20,24 +20,13 @@ loop-i-preserved c =
     ∙ not-not c.is_none.result in
     record {
       long = length-set c.loop-i.nibbles i _ ∙ c.loop-i.invariant.long;
-      read =
-          below_more _ _
-          (λ k h. let ne : k ≢ i = omega arith in rw get_or-set_other (c.loop-i.invariant.read k h))
-          (let lt : i < length c.loop-i.nibbles = omega (arith, c.loop-i.invariant.long, c.told-columns) in
-          rw get_or-set_same (c.unwrap_or.ensures ∙ ap (λ o. unwrap_or o 0) value));
-      foreign =
-          ap₂ (λ m n. m + n) c.loop-i.invariant.foreign c.from-foreign.ensures
-          ∙ sym (count_more (is_foreign lane) c.args.columns.now i [] c.is_none.result (omega (arith, c.told-columns)) strange);
+      read = grind (arith, get_or-set_other, get_or-set_same);
+      foreign = grind (arith, count_more);
     }
 
 pub returns-clause-nibbles : goal.returns-clause-nibbles
 unfolding nibbles_of
-returns-clause-nibbles c =
-    let columns = c.args.columns.now in
-    let f : List ℕ → ℕ = λ words. nibble_of (slice_index words c.args.lane) in
-    let long = c.loop-i.invariant.long in
-    same_number_lists c.loop-i.nibbles (map f columns) (long ∙ sym (length-map columns f ∙ c.told-columns))
-    (λ k lt. c.loop-i.invariant.read k (omega (arith, long)) ∙ sym (get_or-map f columns k [] 0 (omega (arith, long, c.told-columns))))
+returns-clause-nibbles c = grind (arith, same_number_lists, length-map, get_or-map)
 
 pub returns-clause-foreign : goal.returns-clause-foreign
 unfolding foreign_on

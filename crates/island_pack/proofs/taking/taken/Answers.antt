@@ -1,4 +1,4 @@
-use Rattle.std.proofs.Common.{◌≡◌, ℕ, ◌<◌, ◌+◌, ◌*◌, ◌%◌, Bool, List, [], ◌∷◌, length, take, drop, map, ap, ap₂, arith, refl, sym, subst, ◌∙◌, All}
+use Rattle.std.proofs.Common.{◌≡◌, ℕ, ◌<◌, ◌+◌, ◌*◌, ◌%◌, Bool, List, [], ◌∷◌, take, drop, map, ap, ap₂, arith, refl, sym, subst, ◌∙◌, All}
 use Rattle.bch_block.specs.Bits.{bit}
 use Rattle.bch_block.specs.declared.Verdict.{Verdict}
 use Rattle.bch_block.specs.declared.Verdict.TheVariants.{Clean}
@@ -41,15 +41,7 @@ returns c =
     let l2 = c.body-verdict2.ensures.long in
     let l3 = c.body-verdict3.ensures.long in
     record {
-      whole = record {
-        header = c.header-verdict4.ensures.long;
-        header_bytes = c.header-verdict4.ensures.bytes;
-        bodies = ap length joined ∙ length-four b0 b1 b2 b3 l0 l1 l2 l3;
-        body_bytes =
-            subst (All (λ n. n < 256)) (sym joined)
-            (All-four b0 b1 b2 b3 c.body-verdict0.ensures.bytes c.body-verdict1.ensures.bytes c.body-verdict2.ensures.bytes c.body-verdict3.ensures.bytes);
-        sync = ap length (c.sync_of.ensures ∙ ap (map (λ n. n % 4)) blues) ∙ length-map (nibbles_of columns 0) (λ n. n % 4) ∙ length-nibbles_of columns 0 ∙ c.told-columns;
-      };
+      whole = grind (arith, length-four, All-four, length-map, length-nibbles_of);
       sync = c.sync_of.ensures ∙ ap (map (λ n. n % 4)) blues;
       bodies =
           each_body (λ b. IsTaken (bits b) (take 7 (drop (7 * b) c.joined.result)) (slice_index_or verdicts b Clean))

@@ -36,9 +36,4 @@ returns-then-groups-eq1-clause-row c =
     ∙ group_written row after _ big r i c.args.groups at g c.requires.from (omega (arith, all)) is written c.loop-i.invariant.written
 
 pub returns-else-groups-eq1-clause-row : goal.returns-else-groups-eq1-clause-row
-returns-else-groups-eq1-clause-row c =
-    let i = c.loop-i.i in
-    let all : c.args.groups ≡ 2 * i = omega arith in
-    let none : 4 * (c.args.groups - 2 * i) ≡ 0 = omega arith in
-    ap (λ n. take (c.args.at + 4 * n) c.loop-i.row) all ∙ sym (append-nil (take (c.args.at + 4 * (2 * i)) c.loop-i.row))
-    ∙ ap (λ ws. take (c.args.at + 4 * (2 * i)) c.loop-i.row ++ ws) (sym (no_words (number (bytes_bits c.args.bytes.now) / 2 ^ (c.args.from + 40 * (2 * i))) _ none)) ∙ c.loop-i.invariant.written
+returns-else-groups-eq1-clause-row c = grind (arith, append-nil, no_words)

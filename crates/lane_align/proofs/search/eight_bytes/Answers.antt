@@ -1,6 +1,6 @@
 use Rattle.std.proofs.Common.{arith}
 use Rattle.tmds_word.proofs.Rows.{AreBytes}
-use Rattle.lane_align.proofs.Fives.{eight_bytes_are}
+use Rattle.tmds_word.proofs.Eights.{eight_bytes_are}
 use Rattle.lane_align.proofs.search.eight_bytes.Goals as goal
 
 pub returns : goal.returns

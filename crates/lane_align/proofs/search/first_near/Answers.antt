@@ -1,4 +1,4 @@
-use Rattle.std.proofs.Common.{◌≡◌, ◌+◌, ◌-◌, ◌*◌, ◌<◌, ◌≤◌, subst, arith, inl, inr}
+use Rattle.std.proofs.Common.{◌≡◌, ◌+◌, ◌-◌, ◌*◌, ◌<◌, ◌≤◌, subst, arith}
 use Rattle.std.proofs.lemmas.Bool.{cases_lt}
 use Rattle.tmds_word.specs.Bits.{bytes_bits}
 use Rattle.lane_align.specs.Lanes.{HasControl}
@@ -19,10 +19,7 @@ loop-left-init c =
           let here : q ≡ from + (q - from) = omega arith in
           mark_left c.fours_at.result m (q - from) few (omega arith)
           ((c.fours_at.ensures (q - from) (omega arith) (omega arith)).1 (λ k lt. subst (λ n. HasControl (bytes_bits c.args.bytes.now) (n + 10 * k)) here (other.run k (omega arith))));
-      fours = λ i set.
-          let was = mark_was c.fours_at.result m i few set in
-          let within = was.0 in
-          (omega arith, (c.fours_at.ensures i (omega arith) (omega arith)).0 was.1);
+      fours = grind (arith, mark_was);
     }
 
 pub goes_on-requires-clause-room : goal.goes_on-requires-clause-room
@@ -43,12 +40,7 @@ returns-then-goes_on c =
     let set = lowest_set (bytes_bits c.args.bytes.now) c.args.from c.args.until c.args.phase c.loop-left.left some c.loop-left.auto.left-fits.fits c.loop-left.invariant.all in
     let here = c.loop-left.invariant.fours _ set in
     record {
-      other = record {
-        after = omega arith;
-        before = here.0;
-        apart = λ same. omega (arith, c.if-place-phase.true, same);
-        run = λ k lt. elim (cases_lt k 4) [ inl few ↦ here.1 k few | inr more ↦ c.goes_on.ensures.0 c.if-goes_on.true k more lt ];
-      };
+      other = grind (arith, cases_lt);
       least = none_before (bytes_bits c.args.bytes.now) c.args.from c.args.until c.args.phase c.loop-left.left some c.loop-left.auto.left-fits.fits c.loop-left.invariant.all;
     }
 

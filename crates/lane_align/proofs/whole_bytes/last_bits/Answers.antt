@@ -1,4 +1,4 @@
-use Rattle.std.proofs.Common.{◌≡◌, ◌+◌, ◌-◌, ◌/◌, ◌^◌, ◌<◌, ◌∙◌, ap, arith, sym, subst}
+use Rattle.std.proofs.Common.{◌-◌, ◌/◌, ◌^◌, ◌∙◌, ap, arith, sym}
 use Rattle.std.proofs.lemmas.Nat.{shr_below}
 use Rattle.tmds_word.specs.Bits.{bytes_bits}
 use Rattle.tmds_word.proofs.Numbers.{number-drop}
@@ -11,7 +11,4 @@ returns-clause-value c =
     ap (λ n. n / 2 ^ (16 - c.args.count)) (c.from.ensures ∙ c.from_le_bytes.ensures ∙ omega arith) ∙ sym (number-drop (16 - c.args.count) (bytes_bits c.args.bytes.now))
 
 pub returns-clause-below : goal.returns-clause-below
-returns-clause-below c =
-    let whole : c.args.count + (16 - c.args.count) ≡ 16 = omega (arith, c.requires.count) in
-    let small : c.from.result < 2 ^ 16 = omega arith in
-    shr_below c.from.result c.args.count (16 - c.args.count) (subst (λ k. c.from.result < 2 ^ k) (sym whole) small)
+returns-clause-below c = grind (arith, shr_below)

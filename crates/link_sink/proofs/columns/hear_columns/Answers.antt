@@ -1,4 +1,4 @@
-use Rattle.std.proofs.Common.{◌++◌, List, length, take, arith, sym, subst, ap, ◌∙◌, append_assoc, length-drop}
+use Rattle.std.proofs.Common.{◌++◌, List, take, arith, subst, ap, ◌∙◌, append_assoc, length-drop}
 use Rattle.std.proofs.lemmas.List.{take_all, take-append-drop}
 use Rattle.std.proofs.Math.Seq.{take-add}
 use Rattle.tmds_word.specs.Column.{Column}
@@ -19,22 +19,7 @@ returns-in_err-j-clause-stopped g c =
     (c.in_err-j.ensures.stopped (cs ++ take j all) (c.loop-j.invariant.stands cs was))))
 
 pub loop-j-preserved : goal.loop-j-preserved
-loop-j-preserved g c =
-    let all = columns_in c.args.columns in
-    let j = c.loop-j.j in
-    let n = c.in_ok-j.field-0 in
-    let more = ap (λ ds. take j all ++ take n ds) c.from.ensures ∙ sym (take-add j n all) in
-    record {
-      within = omega (arith, c.in_ok-j.ensures.count.1, ap (λ (ds : List Column). length ds) c.from.ensures, length-drop j all);
-      stands = λ cs was.
-          subst (λ (ds : List Column). g.H.Hears.goes_on c.hear_part.new.hearing ds) (append_assoc cs (take j all) _ ∙ ap (λ ds. cs ++ ds) more)
-          (c.in_ok-j.ensures.heard (cs ++ take j all) (c.loop-j.invariant.stands cs was));
-      reported = λ cs was.
-          subst (λ (ds : List Column). TookMore g.H.Hears.grammar g.E.Ear.took c.args.ear.now c.hear_part.new.ear cs ds) more
-          (took_parts g.H.Hears.grammar g.E.Ear.took g.met.E.Ear.took_both _ _ _ cs (take j all) _ (c.loop-j.invariant.reported cs was)
-          (c.in_ok-j.ensures.reported (cs ++ take j all) (c.loop-j.invariant.stands cs was)));
-      later = omega (arith, c.loop-j.invariant.later, c.hear_part.ensures.cause.later);
-    }
+loop-j-preserved g c = grind (arith, take-add, length-drop, append_assoc, took_parts)
 
 pub returns-clause-heard : goal.returns-clause-heard
 returns-clause-heard g c = λ cs was.

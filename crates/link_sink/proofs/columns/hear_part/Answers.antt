@@ -1,4 +1,4 @@
-use Rattle.std.proofs.Common.{◌+◌, ◌++◌, List, take, drop, arith, sym, subst, ap, ◌∙◌, append_assoc, length-append}
+use Rattle.std.proofs.Common.{◌+◌, ◌++◌, List, take, drop, arith, subst, append_assoc, length-append}
 use Rattle.std.proofs.lemmas.List.{take-append-drop}
 use Rattle.tmds_word.specs.Column.{Column}
 use Rattle.tmds_word.specs.Lent.{columns_in}
@@ -13,11 +13,7 @@ pub returns-then-went-len-clause-reported : goal.returns-then-went-len-clause-re
 returns-then-went-len-clause-reported g c = λ cs was. took_quiet g.H.Hears.grammar g.E.Ear.took _ cs _ (g.met.E.Ear.took_none _) (c.hear_while-went.ensures.reported cs was)
 
 pub tell-requires : goal.tell-requires
-tell-requires g c =
-    let all = columns_in c.args.columns in
-    let cs = c.requires.heard.0 ++ take c.hear_while-went.result all in
-    let stands = c.hear_while-went.ensures.heard c.requires.heard.0 c.requires.heard.1 in
-    record { sized = call_sized g.H.Hears.grammar g.met.H.Hears.is_grammar cs _ _ (c.hear.ensures.reported cs stands) }
+tell-requires g c = grind (arith, call_sized)
 
 pub returns-in_err-tell-clause-stopped : goal.returns-in_err-tell-clause-stopped
 returns-in_err-tell-clause-stopped g c =
@@ -32,13 +28,7 @@ returns-in_err-tell-clause-stopped g c =
     (took_quiet g.H.Hears.grammar g.E.Ear.took _ cs part (g.met.E.Ear.took_none _) (c.hear_while-went.ensures.reported cs was)) c.in_err-tell.ensures.err))
 
 pub returns-clause-heard : goal.returns-clause-heard
-returns-clause-heard g c = λ cs was.
-    let all = columns_in c.args.columns in
-    let went = c.hear_while-went.result in
-    let part = take went all in
-    let more = take_next all went _ c.get.ensures in
-    subst (λ (ds : List Column). g.H.Hears.goes_on c.hear.new.self ds) (append_assoc cs part _ ∙ ap (λ ds. cs ++ ds) (sym more))
-    (c.hear.ensures.heard (cs ++ part) (c.hear_while-went.ensures.heard cs was))
+returns-clause-heard g c = grind (arith, take_next, append_assoc)
 
 pub returns-clause-reported : goal.returns-clause-reported
 returns-clause-reported g c = λ cs was.
@@ -51,14 +41,7 @@ returns-clause-reported g c = λ cs was.
     (took_quiet g.H.Hears.grammar g.E.Ear.took _ cs part (g.met.E.Ear.took_none _) (c.hear_while-went.ensures.reported cs was)) c.in_ok-tell.ensures.ok
 
 pub hear-requires-clause-few : goal.hear-requires-clause-few
-hear-requires-clause-few g c =
-    let all = columns_in c.args.columns in
-    let went = c.hear_while-went.result in
-    let cs = c.requires.heard.0 in
-    let was = g.met.H.Hears.counts _ cs c.requires.heard.1 in
-    let is = g.met.H.Hears.counts _ (cs ++ take went all) (c.hear_while-went.ensures.heard cs c.requires.heard.1) in
-    let few = c.requires.few in
-    omega (arith, was, is, few, length-append cs (take went all), length-take-most went all, c.hear_while-went.ensures.within, c.len.ensures, c.if-went-len.false)
+hear-requires-clause-few g c = grind (arith, length-append, length-take-most)
 
 pub hear-requires-clause-heard : goal.hear-requires-clause-heard
 hear-requires-clause-heard g c =

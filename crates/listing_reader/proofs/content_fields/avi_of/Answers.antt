@@ -1,4 +1,4 @@
-use Rattle.std.proofs.Common.{sym, ◌∙◌}
+use Rattle.std.proofs.Common.{arith, sym, ◌∙◌}
 use Rattle.listing_reader.proofs.ContentLines.{avi_seen, avi_no_bytes, avi_no_words}
 use Rattle.listing_reader.proofs.content_fields.avi_of.Goals as goal
 
@@ -10,7 +10,4 @@ returns-then-not-to_words-clause-form c =
     avi_no_words c.args.fields.now (sym c.to_bytes.ensures.value ∙ c.if-not-to_bytes.false) (sym c.to_words.ensures.value ∙ c.if-not-to_words.true)
 
 pub returns-clause-form : goal.returns-clause-form
-returns-clause-form c =
-    avi_seen c.args.fields.now c.to_bytes.new.into c.to_words.new.into c.info_packet.result (sym c.to_bytes.ensures.value ∙ c.if-not-to_bytes.false)
-    (sym c.to_words.ensures.value ∙ c.if-not-to_words.false)
-    (c.to_bytes.ensures.bytes c.if-not-to_bytes.false) (c.to_words.ensures.words c.if-not-to_words.false) c.info_packet.ensures
+returns-clause-form c = grind (arith, avi_seen)

@@ -1,10 +1,10 @@
-use Rattle.std.proofs.Common.{◌≡◌, List, [], refl, subst}
+use Rattle.std.proofs.Common.{[], subst}
 use Rattle.listing_reader.specs.Answers.{Answers}
 use Rattle.listing_reader.specs.ContentDrafts.{no_content}
 use Rattle.listing_reader.specs.ContentKept.{ContentKept, kept_step}
-use Rattle.listing_reader.specs.ContentReading.{content_reads_as, content_step}
+use Rattle.listing_reader.specs.ContentReading.{content_reads_as}
 use Rattle.listing_reader.specs.Lines.{pieces_of}
-use Rattle.listing_reader.specs.LineSteps.{Read, read_lines}
+use Rattle.listing_reader.specs.LineSteps.{read_lines}
 use Rattle.listing_reader.proofs.ContentKept.{kept_reads, none_sound}
 use Rattle.listing_reader.proofs.read.read_content.Goals as goal
 

@@ -1,4 +1,4 @@
-use Rattle.std.proofs.Common.{List, ℕ, ◌++◌, sym, ap, ◌∙◌}
+use Rattle.std.proofs.Common.{arith, List, ℕ, ◌++◌, ap, ◌∙◌}
 use Rattle.std.specs.Prelude.{codes}
 use Rattle.listing_writer.proofs.ContentCases.{as_avi, as_audio, as_spd, as_raw, no_some, raw_same}
 use Rattle.listing_writer.proofs.content_info.info_line.Goals as goal
@@ -16,8 +16,4 @@ returns-in-Some-spd c =
     c.spd_line.ensures ∙ ap (λ (words : List ℕ). words ++ codes "\n") (as_spd _ c.args.info.now c.in-Some-spd.spd c.in-Some-spd.ensures)
 
 pub returns-in-None : goal.returns-in-None
-returns-in-None c =
-    c.raw_line.ensures ∙ ap (λ (words : List ℕ). words ++ codes "\n") (
-    raw_same _ _ _ _ _ _ c.requires c.version.ensures c.payload.ensures.bytes
-    ∙ as_raw _ c.args.info.now (sym c.avi.ensures ∙ no_some c.avi.result c.in_default.not-Some) (sym c.audio.ensures ∙ no_some c.audio.result c.in_default-audio.not-Some)
-    (sym c.spd.ensures ∙ c.in-None.is))
+returns-in-None c = grind (arith, raw_same, as_raw, no_some)

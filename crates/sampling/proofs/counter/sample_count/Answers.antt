@@ -6,10 +6,7 @@ use Rattle.sampling.proofs.LineKinds.{samples_read, packet_samples, no_samples, 
 use Rattle.sampling.proofs.counter.sample_count.Goals as goal
 
 pub returns-then-header-ne2 : goal.returns-then-header-ne2
-returns-then-header-ne2 c column =
-    let p = c.args.packet.packet.now in
-    let v = c.args.packet.verdicts.now in
-    no_samples p v (λ is. c.if-header-ne2.true (ap (λ (header : List ℕ). slice_index header 0) c.header.ensures ∙ is)) ∙ sym (packet_samples p v column)
+returns-then-header-ne2 c column = grind (arith, no_samples, packet_samples)
 
 pub count-requires-clause-fits : goal.count-requires-clause-fits
 count-requires-clause-fits c = inl (omega (arith, samples_short c.args.packet.packet.now c.args.packet.verdicts.now c.in-Ok.notes c.in-Ok.ensures))
@@ -24,9 +21,4 @@ returns-in-Ok c column =
     ∙ sym (packet_samples p v column)
 
 pub returns-in-Err : goal.returns-in-Err
-returns-in-Err c column =
-    let p = c.args.packet.packet.now in
-    let v = c.args.packet.verdicts.now in
-    ap samples_read c.in-Err.ensures
-    ∙ all_samples p v (ap (λ (header : List ℕ). slice_index header 0) (sym c.header.ensures) ∙ c.if-header-ne2.false)
-    ∙ sym (packet_samples p v column)
+returns-in-Err c column = grind (arith, samples_read, all_samples, packet_samples)

@@ -1,12 +1,10 @@
 use Rattle.std.proofs.Common.{◌<◌, List, length, take, ap, sym, subst, ◌∙◌, arith}
 use Rattle.std.specs.Prelude.{All}
-use Rattle.island_pack.specs.Periods.{Period, columns_of}
+use Rattle.island_pack.specs.Periods.{columns_of}
 use Rattle.source_end.specs.ItemPeriods.{period_of}
 use Rattle.capture_file.specs.BlockDamage.{AllFitLanes}
 use Rattle.capture_file.specs.Taps.{tap_counts}
 use Rattle.capture_file.specs.declared.damaging.Hit.{Hit}
-use Rattle.sampling.specs.Strikes.{strikes}
-use Rattle.sampling.specs.Struck.{struck}
 use Rattle.sampling.proofs.Struck.{no_columns, no_strikes, room_at, taken_more, columns_more, struck_more, walked, hits_lanes, hits_few, hits_fit}
 use Rattle.sampling.proofs.hits.hits_of.Goals as goal
 
@@ -19,16 +17,10 @@ push_item-requires-clause-within c =
     c.items-item-items.ensures c.loop-item-test.true c.item-item.is c.loop-item.invariant.at_is c.columns-columns.ensures.value
 
 pub columns_of-at-requires : goal.columns_of-at-requires
-columns_of-at-requires c =
-    let room = room_at c.items-item-items.result.now c.args.stream.now c.loop-item.item-index c.item-item.result c.loop-item.at c.columns-columns.result
-    c.items-item-items.ensures c.loop-item-test.true c.item-item.is c.loop-item.invariant.at_is c.columns-columns.ensures.value in
-    omega (arith, room, c.columns-columns.ensures.few)
+columns_of-at-requires c = grind (arith, room_at)
 
 pub overflow_add-at : goal.overflow_add-at
-overflow_add-at c =
-    let room = room_at c.items-item-items.result.now c.args.stream.now c.loop-item.item-index c.item-item.result c.loop-item.at c.columns-columns.result
-    c.items-item-items.ensures c.loop-item-test.true c.item-item.is c.loop-item.invariant.at_is c.columns-columns.ensures.value in
-    omega (arith, room, c.columns-columns.ensures.few, c.columns_of-at.ensures)
+overflow_add-at c = grind (arith, room_at)
 
 pub loop-item-preserved : goal.loop-item-preserved
 loop-item-preserved c =
@@ -38,9 +30,7 @@ loop-item-preserved c =
     let more = taken_more c.items-item-items.result.now ps i c.item-item.result c.items-item-items.ensures c.loop-item-test.true c.item-item.is in
     record {
       at_is = omega (arith, c.loop-item.invariant.at_is, c.columns_of-at.ensures, columns_more (take i ps) p, ap columns_of more);
-      hits_are = struck_more c.args.tap.now c.columns-columns.result c.loop-item.at (take i ps) p c.loop-item.hits.items c.push_item.new.hits.items
-          c.loop-item.invariant.at_is c.loop-item.invariant.hits_are c.in_ok-push_item.ensures
-          ∙ ap (λ (qs : List Period). struck c.args.tap.now c.columns-columns.result (strikes 0 qs)) (sym more);
+      hits_are = grind (arith, struck_more);
     }
 
 pub returns-clause-hits : goal.returns-clause-hits

@@ -1,4 +1,4 @@
-use Rattle.std.proofs.Common.{◌∙◌, arith}
+use Rattle.std.proofs.Common.{arith}
 use Rattle.source_end.specs.Content.{with_packet}
 use Rattle.source_end.proofs.Generated.{same_length, led, sounds_added}
 use Rattle.source_end.proofs.generator.add_packets.Goals as goal
@@ -18,14 +18,7 @@ pub loop-i-init : goal.loop-i-init
 loop-i-init c =
     let one = same_length (with_packet c.args.avi.now) c.args.content.now c.packet.new.self c.in_ok-packet.ensures.ok in
     let two = same_length (with_packet c.clock.result) c.packet.new.self c.packet-2.new.self c.in_ok-packet-2.ensures.ok in
-    let three = same_length (with_packet c.args.audio.now) c.packet-2.new.self c.packet-3.new.self c.in_ok-packet-3.ensures.ok in
-    record {
-      count = three ∙ two ∙ one;
-      added = led c.args.content.now c.packet.new.self c.packet-2.new.self c.packet-3.new.self c.args.avi.now c.clock.result c.args.audio.now c.args.f c.in_ok-packet.ensures.ok c.in_ok-packet-2.ensures.ok c.in_ok-packet-3.ensures.ok c.clock.ensures;
-    }
+    grind (arith, same_length, led)
 
 pub loop-i-preserved : goal.loop-i-preserved
-loop-i-preserved c = record {
-  count = same_length (with_packet c.sound.result) c.loop-i.content c.packet-in-loop-i.new.self c.in_ok-packet-4.ensures.ok ∙ c.loop-i.invariant.count;
-  added = sounds_added c.args.content.now c.loop-i.content c.packet-in-loop-i.new.self c.args.avi.now c.args.audio.now c.sound.result c.args.f c.loop-i.i c.loop-i.invariant.added c.in_ok-packet-4.ensures.ok c.sound.ensures;
-}
+loop-i-preserved c = grind (arith, same_length, sounds_added)

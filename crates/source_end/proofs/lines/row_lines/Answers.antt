@@ -1,8 +1,7 @@
-use Rattle.std.proofs.Common.{◌≡◌, ℕ, ◌+◌, ◌*◌, ◌<◌, ◌^◌, min, map, take, get_or, length, List, [], ◌∷◌, ◌++◌, Some, sym, ap, subst, ◌∙◌, append-nil, append_assoc, arith}
+use Rattle.std.proofs.Common.{◌≡◌, ℕ, ◌+◌, ◌<◌, min, map, take, get_or, length, List, [], ◌∷◌, ◌++◌, Some, sym, ap, ◌∙◌, append-nil, append_assoc, arith}
 use Rattle.std.proofs.lemmas.List.{take_more, length-take}
-use Rattle.source_end.specs.Raster.{Line, Part, active, row_line, row_room, whole, laid, total}
+use Rattle.source_end.specs.Raster.{Line, active, row_line, row_room, whole, laid, total}
 use Rattle.source_end.specs.Lines.{left}
-use Rattle.source_end.specs.Gathering.{size, Has}
 use Rattle.source_end.proofs.Gathered.{size_append}
 use Rattle.source_end.proofs.RasterModes.{is_mode}
 use Rattle.source_end.proofs.RasterSizes.{size_rows}
@@ -10,10 +9,7 @@ use Rattle.source_end.proofs.RasterWriting.{Step, step, one_row, one_time, rows_
 use Rattle.source_end.proofs.lines.row_lines.Goals as goal
 
 pub loop-i-init : goal.loop-i-init
-loop-i-init c = record {
-  rest = sym (none_left c.args.mode.now c.args.packets.now);
-  parts = λ parts h few. subst (λ (qs : List Part). Has c.args.out.now (parts ++ qs)) (sym (none_laid c.args.mode.now c.args.packets.now)) (subst (λ (qs : List Part). Has c.args.out.now qs) (sym (append-nil parts)) h);
-}
+loop-i-init c = grind (arith, none_left, none_laid, append-nil)
 
 pub row_line-requires-clause-width : goal.row_line-requires-clause-width
 row_line-requires-clause-width c =
@@ -43,13 +39,5 @@ loop-i-preserved c =
       parts = λ parts h few.
           let now = laid mode lines ps in
           let here = whole mode (row_line row) front (Some row) in
-          let sum = one_time i t in
-          let few1 : size parts + i * t < 2 ^ 32 = omega (arith, few, sum) in
-          let s = size_append parts now in
-          let long : length (take i rows) ≡ i = omega (arith, length-take i rows, lt) in
-          let k = size_rows mode (is_mode mode c.requires.mode) (take i rows) (rows_take (active mode.across) i rows c.requires.rows) ps ∙ ap (λ (n : ℕ). n * t) long in
-          let few2 : size (parts ++ now) + t < 2 ^ 32 = omega (arith, few, sum, s, k) in
-          subst (λ (qs : List Part). Has c.row_line.new.out qs)
-          (append_assoc parts now here ∙ ap (λ (qs : List Part). parts ++ qs) (more.parts ∙ ap (λ (ls : List Line). laid mode ls ps) next))
-          (c.in_ok-row_line.ensures (parts ++ now) (c.loop-i.invariant.parts parts h few1) few2);
+          grind (arith, one_time, size_append, length-take, size_rows, is_mode, rows_take, append_assoc);
     }

@@ -1,4 +1,4 @@
-use Rattle.std.proofs.Common.{◌+◌, ◌*◌, ◌-◌, ◌^◌, min, length, List, Some, None, sym, ap, ◌∙◌}
+use Rattle.std.proofs.Common.{arith, ◌+◌, ◌*◌, ◌-◌, ◌^◌, min, length, List, Some, None, sym, ap, ◌∙◌}
 use Rattle.source_end.specs.Content.{Frame}
 use Rattle.source_end.specs.Raster.{total}
 use Rattle.source_end.specs.RasterRefusals.{bad_rows, no_room}
@@ -9,10 +9,7 @@ pub returns-in-Some : goal.returns-in-Some
 returns-in-Some c = at_mode c.args.mode.now c.args.content.now c.in-Some.fault (sym c.mode_fault.ensures ∙ c.in-Some.is)
 
 pub returns-in-Some-rows_fault : goal.returns-in-Some-rows_fault
-returns-in-Some-rows_fault c =
-    let mode = c.args.mode.now in
-    let same = c.frames-frames.ensures.value in
-    at_rows mode c.args.content.now c.in-Some-rows_fault.fault (sym c.mode_fault.ensures ∙ c.in_default.is) (sym (c.rows_fault.ensures ∙ ap (bad_rows mode 0) same) ∙ c.in-Some-rows_fault.is)
+returns-in-Some-rows_fault c = grind (arith, at_rows)
 
 pub returns-in-Some-room_fault : goal.returns-in-Some-room_fault
 returns-in-Some-room_fault c =

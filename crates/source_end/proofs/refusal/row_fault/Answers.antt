@@ -14,9 +14,7 @@ returns-then-row-height c =
     let few : y ≤ h = omega (arith, c.loop-i.invariant.row_is, c.loop-i.invariant.few, c.active-height.ensures.value) in
     let row = ap (λ k. Some (Row c.args.frame k)) c.loop-i.invariant.row_is in
     elim c.then-row-height.branch [
-      | then-row-height-via-then-row-height v ↦
-          let last : y ≡ h = omega (arith, v.if-row-height.true, c.loop-i.invariant.row_is, c.active-height.ensures.value) in
-          row ∙ sym (c.loop-i.invariant.rest ∙ row_surplus w c.args.frame h c.args.rows.now [] y lt last)
+      | then-row-height-via-then-row-height v ↦ grind (arith, row_surplus)
       | then-row-height-via-else-row-height+then-get-width v ↦
           let less : y < h = omega (arith, few, v.if-row-height.false, c.loop-i.invariant.row_is, c.active-height.ensures.value) in
           row
@@ -39,10 +37,4 @@ loop-i-preserved c =
     }
 
 pub returns-then-row-height-2 : goal.returns-then-row-height-2
-returns-then-row-height-2 c =
-    let h = active c.args.mode.now.down in
-    let y = c.loop-i.i in
-    let row = ap (λ k. Some (Row c.args.frame k)) c.loop-i.invariant.row_is in
-    let all : y ≡ length c.args.rows.now = omega (arith, c.loop-i-test.false, c.loop-i.auto.i-end, c.len-i-end.ensures) in
-    let less : y < h = omega (arith, c.if-row-height-2.true, c.loop-i.invariant.row_is, c.active-height.ensures.value) in
-    row ∙ sym (c.loop-i.invariant.rest ∙ row_missing (active c.args.mode.now.across) c.args.frame h c.args.rows.now y all less)
+returns-then-row-height-2 c = grind (arith, row_missing)

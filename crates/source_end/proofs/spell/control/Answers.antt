@@ -1,4 +1,4 @@
-use Rattle.std.proofs.Common.{◌≡◌, ◌+◌, ◌++◌, List, subst, length, map, replicate, take, get_or, ap, ap₂, sym, ◌∙◌, arith, length-append}
+use Rattle.std.proofs.Common.{◌≡◌, ◌+◌, ◌++◌, List, subst, map, replicate, take, get_or, ap, ap₂, sym, ◌∙◌, arith, length-append}
 use Rattle.std.proofs.lemmas.List.{length-map}
 use Rattle.tmds_word.specs.Column.{Column, column_of}
 use Rattle.island_pack.specs.Periods.{ControlRun, values_of}
@@ -10,20 +10,10 @@ use Rattle.source_end.proofs.ItemFronts.{control_front}
 use Rattle.source_end.proofs.spell.control.Goals as goal
 
 pub loop-run-init : goal.loop-run-init
-loop-run-init g c = record {
-  taken = none_spelled control_column (g.C.ColumnSink.taken c.args.out.now);
-  later = omega arith;
-}
+loop-run-init g c = grind (arith, none_spelled)
 
 pub repeat-requires : goal.repeat-requires
-repeat-requires g c =
-    let runs = c.args.runs.now in
-    let i = c.loop-run.run-index in
-    let r = c.run-item.result in
-    let done = values_of (take i runs) in
-    let count : c.run.inside.count ≡ (get_or runs i r).count = ap (λ (x : ControlRun). x.count) c.run.view_is ∙ ap (λ (x : ControlRun). x.count) c.run-item.is in
-    let long = ap length c.loop-run.invariant.taken ∙ length-append (g.C.ColumnSink.taken c.args.out.now) (map control_column done) ∙ ap (λ n. length (g.C.ColumnSink.taken c.args.out.now) + n) (length-map done control_column) in
-    omega (arith, long, count, room runs i r c.loop-run-test.true, c.requires.room)
+repeat-requires g c = grind (arith, length-append, length-map, room)
 
 pub loop-run-preserved : goal.loop-run-preserved
 loop-run-preserved g c =

@@ -1,6 +1,6 @@
 use Rattle.std.proofs.Common.{◌≡◌, ◌<◌, ◌+◌, length, true, arith, ap, sym, ◌∙◌, subst}
 use Rattle.std.proofs.lemmas.Bool.{eqb-true}
-use Rattle.island_pack.specs.Periods.{Period, control, video, island, period_columns}
+use Rattle.island_pack.specs.Periods.{Period, control, video, period_columns}
 use Rattle.source_end.specs.ItemPeriods.{period_of}
 use Rattle.source_end.specs.Kept.{is_sendable}
 use Rattle.source_end.proofs.spell.item.Goals as goal
@@ -23,14 +23,8 @@ video-requires-clause-whole g c =
 
 pub video-requires-clause-room : goal.video-requires-clause-room
 unfolding period_columns
-video-requires-clause-room g c =
-    let e : period_of c.args.item.now ≡ video c.as_slice-in-Video.result.now = ap period_of c.in-Video.is ∙ ap video (sym c.as_slice-in-Video.ensures) in
-    let room = subst (λ (p : Period). length (g.C.ColumnSink.taken c.args.out.now) + period_columns p < 429496729) e c.requires.room in
-    omega (arith, room)
+video-requires-clause-room g c = grind arith
 
 pub island-requires-clause-room : goal.island-requires-clause-room
 unfolding period_columns
-island-requires-clause-room g c =
-    let e : period_of c.args.item.now ≡ island c.in-Island.data = ap period_of c.in-Island.is in
-    let room = subst (λ (p : Period). length (g.C.ColumnSink.taken c.args.out.now) + period_columns p < 429496729) e c.requires.room in
-    omega (arith, room)
+island-requires-clause-room g c = grind arith

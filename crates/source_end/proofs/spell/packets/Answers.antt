@@ -16,19 +16,10 @@ none = record { header = []; bodies = []; sync = [] }
 
 pub lay-requires : goal.lay-requires
 unfolding none
-lay-requires g c =
-    let packets = c.args.packets.now in
-    let i = c.loop-packet.packet-index in
-    sync_below (get_or packets i none) (packet_at packets i none c.requires.range c.loop-packet-test.true)
+lay-requires g c = grind (arith, sync_below, packet_at)
 
 pub each-requires : goal.each-requires
-each-requires g c =
-    let was = c.loop-packet.invariant in
-    let i = c.loop-packet.packet-index in
-    let long = ap length was.taken ∙ length-append (g.C.ColumnSink.taken c.args.out.now) was.columns in
-    let done = packets_length true (take i c.args.packets.now) was.columns was.spelled in
-    let first : length (take i c.args.packets.now) ≡ i = omega (arith, length-take i c.args.packets.now) in
-    record { room = omega (arith, long, done, first, c.requires.room) }
+each-requires g c = grind (arith, length-append, packets_length, length-take)
 
 pub loop-packet-preserved : goal.loop-packet-preserved
 unfolding none

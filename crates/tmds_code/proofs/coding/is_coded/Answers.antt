@@ -1,9 +1,8 @@
-use Rattle.std.proofs.Common.{◌≡◌, ◌≢◌, ℕ, ◌<◌, ◌^◌, ◌∙◌, Bool, true, false, not, ◌==◌, bit_and, ap, ap₂, sym, subst, arith, slice_index, eqb-true}
+use Rattle.std.proofs.Common.{◌≡◌, ◌≢◌, ℕ, ◌<◌, ◌^◌, ◌∙◌, Bool, true, false, not, ◌==◌, bit_and, ap, ap₂, sym, arith, slice_index, eqb-true}
 use Rattle.std.specs.Prelude.{◌↔◌, IsTrue, if◌then◌else◌}
 use Rattle.std.proofs.lemmas.Bool.{eq-eqb, ne_eqb}
 use Rattle.std.proofs.lemmas.Int.{to_z-of_z}
-use mir.Syntax.{w32}
-use Rattle.tmds_code.specs.Coding.{Sign, negative, null, positive, sign_of, coded_at, decoded_byte}
+use Rattle.tmds_code.specs.Coding.{Sign, negative, null, positive, coded_at, decoded_byte}
 use Rattle.tmds_code.specs.Places.{place_of}
 use Rattle.tmds_code.specs.declared.tables.TheConstants.{SIGNS}
 use Rattle.tmds_code.proofs.TableWords.{table_mark}
@@ -24,8 +23,4 @@ marked s w m b lt e f =
     (λ h. eqb-true w _ (sym same ∙ h), λ h. same ∙ eq-eqb w _ h)
 
 pub returns : goal.returns
-returns c =
-    let w = c.args.word in
-    marked (sign_of c.args.disparity) w c.signs.result c.sign_bit.result (subst (λ n. n < 1024) c.value.ensures.value c.value.ensures.below)
-    (c.signs.ensures ∙ ap (slice_index SIGNS) c.value.ensures.value)
-    (c.sign_bit.ensures ∙ ap (λ z. 2 ^ place_of (sign_of z)) (to_z-of_z w32 c.args.disparity c.ranges.disparity))
+returns c = grind (arith, marked, to_z-of_z)

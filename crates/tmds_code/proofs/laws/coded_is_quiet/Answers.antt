@@ -25,13 +25,7 @@ unlike_by_turns : (w v n : ℕ) → turns (word_bits w) ≤ 5 → turns (word_bi
 unlike_by_turns w v n few many over = λ e. absurd (omega (arith, few, many, over, ap (λ u. turns (word_bits u)) e))
 
 quiet : (w : ℕ) → turns (word_bits w) ≤ 5 → IsQuiet w
-quiet w few = record {
-  few = few;
-  not_control_0 = unlike_by_turns w 0x354 7 few turns_354 (omega arith);
-  not_control_1 = unlike_by_turns w 0x0ab 7 few turns_0ab (omega arith);
-  not_control_2 = unlike_by_turns w 0x154 8 few turns_154 (omega arith);
-  not_control_3 = unlike_by_turns w 0x2ab 8 few turns_2ab (omega arith);
-}
+quiet w few = grind (arith, unlike_by_turns, turns_354, turns_0ab, turns_154, turns_2ab)
 
 pub returns : goal.returns
 returns c = λ disparity byte w lt coded. quiet w (subst (λ u. turns (word_bits u) ≤ 5) (sym coded) (coded_turns (sign_of disparity) byte lt))

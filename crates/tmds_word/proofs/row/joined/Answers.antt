@@ -1,4 +1,4 @@
-use Rattle.std.proofs.Common.{arith, ◌≡◌, ◌<◌, ◌≤◌, ◌+◌, ◌*◌, ◌^◌, ◌%◌, ℕ, ◌∙◌, sym, ap, ap₂, subst, bit_or}
+use Rattle.std.proofs.Common.{arith, ◌≡◌, ◌<◌, ◌≤◌, ◌+◌, ◌*◌, ◌^◌, ◌%◌, ℕ, ◌∙◌, ap, ap₂, bit_or}
 use Rattle.std.proofs.lemmas.Nat.{or_shifted}
 use Rattle.std.proofs.Math.Nat.{mod-eq_of_lt}
 use Rattle.std.proofs.Math.Pow.{pow_mono}
@@ -17,9 +17,4 @@ sum_is : (t h w k a b : ℕ) → t < 2 ^ h → w < 2 ^ k → h < 8 → k ≤ 16 
 sum_is t h w k a b low high few more e f = ap₂ (λ x y. bit_or (x * 2 ^ h % 4294967296) y) e f ∙ or_is_sum t h w k low high few more
 
 pub returns : goal.returns
-returns c =
-    let e = sum_is c.args.tail c.args.held c.args.bits c.args.count c.from.result c.from-2.result c.requires.narrow_tail c.requires.narrow c.requires.few c.requires.few_more c.from.ensures c.from-2.ensures in
-    record {
-      sum = e;
-      below = subst (λ n. n < 2 ^ (c.args.held + c.args.count)) (sym e) (joined_below c.args.held c.args.count c.args.tail c.args.bits c.requires.narrow_tail c.requires.narrow);
-    }
+returns c = grind (arith, sum_is, joined_below)

@@ -1,7 +1,6 @@
-use Rattle.std.proofs.Common.{◌∙◌, ◌++◌, ◌<◌, List, ℕ, Ok, Err, ap, sym, subst, arith}
+use Rattle.std.proofs.Common.{◌<◌, List, ℕ, Ok, Err, subst, arith}
 use Rattle.std.specs.Io.KnownBytes.{Appends}
 use Rattle.audio_packets.specs.Samples.{IsSample, packet_with, sample_at}
-use Rattle.audio_out.specs.Frames.{biphase}
 use Rattle.biphase_listing.specs.StreamText.{reported_samples}
 use Rattle.biphase_listing.proofs.Streaming.{breaks_one, lists_one, lists_quiet, lost_faults, lost_samples, none_counted, pair_again, pair_few, pair_fits, sound_faults, sound_samples}
 use Rattle.biphase_listing.proofs.lister.BiphaseLister.sound.Goals as goal
@@ -28,15 +27,7 @@ returns-in-Ok-write_all-clause-ok g c = λ reported recalls.
     (subst (λ (bytes : List ℕ). Appends (g.K.Sink.held c.args.self.now.sink.now) (g.K.Sink.held c.write_all.new.sink) bytes) c.as_slice.ensures.value c.in-Ok-write_all.ensures.whole)
 
 pub returns-in-Err-write_all-clause-err : goal.returns-in-Err-write_all-clause-err
-returns-in-Err-write_all-clause-err g c = λ reported recalls.
-    let p = c.args.packet.packet.now in
-    let v = c.args.packet.verdicts.now in
-    let k = c.args.self.now.pair in
-    let is = pair_again p v c.get.result k (Ok c.in-Ok.notes) c.in-Ok.ensures c.get.ensures.value in
-    breaks_one k reported _ _ _ _ c.as_slice.result.now c.in-Err-write_all.field-0.gone
-    (sound_samples p v c.args.column k c.in-Ok.notes c.requires is)
-    (c.frames_of-frames.ensures.written (reported_samples k reported) recalls ∙ ap (λ (bytes : List ℕ). biphase (reported_samples k reported) ++ bytes) (sym c.as_slice.ensures.value))
-    c.in-Err-write_all.ensures.missing c.in-Err-write_all.ensures.part
+returns-in-Err-write_all-clause-err g c = grind (arith, pair_again, breaks_one, sound_samples)
 
 pub returns-in-Err-clause-ok : goal.returns-in-Err-clause-ok
 returns-in-Err-clause-ok g c = λ reported recalls.

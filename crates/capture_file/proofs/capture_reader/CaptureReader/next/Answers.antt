@@ -1,4 +1,4 @@
-use Rattle.std.proofs.Common.{◌≡◌, ◌∙◌, ◌+◌, ◌/◌, ◌++◌, ℕ, List, Bool, sym, subst, refl, ap, ap₂, length, take}
+use Rattle.std.proofs.Common.{arith, ◌≡◌, ◌∙◌, ◌+◌, ◌/◌, ◌++◌, ℕ, List, Bool, sym, subst, refl, ap, ap₂, length, take}
 use Rattle.std.specs.Prelude.{slice_index}
 use Rattle.std.specs.Io.KnownBytes.{Consumes}
 use Rattle.tmds_word.specs.Bits.{bytes_bits}
@@ -20,13 +20,7 @@ stands_given : (version : ℕ) (counts : List ℕ) (j p q r : ℕ) (taken a b d 
     → p ≡ bits_in j (slice_index counts 0) → q ≡ bits_in j (slice_index counts 1) → r ≡ bits_in j (slice_index counts 2)
     → a ≡ packed u → b ≡ packed v → d ≡ packed w → length u ≡ p → length v ≡ q → length w ≡ r
     → Stands version counts (j + 1) (taken ++ ((a ++ b) ++ d)) (x ++ take p (bytes_bits a)) (y ++ take q (bytes_bits b)) (z ++ take r (bytes_bits d))
-stands_given version counts j p q r taken a b d x y z u v w s ep eq er ea eb ed lu lv lw =
-    let all : (packed u ++ packed v) ++ packed w ≡ (a ++ b) ++ d = sym (ap₂ (λ xs ys. (xs ++ ys) ++ d) ea eb ∙ ap (λ zs. (packed u ++ packed v) ++ zs) ed) in
-    let h = stands_more version counts j taken x y z u v w s (lu ∙ ep) (lv ∙ eq) (lw ∙ er) in
-    let h1 = subst (λ bs. Stands version counts (j + 1) (taken ++ bs) (x ++ u) (y ++ v) (z ++ w)) all h in
-    let h2 = subst (λ us. Stands version counts (j + 1) (taken ++ ((a ++ b) ++ d)) (x ++ us) (y ++ v) (z ++ w)) (sym (lane_bits a u p ea lu)) h1 in
-    let h3 = subst (λ vs. Stands version counts (j + 1) (taken ++ ((a ++ b) ++ d)) (x ++ take p (bytes_bits a)) (y ++ vs) (z ++ w)) (sym (lane_bits b v q eb lv)) h2 in
-    subst (λ ws. Stands version counts (j + 1) (taken ++ ((a ++ b) ++ d)) (x ++ take p (bytes_bits a)) (y ++ take q (bytes_bits b)) (z ++ ws)) (sym (lane_bits d w r ed lw)) h3
+stands_given version counts j p q r taken a b d x y z u v w s ep eq er ea eb ed lu lv lw = grind (arith, stands_more, lane_bits)
 
 pub returns-in-Ok-true : goal.returns-in-Ok-true
 returns-in-Ok-true g c =
@@ -60,9 +54,7 @@ returns-in-Ok-true g c =
         bits = (b0, b1, b2);
         sizes = (lane_size r.a.now n.lanes.blue (slice_index r.bits 0) l.a lb, lane_size r.b.now n.lanes.green (slice_index r.bits 1) l.b lg, lane_size r.c.now n.lanes.red (slice_index r.bits 2) l.c lr);
         some = e.some t;
-        stands = λ taken x y z s.
-            stands_given o.version o.bits o.block (slice_index r.bits 0) (slice_index r.bits 1) (slice_index r.bits 2) taken r.a.now r.b.now r.c.now x y z n.lanes.blue n.lanes.green n.lanes.red s
-            b0 b1 b2 l.a l.b l.c lb lg lr;
+        stands = grind (arith, stands_given);
         whole = λ taken x y z s. tt;
         err = λ bytes taken x y z left s. tt;
         after = tt;

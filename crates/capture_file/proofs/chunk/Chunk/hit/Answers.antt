@@ -1,4 +1,4 @@
-use Rattle.std.proofs.Common.{arith, ◌≡◌, ◌+◌, ◌-◌, ◌/◌, ◌%◌, ◌^◌, ◌==◌, false, ◌<◌, ◌≤◌, ◌∙◌, ℕ, Bool, List, length, take, drop, set, get_or, ap, ap₂, sym, refl, inl, inr}
+use Rattle.std.proofs.Common.{arith, ◌≡◌, ◌+◌, ◌-◌, ◌/◌, ◌%◌, ◌^◌, ◌==◌, false, ◌<◌, ◌≤◌, ◌∙◌, ℕ, Bool, List, length, take, drop, set, get_or, ap, sym, refl, inl, inr}
 use Rattle.std.specs.Prelude.{◌⊎◌}
 use Rattle.std.proofs.lemmas.List.{length-set}
 use Rattle.tmds_word.specs.Bits.{word_bits}
@@ -24,11 +24,7 @@ returns-then-begins-first-clause-part c row room own =
 
 step : (from n place w k at : ℕ) (row old now : List Bool) (v : Bool) → place + 10 ≤ length row → k < 10 → at ≡ place + k → v ≡ ((w / 2 ^ k) % 2 == 1) → from ≤ at → at < from + n
     → old ≡ take n (drop from (begun place w k row)) → now ≡ set old (at - from) v → now ≡ take n (drop from (begun place w (k + 1) row))
-step from n place w k at row old now v room lt e sent le less was is =
-    is
-    ∙ ap₂ (λ xs b. set xs (at - from) b) was (sent_is w k v lt sent)
-    ∙ ap (λ i. set (take n (drop from (begun place w k row))) (i - from) (get_or (word_bits w) k false)) e
-    ∙ sym (ap (λ xs. take n (drop from xs)) (begun_more place w k row room lt) ∙ set_inside from n (place + k) (begun place w k row) (get_or (word_bits w) k false) (omega (arith, e, le)) (omega (arith, e, less)))
+step from n place w k at row old now v room lt e sent le less was is = grind (arith, sent_is, begun, begun_more, set_inside)
 
 skip : (from n place w k at : ℕ) (row old : List Bool) → place + 10 ≤ length row → k < 10 → at ≡ place + k → (at < from) ⊎ (from + n ≤ at)
     → old ≡ take n (drop from (begun place w k row)) → old ≡ take n (drop from (begun place w (k + 1) row))
@@ -37,37 +33,7 @@ skip from n place w k at row old room lt e out was =
     was ∙ sym (ap (λ xs. take n (drop from xs)) (begun_more place w k row room lt) ∙ set_outside from n (place + k) (begun place w k row) (get_or (word_bits w) k false) out_at)
 
 pub loop-k-preserved : goal.loop-k-preserved
-loop-k-preserved c =
-    let n = length c.args.self.now in
-    let k = c.loop-k.k in
-    let inv = c.loop-k.invariant in
-    let at = c.from-begins.result + c.from-in-loop-k.result in
-    let at_is : at ≡ c.args.place + k = omega (arith, c.from-begins.ensures, c.from-in-loop-k.ensures) in
-    elim c.if-first-at.branch [
-      | then-first-at+then-at-end w ↦
-          record {
-            size = ap length (w.self-is ∙ w.set.ensures) ∙ length-set c.loop-k.self _ _ ∙ inv.size;
-            part = λ row room own.
-                step c.args.from n c.args.place c.args.value k at row c.loop-k.self c.if-first-at.self w.sent_bit.result room c.loop-k-test.true at_is w.sent_bit.ensures
-                (omega (arith, w.if-first-at.true, c.from-first.ensures)) (omega (arith, w.if-at-end.true, c.from-first.ensures, c.from.ensures, c.len.ensures))
-                (inv.part row room own) (w.self-is ∙ w.set.ensures ∙ ap (λ m. set c.loop-k.self (at - m) w.sent_bit.result) c.from-first.ensures);
-          }
-      | else-first-at w ↦
-          let out : (at < c.args.from) ⊎ (c.args.from + n ≤ at) =
-          elim w.else-first-at.branch [
-            | else-first-at-via-then-first-at+else-at-end u ↦ inr (omega (arith, u.if-at-end.false, c.from-first.ensures, c.from.ensures, c.len.ensures))
-            | else-first-at-via-else-first-at u ↦ inl (omega (arith, u.if-first-at.false, c.from-first.ensures))
-          ] in
-          record {
-            size = ap length w.self-is ∙ inv.size;
-            part = λ row room own. w.self-is ∙ skip c.args.from n c.args.place c.args.value k at row c.loop-k.self room c.loop-k-test.true at_is out (inv.part row room own);
-          }
-    ]
+loop-k-preserved c = grind (arith, length-set, step, else-first-at, else-first-at-via-else-first-at, skip)
 
 pub returns-clause-part : goal.returns-clause-part
-returns-clause-part c row room own =
-    let last : c.loop-k.k ≡ 10 = omega (arith, c.loop-k-test.false, c.loop-k.auto.k-end) in
-    let n = length c.args.self.now in
-    c.loop-k.invariant.part row room own
-    ∙ ap (λ k. take n (drop c.args.from (begun c.args.place c.args.value k row))) last
-    ∙ ap (λ xs. take n (drop c.args.from xs)) (all_ten c.args.place c.args.value row)
+returns-clause-part c row room own = grind (arith, begun, all_ten)

@@ -43,8 +43,4 @@ loop-hit-preserved c =
     ]
 
 pub returns : goal.returns
-returns c =
-    let n = length c.args.self.now in
-    let hits = c.args.hits.now in
-    let all : take c.loop-hit.hit-index hits ≡ hits = take_all c.loop-hit.hit-index hits (omega (arith, c.loop-hit-test.false)) in
-    record { long = c.loop-hit.invariant.size; part = λ row fits own. c.loop-hit.invariant.part row fits own ∙ ap (λ hs. take n (drop c.args.from (damaged c.args.lane hs row))) all }
+returns c = grind (arith, take_all)

@@ -28,10 +28,7 @@ returns-in_err-read-clause-err g c bytes taken x y z e r =
 -- a part behind bytes that were read
 part_after : (old mid new : Option (List ℕ)) (a : List ℕ) (k size : ℕ) (e : CaptureError) → Consumes old mid a → length a + k ≤ size
     → SaysRead ((part : List ℕ) × (length part < k) × Consumes mid new part) e → SaysRead ((part : List ℕ) × (length part < size) × Consumes old new part) e
-part_after old mid new a k size e first room h =
-    let after : (part : List ℕ) × (length part < k) × Consumes mid new part → (part : List ℕ) × (length part < size) × Consumes old new part =
-    λ p. (a ++ p.0, omega (arith, room, p.1, length-append a p.0), Consumes-trans old mid new a p.0 first p.2) in
-    says_read ((part : List ℕ) × (length part < k) × Consumes mid new part) ((part : List ℕ) × (length part < size) × Consumes old new part) e after h
+part_after old mid new a k size e first room h = grind (arith, after, length-append, Consumes-trans, says_read)
 
 err_after : {T : Type 0} → (r : Result T CaptureError) (taken part rest bytes : List ℕ) → bytes ≡ part ++ rest → IfErr r (λ e. SaysOf (λ fault. IsFault ((taken ++ part) ++ rest) fault) e)
     → IfErr r (λ e. SaysOf (λ fault. IsFault (taken ++ bytes) fault) e)
@@ -54,10 +51,7 @@ returns-in_err-read-2-clause-err g c bytes taken x y z e r =
     rw (p.1, p.2) (after taken (packed a) s.0 bytes _ s.1 (c.in_err-read-2.ensures.err s.0 (taken ++ packed a) s.2 h.awaited h.place_is))
 
 pub returns-in_err-read-2-clause-part : goal.returns-in_err-read-2-clause-part
-returns-in_err-read-2-clause-part g c =
-    let p = err_from_is_err_and c.from_residual-in_err-read-2.result c.from_residual-in_err-read-2.ensures.1 in
-    let a = c.read.new.self in
-    rw (p.1, p.2) (part_after _ _ _ (packed a) _ _ _ c.in_ok-read.ensures.ok (omega (arith, length-packed a, c.in_ok-read.ensures.count, c.chunk_len.ensures, c.chunk_len-2.ensures)) c.in_err-read-2.ensures.part)
+returns-in_err-read-2-clause-part g c = grind (arith, err_from_is_err_and, part_after, length-packed)
 
 pub returns-clause-err : goal.returns-clause-err
 returns-clause-err g c bytes taken x y z e r =

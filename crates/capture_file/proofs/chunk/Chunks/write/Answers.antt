@@ -5,17 +5,7 @@ use Rattle.capture_file.proofs.Parts.{Appends-part, Appends-two}
 use Rattle.capture_file.proofs.chunk.Chunks.write.Goals as goal
 
 pub returns-in-Err : goal.returns-in-Err
-returns-in-Err g c = record {
-  whole = search rules;
-  part =
-      let s = c.args.self.now in
-      let a = c.as_bytes.result.now in
-      let b = c.as_bytes-2.result.now in
-      let is : (packed s.blue ++ packed s.green) ++ packed s.red ≡ (a ++ b) ++ packed s.red = sym (ap₂ (λ xs ys. (xs ++ ys) ++ packed s.red) c.as_bytes.ensures.bytes c.as_bytes-2.ensures.bytes) in
-      Appends-part _ _ _ a b (packed s.red) _ c.in_ok-first.first c.in-Err.part.gone is (sym c.in_ok-first.ensures.size) c.in-Err.ensures.missing c.in_ok-first.ensures.whole c.in-Err.ensures.part;
-  missing = grind (arith, common_steps);
-  cause = search rules;
-}
+returns-in-Err g c = grind (arith, Appends-part, common_steps)
 
 pub overflow_add-result-in-Err-write_piece : goal.overflow_add-result-in-Err-write_piece
 overflow_add-result-in-Err-write_piece g c = omega (arith, c.in_ok-first.ensures.size, c.in-Ok.ensures.size, c.in-Err-write_piece.ensures.missing, c.as_bytes.ensures.few, c.as_bytes-2.ensures.few, c.as_bytes-3.ensures.few)

@@ -1,5 +1,5 @@
-use Rattle.std.proofs.Common.{arith, ◌≡◌, ℕ, ◌+◌, ◌%◌, ◌<◌, ◌++◌, ◌∷◌, [], Bool, List, length, slice_index, ap, ap₂, ◌∙◌, length-append}
-use Rattle.tmds_word.specs.Column.{Column, column_of}
+use Rattle.std.proofs.Common.{arith, ◌≡◌, ℕ, ◌+◌, ◌%◌, ◌<◌, ◌++◌, [], Bool, List, length, ap, ◌∙◌, length-append}
+use Rattle.tmds_word.specs.Column.{Column}
 use Rattle.tmds_word.specs.Words.{all_words, columns_of}
 use Rattle.tmds_word.specs.Bits.{word_bits}
 use Rattle.tmds_word.proofs.Lists.{length-word_bits}
@@ -19,27 +19,7 @@ push_column-requires-clause-room c =
     room_for c.self.inside.blue c.self.inside.green c.self.inside.red c.args.self.now.columns (ap (λ s. s.columns) c.self.view_is) i.green i.red i.whole c.requires
 
 pub invariant_of-self : goal.invariant_of-self
-invariant_of-self c =
-    let i = c.self.invariant in
-    let e = c.in-Ok.ensures in
-    let blue = longer c.self.inside.blue c.push_column.new.blue (slice_index c.args.words 0) e.blue_ok in
-    let green = longer c.self.inside.green c.push_column.new.green (slice_index c.args.words 1) e.green_ok in
-    let red = longer c.self.inside.red c.push_column.new.red (slice_index c.args.words 2) e.red_ok in
-    let room = room_for c.self.inside.blue c.self.inside.green c.self.inside.red c.args.self.now.columns (ap (λ s. s.columns) c.self.view_is) i.green i.red i.whole c.requires in
-    record {
-      whole = omega (arith, blue, i.whole);
-      short = omega (arith, blue, room);
-      green = omega (arith, blue, green, i.green);
-      red = omega (arith, blue, red, i.red);
-      counted = i.counted;
-    }
+invariant_of-self c = grind (arith, longer, room_for)
 
 pub returns-in-Ok-clause-ok : goal.returns-in-Ok-clause-ok
-returns-in-Ok-clause-ok c =
-    let i = c.self.invariant in
-    let e = c.in-Ok.ensures in
-    let k = c.know_characters.ensures in
-    ap (λ xs. columns_of (all_words xs) (all_words c.push_column.new.green) (all_words c.push_column.new.red)) e.blue_ok
-    ∙ ap₂ (λ xs ys. columns_of (all_words (c.self.inside.blue ++ word_bits (slice_index c.args.words 0))) (all_words xs) (all_words ys)) e.green_ok e.red_ok
-    ∙ columns-push c.self.inside.blue c.self.inside.green c.self.inside.red (slice_index c.args.words 0) (slice_index c.args.words 1) (slice_index c.args.words 2) i.whole i.green i.red k.blue k.green k.red
-    ∙ ap (λ s. s.columns ++ column_of c.args.words ∷ []) c.self.view_is
+returns-in-Ok-clause-ok c = grind (arith, columns-push)

@@ -1,4 +1,4 @@
-use Rattle.std.proofs.Common.{arith, ◌≡◌, ℕ, ◌+◌, ◌*◌, ◌%◌, ◌<◌, ◌≤◌, ◌++◌, Bool, List, length, ap, ap₂, ◌∙◌, length-append}
+use Rattle.std.proofs.Common.{arith, ◌≡◌, ℕ, ◌+◌, ◌*◌, ◌%◌, ◌<◌, ◌≤◌, ◌++◌, Bool, List, length, ap, ◌∙◌, length-append}
 use Rattle.tmds_word.specs.Column.{Column}
 use Rattle.tmds_word.specs.Words.{all_words, columns_of}
 use Rattle.tmds_word.specs.Bits.{row_bits}
@@ -35,10 +35,4 @@ invariant_of-self c =
     }
 
 pub returns-in-Ok-clause-ok : goal.returns-in-Ok-clause-ok
-returns-in-Ok-clause-ok c =
-    let i = c.self.invariant in
-    let e = c.in-Ok.ensures in
-    ap (λ xs. columns_of (all_words xs) (all_words c.push_columns.new.green) (all_words c.push_columns.new.red)) e.blue_ok
-    ∙ ap₂ (λ xs ys. columns_of (all_words (c.self.inside.blue ++ row_bits c.args.blue.now)) (all_words xs) (all_words ys)) e.green_ok e.red_ok
-    ∙ columns-more c.self.inside.blue c.self.inside.green c.self.inside.red c.args.blue.now c.args.green.now c.args.red.now i.whole i.green i.red c.know_all.ensures c.know_all-2.ensures c.know_all-3.ensures
-    ∙ ap (λ s. s.columns ++ columns_of c.args.blue.now c.args.green.now c.args.red.now) c.self.view_is
+returns-in-Ok-clause-ok c = grind (arith, columns-more)

@@ -1,6 +1,6 @@
-use Rattle.std.proofs.Common.{arith, ◌≡◌, ℕ, ◌+◌, ◌*◌, ◌/◌, ◌%◌, ◌<◌, ◌≤◌, ◌++◌, Bool, List, length, ap, ap₂, ◌∙◌, length-append}
+use Rattle.std.proofs.Common.{arith, ◌≡◌, ℕ, ◌+◌, ◌*◌, ◌/◌, ◌%◌, ◌<◌, ◌≤◌, ◌++◌, Bool, List, length, ap, ◌∙◌, length-append}
 use Rattle.tmds_word.specs.Column.{Column}
-use Rattle.tmds_word.specs.Words.{all_words, columns_of, packed_columns}
+use Rattle.tmds_word.specs.Words.{all_words, columns_of}
 use Rattle.tmds_word.specs.Bits.{bytes_bits}
 use Rattle.tmds_word.proofs.Lists.{length-bytes_bits}
 use Rattle.capture_file.proofs.Columns.{columns-packed, count_of_columns}
@@ -19,26 +19,7 @@ push_packed-requires-clause-room c =
     room_for c.self.inside.blue c.self.inside.green c.self.inside.red c.args.self.now.columns (length c.args.blue.now) (ap (λ s. s.columns) c.self.view_is) i.green i.red i.whole c.requires.fives c.requires.room
 
 pub invariant_of-self : goal.invariant_of-self
-invariant_of-self c =
-    let i = c.self.invariant in
-    let e = c.in-Ok.ensures in
-    let blue = longer c.self.inside.blue c.push_packed.new.blue c.args.blue.now e.blue_ok in
-    let green = longer c.self.inside.green c.push_packed.new.green c.args.green.now e.green_ok in
-    let red = longer c.self.inside.red c.push_packed.new.red c.args.red.now e.red_ok in
-    let room = room_for c.self.inside.blue c.self.inside.green c.self.inside.red c.args.self.now.columns (length c.args.blue.now) (ap (λ s. s.columns) c.self.view_is) i.green i.red i.whole c.requires.fives c.requires.room in
-    record {
-      whole = omega (arith, blue, i.whole, c.requires.fives);
-      short = omega (arith, blue, room);
-      green = omega (arith, blue, green, i.green, c.requires.green);
-      red = omega (arith, blue, red, i.red, c.requires.red);
-      counted = i.counted;
-    }
+invariant_of-self c = grind (arith, longer, room_for)
 
 pub returns-in-Ok-clause-ok : goal.returns-in-Ok-clause-ok
-returns-in-Ok-clause-ok c =
-    let i = c.self.invariant in
-    let e = c.in-Ok.ensures in
-    ap (λ xs. columns_of (all_words xs) (all_words c.push_packed.new.green) (all_words c.push_packed.new.red)) e.blue_ok
-    ∙ ap₂ (λ xs ys. columns_of (all_words (c.self.inside.blue ++ bytes_bits c.args.blue.now)) (all_words xs) (all_words ys)) e.green_ok e.red_ok
-    ∙ columns-packed c.self.inside.blue c.self.inside.green c.self.inside.red c.args.blue.now c.args.green.now c.args.red.now i.whole i.green i.red c.requires.fives c.requires.green c.requires.red
-    ∙ ap (λ s. s.columns ++ packed_columns c.args.blue.now c.args.green.now c.args.red.now) c.self.view_is
+returns-in-Ok-clause-ok c = grind (arith, columns-packed)

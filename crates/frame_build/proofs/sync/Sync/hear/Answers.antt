@@ -1,8 +1,6 @@
-use Rattle.std.proofs.Common.{◌+◌, ◌<◌, min, Bool, Option, Some, not, ◌∙◌, ap, sym, arith}
-use Rattle.std.specs.Option.{option_eq}
-use mathlib.Core.Bool.{beq}
-use Rattle.frame_build.specs.FrameEvent.{vsync_of, marks}
-use Rattle.frame_build.specs.Change.{last_heard, newer, differ}
+use Rattle.std.proofs.Common.{◌+◌, ◌<◌, min, Bool, Option, Some, ◌∙◌, ap, sym, arith}
+use Rattle.frame_build.specs.FrameEvent.{marks}
+use Rattle.frame_build.specs.Change.{last_heard, newer}
 use Rattle.frame_build.specs.State.{Sync}
 use Rattle.frame_build.specs.FramesRepresent.{streak_of}
 use Rattle.frame_build.proofs.Streaks.{heard_at-three, heard_at-fewer, differ-other, sync-run}
@@ -19,17 +17,7 @@ returns-then-streak-eq-ENOUGH-clause-after c = λ past is.
     (c.replace.ensures.after ∙ ap (λ (v : Bool). Some v) is_vsync ∙ sym (ap (λ (o : Option Bool). newer o (last_heard past)) heard))
 
 pub returns-then-streak-eq-ENOUGH-clause-change : goal.returns-then-streak-eq-ENOUGH-clause-change
-returns-then-streak-eq-ENOUGH-clause-change c = λ past is.
-    let some : 0 < c.args.count = omega arith in
-    let is_vsync = c.vsync_of-vsync.ensures in
-    let streak = c.streak_with-streak.ensures past is ∙ ap (λ (v : Bool). min (c.args.count + streak_of v (marks past)) 3) is_vsync in
-    let heard = heard_at-three c.args.value c.args.count past c.streak_with-streak.result some streak c.if-streak-eq-ENOUGH.true in
-    let before = c.replace.ensures.value ∙ ap (λ (s : Sync). s.heard) c.self.view_is ∙ is.heard in
-    c.eq.ensures
-    ∙ ap (λ (o : Option Bool). option_eq beq o (Some (not c.vsync_of-vsync.result))) before
-    ∙ ap (λ (v : Bool). option_eq beq (last_heard past) (Some (not v))) is_vsync
-    ∙ differ-other (vsync_of c.args.value) (last_heard past)
-    ∙ sym (ap (λ (o : Option Bool). differ o (last_heard past)) heard)
+returns-then-streak-eq-ENOUGH-clause-change c = grind (arith, heard_at-three, differ-other)
 
 -- fewer columns in a row: nothing is heard
 pub returns-else-streak-eq-ENOUGH-clause-after : goal.returns-else-streak-eq-ENOUGH-clause-after

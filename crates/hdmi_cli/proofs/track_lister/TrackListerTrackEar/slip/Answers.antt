@@ -1,4 +1,5 @@
-use Rattle.hdmi_cli.specs.TrackText.{slip_tracked, slip_lost}
+use Rattle.std.proofs.Common.{arith}
+use Rattle.hdmi_cli.specs.TrackText.{slip_tracked}
 use Rattle.hdmi_cli.proofs.track_lister.TrackListerTrackEar.slip.Goals as goal
 
 pub returns-clause-ok : goal.returns-clause-ok
@@ -8,7 +9,4 @@ returns-clause-ok g c =
     slip_tracked c.slip.result c.args.lane c.args.place x.faults y.faults (g.K.Sink.held x.sink.now) (g.K.Sink.held y.sink.now) c.slip.ensures.same c.slip.ensures.counted c.slip.ensures.whole
 
 pub returns-clause-err : goal.returns-clause-err
-returns-clause-err g c =
-    let x = c.args.self.now.lister in
-    let y = c.slip.new.self in
-    slip_lost c.slip.result c.args.lane c.args.place x.faults y.faults (g.K.Sink.held x.sink.now) (g.K.Sink.held y.sink.now) c.slip.ensures.same c.slip.ensures.uncounted c.slip.ensures.part
+returns-clause-err g c = grind arith

@@ -1,6 +1,6 @@
 use Rattle.std.proofs.Common.{◌≡◌, ◌≢◌, ℕ, ◌+◌, ◌%◌, List, take, drop, get_or, ap, ap₂, sym, ◌∙◌, arith}
-use Rattle.std.specs.Prelude.{None, Ok, sum}
-use Rattle.infoframe.specs.Frames.{first_lost, frame_in, length_in, sum_of, kind_of, has_length}
+use Rattle.std.specs.Prelude.{None, Ok}
+use Rattle.infoframe.specs.Frames.{first_lost, frame_in, length_in, sum_of, has_length}
 use Rattle.infoframe.proofs.Lists.{after_first}
 use Rattle.infoframe.proofs.Refusals.{kind_in, length_below, refused_lost, refused_length, refused_sum, taken_as}
 use Rattle.infoframe.proofs.lent.InfoRef.read.Goals as goal
@@ -11,22 +11,14 @@ none_lost c = sym c.first_lost.ensures ∙ c.in_default.is
 
 same_fit : (c : After-has_length) → has_length (kind_in c.args.packet.packet.now) (length_in c.args.packet.packet.now) ≡ c.has_length.result
 unfolding length_in
-same_fit c =
-    let header = c.header-header.ensures in
-    sym (c.has_length.ensures
-    ∙ ap₂ has_length (c.kind_of.ensures ∙ ap (λ (h : List ℕ). kind_of (get_or h 0 0) (get_or h 1 0)) header)
-    (ap (λ (h : List ℕ). get_or h 2 0 % 32) header))
+same_fit c = grind arith
 
 mod_sum : (a b x y : ℕ) → x ≡ a % 256 → y ≡ b % 256 → (a + b) % 256 ≡ (x + y) % 256
 mod_sum a b x y e f = omega arith
 
 same_sum : (c : After-sum_of-2) → sum_of c.args.packet.packet.now ≡ (c.sum_of.result + c.sum_of-2.result) % 256
 unfolding sum_of length_in
-same_sum c =
-    let header = c.header-header.ensures in
-    let n = c.from.ensures ∙ ap (λ (h : List ℕ). get_or h 2 0 % 32) header in
-    mod_sum _ _ _ _ (c.sum_of.ensures ∙ ap (λ (h : List ℕ). sum h % 256) header)
-    (c.sum_of-2.ensures ∙ ap₂ (λ m (b : List ℕ). sum (take (m + 1) b) % 256) n c.bodies-bodies.ensures)
+same_sum c = grind (arith, mod_sum)
 
 pub returns-in-Some : goal.returns-in-Some
 returns-in-Some c = sym (refused_lost c.args.packet.packet.now c.args.packet.verdicts.now c.in-Some.block (sym c.first_lost.ensures ∙ c.in-Some.is))

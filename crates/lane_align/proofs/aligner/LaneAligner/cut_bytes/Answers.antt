@@ -7,13 +7,7 @@ use Rattle.lane_align.proofs.Fives.{taken_byte}
 use Rattle.lane_align.proofs.aligner.LaneAligner.cut_bytes.Goals as goal
 
 pub loop-i-init : goal.loop-i-init
-loop-i-init c =
-    let e = c.most-fives.ensures in
-    let fed = e.fed in
-    let held = e.held in
-    record {
-      taken = record { fed = omega arith; size_is = e.length; lock = e.lock; room = omega arith; small = e.small; stands = e.stands; words = e.words };
-    }
+loop-i-init c = grind arith
 
 pub loop-i-preserved : goal.loop-i-preserved
 loop-i-preserved c =

@@ -1,4 +1,4 @@
-use Rattle.std.proofs.Common.{◌≡◌, ℕ, ◌*◌, ◌-◌, ◌%◌, ◌^◌, ◌<◌, ◌∙◌, arith, sym, subst, bit_and, Option, None, Some, true, is_some}
+use Rattle.std.proofs.Common.{◌≡◌, ℕ, ◌*◌, ◌-◌, ◌%◌, ◌^◌, ◌<◌, ◌∙◌, arith, sym, bit_and, Option, None, Some, true, is_some}
 use Rattle.tmds_word.specs.Bits.{bits_of}
 use Rattle.tmds_word.proofs.Numbers.{number-bits_of, pow_positive}
 use Rattle.tmds_word.proofs.Lists.{length-bits_of}
@@ -12,10 +12,7 @@ not_none None h e = cc
 not_none (Some p) h e = cc
 
 masked_below : (b k : ℕ) → k < 8 → bit_and b (1 * 2 ^ k % 256 - 1) < 2 ^ k
-masked_below b k few =
-    let p = pow_positive k in
-    let below : b % 2 ^ k < 2 ^ k = omega arith in
-    subst (λ n. n < 2 ^ k) (sym (mask_is b k few)) below
+masked_below b k few = grind (arith, pow_positive, mask_is)
 
 pub cut-requires-clause-value : goal.cut-requires-clause-value
 cut-requires-clause-value c = masked_below c.args.byte c.args.count c.requires.count
@@ -28,11 +25,7 @@ returns-clause-stands c xs stands =
     (record { rest = c.cut.ensures.rest; held = c.cut.ensures.held }) (length-bits_of k c.args.byte) (number-bits_of k c.args.byte ∙ sym (mask_is c.args.byte k c.requires.count)) c.cut.ensures.fed stands
 
 pub returns-clause-words : goal.returns-clause-words
-returns-clause-words c xs ws stands all =
-    let old = c.args.self.now in
-    let k = c.args.count in
-    cut_words old c.cut.new.self xs (bits_of k c.args.byte) (bit_and c.args.byte (1 * 2 ^ k % 256 - 1)) k _ _ ws (λ o e. c.cut.ensures.lock ∙ e) (not_none old.lock c.requires.lock)
-    (record { rest = c.cut.ensures.rest; held = c.cut.ensures.held }) (length-bits_of k c.args.byte) (number-bits_of k c.args.byte ∙ sym (mask_is c.args.byte k c.requires.count)) stands c.cut.ensures.row all
+returns-clause-words c xs ws stands all = grind (arith, cut_words, not_none, length-bits_of, number-bits_of, mask_is)
 
 pub returns-clause-small : goal.returns-clause-small
 returns-clause-small c small = small_written _ _ _ _ c.cut.ensures.row small

@@ -1,9 +1,6 @@
-use Rattle.std.proofs.Common.{arith, inl, inr}
+use Rattle.std.proofs.Common.{arith}
 use Rattle.std.proofs.lemmas.Bool.{cases_lt}
 use Rattle.lane_deskew.proofs.tests.feeds.feed.Goals as goal
 
 pub feed-many-requires-clause-whole : goal.feed-many-requires-clause-whole
-feed-many-requires-clause-whole g c = elim (cases_lt c.args.from c.args.row.now.bits) [
-  | inl some ↦ inr (omega arith)
-  | inr over ↦ inl (omega arith)
-]
+feed-many-requires-clause-whole g c = grind (arith, cases_lt)

@@ -1,14 +1,11 @@
-use Rattle.std.proofs.Common.{◌≡◌, ℕ, zero, suc, ◌<◌, slice_index_or, [], ◌∷◌, ◌++◌, length, ap, sym, subst, arith, length-append, All}
+use Rattle.std.proofs.Common.{◌≡◌, [], ◌∷◌, ◌++◌, length, ap, sym, subst, arith, length-append, All}
 use Rattle.std.proofs.lemmas.List.Elements.{All-append}
 use Rattle.audio_packets.specs.Samples.{IsSample}
 use Rattle.audio_packets.specs.declared.sample.Sample.{Sample}
 use Rattle.listing_reader.proofs.content_reader.ContentReader.sample.Goals as goal
 
 one : (s : Sample) → IsSample s → All IsSample (s ∷ [])
-one s fit = λ k d within. first s fit k d within where
-  first : (s : Sample) → IsSample s → (k : ℕ) (d : Sample) → k < 1 → IsSample (slice_index_or (s ∷ []) k d)
-  first s fit zero d within = fit
-  first s fit (suc k) d within = absurd (omega arith)
+one s fit = grind arith
 
 pub invariant_of-reader : goal.invariant_of-reader
 invariant_of-reader c =

@@ -29,11 +29,7 @@ pub returns-then-is_end-clause-long : goal.returns-then-is_end-clause-long
 returns-then-is_end-clause-long c = step_long c.args.self c.args.line.now
 
 pub returns-else-is_end-clause-takes : goal.returns-else-is_end-clause-takes
-returns-else-is_end-clause-takes c =
-    let line = c.args.line.now in
-    let seen = c.read_content_form-form.ensures.form in
-    step_tells c.args.self c.in_ok-reader.reader line (cause_none _ _ (c.in_ok-reader.ensures.cause (content_form_of line) seen)) (sym (c.is_end_form-is_end.ensures (content_form_of line) seen) ∙ c.if-is_end.false)
-    (c.in_ok-reader.ensures.ok (content_form_of line) seen)
+returns-else-is_end-clause-takes c = grind (arith, step_tells, cause_none)
 
 pub returns-else-is_end-clause-some : goal.returns-else-is_end-clause-some
 returns-else-is_end-clause-some c = taken_some c.args.self c.args.line.now (cause_none _ _ (c.in_ok-reader.ensures.cause (content_form_of c.args.line.now) c.read_content_form-form.ensures.form))

@@ -1,9 +1,6 @@
-use Rattle.std.proofs.Common.{ap, sym, ◌∙◌, arith}
+use Rattle.std.proofs.Common.{◌∙◌, arith}
 use Rattle.std.proofs.lemmas.Grind.{common_steps}
 use Rattle.hex.proofs.HexLemmas.{decode_of-ok}
-use Rattle.island_pack.specs.Periods.{video}
-use Rattle.source_end.specs.DviPeriods.{dvi_columns_of}
-use Rattle.source_end.specs.Refusals.{dvi_push_fault}
 use Rattle.listing_reader.specs.declared.dvi_reader.DviReader.{DviReader}
 use Rattle.listing_reader.proofs.DviCauses.{dvi_unread, dvi_pixels_taken, dvi_pixels_refused}
 use Rattle.listing_reader.proofs.DviOpen.{dvi_video_columns, dvi_video_few}
@@ -20,24 +17,10 @@ overflow_cast-added c =
     grind (arith, common_steps)
 
 pub overflow_add-result : goal.overflow_add-result
-overflow_add-result c =
-    let few = c.self.invariant.few in
-    let twice = (decode_of-ok c.args.digits.now c.in_ok-pixels.pixels c.in_ok-pixels.ensures.ok).2 in
-    grind (arith, common_steps)
+overflow_add-result c = grind (arith, decode_of-ok, common_steps)
 
 pub invariant_of-result : goal.invariant_of-result
-invariant_of-result c =
-    let r = c.self.inside in
-    let all = c.in_ok-items.items in
-    let pixels = c.in_ok-pixels.pixels in
-    let none = none_of (Unit {0}) tt (dvi_push_fault all (video pixels)) c.in-Ok.ensures.fault in
-    let before = c.self.invariant.columns ∙ ap dvi_columns_of (sym c.in_ok-items.ensures) in
-    record {
-      columns = dvi_video_columns all c.push.new.self c.new.result pixels r.columns c.len-added.result before c.in-Ok.ensures.ok c.len-added.ensures.count c.new.ensures;
-      few = dvi_video_few all pixels r.columns c.len-added.result before c.len-added.ensures.count none;
-      turn = video_last all c.push.new.self pixels c.in-Ok.ensures.ok;
-      in_range = none_in_range c.new.result c.new.ensures;
-    }
+invariant_of-result c = grind (arith, none_of, dvi_video_columns, dvi_video_few, video_last, none_in_range)
 
 pub returns-in-Ok-clause-cause : goal.returns-in-Ok-clause-cause
 returns-in-Ok-clause-cause c =

@@ -1,4 +1,4 @@
-use Rattle.std.proofs.Common.{rules, arith, ◌≡◌, ◌≤◌, ◌∙◌, ◌++◌, ap, ap₂, sym, subst, List, ℕ, IsTrue, length, take, length-append, length-take-le}
+use Rattle.std.proofs.Common.{rules, arith, ◌≡◌, ◌≤◌, ◌++◌, ap, sym, subst, List, ℕ, IsTrue, length, take, length-append, length-take-le}
 use Rattle.std.proofs.lemmas.List.{take-append-le}
 use Rattle.listing_reader.specs.Held.{is_feedless}
 use Rattle.outside_io.proofs.Consumed.{takes_more}
@@ -30,10 +30,7 @@ returns-then-branch-eq0-clause-taken g c = takes_more _ _ _ c.reads.invariant.ta
 -- bytes that came behind leave the first ones as they were
 front_kept : (m : ℕ) (bytes before now more : List ℕ) → bytes ≡ before → now ≡ before ++ more → m ≤ length bytes
     → (length (take m bytes) ≤ length now) × (take (length (take m bytes)) now ≡ take m bytes)
-front_kept m bytes before now more same grown within =
-    let long : length (take m bytes) ≡ m = length-take-le m bytes within in
-    let is : now ≡ bytes ++ more = grown ∙ ap (λ xs. xs ++ more) (sym same) in
-    (omega (arith, long, within, ap length is, length-append bytes more), ap₂ take long is ∙ take-append-le m bytes more within)
+front_kept m bytes before now more same grown within = grind (arith, length-take-le, length-append, take-append-le)
 
 pub reads-preserved : goal.reads-preserved
 reads-preserved g c =

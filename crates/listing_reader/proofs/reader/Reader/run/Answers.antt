@@ -2,37 +2,21 @@ use Rattle.std.proofs.Common.{◌≡◌, ◌+◌, ◌++◌, ◌∷◌, [], ap, s
 use Rattle.island_pack.specs.Periods.{ControlRun, control}
 use Rattle.source_end.specs.Refusals.{is_in_range}
 use Rattle.listing_reader.specs.Reported.{drafted}
-use Rattle.listing_reader.specs.Causes.{run_cause}
 use Rattle.listing_reader.specs.Drafts.{draft_columns, with_line}
 use Rattle.listing_reader.specs.Forms.{control_line}
-use Rattle.listing_reader.specs.declared.fault.ListCause.TheVariants.{Range, Order, Long}
-use Rattle.listing_reader.specs.declared.reader.Reader.{Reader}
 use Rattle.listing_reader.proofs.OpenPeriods.{in_range_more}
 use Rattle.listing_reader.proofs.Islands.{run_drafted, run_columns, room_is, stays_closed, is_closed_at}
 use Rattle.listing_reader.proofs.Refused.{run_range, run_order, run_long, run_fits, answers_cause, answers_ok}
 use Rattle.listing_reader.proofs.reader.Reader.run.Goals as goal
 
 pub returns-then-not-is_run_in_range-clause-cause : goal.returns-then-not-is_run_in_range-clause-cause
-returns-then-not-is_run_in_range-clause-cause c =
-    let draft = c.args.self in
-    let v = c.args.value in
-    let n = c.args.count in
-    answers_cause Reader (run_cause draft v n) Range (run_range draft v n (sym c.is_run_in_range.ensures ∙ c.if-not-is_run_in_range.true))
+returns-then-not-is_run_in_range-clause-cause c = grind (arith, answers_cause, run_range)
 
 pub returns-then-not-is_closed-clause-cause : goal.returns-then-not-is_closed-clause-cause
-returns-then-not-is_closed-clause-cause c =
-    let draft = c.args.self in
-    let v = c.args.value in
-    let n = c.args.count in
-    answers_cause Reader (run_cause draft v n) Order (run_order draft v n (sym c.is_run_in_range.ensures ∙ c.if-not-is_run_in_range.false) (sym c.is_closed.ensures ∙ c.if-not-is_closed.true))
+returns-then-not-is_closed-clause-cause c = grind (arith, answers_cause, run_order)
 
 pub returns-then-not-has_room-clause-cause : goal.returns-then-not-has_room-clause-cause
-returns-then-not-has_room-clause-cause c =
-    let draft = c.args.self in
-    let v = c.args.value in
-    let n = c.args.count in
-    answers_cause Reader (run_cause draft v n) Long
-    (run_long draft v n (sym c.is_run_in_range.ensures ∙ c.if-not-is_run_in_range.false) (sym c.is_closed.ensures ∙ c.if-not-is_closed.false) (sym c.has_room.ensures ∙ c.if-not-has_room.true))
+returns-then-not-has_room-clause-cause c = grind (arith, answers_cause, run_long)
 
 pub invariant_of-reader : goal.invariant_of-reader
 invariant_of-reader c =
@@ -51,10 +35,7 @@ invariant_of-reader c =
     }
 
 pub returns-clause-cause : goal.returns-clause-cause
-returns-clause-cause c =
-    let draft = c.args.self in
-    answers_ok {T = Reader} _ (run_cause draft c.args.value c.args.count)
-    (run_fits draft c.args.value c.args.count (sym c.is_run_in_range.ensures ∙ c.if-not-is_run_in_range.false) (sym c.is_closed.ensures ∙ c.if-not-is_closed.false) (sym c.has_room.ensures ∙ c.if-not-has_room.false))
+returns-clause-cause c = grind (arith, answers_ok, run_fits)
 
 pub returns-clause-ok : goal.returns-clause-ok
 returns-clause-ok c =

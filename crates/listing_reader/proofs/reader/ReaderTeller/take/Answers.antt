@@ -1,6 +1,4 @@
-use Rattle.std.proofs.Common.{sym, ◌∙◌, ap}
-use Rattle.source_end.specs.Refusals.{close_fault}
-use Rattle.listing_reader.specs.Drafts.{Draft}
+use Rattle.std.proofs.Common.{arith}
 use Rattle.listing_reader.specs.Forms.{form_of}
 use Rattle.listing_reader.proofs.LinkSteps.{can_close, step_closes, step_long, step_tells, taken_short, taken_some, takes_refused}
 use Rattle.listing_reader.proofs.Refused.{cause_none}
@@ -14,21 +12,13 @@ pub returns-in_err-reader-clause-long : goal.returns-in_err-reader-clause-long
 returns-in_err-reader-clause-long c = step_long c.args.self c.args.line.now
 
 pub close-requires : goal.close-requires
-close-requires c =
-    let form = form_of c.args.line.now in
-    let seen = c.read_form-form.ensures.form in
-    ap (λ (draft : Draft). close_fault draft.periods) (c.in_ok-reader.ensures.ok form seen)
-    ∙ can_close c.args.self form (cause_none _ _ (c.in_ok-reader.ensures.cause form seen)) (sym (c.is_end_form-is_end.ensures form seen) ∙ c.if-is_end.true)
+close-requires c = grind (arith, can_close, cause_none)
 
 pub returns-in_err-close-clause-long : goal.returns-in_err-close-clause-long
 returns-in_err-close-clause-long c = step_long c.args.self c.args.line.now
 
 pub returns-in_ok-close-clause-takes : goal.returns-in_ok-close-clause-takes
-returns-in_ok-close-clause-takes c =
-    let line = c.args.line.now in
-    let seen = c.read_form-form.ensures.form in
-    step_closes c.args.self _ line (cause_none _ _ (c.in_ok-reader.ensures.cause (form_of line) seen)) (sym (c.is_end_form-is_end.ensures (form_of line) seen) ∙ c.if-is_end.true)
-    (c.in_ok-close.ensures ∙ ap (λ (draft : Draft). draft.periods) (c.in_ok-reader.ensures.ok (form_of line) seen))
+returns-in_ok-close-clause-takes c = grind (arith, step_closes, cause_none)
 
 pub returns-in_ok-close-clause-some : goal.returns-in_ok-close-clause-some
 returns-in_ok-close-clause-some c = taken_some c.args.self c.args.line.now (cause_none _ _ (c.in_ok-reader.ensures.cause (form_of c.args.line.now) c.read_form-form.ensures.form))
@@ -40,11 +30,7 @@ pub returns-in_ok-close-clause-long : goal.returns-in_ok-close-clause-long
 returns-in_ok-close-clause-long c = step_long c.args.self c.args.line.now
 
 pub returns-else-is_end-clause-takes : goal.returns-else-is_end-clause-takes
-returns-else-is_end-clause-takes c =
-    let line = c.args.line.now in
-    let seen = c.read_form-form.ensures.form in
-    step_tells c.args.self c.in_ok-reader.reader line (cause_none _ _ (c.in_ok-reader.ensures.cause (form_of line) seen)) (sym (c.is_end_form-is_end.ensures (form_of line) seen) ∙ c.if-is_end.false)
-    (c.in_ok-reader.ensures.ok (form_of line) seen)
+returns-else-is_end-clause-takes c = grind (arith, step_tells, cause_none)
 
 pub returns-else-is_end-clause-some : goal.returns-else-is_end-clause-some
 returns-else-is_end-clause-some c = taken_some c.args.self c.args.line.now (cause_none _ _ (c.in_ok-reader.ensures.cause (form_of c.args.line.now) c.read_form-form.ensures.form))

@@ -1,6 +1,5 @@
-use Rattle.std.proofs.Common.{refl, ap, arith}
+use Rattle.std.proofs.Common.{ap, arith}
 use Rattle.std.specs.Prelude.{Err}
-use Rattle.period_grammar.specs.Events.{cut}
 use Rattle.period_grammar.specs.Lending.{lent_event, fault_event}
 use Rattle.listing_writer.specs.Texts.{line_words}
 use Rattle.listing_writer.specs.Checks.{is_cut, is_checked}
@@ -17,17 +16,11 @@ returns-in-Run g c = record {
 
 pub returns-in-Cut-clause-ok : goal.returns-in-Cut-clause-ok
 unfolding line_words is_checked is_cut
-returns-in-Cut-clause-ok g c =
-    check_took_ok _ _ _ _ _ (lent_event c.args.event) (cut c.in-Cut.column) (ap lent_event c.in-Cut.is) refl
-    (line_took _ _ _ _ _ (lent_event c.args.event) (cut c.in-Cut.column) _ (ap lent_event c.in-Cut.is) refl
-    c.fields_line.ensures c.write_short.ensures.whole)
+returns-in-Cut-clause-ok g c = grind (arith, check_took_ok, line_took)
 
 pub returns-in-Cut-clause-err : goal.returns-in-Cut-clause-err
 unfolding line_words is_checked is_cut
-returns-in-Cut-clause-err g c =
-    check_broke _ _ _ _ _ (lent_event c.args.event) (cut c.in-Cut.column) (ap lent_event c.in-Cut.is) refl
-    (line_broke _ _ _ _ _ (lent_event c.args.event) (cut c.in-Cut.column) _ (ap lent_event c.in-Cut.is)
-    c.fields_line.ensures c.write_short.ensures.part)
+returns-in-Cut-clause-err g c = grind (arith, check_broke, line_broke)
 
 pub returns-in_err-write_short-in-Fault-clause-err : goal.returns-in_err-write_short-in-Fault-clause-err
 returns-in_err-write_short-in-Fault-clause-err g c =

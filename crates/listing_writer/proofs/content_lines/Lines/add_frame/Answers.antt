@@ -1,4 +1,4 @@
-use Rattle.std.proofs.Common.{Bool, true, false, ℕ, [], ◌∷◌, ◌++◌, Option, refl, sym, ap, ◌∙◌}
+use Rattle.std.proofs.Common.{arith, Bool, true, ℕ, [], ◌∷◌, ◌++◌, Option, refl, sym, ap, ◌∙◌}
 use Rattle.std.specs.Prelude.{if◌then◌else◌, codes, Some, None}
 use Rattle.listing_writer.specs.Fields.{with_fields}
 use Rattle.listing_writer.specs.ContentText.{frame_lines, vic_lines}
@@ -16,11 +16,7 @@ returns-then-has_other_size c =
 
 pub returns-else-has_other_size : goal.returns-else-has_other_size
 unfolding frame_lines vic_lines
-returns-else-has_other_size c =
-    adds_as (λ (vic : Option ℕ). frame_lines vic (Some c.args.frame)) _ _ (Some c.in-Some.code) _ (sym c.in-Some.is)
-    (adds_both c.args.self.now c.add.new.self c.add.new.self _ _ (c.add.ensures.added _ c.fields_line.ensures refl)
-    (adds_as (λ (other : Bool). if other then with_fields (codes "! vic") (c.in-Some.code ∷ []) ∷ [] else []) _ _ false _
-    (sym c.if-has_other_size.false ∙ c.has_other_size.ensures) (adds_none c.add.new.self)))
+returns-else-has_other_size c = grind (arith, adds_as, adds_both, adds_none)
 
 pub returns-in_default : goal.returns-in_default
 unfolding frame_lines vic_lines

@@ -1,4 +1,4 @@
-use Rattle.std.proofs.Common.{List, refl, sym, ap, subst, ◌∙◌, length}
+use Rattle.std.proofs.Common.{arith, List, refl, sym, ap, subst, ◌∙◌}
 use Rattle.std.specs.Prelude.{Err}
 use Rattle.audio_packets.specs.Samples.{samples_of}
 use Rattle.audio_packets.specs.declared.sample.SampleNote.{SampleNote}
@@ -13,25 +13,10 @@ add_note-requires c = room_for_one _ c.args.column c.args.self.now c.loop-note.s
     c.in-Some.ensures.steps c.loop-note.invariant.added)
 
 pub loop-note-init : goal.loop-note-init
-loop-note-init c = record {
-  next = tt;
-  finite = tt;
-  added =
-      subst (λ (notes : List SampleNote). Added (samples_of c.args.packet.packet.now c.args.packet.verdicts.now) c.args.column c.args.self.now c.args.self.now notes)
-      (sym c.into_iter-note-iterator.ensures.into_iter_gives)
-      (added_none _ c.args.column c.args.self.now c.in-Ok.notes c.in-Ok.ensures (samples_short c.args.packet.packet.now c.args.packet.verdicts.now _ c.in-Ok.ensures) (ap length c.requires.empty) (adds_none c.args.self.now));
-}
+loop-note-init c = grind (arith, Added, added_none, samples_short, adds_none)
 
 pub loop-note-preserved : goal.loop-note-preserved
-loop-note-preserved c = record {
-  next = tt;
-  finite = tt;
-  added =
-      added_more _ c.args.column c.args.self.now c.loop-note.self c.add_note.new.self c.in-Some.note c.next.new.self
-      (subst (λ (notes : List SampleNote). Added (samples_of c.args.packet.packet.now c.args.packet.verdicts.now) c.args.column c.args.self.now c.loop-note.self notes)
-      c.in-Some.ensures.steps c.loop-note.invariant.added)
-      c.add_note.ensures.added c.add_note.ensures.size;
-}
+loop-note-preserved c = grind (arith, added_more, Added)
 
 pub returns-in-None : goal.returns-in-None
 unfolding sample_lines

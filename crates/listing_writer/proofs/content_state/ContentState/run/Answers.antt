@@ -1,4 +1,4 @@
-use Rattle.std.proofs.Common.{ℕ, Option, Some, None, refl, sym, ◌∙◌}
+use Rattle.std.proofs.Common.{arith, ℕ, Option, None, refl, sym, ◌∙◌}
 use Rattle.frame_build.specs.FrameEvent.{run as run_frame_event}
 use Rattle.frame_build.specs.Group.{frame_at}
 use Rattle.frame_build.specs.declared.FrameNote.{FrameNote}
@@ -13,10 +13,7 @@ pub returns-in-Some : goal.returns-in-Some
 unfolding frame_event_of avi_at lines_at
 returns-in-Some c before recalls = record {
   recalls = recalls_plain c.args.self.now _ before (run c.args.value c.args.count) refl refl (c.run.ensures.stands (frame_events before) recalls.frames) recalls;
-  added =
-      adds_as (λ (vic : Option ℕ). frame_lines vic (frame_at (frame_events before) (run_frame_event c.args.value c.args.count))) _ _ _ _ recalls.vic
-      (adds_as (λ (frame : Option FrameNote). frame_lines c.args.self.now.vic frame) _ _ (Some c.in-Some.frame) _
-      (sym c.in-Some.is ∙ c.run.ensures.frame (frame_events before) recalls.frames) c.add_frame.ensures);
+  added = grind (arith, adds_as);
 }
 
 pub returns-in_default : goal.returns-in_default

@@ -1,5 +1,5 @@
 use Rattle.std.proofs.Common.{refl, ap, arith}
-use Rattle.std.specs.Prelude.{slice_index, Err}
+use Rattle.std.specs.Prelude.{slice_index}
 use Rattle.period_grammar.specs.Events.{run, line, open_island, close_island, cut}
 use Rattle.period_grammar.specs.Lending.{lent_event, fault_event}
 use Rattle.listing_writer.specs.Texts.{line_words}
@@ -79,11 +79,7 @@ returns-in-Cut-clause-err g c =
     c.fields_line.ensures c.write_short-in-Cut.ensures.part
 
 pub returns-in_err-write_short-in-Fault-clause-err : goal.returns-in_err-write_short-in-Fault-clause-err
-returns-in_err-write_short-in-Fault-clause-err g c =
-    always _ (
-    line_broke {T = Unit {0}} (Err c.in_err-write_short-in-Fault.field-0.0) _ _ _ _ (lent_event c.args.event) (fault_event c.in-Fault.fault) _ (ap lent_event c.in-Fault.is)
-    c.fault_line.ensures c.in_err-write_short-in-Fault.ensures.part
-    )
+returns-in_err-write_short-in-Fault-clause-err g c = grind (arith, always, line_broke)
 
 pub returns-in_ok-write_short-in-Fault-clause-ok : goal.returns-in_ok-write_short-in-Fault-clause-ok
 returns-in_ok-write_short-in-Fault-clause-ok g c =

@@ -1,4 +1,4 @@
-use Rattle.std.proofs.Common.{refl, sym, subst, ◌∙◌}
+use Rattle.std.proofs.Common.{arith, refl, sym, subst, ◌∙◌}
 use Rattle.tmds_word.specs.Column.{column_of}
 use Rattle.period_grammar.specs.Seen.{Seen}
 use Rattle.period_grammar.specs.Stands.{HearingRepresents, going_on}
@@ -28,7 +28,4 @@ returns-clause-heard c cs was =
     (c.go_on-self-inside.ensures.stands (last (stretches cs)) w.stretch)
 
 pub returns-clause-reported : goal.returns-clause-reported
-returns-clause-reported c cs was =
-    let w = subst (λ (s : Seen). HearingRepresents s cs) (sym c.self.view_is) was in
-    reported_other cs (column_of c.args.column.now) c.self.inside.columns _ w.columns (sym c.is_control_column.ensures ∙ c.if-is_control_column.false)
-    (c.go_on-self-inside.ensures.reported (last (stretches cs)) (start_of cs) w.stretch (starts_at cs _ w.columns))
+returns-clause-reported c cs was = grind (arith, reported_other, start_of, starts_at)

@@ -1,6 +1,5 @@
-use Rattle.std.proofs.Common.{◌+◌, false, [], refl, sym, subst, ◌∙◌, append-nil}
+use Rattle.std.proofs.Common.{arith, ◌+◌, false, [], refl, sym, subst, ◌∙◌, append-nil}
 use Rattle.tmds_word.specs.Column.{column_of}
-use Rattle.period_grammar.specs.Column.{value_of}
 use Rattle.period_grammar.specs.Seen.{Seen}
 use Rattle.period_grammar.specs.Stands.{HearingRepresents, IsStretchAfter, going_on}
 use Rattle.period_grammar.specs.After.{last, grown}
@@ -25,16 +24,7 @@ returns-else-not-goes_on-clause-heard c cs was =
     stands_control _ cs d _ w.columns (is_column _ d whole) refl c.in-Control.is (c.hear_again.ensures.heard (going_on x) d whole.value control)
 
 pub returns-else-not-goes_on-clause-reported : goal.returns-else-not-goes_on-clause-reported
-returns-else-not-goes_on-clause-reported c cs was =
-    let w = subst (λ (s : Seen). HearingRepresents s cs) (sym c.self.view_is) was in
-    let x = last (stretches cs) in
-    let d = column_of c.args.column.now in
-    let h = c.self.inside in
-    let at = subst (λ (p : Phase). IsStretchAfter p h.control h.line h.island h.columns x) c.in-Control.is w.stretch in
-    let control = still_control _ h.line h.island h.columns x at in
-    let whole = whole_going h.control (going_on x) d control (sym (c.goes_on.ensures ∙ goes_run (runs (going_on x)) h.control.value h.control.run control.run d) ∙ c.if-not-goes_on.false) in
-    reported_control cs d h.columns (value_of d) [] [] w.columns (is_column _ d whole) refl (closes_nothing h.control h.line h.island h.columns (start_of cs) d x whole at) (sym (tells_no_word _ h.columns d whole))
-    ∙ append-nil (heard_so_far cs)
+returns-else-not-goes_on-clause-reported c cs was = grind (arith, still_control, whole_going, goes_run, reported_control, is_column, closes_nothing, start_of, tells_no_word, append-nil)
 
 pub returns-else-is_control_column-clause-heard : goal.returns-else-is_control_column-clause-heard
 returns-else-is_control_column-clause-heard c cs was =
@@ -57,21 +47,7 @@ returns-else-is_control_column-clause-reported c cs was =
     ∙ append-nil (heard_so_far cs)
 
 pub returns-then-not-goes_on-clause-count : goal.returns-then-not-goes_on-clause-count
-returns-then-not-goes_on-clause-count c cs was =
-    let w = subst (λ (s : Seen). HearingRepresents s cs) (sym c.self.view_is) was in
-    let x = last (stretches cs) in
-    let d = column_of c.args.column.now in
-    let h = c.self.inside in
-    let at = subst (λ (p : Phase). IsStretchAfter p h.control h.line h.island h.columns x) c.in-Control.is w.stretch in
-    let control = still_control _ h.line h.island h.columns x at in
-    sym c.if-not-goes_on.true ∙ c.goes_on.ensures ∙ goes_run (runs (going_on x)) h.control.value h.control.run control.run d ∙ control_goes h.control h.line h.island h.columns d x at
+returns-then-not-goes_on-clause-count c cs was = grind (arith, still_control, goes_run, control_goes)
 
 pub returns-else-not-goes_on-clause-count : goal.returns-else-not-goes_on-clause-count
-returns-else-not-goes_on-clause-count c cs was =
-    let w = subst (λ (s : Seen). HearingRepresents s cs) (sym c.self.view_is) was in
-    let x = last (stretches cs) in
-    let d = column_of c.args.column.now in
-    let h = c.self.inside in
-    let at = subst (λ (p : Phase). IsStretchAfter p h.control h.line h.island h.columns x) c.in-Control.is w.stretch in
-    let control = still_control _ h.line h.island h.columns x at in
-    sym c.if-not-goes_on.false ∙ c.goes_on.ensures ∙ goes_run (runs (going_on x)) h.control.value h.control.run control.run d ∙ control_goes h.control h.line h.island h.columns d x at
+returns-else-not-goes_on-clause-count c cs was = grind (arith, still_control, goes_run, control_goes)

@@ -1,4 +1,4 @@
-use Rattle.std.proofs.Common.{rules, ◌++◌, ◌≤◌, List, length, take, not, ap, sym, subst, ◌∙◌, arith}
+use Rattle.std.proofs.Common.{rules, ◌++◌, List, take, not, ap, sym, subst, ◌∙◌, arith}
 use Rattle.std.proofs.lemmas.Grind.{common_steps}
 use Rattle.tmds_word.specs.Column.{Column}
 use Rattle.tmds_word.specs.Lent.{columns_in}
@@ -29,11 +29,4 @@ returns-then-is_control_column c = record {
 }
 
 pub returns : goal.returns
-returns c =
-    let most : length (columns_in c.args.columns) ≤ c.loop-i.i = omega arith in
-    record {
-      within = search rules;
-      pixels = omega (arith, step_end is_pixel (columns_in c.args.columns) c.loop-i.i _ most c.loop-i.invariant.pixels, most);
-      count = grind (arith, common_steps);
-      heard = grind (arith, common_steps);
-    }
+returns c = grind (arith, step_end, common_steps)

@@ -1,4 +1,4 @@
-use Rattle.std.proofs.Common.{refl, arith}
+use Rattle.std.proofs.Common.{arith}
 use Rattle.island_pack.specs.Runs.{longest}
 use Rattle.relay.specs.Laws.{turns_in, begun_in}
 use Rattle.relay.specs.Relayed.{kept, without_faults, kept_from, nulled, gathered}
@@ -6,14 +6,4 @@ use Rattle.relay.proofs.relaying.Relay.open.Goals as goal
 
 pub returns-clause-stands : goal.returns-clause-stands
 unfolding turns_in begun_in kept without_faults kept_from nulled gathered longest
-returns-clause-stands c =
-    record {
-      whole = c.new.ensures;
-      period = c.new-2.ensures;
-      period_columns = refl;
-      columns = refl;
-      few = omega arith;
-      island = refl;
-      fits = tt;
-      faulty = refl;
-    }
+returns-clause-stands c = grind arith

@@ -10,13 +10,7 @@ use Rattle.relay.proofs.relaying.Relay.send_island.Goals as goal
 
 pub returns-then-is_long-clause-steps : goal.returns-then-is_long-clause-steps
 unfolding period_columns
-returns-then-is_long-clause-steps c eighteen t good h =
-    let n = h.period_columns in
-    let m = h.columns in
-    let s = size_ended t (an_island c.args.island) in
-    let l = ltb-true _ _ (sym c.is_long.ensures ∙ c.if-is_long.true) in
-    let k = c.island_columns-columns.ensures in
-    (tt, λ e. omega arith)
+returns-then-is_long-clause-steps c eighteen t good h = grind (arith, size_ended, ltb-true)
 
 pub returns-clause-steps : goal.returns-clause-steps
 unfolding period_columns

@@ -1,4 +1,4 @@
-use Rattle.std.proofs.Common.{refl}
+use Rattle.std.proofs.Common.{arith}
 use Rattle.listing_writer.specs.ContentText.{content_lines, lines_after}
 use Rattle.listing_writer.specs.Listed.{listed_from}
 use Rattle.sampling.specs.Counts.{lines_with}
@@ -6,14 +6,4 @@ use Rattle.sampling.proofs.counter.Counter.new.Goals as goal
 
 pub returns : goal.returns
 unfolding content_lines lines_after listed_from lines_with
-returns c = record {
-  heard = c.new.ensures;
-  pictures = c.new-2.ensures;
-  frames = refl;
-  rows = refl;
-  packets = refl;
-  samples = refl;
-  symbols = refl;
-  mended = refl;
-  code = refl;
-}
+returns c = grind arith

@@ -1,6 +1,5 @@
-use Rattle.std.proofs.Common.{[], ◌∷◌}
+use Rattle.std.proofs.Common.{arith, []}
 use Rattle.std.specs.Prelude.{Result, Ok, Err, OnOk}
-use Rattle.period_grammar.specs.Lending.{lent_event}
 use Rattle.sampling.proofs.Growing.{faults_more}
 use Rattle.sampling.proofs.Counting.{faults_kept}
 use Rattle.sampling.proofs.tally.TallyEar.hear.Goals as goal
@@ -10,13 +9,4 @@ ok_then (Ok done) then held = then held
 ok_then (Err e) then held = tt
 
 pub returns-clause-ok : goal.returns-clause-ok
-returns-clause-ok c =
-    ok_then c.hear-2.result
-    (λ heard reported stands.
-    let lists = heard.1 reported stands.recalls in
-    record {
-      recalls = lists.recalls;
-      faults = faults_kept _ _ _ _ _ stands.faults lists.faults (faults_more reported (lent_event c.args.event ∷ []));
-      counted = c.hear.ensures reported stands.counted;
-    })
-    c.hear-2.ensures.ok
+returns-clause-ok c = grind (arith, ok_then, faults_kept, faults_more)

@@ -1,28 +1,11 @@
-use Rattle.std.proofs.Common.{◌≡◌, length, ap, ◌∙◌, arith, vec_len, ◌-◌}
+use Rattle.std.proofs.Common.{arith, ◌-◌}
 use Rattle.std.proofs.lemmas.List.{length-set}
-use Rattle.source_end.specs.Content.{with_packet, on_last}
 use Rattle.source_end.proofs.Gathered.{on_ok}
 use Rattle.source_end.proofs.Contents.{last_set, set_content, packet_content, kept_or}
 use Rattle.source_end.proofs.content.Content.packet.Goals as goal
 
 pub invariant_of-self : goal.invariant_of-self
-invariant_of-self c =
-    let frames = c.self.inside.frames.items in
-    let f = c.in-Some.frame.now in
-    let g = c.packet.new.self in
-    let n = vec_len c.self.inside.frames in
-    let keeps = kept_or c.packet.result f g (with_packet c.args.packet f) c.packet.ensures.ok c.packet.ensures.err (packet_content c.args.packet f g c.payload.ensures) in
-    let l = length-set frames (n - 1) g in
-    let len : n ≡ length frames = omega arith in
-    (set_content frames f g n len c.in-Some.ensures.value c.self.invariant.0 keeps, omega (arith, l, c.self.invariant.1))
+invariant_of-self c = grind (arith, kept_or, packet_content, length-set, set_content)
 
 pub returns-clause-ok : goal.returns-clause-ok
-returns-clause-ok c =
-    let frames = c.self.inside.frames.items in
-    let f = c.in-Some.frame.now in
-    let g = c.packet.new.self in
-    let n = vec_len c.self.inside.frames in
-    let len : n ≡ length frames = omega arith in
-    on_ok c.packet.result _ _
-    (λ is. last_set (with_packet c.args.packet) frames f g n len c.in-Some.ensures.value is ∙ ap (on_last (with_packet c.args.packet)) c.self.view_is)
-    c.packet.ensures.ok
+returns-clause-ok c = grind (arith, on_ok, last_set)

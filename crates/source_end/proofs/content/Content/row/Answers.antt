@@ -1,6 +1,6 @@
-use Rattle.std.proofs.Common.{◌≡◌, length, ap, ◌∙◌, arith, vec_len, ◌-◌}
+use Rattle.std.proofs.Common.{◌≡◌, length, arith, vec_len, ◌-◌}
 use Rattle.std.proofs.lemmas.List.{length-set}
-use Rattle.source_end.specs.Content.{with_row, on_last}
+use Rattle.source_end.specs.Content.{with_row}
 use Rattle.source_end.proofs.Gathered.{on_ok}
 use Rattle.source_end.proofs.Contents.{last_set, set_content, bytes_at, row_content, kept_or}
 use Rattle.source_end.proofs.content.Content.row.Goals as goal
@@ -17,12 +17,4 @@ invariant_of-self c =
     (set_content frames f g n len c.in-Some.ensures.value c.self.invariant.0 keeps, omega (arith, l, c.self.invariant.1))
 
 pub returns-clause-ok : goal.returns-clause-ok
-returns-clause-ok c =
-    let frames = c.self.inside.frames.items in
-    let f = c.in-Some.frame.now in
-    let g = c.row.new.self in
-    let n = vec_len c.self.inside.frames in
-    let len : n ≡ length frames = omega arith in
-    on_ok c.row.result _ _
-    (λ is. last_set (with_row c.args.bytes.now) frames f g n len c.in-Some.ensures.value is ∙ ap (on_last (with_row c.args.bytes.now)) c.self.view_is)
-    c.row.ensures.ok
+returns-clause-ok c = grind (arith, on_ok, last_set)

@@ -1,12 +1,7 @@
-use Rattle.std.proofs.Common.{◌∙◌, ap, map, sym}
-use Rattle.source_end.specs.ItemPeriods.{period_of}
-use Rattle.source_end.specs.Refusals.{close_fault}
+use Rattle.std.proofs.Common.{arith}
 use Rattle.source_end.proofs.DviTurns.{dvi_so_far-ends}
 use Rattle.source_end.proofs.Faults.{ends_long}
 use Rattle.source_end.proofs.dvi_items.DviItems.close.Goals as goal
 
 pub new-requires-clause-conforming : goal.new-requires-clause-conforming
-new-requires-clause-conforming c =
-    let ps = map period_of c.self.inside.list.items in
-    let none = ap (λ xs. close_fault (map period_of xs)) (sym c.as_slice.ensures.value) ∙ sym c.end_fault.ensures ∙ c.in_default.is in
-    dvi_so_far-ends ps c.self.invariant.0 (ends_long ps none)
+new-requires-clause-conforming c = grind (arith, dvi_so_far-ends, ends_long)

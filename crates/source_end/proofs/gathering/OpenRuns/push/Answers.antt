@@ -1,5 +1,4 @@
-use Rattle.std.proofs.Common.{List, Some, ap, sym, ◌∙◌, ◌++◌, ◌∷◌, []}
-use Rattle.island_pack.specs.Periods.{ControlRun}
+use Rattle.std.proofs.Common.{arith, Some, ap, sym, ◌∙◌, []}
 use Rattle.source_end.proofs.Gathered.{run_of, same_some, push_first, push_grows, push_turns}
 use Rattle.source_end.proofs.gathering.OpenRuns.push.Goals as goal
 
@@ -12,9 +11,4 @@ returns-in-Some c values e few =
     push_grows c.self.inside.runs c.self.inside.last r c.args.value c.args.count c.saturating_add-count.result values (c.in-Some.is ∙ ap Some (sym c.last.view_is)) c.if-last-value.true (c.self.view_is ∙ e) few c.saturating_add-count.ensures
 
 pub returns-in_ok-push-in-Some-2 : goal.returns-in_ok-push-in-Some-2
-returns-in_ok-push-in-Some-2 c values e few =
-    let runs = c.self.inside.runs in
-    let r = run_of c.last.inside.value c.last.inside.count in
-    let grown = c.in_ok-push-in-Some-2.ensures.ok ∙ ap (λ (x : ControlRun). runs ++ x ∷ []) (same_some c.in-Some-2.last c.in-Some.last (sym c.in-Some-2.is ∙ c.in-Some.is) ∙ sym c.last.view_is) in
-    ap (λ (xs : List ControlRun). xs ++ run_of c.args.value c.args.count ∷ []) grown
-    ∙ push_turns runs c.self.inside.last r c.args.value c.args.count values (c.in-Some.is ∙ ap Some (sym c.last.view_is)) c.if-last-value.false c.if-count-eq0.false (c.self.view_is ∙ e)
+returns-in_ok-push-in-Some-2 c values e few = grind (arith, run_of, same_some, push_turns)

@@ -1,5 +1,5 @@
-use Rattle.std.proofs.Common.{arith, ◌≡◌, ℕ, ◌+◌, ◌*◌, ◌/◌, ◌%◌, ◌<◌, ◌≤◌, ◌∙◌, ap, ap₂, subst, sym, refl, slice_index}
-use Rattle.tmds_code.specs.Balances.{disparity_at, followed}
+use Rattle.std.proofs.Common.{arith, ◌≡◌, ℕ, ◌+◌, ◌*◌, ◌/◌, ◌%◌, ◌<◌, ◌≤◌, ◌∙◌, ap₂, subst, sym, refl, slice_index}
+use Rattle.tmds_code.specs.Balances.{followed}
 use Rattle.tmds_code.specs.declared.following.TheConstants.{FOLLOWED}
 use Rattle.tmds_code.proofs.StepTable.{table_step, table_row}
 use Rattle.tmds_code.proofs.balance.Balance.after.Goals as goal
@@ -18,9 +18,4 @@ invariant_of-result c =
     subst (λ n. (n ≤ 9216) × (n % 1024 ≡ 0)) (sym is) (table_row (row / 1024) c.args.word (omega (arith, c.self.invariant.0)) lt)
 
 pub returns : goal.returns
-returns c =
-    let row = c.self.inside.row in
-    let lt : c.args.word < 1024 = subst (λ n. n < 1024) c.value.ensures.value c.value.ensures.below in
-    ap (λ n. disparity_at (n / 1024)) (entry_is row c.args.word c.followed.result row c.from.result c.self.invariant.1 c.followed.ensures refl (c.from.ensures ∙ c.value.ensures.value))
-    ∙ table_step (row / 1024) c.args.word (omega (arith, c.self.invariant.0)) lt
-    ∙ ap (λ n. followed (disparity_at n) c.args.word) c.self.view_is
+returns c = grind (arith, entry_is, table_step)

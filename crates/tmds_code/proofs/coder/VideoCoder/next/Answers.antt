@@ -1,4 +1,4 @@
-use Rattle.std.proofs.Common.{arith, ◌≡◌, ℕ, ◌<◌, ◌≤◌, ◌+◌, ◌-◌, ◌*◌, ◌/◌, ◌%◌, ◌∙◌, ap, ap₂, sym, subst, refl, bit_and, slice_index}
+use Rattle.std.proofs.Common.{arith, ◌≡◌, ℕ, ◌<◌, ◌≤◌, ◌+◌, ◌-◌, ◌*◌, ◌/◌, ◌%◌, ◌∙◌, ap, sym, subst, refl, bit_and, slice_index}
 use Rattle.std.specs.Prelude.{pos, ◌-ℤ◌, ◌+ℤ◌}
 use Rattle.std.proofs.lemmas.Nat.{and_mask}
 use Rattle.tmds_word.specs.Bits.{word_bits, ones, balance}
@@ -17,10 +17,7 @@ steps_at k b = k + ones (word_bits (coded_word (pos (2 * k) -ℤ pos 8) b)) - 5
 
 entry_is : (row b v p q : ℕ) → v ≡ slice_index STEPPED (p + q) → p ≡ row → q ≡ b → row ≤ 2048 → row % 256 ≡ 0 → b < 256 → v ≡ word_at (row / 256) b + 16777216 * steps_at (row / 256) b
 unfolding word_at steps_at
-entry_is row b v p q e f g le whole lt =
-    let place : row + b ≡ 256 * (row / 256) + b = omega arith in
-    let few : row / 256 ≤ 8 = omega arith in
-    e ∙ ap₂ (λ x y. slice_index STEPPED (x + y)) f g ∙ ap (λ n. slice_index STEPPED n) place ∙ table_entry (row / 256) b few lt
+entry_is row b v p q e f g le whole lt = grind (arith, table_entry)
 
 low_part : (v w m : ℕ) → v ≡ w + 16777216 * m → w < 1024 → bit_and v 65535 ≡ w
 low_part v w m e lt = and_mask v 16 ∙ omega (arith, e, lt)

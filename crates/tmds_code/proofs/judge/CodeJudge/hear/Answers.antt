@@ -1,9 +1,8 @@
-use Rattle.std.proofs.Common.{arith, ◌≡◌, ℕ, ◌≤◌, ◌+◌, ◌*◌, ◌∙◌, ap, sym, ◌∷◌, [], length-append}
+use Rattle.std.proofs.Common.{arith, ◌≡◌, ℕ, ◌≤◌, ◌+◌, ◌*◌, ap, [], length-append}
 use Rattle.std.specs.Prelude.{ℤ, pos, ◌+ℤ◌, ◌≤ℤ◌, neg_ℤ}
 use Rattle.std.proofs.lemmas.Int.{ints}
 use mir.Val.{to_z, of_z}
 use mir.Syntax.{w32}
-use Rattle.tmds_code.specs.Lanes.{disparity_of}
 use Rattle.tmds_code.specs.Pasts.{Heard}
 use Rattle.tmds_code.proofs.Lanes.{disparity_of-more}
 use Rattle.tmds_code.proofs.judge.CodeJudge.hear.Goals as goal
@@ -24,9 +23,4 @@ returns-clause-stands c = λ words past.
     let d = c.self.inside.disparity in
     let b = c.balance_of.result in
     let sum = sum_is d b c.self.inside.count c.self.invariant.0 c.self.invariant.1 c.self.invariant.2 c.balance_of.ensures.low c.balance_of.ensures.high in
-    let counted : c.self.inside.count ≡ c.args.self.now.count = ap (λ (h : Heard). h.count) c.self.view_is in
-    let kept : d ≡ c.args.self.now.disparity = ap (λ (h : Heard). h.disparity) c.self.view_is in
-    record {
-      count = omega (arith, counted, past.count, length-append words (c.args.word ∷ []));
-      disparity = sum ∙ ap (λ z. z +ℤ b) (kept ∙ past.disparity) ∙ ap (λ z. disparity_of words +ℤ z) c.balance_of.ensures.value ∙ sym (disparity_of-more words c.args.word);
-    }
+    grind (arith, length-append, disparity_of-more)

@@ -1,5 +1,5 @@
 use Rattle.std.proofs.Common.{arith, ◌≡◌, ◌<◌, ◌+◌, ◌/◌, ◌%◌, ◌++◌, ℕ, Bool, List, ◌∙◌, sym, ap, length, length-append, length-take, take, append_assoc}
-use Rattle.tmds_word.specs.Bits.{bits_of, bytes_bits}
+use Rattle.tmds_word.specs.Bits.{bytes_bits}
 use Rattle.tmds_word.proofs.Lists.{length-bytes_bits}
 use Rattle.tmds_word.proofs.Rows.{take_whole, take_part}
 use Rattle.tmds_word.proofs.row.BitRow.push_bits.Goals as goal
@@ -16,9 +16,4 @@ pub put-requires-clause-room : goal.put-requires-clause-room
 put-requires-clause-room c = room_after c.args.self.now c.push_bytes.new.self c.args.bytes.now c.args.bits c.in_ok-push_bytes.ensures.ok c.requires.room
 
 pub returns-in-Ok-clause-ok : goal.returns-in-Ok-clause-ok
-returns-in-Ok-clause-ok c =
-    let whole = bytes_bits (take (c.args.bits / 8) c.args.bytes.now) in
-    c.in-Ok.ensures.ok
-    ∙ ap (λ xs. xs ++ bits_of (c.args.bits % 8) c.from.result) c.in_ok-push_bytes.ensures.ok
-    ∙ append_assoc c.args.self.now whole (bits_of (c.args.bits % 8) c.from.result)
-    ∙ ap (λ xs. c.args.self.now ++ xs) (sym (take_part c.args.bytes.now c.args.bits c.from.result c.requires.bytes c.from.ensures))
+returns-in-Ok-clause-ok c = grind (arith, append_assoc, take_part)

@@ -1,7 +1,6 @@
-use Rattle.std.proofs.Common.{arith, ◌≡◌, ◌<◌, ◌≤◌, ◌+◌, ◌-◌, ◌*◌, ◌++◌, ℕ, Bool, List, ◌∙◌, ap, length, length-drop, length-take, take, drop, min, inl, inr}
+use Rattle.std.proofs.Common.{arith, ◌≡◌, ◌<◌, ◌≤◌, ◌+◌, ◌-◌, ◌*◌, ◌++◌, ℕ, Bool, List, ◌∙◌, ap, length, length-drop, length-take, take, drop, min}
 use Rattle.std.proofs.lemmas.List.{take_all}
 use Rattle.std.proofs.lemmas.Bool.{cases_lt}
-use Rattle.std.proofs.Common.{sym}
 use Rattle.std.specs.Int.{div_ceil}
 use Rattle.tmds_word.specs.Bits.{row_bits}
 use Rattle.tmds_word.proofs.Fives.{no_more_words, row_more, length-more}
@@ -18,19 +17,10 @@ begun : (i n size : ℕ) → i < n → n ≡ div_ceil size 64 → 64 * i < size
 begun i n size lt e = omega (arith, e)
 
 pub push_block-requires-clause-room : goal.push_block-requires-clause-room
-push_block-requires-clause-room c =
-    let words = c.args.words.now in
-    let before : 64 * c.loop-i.i < length words = begun c.loop-i.i c.div_ceil-i-end.result (length words) c.loop-i-test.true c.div_ceil-i-end.ensures in
-    let from : 64 * c.loop-i.i ≤ c.min-upto.result = omega (arith, c.min-upto.ensures, before) in
-    let within : c.min-upto.result ≤ length words = omega (arith, c.min-upto.ensures) in
-    block_room c.args.self.now c.loop-i.self words (64 * c.loop-i.i) c.min-upto.result c.loop-i.invariant from within c.requires
+push_block-requires-clause-room c = grind (arith, begun, block_room)
 
 take_min : (n : ℕ) (words : List ℕ) → take (min (length words) n) words ≡ take n words
-take_min n words =
-    elim (cases_lt (length words) n) [
-      | inl short ↦ let e : min (length words) n ≡ length words = omega arith in ap (λ k. take k words) e ∙ take_all (length words) words (omega arith) ∙ sym (take_all n words (omega arith))
-      | inr long ↦ let e : min (length words) n ≡ n = omega arith in ap (λ k. take k words) e
-    ]
+take_min n words = grind (arith, cases_lt, take_all)
 
 pub loop-i-preserved : goal.loop-i-preserved
 loop-i-preserved c =

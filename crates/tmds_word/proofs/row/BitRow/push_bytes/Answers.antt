@@ -11,7 +11,4 @@ invariant_of-self-then-self-eq0 c =
     (c.self.invariant.0, c.self.invariant.1, grown_room c.self.inside.whole.items c.args.bytes.now c.extend_from_slice.new.self.items c.self.inside.held c.self.inside.tail c.args.self.now c.self.view_is c.requires c.in_ok-extend_from_slice.ensures.items)
 
 pub returns-then-self-eq0-clause-ok : goal.returns-then-self-eq0-clause-ok
-returns-then-self-eq0-clause-ok c =
-    ap (λ bs. bytes_bits bs ++ bits_of c.self.inside.held c.self.inside.tail) c.in_ok-extend_from_slice.ensures.items
-    ∙ row_aligned c.self.inside.whole.items c.args.bytes.now c.self.inside.held c.self.inside.tail c.if-self-eq0.true
-    ∙ ap (λ xs. xs ++ bytes_bits c.args.bytes.now) c.self.view_is
+returns-then-self-eq0-clause-ok c = grind (arith, row_aligned)

@@ -1,7 +1,6 @@
-use Rattle.std.proofs.Common.{arith, ◌≡◌, ◌<◌, ◌≤◌, ◌+◌, ◌-◌, ◌*◌, ◌++◌, ℕ, Bool, List, ◌∙◌, ap, length, length-drop, length-take, take, drop, min, inl, inr}
+use Rattle.std.proofs.Common.{arith, ◌≡◌, ◌<◌, ◌≤◌, ◌+◌, ◌-◌, ◌*◌, ◌++◌, ℕ, Bool, List, ◌∙◌, ap, length, length-drop, length-take, take, drop, min}
 use Rattle.std.proofs.lemmas.List.{take_all}
 use Rattle.std.proofs.lemmas.Bool.{cases_lt}
-use Rattle.std.proofs.Common.{sym}
 use Rattle.std.specs.Int.{div_ceil}
 use Rattle.tmds_word.specs.Bits.{bytes_bits}
 use Rattle.tmds_word.proofs.Rows.{no_more}
@@ -19,19 +18,10 @@ begun : (i n size : ℕ) → i < n → n ≡ div_ceil size 320 → 320 * i < siz
 begun i n size lt e = omega (arith, e)
 
 pub push_part-requires-clause-room : goal.push_part-requires-clause-room
-push_part-requires-clause-room c =
-    let bytes = c.args.bytes.now in
-    let before : 320 * c.loop-i.i < length bytes = begun c.loop-i.i c.div_ceil-i-end.result (length bytes) c.loop-i-test.true c.div_ceil-i-end.ensures in
-    let from : 320 * c.loop-i.i ≤ c.min-upto.result = omega (arith, c.min-upto.ensures, before) in
-    let within : c.min-upto.result ≤ length bytes = omega (arith, c.min-upto.ensures) in
-    block_room c.args.self.now c.loop-i.self bytes (320 * c.loop-i.i) c.min-upto.result c.loop-i.invariant from within c.requires
+push_part-requires-clause-room c = grind (arith, begun, block_room)
 
 take_min : (n : ℕ) (bytes : List ℕ) → take (min (length bytes) n) bytes ≡ take n bytes
-take_min n bytes =
-    elim (cases_lt (length bytes) n) [
-      | inl short ↦ let e : min (length bytes) n ≡ length bytes = omega arith in ap (λ k. take k bytes) e ∙ take_all (length bytes) bytes (omega arith) ∙ sym (take_all n bytes (omega arith))
-      | inr long ↦ let e : min (length bytes) n ≡ n = omega arith in ap (λ k. take k bytes) e
-    ]
+take_min n bytes = grind (arith, cases_lt, take_all)
 
 pub loop-i-preserved : goal.loop-i-preserved
 loop-i-preserved c =

@@ -14,10 +14,7 @@ two_longer : (whole grown : List ℕ) (low middle s r : ℕ) → grown ≡ whole
 two_longer whole grown low middle s r e f room = omega (arith, ap length e ∙ length-append whole (low ∷ middle ∷ []))
 
 pub invariant_of-self : goal.invariant_of-self
-invariant_of-self c =
-    let low : get_or c.to_le_bytes.result 0 0 ≡ c.joined.result % 256 = ap (λ bs. get_or bs 0 0) c.to_le_bytes.ensures in
-    let below = c.joined.ensures.below in
-    (c.if-held-lt8.true, omega (arith, low, below), room_for c.self.inside.whole.items c.self.inside.held c.self.inside.tail c.args.count c.args.self.now c.self.view_is c.requires.room)
+invariant_of-self c = grind (arith, room_for)
 
 pub invariant_of-self-then-held-lt16 : goal.invariant_of-self-then-held-lt16
 invariant_of-self-then-held-lt16 c =
@@ -77,9 +74,4 @@ returns-in_ok-extend_from_slice-clause-ok c =
     let many : h + k ≡ 16 + r = omega (arith, c.if-held-lt16.false) in
     let few : r < 8 = omega (arith, c.self.invariant.0, c.requires.few) in
     let past : n / 65536 < 256 = fits_byte (n / 65536) r (tail_past_two n h k r c.joined.ensures.below many) few in
-    let low : get_or c.to_le_bytes.result 0 0 ≡ n % 256 = ap (λ bs. get_or bs 0 0) c.to_le_bytes.ensures in
-    let middle : get_or c.to_le_bytes.result 1 0 ≡ n / 256 % 256 = ap (λ bs. get_or bs 1 0) c.to_le_bytes.ensures in
-    let high : get_or c.to_le_bytes.result 2 0 ≡ n / 65536 = ap (λ bs. get_or bs 2 0) c.to_le_bytes.ensures ∙ mod-eq_of_lt past in
-    ap₂ (λ bs m. bytes_bits bs ++ bits_of r m) (c.in_ok-extend_from_slice.ensures.items ∙ ap₂ (λ a b. whole ++ a ∷ b ∷ []) low middle) high
-    ∙ put_two whole h c.self.inside.tail k c.args.bits n r c.self.invariant.1 c.joined.ensures.sum many
-    ∙ ap (λ xs. xs ++ bits_of k c.args.bits) c.self.view_is
+    grind (arith, mod-eq_of_lt, put_two)

@@ -1,10 +1,8 @@
-use Rattle.std.proofs.Common.{List, append_assoc, ◌+◌, ◌++◌, ◌∙◌, ap, sym, subst}
+use Rattle.std.proofs.Common.{arith, append_assoc, ◌+◌, ◌++◌, ◌∙◌, ap, sym, subst}
 use Rattle.std.specs.Prelude.{slice_index}
 use Rattle.link_sink.specs.Sinks.{grown}
 use Rattle.track_sink.specs.Trackers.{IsSettled}
 use Rattle.track_sink.specs.TrackSinks.{TrackSinkSeen, bits_fed}
-use Rattle.track_sink.specs.TrackEvents.{TrackEvent}
-use Rattle.track_sink.specs.Tracks.{HasTracked}
 use Rattle.track_sink.proofs.Failing.{stops_before}
 use Rattle.track_sink.proofs.Reaching.{passes_on}
 use Rattle.track_sink.proofs.Settling.{settled_tracks, fed_more}
@@ -56,8 +54,4 @@ returns-in-Err-clause-stopped g c = λ fed reported stands.
     let all = grown fed c.args.a.now c.args.b.now c.args.c.now c.args.bits in
     let now = c.in-Err.ensures.stopped all reported (c.append.ensures fed reported was) in
     let rest = passes_on all (reported ++ now.0) now.2 in
-    let P : List TrackEvent → Type 0 = λ es. HasTracked all es in (
-      now.0 ++ rest.0,
-      stops_before g.E.Ear.took g.E.Ear.broke g.E.TrackEar.tracked g.E.TrackEar.lost g.met.E.TrackEar.tracked_events g.met.E.TrackEar.lost_event g.met.E.TrackEar.tracked_both c.args.ear.now c.follow.new.ear now.0 rest.0 now.1,
-      subst P (append_assoc reported now.0 rest.0) rest.1,
-    )
+    grind (arith, stops_before, append_assoc)

@@ -6,10 +6,7 @@ use Rattle.track_sink.proofs.Failing.{LostMore, stops_events, stops_after, passe
 use Rattle.track_sink.proofs.tracker.Tracker.close.Goals as goal
 
 pub hand_all-requires-clause-carries : goal.hand_all-requires-clause-carries
-hand_all-requires-clause-carries g c =
-    let fed = c.requires.close.0 in
-    let can = c.requires.close.1 in
-    (fed, can.carries, (close_room c.args.self.now fed c.args.stray can).0)
+hand_all-requires-clause-carries g c = grind (arith, close_room)
 
 pub hand_all-requires-clause-most : goal.hand_all-requires-clause-most
 hand_all-requires-clause-most g c = let room = (close_room c.args.self.now c.requires.close.0 c.args.stray c.requires.close.1).1 in omega arith
@@ -27,10 +24,7 @@ turn-requires g c =
     }
 
 pub returns-in_err-turn-clause-cause : goal.returns-in_err-turn-clause-cause
-returns-in_err-turn-clause-cause g c =
-    let first = c.in_ok-hand_all.ensures.cause.later in
-    let then = c.in_err-turn.ensures.cause in
-    record { later = let h = then.later in omega arith; failed = on_err _ (rose_after _ _ _ first then.failed) }
+returns-in_err-turn-clause-cause g c = grind (arith, on_err, rose_after)
 
 pub returns-clause-carries : goal.returns-clause-carries
 returns-clause-carries g c = λ fed can.

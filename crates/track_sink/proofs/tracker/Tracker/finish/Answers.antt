@@ -12,10 +12,7 @@ use Rattle.terc4.specs.Columns.{one_if}
 use Rattle.track_sink.proofs.tracker.Tracker.finish.Goals as goal
 
 pub returns-in_err-end-clause-cause : goal.returns-in_err-end-clause-cause
-returns-in_err-end-clause-cause g c =
-    let first = c.in_ok-hand_on.ensures.cause.later in
-    let then = c.in_err-end.ensures.cause in
-    record { later = let h = then.later in omega arith; failed = on_err _ (rose_after _ _ _ first then.failed) }
+returns-in_err-end-clause-cause g c = grind (arith, on_err, rose_after)
 
 pub returns-clause-reported : goal.returns-clause-reported
 returns-clause-reported g c = λ fed reported settled.
@@ -33,11 +30,7 @@ returns-clause-reported g c = λ fed reported settled.
     )
 
 pub end-requires-clause-open : goal.end-requires-clause-open
-end-requires-clause-open g c =
-    let fed = c.requires.settled.0 in
-    let carries = c.requires.settled.2.stands.carries in
-    let all = longest_held c.args.self.now fed carries in
-    (c.in_ok-hand_on.ensures.carries fed carries (omega (arith, all, c.longest-left.ensures.longest))).link_open
+end-requires-clause-open g c = grind (arith, longest_held)
 
 pub returns-in_err-hand_on-clause-stopped : goal.returns-in_err-hand_on-clause-stopped
 returns-in_err-hand_on-clause-stopped g c = λ fed reported settled.

@@ -25,10 +25,7 @@ close-requires g c =
     let fed = c.requires.stands.0 in
     let here = c.loop-stray.invariant.reported fed c.requires.stands.1 c.requires.stands.2 in
     record {
-      close = (
-        fed,
-        can_close c.loop-stray.self c.next_stray.new.self fed (c.requires.stands.1 ++ here.0) c.in-Some.stray here.2 c.next_stray.ensures.stays (c.in-Some.ensures.looked fed here.2.carries here.2.looked),
-      );
+      close = grind (arith, can_close);
     }
 
 pub loop-stray-smaller : goal.loop-stray-smaller
@@ -62,10 +59,7 @@ overflow_sub-self g c =
     let t = c.loop-stray.self in
     let u = c.next_stray.new.self in
     let here = c.loop-stray.invariant.reported fed reported c.requires.stands.2 in
-    let stays = c.next_stray.ensures.stays in
-    let carries = carries_stays t u fed stays here.2.carries in
-    let can = can_settle u fed carries (c.in_default.ensures.looked fed here.2.carries here.2.looked).0 (ap (λ n. n % 8) stays.handed ∙ here.2.whole) (room_stays t u fed (reported ++ here.0) here.2 stays) in
-    can.0
+    grind (arith, carries_stays, can_settle, room_stays)
 
 pub hand_on-requires-clause-carries : goal.hand_on-requires-clause-carries
 hand_on-requires-clause-carries g c =
@@ -74,10 +68,7 @@ hand_on-requires-clause-carries g c =
     let t = c.loop-stray.self in
     let u = c.next_stray.new.self in
     let here = c.loop-stray.invariant.reported fed reported c.requires.stands.2 in
-    let stays = c.next_stray.ensures.stays in
-    let carries = carries_stays t u fed stays here.2.carries in
-    let can = can_settle u fed carries (c.in_default.ensures.looked fed here.2.carries here.2.looked).0 (ap (λ n. n % 8) stays.handed ∙ here.2.whole) (room_stays t u fed (reported ++ here.0) here.2 stays) in
-    (fed, carries, can.1)
+    grind (arith, carries_stays, can_settle, room_stays)
 
 pub hand_on-requires-clause-whole : goal.hand_on-requires-clause-whole
 hand_on-requires-clause-whole g c =
@@ -91,16 +82,10 @@ hand_on-requires-clause-most g c =
     let t = c.loop-stray.self in
     let u = c.next_stray.new.self in
     let here = c.loop-stray.invariant.reported fed reported c.requires.stands.2 in
-    let stays = c.next_stray.ensures.stays in
-    let carries = carries_stays t u fed stays here.2.carries in
-    let can = can_settle u fed carries (c.in_default.ensures.looked fed here.2.carries here.2.looked).0 (ap (λ n. n % 8) stays.handed ∙ here.2.whole) (room_stays t u fed (reported ++ here.0) here.2 stays) in
-    can.2
+    grind (arith, carries_stays, can_settle, room_stays)
 
 pub returns-in_err-hand_on-clause-cause : goal.returns-in_err-hand_on-clause-cause
-returns-in_err-hand_on-clause-cause g c =
-    let first = c.loop-stray.invariant.later in
-    let then = c.in_err-hand_on.ensures.cause in
-    record { later = let h = then.later in omega arith; failed = on_err _ (rose_after _ _ _ first then.failed) }
+returns-in_err-hand_on-clause-cause g c = grind (arith, on_err, rose_after)
 
 pub returns-clause-reported : goal.returns-clause-reported
 returns-clause-reported g c = λ fed reported was.

@@ -6,16 +6,10 @@ use Rattle.track_sink.proofs.Failing.{LostSome, lost_some}
 use Rattle.track_sink.proofs.tracker.Tracker.hand_all.Goals as goal
 
 pub hand_on-requires-3-clause-carries : goal.hand_on-requires-3-clause-carries
-hand_on-requires-3-clause-carries g c =
-    let fed = c.requires.carries.0 in
-    let room = c.requires.carries.2 in
-    (fed, c.in_ok-hand_on.ensures.carries fed c.requires.carries.1 (omega arith), omega (arith, room, c.in_ok-hand_on.ensures.handed, c.hand_on-2.ensures.start))
+hand_on-requires-3-clause-carries g c = grind arith
 
 pub returns-in_err-hand_on-2-clause-cause : goal.returns-in_err-hand_on-2-clause-cause
-returns-in_err-hand_on-2-clause-cause g c =
-    let first = c.in_ok-hand_on.ensures.cause.later in
-    let then = c.in_err-hand_on-2.ensures.cause in
-    record { later = let h = then.later in omega arith; failed = on_err _ (rose_after _ _ _ first then.failed) }
+returns-in_err-hand_on-2-clause-cause g c = grind (arith, on_err, rose_after)
 
 pub returns-then-bits-le-FEED_BITS-clause-stopped : goal.returns-then-bits-le-FEED_BITS-clause-stopped
 returns-then-bits-le-FEED_BITS-clause-stopped g c = λ fed carries room.
