@@ -1,5 +1,5 @@
 //! Characters and rows compared with values that were computed apart from this crate.
-ghost use Rattle.std.specs.Prelude.{ℕ, ◌<◌, List, length};
+ghost use Rattle.std.specs.Prelude.{ℕ, ◌≡◌, ◌<◌, ◌≤◌, List, [], length};
 
 use crate::{BitRow, ColumnSink, Word, pack_four};
 use outside_io::NoMemory;
@@ -88,15 +88,47 @@ fn row(rt: &impl Abort, alloc: Global) -> Result<BitRow, Fail> {
 fn words(rt: HostRuntime) -> Result<(), Fail> {
     for &(value, turns, balance) in &WORDS {
         let word = Word::new(value).ok_or("ten bits")?;
-        assert_eq!(rt; word.value(), value);
-        assert_eq!(rt; word.turns(), turns, "at {value}");
-        assert_eq!(rt; word.balance(), balance, "at {value}");
+        let same = word.value() == value && word.turns() == turns && word.balance() == balance;
+        assert!(rt; same, "at {value}");
     }
-    assert!(rt; Word::new(1024).is_none());
-    assert!(rt; Word::new(65535).is_none());
-    let word = Word::new(0x354).ok_or("ten bits")?;
+    assert!(rt; Word::new(1024).is_none() && Word::new(65535).is_none());
+    Ok(())
+}
+
+#[test]
+fn sent_bits(rt: HostRuntime) {
+    let word = Word::of(0x354);
     for i in 0..10 {
         assert_eq!(rt; word.sent_bit(i), SENT[i as usize] == b'1', "bit {i}");
+    }
+}
+
+/// That a row is those of `SENT` behind so many bits.
+fn expect_bits(rt: &impl Abort, row: &BitRow, before: u32) {
+    assert!(rt; before <= 8 && row.len() == before + 110);
+    for i in 0..110 {
+        assert_eq!(rt;
+            row.bit(before + i),
+            SENT[i as usize] == b'1',
+            "bit {i} behind {before}"
+        );
+    }
+}
+
+/// That the windows behind so many bits of a row are those of `ROW`, from one of them up to another.
+fn expect_windows(
+    rt: &impl Abort,
+    row: &BitRow,
+    before: u32,
+    from: u32,
+    to: u32,
+) -> Result<(), Fail>
+    requires { before < 2000 }
+{
+    assert!(rt; to <= 101);
+    for p in from..to {
+        let word = row.window(before + p).ok_or("a window")?;
+        assert_eq!(rt; word.value(), WINDOWS[p as usize], "behind {before} at {p}");
     }
     Ok(())
 }
@@ -104,20 +136,14 @@ fn words(rt: HostRuntime) -> Result<(), Fail> {
 #[test]
 fn bits(rt: HostRuntime) -> Result<(), Fail> {
     let row = row(&rt, rt.alloc())?;
-    assert_eq!(rt; row.len(), 110);
-    for i in 0..110 {
-        assert_eq!(rt; row.bit(i), SENT[i as usize] == b'1', "bit {i}");
-    }
+    expect_bits(&rt, &row, 0);
     Ok(())
 }
 
 #[test]
 fn windows(rt: HostRuntime) -> Result<(), Fail> {
     let row = row(&rt, rt.alloc())?;
-    for p in 0..101 {
-        let word = row.window(p).ok_or("a window")?;
-        assert_eq!(rt; word.value(), WINDOWS[p as usize], "at {p}");
-    }
+    expect_windows(&rt, &row, 0, 0, 101)?;
     for p in 101..112 {
         assert!(rt; row.window(p).is_none(), "at {p}");
     }
@@ -125,17 +151,23 @@ fn windows(rt: HostRuntime) -> Result<(), Fail> {
     Ok(())
 }
 
+/// The row of `ROW` behind one to eight bits.
+fn row_behind(alloc: Global, before: u32) -> Result<BitRow, Fail>
+    requires above { 0 < before }
+    requires below { before ≤ 8 }
+{
+    let mut row = BitRow::new(alloc);
+    row.push_bits(&[0x55], before)?;
+    row.push_bits(&PACKED, 110)?;
+    Ok(row)
+}
+
 // Behind one to eight bits, so that each window begins at each place of a byte.
 #[test]
 fn windows_after_bits(rt: HostRuntime) -> Result<(), Fail> {
     for before in 1..9 {
-        let mut row = BitRow::new(rt.alloc());
-        row.push_bits(&[0x55], before)?;
-        row.push_bits(&PACKED, 110)?;
-        for p in 0..101 {
-            let word = row.window(before + p).ok_or("a window")?;
-            assert_eq!(rt; word.value(), WINDOWS[p as usize], "behind {before} at {p}");
-        }
+        let row = row_behind(rt.alloc(), before)?;
+        expect_windows(&rt, &row, before, 0, 101)?;
         assert!(rt; row.window(before + 101).is_none(), "behind {before}");
     }
     Ok(())
@@ -149,13 +181,23 @@ fn windows_at_the_end(rt: HostRuntime) -> Result<(), Fail> {
         let len = 110 - cut;
         assert!(rt; len <= row.len());
         row.truncate(len);
-        for p in len - 50..len - 9 {
-            let word = row.window(p).ok_or("a window")?;
-            assert_eq!(rt; word.value(), WINDOWS[p as usize], "at {p} of {len}");
-        }
+        expect_windows(&rt, &row, 0, len - 50, len - 9)?;
         assert!(rt; row.window(len - 9).is_none(), "of {len}");
     }
     Ok(())
+}
+
+/// That a row has so many bits, the first of `SENT`.
+fn expect_cut(rt: &impl Abort, row: &BitRow, keep: u32)
+    requires above { 0 < keep }
+    requires below { keep ≤ 30 }
+{
+    assert_eq!(rt; row.len(), keep);
+    let last = row.bit(keep - 1);
+    assert!(rt;
+        row.window(0).is_some() == (10 <= keep) && last == (SENT[keep as usize - 1] == b'1'),
+        "at {keep}"
+    );
 }
 
 #[test]
@@ -165,39 +207,36 @@ fn cut_rows(rt: HostRuntime) -> Result<(), Fail> {
         let keep = 30 - cut;
         assert!(rt; keep <= row.len());
         row.truncate(keep);
-        assert_eq!(rt; row.len(), keep);
-        assert_eq!(rt; row.window(0).is_some(), 10 <= keep);
-        assert_eq!(rt;
-            row.bit(keep - 1),
-            SENT[keep as usize - 1] == b'1',
-            "at {keep}"
-        );
+        expect_cut(&rt, &row, keep);
     }
     Ok(())
 }
 
+/// A sink that has taken nothing.
+fn sink(alloc: Global) -> Columns
+    ensures { result.words.items ≡ [] }
+{
+    Columns {
+        words: Vec::new(alloc),
+        refusals: 0,
+    }
+}
+
 #[test]
 fn taken_columns(rt: HostRuntime) -> Result<(), Fail> {
-    let mut sink = Columns {
-        words: Vec::new(rt.alloc()),
-        refusals: 0,
-    };
-    let word = Word::new(0x154).ok_or("ten bits")?;
+    let mut sink = sink(rt.alloc());
+    let word = Word::of(0x154);
     sink.column([word, word, word])?;
-    assert_eq!(rt; sink.words.len(), 1);
-    assert_eq!(rt; sink.refusals, 0);
+    assert!(rt; sink.words.len() == 1 && sink.refusals == 0);
     Ok(())
 }
 
 #[test]
 fn taken_lanes(rt: HostRuntime) -> Result<(), Fail> {
-    let mut sink = Columns {
-        words: Vec::new(rt.alloc()),
-        refusals: 0,
-    };
-    let first = Word::new(0x154).ok_or("ten bits")?;
-    let second = Word::new(0x2ab).ok_or("ten bits")?;
-    let third = Word::new(0x0ab).ok_or("ten bits")?;
+    let mut sink = sink(rt.alloc());
+    let first = Word::of(0x154);
+    let second = Word::of(0x2ab);
+    let third = Word::of(0x0ab);
     sink.columns(&[first, second], &[second, third], &[third, first])?;
     assert_eq!(rt; sink.words.len(), 2);
     assert!(rt; sink.words[0] == [first, second, third]);
@@ -219,10 +258,7 @@ fn packed_lanes(rt: HostRuntime) -> Result<(), Fail> {
     let mut into = [7; 7];
     pack_four(words, &mut into, 1);
     assert_eq!(rt; into, [7, 0xcc, 0xce, 0xb4, 0x0a, 0xd5, 7]);
-    let mut sink = Columns {
-        words: Vec::new(rt.alloc()),
-        refusals: 0,
-    };
+    let mut sink = sink(rt.alloc());
     sink.packed(&there, &back, &there)?;
     assert_eq!(rt; sink.words.len(), 4);
     for i in 0..4 {
@@ -232,6 +268,15 @@ fn packed_lanes(rt: HostRuntime) -> Result<(), Fail> {
         );
     }
     Ok(())
+}
+
+/// That a row is bytes behind so many bits.
+fn expect_bytes(rt: &impl Abort, row: &BitRow, before: u32, bytes: &[u8; 355]) {
+    assert!(rt; before <= 8 && row.len() == before + 2840);
+    for i in 0..2840u32 {
+        let sent = (bytes[i as usize / 8] >> (i % 8)) & 1 == 1;
+        assert_eq!(rt; row.bit(before + i), sent, "behind {before} at {i}");
+    }
 }
 
 // Behind none to seven bits, in one call and two parts, the last of which ends within a group of eight bytes.
@@ -246,35 +291,42 @@ fn many_bytes(rt: HostRuntime) -> Result<(), Fail> {
         row.push_bits(&PACKED[..(before as usize + 7) / 8], before)?;
         assert!(rt; row.len() < 1000);
         row.push_bytes(&bytes)?;
-        assert_eq!(rt; row.len(), before + 2840);
-        for i in 0..2840u32 {
-            let sent = (bytes[i as usize / 8] >> (i % 8)) & 1 == 1;
-            assert!(rt; i + before < row.len());
-            assert_eq!(rt; row.bit(i + before), sent, "behind {before} at {i}");
-        }
+        expect_bytes(&rt, &row, before, &bytes);
     }
     Ok(())
 }
 
-// Behind one to eight bits, in one call and a few blocks.
-#[test]
-fn many_words(rt: HostRuntime) -> Result<(), Fail> {
-    let mut words = Vec::new(rt.alloc());
+/// The characters of `ROW`, thirteen times.
+fn characters(alloc: Global) -> Result<Vec<Word>, Fail> {
+    let mut words = Vec::new(alloc);
     for _ in 0..13 {
         for &value in &ROW {
             words.push(Word::new(value).ok_or("ten bits")?)?;
         }
     }
+    Ok(words)
+}
+
+/// The row of characters behind one to eight bits.
+fn row_of(rt: &impl Abort, alloc: Global, words: &[Word], before: u32) -> Result<BitRow, Fail>
+    requires above { 0 < before }
+    requires below { before ≤ 8 }
+{
+    let mut row = BitRow::new(alloc);
+    row.push_bits(&[0x55], before)?;
+    assert!(rt; row.len() < 1000 && words.len() < 1000);
+    row.push_words(words)?;
+    Ok(row)
+}
+
+// Behind one to eight bits, in one call and a few blocks.
+#[test]
+fn many_words(rt: HostRuntime) -> Result<(), Fail> {
+    let words = characters(rt.alloc())?;
     for before in 1..9 {
-        let mut row = BitRow::new(rt.alloc());
-        row.push_bits(&[0x55], before)?;
-        assert!(rt; row.len() < 1000 && words.len() < 1000);
-        row.push_words(words.as_slice())?;
+        let row = row_of(&rt, rt.alloc(), words.as_slice(), before)?;
         assert_eq!(rt; row.len(), before + 1430);
-        for p in 0..101 {
-            let word = row.window(before + 1320 + p).ok_or("a window")?;
-            assert_eq!(rt; word.value(), WINDOWS[p as usize], "behind {before} at {p}");
-        }
+        expect_windows(&rt, &row, before + 1320, 0, 101)?;
     }
     Ok(())
 }
@@ -284,36 +336,36 @@ static PACKED: [u8; 14] = [
     0x54, 0xaf, 0x42, 0xd5, 0xaa, 0x9c, 0x7a, 0xc4, 0x6c, 0x9c, 0x33, 0xfd, 0x1f, 0x00,
 ];
 
+/// That the bytes of a row from a place on are those of `PACKED`.
+fn expect_copy(rt: &impl Abort, row: &BitRow, from: u32) {
+    let mut into = [0xff; 14];
+    row.copy_bytes(from, &mut into);
+    assert_eq!(rt; into, PACKED, "from {from}");
+}
+
 #[test]
 fn packed_bits(rt: HostRuntime) -> Result<(), Fail> {
     let mut short = BitRow::new(rt.alloc());
     short.push_bits(&[0x54, 0x53], 10)?;
     assert_eq!(rt; short.window(0).ok_or("a window")?.value(), 0x354);
+    Ok(())
+}
 
+#[test]
+fn packed_row(rt: HostRuntime) -> Result<(), Fail> {
     let mut row = BitRow::with_capacity(rt.alloc(), 200)?;
     row.push_bits(&PACKED, 110)?;
-    assert_eq!(rt; row.len(), 110);
-    for i in 0..110 {
-        assert_eq!(rt; row.bit(i), SENT[i as usize] == b'1', "bit {i}");
-    }
+    expect_bits(&rt, &row, 0);
+    expect_copy(&rt, &row, 0);
+    Ok(())
+}
 
-    // Behind three bits, so that no byte of it lies at a byte's edge.
-    let mut later = BitRow::new(rt.alloc());
-    later.push_bits(&[0x05], 3)?;
-    later.push_bits(&PACKED, 110)?;
-    assert_eq!(rt; later.len(), 113);
-    for i in 0..110 {
-        assert_eq!(rt; later.bit(i + 3), SENT[i as usize] == b'1', "bit {i}");
-    }
-    for from in [0, 3] {
-        let mut into = [0xff; 14];
-        if from == 0 {
-            row.copy_bytes(0, &mut into);
-        } else {
-            later.copy_bytes(3, &mut into);
-        }
-        assert_eq!(rt; into, PACKED, "from {from}");
-    }
+// Behind three bits, so that no byte of it lies at a byte's edge.
+#[test]
+fn packed_row_behind_bits(rt: HostRuntime) -> Result<(), Fail> {
+    let row = row_behind(rt.alloc(), 3)?;
+    expect_bits(&rt, &row, 3);
+    expect_copy(&rt, &row, 3);
     Ok(())
 }
 
@@ -354,6 +406,16 @@ fn copied_bytes(rt: HostRuntime) -> Result<(), Fail> {
     Ok(())
 }
 
+/// That columns are the second and third of four.
+fn expect_two(rt: &impl Abort, two: crate::Columns<'_>) {
+    assert!(rt; two.len() == 2);
+    let last = [Word::of(0x003), Word::of(0x103), Word::of(0x203)];
+    assert!(rt; two.get(1) == last);
+    assert!(rt; two.blue() == [0x002, 0x003].as_slice());
+    assert!(rt; two.green() == [0x102, 0x103].as_slice());
+    assert!(rt; two.red() == [0x202, 0x203].as_slice());
+}
+
 #[test]
 fn lends_columns(rt: HostRuntime) {
     let columns = crate::Columns::new(
@@ -361,16 +423,7 @@ fn lends_columns(rt: HostRuntime) {
         &[0x101, 0x102, 0x103, 0x104],
         &[0x201, 0x202, 0x203, 0x204],
     );
-    assert_eq!(rt; columns.len(), 4);
-    assert!(rt; !columns.is_empty());
-    let two = columns.from(1).first(2);
-    assert_eq!(rt; two.len(), 2);
-    assert_eq!(rt;
-        two.get(1),
-        [Word::of(0x003), Word::of(0x103), Word::of(0x203)]
-    );
-    assert_eq!(rt; two.blue(), [0x002, 0x003].as_slice());
-    assert_eq!(rt; two.green(), [0x102, 0x103].as_slice());
-    assert_eq!(rt; two.red(), [0x202, 0x203].as_slice());
+    assert!(rt; columns.len() == 4 && !columns.is_empty());
+    expect_two(&rt, columns.from(1).first(2));
     assert!(rt; columns.from(4).is_empty());
 }

@@ -1,6 +1,6 @@
 //! Alignments and columns of lanes whose bits come in feeds, compared with values that were computed apart
 //! from this crate, and after each feed with the alignment of all bits that came.
-ghost use Rattle.std.specs.Prelude.{ℕ, ◌≡◌, ◌<◌, ◌≤◌, ◌+◌, ◌*◌, ◌%◌, ◌^◌, [], IsTrue, length, true, min, vec_len};
+ghost use Rattle.std.specs.Prelude.{ℕ, ◌≡◌, ◌<◌, ◌≤◌, ◌+◌, ◌*◌, ◌^◌, [], IsTrue, length, true, min};
 ghost use Rattle.lane_align.specs.Words.{AreWords};
 ghost use Rattle.lane_align.specs.Aligners.{fed_of};
 ghost use Rattle.lane_deskew.specs.Keeping.{stored};
@@ -56,37 +56,49 @@ fn push(rt: &impl Abort, deskew: &mut Deskew, lane: u8, lock: u64, words: &[u16]
     }
 }
 
-/// Feeds an aligner the next bits of a lane, as many as there are up to a number, and pushes the characters
-/// that they make whole. The lane ends where it has fewer.
-fn feed(
-    rt: &impl Abort,
-    deskew: &mut Deskew,
+/// A lane that is fed, how many of its bits have been asked for, and the aligner that those were fed to.
+#[derive(Drop)]
+struct FedLane {
     lane: u8,
-    aligner: &mut LaneAligner,
-    row: &Row,
+    row: Row,
     from: u32,
-    piece: u32,
-    words: &mut [u16],
-)
-    requires lane { lane < 3 }
-    requires whole { from % 8 ≡ 0 }
-    requires fed { fed_of aligner.old ≡ min from row.now.bits }
-    requires piece { piece ≤ 32768 }
-    requires words { 3290 ≤ length words.old }
-    ensures fed { fed_of aligner.new ≡ min (from + piece) row.now.bits }
-    ensures words { length words.new ≡ length words.old }
-{
-    let bytes = row.bytes.as_slice();
-    let count = piece.min(row.bits.saturating_sub(from));
-    let part = &bytes[(from as usize / 8).min(bytes.len())..];
-    let len = (count as usize + 7) / 8;
-    assert!(rt; len <= part.len());
-    let many = aligner.feed(&part[..len], count, words);
-    if let Some(lock) = aligner.locked() {
-        push(rt, deskew, lane, lock, &words[..many]);
+    aligner: LaneAligner,
+    ghost one_of_three: { lane < 3 },
+    ghost fed: { fed_of aligner ≡ min from row.bits },
+}
+
+impl FedLane {
+    /// A lane behind zeros, so many bytes of them, of which nothing has been fed.
+    fn open(alloc: Global, lane: u8, row: &Row, zeros: u32) -> Result<FedLane, Fail>
+        requires { lane < 3 }
+    {
+        Ok(FedLane {
+            lane,
+            row: late(alloc, row, zeros)?,
+            from: 0,
+            aligner: LaneAligner::new(),
+        })
     }
-    if count < piece {
-        deskew.end(lane);
+
+    /// Feeds the next bits, as many as there are up to a number, and pushes the characters that they make
+    /// whole. The lane ends where it has fewer.
+    fn feed(&mut self, rt: &impl Abort, deskew: &mut Deskew, piece: u32, words: &mut [u16]) {
+        let from = self.from;
+        assert!(rt; from % 8 == 0 && from <= 1_000_000);
+        assert!(rt; 0 < piece && piece <= 32768 && 3290 <= words.len());
+        let bytes = self.row.bytes.as_slice();
+        let count = piece.min(self.row.bits.saturating_sub(from));
+        let part = &bytes[(from as usize / 8).min(bytes.len())..];
+        let len = (count as usize + 7) / 8;
+        assert!(rt; len <= part.len());
+        let many = self.aligner.feed(&part[..len], count, words);
+        self.from = from + piece;
+        if let Some(lock) = self.aligner.locked() {
+            push(rt, deskew, self.lane, lock, &words[..many]);
+        }
+        if count < piece {
+            deskew.end(self.lane);
+        }
     }
 }
 
@@ -129,6 +141,116 @@ fn aligned(
     Ok(first_alignment(&first, &second, &third))
 }
 
+/// Three lanes behind zeros, so many bytes of them, and room for their characters.
+#[derive(Drop)]
+struct FedLanes {
+    first: FedLane,
+    second: FedLane,
+    third: FedLane,
+    words: Vec<u16>,
+    zeros: u32,
+}
+
+impl FedLanes {
+    /// The lanes of a case behind zeros.
+    fn open(alloc: Global, case: &Case, zeros: u32) -> Result<FedLanes, Fail> {
+        Ok(FedLanes {
+            first: FedLane::open(alloc, 0, &case.a, zeros)?,
+            second: FedLane::open(alloc, 1, &case.b, zeros)?,
+            third: FedLane::open(alloc, 2, &case.c, zeros)?,
+            words: vec![in alloc; 0; 3290]?,
+            zeros,
+        })
+    }
+
+    /// How many bits the longest one has.
+    fn most(&self) -> u32 {
+        let first = self.first.row.bits;
+        first.max(self.second.row.bits).max(self.third.row.bits)
+    }
+
+    /// Feeds each of them the next bits. Tells where they are aligned.
+    fn feed(&mut self, rt: &impl Abort, deskew: &mut Deskew, piece: u32) -> Option<Aligned> {
+        let words = self.words.as_mut_slice();
+        self.first.feed(rt, deskew, piece, words);
+        self.second.feed(rt, deskew, piece, words);
+        self.third.feed(rt, deskew, piece, words);
+        deskew.settle()
+    }
+
+    /// That an alignment is the first one of their first bits. The reference looks at each place: few
+    /// zeros alone.
+    fn expect_first(
+        &self,
+        rt: &impl Abort,
+        alloc: Global,
+        to: u32,
+        found: Option<Aligned>,
+    ) -> Result<(), Fail> {
+        if self.zeros < 100 {
+            let rows = [&self.first.row, &self.second.row, &self.third.row];
+            let wanted = aligned(rt, alloc, rows, to)?;
+            assert_eq!(rt; found, wanted, "{to} bits, {} zeros", self.zeros);
+        }
+        Ok(())
+    }
+}
+
+/// Takes the columns that are lent, which are the next of a case. Tells how many were taken by then.
+fn take_columns(rt: &impl Abort, deskew: &mut Deskew, case: &Case, taken: usize) -> usize {
+    let n = expect_columns(rt, deskew, case, taken);
+    deskew.consume(n);
+    assert!(rt; taken <= 10_000 && n <= 10_000);
+    taken + n
+}
+
+/// The edges of a case behind zeros, so many bytes of them.
+fn edges_behind(case: &Case, zeros: u32) -> Option<[u64; 3]> {
+    let bits = u64::from(zeros).wrapping_mul(8);
+    case.edges
+        .map(|edges| edges.map(|edge| edge.wrapping_add(bits)))
+}
+
+/// Feeds lanes in pieces, and takes the columns of a case from them. Tells where they are aligned in the
+/// end, and how many columns were taken.
+fn feed_all(
+    rt: &impl Abort,
+    alloc: Global,
+    deskew: &mut Deskew,
+    lanes: &mut FedLanes,
+    case: &Case,
+    mut pieces: [u32; 3],
+) -> Result<(Option<Aligned>, usize), Fail> {
+    let most = lanes.most();
+    let mut found = None;
+    let mut taken = 0;
+    let mut from = 0;
+    while from < most {
+        let [piece, next, last] = pieces;
+        pieces = [next, last, piece];
+        assert!(rt; 0 < piece && piece <= 32768 && from <= 1_000_000);
+        from += piece;
+        found = lanes.feed(rt, deskew, piece);
+        lanes.expect_first(rt, alloc, from, found)?;
+        taken = take_columns(rt, deskew, case, taken);
+    }
+    Ok((found, taken))
+}
+
+/// Feeds the lanes of a case, behind zeros and in pieces. Tells where they are aligned, and how many columns
+/// were taken.
+fn feed_case(
+    rt: &impl Abort,
+    alloc: Global,
+    case: &Case,
+    zeros: u32,
+    pieces: [u32; 3],
+) -> Result<(Option<Aligned>, usize), Fail> {
+    let mut deskew = Deskew::open(alloc)?;
+    let mut lanes = FedLanes::open(alloc, case, zeros)?;
+    feed_all(rt, alloc, &mut deskew, &mut lanes, case, pieces)
+}
+
 /// That three lanes behind zeros, which are fed in pieces, are aligned as a case says.
 fn expect_case(
     rt: &impl Abort,
@@ -137,96 +259,33 @@ fn expect_case(
     zeros: u32,
     pieces: [u32; 3],
 ) -> Result<(), Fail> {
-    let mut deskew = Deskew::open(alloc)?;
-    let mut words = vec![in alloc; 0; 3290]?;
-    let mut first = LaneAligner::new();
-    let mut second = LaneAligner::new();
-    let mut third = LaneAligner::new();
-    let a = late(alloc, &case.a, zeros)?;
-    let b = late(alloc, &case.b, zeros)?;
-    let c = late(alloc, &case.c, zeros)?;
-    let most = a.bits.max(b.bits).max(c.bits);
-    let mut found = None;
-    let mut taken: usize = 0;
-    let mut turn: usize = 0;
-    let mut from: u32 = 0;
-    while from < most {
-        let piece = pieces[turn % 3];
-        turn = (turn + 1) % 3;
-        assert!(rt; from % 8 == 0);
-        assert!(rt; 0 < piece && piece <= 32768);
-        assert!(rt; from <= 1_000_000);
-        feed(
-            rt,
-            &mut deskew,
-            0,
-            &mut first,
-            &a,
-            from,
-            piece,
-            words.as_mut_slice(),
-        );
-        feed(
-            rt,
-            &mut deskew,
-            1,
-            &mut second,
-            &b,
-            from,
-            piece,
-            words.as_mut_slice(),
-        );
-        feed(
-            rt,
-            &mut deskew,
-            2,
-            &mut third,
-            &c,
-            from,
-            piece,
-            words.as_mut_slice(),
-        );
-        found = deskew.settle();
-        from += piece;
-        // the reference looks at each place: few zeros alone
-        if zeros < 100 {
-            let wanted = aligned(rt, alloc, [&a, &b, &c], from)?;
-            assert_eq!(rt; found, wanted, "{from} bits, {zeros} zeros, {pieces:?}");
-        }
-        let n = expect_columns(rt, &deskew, case, taken);
-        deskew.consume(n);
-        assert!(rt; taken <= 10_000 && n <= 10_000);
-        taken += n;
-    }
-    let zeros = u64::from(zeros).wrapping_mul(8);
-    let edges = case
-        .edges
-        .map(|edges| edges.map(|edge| edge.wrapping_add(zeros)));
-    assert_eq!(rt;
-        found.map(|at: Aligned| at.edges),
-        edges,
-        "{zeros} zero bits, {pieces:?}"
+    let (found, taken) = feed_case(rt, alloc, case, zeros, pieces)?;
+    let edges = found.map(|at| at.edges);
+    assert!(rt;
+        edges == edges_behind(case, zeros) && taken == case.columns.len(),
+        "{zeros} zero bytes, {pieces:?}: {edges:?} and {taken} columns"
     );
-    assert_eq!(rt; taken, case.columns.len(), "{zeros} zero bits, {pieces:?}");
     Ok(())
 }
 
+/// Zeros before the bits, in bytes, and the pieces in which they are fed, over and over.
+static FEEDS: [(u32, [u32; 3]); 9] = [
+    (0, [8, 8, 8]),
+    (3, [16, 16, 16]),
+    (0, [136, 136, 136]),
+    (19, [8, 8, 8]),
+    (19, [136, 1000, 1000]),
+    (0, [1000, 1000, 1000]),
+    (0, [32768, 32768, 32768]),
+    (4090, [32768, 8, 16]),
+    (4080, [16, 32768, 8]),
+];
+
 #[test]
 fn alignments_of_feeds(rt: HostRuntime) -> Result<(), Fail> {
-    // zeros before the bits, in bytes, and the pieces in which they are fed, over and over
-    for (zeros, pieces) in [
-        (0, [8, 8, 8]),
-        (3, [16, 16, 16]),
-        (0, [136, 136, 136]),
-        (19, [8, 8, 8]),
-        (19, [136, 1000, 1000]),
-        (0, [1000, 1000, 1000]),
-        (0, [32768, 32768, 32768]),
-        (4090, [32768, 8, 16]),
-        (4080, [16, 32768, 8]),
-    ] {
-        for text in CASES.split("\n\n") {
-            let case = case_of(rt.alloc(), text)?;
+    for text in CASES.split("\n\n") {
+        let case = case_of(rt.alloc(), text)?;
+        for &(zeros, pieces) in &FEEDS {
             expect_case(&rt, rt.alloc(), &case, zeros, pieces)?;
         }
     }
