@@ -1,4 +1,4 @@
-use Rattle.std.proofs.Common.{arith, rules, ◌≡◌, ◌/◌, ◌*◌, ◌≤◌, ℕ, List, length, take, replicate, ap, sym, ◌∙◌}
+use Rattle.std.proofs.Common.{arith, rules, ◌≡◌, ◌+◌, ◌/◌, ◌*◌, ◌%◌, ◌<◌, ◌≤◌, ◌++◌, ℕ, List, length, take, drop, replicate, ap, refl, sym, ◌∙◌, length-append, length-take-le}
 use Rattle.std.proofs.lemmas.Slice.{take-put_mid}
 use borrow.Rule.Slice.PartMut.{put_mid}
 use Rattle.tmds_word.specs.Bits.{bytes_bits}
@@ -52,3 +52,102 @@ returns-in_err-packed-clause-part g c =
     _ _ _ (written n bs blue le) (written n gs green le) (written n rs red le)
     (packed_size bytes gs c.requires.whole green ∙ sym own) (packed_size bytes rs c.requires.whole red ∙ sym own) own
     c.code.ensures.coded c.code-2.ensures.coded c.code-3.ensures.coded))
+
+-- The goals have each list of 320 zeros written out, so what is said of lengths is said of variables here.
+
+size_few : (len : ℕ) → len ≤ 768 → len / 12 * 5 ≤ 320
+size_few len few = omega arith
+
+front_size : (len : ℕ) (zeros : List ℕ) → length zeros ≡ 320 → len ≤ 768 → length (take (len / 12 * 5) zeros) ≡ len / 12 * 5
+front_size len zeros long few = length-take-le (len / 12 * 5) zeros (omega (arith, long, size_few len few))
+
+within : (len : ℕ) (bs zeros : List ℕ) → length zeros ≡ 320 → len ≤ 768 → length bs ≡ length (take (len / 12 * 5) zeros) → len / 12 * 5 ≤ length (bs ++ drop (len / 12 * 5) zeros)
+within len bs zeros long few size = omega (arith, size, front_size len zeros long few, length-append bs (drop (len / 12 * 5) zeros))
+
+written_size : (len : ℕ) (bs zeros : List ℕ) → length zeros ≡ 320 → len ≤ 768 → length bs ≡ length (take (len / 12 * 5) zeros)
+    → length (take (len / 12 * 5) (bs ++ drop (len / 12 * 5) zeros)) ≡ len / 12 * 5
+written_size len bs zeros long few size = length-take-le (len / 12 * 5) (bs ++ drop (len / 12 * 5) zeros) (within len bs zeros long few size)
+
+whole_fives : (len n : ℕ) → n ≡ len / 12 * 5 → n % 5 ≡ 0
+whole_fives len n is = omega arith
+
+room_left : (taken len n : ℕ) → n ≡ len / 12 * 5 → taken + len / 3 < 429496729 → taken + n / 5 * 4 ≤ 429496729
+room_left taken len n is room = omega arith
+
+pub overflow_mul-size : goal.overflow_mul-size
+overflow_mul-size g c = let le = size_few (length c.args.bytes.now) c.requires.few in omega (arith, le)
+
+pub slice_bounds-blue-end : goal.slice_bounds-blue-end
+slice_bounds-blue-end g c = size_few (length c.args.bytes.now) c.requires.few
+
+pub slice_bounds-green-end : goal.slice_bounds-green-end
+slice_bounds-green-end g c = size_few (length c.args.bytes.now) c.requires.few
+
+pub slice_bounds-red-end : goal.slice_bounds-red-end
+slice_bounds-red-end g c = size_few (length c.args.bytes.now) c.requires.few
+
+pub code-requires-clause-part : goal.code-requires-clause-part
+code-requires-clause-part g c = omega arith
+
+pub code-requires-clause-whole : goal.code-requires-clause-whole
+code-requires-clause-whole g c = c.requires.whole
+
+pub code-requires-clause-room : goal.code-requires-clause-room
+code-requires-clause-room g c = front_size (length c.args.bytes.now) (replicate 320 0) refl c.requires.few
+
+pub code-requires-2-clause-part : goal.code-requires-2-clause-part
+code-requires-2-clause-part g c = omega arith
+
+pub code-requires-2-clause-whole : goal.code-requires-2-clause-whole
+code-requires-2-clause-whole g c = c.requires.whole
+
+pub code-requires-2-clause-room : goal.code-requires-2-clause-room
+code-requires-2-clause-room g c = front_size (length c.args.bytes.now) (replicate 320 0) refl c.requires.few
+
+pub code-requires-3-clause-part : goal.code-requires-3-clause-part
+code-requires-3-clause-part g c = omega arith
+
+pub code-requires-3-clause-whole : goal.code-requires-3-clause-whole
+code-requires-3-clause-whole g c = c.requires.whole
+
+pub code-requires-3-clause-room : goal.code-requires-3-clause-room
+code-requires-3-clause-room g c = front_size (length c.args.bytes.now) (replicate 320 0) refl c.requires.few
+
+pub slice_bounds-blue-end-2 : goal.slice_bounds-blue-end-2
+slice_bounds-blue-end-2 g c = within (length c.args.bytes.now) c.code.new.into (replicate 320 0) refl c.requires.few c.code.ensures.size
+
+pub slice_bounds-green-end-2 : goal.slice_bounds-green-end-2
+slice_bounds-green-end-2 g c = within (length c.args.bytes.now) c.code-2.new.into (replicate 320 0) refl c.requires.few c.code-2.ensures.size
+
+pub slice_bounds-red-end-2 : goal.slice_bounds-red-end-2
+slice_bounds-red-end-2 g c = within (length c.args.bytes.now) c.code-3.new.into (replicate 320 0) refl c.requires.few c.code-3.ensures.size
+
+pub packed-requires-clause-fives : goal.packed-requires-clause-fives
+packed-requires-clause-fives g c = whole_fives (length c.args.bytes.now) _ (written_size (length c.args.bytes.now) c.code.new.into (replicate 320 0) refl c.requires.few c.code.ensures.size)
+
+pub packed-requires-clause-green : goal.packed-requires-clause-green
+packed-requires-clause-green g c = written_size (length c.args.bytes.now) c.code-2.new.into (replicate 320 0) refl c.requires.few c.code-2.ensures.size ∙ sym (written_size (length c.args.bytes.now) c.code.new.into (replicate 320 0) refl c.requires.few c.code.ensures.size)
+
+pub packed-requires-clause-red : goal.packed-requires-clause-red
+packed-requires-clause-red g c = written_size (length c.args.bytes.now) c.code-3.new.into (replicate 320 0) refl c.requires.few c.code-3.ensures.size ∙ sym (written_size (length c.args.bytes.now) c.code.new.into (replicate 320 0) refl c.requires.few c.code.ensures.size)
+
+pub packed-requires-clause-room : goal.packed-requires-clause-room
+packed-requires-clause-room g c = room_left (length (g.C.ColumnSink.taken c.args.out.now)) (length c.args.bytes.now) _ (written_size (length c.args.bytes.now) c.code.new.into (replicate 320 0) refl c.requires.few c.code.ensures.size) c.requires.room
+
+pub slice_bounds-code-end : goal.slice_bounds-code-end
+slice_bounds-code-end g c = sym (front_size (length c.args.bytes.now) (replicate 320 0) refl c.requires.few)
+
+pub slice_bounds-code-end-2 : goal.slice_bounds-code-end-2
+slice_bounds-code-end-2 g c = sym (front_size (length c.args.bytes.now) (replicate 320 0) refl c.requires.few)
+
+pub slice_bounds-code-end-3 : goal.slice_bounds-code-end-3
+slice_bounds-code-end-3 g c = sym (front_size (length c.args.bytes.now) (replicate 320 0) refl c.requires.few)
+
+pub slice_bounds-packed-end : goal.slice_bounds-packed-end
+slice_bounds-packed-end g c = sym (written_size (length c.args.bytes.now) c.code.new.into (replicate 320 0) refl c.requires.few c.code.ensures.size)
+
+pub slice_bounds-packed-end-2 : goal.slice_bounds-packed-end-2
+slice_bounds-packed-end-2 g c = sym (written_size (length c.args.bytes.now) c.code-2.new.into (replicate 320 0) refl c.requires.few c.code-2.ensures.size)
+
+pub slice_bounds-packed-end-3 : goal.slice_bounds-packed-end-3
+slice_bounds-packed-end-3 g c = sym (written_size (length c.args.bytes.now) c.code-3.new.into (replicate 320 0) refl c.requires.few c.code-3.ensures.size)

@@ -1,4 +1,4 @@
-use Rattle.std.proofs.Common.{◌≡◌, ◌≤◌, ◌<◌, ◌+◌, ◌-◌, ◌*◌, ◌/◌, ◌++◌, List, [], length, map, take, drop, min, subst, refl, sym, ◌∙◌, arith, length-append, append-nil, take_all, length-take, length-drop}
+use Rattle.std.proofs.Common.{◌≡◌, ℕ, ◌%◌, ap, ◌≤◌, ◌<◌, ◌+◌, ◌-◌, ◌*◌, ◌/◌, ◌++◌, List, [], length, map, take, drop, min, subst, refl, sym, ◌∙◌, arith, length-append, append-nil, take_all, length-take, length-drop}
 use Rattle.tmds_word.specs.Column.{Column}
 use Rattle.tmds_code.specs.Lanes.{IsLane}
 use Rattle.island_pack.specs.Periods.{Pixel, pixels_of}
@@ -116,3 +116,45 @@ returns-in_err-rest-clause-part g c =
       green = (lane_upto coders.green coded.1 bytes piece count all _ all was.columns own (λ (p : Pixel). p.green) (λ (k : Column). k.green) le here refl is was.green_lane coded.3.green_lane).lane;
       red = (lane_upto coders.red coded.2 bytes piece count all _ all was.columns own (λ (p : Pixel). p.red) (λ (k : Column). k.red) le here refl is was.red_lane coded.3.red_lane).lane;
     }))
+
+-- ---- the sizes of a block and of what is left behind the blocks
+
+part_size : (bytes : List ℕ) (from upto : ℕ) → from ≤ upto → upto ≤ length bytes → length (take (upto - from) (drop from bytes)) ≡ upto - from
+part_size bytes from upto le within = omega (arith, length-take (upto - from) (drop from bytes), length-drop from bytes)
+
+block_size : (bytes : List ℕ) (i upto : ℕ) → upto ≡ min (length bytes / 3 / 4 * 4) (256 * i + 256) → 256 * i < length bytes / 3 / 4 * 4
+    → length (take (3 * upto - 3 * (256 * i)) (drop (3 * (256 * i)) bytes)) ≡ 3 * upto - 3 * (256 * i)
+block_size bytes i upto end begun = part_size bytes (3 * (256 * i)) (3 * upto) (omega arith) (omega arith)
+
+block_whole : (len i upto n : ℕ) → upto ≡ min (len / 3 / 4 * 4) (256 * i + 256) → 256 * i < len / 3 / 4 * 4 → n ≡ 3 * upto - 3 * (256 * i) → n % 12 ≡ 0
+block_whole len i upto n end begun size = omega arith
+
+block_few : (len i upto n : ℕ) → upto ≡ min (len / 3 / 4 * 4) (256 * i + 256) → n ≡ 3 * upto - 3 * (256 * i) → n ≤ 768
+block_few len i upto n end size = omega arith
+
+rest_size : (bytes : List ℕ) → length (take (length bytes - 3 * (length bytes / 3 / 4 * 4)) (drop (3 * (length bytes / 3 / 4 * 4)) bytes)) ≡ length bytes - 3 * (length bytes / 3 / 4 * 4)
+rest_size bytes = part_size bytes (3 * (length bytes / 3 / 4 * 4)) (length bytes) (omega arith) (omega arith)
+
+rest_whole : (len n : ℕ) → len % 3 ≡ 0 → n ≡ len - 3 * (len / 3 / 4 * 4) → n % 3 ≡ 0
+rest_whole len n whole size = omega arith
+
+rest_few : (len n : ℕ) → len % 3 ≡ 0 → n ≡ len - 3 * (len / 3 / 4 * 4) → n ≤ 12
+rest_few len n whole size = omega arith
+
+pub block-requires-clause-whole : goal.block-requires-clause-whole
+block-requires-clause-whole g c =
+    let bytes = c.args.bytes.now in
+    let begun : 256 * c.loop-i.i < length bytes / 3 / 4 * 4 = omega (arith, c.div_ceil-i-end.ensures, c.loop-i-test.true) in
+    block_whole (length bytes) c.loop-i.i c.min-upto.result _ c.min-upto.ensures begun (block_size bytes c.loop-i.i c.min-upto.result c.min-upto.ensures begun)
+
+pub block-requires-clause-few : goal.block-requires-clause-few
+block-requires-clause-few g c =
+    let bytes = c.args.bytes.now in
+    let begun : 256 * c.loop-i.i < length bytes / 3 / 4 * 4 = omega (arith, c.div_ceil-i-end.ensures, c.loop-i-test.true) in
+    block_few (length bytes) c.loop-i.i c.min-upto.result _ c.min-upto.ensures (block_size bytes c.loop-i.i c.min-upto.result c.min-upto.ensures begun)
+
+pub rest-requires-clause-whole : goal.rest-requires-clause-whole
+rest-requires-clause-whole g c = rest_whole (length c.args.bytes.now) _ c.requires.whole (rest_size c.args.bytes.now)
+
+pub rest-requires-clause-few : goal.rest-requires-clause-few
+rest-requires-clause-few g c = rest_few (length c.args.bytes.now) _ c.requires.whole (rest_size c.args.bytes.now)

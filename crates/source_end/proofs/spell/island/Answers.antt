@@ -41,3 +41,12 @@ returns-clause-part g c =
     (guard_columns (pair_of c.opening.result)) more.0 (guard_columns (pair_of c.closing.result)) (ap guard_columns c.opening.ensures) c.as_slice.ensures (ap guard_columns c.closing.ensures) c.in_ok-guards.ensures.ok more.1 more.2
     (pair_front (pair_of c.closing.result) (g.C.ColumnSink.taken c.packets.new.out) (g.C.ColumnSink.taken c.guards-2.new.out) cut))
     c.guards-2.ensures.part
+
+pub guards-requires-clause-room : goal.guards-requires-clause-room
+guards-requires-clause-room g c = omega (arith, c.requires.room)
+
+pub packets-requires-clause-room : goal.packets-requires-clause-room
+packets-requires-clause-room g c =
+    let opened = ap length c.in_ok-guards.ensures.ok ∙ length-append (g.C.ColumnSink.taken c.args.out.now) (guard_columns (pair_of c.opening.result)) in
+    let same = ap length c.as_slice.ensures in
+    omega (arith, opened, same, c.requires.room)

@@ -1,0 +1,9 @@
+use Rattle.std.proofs.Common.{◌≡◌, ℕ, ◌==◌, true, [], ◌∷◌, ◌++◌, length, ap, arith, rules, length-append}
+use Rattle.listing_reader.proofs.content_reader.ContentReader.fourth.Goals as goal
+
+pub returns-clause-ok : goal.returns-clause-ok
+returns-clause-ok c =
+    let samples = c.args.self.samples in
+    let size : length (samples ++ c.args.sample ∷ []) ≡ 4 = omega (arith, length-append samples (c.args.sample ∷ []), c.requires.three) in
+    let four : (length (samples ++ c.args.sample ∷ []) == 4) ≡ true = ap (λ (n : ℕ). n == 4) size in
+    rw four (search rules)
