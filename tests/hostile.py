@@ -24,7 +24,7 @@ import model
 from feeding import answers, feeds
 from model import BLOCK, CONTROL, lanes_of, packed, sent
 from pouring import OPENING, PIXEL, Poured, contents, endless, growing, long, loud, most, texts
-from program import FURTHER, LISTING, READERS, SLIP, TOP, USAGE, replaced, run
+from program import FURTHER, HANGS, LISTING, READERS, SLIP, TOP, USAGE, replaced, run
 
 KNOWN = (["make", "link"], ["make", "content"], *READERS)  # little room for the others is tried half as often
 SILENT = ("make", "slip", "relay")  # they read all before they write
@@ -136,7 +136,7 @@ def crowd(program, words, source):
         resource.setrlimit(resource.RLIMIT_STACK, (64 << 20, resource.getrlimit(resource.RLIMIT_STACK)[1]))
 
     try:
-        ran = subprocess.run([program, *words], input=source, capture_output=True, timeout=300, preexec_fn=bound)
+        ran = subprocess.run([program, *words], input=source, capture_output=True, timeout=HANGS, preexec_fn=bound)
     except subprocess.TimeoutExpired:
         return "over its time"
     return ran.returncode, ran.stdout, ran.stderr
@@ -455,7 +455,7 @@ def devices(program):
         yield f"{words} with all closed", closed(program, words, b"", 0, 1, 2), (4, b"", b"")
         with open("/dev/full", "wb") as full:
             yield f"{words} to a full device", run(program, words, source, stdout=full), (5, None, b"write failed\n")
-            told = subprocess.run([program, *words], input=b"x", stdout=subprocess.PIPE, stderr=full, timeout=60)
+            told = subprocess.run([program, *words], input=b"x", stdout=subprocess.PIPE, stderr=full, timeout=HANGS)
             yield f"{words} with full notes", (told.returncode, told.stdout), (3, b"")
         yield f"{words} of a pipe that has nothing yet", waiting(program, words), (4, b"", b"read failed\n")
 
@@ -463,7 +463,7 @@ def devices(program):
 def closed(program, words, source, *files):
     """A run in which some of the files 0, 1 and 2 are closed."""
     shut = " ".join(("<&-", ">&-", "2>&-")[file] for file in files)
-    ran = subprocess.run(["sh", "-c", f'exec "$0" "$@" {shut}', program, *words], input=source, capture_output=True, timeout=60)
+    ran = subprocess.run(["sh", "-c", f'exec "$0" "$@" {shut}', program, *words], input=source, capture_output=True, timeout=HANGS)
     return ran.returncode, ran.stdout, ran.stderr
 
 
@@ -549,7 +549,7 @@ def pipes(program):
         ran = Poured(program, words, itertools.repeat(b"c 00 1\n" * 10_000))
         yield f"{words} of control columns without end", (ran.status, ran.notes, ran.came), (3, b"input: line 20000001 long\n", 0)
     script = '"$0" recover link | head -c 1 | od -An -c; echo "${PIPESTATUS[0]}"'
-    shell = subprocess.run(["bash", "-c", script, program], input=hurt, capture_output=True, timeout=60)
+    shell = subprocess.run(["bash", "-c", script, program], input=hurt, capture_output=True, timeout=HANGS)
     yield "recover link | head -c 1", (shell.stdout.split(), shell.stderr), ([b"c", b"5"], b"write failed\n")
 
 
@@ -597,7 +597,7 @@ def in_room(program, words, source, room):
     def bound():
         resource.setrlimit(resource.RLIMIT_AS, (room * 1024, room * 1024))
 
-    ran = subprocess.run([program, *words], input=source, capture_output=True, timeout=60, preexec_fn=bound)
+    ran = subprocess.run([program, *words], input=source, capture_output=True, timeout=HANGS, preexec_fn=bound)
     return ran.returncode, ran.stdout, ran.stderr
 
 

@@ -7,7 +7,7 @@ import threading
 
 import model
 from model import BLOCK, lanes_of, packed
-from program import READERS, run
+from program import HANGS, READERS, run
 
 MOST_FRAMES = 268_435_455  # that `read biphase` reads
 MOST_TEXT = 4_294_967_295  # bytes of a listing
@@ -72,9 +72,9 @@ class Poured:
     """A run that is fed by a pipe: its status and notes, how many bytes went in and came out, and the greatest memory that was
     seen, in KiB."""
 
-    def __init__(self, program, words, pieces, taken=None, held=False, room=None, seconds=120):
-        """Its reader goes away after so many bytes, if at all; the pipe may be held open behind the last piece, for a minute
-        at most; the program has so many KiB of addresses, if that is given, and so many seconds from its last byte on."""
+    def __init__(self, program, words, pieces, taken=None, held=False, room=None):
+        """Its reader goes away after so many bytes, if at all; the pipe may be held open behind the last piece until the program
+        has ended, which is killed where it hangs; the program has so many KiB of addresses, if that is given."""
         bound = None if room is None else lambda: resource.setrlimit(resource.RLIMIT_AS, (room * 1024, room * 1024))
         pipes = {name: subprocess.PIPE for name in ("stdin", "stdout", "stderr")}
         self.process = subprocess.Popen([program, *words], preexec_fn=bound, **pipes)
@@ -87,7 +87,7 @@ class Poured:
         self.take(taken)
         self.process.stdout.close()
         self.notes = self.process.stderr.read()
-        self.status = self.process.wait(seconds)
+        self.status = self.process.wait(HANGS)
         self.held.set()
         feeder.join()
 
@@ -99,7 +99,8 @@ class Poured:
                 self.gone += len(piece)
                 self.look()
             self.process.stdin.flush()
-            self.held.wait(60)
+            if not self.held.wait(HANGS):
+                self.process.kill()
             self.process.stdin.close()
         except BrokenPipeError:
             pass
@@ -123,7 +124,7 @@ class Poured:
 def refused(program, name, count, cause, room):
     """A content of so many parts, which is refused in so many MiB of addresses, and of which nothing is written."""
     mode, part, _, _ = ENDLESS[name]
-    ran = Poured(program, ["make", "content"], repeated(mode, part, count), room=room * 1024, seconds=600)
+    ran = Poured(program, ["make", "content"], repeated(mode, part, count), room=room * 1024)
     came = ran.status, ran.notes, ran.came
     return f"make content of {count} {name} in {room} MiB: after {ran.gone} bytes, {ran.peak} KiB", came, (3, b"input: " + cause + b"\n", 0)
 

@@ -26,12 +26,13 @@ SAMPLE_OF_20 = (
 TINY_MODE = b"mode 2 4 30 14 1 1 1 1 0\n"
 TINY_FRAME = b"row 0102030405ff\nframe 2 1\n"
 MOST_TINY_FRAMES = (20_000_000 - 32) // 200
+HANGS = 1200  # the seconds after which a run hangs, also on a slow machine that has other work
 
 
 def run(program, words, source=b"", stdin=None, stdout=subprocess.PIPE):
     """The status, the output and the notes of a run over some bytes, or over an open file."""
     given = {"input": source} if stdin is None else {"stdin": stdin}
-    ran = subprocess.run([program, *words], stdout=stdout, stderr=subprocess.PIPE, timeout=60, **given)
+    ran = subprocess.run([program, *words], stdout=stdout, stderr=subprocess.PIPE, timeout=HANGS, **given)
     return ran.returncode, ran.stdout, ran.stderr
 
 

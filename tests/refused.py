@@ -21,7 +21,7 @@ import tempfile
 import feeding
 import model
 from hostile import SILENT, frames, sources
-from program import FURTHER, READERS, SLIP, TOP
+from program import FURTHER, HANGS, READERS, SLIP, TOP
 
 KINDS = ("memory", "read", "write", "thread")
 
@@ -38,7 +38,7 @@ class Refusing:
         """The status, the output and the notes where request `at` of a kind is refused (`on`: and each later one)."""
         asked = {"KIND": kind, "AT": at, "ON": int(on), "PIECE": piece, "SEED": seed, "TOLD": self.told}
         given = {**os.environ, "LD_PRELOAD": self.library, **{f"REFUSE_{name}": str(it) for name, it in asked.items()}}
-        ran = subprocess.run([self.program, *words], input=source, capture_output=True, timeout=60, env=given)
+        ran = subprocess.run([self.program, *words], input=source, capture_output=True, timeout=HANGS, env=given)
         return ran.returncode, ran.stdout, ran.stderr
 
     def counts(self):

@@ -8,6 +8,7 @@ import pytest
 
 TOP = Path(__file__).resolve().parents[2]
 BUILT = TOP / "crates" / "hdmi_cli" / "out" / "hdmi_cli"
+HANGS = 1200  # the seconds after which something hangs, also on a slow machine that has other work
 
 
 def built():
@@ -16,7 +17,7 @@ def built():
 
 
 def ran(words, source):
-    return subprocess.run([str(word) for word in words], input=source, capture_output=True, timeout=300)
+    return subprocess.run([str(word) for word in words], input=source, capture_output=True, timeout=HANGS)
 
 
 @pytest.fixture

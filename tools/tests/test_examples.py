@@ -4,7 +4,7 @@ import subprocess
 
 import pytest
 
-from conftest import TOP, built
+from conftest import HANGS, TOP, built
 
 TOOLS = ["content", "lanes", "pictures", "report", "slice", "sound", "survey"]
 
@@ -23,7 +23,7 @@ def test_examples(tool, program, tmp_path, name):
         (tmp_path / folder).symlink_to(TOP / folder)
     (tmp_path / "vabgrot").symlink_to(built())
     script = "\n".join(["set -euo pipefail", f"export VABGROT_PROGRAM={built()}", *lines])
-    came = subprocess.run(["bash", "-c", script], cwd=tmp_path, capture_output=True, timeout=300)
+    came = subprocess.run(["bash", "-c", script], cwd=tmp_path, capture_output=True, timeout=HANGS)
     assert came.returncode == 0, came.stderr.decode()
     if name == "slice":
         assert came.stdout == (TOP / "examples" / "red.link").read_bytes()

@@ -6,7 +6,7 @@ import wave
 from collections import Counter
 
 import pytest
-from conftest import BUILT, TOP, ran
+from conftest import BUILT, HANGS, TOP, ran
 from PIL import Image
 
 webdriver = pytest.importorskip("selenium.webdriver", reason="Debian's package python3-selenium is missing")
@@ -32,6 +32,8 @@ def driver():
     options.binary_location = CHROMIUM
     options.set_capability("goog:loggingPrefs", {"browser": "ALL"})
     found = webdriver.Chrome(options=options, service=Service(DRIVER))
+    found.set_page_load_timeout(HANGS)
+    found.set_script_timeout(HANGS)
     yield found
     found.quit()
 
@@ -43,7 +45,7 @@ class Page:
         self.driver = driver
         driver.get_log("browser")
         driver.get(f"file://{path}")
-        WebDriverWait(driver, 20).until(lambda _: self.run("return document.documentElement.dataset.ready") == "yes")
+        WebDriverWait(driver, HANGS).until(lambda _: self.run("return document.documentElement.dataset.ready") == "yes")
 
     def run(self, text, *words):
         return self.driver.execute_script(text, *words)
@@ -95,7 +97,7 @@ class Page:
             if not button.text.startswith("Frame"):
                 continue
             self.run("arguments[0].click()", button)
-            WebDriverWait(self.driver, 5).until(lambda _: button.get_attribute("aria-current"))
+            WebDriverWait(self.driver, HANGS).until(lambda _: button.get_attribute("aria-current"))
             width, height, data = self.run(
                 "const one = document.getElementById('picture'); return [one.width, one.height,"
                 " [...one.getContext('2d').getImageData(0, 0, one.width, one.height).data].filter((_, at) => at % 4 < 3)]"
@@ -206,7 +208,7 @@ def test_a_clean_capture(report, tool, program, sent, tmp_path):
         and ["word", "16 bits", "16 bits"] in status
     )
     assert "supposed" in page.text("sound-says")  # a mode of one's own has no known pixel clock
-    WebDriverWait(page.driver, 10).until(lambda _: page.run("return document.getElementById('audio').readyState") > 0)
+    WebDriverWait(page.driver, HANGS).until(lambda _: page.run("return document.getElementById('audio').readyState") > 0)
     assert page.run("return document.getElementById('audio').duration") == pytest.approx(
         content.count(b"\ns ") / 48000, abs=1e-4
     )
@@ -273,7 +275,7 @@ def test_the_keys(report, program, sent):
     time.send_keys("p")
     assert int(time.get_attribute("aria-valuenow")) < moved
     page.run("document.querySelector(`a[href='#L${arguments[0]}']`).click()", first)
-    WebDriverWait(page.driver, 5).until(
+    WebDriverWait(page.driver, HANGS).until(
         lambda _: page.run("return document.activeElement.parentNode.id") == f"L{first}"
     )
     assert page.run("return document.activeElement.parentNode.lastChild.textContent") == lines[first - 1]

@@ -1,6 +1,7 @@
 """tools/survey: many captures judged here, and on the workers of a real Dask scheduler."""
 
 import csv
+import json
 import os
 import shutil
 import signal
@@ -11,11 +12,12 @@ from pathlib import Path
 
 import pytest
 
-from conftest import TOP, built
+from conftest import HANGS, TOP, built
 
 EXAMPLES = TOP / "examples"
 RED = (EXAMPLES / "red.link").read_bytes()
 COUNTS = {"columns": "27", "lines": "1", "pixels": "1"}
+CONNECT = "DASK_DISTRIBUTED__COMM__TIMEOUTS__CONNECT"  # how long Dask and the survey wait for a connection
 
 
 @pytest.fixture
@@ -35,18 +37,47 @@ def folder(program, tmp_path):
     return folder
 
 
+class Gate:
+    """A program whose checks note which process asked and for which file, and wait: each of `few` lets one go on, and so does
+    `open` all."""
+
+    def __init__(self, folder, few=0):
+        self.program, self.log, self.shut = folder / "program", folder / "log", folder / "shut"
+        passes = [folder / f"pass{number}" for number in range(few)]
+        for path in (self.shut, *passes):
+            path.mkdir()
+        self.log.touch()
+        tries = " || ".join(f"rmdir {path}" for path in passes) or "false"
+        self.program.write_text(
+            "#!/bin/sh\n"
+            'if [ "$1" = check ]; then\n'
+            f'  echo "$PPID $(readlink /proc/self/fd/0)" >> {self.log}\n'
+            f"  while [ -e {self.shut} ] && ! ({tries}) 2> /dev/null; do sleep 0.05; done\n"
+            f'fi\nexec {built()} "$@"\n'
+        )
+        self.program.chmod(0o755)
+
+    def open(self):
+        if self.shut.exists():
+            self.shut.rmdir()
+
+    def asked(self):
+        """The process and the file of each check so far."""
+        return [line.split(" ", 1) for line in self.log.read_text().splitlines()]
+
+
 @pytest.fixture
-def slow(tmp_path):
-    """A program that takes its time, and notes for each check which process asked and for which file."""
-    path, log = tmp_path / "slow", tmp_path / "log"
-    path.write_text(
-        "#!/bin/sh\n"
-        f'[ "$1" = check ] && echo "$PPID $(readlink /proc/self/fd/0)" >> {log}\n'
-        f'sleep 0.25\nexec {built()} "$@"\n'
-    )
-    path.chmod(0o755)
-    log.write_bytes(b"")
-    return path, lambda: [line.split(" ", 1) for line in log.read_text().splitlines()]
+def gate(tmp_path):
+    """Makes a gate, which is open at the end of the test, so that no check waits on."""
+    made = []
+
+    def make(few=0):
+        made.append(Gate(tmp_path, few))
+        return made[-1]
+
+    yield make
+    for it in made:
+        it.open()
 
 
 def rows_of(path):
@@ -123,9 +154,9 @@ def test_no_processor_may_be_chosen(tool, folder, tmp_path, monkeypatch):
     assert came.stderr == b"16 captures, 16 judged now: 12 clean, 2 faulty, 1 refused, 1 unaligned\n"
 
 
-def waited(until, seconds=60):
+def waited(until):
     """What `until` answers as soon as it is something."""
-    end = time.monotonic() + seconds
+    end = time.monotonic() + HANGS
     while time.monotonic() < end:
         if found := until():
             return found
@@ -137,24 +168,33 @@ def begun(words):
     return subprocess.Popen([str(word) for word in words], stderr=subprocess.PIPE, stdout=subprocess.DEVNULL)
 
 
-def test_a_stopped_survey_goes_on(tool, folder, slow, tmp_path):
-    program, asked = slow
-    table = tmp_path / "survey.csv"
-    words = [folder, "-o", table, "--program", program]
+def test_a_stopped_survey_goes_on(tool, folder, gate, tmp_path):
+    """It is stopped when three captures are judged, while no other one gets on."""
+    judged, table = gate(few=3), tmp_path / "survey.csv"
+    words = [folder, "-o", table, "--program", judged.program]
     survey = begun([TOP / "tools" / "survey", *words])
     waited(lambda: table.exists() and table.read_bytes().count(b"\n") > 3)
     survey.send_signal(signal.SIGKILL)
-    survey.communicate(timeout=60)
-    kept = len(rows_of(table))
-    assert 3 <= kept < 16
+    survey.communicate(timeout=HANGS)
+    assert len(rows_of(table)) == 3
+    judged.open()
     came = tool("survey", *words, status=1)
-    assert f"16 captures, {16 - kept} judged now: 12 clean".encode() in came.stderr and len(rows_of(table)) == 16
+    assert b"16 captures, 13 judged now: 12 clean" in came.stderr and len(rows_of(table)) == 16
+
+
+def address_in(path):
+    """The address in a scheduler's file; nothing as long as it is not written."""
+    try:
+        return json.loads(path.read_text())["address"]
+    except (FileNotFoundError, ValueError):
+        return None
 
 
 @pytest.fixture
-def cluster(tmp_path):
+def cluster(tmp_path, monkeypatch):
     """A Dask scheduler on the loopback and two workers: its address, and the workers."""
     pytest.importorskip("distributed", reason="Debian's package python3-distributed is missing")
+    monkeypatch.setenv(CONNECT, "300s")
     address = tmp_path / "scheduler.json"
     dask = [sys.executable, "-m", "distributed.cli."]
     running = []
@@ -165,32 +205,34 @@ def cluster(tmp_path):
         return running[-1]
 
     run("dask_scheduler", "--host", "127.0.0.1", "--port", 0, "--scheduler-file", address)
-    waited(lambda: address.exists() and address.stat().st_size)
+    place = waited(lambda: address_in(address))
     words = ["--scheduler-file", address, "--host", "127.0.0.1", "--nthreads", 1, "--no-nanny"]
     workers = [run("dask_worker", *words, "--local-directory", tmp_path) for _ in range(2)]
-    import json
-
-    yield json.loads(address.read_text())["address"].removeprefix("tcp://"), workers
+    yield place.removeprefix("tcp://"), workers
     for process in running:
         process.kill()
         process.wait()
 
 
-def test_a_worker_that_dies_loses_no_capture(tool, folder, slow, cluster, tmp_path):
-    program, asked = slow
+def test_a_worker_that_dies_loses_no_capture(tool, folder, gate, cluster, tmp_path):
+    """Whichever worker is the first to have a capture dies with it: no run of the program goes on until it is dead."""
+    shut = gate()
     address, workers = cluster
     table = tmp_path / "survey.csv"
-    words = [folder, "-o", table, "--program", program, "--scheduler", address]
+    words = [folder, "-o", table, "--program", shut.program, "--scheduler", address]
     survey = begun([TOP / "tools" / "survey", *words])
-    pids = {str(worker.pid) for worker in workers}
-    waited(lambda: {pid for pid, _ in asked()} == pids and asked()[-1][0] == str(workers[0].pid))
-    _, lost = [row for row in asked() if row[0] == str(workers[0].pid)][-1]
-    workers[0].kill()
-    _, told = survey.communicate(timeout=120)
+    dead, lost = waited(shut.asked)[0]
+    for worker in workers:
+        if str(worker.pid) == dead:
+            worker.kill()
+            worker.wait()
+    shut.open()
+    _, told = survey.communicate(timeout=HANGS)
     assert survey.returncode == 1, told
     assert told.endswith(b"16 captures, 16 judged now: 12 clean, 2 faulty, 1 refused, 1 unaligned\n")
-    assert {path for _, path in asked()} == {row["path"] for row in rows_of(table).values()}
-    assert [pid for pid, path in asked() if path == lost] == [str(worker.pid) for worker in workers]
+    assert {path for _, path in shut.asked()} == {row["path"] for row in rows_of(table).values()}
+    again = {str(worker.pid) for worker in workers} - {dead}
+    assert [pid for pid, path in shut.asked() if path == lost] == [dead, *again]
     assert tool("survey", *words, status=1).stderr.startswith(b"16 captures, 0 judged now")
 
 

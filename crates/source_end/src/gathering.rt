@@ -165,7 +165,10 @@ impl Gathering {
 
     /// Takes out the items, to whose periods no later part adds. The control period that goes on stays.
     pub fn take_items(&mut self) -> Vec<Item>
-        ensures { (parts : List Part) → Has self.old parts → Parted (map period_of result.items) self.new parts }
+        ensures parted { (parts : List Part) → Has self.old parts → Parted (map period_of result.items) self.new parts }
+        ensures all { result.items ≡ self.old.items.items }
+        ensures none { self.new.items.items ≡ [] }
+        ensures period { self.new.period ≡ self.old.period }
     {
         let none = Vec::new(self.alloc);
         mem::replace(&mut self.items, none)

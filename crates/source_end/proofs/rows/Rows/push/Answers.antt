@@ -1,4 +1,5 @@
-use Rattle.std.proofs.Common.{[], arith, length-append}
+use Rattle.std.proofs.Common.{◌≡◌, ℕ, List, [], ◌∷◌, ◌++◌, length, ap, ap₂, sym, subst, ◌∙◌, arith, length-append}
+use Rattle.source_end.specs.Rows.{rows_between, AreEnds}
 use Rattle.source_end.proofs.RowEnds.{ends_more, rows_more}
 use Rattle.source_end.proofs.rows.Rows.push.Goals as goal
 
