@@ -18,7 +18,7 @@ carries-append before (x ∷ xs) ys [] vs len = absurd (omega arith)
 carries-append before (x ∷ xs) ys (u ∷ []) vs len = absurd (omega arith)
 carries-append before (x ∷ xs) ys (u ∷ (w ∷ us)) vs len = grind (arith, and_moved, carries-append w xs ys us vs)
 
--- four bits and eight half cells, and those behind them
+-- four bits and eight half cells, and those after them
 pub carries-four : (before : Bool) (n byte : ℕ) (ys vs : List Bool)
     → carries before (bits_of 4 n ++ ys) (bits_of 8 byte ++ vs) ≡ (carries before (bits_of 4 n) (bits_of 8 byte) && carries (level_after byte) ys vs)
 unfolding bits_of last_of level_after

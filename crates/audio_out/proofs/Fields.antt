@@ -41,7 +41,7 @@ field_carries m n a b = same_is _ _ (passes_at 16 (field_holds m) n (passes_at 5
 level_back : (level : Bool) → (digit level == 1) ≡ level
 level_back level = grind arith
 
--- the four bits that a byte carries behind another
+-- the four bits that a byte carries after another
 pub field_read : (before cells m : ℕ) → before < 256 → cells < 256 → m ≡ before / 128 + 2 * cells → IsRead before cells (found_in m)
 field_read before cells m a b e n lt =
     let half : m / 2 ≡ cells = omega arith in

@@ -127,7 +127,7 @@ two_fours : (n q : ℕ) → eight_from (turns_of n / 2 ^ 8) (16 * q) ≡ four_in
 unfolding eight_from
 two_fours n q = omega (arith, lower_four n q, upper_four n q)
 
--- behind the last half cell there is none
+-- after the last half cell there is none
 none_after : (m : ℕ) → m < 2 → four_in m ≡ 0
 unfolding four_in turn_in
 none_after m h = grind arith
@@ -156,7 +156,7 @@ pub record AreFour (n value side : ℕ) : Type 0 where
       ≡ found_in (field n 7) + 16 * found_in (field n 15) + (found_in (field n 23) + 16 * found_in (field n 31)) * 256 + (found_in (field n 39) + 16 * found_in (field n 47)) * 65536
   pub side_is : side ≡ found_in (field n 55)
 
--- a number with all borders has a value, and the bits behind it
+-- a number with all borders has a value, and the bits after it
 pub four_are : (n value side low middle high : ℕ) → n < 2 ^ 64 → bit_and (turns_of n) BORDERS ≡ BORDERS
     → low ≡ eight_from (turns_of n / 2 ^ 8) (16 * 0) → middle ≡ eight_from (turns_of n / 2 ^ 8) (16 * 1) → high ≡ eight_from (turns_of n / 2 ^ 8) (16 * 2) → side ≡ eight_from (turns_of n / 2 ^ 8) (16 * 3)
     → value ≡ low + middle * 256 + high * 65536 → AreFour n value side
@@ -222,7 +222,7 @@ bits_bordered sub n few b = has_borders n fields
     fields (suc (suc (suc (suc (suc (suc zero)))))) lt = found_bordered (field n 55) _ (side_below sub.value sub.flags few) b.b6
     fields (suc (suc (suc (suc (suc (suc (suc k))))))) lt = absurd (omega arith)
 
--- The bytes of a group, and those of the value and of the bits behind it.
+-- The bytes of a group, and those of the value and of the bits after it.
 
 pub each_byte : (bytes : List ℕ) → ((k : ℕ) → get_or bytes k 0 < 256)
     → AreBytes (get_or bytes 0 0) (get_or bytes 1 0) (get_or bytes 2 0) (get_or bytes 3 0) (get_or bytes 4 0) (get_or bytes 5 0) (get_or bytes 6 0) (get_or bytes 7 0)

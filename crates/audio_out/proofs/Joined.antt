@@ -51,7 +51,7 @@ seven level n0 n1 n2 n3 n4 n5 n6 a b c d e f g =
     && (carries (level_after e) (bits_of 4 n5) (bits_of 8 f)
     && carries (level_after f) (bits_of 4 n6) (bits_of 8 g))))))
 
--- the seven bytes of a subframe, behind a level
+-- the seven bytes of a subframe, after a level
 abbrev pub sub_seven : Bool → Subframe → (a b c d e f g : ℕ) → Bool
 sub_seven level sub a b c d e f g =
     let v = sub.value in

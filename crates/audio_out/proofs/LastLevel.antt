@@ -13,7 +13,7 @@ use Rattle.audio_out.proofs.Joined.{level_marked}
 use Rattle.audio_out.proofs.Fields.{BORDERS, four_in, found_in, is_bordered, turn_in, turns_of}
 use Rattle.audio_out.proofs.Halves.{AreFour, field}
 
--- the level behind four bits, by that before them and how many of them are 1
+-- the level after four bits, by that before them and how many of them are 1
 unfoldable level_holds : ℕ → Bool
 level_holds m = cond (is_bordered m) (m / 256 == (m % 2 + count_ones (found_in m)) % 2) true
 
@@ -26,7 +26,7 @@ unfolding level_holds
 level_after m lt h =
     eqb-true _ _ (sym (ap (λ b. cond b (m / 256 == (m % 2 + count_ones (found_in m)) % 2) true) h) ∙ passes_at 512 level_holds m all_levels lt)
 
--- the bits behind a value
+-- the bits after a value
 unfoldable side_holds : ℕ → Bool
 side_holds n = count_ones n == count_ones (n % 8) + n / 8
 
@@ -117,7 +117,7 @@ is_even n value side lt h first even =
     let small : side < 16 = omega (arith, h.side_is, h.l6) in
     omega (arith, last_is n value side lt h first, even, side_ones side small, small)
 
--- borders, and the last half cell behind which there is none
+-- borders, and the last half cell after which there is none
 abbrev pub ENDS : ℕ
 ENDS = 0xaaaaaaaaaaaaaa80
 

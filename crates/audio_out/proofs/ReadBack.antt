@@ -9,7 +9,7 @@ use Rattle.audio_out.specs.declared.subframe.Mark.{Mark}
 use Rattle.audio_out.specs.declared.subframe.Subframe.{Subframe}
 use Rattle.audio_out.proofs.Joined.{seven, is_joined, joined_is}
 
--- four bits are read of a byte of half cells behind another
+-- four bits are read of a byte of half cells after another
 abbrev pub IsRead : ℕ → ℕ → ℕ → Type 0
 IsRead before cells found = (n : ℕ) → n < 16 → carries (level_after before) (bits_of 4 n) (bits_of 8 cells) ≡ (found == n)
 

@@ -13,8 +13,8 @@ pub record IsSound (sub : Subframe) : Type 0 where
   pub value : sub.value < 2 ^ 24
   pub flags : sub.flags < 8
 
--- the half cells of a preamble, behind a half cell of level 0: B begins the first subframe of a block's first frame, M that
--- of any other frame, W the second subframe of each frame
+-- the half cells of a preamble, after a half cell of level 0: B begins the first subframe of a block's first frame, M
+-- that of any other frame, W the second subframe of each frame
 unfoldable pub preamble : Mark → List Bool
 preamble B = true ∷ true ∷ true ∷ false ∷ true ∷ false ∷ false ∷ false ∷ []
 preamble M = true ∷ true ∷ true ∷ false ∷ false ∷ false ∷ true ∷ false ∷ []
@@ -24,8 +24,8 @@ preamble W = true ∷ true ∷ true ∷ false ∷ false ∷ true ∷ false ∷ f
 unfoldable pub slots : Subframe → List Bool
 slots sub = bits_of 24 sub.value ++ bits_of 4 (side_bits sub.value sub.flags)
 
--- whether half cells carry bits in biphase-mark code, behind a half cell: of the two of each bit the first is unlike the half
--- cell before it, and the second is unlike the first exactly where the bit is 1
+-- whether half cells carry bits in biphase-mark code, after a half cell: of the two of each bit the first is unlike the
+-- half cell before it, and the second is unlike the first exactly where the bit is 1
 unfoldable pub carries : Bool → List Bool → List Bool → Bool
 carries before [] [] = true
 carries before [] (half ∷ halves) = false
@@ -40,7 +40,7 @@ pub record IsSubframe (sub : Subframe) (bytes : List ℕ) : Type 0 where
   pub marked : take 8 (bytes_bits bytes) ≡ preamble sub.mark
   pub carried : carries false (slots sub) (drop 8 (bytes_bits bytes)) ≡ true
 
--- the half cells that carry bits, behind a half cell
+-- the half cells that carry bits, after a half cell
 unfoldable pub cells_of : Bool → List Bool → List Bool
 cells_of before [] = []
 cells_of before (bit ∷ bits) = not before ∷ (xor (not before) bit ∷ cells_of (xor (not before) bit) bits)

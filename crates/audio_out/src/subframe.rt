@@ -36,7 +36,7 @@ pub struct Subframe {
 }
 
 /// Writes a subframe of a value of 24 bits and flags of three: 64 half cells, half cell h as bit h % 8
-/// of byte h / 8, behind a half cell of level 0. The last one has level 0 again.
+/// of byte h / 8, after a half cell of level 0. The last one has level 0 again.
 pub fn write_subframe(sub: &Subframe) -> [u8; 8]
     requires { IsSound sub.now }
     ensures is { IsSubframe sub.now result }
@@ -73,7 +73,7 @@ pub fn read_subframe(bytes: &[u8; 8]) -> Option<Subframe>
     })
 }
 
-/// The bits at even places: those of each sixteen as a byte, with a byte of zeros behind it.
+/// The bits at even places: those of each sixteen as a byte, with a byte of zeros after it.
 fn every_other(bits: u64) -> u64
     ensures { (q : ℕ) → q < 4 → result / 2 ^ (16 * q) % 256 ≡ eight_from bits (16 * q) }
 {

@@ -35,8 +35,8 @@ static TIME_SLOTS: [(Mark, u32, u8, u32); 10] = [
     (Mark::M, 0x5a5a5a, 7, 0xf5a5a5a2),
 ];
 
-/// Half cells, the first one lowest, of time slots: behind a preamble each bit is two half cells, of which the first is unlike
-/// the one before, and the second is unlike the first where the bit is 1.
+/// Half cells, the first one lowest, of time slots: after a preamble each bit is two half cells, of which the first is
+/// unlike the one before, and the second is unlike the first where the bit is 1.
 fn half_cells(slots: u32) -> u64 {
     let mut halves: u64 = match slots % 16 {
         8 => 0x17,

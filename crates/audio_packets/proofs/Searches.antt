@@ -23,7 +23,7 @@ filter-none p (x ∷ xs) e = grind (arith, filter-none p xs)
 range_from : (p : ℕ → Bool) (a b m n : ℕ) → a ≡ b → m ≡ n → a ∷ filter p (range_with_len (a + 1) m) ≡ b ∷ filter p (range_with_len (b + 1) n)
 range_from p a b m n e f = λ i. e i ∷ filter p (range_with_len (e i + 1) (f i))
 
--- those of a range that pass: the first one, and those behind it
+-- those of a range that pass: the first one, and those after it
 filter-range : (p : ℕ → Bool) (a n b : ℕ) → find p (range_with_len a n) ≡ Some b
     → filter p (range_with_len a n) ≡ b ∷ filter p (range_with_len (b + 1) (a + n - (b + 1)))
 filter-range p a zero b e = absurd (cc)
@@ -35,7 +35,7 @@ filter-range p a (suc n) b e =
     ]
     e
 
--- the present bodies from a body on: the first one, and those behind it
+-- the present bodies from a body on: the first one, and those after it
 pub filter-places : (p : ℕ → Bool) (place body : ℕ) → place ≤ 4 → body < 4 → find p (drop place (0 ∷ 1 ∷ 2 ∷ 3 ∷ [])) ≡ Some body
     → filter p (drop place (0 ∷ 1 ∷ 2 ∷ 3 ∷ [])) ≡ body ∷ filter p (drop (body + 1) (0 ∷ 1 ∷ 2 ∷ 3 ∷ []))
 filter-places p place body le lt e =

@@ -40,7 +40,7 @@ value_at body i = slice_index body i + 256 * slice_index body (i + 1) + 65536 * 
 abbrev pub flags_at : ℕ → ℕ → ℕ
 flags_at byte i = bit_at byte i + 2 * bit_at byte (i + 1) + 4 * bit_at byte (i + 2)
 
--- P is the bit behind them
+-- P is the bit after them
 abbrev pub parity_at : ℕ → ℕ → ℕ
 parity_at byte i = bit_at byte (i + 3)
 

@@ -69,7 +69,7 @@ fn pair_mask(present: u8, pair: u8) -> u8
 }
 
 /// The samples of bodies of a packet, in order. Contracts see it as the list of the samples that are
-/// still to come.
+/// left.
 #[derive(Debug, Drop)]
 pub struct SampleIter<'a> {
     header: &'a [u8; 3],

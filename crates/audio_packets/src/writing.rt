@@ -6,7 +6,7 @@ use crate::sample::Sample;
 use island_pack::Packet;
 
 /// Writes the packet of one to four samples: header, a body for each from body 0 on with the parity
-/// bits that make its sides even, and zeros behind them. `sync` stays.
+/// bits that make its sides even, and zeros after them. `sync` stays.
 pub fn write_samples(samples: &[Sample], out: &mut Packet)
     requires some { 1 ≤ length samples.now }
     requires few { length samples.now ≤ 4 }

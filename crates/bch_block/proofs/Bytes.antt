@@ -30,7 +30,7 @@ kept-xor a b = λ i. record {
   x0 = bit-xor a b 7 i;
 }
 
--- a byte behind what is left
+-- a byte after what is left
 pub remainder_from-byte : (r : Remainder) (b : ℕ) → remainder_from r (byte_bits b) ≡ plus (kept b) (times_power r 8)
 remainder_from-byte r b = ap (λ (t : Remainder). remainder_from t (byte_bits b)) (sym (nothing-plus r)) ∙ remainder_from-plus (byte_bits b) nothing r
 
@@ -46,7 +46,7 @@ pub length-bits_of : (xs : List ℕ) → length (bits_of_bytes xs) ≡ 8 * lengt
 length-bits_of [] = refl
 length-bits_of (b ∷ xs) = omega (arith, length-bits_of xs)
 
--- `left` is what some bytes leave, as the byte behind them meets it
+-- `left` is what some bytes leave, as the byte after them meets it
 abbrev pub Leaves : List ℕ → ℕ → Type 0
 Leaves bytes left = (p : ℕ) → remainder (bits_of_bytes (bytes ++ p ∷ [])) ≡ kept (bit_xor left p)
 

@@ -34,7 +34,7 @@ same_without_differences (true ∷ x) (false ∷ y) e h = absurd (omega arith)
 same_without_differences (false ∷ x) (true ∷ y) e h = absurd (omega arith)
 same_without_differences (false ∷ x) (false ∷ y) e h = ap (λ z. false ∷ z) (same_without_differences x y (omega arith) (omega arith))
 
--- a place where two lists differ, with the number of bits behind it; turned over, one difference less is left
+-- a place where two lists differ, with the number of bits after it; turned over, one difference less is left
 pub record Difference (x y : List Bool) (n : ℕ) : Type 0 where
   pub place : ℕ
   pub after : ℕ

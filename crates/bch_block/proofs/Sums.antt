@@ -30,7 +30,7 @@ equal_remainders r s h =
     let ex7 = equal_bits r.x7 s.x7 (ap (λ (t : Remainder). t.x7) h) in
     grind (arith, equal_bits)
 
--- what is added before a list comes out multiplied by as many powers of x
+-- what is added before a list is multiplied by as many powers of x
 pub remainder_from-plus : (x : List Bool) (r s : Remainder) → remainder_from (plus r s) x ≡ plus (remainder_from r x) (times_power s (length x))
 remainder_from-plus [] r s = refl
 remainder_from-plus (b ∷ x) r s = grind (arith, xor_swap, remainder_from-plus x)
@@ -38,7 +38,7 @@ remainder_from-plus (b ∷ x) r s = grind (arith, xor_swap, remainder_from-plus 
 step-flipped : (r : Remainder) (b : Bool) → step r (xor b true) ≡ plus (step r b) one
 step-flipped r b = grind (arith, xor_swap)
 
--- k bits stand behind bit i
+-- k bits stand after bit i
 pub remainder_from-flipped : (x : List Bool) (r : Remainder) (i k : ℕ) → i + suc k ≡ length x → remainder_from r (flipped x i) ≡ plus (remainder_from r x) (power k)
 remainder_from-flipped [] r i k e = absurd (omega arith)
 remainder_from-flipped (b ∷ x) r zero k e =

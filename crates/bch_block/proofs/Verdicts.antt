@@ -11,7 +11,7 @@ use Rattle.bch_block.proofs.Sums.{plus, plus-self, equal_remainders, nothing-plu
 use Rattle.bch_block.proofs.Distances.{length-flipped, flipped-flipped, differences-self, differences-flipped, same_without_differences, Difference, difference}
 use Rattle.bch_block.proofs.Powers.{distinct, one_power, three_powers}
 
--- how many bits stand behind bit i
+-- how many bits stand after bit i
 abbrev after : List Bool → ℕ → ℕ
 after x i = length x - suc i
 

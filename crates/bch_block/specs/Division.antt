@@ -1,5 +1,5 @@
 -- The remainder of a list of bits by x^8 + x^7 + x^6 + 1, by long division. No contract of this crate's public functions
--- cites it: a block is defined by its quotient (`Block`). What is worked out of received packets is told by it.
+-- cites it: a block is defined by its quotient (`Block`). What is worked out of received packets is determined by it.
 use Rattle.std.specs.Prelude.{ℕ, Bool, true, false, List, [], ◌∷◌}
 use Rattle.std.proofs.Common.{suc, zero}
 use Rattle.bch_block.specs.Bits.{xor, bit}
@@ -21,7 +21,7 @@ nothing = record { x7 = false; x6 = false; x5 = false; x4 = false; x3 = false; x
 abbrev pub one : Remainder
 one = record { x7 = false; x6 = false; x5 = false; x4 = false; x3 = false; x2 = false; x1 = false; x0 = true }
 
--- r * x + b, less the polynomial where x^8 comes
+-- r * x + b, less the polynomial where x^8 arises
 abbrev pub step : Remainder → Bool → Remainder
 step r b = record { x7 = xor r.x6 r.x7; x6 = xor r.x5 r.x7; x5 = r.x4; x4 = r.x3; x3 = r.x2; x2 = r.x1; x1 = r.x0; x0 = xor b r.x7 }
 

@@ -28,7 +28,7 @@ pub enum Verdict {
     Lost,
 }
 
-/// The byte that makes a block of 32 bits, behind three bytes.
+/// The byte that makes a block of 32 bits, after three bytes.
 pub fn parity32(bytes: &[u8; 3]) -> u8
     ensures block { IsBlock (bits_of_bytes (bytes.now ++ result ∷ [])) }
     ensures only { (p : ℕ) → p < 256 → IsBlock (bits_of_bytes (bytes.now ++ p ∷ [])) → p ≡ result }
@@ -36,7 +36,7 @@ pub fn parity32(bytes: &[u8; 3]) -> u8
     parity(bytes)
 }
 
-/// The byte that makes a block of 64 bits, behind seven bytes.
+/// The byte that makes a block of 64 bits, after seven bytes.
 pub fn parity64(bytes: &[u8; 7]) -> u8
     ensures block { IsBlock (bits_of_bytes (bytes.now ++ result ∷ [])) }
     ensures only { (p : ℕ) → p < 256 → IsBlock (bits_of_bytes (bytes.now ++ p ∷ [])) → p ≡ result }
@@ -64,7 +64,7 @@ pub fn repair64(block: &mut [u8; 8]) -> Verdict
     repair(block)
 }
 
-/// The byte that makes a block behind some bytes: with another last byte, the remainder is the sum of the two.
+/// The byte that makes a block after some bytes: with another last byte, the remainder is the sum of the two.
 fn parity(bytes: &[u8]) -> u8
     ensures { (last : ℕ) → remainder (bits_of_bytes (bytes.now ++ last ∷ [])) ≡ kept (bit_xor result last) }
 {

@@ -1,4 +1,4 @@
--- What is answered behind the frames that were listed: more, the end, or why there is none.
+-- What is answered after the frames that were listed: more, the end, or why there is none.
 use Rattle.std.proofs.Common.{◌≡◌, ◌∙◌, inl, inr, ℕ, ◌+◌, ◌*◌, ◌<◌, ◌≤◌, List, [], ◌++◌, length, take, All, Option, Some, ap, sym, subst, append_assoc, length-append, take_at, arith}
 use Rattle.std.specs.Prelude.{flat_map}
 use Rattle.std.specs.Io.KnownBytes.{Appends, Consumes}
@@ -29,7 +29,7 @@ pub adds_few : (piece : List ℕ) (old new : FrameLines) (samples : List Sample)
     → 16 * old.count + length piece ≤ 16 * most_frames + 1 → new.count ≤ most_frames
 adds_few piece old new samples rest adds few = let l = adds_length piece old new samples rest adds in omega (arith, l, adds.count, few)
 
--- a piece was read behind frames that were listed, and its lines are made
+-- a piece was read after frames that were listed, and its lines are made
 pub record Ahead (from left held holds : Option (List ℕ)) (new : FrameLines) (rest : List ℕ) : Type 0 where
   pub first : List Sample
   pub all : List Sample
@@ -99,7 +99,7 @@ bytes_split from left bytes all rest is read =
     let k = known bytes left (flat_map frame_bytes all ++ rest) (subst (λ (f : Option (List ℕ)). Consumes f left (flat_map frame_bytes all ++ rest)) is read) in
     (k.0, k.1 ∙ append_assoc (flat_map frame_bytes all) rest k.0)
 
--- the first group behind frames is no left side
+-- the first group after frames is no left side
 pub bad_left : (bytes : List ℕ) (all : List Sample) (rest later : List ℕ) → All IsCarried all → bytes ≡ flat_map frame_bytes all ++ (rest ++ later) → length all < most_frames
     → StopsAt Left rest → IsRefused bytes (Subframe (2 * length all)) all
 bad_left bytes all rest later carried is few stops =

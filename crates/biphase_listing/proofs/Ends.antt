@@ -203,7 +203,7 @@ judged_more from now held out new old size t full (Err e) is judges = tt
 
 -- ---- the room that is filled
 
--- as many bytes as there is room for came, or fewer
+-- as many bytes as there is room for were read, or fewer
 pub record Fills (old : FrameLines) (into : List ℕ) (count : ℕ) : Type 0 where
   pub bound : count ≤ length into
   pub size : length into ≡ min 4096 (16 * most_frames + 1 - 16 * old.count)

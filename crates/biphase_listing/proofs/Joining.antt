@@ -73,7 +73,7 @@ more_bytes bytes place samples s are is =
     ∙ ap₂ (λ (a b : List ℕ). a ++ b) are (take-add 8 8 (drop place bytes) ∙ ap (λ (xs : List ℕ). take 8 (drop place bytes) ++ take 8 xs) (drop-drop 8 place bytes) ∙ sym is)
     ∙ sym (one_more samples s)
 
--- a frame's lines, behind those before
+-- a frame's lines, after those before
 pub frame_lines_more : (past : List Sample) (s t : Sample) (old put now : List ℕ)
     → s ≡ t → put ≡ old ++ (sample_words s ++ codes "\n") → now ≡ put ++ status_text (block_of (past ++ s ∷ [])) → now ≡ old ++ frame_text past t
 unfolding frame_text

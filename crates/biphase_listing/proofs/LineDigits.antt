@@ -116,7 +116,7 @@ length-first v = ap (λ (ds : List ℕ). length (codes "s " ++ ds)) (sym (codes_
 pub length-second : (v : ℕ) → length (codes " " ++ value_digits v ++ codes " ") ≡ 8
 length-second v = ap (λ (ds : List ℕ). length (codes " " ++ ds ++ codes " ")) (sym (codes_are v))
 
--- three parts of eight bytes put one behind another
+-- three parts of eight bytes put one after another
 abbrev pub zeros : List ℕ
 zeros = 0 ∷ 0 ∷ 0 ∷ 0 ∷ 0 ∷ 0 ∷ 0 ∷ 0 ∷ 0 ∷ 0 ∷ 0 ∷ 0 ∷ 0 ∷ 0 ∷ 0 ∷ 0 ∷ []
 

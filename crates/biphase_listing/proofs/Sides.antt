@@ -36,7 +36,7 @@ second_group s more =
     ∙ ap (take 8) (drop-append_seam (subframe_bytes (left_side s)) (subframe_bytes (right_side s) ++ more))
     ∙ take_at (subframe_bytes (right_side s)) more 8 (length-subframe (right_side s))
 
--- those behind it
+-- those after it
 later_group : (s : Sample) (more : List ℕ) (m : ℕ) → group_at (frame_bytes s ++ more) (m + 2) ≡ group_at more m
 later_group s more m =
     let n : 8 * (m + 2) ≡ length (frame_bytes s) + 8 * m = omega (arith, length-frame s) in
@@ -71,7 +71,7 @@ even_parity k = let e : 2 * k % 2 ≡ 0 = omega arith in ap (λ (n : ℕ). n == 
 odd_parity : (k : ℕ) → ((2 * k + 1) % 2 == 1) ≡ true
 odd_parity k = let e : (2 * k + 1) % 2 ≡ 1 = omega arith in ap (λ (n : ℕ). n == 1) e
 
--- the two groups behind frames
+-- the two groups after frames
 pub left_group : (samples : List Sample) (rest later : List ℕ) → 8 ≤ length rest → group_at (flat_map frame_bytes samples ++ (rest ++ later)) (2 * length samples) ≡ take 8 rest
 left_group samples rest later long =
     let n : 8 * (2 * length samples) ≡ length (flat_map frame_bytes samples) = omega (arith, length-frames samples) in

@@ -14,7 +14,7 @@ abbrev pub turned : ℕ → ℕ
 turned value =
     value / 1048576 % 16 + 16 * (value / 65536 % 16) + 256 * (value / 4096 % 16) + 4096 * (value / 256 % 16) + 65536 * (value / 16 % 16) + 1048576 * (value % 16)
 
--- behind any byte those of the value's bits, and last that of V, U, C and P
+-- after any byte those of the value's bits, and last that of V, U, C and P
 pub record HasFours (sub : Subframe) (fours : ℕ) : Type 0 where
   pub first : ℕ
   pub below : first < 256

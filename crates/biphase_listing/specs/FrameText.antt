@@ -15,7 +15,7 @@ unfoldable pub status_text : Option BlockStatus → List ℕ
 status_text None = []
 status_text (Some status) = codes "block " ++ encode_lower status.left ++ codes " " ++ encode_lower status.right ++ codes "\n"
 
--- the lines of the frame of a sample, behind the frames of the samples before it
+-- the lines of the frame of a sample, after the frames of the samples before it
 unfoldable pub frame_text : List Sample → Sample → List ℕ
 frame_text past s = (sample_words s ++ codes "\n") ++ status_text (block_of (past ++ s ∷ []))
 

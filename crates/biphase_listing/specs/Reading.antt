@@ -1,5 +1,5 @@
--- What stands once frames were listed while they were read. `from` and `left` are the bytes to come before and now, `held` and
--- `holds` those that were written.
+-- What stands once frames were listed while they were read. `from` and `left` are the bytes left to read before and
+-- now, `held` and `holds` those that were written.
 use Rattle.std.specs.Prelude.{◌≡◌, ◌⊎◌, ℕ, ◌+◌, ◌*◌, ◌<◌, ◌≤◌, Bool, false, true, MatchResult, List, [], ◌++◌, All, flat_map, length, take, drop, Option, Some, Result, Ok, Err, codes}
 use Rattle.std.specs.Io.KnownBytes.{Appends, Consumes, IsAtEnd}
 use Rattle.outside_io.specs.Causes.{Rose}
@@ -71,7 +71,7 @@ StopsAt End rest = (length rest < 16) × (8 ≤ length rest → IsSide false (ta
 StopsAt Left rest = (8 ≤ length rest) × (IsSide false (take 8 rest) → ⊥)
 StopsAt Right rest = (16 ≤ length rest) × IsSide false (take 8 rest) × (IsSide true (take 8 (drop 8 rest)) → ⊥)
 
--- the lines of frames at the front of bytes stand behind those of the frames before, and of these bytes a rest is left
+-- the lines of frames at the front of bytes stand after those of the frames before, and of these bytes a rest is left
 pub record Adds (bytes : List ℕ) (old new : FrameLines) (samples : List Sample) (rest : List ℕ) : Type 0 where
   pub bytes_are : bytes ≡ flat_map frame_bytes samples ++ rest
   pub carried : All IsCarried samples
@@ -88,7 +88,7 @@ pub record HasListed (from left held holds : Option (List ℕ)) (blocks : OpenBl
   pub written : Appends held holds (frames_text samples)
   pub stands : IsBlocksAfter blocks samples
 
--- the answer where the frames of a piece stop so, behind so many frames
+-- the answer where the frames of a piece stop so, after so many frames
 abbrev pub stopped : Stop → ℕ → Result (Unit {0}) BiphaseError
 stopped End count = Ok tt
 stopped Left count = Err (Bad (Subframe (2 * count)))

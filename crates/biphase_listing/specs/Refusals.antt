@@ -35,7 +35,7 @@ frames_before (Subframe n) = n / 2
 frames_before Long = most_frames
 frames_before (Short p) = p / 16
 
--- bytes are refused, behind the frames of these samples
+-- bytes are refused, after the frames of these samples
 pub record IsRefused (bytes : List ℕ) (fault : BiphaseFault) (samples : List Sample) : Type 0 where
   pub faulty : IsFault bytes fault
   pub count : length samples ≡ frames_before fault

@@ -1,5 +1,5 @@
--- The biphase stream of one pair of channels, 0 to 3, of what a link says: that of the samples that its told packets of type 2
--- carry, but those that have lost a block.
+-- The biphase stream of one pair of channels, 0 to 3, of what a link says: that of the samples that its reported
+-- packets of type 2 carry, but those that have lost a block.
 use Rattle.std.specs.Prelude.{◌≡◌, ℕ, ◌<◌, ◌==◌, ◌&&◌, Bool, false, if◌then◌else◌, List, [], ◌∷◌, ◌++◌, length, take, map, flat_map, count_by, slice_index, is_some, Option, Result, Ok, Err}
 use Rattle.std.specs.Io.KnownBytes.{Appends}
 use Rattle.island_pack.specs.declared.packet.Packet.{Packet}
@@ -40,11 +40,12 @@ is_lost_sound _ = false
 unfoldable pub biphase_faults : List Event → ℕ
 biphase_faults events = count_by is_lost_sound events
 
--- what is kept is that of all that was told
+-- what is kept is that of all that was reported
 abbrev pub Recalls : Bool → ℕ → List Event → Type 0
 Recalls started pair reported = IsEncoderAfter started (reported_samples pair reported)
 
--- events were told after `reported`: the stream grew by bytes, which were written, and the packets that had lost a block were counted
+-- events were reported after `reported`: the stream grew by bytes, which were written, and the packets that had lost a
+-- block were counted
 pub record Lists (pair : ℕ) (reported events : List Event) (now : Bool) (before after : ℕ) (held holds : Option (List ℕ)) : Type 0 where
   pub recalls : Recalls now pair (reported ++ events)
   pub faults : after ≡ counted before (biphase_faults events)
@@ -52,7 +53,7 @@ pub record Lists (pair : ℕ) (reported events : List Event) (now : Bool) (befor
   pub grows : biphase_text pair (reported ++ events) ≡ biphase_text pair reported ++ bytes
   pub written : Appends held holds bytes
 
--- an event was told after `reported`: of the bytes by which the stream grew not all were written
+-- an event was reported after `reported`: of the bytes by which the stream grew not all were written
 pub record Breaks (pair : ℕ) (reported : List Event) (event : Event) (held holds : Option (List ℕ)) : Type 0 where
   pub bytes : List ℕ
   pub grows : biphase_text pair (reported ++ event ∷ []) ≡ biphase_text pair reported ++ bytes

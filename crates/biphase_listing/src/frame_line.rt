@@ -41,7 +41,7 @@ fn second_part(side: &Side) -> [u8; 8]
     (0x2000_0000_0000_0020 + 0x100 * digits(side)).to_le_bytes()
 }
 
-/// The flags of both sides, whether a block starts, and 0, each but the first behind a space; then the line's end.
+/// The flags of both sides, whether a block starts, and 0, each but the first after a space; then the line's end.
 fn last_part(left: &Side, right: &Side) -> [u8; 8]
     requires left { IsSound left.now.sub }
     requires right { IsSound right.now.sub }

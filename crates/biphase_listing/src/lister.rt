@@ -1,4 +1,4 @@
-//! Writes the sound of what is told as a biphase stream.
+//! Writes the sound of what is reported as a biphase stream.
 ghost use Rattle.std.specs.Prelude.{◌≡◌, ℕ, ◌*◌, ◌+◌, ◌<◌, ◌≤◌, List, [], ◌∷◌, ◌++◌, All, length, map, slice_index, Ok, OnOk, OnErr};
 ghost use Rattle.std.specs.Io.KnownBytes.{Appends};
 ghost use Rattle.arrayvec.specs.ArrayVec.{array_vec_len};
@@ -44,8 +44,8 @@ impl PairNumber {
     }
 }
 
-/// Writes the biphase stream of one pair of channels: of the samples that the told packets of type 2 have of it, but those that
-/// have lost a block. It takes no memory.
+/// Writes the biphase stream of one pair of channels: of the samples that the reported packets of type 2 have of it,
+/// but those that have lost a block. It takes no memory.
 #[derive(Drop)]
 pub struct BiphaseLister<'a, K: Sink> {
     sink: &'a mut K,
@@ -55,7 +55,7 @@ pub struct BiphaseLister<'a, K: Sink> {
 }
 
 impl<'a, K: Sink> BiphaseLister<'a, K> {
-    /// A lister of a pair, 0 to 3, that has written nothing, and was told nothing.
+    /// A lister of a pair, 0 to 3, that has written nothing, and to which nothing was reported.
     pub fn open(sink: &'a mut K, pair: u8) -> BiphaseLister<'a, K>
         requires { pair < 4 }
         ensures same { result.sink.ghost_name ≡ sink.entry.ghost_name }
@@ -72,7 +72,7 @@ impl<'a, K: Sink> BiphaseLister<'a, K> {
         }
     }
 
-    /// How many told packets of type 2 had lost a block. The count stands still at the greatest u64.
+    /// How many reported packets of type 2 had lost a block. The count stands still at the greatest u64.
     pub fn faults(&self) -> u64
         ensures { result ≡ self.now.faults }
     {
@@ -180,7 +180,8 @@ impl<'a, K: Sink> Ear for BiphaseLister<'a, K> {
 
     ghost faults = { λ l. K.faults l.sink.now };
 
-    // For all that was told before: the sink grew by the bytes by which the stream did, and the count by the packets that had lost a block.
+    // For all that was reported before: the sink grew by the bytes by which the stream did, and the count by the
+    // packets that had lost a block.
     ghost took = { λ x y events.
         (y.sink.ghost_name ≡ x.sink.ghost_name)
         × (y.pair ≡ x.pair)

@@ -45,7 +45,7 @@ pub fn list_biphase<S: Source, K: Sink>(input: &mut S, output: &mut K) -> Result
     }
 }
 
-/// How many bytes are read at once behind so many frames: no more than one past the last frame that there may be.
+/// How many bytes are read at once after so many frames: no more than one past the last frame that there may be.
 fn room_for(count: u32) -> usize
     requires { count ≤ most_frames }
     ensures { result ≡ min 4096 (16 * most_frames + 1 - 16 * count) }
@@ -106,7 +106,7 @@ fn list_piece<K: Sink>(
     }
 }
 
-/// The answer where the frames of a piece stop so, behind so many frames.
+/// The answer where the frames of a piece stop so, after so many frames.
 fn stopped(stop: Stop, count: u32) -> Result<(), BiphaseError>
     requires { count ≤ most_frames }
     ensures { result ≡ stopped stop count }

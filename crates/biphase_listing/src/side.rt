@@ -11,7 +11,7 @@ use audio_out::{Mark, Subframe, read_subframe};
 #[derive(Clone, Copy)]
 pub(crate) struct Side {
     pub(crate) sub: Subframe,
-    /// The bits of the subframe, four in each byte behind the lowest one.
+    /// The bits of the subframe, four in each byte after the lowest one.
     pub(crate) fours: u64,
 }
 

@@ -1,4 +1,4 @@
-//! Worked streams, and packets whose stream comes from a model in another language.
+//! Worked streams, and packets whose stream was computed by a model in another language.
 ghost use Rattle.std.specs.Prelude.{◌≤◌};
 
 use super::*;
@@ -175,7 +175,7 @@ static PACKETS: [([u8; 3], Verdict, Verdict); 11] = [
     ([2, 0x0f, 0x80], Verdict::Mended(9), Verdict::Mended(1)),
 ];
 
-/// Tells a packet whose bodies go up by 11 from a first byte on.
+/// Reports a packet whose bodies go up by 11 from a first byte on.
 fn tell(
     lister: &mut BiphaseLister<'_, MemSink>,
     row: &([u8; 3], Verdict, Verdict),

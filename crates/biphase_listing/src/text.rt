@@ -6,7 +6,7 @@ use std::marker::Model;
 /// Room for the lines of 256 frames, of at most 164 bytes each.
 const ROOM: usize = 41_984;
 
-/// Bytes, put one behind another. Contracts see their list.
+/// Bytes, put one after another. Contracts see their list.
 #[derive(Drop)]
 pub(crate) struct Text {
     bytes: [u8; ROOM],
@@ -42,7 +42,7 @@ impl Text {
         self.used = 0;
     }
 
-    /// Puts bytes behind those before.
+    /// Puts bytes after those before.
     pub(crate) fn put(&mut self, bytes: &[u8])
         requires { length self.old + length bytes.now ≤ 41984 }
         ensures { self.new ≡ self.old ++ bytes.now }

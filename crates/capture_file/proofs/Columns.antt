@@ -67,7 +67,7 @@ pub columns-more : (blue green red : List Bool) (bs gs rs : List ℕ) → length
     ≡ columns_of (all_words blue) (all_words green) (all_words red) ++ columns_of bs gs rs
 columns-more blue green red bs gs rs whole e f lb lg lr = grind (arith, length-words_of, words_of-more, columns_of-more)
 
--- the columns of packed bytes behind those of rows
+-- the columns of packed bytes after those of rows
 pub columns-packed : (blue green red : List Bool) (bs gs rs : List ℕ) → length blue % 10 ≡ 0 → length green ≡ length blue → length red ≡ length blue
     → length bs % 5 ≡ 0 → length gs ≡ length bs → length rs ≡ length bs
     → columns_of (all_words (blue ++ bytes_bits bs)) (all_words (green ++ bytes_bits gs)) (all_words (red ++ bytes_bits rs))

@@ -45,7 +45,7 @@ halfway_head version counts hits before now s wrote =
     } in
     record { out = h; front = front; wrote = wrote }
 
--- behind the last block the whole capture was written damaged
+-- after the last block the whole capture was written damaged
 pub halfway_done : (version : ℕ) (counts : List ℕ) (hits : List Hit) (j : ℕ) (taken : List ℕ) (before now : Option (List ℕ)) → All (λ (h : Hit). h.lane < 3) hits → AllFitLanes counts hits
     → block_size j counts ≡ 0 → Halfway version counts hits j taken before now → (whole : List ℕ) × IsDamagedCapture taken hits whole × Appends before now whole
 halfway_done version counts hits j taken before now lanes fit none was =
@@ -97,7 +97,7 @@ halfway_done version counts hits j taken before now lanes fit none was =
       subst (λ bs. Appends before now bs) (h.out_is [] [] [] (ap length x_is ∙ e0) (ap length y_is ∙ e1) (ap length z_is ∙ e2) ∙ written ∙ whole) was.wrote,
     )
 
--- a fault behind the header
+-- a fault after the header
 pub fault_late : (version : ℕ) (counts : List ℕ) (hits : List Hit) (bytes rest : List ℕ) (before now : Option (List ℕ)) (e : DamageError) → All (λ (h : Hit). h.lane < 3) hits → AllFitLanes counts hits
     → CanSay version counts → bytes ≡ header_of version counts ++ rest → SaysFault (λ fault. IsLateFault version counts hits rest (header_of version counts) before now fault) e
     → SaysBad (λ fault. IsDamageFault bytes hits before now fault) e

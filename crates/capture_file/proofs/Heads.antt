@@ -1,4 +1,4 @@
--- Headers of both versions: what they have in common, and that they tell their counts.
+-- Headers of both versions: what they have in common, and that they give their counts.
 use Rattle.std.proofs.lemmas.Bool.{ne_eqb}
 use Rattle.std.proofs.Common.{◌≡◌, ◌≢◌, ℕ, ◌^◌, ◌<◌, ◌≤◌, List, ◌++◌, length, get_or, refl, ap, ◌∙◌, sym, arith, inl, inr}
 use Rattle.std.specs.Prelude.{◌⊎◌, slice_index, if◌then◌else◌}
@@ -27,7 +27,7 @@ header_long head counts h =
       | inr two ↦ omega (arith, ap length two, length-header_two counts)
     ]
 
--- the fourth byte tells the version
+-- the fourth byte gives the version
 fourth_one : (n : ℕ) (a : List ℕ) → get_or (header n ++ a) 3 0 ≡ 49
 unfolding header high_first
 fourth_one n a = refl
@@ -39,7 +39,7 @@ fourth_two counts a = refl
 pub unlike_versions : (n : ℕ) (counts a b : List ℕ) → header n ++ a ≡ header_two counts ++ b → ⊥
 unlike_versions n counts a b e = omega (arith, sym (fourth_one n a) ∙ ap (λ xs. get_or xs 3 0) e ∙ fourth_two counts b)
 
--- a header tells its counts
+-- a header gives its counts
 pub record SameHeads (h k counts other : List ℕ) : Type 0 where
   pub same : h ≡ k
   pub count : (c : ℕ) → c < 3 → slice_index counts c ≡ slice_index other c

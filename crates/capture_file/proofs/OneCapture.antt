@@ -16,7 +16,7 @@ use Rattle.capture_file.proofs.Fronts.{same_front, same_rest}
 use Rattle.capture_file.proofs.Heads.{same_heads}
 use Rattle.capture_file.proofs.Stops.{begins_take, begins_whole}
 
--- bits are told by their number
+-- bits are determined by their number
 same_bits : (xs ys : List Bool) → length xs ≡ length ys → number xs ≡ number ys → xs ≡ ys
 unfolding number
 same_bits [] [] len is = refl
@@ -32,7 +32,7 @@ byte_more k =
     let e : 8 * suc k ≡ 8 + 8 * k = omega arith in
     ap (λ m. 2 ^ m) e ∙ pow-add 2 8 (8 * k)
 
--- a number is told by its bytes
+-- a number is determined by its bytes
 same_number : (k m n : ℕ) → m < 2 ^ (8 * k) → n < 2 ^ (8 * k) → bytes_of k m ≡ bytes_of k n → m ≡ n
 unfolding bytes_of
 same_number zero m n small_m small_n is = omega arith
@@ -41,7 +41,7 @@ same_number (suc k) m n small_m small_n is = grind (arith, byte_more, same_numbe
 number_fits : (xs : List Bool) (count : ℕ) → length xs ≡ count → number xs < 2 ^ (8 * ((count + 7) / 8))
 number_fits xs count is = grind (arith, number_below, pow_mono)
 
--- a lane of so many bits is told by its bytes
+-- a lane of so many bits is determined by its bytes
 same_lane : (xs ys : List Bool) → length ys ≡ length xs → packed xs ≡ packed ys → xs ≡ ys
 unfolding packed
 same_lane xs ys len is = grind (arith, same_bits, same_number, number_fits)

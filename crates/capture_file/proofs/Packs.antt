@@ -102,7 +102,7 @@ none_of b w some e =
     let h : b % w < w = omega arith in
     div-eq_of_lt {n = b} {m = w} (omega arith)
 
--- the last byte tells whether there are spare bits
+-- the last byte says whether there are spare bits
 pub spared_last : (bs : List ℕ) (count : ℕ) → AreBytes bs → length bs ≡ (count + 7) / 8 → count % 8 ≢ 0
     → get_or bs (length bs - 1) 0 / 2 ^ (count % 8) ≡ 0 → bs ≡ packed (take count (bytes_bits bs))
 spared_last bs count h len some none =

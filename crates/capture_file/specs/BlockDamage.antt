@@ -73,7 +73,7 @@ pub record CutIn (version : ℕ) (counts : List ℕ) (hits : List Hit) (j : ℕ)
       (u v w : List Bool) → length (x ++ u) ≡ slice_index counts 0 → length (y ++ v) ≡ slice_index counts 1 → length (z ++ w) ≡ slice_index counts 2
       → Appends before now (take gone (header_of version counts ++ blocks_below (j + 1) (packed (damaged 0 hits (x ++ u))) (packed (damaged 1 hits (y ++ v))) (packed (damaged 2 hits (z ++ w)))))
 
--- a fault behind the header: as far as the last whole block before its place all was taken and written damaged
+-- a fault after the header: as far as the last whole block before its place all was taken and written damaged
 pub record IsLateFault (version : ℕ) (counts : List ℕ) (hits : List Hit) (bytes taken : List ℕ) (before now : Option (List ℕ)) (fault : CaptureFault) : Type 0 where
   pub block : ℕ
   pub part : List ℕ
@@ -96,7 +96,7 @@ pub record IsDamagedCapture (bytes : List ℕ) (hits : List Hit) (whole : List �
 abbrev pub AreWithinLanes : List ℕ → List Hit → Type 0
 AreWithinLanes bytes hits = (head counts tail : List ℕ) → IsHeader head counts → bytes ≡ head ++ tail → AllFitLanes counts hits
 
--- the header was taken and nothing behind it, and hit i is the first whose ten bits pass the end of its own lane as that
+-- the header was taken and nothing after it, and hit i is the first whose ten bits pass the end of its own lane as that
 -- header says it
 pub record IsMisplacedLane (left rest : Option (List ℕ)) (hits : List Hit) (i : ℕ) : Type 0 where
   pub head : List ℕ

@@ -29,7 +29,7 @@ pub record IsSlippedCapture (bytes : List ℕ) (lane place count : ℕ) (whole :
 abbrev pub IsWithinLane : List ℕ → ℕ → ℕ → ℕ → Type 0
 IsWithinLane bytes lane place count = (head counts tail : List ℕ) → IsHeader head counts → bytes ≡ head ++ tail → place + count ≤ slice_index counts lane
 
--- the header was taken and nothing behind it, and the bits pass the end of their lane as that header says it
+-- the header was taken and nothing after it, and the bits pass the end of their lane as that header says it
 pub record IsPastLane (left rest : Option (List ℕ)) (lane place count : ℕ) : Type 0 where
   pub head : List ℕ
   pub counts : List ℕ

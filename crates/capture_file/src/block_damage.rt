@@ -247,7 +247,7 @@ fn read_placed<S: Source>(source: &mut S, hits: &[Hit]) -> Result<Heading, Damag
 /// # Errors
 ///
 /// `Place` where the header is whole and the ten bits of a hit pass the end of its own lane, with the first
-/// such hit: it is told before anything is written and before more is read. `Bad` where the bytes are no
+/// such hit: it is reported before anything is written and before more is read. `Bad` where the bytes are no
 /// capture, with the least place that shows it: the header and the whole blocks before that place are
 /// written. `Read` where the source fails: the header and the whole blocks that were read are written.
 /// `Write` where the sink fails: all that was read is written but a part of the last block.
@@ -259,7 +259,7 @@ pub fn damage<S: Source, K: Sink>(
     requires lanes { All (λ h. h.lane < 3) hits.now }
     requires few { length hits.now < 2 ^ 32 - 1 }
 
-    // Where the source tells its bytes.
+    // Where the bytes of the source are known.
     ensures done { (bytes : List ℕ) → S.left source.old ≡ Some bytes → OnOk result ((whole : List ℕ) × IsDamagedCapture bytes hits.now whole × Appends (K.held out.old) (K.held out.new) whole) }
     ensures bad { (bytes : List ℕ) → S.left source.old ≡ Some bytes → IfErr result (λ e. SaysBad (λ fault. IsDamageFault bytes hits.now (K.held out.old) (K.held out.new) fault) e) }
 

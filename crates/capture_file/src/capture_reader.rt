@@ -59,7 +59,7 @@ impl<'a, S: Source> CaptureReader<'a, S> {
         }
     }
 
-    /// Reads the header of a capture, and nothing behind it. With an answer that is no error the reader is open.
+    /// Reads the header of a capture, and nothing after it. With an answer that is no error the reader is open.
     ///
     /// # Errors
     ///

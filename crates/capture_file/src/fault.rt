@@ -6,7 +6,7 @@
 pub enum CaptureFault {
     /// A byte of the mark `TMC` is another one: its place, which is below 3.
     Magic(u64),
-    /// The byte behind the mark is neither `1` nor `2`: that byte.
+    /// The byte after the mark is neither `1` nor `2`: that byte.
     Version(u8),
     /// The bytes begin a capture, and end before it is whole: how many they are.
     Short(u64),

@@ -80,7 +80,8 @@ impl Rows {
         self.red.push_bits(block.red.as_bytes(), block.red.len())
     }
 
-    /// Reads block `j` behind the blocks before it. Says whether there was one; where all blocks were read nothing is to follow.
+    /// Reads block `j` after the blocks before it. Says whether there was one; where all blocks were read nothing
+    /// is to follow.
     fn read_block<S: Source>(
         &mut self,
         source: &mut S,
@@ -238,7 +239,7 @@ fn read_fitting<S: Source>(
 ///
 /// # Errors
 ///
-/// `Place` where the header is whole and the bits pass the end of their lane: it is told before more is read, and
+/// `Place` where the header is whole and the bits pass the end of their lane: it is reported before more is read, and
 /// before memory is taken. `Bad` where the bytes are no capture, with the least place that shows it. `Read` where the
 /// source fails, and `NoMemory` for want of memory. After each of them nothing is written. `Write` where the sink
 /// fails: all was read, and a part of the capture is written.
@@ -254,7 +255,7 @@ pub fn slip<S: Source, K: Sink>(
     requires some { 1 ≤ drop }
     requires few { drop ≤ 9 }
 
-    // Where the source tells its bytes.
+    // Where the bytes of the source are known.
     ensures done { (bytes : List ℕ) → S.left source.old ≡ Some bytes → OnOk result ((whole : List ℕ) × IsSlippedCapture bytes lane place drop whole × Appends (K.held out.old) (K.held out.new) whole) }
     ensures bad { (bytes : List ℕ) → S.left source.old ≡ Some bytes → IfErr result (λ e. SaysFaulty (λ fault. IsFault bytes fault × IsWithinLane bytes lane place drop) e) }
     ensures part { (bytes : List ℕ) → S.left source.old ≡ Some bytes → result ≡ Err Write → StopsWriting bytes lane place drop (K.held out.old) (K.held out.new) × IsAtEnd (S.left source.new) }

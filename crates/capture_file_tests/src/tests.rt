@@ -272,7 +272,7 @@ fn cut(
     Ok(format!(in alloc; "{answer:?}")?)
 }
 
-/// The character at a place of bytes that come again and again, two a character, the high one first.
+/// The character at a place of bytes that are repeated, two a character, the high one first.
 fn word_at(bytes: &[u8], i: usize) -> Result<Word, Fail>
     requires { i < 2 ^ 32 }
 {

@@ -12,7 +12,7 @@ use Rattle.command_line.specs.declared.options.OptionName.{OptionName}
 use Rattle.command_line.proofs.GivenOptions.{values-append}
 use Rattle.command_line.proofs.FoundRows.{option_built, is_itself, found_option, option_fits, operand_fits, given_reported}
 use Rattle.command_line.proofs.Words.{plain_dashes, plain_long, plain_short, named_dashes, named_long, valued_dashes, valued_long}
-use Rattle.command_line.proofs.Turns.{IsForm, holding, walk_at, Turn, plain_turn, place, waits_after, IsIdle, idle_after, value_turn, idle_turn, trailing_turn, waiting_turn, named_turn, valued_turn}
+use Rattle.command_line.proofs.Turns.{IsForm, holding, walk_at, Turn, plain_turn, place, waits_after, IsIdle, idle_after, value_turn, idle_turn, trailing_turn, waiting_turn, named_turn, valued_turn, rest_turn}
 use Rattle.command_line.proofs.Takings.{total, last, end_fault, end_passes, or_else_both, turn_done, turn_last, settle_operand, settle_option, finds_operand, finds_option, Finds}
 
 -- some operands, and no more than the command takes
@@ -67,7 +67,7 @@ operand_settles : (c : List Rule) (many has : Bool) → IsForm c many has → (r
     → (many ≡ true) ⊎ (operands ≡ []) → settle_fault c false (holding rows (Some (operand_id, word ∷ []))) ≡ []
 operand_settles c many has f rows options operands word found place = settle_operand c many has f rows word ∙ operand_fits many rows options operands word found place
 
--- behind `--`
+-- after `--`
 rest_found : (name : Text) (c : List Rule) (many has : Bool) → IsForm c many has → (words : List Text) (rows : List Row) (pending : Option (Text × List Text)) (waiting : Waiting)
     (options : List (OptionName × Text)) (operands : List Text) → settle_fault c false (holding rows pending) ≡ [] → AreFound (settled_rows c pending rows) options operands → AreFew many (operands ++ words)
     → Accepts name c (walk_at rows pending waiting (place many operands) true) words options (operands ++ words)

@@ -1,4 +1,5 @@
--- The words behind a name that takes no operands, as `check`: none, or `--` alone.
+-- The words after a name that takes no operands, as `check`: none, or `--` alone.
+use Rattle.clap.specs.Lexer.{long_of}
 use Rattle.std.proofs.Common.{arith, ◌≡◌, ◌∙◌, ◌⊎◌, inl, inr, sym, ap, refl, subst, Bool, true, false, List, [], ◌∷◌, ◌++◌, codes, Option, Some, None, bytes_eq}
 use Rattle.std.specs.Prelude.{unwrap_or}
 use Rattle.std.specs.List.{flat_map, filter_map}
@@ -6,7 +7,7 @@ use Rattle.std.proofs.lemmas.Slice.Eq.{bytes_eq-Decides}
 use Rattle.clap.specs.Walk.{idle, nothing_held, walked}
 use Rattle.clap.specs.Faults.{turn_fault, walk_fault, defaults_fault, level_fault}
 use Rattle.command_line.specs.Grammar.{Text, Piece, apart, joined, operand, piece_words, option_of, operand_of, rest_words, AreArranged}
-use Rattle.command_line.proofs.Turns.{leaf, walk_at, other_turn, idle_turn, trailing_turn, unknown_turn}
+use Rattle.command_line.proofs.Turns.{leaf, walk_at, other_turn, idle_turn, trailing_turn, unknown_turn, rest_turn}
 use Rattle.command_line.proofs.Takings.{total, level_total, turn_reported, or_else_first}
 
 unfoldable pub IsBare : List Text → Type 0

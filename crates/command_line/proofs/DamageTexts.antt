@@ -1,4 +1,4 @@
--- The words of damages: what is read is what they tell.
+-- The words of damages: what is read is what they says.
 use Rattle.std.proofs.Common.{◌≡◌, ◌∙◌, sym, ap, refl, subst, arith, ℕ, zero, suc, ◌+◌, ◌*◌, ◌<◌, Bool, true, List, [], ◌∷◌, ◌++◌, length, get_or, take, map, append_assoc}
 use Rattle.std.specs.Borrow.{Bor}
 use Rattle.std.specs.Prelude.{Option, Some, None, Result, Ok, codes, nat_eq, if◌then◌else◌}
@@ -54,7 +54,7 @@ damage_parted_reported : (text : List ℕ) (damage : DamageWord) (o : Option (Li
 damage_parted_reported text damage None e h = absurd (none-some damage h)
 damage_parted_reported text damage (Some parts) e h = damage_after_reported text parts.0 parts.1 damage (mark_split 58 parts.1) (split_parts 58 text parts e) refl h
 
--- what is read is the damage that a word tells
+-- what is read is the damage that a word gives
 pub damage_reported : (text : List ℕ) (damage : DamageWord) → damage_of text ≡ Some damage → IsDamage text damage
 unfolding damage_of
 damage_reported text damage h = damage_parted_reported text damage (mark_split 58 text) refl h
@@ -62,7 +62,7 @@ damage_reported text damage h = damage_parted_reported text damage (mark_split 5
 text_in_order : (lane : ℕ) (place digits : List ℕ) → (48 + lane) ∷ codes ":" ++ place ++ codes ":" ++ digits ≡ ((48 + lane) ∷ []) ++ 58 ∷ (place ++ 58 ∷ digits)
 text_in_order lane place digits = ap (λ (t : List ℕ). (48 + lane) ∷ 58 ∷ t) (append_assoc place (codes ":") digits)
 
--- the damage that a word tells is read
+-- the damage that a word gives is read
 pub damage_found : (text : List ℕ) (damage : DamageWord) → IsDamage text damage → damage_of text ≡ Some damage
 unfolding damage_of
 damage_found text damage is =

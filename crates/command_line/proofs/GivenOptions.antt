@@ -4,7 +4,7 @@ use Rattle.std.specs.Prelude.{if◌then◌else◌}
 use Rattle.command_line.specs.Grammar.{Text, values_of, listed}
 use Rattle.command_line.specs.declared.options.OptionName.{OptionName}
 
--- the values of options one behind another
+-- the values of options one after another
 pub values-append : (name : OptionName) (xs ys : List (OptionName × Text)) → values_of name (xs ++ ys) ≡ values_of name xs ++ values_of name ys
 values-append name [] ys = refl
 values-append name (x ∷ xs) ys = grind (arith, values-append name xs ys)

@@ -15,7 +15,7 @@ use Rattle.command_line.specs.declared.command.Command.TheVariants.{MakeLink, Ma
 use Rattle.command_line.proofs.Triples.{number_found}
 use Rattle.command_line.proofs.SlipTexts.{digit_found, slip_found}
 
--- texts that a test tells apart
+-- texts that a test distinguishes
 pub apart : (a b : Text) → bytes_eq a b ≡ false → a ≡ b → ⊥
 apart a b differ e = true≢false (sym ((bytes_eq-Decides a b).1 e) ∙ differ)
 

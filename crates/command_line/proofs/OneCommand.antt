@@ -73,7 +73,7 @@ form ReadBiphase = 11
 form Relay = 12
 form (Sample n) = 13
 
--- and the place that a name and a first operand tell
+-- and the place that a name and a first operand give
 abbrev make_form_of : Text → ℕ
 make_form_of first = if bytes_eq first (codes "link") then 0 else if bytes_eq first (codes "content") then 1 else 2
 

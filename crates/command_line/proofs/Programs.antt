@@ -1,4 +1,4 @@
--- The commands of the program, as `clap` has them when they are built, and how it comes to one.
+-- The commands of the program, as `clap` has them when they are built, and how it arrives at one.
 use Rattle.std.proofs.Common.{arith, ◌≡◌, ◌∙◌, sym, ap, ap₂, refl, Bool, true, false, ◌||◌, not, List, [], ◌∷◌, ◌++◌, codes, Some, None, bytes_eq, true≢false, append_assoc, append-nil, fold, is_some}
 use Rattle.std.specs.Prelude.{if◌then◌else◌, option_map}
 use Rattle.clap.specs.Kinds.{Kinds, or_else}
@@ -113,7 +113,7 @@ whole = built vabgrot
 abbrev pub names : Names
 names = names_of whole
 
--- a walk that has met a command keeps the words behind it
+-- a walk that has met a command keeps the words after it
 stop_grows : (c : List Rule) (ns : Names) (w : Walk) (name : Text) (ws words : List Text)
     → fold (walked c ns) (record w { stopped = Some (name, ws) }) words ≡ record w { stopped = Some (name, ws ++ words) }
 unfolding walked

@@ -1,4 +1,4 @@
--- The word of a slip: what is read is what it tells.
+-- The word of a slip: what is read is what it says.
 use Rattle.std.proofs.Common.{◌≡◌, ◌∙◌, ap, refl, arith, ℕ, ◌+◌, ◌-◌, ◌≤◌, List, [], ◌∷◌, ◌++◌, append_assoc}
 use Rattle.std.specs.Prelude.{Option, Some, None, codes}
 use Rattle.std.proofs.lemmas.Bool.{and_parts}
@@ -33,7 +33,7 @@ slip_parted_reported : (text : List ℕ) (slip : SlipWord) (o : Option (List ℕ
 slip_parted_reported text slip None e h = absurd (none-some slip h)
 slip_parted_reported text slip (Some parts) e h = slip_after_reported text parts.0 parts.1 slip (mark_split 58 parts.1) (split_parts 58 text parts e) refl h
 
--- what is read is the slip that a word tells
+-- what is read is the slip that a word gives
 pub slip_reported : (text : List ℕ) (slip : SlipWord) → slip_of text ≡ Some slip → IsSlip text slip
 unfolding slip_of
 slip_reported text slip h = slip_parted_reported text slip (mark_split 58 text) refl h
@@ -41,7 +41,7 @@ slip_reported text slip h = slip_parted_reported text slip (mark_split 58 text) 
 text_in_order : (lane : ℕ) (place digit : List ℕ) → (48 + lane) ∷ codes ":" ++ place ++ codes ":" ++ digit ≡ ((48 + lane) ∷ []) ++ 58 ∷ (place ++ 58 ∷ digit)
 text_in_order lane place digit = ap (λ (t : List ℕ). (48 + lane) ∷ 58 ∷ t) (append_assoc place (codes ":") digit)
 
--- the slip that a word tells is read
+-- the slip that a word gives is read
 pub slip_found : (text : List ℕ) (slip : SlipWord) → IsSlip text slip → slip_of text ≡ Some slip
 unfolding slip_of
 slip_found text slip is =

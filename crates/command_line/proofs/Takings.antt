@@ -1,4 +1,4 @@
--- The words that `clap` takes behind a command's name are options and operands, and options and operands are taken.
+-- The words that `clap` takes after a command's name are options and operands, and options and operands are taken.
 use Rattle.std.proofs.Common.{arith, ◌≡◌, ◌∙◌, ◌⊎◌, inl, inr, sym, ap, refl, subst, Bool, true, false, not, List, [], ◌∷◌, ◌++◌, codes, Option, Some, None, bytes_eq, true≢false, append_assoc, append-nil, fold}
 use Rattle.std.specs.Prelude.{if◌then◌else◌, option_map, unwrap_or}
 use Rattle.std.specs.List.{flat_map, filter_map, list_all}
@@ -114,7 +114,7 @@ pub record Took (c : List Rule) (has : Bool) (words : List Text) (options : List
 unfoldable pub Finds : List Rule → List Row → Option (Text × List Text) → List (OptionName × Text) → List Text → Type 0
 Finds c rows pending options operands = settle_fault c false (holding rows pending) ≡ [] → AreFound (settled_rows c pending rows) options operands
 
--- behind `--`
+-- after `--`
 RestTells : Text → List Rule → Bool → List Text → Type 0
 RestTells name c many words =
     (rows : List Row) (pending : Option (Text × List Text)) (waiting : Waiting) (options : List (OptionName × Text)) (operands : List Text) → Finds c rows pending options operands
@@ -153,7 +153,7 @@ pub settled_option : (c : List Rule) (many has : Bool) → IsForm c many has →
     → settled_rows c (Some (option_id name, values)) rows ≡ used (option_built name) values rows
 settled_option c many has f offers name rows values = ap (λ (o : Option Rule). used_by_id o values rows) (f.by_id offers name)
 
--- what an operand leaves behind
+-- what an operand leaves
 pub finds_operand : (c : List Rule) (many has : Bool) → IsForm c many has → (rows : List Row) (options : List (OptionName × Text)) (operands : List Text) (word : Text) → AreFound rows options operands
     → Finds c rows (Some (operand_id, word ∷ [])) options (operands ++ word ∷ [])
 unfolding Finds
@@ -168,7 +168,7 @@ finds_option c many has f offers name rows options operands word found settles =
     subst (λ (rs : List Row). AreFound rs (options ++ (name, word) ∷ []) operands) (sym (settled_option c many has f offers name rows (word ∷ [])))
     (found_option rows options operands name word found (sym (settle_option c many has f offers name rows (word ∷ [])) ∙ settles))
 
--- ---- behind `--`
+-- ---- after `--`
 
 rest_reported : (name : Text) (c : List Rule) (many has : Bool) → IsForm c many has → (words : List Text) → RestTells name c many words
 unfolding RestTells Finds total end_fault last

@@ -40,7 +40,7 @@ pub split_reported : (mark : ℕ) (text : List ℕ) (r : Option (Bor (List ℕ) 
 unfolding mark_split
 split_reported mark text r h = grind (arith, common_steps)
 
--- a text is what stands before its first mark, the mark, and what stands behind it
+-- a text is what stands before its first mark, the mark, and what stands after it
 pub split_parts : (mark : ℕ) (text : List ℕ) (parts : List ℕ × List ℕ) → mark_split mark text ≡ Some parts → text ≡ parts.0 ++ mark ∷ parts.1
 unfolding mark_split
 split_parts mark text parts e =
@@ -61,7 +61,7 @@ colon_other c digit = grind (arith, common_steps)
 pub colon : IsApart 58
 colon = record { own = refl; other = colon_other }
 
--- what has no mark comes before the first mark
+-- what has no mark stands before the first mark
 front_first : (mark : ℕ) (front rest : List ℕ) → is_mark mark mark ≡ true → list_any (is_mark mark) front ≡ false → position_or_len (is_mark mark) (front ++ mark ∷ rest) ≡ length front
 front_first mark [] rest own none = rw own refl
 front_first mark (c ∷ cs) rest own none = grind (arith, front_first mark cs rest own)

@@ -1,4 +1,5 @@
--- What one word does to a walk over the words behind a command's name.
+-- What one word does to a walk over the words after a command's name.
+use Rattle.clap.specs.Lexer.{long_of, short_of}
 use Rattle.std.proofs.Common.{arith, ◌≡◌, ◌∙◌, ◌⊎◌, sym, ap, refl, Bool, true, false, ◌&&◌, ◌||◌, not, ℕ, List, [], ◌∷◌, ◌++◌, codes, Option, Some, None, bytes_eq, true≢false}
 use Rattle.std.specs.Prelude.{if◌then◌else◌, option_map}
 use Rattle.std.specs.Option.{option_map_or}
@@ -68,7 +69,7 @@ abbrev pub walk_at : List Row → Option (Text × List Text) → Waiting → ℕ
 walk_at rows pending waiting position past =
     record { held = holding rows pending; waiting = waiting; position = position; is_trailing = past; stopped = None }
 
--- what a word does: its fault, and where the walk stands behind it
+-- what a word does: its fault, and where the walk stands after it
 pub record Turn (name : Text) (c : List Rule) (w : Walk) (word : Text) (fault : Kinds) (after : Walk) : Type 0 where
   pub fault_is : turn_fault (leaf name c) [] w word ≡ fault
   pub after_is : walked c [] w word ≡ after
@@ -178,7 +179,7 @@ place true operands = 1
 place false [] = 1
 place false (o ∷ os) = 2
 
--- what waits behind an operand
+-- what waits after an operand
 abbrev pub waits_after : Bool → Waiting
 waits_after true = positional
 waits_after false = idle
@@ -205,7 +206,7 @@ value_fault name c position h = step_fault (leaf name c) position h value
 abbrev pub value_walk : List Rule → Text → List Row → Option (Text × List Text) → Waiting → ℕ → Bool → Walk
 value_walk c word rows pending waiting position past = to_positional c (arg_by_index c position) word (walk_at rows pending waiting position past) (holding rows pending)
 
--- the same, behind these operands
+-- the same, after these operands
 pub value_turn : (name : Text) (c : List Rule) (many has : Bool) (f : IsForm c many has) (rows : List Row) (pending : Option (Text × List Text)) (waiting : Waiting) (past : Bool) (operands : List Text) (word : Text)
     → (many ≡ true) ⊎ (operands ≡ [])
     → Turn name c (walk_at rows pending waiting (place many operands) past) word (value_fault name c (place many operands) (holding rows pending)) (value_walk c word rows pending waiting (place many operands) past)
@@ -224,7 +225,7 @@ pub idle_turn : (name : Text) (c : List Rule) (rows : List Row) (pending : Optio
     → Turn name c (walk_at rows pending waiting position false) word (value_fault name c position (holding rows pending)) (value_walk c word rows pending waiting position false)
 idle_turn name c rows pending waiting position word h k = grind arith
 
--- a word behind `--`
+-- a word after `--`
 pub trailing_turn : (name : Text) (c : List Rule) (rows : List Row) (pending : Option (Text × List Text)) (waiting : Waiting) (position : ℕ) (word : Text)
     → Turn name c (walk_at rows pending waiting position true) word (value_fault name c position (holding rows pending)) (value_walk c word rows pending waiting position true)
 unfolding walked

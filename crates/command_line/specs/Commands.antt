@@ -62,7 +62,7 @@ Means ReadBiphase name options operands = (name ≡ codes "read") × (operands �
 Means Relay name options operands = (name ≡ codes "relay") × (operands ≡ []) × (options ≡ [])
 Means (Sample n) name options operands = (name ≡ codes "sample") × ((text : Text) × (operands ≡ text ∷ []) × IsNumber 20 text n × (2 ≤ n)) × (options ≡ [])
 
--- the words are a command's name, and behind it its options and operands
+-- the words are a command's name, and after it its options and operands
 pub record IsCommand (words : List Text) (command : Command) : Type 0 where
   pub name : Text
   pub after : List Text

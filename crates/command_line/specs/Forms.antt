@@ -1,4 +1,4 @@
--- The commands as `clap` is told of them, and what it finds of options and operands.
+-- The commands as they are given to `clap`, and what it finds of options and operands.
 use Rattle.std.specs.Prelude.{◌≡◌, ◌⊎◌, MatchOption, Bool, true, false, List, [], ◌∷◌, codes, Option, Some, None, option_map, find}
 use Rattle.std.specs.Str.{bytes_eq}
 use Rattle.clap.specs.Facts.{explicit_source}

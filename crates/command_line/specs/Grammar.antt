@@ -1,4 +1,4 @@
--- How options and operands stand behind the name of a command.
+-- How options and operands stand after the name of a command.
 use Rattle.std.specs.Prelude.{◌≡◌, ℕ, Bool, true, false, if◌then◌else◌, List, [], ◌∷◌, ◌++◌, map, codes, Option, Some, None, unwrap_or}
 use Rattle.std.specs.List.{flat_map, filter_map}
 use Rattle.std.specs.Borrow.{Bor}
@@ -51,13 +51,13 @@ operand_of (apart name value) = None
 operand_of (joined name value) = None
 operand_of (operand word) = Some word
 
--- `--` and the words behind it, where it stands
+-- `--` and the words after it, where it stands
 abbrev pub rest_words : Option (List Text) → List Text
 rest_words None = []
 rest_words (Some words) = codes "--" ∷ words
 
 -- the words are these options, in order, and these operands, in order: piece after piece, and then perhaps
--- `--`, behind which each word is an operand
+-- `--`, after which each word is an operand
 pub record AreArranged (words : List Text) (options : List (OptionName × Text)) (operands : List Text) : Type 0 where
   pub pieces : List Piece
   pub rest : Option (List Text)

@@ -24,7 +24,7 @@ digit_within least most [] = None
 digit_within least most (c ∷ []) = if nat_le (48 + least) c && nat_le c (48 + most) then Some (c - 48) else None
 digit_within least most (c ∷ d ∷ more) = None
 
--- what stands before the first mark of a text, and behind it
+-- what stands before the first mark of a text, and after it
 
 abbrev pub is_mark : ℕ → ℕ → Bool
 is_mark mark c = nat_eq c mark

@@ -27,11 +27,11 @@ const LAST_PAIR: u8 = 3;
 /// What the program is to do.
 #[derive(Drop)]
 pub enum Command {
-    /// `make link`: make the capture of a tap of the columns that a listing tells.
+    /// `make link`: make the capture of a tap of the columns that a listing describes.
     MakeLink(TapWords),
     /// `make content`: make the capture of a tap of the columns of frames with content.
     MakeContent(TapWords),
-    /// `make dvi`: make the capture of a tap of the columns of a stream without guard bands that a listing tells.
+    /// `make dvi`: make the capture of a tap of the columns of a stream without guard bands that a listing describes.
     MakeDvi(TapWords),
     /// `recover link`: recover the listing of a capture.
     RecoverLink,
@@ -57,7 +57,7 @@ pub enum Command {
     Sample(u32),
 }
 
-/// The command that the words name; none exactly where they are of no command's form. The words are those behind the
+/// The command that the words name; none exactly where they are of no command's form. The words are those after the
 /// program's name, in order.
 ///
 /// # Errors
@@ -99,7 +99,7 @@ fn found_command(alloc: Global, matches: &ArgMatches<'_>) -> Result<Option<Comma
     }
 }
 
-/// The command that a name, and the options and operands found behind it, ask for.
+/// The command that a name, and the options and operands found after it, ask for.
 fn named_command(
     alloc: Global,
     name: &str,

@@ -80,7 +80,7 @@ fn read_damage(text: &str) -> Option<DamageWord>
     })
 }
 
-/// What stands before the first colon, and behind it.
+/// What stands before the first colon, and after it.
 pub(crate) fn colon_split(text: &str) -> Option<(&str, &str)>
     ensures { MatchOption result (mark_split 58 text.now ≡ None) (λ x. mark_split 58 text.now ≡ Some (x.0.now, x.1.now)) }
 {

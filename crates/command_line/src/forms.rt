@@ -1,4 +1,4 @@
-//! The commands, their options and their operands, as `clap` is told of them, and what it found of them.
+//! The commands, their options and their operands, as they are given to `clap`, and what it found of them.
 ghost use Rattle.std.specs.Prelude.{◌≡◌, List, [], IfOk, false, true, option_map, unwrap_or};
 ghost use Rattle.clap.specs.Words.{app_of, found_of, rows_of, rule_of, with_rule, with_subcommand};
 ghost use Rattle.clap.specs.declared.builder.command.Command.TheViews.{out-Command as fields_of};

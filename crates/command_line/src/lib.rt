@@ -1,7 +1,7 @@
 //! The words of the command line: which command they name, and with which options and operands.
 //!
-//! The first word is the command. Behind it stand its operands, in order, and its options, which may stand between
-//! and around them, each as `--name VALUE` or as `--name=VALUE`. Behind the word `--` each word is an operand.
+//! The first word is the command. After it stand its operands, in order, and its options, which may stand between
+//! and around them, each as `--name VALUE` or as `--name=VALUE`. After the word `--` each word is an operand.
 #![tactic(auto)]
 
 mod command;

@@ -64,7 +64,7 @@ pub(crate) fn three_numbers(text: &str, most: u32) -> Option<[u32; 3]>
     ])
 }
 
-/// What stands before the first comma, and behind it.
+/// What stands before the first comma, and after it.
 fn comma_split(text: &str) -> Option<(&str, &str)>
     ensures { MatchOption result (mark_split 44 text.now ≡ None) (λ x. mark_split 44 text.now ≡ Some (x.0.now, x.1.now)) }
 {

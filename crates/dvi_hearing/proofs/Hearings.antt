@@ -1,4 +1,5 @@
--- A hearing without guard columns after one column more: it stands for the columns heard, and has told what they tell.
+-- A hearing without guard columns after one column more: it stands for the columns heard, and has reported what is to
+-- be reported of them.
 use Rattle.std.proofs.Common.{arith, ◌≡◌, ℕ, ◌+◌, true, false, List, [], ◌∷◌, ◌++◌, length, map, refl, ap, sym, ◌∙◌}
 use Rattle.std.proofs.lemmas.List.{length_push}
 use Rattle.tmds_word.specs.Column.{Column}

@@ -1,4 +1,5 @@
--- Many columns without guard columns that go on with the run or the line that is open, and tell nothing.
+-- Many columns without guard columns that go on with the run or the line that is open, and of which
+-- nothing is reported.
 use Rattle.std.proofs.Common.{◌≡◌, ℕ, ◌+◌, true, false, List, [], ◌∷◌, ◌++◌, length, take, refl, ap, ap₂, sym, ◌∙◌, subst, arith, append_assoc, append-nil, All, length-append}
 use Rattle.std.specs.List.{prefix_len}
 use Rattle.std.proofs.lemmas.List.Elements.{All-head, All-tail}
@@ -26,7 +27,7 @@ use Rattle.dvi_hearing.specs.declared.phase.Phase.{Phase}
 use Rattle.dvi_hearing.specs.declared.phase.Phase.TheVariants.{Control, Pixels}
 use Rattle.dvi_hearing.proofs.Hearings.{reported_control, reported_other}
 
--- columns after which the last stretch is this one, and that tell nothing
+-- columns after which the last stretch is this one, and of which nothing is reported
 record Goes (cs ds : List Column) (x : Stretch) : Type 0 where
   pub last : last (stretches (cs ++ ds)) ≡ x
   pub reported : dvi_so_far (cs ++ ds) ≡ dvi_so_far cs
@@ -69,7 +70,7 @@ line_goes control cs (c ∷ ds) g gap at all =
 
 -- As a whole.
 
--- a hearing that heard the first n columns, which tell nothing
+-- a hearing that heard the first n columns, of which nothing is reported
 pub record Went (new : DviSeen) (cs cols : List Column) (n : ℕ) : Type 0 where
   pub stands : DviHearingRepresents new (cs ++ take n cols)
   pub reported : dvi_so_far (cs ++ take n cols) ≡ dvi_so_far cs

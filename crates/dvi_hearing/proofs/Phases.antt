@@ -1,4 +1,4 @@
--- What a column tells in each phase.
+-- What is reported at a column in each phase.
 use Rattle.std.proofs.Common.{◌≡◌, ℕ, ◌+◌, false, nat_le, List, [], ◌∷◌, ◌++◌, length, ap, ◌∙◌, arith, length-append}
 use Rattle.tmds_word.specs.Column.{Column}
 use Rattle.period_grammar.specs.Events.{Event, short, cut}

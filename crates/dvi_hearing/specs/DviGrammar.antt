@@ -1,5 +1,5 @@
--- What columns tell without guard columns is a grammar: told whatever comes after it, and of the sizes that an ear is
--- promised.
+-- What is reported of columns without guard columns is a grammar: reported whatever follows, and of the sizes that an
+-- ear is promised.
 use Rattle.std.proofs.Common.{◌≡◌, ℕ, ◌+◌, List, [], ◌∷◌, ◌++◌, length, map, take, refl, ap, sym, ◌∙◌, arith, append_assoc, All}
 use Rattle.std.specs.Prelude.{nat_le}
 use Rattle.std.proofs.lemmas.List.{append-nil, map-append}
@@ -58,7 +58,7 @@ all_are_sized : (cs : List Column) → All IsSized (dvi_heard cs)
 unfolding dvi_heard heard_by so_far_by
 all_are_sized cs = all_sized _ (sized_append _ _ (events_sized _ (reported_sized 0 (stretches cs))) (end_sized 0 (stretches cs)))
 
--- What columns tell is told whatever comes after them.
+-- What is reported of columns is reported whatever follows them.
 
 pub reported_then : (cs ds : List Column) (n : ℕ) (us : List Event) → dvi_so_far ds ≡ dvi_so_far cs ++ all_at n us → map event_of (dvi_so_far ds) ≡ map event_of (dvi_so_far cs) ++ us
 reported_then cs ds n us e =
@@ -87,7 +87,7 @@ pub ended_by : (cs : List Column) → dvi_heard cs ≡ map event_of (dvi_so_far 
 unfolding dvi_heard dvi_so_far
 ended_by cs = end_law dvi_gaps cs (start_of cs) (starts cs)
 
--- what columns tell in a stream without guard columns
+-- what is reported of columns in a stream without guard columns
 abbrev pub dvi_grammar : Grammar
 dvi_grammar = record { so_far = λ cs. map event_of (dvi_so_far cs); whole = dvi_heard }
 

@@ -31,6 +31,6 @@ pub record IsSound (columns : ℕ) (phase : Phase) (control : ControlState) (lin
   pub reported : length notes ≤ 8
   pub short : columns ≤ 429496730
 
--- what the last call told
+-- what the last call reported
 abbrev pub last_reported : DviSeen → List Event
 last_reported hearing = events (lent hearing.line.bytes hearing.unused) hearing.notes

@@ -33,7 +33,7 @@ pub record GoesOn (hearing : DviSeen) (cs : List Column) : Type 0 where
   pub heard : DviHearingRepresents hearing cs
   pub open_still : hearing.finished ≡ false
 
--- what is told at a control column before its own words
+-- what is reported at a control column before its own words
 abbrev pub closed : ℕ → ℕ → Stretch → List Event
 closed v b (stretch control []) = change v (runs control)
 closed v b (stretch control (g ∷ gap)) = dvi_closing b control (g ∷ gap)

@@ -1,4 +1,4 @@
-//! Hears columns one after another, and tells what they say.
+//! Hears columns one after another, and reports what they say.
 ghost use Rattle.std.specs.Prelude.{◌≡◌, ◌<◌, ◌≤◌, ◌+◌, ◌++◌, ◌∷◌, [], ℕ, List, length, map, take, true, false, slice_get, Some};
 ghost use Rattle.tmds_word.specs.Column.{Column, column_of};
 ghost use Rattle.tmds_word.specs.Lent.{columns_in};
@@ -58,7 +58,7 @@ impl DviHearing {
         }
     }
 
-    /// Forgets all that was heard and told: it is as a fresh one. It takes no memory.
+    /// Forgets all that was heard and reported: it is as a fresh one. It takes no memory.
     pub fn restart(&mut self)
         ensures open { self.new.finished ≡ false }
         ensures heard { DviHearingRepresents self.new [] }
@@ -71,7 +71,7 @@ impl DviHearing {
         self.finished = false;
     }
 
-    /// Hears one column, the words of lanes 0, 1 and 2; `tells` and `reported` then say what it tells.
+    /// Hears one column, the words of lanes 0, 1 and 2; `tells` and `reported` then say what is reported at it.
     pub fn hear(&mut self, column: &[Word; 3])
         requires few { self.old.columns < 429496730 }
         requires open { self.old.finished ≡ false }
@@ -111,7 +111,7 @@ impl DviHearing {
     }
 
     /// Hears columns from the first on, as long as they go on with the run or the line that is open, and answers how many
-    /// these are: none where none is open. It tells nothing. `hear` takes the column that comes then.
+    /// these are: none where none is open. Nothing is reported. `hear` takes the column that follows.
     pub fn hear_while(&mut self, columns: Columns<'_>) -> usize
         requires few { self.old.columns + length (columns_in columns) ≤ 429496730 }
         requires open { self.old.finished ≡ false }
@@ -162,7 +162,7 @@ impl DviHearing {
         count
     }
 
-    /// Ends the columns; `tells` and `reported` then say what the end tells.
+    /// Ends the columns; `tells` and `reported` then say what is reported at the end.
     pub fn finish(&mut self)
         requires { self.old.finished ≡ false }
         ensures finished { self.new.finished ≡ true }
@@ -179,7 +179,7 @@ impl DviHearing {
         self.finished = true;
     }
 
-    /// How many events the last call told.
+    /// How many events the last call reported.
     pub fn tells(&self) -> u8
         ensures few { result ≤ 8 }
         ensures count { result ≡ length self.now.notes }
@@ -187,7 +187,7 @@ impl DviHearing {
         self.notes.len()
     }
 
-    /// Lends event `i` of those that the last call told.
+    /// Lends event `i` of those that the last call reported.
     pub fn reported(&self, i: u8) -> EventRef<'_>
         requires { i < length self.now.notes }
         ensures { slice_get (last_reported self.now) i ≡ Some (lent_event result) }

@@ -1,4 +1,4 @@
-//! Hears the columns of a stream without guard columns (DVI 1.0) one after another, and tells what they say: runs of
+//! Hears the columns of a stream without guard columns (DVI 1.0) one after another, and reports what they say: runs of
 //! control columns, lines, and what is wrong.
 #![tactic(auto)]
 

@@ -26,7 +26,7 @@ pub enum Phase {
     Pixels { start: u32 },
 }
 
-/// Tells what ends at a control column, and gives what is kept of the control columns that go on.
+/// Reports what ends at a control column, and gives what is kept of the control columns that go on.
 pub fn close(
     phase: Phase,
     n: u32,
@@ -59,7 +59,7 @@ pub fn close(
     }
 }
 
-/// Tells that fewer than twelve control columns stand before a line.
+/// Reports that fewer than twelve control columns stand before a line.
 fn tell_short(columns: u32, start: u32, notes: &mut EventQueue)
     requires room { length notes.old ≤ 0 }
     ensures room { length notes.new ≤ 1 }
@@ -70,7 +70,7 @@ fn tell_short(columns: u32, start: u32, notes: &mut EventQueue)
     }
 }
 
-/// Tells what a column tells that is no control column, and puts it into the line.
+/// Makes the reports at a column that is no control column, and puts it into the line.
 pub fn go_on(
     phase: Phase,
     n: u32,
@@ -101,7 +101,7 @@ pub fn go_on(
     }
 }
 
-/// Tells what the end tells.
+/// Reports what is left to report at the end.
 pub fn end(phase: Phase, n: u32, kept: &ControlState, line: &Line, notes: &mut EventQueue)
     requires room { length notes.old ≤ 0 }
     ensures room { length notes.new ≤ 1 }

@@ -1,4 +1,4 @@
-//! Columns, and what is told of them: worked rows.
+//! Columns, and what is reported of them: worked rows.
 ghost use Rattle.std.specs.Prelude.{◌≡◌, ◌≤◌, ◌+◌, length, false};
 
 use crate::DviHearing;
@@ -8,7 +8,7 @@ use std::process::Abort;
 use std::test::*;
 use tmds_word::Word;
 
-/// What is told, with the size of a line and its first byte in place of the bytes.
+/// What is reported, with the size of a line and its first byte in place of the bytes.
 #[derive(Clone, Copy, Debug, PartialEq, Eq)]
 enum Row {
     Run { value: u8, count: u32 },
@@ -51,7 +51,7 @@ fn row_of(event: EventRef<'_>) -> Row {
     }
 }
 
-/// Adds the rows of what the last call told.
+/// Adds the rows of what the last call reported.
 fn add(rows: &mut Vec<Row>, hearing: &DviHearing) -> Result<(), Fail> {
     for i in 0..hearing.tells() {
         rows.push(row_of(hearing.reported(i)))?;

@@ -1,4 +1,4 @@
--- Columns that came of columns that spell periods.
+-- Columns received for columns that spell periods.
 use Rattle.std.proofs.Common.{◌≡◌, ℕ, suc, ◌≤◌, true, List, [], ◌∷◌, ◌++◌, length, map, refl, ap, ◌∙◌, subst, arith}
 use Rattle.std.proofs.lemmas.List.{length-map}
 use Rattle.tmds_word.specs.Column.{Column, blues, greens, reds}
@@ -75,7 +75,7 @@ pub record First (ps : List Period) : Type 0 where
   pub tail : List Period
   pub are : ps ≡ control runs ∷ tail
 
--- what follows a control period came so
+-- what follows a control period was received so
 pub tail_received : (runs : List ControlRun) (tail : List Period) (ss rs : List Column) → dvi_conforms (control runs ∷ tail) ≡ true → DviSpells tail ss → AreNearly ss rs → Received tail ss rs
 unfolding dvi_conforms
 tail_received runs [] ss rs c spells near = none ss rs spells near

@@ -1,4 +1,4 @@
--- A short stream without guard bands that came with two damaged pixels, and a tap of it: the premises of the laws can be
+-- A short stream without guard bands received with two damaged pixels, and a tap of it: the premises of the laws can be
 -- met.
 use Rattle.std.proofs.Common.{◌≡◌, ℕ, ◌+◌, ◌<◌, ◌≤◌, Bool, true, false, not, ◌&&◌, ◌||◌, ◌==◌, List, [], ◌∷◌, ◌++◌, map, length, take, drop, get_or, replicate, refl, ap, sym, ◌∙◌, arith, inl, inr, nat_le, nat_lt, Some}
 use Rattle.std.proofs.lemmas.Bool.{cases_lt, eqb-true, eq-eqb, leb-true, ltb-true}
@@ -56,7 +56,7 @@ triple b g r = record { blue = b; green = g; red = r }
 abbrev pixels_sent : List Column
 pixels_sent = replicate 3 (triple 0x1f0 0x1f0 0x1f0)
 
--- another word came in the first pixel's place, and a control word in the second one's
+-- another word was received in the first pixel's place, and a control word in the second one's
 abbrev pixels_received : List Column
 pixels_received = triple 0x1f0 0x100 0x1f0 ∷ (triple 0x354 0x1f0 0x1f0 ∷ (triple 0x1f0 0x1f0 0x1f0 ∷ []))
 
@@ -103,7 +103,7 @@ spelled = (
   (pixels_sent, last_columns, refl, spells_pixels, (control_columns last_runs, [], refl, refl, refl)),
 )
 
--- How they came.
+-- How they were received.
 
 long_sent : length sent ≡ 39
 unfolding sent values_of

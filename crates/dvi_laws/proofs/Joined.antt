@@ -1,4 +1,4 @@
--- What is told of columns that came is the account, period after period.
+-- What is reported of received columns is the account, period after period.
 use Rattle.std.proofs.Common.{◌≡◌, ℕ, ◌+◌, ◌-◌, ◌/◌, ◌≤◌, List, [], ◌∷◌, ◌++◌, length, take, drop, refl, ap, ap₂, sym, ◌∙◌, arith, inl, inr}
 use Rattle.std.proofs.lemmas.List.{append-nil, take_all, take-append-le}
 use Rattle.std.proofs.Math.Seq.{take-append-add}
@@ -18,7 +18,7 @@ use Rattle.dvi_laws.specs.DviAccount.{dvi_video_reported, dvi_row, dvi_account_f
 use Rattle.dvi_laws.proofs.Walk.{walk, walk_control, gap_law}
 use Rattle.dvi_laws.proofs.Lines.{dvi_gap}
 
--- a video period and the control period behind it, as sent and as they came
+-- a video period and the control period after it, as sent and as received
 pub record ReceivedPair (bytes : List ℕ) (runs : List ControlRun) (pp qq own cs : List Column) : Type 0 where
   pub some : 1 ≤ length bytes / 3
   pub few : length bytes / 3 ≤ 4096
@@ -28,7 +28,7 @@ pub record ReceivedPair (bytes : List ℕ) (runs : List ControlRun) (pp qq own c
   pub received : length cs ≡ length (values_of runs)
   pub all : AllControl cs
 
--- what follows a control period, as sent and as it came
+-- what follows a control period, as sent and as received
 pub data Received : List Period → List Column → List Column → Type 0 where
   ends : Received [] [] []
   goes_on :

@@ -1,4 +1,4 @@
--- The lanes of a stream without guard bands that came with sparse damage: each is one in which an edge is the end of a
+-- The lanes of a stream without guard bands, received with sparse damage: each is one in which an edge is the end of a
 -- control period, by the laws of a link's lanes as they stand.
 use Rattle.std.proofs.Common.{◌≡◌, ℕ, suc, zero, ◌+◌, ◌-◌, ◌*◌, ◌/◌, ◌<◌, ◌≤◌, Bool, true, false, List, [], ◌∷◌, ◌++◌, length, map, get_or, replicate, sym, ◌∙◌, subst, arith, ◌⊎◌, nat_lt, take}
 use Rattle.std.proofs.lemmas.Bool.{ltb-true}

@@ -1,4 +1,4 @@
--- What is told of the bits of three lanes that came with sparse damage is the account.
+-- What is reported of the bits of three lanes received with sparse damage is the account.
 use Rattle.std.proofs.Common.{◌≡◌, ℕ, ◌+◌, ◌-◌, ◌*◌, ◌<◌, ◌≤◌, Bool, List, length, map, take, drop, ap, sym, ◌∙◌, subst, arith, slice_index}
 use Rattle.std.proofs.lemmas.List.{length-map, get_or-map}
 use Rattle.tmds_word.specs.Column.{Column}

@@ -1,4 +1,4 @@
--- What is told of control columns, a gap, and what comes after them, under every rule (the law of joining, once).
+-- What is reported of control columns, a gap, and what follows them, under every rule (the law of joining, once).
 use Rattle.std.proofs.Common.{◌≡◌, ℕ, suc, zero, ◌+◌, ◌-◌, ◌<◌, ◌≤◌, true, List, [], ◌∷◌, ◌++◌, length, map, take, refl, ap, sym, ◌∙◌, append_assoc, arith, inl, inr}
 use Rattle.std.proofs.lemmas.List.{append-nil, map-append, take-append-le, length-take}
 use Rattle.std.proofs.Math.Seq.{take-append-add}
@@ -16,7 +16,7 @@ use Rattle.link_laws.proofs.Rows.{and_both}
 use Rattle.period_grammar.specs.Gaps.{Gaps, going_by, reported_by, end_by}
 use Rattle.period_grammar.proofs.Hearings.{events_at}
 
--- what is told of stretches from column j on, with what the end tells
+-- what is reported of stretches from column j on, with what is reported at the end
 abbrev pub walk : Gaps → ℕ → List Cut → List Event
 walk g j xs = map event_of (reported_by g j xs) ++ end_by g j xs
 
@@ -42,7 +42,7 @@ walk_control g j control all =
     by [] = refl
     by (c ∷ cs) = refl
 
--- what a rule tells of a gap while it goes on
+-- what a rule reports of a gap while it goes on
 abbrev pub gap_events : Gaps → ℕ → List Column → List Column → List Event
 gap_events g b control gap = map event_of (g.going b control gap)
 
@@ -88,7 +88,8 @@ gap_on g j (c ∷ cs) [] next long all one none h = absurd (omega arith)
 gap_on g j (c ∷ cs) (x ∷ gap) next long all one none h =
     ap (walk g j) (cut_both c cs x gap next all none (begins_heads next h)) ∙ walk_on g j (c ∷ cs) x gap (stretches next) (some_cut next h)
 
--- What has to be shown of each kind of period: of its columns as they came, and its row by how many of them came.
+-- What has to be shown of each kind of period: of its columns as received, and its row by how many of
+-- them were received.
 pub record IsGapBy (g : Gaps) (before rs : List Column) (row : ℕ → ℕ → List Event) : Type 0 where
   pub quiet : NoneControl rs
   pub one : 1 ≤ length rs
@@ -104,7 +105,7 @@ take_quiet (suc k) (c ∷ cs) h = and_both _ _ (and-left _ _ h) (take_quiet k cs
 heads_take : (k : ℕ) (cs : List Column) → 1 ≤ k → heads cs ≡ true → heads (take k cs) ≡ true
 heads_take k cs h l = grind arith
 
--- what is told of control columns, of the first k columns behind them, and of what comes after them
+-- what is reported of control columns, of the first k columns after them, and of what follows them
 pub gap_law : (g : Gaps) (cs rs : List Column) (row : ℕ → ℕ → List Event) → 1 ≤ length cs → AllControl cs → IsGapBy g cs rs row
     → (j k : ℕ) (next : List Column) → heads next ≡ true
     → walk g j (stretches (cs ++ take k (rs ++ next)))

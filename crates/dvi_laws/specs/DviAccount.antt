@@ -1,4 +1,4 @@
--- The account of a stream without guard bands: what one who knows the periods writes of the columns that came.
+-- The account of a stream without guard bands: what one who knows the periods writes of the received columns.
 use Rattle.std.specs.Prelude.{ℕ, zero, suc, ◌+◌, ◌-◌, cond, List, [], ◌∷◌, ◌++◌, length, take, drop, nat_lt}
 use Rattle.tmds_word.specs.Column.{Column}
 use Rattle.island_pack.specs.Periods.{Period, control, video, island, Pixel, pixels_of}
@@ -11,7 +11,7 @@ use Rattle.source_end.specs.DviPeriods.{dvi_columns}
 unfoldable pub dvi_video_row : ℕ → List Pixel → List Column → List Column → List Event
 dvi_video_row b pixels ss rs = line (pixel_bytes pixels ss rs) ∷ codes_of b rs
 
--- a video period from column b on, of which m columns came: its row is told at the column behind it
+-- a video period from column b on, of which m columns were received: its row is reported at the column after it
 unfoldable pub dvi_video_reported : ℕ → ℕ → List Pixel → List Column → List Column → List Event
 dvi_video_reported b zero pixels ss rs = []
 dvi_video_reported b (suc i) pixels ss rs = cond (nat_lt (length pixels) (suc i)) (dvi_video_row b pixels ss rs) (cut b ∷ [])
@@ -21,7 +21,7 @@ dvi_row j m (control runs) ss rs = control_row j (take m rs)
 dvi_row j m (video bytes) ss rs = dvi_video_reported j m (pixels_of bytes) ss rs
 dvi_row j m (island x) ss rs = []
 
--- periods from column j on, of which m columns came
+-- periods from column j on, of which m columns were received
 unfoldable pub dvi_account_from : ℕ → ℕ → List Period → List Column → List Column → List Event
 dvi_account_from j m [] ss rs = []
 dvi_account_from j m (p ∷ ps) ss rs =
@@ -34,7 +34,7 @@ dvi_account_at p a m ps ss rs =
     control_row 0 (take m (drop a (take (dvi_columns p) rs)))
     ++ dvi_account_from (dvi_columns p - a) (m - (dvi_columns p - a)) ps (drop (dvi_columns p) ss) (drop (dvi_columns p) rs)
 
--- m columns from column a on, which lies in a control period; ss were sent and rs came
+-- m columns from column a on, which lies in a control period; ss were sent and rs received
 unfoldable pub dvi_account : List Period → List Column → List Column → ℕ → ℕ → List Event
 dvi_account [] ss rs a m = []
 dvi_account (p ∷ ps) ss rs a m =

@@ -12,8 +12,8 @@ use Rattle.source_end.specs.DviPeriods.{IsDviConforming, DviSpells, dvi_kinds, I
 use Rattle.dvi_hearing.specs.DviHeard.{dvi_heard}
 use Rattle.dvi_laws.specs.DviAccount.{dvi_account}
 
--- what is told of the columns that came from twelve before the end of a control period on is the account. Of damage only
--- this is asked, that no column has two damaged words
+-- what is reported of the columns received from twelve before the end of a control period on is the account. Of damage
+-- only this is asked, that no column has two damaged words
 abbrev pub DviLinkLaw : Type 0
 DviLinkLaw =
     (ps : List Period) (sent received : List Column) → IsDviConforming ps → HasThree ps → DviSpells ps sent
@@ -44,7 +44,7 @@ DviFirstEnds =
     → (i : ℕ) × EndsAt (dvi_kinds ps) i × (d + from1 ≡ 10 * (i + 1)) × (e + from2 ≡ 10 * (i + 1)) × (f + from3 ≡ 10 * (i + 1))
 
 -- From the bits to the account: the aligned columns begin twelve columns before the end of a control period, and what is
--- told of them is the account from there on.
+-- reported of them is the account from there on.
 pub record IsDviAccounted (ps : List Period) (sent received aligned : List Column) (a : ℕ) : Type 0 where
   pub ends : EndsAt (dvi_kinds ps) (a + 11)
   pub columns : aligned ≡ take (length aligned) (drop a received)
@@ -59,7 +59,7 @@ DviTapAccounted =
 
 -- Examples.
 
--- a column of a kind came unlike the one that was sent
+-- a column of a kind was received unlike the one that was sent
 abbrev pub HasDviUnlike : Kind → List Period → List Column → List Column → Type 0
 HasDviUnlike kind ps sent received = (i : ℕ) × (kind_at (dvi_kinds ps) i ≡ kind) × (column_at received i ≡ column_at sent i → ⊥)
 

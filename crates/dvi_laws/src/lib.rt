@@ -3,7 +3,7 @@
 
 ghost use Rattle.dvi_laws.specs.DviLaws.{DviLinkLaw, DviEdgesEnd, DviEndsApart, DviFirstEnds, DviTapAccounted, HasDviExample};
 
-/// What is told of the columns that came, from twelve before the end of a control period on, is the account.
+/// What is reported of the received columns, from twelve before the end of a control period on, is the account.
 pub fn dvi_link_law()
     ensures { DviLinkLaw }
 {}

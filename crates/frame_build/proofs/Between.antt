@@ -1,4 +1,4 @@
--- What is told between two changes.
+-- What is reported between two changes.
 use Rattle.std.proofs.Common.{arith, ◌≡◌, List, [], ◌∷◌, ◌++◌, Bool, true, false, ◌||◌, if◌then◌else◌, refl, sym, ap, subst, ◌∙◌, reverse}
 use Rattle.std.proofs.lemmas.Bool.{or_right}
 use Rattle.std.proofs.lemmas.List.{reverse-append, append_assoc, reverse-reverse}
@@ -11,7 +11,7 @@ reverse-around before event after =
     ∙ ap (λ (xs : List FrameEvent). xs ++ reverse before) (reverse-append (event ∷ []) after)
     ∙ append_assoc (reverse after) (event ∷ []) (reverse before)
 
--- no change is heard at any event of `later`, told after `past`; both have the newest first
+-- no change is heard at any event of `later`, reported after `past`; both have the newest first
 abbrev pub IsQuiet : List FrameEvent → List FrameEvent → Type 0
 IsQuiet [] past = Unit {0}
 IsQuiet (event ∷ later) past = (is_change event (later ++ past) ≡ false) × IsQuiet later past
@@ -35,7 +35,7 @@ IsQuiet-at : (newer : List FrameEvent) (event : FrameEvent) (older past : List F
 IsQuiet-at [] event older past quiet = quiet.0
 IsQuiet-at (first ∷ newer) event older past quiet = IsQuiet-at newer event older past quiet.1
 
--- the last change, and what was told since
+-- the last change, and what was reported since
 pub record LastChange (past : List FrameEvent) : Type 0 where
   pub later : List FrameEvent
   pub first : FrameEvent
@@ -63,7 +63,7 @@ last_change (event ∷ past) has = step (is_change event past) refl has (λ h. l
     step true opens has before = record { later = []; first = event; older = past; parts = refl; opens = opens; quiet = tt }
     step false same has before = before_change event past same (before has)
 
--- what is told between two changes is quiet
+-- what is reported between two changes is quiet
 pub quiet-between : (before : List FrameEvent) (first : FrameEvent) (between : List FrameEvent) (last : FrameEvent) → IsBetweenChanges before first between last → IsQuiet (reverse between) (first ∷ reverse before)
 quiet-between before first between last is =
     IsQuiet-each (reverse between) (first ∷ reverse before)

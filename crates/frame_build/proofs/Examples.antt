@@ -1,4 +1,4 @@
--- The definitions at small lists of told events; the values come from a model in another language.
+-- The definitions at small lists of reported events; the values were computed by a model in another language.
 use Rattle.std.proofs.Common.{◌≡◌, [], ◌∷◌, Some, None, true, false, refl}
 use Rattle.frame_build.specs.FrameEvent.{run, line, word_fault, other}
 use Rattle.frame_build.specs.Group.{frame_at, line_at}

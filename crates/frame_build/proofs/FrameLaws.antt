@@ -1,4 +1,4 @@
--- What holds of the definitions for every list of told events.
+-- What holds of the definitions for every list of reported events.
 use Rattle.std.proofs.Common.{arith, ◌≡◌, List, [], ◌∷◌, ◌++◌, Bool, true, ◌&&◌, if◌then◌else◌, Option, Some, None, refl, reverse}
 use Rattle.std.proofs.lemmas.List.{reverse-reverse}
 use Rattle.frame_build.specs.FrameEvent.{FrameEvent, word_fault}
@@ -27,7 +27,7 @@ is_reported reported frame f h = grind arith
 both_true : (a b : Bool) → (a && b) ≡ true → (a ≡ true) × (b ≡ true)
 both_true a b h = grind arith
 
--- a frame that is told is that of the lines between two changes
+-- a frame that is reported is that of the lines between two changes
 pub EndsFrame-reported : (reported : List FrameEvent) (last : FrameEvent) (frame : FrameNote) → frame_at reported last ≡ Some frame → EndsFrame reported last frame
 unfolding some_if
 EndsFrame-reported reported last frame is =
@@ -44,7 +44,7 @@ EndsFrame-reported reported last frame is =
       frame_is = grind (arith, since_change-quiet);
     }
 
--- and that of the lines between two changes is told
+-- and that of the lines between two changes is reported
 pub frame_at-ends : (reported : List FrameEvent) (last : FrameEvent) (frame : FrameNote) → EndsFrame reported last frame → frame_at reported last ≡ Some frame
 unfolding some_if
 frame_at-ends reported last frame ends = grind (arith, reverse-around, quiet-between, since_change-quiet, has_change-after, reverse-reverse)

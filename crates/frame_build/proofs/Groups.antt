@@ -1,4 +1,4 @@
--- One told event more.
+-- One reported event more.
 use Rattle.std.proofs.Common.{arith, ◌≡◌, ℕ, List, [], ◌∷◌, ◌++◌, Bool, true, false, ◌||◌, if◌then◌else◌, reverse, filter_map, ap, ◌∙◌, append-nil}
 use Rattle.std.proofs.lemmas.List.{reverse-append}
 use Rattle.std.proofs.lemmas.List.Elements.{filter_map-append}
@@ -8,14 +8,14 @@ use Rattle.frame_build.specs.Group.{width_of, group, counts}
 use Rattle.frame_build.specs.State.{Sync, Lines}
 use Rattle.frame_build.specs.FramesRepresent.{FramesRepresent, IsSyncOf, IsGroup}
 
--- the newest event comes first
+-- the newest event is first
 pub reverse-more : (reported : List FrameEvent) (event : FrameEvent) → reverse (reported ++ event ∷ []) ≡ event ∷ reverse reported
 reverse-more reported event = reverse-append reported (event ∷ [])
 
 pub counts-more : (reported : List FrameEvent) (event : FrameEvent) → counts (reported ++ event ∷ []) ≡ (is_change event (reverse reported) || counts reported)
 counts-more reported event = ap has_change (reverse-more reported event)
 
--- the lines of what is told since the last change
+-- the lines of what is reported since the last change
 unfoldable pub widths_of : List FrameEvent → List ℕ
 widths_of past = filter_map width_of (reverse past)
 

@@ -1,4 +1,5 @@
--- A fault of one word among all that was told changes nothing. Lists have the newest event first, where none else is said.
+-- A fault of one word among all that was reported changes nothing. Lists have the newest event first, where none else
+-- is said.
 use Rattle.std.proofs.Common.{arith, ◌≡◌, ℕ, List, [], ◌∷◌, ◌++◌, Bool, ◌&&◌, ◌||◌, Option, None, if◌then◌else◌, refl, sym, ap, ap₂, ◌∙◌, reverse, append-nil, length}
 use Rattle.std.proofs.lemmas.List.{reverse-append}
 use Rattle.frame_build.specs.FrameEvent.{FrameEvent, word_fault, Mark, marks_of, marks}
@@ -37,7 +38,7 @@ since_change-fault : (later past : List FrameEvent) → widths_of (since_change 
 since_change-fault [] past = widths_of-more (since_change past) word_fault ∙ append-nil (widths_of (since_change past))
 since_change-fault (event ∷ later) past = grind (arith, widths_of, is_change-fault, widths_since, since_change-fault later past)
 
--- from here on the oldest event comes first
+-- from here on the oldest event is first
 counts-fault : (before after : List FrameEvent) → counts (before ++ word_fault ∷ after) ≡ counts (before ++ after)
 counts-fault before after =
     ap has_change (reverse-around before word_fault after) ∙ has_change-fault (reverse after) (reverse before) ∙ ap has_change (sym (reverse-append before after))

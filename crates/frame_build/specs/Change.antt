@@ -1,4 +1,4 @@
--- Where a VSYNC change is heard. `past` is all that was told before, the newest first.
+-- Where a VSYNC change is heard. `past` is all that was reported before, the newest first.
 -- That it takes three columns in a row is a rule of this project: one or two neighbouring wrong words make no change.
 use Rattle.std.specs.Prelude.{◌≡◌, ◌++◌, IsTrue, Bool, true, false, not, ◌&&◌, ◌||◌, nat_lt, List, [], ◌∷◌, reverse, Option, Some, None, if◌then◌else◌}
 use Rattle.frame_build.specs.FrameEvent.{FrameEvent, run, line, word_fault, other, vsync_of, Mark, marks, has_vsync}
@@ -42,16 +42,16 @@ abbrev pub has_change : List FrameEvent → Bool
 has_change [] = false
 has_change (event ∷ past) = is_change event past || has_change past
 
--- what was told since the last change, or since the start, the newest first
+-- what was reported since the last change, or since the start, the newest first
 abbrev pub since_change : List FrameEvent → List FrameEvent
 since_change [] = []
 since_change (event ∷ past) = if is_change event past then [] else event ∷ since_change past
 
--- whether a change is heard at an event that is told after `reported`, which has the oldest first
+-- whether a change is heard at an event that is reported after `reported`, which has the oldest first
 abbrev pub changes_at : List FrameEvent → FrameEvent → Bool
 changes_at reported event = is_change event (reverse reported)
 
--- `between` lies between two changes: one is heard at `first`, which is told after `before`, the next at `last`
+-- `between` lies between two changes: one is heard at `first`, which is reported after `before`, the next at `last`
 pub record IsBetweenChanges (before : List FrameEvent) (first : FrameEvent) (between : List FrameEvent) (last : FrameEvent) : Type 0 where
   pub opens : IsTrue (changes_at before first)
   pub quiet : (front : List FrameEvent) (event : FrameEvent) (back : List FrameEvent) → between ≡ front ++ event ∷ back → changes_at (before ++ first ∷ front) event ≡ false

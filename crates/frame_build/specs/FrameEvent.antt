@@ -1,9 +1,9 @@
--- What is told of a link, as far as frames go, and VSYNC in it.
+-- What is reported of a link, as far as frames go, and VSYNC in it.
 -- Of the two control bits of lane 0 D0 is HSYNC and D1 is VSYNC (DVI 1.0, and HDMI 1.4, chapter 5). The value of a
 -- control column has HSYNC as bit 0, VSYNC as bit 1 and CTL0 to CTL3 as bits 2 to 5.
 use Rattle.std.specs.Prelude.{ℕ, ◌/◌, ◌%◌, ◌==◌, Bool, true, false, not, List, [], ◌∷◌, ◌++◌, replicate}
 
--- one told event: a run of control columns with its value and its number of columns, a line of so many
+-- one reported event: a run of control columns with its value and its number of columns, a line of so many
 -- pixels, a fault of one word, or anything else
 pub data FrameEvent : Type 0 where
   run : ℕ → ℕ → FrameEvent
@@ -28,7 +28,7 @@ marks_of (line width) = gap ∷ []
 marks_of word_fault = []
 marks_of other = gap ∷ []
 
--- the marks of all that was told, both with the newest first
+-- the marks of all that was reported, both with the newest first
 abbrev pub marks : List FrameEvent → List Mark
 marks [] = []
 marks (event ∷ past) = marks_of event ++ marks past

@@ -1,4 +1,4 @@
--- Which lists of told events the state of a `Frames` stands for.
+-- Which lists of reported events the state of a `Frames` stands for.
 use Rattle.std.specs.Prelude.{◌≡◌, ℕ, ◌+◌, min, Bool, not, List, [], ◌∷◌, length, reverse, if◌then◌else◌, Option, Some, None}
 use Rattle.frame_build.specs.FrameEvent.{FrameEvent, Mark, marks, has_vsync}
 use Rattle.frame_build.specs.Change.{last_heard}
@@ -27,7 +27,7 @@ pub record IsGroup (lines : Lines) (is_counting : Bool) (widths : List ℕ) : Ty
   pub first : lines.first ≡ first_of widths
   pub count : lines.count ≡ reported_count (length widths)
 
--- the state is that after all that was told, the oldest event first
+-- the state is that after all that was reported, the oldest event first
 pub record FramesRepresent (state : State) (reported : List FrameEvent) : Type 0 where
   pub sync : IsSyncOf state.sync (reverse reported)
   pub lines : IsGroup state.lines (counts reported) (group reported)

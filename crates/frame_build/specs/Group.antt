@@ -1,4 +1,4 @@
--- Groups of lines between changes, and what is said of them. `reported` is all that was told, the oldest first.
+-- Groups of lines between changes, and what is said of them. `reported` is all that was reported, the oldest first.
 use Rattle.std.specs.Prelude.{◌≡◌, ◌++◌, ℕ, ◌-◌, ◌^◌, ◌==◌, min, Bool, false, not, ◌&&◌, List, [], ◌∷◌, length, reverse, filter_map, Option, Some, None, if◌then◌else◌}
 use Rattle.frame_build.specs.FrameEvent.{FrameEvent, run, line, word_fault, other}
 use Rattle.frame_build.specs.Change.{changes_at, has_change, since_change, IsBetweenChanges}
@@ -15,7 +15,7 @@ width_of other = None
 abbrev pub widths : List FrameEvent → List ℕ
 widths reported = filter_map width_of reported
 
--- the group: the widths of the lines told since the last change, or since the start, the first line first
+-- the group: the widths of the lines reported since the last change, or since the start, the first line first
 abbrev pub group : List FrameEvent → List ℕ
 group reported = widths (reverse (since_change (reverse reported)))
 
@@ -23,7 +23,7 @@ group reported = widths (reverse (since_change (reverse reported)))
 abbrev pub counts : List FrameEvent → Bool
 counts reported = has_change (reverse reported)
 
--- a number of lines, as it is told: it stops at the greatest `u32`
+-- a number of lines, as it is reported: it stops at the greatest `u32`
 abbrev pub reported_count : ℕ → ℕ
 reported_count lines = min lines (2 ^ 32 - 1)
 
@@ -32,7 +32,7 @@ abbrev pub frame_of : List ℕ → Option FrameNote
 frame_of [] = None
 frame_of (first ∷ later) = Some (record { width = first; height = reported_count (length (first ∷ later)) })
 
--- the frame told at an event: that of the group before it, where a change is heard at it and the group counts
+-- the frame reported at an event: that of the group before it, where a change is heard at it and the group counts
 abbrev pub frame_at : List FrameEvent → FrameEvent → Option FrameNote
 frame_at reported event =
     if changes_at reported event && counts reported then frame_of (group reported) else None
@@ -51,7 +51,7 @@ abbrev pub is_unlike : List ℕ → ℕ → Bool
 is_unlike [] width = false
 is_unlike (first ∷ later) width = not (width == first)
 
--- what is said of a line that is told next
+-- what is said of a line that is reported next
 abbrev pub line_at : List FrameEvent → ℕ → LineNote
 line_at reported width =
     record {

@@ -1,8 +1,9 @@
 //! Lines into frames: a frame is the lines between two changes of VSYNC.
 //!
-//! A VSYNC value is heard when three columns in a row have it, with nothing told between them but faults of one word,
-//! and a change is heard when that value is not the one heard last. The definitions are over the whole list of events
-//! told (`specs/`); a `Frames` keeps a few numbers, and each call says what it answers for every list that these stand for.
+//! A VSYNC value is heard when three columns in a row have it, with nothing reported between them but faults of one
+//! word, and a change is heard when that value is not the one heard last. The definitions are over the whole list of
+//! events reported (`specs/`); a `Frames` keeps a few numbers, and each call says what it answers for every list that
+//! these stand for.
 #![tactic(auto)]
 
 ghost use Rattle.std.specs.Prelude.{◌≡◌, ◌++◌, ◌∷◌, [], List, ℕ};
@@ -36,7 +37,7 @@ pub struct LineNote {
     pub row: u32,
 }
 
-/// Hears what is told of a link, and says where frames end. It takes no memory.
+/// Hears what is reported of a link, and says where frames end. It takes no memory.
 #[derive(Clone, Debug, Drop)]
 pub struct Frames {
     sync: Sync,
@@ -54,7 +55,7 @@ impl Model for Frames {
 }
 
 impl Frames {
-    /// Nothing was told yet.
+    /// Nothing was reported yet.
     pub fn new() -> Frames
         ensures { FramesRepresent result [] }
     {
@@ -86,7 +87,7 @@ impl Frames {
         self.lines.add(width)
     }
 
-    /// Hears anything else that is told, but a fault of one word, which changes nothing.
+    /// Hears anything else that is reported, but a fault of one word, which changes nothing.
     pub fn other(&mut self)
         ensures { (reported : List FrameEvent) → FramesRepresent self.old reported → FramesRepresent self.new (reported ++ other ∷ []) }
     {

@@ -1,4 +1,4 @@
-//! Lists of told events, whose answers come from a model in another language.
+//! Lists of reported events, whose answers were computed by a model in another language.
 
 mod lists;
 
@@ -18,7 +18,7 @@ fn frame_of(size: &str) -> Result<Option<FrameNote>, Fail> {
     }
 }
 
-/// Tells an event of a list, and compares what is answered.
+/// Reports an event of a list, and compares what is answered.
 fn tell(rt: &impl Abort, frames: &mut Frames, event: &str, list: &str) -> Result<(), Fail> {
     let (reported, size) = event.split_once(" = ").unwrap_or((event, ""));
     let (name, numbers) = reported.split_once(' ').unwrap_or((reported, ""));

@@ -146,7 +146,7 @@ read_contents reading r content answers is = grind arith
 pub line_refused : (reading : Read (Mode × List Frame)) (line : ℕ) (cause : ListCause) → read_by rastered reading ≡ refuses line cause → reading ≡ refuses line cause
 line_refused reading line cause h = grind arith
 
--- a text that tells a content without a raster
+-- a text that describes a content without a raster
 pub record HasNoRaster (text : List ℕ) (fault : RasterFault) : Type 0 where
   pub mode : Mode
   pub frames : List Frame

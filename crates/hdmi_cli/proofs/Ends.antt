@@ -100,7 +100,7 @@ no_sample words command n named reads other = subst ReadsInput (command_once wor
 same_frames : (m n : ℕ) → Sample m ≡ Sample n → m ≡ n
 same_frames m n e = cc
 
--- the number of frames is told by the words
+-- the number of frames is given by the words
 frames_are : (words : List (List ℕ)) (m n : ℕ) → IsCommand words (Sample m) → IsCommand words (Sample n) → m ≡ n
 frames_are words m n one other = same_frames m n (command_once words (Sample m) (Sample n) one other)
 

@@ -55,7 +55,7 @@ all_read left rest read bytes h k l = grind (arith, append-nil)
 nothing_more : {A : Type 0} (x : A) (xs : List A) → [] ≡ x ∷ xs → ⊥
 nothing_more x xs h = cc
 
--- lanes that are aligned nowhere tell nothing at which an ear could stop
+-- of lanes that are aligned nowhere nothing is reported at which an ear could stop
 aligned_if_reported : (g : Grammar) (b : Bool) (x y z : List Bool) (columns : ℕ) (events taken rest : List Event) (next : Event) → reported_under g b x y z columns events → events ≡ taken ++ (next ∷ rest) → IsAlignedBy g x y z columns events
 aligned_if_reported g true x y z columns events taken rest next reported is = reported
 aligned_if_reported g false x y z columns events [] rest next reported is = absurd (nothing_more next rest (sym reported.reported ∙ is))

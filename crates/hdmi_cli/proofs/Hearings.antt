@@ -146,7 +146,7 @@ stops_short g goes_on took broke version counts j from left0 left1 sink first no
   heard = h.heard;
 }
 
--- nothing was fed yet, and nothing is told
+-- nothing was fed yet, and nothing is reported
 reported_none : {A : Type 0} (g : Grammar) (took : A → A → List Event → Type 0) (now : A) → took now now [] → IsHeardSoFar g took no_bits now now
 reported_none g took now none = record { events = []; reported = none_at_first g; taken = none }
 

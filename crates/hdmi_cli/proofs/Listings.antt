@@ -1,4 +1,4 @@
--- What a lister has written of what lanes tell.
+-- What a lister has written of what is reported of lanes.
 use Rattle.std.proofs.Common.{◌≡◌, ℕ, ◌+◌, ◌<◌, ◌≤◌, List, [], ◌∷◌, ◌++◌, length, take, refl, ap, sym, ◌∙◌, subst, inl, arith, append_assoc, append-nil, length-append}
 use Rattle.std.specs.Prelude.{Option}
 use Rattle.std.specs.Io.KnownBytes.{Appends, Keeps}
@@ -87,7 +87,7 @@ end_past listing after last first events n old mid new it g lt written then =
           (Appends-trans old mid new (listing.lines events) (take n (last events)) written then);
     }
 
--- what aligned lanes tell in all begins with what they tell so far
+-- what is reported of aligned lanes in all begins with what is reported of them so far
 pub record BeginsReported (g : Grammar) (fed : Fed) (events : List Event) : Type 0 where
   pub first : List Event
   pub reported : IsReportedBy g fed first

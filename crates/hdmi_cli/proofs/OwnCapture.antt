@@ -99,7 +99,7 @@ first_long : (runs : List ControlRun) (ps : List Period) → IsConforming (contr
 unfolding conforms is_control_period
 first_long runs ps h = grind (arith, and_parts, leb-true)
 
--- Nothing came other than it was sent.
+-- Nothing was received other than it was sent.
 
 own_received : (ps : List Period) (columns : List Column) → IsConforming ps → Spells ps columns → ReceivedOf ps columns columns
 own_received ps columns good spelled = undamaged ps columns good spelled

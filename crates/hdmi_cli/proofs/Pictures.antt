@@ -1,4 +1,4 @@
--- The rows and frames that `recover content` lists of a raster are those that came.
+-- The rows and frames that `recover content` lists of a raster are those that were received.
 use Rattle.std.proofs.Common.{◌≡◌, ◌≤◌, ℕ, ◌+◌, List, length, arith}
 use Rattle.std.specs.Prelude.{Option, Some, None}
 use Rattle.std.proofs.lemmas.Bool.{cases_lt}
@@ -26,11 +26,11 @@ use Rattle.hdmi_cli.specs.Endings.{Devices, RunEnds, Unless, status_of}
 use Rattle.hdmi_cli.specs.declared.ending.Ending.{Ending}
 use Rattle.hdmi_cli.proofs.Headline.{headlined, headlined_anywhere}
 
--- aligned columns are some of those that came
+-- aligned columns are some of those that were received
 pub within_received : (ps : List Period) (sent received aligned : List Column) (a : ℕ) → ReceivedOf ps sent received → IsAccounted ps sent received aligned a → a + length aligned ≤ length received
 within_received ps sent received aligned a reception accounted = grind (arith, fitting_length, fitting, length-take, length-drop, cases_lt, get_or_past)
 
--- what is recovered of a raster lists its rows and frames that came
+-- what is recovered of a raster lists its rows and frames that were received
 pub pictures_are : (mode : Mode) (frames : List Frame) → raster_fault mode frames ≡ None → (t : TappedStream) → t.periods ≡ raster_of mode frames
     → (d e f a status : ℕ) (old new : Option (List ℕ)) → ReceivedOf t.periods t.sent t.received → IsRecovered content_listing t d e f a status old new
     → ArePictures mode frames t d e f a old new
@@ -68,7 +68,7 @@ pictured_anywhere words ending before after status ends is named mode frames non
     (λ h. (h.0, h.1, h.2, h.3, (h.4.0, h.4.1, pictures_are mode frames none t raster h.0 h.1 h.2 h.4.0 status before.held after.held tapped.reception h.4.2)))
     (headlined_anywhere content_listing RecoverContent (λ t tapped o does. does) words ending before after status ends is named t tapped until aligns left)
 
--- what is recovered lists the packets that came
+-- what is recovered lists the received packets
 packets_are : (t : TappedStream) (d e f a status : ℕ) (old new : Option (List ℕ)) → ReceivedOf t.periods t.sent t.received → IsRecovered content_listing t d e f a status old new → ArePackets t d e f a old new
 unfolding content_text
 packets_are t d e f a status old new reception h =

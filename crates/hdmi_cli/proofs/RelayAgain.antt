@@ -43,7 +43,7 @@ cut_spelled a runs ps cs le h = grind (arith, length-map, drop-append-le, map-dr
 
 -- With an edge.
 
--- a period behind the first has columns
+-- a period after the first has columns
 columns_more : (runs : List ControlRun) (q : Period) (ps : List Period) → IsConforming (control runs ∷ (q ∷ ps)) → length (values_of runs) < columns_of (control runs ∷ (q ∷ ps))
 unfolding conforms columns_of period_columns
 columns_more runs q ps h = grind arith

@@ -1,4 +1,5 @@
--- What `relay` makes of a tapped stream: what came of the periods that were sent, from the first full alignment on.
+-- What `relay` makes of a tapped stream: what was received of the periods that were sent, from the first
+-- full alignment on.
 use Rattle.std.proofs.Common.{arith, ◌≡◌, ◌<◌, ◌≤◌, ◌⊎◌, ℕ, ◌+◌, Bool, List, [], length, ap, sym, ◌∙◌, subst, inl, inr}
 use Rattle.std.specs.Prelude.{Option, Some}
 use Rattle.std.proofs.lemmas.List.{append-nil}

@@ -30,7 +30,7 @@ lanes x y z = record { blue = x; green = y; red = z }
 grown : (x y z : List Bool) (fed : Fed) → LanesBegin x y z fed.blue fed.green fed.red → AreGrown fed (lanes x y z)
 grown x y z fed h = record { blue = h.blue; green = h.green; red = h.red }
 
--- the same lanes are told the same
+-- the same is reported of the same lanes
 pub same_reported : (x y z u v w : List Bool) (columns : ℕ) (events : List Event) → AreSame x y z u v w → IsAlignedReported u v w columns events → IsAlignedReported x y z columns events
 same_reported x y z u v w columns events same h =
     subst (λ a. IsAlignedReported a y z columns events) (sym same.blue) (subst (λ b. IsAlignedReported u b z columns events) (sym same.green) (subst (λ c. IsAlignedReported u v c columns events) (sym same.red) h))
@@ -38,7 +38,7 @@ same_reported x y z u v w columns events same h =
 more_passes : (events all : List Event) → Begins events all → 20000000 < columns_of (relayed events) → 20000000 < columns_of (relayed all)
 more_passes events all b passes = grind (arith, columns_grow)
 
--- what the aligned columns tell, all of them, is relayed past the limit
+-- what is reported of the aligned columns, all of them, is relayed past the limit
 pub passes_whole : (x y z : List Bool) (d e f : ℕ) (bytes : List ℕ) → IsCaptureOf x y z bytes → IsFirst x y z d e f → PassesLimit bytes
     → 20000000 < columns_of (relayed (heard (aligned_columns x y z d e f)))
 passes_whole x y z d e f bytes captured first p = elim (p.reported) [

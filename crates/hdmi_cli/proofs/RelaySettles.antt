@@ -27,7 +27,7 @@ use Rattle.hdmi_cli.proofs.Headline.{run_ended}
 use Rattle.hdmi_cli.proofs.RelayAgain.{comes_back, stays_nowhere}
 use Rattle.hdmi_cli.proofs.RelayClean.{relay_passes}
 
--- What was relayed comes back with its first control period cut to its last twelve columns.
+-- What was relayed is preserved with its first control period cut to its last twelve columns.
 
 record Back (runs : List ControlRun) (ps : List Period) (o : RunOutcome) : Type 0 where
   status_is : o.status ≡ 0

@@ -145,7 +145,7 @@ refused_sent fault first now before after fresh kept bad = (
   },
 )
 
--- too much was told: some things, and with one more too many columns
+-- too much was reported: some things, and with one more too many columns
 
 passes : (first between now : RelayValue) (events taken rest : List Event) (next : Event) → RelayRepresents first [] → Took first between taken → IsTooLong between next → events ≡ taken ++ next ∷ rest
     → 20000000 < columns_of (relayed events)

@@ -55,7 +55,7 @@ length_part : (words : List ℕ) (from count : ℕ) → from + count ≤ 10 * le
 length_part words from count within =
     length-take-le count (drop from (row_bits words)) (omega (arith, length-drop from (row_bits words), length-row_bits words))
 
--- where the columns go on behind the beginning of the latest lane
+-- where the columns go on after the beginning of the latest lane
 long_lanes : (columns : List Column) → 123527 ≤ 10 * length columns → length columns ≤ 20000000 → Lanes columns
 long_lanes columns long few =
     let n = length columns in

@@ -1,4 +1,5 @@
--- The samples that `recover biphase K` writes of a tapped stream are those of the packets that came, each with at most one damaged word as it was sent.
+-- The samples that `recover biphase K` writes of a tapped stream are those of the received packets, each with at most
+-- one damaged word as it was sent.
 use Rattle.std.proofs.Common.{arith, ◌≡◌, ◌≤◌, ℕ, ◌+◌, List, [], ◌∷◌, length, refl, ap, ◌∙◌, subst, append-nil}
 use Rattle.std.specs.Prelude.{flat_map, Option, Some}
 use Rattle.std.specs.Io.KnownBytes.{Appends}
@@ -25,7 +26,7 @@ use Rattle.hdmi_cli.specs.declared.ending.Ending.{Ending}
 use Rattle.hdmi_cli.proofs.Headline.{headlined, headlined_anywhere}
 use Rattle.hdmi_cli.proofs.Pictures.{unless_so, within_received}
 
--- what is told has the samples of the packets that are told
+-- what is reported has the samples of the packets that are reported
 
 of_events : (pair : ℕ) (events : List Event) → reported_samples pair events ≡ flat_map (samples_reported pair) (reported_packets events)
 unfolding reported_samples reported_packets samples_at
@@ -44,7 +45,7 @@ each_has : (pair : ℕ) (sent received : List Column) (a : ℕ) (ks : List Place
 each_has pair sent received a [] h = tt
 each_has pair sent received a (k ∷ ks) h = grind (arith, samples_of_payload, each_has pair sent received a ks)
 
--- what is recovered has the samples that came
+-- what is recovered has the received samples
 samples_are : (pair : ℕ) (t : TappedStream) (d e f a status : ℕ) (old new : Option (List ℕ)) → ReceivedOf t.periods t.sent t.received
     → IsRecovered (biphase_listing pair) t d e f a status old new → AreSamples pair t d e f a status old new
 unfolding biphase_text

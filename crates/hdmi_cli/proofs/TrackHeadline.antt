@@ -20,7 +20,7 @@ use Rattle.hdmi_cli.specs.Listings.{link_listing}
 use Rattle.hdmi_cli.specs.Outcome.{RunOutcome, ListsLanes, ListsCapture, TracksLanes, TracksCapture, status_with}
 use Rattle.hdmi_cli.specs.TrackText.{event_faults, event_lines, track_faults, track_text}
 
--- what is told of one epoch
+-- what is reported of one epoch
 pub record IsEpoch (x : Fed) (aligned : ℕ) (track_events : List TrackEvent) : Type 0 where
   pub outcome : Hearing
   pub events : List Event
@@ -58,7 +58,7 @@ no_end_same x y same none zero lt = subst HasNoStray same.blue (none zero lt)
 no_end_same x y same none (suc zero) lt = subst HasNoStray same.green (none (suc zero) lt)
 no_end_same x y same none (suc (suc l)) lt = subst HasNoStray same.red (none (suc (suc l)) lt)
 
--- of lanes that have no end the events are listed as `recover link` lists what they tell
+-- of lanes that have no end the events are listed as `recover link` lists what is reported of them
 pub lists_as_link : (bytes : List ℕ) (x : Fed) → IsCaptureOf x.blue x.green x.red bytes → HasNoEnd x → (o : RunOutcome) → TracksCapture bytes o → ListsCapture link_grammar link_listing bytes o
 lists_as_link bytes x holds none o (inl (fed, captured, lanes)) =
     let same = one_capture x.blue x.green x.red fed.blue fed.green fed.red bytes holds captured in

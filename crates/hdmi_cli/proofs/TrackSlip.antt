@@ -27,7 +27,7 @@ use Rattle.hdmi_cli.specs.declared.ending.Ending.{Ending}
 use Rattle.hdmi_cli.proofs.Headline.{aligned_same, run_ended}
 use Rattle.hdmi_cli.proofs.TrackHeadline.{epoch_reported}
 
--- what is told of two epochs
+-- what is reported of two epochs
 record IsTwice (begun : Bool) (z : ℕ) (y : Fed) (lane start aligned : ℕ) (track_events : List TrackEvent) : Type 0 where
   one : Hearing
   two : Hearing
@@ -52,7 +52,7 @@ twice_whole y lane start aligned track_events h =
     let e : 0 + start ≡ start = omega arith in
     h.track_events_are ∙ ap (λ n. track_events_of h.first ++ (slip_if h.one.aligned lane n ++ track_events_of h.second)) e
 
--- what is told of lanes with a full alignment
+-- what is reported of lanes with a full alignment
 reported_at : (b : Bool) (xs ys zs : List Bool) (columns : ℕ) (events : List Event) (d e f : ℕ) → reported_by b xs ys zs columns events → IsFirst xs ys zs d e f
     → events ≡ heard (aligned_columns xs ys zs d e f)
 reported_at true xs ys zs columns events d e f reported first = reported.reported ∙ ap heard (aligned_same xs ys zs reported.d reported.e reported.f d e f reported.first first)

@@ -30,7 +30,7 @@ use Rattle.hdmi_cli.specs.declared.hearing.HearError.TheVariants.{Bad, Read, Ear
 use Rattle.hdmi_cli.proofs.Heard.{all_read, no_faults, some_faults, rose_after}
 use Rattle.hdmi_cli.proofs.Listings.{kept_nothing, shorter, front_of}
 
--- lanes of which no epoch is aligned tell nothing
+-- of lanes of which no epoch is aligned nothing is reported
 
 one_of : (b : Bool) → one_if b ≡ 0 → b ≡ false
 unfolding one_if
@@ -132,7 +132,7 @@ aligned_ends fed epochs aligned track_events mid middle before now r faults trac
 
 -- a capture that was not followed to its end
 
--- what stands as an ear takes events, from one that was told nothing on
+-- what stands as an ear takes events, from one to which nothing was reported on
 pub record WritesTrackEvents {A : Type 0} (tracked : A → A → List TrackEvent → Type 0) (lost : A → A → TrackEvent → Type 0) (held : A → Option (List ℕ)) : Type 0 where
   pub grows : (x y : A) (h : List TrackEvent) → tracked x y h → Appends (held x) (held y) (track_lines h)
   pub breaks : (x y : A) (e : TrackEvent) → lost x y e → (n : ℕ) × (n < length (track_event_text e)) × Appends (held x) (held y) (take n (track_event_text e))

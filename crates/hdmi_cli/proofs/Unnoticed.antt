@@ -1,5 +1,5 @@
--- A slip within a line that is not noticed, and what the lanes tell: where the lane had no lock before it, what a tap with the skews after
--- the slip does; where it had one, the account as far as columns end before the slip.
+-- A slip within a line that is not noticed, and what is reported of the lanes: where the lane had no lock before it,
+-- what a tap with the skews after the slip does; where it had one, the account as far as columns end before the slip.
 use Rattle.std.proofs.Common.{◌≡◌, ◌⊎◌, ◌↔◌, ℕ, suc, zero, ◌+◌, ◌-◌, ◌*◌, ◌/◌, ◌<◌, ◌≤◌, Bool, true, List, [], ◌∷◌, length, take, drop, get_or, ap, ap₂, ◌∙◌, sym, subst, arith, inl, inr, length-drop}
 use Rattle.std.specs.Prelude.{slice_index}
 use Rattle.std.proofs.lemmas.Bool.{cases_lt}
@@ -70,7 +70,7 @@ character_apart words marks from many place dropped s r j run lt = elim (cases_l
   ]
 ]
 
--- its runs are those of the lane that came later from the beginning
+-- its runs are those of the lane that was later from the beginning
 run_later : (words : List ℕ) (marks : List Bool) (from many place dropped : ℕ) → Slips words marks from many place dropped
     → ((lock : ℕ) → IsLock (part_of words from many) lock → lock + 120 ≤ place → ⊥)
     → (p : ℕ) → IsRun (slipped_part words from many place dropped) p → (place ≤ p) × IsRun (drop dropped (part_of words from many)) p
@@ -177,7 +177,7 @@ lane_like ps sent received offset skews counts x y lane place dropped first next
     (subst (λ us. IsLike words (from + dropped) (many - dropped) us (drop dropped (lane_of x lane))) (sym mine)
     (subst (λ us. IsLike words (from + dropped) (many - dropped) (slipped_part words from many place dropped) (drop dropped us)) (sym own) is))
 
--- What the lanes tell.
+-- What is reported of the lanes.
 
 same_edges : (xs ys : List Bool) → ys ≡ xs → (e : ℕ) → IsEdge ys e ↔ IsEdge xs e
 same_edges xs ys same e = (λ h. subst (λ us. IsEdge us e) same h, λ h. subst (λ us. IsEdge us e) (sym same) h)
@@ -188,7 +188,7 @@ alike_columns : (xs ys zs us vs ws : List Bool) (d e f : ℕ)
 unfolding aligned_columns
 alike_columns xs ys zs us vs ws d e f blue green red = λ i. columns_of (blue i) (green i) (red i)
 
--- what is told from the first full alignment on is the account, where the lane had no lock before it slipped
+-- what is reported from the first full alignment on is the account, where the lane had no lock before it slipped
 pub passed_reported : (ps : List Period) (sent received : List Column) (offset : ℕ) (skews counts : List ℕ) (x y : Fed) (lane place dropped first next : ℕ)
     → Received ps sent received offset skews counts x → Slipped x lane place dropped y
     → SlipsInVideo ps sent received offset skews counts lane place dropped first next
@@ -235,7 +235,7 @@ passed_reported ps sent received offset skews counts x y (suc (suc zero)) place 
 passed_reported ps sent received offset skews counts x y (suc (suc (suc l))) place dropped first next reception slip s none d e f alignment =
     let lt = slip.within in absurd (omega arith)
 
--- Where the lane ends before the twelfth character of the control period behind the line.
+-- Where the lane ends before the twelfth character of the control period after the line.
 
 -- the first stray would begin with that period, or with the last characters before it
 short_none : (words : List ℕ) (marks : List Bool) (from many place dropped : ℕ) → Slips words marks from many place dropped
@@ -276,7 +276,7 @@ short_passes ps sent received offset skews counts x y lane place dropped first n
           (λ p stray. short_none (words_at received lane) (marks_at sent received lane) (offset + slice_index skews lane) (slice_index counts lane) place dropped slips next b short (p + 1) p (omega arith) stray)
     ]
 
--- What the lanes tell there of the columns that end before the slip.
+-- What is reported of the lanes there of the columns that end before the slip.
 
 -- the edges of the lane are those of the bits before the slip
 short_edges : (words : List ℕ) (marks : List Bool) (from many place dropped : ℕ) → Slips words marks from many place dropped

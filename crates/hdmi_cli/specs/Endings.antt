@@ -115,7 +115,7 @@ pub record IsPart (command : Command) (before after : Devices) (text : List ℕ)
 abbrev pub Parts : Command → Devices → Devices → Type 0
 Parts command before after = (text : List ℕ) → before.left ≡ Some text → IsPart command before after text
 
--- a read failed: exactly what the whole blocks that were read tell so far was listed
+-- a read failed: exactly what is reported so far of the whole blocks that were read was listed
 pub record ListsRead (g : Grammar) (listing : ListingOf) (before after : Devices) : Type 0 where
   pub read : List ℕ
   pub consumed : Consumes before.left after.left read
@@ -132,8 +132,8 @@ pub record IsWrittenPast (listing : ListingOf) (first : List Event) (text : List
   pub missing : gone < length text
   pub written : Appends old new (take gone text)
 
--- a write failed: a part was written of the lines of what the blocks that were read tell so far, or at the end of the whole
--- text, and at least the lines of what was told before the last block that was read
+-- a write failed: a part was written of the lines of what is reported so far of the blocks that were read, or at the
+-- end of the whole text, and at least the lines of what was reported before the last block that was read
 pub record ListsPart (g : Grammar) (listing : ListingOf) (before after : Devices) : Type 0 where
   pub fed : Fed
   pub first : List Event
@@ -145,7 +145,7 @@ pub record ListsPart (g : Grammar) (listing : ListingOf) (before after : Devices
       ⊎ ((columns : ℕ) × IsAtEnd after.left × ((bytes : List ℕ) → before.left ≡ Some bytes → IsCaptureOf fed.blue fed.green fed.red bytes)
       × IsAlignedBy g fed.blue fed.green fed.red columns events × IsWrittenPast listing first (listing.text events) before.held after.held)
 
--- a read failed: what was told so far of the whole blocks that were read was listed
+-- a read failed: what was reported so far of the whole blocks that were read was listed
 pub record TracksRead (before after : Devices) : Type 0 where
   pub read : List ℕ
   pub consumed : Consumes before.left after.left read

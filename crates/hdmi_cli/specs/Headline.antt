@@ -23,8 +23,8 @@ use Rattle.hdmi_cli.specs.Relays.{relay_status, whole_tap}
 use Rattle.hdmi_cli.specs.Listings.{Listing}
 use Rattle.hdmi_cli.specs.Outcome.{status_with}
 
--- a tapped stream: the periods that were sent, the columns as they were sent and as they came, where in them each lane
--- begins and how many bits it has, and the bits and bytes of the capture
+-- a tapped stream: the periods that were sent, the columns as they were sent and as they were received, where in them
+-- each lane begins and how many bits it has, and the bits and bytes of the capture
 pub record TappedStream : Type 0 where
   pub periods : List Period
   pub sent : List Column
@@ -37,7 +37,7 @@ pub record TappedStream : Type 0 where
   pub red : List Bool
   pub bytes : List ℕ
 
--- its bytes are the capture, of either version, of a tap of columns that came of conforming periods with sparse damage
+-- its bytes are the capture, of either version, of a tap of columns of conforming periods received with sparse damage
 pub record IsTapped (t : TappedStream) : Type 0 where
   pub reception : ReceivedOf t.periods t.sent t.received
   pub tap : IsTap t.received t.offset t.skews t.counts t.blue t.green t.red
@@ -69,8 +69,8 @@ abbrev pub IsRecoveredBy : Listing → TappedStream → ℕ → ℕ → Option (
 IsRecoveredBy listing t until status old new =
     (d e f : ℕ) × IsFirstOf t d e f × ((a : ℕ) × (a + 12 ≤ until) × IsRecovered listing t d e f a status old new)
 
--- a tapped stream without guard columns: its bytes are the capture, of either version, of a tap of columns that came of
--- conforming periods whose lines have three pixels or more, with sparse damage of their pixels
+-- a tapped stream without guard columns: its bytes are the capture, of either version, of a tap of columns of
+-- conforming periods whose lines have three pixels or more, received with sparse damage of their pixels
 pub record IsDviTapped (t : TappedStream) : Type 0 where
   pub conforming : IsDviConforming t.periods
   pub three : HasThree t.periods
@@ -87,9 +87,10 @@ pub record IsDviRecovered (t : TappedStream) (d e f a status : ℕ) (old new : O
   pub status_is : status ≡ status_with (fault_lines (dvi_account t.periods t.sent t.received a (length (aligned_of t d e f))))
   pub written : Appends old new (link_text (dvi_account t.periods t.sent t.received a (length (aligned_of t d e f))))
 
--- the output grew by the capture of the columns that are spelled by what came of the periods of a tapped stream, from twelve
--- columns before the end of a control period on: whole periods with mended packets, whole preambles and guards, and Null
--- packets for lost ones (`conformed`, `reception`); and the status says whether a fault was told
+-- the output grew by the capture of the columns that are spelled by what was received of the periods of a tapped
+-- stream, from twelve columns before the end of a control period on: whole periods with mended packets, whole preambles
+-- and guards, and Null packets for lost ones (`conformed`, `reception`); and the status says whether a
+-- fault was reported
 pub record IsSentOn (t : TappedStream) (d e f a status : ℕ) (old new : Option (List ℕ)) : Type 0 where
   pub accounted : IsAccounted t.periods t.sent t.received (aligned_of t d e f) a
   pub begins : BeginColumn t.offset t.skews (a + 12) d e f

@@ -22,7 +22,7 @@ pub record AreFed {H : Type 0} (sink : LaneSinkSeen H) (counts : List ℕ) (j : 
   pub second : bits_fed sink 1 ≡ min (slice_index counts 1) (32768 * j)
   pub third : bits_fed sink 2 ≡ min (slice_index counts 2) (32768 * j)
 
--- the blocks below j were read since the source had some bytes left, and the ear took what they tell
+-- the blocks below j were read since the source had some bytes left, and the ear took what is reported of them
 pub record HasHeard {A H : Type 0} (g : Grammar) (goes_on : H → List Column → Type 0) (took : A → A → List Event → Type 0) (version : ℕ) (counts : List ℕ) (j : ℕ) (from left : Option (List ℕ)) (sink : LaneSinkSeen H) (old new : A) : Type 0 where
   pub taken : List ℕ
   pub fed : Fed
@@ -40,14 +40,14 @@ pub record HasHeardAll {A H : Type 0} (g : Grammar) (goes_on : H → List Column
   pub sunk : StandsBy goes_on sink fed
   pub heard : IsHeardSoFar g took fed old new
 
--- the bytes are no capture, and the ear took what the whole blocks before the fault tell
+-- the bytes are no capture, and the ear took what is reported of the whole blocks before the fault
 pub record IsRefusedAt {A : Type 0} (g : Grammar) (took : A → A → List Event → Type 0) (bytes : List ℕ) (fault : CaptureFault) (old new : A) : Type 0 where
   pub faulty : IsFault bytes fault
   pub fed : Fed
   pub before : AreBefore bytes (place_of fault) fed
   pub heard : IsHeardSoFar g took fed old new
 
--- a read failed, and it took what the whole blocks tell that were read
+-- a read failed, and it took what is reported of the whole blocks that were read
 pub record IsUnread {A : Type 0} (g : Grammar) (took : A → A → List Event → Type 0) (from left : Option (List ℕ)) (old new : A) : Type 0 where
   pub fed : Fed
   pub read : List ℕ
@@ -55,7 +55,7 @@ pub record IsUnread {A : Type 0} (g : Grammar) (took : A → A → List Event �
   pub are_read : AreRead read fed
   pub heard : IsHeardSoFar g took fed old new
 
--- a call of it failed in what one block more tells
+-- a call of it failed in what is reported of one block more
 pub record IsUntaken {A : Type 0} (g : Grammar) (took : A → A → List Event → Type 0) (broke : A → A → Event → Type 0) (from left : Option (List ℕ)) (old new : A) : Type 0 where
   pub before : Fed
   pub after : Fed
@@ -66,7 +66,7 @@ pub record IsUntaken {A : Type 0} (g : Grammar) (took : A → A → List Event �
   pub reported : IsReportedBy g after events
   pub broken : IsBroken g took broke before events old new
 
--- it took all that some lanes tell so far
+-- it took all that is reported of some lanes so far
 abbrev pub IsHeardSome : {A : Type 0} → Grammar → (A → A → List Event → Type 0) → A → A → Type 0
 IsHeardSome g took old new = (fed : Fed) × IsHeardSoFar g took fed old new
 

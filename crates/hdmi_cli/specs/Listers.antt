@@ -1,4 +1,4 @@
--- What a lister is told and what it writes: the lines of the events, each behind those before, and a last line.
+-- What is reported to a lister and what it writes: the lines of the events, each after those before, and a last line.
 use Rattle.std.proofs.Common.{◌≡◌, ◌∙◌, ℕ, ◌<◌, List, [], ◌∷◌, ◌++◌, length, take, drop, Bool, true, false, if◌then◌else◌, refl, ap, sym, subst, append-nil}
 use Rattle.std.specs.Prelude.{Option, codes}
 use Rattle.std.specs.List.{flat_map}
@@ -20,7 +20,7 @@ use Rattle.audio_packets.specs.declared.sample.Sample.{Sample}
 use Rattle.biphase_listing.specs.StreamText.{Lists as ListsSound, Breaks as BreaksSound, Recalls as RecallsSound, biphase_faults, biphase_text, samples_at, reported_samples}
 use Rattle.hdmi_cli.specs.Listings.{Listing, link_listing, check_listing, content_listing, biphase_listing}
 
--- the text of a listing: the lines of the events, each behind those before, and the last line
+-- the text of a listing: the lines of the events, each after those before, and the last line
 pub record IsText (listing : Listing) (after : List Event → List Event → List ℕ) (last : List Event → List ℕ) : Type 0 where
   pub whole : (events : List Event) → listing.text events ≡ listing.lines events ++ last events
   pub none : listing.lines [] ≡ []
@@ -78,7 +78,7 @@ content_both h k = ap text_of (lines_after_append [] h k) ∙ text_append (lines
 pub content_is_text : IsText content_listing after_content last_link
 content_is_text = record { whole = content_whole; none = no_content; both = content_both }
 
--- what stands of a listing as a lister takes events, from one that was told nothing on
+-- what stands of a listing as a lister takes events, from one to which nothing was reported on
 pub record Writes {A : Type 0} (listing : Listing) (after : List Event → List Event → List ℕ) (took : A → A → List Event → Type 0) (broke : A → A → Event → Type 0) (held : A → Option (List ℕ)) (old : A) : Type 0 where
   pub grows : (x : A) (h : List Event) → took old x h → Appends (held old) (held x) (listing.lines h)
   pub breaks :
@@ -104,7 +104,7 @@ one_after : (h : List Event) (t : Event) → text_of (lines_at h t) ≡ after_co
 unfolding lines_after
 one_after h t = ap text_of (sym (append-nil (lines_at h t)))
 
--- a lister of contents that was told nothing before
+-- a lister of contents to which nothing was reported before
 
 pub written_first : (past now : ContentState) (h : List Event) (before after : ℕ) (held holds : Option (List ℕ)) → Lists [] h now before after held holds → Appends held holds (content_listing.lines h)
 unfolding content_lines
@@ -126,7 +126,7 @@ broken_after past h t held holds it =
       subst (λ (bytes : List ℕ). Appends held holds (take it.n bytes)) line it.written,
     )
 
--- a biphase stream: behind events it grows by some bytes, and it has no last line
+-- a biphase stream: after events it grows by some bytes, and it has no last line
 
 abbrev pub after_biphase : ℕ → List Event → List Event → List ℕ
 after_biphase pair h k = drop (length (biphase_text pair h)) (biphase_text pair (h ++ k))

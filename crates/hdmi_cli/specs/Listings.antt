@@ -1,4 +1,4 @@
--- The listings that the program can write of what lanes tell.
+-- The listings that the program can write of what is reported of lanes.
 use Rattle.std.specs.Prelude.{ℕ, List}
 use Rattle.period_grammar.specs.Events.{Event}
 use Rattle.biphase_listing.specs.StreamText.{biphase_text, biphase_faults}
@@ -6,8 +6,8 @@ use Rattle.listing_writer.specs.Texts.{lines_of, link_text, fault_lines}
 use Rattle.listing_writer.specs.Checks.{check_lines, check_text}
 use Rattle.listing_writer.specs.ContentText.{content_lines, content_text, content_faults, text_of}
 
--- how events are listed: the lines of what is told so far, the whole text of all that is told, and how many of the lines are
--- of faults
+-- how events are listed: the lines of what is reported so far, the whole text of all that is reported, and how many of
+-- the lines are of faults
 pub record Listing : Type 0 where
   pub lines : List Event → List ℕ
   pub text : List Event → List ℕ

@@ -88,8 +88,8 @@ ListsLanes g listing x y z outcome =
     ⊎ ((columns : ℕ) × (events : List Event) × IsNowhereReported x y z columns events
     × (outcome ≡ record { status = 7; output = []; note = alignment_note }))
 
--- bytes are refused by the place at which they stop being a capture: what the whole blocks before it tell so far is listed,
--- and nothing of what an end would tell
+-- bytes are refused by the place at which they stop being a capture: what is reported so far of the whole blocks before
+-- it is listed, and nothing of what would be reported at an end
 pub record ListsBefore (g : Grammar) (listing : Listing) (bytes : List ℕ) (fault : CaptureFault) (outcome : RunOutcome) : Type 0 where
   pub is : IsFault bytes fault
   pub fed : Fed
@@ -123,8 +123,8 @@ TracksLanes fed outcome =
     × (((0 < aligned) × (outcome ≡ record { status = status_with (track_faults track_events); output = track_text track_events; note = [] }))
     ⊎ ((aligned ≡ 0) × (outcome ≡ record { status = 7; output = []; note = alignment_note }))))
 
--- bytes are a capture whose lanes are followed through slips, or are refused: what was told so far of the whole blocks before
--- is listed
+-- bytes are a capture whose lanes are followed through slips, or are refused: what was reported so far of the whole
+-- blocks before is listed
 abbrev pub TracksCapture : List ℕ → RunOutcome → Type 0
 TracksCapture bytes outcome =
     ((fed : Fed) × IsCaptureOf fed.blue fed.green fed.red bytes × TracksLanes fed outcome)

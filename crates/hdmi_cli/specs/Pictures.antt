@@ -1,4 +1,5 @@
--- Which rows, frames and packets `recover content` lists of the capture of a tap of a raster's columns, which came with sparse damage.
+-- Which rows, frames and packets `recover content` lists of the capture of a tap of a raster's columns, received with
+-- sparse damage.
 use Rattle.std.specs.Prelude.{◌≡◌, ◌+◌, ◌-◌, ◌≤◌, ℕ, List, ◌++◌, map, length, codes, Option}
 use Rattle.std.specs.List.{filter}
 use Rattle.std.specs.Io.KnownBytes.{Appends}
@@ -15,7 +16,7 @@ use Rattle.hdmi_cli.specs.Headline.{TappedStream, aligned_of}
 
 -- the output grew by the content listing of the account of the columns that are aligned at three edges, which begin with
 -- column a, twelve before the end of a control period; of its lines those of rows and frames, and of rows of another length
--- than the first of their frame, are the rows and frames of the raster that came
+-- than the first of their frame, are the rows and frames of the raster that was received
 pub record ArePictures (mode : Mode) (frames : List Frame) (t : TappedStream) (d e f a : ℕ) (old new : Option (List ℕ)) : Type 0 where
   pub accounted : IsAccounted t.periods t.sent t.received (aligned_of t d e f) a
   pub begins : BeginColumn t.offset t.skews (a + 12) d e f
@@ -24,8 +25,8 @@ pub record ArePictures (mode : Mode) (frames : List Frame) (t : TappedStream) (d
       filter tells_picture (content_lines (account t.periods t.sent t.received a (length (aligned_of t d e f))))
       ≡ map line_of (frames_received mode t.sent t.received a (a + length (aligned_of t d e f)) 0 frames)
 
--- the output grew by that listing, and of its packets those are told that came whole; each of which at most one word came
--- unlike has the lines of the packet as it was sent
+-- the output grew by that listing, and of its packets those are reported that were received whole; each of which at
+-- most one word was received unlike has the lines of the packet as it was sent
 pub record ArePackets (t : TappedStream) (d e f a : ℕ) (old new : Option (List ℕ)) : Type 0 where
   pub accounted : IsAccounted t.periods t.sent t.received (aligned_of t d e f) a
   pub begins : BeginColumn t.offset t.skews (a + 12) d e f

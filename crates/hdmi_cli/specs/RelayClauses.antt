@@ -19,7 +19,7 @@ use Rattle.hdmi_cli.specs.Relays.{IsRelayed, whole_tap}
 
 -- A tapped stream.
 
--- what is sent on of a tapped stream, from column a of what came on
+-- what is sent on of a tapped stream, from column a of what was received on
 abbrev pub sent_on : TappedStream → ℕ → ℕ → ℕ → ℕ → List Period
 sent_on t d e f a = conformed (reception t.periods t.sent t.received a (length (aligned_of t d e f)))
 
@@ -67,8 +67,8 @@ IsPassedOn cs status old new =
 abbrev pub past_twelve : List ControlRun → ℕ
 past_twelve runs = length (values_of runs) - 12
 
--- what was relayed has an edge, and comes back with its first control period cut to its last twelve columns: some things
--- are relayed as that, and the capture of it is written
+-- what was relayed has an edge, and is preserved with its first control period cut to its last twelve columns: some
+-- things are relayed as that, and the capture of it is written
 pub record ComesBack (runs : List ControlRun) (ps : List Period) (status : ℕ) (old new : Option (List ℕ)) : Type 0 where
   pub status_is : status ≡ 0
   pub events : List Event

@@ -10,7 +10,7 @@ use Rattle.island_pack.specs.Spelling.{SpellsBy, freely}
 use Rattle.relay_laws.specs.Spelled.{Agree}
 use Rattle.hdmi_cli.specs.Relays.{whole_tap}
 
--- a text is written, and no fault was told
+-- a text is written, and no fault was reported
 abbrev pub IsWritten : List ℕ → ℕ → Option (List ℕ) → Option (List ℕ) → Type 0
 IsWritten text status old new = (status ≡ 0) × Appends old new text
 

@@ -28,7 +28,7 @@ pub record IsRelayed (events : List Event) (output : List ℕ) : Type 0 where
   pub spelled : Spells (relayed events) columns
   pub output_is : output ≡ tapped_capture columns whole_tap
 
--- the first whole blocks of bytes, or all of a capture, tell events of which too many columns are relayed
+-- of the first whole blocks of bytes, or of all of a capture, events are reported of which too many columns are relayed
 pub record PassesLimit (bytes : List ℕ) : Type 0 where
   pub fed : Fed
   pub events : List Event
@@ -37,7 +37,7 @@ pub record PassesLimit (bytes : List ℕ) : Type 0 where
       ⊎ ((columns : ℕ) × IsCaptureOf fed.blue fed.green fed.red bytes × IsAlignedReported fed.blue fed.green fed.red columns events)
   pub passes : 20000000 < columns_of (relayed events)
 
--- bytes stop being a capture, and no more than the limit is relayed of what their whole blocks tell
+-- bytes stop being a capture, and no more than the limit is relayed of what is reported of their whole blocks
 pub record RelaysBefore (bytes : List ℕ) (fault : CaptureFault) : Type 0 where
   pub is : IsFault bytes fault
   pub fed : Fed

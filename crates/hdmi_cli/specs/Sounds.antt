@@ -1,5 +1,5 @@
--- Which samples `recover biphase K` writes of the capture of a tap of columns that conforming periods spell, which came with
--- sparse damage.
+-- Which samples `recover biphase K` writes of the capture of a tap of columns that conforming periods spell, received
+-- with sparse damage.
 use Rattle.std.specs.Prelude.{◌≡◌, ◌+◌, ◌≤◌, ℕ, List, flat_map, length, Option}
 use Rattle.std.specs.Io.KnownBytes.{Appends}
 use Rattle.audio_packets.specs.declared.sample.Sample.{Sample}
@@ -14,7 +14,8 @@ use Rattle.biphase_listing.specs.StreamText.{biphase_faults, samples_at}
 use Rattle.hdmi_cli.specs.Headline.{TappedStream, aligned_of}
 use Rattle.hdmi_cli.specs.Outcome.{status_with}
 
--- the samples of a pair of channels that a packet gives as it is told: none if it is of another type than 2 or has lost a block
+-- the samples of a pair of channels that a packet gives as it is reported: none if it is of another type than 2 or has
+-- lost a block
 abbrev pub samples_reported : ℕ → ReportedPacket → List Sample
 samples_reported pair reported = samples_at pair (packet reported.packet reported.verdicts reported.column)
 
@@ -22,9 +23,10 @@ samples_reported pair reported = samples_at pair (packet reported.packet reporte
 abbrev pub samples_sent : ℕ → Placed → List Sample
 samples_sent pair k = samples_at pair (packet k.packet spotless k.at)
 
--- the output grew by the biphase stream of the samples of the packets that came whole among the columns that are aligned at
--- three edges, which begin with column a, twelve before the end of a control period; each packet of which at most one word came
--- unlike gives the samples that it was sent with; and the status says whether a packet of samples has lost a block
+-- the output grew by the biphase stream of the samples of the packets that were received whole among the columns that
+-- are aligned at three edges, which begin with column a, twelve before the end of a control period; each packet of
+-- which at most one word was received unlike gives the samples that it was sent with; and the status says whether a
+-- packet of samples has lost a block
 pub record AreSamples (pair : ℕ) (t : TappedStream) (d e f a status : ℕ) (old new : Option (List ℕ)) : Type 0 where
   pub accounted : IsAccounted t.periods t.sent t.received (aligned_of t d e f) a
   pub begins : BeginColumn t.offset t.skews (a + 12) d e f

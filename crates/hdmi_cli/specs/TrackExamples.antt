@@ -23,7 +23,7 @@ HasSlipCase says = (t : TappedStream) × (s : LineSlip) × (y : Fed) × IsSlipCa
 abbrev pub HasNoticedSlip : Type 0
 HasNoticedSlip = HasSlipCase (λ t s y. IsNoticed t s)
 
--- one that is not, since the lane had no lock before, with a first full alignment behind it
+-- one that is not, since the lane had no lock before, with a first full alignment after it
 abbrev pub HasUnlockedSlip : Type 0
 HasUnlockedSlip = HasSlipCase (λ t s y. HasNoLockBefore t s × ((d e f : ℕ) × IsFirstIn y d e f))
 

@@ -24,8 +24,8 @@ IsLockBefore t s lock = IsLock (lane_of (lanes_of t) s.lane) lock × (lock + 120
 abbrev pub HasNoLockBefore : TappedStream → LineSlip → Type 0
 HasNoLockBefore t s = (lock : ℕ) → IsLockBefore t s lock → ⊥
 
--- the lane ends before it has twelve characters of the control period behind the line, those one or two right before that
--- period counted in which came as control characters
+-- the lane ends before it has twelve characters of the control period after the line, those one or two right before
+-- that period counted in which were received as control characters
 abbrev pub EndsBeforeTwelve : TappedStream → LineSlip → Type 0
 EndsBeforeTwelve t s =
     (early : ℕ) → early ≤ 2 → ((k : ℕ) → k < early → is_control (slice_index (words_at t.received s.lane) (s.next - 1 - k)) ≡ true)
@@ -35,7 +35,8 @@ EndsBeforeTwelve t s =
 abbrev pub IsUnnoticed : TappedStream → LineSlip → Type 0
 IsUnnoticed t s = HasNoLockBefore t s ⊎ EndsBeforeTwelve t s
 
--- the stream one lane of which came later, by the bits that were lost, from its first bit on, with the lanes that are there
+-- the stream one lane of which was later, by the bits that were lost, from its first bit on, with the lanes
+-- that are there
 abbrev pub later_stream : TappedStream → LineSlip → Fed → TappedStream
 later_stream t s y = record {
   periods = t.periods;
@@ -50,7 +51,7 @@ later_stream t s y = record {
   bytes = t.bytes;
 }
 
--- what is told of the columns that end before the slip on the lane is the account
+-- what is reported of the columns that end before the slip on the lane is the account
 pub record IsAccountedBefore (t : TappedStream) (s : LineSlip) (y : Fed) (d e f : ℕ) : Type 0 where
   pub a : ℕ
   pub ends : EndsControl t.periods (a + 11)
@@ -61,8 +62,8 @@ pub record IsAccountedBefore (t : TappedStream) (s : LineSlip) (y : Fed) (d e f 
 
 -- There is one epoch. The output grew by what `recover link` writes of the capture, no line of a slip with it, and the status
 -- is the same. Where the lane had no lock before it lost the bits, and the lanes have a first full alignment, that is the
--- listing of the account from there on: all is told as it was sent, as if the lane had come later from its first bit on.
--- Where it had one, what is told of the columns that end before the slip is the account.
+-- listing of the account from there on: all is reported as it was sent, as if the lane had been later from its first
+-- bit on. Where it had one, what is reported of the columns that end before the slip is the account.
 pub record IsTrackedAsOne (t : TappedStream) (s : LineSlip) (y : Fed) (status : ℕ) (old new : Option (List ℕ)) : Type 0 where
   pub one : HasNoEnd y
   pub link : RunOutcome

@@ -20,7 +20,7 @@ use Rattle.hdmi_cli.specs.Outcome.{status_with}
 use Rattle.hdmi_cli.specs.TrackText.{track_faults, track_text}
 
 -- a lane lost so many bits from a place on, within pixels of a line, of which the first one named is column `first`; column
--- `next` is the first of the control period behind that line
+-- `next` is the first of the control period after that line
 pub record LineSlip : Type 0 where
   pub lane : ℕ
   pub place : ℕ
@@ -32,8 +32,8 @@ pub record LineSlip : Type 0 where
 abbrev pub lanes_of : TappedStream → Fed
 lanes_of t = record { blue = t.blue; green = t.green; red = t.red }
 
--- columns that came of conforming periods with sparse damage of their payload, a tap of them, and the capture of its lanes
--- once one of them lost bits; the skews are small after that, and may differ by up to 79 bits before
+-- columns of conforming periods received with sparse damage of their payload, a tap of them, and the capture of its
+-- lanes once one of them lost bits; the skews are small after that, and may differ by up to 79 bits before
 pub record IsSlippedTap (t : TappedStream) (s : LineSlip) (y : Fed) : Type 0 where
   pub reception : ReceivedOf t.periods t.sent t.received
   pub tap : IsTap t.received t.offset t.skews t.counts t.blue t.green t.red
@@ -41,7 +41,7 @@ pub record IsSlippedTap (t : TappedStream) (s : LineSlip) (y : Fed) : Type 0 whe
   pub in_line : SlipsInVideo t.periods t.sent t.received t.offset t.skews t.counts s.lane s.place s.dropped s.first s.next
   pub captured : IsCaptureOf y.blue y.green y.red t.bytes
 
--- the lane had a lock before it lost the bits, and has the first twelve characters of the control period behind the line
+-- the lane had a lock before it lost the bits, and has the first twelve characters of the control period after the line
 pub record IsNoticed (t : TappedStream) (s : LineSlip) : Type 0 where
   pub lock : ℕ
   pub is_lock : IsLock (lane_of (lanes_of t) s.lane) lock
@@ -59,10 +59,10 @@ columns_in x d e f = length (aligned_columns x.blue x.green x.red d e f)
 abbrev pub track_events_across : Bool → List Event → ℕ → ℕ → List Event → List TrackEvent
 track_events_across aligned first lane start second = track_events_of first ++ (slip_if aligned lane start ++ track_events_of second)
 
--- There are two epochs. The second begins at the control period behind the line, or one or two characters before it. What is
--- told of the first is the account as far as columns end before the slip, what is told of the second is the account from
--- its first full alignment on. The output grew by the lines of both with the slip's between them, or by nothing where none
--- has a full alignment.
+-- There are two epochs. The second begins at the control period after the line, or one or two characters before it.
+-- What is reported of the first is the account as far as columns end before the slip, what is reported of the second is
+-- the account from its first full alignment on. The output grew by the lines of both with the slip's between them, or
+-- by nothing where none has a full alignment.
 pub record IsTrackedAcross (t : TappedStream) (s : LineSlip) (y : Fed) (status : ℕ) (old new : Option (List ℕ)) : Type 0 where
   pub start : ℕ
   pub begins : BeginsAgain t.received t.offset t.skews s.lane s.dropped s.next start

@@ -1,4 +1,4 @@
--- The text of what is told of lanes that may lose bits: the lines of a link listing, and a line for each slip.
+-- The text of what is reported of lanes that may lose bits: the lines of a link listing, and a line for each slip.
 use Rattle.std.proofs.Common.{◌≡◌, ◌∙◌, ℕ, ◌+◌, Bool, true, List, [], ◌∷◌, ◌++◌, length, refl, ap, sym, subst, append-nil, arith}
 use Rattle.std.specs.Prelude.{codes, count_by, take, ◌<◌, Option, Result, Ok, Err, OnOk, OnErr}
 use Rattle.std.specs.List.{flat_map}

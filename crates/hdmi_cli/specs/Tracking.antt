@@ -19,7 +19,7 @@ pub record AreFollowed (sink : TrackSinkSeen) (counts : List ℕ) (j : ℕ) : Ty
   pub second : bits_fed sink 1 ≡ min (slice_index counts 1) (32768 * j)
   pub third : bits_fed sink 2 ≡ min (slice_index counts 2) (32768 * j)
 
--- the blocks below j were read since the source had some bytes left, and the ear took what a sink told of them
+-- the blocks below j were read since the source had some bytes left, and the ear took what a sink reported of them
 pub record HasFollowed {A : Type 0} (tracked : A → A → List TrackEvent → Type 0) (version : ℕ) (counts : List ℕ) (j : ℕ) (from left : Option (List ℕ)) (sink : TrackSinkSeen) (old new : A) : Type 0 where
   pub taken : List ℕ
   pub fed : Fed
@@ -39,20 +39,20 @@ pub record HasFollowedAll {A : Type 0} (tracked : A → A → List TrackEvent �
   pub sunk : TrackSinkRepresents sink fed track_events
   pub heard : tracked old new track_events
 
--- an ear took what was told of bits so far: all but what the last of them decide
+-- an ear took what was reported of bits so far: all but what the last of them decide
 pub record IsTrackedSoFar {A : Type 0} (tracked : A → A → List TrackEvent → Type 0) (fed : Fed) (old new : A) : Type 0 where
   pub track_events : List TrackEvent
   pub reported : HasTracked fed track_events
   pub heard : tracked old new track_events
 
--- the bytes are no capture, and the ear took what the whole blocks before the fault told so far
+-- the bytes are no capture, and the ear took what is reported so far of the whole blocks before the fault
 pub record IsRefusedOn {A : Type 0} (tracked : A → A → List TrackEvent → Type 0) (bytes : List ℕ) (fault : CaptureFault) (old new : A) : Type 0 where
   pub faulty : IsFault bytes fault
   pub fed : Fed
   pub before : AreBefore bytes (place_of fault) fed
   pub heard : IsTrackedSoFar tracked fed old new
 
--- a read failed, and it took what the whole blocks told so far that were read
+-- a read failed, and it took what is reported so far of the whole blocks that were read
 pub record IsUnreadOn {A : Type 0} (tracked : A → A → List TrackEvent → Type 0) (from left : Option (List ℕ)) (old new : A) : Type 0 where
   pub fed : Fed
   pub read : List ℕ
@@ -60,7 +60,8 @@ pub record IsUnreadOn {A : Type 0} (tracked : A → A → List TrackEvent → Ty
   pub are_read : AreRead read fed
   pub heard : IsTrackedSoFar tracked fed old new
 
--- a call of it failed at one of the first events that are told of the blocks that were read, or of the whole capture
+-- a call of it failed at one of the first events that are reported of the blocks that were read, or of
+-- the whole capture
 pub record IsUntakenOn {A : Type 0} (tracked : A → A → List TrackEvent → Type 0) (lost : A → A → TrackEvent → Type 0) (from left : Option (List ℕ)) (old new : A) : Type 0 where
   pub before : Fed
   pub after : Fed
@@ -72,7 +73,7 @@ pub record IsUntakenOn {A : Type 0} (tracked : A → A → List TrackEvent → T
       ⊎ (IsAtEnd left × IsCaptureOf after.blue after.green after.red read × ((epochs aligned : ℕ) × IsTrack after epochs aligned track_events))
   pub stops : Stops tracked lost old new track_events
 
--- it took what was told of some bits
+-- it took what was reported of some bits
 abbrev pub IsTrackedSome : {A : Type 0} → (A → A → List TrackEvent → Type 0) → A → A → Type 0
 IsTrackedSome tracked old new = (fed : Fed) × IsTrackedSoFar tracked fed old new
 

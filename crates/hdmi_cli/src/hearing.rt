@@ -32,7 +32,7 @@ pub(crate) enum HearError {
     Ear,
 }
 
-/// Reads one block, feeds it to the sink and tells the ear what it decides, and says whether there was one.
+/// Reads one block, feeds it to the sink and reports to the ear what it decides, and says whether there was one.
 pub(crate) fn hear_block<R: Threads, S: Source, H: Hears, E: Ear, G: Gate>(
     rt: &R,
     sink: &mut LaneSink<H>,
@@ -113,12 +113,12 @@ fn hear_blocks<R: Threads, S: Source, H: Hears, E: Ear, G: Gate>(
     Ok(())
 }
 
-/// Reads a capture, feeds each block to the sink and tells the ear what it decides, and at the end the rest.
+/// Reads a capture, feeds each block to the sink and reports to the ear what it decides, and at the end the rest.
 ///
 /// # Errors
 ///
-/// `Bad` where the bytes are no capture, and `Read` where a read failed: the ear was told what the whole blocks before
-/// decide. `Ear` where a call of the ear failed.
+/// `Bad` where the bytes are no capture, and `Read` where a read failed: what the whole blocks before
+/// decide was reported to the ear. `Ear` where a call of the ear failed.
 pub(crate) fn hear_capture<R: Threads, S: Source, H: Hears, E: Ear, G: Gate>(
     rt: &R,
     sink: &mut LaneSink<H>,

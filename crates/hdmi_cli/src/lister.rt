@@ -13,18 +13,18 @@ use link_sink::Ear;
 use listing_writer::{CheckLister, ContentLister, LinkLister};
 use outside_io::{Failed, Sink};
 
-/// Is told what a link says, and writes a listing of it.
+/// Takes what is reported of a link, and writes a listing of it.
 pub(crate) trait Lister: Ear {
     /// What it writes.
     ghost listing: { Self → Listing };
 
-    /// What it writes of events behind others.
+    /// What it writes of events after others.
     ghost after: { Self → List Event → List Event → List ℕ };
 
     /// What it writes last.
     ghost last: { Self → List Event → List ℕ };
 
-    /// It was told nothing.
+    /// Nothing was reported to it.
     ghost fresh: { Self → Type 0 };
 
     /// What its output holds.

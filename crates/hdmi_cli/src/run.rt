@@ -56,8 +56,8 @@ use std::thread::Threads;
 /// `recover biphase` the frames of one pair of channels, and `check` only the lines of its faults and of a cut and whether
 /// there was a fault; `read biphase` lists such frames; `relay` writes the capture of what was heard, sent anew; `damage`
 /// copies a capture, block by block, with the ten bits of each hit replaced, and `slip` without some bits of a lane;
-/// `sample` reads nothing, and counts what comes of generated frames that were damaged and recovered. A worker of each
-/// lane passes the gate for each block.
+/// `sample` reads nothing, and counts what becomes of generated frames that were damaged and recovered. A worker of
+/// each lane passes the gate for each block.
 pub fn run<R: Threads, S: Source, K: Sink, N: Sink, G: Gate>(
     rt: &R,
     alloc: Global,
@@ -90,8 +90,9 @@ pub fn run<R: Threads, S: Source, K: Sink, N: Sink, G: Gate>(
     // Whatever the status is, what was taken of the input begins what it had left.
     ensures taken { (taken : List ℕ) × Consumes (S.left input.old) (S.left input.new) taken }
 
-    // What is read, and what is written where not all is. After a failed read exactly what the whole blocks read tell so far
-    // is listed; after a failed write a part, and at least all that was told before the last block read.
+    // What is read, and what is written where not all is. After a failed read exactly what is reported so far of the
+    // whole blocks read is listed; after a failed write a part, and at least all that was reported before the last
+    // block read.
     ensures ended { ((n : ℕ) → IsCommand words.now (Sample n) → ⊥) → Contains (0 ∷ 1 ∷ 7 ∷ []) result → IsAtEnd (S.left input.new) }
     ensures unread { result ≡ 2 → Keeps (S.left input.old) (S.left input.new) }
     ensures unwritten { Contains (2 ∷ 6 ∷ 7 ∷ []) result → Keeps (K.held output.old) (K.held output.new) }
@@ -103,7 +104,7 @@ pub fn run<R: Threads, S: Source, K: Sink, N: Sink, G: Gate>(
         (seen (S.left input.old) (S.faults input.old) (K.held output.old) (K.faults output.old))
         (seen (S.left input.new) (S.faults input.new) (K.held output.new) (K.faults output.new)) }
 
-    // `sample` reads nothing, and writes the counts of what comes of the generator's content once it was damaged.
+    // `sample` reads nothing, and writes the counts of what becomes of the generator's content once it was damaged.
     ensures sampled { (n : ℕ) → IsCommand words.now (Sample n)
         → Keeps (S.left input.old) (S.left input.new) × IsSampleWritten n result (K.held output.old) (K.held output.new) }
 
@@ -136,8 +137,8 @@ pub fn run<R: Threads, S: Source, K: Sink, N: Sink, G: Gate>(
         (seen (S.left input.old) (S.faults input.old) (K.held output.old) (K.faults output.old))
         (seen (S.left input.new) (S.faults input.new) (K.held output.new) (K.faults output.new)) }
 
-    // Of a raster exactly the rows and frames that came are listed: for all modes and contents, every sparse damage, every tap,
-    // from the first full alignment on.
+    // Of a raster exactly the rows and frames that were received are listed: for all modes and contents, every sparse
+    // damage, every tap, from the first full alignment on.
     ensures pictures { IsCommand words.now RecoverContent
         → (mode : Mode) (frames : List Frame) → raster_fault mode frames ≡ None → (t : TappedStream) → t.periods ≡ raster_of mode frames → IsTapped t
         → (until : ℕ) → AlignsBy t until → S.left input.old ≡ Some t.bytes
@@ -153,7 +154,8 @@ pub fn run<R: Threads, S: Source, K: Sink, N: Sink, G: Gate>(
         (seen (S.left input.old) (S.faults input.old) (K.held output.old) (K.faults output.old))
         (seen (S.left input.new) (S.faults input.new) (K.held output.new) (K.faults output.new)) }
 
-    // And of every stream exactly the packets that came whole, each with at most one damaged word as it was sent, in both forms.
+    // And of every stream exactly the packets that were received whole, each with at most one damaged word as it was
+    // sent, in both forms.
     ensures packets { IsCommand words.now RecoverContent → (t : TappedStream) → IsTapped t
         → (until : ℕ) → AlignsBy t until → S.left input.old ≡ Some t.bytes
         → Unless (λ status held holds. (d e f : ℕ) × IsFirstOf t d e f × ((a : ℕ) × (a + 12 ≤ until) × ArePackets t d e f a held holds)) result
@@ -177,8 +179,8 @@ pub fn run<R: Threads, S: Source, K: Sink, N: Sink, G: Gate>(
         (seen (S.left input.old) (S.faults input.old) (K.held output.old) (K.faults output.old))
         (seen (S.left input.new) (S.faults input.new) (K.held output.new) (K.faults output.new)) }
 
-    // `recover biphase` writes the stream of the samples of the packets that came whole, each with at most one damaged word as it
-    // was sent, in both forms.
+    // `recover biphase` writes the stream of the samples of the packets that were received whole, each with at most one
+    // damaged word as it was sent, in both forms.
     ensures biphase_headline { (pair : ℕ) → IsCommand words.now (RecoverBiphase pair) → (t : TappedStream) → IsTapped t → IsSparseInPayload t.periods t.sent t.received
         → (d e f : ℕ) → IsFirstOf t d e f → S.left input.old ≡ Some t.bytes
         → Unless (λ status held holds. (a : ℕ) × AreSamples pair t d e f a status held holds) result
@@ -191,23 +193,24 @@ pub fn run<R: Threads, S: Source, K: Sink, N: Sink, G: Gate>(
         (seen (S.left input.new) (S.faults input.new) (K.held output.new) (K.faults output.new)) }
 
     // Where a lane loses one to nine bits within the pixels of a line, once it was locked, there are two epochs: the second
-    // begins at the control period behind the line, what it tells is the account from its first full alignment on, and what
-    // the first tells of columns that end before the slip is the account. The lines of both are written, and the slip's.
+    // begins at the control period after the line, what is reported of it is the account from its first full alignment
+    // on, and what is reported in the first, of columns that end before the slip, is the account. The lines of both are
+    // written, and the slip's.
     ensures track_slip { IsCommand words.now RecoverTrack → (t : TappedStream) → (s : LineSlip) → (y : Fed) → IsSlippedTap t s y → IsNoticed t s
         → S.left input.old ≡ Some t.bytes → Unless (IsTrackedAcross t s y) result
         (seen (S.left input.old) (S.faults input.old) (K.held output.old) (K.faults output.old))
         (seen (S.left input.new) (S.faults input.new) (K.held output.new) (K.faults output.new)) }
 
     // Where such a slip is not noticed, there is one epoch, and the text and the status are those of `recover link`. It is not
-    // where the lane had no lock before it, and then all is told as it was sent, from the first full alignment on; nor where
-    // the lane ends before it has twelve characters of the control period behind the line.
+    // where the lane had no lock before it, and then all is reported as it was sent, from the first full alignment on;
+    // nor where the lane ends before it has twelve characters of the control period after the line.
     ensures track_slip_passes { IsCommand words.now RecoverTrack → (t : TappedStream) → (s : LineSlip) → (y : Fed) → IsSlippedTap t s y → IsUnnoticed t s
         → S.left input.old ≡ Some t.bytes → Unless (IsTrackedAsOne t s y) result
         (seen (S.left input.old) (S.faults input.old) (K.held output.old) (K.faults output.old))
         (seen (S.left input.new) (S.faults input.new) (K.held output.new) (K.faults output.new)) }
 
-    // `relay` sends on what came of the periods that were sent, from the first full alignment on, in both forms; or it ends
-    // with 3 and writes nothing, where that has more than 20,000,000 columns.
+    // `relay` sends on what was received of the periods that were sent, from the first full alignment on, in both
+    // forms; or it ends with 3 and writes nothing, where that has more than 20,000,000 columns.
     ensures relay_headline { IsCommand words.now RelayCommand → (t : TappedStream) → IsTapped t → IsSparseInPayload t.periods t.sent t.received
         → (d e f : ℕ) → IsFirstOf t d e f → S.left input.old ≡ Some t.bytes
         → Unless (λ status held holds. (a : ℕ) × IsSentWithin t d e f a status held holds) result

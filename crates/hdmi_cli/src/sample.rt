@@ -1,5 +1,5 @@
-//! The sample: the generator's content is made into a capture, the capture is damaged and recovered, and what comes is
-//! counted.
+//! The sample: the generator's content is made into a capture, the capture is damaged and recovered, and what results
+//! is counted.
 ghost use Rattle.std.specs.Prelude.{◌≡◌, ◌+◌, ◌*◌, ◌/◌, ◌≤◌, [], Bool, List, true, IfOk, OnErr};
 ghost use Rattle.outside_io.specs.Causes.{Rose};
 ghost use Rattle.island_pack.specs.Spelling.{Spells};
@@ -46,8 +46,8 @@ pub(crate) fn count_sample<R: Threads, K: Sink, G: Gate>(
     }
 }
 
-/// Makes the generator's content into a capture, damages and recovers it, and counts what came. A worker of each lane
-/// passes the gate for each block.
+/// Makes the generator's content into a capture, damages and recovers it, and counts what was received. A worker of
+/// each lane passes the gate for each block.
 fn sample<R: Threads, G: Gate>(
     rt: &R,
     alloc: Global,
@@ -67,7 +67,7 @@ fn sample<R: Threads, G: Gate>(
     }
 }
 
-/// Tells an ear what a capture in memory says. It fails only where the ear does.
+/// Reports to an ear what a capture in memory says. It fails only where the ear does.
 fn hear_bytes<R: Threads, E: Ear, G: Gate>(
     rt: &R,
     sink: &mut LinkSink,

@@ -1,4 +1,4 @@
-//! The top call over sources and sinks in memory: tables of runs, and what must come of each.
+//! The top call over sources and sinks in memory: tables of runs, and what must result from each.
 mod bad;
 mod biphase;
 mod content;

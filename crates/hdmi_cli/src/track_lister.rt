@@ -1,4 +1,4 @@
-//! Writes the listing of what is told of lanes that may lose bits.
+//! Writes the listing of what is reported of lanes that may lose bits.
 ghost use Rattle.std.specs.Prelude.{◌≡◌, ℕ, ◌<◌, [], ◌∷◌, length, take, codes, OnOk, OnErr};
 ghost use Rattle.std.specs.Io.KnownBytes.{Appends};
 ghost use Rattle.outside_io.specs.Causes.{HasCause};
@@ -11,7 +11,7 @@ use outside_io::{Failed, Sink};
 use period_grammar::EventRef;
 use track_sink::TrackEar;
 
-/// Writes a line for each event that it is told, and for each slip.
+/// Writes a line for each event that is reported to it, and for each slip.
 #[derive(Drop)]
 pub(crate) struct TrackLister<'a, K: Sink> {
     pub(crate) lister: LinkLister<'a, K>,

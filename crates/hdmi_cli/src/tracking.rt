@@ -16,7 +16,7 @@ use outside_io::Source;
 use std::thread::Threads;
 use track_sink::{TrackEar, TrackOutcome, TrackSink};
 
-/// Reads one block, feeds it to the sink and tells the ear what it decides, and says whether there was one.
+/// Reads one block, feeds it to the sink and reports to the ear what it decides, and says whether there was one.
 fn follow_block<R: Threads, S: Source, E: TrackEar>(
     rt: &R,
     sink: &mut TrackSink,
@@ -85,12 +85,12 @@ fn follow_blocks<R: Threads, S: Source, E: TrackEar>(
     Ok(())
 }
 
-/// Reads a capture, feeds each block to the sink and tells the ear what it decides, and at the end the rest.
+/// Reads a capture, feeds each block to the sink and reports to the ear what it decides, and at the end the rest.
 ///
 /// # Errors
 ///
-/// `Bad` where the bytes are no capture, and `Read` where a read failed: the ear was told what the whole blocks before told so
-/// far. `Ear` where a call of the ear failed.
+/// `Bad` where the bytes are no capture, and `Read` where a read failed: what is reported so far of the whole blocks
+/// before was reported to the ear. `Ear` where a call of the ear failed.
 pub(crate) fn follow_capture<R: Threads, S: Source, E: TrackEar>(
     rt: &R,
     sink: &mut TrackSink,

@@ -27,7 +27,7 @@ audio_bytes x free1 free2 free3 free5 after =
     ∷ (free5 + 8 * x.lsv + 128 * x.dm)
     ∷ after
 
--- bars behind five bytes
+-- bars after five bytes
 bars_after : (bars : List ℕ) (b1 b2 b3 b4 b5 : ℕ) → length bars ≡ 4 → ((k : ℕ) → get_or bars k 0 < 65536)
     → (let xs : List ℕ = b1 ∷ b2 ∷ b3 ∷ b4 ∷ b5 ∷ bar_bytes bars in field xs 6 0 15 ∷ field xs 8 0 15 ∷ field xs 10 0 15 ∷ field xs 12 0 15 ∷ []) ≡ bars
 bars_after [] b1 b2 b3 b4 b5 long below = absurd (omega arith)

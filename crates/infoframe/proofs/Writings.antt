@@ -1,4 +1,4 @@
--- What is written, from its header, its payload and the bytes behind it.
+-- What is written, from its header, its payload and the bytes after it.
 use Rattle.std.proofs.Common.{◌≡◌, ℕ, ◌+◌, ◌-◌, ◌%◌, ◌≤◌, true, ◌==◌, List, [], ◌∷◌, ◌++◌, length, take, drop, replicate, refl, ap, ap₂, ◌∙◌, sym, subst, arith, add-one, All}
 use Rattle.std.specs.Prelude.{slice_index, sum}
 use Rattle.std.specs.List.{list_all}
@@ -18,7 +18,7 @@ use Rattle.infoframe.proofs.Lists.{drop_after_first}
 abbrev frame : ℕ → ℕ → List ℕ → Frame
 frame type_code version payload = record { type_code = type_code; version = version; payload = payload }
 
--- a frame is read from the header and from the bytes behind the checksum
+-- a frame is read from the header and from the bytes after the checksum
 pub frame_from : (p : Packet) (type_code version : ℕ) (payload : List ℕ) → p.header ≡ type_code ∷ version ∷ length payload ∷ []
     → drop 1 p.bodies ≡ padded payload → length payload ≤ 27 → frame_in p ≡ frame type_code version payload
 unfolding frame_in length_in

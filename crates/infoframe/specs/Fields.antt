@@ -10,7 +10,7 @@ unfoldable pub number_of : List ℕ → ℕ
 number_of [] = 0
 number_of (b ∷ bs) = b + 256 * number_of bs
 
--- the number that bits say, from bit `first` to bit `last` of PB(byte); bit 8 is bit 0 of the byte behind it
+-- the number that bits say, from bit `first` to bit `last` of PB(byte); bit 8 is bit 0 of the byte after it
 unfoldable pub field : List ℕ → ℕ → ℕ → ℕ → ℕ
 field payload byte first last = number_of (drop (byte - 1) payload) / 2 ^ first % 2 ^ (last + 1 - first)
 

@@ -42,7 +42,7 @@ ReadFits =
     (p : Packet) (verdicts : PacketVerdicts) (f : Frame)
     → IsPacket p → 0x80 ≤ slice_index p.header 0 → frame_of p verdicts ≡ Ok f → IsTrue (fits (info_of f))
 
--- what is read is written so, if no reserved bit is set and each byte behind the length is 0
+-- what is read is written so, if no reserved bit is set and each byte after the length is 0
 abbrev pub ReadIsWritten : Type 0
 ReadIsWritten =
     (p : Packet) (verdicts : PacketVerdicts) (f : Frame)

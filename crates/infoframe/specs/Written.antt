@@ -10,7 +10,7 @@ use Rattle.infoframe.specs.declared.content.InfoKind.TheVariants.{Avi as AviKind
 use Rattle.infoframe.specs.declared.content.Info.{Info}
 use Rattle.infoframe.specs.declared.content.Info.TheVariants.{Avi, Audio, Spd, Raw}
 
--- a payload, and zeros behind it up to 27 bytes
+-- a payload, and zeros after it up to 27 bytes
 abbrev pub padded : List ℕ → List ℕ
 padded payload = payload ++ replicate (27 - length payload) 0
 
@@ -47,7 +47,7 @@ is_raw RawKind = true
 is_raw _ = false
 
 -- whether there is a frame that says it: each field fits its bits; raw bytes are of an InfoFrame's type, which starts at
--- 0x80, and of no known layout, are 27 at most, and 0 behind their length
+-- 0x80, and of no known layout, are 27 at most, and 0 after their length
 unfoldable pub fits : Info → Bool
 fits (Avi fields) = avi_fits fields
 fits (Audio fields) = audio_fits fields
@@ -67,7 +67,7 @@ reserved_in p =
     let frame = frame_in p in
     (slice_index p.header 2 / 32) ∷ reserved_of (kind_of frame.type_code frame.version) frame.payload
 
--- the header and the bodies of a packet say it: reserved bits and the bytes behind the length are 0
+-- the header and the bodies of a packet say it: reserved bits and the bytes after the length are 0
 pub record IsWritten (info : Info) (p : Packet) : Type 0 where
   pub whole : IsPacket p
   pub header : p.header ≡ type_of info ∷ version_of info ∷ length_of info ∷ []

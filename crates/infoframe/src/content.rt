@@ -1,4 +1,4 @@
-//! What InfoFrames say (CTA-861, section 6). Bits are numbered from the lowest, 0, on; PB1 is the first byte behind the
+//! What InfoFrames say (CTA-861, section 6). Bits are numbered from the lowest, 0, on; PB1 is the first byte after the
 //! checksum.
 ghost use Rattle.std.specs.Prelude.{◌≡◌, ◌==◌, drop};
 ghost use Rattle.std.specs.List.{list_all};

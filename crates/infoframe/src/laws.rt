@@ -23,7 +23,7 @@ pub fn read_fits()
     ensures { ReadFits }
 {}
 
-/// What is read is written so, if no reserved bit is set and each byte behind the length is 0.
+/// What is read is written so, if no reserved bit is set and each byte after the length is 0.
 pub fn read_is_written()
     ensures { ReadIsWritten }
 {}

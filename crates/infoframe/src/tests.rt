@@ -36,7 +36,7 @@ fn packet_at(header: &str, bodies: &str) -> Result<Packet, Fail> {
     Ok(packet)
 }
 
-/// Thirteen numbers: those of the words, and 0 behind them.
+/// Thirteen numbers: those of the words, and 0 after them.
 fn numbers_of(words: &str) -> Result<[u8; 13], Fail> {
     let mut numbers = [0; 13];
     for (number, word) in numbers.iter_mut().zip(words.split_whitespace()) {
@@ -250,7 +250,7 @@ const LOST: [([Verdict; 5], u8); 6] = [
     ([Lost; 5], 0),
 ];
 
-/// A lost block is told before a wrong length or a wrong sum.
+/// A lost block is reported before a wrong length or a wrong sum.
 #[test]
 fn lost_blocks(rt: HostRuntime) {
     for header in [[0x82, 2, 13], [0x82, 2, 12], [0x81, 1, 31]] {

@@ -12,7 +12,7 @@ use crate::lent::sum_of;
 use island_pack::Packet;
 
 /// Writes the header and the bodies of a packet that says it: the checksum in PB0, 0 in each reserved bit and in each
-/// byte behind the length. The packet's `sync` stays.
+/// byte after the length. The packet's `sync` stays.
 pub fn write(info: &Info, out: &mut Packet)
     requires { IsTrue (fits info.now) }
     ensures written { IsWritten info.now out.new }

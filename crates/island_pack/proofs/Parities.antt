@@ -1,4 +1,4 @@
--- Behind any bytes stands a byte that makes a block, and so there is a number whose bits are the block.
+-- After any bytes stands a byte that makes a block, and so there is a number whose bits are the block.
 use Rattle.std.proofs.Common.{◌≡◌, ℕ, ◌+◌, ◌*◌, ◌<◌, Bool, ◌==◌, List, [], ◌∷◌, ◌++◌, length, get_or, bit_xor, sym, subst, arith, append_assoc, append-nil, length-append, All, inl, inr}
 use Rattle.std.proofs.lemmas.Bool.{cases_lt}
 use Rattle.std.proofs.lemmas.List.{get_or_past}

@@ -124,7 +124,7 @@ All-four a b c d pa pb pc pd =
 seven_of : (xs ys : List ℕ) → length xs ≡ 7 → take 7 (xs ++ ys) ≡ xs
 seven_of xs ys l = ap (λ n. take n (xs ++ ys)) (sym l) ∙ take-append_seam xs ys
 
--- what stands behind a list of n items
+-- what stands after a list of n items
 after : (xs ys : List ℕ) (n : ℕ) → length xs ≡ n → drop n (xs ++ ys) ≡ ys
 after xs ys n l = ap (λ m. drop m (xs ++ ys)) (sym l) ∙ drop-append_seam xs ys
 

@@ -57,7 +57,7 @@ repaired_below : (n : ℕ) (x : List Bool) → All (λ b. b < 256) (repaired n x
 unfolding repaired
 repaired_below n x = bytes_below n (after x (verdict_of x))
 
--- the bodies one behind another, cut again
+-- the bodies one after another, cut again
 cut : (x : List Bool) (bytes own : List ℕ) (v : Verdict) → bytes ≡ own → IsTaken x own v → IsTaken x bytes v
 cut x bytes own v e taken = subst (λ (ys : List ℕ). IsTaken x ys v) (sym e) taken
 

@@ -19,7 +19,7 @@ unfolding longest values_of
 values_longest [] = refl
 values_longest (v ∷ vs) = join_values v (longest vs) ∙ ap (λ (xs : List ℕ). v ∷ xs) (values_longest vs)
 
--- One column more behind runs.
+-- One column more after runs.
 
 abbrev one : ℕ → ControlRun
 one v = record { value = v; count = 1 }
@@ -36,7 +36,7 @@ more v [] = one v ∷ []
 more v (r ∷ []) = after (v == r.value) v r
 more v (r ∷ (q ∷ rs)) = r ∷ more v (q ∷ rs)
 
--- a value before and a value behind do not see one another, but where they are alone
+-- a value before and a value after do not see one another, but where they are alone
 
 two : (p q : Bool) (u v : ℕ) → (u == v) ≡ p → (v == u) ≡ q → joined p u (one v) [] ≡ after q v (one u)
 two p q u v h k = grind (arith, eqb-true, eq-eqb)

@@ -19,7 +19,7 @@ pub record DataIsland : Type 0 where
   pub packets : List Packet
   pub closing : SyncPair
 
--- a control period is told by its runs, a video data period by its bytes: red, green and blue of each pixel
+-- a control period is given by its runs, a video data period by its bytes: red, green and blue of each pixel
 pub data Period : Type 0 where
   control : List ControlRun → Period
   video : List ℕ → Period
@@ -56,7 +56,7 @@ pixels_of (r ∷ g ∷ b ∷ rest) = record { red = r; green = g; blue = b } ∷
 pixels_of _ = []
 
 -- how many columns a period takes: a video data period has two guard columns before its pixels, a data island two
--- before and two behind its packets of 32 columns
+-- before and two after its packets of 32 columns
 unfoldable pub period_columns : Period → ℕ
 period_columns (control runs) = length (values_of runs)
 period_columns (video bytes) = 2 + length bytes / 3

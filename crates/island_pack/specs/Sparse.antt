@@ -1,4 +1,4 @@
--- Sparse damage: columns as they came, in which few words are unlike those that were sent.
+-- Sparse damage: columns as received, in which few words are unlike those that were sent.
 use Rattle.std.specs.Prelude.{◌≡◌, ℕ, ◌+◌, ◌<◌, ◌≤◌, not, ◌==◌, List, ◌∷◌, length, take, drop, slice_index_or}
 use Rattle.tmds_word.specs.Column.{Column, blues, greens, reds}
 use Rattle.terc4.specs.Columns.{one_if}
@@ -43,7 +43,7 @@ pub record IsSparse (periods : List Period) (sent received : List Column) : Type
   pub few_green : AreFew (greens sent) (greens received)
   pub few_red : AreFew (reds sent) (reds received)
 
--- up to and with column f, columns other than those of pixels and packets came as they were sent
+-- up to and with column f, columns other than those of pixels and packets were received as they were sent
 abbrev pub SparesUntil : List Period → List Column → List Column → ℕ → Type 0
 SparesUntil periods sent received f =
     (i : ℕ) → i ≤ f → (IsPayload (kind_at (kinds_of periods) i) → ⊥) → column_at received i ≡ column_at sent i

@@ -17,8 +17,8 @@ static TERC4: [u16; 16] = [
     0x271, 0x163, 0x2c3,
 ];
 
-/// A packet with header and bodies of the worked island, and its parity bytes' words: those of e4 behind the header, and of 35 behind
-/// the first body.
+/// A packet with header and bodies of the worked island, and its parity bytes' words: those of e4 after the header, and
+/// of 35 after the first body.
 static WORKED: &str =
     "82020d 66000800010000000000000000000000000000000000000000000000 00000000000000000000000000000000";
 
@@ -128,7 +128,7 @@ fn fields_of(row: &str) -> [&str; 6] {
     ]
 }
 
-/// Lays the packet of each row, hurts its columns, and takes a packet from them.
+/// Lays the packet of each row, damages its columns, and takes a packet from them.
 fn follow(rt: &impl Abort, table: &str) -> Result<(), Fail> {
     for row in table.split('\n') {
         let [place, sent, lanes, words, verdicts, reception] = fields_of(row);

@@ -1,4 +1,4 @@
--- What a lane aligner knows before the lock, when bits come.
+-- What a lane aligner knows before the lock, when bits arrive.
 use Rattle.std.proofs.Common.{◌≡◌, ℕ, suc, zero, ◌+◌, ◌-◌, ◌*◌, ◌/◌, ◌%◌, ◌^◌, ◌<◌, Option, Some, None, MatchOption, ◌≤◌, Bool, List, [], ◌∷◌, ◌++◌, length, take, drop, get_or, min, refl, ap, ◌∙◌, sym, subst, arith, inl, inr, length-append, length-drop, length-take, append_assoc, take-take}
 use Rattle.std.proofs.lemmas.Bool.{cases_lt}
 use Rattle.std.proofs.lemmas.List.{drop-drop, drop-take, drop-append-le, drop_all, take_all, take_more, take-append-drop, length-take-le}
@@ -35,7 +35,7 @@ bytes_take (suc n) (b ∷ bs) =
     ∙ take-append-add (bits_of 8 b) (bytes_bits bs) (8 * n)
     ∙ ap (λ ys. bits_of 8 b ++ ys) (bytes_take n bs)
 
--- the kept bytes with the first of a piece behind them hold the last bits that came, and the first of the piece
+-- the kept bytes with the first of a piece after them hold the last bits that were received, and the first of the piece
 module _ (kept joined bytes : List ℕ) (xs : List Bool) (bits count had : ℕ) (size : length kept ≡ 16)
     (same : take (16 + min (length bytes) 16) joined ≡ take (16 + min (length bytes) 16) (kept ++ bytes))
     (last : bytes_bits (drop (16 - length xs / 8) kept) ≡ drop (length xs - 128) xs)
@@ -107,7 +107,7 @@ module _ (view bytes : List ℕ) (xs : List Bool) (bits had from until : ℕ)
           none_held view us (length xs - had) (had + min bits 128) from until holds (omega arith) others q late (omega arith) run
     ]
 
--- the bytes that are kept when a piece came in which no run ended
+-- the bytes that are kept when a piece arrived in which no run ended
 pub kept_more : (kept new bytes : List ℕ) (xs : List Bool) (bits : ℕ) → length kept ≡ 16 → new ≡ drop (length bytes) (kept ++ bytes) → length bytes ≡ (bits + 7) / 8
     → length xs % 8 ≡ 0 → bytes_bits (drop (16 - length xs / 8) kept) ≡ drop (length xs - 128) xs
     → length (xs ++ take bits (bytes_bits bytes)) % 8 ≡ 0

@@ -1,4 +1,4 @@
--- What a lane aligner stands for when bits come.
+-- What a lane aligner stands for when bits arrive.
 use Rattle.std.proofs.Common.{◌≡◌, ℕ, suc, zero, ◌+◌, ◌-◌, ◌*◌, ◌/◌, ◌%◌, ◌^◌, ◌<◌, ◌≤◌, Bool, List, [], ◌∷◌, ◌++◌, length, take, drop, refl, ap, ◌∙◌, sym, subst, arith, length-append, length-drop, append_assoc, Option, Some, None, MatchOption, get_or}
 use Rattle.std.proofs.lemmas.List.{drop-drop, drop-append-le, take-append-le}
 use Rattle.tmds_word.specs.Bits.{bits_of, bytes_bits, number}
@@ -84,7 +84,7 @@ number_none : number [] ≡ 0
 unfolding number
 number_none = refl
 
--- bits that came from the lock on, and the characters that they made whole
+-- bits that arrived from the lock on, and the characters that they made whole
 pub cut_stands : (old new : LaneAligner) (xs bs : List Bool) (value count : ℕ) → (is_locked : (o : Option ℕ) → old.lock ≡ o → new.lock ≡ o) → (old.lock ≡ None → ⊥)
     → HasCut old new value count → length bs ≡ count → number bs ≡ value → new.fed ≡ old.fed + count → AlignerRepresents old xs → AlignerRepresents new (xs ++ bs)
 cut_stands old new xs bs value count same locked cut long is fed stands = record {

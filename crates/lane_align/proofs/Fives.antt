@@ -97,7 +97,7 @@ two_number (a ∷ (b ∷ (c ∷ bs))) h small = absurd (omega arith)
 length-first : (n : ℕ) (bytes : List ℕ) → n ≤ length bytes → length (bytes_bits (take n bytes)) ≡ 8 * n
 length-first n bytes room = length-bytes_bits (take n bytes) ∙ ap (λ m. 8 * m) (length-take-le n bytes room)
 
--- the bits of some bytes and of some behind them
+-- the bits of some bytes and of some after them
 bits_add : (m n k : ℕ) (bytes : List ℕ) → k ≡ m + n → bytes_bits (take k bytes) ≡ bytes_bits (take m bytes) ++ bytes_bits (take n (drop m bytes))
 bits_add m n k bytes e = ap (λ j. bytes_bits (take j bytes)) e ∙ ap bytes_bits (take-add m n bytes) ∙ bytes_bits-append (take m bytes) (take n (drop m bytes))
 
@@ -117,7 +117,7 @@ kept_bits old xs first long locked stands = by_lock old.lock locked stands.found
         let place : p + 10 * h.count ≡ length xs + (40 - old.held) = omega (arith, length-append xs first) in
         h.rest ∙ ap number (drop_past (length xs) (40 - old.held) (p + 10 * h.count) xs first refl place)
 
--- groups of five bytes behind the first five, which were fed last
+-- groups of five bytes after the first five, which were fed last
 module _ (old : LaneAligner) (xs : List Bool) (bytes : List ℕ) (groups : ℕ) (room : 5 * groups + 8 ≤ length bytes) (locked : is_some old.lock ≡ true) (stands : AlignerRepresents old (xs ++ bytes_bits (take 5 bytes))) where
   few : old.held < 10
   few = old.few
@@ -212,7 +212,7 @@ module _ (old : LaneAligner) (xs : List Bool) (bytes : List ℕ) (groups : ℕ) 
         (written ∙ ap (λ vs. before ++ vs) (groups_are k r place)) all
         ∙ ap (lane_words new.lock) regrouped
 
--- so many of the bytes were taken, and characters written behind those that stood before
+-- so many of the bytes were taken, and characters written after those that stood before
 pub record HasTaken (old new : LaneAligner) (bytes before row : List ℕ) (taken first at size : ℕ) : Type 0 where
   pub fed : new.fed ≡ old.fed + 8 * taken
   pub size_is : length row ≡ size

@@ -1,4 +1,4 @@
--- The bytes that are kept, copied with those of a piece behind them.
+-- The bytes that are kept, copied with those of a piece after them.
 use Rattle.std.proofs.Common.{◌≡◌, ℕ, ◌+◌, ◌-◌, List, [], ◌++◌, length, take, drop, min, ap, ap₂, ◌∙◌, sym, arith, length-append, length-drop, append-nil, inl, inr}
 use Rattle.std.proofs.lemmas.Bool.{cases_lt}
 use Rattle.std.proofs.lemmas.List.{take_at, drop-drop, drop-append-le, drop_all, drop_at, length-take-le}
@@ -7,7 +7,7 @@ use Rattle.std.proofs.Math.Seq.{take-append-add}
 use borrow.Rule.Slice.PartMut.{put_mid}
 
 module _ (kept bytes zeros now part : List ℕ) (first : ℕ) (size : length kept ≡ 16) (is_first : first ≡ min (length bytes) 16) where
-  -- the first of a piece behind those that are kept
+  -- the first of a piece after those that are kept
   pub joined_written : now ≡ kept → part ≡ take first bytes
       → take (16 + min (length bytes) 16) (put_mid 16 (16 + first - 16) (now ++ zeros) part) ≡ take (16 + min (length bytes) 16) (kept ++ bytes)
   joined_written same is =

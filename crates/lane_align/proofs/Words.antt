@@ -89,7 +89,7 @@ edge_from xs p e locked edge =
 pub word_edges : (xs : List Bool) (p e : ℕ) → IsLock xs p → IsEdge xs e ↔ IsWordEdge p (words_from xs p) e
 word_edges xs p e locked = (edge_to xs p e locked, edge_from xs p e locked)
 
--- characters behind the first ones
+-- characters after the first ones
 drop_words : (n i : ℕ) (xs : List Bool) → drop i (words_of n xs) ≡ words_of (n - i) (drop (10 * i) xs)
 unfolding words_of
 drop_words n zero xs = let e : n ≡ n - 0 = omega arith in ap (λ m. words_of m xs) e

@@ -20,7 +20,7 @@ pub record IsFirstOther (xs : List Bool) (from until phase : ℕ) (p : ℕ) : Ty
   pub other : IsOther xs from until phase p
   pub least : (q : ℕ) → q < p → IsOther xs from until phase q → ⊥
 
--- bytes hold so many bits of a lane, which begin at a place of it; what stands behind them is of no account
+-- bytes hold so many bits of a lane, which begin at a place of it; what stands after them is of no account
 pub record Holds (bytes : List ℕ) (xs : List Bool) (base count : ℕ) : Type 0 where
   pub within : base + count ≤ length xs
   pub bits : take count (bytes_bits bytes) ≡ take count (drop base xs)

@@ -29,7 +29,7 @@ lane_words (Some p) xs = words_from xs p
 abbrev pub AreWords : List ℕ → Type 0
 AreWords = All (λ w. w < 1024)
 
--- a character that is no control word, behind twelve that are
+-- a character that is no control word, after twelve that are
 pub record EndsRun (words : List ℕ) (i : ℕ) : Type 0 where
   pub within : i < length words
   pub past : 12 ≤ i

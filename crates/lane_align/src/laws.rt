@@ -17,7 +17,7 @@ pub fn run_turns()
     ensures { RunTurns }
 {}
 
-/// In the bits of a lane of whose characters at most two in eleven came damaged, twelve control words
+/// In the bits of a lane of whose characters at most two in eleven were received damaged, twelve control words
 /// in a row begin where a character begins.
 pub fn no_false_lock()
     ensures { NoFalseLock }

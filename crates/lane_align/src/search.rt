@@ -127,7 +127,7 @@ fn first_near(bytes: &[u8], from: u32, until: u32, phase: u32) -> Option<u32>
     None
 }
 
-/// Whether behind the first four control words of a run the other eight stand.
+/// Whether after the first four control words of a run the other eight stand.
 fn goes_on(bytes: &[u8], p: u32) -> bool
     requires room { p + 120 ≤ 8 * length bytes.now }
     requires small { p < 2 ^ 31 }
@@ -159,7 +159,7 @@ fn fours_at(bytes: &[u8], p: u32) -> u64
     controls & (controls >> 10) & (controls >> 20) & (controls >> 30)
 }
 
-/// Eight bytes from a place on as a number, the first lowest; zeros are read behind the last one.
+/// Eight bytes from a place on as a number, the first lowest; zeros are read after the last one.
 #[inline(always)]
 fn eight_from(bytes: &[u8], at: usize) -> u64
     requires { at ≤ length bytes.now }

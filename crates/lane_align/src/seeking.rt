@@ -1,4 +1,4 @@
-//! The search for the lock while bits come: for the first run of control words that ends within them.
+//! The search for the lock while bits arrive: for the first run of control words that ends within them.
 ghost use Rattle.std.specs.Prelude.{ℕ, ◌≡◌, ◌<◌, ◌≤◌, ◌+◌, ◌-◌, ◌*◌, ◌/◌, ◌%◌, ◌^◌, ◌++◌, ⊤, List, Bool, MatchOption, None, min, length, take, drop, get_or};
 ghost use Rattle.tmds_word.specs.Bits.{bytes_bits};
 ghost use Rattle.tmds_word.specs.Words.{words_of};
@@ -21,8 +21,8 @@ const SPAN: u32 = RUN_BITS - 1;
 const REACH: usize = 16;
 
 impl LaneAligner {
-    /// Looks for the first run that ends within the bits, and writes its characters. Answers how many of the bits came up
-    /// to its end; None where there is none.
+    /// Looks for the first run that ends within the bits, and writes its characters. Answers how many of the bits were
+    /// taken up to its end; None where there is none.
     pub(crate) fn seek(&self, bytes: &[u8], bits: u32, row: &mut [u16]) -> Option<u32>
         requires seeks { self.now.lock ≡ None }
         requires whole { self.now.fed % 8 ≡ 0 }
@@ -41,7 +41,7 @@ impl LaneAligner {
     }
 
     /// Looks for the first run that began before the bits and ends within them, and writes its characters. Answers how
-    /// many of the bits came up to its end.
+    /// many of the bits were taken up to its end.
     fn begun_run(&self, bytes: &[u8], bits: u32, row: &mut [u16]) -> Option<u32>
         requires seeks { self.now.lock ≡ None }
         requires whole { self.now.fed % 8 ≡ 0 }
@@ -70,7 +70,7 @@ impl LaneAligner {
         }
     }
 
-    /// Keeps the last bytes, after these came.
+    /// Keeps the last bytes, after these arrived.
     pub(crate) fn keep(&mut self, bytes: &[u8], bits: u32)
         requires fed { self.old.fed + bits < 2 ^ 63 }
         ensures fed { self.new.fed ≡ self.old.fed + bits }
@@ -84,7 +84,8 @@ impl LaneAligner {
     }
 }
 
-/// Looks for the first run of the bits, and writes its characters. Answers how many of the bits came up to its end.
+/// Looks for the first run of the bits, and writes its characters. Answers how many of the bits were taken up
+/// to its end.
 fn whole_run(bytes: &[u8], bits: u32, row: &mut [u16]) -> Option<u32>
     requires bits { bits ≤ FEED_BITS }
     requires bytes { length bytes.now ≡ (bits + 7) / 8 }
@@ -128,7 +129,7 @@ fn write_run(bytes: &[u8], place: u32, row: &mut [u16])
     );
 }
 
-/// The bytes that are kept and the first of a piece behind them.
+/// The bytes that are kept and the first of a piece after them.
 fn joined(kept: &[u8; KEPT], bytes: &[u8]) -> [u8; KEPT + REACH]
     ensures { take (16 + min (length bytes.now) 16) result ≡ take (16 + min (length bytes.now) 16) (kept.now ++ bytes.now) }
 {
@@ -139,7 +140,7 @@ fn joined(kept: &[u8; KEPT], bytes: &[u8]) -> [u8; KEPT + REACH]
     joined
 }
 
-/// The last of the bytes that are kept with a piece behind them, as many as are kept.
+/// The last of the bytes that are kept with a piece after them, as many as are kept.
 fn last_of(kept: &[u8; KEPT], bytes: &[u8]) -> [u8; KEPT]
     ensures { result ≡ drop (length bytes.now) (kept.now ++ bytes.now) }
 {

@@ -57,7 +57,7 @@ impl LaneAligner {
         groups + 1
     }
 
-    /// Takes groups of five bytes from the lock on, behind the first five, which were taken last, and writes the
+    /// Takes groups of five bytes from the lock on, after the first five, which were taken last, and writes the
     /// four characters of each that became whole. What is left of one for the next is read again with the next.
     fn fives(&mut self, bytes: &[u8], groups: usize, row: &mut [u16], at: usize)
         requires lock { is_some self.old.lock ≡ true }

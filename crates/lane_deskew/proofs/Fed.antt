@@ -136,7 +136,7 @@ pub evenly_fed : (n : ℕ) (xs us : List Bool) (before lane : Pushed) → HasGro
     → lane.settled ≡ length before.words → IsEven n lane
 evenly_fed n xs us before lane grown fed was now settled = even_by n xs us before lane was.found now.found grown fed was.lock was.words now.lock now.words settled
 
--- bits that came more change no edge before them, and add none near one
+-- bits that arrived later change no edge before them, and add none near one
 pub bits_extend : (xs us : List Bool) → HasGrown xs us → Extends (IsEdge xs) (IsEdge us)
 bits_extend xs us grown = record {
   stays = λ e edge. edge_kept xs us e grown edge;

@@ -1,4 +1,4 @@
--- Edges that a search has come to, and the triple whose largest edge is least.
+-- Edges that a search has reached, and the triple whose largest edge is least.
 use Rattle.std.proofs.Common.{◌≡◌, ℕ, ◌+◌, ◌≤◌, arith}
 use Rattle.std.proofs.lemmas.Bool.{cases_lt}
 use Rattle.lane_deskew.specs.Triples.{AreTriple, AreFirst}

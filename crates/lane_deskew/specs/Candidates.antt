@@ -1,4 +1,4 @@
--- Edges of three lanes that the search for a first full alignment has come to.
+-- Edges of three lanes that the search for a first full alignment has reached.
 use Rattle.std.specs.Prelude.{ℕ, ◌+◌, ◌≤◌, Bool, List, slice_index}
 use Rattle.lane_align.specs.Lanes.{IsEdge}
 use Rattle.lane_deskew.specs.Triples.{AreTriple}

@@ -61,7 +61,7 @@ settled p = record { first = rested p.first; second = rested p.second; third = r
 abbrev pub consumed : ℕ → History → History
 consumed n p = record { first = p.first; second = p.second; third = p.third; taken = p.taken + n }
 
--- the lanes were pushed evenly: at the last settling no lane had passed a place; a lane that has pushed since had come
+-- the lanes were pushed evenly: at the last settling no lane had passed a place; a lane that has pushed since had been
 -- near it, or began its run so near
 pub record IsEven (place : ℕ) (lane : Pushed) : Type 0 where
   pub after : 0 < lane.settled → lane.lock + 10 * lane.settled ≤ place
@@ -171,7 +171,7 @@ ready_of d = cond (is_some d.found) (min (length d.first.kept.row) (min (length 
 abbrev pub kept_of : Deskew → ℕ → List ℕ
 kept_of deskew lane = stored (lane_at deskew lane).kept
 
--- a lane may push these characters at this lock: the lock is the one that it had, there is room, the place behind
+-- a lane may push these characters at this lock: the lock is the one that it had, there is room, the place after
 -- them fits, and the lane has not ended
 pub record CanPush (deskew : Deskew) (lane lock : ℕ) (words : List ℕ) : Type 0 where
   pub same : 0 < (lane_at deskew lane).count → lock ≡ (lane_at deskew lane).lock

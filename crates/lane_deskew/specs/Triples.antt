@@ -1,5 +1,5 @@
 -- The first full alignment of three lanes: where runs of control words end on all three, near each other.
--- The lanes of a link carry the same kinds of characters at one time (HDMI 1.4, section 5.1), and may come
+-- The lanes of a link carry the same kinds of characters at one time (HDMI 1.4, section 5.1), and may arrive
 -- later than one another.
 use Rattle.std.specs.Prelude.{ℕ, ◌≤◌, max, Bool, List, slice_index}
 use Rattle.tmds_word.specs.Taps.{AreNear}

@@ -1,4 +1,4 @@
-//! Three lanes whose characters come piece by piece, and the columns that they carry from their first
+//! Three lanes whose characters arrive piece by piece, and the columns that they carry from their first
 //! full alignment on.
 
 ghost use Rattle.std.specs.Prelude.{ℕ, ◌≡◌, ◌<◌, ◌≤◌, ◌+◌, ◌-◌, ◌*◌, ◌^◌, ◌↔◌, ◌++◌, List, [], IsTrue, IfOk, IfSome, MatchOption, Some, None, length, take, drop, slice_index, true, min, cond, is_some};
@@ -65,8 +65,8 @@ impl Deskew {
     }
 
     /// Appends characters of a lane, whose first one of all stands at its lock, so many bits from the
-    /// lane's first. The lock is the lane's in every call, no more than 4,160 characters come to be kept,
-    /// and none come of a lane that has ended.
+    /// lane's first. The lock is the lane's in every call, no more than 4,160 characters are kept,
+    /// and none arrive of a lane that has ended.
     pub fn push(&mut self, lane: u8, lock: u64, words: &[u16])
         requires lane { lane < 3 }
         requires words { AreWords words.now }
@@ -82,7 +82,7 @@ impl Deskew {
         }
     }
 
-    /// Tells that a lane gets no more characters.
+    /// Notes that a lane gets no more characters.
     pub fn end(&mut self, lane: u8)
         requires { lane < 3 }
         ensures stands { (p : History) → DeskewRepresents self.old p → DeskewRepresents self.new (ended lane p) }

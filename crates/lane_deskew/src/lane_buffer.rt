@@ -126,7 +126,7 @@ impl LaneBuffer {
     }
 }
 
-/// Puts characters behind those before a place.
+/// Puts characters after those before a place.
 fn put(row: &mut [u16], at: usize, words: &[u16])
     requires { at + length words.now ≤ length row.old }
     ensures long { length row.new ≡ length row.old }

@@ -119,7 +119,7 @@ fn is_edge(row: &BitRow, lock: u32, e: u32) -> bool
     has_run(row, e - RUN_BITS) && !has_control(row, e)
 }
 
-/// Whether twelve control words stand one behind another from a place on.
+/// Whether twelve control words stand one after another from a place on.
 fn has_run(row: &BitRow, p: u32) -> bool
     requires within { p + 120 ≤ length row.now }
     requires small { p + 120 < 2 ^ 32 }

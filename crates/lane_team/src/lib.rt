@@ -32,7 +32,7 @@ impl Gate for Open {
 #[derive(Drop)]
 struct Side {
     aligner: LaneAligner,
-    /// The characters, and room behind them.
+    /// The characters, and room after them.
     row: [u16; ROW_WORDS],
     /// How many characters the last feed gave.
     count: usize,

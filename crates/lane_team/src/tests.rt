@@ -35,7 +35,7 @@ struct Meeting {
 }
 
 impl Meeting {
-    /// Whether a lane comes to have passed so often.
+    /// Whether a lane is seen to have passed so often.
     fn saw(&self, lane: usize, pass: u64) -> bool
         requires { lane < 3 }
     {

@@ -23,7 +23,7 @@ part_cost : (words : List ℕ) (from many i n low high : ℕ) → from + many �
     → AreQuiet words low high → low ≤ from + i → from + i + n ≤ high → 5 * turns (take n (drop i (part_of words from many))) + 5 ≤ 3 * n + 24
 part_cost words from many i n low high within some inside quiet above below = grind (arith, take_piece, drop-drop, piece_cost)
 
--- 120 bits across the slip: some before it and some behind
+-- 120 bits across the slip: some before it and some after
 across_cut : (xs : List Bool) (place dropped p a b : ℕ) → place + dropped ≤ length xs → p + a ≡ place → a + b ≡ 120
     → take 120 (drop p (slipped xs place dropped)) ≡ take a (drop p xs) ++ take b (drop (place + dropped) xs)
 across_cut xs place dropped p a b long at sum =

@@ -1,4 +1,4 @@
--- Where the first stray behind a slip is.
+-- Where the first stray after a slip is.
 use Rattle.std.proofs.Common.{◌≡◌, ℕ, ◌+◌, ◌-◌, ◌*◌, ◌/◌, ◌%◌, ◌^◌, ◌<◌, ◌≤◌, Bool, true, false, List, [], ◌∷◌, length, take, drop, get_or, ap, ◌∙◌, sym, subst, arith, inl, inr}
 use Rattle.std.proofs.lemmas.Bool.{cases_lt, cases_Bool, true_from_ne_false}
 use Rattle.std.proofs.lemmas.List.{drop-drop, get_or-drop}
@@ -70,7 +70,7 @@ no_three words marks calm i long plain a b c =
     let e : i + 0 ≡ i = omega arith in
     grind (arith, get_or-drop, three_marked)
 
--- the control period begins at least 120 bits behind the bits that were lost
+-- the control period begins at least 120 bits after the bits that were lost
 starts_far : (words : List ℕ) (marks : List Bool) (from many place dropped start : ℕ) → Slips words marks from many place dropped
     → BeginsControl words marks (from + place + dropped) start → from + place + dropped + 120 ≤ 10 * start
 starts_far words marks from many place dropped start s b = grind (arith, cases_lt, control_turns)
@@ -138,7 +138,7 @@ first_at words marks from many place dropped s lock is_lock before start b whole
           none_before words marks from many place dropped start early s b few plain q h.0 (omega arith) h.1;
     }
 
--- how many words right before the control period came as control words
+-- how many words right before the control period were received as control words
 early_of : (words : List ℕ) (marks : List Bool) (from many place dropped start : ℕ) → Slips words marks from many place dropped
     → BeginsControl words marks (from + place + dropped) start
     → (early : ℕ) × (early ≤ 2)

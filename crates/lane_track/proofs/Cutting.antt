@@ -12,7 +12,7 @@ pub front_piece : (q m : ℕ) (xs ys : List Bool) → q + m ≤ length xs → ta
 front_piece q m xs ys le =
     ap (take m) (drop-append-le q xs ys (omega arith)) ∙ take-append-le m (drop q xs) ys (omega (arith, length-drop q xs))
 
--- the runs of a list of which more comes, and of its beginning
+-- the runs of a list of which more arrives, and of its beginning
 pub run_grows : (xs ys : List Bool) (p : ℕ) → IsRun xs p → IsRun (xs ++ ys) p
 run_grows xs ys p run = run_stays xs (xs ++ ys) ys refl p run
 
@@ -28,7 +28,7 @@ pub length_slipped : (xs : List Bool) (place dropped : ℕ) → place + dropped 
 length_slipped xs place dropped long =
     omega (arith, length-append (take place xs) (drop (place + dropped) xs), length-take place xs, length-drop (place + dropped) xs)
 
--- a run before the slip, and one behind it
+-- a run before the slip, and one after it
 pub run_before : (xs : List Bool) (place dropped p : ℕ) → place + dropped ≤ length xs → p + 120 ≤ place → IsRun (slipped xs place dropped) p → IsRun xs p
 run_before xs place dropped p long before run =
     run_of_front place xs p (run_was (take place xs) (drop (place + dropped) xs) p (omega (arith, length-take place xs)) run)

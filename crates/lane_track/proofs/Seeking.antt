@@ -19,7 +19,7 @@ held_run : (bits xs : List Bool) (base count p : ℕ) → HoldsBits bits xs base
 held_run bits xs base count p holds long run =
     run_of_front count bits p (subst (λ ys. IsRun ys p) (sym holds.same) (run_in_front count (drop base xs) p long (run_in_rest base xs p run)))
 
--- behind the first bits there is no run
+-- after the first bits there is no run
 pub none_past : (bits : List Bool) (skip from until phase other : ℕ) → ((k : ℕ) → (skip + k) % 10 ≡ other ↔ k % 10 ≡ phase)
     → ((p : ℕ) → IsOther bits (skip + from) (skip + until) other p → ⊥) → (p : ℕ) → IsOther (drop skip bits) from until phase p → ⊥
 none_past bits skip from until phase other same none p is = grind (arith, run_of_rest)

@@ -1,4 +1,4 @@
--- Control words have seven transitions in a row behind their first bit, and no run begins in steps where none are.
+-- Control words have seven transitions in a row after their first bit, and no run begins in steps where none are.
 use Rattle.std.proofs.Common.{◌≡◌, ℕ, ◌+◌, ◌-◌, ◌*◌, ◌/◌, ◌%◌, ◌^◌, ◌<◌, ◌≤◌, min, Bool, true, false, not, List, take, drop, nat_eq, slice_index, refl, ap, ap₂, ◌∙◌, sym, subst, arith, inl, inr, ◌==◌, ◌||◌, bit_and, bit_xor, eqb-true}
 use Rattle.std.specs.Int.{bit_at}
 use Rattle.std.proofs.lemmas.Bool.{cases_Bool, cases_lt}
@@ -69,7 +69,7 @@ unfolding seven four two turn
 seven_same f g h =
     rw (h 1 (omega arith)) (rw (h 2 (omega arith)) (rw (h 3 (omega arith)) (rw (h 4 (omega arith)) (rw (h 5 (omega arith)) (rw (h 6 (omega arith)) (rw (h 7 (omega arith)) (rw (h 8 (omega arith)) refl)))))))
 
--- of the bits of a control word there are seven behind the first one
+-- of the bits of a control word there are seven after the first one
 unfoldable test : ℕ → Bool
 test w = not (is_control w) || (seven (λ i. w / 2 ^ i % 2) 1 == 1)
 
@@ -109,7 +109,7 @@ control_turns n k is =
 zero_from : (n : ℕ) → not (nat_eq n 0) ≡ false → n ≡ 0
 zero_from n h = grind (arith, cases_Bool, eqb-true)
 
--- the test sees two control words, one behind the other, at a place of the mask
+-- the test sees two control words, one after the other, at a place of the mask
 pub none_seen : (n m k : ℕ) → not (nat_eq (bit_and (bit_and (sevens n) (sevens n / 2 ^ 10)) m) 0) ≡ false → bit m (k + 1) ≡ true
     → control_at n k ≡ true → control_at n (k + 10) ≡ true → ⊥
 none_seen n m k nothing mask one ten =

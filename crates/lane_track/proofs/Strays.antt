@@ -79,7 +79,7 @@ stray_grows xs ys p stray =
       run = run_grows xs ys p stray.run;
     }
 
--- a stray within a list of which more came
+-- a stray within a list of which more arrived
 pub stray_was : (xs ys : List Bool) (p : ℕ) → p + 120 ≤ length xs → IsStray (xs ++ ys) p → IsStray xs p
 stray_was xs ys p long stray =
     let past = stray.past in

@@ -8,7 +8,7 @@ pub record HasSought (xs : List Bool) (seen : ℕ) (found : Option ℕ) : Type 0
   pub lock : MatchOption found ((p : ℕ) → p < seen → IsRun xs p → ⊥) (λ l. IsLock xs l × (l < seen))
   pub none : (p : ℕ) → p < seen → IsStray xs p → ⊥
 
--- the first bits are so many bits of a lane, which begin at a place of it; what stands behind them is of no account
+-- the first bits are so many bits of a lane, which begin at a place of it; what stands after them is of no account
 pub record HoldsBits (bits : List Bool) (xs : List Bool) (base count : ℕ) : Type 0 where
   pub within : base + count ≤ length xs
   pub same : take count bits ≡ take count (drop base xs)

@@ -15,12 +15,12 @@ const NEAR: u32 = 10;
 /// The phase at which nothing is left out.
 const ANY: u32 = 10;
 
-/// Ten bits from the second one on, but the one behind a phase's; all of them at phase 10.
+/// Ten bits from the second one on, but the one after a phase's; all of them at phase 10.
 static BESIDE: [u64; 11] = [
     0x7fc, 0x7fa, 0x7f6, 0x7ee, 0x7de, 0x7be, 0x77e, 0x6fe, 0x5fe, 0x3fe, 0x7fe,
 ];
 
-/// Answers as `next_run` does of the bits behind the first few, with places that are counted from there.
+/// Answers as `next_run` does of the bits after the first few, with places that are counted from there.
 pub(crate) fn next_past(bytes: &[u8], skip: u32, from: u32, until: u32, phase: u32) -> Option<u32>
     requires phase { phase ≤ 10 }
     requires room { from < until → skip + until + 119 ≤ 8 * length bytes.now }
@@ -140,7 +140,7 @@ fn first_loud(bytes: &[u8], first: usize, last: usize, mask: u64) -> usize
     at
 }
 
-/// Whether at a place of the mask, and ten places behind it, seven transitions in a row begin. Behind the first bit of
+/// Whether at a place of the mask, and ten places after it, seven transitions in a row begin. After the first bit of
 /// a control word they do.
 #[inline(always)]
 fn has_turns(bits: u64, mask: u64) -> bool
@@ -153,7 +153,7 @@ fn has_turns(bits: u64, mask: u64) -> bool
     sevens & (sevens >> 10) & mask != 0
 }
 
-/// The places behind those of a step that lie no whole characters from a phase.
+/// The places after those of a step that lie no whole characters from a phase.
 fn beside(phase: u32) -> u64
     requires { phase ≤ 10 }
     ensures { (k : ℕ) → k < 10 → (k ≡ phase → ⊥) → bit result (k + 1) ≡ true }

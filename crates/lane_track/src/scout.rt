@@ -28,8 +28,8 @@ impl Scout {
         Scout { lock: None }
     }
 
-    /// Looks at the places from `from` on and before `until`, counted from the first bit that the bytes hold behind `skip`
-    /// others, and answers the first stray of the epoch; None where it has none before `until`.
+    /// Looks at the places from `from` on and before `until`, counted from the first bit that the bytes hold after
+    /// `skip` others, and answers the first stray of the epoch; None where it has none before `until`.
     pub fn seek(&mut self, bytes: &[u8], skip: u32, base: u32, from: u32, until: u32) -> Option<u32>
         requires order { from ≤ until }
         requires room { from < until → skip + until + 119 ≤ 8 * length bytes.now }

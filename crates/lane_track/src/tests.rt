@@ -23,7 +23,7 @@ static CASES: [Case; 3] = [
         ],
         stray: Some(260),
     },
-    // eleven control words behind them
+    // eleven control words after them
     Case {
         places: 251,
         bytes: &[

@@ -1,4 +1,4 @@
--- Columns that came with sparse damage of columns that spell periods, period after period.
+-- Columns received with sparse damage of columns that spell periods, period after period.
 use Rattle.std.proofs.Common.{◌≡◌, ℕ, suc, ◌+◌, ◌*◌, ◌≤◌, Bool, true, false, List, [], ◌∷◌, ◌++◌, length, map, replicate, refl, ap, sym, ◌∙◌, subst, append_assoc, arith, slice_index}
 use Rattle.std.proofs.lemmas.List.{replicate-append-replicate}
 use Rattle.std.proofs.lemmas.List.Elements.{All-tail}
@@ -25,7 +25,7 @@ use Rattle.link_laws.proofs.VideoReported as seen
 
 -- Columns one by one.
 
--- a column as sent and as it came, and those after it
+-- a column as sent and as received, and those after it
 pub record FitsAt (k : Kind) (s r : Column) (ss rs : List Column) : Type 0 where
   pub one : unlike s r ≤ 1
   pub pair : k ≡ first_guard → unlike s r + unlike_at ss rs 0 ≤ 1

@@ -1,4 +1,4 @@
--- A period between control periods: what is told of its columns, whole or in part, and of what comes after them.
+-- A period between control periods: what is reported of its columns, whole or in part, and of what follows them.
 use Rattle.std.proofs.Common.{◌≡◌, ℕ, suc, zero, ◌+◌, ◌-◌, ◌<◌, ◌≤◌, Bool, true, false, List, [], ◌∷◌, ◌++◌, length, take, drop, refl, ap, sym, ◌∙◌, append_assoc, arith}
 use Rattle.std.proofs.lemmas.List.{append-nil, take-append-le, length-take}
 use Rattle.std.proofs.Math.Seq.{take-append-add, take-append_seam, drop-append_seam}
@@ -72,7 +72,7 @@ gap_on j (c ∷ cs) [] next long all some none h = absurd (omega arith)
 gap_on j (c ∷ cs) (g ∷ gap) next long all some none h =
     ap (hear j) (cut_both c cs g gap next all none (begins_heads next h)) ∙ hear_some j (c ∷ cs) g gap (stretches next) (some_cut next h)
 
--- What has to be shown of each kind of period, behind the received control columns `before`.
+-- What has to be shown of each kind of period, after the received control columns `before`.
 pub record IsGap (before : List Column) (x : Period) (ss rs : List Column) : Type 0 where
   pub quiet : NoneControl rs
   pub long : length rs ≡ period_columns x
@@ -94,7 +94,7 @@ pub record IsControlPeriod (cs : List Column) : Type 0 where
   pub long : 12 ≤ length cs
   pub all : AllControl cs
 
--- what is told of its first k columns and what comes after them
+-- what is reported of its first k columns and what follows them
 abbrev pub PeriodLaw : List Column → Period → List Column → List Column → Type 0
 PeriodLaw cs x ss rs = (j k : ℕ) (next : List Column) → heads next ≡ true
     → hear j (stretches (cs ++ take k (rs ++ next)))

@@ -1,4 +1,4 @@
--- The lanes of columns that came with sparse damage, wherever it lies, are calm.
+-- The lanes of columns received with sparse damage, wherever it lies, are calm.
 use Rattle.std.proofs.Common.{ℕ, List, map, arith}
 use Rattle.std.proofs.lemmas.List.{length-map}
 use Rattle.tmds_word.specs.Column.{Column}

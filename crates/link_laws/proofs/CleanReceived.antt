@@ -1,4 +1,4 @@
--- Clean columns that end in a control period came of themselves, with no damage.
+-- Clean columns that end in a control period were received as they were sent, with no damage.
 use Rattle.island_pack.specs.Periods.{control}
 use Rattle.std.proofs.Common.{◌∷◌}
 use Rattle.link_laws.specs.Freely.{CleanReceived}

@@ -1,5 +1,5 @@
--- What is told of control columns: the words of a run that are no control words after the runs before it, and the run
--- after them, whatever came.
+-- What is reported of control columns: the words of a run that are no control words after the runs before it, and the
+-- run after them, whatever was received.
 use Rattle.std.proofs.Common.{◌≡◌, ℕ, ◌+◌, List, [], ◌∷◌, ◌++◌, length, map, refl, ap, ◌∙◌, append_assoc}
 use Rattle.std.proofs.lemmas.List.{map-append}
 use Rattle.tmds_word.specs.Column.{Column}

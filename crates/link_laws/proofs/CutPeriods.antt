@@ -1,4 +1,4 @@
--- The columns that came are cut where the periods are.
+-- The received columns are cut where the periods are.
 use Rattle.std.proofs.Common.{◌≡◌, ◌≤◌, true, List, [], ◌∷◌, ◌++◌, length, take, drop, ap, ap₂, sym, ◌∙◌, arith}
 use Rattle.std.proofs.lemmas.List.{append-nil}
 use Rattle.tmds_word.specs.Column.{Column}
@@ -31,7 +31,7 @@ cut_first x y xs front reception rest e f =
     ap₂ (λ (a b : List Column). stretch a (take (period_columns y) b) ∷ cut_as xs (drop (period_columns y) b)) (take_seam front (reception ++ rest) (period_columns x) e) (drop_seam front (reception ++ rest) (period_columns x) e)
     ∙ ap₂ (λ (a b : List Column). stretch front a ∷ cut_as xs b) (take_seam reception rest (period_columns y) f) (drop_seam reception rest (period_columns y) f)
 
--- control columns as they came, and the periods after them
+-- control columns as received, and the periods after them
 cut_from : (x : Period) (tail : List Period) → IsTail tail → (before ss rs : List Column) → IsControlPeriod before → length before ≡ period_columns x → Arrives tail ss rs
     → stretches (before ++ rs) ≡ cut_as (x ∷ tail) (before ++ rs)
 unfolding cut_as period_columns

@@ -1,4 +1,4 @@
--- How control columns, columns that are none, and the rest are cut; and what is told of them.
+-- How control columns, columns that are none, and the rest are cut; and what is reported of them.
 use Rattle.std.proofs.Common.{arith, ◌≡◌, ℕ, ◌+◌, Bool, true, false, not, List, [], ◌∷◌, ◌++◌, length, map, refl, ap, sym, ◌∙◌, append_assoc}
 use Rattle.std.specs.List.{list_all}
 use Rattle.std.proofs.lemmas.List.{append-nil, map-append}
@@ -63,15 +63,15 @@ pub cut_both : (c : Column) (control : List Column) (g : Column) (gap rest : Lis
 cut_both c control g gap rest all none h =
     cut_control (c ∷ control) ((g ∷ gap) ++ rest) all ∙ ap (with_control (c ∷ control)) (cut_gap (g ∷ gap) rest none h) ∙ joined c control g gap (stretches rest)
 
--- what is told of periods from column j on, with what the end tells
+-- what is reported of periods from column j on, with what is reported at the end
 abbrev pub hear : ℕ → List Cut → List Event
 hear j xs = map event_of (reported_from j xs) ++ end_from j xs
 
--- what is told of columns that are no control columns while they go on
+-- what is reported of columns that are no control columns while they go on
 abbrev pub gap_events : ℕ → List Column → List Column → List Event
 gap_events b control gap = map event_of (in_gap b control gap)
 
--- what is told of control columns whose last run ends
+-- what is reported of control columns whose last run ends
 abbrev pub control_reported : ℕ → List Column → List Event
 control_reported j control = map event_of (in_runs j (runs control)) ++ last_run (runs control)
 

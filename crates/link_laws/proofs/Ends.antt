@@ -1,4 +1,4 @@
--- The edges and the first full alignment of columns that came with sparse damage are ends of control periods.
+-- The edges and the first full alignment of columns received with sparse damage are ends of control periods.
 use Rattle.std.proofs.Common.{◌≡◌, ℕ, ◌+◌, Bool, List, subst, arith}
 use Rattle.std.specs.Prelude.{slice_index}
 use Rattle.lane_deskew.specs.Triples.{IsFirst}

@@ -1,4 +1,4 @@
--- The control columns that came are those of the control periods, and the account of columns that came.
+-- The received control columns are those of the control periods, and the account of received columns.
 use Rattle.std.proofs.Common.{◌≡◌, ◌↔◌, ℕ, ◌+◌, ◌≤◌, true, List, [], ◌∷◌, take, drop, refl, subst, arith}
 use Rattle.tmds_word.specs.Column.{Column}
 use Rattle.terc4.specs.Columns.{is_control_column}
@@ -41,7 +41,7 @@ framing_stands_freely ps sent received reception i lt =
 pub framing_stands : FramingStands
 framing_stands ps sent received reception = framing_stands_freely ps sent received (free_received ps sent received reception)
 
--- What is told.
+-- What is reported.
 
 link_of : (ps : List Period) (sent received : List Column) → Conforms ps → Arrives ps sent received
     → (a m : ℕ) → EndsAt (kinds_of ps) (a + 11) → heard (take m (drop a received)) ≡ account ps sent received a m

@@ -1,4 +1,5 @@
--- Columns that a source spells are spelled whatever bit 3 of lane 0 is, and clean columns came so of themselves.
+-- Columns that a source spells are spelled whatever bit 3 of lane 0 is, and clean columns are received so, taken as
+-- what was sent.
 use Rattle.std.proofs.Common.{◌≡◌, ℕ, ◌+◌, ◌<◌, Bool, false, List, [], ◌∷◌, length, refl, ap₂, arith, not}
 use Rattle.std.proofs.lemmas.Bool.{eq-eqb}
 use Rattle.tmds_word.specs.Column.{Column}

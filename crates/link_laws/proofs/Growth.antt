@@ -1,4 +1,4 @@
--- What lanes tell begins what they tell when each has any bits more.
+-- What is reported of lanes begins what is reported of them when each has any bits more.
 use Rattle.std.proofs.Common.{arith, ◌≡◌, ℕ, List, ◌++◌, refl, ap, sym, ◌∙◌, inl, inr, append_assoc}
 use Rattle.tmds_word.specs.Column.{Column}
 use Rattle.lane_deskew.specs.Aligned.{aligned_columns}
@@ -22,7 +22,7 @@ more_columns before now d e f p q r h first found =
     let more = columns_grow _ _ _ _ _ _ d e f h.blue h.green h.red in
     (more.0, (λ i. columns_at now (same.0 i) (same.1 i) (same.2 i)) ∙ more.1)
 
--- so do the events that they tell
+-- so do the events that are reported of them
 more_events : (g : Grammar) → IsGrammar g → (before now : Fed) (d e f p q r : ℕ) → AreGrown before now → IsFirst before.blue before.green before.red d e f → IsFirst now.blue now.green now.red p q r
     → Begins (g.so_far (columns_at before d e f)) (g.so_far (columns_at now p q r))
 more_events g is before now d e f p q r h first found =

@@ -1,4 +1,4 @@
--- Guard columns as they came, of which one word of a pair may be unlike the one that was sent.
+-- Guard columns as received, of which one word of a pair may be unlike the one that was sent.
 use Rattle.std.proofs.Common.{◌≡◌, ℕ, ◌+◌, ◌<◌, ◌≤◌, Bool, true, false, not, ◌&&◌, ◌==◌, slice_index, refl, ap, ap₂, arith}
 use Rattle.std.proofs.lemmas.Bool.{eqb-true, le-leb, lt-leb}
 use Rattle.tmds_word.specs.Column.{Column, column_of}
@@ -14,7 +14,7 @@ pub one_at_most : (q : Bool) → one_if q ≤ 1
 unfolding one_if
 one_at_most q = grind arith
 
--- what a word was found to be, it is found to be still, but for a word that came unlike
+-- what a word was found to be, it is found to be still, but for a word that was received unlike
 pub lost : (p : ℕ → Bool) (s r : ℕ) → p s ≡ true → (same : Bool) → (s == r) ≡ same → 1 ≤ one_if (p r) + one_if (not same)
 unfolding one_if
 lost p s r h k l = grind (arith, eqb-true)

@@ -1,4 +1,4 @@
--- The columns of data islands, as sent and as they came.
+-- The columns of data islands, as sent and as received.
 use Rattle.std.proofs.Common.{◌≡◌, ℕ, zero, suc, ◌+◌, ◌*◌, ◌≤◌, Bool, true, false, not, ◌==◌, List, [], ◌∷◌, ◌++◌, length, map, take, refl, ap, sym, ◌∙◌, arith, length-append}
 use Rattle.std.proofs.lemmas.List.{length-map}
 use Rattle.std.proofs.lemmas.List.Folds.{list_all-append}
@@ -20,7 +20,7 @@ use Rattle.link_laws.proofs.Guards.{gained, stays_quiet}
 
 -- Columns of packets.
 
--- a column of a packet as sent and as it came
+-- a column of a packet as sent and as received
 pub record PartAt (s r : Column) : Type 0 where
   pub blue : is_terc s.blue ≡ true
   pub green : is_terc s.green ≡ true

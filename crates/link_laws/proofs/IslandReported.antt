@@ -1,4 +1,4 @@
--- What is told of a data island's columns as they came.
+-- What is reported of a data island's columns as received.
 use Rattle.std.proofs.Common.{◌≡◌, ℕ, suc, zero, ◌+◌, ◌*◌, ◌-◌, ◌<◌, ◌≤◌, Bool, true, false, cond, not, List, [], ◌∷◌, ◌++◌, length, map, take, drop, refl, ap, ap₂, sym, ◌∙◌, subst, append_assoc, arith, length-append, length-take, zero-add}
 use Rattle.std.proofs.lemmas.List.{append-nil, take_all, map-append}
 use Rattle.std.proofs.lemmas.List.Folds.{list_all-append}
@@ -27,7 +27,7 @@ use Rattle.period_grammar.proofs.Hearings.{events_at}
 use Rattle.link_laws.proofs.VideoReported.{AreGuards}
 use Rattle.island_pack.specs.Periods as sends
 
--- What is told of packets and what is left, from column s on, after k packets.
+-- What is reported of packets and what is left, from column s on, after k packets.
 
 abbrev reported : (ℕ → Event) → ℕ → ℕ → ℕ → Payload → List Event
 reported f b s k (parts ps t) = map event_of (in_packets s k ps ++ in_left b (s + 32 * length ps) (k + length ps) t) ++ if_so (not (begins_close t)) (f (s + 32 * length ps))
@@ -98,7 +98,7 @@ packet_first : (m : ℕ) (f : ℕ → Event) (first : Bool) (p : Packet) (ps : L
 unfolding packets_reported
 packet_first m f first p ps own reception more rest b s k i c are few fuel ih = grind (arith, cases_lt, packet_received, parts_open, one_whole, length-take, split_none, holds_not, reported_broken, lt-ltb)
 
--- the law of packets, k of which came before
+-- the law of packets, k of which were received before
 split_reported : (first : Bool) (ps : List Packet) (pp qq : List Column) → ArePackets first ps pp qq → (m : ℕ) (f : ℕ → Event) (close : List Column) (c d : Column) (b s k i : ℕ) → closes c d ≡ true → 1 ≤ k + length ps → k + length ps ≤ 18
     → length (take i (qq ++ (c ∷ (d ∷ [])))) ≤ m → reported f b s k (split m (take i (qq ++ (c ∷ (d ∷ []))))) ≡ packets_reported f s ps i (pp ++ close) (qq ++ (c ∷ (d ∷ [])))
 split_reported _ _ _ _ (no_packets first) m f close c d b s k i shut some few fuel = closing_reported f c d m b s k i close shut (omega arith)
@@ -111,7 +111,7 @@ split_reported _ _ _ _ (one_more first p ps own reception ss rs carries are hs) 
     (λ l le. split_reported false ps ss rs hs l f close c d b (s + 32) (k + 1) (i - 32) shut (omega arith) (omega arith) le)
     ∙ sym (ap₂ (λ (a z : List Column). packets_reported f s (p ∷ ps) i a z) e g)
 
--- where all came, what is told of a part that is not whole does not matter
+-- where all were received, what is reported of a part that is not whole does not matter
 whole_same : (ps : List Packet) (f g : ℕ → Event) (s i : ℕ) (ss rs : List Column) → 32 * length ps + 2 ≤ i → packets_reported f s ps i ss rs ≡ packets_reported g s ps i ss rs
 unfolding packets_reported
 whole_same [] f g s i ss rs le = grind (arith, le-leb)
@@ -170,7 +170,7 @@ quiet_pair u v g h rs lu lv are none =
     let one = are.one in
     and_both _ _ (ap not (stays_quiet (guard_column u) g (guard_quiet u lu) (omega arith))) (and_both _ _ (ap not (stays_quiet (guard_column v) h (guard_quiet v lv) (omega arith))) none)
 
--- an island's guard columns as they came
+-- an island's guard columns as received
 pub record AreIslandGuards (x : DataIsland) (g h c d : Column) : Type 0 where
   pub opening : AreGuards (guard_column x.opening.first) (guard_column x.opening.second) g h
   pub closing : AreGuards (guard_column x.closing.first) (guard_column x.closing.second) c d

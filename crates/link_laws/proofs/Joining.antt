@@ -1,4 +1,4 @@
--- What is told of received columns is the account, period after period.
+-- What is reported of received columns is the account, period after period.
 use Rattle.std.proofs.Common.{◌≡◌, ℕ, suc, zero, ◌+◌, ◌-◌, ◌≤◌, true, List, [], ◌∷◌, ◌++◌, length, take, drop, refl, ap, ap₂, sym, ◌∙◌, arith, inl, inr, length-append}
 use Rattle.std.proofs.lemmas.List.{append-nil, take_all, take-append-le, length-map}
 use Rattle.std.proofs.Math.Seq.{take-append-add}
@@ -19,7 +19,7 @@ use Rattle.link_laws.proofs.ControlReported.{control_row_reported}
 use Rattle.link_laws.proofs.Guards.{line_guard}
 use Rattle.link_laws.proofs.IslandReported.{AreIslandGuards, framed, frame, island_gap}
 
--- columns of a period as sent and as they came
+-- columns of a period as sent and as received
 pub data ArrivesPeriod : Period → List Column → List Column → Type 0 where
   controls : (runs : List ControlRun) (cs : List Column) → length cs ≡ length (values_of runs) → AllControl cs → ArrivesPeriod (control runs) (control_columns (values_of runs)) cs
   pixels :
@@ -29,7 +29,7 @@ pub data ArrivesPeriod : Period → List Column → List Column → Type 0 where
       (x : DataIsland) (g h c d : Column) (pp qq : List Column) → AreIslandGuards x g h c d → ArePackets true x.packets pp qq
       → ArrivesPeriod (island x) (frame x pp) (framed g h qq c d)
 
--- columns of periods as sent and as they came
+-- columns of periods as sent and as received
 pub data Arrives : List Period → List Column → List Column → Type 0 where
   nothing : Arrives [] [] []
   more : (x : Period) (xs : List Period) (own reception ss rs : List Column) → ArrivesPeriod x own reception → Arrives xs ss rs → Arrives (x ∷ xs) (own ++ ss) (reception ++ rs)

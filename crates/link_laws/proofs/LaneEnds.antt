@@ -138,7 +138,7 @@ one_or_none : (b : Bool) → one_if b ≤ 1
 unfolding one_if
 one_or_none b = grind arith
 
--- an unmarked word came as it was sent
+-- an unmarked word was received as it was sent
 pub same_word : (sent received : List ℕ) (i : ℕ) → length received ≡ length sent → i < length sent → get_or (damaged sent received) i false ≡ false → get_or received i 0 ≡ get_or sent i 0
 unfolding damaged
 same_word [] ys i len lt h = absurd (omega arith)

@@ -1,4 +1,4 @@
--- The lanes of columns that came of conforming periods with sparse damage: each is one in which an edge is the end of a
+-- The lanes of columns of conforming periods received with sparse damage: each is one in which an edge is the end of a
 -- control period.
 use Rattle.std.proofs.Common.{◌≡◌, ℕ, suc, zero, ◌+◌, ◌<◌, ◌≤◌, false, not, ◌==◌, List, [], ◌∷◌, map, length, take, drop, get_or, refl, ap, sym, ◌∙◌, subst, arith}
 use Rattle.std.proofs.lemmas.Bool.{eq-eqb}

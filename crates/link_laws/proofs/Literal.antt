@@ -1,4 +1,4 @@
--- The account, said with the columns at which events are told.
+-- The account, said with the columns at which events are reported.
 use Rattle.std.proofs.Common.{◌≡◌, ℕ, ◌+◌, ◌-◌, ◌<◌, ◌≤◌, true, cond, List, [], ◌∷◌, ◌++◌, length, drop, refl, ap, sym, ◌∙◌, subst, arith, inl, inr, append_assoc, length-append, length-drop}
 use Rattle.std.proofs.lemmas.List.{append-nil, drop-append-le}
 use Rattle.std.proofs.lemmas.List.Elements.{filter-append}
@@ -24,13 +24,14 @@ use Rattle.link_laws.proofs.Framing.{arrived_freely, link_law_freely}
 use Rattle.link_laws.proofs.CutPeriods.{both, alone}
 use Rattle.link_laws.proofs.Placed.{control_placed, period_places}
 
--- what is told of columns from column j on while they go on, and what the end tells at the first column behind them
+-- what is reported of columns from column j on while they go on, and what is reported at the end at the first column
+-- after them
 abbrev whole : ℕ → List Column → List EventAt
 whole j cs = reported_from j (stretches cs) ++ all_at (j + length cs) (end_from j (stretches cs))
 
 -- Control columns alone.
 
--- A stretch with others behind it.
+-- A stretch with others after it.
 
 regroup : (r l g c t e : List EventAt) → ((r ++ (l ++ g)) ++ (c ++ t)) ++ e ≡ (r ++ l) ++ ((g ++ c) ++ (t ++ e))
 regroup r l g c t e = simp append_assoc

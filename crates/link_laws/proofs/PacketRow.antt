@@ -1,4 +1,4 @@
--- A packet of which at most one word came unlike is taken as it was sent.
+-- A packet of which at most one word was received unlike is taken as it was sent.
 use Rattle.std.proofs.Common.{◌≡◌, ℕ, suc, zero, ◌*◌, ◌<◌, ◌≤◌, Bool, List, [], ◌∷◌, map, length, refl, ap, sym, ◌∙◌, subst, arith, inl, inr, length-drop, length-take-le}
 use Rattle.std.specs.Prelude.{drop}
 use Rattle.std.proofs.lemmas.Bool.{eqb-true, leb-true}
@@ -132,7 +132,7 @@ as_sent p first ss rs carries long same few =
     (omega (arith, body_wrong b ss rs, few)) (carries.bodies b lt) in
     by_blocks p ws carries.whole (length-map rs column_words ∙ long) (body 0 (omega arith)) (body 1 (omega arith)) (body 2 (omega arith)) (body 3 (omega arith)) header
 
--- what is taken of the columns that came of a packet is the packet of the account
+-- what is taken of the columns received of a packet is the packet of the account
 pub packet_row_taken : (p : Packet) (first : Bool) (ss rs : List Column) → CarriesFreely p (map column_words ss) → length rs ≡ 32 → packet_of rs ≡ packet_row p ss rs
 unfolding packet_row packet_in
 packet_row_taken p first ss rs carries long = grind (arith, length-map, as_sent, leb-true, sync_taken)

@@ -1,4 +1,4 @@
--- What is told of the columns that came of one period, and of periods one after another.
+-- What is reported of the columns received of one period, and of periods one after another.
 use Rattle.std.proofs.Common.{◌≡◌, ℕ, suc, ◌+◌, ◌-◌, ◌≤◌, List, [], ◌∷◌, ◌++◌, length, take, refl, sym, ◌∙◌, subst, arith, length-append}
 use Rattle.std.proofs.lemmas.List.{append-nil, length-replicate}
 use Rattle.tmds_word.specs.Column.{Column}

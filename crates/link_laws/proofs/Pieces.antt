@@ -1,1 +1,1 @@
--- What aligned lanes tell to the end is what was told so far and what the end tells.
+-- What is reported of aligned lanes to the end is what was reported so far and what is reported at the end.

@@ -1,4 +1,4 @@
--- What is told of one period's columns, and at which column each event.
+-- What is reported of one period's columns, and at which column each event.
 use Rattle.std.proofs.Common.{◌≡◌, ℕ, ◌+◌, ◌*◌, ◌-◌, ◌≤◌, Bool, true, false, not, List, [], ◌∷◌, ◌++◌, length, map, drop, refl, ap, ap₂, sym, ◌∙◌, append_assoc, arith, length-append, zero-add}
 use Rattle.std.proofs.lemmas.List.{append-nil, take_all}
 use Rattle.std.proofs.lemmas.Bool.{ne_eqb}
@@ -48,7 +48,7 @@ runs_end j n (columns v cs ∷ (s ∷ rs)) e =
     ∙ ap (λ i. words j cs ++ (at k (run v (length cs)) ∷ (in_runs k (s ∷ rs) ++ all_at i (last_run (s ∷ rs))))) f
     ∙ ap (λ ts. words j cs ++ (at k (run v (length cs)) ∷ ts)) (runs_end k m (s ∷ rs) refl)
 
--- the last run of control columns is told at the first column behind them
+-- the last run of control columns is reported at the first column after them
 pub control_placed : (j : ℕ) (cs : List Column) → in_runs j (runs cs) ++ all_at (j + length cs) (last_run (runs cs)) ≡ runs_placed j (runs cs)
 control_placed j cs = runs_end j (length cs) (runs cs) (sym (runs_total cs))
 
@@ -101,7 +101,7 @@ split_placed _ _ _ _ (one_more first p ps own reception ss rs carries are hs) m 
     )
     ∙ sym (ap₂ (λ (x z : List Column). packets_placed s (p ∷ ps) x z) e g)
 
--- what is left behind the packets closes
+-- what is left after the packets closes
 abbrev is_shut : Payload → Bool
 is_shut (parts ps t) = begins_close t
 

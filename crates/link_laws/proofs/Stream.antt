@@ -1,5 +1,5 @@
--- A short stream with a video data period and a data island, as it was sent, as it came with one damaged word in each,
--- and as it came with damaged words in a control period and in guard columns too.
+-- A short stream with a video data period and a data island, as it was sent, as it was received with one damaged word
+-- in each, and as it was received with damaged words in a control period and in guard columns too.
 use Rattle.std.proofs.Common.{◌≡◌, ℕ, suc, zero, ◌+◌, ◌*◌, ◌<◌, ◌≤◌, Bool, true, false, not, ◌&&◌, ◌||◌, ◌==◌, List, [], ◌∷◌, ◌++◌, map, length, take, drop, get_or, replicate, refl, ap, sym, subst, ◌∙◌, ◌-◌, arith, inl, inr, nat_le, nat_lt}
 use Rattle.std.specs.List.{All}
 use Rattle.std.proofs.lemmas.Bool.{cases_lt, eqb-true, eq-eqb, leb-true, ltb-true}
@@ -78,14 +78,14 @@ triple b g r = record { blue = b; green = g; red = r }
 abbrev pixel_sent : List Column
 pixel_sent = triple 0x100 0x100 0x100 ∷ []
 
--- a control word came in place of a pixel's word
+-- a control word was received in place of a pixel's word
 abbrev pixel_received : List Column
 pixel_received = triple 0x354 0x100 0x100 ∷ []
 
 abbrev packet_sent : List Column
 packet_sent = triple 0x29c 0x29c 0x29c ∷ replicate 31 (triple 0x2cc 0x29c 0x29c)
 
--- a word of ones came in place of a packet's word
+-- a word of ones was received in place of a packet's word
 abbrev packet_received : List Column
 packet_received = triple 0x29c 0x29c 0x29c ∷ (replicate 4 (triple 0x2cc 0x29c 0x29c) ++ (triple 0x2cc 0x3ff 0x29c ∷ replicate 26 (triple 0x2cc 0x29c 0x29c)))
 
@@ -119,11 +119,11 @@ sent = columns pixel_sent packet_sent
 unfoldable pub received : List Column
 received = columns pixel_received packet_received
 
--- a guard word came in place of a control word
+-- a guard word was received in place of a control word
 abbrev second_damaged : List Column
 second_damaged = map control_column (replicate 3 0) ++ (triple 0x354 0x354 0x2cc ∷ map control_column (replicate 8 20))
 
--- words of pixels came in place of a word of the first and of the last guard column
+-- words of pixels were received in place of a word of the first and of the last guard column
 abbrev island_damaged : List Column
 island_damaged =
     (triple 0x28e 0x100 0x133 ∷ (guard_column 1 ∷ []))
@@ -277,7 +277,7 @@ spelled =
     (spells_more (island one_packet) last_period (island_columns packet_sent) last_columns spells_packet
     (spells_more (control third) [] (control_columns third) [] refl refl))))
 
--- How the columns came.
+-- How the columns were received.
 
 long_sent : length sent ≡ 87
 unfolding sent values_of video_guard

@@ -1,4 +1,4 @@
--- What is told of the aligned columns of a tap is the account from the end of a control period on.
+-- What is reported of the aligned columns of a tap is the account from the end of a control period on.
 use Rattle.std.proofs.Common.{◌≡◌, ℕ, ◌+◌, ◌-◌, ◌*◌, ◌<◌, ◌≤◌, Bool, List, length, map, take, drop, ap, sym, ◌∙◌, subst, arith}
 use Rattle.std.specs.Prelude.{slice_index}
 use Rattle.std.proofs.lemmas.List.{length-map, get_or-map}

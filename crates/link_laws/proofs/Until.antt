@@ -21,7 +21,8 @@ use Rattle.link_laws.specs.Alternating.{IsAlternating, last, more}
 use Rattle.link_laws.proofs.Shapes.{where_ends, ends_alone, ends_late, in_first, in_rest}
 use Rattle.link_sink.proofs.Decided.{lock_of_run}
 
--- the characters of one lane as they were received: until column f control and guard words came as they were sent
+-- the characters of one lane as they were received: until column f control and guard words were received as
+-- they were sent
 pub record IsReceivedUntil (kinds : List Kind) (f : ℕ) (words : List ℕ) (marks : List Bool) : Type 0 where
   pub calm : IsCalm words marks
   pub below : (i : ℕ) → i < length words → get_or words i 0 < 1024
@@ -40,7 +41,7 @@ few_cut n marks few i within =
     ap (λ m. take 11 (drop i (take m marks))) (sym e) ∙ ap (take 11) (drop-take i (n - i) marks) ∙ take-take 11 (n - i) (drop i marks) (omega arith) in
     subst (λ ms. marked ms ≤ 2) (sym same) (few i (omega arith))
 
--- the lane cut behind column f is one that the standing laws know
+-- the lane cut after column f is one that the standing laws know
 pub cut_received : (kinds : List Kind) (f : ℕ) (words : List ℕ) (marks : List Bool) → IsReceivedUntil kinds f words marks → IsReceived kinds (take (f + 1) words) (take (f + 1) marks)
 cut_received kinds f words marks r = grind (arith, length-take, get_or-take, few_cut)
 

@@ -1,4 +1,4 @@
--- A video data period's columns as they came: two guard columns, and pixels.
+-- A video data period's columns as received: two guard columns, and pixels.
 use Rattle.std.proofs.Common.{◌≡◌, ℕ, suc, zero, ◌+◌, ◌/◌, ◌<◌, ◌≤◌, false, not, List, [], ◌∷◌, ◌++◌, length, take, refl, ap, ap₂, ◌∙◌, arith}
 use Rattle.std.specs.Prelude.{nat_le}
 use Rattle.std.proofs.lemmas.List.{append-nil, take_all}
@@ -33,7 +33,7 @@ pub record IsWord (byte word : ℕ) : Type 0 where
   pub byte_is : decoded_byte word ≡ byte
   pub quiet : is_control word ≡ false
 
--- a pixel column as sent and as it came
+-- a pixel column as sent and as received
 pub record PixelAt (p : Pixel) (s r : Column) : Type 0 where
   pub blue : IsWord p.blue s.blue
   pub green : IsWord p.green s.green
@@ -64,7 +64,7 @@ unfolding line_bytes pixel_bytes
 bytes_are _ _ _ no_pixels = refl
 bytes_are _ _ _ (more p s r ps ss rs h hs) = grind (arith, eqb-true, bytes_are ps ss rs hs)
 
--- two guard columns as they came
+-- two guard columns as received
 pub record AreGuards (s t g h : Column) : Type 0 where
   pub one : unlike s g + unlike t h ≤ 1
 

@@ -1,4 +1,4 @@
--- How many bits of a packet's blocks are wrong where few of its words came unlike.
+-- How many bits of a packet's blocks are wrong where few of its words were received unlike.
 use Rattle.std.proofs.Common.{◌≡◌, ℕ, suc, ◌+◌, ◌<◌, ◌≤◌, Bool, true, false, not, ◌==◌, List, [], ◌∷◌, map, length, refl, ap, arith, inl, inr, ◌⊎◌}
 use Rattle.std.proofs.lemmas.Bool.{eqb-true}
 use Rattle.tmds_word.specs.Column.{Column}

@@ -1,6 +1,6 @@
--- The account: what one who knows the periods that were sent, and the columns that spelled them, writes of the columns
--- that came. It cuts nothing and searches nothing: it walks the periods, and sees how many columns of each came.
--- A control period's row is said of its received columns alone, and a row behind it sees them for the preamble.
+-- The account: what one who knows the periods that were sent, and the columns that spelled them, writes of the received
+-- columns. It cuts nothing and searches nothing: it walks the periods, and sees how many columns of each were received.
+-- A control period's row is said of its received columns alone, and a row after it sees them for the preamble.
 use Rattle.std.specs.Prelude.{ℕ, zero, suc, ◌+◌, ◌-◌, cond, ◌==◌, List, [], ◌∷◌, ◌++◌, map, length, take, drop, nat_lt, nat_le}
 use Rattle.tmds_word.specs.Column.{Column}
 use Rattle.terc4.specs.Columns.{is_video_guard, is_island_guard}
@@ -47,7 +47,7 @@ close_island_row s _ = []
 
 -- Video data periods.
 
--- a byte as sent where its word came as sent, else the one that the received word has
+-- a byte as sent where its word was received as sent, else the one that the received word has
 abbrev pub byte : ℕ → ℕ → ℕ → ℕ
 byte b s r = cond (s == r) b (decoded_byte r)
 
@@ -60,7 +60,7 @@ pixel_bytes _ _ _ = []
 unfoldable pub video_row : ℕ → List Pixel → List Column → List Column → List Event
 video_row b pixels ss rs = line (pixel_bytes pixels ss rs) ∷ codes_of (b + 2) rs
 
--- a video data period from column b on, of which m columns came
+-- a video data period from column b on, of which m columns were received
 unfoldable pub video_reported : ℕ → ℕ → List Column → List Pixel → List Column → List Column → List Event
 video_reported b zero before pixels ss rs = []
 video_reported b (suc zero) before pixels ss rs = cut b ∷ []
@@ -69,17 +69,17 @@ video_reported b (suc (suc i)) before pixels ss rs =
 
 -- Data islands.
 
--- how many words of columns came unlike
+-- how many words of columns were received unlike
 unfoldable pub damage : List Column → List Column → ℕ
 damage (s ∷ ss) (r ∷ rs) = unlike_words (column_words s) (column_words r) + damage ss rs
 damage _ _ = 0
 
--- a sync value as sent where its word came as sent, else the one that the received word has
+-- a sync value as sent where its word was received as sent, else the one that the received word has
 unfoldable pub sync_row : List ℕ → List Column → List Column → List ℕ
 sync_row (v ∷ vs) (s ∷ ss) (r ∷ rs) = cond (s.blue == r.blue) v (sync_digit r.blue) ∷ sync_row vs ss rs
 sync_row _ _ _ = []
 
--- header and bodies as sent where at most one of the packet's words came unlike, else as they are taken
+-- header and bodies as sent where at most one of the packet's words was received unlike, else as they are taken
 unfoldable pub packet_row : Packet → List Column → List Column → Packet
 packet_row p ss rs =
     cond (nat_le (damage ss rs) 1)
@@ -90,8 +90,8 @@ packet_row p ss rs =
 unfoldable pub packet_reported : ℕ → Packet → List Column → List Column → List Event
 packet_reported s p ss rs = packet (packet_row p ss rs) (verdicts_of rs) s ∷ packet_faults s (verdicts_of rs)
 
--- packets from column s on and the guard columns that close them, of which i columns came; where a packet or the guard
--- is not whole, `broken` says so
+-- packets from column s on and the guard columns that close them, of which i columns were received; where a packet or
+-- the guard is not whole, `broken` says so
 unfoldable pub packets_reported : (ℕ → Event) → ℕ → List Packet → ℕ → List Column → List Column → List Event
 packets_reported broken s [] i ss rs = cond (nat_le 2 i) (close_island_row s rs) (broken s ∷ [])
 packets_reported broken s (p ∷ ps) i ss rs =
@@ -99,7 +99,7 @@ packets_reported broken s (p ∷ ps) i ss rs =
     (broken s ∷ [])
     (packet_reported s p (take 32 ss) (take 32 rs) ++ packets_reported broken (s + 32) ps (i - 32) (drop 32 ss) (drop 32 rs))
 
--- a data island from column b on, of which m columns came
+-- a data island from column b on, of which m columns were received
 unfoldable pub island_reported : ℕ → ℕ → List Column → DataIsland → List Column → List Column → List Event
 island_reported b zero before x ss rs = []
 island_reported b (suc zero) before x ss rs = cut b ∷ []
@@ -107,13 +107,13 @@ island_reported b (suc (suc i)) before x ss rs = open_island_row b before rs ++ 
 
 -- All periods.
 
--- a period from column j on, of which m columns came; `before` are the received columns of the period before
+-- a period from column j on, of which m columns were received; `before` are the received columns of the period before
 unfoldable pub period_row : ℕ → ℕ → List Column → Period → List Column → List Column → List Event
 period_row j m before (control runs) ss rs = control_row j (take m rs)
 period_row j m before (video bytes) ss rs = video_reported j m before (pixels_of bytes) ss rs
 period_row j m before (island x) ss rs = island_reported j m before x ss rs
 
--- periods from column j on, of which m columns came
+-- periods from column j on, of which m columns were received
 unfoldable pub account_from : ℕ → ℕ → List Column → List Period → List Column → List Column → List Event
 account_from j m before [] ss rs = []
 account_from j m before (p ∷ ps) ss rs =
@@ -127,7 +127,7 @@ account_at p a m ps ss rs =
     control_row 0 (take m first)
     ++ account_from (period_columns p - a) (m - (period_columns p - a)) first ps (drop (period_columns p) ss) (drop (period_columns p) rs)
 
--- m columns from column a on, which lies in a control period; ss were sent and rs came
+-- m columns from column a on, which lies in a control period; ss were sent and rs received
 unfoldable pub account : List Period → List Column → List Column → ℕ → ℕ → List Event
 account [] ss rs a m = []
 account (p ∷ ps) ss rs a m =

@@ -1,4 +1,4 @@
--- Lanes of columns that came with sparse damage.
+-- Lanes of columns received with sparse damage.
 use Rattle.tmds_word.specs.Column.{Column, blues, greens, reds}
 use Rattle.std.specs.Prelude.{List}
 use Rattle.lane_align.specs.Laws.{IsCalm}
@@ -13,6 +13,6 @@ pub record AreCalm (sent received : List Column) : Type 0 where
   pub green : IsCalm (greens received) (damaged (greens sent) (greens received))
   pub red : IsCalm (reds received) (damaged (reds sent) (reds received))
 
--- lanes of columns that came with sparse damage, wherever it lies, are calm
+-- lanes of columns received with sparse damage, wherever it lies, are calm
 abbrev pub LanesAreCalm : Type 0
 LanesAreCalm = (ps : List Period) (sent received : List Column) → ReceivedOf ps sent received → AreCalm sent received

@@ -1,6 +1,6 @@
--- The laws of telling where bit 3 of lane 0 in packet columns is free in the columns that were sent, as a sink does not judge
--- it: columns of which no fault is told then meet them with what came for what was sent. Columns that a source spells are one
--- case of these, and the laws that ask for those are cases of the laws here.
+-- The laws of reporting where bit 3 of lane 0 in packet columns is free in the columns that were sent, as a sink does
+-- not judge it: columns of which no fault is reported then meet them with what was received for what was sent. Columns
+-- that a source spells are one case of these, and the laws that ask for those are cases of the laws here.
 use Rattle.std.specs.Prelude.{◌≡◌, ◌↔◌, ℕ, ◌+◌, ◌<◌, ◌≤◌, Bool, true, List, [], ◌∷◌, map, length, take, drop, ◌++◌}
 use Rattle.tmds_word.specs.Column.{Column, blues, greens, reds}
 use Rattle.tmds_word.specs.Taps.{IsTap, HasSmallSkew}
@@ -22,7 +22,7 @@ use Rattle.link_laws.specs.Literal.{account_placed}
 use Rattle.link_laws.specs.PeriodLaws.{tells, AreControl, TellRow}
 use Rattle.link_laws.specs.Whole.{ends_long}
 
--- columns that spell conforming periods, whatever bit 3 of lane 0 is, and columns that came of them with sparse damage
+-- columns that spell conforming periods, whatever bit 3 of lane 0 is, and columns of them received with sparse damage
 pub record ReceivedFreely (ps : List Period) (sent received : List Column) : Type 0 where
   pub conforming : IsConforming ps
   pub spelled : SpellsBy freely ps sent
@@ -43,7 +43,7 @@ FramingStandsFreely =
 abbrev pub PeriodsStandFreely : Type 0
 PeriodsStandFreely = (ps : List Period) (sent received : List Column) → ReceivedFreely ps sent received → stretches received ≡ cut_as ps received
 
--- What is told.
+-- What is reported.
 
 abbrev pub LinkLawFreely : Type 0
 LinkLawFreely =
@@ -116,8 +116,8 @@ PayloadAccountedFreely =
 
 -- A clean check.
 
--- columns of ten bits a lane of which no fault is told, and that end in a control period of at least twelve, came so of
--- themselves
+-- columns of ten bits a lane of which no fault is reported, and that end in a control period of at least twelve, are
+-- received so, taken as what was sent
 abbrev pub CleanReceived : Type 0
 CleanReceived =
     (cs : List Column) → ((i : ℕ) → i < length cs → IsNarrow (column_at cs i)) → IsClean cs → ends_long (stretches cs) ≡ true

@@ -21,7 +21,7 @@ IsGuard second_guard = Unit {0}
 IsGuard pixel_column = ⊥
 IsGuard packet_column = ⊥
 
--- the characters of one lane as they were received, with a mark for each that may have come damaged
+-- the characters of one lane as they were received, with a mark for each that may have been received damaged
 pub record IsReceived (kinds : List Kind) (words : List ℕ) (marks : List Bool) : Type 0 where
   pub calm : IsCalm words marks
   pub below : (i : ℕ) → i < length words → slice_index words i < 1024
@@ -74,13 +74,13 @@ pub record IsSent (kinds : List Kind) (sent : List ℕ) : Type 0 where
   pub controls : (i : ℕ) → i < length sent → kind_at kinds i ≡ control_column → is_control (slice_index sent i) ≡ true
   pub others : (i : ℕ) → i < length sent → (kind_at kinds i ≡ control_column → ⊥) → turns (word_bits (slice_index sent i)) ≤ 5
 
--- which characters came unlike those that were sent
+-- which characters were received unlike those that were sent
 unfoldable pub damaged : List ℕ → List ℕ → List Bool
 damaged [] ys = []
 damaged (x ∷ xs) [] = []
 damaged (x ∷ xs) (y ∷ ys) = not (x == y) ∷ damaged xs ys
 
--- the characters as they came: at most two in eleven unlike those that were sent, and those in payload alone
+-- the characters as they were received: at most two in eleven unlike those that were sent, and those in payload alone
 pub record IsSparse (kinds : List Kind) (sent received : List ℕ) : Type 0 where
   pub same_length : length received ≡ length sent
   pub below : (i : ℕ) → i < length received → slice_index received i < 1024
@@ -88,7 +88,7 @@ pub record IsSparse (kinds : List Kind) (sent received : List ℕ) : Type 0 wher
       (i : ℕ) → i < length sent → (IsPayload (kind_at kinds i) → ⊥) → slice_index_or (damaged sent received) i false ≡ false
   pub few : (i : ℕ) → i + 11 ≤ length sent → marked (take 11 (drop i (damaged sent received))) ≤ 2
 
--- a lane that came so meets what the other laws ask for
+-- a lane that was received so meets what the other laws ask for
 abbrev pub SparseReceived : Type 0
 SparseReceived =
     (kinds : List Kind) (sent received : List ℕ) → IsSent kinds sent → IsSparse kinds sent received

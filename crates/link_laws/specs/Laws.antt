@@ -1,5 +1,5 @@
--- What holds of columns that came with sparse damage: where their edges and first full alignment are, how they are cut,
--- and what is told of them.
+-- What holds of columns received with sparse damage: where their edges and first full alignment are, how they are cut,
+-- and what is reported of them.
 use Rattle.std.specs.Prelude.{◌≡◌, ◌↔◌, ℕ, ◌+◌, ◌*◌, ◌<◌, ◌≤◌, Bool, true, false, not, List, [], ◌∷◌, map, length, take, drop, slice_index}
 use Rattle.tmds_word.specs.Column.{Column, blues, greens, reds}
 use Rattle.tmds_word.specs.Taps.{part_of, IsTap, HasSmallSkew}
@@ -23,7 +23,7 @@ use Rattle.link_laws.specs.Account.{damage, account}
 abbrev pub EndsControl : List Period → ℕ → Type 0
 EndsControl ps i = EndsAt (kinds_of ps) i
 
--- columns that spell conforming periods, and columns that came of them with sparse damage, wherever it lies
+-- columns that spell conforming periods, and columns of them received with sparse damage, wherever it lies
 pub record ReceivedOf (ps : List Period) (sent received : List Column) : Type 0 where
   pub conforming : IsConforming ps
   pub spelled : Spells ps sent
@@ -31,7 +31,7 @@ pub record ReceivedOf (ps : List Period) (sent received : List Column) : Type 0 
 
 -- The framing.
 
--- the control columns that came are those of the control periods
+-- the received control columns are those of the control periods
 abbrev pub FramingStands : Type 0
 FramingStands =
     (ps : List Period) (sent received : List Column) → ReceivedOf ps sent received
@@ -45,14 +45,14 @@ cut_as (p ∷ (q ∷ ps)) cs =
     cut (take (period_columns p) cs) (take (period_columns q) (drop (period_columns p) cs))
     ∷ cut_as ps (drop (period_columns q) (drop (period_columns p) cs))
 
--- the columns that came are cut where the periods are
+-- the received columns are cut where the periods are
 abbrev pub PeriodsStand : Type 0
 PeriodsStand = (ps : List Period) (sent received : List Column) → ReceivedOf ps sent received → stretches received ≡ cut_as ps received
 
--- What is told.
+-- What is reported.
 
--- what is told of columns from twelve before the end of a control period on is the account. Damage may lie anywhere, in
--- the first control period too
+-- what is reported of columns from twelve before the end of a control period on is the account. Damage may lie
+-- anywhere, in the first control period too
 abbrev pub LinkLaw : Type 0
 LinkLaw =
     (ps : List Period) (sent received : List Column) → ReceivedOf ps sent received
@@ -137,7 +137,7 @@ wrong_bits (true ∷ xs) (b ∷ bs) = one_if (not b) + wrong_bits xs bs
 wrong_bits (false ∷ xs) (b ∷ bs) = one_if b + wrong_bits xs bs
 wrong_bits _ _ = 0
 
--- each block of a packet of which at most one word came unlike has at most one wrong bit
+-- each block of a packet of which at most one word was received unlike has at most one wrong bit
 abbrev pub OneWrongBit : Type 0
 OneWrongBit =
     (p : Packet) (first : Bool) (sent received : List Column) → Carries p first (map column_words sent) → length received ≡ 32
@@ -147,7 +147,7 @@ OneWrongBit =
 
 -- Examples.
 
--- a column of a kind came unlike the one that was sent
+-- a column of a kind was received unlike the one that was sent
 abbrev pub HasUnlike : Kind → List Period → List Column → List Column → Type 0
 HasUnlike kind ps sent received = (i : ℕ) × (kind_at (kinds_of ps) i ≡ kind) × (column_at received i ≡ column_at sent i → ⊥)
 
@@ -163,7 +163,8 @@ pub record IsPayloadExample (ps : List Period) (sent received : List Column) : T
   pub pixel : HasUnlike pixel_column ps sent received
   pub packet : HasUnlike packet_column ps sent received
 
--- damage of a pixel, of a packet, of a control period and of guard columns, behind the column until which a tap is aligned
+-- damage of a pixel, of a packet, of a control period and of guard columns, after the column until which a
+-- tap is aligned
 pub record IsExample (ps : List Period) (sent received : List Column) (counts : List ℕ) (until : ℕ) : Type 0 where
   pub reception : ReceivedOf ps sent received
   pub aligns : AlignsUntil ps sent received 7 (0 ∷ 70 ∷ 35 ∷ []) counts until

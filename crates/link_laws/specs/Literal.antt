@@ -1,5 +1,6 @@
--- The account said with no arithmetic on how many columns came: each event that is told of columns that stand whole, with
--- the column at which it is told. Those told at columns from m on are left out, and then comes what the end tells.
+-- The account said with no arithmetic on how many columns were received: each event that is reported of columns that
+-- stand whole, with the column at which it is reported. Those reported at columns from m on are left out, and then
+-- follows what is reported at the end.
 use Rattle.std.specs.Prelude.{◌≡◌, ℕ, ◌+◌, ◌-◌, ◌≤◌, cond, List, [], ◌∷◌, ◌++◌, map, length, take, drop, nat_lt}
 use Rattle.tmds_word.specs.Column.{Column}
 use Rattle.island_pack.specs.Periods.{DataIsland, Period, control, video, island, Pixel, pixels_of, period_columns}
@@ -16,7 +17,7 @@ unfoldable pub runs_placed : ℕ → List Run → List EventAt
 runs_placed j [] = []
 runs_placed j (columns v cs ∷ rs) = words j cs ++ (at (j + length cs) (run v (length cs)) ∷ runs_placed (j + length cs) rs)
 
--- what opens is told at the second guard column, the line at the first column behind the pixels
+-- what opens is reported at the second guard column, the line at the first column after the pixels
 unfoldable pub video_placed : ℕ → List Column → List Pixel → List Column → List Column → List EventAt
 video_placed b before pixels ss rs =
     all_at (b + 1) (open_video_row b before rs) ++ all_at (b + 2 + length pixels) (video_row b pixels (drop 2 ss) (drop 2 rs))
@@ -56,7 +57,7 @@ account_placed (p ∷ ps) ss rs a =
     (placed_from p a ps ss rs)
     (account_placed ps (drop (period_columns p) ss) (drop (period_columns p) rs) (a - period_columns p))
 
--- events at columns from m on are left out, and the end tells what the hearing says
+-- events at columns from m on are left out, and at the end what the hearing says is reported
 abbrev pub AccountLiteral : Type 0
 AccountLiteral =
     (ps : List Period) (sent received : List Column) → ReceivedOf ps sent received

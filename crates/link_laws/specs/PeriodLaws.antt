@@ -1,4 +1,4 @@
--- What is told of the columns that came of one period, and of periods one after another.
+-- What is reported of the columns received of one period, and of periods one after another.
 use Rattle.std.specs.Prelude.{◌≡◌, ℕ, ◌+◌, ◌-◌, ◌≤◌, true, List, [], ◌∷◌, ◌++◌, map, length, take}
 use Rattle.std.specs.List.{list_all}
 use Rattle.tmds_word.specs.Column.{Column}
@@ -13,11 +13,11 @@ use Rattle.period_grammar.specs.Events.{Event, event_of}
 use Rattle.link_laws.specs.Account.{period_row, account_from}
 use Rattle.link_laws.specs.Laws.{ReceivedOf}
 
--- what is told of columns from column j on, with what the end tells
+-- what is reported of columns from column j on, with what is reported at the end
 abbrev pub tells : ℕ → List Column → List Event
 tells j cs = map event_of (reported_from j (stretches cs)) ++ end_from j (stretches cs)
 
--- columns that spell a period, and columns that came of them with sparse damage
+-- columns that spell a period, and columns of them received with sparse damage
 pub record PeriodReceived (p : Period) (sent received : List Column) : Type 0 where
   pub spelled : SpellsPeriod p sent
   pub sparse : IsSparse (p ∷ []) sent received
@@ -27,14 +27,15 @@ pub record AreControl (cs : List Column) : Type 0 where
   pub long : 12 ≤ length cs
   pub all : list_all is_control_column cs ≡ true
 
--- of a control period control columns come, and what is told of its first m columns is its row
+-- of a control period control columns are received, and what is reported of its first m columns is its row
 abbrev pub ControlLaw : Type 0
 ControlLaw =
     (runs : List ControlRun) (sent received : List Column) → is_control_period runs ≡ true → PeriodReceived (control runs) sent received
     → AreControl received × ((j m : ℕ) → tells j (take m received) ≡ period_row j m [] (control runs) sent received)
 
--- columns that stand after control columns and before a control column, of which, with those behind them, m came: what
--- is told of them is the period's row, between what is told of the columns before and of those behind
+-- columns that stand after control columns and before a control column, of which, with those after them, m were
+-- received: what is reported of them is the period's row, between what is reported of the columns before and
+-- of those after
 abbrev pub TellRow : Period → List Column → List Column → Type 0
 TellRow p sent received =
     (before : List Column) (next : Column) (rest : List Column) (j m : ℕ) → AreControl before → is_control_column next ≡ true
@@ -52,7 +53,7 @@ IslandLaw =
     (x : DataIsland) (sent received : List Column) → is_data_island x ≡ true → PeriodReceived (island x) sent received
     → TellRow (island x) sent received
 
--- what is told of the first m columns of conforming periods is, period after period, the row of each
+-- what is reported of the first m columns of conforming periods is, period after period, the row of each
 abbrev pub JoiningLaw : Type 0
 JoiningLaw =
     (ps : List Period) (sent received : List Column) → ReceivedOf ps sent received

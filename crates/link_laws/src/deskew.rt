@@ -25,7 +25,7 @@ pub fn conforming_alternate()
     ensures { ConformingAlternate }
 {}
 
-/// A lane of alternating columns, of whose characters at most two in any eleven came damaged, with
+/// A lane of alternating columns, of whose characters at most two in any eleven were received damaged, with
 /// control words still control words and guard words still none: each edge in a part of its bits is
 /// the end of a control period.
 pub fn edges_end()
@@ -49,7 +49,7 @@ pub fn first_ends()
     ensures { FirstEnds }
 {}
 
-/// A lane is such a lane where its characters came as they were sent, but for at most two in any
+/// A lane is such a lane where its characters were received as they were sent, but for at most two in any
 /// eleven, and those of pixels and packets alone.
 pub fn sparse_received()
     ensures { SparseReceived }
@@ -86,7 +86,7 @@ pub fn evenly_fed()
     ensures { EvenlyFed }
 {}
 
-/// Before any bit came, nothing is pushed.
+/// Before any bit arrived, nothing is pushed.
 pub fn nothing_cut()
     ensures { NothingCut }
 {}

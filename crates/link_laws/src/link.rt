@@ -1,5 +1,5 @@
-//! What holds of columns that came with sparse damage, of columns of which no fault is told, and of what is told of bits.
-//! The functions do nothing: what they ensure are the laws.
+//! What holds of columns received with sparse damage, of columns of which no fault is reported, and of what is reported
+//! of bits. The functions do nothing: what they ensure are the laws.
 ghost use Rattle.link_laws.specs.Laws.{FramingStands, PeriodsStand, LinkLaw, EdgesEnd, FirstEnds, FirstUntil, TapAccounted, PayloadAccounted, OneWrongBit, HasExample, HasPayloadExample};
 ghost use Rattle.link_laws.specs.PeriodLaws.{ControlLaw, VideoLaw, IslandLaw, JoiningLaw};
 ghost use Rattle.link_laws.specs.Literal.{AccountLiteral};
@@ -11,43 +11,45 @@ ghost use Rattle.link_sink.specs.Sinks.{SomeReported, OneReported};
 ghost use Rattle.link_laws.specs.Freely.{FramingStandsFreely, PeriodsStandFreely, LinkLawFreely, ControlLawFreely, VideoLawFreely, IslandLawFreely, JoiningLawFreely, AccountLiteralFreely, EdgesEndFreely, FirstEndsFreely, FirstUntilFreely, TapAccountedFreely, PayloadAccountedFreely, CleanReceived};
 ghost use Rattle.link_laws.specs.Growth.{ReportedGrows, WholeGrows, LinkIsGrammar};
 
-/// The control columns that came are those of the control periods, wherever damage lies.
+/// The received control columns are those of the control periods, wherever damage lies.
 pub fn framing_stands()
     ensures { FramingStands }
 {}
 
-/// The columns that came are cut where the periods are, wherever damage lies.
+/// The received columns are cut where the periods are, wherever damage lies.
 pub fn periods_stand()
     ensures { PeriodsStand }
 {}
 
-/// What is told of the columns from twelve before the end of a control period on is the account, wherever damage lies.
+/// What is reported of the columns from twelve before the end of a control period on is the account,
+/// wherever damage lies.
 pub fn link_law()
     ensures { LinkLaw }
 {}
 
-/// Of a control period control columns come, and they tell the runs of their values and their words that are no control
-/// words.
+/// Of a control period control columns are received, and of these the runs of their values and their words that are no
+/// control words are reported.
 pub fn control_law()
     ensures { ControlLaw }
 {}
 
-/// What is told of the columns that came of a video data period, after control columns and before one, is its row.
+/// What is reported of the columns received of a video data period, after control columns and before one, is its row.
 pub fn video_law()
     ensures { VideoLaw }
 {}
 
-/// What is told of the columns that came of a data island, after control columns and before one, is its row.
+/// What is reported of the columns received of a data island, after control columns and before one, is its row.
 pub fn island_law()
     ensures { IslandLaw }
 {}
 
-/// What is told of conforming periods is, period after period, the row of each.
+/// What is reported of conforming periods is, period after period, the row of each.
 pub fn joining_law()
     ensures { JoiningLaw }
 {}
 
-/// The account is what its rows tell before column `m`, and then what the end tells of the first `m` columns.
+/// The account is what its rows report before column `m`, and then what is reported at the end of the
+/// first `m` columns.
 pub fn account_literal()
     ensures { AccountLiteral }
 {}
@@ -70,7 +72,7 @@ pub fn first_until()
     ensures { FirstUntil }
 {}
 
-/// Under the same premises what is told of the aligned columns of the tap is the account from the end of a control
+/// Under the same premises what is reported of the aligned columns of the tap is the account from the end of a control
 /// period on.
 pub fn tap_accounted()
     ensures { TapAccounted }
@@ -81,7 +83,7 @@ pub fn payload_accounted()
     ensures { PayloadAccounted }
 {}
 
-/// Each block of a packet of which at most one word came unlike has at most one wrong bit.
+/// Each block of a packet of which at most one word was received unlike has at most one wrong bit.
 pub fn one_wrong_bit()
     ensures { OneWrongBit }
 {}
@@ -96,24 +98,24 @@ pub fn has_example()
     ensures { HasExample }
 {}
 
-/// Where no fault is told, some conforming periods are spelled by columns that begin with the ones before the cut: some
-/// conforming sender could have sent them.
+/// Where no fault is reported, some conforming periods are spelled by columns that begin with the ones before the cut:
+/// some conforming sender could have sent them.
 pub fn clean_is_front()
     ensures { CleanIsFront }
 {}
 
-/// Of columns with which those begin that spell some conforming periods no fault is told, wherever they end.
+/// Of columns with which those begin that spell some conforming periods no fault is reported, wherever they end.
 pub fn front_is_clean()
     ensures { FrontIsClean }
 {}
 
-/// No fault is told exactly where some conforming sender could have sent the columns before the cut, but for bit 3 of
-/// lane 0 in packet columns, which is not judged.
+/// No fault is reported exactly where some conforming sender could have sent the columns before the cut, but for bit 3
+/// of lane 0 in packet columns, which is not judged.
 pub fn check_is_exact()
     ensures { CheckIsExact }
 {}
 
-/// Of any bits of three lanes something is told so far.
+/// Of any bits of three lanes something is reported so far.
 pub fn some_reported()
     ensures { SomeReported }
 {}
@@ -123,17 +125,18 @@ pub fn one_reported()
     ensures { OneReported }
 {}
 
-/// What is told so far of three lanes begins what is told so far when each has any bits more.
+/// What is reported so far of three lanes begins what is reported so far when each has any bits more.
 pub fn reported_grows()
     ensures { ReportedGrows }
 {}
 
-/// And it begins all that those lanes tell to their end.
+/// And it begins all that is reported of those lanes to their end.
 pub fn whole_grows()
     ensures { WholeGrows }
 {}
 
-/// What the columns of a link tell is told whatever comes after them, and what their end tells comes last.
+/// What is reported of the columns of a link is reported whatever follows them, and what is reported at their
+/// end is last.
 pub fn link_is_grammar()
     ensures { LinkIsGrammar }
 {}
@@ -153,8 +156,8 @@ pub fn decoded_is_byte()
     ensures { DecodedIsByte }
 {}
 
-/// Lanes of columns that came with sparse damage, wherever it lies, are calm: of any eleven of their characters at most two
-/// came damaged, and each other one is a control character or has few transitions.
+/// Lanes of columns received with sparse damage, wherever it lies, are calm: of any eleven of their characters at most
+/// two were received damaged, and each other one is a control character or has few transitions.
 pub fn lanes_are_calm()
     ensures { LanesAreCalm }
 {}
@@ -165,7 +168,7 @@ pub fn framed_freely()
     ensures periods { PeriodsStandFreely }
 {}
 
-/// So do those on what is told.
+/// So do those on what is reported.
 pub fn reported_freely()
     ensures link { LinkLawFreely }
     ensures control { ControlLawFreely }
@@ -184,7 +187,8 @@ pub fn aligned_freely()
     ensures payload { PayloadAccountedFreely }
 {}
 
-/// Clean columns that end in a control period of twelve columns or more meet these with what came for what was sent.
+/// Clean columns that end in a control period of twelve columns or more meet these with what was received for
+/// what was sent.
 pub fn clean_received()
     ensures { CleanReceived }
 {}

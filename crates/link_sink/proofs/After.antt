@@ -1,4 +1,4 @@
--- A stream whose lanes have more bits than were heard, and what it tells of them.
+-- A stream whose lanes have more bits than were heard, and what is reported of them.
 use Rattle.std.proofs.Common.{◌≡◌, ℕ, ◌+◌, ◌-◌, ◌^◌, ◌<◌, ◌≤◌, Bool, true, false, List, [], ◌++◌, length, drop, refl, ap, sym, ◌∙◌, subst, arith, inr, Option, Some, None, is_some, slice_index, length-append}
 use Rattle.std.proofs.lemmas.List.{append-nil}
 use Rattle.tmds_word.specs.Column.{Column}
@@ -25,7 +25,7 @@ use Rattle.link_sink.proofs.Feeding.{length_grown}
 use Rattle.link_sink.proofs.Following.{gains, reported_one}
 use Rattle.link_sink.proofs.Prefixes.{columns_grow, front_and_rest}
 
--- what lanes tell is what is told of their columns
+-- what is reported of lanes is what is reported of their columns
 pub reported_at : (g : Grammar) → IsGrammar g → (fed : Fed) (at : Option Aligned) → IsFoundAt fed at → IsReportedBy g fed (g.so_far (columns_from fed at))
 reported_at g h k l m = grind arith
 
@@ -68,7 +68,7 @@ few_lent stands counted counts s before now lent h is =
     let all = count_lent stands s before now lent h is in
     grind (arith, few_now)
 
--- what they tell is told more
+-- what is reported of them is reported in addition
 pub lent_gain : {H : Type 0} (stands : H → List Column → Type 0) (g : Grammar) → IsGrammar g → (s : HearingStream H) (before now : Fed) (lent : List Column) (events : List Event) → (h : IsAfter stands s before now)
     → ((fed : Fed) (taken : ℕ) → ReceiverRepresents s.receiver fed taken → lent ≡ drop taken (columns_from fed s.receiver.deskew.found))
     → g.so_far (columns_from before h.was ++ lent) ≡ g.so_far (columns_from before h.was) ++ events → IsGainBy g before now events
@@ -120,7 +120,7 @@ last_nowhere g fed None columns found none many = λ reported so_far. record {
   reported = append-nil reported ∙ reported_one g fed reported [] so_far (inr (found, refl));
 }
 
--- what the end tells of lanes that are aligned
+-- what is reported at the end of lanes that are aligned
 pub ends_heard : {H : Type 0} (stands : H → List Column → Type 0) (g : Grammar) → IsGrammar g → (s : HearingStream H) (fed : Fed) (events : List Event) → IsHeard stands s fed → s.outcome.aligned ≡ true
     → ((cs : List Column) → stands s.hearing cs → g.whole cs ≡ g.so_far cs ++ events) → IsLastBy g fed s.outcome events
 ends_heard stands g is s fed events h aligned all = λ reported so_far.

@@ -1,4 +1,4 @@
--- Three lanes have a first full alignment, or they have none: so there is always what they tell.
+-- Three lanes have a first full alignment, or they have none: so there is always what is reported of them.
 use Rattle.std.proofs.Common.{◌≡◌, ℕ, zero, suc, ◌+◌, ◌-◌, ◌*◌, ◌%◌, ◌<◌, ◌≤◌, max, Bool, true, false, List, [], length, refl, subst, arith, ◌⊎◌, inl, inr, Option, Some, None}
 use mathlib.Core.Logic.Dec.{and as both}
 use native.Mathlib.Decide.{map_dec, ℕ_discrete, dec_le}
@@ -199,7 +199,7 @@ first_decided xs ys zs = by (least_or_none (HasTriple xs ys zs) (all_bits xs ys 
         at p q r t le (inr ge) = omega (arith, le, ge)
     by (inr none) = inr (λ d e f t. none (max d (max e f)) (largest_within xs ys zs d e f t) (up_to_largest xs ys zs d e f t))
 
--- so there is what they tell while they go on
+-- so there is what is reported of them while they go on
 pub reported_so_far : (g : Grammar) (fed : Fed) → (events : List Event) × IsReportedBy g fed events
 reported_so_far g fed = by (first_decided fed.blue fed.green fed.red)
   where

@@ -1,4 +1,4 @@
--- What is told of columns grows with them, and an ear that takes it.
+-- What is reported of columns grows with them, and an ear that takes it.
 use Rattle.std.proofs.Common.{arith, ◌≡◌, List, [], ◌∷◌, ◌++◌, length, ap, sym, subst, ◌∙◌, append_assoc, All}
 use Rattle.std.proofs.Math.Seq.{take-append_seam, drop-append_seam}
 use Rattle.std.proofs.lemmas.List.Elements.{All-take, All-drop}
@@ -17,23 +17,23 @@ all_front P xs ys h = subst (All P) (take-append_seam xs ys) (All-take P (length
 all_back : {X : Type 0} (P : X → Type 0) (xs ys : List X) → All P (xs ++ ys) → All P ys
 all_back P xs ys h = subst (All P) (drop-append_seam xs ys) (All-drop P (length xs) (xs ++ ys) h)
 
--- what the end tells is of the sizes of all that is told
+-- what is reported at the end is of the sizes of all that is reported
 pub end_sized : (g : Grammar) → IsGrammar g → (cs : List Column) (us : List Event) → g.whole cs ≡ g.so_far cs ++ us → All IsSized us
 end_sized g is cs us e = all_back IsSized (g.so_far cs) us (subst (All IsSized) e (is.sized cs))
 
--- so is what a call told
+-- so is what a call reported
 pub call_sized : (g : Grammar) → IsGrammar g → (cs ds : List Column) (us : List Event) → g.so_far ds ≡ g.so_far cs ++ us → All IsSized us
 call_sized g is cs ds us e =
     let end = is.ended ds in
     all_back IsSized (g.so_far cs) us (subst (All IsSized) e (all_front IsSized (g.so_far ds) end.0 (subst (All IsSized) end.1 (is.sized ds))))
 
--- an ear that took what columns tell takes what the next one tells
+-- an ear that took what is reported of columns takes what is reported at the next one
 pub took_next : {A : Type 0} (g : Grammar) (took : A → A → List Event → Type 0) → ((x y z : A) (h k : List Event) → took x y h → took y z k → took x z (h ++ k))
     → (x y z : A) (cs part next : List Column) (c : Column) (us : List Event) → next ≡ part ++ c ∷ []
     → g.so_far ((cs ++ part) ++ c ∷ []) ≡ g.so_far (cs ++ part) ++ us → TookMore g took x y cs part → took y z us → TookMore g took x z cs next
 took_next g took both x y z cs part next c us e t h k = grind (arith, append_assoc)
 
--- and one that breaks there stops in what all columns tell
+-- and one that breaks there stops in what is reported of all columns
 pub stopped_next : {A : Type 0} (g : Grammar) → IsGrammar g → (took : A → A → List Event → Type 0) (broke : A → A → Event → Type 0)
     → ((x y z : A) (h k : List Event) → took x y h → took y z k → took x z (h ++ k))
     → (x y z : A) (cs part next rest : List Column) (c : Column) (us : List Event) → next ≡ part ++ c ∷ []

@@ -1,4 +1,4 @@
--- An ear that is told of columns part after part was told of them all.
+-- An ear to which columns are reported part after part has been given the reports of them all.
 use Rattle.std.proofs.Common.{◌≡◌, ℕ, ◌+◌, ◌≤◌, List, [], ◌++◌, length, take, drop, ap, sym, ◌∙◌, arith, append_assoc, length-append, length-drop, length-take}
 use Rattle.std.proofs.lemmas.List.{append-nil}
 use Rattle.tmds_word.specs.Column.{Column}
@@ -7,9 +7,9 @@ use Rattle.link_sink.specs.Grammar.{Grammar}
 use Rattle.link_sink.specs.Telling.{TookMore, StoppedIn}
 use Rattle.link_sink.proofs.Stops.{stops_after}
 
--- An ear that is told what parts say.
+-- An ear to which what parts say is reported.
 
--- columns of which nothing is told
+-- columns of which nothing is reported
 pub took_quiet : {A : Type 0} (g : Grammar) (took : A → A → List Event → Type 0) (x : A) (cs more : List Column) → took x x [] → g.so_far (cs ++ more) ≡ g.so_far cs → TookMore g took x x cs more
 took_quiet g took x cs more none e = record { events = []; events_are = e ∙ sym (append-nil (g.so_far cs)); took_events = none }
 

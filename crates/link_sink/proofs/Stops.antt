@@ -39,7 +39,7 @@ stops_after took broke both x y z h k t s = record {
   broke_then = s.broke_then;
 }
 
--- it broke in some things, with others behind them
+-- it broke in some things, with others after them
 pub stops_before : {A : Type 0} (took : A → A → List Event → Type 0) (broke : A → A → Event → Type 0) (x z : A) (h k : List Event)
     → StopsIn took broke x z h → StopsIn took broke x z (h ++ k)
 stops_before took broke x z h k s = grind (arith, append_assoc)

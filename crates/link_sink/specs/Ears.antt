@@ -14,13 +14,13 @@ pub record StopsIn {A : Type 0} (took : A → A → List Event → Type 0) (brok
   pub took_some : took before between taken
   pub broke_then : broke between now next
 
--- an ear took all that lanes tell so far, by a grammar
+-- an ear took all that is reported of lanes so far, by a grammar
 pub record IsHeardSoFar {A : Type 0} (g : Grammar) (took : A → A → List Event → Type 0) (fed : Fed) (old new : A) : Type 0 where
   pub events : List Event
   pub reported : IsReportedBy g fed events
   pub taken : took old new events
 
--- it broke at an event behind all that was told before the last block
+-- it broke at an event after all that was reported before the last block
 pub record IsBroken {A : Type 0} (g : Grammar) (took : A → A → List Event → Type 0) (broke : A → A → Event → Type 0) (before : Fed) (events : List Event) (old new : A) : Type 0 where
   pub first : List Event
   pub reported : IsReportedBy g before first

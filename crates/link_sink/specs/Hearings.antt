@@ -7,8 +7,8 @@ use Rattle.period_grammar.specs.Seen.{Seen}
 use Rattle.period_grammar.specs.Stands.{HearingRepresents}
 use Rattle.link_sink.specs.Grammar.{Grammar}
 
--- what holds of a grammar: before any column nothing is told, what columns tell is told whatever comes after them, what
--- the end tells comes last, and all that is told is of the sizes that an ear is promised
+-- what holds of a grammar: before any column nothing is reported, what is reported of columns is reported whatever
+-- follows them, what is reported at the end is last, and all that is reported is of the sizes that an ear is promised
 pub record IsGrammar (g : Grammar) : Type 0 where
   pub none : g.so_far [] ≡ []
   pub more : (cs ds : List Column) → (us : List Event) × (g.so_far (cs ++ ds) ≡ g.so_far cs ++ us)

@@ -1,4 +1,4 @@
--- What a link's columns tell is a grammar, and its hearing counts them.
+-- What is reported of a link's columns is a grammar, and its hearing counts them.
 use Rattle.std.proofs.Common.{◌≡◌, ℕ, List, [], ◌∷◌, ◌++◌, length, map, refl, ap, sym, ◌∙◌, append_assoc}
 use Rattle.std.proofs.lemmas.List.{append-nil, map-append}
 use Rattle.tmds_word.specs.Column.{Column}
@@ -14,13 +14,13 @@ use Rattle.period_grammar.proofs.Sizes.{all_are_sized}
 use Rattle.link_sink.specs.Grammar.{link_grammar}
 use Rattle.link_sink.specs.Hearings.{IsGrammar, GoesOn}
 
--- what a call told is told after what was told before
+-- what a call reported is reported after what was reported before
 pub reported_then : (cs ds : List Column) (n : ℕ) (us : List Event) → heard_so_far ds ≡ heard_so_far cs ++ all_at n us
     → map event_of (heard_so_far ds) ≡ map event_of (heard_so_far cs) ++ us
 reported_then cs ds n us e =
     ap (map event_of) e ∙ map-append event_of (heard_so_far cs) (all_at n us) ∙ ap (λ ts. map event_of (heard_so_far cs) ++ ts) (events_at n us)
 
--- what columns tell is told whatever comes after them
+-- what is reported of columns is reported whatever follows them
 pub reported_more : (cs ds : List Column) → (more : List Event) × (map event_of (heard_so_far (cs ++ ds)) ≡ map event_of (heard_so_far cs) ++ more)
 reported_more cs [] = ([], ap (λ xs. map event_of (heard_so_far xs)) (append-nil cs) ∙ sym (append-nil (map event_of (heard_so_far cs))))
 reported_more cs (d ∷ ds) =
@@ -32,12 +32,12 @@ reported_more cs (d ∷ ds) =
           ∙ append_assoc (map event_of (heard_so_far cs)) one rest.0,
     )
 
--- before any column nothing is told
+-- before any column nothing is reported
 pub reported_none : map event_of (heard_so_far []) ≡ []
 unfolding heard_so_far stretches
 reported_none = refl
 
--- what the end tells comes last
+-- what is reported at the end is last
 pub heard_whole : (cs : List Column) → heard cs ≡ map event_of (heard_so_far cs) ++ end_from 0 (stretches cs)
 unfolding heard
 heard_whole cs = refl

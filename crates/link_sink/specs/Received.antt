@@ -1,4 +1,4 @@
--- What is kept of three lanes whose bits come feed after feed.
+-- What is kept of three lanes whose bits arrive feed after feed.
 use Rattle.std.specs.Prelude.{◌≡◌, ◌⊎◌, ◌++◌, ℕ, ◌+◌, ◌/◌, ◌%◌, ◌^◌, ◌<◌, ◌≤◌, max, Bool, true, false, List, length, Option, MatchOption}
 use Rattle.lane_align.specs.Lanes.{IsLockOf}
 use Rattle.lane_align.specs.Words.{AreWords, lane_words}
@@ -14,7 +14,7 @@ use Rattle.lane_deskew.specs.declared.Aligned.{Aligned}
 use Rattle.link_sink.specs.Sinks.{Fed}
 use Rattle.link_sink.specs.Seen.{Receiver}
 
--- so many bits more may come of a lane that was fed some, where the longest lane was fed so many: no more than a feed
+-- so many bits more may arrive of a lane that was fed some, where the longest lane was fed so many: no more than a feed
 -- takes, in whole bytes until the last, and none once another lane had more
 pub record CanFeed (fed longest : ℕ) (bytes : List ℕ) (bits : ℕ) : Type 0 where
   pub most : bits ≤ FEED_BITS

@@ -1,4 +1,4 @@
--- What a sink is fed, what it tells more at each feed, and what it tells at the end.
+-- What a sink is fed, what it reports in addition at each feed, and what it reports at the end.
 use Rattle.std.specs.Prelude.{◌≡◌, ◌⊎◌, ℕ, Bool, List, [], ◌++◌, take, slice_index}
 use Rattle.tmds_word.specs.Bits.{bytes_bits}
 use Rattle.lane_deskew.specs.Triples.{IsTriple, IsFirst}
@@ -14,7 +14,8 @@ pub record Fed : Type 0 where
   pub green : List Bool
   pub red : List Bool
 
--- what lanes tell while they go on: what is heard so far of their aligned columns, and nothing where they are aligned nowhere
+-- what is reported of lanes while they go on: what is heard so far of their aligned columns, and nothing where they are
+-- aligned nowhere
 abbrev pub IsReportedBy : Grammar → Fed → List Event → Type 0
 IsReportedBy g fed events =
     ((d e f : ℕ) × IsFirst fed.blue fed.green fed.red d e f × (events ≡ g.so_far (aligned_columns fed.blue fed.green fed.red d e f)))
@@ -32,11 +33,11 @@ grown fed a b c bits = record {
   red = fed.red ++ take (slice_index bits 2) (bytes_bits c);
 }
 
--- what is told more
+-- what is reported in addition
 abbrev pub IsGainBy : Grammar → Fed → Fed → List Event → Type 0
 IsGainBy g before after events = (reported : List Event) → IsReportedBy g before reported → IsReportedBy g after (reported ++ events)
 
--- what is told at the end: with it the lanes have told all
+-- what is reported at the end: with it all is reported of the lanes
 abbrev pub IsLastBy : Grammar → Fed → Outcome → List Event → Type 0
 IsLastBy g fed outcome events = (reported : List Event) → IsReportedBy g fed reported → AreReportedBy g fed.blue fed.green fed.red outcome (reported ++ events)
 
@@ -47,7 +48,7 @@ IsGain before after events = IsGainBy link_grammar before after events
 abbrev pub IsLast : Fed → Outcome → List Event → Type 0
 IsLast fed outcome events = IsLastBy link_grammar fed outcome events
 
--- of any bits something is told so far, and nothing else: neither their cutting into feeds nor a gate can matter
+-- of any bits something is reported so far, and nothing else: neither their cutting into feeds nor a gate can matter
 abbrev pub SomeReported : Type 0
 SomeReported = (g : Grammar) (fed : Fed) → (events : List Event) × IsReportedBy g fed events
 

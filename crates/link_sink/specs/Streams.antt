@@ -21,7 +21,7 @@ pub record IsHeard {H : Type 0} (stands : H → List Column → Type 0) (stream 
   pub aligned : stream.outcome.aligned ≡ is_some stream.receiver.deskew.found
   pub columns : stream.outcome.columns ≡ length (columns_from fed stream.receiver.deskew.found)
 
--- the lanes have more bits: all columns before were heard, and none of those that came since
+-- the lanes have more bits: all columns before were heard, and none of those that arrived since
 pub record IsAfter {H : Type 0} (stands : H → List Column → Type 0) (stream : HearingStream H) (before now : Fed) : Type 0 where
   pub was : Option Aligned
   pub found_was : IsFoundAt before was

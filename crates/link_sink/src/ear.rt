@@ -1,4 +1,4 @@
-//! Whoever is told what a link says.
+//! Whoever takes what is reported of a link.
 ghost use Rattle.std.specs.Prelude.{ℕ, List, [], ◌∷◌, ◌++◌, OnOk, OnErr};
 ghost use Rattle.outside_io.specs.Causes.{HasCause};
 ghost use Rattle.period_grammar.specs.Events.{Event};
@@ -8,7 +8,7 @@ ghost use Rattle.period_grammar.specs.Sizes.{IsSized};
 use outside_io::Failed;
 use period_grammar::EventRef;
 
-/// Is told what a link says, one event after another. It keeps no list of what it was told.
+/// Takes what is reported of a link, one event after another. It keeps no list of what was reported to it.
 pub trait Ear {
     /// How often the ear has failed, as a u64 that stands still at its greatest.
     ghost faults: { Self → ℕ };
@@ -19,7 +19,7 @@ pub trait Ear {
     /// From the first state to the second the ear failed in the midst of this event.
     ghost broke: { Self → Self → Event → Type 0 };
 
-    /// Takes one event. The sizes are those of everything that a hearing tells.
+    /// Takes one event. The sizes are those of everything that a hearing reports.
     fn hear(&mut self, event: EventRef<'_>) -> Result<(), Failed>
         requires { IsSized (lent_event event) }
         ensures ok { OnOk result (took self.old self.new (lent_event event.entry ∷ [])) }

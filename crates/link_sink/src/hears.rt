@@ -10,9 +10,9 @@ ghost use Rattle.link_sink.specs.Hearings.{IsGrammar};
 use period_grammar::EventRef;
 use tmds_word::{Columns, Word};
 
-/// Hears columns one after another, and tells what they say.
+/// Hears columns one after another, and reports what they say.
 pub trait Hears: Drop {
-    /// What columns tell.
+    /// What is reported of columns.
     ghost grammar: { Grammar };
 
     /// It has heard these columns, and goes on.
@@ -21,7 +21,7 @@ pub trait Hears: Drop {
     /// How many columns it has heard.
     ghost counted: { Self → ℕ };
 
-    /// What its last call told.
+    /// What its last call reported.
     ghost last: { Self → List Event };
 
     /// One that has heard nothing. It takes no memory.
@@ -30,7 +30,7 @@ pub trait Hears: Drop {
         Self: Sized,
         ensures { goes_on result [] };
 
-    /// Forgets all that was heard and told.
+    /// Forgets all that was heard and reported.
     fn restart(&mut self)
         ensures { goes_on self.new [] };
 
@@ -41,7 +41,8 @@ pub trait Hears: Drop {
         ensures heard { (cs : List Column) → goes_on self.old cs → goes_on self.new (cs ++ column_of column.now ∷ []) }
         ensures reported { (cs : List Column) → goes_on self.old cs → grammar.so_far (cs ++ column_of column.now ∷ []) ≡ grammar.so_far cs ++ last self.new };
 
-    /// Hears columns from the first on, as long as they tell nothing, or fewer of them, and answers how many these are.
+    /// Hears columns from the first on, as long as nothing is reported of them, or fewer of them, and answers how many
+    /// these are.
     fn hear_while(&mut self, columns: Columns<'_>) -> usize
         requires few { counted self.old + length (columns_in columns) ≤ 429496730 }
         requires heard { (cs : List Column) × goes_on self.old cs }
@@ -54,11 +55,11 @@ pub trait Hears: Drop {
         requires heard { (cs : List Column) × goes_on self.old cs }
         ensures reported { (cs : List Column) → goes_on self.old cs → grammar.whole cs ≡ grammar.so_far cs ++ last self.new };
 
-    /// How many events the last call told.
+    /// How many events the last call reported.
     fn tells(&self) -> u8
         ensures { result ≡ length (last self.now) };
 
-    /// Lends event `i` of those that the last call told.
+    /// Lends event `i` of those that the last call reported.
     fn reported(&self, i: u8) -> EventRef<'_>
         requires { i < length (last self.now) }
         ensures { slice_get (last self.now) i ≡ Some (lent_event result) };
@@ -66,6 +67,6 @@ pub trait Hears: Drop {
     /// The columns are counted.
     ghost counts: { (h : Self) (cs : List Column) → goes_on h cs → counted h ≡ length cs };
 
-    /// What columns tell is so.
+    /// What is reported of columns is so.
     ghost is_grammar: { IsGrammar grammar };
 }

@@ -1,4 +1,4 @@
-//! Tells an ear what the bits of three lanes say.
+//! Reports to an ear what the bits of three lanes say.
 #![tactic(auto)]
 
 mod columns;

@@ -1,4 +1,4 @@
-//! Three lanes whose bits come feed after feed, and the columns that they carry from their first full alignment on.
+//! Three lanes whose bits arrive feed after feed, and the columns that they carry from their first full alignment on.
 ghost use Rattle.std.specs.Prelude.{◌≡◌, ◌<◌, ◌≤◌, ◌+◌, ◌-◌, ℕ, List, Bool, length, drop, IfOk, None, is_some, slice_index};
 ghost use Rattle.tmds_word.specs.Lent.{columns_in};
 ghost use Rattle.lane_align.specs.Aligners.{fed_of};

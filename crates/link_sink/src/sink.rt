@@ -1,5 +1,6 @@
-//! A sink of the bits of three lanes, which come feed after feed. Of what it took it keeps what is still to be told: the last
-//! bits of each lane, the characters that wait for those of another lane, and the period that goes on.
+//! A sink of the bits of three lanes, which arrive feed after feed. Of what it took it keeps what is still to be
+//! reported: the last bits of each lane, the characters that wait for those of another lane, and the period
+//! that goes on.
 ghost use Rattle.std.specs.Prelude.{◌≡◌, ◌+◌, List, true, false, IfOk, OnOk, OnErr, slice_index};
 ghost use Rattle.outside_io.specs.Causes.{HasCause};
 ghost use Rattle.period_grammar.specs.Events.{Event};
@@ -24,8 +25,8 @@ use std::thread::Threads;
 /// Hears the columns of a link.
 pub type LinkSink = LaneSink<Hearing>;
 
-/// Hears three lanes whose bits come feed after feed, and tells an ear what they say from their first full alignment on.
-/// It has taken all its memory when it is opened.
+/// Hears three lanes whose bits arrive feed after feed, and reports to an ear what they say from their first full
+/// alignment on. It has taken all its memory when it is opened.
 #[derive(Drop)]
 pub struct LaneSink<H: Hears> {
     stream: HearingStream<H>,
@@ -72,9 +73,9 @@ impl<H: Hears> LaneSink<H> {
         self.is_open
     }
 
-    /// Takes bits of each lane, each lane its own number of them, and tells the ear what they decide: bit i is bit
+    /// Takes bits of each lane, each lane its own number of them, and reports to the ear what they decide: bit i is bit
     /// `i % 8` of byte `i / 8`. A worker of each lane passes the gate. Of a lane that had fewer bits than another no more
-    /// come.
+    /// arrive.
     ///
     /// # Errors
     ///
@@ -150,8 +151,8 @@ impl<H: Hears> LaneSink<H> {
         Ok(())
     }
 
-    /// Tells the ear what the end tells, and answers whether the lanes were aligned and how many columns they have. The
-    /// sink is then finished.
+    /// Reports to the ear what is left to report at the end, and answers whether the lanes were aligned and how many
+    /// columns they have. The sink is then finished.
     ///
     /// # Errors
     ///

@@ -1,4 +1,4 @@
-//! What three lanes say whose bits come feed after feed, in a memory of one size.
+//! What three lanes say whose bits arrive feed after feed, in a memory of one size.
 ghost use Rattle.std.specs.Prelude.{◌≡◌, ◌<◌, ◌+◌, ◌^◌, List, length, true, IfOk, OnOk, OnErr, slice_index, []};
 ghost use Rattle.outside_io.specs.Causes.{HasCause};
 ghost use Rattle.lane_align.specs.Aligners.{fed_of};
@@ -70,7 +70,7 @@ impl<H: Hears> HearingStream<H> {
         self.outcome = NOTHING;
     }
 
-    /// Takes bits of each lane, each lane its own number of them, and tells the ear what they decide.
+    /// Takes bits of each lane, each lane its own number of them, and reports to the ear what they decide.
     pub fn feed<R: Threads, E: Ear, G: Gate>(
         &mut self,
         rt: &R,
@@ -105,7 +105,7 @@ impl<H: Hears> HearingStream<H> {
         )
     }
 
-    /// Tells the ear what the end of the lanes tells.
+    /// Reports to the ear what is left to report at the end of the lanes.
     pub fn finish<E: Ear>(&mut self, ear: &mut E) -> Result<Outcome, Failed>
         requires { (fed : Fed) × IsHeard H.goes_on self.old fed }
         ensures reported { (fed : Fed) → IsHeard H.goes_on self.old fed
@@ -122,7 +122,7 @@ impl<H: Hears> HearingStream<H> {
     }
 }
 
-/// Hears the columns that came, and tells the ear what they say.
+/// Hears the received columns, and reports to the ear what they say.
 fn hear_parts<H: Hears, E: Ear>(
     receiver: &mut Receiver,
     hearing: &mut H,

@@ -1,4 +1,4 @@
-//! Tells an ear what a hearing tells of columns, as they come and at their end.
+//! Reports to an ear what a hearing reports of columns, as they arrive and at their end.
 ghost use Rattle.std.specs.Prelude.{◌≡◌, ◌++◌, List, All, OnOk, OnErr};
 ghost use Rattle.outside_io.specs.Causes.{HasCause};
 ghost use Rattle.tmds_word.specs.Column.{Column};
@@ -9,7 +9,7 @@ use crate::Ear;
 use crate::hears::Hears;
 use outside_io::Failed;
 
-/// Tells an ear what the last call of a hearing told: mostly nothing.
+/// Reports to an ear what the last call of a hearing reported: mostly nothing.
 #[inline]
 pub fn tell<H: Hears, E: Ear>(hearing: &H, ear: &mut E) -> Result<(), Failed>
     requires sized { All IsSized (H.last hearing.now) }
@@ -23,7 +23,7 @@ pub fn tell<H: Hears, E: Ear>(hearing: &H, ear: &mut E) -> Result<(), Failed>
     tell_each(hearing, ear)
 }
 
-/// Tells an ear each event that the last call of a hearing told.
+/// Reports to an ear each event that the last call of a hearing reported.
 #[cold]
 fn tell_each<H: Hears, E: Ear>(hearing: &H, ear: &mut E) -> Result<(), Failed>
     requires sized { All IsSized (H.last hearing.now) }
@@ -46,7 +46,7 @@ fn end<H: Hears>(hearing: &mut H)
     hearing.finish();
 }
 
-/// Ends the columns of a hearing, and tells an ear what the end tells.
+/// Ends the columns of a hearing, and reports to an ear what is left to report at the end.
 pub fn hear_end<H: Hears, E: Ear>(hearing: &mut H, ear: &mut E) -> Result<(), Failed>
     requires heard { (cs : List Column) × H.goes_on hearing.old cs }
     ensures end { (cs : List Column) → H.goes_on hearing.old cs → H.grammar.whole cs ≡ H.grammar.so_far cs ++ H.last hearing.new }

@@ -1,4 +1,4 @@
-//! What a sink tells of the rows of three lanes that come feed after feed.
+//! What a sink reports of the rows of three lanes that arrive feed after feed.
 ghost use Rattle.std.specs.Prelude.{◌≡◌, ◌+◌, ◌*◌, ◌≤◌, ◌<◌, ◌%◌, true, length, min, OnOk};
 ghost use Rattle.link_sink.specs.Streams.{bits_fed};
 
@@ -17,7 +17,7 @@ use std::thread::Threads;
 use tmds_word::BitRow;
 use vectors::{DAMAGED, ISLAND};
 
-/// How many bits of each lane come in three feeds, over and over.
+/// How many bits of each lane arrive in three feeds, over and over.
 static FEEDS: [[u32; 3]; 4] = [
     [8, 8, 8],
     [16, 16, 16],
@@ -104,7 +104,8 @@ fn feed_all<R: Threads>(
     sink.finish(notes)
 }
 
-/// That three rows have this outcome, and tell these events, in feeds of each kind, by one sink that is restarted.
+/// That three rows have this outcome, and that these events are reported of them, in feeds of each kind, by one sink
+/// that is restarted.
 fn expect<R: Threads + Abort>(
     rt: &R,
     alloc: Global,
@@ -205,8 +206,8 @@ fn lanes_of_unlike_lengths(rt: HostRuntime) -> Result<(), Fail> {
     Ok(())
 }
 
-/// That an ear that fails at one of four events was told those before it and no more, in feeds of each kind, and that the
-/// sink is then spent.
+/// That an ear that fails at one of four events was given those before it and no more, in feeds of each kind, and that
+/// the sink is then spent.
 fn expect_failures<R: Threads + Abort>(
     rt: &R,
     alloc: Global,
@@ -257,7 +258,7 @@ struct Meeting {
 }
 
 impl Meeting {
-    /// Whether a lane comes to have passed so often.
+    /// Whether a lane is seen to have passed so often.
     fn saw(&self, lane: usize, pass: u64) -> bool
         requires { lane < 3 }
     {

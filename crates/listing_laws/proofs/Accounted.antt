@@ -1,4 +1,4 @@
--- The account of a raster tells what is seen of its parts.
+-- The account of a raster reports what is seen of its parts.
 use Rattle.std.proofs.lemmas.Grind.{common_steps}
 use Rattle.std.proofs.Common.{◌≡◌, ℕ, zero, suc, ◌+◌, ◌-◌, ◌*◌, ◌/◌, ◌<◌, ◌≤◌, Bool, true, false, not, cond, ◌==◌, List, [], ◌∷◌, ◌++◌, map, length, take, drop, replicate, min, Option, Some, None, refl, sym, ap, ap₂, subst, ◌∙◌, append_assoc, append-nil, arith, length-drop}
 use Rattle.std.specs.Prelude.{nat_lt, nat_le}
@@ -278,7 +278,7 @@ cells_first v parts m ss c rs =
     let d : suc m - 1 ≡ m = omega arith in
     ap (λ (k : ℕ). cell.control (vsync_of v) (vsync_of (value_of c)) ∷ parts_cells k parts (drop 1 ss) rs) d
 
--- a part that is a period of its own, and the parts behind it
+-- a part that is a period of its own, and the parts after it
 period_hears : (n j m : ℕ) (own : List Event) (here : List Cell) (parts : List Part) (b ss rs : List Column) → Hears (ticks own) here
     → ((acc : List Column) → Hears (ticks (account_on acc (j + n) (m - n) (gathered parts) (drop n ss) (drop n rs))) (parts_cells (m - n) parts (drop n ss) (drop n rs)))
     → Hears (ticks (own ++ account_from (j + n) (m - n) b (gathered parts) (drop n ss) (drop n rs))) (here ++ parts_cells (m - n) parts (drop n ss) (drop n rs))

@@ -1,4 +1,4 @@
--- The columns that were sent and that came of a raster's parts, part by part.
+-- The columns that were sent and that were received of a raster's parts, part by part.
 use Rattle.std.proofs.Common.{◌≡◌, ℕ, suc, ◌+◌, ◌*◌, ◌/◌, ◌≤◌, true, List, [], ◌∷◌, ◌++◌, length, drop, replicate, refl, sym, ap, subst, ◌∙◌, arith, length-append}
 use Rattle.std.specs.Prelude.{nat_lt}
 use Rattle.std.proofs.lemmas.List.{drop-drop, length-replicate}
@@ -21,7 +21,7 @@ use Rattle.source_end.specs.Raster.{Part, column, pixels, packets, before, gathe
 use Rattle.source_end.specs.Gathering.{size}
 use Rattle.listing_laws.proofs.Accounted.{video_size as video_columns, island_size as island_columns}
 
--- columns of a period that holds no control columns, as sent and as they came
+-- columns of a period that holds no control columns, as sent and as received
 pub record IsOther (n : ℕ) (own reception : List Column) : Type 0 where
   pub sent : length own ≡ n
   pub received : length reception ≡ n

@@ -1,4 +1,4 @@
--- A packet of which at most one word came unlike is told as it was sent, and none of its blocks is lost.
+-- A packet of which at most one word was received unlike is reported as it was sent, and none of its blocks is lost.
 use Rattle.std.proofs.Common.{◌≡◌, ℕ, zero, suc, ◌*◌, ◌<◌, ◌≤◌, Bool, List, [], ◌∷◌, map, length, drop, refl, sym, ap, subst, arith, inl, inr}
 use Rattle.std.proofs.lemmas.Bool.{le-leb}
 use Rattle.std.proofs.lemmas.List.{length-map, length-take-le, length-drop}

@@ -1,5 +1,5 @@
--- What frames see of columns of which few came otherwise than they were sent. A column that comes as a third wrong one
--- among eleven would be taken as it was sent: where damage is sparse there is none.
+-- What frames see of columns of which few were received otherwise than they were sent. A column that is received as a
+-- third wrong one among eleven would be taken as it was sent: where damage is sparse there is none.
 use Rattle.std.proofs.Common.{arith, ◌≡◌, ℕ, zero, suc, ◌+◌, ◌/◌, Bool, true, false, not, ◌&&◌, ◌||◌, cond, List, [], ◌∷◌, ◌++◌, length, replicate, Option, None, refl, sym, ap, ap₂, subst, ◌∙◌, append_assoc}
 use Rattle.std.specs.Prelude.{nat_le}
 use Rattle.tmds_word.proofs.Below.{and-left, and-right}
@@ -12,14 +12,14 @@ use Rattle.listing_writer.specs.Listed.{Listed, listed_rows}
 use Rattle.listing_laws.proofs.Machine.{hears, ends}
 use Rattle.listing_laws.proofs.Machine as plain
 
--- a control column, with the level that was sent and the one that came, a row, or a gap
+-- a control column, with the level that was sent and the one that was received, a row, or a gap
 pub data Cell : Type 0 where
   control : Bool → Bool → Cell
   pixels : List ℕ → Cell
   parted : Cell
 
 -- the marks, the last value heard, whether the group counts, the widths of its lines, and of the columns since the last
--- gap, the newest first, whether each came otherwise than it was sent
+-- gap, the newest first, whether each was received otherwise than it was sent
 pub record State : Type 0 where
   pub marks : List Mark
   pub heard : Option Bool
@@ -94,7 +94,7 @@ says_append (x ∷ xs) ys s = ap (λ (ls : List Listed). said x s ++ ls) (says_a
 abbrev pub fresh : State
 fresh = record { marks = []; heard = None; counting = false; group = []; recent = [] }
 
--- What is told of these cells.
+-- What is reported of these cells.
 
 pub data Hears : List plain.Tick → List Cell → Type 0 where
   none : Hears [] []
@@ -241,7 +241,7 @@ row_same bytes s t n =
 past_gaps : (k : ℕ) (ts : List plain.Tick) (s : plain.State) → plain.says (replicate k plain.parted ++ ts) s ≡ plain.says ts (plain.after (replicate k plain.parted) s)
 past_gaps k ts s = plain.says_append (replicate k plain.parted) ts s ∙ ap (λ (xs : List Listed). xs ++ plain.says ts (plain.after (replicate k plain.parted) s)) (parted_says k s)
 
--- what is told of cells is what they say, where no column is a third wrong one
+-- what is reported of cells is what they say, where no column is a third wrong one
 cells_say : (ts : List plain.Tick) (cs : List Cell) → Hears ts cs → (s : plain.State) (t : State) → fine t.recent cs ≡ true → Like s t → plain.says ts s ≡ says cs t
 unfolding plain.says says fine
 cells_say _ _ none s t f l = refl

@@ -54,8 +54,8 @@ wide_back mode ok = let h = some_area (back mode.down) (total mode.across) ok.ba
 pub wide_front : (mode : Mode) → IsMode mode → 14 ≤ front_area mode
 wide_front mode ok = let h = some_area (front mode.down) (total mode.across) ok.front_lines in omega (arith, h, ok.back_columns)
 
--- whether the sync lines at column p are heard in the columns up to column e: eleven of them came, or fewer, and `last`
--- says whether VSYNC is at its active level at last
+-- whether the sync lines at column p are heard in the columns up to column e: eleven of them were received, or fewer,
+-- and `last` says whether VSYNC is at its active level at last
 abbrev pub turns : ℕ → Bool → ℕ → Bool
 turns e last p = nat_le (p + 11) e || (nat_le p e && last)
 
@@ -68,7 +68,7 @@ turns_no e p last lt = ap₂ (λ (t u : Bool). t || (u && last)) (lt-leb (p + 11
 pub turns_last : (e p : ℕ) (last : Bool) → p ≤ e → e < p + 11 → turns e last p ≡ last
 turns_last e p last le lt = ap₂ (λ (t u : Bool). t || (u && last)) (lt-leb (p + 11) e lt) (le-leb p e le)
 
--- a frame is told where the sync lines after it are heard
+-- a frame is reported where the sync lines after it are heard
 unfoldable pub frame_reported : Mode → ℕ → Bool → ℕ → List Listed
 frame_reported mode e last p = cond (turns e last p) (whole_frame mode ∷ []) []
 
@@ -99,12 +99,12 @@ reported_none mode e p last lt = ap (λ (t : Bool). cond t (whole_frame mode ∷
 frame_is : (mode : Mode) → IsMode mode → ends true true (replicate (active mode.down) (active mode.across)) ≡ whole_frame mode ∷ []
 frame_is mode ok = grind (arith, ends, length-replicate)
 
--- the frame of rows that came, where the sync lines after them are heard
+-- the frame of rows that were received, where the sync lines after them are heard
 pending_frame : (mode : Mode) → IsMode mode → (e p : ℕ) (last : Bool) (g : List ℕ) → (p ≤ e → g ≡ replicate (active mode.down) (active mode.across)) → pending e last p true g ≡ frame_reported mode e last p
 unfolding pending frame_reported
 pending_frame mode ok e p last g grown = grind (arith, cases_lt, pending_none, reported_none, ends, frame_is)
 
--- where the first columns of frames did not come, nothing is listed from there on
+-- where the first columns of frames were not received, nothing is listed from there on
 pub frames_none : (mode : Mode) → IsMode mode → (ss rs : List Column) (e p : ℕ) (last : Bool) (frames : List Frame) → e < p + 11 → frames_listed mode ss rs e last p frames ≡ []
 unfolding frames_listed
 frames_none mode ok ss rs e p last [] lt = refl
@@ -239,7 +239,7 @@ pub nothing_said : (s : State) → says [] s ≡ []
 unfolding says
 nothing_said s = refl
 
--- fewer than eleven columns of sync lines came
+-- fewer than eleven columns of sync lines were received
 few_say : (mode : Mode) (parts : List Part) (ss rs : List Column) (e p : ℕ) (last : Bool) → Begins mode.positive parts → e < p + 11 → (s : State) (c : Bool) (g : List ℕ) → Ready s (not mode.positive) c g
     → IsLast mode (seen ss rs e p parts) s last → says (seen ss rs e p parts) s ≡ pending e last p c g
 unfolding pending
@@ -255,7 +255,7 @@ final_say mode ss rs e p last s c g was final =
           t.frame ∙ sym (pending_is e p last c g le) ∙ sym (append-nil (pending e last p c g))
     ]
 
--- a frame whose sync lines begin, and eleven columns of them came
+-- a frame whose sync lines begin, and eleven columns of them were received
 frame_say : (mode : Mode) → IsMode mode → (f : Frame) → IsFrame mode f → (frames : List Frame) (ss rs : List Column) (e p : ℕ) (last : Bool) → e ≤ length ss → e ≤ length rs
     → (s : State) (c : Bool) (g : List ℕ) → Ready s (not mode.positive) c g → p + 11 ≤ e
     → ((t : State) (c2 : Bool) (g2 : List ℕ) → Ready t (not mode.positive) c2 g2 → IsLast mode (seen ss rs e (p + frame_area mode) (parts_of mode frames)) t last

@@ -1,4 +1,5 @@
--- What is shown of a packet, as it was sent and as it came in its 32 columns, holds of each packet of periods where it stands.
+-- What is shown of a packet, as it was sent and as it was received in its 32 columns, holds of each packet of periods
+-- where it stands.
 use Rattle.std.proofs.Common.{◌≡◌, ℕ, ◌+◌, true, false, Bool, List, [], ◌∷◌, ◌++◌, map, length, take, drop, refl, sym, ap, ◌∙◌, append_assoc}
 use Rattle.std.proofs.lemmas.List.{drop-drop}
 use Rattle.tmds_word.specs.Column.{Column}
@@ -21,7 +22,7 @@ IsShown P sent received =
     (y : ℕ) (p : Packet) (own reception : List Column) → CarriesFreely p (map column_words own) → length reception ≡ 32
     → take 32 (drop y sent) ≡ own → take 32 (drop y received) ≡ reception → P (record { packet = p; at = y })
 
--- the columns behind these
+-- the columns after these
 next : (all on rest own : List Column) (y : ℕ) → drop y all ≡ own ++ (on ++ rest) → length own ≡ 32 → drop (y + 32) all ≡ on ++ rest
 next all on rest own y is long =
     sym (drop-drop 32 y all) ∙ ap (drop 32) is ∙ drop_seam own (on ++ rest) 32 long
@@ -43,11 +44,11 @@ each_both : (P : Placed → Type 0) (ks ls : List Placed) → Each P ks → Each
 each_both P [] ls h g = g
 each_both P (k ∷ ks) ls h g = (h.0, each_both P ks ls h.1 g)
 
--- the columns behind a period
+-- the columns after a period
 after : (all own rest : List Column) (x n : ℕ) → drop x all ≡ own ++ rest → length own ≡ n → drop (x + n) all ≡ rest
 after all own rest x n is long = sym (drop-drop n x all) ∙ ap (drop n) is ∙ drop_seam own rest n long
 
--- the packets behind the guard that opens an island
+-- the packets after the guard that opens an island
 inside : (sent : List Column) (x : ℕ) (i : DataIsland) (pp ss : List Column) → drop x sent ≡ frame i pp ++ ss → drop (x + 2) sent ≡ pp ++ (guard_columns i.closing ++ ss)
 inside sent x i pp ss e = sym (drop-drop 2 x sent) ∙ ap (drop 2) e ∙ append_assoc pp (guard_columns i.closing) ss
 

@@ -19,7 +19,7 @@ use Rattle.listing_laws.proofs.Parts.{row_cells, gap_cells, part_cells, parts_ce
 use Rattle.listing_laws.proofs.Accounted.{cells_first}
 use Rattle.listing_laws.proofs.Arrived.{Arrived, drop_front}
 
--- whether the word of lane 0 of each column came unlike
+-- whether the word of lane 0 of each column was received unlike
 unfoldable pub flags : List Column → List Column → List Bool
 flags (s ∷ ss) (r ∷ rs) = not (s.blue == r.blue) ∷ flags ss rs
 flags _ _ = []
@@ -55,7 +55,7 @@ more_counted (suc j) k (y ∷ ys) =
     let h = more_counted j k ys in
     subst (λ (n : ℕ). one_if y + count (take j ys) ≤ count (take n (y ∷ ys))) (sym e) (omega (arith, h))
 
--- a window has the wrong ones before a place, and those behind it
+-- a window has the wrong ones before a place, and those after it
 window : (hs ys : List Bool) (j k : ℕ) → count (take j ys) + wrongs k hs ≤ count (take (j + k) (drop (length hs - k) (onto hs ys)))
 window hs ys j zero =
     let e : j ≡ j + 0 = omega arith in

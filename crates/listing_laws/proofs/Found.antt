@@ -92,7 +92,7 @@ found_front b xs ys i h mute = record {
   mute = mute_append b h.mid ys h.mute mute;
 }
 
--- found in a part behind others
+-- found in a part after others
 pub found_after : (b : Bool) (xs ys : List Part) (i at : ℕ) → i ≡ size xs + at → Found b ys at → Found b (xs ++ ys) i
 found_after b xs ys i at place h = record {
   front = xs ++ h.front;

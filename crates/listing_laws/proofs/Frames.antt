@@ -42,7 +42,7 @@ begins_blank mode ok v (suc n) ps some = grind (arith, begins_more, begins_until
 pub rest_flat : (b : Bool) (xs ys ts : List Cell) → ts ≡ xs ++ ys → Flat b ts → Flat b ys
 rest_flat b xs ys ts e h = and-right (list_all (flat b) xs) (list_all (flat b) ys) (sym (list_all-append (flat b) xs ys) ∙ subst (λ (us : List Cell). Flat b us) e h)
 
--- eleven columns came: a change
+-- eleven columns were received: a change
 pub seen_turn : (b c : Bool) (g : List ℕ) (ss rs : List Column) (e p : ℕ) (parts : List Part) (s : State) → Begins b parts → Even b parts → p + 11 ≤ e → Ready s (not b) c g
     → IsTurned (seen ss rs e p parts) s b c g
 unfolding seen
@@ -51,7 +51,7 @@ seen_turn b c g ss rs e p parts s begins even le was =
     subst (λ (ts : List Cell). IsTurned ts s b c g) (sym o.are)
     (turn b c g o.levels o.rest s (let l = o.long in omega (arith, l, le)) (rest_flat b (cells_of b o.levels) o.rest (parts_cells (e - p) parts (drop p ss) (drop p rs)) o.are (even (e - p) (drop p ss) (drop p rs))) was)
 
--- fewer came: a change where the level is the last one heard, and nothing came after them
+-- fewer were received: a change where the level is the last one heard, and nothing was received after them
 pub seen_few : (b c : Bool) (g : List ℕ) (ss rs : List Column) (e p : ℕ) (parts : List Part) (s : State) → Begins b parts → e < p + 11 → Ready s (not b) c g
     → says (seen ss rs e p parts) s ≡ cond (is_heard b (after (seen ss rs e p parts) s).heard) (ends true c g) []
 unfolding seen
@@ -80,7 +80,7 @@ size_row mode ok row long ps =
 abbrev pub row_lines_of : List (List ℕ) → List Line
 row_lines_of rows = map row_line rows
 
--- the rows that came, of a frame whose next row is row y in the line at column p
+-- the rows that were received, of a frame whose next row is row y in the line at column p
 unfoldable pub rows_listed : Mode → Bool → List Column → List Column → ℕ → ℕ → ℕ → List (List ℕ) → List Listed
 rows_listed mode c ss rs e p y [] = []
 rows_listed mode c ss rs e p y (row ∷ rows) =
@@ -103,7 +103,7 @@ seen_none : (mode : Mode) (ps : List Packet) (ss rs : List Column) (e p : ℕ) �
 unfolding seen laid parts_cells
 seen_none mode ps ss rs e p = refl
 
--- no row came
+-- no row was received
 rows_flat : (mode : Mode) → IsMode mode → (rows : List (List ℕ)) → AreRows (active mode.across) rows → (ps : List Packet) (ss rs : List Column) (e p : ℕ)
     → e ≤ p + row_end mode → Flat (not mode.positive) (seen ss rs e p (laid mode (row_lines_of rows) ps))
 rows_flat mode ok [] are ps ss rs e p le = subst (λ (ts : List Cell). Flat (not mode.positive) ts) (sym (seen_none mode ps ss rs e p)) refl
@@ -131,7 +131,7 @@ unfolding rows_listed
 listed_row mode c ss rs e p y row rows lt =
     ap (λ (t : Bool). cond t (listed_rows (bytes_at ss rs (p + row_at mode) row) (note c y)) [] ++ rows_listed mode c ss rs e (p + total mode.across) (suc y) rows) (lt-ltb (p + row_end mode) e lt)
 
--- the next row came, and what is said of those after it
+-- the next row was received, and what is said of those after it
 row_more : (mode : Mode) → IsMode mode → (row : List ℕ) (rows : List (List ℕ)) → length row ≡ 3 * active mode.across → (ps : List Packet) (ss rs : List Column) (e p : ℕ)
     → e ≤ length ss → e ≤ length rs → (s : State) (c : Bool) (y : ℕ) → y ≤ 4096 → Ready s (not mode.positive) c (replicate y (active mode.across)) → p + row_end mode < e
     → ((t : State) → Ready t (not mode.positive) c (replicate (suc y) (active mode.across))
@@ -148,7 +148,7 @@ row_more mode ok row rows long ps ss rs e p ends_sent ends_received s c y few wa
     let k = later (after first s) r.ready in
     grind (arith, seen, more_times, Cell, says, says_append, listed_row, State, Ready, after, after_append)
 
--- the next row did not come, and so none after it
+-- the next row was not received, and so none after it
 row_none : (mode : Mode) → IsMode mode → (row : List ℕ) (rows : List (List ℕ)) → AreRows (active mode.across) (row ∷ rows) → (ps : List Packet) (ss rs : List Column) (e p : ℕ)
     → (s : State) (c : Bool) (y : ℕ) → Ready s (not mode.positive) c (replicate y (active mode.across)) → e ≤ p + row_end mode
     → IsRows (seen ss rs e p (laid mode (row_lines_of (row ∷ rows)) ps)) s (not mode.positive) c (rows_listed mode c ss rs e p y (row ∷ rows)) (replicate (y + length (row ∷ rows)) (active mode.across)) (p + length (row ∷ rows) * total mode.across ≤ e)

@@ -67,7 +67,7 @@ few_seen b parts ss rs e p begins lt =
     let is : parts_cells (e - p) parts (drop p ss) (drop p rs) ≡ cells_of b o.levels = o.are ∙ ap (λ (ts : List Cell). cells_of b o.levels ++ ts) (o.none (omega (arith, lt))) ∙ append-nil (cells_of b o.levels) in
     ap (λ (ts : List Cell). says ts fresh) is ∙ begin_few b o.levels
 
--- parts of one level, and what is said of those behind them once the level was heard
+-- parts of one level, and what is said of those after them once the level was heard
 from_mid : (mode : Mode) (b : Bool) (mid more : List Part) (lines : List Listed) (ss rs : List Column) (e p q : ℕ) (last : Bool) → Begins b mid → Mute b mid → p + size mid ≡ q → (e < p + 11 → lines ≡ [])
     → ((t : State) (g : List ℕ) → Ready t b false g → IsLast mode (seen ss rs e q more) t last → says (seen ss rs e q more) t ≡ lines) → IsLast mode (seen ss rs e p (mid ++ more)) fresh last → says (seen ss rs e p (mid ++ more)) fresh ≡ lines
 from_mid mode b mid more lines ss rs e p q last begins mute place silent later final = elim (cases_lt e (p + 11)) [

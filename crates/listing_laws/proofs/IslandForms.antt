@@ -66,7 +66,7 @@ nested : (h a b c d y : List ℕ)
     → h ++ (32 ∷ []) ++ a ++ (32 ∷ []) ++ b ++ (32 ∷ []) ++ c ++ (32 ∷ []) ++ d ++ (32 ∷ []) ++ y ≡ h ++ (32 ∷ (a ++ (32 ∷ (b ++ (32 ∷ (c ++ (32 ∷ (d ++ (32 ∷ y)))))))))
 nested h a b c d y = simp append_assoc
 
--- what is behind a field and its space
+-- what is after a field and its space
 after : (xs rest : List ℕ) (n m : ℕ) → length xs ≡ n → m ≡ n + 1 → drop m (xs ++ 32 ∷ rest) ≡ rest
 after xs rest n m size e =
     ap (λ (k : ℕ). drop k (xs ++ 32 ∷ rest)) e ∙ sym (drop-drop 1 n (xs ++ 32 ∷ rest)) ∙ ap (drop 1) (drop_at xs (32 ∷ rest) n size)

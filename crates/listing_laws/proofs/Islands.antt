@@ -21,7 +21,7 @@ use Rattle.listing_laws.proofs.LineForms.{line_is}
 use Rattle.listing_laws.proofs.LineSteps.{read_more}
 use Rattle.listing_laws.proofs.NoCause.{island_cause_none, packet_cause_none, close_cause_none}
 
--- periods, and an island of which so many packets were told
+-- periods, and an island of which so many packets were given
 abbrev pub reported : List Period → Draft
 reported ps = record { periods = ps; opened = None }
 
@@ -89,7 +89,7 @@ read_packet n at ps opening done p rest packet room few before =
     (packet_cause_none (within ps opening done) p (both _ _ (packet_values p packet) (not_last (length done) room)) (few_packets (length done) room) (omega arith))
     refl (omega arith)
 
--- all packets: `goal` is what the text behind them reads as
+-- all packets: `goal` is what the text after them reads as
 read_packets : (ps : List Period) (opening : SyncPair) (done packets all : List Packet) (n at : ℕ) (rest : List ℕ) (goal : Read (List Period)) → list_all is_packet packets ≡ true → done ++ packets ≡ all
     → length done + length packets ≤ 18 → columns_of ps + (2 + 32 * (length done + length packets)) ≤ 20000000 → at ≤ 14 * (columns_of ps + (2 + 32 * length done))
     → ((m to : ℕ) → to ≤ 14 * (columns_of ps + (2 + 32 * length all)) → read_lines link_step m to (within ps opening all) (pieces_of rest) ≡ goal)

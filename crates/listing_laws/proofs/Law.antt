@@ -1,4 +1,4 @@
--- Frames come back.
+-- Frames are recovered.
 use Rattle.std.proofs.Common.{◌≡◌, ℕ, ◌+◌, ◌-◌, ◌≤◌, List, [], length, refl, ap, subst, ◌∙◌, arith}
 use Rattle.island_pack.specs.Kinds.{Kind, EndsAt}
 use Rattle.period_grammar.specs.Events.{Event}

@@ -17,7 +17,7 @@ step_reported : (draft : Draft) (line : List ℕ) (form : LineForm) → form_of 
 unfolding link_step
 step_reported draft line form seen none = rw (seen, none) refl
 
--- what a line does to the lines behind it, which are some
+-- what a line does to the lines after it, which are some
 does_step : (n at : ℕ) (draft : Draft) (line first : List ℕ) (more pieces : List (List ℕ)) (does : LineStep Draft (List Period)) → pieces ≡ first ∷ more → link_step draft line ≡ does → at + length line + 1 ≤ 4294967295
     → read_lines link_step n at draft (line ∷ pieces) ≡ steps_on n pieces (λ reported. read_lines link_step (n + 1) (at + length line + 1) reported pieces) does
 does_step n at draft line first more pieces does some is short =

@@ -56,7 +56,7 @@ value_vsync mode line has x =
 pub sync_vsync : (mode : Mode) (line : Line) (x : ℕ) → vsync_of (sync_at mode line x) ≡ level_of mode line
 sync_vsync mode line x = plain_vsync (level mode.positive (nat_lt x (sync mode.across))) (level_of mode line)
 
--- Parts that are seen as columns of one level and gaps, however many came.
+-- Parts that are seen as columns of one level and gaps, however many were received.
 
 abbrev pub Even : Bool → List Part → Type 0
 Even b parts = (m : ℕ) (ss rs : List Column) → Flat b (parts_cells m parts ss rs)

@@ -1,4 +1,4 @@
--- What a link listing of a stream that came whole and undamaged reads back as.
+-- What a link listing of a stream that was received whole and undamaged reads back as.
 use Rattle.std.proofs.Common.{◌≡◌, ℕ, ◌+◌, ◌-◌, ◌≤◌, Bool, true, false, List, [], ◌∷◌, ◌++◌, length, refl, ap, sym, subst, ◌∙◌, append_assoc, append-nil, arith, take_all, length-append}
 use Rattle.std.specs.Prelude.{codes}
 use Rattle.tmds_word.specs.Column.{Column}
@@ -29,7 +29,7 @@ use Rattle.listing_laws.proofs.SoundLines.{sound_lines, sound_append, all_sound}
 use Rattle.listing_laws.proofs.Text.{line_of, run_lines, period_lines, text_of}
 use Rattle.listing_laws.proofs.Undamaged.{undamaged}
 
--- ---- the columns are a front, of which no fault is told
+-- ---- the columns are a front, of which no fault is reported
 
 packets_freely : (first : Bool) (ps : List Packet) (cs : List Column) → SpellsPackets first ps cs → SpellsPacketsBy freely first ps cs
 packets_freely first [] cs h = h
@@ -76,7 +76,7 @@ some_columns (control runs ∷ rest) cs good h =
 abbrev text_from : ℕ → ℕ → List Column → List Period → List Column → List ℕ
 text_from j m before ps cs = sound_lines (account_from j m before ps cs cs) ++ codes "end\n"
 
--- a period, and those behind it
+-- a period, and those after it
 first_text : (p : Period) (ps : List Period) (j m : ℕ) (before cs : List Column) (text more : List ℕ) (h : Spells (p ∷ ps) cs)
     → sound_lines (period_row j m before p h.0 h.0) ≡ text
     → text_from (j + period_columns p) (m - period_columns p) h.0 ps h.1 ≡ more
@@ -92,7 +92,7 @@ control_text runs ps j m before cs more h good le after =
     first_text (control runs) ps j m before cs (run_lines (longest (values_of runs))) more h
     (own_control j m before runs h.0 (is_control_of runs good).small h.3 (omega (arith, all, own, le))) after
 
--- columns come behind a video data period
+-- columns follow a video data period
 video_text : (bytes : List ℕ) (ps : List Period) (j m : ℕ) (before cs : List Column) (more : List ℕ) (h : Spells (video bytes ∷ ps) cs) → is_video_period bytes ≡ true → length cs ≤ m → 1 ≤ length h.1
     → text_from (j + period_columns (video bytes)) (m - period_columns (video bytes)) h.0 ps h.1 ≡ more
     → text_from j m before (video bytes ∷ ps) cs ≡ line_of (line bytes) ++ more

@@ -1,5 +1,5 @@
--- The rows and frames of a list of told events, column by column: a run of columns is each of them by itself, so what is
--- listed follows the columns of lines and not the runs of control periods.
+-- The rows and frames of a list of reported events, column by column: a run of columns is each of them by itself, so
+-- what is listed follows the columns of lines and not the runs of control periods.
 use Rattle.std.proofs.Common.{arith, ◌≡◌, ℕ, zero, suc, ◌/◌, Bool, true, false, ◌&&◌, if◌then◌else◌, List, [], ◌∷◌, ◌++◌, length, replicate, Option, Some, None, refl, sym, ap, ◌∙◌, append_assoc, append-nil}
 use Rattle.period_grammar.specs.Events.{Event, run, line, word, short, preamble, noise, empty, code, long_line, cut, open_island, packet, close_island, symbols, mended, lost, long_island, broken, guard}
 use Rattle.frame_build.specs.FrameEvent.{vsync_of, Mark, column, gap}
@@ -8,7 +8,7 @@ use Rattle.frame_build.specs.Group.{frame_of, is_unlike, reported_count}
 use Rattle.frame_build.specs.declared.LineNote.{LineNote}
 use Rattle.listing_writer.specs.Listed.{Listed, listed_frames, listed_rows}
 
--- what frames see of a told event: each column of a run, a line, or a gap
+-- what frames see of a reported event: each column of a run, a line, or a gap
 pub data Tick : Type 0 where
   control : Bool → Tick
   pixels : List ℕ → Tick

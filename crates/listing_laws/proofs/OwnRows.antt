@@ -1,4 +1,5 @@
--- The lines of the account of a period that came as it was sent: they tell the period with its longest runs.
+-- The lines of the account of a period that was received as it was sent: they describe the period with
+-- its longest runs.
 use Rattle.std.proofs.Common.{◌≡◌, ℕ, suc, zero, ◌+◌, ◌-◌, ◌*◌, ◌%◌, ◌<◌, ◌≤◌, Bool, true, false, cond, ◌==◌, List, [], ◌∷◌, ◌++◌, length, map, take, drop, refl, ap, ap₂, sym, ◌∙◌, append_assoc, append-nil, arith, take_at, drop_at, take_all}
 use Rattle.std.specs.Prelude.{nat_lt}
 use Rattle.std.proofs.lemmas.Bool.{eqb-true, eq-eqb, le-leb, lt-ltb, le-ltb}

@@ -1,4 +1,4 @@
--- The content lines of a packet of which at most one word came unlike, and of the packets of periods.
+-- The content lines of a packet of which at most one word was received unlike, and of the packets of periods.
 use Rattle.std.proofs.Common.{◌≡◌, ℕ, ◌-◌, ◌<◌, ◌≤◌, Bool, false, if◌then◌else◌, List, [], ◌∷◌, map, length, take, drop, Option, None, refl, sym, ap₂, subst, ◌∙◌, arith}
 use Rattle.std.specs.Prelude.{is_some, slice_index, nat_le, Ok, Err, ◌==◌}
 use Rattle.std.specs.List.{find}

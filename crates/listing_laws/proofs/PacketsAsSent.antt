@@ -1,4 +1,5 @@
--- Each packet of periods of which at most one word came unlike is told as it was sent, and none of its blocks is lost.
+-- Each packet of periods of which at most one word was received unlike is reported as it was sent, and none of its
+-- blocks is lost.
 use Rattle.std.proofs.Common.{◌≡◌, ℕ, ◌≤◌, List, map, length, take, drop, subst, sym}
 use Rattle.tmds_word.specs.Column.{Column}
 use Rattle.island_pack.specs.Packets.{CarriesFreely}

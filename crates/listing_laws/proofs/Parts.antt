@@ -12,12 +12,12 @@ use Rattle.source_end.specs.Raster.{Part, column, pixels, packets}
 use Rattle.source_end.specs.Gathering.{part_size, size}
 use Rattle.listing_laws.proofs.Cells.{Cell, control, pixels as pixels_cell, parted}
 
--- a control column that was sent with a value, where a column came
+-- a control column that was sent with a value, where a column was received
 abbrev pub reception : ℕ → ℕ → List Column → List Cell
 reception zero v rs = []
 reception (suc m) v rs = control (vsync_of v) (vsync_of (value_of (column_at rs 0))) ∷ []
 
--- a row, of which m columns came; where it did not come whole, with the column after it, it is a gap
+-- a row, of which m columns were received; where it was not received whole, with the column after it, it is a gap
 abbrev pub row_cells : ℕ → List Pixel → List Column → List Column → List Cell
 row_cells zero ps ss rs = []
 row_cells (suc zero) ps ss rs = parted ∷ []
@@ -33,7 +33,7 @@ part_cells m (column v) ss rs = reception m v rs
 part_cells m (pixels bytes) ss rs = row_cells m (pixels_of bytes) ss rs
 part_cells m (packets x) ss rs = gap_cells m
 
--- what is seen of parts of which m columns came
+-- what is seen of parts of which m columns were received
 unfoldable pub parts_cells : ℕ → List Part → List Column → List Column → List Cell
 parts_cells m [] ss rs = []
 parts_cells m (p ∷ ps) ss rs = part_cells m p (take (part_size p) ss) (take (part_size p) rs) ++ parts_cells (m - part_size p) ps (drop (part_size p) ss) (drop (part_size p) rs)

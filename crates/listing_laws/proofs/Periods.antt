@@ -52,7 +52,7 @@ read_run n at ps done r rest turn run few before =
     (ap (λ (qs : List Period). tells (reported qs)) (run_more ps done r turn))
     (omega arith)
 
--- all runs: `goal` is what the text behind them reads as
+-- all runs: `goal` is what the text after them reads as
 read_runs : (ps : List Period) (done runs all : List ControlRun) (n at : ℕ) (rest : List ℕ) (goal : Read (List Period)) → is_control_last (last_period ps) ≡ false → list_all is_run runs ≡ true
     → done ++ runs ≡ all → columns_of ps + (length (values_of done) + length (values_of runs)) ≤ 20000000 → at ≤ 14 * (columns_of ps + length (values_of done))
     → ((m to : ℕ) → to ≤ 14 * (columns_of ps + length (values_of all)) → read_lines link_step m to (reported (with_open ps all)) (pieces_of rest) ≡ goal)
@@ -123,7 +123,7 @@ pub video_is : (bytes : List ℕ) → is_video_period bytes ≡ true → IsVideo
 unfolding is_video_period is_in_range
 video_is bytes period = grind (arith, and-right, bytes_from, and-left, eqb-true, least)
 
--- a video data period behind a control period has no fault
+-- a video data period after a control period has no fault
 video_follows : (ps : List Period) (runs : List ControlRun) (bytes : List ℕ) → is_control_period runs ≡ true → has_preamble VIDEO_PREAMBLE (values_of runs) ≡ true → IsVideo bytes
     → columns_of (ps ++ control runs ∷ []) + period_columns (video bytes) ≤ 20000000 → push_fault (ps ++ control runs ∷ []) (video bytes) ≡ None
 video_follows ps runs bytes period announced is few = grind (arith, last_of_more, push_none, long_enough, le-leb)
@@ -187,7 +187,7 @@ island_text : (x : DataIsland) (rest : List Period) → text_of (island x ∷ re
 unfolding text_of
 island_text x rest = refl
 
--- a control period and a video data period, where `goal` is what the text behind them reads as
+-- a control period and a video data period, where `goal` is what the text after them reads as
 read_video_pair : (ps : List Period) (runs : List ControlRun) (bytes : List ℕ) (n at : ℕ) (rest : List Period) (goal : Read (List Period)) → is_control_last (last_period ps) ≡ false → is_control_period runs ≡ true
     → has_preamble VIDEO_PREAMBLE (values_of runs) ≡ true → is_video_period bytes ≡ true → columns_of ps + (length (values_of runs) + (2 + length bytes / 3)) ≤ 20000000 → at ≤ 14 * columns_of ps
     → ((m to : ℕ) → to ≤ 14 * (columns_of ps + (length (values_of runs) + (2 + length bytes / 3))) → read_lines link_step m to (reported ((ps ++ control runs ∷ []) ++ video bytes ∷ [])) (pieces_of (text_of rest)) ≡ goal)
@@ -224,7 +224,7 @@ read_island_pair ps runs x n at rest goal turn period announced good few before 
 joined_pair : (ps : List Period) (p q : Period) (rest : List Period) → ((ps ++ p ∷ []) ++ q ∷ []) ++ rest ≡ ps ++ p ∷ (q ∷ rest)
 joined_pair ps p q rest = append_assoc (ps ++ p ∷ []) (q ∷ []) rest ∙ append_assoc ps (p ∷ []) (q ∷ rest)
 
--- the text of the periods `rest` behind the periods `ps`
+-- the text of the periods `rest` after the periods `ps`
 read_periods : (rest ps : List Period) (n at : ℕ) → conforms rest ≡ true → is_control_last (last_period ps) ≡ false → columns_of ps + columns_of rest ≤ 20000000 → at ≤ 14 * columns_of ps
     → read_lines link_step n at (reported ps) (pieces_of (text_of rest)) ≡ accepts (ps ++ rest)
 unfolding conforms

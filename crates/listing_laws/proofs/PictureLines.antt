@@ -35,7 +35,7 @@ use Rattle.listing_laws.specs.FrameLaws.{active_at, counts, frames_received, is_
 use Rattle.listing_laws.specs.ListingLaws.{tells_picture, line_of, FrameLinesComeBack}
 use Rattle.listing_laws.proofs.Law.{frames_heard}
 
--- no line of these tells a row or a frame
+-- no line of these gives a row or a frame
 abbrev NoPictures : List (List ℕ) → Type 0
 NoPictures lines = filter tells_picture lines ≡ []
 
@@ -149,7 +149,7 @@ all_lines reported (event ∷ events) =
     (all_lines (reported ++ event ∷ []) events ∙ ap (λ (es : List FrameEvent). flat_map reported_lines (listed_from es events)) (map-append frame_event_of reported (event ∷ [])))
     ∙ sym (flat_map-append reported_lines (listed_at (frame_events reported) event) (listed_from (frame_events reported ++ frame_event_of event ∷ []) events))
 
--- No row that came is ragged.
+-- No row that was received is ragged.
 
 abbrev IsEven : List Listed → Type 0
 IsEven reported = flat_map reported_lines reported ≡ map line_of reported

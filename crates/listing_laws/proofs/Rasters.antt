@@ -1,4 +1,4 @@
--- Columns that spell a raster came of it, and there is a raster.
+-- Columns that spell a raster are received for it, and there is a raster.
 use Rattle.std.proofs.Common.{◌≡◌, true, [], ◌∷◌, replicate, refl}
 use Rattle.std.specs.Prelude.{None}
 use Rattle.island_pack.specs.declared.packet.Packet.{Packet}

@@ -1,4 +1,5 @@
--- Why no change comes while the level stays, and why one comes where nine columns of the other level came.
+-- Why no change is heard while the level stays, and why one is heard where nine columns of the other
+-- level were received.
 use Rattle.std.proofs.Common.{◌≡◌, ℕ, zero, suc, ◌+◌, ◌*◌, ◌≤◌, Bool, true, false, not, ◌&&◌, cond, List, [], ◌∷◌, ◌++◌, map, length, replicate, Option, Some, None, refl, sym, ap, ap₂, subst, ◌∙◌, append-nil, arith, inl, inr, ◌⊎◌}
 use Rattle.std.specs.List.{list_all}
 use Rattle.std.proofs.lemmas.Bool.{leb-true}
@@ -16,7 +17,7 @@ abbrev pub clear : Bool → List Mark → Bool
 clear b [] = true
 clear b (m ∷ ms) = not (has_vsync b m)
 
--- the newest marks of the other level, at most two, are of columns that came otherwise than they were sent
+-- the newest marks of the other level, at most two, are of columns received otherwise than they were sent
 pub record Trail (b : Bool) (ms : List Mark) (rs : List Bool) : Type 0 where
   pub count : ℕ
   pub least : count ≤ 2
@@ -182,7 +183,7 @@ pub record IsQuiet (ts : List Cell) (s : State) (b c : Bool) (g : List ℕ) : Ty
   pub nothing : says ts s ≡ []
   pub ready : Ready (after ts s) b c g
 
--- no change comes of columns of the level that was heard, and of gaps
+-- no change is heard in columns of the level that was heard, and of gaps
 pub quiet : (b c : Bool) (g : List ℕ) (ts : List Cell) (s : State) → Flat b ts → Ready s b c g → IsQuiet ts s b c g
 unfolding says after
 quiet b c g [] s h was = record { nothing = refl; ready = was }
@@ -203,7 +204,7 @@ pub flat_columns : (b : Bool) (us : List Bool) → Flat b (columns b us)
 flat_columns b [] = refl
 flat_columns b (u ∷ us) = ap₂ (λ (x y : Bool). x && y) (same_self b) (flat_columns b us)
 
--- k columns came, of which x are wrong, and the last r are right: three in a row did not come right yet
+-- k columns were received, of which x are wrong, and the last r are right: three in a row were not received right yet
 record Waiting (s : State) (b : Bool) (k x r : ℕ) : Type 0 where
   pub seen : (j : ℕ) → k ≤ j → x ≤ wrongs j s.recent
   pub earlier : List Mark
@@ -334,7 +335,7 @@ columns_say b c g (v ∷ us) s h = elim (one_column b v c g s h) [
   | waiting nothing heard later ↦ ap (λ (xs : List Listed). xs ++ says (columns b us) (step (control b v) s)) nothing ∙ columns_say b c g us (step (control b v) s) heard
 ]
 
--- of fewer the frame is told where the level is heard at last
+-- of fewer the frame is reported where the level is heard at last
 pub fewer_said : (b c : Bool) (g : List ℕ) (us : List Bool) (s : State) → Ready s (not b) c g → says (columns b us) s ≡ cond (is_heard b (after (columns b us) s).heard) (ends true c g) []
 fewer_said b c g us s was = columns_say b c g us s (was.heard, was.counting, was.group)
 

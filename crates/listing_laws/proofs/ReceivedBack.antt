@@ -1,4 +1,4 @@
--- What is listed by places is what is listed by the columns that came.
+-- What is listed by places is what is listed by the received columns.
 use Rattle.std.proofs.Common.{◌≡◌, ℕ, suc, ◌+◌, ◌-◌, ◌<◌, ◌≤◌, Bool, true, false, not, ◌||◌, cond, min, max, List, [], ◌∷◌, ◌++◌, length, take, drop, refl, sym, ap, ap₂, subst, ◌∙◌, append_assoc, append-nil, arith, inl, inr}
 use Rattle.std.specs.Prelude.{nat_lt}
 use Rattle.std.proofs.lemmas.Bool.{cases_lt}
@@ -56,7 +56,7 @@ eleven_met b parts k ss rs begins le ok =
     ap (met b []) o.are ∙ met_append b [] (cells_of b o.levels) o.rest
     ∙ ap (λ (t : Bool). t || met b (push (cells_of b o.levels) []) o.rest) (sym (heard_met b o.levels fresh f refl) ∙ ap (is_heard b) h.ready.heard ∙ same_self b)
 
--- Sync lines behind lines of the other level.
+-- Sync lines after lines of the other level.
 
 -- of lines of the other level there are no three
 low_met : (b : Bool) (ts : List Cell) → Flat (not b) ts → fine [] ts ≡ true → met b [] ts ≡ false
@@ -82,7 +82,7 @@ later b parts k ss rs begins even le s =
     let h = settle (not b) o.levels o.rest s (omega (arith, l)) (rest_flat (not b) (cells_of (not b) o.levels) o.rest (parts_cells k parts ss rs) o.are (even k ss rs)) in
     grind (arith, is_heard, after, cells_of, other_heard, Cell, longer, length_cells)
 
--- behind lines of the other level three neighbouring columns came where the level is heard
+-- after lines of the other level three neighbouring columns were received where the level is heard
 zone_met : (b : Bool) (fs : List Cell) (us : List Bool) (s : State) → fine s.recent (fs ++ cells_of b us) ≡ true → IsAfter b fs s → met b (push fs []) (cells_of b us) ≡ is_heard b (after (fs ++ cells_of b us) s).heard
 zone_met b fs us s ok h =
     sym (ap (λ (t : State). is_heard b t.heard) (after_append fs (cells_of b us) s)
@@ -129,7 +129,7 @@ at_seen ss rs e p parts = refl
 pub at_mid : (mode : Mode) (all : List Frame) (ss rs : List Column) (a e : ℕ) (last : Bool) → (scene : Scene mode all ss rs a e last) → IsAt mode all scene.mid a
 at_mid mode all ss rs a e last scene = record { before = scene.early; are = scene.are; place = scene.place }
 
--- low lines at column p, and the sync lines at column q behind them
+-- low lines at column p, and the sync lines at column q after them
 record LowAndSync (mode : Mode) (all : List Frame) (low rest : List Part) (p q : ℕ) : Type 0 where
   pub here : IsAt mode all (low ++ rest) p
   pub place : p + size low ≡ q
@@ -163,7 +163,7 @@ seen_after : (mode : Mode) (all : List Frame) (ss rs : List Column) (e : ℕ) (l
 seen_after mode all ss rs e low rest p q h le s =
     subst (λ (ts : List Cell). IsAfter mode.positive ts s) (sym (at_seen ss rs e p low)) (later mode.positive low (e - p) (drop p ss) (drop p rs) h.begins h.even (omega (arith, h.place, h.long, le)) s)
 
--- eleven columns of the sync lines came
+-- eleven columns of the sync lines were received
 sync_whole : (mode : Mode) (all : List Frame) (ss rs : List Column) (a e : ℕ) (last : Bool) → Scene mode all ss rs a e last → (low rest : List Part) (p q : ℕ) → LowAndSync mode all low rest p q → q + 11 ≤ e
     → met mode.positive (push (seen ss rs e p low) []) (seen ss rs e q rest) ≡ true
 sync_whole mode all ss rs a e last scene low rest p q h le =
@@ -182,7 +182,7 @@ sync_whole mode all ss rs a e last scene low rest p q h le =
     ∙ ap (λ (t : Bool). t || met b (push (cells_of b us) (push fs [])) o.rest)
     (zone_met b fs us fresh ok (seen_after mode all ss rs e low rest p q h (omega (arith, le)) fresh) ∙ heard)
 
--- fewer came: what is heard at last says
+-- fewer were received: what is heard at last says
 sync_part_received : (mode : Mode) (all : List Frame) (ss rs : List Column) (a e : ℕ) (last : Bool) → Scene mode all ss rs a e last → (low rest : List Part) (p q : ℕ) → LowAndSync mode all low rest p q → a ≤ p → q ≤ e → e < q + 11
     → met mode.positive (push (seen ss rs e p low) []) (seen ss rs e q rest) ≡ last
 sync_part_received mode all ss rs a e last scene low rest p q h from le lt =
@@ -204,7 +204,7 @@ sync_part_received mode all ss rs a e last scene low rest p q h from le lt =
     ∙ ap (λ (ts : List Cell). is_heard b (after ts fresh).heard) (sym all_seen)
     ∙ scene.at_last
 
--- three neighbouring columns came of low lines and the sync lines behind them where the sync lines are heard
+-- three neighbouring columns were received of low lines and the sync lines after them where the sync lines are heard
 low_and_sync : (mode : Mode) (all : List Frame) (ss rs : List Column) (a e : ℕ) (last : Bool) → Scene mode all ss rs a e last → (low rest : List Part) (p q : ℕ) → LowAndSync mode all low rest p q → a ≤ p
     → met mode.positive [] (seen ss rs e p (low ++ rest)) ≡ turns e last q
 low_and_sync mode all ss rs a e last scene low rest p q h from =
@@ -257,7 +257,7 @@ front_low mode ok all f good frames p h =
       rest_begins = begins_parts mode ok frames;
     }
 
--- a frame is told where three such columns came after its rows
+-- a frame is reported where three such columns were received after its rows
 reported_where : (mode : Mode) (all : List Frame) (ss rs : List Column) (a e : ℕ) (last : Bool) → (scene : Scene mode all ss rs a e last) → (f : Frame) → IsFrame mode f → (frames : List Frame) (p : ℕ) → IsAt mode all (parts_of mode (f ∷ frames)) p → a ≤ front_at mode p
     → is_reported mode rs a e p ≡ turns e last (next_at mode p)
 reported_where mode all ss rs a e last scene f good frames p h le =

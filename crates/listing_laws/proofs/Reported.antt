@@ -1,4 +1,4 @@
--- The packets that are told are those that came whole, in order.
+-- The packets that are reported are those that were received whole, in order.
 use Rattle.std.proofs.Common.{◌≡◌, ℕ, zero, suc, ◌+◌, ◌-◌, ◌*◌, ◌<◌, ◌≤◌, Bool, true, false, not, ◌&&◌, cond, List, [], ◌∷◌, ◌++◌, map, length, take, drop, Option, Some, None, refl, sym, ap, ap₂, subst, ◌∙◌, append_assoc, arith, inl, inr, ◌⊎◌}
 use Rattle.std.specs.Prelude.{nat_le, nat_lt}
 use Rattle.std.proofs.lemmas.Bool.{le-leb, lt-leb, lt-ltb, le-ltb, cases_lt}
@@ -135,7 +135,7 @@ one_packet s p ss rs = grind (arith, no_both, no_symbols, no_blocks)
 
 -- Packets one after another.
 
--- a packet that did not come whole, and those behind it
+-- a packet that was not received whole, and those after it
 none_received : (ss rs : List Column) (a e y : ℕ) (ps : List Packet) → e < y + 32 → packets_received ss rs a e (each_at y ps) ≡ []
 unfolding each_at packets_received
 none_received ss rs a e y [] lt = refl

@@ -1,5 +1,5 @@
--- The rows of a frame: each that came, with the column after it, is listed if the group counts; and what VSYNC sees of it
--- is a gap.
+-- The rows of a frame: each that was received, with the column after it, is listed if the group counts; and what VSYNC
+-- sees of it is a gap.
 use Rattle.std.proofs.Common.{◌≡◌, ℕ, zero, suc, ◌+◌, ◌-◌, ◌*◌, ◌/◌, ◌<◌, ◌≤◌, Bool, true, false, not, ◌&&◌, cond, List, [], ◌∷◌, ◌++◌, length, take, drop, replicate, Some, refl, sym, ap, subst, ◌∙◌, append-nil, arith}
 use Rattle.std.proofs.lemmas.Bool.{lt-ltb, le-ltb}
 use Rattle.std.proofs.lemmas.List.{drop-drop, drop-take, length-take, length-drop, length-replicate}
@@ -21,7 +21,7 @@ use Rattle.listing_laws.proofs.Ready.{Flat, flat_append, Ready, quiet, clear_tra
 use Rattle.listing_laws.proofs.Parts.{row_cells, part_cells, parts_cells, parts_append}
 use Rattle.listing_laws.proofs.Lines.{Even, even_until, even_columns, sync_vsync}
 
--- what is seen of parts whose first column is column p, of columns that came up to column e
+-- what is seen of parts whose first column is column p, of received columns up to column e
 unfoldable pub seen : List Column → List Column → ℕ → ℕ → List Part → List Cell
 seen ss rs e p parts = parts_cells (e - p) parts (drop p ss) (drop p rs)
 
@@ -95,7 +95,7 @@ row_reported s b c y m ps ss rs was few lt d e =
 
 -- A line with a row.
 
--- the bytes that came of a row whose first pixel is column x
+-- the bytes that were received of a row whose first pixel is column x
 abbrev pub bytes_at : List Column → List Column → ℕ → List ℕ → List ℕ
 bytes_at ss rs x bytes = pixel_bytes (pixels_of bytes) (take (length bytes / 3) (drop x ss)) (take (length bytes / 3) (drop x rs))
 
@@ -108,7 +108,7 @@ seen_pixels : (ss rs : List Column) (e p : ℕ) (bytes : List ℕ) (parts : List
 unfolding seen parts_cells part_cells
 seen_pixels ss rs e p bytes parts = refl
 
--- whether it did not come whole, with the column after it: it is no row for frames
+-- whether it was not received whole, with the column after it: it is no row for frames
 pub row_flat : (mode : Mode) → IsMode mode → (bytes : List ℕ) → length bytes ≡ 3 * active mode.across → (ps : List Packet) (ss rs : List Column) (e p : ℕ)
     → e ≤ p + row_end mode → Flat (not mode.positive) (seen ss rs e p (whole mode (row_line bytes) (take (room mode (row_line bytes)) ps) (Some bytes)))
 row_flat mode ok bytes long ps ss rs e p le =
@@ -133,7 +133,7 @@ row_flat mode ok bytes long ps ss rs e p le =
     (flat_append b video t (row_cut b (e - at) (pixels_of bytes) sent received m)
     (even_columns b (λ x. sync_at mode line x) (sync mode.across + back mode.across + active mode.across) (total mode.across) (sync_vsync mode line) m2 ss2 rs2))))
 
--- where it came, it is listed if the group counts
+-- where it was received, it is listed if the group counts
 pub row_seen : (mode : Mode) → IsMode mode → (bytes : List ℕ) → length bytes ≡ 3 * active mode.across → (ps : List Packet) (ss rs : List Column) (e p : ℕ)
     → p + row_end mode < e → e ≤ length ss → e ≤ length rs → (s : State) (c : Bool) (y : ℕ) → y ≤ 4096 → Ready s (not mode.positive) c (replicate y (active mode.across))
     → IsRow (seen ss rs e p (whole mode (row_line bytes) (take (room mode (row_line bytes)) ps) (Some bytes))) s (not mode.positive) c (bytes_at ss rs (p + row_at mode) bytes) y (active mode.across)

@@ -1,4 +1,4 @@
--- Three neighbouring control columns with VSYNC active: where they came is what the cells say.
+-- Three neighbouring control columns with VSYNC active: where they were received is what the cells say.
 use Rattle.std.proofs.Common.{◌≡◌, ℕ, zero, suc, ◌+◌, ◌-◌, ◌≤◌, Bool, true, false, not, ◌&&◌, ◌||◌, List, [], ◌∷◌, ◌++◌, length, take, drop, refl, sym, ap, ap₂, ◌∙◌, arith}
 use Rattle.tmds_word.proofs.Below.{and-left, and-right}
 use Rattle.tmds_word.specs.Column.{Column}
@@ -27,7 +27,7 @@ mark_by false v = gap
 abbrev mark : Column → Mark
 mark c = mark_by (is_control_column c) (value_of c)
 
--- whether three neighbouring columns of a level are among these, behind marks
+-- whether three neighbouring columns of a level are among these, after marks
 abbrev met_in : Bool → List Mark → List Column → Bool
 met_in b ms [] = false
 met_in b ms (c ∷ cs) = three_have b (mark c ∷ ms) || met_in b (mark c ∷ ms) cs
@@ -132,7 +132,7 @@ met_alike : (b : Bool) (cs : List Column) (ms ns : List Mark) → alike ms ns �
 met_alike b [] ms ns h = refl
 met_alike b (c ∷ cs) ms ns h = ap₂ (λ (x y : Bool). x || y) (mark_like b (mark c) ms ns h) (met_alike b cs (mark c ∷ ms) (mark c ∷ ns) (mark_alike (mark c) ms ns h))
 
--- columns that are no control columns, and those behind them
+-- columns that are no control columns, and those after them
 past_quiet : (b : Bool) (own rest : List Column) (k : ℕ) (ms : List Mark) → NoneControl own → met_in b (gap ∷ ms) (take k (own ++ rest)) ≡ met_in b (gap ∷ []) (take (k - length own) rest)
 past_quiet b [] rest k ms h = grind (arith, met_alike)
 past_quiet b (c ∷ own) rest zero ms h = let e : 0 ≡ 0 - length (c ∷ own) = omega arith in ap (λ (n : ℕ). met_in b (gap ∷ []) (take n rest)) e
@@ -157,7 +157,7 @@ column_met : (b u v : Bool) (ns : List Mark) (cs : List Cell) → met b ns (cont
 unfolding met
 column_met b u v ns cs = refl
 
--- a part that is a gap, and the parts behind it
+-- a part that is a gap, and the parts after it
 other_met : (b : Bool) (n : ℕ) (own reception ss rs sent received : List Column) (parts : List Part) (k : ℕ) (ms ns : List Mark) → 1 ≤ n → IsOther n own reception → ss ≡ own ++ sent → rs ≡ reception ++ received
     → (met_in b (gap ∷ []) (take (suc k - n) received) ≡ met b (gap ∷ ns) (parts_cells (suc k - n) parts sent received))
     → met_in b ms (take (suc k) rs) ≡ met b (gap ∷ ns) (parts_cells (suc k - n) parts (drop n ss) (drop n rs))
@@ -172,6 +172,6 @@ parts_met b (column_part v ∷ parts) ss rs a (suc k) ms ns h = grind (arith, th
 parts_met b (pixels bytes ∷ parts) ss rs a (suc k) ms ns h = grind (arith, other_met, met, row_first_cells, row_met, parts_cells, parts_met b parts)
 parts_met b (packets x ∷ parts) ss rs a (suc k) ms ns h = grind (arith, other_met, met, island_first_cells, gap_one, parts_cells, parts_met b parts)
 
--- three neighbouring columns with VSYNC active came of parts where their cells have them
+-- three neighbouring columns with VSYNC active were received of parts where their cells have them
 pub sync_cells : (mode : Mode) (parts : List Part) (ss rs : List Column) → Arrived parts ss rs → (k : ℕ) → has_sync mode (take k rs) ≡ met mode.positive [] (parts_cells k parts ss rs)
 sync_cells mode parts ss rs a k = has_met mode (take k rs) ∙ parts_met mode.positive parts ss rs a k [] [] refl

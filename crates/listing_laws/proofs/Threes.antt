@@ -7,14 +7,14 @@ use Rattle.listing_laws.proofs.Machine.{hears}
 use Rattle.listing_laws.proofs.Cells.{Cell, control, pixels, parted, State, few, same, same_is, same_self, taken_is, heard_at, column_state, step, after, fine}
 use Rattle.listing_laws.proofs.Ready.{Flat, Ready, Trail, clear_trail, gap_clear, grows, not_it, column_clear, quiet, columns, flat_columns, is_heard, other_heard, turned_heard, state_marks, state_recent}
 
--- whether three neighbouring columns of a level came, behind these marks
+-- whether three neighbouring columns of a level were received, after these marks
 unfoldable pub met : Bool → List Mark → List Cell → Bool
 met b ms [] = false
 met b ms (control u v ∷ ts) = three_have b (column v ∷ ms) || met b (column v ∷ ms) ts
 met b ms (pixels bytes ∷ ts) = met b (gap ∷ ms) ts
 met b ms (parted ∷ ts) = met b (gap ∷ ms) ts
 
--- the marks of cells, behind these
+-- the marks of cells, after these
 unfoldable pub push : List Cell → List Mark → List Mark
 push [] ms = ms
 push (control u v ∷ ts) ms = push ts (column v ∷ ms)
@@ -54,7 +54,7 @@ length_push (control u v ∷ ts) xs = let e = length_push ts (column v ∷ xs) i
 length_push (pixels bytes ∷ ts) xs = let e = length_push ts (gap ∷ xs) in omega (arith, e)
 length_push (parted ∷ ts) xs = let e = length_push ts (gap ∷ xs) in omega (arith, e)
 
--- behind two cells it is no matter what was before them
+-- after two cells it is no matter what was before them
 pub met_after : (b : Bool) (xs : List Cell) (ms : List Mark) (ys : List Cell) → 2 ≤ length xs → met b (push xs ms) ys ≡ met b (push xs []) ys
 met_after b xs ms ys le =
     ap (λ (ns : List Mark). met b ns ys) (push_more xs [] ms) ∙ by_marks (push xs []) (let e = length_push xs [] in omega (arith, e, le))
@@ -64,7 +64,7 @@ met_after b xs ms ys le =
     by_marks (m ∷ []) l = absurd (omega (arith, l))
     by_marks (m ∷ (n ∷ ns)) l = met_two b m n (ns ++ ms) ns ys
 
--- Where no column is a third wrong one the marks are those of the columns that came.
+-- Where no column is a third wrong one the marks are those of the received columns.
 
 pub fine_front : (xs ys : List Cell) (rs : List Bool) → fine rs (xs ++ ys) ≡ true → fine rs xs ≡ true
 unfolding fine
@@ -90,7 +90,7 @@ marks_after (control u v ∷ xs) s h = grind (arith, step_taken, and-left, same,
 marks_after (pixels bytes ∷ xs) s h = marks_after xs (step (pixels bytes) s) h
 marks_after (parted ∷ xs) s h = marks_after xs (step parted s) h
 
--- Of columns of the other level no three come.
+-- Of columns of the other level no three are received.
 
 three_other : (b : Bool) (ms : List Mark) → three_have (not b) (column b ∷ ms) ≡ false
 three_other b [] = refl
@@ -124,7 +124,7 @@ none_met b (control u v ∷ ts) ms rs flat h t =
 none_met b (pixels bytes ∷ ts) ms rs flat h t = absurd cc
 none_met b (parted ∷ ts) ms rs flat h t = none_met b ts (gap ∷ ms) [] flat h (clear_trail b (gap ∷ ms) [] (gap_clear (not b) ms))
 
--- A level is heard exactly where three neighbouring columns of it came.
+-- A level is heard exactly where three neighbouring columns of it were received.
 
 unheard_newer : (t b : Bool) (h : Option Bool) → is_heard b h ≡ false → is_heard b (newer (hears t (not b)) h) ≡ false
 unheard_newer true b h e = other_heard b

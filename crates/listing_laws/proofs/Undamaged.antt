@@ -1,4 +1,4 @@
--- Columns that spell conforming periods came of them with no damage.
+-- Columns that spell conforming periods are received for them with no damage.
 use Rattle.std.proofs.lemmas.Grind.{common_steps}
 use Rattle.std.proofs.Common.{◌≡◌, ℕ, suc, zero, ◌+◌, ◌%◌, ◌/◌, ◌<◌, Bool, true, false, not, List, [], ◌∷◌, ◌++◌, map, length, get_or, take, refl, ap₂, sym, subst, arith, nat_lt}
 use Rattle.std.specs.List.{list_all}

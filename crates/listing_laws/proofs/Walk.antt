@@ -1,4 +1,4 @@
--- What is listed of told events is what their columns, lines and gaps say.
+-- What is listed of reported events is what their columns, lines and gaps say.
 use Rattle.std.proofs.Common.{◌≡◌, ℕ, zero, suc, ◌/◌, Bool, true, false, ◌&&◌, if◌then◌else◌, List, [], ◌∷◌, ◌++◌, length, reverse, filter_map, Option, Some, None, refl, sym, ap, ap₂, subst, ◌∙◌, append-nil, arith}
 use Rattle.period_grammar.specs.Events.{Event, run, line, word, short, preamble, noise, empty, code, long_line, cut, open_island, packet, close_island, symbols, mended, lost, long_island, broken, guard}
 use Rattle.frame_build.specs.FrameEvent.{FrameEvent, run as run_frame_event, line as line_frame_event, word_fault, other, vsync_of, marks, marks_of}

@@ -1,4 +1,5 @@
--- Frames and rows of a raster that came with sparse damage, wherever it lies: which are listed, and with which bytes.
+-- Frames and rows of a raster that was received with sparse damage, wherever it lies: which are listed, and
+-- with which bytes.
 use Rattle.std.specs.Prelude.{◌≡◌, ℕ, suc, ◌+◌, ◌-◌, ◌*◌, ◌/◌, ◌≤◌, Bool, true, false, ◌&&◌, ◌||◌, cond, min, max, List, [], ◌∷◌, ◌++◌, length, take, drop, nat_lt, None}
 use Rattle.tmds_word.specs.Column.{Column}
 use Rattle.terc4.specs.Columns.{is_control_column}
@@ -36,7 +37,7 @@ row_at mode = sync mode.across + back mode.across
 abbrev pub row_end : Mode → ℕ
 row_end mode = row_at mode + active mode.across
 
--- What came: columns a up to e of those received.
+-- What was received: columns a up to e of those received.
 
 -- those from column i on, before column j
 abbrev pub reception : List Column → ℕ → ℕ → ℕ → ℕ → List Column
@@ -51,19 +52,21 @@ unfoldable pub has_sync : Mode → List Column → Bool
 has_sync mode (c ∷ (d ∷ (e ∷ cs))) = (is_sync mode c && (is_sync mode d && is_sync mode e)) || has_sync mode (d ∷ (e ∷ cs))
 has_sync mode _ = false
 
--- a frame counts where three neighbouring control columns of its sync lines, with VSYNC active, came
+-- a frame counts where three neighbouring control columns of its sync lines, with VSYNC active, was received
 abbrev pub counts : Mode → List Column → ℕ → ℕ → ℕ → Bool
 counts mode received a e p = has_sync mode (reception received a e p (back_at mode p))
 
--- and is told where three such columns came after its rows
+-- and is reported where three such columns were received after its rows
 abbrev pub is_reported : Mode → List Column → ℕ → ℕ → ℕ → Bool
 is_reported mode received a e p = has_sync mode (reception received a e (front_at mode p) e)
 
--- the bytes of a row whose first pixel is column x: as sent where their words came as sent, else those of the words that came
+-- the bytes of a row whose first pixel is column x: as sent where their words were received as sent, else those of the
+-- received words
 abbrev pub row_bytes : List Column → List Column → ℕ → List ℕ → List ℕ
 row_bytes sent received x bytes = pixel_bytes (pixels_of bytes) (take (length bytes / 3) (drop x sent)) (take (length bytes / 3) (drop x received))
 
--- rows from row y on, the line of which begins at column p: a row is told where it and the column after it came
+-- rows from row y on, the line of which begins at column p: a row is reported where it and the column after
+-- it were received
 unfoldable pub rows_received : Mode → List Column → List Column → ℕ → ℕ → ℕ → List (List ℕ) → List Listed
 rows_received mode sent received e p y [] = []
 rows_received mode sent received e p y (bytes ∷ rows) =
@@ -74,7 +77,7 @@ rows_received mode sent received e p y (bytes ∷ rows) =
 abbrev pub whole_frame : Mode → Listed
 whole_frame mode = frame (record { width = active mode.across; height = active mode.down })
 
--- frames from the one that begins at column p on: of each that counts its rows, and the frame where it is told
+-- frames from the one that begins at column p on: of each that counts its rows, and the frame where it is reported
 unfoldable pub frames_received : Mode → List Column → List Column → ℕ → ℕ → ℕ → List Frame → List Listed
 frames_received mode sent received a e p [] = []
 frames_received mode sent received a e p (f ∷ frames) =

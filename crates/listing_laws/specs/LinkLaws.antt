@@ -9,7 +9,7 @@ use Rattle.listing_reader.specs.LineSteps.{accepts}
 use Rattle.listing_reader.specs.Reading.{reads_as}
 use Rattle.listing_writer.specs.Texts.{link_text}
 
--- the listing of a stream that came whole and undamaged reads back as a stream with the same columns
+-- the listing of a stream that was received whole and undamaged reads back as a stream with the same columns
 unfoldable pub AccountReadsBack : Type 0
 AccountReadsBack =
     (periods : List Period) (sent : List Column) → IsConforming periods → Spells periods sent → columns_of periods ≤ 20000000

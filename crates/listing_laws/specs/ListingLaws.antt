@@ -1,4 +1,5 @@
--- Which lines of a content listing tell rows and frames, and what is listed of a packet of which at most one word came unlike.
+-- Which lines of a content listing give rows and frames, and what is listed of a packet of which at most one word was
+-- received unlike.
 use Rattle.std.specs.Prelude.{◌≡◌, ℕ, ◌+◌, ◌-◌, ◌≤◌, Bool, true, false, ◌&&◌, ◌||◌, ◌==◌, List, [], ◌∷◌, ◌++◌, map, length, take, drop, None, codes}
 use Rattle.std.specs.List.{filter}
 use Rattle.hex.specs.Hex.{encode_lower}
@@ -32,7 +33,7 @@ line_of (row bytes note) = codes "row " ++ encode_lower bytes
 line_of (frame note) = with_fields (codes "frame") (note.width ∷ note.height ∷ [])
 
 -- the lines `row ..`, `frame ..` and `! ragged ..` of a content listing of columns a up to a + m of a raster are the rows and
--- frames that came: no row has another length than the first of its frame
+-- frames that were received: no row has another length than the first of its frame
 abbrev pub FrameLinesComeBack : Type 0
 FrameLinesComeBack =
     (mode : Mode) (frames : List Frame) → raster_fault mode frames ≡ None
@@ -45,7 +46,7 @@ abbrev pub LinesOfPayload : Type 0
 LinesOfPayload =
     (p q : Packet) (verdicts : PacketVerdicts) (column : ℕ) → p.header ≡ q.header → p.bodies ≡ q.bodies → packet_lines p verdicts column ≡ packet_lines q verdicts column
 
--- the content lines of a packet of which at most one word came unlike are those of the packet as it was sent
+-- the content lines of a packet of which at most one word was received unlike are those of the packet as it was sent
 abbrev pub PacketLinesAsSent : Type 0
 PacketLinesAsSent =
     (p : Packet) (first : Bool) (sent received : List Column) → Carries p first (map column_words sent) → length received ≡ 32
@@ -56,21 +57,22 @@ abbrev pub Each : (Placed → Type 0) → List Placed → Type 0
 Each P [] = Unit {0}
 Each P (k ∷ ks) = P k × Each P ks
 
--- how many of its words came unlike
+-- how many of its words were received unlike
 abbrev pub unlike_in : List Column → List Column → Placed → ℕ
 unlike_in sent received k = damage (take 32 (drop k.at sent)) (take 32 (drop k.at received))
 
--- the content lines of a told packet
+-- the content lines of a reported packet
 abbrev pub reported_lines : ReportedPacket → List (List ℕ)
 reported_lines reported = packet_lines reported.packet reported.verdicts reported.column
 
--- so are those of each packet of periods, as it is told in columns from column a on
+-- so are those of each packet of periods, as it is reported in columns from column a on
 abbrev pub PacketLinesComeBack : Type 0
 PacketLinesComeBack =
     (periods : List Period) (sent received : List Column) → ReceivedOf periods sent received → (a : ℕ)
     → Each (λ k. unlike_in sent received k ≤ 1 → reported_lines (received_packet sent received a k) ≡ packet_lines k.packet spotless (k.at - a)) (placed 0 periods)
 
--- each packet of periods of which at most one word came unlike is told with its header and bodies, and none of its blocks is lost
+-- each packet of periods of which at most one word was received unlike is reported with its header and bodies, and none
+-- of its blocks is lost
 abbrev pub PacketsAsSent : Type 0
 PacketsAsSent =
     (periods : List Period) (sent received : List Column) → ReceivedOf periods sent received → (a : ℕ)

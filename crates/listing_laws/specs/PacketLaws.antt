@@ -1,4 +1,4 @@
--- Packets of periods that came with sparse damage: which are told, and with which bytes.
+-- Packets of periods received with sparse damage: which are reported, and with which bytes.
 use Rattle.std.specs.Prelude.{◌≡◌, ℕ, ◌+◌, ◌-◌, ◌<◌, ◌≤◌, Bool, ◌&&◌, cond, List, [], ◌∷◌, ◌++◌, map, length, take, drop, nat_le, None}
 use Rattle.tmds_word.specs.Column.{Column}
 use Rattle.bch_block.specs.declared.Verdict.TheVariants.{Lost}
@@ -33,7 +33,7 @@ placed x (control runs ∷ periods) = placed (x + period_columns (control runs))
 placed x (video bytes ∷ periods) = placed (x + period_columns (video bytes)) periods
 placed x (island i ∷ periods) = each_at (x + 2) i.packets ++ placed (x + period_columns (island i)) periods
 
--- a packet as it is told
+-- a packet as it is reported
 pub record ReportedPacket : Type 0 where
   pub packet : Packet
   pub verdicts : PacketVerdicts
@@ -54,26 +54,27 @@ received_packet sent received a k = record {
   column = k.at - a;
 }
 
--- of placed packets those that came whole, in columns a up to e
+-- of placed packets those that were received whole, in columns a up to e
 unfoldable pub packets_received : List Column → List Column → ℕ → ℕ → List Placed → List ReportedPacket
 packets_received sent received a e [] = []
 packets_received sent received a e (k ∷ ks) =
     cond (nat_le a k.at && nat_le (k.at + 32) e) (received_packet sent received a k ∷ []) [] ++ packets_received sent received a e ks
 
--- the packets that are told are those that came whole, in order
+-- the packets that are reported are those that were received whole, in order
 abbrev pub PacketsComeBack : Type 0
 PacketsComeBack =
     (periods : List Period) (sent received : List Column) → ReceivedOf periods sent received
     → (a m : ℕ) → EndsControl periods (a + 11) → a + m ≤ length received
     → reported_packets (account periods sent received a m) ≡ packets_received sent received a (a + m) (placed 0 periods)
 
--- a packet told as it was sent, but for its sync values: no block of it is lost, so its content lines are those of the packet
+-- a packet reported as it was sent, but for its sync values: no block of it is lost, so its content lines are those of
+-- the packet
 pub record IsAsSent (p : Packet) (reported : Packet) (verdicts : PacketVerdicts) : Type 0 where
   pub header : reported.header ≡ p.header
   pub bodies : reported.bodies ≡ p.bodies
   pub kept : (b : ℕ) → b < 5 → verdict_on verdicts b ≡ Lost → ⊥
 
--- so is each of which at most one word came unlike
+-- so is each of which at most one word was received unlike
 abbrev pub OneWordAsSent : Type 0
 OneWordAsSent =
     (p : Packet) (first : Bool) (sent received : List Column) → Carries p first (map column_words sent) → length received ≡ 32

@@ -1,4 +1,4 @@
--- That columns can come of a raster: what is asked of them is met.
+-- That columns can be received of a raster: what is asked of them is met.
 use Rattle.std.specs.Prelude.{◌≡◌, ℕ, List, [], ◌∷◌, None, IsTrue}
 use Rattle.tmds_word.specs.Column.{Column}
 use Rattle.island_pack.specs.Spelling.{Spells}
@@ -9,7 +9,7 @@ use Rattle.source_end.specs.Content.{Frame, are_content}
 use Rattle.source_end.specs.Raster.{raster_of}
 use Rattle.source_end.specs.RasterRefusals.{raster_fault}
 
--- columns that spell a raster that is not refused came of it with no damage
+-- columns that spell a raster that is not refused are received for it with no damage
 abbrev pub RastersCome : Type 0
 RastersCome =
     (mode : Mode) (frames : List Frame) → raster_fault mode frames ≡ None → IsTrue (are_content frames)

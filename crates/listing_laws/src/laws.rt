@@ -1,34 +1,36 @@
-//! What of a raster's frames and packets comes back, and what a link's listing reads back as. The functions do nothing:
-//! what they ensure are the laws.
+//! What of a raster's frames and packets is recovered, and what a link's listing reads back as. The functions do
+//! nothing: what they ensure are the laws.
 ghost use Rattle.listing_laws.specs.FrameLaws.{FramesComeBack, FramesHeard};
 ghost use Rattle.listing_laws.specs.LinkLaws.{AccountReadsBack};
 ghost use Rattle.listing_laws.specs.ListingLaws.{FrameLinesComeBack, LinesOfPayload, PacketLinesAsSent, PacketLinesComeBack, PacketsAsSent};
 ghost use Rattle.listing_laws.specs.PacketLaws.{PacketsComeBack, OneWordAsSent, RasterPackets};
 ghost use Rattle.listing_laws.specs.Rasters.{RastersCome, HasRaster};
 
-/// Of the account of a raster's columns, which came with sparse damage wherever it lies, the rows are listed of exactly those
-/// frames of whose sync lines three neighbouring control columns came with VSYNC active: each row that came with the column
-/// behind it. Such a frame is told where three such columns came behind its rows.
+/// Of the account of a raster's columns, received with sparse damage wherever it lies, the rows are listed of exactly
+/// those frames of whose sync lines three neighbouring control columns were received with VSYNC active: each row that
+/// was received with the column after it. Such a frame is reported where three such columns were received
+/// after its rows.
 pub fn frames_come_back()
     ensures { FramesComeBack }
 {}
 
-/// The same of what is heard of the columns that came.
+/// The same of what is heard of the received columns.
 pub fn frames_heard()
     ensures { FramesHeard }
 {}
 
-/// Of the account of conforming periods exactly those packets are told that came whole, in order.
+/// Of the account of conforming periods exactly those packets are reported that were received whole, in order.
 pub fn packets_come_back()
     ensures { PacketsComeBack }
 {}
 
-/// A packet of which at most one word came unlike is told with its header and bodies, and none of its blocks is lost.
+/// A packet of which at most one word was received unlike is reported with its header and bodies, and none of its
+/// blocks is lost.
 pub fn one_word_as_sent()
     ensures { OneWordAsSent }
 {}
 
-/// So is each packet of conforming periods of which at most one word came unlike.
+/// So is each packet of conforming periods of which at most one word was received unlike.
 pub fn packets_as_sent()
     ensures { PacketsAsSent }
 {}
@@ -39,7 +41,7 @@ pub fn raster_packets()
 {}
 
 /// The lines `row ..`, `frame ..` and `! ragged ..` of a content listing of what is heard of a raster are the rows and frames
-/// that came: none is ragged.
+/// that were received: none is ragged.
 pub fn frame_lines_come_back()
     ensures { FrameLinesComeBack }
 {}
@@ -49,17 +51,17 @@ pub fn lines_of_payload()
     ensures { LinesOfPayload }
 {}
 
-/// The content lines of a packet of which at most one word came unlike are those of the packet as it was sent.
+/// The content lines of a packet of which at most one word was received unlike are those of the packet as it was sent.
 pub fn packet_lines_as_sent()
     ensures { PacketLinesAsSent }
 {}
 
-/// So are those of each told packet of conforming periods of which at most one word came unlike.
+/// So are those of each reported packet of conforming periods of which at most one word was received unlike.
 pub fn packet_lines_come_back()
     ensures { PacketLinesComeBack }
 {}
 
-/// Columns that spell a raster that is not refused, and whose bytes are content, came of it with no damage.
+/// Columns that spell a raster that is not refused, and whose bytes are content, are received for it with no damage.
 pub fn rasters_come()
     ensures { RastersCome }
 {}
@@ -69,7 +71,7 @@ pub fn has_raster()
     ensures { HasRaster }
 {}
 
-/// The listing of a stream that came whole and undamaged reads back as a stream with the same columns.
+/// The listing of a stream that was received whole and undamaged reads back as a stream with the same columns.
 pub fn listing_reads_back()
     ensures { AccountReadsBack }
 {}

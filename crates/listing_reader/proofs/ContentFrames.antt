@@ -1,4 +1,4 @@
--- Frames of a content, the last of which may still be told.
+-- Frames of a content, the last of which may still be open.
 use Rattle.std.proofs.Common.{◌≡◌, ℕ, ◌+◌, ◌≤◌, Bool, true, false, ◌&&◌, List, [], ◌∷◌, ◌++◌, length, refl, ap, sym, subst, ◌∙◌, arith, eqb-true}
 use Rattle.std.specs.Prelude.{Option, None, Result, is_some, nat_lt}
 use Rattle.audio_packets.specs.declared.sample.Sample.{Sample}
@@ -49,7 +49,7 @@ length_on_last change [] = refl
 length_on_last change (f ∷ []) = refl
 length_on_last change (f ∷ (g ∷ frames)) = let h = length_on_last change (g ∷ frames) in omega (arith, h)
 
--- the frame that is told is changed
+-- the open frame is changed
 pub whole_kept : (change : Frame → Frame) (old new : List Frame) → new ≡ on_last change old → first_frames new ≡ first_frames old
 whole_kept change old new is = ap first_frames is ∙ first_on_last change old
 
@@ -64,19 +64,19 @@ some_changed change old new some is = omega (arith, some, ap length is, length_o
 pub with_samples_rows : (samples : List Sample) (f : Frame) → (with_samples samples f).rows ≡ f.rows
 with_samples_rows samples f = grind arith
 
--- a row was told, so the last frame is the one that is told
+-- a row was given, so the last frame is the open one
 pub frame_ends : (is_open : Bool) (frames : List Frame) (rows packets : ℕ) → IsOpened is_open frames rows packets → 1 ≤ length (open_frame is_open frames).rows
     → frames ≡ whole_frames is_open frames ++ open_frame is_open frames ∷ []
 frame_ends is_open frames rows packets h k = grind (arith, first_and_last)
 
--- nothing is told of a frame
+-- nothing is given of a frame
 pub content_closed : (is_open : Bool) (frames : List Frame) (rows packets : ℕ) → IsOpened is_open frames rows packets → rows ≡ 0 → packets ≡ 0 → frames ≡ whole_frames is_open frames
 content_closed is_open frames rows packets h k l = grind arith
 
 pub no_fault : (fault : Option RasterFault) → is_some fault ≡ false → fault ≡ None
 no_fault fault h = grind arith
 
--- a row was told of frames that are kept
+-- a row was given of frames that are kept
 pub frame_kept : (fault : Option RasterFault) (count rows packets : ℕ) (is_open : Bool) (frames : List Frame) → AreKept fault count rows is_open frames → IsOpened is_open frames rows packets → fault ≡ None → 1 ≤ rows
     → (count ≡ length (whole_frames is_open frames)) × (frames ≡ whole_frames is_open frames ++ open_frame is_open frames ∷ [])
 frame_kept fault count rows packets is_open frames h k l m = grind (arith, frame_ends)
@@ -89,7 +89,7 @@ end_none k h = grind arith
 pub end_reported : (k : ContentKept) → kept_cause k end_line ≡ None → is_reported k.mode ≡ true
 end_reported k h = and-left _ _ (end_none k h)
 
--- nothing of a frame is told there
+-- nothing of a frame is given there
 pub end_settled : (k : ContentKept) → kept_cause k end_line ≡ None → (k.rows ≡ 0) × (k.packets ≡ 0)
 end_settled k h =
     let settled = and-right _ _ (and-right _ _ (end_none k h)) in

@@ -1,4 +1,5 @@
--- The reader of a content listing keeps what is to be kept of what the lines told, line by line and over the whole text.
+-- The reader of a content listing keeps what is to be kept of what the lines said, line by line and over
+-- the whole text.
 use Rattle.std.proofs.Common.{◌≡◌, ℕ, suc, ◌+◌, ◌*◌, Bool, true, false, not, ◌==◌, ◌&&◌, ◌||◌, if◌then◌else◌, List, [], ◌∷◌, ◌++◌, length, Option, Some, None, refl, ap, ap₂, sym, subst, ◌∙◌, arith, length-append}
 use Rattle.std.specs.Prelude.{nat_le, Result}
 use Rattle.std.proofs.lemmas.Bool.{eqb-true}
@@ -27,9 +28,9 @@ use Rattle.listing_reader.proofs.Feeds.{and-left, and-right}
 
 -- ---- causes
 
--- ---- what the lines that were taken told
+-- ---- what the lines that were taken said
 
--- nothing is told of a frame before the mode, and in the mode of a raster each row and each whole frame is right
+-- nothing is given of a frame before the mode, and in the mode of a raster each row and each whole frame is right
 pub record IsSound (draft : ContentDraft) : Type 0 where
   pub unbegun : draft.mode ≡ None → (draft.frames ≡ []) × (draft.current ≡ empty_frame) × (draft.samples ≡ [])
   pub right : (mode : Mode) → draft.mode ≡ Some mode → bad_mode 0 (numbers_of mode) ≡ None → AreFrames mode draft.frames × AreRows (active mode.across) draft.current.rows

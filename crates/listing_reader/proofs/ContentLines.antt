@@ -18,7 +18,7 @@ use Rattle.listing_reader.proofs.PacketForms.{joined}
 
 -- ---- a row
 
--- six bytes a pixel are what a row's line tells, if they are digits
+-- six bytes a pixel are what a row's line gives, if they are digits
 pub row_seen : (digits : List ℕ) → length digits % 6 ≡ 0 → IsRow digits (row_form digits)
 unfolding row_form
 row_seen digits six = grind arith
@@ -66,7 +66,7 @@ fields_some (c ∷ text) = fields_by (c == 32) c (fields_of text)
 
 -- ---- numbers
 
--- numbers, and behind them those of the fields that are left
+-- numbers, and after them those of the fields that are left
 abbrev pub after_numbers : List ℕ → Option (List ℕ) → Option (List ℕ)
 after_numbers ns None = None
 after_numbers ns (Some ms) = Some (ns ++ ms)
@@ -156,7 +156,7 @@ zeros_after ys xs n m size room is =
 pub hex_bad : (digits : List ℕ) (form : List ℕ → ContentLine) → IsErr (decode_of digits) → hex_field digits form ≡ no_line
 hex_bad digits form bad = grind arith
 
--- a field behind which nothing is told
+-- a field after which nothing is given
 pub hex_never : (digits : List ℕ) (form : List ℕ → ContentLine) → ((bytes : List ℕ) → form bytes ≡ no_line) → hex_field digits form ≡ no_line
 hex_never digits form never = grind arith
 

@@ -72,11 +72,11 @@ pub step_long : (draft : ContentKept) (line : List ℕ) → 32768 < length line 
 unfolding kept_step
 step_long draft line long more = grind (arith, long_form, length-append, fault_first)
 
--- ---- how many lines told it
+-- ---- how many lines said it
 
 pub samples_count : (samples : List Sample) (f : Frame) → length (with_samples samples f).packets ≡ length f.packets + pending samples
 samples_count samples f = grind (arith, length-append)
 
--- a line tells one event more at most
+-- a line gives one event more at most
 pub more_lines : (form : ContentLine) (k : ContentKept) → kept_lines (with_kept form k) ≤ kept_lines k + 1
 more_lines form k = grind (arith, pending_one)

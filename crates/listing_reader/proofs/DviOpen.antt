@@ -1,4 +1,4 @@
--- Periods without guard bands of which the last one, a control period, is still being told.
+-- Periods without guard bands of which the last one, a control period, is still open.
 use Rattle.std.proofs.Common.{◌≡◌, ℕ, ◌+◌, ◌/◌, ◌≤◌, true, false, List, [], ◌∷◌, ◌++◌, length, arith, None}
 use Rattle.island_pack.specs.Periods.{ControlRun, Period, control, video, values_of}
 use Rattle.source_end.specs.DviPeriods.{dvi_columns, dvi_columns_of}

@@ -39,7 +39,7 @@ feedless_at (x ∷ xs) (suc n) (suc i) h less within here =
 slice_index-drop : (xs : List ℕ) (s i : ℕ) → slice_index (drop s xs) i ≡ slice_index xs (s + i)
 slice_index-drop xs s i = get_or-drop s xs i 0
 
--- a part with no line feed, and behind it none up to k
+-- a part with no line feed, and after it none up to k
 feedless_on : (xs : List ℕ) (s k : ℕ) → is_feedless (take s xs) ≡ true → Nowhere (Passes (is_byte 10) (drop s xs)) 0 k → is_feedless (take (s + k) xs) ≡ true
 feedless_on xs s k h none = feedless_here xs (s + k) (λ i less within here.
     elim (cases_lt i s) [

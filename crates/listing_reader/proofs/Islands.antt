@@ -1,4 +1,4 @@
--- Drafts as the reader keeps them: items, the control period behind them, and the data island behind that.
+-- Drafts as the reader keeps them: items, the control period after them, and the data island after that.
 use Rattle.std.proofs.Common.{◌≡◌, ℕ, ◌+◌, ◌≤◌, true, false, not, ◌&&◌, List, [], ◌∷◌, ◌++◌, length, refl, ap, sym, subst, ◌∙◌, arith, length-append, Option, Some, None}
 use Rattle.std.specs.Prelude.{nat_le, nat_lt, is_some}
 use Rattle.std.specs.List.{list_all}
@@ -158,7 +158,7 @@ pub closes_at : (items all : List Period) (runs : List ControlRun) (before : Opt
 unfolding values_of period_columns
 closes_at items all runs before x draft columns a b y at turn stands same count = grind (arith, may_close, room_is, columns_of-more, push_none, island_in_range, le-leb, last_of_more)
 
--- ---- what is told then
+-- ---- what is given then
 
 pub island_last : (all now : List Period) (x : DataIsland) → now ≡ all ++ island x ∷ [] → is_control_last (last_period now) ≡ false
 island_last all now x more = ap (λ (ps : List Period). is_control_last (last_period ps)) more ∙ ap is_control_last (last_of_more all (island x))

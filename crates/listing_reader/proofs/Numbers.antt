@@ -17,7 +17,7 @@ digits_more n xs i within = ap (digits_after n) (take_more xs i 0 within) ∙ di
 pub more_below : (value digit i : ℕ) → value < 10 ^ i → digit < 10 → 10 * value + digit < 10 ^ (i + 1)
 more_below value digit i below small = rw (add-one, pow-suc) (omega arith)
 
--- six bytes a pixel are what a video line tells, if they are digits
+-- six bytes a pixel are what a video line gives, if they are digits
 pub video_seen : (digits : List ℕ) → length digits % 6 ≡ 0 → IsVideo digits (video_form digits)
 unfolding video_form
 video_seen digits six = grind arith

@@ -1,4 +1,4 @@
--- Periods of which the last one, a control period, is still being told.
+-- Periods of which the last one, a control period, is still open.
 use Rattle.std.proofs.Common.{◌≡◌, ℕ, ◌+◌, ◌/◌, ◌≤◌, ◌==◌, Bool, true, false, not, ◌&&◌, List, [], ◌∷◌, ◌++◌, length, refl, ap, ◌∙◌, arith, Option, Some, None}
 use Rattle.std.specs.Prelude.{nat_le, nat_lt}
 use Rattle.std.specs.List.{list_all}
@@ -18,7 +18,7 @@ last_of_more [] p = refl
 last_of_more (q ∷ []) p = refl
 last_of_more (q ∷ (r ∷ ps)) p = last_of_more (r ∷ ps) p
 
--- a first run behind no control period
+-- a first run after no control period
 first_run : (ps : List Period) (r : ControlRun) → is_control_last (last_period ps) ≡ false → with_run ps r ≡ ps ++ control (r ∷ []) ∷ []
 first_run [] r turn = refl
 first_run (control rs ∷ []) r turn = absurd cc

@@ -1,4 +1,4 @@
--- What tells a packet's line, and what tells that a line is none.
+-- What shows a packet's line, and what shows that a line is none.
 use Rattle.std.proofs.Common.{◌≡◌, ℕ, zero, suc, ◌+◌, ◌-◌, ◌*◌, ◌<◌, ◌≤◌, Bool, true, false, ◌==◌, ◌&&◌, List, ◌++◌, map, length, take, drop, ap, sym, subst, ◌∙◌, arith, take_all, length-take-le, length-drop, take-append-drop, append_assoc}
 use Rattle.std.specs.Prelude.{Result, Ok, Err, IsErr, is_err, MatchResult}
 use Rattle.std.specs.List.{list_all}

@@ -13,7 +13,7 @@ drop_part xs start end count inside =
     sym (ap (λ j. drop count (take j (drop start xs))) parts ∙ drop-take count _ (drop start xs)
     ∙ ap (take (end - (start + count))) (drop-drop count start xs))
 
--- what a read gave stands behind the bytes that were held
+-- what a read gave stands after the bytes that were held
 pub read_more : {E : Type 0} (left now : Option (List ℕ)) (result : Result ℕ E) (held k : ℕ) (xs ys : List ℕ) → held ≤ length xs → IfOk result (λ n. n ≤ length ys) → ReadConsumes left now result ys
     → IfOk result (λ n. (more : List ℕ) × (length more ≡ n) × (take (held + n) (put_mid held k xs ys) ≡ take held xs ++ more) × Consumes left now more)
 read_more left now result held k xs ys h l m = grind (arith, length-take-le, take_put)

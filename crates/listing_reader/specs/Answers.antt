@@ -5,7 +5,7 @@ use Rattle.listing_reader.specs.declared.fault.ListError.{ListError}
 use Rattle.listing_reader.specs.declared.fault.ListError.TheVariants.{Bad, Read as read_failed, NoMemory}
 use Rattle.listing_reader.specs.LineSteps.{Read, accepts, refuses}
 
--- what is told is that of the whole text, or the fault is the text's
+-- what is given is that of the whole text, or the fault is the text's
 abbrev pub Answers : {T : Type 0} → Read T → Result T ListError → Type 0
 Answers reading (Ok reported) = reading ≡ accepts reported
 Answers reading (Err (Bad fault)) = reading ≡ refuses fault.line fault.cause

@@ -1,4 +1,4 @@
--- Why a line is refused after what the lines before it told: the first cause decides.
+-- Why a line is refused after what the lines before it said: the first cause decides.
 use Rattle.std.specs.Prelude.{ℕ, Bool, true, false, ◌&&◌, not, List, length, nat_le, nat_lt, Option, Some, None}
 use Rattle.std.specs.List.{list_all}
 use Rattle.island_pack.specs.declared.packet.Packet.{Packet}
@@ -24,7 +24,7 @@ abbrev pub caused : Option ItemFault → Option ListCause
 caused None = None
 caused (Some fault) = Some (cause_of fault)
 
--- a cause where a test fails, else what comes after it
+-- a cause where a test fails, else what follows it
 abbrev pub unless : Bool → ListCause → Option ListCause → Option ListCause
 unless true cause rest = rest
 unless false cause rest = Some cause
@@ -33,12 +33,12 @@ unless false cause rest = Some cause
 abbrev pub has_room : Draft → ℕ → Bool
 has_room draft columns = fits (draft_columns draft) columns
 
--- no data island is being told
+-- no data island is open
 abbrev pub is_closed : Option OpenIsland → Bool
 is_closed None = true
 is_closed (Some x) = false
 
--- a data island is being told, and has so many packets at least and at most
+-- a data island is open, and has so many packets at least and at most
 abbrev pub has_packets : ℕ → ℕ → Option OpenIsland → Bool
 has_packets least most None = false
 has_packets least most (Some x) = nat_le least (length x.packets) && nat_le (length x.packets) most

@@ -1,4 +1,4 @@
--- What the lines of a content listing have told so far: the mode, whole frames, the frame that is still being told, and the
+-- What the lines of a content listing have said so far: the mode, whole frames, the frame that is still open, and the
 -- samples of neighbouring lines that still lack a packet.
 use Rattle.std.specs.Prelude.{ℕ, ◌+◌, ◌*◌, Bool, true, false, not, ◌==◌, ◌&&◌, ◌||◌, if◌then◌else◌, List, [], ◌∷◌, ◌++◌, length, nat_lt, Option, Some, None}
 use Rattle.audio_packets.specs.Samples.{samples_packet}
@@ -38,7 +38,7 @@ with_sample s draft =
     let samples = draft.samples ++ s ∷ [] in
     if length samples == 4 then settled (record draft { samples = samples }) else record draft { samples = samples }
 
--- what is told after a line that is taken
+-- what is given after a line that is taken
 abbrev pub with_content : ContentLine → ContentDraft → ContentDraft
 with_content (mode_line mode) draft = record draft { mode = mode }
 with_content (row_line bytes) draft = record (settled draft) { current = with_row bytes (settled draft).current }
@@ -56,11 +56,11 @@ with_content no_line draft = draft
 abbrev pub has_mode : ContentDraft → Bool
 has_mode draft = elim draft.mode [ Some mode ↦ true | None ↦ false ]
 
--- rows of the frame that is being told
+-- rows of the open frame
 abbrev pub has_row : ContentDraft → Bool
 has_row draft = nat_lt 0 (length draft.current.rows)
 
--- nothing of a frame is told
+-- nothing of a frame is given
 abbrev pub is_settled : ContentDraft → Bool
 is_settled draft = (length draft.current.rows == 0) && ((length draft.current.packets == 0) && (length draft.samples == 0))
 
@@ -84,7 +84,7 @@ is_raster_mode mode = are_numbers_in_range 0 (numbers_of mode)
 abbrev pub row_fits : Mode → ℕ → List ℕ → Bool
 row_fits mode rows bytes = not (is_raster_mode mode) || ((length bytes == 3 * active mode.across) && nat_lt rows (active mode.down))
 
--- the frame has the mode's size, as it is told and by its rows
+-- the frame has the mode's size, as it is given and by its rows
 abbrev pub frame_fits : Mode → ℕ → ℕ → ℕ → Bool
 frame_fits mode rows width height =
     not (is_raster_mode mode) || ((width == active mode.across) && ((height == active mode.down) && (rows == active mode.down)))

@@ -1,4 +1,4 @@
--- How what is seen in a line of a content listing tells its form.
+-- How what is seen in a line of a content listing shows its form.
 use Rattle.std.specs.Prelude.{◌≡◌, ℕ, ◌%◌, Bool, true, false, List, length, take, Option, Some, None}
 use Rattle.audio_packets.specs.Samples.{IsSample}
 use Rattle.audio_packets.specs.declared.sample.Sample.{Sample as SeenSample}
@@ -7,12 +7,12 @@ use Rattle.listing_reader.specs.ContentForms.{ContentLine, mode_line, row_by, fr
 use Rattle.listing_reader.specs.declared.content_form.ContentForm.{ContentForm as Seen}
 use Rattle.listing_reader.specs.declared.content_form.ContentForm.TheVariants.{Mode, Row, Frame, Packet, Sample, End, Fault, Other}
 
--- what follows `row `, six bytes a pixel: whether they are digits, only their decoding tells
+-- what follows `row `, six bytes a pixel: whether they are digits, only their decoding shows
 pub record IsRow (digits : List ℕ) (form : ContentLine) : Type 0 where
   pub pixels : length digits % 6 ≡ 0
   pub reported : form ≡ row_by true (decode_of digits)
 
--- what is seen tells this form
+-- what is seen shows this form
 abbrev pub IsContentForm : Seen → ContentLine → Type 0
 IsContentForm (Mode mode) form = form ≡ mode_line mode
 IsContentForm (Row digits) form = IsRow digits.now form

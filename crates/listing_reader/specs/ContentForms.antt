@@ -15,7 +15,7 @@ use Rattle.listing_reader.specs.Lines.{before_pieces}
 use Rattle.listing_reader.specs.Forms.{number_of, part, is_fault}
 use Rattle.listing_reader.specs.InfoPackets.{info_packet, control_packet, no_sync}
 
--- what a line tells; none where one of its numbers is outside its range
+-- what a line says; none where one of its numbers is outside its range
 pub data ContentLine : Type 0 where
   -- `vic V` and `mode HA HF HS HB VA VF VS VB P`
   mode_line : Option Mode → ContentLine

@@ -1,5 +1,6 @@
 -- What the reader of a content listing keeps of the lines that it has taken: the frames only as long as they may have a
--- raster, and else their number and their first fault. What a line does to that, and how it stands for what the lines told.
+-- raster, and else their number and their first fault. What a line does to that, and how it stands for what
+-- the lines said.
 use Rattle.std.specs.Prelude.{◌≡◌, ℕ, ◌+◌, Bool, true, false, not, ◌==◌, ◌&&◌, ◌||◌, if◌then◌else◌, List, [], ◌∷◌, ◌++◌, length, nat_lt, Option, Some, None, Result, Ok, Err}
 use Rattle.audio_packets.specs.declared.sample.Sample.{Sample}
 use Rattle.source_end.specs.Content.{Frame, empty_frame, with_packet, with_row}
@@ -21,10 +22,10 @@ pub record ContentKept : Type 0 where
   pub fault : Option RasterFault
   -- how many whole frames there are
   pub count : ℕ
-  -- how many rows and packets the frame has that is being told
+  -- how many rows and packets the open frame has
   pub rows : ℕ
   pub packets : ℕ
-  -- the whole frames, and the one that is being told; none where there is a fault
+  -- the whole frames, and the open one; none where there is a fault
   pub frames : List Frame
   pub current : Frame
   -- fewer than four
@@ -42,7 +43,7 @@ kept mode fault count rows packets is_open frames samples = record {
   samples = samples;
 }
 
--- the frames where there is no fault are as many as were told, and so are the rows of the one that is being told
+-- the frames where there is no fault are as many as were given, and so are the rows of the open one
 abbrev pub AreKept : Option RasterFault → ℕ → ℕ → Bool → List Frame → Type 0
 AreKept None count rows is_open frames = (count ≡ length (whole_frames is_open frames)) × (rows ≡ length (open_frame is_open frames).rows)
 AreKept (Some fault) count rows is_open frames = is_open ≡ false
@@ -58,7 +59,7 @@ unless_fault (Some fault) kept dropped = dropped
 abbrev pub kept_frame : Option RasterFault → Frame → Frame
 kept_frame fault frame = unless_fault fault frame empty_frame
 
--- ---- why a line is refused: as by what the lines told
+-- ---- why a line is refused: as by what the lines said
 
 abbrev pub is_reported : Option Mode → Bool
 is_reported mode = elim mode [ Some mode ↦ true | None ↦ false ]
@@ -70,7 +71,7 @@ abbrev pub kept_frame_cause : ContentKept → ℕ → ℕ → Option ListCause
 kept_frame_cause k width height =
     unless (is_reported k.mode && nat_lt 0 k.rows) Order (unless (in_mode k.mode (λ mode. frame_fits mode k.rows width height)) Size None)
 
--- nothing of a frame is told
+-- nothing of a frame is given
 abbrev pub is_kept_settled : ContentKept → Bool
 is_kept_settled k = (k.rows == 0) && ((k.packets == 0) && (length k.samples == 0))
 
@@ -110,14 +111,14 @@ abbrev pub fault_after : Option Mode → Option RasterFault → ℕ → ℕ → 
 fault_after None fault count packets = fault
 fault_after (Some mode) fault count packets = next_fault mode fault count packets
 
--- the frame that is being told ends
+-- the open frame ends
 abbrev pub with_frame_of : Option RasterFault → ContentKept → ContentKept
 with_frame_of fault k = record k { fault = fault; count = k.count + 1; rows = 0; packets = 0; frames = unless_fault fault (k.frames ++ k.current ∷ []) []; current = empty_frame }
 
 abbrev pub with_frame : ContentKept → ContentKept
 with_frame k = with_frame_of (fault_after k.mode k.fault k.count k.packets) k
 
--- the mode, before which nothing is told
+-- the mode, before which nothing is given
 abbrev pub begun_in : Mode → ContentKept
 begun_in mode = record nothing_kept { mode = Some mode; fault = bad_mode 0 (numbers_of mode) }
 
@@ -160,7 +161,7 @@ kept_step_by None no_line k = tells k
 unfoldable pub kept_step : ContentKept → List ℕ → LineStep ContentKept (Result (Mode × List Frame) RasterFault)
 kept_step k line = kept_step_by (kept_cause k (content_form_of line)) (content_form_of line) k
 
--- so many lines at least told this
+-- so many lines at least said this
 abbrev pub kept_lines : ContentKept → ℕ
 kept_lines k = k.count + k.rows + k.packets + pending k.samples
 
@@ -170,7 +171,7 @@ abbrev pub fault_in : Option Mode → List Frame → Option RasterFault
 fault_in None frames = None
 fault_in (Some mode) frames = raster_fault mode frames
 
--- what is kept of what the lines told
+-- what is kept of what the lines said
 abbrev pub kept_of : ContentDraft → ContentKept
 kept_of draft = record {
   mode = draft.mode;

@@ -1,4 +1,4 @@
--- What the text of a content listing reads as: the mode and the frames that it tells, or its first wrong line and why.
+-- What the text of a content listing reads as: the mode and the frames that it gives, or its first wrong line and why.
 use Rattle.std.specs.Prelude.{ℕ, List, Option, Some, None}
 use Rattle.source_end.specs.Content.{Frame}
 use Rattle.source_end.specs.declared.mode.Mode.{Mode}
@@ -25,7 +25,7 @@ content_step_by None (sample_line sample) draft = tells (with_content (sample_li
 content_step_by None fault_line draft = tells draft
 content_step_by None no_line draft = tells draft
 
--- what a line does after what the lines before it told
+-- what a line does after what the lines before it said
 unfoldable pub content_step : ContentDraft → List ℕ → LineStep ContentDraft (Mode × List Frame)
 content_step draft line = content_step_by (content_cause draft (content_form_of line)) (content_form_of line) draft
 

@@ -17,7 +17,7 @@ last_frame [] = empty_frame
 last_frame (f ∷ []) = f
 last_frame (f ∷ (g ∷ frames)) = last_frame (g ∷ frames)
 
--- whole frames, where the last one may still be told, and that one
+-- whole frames, where the last one may still be open, and that one
 abbrev pub whole_frames : Bool → List Frame → List Frame
 whole_frames true frames = first_frames frames
 whole_frames false frames = frames
@@ -31,7 +31,7 @@ abbrev pub pending : List Sample → ℕ
 pending [] = 0
 pending (s ∷ samples) = 1
 
--- a frame that is still told has a row or a packet
+-- a frame that is still open has a row or a packet
 abbrev pub IsOpened : Bool → List Frame → ℕ → ℕ → Type 0
 IsOpened true frames rows packets = (1 ≤ length frames) × (1 ≤ rows + packets)
 IsOpened false frames rows packets = Unit {0}

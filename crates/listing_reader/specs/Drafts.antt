@@ -1,10 +1,10 @@
--- What the lines of a listing have told so far: periods, and the data island that is still being told.
+-- What the lines of a listing have said so far: periods, and the data island that is still open.
 use Rattle.std.specs.Prelude.{ℕ, ◌+◌, ◌*◌, List, [], ◌∷◌, ◌++◌, length, Option, Some, None}
 use Rattle.island_pack.specs.declared.packet.Packet.{Packet}
 use Rattle.island_pack.specs.Periods.{ControlRun, SyncPair, Period, control, video, island, columns_of}
 use Rattle.listing_reader.specs.Forms.{LineForm, control_line, video_line, island_line, packet_line, close_line, end_line, fault_line, no_line}
 
--- a data island whose closing guard is still to come
+-- a data island whose closing guard is still to follow
 pub record OpenIsland : Type 0 where
   pub opening : SyncPair
   pub packets : List Packet
@@ -24,7 +24,7 @@ open_columns (Some x) = 2 + 32 * length x.packets
 abbrev pub draft_columns : Draft → ℕ
 draft_columns draft = columns_of draft.periods + open_columns draft.opened
 
--- neighbouring `c` lines tell one control period
+-- neighbouring `c` lines give one control period
 abbrev pub with_run : List Period → ControlRun → List Period
 with_run [] r = control (r ∷ []) ∷ []
 with_run (control rs ∷ []) r = control (rs ++ r ∷ []) ∷ []
@@ -37,7 +37,7 @@ abbrev pub with_packet : Packet → Option OpenIsland → Option OpenIsland
 with_packet p None = None
 with_packet p (Some x) = Some (record { opening = x.opening; packets = x.packets ++ p ∷ [] })
 
--- the island that was being told, with the guard that closes it
+-- the island that was open, with the guard that closes it
 abbrev pub closed_by : SyncPair → List Period → Option OpenIsland → List Period
 closed_by closing periods None = periods
 closed_by closing periods (Some x) = periods ++ island (record { opening = x.opening; packets = x.packets; closing = closing }) ∷ []
@@ -45,7 +45,7 @@ closed_by closing periods (Some x) = periods ++ island (record { opening = x.ope
 abbrev pub with_island : SyncPair → Draft → Draft
 with_island closing draft = record { periods = closed_by closing draft.periods draft.opened; opened = None }
 
--- what is told after a line that is taken
+-- what is given after a line that is taken
 abbrev pub with_line : LineForm → Draft → Draft
 with_line (control_line value count) draft = record { periods = with_run draft.periods (record { value = value; count = count }); opened = draft.opened }
 with_line (video_line bytes) draft = record { periods = draft.periods ++ video bytes ∷ []; opened = draft.opened }

@@ -1,5 +1,5 @@
 -- What the text of a listing without guard bands reads as, which has lines `c`, `v` and `end` alone: the periods that it
--- tells, or its first wrong line and why.
+-- gives, or its first wrong line and why.
 use Rattle.std.specs.Prelude.{ℕ, List, [], ◌∷◌, ◌++◌, Option, Some, None}
 use Rattle.island_pack.specs.Periods.{Period, video}
 use Rattle.island_pack.specs.Ranges.{is_run_in_range, has_room}
@@ -19,7 +19,7 @@ dvi_run_cause periods value count =
     (unless (has_room (dvi_columns_of periods) count) Long
     None)
 
--- why a line is refused after what the lines before it told; those of data islands are of no form here
+-- why a line is refused after what the lines before it said; those of data islands are of no form here
 unfoldable pub dvi_line_cause : List Period → LineForm → Option ListCause
 dvi_line_cause periods fault_line = Some Fault
 dvi_line_cause periods no_line = Some Form
@@ -30,7 +30,7 @@ dvi_line_cause periods (packet_line p) = Some Form
 dvi_line_cause periods (close_line a b) = Some Form
 dvi_line_cause periods end_line = caused (close_fault periods)
 
--- what is told after a line that is taken
+-- what is given after a line that is taken
 abbrev pub with_dvi_line : LineForm → List Period → List Period
 with_dvi_line (control_line value count) periods = with_run periods (record { value = value; count = count })
 with_dvi_line (video_line bytes) periods = periods ++ video bytes ∷ []
@@ -52,7 +52,7 @@ dvi_step_by None (close_line a b) periods = wrong Form
 dvi_step_by None fault_line periods = wrong Fault
 dvi_step_by None no_line periods = wrong Form
 
--- what a line does after what the lines before it told
+-- what a line does after what the lines before it said
 unfoldable pub dvi_step : List Period → List ℕ → LineStep (List Period) (List Period)
 dvi_step periods line = dvi_step_by (dvi_line_cause periods (form_of line)) (form_of line) periods
 

@@ -1,4 +1,4 @@
--- How what is seen in a line tells its form.
+-- How what is seen in a line shows its form.
 use Rattle.std.specs.Prelude.{◌≡◌, ℕ, ◌+◌, ◌*◌, ◌%◌, ◌<◌, Bool, true, false, List, [], length, take, drop, slice_index, Option, Some, None, Ok, IsErr}
 use Rattle.hex.specs.Hex.{decode_of}
 use Rattle.island_pack.specs.declared.packet.Packet.{Packet}
@@ -6,12 +6,12 @@ use Rattle.listing_reader.specs.Forms.{LineForm, control_line, video_by, island_
 use Rattle.listing_reader.specs.declared.form.Form.{Form}
 use Rattle.listing_reader.specs.declared.form.Form.TheVariants.{Control, Video, Island, Packet as Packet_seen, Close, End, Fault, Other}
 
--- what follows `v `, six bytes a pixel: whether they are digits, only their decoding tells
+-- what follows `v `, six bytes a pixel: whether they are digits, only their decoding shows
 pub record IsVideo (digits : List ℕ) (form : LineForm) : Type 0 where
   pub pixels : length digits % 6 ≡ 0
   pub reported : form ≡ video_by true (decode_of digits)
 
--- what is seen tells this form
+-- what is seen shows this form
 abbrev pub IsForm : Form → LineForm → Type 0
 IsForm (Control value count) form = form ≡ control_line value count
 IsForm (Video digits) form = IsVideo digits.now form

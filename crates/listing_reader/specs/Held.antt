@@ -44,7 +44,8 @@ pub record IsTooLong (left rest : Option (List ℕ)) (before now : Held) : Type 
   pub feedless : IsTrue (is_feedless now.line)
   pub long : length now.line ≡ 32769
 
--- what is given of the bytes ahead; `left` and `rest` are what the source tells before and after
+-- what is given of the bytes ahead; `left` and `rest` are the bytes of the source, as far as they are known,
+-- before and after
 abbrev pub IsNext : Option (List ℕ) → Option (List ℕ) → Held → Held → Piece → Type 0
 IsNext left rest before now Line = IsEnded left rest before now
 IsNext left rest before now Last = IsRest left rest before now

@@ -1,5 +1,5 @@
--- The packets that say what lines of a content listing tell, with nothing else set: CTA-861, sections 6.4 to 6.6, and HDMI
--- 1.4, sections 5.3.5 (InfoFrames) and 5.3.6 (general control). PB0 is the checksum, PB1 the first byte behind it.
+-- The packets that say what lines of a content listing say, with nothing else set: CTA-861, sections 6.4 to 6.6, and
+-- HDMI 1.4, sections 5.3.5 (InfoFrames) and 5.3.6 (general control). PB0 is the checksum, PB1 the first byte after it.
 use Rattle.std.specs.Prelude.{ℕ, ◌+◌, ◌-◌, ◌*◌, ◌%◌, List, [], ◌∷◌, ◌++◌, take, replicate, sum}
 use Rattle.island_pack.specs.declared.packet.Packet.{Packet}
 use Rattle.infoframe.specs.Bytes.{bar_bytes}
@@ -7,7 +7,7 @@ use Rattle.infoframe.specs.Written.{padded, type_of, version_of, length_of}
 use Rattle.infoframe.specs.declared.content.Info.{Info}
 use Rattle.infoframe.specs.declared.content.Info.TheVariants.{Avi, Audio, Spd, Raw}
 
--- the bytes behind the checksum, each field at its bits and 0 at each other bit
+-- the bytes after the checksum, each field at its bits and 0 at each other bit
 unfoldable pub payload_of : Info → List ℕ
 payload_of (Avi x) =
     (x.s + 4 * x.b + 16 * x.a + 32 * x.y)

@@ -8,13 +8,14 @@ use Rattle.listing_reader.specs.LineSteps.{Read, LineStep, ended_by, read_lines}
 use Rattle.listing_reader.specs.Answers.{Answers}
 use Rattle.listing_reader.specs.Held.{Held}
 
--- `reading` is what is read from before line n, which ends after `upto` bytes of the text; `ahead` are the lines behind it
+-- `reading` is what is read from before line n, which ends after `upto` bytes of the text; `ahead` are the
+-- lines after it
 abbrev pub LeavesTo : {D T : Type 0} → (D → List ℕ → LineStep D T) → ℕ → ℕ → Read T → List (List ℕ) → Result (Taken D T) ListError → Type 0
 LeavesTo step n upto reading ahead (Ok (More reported)) = reading ≡ read_lines step (n + 1) upto reported ahead
 LeavesTo step n upto reading ahead (Ok (End reported)) = reading ≡ ended_by (n + 1) reported ahead
 LeavesTo step n upto reading ahead (Err error) = Answers reading (Err error)
 
--- where the source tells its bytes, before and behind line n, which begins `at` bytes after the text's beginning
+-- Where the bytes of the source are known, before and after line n, which begins `at` bytes after the text's beginning
 abbrev pub Leaves : {D T : Type 0} → (D → List ℕ → LineStep D T) → ℕ → ℕ → D → Option (List ℕ) → Option (List ℕ) → Held → Held → Result (Taken D T) ListError → Type 0
 Leaves step n at reported (Some left) (Some rest) before now result =
     LeavesTo step n (at + length now.line + 1) (read_lines step n at reported (pieces_of (before.pending ++ left))) (pieces_of (now.pending ++ rest)) result

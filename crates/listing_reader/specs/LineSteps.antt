@@ -8,7 +8,7 @@ pub data Read (T : Type 0) : Type 0 where
   accepts : T → Read T
   refuses : ℕ → ListCause → Read T
 
--- what a line does: it tells something, it ends what was told, or it is wrong
+-- what a line does: it gives something, it ends what was given, or it is wrong
 pub data LineStep (D T : Type 0) : Type 0 where
   tells : D → LineStep D T
   closes : T → LineStep D T
@@ -39,7 +39,7 @@ steps_on n after rest (tells reported) = rest reported
 steps_on n after rest (closes reported) = ended_by (n + 1) reported after
 steps_on n after rest (wrong cause) = refuses n cause
 
--- the lines from line n on, `at` bytes after the text's beginning, after what those before told
+-- the lines from line n on, `at` bytes after the text's beginning, after what those before said
 unfoldable pub read_lines : {D T : Type 0} → (D → List ℕ → LineStep D T) → ℕ → ℕ → D → List (List ℕ) → Read T
 read_lines step n at reported [] = refuses n Unended
 read_lines step n at reported (line ∷ []) = cut_short n line (within_text (nat_le (at + length line) 4294967295) (step reported line))

@@ -1,4 +1,4 @@
--- What the text of a link listing reads as: the periods that it tells, or its first wrong line and why.
+-- What the text of a link listing reads as: the periods that it gives, or its first wrong line and why.
 use Rattle.std.specs.Prelude.{ℕ, List, Option, Some, None}
 use Rattle.island_pack.specs.Periods.{Period}
 use Rattle.listing_reader.specs.declared.fault.ListCause.{ListCause}
@@ -20,7 +20,7 @@ link_step_by None (close_line a b) draft = tells (with_line (close_line a b) dra
 link_step_by None fault_line draft = wrong Fault
 link_step_by None no_line draft = wrong Form
 
--- what a line does after what the lines before it told
+-- what a line does after what the lines before it said
 unfoldable pub link_step : Draft → List ℕ → LineStep Draft (List Period)
 link_step draft line = link_step_by (line_cause draft (form_of line)) (form_of line) draft
 

@@ -12,21 +12,21 @@ use Rattle.listing_reader.specs.declared.teller.Refusal.TheVariants.{Cause, NoMe
 use Rattle.listing_reader.specs.Forms.{LineForm, control_line, video_line, island_line, packet_line, close_line, end_line, fault_line, no_line}
 use Rattle.listing_reader.specs.Drafts.{OpenIsland, Draft}
 
--- periods and the control period that is still being told
+-- periods and the control period that is still open
 abbrev pub with_open : List Period → List ControlRun → List Period
 with_open periods [] = periods
 with_open periods (r ∷ runs) = periods ++ control (r ∷ runs) ∷ []
 
--- an island whose closing guard is still to come
+-- an island whose closing guard is still to follow
 abbrev pub unclosed : Option DataIsland → Option OpenIsland
 unclosed None = None
 unclosed (Some x) = Some (record { opening = x.opening; packets = x.packets })
 
--- periods, the control period behind them and the island behind that
+-- periods, the control period after them and the island after that
 abbrev pub drafted : List Period → List ControlRun → Option DataIsland → Draft
 drafted periods runs island = record { periods = with_open periods runs; opened = unclosed island }
 
--- an island that stands behind the control period that announces it
+-- an island that stands after the control period that announces it
 pub record IsBegun (runs : List ControlRun) (x : DataIsland) : Type 0 where
   pub long : nat_le 12 (length (values_of runs)) ≡ true
   pub announced : has_preamble ISLAND_PREAMBLE (values_of runs) ≡ true
@@ -49,7 +49,7 @@ is_end (close_line a b) = false
 is_end fault_line = false
 is_end no_line = false
 
--- a cause comes exactly where there is one, but for want of memory
+-- a cause is given exactly where there is one, but for want of memory
 abbrev pub AnswersCause : {T : Type 0} → Option ListCause → Result T Refusal → Type 0
 AnswersCause (Some cause) (Ok done) = ⊥
 AnswersCause (Some cause) (Err (Cause found)) = found ≡ cause

@@ -8,7 +8,7 @@ use Rattle.listing_reader.specs.declared.teller.Taken.{Taken}
 use Rattle.listing_reader.specs.declared.teller.Taken.TheVariants.{More, End}
 use Rattle.listing_reader.specs.LineSteps.{LineStep, tells, closes, wrong}
 
--- a line that is taken tells or ends what it should, and one that is refused is wrong, but for want of memory
+-- a line that is taken gives or ends what it should, and one that is refused is wrong, but for want of memory
 abbrev pub Takes : {D T : Type 0} → LineStep D T → Result (Taken D T) Refusal → Type 0
 Takes does (Ok (More reported)) = does ≡ tells reported
 Takes does (Ok (End reported)) = does ≡ closes reported
@@ -23,7 +23,7 @@ TakesLine n does (Err (Bad fault)) = (fault.line ≡ n) × (does ≡ wrong fault
 TakesLine n does (Err read_failed) = ⊥
 TakesLine n does (Err out_of_memory) = Unit {0}
 
--- the line is one more of those that told what is told now
+-- the line is one more of those that gave what is given now
 abbrev pub CountsLine : {D T : Type 0} → (D → ℕ) → ℕ → Taken D T → Type 0
 CountsLine lines before (More reported) = lines reported ≤ before + 1
 CountsLine lines before (End reported) = Unit {0}

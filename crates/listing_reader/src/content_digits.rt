@@ -84,7 +84,7 @@ pub(crate) fn info(rest: &[u8]) -> ContentForm<'_>
     }
 }
 
-/// The payload behind a version: nothing, or a space and the digits of 1 to 27 bytes; how many bytes it has.
+/// The payload after a version: nothing, or a space and the digits of 1 to 27 bytes; how many bytes it has.
 #[tactic(auto, unfolding(crate::specs::ContentForms::payload_form))]
 fn payload(rest: &[u8], bytes: &mut [u8; 27]) -> Option<u8>
     requires { bytes.old ≡ replicate 27 0 }
@@ -186,7 +186,7 @@ pub(crate) fn sample(rest: &[u8]) -> ContentForm<'_>
     sample_of(&left, &right, &fields)
 }
 
-/// Whether a space stands behind each of two values.
+/// Whether a space stands after each of two values.
 fn is_sample_laid_out(rest: &[u8]) -> bool
     ensures value { result ≡ (nat_le 14 (length rest.now) && (is_space rest.now 6 && is_space rest.now 13)) }
     ensures size { result ≡ true → 14 ≤ length rest.now }

@@ -1,4 +1,4 @@
-//! The form of a line of a content listing: what the line tells, before any pixel is made.
+//! The form of a line of a content listing: what the line says, before any pixel is made.
 ghost use Rattle.std.specs.Prelude.{◌≡◌};
 ghost use Rattle.listing_reader.specs.ContentForms.{content_form_of, digits_line, numbers_line, row_form};
 ghost use Rattle.listing_reader.specs.ContentFormSeen.{IsContentForm, IsFit};
@@ -32,7 +32,7 @@ pub(crate) enum ContentForm<'a> {
     Other,
 }
 
-/// Tells the form of a line, which is given without its line feed.
+/// Returns the form of a line, which is given without its line feed.
 #[tactic(auto, unfolding(crate::specs::ContentForms::content_form_of))]
 pub(crate) fn read_content_form(line: &[u8]) -> ContentForm<'_>
     ensures form { IsContentForm result (content_form_of line.now) }

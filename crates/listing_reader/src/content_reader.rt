@@ -1,4 +1,4 @@
-//! What the lines of a content listing tell, one line after the other.
+//! What the lines of a content listing say, one line after the other.
 ghost use Rattle.std.specs.Prelude.{◌≡◌, ◌⊎◌, ℕ, ◌+◌, ◌%◌, ◌≤◌, ◌<◌, ◌&&◌, ◌||◌, ◌==◌, ◌∷◌, ◌++◌, [], length, true, false, nat_le, nat_lt, None, Some, Ok, IfOk, IfErr, IsErr, OnOk, All};
 ghost use Rattle.source_end.specs.declared.mode.Mode.{Mode};
 ghost use Rattle.hex.specs.Hex.{decode_of};
@@ -29,7 +29,7 @@ const PACKET_LIMIT: u64 = 65_535;
 /// Samples of neighbouring lines that make a packet.
 const GROUP: usize = 4;
 
-/// Takes lines. The frame that is still being told is the last one of the content, from its first row or
+/// Takes lines. The frame that is still open is the last one of the content, from its first row or
 /// packet on; neighbouring samples are kept apart until they make a packet. Frames are kept only as long as they may
 /// have a raster: from the first fault on they are judged and counted, and nothing of them is kept.
 #[derive(Drop)]
@@ -38,13 +38,13 @@ pub(crate) struct ContentReader {
     mode: Option<Mode>,
     /// The first fault of the whole frames.
     fault: Option<RasterFault>,
-    /// How many whole frames were told.
+    /// How many whole frames were given.
     count: u32,
     /// The frames, none where there is a fault.
     content: Content,
-    /// Whether the last of these is still being told.
+    /// Whether the last of these is still open.
     is_open: bool,
-    /// How many rows the frame has that is being told.
+    /// How many rows the open frame has.
     rows: u64,
     /// How many packets it has.
     packets: u64,
@@ -113,7 +113,7 @@ impl ContentReader {
         }
     }
 
-    /// Takes what a line of this form tells, or refuses the line with its first cause. The reader is
+    /// Takes what a line of this form says, or refuses the line with its first cause. The reader is
     /// dropped on a refusal.
     fn take_form(self, form: ContentForm<'_>) -> Result<ContentReader, Refusal>
         requires seen { (reported : ContentLine) × IsContentForm form reported }
@@ -137,21 +137,21 @@ impl ContentReader {
 
 /// The lines of each form.
 impl ContentReader {
-    /// Whether the mode was told.
+    /// Whether the mode was given.
     fn has_mode(&self) -> bool
         ensures { result ≡ is_reported self.now.mode }
     {
         self.mode.is_some()
     }
 
-    /// Whether nothing of a frame was told.
+    /// Whether nothing of a frame was given.
     fn is_settled(&self) -> bool
         ensures { result ≡ is_kept_settled self.now }
     {
         self.rows == 0 && (self.packets == 0 && self.samples.as_slice().is_empty())
     }
 
-    /// Takes the mode, before which nothing is told.
+    /// Takes the mode, before which nothing is given.
     #[tactic(auto, unfolding(crate::specs::ContentKept::kept_cause))]
     fn mode(self, mode: Option<Mode>) -> Result<ContentReader, Refusal>
         ensures cause { AnswersCause (kept_cause self (mode_line mode)) result }
@@ -169,7 +169,7 @@ impl ContentReader {
         Ok(reader)
     }
 
-    /// The first cause for which a row of these bytes cannot come here.
+    /// The first cause for which a row of these bytes cannot stand here.
     fn row_cause(&self, bytes: &[u8]) -> Option<ListCause>
         ensures { result ≡ kept_row_cause self.now bytes.now }
     {
@@ -180,7 +180,7 @@ impl ContentReader {
         }
     }
 
-    /// Takes a row, told by what should be its hexadecimal digits.
+    /// Takes a row, given as what should be its hexadecimal digits.
     #[tactic(auto, unfolding(crate::specs::ContentKept::kept_cause))]
     fn row(self, digits: &[u8]) -> Result<ContentReader, Refusal>
         requires pixels { length digits.now % 6 ≡ 0 }
@@ -227,7 +227,7 @@ impl ContentReader {
         Ok(reader.end_frame())
     }
 
-    /// Ends the frame that is being told. Where it has no raster, or the frames have too many columns with it, no frame
+    /// Ends the open frame. Where it has no raster, or the frames have too many columns with it, no frame
     /// is kept.
     fn end_frame(self) -> ContentReader
         requires few { kept_lines self ≤ 4294967290 }
@@ -247,7 +247,7 @@ impl ContentReader {
         reader
     }
 
-    /// The first fault with the frame that is being told.
+    /// The first fault with the open frame.
     fn fault_after(&self) -> Option<RasterFault>
         ensures { result ≡ fault_after self.now.mode self.now.fault self.now.count self.now.packets }
     {
@@ -257,7 +257,7 @@ impl ContentReader {
         }
     }
 
-    /// The first cause for which no packet can come here.
+    /// The first cause for which no packet can stand here.
     fn packet_cause(&self) -> Option<ListCause>
         ensures order { is_reported self.now.mode ≡ false → result ≡ Some ListCause.Order }
         ensures long { is_reported self.now.mode ≡ true → has_kept_room self.now ≡ false → result ≡ Some ListCause.Long }
@@ -325,7 +325,7 @@ impl ContentReader {
         Ok(reader)
     }
 
-    /// The first cause for which no sample can come here.
+    /// The first cause for which no sample can stand here.
     fn sample_cause(&self) -> Option<ListCause>
         ensures order { is_reported self.now.mode ≡ false → result ≡ Some ListCause.Order }
         ensures long { is_reported self.now.mode ≡ true → has_kept_sample_room self.now ≡ false → result ≡ Some ListCause.Long }
@@ -436,7 +436,7 @@ fn push_sample(samples: &mut Vec<Sample>, sample: Sample) -> Result<(), NoMemory
     Ok(())
 }
 
-/// Appends a frame, if none is being told.
+/// Appends a frame, if none is open.
 fn begin_frame(content: &mut Content, is_open: bool) -> Result<(), NoMemory>
     requires few { length (whole_frames is_open content.old) < 4294967295 }
     requires some { is_open ≡ true → 1 ≤ length content.old }
@@ -451,7 +451,7 @@ fn begin_frame(content: &mut Content, is_open: bool) -> Result<(), NoMemory>
     Ok(())
 }
 
-/// Appends a packet to the frame that is being told, or to a new one.
+/// Appends a packet to the open frame, or to a new one.
 fn push_packet(content: &mut Content, is_open: bool, packet: Packet) -> Result<(), NoMemory>
     requires few { length (whole_frames is_open content.old) < 4294967295 }
     requires some { is_open ≡ true → 1 ≤ length content.old }
@@ -464,7 +464,7 @@ fn push_packet(content: &mut Content, is_open: bool, packet: Packet) -> Result<(
     Ok(())
 }
 
-/// Appends a row to the frame that is being told, or to a new one.
+/// Appends a row to the open frame, or to a new one.
 fn push_row(content: &mut Content, is_open: bool, bytes: &[u8]) -> Result<(), NoMemory>
     requires few { length (whole_frames is_open content.old) < 4294967295 }
     requires some { is_open ≡ true → 1 ≤ length content.old }
@@ -477,7 +477,7 @@ fn push_row(content: &mut Content, is_open: bool, bytes: &[u8]) -> Result<(), No
     Ok(())
 }
 
-/// Appends the packet of one to four samples to the frame that is being told, or to a new one.
+/// Appends the packet of one to four samples to the open frame, or to a new one.
 fn push_samples(content: &mut Content, is_open: bool, samples: &[Sample]) -> Result<(), NoMemory>
     requires least { 1 ≤ length samples.now }
     requires most { length samples.now ≤ 4 }
@@ -515,7 +515,7 @@ fn is_in_range(least: u16, number: u16) -> bool
     number >= least && number <= 4096
 }
 
-/// Whether a row fits the mode behind so many rows. In a mode without a raster any row does.
+/// Whether a row fits the mode after so many rows. In a mode without a raster any row does.
 fn row_fits(mode: &Mode, rows: u64, bytes: &[u8]) -> bool
     ensures { result ≡ row_fits mode.now rows bytes.now }
 {

@@ -1,4 +1,4 @@
-//! What the lines of a listing without guard bands tell, one line after the other.
+//! What the lines of a listing without guard bands say, one line after the other.
 ghost use Rattle.std.specs.Prelude.{◌≡◌, ◌⊎◌, ℕ, ◌+◌, ◌%◌, ◌≤◌, ◌++◌, [], ◌∷◌, length, true, false, None, IfOk, IfErr, IsErr, ◌<◌};
 ghost use Rattle.hex.specs.Hex.{decode_of};
 ghost use Rattle.island_pack.specs.Periods.{control, video};
@@ -20,14 +20,14 @@ use source_end::{DviItems, DviStream, Item, ItemFault, Run, Runs};
 use std::alloc::Global;
 use std::marker::Model;
 
-/// Takes lines. The control period whose `c` lines still come is kept apart from the items before it,
-/// until the line of the video period behind it, or the end.
+/// Takes lines. The control period whose `c` lines still follow is kept apart from the items before it,
+/// until the line of the video period after it, or the end.
 #[derive(Drop)]
 pub(crate) struct DviReader {
     alloc: Global,
     items: DviItems,
     runs: Runs,
-    /// How many columns were told, at most 20,000,000.
+    /// How many columns were given, at most 20,000,000.
     columns: u32,
 }
 
@@ -102,7 +102,7 @@ impl DviReader {
         Ok(reader)
     }
 
-    /// Takes a video period, told by what should be its hexadecimal digits.
+    /// Takes a video period, given as what should be its hexadecimal digits.
     fn video(self, digits: &[u8]) -> Result<DviReader, Refusal>
         requires pixels { length digits.now % 6 ≡ 0 }
         requires short { length digits.now ≤ 32766 }
@@ -142,7 +142,7 @@ impl DviReader {
     }
 }
 
-/// The items, and behind them the control period that was still being told, where it has runs.
+/// The items, and after them the control period that was still open, where it has runs.
 fn closed(items: DviItems, runs: Runs) -> Result<DviItems, NoMemory>
     requires turn { is_control_last (last_period items) ≡ false }
     requires in_range { is_in_range (control runs) ≡ true }

@@ -31,7 +31,7 @@ pub(crate) enum Form<'a> {
     Other,
 }
 
-/// Tells the form of a line, which is given without its line feed.
+/// Returns the form of a line, which is given without its line feed.
 #[tactic(auto, unfolding(crate::specs::Forms::form_of))]
 pub(crate) fn read_form(line: &[u8]) -> Form<'_>
     ensures form { IsForm result (form_of line.now) }

@@ -78,7 +78,7 @@ fn move_to_front(bytes: &mut [u8], start: usize, end: usize)
     }
 }
 
-// Reads once behind the first `held` bytes, and says how many bytes came.
+// Reads once after the first `held` bytes, and says how many bytes were read.
 fn read_after<S: Source>(bytes: &mut [u8], held: usize, source: &mut S) -> Result<usize, Failed>
     requires { held < length bytes.old }
     ensures bound { IfOk result (λ n. held + n ≤ length bytes.old) }
@@ -141,7 +141,7 @@ impl LineReader {
         self.start = self.line_end + skip;
     }
 
-    // Reads once, behind the pending bytes, and says how many bytes came.
+    // Reads once, after the pending bytes, and says how many bytes were read.
     fn fill<S: Source>(&mut self, source: &mut S) -> Result<usize, Failed>
         requires { length self.old.pending ≤ 32768 }
         ensures more { IfOk result (λ n. (more : List ℕ) × (length more ≡ n)

@@ -1,4 +1,4 @@
-//! What the lines of a listing tell, one line after the other.
+//! What the lines of a listing say, one line after the other.
 ghost use Rattle.std.specs.Prelude.{◌≡◌, ◌≢◌, ◌⊎◌, ℕ, ◌+◌, ◌%◌, ◌≤◌, ◌++◌, [], ◌∷◌, length, true, false, ◌&&◌, not, nat_le, nat_lt, slice_index, None, IfOk, IfErr, IsErr, ◌<◌, All};
 ghost use Rattle.std.specs.List.{list_all};
 ghost use Rattle.hex.specs.Hex.{decode_of};
@@ -24,16 +24,16 @@ use source_end::{Island, Item, ItemFault, Items, Pixels, Run, Runs, Stream};
 use std::alloc::Global;
 use std::marker::Model;
 
-/// Takes lines. The control period whose `c` lines still come is kept apart from the items before it,
-/// until the line that ends the video data period or the data island behind it.
+/// Takes lines. The control period whose `c` lines still follow is kept apart from the items before it,
+/// until the line that ends the video data period or the data island after it.
 #[derive(Drop)]
 pub(crate) struct Reader {
     alloc: Global,
     items: Items,
     runs: Runs,
-    /// The data island whose `e` line still comes.
+    /// The data island whose `e` line still follows.
     island: Option<Island>,
-    /// How many columns were told, at most 20,000,000.
+    /// How many columns were given, at most 20,000,000.
     columns: u32,
 }
 
@@ -93,7 +93,7 @@ impl Reader {
         }
     }
 
-    /// Takes what a line of this form tells, or refuses the line with its first cause. The reader is
+    /// Takes what a line of this form says, or refuses the line with its first cause. The reader is
     /// dropped on a refusal.
     fn take_form(self, form: Form<'_>) -> Result<Reader, Refusal>
         requires seen { (reported : LineForm) × IsForm form reported }
@@ -123,14 +123,14 @@ impl Reader {
         island_pack::has_room(self.columns, columns)
     }
 
-    /// Whether no data island is being told.
+    /// Whether no data island is open.
     fn is_closed(&self) -> bool
         ensures { result ≡ is_closed self.now.opened }
     {
         self.island.is_none()
     }
 
-    /// Whether the data island that is being told has as many packets as it may.
+    /// Whether the open data island has as many packets as it may.
     fn is_full(&self) -> bool
         ensures { result ≡ is_nineteenth self.now.opened }
     {
@@ -140,7 +140,7 @@ impl Reader {
         }
     }
 
-    /// Whether the data island that is being told has a packet.
+    /// Whether the open data island has a packet.
     fn has_packet(&self) -> bool
         ensures { result ≡ has_packets 1 18 self.now.opened }
     {
@@ -150,14 +150,14 @@ impl Reader {
         }
     }
 
-    /// Whether a data island is being told.
+    /// Whether a data island is open.
     fn is_open(&self) -> bool
         ensures { result ≡ has_packets 0 18 self.now.opened }
     {
         self.island.is_some()
     }
 
-    /// Whether a control period is being told.
+    /// Whether a control period is open.
     fn is_control_last(&self) -> bool
         ensures { result ≡ is_control_last (last_period self.now.periods) }
     {
@@ -206,7 +206,7 @@ impl Reader {
         Ok(reader)
     }
 
-    /// Takes a video data period, told by what should be its hexadecimal digits.
+    /// Takes a video data period, given as what should be its hexadecimal digits.
     fn video(self, digits: &[u8]) -> Result<Reader, Refusal>
         requires pixels { length digits.now % 6 ≡ 0 }
         requires short { length digits.now ≤ 32766 }
@@ -284,7 +284,7 @@ impl Reader {
         is_packet_in_range(packet) && !self.is_full()
     }
 
-    /// The first cause for which this packet cannot come here.
+    /// The first cause for which this packet cannot stand here.
     fn packet_cause(&self, packet: &Packet) -> Option<ListCause>
         ensures answer { result ≡ packet_cause self.now packet.now }
         ensures packet { result ≡ None → is_packet packet.now ≡ true }
@@ -300,7 +300,7 @@ impl Reader {
         }
     }
 
-    /// Takes a packet of the data island that is being told.
+    /// Takes a packet of the open data island.
     fn add_packet(self, packet: Packet) -> Result<Reader, Refusal>
         ensures cause { AnswersCause (packet_cause self packet) result }
         ensures ok { IfOk result (λ r. r ≡ with_line (packet_line packet) self) }
@@ -401,7 +401,7 @@ fn is_end_form(form: Form<'_>) -> bool
     matches!(form, Form::End)
 }
 
-/// The items, and behind them the control period that was still being told, where it has runs.
+/// The items, and after them the control period that was still open, where it has runs.
 fn closed(items: Items, runs: Runs) -> Result<Items, NoMemory>
     requires turn { is_control_last (last_period items) ≡ false }
     requires in_range { is_in_range (control runs) ≡ true }
@@ -419,7 +419,7 @@ fn closed(items: Items, runs: Runs) -> Result<Items, NoMemory>
     }
 }
 
-/// The items and a data island behind them, which has its place there.
+/// The items and a data island after them, which has its place there.
 fn with_island(items: Items, added: Island) -> Result<Items, NoMemory>
     requires { push_fault items (island added) ≡ None }
     ensures { IfOk result (λ all. all ≡ items ++ island added ∷ []) }

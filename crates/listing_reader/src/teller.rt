@@ -26,21 +26,21 @@ impl From<NoMemory> for Refusal {
 /// What a line that is taken leaves.
 #[derive(Drop)]
 pub(crate) enum Taken<T, W> {
-    /// A teller for the line behind it.
+    /// A teller for the line after it.
     More(T),
     /// What the line `end` ends.
     End(W),
 }
 
-/// Takes the lines of a listing, which have at most 32,768 bytes each, and tells what they tell.
+/// Takes the lines of a listing, which have at most 32,768 bytes each, and answers what they say.
 pub(crate) trait Teller: Drop {
-    /// What a whole listing tells.
+    /// What a whole listing says.
     type Whole: Drop;
 
-    /// What a line does after what the lines before it told.
+    /// What a line does after what the lines before it said.
     ghost step: { Self → List ℕ → LineStep Self Self.Whole };
 
-    /// So many lines at least told this.
+    /// So many lines at least said this.
     ghost lines: { Self → ℕ };
 
     /// Takes a line, or refuses it with its first cause. Of a line of more than 32,768 bytes its first

@@ -1,4 +1,4 @@
--- Lines that are added one behind another.
+-- Lines that are added one after another.
 use Rattle.std.proofs.Common.{◌≡◌, ◌∙◌, ℕ, ◌+◌, Bool, true, false, cond, List, [], ◌∷◌, ◌++◌, refl, ap, sym, subst, append_assoc, append-nil, arith}
 use Rattle.std.specs.Prelude.{codes}
 use Rattle.listing_writer.specs.Texts.{counted}

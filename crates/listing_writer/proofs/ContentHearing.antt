@@ -1,4 +1,4 @@
--- What is kept of all that was told, once more was told.
+-- What is kept of all that was reported, once more was reported.
 use Rattle.std.proofs.Common.{arith, ◌≡◌, ◌∙◌, ℕ, List, [], ◌∷◌, ◌++◌, Option, Some, None, reverse, true, ◌⊎◌, inl, inr, refl, sym, subst}
 use Rattle.std.specs.Prelude.{option_map, filter_map, slice_index}
 use Rattle.std.proofs.lemmas.List.{map-append, reverse-append}

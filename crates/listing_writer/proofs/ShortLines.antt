@@ -25,7 +25,7 @@ sync_more vs i within =
 pub body_short : (p : Packet) (b : ℕ) → length (body_of p b) ≤ 7
 body_short p b = grind (arith, length-take {A = ℕ})
 
--- a header and four bodies, each with a space behind it
+-- a header and four bodies, each with a space after it
 packet_joined : (p h s b0 b1 b2 b3 : List ℕ)
     → p ++ (h ++ s) ++ (b0 ++ s) ++ (b1 ++ s) ++ (b2 ++ s) ++ (b3 ++ s) ≡ p ++ (h ++ s ++ b0 ++ s ++ b1 ++ s ++ b2 ++ s ++ b3 ++ s)
 packet_joined p h s b0 b1 b2 b3 = simp append_assoc

@@ -7,17 +7,17 @@ use Rattle.listing_writer.specs.ContentText.{frame_events, last_vic, lines_at, t
 use Rattle.listing_writer.specs.ContentSeen.{Seen}
 use Rattle.listing_writer.specs.declared.content_state.ContentState.{ContentState}
 
--- these lines stand behind those before, and the fault lines among them are counted
+-- these lines stand after those before, and the fault lines among them are counted
 pub record Adds (old new : Seen) (lines : List (List ℕ)) : Type 0 where
   pub text : new.text ≡ old.text ++ text_of lines
   pub faults : new.faults ≡ counted old.faults (fault_line_count lines)
 
--- what is kept is that of all that was told
+-- what is kept is that of all that was reported
 pub record Recalls (past : ContentState) (reported : List Event) : Type 0 where
   pub frames : FramesRepresent past.frames (frame_events reported)
   pub vic : past.vic ≡ last_vic reported
 
--- this event was told after `reported`, and its lines were added
+-- this event was reported after `reported`, and its lines were added
 pub record Hears (reported : List Event) (event : Event) (now : ContentState) (old new : Seen) : Type 0 where
   pub recalls : Recalls now (reported ++ event ∷ [])
   pub added : Adds old new (lines_at reported event)

@@ -1,5 +1,5 @@
 -- The text of a content listing: rows, frames, what packets carry, and what is wrong (docs/FORMATS.md). `reported` is all that
--- was told before an event, the oldest first.
+-- was reported before an event, the oldest first.
 use Rattle.std.specs.Prelude.{ℕ, ◌/◌, ◌%◌, ◌==◌, Bool, true, false, not, ◌&&◌, ◌||◌, if◌then◌else◌, List, [], ◌∷◌, ◌++◌, map, reverse, length, flat_map, filter_map, count_by, slice_index, nat_le, Option, Some, None, option_map, is_some, Result, Ok, Err, codes}
 use Rattle.hex.specs.Hex.{encode_lower}
 use Rattle.island_pack.specs.Packets.{body_of}
@@ -32,7 +32,7 @@ use Rattle.period_grammar.specs.Events.{Event, run, line, word, open_island, pac
 use Rattle.listing_writer.specs.Texts.{line_words}
 use Rattle.listing_writer.specs.Fields.{with_fields}
 
--- lines without their line feeds, each with one behind it
+-- lines without their line feeds, each with one after it
 unfoldable pub text_of : List (List ℕ) → List ℕ
 text_of lines = flat_map (λ line. line ++ codes "\n") lines
 
@@ -104,7 +104,7 @@ sample_lines column (Err Layout) = with_fields (codes "! layout") (column ∷ []
 sample_lines column (Err Uneven) = []
 sample_lines column (Err (LostAudio block)) = []
 
--- a depth of colour that is not told, or is 24 bits
+-- a depth of colour that is not indicated, or is 24 bits
 abbrev pub is_usual_depth : ℕ → Bool
 is_usual_depth depth = (depth == 0) || (depth == 4)
 
@@ -212,7 +212,7 @@ last_avi reported = first_of (reverse (filter_map avi_at reported))
 unfoldable pub last_vic : List Event → Option ℕ
 last_vic reported = option_map (λ avi. avi.vic) (last_avi reported)
 
--- the lines of an event that is told next
+-- the lines of an event that is reported next
 unfoldable pub lines_at : List Event → Event → List (List ℕ)
 lines_at reported (run value count) = frame_lines (last_vic reported) (frame_at (frame_events reported) (run_frame_event value count))
 lines_at reported (line pixels) = row_lines pixels (line_at (frame_events reported) (length pixels / 3))
@@ -221,12 +221,12 @@ lines_at reported (open_island a b) = []
 lines_at reported (close_island a b) = []
 lines_at reported event = line_words event ∷ []
 
--- the lines of events that are told next, one after another
+-- the lines of events that are reported next, one after another
 unfoldable pub lines_after : List Event → List Event → List (List ℕ)
 lines_after reported [] = []
 lines_after reported (event ∷ later) = lines_at reported event ++ lines_after (reported ++ event ∷ []) later
 
--- the lines of all that is told but the last
+-- the lines of all that is reported but the last
 unfoldable pub content_lines : List Event → List (List ℕ)
 content_lines events = lines_after [] events
 

@@ -1,5 +1,5 @@
--- What a content listing tells of pictures: the rows of counting groups and the frames, in the order in which they are
--- told. What is said of a line, and when a frame is told, is that of the events before.
+-- What a content listing says of pictures: the rows of counting groups and the frames, in the order in which they are
+-- reported. What is said of a line, and when a frame is reported, is that of the events before.
 use Rattle.std.specs.Prelude.{ℕ, List, [], ◌∷◌, ◌++◌, cond, Option, Some, None}
 use Rattle.period_grammar.specs.Events.{Event, line}
 use Rattle.frame_build.specs.FrameEvent.{FrameEvent, run as run_frame_event, line as line_frame_event, word_fault, other}
@@ -21,7 +21,7 @@ listed_frames (Some note) = frame note ∷ []
 abbrev pub listed_rows : List ℕ → LineNote → List Listed
 listed_rows bytes note = cond note.counts (row bytes note ∷ []) []
 
--- what is listed at an event, of pictures, after what was told before, the oldest first
+-- what is listed at an event, of pictures, after what was reported before, the oldest first
 abbrev pub listed_by : FrameEvent → List ℕ → List FrameEvent → List Listed
 listed_by (run_frame_event value count) bytes reported = listed_frames (frame_at reported (run_frame_event value count))
 listed_by (line_frame_event width) bytes reported = listed_rows bytes (line_at reported width)
@@ -39,6 +39,6 @@ unfoldable pub listed_from : List FrameEvent → List Event → List Listed
 listed_from reported [] = []
 listed_from reported (event ∷ events) = listed_at reported event ++ listed_from (reported ++ frame_event_of event ∷ []) events
 
--- the rows and frames that a content listing of told events has
+-- the rows and frames that a content listing of reported events has
 abbrev pub listed : List Event → List Listed
 listed events = listed_from [] events

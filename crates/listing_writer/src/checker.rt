@@ -1,4 +1,4 @@
-//! Writes the check of what is told.
+//! Writes the check of what is reported.
 ghost use Rattle.std.specs.Prelude.{◌≡◌, ℕ, ◌<◌, List, [], ◌∷◌, length, take, true, OnOk, OnErr};
 ghost use Rattle.std.specs.Io.KnownBytes.{Appends};
 ghost use Rattle.outside_io.specs.Causes.{HasCause};
@@ -11,7 +11,8 @@ use link_sink::Ear;
 use outside_io::{Failed, Sink};
 use period_grammar::EventRef;
 
-/// Writes a line for each fault that it is told and for the cut, and last whether there was a fault. It takes no memory.
+/// Writes a line for each fault that is reported to it and for the cut, and last whether there was a fault. It
+/// takes no memory.
 #[derive(Drop)]
 pub struct CheckLister<'a, K: Sink> {
     sink: &'a mut K,
@@ -28,15 +29,15 @@ impl<'a, K: Sink> CheckLister<'a, K> {
         CheckLister { sink, faults: 0 }
     }
 
-    /// How many fault lines were written whole, one for each fault that it was told. The count stands still at the greatest
-    /// u64.
+    /// How many fault lines were written whole, one for each fault that was reported to it. The count stands still at
+    /// the greatest u64.
     pub fn faults(&self) -> u64
         ensures { result ≡ self.now.faults }
     {
         self.faults
     }
 
-    /// Writes the last line: `clean` where no fault was told, else `faulty`.
+    /// Writes the last line: `clean` where no fault was reported, else `faulty`.
     pub fn end(&mut self) -> Result<(), Failed>
         ensures same { self.new.sink.ghost_name ≡ self.old.sink.ghost_name }
         ensures faults { self.new.faults ≡ self.old.faults }

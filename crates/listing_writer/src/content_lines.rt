@@ -1,4 +1,4 @@
-//! The lines of one event, one behind another.
+//! The lines of one event, one after another.
 ghost use Rattle.std.specs.Prelude.{◌≡◌, ◌+◌, ◌*◌, ◌≤◌, ◌<◌, ◌++◌, ◌∷◌, [], ℕ, List, true, false, length, codes, Some};
 ghost use Rattle.hex.specs.Hex.{encode_lower};
 ghost use Rattle.source_end.specs.Formats.{formats, mode_in};

@@ -1,4 +1,4 @@
-//! Writes what is told as pictures and sound.
+//! Writes what is reported as pictures and sound.
 ghost use Rattle.std.specs.Prelude.{◌≡◌, ℕ, ◌<◌, List, [], take, codes, OnOk, OnErr};
 ghost use Rattle.std.specs.Io.KnownBytes.{Appends};
 ghost use Rattle.outside_io.specs.Causes.{HasCause};
@@ -23,7 +23,7 @@ pub struct ContentLister<'a, K: Sink> {
 }
 
 impl<'a, K: Sink> ContentLister<'a, K> {
-    /// A lister that has written nothing, and was told nothing.
+    /// A lister that has written nothing, and to which nothing was reported.
     pub fn open(sink: &'a mut K) -> ContentLister<'a, K>
         ensures same { result.sink.ghost_name ≡ sink.entry.ghost_name }
         ensures sink { result.sink.now ≡ sink.old }
@@ -66,7 +66,7 @@ impl<'a, K: Sink> Ear for ContentLister<'a, K> {
 
     ghost faults = { λ l. K.faults l.sink.now };
 
-    // For all that was told before: the sink grew by the lines of the events, and the count by the fault lines.
+    // For all that was reported before: the sink grew by the lines of the events, and the count by the fault lines.
     ghost took = { λ x y events.
         (y.sink.ghost_name ≡ x.sink.ghost_name)
         × ((reported : List Event) → Recalls x.past reported → Lists reported events y.past x.faults y.faults (K.held x.sink.now) (K.held y.sink.now)) };

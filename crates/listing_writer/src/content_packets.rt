@@ -139,7 +139,7 @@ pub(crate) fn read_avi(packet: PacketRef<'_>) -> Option<Avi>
     }
 }
 
-/// Whether a depth of colour is not told, or of 24 bits.
+/// Whether a depth of colour is not indicated, or is of 24 bits.
 fn is_usual(depth: u32) -> bool
     ensures { result ≡ is_usual_depth depth }
 {

@@ -1,4 +1,4 @@
-//! What the lines of an event depend on of all that was told before it.
+//! What the lines of an event depend on of all that was reported before it.
 ghost use Rattle.std.specs.Prelude.{◌≡◌, ℕ, List, [], ◌∷◌, ◌++◌};
 ghost use Rattle.period_grammar.specs.Events.{Event, run, line, packet as packet_event, open_island};
 ghost use Rattle.period_grammar.specs.Lending.{lent_event, fault_event};
@@ -24,7 +24,7 @@ pub(crate) struct ContentState {
 }
 
 impl ContentState {
-    /// Nothing was told.
+    /// Nothing was reported.
     pub(crate) fn new() -> ContentState
         ensures { Recalls result [] }
     {

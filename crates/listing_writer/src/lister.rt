@@ -1,4 +1,4 @@
-//! Writes the listing of what is told.
+//! Writes the listing of what is reported.
 ghost use Rattle.std.specs.Prelude.{◌≡◌, ℕ, ◌+◌, ◌*◌, ◌≤◌, ◌<◌, List, [], ◌∷◌, ◌++◌, length, take, codes, OnOk, OnErr};
 ghost use Rattle.std.specs.Io.KnownBytes.{Appends};
 ghost use Rattle.outside_io.specs.Causes.{HasCause};
@@ -14,7 +14,7 @@ use period_grammar::EventRef;
 /// Room for the line of 4,096 pixels.
 const PIXEL_LINE: usize = 24_579;
 
-/// Writes a line for each event that it is told. It takes no memory: its line buffer is within it.
+/// Writes a line for each event that is reported to it. It takes no memory: its line buffer is within it.
 #[derive(Drop)]
 pub struct LinkLister<'a, K: Sink> {
     sink: &'a mut K,
@@ -38,8 +38,8 @@ impl<'a, K: Sink> LinkLister<'a, K> {
         }
     }
 
-    /// How many fault lines were written whole: one for each fault that it was told, and one for each slip. The count stands
-    /// still at the greatest u64.
+    /// How many fault lines were written whole: one for each fault that was reported to it, and one for each slip. The
+    /// count stands still at the greatest u64.
     pub fn faults(&self) -> u64
         ensures { result ≡ self.now.faults }
     {

@@ -1,4 +1,4 @@
--- What a read that gives nothing says of the bytes still to come, where a source tells them.
+-- What a read that gives nothing says of the bytes not yet read, where they are known.
 use Rattle.std.specs.Prelude.{◌≡◌, ◌↔◌, ℕ, List, [], Option, Some, None}
 
 -- a read with room gives nothing exactly where no byte is left

@@ -1,7 +1,7 @@
 -- What is seen of a source and of a sink over memory, and of an adapter.
 use Rattle.std.specs.Prelude.{ℕ, List}
 
--- a source over memory: the bytes still to come, the most that a read gives, the numbers of the
+-- a source over memory: the bytes not yet read, the most that a read gives, the numbers of the
 -- reads that fail, the number of the next read, and how often it has failed
 pub record Feed : Type 0 where
   pub left : List ℕ

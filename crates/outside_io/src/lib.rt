@@ -1,4 +1,4 @@
-//! Bytes that come in and go out: sources and sinks, ones in memory, and adapters of std's readers
+//! Bytes that are read and written: sources and sinks, ones in memory, and adapters of std's readers
 //! and writers.
 //!
 //! A device that fails says only that it failed, and counts it: each failure has its cause in a
@@ -46,7 +46,7 @@ pub struct Wrote {
     pub gone: usize,
 }
 
-/// How many bytes came before a read failed.
+/// How many bytes were read before a read failed.
 #[derive(Clone, Copy, Debug, PartialEq, Eq)]
 pub struct Got {
     pub arrived: usize,
@@ -54,14 +54,14 @@ pub struct Got {
 
 /// Gives bytes in order.
 pub trait Source {
-    /// The bytes still to come, told only by sources over memory.
+    /// The bytes not yet read, known only of sources over memory.
     ghost left: { Self → Option (List ℕ) };
 
     /// How often the source has failed, as a u64 that stands still at its greatest.
     ghost faults: { Self → ℕ };
 
     /// Gives the next bytes at the front of `into`, and says how many. With room in `into`, `Ok(0)`
-    /// is the end of the input. After `Failed` the bytes still to come are as before.
+    /// is the end of the input. After `Failed` the bytes not yet read are as before.
     fn read(&mut self, into: &mut [u8]) -> Result<usize, Failed>
         ensures bound { IfOk result (λ n. n ≤ length into.new) }
         ensures bytes { ReadConsumes (left self.old) (left self.new) result into.new }
@@ -72,7 +72,7 @@ pub trait Source {
 
 /// Takes bytes in order.
 pub trait Sink {
-    /// The bytes written so far, told only by sinks over memory.
+    /// The bytes written so far, known only of sinks over memory.
     ghost held: { Self → Option (List ℕ) };
 
     /// How often the sink has failed, as a u64 that stands still at its greatest.
@@ -110,8 +110,8 @@ pub fn write_all<K: Sink>(sink: &mut K, piece: &[u8]) -> Result<(), Wrote>
     Ok(())
 }
 
-/// Reads until `into` is full or the input ends, and says how many bytes came. Where a read fails it says
-/// how many came before, which are not all.
+/// Reads until `into` is full or the input ends, and says how many bytes were read. Where a read fails it says
+/// how many were read before, which are not all.
 pub fn read_full<S: Source>(source: &mut S, into: &mut [u8]) -> Result<usize, Got>
     ensures bound { IfOk result (λ n. n ≤ length into.new) }
     ensures bytes { IfOk result (λ n.

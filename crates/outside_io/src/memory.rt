@@ -1,4 +1,4 @@
-//! A source and a sink in memory, which fail the calls that they are told to fail.
+//! A source and a sink in memory, which fail the calls that they are set to fail.
 ghost use Rattle.std.specs.Prelude.{◌≡◌, ℕ, ◌+◌, ◌-◌, ◌^◌, ◌<◌, ◌≤◌, ◌↔◌, ◌⊎◌, List, [], ◌++◌, length, take, drop, min, Option, Some, Ok, IsErr, IfOk, OnErr, Contains, vec_capacity};
 ghost use Rattle.std.specs.Io.KnownBytes.{ReadConsumes, WriteAppends};
 ghost use Rattle.outside_io.specs.Causes.{next, HasCause};
@@ -9,7 +9,7 @@ use crate::{Failed, NoMemory, Sink, Source, copy_front};
 use std::alloc::Global;
 use std::marker::Model;
 
-/// Gives its bytes in pieces, and fails the reads that it is told to fail. The reads have the numbers
+/// Gives its bytes in pieces, and fails the reads that it is set to fail. The reads have the numbers
 /// 0, 1, 2 and so on; the number stays at the greatest u64 once it stands there. It is seen as a
 /// `Feed`.
 #[derive(Drop)]
@@ -62,7 +62,7 @@ impl MemSource {
         }
     }
 
-    /// The bytes still to come.
+    /// The bytes not yet read.
     pub fn rest(&self) -> &[u8]
         ensures { result.now ≡ self.now.left }
     {
@@ -110,7 +110,7 @@ impl Source for MemSource {
 }
 
 /// Takes bytes in pieces into the room that it took at making, so that its writes take no memory, and
-/// fails the writes that it is told to fail. The writes of pieces that are not empty have the numbers
+/// fails the writes that it is set to fail. The writes of pieces that are not empty have the numbers
 /// 0, 1, 2 and so on; the number stays at the greatest u64 once it stands there. It is seen as a
 /// `Store`.
 #[derive(Drop)]

@@ -7,7 +7,7 @@ ghost use Rattle.outside_io.specs.Known.{EndsExactly};
 use crate::{Failed, Sink, Source, copy_front};
 use std::marker::Model;
 
-/// Gives its bytes, and never fails. It is seen as the bytes still to come.
+/// Gives its bytes, and never fails. It is seen as the bytes not yet read.
 #[derive(Drop)]
 pub struct SteadySource {
     bytes: Vec<u8>,

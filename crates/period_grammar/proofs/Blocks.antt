@@ -42,7 +42,7 @@ pub first_stands : (packets within words digit : ℕ) (guard : Bool) (block next
     → words ≡ closing_words c → digit ≡ sync_digit c.blue → guard ≡ is_island_guard c → take 1 next ≡ column_words c ∷ [] → IsPartsAfter (First words digit guard) packets within next (after_payload c x)
 first_stands packets within words digit guard block next c x h k l m p = grind (arith, not_whole, holds_not)
 
--- nothing is told of it
+-- nothing is reported of it
 pub first_reported : (packets start : ℕ) (block : List (List ℕ)) (c : Column) (x : Payload) → IsPartsAfter Packet packets 0 block x → [] ≡ island_gain start c x
 first_reported packets start block c x h = grind (arith, holds_not)
 

@@ -1,4 +1,4 @@
--- One column that goes on with the run or the line that is open, and so tells nothing.
+-- One column that goes on with the run or the line that is open, so that nothing is reported at it.
 use Rattle.std.proofs.Common.{arith, ◌≡◌, ℕ, Bool, true, false, not, ◌&&◌, ◌==◌, List, [], refl, ◌∙◌, eqb-true}
 use Rattle.tmds_word.specs.Column.{Column}
 use Rattle.terc4.specs.Columns.{is_control_column, one_if}

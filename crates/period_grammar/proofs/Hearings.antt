@@ -1,4 +1,4 @@
--- A hearing after one column more: it stands for the columns heard, and has told what they tell.
+-- A hearing after one column more: it stands for the columns heard, and has reported what is to be reported of them.
 use Rattle.std.proofs.Common.{◌≡◌, ℕ, ◌+◌, ◌-◌, ◌≤◌, true, false, List, [], ◌∷◌, ◌++◌, length, map, refl, ap, sym, ◌∙◌, arith}
 use Rattle.std.proofs.lemmas.List.{length_push}
 use Rattle.tmds_word.specs.Column.{Column}

@@ -112,7 +112,7 @@ split_sound (suc n) cs le = by_sound (holds_packet cs) cs (split n (drop 32 cs))
 pub payload_sound : (cs : List Column) → Sound cs (payload cs)
 payload_sound cs = split_sound (length cs) cs (omega arith)
 
--- What is told.
+-- What is reported.
 
 when_at : (p : Bool) (n : ℕ) (ts : List Event) → when p (all_at n ts) ≡ all_at n (when p ts)
 when_at p n ts = grind arith

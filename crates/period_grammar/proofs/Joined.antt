@@ -1,5 +1,5 @@
--- Columns cut into stretches: joined they are the columns, and a control period with the columns behind it is one of them. What
--- later crates cite of it.
+-- Columns cut into stretches: joined they are the columns, and a control period with the columns after it is one of
+-- them. What later crates cite of it.
 use Rattle.std.proofs.Common.{◌≡◌, ℕ, suc, ◌+◌, ◌<◌, ◌≤◌, Bool, true, false, List, [], ◌∷◌, ◌++◌, length, take, drop, refl, ap, ap₂, sym, ◌∙◌, subst, append_assoc, arith, lt-ltb, le-ltb}
 use Rattle.std.specs.Prelude.{nat_lt, nat_le, cond}
 use Rattle.std.proofs.lemmas.List.{append-nil, length_push, length-append, length-take-le, take-append-drop, take_all, take_at, drop_at}
@@ -67,7 +67,7 @@ split_packet n (c ∷ (d ∷ p)) rest e f =
     split_one n ((c ∷ (d ∷ p)) ++ rest) (holds_is ((c ∷ (d ∷ p)) ++ rest) f many)
     ∙ ap₂ (λ a b. with_packet a (split n b)) (take_at (c ∷ (d ∷ p)) rest 32 e) (drop_at (c ∷ (d ∷ p)) rest 32 e)
 
--- What is told up to a column.
+-- What is reported up to a column.
 abbrev pub AllBelow : ℕ → List EventAt → Type 0
 AllBelow n [] = Unit {0}
 AllBelow n (t ∷ ts) = (column_reported t < n) × AllBelow n ts
@@ -84,7 +84,7 @@ below_at : (n m : ℕ) (ts : List Event) → n < m → AllBelow m (all_at n ts)
 below_at n m [] lt = tt
 below_at n m (t ∷ ts) lt = (lt, below_at n m ts lt)
 
--- Each event is told at a column that was heard.
+-- Each event is reported at a column that was heard.
 below_push : (cs : List Column) (c : Column) → AllBelow (length cs) (heard_so_far cs) → AllBelow (length (cs ++ c ∷ [])) (heard_so_far (cs ++ c ∷ []))
 below_push cs c h =
     let more : length cs < length (cs ++ c ∷ []) = omega (arith, length_push cs c) in
@@ -126,6 +126,6 @@ reported_before_by true n cs e =
     ∙ all_before n (heard_so_far (take n cs)) (below_more _ n _ (omega (arith, long)) (reported_below (take n cs)))
 reported_before_by false n cs e = grind (arith, leb-false, all_before, below_more, reported_below, take_all)
 
--- What a list tells at columns before n is what its first n columns tell so far.
+-- What is reported of a list at columns before n is what is reported of its first n columns so far.
 pub reported_before_is : (n : ℕ) (cs : List Column) → reported_before n (heard_so_far cs) ≡ heard_so_far (take n cs)
 reported_before_is n cs = reported_before_by (nat_le n (length cs)) n cs refl

@@ -1,4 +1,4 @@
--- A line with one pixel more, and what it tells.
+-- A line with one pixel more, and what is reported of it.
 use Rattle.std.proofs.Common.{◌≡◌, ℕ, ◌+◌, ◌<◌, ◌≤◌, List, [], ◌∷◌, ◌++◌, length, map, take, refl, ap, sym, ◌∙◌, arith, append_assoc, subst, length-append}
 use Rattle.std.specs.Prelude.{nat_le}
 use Rattle.std.proofs.lemmas.List.{length_push, take_all, take-append-le, append-nil, map_push, map-append}
@@ -24,7 +24,7 @@ line_is : (l : LineSeen) (start from : ℕ) (pixels : List Column) → IsLineAft
 unfolding codes_of
 line_is l start from pixels was = rw (was.bytes, was.blue.first, was.green.first, was.red.first, was.count) refl
 
--- behind two guard columns
+-- after two guard columns
 pub line_after : (l : LineSeen) (start : ℕ) (pixels : List Column) → IsLineAfter l pixels → 0 < l.count → line_of start pixels ≡ line_at start (start + 2) pixels
 unfolding line_of
 line_after l start pixels h k = grind arith

@@ -1,4 +1,4 @@
--- What a column tells in each phase.
+-- What is reported at a column in each phase.
 use Rattle.std.proofs.Common.{◌≡◌, ℕ, ◌+◌, Bool, true, false, not, ◌==◌, nat_le, List, [], ◌∷◌, ◌++◌, length, ap, ap₂, sym, ◌∙◌, arith, append_assoc}
 use Rattle.std.specs.Prelude.{Option}
 use Rattle.std.proofs.lemmas.List.{length_push, map-append}
@@ -176,7 +176,7 @@ three_words ts n a b r c e f g = rw (e, f, g) (append_assoc (ts ++ other_word 0 
 pub open_noted : (l : Lent) (was now : List QueuedEvent) (ts : List Event) (a b : ℕ) → events l was ≡ ts → now ≡ was ++ Open a b ∷ [] → events l now ≡ ts ++ open_island a b ∷ []
 open_noted l was now ts a b e f = ap (events l) f ∙ map-append (noted l) was (Open a b ∷ []) ∙ ap (λ us. us ++ open_island a b ∷ []) e
 
--- two guards told behind other events
+-- two guards reported after other events
 pub guards_noted : (l : Lent) (n1 n2 n3 : List QueuedEvent) (ts us vs : List Event) → events l n1 ≡ ts → events l n2 ≡ events l n1 ++ us → events l n3 ≡ events l n2 ++ vs → events l n3 ≡ ts ++ (us ++ vs)
 guards_noted l n1 n2 n3 ts us vs e f g = g ∙ ap (λ xs. xs ++ vs) (f ∙ ap (λ xs. xs ++ us) e) ∙ append_assoc ts us vs
 

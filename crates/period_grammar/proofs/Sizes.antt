@@ -1,4 +1,4 @@
--- Everything that is told is of the sizes that a link can have.
+-- Everything that is reported is of the sizes that a link can have.
 use Rattle.std.proofs.Common.{◌≡◌, ℕ, zero, suc, ◌+◌, ◌*◌, ◌%◌, ◌==◌, ◌<◌, ◌≤◌, Bool, true, not, List, [], ◌∷◌, ◌++◌, length, map, take, drop, refl, ap, ◌∙◌, arith, Option, All}
 use Rattle.std.specs.Prelude.{nat_le, unwrap_or, IfSome}
 use Rattle.std.proofs.Math.Nat.{mul-mod_left}

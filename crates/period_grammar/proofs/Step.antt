@@ -1,4 +1,4 @@
--- What a list of columns tells with one column more, by its last stretch.
+-- What is reported of a list of columns with one column more, by its last stretch.
 use Rattle.std.proofs.Common.{◌≡◌, ℕ, suc, ◌+◌, Bool, true, false, ◌==◌, List, [], ◌∷◌, ◌++◌, length, map, refl, ap, sym, ◌∙◌, append_assoc, arith, zero-add}
 use Rattle.std.proofs.lemmas.List.{append-nil, map-append}
 use Rattle.tmds_word.specs.Column.{Column}
@@ -119,7 +119,7 @@ reported_push false j b n c (x ∷ (y ∷ ys)) e f =
     ∙ ap (λ ts. so_far j x ++ (closing j x ++ ts)) (reported_push false (j + reach x) b n c (y ∷ ys) same f)
     ∙ simp append_assoc
 
--- what a column adds to what is told of the columns before it
+-- what a column adds to what is reported of the columns before it
 pub heard_push : (cs : List Column) (c : Column) (b : ℕ) → b + length (gap_of (last (stretches cs))) ≡ length cs
     → heard_so_far (cs ++ c ∷ []) ≡ heard_so_far cs ++ all_at (length cs) (gains (is_control_column c) b (length cs) c (last (stretches cs)))
 unfolding heard_so_far
@@ -143,7 +143,7 @@ last_after false c (x ∷ (y ∷ ys)) = last_more x (after false c (y ∷ ys)) (
 pub last_push_stretch : (cs : List Column) (c : Column) → last (stretches (cs ++ c ∷ [])) ≡ grown (is_control_column c) c (last (stretches cs))
 last_push_stretch cs c = ap last (stretches_push cs c) ∙ last_after (is_control_column c) c (stretches cs)
 
--- what the end tells
+-- what is reported at the end
 end_is : (j b : ℕ) (xs : List Stretch) → b + length (gap_of (last xs)) ≡ j + total xs → end_from j xs ≡ ends b (last xs)
 unfolding runs
 end_is j b [] f = refl

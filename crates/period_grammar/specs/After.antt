@@ -1,4 +1,4 @@
--- The last stretch of columns, and what one column more tells.
+-- The last stretch of columns, and what is reported at one column more.
 use Rattle.std.specs.Prelude.{ℕ, ◌+◌, Bool, true, false, ◌==◌, List, [], ◌∷◌, ◌++◌, length}
 use Rattle.tmds_word.specs.Column.{Column}
 use Rattle.period_grammar.specs.Column.{value_of}
@@ -36,7 +36,7 @@ settle ps t = settle_by (holds_packet t) ps t
 abbrev pub after_payload : Column → Payload → Payload
 after_payload c (parts ps t) = settle ps (t ++ c ∷ [])
 
--- what a column tells in an island, after what is left of it
+-- what is reported at a column in an island, after what is left of it
 abbrev pub left_gain : ℕ → ℕ → ℕ → Column → List Column → List Event
 left_gain b s k c [] = []
 left_gain b s k c (x ∷ []) = when (begins_close (x ∷ (c ∷ []))) (closing_events b s k x c)
@@ -56,7 +56,7 @@ payload_gain b video c rest = []
 payload_gain b island c rest = island_gain b c (payload rest)
 payload_gain b neither c rest = []
 
--- what column n tells, where the last stretch's other columns begin at b
+-- what is reported at column n, where the last stretch's other columns begin at b
 abbrev pub gains : Bool → ℕ → ℕ → Column → Stretch → List Event
 gains true b n c (stretch control []) = change (value_of c) (runs control) ++ other_words n c
 gains true b n c (stretch control (g ∷ gap)) = at_close b (g ∷ gap) ++ other_words n c
@@ -70,7 +70,7 @@ grown true c (stretch control []) = stretch (control ++ c ∷ []) []
 grown true c (stretch control (g ∷ gap)) = stretch (c ∷ []) []
 grown false c (stretch control gap) = stretch control (gap ++ c ∷ [])
 
--- what the end tells of the last stretch
+-- what is reported at the end of the last stretch
 abbrev pub ends : ℕ → Stretch → List Event
 ends b (stretch control []) = last_run (runs control)
 ends b (stretch control (g ∷ gap)) = at_end b (g ∷ gap)

@@ -13,6 +13,6 @@ one_right balance = one_if (is_some (disparity_at balance))
 unfoldable pub are_enough : Balances → Bool
 are_enough b = nat_le 2 ((one_right b.blue + one_right b.green) + one_right b.red)
 
--- whether a column behind a video period's guard goes on with its line
+-- whether a column after a video period's guard goes on with its line
 unfoldable pub is_pixel : Column → Bool
 is_pixel c = not (is_control_column c)

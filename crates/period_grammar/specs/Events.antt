@@ -1,4 +1,4 @@
--- What is told of columns, and at which column. Numbers called `column` count the columns from 0 on.
+-- What is reported of columns, and at which column. Numbers called `column` count the columns from 0 on.
 use Rattle.std.specs.Prelude.{ℕ, List, filter, map, nat_lt}
 use Rattle.island_pack.specs.declared.packet.Packet.{Packet}
 use Rattle.island_pack.specs.declared.packet.PacketVerdicts.{PacketVerdicts}
@@ -22,7 +22,7 @@ pub data Event : Type 0 where
   code : ℕ → ℕ → Event
   -- more than 4,096 pixels: the video period's first column
   long_line : ℕ → Event
-  -- the columns ended: the first of which nothing whole was told
+  -- the columns ended: the first of which nothing whole was reported
   cut : ℕ → Event
   -- the guard that opens an island: its two sync digits
   open_island : ℕ → ℕ → Event
@@ -43,7 +43,7 @@ pub data Event : Type 0 where
   -- a column of an opening or a closing guard that is no guard column: column
   guard : ℕ → Event
 
--- an event told at a column
+-- an event reported at a column
 pub data EventAt : Type 0 where
   at : ℕ → Event → EventAt
 
@@ -56,6 +56,6 @@ event_of (at j t) = t
 abbrev pub column_reported : EventAt → ℕ
 column_reported (at j t) = j
 
--- what is told at columns before column n
+-- what is reported at columns before column n
 abbrev pub reported_before : ℕ → List EventAt → List EventAt
 reported_before n ts = filter (λ t. nat_lt (column_reported t) n) ts

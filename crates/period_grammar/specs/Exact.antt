@@ -1,7 +1,7 @@
--- What it says of columns that no fault is told of them. The columns before the one that is told as cut, or all of them
--- where nothing is, are a prefix of the columns that spell some conforming periods: HDMI 1.4, section 5.1.2 (the order of
--- the periods), 5.2.1 (control periods), 5.2.2 (video data periods) and 5.2.3 (data islands). Bit 3 of lane 0 in packet
--- columns is free: a sink does not judge it.
+-- What it says of columns that no fault is reported of them. The columns before the one that is reported as cut, or all
+-- of them where nothing is, are a prefix of the columns that spell some conforming periods: HDMI 1.4, section 5.1.2
+-- (the order of the periods), 5.2.1 (control periods), 5.2.2 (video data periods) and 5.2.3 (data islands). Bit 3 of
+-- lane 0 in packet columns is free: a sink does not judge it.
 use Rattle.std.specs.Prelude.{◌≡◌, ℕ, Bool, true, false, not, List, [], ◌∷◌, ◌++◌, length, take}
 use Rattle.std.specs.List.{list_all}
 use Rattle.tmds_word.specs.Column.{Column}
@@ -24,21 +24,21 @@ is_fault_event _ = true
 abbrev pub faultless : List Event → Bool
 faultless events = list_all (λ t. not (is_fault_event t)) events
 
--- no fault is told of columns
+-- no fault is reported of columns
 abbrev pub IsClean : List Column → Type 0
 IsClean cs = faultless (heard cs) ≡ true
 
--- the column of an event that tells a cut, else a number
+-- the column of an event that reports a cut, else a number
 abbrev pub cut_or : ℕ → Event → ℕ
 cut_or n (cut c) = c
 cut_or n _ = n
 
--- the first column that is told as cut, else a number
+-- the first column that is reported as cut, else a number
 abbrev pub cut_column : ℕ → List Event → ℕ
 cut_column n [] = n
 cut_column n (t ∷ ts) = cut_or (cut_column n ts) t
 
--- the columns before the one that is told as cut; all of them where nothing is
+-- the columns before the one that is reported as cut; all of them where nothing is
 unfoldable pub whole_part : List Column → List Column
 whole_part cs = take (cut_column (length cs) (heard cs)) cs
 

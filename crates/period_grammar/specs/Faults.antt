@@ -1,4 +1,4 @@
--- What is wrong with columns, as an event that is told.
+-- What is wrong with columns, as an event that is reported.
 use Rattle.period_grammar.specs.Events.{Event, word, short, preamble, noise, empty, code, long_line, symbols, mended, lost, long_island, broken, guard}
 use Rattle.period_grammar.specs.declared.event.Fault.{Fault}
 use Rattle.period_grammar.specs.declared.event.Fault.TheVariants.{Word, Short, Preamble, Noise, Empty, Code, LongLine, Symbols, Mended, Lost, LongIsland, Broken, Guard}

@@ -1,5 +1,5 @@
--- What one column more tells, by the last stretch of those before it, under any rule on the columns that are no control
--- columns, and what the end tells.
+-- What is reported at one column more, by the last stretch of those before it, under any rule on the columns that are
+-- no control columns, and what is reported at the end.
 use Rattle.std.specs.Prelude.{◌≡◌, ℕ, ◌+◌, Bool, true, false, List, [], ◌∷◌, ◌++◌, length, map}
 use Rattle.tmds_word.specs.Column.{Column}
 use Rattle.terc4.specs.Columns.{is_control_column}
@@ -10,7 +10,8 @@ use Rattle.period_grammar.specs.Heard.{other_words, last_run, heard_so_far, hear
 use Rattle.period_grammar.specs.After.{last, gap_of, change}
 use Rattle.period_grammar.specs.Gaps.{Gaps, link_gaps, so_far_by, heard_by}
 
--- what a column tells behind others that are no control columns, which begin at b: b, its place, it, control, the others
+-- what is reported at a column after others that are no control columns, which begin at b: b, its place, it, control,
+-- the others
 abbrev pub Gain : Type 0
 Gain = ℕ → ℕ → Column → List Column → List Column → List Event
 
@@ -26,13 +27,13 @@ gains_by g gain true b n c (stretch control (x ∷ gap)) = g.closing b control (
 gains_by g gain false b n c (stretch control []) = last_run (runs control)
 gains_by g gain false b n c (stretch control (x ∷ gap)) = gain b n c control (x ∷ gap)
 
--- what the end tells of the last stretch
+-- what is reported at the end of the last stretch
 abbrev pub ends_by : Gaps → ℕ → Stretch → List Event
 ends_by g b (stretch control []) = last_run (runs control)
 ends_by g b (stretch control (x ∷ gap)) = g.ending b control (x ∷ gap)
 
--- a machine that knows the last stretch, where its other columns begin and how many columns came tells each column's
--- events: for every rule
+-- a machine that knows the last stretch, where its other columns begin and how many columns were received gives each
+-- column's events: for every rule
 abbrev pub PushLaw : Type 0
 PushLaw =
     (g : Gaps) (gain : Gain) → GrowsBy g gain
@@ -44,6 +45,6 @@ EndLaw =
     (g : Gaps) (cs : List Column) (b : ℕ) → b + length (gap_of (last (stretches cs))) ≡ length cs
     → heard_by g cs ≡ map event_of (so_far_by g cs) ++ ends_by g b (last (stretches cs))
 
--- what is heard of a link is told by its rule
+-- what is heard of a link is reported by its rule
 abbrev pub LinkIsOne : Type 0
 LinkIsOne = (cs : List Column) → (so_far_by link_gaps cs ≡ heard_so_far cs) × (heard_by link_gaps cs ≡ heard cs)

@@ -1,28 +1,28 @@
--- What is told of columns that are cut into stretches, for any rule on the columns that are no control columns.
--- The control periods tell the same under each rule: their runs, and their words that are no control words.
+-- What is reported of columns that are cut into stretches, for any rule on the columns that are no control columns.
+-- Of the control periods the same is reported under each rule: their runs, and their words that are no control words.
 use Rattle.std.specs.Prelude.{ℕ, ◌+◌, List, [], ◌∷◌, ◌++◌, map, length}
 use Rattle.tmds_word.specs.Column.{Column}
 use Rattle.period_grammar.specs.Events.{Event, EventAt, all_at, event_of}
 use Rattle.period_grammar.specs.Cut.{Stretch, stretch, stretches, runs}
 use Rattle.period_grammar.specs.Heard.{in_runs, last_run, reach, in_gap, at_close, at_end}
 
--- b is the first column that is no control column; the control columns before it come next, and then the others
+-- b is the first column that is no control column; the control columns before it are next, and then the others
 pub record Gaps : Type 0 where
-  -- told while they go on, but for the last run before them
+  -- reported while they go on, but for the last run before them
   pub going : ℕ → List Column → List Column → List EventAt
-  -- told at the first control column after them
+  -- reported at the first control column after them
   pub closing : ℕ → List Column → List Column → List Event
-  -- told by the end
+  -- reported at the end
   pub ending : ℕ → List Column → List Column → List Event
 
--- what a stretch from column j on tells while it goes on
+-- what is reported of a stretch from column j on while it goes on
 abbrev pub going_by : Gaps → ℕ → Stretch → List EventAt
 going_by g j (stretch control []) = in_runs j (runs control)
 going_by g j (stretch control (x ∷ gap)) =
     let b = j + length control in
     in_runs j (runs control) ++ (all_at b (last_run (runs control)) ++ g.going b control (x ∷ gap))
 
--- what it tells at the first column after it
+-- what is reported of it at the first column after it
 abbrev pub closing_by : Gaps → ℕ → Stretch → List EventAt
 closing_by g j (stretch control gap) = all_at (j + reach (stretch control gap)) (g.closing (j + length control) control gap)
 
@@ -32,7 +32,7 @@ reported_by g j [] = []
 reported_by g j (x ∷ []) = going_by g j x
 reported_by g j (x ∷ (y ∷ ys)) = going_by g j x ++ (closing_by g j x ++ reported_by g (j + reach x) (y ∷ ys))
 
--- what the end tells of the last one
+-- what is reported at the end of the last one
 abbrev pub ending_by : Gaps → ℕ → Stretch → List Event
 ending_by g j (stretch control []) = last_run (runs control)
 ending_by g j (stretch control (x ∷ gap)) = g.ending (j + length control) control (x ∷ gap)

@@ -1,5 +1,5 @@
 -- Columns that go on with what is open: with the last run of a control period, or with the line of a video period.
--- Nothing is told of them before that ends.
+-- Nothing is reported of them before that ends.
 use Rattle.std.specs.Prelude.{ℕ, ◌+◌, Bool, false, not, ◌&&◌, ◌==◌, List, [], ◌∷◌, ◌++◌, if◌then◌else◌}
 use Rattle.tmds_word.specs.Column.{Column}
 use Rattle.terc4.specs.Tables.{is_control}
@@ -28,7 +28,7 @@ goes_on_run (r ∷ (s ∷ rs)) c = goes_on_run (s ∷ rs) c
 abbrev pub goes_kept : ControlState → Column → Bool
 goes_kept kept c = not (kept.run == 0) && is_whole kept.value c
 
--- whether a column goes on with the pixels behind two columns that opened this
+-- whether a column goes on with the pixels after two columns that opened this
 abbrev pub goes_on_line : Kind → Column → Bool
 goes_on_line video c = not (is_control_column c)
 goes_on_line island c = false
@@ -40,7 +40,7 @@ goes_on (stretch control []) c = goes_on_run (runs control) c
 goes_on (stretch control (g ∷ [])) c = false
 goes_on (stretch control (g ∷ (h ∷ rest))) c = goes_on_line (opened g h) c
 
--- how many columns, from the first on, go on with what is open when they come, after columns that were heard
+-- how many columns, from the first on, go on with what is open when they arrive, after columns that were heard
 unfoldable pub count_going_on : List Column → List Column → ℕ
 count_going_on heard [] = 0
 count_going_on heard (c ∷ cs) = if goes_on (last (stretches heard)) c then 1 + count_going_on (heard ++ c ∷ []) cs else 0

@@ -1,5 +1,6 @@
--- What is told of a list of columns: control periods (HDMI 1.4, sections 5.1.2 and 5.2.1), their preambles (5.2.1.1),
--- video periods (5.2.2) and data islands (5.2.3). What is told of columns that are not right is this project's own.
+-- What is reported of a list of columns: control periods (HDMI 1.4, sections 5.1.2 and 5.2.1), their preambles
+-- (5.2.1.1), video periods (5.2.2) and data islands (5.2.3). What is reported of columns that are not right is this
+-- project's own.
 use Rattle.std.specs.Prelude.{ℕ, ◌+◌, Bool, true, false, List, [], ◌∷◌, ◌++◌, map, length, take, Option, Some, None, nat_le}
 use Rattle.tmds_word.specs.Column.{Column}
 use Rattle.terc4.specs.Tables.{is_control}
@@ -22,12 +23,12 @@ other_word lane j false = word lane j ∷ []
 unfoldable pub other_words : ℕ → Column → List Event
 other_words j c = other_word 0 j (is_control c.blue) ++ (other_word 1 j (is_control c.green) ++ other_word 2 j (is_control c.red))
 
--- the words of columns from column j on, each told at its column
+-- the words of columns from column j on, each reported at its column
 abbrev pub words : ℕ → List Column → List EventAt
 words j [] = []
 words j (c ∷ cs) = all_at j (other_words j c) ++ words (j + 1) cs
 
--- a run, which is told at the first column that is not in it
+-- a run, which is reported at the first column that is not in it
 abbrev pub ended : ℕ → Run → List EventAt
 ended j (columns v cs) = at (j + length cs) (run v (length cs)) ∷ []
 
@@ -114,7 +115,7 @@ in_payload b video rest = []
 in_payload b island rest = in_island b (payload rest)
 in_payload b neither rest = []
 
--- told while they go on
+-- reported while they go on
 unfoldable pub in_gap : ℕ → List Column → List Column → List EventAt
 in_gap b control [] = []
 in_gap b control (g ∷ []) = []
@@ -125,7 +126,7 @@ payload_closes b video rest = line_of b rest
 payload_closes b island rest = breaks broken b (payload rest)
 payload_closes b neither rest = []
 
--- told at the first control column after them
+-- reported at the first control column after them
 unfoldable pub at_close : ℕ → List Column → List Event
 at_close b [] = []
 at_close b (g ∷ []) = noise b ∷ []
@@ -136,7 +137,7 @@ payload_ends b video rest = cut (b + 2) ∷ []
 payload_ends b island rest = breaks cut b (payload rest)
 payload_ends b neither rest = []
 
--- told by the end
+-- reported at the end
 unfoldable pub at_end : ℕ → List Column → List Event
 at_end b [] = []
 at_end b (g ∷ []) = cut b ∷ []
@@ -144,7 +145,7 @@ at_end b (g ∷ (h ∷ rest)) = payload_ends b (opened g h) rest
 
 -- The whole.
 
--- what a stretch from column j on tells while it goes on
+-- what is reported of a stretch from column j on while it goes on
 abbrev pub so_far : ℕ → Stretch → List EventAt
 so_far j (stretch control []) = in_runs j (runs control)
 so_far j (stretch control (g ∷ gap)) =
@@ -154,7 +155,7 @@ so_far j (stretch control (g ∷ gap)) =
 abbrev pub reach : Stretch → ℕ
 reach (stretch control gap) = length control + length gap
 
--- what it tells at the first column after it
+-- what is reported of it at the first column after it
 abbrev pub closing : ℕ → Stretch → List EventAt
 closing j (stretch control gap) = all_at (j + reach (stretch control gap)) (at_close (j + length control) gap)
 
@@ -164,7 +165,7 @@ reported_from j [] = []
 reported_from j (x ∷ []) = so_far j x
 reported_from j (x ∷ (y ∷ ys)) = so_far j x ++ (closing j x ++ reported_from (j + reach x) (y ∷ ys))
 
--- what the end tells of the last one
+-- what is reported at the end of the last one
 abbrev pub ending : ℕ → Stretch → List Event
 ending j (stretch control []) = last_run (runs control)
 ending j (stretch control (g ∷ gap)) = at_end (j + length control) (g ∷ gap)
@@ -174,10 +175,10 @@ end_from j [] = []
 end_from j (x ∷ []) = ending j x
 end_from j (x ∷ (y ∷ ys)) = end_from (j + reach x) (y ∷ ys)
 
--- what is told of columns, and at which column each event
+-- what is reported of columns, and at which column each event
 unfoldable pub heard_so_far : List Column → List EventAt
 heard_so_far cs = reported_from 0 (stretches cs)
 
--- with what the end tells
+-- with what is reported at the end
 unfoldable pub heard : List Column → List Event
 heard cs = map event_of (heard_so_far cs) ++ end_from 0 (stretches cs)

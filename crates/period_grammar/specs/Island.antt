@@ -1,5 +1,6 @@
 -- The columns of a data island after its leading guard: packets of 32 columns, then the trailing guard of two columns
--- (HDMI 1.4, sections 5.2.3 and 5.2.3.3). What is told of packets and guards that are not right is this project's own.
+-- (HDMI 1.4, sections 5.2.3 and 5.2.3.3). What is reported of packets and guards that are not right is
+-- this project's own.
 use Rattle.std.specs.Prelude.{ℕ, zero, suc, ◌+◌, ◌*◌, Bool, true, false, not, ◌==◌, ◌&&◌, List, [], ◌∷◌, ◌++◌, length, take, drop, nat_le}
 use Rattle.tmds_word.specs.Column.{Column}
 use Rattle.terc4.specs.Columns.{is_island_guard, closes}
@@ -47,7 +48,7 @@ abbrev pub if_so : Bool → Event → List Event
 if_so true t = t ∷ []
 if_so false t = []
 
--- what a verdict on block b of a packet at column s tells
+-- what is reported for a verdict on block b of a packet at column s
 abbrev pub block_fault : ℕ → ℕ → Verdict → List Event
 block_fault s b Clean = []
 block_fault s b (Mended i) = mended s b i ∷ []
@@ -78,7 +79,7 @@ unfoldable pub closing_events : ℕ → ℕ → ℕ → Column → Column → Li
 closing_events b s k c d =
     close_island (sync_digit c.blue) (sync_digit d.blue) ∷ (wrong_guards is_island_guard s c d ++ if_so (k == 0) (empty b))
 
--- a closing guard from column s on, and what comes after it
+-- a closing guard from column s on, and what follows it
 abbrev pub in_closing : ℕ → ℕ → ℕ → List Column → List EventAt
 in_closing b s k [] = []
 in_closing b s k (c ∷ []) = []

@@ -1,4 +1,4 @@
--- An event that is told, with its bytes in place of what it lends.
+-- An event that is reported, with its bytes in place of what it lends.
 use Rattle.std.specs.Prelude.{List, slice_index}
 use Rattle.period_grammar.specs.Noted.{events, lent}
 use Rattle.period_grammar.specs.Seen.{Seen}
@@ -16,6 +16,6 @@ lent_event (Close sync) = close_island (slice_index sync 0) (slice_index sync 1)
 lent_event (FaultReported fault) = fault_event fault
 lent_event (Cut column) = cut column
 
--- what the last call told
+-- what the last call reported
 abbrev pub last_reported : Seen → List Event
 last_reported hearing = events (lent hearing.line.bytes hearing.island.whole) hearing.notes

@@ -1,4 +1,4 @@
--- The sizes of what is told.
+-- The sizes of what is reported.
 use Rattle.std.specs.Prelude.{◌≡◌, ◌<◌, ◌≤◌, ◌%◌, List, length, All}
 use Rattle.tmds_word.specs.Column.{Column}
 use Rattle.island_pack.specs.Packets.{IsPacket}
@@ -16,7 +16,7 @@ IsSized (close_island a b) = (a < 4) × (b < 4)
 IsSized (packet p v s) = IsPacket p × All (λ digit. digit < 4) p.sync
 IsSized _ = Unit {0}
 
--- everything that is told is of these sizes
+-- everything that is reported is of these sizes
 abbrev pub Sizes : Type 0
 Sizes = (cs : List Column) → All IsSized (heard cs)
 

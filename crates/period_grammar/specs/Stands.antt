@@ -35,7 +35,7 @@ pub record HearingRepresents (hearing : Seen) (cs : List Column) : Type 0 where
   pub columns : hearing.columns ≡ length cs
   pub stretch : IsStretchAfter hearing.phase hearing.control hearing.line hearing.island hearing.columns (last (stretches cs))
 
--- what is told at a control column before its own words, and the control columns that go on
+-- what is reported at a control column before its own words, and the control columns that go on
 abbrev pub closed : ℕ → ℕ → Stretch → List Event
 closed v b (stretch control []) = change v (runs control)
 closed v b (stretch control (g ∷ gap)) = at_close b (g ∷ gap)

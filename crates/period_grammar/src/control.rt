@@ -114,7 +114,7 @@ impl ControlState {
         self.ctl_run += count;
     }
 
-    /// Tells the last run.
+    /// Reports the last run.
     pub fn tell_run(&self, notes: &mut EventQueue)
         requires room { length notes.old ≤ 0 }
         ensures room { length notes.new ≤ 1 }
@@ -128,7 +128,7 @@ impl ControlState {
         }
     }
 
-    /// Tells the last run where a column has another value.
+    /// Reports the last run where a column has another value.
     pub fn tell_change(&self, value: u8, notes: &mut EventQueue)
         requires room { length notes.old ≤ 0 }
         ensures room { length notes.new ≤ 1 }
@@ -159,7 +159,7 @@ impl ControlState {
         }
     }
 
-    /// Tells what is wrong with the columns before a period that is opened, whose preamble has these control bits.
+    /// Reports what is wrong with the columns before a period that is opened, whose preamble has these control bits.
     pub fn tell_lacks(&self, start: u32, bits: u8, notes: &mut EventQueue)
         requires room { length notes.old ≤ 0 }
         ensures room { length notes.new ≤ 2 }

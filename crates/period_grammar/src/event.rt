@@ -1,8 +1,8 @@
-//! What a hearing tells.
+//! What a hearing reports.
 
 use island_pack::PacketRef;
 
-/// An event that is told, with what it lends. A column is named by its number, counted from 0.
+/// An event that is reported, with what it lends. A column is named by its number, counted from 0.
 pub enum EventRef<'a> {
     /// Control columns of one value: HSYNC is bit 0 of it, VSYNC bit 1, CTL0 to CTL3 are bits 2 to 5.
     Run { value: u8, count: u32 },
@@ -16,7 +16,7 @@ pub enum EventRef<'a> {
     Close { sync: [u8; 2] },
     /// What is wrong.
     Fault(Fault),
-    /// The columns ended: the first of which nothing whole was told.
+    /// The columns ended: the first of which nothing whole was reported.
     Cut { column: u32 },
 }
 

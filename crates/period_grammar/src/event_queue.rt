@@ -1,10 +1,10 @@
-//! What a call told.
+//! What a call reported.
 ghost use Rattle.std.specs.Prelude.{◌≡◌, ◌<◌, ◌≤◌, ◌+◌, ◌++◌, ◌∷◌, [], length, take, slice_get, Some};
 
 use crate::event::Fault;
 use std::marker::Model;
 
-/// An event that was told, but for the bytes of a line and for a packet.
+/// An event that was reported, but for the bytes of a line and for a packet.
 #[derive(Clone, Copy, Debug, Drop)]
 pub enum QueuedEvent {
     Run { value: u8, count: u32 },
@@ -72,7 +72,7 @@ impl EventQueue {
     }
 }
 
-/// Puts an event behind those before a place.
+/// Puts an event after those before a place.
 fn put(list: &mut [QueuedEvent; 8], at: u8, note: QueuedEvent)
     requires { at < 8 }
     ensures whole { length list.new ≡ 8 }

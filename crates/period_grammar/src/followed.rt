@@ -35,7 +35,7 @@ impl Balances {
     }
 }
 
-/// Puts the bytes of the pixels of a group behind those before a place, and follows their lanes.
+/// Puts the bytes of the pixels of a group after those before a place, and follows their lanes.
 fn put_group(room: &mut [u8], place: usize, group: Columns<'_>, from: &Balances) -> Balances
     requires group { length (columns_in group) ≡ 8 }
     requires room { place + 24 ≤ length room.old }
@@ -69,8 +69,8 @@ fn put_group(room: &mut [u8], place: usize, group: Columns<'_>, from: &Balances)
     balances
 }
 
-/// Puts the bytes of pixels behind those before a place, group after group, as long as two lanes of theirs are rightly
-/// coded. Answers how many pixels these are, and the balances behind them.
+/// Puts the bytes of pixels after those before a place, group after group, as long as two lanes of theirs are rightly
+/// coded. Answers how many pixels these are, and the balances after them.
 pub fn put_groups(
     room: &mut [u8],
     place: usize,

@@ -1,4 +1,4 @@
-//! Hears columns one after another, and tells what they say.
+//! Hears columns one after another, and reports what they say.
 ghost use Rattle.std.specs.Prelude.{◌≡◌, ◌<◌, ◌≤◌, ◌+◌, ◌++◌, ◌∷◌, [], ℕ, All, List, length, map, take, true, false, slice_get, Some};
 ghost use Rattle.std.specs.Bool.{OnTrue, OnFalse};
 ghost use Rattle.tmds_word.specs.Column.{Column, column_of};
@@ -66,7 +66,7 @@ impl Hearing {
         }
     }
 
-    /// Hears one column, the words of lanes 0, 1 and 2; `tells` and `reported` then say what it tells.
+    /// Hears one column, the words of lanes 0, 1 and 2; `tells` and `reported` then say what is reported at it.
     pub fn hear(&mut self, column: &[Word; 3])
         requires few { self.old.columns < 429496730 }
         requires open { self.old.finished ≡ false }
@@ -76,14 +76,14 @@ impl Hearing {
         ensures reported { (cs : List Column) → HearingRepresents self.old cs → heard_so_far (cs ++ column_of column.now ∷ []) ≡ heard_so_far cs ++ all_at (length cs) (last_reported self.new) }
     {
         self.notes.clear();
-        // Nearly every column goes on with a run or a line, and tells nothing.
+        // Nearly every column goes on with a run or a line, and nothing is reported at it.
         if !self.hear_on(column) {
             self.hear_any(column);
         }
     }
 
     /// Hears columns from the first on, as long as they go on with the run or the line that is open, and answers how many
-    /// these are: none where none is open. It tells nothing. `hear` takes the column that comes then.
+    /// these are: none where none is open. Nothing is reported. `hear` takes the column that follows.
     pub fn hear_while(&mut self, columns: Columns<'_>) -> usize
         requires few { self.old.columns + length (columns_in columns) ≤ 429496730 }
         requires open { self.old.finished ≡ false }
@@ -99,7 +99,7 @@ impl Hearing {
         self.hear_front(columns)
     }
 
-    /// Forgets all that was heard and told: it is as a fresh one. It takes no memory.
+    /// Forgets all that was heard and reported: it is as a fresh one. It takes no memory.
     pub fn restart(&mut self)
         ensures open { self.new.finished ≡ false }
         ensures heard { HearingRepresents self.new [] }
@@ -200,7 +200,7 @@ impl Hearing {
         }
     }
 
-    /// Hears a column of any kind, in any phase. It stands apart, so that `hear` is short where nothing is told.
+    /// Hears a column of any kind, in any phase. It stands apart, so that `hear` is short where nothing is reported.
     #[inline(never)]
     fn hear_any(&mut self, column: &[Word; 3])
         requires few { self.old.columns < 429496730 }
@@ -242,7 +242,7 @@ impl Hearing {
         self.columns = n + 1;
     }
 
-    /// Ends the columns; `tells` and `reported` then say what the end tells.
+    /// Ends the columns; `tells` and `reported` then say what is reported at the end.
     pub fn finish(&mut self)
         requires { self.old.finished ≡ false }
         ensures finished { self.new.finished ≡ true }
@@ -260,7 +260,7 @@ impl Hearing {
         self.finished = true;
     }
 
-    /// How many events the last call told.
+    /// How many events the last call reported.
     pub fn tells(&self) -> u8
         ensures few { result ≤ 8 }
         ensures count { result ≡ length self.now.notes }
@@ -268,7 +268,7 @@ impl Hearing {
         self.notes.len()
     }
 
-    /// Lends event `i` of those that the last call told.
+    /// Lends event `i` of those that the last call reported.
     pub fn reported(&self, i: u8) -> EventRef<'_>
         requires { i < length self.now.notes }
         ensures { slice_get (last_reported self.now) i ≡ Some (lent_event result) }

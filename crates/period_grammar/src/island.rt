@@ -29,14 +29,14 @@ pub enum Left {
     Over,
 }
 
-/// A packet that came whole, and the verdicts on its blocks.
+/// A packet that was received whole, and the verdicts on its blocks.
 #[derive(Clone, Copy, Drop)]
 pub struct WholePacket {
     pub packet: Packet,
     pub verdicts: PacketVerdicts,
 }
 
-/// The words of the packet that comes, how many packets came whole, and the last of them.
+/// The words of the packet that is being received, how many packets were received whole, and the last of them.
 #[derive(Drop)]
 pub struct Island {
     pub block: [[Word; 3]; 32],
@@ -46,7 +46,7 @@ pub struct Island {
     pub whole: WholePacket,
 }
 
-/// Tells the verdict on a block, unless it is clean.
+/// Reports the verdict on a block, unless it is clean.
 fn tell_block(at: u32, block: u8, verdict: Verdict, notes: &mut EventQueue)
     requires room { length notes.old < 8 }
     ensures room { length notes.new ≤ length notes.old + 1 }
@@ -63,7 +63,7 @@ fn tell_block(at: u32, block: u8, verdict: Verdict, notes: &mut EventQueue)
     }
 }
 
-/// Tells how many words are no TERC4 words, if there are any.
+/// Reports how many words are no TERC4 words, if there are any.
 fn tell_symbols(at: u32, count: u8, notes: &mut EventQueue)
     requires room { length notes.old < 8 }
     ensures room { length notes.new ≤ length notes.old + 1 }
@@ -74,7 +74,7 @@ fn tell_symbols(at: u32, count: u8, notes: &mut EventQueue)
     }
 }
 
-/// Tells that a packet is its island's nineteenth.
+/// Reports that a packet is its island's nineteenth.
 fn tell_long(at: u32, packets: u32, notes: &mut EventQueue)
     requires room { length notes.old < 8 }
     ensures room { length notes.new ≤ length notes.old + 1 }
@@ -85,7 +85,7 @@ fn tell_long(at: u32, packets: u32, notes: &mut EventQueue)
     }
 }
 
-/// Tells the words that are no TERC4 words, and the verdicts on the five blocks.
+/// Reports the words that are no TERC4 words, and the verdicts on the five blocks.
 fn tell_verdicts(at: u32, verdicts: &PacketVerdicts, notes: &mut EventQueue)
     requires room { length notes.old ≤ 1 }
     ensures room { length notes.new ≤ 7 }
@@ -100,7 +100,7 @@ fn tell_verdicts(at: u32, verdicts: &PacketVerdicts, notes: &mut EventQueue)
     tell_block(at, 4, header, notes);
 }
 
-/// Tells a packet that came whole at a column, after some packets of its island.
+/// Reports a packet that was received whole at a column, after some packets of its island.
 fn tell_packet(at: u32, packets: u32, whole: &WholePacket, notes: &mut EventQueue)
     requires room { length notes.old ≤ 0 }
     ensures room { length notes.new ≤ 8 }
@@ -165,7 +165,7 @@ fn tell_close(
     tell_empty(packets == 0, start, notes);
 }
 
-/// Puts a column at a place behind those before it.
+/// Puts a column at a place after those before it.
 fn put_column(block: &mut [[Word; 3]; 32], at: u32, column: &[Word; 3])
     requires { at < 32 }
     ensures whole { length block.new ≡ 32 }
@@ -289,7 +289,7 @@ impl Island {
         }
     }
 
-    /// Lends the last packet that came whole.
+    /// Lends the last packet that was received whole.
     pub fn whole(&self) -> &WholePacket
         ensures { result.now ≡ self.now.whole }
     {

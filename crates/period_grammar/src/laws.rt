@@ -1,9 +1,9 @@
-//! What holds of everything that is told. The functions do nothing: what they ensure are the laws.
+//! What holds of everything that is reported. The functions do nothing: what they ensure are the laws.
 ghost use Rattle.period_grammar.specs.Gains.{PushLaw, EndLaw, LinkIsOne};
 ghost use Rattle.period_grammar.specs.Sizes.{Sizes, ValueBelow};
 ghost use Rattle.period_grammar.specs.Before.{ReportedBefore};
 
-/// All runs, lines, packets and sync digits that are told are of the sizes that a link can have.
+/// All runs, lines, packets and sync digits that are reported are of the sizes that a link can have.
 pub fn sizes()
     ensures { Sizes }
 {}
@@ -13,22 +13,22 @@ pub fn value_below()
     ensures { ValueBelow }
 {}
 
-/// What one column more tells, under every rule on what lies between control periods.
+/// What is reported at one column more, under every rule on what lies between control periods.
 pub fn push_law()
     ensures { PushLaw }
 {}
 
-/// What the end tells, under every rule.
+/// What is reported at the end, under every rule.
 pub fn end_law()
     ensures { EndLaw }
 {}
 
-/// What is heard of a link is what its rule tells.
+/// What is heard of a link is what its rule reports.
 pub fn link_is_one()
     ensures { LinkIsOne }
 {}
 
-/// What a list tells at columns before a column is what its columns before that one tell so far.
+/// What is reported of a list at columns before a column is what is reported of its columns before that one so far.
 pub fn reported_before()
     ensures { ReportedBefore }
 {}

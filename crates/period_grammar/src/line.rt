@@ -148,7 +148,7 @@ impl Line {
         columns.len()
     }
 
-    /// Tells the line, whose first pixel is two columns after the start.
+    /// Reports the line, whose first pixel is two columns after the start.
     pub fn tell(&self, start: u32, notes: &mut EventQueue)
         requires room { length notes.old ≤ 0 }
         requires fits { start + self.now.count + 2 < 2 ^ 32 }
@@ -162,7 +162,7 @@ impl Line {
         self.tell_pixels(start, start + 2, notes);
     }
 
-    /// Tells the line of a period that begins at the start, and whose first pixel is at column `from`.
+    /// Reports the line of a period that begins at the start, and whose first pixel is at column `from`.
     pub fn tell_pixels(&self, start: u32, from: u32, notes: &mut EventQueue)
         requires room { length notes.old ≤ 1 }
         requires fits { from + self.now.count < 2 ^ 32 }

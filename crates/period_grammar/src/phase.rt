@@ -45,7 +45,7 @@ pub enum Phase {
     Noise,
 }
 
-/// Tells what ends at a control column, and gives what is kept of the control columns that go on.
+/// Reports what ends at a control column, and gives what is kept of the control columns that go on.
 pub fn close(
     phase: Phase,
     n: u32,
@@ -97,7 +97,7 @@ fn tell_word(lane: u8, n: u32, word: Word, notes: &mut EventQueue)
     }
 }
 
-/// Tells the word of a control column that is no control word: there is one at most.
+/// Reports the word of a control column that is no control word: there is one at most.
 pub fn tell_words(n: u32, column: &[Word; 3], notes: &mut EventQueue)
     requires room { length notes.old ≤ 7 }
     requires control { is_control_column (column_of column.now) ≡ true }
@@ -109,7 +109,7 @@ pub fn tell_words(n: u32, column: &[Word; 3], notes: &mut EventQueue)
     tell_word(2, n, column::red(column), notes);
 }
 
-/// Tells what a column tells that is no control column.
+/// Makes the reports at a column that is no control column.
 pub fn go_on(
     phase: Phase,
     n: u32,
@@ -178,7 +178,7 @@ pub fn go_on(
     }
 }
 
-/// Tells what the end tells.
+/// Reports what is left to report at the end.
 pub fn end(
     phase: Phase,
     n: u32,

@@ -1,4 +1,4 @@
--- Lines and packets of the sizes that are told can stand in a conforming list.
+-- Lines and packets of the sizes that are reported can stand in a conforming list.
 use Rattle.std.proofs.Common.{◌≡◌, ℕ, ◌<◌, All, true, List, arith}
 use Rattle.std.specs.Prelude.{nat_lt}
 use Rattle.std.specs.List.{list_all}

@@ -79,14 +79,14 @@ settled_has old now t bits k h few f = grind (arith, settled_size, length-change
 pub last_announced : (bits : ℕ) (last : List ℕ) → changed_from bits (length (lengthened (filled last)) - 8) (lengthened (filled last)) ≡ announcing bits (lengthened (filled last))
 last_announced bits last = grind (arith, length-lengthened, announced_from)
 
--- what stands behind a settled control period
+-- what stands after a settled control period
 pub ended_has : (now : Gathering) (t : Alternation) (d : Data) → Has now ((settled_parts t.turns ++ map column (changed_from (preamble_of d) (length (lengthened (filled t.last)) - 8) (lengthened (filled t.last)))) ++ part_of d ∷ []) → Has now (settled_parts (ended t d).turns)
 ended_has now t d h = grind (arith, last_announced, append_assoc, settled_more)
 
 pub ended_columns : (t : Alternation) (d : Data) (n m : ℕ) → n ≡ size t → m ≡ n + period_columns (period_of d) → m ≡ size_in (ended t d).turns
 ended_columns t d n m a b = let s = size_both t.turns (record { values = t.last; inner = d } ∷ []) in omega arith
 
--- behind a line or an island
+-- after a line or an island
 pub at_ended : (old mid now : Relay) (t : Alternation) (d : Data) (good : Bool) (more : ℕ) → more ≡ period_columns (period_of d)
     → IsSettled old mid t (changed_from (preamble_of d) (length (lengthened (filled t.last)) - 8) (lengthened (filled t.last)))
     → old.faulty ≡ not good → old.island ≡ None → size (ended t d) ≤ 20000000

@@ -82,7 +82,7 @@ fault_turns t b (LongIsland column) = (refl, refl, refl)
 fault_turns t b (Broken column) = (refl, refl, refl)
 fault_turns t b (Guard column) = (refl, refl, refl)
 
--- a refusal for the length, asked of each told list
+-- a refusal for the length, asked of each reported list
 pub long_for_each : (r : Result Unit RelayFault) (old : Relay) (x : Event) → ((reported : List Event) → RelayRepresents old reported → IfErr r (λ fault. fault ≡ Long → 20000000 < columns_of (relayed (reported ++ x ∷ []))))
     → IfErr r (λ fault. fault ≡ Long → IsTooLong old x)
 long_for_each (Ok u) old x h = tt

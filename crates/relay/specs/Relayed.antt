@@ -1,4 +1,5 @@
--- What a relay makes of what it is told: a list of periods that conforms, by six rules. Each rule is a function of lists.
+-- What a relay makes of what is reported to it: a list of periods that conforms, by six rules. Each rule is a function
+-- of lists.
 use Rattle.std.specs.Prelude.{ℕ, ◌+◌, ◌-◌, ◌*◌, ◌%◌, Bool, true, false, ◌||◌, cond, List, [], ◌∷◌, ◌++◌, map, length, take, drop, reverse, replicate, Option, Some, None}
 use Rattle.std.specs.List.{fold}
 use Rattle.bch_block.specs.declared.Verdict.{Verdict}
@@ -48,8 +49,8 @@ abbrev pub with_packet : Judged → Option Begun → Option Begun
 with_packet p None = None
 with_packet p (Some b) = Some (record { opening = b.opening; packets = b.packets ++ p ∷ [] })
 
--- the island that goes on behind an event, where it went on before it or not: an opening begins one, a packet stays in it,
--- anything else ends it
+-- the island that goes on after an event, where it went on before it or not: an opening begins one, a packet stays in
+-- it, anything else ends it
 abbrev pub goes_on : Said → Option Begun → Option Begun
 goes_on (columns r) b = None
 goes_on (pixels bytes) b = None
@@ -83,7 +84,7 @@ closed pair (Some b) =
     let x : WholeIsland = record { opening = b.opening; packets = take 18 b.packets; closing = pair } in
     where_so (is_data_island (data_of x)) (some_island x)
 
--- what an event adds, behind an island that goes on or none
+-- what an event adds, after an island that goes on or none
 abbrev pub adds : Option Begun → Said → List RelayedPart
 adds b (columns r) = where_so (is_run r) (some_columns r)
 adds b (pixels bytes) = where_so (is_video_period bytes) (some_line bytes)
@@ -92,7 +93,7 @@ adds b (carries p v) = []
 adds b (closes pair) = closed pair b
 adds b ends = []
 
--- what is kept of events behind an island that goes on or none
+-- what is kept of events after an island that goes on or none
 unfoldable pub kept_from : Option Begun → List Said → List RelayedPart
 kept_from b [] = []
 kept_from b (x ∷ xs) = adds b x ++ kept_from (goes_on x b) xs
@@ -133,7 +134,7 @@ pub data Data : Type 0 where
   a_line : List ℕ → Data
   an_island : DataIsland → Data
 
--- the values of control columns, and what stands behind them
+-- the values of control columns, and what stands after them
 pub record Turn : Type 0 where
   pub values : List ℕ
   pub inner : Data
@@ -164,8 +165,8 @@ on_turn f x = record { values = f x.values; inner = x.inner }
 abbrev pub on_values : (List ℕ → List ℕ) → Alternation → Alternation
 on_values f t = record { turns = map (on_turn f) t.turns; last = f t.last }
 
--- Where there are no control columns, before the first, between two or behind the last of what is none, twelve of
--- value 0 come.
+-- Where there are no control columns, before the first, between two or after the last of what is none, twelve of
+-- value 0 stand.
 
 abbrev pub filled : List ℕ → List ℕ
 filled [] = replicate 12 0

@@ -1,4 +1,4 @@
--- What a relay keeps of the events that it was told.
+-- What a relay keeps of the events that were reported to it.
 use Rattle.std.specs.Prelude.{◌≡◌, ◌≤◌, ◌<◌, ◌⊎◌, ◌+◌, Bool, true, not, List, [], ◌∷◌, ◌++◌, map, take, length, max, Option, Some, None}
 use Rattle.std.specs.List.{list_all}
 use Rattle.outside_io.specs.Causes.{next}
@@ -44,7 +44,7 @@ pub record IsAt (relay : Relay) (t : Alternation) (b : Option Begun) (good : Boo
   pub fits : Fits b
   pub faulty : relay.faulty ≡ not good
 
--- a relay stands for a told list where it keeps what that list makes
+-- a relay stands for a reported list where it keeps what that list makes
 abbrev pub RelayRepresents : Relay → List Event → Type 0
 RelayRepresents relay reported = IsAt relay (turns_in reported) (begun_in reported) (faultless reported)
 

@@ -9,7 +9,7 @@ use Rattle.relay.specs.Relayed.{Begun, Alternation}
 use Rattle.relay.specs.Sizes.{size}
 use Rattle.relay.specs.Standing.{settled_parts, IsAt}
 
--- it keeps this behind the event, or it refused the event, for its length only where it is too long
+-- it keeps this after the event, or it refused the event, for its length only where it is too long
 abbrev pub Steps : {A : Type 0} → Relay → Result A RelayFault → Alternation → Option Begun → Bool → Type 0
 Steps now result t b good = OnOk result (IsAt now t b good) × IfErr result (λ fault. fault ≡ Long → 20000000 < size t)
 

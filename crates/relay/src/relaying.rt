@@ -50,13 +50,13 @@ impl From<NoMemory> for RelayFault {
     }
 }
 
-/// Makes a conforming stream of what it is told: it leaves out what is no whole period, and lengthens and announces what
-/// control periods it needs.
+/// Makes a conforming stream of what is reported to it: it leaves out what is no whole period, and lengthens and
+/// announces what control periods it needs.
 #[derive(Drop)]
 pub struct Relay {
     /// The settled periods, up to the last one that is no control period.
     pub(crate) whole: Gathering,
-    /// The control period behind them, as it was told so far.
+    /// The control period after them, as it was reported so far.
     pub(crate) period: OpenRuns,
     /// How many columns it has.
     pub(crate) period_columns: u32,
@@ -64,7 +64,7 @@ pub struct Relay {
     pub(crate) columns: u32,
     /// The data island that was opened and not closed, its first eighteen packets.
     pub(crate) island: Option<Island>,
-    /// Whether a fault was told.
+    /// Whether a fault was reported.
     pub(crate) faulty: bool,
     /// Why it failed.
     pub(crate) trouble: Option<RelayFault>,
@@ -96,7 +96,7 @@ fn island_columns(island: &Island) -> u32
 }
 
 impl Relay {
-    /// Nothing was told. It keeps the allocator for its growth.
+    /// Nothing was reported. It keeps the allocator for its growth.
     pub fn open(alloc: Global) -> Relay
         ensures stands { RelayRepresents result [] }
         ensures trouble { result.trouble ≡ None }
@@ -120,7 +120,7 @@ impl Relay {
         self.trouble
     }
 
-    /// Whether a fault was told.
+    /// Whether a fault was reported.
     pub fn is_faulty(&self) -> bool
         ensures { result ≡ self.now.faulty }
     {
@@ -272,7 +272,7 @@ impl Relay {
         }
     }
 
-    /// The stream of all that was told. On a refusal it is dropped.
+    /// The stream of all that was reported. On a refusal it is dropped.
     pub fn take(self) -> Result<Stream, NoMemory>
         requires { (reported : List Event) × RelayRepresents self reported }
         ensures { (reported : List Event) → RelayRepresents self reported → IfOk result (λ stream. stream ≡ relayed reported) }
@@ -315,7 +315,7 @@ impl Ear for Relay {
 
     ghost faults = { λ r. r.faults };
 
-    // It stands for each list that it stood for, and these events behind it.
+    // It stands for each list that it stood for, and these events after it.
     ghost took = { Took };
 
     // It has trouble: what is relayed would be too long, or memory was wanting.

@@ -22,7 +22,7 @@ use Rattle.relay.proofs.Gaining.{faults_both, kept_both}
 use Rattle.relay_laws.proofs.Quiet.{Quiet, quiet_both, quiet_before, quiet_preamble, quiet_guards, quiet_packet, quiet_codes, quiet_words}
 use Rattle.relay_laws.proofs.Fitting.{line_fits, island_fits, few_packets, as_many_packets}
 
--- what is kept of events behind an island that goes on or none, and the island that goes on behind them
+-- what is kept of events after an island that goes on or none, and the island that goes on after them
 abbrev keeps : Option Begun → List Event → List RelayedPart
 keeps b ts = kept_from b (without_faults ts)
 
@@ -87,7 +87,7 @@ quiet_video : (b : ℕ) (before rs : List Column) → Quiet (open_video_row b be
 unfolding open_video_row without_faults
 quiet_video b before rs = grind (arith, quiet_both, quiet_preamble, quiet_guards)
 
--- what is said of a line that came whole or not
+-- what is said of a line that was received whole or not
 abbrev line_said : Bool → List ℕ → List Said
 line_said true bytes = pixels bytes ∷ []
 line_said false bytes = ends ∷ []
@@ -118,7 +118,7 @@ video_said : (b i : ℕ) (before : List Column) (bytes : List ℕ) (ss rs : List
 unfolding video_reported video_row
 video_said b i before bytes ss rs = grind (arith, quiet_before, quiet_video, reported_line, same_lt, pixel_count)
 
--- What is kept of a period's row, and that no island goes on behind it or nothing came of the next period.
+-- What is kept of a period's row, and that no island goes on after it or nothing was received of the next period.
 
 record IsRow (m : ℕ) (p : Period) (ss rs : List Column) (row : List Event) : Type 0 where
   keeps_it : keeps None row ≡ period_received m p ss rs
@@ -215,7 +215,7 @@ closed_whole f x ss rs h a b =
     let few = leb-true (length x.packets) 18 (few_packets x h) in
     grind (arith, first_packets, island_fits)
 
--- the row of an island of which two columns came, or more
+-- the row of an island of which two columns were received, or more
 island_opens : (j i : ℕ) (before : List Column) (x : DataIsland) (ss rs : List Column) → 2 ≤ length rs
     → without_faults (island_reported j (suc (suc i)) before x ss rs) ≡ opens (digits_of rs) ∷ without_faults (packets_reported cut (j + 2) x.packets i (drop 2 ss) (drop 2 rs))
 unfolding island_reported

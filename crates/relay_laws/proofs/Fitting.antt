@@ -1,4 +1,4 @@
--- Lines and islands that came can stand in a conforming list.
+-- Lines and islands that were received can stand in a conforming list.
 use Rattle.std.proofs.Common.{◌≡◌, ℕ, suc, ◌+◌, ◌*◌, ◌/◌, ◌%◌, ◌≤◌, Bool, true, cond, ◌&&◌, ◌==◌, List, [], ◌∷◌, length, map, take, drop, refl, ap, arith, eq-eqb}
 use Rattle.std.specs.Prelude.{nat_lt, nat_le}
 use Rattle.std.specs.List.{list_all}

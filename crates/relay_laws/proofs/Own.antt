@@ -362,7 +362,7 @@ turn_same runs d c h =
 abbrev at_turns : List Turn → List ℕ → Alternation
 at_turns ts vs = record { turns = ts; last = vs }
 
--- behind a turn more
+-- after a turn more
 turned : (ts : List Turn) (runs : List ControlRun) (d : Data) (ps : List Period) → is_control_period runs ≡ true → has_preamble (preamble_of d) (values_of runs) ≡ true
     → front (ts ++ record { values = values_of runs; inner = d } ∷ []) ++ ps ≡ front ts ++ control (longest (values_of runs)) ∷ (period_of d ∷ ps)
 turned ts runs d ps c h =

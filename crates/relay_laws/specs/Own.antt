@@ -31,7 +31,7 @@ OwnRelayed =
     → (a m : ℕ) → a + 12 ≤ length (values_of runs) → length cs ≤ a + m
     → conformed (reception (control runs ∷ ps) cs cs a m) ≡ normal (cut_first a (control runs ∷ ps))
 
--- what was relayed, relayed again: from the last twelve columns of its first control period on it comes back
+-- what was relayed, relayed again: from the last twelve columns of its first control period on it is preserved
 abbrev pub RelayedAgain : Type 0
 RelayedAgain =
     (reported : List Event) (runs : List ControlRun) (ps : List Period) → relayed reported ≡ control runs ∷ ps

@@ -1,5 +1,6 @@
--- What is kept of the account of periods that were sent, as their columns came: period by period, each as it was sent but
--- for what came unlike. What was not told whole of the first m columns is left out. Rules 2 to 6 make of it what is relayed.
+-- What is kept of the account of periods that were sent, as their columns were received: period by period, each as it
+-- was sent but for what was received unlike. What was not reported whole of the first m columns is left out. Rules 2 to
+-- 6 make of it what is relayed.
 use Rattle.std.specs.Prelude.{◌≡◌, ℕ, ◌-◌, ◌*◌, cond, List, [], ◌∷◌, ◌++◌, length, take, drop, nat_lt, nat_le}
 use Rattle.tmds_word.specs.Column.{Column}
 use Rattle.island_pack.specs.Periods.{SyncPair, DataIsland, Period, control, video, island, pixels_of, period_columns, columns_of}
@@ -16,7 +17,8 @@ unfoldable pub runs_kept : List Run → List RelayedPart
 runs_kept [] = []
 runs_kept (columns v cs ∷ rs) = some_columns (record { value = v; count = length cs }) ∷ runs_kept rs
 
--- packets as sent, or as they are taken where more than one word came unlike, with the verdicts on what came
+-- packets as sent, or as they are taken where more than one word was received unlike, with the verdicts on
+-- what was received
 unfoldable pub packets_received : List Packet → List Column → List Column → List Judged
 packets_received [] ss rs = []
 packets_received (p ∷ ps) ss rs =
@@ -34,7 +36,7 @@ island_received x ss rs = record {
   closing = digits_of (drop (32 * length x.packets) (drop 2 rs));
 }
 
--- a period of which m columns came: a line is told at the column behind it, an island at its last column
+-- a period of which m columns were received: a line is reported at the column after it, an island at its last column
 unfoldable pub period_received : ℕ → Period → List Column → List Column → List RelayedPart
 period_received m (control sent) ss rs = runs_kept (runs (take m rs))
 period_received m (video bytes) ss rs = cond (nat_lt (period_columns (video bytes)) m) (some_line (pixel_bytes (pixels_of bytes) (drop 2 ss) (drop 2 rs)) ∷ []) []

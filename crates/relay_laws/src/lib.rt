@@ -9,12 +9,12 @@ ghost use Rattle.relay.specs.Changed.{AnnouncedFrom, ChangedNone};
 ghost use Rattle.relay_laws.specs.Spelled.{OneSpelling, FreeSpellingsAgree, FreeSpellingAgrees};
 ghost use Rattle.relay.specs.Standing.{RepresentsFew};
 
-/// Whatever is told, what is relayed conforms.
+/// Whatever is reported, what is relayed conforms.
 pub fn relayed_conforms()
     ensures { RelayedConforms }
 {}
 
-/// What is told further takes no columns away.
+/// What is reported further takes no columns away.
 pub fn columns_grow()
     ensures { ColumnsGrow }
 {}
@@ -24,7 +24,7 @@ pub fn gained()
     ensures { Gained }
 {}
 
-/// What is relayed of an account is what came of the periods that were sent.
+/// What is relayed of an account is what was received of the periods that were sent.
 pub fn relayed_account()
     ensures { RelayedAccount }
 {
@@ -44,7 +44,7 @@ pub fn own_relayed()
     island_pack::laws::carried_is_taken();
 }
 
-/// What was relayed comes back when it is relayed again.
+/// What was relayed is preserved when it is relayed again.
 pub fn relayed_again()
     ensures { RelayedAgain }
 {

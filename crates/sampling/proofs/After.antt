@@ -1,4 +1,4 @@
--- The frames that are told of a raster are those behind its first frame, in order.
+-- The frames that are reported of a raster are those after its first frame, in order.
 use Rattle.std.proofs.Common.{◌≡◌, ◌∙◌, ℕ, suc, ◌+◌, ◌-◌, ◌*◌, ◌≤◌, ◌<◌, Bool, true, false, cond, List, [], ◌∷◌, ◌++◌, length, take, drop, min, refl, ap, ap₂, sym, append_assoc, append-nil, arith}
 use Rattle.std.specs.Prelude.{max, None}
 use Rattle.std.proofs.Math.Nat.{suc-mul}
@@ -31,11 +31,11 @@ none_received mode received a e i j le =
 first_past : (mode : Mode) (received : List Column) (a e : ℕ) → back_at mode 0 ≤ a → counts mode received a e 0 ≡ false
 first_past mode received a e past = none_received mode received a e 0 (back_at mode 0) (omega (arith, past))
 
--- where a frame is told, columns came behind its rows
+-- where a frame is reported, columns were received after its rows
 rows_before : (mode : Mode) (received : List Column) (a e p : ℕ) → is_reported mode received a e p ≡ true → front_at mode p ≤ e
 rows_before mode received a e p reported = grind (arith, cases_lt, none_received)
 
--- rows that came, and the frame behind them
+-- rows that were received, and the frame after them
 rows_reported : (mode : Mode) → IsMode mode → (sent received : List Column) (e p y : ℕ) (rows before : List (List ℕ)) (later : List Listed) → p + length rows * total mode.across ≤ e
     → reported_frames before (rows_received mode sent received e p y rows ++ (whole_frame mode ∷ later)) ≡ (before ++ rows_as_received mode sent received p rows) ∷ reported_frames [] later
 unfolding reported_frames rows_received rows_as_received
@@ -73,7 +73,7 @@ reported_after_first mode first frames fault sent received reception a m end le 
     ∙ ap (λ (t : Bool). reported_frames [] (cond t (rows ++ cond (is_reported mode received a (a + m) 0) (whole_frame mode ∷ []) []) [] ++ later)) (first_past mode received a (a + m) past)
     ∙ frames_reported mode (good_mode mode (first ∷ frames) fault) sent received a (a + m) (next_at mode 0) frames (good_frames mode (first ∷ frames) fault).1 heard
 
--- the same of a content, by its frames behind the first
+-- the same of a content, by its frames after the first
 content_reported : (mode : Mode) (content : List Frame) → 1 ≤ length content → raster_fault mode content ≡ None → (sent received : List Column) → ReceivedOf (raster_of mode content) sent received
     → (a m : ℕ) → EndsControl (raster_of mode content) (a + 11) → a + m ≤ length received → back_at mode 0 ≤ a → AreHeard mode received a (a + m) (next_at mode 0) (drop 1 content)
     → reported_frames [] (listed (heard (take m (drop a received)))) ≡ frames_as_received mode sent received (next_at mode 0) (drop 1 content)

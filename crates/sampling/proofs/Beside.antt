@@ -1,4 +1,4 @@
--- Told frames beside the frames of the generator's content.
+-- Reported frames beside the frames of the generator's content.
 use Rattle.std.proofs.Common.{◌≡◌, ◌∙◌, ℕ, zero, suc, ◌+◌, ◌≤◌, ◌==◌, cond, List, [], ◌∷◌, map, length, drop, refl, ap, ap₂, sym, arith}
 use Rattle.std.specs.Prelude.{sum_by, zip}
 use Rattle.std.specs.List.{AllByRecursion, enumerate_from}

@@ -1,4 +1,4 @@
--- The lines of counts that are put one behind another.
+-- The lines of counts that are put one after another.
 use Rattle.std.proofs.Common.{◌≡◌, ◌∙◌, ℕ, List, [], ◌∷◌, ◌++◌, ap, sym, append-nil, append_assoc}
 use Rattle.listing_writer.specs.ContentText.{text_of}
 use Rattle.listing_writer.specs.GrowingContent.{text_append}

@@ -1,4 +1,4 @@
--- What is counted, once one event more was told.
+-- What is counted, once one event more was reported.
 use Rattle.std.proofs.Common.{◌≡◌, ◌∙◌, ℕ, ◌+◌, ◌-◌, ◌^◌, Bool, true, false, cond, List, [], ◌∷◌, ◌++◌, ◌⊎◌, inl, inr, Option, Some, None, min, ap, sym, subst, append-nil, arith}
 use Rattle.std.specs.Prelude.{is_some, slice_index}
 use Rattle.std.proofs.lemmas.List.{map-append}

@@ -104,7 +104,7 @@ no_row pixels note counts = uncounted_row note.counts note.ragged _ note.row cou
 
 -- ---- packets
 
--- of these lines so many tell samples, and none is of another kind
+-- of these lines so many give samples, and none is of another kind
 abbrev Tell : List (List ℕ) → ℕ → Type 0
 Tell lines samples = kinds_of 0 lines ≡ sampled 0 samples
 
@@ -249,7 +249,7 @@ passed t n h = grind arith
 passed_other : (t : Bool) (m n : ℕ) → t ≡ false → n ≡ 0 → (if t then m else n) ≡ 0
 passed_other t m n h k = grind arith
 
--- no other packet tells samples
+-- no other packet gives samples
 pub no_samples : (p : Packet) (v : PacketVerdicts) → (slice_index p.header 0 ≡ 2 → ⊥) → 0 ≡ samples_in p v
 no_samples p v unlike =
     let t = slice_index p.header 0 in
@@ -265,7 +265,7 @@ find_same f g (x ∷ xs) same = ap₂ (λ (b : Bool) (r : Option ℕ). if b then
 lost_by : (lost : Option ℕ) (r : Result (List SampleNote) AudioFault) → (if is_some lost then 0 else samples_read (audio.unless_lost lost r)) ≡ samples_read (audio.unless_lost lost r)
 lost_by lost r = grind arith
 
--- a packet of samples tells those that are read
+-- a packet of samples gives those that are read
 pub all_samples : (p : Packet) (v : PacketVerdicts) → slice_index p.header 0 ≡ 2 → samples_read (samples_of p v) ≡ samples_in p v
 unfolding first_lost
 all_samples p v is = grind (arith, lost_by, find_same, is_lost_same)

@@ -1,4 +1,5 @@
--- What the counts say of the generator's content: a told frame is compared with the frame of the content that it is.
+-- What the counts say of the generator's content: a reported frame is compared with the frame of the content
+-- that it is.
 use Rattle.std.specs.Prelude.{◌≡◌, ◌≤◌, ⊤, ℕ, ◌+◌, true, List, [], ◌∷◌, length, take, drop, sum_by, zip, None}
 use Rattle.std.specs.List.{AllByRecursion}
 use Rattle.tmds_word.specs.Column.{Column}
@@ -18,7 +19,7 @@ use Rattle.sampling.specs.Sampled.{sample_mode}
 abbrev pub unlike_beside : List ℕ × List ℕ → ℕ
 unlike_beside (bytes, others) = unlike bytes others
 
--- and of the rows of a told frame, from those of the frame beside it
+-- and of the rows of a reported frame, from those of the frame beside it
 unfoldable pub unlike_picture : List (List ℕ) × Frame → ℕ
 unlike_picture (rows, f) = sum_by unlike_beside (zip rows f.rows)
 
@@ -27,32 +28,33 @@ pub record FitsPicture (rows : List (List ℕ)) : Type 0 where
   pub few : length rows ≤ 480
   pub short : AllByRecursion (λ bytes. length bytes ≤ 1920) rows
 
--- of told frames, no more than the content has behind its first and no larger, so many bytes differ from the generator's as
--- differ from those of the content's frames behind its first, frame beside frame and row beside row
+-- of reported frames, no more than the content has after its first and no larger, so many bytes differ from the
+-- generator's as differ from those of the content's frames after its first, frame beside frame and row beside row
 abbrev pub ReportedBesideContent : Type 0
 ReportedBesideContent =
     (n : ℕ) (content : List Frame) → IsGenerated n content
     → (reported : List (List (List ℕ))) → length reported + 1 ≤ n → AllByRecursion FitsPicture reported
     → unlike_reported reported ≡ sum_by unlike_picture (zip reported (drop 1 content))
 
--- rows as they came, the first of them in the line that begins at column p: each as sent where its words came as sent, else as
--- the words that came say
+-- rows as received, the first of them in the line that begins at column p: each as sent where its words were received
+-- as sent, else as the received words say
 unfoldable pub rows_as_received : Mode → List Column → List Column → ℕ → List (List ℕ) → List (List ℕ)
 rows_as_received mode sent received p [] = []
 rows_as_received mode sent received p (bytes ∷ rows) = row_received sent received (p + row_at mode) bytes ∷ rows_as_received mode sent received (p + total mode.across) rows
 
--- the rows of frames as they came, the first of which begins at column p
+-- the rows of frames as they were received, the first of which begins at column p
 unfoldable pub frames_as_received : Mode → List Column → List Column → ℕ → List Frame → List (List (List ℕ))
 frames_as_received mode sent received p [] = []
 frames_as_received mode sent received p (f ∷ frames) = rows_as_received mode sent received (active_at mode p) f.rows ∷ frames_as_received mode sent received (next_at mode p) frames
 
--- three neighbouring columns of the sync lines of each of these frames came, and three behind its rows
+-- three neighbouring columns of the sync lines of each of these frames were received, and three after its rows
 abbrev pub AreHeard : Mode → List Column → ℕ → ℕ → ℕ → List Frame → Type 0
 AreHeard mode received a e p [] = ⊤
 AreHeard mode received a e p (f ∷ frames) = (counts mode received a e p ≡ true) × (is_reported mode received a e p ≡ true) × AreHeard mode received a e (next_at mode p) frames
 
--- of what is heard of a raster from a column behind the sync lines of its first frame on, the frames that are told are those
--- behind the first, one after another, with their rows as they came: wherever sparse damage lies, where their sync lines are heard
+-- of what is heard of a raster from a column after the sync lines of its first frame on, the frames that are reported
+-- are those after the first, one after another, with their rows as received: wherever sparse damage lies, where their
+-- sync lines are heard
 abbrev pub ReportedAfterFirst : Type 0
 ReportedAfterFirst =
     (mode : Mode) (first : Frame) (frames : List Frame) → raster_fault mode (first ∷ frames) ≡ None

@@ -21,7 +21,7 @@ abbrev pub is_packet : Event → Bool
 is_packet (packet p verdicts column) = true
 is_packet _ = false
 
--- the rows of each told frame; those behind the last frame are of none
+-- the rows of each reported frame; those after the last frame are of none
 unfoldable pub reported_frames : List (List ℕ) → List Listed → List (List (List ℕ))
 reported_frames rows [] = []
 reported_frames rows (row bytes note ∷ later) = reported_frames (rows ++ bytes ∷ []) later
@@ -40,11 +40,12 @@ unlike_row f (y, bytes) = unlike bytes (row_bytes f y (length bytes))
 unfoldable pub unlike_frame : ℕ × List (List ℕ) → ℕ
 unlike_frame (f, rows) = sum_by (unlike_row f) (enumerate_from 0 rows)
 
--- and of told frames. The capture begins in the generator's frame 0, so that they are its frames from frame 1 on, in order.
+-- and of reported frames. The capture begins in the generator's frame 0, so that they are its frames from frame 1 on,
+-- in order.
 unfoldable pub unlike_reported : List (List (List ℕ)) → ℕ
 unlike_reported frames = sum_by unlike_frame (enumerate_from 1 frames)
 
--- the ten counts of so many columns that tell these events
+-- the ten counts of so many columns of which these events are reported
 abbrev pub counts_of : ℕ → List Event → Counts
 counts_of columns events =
     let lines = content_lines events in

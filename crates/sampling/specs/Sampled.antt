@@ -1,4 +1,5 @@
--- The sample: the generator's content is made into a capture, the capture is damaged and recovered, and what came is counted.
+-- The sample: the generator's content is made into a capture, the capture is damaged and recovered, and what was
+-- received is counted.
 use Rattle.std.specs.Prelude.{◌≡◌, ℕ, List, [], ◌∷◌, Bool, false, None}
 use Rattle.tmds_word.specs.Column.{Column}
 use Rattle.island_pack.specs.Spelling.{Spells}

@@ -1,4 +1,4 @@
--- What a tally keeps of all that was told.
+-- What a tally keeps of all that was reported.
 use Rattle.std.proofs.Common.{◌≡◌, ℕ, suc, ◌%◌, List, [], ◌∷◌, ◌++◌, length, sym, subst, append_assoc, append-nil}
 use Rattle.std.specs.Prelude.{codes, count_by}
 use Rattle.frame_build.specs.FramesRepresent.{FramesRepresent}
@@ -11,7 +11,7 @@ use Rattle.sampling.specs.declared.pictures.Pictures.{Pictures}
 use Rattle.sampling.specs.declared.counter.Counter.{Counter}
 use Rattle.sampling.specs.declared.tally.Tally.{Tally}
 
--- the rows behind the last frame, after rows that no frame has ended yet
+-- the rows after the last frame, after rows that no frame has ended yet
 unfoldable pub open_rows : List (List ℕ) → List Listed → List (List ℕ)
 open_rows rows [] = rows
 open_rows rows (row bytes note ∷ later) = open_rows (rows ++ bytes ∷ []) later
@@ -28,7 +28,7 @@ pub record Shows (pictures : Pictures) (listed : List Listed) : Type 0 where
   pub frame : pictures.frame ≡ next_frame listed % 256
   pub row : pictures.row ≡ length (open_rows [] listed) % 256
 
--- the counts are those of all that was told, the oldest first
+-- the counts are those of all that was reported, the oldest first
 pub record Counted (counter : Counter) (reported : List Event) : Type 0 where
   pub heard : FramesRepresent counter.heard (frame_events reported)
   pub pictures : Shows counter.pictures (listed reported)
@@ -46,11 +46,11 @@ pub record Stands (tally : Tally) (reported : List Event) : Type 0 where
   pub faults : tally.lister.faults ≡ kept (fault_line_count (content_lines reported))
   pub counted : Counted tally.counter reported
 
--- told nothing more
+-- nothing more was reported
 pub stands_none : (x : Tally) (reported : List Event) → Stands x reported → Stands x (reported ++ [])
 stands_none x reported stands = subst (Stands x) (sym (append-nil reported)) stands
 
--- told some things and then others
+-- some things were reported and then others
 pub stands_both : (x y z : Tally) (h k : List Event) → ((reported : List Event) → Stands x reported → Stands y (reported ++ h)) → ((reported : List Event) → Stands y reported → Stands z (reported ++ k))
     → (reported : List Event) → Stands x reported → Stands z (reported ++ (h ++ k))
 stands_both x y z h k first then reported stands = subst (Stands z) (append_assoc reported h k) (then (reported ++ h) (first reported stands))

@@ -1,4 +1,4 @@
-//! Counts the lines of each kind that what is told has, and the bytes that differ.
+//! Counts the lines of each kind that what is reported has, and the bytes that differ.
 ghost use Rattle.std.specs.Prelude.{◌≡◌, ℕ, ◌++◌, ◌∷◌, [], List, codes};
 ghost use Rattle.frame_build.specs.FrameEvent.{FrameEvent};
 ghost use Rattle.frame_build.specs.FramesRepresent.{FramesRepresent};
@@ -16,7 +16,8 @@ use frame_build::laws::word_faults_change_nothing;
 use island_pack::PacketRef;
 use period_grammar::{EventRef, Fault};
 
-/// All that is counted of what was told, but for the other fault lines. Each count stands still at the greatest u64.
+/// All that is counted of what was reported, but for the other fault lines. Each count stands still at
+/// the greatest u64.
 #[derive(Drop)]
 pub(crate) struct Counter {
     heard: Frames,
@@ -31,7 +32,7 @@ pub(crate) struct Counter {
 }
 
 impl Counter {
-    /// Nothing was told.
+    /// Nothing was reported.
     pub(crate) fn new() -> Counter
         ensures { Counted result [] }
     {
@@ -48,7 +49,7 @@ impl Counter {
         }
     }
 
-    /// How many bytes of rows of told frames are not the generator's.
+    /// How many bytes of rows of reported frames are not the generator's.
     pub(crate) fn differ(&self) -> u64
         ensures { result ≡ self.now.pictures.differ }
     {

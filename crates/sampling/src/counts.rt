@@ -19,11 +19,11 @@ type Text = ArrayVec<u8, 512>;
 pub struct Counts {
     /// The columns from the first full alignment on.
     pub columns: u64,
-    /// The frames that were told.
+    /// The frames that were reported.
     pub frames: u64,
     /// The rows that were listed.
     pub rows: u64,
-    /// The packets that were told.
+    /// The packets that were reported.
     pub packets: u64,
     /// The samples that were listed.
     pub samples: u64,
@@ -35,7 +35,7 @@ pub struct Counts {
     pub code: u64,
     /// All other fault lines.
     pub other: u64,
-    /// The bytes of rows of told frames that are not the generator's.
+    /// The bytes of rows of reported frames that are not the generator's.
     pub differ: u64,
 }
 

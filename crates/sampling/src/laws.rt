@@ -1,14 +1,14 @@
 //! What the counts say of the generator's content. The functions do nothing: what they ensure are the laws.
 ghost use Rattle.sampling.specs.CountLaws.{GeneratedInOrder, ReportedAfterFirst, ReportedBesideContent};
 
-/// The bytes of told frames that are not the generator's are those that differ from the frames of its content behind the
-/// first, frame beside frame: where no more frames are told than those are, and none is larger.
+/// The bytes of reported frames that are not the generator's are those that differ from the frames of its content after
+/// the first, frame beside frame: where no more frames are reported than those are, and none is larger.
 pub fn reported_beside_content()
     ensures { ReportedBesideContent }
 {}
 
-/// Of what is heard of a raster from a column behind the sync lines of its first frame on, the frames told are those behind
-/// the first, in order, where their sync lines are heard: wherever sparse damage lies.
+/// Of what is heard of a raster from a column after the sync lines of its first frame on, the frames reported are those
+/// after the first, in order, where their sync lines are heard: wherever sparse damage lies.
 pub fn reported_after_first()
     ensures { ReportedAfterFirst }
 {}

@@ -1,4 +1,4 @@
-//! What comes of the generator's content once it was sent, damaged and recovered.
+//! What becomes of the generator's content once it was sent, damaged and recovered.
 #![tactic(auto)]
 
 mod counter;

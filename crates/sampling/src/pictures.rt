@@ -7,13 +7,13 @@ ghost use Rattle.listing_writer.specs.Listed.{Listed, row, frame};
 ghost use Rattle.sampling.specs.Counts.{unlike};
 ghost use Rattle.sampling.specs.Tallies.{Shows};
 
-/// How many bytes differ from the generator's, where the first frame that is told is its frame 1. Both counts stand
+/// How many bytes differ from the generator's, where the first frame that is reported is its frame 1. Both counts stand
 /// still at the greatest u64. The generator's bytes repeat after 256 frames and after 256 rows.
 #[derive(Drop)]
 pub(crate) struct Pictures {
-    /// In rows of told frames.
+    /// In rows of reported frames.
     differ: u64,
-    /// In the rows behind the last of them.
+    /// In the rows after the last of them.
     pending: u64,
     /// The number of the frame of the next row, modulo 256.
     frame: u8,
@@ -34,7 +34,7 @@ impl Pictures {
         }
     }
 
-    /// How many bytes of told frames differ.
+    /// How many bytes of reported frames differ.
     pub(crate) fn differ(&self) -> u64
         ensures { result ≡ self.now.differ }
     {
@@ -51,7 +51,7 @@ impl Pictures {
         self.row = self.row.wrapping_add(1);
     }
 
-    /// A frame is told.
+    /// A frame is reported.
     pub(crate) fn frame(&mut self)
         ensures { (listed : List Listed) (note : FrameNote) → Shows self.old listed → Shows self.new (listed ++ frame note ∷ []) }
     {

@@ -1,4 +1,4 @@
-//! Counts what is told of the generator's content.
+//! Counts what is reported of the generator's content.
 ghost use Rattle.std.specs.Prelude.{◌≡◌, ◌+◌, ◌-◌, ◌++◌, [], List};
 ghost use Rattle.period_grammar.specs.Events.{Event};
 ghost use Rattle.sampling.specs.Counts.{counts_of};
@@ -11,7 +11,7 @@ use listing_writer::ContentLister;
 use outside_io::{Failed, SteadySink};
 use period_grammar::EventRef;
 
-/// Counts what it is told of the generator's content. It takes no memory.
+/// Counts what is reported to it of the generator's content. It takes no memory.
 #[derive(Drop)]
 pub struct Tally<'a> {
     /// Counts the fault lines. What it writes is not kept.
@@ -20,7 +20,7 @@ pub struct Tally<'a> {
 }
 
 impl<'a> Tally<'a> {
-    /// Nothing was told.
+    /// Nothing was reported.
     pub fn open(sink: &'a mut SteadySink) -> Tally<'a>
         ensures { Stands result [] }
     {
@@ -67,7 +67,7 @@ impl<'a> Ear for Tally<'a> {
 
     ghost faults = { λ _. 0 };
 
-    // What stood for all that was told before stands for the events too.
+    // What stood for all that was reported before stands for the events too.
     ghost took = { λ x y events. (reported : List Event) → Stands x reported → Stands y (reported ++ events) };
 
     // A steady sink never fails.

@@ -1,4 +1,4 @@
-//! Events that are told, with counts that were worked out by hand, and the text of counts.
+//! Events that are reported, with counts that were worked out by hand, and the text of counts.
 ghost use Rattle.std.specs.Prelude.{◌≡◌, ◌≤◌, ◌%◌, length};
 
 use crate::{Counts, Tally, write_counts};
@@ -10,7 +10,7 @@ use period_grammar::{EventRef, Fault};
 use std::process::Abort;
 use std::test::Fail;
 
-/// An event that is told.
+/// An event that is reported.
 #[derive(Clone, Copy)]
 enum Step {
     /// Control columns of a value.
@@ -64,7 +64,7 @@ const THINGS: [Step; 22] = [
 ];
 
 /// The line of one row is ragged, a packet has another layout, and a sample an odd side: with the faults of a word, of a
-/// lost block and of a short period these are the six others. The last row is of no told frame.
+/// lost block and of a short period these are the six others. The last row is of no reported frame.
 const COUNTS: Counts = Counts {
     columns: 1000,
     frames: 1,
@@ -78,7 +78,7 @@ const COUNTS: Counts = Counts {
     differ: 3,
 };
 
-/// Tells an ear a packet at column 14, with this verdict on its first block.
+/// Reports to an ear a packet at column 14, with this verdict on its first block.
 fn tell_packet<E: Ear>(
     ear: &mut E,
     header: [u8; 3],
@@ -109,7 +109,7 @@ fn tell_packet<E: Ear>(
     ear.hear(EventRef::Packet { packet, column: 14 })
 }
 
-/// Tells an ear a line of whole pixels.
+/// Reports to an ear a line of whole pixels.
 fn tell_line<E: Ear>(ear: &mut E, pixels: &[u8]) -> Result<(), Failed>
     requires whole { length pixels.now % 3 ≡ 0 }
     requires some { 3 ≤ length pixels.now }
@@ -118,12 +118,12 @@ fn tell_line<E: Ear>(ear: &mut E, pixels: &[u8]) -> Result<(), Failed>
     ear.hear(EventRef::Line { pixels })
 }
 
-/// Tells an ear a fault.
+/// Reports to an ear a fault.
 fn tell_fault<E: Ear>(ear: &mut E, fault: Fault) -> Result<(), Failed> {
     ear.hear(EventRef::Fault(fault))
 }
 
-/// Tells an ear one event.
+/// Reports to an ear one event.
 fn tell<E: Ear>(rt: &impl Abort, ear: &mut E, step: Step) {
     let answer = match step {
         Step::Run(value, count) => {

@@ -20,7 +20,7 @@ err_map r h k = grind arith
 pub ok_map : {T E P Q : Type 0} (r : Result T E) → (P → Q) → OnOk r P → OnOk r Q
 ok_map r h k = grind arith
 
--- a front of columns of their own, behind columns that are whole
+-- a front of columns of their own, after columns that are whole
 pub front_after : (old mid new done : List Column) (Own Whole : List Column → Type 0) → mid ≡ old ++ done → TookFront mid new Own
     → ((own : List Column) → Own own → (more : List Column) × Whole (done ++ (own ++ more))) → TookFront old new Whole
 front_after old mid new done Own Whole was front next = grind (arith, append_assoc, joined)

@@ -7,7 +7,7 @@ use Rattle.source_end.specs.Raster.{up_from}
 use Rattle.source_end.specs.Generator.{row_byte, row_bytes, first_rows, sound_packet, first_sounds, frame_at, first_frames, clock_packet, Adds}
 use Rattle.source_end.proofs.RasterRuns.{up_next}
 
--- One more of a list told by place.
+-- One more of a list given by place.
 
 map_more : {A : Type 0} (f : ℕ → A) (x n : ℕ) → map f (up_from x (n + 1)) ≡ map f (up_from x n) ++ f (x + n) ∷ []
 map_more f x n = ap (map f) (up_next x n) ∙ map-append f (up_from x n) ((x + n) ∷ [])

@@ -19,7 +19,7 @@ use Rattle.source_end.proofs.Spellings.{map_replicate, joined}
 use Rattle.source_end.proofs.Packets.{SpellsPackets-append, packets_in_range}
 use Rattle.source_end.proofs.Streams.{Spells-append}
 
--- A list with one item seen, and what stands behind it.
+-- A list with one item seen, and what stands after it.
 pub parts_at : {A : Type 0} (xs : List A) (i : ℕ) (d : A) → i < length xs → take i xs ++ (get_or xs i d ∷ drop (suc i) xs) ≡ xs
 parts_at xs i d lt = ap (λ ys. take i xs ++ ys) (sym (drop-cons xs i d lt)) ∙ take-append-drop i xs
 
@@ -72,7 +72,7 @@ pixels_front bytes guard old mid new is was front =
     front_after old mid new (replicate 2 guard) (SpellsPixels (pixels_of bytes)) (SpellsVideo bytes) was front
     (λ cs own. ([], (cs, ap₂ (λ (g : Column) (ds : List Column). g ∷ (g ∷ ds)) is (append-nil cs), own)))
 
--- some pixels are coded, and those behind them can be
+-- some pixels are coded, and those after them can be
 pub coded_front : (pixels : List Pixel) (upto : ℕ) (old mid new done : List Column) (Own : List Column → Type 0) → mid ≡ old ++ done → TookFront mid new Own
     → ((own : List Column) → Own own → SpellsPixels (take upto pixels) (done ++ own)) → TookFront old new (SpellsPixels pixels)
 coded_front pixels upto old mid new done Own was front coded =

@@ -177,7 +177,7 @@ goes_four before k0 k1 k2 k3 k4 bytes words i part at a b c d few lt place was f
     next_of : {after : ℤ} {ws : List ℕ} (m n : ℕ) → m + 1 ≡ n → GoesOn before after (map (byte_of part) (take (m + 1) (pixels_of bytes))) ws → GoesOn before after (map (byte_of part) (take n (pixels_of bytes))) ws
     next_of {after} {ws} m n e h = subst (λ k. GoesOn before after (map (byte_of part) (take k (pixels_of bytes))) ws) e h
 
--- packed behind those before them
+-- packed after those before them
 pub packed_four : (into now : List ℕ) (i a b c d : ℕ) → 5 * i + 5 ≤ length into → a < 1024 → b < 1024 → c < 1024 → d < 1024
     → bytes_bits (take (5 * i + 5) now) ≡ bytes_bits (take (5 * i) into) ++ row_bits (a ∷ b ∷ c ∷ d ∷ [])
     → all_words (bytes_bits (take (5 * (i + 1)) now)) ≡ all_words (bytes_bits (take (5 * i) into)) ++ a ∷ b ∷ c ∷ d ∷ []
@@ -217,6 +217,6 @@ lane_upto before after bytes piece from upto m n columns own f h le e d is was n
 pub no_lane : (kept : ℤ) (bytes : List ℕ) (n : ℕ) (f : Pixel → ℕ) (h : Column → ℕ) → n ≡ 0 → IsCoderAfter kept [] [] → IsCoderAfter kept (map f (take n (pixels_of bytes))) (map h [])
 no_lane kept bytes n f h e is = subst (λ k. IsCoderAfter kept (map f (take k (pixels_of bytes))) []) (sym e) is
 
--- what stands behind the last group
+-- what stands after the last group
 pub rest_of : (bytes : List ℕ) (count : ℕ) → length bytes % 3 ≡ 0 → take (length bytes - 3 * count) (drop (3 * count) bytes) ≡ take (3 * (length bytes / 3) - 3 * count) (drop (3 * count) bytes)
 rest_of bytes count whole = let e : length bytes ≡ 3 * (length bytes / 3) = omega arith in ap (λ n. take (n - 3 * count) (drop (3 * count) bytes)) e

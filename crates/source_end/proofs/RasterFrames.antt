@@ -1,4 +1,5 @@
--- A raster that is given frame by frame: the periods that were taken out, the parts that a gathering still has, and those to come.
+-- A raster that is given frame by frame: the periods that were taken out, the parts that a gathering still has, and
+-- those to follow.
 use Rattle.std.proofs.Common.{◌≡◌, ℕ, ◌+◌, ◌*◌, ◌^◌, ◌<◌, ◌≤◌, true, List, [], ◌∷◌, ◌++◌, map, length, take, replicate, None, refl, sym, ap, ap₂, subst, ◌∙◌, append_assoc, append-nil, length-append, arith}
 use Rattle.std.specs.Prelude.{IsTrue}
 use Rattle.std.specs.List.{list_all}

@@ -18,7 +18,7 @@ Small vs = list_all (λ v. nat_lt v 64) vs
 abbrev pub enough : List ℕ → Bool
 enough vs = Small vs && nat_le 12 (length vs)
 
--- whether parts conform, behind control columns of these values
+-- whether parts conform, after control columns of these values
 unfoldable pub conforming : List ℕ → List Part → Bool
 conforming vs [] = enough vs
 conforming vs (column v ∷ parts) = conforming (vs ++ v ∷ []) parts

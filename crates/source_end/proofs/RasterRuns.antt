@@ -100,7 +100,7 @@ some_there b ps h k = grind arith
 pub end_some : (ps : List Packet) → 1 ≤ length ps → lead_end ps ≡ 16 + 32 * length ps
 end_some ps h = grind arith
 
--- Behind it.
+-- After it.
 
 some : List Packet → Bool
 some [] = false

@@ -45,7 +45,7 @@ DviSpells [] columns = columns ≡ []
 DviSpells (p ∷ ps) columns = (own rest : List Column) × (columns ≡ own ++ rest) × DviSpellsPeriod p own × DviSpells ps rest
 
 -- which kind of column stands at each place. The first pixel column of a video period is of the kind of a first guard
--- column: as of a guard column, none of its words may come as a control word
+-- column: as of a guard column, none of its words may be received as a control word
 unfoldable pub dvi_kinds_in : Period → List Kind
 dvi_kinds_in (control runs) = replicate (length (values_of runs)) kinds.control_column
 dvi_kinds_in (video bytes) = first_guard ∷ replicate (length bytes / 3 - 1) pixel_column

@@ -15,7 +15,7 @@ frame_room mode = (sync mode.down + back mode.down + front mode.down) * blank_ro
 abbrev pub too_many : Mode → ℕ → Option RasterFault
 too_many mode frames = cond (has_room (frames * (total mode.across * total mode.down)) 32) None (Some Long)
 
--- a frame of so many packets behind `count` frames that have room, or else a later fault
+-- a frame of so many packets after `count` frames that have room, or else a later fault
 abbrev pub unless_full : Mode → ℕ → ℕ → Option RasterFault → Option RasterFault
 unless_full mode count packets later = cond (nat_le packets (frame_room mode)) later (Some (NoRoom count (frame_room mode)))
 

@@ -17,7 +17,7 @@ size [] = 0
 size (p ∷ ps) = part_size p + size ps
 
 -- Whole periods and the runs of a control period that goes on hold parts: those periods are what the earlier parts make,
--- to which no later part adds, and those runs are the longest runs of the columns behind them.
+-- to which no later part adds, and those runs are the longest runs of the columns after them.
 pub record Holds (periods : List Period) (runs : List ControlRun) (parts : List Part) : Type 0 where
   pub earlier : List Part
   pub values : List ℕ

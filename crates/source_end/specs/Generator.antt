@@ -1,5 +1,5 @@
--- The content of the generator: frames of video format 1, each byte, packet and sample of which is told by its place. Its
--- pictures and its sound are this project's own.
+-- The content of the generator: frames of video format 1, each byte, packet and sample of which is determined by its
+-- place. Its pictures and its sound are this project's own.
 use Rattle.std.specs.Prelude.{◌≡◌, ℕ, ◌+◌, ◌-◌, ◌*◌, ◌/◌, ◌%◌, ◌==◌, false, List, [], ◌∷◌, ◌++◌, map, replicate}
 use Rattle.island_pack.specs.declared.packet.Packet.{Packet}
 use Rattle.infoframe.specs.declared.content.Info.{Info}

@@ -55,7 +55,7 @@ unfoldable pub raster_fault : Mode → List Frame → Option RasterFault
 raster_fault mode frames =
     or_else (bad_mode 0 (numbers_of mode)) (or_else (bad_rows mode 0 frames) (or_else (no_room mode 0 frames) (too_long mode frames)))
 
--- a fault comes exactly where there is one; where there is none, only memory may be wanting
+-- a fault is returned exactly where there is one; where there is none, only memory may be wanting
 abbrev pub AnswersRasterFault : {T : Type 0} → Option RasterFault → Result T RasterFault → Type 0
 AnswersRasterFault (Some fault) result = result ≡ Err fault
 AnswersRasterFault None (Ok done) = Unit {0}

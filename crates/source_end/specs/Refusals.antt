@@ -83,13 +83,13 @@ close_fault periods =
     (unless (is_long_enough (last_period periods)) Control
     None)
 
--- a fault comes exactly where there is one; where there is none, only memory may be wanting
+-- a fault is returned exactly where there is one; where there is none, only memory may be wanting
 abbrev pub AnswersFault : {T : Type 0} → Option ItemFault → Result T ItemFault → Type 0
 AnswersFault (Some fault) result = result ≡ Err fault
 AnswersFault None (Ok done) = Unit {0}
 AnswersFault None (Err fault) = fault ≡ NoMemory
 
--- a fault comes exactly where there is one
+-- a fault is returned exactly where there is one
 abbrev pub AnswersOnlyFault : {T : Type 0} → Option ItemFault → Result T ItemFault → Type 0
 AnswersOnlyFault (Some fault) result = result ≡ Err fault
 AnswersOnlyFault None (Ok done) = Unit {0}

@@ -1,4 +1,4 @@
--- Rows that lie one behind the other.
+-- Rows that lie one after the other.
 use Rattle.std.specs.Prelude.{◌≡◌, ℕ, ◌-◌, ◌≤◌, List, [], ◌∷◌, take, drop}
 
 -- the rows of bytes from `from` on, each up to its end

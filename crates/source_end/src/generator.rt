@@ -1,4 +1,4 @@
-//! The content of the generator: frames of video format 1 whose pictures and sound are told by place.
+//! The content of the generator: frames of video format 1 whose pictures and sound are determined by their place.
 ghost use Rattle.std.specs.Prelude.{◌≡◌, ◌+◌, ◌*◌, ◌<◌, ◌≤◌, ◌∷◌, [], length, replicate, OnOk, IfOk};
 ghost use Rattle.infoframe.specs.Written.{IsWritten};
 ghost use Rattle.source_end.specs.Generator.{row_byte, row_bytes, first_rows, sound_sample, sound_packet, first_sounds, picture_info, sound_info, clock_packet, IsGenerated, Adds};

@@ -126,7 +126,7 @@ impl Runs {
 }
 
 /// How many columns at the end have these control bits, at most the greatest u32, with a run more
-/// behind `led` of them.
+/// after `led` of them.
 fn led_with(led: u32, ctl: u8, run: Run) -> u32
     ensures { (runs : List ControlRun) → led ≡ capped (led_by ctl runs) → result ≡ capped (led_by ctl (runs ++ run ∷ [])) }
 {

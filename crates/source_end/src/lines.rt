@@ -1,4 +1,4 @@
-//! The lines of a raster, from left to right and from top to bottom. What each function writes is told as
+//! The lines of a raster, from left to right and from top to bottom. What each function writes is specified as
 //! long as all columns so far fit 32 bits; a raster that is not refused has at most 20,000,000.
 ghost use Rattle.std.specs.Prelude.{◌≡◌, ◌+◌, ◌-◌, ◌*◌, ◌^◌, ◌<◌, ◌≤◌, ◌++◌, List, length, map, replicate, OnOk, IfOk, Some, None};
 ghost use Rattle.island_pack.specs.declared.packet.Packet.{Packet};

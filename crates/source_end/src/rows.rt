@@ -1,4 +1,4 @@
-//! Rows, one behind the other in one allocation, so that the memory of many goes back to the system at once.
+//! Rows, one after the other in one allocation, so that the memory of many goes back to the system at once.
 ghost use Rattle.std.specs.Prelude.{◌≡◌, ℕ, ◌<◌, ◌++◌, ◌∷◌, [], List, length, get_or, OnOk, OnErr};
 ghost use Rattle.source_end.specs.Rows.{rows_between, AreEnds};
 

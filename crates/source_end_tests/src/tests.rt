@@ -210,7 +210,7 @@ fn columns_of(alloc: Global, list: &str) -> Result<Columns, Fail> {
     Ok(columns)
 }
 
-/// Whether columns have these words: nine hexadecimal digits a column, behind how often it comes.
+/// Whether columns have these words: nine hexadecimal digits a column, after how often it occurs.
 fn have(columns: &Columns, words: &str) -> Result<bool, Fail> {
     let mut left = columns.words.iter();
     for word in words.split(' ') {
@@ -256,7 +256,8 @@ fn line_of_263(alloc: Global) -> Result<Pixels, NoMemory> {
     Ok(pixels)
 }
 
-/// The digests of the three lanes' characters: the value of each behind 31 times those before it, modulo 65,521.
+/// The digests of the three lanes' characters: the value of each added to 31 times that of those before
+/// it, modulo 65,521.
 fn digests(columns: &[[Word; 3]]) -> [u32; 3] {
     let mut digests = [0u32; 3];
     for column in columns {
@@ -283,7 +284,7 @@ fn long_line(rt: HostRuntime) -> Result<(), Fail> {
     Ok(())
 }
 
-/// Adds a run, and tells what the list of runs then is.
+/// Adds a run, and says what the list of runs then is.
 fn with_run(alloc: Global, runs: &mut Runs, run: &str) -> Result<String, Fail> {
     let (value, count) = run.split_once(' ').ok_or("a run of no count")?;
     runs.push(Run {

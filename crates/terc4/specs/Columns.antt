@@ -9,7 +9,7 @@ one_if true = 1
 one_if false = 0
 
 -- whether two or three of the words are control words: all three are, as they are sent (HDMI 1.4,
--- section 5.4.2), and one that came damaged does not hide the column
+-- section 5.4.2), and one that was received damaged does not hide the column
 unfoldable pub is_control_column : Column → Bool
 is_control_column c = nat_le 2 (one_if (is_control c.blue) + one_if (is_control c.green) + one_if (is_control c.red))
 
@@ -27,7 +27,7 @@ is_twelve_or_more (Some value) = nat_le 12 value
 unfoldable pub is_island_guard : Column → Bool
 is_island_guard c = is_twelve_or_more (value_in terc_words c.blue) && ((c.green == island_guard) && (c.red == island_guard))
 
--- How many words of a column are right, for columns that came damaged.
+-- How many words of a column are right, for columns received damaged.
 
 -- how many of the three words are those that open a video period
 unfoldable pub video_words : Column → ℕ
@@ -42,6 +42,6 @@ unfoldable pub island_words : Column → ℕ
 island_words c = one_if (is_twelve_or_more (value_in terc_words c.blue)) + closing_words c
 
 -- whether at least three of the four words of lanes 1 and 2 are the guard word of data islands: two columns that close
--- one, of whose words one may have come damaged. The rule is this project's own
+-- one, of whose words one may have been received damaged. The rule is this project's own
 unfoldable pub closes : Column → Column → Bool
 closes c d = nat_le 3 (closing_words c + closing_words d)

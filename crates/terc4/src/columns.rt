@@ -9,7 +9,7 @@ use crate::tables::{ISLAND_GUARD, VIDEO_GUARD};
 use crate::values::{control_of, nibble};
 use tmds_word::Word;
 
-/// How many control words a control column has at least: one of the three may have come damaged.
+/// How many control words a control column has at least: one of the three may have been received damaged.
 const ENOUGH: u8 = 2;
 
 /// What the three words of a column say together.
@@ -21,7 +21,7 @@ pub enum ColumnKind {
     VideoGuard,
     /// The words that open and close a data island (HDMI 1.4, section 5.2.3.3).
     IslandGuard,
-    /// All other columns: pixels, packets, and columns that came damaged.
+    /// All other columns: pixels, packets, and columns received damaged.
     Other,
 }
 
@@ -63,7 +63,7 @@ pub fn is_island_guard(words: &[Word; 3]) -> bool
 }
 
 /// How many of the words of lanes 0, 1 and 2 are those that open a video period (HDMI 1.4, section 5.2.2.1): three are
-/// in a column of kind `VideoGuard`, fewer where words came damaged.
+/// in a column of kind `VideoGuard`, fewer where words were received damaged.
 #[tactic(auto, unfolding(crate::specs::Columns::video_words, crate::specs::Columns::one_if, crate::specs::Tables::video_guard))]
 pub fn video_guard_words(words: &[Word; 3]) -> u8
     ensures count { result ≡ video_words (column_of words.now) }
@@ -87,7 +87,7 @@ pub fn closing_guard_words(words: &[Word; 3]) -> u8
 }
 
 /// How many of the words of lanes 0, 1 and 2 are those that open and close a data island (HDMI 1.4, section 5.2.3.3):
-/// three are in a column of kind `IslandGuard`, fewer where words came damaged.
+/// three are in a column of kind `IslandGuard`, fewer where words were received damaged.
 #[tactic(auto, unfolding(crate::specs::Columns::island_words, crate::specs::Columns::one_if))]
 pub fn island_guard_words(words: &[Word; 3]) -> u8
     ensures count { result ≡ island_words (column_of words.now) }

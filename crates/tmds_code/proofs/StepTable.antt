@@ -15,7 +15,7 @@ use Rattle.tmds_code.proofs.Steps.{step_balance}
 right_at : ℕ → ℕ → Bool
 right_at k w = w == coded_word (pos (2 * k) -ℤ pos 8) (decoded_byte w)
 
--- the row behind a right word and behind a wrong one
+-- the row after a right word and after a wrong one
 entry_holds : Bool → ℕ → ℕ → ℕ → Bool
 entry_holds true k w v = (v % 1024 == 0) && ((v / 1024 + 5 == k + ones (word_bits w)) && nat_le (v / 1024) 8)
 entry_holds false k w v = v == 9216
@@ -88,7 +88,7 @@ holds_at k w le lt =
     let h = matched_at k 0 1024 (drop (1024 * k) FOLLOWED) w (all_rows k le) lt in
     grind (arith, get_or-drop)
 
--- behind a wrong word
+-- after a wrong word
 all_nine : ℕ → List ℕ → Bool
 all_nine zero vs = true
 all_nine (suc n) [] = false
@@ -134,7 +134,7 @@ at_past k w e lt =
     ∙ ap (λ n. disparity_at (n / 1024)) (past_at w lt)
     ∙ sym (ap (λ n. followed (disparity_at n) w) e)
 
--- the step behind a word, at each step
+-- the step after a word, at each step
 pub table_step : (k w : ℕ) → k ≤ 9 → w < 1024 → disparity_at (slice_index FOLLOWED (1024 * k + w) / 1024) ≡ followed (disparity_at k) w
 table_step k w le lt = grind (arith, cases_lt, at_step, at_past)
 

@@ -7,12 +7,12 @@ use Rattle.tmds_code.specs.Coding.{coded_word, decoded_byte}
 abbrev pub disparity_at : ℕ → Option ℤ
 disparity_at step = cond (nat_le step 8) (Some (pos (2 * step) -ℤ pos 8)) None
 
--- the disparity behind a character, where it is rightly coded at the disparity before it
+-- the disparity after a character, where it is rightly coded at the disparity before it
 abbrev pub followed : Option ℤ → ℕ → Option ℤ
 followed None w = None
 followed (Some d) w = cond (w == coded_word d (decoded_byte w)) (Some (d +ℤ balance (word_bits w))) None
 
--- the disparity behind characters
+-- the disparity after characters
 abbrev pub followed_all : Option ℤ → List ℕ → Option ℤ
 followed_all before [] = before
 followed_all before (w ∷ ws) = followed_all (followed before w) ws

@@ -6,7 +6,7 @@ use crate::following::followed;
 use std::marker::Model;
 use tmds_word::Word;
 
-/// Where the row behind a wrong character begins.
+/// Where the row after a wrong character begins.
 const WRONG: usize = 9216;
 
 /// The disparity of a lane all of whose characters are rightly coded so far, or that one was not. Contracts see it as
@@ -46,7 +46,7 @@ impl Balance {
         Balance { row: WRONG }
     }
 
-    /// The balance behind a character: not right any more where the character is wrongly coded.
+    /// The balance after a character: not right any more where the character is wrongly coded.
     pub fn after(self, word: Word) -> Balance
         ensures { disparity_at result ≡ followed (disparity_at self) word }
     {

@@ -1,9 +1,9 @@
 //! The steps of a disparity from character to character.
 ghost use Rattle.std.specs.Prelude.{◌≡◌, ◌<◌, slice_index};
 
-/// The row behind each of the 1,024 characters where the disparity before it is -8, then where it is -6, and so on up
-/// to 8: 1,024 times the step behind it, where the character is rightly coded, else 9,216. So an entry is the place where
-/// the row of what comes next begins. The last 1,024 places stand behind a wrong character, where all is 9,216.
+/// The row after each of the 1,024 characters where the disparity before it is -8, then where it is -6, and so on up
+/// to 8: 1,024 times the step after it, where the character is rightly coded, else 9,216. So an entry is the place
+/// where the row of what follows begins. The last 1,024 places stand after a wrong character, where all is 9,216.
 static FOLLOWED: [u16; 10240] = [
     9216, 9216, 9216, 9216, 9216, 9216, 9216, 9216, 9216, 9216, 9216, 9216, 9216, 9216, 9216, 9216,
     9216, 9216, 9216, 9216, 9216, 9216, 9216, 9216, 9216, 9216, 9216, 9216, 9216, 9216, 9216, 0,

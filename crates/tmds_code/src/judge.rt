@@ -60,8 +60,8 @@ impl CodeJudge {
         (byte, right)
     }
 
-    /// The balance behind the characters heard before: not right exactly where no rightly coded lane has their disparity, which
-    /// is even and from -8 to 8.
+    /// The balance after the characters heard before: not right exactly where no rightly coded lane has their
+    /// disparity, which is even and from -8 to 8.
     pub fn balance(&self) -> Balance
         ensures value { IfSome (disparity_at result) (λ d. d ≡ self.now.disparity) }
         ensures step { (k : ℕ) → k ≤ 8 → self.now.disparity ≡ pos (2 * k) -ℤ pos 8 → result ≡ k }

@@ -1,4 +1,4 @@
--- Groups of eight bytes behind a tail of bits, and the characters of bytes that have four in each five.
+-- Groups of eight bytes after a tail of bits, and the characters of bytes that have four in each five.
 use Rattle.std.proofs.Common.{◌≡◌, ℕ, suc, zero, ◌+◌, ◌*◌, ◌/◌, ◌%◌, ◌^◌, ◌<◌, ◌≤◌, Bool, List, [], ◌++◌, length, take, drop, get_or, refl, ap, ap₂, ◌∙◌, sym, arith, append_assoc, append-nil, drop-cons, drop-drop, length-append, length-take-le, length-drop, bit_or, bit_and}
 use Rattle.std.specs.Int.{to_le_bytes}
 use mir.Syntax.{w128}
@@ -83,7 +83,7 @@ pub bytes_more : (start xs : List Bool) (bytes : List ℕ) (from n : ℕ) → xs
     → xs ++ bytes_bits (take n (drop from bytes)) ≡ start ++ bytes_bits (take (from + n) bytes)
 bytes_more start xs bytes from n was = grind (arith, append_assoc, bytes_bits-append, take-add)
 
--- how long a row is with bytes behind it
+-- how long a row is with bytes after it
 pub length-bytes_more : (start xs : List Bool) (bytes : List ℕ) (n : ℕ) → xs ≡ start ++ bytes_bits (take n bytes) → n ≤ length bytes → length xs ≡ length start + 8 * n
 length-bytes_more start xs bytes n e le =
     ap length e ∙ length-append start (bytes_bits (take n bytes)) ∙ omega (arith, length-bytes_bits (take n bytes), length-take-le n bytes le)
@@ -102,7 +102,7 @@ shifted_more start bytes into now i h t n w lt e own eight was =
     ∙ bytes_more start (bytes_bits (take (8 * i) into) ++ bits_of h t) bytes (8 * i) 8 was
     ∙ ap (λ k. start ++ bytes_bits (take k bytes)) (sym a)
 
--- shifted bytes behind a row's own
+-- shifted bytes after a row's own
 pub row_shifted : (whole shifted bytes : List ℕ) (h t left : ℕ) (view : List Bool) → bytes_bits shifted ++ bits_of h left ≡ bits_of h t ++ bytes_bits bytes
     → bytes_bits whole ++ bits_of h t ≡ view → bytes_bits (whole ++ shifted) ++ bits_of h left ≡ view ++ bytes_bits bytes
 row_shifted whole shifted bytes h t left view e f = grind (arith, bytes_bits-append, append_assoc)

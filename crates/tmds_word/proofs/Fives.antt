@@ -66,7 +66,7 @@ packed_more start words into now i h t n w lt e four five was =
     ∙ row_more start (bytes_bits (take (5 * i) into) ++ bits_of h t) words (4 * i) 4 was
     ∙ ap (λ k. start ++ row_bits (take k words)) b
 
--- packed bytes behind a row's own
+-- packed bytes after a row's own
 pub row_packed : (whole packed words : List ℕ) (h t left : ℕ) (view : List Bool) → bytes_bits packed ++ bits_of h left ≡ bits_of h t ++ row_bits words
     → bytes_bits whole ++ bits_of h t ≡ view → bytes_bits (whole ++ packed) ++ bits_of h left ≡ view ++ row_bits words
 row_packed whole packed words h t left view e f = grind (arith, bytes_bits-append, append_assoc)
@@ -87,7 +87,7 @@ word_after start xs words i w d was lt e =
     ∙ ap (λ ys. xs ++ ys) (sym (one_word (get_or words i d)) ∙ ap row_bits (sym (ap (take 1) (drop-cons words i d lt))))
     ∙ row_more start xs words i 1 was
 
--- how long a row is with characters behind it
+-- how long a row is with characters after it
 pub length-more : (start xs : List Bool) (words : List ℕ) (n : ℕ) → xs ≡ start ++ row_bits (take n words) → n ≤ length words → length xs ≡ length start + 10 * n
 length-more start xs words n e le =
     ap length e ∙ length-append start (row_bits (take n words)) ∙ omega (arith, length-row_bits (take n words), length-take-le n words le)

@@ -1,5 +1,5 @@
 -- The tap of columns: of each lane some of its bits, from a place of its own on. Where the lanes of a link have skews,
--- they come later than one another (HDMI 1.4, section 4.2).
+-- they arrive later than one another (HDMI 1.4, section 4.2).
 use Rattle.std.specs.Prelude.{◌≡◌, ℕ, ◌+◌, ◌*◌, ◌≤◌, Bool, List, length, take, drop, slice_index}
 use Rattle.tmds_word.specs.Bits.{row_bits}
 use Rattle.tmds_word.specs.Column.{Column, blues, greens, reds}

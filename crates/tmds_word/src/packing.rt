@@ -5,7 +5,7 @@ ghost use Rattle.tmds_word.specs.Words.{all_words};
 
 use crate::Word;
 
-/// Fills `into` with the bits of a tail of `held` bits and of groups of four characters behind it, and
+/// Fills `into` with the bits of a tail of `held` bits and of groups of four characters after it, and
 /// answers the `held` bits that are left over.
 pub(crate) fn pack(words: &[Word], held: u8, tail: u8, into: &mut [u8]) -> u8
     requires few { held < 8 }
@@ -44,7 +44,7 @@ pub(crate) fn word_at(bytes: &[u8], i: usize) -> Word
     Word::of((pair >> (2 * (i % 4))) & 0x3ff)
 }
 
-/// Fills `into` with the bits of a tail of `held` bits and of groups of eight bytes behind it, and
+/// Fills `into` with the bits of a tail of `held` bits and of groups of eight bytes after it, and
 /// answers the `held` bits that are left over.
 pub(crate) fn shift(bytes: &[u8], held: u8, tail: u8, into: &mut [u8]) -> u8
     requires few { held < 8 }

@@ -103,7 +103,7 @@ fn sent_bits(rt: HostRuntime) {
     }
 }
 
-/// That a row is those of `SENT` behind so many bits.
+/// That a row is those of `SENT` after so many bits.
 fn expect_bits(rt: &impl Abort, row: &BitRow, before: u32) {
     assert!(rt; before <= 8 && row.len() == before + 110);
     for i in 0..110 {
@@ -115,7 +115,7 @@ fn expect_bits(rt: &impl Abort, row: &BitRow, before: u32) {
     }
 }
 
-/// That the windows behind so many bits of a row are those of `ROW`, from one of them up to another.
+/// That the windows after so many bits of a row are those of `ROW`, from one of them up to another.
 fn expect_windows(
     rt: &impl Abort,
     row: &BitRow,
@@ -151,7 +151,7 @@ fn windows(rt: HostRuntime) -> Result<(), Fail> {
     Ok(())
 }
 
-/// The row of `ROW` behind one to eight bits.
+/// The row of `ROW` after one to eight bits.
 fn row_behind(alloc: Global, before: u32) -> Result<BitRow, Fail>
     requires above { 0 < before }
     requires below { before ≤ 8 }
@@ -162,7 +162,7 @@ fn row_behind(alloc: Global, before: u32) -> Result<BitRow, Fail>
     Ok(row)
 }
 
-// Behind one to eight bits, so that each window begins at each place of a byte.
+// After one to eight bits, so that each window begins at each place of a byte.
 #[test]
 fn windows_after_bits(rt: HostRuntime) -> Result<(), Fail> {
     for before in 1..9 {
@@ -270,7 +270,7 @@ fn packed_lanes(rt: HostRuntime) -> Result<(), Fail> {
     Ok(())
 }
 
-/// That a row is bytes behind so many bits.
+/// That a row is bytes after so many bits.
 fn expect_bytes(rt: &impl Abort, row: &BitRow, before: u32, bytes: &[u8; 355]) {
     assert!(rt; before <= 8 && row.len() == before + 2840);
     for i in 0..2840u32 {
@@ -279,7 +279,7 @@ fn expect_bytes(rt: &impl Abort, row: &BitRow, before: u32, bytes: &[u8; 355]) {
     }
 }
 
-// Behind none to seven bits, in one call and two parts, the last of which ends within a group of eight bytes.
+// After none to seven bits, in one call and two parts, the last of which ends within a group of eight bytes.
 #[test]
 fn many_bytes(rt: HostRuntime) -> Result<(), Fail> {
     let mut bytes = [0; 355];
@@ -307,7 +307,7 @@ fn characters(alloc: Global) -> Result<Vec<Word>, Fail> {
     Ok(words)
 }
 
-/// The row of characters behind one to eight bits.
+/// The row of characters after one to eight bits.
 fn row_of(rt: &impl Abort, alloc: Global, words: &[Word], before: u32) -> Result<BitRow, Fail>
     requires above { 0 < before }
     requires below { before ≤ 8 }
@@ -319,7 +319,7 @@ fn row_of(rt: &impl Abort, alloc: Global, words: &[Word], before: u32) -> Result
     Ok(row)
 }
 
-// Behind one to eight bits, in one call and a few blocks.
+// After one to eight bits, in one call and a few blocks.
 #[test]
 fn many_words(rt: HostRuntime) -> Result<(), Fail> {
     let words = characters(rt.alloc())?;
@@ -360,7 +360,7 @@ fn packed_row(rt: HostRuntime) -> Result<(), Fail> {
     Ok(())
 }
 
-// Behind three bits, so that no byte of it lies at a byte's edge.
+// After three bits, so that no byte of it lies at a byte's edge.
 #[test]
 fn packed_row_behind_bits(rt: HostRuntime) -> Result<(), Fail> {
     let row = row_behind(rt.alloc(), 3)?;

@@ -1,4 +1,4 @@
--- What is told of the columns that end before a slip within a line.
+-- What is reported of the columns that end before a slip within a line.
 use Rattle.std.proofs.Common.{◌≡◌, ◌↔◌, ℕ, suc, zero, ◌+◌, ◌-◌, ◌*◌, ◌<◌, ◌≤◌, List, [], ◌∷◌, length, take, drop, ap, ◌∙◌, sym, subst, arith, inl, inr}
 use Rattle.std.specs.Prelude.{slice_index}
 use Rattle.std.proofs.lemmas.Bool.{cases_lt}
@@ -48,7 +48,7 @@ near_lanes kinds alternates i j d e offset k l ends_i ends_j at_i at_j near hi l
 
 -- The lanes of the first epoch.
 
--- the lane that slipped, cut behind the slip, has the edges of the bits before it
+-- the lane that slipped, cut after the slip, has the edges of the bits before it
 abbrev pub HasFrontEdges : Fed → Fed → ℕ → ℕ → ℕ → Type 0
 HasFrontEdges x y lane place start = (e : ℕ) → IsEdge (take start (lane_of y lane)) e ↔ IsEdge (take place (lane_of x lane)) e
 
@@ -109,7 +109,7 @@ small_before ps sent received offset skews counts x y lane place dropped first n
       first_third = near_lanes (kinds_of ps) alternates blue.0 red.0 d f offset (slice_index skews 0) (slice_index skews 2) blue.1 red.1 blue.2 red.2 t.first_third wide.4 wide.5;
     }
 
--- What is told.
+-- What is reported.
 
 -- the first columns of the first epoch and of the lanes that end before the slip
 front_columns : (x y : Fed) (lane place dropped start d e f m : ℕ) → Slipped x lane place dropped y → place + dropped ≤ length (lane_of x lane) → place ≤ start → place ≤ length (lane_of y lane)

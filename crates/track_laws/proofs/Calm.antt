@@ -1,4 +1,4 @@
--- Lanes of columns that came with sparse damage, wherever it lies, are calm: so there is one epoch.
+-- Lanes of columns received with sparse damage, wherever it lies, are calm: so there is one epoch.
 use Rattle.std.proofs.Common.{ℕ, suc, zero, List}
 use Rattle.tmds_word.specs.Column.{Column}
 use Rattle.island_pack.specs.Periods.{Period}

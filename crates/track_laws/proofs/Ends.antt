@@ -24,7 +24,7 @@ pub calm_has_no_end : (x : Fed) (words : ℕ → List ℕ) (marks : ℕ → List
 calm_has_no_end x words marks from many lanes l lt =
     none_of (lane_of x l) (part_of (words l) (from l) (many l)) (lanes.parts l lt) (calm_has_none (words l) (marks l) (lanes.calm l lt) (from l) (many l))
 
--- a stray lies behind the slip
+-- a stray lies after the slip
 stray_after : (words : List ℕ) (marks : List Bool) (from many place dropped : ℕ) → Slips words marks from many place dropped
     → (p : ℕ) → IsStray (slipped_part words from many place dropped) p → place ≤ p
 stray_after words marks from many place dropped s p stray =

@@ -58,7 +58,7 @@ same_columns xs ys zs us vs ws d e f m blue green red long =
     let size = ap length same in
     (omega (arith, length-take m a, length-take m b), same)
 
--- a lane that slipped and was cut behind the slip, and the lane cut before it
+-- a lane that slipped and was cut after the slip, and the lane cut before it
 pub slipped_words : (xs ys : List Bool) (place dropped start p m : ℕ) → ys ≡ slipped xs place dropped → place + dropped ≤ length xs → place ≤ start → place ≤ length ys → p + 10 * m ≤ place
     → take m (words_from (take start ys) p) ≡ take m (words_from (take place xs) p)
 slipped_words xs ys place dropped start p m are long after long_y early = grind (arith, length-take-le, same_words, length-take, take_piece, front_piece)

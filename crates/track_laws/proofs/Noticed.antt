@@ -1,4 +1,4 @@
--- Where a slip within a line is noticed, and what is told of the epoch that begins there.
+-- Where a slip within a line is noticed, and what is reported of the epoch that begins there.
 use Rattle.std.proofs.Common.{◌≡◌, ℕ, ◌+◌, ◌-◌, ◌*◌, ◌<◌, ◌≤◌, Bool, List, length, drop, ap, ◌∙◌, sym, subst, arith, inl, inr}
 use Rattle.std.specs.Prelude.{slice_index}
 use Rattle.std.proofs.lemmas.Bool.{cases_lt}

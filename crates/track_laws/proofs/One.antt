@@ -1,4 +1,4 @@
--- One event is told of all bits.
+-- One event is reported of all bits.
 use Rattle.std.proofs.Common.{◌≡◌, ℕ, ◌+◌, Bool, true, false, ◌||◌, List, ◌++◌, take, refl, ap, ap₂, ◌∙◌, sym, subst, arith, inl, inr}
 use Rattle.terc4.specs.Columns.{one_if}
 use Rattle.lane_deskew.specs.Aligned.{aligned_columns}

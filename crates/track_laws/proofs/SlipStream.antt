@@ -1,5 +1,5 @@
--- A short stream of two lines that came with two damaged pixels of the first: the first of them, and the last of them as a
--- control word.
+-- A short stream of two lines received with two damaged pixels of the first: the first of them, and the last of them as
+-- a control word.
 use Rattle.std.proofs.Common.{◌≡◌, ℕ, suc, zero, ◌+◌, ◌<◌, ◌≤◌, Bool, true, false, ◌&&◌, ◌||◌, ◌==◌, List, [], ◌∷◌, ◌++◌, map, length, take, drop, get_or, replicate, refl, ap₂, sym, ◌∙◌, arith, inl, inr, nat_le, nat_lt}
 use Rattle.std.specs.Prelude.{ℤ, pos, ◌+ℤ◌}
 use Rattle.std.proofs.lemmas.Bool.{cases_lt, cases_Bool, eqb-true, eq-eqb, leb-true, ltb-true}
@@ -69,7 +69,7 @@ triple b g r = record { blue = b; green = g; red = r }
 abbrev grey : Column
 grey = triple 0x1f0 0x1f0 0x1f0
 
--- another word came in the first pixel's place, and a control word in the last one's
+-- another word was received in the first pixel's place, and a control word in the last one's
 abbrev line_received : List Column
 line_received = triple 0x1f0 0x100 0x1f0 ∷ (replicate 28 grey ++ (triple 0x354 0x1f0 0x1f0 ∷ []))
 
@@ -139,7 +139,7 @@ spelled =
     (spells_more (video short_line) last_period (video_columns (grey ∷ [])) last_columns (grey ∷ [], refl, spells_short)
     (spells_more (control last_runs) [] (control_columns last_runs) [] refl refl))))
 
--- How they came.
+-- How they were received.
 
 long_sent : length sent ≡ 91
 unfolding sent values_of video_guard
@@ -272,7 +272,7 @@ pub then_control : kind_at (kinds_of stream) 56 ≡ control_kind
 unfolding stream kinds_of kinds_in values_of
 then_control = refl
 
--- those in the midst of it came as they were sent
+-- those in the midst of it were received as they were sent
 middle_test : passes_below 55 (λ i. nat_lt i 27 || (get_or (blues received) i 0 == get_or (blues sent) i 0)) ≡ true
 unfolding passes_below sent received values_of control_words video_guard
 middle_test = refl

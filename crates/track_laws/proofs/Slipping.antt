@@ -1,5 +1,5 @@
 -- A lane that slips within the pixels of a line is calm, its characters are quiet where it slips, and a control period
--- begins behind the line.
+-- begins after the line.
 use Rattle.std.proofs.Common.{◌≡◌, ℕ, suc, zero, ◌+◌, ◌-◌, ◌<◌, Bool, List, length, ap, ◌∙◌, sym, subst, arith}
 use Rattle.std.specs.Prelude.{slice_index}
 use Rattle.std.proofs.lemmas.List.{length-map}
@@ -18,7 +18,7 @@ use Rattle.track_sink.specs.Epochs.{lane_of}
 use Rattle.track_laws.specs.Laws.{Received, Slipped, SlipsInVideo, CalmLanes, words_at}
 use Rattle.track_laws.proofs.Middles.{Twelve, line_ends}
 
--- which characters of a lane came unlike those that were sent
+-- which characters of a lane were received unlike those that were sent
 abbrev pub marks_at : List Column → List Column → ℕ → List Bool
 marks_at sent received l = damaged (words_at sent l) (words_at received l)
 
@@ -72,7 +72,7 @@ slips_at ps sent received offset skews counts x y lane place dropped first next 
     let sent_is = sent_at ps sent received reception.reception lane in
     grind (arith, length_at, pixel_apart)
 
--- behind the line
+-- after the line
 pub after_line : (ps : List Period) (sent received : List Column) (offset : ℕ) (skews counts : List ℕ) (lane place dropped first next : ℕ)
     → ReceivedOf ps sent received → SlipsInVideo ps sent received offset skews counts lane place dropped first next → Twelve (kinds_of ps) next
 after_line ps sent received offset skews counts lane place dropped first next reception s =

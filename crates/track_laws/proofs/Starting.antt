@@ -1,4 +1,4 @@
--- What a tracker told is the beginning of what is told of any bits that go on with those that it was fed.
+-- What a tracker reported is the beginning of what is reported of any bits that go on with those that it was fed.
 use Rattle.std.proofs.Common.{◌≡◌, ◌⊎◌, ℕ, ◌+◌, ◌≤◌, Bool, ◌||◌, false, List, [], ◌++◌, length, ap, ◌∙◌, sym, subst, arith, inl, inr, append_assoc, append-nil, length-drop}
 use Rattle.std.proofs.lemmas.Bool.{cases_lt}
 use Rattle.terc4.specs.Columns.{one_if}
@@ -29,7 +29,7 @@ fronts_same fed later start handed grows (inl none) =
     ap (λ n. front_of n (rest_of start fed)) none ∙ sym (ap (λ n. front_of n (rest_of start later)) none)
 fronts_same fed later start handed grows (inr far) = sym (fronts_stay fed later start handed grows (omega arith))
 
--- an end lies behind them
+-- an end lies after them
 end_after : (fed later : Fed) (start handed : ℕ) (begun : Bool) (reported : List TrackEvent) (lane place : ℕ) → Tracks fed start handed begun reported → Grows fed later → IsEnd (rest_of start later) lane place → handed ≤ place
 end_after fed later start handed begun reported lane place t grows end = elim (cases_lt place handed) [
   | inr le ↦ le
@@ -49,12 +49,12 @@ end_after fed later start handed begun reported lane place t grows end = elim (c
   ]
 ]
 
--- some track of later bits that begins with what was told
+-- some track of later bits that begins with what was reported
 module _ (fed later : Fed) (start handed : ℕ) (begun : Bool) (reported : List TrackEvent) (t : Tracks fed start handed begun reported) (grows : Grows fed later) where
   so_far : IsReportedSoFar (front_of handed (rest_of start later)) t.events
   so_far = subst (λ (x : Fed). IsReportedSoFar x t.events) (fronts_same fed later start handed grows (handed_within fed start handed begun reported t)) t.so_far
 
-  -- what is told of the epoch begins with what was told of it
+  -- what is reported of the epoch begins with what was reported of it
   begins : (n m : ℕ) (us : List Event) (rest : List TrackEvent) → IsTracked begun start (rest_of start later) n m (track_events_of ((t.events ++ us)) ++ rest)
       → (epochs aligned : ℕ) × (more : List TrackEvent) × IsTrack later epochs aligned (reported ++ more)
   begins n m us rest tracked =

@@ -19,7 +19,7 @@ use Rattle.track_sink.specs.TrackEvents.{TrackEvent}
 use Rattle.track_sink.specs.Epochs.{lane_of, rest_of, IsEnd, HasNoEnd, IsTracked}
 use Rattle.track_sink.specs.Tracks.{Grows, HasTracked, StartsTrack}
 
--- of all bits something is told, and nothing else: so neither their cutting into feeds nor anything else can matter
+-- of all bits something is reported, and nothing else: so neither their cutting into feeds nor anything else can matter
 abbrev pub SomeTrack : Type 0
 SomeTrack = (begun : Bool) (z : ℕ) (fed : Fed) → (epochs aligned : ℕ) × (track_events : List TrackEvent) × IsTracked begun z fed epochs aligned track_events
 
@@ -33,18 +33,18 @@ abbrev pub EndStays : Type 0
 EndStays =
     (before now : Fed) (lane place : ℕ) → IsEnd before lane place → Grows before now → IsEnd now lane place
 
--- what a tracker told is the beginning of what is told of all
+-- what a tracker reported is the beginning of what is reported of all
 abbrev pub ReportedStarts : Type 0
 ReportedStarts = (fed : Fed) (reported : List TrackEvent) → HasTracked fed reported → StartsTrack fed reported
 
 -- Where no lane slips.
 
--- columns that came with sparse damage, and a tap of them
+-- columns received with sparse damage, and a tap of them
 pub record Received (ps : List Period) (sent received : List Column) (offset : ℕ) (skews counts : List ℕ) (x : Fed) : Type 0 where
   pub reception : ReceivedOf ps sent received
   pub tapped : IsTap received offset skews counts x.blue x.green x.red
 
--- there is one epoch, and what is told is what is told of the lanes
+-- there is one epoch, and what is reported is what is reported of the lanes
 abbrev pub OneEpoch : Type 0
 OneEpoch =
     (ps : List Period) (sent received : List Column) (offset : ℕ) (skews counts : List ℕ) (x : Fed) → Received ps sent received offset skews counts x
@@ -64,15 +64,15 @@ pub record Slipped (x : Fed) (lane place dropped : ℕ) (y : Fed) : Type 0 where
   pub this : lane_of y lane ≡ slipped (lane_of x lane) place dropped
   pub others : (l : ℕ) → l < 3 → (l ≡ lane → ⊥) → lane_of y l ≡ lane_of x l
 
--- the skews after it: the lane comes so many bits later
+-- the skews after it: the lane is so many bits later
 abbrev pub later_skews : List ℕ → ℕ → ℕ → List ℕ
 later_skews skews zero dropped = (slice_index skews 0 + dropped) ∷ slice_index skews 1 ∷ slice_index skews 2 ∷ []
 later_skews skews (suc zero) dropped = slice_index skews 0 ∷ (slice_index skews 1 + dropped) ∷ slice_index skews 2 ∷ []
 later_skews skews (suc (suc l)) dropped = slice_index skews 0 ∷ slice_index skews 1 ∷ (slice_index skews 2 + dropped) ∷ []
 
--- damage in pixels and packets alone; the bits of the lane from 120 before the place to 120 behind those that were lost
--- belong to undamaged pixels of one video period, whose first column is `first` and whose control period behind it begins
--- with column `next`; the skews after the slip are small
+-- damage in pixels and packets alone; the bits of the lane from 120 before the place to 120 after those that were lost
+-- belong to undamaged pixels of one video period, whose first column is `first` and whose control period after it
+-- begins with column `next`; the skews after the slip are small
 pub record SlipsInVideo (ps : List Period) (sent received : List Column) (offset : ℕ) (skews counts : List ℕ) (lane place dropped first next : ℕ) : Type 0 where
   pub alone : IsSparseInPayload ps sent received
   pub begins : 120 ≤ place
@@ -87,7 +87,7 @@ pub record SlipsInVideo (ps : List Period) (sent received : List Column) (offset
   pub small : HasSmallSkew (later_skews skews lane dropped)
 
 -- where an epoch begins on a lane that lost bits, as a place of the lane before: at the control period that begins with column
--- `next`, or one or two characters before it where these came as control words
+-- `next`, or one or two characters before it where these were received as control words
 pub record BeginsAgain (received : List Column) (offset : ℕ) (skews : List ℕ) (lane dropped next start : ℕ) : Type 0 where
   pub early : ℕ
   pub few : early ≤ 2
@@ -95,7 +95,7 @@ pub record BeginsAgain (received : List Column) (offset : ℕ) (skews : List ℕ
   pub plain : is_control (slice_index (words_at received lane) (next - 1 - early)) ≡ false
   pub place : start + dropped + offset + slice_index skews lane ≡ 10 * (next - early)
 
--- what is told of the columns of the first epoch that end before the slip on the lane
+-- what is reported of the columns of the first epoch that end before the slip on the lane
 pub record FirstAccounted (ps : List Period) (sent received : List Column) (offset : ℕ) (skews : List ℕ) (y : Fed) (lane place start d e f : ℕ) : Type 0 where
   pub a : ℕ
   pub ends : EndsControl ps (a + 11)
@@ -114,8 +114,8 @@ FirstEpoch =
     → (d e f : ℕ) → IsFirst (take start y.blue) (take start y.green) (take start y.red) d e f
     → FirstAccounted ps sent received offset skews y lane place start d e f
 
--- at most one slip is noticed, on that lane, at the control period behind the line, and what is told from there on is the
--- account from the first alignment of the second epoch on
+-- at most one slip is noticed, on that lane, at the control period after the line, and what is reported from there on
+-- is the account from the first alignment of the second epoch on
 abbrev pub SecondEpoch : Type 0
 SecondEpoch =
     (ps : List Period) (sent received : List Column) (offset : ℕ) (skews counts : List ℕ) (x y : Fed) (lane place dropped first next : ℕ)
@@ -136,7 +136,7 @@ SlipNoticed =
     → (lock : ℕ) → IsLock (lane_of x lane) lock → lock + 120 ≤ place → 10 * (next + 12) ≤ offset + slice_index skews lane + slice_index counts lane
     → (start : ℕ) × IsEnd y lane start
 
--- and not where the lane has no lock before it: there is one epoch, in which the lane locks behind the slip
+-- and not where the lane has no lock before it: there is one epoch, in which the lane locks after the slip
 abbrev pub SlipPasses : Type 0
 SlipPasses =
     (ps : List Period) (sent received : List Column) (offset : ℕ) (skews counts : List ℕ) (x y : Fed) (lane place dropped first next : ℕ)
@@ -144,8 +144,8 @@ SlipPasses =
     → SlipsInVideo ps sent received offset skews counts lane place dropped first next
     → ((lock : ℕ) → IsLock (lane_of x lane) lock → lock + 120 ≤ place → ⊥) → HasNoEnd y
 
--- what the second epoch tells, from the law on taps: its lanes are a tap of the same columns, later by its start, with the
--- skews after the slip
+-- what is reported of the second epoch, from the law on taps: its lanes are a tap of the same columns, later by its
+-- start, with the skews after the slip
 abbrev pub SecondReported : Type 0
 SecondReported =
     (ps : List Period) (sent received : List Column) (offset : ℕ) (skews counts : List ℕ) (x y : Fed) (lane place dropped start : ℕ)
@@ -178,8 +178,8 @@ fronts x zero place start = record { blue = take place x.blue; green = take star
 fronts x (suc zero) place start = record { blue = take start x.blue; green = take place x.green; red = take start x.red }
 fronts x (suc (suc l)) place start = record { blue = take start x.blue; green = take start x.green; red = take place x.red }
 
--- what the first epoch tells, from the law on taps: its first alignment is that of the lanes before the slip, and what is
--- heard of their aligned columns, which end before the slip on the lane, is the account
+-- what is reported of the first epoch, from the law on taps: its first alignment is that of the lanes before the slip,
+-- and what is heard of their aligned columns, which end before the slip on the lane, is the account
 abbrev pub FirstReported : Type 0
 FirstReported =
     (ps : List Period) (sent received : List Column) (offset : ℕ) (skews counts : List ℕ) (x y : Fed) (lane place dropped start : ℕ)

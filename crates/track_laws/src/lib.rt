@@ -3,7 +3,7 @@
 
 ghost use Rattle.track_laws.specs.Laws.{SecondReported, EndStays, AtMostTwo, CalmHasNoEnd, OneTrack, FirstReported, PayloadHasNoEnd, OneEpoch, SomeTrack, ReportedStarts, FirstEpoch, SecondEpoch, SlipNoticed, SlipPasses, HasSlipExample};
 
-/// What the second epoch tells is the account.
+/// What is reported of the second epoch is the account.
 pub fn second_reported()
     ensures { SecondReported }
 {}
@@ -13,7 +13,7 @@ pub fn end_stays()
     ensures { EndStays }
 {}
 
-/// Where a lane slips once there are at most two epochs, and the second begins on that lane, behind the slip.
+/// Where a lane slips once there are at most two epochs, and the second begins on that lane, after the slip.
 pub fn at_most_two()
     ensures { AtMostTwo }
 {}
@@ -23,22 +23,22 @@ pub fn calm_has_no_end()
     ensures { CalmHasNoEnd }
 {}
 
-/// Of all bits something is told.
+/// Of all bits something is reported.
 pub fn some_track()
     ensures { SomeTrack }
 {}
 
-/// Of all bits one event is told.
+/// Of all bits one event is reported.
 pub fn one_track()
     ensures { OneTrack }
 {}
 
-/// What a tracker told is the beginning of what is told of all.
+/// What a tracker reported is the beginning of what is reported of all.
 pub fn reported_starts()
     ensures { ReportedStarts }
 {}
 
-/// What the first epoch tells before the slip is the account.
+/// What is reported of the first epoch before the slip is the account.
 pub fn first_reported()
     ensures { FirstReported }
 {}
@@ -53,13 +53,13 @@ pub fn one_epoch()
     ensures { OneEpoch }
 {}
 
-/// What the first epoch tells of columns that end before a slip within a line is the account.
+/// What is reported in the first epoch of columns that end before a slip within a line is the account.
 pub fn first_epoch()
     ensures { FirstEpoch }
 {}
 
 /// There are at most two epochs then, and the second begins where the next control period does, on the lane that slipped;
-/// what it tells from its first full alignment on is the account.
+/// what is reported of it from its first full alignment on is the account.
 pub fn second_epoch()
     ensures { SecondEpoch }
 {}

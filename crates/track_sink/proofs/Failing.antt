@@ -1,4 +1,4 @@
--- What an ear was told where it failed: the first events of those that were to be told.
+-- What was reported to an ear where it failed: the first events of those that were to be reported.
 use Rattle.std.proofs.Common.{◌≡◌, ◌↔◌, ℕ, suc, zero, ◌+◌, ◌-◌, ◌*◌, ◌/◌, ◌%◌, ◌<◌, ◌≤◌, max, Bool, true, false, ◌||◌, List, [], ◌∷◌, ◌++◌, length, refl, ap, ap₂, ◌∙◌, sym, subst, arith, inl, inr, append_assoc, append-nil}
 use Rattle.std.specs.Prelude.{Result, Ok, Err, OnErr}
 use Rattle.std.proofs.lemmas.List.{map-append}
@@ -21,7 +21,7 @@ use Rattle.track_sink.proofs.Following.{follows_handed, follows_closed}
 use Rattle.track_sink.proofs.Turning.{end_place}
 use Rattle.track_sink.proofs.Settling.{can_settle, tracks_all}
 
--- what an ear that failed was told of bits that were handed on, of some of them, of more events, and at the end
+-- what was reported to an ear that failed, of bits that were handed on, of some of them, of more events, and at the end
 abbrev pub LostGain : {A : Type 0} → (A → A → List Event → Type 0) → (A → A → Event → Type 0) → A → A → Fed → ℕ → ℕ → Type 0
 LostGain took broke x z fed from upto = (events : List Event) × IsGain (front_of from fed) (front_of upto fed) events × StopsIn took broke x z events
 
@@ -55,7 +55,7 @@ module _ {A : Type 0} (took : A → A → List Event → Type 0) (broke : A → 
     lost_then = (lost_event s.between z s.next).0 s.broke_then;
   }
 
-  -- with other events behind
+  -- with other events after
   pub stops_before : (x z : A) (es fs : List TrackEvent) → Stops tracked lost x z es → Stops tracked lost x z (es ++ fs)
   stops_before x z es fs s = record {
     taken = s.taken;
@@ -167,7 +167,7 @@ passes_then fed reported us vs p = let P : List TrackEvent → Type 0 = λ es. P
 
 -- The end.
 
--- of any bits that have told something the end tells something
+-- where something has been reported of bits, something is reported at the end
 pub some_last : (fed : Fed) (reported : List Event) → IsReportedSoFar fed reported → (outcome : Outcome) × (last : List Event) × IsLast fed outcome last
 some_last fed reported (inl a) =
     let cs = aligned_columns fed.blue fed.green fed.red a.0 a.1 a.2 in
@@ -189,7 +189,7 @@ some_last fed reported (inr a) = (
   λ us h. record { nowhere = a.0; columns_are = refl; reported = append-nil us ∙ reported_one link_grammar fed us reported h (inr a) ∙ a.1 },
 )
 
--- what is told at the end, of all bits once they are handed on
+-- what is reported at the end, of all bits once they are handed on
 pub tracks_some : (t : Tracker) (fed : Fed) (reported : List TrackEvent) (us : List Event) (longest : ℕ) → IsSettled t fed reported
     → longest ≡ max (length t.lanes.first.held.bits) (max (length t.lanes.second.held.bits) (length t.lanes.third.held.bits))
     → IsGain (front_of t.handed (rest_of t.start fed)) (front_of (t.handed + longest) (rest_of t.start fed)) us

@@ -1,4 +1,4 @@
--- What was told so far, when more bits come, when they are handed on, and when an epoch ends.
+-- What was reported so far, when more bits arrive, when they are handed on, and when an epoch ends.
 use Rattle.std.proofs.Common.{◌≡◌, ◌⊎◌, ℕ, suc, zero, ◌+◌, ◌<◌, ◌≤◌, max, Bool, ◌||◌, List, [], ◌++◌, length, take, drop, refl, ap, ap₂, ◌∙◌, sym, subst, arith, inl, inr, append_assoc, append-nil, length-append, length-drop}
 use Rattle.std.proofs.lemmas.Bool.{cases_lt}
 use Rattle.std.proofs.lemmas.List.{drop-drop, drop-append-le, take-append-le, take_all, map-append}
@@ -77,7 +77,7 @@ front_stays xs more start handed (inr none) = ap (λ us. take handed (drop start
 pub fronts_stay : (x y : Fed) (start handed : ℕ) → Grows x y → start + handed ≤ most_of x → front_of handed (rest_of start y) ≡ front_of handed (rest_of start x)
 fronts_stay x y start handed grows reached = grind (arith, same_fed, front_stays)
 
--- more bits come
+-- more bits arrive
 pub follows_grown : (x y : Fed) (start handed : ℕ) (begun : Bool) (epochs aligned : ℕ) (reported : List TrackEvent) → Grows x y → start + handed ≤ most_of x
     → Follows x start handed begun epochs aligned reported → Follows y start handed begun epochs aligned reported
 follows_grown x y start handed begun epochs aligned reported grows reached f = record {
@@ -147,7 +147,7 @@ rest_grows x y start grows reached l lt =
 pub whole_front : (fed : Fed) (start handed : ℕ) → most_of fed ≤ start + handed → front_of handed (rest_of start fed) ≡ rest_of start fed
 whole_front fed start handed all = grind (arith, same_fed, take_all, length-drop)
 
--- lanes to which nothing comes
+-- lanes to which nothing is added
 pub same_grows : (fed : Fed) → Grows fed fed
 same_grows fed l lt = ([], sym (append-nil (lane_of fed l)), inr refl)
 

@@ -160,7 +160,7 @@ sought_grows xs ys seen lock known was =
     let within : (p : ℕ) → p < seen → p + 120 ≤ length xs = λ p lt. elim known [ inl none ↦ absurd (omega arith) | inr long ↦ omega arith ] in
     record { lock = lock_stays xs ys seen lock within was.lock; none = λ p lt stray. was.none p lt (stray_was xs ys p (within p lt) stray) }
 
--- a lane that takes bits: as long as the longest before, or none come
+-- a lane that takes bits: as long as the longest before, or none arrive
 abbrev pub Comes : ℕ → List Bool → List Bool → Type 0
 Comes most xs more = (length xs ≡ most) ⊎ (more ≡ [])
 
@@ -331,7 +331,7 @@ settled_at_first link lanes opened stands none fresh = record {
   near = omega arith;
 }
 
--- where no bit is handed on, nothing is told
+-- where no bit is handed on, nothing is reported
 pub none_gained : (t : Tracker) (fed : Fed) (bits : ℕ) → bits ≡ 0 → IsGain (front_of t.handed (rest_of t.start fed)) (front_of (t.handed + bits) (rest_of t.start fed)) []
 none_gained t fed bits none = λ reported h.
     let e : t.handed ≡ t.handed + bits = omega arith in
@@ -373,7 +373,7 @@ carries_stays t u fed s c =
       fewer = omega arith;
     }
 
--- an end lies behind the places that were looked at
+-- an end lies after the places that were looked at
 pub end_after : (fed : Fed) (lanes : Lanes) (seen lane place : ℕ) → AreSought lanes seen fed → IsEnd fed lane place → seen ≤ place
 end_after fed lanes seen lane place sought end = elim (cases_lt place seen) [
   | inr after ↦ after

@@ -89,7 +89,7 @@ found_at xs from until end p was before first e = elim (cases_lt p from) [
   | inr more ↦ omega (arith, e)
 ]
 
--- it is an end, where the lanes before have none up to it, and those behind none before it
+-- it is an end, where the lanes before have none up to it, and those after none before it
 is_end : (fed : Fed) (lane place : ℕ) → lane < 3 → IsStray (lane_of fed lane) place → ((l : ℕ) → l < lane → NoneBefore (lane_of fed l) (place + 1))
     → ((l : ℕ) → lane ≤ l → l < 3 → NoneBefore (lane_of fed l) place) → IsEnd fed lane place
 is_end fed lane place few stray before after = record {

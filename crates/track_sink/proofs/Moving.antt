@@ -1,4 +1,5 @@
--- Eight bytes at a time: the 64 bits from a bit of a byte on, bits that move to where a byte begins, and bits that are put behind a few others.
+-- Eight bytes at a time: the 64 bits from a bit of a byte on, bits that move to where a byte begins, and bits that are
+-- put after a few others.
 use Rattle.std.proofs.Common.{◌≡◌, ℕ, ◌+◌, ◌-◌, ◌*◌, ◌/◌, ◌%◌, ◌^◌, ◌<◌, ◌≤◌, Bool, List, [], ◌++◌, length, take, drop, take-take, get_or, refl, ap, ap₂, ◌∙◌, sym, subst, arith, append_assoc, append-nil, length-take, bit_and, bit_or}
 use Rattle.std.specs.Int.{w64, to_le_bytes}
 use Rattle.std.proofs.Math.Nat.{mod-eq_of_lt, mul-div_cancel, mul-mod_left}
@@ -21,7 +22,7 @@ use Rattle.lane_align.proofs.Feeding.{bytes_drop}
 byte_is : (bytes : List ℕ) (j : ℕ) → AreBytes bytes → j < length bytes → number (bytes_bits bytes) / 2 ^ (8 * j) % 256 ≡ get_or bytes j 0
 byte_is bytes j are within = grind (arith, number_from, drop_more, number_of_bytes)
 
--- the lowest 64 bits behind a few others, of 72
+-- the lowest 64 bits after a few others, of 72
 shifted_low : (m bit : ℕ) → bit < 8 → m % 2 ^ 72 / 2 ^ bit % 2 ^ 64 ≡ m / 2 ^ bit % 2 ^ 64
 shifted_low m bit few =
     let j = 72 - bit in
@@ -203,7 +204,7 @@ settled_none was at skip count none =
     sym (take-append-drop count (drop (8 * at) (bytes_bits was)))
     ∙ ap₂ (λ us vs. us ++ vs) (ap (λ n. take count (drop n (bytes_bits was))) e) (drop-drop count (8 * at) (bytes_bits was))
 
--- Bits that are put behind a few others.
+-- Bits that are put after a few others.
 
 pub after_less : (few w : ℕ) → 0 < few → few < 8 → w < 2 ^ 64 → w / 2 ^ (64 - few) < 2 ^ few
 after_less few w some lt below = let all : few + (64 - few) ≡ 64 = omega arith in shr_lt few (64 - few) (subst (λ n. w < 2 ^ n) (sym all) below)
@@ -211,7 +212,7 @@ after_less few w some lt below = let all : few + (64 - few) ≡ 64 = omega arith
 pub after_byte : (few w : ℕ) → 0 < few → few < 8 → w < 2 ^ 64 → w / 2 ^ (64 - few) < 256
 after_byte few w some lt below = let h = after_less few w some lt below in let small : 2 ^ few ≤ 2 ^ 7 = pow_mono {i = few} {j = 7} (omega arith) in omega arith
 
--- a word behind a few bits: as many find no room
+-- a word after a few bits: as many find no room
 pub after_few : (few left w : ℕ) → 0 < few → few < 8 → left < 2 ^ few → w < 2 ^ 64
     → bits_of 64 (bit_or (w * 2 ^ few % 18446744073709551616) left) ++ bits_of few (w / 2 ^ (64 - few)) ≡ bits_of few left ++ bits_of 64 w
 after_few few left w some lt low below =
@@ -230,7 +231,7 @@ after_few few left w some lt low below =
     ∙ append_assoc (bits_of few left) (bits_of h w) (bits_of few (w / 2 ^ h))
     ∙ ap (λ us. bits_of few left ++ us) (sym (bits_of-add h few w) ∙ ap (λ n. bits_of n w) whole)
 
--- one word more behind them
+-- one word more after them
 pub word_after : (start : List Bool) (was now more : List ℕ) (few left i k w : ℕ) → 0 < few → few < 8 → left < 2 ^ few → 8 * i + 8 ≤ length was → 8 * i + 8 ≤ length more
     → w ≡ number (bytes_bits more) / 2 ^ (8 * (8 * i)) % 2 ^ 64 → now ≡ put_mid (8 * i) k was (to_le_bytes w64 (bit_or (w * 2 ^ few % 18446744073709551616) left))
     → bytes_bits (take (8 * i) was) ++ bits_of few left ≡ start ++ bytes_bits (take (8 * i) more)

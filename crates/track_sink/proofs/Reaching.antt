@@ -1,4 +1,5 @@
--- What is told first of bits is the beginning of what a tracker that was fed them has told: an epoch has an end, or it has none.
+-- What is reported first of bits is the beginning of what a tracker that was fed them has reported: an epoch has an
+-- end, or it has none.
 use Rattle.std.proofs.Common.{◌≡◌, ◌⊎◌, ℕ, suc, zero, ◌+◌, ◌-◌, ◌*◌, ◌/◌, ◌%◌, ◌<◌, ◌≤◌, Bool, true, ◌||◌, List, [], ◌++◌, length, take, drop, Option, Some, None, refl, ap, ◌∙◌, sym, subst, arith, inl, inr, append_assoc, length-drop}
 use native.Mathlib.Decide.{map_dec, ℕ_discrete}
 use Rattle.std.proofs.Math.Bool.{Bool-discrete}
@@ -89,7 +90,7 @@ end_decided fed = by (least_or_none (LaneAt fed) (most_of fed) lane_decided)
     by (inl h) = inl (h.1.here.0, h.0, record { within = h.1.here.1.below; stray = h.1.here.1.here; least = least h.0 h.1 })
     by (inr none) = inr (λ l lt p stray. none p (let w = run_within (lane_of fed l) p stray.run in let m = no_longer fed l in omega arith) (lane_at l p lt stray))
 
--- What is told more of more bits.
+-- What is reported in addition of more bits.
 
 front_grows : (xs : List Bool) (m n : ℕ) → m ≤ n → HasGrown (take m xs) (take n xs)
 front_grows xs m n le = (take (n - m) (drop m xs), ap (λ k. take k xs) (let e : n ≡ m + (n - m) = omega arith in e) ∙ take-add m (n - m) xs)
@@ -120,7 +121,7 @@ gain_at fed m n le (inr none) =
 pub some_gain : (fed : Fed) (m n : ℕ) → m ≤ n → (us : List Event) × IsGain (front_of m fed) (front_of n fed) us
 some_gain fed m n le = gain_at fed m n le (first_decided (take m fed.blue) (take m fed.green) (take m fed.red))
 
--- The rest of what is told.
+-- The rest of what is reported.
 
 -- an epoch that ends is closed, and the next begins
 closed_at : (fed : Fed) (start handed : ℕ) (begun : Bool) (epochs aligned : ℕ) (reported : List TrackEvent) (lane place : ℕ) → start ≤ most_of fed → handed ≤ place → IsEnd (rest_of start fed) lane place
@@ -135,7 +136,7 @@ closed_at fed start handed begun epochs aligned reported lane place reached le e
     let closed = follows_closed fed start (handed + (place - handed)) lane begun epochs aligned (reported ++ track_events_of us.0) last.0 last.1 reached (subst P e end) last.2 here in
     grind (arith, append_assoc)
 
--- in an epoch that goes on all is told but what its last bits decide
+-- in an epoch that goes on all is reported but what its last bits decide
 goes_on_at : (fed : Fed) (start handed : ℕ) (begun : Bool) (epochs aligned : ℕ) (reported : List TrackEvent) → start + handed ≤ most_of fed → HasNoEnd (rest_of start fed) → handed % 8 ≡ 0
     → (handed ≡ 0) ⊎ (start + handed + 119 ≤ most_of fed) → Follows fed start handed begun epochs aligned reported → (rest : List TrackEvent) × HasTracked fed (reported ++ rest)
 goes_on_at fed start handed begun epochs aligned reported within none whole early was =
@@ -195,7 +196,7 @@ reach (suc n) fed start handed begun epochs aligned reported all within none who
 pub passes_on : (fed : Fed) (reported : List TrackEvent) → Passes fed reported → (rest : List TrackEvent) × HasTracked fed (reported ++ rest)
 passes_on fed reported p = reach (most_of fed) fed p.start p.handed p.begun p.epochs p.aligned reported (omega arith) p.within p.none p.whole p.early p.follows
 
--- Something is told of all bits.
+-- Something is reported of all bits.
 
 most_rest : (fed : Fed) (place n : ℕ) → most_of fed ≤ place + n → most_of (rest_of place fed) ≤ n
 most_rest fed place n all = omega (arith, length-drop place fed.blue, length-drop place fed.green, length-drop place fed.red)

@@ -84,7 +84,7 @@ tracks_all t u v fed reported outcome us last longest settled most gain is_last 
     let track = follows_last fed u.start u.handed u.begun u.epochs u.aligned (reported ++ track_events_of us) outcome last (omega arith) (subst P (sym es) (settled_no_end t fed reported settled)) is_last follows in
     grind (arith, append_assoc, track_events_both)
 
--- What a settled tracker has told.
+-- What a settled tracker has reported.
 
 early_of : (t : Tracker) (fed : Fed) → HasLooked t fed → (t.handed ≡ 0) ⊎ ((l : ℕ) × (l < 3) × (t.handed + 119 ≤ length (lane_of (rest_of t.start fed) l)))
 early_of t fed looked =

@@ -1,4 +1,4 @@
--- Bits that are held in a buffer of bytes, moved within it and appended behind a few others.
+-- Bits that are held in a buffer of bytes, moved within it and appended after a few others.
 use Rattle.std.proofs.Common.{◌≡◌, ℕ, ◌+◌, ◌-◌, ◌*◌, ◌/◌, ◌%◌, ◌^◌, ◌<◌, ◌≤◌, Bool, List, [], ◌++◌, length, take, drop, get_or, refl, ap, ap₂, ◌∙◌, sym, arith, append_assoc, length-drop, length-take, take-take, bit_or}
 use Rattle.std.specs.Prelude.{set}
 use Rattle.std.proofs.Math.Nat.{mod-eq_of_lt}
@@ -63,7 +63,7 @@ pub begin_after : (bytes more : List ℕ) (few left : ℕ) → few < 8 → 1 ≤
 begin_after bytes more few left lt some e =
     none_before (bits_of few left) ∙ ap (bits_of few) e ∙ bits_of-mod few (get_or bytes 0 0) ∙ sym (first_few bytes few lt some) ∙ no_more (take few (bytes_bits bytes)) more
 
--- one byte more behind them
+-- one byte more after them
 pub more_after : (start : List Bool) (was now more : List ℕ) (few left n i b : ℕ) → left < 2 ^ few → n ≡ left + 2 ^ few * b → b ≡ get_or more i 0 → i < length more
     → i < length was → now ≡ set was i (n % 256) → bytes_bits (take i was) ++ bits_of few left ≡ start ++ bytes_bits (take i more)
     → bytes_bits (take (i + 1) now) ++ bits_of few (n / 256) ≡ start ++ bytes_bits (take (i + 1) more)
@@ -98,7 +98,7 @@ copied_after into more now few n none e size =
     ∙ take-append_seam (bytes_bits more) (bytes_bits (drop n into))
     ∙ ap (λ m. take m (bytes_bits into) ++ bytes_bits more) (sym none)
 
--- bits behind the first ones, where a part of the bytes has new bits behind its first few
+-- bits after the first ones, where a part of the bytes has new bits after its first few
 pub put_into : (into new more : List ℕ) (count bits size : ℕ) → length into ≡ 4224 → count + bits ≤ 33720
     → length more ≡ (bits + 7) / 8 → size ≡ length more + 1 → length new ≡ size
     → take (count % 8 + 8 * length more) (bytes_bits new) ≡ take (count % 8) (bytes_bits (take size (drop (count / 8) into))) ++ bytes_bits more
@@ -148,7 +148,7 @@ pub settled_first : (was now : List ℕ) (at skip start count : ℕ) → 8 * at 
     → take count (drop (8 * at) (bytes_bits now)) ≡ take count (drop start (bytes_bits was))
 settled_first was now at skip start count e within settled = grind (arith, first_all, length_held)
 
--- and what is held behind it
+-- and what is held after it
 pub settled_rest : (was now : List ℕ) (at skip start count : ℕ) → 8 * at + skip ≡ start → start + count ≤ 8 * length was
     → drop (8 * at) (bytes_bits now) ≡ take count (drop (8 * at + skip) (bytes_bits was)) ++ drop (8 * at + count) (bytes_bits was)
     → drop (start + count) (bytes_bits now) ≡ drop (start + count) (bytes_bits was)

@@ -8,7 +8,7 @@ use Rattle.link_sink.specs.Sinks.{Fed}
 use Rattle.track_sink.specs.Epochs.{lane_of, IsEnd}
 use Rattle.track_sink.specs.Tracks.{Grows}
 
--- a stray of a lane that has more bits, where its bits up to the end of the run had come or none came
+-- a stray of a lane that has more bits, where its bits up to the end of the run had arrived or none arrived
 pub was_stray : (xs ys more : List Bool) (p : ℕ) → ys ≡ xs ++ more → (p + 120 ≤ length xs) ⊎ (more ≡ []) → IsStray ys p → IsStray xs p
 was_stray xs ys more p e known stray = grind (arith, stray_was, append-nil)
 

@@ -86,7 +86,7 @@ carries_turned t u fed stray b can opened stands none hx hy hz fx fy fz es eh en
       record { sought = subst T (sym en) (sought (rest_of u.start fed)); after = omega arith; decided = inl en },
     )
 
--- what was told, at places that are equal
+-- what was reported, at places that are equal
 pub follows_at : (fed : Fed) (s t h k : ℕ) (b d : Bool) (e f a c : ℕ) (reported : List TrackEvent) → t ≡ s → k ≡ h → d ≡ b → f ≡ e → c ≡ a → Follows fed s h b e a reported → Follows fed t k d f c reported
 follows_at fed s t h k b d e f a c reported es eh eb ee ea was =
     let P : ℕ → Type 0 = λ n. Follows fed n h b e a reported in
@@ -96,7 +96,7 @@ follows_at fed s t h k b d e f a c reported es eh eb ee ea was =
     let T : ℕ → Type 0 = λ n. Follows fed t k d f n reported in
     subst T (sym ea) (subst S (sym ee) (subst R (sym eb) (subst Q (sym eh) (subst P (sym es) was))))
 
--- what is told at the end of an epoch
+-- what is reported at the end of an epoch
 pub follows_turned : (t u : Tracker) (fed : Fed) (stray : Stray) (reported : List TrackEvent) (outcome : Outcome) (last : List Event) → CanTurn t fed stray
     → IsLast (front_of t.handed (rest_of t.start fed)) outcome last
     → u.start ≡ t.start + t.handed → u.handed ≡ 0 → u.begun ≡ (t.begun || outcome.aligned) → u.epochs ≡ t.epochs + 1 → u.aligned ≡ t.aligned + one_if outcome.aligned

@@ -30,7 +30,7 @@ pub record IsEnd (fed : Fed) (lane place : ℕ) : Type 0 where
 abbrev pub HasNoEnd : Fed → Type 0
 HasNoEnd fed = (l : ℕ) → l < 3 → HasNoStray (lane_of fed l)
 
--- what is told of lanes whose first bit has a place in the capture: how many epochs there are, how many of them are
+-- what is reported of lanes whose first bit has a place in the capture: how many epochs there are, how many of them are
 -- aligned, and the events. `begun` says whether an epoch before was aligned
 pub data IsTracked : Bool → ℕ → Fed → ℕ → ℕ → List TrackEvent → Type 0 where
   last_epoch :

@@ -1,4 +1,4 @@
--- What a tracker tells: events, and slips between them.
+-- What a tracker reports: events, and slips between them.
 use Rattle.std.specs.Prelude.{ℕ, Bool, true, false, List, [], ◌∷◌, map}
 use Rattle.period_grammar.specs.Events.{Event}
 
@@ -10,7 +10,7 @@ pub data TrackEvent : Type 0 where
 abbrev pub track_events_of : List Event → List TrackEvent
 track_events_of events = map event events
 
--- a slip is told only once there was an alignment
+-- a slip is reported only once there was an alignment
 abbrev pub slip_if : Bool → ℕ → ℕ → List TrackEvent
 slip_if true lane place = slip lane place ∷ []
 slip_if false lane place = []

@@ -12,8 +12,8 @@ pub record TrackSinkSeen : Type 0 where
   pub tracker : Tracker
   pub is_open : Bool
 
--- a sink stands for the bits that it was fed and the events that it told of them: it has told all but what the last bits of
--- each lane decide. Callers take how it stands as a whole
+-- a sink stands for the bits that it was fed and the events that it reported of them: it has reported all but what the
+-- last bits of each lane decide. Callers take how it stands as a whole
 pub record TrackSinkRepresents (sink : TrackSinkSeen) (fed : Fed) (reported : List TrackEvent) : Type 0 where
   pub tracked : HasTracked fed reported
   pub settled : IsSettled sink.tracker fed reported

@@ -1,4 +1,5 @@
--- What a tracker stands for: the bits that it was fed, those of them that it handed on, and the events that it told.
+-- What a tracker stands for: the bits that it was fed, those of them that it handed on, and the events
+-- that it reported.
 use Rattle.std.specs.Prelude.{◌≡◌, ◌⊎◌, ℕ, ◌+◌, ◌-◌, ◌*◌, ◌%◌, ◌^◌, ◌<◌, ◌≤◌, max, min, Bool, true, List, ◌∷◌, ◌++◌, length, drop}
 use Rattle.period_grammar.specs.Events.{Event}
 use Rattle.lane_track.specs.Strays.{IsStray}
@@ -16,12 +17,12 @@ use Rattle.track_sink.specs.declared.tracker.Tracker.{Tracker}
 abbrev pub most_of : Fed → ℕ
 most_of fed = max (length fed.blue) (max (length fed.green) (length fed.red))
 
--- these events are told: so many epochs are closed, so many of them aligned, the next begins at a place, and of that one so
--- many bits of each lane were handed on
+-- these events are reported: so many epochs are closed, so many of them aligned, the next begins at a place, and of
+-- that one so many bits of each lane were handed on
 pub record Follows (fed : Fed) (start handed : ℕ) (begun : Bool) (epochs aligned : ℕ) (reported : List TrackEvent) : Type 0 where
   pub closed : List TrackEvent
   pub events : List Event
-  -- whatever comes, the epochs before are closed
+  -- whatever follows, the epochs before are closed
   pub goes_on :
       (later : Fed) → Grows fed later
       → (n m : ℕ) (rest : List TrackEvent) → IsTracked begun start (rest_of start later) n m rest → IsTrack later (epochs + n) (aligned + m) (closed ++ rest)
@@ -85,7 +86,7 @@ pub record CanTurn (t : Tracker) (fed : Fed) (stray : Stray) : Type 0 where
   pub ends : EndsAt (rest_of t.start fed) stray
   pub here : t.handed ≡ stray.place
 
--- it has told these events, and goes on
+-- it has reported these events, and goes on
 pub record Stands (t : Tracker) (fed : Fed) (reported : List TrackEvent) : Type 0 where
   pub carries : Carries t fed
   pub looked : HasLooked t fed
@@ -111,8 +112,8 @@ pub record Stops {A : Type 0} (tracked : A → A → List TrackEvent → Type 0)
   pub took_some : tracked before between taken
   pub lost_then : lost between now next
 
--- these events are the first that are told of bits: what is told of closed epochs, and of some of the bits that are decided
--- of the next one, before the end that it may have
+-- these events are the first that are reported of bits: what is reported of closed epochs, and of some of the bits that
+-- are decided of the next one, before the end that it may have
 pub record Passes (fed : Fed) (reported : List TrackEvent) : Type 0 where
   pub start : ℕ
   pub handed : ℕ

@@ -1,4 +1,4 @@
--- What a tracker stands for: the bits that it was fed, and what it told of them.
+-- What a tracker stands for: the bits that it was fed, and what it reported of them.
 use Rattle.std.specs.Prelude.{◌≡◌, ◌⊎◌, ℕ, ◌+◌, ◌%◌, ◌<◌, ◌≤◌, Bool, List, [], ◌++◌, length}
 use Rattle.period_grammar.specs.Events.{Event}
 use Rattle.link_sink.specs.Sinks.{Fed, IsReportedSoFar}
@@ -14,13 +14,13 @@ Grows before now =
     × (((m : ℕ) → m < 3 → length (lane_of before m) ≤ length (lane_of before l)) ⊎ (more ≡ []))
 
 -- a tracker that was fed these bits is in an epoch that begins at a place, and has handed on its first bits, as many of
--- each lane; it has told all events before and what is heard so far of the bits that it handed on
+-- each lane; it has reported all events before and what is heard so far of the bits that it handed on
 pub record Tracks (fed : Fed) (start handed : ℕ) (begun : Bool) (reported : List TrackEvent) : Type 0 where
   pub epochs : ℕ
   pub aligned : ℕ
   pub closed : List TrackEvent
   pub events : List Event
-  -- whatever comes, the epochs before are closed
+  -- whatever follows, the epochs before are closed
   pub goes_on :
       (later : Fed) → Grows fed later
       → (n m : ℕ) (rest : List TrackEvent) → IsTracked begun start (rest_of start later) n m rest → IsTrack later (epochs + n) (aligned + m) (closed ++ rest)
@@ -40,7 +40,7 @@ pub record HasTracked (fed : Fed) (reported : List TrackEvent) : Type 0 where
   pub begun : Bool
   pub tracks : Tracks fed start handed begun reported
 
--- what was told is the beginning of what is told of any bits that go on with these
+-- what was reported is the beginning of what is reported of any bits that go on with these
 abbrev pub StartsTrack : Fed → List TrackEvent → Type 0
 StartsTrack fed reported =
     (later : Fed) → Grows fed later → (n m : ℕ) (all : List TrackEvent) → IsTrack later n m all → (rest : List TrackEvent) × (all ≡ reported ++ rest)

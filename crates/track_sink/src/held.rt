@@ -16,7 +16,7 @@ pub(crate) struct Held {
     bytes: Vec<u8>,
     /// The first bit that is held.
     start: u32,
-    /// How many bits are held; what stands behind them is of no account.
+    /// How many bits are held; what stands after them is of no account.
     count: u32,
     /// The byte with which the bits begin that were released last.
     border: u32,
@@ -24,7 +24,7 @@ pub(crate) struct Held {
     released: u32,
 }
 
-/// Bytes that are lent for their bits behind the first few.
+/// Bytes that are lent for their bits after the first few.
 #[derive(Clone, Copy, Debug)]
 pub(crate) struct Lent<'a> {
     pub(crate) bytes: &'a [u8],
@@ -123,7 +123,7 @@ impl Held {
     }
 }
 
-/// Puts bits behind the first ones, which stay.
+/// Puts bits after the first ones, which stay.
 fn put_at(into: &mut [u8], count: u32, bytes: &[u8], bits: u32)
     requires bytes { length bytes.now ≡ (bits + 7) / 8 }
     requires room { count + bits ≤ 33720 }
@@ -135,7 +135,7 @@ fn put_at(into: &mut [u8], count: u32, bytes: &[u8], bits: u32)
     put_after(&mut into[at..end], count % 8, bytes);
 }
 
-/// Puts the bits of bytes behind the first few bits, which stay.
+/// Puts the bits of bytes after the first few bits, which stay.
 fn put_after(into: &mut [u8], few: u32, bytes: &[u8])
     requires few { few < 8 }
     requires room { length into.old ≡ length bytes.now + 1 }
@@ -148,7 +148,7 @@ fn put_after(into: &mut [u8], few: u32, bytes: &[u8])
     }
 }
 
-/// Puts the bits of bytes behind the first few bits, which stay: whole words first, and then byte by byte.
+/// Puts the bits of bytes after the first few bits, which stay: whole words first, and then byte by byte.
 fn shift_after(into: &mut [u8], few: u32, bytes: &[u8])
     requires some { 0 < few }
     requires few { few < 8 }
@@ -165,7 +165,7 @@ fn shift_after(into: &mut [u8], few: u32, bytes: &[u8])
     into[bytes.len()] = left;
 }
 
-/// Puts the bits of words behind the first few bits, which stay, and answers the last few, which find no room.
+/// Puts the bits of words after the first few bits, which stay, and answers the last few, which find no room.
 fn shift_words(into: &mut [u8], few: u32, bytes: &[u8], words: usize) -> u8
     requires some { 0 < few }
     requires few { few < 8 }
@@ -194,7 +194,7 @@ fn joined(left: u8, few: u32, byte: u8) -> u16
     (u16::from(byte) << few) | u16::from(left)
 }
 
-/// Moves bits from behind the first few of a byte to where it begins; all others stay.
+/// Moves bits from after the first few of a byte to where it begins; all others stay.
 fn settle(bytes: &mut [u8], at: usize, skip: u32, count: u32)
     requires room { 8 * at + skip + count + 72 ≤ 8 * length bytes.old }
     ensures size { length bytes.new ≡ length bytes.old }

@@ -1,4 +1,4 @@
-//! What is told of three lanes that may lose bits: epochs, each of which begins where a lane lost some.
+//! What is reported of three lanes that may lose bits: epochs, each of which begins where a lane lost some.
 #![tactic(auto)]
 
 mod ear;

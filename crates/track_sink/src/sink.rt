@@ -17,8 +17,8 @@ use std::alloc::Global;
 use std::marker::Model;
 use std::thread::Threads;
 
-/// Hears three lanes whose bits come feed after feed, begins anew where a lane lost bits, and tells an ear what they say.
-/// It has taken all its memory when it is opened: a `LinkSink`, and a buffer of 4,224 bytes for each lane.
+/// Hears three lanes whose bits arrive feed after feed, begins anew where a lane lost bits, and reports to an ear what
+/// they say. It has taken all its memory when it is opened: a `LinkSink`, and a buffer of 4,224 bytes for each lane.
 #[derive(Drop)]
 pub struct TrackSink {
     tracker: Tracker,
@@ -57,13 +57,13 @@ impl TrackSink {
         self.is_open
     }
 
-    /// Takes bits of each lane, each lane its own number of them, and tells the ear what they decide: bit i is bit
-    /// `i % 8` of byte `i / 8`. Of a lane that had fewer bits than another no more come.
+    /// Takes bits of each lane, each lane its own number of them, and reports to the ear what they decide: bit i is bit
+    /// `i % 8` of byte `i / 8`. Of a lane that had fewer bits than another no more arrive.
     ///
     /// # Errors
     ///
-    /// Where a call of the ear failed; the sink is then spent. The ear took the first of the events that these bits tell,
-    /// and failed in the next.
+    /// Where a call of the ear failed; the sink is then spent. The ear took the first of the events that are reported
+    /// of these bits, and failed in the next.
     pub fn feed<R: Threads, E: TrackEar>(
         &mut self,
         rt: &R,
@@ -98,12 +98,13 @@ impl TrackSink {
         }
     }
 
-    /// Tells the ear the rest, and answers how many epochs there were, and how many of them were aligned. The sink is then
-    /// finished.
+    /// Reports the rest to the ear, and answers how many epochs there were, and how many of them were aligned. The sink
+    /// is then finished.
     ///
     /// # Errors
     ///
-    /// Where a call of the ear failed: it took the first of the events that the rest tells, and failed in the next.
+    /// Where a call of the ear failed: it took the first of the events that are reported of the rest, and failed
+    /// in the next.
     pub fn finish<R: Threads, E: TrackEar>(
         &mut self,
         rt: &R,

@@ -1,4 +1,4 @@
-//! What a sink tells of lanes that lose bits, however they are cut into feeds.
+//! What a sink reports of lanes that lose bits, however they are cut into feeds.
 ghost use Rattle.std.specs.Prelude.{◌≡◌, ◌+◌, ◌≤◌, ◌%◌, true, min, OnOk, slice_index};
 ghost use Rattle.track_sink.specs.TrackSinks.{bits_fed};
 
@@ -16,7 +16,7 @@ use std::process::Abort;
 use std::test::*;
 use std::thread::Threads;
 
-/// How many bits of each lane come in a feed.
+/// How many bits of each lane arrive in a feed.
 static PIECES: [u32; 4] = [8, 40, 1000, 32768];
 
 /// Feeds a sink the next bits of three lanes, as many of each as there are up to a number.
@@ -88,7 +88,7 @@ fn feed_all<R: Threads>(
     sink.finish(rt, notes)
 }
 
-/// That three lanes have these epochs and tell these events, in feeds of each size.
+/// That three lanes have these epochs, and that these events are reported of them, in feeds of each size.
 fn expect<R: Threads + Abort>(rt: &R, alloc: Global, case: &Case) -> Result<(), Fail> {
     for most in PIECES {
         let mut notes = Notes::new(100);
@@ -109,7 +109,7 @@ fn expect<R: Threads + Abort>(rt: &R, alloc: Global, case: &Case) -> Result<(), 
     Ok(())
 }
 
-/// That an ear that fails at one of the events was told those before it and no more, and that the sink is then spent.
+/// That an ear that fails at one of the events was given those before it and no more, and that the sink is then spent.
 fn expect_failures<R: Threads + Abort>(rt: &R, alloc: Global, case: &Case) -> Result<(), Fail> {
     for most in PIECES {
         for at in 0..case.tells.len() {

@@ -28,7 +28,7 @@ const STRETCH: u32 = 2560;
 /// From the first bit of a run to its last.
 const SPAN: u32 = RUN_BITS - 1;
 
-/// Where the machine stands: an epoch, and what was told before it.
+/// Where the machine stands: an epoch, and what was reported before it.
 #[derive(Drop)]
 pub(crate) struct Tracker {
     /// Hears the epoch.
@@ -79,7 +79,7 @@ impl Tracker {
         self.lanes.third.append(c, z);
     }
 
-    /// Tells the ear what the bits decide.
+    /// Reports to the ear what the bits decide.
     pub(crate) fn follow<R: Threads, E: TrackEar>(
         &mut self,
         rt: &R,
@@ -236,7 +236,7 @@ impl Tracker {
         Ok(())
     }
 
-    /// Tells the ear what the end of the epoch tells, and counts it.
+    /// Reports to the ear what is left to report at the end of the epoch, and counts it.
     fn end<E: TrackEar>(&mut self, ear: &mut E) -> Result<Outcome, Failed>
         requires open { self.old.link.is_open ≡ true }
         requires few { self.old.epochs + 1 < 2 ^ 32 }
@@ -287,7 +287,7 @@ impl Tracker {
         self.seen = 0;
     }
 
-    /// Tells the ear the rest.
+    /// Reports the rest to the ear.
     pub(crate) fn finish<R: Threads, E: TrackEar>(
         &mut self,
         rt: &R,

@@ -7,7 +7,7 @@ use Rattle.bch_block.proofs.verdict_of.Goals as goal
 pub returns-then-left-eq0 : goal.returns-then-left-eq0
 returns-then-left-eq0 c = λ x long e. clean x (omega arith) (e ∙ ap kept c.if-left-eq0.true)
 
--- the bit with `power` bits behind it
+-- the bit with `power` bits after it
 pub returns-in-Some : goal.returns-in-Some
 returns-in-Some c = λ x long e.
     let place = c.args.bits - 1 - c.in-Some.power in

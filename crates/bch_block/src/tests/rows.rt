@@ -1,6 +1,6 @@
 //! What an independent model of the code answers: blocks that are whole, and with one, two and three wrong bits.
-//! A row is a verdict and the blocks that have it, the first byte as the highest digits. A block that is mended has the bit and the block
-//! after the repair behind it; others stay as they are.
+//! A row is a verdict and the blocks that have it, the first byte as the highest digits. A block that is mended is
+//! followed by the bit and by the block after the repair; others stay as they are.
 
 /// Blocks of 32 bits.
 pub(crate) static BLOCKS32: &str = "\

@@ -1,7 +1,7 @@
-//! Lists of told events, with what is answered at each. An event is `run`, its value and how many columns it has, and behind `=` the
-//! width and the height of the frame that ends at it, if one does; a line, `loose` in a group that does not count, `even` in one that
-//! counts and as wide as its first, `ragged` in one that counts and not so wide, with its width and its number in the group; `fault`, of
-//! one word, which is not told; or `other`.
+//! Lists of reported events, with what is answered at each. An event is `run`, its value and how many columns it has,
+//! and after `=` the width and the height of the frame that ends at it, if one does; a line, `loose` in a group that
+//! does not count, `even` in one that counts and as wide as its first, `ragged` in one that counts and not so wide,
+//! with its width and its number in the group; `fault`, of one word, which is not reported; or `other`.
 
 /// A list in each row.
 pub(crate) static LISTS: &str = "\

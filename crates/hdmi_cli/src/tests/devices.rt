@@ -4,7 +4,7 @@ use std::process::Abort;
 use std::test::*;
 use std::thread::Threads;
 
-/// A red pixel behind a data island with one packet.
+/// A red pixel after a data island with one packet.
 static ISLAND: &str =
     "c 00 4\nc 14 8\ni 00\np 82020d 66000800010000 00000000000000 00000000000000 00000000000000 00000000000000000000000000000000\ne 00\nc 00 4\nc 04 8\nv ff0000\nc 00 12\nend\n";
 

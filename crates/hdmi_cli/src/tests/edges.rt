@@ -1,7 +1,7 @@
 //! Words that name nothing, lines at the limits of their lengths, and captures that have no alignment, noise, a line that is too long or
 //! no place for a damage.
 //! Words, input, status, output and note; the expected values were computed apart from this program. A field's parts stand between `~`,
-//! each as often as the number behind its `*` says.
+//! each as often as the number after its `*` says.
 
 /// 19 runs.
 pub(super) static ROWS: &[u8] = b"

@@ -13,7 +13,7 @@ use std::test::*;
 /// For how many turns a lane looks for another at most.
 const TURNS: u64 = 1_000_000_000;
 
-/// The capture of one red pixel behind a longer control period, from bit 7 on with skews of 0, 70 and 35: one block.
+/// The capture of one red pixel after a longer control period, from bit 7 on with skews of 0, 70 and 35: one block.
 static SKEWED: &str =
     "544d433100000189a69a6aaaa9a69a6aaaa9a69a6aaaa9a69a6aaaa9a69a6aaaa9a69a6aaaa9a69a6aaaa9a69a6aaa99651620aaa9a69a6aaa01a69a6aaaa9a69a6aaaa9a69a6aaaa9a69a6aaaa95e65955556596595555699692680a8a69a6aaaa9a69a6aaaa9a69a6aaa01d554534d35d554534d35d554534d35d554534d35d554534d35d554534d35d554534d35b3cc024835d554534d35d554534d01";
 
@@ -41,7 +41,7 @@ impl Meeting {
         }
     }
 
-    /// Whether a lane comes to have passed so often.
+    /// Whether a lane is seen to have passed so often.
     fn saw(&self, lane: usize, pass: u64) -> bool
         requires { lane < 3 }
     {
@@ -82,7 +82,7 @@ fn lanes_meet(rt: HostRuntime) -> Result<(), Fail> {
 /// What the columns of that capture make a lister write while they are fed: all but the run of control columns that has not ended.
 const TEXT: &[u8] = b"c 00 4\nc 04 8\nv ff0000\n";
 
-/// A link's sink feeds the three lanes side by side, and tells a lister of the columns that are aligned.
+/// A link's sink feeds the three lanes side by side, and reports to a lister the columns that are aligned.
 #[test]
 fn lanes_of_a_feed_meet(rt: HostRuntime) -> Result<(), Fail> {
     let alloc = rt.alloc();

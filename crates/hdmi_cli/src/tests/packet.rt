@@ -1,4 +1,4 @@
-//! Data islands that come back, that come back in part, and that are refused.
+//! Data islands that are recovered, that are recovered in part, and that are refused.
 //! The expected values are those of an independent model of the formats.
 
 /// 41 runs.

@@ -72,8 +72,8 @@ pub(super) fn answer_through<G: Gate>(
     })
 }
 
-/// A run: words with one space between them, the input, and the status, the output and the notes that must come
-/// of it, and the devices where the row names them. Bytes are `#` and hexadecimal digits, or `=` for those that stood
+/// A run: words with one space between them, the input, and the status, the output and the notes that must result,
+/// and the devices where the row names them. Bytes are `#` and hexadecimal digits, or `=` for those that stood
 /// so last, or a text with `/` for each line feed.
 #[derive(Clone, Copy)]
 struct Case<'a> {
@@ -111,7 +111,7 @@ fn devices_of(field: &str) -> Option<Devices> {
     })
 }
 
-/// The text of a field: its parts stand between `~`, each as often as the number behind its `*` says.
+/// The text of a field: its parts stand between `~`, each as often as the number after its `*` says.
 fn text_of(alloc: Global, field: &str) -> Result<String, Fail> {
     let mut text = String::new(alloc);
     for part in field.split('~') {

@@ -1,10 +1,10 @@
 //! Tables of what an independent model of the format answers, a row for a packet.
 //! Fields: whether the packet is its island's first; its header, its bodies and its sync value in each column; the nibbles of each lane's
-//! columns; which words come in place of others, each its column, `.`, its lane, `=` and its four hexadecimal digits; for each block `-`
-//! where it is clean, the bit that is mended or `lost`, and how many words are no TERC4 words; the packet that is then taken, where it is
-//! another one.
+//! columns; which words replace others, each its column, `.`, its lane, `=` and its four hexadecimal digits; for each
+//! block `-` where it is clean, the bit that is mended or `lost`, and how many words are no TERC4 words; the packet
+//! that is then taken, where it is another one.
 
-/// Packets whose columns come whole.
+/// Packets whose columns arrive whole.
 pub(crate) static WHOLE: &str = "\
 first|000000 00000000000000000000000000000000000000000000000000000000 00000000000000000000000000000000|08888888888888888888888888888888 00000000000000000000000000000000 00000000000000000000000000000000||- - - - - 0|
 first|82020d 66000800010000000000000000000000000000000000000000000000 00000000000000000000000000000000|0c88888c8c888888c8cc888888c88ccc 01010000000000001000000000001110 10100000010000000000000000000010||- - - - - 0|
@@ -29,7 +29,7 @@ later|579129 8393b01eca9032385bc295cf1858d6600bab90431ac826cd97ca8d12 3110202303
 later|f6f8a8 f74f8c1192aa1a4acbe7109e4f5518fcc2a5e0bf64517b677e551364 30022300001302032023233113133100|bccaefcc889fcecfa8afafbd9bdbb98c 91dbb5cfab0e5cb88abce6c22e3ed237 3611bfc6e1a788c43247f75511c0aec0||- - - - - 0|
 later|e03b07 45ec0be0d49874e67a5deed5890c4c37480f525c02b00930d7cb786e 21321001333003331103203222101103|a9ba9ccdffbccfbbddcba8baead8dd8f 1787c56332a6ce8ba37f24dc0b1945fb 24aa6b711780e63bc80b0f83ca90243b||- - - - - 0|";
 
-/// Packets with one word that is hurt.
+/// Packets with one word that is damaged.
 pub(crate) static ONE_DAMAGED: &str = "\
 later|000000 00000000000000000000000000000000000000000000000000000000 00000000000000000000000000000000|88888888888888888888888888888888 00000000000000000000000000000000 00000000000000000000000000000000|25.0=028e|- - - - 25 0|
 later|ffffff ffffffffffffffffffffffffffffffffffffffffffffffffffffffff 33333333333333333333333333333333|fffffffffffffffffffffffffbbfffbb ffffffffffffffffffffffffffff000f fffffffffffffffffffffffffffffff0|6.2=0163|13 - - - - 0|
@@ -54,7 +54,7 @@ first|48e956 8976e102e50e594a08789be1f74502c15a885e86396181fe946fdb05 1221132011
 first|52e40b a05ef7fe342b8b3cbb00ddc0ae1f8401cf83a54221f5849626fbb18a 12312110023131332111123212310300|1eb9e9d88af9bdffed9d9aba9afd8bcc 8ea869315d956b33c59a92847220949b 02bd332ad41dd39788de73babb499e44|31.0=00e0|- - - - 31 1|
 later|c2c502 d5c0c10821d1c97f6020c750cdd93ea496ac80d952014a13fd19d8fc 10122302023233010132123230021202|9c9aabcecafabbcd8dba9abafc8a9a8a b773040b94c1ae8a90a272df38ef37dc 66618865c0252dce08140e0f4b8be3e9|31.2=013d|63 - - 63 - 1|";
 
-/// Packets with two words that are hurt.
+/// Packets with two words that are damaged.
 pub(crate) static TWO_DAMAGED: &str = "\
 first|000000 00000000000000000000000000000000000000000000000000000000 00000000000000000000000000000000|08888888888888888888888888888888 00000000000000000000000000000000 00000000000000000000000000000000|6.0=029c 7.0=0224|- - - - - 1|
 first|536814 fa4d0e1be48cf21110f37b56c4814f8cd146ea789036883146a028f9 10000212232100203321312002020010|5c88cadaabad8ce8bbe9f9a8ca8ac8d8 6cb51521e1e63c3e03270346a0d97377 d5910d0c31a6f32064dd0dc3189f4fc2|23.2=02e0 9.1=0139|47 47 - 18 - 1|

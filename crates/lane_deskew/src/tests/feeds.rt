@@ -1,5 +1,5 @@
-//! Alignments and columns of lanes whose bits come in feeds, compared with values that were computed apart
-//! from this crate, and after each feed with the alignment of all bits that came.
+//! Alignments and columns of lanes whose bits arrive in feeds, compared with values that were computed apart
+//! from this crate, and after each feed with the alignment of all bits that arrived.
 ghost use Rattle.std.specs.Prelude.{ℕ, ◌≡◌, ◌<◌, ◌≤◌, ◌+◌, ◌*◌, ◌^◌, [], IsTrue, length, true, min};
 ghost use Rattle.lane_align.specs.Words.{AreWords};
 ghost use Rattle.lane_align.specs.Aligners.{fed_of};
@@ -68,7 +68,7 @@ struct FedLane {
 }
 
 impl FedLane {
-    /// A lane behind zeros, so many bytes of them, of which nothing has been fed.
+    /// A lane after zeros, so many bytes of them, of which nothing has been fed.
     fn open(alloc: Global, lane: u8, row: &Row, zeros: u32) -> Result<FedLane, Fail>
         requires { lane < 3 }
     {
@@ -102,7 +102,7 @@ impl FedLane {
     }
 }
 
-/// That the columns that are lent are the next of a case. Tells how many there are.
+/// That the columns that are lent are the next of a case. Returns how many there are.
 fn expect_columns(rt: &impl Abort, deskew: &Deskew, case: &Case, taken: usize) -> usize
     ensures { result ≡ ready_of deskew.now }
 {
@@ -117,7 +117,7 @@ fn expect_columns(rt: &impl Abort, deskew: &Deskew, case: &Case, taken: usize) -
     n
 }
 
-/// The bits of a lane behind zeros, so many bytes of them.
+/// The bits of a lane after zeros, so many bytes of them.
 fn late(alloc: Global, row: &Row, zeros: u32) -> Result<Row, Fail> {
     let mut bytes = vec![in alloc; 0; zeros as usize]?;
     bytes.extend_from_slice(row.bytes.as_slice())?;
@@ -141,7 +141,7 @@ fn aligned(
     Ok(first_alignment(&first, &second, &third))
 }
 
-/// Three lanes behind zeros, so many bytes of them, and room for their characters.
+/// Three lanes after zeros, so many bytes of them, and room for their characters.
 #[derive(Drop)]
 struct FedLanes {
     first: FedLane,
@@ -152,7 +152,7 @@ struct FedLanes {
 }
 
 impl FedLanes {
-    /// The lanes of a case behind zeros.
+    /// The lanes of a case after zeros.
     fn open(alloc: Global, case: &Case, zeros: u32) -> Result<FedLanes, Fail> {
         Ok(FedLanes {
             first: FedLane::open(alloc, 0, &case.a, zeros)?,
@@ -169,7 +169,7 @@ impl FedLanes {
         first.max(self.second.row.bits).max(self.third.row.bits)
     }
 
-    /// Feeds each of them the next bits. Tells where they are aligned.
+    /// Feeds each of them the next bits. Reports where they are aligned.
     fn feed(&mut self, rt: &impl Abort, deskew: &mut Deskew, piece: u32) -> Option<Aligned> {
         let words = self.words.as_mut_slice();
         self.first.feed(rt, deskew, piece, words);
@@ -196,7 +196,7 @@ impl FedLanes {
     }
 }
 
-/// Takes the columns that are lent, which are the next of a case. Tells how many were taken by then.
+/// Takes the columns that are lent, which are the next of a case. Reports how many were taken by then.
 fn take_columns(rt: &impl Abort, deskew: &mut Deskew, case: &Case, taken: usize) -> usize {
     let n = expect_columns(rt, deskew, case, taken);
     deskew.consume(n);
@@ -204,14 +204,14 @@ fn take_columns(rt: &impl Abort, deskew: &mut Deskew, case: &Case, taken: usize)
     taken + n
 }
 
-/// The edges of a case behind zeros, so many bytes of them.
+/// The edges of a case after zeros, so many bytes of them.
 fn edges_behind(case: &Case, zeros: u32) -> Option<[u64; 3]> {
     let bits = u64::from(zeros).wrapping_mul(8);
     case.edges
         .map(|edges| edges.map(|edge| edge.wrapping_add(bits)))
 }
 
-/// Feeds lanes in pieces, and takes the columns of a case from them. Tells where they are aligned in the
+/// Feeds lanes in pieces, and takes the columns of a case from them. Reports where they are aligned in the
 /// end, and how many columns were taken.
 fn feed_all(
     rt: &impl Abort,
@@ -237,7 +237,7 @@ fn feed_all(
     Ok((found, taken))
 }
 
-/// Feeds the lanes of a case, behind zeros and in pieces. Tells where they are aligned, and how many columns
+/// Feeds the lanes of a case, after zeros and in pieces. Reports where they are aligned, and how many columns
 /// were taken.
 fn feed_case(
     rt: &impl Abort,
@@ -251,7 +251,7 @@ fn feed_case(
     feed_all(rt, alloc, &mut deskew, &mut lanes, case, pieces)
 }
 
-/// That three lanes behind zeros, which are fed in pieces, are aligned as a case says.
+/// That three lanes after zeros, which are fed in pieces, are aligned as a case says.
 fn expect_case(
     rt: &impl Abort,
     alloc: Global,

@@ -1,8 +1,8 @@
 //! The bits of three lanes and their alignments, as they were computed apart from this crate.
 
 /// Cases with an empty line between them. The first line is what the lanes show, the edges of their first full alignment where they have
-/// one, and the columns from it on: nine hexadecimal digits, three for each word, behind how often the column comes. Then come the lanes:
-/// how many bits a lane has, and its bits, eight to a byte, the first lowest.
+/// one, and the columns from it on: nine hexadecimal digits, three for each word, after how often the column occurs.
+/// Then follow the lanes: how many bits a lane has, and its bits, eight to a byte, the first lowest.
 pub(crate) static CASES: &str = "\
 the worked tap|313 243 278|4*354354354 8*3540ab354 2*2cc1332cc 100100200 5*354354354
 393|a69a6aaaa9a69a6aaaa9a69a6aaaa9a69a6aaaa9a69a6aaaa9a69a6aaaa9a69a6aaaa9a69a6aaa99651620aaa9a69a6aaa01

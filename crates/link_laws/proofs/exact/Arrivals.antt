@@ -1,5 +1,5 @@
--- Columns that spell periods, whatever bit 3 of lane 0 is, arrive as themselves; and of what is told of them nothing is
--- a fault.
+-- Columns that spell periods, whatever bit 3 of lane 0 is, arrive as themselves; and of what is reported of them
+-- nothing is a fault.
 use Rattle.std.proofs.Common.{◌≡◌, ℕ, suc, ◌+◌, ◌-◌, ◌<◌, ◌≤◌, Bool, true, false, cond, not, List, [], ◌∷◌, ◌++◌, length, map, take, drop, get_or, slice_index, refl, ap, ap₂, sym, ◌∙◌, subst, arith, append_assoc}
 use Rattle.std.specs.Prelude.{nat_lt, Option, Some, None, ℤ, pos, ◌+ℤ◌, count_by}
 use Rattle.std.specs.List.{list_all}
@@ -51,7 +51,7 @@ use Rattle.link_laws.proofs.SpelledWords.{AreWords, lane_words, small_blue, smal
 use Rattle.link_laws.proofs.exact.ControlFine.{control_fine, preamble_fine}
 use Rattle.link_laws.proofs.exact.Faultless.{Fine, fine_both, guards_fine}
 
--- A column as it came, which is the column that was sent.
+-- A column as it was received, which is the column that was sent.
 
 same_column : (c : Column) → unlike c c ≡ 0
 unfolding unlike_words one_if

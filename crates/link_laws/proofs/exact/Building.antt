@@ -1,4 +1,4 @@
--- Where no fault is told, periods are built whose columns begin with the ones before the cut column.
+-- Where no fault is reported, periods are built whose columns begin with the ones before the cut column.
 use Rattle.std.proofs.Common.{◌≡◌, ℕ, ◌+◌, ◌≤◌, Bool, true, false, not, ◌&&◌, List, [], ◌∷◌, ◌++◌, length, map, replicate, refl, ap, ap₂, sym, ◌∙◌, subst, arith, append_assoc}
 use Rattle.std.specs.Prelude.{nat_lt}
 use Rattle.std.specs.List.{list_all}
@@ -162,7 +162,7 @@ open_island_front g h [] before are = record {
 }
 open_island_front g h (p ∷ ps) before are = grind (arith, flat (p ∷ ps), island_of g h before (p ∷ ps) are (omega arith) (guard_column 0) (guard_column 0) zero_pair)
 
--- What is told of it.
+-- What is reported of it.
 
 record IsLed (b bits : ℕ) (control : List Column) : Type 0 where
   led : Fine (lacks b control bits)

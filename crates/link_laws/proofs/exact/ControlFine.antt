@@ -1,4 +1,4 @@
--- Columns of control words tell their runs alone, and no fault.
+-- Of columns of control words their runs alone are reported, and no fault.
 use Rattle.std.proofs.Common.{arith, ◌≡◌, ℕ, suc, zero, ◌+◌, ◌==◌, true, List, [], ◌∷◌, length, map, take, refl, ap, ap₂, sym, ◌∙◌, subst}
 use Rattle.std.specs.Prelude.{nat_lt}
 use Rattle.std.specs.List.{list_all}

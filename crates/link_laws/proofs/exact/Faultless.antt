@@ -34,7 +34,7 @@ code_fine lane s o h = grind arith
 pub not_false : (p : Bool) → not p ≡ false → p ≡ true
 not_false p h = grind arith
 
--- two columns neither of which is told as no guard column
+-- two columns neither of which is reported as no guard column
 pub both_sure : (is : Column → Bool) (b : ℕ) (g h : Column) → Fine (wrong_guards is b g h) → (is g ≡ true) × (is h ≡ true)
 both_sure is b g h f = grind (arith, not_false, if_so_fine, fine_left, fine_right)
 

@@ -1,4 +1,4 @@
--- A data island of which no fault is told: its columns spell its packets.
+-- A data island of which no fault is reported: its columns spell its packets.
 use Rattle.std.proofs.Common.{◌≡◌, ℕ, suc, zero, ◌+◌, ◌<◌, ◌≤◌, ◌==◌, Bool, true, false, not, ◌&&◌, ◌||◌, List, [], ◌∷◌, ◌++◌, length, map, take, drop, slice_index, refl, ap, ap₂, sym, ◌∙◌, subst, arith, append_assoc, length-take-le, is_some}
 use Rattle.std.specs.Prelude.{nat_lt, Option}
 use Rattle.std.specs.List.{list_all}
@@ -64,7 +64,7 @@ unfolding split
 split_long zero cs = tt
 split_long (suc n) cs = long_by (holds_packet cs) cs (split n (drop 32 cs)) refl (split_long n (drop 32 cs))
 
--- Packets, k of which came before.
+-- Packets, k of which were received before.
 
 pub record ArePackets (first : Bool) (k : ℕ) (ps : List (List Column)) : Type 0 where
   pub spelled : SpellsPacketsBy freely first (map packet_of ps) (flat ps)

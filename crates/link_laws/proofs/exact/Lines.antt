@@ -1,4 +1,4 @@
--- A line of which no fault is told: its columns spell its bytes.
+-- A line of which no fault is reported: its columns spell its bytes.
 use Rattle.std.proofs.Common.{◌≡◌, ℕ, suc, zero, ◌+◌, ◌*◌, ◌<◌, ◌≤◌, Bool, true, cond, List, [], ◌∷◌, length, map, take, get_or, refl, ap, ap₂, sym, subst, arith}
 use Rattle.std.specs.Prelude.{nat_le, Option, Some, None, ℤ, pos, ◌+ℤ◌}
 use Rattle.std.proofs.Math.IntN.{+ℤ_assoc, +ℤ_idl, +ℤ_idr}

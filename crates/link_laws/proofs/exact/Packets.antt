@@ -1,4 +1,4 @@
--- A packet of which no fault is told: its columns carry it, whatever bit 3 of lane 0 is.
+-- A packet of which no fault is reported: its columns carry it, whatever bit 3 of lane 0 is.
 use Rattle.std.proofs.Common.{◌≡◌, ℕ, suc, zero, ◌+◌, ◌*◌, ◌%◌, ◌<◌, ◌≤◌, Bool, true, false, cond, not, List, [], ◌∷◌, ◌++◌, length, map, take, drop, refl, ap, ap₂, sym, ◌∙◌, subst, arith, All, append_assoc, length-take-le, length-drop, length-append}
 use Rattle.std.specs.Prelude.{nat_lt, count_by}
 use Rattle.std.specs.List.{list_all}
@@ -131,7 +131,7 @@ are_terc ws h (suc zero) lt = terc_all 1 ws (none_foreign (is_foreign 1) ws (ome
 are_terc ws h (suc (suc zero)) lt = terc_all 2 ws (none_foreign (is_foreign 2) ws (omega arith))
 are_terc ws h (suc (suc (suc lane))) lt = absurd (omega arith)
 
--- No fault is told.
+-- No fault is reported.
 
 record AreClean (ws : List (List ℕ)) : Type 0 where
   terc : foreign_words ws ≡ 0

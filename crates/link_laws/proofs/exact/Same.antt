@@ -1,4 +1,5 @@
--- The columns from the cut column on tell no fault: where none is told of the columns before it, none is told of all.
+-- Of the columns from the cut column on no fault is reported: where none is reported of the columns before it, none is
+-- reported of all.
 use Rattle.std.proofs.Common.{◌≡◌, ℕ, suc, zero, ◌+◌, ◌≤◌, Bool, true, false, not, List, [], ◌∷◌, ◌++◌, length, take, drop, refl, ap, sym, ◌∙◌, subst, arith, length-append, length-take-le}
 use Rattle.std.proofs.lemmas.List.{append-nil}
 use Rattle.std.proofs.lemmas.List.Folds.{list_all-append}
@@ -58,7 +59,7 @@ split_again n [] h le = split_none n [] (holds_not [] (omega arith))
 split_again zero (p ∷ ps) h le = let a = length-append p (flat ps) in let e = h.0 in absurd (omega arith)
 split_again (suc n) (p ∷ ps) h le = grind (arith, length-append, flat, split_packet, split_again n ps)
 
--- What is told of a gap while it goes on.
+-- What is reported of a gap while it goes on.
 
 broken_left : (b s k : ℕ) (t : List Column) → is_broken t ≡ true → in_left b s k t ≡ []
 broken_left b s k t h = grind arith
@@ -71,7 +72,7 @@ same_gap : (b : ℕ) (control : List Column) (g h : Column) (rest : List Column)
 unfolding in_gap
 same_gap b control g h rest = grind (arith, same_payload, split_packets, split_flat)
 
--- What the end tells is no fault.
+-- What is reported at the end is no fault.
 
 ends_fine : (b : ℕ) (k : Kind) (rest : List Column) → Fine (payload_ends b k rest)
 ends_fine b k rest = grind (arith, is_broken)

@@ -1,4 +1,4 @@
-//! Rows of three lanes, what is told of them, and an ear that notes what it is told.
+//! Rows of three lanes, what is reported of them, and an ear that notes what is reported to it.
 ghost use Rattle.std.specs.Prelude.{⊤};
 
 use crate::Ear;
@@ -12,7 +12,7 @@ use tmds_word::{BitRow, Word};
 /// The kind of an event and two of its numbers.
 pub type Row = [u32; 3];
 
-/// Notes the first events that it is told, but fails at one of them.
+/// Notes the first events that are reported to it, but fails at one of them.
 #[derive(Drop)]
 pub struct Notes {
     pub rows: [Row; 16],
@@ -132,7 +132,7 @@ pub fn tells_of(alloc: Global, events: &str) -> Result<Vec<Row>, Fail> {
     Ok(rows)
 }
 
-/// What is told of the lanes from twelve control columns before the guard on.
+/// What is reported of the lanes from twelve control columns before the guard on.
 pub static TELLS: [Row; 4] = [[0, 0, 4], [0, 4, 8], [1, 3, 0x10ff00], [0, 0, 12]];
 
 /// No events.
@@ -154,7 +154,7 @@ fn push(row: &mut BitRow, number: u32, times: u32) -> Result<(), NoMemory> {
     Ok(())
 }
 
-/// A lane that comes so many bits late, at most 80, and begins with so many control words.
+/// A lane that is so many bits late, at most 80, and begins with so many control words.
 fn row_from(alloc: Global, skew: u32, lead: u32, lane: &str) -> Result<BitRow, Fail> {
     let mut row = BitRow::new(alloc);
     let late = [0; 10];
@@ -184,7 +184,7 @@ pub fn rows_of(
     ])
 }
 
-/// The lanes, each so many bits late, with so many control columns before them and 20 behind them, up to so many bits
+/// The lanes, each so many bits late, with so many control columns before them and 20 after them, up to so many bits
 /// of each.
 pub fn even_rows(
     alloc: Global,

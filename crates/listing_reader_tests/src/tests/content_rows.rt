@@ -97,8 +97,8 @@ read|50||mode 2 1 2 14 2 1 1 1 0;s 000001 000000 0 0 0 0;s 000002 000000 0 0 0 0
 1 Unended|50||
 failed|50|3|mode 2 1 2 14 2 1 1 1 0;row 112233445566;row 000000ffffff;frame 2 2;row 112233445566;row 000000ffffff;frame 2 2;end;";
 
-/// The first wrong line and its cause, of a frame with so many packet lines and samples, and of lines behind 100 frames, which have
-/// too many columns.
+/// The first wrong line and its cause, of a frame with so many packet lines and samples, and of lines after 100 frames,
+/// which have too many columns.
 pub(crate) static LONG_CONTENTS: &str = "\
 read|60000||mode 2 1 2 14 2 1 1 1 0;_65535*gcp 0 0 0;_0*s 000000 000000 0 0 0 0;_row 112233445566;row 000000ffffff;frame 2 2;end;
 65537 Long|60000||mode 2 1 2 14 2 1 1 1 0;_65536*gcp 0 0 0;_0*s 000000 000000 0 0 0 0;_row 112233445566;row 000000ffffff;frame 2 2;end;
@@ -115,8 +115,8 @@ read|60000||mode 2 1 2 14 2 1 1 1 0;_65534*gcp 0 0 0;_4*s 000000 000000 0 0 0 0;
 203 After|60000||mode 1 1 1 14 1 4096 4096 4096 0;_100*row 000000;frame 1 1;_end;!
 204 Unended|60000||mode 1 1 1 14 1 4096 4096 4096 0;_100*row 000000;frame 1 1;_row 000000;frame 1 1;end";
 
-/// The fault of a raster. 95 frames of 208,913 columns fit 20,000,000 columns; a frame without room for its packets is told before
-/// the length, wherever it stands.
+/// The fault of a raster. 95 frames of 208,913 columns fit 20,000,000 columns; a frame without room for its packets is
+/// reported before the length, wherever it stands.
 pub(crate) static RASTERS: &str = "\
 read|60000||mode 1 1 1 14 1 4096 4096 4096 0;_95*row 000000;frame 1 1;_end;
 Long|60000||mode 1 1 1 14 1 4096 4096 4096 0;_96*row 000000;frame 1 1;_end;

@@ -188,7 +188,7 @@ fn long_contents(rt: HostRuntime) -> Result<(), Fail> {
     judge_contents(&rt, rt.alloc(), LONG_CONTENTS)
 }
 
-/// The fault of the raster that is told while a content listing is read.
+/// The fault of the raster that is reported while a content listing is read.
 fn raster_answer(alloc: Global, text: &str) -> Result<String, Fail> {
     let mut source = source_of(alloc, text)?;
     match read_content(alloc, &mut source) {

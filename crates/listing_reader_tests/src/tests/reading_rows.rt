@@ -142,7 +142,7 @@ read|500||c 00 12;c 14 8;i 03;&e 00;c 00 12;c 14 8;i 33;p 000000 00000000000000 
 5 Long|500||c 00 19999957;c 14 8;i 00;&e 00;
 6 Long|500||c 00 19999956;c 14 8;i 00;&e 00;c 00 1;";
 
-/// Listings without guard bands: how many columns they tell, or the first wrong line and its cause.
+/// Listings without guard bands: how many columns they describe, or the first wrong line and its cause.
 pub(crate) static DVI: &str = "\
 12 columns|500||c 00 12;end;
 25 columns|500||c 00 12;v ff0000;c 00 12;end;

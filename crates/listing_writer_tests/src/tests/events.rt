@@ -1,4 +1,4 @@
-//! Events that are told, from their words.
+//! Events that are reported, from their words.
 ghost use Rattle.std.specs.Prelude.{◌≡◌, ◌≤◌, ◌<◌, ◌%◌, length};
 
 use bch_block::Verdict;
@@ -63,12 +63,12 @@ fn fault_of(name: &str, numbers: [u32; 3]) -> Option<Fault> {
     })
 }
 
-/// Tells a fault.
+/// Reports a fault.
 fn tell_fault<E: Ear>(ear: &mut E, fault: Fault) -> Result<(), Failed> {
     ear.hear(EventRef::Fault(fault))
 }
 
-/// Tells a line of whole pixels.
+/// Reports a line of whole pixels.
 pub(crate) fn tell_line<E: Ear>(ear: &mut E, pixels: &[u8]) -> Result<(), Failed>
     requires whole { length pixels.now % 3 ≡ 0 }
     requires some { 3 ≤ length pixels.now }
@@ -77,7 +77,7 @@ pub(crate) fn tell_line<E: Ear>(ear: &mut E, pixels: &[u8]) -> Result<(), Failed
     ear.hear(EventRef::Line { pixels })
 }
 
-/// Tells a packet at column 14, with this verdict on its first block.
+/// Reports a packet at column 14, with this verdict on its first block.
 fn tell_packet<E: Ear>(ear: &mut E, packet: &Packet, verdict: Verdict) -> Result<(), Failed> {
     if !is_packet_in_range(packet) {
         return Err(Failed);
@@ -91,25 +91,25 @@ fn tell_packet<E: Ear>(ear: &mut E, packet: &Packet, verdict: Verdict) -> Result
     ear.hear(EventRef::Packet { packet, column: 14 })
 }
 
-/// Tells a run of control columns.
+/// Reports a run of control columns.
 fn tell_run<E: Ear>(rt: &impl Abort, ear: &mut E, value: u8, count: u32) -> Result<(), Failed> {
     assert!(rt; value < 64 && count >= 1);
     ear.hear(EventRef::Run { value, count })
 }
 
-/// Tells the guard that opens a data island.
+/// Reports the guard that opens a data island.
 fn tell_open<E: Ear>(rt: &impl Abort, ear: &mut E, a: u8, b: u8) -> Result<(), Failed> {
     assert!(rt; a < 4 && b < 4);
     ear.hear(EventRef::Open { sync: [a, b] })
 }
 
-/// Tells the guard that closes a data island.
+/// Reports the guard that closes a data island.
 fn tell_close<E: Ear>(rt: &impl Abort, ear: &mut E, a: u8, b: u8) -> Result<(), Failed> {
     assert!(rt; a < 4 && b < 4);
     ear.hear(EventRef::Close { sync: [a, b] })
 }
 
-/// Tells something that two numbers say: a run, a guard or a cut.
+/// Reports something that two numbers say: a run, a guard or a cut.
 fn tell_numbers<E: Ear>(
     rt: &impl Abort,
     ear: &mut E,
@@ -155,7 +155,7 @@ fn lay_digits(all: &mut [u8], digits: &str) {
     }
 }
 
-/// Tells an ear the event that words name.
+/// Reports to an ear the event that words name.
 pub(crate) fn tell<E: Ear>(
     rt: &impl Abort,
     alloc: Global,
@@ -178,7 +178,7 @@ pub(crate) fn tell<E: Ear>(
     Ok(tell_packet(ear, &packet_of(alloc, rest)?, verdict))
 }
 
-/// Tells an ear a fault, or something that two numbers say.
+/// Reports to an ear a fault, or something that two numbers say.
 fn tell_other<E: Ear>(
     rt: &impl Abort,
     ear: &mut E,

@@ -136,7 +136,7 @@ fn contents(rt: HostRuntime) -> Result<(), Fail> {
     Ok(())
 }
 
-/// Tells a lister of a content the events of a table and the end, and compares all that it wrote.
+/// Reports to a lister of a content the events of a table and the end, and compares all that it wrote.
 fn follow(rt: &impl Abort, alloc: Global, table: &str, faults: u64) -> Result<(), Fail> {
     let mut steps = String::new(alloc);
     let mut wanted = format!(in alloc; "{faults} faults: ")?;
@@ -163,7 +163,7 @@ fn an_island(rt: HostRuntime) -> Result<(), Fail> {
     follow(&rt, rt.alloc(), ISLAND, 2)
 }
 
-/// Tells the lines of a frame of zeros, between two changes of VSYNC, and an event behind the lines.
+/// Reports the lines of a frame of zeros, between two changes of VSYNC, and an event after the lines.
 fn tell_frame(
     rt: &impl Abort,
     alloc: Global,
@@ -183,7 +183,7 @@ fn tell_frame(
     Ok(())
 }
 
-/// What is written behind the rows of a frame.
+/// What is written after the rows of a frame.
 fn frame_lines(rt: &impl Abort, alloc: Global, words: &str) -> Result<String, Fail> {
     let (size, step) = words.split_once('|').ok_or("a frame of no step")?;
     let (width, height) = size.split_once(' ').ok_or("a frame of no height")?;

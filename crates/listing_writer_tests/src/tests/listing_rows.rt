@@ -1,7 +1,7 @@
 //! Tables of events that are listed: of each row the faults, the steps that failed, counted from 0, and what was written, with `;`
-//! for a line feed. Then come the sink (its room, the most bytes that a write takes, and the writes that fail) and the steps: events
-//! with the numbers of their lines, packets with the digits of their header, of the first bytes of their bodies and of their first sync
-//! values, and the end. The texts come from a model in another language.
+//! for a line feed. Then follow the sink (its room, the most bytes that a write takes, and the writes that fail) and
+//! the steps: events with the numbers of their lines, packets with the digits of their header, of the first bytes of
+//! their bodies and of their first sync values, and the end. The texts were computed by a model in another language.
 
 /// Listings of links. A fault counts where its line is written whole, and no other line does. The last row has room for seven bytes of
 /// its third line.
@@ -130,8 +130,8 @@ mended 14 0 1|! mended 14 0 1;
 close 0 3|
 run 0 12|";
 
-/// What is written behind the rows of a frame: its width and height, and what is told before it ends, perhaps a packet with a video
-/// identification code.
+/// What is written after the rows of a frame: its width and height, and what is reported before it ends, perhaps a
+/// packet with a video identification code.
 pub(crate) static SIZES: &str = "\
 frame 640 480;|640 480|run 2 1
 avi 0 0 0 0 8 0 0 0 0 0 0 1 0 0 0 0 0;frame 640 480;|640 480|packet 82020d 6600080001

@@ -1,7 +1,7 @@
-//! Tables of columns, and what an independent model of the format tells of them: of each row its name, the columns, and for each event
-//! that is told the column at which it is told, and what it is. Of lines and packets there are the bytes' digest. A column is nine
-//! hexadecimal digits, three for each word; pieces of columns have `_` between them, and a piece is there as often as the number before
-//! its `*` says.
+//! Tables of columns, and what an independent model of the format reports of them: of each row its name, the columns,
+//! and for each event that is reported the column at which it is reported, and what it is. Of lines and packets there
+//! are the bytes' digest. A column is nine hexadecimal digits, three for each word; pieces of columns have `_` between
+//! them, and a piece is there as often as the number before its `*` says.
 
 /// Columns of control periods and lines.
 pub(crate) static LINES: &str = "\

@@ -18,8 +18,8 @@ fn four(numbers: &str) -> Result<[u16; 4], Fail> {
     Ok(four)
 }
 
-/// A content of frames, each of which is how many packets it has, and behind a colon how many bytes each of its rows has: packet i
-/// is type i, and the bytes of a row count up from a number of the frame and the row.
+/// A content of frames, each of which is how many packets it has, and after a colon how many bytes each of its rows
+/// has: packet i is type i, and the bytes of a row count up from a number of the frame and the row.
 fn content_of(alloc: Global, frames: &str) -> Result<Content, Fail> {
     let mut content = Content::new(alloc);
     for (f, frame) in frames.split_whitespace().enumerate() {

@@ -1,7 +1,8 @@
 //! Tables of lists of items, with values that were computed apart from `source_end`. An item is `c` and the runs of a control period,
 //! each its value, `x` and how many columns it has; `v` and the pixels of a video data period; `b` and how many black pixels; `i` and a
 //! data island of Null packets: the sync values of its opening guard columns, of each packet, and of its closing guard columns; or `n`
-//! and how many Null packets, each sync value 0. A column is nine hexadecimal digits, three for each word, behind how often it comes.
+//! and how many Null packets, each sync value 0. A column is nine hexadecimal digits, three for each word, after how
+//! often it occurs.
 
 /// What the last item's push answers and what the list's close then answers, its columns or its fault: lists with each fault, in the
 /// order in which the faults are tried.

@@ -4,7 +4,7 @@ use crate::tests::notes::Row;
 use std::alloc::Global;
 use std::test::*;
 
-/// Three lanes, how many epochs they have, how many of these are aligned, and what is told.
+/// Three lanes, how many epochs they have, how many of these are aligned, and what is reported.
 #[derive(Drop)]
 pub struct Case {
     pub bits: [u32; 3],

@@ -1,4 +1,4 @@
-//! An ear that notes what it is told.
+//! An ear that notes what is reported to it.
 ghost use Rattle.std.specs.Prelude.{⊤};
 ghost use Rattle.outside_io.specs.Causes.{HasCause};
 
@@ -10,7 +10,7 @@ use period_grammar::{EventRef, Fault};
 /// The kind of an event and two of its numbers.
 pub type Row = [u32; 3];
 
-/// Notes the first events that it is told, but fails at one of them.
+/// Notes the first events that are reported to it, but fails at one of them.
 #[derive(Drop)]
 pub struct Notes {
     pub rows: [Row; 40],

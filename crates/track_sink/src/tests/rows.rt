@@ -1,8 +1,8 @@
-//! Lanes that lose bits, and what is told of them: worked apart from this crate.
+//! Lanes that lose bits, and what is reported of them: worked apart from this crate.
 
 /// Cases with an empty line between them. The first line is what the lanes show, how many epochs they have, how many of these are aligned,
-/// and what is told. Then come the lanes: how many bits a lane has, and its bits, eight to a byte, the first lowest, in pieces, each as
-/// often as the number before its `*` says.
+/// and what is reported. Then follow the lanes: how many bits a lane has, and its bits, eight to a byte, the first
+/// lowest, in pieces, each as often as the number before its `*` says.
 pub(crate) static CASES: &str = "\
 two epochs|2|2|run 0 4, run 4 8, cut 14, slip 2 437, run 0 4, run 4 8, line 3 ff0000, run 0 12
 910|3*54534d35d5 cc320b 2*d0ff00fd0f 10 2*40ff03f43f 40 2*00fd0fd0ff 0001f43f40 8*54534d35d5 cc320b10 3*d554534d35

@@ -25,7 +25,7 @@ can_feed fed most j count bits bytes f above below b len small =
       | inr over ↦ record { most = omega arith; bytes_given = len; whole = inl (omega arith); going = inl (omega arith); total = omega arith }
     ]
 
--- what holds of a block that came, and where none came
+-- what holds of a block that were received, and where none were received
 block_of : {T E : Type 0} (N : Type 0) (P : T → Type 0) (r : Result (Option T) E) (o : Option T) (b : T) → IfOk r (λ x. MatchOption x N P) → r ≡ Ok o → o ≡ Some b → P b
 block_of N P r o b h is some = subst (λ x. MatchOption x N P) some (subst (λ x. IfOk x (λ y. MatchOption y N P)) is h)
 

@@ -6,7 +6,7 @@ use Rattle.infoframe.proofs.Lists.{all_from_places}
 use Rattle.infoframe.proofs.Writings.{sum_from}
 use Rattle.infoframe.proofs.writing.lay.Goals as goal
 
--- zeros behind the payload
+-- zeros after the payload
 rest_of : (payload new : List ℕ) → new ≡ payload → new ++ drop (length payload + 1 - 1) (replicate 27 0) ≡ padded payload
 rest_of payload new e =
     let m : length payload + 1 - 1 ≡ length payload = omega arith in

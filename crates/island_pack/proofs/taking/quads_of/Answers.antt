@@ -5,7 +5,7 @@ use Rattle.island_pack.specs.Nibbles.{by_turns}
 use Rattle.island_pack.proofs.Parts.{turns_part}
 use Rattle.island_pack.proofs.taking.quads_of.Goals as goal
 
--- the byte of four columns, before those of the columns behind them
+-- the byte of four columns, before those of the columns after them
 before : (b byte n : ℕ) (gs rs : List ℕ) (rest : List Bool) → length gs ≡ 32 → length rs ≡ 32 → n + 4 ≤ 32
     → byte_bits byte ≡ by_turns b (take 4 (drop n gs)) (take 4 (drop n rs)) → by_turns b (drop (n + 4) gs) (drop (n + 4) rs) ≡ rest
     → by_turns b (drop n gs) (drop n rs) ≡ byte_bits byte ++ rest

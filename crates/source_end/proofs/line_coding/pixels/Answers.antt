@@ -1,4 +1,4 @@
-use Rattle.std.proofs.Common.{◌≡◌, ℕ, ◌%◌, ap, ◌≤◌, ◌<◌, ◌+◌, ◌-◌, ◌*◌, ◌/◌, ◌++◌, List, [], length, map, take, drop, min, subst, refl, sym, ◌∙◌, arith, length-append, append-nil, take_all, length-take, length-drop}
+use Rattle.std.proofs.Common.{◌≡◌, ℕ, ◌%◌, ◌≤◌, ◌<◌, ◌+◌, ◌-◌, ◌*◌, ◌/◌, ◌++◌, List, [], length, map, take, drop, min, subst, refl, sym, ◌∙◌, arith, length-append, append-nil, take_all, length-take, length-drop}
 use Rattle.tmds_word.specs.Column.{Column}
 use Rattle.tmds_code.specs.Lanes.{IsLane}
 use Rattle.island_pack.specs.Periods.{Pixel, pixels_of}
@@ -117,7 +117,7 @@ returns-in_err-rest-clause-part g c =
       red = (lane_upto coders.red coded.2 bytes piece count all _ all was.columns own (λ (p : Pixel). p.red) (λ (k : Column). k.red) le here refl is was.red_lane coded.3.red_lane).lane;
     }))
 
--- ---- the sizes of a block and of what is left behind the blocks
+-- ---- the sizes of a block and of what is left after the blocks
 
 part_size : (bytes : List ℕ) (from upto : ℕ) → from ≤ upto → upto ≤ length bytes → length (take (upto - from) (drop from bytes)) ≡ upto - from
 part_size bytes from upto le within = omega (arith, length-take (upto - from) (drop from bytes), length-drop from bytes)

@@ -1,4 +1,4 @@
-use Rattle.std.proofs.Common.{ap, ◌∙◌, arith, length-append}
+use Rattle.std.proofs.Common.{ap, ◌∙◌, arith, length-append, length}
 use Rattle.std.specs.List.{list_all}
 use Rattle.island_pack.specs.Conforming.{is_sync_pair, is_packet}
 use Rattle.island_pack.specs.Spelling.{guard_columns}

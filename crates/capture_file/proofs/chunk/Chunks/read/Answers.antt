@@ -13,7 +13,7 @@ use Rattle.outside_io.proofs.Consumed.{takes_more}
 use Rattle.capture_file.proofs.Rooms.{first_here, second_here, third_here}
 use Rattle.capture_file.proofs.chunk.Chunks.read.Goals as goal
 
--- a fault behind a part is one of all the bytes
+-- a fault after a part is one of all the bytes
 after : (taken part rest bytes : List ℕ) (e : CaptureError) → bytes ≡ part ++ rest → SaysOf (λ fault. IsFault ((taken ++ part) ++ rest) fault) e → SaysOf (λ fault. IsFault (taken ++ bytes) fault) e
 after taken part rest bytes e is h =
     says_of (λ fault. IsFault ((taken ++ part) ++ rest) fault) (λ fault. IsFault (taken ++ bytes) fault) e
@@ -25,7 +25,7 @@ returns-in_err-read-clause-err g c bytes taken x y z e r =
     let h = first_here c.args.bits c.args.j c.args.place c.chunk_len.result taken x y z r c.chunk_len.ensures in
     rw (p.1, p.2) (c.in_err-read.ensures.err bytes taken e h.awaited h.place_is)
 
--- a part behind bytes that were read
+-- a part after bytes that were read
 part_after : (old mid new : Option (List ℕ)) (a : List ℕ) (k size : ℕ) (e : CaptureError) → Consumes old mid a → length a + k ≤ size
     → SaysRead ((part : List ℕ) × (length part < k) × Consumes mid new part) e → SaysRead ((part : List ℕ) × (length part < size) × Consumes old new part) e
 part_after old mid new a k size e first room h = grind (arith, after, length-append, Consumes-trans, says_read)

@@ -30,7 +30,7 @@ returns-in-Err g c = record {
   later = search rules;
 }
 
--- a block behind the blocks before it
+-- a block after the blocks before it
 more : (version : ℕ) (counts : List ℕ) (j : ℕ) (taken : List ℕ) (x y z a b d u v w : List Bool) → u ≡ x ++ a → v ≡ y ++ b → w ≡ z ++ d
     → Stands version counts (j + 1) (taken ++ ((packed a ++ packed b) ++ packed d)) (x ++ a) (y ++ b) (z ++ d) → Stands version counts (j + 1) (taken ++ ((packed a ++ packed b) ++ packed d)) u v w
 more version counts j taken x y z a b d u v w eu ev ew s =

@@ -27,7 +27,7 @@ returns-in_err-fill-clause-taken g c = takes_more _ _ _ c.reads.invariant.taken 
 pub returns-then-branch-eq0-clause-taken : goal.returns-then-branch-eq0-clause-taken
 returns-then-branch-eq0-clause-taken g c = takes_more _ _ _ c.reads.invariant.taken c.fill.ensures.taken
 
--- bytes that came behind leave the first ones as they were
+-- bytes that were read after them leave the first ones as they were
 front_kept : (m : ℕ) (bytes before now more : List ℕ) → bytes ≡ before → now ≡ before ++ more → m ≤ length bytes
     → (length (take m bytes) ≤ length now) × (take (length (take m bytes)) now ≡ take m bytes)
 front_kept m bytes before now more same grown within = grind (arith, length-take-le, length-append, take-append-le)

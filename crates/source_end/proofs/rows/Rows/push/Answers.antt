@@ -1,5 +1,4 @@
-use Rattle.std.proofs.Common.{◌≡◌, ℕ, List, [], ◌∷◌, ◌++◌, length, ap, ap₂, sym, subst, ◌∙◌, arith, length-append}
-use Rattle.source_end.specs.Rows.{rows_between, AreEnds}
+use Rattle.std.proofs.Common.{[], arith, length-append}
 use Rattle.source_end.proofs.RowEnds.{ends_more, rows_more}
 use Rattle.source_end.proofs.rows.Rows.push.Goals as goal
 

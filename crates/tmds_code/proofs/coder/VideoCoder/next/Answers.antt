@@ -27,7 +27,7 @@ unfolding word_at
 word_is row b v p q w e f g le whole lt same =
     same ∙ low_part v (word_at (row / 256) b) (steps_at (row / 256) b) (entry_is row b v p q e f g le whole lt) (word_below (row / 256) b lt)
 
--- the row behind the character
+-- the row after the character
 row_is : (row b v p q : ℕ) → v ≡ slice_index STEPPED (p + q) → p ≡ row → q ≡ b → row ≤ 2048 → row % 256 ≡ 0 → b < 256
     → v / 65536 ≡ 256 * (row / 256 + ones (word_bits (coded_word (pos (2 * (row / 256)) -ℤ pos 8) b)) - 5)
 unfolding word_at steps_at
