@@ -1,15 +1,14 @@
 -- The account of a raster reports what is seen of its parts.
 use Rattle.std.proofs.lemmas.Grind.{common_steps}
-use Rattle.std.proofs.Common.{◌≡◌, ℕ, zero, suc, ◌+◌, ◌-◌, ◌*◌, ◌/◌, ◌<◌, ◌≤◌, Bool, true, false, not, cond, ◌==◌, List, [], ◌∷◌, ◌++◌, map, length, take, drop, replicate, min, Option, Some, None, refl, sym, ap, ap₂, subst, ◌∙◌, append_assoc, append-nil, arith, length-drop}
+use Rattle.std.proofs.Common.{◌≡◌, ℕ, zero, suc, ◌+◌, ◌-◌, ◌*◌, ◌/◌, ◌<◌, ◌≤◌, Bool, not, cond, ◌==◌, List, [], ◌∷◌, ◌++◌, map, length, take, drop, replicate, min, Option, refl, sym, ap, ap₂, subst, ◌∙◌, append_assoc, append-nil, arith, length-drop}
 use Rattle.std.specs.Prelude.{nat_lt, nat_le}
 use Rattle.std.proofs.lemmas.List.{drop-drop, drop-take, map-append, length-take}
 use Rattle.std.proofs.lemmas.Bool.{lt-ltb, le-ltb, eqb-true}
 use Rattle.tmds_word.specs.Column.{Column}
 use Rattle.terc4.specs.Tables.{is_control}
-use Rattle.terc4.specs.Columns.{is_video_guard, is_island_guard}
+use Rattle.terc4.specs.Columns.{is_island_guard}
 use Rattle.bch_block.specs.declared.Verdict.{Verdict}
-use Rattle.bch_block.specs.declared.Verdict.TheVariants.{Clean, Mended, Lost}
-use Rattle.island_pack.specs.Periods.{ControlRun, DataIsland, Period, control as control_period, video, island, values_of, Pixel, pixels_of, period_columns, VIDEO_PREAMBLE, ISLAND_PREAMBLE}
+use Rattle.island_pack.specs.Periods.{ControlRun, DataIsland, Period, control as control_period, video, island, values_of, Pixel, pixels_of, period_columns, ISLAND_PREAMBLE}
 use Rattle.island_pack.specs.Runs.{join}
 use Rattle.island_pack.proofs.Runs.{join_values}
 use Rattle.island_pack.specs.declared.packet.Packet.{Packet}
@@ -36,8 +35,7 @@ tick_of c = control (vsync_of (value_of c))
 
 no_word : (lane j : ℕ) (t : Bool) → ticks (other_word lane j t) ≡ []
 unfolding ticks
-no_word lane j true = refl
-no_word lane j false = refl
+no_word lane j t = grind arith
 
 no_both : (xs ys : List Event) → ticks xs ≡ [] → ticks ys ≡ [] → ticks (xs ++ ys) ≡ []
 no_both xs ys h g = ticks_append xs ys ∙ ap₂ (λ (a b : List Tick). a ++ b) h g
@@ -68,12 +66,10 @@ runs_ticks j (columns v cs ∷ rs) =
     ∙ ap₂ (λ (xs ys : List Tick). xs ++ (replicate (length cs) (control (vsync_of v)) ++ ys)) (no_words j cs) (runs_ticks (j + length cs) rs)
 
 front_ticks : (t : Bool) (c : Column) (r : Run) (rs : List Run) → (value_of c == value r) ≡ t → ticks_in (in_front t c r rs) ≡ tick_of c ∷ ticks_in (r ∷ rs)
-front_ticks true c (columns v cs) rs e = ap (λ (w : ℕ). control (vsync_of w) ∷ (replicate (length cs) (control (vsync_of v)) ++ ticks_in rs)) (sym (eqb-true (value_of c) v e))
-front_ticks false c (columns v cs) rs e = refl
+front_ticks t c r rs h = grind (arith, control, eqb-true)
 
 before_ticks : (c : Column) (rs : List Run) → ticks_in (before_runs c rs) ≡ tick_of c ∷ ticks_in rs
-before_ticks c [] = refl
-before_ticks c (r ∷ rs) = front_ticks (value_of c == value r) c r rs refl
+before_ticks c rs = grind (arith, front_ticks)
 
 columns_ticks : (cs : List Column) → ticks_in (runs_of cs) ≡ map tick_of cs
 unfolding runs_of
@@ -103,24 +99,19 @@ no_gaps = record { many = 0; are = refl }
 
 so_gaps : (t : Bool) (s n : ℕ) → AreGaps (if_so t (symbols s n))
 unfolding ticks
-so_gaps true s n = record { many = 1; are = refl }
-so_gaps false s n = record { many = 0; are = refl }
+so_gaps t s n = grind arith
 
 guard_gaps : (t : Bool) (b : ℕ) → AreGaps (if_so t (guard b))
 unfolding ticks
-guard_gaps true b = record { many = 1; are = refl }
-guard_gaps false b = record { many = 0; are = refl }
+guard_gaps t b = grind arith
 
 lack_gaps : (t : Bool) (b : ℕ) → AreGaps (if_not t (preamble b))
 unfolding ticks
-lack_gaps true b = record { many = 0; are = refl }
-lack_gaps false b = record { many = 1; are = refl }
+lack_gaps t b = grind arith
 
 block_gaps : (s i : ℕ) (v : Verdict) → AreGaps (block_fault s i v)
 unfolding ticks
-block_gaps s i Clean = record { many = 0; are = refl }
-block_gaps s i (Mended k) = record { many = 1; are = refl }
-block_gaps s i Lost = record { many = 1; are = refl }
+block_gaps s i v = grind arith
 
 blocks_gaps : (s i : ℕ) (vs : List Verdict) → AreGaps (block_faults s i vs)
 blocks_gaps s i [] = no_gaps
@@ -128,17 +119,14 @@ blocks_gaps s i (v ∷ vs) = gaps_both (block_fault s i v) (block_faults s (i + 
 
 code_gaps : (lane s : ℕ) (found : Option ℕ) → AreGaps (code_fault lane s found)
 unfolding ticks
-code_gaps lane s None = record { many = 0; are = refl }
-code_gaps lane s (Some i) = record { many = 1; are = refl }
+code_gaps lane s found = grind arith
 
 guards_gaps : (is : Column → Bool) (b : ℕ) (g h : Column) → AreGaps (wrong_guards is b g h)
 guards_gaps is b g h = gaps_both (if_so (not (is g)) (guard b)) (if_so (not (is h)) (guard (b + 1))) (guard_gaps (not (is g)) b) (guard_gaps (not (is h)) (b + 1))
 
 open_video_gaps : (b : ℕ) (before rs : List Column) → AreGaps (open_video_row b before rs)
 unfolding open_video_row
-open_video_gaps b before [] = no_gaps
-open_video_gaps b before (g ∷ []) = no_gaps
-open_video_gaps b before (g ∷ (h ∷ rs)) = gaps_both (wrong_preamble b VIDEO_PREAMBLE before) (wrong_guards is_video_guard b g h) (lack_gaps (has_preamble VIDEO_PREAMBLE before) b) (guards_gaps is_video_guard b g h)
+open_video_gaps b before rs = grind (arith, no_gaps, gaps_both, lack_gaps, guards_gaps)
 
 -- an event more in front of gaps
 gap_first : (t : Event) (ts : List Event) → ticks (t ∷ []) ≡ parted ∷ [] → AreGaps ts → AreGaps (t ∷ ts)
@@ -151,17 +139,14 @@ packet_gaps s p ss rs = grind (arith, gap_first, gaps_both, so_gaps, blocks_gaps
 
 close_gaps : (s : ℕ) (rs : List Column) → AreGaps (close_island_row s rs)
 unfolding close_island_row ticks
-close_gaps s [] = no_gaps
-close_gaps s (c ∷ []) = no_gaps
-close_gaps s (c ∷ (d ∷ rs)) = gap_first _ _ refl (guards_gaps is_island_guard s c d)
+close_gaps s rs = grind (arith, no_gaps, gap_first, guards_gaps)
 
 cut_gaps : (s : ℕ) → AreGaps (cut s ∷ [])
 unfolding ticks
 cut_gaps s = record { many = 1; are = refl }
 
 cond_gaps : (t : Bool) (xs ys : List Event) → AreGaps xs → AreGaps ys → AreGaps (cond t xs ys)
-cond_gaps true xs ys h g = h
-cond_gaps false xs ys h g = g
+cond_gaps t xs ys h k = grind arith
 
 packets_gaps : (s : ℕ) (ps : List Packet) (i : ℕ) (ss rs : List Column) → AreGaps (packets_reported cut s ps i ss rs)
 unfolding packets_reported
@@ -211,8 +196,7 @@ cut_hears n ts s e =
 line_hears : (t : Bool) (j n : ℕ) (ts : List Event) (ps : List Pixel) (ss rs : List Column) → ticks ts ≡ replicate n parted
     → Hears (ticks (ts ++ cond t (video_row j ps ss rs) (cut (j + 2) ∷ []))) (cond t (cell.pixels (pixel_bytes ps ss rs) ∷ []) (cell.parted ∷ []))
 unfolding video_row ticks codes_of
-line_hears true j n ts ps ss rs e = grind (arith, whole_hears, gaps_both, code_gaps)
-line_hears false j n ts ps ss rs e = cut_hears n ts (j + 2) e
+line_hears t j n ts ps ss rs h = grind (arith, whole_hears, gaps_both, code_gaps, cut_hears)
 
 video_hears : (j m : ℕ) (before : List Column) (ps : List Pixel) (ss rs : List Column) → Hears (ticks (video_reported j m before ps ss rs)) (row_cells m ps ss rs)
 unfolding video_reported ticks
@@ -241,10 +225,7 @@ on_some (video bytes ∷ ps) b j m ss rs = (b, refl)
 on_some (island x ∷ ps) b j m ss rs = (b, refl)
 
 nothing_on : (periods : List Period) (acc : List Column) (j : ℕ) (ss rs : List Column) → account_on acc j 0 periods ss rs ≡ []
-nothing_on [] acc j ss rs = account_zero j acc [] ss rs
-nothing_on (control_period runs ∷ ps) acc j ss rs = grind (arith, no_row, account_zero)
-nothing_on (video bytes ∷ ps) acc j ss rs = account_zero j acc (video bytes ∷ ps) ss rs
-nothing_on (island x ∷ ps) acc j ss rs = account_zero j acc (island x ∷ ps) ss rs
+nothing_on periods acc j ss rs = grind (arith, account_zero, no_row)
 
 longer_period : (v : ℕ) (runs : List ControlRun) → period_columns (control_period (join v runs)) ≡ suc (period_columns (control_period runs))
 unfolding period_columns
@@ -255,8 +236,7 @@ unfolding period_columns values_of
 one_period v = refl
 
 none_taken : (m : ℕ) → map tick_of (take m []) ≡ []
-none_taken zero = refl
-none_taken (suc m) = refl
+none_taken m = grind arith
 
 alone_tick : (v : ℕ) (periods : List Period) (acc : List Column) (j m : ℕ) (ss : List Column) (c : Column) (rs : List Column)
     → account_from (j + 1) m (acc ++ c ∷ []) periods (drop 1 ss) rs ≡ account_on (acc ++ c ∷ []) (j + 1) m periods (drop 1 ss) rs
@@ -266,10 +246,7 @@ alone_tick v periods acc j m ss c rs is = grind (arith, ticks, one_period, ticks
 -- a control column before periods
 first_tick : (v : ℕ) (periods : List Period) (acc : List Column) (j m : ℕ) (ss : List Column) (c : Column) (rs : List Column)
     → ticks (account_on acc j (suc m) (before v periods) ss (c ∷ rs)) ≡ tick_of c ∷ ticks (account_on (acc ++ c ∷ []) (j + 1) m periods (drop 1 ss) rs)
-first_tick v [] acc j m ss c rs = alone_tick v [] acc j m ss c rs refl
-first_tick v (video bytes ∷ periods) acc j m ss c rs = alone_tick v (video bytes ∷ periods) acc j m ss c rs refl
-first_tick v (island x ∷ periods) acc j m ss c rs = alone_tick v (island x ∷ periods) acc j m ss c rs refl
-first_tick v (control_period runs ∷ periods) acc j m ss c rs = grind (arith, common_steps, ticks, longer_period, ticks_append, Tick, row_ticks, append_assoc, drop-drop)
+first_tick v periods acc j m ss c rs = grind (arith, alone_tick, common_steps, ticks, longer_period, ticks_append, Tick, row_ticks, append_assoc, drop-drop)
 
 pub cells_first : (v : ℕ) (parts : List Part) (m : ℕ) (ss : List Column) (c : Column) (rs : List Column)
     → parts_cells (suc m) (column v ∷ parts) ss (c ∷ rs) ≡ cell.control (vsync_of v) (vsync_of (value_of c)) ∷ parts_cells m parts (drop 1 ss) rs
@@ -358,10 +335,7 @@ unfolding account account_at
 at_start runs periods ss rs m lt = grind (arith, lt-ltb)
 
 starts : (v : ℕ) (periods : List Period) (ss rs : List Column) (m : ℕ) → account (before v periods) ss rs 0 m ≡ account_on [] 0 m (before v periods) ss rs
-starts v [] ss rs m = at_start (join v []) [] ss rs m (omega (arith, one_period v))
-starts v (video bytes ∷ periods) ss rs m = at_start (join v []) (video bytes ∷ periods) ss rs m (omega (arith, one_period v))
-starts v (island x ∷ periods) ss rs m = at_start (join v []) (island x ∷ periods) ss rs m (omega (arith, one_period v))
-starts v (control_period runs ∷ periods) ss rs m = at_start (join v runs) periods ss rs m (omega (arith, longer_period v runs))
+starts v periods ss rs m = grind (arith, at_start, one_period, longer_period)
 
 -- a part more in front
 front_hears : (n : ℕ) (periods more : List Period) (front back : List Part) (v m : ℕ) (ss rs : List Column)

@@ -43,15 +43,11 @@ twelve_long = let l : length twelve ≡ 12 = length-replicate 12 no_column in om
 
 inner_received : (x : Period) (xs : List Period) (own reception ss rs : List Column) → IsBetween x → ArrivesPeriod x own reception → Received xs ss rs → Received (x ∷ xs) (own ++ ss) (reception ++ rs)
 unfolding Received IsBetween
-inner_received (control_period runs) xs own reception ss rs i a h = absurd i
-inner_received (video bytes) xs own reception ss rs i a h = grind (arith, inner_gap, twelve_long, sized, video_columns)
-inner_received (island x) xs own reception ss rs i a h = grind (arith, inner_gap, twelve_long, sized, island_columns)
+inner_received x xs own reception ss rs h k l = grind (arith, inner_gap, twelve_long, sized, video_columns, island_columns)
 
 inner_values : (x : Period) (xs : List Period) → IsBetween x → HasValues (x ∷ xs) → HasValues xs
 unfolding HasValues IsBetween
-inner_values (control_period runs) xs i h = absurd i
-inner_values (video bytes) xs i h = h.1
-inner_values (island x) xs i h = h
+inner_values x xs h k = grind arith
 
 first_values : (runs : List ControlRun) (xs : List Period) → HasValues (control_period runs ∷ xs) → Small (values_of runs) × HasValues xs
 unfolding HasValues
@@ -126,10 +122,7 @@ alone_before v after ss rs cs sent received e d n all small later =
 
 column_received : (v : ℕ) (periods : List Period) (ss rs : List Column) → Received (before v periods) ss rs → ColumnReceived v periods ss rs
 unfolding Received
-column_received v [] ss rs h = alone_before v [] ss rs h.0 h.1 h.2 h.3 h.4 h.5 h.6 h.7 h.8
-column_received v (video bytes ∷ periods) ss rs h = alone_before v (video bytes ∷ periods) ss rs h.0 h.1 h.2 h.3 h.4 h.5 h.6 h.7 h.8
-column_received v (island x ∷ periods) ss rs h = alone_before v (island x ∷ periods) ss rs h.0 h.1 h.2 h.3 h.4 h.5 h.6 h.7 h.8
-column_received v (control_period runs ∷ periods) ss rs h = grind (arith, column_before)
+column_received v periods ss rs h = grind (arith, alone_before, column_before)
 
 parts_received : (parts : List Part) (ss rs : List Column) → Received (gathered parts) ss rs → Arrived parts ss rs
 unfolding gathered Received Arrived

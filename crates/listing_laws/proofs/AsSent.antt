@@ -1,5 +1,5 @@
 -- A packet of which at most one word was received unlike is reported as it was sent, and none of its blocks is lost.
-use Rattle.std.proofs.Common.{◌≡◌, ℕ, zero, suc, ◌*◌, ◌<◌, ◌≤◌, Bool, List, [], ◌∷◌, map, length, drop, refl, sym, ap, subst, arith, inl, inr}
+use Rattle.std.proofs.Common.{◌≡◌, ℕ, suc, ◌*◌, ◌<◌, ◌≤◌, Bool, List, [], ◌∷◌, map, length, drop, refl, sym, ap, subst, arith, inl, inr}
 use Rattle.std.proofs.lemmas.Bool.{le-leb}
 use Rattle.std.proofs.lemmas.List.{length-map, length-take-le, length-drop}
 use Rattle.tmds_word.specs.Column.{Column}
@@ -59,12 +59,7 @@ kept_header p ss rs carries same few lost =
 
 kept : (p : Packet) (ss rs : List Column) → CarriesFreely p (map column_words ss) → length rs ≡ length ss → damage ss rs ≤ 1 → (b : ℕ) → b < 5 → verdict_on (verdicts_of rs) b ≡ Lost → ⊥
 unfolding verdicts_in
-kept p ss rs carries same few zero lt lost = kept_body p ss rs carries same few 0 (omega arith) lost
-kept p ss rs carries same few (suc zero) lt lost = kept_body p ss rs carries same few 1 (omega arith) lost
-kept p ss rs carries same few (suc (suc zero)) lt lost = kept_body p ss rs carries same few 2 (omega arith) lost
-kept p ss rs carries same few (suc (suc (suc zero))) lt lost = kept_body p ss rs carries same few 3 (omega arith) lost
-kept p ss rs carries same few (suc (suc (suc (suc zero)))) lt lost = kept_header p ss rs carries same few lost
-kept p ss rs carries same few (suc (suc (suc (suc (suc b))))) lt lost = absurd (omega (arith, lt))
+kept p ss rs h k l m q r = grind (arith, kept_body, kept_header)
 
 pub as_sent_row : (p : Packet) (ss rs : List Column) → damage ss rs ≤ 1 → packet_row p ss rs ≡ record { header = p.header; bodies = p.bodies; sync = sync_row p.sync ss rs }
 unfolding packet_row

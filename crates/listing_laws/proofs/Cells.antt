@@ -133,10 +133,7 @@ alike (column v ∷ ms) (gap ∷ ns) = false
 alike (column v ∷ ms) (column w ∷ ns) = same v w && alike ms ns
 
 pub same_is : (a b : Bool) → same a b ≡ true → b ≡ a
-same_is true true h = refl
-same_is true false h = absurd cc
-same_is false true h = absurd cc
-same_is false false h = refl
+same_is a b h = grind arith
 
 -- whether the two newest marks are columns of this level
 abbrev both_have : Bool → List Mark → Bool
@@ -144,35 +141,19 @@ both_have b (column v ∷ (column w ∷ ms)) = has_vsync b (column v) && has_vsy
 both_have b _ = false
 
 pub itself : (b : Bool) → has_vsync b (column b) ≡ true
-itself true = refl
-itself false = refl
+itself b = grind arith
 
 pub no_gap : (b : Bool) → has_vsync b gap ≡ false
-no_gap true = refl
-no_gap false = refl
+no_gap b = grind arith
 
 pub and_false : (a b : Bool) → b ≡ false → (a && b) ≡ false
-and_false true b h = h
-and_false false b h = refl
+and_false a b h = grind arith
 
 three_is : (b : Bool) (ms : List Mark) → three_have b (column b ∷ ms) ≡ both_have b ms
-three_is b [] = refl
-three_is b (column v ∷ []) = refl
-three_is b (gap ∷ []) = refl
-three_is b (column v ∷ (column w ∷ ms)) = ap (λ (t : Bool). t && has_vsync b (column v) && has_vsync b (column w)) (itself b)
-three_is b (column v ∷ (gap ∷ ms)) = ap (λ (t : Bool). t && has_vsync b (column v) && has_vsync b gap) (itself b) ∙ and_false (has_vsync b (column v)) (has_vsync b gap) (no_gap b)
-three_is b (gap ∷ (m ∷ ms)) = ap₂ (λ (t u : Bool). t && u && has_vsync b m) (itself b) (no_gap b)
+three_is b ms = grind (arith, itself, and_false, no_gap)
 
 both_alike : (b : Bool) (ms ns : List Mark) → alike ms ns ≡ true → both_have b ms ≡ both_have b ns
-both_alike b [] [] h = refl
-both_alike b [] (gap ∷ ns) h = refl
-both_alike b [] (column w ∷ ns) h = absurd cc
-both_alike b (gap ∷ ms) [] h = refl
-both_alike b (gap ∷ ms) (gap ∷ ns) h = refl
-both_alike b (gap ∷ ms) (column w ∷ ns) h = absurd cc
-both_alike b (column v ∷ ms) [] h = absurd cc
-both_alike b (column v ∷ ms) (gap ∷ ns) h = absurd cc
-both_alike b (column v ∷ ms) (column w ∷ ns) h = grind (arith, and-right, same_is, and-left)
+both_alike b ms ns h = grind (arith, and-right, same_is, and-left)
 
 pub three_alike : (b : Bool) (ms ns : List Mark) → alike ms ns ≡ true → three_have b (column b ∷ ms) ≡ three_have b (column b ∷ ns)
 three_alike b ms ns h = three_is b ms ∙ both_alike b ms ns h ∙ sym (three_is b ns)
@@ -184,12 +165,10 @@ record Like (s : plain.State) (t : State) : Type 0 where
   pub group : s.group ≡ t.group
 
 pub same_self : (v : Bool) → same v v ≡ true
-same_self true = refl
-same_self false = refl
+same_self v = grind arith
 
 turned_like : (c : Bool) (ms ns : List Mark) (h : Option Bool) (rs : List Bool) (s : plain.State) (t : State) → alike ms ns ≡ true → Like s t → Like (plain.turned c ms h s) (turned c ns h rs t)
-turned_like true ms ns h rs s t a l = record { marks = a; heard = refl; counting = refl; group = refl }
-turned_like false ms ns h rs s t a l = record { marks = a; heard = refl; counting = l.counting; group = l.group }
+turned_like c ms ns h rs s t k l = grind arith
 
 column_like : (w wrong : Bool) (s : plain.State) (t : State) → Like s t → Like (plain.step (plain.control w) s) (column_state wrong w t)
 column_like w wrong s t l = grind (arith, hears, three_alike, same_self, turned_like)
@@ -227,8 +206,7 @@ parted_near zero s t n = n
 parted_near (suc k) s t n = parted_near k (plain.step plain.parted s) t (record { heard = n.heard; counting = n.counting; group = n.group })
 
 pub turned_recent : (c : Bool) (ms : List Mark) (h : Option Bool) (rs : List Bool) (t : State) → (turned c ms h rs t).recent ≡ rs
-turned_recent true ms h rs t = refl
-turned_recent false ms h rs t = refl
+turned_recent c ms h rs t = grind arith
 
 row_like : (bytes : List ℕ) (s : plain.State) (t : State) → Near s t → Like (plain.step (plain.pixels bytes) s) (step (pixels bytes) t)
 row_like bytes s t n = record { marks = refl; heard = n.heard; counting = n.counting; group = ap (λ (g : List ℕ). g ++ (length bytes / 3) ∷ []) n.group }

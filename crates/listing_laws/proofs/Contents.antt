@@ -1,5 +1,5 @@
 -- The packets of a raster are those of its content, in order.
-use Rattle.std.proofs.Common.{arith, ◌≡◌, ℕ, zero, suc, ◌+◌, ◌-◌, ◌*◌, false, List, [], ◌∷◌, ◌++◌, map, length, take, replicate, Option, Some, None, refl, sym, ap, ap₂, ◌∙◌, append_assoc, append-nil}
+use Rattle.std.proofs.Common.{arith, ◌≡◌, ℕ, zero, suc, ◌+◌, ◌-◌, ◌*◌, List, [], ◌∷◌, ◌++◌, map, length, take, replicate, Option, None, refl, sym, ap, ap₂, ◌∙◌, append_assoc, append-nil}
 use Rattle.std.specs.Prelude.{nat_le}
 use Rattle.std.proofs.lemmas.Bool.{leb-true}
 use Rattle.std.proofs.lemmas.List.{take_all}
@@ -10,7 +10,7 @@ use Rattle.island_pack.specs.declared.packet.Packet.{Packet}
 use Rattle.source_end.specs.declared.mode.Mode.{Mode}
 use Rattle.source_end.specs.declared.refusal.RasterFault.TheVariants.{NoRoom}
 use Rattle.source_end.specs.Content.{Frame}
-use Rattle.source_end.specs.Raster.{Line, Part, column, pixels, packets, up_from, value_at, total, packets_at, until, whole, laid, lines_of, parts_of, before, gathered, raster_of}
+use Rattle.source_end.specs.Raster.{Line, Part, column, pixels, packets, up_from, packets_at, until, whole, laid, lines_of, parts_of, before, gathered, raster_of}
 use Rattle.source_end.specs.RasterRefusals.{room_of, no_room, raster_fault}
 use Rattle.listing_laws.specs.PacketLaws.{Placed, each_at, placed, Payload, payload_of, content_packets, RasterPackets}
 use Rattle.source_end.proofs.RasterModes.{both_none, in_test}
@@ -50,10 +50,7 @@ placed_payload (island i ∷ periods) x = grind (arith, map_both, each_payload, 
 
 before_payload : (v : ℕ) (periods : List Period) → in_periods (before v periods) ≡ in_periods periods
 unfolding in_periods
-before_payload v [] = refl
-before_payload v (control_period runs ∷ periods) = refl
-before_payload v (video bytes ∷ periods) = refl
-before_payload v (island x ∷ periods) = refl
+before_payload v periods = grind arith
 
 gathered_payload : (parts : List Part) → in_periods (gathered parts) ≡ in_parts parts
 unfolding gathered in_periods in_parts
@@ -85,13 +82,11 @@ at_payload mode line x (p ∷ ps) = ap (λ (xs : List Payload). payload_of p ∷
 
 until_payload : (mode : Mode) (line : Line) (ps : List Packet) (e : ℕ) → in_parts (until mode line ps e) ≡ map payload_of ps
 unfolding in_parts
-until_payload mode line [] e = up_payload (value_at mode line false) (e - 0) 0
-until_payload mode line (p ∷ ps) e = grind (arith, parts_both, up_payload, at_payload, append-nil)
+until_payload mode line ps e = grind (arith, up_payload, parts_both, at_payload, append-nil)
 
 whole_payload : (mode : Mode) (line : Line) (ps : List Packet) (row : Option (List ℕ)) → in_parts (whole mode line ps row) ≡ map payload_of ps
 unfolding in_parts
-whole_payload mode line ps None = until_payload mode line ps (total mode.across)
-whole_payload mode line ps (Some bytes) = grind (arith, parts_both, until_payload, up_payload, append-nil)
+whole_payload mode line ps row = grind (arith, until_payload, parts_both, up_payload, append-nil)
 
 map_parts : (ps qs : List Packet) → map payload_of (ps ++ qs) ≡ map payload_of ps ++ map payload_of qs
 map_parts [] qs = refl

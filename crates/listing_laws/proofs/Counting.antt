@@ -42,8 +42,7 @@ abbrev pub frame_area : Mode → ℕ
 frame_area mode = sync_area mode + back_area mode + active_area mode + front_area mode
 
 some_area : (n t : ℕ) → 1 ≤ n → t ≤ n * t
-some_area zero t some = absurd (omega arith)
-some_area (suc n) t some = let e : t + n * t ≡ suc n * t = grind arith in omega (arith, e)
+some_area n t h = grind arith
 
 pub wide_sync : (mode : Mode) → IsMode mode → 14 ≤ sync_area mode
 wide_sync mode ok = let h = some_area (sync mode.down) (total mode.across) ok.sync_lines in omega (arith, h, ok.back_columns)
@@ -182,12 +181,10 @@ unfolding frames_listed
 listed_nothing mode ss rs e p last = refl
 
 pub no_choice : (t : Bool) → cond t (let none : List Listed = [] in none) [] ≡ []
-no_choice true = refl
-no_choice false = refl
+no_choice t = grind arith
 
 pub twice : (b : Bool) → b ≡ not (not b)
-twice true = refl
-twice false = refl
+twice b = grind arith
 
 -- back lines: after them rows count, whatever was heard before them was the active level
 pub back_lines : (mode : Mode) → IsMode mode → (n : ℕ) → 1 ≤ n → (qs : List Packet) (back : List Part) (lines : List Listed)

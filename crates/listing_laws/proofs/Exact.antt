@@ -1,6 +1,6 @@
 -- A check is clean where it counts no fault, and faulty where it counts one.
 use Rattle.std.proofs.lemmas.Grind.{common_steps}
-use Rattle.std.proofs.Common.{◌≡◌, ℕ, suc, zero, Bool, true, false, not, List, [], ◌∷◌, ◌++◌, refl, ap, arith}
+use Rattle.std.proofs.Common.{◌≡◌, ℕ, Bool, true, false, not, List, [], ◌∷◌, ◌++◌, refl, ap, arith}
 use Rattle.std.specs.Prelude.{count_by, codes}
 use Rattle.std.proofs.lemmas.List.Sums.{sum_by-cons}
 use Rattle.tmds_word.specs.Column.{Column}
@@ -17,16 +17,14 @@ use Rattle.listing_laws.specs.Exact.{EndsFaulty, CountIsExact, VerdictIsExact}
 -- The count.
 
 none_by : (q : Bool) (t : Event) (ts : List Event) → is_fault_event t ≡ q → count_by is_fault_event (t ∷ ts) ≡ 0 → (count_by is_fault_event ts ≡ 0 → faultless ts ≡ true) → faultless (t ∷ ts) ≡ true
-none_by true t ts e h ih = grind (arith, common_steps, sum_by-cons)
-none_by false t ts e h ih = grind (arith, sum_by-cons, and_both)
+none_by q t ts h k l = grind (arith, common_steps, sum_by-cons, and_both)
 
 none_counted : (ts : List Event) → count_by is_fault_event ts ≡ 0 → faultless ts ≡ true
 none_counted [] h = refl
 none_counted (t ∷ ts) h = none_by (is_fault_event t) t ts refl h (λ e. none_counted ts e)
 
 not_true : (p : Bool) → not p ≡ true → p ≡ false
-not_true true h = cc
-not_true false h = refl
+not_true p h = grind arith
 
 counts_none : (ts : List Event) → faultless ts ≡ true → count_by is_fault_event ts ≡ 0
 counts_none [] h = refl
@@ -43,16 +41,13 @@ after_same [] ys zs h = h
 after_same (x ∷ xs) ys zs h = after_same xs ys zs cc
 
 clean_line : (n : ℕ) → verdict_line n ≡ codes "clean\n" → n ≡ 0
-clean_line zero h = refl
-clean_line (suc n) h = absurd cc
+clean_line n h = grind arith
 
 faulty_line : (n : ℕ) → verdict_line n ≡ codes "faulty\n" → n ≡ 0 → ⊥
-faulty_line zero h e = absurd cc
-faulty_line (suc n) h e = absurd (omega arith)
+faulty_line n h k = grind arith
 
 line_faulty : (n : ℕ) → (n ≡ 0 → ⊥) → verdict_line n ≡ codes "faulty\n"
-line_faulty zero h = absurd (h refl)
-line_faulty (suc n) h = refl
+line_faulty n h = grind arith
 
 ends_faulty : (cs : List Column) → EndsFaulty cs → fault_lines (heard cs) ≡ 0 → ⊥
 unfolding check_text

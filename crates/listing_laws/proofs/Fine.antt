@@ -71,8 +71,7 @@ Windows fs = (i : ℕ) → i + 11 ≤ length fs → count (take 11 (drop i fs)) 
 
 one_true : (fs : List Bool) → count (take 1 (true ∷ fs)) ≡ 1
 unfolding one_if
-one_true [] = refl
-one_true (f ∷ fs) = refl
+one_true fs = grind arith
 
 -- one that is wrong is not the third
 not_third : (hs fs : List Bool) (f : Bool) → Windows (onto hs (f ∷ fs)) → 11 ≤ length (onto hs (f ∷ fs)) → (not f || few hs) ≡ true
@@ -192,8 +191,7 @@ record IsColumn (b l f : Bool) (rs hs : List Bool) : Type 0 where
 
 column_fine : (v : ℕ) (c : Column) (rs hs : List Bool) (t : Bool) → ((control_column v).blue == c.blue) ≡ t → nat_lt v 64 ≡ true → within rs hs ≡ true → (not (not t) || few hs) ≡ true
     → IsColumn (vsync_of v) (vsync_of (value_of c)) (not t) rs hs
-column_fine v c rs hs true e small h f = grind (arith, same, same_level, eqb-true, same_self, few)
-column_fine v c rs hs false e small h f = grind (arith, same, few, few_within)
+column_fine v c rs hs t h k l m = grind (arith, same, same_level, eqb-true, same_self, few, few_within)
 
 gap_first : (recent : List Bool) (cs : List Cell) → fine [] cs ≡ true → fine recent (parted ∷ cs) ≡ true
 unfolding fine
@@ -225,8 +223,7 @@ first_fine v parts m c sent received rs hs small w h later =
 
 row_fine : (m : ℕ) (ps : List Pixel) (ss rs : List Column) (recent : List Bool) (cs : List Cell) → fine [] cs ≡ true → fine recent (row_cells (suc m) ps ss rs ++ cs) ≡ true
 unfolding fine
-row_fine zero ps ss rs recent cs h = h
-row_fine (suc i) ps ss rs recent cs h = grind (arith, fine, pixels_cell, parted, gap_first)
+row_fine m ps ss rs recent cs h = grind (arith, fine, pixels_cell, parted, gap_first)
 
 island_fine : (m : ℕ) (recent : List Bool) (cs : List Cell) → fine [] cs ≡ true → fine recent (gap_cells (suc m) ++ cs) ≡ true
 island_fine m recent cs h = gap_first recent cs h

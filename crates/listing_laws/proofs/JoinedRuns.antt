@@ -1,5 +1,5 @@
 -- Periods whose neighbouring runs of one value are joined: they conform, and the same columns spell them.
-use Rattle.std.proofs.Common.{◌≡◌, ℕ, ◌+◌, true, false, Bool, List, [], ◌∷◌, length, map, refl, ap, ap₂, sym, ◌∙◌, arith}
+use Rattle.std.proofs.Common.{◌≡◌, ℕ, ◌+◌, true, Bool, List, [], ◌∷◌, map, refl, ap, ap₂, ◌∙◌, arith}
 use Rattle.std.specs.Prelude.{nat_lt}
 use Rattle.std.specs.List.{list_all}
 use Rattle.std.proofs.lemmas.Bool.{le-leb}
@@ -7,7 +7,7 @@ use Rattle.tmds_word.specs.Column.{Column}
 use Rattle.tmds_word.proofs.Below.{and-left, and-right}
 use Rattle.island_pack.specs.Periods.{ControlRun, Period, control, video, island, values_of, has_preamble, period_columns, columns_of}
 use Rattle.island_pack.specs.Conforming.{is_run, is_control_period, conforms}
-use Rattle.island_pack.specs.Spelling.{control_column, SpellsPeriod, Spells}
+use Rattle.island_pack.specs.Spelling.{SpellsPeriod, Spells}
 use Rattle.island_pack.specs.Runs.{joined, join, longest}
 use Rattle.island_pack.proofs.Runs.{values_longest}
 use Rattle.link_laws.proofs.Rows.{and_both, Small}
@@ -25,12 +25,10 @@ joined_periods periods = map joined_period periods
 -- ---- they conform
 
 joined_runs : (same : Bool) (v : ℕ) (r : ControlRun) (rs : List ControlRun) → nat_lt v 64 ≡ true → list_all is_run (r ∷ rs) ≡ true → list_all is_run (joined same v r rs) ≡ true
-joined_runs true v r rs small h = grind (arith, and_both, and-left, and-right, le-leb)
-joined_runs false v r rs small h = and_both _ _ (and_both _ _ small refl) h
+joined_runs same v r rs h k = grind (arith, and_both, and-left, and-right, le-leb)
 
 join_runs : (v : ℕ) (rs : List ControlRun) → nat_lt v 64 ≡ true → list_all is_run rs ≡ true → list_all is_run (join v rs) ≡ true
-join_runs v [] small h = and_both _ _ (and_both _ _ small refl) refl
-join_runs v (r ∷ rs) small h = joined_runs _ v r rs small h
+join_runs v rs h k = grind (arith, and_both, joined_runs)
 
 longest_runs : (vs : List ℕ) → Small vs → list_all is_run (longest vs) ≡ true
 unfolding longest
@@ -58,9 +56,7 @@ joined_conform (control runs ∷ (island x ∷ rest)) h = grind (arith, and-righ
 
 period_same : (p : Period) → period_columns (joined_period p) ≡ period_columns p
 unfolding period_columns
-period_same (control runs) = ap length (values_longest (values_of runs))
-period_same (video bytes) = refl
-period_same (island x) = refl
+period_same p = grind (arith, values_longest)
 
 pub columns_same : (ps : List Period) → columns_of (joined_periods ps) ≡ columns_of ps
 unfolding columns_of
@@ -68,14 +64,10 @@ columns_same [] = refl
 columns_same (p ∷ ps) = ap₂ (λ (n m : ℕ). n + m) (period_same p) (columns_same ps)
 
 spelled_period : (p : Period) (cs : List Column) → SpellsPeriod (joined_period p) cs → SpellsPeriod p cs
-spelled_period (control runs) cs h = h ∙ ap (map control_column) (values_longest (values_of runs))
-spelled_period (video bytes) cs h = h
-spelled_period (island x) cs h = h
+spelled_period p cs h = grind (arith, values_longest)
 
 period_spelled : (p : Period) (cs : List Column) → SpellsPeriod p cs → SpellsPeriod (joined_period p) cs
-period_spelled (control runs) cs h = h ∙ ap (map control_column) (sym (values_longest (values_of runs)))
-period_spelled (video bytes) cs h = h
-period_spelled (island x) cs h = h
+period_spelled p cs h = grind (arith, values_longest)
 
 pub spelled_joined : (ps : List Period) (cs : List Column) → Spells (joined_periods ps) cs → Spells ps cs
 spelled_joined [] cs h = h

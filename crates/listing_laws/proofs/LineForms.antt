@@ -1,5 +1,5 @@
 -- The lines that are written: they have no line feed, and the reader sees their forms.
-use Rattle.std.proofs.Common.{◌≡◌, ℕ, zero, suc, ◌+◌, ◌*◌, ◌/◌, ◌%◌, ◌^◌, ◌<◌, ◌≤◌, true, false, List, [], ◌∷◌, ◌++◌, length, refl, ap, ◌∙◌, arith, append_assoc}
+use Rattle.std.proofs.Common.{◌≡◌, ℕ, ◌+◌, ◌*◌, ◌/◌, ◌%◌, ◌^◌, ◌<◌, ◌≤◌, true, false, List, [], ◌∷◌, ◌++◌, length, refl, ap, ◌∙◌, arith, append_assoc}
 use Rattle.std.specs.Prelude.{Ok, slice_index, nat_lt}
 use Rattle.std.specs.Fmt.{decimal}
 use Rattle.std.proofs.lemmas.Fmt.{length-decimal-le}
@@ -31,8 +31,7 @@ unfolding line_words encode_with
 run_words r = refl
 
 one_byte : (value : ℕ) → value < 64 → IsBytes (value ∷ [])
-one_byte value below zero = omega arith
-one_byte value below (suc i) = omega arith
+one_byte value h k = grind arith
 
 value_read : (value : ℕ) → value < 64 → decode_of (slice_index lower_digits (value / 16) ∷ slice_index lower_digits (value % 16) ∷ []) ≡ Ok (value ∷ [])
 unfolding encode_with

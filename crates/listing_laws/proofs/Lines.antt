@@ -21,30 +21,15 @@ use Rattle.listing_laws.proofs.Parts.{reception, gap_cells, part_cells, parts_ce
 
 sum_vsync : (h v t u : Bool) → vsync_of (one_if h + 2 * one_if v + cond t 4 (cond u 20 0)) ≡ v
 unfolding one_if
-sum_vsync true true true u = refl
-sum_vsync true true false true = refl
-sum_vsync true true false false = refl
-sum_vsync true false true u = refl
-sum_vsync true false false true = refl
-sum_vsync true false false false = refl
-sum_vsync false true true u = refl
-sum_vsync false true false true = refl
-sum_vsync false true false false = refl
-sum_vsync false false true u = refl
-sum_vsync false false false true = refl
-sum_vsync false false false false = refl
+sum_vsync h v t u = grind arith
 
 plain_vsync : (h v : Bool) → vsync_of (one_if h + 2 * one_if v) ≡ v
 unfolding one_if
-plain_vsync true true = refl
-plain_vsync true false = refl
-plain_vsync false true = refl
-plain_vsync false false = refl
+plain_vsync h v = grind arith
 
 pub final_vsync : (v : Bool) → vsync_of (3 * one_if v) ≡ v
 unfolding one_if
-final_vsync true = refl
-final_vsync false = refl
+final_vsync v = grind arith
 
 abbrev pub level_of : Mode → Line → Bool
 level_of mode line = level mode.positive line.vsync
@@ -70,8 +55,7 @@ same_by : (b v : Bool) → v ≡ b → same b v ≡ true
 same_by b v e = ap (same b) e ∙ same_self b
 
 received_flat : (b : Bool) (v m : ℕ) (rs : List Column) → vsync_of v ≡ b → Flat b (reception m v rs)
-received_flat b v zero rs e = refl
-received_flat b v (suc m) rs e = ap (λ (x : Bool). x && true) (same_by b (vsync_of v) e)
+received_flat b v m rs h = grind (arith, same_by)
 
 pub even_column : (b : Bool) (v : ℕ) (ps : List Part) → vsync_of v ≡ b → Even b ps → Even b (column v ∷ ps)
 unfolding parts_cells part_cells
@@ -89,8 +73,7 @@ pub even_columns : (b : Bool) (value : ℕ → ℕ) (x e : ℕ) → ((i : ℕ) �
 even_columns b value x e h = even_up b value h (e - x) x
 
 gap_flat : (b : Bool) (m : ℕ) → Flat b (gap_cells m)
-gap_flat b zero = refl
-gap_flat b (suc m) = refl
+gap_flat b m = grind arith
 
 pub even_island : (b : Bool) (x : DataIsland) (ps : List Part) → Even b ps → Even b (packets x ∷ ps)
 unfolding parts_cells part_cells

@@ -36,9 +36,7 @@ packets_freely first [] cs h = h
 packets_freely first (p ∷ ps) cs h = (h.0, h.1, h.2, h.3.free, packets_freely false ps h.1 h.4)
 
 period_freely : (p : Period) (cs : List Column) → SpellsPeriod p cs → SpellsPeriodBy freely p cs
-period_freely (control runs) cs h = h
-period_freely (video bytes) cs h = h
-period_freely (island x) cs h = (h.0, h.1, packets_freely true x.packets h.0 h.2)
+period_freely p cs h = grind (arith, packets_freely)
 
 spelled_freely : (ps : List Period) (cs : List Column) → Spells ps cs → SpellsBy freely ps cs
 spelled_freely [] cs h = h

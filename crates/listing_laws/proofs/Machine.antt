@@ -138,25 +138,7 @@ one u b ns s = turned (differ (hears u b) s.heard) ns (newer (hears u b) s.heard
 
 -- of two times at which a value may be heard the first is the change
 one_change : (t u b : Bool) (h : Option Bool) (c : Bool) (g : List ℕ) (ms ns ks : List Mark) → (t ≡ true → u ≡ true) → both t u b ms ns (record { marks = ks; heard = h; counting = c; group = g }) ≡ one u b ns (record { marks = ks; heard = h; counting = c; group = g })
-one_change true false b h c g ms ns ks up = absurd (let e = up refl in cc)
-one_change true true true None c g ms ns ks up = refl
-one_change true true true (Some true) c g ms ns ks up = refl
-one_change true true true (Some false) c g ms ns ks up = refl
-one_change true true false None c g ms ns ks up = refl
-one_change true true false (Some true) c g ms ns ks up = refl
-one_change true true false (Some false) c g ms ns ks up = refl
-one_change false true true None c g ms ns ks up = refl
-one_change false true true (Some true) c g ms ns ks up = refl
-one_change false true true (Some false) c g ms ns ks up = refl
-one_change false true false None c g ms ns ks up = refl
-one_change false true false (Some true) c g ms ns ks up = refl
-one_change false true false (Some false) c g ms ns ks up = refl
-one_change false false true None c g ms ns ks up = refl
-one_change false false true (Some true) c g ms ns ks up = refl
-one_change false false true (Some false) c g ms ns ks up = refl
-one_change false false false None c g ms ns ks up = refl
-one_change false false false (Some true) c g ms ns ks up = refl
-one_change false false false (Some false) c g ms ns ks up = refl
+one_change t u b h c g ms ns ks k = grind arith
 
 abbrev both_say : Bool → Bool → Bool → List Mark → State → List Listed
 both_say t u b ms s =
@@ -164,30 +146,17 @@ both_say t u b ms s =
     ++ ends (differ (hears u b) (turned (differ (hears t b) s.heard) ms (newer (hears t b) s.heard) s).heard) (turned (differ (hears t b) s.heard) ms (newer (hears t b) s.heard) s).counting (turned (differ (hears t b) s.heard) ms (newer (hears t b) s.heard) s).group
 
 one_said : (t u b : Bool) (h : Option Bool) (c : Bool) (g : List ℕ) (ms ks : List Mark) → (t ≡ true → u ≡ true) → both_say t u b ms (record { marks = ks; heard = h; counting = c; group = g }) ≡ ends (differ (hears u b) h) c g
-one_said true false b h c g ms ks up = absurd (let e = up refl in cc)
-one_said true true true None c g ms ks up = refl
-one_said true true true (Some true) c g ms ks up = refl
-one_said true true true (Some false) c g ms ks up = append-nil _
-one_said true true false None c g ms ks up = refl
-one_said true true false (Some true) c g ms ks up = append-nil _
-one_said true true false (Some false) c g ms ks up = refl
-one_said false u true None c g ms ks up = refl
-one_said false u true (Some h) c g ms ks up = refl
-one_said false u false None c g ms ks up = refl
-one_said false u false (Some h) c g ms ks up = refl
+one_said t u b h c g ms ks k = grind (arith, append-nil)
 
 turned_marks : (changed : Bool) (ms : List Mark) (h : Option Bool) (s : State) → (turned changed ms h s).marks ≡ ms
-turned_marks true ms h s = refl
-turned_marks false ms h s = refl
+turned_marks changed ms h s = grind arith
 
 -- a column before a run of the same VSYNC
 pub longer_state : (b : Bool) (n : ℕ) (s : State) → run_state b n (run_state b 1 s) ≡ run_state b (suc n) s
-longer_state b zero s = refl
-longer_state b (suc n) s = grind (arith, turned_marks, one_change, still_three, shifted)
+longer_state b n s = grind (arith, turned_marks, one_change, still_three, shifted)
 
 pub longer_said : (b : Bool) (n : ℕ) (s : State) → run_said b 1 s ++ run_said b n (run_state b 1 s) ≡ run_said b (suc n) s
-longer_said b zero s = append-nil _
-longer_said b (suc n) s = grind (arith, turned_marks, one_said, still_three, shifted)
+longer_said b n s = grind (arith, append-nil, turned_marks, one_said, still_three, shifted)
 
 pub run_after : (b : Bool) (n : ℕ) (s : State) → after (replicate n (control b)) s ≡ run_state b n s
 unfolding after

@@ -1,5 +1,5 @@
 -- Before the first change nothing is said: what is reported of parts of one level, rows among them.
-use Rattle.std.proofs.Common.{arith, ◌≡◌, ℕ, zero, suc, ◌+◌, ◌-◌, ◌/◌, Bool, true, false, cond, List, [], ◌∷◌, ◌++◌, length, take, drop, Option, Some, None, refl, sym, subst, append-nil}
+use Rattle.std.proofs.Common.{arith, ◌≡◌, ℕ, zero, suc, ◌+◌, ◌-◌, ◌/◌, Bool, false, cond, List, [], ◌∷◌, ◌++◌, length, take, drop, Option, Some, None, refl, sym, subst, append-nil}
 use Rattle.std.specs.Prelude.{nat_lt}
 use Rattle.tmds_word.specs.Column.{Column}
 use Rattle.island_pack.specs.Periods.{Pixel, pixels_of}
@@ -42,8 +42,7 @@ flat_muted b ts s g h was = let k = quiet b false g ts s h was in record { nothi
 
 cells_muted : (b t : Bool) (ps : List Pixel) (ss rs : List Column) (s : State) (g : List ℕ) → Ready s b false g → IsMuted (cond t (pixels_cell (pixel_bytes ps ss rs) ∷ []) (parted ∷ [])) s b
 unfolding says after
-cells_muted b true ps ss rs s g was = grind (arith, append-nil, note_of, row_ready)
-cells_muted b false ps ss rs s g was = flat_muted b (parted ∷ []) s g refl was
+cells_muted b t ps ss rs s g h = grind (arith, append-nil, note_of, row_ready, flat_muted, parted)
 
 reported_muted : (b : Bool) (m : ℕ) (ps : List Pixel) (ss rs : List Column) (s : State) (g : List ℕ) → Ready s b false g → IsMuted (row_cells m ps ss rs) s b
 reported_muted b zero ps ss rs s g was = flat_muted b [] s g refl was

@@ -1,6 +1,6 @@
 -- The lines of the account of a period that was received as it was sent: they describe the period with
 -- its longest runs.
-use Rattle.std.proofs.Common.{◌≡◌, ℕ, suc, zero, ◌+◌, ◌-◌, ◌*◌, ◌%◌, ◌<◌, ◌≤◌, Bool, true, false, cond, ◌==◌, List, [], ◌∷◌, ◌++◌, length, map, take, drop, refl, ap, ap₂, sym, ◌∙◌, append_assoc, append-nil, arith, take_at, drop_at, take_all}
+use Rattle.std.proofs.Common.{◌≡◌, ℕ, ◌+◌, ◌-◌, ◌*◌, ◌%◌, ◌<◌, ◌≤◌, Bool, true, false, cond, ◌==◌, List, [], ◌∷◌, ◌++◌, length, map, take, drop, refl, ap, ap₂, sym, ◌∙◌, append_assoc, append-nil, arith, take_at, drop_at, take_all}
 use Rattle.std.specs.Prelude.{nat_lt}
 use Rattle.std.proofs.lemmas.Bool.{eqb-true, eq-eqb, le-leb, lt-ltb, le-ltb}
 use Rattle.std.proofs.lemmas.List.{length-map}
@@ -44,12 +44,10 @@ runs_lines j (columns v cs ∷ rs) =
     ∙ ap₂ (λ (a b : List ℕ). a ++ (line_of (run v (length cs)) ++ b)) (silent_words j cs) (runs_lines (j + length cs) rs)
 
 front_run : (same : Bool) (c : Column) (v : ℕ) (cs : List Column) (rs : List Run) → map run_in (in_front same c (columns v cs) rs) ≡ joined same (value_of c) (record { value = v; count = length cs }) (map run_in rs)
-front_run true c v cs rs = refl
-front_run false c v cs rs = refl
+front_run same c v cs rs = grind arith
 
 first_run : (c : Column) (rs : List Run) → map run_in (before_runs c rs) ≡ join (value_of c) (map run_in rs)
-first_run c [] = refl
-first_run c (columns v cs ∷ rs) = front_run (value_of c == v) c v cs rs
+first_run c rs = grind (arith, front_run)
 
 runs_are : (cs : List Column) → map run_in (runs_of cs) ≡ longest (map value_of cs)
 unfolding runs_of longest
@@ -88,9 +86,7 @@ open_video b before g h rs =
 video_lines : (b m : ℕ) (before : List Column) (bytes : List ℕ) (g h : Column) (cs : List Column) → length bytes % 3 ≡ 0 → length cs ≡ length (pixels_of bytes) → 2 + length cs < m
     → sound_lines (video_reported b m before (pixels_of bytes) (g ∷ (h ∷ cs)) (g ∷ (h ∷ cs))) ≡ line_of (line bytes)
 unfolding video_reported video_row
-video_lines b zero before bytes g h cs whole long lt = absurd (omega (arith, lt))
-video_lines b (suc zero) before bytes g h cs whole long lt = absurd (omega (arith, lt))
-video_lines b (suc (suc i)) before bytes g h cs whole long lt = grind (arith, sound_lines, lt-ltb, sound_append, open_video, line_of, own_bytes, silent_codes, append-nil)
+video_lines b m before bytes g h cs k l p = grind (arith, sound_lines, lt-ltb, sound_append, open_video, line_of, own_bytes, silent_codes, append-nil)
 
 pub own_video : (j m : ℕ) (before : List Column) (bytes : List ℕ) (own : List Column) → length bytes % 3 ≡ 0 → SpellsPeriod (video bytes) own → length own < m
     → sound_lines (period_row j m before (video bytes) own own) ≡ line_of (line bytes)
@@ -150,9 +146,7 @@ packets_lines first s i (p ∷ ps) closing cs a b h le =
 island_lines : (b m : ℕ) (before : List Column) (x : DataIsland) (cs : List Column) → IsIsland x → SpellsPackets true x.packets cs → 4 + 32 * length x.packets ≤ m
     → sound_lines (island_reported b m before x (frame x cs) (frame x cs)) ≡ period_lines (island x)
 unfolding island_reported period_lines
-island_lines b zero before x cs is h le = absurd (omega (arith, le))
-island_lines b (suc zero) before x cs is h le = absurd (omega (arith, le))
-island_lines b (suc (suc i)) before x cs is h le = grind (arith, frame, line_of, sound_append, open_lines, packets_lines, append_assoc, packet_lines)
+island_lines b m before x cs h k l = grind (arith, frame, line_of, sound_append, open_lines, packets_lines, append_assoc, packet_lines)
 
 pub own_island : (j m : ℕ) (before : List Column) (x : DataIsland) (own : List Column) → IsIsland x → SpellsPeriod (island x) own → 4 + 32 * length x.packets ≤ m
     → sound_lines (period_row j m before (island x) own own) ≡ period_lines (island x)

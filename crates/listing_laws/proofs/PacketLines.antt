@@ -4,7 +4,7 @@ use Rattle.std.specs.Prelude.{is_some, slice_index, nat_le, Ok, Err, ◌==◌}
 use Rattle.std.specs.List.{find}
 use Rattle.tmds_word.specs.Column.{Column}
 use Rattle.bch_block.specs.declared.Verdict.{Verdict}
-use Rattle.bch_block.specs.declared.Verdict.TheVariants.{Clean, Mended, Lost}
+use Rattle.bch_block.specs.declared.Verdict.TheVariants.{Lost}
 use Rattle.island_pack.specs.Packets.{body_of, CarriesFreely}
 use Rattle.island_pack.specs.Spelling.{column_words}
 use Rattle.island_pack.specs.Taken.{verdict_on, spotless}
@@ -49,9 +49,7 @@ unfolding frame_in length_in sum_of other_words
 lines_bare lost missing p column = refl
 
 not_lost : (v : Verdict) → (v ≡ Lost → ⊥) → (audio.is_lost v ≡ false) × (info.is_lost v ≡ false)
-not_lost Clean h = (refl, refl)
-not_lost (Mended i) h = (refl, refl)
-not_lost Lost h = absurd (h refl)
+not_lost v h = grind arith
 
 none_found : (p : ℕ → Bool) → p 0 ≡ false → p 1 ≡ false → p 2 ≡ false → p 3 ≡ false → p 4 ≡ false → find p (0 ∷ (1 ∷ (2 ∷ (3 ∷ (4 ∷ []))))) ≡ None
 none_found p a b c d e = rw a (rw b (rw c (rw d (rw e refl))))

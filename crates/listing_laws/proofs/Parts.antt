@@ -45,9 +45,7 @@ parts_append (x ∷ xs) ys m ss rs = grind (arith, Cell, drop-drop, append_assoc
 
 part_none : (p : Part) (ss rs : List Column) → part_cells 0 p ss rs ≡ []
 unfolding part_cells
-part_none (column v) ss rs = refl
-part_none (pixels bytes) ss rs = refl
-part_none (packets x) ss rs = refl
+part_none p ss rs = grind arith
 
 pub parts_none : (ps : List Part) (ss rs : List Column) → parts_cells 0 ps ss rs ≡ []
 unfolding parts_cells

@@ -85,8 +85,7 @@ all_runs runs period = and-left (list_all is_run runs) (nat_le 12 (length (value
 
 some_runs : (ps : List Period) (runs : List ControlRun) → is_control_period runs ≡ true → with_open ps runs ≡ ps ++ control runs ∷ []
 unfolding is_control_period values_of
-some_runs ps [] period = grind arith
-some_runs ps (r ∷ runs) period = refl
+some_runs ps runs h = grind arith
 
 -- a control period, from its first line on
 read_control : (ps : List Period) (runs : List ControlRun) (n at : ℕ) (rest : List ℕ) (goal : Read (List Period)) → is_control_last (last_period ps) ≡ false → is_control_period runs ≡ true

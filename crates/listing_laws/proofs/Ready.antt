@@ -52,24 +52,19 @@ flat_append b xs ys h g = list_all-append (flat b) xs ys ∙ ap₂ (λ (x y : Bo
 -- One column.
 
 pub not_it : (b : Bool) → has_vsync (not b) (column b) ≡ false
-not_it true = refl
-not_it false = refl
+not_it b = grind arith
 
 pub column_clear : (b : Bool) (ms : List Mark) → clear (not b) (column b ∷ ms) ≡ true
 column_clear b ms = ap not (not_it b)
 
 pub gap_clear : (b : Bool) (ms : List Mark) → clear b (gap ∷ ms) ≡ true
-gap_clear true ms = refl
-gap_clear false ms = refl
+gap_clear b ms = grind arith
 
 one_none : (b : Bool) (ms : List Mark) → clear b ms ≡ true → three_have b (column b ∷ ms) ≡ false
-one_none b [] h = refl
-one_none b (x ∷ []) h = refl
-one_none b (x ∷ (y ∷ ms)) h = grind arith
+one_none b ms h = grind arith
 
 two_none : (b : Bool) (ms : List Mark) → clear b ms ≡ true → three_have b (column b ∷ (column b ∷ ms)) ≡ false
-two_none b [] h = refl
-two_none b (x ∷ ms) h = grind arith
+two_none b ms h = grind arith
 
 -- one more of the wrong level is no third
 pub record MayGrow (b : Bool) (ms : List Mark) (rs : List Bool) : Type 0 where
@@ -104,12 +99,10 @@ pub taken_cases : (b v : Bool) (rs : List Bool) → (taken b v rs ≡ b) ⊎ IsW
 taken_cases b v rs = grind (arith, few)
 
 flag_right : (b : Bool) → not (same b b) ≡ false
-flag_right true = refl
-flag_right false = refl
+flag_right b = grind arith
 
 flag_wrong : (b : Bool) → not (same b (not b)) ≡ true
-flag_wrong true = refl
-flag_wrong false = refl
+flag_wrong b = grind arith
 
 pub step_right : (b v : Bool) (s : State) → taken b v s.recent ≡ b → step (control b v) s ≡ column_state false b s
 step_right b v s e = ap (λ (w : Bool). column_state (not (same b w)) w s) e ∙ ap (λ (f : Bool). column_state f b s) (flag_right b)
@@ -118,28 +111,19 @@ step_wrong : (b v : Bool) (s : State) → taken b v s.recent ≡ not b → step 
 step_wrong b v s e = ap (λ (w : Bool). column_state (not (same b w)) w s) e ∙ ap (λ (f : Bool). column_state f (not b) s) (flag_wrong b)
 
 differ_same : (t b : Bool) → differ (hears t b) (Some b) ≡ false
-differ_same true true = refl
-differ_same true false = refl
-differ_same false true = refl
-differ_same false false = refl
+differ_same t b = grind arith
 
 newer_same : (t b : Bool) → newer (hears t b) (Some b) ≡ Some b
-newer_same true b = refl
-newer_same false b = refl
+newer_same t b = grind arith
 
 differ_none : (h : Option Bool) → differ None h ≡ false
-differ_none None = refl
-differ_none (Some true) = refl
-differ_none (Some false) = refl
+differ_none h = grind arith
 
 none_differ : (h : Option Bool) → differ h None ≡ false
-none_differ None = refl
-none_differ (Some true) = refl
-none_differ (Some false) = refl
+none_differ h = grind arith
 
 differ_other : (b : Bool) → differ (Some b) (Some (not b)) ≡ true
-differ_other true = refl
-differ_other false = refl
+differ_other b = grind arith
 
 -- a column of the level that was heard
 column_again : (f b : Bool) (s : State) → s.heard ≡ Some b → column_state f b s ≡ turned false (column b ∷ s.marks) (Some b) (f ∷ s.recent) s
@@ -217,18 +201,13 @@ start_waiting : (s : State) (b : Bool) → Waiting s b 0 0 0
 start_waiting s b = record { seen = λ j le. omega arith; earlier = s.marks; marks = refl; count = omega arith; few_wrong = omega arith; short = omega arith }
 
 three_same : (b : Bool) (ms : List Mark) → three_have b (column b ∷ (column b ∷ (column b ∷ ms))) ≡ true
-three_same true ms = refl
-three_same false ms = refl
+three_same b ms = grind arith
 
 shorter : (b : Bool) (r : ℕ) (ms earlier : List Mark) → ms ≡ replicate r (column b) ++ earlier → r ≤ 2 → three_have b (column b ∷ ms) ≡ false → r ≤ 1
-shorter b zero ms earlier e le h = omega arith
-shorter b (suc zero) ms earlier e le h = omega arith
-shorter b (suc (suc zero)) ms earlier e le h = absurd (let k = sym (three_same b earlier) ∙ sym (ap (λ (ns : List Mark). three_have b (column b ∷ ns)) e) ∙ h in cc)
-shorter b (suc (suc (suc r))) ms earlier e le h = absurd (omega (arith, le))
+shorter b r ms earlier h k l = grind (arith, three_same)
 
 seen_more : (f : Bool) (k x : ℕ) (rs : List Bool) → ((j : ℕ) → k ≤ j → x ≤ wrongs j rs) → (j : ℕ) → suc k ≤ j → one_if f + x ≤ wrongs j (f ∷ rs)
-seen_more f k x rs h zero le = absurd (omega (arith, le))
-seen_more f k x rs h (suc j) le = let q = h j (omega (arith, le)) in omega (arith, q)
+seen_more f k x rs h l m = grind arith
 
 wait_right : (s t : State) (b : Bool) (k x r : ℕ) → Waiting s b k x r → three_have b (column b ∷ s.marks) ≡ false → t.marks ≡ column b ∷ s.marks → t.recent ≡ false ∷ s.recent → Waiting t b (suc k) x (suc r)
 unfolding one_if
@@ -321,8 +300,7 @@ is_heard b None = false
 is_heard b (Some v) = same b v
 
 pub other_heard : (b : Bool) → same b (not b) ≡ false
-other_heard true = refl
-other_heard false = refl
+other_heard b = grind arith
 
 columns_say : (b c : Bool) (g : List ℕ) (us : List Bool) (s : State) → Heard s (not b) c g → says (columns b us) s ≡ cond (is_heard b (after (columns b us) s).heard) (ends true c g) []
 unfolding says after
@@ -418,12 +396,10 @@ begin_few b us = begin_says b us fresh (fresh_unheard b)
 -- Which levels were taken does not hang on what was heard.
 
 pub turned_marks : (c : Bool) (ms : List Mark) (h : Option Bool) (rs : List Bool) (s : State) → (turned c ms h rs s).marks ≡ ms
-turned_marks true ms h rs s = refl
-turned_marks false ms h rs s = refl
+turned_marks c ms h rs s = grind arith
 
 pub turned_heard : (c : Bool) (ms : List Mark) (h : Option Bool) (rs : List Bool) (s : State) → (turned c ms h rs s).heard ≡ h
-turned_heard true ms h rs s = refl
-turned_heard false ms h rs s = refl
+turned_heard c ms h rs s = grind arith
 
 pub state_marks : (f w : Bool) (s : State) → (column_state f w s).marks ≡ column w ∷ s.marks
 state_marks f w s = turned_marks (differ (heard_at w s) s.heard) (column w ∷ s.marks) (newer (heard_at w s) s.heard) (f ∷ s.recent) s

@@ -6,7 +6,7 @@ use Rattle.tmds_word.specs.Column.{Column}
 use Rattle.frame_build.specs.FrameEvent.{Mark}
 use Rattle.source_end.specs.declared.mode.Mode.{Mode}
 use Rattle.source_end.specs.Content.{Frame}
-use Rattle.source_end.specs.Raster.{Part, column, pixels, packets, front, total, parts_of}
+use Rattle.source_end.specs.Raster.{Part, front, total, parts_of}
 use Rattle.source_end.specs.Gathering.{part_size, size}
 use Rattle.source_end.specs.Lines.{left}
 use Rattle.source_end.proofs.Gathered.{size_append}
@@ -31,9 +31,7 @@ use Rattle.listing_laws.proofs.Synced.{sync_cells}
 -- Lists of parts cut in two ways.
 
 some_columns : (p : Part) → 1 ≤ part_size p
-some_columns (column v) = omega arith
-some_columns (pixels bytes) = omega arith
-some_columns (packets x) = omega arith
+some_columns p = grind arith
 
 record IsCut (xs ys us vs : List Part) : Type 0 where
   pub between : List Part

@@ -1,23 +1,21 @@
 -- The packets that are reported are those that were received whole, in order.
-use Rattle.std.proofs.Common.{◌≡◌, ℕ, zero, suc, ◌+◌, ◌-◌, ◌*◌, ◌<◌, ◌≤◌, Bool, true, false, not, ◌&&◌, cond, List, [], ◌∷◌, ◌++◌, map, length, take, drop, Option, Some, None, refl, sym, ap, ap₂, subst, ◌∙◌, append_assoc, arith, inl, inr, ◌⊎◌}
-use Rattle.std.specs.Prelude.{nat_le, nat_lt}
+use Rattle.std.proofs.Common.{◌≡◌, ℕ, zero, suc, ◌+◌, ◌-◌, ◌*◌, ◌<◌, ◌≤◌, Bool, true, false, not, ◌&&◌, cond, List, [], ◌∷◌, ◌++◌, map, length, take, drop, Option, refl, sym, ap, ap₂, subst, ◌∙◌, append_assoc, arith, inl, inr, ◌⊎◌}
+use Rattle.std.specs.Prelude.{nat_le}
 use Rattle.std.proofs.lemmas.Bool.{le-leb, lt-leb, lt-ltb, le-ltb, cases_lt}
 use Rattle.std.proofs.lemmas.List.{drop-drop, drop-take, take-take, map-append}
 use Rattle.tmds_word.specs.Column.{Column}
 use Rattle.terc4.specs.Tables.{is_control}
-use Rattle.terc4.specs.Columns.{is_video_guard, is_island_guard}
 use Rattle.bch_block.specs.declared.Verdict.{Verdict}
-use Rattle.bch_block.specs.declared.Verdict.TheVariants.{Clean, Mended, Lost}
-use Rattle.island_pack.specs.Periods.{ControlRun, DataIsland, Period, control, video, island, values_of, Pixel, pixels_of, period_columns, VIDEO_PREAMBLE, ISLAND_PREAMBLE}
+use Rattle.island_pack.specs.Periods.{ControlRun, DataIsland, Period, control, video, island, values_of, Pixel, pixels_of, period_columns}
 use Rattle.island_pack.specs.Kinds.{EndsAt, kinds_of}
 use Rattle.island_pack.specs.declared.packet.Packet.{Packet}
 use Rattle.period_grammar.specs.Events.{Event, preamble, cut, symbols, guard, all_at, event_of}
 use Rattle.island_pack.specs.Repaired.{verdicts_of}
 use Rattle.period_grammar.specs.Cut.{Run, columns, runs as runs_of}
 use Rattle.period_grammar.specs.Island.{if_so, block_fault, block_faults, wrong_guards}
-use Rattle.period_grammar.specs.Heard.{other_word, other_words, words, has_preamble, if_not, codes_of, code_fault}
+use Rattle.period_grammar.specs.Heard.{other_word, other_words, words, if_not, codes_of, code_fault}
 use Rattle.period_grammar.proofs.Hearings.{events_at}
-use Rattle.link_laws.specs.Account.{runs_row, control_row, wrong_preamble, open_video_row, open_island_row, close_island_row, video_row, video_reported, packet_row, packet_reported, packets_reported, island_reported, period_row, account_from, account_at, account}
+use Rattle.link_laws.specs.Account.{runs_row, control_row, open_video_row, open_island_row, close_island_row, video_row, video_reported, packet_row, packet_reported, packets_reported, island_reported, period_row, account_from, account_at, account}
 use Rattle.link_laws.proofs.Conformed.{IsInner, Follows, ends, goes_on, Conforms, conforming}
 use Rattle.link_laws.proofs.Start.{control_size}
 use Rattle.link_laws.proofs.EndPlaces.{kinds_from, ends_first, ends_only, control_kinds, ends_late, kinds_size}
@@ -41,8 +39,7 @@ no_both xs ys h g = reported_both xs ys ∙ ap₂ (λ (a b : List ReportedPacket
 
 no_word : (lane j : ℕ) (t : Bool) → reported_packets (other_word lane j t) ≡ []
 unfolding reported_packets
-no_word lane j true = refl
-no_word lane j false = refl
+no_word lane j t = grind arith
 
 no_other_words : (j : ℕ) (c : Column) → reported_packets (other_words j c) ≡ []
 unfolding other_words
@@ -67,62 +64,46 @@ no_row j cs = no_runs j (runs_of cs)
 
 no_code : (lane s : ℕ) (found : Option ℕ) → reported_packets (code_fault lane s found) ≡ []
 unfolding reported_packets
-no_code lane s None = refl
-no_code lane s (Some i) = refl
+no_code lane s found = grind arith
 
 no_line : (t : Bool) (j : ℕ) (ps : List Pixel) (ss rs : List Column) → reported_packets (cond t (video_row j ps ss rs) (cut (j + 2) ∷ [])) ≡ []
 unfolding reported_packets video_row codes_of
-no_line true j ps ss rs = grind (arith, no_both, no_code)
-no_line false j ps ss rs = refl
+no_line t j ps ss rs = grind (arith, no_both, no_code)
 
 no_lack : (t : Bool) (b : ℕ) → reported_packets (if_not t (preamble b)) ≡ []
 unfolding reported_packets
-no_lack true b = refl
-no_lack false b = refl
+no_lack t b = grind arith
 
 no_guard : (t : Bool) (b : ℕ) → reported_packets (if_so t (guard b)) ≡ []
 unfolding reported_packets
-no_guard true b = refl
-no_guard false b = refl
+no_guard t b = grind arith
 
 no_guards : (is : Column → Bool) (b : ℕ) (g h : Column) → reported_packets (wrong_guards is b g h) ≡ []
 no_guards is b g h = no_both (if_so (not (is g)) (guard b)) (if_so (not (is h)) (guard (b + 1))) (no_guard (not (is g)) b) (no_guard (not (is h)) (b + 1))
 
 no_open_video : (b : ℕ) (before rs : List Column) → reported_packets (open_video_row b before rs) ≡ []
 unfolding open_video_row reported_packets
-no_open_video b before [] = refl
-no_open_video b before (g ∷ []) = refl
-no_open_video b before (g ∷ (h ∷ rs)) = no_both (wrong_preamble b VIDEO_PREAMBLE before) (wrong_guards is_video_guard b g h) (no_lack (has_preamble VIDEO_PREAMBLE before) b) (no_guards is_video_guard b g h)
+no_open_video b before rs = grind (arith, no_both, no_lack, no_guards)
 
 no_open_island : (b : ℕ) (before rs : List Column) → reported_packets (open_island_row b before rs) ≡ []
 unfolding open_island_row reported_packets
-no_open_island b before [] = refl
-no_open_island b before (g ∷ []) = refl
-no_open_island b before (g ∷ (h ∷ rs)) = no_both (wrong_preamble b ISLAND_PREAMBLE before) _ (no_lack (has_preamble ISLAND_PREAMBLE before) b) (no_guards is_island_guard b g h)
+no_open_island b before rs = grind (arith, no_both, no_lack, no_guards)
 
 no_close : (s : ℕ) (rs : List Column) → reported_packets (close_island_row s rs) ≡ []
 unfolding close_island_row reported_packets
-no_close s [] = refl
-no_close s (c ∷ []) = refl
-no_close s (c ∷ (d ∷ rs)) = no_guards is_island_guard s c d
+no_close s rs = grind (arith, no_guards)
 
 no_video : (j m : ℕ) (before : List Column) (ps : List Pixel) (ss rs : List Column) → reported_packets (video_reported j m before ps ss rs) ≡ []
 unfolding video_reported reported_packets
-no_video j zero before ps ss rs = refl
-no_video j (suc zero) before ps ss rs = refl
-no_video j (suc (suc i)) before ps ss rs =
-    no_both (open_video_row j before rs) _ (no_open_video j before rs) (no_line (nat_lt (length ps) i) j ps (drop 2 ss) (drop 2 rs))
+no_video j m before ps ss rs = grind (arith, no_both, no_open_video, no_line)
 
 no_symbols : (t : Bool) (s n : ℕ) → reported_packets (if_so t (symbols s n)) ≡ []
 unfolding reported_packets
-no_symbols true s n = refl
-no_symbols false s n = refl
+no_symbols t s n = grind arith
 
 no_block : (s b : ℕ) (v : Verdict) → reported_packets (block_fault s b v) ≡ []
 unfolding reported_packets
-no_block s b Clean = refl
-no_block s b (Mended i) = refl
-no_block s b Lost = refl
+no_block s b v = grind arith
 
 no_blocks : (s b : ℕ) (vs : List Verdict) → reported_packets (block_faults s b vs) ≡ []
 unfolding reported_packets
@@ -163,8 +144,7 @@ one_received ss rs a e y p ps le to =
 
 no_closing : (t : Bool) (s : ℕ) (rs : List Column) → reported_packets (cond t (close_island_row s rs) (cut s ∷ [])) ≡ []
 unfolding reported_packets
-no_closing true s rs = no_close s rs
-no_closing false s rs = refl
+no_closing t s rs = grind (arith, no_close)
 
 take_less : (n k : ℕ) (cs : List Column) → take n (take (n + k) cs) ≡ take n cs
 take_less n k cs = take-take n (n + k) cs (omega arith)
@@ -218,9 +198,7 @@ past_open before x s i ss rs =
 
 few_reported : (before : List Column) (x : DataIsland) (s m : ℕ) (ss rs : List Column) → m ≤ 1 → reported_packets (island_reported s m before x ss rs) ≡ []
 unfolding reported_packets island_reported
-few_reported before x s zero ss rs le = refl
-few_reported before x s (suc zero) ss rs le = refl
-few_reported before x s (suc (suc i)) ss rs le = absurd (omega arith)
+few_reported before x s m ss rs h = grind arith
 
 island_are : (before : List Column) (i : DataIsland) (ss rs : List Column) (a e x m : ℕ) → a ≤ x → m ≡ e - x
     → reported_packets (island_reported (x - a) m before i (take (4 + 32 * length i.packets) (drop x ss)) (take (4 + 32 * length i.packets) (drop x rs))) ≡ packets_received ss rs a e (each_at (x + 2) i.packets)
@@ -307,9 +285,7 @@ account_reported (island i ∷ periods) ss rs a m x n place h = grind (arith, is
 -- what stands between control periods is past
 past_inner : (vs : List ℕ) (x : Period) (rest : List Period) (n : ℕ) → IsInner vs x → period_columns x ≤ n → InControl rest (n - period_columns x) → InControl (x ∷ rest) n
 unfolding IsInner InControl
-past_inner vs (control runs) rest n i le h = absurd i
-past_inner vs (video bytes) rest n i le h = (le, h)
-past_inner vs (island x) rest n i le h = (le, h)
+past_inner vs x rest n h k l = grind arith
 
 first_period : (runs : List ControlRun) (rest : List Period) (n : ℕ) → n < length (values_of runs) → InControl (control runs ∷ rest) n
 unfolding InControl
@@ -341,10 +317,7 @@ in_control _ _ (goes_on vs x next rest h v f) runs same a e =
 
 of_periods : (periods : List Period) → Conforms periods → (a : ℕ) → EndsAt (kinds_of periods) (a + 11) → InControl periods a
 unfolding Conforms
-of_periods [] c a e = absurd c
-of_periods (video bytes ∷ rest) c a e = absurd c
-of_periods (island x ∷ rest) c a e = absurd c
-of_periods (control runs ∷ rest) c a e = in_control (values_of runs) rest c runs refl a (subst (λ ks. EndsAt ks (a + 11)) (control_kinds runs rest) e)
+of_periods periods h k l = grind (arith, in_control, control_kinds)
 
 pub packets_come_back : PacketsComeBack
 packets_come_back periods ss rs reception a m end le =

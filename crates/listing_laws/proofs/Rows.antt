@@ -1,6 +1,6 @@
 -- The rows of a frame: each that was received, with the column after it, is listed if the group counts; and what VSYNC
 -- sees of it is a gap.
-use Rattle.std.proofs.Common.{◌≡◌, ℕ, zero, suc, ◌+◌, ◌-◌, ◌*◌, ◌/◌, ◌<◌, ◌≤◌, Bool, true, false, not, ◌&&◌, cond, List, [], ◌∷◌, ◌++◌, length, take, drop, replicate, Some, refl, sym, ap, subst, ◌∙◌, append-nil, arith}
+use Rattle.std.proofs.Common.{◌≡◌, ℕ, zero, suc, ◌+◌, ◌-◌, ◌*◌, ◌/◌, ◌<◌, ◌≤◌, Bool, false, not, ◌&&◌, List, [], ◌∷◌, ◌++◌, length, take, drop, replicate, Some, refl, sym, ap, subst, ◌∙◌, append-nil, arith}
 use Rattle.std.proofs.lemmas.Bool.{lt-ltb, le-ltb}
 use Rattle.std.proofs.lemmas.List.{drop-drop, drop-take, length-take, length-drop, length-replicate}
 use Rattle.tmds_word.specs.Column.{Column}
@@ -52,23 +52,17 @@ bytes_length (p ∷ ps) (s ∷ ss) [] d e = absurd (omega (arith, e))
 bytes_length (p ∷ ps) (s ∷ ss) (r ∷ rs) d e = let h = bytes_length ps ss rs (omega (arith, d)) (omega (arith, e)) in omega (arith, h)
 
 pub row_cut : (b : Bool) (m : ℕ) (ps : List Pixel) (ss rs : List Column) → m ≤ 2 + length ps → Flat b (row_cells m ps ss rs)
-row_cut b zero ps ss rs le = refl
-row_cut b (suc zero) ps ss rs le = refl
-row_cut b (suc (suc i)) ps ss rs le = grind (arith, le-ltb, Flat, pixels_cell, parted)
+row_cut b m ps ss rs h = grind (arith, le-ltb, Flat, pixels_cell, parted)
 
 whole_row : (ps : List Pixel) (ss rs : List Column) (m : ℕ) → 2 + length ps < m → row_cells m ps ss rs ≡ pixels_cell (pixel_bytes ps (drop 2 ss) (drop 2 rs)) ∷ []
-whole_row ps ss rs zero lt = absurd (omega arith)
-whole_row ps ss rs (suc zero) lt = absurd (omega arith)
-whole_row ps ss rs (suc (suc i)) lt = ap (λ (x : Bool). cond x (pixels_cell (pixel_bytes ps (drop 2 ss) (drop 2 rs)) ∷ []) (parted ∷ [])) (lt-ltb (length ps) i (omega (arith, lt)))
+whole_row ps ss rs m h = grind (arith, pixels_cell, parted, lt-ltb)
 
 -- what is said of row y of a frame
 abbrev pub note : Bool → ℕ → LineNote
 note c y = record { counts = c; ragged = false; row = y }
 
 like_first : (c : Bool) (y n : ℕ) → (c && is_unlike (replicate y n) n) ≡ false
-like_first true zero n = refl
-like_first true (suc y) n = grind arith
-like_first false y n = refl
+like_first c y n = grind arith
 
 replicate_snoc : (y n : ℕ) → replicate y n ++ n ∷ [] ≡ replicate (suc y) n
 replicate_snoc zero n = refl

@@ -1,12 +1,11 @@
 -- The lines of events that are no faults: all lines where nothing is one, and none of events that are faults alone.
-use Rattle.std.proofs.Common.{arith, ◌≡◌, ℕ, ◌+◌, Bool, true, false, not, cond, ◌==◌, List, [], ◌∷◌, ◌++◌, map, refl, ap, ap₂, ◌∙◌, append_assoc}
-use Rattle.std.specs.Prelude.{Option, Some, None}
+use Rattle.std.proofs.Common.{arith, ◌≡◌, ℕ, ◌+◌, Bool, not, cond, ◌==◌, List, [], ◌∷◌, ◌++◌, map, refl, ap, ap₂, ◌∙◌, append_assoc}
+use Rattle.std.specs.Prelude.{Option}
 use Rattle.std.proofs.lemmas.List.{map-append}
 use Rattle.tmds_word.specs.Column.{Column}
 use Rattle.tmds_word.proofs.Below.{and-left, and-right}
 use Rattle.terc4.specs.Tables.{is_control}
 use Rattle.bch_block.specs.declared.Verdict.{Verdict}
-use Rattle.bch_block.specs.declared.Verdict.TheVariants.{Clean, Mended, Lost}
 use Rattle.link_laws.proofs.Computed.{not_true}
 use Rattle.island_pack.specs.declared.packet.PacketVerdicts.{PacketVerdicts}
 use Rattle.period_grammar.specs.Events.{Event, preamble, guard, symbols, all_at, event_of}
@@ -41,8 +40,7 @@ pub silent_both : (ts us : List Event) → IsSilent ts → IsSilent us → IsSil
 silent_both ts us h g = sound_append ts us ∙ ap₂ (λ (a b : List ℕ). a ++ b) h g
 
 silent_word : (lane j : ℕ) (sure : Bool) → IsSilent (other_word lane j sure)
-silent_word lane j true = refl
-silent_word lane j false = refl
+silent_word lane j sure = grind arith
 
 silent_column : (j : ℕ) (c : Column) → IsSilent (other_words j c)
 unfolding other_words
@@ -58,32 +56,26 @@ silent_words j (c ∷ cs) =
     ∙ silent_both (other_words j c) (map event_of rest) (silent_column j c) (silent_words (j + 1) cs)
 
 pub silent_preamble : (sure : Bool) (b : ℕ) → IsSilent (if_not sure (preamble b))
-silent_preamble true b = refl
-silent_preamble false b = refl
+silent_preamble sure b = grind arith
 
 silent_guard : (wrong : Bool) (b : ℕ) → IsSilent (if_so wrong (guard b))
-silent_guard true b = refl
-silent_guard false b = refl
+silent_guard wrong b = grind arith
 
 pub silent_guards : (is : Column → Bool) (b : ℕ) (g h : Column) → IsSilent (wrong_guards is b g h)
 silent_guards is b g h = silent_both (if_so (not (is g)) (guard b)) (if_so (not (is h)) (guard (b + 1))) (silent_guard (not (is g)) b) (silent_guard (not (is h)) (b + 1))
 
 silent_code : (lane s : ℕ) (found : Option ℕ) → IsSilent (code_fault lane s found)
-silent_code lane s None = refl
-silent_code lane s (Some i) = refl
+silent_code lane s found = grind arith
 
 pub silent_codes : (s : ℕ) (cs : List Column) → IsSilent (codes_of s cs)
 unfolding codes_of
 silent_codes s cs = grind (arith, silent_both, silent_code)
 
 silent_symbols : (some : Bool) (s n : ℕ) → IsSilent (if_so some (symbols s n))
-silent_symbols true s n = refl
-silent_symbols false s n = refl
+silent_symbols some s n = grind arith
 
 silent_block : (s b : ℕ) (v : Verdict) → IsSilent (block_fault s b v)
-silent_block s b Clean = refl
-silent_block s b (Mended i) = refl
-silent_block s b Lost = refl
+silent_block s b v = grind arith
 
 silent_blocks : (s b : ℕ) (vs : List Verdict) → IsSilent (block_faults s b vs)
 silent_blocks s b [] = refl

@@ -3,7 +3,7 @@
 use Rattle.std.proofs.Common.{◌≡◌, ℕ, zero, suc, ◌+◌, ◌-◌, ◌*◌, ◌/◌, ◌≤◌, Bool, true, false, List, [], ◌∷◌, ◌++◌, map, length, replicate, refl, sym, ap, ap₂, subst, ◌∙◌, append_assoc, arith, inl, inr, ◌⊎◌, length-append}
 use Rattle.std.proofs.lemmas.Bool.{cases_lt}
 use Rattle.std.proofs.lemmas.List.{get_or_append_left, get_or-append_right, get_or-replicate, length-replicate}
-use Rattle.island_pack.specs.Periods.{DataIsland, Period, control as control_period, video, island, values_of}
+use Rattle.island_pack.specs.Periods.{DataIsland, Period, values_of}
 use Rattle.island_pack.specs.declared.packet.Packet.{Packet}
 use Rattle.island_pack.specs.Kinds.{Kind, control_column, pixel_column, packet_column, guard_pair, kinds_in, kinds_of, kind_at, EndsAt}
 use Rattle.island_pack.proofs.Runs.{join_values}
@@ -32,10 +32,7 @@ kinds_append (packets x ∷ xs) ys = ap (λ (ks : List Kind). (guard_pair ++ (re
 
 before_kinds : (v : ℕ) (periods : List Period) → kinds_of (before v periods) ≡ control_column ∷ kinds_of periods
 unfolding kinds_of kinds_in values_of
-before_kinds v [] = refl
-before_kinds v (video bytes ∷ periods) = refl
-before_kinds v (island x ∷ periods) = refl
-before_kinds v (control_period runs ∷ periods) = ap (λ (vs : List ℕ). replicate (length vs) control_column ++ kinds_of periods) (join_values v runs)
+before_kinds v periods = grind (arith, join_values)
 
 pub gathered_kinds : (parts : List Part) → kinds_of (gathered parts) ≡ kinds parts
 unfolding gathered kinds kinds_of kinds_in

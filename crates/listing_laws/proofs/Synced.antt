@@ -46,27 +46,19 @@ look mode t u [] = false
 look mode t u (c ∷ cs) = (is_sync mode c && (u && t)) || look mode u (is_sync mode c) cs
 
 sync_level : (p v : Bool) → level v p ≡ has_vsync p (column v)
-sync_level true true = refl
-sync_level true false = refl
-sync_level false true = refl
-sync_level false false = refl
+sync_level p v = grind arith
 
 sync_mark : (mode : Mode) (c : Column) → is_sync mode c ≡ has_vsync mode.positive (mark c)
 sync_mark mode c = grind (arith, sync_level, no_gap)
 
 and_none : (a b : Bool) → (a && (b && false)) ≡ false
-and_none true true = refl
-and_none true false = refl
-and_none false b = refl
+and_none a b = grind arith
 
 and_assoc : (a b c : Bool) → ((a && b) && c) ≡ (a && (b && c))
-and_assoc true b c = refl
-and_assoc false b c = refl
+and_assoc a b c = grind arith
 
 three_by : (b : Bool) (m : Mark) (ms : List Mark) → three_have b (m ∷ ms) ≡ (has_vsync b m && (newest b ms && second b ms))
-three_by b m [] = sym (and_none (has_vsync b m) false)
-three_by b m (n ∷ []) = sym (and_none (has_vsync b m) (has_vsync b n))
-three_by b m (n ∷ (k ∷ ms)) = and_assoc (has_vsync b m) (has_vsync b n) (has_vsync b k)
+three_by b m ms = grind (arith, and_none, and_assoc)
 
 look_met : (mode : Mode) (ms : List Mark) (cs : List Column) → met_in mode.positive ms cs ≡ look mode (second mode.positive ms) (newest mode.positive ms) cs
 look_met mode ms [] = refl
@@ -75,14 +67,7 @@ look_met mode ms (c ∷ cs) =
     (look_met mode (mark c ∷ ms) cs ∙ ap (λ (x : Bool). look mode (newest mode.positive ms) x cs) (sym (sync_mark mode c)))
 
 turn_round : (a b c : Bool) → (a && (b && c)) ≡ (c && (b && a))
-turn_round true true true = refl
-turn_round true true false = refl
-turn_round true false true = refl
-turn_round true false false = refl
-turn_round false true true = refl
-turn_round false true false = refl
-turn_round false false true = refl
-turn_round false false false = refl
+turn_round a b c = grind arith
 
 has_look : (mode : Mode) (c d : Column) (cs : List Column) → has_sync mode (c ∷ (d ∷ cs)) ≡ look mode (is_sync mode c) (is_sync mode d) cs
 unfolding has_sync
@@ -90,10 +75,7 @@ has_look mode c d [] = refl
 has_look mode c d (e ∷ cs) = ap₂ (λ (x y : Bool). x || y) (turn_round (is_sync mode c) (is_sync mode d) (is_sync mode e)) (has_look mode d e cs)
 
 first_looks : (a b x : Bool) → ((a && (false && false)) || ((b && (a && false)) || x)) ≡ x
-first_looks true true x = refl
-first_looks true false x = refl
-first_looks false true x = refl
-first_looks false false x = refl
+first_looks a b x = grind arith
 
 all_look : (mode : Mode) (cs : List Column) → has_sync mode cs ≡ look mode false false cs
 unfolding has_sync
@@ -107,26 +89,19 @@ has_met mode cs = all_look mode cs ∙ sym (look_met mode [] cs)
 -- Gaps.
 
 three_gap : (b : Bool) (ms : List Mark) → three_have b (gap ∷ ms) ≡ false
-three_gap b [] = refl
-three_gap b (m ∷ []) = refl
-three_gap b (m ∷ (n ∷ ms)) = ap (λ (t : Bool). t && has_vsync b m && has_vsync b n) (no_gap b)
+three_gap b ms = grind (arith, no_gap)
 
 three_any : (b v : Bool) (ms ns : List Mark) → alike ms ns ≡ true → three_have b (column v ∷ ms) ≡ three_have b (column v ∷ ns)
-three_any true true ms ns h = three_alike true ms ns h
-three_any true false ms ns h = three_wrong true ms ∙ sym (three_wrong true ns)
-three_any false true ms ns h = three_wrong false ms ∙ sym (three_wrong false ns)
-three_any false false ms ns h = three_alike false ms ns h
+three_any b v ms ns h = grind (arith, three_alike, three_wrong)
 
 quiet_mark : (c : Column) → not (is_control_column c) ≡ true → mark c ≡ gap
 quiet_mark c h = grind arith
 
 mark_like : (b : Bool) (m : Mark) (ms ns : List Mark) → alike ms ns ≡ true → three_have b (m ∷ ms) ≡ three_have b (m ∷ ns)
-mark_like b (column v) ms ns h = three_any b v ms ns h
-mark_like b gap ms ns h = three_gap b ms ∙ sym (three_gap b ns)
+mark_like b m ms ns h = grind (arith, three_any, three_gap)
 
 mark_alike : (m : Mark) (ms ns : List Mark) → alike ms ns ≡ true → alike (m ∷ ms) (m ∷ ns) ≡ true
-mark_alike (column v) ms ns h = ap₂ (λ (x y : Bool). x && y) (same_self v) h
-mark_alike gap ms ns h = refl
+mark_alike m ms ns h = grind (arith, same_self)
 
 met_alike : (b : Bool) (cs : List Column) (ms ns : List Mark) → alike ms ns ≡ true → met_in b ms cs ≡ met_in b ns cs
 met_alike b [] ms ns h = refl
@@ -146,12 +121,10 @@ gap_one b ns cs = refl
 
 row_met : (b : Bool) (m : ℕ) (ps : List Pixel) (ss rs : List Column) (ns : List Mark) (cs : List Cell) → met b ns (row_cells (suc m) ps ss rs ++ cs) ≡ met b (gap ∷ ns) cs
 unfolding met
-row_met b zero ps ss rs ns cs = refl
-row_met b (suc i) ps ss rs ns cs = grind (arith, met, pixels_cell, parted, gap_one)
+row_met b m ps ss rs ns cs = grind (arith, met, pixels_cell, parted, gap_one)
 
 take_nothing : (k : ℕ) (b : Bool) (ms : List Mark) → met_in b ms (take k []) ≡ false
-take_nothing zero b ms = refl
-take_nothing (suc k) b ms = refl
+take_nothing k b ms = grind arith
 
 column_met : (b u v : Bool) (ns : List Mark) (cs : List Cell) → met b ns (control u v ∷ cs) ≡ (three_have b (column v ∷ ns) || met b (column v ∷ ns) cs)
 unfolding met

@@ -1,7 +1,7 @@
 -- Three neighbouring columns of one level among cells, and when their level is heard.
 use Rattle.std.proofs.Common.{◌≡◌, ◌+◌, ◌≤◌, Bool, true, false, not, ◌&&◌, ◌||◌, List, [], ◌∷◌, ◌++◌, length, Option, Some, refl, sym, ap, ap₂, subst, ◌∙◌, arith, inl, inr, ◌⊎◌}
 use Rattle.tmds_word.proofs.Below.{and-left, and-right}
-use Rattle.frame_build.specs.FrameEvent.{Mark, column, gap, has_vsync}
+use Rattle.frame_build.specs.FrameEvent.{Mark, column, gap}
 use Rattle.frame_build.specs.Change.{three_have, newer, differ}
 use Rattle.listing_laws.proofs.Machine.{hears}
 use Rattle.listing_laws.proofs.Cells.{Cell, control, pixels, parted, State, few, same, same_is, same_self, taken_is, heard_at, column_state, step, after, fine}
@@ -22,8 +22,7 @@ push (pixels bytes ∷ ts) ms = push ts (gap ∷ ms)
 push (parted ∷ ts) ms = push ts (gap ∷ ms)
 
 or_assoc : (a b c : Bool) → (a || (b || c)) ≡ ((a || b) || c)
-or_assoc true b c = refl
-or_assoc false b c = refl
+or_assoc a b c = grind arith
 
 pub met_append : (b : Bool) (ms : List Mark) (xs ys : List Cell) → met b ms (xs ++ ys) ≡ (met b ms xs || met b (push xs ms) ys)
 unfolding met push
@@ -93,15 +92,10 @@ marks_after (parted ∷ xs) s h = marks_after xs (step parted s) h
 -- Of columns of the other level no three are received.
 
 three_other : (b : Bool) (ms : List Mark) → three_have (not b) (column b ∷ ms) ≡ false
-three_other b [] = refl
-three_other b (m ∷ []) = refl
-three_other b (m ∷ (n ∷ ms)) = ap (λ (t : Bool). t && has_vsync (not b) m && has_vsync (not b) n) (not_it b)
+three_other b ms = grind (arith, not_it)
 
 level_cases : (b v : Bool) → (same b v ≡ true) × (v ≡ b) ⊎ (same b v ≡ false) × (v ≡ not b)
-level_cases true true = inl (refl, refl)
-level_cases true false = inr (refl, refl)
-level_cases false true = inr (refl, refl)
-level_cases false false = inl (refl, refl)
+level_cases b v = grind arith
 
 pub none_met : (b : Bool) (ts : List Cell) (ms : List Mark) (rs : List Bool) → Flat b ts → fine rs ts ≡ true → Trail b ms rs → met (not b) ms ts ≡ false
 unfolding met fine
@@ -127,13 +121,10 @@ none_met b (parted ∷ ts) ms rs flat h t = none_met b ts (gap ∷ ms) [] flat h
 -- A level is heard exactly where three neighbouring columns of it were received.
 
 unheard_newer : (t b : Bool) (h : Option Bool) → is_heard b h ≡ false → is_heard b (newer (hears t (not b)) h) ≡ false
-unheard_newer true b h e = other_heard b
-unheard_newer false b h e = e
+unheard_newer t b h k = grind (arith, other_heard)
 
 pub three_wrong : (b : Bool) (ms : List Mark) → three_have b (column (not b) ∷ ms) ≡ false
-three_wrong b [] = refl
-three_wrong b (m ∷ []) = refl
-three_wrong b (m ∷ (n ∷ ms)) = grind arith
+three_wrong b ms = grind arith
 
 pub heard_met : (b : Bool) (vs : List Bool) (s : State) → fine s.recent (columns b vs) ≡ true → is_heard b s.heard ≡ false → is_heard b (after (columns b vs) s).heard ≡ met b s.marks (columns b vs)
 unfolding met fine after

@@ -32,8 +32,7 @@ by_change reported value n s h false was is e =
     still reported (run_frame_event value n) s (turned false (run_marks (vsync_of value) n s.marks) (newer h s.heard) s) was e refl (ap (λ (x : Option Bool). newer x s.heard) (sym is)) refl (sym (append-nil s.group))
 
 if_hears : (t b : Bool) → (if true && t then Some b else None) ≡ hears t b
-if_hears true b = refl
-if_hears false b = refl
+if_hears t b = grind arith
 
 heard_here : (reported : List FrameEvent) (value n : ℕ) (s : State) → Stands s reported → heard_at (run_frame_event value (suc n)) (reverse reported) ≡ heard_after (vsync_of value) (suc n) s
 heard_here reported value n s was = grind (arith, hears, run_marks, if_hears)
@@ -48,8 +47,7 @@ run_stands reported value (suc n) s was =
 
 run_listed : (reported : List FrameEvent) (value n : ℕ) (s : State) → Stands s reported → listed_at reported (run value n) ≡ run_said (vsync_of value) n s
 unfolding frame_event_of
-run_listed reported value zero s was = refl
-run_listed reported value (suc n) s was = grind (arith, ends, changed_here, heard_after)
+run_listed reported value n s h = grind (arith, ends, changed_here, heard_after)
 
 abbrev note_with : Bool → List ℕ → ℕ → LineNote
 note_with c g width = record { counts = c; ragged = c && is_unlike g width; row = reported_count (length g) }
