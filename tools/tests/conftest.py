@@ -50,3 +50,40 @@ def program():
         return came.stdout
 
     return run
+
+PROVER = """#!/bin/sh
+for word; do
+  case $last in
+    --crate-name) name=$word ;;
+    --extern) [ -e "${{word#*=}}" ] || echo "$name without $word" >> {0}/log ;;
+    -o) made=$word ;;
+  esac
+  last=$word
+done
+echo "begin $name" >> {0}/log
+[ -e {0}/slow ] && sleep 0.3
+[ -e "{0}/kills.$name" ] && rm "{0}/kills.$name" && kill -9 $$
+[ -e "{0}/fails.$name" ] && echo "$name: not proved" && exit 1
+echo "$*" > "$made"
+echo "end $name" >> {0}/log
+"""
+LINKER = """#!/bin/sh
+while [ "$1" != -o ]; do shift; done
+cp {0}/program "$2"
+"""
+
+
+@pytest.fixture
+def kit(tmp_path):
+    """A Rattle kit that is shell scripts, and its `rt` in the folder `path`. Its prover writes what it does into the file `log`,
+    fails or is killed where a file says so, and what it makes is the file `program`."""
+    scripts = {"kit/bin/rattle": PROVER, "kit/bin/rattle-link": LINKER, "path/rt": "#!/bin/sh\necho {0}/kit/START-HERE.md\n"}
+    for path, text in scripts.items():
+        (tmp_path / path).parent.mkdir(parents=True, exist_ok=True)
+        (tmp_path / path).write_text(text.format(tmp_path))
+        (tmp_path / path).chmod(0o755)
+    for name in ("hex", "std"):
+        (tmp_path / "kit" / "rlibs" / f"{name}.rlib").mkdir(parents=True)
+    (tmp_path / "kit" / "KIT-ID").write_text("a kit\n")
+    (tmp_path / "program").write_text("made\n")
+    return tmp_path / "kit"

@@ -1,4 +1,4 @@
-"""./vabgrot: its own statuses, and what it installs, over a copy with an `rt` and a program that are shell scripts."""
+"""./vabgrot: its own statuses, and what it installs, over a copy with a kit and a program that are shell scripts."""
 
 import os
 import shutil
@@ -8,47 +8,43 @@ import pytest
 from conftest import TOP
 
 PROGRAM = '#!/bin/sh\necho "$@"\nexit 2\n'
-BUILDS = """#!/bin/sh
-mkdir -p "{0}/out" && cp "{1}" "{0}/out/hdmi_cli" && echo "rt: running out/hdmi_cli"
-"""
 
 
 @pytest.fixture
-def front(tmp_path):
-    """Runs a copy of the script; `rt` is what stands for the kit's command, if anything."""
+def front(tmp_path, kit):
+    """Runs a copy of the script, with the kit or without it."""
     top = tmp_path / "top"
-    (top / "crates" / "hdmi_cli").mkdir(parents=True)
-    (top / "crates.txt").write_text("hdmi_cli\n")
+    (top / "crates" / "hdmi_cli" / "src").mkdir(parents=True)
+    (top / "crates" / "hdmi_cli" / "src" / "main.rt").write_text("//! a program\n")
+    (top / "crates.txt").write_text("hdmi_cli:\n")
     (tmp_path / "program").write_text(PROGRAM)
     (tmp_path / "program").chmod(0o755)
-    shutil.copy(TOP / "vabgrot", top)
+    for name in ("vabgrot", "build.py"):
+        shutil.copy(TOP / name, top)
     for folder in ("tools", "docs"):
         shutil.copytree(TOP / folder, top / folder, ignore=shutil.ignore_patterns("tests", "__pycache__"))
 
-    def run(*words, rt=None):
-        (tmp_path / "path").mkdir(exist_ok=True)
-        if rt:
-            (tmp_path / "path" / "rt").write_text(rt.format(top / "crates" / "hdmi_cli", tmp_path / "program"))
-            (tmp_path / "path" / "rt").chmod(0o755)
-        words = [top / "vabgrot", *words]
-        env = {"PATH": f"{tmp_path / 'path'}:/usr/bin:/bin", "HOME": str(tmp_path / "home")}
-        came = subprocess.run(words, env=env, capture_output=True, text=True, stdin=subprocess.DEVNULL)
+    def run(*words, has_kit=True):
+        path = f"{tmp_path / 'path'}:/usr/bin:/bin" if has_kit else "/usr/bin:/bin"
+        env = {"PATH": path, "HOME": str(tmp_path / "home")}
+        came = subprocess.run([top / "vabgrot", *words], env=env, capture_output=True, text=True, stdin=subprocess.DEVNULL)
         return came.returncode, came.stdout, came.stderr
 
     return run
 
 
-def test_no_kit_and_no_build(front):
+def test_no_kit_and_no_build(front, tmp_path):
     for words in (["check"], ["install"], ["install", "/nowhere"]):
-        status, out, said = front(*words)
+        status, out, said = front(*words, has_kit=False)
         assert (status, out) == (127, "") and "rt of the Rattle kit is not on the PATH" in said
-    status, out, said = front("check", rt="#!/bin/sh\necho 'rt: no proof'\nexit 1\n")
-    assert (status, out) == (70, "") and said.endswith("rt: no proof\nvabgrot: the build failed\n")
+    (tmp_path / "fails.hdmi_cli").write_text("")
+    status, out, said = front("check")
+    assert (status, out) == (70, "") and said.endswith("hdmi_cli: not proved\nvabgrot: the build failed\n")
 
 
 def test_built_once_and_run(front):
     """The program's words, output and status are its own; a second run builds nothing."""
-    status, out, said = front("recover", "link", rt=BUILDS)
+    status, out, said = front("recover", "link")
     assert (status, out) == (2, "recover link\n") and "built in" in said
     assert front("check") == (2, "check\n", "")
     assert front("install", "a", "b") == (2, "install a b\n", "")
@@ -61,7 +57,7 @@ def test_built_once_and_run(front):
 def test_on_one_processor(front, tmp_path):
     """What starts threads runs on one of the processors that the script may use, all else on all of them; and where
     `taskset` is refused, all does."""
-    front("check", rt=BUILDS)
+    front("check")
     program = tmp_path / "top" / "crates" / "hdmi_cli" / "out" / "hdmi_cli"
     program.write_text("#!/bin/sh\ngrep Cpus_allowed_list /proc/self/status | cut -f2\necho \"$@\"\n")
     with open("/proc/self/status") as status:
@@ -79,7 +75,7 @@ def test_on_one_processor(front, tmp_path):
 
 def test_installed(front, tmp_path):
     """Below a prefix, or the home folder's .local; each tool runs from there by its name."""
-    assert front("install", rt=BUILDS)[0] == 0
+    assert front("install")[0] == 0
     bin = tmp_path / "home" / ".local" / "bin"
     tools = [path.name for path in (TOP / "tools").iterdir() if path.is_file() and os.access(path, os.X_OK)]
     assert {path.name for path in bin.iterdir()} == {"vabgrot", *(f"vabgrot-{name}" for name in tools)}

@@ -1,0 +1,266 @@
+#!/usr/bin/env python3
+"""Proves the crates that the program stands on and builds it; ./vabgrot calls this where the program is missing or old.
+
+    build.py
+
+Crates are proved side by side, each once those below it are. The one with the most code left above it goes first, at more
+than one processor and before the others, since it decides when the last crate can begin. The kit's prover is called crate
+by crate, each from nothing and over the statements of the crates below, as `rt ci` calls it; `rt all` and `rt run` look at
+all sources before the first proof, and then several times at those of all crates below. A crate is not proved again while
+its files, its line in crates.txt, the crates below it and the kit are as they were. What is made lies in
+crates/NAME/out/built, apart from what `rt` keeps.
+
+A line on standard error counts the crates where that is a terminal. Status 0 where the program is built; 1 where a crate
+is not proved or the program not linked, with what was said of it on standard error; 2 where there is no kit."""
+
+import fcntl
+import hashlib
+import os
+import re
+import signal
+import subprocess
+import sys
+import time
+from dataclasses import dataclass, field
+from functools import cached_property
+from pathlib import Path
+
+TOP = Path(__file__).resolve().parent
+PROGRAM = "hdmi_cli"
+TARGET = "x86_64-unknown-linux-gnu"
+MEMORY = 3_000_000_000  # the most that a check takes, in bytes
+MOST_JOBS = 4  # of one check: more hardly help
+NICER = 5  # by how much those checks are nicer that others do not wait for the longest
+
+
+@dataclass(frozen=True)
+class Kit:
+    """The Rattle kit: its prover, and what a check reads of it."""
+
+    folder: Path
+
+    @classmethod
+    def found(cls):
+        """The kit whose `rt` is on the PATH: `rt doc` names a page of its folder."""
+        page = subprocess.run(["rt", "doc"], capture_output=True, text=True, check=True).stdout.strip()
+        return cls(Path(page).parent)
+
+    @property
+    def identity(self):
+        return (self.folder / "KIT-ID").read_bytes()
+
+    @property
+    def prover(self):
+        """The command that checks a crate and builds it, over the kit's own logic as it was built, and its first words."""
+        logic = self.folder / "rattle/logic/antt-project.json"
+        return [self.folder / "bin/rattle", "build", "--antt-project", logic, "--logic-built", self.folder / "logic_built"]
+
+    @property
+    def libraries(self):
+        return self.folder / "rlibs"
+
+    @property
+    def compiler(self):
+        return ["--toolchain", self.folder / "toolchain"]
+
+    def link(self, made, program):
+        """The command that makes a program of what the prover built."""
+        own = [self.folder / "c" / name for name in ("libos_c.a", "liblibc_c.a")]
+        return [self.folder / "bin/rattle-link", "--target", TARGET, *self.compiler, "-o", program, made, *own]
+
+
+@dataclass(eq=False)
+class Crate:
+    """A crate of the repository: its line in crates.txt, and the crates and the kit's libraries that the line names."""
+
+    kit: Kit
+    name: str
+    line: str
+    uses: list = field(default_factory=list)
+    libraries: list = field(default_factory=list)
+
+    @property
+    def folder(self):
+        return TOP / "crates" / self.name
+
+    @property
+    def is_program(self):
+        return self.name == PROGRAM
+
+    @property
+    def made(self):
+        """What a check of the crate writes: a library, or the program before it is linked."""
+        return self.folder / "out/built" / (f"{self.name}.o" if self.is_program else f"{self.name}.rlib")
+
+    @property
+    def made_from(self):
+        """The file that has the sum of all that was read for `made`."""
+        return self.folder / "out/built/sum"
+
+    @property
+    def log(self):
+        return self.folder / "out/built/log"
+
+    @cached_property
+    def below(self):
+        """The crates that it stands on, each after those that it stands on itself."""
+        return list(dict.fromkeys(it for used in self.uses for it in (*used.below, used)))
+
+    @cached_property
+    def files(self):
+        parts = [self.folder / part for part in ("src", "specs", "proofs")]
+        return sorted(path for part in parts for path in part.rglob("*") if path.is_file())
+
+    @cached_property
+    def work(self):
+        """About how long its check takes, against others: the lines of its code."""
+        return sum(path.read_bytes().count(b"\n") for path in self.files if path.suffix == ".rt")
+
+    @cached_property
+    def sum(self):
+        """A sum of all that its check reads."""
+        read = hashlib.sha256(self.kit.identity + self.line.encode())
+        for path in self.files:
+            read.update(repr((str(path.relative_to(self.folder)), path.read_bytes())).encode())
+        for used in self.uses:
+            read.update(used.sum.encode())
+        return read.hexdigest()
+
+    def is_current(self):
+        return self.made.exists() and self.made_from.is_file() and self.made_from.read_text() == self.sum
+
+    def command(self, jobs):
+        """The command that proves it, `jobs` modules at a time, and writes what it makes."""
+        words = [*self.kit.prover, "--crate-name", self.name, "src/main.rt" if self.is_program else "src/lib.rt", "--jobs", jobs]
+        for name in ("std", *self.libraries):
+            words += ["--extern", f"{name}={self.kit.libraries / name}.rlib"]
+        for used in self.uses:
+            words += ["--extern", f"{used.name}={used.made}"]
+        for folder in (self.kit.libraries, *(it.made.parent for it in self.below)):
+            words += ["-L", f"dependency={folder}"]
+        words += ["--backend", "llvm", *self.kit.compiler] if self.is_program else ["--statements"]
+        return [str(it) for it in (*words, "-o", self.made)]
+
+
+def read_crates(kit):
+    """The crates below the program and the program, lowest first."""
+    lines = (TOP / "crates.txt").read_text(encoding="utf-8").splitlines()
+    rows = [row for row in (re.match(r"(\w+)[^:#]*:?([^#]*)", line) for line in lines) if row]
+    named = {row[1]: Crate(kit, row[1], row[0]) for row in rows}
+    for row in rows:
+        uses = row[2].split()
+        named[row[1]].uses = [named[it] for it in uses if it in named]
+        named[row[1]].libraries = [it for it in uses if it not in named]
+    return [*named[PROGRAM].below, named[PROGRAM]]
+
+
+def ways_up(crates):
+    """For each crate, how much work stands in the longest way from it up to the program, its own with it."""
+    ways = {}
+    for crate in reversed(crates):
+        ways[crate] = crate.work + max((ways[it] for it in crates if crate in it.uses), default=0)
+    return ways
+
+
+def places():
+    """How many checks may run at a time: one a processor, and no more than there is free memory for."""
+    with open("/proc/meminfo", encoding="utf-8") as it:
+        free = 1024 * int(re.search(r"MemAvailable:\s+(\d+)", it.read())[1])
+    return max(1, min(len(os.sched_getaffinity(0)), free // MEMORY))
+
+
+class Building:
+    """Which crates are proved, which are being proved, and which are left, those with the longest ways up first."""
+
+    def __init__(self, crates):
+        self.count, self.began, self.places = len(crates), time.monotonic(), places()
+        self.ways = ways_up(crates)
+        self.done = {it for it in crates if it.is_current()}
+        self.left = sorted((it for it in crates if it not in self.done), key=self.ways.get, reverse=True)
+        self.running, self.failed = {}, None
+
+    def begin(self, crate, jobs, is_first):
+        """Starts a crate's check, in a process group of its own, with which a build that ends early ends it."""
+        crate.made.parent.mkdir(parents=True, exist_ok=True)
+        crate.made_from.unlink(missing_ok=True)
+        words = [*([] if is_first else ["nice", "-n", str(NICER)]), *crate.command(jobs)]
+        with open(crate.log, "wb") as log:
+            how = {"cwd": crate.folder, "stdin": subprocess.DEVNULL, "stdout": log, "stderr": subprocess.STDOUT}
+            self.running[crate] = subprocess.Popen(words, start_new_session=True, **how)
+
+    def begin_ready(self):
+        """Starts what can be started: processors that no crate waits for are shared, and the one with the longest way up
+        gets two jobs at least."""
+        ready = [it for it in self.left if self.done.issuperset(it.uses)]
+        for at, crate in enumerate(ready):
+            free = self.places - len(self.running)
+            if free <= 0 or self.failed:
+                return
+            is_first = self.ways[crate] >= max(self.ways[it] for it in (crate, *self.running))
+            least = 2 if is_first and self.places > 1 else 1
+            self.left.remove(crate)
+            self.begin(crate, max(least, min(MOST_JOBS, free // (len(ready) - at))), is_first)
+
+    def end(self, crate, status):
+        """Takes the end of a check. One that was killed, most likely for want of memory, is tried again with nothing beside it."""
+        del self.running[crate]
+        if status == 0:
+            crate.made_from.write_text(crate.sum)
+            self.done.add(crate)
+        elif status == -signal.SIGKILL and self.places > 1:
+            self.places = 1
+            self.left.insert(0, crate)
+        else:
+            self.failed = self.failed or crate
+
+    def show(self):
+        if sys.stderr.isatty():
+            passed = int(time.monotonic() - self.began)
+            line = f"vabgrot: {len(self.done)} of {self.count} crates proved, {passed // 60}:{passed % 60:02} "
+            print(f"\r{line}", end="", file=sys.stderr, flush=True)
+
+    def run(self):
+        """Proves all, and returns the crate whose check failed, if one did."""
+        try:
+            self.begin_ready()
+            while self.running:
+                time.sleep(0.1)
+                for crate in [it for it, process in self.running.items() if process.poll() is not None]:
+                    self.end(crate, self.running[crate].returncode)
+                self.begin_ready()
+                self.show()
+        finally:
+            for process in self.running.values():
+                os.killpg(process.pid, signal.SIGKILL)
+            if sys.stderr.isatty():
+                print(f"\r{'':79}\r", end="", file=sys.stderr)
+        return self.failed
+
+
+def main():
+    try:
+        kit = Kit.found()
+    except (OSError, subprocess.CalledProcessError):
+        print("vabgrot: the command rt of the Rattle kit is not on the PATH", file=sys.stderr)
+        return 2
+    signal.signal(signal.SIGTERM, lambda *_: sys.exit(1))
+    crates = read_crates(kit)
+    held = [os.open(it.folder, os.O_RDONLY) for it in crates]
+    for it in held:
+        fcntl.flock(it, fcntl.LOCK_EX)  # as `rt` does: one of these works in a crate at a time
+    began = time.time()
+    failed = Building(crates).run()
+    if failed:
+        sys.stderr.write(failed.log.read_text(encoding="utf-8", errors="replace"))
+        return 1
+    program = crates[-1].folder / "out" / PROGRAM
+    linked = subprocess.run(kit.link(crates[-1].made, program), capture_output=True, text=True, check=False)
+    if linked.returncode:
+        sys.stderr.write(linked.stdout + linked.stderr)
+        return 1
+    os.utime(program, (began, began))  # what was changed since is newer
+    return 0
+
+
+if __name__ == "__main__":
+    sys.exit(main())
