@@ -8,11 +8,12 @@ than one processor and before the others, since it decides when the last crate c
 by crate, each from nothing and over the statements of the crates below, as `rt ci` calls it; `rt all` and `rt run` look at
 all sources before the first proof, and then several times at those of all crates below. A crate is not proved again while
 its files, its line in crates.txt, the crates below it and the kit are as they were. What is made lies in
-crates/NAME/out/built, apart from what `rt` keeps.
+crates/NAME/out/built, apart from what `rt` keeps. Where a kit has its parts elsewhere `rt run` does all.
 
 A line on standard error counts the crates where that is a terminal. Status 0 where the program is built; 1 where a crate
 is not proved or the program not linked, with what was said of it on standard error; 2 where there is no kit."""
 
+import contextlib
 import fcntl
 import hashlib
 import os
@@ -27,7 +28,9 @@ from pathlib import Path
 
 TOP = Path(__file__).resolve().parent
 PROGRAM = "hdmi_cli"
+BUILT = TOP / "crates" / PROGRAM / "out" / PROGRAM
 TARGET = "x86_64-unknown-linux-gnu"
+CRATE = 90  # as many lines of code take as long as a check of a crate without any
 MEMORY = 3_000_000_000  # the most that a check takes, in bytes
 MOST_JOBS = 4  # of one check: more hardly help
 NICER = 5  # by how much those checks are nicer that others do not wait for the longest
@@ -58,6 +61,11 @@ class Kit:
     @property
     def libraries(self):
         return self.folder / "rlibs"
+
+    def is_known(self):
+        """Whether its parts are where they are looked for here."""
+        parts = [*self.prover, *self.compiler, *self.link("", ""), self.libraries]
+        return all(part.exists() for part in parts if isinstance(part, Path))
 
     @property
     def compiler(self):
@@ -113,8 +121,9 @@ class Crate:
 
     @cached_property
     def work(self):
-        """About how long its check takes, against others: the lines of its code."""
-        return sum(path.read_bytes().count(b"\n") for path in self.files if path.suffix == ".rt")
+        """About how long its check takes, against others: by the lines of its code, tests left out."""
+        code = [path for path in self.files if path.suffix == ".rt" and "tests" not in (path.stem, path.parent.name)]
+        return CRATE + sum(path.read_bytes().count(b"\n") for path in code)
 
     @cached_property
     def sum(self):
@@ -220,10 +229,10 @@ class Building:
             print(f"\r{line}", end="", file=sys.stderr, flush=True)
 
     def run(self):
-        """Proves all, and returns the crate whose check failed, if one did."""
+        """Proves all, and returns the crate whose check failed, if one did; then the others' checks are ended."""
         try:
             self.begin_ready()
-            while self.running:
+            while self.running and not self.failed:
                 time.sleep(0.1)
                 for crate in [it for it, process in self.running.items() if process.poll() is not None]:
                     self.end(crate, self.running[crate].returncode)
@@ -231,10 +240,36 @@ class Building:
                 self.show()
         finally:
             for process in self.running.values():
-                os.killpg(process.pid, signal.SIGKILL)
+                with contextlib.suppress(ProcessLookupError):
+                    os.killpg(process.pid, signal.SIGKILL)
             if sys.stderr.isatty():
                 print(f"\r{'':79}\r", end="", file=sys.stderr)
         return self.failed
+
+
+def build(kit):
+    """Proves all crates and links the program; what was said of a crate that is not proved is shown."""
+    crates = read_crates(kit)
+    held = [os.open(it.folder, os.O_RDONLY) for it in crates]
+    for it in held:
+        fcntl.flock(it, fcntl.LOCK_EX)  # as `rt` does: one of these works in a crate at a time
+    failed = Building(crates).run()
+    if failed:
+        sys.stderr.write(failed.log.read_text(encoding="utf-8", errors="replace"))
+        return 1
+    linked = subprocess.run(kit.link(crates[-1].made, BUILT), capture_output=True, text=True, check=False)
+    if linked.returncode:
+        sys.stderr.write(linked.stdout + linked.stderr)
+    return 1 if linked.returncode else 0
+
+
+def build_by_rt():
+    """Has `rt run` build the program. It runs it too, and the program without words only says how it is used."""
+    ran = subprocess.run(["rt", "run"], cwd=TOP / "crates" / PROGRAM, stdin=subprocess.DEVNULL, capture_output=True, text=True)
+    is_built = re.search(r"(?m)^rt: running ", ran.stdout + ran.stderr)
+    if not is_built:
+        sys.stderr.write(ran.stdout + ran.stderr)
+    return 0 if is_built else 1
 
 
 def main():
@@ -244,22 +279,11 @@ def main():
         print("vabgrot: the command rt of the Rattle kit is not on the PATH", file=sys.stderr)
         return 2
     signal.signal(signal.SIGTERM, lambda *_: sys.exit(1))
-    crates = read_crates(kit)
-    held = [os.open(it.folder, os.O_RDONLY) for it in crates]
-    for it in held:
-        fcntl.flock(it, fcntl.LOCK_EX)  # as `rt` does: one of these works in a crate at a time
     began = time.time()
-    failed = Building(crates).run()
-    if failed:
-        sys.stderr.write(failed.log.read_text(encoding="utf-8", errors="replace"))
-        return 1
-    program = crates[-1].folder / "out" / PROGRAM
-    linked = subprocess.run(kit.link(crates[-1].made, program), capture_output=True, text=True, check=False)
-    if linked.returncode:
-        sys.stderr.write(linked.stdout + linked.stderr)
-        return 1
-    os.utime(program, (began, began))  # what was changed since is newer
-    return 0
+    status = build(kit) if kit.is_known() else build_by_rt()
+    if status == 0:
+        os.utime(BUILT, (began, began))  # what was changed since is newer
+    return status
 
 
 if __name__ == "__main__":

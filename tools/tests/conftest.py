@@ -82,8 +82,9 @@ def kit(tmp_path):
         (tmp_path / path).parent.mkdir(parents=True, exist_ok=True)
         (tmp_path / path).write_text(text.format(tmp_path))
         (tmp_path / path).chmod(0o755)
-    for name in ("hex", "std"):
-        (tmp_path / "kit" / "rlibs" / f"{name}.rlib").mkdir(parents=True)
-    (tmp_path / "kit" / "KIT-ID").write_text("a kit\n")
+    for name in ("rlibs/hex.rlib", "rlibs/std.rlib", "rattle/logic", "logic_built", "toolchain", "c"):
+        (tmp_path / "kit" / name).mkdir(parents=True)
+    for name in ("KIT-ID", "rattle/logic/antt-project.json", "c/libos_c.a", "c/liblibc_c.a"):
+        (tmp_path / "kit" / name).write_text("a kit\n")
     (tmp_path / "program").write_text("made\n")
     return tmp_path / "kit"

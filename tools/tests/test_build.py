@@ -94,3 +94,13 @@ def test_no_kit(building, tmp_path):
     (tmp_path / "path/rt").write_text("#!/bin/sh\nexit 1\n")
     status, said, log = building()
     assert status == 2 and "rt of the Rattle kit" in said and log == []
+
+
+def test_a_kit_with_its_parts_elsewhere(building, tmp_path):
+    """`rt run` builds all; its words are shown where it does not."""
+    (tmp_path / "kit/bin/rattle").unlink()
+    rt = "#!/bin/sh\n[ $1 = run ] || exec echo {0}/kit/START-HERE.md\nmkdir -p out && echo by rt > out/hdmi_cli\n{1}"
+    (tmp_path / "path/rt").write_text(rt.format(tmp_path, "echo 'rt: running out/hdmi_cli' >&2\nexit 2\n"))
+    assert building() == (0, "", []) and (tmp_path / "top/crates/hdmi_cli/out/hdmi_cli").read_text() == "by rt\n"
+    (tmp_path / "path/rt").write_text(rt.format(tmp_path, "echo 'logic=not-proved'\nexit 1\n"))
+    assert building() == (1, "logic=not-proved\n", [])
