@@ -4,7 +4,7 @@
     build.py
 
 Crates are proved side by side, each once those below it are. The one with the most code left above it goes first, at more
-than one processor and before the others, since it decides when the last crate can begin. The kit's prover is called crate
+than one processor, and the others give way to it, since it decides when the last crate can begin. The kit's prover is called crate
 by crate, each from nothing and over the statements of the crates below, as `rt ci` calls it; `rt all` and `rt run` look at
 all sources before the first proof, and then several times at those of all crates below. A crate is not proved again while
 its files, its line in crates.txt, the crates below it and the kit are as they were. What is made lies in
@@ -33,7 +33,8 @@ TARGET = "x86_64-unknown-linux-gnu"
 CRATE = 90  # as many lines of code take as long as a check of a crate without any
 MEMORY = 3_000_000_000  # the most that a check takes, in bytes
 MOST_JOBS = 4  # of one check: more hardly help
-NICER = 5  # by how much those checks are nicer that others do not wait for the longest
+NICER = 10  # by how much a check is nicer than the one before it in rank
+NICEST = 19
 
 
 @dataclass(frozen=True)
@@ -171,44 +172,48 @@ def ways_up(crates):
     return ways
 
 
-def places():
-    """How many checks may run at a time: one a processor, and no more than there is free memory for."""
+def processors():
+    return len(os.sched_getaffinity(0))
+
+
+def most_at_once():
+    """How many checks may run at a time: one more than there are processors, and no more than there is free memory for."""
     with open("/proc/meminfo", encoding="utf-8") as it:
         free = 1024 * int(re.search(r"MemAvailable:\s+(\d+)", it.read())[1])
-    return max(1, min(len(os.sched_getaffinity(0)), free // MEMORY))
+    return max(1, min(processors() + 1, free // MEMORY))
 
 
 class Building:
     """Which crates are proved, which are being proved, and which are left, those with the longest ways up first."""
 
     def __init__(self, crates):
-        self.count, self.began, self.places = len(crates), time.monotonic(), places()
+        self.count, self.began, self.most = len(crates), time.monotonic(), most_at_once()
         self.ways = ways_up(crates)
         self.done = {it for it in crates if it.is_current()}
         self.left = sorted((it for it in crates if it not in self.done), key=self.ways.get, reverse=True)
         self.running, self.failed = {}, None
 
-    def begin(self, crate, jobs, is_first):
+    def begin(self, crate, jobs, rank):
         """Starts a crate's check, in a process group of its own, with which a build that ends early ends it."""
         crate.made.parent.mkdir(parents=True, exist_ok=True)
         crate.made_from.unlink(missing_ok=True)
-        words = [*([] if is_first else ["nice", "-n", str(NICER)]), *crate.command(jobs)]
+        words = ["nice", "-n", str(min(NICEST, NICER * rank)), *crate.command(jobs)]
         with open(crate.log, "wb") as log:
             how = {"cwd": crate.folder, "stdin": subprocess.DEVNULL, "stdout": log, "stderr": subprocess.STDOUT}
             self.running[crate] = subprocess.Popen(words, start_new_session=True, **how)
 
     def begin_ready(self):
-        """Starts what can be started: processors that no crate waits for are shared, and the one with the longest way up
-        gets two jobs at least."""
+        """Starts what can be started. A crate's rank is how many with longer ways up are being proved: it begins while that is
+        fewer than there are processors. The first one gets two jobs at least, and processors that none waits for are shared."""
         ready = [it for it in self.left if self.done.issuperset(it.uses)]
         for at, crate in enumerate(ready):
-            free = self.places - len(self.running)
-            if free <= 0 or self.failed:
+            rank = sum(self.ways[it] > self.ways[crate] for it in self.running)
+            if rank >= processors() or len(self.running) >= self.most:
                 return
-            is_first = self.ways[crate] >= max(self.ways[it] for it in (crate, *self.running))
-            least = 2 if is_first and self.places > 1 else 1
+            least = 2 if rank == 0 and self.most > 1 else 1
+            shared = (processors() - len(self.running)) // (len(ready) - at)
             self.left.remove(crate)
-            self.begin(crate, max(least, min(MOST_JOBS, free // (len(ready) - at))), is_first)
+            self.begin(crate, max(least, min(MOST_JOBS, shared)), rank)
 
     def end(self, crate, status):
         """Takes the end of a check. One that was killed, most likely for want of memory, is tried again with nothing beside it."""
@@ -216,8 +221,8 @@ class Building:
         if status == 0:
             crate.made_from.write_text(crate.sum)
             self.done.add(crate)
-        elif status == -signal.SIGKILL and self.places > 1:
-            self.places = 1
+        elif status == -signal.SIGKILL and self.most > 1:
+            self.most = 1
             self.left.insert(0, crate)
         else:
             self.failed = self.failed or crate
@@ -236,7 +241,8 @@ class Building:
                 time.sleep(0.1)
                 for crate in [it for it, process in self.running.items() if process.poll() is not None]:
                     self.end(crate, self.running[crate].returncode)
-                self.begin_ready()
+                if not self.failed:
+                    self.begin_ready()
                 self.show()
         finally:
             for process in self.running.values():

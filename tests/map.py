@@ -13,7 +13,7 @@ from pathlib import Path
 TOP = Path(__file__).resolve().parents[1]
 PAGE = TOP / "docs" / "DEVELOPING.md"
 WAY = TOP / "docs" / "THEOREM.md"
-STEP = re.compile(r"(?<![\w/])(\w+)/([\w/]+)(\.rt)?: (\w[\w-]*)")
+STEP = re.compile(r"(?<![\w/])(\w+)/([\w/]+)(\.rt)?:\s+(\w[\w-]*)")
 CRATE = re.compile(r"\*\*`(\w+)`\*\*\n\n((?:- .*\n)+)")
 
 

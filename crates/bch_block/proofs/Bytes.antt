@@ -38,13 +38,13 @@ pub remainder_from-append : (x y : List Bool) (r : Remainder) → remainder_from
 remainder_from-append [] y r = refl
 remainder_from-append (b ∷ x) y r = remainder_from-append x y (step r b)
 
-pub bits_of-append : (xs ys : List ℕ) → bits_of_bytes (xs ++ ys) ≡ bits_of_bytes xs ++ bits_of_bytes ys
-bits_of-append [] ys = refl
-bits_of-append (b ∷ xs) ys = ap (λ z. byte_bits b ++ z) (bits_of-append xs ys)
+pub bits_of_bytes-append : (xs ys : List ℕ) → bits_of_bytes (xs ++ ys) ≡ bits_of_bytes xs ++ bits_of_bytes ys
+bits_of_bytes-append [] ys = refl
+bits_of_bytes-append (b ∷ xs) ys = ap (λ z. byte_bits b ++ z) (bits_of_bytes-append xs ys)
 
-pub length-bits_of : (xs : List ℕ) → length (bits_of_bytes xs) ≡ 8 * length xs
-length-bits_of [] = refl
-length-bits_of (b ∷ xs) = omega (arith, length-bits_of xs)
+pub length-bits_of_bytes : (xs : List ℕ) → length (bits_of_bytes xs) ≡ 8 * length xs
+length-bits_of_bytes [] = refl
+length-bits_of_bytes (b ∷ xs) = omega (arith, length-bits_of_bytes xs)
 
 -- `left` is what some bytes leave, as the byte after them meets it
 abbrev pub Leaves : List ℕ → ℕ → Type 0
@@ -54,7 +54,7 @@ pub leaves_none : Leaves [] 0
 leaves_none p = refl
 
 pub leaves_more : (bytes : List ℕ) (left b next : ℕ) → Leaves bytes left → kept next ≡ times_power (kept (bit_xor left b)) 8 → Leaves (bytes ++ b ∷ []) next
-leaves_more bytes left b next was is p = grind (arith, bits_of-append, remainder_from-append, remainder_from-byte, plus, kept-xor, xor_comm)
+leaves_more bytes left b next was is p = grind (arith, bits_of_bytes-append, remainder_from-append, remainder_from-byte, plus, kept-xor, xor_comm)
 
 -- what a whole block leaves, by its last byte
 pub remainder-bits_of : (block : List ℕ) (left : ℕ) → 0 < length block → Leaves (take (length block - 1) block) left → remainder (bits_of_bytes block) ≡ kept (bit_xor left (slice_index block (length block - 1)))
@@ -66,7 +66,7 @@ kept-self a = ap kept (xor_self a)
 
 pub makes_block : (bytes : List ℕ) (left : ℕ) → Leaves bytes left → IsBlock (bits_of_bytes (bytes ++ left ∷ []))
 makes_block bytes left leaves =
-    is_block (bits_of_bytes (bytes ++ left ∷ [])) (omega (arith, length-bits_of (bytes ++ left ∷ []), length-append bytes (left ∷ []))) (leaves left ∙ kept-self left)
+    is_block (bits_of_bytes (bytes ++ left ∷ [])) (omega (arith, length-bits_of_bytes (bytes ++ left ∷ []), length-append bytes (left ∷ []))) (leaves left ∙ kept-self left)
 
 pub makes_block_alone : (bytes : List ℕ) (left p : ℕ) → Leaves bytes left → left < 256 → p < 256 → IsBlock (bits_of_bytes (bytes ++ p ∷ [])) → p ≡ left
 makes_block_alone bytes left p leaves ll lp b =

@@ -6,7 +6,7 @@ use Rattle.std.specs.Io.KnownBytes.{Appends, Keeps, IsAtEnd}
 use Rattle.std.proofs.KnownBytes.{Appends-nil}
 use Rattle.std.proofs.lemmas.List.Elements.{All-nil, All-cons, All-map}
 use Rattle.tmds_word.specs.Column.{Column}
-use Rattle.capture_file.specs.BlockDamage.{IsDamagedCapture, IsMisplacedIn, IsMisplacedLane, IsDamageFault, SaysBad, ReadFailed as DamageUnread, WriteFailed as DamageUnwritten}
+use Rattle.capture_file.specs.BlockDamage.{IsDamagedCapture, IsMisplacedIn, IsMisplacedLane, IsDamageFault, SaysBad, ReadFailed as DamageReadFailed, WriteFailed as DamageWriteFailed}
 use Rattle.capture_file.proofs.Marks.{consumed}
 use Rattle.capture_file.proofs.Damages.{nothing_written}
 use Rattle.capture_file.specs.declared.damaging.Hit.{Hit}
@@ -52,7 +52,7 @@ use Rattle.command_line.specs.Commands.{IsCommand as IsLine, IsVersion}
 use Rattle.hdmi_cli.specs.Outcome.{RunOutcome, MakesLink, MakesStream, MakesRaster, MakesContent, Does}
 use Rattle.sampling.specs.Counts.{counts_text}
 use Rattle.hdmi_cli.specs.Samples.{IsSampleWhole}
-use Rattle.hdmi_cli.specs.Endings.{Devices, IsAnswered, Answers, Parts, Ends, EndsUnwritten, ColumnsEnd, StreamEnds, damage_ending, frames_ending, raster_ending, slip_ending}
+use Rattle.hdmi_cli.specs.Endings.{Devices, IsAnswered, Answers, Parts, Ends, EndsWriteFailed, ColumnsEnd, StreamEnds, damage_ending, frames_ending, raster_ending, slip_ending}
 use Rattle.hdmi_cli.specs.Manners.{WritesOn}
 use Rattle.command_line.specs.declared.command.Command.{Command}
 use Rattle.command_line.specs.declared.command.Command.TheVariants.{MakeLink, MakeContent, MakeDvi, RecoverBiphase, Slip, ReadBiphase, Damage, Sample}
@@ -90,7 +90,7 @@ dvi_refused words fault before after text read kept = record {
 -- a stream that is written ends a command that makes it
 pub stream_ends : (spells : List Period → List Column → Type 0) (command : Command) (tap : Tap) (ps : List Period) (e : Ending) (before after : Devices)
     → ((text : List ℕ) (o : RunOutcome) → before.left ≡ Some text → MakesStream spells tap ps o → Does command text o)
-    → (Parts command before after → EndsUnwritten command before after) → (WritesOn command → ⊥)
+    → (Parts command before after → EndsWriteFailed command before after) → (WritesOn command → ⊥)
     → IsAtEnd after.left → StreamEnds spells tap ps e before.held after.held before.output_faults after.output_faults → Ends command e before after
 stream_ends spells command tap ps Done before after makes unwritten other end is = (
   end,
@@ -224,8 +224,8 @@ pub record Damaged (hits : List Hit) (before after : Devices) (r : Result (Unit 
   pub done : (bytes : List ℕ) → before.left ≡ Some bytes → OnOk r ((whole : List ℕ) × IsDamagedCapture bytes hits whole × Appends before.held after.held whole)
   pub bad : (bytes : List ℕ) → before.left ≡ Some bytes → IfErr r (λ e. SaysBad (λ fault. IsDamageFault bytes hits before.held after.held fault) e)
   pub place : (i : ℕ) → r ≡ Err (damages.Place i) → IsMisplacedLane before.left after.left hits i × Keeps before.held after.held
-  pub read : r ≡ Err damages.Read → DamageUnread before.left after.left hits before.held after.held
-  pub part : r ≡ Err damages.Write → DamageUnwritten before.left after.left hits before.held after.held
+  pub read : r ≡ Err damages.Read → DamageReadFailed before.left after.left hits before.held after.held
+  pub part : r ≡ Err damages.Write → DamageWriteFailed before.left after.left hits before.held after.held
   pub ended : OnOk r (IsAtEnd after.left)
   pub read_cause : r ≡ Err damages.Read → Rose before.input_faults after.input_faults
   pub write_cause : r ≡ Err damages.Write → Rose before.output_faults after.output_faults

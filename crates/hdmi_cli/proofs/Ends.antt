@@ -10,8 +10,8 @@ use Rattle.command_line.proofs.OneCommand.{command_once}
 use Rattle.hdmi_cli.specs.Notes.{usage_note, memory_note}
 use Rattle.hdmi_cli.specs.Outcome.{RunOutcome, IsOutcome, NamesNone}
 use Rattle.hdmi_cli.specs.Manners.{ReadsInput, WritesLast, WritesOn}
-use Rattle.hdmi_cli.specs.Endings.{Devices, Answers, Ends, RunEnds, RunUnread, RunUnwritten, status_of, note_of}
-use Rattle.hdmi_cli.specs.Runs.{IsNoteOf}
+use Rattle.hdmi_cli.specs.Endings.{Devices, Answers, Ends, RunEnds, RunReadFailed, RunWriteFailed, status_of, note_of}
+use Rattle.hdmi_cli.specs.RunNotes.{IsNoteOf}
 use Rattle.hdmi_cli.specs.Samples.{SampleEnds, IsSampleWritten}
 use Rattle.hdmi_cli.proofs.Answered.{sample_answers}
 use Rattle.command_line.specs.declared.command.Command.{Command}
@@ -21,7 +21,7 @@ use Rattle.hdmi_cli.specs.declared.ending.Ending.TheVariants.{Done, Faulty, Usag
 
 -- all that a run says of its status and its note
 pub record Says (words : List (List ℕ)) (before after : Devices) (status : ℕ) (note : List ℕ) : Type 0 where
-  pub known : Contains (0 ∷ 1 ∷ 2 ∷ 3 ∷ 4 ∷ 5 ∷ 6 ∷ 7 ∷ []) status
+  pub status_known : Contains (0 ∷ 1 ∷ 2 ∷ 3 ∷ 4 ∷ 5 ∷ 6 ∷ 7 ∷ []) status
   pub outcome :
       (text : List ℕ) → before.left ≡ Some text
       → Rose before.input_faults after.input_faults ⊎ Rose before.output_faults after.output_faults ⊎ (status ≡ 6)
@@ -38,8 +38,8 @@ pub record Says (words : List (List ℕ)) (before after : Devices) (status : ℕ
   pub unread : status ≡ 2 → Keeps before.left after.left
   pub unwritten : Contains (2 ∷ 6 ∷ 7 ∷ []) status → Keeps before.held after.held
   pub refused : status ≡ 3 → (command : Command) → IsCommand words command → WritesLast command → Keeps before.held after.held
-  pub cut_short : status ≡ 4 → RunUnread words before after
-  pub part : status ≡ 5 → RunUnwritten words before after
+  pub cut_short : status ≡ 4 → RunReadFailed words before after
+  pub part : status ≡ 5 → RunWriteFailed words before after
   pub sampled : (n : ℕ) → IsCommand words (Sample n) → Keeps before.left after.left × IsSampleWritten n status before.held after.held
   pub noted : IsNoteOf words before.left status note
 
@@ -92,7 +92,6 @@ none_of (x ∷ xs) n all (suc k, lt, is) = none_of xs n (rest_all x n xs all) (k
 no_done : (n : ℕ) → (n == 0) ≡ false → (n == 1) ≡ false → (n ≡ 0) ⊎ (n ≡ 1) → ⊥
 no_done n h k l = grind (arith, unlike)
 
--- a command that reads a capture makes none
 -- a command that reads the input is no `sample`
 no_sample : (words : List (List ℕ)) (command : Command) (n : ℕ) → IsCommand words command → ReadsInput command → IsCommand words (Sample n) → ⊥
 no_sample words command n named reads other = subst ReadsInput (command_once words command (Sample n) named other) reads
@@ -108,7 +107,7 @@ frames_are words m n one other = same_frames m n (command_once words (Sample m) 
 refused_says : (words : List (List ℕ)) (command : Command) (e : Ending) (before after : Devices) → IsCommand words command → ReadsInput command → Answers command e before after
     → status_of e ≡ 3 → (WritesLast command → Keeps before.held after.held) → Says words before after (status_of e) (note_of e)
 refused_says words command e before after named reads answers is kept = record {
-  known = (3, omega arith, sym is);
+  status_known = (3, omega arith, sym is);
   outcome = known_at words command e before after named answers;
   usage = λ h. absurd (omega (arith, is, h));
   unnamed = λ none. absurd (none command named);
@@ -129,7 +128,7 @@ refused_says words command e before after named reads answers is kept = record {
 -- what a command's ending says
 command_says : (words : List (List ℕ)) (command : Command) (e : Ending) (before after : Devices) → IsCommand words command → ReadsInput command → Ends command e before after → Says words before after (status_of e) (note_of e)
 command_says words command Done before after named reads ends = record {
-  known = (0, omega arith, refl);
+  status_known = (0, omega arith, refl);
   outcome = known_at words command Done before after named ends.1;
   usage = λ h. absurd (omega arith);
   unnamed = λ none. absurd (none command named);
@@ -147,7 +146,7 @@ command_says words command Done before after named reads ends = record {
   noted = record { done = λ h. refl; usage = λ h. absurd (omega arith); refused = λ h. absurd (omega arith); read_failed = λ h. absurd (omega arith); write_failed = λ h. absurd (omega arith); no_memory = λ h. absurd (omega arith); unaligned = λ h. absurd (omega arith) };
 }
 command_says words command Faulty before after named reads ends = record {
-  known = (1, omega arith, refl);
+  status_known = (1, omega arith, refl);
   outcome = known_at words command Faulty before after named ends.1;
   usage = λ h. absurd (omega arith);
   unnamed = λ none. absurd (none command named);
@@ -171,7 +170,7 @@ command_says words command (Place i) before after named reads ends = refused_say
 command_says words command (Frames fault) before after named reads ends = refused_says words command (Frames fault) before after named reads ends.1 refl ends.0
 command_says words command TooLong before after named reads ends = refused_says words command TooLong before after named reads ends.1 refl (λ last. ends.0)
 command_says words command Unaligned before after named reads ends = record {
-  known = (7, omega arith, refl);
+  status_known = (7, omega arith, refl);
   outcome = known_at words command Unaligned before after named ends.2;
   usage = λ h. absurd (omega arith);
   unnamed = λ none. absurd (none command named);
@@ -189,7 +188,7 @@ command_says words command Unaligned before after named reads ends = record {
   noted = record { done = λ h. absurd (no_done 7 refl refl h); usage = λ h. absurd (omega arith); refused = λ h. absurd (omega arith); read_failed = λ h. absurd (omega arith); write_failed = λ h. absurd (omega arith); no_memory = λ h. absurd (omega arith); unaligned = λ h. refl };
 }
 command_says words command ReadFailed before after named reads ends = record {
-  known = (4, omega arith, refl);
+  status_known = (4, omega arith, refl);
   outcome = λ text reported. inl ends.0;
   usage = λ h. absurd (omega arith);
   unnamed = λ none. absurd (none command named);
@@ -207,7 +206,7 @@ command_says words command ReadFailed before after named reads ends = record {
   noted = record { done = λ h. absurd (no_done 4 refl refl h); usage = λ h. absurd (omega arith); refused = λ h. absurd (omega arith); read_failed = λ h. refl; write_failed = λ h. absurd (omega arith); no_memory = λ h. absurd (omega arith); unaligned = λ h. absurd (omega arith) };
 }
 command_says words command WriteFailed before after named reads ends = record {
-  known = (5, omega arith, refl);
+  status_known = (5, omega arith, refl);
   outcome = λ text reported. inr (inl ends.0);
   usage = λ h. absurd (omega arith);
   unnamed = λ none. absurd (none command named);
@@ -225,7 +224,7 @@ command_says words command WriteFailed before after named reads ends = record {
   noted = record { done = λ h. absurd (no_done 5 refl refl h); usage = λ h. absurd (omega arith); refused = λ h. absurd (omega arith); read_failed = λ h. absurd (omega arith); write_failed = λ h. refl; no_memory = λ h. absurd (omega arith); unaligned = λ h. absurd (omega arith) };
 }
 command_says words command NoMemory before after named reads ends = record {
-  known = (6, omega arith, refl);
+  status_known = (6, omega arith, refl);
   outcome = λ text reported. inr (inr (inl refl));
   usage = λ h. absurd (omega arith);
   unnamed = λ none. absurd (none command named);
@@ -247,7 +246,7 @@ command_says words command Usage before after named reads ends = absurd ends
 -- what stands where the words name no command
 none_says : (words : List (List ℕ)) (before after : Devices) → NamesNone words → Keeps before.left after.left → Keeps before.held after.held → Says words before after 2 usage_note
 none_says words before after none left held = record {
-  known = (2, omega arith, refl);
+  status_known = (2, omega arith, refl);
   outcome = λ text reported. inr (inr (inr (record { status = 2; output = []; note = usage_note }, inr (none, refl), refl)));
   usage = λ h. none;
   unnamed = λ h. inl refl;
@@ -266,9 +265,9 @@ none_says words before after none left held = record {
 }
 
 -- what stands where there was no memory to read the words
-unread_says : (words : List (List ℕ)) (before after : Devices) → Keeps before.left after.left → Keeps before.held after.held → Says words before after 6 memory_note
-unread_says words before after left held = record {
-  known = (6, omega arith, refl);
+no_memory_says : (words : List (List ℕ)) (before after : Devices) → Keeps before.left after.left → Keeps before.held after.held → Says words before after 6 memory_note
+no_memory_says words before after left held = record {
+  status_known = (6, omega arith, refl);
   outcome = λ text reported. inr (inr (inl refl));
   usage = λ h. absurd (omega arith);
   unnamed = λ none. inr refl;
@@ -290,7 +289,7 @@ unread_says words before after left held = record {
 sample_says : (words : List (List ℕ)) (frames : ℕ) (e : Ending) (before after : Devices) → IsCommand words (Sample frames) → Keeps before.left after.left
     → SampleEnds frames e before.held after.held before.output_faults after.output_faults → Says words before after (status_of e) (note_of e)
 sample_says words frames Done before after named left ends = record {
-  known = (0, omega arith, refl);
+  status_known = (0, omega arith, refl);
   outcome = known_at words (Sample frames) Done before after named (sample_answers frames before after ends);
   usage = λ h. absurd (omega arith);
   unnamed = λ none. absurd (none (Sample frames) named);
@@ -308,7 +307,7 @@ sample_says words frames Done before after named left ends = record {
   noted = record { done = λ h. refl; usage = λ h. absurd (omega arith); refused = λ h. absurd (omega arith); read_failed = λ h. absurd (omega arith); write_failed = λ h. absurd (omega arith); no_memory = λ h. absurd (omega arith); unaligned = λ h. absurd (omega arith) };
 }
 sample_says words frames WriteFailed before after named left ends = record {
-  known = (5, omega arith, refl);
+  status_known = (5, omega arith, refl);
   outcome = λ text reported. inr (inl ends.0);
   usage = λ h. absurd (omega arith);
   unnamed = λ none. absurd (none (Sample frames) named);
@@ -325,7 +324,7 @@ sample_says words frames WriteFailed before after named left ends = record {
   sampled = λ n other. (left, subst (λ (m : ℕ). IsSampleWritten m 5 before.held after.held) (frames_are words frames n named other) (inr (inl (refl, ends.1))));
   noted = record { done = λ h. absurd (no_done 5 refl refl h); usage = λ h. absurd (omega arith); refused = λ h. absurd (omega arith); read_failed = λ h. absurd (omega arith); write_failed = λ h. refl; no_memory = λ h. absurd (omega arith); unaligned = λ h. absurd (omega arith) };
 }
-sample_says words frames NoMemory before after named left ends = unread_says words before after left ends
+sample_says words frames NoMemory before after named left ends = no_memory_says words before after left ends
 sample_says words frames Faulty before after named left ends = absurd ends
 sample_says words frames Usage before after named left ends = absurd ends
 sample_says words frames (Listing fault) before after named left ends = absurd ends
@@ -346,7 +345,7 @@ says words e before after r (inr (inr (inl (none, usage, left, held)))) is =
     (subst (λ n. Says words before after 2 n) (sym (ap note_of usage)) (none_says words before after none left held))
 says words e before after r (inr (inr (inr (unheld, left, held)))) is =
     subst (λ s. Says words before after s (note_of e)) (sym (is ∙ ap status_of unheld))
-    (subst (λ n. Says words before after 6 n) (sym (ap note_of unheld)) (unread_says words before after left held))
+    (subst (λ n. Says words before after 6 n) (sym (ap note_of unheld)) (no_memory_says words before after left held))
 
 -- ---- which words name a command
 
@@ -360,6 +359,6 @@ line_of words r o command answer ok some =
 pub keeps_itself : (held : Option (List ℕ)) → Keeps held held
 keeps_itself held = grind arith
 
-pub unread_ends : (words : List (List ℕ)) (devices : Devices) (r : Result (Option Command) NoMemoryAnswer) (o : Option Command)
+pub none_named_ends : (words : List (List ℕ)) (devices : Devices) (r : Result (Option Command) NoMemoryAnswer) (o : Option Command)
     → IfOk r (λ answer. MatchOption answer ((c : Command) → IsCommand words c → ⊥) (λ c. IsCommand words c)) → r ≡ Ok o → o ≡ None → RunEnds words Usage devices devices
-unread_ends words devices r o answer ok none = grind (arith, keeps_itself)
+none_named_ends words devices r o answer ok none = grind (arith, keeps_itself)

@@ -112,7 +112,7 @@ unheard_ends g listing after last command took broke held faults left rest reads
 unheard_ends g listing after last command took broke held faults left rest reads read_faults old new Read lists it writes u = grind arith
 unheard_ends g listing after last command took broke held faults left rest reads read_faults old new Ear lists it writes u =
     let b = u.broken refl in
-    (b.0, lists.unwritten (seen left reads (held old) (faults old)) (seen rest read_faults (held new) (faults new)) (broken_part g listing after last took broke held faults left rest reads read_faults old new it writes b.1 b.2 b.3 b.4 b.5 b.6))
+    (b.0, lists.write_failed (seen left reads (held old) (faults old)) (seen rest read_faults (held new) (faults new)) (broken_part g listing after last took broke held faults left rest reads read_faults old new it writes b.1 b.2 b.3 b.4 b.5 b.6))
 
 -- what taking and breaking keep is kept where a capture was not heard to its end
 
@@ -191,7 +191,7 @@ judged_ends g listing after last command fed columns events mid middle before no
 judged_ends g listing after last command fed columns events mid middle before now (Err failed) faults is lists it reported captured end written count le whole part rose =
     let b = begins_reported g fed columns events is reported in (
       rose_after before.output_faults middle now.output_faults le rose,
-      lists.unwritten before now (record {
+      lists.write_failed before now (record {
         fed = fed;
         first = b.first;
         reported = b.reported;

@@ -8,7 +8,7 @@ use Rattle.tmds_word.specs.Column.{Column}
 use Rattle.capture_file.specs.Captures.{HasRead, Stands, StopsIn, SaysOf, SaysRead, IsFault, IsEarlyFault, IsHeadless, IsCaptureOf, place_of, block_size}
 use Rattle.capture_file.specs.declared.fault.CaptureFault.{CaptureFault}
 use Rattle.capture_file.specs.declared.fault.CaptureError.{CaptureError}
-use Rattle.capture_file.specs.declared.fault.CaptureError.TheVariants.{Bad as Failed, Read as Unread}
+use Rattle.capture_file.specs.declared.fault.CaptureError.TheVariants.{Bad as BadCapture, Read as ReadFailed}
 use Rattle.capture_file.proofs.Marks.{consumed}
 use Rattle.period_grammar.specs.Events.{Event}
 use Rattle.link_sink.specs.Ears.{StopsIn as StopsAtEvent, IsHeardSoFar, IsBroken}
@@ -126,7 +126,7 @@ pub stops_short : {A H : Type 0} (g : Grammar) (goes_on : H → List Column → 
     → ((bytes taken : List ℕ) (x y z : List Bool) → left0 ≡ Some bytes → Stands version counts j taken x y z → SaysOf (λ fault. IsFault (taken ++ bytes) fault × StopsIn counts j taken (place_of fault)) error)
     → SaysRead ((part : List ℕ) × ((length part < block_size j counts) ⊎ (part ≡ [])) × Consumes left0 left1 part) error
     → StopsShort g took broke from left1 first now (refused_as error)
-stops_short g goes_on took broke version counts j from left0 left1 sink first now (Failed fault) h says part = (
+stops_short g goes_on took broke version counts j from left0 left1 sink first now (BadCapture fault) h says part = (
   (h.fed, h.heard),
   λ bytes is.
       let c = consumed from left0 bytes h.taken is h.consumed in
@@ -138,7 +138,7 @@ stops_short g goes_on took broke version counts j from left0 left1 sink first no
         heard = h.heard;
       },
 )
-stops_short g goes_on took broke version counts j from left0 left1 sink first now Unread h says part = record {
+stops_short g goes_on took broke version counts j from left0 left1 sink first now ReadFailed h says part = record {
   fed = h.fed;
   read = h.taken ++ part.0;
   consumed = Consumes-trans from left0 left1 h.taken part.0 h.consumed part.2;
@@ -160,11 +160,11 @@ pub headless : {A : Type 0} (g : Grammar) (took : A → A → List Event → Typ
     → ((bytes : List ℕ) → from ≡ Some bytes → SaysOf (λ fault. IsEarlyFault bytes fault) error)
     → SaysRead ((part : List ℕ) × IsHeadless part × Consumes from left part) error
     → StopsShort g took broke from left now now (refused_as error)
-headless g took broke from left now (Failed fault) none says part = (
+headless g took broke from left now (BadCapture fault) none says part = (
   (no_bits, reported_none g took now none),
   λ bytes is. let s = says bytes is in record { faulty = s.0; fed = no_bits; before = inl (s.1, refl); heard = reported_none g took now none },
 )
-headless g took broke from left now Unread none says part = record { fed = no_bits; read = part.0; consumed = part.2; are_read = inl (part.1, refl); heard = reported_none g took now none }
+headless g took broke from left now ReadFailed none says part = record { fed = no_bits; read = part.0; consumed = part.2; are_read = inl (part.1, refl); heard = reported_none g took now none }
 
 -- what was heard where it is not the ear that stopped
 pub some_heard : {A : Type 0} (g : Grammar) (took : A → A → List Event → Type 0) (broke : A → A → Event → Type 0) (from left : Option (List ℕ)) (old new : A) (e : HearError) → StopsShort g took broke from left old new e → (e ≡ Ear → ⊥)

@@ -1,4 +1,4 @@
--- The rows and frames that `recover content` lists of a raster are those that were received.
+-- The rows and frames that `recover content` lists of a raster, and the packets that it lists of any stream, are those that were received.
 use Rattle.std.proofs.Common.{◌≡◌, ◌≤◌, ℕ, ◌+◌, List, length, arith}
 use Rattle.std.specs.Prelude.{Option, Some, None}
 use Rattle.std.proofs.lemmas.Bool.{cases_lt}

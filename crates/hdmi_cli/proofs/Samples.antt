@@ -27,7 +27,7 @@ use Rattle.link_sink.specs.declared.hear.Outcome.{Outcome as Hearing}
 use Rattle.sampling.specs.Counts.{counts_of as sample_counts}
 use Rattle.sampling.specs.Sampled.{sample_tap, IsSampled}
 use Rattle.sampling.specs.declared.counts.Counts.{Counts}
-use Rattle.hdmi_cli.specs.Samples.{IsTapped, IsStruck}
+use Rattle.hdmi_cli.specs.Samples.{IsSampleCapture, IsStruck}
 
 -- a count of faults that stands at 0 did not rise
 pub stands : Rose 0 0 → ⊥
@@ -114,13 +114,13 @@ short_lanes columns short =
 lanes : (columns : List Column) → length columns ≤ 20000000 → Lanes columns
 lanes columns few = grind (arith, cases_lt, short_lanes, long_lanes)
 
-pub tapped_is_capture : (frames : ℕ) (bytes : List ℕ) (hits : List Hit) → IsTapped frames bytes hits → IsCapture bytes
+pub tapped_is_capture : (frames : ℕ) (bytes : List ℕ) (hits : List Hit) → IsSampleCapture frames bytes hits → IsCapture bytes
 tapped_is_capture frames bytes hits t =
     let l = lanes t.sent t.is_sent.few_columns in
     subst IsCapture (sym t.bytes_are) (record { blue = l.x; green = l.y; red = l.z; holds = l.are.captured })
 
 -- its hits lie within its lanes as every header of it says them
-pub placed : (frames : ℕ) (bytes : List ℕ) (hits : List Hit) (left rest : Option (List ℕ)) (i : ℕ) → IsTapped frames bytes hits → left ≡ Some bytes → IsMisplacedLane left rest hits i → ⊥
+pub placed : (frames : ℕ) (bytes : List ℕ) (hits : List Hit) (left rest : Option (List ℕ)) (i : ℕ) → IsSampleCapture frames bytes hits → left ≡ Some bytes → IsMisplacedLane left rest hits i → ⊥
 placed frames bytes hits left rest i t is m =
     let l = lanes t.sent t.is_sent.few_columns in
     let own = l.are.captured in

@@ -4,7 +4,7 @@ use Rattle.std.specs.Io.KnownBytes.{Consumes, IsAtEnd}
 use Rattle.std.proofs.KnownBytes.{Consumes-trans}
 use Rattle.capture_file.specs.Captures.{Stands, StopsIn, SaysOf, SaysRead, IsFault, IsEarlyFault, IsHeadless, IsCaptureOf, place_of, block_size}
 use Rattle.capture_file.specs.declared.fault.CaptureError.{CaptureError}
-use Rattle.capture_file.specs.declared.fault.CaptureError.TheVariants.{Bad as Failed, Read as Unread}
+use Rattle.capture_file.specs.declared.fault.CaptureError.TheVariants.{Bad as BadCapture, Read as ReadFailed}
 use Rattle.capture_file.proofs.Marks.{consumed}
 use Rattle.link_sink.specs.Pieces.{no_bits}
 use Rattle.link_sink.specs.Sinks.{Fed, grown}
@@ -98,7 +98,7 @@ pub short_on : {A : Type 0} (tracked : A → A → List TrackEvent → Type 0) (
     → ((bytes taken : List ℕ) (x y z : List Bool) → left0 ≡ Some bytes → Stands version counts j taken x y z → SaysOf (λ fault. IsFault (taken ++ bytes) fault × StopsIn counts j taken (place_of fault)) error)
     → SaysRead ((part : List ℕ) × ((length part < block_size j counts) ⊎ (part ≡ [])) × Consumes left0 left1 part) error
     → StopsOn tracked lost from left1 first now (refused_as error)
-short_on tracked lost version counts j from left0 left1 sink first now (Failed fault) h says part = (
+short_on tracked lost version counts j from left0 left1 sink first now (BadCapture fault) h says part = (
   (h.fed, so_far tracked version counts j from left0 sink first now h),
   λ bytes is.
       let c = consumed from left0 bytes h.taken is h.consumed in
@@ -110,7 +110,7 @@ short_on tracked lost version counts j from left0 left1 sink first now (Failed f
         heard = so_far tracked version counts j from left0 sink first now h;
       },
 )
-short_on tracked lost version counts j from left0 left1 sink first now Unread h says part = record {
+short_on tracked lost version counts j from left0 left1 sink first now ReadFailed h says part = record {
   fed = h.fed;
   read = h.taken ++ part.0;
   consumed = Consumes-trans from left0 left1 h.taken part.0 h.consumed part.2;
@@ -128,12 +128,12 @@ pub headless_on : {A : Type 0} (tracked : A → A → List TrackEvent → Type 0
     → ((bytes : List ℕ) → from ≡ Some bytes → SaysOf (λ fault. IsEarlyFault bytes fault) error)
     → SaysRead ((part : List ℕ) × IsHeadless part × Consumes from left part) error
     → StopsOn tracked lost from left now now (refused_as error)
-headless_on tracked lost from left sink now (Failed fault) none sunk says part =
+headless_on tracked lost from left sink now (BadCapture fault) none sunk says part =
     let so : IsTrackedSoFar tracked no_bits now now = record { track_events = []; reported = sunk.tracked; heard = none } in (
       (no_bits, so),
       λ bytes is. let s = says bytes is in record { faulty = s.0; fed = no_bits; before = inl (s.1, refl); heard = so },
     )
-headless_on tracked lost from left sink now Unread none sunk says part =
+headless_on tracked lost from left sink now ReadFailed none sunk says part =
     record { fed = no_bits; read = part.0; consumed = part.2; are_read = inl (part.1, refl); heard = record { track_events = []; reported = sunk.tracked; heard = none } }
 
 -- a sink that was fed nothing was fed no block

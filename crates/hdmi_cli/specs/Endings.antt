@@ -1,12 +1,12 @@
--- How a run ends, and what then stands.
+-- How a run ends: of each command and each ending what was read and written, and what is promised of the output; and each ending's status and note.
 use Rattle.std.specs.Prelude.{◌≡◌, ◌⊎◌, ◌<◌, ◌≤◌, ℕ, zero, suc, Bool, true, false, List, [], ◌∷◌, length, map, take, Option, Some, Result, Ok, Err, Contains}
 use Rattle.std.specs.Io.KnownBytes.{Appends, Consumes, IsAtEnd, Keeps}
 use Rattle.outside_io.specs.Causes.{Rose}
 use Rattle.capture_file.specs.Captures.{IsCaptureOf}
-use Rattle.capture_file.specs.BlockDamage.{ReadFailed as DamageUnread, WriteFailed as DamageUnwritten}
+use Rattle.capture_file.specs.BlockDamage.{ReadFailed as DamageReadFailed, WriteFailed as DamageWriteFailed}
 use Rattle.capture_file.specs.declared.slipping.SlipError.{SlipError}
 use Rattle.capture_file.specs.declared.slipping.SlipError.TheVariants as slips
-use Rattle.biphase_listing.specs.Reading.{IsUnread as FramesUnread, IsUnwritten as FramesUnwritten}
+use Rattle.biphase_listing.specs.Reading.{IsUnread as FramesReadFailed, IsUnwritten as FramesWriteFailed}
 use Rattle.biphase_listing.specs.declared.fault.BiphaseError.{BiphaseError}
 use Rattle.biphase_listing.specs.declared.fault.BiphaseError.TheVariants as biphases
 use Rattle.capture_file.specs.declared.damaging.DamageError.{DamageError}
@@ -258,38 +258,38 @@ judged_ending (Ok done) (suc n) = Faulty
 judged_ending (Err failed) n = WriteFailed
 
 -- what stands where a read failed: `make` has written nothing
-abbrev pub EndsUnread : Command → Devices → Devices → Type 0
-EndsUnread (MakeLink tap) before after = Keeps before.held after.held
-EndsUnread (MakeContent tap) before after = Keeps before.held after.held
-EndsUnread (MakeDvi tap) before after = Keeps before.held after.held
-EndsUnread RecoverLink before after = ListsRead link_grammar link_listing before after
-EndsUnread RecoverContent before after = ListsRead link_grammar content_listing before after
-EndsUnread RecoverTrack before after = TracksRead before after
-EndsUnread (RecoverBiphase pair) before after = ListsRead link_grammar (biphase_listing pair) before after
-EndsUnread RecoverDvi before after = ListsRead dvi_grammar link_listing before after
-EndsUnread Check before after = ListsRead link_grammar check_listing before after
-EndsUnread (Damage damages) before after = DamageUnread before.left after.left (map hit_asked damages) before.held after.held
-EndsUnread (Slip slip) before after = Keeps before.held after.held
-EndsUnread ReadBiphase before after = FramesUnread before.left after.left before.held after.held
-EndsUnread Relay before after = Keeps before.held after.held
-EndsUnread (Sample frames) before after = ⊥
+abbrev pub EndsReadFailed : Command → Devices → Devices → Type 0
+EndsReadFailed (MakeLink tap) before after = Keeps before.held after.held
+EndsReadFailed (MakeContent tap) before after = Keeps before.held after.held
+EndsReadFailed (MakeDvi tap) before after = Keeps before.held after.held
+EndsReadFailed RecoverLink before after = ListsRead link_grammar link_listing before after
+EndsReadFailed RecoverContent before after = ListsRead link_grammar content_listing before after
+EndsReadFailed RecoverTrack before after = TracksRead before after
+EndsReadFailed (RecoverBiphase pair) before after = ListsRead link_grammar (biphase_listing pair) before after
+EndsReadFailed RecoverDvi before after = ListsRead dvi_grammar link_listing before after
+EndsReadFailed Check before after = ListsRead link_grammar check_listing before after
+EndsReadFailed (Damage damages) before after = DamageReadFailed before.left after.left (map hit_asked damages) before.held after.held
+EndsReadFailed (Slip slip) before after = Keeps before.held after.held
+EndsReadFailed ReadBiphase before after = FramesReadFailed before.left after.left before.held after.held
+EndsReadFailed Relay before after = Keeps before.held after.held
+EndsReadFailed (Sample frames) before after = ⊥
 
 -- and where a write failed
-abbrev pub EndsUnwritten : Command → Devices → Devices → Type 0
-EndsUnwritten (MakeLink tap) before after = Parts (MakeLink tap) before after
-EndsUnwritten (MakeContent tap) before after = Parts (MakeContent tap) before after
-EndsUnwritten (MakeDvi tap) before after = Parts (MakeDvi tap) before after
-EndsUnwritten RecoverLink before after = ListsPart link_grammar link_listing before after
-EndsUnwritten RecoverContent before after = ListsPart link_grammar content_listing before after
-EndsUnwritten RecoverTrack before after = TracksPart before after
-EndsUnwritten (RecoverBiphase pair) before after = ListsPart link_grammar (biphase_listing pair) before after
-EndsUnwritten RecoverDvi before after = ListsPart dvi_grammar link_listing before after
-EndsUnwritten Check before after = ListsPart link_grammar check_listing before after
-EndsUnwritten (Damage damages) before after = DamageUnwritten before.left after.left (map hit_asked damages) before.held after.held
-EndsUnwritten (Slip slip) before after = Parts (Slip slip) before after
-EndsUnwritten ReadBiphase before after = FramesUnwritten before.left after.left before.held after.held
-EndsUnwritten Relay before after = Parts Relay before after
-EndsUnwritten (Sample frames) before after = IsSampleCut frames before.held after.held
+abbrev pub EndsWriteFailed : Command → Devices → Devices → Type 0
+EndsWriteFailed (MakeLink tap) before after = Parts (MakeLink tap) before after
+EndsWriteFailed (MakeContent tap) before after = Parts (MakeContent tap) before after
+EndsWriteFailed (MakeDvi tap) before after = Parts (MakeDvi tap) before after
+EndsWriteFailed RecoverLink before after = ListsPart link_grammar link_listing before after
+EndsWriteFailed RecoverContent before after = ListsPart link_grammar content_listing before after
+EndsWriteFailed RecoverTrack before after = TracksPart before after
+EndsWriteFailed (RecoverBiphase pair) before after = ListsPart link_grammar (biphase_listing pair) before after
+EndsWriteFailed RecoverDvi before after = ListsPart dvi_grammar link_listing before after
+EndsWriteFailed Check before after = ListsPart link_grammar check_listing before after
+EndsWriteFailed (Damage damages) before after = DamageWriteFailed before.left after.left (map hit_asked damages) before.held after.held
+EndsWriteFailed (Slip slip) before after = Parts (Slip slip) before after
+EndsWriteFailed ReadBiphase before after = FramesWriteFailed before.left after.left before.held after.held
+EndsWriteFailed Relay before after = Parts Relay before after
+EndsWriteFailed (Sample frames) before after = IsSampleCut frames before.held after.held
 
 -- what stands where a command that reads the input ends so
 abbrev pub Ends : Command → Ending → Devices → Devices → Type 0
@@ -302,8 +302,8 @@ Ends command (Frames fault) before after = (WritesLast command → Keeps before.
 Ends command TooLong before after = Keeps before.held after.held × Answers command TooLong before after
 Ends command (Place i) before after = Keeps before.held after.held × Answers command (Place i) before after
 Ends command Unaligned before after = IsAtEnd after.left × Keeps before.held after.held × Answers command Unaligned before after
-Ends command ReadFailed before after = Rose before.input_faults after.input_faults × EndsUnread command before after
-Ends command WriteFailed before after = Rose before.output_faults after.output_faults × EndsUnwritten command before after
+Ends command ReadFailed before after = Rose before.input_faults after.input_faults × EndsReadFailed command before after
+Ends command WriteFailed before after = Rose before.output_faults after.output_faults × EndsWriteFailed command before after
 Ends command NoMemory before after = Keeps before.held after.held × (WritesOn command → Keeps before.left after.left)
 Ends command Usage before after = ⊥
 
@@ -317,8 +317,8 @@ RunEnds words ending before after =
     ⊎ ((ending ≡ NoMemory) × Keeps before.left after.left × Keeps before.held after.held)
 
 -- what stands after a failed read, or a failed write, for the command that the words name
-abbrev pub RunUnread : List (List ℕ) → Devices → Devices → Type 0
-RunUnread words before after = (command : Command) × IsCommand words command × EndsUnread command before after
+abbrev pub RunReadFailed : List (List ℕ) → Devices → Devices → Type 0
+RunReadFailed words before after = (command : Command) × IsCommand words command × EndsReadFailed command before after
 
-abbrev pub RunUnwritten : List (List ℕ) → Devices → Devices → Type 0
-RunUnwritten words before after = (command : Command) × IsCommand words command × EndsUnwritten command before after
+abbrev pub RunWriteFailed : List (List ℕ) → Devices → Devices → Type 0
+RunWriteFailed words before after = (command : Command) × IsCommand words command × EndsWriteFailed command before after

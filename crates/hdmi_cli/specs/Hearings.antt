@@ -48,7 +48,7 @@ pub record IsRefusedAt {A : Type 0} (g : Grammar) (took : A → A → List Event
   pub heard : IsHeardSoFar g took fed old new
 
 -- a read failed, and it took what is reported of the whole blocks that were read
-pub record IsUnread {A : Type 0} (g : Grammar) (took : A → A → List Event → Type 0) (from left : Option (List ℕ)) (old new : A) : Type 0 where
+pub record IsReadFailed {A : Type 0} (g : Grammar) (took : A → A → List Event → Type 0) (from left : Option (List ℕ)) (old new : A) : Type 0 where
   pub fed : Fed
   pub read : List ℕ
   pub consumed : Consumes from left read
@@ -73,7 +73,7 @@ IsHeardSome g took old new = (fed : Fed) × IsHeardSoFar g took fed old new
 -- why blocks were not heard to the end
 abbrev pub StopsShort : {A : Type 0} → Grammar → (A → A → List Event → Type 0) → (A → A → Event → Type 0) → Option (List ℕ) → Option (List ℕ) → A → A → HearError → Type 0
 StopsShort g took broke from left old new (Bad fault) = IsHeardSome g took old new × ((bytes : List ℕ) → from ≡ Some bytes → IsRefusedAt g took bytes fault old new)
-StopsShort g took broke from left old new Read = IsUnread g took from left old new
+StopsShort g took broke from left old new Read = IsReadFailed g took from left old new
 StopsShort g took broke from left old new Ear = IsUntaken g took broke from left old new
 
 -- the count of faults of whoever failed has risen

@@ -12,7 +12,7 @@ pub mod Relays
 pub mod Outcome
 pub mod Endings
 pub mod ListsCommands
-pub mod Runs
+pub mod RunNotes
 pub mod Headline
 pub mod TrackSlip
 pub mod TrackPasses

@@ -2,7 +2,7 @@
 use Rattle.std.specs.Prelude.{ℕ, List}
 use Rattle.link_sink.specs.Grammar.{Grammar}
 use Rattle.command_line.specs.declared.command.Command.{Command}
-use Rattle.hdmi_cli.specs.Endings.{Devices, ListsRead, ListsPart, EndsUnread, EndsUnwritten}
+use Rattle.hdmi_cli.specs.Endings.{Devices, ListsRead, ListsPart, EndsReadFailed, EndsWriteFailed}
 use Rattle.hdmi_cli.specs.Manners.{WritesOn}
 use Rattle.hdmi_cli.specs.Listings.{Listing}
 use Rattle.hdmi_cli.specs.Outcome.{RunOutcome, ListsCapture, Does}
@@ -11,5 +11,5 @@ use Rattle.hdmi_cli.specs.Outcome.{RunOutcome, ListsCapture, Does}
 pub record IsLists (g : Grammar) (listing : Listing) (command : Command) : Type 0 where
   pub does : (bytes : List ℕ) (o : RunOutcome) → ListsCapture g listing bytes o → Does command bytes o
   pub on : WritesOn command
-  pub unread : (before after : Devices) → ListsRead g listing before after → EndsUnread command before after
-  pub unwritten : (before after : Devices) → ListsPart g listing before after → EndsUnwritten command before after
+  pub read_failed : (before after : Devices) → ListsRead g listing before after → EndsReadFailed command before after
+  pub write_failed : (before after : Devices) → ListsPart g listing before after → EndsWriteFailed command before after

@@ -25,7 +25,7 @@ pub record IsMade (frames : ℕ) (periods : List Period) : Type 0 where
   pub periods_are : periods ≡ raster_of sample_mode content
 
 -- columns spell it, and the hits of their capture are those of the damage
-pub record IsSent (frames : ℕ) (sent : List Column) (hits : List Hit) : Type 0 where
+pub record IsSampleSent (frames : ℕ) (sent : List Column) (hits : List Hit) : Type 0 where
   pub periods : List Period
   pub made : IsMade frames periods
   pub spelled : Spells periods sent
@@ -36,16 +36,16 @@ pub record IsSent (frames : ℕ) (sent : List Column) (hits : List Hit) : Type 0
   pub fits : AllFitLanes (tap_counts sample_tap sent) hits
 
 -- bytes are the capture of such columns
-pub record IsTapped (frames : ℕ) (bytes : List ℕ) (hits : List Hit) : Type 0 where
+pub record IsSampleCapture (frames : ℕ) (bytes : List ℕ) (hits : List Hit) : Type 0 where
   pub sent : List Column
-  pub is_sent : IsSent frames sent hits
+  pub is_sent : IsSampleSent frames sent hits
   pub bytes_are : bytes ≡ tapped_capture sent sample_tap
 
 -- and bytes are that capture, damaged
 pub record IsStruck (frames : ℕ) (damaged : List ℕ) : Type 0 where
   pub bytes : List ℕ
   pub hits : List Hit
-  pub tapped : IsTapped frames bytes hits
+  pub tapped : IsSampleCapture frames bytes hits
   pub damaged_is : IsDamagedCapture bytes hits damaged
 
 -- the text of the counts of a sample was written, whole or in part

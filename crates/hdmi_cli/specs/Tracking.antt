@@ -53,7 +53,7 @@ pub record IsRefusedOn {A : Type 0} (tracked : A → A → List TrackEvent → T
   pub heard : IsTrackedSoFar tracked fed old new
 
 -- a read failed, and it took what is reported so far of the whole blocks that were read
-pub record IsUnreadOn {A : Type 0} (tracked : A → A → List TrackEvent → Type 0) (from left : Option (List ℕ)) (old new : A) : Type 0 where
+pub record IsReadFailedOn {A : Type 0} (tracked : A → A → List TrackEvent → Type 0) (from left : Option (List ℕ)) (old new : A) : Type 0 where
   pub fed : Fed
   pub read : List ℕ
   pub consumed : Consumes from left read
@@ -80,7 +80,7 @@ IsTrackedSome tracked old new = (fed : Fed) × IsTrackedSoFar tracked fed old ne
 -- why blocks were not followed to the end
 abbrev pub StopsOn : {A : Type 0} → (A → A → List TrackEvent → Type 0) → (A → A → TrackEvent → Type 0) → Option (List ℕ) → Option (List ℕ) → A → A → HearError → Type 0
 StopsOn tracked lost from left old new (Bad fault) = IsTrackedSome tracked old new × ((bytes : List ℕ) → from ≡ Some bytes → IsRefusedOn tracked bytes fault old new)
-StopsOn tracked lost from left old new Read = IsUnreadOn tracked from left old new
+StopsOn tracked lost from left old new Read = IsReadFailedOn tracked from left old new
 StopsOn tracked lost from left old new Ear = IsUntakenOn tracked lost from left old new
 
 -- wherever an ear began that has taken so

@@ -23,8 +23,8 @@ ghost use Rattle.hdmi_cli.specs.Exact.{IsAlignedCapture, IsJudged};
 ghost use Rattle.hdmi_cli.specs.Listings.{link_listing, content_listing};
 ghost use Rattle.hdmi_cli.specs.Manners.{WritesLast, WritesOn};
 ghost use Rattle.hdmi_cli.specs.Outcome.{RunOutcome, IsOutcome, NamesNone, Relays};
-ghost use Rattle.hdmi_cli.specs.Endings.{RunEnds, RunUnread, RunUnwritten, Unless, seen};
-ghost use Rattle.hdmi_cli.specs.Runs.{IsNoteOf};
+ghost use Rattle.hdmi_cli.specs.Endings.{RunEnds, RunReadFailed, RunWriteFailed, Unless, seen};
+ghost use Rattle.hdmi_cli.specs.RunNotes.{IsNoteOf};
 ghost use Rattle.hdmi_cli.specs.Samples.{IsSampleWritten};
 ghost use Rattle.command_line.specs.Commands.{IsCommand};
 ghost use Rattle.command_line.specs.declared.command.Command.{Command as CommandValue};
@@ -97,10 +97,10 @@ pub fn run<R: Threads, S: Source, K: Sink, N: Sink, G: Gate>(
     ensures unread { result ≡ 2 → Keeps (S.left input.old) (S.left input.new) }
     ensures unwritten { Contains (2 ∷ 6 ∷ 7 ∷ []) result → Keeps (K.held output.old) (K.held output.new) }
     ensures refused { result ≡ 3 → (command : CommandValue) → IsCommand words.now command → WritesLast command → Keeps (K.held output.old) (K.held output.new) }
-    ensures cut_short { result ≡ 4 → RunUnread words.now
+    ensures cut_short { result ≡ 4 → RunReadFailed words.now
         (seen (S.left input.old) (S.faults input.old) (K.held output.old) (K.faults output.old))
         (seen (S.left input.new) (S.faults input.new) (K.held output.new) (K.faults output.new)) }
-    ensures part { result ≡ 5 → RunUnwritten words.now
+    ensures part { result ≡ 5 → RunWriteFailed words.now
         (seen (S.left input.old) (S.faults input.old) (K.held output.old) (K.faults output.old))
         (seen (S.left input.new) (S.faults input.new) (K.held output.new) (K.faults output.new)) }
 

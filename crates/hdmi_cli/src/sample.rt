@@ -11,7 +11,7 @@ ghost use Rattle.link_sink.specs.Pieces.{no_bits};
 ghost use Rattle.link_sink.specs.Streams.{SinkRepresents, most_bits};
 ghost use Rattle.sampling.specs.Sampled.{sample_mode, sample_tap, IsSampled};
 ghost use Rattle.source_end.specs.declared.refusal.RasterFault.{RasterFault};
-ghost use Rattle.hdmi_cli.specs.Samples.{IsMade, IsSent, IsTapped, IsStruck, SampleEnds};
+ghost use Rattle.hdmi_cli.specs.Samples.{IsMade, IsSampleSent, IsSampleCapture, IsStruck, SampleEnds};
 
 use crate::ending::Ending;
 use crate::hearing::{HearError, hear_capture};
@@ -113,7 +113,7 @@ pub(crate) fn damaged(alloc: Global, frames: u32) -> Result<MemSink, NoMemory>
 /// The capture of the generator's content, and the hits that it suffers.
 fn captured(alloc: Global, frames: u32) -> Result<(MemSink, Vec<Hit>), NoMemory>
     requires { frames ≤ 20 }
-    ensures { IfOk result (λ made. IsTapped frames made.0.held made.1.items) }
+    ensures { IfOk result (λ made. IsSampleCapture frames made.0.held made.1.items) }
 {
     let (lanes, columns, mut hits) = sent(alloc, frames)?;
     hits.shrink_to_fit();
@@ -127,7 +127,7 @@ fn captured(alloc: Global, frames: u32) -> Result<(MemSink, Vec<Hit>), NoMemory>
 /// The lanes of the generator's content, how many columns they have, and the hits of their capture.
 fn sent(alloc: Global, frames: u32) -> Result<(Lanes, u32, Vec<Hit>), NoMemory>
     requires { frames ≤ 20 }
-    ensures sent { IfOk result (λ sent. IsSent frames sent.0.columns sent.2.items) }
+    ensures sent { IfOk result (λ sent. IsSampleSent frames sent.0.columns sent.2.items) }
     ensures few { IfOk result (λ sent. sent.1 ≤ 20000000) }
 {
     let stream = stream_of(alloc, frames)?;

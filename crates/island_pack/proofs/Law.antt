@@ -9,7 +9,7 @@ use Rattle.terc4.specs.Tables.{is_terc}
 use Rattle.bch_block.specs.Bits.{byte_bits, bits_of_bytes}
 use Rattle.bch_block.specs.declared.Verdict.{Verdict}
 use Rattle.bch_block.specs.declared.Verdict.TheVariants.{Clean}
-use Rattle.bch_block.proofs.Bytes.{bits_of-append}
+use Rattle.bch_block.proofs.Bytes.{bits_of_bytes-append}
 use Rattle.bch_block.proofs.Verdicts.{one_verdict}
 use Rattle.island_pack.specs.Nibbles.{is_foreign, foreign_on, foreign_words, body_bits, header_bits}
 use Rattle.island_pack.specs.Packets.{BeginsWith, body_of, AreTerc}
@@ -53,11 +53,11 @@ length-body_of packet long b lt =
 four_parts : (xs : List ℕ) → length xs ≡ 28
     → bits_of_bytes xs ≡ bits_of_bytes (take 7 xs) ++ (bits_of_bytes (take 7 (drop 7 xs)) ++ (bits_of_bytes (take 7 (drop 14 xs)) ++ bits_of_bytes (take 7 (drop 21 xs))))
 four_parts xs long =
-    ap bits_of_bytes (next_part xs 0 7) ∙ bits_of-append (take 7 xs) (drop 7 xs)
+    ap bits_of_bytes (next_part xs 0 7) ∙ bits_of_bytes-append (take 7 xs) (drop 7 xs)
     ∙ ap (λ z. bits_of_bytes (take 7 xs) ++ z)
-    (ap bits_of_bytes (next_part xs 7 7) ∙ bits_of-append (take 7 (drop 7 xs)) (drop 14 xs)
+    (ap bits_of_bytes (next_part xs 7 7) ∙ bits_of_bytes-append (take 7 (drop 7 xs)) (drop 14 xs)
     ∙ ap (λ z. bits_of_bytes (take 7 (drop 7 xs)) ++ z)
-    (ap bits_of_bytes (next_part xs 14 7) ∙ bits_of-append (take 7 (drop 14 xs)) (drop 21 xs)
+    (ap bits_of_bytes (next_part xs 14 7) ∙ bits_of_bytes-append (take 7 (drop 14 xs)) (drop 21 xs)
     ∙ ap (λ z. bits_of_bytes (take 7 (drop 14 xs)) ++ z)
     (ap bits_of_bytes (sym (whole_list (drop 21 xs) 7 (omega (arith, long, length-drop 21 xs)))))))
 

@@ -8,7 +8,7 @@ use Rattle.bch_block.specs.Block.{IsBlock}
 use Rattle.bch_block.specs.Repair.{IsVerdict, Repairs}
 use Rattle.bch_block.specs.declared.Verdict.{Verdict}
 use Rattle.bch_block.specs.declared.Verdict.TheVariants.{Clean, Mended, Lost}
-use Rattle.bch_block.proofs.Bytes.{length-bits_of, bits_of-append}
+use Rattle.bch_block.proofs.Bytes.{length-bits_of_bytes, bits_of_bytes-append}
 use Rattle.island_pack.specs.Packets.{BeginsWith}
 use Rattle.island_pack.specs.Taken.{IsTaken, after}
 
@@ -69,7 +69,7 @@ number_of_four a b c d n e = omega arith
 
 -- bytes with one byte more that makes a block
 pub begins : (x : List Bool) (bytes : List ℕ) (p : ℕ) → x ≡ bits_of_bytes (bytes ++ p ∷ []) → IsBlock (bits_of_bytes (bytes ++ p ∷ [])) → BeginsWith x bytes
-begins x bytes p e block = grind (arith, length-bits_of, length-append, bits_of-append, take-append_seam)
+begins x bytes p e block = grind (arith, length-bits_of_bytes, length-append, bits_of_bytes-append, take-append_seam)
 
 -- what is repaired
 pub repaired : (old new : List ℕ) (v : Verdict) → Repairs old new v → bits_of_bytes new ≡ after (bits_of_bytes old) v

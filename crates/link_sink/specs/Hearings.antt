@@ -1,4 +1,4 @@
--- What a hearing owes to a sink that hands it columns.
+-- What a sink that hands columns to a hearing relies on.
 use Rattle.std.specs.Prelude.{◌≡◌, false, List, [], ◌++◌, All}
 use Rattle.tmds_word.specs.Column.{Column}
 use Rattle.period_grammar.specs.Events.{Event}

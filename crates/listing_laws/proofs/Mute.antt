@@ -1,4 +1,4 @@
--- Before the first change nothing is said: what is reported of parts of one level, rows among them.
+-- Before the first change of VSYNC no row and no frame is listed: what is reported of parts of one level, rows among them.
 use Rattle.std.proofs.Common.{arith, ◌≡◌, ℕ, zero, suc, ◌+◌, ◌-◌, ◌/◌, Bool, false, cond, List, [], ◌∷◌, ◌++◌, length, take, drop, Option, Some, None, refl, sym, subst, append-nil}
 use Rattle.std.specs.Prelude.{nat_lt}
 use Rattle.tmds_word.specs.Column.{Column}

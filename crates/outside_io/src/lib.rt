@@ -40,7 +40,7 @@ impl<T: Drop> From<AllocFailed<T>> for NoMemory {
     }
 }
 
-/// How many bytes of a piece went out before a write failed.
+/// How many bytes of a piece were written before a write failed.
 #[derive(Clone, Copy, Debug, PartialEq, Eq)]
 pub struct Wrote {
     pub gone: usize,

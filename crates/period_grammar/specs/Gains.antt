@@ -32,8 +32,8 @@ abbrev pub ends_by : Gaps → ℕ → Stretch → List Event
 ends_by g b (stretch control []) = last_run (runs control)
 ends_by g b (stretch control (x ∷ gap)) = g.ending b control (x ∷ gap)
 
--- a machine that knows the last stretch, where its other columns begin and how many columns were received gives each
--- column's events: for every rule
+-- the last stretch, where its other columns begin and how many columns were received determine each column's events: for
+-- every rule
 abbrev pub PushLaw : Type 0
 PushLaw =
     (g : Gaps) (gain : Gain) → GrowsBy g gain

@@ -318,7 +318,7 @@ impl Ear for Relay {
     // It stands for each list that it stood for, and these events after it.
     ghost took = { Took };
 
-    // It has trouble: what is relayed would be too long, or memory was wanting.
+    // It has failed: what is relayed would be too long, or memory was wanting.
     ghost broke = { Broke };
 
     /// Takes an event. After a failure it takes no more: each further call fails and changes nothing but the count.

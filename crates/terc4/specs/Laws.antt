@@ -1,4 +1,4 @@
--- What holds of the words of the tables: how they look in the order in which they are sent, and that they are apart.
+-- What holds of the words of the tables: their transitions in the order in which they are sent, and that the tables are disjoint.
 use Rattle.std.specs.Prelude.{ℕ, ◌≡◌, ◌<◌, ◌≤◌, ◌-◌, ◌⊎◌, Bool, true, false, not, List, [], ◌∷◌, length, take, drop, slice_index, None, ◌==◌}
 use Rattle.tmds_word.specs.Bits.{word_bits, turns}
 use Rattle.tmds_word.specs.Column.{Column}

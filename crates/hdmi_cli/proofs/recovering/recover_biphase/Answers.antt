@@ -8,7 +8,7 @@ use Rattle.hdmi_cli.proofs.Listings.{between}
 use Rattle.hdmi_cli.proofs.recovering.recover_biphase.Goals as goal
 
 lists : (pair : ℕ) → IsLists link_grammar (biphase_listing pair) (RecoverBiphase pair)
-lists pair = record { does = λ bytes o does. does; on = tt; unread = λ before after is. is; unwritten = λ before after is. is }
+lists pair = record { does = λ bytes o does. does; on = tt; read_failed = λ before after is. is; write_failed = λ before after is. is }
 
 pub returns-clause-ends : goal.returns-clause-ends
 returns-clause-ends g c =

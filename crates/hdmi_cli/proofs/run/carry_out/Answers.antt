@@ -2,14 +2,14 @@ use Rattle.std.proofs.Common.{arith, subst}
 use Rattle.command_line.specs.Commands.{IsCommand as IsLine}
 use Rattle.command_line.specs.declared.command.Command.{Command}
 use Rattle.hdmi_cli.specs.Endings.{Devices}
-use Rattle.hdmi_cli.proofs.Ends.{line_of, unread_ends}
+use Rattle.hdmi_cli.proofs.Ends.{line_of, none_named_ends}
 use Rattle.hdmi_cli.proofs.Answered.{frames_of_line, lanes_of_line, version_of_line, pair_of_line, version_of_content, version_of_dvi}
 use Rattle.hdmi_cli.proofs.run.carry_out.Goals as goal
 
 pub returns-in-Ok-None-clause-ends : goal.returns-in-Ok-None-clause-ends
 returns-in-Ok-None-clause-ends g c =
     let devices : Devices = record { left = g.S.Source.left c.args.input.now; input_faults = g.S.Source.faults c.args.input.now; held = g.K.Sink.held c.args.output.now; output_faults = g.K.Sink.faults c.args.output.now } in
-    unread_ends c.args.words.now devices c.command.result c.in-Ok-None.field-0 c.command.ensures c.in-Ok-None.is c.in-Ok-None.field-0-is
+    none_named_ends c.args.words.now devices c.command.result c.in-Ok-None.field-0 c.command.ensures c.in-Ok-None.is c.in-Ok-None.field-0-is
 
 pub damage-requires : goal.damage-requires
 damage-requires g c = grind (arith, lanes_of_line, line_of)

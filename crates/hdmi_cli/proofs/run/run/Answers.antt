@@ -27,7 +27,7 @@ returns g c =
     let known = c.status.ensures in
     let s = says words ending before after status ends known in
     record {
-      status = s.known;
+      status = s.status_known;
       outcome = s.outcome;
       usage = s.usage;
       unnamed = s.unnamed;

@@ -1,4 +1,4 @@
--- The notes of a run.
+-- Which of the lines of `Notes` a run writes, by its status.
 use Rattle.std.specs.Prelude.{◌≡◌, ◌⊎◌, ℕ, List, [], Option, Some}
 use Rattle.hdmi_cli.specs.Notes.{usage_note, read_note, write_note, memory_note, alignment_note}
 use Rattle.hdmi_cli.specs.Outcome.{RunOutcome, IsOutcome}
