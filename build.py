@@ -284,7 +284,8 @@ def main():
     except (OSError, subprocess.CalledProcessError):
         print("vabgrot: the command rt of the Rattle kit is not on the PATH", file=sys.stderr)
         return 2
-    signal.signal(signal.SIGTERM, lambda *_: sys.exit(1))
+    for end in (signal.SIGINT, signal.SIGTERM, signal.SIGHUP):
+        signal.signal(end, lambda *_: sys.exit(1))
     began = time.time()
     status = build(kit) if kit.is_known() else build_by_rt()
     if status == 0:

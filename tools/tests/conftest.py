@@ -62,6 +62,7 @@ for word; do
 done
 echo "begin $name" >> {0}/log
 [ -e {0}/slow ] && sleep 0.3
+[ -e {0}/hangs ] && echo $$ > {0}/hanging && exec sleep 600
 [ -e "{0}/kills.$name" ] && rm "{0}/kills.$name" && kill -9 $$
 [ -e "{0}/fails.$name" ] && echo "$name: not proved" && exit 1
 echo "$*" > "$made"
@@ -76,7 +77,7 @@ cp {0}/program "$2"
 @pytest.fixture
 def kit(tmp_path):
     """A Rattle kit that is shell scripts, and its `rt` in the folder `path`. Its prover writes what it does into the file `log`,
-    fails or is killed where a file says so, and what it makes is the file `program`."""
+    fails, hangs or is killed where a file says so, and what it makes is the file `program`."""
     scripts = {"kit/bin/rattle": PROVER, "kit/bin/rattle-link": LINKER, "path/rt": "#!/bin/sh\necho {0}/kit/START-HERE.md\n"}
     for path, text in scripts.items():
         (tmp_path / path).parent.mkdir(parents=True, exist_ok=True)

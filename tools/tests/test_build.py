@@ -2,11 +2,13 @@
 repository of five crates and a kit that is shell scripts."""
 
 import shutil
+import signal
 import subprocess
 import time
+from pathlib import Path
 
 import pytest
-from conftest import TOP
+from conftest import HANGS, TOP
 
 CRATES = """# a comment
 low:
@@ -88,6 +90,26 @@ def test_killed_for_memory(building, tmp_path):
     (tmp_path / "kills.right").write_text("")
     status, _, log = building()
     assert status == 0 and names(log, "begin").count("right") == (1 if (tmp_path / "kills.right").exists() else 2)
+
+
+@pytest.mark.parametrize("end", [signal.SIGINT, signal.SIGTERM, signal.SIGHUP])
+def test_ended_early(building, tmp_path, end):
+    """A build that is ended ends its checks, and the next one goes on where it was."""
+    assert building()[0] == 0
+    (tmp_path / "top/crates/left/src/lib.rt").write_text("//! changed\n")
+    (tmp_path / "hangs").write_text("")
+    env = {"PATH": f"{tmp_path / 'path'}:/usr/bin:/bin"}
+    run = subprocess.Popen([tmp_path / "top/build.py"], env=env, stdin=subprocess.DEVNULL, stderr=subprocess.PIPE)
+    hanging = tmp_path / "hanging"
+    while not (hanging.exists() and hanging.read_text()):
+        time.sleep(0.01)
+    run.send_signal(end)
+    assert run.communicate(timeout=HANGS)[1] == b"" and run.returncode == 1
+    status = Path(f"/proc/{hanging.read_text().strip()}/stat")
+    while status.exists() and status.read_text().rpartition(")")[2].split()[0] != "Z":
+        time.sleep(0.01)
+    (tmp_path / "hangs").unlink()
+    assert names(building()[2], "end") == ["left", "hdmi_cli"]
 
 
 def test_no_kit(building, tmp_path):
