@@ -7,6 +7,7 @@ mod Taps
 mod Meanings
 pub mod OneCommand
 mod FoundRows
+mod FormSteps
 mod Words
 mod Turns
 mod Takings

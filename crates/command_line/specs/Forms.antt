@@ -70,11 +70,13 @@ sample = single (codes "sample")
 abbrev pub program : App
 program = let a = bare (codes "vabgrot") in record a { top = record (a.top) { disable_help_subcommand = true; no_binary_name = true; subcommand_required = true } }
 
+-- the program with its first four commands
+abbrev pub front : App
+front = with_subcommand (with_subcommand (with_subcommand (with_subcommand program make.top) recover.top) check.top) damage.top
+
 -- the program with all its commands
 abbrev pub vabgrot : App
-vabgrot =
-    let front = with_subcommand (with_subcommand (with_subcommand (with_subcommand program make.top) recover.top) check.top) damage.top in
-    with_subcommand (with_subcommand (with_subcommand (with_subcommand front slip.top) read.top) relay.top) sample.top
+vabgrot = with_subcommand (with_subcommand (with_subcommand (with_subcommand front slip.top) read.top) relay.top) sample.top
 
 -- ---- what is found
 

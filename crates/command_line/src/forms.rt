@@ -4,7 +4,7 @@ ghost use Rattle.clap.specs.Words.{app_of, found_of, rows_of, rule_of, with_rule
 ghost use Rattle.clap.specs.declared.builder.command.Command.TheViews.{out-Command as fields_of};
 ghost use Rattle.command_line.specs.declared.options.OptionName.{OptionName as Name};
 ghost use Rattle.command_line.specs.Grammar.{IsGiven, Text, texts};
-ghost use Rattle.command_line.specs.Forms.{AreFound, bare, make, operand_rule, option_rule, program, vabgrot};
+ghost use Rattle.command_line.specs.Forms.{AreFound, bare, front, make, operand_rule, option_rule, program, vabgrot};
 
 use crate::options::OptionName;
 use clap::{Arg, ArgAction, ArgMatches, Command};
@@ -15,16 +15,23 @@ pub(crate) fn forms<'a>(alloc: Global) -> Result<Command<'a>, AllocError>
     ensures app { IfOk result (λ c. app_of c ≡ vabgrot) }
     ensures local { IfOk result (λ c. (fields_of c).has_globals ≡ false) }
 {
+    let command = front_forms(alloc)?;
+    let command = with_form(alloc, command, "slip", operand(alloc))?;
+    let command = with_form(alloc, command, "read", operand(alloc))?;
+    let command = command.subcommand(bare(alloc, "relay"))?;
+    with_form(alloc, command, "sample", operand(alloc))
+}
+
+/// The program with its first four commands.
+fn front_forms<'a>(alloc: Global) -> Result<Command<'a>, AllocError>
+    ensures app { IfOk result (λ c. app_of c ≡ front) }
+    ensures local { IfOk result (λ c. (fields_of c).has_globals ≡ false) }
+{
     let make = make_form(alloc)?;
     let command = program(alloc).subcommand(make)?;
     let command = with_form(alloc, command, "recover", operands(alloc))?;
     let command = command.subcommand(bare(alloc, "check"))?;
-    let command = with_form(alloc, command, "damage", operands(alloc))?;
-    let command = with_form(alloc, command, "slip", operand(alloc))?;
-    let command = with_form(alloc, command, "read", operand(alloc))?;
-    let command = command.subcommand(bare(alloc, "relay"))?;
-    let command = with_form(alloc, command, "sample", operand(alloc))?;
-    Ok(command)
+    with_form(alloc, command, "damage", operands(alloc))
 }
 
 /// `make` with one operand and four options.
@@ -36,8 +43,7 @@ fn make_form<'a>(alloc: Global) -> Result<Command<'a>, AllocError>
     let command = with_option(alloc, command, OptionName::Offset)?;
     let command = with_option(alloc, command, OptionName::Skew)?;
     let command = with_option(alloc, command, OptionName::Bits)?;
-    let command = with_option(alloc, command, OptionName::Version)?;
-    Ok(command)
+    with_option(alloc, command, OptionName::Version)
 }
 
 /// The program with one more command, which takes such operands.
@@ -52,8 +58,7 @@ fn with_form<'a>(
     ensures local { IfOk result (λ c. (fields_of c).has_globals ≡ (fields_of program.entry).has_globals) }
 {
     let command = form(alloc, name, argument)?;
-    let program = program.subcommand(command)?;
-    Ok(program)
+    program.subcommand(command)
 }
 
 /// A command that takes such operands.
@@ -62,8 +67,7 @@ fn form<'a>(alloc: Global, name: &'a str, argument: Arg<'a>) -> Result<Command<'
     ensures app { IfOk result (λ c. app_of c ≡ with_rule (bare name.entry.now) (rule_of argument.entry)) }
     ensures local { IfOk result (λ c. (fields_of c).has_globals ≡ false) }
 {
-    let command = bare(alloc, name).arg(argument)?;
-    Ok(command)
+    bare(alloc, name).arg(argument)
 }
 
 fn program<'a>(alloc: Global) -> Command<'a>
@@ -95,9 +99,7 @@ fn with_option<'a>(
     ensures app { IfOk result (λ c. app_of c ≡ with_rule (app_of command.entry) (option_rule name)) }
     ensures local { IfOk result (λ c. (fields_of c).has_globals ≡ (fields_of command.entry).has_globals) }
 {
-    let option = option(alloc, name);
-    let more = command.arg(option)?;
-    Ok(more)
+    command.arg(option(alloc, name))
 }
 
 fn option<'a>(alloc: Global, name: OptionName) -> Arg<'a>

@@ -1,6 +1,7 @@
 -- Lanes that push what their aligners write: that they may, and how little is kept once all columns are consumed.
 use Rattle.std.proofs.Common.{◌≡◌, ℕ, suc, zero, ◌+◌, ◌-◌, ◌/◌, ◌^◌, ◌<◌, ◌≤◌, ◌⊎◌, min, cond, Bool, true, List, [], ◌∷◌, ◌++◌, length, refl, ap, ◌∙◌, sym, subst, arith, length-append, length-drop, Option, Some, None, MatchOption, is_some, slice_index}
 use Rattle.std.proofs.lemmas.Bool.{cases_lt}
+use Rattle.tmds_word.specs.Taps.{AreNear}
 use Rattle.lane_align.specs.Lanes.{IsRun, IsLock, IsLockOf}
 use Rattle.lane_align.specs.Words.{lane_words}
 use Rattle.lane_align.proofs.Controls.{one_lock, run_within}
@@ -21,7 +22,10 @@ use Rattle.lane_deskew.proofs.Aligning.{row_length}
 -- a lane's characters are those at any lock of its bits
 words_by : (xs : List Bool) (lane : Pushed) (o u : Option ℕ) → MatchOption o ((p : ℕ) → IsRun xs p → ⊥) (λ p. IsLock xs p × (lane.lock ≡ p)) → lane.words ≡ lane_words o xs
     → IsLockOf xs u → lane.words ≡ lane_words u xs
-words_by xs lane o u h k l = grind (arith, one_lock)
+words_by xs lane None None h k l = k
+words_by xs lane None (Some q) h k l = absurd (h q l.run)
+words_by xs lane (Some p) None h k l = absurd (l p h.0.run)
+words_by xs lane (Some p) (Some q) h k l = k ∙ ap (λ n. lane_words (Some n) xs) (one_lock xs p q h.0 l)
 
 words_at : (xs : List Bool) (lane : Pushed) (u : Option ℕ) → IsCutFrom xs lane → IsLockOf xs u → lane.words ≡ lane_words u xs
 words_at xs lane u cut is = words_by xs lane cut.found u cut.lock cut.words is
@@ -112,6 +116,11 @@ few_near r n taken b c u x e k v y f m one two near none = grind (arith, at_most
 one_empty : (k l m : ℕ) → min k (min l m) ≡ 0 → (k ≡ 0) ⊎ ((l ≡ 0) ⊎ (m ≡ 0))
 one_empty k l m h = grind arith
 
+-- so where one lane has an empty row, all three rows are short
+all_few : (r n taken : ℕ) (b c d : Bool) (u v w x y z e f g k l m : ℕ) → IsShort r n taken b u x e k → IsShort r n taken c v y f l → IsShort r n taken d w z g m
+    → AreNear e f → AreNear f g → AreNear e g → (k ≡ 0) ⊎ ((l ≡ 0) ⊎ (m ≡ 0)) → (k ≤ 7) × (l ≤ 7) × (m ≤ 7)
+all_few r n taken b c d u v w x y z e f g k l m one two three ef fg eg none = grind (arith, few_near)
+
 limit_ended : (b : Bool) (n r : ℕ) → r ≤ limit b n → b ≡ true → r ≤ n
 limit_ended b n r h k = grind arith
 
@@ -148,11 +157,7 @@ room_left d p at n xs ys zs stands found cut a b c none lane =
     let l = length d.second.kept.row in
     let m = length d.third.kept.row in
     let least : min k (min l m) ≡ 0 = sym (ap (λ (o : Option Aligned). cond (is_some o) (min k (min l m)) 0) found) ∙ none in
-    let near1 = t.first_second in
-    let near2 = t.second_third in
-    let near3 = t.first_third in
-    let short : (k ≤ 7) × (l ≤ 7) × (m ≤ 7) = grind (arith, one_empty, few_near) in
-    by_lane al short lane
+    by_lane al (all_few r n p.taken _ _ _ _ _ _ _ _ _ _ _ _ k l m one two three t.first_second t.second_third t.first_third (one_empty k l m least)) lane
   where
     by_lane : IsAligned d p at.edges → (length d.first.kept.row ≤ 7) × (length d.second.kept.row ≤ 7) × (length d.third.kept.row ≤ 7) → (i : ℕ) → length (kept_of d i) ≤ 7
     by_lane al short zero = kept_short d.first al.first.ring short.0

@@ -1,0 +1,15 @@
+use Rattle.std.proofs.Common.{arith, ap, ap₂, ◌∙◌, codes}
+use Rattle.clap.specs.Words.{app_of, with_subcommand, App}
+use Rattle.clap.specs.declared.builder.command.Command.TheViews.{out-Command as fields_of}
+use Rattle.command_line.proofs.FormSteps.{added, made_same}
+use Rattle.command_line.proofs.forms.front_forms.Goals as goal
+
+pub returns-clause-app : goal.returns-clause-app
+returns-clause-app c =
+    let first = c.in_ok-command.ensures.shape c.in_ok-make.ensures.local ∙ ap₂ with_subcommand c.program.ensures.app (ap (λ (a : App). a.top) c.in_ok-make.ensures.app) in
+    let second = c.in_ok-command-2.ensures.app ∙ added (codes "recover") _ _ _ _ first c.operands.ensures.rule in
+    let third = c.in_ok-command-3.ensures.shape c.bare.ensures.local ∙ ap₂ with_subcommand second (ap (λ (a : App). a.top) c.bare.ensures.app) in
+    made_same app_of _ _ _ c.with_form-2.ensures.app (added (codes "damage") _ _ _ _ third c.operands-2.ensures.rule)
+
+pub returns-clause-local : goal.returns-clause-local
+returns-clause-local c = made_same (λ k. (fields_of k).has_globals) _ _ _ c.with_form-2.ensures.local (grind arith)
