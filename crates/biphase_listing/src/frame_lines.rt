@@ -20,7 +20,7 @@ use audio_packets::Sample;
 pub(crate) const PIECE: usize = 4096;
 
 /// How the frames of a piece stop.
-#[derive(Clone, Copy, Debug, PartialEq, Eq)]
+#[derive(Clone, Copy)]
 pub(crate) enum Stop {
     /// Less than a frame is left.
     End,

@@ -9,7 +9,7 @@ use crate::{CaptureError, CaptureFault};
 use outside_io::{Source, read_full};
 
 /// The version of a capture, and how many bits each lane has.
-#[derive(Clone, Copy, Debug, PartialEq, Eq)]
+#[derive(Clone, Copy)]
 pub(crate) struct Heading {
     pub(crate) version: u8,
     pub(crate) bits: [u32; 3],

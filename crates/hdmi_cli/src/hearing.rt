@@ -22,7 +22,7 @@ use outside_io::Source;
 use std::thread::Threads;
 
 /// Why a capture was not heard to its end.
-#[derive(Clone, Copy, Debug, PartialEq, Eq)]
+#[derive(Clone, Copy)]
 pub(crate) enum HearError {
     /// The bytes are no capture.
     Bad(CaptureFault),

@@ -12,7 +12,7 @@ use island_pack::Packet;
 use source_end::Mode;
 
 /// What is seen in a line without its line feed; none where one of its numbers is outside its range.
-#[derive(Clone, Copy, Debug, PartialEq, Eq)]
+#[derive(Clone, Copy)]
 pub(crate) enum ContentForm<'a> {
     /// `vic V` and `mode ..`.
     Mode(Option<Mode>),

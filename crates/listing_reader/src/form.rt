@@ -11,7 +11,7 @@ use island_pack::Packet;
 const NUMBER_LIMIT: usize = 10;
 
 /// What is seen in a line without its line feed.
-#[derive(Clone, Copy, Debug, PartialEq, Eq)]
+#[derive(Clone, Copy)]
 pub(crate) enum Form<'a> {
     /// `c HH N`: the value and the number of columns, each perhaps out of its range.
     Control { value: u8, count: u64 },

@@ -7,7 +7,7 @@ use crate::ListCause;
 use outside_io::NoMemory;
 
 /// Why a line was not taken.
-#[derive(Clone, Copy, Debug, PartialEq, Eq)]
+#[derive(Clone, Copy)]
 pub(crate) enum Refusal {
     Cause(ListCause),
     NoMemory,

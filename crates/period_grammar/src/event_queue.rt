@@ -5,7 +5,7 @@ use crate::event::Fault;
 use std::marker::Model;
 
 /// An event that was reported, but for the bytes of a line and for a packet.
-#[derive(Clone, Copy, Debug, Drop)]
+#[derive(Clone, Copy, Drop)]
 pub enum QueuedEvent {
     Run { value: u8, count: u32 },
     Line,

@@ -25,7 +25,7 @@ pub(crate) struct Held {
 }
 
 /// Bytes that are lent for their bits after the first few.
-#[derive(Clone, Copy, Debug)]
+#[derive(Clone, Copy)]
 pub(crate) struct Lent<'a> {
     pub(crate) bytes: &'a [u8],
     pub(crate) skip: u32,

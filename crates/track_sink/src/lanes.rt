@@ -9,7 +9,7 @@ use outside_io::NoMemory;
 use std::alloc::Global;
 
 /// A stray of a lane, at a place of the epoch.
-#[derive(Clone, Copy, Debug, PartialEq, Eq)]
+#[derive(Clone, Copy)]
 pub(crate) struct Stray {
     pub(crate) lane: u8,
     pub(crate) place: u32,

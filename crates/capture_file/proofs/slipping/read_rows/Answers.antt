@@ -1,8 +1,8 @@
-use Rattle.std.proofs.Common.{rules, arith, ◌≡◌, ◌+◌, ◌++◌, [], ℕ, List, Bool, ◌∙◌, sym, ap, subst, append_assoc, append-nil}
+use Rattle.std.proofs.Common.{rules, arith, ◌≡◌, ◌+◌, ◌++◌, [], ℕ, List, Bool, length, ◌∙◌, sym, ap, subst, append_assoc, append-nil}
 use Rattle.std.specs.Prelude.{Err}
 use Rattle.std.proofs.KnownBytes.{Consumes-nil, Consumes-trans}
 use Rattle.capture_file.specs.Captures.{IsFault, IsCaptureOf, Stands, StopsIn, header_of, place_of}
-use Rattle.capture_file.specs.declared.slipping.SlipError.TheVariants.{Read, NoMemory as WantsMemory}
+use Rattle.capture_file.specs.declared.slipping.SlipError.TheVariants.{Read, Place, Write, NoMemory as WantsMemory}
 use Rattle.capture_file.proofs.Marks.{consumed}
 use Rattle.capture_file.proofs.Standing.{stands_head}
 use Rattle.outside_io.proofs.Consumed.{takes_more}
@@ -49,11 +49,11 @@ loop-j-preserved g c =
 
 pub returns-in-Err : goal.returns-in-Err
 returns-in-Err g c = record {
-  blue = search rules;
-  green = search rules;
-  red = search rules;
-  ok = search rules;
-  ended = search rules;
+  blue = tt;
+  green = tt;
+  red = tt;
+  ok = tt;
+  ended = tt;
   err = λ bytes e.
       let a = c.args.heading in
       let head = header_of a.version a.bits in
@@ -90,18 +90,24 @@ returns-in-Err g c = record {
       let same : c.in-Err.error ≡ WantsMemory = cc in
       let p = c.in-Err.ensures.full (ap Err same) in
       (w.0 ++ p.0, Consumes-trans _ _ _ w.0 p.0 w.1 p.1);
-  unplaced = search rules;
+  unplaced = λ is. let same : c.in-Err.error ≡ Place = cc in c.in-Err.ensures.unplaced (ap Err same);
   taken = takes_more _ _ _ (c.loop-j.invariant.went.0, c.loop-j.invariant.went.1) c.in-Err.ensures.taken;
-  unwritten = search rules;
-  caused = search rules;
-  later = search rules;
+  unwritten = λ is. let same : c.in-Err.error ≡ Write = cc in c.in-Err.ensures.unwritten (ap Err same);
+  caused = grind arith;
+  later = omega (arith, c.loop-j.invariant.later, c.in-Err.ensures.later);
 }
 
 pub returns-in-Ok-false : goal.returns-in-Ok-false
 returns-in-Ok-false g c = record {
-  blue = search rules;
-  green = search rules;
-  red = search rules;
+  blue =
+      let n = c.in-Ok-false.ensures.none c.in-Ok-false.field-0-test in
+      let same = ap (λ rows. length rows.blue) n.3 in omega (arith, n.0, c.loop-j.invariant.blue);
+  green =
+      let n = c.in-Ok-false.ensures.none c.in-Ok-false.field-0-test in
+      let same = ap (λ rows. length rows.green) n.3 in omega (arith, n.0, c.loop-j.invariant.green);
+  red =
+      let n = c.in-Ok-false.ensures.none c.in-Ok-false.field-0-test in
+      let same = ap (λ rows. length rows.red) n.3 in omega (arith, n.0, c.loop-j.invariant.red);
   ok =
       let a = c.args.heading in
       let r = c.read_block.new.self in
@@ -109,13 +115,13 @@ returns-in-Ok-false g c = record {
       let w = c.loop-j.invariant.went in
       let stands = subst (λ rows. Stands a.version a.bits c.loop-j.j (header_of a.version a.bits ++ w.0) rows.blue rows.green rows.red) (sym n.3) w.2 in
       (w.0 ++ [], Consumes-trans _ _ _ w.0 [] w.1 n.1, subst (λ bs. IsCaptureOf r.blue r.green r.red (header_of a.version a.bits ++ bs)) (sym (append-nil w.0)) (ended a.bits c.loop-j.j _ _ r.blue r.green r.red stands n.0).holds);
-  ended = search rules;
-  err = search rules;
-  part = search rules;
-  full = search rules;
-  unplaced = search rules;
-  taken = search rules;
-  unwritten = search rules;
-  caused = search rules;
-  later = search rules;
+  ended = (c.in-Ok-false.ensures.none c.in-Ok-false.field-0-test).2;
+  err = λ bytes e. tt;
+  part = λ lane place count h. cc;
+  full = λ h. cc;
+  unplaced = λ h. cc;
+  taken = takes_more _ _ _ (c.loop-j.invariant.went.0, c.loop-j.invariant.went.1) c.in-Ok-false.ensures.taken;
+  unwritten = λ h. cc;
+  caused = λ h. cc;
+  later = omega (arith, c.loop-j.invariant.later, c.in-Ok-false.ensures.later);
 }

@@ -36,10 +36,10 @@ returns-in-Ok-write_chunk g c =
     record {
       size = (omega (arith, second.size, first.size, e.size, size), omega (arith, second.small, first.small, e.small));
       whole = Appends-two _ _ _ (x ++ y) z _ is (Appends-two _ _ _ x y (x ++ y) refl first.whole second.whole) e.whole;
-      part = search rules;
-      missing = search rules;
-      small = search rules;
-      cause = search rules;
+      part = tt;
+      missing = tt;
+      small = tt;
+      cause = grind arith;
     }
 
 pub returns-in-Err-write_chunk : goal.returns-in-Err-write_chunk
@@ -55,12 +55,12 @@ returns-in-Err-write_chunk g c =
     let second = c.in-Ok.ensures in
     let two : length (x ++ y) ≡ c.in_ok-first.first + c.in-Ok.count = omega (arith, length-append x y, first.size, second.size) in
     record {
-      size = search rules;
-      whole = search rules;
+      size = tt;
+      whole = tt;
       part =
           Appends-part _ _ _ (x ++ y) z [] _ (c.in_ok-first.first + c.in-Ok.count) c.in-Err-write_chunk.part.gone (is ∙ sym (append-nil ((x ++ y) ++ z))) two e.missing
           (Appends-two _ _ _ x y (x ++ y) refl first.whole second.whole) e.part;
       missing = omega (arith, e.missing, first.size, second.size, size);
       small = omega (arith, e.few, first.small, second.small);
-      cause = search rules;
+      cause = grind arith;
     }

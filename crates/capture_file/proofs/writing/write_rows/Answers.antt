@@ -37,10 +37,10 @@ returns-in-Err g c =
     let more = k.after j (omega (arith, c.loop-j-test.true, c.blocks_for-j-end.ensures)) in
     let front = header_of a.version a.bits ++ blocks_below j x y z in
     record {
-      whole = search rules;
+      whole = tt;
       part = Appends-part _ _ _ front (block j x y z) more.0 _ c.loop-j.gone c.in-Err.part.gone more.1 (sym i.gone) c.in-Err.ensures.missing i.grew c.in-Err.ensures.part;
       missing = omega (arith, c.in-Err.ensures.missing, i.gone, ap length more.1, length-append (front ++ block j x y z) more.0, length-append front (block j x y z));
-      cause = search rules;
+      cause = grind arith;
     }
 
 pub returns-clause-whole : goal.returns-clause-whole

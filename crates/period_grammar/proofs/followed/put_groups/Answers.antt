@@ -1,4 +1,5 @@
 use Rattle.std.proofs.Common.{◌≡◌, refl, true, arith}
+use Rattle.std.proofs.lemmas.Grind.{common_steps, elements}
 use Rattle.std.proofs.lemmas.List.Elements.{All-nil}
 use Rattle.period_grammar.specs.Balanced.{is_pixel}
 use Rattle.period_grammar.proofs.Groups.{none_put, group_bytes, group_followed, group_pixels, group_before}
@@ -12,3 +13,9 @@ returns-then-not-are_enough-clause-put c = grind (arith, group_before)
 
 pub loop-at-preserved : goal.loop-at-preserved
 loop-at-preserved c = grind (arith, group_bytes, group_pixels, group_followed)
+
+pub first-group-requires : goal.first-group-requires
+first-group-requires c = grind (arith, common_steps)
+
+pub put_group-next-requires-clause-group : goal.put_group-next-requires-clause-group
+put_group-next-requires-clause-group c = grind (arith, elements)

@@ -64,3 +64,12 @@ returns-in-Video c = record {
   stands = λ x was.
       video_stands c.args.kept.now c.args.line.now c.args.island.now c.args.n (column_of c.args.column.now) _ _ c.hear-in-Video.ensures.heard x (subst (λ (p : Phase). IsStretchAfter p c.args.kept.now c.args.line.now c.args.island.now c.args.n x) c.in-Video.is was);
 }
+
+pub returns-else-at_least-2-clause-room : goal.returns-else-at_least-2-clause-room
+returns-else-at_least-2-clause-room c = grind (arith, common_steps)
+
+pub tell_guard-requires-then-at_least-2 : goal.tell_guard-requires-then-at_least-2
+tell_guard-requires-then-at_least-2 c = grind (arith, common_steps)
+
+pub tell_guard-requires-then-at_least-2-2 : goal.tell_guard-requires-then-at_least-2-2
+tell_guard-requires-then-at_least-2-2 c = grind (arith, common_steps)

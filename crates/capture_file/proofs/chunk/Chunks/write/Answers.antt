@@ -12,7 +12,7 @@ overflow_add-result-in-Err-write_piece g c = omega (arith, c.in_ok-first.ensures
 
 pub returns-in-Err-write_piece : goal.returns-in-Err-write_piece
 returns-in-Err-write_piece g c = record {
-  whole = search rules;
+  whole = tt;
   part =
       let s = c.args.self.now in
       let a = c.as_bytes.result.now in
@@ -24,5 +24,5 @@ returns-in-Err-write_piece g c = record {
       Appends-part _ _ _ (a ++ b) d [] _ (c.in_ok-first.first + c.in-Ok.count) c.in-Err-write_piece.part.gone is two c.in-Err-write_piece.ensures.missing
       (Appends-two _ _ _ a b (a ++ b) refl c.in_ok-first.ensures.whole c.in-Ok.ensures.whole) c.in-Err-write_piece.ensures.part;
   missing = grind (arith, common_steps);
-  cause = search rules;
+  cause = grind arith;
 }

@@ -1,5 +1,4 @@
-use Rattle.std.proofs.Common.{arith, rules, ◌≡◌, ◌+◌, ◌++◌, List, Bool, ℕ, sym, subst}
-use Rattle.std.proofs.lemmas.Grind.{common_steps}
+use Rattle.std.proofs.Common.{arith, rules, ◌≡◌, ◌+◌, ◌++◌, List, Bool, ℕ, length, length-append, ap, sym, subst}
 use Rattle.capture_file.specs.Layout.{packed}
 use Rattle.capture_file.specs.Captures.{Stands, StopsIn, IsFault, place_of}
 use Rattle.capture_file.specs.Slips.{SaysFaulty}
@@ -10,24 +9,24 @@ use Rattle.capture_file.proofs.slipping.Rows.read_block.Goals as goal
 
 pub returns-in-Err : goal.returns-in-Err
 returns-in-Err g c = record {
-  below = search rules;
-  blue = search rules;
-  green = search rules;
-  red = search rules;
-  ok = search rules;
-  none = search rules;
+  below = tt;
+  blue = tt;
+  green = tt;
+  red = tt;
+  ok = λ taken s. tt;
+  none = tt;
   err = λ bytes taken e s.
       let a = c.args.heading in
       let o = c.args.self.now in
       let p = λ (fault : CaptureFault). IsFault (taken ++ bytes) fault × StopsIn a.bits c.args.j taken (place_of fault) in
       subst (λ r. SaysFaulty p r) (sym c.from.ensures) (faulty_of p c.in-Err.error (c.in-Err.ensures.err bytes taken o.blue o.green o.red e s));
-  part = search rules;
-  full = search rules;
-  taken = search rules;
-  unplaced = search rules;
-  unwritten = search rules;
-  caused = search rules;
-  later = search rules;
+  part = grind arith;
+  full = grind arith;
+  taken = c.in-Err.ensures.taken;
+  unplaced = grind arith;
+  unwritten = grind arith;
+  caused = grind arith;
+  later = c.in-Err.ensures.later;
 }
 
 -- a block after the blocks before it
@@ -39,10 +38,10 @@ more version counts j taken x y z a b d u v w eu ev ew s =
 
 pub returns-in-Ok : goal.returns-in-Ok
 returns-in-Ok g c = record {
-  below = search rules;
-  blue = grind (arith, common_steps);
-  green = grind (arith, common_steps);
-  red = grind (arith, common_steps);
+  below = λ _. c.in-Ok-true.ensures.below c.in-Ok-true.field-0-test;
+  blue = λ _. let more = ap length c.in-Ok.ensures.blue in omega (arith, length-append c.args.self.now.blue c.read_next.new.self.blue, c.requires.blue, c.in-Ok-true.ensures.blue c.in-Ok-true.field-0-test);
+  green = λ _. let more = ap length c.in-Ok.ensures.green in omega (arith, length-append c.args.self.now.green c.read_next.new.self.green, c.requires.green, c.in-Ok-true.ensures.green c.in-Ok-true.field-0-test);
+  red = λ _. let more = ap length c.in-Ok.ensures.red in omega (arith, length-append c.args.self.now.red c.read_next.new.self.red, c.requires.red, c.in-Ok-true.ensures.red c.in-Ok-true.field-0-test);
   ok = λ taken s.
       λ _.
       let a = c.args.heading in
@@ -56,13 +55,13 @@ returns-in-Ok g c = record {
         more a.version a.bits c.args.j taken o.blue o.green o.red k.blue k.green k.red n.blue n.green n.red c.in-Ok.ensures.blue c.in-Ok.ensures.green c.in-Ok.ensures.red
             (stands_more a.version a.bits c.args.j taken o.blue o.green o.red k.blue k.green k.red s (e.blue t) (e.green t) (e.red t)),
       );
-  none = search rules;
-  err = search rules;
-  part = search rules;
-  full = search rules;
-  taken = search rules;
-  unplaced = search rules;
-  unwritten = search rules;
-  caused = search rules;
-  later = search rules;
+  none = λ h. cc;
+  err = λ bytes taken e s. tt;
+  part = λ h. cc;
+  full = λ h. cc;
+  taken = c.in-Ok-true.ensures.taken;
+  unplaced = λ h. cc;
+  unwritten = λ h. cc;
+  caused = λ h. cc;
+  later = c.in-Ok-true.ensures.later;
 }

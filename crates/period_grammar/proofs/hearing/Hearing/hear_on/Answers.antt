@@ -51,3 +51,6 @@ returns-then-not-goes_on-clause-count c cs was = grind (arith, still_control, go
 
 pub returns-else-not-goes_on-clause-count : goal.returns-else-not-goes_on-clause-count
 returns-else-not-goes_on-clause-count c cs was = grind (arith, still_control, goes_run, control_goes)
+
+pub returns-in-First : goal.returns-in-First
+returns-in-First c = grind arith

@@ -1,4 +1,5 @@
 use Rattle.std.proofs.Common.{ap, refl, sym, subst, ◌∙◌, ℕ, nat_le, ◌+◌, ◌*◌, arith, ◌<◌}
+use Rattle.std.proofs.lemmas.Grind.{common_steps}
 use Rattle.tmds_word.specs.Column.{column_of}
 use Rattle.period_grammar.specs.Island.{payload}
 use Rattle.period_grammar.specs.After.{after_payload}
@@ -72,3 +73,6 @@ returns-in-Over-clause-reported c rest bytes was = no_notes _ _ c.requires.room 
 pub returns-in-Over-clause-heard : goal.returns-in-Over-clause-heard
 returns-in-Over-clause-heard c rest was =
     after_rest _ rest (column_of c.args.column.now) (subst (λ (l : Left). IsPartsAfter l c.args.self.now.packets c.args.self.now.within c.args.self.now.block (after_payload (column_of c.args.column.now) (payload rest))) (sym c.in-Over.is) (over_stands c.args.self.now.packets c.args.self.now.within c.args.self.now.block c.args.self.now.block (column_of c.args.column.now) (payload rest) (subst (λ (l : Left). IsPartsAfter l c.args.self.now.packets c.args.self.now.within c.args.self.now.block (payload rest)) c.in-Over.is was.stands)))
+
+pub returns-in-Closed-clause-room : goal.returns-in-Closed-clause-room
+returns-in-Closed-clause-room c = grind (arith, common_steps)

@@ -1,4 +1,5 @@
-use Rattle.std.proofs.Common.{◌≡◌, ℕ, ◌++◌, ◌∷◌, [], List, ◌∙◌, ap, sym, subst, refl}
+use Rattle.std.proofs.Common.{◌≡◌, ℕ, ◌++◌, ◌∷◌, [], List, ◌∙◌, ap, sym, subst, refl, arith}
+use Rattle.std.proofs.lemmas.Grind.{common_steps}
 use Rattle.tmds_word.specs.Column.{column_of}
 use Rattle.tmds_code.specs.Coding.{decoded_byte}
 use Rattle.period_grammar.specs.Lines.{IsLineAfter}
@@ -26,3 +27,6 @@ returns-clause-heard c pixels was =
     (λ ws h. subst (λ (w : ℕ). IsLaneAfter c.hear-blue.new.self (ws ++ w ∷ [])) b (c.hear-blue.ensures.heard ws h))
     (λ ws h. subst (λ (w : ℕ). IsLaneAfter c.hear-green.new.self (ws ++ w ∷ [])) g (c.hear-green.ensures.heard ws h))
     (λ ws h. subst (λ (w : ℕ). IsLaneAfter c.hear-red.new.self (ws ++ w ∷ [])) r (c.hear-red.ensures.heard ws h))
+
+pub invariant_of-self-2 : goal.invariant_of-self-2
+invariant_of-self-2 c = grind (arith, common_steps)

@@ -94,3 +94,18 @@ returns c =
           (omega (arith, long, le, c.min-fits.ensures, c.if-pixel-ge4096.false)) (omega (arith, long)) put (sym c.blue.ensures.lane) (sym c.green.ensures.lane) (sym c.red.ensures.lane)
           c.hear_followed.ensures.heard c.hear_followed-2.ensures.heard c.hear_followed-3.ensures.heard);
     }
+
+pub hear_followed-requires-2-clause-few : goal.hear_followed-requires-2-clause-few
+hear_followed-requires-2-clause-few c = grind (arith, common_steps)
+
+pub hear_followed-requires-3-clause-few : goal.hear_followed-requires-3-clause-few
+hear_followed-requires-3-clause-few c = grind (arith, common_steps)
+
+pub hear_followed-requires-clause-few : goal.hear_followed-requires-clause-few
+hear_followed-requires-clause-few c = grind (arith, common_steps)
+
+pub hear_followed-requires-clause-sized : goal.hear_followed-requires-clause-sized
+hear_followed-requires-clause-sized c = grind arith
+
+pub overflow_cast-self : goal.overflow_cast-self
+overflow_cast-self c = grind (arith, common_steps)

@@ -1,4 +1,5 @@
 use Rattle.std.proofs.Common.{rules, ◌≡◌, ℕ, ◌+◌, ◌-◌, ◌≤◌, ◌++◌, List, length, take, drop, ap, subst, ◌∙◌, arith, length-drop}
+use Rattle.std.proofs.lemmas.Grind.{common_steps}
 use Rattle.std.specs.List.{prefix_len}
 use Rattle.std.proofs.lemmas.List.{take-take, length-take-le}
 use Rattle.tmds_word.specs.Column.{Column}
@@ -74,3 +75,24 @@ returns c = record {
   count = search rules;
   heard = search rules;
 }
+
+pub first-requires : goal.first-requires
+first-requires c = grind (arith, common_steps)
+
+pub from-requires-in-loop-at : goal.from-requires-in-loop-at
+from-requires-in-loop-at c = grind (arith, common_steps)
+
+pub hear_each-more-requires : goal.hear_each-more-requires
+hear_each-more-requires c = grind (arith, common_steps)
+
+pub overflow_add-at : goal.overflow_add-at
+overflow_add-at c = grind (arith, common_steps)
+
+pub overflow_add-at-in-loop-at : goal.overflow_add-at-in-loop-at
+overflow_add-at-in-loop-at c = grind (arith, common_steps)
+
+pub overflow_sub-end : goal.overflow_sub-end
+overflow_sub-end c = grind (arith, common_steps)
+
+pub overflow_sub-end-in-loop-at : goal.overflow_sub-end-in-loop-at
+overflow_sub-end-in-loop-at c = grind (arith, common_steps)

@@ -1,4 +1,5 @@
-use Rattle.std.proofs.Common.{◌≡◌, ◌++◌, sym, subst}
+use Rattle.std.proofs.Common.{◌≡◌, ◌++◌, sym, subst, arith}
+use Rattle.std.proofs.lemmas.Grind.{common_steps}
 use Rattle.std.specs.Prelude.{nat_le}
 use Rattle.period_grammar.specs.Heard.{line_at, if_not}
 use Rattle.period_grammar.specs.Events.{long_line}
@@ -26,3 +27,21 @@ returns-else-self-gt4096-clause-reported c pixels whole was =
     subst (λ (s : LineSeen). events (lent s.bytes whole) c.tell_code-3.new.notes ≡ events (lent s.bytes whole) c.args.notes.now ++ line_at c.args.start c.args.from pixels) e
     (noted_pixels l whole c.args.start c.args.from pixels c.args.notes.now c.push.new.self c.tell_code.new.notes c.tell_code-2.new.notes c.tell_code-3.new.notes c.tell_code-3.new.notes
     (subst (λ (s : LineSeen). IsLineAfter s pixels) (sym e) was) c.push.ensures c.tell_code.ensures.reported c.tell_code-2.ensures.reported c.tell_code-3.ensures.reported last)
+
+pub push-requires-then-self-gt4096 : goal.push-requires-then-self-gt4096
+push-requires-then-self-gt4096 c = grind (arith, common_steps)
+
+pub returns-else-self-gt4096-clause-room : goal.returns-else-self-gt4096-clause-room
+returns-else-self-gt4096-clause-room c = grind (arith, common_steps)
+
+pub returns-then-self-gt4096-clause-room : goal.returns-then-self-gt4096-clause-room
+returns-then-self-gt4096-clause-room c = grind (arith, common_steps)
+
+pub tell_code-requires-2-clause-room : goal.tell_code-requires-2-clause-room
+tell_code-requires-2-clause-room c = grind (arith, common_steps)
+
+pub tell_code-requires-3-clause-room : goal.tell_code-requires-3-clause-room
+tell_code-requires-3-clause-room c = grind (arith, common_steps)
+
+pub tell_code-requires-clause-room : goal.tell_code-requires-clause-room
+tell_code-requires-clause-room c = grind (arith, common_steps)
