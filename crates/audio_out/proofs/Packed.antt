@@ -1,5 +1,5 @@
 -- Bits packed into bytes, eight at a time.
-use Rattle.std.proofs.Common.{◌≡◌, ℕ, ◌+◌, ◌*◌, ◌/◌, ◌%◌, ◌^◌, ◌<◌, ◌≤◌, Bool, false, List, [], ◌∷◌, length, take, drop, get_or, ap, ◌∙◌, sym, arith, length-drop}
+use Rattle.std.proofs.Common.{◌≡◌, ℕ, ◌+◌, ◌*◌, ◌/◌, ◌%◌, ◌^◌, ◌<◌, ◌≤◌, Bool, true, false, List, [], ◌∷◌, length, take, drop, get_or, ap, ◌∙◌, sym, arith, length-drop}
 use mir.Val.{bool_byte}
 use Rattle.std.proofs.lemmas.List.{get_or-drop}
 use Rattle.tmds_word.specs.Bits.{number, bytes_of}
@@ -8,13 +8,14 @@ use Rattle.tmds_word.proofs.Bytes.{bytes_of-places}
 
 number_first : (b : Bool) (xs : List Bool) → number (b ∷ xs) ≡ bool_byte b + 2 * number xs
 unfolding number
-number_first b xs = grind arith
+number_first true xs = omega arith
+number_first false xs = omega arith
 
 front_eight : (xs : List Bool) → 8 ≤ length xs → number (take 8 xs)
     ≡ bool_byte (get_or xs 0 false) + 2 * bool_byte (get_or xs 1 false) + 4 * bool_byte (get_or xs 2 false) + 8 * bool_byte (get_or xs 3 false)
     + 16 * bool_byte (get_or xs 4 false) + 32 * bool_byte (get_or xs 5 false) + 64 * bool_byte (get_or xs 6 false) + 128 * bool_byte (get_or xs 7 false)
 unfolding number
-front_eight (a ∷ (b ∷ (c ∷ (d ∷ (e ∷ (f ∷ (g ∷ (h ∷ xs)))))))) le = grind (arith, number_first)
+front_eight (a ∷ (b ∷ (c ∷ (d ∷ (e ∷ (f ∷ (g ∷ (h ∷ xs)))))))) le = omega (arith, number_first)
 front_eight [] le = absurd (omega arith)
 front_eight (a ∷ []) le = absurd (omega arith)
 front_eight (a ∷ (b ∷ [])) le = absurd (omega arith)
