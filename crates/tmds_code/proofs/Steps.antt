@@ -43,7 +43,7 @@ step_balance k w lt low = omega (arith, ints, ten_bits w lt, low)
 entry_holds : ℕ → ℕ → Bool
 entry_holds k b = slice_index STEPPED (256 * k + b) == word_after k b + 16777216 * (k + ones (word_bits (word_after k b)) - 5)
 
--- the same of a row, which is cut out once: an entry of the whole table is far from its beginning
+-- the same of a row, which is cut out of the table once: an entry is read in as many steps as stand before it
 row_holds : ℕ → List ℕ → Bool
 row_holds k row = passes_below 256 (λ b. get_or row b 0 == word_after k b + 16777216 * (k + ones (word_bits (word_after k b)) - 5))
 

@@ -4,7 +4,7 @@ use Rattle.std.proofs.lemmas.Nat.{ones_cat}
 use Rattle.tmds_word.specs.Bits.{bits_of, word_bits, ones, zeros, turns, unlike}
 use Rattle.tmds_word.proofs.Below.{passes_below, passes_at}
 
--- the ones of a number, as those of its parts: to count computes in as many steps as a number is large
+-- the ones of a number are those of its two parts: counting takes as many steps as the number is large
 ones_parted : (n : ℕ) → count_ones n ≡ count_ones (n / 32) + count_ones (n % 32)
 ones_parted n =
     let whole : n / 32 * 32 + n % 32 ≡ n = omega arith in
