@@ -1,5 +1,5 @@
 -- Bits packed into bytes, eight at a time.
-use Rattle.std.proofs.Common.{◌≡◌, ℕ, ◌+◌, ◌*◌, ◌/◌, ◌%◌, ◌^◌, ◌<◌, ◌≤◌, Bool, true, false, List, [], ◌∷◌, length, take, drop, get_or, ap, ◌∙◌, sym, arith, length-drop}
+use Rattle.std.proofs.Common.{◌≡◌, ℕ, ◌+◌, ◌*◌, ◌/◌, ◌%◌, ◌^◌, ◌<◌, ◌≤◌, Bool, false, List, [], ◌∷◌, length, take, drop, get_or, ap, ◌∙◌, sym, arith, length-drop}
 use mir.Val.{bool_byte}
 use Rattle.std.proofs.lemmas.List.{get_or-drop}
 use Rattle.tmds_word.specs.Bits.{number, bytes_of}
@@ -8,8 +8,7 @@ use Rattle.tmds_word.proofs.Bytes.{bytes_of-places}
 
 number_first : (b : Bool) (xs : List Bool) → number (b ∷ xs) ≡ bool_byte b + 2 * number xs
 unfolding number
-number_first true xs = omega arith
-number_first false xs = omega arith
+number_first b xs = grind arith
 
 front_eight : (xs : List Bool) → 8 ≤ length xs → number (take 8 xs)
     ≡ bool_byte (get_or xs 0 false) + 2 * bool_byte (get_or xs 1 false) + 4 * bool_byte (get_or xs 2 false) + 8 * bool_byte (get_or xs 3 false)

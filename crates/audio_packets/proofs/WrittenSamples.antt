@@ -1,7 +1,6 @@
 -- Samples that were written are read.
 use Rattle.std.proofs.Common.{◌≡◌, ℕ, zero, suc, ◌+◌, ◌*◌, ◌/◌, ◌%◌, ◌<◌, ◌≤◌, ◌^◌, Bool, true, false, List, [], ◌∷◌, length, map, get_or, count_ones, ◌==◌, if◌then◌else◌, None, Ok, refl, ap, ◌∙◌, sym, arith, All}
 use Rattle.std.proofs.Math.Nat.{pow-suc}
-use Rattle.std.proofs.lemmas.Nat.{shr-shr}
 use Rattle.std.proofs.lemmas.List.{length-map}
 use Rattle.std.proofs.lemmas.List.Elements.{All-get_or}
 use Rattle.tmds_word.specs.Bits.{number}
@@ -20,7 +19,7 @@ use Rattle.audio_packets.proofs.Marks.{four_bits}
 -- ---- a body
 
 value_again : (v : ℕ) → v % 256 + 256 * (v / 256 % 256) + 65536 * (v / 65536) ≡ v
-value_again v = omega (arith, shr-shr v 8 8)
+value_again v = omega arith
 
 -- the byte of both sides' flags and parity bits
 both_sides : ℕ → ℕ → ℕ → ℕ → ℕ
