@@ -28,7 +28,7 @@ all_high = refl
 all_cells : (level : Bool) → passes_below 16 (λ n. passes_below 256 (cells_hold level n)) ≡ true
 unfolding passes_below cells_hold carries bits_of same
 all_cells true = all_high
-all_cells false = grind arith
+all_cells false = refl
 
 -- four bits have one byte of half cells
 pub cells_are : (level : Bool) (n byte : ℕ) → n < 16 → byte < 256

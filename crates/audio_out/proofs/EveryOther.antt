@@ -194,4 +194,6 @@ gathered_is n q lt =
     let m = x / 2 ^ p in
     let none : p + 0 ≡ p = omega arith in
     let at : (r : ℕ) → r < 8 → m / 2 ^ r % 2 ≡ bit_at n (p + 2 * r) = λ r lr. ap (λ k. k % 2) (shr-shr x p r) ∙ gathered_at n q r lt lr in
-    grind (arith, eight_bits)
+    let one : m ≡ m / 2 ^ 0 = omega arith in
+    let first : m % 2 ≡ bit_at n p = ap (λ k. k % 2) one ∙ at 0 (omega arith) ∙ ap (bit_at n) none in
+    eight_bits m ∙ omega (arith, first, at 1 (omega arith), at 2 (omega arith), at 3 (omega arith), at 4 (omega arith), at 5 (omega arith), at 6 (omega arith), at 7 (omega arith))

@@ -14,7 +14,7 @@ front_eight : (xs : List Bool) → 8 ≤ length xs → number (take 8 xs)
     ≡ bool_byte (get_or xs 0 false) + 2 * bool_byte (get_or xs 1 false) + 4 * bool_byte (get_or xs 2 false) + 8 * bool_byte (get_or xs 3 false)
     + 16 * bool_byte (get_or xs 4 false) + 32 * bool_byte (get_or xs 5 false) + 64 * bool_byte (get_or xs 6 false) + 128 * bool_byte (get_or xs 7 false)
 unfolding number
-front_eight (a ∷ (b ∷ (c ∷ (d ∷ (e ∷ (f ∷ (g ∷ (h ∷ xs)))))))) le = grind (arith, number_first)
+front_eight (a ∷ (b ∷ (c ∷ (d ∷ (e ∷ (f ∷ (g ∷ (h ∷ xs)))))))) le = omega (arith, number_first)
 front_eight [] le = absurd (omega arith)
 front_eight (a ∷ []) le = absurd (omega arith)
 front_eight (a ∷ (b ∷ [])) le = absurd (omega arith)

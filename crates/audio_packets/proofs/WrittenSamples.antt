@@ -94,7 +94,13 @@ nth_again : (samples : List Sample) (sync : List ℕ) (k : ℕ) (s : Sample) →
     → get_or samples k s ≡ s → body_of (samples_packet samples sync) k ≡ sample_body s
     → get_or (map (λ x. x.start) samples) k false ≡ s.start → get_or (map (λ x. x.flat) samples) k false ≡ s.flat
     → note_at (samples_packet samples sync) k ≡ even_note (k, s)
-nth_again samples sync k s few fits lt here body start flat = grind (arith, length-map, note_again, All-get_or, start_again, flat_again)
+nth_again samples sync k s few fits lt here body start flat =
+    let starts = map (λ (x : Sample). x.start) samples in
+    let flats = map (λ (x : Sample). x.flat) samples in
+    let m : length starts ≡ length samples = length-map samples _ in
+    let n : length flats ≡ length samples = length-map samples _ in
+    let first = start_again flats starts k (omega arith) (omega arith) (omega arith) ∙ start in
+    note_again (samples_packet samples sync) k s (rw here at (All-get_or IsSample samples k s lt fits)) body first (flat_again flats starts k (omega arith) (omega arith) ∙ flat)
 
 pub written_samples_are_read : WrittenSamplesAreRead
 unfolding number

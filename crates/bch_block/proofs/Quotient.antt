@@ -35,10 +35,14 @@ unfolding product
 length-product [] = refl
 length-product (b ∷ q) = omega (arith, length-product q)
 
+-- the division takes the bit out again
+step-before : (b : Bool) (p : Product) → step (before b p).front (xor p.front.x0 b) ≡ p.front
+step-before b p = λ i. record { x7 = xor_twice p.front.x7 b i; x6 = xor_twice p.front.x6 b i; x5 = p.front.x5; x4 = p.front.x4; x3 = p.front.x3; x2 = p.front.x2; x1 = p.front.x1; x0 = xor_twice p.front.x0 b i }
+
 product_leaves_nothing : (q : List Bool) → remainder_from (product q).front (product q).rest ≡ nothing
 unfolding product
 product_leaves_nothing [] = refl
-product_leaves_nothing (b ∷ q) = grind (arith, product, xor_twice, product_leaves_nothing q)
+product_leaves_nothing (b ∷ q) = ap (λ r. remainder_from r (product q).rest) (step-before b (product q)) ∙ product_leaves_nothing q
 
 -- the bits that the division drops
 quotient : Remainder → List Bool → List Bool

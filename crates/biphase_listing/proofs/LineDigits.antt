@@ -69,8 +69,17 @@ code n = slice_index lower_digits (n % 16)
 abbrev codes_of : ℕ → List ℕ
 codes_of v = code (v / 1048576) ∷ code (v / 65536) ∷ code (v / 4096) ∷ code (v / 256) ∷ code (v / 16) ∷ code v ∷ []
 
+-- the two digits of a byte
+byte_codes : (n m : ℕ) → m ≡ n / 16 → code m ∷ code n ∷ [] ≡ two (n % 256)
+byte_codes n m e =
+    let high : m % 16 ≡ n % 256 / 16 = omega (arith, e) in
+    let low : n % 16 ≡ n % 256 % 16 = omega arith in
+    λ i. slice_index lower_digits (high i) ∷ slice_index lower_digits (low i) ∷ []
+
 codes_are : (v : ℕ) → codes_of v ≡ value_digits v
-codes_are v = grind (arith, six_digits)
+codes_are v =
+    (λ i. byte_codes (v / 65536) (v / 1048576) (omega arith) i ++ (byte_codes (v / 256) (v / 4096) (omega arith) i ++ byte_codes v (v / 16) refl i))
+    ∙ sym (six_digits v)
 
 digit_fits : (n : ℕ) → code n < 256
 digit_fits n = code_below (n % 16) (omega arith)

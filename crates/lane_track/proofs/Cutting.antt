@@ -1,5 +1,5 @@
 -- Runs of lists that grow, and of lists that slipped.
-use Rattle.std.proofs.Common.{refl, ◌≡◌, ℕ, ◌+◌, ◌-◌, ◌*◌, ◌≤◌, Bool, List, ◌++◌, length, take, drop, ap, ◌∙◌, arith, length-take, length-drop, length-append}
+use Rattle.std.proofs.Common.{refl, ◌≡◌, ℕ, ◌+◌, ◌-◌, ◌*◌, ◌≤◌, Bool, List, ◌++◌, length, take, drop, ap, ◌∙◌, sym, arith, length-take, length-drop, length-append}
 use Rattle.std.proofs.lemmas.List.{drop-drop, take-append-le, drop-append-le, length-take-le}
 use Rattle.lane_align.specs.Lanes.{IsRun}
 use Rattle.lane_align.proofs.Controls.{control_within}
@@ -50,4 +50,8 @@ run_after xs place dropped p long after run k lt =
     same_control ys xs (p + 10 * k) (p + dropped + 10 * k) (after_piece xs place dropped p k long after) (omega arith) (run k lt)
 
 pub run_stays_after : (xs : List Bool) (place dropped p : ℕ) → place + dropped ≤ length xs → place ≤ p → IsRun xs (p + dropped) → IsRun (slipped xs place dropped) p
-run_stays_after xs place dropped p long after run k lt = grind (arith, control_within, length_slipped, same_control, after_piece)
+run_stays_after xs place dropped p long after run k lt =
+    let from = p + dropped + 10 * k in
+    let within = control_within xs from (run k lt) in
+    let len = length_slipped xs place dropped long in
+    same_control xs (slipped xs place dropped) from (p + 10 * k) (sym (after_piece xs place dropped p k long after)) (omega arith) (run k lt)

@@ -109,7 +109,13 @@ stray_here bits xs base count from until phase lock p holds long same few was fi
     let after = first.other.after in
     let before = first.other.before in
     record {
-      stray = grind (arith, run_held);
+      stray = record {
+        lock = lock;
+        is_lock = was.lock.0;
+        past = omega arith;
+        apart = λ h. first.other.apart (omega arith);
+        run = run_held bits xs base count p holds (omega arith) first.other.run;
+      };
       least = λ q less stray. elim (cases_lt q (base + from)) [
         | inl early ↦ was.none q early stray
         | inr here ↦ first.least (q - base) (omega arith) (other_of bits xs base count from until phase lock q holds long same few was.lock.0 here (omega arith) stray)

@@ -164,6 +164,8 @@ now_received r fed now p taken team d m x y z s0 s1 s2 n0 n1 n2 all took long st
       second = subst (λ n. IsLane team.second now.green n (rested (end_if s1 n1))) more (lane_after _ m y s1 _ _ _ _ _ n1 all.second);
       third = subst (λ n. IsLane team.third now.red n (rested (end_if s2 n2))) more (lane_after _ m z s2 _ _ _ _ _ n2 all.third);
       found =
-          let cut : AreCutFrom now.blue now.green now.red (fed_past p s0 s1 s2 n0 n1 n2) = grind (arith, ended_cut) in
-          subst (IsFoundAt now) (sym found) (found_by now (fed_past p s0 s1 s2 n0 n1 n2) o cut answer);
+          let first = ended_cut s0 now.blue n0 all.first.pushed.cut in
+          let second = ended_cut s1 now.green n1 all.second.pushed.cut in
+          let third = ended_cut s2 now.red n2 all.third.pushed.cut in
+          subst (IsFoundAt now) (sym found) (found_by now (fed_past p s0 s1 s2 n0 n1 n2) o (record { first = first; second = second; third = third }) answer);
     }

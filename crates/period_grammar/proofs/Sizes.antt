@@ -179,7 +179,11 @@ take_at_most (suc n) (c ∷ cs) = let le = take_at_most n cs in omega (arith, le
 line_of_sized : (b : ℕ) (cs : List Column) → Sized (line_of b cs)
 unfolding line_of
 line_of_sized b [] = (tt, tt)
-line_of_sized b (c ∷ cs) = grind (arith, take_at_most 4095 cs, length-line_bytes, whole_pixels, bytes_below, sized_append, codes_of_sized, if_not_sized)
+line_of_sized b (c ∷ cs) =
+    let pixels = c ∷ take 4095 cs in
+    let le = take_at_most 4095 cs in
+    let long = length-line_bytes pixels in
+    ((whole_pixels pixels, omega (arith, long), omega (arith, long, le), bytes_below pixels), sized_append _ _ (codes_of_sized (b + 2) pixels) (if_not_sized _ _ tt))
 
 -- An island.
 block_fault_sized : (s b : ℕ) (v : Verdict) → Sized (block_fault s b v)

@@ -1,7 +1,8 @@
 -- A coder's disparity stays even and from -8 to 8: each byte at each such disparity is computed.
-use Rattle.std.proofs.Common.{◌≡◌, ℕ, ◌+◌, ◌-◌, ◌*◌, ◌<◌, ◌≤◌, Bool, true, refl, nat_le, ◌==◌, ◌&&◌, arith, slice_index, eqb-true}
+use Rattle.std.proofs.Common.{◌≡◌, ℕ, ◌+◌, ◌-◌, ◌*◌, ◌<◌, ◌≤◌, Bool, true, List, drop, get_or, refl, sym, ◌∙◌, nat_le, ◌==◌, ◌&&◌, arith, slice_index, eqb-true}
 use Rattle.std.specs.Prelude.{pos, ◌+ℤ◌, ◌-ℤ◌}
 use Rattle.std.proofs.lemmas.Int.{ints}
+use Rattle.std.proofs.lemmas.List.{get_or-drop}
 use borrow.Author.Tests.{leb-true}
 use Rattle.tmds_word.specs.Bits.{bits_of, word_bits, number, ones, zeros, balance}
 use Rattle.tmds_word.proofs.Below.{passes_below, passes_at, and-left, and-right}
@@ -42,9 +43,19 @@ step_balance k w lt low = omega (arith, ints, ten_bits w lt, low)
 entry_holds : ℕ → ℕ → Bool
 entry_holds k b = slice_index STEPPED (256 * k + b) == word_after k b + 16777216 * (k + ones (word_bits (word_after k b)) - 5)
 
+-- the same of a row, which is cut out of the table once: an entry is read in as many steps as stand before it
+row_holds : ℕ → List ℕ → Bool
+row_holds k row = passes_below 256 (λ b. get_or row b 0 == word_after k b + 16777216 * (k + ones (word_bits (word_after k b)) - 5))
+
+all_rows : passes_below 9 (λ k. row_holds k (drop (256 * k) STEPPED)) ≡ true
+unfolding passes_below row_holds word_after coded_at coded_bits balanced minimised takes_xnor bits_of word_bits number ones zeros balance
+all_rows = refl
+
 all_entries : passes_below 9 (λ k. passes_below 256 (entry_holds k)) ≡ true
-unfolding passes_below entry_holds word_after coded_at coded_bits balanced minimised takes_xnor bits_of word_bits number ones zeros balance
-all_entries = refl
+unfolding row_holds entry_holds
+all_entries =
+    (λ i. passes_below 9 (λ k. passes_below 256 (λ b. sym (get_or-drop (256 * k) STEPPED b 0) i == word_after k b + 16777216 * (k + ones (word_bits (word_after k b)) - 5))))
+    ∙ all_rows
 
 pub table_entry : (k b : ℕ) → k ≤ 8 → b < 256
     → slice_index STEPPED (256 * k + b) ≡ coded_word (pos (2 * k) -ℤ pos 8) b + 16777216 * (k + ones (word_bits (coded_word (pos (2 * k) -ℤ pos 8) b)) - 5)

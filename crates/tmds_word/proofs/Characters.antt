@@ -38,7 +38,11 @@ first_words-push zero w row len below =
     ap (λ xs. words_of 1 (xs ++ word_bits w)) none
     ∙ ap (λ xs. words_of 1 xs) (sym (append-nil (word_bits w)))
     ∙ first_words-one w [] below
-first_words-push (suc n) w row len below = grind (arith, length-drop, take-append-le, drop-append-le, first_words-push n w)
+first_words-push (suc n) w row len below =
+    let first = take-append-le 10 row (word_bits w) (omega arith) in
+    let later = drop-append-le 10 row (word_bits w) (omega arith) in
+    (λ i. number (first i) ∷ words_of (suc n) (later i))
+    ∙ ap (λ ws. number (take 10 row) ∷ ws) (first_words-push n w (drop 10 row) (omega (arith, length-drop 10 row)) below)
 
 pub words_of-push : (row : List Bool) (w : ℕ) → length row % 10 ≡ 0 → w < 1024 → all_words (row ++ word_bits w) ≡ all_words row ++ w ∷ []
 unfolding all_words
@@ -53,7 +57,10 @@ words_of-push row w whole below =
 row_bits-first_words : (n : ℕ) (row : List Bool) → length row ≡ 10 * n → row_bits (words_of n row) ≡ row
 unfolding words_of row_bits
 row_bits-first_words zero row len = sym (no_length row (omega arith))
-row_bits-first_words (suc n) row len = grind (arith, length-take-le, length-drop, word_of_ten, take-append-drop, row_bits-first_words n)
+row_bits-first_words (suc n) row len =
+    let first = word_of_ten (take 10 row) (length-take-le 10 row (omega arith)) in
+    let later = row_bits-first_words n (drop 10 row) (omega (arith, length-drop 10 row)) in
+    (λ i. first i ++ later i) ∙ take-append-drop 10 row
 
 -- the bits of a row's characters are the row
 pub row_bits-words_of : (row : List Bool) → length row % 10 ≡ 0 → row_bits (all_words row) ≡ row

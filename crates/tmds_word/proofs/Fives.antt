@@ -12,7 +12,7 @@ use Rattle.tmds_word.proofs.Rows.{joined_below}
 use Rattle.tmds_word.proofs.Bytes.{bytes_of-bits}
 
 take_four : (ws : List ℕ) (at x y z u : ℕ) → at + 4 ≤ length ws → take 4 (drop at ws) ≡ get_or ws at x ∷ get_or ws (at + 1) y ∷ get_or ws (at + 2) z ∷ get_or ws (at + 3) u ∷ []
-take_four ws at x y z u room = grind (arith, drop-cons)
+take_four ws at x y z u room = grind (arith, drop-cons ws at x (omega arith), drop-cons ws (at + 1) y (omega arith), drop-cons ws (at + 2) z (omega arith), drop-cons ws (at + 3) u (omega arith))
 
 pub four_of : (ws : List ℕ) (at a b c d x y z u : ℕ) → at + 4 ≤ length ws → a < 1024 → b < 1024 → c < 1024
     → a ≡ get_or ws at x → b ≡ get_or ws (at + 1) y → c ≡ get_or ws (at + 2) z → d ≡ get_or ws (at + 3) u

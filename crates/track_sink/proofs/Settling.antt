@@ -11,7 +11,7 @@ use Rattle.link_sink.specs.declared.hear.Outcome.{Outcome}
 use Rattle.track_sink.specs.TrackEvents.{TrackEvent, track_events_of}
 use Rattle.track_sink.specs.Epochs.{lane_of, rest_of, front_of, HasNoEnd, IsTrack}
 use Rattle.track_sink.specs.Tracks.{HasTracked}
-use Rattle.track_sink.specs.Lanes.{EndsAt}
+use Rattle.track_sink.specs.Lanes.{AreSought, EndsAt}
 use Rattle.track_sink.specs.Trackers.{most_of, most_fed, Follows, Carries, HasLooked, Stays, CanClose, Stands, IsSettled}
 use Rattle.track_sink.specs.declared.lanes.Stray.{Stray}
 use Rattle.track_sink.specs.declared.tracker.Tracker.{Tracker}
@@ -57,7 +57,12 @@ pub settles : (u w : Tracker) (fed : Fed) (reported : List TrackEvent) (us : Lis
     → w.start ≡ u.start → w.handed ≡ u.handed + (u.seen / 8 * 8 - u.handed) → w.seen ≡ u.seen
     → w.lanes.first.scout ≡ u.lanes.first.scout → w.lanes.second.scout ≡ u.lanes.second.scout → w.lanes.third.scout ≡ u.lanes.third.scout
     → Follows fed w.start w.handed w.begun w.epochs w.aligned reported → IsSettled w fed reported
-settles u w fed reported us looked whole room cu cw es eh en sx sy sz follows = grind (arith, can_settle)
+settles u w fed reported us looked whole room cu cw es eh en sx sy sz follows =
+    let few = can_settle u fed cu looked.0 whole room in
+    let was = looked.0.sought in
+    let sought : AreSought w.lanes w.seen (rest_of w.start fed) = record { first = rw (es, en, sx) was.first; second = rw (es, en, sy) was.second; third = rw (es, en, sz) was.third } in
+    let sure : HasLooked w fed = record { sought = sought; after = omega arith; decided = rw (es, en) looked.0.decided } in
+    record { stands = record { carries = cw; looked = sure; follows = follows; whole = omega arith; room = omega arith }; all = omega arith; near = omega arith }
 
 -- The end.
 
