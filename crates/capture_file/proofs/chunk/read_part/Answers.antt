@@ -1,4 +1,5 @@
 use Rattle.std.proofs.Common.{arith, ◌≡◌, ◌∙◌, ◌+◌, ◌++◌, [], ap, take, subst, append-nil, length-take-le}
+use Rattle.std.proofs.lemmas.Grind.{common_steps}
 use Rattle.std.specs.Io.KnownBytes.{IsAtEnd}
 use Rattle.capture_file.proofs.Rooms.{none_packed}
 use Rattle.std.proofs.lemmas.List.{take_all}
@@ -23,3 +24,9 @@ returns-then-read-size-clause-err g c bytes front e w at =
     let s = consumed _ _ bytes read e c.in-Ok.ensures.bytes in
     let none : s.0 ≡ [] = subst (λ o. IsAtEnd o) s.2 (c.in-Ok.ensures.end c.if-read-size.true) in
     grind (arith, length-take-le, short_piece, append-nil, take_bytes)
+
+pub returns-then-count-eq0-clause-ok : goal.returns-then-count-eq0-clause-ok
+returns-then-count-eq0-clause-ok c = grind (arith, common_steps)
+
+pub returns-then-is_padded-clause-ok : goal.returns-then-is_padded-clause-ok
+returns-then-is_padded-clause-ok c = grind (arith, common_steps)

@@ -14,3 +14,6 @@ returns-in-Err-clause-err g c bytes e =
     let len : length head ≡ 8 = grind (arith, common_steps, c.read_full.auto.into) in
     let s = consumed _ _ bytes (take c.in-Ok.count head) e c.in-Ok.ensures.bytes in
     subst (λ bs. IsEarlyFault bs c.in-Err.fault) (sym s.1) (c.in-Err.ensures.err s.0 (λ less. subst (λ o. IsAtEnd o) s.2 (c.in-Ok.ensures.end (omega (arith, less, len)))))
+
+pub returns-in-Ok-judge_first-clause-ok : goal.returns-in-Ok-judge_first-clause-ok
+returns-in-Ok-judge_first-clause-ok c = grind (arith, common_steps)

@@ -64,3 +64,9 @@ returns-in-Err-write_chunk g c =
       small = omega (arith, e.few, first.small, second.small);
       cause = grind arith;
     }
+
+pub write_chunk-requires-2-clause-below : goal.write_chunk-requires-2-clause-below
+write_chunk-requires-2-clause-below c = grind arith
+
+pub write_chunk-requires-3-clause-below : goal.write_chunk-requires-3-clause-below
+write_chunk-requires-3-clause-below c = grind arith

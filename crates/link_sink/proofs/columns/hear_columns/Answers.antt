@@ -1,4 +1,5 @@
 use Rattle.std.proofs.Common.{◌++◌, List, take, arith, subst, ap, ◌∙◌, append_assoc, length-drop}
+use Rattle.std.proofs.lemmas.Grind.{common_steps}
 use Rattle.std.proofs.lemmas.List.{take_all, take-append-drop}
 use Rattle.std.proofs.Math.Seq.{take-add}
 use Rattle.tmds_word.specs.Column.{Column}
@@ -38,3 +39,9 @@ hear_part-requires-clause-few g c =
 
 pub hear_part-requires-clause-heard : goal.hear_part-requires-clause-heard
 hear_part-requires-clause-heard g c = (c.requires.heard.0 ++ take c.loop-j.j (columns_in c.args.columns), c.loop-j.invariant.stands c.requires.heard.0 c.requires.heard.1)
+
+pub hear_part-requires-clause-some : goal.hear_part-requires-clause-some
+hear_part-requires-clause-some c = grind (arith, common_steps)
+
+pub overflow_add-j : goal.overflow_add-j
+overflow_add-j c = grind (arith, common_steps)

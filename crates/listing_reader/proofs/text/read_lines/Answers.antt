@@ -1,4 +1,4 @@
-use Rattle.std.proofs.Common.{rules}
+use Rattle.std.proofs.Common.{rules, arith}
 use Rattle.outside_io.proofs.Consumed.{takes_more}
 use Rattle.listing_reader.proofs.text.read_lines.Goals as goal
 
@@ -16,3 +16,6 @@ loop-lines-preserved g c = record {
   few = search rules;
   later = search rules;
 }
+
+pub loop-lines-smaller : goal.loop-lines-smaller
+loop-lines-smaller c = grind arith

@@ -1,4 +1,5 @@
 use Rattle.std.proofs.Common.{◌≡◌, ℕ, ◌%◌, ◌≤◌, ◌<◌, ◌+◌, ◌-◌, ◌*◌, ◌/◌, ◌++◌, List, [], length, map, take, drop, min, subst, refl, sym, ◌∙◌, arith, length-append, append-nil, take_all, length-take, length-drop}
+use Rattle.std.proofs.lemmas.Grind.{common_steps}
 use Rattle.tmds_word.specs.Column.{Column}
 use Rattle.tmds_code.specs.Lanes.{IsLane}
 use Rattle.island_pack.specs.Periods.{Pixel, pixels_of}
@@ -158,3 +159,9 @@ rest-requires-clause-whole g c = rest_whole (length c.args.bytes.now) _ c.requir
 
 pub rest-requires-clause-few : goal.rest-requires-clause-few
 rest-requires-clause-few g c = rest_few (length c.args.bytes.now) _ c.requires.whole (rest_size c.args.bytes.now)
+
+pub block-requires-clause-room : goal.block-requires-clause-room
+block-requires-clause-room c = grind (arith, common_steps)
+
+pub rest-requires-clause-room : goal.rest-requires-clause-room
+rest-requires-clause-room c = grind (arith, common_steps)

@@ -1,4 +1,5 @@
 use Rattle.std.proofs.Common.{◌≡◌, ℕ, ◌+◌, ◌<◌, min, map, take, get_or, length, List, [], ◌∷◌, ◌++◌, Some, sym, ap, ◌∙◌, append-nil, append_assoc, arith}
+use Rattle.std.proofs.lemmas.Grind.{common_steps}
 use Rattle.std.proofs.lemmas.List.{take_more, length-take}
 use Rattle.source_end.specs.Raster.{Line, active, row_line, row_room, whole, laid, total}
 use Rattle.source_end.specs.Lines.{left}
@@ -41,3 +42,9 @@ loop-i-preserved c =
           let here = whole mode (row_line row) front (Some row) in
           grind (arith, one_time, size_append, length-take, size_rows, is_mode, rows_take, append_assoc);
     }
+
+pub returns-clause-parts : goal.returns-clause-parts
+returns-clause-parts c = grind (arith, common_steps)
+
+pub returns-clause-rest : goal.returns-clause-rest
+returns-clause-rest c = grind (arith, common_steps)

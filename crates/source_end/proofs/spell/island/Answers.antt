@@ -1,4 +1,5 @@
 use Rattle.std.proofs.Common.{ap, ◌∙◌, arith, length-append, length}
+use Rattle.std.proofs.lemmas.Grind.{common_steps}
 use Rattle.std.specs.List.{list_all}
 use Rattle.island_pack.specs.Conforming.{is_sync_pair, is_packet}
 use Rattle.island_pack.specs.Spelling.{guard_columns}
@@ -50,3 +51,6 @@ packets-requires-clause-room g c =
     let opened = ap length c.in_ok-guards.ensures.ok ∙ length-append (g.C.ColumnSink.taken c.args.out.now) (guard_columns (pair_of c.opening.result)) in
     let same = ap length c.as_slice.ensures in
     omega (arith, opened, same, c.requires.room)
+
+pub returns-clause-ok : goal.returns-clause-ok
+returns-clause-ok c = grind (arith, common_steps)

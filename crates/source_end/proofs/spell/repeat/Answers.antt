@@ -1,5 +1,5 @@
 use Rattle.std.proofs.Common.{arith, rules, ◌≡◌, ℕ, List, get_or, length, take, refl, length-take}
-use Rattle.std.proofs.lemmas.Grind.{get_or_default_zero}
+use Rattle.std.proofs.lemmas.Grind.{get_or_default_zero, common_steps}
 use Rattle.source_end.proofs.LineCodings.{run_more}
 use Rattle.source_end.proofs.Fronts.{on_err, front_of_run}
 use Rattle.source_end.proofs.spell.repeat.Goals as goal
@@ -40,3 +40,6 @@ columns-requires-clause-green g c = same_parts c.min-n.result _ _ refl
 
 pub columns-requires-clause-red : goal.columns-requires-clause-red
 columns-requires-clause-red g c = same_parts c.min-n.result _ _ refl
+
+pub columns-requires-clause-room : goal.columns-requires-clause-room
+columns-requires-clause-room c = grind (arith, common_steps)

@@ -1,4 +1,5 @@
 use Rattle.std.proofs.Common.{arith, ◌≡◌, ◌<◌, ◌≤◌, ◌+◌, ◌/◌, ◌++◌, List, ℕ, ◌∙◌, sym, subst, length, ap, append_assoc, length-append}
+use Rattle.std.proofs.lemmas.Grind.{common_steps}
 use Rattle.std.specs.Prelude.{Option, Result, Ok, Err, IfErr}
 use Rattle.std.proofs.lemmas.Result.{err_from_is_err_and}
 use Rattle.std.specs.Io.KnownBytes.{Consumes}
@@ -81,3 +82,18 @@ returns-in_err-read-2-clause-taken g c = takes_more _ _ _ (packed c.read.new.sel
 pub returns-clause-taken : goal.returns-clause-taken
 returns-clause-taken g c =
     takes_more _ _ _ (packed c.read.new.self, c.in_ok-read.ensures.ok) (takes_more _ _ _ (packed c.read-2.new.self, c.in_ok-read-2.ensures.ok) c.read-3.ensures.taken)
+
+pub chunk_len-requires-3 : goal.chunk_len-requires-3
+chunk_len-requires-3 c = grind arith
+
+pub read-requires-2-clause-place : goal.read-requires-2-clause-place
+read-requires-2-clause-place c = grind arith
+
+pub read-requires-3-clause-place : goal.read-requires-3-clause-place
+read-requires-3-clause-place c = grind arith
+
+pub read-requires-clause-place : goal.read-requires-clause-place
+read-requires-clause-place c = grind arith
+
+pub returns-clause-ok : goal.returns-clause-ok
+returns-clause-ok c = grind (arith, common_steps)

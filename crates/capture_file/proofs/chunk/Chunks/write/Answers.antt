@@ -26,3 +26,12 @@ returns-in-Err-write_piece g c = record {
   missing = grind (arith, common_steps);
   cause = grind arith;
 }
+
+pub returns-in-Ok-write_piece-clause-whole : goal.returns-in-Ok-write_piece-clause-whole
+returns-in-Ok-write_piece-clause-whole c = grind (arith, common_steps)
+
+pub returns-in_err-first-clause-missing : goal.returns-in_err-first-clause-missing
+returns-in_err-first-clause-missing c = grind (arith, common_steps)
+
+pub returns-in_err-first-clause-part : goal.returns-in_err-first-clause-part
+returns-in_err-first-clause-part c = grind (arith, common_steps)

@@ -1,4 +1,5 @@
 use Rattle.std.proofs.Common.{◌≡◌, [], ◌∷◌, ◌++◌, length, ap, sym, subst, arith, length-append, All}
+use Rattle.std.proofs.lemmas.Grind.{common_steps}
 use Rattle.std.proofs.lemmas.List.Elements.{All-append}
 use Rattle.audio_packets.specs.Samples.{IsSample}
 use Rattle.audio_packets.specs.declared.sample.Sample.{Sample}
@@ -21,3 +22,6 @@ invariant_of-reader c =
       few = omega (arith, inv.few, ap length is, size, c.if-len-eq-GROUP.false, c.len.ensures);
       fits = subst (All IsSample) (sym is) (All-append IsSample r.samples.items (s ∷ []) inv.fits (one s fit));
     }
+
+pub returns-clause-ok : goal.returns-clause-ok
+returns-clause-ok c = grind (arith, common_steps)

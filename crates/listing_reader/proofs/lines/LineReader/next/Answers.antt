@@ -1,4 +1,5 @@
 use Rattle.std.proofs.Common.{rules, arith, ◌≡◌, ◌≤◌, ◌++◌, ap, sym, subst, List, ℕ, IsTrue, length, take, length-append, length-take-le}
+use Rattle.std.proofs.lemmas.Grind.{common_steps}
 use Rattle.std.proofs.lemmas.List.{take-append-le}
 use Rattle.listing_reader.specs.Held.{is_feedless}
 use Rattle.outside_io.proofs.Consumed.{takes_more}
@@ -47,3 +48,15 @@ reads-preserved g c =
       feedless = subst (λ (xs : List ℕ). IsTrue (is_feedless xs)) (sym front.1) feedless;
       later = search rules;
     }
+
+pub give-requires-then-branch-eq0 : goal.give-requires-then-branch-eq0
+give-requires-then-branch-eq0 c = grind (arith, common_steps)
+
+pub reads-smaller : goal.reads-smaller
+reads-smaller c = grind (arith, common_steps)
+
+pub returns-in-Some-clause-given : goal.returns-in-Some-clause-given
+returns-in-Some-clause-given c = grind (arith, common_steps)
+
+pub returns-then-branch-eq0-clause-given : goal.returns-then-branch-eq0-clause-given
+returns-then-branch-eq0-clause-given c = grind (arith, common_steps)

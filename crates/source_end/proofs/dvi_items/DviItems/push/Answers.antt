@@ -1,4 +1,5 @@
 use Rattle.std.proofs.Common.{[], arith}
+use Rattle.std.proofs.lemmas.Grind.{common_steps}
 use Rattle.std.proofs.lemmas.List.{map-append}
 use Rattle.source_end.proofs.Turns.{same_sum, room_left}
 use Rattle.source_end.proofs.DviTurns.{DviFollows, dvi_so_far-more, dvi_columns_of-more}
@@ -14,3 +15,6 @@ invariant_of-self c = grind (arith, none_holds, DviFollows, room_left, map-appen
 
 pub returns-clause-fault : goal.returns-clause-fault
 returns-clause-fault c = grind (arith, dvi_found_is, in-Ok, answers_ok, in-Err, answers_err)
+
+pub returns-clause-ok : goal.returns-clause-ok
+returns-clause-ok c = grind (arith, common_steps)
