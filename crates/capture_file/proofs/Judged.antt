@@ -141,8 +141,11 @@ short_early head rest count len are less none like versions =
     let long : length first ≡ count = length-take-le count head (omega arith) in
     let begins : BeginsCapture first =
     elim (cases_lt 3 count) [
-      | inl many ↦ grind (arith, begins_take, one_whole, two_whole)
-      | inr few ↦ grind (arith, mark_begins)
+      | inl many ↦
+          let three : min count 3 ≡ 3 = omega arith in
+          let mark = rw three at like in
+          begins_take count head (elim (versions many) [ inl one ↦ one_whole head len are mark one | inr two ↦ two_whole head len are mark two ])
+      | inr few ↦ let all : min count 3 ≡ count = omega arith in mark_begins count first (omega arith) (rw all at like)
     ] in (
       (
         subst (λ bs. BeginsCapture bs) (sym e) begins,
