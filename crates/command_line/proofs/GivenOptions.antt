@@ -1,6 +1,5 @@
 -- The value of an option among options.
-use Rattle.std.proofs.Common.{arith, ◌≡◌, refl, List, [], ◌∷◌, ◌++◌, Option}
-use Rattle.std.specs.Prelude.{if◌then◌else◌}
+use Rattle.std.proofs.Common.{arith, ◌≡◌, List, ◌++◌, Option}
 use Rattle.std.proofs.lemmas.List.Elements.{filter_map-append}
 use Rattle.command_line.specs.Grammar.{Text, value_if, values_of, listed}
 use Rattle.command_line.specs.declared.options.OptionName.{OptionName}
