@@ -27,6 +27,7 @@ layout_one : (version : ℕ) (x y z : List Bool) → (version ≢ 2) → length 
 unfolding layout header_of
 layout_one version x y z not small green red = grind (arith, header_if_one)
 
+-- the layout in the second version
 layout_two : (version : ℕ) (x y z : List Bool) → version ≡ 2 → length x < 2 ^ 32 → length y < 2 ^ 32 → length z < 2 ^ 32 → IsCaptureOf x y z (layout version x y z)
 unfolding layout
 layout_two version x y z two small green red = grind (arith, header_if_two)

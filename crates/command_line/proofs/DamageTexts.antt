@@ -45,6 +45,7 @@ character_found digits high low value three decoded is small = grind (arith, com
 
 -- the damage
 
+-- the three parts of a damage that is read
 damage_by_reported : (lane place value : Option ℕ) (damage : DamageWord) → damage_by lane place value ≡ Some damage → (lane ≡ Some damage.lane) × (place ≡ Some damage.place) × (value ≡ Some damage.value)
 damage_by_reported lane place value damage h = grind (arith, same_Some, none-some)
 

@@ -82,6 +82,7 @@ split_found mark digits rest apart all = split_first mark digits rest apart.own 
 commas_in_order : (first second third : List ℕ) → first ++ codes "," ++ second ++ codes "," ++ third ≡ first ++ (codes "," ++ (second ++ (codes "," ++ third)))
 commas_in_order first second third = simp append_assoc
 
+-- the numbers of three that are read
 three_by_reported : (o p q : Option ℕ) (skews : List ℕ) → three_by o p q ≡ Some skews → (a b c : ℕ) × (o ≡ Some a) × (p ≡ Some b) × (q ≡ Some c) × (skews ≡ a ∷ b ∷ c ∷ [])
 three_by_reported o p q skews h = grind (arith, same_Some, none-some)
 

@@ -17,6 +17,7 @@ Read = Result (List ℕ) FromHexError
 
 -- ---- no packet
 
+-- one of the four bodies does not decode
 no_first : (laid : Bool) (h a b c d : Read) (sync : List ℕ) → IsErr a → packet_by laid h a b c d sync ≡ no_line
 no_first laid h a b c d sync k = grind arith
 
