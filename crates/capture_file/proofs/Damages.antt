@@ -1,5 +1,5 @@
 -- A capture that is damaged from its header to its end.
-use Rattle.std.proofs.Common.{◌≡◌, ℕ, ◌<◌, List, [], ◌++◌, length, refl, ap, ap₂, ◌∙◌, sym, arith, subst, inl, append_assoc, append-nil}
+use Rattle.std.proofs.Common.{◌≡◌, ℕ, ◌<◌, List, [], ◌++◌, length, refl, ap, ap₂, ◌∙◌, sym, arith, subst, inl, inr, append_assoc, append-nil}
 use Rattle.std.specs.Prelude.{Option, Result, All, OnOk, IfErr, slice_index}
 use Rattle.std.specs.Io.KnownBytes.{Appends, Keeps}
 use Rattle.std.proofs.lemmas.List.Elements.{All-get_or}
@@ -109,7 +109,9 @@ fault_late version counts hits bytes rest before now (Bad fault) lanes fit said 
         is = subst (λ bs. IsFault bs fault) (sym is) h.is;
         within = λ other others tail own e.
             fits_same counts others hits (same_heads head other counts others rest tail headed own (sym is ∙ e)).count lanes fit;
-        out_is = grind (arith, append_assoc);
+        out_is =
+            let bytes_are = is ∙ ap (λ bs. head ++ bs) h.bytes_are ∙ sym (append_assoc head h.part h.rest) in
+            inr (record { version = version; counts = counts; block = h.block; taken = head ++ h.part; rest = h.rest; bytes_are = bytes_are; front = h.half.front; stops = h.stops });
       },
       h.half.wrote,
     )

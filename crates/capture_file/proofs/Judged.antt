@@ -56,7 +56,14 @@ mark_early head rest count p len most less few like unlike =
     let long : length first ≡ count = length-take-le count head (omega arith) in
     let cut : take p (first ++ rest) ≡ take p (codes "TMC") = take-append-le p first rest (omega arith) ∙ take-take p count head (omega arith) ∙ like in
     let more : take (p + 1) (first ++ rest) ≡ take (p + 1) head = take-append-le (p + 1) first rest (omega arith) ∙ take-take (p + 1) count head (omega arith) in
-    let stops : StopsAt (first ++ rest) p = grind (arith, length-append, mark_begins, length-take-le, get_or-append, get_or-take, mark_of) in
+    let stops : StopsAt (first ++ rest) p = record {
+      inside = omega (arith, long, length-append first rest);
+      before = mark_begins p (take p (first ++ rest)) (omega arith) cut;
+      stops = λ h.
+          let cut_long : p < length (take (p + 1) head) = omega (arith, length-take-le (p + 1) head (omega arith)) in
+          let same = ap (λ xs. get_or (xs ++ h.rest) p 0) more ∙ get_or-append (take (p + 1) head) h.rest 0 p cut_long ∙ get_or-take (p + 1) head p 0 (omega arith) in
+          unlike (sym same ∙ mark_of (take (p + 1) (first ++ rest) ++ h.rest) p h.whole few);
+    } in
     ((stops, few), headless_stop (first ++ rest) p stops (omega arith))
 
 -- a fourth byte that is no version
@@ -134,8 +141,11 @@ short_early head rest count len are less none like versions =
     let long : length first ≡ count = length-take-le count head (omega arith) in
     let begins : BeginsCapture first =
     elim (cases_lt 3 count) [
-      | inl many ↦ grind (arith, begins_take, one_whole, two_whole)
-      | inr few ↦ grind (arith, mark_begins)
+      | inl many ↦
+          let three : min count 3 ≡ 3 = omega arith in
+          let mark = rw three at like in
+          begins_take count head (elim (versions many) [ inl one ↦ one_whole head len are mark one | inr two ↦ two_whole head len are mark two ])
+      | inr few ↦ let all : min count 3 ≡ count = omega arith in mark_begins count first (omega arith) (rw all at like)
     ] in (
       (
         subst (λ bs. BeginsCapture bs) (sym e) begins,

@@ -1,5 +1,5 @@
 -- What a reader stands for, from block to block.
-use Rattle.std.proofs.Common.{◌≡◌, ℕ, ◌+◌, ◌*◌, ◌/◌, ◌%◌, ◌^◌, ◌<◌, ◌≤◌, Bool, List, [], ◌++◌, length, take, refl, ap, ap₂, ◌∙◌, sym, arith, subst, append-nil, length-take-le}
+use Rattle.std.proofs.Common.{◌≡◌, ℕ, ◌+◌, ◌*◌, ◌/◌, ◌%◌, ◌^◌, ◌<◌, ◌≤◌, Bool, List, [], ◌++◌, length, take, min, refl, ap, ap₂, ◌∙◌, sym, arith, subst, append-nil, length-take-le}
 use Rattle.std.specs.Prelude.{slice_index}
 use Rattle.std.proofs.Math.Nat.{mod-eq_of_lt}
 use Rattle.std.proofs.Math.Pow.{pow_mono}
@@ -29,8 +29,12 @@ unpacked u count is =
     number-take count (bytes_bits (packed u)) ∙ ap (λ bs. number (bytes_bits bs) % 2 ^ count) own ∙ ap (λ n. n % 2 ^ count) (number-packed k (number u) (omega arith)) ∙ mod-eq_of_lt below in
     sym (bits_of-number v) ∙ ap₂ (λ a b. bits_of a b) (len ∙ sym is) same ∙ bits_of-number u
 
+-- a lane's bytes below the next block
+lane_next : (n j : ℕ) → min ((n + 7) / 8) (4096 * j) + (bits_in j n + 7) / 8 ≡ min ((n + 7) / 8) (4096 * (j + 1))
+lane_next n j = omega arith
+
 pub places_next : (version : ℕ) (counts : List ℕ) (j : ℕ) → place_at version counts j + block_size j counts ≡ place_at version counts (j + 1)
-places_next version counts j = grind arith
+places_next version counts j = omega (arith, lane_next (slice_index counts 0) j, lane_next (slice_index counts 1) j, lane_next (slice_index counts 2) j)
 
 pub stands_more : (version : ℕ) (counts : List ℕ) (j : ℕ) (taken : List ℕ) (x y z a b d : List Bool) → Stands version counts j taken x y z
     → length a ≡ bits_in j (slice_index counts 0) → length b ≡ bits_in j (slice_index counts 1) → length d ≡ bits_in j (slice_index counts 2)

@@ -29,7 +29,12 @@ padding_stops front bytes piece rest count place w at is len some are bad =
     let cut : take p (front ++ bytes) ≡ front ++ take n piece =
     ap₂ (λ k xs. take (k + n) (front ++ xs)) at is ∙ take-append-add front (piece ++ rest) n ∙ ap (λ xs. front ++ xs) (take-append-le n piece rest (omega arith)) in
     let next : p + 1 ≡ length front + length piece = omega arith in
-    grind (arith, take-append-add, take-append_seam, length-take-le, length-append, take_bytes)
+    let more : take (p + 1) (front ++ bytes) ≡ front ++ piece =
+    ap₂ (λ k xs. take k (front ++ xs)) next is ∙ take-append-add front (piece ++ rest) (length piece) ∙ ap (λ xs. front ++ xs) (take-append_seam piece rest) in
+    let less : length (take n piece) < (count + 7) / 8 = omega (arith, length-take-le n piece (omega arith)) in
+    let inside : p < length (front ++ bytes) = omega (arith, ap length is, length-append front bytes, length-append piece rest) in
+    let before = subst (λ bs. BeginsCapture bs) (sym cut) (w.begins (take n piece) (take_bytes n piece are) less) in
+    (record { inside = inside; before = before; stops = λ h. bad (w.spared piece len (rw more at h)) }, omega (arith, w.headed), λ h. w.unfinished (take n piece) less (rw cut at h))
 
 -- a chunk that ends too early
 pub short_piece : (front bytes piece : List ℕ) (count place : ℕ) → Awaits front count → place ≡ length front → bytes ≡ piece → AreBytes piece → length piece < (count + 7) / 8
@@ -39,7 +44,12 @@ short_piece front bytes piece count place w at is are less = grind (arith, lengt
 -- bytes past a capture
 pub trailing_stops : (whole rest : List ℕ) (place : ℕ) → IsCapture whole → place ≡ length whole → 0 < length rest → ((more : List ℕ) → IsCapture (whole ++ more) → length more ≡ 0)
     → IsFault (whole ++ rest) (Trailing place)
-trailing_stops whole rest place is at some only = grind (arith, take-append_seam, take-append-add, length-take-le, length-append, begins_whole, append_assoc)
+trailing_stops whole rest place is at some only =
+    let cut : take place (whole ++ rest) ≡ whole = ap (λ n. take n (whole ++ rest)) at ∙ take-append_seam whole rest in
+    let more : take (place + 1) (whole ++ rest) ≡ whole ++ take 1 rest = ap (λ n. take (n + 1) (whole ++ rest)) at ∙ take-append-add whole rest 1 in
+    let past : (r : List ℕ) → IsCapture ((whole ++ take 1 rest) ++ r) → ⊥ =
+    λ r h. absurd (omega (arith, some, length-take-le 1 rest some, length-append (take 1 rest) r, only (take 1 rest ++ r) (rw append_assoc at h))) in
+    (record { inside = omega (arith, length-append whole rest); before = rw cut (begins_whole whole is); stops = λ h. past h.rest (rw more at h.whole) }, rw cut is)
 
 -- a header is the beginning of a capture
 abbrev zero_lanes : List ℕ → ℕ → List Bool

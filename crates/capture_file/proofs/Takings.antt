@@ -184,7 +184,8 @@ block_more counts j place taken x y z a b d r la lb ld =
     let t1 = taken_first counts j taken x y z a t0 la in
     let t2 = taken_second counts j (taken ++ packed a) (x ++ a) y z b t1 lb in
     let t3 = taken_third counts j ((taken ++ packed a) ++ packed b) (x ++ a) (y ++ b) z d t2 ld in
-    grind (arith, append_assoc, read_of, length-append, length-packed)
+    let at : place + block_size j counts ≡ length (taken ++ ((packed a ++ packed b) ++ packed d)) = omega (arith, r.place_is, la, lb, ld, length-append {A = ℕ}, length-packed) in
+    read_of counts (j + 1) _ _ (x ++ a) (y ++ b) (z ++ d) (simp append_assoc (simp append_assoc at t3)) at
 
 -- nothing is left to be taken
 pub no_block : (counts : List ℕ) (j : ℕ) → block_size j counts ≡ 0 → (slice_index counts 0 ≤ 32768 * j) × (slice_index counts 1 ≤ 32768 * j) × (slice_index counts 2 ≤ 32768 * j)

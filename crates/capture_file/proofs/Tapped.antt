@@ -9,7 +9,7 @@ use Rattle.tmds_word.proofs.Lists.{length-row_bits}
 use Rattle.capture_file.specs.Captures.{IsCaptureOf, header_of, layout}
 use Rattle.capture_file.specs.Taps.{greatest, tap_lag, tap_count, tap_counts, tap_of, tapped_capture}
 use Rattle.capture_file.specs.declared.writing.Tap.{Tap}
-use Rattle.capture_file.proofs.Heads.{header_if_one}
+use Rattle.capture_file.proofs.Heads.{header_if_one, header_if_two}
 use Rattle.capture_file.proofs.Parts.{if_least, limited_le}
 
 -- a lane of a tap lies within its columns
@@ -27,7 +27,12 @@ layout_one : (version : ℕ) (x y z : List Bool) → (version ≢ 2) → length 
 unfolding layout header_of
 layout_one version x y z not small green red = grind (arith, header_if_one)
 
+-- the layout in the second version
+layout_two : (version : ℕ) (x y z : List Bool) → version ≡ 2 → length x < 2 ^ 32 → length y < 2 ^ 32 → length z < 2 ^ 32 → IsCaptureOf x y z (layout version x y z)
+unfolding layout
+layout_two version x y z two small green red = grind (arith, header_if_two)
+
 pub tap_is_captured : (columns : List Column) (tap : Tap) → tap.offset + greatest tap.skews ≤ 10 * length columns → 10 * length columns < 2 ^ 32
     → IsCaptureOf (tap_of columns tap).blue (tap_of columns tap).green (tap_of columns tap).red (tapped_capture columns tap)
-unfolding tapped_capture layout
-tap_is_captured columns tap within few = grind (arith, tap_is_tap, lane_within, cases_eq, ne_eqb, layout_one, length-take-le, length-drop, length-row_bits)
+unfolding tapped_capture
+tap_is_captured columns tap within few = grind (arith, tap_is_tap, lane_within, cases_eq, ne_eqb, layout_one, layout_two, length-take-le, length-drop, length-row_bits)

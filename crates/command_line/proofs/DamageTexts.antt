@@ -45,10 +45,16 @@ character_found digits high low value three decoded is small = grind (arith, com
 
 -- the damage
 
+-- the three parts of a damage that is read
+damage_by_reported : (lane place value : Option ℕ) (damage : DamageWord) → damage_by lane place value ≡ Some damage → (lane ≡ Some damage.lane) × (place ≡ Some damage.place) × (value ≡ Some damage.value)
+damage_by_reported lane place value damage h = grind (arith, same_Some, none-some)
+
 damage_after_reported : (text first rest : List ℕ) (damage : DamageWord) (o : Option (List ℕ × List ℕ)) → text ≡ first ++ 58 ∷ rest → mark_split 58 rest ≡ o → damage_after first o ≡ Some damage → IsDamage text damage
 unfolding character_of
 damage_after_reported text first rest damage None is e h = absurd (none-some damage h)
-damage_after_reported text first rest damage (Some parts) is e h = grind (arith, split_parts, lane_reported, same_Some, append_assoc, number_reported, then_some, character_by_reported, same_count, none-some)
+damage_after_reported text first rest damage (Some parts) is e h =
+    let d = damage_by_reported _ _ _ damage h in
+    grind (arith, split_parts, lane_reported, append_assoc, number_reported, then_some, character_by_reported, same_count)
 
 damage_parted_reported : (text : List ℕ) (damage : DamageWord) (o : Option (List ℕ × List ℕ)) → mark_split 58 text ≡ o → damage_parted o ≡ Some damage → IsDamage text damage
 damage_parted_reported text damage None e h = absurd (none-some damage h)

@@ -123,10 +123,14 @@ form_once name options operands (Sample n) (Sample m) e a b =
     ap Sample (number_once 20 a.1.0 n m a.1.2 (subst (λ (x : Text). IsNumber 20 x m) (same_head b.1.0 a.1.0 [] [] (sym b.1.1 ∙ a.1.1)) b.1.2))
 form_once name options operands c d e a b = absurd (omega (arith, e))
 
+-- what a name and operands ask for has the place that they give
+form_is : (c : Command) (name : Text) (options : List (OptionName × Text)) (operands : List Text) → Means c name options operands → form_of name operands ≡ form c
+unfolding form head_of
+form_is c name options operands m = grind (arith, by_kind, by_name)
+
 -- a name, options and operands ask for one command at most
 pub means_once : (name : Text) (options : List (OptionName × Text)) (operands : List Text) (c d : Command) → Means c name options operands → Means d name options operands → c ≡ d
-unfolding form head_of
-means_once name options operands c d a b = grind (arith, form_once, by_kind, by_name)
+means_once name options operands c d a b = form_once name options operands c d (sym (form_is c name options operands a) ∙ form_is d name options operands b) a b
 
 -- ---- words name one command at most
 

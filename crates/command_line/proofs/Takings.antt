@@ -386,7 +386,13 @@ all_tell name c many has f [] = (
       },
   λ option_name rows options operands offers found h. absurd (settle_waits c many has f offers option_name rows (or_else_first (settle_fault c false (holding rows (Some (option_id option_name, [])))) _ h)),
 )
-all_tell name c many has f (word ∷ words) = grind (arith, open_by, wait_by, all_tell name c many has f words)
+all_tell name c many has f (word ∷ words) =
+    let t = all_tell name c many has f words in (
+      λ rows pending waiting options operands is finds h.
+          open_by name c many has f rows pending waiting options operands word words is finds h t.0 t.1 (bytes_eq word (codes "--")) refl (long_of word) refl,
+      λ option_name rows options operands offers found h.
+          (word, words, refl, wait_by name c many has f option_name rows options operands word words offers found h t.0 (bytes_eq word (codes "--")) refl (long_of word) refl),
+    )
 
 -- what a command takes are options and operands, and these are found
 pub taken : (name : Text) (c : List Rule) (many has : Bool) → IsForm c many has → (words : List Text) → total name c (walk_from nothing_held) words ≡ []

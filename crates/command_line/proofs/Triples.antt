@@ -1,5 +1,5 @@
 -- The texts of options: a number, and three numbers with commas between them.
-use Rattle.std.proofs.Common.{◌≡◌, refl, arith, ℕ, ◌<◌, true, false, List, [], ◌∷◌, ◌++◌, length, get_or, Bor, length-append, append_assoc}
+use Rattle.std.proofs.Common.{◌≡◌, ◌∙◌, refl, sym, ap, arith, ℕ, ◌<◌, true, false, List, [], ◌∷◌, ◌++◌, length, get_or, Bor, length-append, append_assoc}
 use Rattle.std.specs.Prelude.{MatchOption, Option, Some, None, nat_lt, codes}
 use Rattle.std.specs.List.{position_or_len, before_first, after_first, list_all, list_any}
 use Rattle.std.proofs.lemmas.Grind.{common_steps}
@@ -8,7 +8,7 @@ use Rattle.std.proofs.lemmas.List.Sums.{split_at_first, passes_at_first}
 use Rattle.std.proofs.lemmas.Bool.{and_parts}
 use Rattle.std.proofs.Math.Seq.{take-append_seam, drop-append-add}
 use Rattle.command_line.specs.Numbers.{number_of, is_digit, IsNumber, AreThree}
-use Rattle.command_line.specs.Parsing.{within, mark_split, is_mark, three_after, three_parted, three_of}
+use Rattle.command_line.specs.Parsing.{within, mark_split, is_mark, three_by, three_after, three_parted, three_of}
 
 -- a number
 
@@ -82,9 +82,20 @@ split_found mark digits rest apart all = split_first mark digits rest apart.own 
 commas_in_order : (first second third : List ℕ) → first ++ codes "," ++ second ++ codes "," ++ third ≡ first ++ (codes "," ++ (second ++ (codes "," ++ third)))
 commas_in_order first second third = simp append_assoc
 
+-- the numbers of three that are read
+three_by_reported : (o p q : Option ℕ) (skews : List ℕ) → three_by o p q ≡ Some skews → (a b c : ℕ) × (o ≡ Some a) × (p ≡ Some b) × (q ≡ Some c) × (skews ≡ a ∷ b ∷ c ∷ [])
+three_by_reported o p q skews h = grind (arith, same_Some, none-some)
+
 three_after_reported : (most : ℕ) (text first rest : List ℕ) (skews : List ℕ) (o : Option (List ℕ × List ℕ)) → text ≡ first ++ (codes "," ++ rest) → mark_split 44 rest ≡ o
     → three_after most first o ≡ Some skews → (a b c : ℕ) × AreThree most text a b c × (skews ≡ a ∷ b ∷ c ∷ [])
-three_after_reported most text first rest skews o h k l = grind (arith, none-some, split_parts, commas_in_order, number_reported, same_Some)
+three_after_reported most text first rest skews None h k l = absurd (none-some skews l)
+three_after_reported most text first rest skews (Some parts) h k l =
+    let r = three_by_reported _ _ _ skews l in
+    let text_is = h ∙ ap (λ t. first ++ (codes "," ++ t)) (split_parts 44 rest parts k) ∙ sym (commas_in_order first parts.0 parts.1) in
+    let first_is = number_reported most first r.0 r.3 in
+    let second_is = number_reported most parts.0 r.1 r.4 in
+    let third_is = number_reported most parts.1 r.2 r.5 in
+    (r.0, r.1, r.2, record { first = first; second = parts.0; third = parts.1; text_is = text_is; first_is = first_is; second_is = second_is; third_is = third_is }, r.6)
 
 three_parted_reported : (most : ℕ) (text : List ℕ) (skews : List ℕ) (o : Option (List ℕ × List ℕ)) → mark_split 44 text ≡ o → three_parted most o ≡ Some skews
     → (a b c : ℕ) × AreThree most text a b c × (skews ≡ a ∷ b ∷ c ∷ [])

@@ -78,7 +78,12 @@ answered listing command t a d e f ending before after lists tapped first accoun
 
 ended : (P : ℕ → Option (List ℕ) → Option (List ℕ) → Type 0) (command : Command) (ending : Ending) (before after : Devices)
     → (Answers command ending before after → P (status_of ending) before.held after.held) → Ends command ending before after → Unless P (status_of ending) before after
-ended P command ending before after h k = grind arith
+ended P command Unaligned before after h k = inr (inr (inr (h k.2)))
+ended P command ReadFailed before after h k = inl k.0
+ended P command WriteFailed before after h k = inr (inl k.0)
+ended P command NoMemory before after h k = inr (inr (inl refl))
+ended P command Usage before after h k = absurd k
+ended P command ending before after h k = inr (inr (inr (h k.1)))
 
 -- and of a sample
 sample_ended : (P : ℕ → Option (List ℕ) → Option (List ℕ) → Type 0) (frames : ℕ) (ending : Ending) (before after : Devices)

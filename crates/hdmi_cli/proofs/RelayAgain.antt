@@ -59,7 +59,7 @@ comes_back law events runs q ps columns o status old new are few spelled is writ
     let many = spelled_long all columns free in
     let size = ap columns_of are in
     let more = columns_more runs q ps good in
-    let own = own_aligned runs q ps columns good own_spelled (omega (arith, many, more)) in
+    let own = own_aligned runs q ps columns good own_spelled (subst (λ n. length (values_of runs) < n) (sym many) more) in
     let a = own.a in
     let from = own.from in
     let m = length (drop a columns) in
@@ -70,10 +70,11 @@ comes_back law events runs q ps columns o status old new are few spelled is writ
     let cut = cut_spelled a runs (q ∷ ps) columns (omega (arith, from)) free in
     let cut_many = spelled_long (cut_first a all) (drop a columns) cut in
     let back_many = ap columns_of back in
-    let front : IsFront (drop a columns) = grind (arith, relayed_conforms, append-nil) in
+    let conforming = subst (λ (ps : List Period). IsConforming ps) back (relayed_conforms reported) in
+    let front : IsFront (drop a columns) = record { periods = _; spelled = drop a columns; conforming = conforming; spells = cut; rest = []; front = sym (append-nil (drop a columns)) } in
     let same : heard (drop a columns) ≡ reported = ap heard (sym own.aligned) ∙ own.reported in
     let quiet : faultless reported ≡ true = subst (λ (ts : List Event). faultless ts ≡ true) same (front_is_clean (drop a columns) front) in
-    let captured = own_captured columns (omega (arith, many, size, few)) in
+    let captured = own_captured columns (subst (λ n. n ≤ 20000000) (size ∙ sym many) few) in
     elim (capture_relay reported (blue_of columns) (green_of columns) (red_of columns) own.d own.e own.f (tapped_capture columns whole_tap) o captured own.first own.reported does) [
       | inl long ↦ let passes = long.passes in absurd (omega (arith, passes, back_many, cut_many, rest, many, size, few))
       | inr sent ↦ grind arith

@@ -1,9 +1,8 @@
 -- The samples that `recover biphase K` writes of a tapped stream are those of the received packets, each with at most
 -- one damaged word as it was sent.
-use Rattle.std.proofs.Common.{arith, ◌≡◌, ◌≤◌, ℕ, ◌+◌, List, [], ◌∷◌, length, refl, ap, ◌∙◌, subst, append-nil}
+use Rattle.std.proofs.Common.{arith, ◌≡◌, ◌≤◌, ℕ, ◌+◌, List, [], ◌∷◌, ◌++◌, length, refl, ap, ◌∙◌, subst}
 use Rattle.std.specs.Prelude.{flat_map, Option, Some}
 use Rattle.std.specs.Io.KnownBytes.{Appends}
-use Rattle.std.proofs.lemmas.Grind.{flat_map-append}
 use Rattle.tmds_word.specs.Column.{Column}
 use Rattle.audio_out.specs.Frames.{biphase}
 use Rattle.island_pack.specs.Sparse.{IsSparseInPayload}
@@ -31,7 +30,8 @@ use Rattle.hdmi_cli.proofs.Pictures.{unless_so, within_received}
 of_events : (pair : ℕ) (events : List Event) → reported_samples pair events ≡ flat_map (samples_reported pair) (reported_packets events)
 unfolding reported_samples reported_packets samples_at
 of_events pair [] = refl
-of_events pair (event ∷ events) = grind (arith, flat_map-append, append-nil, of_events pair events)
+of_events pair (packet p verdicts column ∷ events) = ap (λ xs. samples_at pair (packet p verdicts column) ++ xs) (of_events pair events)
+of_events pair (event ∷ events) = of_events pair events
 
 -- each packet that was sent
 

@@ -151,7 +151,8 @@ followed_whole tracked both from left sink epochs aligned first old new h ended 
       t.2,
       both first old new h.track_events t.0 h.heard t.1,
       λ bytes is.
-          grind (arith, consumed, left_none, append-nil),
+          let c = consumed from left bytes h.taken is h.consumed in
+          subst (λ bs. IsCaptureOf h.fed.blue h.fed.green h.fed.red bs) (sym (c.1 ∙ ap (λ bs. h.taken ++ bs) (left_none left c.0 c.2 ended) ∙ append-nil h.taken)) h.captured,
     )
 
 pub unended_on : {A : Type 0} (tracked : A → A → List TrackEvent → Type 0) (lost : A → A → TrackEvent → Type 0) → JoinsTrackEvents tracked → (from left : Option (List ℕ)) (sink : TrackSinkSeen) (first old new : A)

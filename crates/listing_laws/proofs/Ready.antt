@@ -177,7 +177,7 @@ quiet b c g (control u v ∷ ts) s h was =
     let k = quiet b c g ts (step (control u v) s) (and-right _ _ h) first.1 in
     record { nothing = ap₂ (λ (xs ys : List Listed). xs ++ ys) first.0 k.nothing; ready = k.ready }
 quiet b c g (pixels bytes ∷ ts) s h was = absurd cc
-quiet b c g (parted ∷ ts) s h was = grind (arith, step, parted, gap_ready, quiet b c g ts)
+quiet b c g (parted ∷ ts) s h was = let k = quiet b c g ts (step parted s) h (gap_ready b c g s was) in record { nothing = k.nothing; ready = k.ready }
 
 -- Columns that were sent at one level.
 

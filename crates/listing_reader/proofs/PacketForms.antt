@@ -17,6 +17,13 @@ Read = Result (List ℕ) FromHexError
 
 -- ---- no packet
 
+-- one of the four bodies does not decode
+no_first : (laid : Bool) (h a b c d : Read) (sync : List ℕ) → IsErr a → packet_by laid h a b c d sync ≡ no_line
+no_first laid h a b c d sync k = grind arith
+
+no_second : (laid : Bool) (h a b c d : Read) (sync : List ℕ) → IsErr b → packet_by laid h a b c d sync ≡ no_line
+no_second laid h a b c d sync k = grind arith
+
 no_third : (laid : Bool) (h a b c d : Read) (sync : List ℕ) → IsErr c → packet_by laid h a b c d sync ≡ no_line
 no_third laid h a b c d sync k = grind arith
 
@@ -29,8 +36,8 @@ form_header rest is = grind arith
 
 form_body : (rest : List ℕ) (b : ℕ) → b < 4 → IsErr (decode_of (part (7 + 15 * b) 14 rest)) → packet_form rest ≡ no_line
 unfolding packet_form
-form_body rest zero below is = grind arith
-form_body rest (suc zero) below is = grind arith
+form_body rest zero below is = no_first _ _ _ _ _ _ _ is
+form_body rest (suc zero) below is = no_second _ _ _ _ _ _ _ is
 form_body rest (suc (suc zero)) below is = no_third _ _ _ _ _ _ _ is
 form_body rest (suc (suc (suc zero))) below is = no_fourth _ _ _ _ _ _ _ is
 form_body rest (suc (suc (suc (suc b)))) below is = absurd (omega arith)

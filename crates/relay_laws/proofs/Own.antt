@@ -292,6 +292,17 @@ nothing_received : (m : ℕ) (cs : List Column) (t : Alternation) → folded t (
 unfolding received_from nulled
 nothing_received m cs t = refl
 
+-- a period that stands first, and what follows it
+after_part : (m : ℕ) (p : Period) (ps : List Period) (own rest cs : List Column) (ks : List RelayedPart) (t u v : Alternation) → cs ≡ own ++ rest → length own ≡ period_columns p → period_received m p own own ≡ ks
+    → folded t ks ≡ u → folded u (received_from (m - period_columns p) ps rest rest) ≡ v → folded t (received_from m (p ∷ ps) cs cs) ≡ v
+after_part m p ps own rest cs ks t u v is long first next last =
+    let more = received_from (m - period_columns p) ps rest rest in
+    ap (λ (xs : List Column). folded t (received_from m (p ∷ ps) xs xs)) is
+    ∙ ap (folded t) (received_step m p ps own rest long ∙ ap (λ ls. ls ++ more) first)
+    ∙ folded_both t ks more
+    ∙ ap (λ w. folded w more) next
+    ∙ last
+
 own_tail : Facts → (before : List ControlRun) (ps : List Period) → conforms (control before ∷ ps) ≡ true → (m : ℕ) (cs : List Column) → SpellsBy freely ps cs → length cs ≤ m → (t : Alternation)
     → folded t (received_from m ps cs cs) ≡ sent_turns t ps
 unfolding period_columns
@@ -308,11 +319,18 @@ own_tail f before (video bytes ∷ (control runs ∷ ps)) good m cs h le t =
     let all = ap length h.2 ∙ length-append own rest in
     let many = runs_of_period runs (first_control runs ps v.rest) in
     let more = ap length h.4.2 ∙ length-append h.4.0 h.4.1 in
-    grind (arith, control_long, received_step, own_video, folded_both, line_fold, and_on, own_tail f runs ps)
+    let first = control_long runs h.4.0 h.4.3 in
+    after_part m (video bytes) (control runs ∷ ps) own rest cs _ t _ _ h.2 n (own_video bytes own m v.own h.3 (omega (arith, le, all, n, many.1, more, first))) (line_fold t bytes)
+    (and_on f runs ps v.rest (m - (2 + length bytes / 3)) rest h.4 (omega (arith, le, all, n)) (ended t (a_line bytes)) (own_tail f runs ps v.rest))
 own_tail f before (island x ∷ []) good m cs h le t = clash _ no_periods (then_island before x [] good).rest
 own_tail f before (island x ∷ (video more ∷ ps)) good m cs h le t = clash _ (no_video more ps) (then_island before x (video more ∷ ps) good).rest
 own_tail f before (island x ∷ (island y ∷ ps)) good m cs h le t = clash _ (no_island y ps) (then_island before x (island y ∷ ps) good).rest
-own_tail f before (island x ∷ (control runs ∷ ps)) good m cs h le t = grind (arith, then_island, island_long, length-append, received_step, own_island, folded_both, island_fold, and_on, own_tail f runs ps)
+own_tail f before (island x ∷ (control runs ∷ ps)) good m cs h le t =
+    let v = then_island before x (control runs ∷ ps) good in
+    let n = island_long x h.0 h.3 in
+    let all = ap length h.2 ∙ length-append h.0 h.1 in
+    after_part m (island x) (control runs ∷ ps) h.0 h.1 cs _ t _ _ h.2 n (own_island f x h.0 m v.own h.3 (omega (arith, le, all, n))) (island_fold t x)
+    (and_on f runs ps v.rest (m - (4 + 32 * length x.packets)) h.1 h.4 (omega (arith, le, all, n)) (ended t (an_island x)) (own_tail f runs ps v.rest))
 
 -- Rules 4 to 6 change nothing.
 

@@ -4,7 +4,7 @@ use Rattle.std.specs.Prelude.{nat_lt, nat_le}
 use Rattle.std.specs.List.{list_all}
 use Rattle.std.proofs.lemmas.Bool.{le-leb, leb-true, eqb-true}
 use Rattle.tmds_word.proofs.Below.{and-left, and-right}
-use Rattle.island_pack.specs.Periods.{ControlRun, DataIsland, Period, control as control_period, island, values_of, has_preamble}
+use Rattle.island_pack.specs.Periods.{ControlRun, DataIsland, Period, control as control_period, video, island, values_of, has_preamble}
 use Rattle.island_pack.specs.Conforming.{is_run, is_control_period, is_video_period, is_data_island, conforms}
 use Rattle.island_pack.specs.Runs.{join, longest}
 use Rattle.island_pack.proofs.Runs.{values_longest}
@@ -63,7 +63,18 @@ island_period vs x rest h p v c =
 -- parts that conform make periods that do
 pub gathered_conforms : (parts : List Part) (vs : List ℕ) → conforming vs parts ≡ true → conforms (gathered (columns_of vs ++ parts)) ≡ true
 unfolding conforming gathered conforms
-gathered_conforms [] vs h = grind (arith, gathered_columns, period_first, some, period_enough)
+gathered_conforms [] vs h = ap conforms (gathered_columns vs [] ∙ period_first vs [] (λ v. refl) (some vs h)) ∙ period_enough vs h
 gathered_conforms (column v ∷ parts) vs h = ap (λ (ps : List Part). conforms (gathered ps)) (columns_more vs v parts) ∙ gathered_conforms parts (vs ++ v ∷ []) h
-gathered_conforms (pixels bytes ∷ parts) vs h = grind (arith, and-right, and-left, gathered_columns, period_first, some, period_enough, preamble_longest, gathered_conforms parts)
-gathered_conforms (packets x ∷ parts) vs h = grind (arith, and-right, and-left, gathered_columns, period_first, some, island_period, gathered_conforms parts)
+gathered_conforms (pixels bytes ∷ parts) vs h =
+    let e = and-left (enough vs) _ h in
+    let k = and-right (enough vs) _ h in
+    let l = and-right (has_preamble 1 vs) _ k in
+    ap conforms (gathered_columns vs (pixels bytes ∷ parts) ∙ period_first vs (video bytes ∷ gathered parts) (λ v. refl) (some vs e))
+    ∙ ap₂ (λ (a b : Bool). a && (b && (is_video_period bytes && conforms (gathered parts)))) (period_enough vs e) (preamble_longest 1 vs ∙ and-left (has_preamble 1 vs) _ k)
+    ∙ ap₂ (λ (a b : Bool). a && b) (and-left (is_video_period bytes) _ l) (gathered_conforms parts [] (and-right (is_video_period bytes) _ l))
+gathered_conforms (packets x ∷ parts) vs h =
+    let e = and-left (enough vs) _ h in
+    let k = and-right (enough vs) _ h in
+    let l = and-right (has_preamble 5 vs) _ k in
+    ap conforms (gathered_columns vs (packets x ∷ parts) ∙ period_first vs (island x ∷ gathered parts) (λ v. refl) (some vs e))
+    ∙ island_period vs x (gathered parts) e (and-left (has_preamble 5 vs) _ k) (and-left (is_data_island x) _ l) (gathered_conforms parts [] (and-right (is_data_island x) _ l))

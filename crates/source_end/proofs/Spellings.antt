@@ -36,7 +36,11 @@ pixels_of-more [] i lt = absurd (omega arith)
 pixels_of-more (r ∷ []) i lt = absurd (omega arith)
 pixels_of-more (r ∷ (g ∷ [])) i lt = absurd (omega arith)
 pixels_of-more (r ∷ (g ∷ (b ∷ rest))) zero lt = refl
-pixels_of-more (r ∷ (g ∷ (b ∷ rest))) (suc i) lt = grind (arith, pixels_of-more rest i)
+pixels_of-more (r ∷ (g ∷ (b ∷ rest))) (suc i) lt =
+    let x : 3 * suc i ≡ suc (suc (suc (3 * i))) = omega arith in
+    let y : 3 * suc i + 1 ≡ suc (suc (suc (3 * i + 1))) = omega arith in
+    let z : 3 * suc i + 2 ≡ suc (suc (suc (3 * i + 2))) = omega arith in
+    rw (z, y, x) (ap (λ ps. record { red = r; green = g; blue = b } ∷ ps) (pixels_of-more rest i (omega arith)))
 
 pub length-pixels_of : (bytes : List ℕ) → length (pixels_of bytes) ≡ length bytes / 3
 unfolding pixels_of
