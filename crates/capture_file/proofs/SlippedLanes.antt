@@ -11,7 +11,6 @@ use Rattle.capture_file.specs.Slips.{IsWithinLane, SaysFaulty, unread, without}
 use Rattle.capture_file.specs.declared.slipping.SlipError.{SlipError}
 use Rattle.capture_file.specs.declared.fault.CaptureFault.{CaptureFault}
 use Rattle.capture_file.specs.declared.fault.CaptureError.{CaptureError}
-use Rattle.capture_file.specs.declared.fault.CaptureError.TheVariants as errors
 use Rattle.capture_file.proofs.Heads.{same_heads}
 use Rattle.capture_file.proofs.Packing.{length-part, length-packed}
 use Rattle.capture_file.proofs.Standing.{unpacked}

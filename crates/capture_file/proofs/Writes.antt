@@ -1,6 +1,6 @@
 -- Parts of rows, written block by block.
 use Rattle.std.proofs.Common.{◌≡◌, ℕ, ◌+◌, ◌-◌, ◌*◌, ◌/◌, ◌<◌, ◌≤◌, Bool, List, [], ◌++◌, length, take, drop, min, max, ap, ap₂, ◌∙◌, sym, arith, append_assoc}
-use Rattle.std.specs.Prelude.{slice_index, if◌then◌else◌}
+use Rattle.std.specs.Prelude.{slice_index}
 use Rattle.std.proofs.lemmas.List.{drop_all}
 use Rattle.capture_file.specs.Layout.{packed, chunk, block, blocks_below, blocks_of}
 use Rattle.capture_file.specs.Captures.{counts_of, header_of, header_two, lane_blocks, layout}

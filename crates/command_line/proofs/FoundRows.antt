@@ -1,5 +1,5 @@
 -- The rows that `clap` keeps of options and operands.
-use Rattle.std.proofs.Common.{arith, ◌≡◌, ◌∙◌, ◌⊎◌, sym, ap, refl, subst, Bool, true, false, List, [], ◌∷◌, ◌++◌, append-nil, Option, Some, None, bytes_eq, is_some, true≢false}
+use Rattle.std.proofs.Common.{arith, ◌≡◌, ◌∙◌, ◌⊎◌, sym, ap, refl, subst, Bool, true, false, List, [], ◌∷◌, ◌++◌, append-nil, Option, Some, None, bytes_eq, is_some}
 use Rattle.std.specs.Prelude.{if◌then◌else◌, option_map, unwrap_or, option_and_then, slice_get}
 use Rattle.std.specs.Option.{option_map_or}
 use Rattle.std.proofs.lemmas.Slice.Eq.{bytes_eq-Decides}

@@ -6,7 +6,6 @@ use Rattle.clap.specs.Walk.{Row, rows_of}
 use Rattle.clap.specs.Matches.{found_of, subcommand_name_of, raw_values, matched_of}
 use Rattle.clap.specs.Simple.{App, HasMatchesOf, subcommand_rows, subcommand_rows_of, subcommand_of, is_simple}
 use Rattle.clap.specs.Faults.{fault_of, is_simple_and_free}
-use Rattle.clap.specs.declared.error.kind.ErrorKind.TheVariants as kind
 use Rattle.clap.specs.declared.parser.matches.ArgMatches.{ArgMatches}
 use Rattle.clap.specs.declared.parser.matches.ArgMatches.TheViews.{out-ArgMatches}
 use Rattle.clap.specs.declared.parser.matches.Found.{Found}

@@ -1,6 +1,6 @@
 -- What one word does to a walk over the words after a command's name.
 use Rattle.clap.specs.Lexer.{long_of, short_of}
-use Rattle.std.proofs.Common.{arith, ◌≡◌, ◌∙◌, ◌⊎◌, sym, ap, refl, Bool, true, false, ◌&&◌, ◌||◌, not, ℕ, List, [], ◌∷◌, ◌++◌, codes, Option, Some, None, bytes_eq, true≢false}
+use Rattle.std.proofs.Common.{arith, ◌≡◌, ◌∙◌, ◌⊎◌, sym, ap, refl, Bool, true, false, ◌&&◌, ◌||◌, not, ℕ, List, [], ◌∷◌, ◌++◌, codes, Option, Some, None, bytes_eq}
 use Rattle.std.specs.Prelude.{if◌then◌else◌, option_map}
 use Rattle.std.specs.Option.{option_map_or}
 use Rattle.std.specs.List.{list_all, list_any}
@@ -9,7 +9,6 @@ use Rattle.clap.specs.Walk.{Row, Rule, Held, Walk, Waiting, idle, option, positi
 use Rattle.clap.specs.Takes.{is_given}
 use Rattle.clap.specs.Faults.{use_fault, settle_fault, turn_fault, step_fault, flag_word_fault, long_fault, bundle_fault, flags_fault}
 use Rattle.clap.specs.Simple.{Shape}
-use Rattle.clap.specs.declared.error.kind.ErrorKind.TheVariants as kind
 use Rattle.command_line.specs.Grammar.{Text}
 use Rattle.command_line.specs.Forms.{option_id, operand_id}
 use Rattle.command_line.specs.declared.options.OptionName.{OptionName}

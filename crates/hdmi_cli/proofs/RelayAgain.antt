@@ -1,5 +1,5 @@
 -- What `relay` makes of what it wrote: the same from the last twelve columns of its first control period on.
-use Rattle.std.proofs.Common.{◌≡◌, ◌<◌, ◌≤◌, ℕ, suc, zero, ◌-◌, true, List, [], ◌∷◌, length, map, drop, ap, sym, ◌∙◌, subst, inl, inr, refl, arith, length-drop}
+use Rattle.std.proofs.Common.{◌≡◌, ◌<◌, ◌≤◌, ℕ, suc, zero, true, List, [], ◌∷◌, length, map, drop, ap, sym, ◌∙◌, subst, inl, inr, refl, arith, length-drop}
 use Rattle.std.specs.Prelude.{Option, Some}
 use Rattle.std.specs.Io.KnownBytes.{Appends}
 use Rattle.std.proofs.lemmas.List.{drop-append-le, append-nil, length-map}

@@ -1,5 +1,5 @@
 -- Frames of a content, the last of which may still be open.
-use Rattle.std.proofs.Common.{◌≡◌, ℕ, ◌+◌, ◌≤◌, Bool, true, false, ◌&&◌, List, [], ◌∷◌, ◌++◌, length, refl, ap, sym, subst, ◌∙◌, arith, eqb-true}
+use Rattle.std.proofs.Common.{◌≡◌, ℕ, ◌≤◌, Bool, true, false, ◌&&◌, List, [], ◌∷◌, ◌++◌, length, refl, ap, sym, subst, ◌∙◌, arith, eqb-true}
 use Rattle.std.specs.Prelude.{Option, None, Result, is_some, nat_lt}
 use Rattle.audio_packets.specs.declared.sample.Sample.{Sample}
 use Rattle.source_end.specs.Content.{Frame, on_last}

@@ -1,5 +1,5 @@
 -- What a line of a content listing does to what is kept of the lines before it: it is refused, is taken, or ends the listing.
-use Rattle.std.proofs.Common.{◌≡◌, ℕ, ◌+◌, ◌<◌, ◌≤◌, true, false, if◌then◌else◌, List, [], ◌++◌, length, refl, arith, length-append}
+use Rattle.std.proofs.Common.{◌≡◌, ℕ, ◌+◌, ◌<◌, ◌≤◌, true, false, if◌then◌else◌, List, ◌++◌, length, refl, arith, length-append}
 use Rattle.std.specs.Prelude.{Option, Some, None, Result, Err, IsErrAnd, nat_lt}
 use Rattle.std.proofs.lemmas.Bool.{cases_lt, lt-ltb}
 use Rattle.audio_packets.specs.declared.sample.Sample.{Sample}

@@ -1,5 +1,5 @@
 -- What a line of a link listing does.
-use Rattle.std.proofs.Common.{◌≡◌, ℕ, ◌<◌, ◌≤◌, true, false, List, [], ◌++◌, length, refl, ap, arith}
+use Rattle.std.proofs.Common.{◌≡◌, ℕ, ◌<◌, ◌≤◌, true, false, List, ◌++◌, length, refl, ap, arith}
 use Rattle.std.specs.Prelude.{Some, None, Result, Err, IsErrAnd}
 use Rattle.std.proofs.lemmas.Bool.{cases_lt}
 use Rattle.island_pack.specs.Periods.{Period}

@@ -1,10 +1,8 @@
 -- What the reader of a content listing keeps of the lines that it has taken.
-use Rattle.std.specs.Prelude.{ℕ, ◌+◌, ◌≤◌, Bool, true, false, List, [], ◌∷◌, length, Option}
+use Rattle.std.specs.Prelude.{ℕ, ◌+◌, ◌≤◌, Bool, true, false, List, [], ◌∷◌, length}
 use Rattle.audio_packets.specs.declared.sample.Sample.{Sample}
 use Rattle.source_end.specs.Content.{Frame, empty_frame}
-use Rattle.source_end.specs.declared.mode.Mode.{Mode}
 use Rattle.listing_reader.specs.ContentForms.{ContentLine, mode_line, row_line, frame_line, packet_line, sample_line, end_line, fault_line, no_line}
-use Rattle.listing_reader.specs.ContentDrafts.{ContentDraft}
 
 -- all frames but the last, and the last
 unfoldable pub first_frames : List Frame → List Frame

@@ -1,7 +1,7 @@
 -- Lanes that were followed from word to word.
 use Rattle.std.proofs.Common.{arith, ◌≡◌, ℕ, ◌+◌, Bool, true, false, not, cond, ◌==◌, ◌||◌, nat_le, ◌⊎◌, List, [], ◌∷◌, ◌++◌, refl, ap, is_some, sym, subst, ◌∙◌, All, eqb-true}
 use Rattle.std.specs.Prelude.{Option, Some, None, ℤ, ◌+ℤ◌}
-use Rattle.std.proofs.Math.IntN.{+ℤ_assoc, +ℤ_idl, +ℤ_idr}
+use Rattle.std.proofs.Math.IntN.{+ℤ_assoc, +ℤ_idr}
 use Rattle.std.proofs.lemmas.List.Elements.{All-nil, All-cons}
 use Rattle.tmds_word.specs.Bits.{bits_of, word_bits, balance, number, ones, zeros}
 use Rattle.tmds_word.specs.Column.{Column, blues, greens, reds}

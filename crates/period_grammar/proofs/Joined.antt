@@ -1,6 +1,6 @@
 -- Columns cut into stretches: joined they are the columns, and a control period with the columns after it is one of
 -- them. What later crates cite of it.
-use Rattle.std.proofs.Common.{◌≡◌, ℕ, suc, ◌+◌, ◌<◌, ◌≤◌, Bool, true, false, List, [], ◌∷◌, ◌++◌, length, take, drop, refl, ap, ap₂, sym, ◌∙◌, subst, append_assoc, arith, lt-ltb, le-ltb}
+use Rattle.std.proofs.Common.{◌≡◌, ℕ, suc, ◌<◌, ◌≤◌, Bool, true, false, List, [], ◌∷◌, ◌++◌, length, take, drop, refl, ap, ap₂, sym, ◌∙◌, subst, append_assoc, arith, lt-ltb, le-ltb}
 use Rattle.std.specs.Prelude.{nat_lt, nat_le, cond}
 use Rattle.std.proofs.lemmas.List.{append-nil, length_push, length-append, length-take-le, take-append-drop, take_all, take_at, drop_at}
 use Rattle.std.proofs.lemmas.Bool.{leb-true, leb-false}

@@ -1,7 +1,7 @@
 -- A word after words that were judged.
 use Rattle.std.proofs.Common.{◌≡◌, ℕ, ◌+◌, Bool, true, false, cond, List, [], ◌∷◌, ◌++◌, length, is_some, sym, ◌∙◌, arith}
 use Rattle.std.specs.Prelude.{Option, Some, None, ℤ, ◌+ℤ◌, ◌↔◌, IsTrue}
-use Rattle.std.proofs.Math.IntN.{+ℤ_assoc, +ℤ_idl, +ℤ_idr}
+use Rattle.std.proofs.Math.IntN.{+ℤ_assoc}
 use Rattle.std.proofs.lemmas.Bool.{eqb-true, eq-eqb}
 use Rattle.tmds_word.specs.Bits.{word_bits, balance}
 use Rattle.tmds_code.specs.Coding.{Coded, decoded_byte}

@@ -7,7 +7,7 @@ use Rattle.terc4.specs.Columns.{one_if}
 use Rattle.island_pack.specs.declared.packet.Packet.{Packet}
 use Rattle.source_end.specs.declared.mode.Mode.{Mode}
 use Rattle.source_end.specs.Content.{Frame}
-use Rattle.source_end.specs.Raster.{Line, Part, column, packets, up_from, columns, guard_at, room, row_room, blank_room, sync, back, active, front, total, packets_at, until, whole, laid, blank, row_line, lines_of, parts_of, final_columns}
+use Rattle.source_end.specs.Raster.{Line, Part, column, up_from, columns, guard_at, room, row_room, blank_room, sync, back, active, front, total, packets_at, until, whole, laid, blank, row_line, lines_of, parts_of, final_columns}
 use Rattle.source_end.specs.Lines.{left}
 use Rattle.source_end.specs.Gathering.{size}
 use Rattle.source_end.proofs.Gathered.{size_append, size_same}

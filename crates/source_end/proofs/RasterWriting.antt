@@ -6,7 +6,7 @@ use Rattle.tmds_word.proofs.Below.{and-left, and-right}
 use Rattle.island_pack.specs.declared.packet.Packet.{Packet}
 use Rattle.source_end.specs.declared.mode.Mode.{Mode}
 use Rattle.source_end.specs.Content.{Frame}
-use Rattle.source_end.specs.Raster.{Line, Part, pixels, packets, blank, row_line, room, sync, back, front, total, whole, laid, lines_of, parts_of, final_columns}
+use Rattle.source_end.specs.Raster.{Line, Part, pixels, blank, row_line, room, sync, back, front, total, whole, laid, lines_of, parts_of, final_columns}
 use Rattle.source_end.specs.Lines.{lead, lead_end, left}
 use Rattle.source_end.specs.Gathering.{size}
 use Rattle.source_end.proofs.Gathered.{size_append}

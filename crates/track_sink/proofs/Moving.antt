@@ -1,6 +1,6 @@
 -- Eight bytes at a time: the 64 bits from a bit of a byte on, bits that move to where a byte begins, and bits that are
 -- put after a few others.
-use Rattle.std.proofs.Common.{◌≡◌, ℕ, ◌+◌, ◌-◌, ◌*◌, ◌/◌, ◌%◌, ◌^◌, ◌<◌, ◌≤◌, Bool, List, [], ◌++◌, length, take, drop, take-take, get_or, refl, ap, ap₂, ◌∙◌, sym, subst, arith, append_assoc, append-nil, length-take, bit_and, bit_or}
+use Rattle.std.proofs.Common.{◌≡◌, ℕ, ◌+◌, ◌-◌, ◌*◌, ◌/◌, ◌%◌, ◌^◌, ◌<◌, ◌≤◌, Bool, List, ◌++◌, length, take, drop, take-take, get_or, refl, ap, ap₂, ◌∙◌, sym, subst, arith, append_assoc, append-nil, length-take, bit_and, bit_or}
 use Rattle.std.specs.Int.{w64, to_le_bytes}
 use Rattle.std.proofs.Math.Nat.{mod-eq_of_lt, mul-div_cancel, mul-mod_left}
 use Rattle.std.proofs.Math.Pow.{mod-mod-pow, pow_mono, shr_lt}

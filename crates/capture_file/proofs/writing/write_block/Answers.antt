@@ -1,4 +1,4 @@
-use Rattle.std.proofs.Common.{arith, rules, ◌≡◌, ℕ, ◌+◌, ◌++◌, [], Bool, List, length, ◌∙◌, sym, refl, length-append, append-nil, append_assoc}
+use Rattle.std.proofs.Common.{arith, ◌≡◌, ℕ, ◌+◌, ◌++◌, [], Bool, List, length, ◌∙◌, sym, refl, length-append, append-nil, append_assoc}
 use Rattle.std.proofs.lemmas.Result.{err_from_is_err_and}
 use Rattle.capture_file.specs.Layout.{packed, chunk}
 use Rattle.capture_file.specs.Taps.{row_part, part_block}

@@ -1,4 +1,4 @@
-use Rattle.std.proofs.Common.{arith, rules, ◌≡◌, ℕ, ◌+◌, ◌++◌, Bool, List, max, length, slice_index, ap, ◌∙◌, sym, length-append}
+use Rattle.std.proofs.Common.{arith, ◌≡◌, ℕ, ◌++◌, Bool, List, max, length, slice_index, ap, ◌∙◌, sym, length-append}
 use Rattle.std.proofs.lemmas.Result.{err_from_is_err_and}
 use Rattle.capture_file.specs.Layout.{packed, block, blocks_below}
 use Rattle.capture_file.specs.Captures.{header_of}

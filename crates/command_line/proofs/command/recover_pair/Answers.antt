@@ -1,4 +1,4 @@
-use Rattle.std.proofs.Common.{arith, rules, ◌≡◌, ◌∙◌, sym, None, []}
+use Rattle.std.proofs.Common.{arith, rules, ◌≡◌, ◌∙◌, sym, None}
 use Rattle.std.proofs.lemmas.Slice.Eq.{bytes_eq-Decides}
 use Rattle.command_line.proofs.SlipTexts.{digit_reported}
 use Rattle.command_line.proofs.Meanings.{no_pair}

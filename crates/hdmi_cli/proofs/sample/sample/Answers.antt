@@ -1,4 +1,4 @@
-use Rattle.std.proofs.Common.{arith, [], sym, subst}
+use Rattle.std.proofs.Common.{arith, sym, subst}
 use Rattle.capture_file.specs.Captures.{IsCapture}
 use Rattle.hdmi_cli.proofs.Samples.{sampled, struck_is_capture}
 use Rattle.hdmi_cli.proofs.sample.sample.Goals as goal

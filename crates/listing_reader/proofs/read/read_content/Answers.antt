@@ -1,4 +1,4 @@
-use Rattle.std.proofs.Common.{[], subst}
+use Rattle.std.proofs.Common.{subst}
 use Rattle.listing_reader.specs.Answers.{Answers}
 use Rattle.listing_reader.specs.ContentDrafts.{no_content}
 use Rattle.listing_reader.specs.ContentKept.{ContentKept, kept_step}

@@ -1,4 +1,4 @@
-use Rattle.std.proofs.Common.{arith, ℕ, ◌+◌, List, ◌++◌, subst}
+use Rattle.std.proofs.Common.{arith, ℕ, List, ◌++◌, subst}
 use Rattle.std.specs.Prelude.{Err}
 use Rattle.listing_reader.specs.Taken.{TakesLine}
 use Rattle.listing_reader.proofs.Leaving.{leaves_line, leaves_last, leaves_long}

@@ -1,4 +1,4 @@
-use Rattle.std.proofs.Common.{arith, []}
+use Rattle.std.proofs.Common.{arith}
 use Rattle.source_end.proofs.Generated.{same_length, adds_none, no_row, rows_added}
 use Rattle.source_end.proofs.generator.add_rows.Goals as goal
 

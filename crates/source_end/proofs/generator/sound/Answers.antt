@@ -1,4 +1,4 @@
-use Rattle.std.proofs.Common.{arith, []}
+use Rattle.std.proofs.Common.{arith}
 use Rattle.source_end.specs.Generator.{sound_packet}
 use Rattle.source_end.proofs.generator.sound.Goals as goal
 

@@ -1,4 +1,4 @@
-use Rattle.std.proofs.Common.{[], arith}
+use Rattle.std.proofs.Common.{arith}
 use Rattle.std.proofs.lemmas.List.{take_more_set, length-set}
 use Rattle.source_end.specs.Raster.{blank, sync_at}
 use Rattle.source_end.proofs.RasterRuns.{map_next, all_filled}

@@ -1,5 +1,4 @@
-use Rattle.std.proofs.Common.{◌-◌, sym, ◌∙◌, arith}
-use Rattle.source_end.specs.RasterRefusals.{raster_fault}
+use Rattle.std.proofs.Common.{sym, ◌∙◌, arith}
 use Rattle.source_end.specs.RasterLaws.{RasterConforms, RasterColumns}
 use Rattle.source_end.proofs.RasterModes.{few_columns}
 use Rattle.source_end.proofs.RasterLaw.{raster_conforms, raster_columns}

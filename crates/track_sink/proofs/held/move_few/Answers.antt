@@ -1,4 +1,4 @@
-use Rattle.std.proofs.Common.{◌-◌, arith}
+use Rattle.std.proofs.Common.{arith}
 use borrow.Rule.Slice.PartMut.{put_mid}
 use Rattle.track_sink.proofs.Moving.{few_put, few_first}
 use Rattle.track_sink.proofs.held.move_few.Goals as goal

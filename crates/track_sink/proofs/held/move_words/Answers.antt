@@ -1,4 +1,4 @@
-use Rattle.std.proofs.Common.{◌+◌, ◌-◌, ◌*◌, drop, refl, arith}
+use Rattle.std.proofs.Common.{◌+◌, ◌*◌, drop, refl, arith}
 use borrow.Rule.Slice.PartMut.{put_mid}
 use Rattle.tmds_word.specs.Bits.{bytes_bits}
 use Rattle.track_sink.proofs.Moving.{words_begin, word_moved, word_rest}

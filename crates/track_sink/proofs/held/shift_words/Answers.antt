@@ -1,4 +1,4 @@
-use Rattle.std.proofs.Common.{◌-◌, arith}
+use Rattle.std.proofs.Common.{arith}
 use borrow.Rule.Slice.PartMut.{put_mid}
 use Rattle.tmds_word.proofs.Numbers.{pow_positive}
 use Rattle.tmds_word.proofs.Rows.{mask_is}

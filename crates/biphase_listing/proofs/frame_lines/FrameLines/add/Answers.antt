@@ -1,4 +1,4 @@
-use Rattle.std.proofs.Common.{arith, [], append-nil}
+use Rattle.std.proofs.Common.{arith, append-nil}
 use Rattle.biphase_listing.proofs.Joining.{frame_lines_more, no_status}
 use Rattle.biphase_listing.proofs.frame_lines.FrameLines.add.Goals as goal
 use Rattle.biphase_listing.proofs.frame_lines.FrameLines.add.Goals.{then-take, else-take}

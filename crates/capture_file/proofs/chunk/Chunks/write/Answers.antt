@@ -1,4 +1,4 @@
-use Rattle.std.proofs.Common.{rules, arith, ◌≡◌, ◌+◌, ◌++◌, [], length, ap, ap₂, ◌∙◌, sym, refl, length-append, append-nil}
+use Rattle.std.proofs.Common.{arith, ◌≡◌, ◌+◌, ◌++◌, [], length, ap, ap₂, ◌∙◌, sym, refl, length-append, append-nil}
 use Rattle.std.proofs.lemmas.Grind.{common_steps}
 use Rattle.capture_file.specs.Layout.{packed}
 use Rattle.capture_file.proofs.Parts.{Appends-part, Appends-two}

@@ -1,4 +1,4 @@
-use Rattle.std.proofs.Common.{arith, rules, ◌≡◌, ◌+◌, ◌++◌, List, Bool, ℕ, length, length-append, ap, sym, subst}
+use Rattle.std.proofs.Common.{arith, ◌≡◌, ◌+◌, ◌++◌, List, Bool, ℕ, length, length-append, ap, sym, subst}
 use Rattle.capture_file.specs.Layout.{packed}
 use Rattle.capture_file.specs.Captures.{Stands, StopsIn, IsFault, place_of}
 use Rattle.capture_file.specs.Slips.{SaysFaulty}

@@ -1,4 +1,4 @@
-use Rattle.std.proofs.Common.{[], arith, length-append}
+use Rattle.std.proofs.Common.{arith, length-append}
 use Rattle.listing_reader.proofs.ContentFrames.{frame_kept, no_fault}
 use Rattle.listing_reader.proofs.ContentKept.{fault_first}
 use Rattle.listing_reader.proofs.content_reader.ContentReader.end_frame.Goals as goal

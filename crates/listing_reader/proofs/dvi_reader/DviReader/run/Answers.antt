@@ -1,4 +1,4 @@
-use Rattle.std.proofs.Common.{arith, []}
+use Rattle.std.proofs.Common.{arith}
 use Rattle.listing_reader.proofs.DviCauses.{dvi_run_range, dvi_run_long, dvi_run_fits}
 use Rattle.listing_reader.proofs.DviOpen.{dvi_columns_run}
 use Rattle.listing_reader.proofs.Islands.{le_from}

@@ -1,4 +1,4 @@
-use Rattle.std.proofs.Common.{arith, ◌-◌}
+use Rattle.std.proofs.Common.{arith}
 use Rattle.std.proofs.lemmas.List.{length-set}
 use Rattle.source_end.proofs.Gathered.{on_ok}
 use Rattle.source_end.proofs.Contents.{last_set, set_content, packet_content, kept_or}

@@ -1,4 +1,4 @@
-use Rattle.std.proofs.Common.{arith, Some, ap, sym, ◌∙◌, []}
+use Rattle.std.proofs.Common.{arith, Some, ap, sym, ◌∙◌}
 use Rattle.source_end.proofs.Gathered.{run_of, same_some, push_first, push_grows, push_turns}
 use Rattle.source_end.proofs.gathering.OpenRuns.push.Goals as goal
 

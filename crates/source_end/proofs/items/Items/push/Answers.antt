@@ -1,4 +1,4 @@
-use Rattle.std.proofs.Common.{[], arith}
+use Rattle.std.proofs.Common.{arith}
 use Rattle.std.proofs.lemmas.List.{map-append}
 use Rattle.source_end.proofs.Turns.{Follows, so_far-more, columns_of-more, same_sum, room_left}
 use Rattle.source_end.proofs.Faults.{none_holds, found_is, answers, answers_ok, answers_err}

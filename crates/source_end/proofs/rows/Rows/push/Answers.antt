@@ -1,4 +1,4 @@
-use Rattle.std.proofs.Common.{[], arith, length-append}
+use Rattle.std.proofs.Common.{arith, length-append}
 use Rattle.source_end.proofs.RowEnds.{ends_more, rows_more}
 use Rattle.source_end.proofs.rows.Rows.push.Goals as goal
 

@@ -1,4 +1,4 @@
-use Rattle.std.proofs.Common.{◌-◌, arith}
+use Rattle.std.proofs.Common.{arith}
 use Rattle.std.proofs.lemmas.List.{with_items_is}
 use Rattle.track_sink.proofs.Shifting.{length_held, less_held, settled_first, settled_rest, front_held}
 use Rattle.track_sink.proofs.held.Held.release.Goals as goal

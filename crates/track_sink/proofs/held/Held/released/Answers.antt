@@ -1,4 +1,4 @@
-use Rattle.std.proofs.Common.{◌-◌, length-drop, arith}
+use Rattle.std.proofs.Common.{length-drop, arith}
 use Rattle.std.proofs.lemmas.List.{length-take-le}
 use Rattle.track_sink.proofs.Shifting.{released_bits, length_held}
 use Rattle.track_sink.proofs.held.Held.released.Goals as goal
