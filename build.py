@@ -3,8 +3,8 @@
 
     build.py
 
-Crates are proved side by side, each once those below it are. The one with the most code left above it goes first, at more
-than one processor, and the others give way to it, since it decides when the last crate can begin. The kit's prover is called crate
+Crates are proved side by side, each once those below it are. The one with the most code left above it goes first, at all
+processors, and the others give way to it, since it decides when the last crate can begin. The kit's prover is called crate
 by crate, each from nothing and over the statements of the crates below, as `rt ci` calls it; `rt all` and `rt run` look at
 all sources before the first proof, and then several times at those of all crates below. A crate is not proved again while
 its files, its line in crates.txt, the crates below it and the kit are as they were. What is made lies in
@@ -204,16 +204,16 @@ class Building:
 
     def begin_ready(self):
         """Starts what can be started. A crate's rank is how many with longer ways up are being proved: it begins while that is
-        fewer than there are processors. The first one gets two jobs at least, and processors that none waits for are shared."""
+        fewer than there are processors. The first one gets as many jobs as help, the others what it leaves."""
         ready = [it for it in self.left if self.done.issuperset(it.uses)]
         for at, crate in enumerate(ready):
             rank = sum(self.ways[it] > self.ways[crate] for it in self.running)
             if rank >= processors() or len(self.running) >= self.most:
                 return
-            least = 2 if rank == 0 and self.most > 1 else 1
             shared = (processors() - len(self.running)) // (len(ready) - at)
+            jobs = processors() if rank == 0 and self.most > 1 else max(1, shared)
             self.left.remove(crate)
-            self.begin(crate, max(least, min(MOST_JOBS, shared)), rank)
+            self.begin(crate, min(MOST_JOBS, jobs), rank)
 
     def end(self, crate, status):
         """Takes the end of a check. One that was killed, most likely for want of memory, is tried again with nothing beside it."""
