@@ -194,13 +194,14 @@ class Building:
         self.running, self.failed = {}, None
 
     def begin(self, crate, jobs, rank):
-        """Starts a crate's check, in a process group of its own, with which a build that ends early ends it."""
+        """Starts a crate's check, in a process group of its own, with which a build that ends early ends it. All stay in one
+        session, since a kernel that groups processes by sessions weighs how nice they are within one alone."""
         crate.made.parent.mkdir(parents=True, exist_ok=True)
         crate.made_from.unlink(missing_ok=True)
         words = ["nice", "-n", str(min(NICEST, NICER * rank)), *crate.command(jobs)]
         with open(crate.log, "wb") as log:
             how = {"cwd": crate.folder, "stdin": subprocess.DEVNULL, "stdout": log, "stderr": subprocess.STDOUT}
-            self.running[crate] = subprocess.Popen(words, start_new_session=True, **how)
+            self.running[crate] = subprocess.Popen(words, process_group=0, **how)
 
     def begin_ready(self):
         """Starts what can be started. A crate's rank is how many with longer ways up are being proved: it begins while that is
