@@ -4,7 +4,7 @@
     build.py
 
 Crates are proved side by side, each once those below it are. The one with the most code left above it goes first, at all
-processors, and the others give way to it, since it decides when the last crate can begin. The kit's prover is called crate
+processors, and each gives way to those with more, since they decide when the last crate can begin. The kit's prover is called crate
 by crate, each from nothing and over the statements of the crates below, as `rt ci` calls it; `rt all` and `rt run` look at
 all sources before the first proof, and then several times at those of all crates below. A crate is not proved again while
 its files, its line in crates.txt, the crates below it and the kit are as they were. What is made lies in
@@ -31,9 +31,9 @@ PROGRAM = "hdmi_cli"
 BUILT = TOP / "crates" / PROGRAM / "out" / PROGRAM
 TARGET = "x86_64-unknown-linux-gnu"
 CRATE = 90  # as many lines of code take as long as a check of a crate without any
+ASKED = 13  # and as one `?`, at which a function may end early
 MEMORY = 3_000_000_000  # the most that a check takes, in bytes
 MOST_JOBS = 4  # of one check: more hardly help
-NICER = 10  # by how much a check is nicer than the one before it in rank
 NICEST = 19
 
 
@@ -122,9 +122,9 @@ class Crate:
 
     @cached_property
     def work(self):
-        """About how long its check takes, against others: by the lines of its code, tests left out."""
-        code = [path for path in self.files if path.suffix == ".rt" and "tests" not in (path.stem, path.parent.name)]
-        return CRATE + sum(path.read_bytes().count(b"\n") for path in code)
+        """About how long its check takes, against others: by the lines of its code and each `?` in it, tests left out."""
+        code = [path.read_bytes() for path in self.files if path.suffix == ".rt" and "tests" not in (path.stem, path.parent.name)]
+        return CRATE + sum(text.count(b"\n") + ASKED * text.count(b"?") for text in code)
 
     @cached_property
     def sum(self):
@@ -193,12 +193,17 @@ class Building:
         self.left = sorted((it for it in crates if it not in self.done), key=self.ways.get, reverse=True)
         self.running, self.failed = {}, None
 
-    def begin(self, crate, jobs, rank):
+    def niceness(self, crate):
+        """How nice its check is: the less work stands in its way up, the nicer."""
+        longest = max(self.ways.values())
+        return NICEST * (longest - self.ways[crate]) // longest
+
+    def begin(self, crate, jobs):
         """Starts a crate's check, in a process group of its own, with which a build that ends early ends it. All stay in one
         session, since a kernel that groups processes by sessions weighs how nice they are within one alone."""
         crate.made.parent.mkdir(parents=True, exist_ok=True)
         crate.made_from.unlink(missing_ok=True)
-        words = ["nice", "-n", str(min(NICEST, NICER * rank)), *crate.command(jobs)]
+        words = ["nice", "-n", str(self.niceness(crate)), *crate.command(jobs)]
         with open(crate.log, "wb") as log:
             how = {"cwd": crate.folder, "stdin": subprocess.DEVNULL, "stdout": log, "stderr": subprocess.STDOUT}
             self.running[crate] = subprocess.Popen(words, process_group=0, **how)
@@ -214,7 +219,7 @@ class Building:
             shared = (processors() - len(self.running)) // (len(ready) - at)
             jobs = processors() if rank == 0 and self.most > 1 else max(1, shared)
             self.left.remove(crate)
-            self.begin(crate, min(MOST_JOBS, jobs), rank)
+            self.begin(crate, min(MOST_JOBS, jobs))
 
     def end(self, crate, status):
         """Takes the end of a check. One that was killed, most likely for want of memory, is tried again with nothing beside it."""

@@ -127,9 +127,9 @@ unfolding biphase_text
 breaks_one pair reported event held holds samples bytes n are grows missing put = grind (arith, one_reported)
 
 -- an event without samples of the pair
-pub lists_quiet : (pair : ℕ) (reported : List Event) (event : Event) (now : Bool) (before after : ℕ) (held : Option (List ℕ))
+pub lists_no_sound : (pair : ℕ) (reported : List Event) (event : Event) (now : Bool) (before after : ℕ) (held : Option (List ℕ))
     → samples_at pair event ≡ [] → after ≡ counted before (biphase_faults (event ∷ [])) → Recalls now pair reported → Lists pair reported (event ∷ []) now before after held held
-lists_quiet pair reported event now before after held none counts stands =
+lists_no_sound pair reported event now before after held none counts stands =
     lists_one pair reported event now before after held held [] [] none counts
     (subst (λ (xs : List Sample). IsEncoderAfter now xs) (sym (append-nil (reported_samples pair reported))) stands)
     (ap biphase (append-nil (reported_samples pair reported)) ∙ sym (append-nil (biphase (reported_samples pair reported)))) (Appends-nil held)
@@ -185,20 +185,20 @@ none_counted before n none = omega (arith, none)
 
 -- ---- events that are no packets
 
-record IsQuiet (event : Event) : Type 0 where
+record HasNoSound (event : Event) : Type 0 where
   pub samples : (pair : ℕ) → samples_at pair event ≡ []
   pub faults : biphase_faults (event ∷ []) ≡ 0
 
-lists_nothing : (pair : ℕ) (reported : List Event) (event : Event) (now : Bool) (faults : ℕ) (held : Option (List ℕ)) → IsQuiet event → Recalls now pair reported
+lists_nothing : (pair : ℕ) (reported : List Event) (event : Event) (now : Bool) (faults : ℕ) (held : Option (List ℕ)) → HasNoSound event → Recalls now pair reported
     → Lists pair reported (event ∷ []) now faults faults held held
-lists_nothing pair reported event now faults held quiet recalls = lists_quiet pair reported event now faults faults held (quiet.samples pair) (none_counted faults _ quiet.faults) recalls
+lists_nothing pair reported event now faults held soundless recalls = lists_no_sound pair reported event now faults faults held (soundless.samples pair) (none_counted faults _ soundless.faults) recalls
 
-quiet : (event : Event) → ((pair : ℕ) → samples_at pair event ≡ []) → is_lost_sound event ≡ false → IsQuiet event
-quiet event none sound = record { samples = none; faults = faults_one event false sound }
+soundless : (event : Event) → ((pair : ℕ) → samples_at pair event ≡ []) → is_lost_sound event ≡ false → HasNoSound event
+soundless event none sound = record { samples = none; faults = faults_one event false sound }
 
-fault_quiet : (fault : Fault) → IsQuiet (fault_event fault)
+fault_no_sound : (fault : Fault) → HasNoSound (fault_event fault)
 unfolding samples_at is_lost_sound
-fault_quiet fault = grind (arith, quiet)
+fault_no_sound fault = grind (arith, soundless)
 
 -- what is no packet
 abbrev pub IsNoPacket : EventRef → Type 0
@@ -210,10 +210,10 @@ IsNoPacket reported =
     ⊎ (((column : ℕ) × (reported ≡ Cut column))
     ⊎ ((fault : Fault) × (reported ≡ FaultReported fault))))))
 
-reported_quiet : (reported : EventRef) → IsNoPacket reported → IsQuiet (lent_event reported)
+reported_no_sound : (reported : EventRef) → IsNoPacket reported → HasNoSound (lent_event reported)
 unfolding samples_at is_lost_sound
-reported_quiet reported h = grind (arith, quiet, fault_quiet)
+reported_no_sound reported h = grind (arith, soundless, fault_no_sound)
 
 pub nothing_heard : (pair : ℕ) (before : List Event) (reported : EventRef) (now : Bool) (faults : ℕ) (held : Option (List ℕ)) → IsNoPacket reported → Recalls now pair before
     → Lists pair before (lent_event reported ∷ []) now faults faults held held
-nothing_heard pair before reported now faults held is recalls = lists_nothing pair before (lent_event reported) now faults held (reported_quiet reported is) recalls
+nothing_heard pair before reported now faults held is recalls = lists_nothing pair before (lent_event reported) now faults held (reported_no_sound reported is) recalls

@@ -45,7 +45,7 @@ impl DviHearing {
     pub fn open() -> DviHearing
         ensures open { result.finished ≡ false }
         ensures heard { DviHearingRepresents result [] }
-        ensures quiet { last_reported result ≡ [] }
+        ensures none_reported { last_reported result ≡ [] }
     {
         DviHearing {
             columns: 0,
@@ -62,7 +62,7 @@ impl DviHearing {
     pub fn restart(&mut self)
         ensures open { self.new.finished ≡ false }
         ensures heard { DviHearingRepresents self.new [] }
-        ensures quiet { last_reported self.new ≡ [] }
+        ensures none_reported { last_reported self.new ≡ [] }
     {
         self.columns = 0;
         self.phase = Phase::Control;
@@ -120,7 +120,7 @@ impl DviHearing {
         ensures open { self.new.finished ≡ false }
         ensures heard { (cs : List Column) → DviHearingRepresents self.old cs → DviHearingRepresents self.new (cs ++ take result (columns_in columns.entry)) }
         ensures reported { (cs : List Column) → DviHearingRepresents self.old cs → dvi_so_far (cs ++ take result (columns_in columns.entry)) ≡ dvi_so_far cs }
-        ensures quiet { last_reported self.new ≡ [] }
+        ensures none_reported { last_reported self.new ≡ [] }
     {
         self.notes.clear();
         match self.phase {

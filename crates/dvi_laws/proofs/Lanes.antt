@@ -54,18 +54,18 @@ small_pixels (r ∷ (g ∷ (b ∷ rest))) zero h = grind (arith, and-right, ltb-
 small_pixels (r ∷ (g ∷ (b ∷ rest))) (suc j) h =
     small_pixels rest j (and-right (nat_lt b 256) _ (and-right (nat_lt g 256) _ (and-right (nat_lt r 256) _ h)))
 
-lane_quiet : (bytes words : List ℕ) → IsLane bytes words → (j : ℕ) → j < length words → get_or bytes j 0 < 256 → turns (word_bits (get_or words j 0)) ≤ 5
-lane_quiet bytes words lane j lt small =
+lane_minimized : (bytes words : List ℕ) → IsLane bytes words → (j : ℕ) → j < length words → get_or bytes j 0 < 256 → turns (word_bits (get_or words j 0)) ≤ 5
+lane_minimized bytes words lane j lt small =
     subst (λ w. turns (word_bits w) ≤ 5) (sym (lane.coded j lt)) (coded_turns (sign_of (disparity_of (take j words))) (get_or bytes j 0) small)
 
-pixel_quiet : (f : Pixel → ℕ) (g : Column → ℕ) (pixels : List Pixel) (pp : List Column) → IsLane (map f pixels) (map g pp)
+pixel_minimized : (f : Pixel → ℕ) (g : Column → ℕ) (pixels : List Pixel) (pp : List Column) → IsLane (map f pixels) (map g pp)
     → (j : ℕ) → j < length pp → f (get_or pixels j no_pixel) < 256 → turns (word_bits (g (column_at pp j))) ≤ 5
-pixel_quiet f g pixels pp lane j lt small =
+pixel_minimized f g pixels pp lane j lt small =
     let same = lane.same_length in
     let a = length-map pixels f in
     let b = length-map pp g in
     let byte : get_or (map f pixels) j 0 ≡ f (get_or pixels j no_pixel) = get_or-map f pixels j no_pixel 0 (omega arith) in
-    grind (arith, get_or-map, lane_quiet)
+    grind (arith, get_or-map, lane_minimized)
 
 payload_from : (cs : List Column) → ((i : ℕ) → i < length cs → HasFewTurns (column_at cs i)) → ArePayload cs
 payload_from [] each = spelled.none
@@ -73,9 +73,9 @@ payload_from (c ∷ cs) each = spelled.more c cs (each zero (omega arith)) (payl
 
 pixels_payload : (bytes : List ℕ) (pp : List Column) → are_bytes bytes ≡ true → SpellsPixels (pixels_of bytes) pp → ArePayload pp
 pixels_payload bytes pp small h = payload_from pp (λ j lt. record {
-  blue = pixel_quiet (λ p. p.blue) (λ c. c.blue) (pixels_of bytes) pp h.blue j lt (small_pixels bytes j small).blue;
-  green = pixel_quiet (λ p. p.green) (λ c. c.green) (pixels_of bytes) pp h.green j lt (small_pixels bytes j small).green;
-  red = pixel_quiet (λ p. p.red) (λ c. c.red) (pixels_of bytes) pp h.red j lt (small_pixels bytes j small).red;
+  blue = pixel_minimized (λ p. p.blue) (λ c. c.blue) (pixels_of bytes) pp h.blue j lt (small_pixels bytes j small).blue;
+  green = pixel_minimized (λ p. p.green) (λ c. c.green) (pixels_of bytes) pp h.green j lt (small_pixels bytes j small).green;
+  red = pixel_minimized (λ p. p.red) (λ c. c.red) (pixels_of bytes) pp h.red j lt (small_pixels bytes j small).red;
 })
 
 fit_pixels : (n : ℕ) (pp : List Column) (ks : List Kind) (cs : List Column) → length pp ≡ n → ArePayload pp → Fitting ks cs → Fitting (replicate n pixel_column ++ ks) (pp ++ cs)

@@ -7,7 +7,7 @@ use Rattle.tmds_word.specs.Column.{Column}
 use Rattle.island_pack.specs.Periods.{Pixel}
 use Rattle.period_grammar.specs.Events.{Event, line, cut, short, long_line}
 use Rattle.period_grammar.specs.Heard.{line_bytes, codes_of, if_not}
-use Rattle.link_laws.proofs.VideoReported.{ArePixels, pixels_quiet, length_received, bytes_are}
+use Rattle.link_laws.proofs.VideoReported.{ArePixels, pixels_no_control, length_received, bytes_are}
 use Rattle.dvi_hearing.specs.DviHeard.{dvi_line, dvi_closing, dvi_gaps}
 use Rattle.dvi_laws.specs.DviAccount.{dvi_video_row, dvi_video_reported}
 use Rattle.dvi_laws.proofs.Walk.{IsGapBy}
@@ -36,4 +36,4 @@ reported_whole b k ps ss rs h = grind (arith, lt-ltb)
 pub dvi_gap : (before : List Column) (ps : List Pixel) (ss rs : List Column) → 12 ≤ length before → 1 ≤ length ps → length ps ≤ 4096 → ArePixels ps ss rs
     → IsGapBy dvi_gaps before rs (λ b k. dvi_video_reported b k ps ss rs)
 unfolding dvi_video_reported
-dvi_gap before ps ss rs long some few are = grind (arith, length_received, pixels_quiet, reported_part, closing_is, closes, reported_whole)
+dvi_gap before ps ss rs long some few are = grind (arith, length_received, pixels_no_control, reported_part, closing_is, closes, reported_whole)

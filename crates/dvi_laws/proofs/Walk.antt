@@ -91,16 +91,16 @@ gap_on g j (c ∷ cs) (x ∷ gap) next long all one none h =
 -- What has to be shown of each kind of period: of its columns as received, and its row by how many of
 -- them were received.
 pub record IsGapBy (g : Gaps) (before rs : List Column) (row : ℕ → ℕ → List Event) : Type 0 where
-  pub quiet : NoneControl rs
+  pub no_control : NoneControl rs
   pub one : 1 ≤ length rs
   pub nothing : (b : ℕ) → row b 0 ≡ []
   pub part : (b k : ℕ) → 1 ≤ k → k ≤ length rs → gap_events g b before (take k rs) ++ g.ending b before (take k rs) ≡ row b k
   pub whole : (b k : ℕ) → length rs < k → gap_events g b before rs ++ g.closing b before rs ≡ row b k
 
-take_quiet : (k : ℕ) (cs : List Column) → NoneControl cs → NoneControl (take k cs)
-take_quiet zero cs h = refl
-take_quiet (suc k) [] h = refl
-take_quiet (suc k) (c ∷ cs) h = and_both _ _ (and-left _ _ h) (take_quiet k cs (and-right _ _ h))
+take_no_control : (k : ℕ) (cs : List Column) → NoneControl cs → NoneControl (take k cs)
+take_no_control zero cs h = refl
+take_no_control (suc k) [] h = refl
+take_no_control (suc k) (c ∷ cs) h = and_both _ _ (and-left _ _ h) (take_no_control k cs (and-right _ _ h))
 
 heads_take : (k : ℕ) (cs : List Column) → 1 ≤ k → heads cs ≡ true → heads (take k cs) ≡ true
 heads_take k cs h l = grind arith
@@ -124,7 +124,7 @@ gap_law g cs rs row long all h j k next at = elim (cases_lt (length rs) k) [
 
     part_received : 1 ≤ k → k ≤ length rs → walk g j (stretches (cs ++ take k (rs ++ next)))
         ≡ control_row j cs ++ (row (j + length cs) k ++ walk g (j + length cs + length rs) (stretches (take (k - length rs) next)))
-    part_received one le = grind (arith, length-take, take-append-le, gap_cut, take_quiet, append-nil, walk_none)
+    part_received one le = grind (arith, length-take, take-append-le, gap_cut, take_no_control, append-nil, walk_none)
 
     all_received : length rs < k → walk g j (stretches (cs ++ take k (rs ++ next)))
         ≡ control_row j cs ++ (row (j + length cs) k ++ walk g (j + length cs + length rs) (stretches (take (k - length rs) next)))

@@ -7,7 +7,7 @@ use Rattle.frame_build.specs.Group.{group, counts, frame_of, frame_at, EndsFrame
 use Rattle.frame_build.specs.State.{State}
 use Rattle.frame_build.specs.FramesRepresent.{FramesRepresent}
 use Rattle.frame_build.specs.declared.FrameNote.{FrameNote}
-use Rattle.frame_build.proofs.Between.{last_change, since_change-quiet, has_change-after, quiet-between, between-last, reverse-around}
+use Rattle.frame_build.proofs.Between.{last_change, since_change-unchanged, has_change-after, unchanged-between, between-last, reverse-around}
 use Rattle.frame_build.proofs.Groups.{stands-same}
 
 -- a fault of one word changes nothing: what stood for the list before it stands for the list with it
@@ -41,10 +41,10 @@ EndsFrame-reported reported last frame is =
       between = reverse was.later;
       parts = between.0;
       changes = between.1;
-      frame_is = grind (arith, since_change-quiet);
+      frame_is = grind (arith, since_change-unchanged);
     }
 
 -- and that of the lines between two changes is reported
 pub frame_at-ends : (reported : List FrameEvent) (last : FrameEvent) (frame : FrameNote) → EndsFrame reported last frame → frame_at reported last ≡ Some frame
 unfolding some_if
-frame_at-ends reported last frame ends = grind (arith, reverse-around, quiet-between, since_change-quiet, has_change-after, reverse-reverse)
+frame_at-ends reported last frame ends = grind (arith, reverse-around, unchanged-between, since_change-unchanged, has_change-after, reverse-reverse)

@@ -54,5 +54,5 @@ changes_at reported event = is_change event (reverse reported)
 -- `between` lies between two changes: one is heard at `first`, which is reported after `before`, the next at `last`
 pub record IsBetweenChanges (before : List FrameEvent) (first : FrameEvent) (between : List FrameEvent) (last : FrameEvent) : Type 0 where
   pub opens : IsTrue (changes_at before first)
-  pub quiet : (front : List FrameEvent) (event : FrameEvent) (back : List FrameEvent) → between ≡ front ++ event ∷ back → changes_at (before ++ first ∷ front) event ≡ false
+  pub unchanged : (front : List FrameEvent) (event : FrameEvent) (back : List FrameEvent) → between ≡ front ++ event ∷ back → changes_at (before ++ first ∷ front) event ≡ false
   pub closes : IsTrue (changes_at (before ++ first ∷ between) last)

@@ -7,7 +7,7 @@ use Rattle.outside_io.specs.Causes.{Rose}
 use Rattle.capture_file.specs.Captures.{IsCaptureOf, IsFault, place_of}
 use Rattle.capture_file.specs.declared.fault.CaptureFault.{CaptureFault}
 use Rattle.period_grammar.specs.Events.{Event}
-use Rattle.link_sink.specs.declared.hear.Outcome.{Outcome as Hearing}
+use Rattle.link_sink.specs.declared.hear.Outcome.{Outcome}
 use Rattle.link_sink.specs.Alignment.{reported_under, AreReportedBy, IsAlignedBy}
 use Rattle.link_sink.specs.Grammar.{Grammar}
 use Rattle.link_sink.specs.Hearings.{IsGrammar}
@@ -41,7 +41,7 @@ pub record Unheard {A : Type 0} (g : Grammar) (took : A → A → List Event →
   pub broken :
       e ≡ Ear → Rose writes write_faults × (before now : Fed) × (events : List Event) × (read : List ℕ) × Consumes left rest read
       × ((AreNext before now read × IsReportedBy g now events × IsBroken g took broke before events old new)
-      ⊎ ((outcome : Hearing) × IsAtEnd rest × IsCaptureOf now.blue now.green now.red read × AreReportedBy g now.blue now.green now.red outcome events × IsBroken g took broke now events old new))
+      ⊎ ((outcome : Outcome) × IsAtEnd rest × IsCaptureOf now.blue now.green now.red read × AreReportedBy g now.blue now.green now.red outcome events × IsBroken g took broke now events old new))
 
 -- an input that is read to its end was as long as what was read
 or_nil : Option (List ℕ) → List ℕ
@@ -66,7 +66,7 @@ broken_part : {A : Type 0} (g : Grammar) (listing : Listing) (after : List Event
     (left rest : Option (List ℕ)) (reads read_faults : ℕ) (old new : A) → IsText listing after last → Writes listing after took broke held old
     → (before now : Fed) (events : List Event) (read : List ℕ) → Consumes left rest read
     → ((AreNext before now read × IsReportedBy g now events × IsBroken g took broke before events old new)
-    ⊎ ((outcome : Hearing) × IsAtEnd rest × IsCaptureOf now.blue now.green now.red read × AreReportedBy g now.blue now.green now.red outcome events × IsBroken g took broke now events old new))
+    ⊎ ((outcome : Outcome) × IsAtEnd rest × IsCaptureOf now.blue now.green now.red read × AreReportedBy g now.blue now.green now.red outcome events × IsBroken g took broke now events old new))
     → ListsPart g listing (seen left reads (held old) (faults old)) (seen rest read_faults (held new) (faults new))
 broken_part g listing after last took broke held faults left rest reads read_faults old new it writes before now events read c (inl (next, reported, broken)) = record {
   fed = before;
@@ -124,7 +124,7 @@ kept_by_broken g took broke name by_took by_broke before events old new b =
 kept_by_either : {A G : Type 0} (g : Grammar) (took : A → A → List Event → Type 0) (broke : A → A → Event → Type 0) (name : A → G) → ((x y : A) (h : List Event) → took x y h → name y ≡ name x) → ((x y : A) (t : Event) → broke x y t → name y ≡ name x)
     → (rest : Option (List ℕ)) (old new : A) (before now : Fed) (events : List Event) (read : List ℕ)
     → ((AreNext before now read × IsReportedBy g now events × IsBroken g took broke before events old new)
-    ⊎ ((outcome : Hearing) × IsAtEnd rest × IsCaptureOf now.blue now.green now.red read × AreReportedBy g now.blue now.green now.red outcome events × IsBroken g took broke now events old new))
+    ⊎ ((outcome : Outcome) × IsAtEnd rest × IsCaptureOf now.blue now.green now.red read × AreReportedBy g now.blue now.green now.red outcome events × IsBroken g took broke now events old new))
     → name new ≡ name old
 kept_by_either g took broke name by_took by_broke rest old new before now events read (inl (next, reported, broken)) = kept_by_broken g took broke name by_took by_broke before events old new broken
 kept_by_either g took broke name by_took by_broke rest old new before now events read (inr (outcome, end, captured, reported, broken)) = kept_by_broken g took broke name by_took by_broke now events old new broken
@@ -136,7 +136,7 @@ kept_unheard g took broke name left rest reads read_faults old new writes write_
 
 -- lanes that are aligned nowhere
 
-pub nowhere_ends : (g : Grammar) (listing : Listing) (after : List Event → List Event → List ℕ) (last : List Event → List ℕ) (command : Command) (fed : Fed) (outcome : Hearing) (events : List Event) (before now : Devices)
+pub nowhere_ends : (g : Grammar) (listing : Listing) (after : List Event → List Event → List ℕ) (last : List Event → List ℕ) (command : Command) (fed : Fed) (outcome : Outcome) (events : List Event) (before now : Devices)
     → IsLists g listing command → IsText listing after last → AreReportedBy g fed.blue fed.green fed.red outcome events → outcome.aligned ≡ false
     → ((bytes : List ℕ) → before.left ≡ Some bytes → IsCaptureOf fed.blue fed.green fed.red bytes) → IsAtEnd now.left → Appends before.held now.held (listing.lines events)
     → Ends command Unaligned before now
@@ -200,7 +200,7 @@ judged_ends g listing after last command fed columns events mid middle before no
       }),
     )
 
-pub heard_ends : {E : Type 0} (g : Grammar) (listing : Listing) (after : List Event → List Event → List ℕ) (last : List Event → List ℕ) (command : Command) (fed : Fed) (outcome : Hearing) (events : List Event) (mid : Option (List ℕ)) (middle : ℕ) (before now : Devices) (r : Result (Unit {0}) E) (faults : ℕ)
+pub heard_ends : {E : Type 0} (g : Grammar) (listing : Listing) (after : List Event → List Event → List ℕ) (last : List Event → List ℕ) (command : Command) (fed : Fed) (outcome : Outcome) (events : List Event) (mid : Option (List ℕ)) (middle : ℕ) (before now : Devices) (r : Result (Unit {0}) E) (faults : ℕ)
     → IsGrammar g → IsLists g listing command → IsText listing after last → AreReportedBy g fed.blue fed.green fed.red outcome events → outcome.aligned ≡ true
     → ((bytes : List ℕ) → before.left ≡ Some bytes → IsCaptureOf fed.blue fed.green fed.red bytes) → IsAtEnd now.left
     → Appends before.held mid (listing.lines events) → faults ≡ counted 0 (listing.faults events) → before.output_faults ≤ middle

@@ -16,7 +16,7 @@ use Rattle.link_sink.specs.Pieces.{no_bits}
 use Rattle.link_sink.specs.Grammar.{Grammar}
 use Rattle.link_sink.specs.Sinks.{Fed, grown, IsGainBy, IsLastBy, IsReportedBy}
 use Rattle.link_sink.specs.Streams.{LaneSinkSeen, StandsBy}
-use Rattle.link_sink.specs.declared.hear.Outcome.{Outcome as Hearing}
+use Rattle.link_sink.specs.declared.hear.Outcome.{Outcome}
 use Rattle.link_sink.proofs.Following.{none_at_first}
 use Rattle.outside_io.specs.Causes.{Rose}
 use Rattle.link_sink.specs.Alignment.{AreReportedBy}
@@ -175,7 +175,7 @@ some_heard g took broke from left old new e h k = grind arith
 left_none : (left : Option (List ℕ)) (rest : List ℕ) → left ≡ Some rest → IsAtEnd left → rest ≡ []
 left_none left rest is ended = subst IsAtEnd is ended
 
-pub heard_whole : {A H : Type 0} (g : Grammar) (goes_on : H → List Column → Type 0) (took : A → A → List Event → Type 0) → Joins took → (from left : Option (List ℕ)) (sink : LaneSinkSeen H) (outcome : Hearing) (first old new : A)
+pub heard_whole : {A H : Type 0} (g : Grammar) (goes_on : H → List Column → Type 0) (took : A → A → List Event → Type 0) → Joins took → (from left : Option (List ℕ)) (sink : LaneSinkSeen H) (outcome : Outcome) (first old new : A)
     → HasHeardAll g goes_on took from left sink first old → IsAtEnd left
     → ((fed : Fed) → StandsBy goes_on sink fed → (events : List Event) × IsLastBy g fed outcome events × took old new events)
     → (fed : Fed) × (events : List Event) × AreReportedBy g fed.blue fed.green fed.red outcome events × took first new events × ((bytes : List ℕ) → from ≡ Some bytes → IsCaptureOf fed.blue fed.green fed.red bytes)
@@ -194,7 +194,7 @@ abbrev pub Breaks : {A : Type 0} → Grammar → (A → A → List Event → Typ
 Breaks g took broke from left was now old new = Rose was now
     × (before after : Fed) × (events : List Event) × (read : List ℕ) × Consumes from left read
     × ((AreNext before after read × IsReportedBy g after events × IsBroken g took broke before events old new)
-    ⊎ ((outcome : Hearing) × IsAtEnd left × IsCaptureOf after.blue after.green after.red read × AreReportedBy g after.blue after.green after.red outcome events × IsBroken g took broke after events old new))
+    ⊎ ((outcome : Outcome) × IsAtEnd left × IsCaptureOf after.blue after.green after.red read × AreReportedBy g after.blue after.green after.red outcome events × IsBroken g took broke after events old new))
 
 -- one that a failed read ended
 abbrev pub Reads : {A : Type 0} → Grammar → (A → A → List Event → Type 0) → Option (List ℕ) → Option (List ℕ) → ℕ → ℕ → A → A → Type 0
@@ -220,7 +220,7 @@ broken_of g took broke left_of x x' y y' reads reading was now old new e ex ey s
 
 pub unended : {A H : Type 0} (g : Grammar) (goes_on : H → List Column → Type 0) (took : A → A → List Event → Type 0) (broke : A → A → Event → Type 0) → Joins took → (from left : Option (List ℕ)) (sink : LaneSinkSeen H) (was now : ℕ) (first old new : A)
     → HasHeardAll g goes_on took from left sink first old → IsAtEnd left → Rose was now
-    → ((fed : Fed) → StandsBy goes_on sink fed → (outcome : Hearing) × (events : List Event) × IsLastBy g fed outcome events × StopsAtEvent took broke old new events)
+    → ((fed : Fed) → StandsBy goes_on sink fed → (outcome : Outcome) × (events : List Event) × IsLastBy g fed outcome events × StopsAtEvent took broke old new events)
     → Breaks g took broke from left was now first new
 unended g goes_on took broke both from left sink was now first old new h ended cause stopped =
     let s = stopped h.fed h.sunk in

@@ -73,7 +73,7 @@ comes_back law events runs q ps columns o status old new are few spelled is writ
     let conforming = subst (λ (ps : List Period). IsConforming ps) back (relayed_conforms reported) in
     let front : IsFront (drop a columns) = record { periods = _; spelled = drop a columns; conforming = conforming; spells = cut; rest = []; front = sym (append-nil (drop a columns)) } in
     let same : heard (drop a columns) ≡ reported = ap heard (sym own.aligned) ∙ own.reported in
-    let quiet : faultless reported ≡ true = subst (λ (ts : List Event). faultless ts ≡ true) same (front_is_clean (drop a columns) front) in
+    let clean_columns : faultless reported ≡ true = subst (λ (ts : List Event). faultless ts ≡ true) same (front_is_clean (drop a columns) front) in
     let captured = own_captured columns (subst (λ n. n ≤ 20000000) (size ∙ sym many) few) in
     elim (capture_relay reported (blue_of columns) (green_of columns) (red_of columns) own.d own.e own.f (tapped_capture columns whole_tap) o captured own.first own.reported does) [
       | inl long ↦ let passes = long.passes in absurd (omega (arith, passes, back_many, cut_many, rest, many, size, few))

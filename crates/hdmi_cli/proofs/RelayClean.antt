@@ -25,8 +25,8 @@ use Rattle.hdmi_cli.proofs.RelayHeadline.{IsLongOf, IsRelayOf, capture_relay, ke
 passed_of : WholeRelayed → (cs : List Column) (o : RunOutcome) (status : ℕ) (old new : Option (List ℕ)) → IsCleanToEnd cs → o.status ≡ status → Appends old new o.output
     → IsLongOf (heard cs) o ⊎ IsRelayOf (heard cs) o → IsPassedOn cs status old new
 passed_of law cs o status old new clean is written made =
-    let quiet : IsClean cs = (check_is_exact cs).1 clean.clean in
-    let whole = clean_is_whole cs quiet clean.ends in
+    let clean_columns : IsClean cs = (check_is_exact cs).1 clean.clean in
+    let whole = clean_is_whole cs clean_columns clean.ends in
     let spelled = law cs whole (whole_heard cs whole) in
     grind (arith, spelled_long, keeps_of, relayed_conforms)
 

@@ -14,7 +14,7 @@ use Rattle.period_grammar.specs.Events.{Event}
 use Rattle.link_sink.specs.Alignment.{AreReported, reported_by, IsAlignedReported}
 use Rattle.link_sink.specs.Grammar.{link_grammar}
 use Rattle.link_sink.specs.Sinks.{Fed, IsReportedSoFar}
-use Rattle.link_sink.specs.declared.hear.Outcome.{Outcome as Hearing}
+use Rattle.link_sink.specs.declared.hear.Outcome.{Outcome}
 use Rattle.relay.specs.Relayed.{relayed}
 use Rattle.relay.specs.Standing.{RelayRepresents, Took, Broke, IsTooLong}
 use Rattle.relay.specs.declared.relaying.Relay.{Relay as RelayValue}
@@ -103,7 +103,7 @@ sent_ends fed events TooLong before after h is = absurd is
 sent_ends fed events ReadFailed before after h is = absurd is
 sent_ends fed events Unaligned before after h is = absurd is
 
-pub heard_sent : (fed : Fed) (outcome : Hearing) (events : List Event) (relay : RelayValue) (e : Ending) (before after : Devices) → AreReported fed.blue fed.green fed.red outcome events → outcome.aligned ≡ true
+pub heard_sent : (fed : Fed) (outcome : Outcome) (events : List Event) (relay : RelayValue) (e : Ending) (before after : Devices) → AreReported fed.blue fed.green fed.red outcome events → outcome.aligned ≡ true
     → ((bytes : List ℕ) → before.left ≡ Some bytes → IsCaptureOf fed.blue fed.green fed.red bytes) → IsAtEnd after.left → RelayRepresents relay events
     → RelayEnds events e before.held after.held before.output_faults after.output_faults → Ends Relay e before after
 heard_sent fed outcome events relay e before after reported is captured ended stands ends =
@@ -116,7 +116,7 @@ heard_sent fed outcome events relay e before after reported is captured ended st
     }) ends
 
 -- lanes that are aligned nowhere
-pub nowhere_sent : (fed : Fed) (outcome : Hearing) (events : List Event) (before after : Devices) → AreReported fed.blue fed.green fed.red outcome events → outcome.aligned ≡ false
+pub nowhere_sent : (fed : Fed) (outcome : Outcome) (events : List Event) (before after : Devices) → AreReported fed.blue fed.green fed.red outcome events → outcome.aligned ≡ false
     → ((bytes : List ℕ) → before.left ≡ Some bytes → IsCaptureOf fed.blue fed.green fed.red bytes) → IsAtEnd after.left → Keeps before.held after.held → Ends Relay Unaligned before after
 nowhere_sent fed outcome events before after reported not captured ended kept = (
   ended,
@@ -158,7 +158,7 @@ passes first between now events taken rest next fresh took long is =
 abbrev Reported : Option (List ℕ) → Fed → Fed → List Event → List ℕ → RelayValue → RelayValue → Type 0
 Reported rest before now events read first last =
     (AreNext before now read × IsReportedSoFar now events × IsBroken link_grammar Took Broke before events first last)
-    ⊎ ((outcome : Hearing) × IsAtEnd rest × IsCaptureOf now.blue now.green now.red read × AreReported now.blue now.green now.red outcome events × IsBroken link_grammar Took Broke now events first last)
+    ⊎ ((outcome : Outcome) × IsAtEnd rest × IsCaptureOf now.blue now.green now.red read × AreReported now.blue now.green now.red outcome events × IsBroken link_grammar Took Broke now events first last)
 
 long_next : (bytes read rest : List ℕ) (before now : Fed) (events : List Event) → bytes ≡ read ++ rest → (next : AreNext before now read) → IsReportedSoFar now events → 20000000 < columns_of (relayed events) → PassesLimit bytes
 long_next bytes read rest before now events is next reported more =

@@ -23,7 +23,7 @@ use Rattle.capture_file.proofs.Marks.{consumed}
 use Rattle.capture_file.proofs.Tapped.{tap_is_captured}
 use Rattle.period_grammar.specs.Events.{Event}
 use Rattle.link_sink.specs.Alignment.{AreReported}
-use Rattle.link_sink.specs.declared.hear.Outcome.{Outcome as Hearing}
+use Rattle.link_sink.specs.declared.hear.Outcome.{Outcome}
 use Rattle.sampling.specs.Counts.{counts_of as sample_counts}
 use Rattle.sampling.specs.Sampled.{sample_tap, IsSampled}
 use Rattle.sampling.specs.declared.counts.Counts.{Counts}
@@ -155,6 +155,6 @@ struck_is_capture bytes hits whole d =
     }
 
 -- what is counted of a damaged capture of the generator's content are the counts of a sample
-pub sampled : (frames : ℕ) (damaged : List ℕ) (blue green red : List Bool) (outcome : Hearing) (events : List Event) (counts : Counts) → IsStruck frames damaged → IsCaptureOf blue green red damaged
+pub sampled : (frames : ℕ) (damaged : List ℕ) (blue green red : List Bool) (outcome : Outcome) (events : List Event) (counts : Counts) → IsStruck frames damaged → IsCaptureOf blue green red damaged
     → AreReported blue green red outcome events → counts ≡ sample_counts outcome.columns events → IsSampled frames counts
 sampled frames damaged blue green red outcome events counts s captured reported is = grind arith

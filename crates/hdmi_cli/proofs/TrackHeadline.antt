@@ -7,7 +7,7 @@ use Rattle.lane_track.specs.Strays.{HasNoStray}
 use Rattle.link_sink.specs.Alignment.{AreReported, reported_by}
 use Rattle.link_sink.specs.Grammar.{link_grammar}
 use Rattle.link_sink.specs.Sinks.{Fed}
-use Rattle.link_sink.specs.declared.hear.Outcome.{Outcome as Hearing}
+use Rattle.link_sink.specs.declared.hear.Outcome.{Outcome}
 use Rattle.listing_writer.specs.Texts.{fault_lines, link_text}
 use Rattle.capture_file.specs.Captures.{IsCaptureOf}
 use Rattle.capture_file.specs.Laws.{AreSame}
@@ -22,7 +22,7 @@ use Rattle.hdmi_cli.specs.TrackText.{event_faults, event_lines, track_faults, tr
 
 -- what is reported of one epoch
 pub record IsEpoch (x : Fed) (aligned : ℕ) (track_events : List TrackEvent) : Type 0 where
-  pub outcome : Hearing
+  pub outcome : Outcome
   pub events : List Event
   pub reported : AreReported x.blue x.green x.red outcome events
   pub aligned_is : aligned ≡ one_if outcome.aligned

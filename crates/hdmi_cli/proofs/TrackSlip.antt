@@ -9,7 +9,7 @@ use Rattle.period_grammar.specs.Heard.{heard}
 use Rattle.period_grammar.specs.Events.{Event}
 use Rattle.link_sink.specs.Alignment.{AreReported, reported_by}
 use Rattle.link_sink.specs.Sinks.{Fed}
-use Rattle.link_sink.specs.declared.hear.Outcome.{Outcome as Hearing}
+use Rattle.link_sink.specs.declared.hear.Outcome.{Outcome}
 use Rattle.capture_file.proofs.OneCapture.{one_capture, no_fault}
 use Rattle.command_line.specs.Commands.{IsCommand}
 use Rattle.command_line.specs.declared.command.Command.TheVariants.{RecoverTrack}
@@ -29,8 +29,8 @@ use Rattle.hdmi_cli.proofs.TrackHeadline.{epoch_reported}
 
 -- what is reported of two epochs
 record IsTwice (begun : Bool) (z : ℕ) (y : Fed) (lane start aligned : ℕ) (track_events : List TrackEvent) : Type 0 where
-  one : Hearing
-  two : Hearing
+  one : Outcome
+  two : Outcome
   first : List Event
   second : List Event
   first_reported : AreReported (take start y.blue) (take start y.green) (take start y.red) one first

@@ -60,7 +60,7 @@ character_apart words marks from many place dropped s r j run lt = elim (cases_l
         let k = (r + 10 * j + from) / 10 in
         let at : from + (r + 10 * j) ≡ 10 * k = omega arith in
         let inside : k < length words = omega arith in
-        let few = s.quiet k inside (omega arith) (omega arith) in
+        let few = s.minimized k inside (omega arith) (omega arith) in
         let w = get_or words k 0 in
         let is : take 10 (drop (r + 10 * j) xs) ≡ word_bits w =
         take_piece many (r + 10 * j) 10 (drop from (row_bits words)) (omega arith) ∙ ap (take 10) (drop-drop (r + 10 * j) from (row_bits words) ∙ ap (λ m. drop m (row_bits words)) at) ∙ row_word words k inside in

@@ -11,7 +11,7 @@ use Rattle.link_laws.specs.Account.{account}
 use Rattle.link_sink.specs.Alignment.{AreReported}
 use Rattle.link_laws.specs.Laws.{ReceivedOf, EndsControl, BeginColumn}
 use Rattle.link_sink.specs.Sinks.{Fed}
-use Rattle.link_sink.specs.declared.hear.Outcome.{Outcome as Hearing}
+use Rattle.link_sink.specs.declared.hear.Outcome.{Outcome}
 use Rattle.track_sink.specs.Epochs.{lane_of, rest_of, front_of}
 use Rattle.track_sink.specs.TrackEvents.{TrackEvent, track_events_of, slip_if}
 use Rattle.track_laws.specs.Laws.{Slipped, SlipsInVideo, BeginsAgain, FirstAccounted, later_skews}
@@ -66,8 +66,8 @@ track_events_across aligned first lane start second = track_events_of first ++ (
 pub record IsTrackedAcross (t : TappedStream) (s : LineSlip) (y : Fed) (status : ℕ) (old new : Option (List ℕ)) : Type 0 where
   pub start : ℕ
   pub begins : BeginsAgain t.received t.offset t.skews s.lane s.dropped s.next start
-  pub one : Hearing
-  pub two : Hearing
+  pub one : Outcome
+  pub two : Outcome
   pub before : List Event
   pub after : List Event
   pub first_reported : AreReported (front_of start y).blue (front_of start y).green (front_of start y).red one before

@@ -6,7 +6,7 @@ ghost use Rattle.capture_file.specs.Captures.{CanSay, IsCaptureOf, IsFault, plac
 ghost use Rattle.capture_file.specs.declared.fault.CaptureFault.{CaptureFault as FaultValue};
 ghost use Rattle.period_grammar.specs.Events.{Event};
 ghost use Rattle.link_sink.specs.Alignment.{AreReportedBy};
-ghost use Rattle.link_sink.specs.declared.hear.Outcome.{Outcome as Hearing};
+ghost use Rattle.link_sink.specs.declared.hear.Outcome.{Outcome as OutcomeValue};
 ghost use Rattle.link_sink.specs.Pieces.{no_bits};
 ghost use Rattle.link_sink.specs.Sinks.{Fed, IsReportedBy};
 ghost use Rattle.link_sink.specs.Streams.{StandsBy, most_bits};
@@ -140,7 +140,7 @@ pub(crate) fn hear_capture<R: Threads, S: Source, H: Hears, E: Ear, G: Gate>(
     ensures broken { IfErr result (λ e. e ≡ EarFailed → Rose (E.faults ear.old) (E.faults ear.new)
         × (before after : Fed) × (events : List Event) × (read : List ℕ) × Consumes (S.left input.old) (S.left input.new) read
         × ((AreNext before after read × IsReportedBy H.grammar after events × IsBroken H.grammar E.took E.broke before events ear.old ear.new)
-        ⊎ ((outcome : Hearing) × IsAtEnd (S.left input.new) × IsCaptureOf after.blue after.green after.red read × AreReportedBy H.grammar after.blue after.green after.red outcome events × IsBroken H.grammar E.took E.broke after events ear.old ear.new))) }
+        ⊎ ((outcome : OutcomeValue) × IsAtEnd (S.left input.new) × IsCaptureOf after.blue after.green after.red read × AreReportedBy H.grammar after.blue after.green after.red outcome events × IsBroken H.grammar E.took E.broke after events ear.old ear.new))) }
     ensures taken { (taken : List ℕ) × Consumes (S.left input.old) (S.left input.new) taken }
     ensures input_later { S.faults input.old ≤ S.faults input.new }
     ensures ear_later { E.faults ear.old ≤ E.faults ear.new }

@@ -9,7 +9,7 @@ use Rattle.tmds_word.proofs.Turns.{turns_join}
 use Rattle.lane_align.specs.Lanes.{IsRun, IsLock}
 use Rattle.lane_align.proofs.Calm.{tap_lock, run_has_turns}
 use Rattle.lane_track.specs.Strays.{IsStray, HasNoStray}
-use Rattle.lane_track.specs.Slips.{Slips, slipped, slipped_part, AreQuiet}
+use Rattle.lane_track.specs.Slips.{Slips, slipped, slipped_part, AreTransitionMinimized}
 use Rattle.lane_track.proofs.Pieces.{piece_cost, take_both}
 use Rattle.lane_align.proofs.Parts.{take_piece}
 use Rattle.lane_track.proofs.Cutting.{drop_slipped, run_before, run_after, run_stays_before}
@@ -20,8 +20,8 @@ length-part words from many within =
 
 -- n bits of a part of a lane
 part_cost : (words : List ℕ) (from many i n low high : ℕ) → from + many ≤ 10 * length words → 0 < n → i + n ≤ many
-    → AreQuiet words low high → low ≤ from + i → from + i + n ≤ high → 5 * turns (take n (drop i (part_of words from many))) + 5 ≤ 3 * n + 24
-part_cost words from many i n low high within some inside quiet above below = grind (arith, take_piece, drop-drop, piece_cost)
+    → AreTransitionMinimized words low high → low ≤ from + i → from + i + n ≤ high → 5 * turns (take n (drop i (part_of words from many))) + 5 ≤ 3 * n + 24
+part_cost words from many i n low high within some inside minimized above below = grind (arith, take_piece, drop-drop, piece_cost)
 
 -- 120 bits across the slip: some before it and some after
 across_cut : (xs : List Bool) (place dropped p a b : ℕ) → place + dropped ≤ length xs → p + a ≡ place → a + b ≡ 120

@@ -36,7 +36,7 @@ edge_same xs ys place e same long_x long_y before edge =
       no_control = edge.no_control;
     }
 
--- a run that ends before the slip ends before the quiet characters
+-- a run that ends before the slip ends before the minimized characters
 ends_early : (words : List ℕ) (marks : List Bool) (from many place dropped : ℕ) → Slips words marks from many place dropped
     → (r : ℕ) → IsRun (part_of words from many) r → r + 120 ≤ place → (r + from) % 10 ≡ 0 → r + 130 ≤ place
 ends_early words marks from many place dropped s r run before whole = elim (cases_lt place (r + 130)) [
@@ -49,7 +49,7 @@ ends_early words marks from many place dropped s r run before whole = elim (case
       let k = (r + 110 + from) / 10 in
       let at : from + (r + 110) ≡ 10 * k = omega arith in
       let inside : k < length words = omega arith in
-      let few = s.quiet k inside (omega arith) (omega arith) in
+      let few = s.minimized k inside (omega arith) (omega arith) in
       let w = get_or words k 0 in
       let is : take 10 (drop (r + 10 * 11) xs) ≡ word_bits w =
       take_piece many (r + 110) 10 (drop from (row_bits words)) (omega arith) ∙ ap (take 10) (drop-drop (r + 110) from (row_bits words) ∙ ap (λ m. drop m (row_bits words)) at) ∙ row_word words k inside in

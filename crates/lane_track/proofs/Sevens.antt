@@ -13,7 +13,7 @@ use Rattle.lane_align.specs.Search.{control_at, IsOther}
 use Rattle.lane_align.specs.Lanes.{IsRun}
 use Rattle.lane_align.proofs.Calm.{control_is}
 use Rattle.lane_align.proofs.Quick.{quick_none, window_within}
-use Rattle.lane_track.specs.Quiet.{IsQuiet}
+use Rattle.lane_track.specs.Pairless.{HasNoPair}
 use Rattle.lane_track.specs.declared.ahead.TheConstants.{BESIDE}
 
 -- what the code computes of eight bits
@@ -157,7 +157,7 @@ pub none_near : (bytes : List ℕ) (v mask from p next phase : ℕ) → v ≡ nu
     → ((k : ℕ) → k < 10 → bit mask (k + 1) ≡ true → control_at (v / 2 ^ (p % 8)) k ≡ true → control_at (v / 2 ^ (p % 8)) (k + 10) ≡ true → ⊥)
     → (other : ℕ) → ((k : ℕ) → k < 10 → (k ≡ other → ⊥) → bit mask (k + 1) ≡ true) → ((k : ℕ) → k < 10 → k ≡ other → (p + k) % 10 ≡ phase)
     → next ≤ p + 10 → ((q : ℕ) → IsOther (bytes_bits bytes) from p phase q → ⊥) → (q : ℕ) → IsOther (bytes_bits bytes) from next phase q → ⊥
-none_near bytes v mask from p next phase e quiet other masked same near was q is =
+none_near bytes v mask from p next phase e pairless other masked same near was q is =
     let after = is.after in
     let before = is.before in
     elim (cases_lt q p) [
@@ -167,21 +167,21 @@ none_near bytes v mask from p next phase e quiet other masked same near was q is
           let f : q ≡ p + k = omega arith in
           let run = subst (IsRun (bytes_bits bytes)) f is.run in
           let zero_of : k + 10 * 0 ≡ k = omega arith in
-          quiet k (omega arith) (masked k (omega arith) (λ h. is.apart (ap (λ n. n % 10) f ∙ same k (omega arith) h)))
+          pairless k (omega arith) (masked k (omega arith) (λ h. is.apart (ap (λ n. n % 10) f ∙ same k (omega arith) h)))
           (subst (λ m. control_at (v / 2 ^ (p % 8)) m ≡ true) zero_of (seen_at (bytes_bits bytes) v p k 0 e (omega arith) (omega arith) run))
           (seen_at (bytes_bits bytes) v p k 1 e (omega arith) (omega arith) run)
     ]
 
--- Quiet steps.
+-- Steps without a pair.
 
 -- no run begins in them
-pub none_in : (bytes : List ℕ) (mask first loud from end phase : ℕ) → ((at : ℕ) → first ≤ at → at < loud → IsQuiet bytes mask at)
-    → ((k : ℕ) → k < 10 → (k ≡ phase → ⊥) → bit mask (k + 1) ≡ true) → from ≤ 80 * first → 80 * first < from + 80 → end ≤ 80 * (loud - 1) + 1
-    → first < loud → (q : ℕ) → IsOther (bytes_bits bytes) from end phase q → ⊥
-none_in bytes mask first loud from end phase quiet masked low high before some q other =
+pub none_in : (bytes : List ℕ) (mask first paired from end phase : ℕ) → ((at : ℕ) → first ≤ at → at < paired → HasNoPair bytes mask at)
+    → ((k : ℕ) → k < 10 → (k ≡ phase → ⊥) → bit mask (k + 1) ≡ true) → from ≤ 80 * first → 80 * first < from + 80 → end ≤ 80 * (paired - 1) + 1
+    → first < paired → (q : ℕ) → IsOther (bytes_bits bytes) from end phase q → ⊥
+none_in bytes mask first paired from end phase pairless masked low high before some q other =
     let after = other.after in
     let less = other.before in
     let at = (q + 79) / 80 in
-    let here = quiet at (omega arith) (omega arith) in
+    let here = pairless at (omega arith) (omega arith) in
     quick_none (bytes_bits bytes) (number (bytes_bits bytes) / 2 ^ (8 * (10 * at)) % 2 ^ 64) at phase q refl
     (λ k few apart one ten twenty. here k few (masked k few apart) one ten) (omega arith) (omega arith) other.apart other.run

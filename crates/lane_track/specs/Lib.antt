@@ -2,4 +2,4 @@ pub mod Strays
 pub mod Slips
 pub mod Laws
 pub mod Scouts
-pub mod Quiet
+pub mod Pairless

@@ -2,14 +2,14 @@
 ghost use Rattle.std.specs.Prelude.{◌≡◌, ◌<◌, ◌≤◌, ◌+◌, ◌*◌, ◌/◌, ◌%◌, ◌^◌, ◌↔◌, ℕ, true, false, length, drop, MatchOption, slice_index};
 ghost use Rattle.tmds_word.specs.Bits.{bit, bytes_bits, number};
 ghost use Rattle.lane_align.specs.Search.{control_at, IsOther, IsFirstOther};
-ghost use Rattle.lane_track.specs.Quiet.{IsQuiet};
+ghost use Rattle.lane_track.specs.Pairless.{HasNoPair};
 
 use lane_align::first_run;
 
 /// How many places a step sees.
 const STEP: u32 = 80;
 
-/// How many places are seen at a time in a step that is not quiet.
+/// How many places are seen at a time in a step that has a pair of control characters.
 const NEAR: u32 = 10;
 
 /// The phase at which nothing is left out.
@@ -57,7 +57,7 @@ fn next_run(bytes: &[u8], from: u32, until: u32, phase: u32) -> Option<u32>
 {
     let mut p = from;
     while p < until {
-        let start = quiet_until(bytes, p, until, phase);
+        let start = pairless_until(bytes, p, until, phase);
         let near = near_until(bytes, start, (start + STEP).min(until), phase);
         let end = (near + NEAR).min(until);
         if let Some(found) = first_run(bytes, near, end, phase) {
@@ -69,7 +69,7 @@ fn next_run(bytes: &[u8], from: u32, until: u32, phase: u32) -> Option<u32>
 }
 
 /// A place before which, from `from` on, no run begins that lies no whole characters from a phase.
-fn quiet_until(bytes: &[u8], from: u32, until: u32, phase: u32) -> u32
+fn pairless_until(bytes: &[u8], from: u32, until: u32, phase: u32) -> u32
     requires phase { phase ≤ 10 }
     requires order { from < until }
     requires small { until < 2 ^ 31 }
@@ -83,14 +83,14 @@ fn quiet_until(bytes: &[u8], from: u32, until: u32, phase: u32) -> u32
     if last <= first {
         return from;
     }
-    let loud = first_loud(bytes, first, last, beside(phase));
-    if loud == first {
+    let paired = first_paired(bytes, first, last, beside(phase));
+    if paired == first {
         return from;
     }
-    (STEP * (loud as u32 - 1) + 1).min(until)
+    (STEP * (paired as u32 - 1) + 1).min(until)
 }
 
-/// As `quiet_until`, ten places at a time.
+/// As `pairless_until`, ten places at a time.
 fn near_until(bytes: &[u8], from: u32, until: u32, phase: u32) -> u32
     requires phase { phase ≤ 10 }
     requires order { from ≤ until }
@@ -125,13 +125,13 @@ fn phase_from(phase: u32, place: u32) -> u32
     }
 }
 
-/// The first step from one on that is not quiet.
-fn first_loud(bytes: &[u8], first: usize, last: usize, mask: u64) -> usize
+/// The first step from one on that has a pair of control characters.
+fn first_paired(bytes: &[u8], first: usize, last: usize, mask: u64) -> usize
     requires order { first ≤ last }
     requires room { 10 * last ≤ length bytes.now + 2 }
     ensures after { first ≤ result }
     ensures within { result ≤ last }
-    ensures quiet { (at : ℕ) → first ≤ at → at < result → IsQuiet bytes.now mask at }
+    ensures pairless { (at : ℕ) → first ≤ at → at < result → HasNoPair bytes.now mask at }
 {
     let mut at = first;
     while at < last && !has_turns(eight_bytes(bytes, 10 * at), mask) {

@@ -8,7 +8,7 @@ use Rattle.terc4.proofs.Words.{few_turns}
 use Rattle.lane_align.specs.Laws.{marked}
 use Rattle.tmds_word.specs.Taps.{part_of, AreNear, IsPart, HasSmallSkew}
 use Rattle.lane_deskew.specs.Triples.{IsTriple, IsFirst}
-use Rattle.link_laws.specs.LaneEnds.{IsGuard, IsSent, damaged}
+use Rattle.link_laws.specs.LaneEnds.{IsGuard, IsLaneSent, damaged}
 use Rattle.link_laws.proofs.LaneEnds.{same_word, length_damaged, kind_cases, no_guard_payload}
 use Rattle.link_laws.specs.Alternating.{IsAlternating}
 use Rattle.link_laws.proofs.Shapes.{alternating, ends_apart}
@@ -26,7 +26,7 @@ use Rattle.link_laws.proofs.Until.{IsReceivedUntil, Holds, edge_until, end_edge}
 
 -- One lane.
 
-received_until : (ks : List Kind) (f : ℕ) (sent received : List ℕ) → IsSent ks sent → length received ≡ length sent → ((i : ℕ) → i < length received → get_or received i 0 < 1024)
+received_until : (ks : List Kind) (f : ℕ) (sent received : List ℕ) → IsLaneSent ks sent → length received ≡ length sent → ((i : ℕ) → i < length received → get_or received i 0 < 1024)
     → ((i : ℕ) → i + 11 ≤ length sent → marked (take 11 (drop i (damaged sent received))) ≤ 2)
     → ((i : ℕ) → i < length sent → i ≤ f → (IsPayload (kind_at ks i) → ⊥) → get_or (damaged sent received) i false ≡ false)
     → IsReceivedUntil ks f received (damaged sent received)
@@ -34,7 +34,7 @@ received_until ks f sent received s len below few spares = grind (arith, length_
 
 -- the lane of a stream that a projection takes
 lane_until : (g : Column → ℕ) (ps : List Period) (sent received : List Column) (f : ℕ) → ReceivedFreely ps sent received → SparesUntil ps sent received f
-    → IsSent (kinds_of ps) (map g sent) → ((i : ℕ) → i < length received → g (column_at received i) < 1024) → AreFew (map g sent) (map g received)
+    → IsLaneSent (kinds_of ps) (map g sent) → ((i : ℕ) → i < length received → g (column_at received i) < 1024) → AreFew (map g sent) (map g received)
     → IsReceivedUntil (kinds_of ps) f (map g received) (damaged (map g sent) (map g received))
 lane_until g ps sent received f reception spares is_sent narrow few =
     let same = reception.sparse.same_length in

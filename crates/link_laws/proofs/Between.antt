@@ -74,17 +74,17 @@ gap_on j (c ∷ cs) (g ∷ gap) next long all some none h =
 
 -- What has to be shown of each kind of period, after the received control columns `before`.
 pub record IsGap (before : List Column) (x : Period) (ss rs : List Column) : Type 0 where
-  pub quiet : NoneControl rs
+  pub no_control : NoneControl rs
   pub long : length rs ≡ period_columns x
   pub some : 1 ≤ period_columns x
   pub nothing : (b : ℕ) → period_row b 0 before x ss rs ≡ []
   pub part : (b k : ℕ) → 1 ≤ k → k ≤ period_columns x → gap_events b before (take k rs) ++ at_end b (take k rs) ≡ period_row b k before x ss rs
   pub whole : (b k : ℕ) → period_columns x < k → gap_events b before rs ++ at_close b rs ≡ period_row b k before x ss rs
 
-take_quiet : (k : ℕ) (cs : List Column) → NoneControl cs → NoneControl (take k cs)
-take_quiet zero cs h = refl
-take_quiet (suc k) [] h = refl
-take_quiet (suc k) (c ∷ cs) h = and_both _ _ (and-left _ _ h) (take_quiet k cs (and-right _ _ h))
+take_no_control : (k : ℕ) (cs : List Column) → NoneControl cs → NoneControl (take k cs)
+take_no_control zero cs h = refl
+take_no_control (suc k) [] h = refl
+take_no_control (suc k) (c ∷ cs) h = and_both _ _ (and-left _ _ h) (take_no_control k cs (and-right _ _ h))
 
 heads_take : (k : ℕ) (cs : List Column) → 1 ≤ k → heads cs ≡ true → heads (take k cs) ≡ true
 heads_take k cs h l = grind arith
@@ -103,7 +103,7 @@ PeriodLaw cs x ss rs = (j k : ℕ) (next : List Column) → heads next ≡ true
 part_received : (cs : List Column) (x : Period) (ss rs : List Column) → IsControlPeriod cs → IsGap cs x ss rs → (j k : ℕ) (next : List Column) → 1 ≤ k → k ≤ period_columns x
     → hear j (stretches (cs ++ take k (rs ++ next)))
     ≡ control_row j cs ++ (period_row (j + length cs) k cs x ss rs ++ hear (j + length cs + period_columns x) (stretches (take (k - period_columns x) next)))
-part_received cs x ss rs h g j k next one le = grind (arith, length-take, hear, take-append-le, gap_cut, take_quiet, gap_events, control_row_reported, append-nil, hear_none)
+part_received cs x ss rs h g j k next one le = grind (arith, length-take, hear, take-append-le, gap_cut, take_no_control, gap_events, control_row_reported, append-nil, hear_none)
 
 all_received : (cs : List Column) (x : Period) (ss rs : List Column) → IsControlPeriod cs → IsGap cs x ss rs → (j k : ℕ) (next : List Column) → heads next ≡ true → period_columns x < k
     → hear j (stretches (cs ++ take k (rs ++ next)))

@@ -3,7 +3,7 @@ use Rattle.std.proofs.Common.{ℕ, List, map, arith}
 use Rattle.std.proofs.lemmas.List.{length-map}
 use Rattle.tmds_word.specs.Column.{Column}
 use Rattle.lane_align.specs.Laws.{IsCalm}
-use Rattle.link_laws.specs.LaneEnds.{IsSent, damaged}
+use Rattle.link_laws.specs.LaneEnds.{IsLaneSent, damaged}
 use Rattle.link_laws.proofs.LaneEnds.{same_word, length_damaged, kind_cases}
 use Rattle.island_pack.specs.Kinds.{kinds_of}
 use Rattle.island_pack.specs.Periods.{Period}
@@ -14,7 +14,7 @@ use Rattle.link_laws.proofs.Lanes.{fitting_length, fitting_at, lane_sent, few_ma
 use Rattle.link_laws.proofs.Spelled.{fitting}
 
 -- the lane that a projection takes
-calm_lane : (g : Column → ℕ) (ps : List Period) (sent received : List Column) → ReceivedOf ps sent received → IsSent (kinds_of ps) (map g sent) → AreFew (map g sent) (map g received)
+calm_lane : (g : Column → ℕ) (ps : List Period) (sent received : List Column) → ReceivedOf ps sent received → IsLaneSent (kinds_of ps) (map g sent) → AreFew (map g sent) (map g received)
     → IsCalm (map g received) (damaged (map g sent) (map g received))
 calm_lane g ps sent received reception is_sent few = grind (arith, length-map, few_marked, length_damaged, same_word, kind_cases)
 

@@ -41,7 +41,7 @@ cut_from x _ (goes_on y runs rest i long f) before _ _ h e (more _ _ own recepti
     let g = inner_gap before y own reception l i a in
     let r = g.long in
     let s = g.some in
-    both before reception (cs ++ rs) (omega arith) (omega arith) h.all g.quiet (begins_heads (cs ++ rs) (first_control cs rs all (omega arith)))
+    both before reception (cs ++ rs) (omega arith) (omega arith) h.all g.no_control (begins_heads (cs ++ rs) (first_control cs rs all (omega arith)))
     ∙ ap (λ xs. stretch before reception ∷ xs) (cut_from (control runs) rest f cs ss rs (record { long = omega arith; all = all }) n b)
     ∙ sym (cut_first x y (control runs ∷ rest) before reception (cs ++ rs) e g.long)
 

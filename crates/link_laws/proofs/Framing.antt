@@ -5,7 +5,7 @@ use Rattle.terc4.specs.Columns.{is_control_column}
 use Rattle.terc4.proofs.Words.{few_turns}
 use Rattle.island_pack.specs.Periods.{Period, control, video, island, values_of}
 use Rattle.link_laws.proofs.Freely.{free_received}
-use Rattle.link_laws.proofs.Guards.{unlike, IsQuiet, IsWhole, stays_quiet, stays_control}
+use Rattle.link_laws.proofs.Guards.{unlike, IsWithoutControl, IsWhole, stays_without_control, stays_control}
 use Rattle.link_laws.proofs.Conformed.{Conforms, conforming}
 use Rattle.link_laws.proofs.EndPlaces.{control_kinds}
 use Rattle.link_laws.proofs.Spelled.{FitsColumn, fitting_freely}
@@ -23,14 +23,14 @@ use Rattle.link_laws.proofs.LaneEnds.{kind_cases}
 
 -- The framing.
 
-quiet : (k : Kind) (s : Column) → (k ≡ control_column → ⊥) → FitsColumn k s → IsQuiet s
-quiet k s apart f = record { blue = few_turns s.blue (f.blue.others apart); green = few_turns s.green (f.green.others apart); red = few_turns s.red (f.red.others apart) }
+no_control : (k : Kind) (s : Column) → (k ≡ control_column → ⊥) → FitsColumn k s → IsWithoutControl s
+no_control k s apart f = record { blue = few_turns s.blue (f.blue.others apart); green = few_turns s.green (f.green.others apart); red = few_turns s.red (f.red.others apart) }
 
 whole : (k : Kind) (s : Column) → k ≡ control_column → FitsColumn k s → IsWhole s
 whole k s is f = record { blue = f.blue.controls is; green = f.green.controls is; red = f.red.controls is }
 
 by_kind : (k : Kind) (s r : Column) → FitsColumn k s → unlike s r ≤ 1 → (k ≡ control_column) ↔ (is_control_column r ≡ true)
-by_kind k s r f one = grind (arith, kind_cases, stays_control, whole, stays_quiet, quiet)
+by_kind k s r f one = grind (arith, kind_cases, stays_control, whole, stays_without_control, no_control)
 
 pub framing_stands_freely : FramingStandsFreely
 framing_stands_freely ps sent received reception i lt =

@@ -27,14 +27,14 @@ abbrev pub unlike : Column → Column → ℕ
 unlike s r = unlike_words (column_words s) (column_words r)
 
 -- columns of no control words, of control words
-pub record IsQuiet (s : Column) : Type 0 where
+pub record IsWithoutControl (s : Column) : Type 0 where
   pub blue : is_control s.blue ≡ false
   pub green : is_control s.green ≡ false
   pub red : is_control s.red ≡ false
 
-pub stays_quiet : (s r : Column) → IsQuiet s → unlike s r ≤ 1 → is_control_column r ≡ false
+pub stays_without_control : (s r : Column) → IsWithoutControl s → unlike s r ≤ 1 → is_control_column r ≡ false
 unfolding is_control_column unlike_words
-stays_quiet s r h one = grind (arith, gained, lt-leb)
+stays_without_control s r h one = grind (arith, gained, lt-leb)
 
 pub record IsWhole (s : Column) : Type 0 where
   pub blue : is_control s.blue ≡ true
@@ -50,9 +50,9 @@ stays_control s r h one = grind (arith, lost, le-leb)
 abbrev pub line_guard : Column
 line_guard = column_of video_guard
 
-pub line_guard_quiet : IsQuiet line_guard
+pub line_guard_no_control : IsWithoutControl line_guard
 unfolding is_control is_in control_words video_guard
-line_guard_quiet = record { blue = refl; green = refl; red = refl }
+line_guard_no_control = record { blue = refl; green = refl; red = refl }
 
 video_kept : (r : Column) → 3 ≤ video_words r + unlike line_guard r
 unfolding video_words unlike_words video_guard
@@ -73,7 +73,7 @@ unfolding passes_below is_control is_in control_words terc_words value_in is_twe
 blue_test = refl
 
 pub record IsBlue (w : ℕ) : Type 0 where
-  pub quiet : is_control w ≡ false
+  pub no_control : is_control w ≡ false
   pub twelve : is_twelve_or_more (value_in terc_words w) ≡ true
   pub other : (w == slice_index video_guard 0) ≡ false
 
@@ -81,11 +81,11 @@ pub is_blue : (d : ℕ) → d < 4 → IsBlue (guard_column d).blue
 is_blue d lt =
     let t = passes_at 4 (λ d. guard_test (slice_index terc_words (12 + d))) d blue_test lt in
     let u = and-right (not (is_control (guard_column d).blue)) _ t in
-    record { quiet = not_true _ (and-left _ _ t); twelve = and-left _ _ u; other = not_true _ (and-right (is_twelve_or_more (value_in terc_words (guard_column d).blue)) _ u) }
+    record { no_control = not_true _ (and-left _ _ t); twelve = and-left _ _ u; other = not_true _ (and-right (is_twelve_or_more (value_in terc_words (guard_column d).blue)) _ u) }
 
-pub guard_quiet : (d : ℕ) → d < 4 → IsQuiet (guard_column d)
+pub guard_no_control : (d : ℕ) → d < 4 → IsWithoutControl (guard_column d)
 unfolding is_control is_in control_words island_guard
-guard_quiet d lt = grind (arith, is_blue, not_true)
+guard_no_control d lt = grind (arith, is_blue, not_true)
 
 closing_kept : (s r : Column) → s.green ≡ island_guard → s.red ≡ island_guard → 2 ≤ closing_words r + unlike s r
 unfolding closing_words unlike_words island_guard

@@ -16,7 +16,7 @@ use Rattle.island_pack.specs.declared.packet.Packet.{Packet}
 use Rattle.period_grammar.specs.Island.{begins_close}
 use Rattle.link_laws.proofs.Cutting.{NoneControl}
 use Rattle.link_laws.proofs.Rows.{and_both}
-use Rattle.link_laws.proofs.Guards.{gained, stays_quiet}
+use Rattle.link_laws.proofs.Guards.{gained, stays_without_control}
 
 -- Columns of packets.
 
@@ -37,12 +37,12 @@ pub data ArePackets : Bool → List Packet → List Column → List Column → T
       (first : Bool) (p : Packet) (ps : List Packet) (own reception ss rs : List Column)
       → CarriesFreely p (map column_words own) → AreParts own reception → ArePackets false ps ss rs → ArePackets first (p ∷ ps) (own ++ ss) (reception ++ rs)
 
-pub part_quiet : (s r : Column) → PartAt s r → is_control_column r ≡ false
-part_quiet s r h = stays_quiet s r (record { blue = terc_apart s.blue h.blue; green = terc_apart s.green h.green; red = terc_apart s.red h.red }) h.one
+pub part_no_control : (s r : Column) → PartAt s r → is_control_column r ≡ false
+part_no_control s r h = stays_without_control s r (record { blue = terc_apart s.blue h.blue; green = terc_apart s.green h.green; red = terc_apart s.red h.red }) h.one
 
-pub parts_quiet : (ss rs : List Column) → AreParts ss rs → NoneControl rs
-parts_quiet _ _ no_parts = refl
-parts_quiet _ _ (part s r ss rs h hs) = and_both _ _ (ap not (part_quiet s r h)) (parts_quiet ss rs hs)
+pub parts_no_control : (ss rs : List Column) → AreParts ss rs → NoneControl rs
+parts_no_control _ _ no_parts = refl
+parts_no_control _ _ (part s r ss rs h hs) = and_both _ _ (ap not (part_no_control s r h)) (parts_no_control ss rs hs)
 
 parts_length : (ss rs : List Column) → AreParts ss rs → length rs ≡ length ss
 parts_length _ _ no_parts = refl
@@ -76,10 +76,10 @@ parts_open zero _ _ rest (part s r ss rs h (part t q tt qs g are)) many = refl
 parts_open (suc zero) _ _ rest (part s r ss rs h (part t q tt qs g are)) many = refl
 parts_open (suc (suc i)) _ _ rest (part s r ss rs h (part t q tt qs g are)) many = grind (arith, part_closing, lt-leb)
 
-pub packets_quiet : (first : Bool) (ps : List Packet) (ss rs : List Column) → ArePackets first ps ss rs → NoneControl rs
-packets_quiet _ _ _ _ (no_packets first) = refl
-packets_quiet _ _ _ _ (one_more first p ps own reception ss rs c h hs) =
-    list_all-append (λ c. not (is_control_column c)) reception rs ∙ and_both _ _ (parts_quiet own reception h) (packets_quiet false ps ss rs hs)
+pub packets_no_control : (first : Bool) (ps : List Packet) (ss rs : List Column) → ArePackets first ps ss rs → NoneControl rs
+packets_no_control _ _ _ _ (no_packets first) = refl
+packets_no_control _ _ _ _ (one_more first p ps own reception ss rs c h hs) =
+    list_all-append (λ c. not (is_control_column c)) reception rs ∙ and_both _ _ (parts_no_control own reception h) (packets_no_control false ps ss rs hs)
 
 -- a packet has 32 columns
 pub packet_sent : (first : Bool) (p : Packet) (own : List Column) → CarriesFreely p (map column_words own) → length own ≡ 32

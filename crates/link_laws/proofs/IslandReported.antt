@@ -19,9 +19,9 @@ use Rattle.link_laws.proofs.Cutting.{NoneControl, gap_events}
 use Rattle.link_laws.proofs.Rows.{and_both}
 use Rattle.link_laws.proofs.Conformed.{IsIsland}
 use Rattle.link_laws.proofs.Between.{take_seam, drop_seam, IsGap, lacks_preamble}
-use Rattle.link_laws.proofs.IslandColumns.{AreParts, parts_open, ArePackets, no_packets, one_more, packets_quiet, packet_sent, packet_received, packets_received}
+use Rattle.link_laws.proofs.IslandColumns.{AreParts, parts_open, ArePackets, no_packets, one_more, packets_no_control, packet_sent, packet_received, packets_received}
 use Rattle.link_laws.proofs.PacketRow.{packet_row_taken}
-use Rattle.link_laws.proofs.Guards.{guard_quiet, stays_quiet, opens_island, guards_close}
+use Rattle.link_laws.proofs.Guards.{guard_no_control, stays_without_control, opens_island, guards_close}
 use Rattle.period_grammar.proofs.Islands.{holds_is, holds_not, split_none, split_one}
 use Rattle.period_grammar.proofs.Hearings.{events_at}
 use Rattle.link_laws.proofs.VideoReported.{AreGuards}
@@ -165,21 +165,21 @@ whole x g h c d pp qq control b (suc (suc k)) i opens shut are long lt =
     ∙ ap (λ ts. row ++ ts)
     (packets_all broken x pp qq c d b k i shut are ∙ whole_same x.packets broken cut (b + 2) k (pp ++ guard_columns x.closing) rest (omega arith))
 
-quiet_pair : (u v : ℕ) (g h : Column) (rs : List Column) → u < 4 → v < 4 → AreGuards (guard_column u) (guard_column v) g h → NoneControl rs → NoneControl (g ∷ (h ∷ rs))
-quiet_pair u v g h rs lu lv are none =
+guards_no_control : (u v : ℕ) (g h : Column) (rs : List Column) → u < 4 → v < 4 → AreGuards (guard_column u) (guard_column v) g h → NoneControl rs → NoneControl (g ∷ (h ∷ rs))
+guards_no_control u v g h rs lu lv are none =
     let one = are.one in
-    and_both _ _ (ap not (stays_quiet (guard_column u) g (guard_quiet u lu) (omega arith))) (and_both _ _ (ap not (stays_quiet (guard_column v) h (guard_quiet v lv) (omega arith))) none)
+    and_both _ _ (ap not (stays_without_control (guard_column u) g (guard_no_control u lu) (omega arith))) (and_both _ _ (ap not (stays_without_control (guard_column v) h (guard_no_control v lv) (omega arith))) none)
 
 -- an island's guard columns as received
 pub record AreIslandGuards (x : DataIsland) (g h c d : Column) : Type 0 where
   pub opening : AreGuards (guard_column x.opening.first) (guard_column x.opening.second) g h
   pub closing : AreGuards (guard_column x.closing.first) (guard_column x.closing.second) c d
 
-framed_quiet : (x : DataIsland) (g h c d : Column) (qq : List Column) → IsIsland x → AreIslandGuards x g h c d → NoneControl qq → NoneControl (framed g h qq c d)
-framed_quiet x g h c d qq i are none = grind (arith, quiet_pair, list_all-append, and_both)
+framed_no_control : (x : DataIsland) (g h c d : Column) (qq : List Column) → IsIsland x → AreIslandGuards x g h c d → NoneControl qq → NoneControl (framed g h qq c d)
+framed_no_control x g h c d qq i are none = grind (arith, guards_no_control, list_all-append, and_both)
 
 -- the law of a data island
 pub island_gap : (before : List Column) (x : DataIsland) (g h c d : Column) (pp qq : List Column) → 12 ≤ length before → IsIsland x → AreIslandGuards x g h c d → ArePackets true x.packets pp qq
     → IsGap before (sends.island x) (frame x pp) (framed g h qq c d)
 unfolding period_columns period_row island_reported
-island_gap before x g h c d pp qq long i guards are = grind (arith, packets_received, opens_island, guards_close, framed_quiet, packets_quiet, length-append, part, whole)
+island_gap before x g h c d pp qq long i guards are = grind (arith, packets_received, opens_island, guards_close, framed_no_control, packets_no_control, length-append, part, whole)

@@ -15,7 +15,7 @@ use Rattle.lane_align.proofs.Controls.{window_is, control_within}
 use Rattle.lane_align.proofs.Calm.{row_word, control_is, tap_lock, tapped}
 use Rattle.lane_deskew.specs.Triples.{IsFirst}
 use Rattle.island_pack.specs.Kinds.{Kind, control_column, first_guard, second_guard, pixel_column, packet_column, IsPayload, kind_at, EndsAt}
-use Rattle.link_laws.specs.LaneEnds.{IsGuard, IsReceived, IsSent, IsSparse, damaged, controls_of}
+use Rattle.link_laws.specs.LaneEnds.{IsGuard, IsReceived, IsLaneSent, IsSparseLane, damaged, controls_of}
 use Rattle.link_laws.specs.Alternating.{IsAlternating}
 use Rattle.link_laws.proofs.Shapes.{ends_apart, parted}
 
@@ -163,7 +163,7 @@ kind_cases P packet_column f g = g (λ c. cc)
 pub no_guard_payload : (k : Kind) → IsGuard k → IsPayload k → ⊥
 no_guard_payload k h l = grind arith
 
-pub sparse_received : (kinds : List Kind) (sent received : List ℕ) → IsSent kinds sent → IsSparse kinds sent received → IsReceived kinds received (damaged sent received)
+pub sparse_received : (kinds : List Kind) (sent received : List ℕ) → IsLaneSent kinds sent → IsSparseLane kinds sent received → IsReceived kinds received (damaged sent received)
 sparse_received kinds sent received s h = grind (arith, length_damaged, same_word, clash, few_turns, no_guard_payload)
 
 pub control_columns : (kinds : List Kind) (words1 words2 words3 : List ℕ) (marks1 marks2 marks3 : List Bool)

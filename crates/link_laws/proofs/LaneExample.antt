@@ -13,7 +13,7 @@ use Rattle.lane_deskew.specs.Triples.{IsFirst}
 use Rattle.island_pack.specs.Periods.{ControlRun, Period, control, video, values_of, has_preamble}
 use Rattle.island_pack.specs.Conforming.{is_control_period, is_video_period, conforms, IsConforming}
 use Rattle.island_pack.specs.Kinds.{Kind, control_column, first_guard, second_guard, pixel_column, packet_column, IsPayload, kinds_in, kinds_of, kind_at}
-use Rattle.link_laws.specs.LaneEnds.{IsGuard, IsReceived, HasExample}
+use Rattle.link_laws.specs.LaneEnds.{IsGuard, IsReceived, HasLaneExample}
 use Rattle.link_laws.proofs.Computed.{or_second, not_true, has, runs_at, none_before, is_lock, is_edge}
 
 -- five control columns, and eight that announce a video data period
@@ -144,7 +144,7 @@ first = record {
   least = λ p q r t. let a = past p t.first in omega arith;
 }
 
-pub example : HasExample
+pub example : HasLaneExample
 unfolding bits
 example = (
   periods,

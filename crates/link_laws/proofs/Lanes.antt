@@ -7,7 +7,7 @@ use Rattle.tmds_word.specs.Column.{Column, blues, greens, reds}
 use Rattle.terc4.specs.Columns.{one_if}
 use Rattle.lane_align.specs.Laws.{marked}
 use Rattle.island_pack.specs.Kinds.{Kind, IsPayload, kinds_of, kind_at}
-use Rattle.link_laws.specs.LaneEnds.{IsReceived, IsSent, IsSparse as IsSparseLane, damaged}
+use Rattle.link_laws.specs.LaneEnds.{IsReceived, IsLaneSent, IsSparseLane, damaged}
 use Rattle.link_laws.proofs.LaneEnds.{sparse_received}
 use Rattle.island_pack.specs.Periods.{Period}
 use Rattle.island_pack.specs.Sparse.{unlike_words, AreFew, no_column, column_at, IsSparseInPayload}
@@ -29,7 +29,7 @@ fitting_at _ _ (column k c ks cs h hs) (suc i) lt = fitting_at ks cs hs i (omega
 
 -- one lane of columns, by its word of a column
 pub lane_sent : (f : Column → ℕ) (ks : List Kind) (cs : List Column) → length ks ≡ length cs
-    → ((i : ℕ) → i < length cs → FitsWord (kind_at ks i) (f (column_at cs i))) → IsSent ks (map f cs)
+    → ((i : ℕ) → i < length cs → FitsWord (kind_at ks i) (f (column_at cs i))) → IsLaneSent ks (map f cs)
 lane_sent f ks cs long fit = grind (arith, length-map, get_or-map)
 
 -- Received words.

@@ -42,7 +42,7 @@ end_on j cs gap xs h = grind arith
 period_whole : (j : ℕ) (before reception next : List Column) → 1 ≤ length before → AllControl before → 1 ≤ length reception → NoneControl reception → heads next ≡ true
     → whole j (before ++ (reception ++ next))
     ≡ runs_placed j (runs before) ++ ((in_gap (j + length before) before reception ++ all_at (j + length before + length reception) (at_close (j + length before) reception)) ++ whole (j + length before + length reception) next)
-period_whole j before reception next one all two quiet at_next = grind (arith, some_cut, both, begins_heads, length-append, end_on, regroup, control_placed)
+period_whole j before reception next one all two no_control at_next = grind (arith, some_cut, both, begins_heads, length-append, end_on, regroup, control_placed)
 
 -- All stretches.
 
@@ -67,7 +67,7 @@ all_placed _ (goes_on x runs_sent rest i long f) before _ _ h (more _ _ own rece
     let one = g.some in
     let k = j + length before in
     let cv = control_columns (values_of runs_sent) in
-    period_whole j before reception (cs ++ rs) (omega arith) h.all (omega arith) g.quiet (first_control cs rs all (omega arith))
+    period_whole j before reception (cs ++ rs) (omega arith) h.all (omega arith) g.no_control (first_control cs rs all (omega arith))
     ∙ ap (λ ts. runs_placed j (runs before) ++ (ts ++ whole (k + length reception) (cs ++ rs))) (period_places before x own reception lb i a k)
     ∙ ap (λ ts. runs_placed j (runs before) ++ (period_placed k before x own reception ++ ts))
     (all_placed rest f cs ss rs (record { long = omega arith; all = all }) b (k + length reception)

@@ -72,30 +72,30 @@ passes_at_all p [] i z h = z
 passes_at_all p (w ∷ ws) zero z h = and-left _ _ h
 passes_at_all p (w ∷ ws) (suc i) z h = passes_at_all p ws i z (and-right _ _ h)
 
-abbrev is_quiet : ℕ → Bool
-is_quiet w = nat_le (turns (word_bits w)) 5
+abbrev is_minimized : ℕ → Bool
+is_minimized w = nat_le (turns (word_bits w)) 5
 
-terc_test : list_all is_quiet terc_words ≡ true
+terc_test : list_all is_minimized terc_words ≡ true
 unfolding terc_words turns word_bits bits_of unlike
 terc_test = refl
 
-video_test : list_all is_quiet video_guard ≡ true
+video_test : list_all is_minimized video_guard ≡ true
 unfolding video_guard turns word_bits bits_of unlike
 video_test = refl
 
-quiet_at : (ws : List ℕ) (i : ℕ) → list_all is_quiet ws ≡ true → turns (word_bits (get_or ws i 0)) ≤ 5
+minimized_at : (ws : List ℕ) (i : ℕ) → list_all is_minimized ws ≡ true → turns (word_bits (get_or ws i 0)) ≤ 5
 unfolding turns word_bits bits_of unlike
-quiet_at ws i h = grind (arith, leb-true, passes_at_all)
+minimized_at ws i h = grind (arith, leb-true, passes_at_all)
 
 fit_guard : (sync : ℕ) → HasFewTurns (guard_column sync)
 unfolding island_guard turns word_bits bits_of unlike
-fit_guard sync = grind (arith, quiet_at, terc_test, leb-true)
+fit_guard sync = grind (arith, minimized_at, terc_test, leb-true)
 
 fit_video_guard : HasFewTurns (column_of video_guard)
 fit_video_guard = record {
-  blue = quiet_at video_guard 0 video_test;
-  green = quiet_at video_guard 1 video_test;
-  red = quiet_at video_guard 2 video_test;
+  blue = minimized_at video_guard 0 video_test;
+  green = minimized_at video_guard 1 video_test;
+  red = minimized_at video_guard 2 video_test;
 }
 
 -- Columns of pixels and packets.
@@ -143,25 +143,25 @@ small_pixels (r ∷ (g ∷ (b ∷ rest))) zero h = grind (arith, and-right, ltb-
 small_pixels (r ∷ (g ∷ (b ∷ rest))) (suc j) h =
     small_pixels rest j (and-right (nat_lt b 256) _ (and-right (nat_lt g 256) _ (and-right (nat_lt r 256) _ h)))
 
-lane_quiet : (bytes words : List ℕ) → IsLane bytes words → (j : ℕ) → j < length words → get_or bytes j 0 < 256 → turns (word_bits (get_or words j 0)) ≤ 5
-lane_quiet bytes words lane j lt small =
+lane_minimized : (bytes words : List ℕ) → IsLane bytes words → (j : ℕ) → j < length words → get_or bytes j 0 < 256 → turns (word_bits (get_or words j 0)) ≤ 5
+lane_minimized bytes words lane j lt small =
     subst (λ w. turns (word_bits w) ≤ 5) (sym (lane.coded j lt)) (coded_turns (sign_of (disparity_of (take j words))) (get_or bytes j 0) small)
 
 -- one lane of pixels
-pixel_quiet : (f : Pixel → ℕ) (g : Column → ℕ) (pixels : List Pixel) (pp : List Column) → IsLane (map f pixels) (map g pp)
+pixel_minimized : (f : Pixel → ℕ) (g : Column → ℕ) (pixels : List Pixel) (pp : List Column) → IsLane (map f pixels) (map g pp)
     → (j : ℕ) → j < length pp → f (get_or pixels j no_pixel) < 256 → turns (word_bits (g (column_at pp j))) ≤ 5
-pixel_quiet f g pixels pp lane j lt small =
+pixel_minimized f g pixels pp lane j lt small =
     let same = lane.same_length in
     let a = length-map pixels f in
     let b = length-map pp g in
     let byte : get_or (map f pixels) j 0 ≡ f (get_or pixels j no_pixel) = get_or-map f pixels j no_pixel 0 (omega arith) in
-    grind (arith, get_or-map, lane_quiet)
+    grind (arith, get_or-map, lane_minimized)
 
 pixels_payload : (bytes : List ℕ) (pp : List Column) → are_bytes bytes ≡ true → SpellsPixels (pixels_of bytes) pp → ArePayload pp
 pixels_payload bytes pp small h = payload_from pp (λ j lt. record {
-  blue = pixel_quiet (λ p. p.blue) (λ c. c.blue) (pixels_of bytes) pp h.blue j lt (small_pixels bytes j small).blue;
-  green = pixel_quiet (λ p. p.green) (λ c. c.green) (pixels_of bytes) pp h.green j lt (small_pixels bytes j small).green;
-  red = pixel_quiet (λ p. p.red) (λ c. c.red) (pixels_of bytes) pp h.red j lt (small_pixels bytes j small).red;
+  blue = pixel_minimized (λ p. p.blue) (λ c. c.blue) (pixels_of bytes) pp h.blue j lt (small_pixels bytes j small).blue;
+  green = pixel_minimized (λ p. p.green) (λ c. c.green) (pixels_of bytes) pp h.green j lt (small_pixels bytes j small).green;
+  red = pixel_minimized (λ p. p.red) (λ c. c.red) (pixels_of bytes) pp h.red j lt (small_pixels bytes j small).red;
 })
 
 pub length-spelled : (pixels : List Pixel) (pp : List Column) → SpellsPixels pixels pp → length pp ≡ length pixels
@@ -173,9 +173,9 @@ packet_payload : (p : Packet) (own : List Column) → CarriesFreely p (map colum
 packet_payload p own h = payload_from own (λ i lt.
     let many = length-map own column_words in
     let words : get_or (map column_words own) i [] ≡ column_words (column_at own i) = get_or-map column_words own i no_column [] lt in
-    let quiet : (lane : ℕ) → lane < 3 → turns (word_bits (get_or (column_words (column_at own i)) lane 0)) ≤ 5 =
+    let few : (lane : ℕ) → lane < 3 → turns (word_bits (get_or (column_words (column_at own i)) lane 0)) ≤ 5 =
     λ lane within. terc_turns _ (subst (λ ws. is_terc (get_or ws lane 0) ≡ true) words (h.terc lane within i [] (omega arith))) in
-    record { blue = quiet 0 (omega arith); green = quiet 1 (omega arith); red = quiet 2 (omega arith) })
+    record { blue = few 0 (omega arith); green = few 1 (omega arith); red = few 2 (omega arith) })
 
 packets_payload : (first : Bool) (packets : List Packet) (cs : List Column) → SpellsPacketsBy freely first packets cs → ArePayload cs
 packets_payload first [] cs h = subst ArePayload (sym h) none

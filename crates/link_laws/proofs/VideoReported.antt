@@ -18,7 +18,7 @@ use Rattle.link_laws.proofs.Rows.{and_both}
 use Rattle.link_laws.proofs.Conformed.{IsVideo}
 use Rattle.period_grammar.proofs.Hearings.{events_at}
 use Rattle.link_laws.proofs.Between.{IsGap, lacks_preamble}
-use Rattle.link_laws.proofs.Guards.{unlike, line_guard, line_guard_quiet, stays_quiet, opens_video}
+use Rattle.link_laws.proofs.Guards.{unlike, line_guard, line_guard_no_control, stays_without_control, opens_video}
 use Rattle.island_pack.specs.Periods as sends
 
 pub pixel_count : (bytes : List ℕ) → length (pixels_of bytes) ≡ length bytes / 3
@@ -31,7 +31,7 @@ pixel_count (r ∷ (g ∷ (b ∷ rest))) = let n = pixel_count rest in omega ari
 -- a word as sent for a byte
 pub record IsWord (byte word : ℕ) : Type 0 where
   pub byte_is : decoded_byte word ≡ byte
-  pub quiet : is_control word ≡ false
+  pub no_control : is_control word ≡ false
 
 -- a pixel column as sent and as received
 pub record PixelAt (p : Pixel) (s r : Column) : Type 0 where
@@ -44,12 +44,12 @@ pub data ArePixels : List Pixel → List Column → List Column → Type 0 where
   no_pixels : ArePixels [] [] []
   more : (p : Pixel) (s r : Column) (ps : List Pixel) (ss rs : List Column) → PixelAt p s r → ArePixels ps ss rs → ArePixels (p ∷ ps) (s ∷ ss) (r ∷ rs)
 
-pub pixel_quiet : (p : Pixel) (s r : Column) → PixelAt p s r → is_control_column r ≡ false
-pixel_quiet p s r h = stays_quiet s r (record { blue = h.blue.quiet; green = h.green.quiet; red = h.red.quiet }) h.one
+pub pixel_no_control : (p : Pixel) (s r : Column) → PixelAt p s r → is_control_column r ≡ false
+pixel_no_control p s r h = stays_without_control s r (record { blue = h.blue.no_control; green = h.green.no_control; red = h.red.no_control }) h.one
 
-pub pixels_quiet : (ps : List Pixel) (ss rs : List Column) → ArePixels ps ss rs → NoneControl rs
-pixels_quiet _ _ _ no_pixels = refl
-pixels_quiet _ _ _ (more p s r ps ss rs h hs) = and_both _ _ (ap not (pixel_quiet p s r h)) (pixels_quiet ps ss rs hs)
+pub pixels_no_control : (ps : List Pixel) (ss rs : List Column) → ArePixels ps ss rs → NoneControl rs
+pixels_no_control _ _ _ no_pixels = refl
+pixels_no_control _ _ _ (more p s r ps ss rs h hs) = and_both _ _ (ap not (pixel_no_control p s r h)) (pixels_no_control ps ss rs hs)
 
 pub length_received : (ps : List Pixel) (ss rs : List Column) → ArePixels ps ss rs → length rs ≡ length ps
 length_received _ _ _ no_pixels = refl
@@ -68,10 +68,10 @@ bytes_are _ _ _ (more p s r ps ss rs h hs) = grind (arith, eqb-true, bytes_are p
 pub record AreGuards (s t g h : Column) : Type 0 where
   pub one : unlike s g + unlike t h ≤ 1
 
-guarded_quiet : (g h : Column) (rs : List Column) → AreGuards line_guard line_guard g h → NoneControl rs → NoneControl (g ∷ (h ∷ rs))
-guarded_quiet g h rs are none =
+guarded_no_control : (g h : Column) (rs : List Column) → AreGuards line_guard line_guard g h → NoneControl rs → NoneControl (g ∷ (h ∷ rs))
+guarded_no_control g h rs are none =
     let one = are.one in
-    and_both _ _ (ap not (stays_quiet line_guard g line_guard_quiet (omega arith))) (and_both _ _ (ap not (stays_quiet line_guard h line_guard_quiet (omega arith))) none)
+    and_both _ _ (ap not (stays_without_control line_guard g line_guard_no_control (omega arith))) (and_both _ _ (ap not (stays_without_control line_guard h line_guard_no_control (omega arith))) none)
 
 pub close_line : (b : ℕ) (ps : List Pixel) (ss rs : List Column) → 1 ≤ length ps → length ps ≤ 4096 → ArePixels ps ss rs → line_of b rs ≡ video_row b ps ss rs
 unfolding line_of video_row
@@ -111,4 +111,4 @@ whole ps g h s t pp qq control b (suc (suc i)) long opens some few are lt = grin
 pub video_gap : (before : List Column) (bytes : List ℕ) (g h : Column) (pp qq : List Column) → 12 ≤ length before → IsVideo bytes → AreGuards line_guard line_guard g h → ArePixels (pixels_of bytes) pp qq
     → IsGap before (sends.video bytes) (line_guard ∷ (line_guard ∷ pp)) (g ∷ (h ∷ qq))
 unfolding period_columns period_row video_reported
-video_gap before bytes g h pp qq long v guards are = grind (arith, pixel_count, opens_video, guarded_quiet, pixels_quiet, length_received, part, line_guard, whole)
+video_gap before bytes g h pp qq long v guards are = grind (arith, pixel_count, opens_video, guarded_no_control, pixels_no_control, length_received, part, line_guard, whole)

@@ -36,8 +36,8 @@ abbrev pub ConformingAlternate : Type 0
 ConformingAlternate = (ps : List Period) → IsConforming ps → IsAlternating (kinds_of ps)
 
 -- each edge in a part of the bits of a lane of alternating columns is the end of a control period
-abbrev pub EdgesEnd : Type 0
-EdgesEnd =
+abbrev pub LaneEdgesEnd : Type 0
+LaneEdgesEnd =
     (kinds : List Kind) (words : List ℕ) (marks : List Bool) → IsAlternating kinds → IsReceived kinds words marks
     → (from many e : ℕ) → IsEdge (part_of words from many) e
     → (i : ℕ) × (EndsAt kinds i) × (e + from ≡ 10 * (i + 1))
@@ -59,8 +59,8 @@ OneEnd =
     → (i : ℕ) × (EndsAt kinds i) × (e1 + from1 ≡ 10 * (i + 1)) × (e2 + from2 ≡ 10 * (i + 1))
 
 -- the first full alignment of three lanes is the end of one control period
-abbrev pub FirstEnds : Type 0
-FirstEnds =
+abbrev pub LaneFirstEnds : Type 0
+LaneFirstEnds =
     (kinds : List Kind) (words1 words2 words3 : List ℕ) (marks1 marks2 marks3 : List Bool) → IsAlternating kinds
     → IsReceived kinds words1 marks1 → IsReceived kinds words2 marks2 → IsReceived kinds words3 marks3
     → (from1 from2 from3 many1 many2 many3 e1 e2 e3 : ℕ) → AreNear from1 from2 → AreNear from2 from3 → AreNear from1 from3
@@ -69,7 +69,7 @@ FirstEnds =
     × (e1 + from1 ≡ 10 * (i + 1)) × (e2 + from2 ≡ 10 * (i + 1)) × (e3 + from3 ≡ 10 * (i + 1))
 
 -- the characters of one lane as they are sent
-pub record IsSent (kinds : List Kind) (sent : List ℕ) : Type 0 where
+pub record IsLaneSent (kinds : List Kind) (sent : List ℕ) : Type 0 where
   pub same_length : length kinds ≡ length sent
   pub controls : (i : ℕ) → i < length sent → kind_at kinds i ≡ control_column → is_control (slice_index sent i) ≡ true
   pub others : (i : ℕ) → i < length sent → (kind_at kinds i ≡ control_column → ⊥) → turns (word_bits (slice_index sent i)) ≤ 5
@@ -81,7 +81,7 @@ damaged (x ∷ xs) [] = []
 damaged (x ∷ xs) (y ∷ ys) = not (x == y) ∷ damaged xs ys
 
 -- the characters as they were received: at most two in eleven unlike those that were sent, and those in payload alone
-pub record IsSparse (kinds : List Kind) (sent received : List ℕ) : Type 0 where
+pub record IsSparseLane (kinds : List Kind) (sent received : List ℕ) : Type 0 where
   pub same_length : length received ≡ length sent
   pub below : (i : ℕ) → i < length received → slice_index received i < 1024
   pub only_payload :
@@ -91,7 +91,7 @@ pub record IsSparse (kinds : List Kind) (sent received : List ℕ) : Type 0 wher
 -- a lane that was received so meets what the other laws ask for
 abbrev pub SparseReceived : Type 0
 SparseReceived =
-    (kinds : List Kind) (sent received : List ℕ) → IsSent kinds sent → IsSparse kinds sent received
+    (kinds : List Kind) (sent received : List ℕ) → IsLaneSent kinds sent → IsSparseLane kinds sent received
     → IsReceived kinds received (damaged sent received)
 
 -- how many of three characters are control words
@@ -108,11 +108,11 @@ ControlColumns =
     → (kind_at kinds i ≡ control_column) ↔ (2 ≤ controls_of (slice_index words1 i) (slice_index words2 i) (slice_index words3 i))
 
 -- three lanes that meet the premises, and a first full alignment of theirs
-pub record IsExample (ps : List Period) (words : List ℕ) (marks : List Bool) (e : ℕ) : Type 0 where
+pub record IsLaneExample (ps : List Period) (words : List ℕ) (marks : List Bool) (e : ℕ) : Type 0 where
   pub conforming : IsConforming ps
   pub received : IsReceived (kinds_of ps) words marks
   pub first : IsFirst (part_of words 3 270) (part_of words 3 270) (part_of words 3 270) e e e
 
 -- there are such lanes
-abbrev pub HasExample : Type 0
-HasExample = (ps : List Period) × (words : List ℕ) × (marks : List Bool) × (e : ℕ) × IsExample ps words marks e
+abbrev pub HasLaneExample : Type 0
+HasLaneExample = (ps : List Period) × (words : List ℕ) × (marks : List Bool) × (e : ℕ) × IsLaneExample ps words marks e

@@ -1,7 +1,7 @@
 //! Laws on alignments. The functions do nothing: what they ensure is the law.
 ghost use Rattle.lane_deskew.specs.Fed.{PastTriples, PastAlignments, PastColumns, EvenlyFed, GainedPushed, NoneGained, GainedFit, RoomLeft, NothingCut};
 ghost use Rattle.link_laws.specs.LaneLaws.{OneFirst, ColumnsListed, FirstStays};
-ghost use Rattle.link_laws.specs.LaneEnds.{ConformingAlternate, EdgesEnd, EndsApart, OneEnd, FirstEnds, SparseReceived, ControlColumns, HasExample};
+ghost use Rattle.link_laws.specs.LaneEnds.{ConformingAlternate, LaneEdgesEnd, EndsApart, OneEnd, LaneFirstEnds, SparseReceived, ControlColumns, HasLaneExample};
 
 /// Three rows have at most one first full alignment: two with the same largest edge have the same
 /// edges, since two edges of one row are at least 130 bits apart.
@@ -29,7 +29,7 @@ pub fn conforming_alternate()
 /// control words still control words and guard words still none: each edge in a part of its bits is
 /// the end of a control period.
 pub fn edges_end()
-    ensures { EdgesEnd }
+    ensures { LaneEdgesEnd }
 {}
 
 /// In alternating columns the ends of two control periods are at least 15 columns apart.
@@ -46,7 +46,7 @@ pub fn one_end()
 /// The edges of the first full alignment of three such lanes, any two with a skew of at most 70 bits,
 /// are the end of one and the same control period.
 pub fn first_ends()
-    ensures { FirstEnds }
+    ensures { LaneFirstEnds }
 {}
 
 /// A lane is such a lane where its characters were received as they were sent, but for at most two in any
@@ -63,7 +63,7 @@ pub fn control_columns()
 
 /// There are three such lanes, with a first full alignment.
 pub fn has_example()
-    ensures { HasExample }
+    ensures { HasLaneExample }
 {}
 
 /// The full alignments of the characters that lanes have pushed are those of their bits.

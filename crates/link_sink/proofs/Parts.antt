@@ -10,8 +10,8 @@ use Rattle.link_sink.proofs.Stops.{stops_after}
 -- An ear to which what parts say is reported.
 
 -- columns of which nothing is reported
-pub took_quiet : {A : Type 0} (g : Grammar) (took : A → A → List Event → Type 0) (x : A) (cs more : List Column) → took x x [] → g.so_far (cs ++ more) ≡ g.so_far cs → TookMore g took x x cs more
-took_quiet g took x cs more none e = record { events = []; events_are = e ∙ sym (append-nil (g.so_far cs)); took_events = none }
+pub took_nothing : {A : Type 0} (g : Grammar) (took : A → A → List Event → Type 0) (x : A) (cs more : List Column) → took x x [] → g.so_far (cs ++ more) ≡ g.so_far cs → TookMore g took x x cs more
+took_nothing g took x cs more none e = record { events = []; events_are = e ∙ sym (append-nil (g.so_far cs)); took_events = none }
 
 reported_parts : (g : Grammar) (cs part more : List Column) (h k : List Event) → g.so_far (cs ++ part) ≡ g.so_far cs ++ h → g.so_far ((cs ++ part) ++ more) ≡ g.so_far (cs ++ part) ++ k
     → g.so_far (cs ++ (part ++ more)) ≡ g.so_far cs ++ (h ++ k)

@@ -25,7 +25,7 @@ use Rattle.listing_laws.proofs.Accounted.{video_size as video_columns, island_si
 pub record IsOther (n : ℕ) (own reception : List Column) : Type 0 where
   pub sent : length own ≡ n
   pub received : length reception ≡ n
-  pub quiet : NoneControl reception
+  pub no_control : NoneControl reception
 
 unfoldable Received : List Period → List Column → List Column → Type 0
 Received [] ss rs = (ss ≡ []) × (rs ≡ [])

@@ -18,7 +18,7 @@ use Rattle.listing_laws.specs.FrameLaws.{whole_frame}
 use Rattle.listing_writer.specs.Listed.{Listed, frame}
 use Rattle.listing_laws.proofs.Machine.{ends}
 use Rattle.listing_laws.proofs.Cells.{Cell, State, after, says, after_append, says_append}
-use Rattle.listing_laws.proofs.Ready.{Ready, quiet, is_heard}
+use Rattle.listing_laws.proofs.Ready.{Ready, reports_nothing, is_heard}
 use Rattle.listing_laws.proofs.Parts.{parts_cells}
 use Rattle.listing_laws.proofs.Parts as part
 use Rattle.listing_laws.proofs.Lines.{Even, even_none, even_column, Begins, begins_more, begins_same, final_vsync}
@@ -151,7 +151,7 @@ rows_and_front mode ok rows are qs back lines ss rs e p q last place ends_sent e
     let all : seen ss rs e p (one ++ (two ++ back)) ≡ first ++ (second ++ third) =
     seen_append ss rs e p one (two ++ back) ∙ ap (λ (ts : List Cell). first ++ ts) (seen_append ss rs e (p + size one) two back) in
     let r = rows_say mode ok rows are qs ss rs e p ends_sent ends_received s c y (omega (arith, count, ok.few_lines)) was in
-    let f = quiet b c r.group_after second (after first s) (seen_even b ss rs e (p + size one) two (even_blank mode false (front mode.down) (left mode (row_lines_of rows) qs))) r.ready in
+    let f = reports_nothing b c r.group_after second (after first s) (seen_even b ss rs e (p + size one) two (even_blank mode false (front mode.down) (left mode (row_lines_of rows) qs))) r.ready in
     let at_last = last_rest mode second third (after first s) last (last_rest mode first (second ++ third) s last (last_by mode _ _ s last all final)) in
     let g = later (after second (after first s)) r.group_after (λ h. r.grown (omega (arith, h, place)) ∙ ap (λ (k : ℕ). replicate k (active mode.across)) count) f.ready
     (last_by mode _ _ (after second (after first s)) last (ap (λ (k : ℕ). seen ss rs e k back) here) at_last) in

@@ -17,7 +17,7 @@ use Rattle.listing_laws.specs.FrameLaws.{row_at, row_end}
 use Rattle.listing_writer.specs.Listed.{Listed, listed_rows}
 use Rattle.listing_laws.proofs.Machine.{ends}
 use Rattle.listing_laws.proofs.Cells.{Cell, State, after, says, after_append, says_append}
-use Rattle.listing_laws.proofs.Ready.{flat, Flat, flat_append, Ready, quiet, columns as cells_of, IsTurned, turn, is_heard, fewer_said}
+use Rattle.listing_laws.proofs.Ready.{flat, Flat, flat_append, Ready, reports_nothing, columns as cells_of, IsTurned, turn, is_heard, fewer_said}
 use Rattle.listing_laws.proofs.Parts.{parts_cells}
 use Rattle.listing_laws.proofs.Lines.{Even, even_none, even_append, even_until, Begins, begins_more, begins_until, opened}
 use Rattle.listing_laws.proofs.Rows.{seen, seen_append, note, bytes_at, row_flat, row_seen}
@@ -153,7 +153,7 @@ row_none : (mode : Mode) → IsMode mode → (row : List ℕ) (rows : List (List
     → (s : State) (c : Bool) (y : ℕ) → Ready s (not mode.positive) c (replicate y (active mode.across)) → e ≤ p + row_end mode
     → IsRows (seen ss rs e p (laid mode (row_lines_of (row ∷ rows)) ps)) s (not mode.positive) c (rows_listed mode c ss rs e p y (row ∷ rows)) (replicate (y + length (row ∷ rows)) (active mode.across)) (p + length (row ∷ rows) * total mode.across ≤ e)
 row_none mode ok row rows are ps ss rs e p s c y was le =
-    let k = quiet (not mode.positive) c (replicate y (active mode.across)) (seen ss rs e p (laid mode (row_lines_of (row ∷ rows)) ps)) s (rows_flat mode ok (row ∷ rows) are ps ss rs e p le) was in
+    let k = reports_nothing (not mode.positive) c (replicate y (active mode.across)) (seen ss rs e p (laid mode (row_lines_of (row ∷ rows)) ps)) s (rows_flat mode ok (row ∷ rows) are ps ss rs e p le) was in
     grind (arith, more_times, none_listed)
 
 pub rows_say : (mode : Mode) → IsMode mode → (rows : List (List ℕ)) → AreRows (active mode.across) rows → (ps : List Packet) (ss rs : List Column) (e p : ℕ)

@@ -19,7 +19,7 @@ use Rattle.listing_writer.specs.Listed.{Listed, listed_from}
 use Rattle.listing_laws.proofs.Machine.{ends, ticks}
 use Rattle.listing_laws.proofs.Walk.{listed_ticks}
 use Rattle.listing_laws.proofs.Cells.{Cell, State, after, says, after_append, says_append, fine, fresh, all_say}
-use Rattle.listing_laws.proofs.Ready.{Ready, quiet, columns as cells_of, flat_columns, begin, begin_few, begin_after, heard_once, once_ready, is_heard}
+use Rattle.listing_laws.proofs.Ready.{Ready, reports_nothing, columns as cells_of, flat_columns, begin, begin_few, begin_after, heard_once, once_ready, is_heard}
 use Rattle.listing_laws.proofs.Parts.{parts_cells}
 use Rattle.listing_laws.proofs.Accounted.{account_hears}
 use Rattle.listing_laws.proofs.Lines.{Begins, begins_more, begins_first, begins_same, opened, final_vsync, size_values}
@@ -42,7 +42,7 @@ begun_by : (b : Bool) (us : List Bool) (rest : List Cell) → 9 ≤ length us �
 begun_by b us rest le =
     let e = begin_after b us le in
     let p = begin b us le in
-    let q = quiet b false [] (cells_of b us) (heard_once b) (flat_columns b us) (once_ready b) in (
+    let q = reports_nothing b false [] (cells_of b us) (heard_once b) (flat_columns b us) (once_ready b) in (
       after_append (cells_of b us) rest fresh ∙ ap (after rest) e ∙ sym (after_append (cells_of b us) rest (heard_once b)),
       says_append (cells_of b us) rest fresh ∙ ap₂ (λ (xs : List Listed) (s : State). xs ++ says rest s) (p.nothing ∙ sym q.nothing) e ∙ sym (says_append (cells_of b us) rest (heard_once b)),
     )

@@ -10,7 +10,7 @@ use Rattle.source_end.specs.Raster.{Line, Part, pixels, columns, sync_at, guard_
 use Rattle.source_end.specs.Gathering.{size}
 use Rattle.listing_writer.specs.Listed.{row}
 use Rattle.listing_laws.proofs.Cells.{Cell, pixels as pixels_cell, parted, State, note_of, after, says, after_append, says_append}
-use Rattle.listing_laws.proofs.Ready.{Flat, Ready, quiet}
+use Rattle.listing_laws.proofs.Ready.{Flat, Ready, reports_nothing}
 use Rattle.listing_laws.proofs.Parts.{row_cells, part_cells, parts_cells, parts_append}
 use Rattle.listing_laws.proofs.Lines.{Even, even_until, even_columns, sync_vsync, level_of}
 use Rattle.listing_laws.proofs.Rows.{row_ready}
@@ -35,10 +35,10 @@ mute_append b xs ys h k m ss rs s g was =
     subst (λ (ts : List Cell). IsMuted ts s b) (sym (parts_append xs ys m ss rs)) (muted_append b first second s p q)
 
 pub mute_even : (b : Bool) (parts : List Part) → Even b parts → Mute b parts
-mute_even b parts h m ss rs s g was = let k = quiet b false g (parts_cells m parts ss rs) s (h m ss rs) was in record { nothing = k.nothing; group = g; ready = k.ready }
+mute_even b parts h m ss rs s g was = let k = reports_nothing b false g (parts_cells m parts ss rs) s (h m ss rs) was in record { nothing = k.nothing; group = g; ready = k.ready }
 
 flat_muted : (b : Bool) (ts : List Cell) (s : State) (g : List ℕ) → Flat b ts → Ready s b false g → IsMuted ts s b
-flat_muted b ts s g h was = let k = quiet b false g ts s h was in record { nothing = k.nothing; group = g; ready = k.ready }
+flat_muted b ts s g h was = let k = reports_nothing b false g ts s h was in record { nothing = k.nothing; group = g; ready = k.ready }
 
 cells_muted : (b t : Bool) (ps : List Pixel) (ss rs : List Column) (s : State) (g : List ℕ) → Ready s b false g → IsMuted (cond t (pixels_cell (pixel_bytes ps ss rs) ∷ []) (parted ∷ [])) s b
 unfolding says after

@@ -163,21 +163,21 @@ still b v c g s was = elim (taken_cases b v s.recent) [
 pub gap_ready : (b c : Bool) (g : List ℕ) (s : State) → Ready s b c g → Ready (step parted s) b c g
 gap_ready b c g s was = record { heard = was.heard; trail = clear_trail b (gap ∷ s.marks) [] (gap_clear (not b) s.marks); counting = was.counting; group = was.group }
 
-pub record IsQuiet (ts : List Cell) (s : State) (b c : Bool) (g : List ℕ) : Type 0 where
+pub record ReportsNothing (ts : List Cell) (s : State) (b c : Bool) (g : List ℕ) : Type 0 where
   pub nothing : says ts s ≡ []
   pub ready : Ready (after ts s) b c g
 
 -- no change is heard in columns of the level that was heard, and of gaps
-pub quiet : (b c : Bool) (g : List ℕ) (ts : List Cell) (s : State) → Flat b ts → Ready s b c g → IsQuiet ts s b c g
+pub reports_nothing : (b c : Bool) (g : List ℕ) (ts : List Cell) (s : State) → Flat b ts → Ready s b c g → ReportsNothing ts s b c g
 unfolding says after
-quiet b c g [] s h was = record { nothing = refl; ready = was }
-quiet b c g (control u v ∷ ts) s h was =
+reports_nothing b c g [] s h was = record { nothing = refl; ready = was }
+reports_nothing b c g (control u v ∷ ts) s h was =
     let e = same_is b u (and-left _ _ h) in
     let first = subst (λ (x : Bool). (said (control x v) s ≡ []) × Ready (step (control x v) s) b c g) (sym e) (let i = still b v c g s was in (i.nothing, i.ready)) in
-    let k = quiet b c g ts (step (control u v) s) (and-right _ _ h) first.1 in
+    let k = reports_nothing b c g ts (step (control u v) s) (and-right _ _ h) first.1 in
     record { nothing = ap₂ (λ (xs ys : List Listed). xs ++ ys) first.0 k.nothing; ready = k.ready }
-quiet b c g (pixels bytes ∷ ts) s h was = absurd cc
-quiet b c g (parted ∷ ts) s h was = let k = quiet b c g ts (step parted s) h (gap_ready b c g s was) in record { nothing = k.nothing; ready = k.ready }
+reports_nothing b c g (pixels bytes ∷ ts) s h was = absurd cc
+reports_nothing b c g (parted ∷ ts) s h was = let k = reports_nothing b c g ts (step parted s) h (gap_ready b c g s was) in record { nothing = k.nothing; ready = k.ready }
 
 -- Columns that were sent at one level.
 
@@ -282,7 +282,7 @@ unfolding says after
 turn_from b c g [] rest s h k x r w le flat = absurd (omega (arith, le, w.count, w.few_wrong, w.short))
 turn_from b c g (v ∷ us) rest s h k x r w le flat = elim (one_column b v c g s h) [
   | turning frame ready ↦
-      let q = quiet b true [] (columns b us ++ rest) (step (control b v) s) (flat_append b (columns b us) rest (flat_columns b us) flat) ready in
+      let q = reports_nothing b true [] (columns b us ++ rest) (step (control b v) s) (flat_append b (columns b us) rest (flat_columns b us) flat) ready in
       record { frame = ap₂ (λ (xs ys : List Listed). xs ++ ys) frame q.nothing ∙ append-nil _; ready = q.ready }
   | waiting nothing heard later ↦
       let l = later k x r w in
@@ -307,7 +307,7 @@ unfolding says after
 columns_say b c g [] s h = sym (ap (λ (x : Option Bool). cond (is_heard b x) (ends true c g) []) h.0 ∙ ap (λ (t : Bool). cond t (ends true c g) []) (other_heard b))
 columns_say b c g (v ∷ us) s h = elim (one_column b v c g s h) [
   | turning frame ready ↦
-      let q = quiet b true [] (columns b us) (step (control b v) s) (flat_columns b us) ready in
+      let q = reports_nothing b true [] (columns b us) (step (control b v) s) (flat_columns b us) ready in
       ap₂ (λ (xs ys : List Listed). xs ++ ys) frame q.nothing ∙ append-nil _
       ∙ sym (ap (λ (x : Option Bool). cond (is_heard b x) (ends true c g) []) q.ready.heard ∙ ap (λ (t : Bool). cond t (ends true c g) []) (same_self b))
   | waiting nothing heard later ↦ ap (λ (xs : List Listed). xs ++ says (columns b us) (step (control b v) s)) nothing ∙ columns_say b c g us (step (control b v) s) heard
@@ -360,12 +360,12 @@ first_column b v s h = elim (taken_cases b v s.recent) [
         (subst (λ (x : State). Unheard x b) (sym now) (record { heard = h.heard; trail = clear_trail b (column b ∷ s.marks) (false ∷ s.recent) (column_clear b s.marks); counting = h.counting; group = h.group }))
         (λ k x r w. (suc k, x, suc r, refl, subst (λ (t : State). Waiting t b (suc k) x (suc r)) (sym now) (wait_right s (turned false (column b ∷ s.marks) s.heard (false ∷ s.recent) s) b k x r w is refl refl)))
 
-begin_from : (b : Bool) (us : List Bool) (s : State) → Unheard s b → (k x r : ℕ) → Waiting s b k x r → 9 ≤ k + length us → IsQuiet (columns b us) s b false []
+begin_from : (b : Bool) (us : List Bool) (s : State) → Unheard s b → (k x r : ℕ) → Waiting s b k x r → 9 ≤ k + length us → ReportsNothing (columns b us) s b false []
 unfolding says after
 begin_from b [] s h k x r w le = absurd (omega (arith, le, w.count, w.few_wrong, w.short))
 begin_from b (v ∷ us) s h k x r w le = elim (first_column b v s h) [
   | hearing nothing ready ↦
-      let q = quiet b false [] (columns b us) (step (control b v) s) (flat_columns b us) ready in
+      let q = reports_nothing b false [] (columns b us) (step (control b v) s) (flat_columns b us) ready in
       record { nothing = ap₂ (λ (xs ys : List Listed). xs ++ ys) nothing q.nothing; ready = q.ready }
   | going_on nothing unheard later ↦
       let l = later k x r w in
@@ -377,7 +377,7 @@ pub fresh_unheard : (b : Bool) → Unheard fresh b
 fresh_unheard b = record { heard = refl; trail = clear_trail b [] [] refl; counting = refl; group = refl }
 
 -- of nine columns from the start on their level is heard
-pub begin : (b : Bool) (us : List Bool) → 9 ≤ length us → IsQuiet (columns b us) fresh b false []
+pub begin : (b : Bool) (us : List Bool) → 9 ≤ length us → ReportsNothing (columns b us) fresh b false []
 begin b us le = begin_from b us fresh (fresh_unheard b) 0 0 0 (start_waiting fresh b) (omega (arith, le))
 
 begin_says : (b : Bool) (us : List Bool) (s : State) → Unheard s b → says (columns b us) s ≡ []
@@ -385,7 +385,7 @@ unfolding says after
 begin_says b [] s h = refl
 begin_says b (v ∷ us) s h = elim (first_column b v s h) [
   | hearing nothing ready ↦
-      let q = quiet b false [] (columns b us) (step (control b v) s) (flat_columns b us) ready in
+      let q = reports_nothing b false [] (columns b us) (step (control b v) s) (flat_columns b us) ready in
       ap₂ (λ (xs ys : List Listed). xs ++ ys) nothing q.nothing
   | going_on nothing unheard later ↦ ap₂ (λ (xs ys : List Listed). xs ++ ys) nothing (begin_says b us (step (control b v) s) unheard)
 ]
@@ -430,7 +430,7 @@ same_state s t m h c g = λ i. record { marks = m.marks i; heard = h i; counting
 pub begin_after : (b : Bool) (us : List Bool) → 9 ≤ length us → after (columns b us) fresh ≡ after (columns b us) (heard_once b)
 begin_after b us le =
     let p = begin b us le in
-    let q = quiet b false [] (columns b us) (heard_once b) (flat_columns b us) (once_ready b) in
+    let q = reports_nothing b false [] (columns b us) (heard_once b) (flat_columns b us) (once_ready b) in
     same_state (after (columns b us) fresh) (after (columns b us) (heard_once b)) (columns_same b us fresh (heard_once b) (record { marks = refl; recent = refl }))
     (p.ready.heard ∙ sym q.ready.heard) (p.ready.counting ∙ sym q.ready.counting) (p.ready.group ∙ sym q.ready.group)
 
@@ -451,7 +451,7 @@ settle_from b (v ∷ us) rest s k x r w le flat = elim (taken_cases b v s.recent
         let heard : st.heard ≡ Some b = turned_heard (differ (heard_at b s) s.heard) (column b ∷ s.marks) (newer (heard_at b s) s.heard) (false ∷ s.recent) s ∙ ap (λ (t : Bool). newer (hears t b) s.heard) is in
         let trail = subst (λ (ms : List Mark). Trail b ms st.recent) (sym (state_marks false b s)) (clear_trail b (column b ∷ s.marks) st.recent (column_clear b s.marks)) in
         let ready : Ready st b st.counting st.group = record { heard = heard; trail = trail; counting = refl; group = refl } in
-        let q = quiet b st.counting st.group (columns b us ++ rest) st (flat_append b (columns b us) rest (flat_columns b us) flat) ready in
+        let q = reports_nothing b st.counting st.group (columns b us ++ rest) st (flat_append b (columns b us) rest (flat_columns b us) flat) ready in
         subst (λ (t : State). IsSettled (after (columns b us ++ rest) t) b) (sym (step_right b v s e)) (record { counts = st.counting; group = st.group; ready = q.ready })
     | inr is ↦
         let st = column_state false b s in

@@ -17,7 +17,7 @@ use Rattle.source_end.proofs.RasterSizes.{size_until, row_fits}
 use Rattle.listing_laws.specs.FrameLaws.{row_at, row_end}
 use Rattle.listing_writer.specs.Listed.{listed_rows}
 use Rattle.listing_laws.proofs.Cells.{Cell, pixels as pixels_cell, parted, State, note_of, step, after, says, after_append, says_append}
-use Rattle.listing_laws.proofs.Ready.{Flat, flat_append, Ready, quiet, clear_trail, gap_clear}
+use Rattle.listing_laws.proofs.Ready.{Flat, flat_append, Ready, reports_nothing, clear_trail, gap_clear}
 use Rattle.listing_laws.proofs.Parts.{row_cells, part_cells, parts_cells, parts_append}
 use Rattle.listing_laws.proofs.Lines.{Even, even_until, even_columns, sync_vsync}
 
@@ -151,13 +151,13 @@ row_seen mode ok bytes long ps ss rs e p lt ends_sent ends_received s c y few wa
     ap length sent ∙ (let x = length-take (length bytes / 3) (drop (p + row_at mode) ss) in let z = length-drop (p + row_at mode) ss in omega (arith, x, z, k, l, lt, ends_sent)) in
     let g : length (drop 2 (take (2 + length bytes / 3) (drop at rs))) ≡ length (pixels_of bytes) =
     ap length received ∙ (let x = length-take (length bytes / 3) (drop (p + row_at mode) rs) in let z = length-drop (p + row_at mode) rs in omega (arith, x, z, k, l, lt, ends_received)) in
-    let q = quiet b c (replicate y w) (seen ss rs e p first) s (seen_even b ss rs e p first (even_until mode line qs (guard_at mode))) was in
+    let q = reports_nothing b c (replicate y w) (seen ss rs e p first) s (seen_even b ss rs e p first (even_until mode line qs (guard_at mode))) was in
     let here = after (seen ss rs e p first) s in
     let r = row_reported here b c y (e - at) (pixels_of bytes) (take (2 + length bytes / 3) (drop at ss)) (take (2 + length bytes / 3) (drop at rs))
     (subst (λ (i : ℕ). Ready here b c (replicate y i)) (sym k) q.ready) few m d g in
     let video = row_cells (e - at) (pixels_of bytes) (take (2 + length bytes / 3) (drop at ss)) (take (2 + length bytes / 3) (drop at rs)) in
     let t = parts_cells ((e - at) - (2 + length bytes / 3)) (tail_of mode bytes) (drop (2 + length bytes / 3) (drop at ss)) (drop (2 + length bytes / 3) (drop at rs)) in
-    let u = quiet b c (replicate (suc y) w) t (after video here)
+    let u = reports_nothing b c (replicate (suc y) w) t (after video here)
     (even_columns b (λ x. sync_at mode line x) (sync mode.across + back mode.across + active mode.across) (total mode.across) (sync_vsync mode line) ((e - at) - (2 + length bytes / 3)) (drop (2 + length bytes / 3) (drop at ss)) (drop (2 + length bytes / 3) (drop at rs)))
     (subst (λ (i : ℕ). Ready (after video here) b c (replicate (suc y) i)) k r.ready) in
     let all : seen ss rs e p (first ++ (pixels bytes ∷ tail_of mode bytes)) ≡ seen ss rs e p first ++ (video ++ t) =

@@ -94,8 +94,8 @@ three_gap b ms = grind (arith, no_gap)
 three_any : (b v : Bool) (ms ns : List Mark) → alike ms ns ≡ true → three_have b (column v ∷ ms) ≡ three_have b (column v ∷ ns)
 three_any b v ms ns h = grind (arith, three_alike, three_wrong)
 
-quiet_mark : (c : Column) → not (is_control_column c) ≡ true → mark c ≡ gap
-quiet_mark c h = grind arith
+no_control_mark : (c : Column) → not (is_control_column c) ≡ true → mark c ≡ gap
+no_control_mark c h = grind arith
 
 mark_like : (b : Bool) (m : Mark) (ms ns : List Mark) → alike ms ns ≡ true → three_have b (m ∷ ms) ≡ three_have b (m ∷ ns)
 mark_like b m ms ns h = grind (arith, three_any, three_gap)
@@ -108,10 +108,10 @@ met_alike b [] ms ns h = refl
 met_alike b (c ∷ cs) ms ns h = ap₂ (λ (x y : Bool). x || y) (mark_like b (mark c) ms ns h) (met_alike b cs (mark c ∷ ms) (mark c ∷ ns) (mark_alike (mark c) ms ns h))
 
 -- columns that are no control columns, and those after them
-past_quiet : (b : Bool) (own rest : List Column) (k : ℕ) (ms : List Mark) → NoneControl own → met_in b (gap ∷ ms) (take k (own ++ rest)) ≡ met_in b (gap ∷ []) (take (k - length own) rest)
-past_quiet b [] rest k ms h = grind (arith, met_alike)
-past_quiet b (c ∷ own) rest zero ms h = let e : 0 ≡ 0 - length (c ∷ own) = omega arith in ap (λ (n : ℕ). met_in b (gap ∷ []) (take n rest)) e
-past_quiet b (c ∷ own) rest (suc k) ms h = grind (arith, quiet_mark, and-left, three_gap, and-right, past_quiet b own rest k)
+past_no_control : (b : Bool) (own rest : List Column) (k : ℕ) (ms : List Mark) → NoneControl own → met_in b (gap ∷ ms) (take k (own ++ rest)) ≡ met_in b (gap ∷ []) (take (k - length own) rest)
+past_no_control b [] rest k ms h = grind (arith, met_alike)
+past_no_control b (c ∷ own) rest zero ms h = let e : 0 ≡ 0 - length (c ∷ own) = omega arith in ap (λ (n : ℕ). met_in b (gap ∷ []) (take n rest)) e
+past_no_control b (c ∷ own) rest (suc k) ms h = grind (arith, no_control_mark, and-left, three_gap, and-right, past_no_control b own rest k)
 
 -- Parts.
 
@@ -135,7 +135,7 @@ other_met : (b : Bool) (n : ℕ) (own reception ss rs sent received : List Colum
     → (met_in b (gap ∷ []) (take (suc k - n) received) ≡ met b (gap ∷ ns) (parts_cells (suc k - n) parts sent received))
     → met_in b ms (take (suc k) rs) ≡ met b (gap ∷ ns) (parts_cells (suc k - n) parts (drop n ss) (drop n rs))
 other_met b n own [] ss rs sent received parts k ms ns some o e d h = absurd (let l = o.received in omega (arith, l, some))
-other_met b n own (c ∷ reception) ss rs sent received parts k ms ns some o e d h = grind (arith, drop_front, quiet_mark, and-left, three_gap, past_quiet, and-right, met, parts_cells)
+other_met b n own (c ∷ reception) ss rs sent received parts k ms ns some o e d h = grind (arith, drop_front, no_control_mark, and-left, three_gap, past_no_control, and-right, met, parts_cells)
 
 parts_met : (b : Bool) (parts : List Part) (ss rs : List Column) → Arrived parts ss rs → (k : ℕ) (ms ns : List Mark) → alike ms ns ≡ true → met_in b ms (take k rs) ≡ met b ns (parts_cells k parts ss rs)
 unfolding Arrived parts_cells met

@@ -5,7 +5,7 @@ use Rattle.frame_build.specs.FrameEvent.{Mark, column, gap}
 use Rattle.frame_build.specs.Change.{three_have, newer, differ}
 use Rattle.listing_laws.proofs.Machine.{hears}
 use Rattle.listing_laws.proofs.Cells.{Cell, control, pixels, parted, State, few, same, same_is, same_self, taken_is, heard_at, column_state, step, after, fine}
-use Rattle.listing_laws.proofs.Ready.{Flat, Ready, Trail, clear_trail, gap_clear, grows, not_it, column_clear, quiet, columns, flat_columns, is_heard, other_heard, turned_heard, state_marks, state_recent}
+use Rattle.listing_laws.proofs.Ready.{Flat, Ready, Trail, clear_trail, gap_clear, grows, not_it, column_clear, reports_nothing, columns, flat_columns, is_heard, other_heard, turned_heard, state_marks, state_recent}
 
 -- whether three neighbouring columns of a level were received, after these marks
 unfoldable pub met : Bool → List Mark → List Cell → Bool
@@ -144,7 +144,7 @@ heard_met b (v ∷ vs) s h un =
         let heard : st.heard ≡ Some b = turned_heard (differ (heard_at b s) s.heard) (column b ∷ s.marks) (newer (heard_at b s) s.heard) (false ∷ s.recent) s ∙ ap (λ (t : Bool). newer (hears t b) s.heard) three in
         let trail = subst (λ (ms : List Mark). Trail b ms st.recent) (sym (state_marks false b s)) (clear_trail b (column b ∷ s.marks) st.recent (column_clear b s.marks)) in
         let ready : Ready st b st.counting st.group = record { heard = heard; trail = trail; counting = refl; group = refl } in
-        let q = quiet b st.counting st.group (columns b vs) st (flat_columns b vs) ready in
+        let q = reports_nothing b st.counting st.group (columns b vs) st (flat_columns b vs) ready in
         ap (λ (t : State). is_heard b (after (columns b vs) t).heard) is ∙ ap (is_heard b) q.ready.heard ∙ same_self b
         ∙ sym (ap (λ (x : Bool). three_have b (column x ∷ s.marks) || met b (column x ∷ s.marks) (columns b vs)) e ∙ ap (λ (t : Bool). t || met b (column b ∷ s.marks) (columns b vs)) three)
     by_three ih is f e false three = grind (arith, column_state, is_heard, turned_heard, heard_at, hears, State, after, columns, fine, state_recent)

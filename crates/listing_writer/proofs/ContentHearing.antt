@@ -64,19 +64,19 @@ abbrev pub IsGuard : EventRef → Type 0
 IsGuard reported = ((sync : List ℕ) × (reported ≡ Open sync)) ⊎ ((sync : List ℕ) × (reported ≡ Close sync))
 
 -- they have no line, and are no InfoFrame
-pub record IsQuiet (event : Event) : Type 0 where
+pub record IsUnlisted (event : Event) : Type 0 where
   pub read : avi_at event ≡ None
   pub frame_event : other ≡ frame_event_of event
   pub listed : (before : List Event) → [] ≡ lines_at before event
 
-open_quiet : (a b : ℕ) → IsQuiet (open_island a b)
+open_unlisted : (a b : ℕ) → IsUnlisted (open_island a b)
 unfolding avi_at frame_event_of lines_at
-open_quiet a b = record { read = refl; frame_event = refl; listed = λ before. refl }
+open_unlisted a b = record { read = refl; frame_event = refl; listed = λ before. refl }
 
-close_quiet : (a b : ℕ) → IsQuiet (close_island a b)
+close_unlisted : (a b : ℕ) → IsUnlisted (close_island a b)
 unfolding avi_at frame_event_of lines_at
-close_quiet a b = record { read = refl; frame_event = refl; listed = λ before. refl }
+close_unlisted a b = record { read = refl; frame_event = refl; listed = λ before. refl }
 
-pub guard_quiet : (reported : EventRef) → IsGuard reported → IsQuiet (lent_event reported)
-guard_quiet reported (inl (sync, is)) = subst (λ (t : EventRef). IsQuiet (lent_event t)) (sym is) (open_quiet (slice_index sync 0) (slice_index sync 1))
-guard_quiet reported (inr (sync, is)) = subst (λ (t : EventRef). IsQuiet (lent_event t)) (sym is) (close_quiet (slice_index sync 0) (slice_index sync 1))
+pub guard_unlisted : (reported : EventRef) → IsGuard reported → IsUnlisted (lent_event reported)
+guard_unlisted reported (inl (sync, is)) = subst (λ (t : EventRef). IsUnlisted (lent_event t)) (sym is) (open_unlisted (slice_index sync 0) (slice_index sync 1))
+guard_unlisted reported (inr (sync, is)) = subst (λ (t : EventRef). IsUnlisted (lent_event t)) (sym is) (close_unlisted (slice_index sync 0) (slice_index sync 1))

@@ -53,7 +53,7 @@ impl Hearing {
     pub fn open() -> Hearing
         ensures open { result.finished ≡ false }
         ensures heard { HearingRepresents result [] }
-        ensures quiet { last_reported result ≡ [] }
+        ensures none_reported { last_reported result ≡ [] }
     {
         Hearing {
             columns: 0,
@@ -93,7 +93,7 @@ impl Hearing {
         ensures open { self.new.finished ≡ false }
         ensures heard { (cs : List Column) → HearingRepresents self.old cs → HearingRepresents self.new (cs ++ take result (columns_in columns.entry)) }
         ensures reported { (cs : List Column) → HearingRepresents self.old cs → heard_so_far (cs ++ take result (columns_in columns.entry)) ≡ heard_so_far cs }
-        ensures quiet { last_reported self.new ≡ [] }
+        ensures none_reported { last_reported self.new ≡ [] }
     {
         self.notes.clear();
         self.hear_front(columns)
@@ -103,7 +103,7 @@ impl Hearing {
     pub fn restart(&mut self)
         ensures open { self.new.finished ≡ false }
         ensures heard { HearingRepresents self.new [] }
-        ensures quiet { last_reported self.new ≡ [] }
+        ensures none_reported { last_reported self.new ≡ [] }
     {
         self.columns = 0;
         self.phase = Phase::Control;

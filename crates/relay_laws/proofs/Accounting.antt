@@ -19,7 +19,7 @@ use Rattle.relay.specs.Relayed.{Said, columns, pixels, opens, carries, closes, e
 use Rattle.relay.specs.Laws.{begun_after}
 use Rattle.relay_laws.specs.Received.{runs_kept, packets_received, digits_of, island_received, period_received, received_from, received_at, reception, RelayedAccount}
 use Rattle.relay.proofs.Gaining.{faults_both, kept_both}
-use Rattle.relay_laws.proofs.Quiet.{Quiet, quiet_both, quiet_before, quiet_preamble, quiet_guards, quiet_packet, quiet_codes, quiet_words}
+use Rattle.relay_laws.proofs.FaultsAlone.{AreFaults, are_faults_both, are_faults_before, are_faults_preamble, are_faults_guards, are_faults_packet, are_faults_codes, are_faults_words}
 use Rattle.relay_laws.proofs.Fitting.{line_fits, island_fits, few_packets, as_many_packets}
 
 -- what is kept of events after an island that goes on or none, and the island that goes on after them
@@ -60,7 +60,7 @@ runs_said : (j : ℕ) (rs : List Run) → without_faults (runs_row j rs) ≡ sai
 unfolding runs_row without_faults
 runs_said j [] = refl
 runs_said j (same_columns v cs ∷ rs) =
-    quiet_before (map event_of (words j cs)) (run v (length cs) ∷ runs_row (j + length cs) rs) (quiet_words j cs)
+    are_faults_before (map event_of (words j cs)) (run v (length cs) ∷ runs_row (j + length cs) rs) (are_faults_words j cs)
     ∙ ap (λ xs. columns (record { value = v; count = length cs }) ∷ xs) (runs_said (j + length cs) rs)
 
 runs_keep : (b : Option Begun) (rs : List Run) → AreRuns rs → kept_from b (said_runs rs) ≡ runs_kept rs
@@ -83,9 +83,9 @@ control_ends j cs = ap (begun_after None) (runs_said j (runs cs)) ∙ runs_end (
 
 -- Lines.
 
-quiet_video : (b : ℕ) (before rs : List Column) → Quiet (open_video_row b before rs)
+are_faults_video : (b : ℕ) (before rs : List Column) → AreFaults (open_video_row b before rs)
 unfolding open_video_row without_faults
-quiet_video b before rs = grind (arith, quiet_both, quiet_preamble, quiet_guards)
+are_faults_video b before rs = grind (arith, are_faults_both, are_faults_preamble, are_faults_guards)
 
 -- what is said of a line that was received whole or not
 abbrev line_said : Bool → List ℕ → List Said
@@ -94,7 +94,7 @@ line_said false bytes = ends ∷ []
 
 reported_line : (q : Bool) (b s : ℕ) (bytes : List ℕ) (rs : List Column) → without_faults (cond q (line bytes ∷ codes_of s rs) (cut b ∷ [])) ≡ line_said q bytes
 unfolding without_faults
-reported_line q b s bytes rs = grind (arith, quiet_codes)
+reported_line q b s bytes rs = grind (arith, are_faults_codes)
 
 line_keeps : (q : Bool) (bytes : List ℕ) → is_video_period bytes ≡ true → kept_from None (line_said q bytes) ≡ cond q (some_line bytes ∷ []) []
 unfolding kept_from
@@ -116,7 +116,7 @@ pixel_count (r ∷ (g ∷ (b ∷ rest))) = let n = pixel_count rest in omega ari
 video_said : (b i : ℕ) (before : List Column) (bytes : List ℕ) (ss rs : List Column)
     → without_faults (video_reported b (suc (suc i)) before (pixels_of bytes) ss rs) ≡ line_said (nat_lt (2 + length bytes / 3) (suc (suc i))) (pixel_bytes (pixels_of bytes) (drop 2 ss) (drop 2 rs))
 unfolding video_reported video_row
-video_said b i before bytes ss rs = grind (arith, quiet_before, quiet_video, reported_line, same_lt, pixel_count)
+video_said b i before bytes ss rs = grind (arith, are_faults_before, are_faults_video, reported_line, same_lt, pixel_count)
 
 -- What is kept of a period's row, and that no island goes on after it or nothing was received of the next period.
 
@@ -140,11 +140,11 @@ video_is_row f j (suc (suc i)) before bytes ss rs h a b = grind (arith, length-d
 
 open_said : (b : ℕ) (before rs : List Column) → 2 ≤ length rs → without_faults (open_island_row b before rs) ≡ opens (digits_of rs) ∷ []
 unfolding open_island_row without_faults digits_of
-open_said b before rs h = grind (arith, quiet_before, quiet_preamble, quiet_guards)
+open_said b before rs h = grind (arith, are_faults_before, are_faults_preamble, are_faults_guards)
 
 close_said : (s : ℕ) (rs : List Column) → 2 ≤ length rs → without_faults (close_island_row s rs) ≡ closes (digits_of rs) ∷ []
 unfolding close_island_row without_faults digits_of
-close_said s rs h = grind (arith, quiet_guards)
+close_said s rs h = grind (arith, are_faults_guards)
 
 abbrev judged : Packet → List Column → List Column → Judged
 judged p ss rs = record { packet = packet_row p (take 32 ss) (take 32 rs); verdicts = verdicts_of (take 32 rs) }
@@ -154,7 +154,7 @@ packet_said : (s : ℕ) (p : Packet) (ss rs : List Column) (ts : List Event)
 unfolding packet_reported without_faults
 packet_said s p ss rs ts =
     let v = verdicts_of (take 32 rs) in
-    ap (λ xs. carries (packet_row p (take 32 ss) (take 32 rs)) v ∷ xs) (quiet_before (packet_faults s v) ts (quiet_packet s v))
+    ap (λ xs. carries (packet_row p (take 32 ss) (take 32 rs)) v ∷ xs) (are_faults_before (packet_faults s v) ts (are_faults_packet s v))
 
 abbrev with_all : Begun → List Judged → Begun
 with_all b js = record { opening = b.opening; packets = b.packets ++ js }

@@ -1,5 +1,5 @@
 pub mod Below
-pub mod Quiet
+pub mod FaultsAlone
 pub mod Fitting
 pub mod Accounting
 pub mod Own

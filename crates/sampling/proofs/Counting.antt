@@ -19,7 +19,7 @@ use Rattle.sampling.specs.Tallies.{Shows, Counted}
 use Rattle.sampling.specs.declared.pictures.Pictures.{Pictures}
 use Rattle.sampling.specs.declared.counter.Counter.{Counter}
 use Rattle.sampling.proofs.Growing.{with_more, packets_more, listed_more}
-use Rattle.sampling.proofs.LineKinds.{Kinds, kinds_at, none, IsQuiet, open_quiet, close_quiet, cut_quiet}
+use Rattle.sampling.proofs.LineKinds.{Kinds, kinds_at, none, IsUnlisted, open_unlisted, close_unlisted, cut_unlisted}
 
 -- a count after so many more
 abbrev pub after : ℕ → ℕ → ℕ
@@ -77,9 +77,9 @@ counted_none k heard reported event was kinds empty stands =
       code = still _ _ was.code;
     })
 
-pub counted_quiet : (k : Counter) (heard : State) (reported : List Event) (event : Event) → Counted k reported → IsQuiet event → FramesRepresent heard (frame_events reported ++ other ∷ []) → Counted (hearing k heard) (reported ++ event ∷ [])
-counted_quiet k heard reported event was quiet stands =
-    counted_none k heard reported event was (quiet.kinds reported) (quiet.unlisted (frame_events reported)) (subst (λ (e : FrameEvent). FramesRepresent heard (frame_events reported ++ e ∷ [])) quiet.frame_event stands)
+pub counted_unlisted : (k : Counter) (heard : State) (reported : List Event) (event : Event) → Counted k reported → IsUnlisted event → FramesRepresent heard (frame_events reported ++ other ∷ []) → Counted (hearing k heard) (reported ++ event ∷ [])
+counted_unlisted k heard reported event was is_unlisted stands =
+    counted_none k heard reported event was (is_unlisted.kinds reported) (is_unlisted.unlisted (frame_events reported)) (subst (λ (e : FrameEvent). FramesRepresent heard (frame_events reported ++ e ∷ [])) is_unlisted.frame_event stands)
 
 -- the lister's count of fault lines
 pub faults_kept : (old new a b c : ℕ) → old ≡ kept a → new ≡ counted old b → c ≡ a + b → new ≡ kept c
@@ -101,7 +101,7 @@ row_listed p ls pixels note counts shown = subst (λ (t : Bool). Shows p (ls ++ 
 abbrev pub IsParting : EventRef → Type 0
 IsParting reported = ((sync : List ℕ) × (reported ≡ Open sync)) ⊎ (((sync : List ℕ) × (reported ≡ Close sync)) ⊎ ((column : ℕ) × (reported ≡ Cut column)))
 
-pub parting_quiet : (reported : EventRef) → IsParting reported → IsQuiet (lent_event reported)
-parting_quiet reported (inl (sync, is)) = subst (λ (t : EventRef). IsQuiet (lent_event t)) (sym is) (open_quiet (slice_index sync 0) (slice_index sync 1))
-parting_quiet reported (inr (inl (sync, is))) = subst (λ (t : EventRef). IsQuiet (lent_event t)) (sym is) (close_quiet (slice_index sync 0) (slice_index sync 1))
-parting_quiet reported (inr (inr (column, is))) = subst (λ (t : EventRef). IsQuiet (lent_event t)) (sym is) (cut_quiet column)
+pub parting_unlisted : (reported : EventRef) → IsParting reported → IsUnlisted (lent_event reported)
+parting_unlisted reported (inl (sync, is)) = subst (λ (t : EventRef). IsUnlisted (lent_event t)) (sym is) (open_unlisted (slice_index sync 0) (slice_index sync 1))
+parting_unlisted reported (inr (inl (sync, is))) = subst (λ (t : EventRef). IsUnlisted (lent_event t)) (sym is) (close_unlisted (slice_index sync 0) (slice_index sync 1))
+parting_unlisted reported (inr (inr (column, is))) = subst (λ (t : EventRef). IsUnlisted (lent_event t)) (sym is) (cut_unlisted column)

@@ -224,22 +224,22 @@ unfolding frame_event_of
 fault_unlisted es fault = grind arith
 
 -- an event of which nothing is counted, but that parts lines of pixels
-pub record IsQuiet (event : Event) : Type 0 where
+pub record IsUnlisted (event : Event) : Type 0 where
   pub frame_event : other ≡ frame_event_of event
   pub kinds : (reported : List Event) → kinds_at reported event ≡ none
   pub unlisted : (es : List FrameEvent) → listed_at es event ≡ []
 
-pub open_quiet : (a b : ℕ) → IsQuiet (open_island a b)
+pub open_unlisted : (a b : ℕ) → IsUnlisted (open_island a b)
 unfolding frame_event_of lines_at lines_with
-open_quiet a b = record { frame_event = refl; kinds = λ reported. refl; unlisted = λ es. refl }
+open_unlisted a b = record { frame_event = refl; kinds = λ reported. refl; unlisted = λ es. refl }
 
-pub close_quiet : (a b : ℕ) → IsQuiet (close_island a b)
+pub close_unlisted : (a b : ℕ) → IsUnlisted (close_island a b)
 unfolding frame_event_of lines_at lines_with
-close_quiet a b = record { frame_event = refl; kinds = λ reported. refl; unlisted = λ es. refl }
+close_unlisted a b = record { frame_event = refl; kinds = λ reported. refl; unlisted = λ es. refl }
 
-pub cut_quiet : (j : ℕ) → IsQuiet (cut j)
+pub cut_unlisted : (j : ℕ) → IsUnlisted (cut j)
 unfolding frame_event_of lines_at line_words lines_with
-cut_quiet j = record { frame_event = refl; kinds = λ reported. refl; unlisted = λ es. refl }
+cut_unlisted j = record { frame_event = refl; kinds = λ reported. refl; unlisted = λ es. refl }
 
 -- ---- samples of a packet, as they are read
 

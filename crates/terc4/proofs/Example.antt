@@ -24,8 +24,8 @@ turns_100 : turns (word_bits 0x100) ≡ 2
 unfolding turns unlike word_bits bits_of
 turns_100 = refl
 
-quiet : turns (word_bits 0x100) ≤ 5
-quiet = let t = turns_100 in omega arith
+minimized : turns (word_bits 0x100) ≤ 5
+minimized = let t = turns_100 in omega arith
 
 overlap : drop (10 - 2) (word_bits 0x354) ≡ take 2 (word_bits 0x0ab)
 unfolding word_bits bits_of
@@ -44,7 +44,7 @@ example = (
     one = control;
     table = terc;
     guards = guard;
-    few = quiet;
+    few = minimized;
     first = control;
     second = other_control;
     overlap = overlap;

@@ -62,11 +62,11 @@ abbrev pub IslandGuardWords : Type 0
 IslandGuardWords = (c : Column) → (island_words c == 3) ≡ is_island_guard c
 
 -- what meets the premises of each: words of each kind, and control words of which the one ends as the other begins
-pub record IsExample (control terc guard quiet v w k : ℕ) : Type 0 where
+pub record IsExample (control terc guard minimized v w k : ℕ) : Type 0 where
   pub one : is_control control ≡ true
   pub table : is_terc terc ≡ true
   pub guards : is_guard guard ≡ true
-  pub few : turns (word_bits quiet) ≤ 5
+  pub few : turns (word_bits minimized) ≤ 5
   pub first : is_control v ≡ true
   pub second : is_control w ≡ true
   pub overlap : drop (10 - k) (word_bits v) ≡ take k (word_bits w)
@@ -75,4 +75,4 @@ pub record IsExample (control terc guard quiet v w k : ℕ) : Type 0 where
 
 -- there are such words
 abbrev pub HasExample : Type 0
-HasExample = (control terc guard quiet v w k : ℕ) × IsExample control terc guard quiet v w k
+HasExample = (control terc guard minimized v w k : ℕ) × IsExample control terc guard minimized v w k

@@ -1,4 +1,4 @@
--- A lane that slips within the pixels of a line is calm, its characters are quiet where it slips, and a control period
+-- A lane that slips within the pixels of a line is calm, its characters are transition-minimized where it slips, and a control period
 -- begins after the line.
 use Rattle.std.proofs.Common.{◌≡◌, ℕ, suc, zero, ◌+◌, ◌-◌, ◌<◌, Bool, List, length, ap, ◌∙◌, sym, subst, arith}
 use Rattle.std.specs.Prelude.{slice_index}

@@ -4,7 +4,7 @@ ghost use Rattle.outside_io.specs.Causes.{HasCause};
 ghost use Rattle.terc4.specs.Columns.{one_if};
 ghost use Rattle.period_grammar.specs.Events.{Event};
 ghost use Rattle.link_sink.specs.Ears.{StopsIn};
-ghost use Rattle.link_sink.specs.declared.hear.Outcome.{Outcome as Hearing};
+ghost use Rattle.link_sink.specs.declared.hear.Outcome.{Outcome as OutcomeValue};
 ghost use Rattle.link_sink.specs.Sinks.{Fed, grown, IsGain, IsLast};
 ghost use Rattle.link_sink.specs.Pieces.{no_bits};
 ghost use Rattle.link_sink.specs.Received.{CanFeed};
@@ -244,7 +244,7 @@ impl Tracker {
         ensures reported { (fed : Fed) → SinkRepresents self.old.link fed
             → IfOk result (λ outcome. (events : List Event) × IsLast fed outcome events × E.took ear.old ear.new events) }
         ensures stopped { (fed : Fed) → SinkRepresents self.old.link fed
-            → OnErr result ((outcome : Hearing) × (events : List Event) × IsLast fed outcome events × StopsIn E.took E.broke ear.old ear.new events) }
+            → OnErr result ((outcome : OutcomeValue) × (events : List Event) × IsLast fed outcome events × StopsIn E.took E.broke ear.old ear.new events) }
         ensures begun { IfOk result (λ outcome. self.new.begun ≡ (self.old.begun || outcome.aligned)) }
         ensures epochs { OnOk result (self.new.epochs ≡ self.old.epochs + 1) }
         ensures aligned { IfOk result (λ outcome. self.new.aligned ≡ self.old.aligned + one_if outcome.aligned) }

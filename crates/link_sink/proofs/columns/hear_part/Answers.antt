@@ -6,11 +6,11 @@ use Rattle.period_grammar.proofs.Pixels.{take_next}
 use Rattle.link_sink.specs.Telling.{StoppedIn}
 use Rattle.link_sink.proofs.Stops.{on_err}
 use Rattle.link_sink.proofs.Growing.{call_sized, took_next, stopped_next}
-use Rattle.link_sink.proofs.Parts.{length-take-most, took_quiet}
+use Rattle.link_sink.proofs.Parts.{length-take-most, took_nothing}
 use Rattle.link_sink.proofs.columns.hear_part.Goals as goal
 
 pub returns-then-went-len-clause-reported : goal.returns-then-went-len-clause-reported
-returns-then-went-len-clause-reported g c = λ cs was. took_quiet g.H.Hears.grammar g.E.Ear.took _ cs _ (g.met.E.Ear.took_none _) (c.hear_while-went.ensures.reported cs was)
+returns-then-went-len-clause-reported g c = λ cs was. took_nothing g.H.Hears.grammar g.E.Ear.took _ cs _ (g.met.E.Ear.took_none _) (c.hear_while-went.ensures.reported cs was)
 
 pub tell-requires : goal.tell-requires
 tell-requires g c = grind (arith, call_sized)
@@ -25,7 +25,7 @@ returns-in_err-tell-clause-stopped g c =
     subst (λ (ds : List Column). StoppedIn g.H.Hears.grammar g.E.Ear.took g.E.Ear.broke c.args.ear.now c.tell.new.ear cs ds) (take-append-drop (went + 1) all)
     (stopped_next g.H.Hears.grammar g.met.H.Hears.is_grammar g.E.Ear.took g.E.Ear.broke g.met.E.Ear.took_both _ _ _ cs part (take (went + 1) all) (drop (went + 1) all) _ _ more
     (c.hear.ensures.reported (cs ++ part) (c.hear_while-went.ensures.heard cs was))
-    (took_quiet g.H.Hears.grammar g.E.Ear.took _ cs part (g.met.E.Ear.took_none _) (c.hear_while-went.ensures.reported cs was)) c.in_err-tell.ensures.err))
+    (took_nothing g.H.Hears.grammar g.E.Ear.took _ cs part (g.met.E.Ear.took_none _) (c.hear_while-went.ensures.reported cs was)) c.in_err-tell.ensures.err))
 
 pub returns-clause-heard : goal.returns-clause-heard
 returns-clause-heard g c = grind (arith, take_next, append_assoc)
@@ -38,7 +38,7 @@ returns-clause-reported g c = λ cs was.
     let more = take_next all went _ c.get.ensures in
     took_next g.H.Hears.grammar g.E.Ear.took g.met.E.Ear.took_both _ _ _ cs part (take (went + 1) all) _ _ more
     (c.hear.ensures.reported (cs ++ part) (c.hear_while-went.ensures.heard cs was))
-    (took_quiet g.H.Hears.grammar g.E.Ear.took _ cs part (g.met.E.Ear.took_none _) (c.hear_while-went.ensures.reported cs was)) c.in_ok-tell.ensures.ok
+    (took_nothing g.H.Hears.grammar g.E.Ear.took _ cs part (g.met.E.Ear.took_none _) (c.hear_while-went.ensures.reported cs was)) c.in_ok-tell.ensures.ok
 
 pub hear-requires-clause-few : goal.hear-requires-clause-few
 hear-requires-clause-few g c = grind (arith, length-append, length-take-most)

@@ -2,7 +2,7 @@ use Rattle.std.proofs.Common.{◌<◌, List, ℕ, Ok, Err, subst, arith}
 use Rattle.std.specs.Io.KnownBytes.{Appends}
 use Rattle.audio_packets.specs.Samples.{IsSample, packet_with, sample_at}
 use Rattle.biphase_listing.specs.StreamText.{reported_samples}
-use Rattle.biphase_listing.proofs.Streaming.{breaks_one, lists_one, lists_quiet, lost_faults, lost_samples, none_counted, pair_again, pair_few, pair_fits, sound_faults, sound_samples}
+use Rattle.biphase_listing.proofs.Streaming.{breaks_one, lists_one, lists_no_sound, lost_faults, lost_samples, none_counted, pair_again, pair_few, pair_fits, sound_faults, sound_samples}
 use Rattle.biphase_listing.proofs.lister.BiphaseLister.sound.Goals as goal
 
 pub frames_of-frames-requires-clause-few : goal.frames_of-frames-requires-clause-few
@@ -36,6 +36,6 @@ returns-in-Err-clause-ok g c = λ reported recalls.
     let k = c.args.self.now.pair in
     let is = pair_again p v c.get.result k (Err c.in-Err.field-0) c.in-Err.ensures c.get.ensures.value in
     let one = lost_faults p v c.args.column k c.in-Err.field-0 c.requires is in
-    lists_quiet k reported _ _ _ _ _
+    lists_no_sound k reported _ _ _ _ _
     (lost_samples p v c.args.column k c.in-Err.field-0 c.requires is)
     (omega (arith, one, c.saturating_add-self.ensures)) recalls

@@ -7,17 +7,17 @@ use Rattle.listing_writer.specs.Texts.{line_words}
 use Rattle.listing_writer.specs.ContentAdded.{Hears}
 use Rattle.listing_writer.specs.ContentText.{frame_event_of, frame_events, avi_at, lines_at}
 use Rattle.listing_writer.proofs.ContentAdding.{adds_as, adds_none}
-use Rattle.listing_writer.proofs.ContentHearing.{recalls_plain, guard_quiet}
+use Rattle.listing_writer.proofs.ContentHearing.{recalls_plain, guard_unlisted}
 use Rattle.listing_writer.proofs.content_state.ContentState.hear.Goals as goal
 
 pub returns-in-Open : goal.returns-in-Open
 returns-in-Open c before recalls =
-    let quiet = guard_quiet c.args.event c.in-Open.is in
+    let is_unlisted = guard_unlisted c.args.event c.in-Open.is in
     record {
       recalls =
-          recalls_plain c.args.self.now _ before (lent_event c.args.event) quiet.read refl
-          (subst (λ (frame_event : FrameEvent). FramesRepresent c.other.new.self (frame_events before ++ frame_event ∷ [])) quiet.frame_event (c.other.ensures (frame_events before) recalls.frames)) recalls;
-      added = adds_as (λ (lines : List (List ℕ)). lines) _ _ _ _ (quiet.listed before) (adds_none c.args.lines.now);
+          recalls_plain c.args.self.now _ before (lent_event c.args.event) is_unlisted.read refl
+          (subst (λ (frame_event : FrameEvent). FramesRepresent c.other.new.self (frame_events before ++ frame_event ∷ [])) is_unlisted.frame_event (c.other.ensures (frame_events before) recalls.frames)) recalls;
+      added = adds_as (λ (lines : List (List ℕ)). lines) _ _ _ _ (is_unlisted.listed before) (adds_none c.args.lines.now);
     }
 
 pub returns-in-Cut : goal.returns-in-Cut

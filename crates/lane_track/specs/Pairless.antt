@@ -4,7 +4,7 @@ use Rattle.tmds_word.specs.Bits.{bit, bytes_bits, number}
 use Rattle.lane_align.specs.Search.{control_at}
 
 -- in the eight bytes from a step's last place on no two control words follow one another from a place of the mask on
-abbrev pub IsQuiet : List ℕ → ℕ → ℕ → Type 0
-IsQuiet bytes mask at =
+abbrev pub HasNoPair : List ℕ → ℕ → ℕ → Type 0
+HasNoPair bytes mask at =
     (k : ℕ) → k < 10 → bit mask (k + 1) ≡ true → control_at (number (bytes_bits bytes) / 2 ^ (8 * (10 * at)) % 2 ^ 64) k ≡ true
     → control_at (number (bytes_bits bytes) / 2 ^ (8 * (10 * at)) % 2 ^ 64) (k + 10) ≡ true → ⊥
