@@ -1,6 +1,7 @@
 """build.py: in which order crates are proved, what is proved again, and what becomes of a check that fails or is killed; over a
 repository of five crates and a kit that is shell scripts."""
 
+import os
 import shutil
 import signal
 import subprocess
@@ -103,9 +104,11 @@ def test_ended_early(building, tmp_path, end):
     hanging = tmp_path / "hanging"
     while not (hanging.exists() and hanging.read_text()):
         time.sleep(0.01)
+    check = int(hanging.read_text())
+    assert os.getsid(check) == os.getsid(run.pid) and os.getpgid(check) == check  # niceness counts within a session
     run.send_signal(end)
     assert run.communicate(timeout=HANGS)[1] == b"" and run.returncode == 1
-    status = Path(f"/proc/{hanging.read_text().strip()}/stat")
+    status = Path(f"/proc/{check}/stat")
     while status.exists() and status.read_text().rpartition(")")[2].split()[0] != "Z":
         time.sleep(0.01)
     (tmp_path / "hangs").unlink()

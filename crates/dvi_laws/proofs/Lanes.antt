@@ -18,7 +18,7 @@ use Rattle.island_pack.specs.Spelling.{control_column, SpellsPixels}
 use Rattle.island_pack.specs.Kinds.{Kind, control_column as control_kind, first_guard, second_guard, pixel_column, IsPayload, kind_at, EndsAt}
 use Rattle.island_pack.specs.Sparse.{AreFew, no_column, column_at}
 use Rattle.lane_deskew.specs.Triples.{IsFirst}
-use Rattle.link_laws.specs.LaneEnds.{IsGuard, IsReceived, IsSent, damaged}
+use Rattle.link_laws.specs.LaneEnds.{IsGuard, IsReceived, IsLaneSent, damaged}
 use Rattle.link_laws.proofs.LaneEnds.{same_word, length_damaged, kind_cases, edge_ends, first_ends}
 use Rattle.link_laws.proofs.Conformed.{is_video_of}
 use Rattle.link_laws.proofs.VideoReported.{pixel_count}
@@ -133,7 +133,7 @@ guard_cases k h = grind arith
 no_payload : (k : Kind) → k ≡ control_kind → IsPayload k → ⊥
 no_payload k e p = subst IsPayload e p
 
-lane_received : (f : Column → ℕ) (ks : List Kind) (ss rs : List Column) → IsSent ks (map f ss) → length rs ≡ length ss
+lane_received : (f : Column → ℕ) (ks : List Kind) (ss rs : List Column) → IsLaneSent ks (map f ss) → length rs ≡ length ss
     → ((i : ℕ) → i < length rs → f (column_at rs i) < 1024)
     → ((i : ℕ) → kind_at ks i ≡ control_kind → column_at rs i ≡ column_at ss i)
     → ((i : ℕ) → i < length rs → kind_at ks i ≡ first_guard → is_control (f (column_at rs i)) ≡ false)

@@ -5,7 +5,7 @@ use Rattle.std.specs.Prelude.{slice_index}
 use Rattle.std.proofs.lemmas.List.{length-map}
 use Rattle.tmds_word.specs.Column.{Column}
 use Rattle.tmds_word.specs.Taps.{IsPart}
-use Rattle.link_laws.specs.LaneEnds.{IsReceived, IsSent, damaged}
+use Rattle.link_laws.specs.LaneEnds.{IsReceived, IsLaneSent, damaged}
 use Rattle.island_pack.specs.Periods.{Period}
 use Rattle.island_pack.specs.Kinds.{Kind, control_column, pixel_column, kinds_of, kind_at}
 use Rattle.island_pack.specs.Sparse.{IsSparseInPayload}
@@ -28,7 +28,7 @@ received_at ps sent received reception alone zero = (lanes_received ps sent rece
 received_at ps sent received reception alone (suc zero) = (lanes_received ps sent received reception alone).green
 received_at ps sent received reception alone (suc (suc l)) = (lanes_received ps sent received reception alone).red
 
-sent_at : (ps : List Period) (sent received : List Column) → ReceivedOf ps sent received → (l : ℕ) → IsSent (kinds_of ps) (words_at sent l)
+sent_at : (ps : List Period) (sent received : List Column) → ReceivedOf ps sent received → (l : ℕ) → IsLaneSent (kinds_of ps) (words_at sent l)
 sent_at ps sent received reception zero =
     let fit = fitting ps sent reception.conforming reception.spelled in
     let at = fitting_at (kinds_of ps) sent fit in
