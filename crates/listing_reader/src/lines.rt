@@ -1,5 +1,5 @@
 //! The lines of a source, one after the other, through a buffer that is taken once.
-ghost use Rattle.std.specs.Prelude.{◌≡◌, ℕ, ◌+◌, ◌-◌, ◌<◌, ◌≤◌, List, [], ◌++◌, length, take, drop, slice_range, IfOk, OnErr, MatchOption, IsTrue, true};
+ghost use Rattle.std.specs.Prelude.{◌≡◌, ℕ, ◌+◌, ◌-◌, ◌<◌, ◌≤◌, List, [], ◌++◌, length, take, drop, slice_range, IfOk, OnErr, MatchOption, IsTrue, true, false};
 ghost use Rattle.std.specs.Io.KnownBytes.{Consumes, IsAtEnd, Keeps};
 ghost use Rattle.outside_io.specs.Causes.{HasCause};
 ghost use Rattle.listing_reader.specs.Held.{Held, ahead, is_feedless, IsFeedAt, IsNext, IsUngiven};
@@ -119,6 +119,7 @@ impl LineReader {
     /// Whether bytes were read that are not yet given.
     pub(crate) fn is_ahead(&self) -> bool
         ensures yes { result ≡ true → 1 ≤ length self.now.pending }
+        ensures no { result ≡ false → self.now.pending ≡ [] }
     {
         !self.pending().is_empty()
     }

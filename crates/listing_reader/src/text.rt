@@ -154,6 +154,7 @@ fn finish<S: Source, W: Drop>(
 ) -> Result<W, ListError>
     ensures answers { (left : List ℕ) → S.left source.old ≡ Some left
         → Answers (ended_by number whole (pieces_of (lines.old.pending ++ left))) result }
+    ensures decided { 1 ≤ length lines.old.pending → result ≡ Err (ListError.Bad (record { line = number; cause = ListCause.After })) }
     ensures ended { OnOk result (IsAtEnd (S.left source.new)) }
     ensures taken { (taken : List ℕ) × Consumes (S.left source.old) (S.left source.new) taken }
     ensures caused { IfErr result (λ e. IsCaused (S.faults source.old) (S.faults source.new) e) }
