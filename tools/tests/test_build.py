@@ -50,9 +50,19 @@ def test_each_after_those_below_it(building, tmp_path):
     assert (status, said) == (0, "") and (tmp_path / "top/crates/hdmi_cli/out/hdmi_cli").read_text() == "made\n"
     assert log[:2] == ["begin low", "end low"] and log[-2:] == ["begin hdmi_cli", "end hdmi_cli"]
     assert sorted(names(log, "begin")) == ["hdmi_cli", "left", "low", "right"] and "without" not in " ".join(log)
-    assert names(log, "begin")[1] == "right"  # it is longer
     words = (tmp_path / "top/crates/left/out/built/left.rlib").read_text()
     assert f"--extern hex={tmp_path}/kit/rlibs/hex.rlib" in words and "--crate-name left src/lib.rt" in words
+
+
+def test_the_longest_first(building):
+    """Of those that could begin the one with the most code goes first; on one processor the others wait until it has ended."""
+    may = os.sched_getaffinity(0)
+    os.sched_setaffinity(0, {min(may)})
+    try:
+        status, _, log = building()
+    finally:
+        os.sched_setaffinity(0, may)
+    assert status == 0 and log == [f"{word} {name}" for name in ("low", "right", "left", "hdmi_cli") for word in ("begin", "end")]
 
 
 def test_only_what_changed(building, tmp_path):
