@@ -35,6 +35,7 @@ ASKED = 13  # and as one `?`, at which a function may end early
 MEMORY = 3_000_000_000  # the most that a check takes, in bytes
 MOST_JOBS = 4  # of one check: more hardly help
 NICEST = 19
+ENDS = (signal.SIGINT, signal.SIGTERM, signal.SIGHUP)  # that end a build
 
 
 @dataclass(frozen=True)
@@ -204,9 +205,14 @@ class Building:
         crate.made.parent.mkdir(parents=True, exist_ok=True)
         crate.made_from.unlink(missing_ok=True)
         words = ["nice", "-n", str(self.niceness(crate)), *crate.command(jobs)]
-        with open(crate.log, "wb") as log:
-            how = {"cwd": crate.folder, "stdin": subprocess.DEVNULL, "stdout": log, "stderr": subprocess.STDOUT}
-            self.running[crate] = subprocess.Popen(words, process_group=0, **how)
+        before = signal.pthread_sigmask(signal.SIG_BLOCK, ENDS)  # an end that comes now would leave the check running
+        try:
+            with open(crate.log, "wb") as log:
+                how = {"cwd": crate.folder, "stdin": subprocess.DEVNULL, "stdout": log, "stderr": subprocess.STDOUT}
+                let = lambda: signal.pthread_sigmask(signal.SIG_SETMASK, before)
+                self.running[crate] = subprocess.Popen(words, process_group=0, preexec_fn=let, **how)
+        finally:
+            signal.pthread_sigmask(signal.SIG_SETMASK, before)
 
     def begin_ready(self):
         """Starts what can be started. A crate's rank is how many with longer ways up are being proved: it begins while that is
@@ -290,7 +296,7 @@ def main():
     except (OSError, subprocess.CalledProcessError):
         print("vabgrot: the command rt of the Rattle kit is not on the PATH", file=sys.stderr)
         return 2
-    for end in (signal.SIGINT, signal.SIGTERM, signal.SIGHUP):
+    for end in ENDS:
         signal.signal(end, lambda *_: sys.exit(1))
     began = time.time()
     status = build(kit) if kit.is_known() else build_by_rt()
