@@ -53,7 +53,7 @@ impl Lanes {
         }
     }
 
-    /// No columns. Room is taken for so many at once.
+    /// No columns. It asks for room for so many at once, so that the rows need not grow for them; its contract says nothing of room.
     pub fn with_capacity(alloc: Global, columns: u32) -> Result<Lanes, NoMemory>
         ensures { IfOk result (λ lanes. lanes ≡ record { columns = []; refusals = 0 }) }
     {

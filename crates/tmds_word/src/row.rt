@@ -49,7 +49,7 @@ impl BitRow {
         }
     }
 
-    /// A row with no bits. Room is taken for so many at once.
+    /// A row with no bits. It asks for room for so many at once, so that it need not grow for them; its contract says nothing of room.
     pub fn with_capacity(alloc: Global, bits: u32) -> Result<BitRow, NoMemory>
         ensures { IfOk result (λ row. row ≡ []) }
     {
