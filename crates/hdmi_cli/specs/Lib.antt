@@ -22,3 +22,4 @@ pub mod Pictures
 pub mod Sounds
 pub mod Exact
 pub mod RelaySettles
+pub mod Theorem
