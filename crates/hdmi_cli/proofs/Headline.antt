@@ -1,5 +1,5 @@
 -- What `recover` makes of the capture of a tap of columns received with sparse damage.
-use Rattle.std.proofs.Common.{arith, ◌≡◌, ℕ, ◌+◌, Bool, List, length, refl, ap, ap₂, sym, ◌∙◌, subst, inl, inr}
+use Rattle.std.proofs.Common.{arith, ◌≡◌, ℕ, ◌+◌, ◌*◌, ◌≤◌, Bool, List, length, refl, ap, ap₂, sym, ◌∙◌, subst, inl, inr}
 use Rattle.std.specs.Prelude.{Option, Some}
 use Rattle.std.specs.Io.KnownBytes.{Appends}
 use Rattle.capture_file.specs.Captures.{IsCaptureOf}
@@ -18,11 +18,11 @@ use Rattle.link_laws.proofs.Tapped.{payload_accounted, tap_accounted}
 use Rattle.hdmi_cli.specs.Listings.{Listing as ListingOf, link_listing}
 use Rattle.command_line.specs.Commands.{IsCommand}
 use Rattle.hdmi_cli.specs.Outcome.{RunOutcome, ListsLanes, ListsCapture, Does, status_with}
-use Rattle.hdmi_cli.specs.Headline.{TappedStream, IsTapped, AlignsBy, IsFirstOf, IsRecovered, IsRecoveredBy, IsDviTapped, IsDviRecovered, aligned_of}
+use Rattle.hdmi_cli.specs.Headline.{TappedStream, IsTapped, AlignsBy, IsFirstOf, IsRecovered, IsRecoveredBy, Aligns, FromFirst, IsDviTapped, IsDviRecovered, aligned_of}
 use Rattle.hdmi_cli.specs.Endings.{Devices, Answers, Ends, RunEnds, Unless, status_of}
 use Rattle.hdmi_cli.specs.Samples.{SampleEnds}
 use Rattle.command_line.specs.declared.command.Command.{Command}
-use Rattle.command_line.specs.declared.command.Command.TheVariants.{RecoverDvi, Sample}
+use Rattle.command_line.specs.declared.command.Command.TheVariants.{RecoverDvi, RecoverLink, Sample}
 use Rattle.command_line.proofs.OneCommand.{command_once}
 use Rattle.hdmi_cli.specs.declared.ending.Ending.{Ending}
 use Rattle.hdmi_cli.specs.declared.ending.Ending.TheVariants.{Done, Faulty, Usage, Listing, Raster, Capture, Place, Frames, TooLong, ReadFailed, WriteFailed, NoMemory, Unaligned}
@@ -119,23 +119,72 @@ run_ended P this words ending before after status (inr (inl (frames, named, kept
 run_ended P this words ending before after status (inr (inr (inl (none, usage, kept, held)))) is named says = absurd (none this named)
 run_ended P this words ending before after status (inr (inr (inr (unheld, kept, held)))) is named says = inr (inr (inl (is ∙ ap status_of unheld)))
 
--- sparse damage of payload alone
-pub headlined : (listing : ListingOf) (this : Command) → ((t : TappedStream) → IsTapped t → (o : RunOutcome) → Does this t.bytes o → ListsCapture link_grammar listing t.bytes o) → (words : List (List ℕ)) (ending : Ending) (before after : Devices) (status : ℕ) → RunEnds words ending before after → status ≡ status_of ending → IsCommand words this
-    → (t : TappedStream) → IsTapped t → IsSparseInPayload t.periods t.sent t.received → (d e f : ℕ) → IsFirstOf t d e f → before.left ≡ Some t.bytes
-    → Unless (λ s old new. (a : ℕ) × IsRecovered listing t d e f a s old new) status before after
-headlined listing this lists words ending before after status ends is named t tapped alone d e f first left =
+-- The first full alignment.
+
+-- it is at or before each column until which damage spares control, guard and preamble words
+at_or_before : (t : TappedStream) → IsTapped t → (d e f a : ℕ) → IsFirstOf t d e f → BeginColumn t.offset t.skews (a + 12) d e f → (until : ℕ) → AlignsBy t until → a + 12 ≤ until
+at_or_before t tapped d e f a first begins until aligns =
+    let law = tap_accounted t.periods t.sent t.received tapped.reception t.offset t.skews t.counts t.blue t.green t.red tapped.tap tapped.small until aligns in
+    let one = one_first t.blue t.green t.red d e f law.0 law.1 law.2 first law.3 in
+    let same = one.0 in
+    let here = begins.blue in
+    let there = law.4.3.blue in
+    let before = law.4.1 in
+    omega arith
+
+-- the account of a tapped stream from there on
+pub first_accounted : (t : TappedStream) → IsTapped t → Aligns t
+    → FromFirst t (λ d e f a. IsAccounted t.periods t.sent t.received (aligned_of t d e f) a × BeginColumn t.offset t.skews (a + 12) d e f)
+first_accounted t tapped (inl (alone, d, e, f, first)) =
     let law = payload_accounted t.periods t.sent t.received tapped.reception alone t.offset t.skews t.counts t.blue t.green t.red tapped.tap tapped.small d e f first in
-    run_ended (λ s old new. (a : ℕ) × IsRecovered listing t d e f a s old new) this words ending before after status ends is named
-    (λ answers. (law.0, answered listing this t law.0 d e f ending before after (lists t tapped) tapped first law.1 law.2 left answers))
+    (d, e, f, first, (law.0, at_or_before t tapped d e f law.0 first law.2, (law.1, law.2)))
+first_accounted t tapped (inr (until, aligns)) =
+    let law = tap_accounted t.periods t.sent t.received tapped.reception t.offset t.skews t.counts t.blue t.green t.red tapped.tap tapped.small until aligns in
+    (law.0, law.1, law.2, law.3, (law.4.0, at_or_before t tapped law.0 law.1 law.2 law.4.0 law.3 law.4.3, (law.4.2, law.4.3)))
+
+-- what holds of the first full alignment holds of any
+at_first : (t : TappedStream) (P : ℕ → ℕ → ℕ → ℕ → Type 0) → FromFirst t P → (d e f : ℕ) → IsFirstOf t d e f → (a : ℕ) × P d e f a
+at_first t P h d e f first =
+    let one = one_first t.blue t.green t.red h.0 h.1 h.2 d e f h.3 first in
+    (h.4.0, subst (λ n. P d e n h.4.0) one.2 (subst (λ n. P d n h.2 h.4.0) one.1 (subst (λ n. P n h.1 h.2 h.4.0) one.0 h.4.2)))
+
+-- what follows where no device failed and memory was had
+pub unless_so : (P Q : ℕ → Option (List ℕ) → Option (List ℕ) → Type 0) (status : ℕ) (before after : Devices) → (P status before.held after.held → Q status before.held after.held)
+    → Unless P status before after → Unless Q status before after
+unless_so P Q status before after h k = grind arith
+
+-- what is recovered of a stream that aligns
+pub recovered : (listing : ListingOf) (this : Command) → ((t : TappedStream) → IsTapped t → (o : RunOutcome) → Does this t.bytes o → ListsCapture link_grammar listing t.bytes o) → (words : List (List ℕ)) (ending : Ending) (before after : Devices) (status : ℕ) → RunEnds words ending before after → status ≡ status_of ending → IsCommand words this
+    → (t : TappedStream) → IsTapped t → Aligns t → before.left ≡ Some t.bytes
+    → Unless (λ s old new. FromFirst t (λ d e f a. IsRecovered listing t d e f a s old new)) status before after
+recovered listing this lists words ending before after status ends is named t tapped aligns left =
+    let law = first_accounted t tapped aligns in
+    run_ended (λ s old new. FromFirst t (λ d e f a. IsRecovered listing t d e f a s old new)) this words ending before after status ends is named
+    (λ answers. (law.0, law.1, law.2, law.3, (law.4.0, law.4.1, answered listing this t law.4.0 law.0 law.1 law.2 ending before after (lists t tapped) tapped law.3 law.4.2.0 law.4.2.1 left answers)))
+
+-- sparse damage of payload alone
+pub headlined : (words : List (List ℕ)) (ending : Ending) (before after : Devices) (status : ℕ) → RunEnds words ending before after → status ≡ status_of ending → IsCommand words RecoverLink
+    → (t : TappedStream) → IsTapped t → IsSparseInPayload t.periods t.sent t.received → (d e f : ℕ) → IsFirstOf t d e f → before.left ≡ Some t.bytes
+    → Unless (λ s old new. (a : ℕ) × IsRecovered link_listing t d e f a s old new) status before after
+headlined words ending before after status ends is named t tapped alone d e f first left =
+    unless_so
+    (λ s old new. FromFirst t (λ p q r a. IsRecovered link_listing t p q r a s old new))
+    (λ s old new. (a : ℕ) × IsRecovered link_listing t d e f a s old new)
+    status before after
+    (λ h. at_first t (λ p q r a. IsRecovered link_listing t p q r a status before.held after.held) h d e f first)
+    (recovered link_listing RecoverLink (λ t tapped o does. does) words ending before after status ends is named t tapped (inl (alone, d, e, f, first)) left)
 
 -- and damage anywhere that spares control and guard words until a column
-pub headlined_anywhere : (listing : ListingOf) (this : Command) → ((t : TappedStream) → IsTapped t → (o : RunOutcome) → Does this t.bytes o → ListsCapture link_grammar listing t.bytes o) → (words : List (List ℕ)) (ending : Ending) (before after : Devices) (status : ℕ) → RunEnds words ending before after → status ≡ status_of ending → IsCommand words this
+pub headlined_anywhere : (words : List (List ℕ)) (ending : Ending) (before after : Devices) (status : ℕ) → RunEnds words ending before after → status ≡ status_of ending → IsCommand words RecoverLink
     → (t : TappedStream) → IsTapped t → (until : ℕ) → AlignsBy t until → before.left ≡ Some t.bytes
-    → Unless (IsRecoveredBy listing t until) status before after
-headlined_anywhere listing this lists words ending before after status ends is named t tapped until aligns left =
-    let law = tap_accounted t.periods t.sent t.received tapped.reception t.offset t.skews t.counts t.blue t.green t.red tapped.tap tapped.small until aligns in
-    run_ended (IsRecoveredBy listing t until) this words ending before after status ends is named
-    (λ answers. (law.0, law.1, law.2, law.3, (law.4.0, law.4.1, answered listing this t law.4.0 law.0 law.1 law.2 ending before after (lists t tapped) tapped law.3 law.4.2 law.4.3 left answers)))
+    → Unless (IsRecoveredBy link_listing t until) status before after
+headlined_anywhere words ending before after status ends is named t tapped until aligns left =
+    unless_so
+    (λ s old new. FromFirst t (λ d e f a. IsRecovered link_listing t d e f a s old new))
+    (IsRecoveredBy link_listing t until)
+    status before after
+    (λ h. (h.0, h.1, h.2, h.3, (h.4.0, h.4.1 until aligns, h.4.2)))
+    (recovered link_listing RecoverLink (λ t tapped o does. does) words ending before after status ends is named t tapped (inr (until, aligns)) left)
 
 -- a stream without guard columns
 pub dvi_headlined : (words : List (List ℕ)) (ending : Ending) (before after : Devices) (status : ℕ) → RunEnds words ending before after → status ≡ status_of ending → IsCommand words RecoverDvi

@@ -12,7 +12,6 @@ use Rattle.capture_file.proofs.OneCapture.{one_capture, no_fault}
 use Rattle.lane_deskew.specs.Triples.{IsFirst, IsTriple}
 use Rattle.lane_deskew.specs.Aligned.{aligned_columns}
 use Rattle.island_pack.specs.Periods.{columns_of}
-use Rattle.island_pack.specs.Sparse.{IsSparseInPayload}
 use Rattle.island_pack.specs.Spelling.{Spells}
 use Rattle.source_end.proofs.Streams.{Spells-length}
 use Rattle.period_grammar.specs.Exact.{faultless}
@@ -21,18 +20,17 @@ use Rattle.period_grammar.specs.Events.{Event}
 use Rattle.link_laws.specs.Account.{account}
 use Rattle.link_sink.specs.Alignment.{IsAlignedReported, IsNowhereReported}
 use Rattle.link_laws.specs.Laws.{IsAccounted, BeginColumn}
-use Rattle.link_laws.proofs.Tapped.{payload_accounted, tap_accounted}
 use Rattle.relay_laws.specs.Received.{RelayedAccount}
 use Rattle.relay.specs.Relayed.{relayed}
 use Rattle.command_line.specs.Commands.{IsCommand}
 use Rattle.command_line.specs.declared.command.Command.TheVariants.{Relay}
 use Rattle.hdmi_cli.specs.Endings.{Devices, Answers, RunEnds, Unless, status_of}
-use Rattle.hdmi_cli.specs.Headline.{TappedStream, IsTapped, AlignsBy, IsFirstOf, aligned_of}
+use Rattle.hdmi_cli.specs.Headline.{TappedStream, IsTapped, IsFirstOf, Aligns, FromFirst, aligned_of}
 use Rattle.hdmi_cli.specs.Outcome.{RunOutcome, Relays}
-use Rattle.hdmi_cli.specs.RelayClauses.{IsSentWithin, IsSentWithinBy, sent_on}
+use Rattle.hdmi_cli.specs.RelayClauses.{IsSentWithin, sent_on}
 use Rattle.hdmi_cli.specs.Relays.{IsRelayed, relay_status, whole_tap}
 use Rattle.hdmi_cli.specs.declared.ending.Ending.{Ending}
-use Rattle.hdmi_cli.proofs.Headline.{aligned_same, run_ended}
+use Rattle.hdmi_cli.proofs.Headline.{aligned_same, first_accounted, run_ended}
 use Rattle.hdmi_cli.proofs.RelayLimit.{passes_nowhere, passes_whole, same_reported}
 
 -- an outcome is the capture of what is relayed of some things, which is within the limit
@@ -106,17 +104,9 @@ sent_within law t a d e f ending before after tapped first accounted begins left
     (capture_relay all t.blue t.green t.red d e f t.bytes answer.outcome tapped.captured first accounted.reported answer.does)
 
 pub relay_headlined : RelayedAccount → (words : List (List ℕ)) (ending : Ending) (before after : Devices) (status : ℕ) → RunEnds words ending before after → status ≡ status_of ending → IsCommand words Relay
-    → (t : TappedStream) → IsTapped t → IsSparseInPayload t.periods t.sent t.received → (d e f : ℕ) → IsFirstOf t d e f → before.left ≡ Some t.bytes
-    → Unless (λ s old new. (a : ℕ) × IsSentWithin t d e f a s old new) status before after
-relay_headlined law words ending before after status ends is named t tapped alone d e f first left =
-    let reported = payload_accounted t.periods t.sent t.received tapped.reception alone t.offset t.skews t.counts t.blue t.green t.red tapped.tap tapped.small d e f first in
-    run_ended (λ s old new. (a : ℕ) × IsSentWithin t d e f a s old new) Relay words ending before after status ends is named
-    (λ answers. (reported.0, sent_within law t reported.0 d e f ending before after tapped first reported.1 reported.2 left answers))
-
-pub relay_headlined_anywhere : RelayedAccount → (words : List (List ℕ)) (ending : Ending) (before after : Devices) (status : ℕ) → RunEnds words ending before after → status ≡ status_of ending → IsCommand words Relay
-    → (t : TappedStream) → IsTapped t → (until : ℕ) → AlignsBy t until → before.left ≡ Some t.bytes
-    → Unless (IsSentWithinBy t until) status before after
-relay_headlined_anywhere law words ending before after status ends is named t tapped until aligns left =
-    let reported = tap_accounted t.periods t.sent t.received tapped.reception t.offset t.skews t.counts t.blue t.green t.red tapped.tap tapped.small until aligns in
-    run_ended (IsSentWithinBy t until) Relay words ending before after status ends is named
-    (λ answers. (reported.0, reported.1, reported.2, reported.3, (reported.4.0, reported.4.1, sent_within law t reported.4.0 reported.0 reported.1 reported.2 ending before after tapped reported.3 reported.4.2 reported.4.3 left answers)))
+    → (t : TappedStream) → IsTapped t → Aligns t → before.left ≡ Some t.bytes
+    → Unless (λ s old new. FromFirst t (λ d e f a. IsSentWithin t d e f a s old new)) status before after
+relay_headlined law words ending before after status ends is named t tapped aligns left =
+    let first = first_accounted t tapped aligns in
+    run_ended (λ s old new. FromFirst t (λ d e f a. IsSentWithin t d e f a s old new)) Relay words ending before after status ends is named
+    (λ answers. (first.0, first.1, first.2, first.3, (first.4.0, first.4.1, sent_within law t first.4.0 first.0 first.1 first.2 ending before after tapped first.3 first.4.2.0 first.4.2.1 left answers)))

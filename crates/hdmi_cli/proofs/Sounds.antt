@@ -5,7 +5,6 @@ use Rattle.std.specs.Prelude.{flat_map, Option, Some}
 use Rattle.std.specs.Io.KnownBytes.{Appends}
 use Rattle.tmds_word.specs.Column.{Column}
 use Rattle.audio_out.specs.Frames.{biphase}
-use Rattle.island_pack.specs.Sparse.{IsSparseInPayload}
 use Rattle.period_grammar.specs.Events.{Event, packet}
 use Rattle.link_laws.specs.Account.{account}
 use Rattle.link_laws.specs.Laws.{ReceivedOf}
@@ -18,12 +17,12 @@ use Rattle.biphase_listing.proofs.Payload.{samples_of_payload}
 use Rattle.command_line.specs.Commands.{IsCommand}
 use Rattle.command_line.specs.declared.command.Command.TheVariants.{RecoverBiphase}
 use Rattle.hdmi_cli.specs.Endings.{Devices, RunEnds, Unless, status_of}
-use Rattle.hdmi_cli.specs.Headline.{TappedStream, IsTapped, AlignsBy, IsFirstOf, IsRecovered, IsRecoveredBy, aligned_of}
+use Rattle.hdmi_cli.specs.Headline.{TappedStream, IsTapped, IsRecovered, Aligns, FromFirst, aligned_of}
 use Rattle.hdmi_cli.specs.Listings.{biphase_listing}
 use Rattle.hdmi_cli.specs.Sounds.{AreSamples, samples_sent, samples_reported}
 use Rattle.hdmi_cli.specs.declared.ending.Ending.{Ending}
-use Rattle.hdmi_cli.proofs.Headline.{headlined, headlined_anywhere}
-use Rattle.hdmi_cli.proofs.Pictures.{unless_so, within_received}
+use Rattle.hdmi_cli.proofs.Headline.{recovered, unless_so}
+use Rattle.hdmi_cli.proofs.Pictures.{within_received}
 
 -- what is reported has the samples of the packets that are reported
 
@@ -63,26 +62,13 @@ samples_are pair t d e f a status old new reception h =
       samples = each_has pair t.sent t.received a (placed 0 t.periods) (packets_as_sent t.periods t.sent t.received reception a);
     }
 
--- of sparse damage of payload alone
 pub sounded : (words : List (List ℕ)) (ending : Ending) (before after : Devices) (status : ℕ) → RunEnds words ending before after → status ≡ status_of ending → (pair : ℕ) → IsCommand words (RecoverBiphase pair)
-    → (t : TappedStream) → IsTapped t → IsSparseInPayload t.periods t.sent t.received → (d e f : ℕ) → IsFirstOf t d e f → before.left ≡ Some t.bytes
-    → Unless (λ s old new. (a : ℕ) × AreSamples pair t d e f a s old new) status before after
-sounded words ending before after status ends is pair named t tapped alone d e f first left =
+    → (t : TappedStream) → IsTapped t → Aligns t → before.left ≡ Some t.bytes
+    → Unless (λ s old new. FromFirst t (λ d e f a. AreSamples pair t d e f a s old new)) status before after
+sounded words ending before after status ends is pair named t tapped aligns left =
     unless_so
-    (λ s old new. (a : ℕ) × IsRecovered (biphase_listing pair) t d e f a s old new)
-    (λ s old new. (a : ℕ) × AreSamples pair t d e f a s old new)
-    status before after
-    (λ h. (h.0, samples_are pair t d e f h.0 status before.held after.held tapped.reception h.1))
-    (headlined (biphase_listing pair) (RecoverBiphase pair) (λ t tapped o does. does) words ending before after status ends is named t tapped alone d e f first left)
-
--- and of damage anywhere
-pub sounded_anywhere : (words : List (List ℕ)) (ending : Ending) (before after : Devices) (status : ℕ) → RunEnds words ending before after → status ≡ status_of ending → (pair : ℕ) → IsCommand words (RecoverBiphase pair)
-    → (t : TappedStream) → IsTapped t → (until : ℕ) → AlignsBy t until → before.left ≡ Some t.bytes
-    → Unless (λ s old new. (d e f : ℕ) × IsFirstOf t d e f × ((a : ℕ) × (a + 12 ≤ until) × AreSamples pair t d e f a s old new)) status before after
-sounded_anywhere words ending before after status ends is pair named t tapped until aligns left =
-    unless_so
-    (IsRecoveredBy (biphase_listing pair) t until)
-    (λ s old new. (d e f : ℕ) × IsFirstOf t d e f × ((a : ℕ) × (a + 12 ≤ until) × AreSamples pair t d e f a s old new))
+    (λ s old new. FromFirst t (λ d e f a. IsRecovered (biphase_listing pair) t d e f a s old new))
+    (λ s old new. FromFirst t (λ d e f a. AreSamples pair t d e f a s old new))
     status before after
     (λ h. (h.0, h.1, h.2, h.3, (h.4.0, h.4.1, samples_are pair t h.0 h.1 h.2 h.4.0 status before.held after.held tapped.reception h.4.2)))
-    (headlined_anywhere (biphase_listing pair) (RecoverBiphase pair) (λ t tapped o does. does) words ending before after status ends is named t tapped until aligns left)
+    (recovered (biphase_listing pair) (RecoverBiphase pair) (λ t tapped o does. does) words ending before after status ends is named t tapped aligns left)

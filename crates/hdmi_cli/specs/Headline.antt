@@ -1,6 +1,6 @@
 -- What `recover` makes of the capture of a tap of columns that conforming periods spell, whatever the bit offset, with
 -- skews of at most 70 bits and with sparse damage.
-use Rattle.std.specs.Prelude.{◌≡◌, ◌+◌, ◌≤◌, ℕ, Bool, List, length, Option}
+use Rattle.std.specs.Prelude.{◌≡◌, ◌⊎◌, ◌+◌, ◌≤◌, ℕ, Bool, List, length, Option}
 use Rattle.std.specs.Io.KnownBytes.{Appends}
 use Rattle.tmds_word.specs.Column.{Column}
 use Rattle.tmds_word.specs.Taps.{IsTap, HasSmallSkew}
@@ -8,6 +8,7 @@ use Rattle.capture_file.specs.Captures.{IsCaptureOf}
 use Rattle.lane_deskew.specs.Aligned.{aligned_columns}
 use Rattle.lane_deskew.specs.Triples.{IsFirst}
 use Rattle.island_pack.specs.Periods.{Period}
+use Rattle.island_pack.specs.Sparse.{IsSparseInPayload}
 use Rattle.link_laws.specs.Laws.{ReceivedOf, IsAccounted, AlignsUntil, BeginColumn}
 use Rattle.link_laws.specs.Account.{account}
 use Rattle.source_end.specs.DviPeriods.{IsDviConforming, DviSpells, IsDviSparse, HasThree}
@@ -55,6 +56,15 @@ aligned_of t d e f = aligned_columns t.blue t.green t.red d e f
 -- three edges are its first full alignment
 abbrev pub IsFirstOf : TappedStream → ℕ → ℕ → ℕ → Type 0
 IsFirstOf t d e f = IsFirst t.blue t.green t.red d e f
+
+-- damage of pixels and packets alone, where there is a first full alignment; or damage that spares the other columns until one
+abbrev pub Aligns : TappedStream → Type 0
+Aligns t = (IsSparseInPayload t.periods t.sent t.received × ((d e f : ℕ) × IsFirstOf t d e f)) ⊎ ((until : ℕ) × AlignsBy t until)
+
+-- what holds of its columns from the first full alignment on, which begin with column a: that alignment is at or before each
+-- column until which damage spares control, guard and preamble words
+abbrev pub FromFirst : TappedStream → (ℕ → ℕ → ℕ → ℕ → Type 0) → Type 0
+FromFirst t P = (d e f : ℕ) × IsFirstOf t d e f × ((a : ℕ) × ((until : ℕ) → AlignsBy t until → a + 12 ≤ until) × P d e f a)
 
 -- the output grew by the listing of the account of the columns that are aligned at three edges, which begin with column a,
 -- twelve before the end of a control period, and the status says whether it has a fault

@@ -14,7 +14,7 @@ use Rattle.link_laws.specs.Whole.{ends_long}
 use Rattle.relay_laws.specs.Received.{reception}
 use Rattle.relay_laws.specs.Own.{cut_first}
 use Rattle.relay.specs.Relayed.{conformed, relayed}
-use Rattle.hdmi_cli.specs.Headline.{TappedStream, IsFirstOf, IsSentOn, aligned_of}
+use Rattle.hdmi_cli.specs.Headline.{TappedStream, IsSentOn, aligned_of}
 use Rattle.hdmi_cli.specs.Relays.{IsRelayed, whole_tap}
 
 -- A tapped stream.
@@ -35,11 +35,6 @@ pub record IsTooLong (t : TappedStream) (d e f a status : ℕ) (old new : Option
 abbrev pub IsSentWithin : TappedStream → ℕ → ℕ → ℕ → ℕ → ℕ → Option (List ℕ) → Option (List ℕ) → Type 0
 IsSentWithin t d e f a status old new =
     ((columns_of (sent_on t d e f a) ≤ 20000000) × IsSentOn t d e f a status old new) ⊎ IsTooLong t d e f a status old new
-
--- the same from the first full alignment on, which is at or before a column
-abbrev pub IsSentWithinBy : TappedStream → ℕ → ℕ → Option (List ℕ) → Option (List ℕ) → Type 0
-IsSentWithinBy t until status old new =
-    (d e f : ℕ) × IsFirstOf t d e f × ((a : ℕ) × (a + 12 ≤ until) × IsSentWithin t d e f a status old new)
 
 -- A clean capture.
 

@@ -25,6 +25,7 @@ pub mod EachPlaced
 pub mod PacketsAsSent
 pub mod PacketLines
 pub mod PictureLines
+pub mod PacketsListed
 pub mod Rasters
 pub mod Text
 pub mod Digits

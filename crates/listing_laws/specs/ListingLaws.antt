@@ -1,7 +1,7 @@
--- Which lines of a content listing give rows and frames, and what is listed of a packet of which at most one word was
--- received unlike.
+-- Which lines of a content listing give rows and frames and which give packets, and what is listed of a packet of which at
+-- most one word was received unlike.
 use Rattle.std.specs.Prelude.{◌≡◌, ℕ, ◌+◌, ◌-◌, ◌≤◌, Bool, true, false, ◌&&◌, ◌||◌, ◌==◌, List, [], ◌∷◌, ◌++◌, map, length, take, drop, None, codes}
-use Rattle.std.specs.List.{filter}
+use Rattle.std.specs.List.{filter, flat_map}
 use Rattle.hex.specs.Hex.{encode_lower}
 use Rattle.tmds_word.specs.Column.{Column}
 use Rattle.island_pack.specs.Periods.{Period}
@@ -11,6 +11,7 @@ use Rattle.island_pack.specs.Taken.{spotless}
 use Rattle.island_pack.specs.declared.packet.Packet.{Packet}
 use Rattle.island_pack.specs.declared.packet.PacketVerdicts.{PacketVerdicts}
 use Rattle.island_pack.specs.Repaired.{verdicts_of}
+use Rattle.period_grammar.specs.Events.{Event}
 use Rattle.period_grammar.specs.Heard.{heard}
 use Rattle.link_laws.specs.Account.{damage, packet_row}
 use Rattle.link_laws.specs.Laws.{ReceivedOf, EndsControl}
@@ -22,7 +23,7 @@ use Rattle.listing_writer.specs.Fields.{with_fields, begins_with}
 use Rattle.listing_writer.specs.ContentText.{packet_lines, content_lines}
 use Rattle.listing_writer.specs.Listed.{Listed, row, frame}
 use Rattle.listing_laws.specs.FrameLaws.{frames_received}
-use Rattle.listing_laws.specs.PacketLaws.{IsAsSent, Placed, placed, ReportedPacket, received_packet}
+use Rattle.listing_laws.specs.PacketLaws.{IsAsSent, Placed, placed, ReportedPacket, received_packet, reported_packets}
 
 -- a line `row ..`, `frame ..` or `! ragged ..`
 abbrev pub tells_picture : List ℕ → Bool
@@ -64,6 +65,18 @@ unlike_in sent received k = damage (take 32 (drop k.at sent)) (take 32 (drop k.a
 -- the content lines of a reported packet
 abbrev pub reported_lines : ReportedPacket → List (List ℕ)
 reported_lines reported = packet_lines reported.packet reported.verdicts reported.column
+
+-- a line of what a packet carries, or of a fault in it
+abbrev pub tells_packet : List ℕ → Bool
+tells_packet line =
+    begins_with (codes "acr ") line || (begins_with (codes "s ") line || (begins_with (codes "gcp ") line || (begins_with (codes "avi ") line
+    || (begins_with (codes "audio ") line || (begins_with (codes "spd ") line || (begins_with (codes "info ") line || (begins_with (codes "packet ") line
+    || (begins_with (codes "! uneven ") line || (begins_with (codes "! parity ") line || (begins_with (codes "! layout ") line
+    || (begins_with (codes "! depth ") line || (begins_with (codes "! length ") line || begins_with (codes "! checksum ") line))))))))))))
+
+-- of whatever is reported, these lines of a content listing are those of the reported packets, in order
+abbrev pub PacketLinesAreListed : Type 0
+PacketLinesAreListed = (events : List Event) → filter tells_packet (content_lines events) ≡ flat_map reported_lines (reported_packets events)
 
 -- so are those of each packet of periods, as it is reported in columns from column a on
 abbrev pub PacketLinesComeBack : Type 0

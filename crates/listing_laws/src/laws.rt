@@ -2,7 +2,7 @@
 //! nothing: what they ensure are the laws.
 ghost use Rattle.listing_laws.specs.FrameLaws.{FramesComeBack, FramesHeard};
 ghost use Rattle.listing_laws.specs.LinkLaws.{AccountReadsBack};
-ghost use Rattle.listing_laws.specs.ListingLaws.{FrameLinesComeBack, LinesOfPayload, PacketLinesAsSent, PacketLinesComeBack, PacketsAsSent};
+ghost use Rattle.listing_laws.specs.ListingLaws.{FrameLinesComeBack, LinesOfPayload, PacketLinesAreListed, PacketLinesAsSent, PacketLinesComeBack, PacketsAsSent};
 ghost use Rattle.listing_laws.specs.PacketLaws.{PacketsComeBack, OneWordAsSent, RasterPackets};
 ghost use Rattle.listing_laws.specs.Rasters.{RastersCome, HasRaster};
 
@@ -44,6 +44,11 @@ pub fn raster_packets()
 /// that were received: none is ragged.
 pub fn frame_lines_come_back()
     ensures { FrameLinesComeBack }
+{}
+
+/// The lines of a content listing that packets give are those of the packets that are reported, in order.
+pub fn packet_lines_are_listed()
+    ensures { PacketLinesAreListed }
 {}
 
 /// The content lines of a packet are those of its header and its bodies.

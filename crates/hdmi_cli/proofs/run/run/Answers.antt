@@ -1,19 +1,19 @@
 use Rattle.std.proofs.Common.{rules}
 use Rattle.hdmi_cli.specs.Endings.{note_of, seen}
-use Rattle.command_line.specs.declared.command.Command.TheVariants.{RecoverLink, RecoverContent, RecoverTrack}
+use Rattle.command_line.specs.declared.command.Command.TheVariants.{RecoverContent, RecoverTrack}
 use Rattle.hdmi_cli.specs.Listings.{link_listing, content_listing}
 use Rattle.hdmi_cli.proofs.Ends.{says}
 use Rattle.hdmi_cli.proofs.Exact.{check_is_exact}
-use Rattle.hdmi_cli.proofs.Headline.{headlined, headlined_anywhere, dvi_headlined}
+use Rattle.hdmi_cli.proofs.Headline.{headlined, headlined_anywhere, dvi_headlined, recovered}
 use Rattle.hdmi_cli.proofs.RelayAgain.{relay_again}
 use Rattle.hdmi_cli.proofs.RelayClean.{relay_passes}
-use Rattle.hdmi_cli.proofs.RelayHeadline.{relay_headlined, relay_headlined_anywhere}
+use Rattle.hdmi_cli.proofs.RelayHeadline.{relay_headlined}
 use Rattle.hdmi_cli.proofs.RelaySettles.{relay_agrees, relay_settles}
 use Rattle.hdmi_cli.proofs.TrackHeadline.{tracks_as_link}
 use Rattle.hdmi_cli.proofs.TrackSlip.{tracked_across}
 use Rattle.hdmi_cli.proofs.TrackPasses.{tracked_as_one}
-use Rattle.hdmi_cli.proofs.Pictures.{packeted, packeted_anywhere, pictured, pictured_anywhere}
-use Rattle.hdmi_cli.proofs.Sounds.{sounded, sounded_anywhere}
+use Rattle.hdmi_cli.proofs.Pictures.{packeted, pictured}
+use Rattle.hdmi_cli.proofs.Sounds.{sounded}
 use Rattle.hdmi_cli.proofs.run.run.Goals as goal
 
 pub returns : goal.returns
@@ -44,28 +44,22 @@ returns g c =
       part = s.part;
       sampled = s.sampled;
       theorem = record {
-        headline = headlined link_listing RecoverLink (λ t tapped o does. does) words ending before after status ends known;
-        headline_anywhere = headlined_anywhere link_listing RecoverLink (λ t tapped o does. does) words ending before after status ends known;
-        content_headline = headlined content_listing RecoverContent (λ t tapped o does. does) words ending before after status ends known;
-        content_headline_anywhere = headlined_anywhere content_listing RecoverContent (λ t tapped o does. does) words ending before after status ends known;
-        pictures = pictured_anywhere words ending before after status ends known;
-        pictures_of_payload = pictured words ending before after status ends known;
-        packets = packeted_anywhere words ending before after status ends known;
-        packets_of_payload = packeted words ending before after status ends known;
-        track_headline = headlined link_listing RecoverTrack tracks_as_link words ending before after status ends known;
-        track_headline_anywhere = headlined_anywhere link_listing RecoverTrack tracks_as_link words ending before after status ends known;
+        headline = headlined words ending before after status ends known;
+        headline_anywhere = headlined_anywhere words ending before after status ends known;
+        check_exact = check_is_exact words before after status (note_of ending) s;
+        content_headline = recovered content_listing RecoverContent (λ t tapped o does. does) words ending before after status ends known;
+        pictures = pictured words ending before after status ends known;
+        packets = packeted words ending before after status ends known;
         biphase_headline = sounded words ending before after status ends known;
-        biphase_headline_anywhere = sounded_anywhere words ending before after status ends known;
+        dvi_headline = dvi_headlined words ending before after status ends known;
+        track_headline = recovered link_listing RecoverTrack tracks_as_link words ending before after status ends known;
         track_slip = tracked_across words ending before after status ends known;
         track_slip_passes = tracked_as_one words ending before after status ends known;
         relay_headline = relay_headlined c.relayed_account.ensures words ending before after status ends known;
-        relay_headline_anywhere = relay_headlined_anywhere c.relayed_account.ensures words ending before after status ends known;
         relay_clean = relay_passes c.whole_relayed.ensures words ending before after status ends known;
         relay_clean_columns = relay_agrees c.whole_relayed.ensures words ending before after status ends known;
         relay_again = relay_again c.relayed_again.ensures words ending before after status ends known;
         relay_settles = relay_settles c.relayed_again.ensures words ending before after status ends known;
-        dvi_headline = dvi_headlined words ending before after status ends known;
-        check_exact = check_is_exact words before after status (note_of ending) s;
       };
       notes = (note_of ending, s.noted, c.write_note.ensures.whole, c.write_note.ensures.part);
       input_later = search rules;

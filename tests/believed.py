@@ -1,0 +1,163 @@
+#!/usr/bin/env python3
+"""Prints what a reader of a theorem must believe: every definition that it rests on, of the crates' folders specs/, lowest crate first.
+
+    tests/believed.py [THEOREM ..]
+
+A theorem is a field of the record `Promises` of crates/hdmi_cli/specs/Theorem.antt; without one it is `headline`. A line names a
+definition and says what the comment above it says; the last line counts them. A type that code declares is named with its file.
+What a definition cites is found by its names alone, as they are imported, so the list may have a few too many. Status 2 where there is no such theorem."""
+import re
+import sys
+from collections.abc import Iterator
+from dataclasses import dataclass, field
+from functools import cache
+from pathlib import Path
+
+TOP = Path(__file__).resolve().parents[1]
+THEOREMS = ("hdmi_cli", "Theorem")
+RECORD = "Promises"
+NAME = re.compile(r"[A-Za-z_][\w-]*")
+HEAD = re.compile(r"(?:(?:abbrev|unfoldable) )?(?:pub )?(?:(?:record|data) )?([A-Za-z_][\w-]*)")
+IMPORT = re.compile(r"use Rattle\.([\w.]+?)\.\{([^}]*)\}")
+FIELD = re.compile(r"\n  pub (\w+) :")
+MEMBER = re.compile(r"(?m)^\s+(?:pub )?([\w-]+) :")  # a field of a record, a constructor of data
+NO_NAMES = re.compile(r"--.*|\.[a-z][\w-]*|(?m:^\s+pub [\w-]+ :)")  # comments, fields that are read, fields that are declared
+
+
+@dataclass(frozen=True, order=True)
+class Place:
+    """Where a definition stands: its crate, its file (`src/FILE` of a type that code declares), and its name."""
+
+    crate: str
+    file: str
+    name: str
+
+
+@dataclass
+class Definition:
+    """A definition: its text, and what the comment above it says."""
+
+    text: str
+    comment: str
+
+
+@dataclass
+class Specs:
+    """A file of definitions: its own ones, which of them a constructor belongs to, and where the names that it imports stand."""
+
+    definitions: dict[str, Definition] = field(default_factory=dict)
+    owners: dict[str, str] = field(default_factory=dict)
+    imported: dict[str, Place] = field(default_factory=dict)
+
+
+def place_of(crate: str, file: str, name: str) -> Place:
+    """Where an imported name stands: a type that code declares stands in its file, and its variants with it."""
+    code = re.fullmatch(r"declared\.(.+)\.(\w+?)(\.TheVariants)?", file)
+    return Place(crate, f"src/{code[1].replace('.', '/')}", code[2]) if code else Place(crate, file, name)
+
+
+def imports_of(text: str) -> Iterator[tuple[str, Place]]:
+    """The names that a file imports from crates of the repository, and where each stands."""
+    for path, names in IMPORT.findall(text):
+        crate, _, file = path.partition(".specs.")
+        for name in filter(None, (it.strip() for it in names.split(","))):
+            own, _, other = name.partition(" as ")
+            yield (other or own), place_of(crate, file, own)
+
+
+def blocks_of(text: str) -> Iterator[tuple[str, str]]:
+    """The comment above each stretch of lines that are not blank and begin in the first column, and these lines."""
+    for block in re.split(r"\n\s*\n", text):
+        lines = block.splitlines()
+        at = next((i for i, line in enumerate(lines) if not line.startswith("--")), len(lines))
+        comment = " ".join(line.removeprefix("--").strip() for line in lines[:at])
+        yield comment, "\n".join(lines[at:])
+
+
+@cache
+def specs_of(crate: str, file: str) -> Specs:
+    """What a file of definitions holds; nothing where there is none (a library of the kit, or what code declares)."""
+    path = TOP / "crates" / crate / "specs" / (file.replace(".", "/") + ".antt")
+    found = Specs()
+    if not path.is_file():
+        return found
+    text = path.read_text(encoding="utf-8")
+    found.imported.update(imports_of(text))
+    for comment, lines in blocks_of(text):
+        head = HEAD.match(lines)
+        if head and not lines.startswith("use "):
+            known = found.definitions.get(head[1])
+            found.definitions[head[1]] = Definition((known.text + "\n" if known else "") + lines, known.comment if known else comment)
+            if re.match(r"(pub )?data ", lines):
+                found.owners.update((name, head[1]) for name in MEMBER.findall(lines))
+    return found
+
+
+def owner_of(place: Place) -> Place:
+    """The definition that a name belongs to: of a constructor its type."""
+    return Place(place.crate, place.file, specs_of(place.crate, place.file).owners.get(place.name, place.name))
+
+
+def cited(place: Place, text: str) -> set[Place]:
+    """The definitions that a text of a file names, but for those of the kit."""
+    specs = specs_of(place.crate, place.file)
+    names = set(NAME.findall(NO_NAMES.sub(" ", text)))
+    own = {Place(place.crate, place.file, name) for name in names & (specs.definitions.keys() | specs.owners.keys())}
+    others = {specs.imported[name] for name in names & specs.imported.keys()}
+    return {owner_of(it) for it in own | others if (TOP / "crates" / it.crate).is_dir()} - {place}
+
+
+def theorem_text(name: str) -> str | None:
+    """The field of the record of theorems that has this name."""
+    crate, file = THEOREMS
+    _, _, record = (TOP / "crates" / crate / "specs" / f"{file}.antt").read_text(encoding="utf-8").partition(f"record {RECORD} ")
+    parts = FIELD.split(record)
+    return dict(zip(parts[1::2], parts[2::2], strict=True)).get(name)
+
+
+def believed(names: list[str]) -> set[Place] | None:
+    """Every definition that these theorems rest on; none where one of them is no theorem."""
+    texts = [theorem_text(name) for name in names]
+    if None in texts:
+        return None
+    left = set().union(*(cited(Place(*THEOREMS, name), text) for name, text in zip(names, texts, strict=True) if text))
+    found: set[Place] = set()
+    while left:
+        place = left.pop()
+        found.add(place)
+        definition = specs_of(place.crate, place.file).definitions.get(place.name)
+        if definition:
+            left |= cited(place, definition.text) - found
+    return found
+
+
+def crates() -> list[str]:
+    lines = (TOP / "crates.txt").read_text(encoding="utf-8").splitlines()
+    return [row[0] for row in (re.match(r"\w+", line) for line in lines) if row]
+
+
+def print_believed(places: set[Place]) -> None:
+    for crate in crates():
+        own = sorted(it for it in places if it.crate == crate)
+        if own:
+            print(f"\n{crate}")
+        for place in own:
+            definition = specs_of(place.crate, place.file).definitions.get(place.name)
+            words = f": {definition.comment}" if definition and definition.comment else ""
+            print(f"  {place.file}.{place.name}{words}")
+    texts = [specs_of(it.crate, it.file).definitions.get(it.name) for it in places]
+    lines = sum(it.text.count("\n") + 1 for it in texts if it)
+    print(f"\n{len(places)} definitions of {lines} lines in {len({it.crate for it in places})} crates")
+
+
+def main(words: list[str]) -> int:
+    places = believed(words or ["headline"])
+    if places is None:
+        print(f"believed: of {' '.join(words)} one is no theorem of crates/hdmi_cli/specs/Theorem.antt", file=sys.stderr)
+        return 2
+    print_believed(places)
+    return 0
+
+
+if __name__ == "__main__":
+    sys.exit(main(sys.argv[1:]))
