@@ -21,4 +21,5 @@ pub mod Halfways
 pub mod Damages
 pub mod SlippedLanes
 pub mod OneCapture
+pub mod OneFault
 pub mod Tapped

@@ -42,7 +42,7 @@ number_fits : (xs : List Bool) (count : ℕ) → length xs ≡ count → number 
 number_fits xs count is = grind (arith, number_below, pow_mono)
 
 -- a lane of so many bits is determined by its bytes
-same_lane : (xs ys : List Bool) → length ys ≡ length xs → packed xs ≡ packed ys → xs ≡ ys
+pub same_lane : (xs ys : List Bool) → length ys ≡ length xs → packed xs ≡ packed ys → xs ≡ ys
 unfolding packed
 same_lane xs ys len is = grind (arith, same_bits, same_number, number_fits)
 
@@ -59,10 +59,10 @@ chunk_more j a =
     ap (λ n. take n a) e ∙ take-add (4096 * j) 4096 a
 
 -- three lanes of bytes that are as long as three others
-record AreAsLong (a b c p q r : List ℕ) : Type 0 where
-  first : length a ≡ length p
-  second : length b ≡ length q
-  third : length c ≡ length r
+pub record AreAsLong (a b c p q r : List ℕ) : Type 0 where
+  pub first : length a ≡ length p
+  pub second : length b ≡ length q
+  pub third : length c ≡ length r
 
 length-blocks : (j : ℕ) (a b c p q r : List ℕ) → AreAsLong a b c p q r → length (blocks_below j a b c) ≡ length (blocks_below j p q r)
 unfolding blocks_below block
@@ -76,12 +76,12 @@ record AreSameChunks (j : ℕ) (a b c p q r : List ℕ) : Type 0 where
   third : chunk j c ≡ chunk j r
 
 -- the same bytes as far as a chunk
-record AreSameBelow (j : ℕ) (a b c p q r : List ℕ) : Type 0 where
-  first : take (4096 * j) a ≡ take (4096 * j) p
-  second : take (4096 * j) b ≡ take (4096 * j) q
-  third : take (4096 * j) c ≡ take (4096 * j) r
+pub record AreSameBelow (j : ℕ) (a b c p q r : List ℕ) : Type 0 where
+  pub first : take (4096 * j) a ≡ take (4096 * j) p
+  pub second : take (4096 * j) b ≡ take (4096 * j) q
+  pub third : take (4096 * j) c ≡ take (4096 * j) r
 
-same_below : (j : ℕ) (a b c p q r : List ℕ) → AreAsLong a b c p q r → blocks_below j a b c ≡ blocks_below j p q r → AreSameBelow j a b c p q r
+pub same_below : (j : ℕ) (a b c p q r : List ℕ) → AreAsLong a b c p q r → blocks_below j a b c ≡ blocks_below j p q r → AreSameBelow j a b c p q r
 unfolding blocks_below block
 same_below zero a b c p q r long is = record { first = refl; second = refl; third = refl }
 same_below (suc j) a b c p q r long is = grind (arith, length-blocks, same_front, same_rest, chunk_more, length-chunk, length-append, same_below j a b c p q r long)

@@ -1,8 +1,8 @@
 -- What follows from the layout of captures.
-use Rattle.std.specs.Prelude.{◌≡◌, ℕ, ◌+◌, ◌*◌, ◌^◌, ◌<◌, ◌≤◌, Bool, List, length}
+use Rattle.std.specs.Prelude.{◌≡◌, ℕ, ◌+◌, ◌*◌, ◌^◌, ◌<◌, ◌≤◌, Bool, List, ◌++◌, length}
 use Rattle.tmds_word.specs.Column.{Column}
 use Rattle.tmds_word.specs.Taps.{IsTap}
-use Rattle.capture_file.specs.Captures.{IsCapture, IsCaptureOf, IsFault}
+use Rattle.capture_file.specs.Captures.{IsCapture, IsCaptureOf, IsFault, HasRead, StopsIn}
 use Rattle.capture_file.specs.Taps.{greatest, tap_counts, tap_of, tapped_capture}
 use Rattle.capture_file.specs.declared.writing.Tap.{Tap}
 use Rattle.capture_file.specs.declared.fault.CaptureFault.{CaptureFault}
@@ -20,6 +20,25 @@ OneCapture = (x y z u v w : List Bool) (bytes : List ℕ) → IsCaptureOf x y z 
 -- a capture has no fault
 abbrev pub NoFault : Type 0
 NoFault = (bytes : List ℕ) (fault : CaptureFault) → IsCapture bytes → IsFault bytes fault → ⊥
+
+-- bytes have one fault at most
+abbrev pub OneFault : Type 0
+OneFault = (bytes : List ℕ) (f g : CaptureFault) → IsFault bytes f → IsFault bytes g → f ≡ g
+
+-- the header and the whole blocks of bytes before a place, and the bits that each lane has in them
+pub record IsReadBefore (bytes : List ℕ) (place : ℕ) (taken : List ℕ) (x y z : List Bool) : Type 0 where
+  pub rest : List ℕ
+  pub counts : List ℕ
+  pub block : ℕ
+  pub bytes_are : bytes ≡ taken ++ rest
+  pub read : HasRead counts block (length taken) taken x y z
+  pub stops : StopsIn counts block taken place
+
+-- they are one list of bytes, and one triple of lanes
+abbrev pub OneReading : Type 0
+OneReading =
+    (bytes : List ℕ) (place : ℕ) (taken took : List ℕ) (x y z u v w : List Bool)
+    → IsReadBefore bytes place taken x y z → IsReadBefore bytes place took u v w → (taken ≡ took) × AreSame x y z u v w
 
 -- the bits that a tap takes of columns are a tap of them, where each lane begins within them
 abbrev pub TapIsTap : Type 0

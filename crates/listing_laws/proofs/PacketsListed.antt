@@ -1,6 +1,6 @@
 -- The lines of a content listing that give packets are those of the packets that are reported.
-use Rattle.std.proofs.Common.{arith, ◌≡◌, ℕ, Bool, true, false, if◌then◌else◌, List, [], ◌∷◌, ◌++◌, Option, refl, sym, ap₂, ◌∙◌}
-use Rattle.std.specs.Prelude.{Result, codes}
+use Rattle.std.proofs.Common.{arith, ◌≡◌, ℕ, Bool, true, false, if◌then◌else◌, List, [], ◌∷◌, ◌++◌, Option, refl, sym, ap₂, ◌∙◌, append-nil}
+use Rattle.std.specs.Prelude.{Result, is_some, slice_index, codes}
 use Rattle.std.specs.List.{filter, flat_map}
 use Rattle.std.proofs.lemmas.List.Elements.{filter-append}
 use Rattle.std.proofs.lemmas.Grind.{flat_map-append}
@@ -9,7 +9,7 @@ use Rattle.island_pack.specs.declared.packet.PacketVerdicts.{PacketVerdicts}
 use Rattle.period_grammar.specs.Events.{Event}
 use Rattle.frame_build.specs.declared.FrameNote.{FrameNote}
 use Rattle.frame_build.specs.declared.LineNote.{LineNote}
-use Rattle.infoframe.specs.Frames.{Frame}
+use Rattle.infoframe.specs.Frames.{Frame, first_lost}
 use Rattle.infoframe.specs.declared.content.InfoKind.{InfoKind}
 use Rattle.infoframe.specs.declared.content.InfoFault.{InfoFault}
 use Rattle.audio_packets.specs.declared.clock.Acr.{Acr}
@@ -71,6 +71,10 @@ all_carried : (type_code : ℕ) (p : Packet) (v : PacketVerdicts) (column : ℕ)
 unfolding carried_lines other_words control_lines control_words depth_lines
 all_carried type_code p v column = grind (arith, choice_all, all_clock, all_samples, all_info, both_all)
 
+all_packet : (p : Packet) (v : PacketVerdicts) (column : ℕ) → AllPackets (packet_lines p v column)
+unfolding packet_lines
+all_packet p v column = choice_all (is_some (first_lost v)) [] (carried_lines (slice_index p.header 0) p v column) refl (all_carried (slice_index p.header 0) p v column)
+
 -- Rows and frames.
 
 no_row : (pixels : List ℕ) (note : LineNote) → NoPackets (row_lines pixels note)
@@ -87,8 +91,8 @@ no_frame vic o = grind (arith, no_vic)
 
 -- what is listed at an event
 event_lines : (reported : List Event) (event : Event) → filter tells_packet (lines_at reported event) ≡ flat_map reported_lines (reported_packet event)
-unfolding lines_at line_words packet_lines
-event_lines reported event = grind (arith, no_row, no_frame, choice_all, all_carried)
+unfolding lines_at line_words
+event_lines reported event = grind (arith, no_row, no_frame, all_packet, append-nil)
 
 all_lines : (reported events : List Event) → filter tells_packet (lines_after reported events) ≡ flat_map reported_lines (reported_packets events)
 unfolding lines_after reported_packets
