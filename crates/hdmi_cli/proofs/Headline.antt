@@ -135,7 +135,7 @@ at_or_before t tapped d e f a first begins until aligns =
 -- the account of a tapped stream from there on
 pub first_accounted : (t : TappedStream) → IsTapped t → Aligns t
     → FromFirst t (λ d e f a. IsAccounted t.periods t.sent t.received (aligned_of t d e f) a × BeginColumn t.offset t.skews (a + 12) d e f)
-first_accounted t tapped (inl (alone, d, e, f, first)) =
+first_accounted t tapped (inl (alone, (d, e, f, first))) =
     let law = payload_accounted t.periods t.sent t.received tapped.reception alone t.offset t.skews t.counts t.blue t.green t.red tapped.tap tapped.small d e f first in
     (d, e, f, first, (law.0, at_or_before t tapped d e f law.0 first law.2, (law.1, law.2)))
 first_accounted t tapped (inr (until, aligns)) =
@@ -172,7 +172,7 @@ headlined words ending before after status ends is named t tapped alone d e f fi
     (λ s old new. (a : ℕ) × IsRecovered link_listing t d e f a s old new)
     status before after
     (λ h. at_first t (λ p q r a. IsRecovered link_listing t p q r a status before.held after.held) h d e f first)
-    (recovered link_listing RecoverLink (λ t tapped o does. does) words ending before after status ends is named t tapped (inl (alone, d, e, f, first)) left)
+    (recovered link_listing RecoverLink (λ t tapped o does. does) words ending before after status ends is named t tapped (inl (alone, (d, e, f, first))) left)
 
 -- and damage anywhere that spares control and guard words until a column
 pub headlined_anywhere : (words : List (List ℕ)) (ending : Ending) (before after : Devices) (status : ℕ) → RunEnds words ending before after → status ≡ status_of ending → IsCommand words RecoverLink
